@@ -1,0 +1,55 @@
+// The heads of chunks.
+ghost use Rattle.std.specs.Prelude.{◌≡◌, ℕ, ◌+◌, ◌-◌, ◌*◌, ◌/◌, ◌^◌, ◌<◌, ◌≤◌, ◌==◌};
+ghost use Rattle.chunk_map.specs.Layouts.{is_class, head_by, payload_words};
+
+use crate::layouts::Geometry;
+
+/// What a chunk is.
+#[derive(Clone, Copy)]
+pub enum Head {
+    Free,
+    Log { tail: u64 },
+    Data { class: u32 },
+}
+
+fn is_class(chunk_bytes: u64, class: u64) -> bool
+    ensures { result ≡ is_class (record { cores = 0; group = 0; chunks = 0; chunk_bytes = chunk_bytes }) class }
+{
+    match class {
+        1 => 2048 <= chunk_bytes,
+        2 => 4096 <= chunk_bytes,
+        3 => 8192 <= chunk_bytes,
+        4 => 16384 <= chunk_bytes,
+        5 => 32768 <= chunk_bytes,
+        6 => 65536 <= chunk_bytes,
+        7 => 131072 <= chunk_bytes,
+        8 => 262144 <= chunk_bytes,
+        9 => 524288 <= chunk_bytes,
+        10 => 1048576 <= chunk_bytes,
+        11 => 2097152 <= chunk_bytes,
+        12 => 4194304 <= chunk_bytes,
+        _ => false,
+    }
+}
+
+/// The head that a kind word and a tail word are, or the rule that they break.
+pub fn head_by(geometry: &Geometry, kind: u64, tail: u64) -> Result<Head, u32>
+    requires size { 256 ≤ geometry.now.chunk_bytes }
+    ensures { result ≡ head_by geometry.now kind tail }
+{
+    if kind == 0 {
+        return Ok(Head::Free);
+    }
+    if kind == 1 {
+        if tail % 8 == 0 && tail <= geometry.chunk_bytes / 8 - 32 {
+            return Ok(Head::Log { tail });
+        }
+        return Err(5);
+    }
+    if kind % 256 == 2 && is_class(geometry.chunk_bytes, kind / 256) {
+        return Ok(Head::Data {
+            class: (kind / 256) as u32,
+        });
+    }
+    Err(4)
+}

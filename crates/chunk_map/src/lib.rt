@@ -1,0 +1,5 @@
+//! The map of a region: its layout, its superblock and the heads of its chunks.
+#![tactic(auto)]
+
+pub mod heads;
+pub mod layouts;

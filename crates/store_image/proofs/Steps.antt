@@ -1,0 +1,61 @@
+-- One step of a scan, at a place of a list.
+use Rattle.std.proofs.Common.{◌≡◌, ◌≢◌, ℕ, zero, suc, ◌+◌, ◌-◌, ◌%◌, ◌<◌, ◌≤◌, List, [], ◌∷◌, ◌++◌, length, take, drop, get_or, refl, sym, ◌∙◌, ap, arith, ◌==◌, ◌&&◌, not, true, false, Bool, cond, map, append_assoc, append-nil, Option, Some, None}
+use Rattle.std.proofs.lemmas.List.{drop_more, take_more, take_rest}
+use Rattle.std.proofs.lemmas.Bool.{ne_eqb, eq-eqb, cond-true, cond-false}
+use Rattle.std.specs.List.{list_any}
+use Rattle.log_entry.specs.declared.entry.Entry.{Entry}
+use Rattle.log_entry.specs.declared.entry.Read.TheVariants as reads
+use Rattle.log_entry.specs.Reading.{read}
+use Rattle.log_entry.specs.Batches.{Scan, ended, broken, with_entry, scan}
+use Rattle.store_image.specs.declared.types.PlacedEntry.{PlacedEntry}
+use Rattle.store_image.specs.Soundness.{contradicts, clash_after}
+
+module _ (ws : List ℕ) (p : ℕ) (within : p < length ws) where
+  more : drop p ws ≡ get_or ws p 0 ∷ drop (p + 1) ws
+  more = drop_more ws p 0 within
+
+  pub skips : (left : ℕ) (padded : Bool) → 0 < left → scan p left padded (drop p ws) ≡ scan (p + 1) (left - 1) padded (drop (p + 1) ws)
+  skips zero padded lt = let bad : ⊥ = omega (arith, lt) in absurd bad
+  skips (suc left) padded lt = let e : left ≡ suc left - 1 = omega arith in ap (scan p (suc left) padded) more ∙ ap (λ n. scan (p + 1) n padded (drop (p + 1) ws)) e
+
+  module _ (padded : Bool) (inside : (padded && not (p % 8 == 0)) ≡ true) where
+    pub stops_at : get_or ws p 0 ≢ 0 → scan p 0 padded (drop p ws) ≡ broken
+    stops_at some = let ne : (get_or ws p 0 == 0) ≡ false = ne_eqb (get_or ws p 0) 0 some in ap (scan p 0 padded) more ∙ rw (inside, ne) refl
+
+    pub zero_at : get_or ws p 0 ≡ 0 → scan p 0 padded (drop p ws) ≡ scan (p + 1) 0 true (drop (p + 1) ws)
+    zero_at none = let e : (get_or ws p 0 == 0) ≡ true = eq-eqb (get_or ws p 0) 0 none in ap (scan p 0 padded) more ∙ rw (inside, e) refl
+
+  module _ (padded : Bool) (outside : (padded && not (p % 8 == 0)) ≡ false) where
+    pub entry_at : (e : Entry) (n : ℕ) → read (drop p ws) ≡ reads.Entry e n → scan p 0 padded (drop p ws) ≡ with_entry p e (scan (p + 1) (n - 1) false (drop (p + 1) ws))
+    entry_at e n is = let front : read (get_or ws p 0 ∷ drop (p + 1) ws) ≡ reads.Entry e n = ap read (sym more) ∙ is in ap (scan p 0 padded) more ∙ rw (outside, front) refl
+
+    pub bad_at : (rule : ℕ) → read (drop p ws) ≡ reads.BadEntry rule → scan p 0 padded (drop p ws) ≡ broken
+    bad_at rule is = let front : read (get_or ws p 0 ∷ drop (p + 1) ws) ≡ reads.BadEntry rule = ap read (sym more) ∙ is in ap (scan p 0 padded) more ∙ rw (outside, front) refl
+
+    pub line_at : read (drop p ws) ≡ reads.Padding → p % 8 ≡ 0 → scan p 0 padded (drop p ws) ≡ broken
+    line_at is line = let front : read (get_or ws p 0 ∷ drop (p + 1) ws) ≡ reads.Padding = ap read (sym more) ∙ is in let at : (p % 8 == 0) ≡ true = eq-eqb (p % 8) 0 line in ap (scan p 0 padded) more ∙ rw outside (rw (front, at) refl)
+
+    pub pad_at : read (drop p ws) ≡ reads.Padding → p % 8 ≢ 0 → scan p 0 padded (drop p ws) ≡ scan (p + 1) 0 true (drop (p + 1) ws)
+    pad_at is line = let front : read (get_or ws p 0 ∷ drop (p + 1) ws) ≡ reads.Padding = ap read (sym more) ∙ is in let at : (p % 8 == 0) ≡ false = ne_eqb (p % 8) 0 line in ap (scan p 0 padded) more ∙ rw outside (rw (front, at) refl)
+
+-- The same of what the code knows: left isn't above 0, and the words are read from a slice.
+module _ (ws : List ℕ) (p left : ℕ) (padded : Bool) (within : p < length ws) (none : left ≤ 0) (outside : (padded && not (p % 8 == 0)) ≡ false) where
+  is_zero : left ≡ 0
+  is_zero = omega (arith, none)
+
+  at_slice : read (take (length ws - p) (drop p ws)) ≡ read (drop p ws)
+  at_slice = ap read (take_rest ws p)
+
+  pub finds : (e : Entry) (n : ℕ) → reads.Entry e n ≡ read (take (length ws - p) (drop p ws)) → scan p left padded (drop p ws) ≡ with_entry p e (scan (p + 1) (n - 1) false (drop (p + 1) ws))
+  finds e n is = ap (λ k. scan p k padded (drop p ws)) is_zero ∙ entry_at ws p within padded outside e n (sym at_slice ∙ sym is)
+
+  pub refuses : (rule : ℕ) → reads.BadEntry rule ≡ read (take (length ws - p) (drop p ws)) → scan p left padded (drop p ws) ≡ broken
+  refuses rule is = ap (λ k. scan p k padded (drop p ws)) is_zero ∙ bad_at ws p within padded outside rule (sym at_slice ∙ sym is)
+
+  pub pads : reads.Padding ≡ read (take (length ws - p) (drop p ws)) → p % 8 ≢ 0 → scan p left padded (drop p ws) ≡ scan (p + 1) 0 true (drop (p + 1) ws)
+  pads is line = ap (λ k. scan p k padded (drop p ws)) is_zero ∙ pad_at ws p within padded outside (sym at_slice ∙ sym is) line
+
+-- no entry up to place i contradicts one before it, nor does the next
+pub clash_step : (es : List PlacedEntry) (i : ℕ) (x : PlacedEntry) → i < length es → list_any (contradicts (get_or es i x)) (take i es) ≡ false → clash_after (take i es) (drop i es) ≡ clash_after (take (i + 1) es) (drop (i + 1) es)
+clash_step es i x within none =
+    ap (clash_after (take i es)) (drop_more es i x within) ∙ cond-false _ _ _ none ∙ ap (λ before. clash_after before (drop (i + 1) es)) (sym (take_more es i x within))

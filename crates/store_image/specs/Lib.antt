@@ -1,0 +1,4 @@
+pub mod Parts
+pub mod Winners
+pub mod Soundness
+pub mod Scanned
