@@ -1,5 +1,5 @@
 -- What an attach finds.
-use Rattle.std.proofs.Common.{◌≡◌, ℕ, ◌+◌, ◌-◌, ◌<◌, Bool, true, false, length, get_or, if◌then◌else◌, refl, sym, ◌∙◌, ap, subst, arith}
+use Rattle.std.proofs.Common.{◌≡◌, ℕ, ◌+◌, ◌-◌, ◌<◌, Bool, true, false, length, get_or, if◌then◌else◌, sym, ◌∙◌, ap, arith}
 use Rattle.pm_region.specs.Cell.{Cell, certain, MayBe}
 use Rattle.pm_region.specs.State.{IsTelling, InRange, cell_now}
 use Rattle.pm_region.specs.Tape.{cell_after}

@@ -1,7 +1,7 @@
 -- What a call of a history says of the region over it.
-use Rattle.std.proofs.Common.{◌≡◌, ℕ, ◌*◌, ◌≤◌, ◌&&◌, not, Bool, false, List, [], length, if◌then◌else◌, refl, sym, subst, arith}
+use Rattle.std.proofs.Common.{◌≡◌, ℕ, ◌*◌, ◌≤◌, ◌&&◌, not, Bool, false, List, [], if◌then◌else◌, refl, sym, subst, arith}
 use Rattle.pm_region.specs.Cell.{Cell}
-use Rattle.pm_region.specs.State.{State, Frame, Goes}
+use Rattle.pm_region.specs.State.{Frame, Goes}
 use Rattle.pm_region.specs.Moves.{Moves, history_state}
 use Rattle.pm_region.specs.Mem.{part_frame}
 use Rattle.pm_region.specs.Whole.{open_frame, open_state}

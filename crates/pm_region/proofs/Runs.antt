@@ -1,13 +1,13 @@
 -- Runs of calls.
-use Rattle.std.proofs.Common.{◌≡◌, ◌≢◌, ◌⊎◌, inl, inr, ⊎_elim, ℕ, ◌+◌, ◌-◌, ◌*◌, ◌/◌, ◌%◌, ◌≤◌, ◌<◌, List, [], ◌∷◌, ◌++◌, length, get_or, Result, Ok, Err, OnOk, OnErr, refl, sym, ◌∙◌, ap, subst, arith}
+use Rattle.std.proofs.Common.{◌≡◌, inl, inr, ⊎_elim, ℕ, ◌+◌, ◌*◌, ◌≤◌, ◌<◌, List, [], get_or, Result, Ok, Err, OnOk, OnErr, refl, sym, ◌∙◌, ap, subst, arith}
 use Rattle.std.proofs.lemmas.Bool.{cases_eq, cases_lt}
-use Rattle.pm_region.specs.Cell.{Cell, certain, stored, flushed, fenced, MayBe, store_at, flush_line, fence_range, unchanged}
-use Rattle.pm_region.specs.State.{State, Frame, InRange, LineInRange, IsTold, IsTelling, cell_now, Goes, During}
+use Rattle.pm_region.specs.Cell.{Cell, MayBe, store_at, flush_line, fence_range, unchanged}
+use Rattle.pm_region.specs.State.{State, InRange, LineInRange, IsTelling, cell_now, Goes, During}
 use Rattle.pm_region.specs.declared.region.RegionFault.{RegionFault}
-use Rattle.pm_region.proofs.Moments.{along, started, goes_on, then_on, weaken, at_exit, told_at_entry}
-use Rattle.pm_region.specs.Words.{Kept, KeepsOutside, Narrows, Surely, Sets}
+use Rattle.pm_region.proofs.Moments.{started, goes_on, then_on, weaken, at_exit}
+use Rattle.pm_region.specs.Words.{KeepsOutside, Sets}
 use Rattle.pm_region.proofs.Narrow.{stored_may, flush_narrows, fence_narrows}
-use Rattle.pm_region.proofs.Cells.{store_other, store_here, flush_last, flush_marked, flush_here, fence_here, fenced_flushed, store_keeps, flush_keeps, fence_keeps, kept_then}
+use Rattle.pm_region.proofs.Cells.{store_other, store_here, flush_last, flush_marked, flush_here, store_keeps, flush_keeps, fence_keeps, kept_then}
 
 pub in_range : (old mid : State) (P : (ℕ → Cell) → Type 0) (a : ℕ) → During old mid P → old.frame.first ≤ a → a < old.frame.first + old.frame.words → InRange mid.frame a
 in_range old mid P a run low high = subst (λ f. InRange f a) (sym run.frame) (record { low = low; high = high })
