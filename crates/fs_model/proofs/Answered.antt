@@ -1,9 +1,9 @@
 -- Lawful replies, a part at a time.
-use Rattle.std.proofs.Common.{◌≡◌, ◌⊎◌, inl, inr, ℕ, ◌+◌, List, [], ◌∷◌, ◌++◌, length, map, filter, refl, sym, ◌∙◌, ap, subst, ◌==◌, ◌||◌, true, false, Bool, cond, Option, Some, None, take, fold, append_assoc}
+use Rattle.std.proofs.Common.{◌≡◌, inr, ℕ, List, [], ◌∷◌, ◌++◌, map, refl, ap, ◌==◌, ◌||◌, true, false, Bool, cond, Option}
 use Rattle.fs_model.specs.declared.model.Request.{Request}
 use Rattle.fs_model.specs.declared.model.Reply.{Reply}
 use Rattle.fs_model.specs.declared.model.Reply.TheVariants.{Stopped}
-use Rattle.fs_model.specs.Cells.{key_of, answer_to, cell_after}
+use Rattle.fs_model.specs.Cells.{key_of, cell_after}
 use Rattle.fs_model.specs.Lawful.{MayReply, IsLawfulFor, cell_left, cell_of, stopped_of, asked, is_stopped}
 use Rattle.fs_model.specs.Changes.{cell_after_all}
 
