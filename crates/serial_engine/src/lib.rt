@@ -1,0 +1,4 @@
+//! One core that answers each request before the next is begun, each change as a batch of its own.
+#![tactic(auto)]
+
+pub mod cells;
