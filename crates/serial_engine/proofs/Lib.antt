@@ -1,2 +1,3 @@
 pub mod Sound
 pub mod Images
+pub mod Appends
