@@ -1,2 +1,3 @@
 pub mod Lists
 pub mod Run
+pub mod Crash

@@ -90,6 +90,11 @@ get_before [] y i lt = absurd (omega (arith, lt))
 get_before (x ∷ xs) y zero lt = refl
 get_before (x ∷ xs) y (suc i) lt = get_before xs y i (omega (arith, lt))
 
+pub get_front : {X : Type 0} (xs ys : List X) (i : ℕ) → i < length xs → slice_get (xs ++ ys) i ≡ slice_get xs i
+get_front [] ys i lt = absurd (omega (arith, lt))
+get_front (x ∷ xs) ys zero lt = refl
+get_front (x ∷ xs) ys (suc i) lt = get_front xs ys i (omega (arith, lt))
+
 pub get_end : {X : Type 0} (xs : List X) (y : X) → slice_get (xs ++ y ∷ []) (length xs) ≡ Some y
 get_end [] y = refl
 get_end (x ∷ xs) y = get_end xs y

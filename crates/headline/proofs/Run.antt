@@ -10,13 +10,14 @@ use Rattle.std.proofs.lemmas.List.Elements.{filter-append}
 use Rattle.std.proofs.lemmas.List.Folds.{find-append, list_any-append}
 use Rattle.fs_model.specs.declared.model.Request.{Request}
 use Rattle.fs_model.specs.declared.model.Reply.{Reply}
+use Rattle.fs_model.specs.declared.model.Reply.TheVariants.{Stopped}
 use Rattle.fs_model.specs.Cells.{key_of, is_change, cell_after}
 use Rattle.fs_model.specs.Lawful.{IsLawful, IsLawfulFor, MayReply, Fits, asked, cell_of, stopped_of, cell_left, is_stopped, is_finish, is_told, once_where}
 use Rattle.fs_model.proofs.Answered.{asked-append, lawful-more, changes-append}
 use Rattle.fs_model.specs.Changes.{requests_of, names, behind_last, requests_in, finished_changes, unfinished_change, changes_of, cell_after_all, finished_by, IsPrefixCell}
 use Rattle.headline.specs.Headline.{Told, finished_in, refused_in}
-use Rattle.headline.specs.Run.{Answered}
-use Rattle.headline.proofs.Lists.{filter_same, any_same, behind_same, find_same, filter_none, any_none, behind-append, behind_end, enumerate-append, each_number, zip-append, get_before, get_end, each_behind}
+use Rattle.headline.specs.Run.{Answered, Recorded}
+use Rattle.headline.proofs.Lists.{filter_same, any_same, behind_same, find_same, filter_none, any_none, behind-append, behind_end, enumerate-append, each_number, zip-append, get_before, get_front, get_end, each_behind}
 
 -- the numbered requests of a key among these, which begin with number n
 abbrev pub numbered : ℕ → ℕ → List Request → List (ℕ × Request)
@@ -32,7 +33,7 @@ requests-append k done more =
 abbrev pub is_waiting : Option (List ℕ) → List ℕ → ℕ × Request → Bool
 is_waiting c refused x = is_change x.1 c && not (names refused x.0)
 
-none_found : (o : Option (ℕ × Request)) → requests_in (option_to_list o) ≡ [] → o ≡ None
+pub none_found : (o : Option (ℕ × Request)) → requests_in (option_to_list o) ≡ [] → o ≡ None
 none_found None e = refl
 none_found (Some x) e = absurd (omega (arith, ap length e))
 
@@ -106,7 +107,7 @@ prefix_grows s c xs ys f in_xs h =
     ]
 
 -- what holds of the request's own key, and of each other one
-by_key : (P : ℕ → Type 0) (own : ℕ) → P own → ((k : ℕ) → (own ≡ k → ⊥) → P k) → (k : ℕ) → P k
+pub by_key : (P : ℕ → Type 0) (own : ℕ) → P own → ((k : ℕ) → (own ≡ k → ⊥) → P k) → (k : ℕ) → P k
 by_key P own h others k = elim (own == k) as (λ b. (own == k) ≡ b → P k) [
     | true ↦ λ e. subst P (eqb-true own k e) h
     | false ↦ λ e. others k (eqb-false own k e)
@@ -269,7 +270,7 @@ count_same p q (x ∷ xs) h =
 abbrev pub is_finish_of : ℕ → List Request → ℕ → ℕ × ℕ → Bool
 is_finish_of k trace t f = leb f.1 t && option_map_or (λ q. key_of q == k) (slice_get trace f.0) false
 
-each_finish : (n : ℕ) (fs : List (ℕ × ℕ)) → ((i : ℕ) → names (map (λ (f : ℕ × ℕ). f.0) fs) i ≡ true → i < n) → AllByRecursion (λ (f : ℕ × ℕ). f.0 < n) fs
+pub each_finish : (n : ℕ) (fs : List (ℕ × ℕ)) → ((i : ℕ) → names (map (λ (f : ℕ × ℕ). f.0) fs) i ≡ true → i < n) → AllByRecursion (λ (f : ℕ × ℕ). f.0 < n) fs
 each_finish n [] h = tt
 each_finish n (f ∷ fs) h = (
     h f.0 (λ t. eq-eqb f.0 f.0 refl t || names (map (λ (f : ℕ × ℕ). f.0) fs) f.0),
@@ -280,17 +281,17 @@ each_finish n (f ∷ fs) h = (
     or_true false = refl
 
 -- requests behind those that the finishes name don't count
-pub finished_by-append : (k t : ℕ) (done : List Request) (q : Request) (fs : List (ℕ × ℕ)) → AllByRecursion (λ (f : ℕ × ℕ). f.0 < length done) fs → finished_by k (done ++ q ∷ []) fs t ≡ finished_by k done fs t
-finished_by-append k t done q fs h = count_same (is_finish_of k (done ++ q ∷ []) t) (is_finish_of k done t) fs (agree fs h) where
-    agree : (fs : List (ℕ × ℕ)) → AllByRecursion (λ (f : ℕ × ℕ). f.0 < length done) fs → AllByRecursion (λ (f : ℕ × ℕ). is_finish_of k (done ++ q ∷ []) t f ≡ is_finish_of k done t f) fs
+pub finished_by-append : (k t : ℕ) (done more : List Request) (fs : List (ℕ × ℕ)) → AllByRecursion (λ (f : ℕ × ℕ). f.0 < length done) fs → finished_by k (done ++ more) fs t ≡ finished_by k done fs t
+finished_by-append k t done more fs h = count_same (is_finish_of k (done ++ more) t) (is_finish_of k done t) fs (agree fs h) where
+    agree : (fs : List (ℕ × ℕ)) → AllByRecursion (λ (f : ℕ × ℕ). f.0 < length done) fs → AllByRecursion (λ (f : ℕ × ℕ). is_finish_of k (done ++ more) t f ≡ is_finish_of k done t f) fs
     agree [] h = tt
-    agree (f ∷ fs) h = ((λ i. leb f.1 t && option_map_or (λ q. key_of q == k) (get_before done q f.0 h.0 i) false), agree fs h.1)
+    agree (f ∷ fs) h = ((λ i. leb f.1 t && option_map_or (λ q. key_of q == k) (get_front done more f.0 h.0 i) false), agree fs h.1)
 
 module _ (done : List Request) (q : Request) (k : ℕ) where
-  abbrev own : List (ℕ × Request)
+  abbrev pub own : List (ℕ × Request)
   own = numbered k (length done) (q ∷ [])
 
-  own_is : (key_of q ≡ k) → own ≡ (length done, q) ∷ []
+  pub own_is : (key_of q ≡ k) → own ≡ (length done, q) ∷ []
   own_is e = (λ t. cond (eq-eqb (key_of q) k e t) ((length done, q) ∷ []) [])
 
   own_none : (key_of q ≡ k → ⊥) → own ≡ []
@@ -328,7 +329,7 @@ names_within : (xs : List ℕ) (n : ℕ) → ((i : ℕ) → names xs i ≡ true 
 names_within xs n h = by_key (λ i. names (xs ++ n ∷ []) i ≡ true → i < n + 1) n (λ e. omega arith)
     (λ i ne e. let before = h i (sym (names_more xs n i ne) ∙ e) in omega (arith, before))
 
-unnamed : (xs : List ℕ) (n : ℕ) → ((i : ℕ) → names xs i ≡ true → i < n) → names xs n ≡ false
+pub unnamed : (xs : List ℕ) (n : ℕ) → ((i : ℕ) → names xs i ≡ true → i < n) → names xs n ≡ false
 unnamed xs n h = elim (names xs n) as (λ b. names xs n ≡ b → b ≡ false) [
     | true ↦ λ e. absurd (let lt = h n e in omega (arith, lt))
     | false ↦ λ e. refl
@@ -378,13 +379,13 @@ module _ (start : ℕ → Option (List ℕ)) (done : List Request) (replies : Li
 
     pub quiet_counted : (t : ℕ) → finished_by k (done ++ q ∷ []) r.finishes t ≤ length (finished_changes k (done ++ q ∷ []) fin)
     quiet_counted t =
-        let same = finished_by-append k t done q r.finishes each_fin in
+        let same = finished_by-append k t done (q ∷ []) r.finishes each_fin in
         let long : length (finished_changes k (done ++ q ∷ []) fin) ≡ length (finished_changes k done fin) = ap length changes_stay in
         let before = A.counted k t in
         omega (arith, same, long, before)
 
     pub quiet_whole : (t : ℕ) → now ≤ t → finished_by k (done ++ q ∷ []) r.finishes t ≡ length (finished_changes k (done ++ q ∷ []) fin)
-    quiet_whole t low = finished_by-append k t done q r.finishes each_fin ∙ A.whole k t low ∙ ap length (sym changes_stay)
+    quiet_whole t low = finished_by-append k t done (q ∷ []) r.finishes each_fin ∙ A.whole k t low ∙ ap length (sym changes_stay)
 
   longer : length (done ++ q ∷ []) ≡ n + 1
   longer = length-append done (q ∷ [])
@@ -468,7 +469,7 @@ module _ (start : ℕ → Option (List ℕ)) (done : List Request) (replies : Li
     by_more : (k t : ℕ) → finished_by k (done ++ q ∷ []) with_finish.finishes t ≡ finished_by k done r.finishes t + cond (leb later t && key == k) 1 0
     by_more k t =
         let one = count_one (is_finish_of k (done ++ q ∷ []) t) r.finishes (n, later) in
-        let before = finished_by-append k t done q r.finishes each_fin in
+        let before = finished_by-append k t done (q ∷ []) r.finishes each_fin in
         let here : cond {A = ℕ} (is_finish_of k (done ++ q ∷ []) t (n, later)) 1 0 ≡ cond (leb later t && key == k) 1 0 =
             ap (λ o. cond {A = ℕ} (leb later t && option_map_or (λ q. key_of q == k) o false) 1 0) (get_end done q) in
         omega (arith, one, before, here)
@@ -532,3 +533,38 @@ module _ (start : ℕ → Option (List ℕ)) (done : List Request) (replies : Li
       whole = λ k t ge. by_key (λ k. finished_by k (done ++ q ∷ []) with_finish.finishes t ≡ length (finished_changes k (done ++ q ∷ []) (finished_in with_finish))) key (own_whole t ge)
         (λ k ne. other_by k t ne ∙ A.whole k t (omega (arith, low, ge)) ∙ ap length (sym (other_changes k ne))) k;
     }
+
+-- what stays true
+pub recorded : (start : ℕ → Option (List ℕ)) (done : List Request) (replies : List Reply) (r : Told) (now : ℕ) (cell : ℕ → Option (List ℕ)) → Answered start done replies r now cell → Recorded start done replies r
+recorded start done replies r now cell A = record { lawful = A.lawful; fits = A.fits; finishes = A.finishes; refusals = A.refusals; counted = A.counted }
+
+-- Stopped is lawful always.
+may_stop : (q : Request) (c : Option (List ℕ)) (stopped : Bool) → MayReply q c stopped Stopped
+may_stop q c true = refl
+may_stop q c false = inr refl
+
+module _ (start : ℕ → Option (List ℕ)) (done : List Request) (replies : List Reply) (r : Told) (q : Request) (R : Recorded start done replies r) where
+  abbrev fin' : List ℕ
+  fin' = finished_in r
+
+  fins : AllByRecursion (λ (f : ℕ × ℕ). f.0 < length done) r.finishes
+  fins = each_finish (length done) r.finishes R.finishes
+
+  pub stopped_changes : (k : ℕ) → finished_changes k (done ++ q ∷ []) fin' ≡ finished_changes k done fin'
+  stopped_changes k = finished_stays done q k fin' fin' [] [] (λ m lt. refl) (λ m lt. refl) (start k)
+      (filter_none (λ (x : ℕ × Request). names fin' x.0) (own done q k) (each_number (λ m. names fin' m ≡ false) k (length done) (q ∷ []) (λ m low high. subst (λ m. names fin' m ≡ false) (let e : length done ≡ m = omega (arith, low, high) in e) (unnamed fin' (length done) R.finishes))))
+
+  pub recorded_stopped : Recorded start (done ++ q ∷ []) (replies ++ Stopped ∷ []) r
+  recorded_stopped =
+      let longer : length (done ++ q ∷ []) ≡ length done + 1 = length-append done (q ∷ []) in
+      record {
+        lawful = more_lawful start done replies q Stopped R.lawful.count R.lawful (may_stop q _ _);
+        fits = fits_quiet replies Stopped fin' r.refusals R.fits refl refl;
+        finishes = λ i e. let lt = R.finishes i e in omega (arith, lt, longer);
+        refusals = λ i e. let lt = R.refusals i e in omega (arith, lt, longer);
+        counted = λ k t.
+          let same = finished_by-append k t done (q ∷ []) r.finishes fins in
+          let long : length (finished_changes k (done ++ q ∷ []) fin') ≡ length (finished_changes k done fin') = ap length (stopped_changes k) in
+          let before = R.counted k t in
+          omega (arith, same, long, before);
+      }

@@ -5,7 +5,8 @@ use Rattle.fs_model.specs.declared.model.Request.{Request}
 use Rattle.fs_model.specs.declared.model.Reply.{Reply}
 use Rattle.fs_model.specs.Lawful.{IsLawful, Fits, asked, cell_of, stopped_of}
 use Rattle.fs_model.specs.Changes.{names, finished_changes, unfinished_change, cell_after_all, finished_by}
-use Rattle.headline.specs.Headline.{Told, finished_in, refused_in}
+use Rattle.store_image.specs.Soundness.{IsSound}
+use Rattle.headline.specs.Headline.{Told, finished_in, refused_in, cells_of}
 
 -- The requests so far are answered, each change is finished, and the cells are what the finished changes leave.
 -- No stamp of a finish is past `now`.
@@ -20,3 +21,16 @@ pub record Answered (start : ℕ → Option (List ℕ)) (done : List Request) (r
   pub refusals : (i : ℕ) → names (refused_in r) i ≡ true → i < length done
   pub counted : (k t : ℕ) → finished_by k done r.finishes t ≤ length (finished_changes k done (finished_in r))
   pub whole : (k t : ℕ) → now ≤ t → finished_by k done r.finishes t ≡ length (finished_changes k done (finished_in r))
+
+-- What stays true when the store has stopped: the replies are lawful and fit the report, and the report names none but the requests so far.
+pub record Recorded (start : ℕ → Option (List ℕ)) (done : List Request) (replies : List Reply) (r : Told) : Type 0 where
+  pub lawful : IsLawful start done replies
+  pub fits : Fits (finished_in r) r.refusals replies
+  pub finishes : (i : ℕ) → names (finished_in r) i ≡ true → i < length done
+  pub refusals : (i : ℕ) → names (refused_in r) i ≡ true → i < length done
+  pub counted : (k t : ℕ) → finished_by k done r.finishes t ≤ length (finished_changes k done (finished_in r))
+
+-- the image is sound and recovers these cells
+pub record HoldsCells (bytes : ℕ) (cell : ℕ → Option (List ℕ)) (image : ℕ → ℕ) : Type 0 where
+  pub sound : IsSound bytes image
+  pub cells : (k : ℕ) → cells_of image k ≡ cell k
