@@ -1,3 +1,4 @@
 pub mod Cells
 pub mod Shows
 pub mod Moments
+pub mod Ready
