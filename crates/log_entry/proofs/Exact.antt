@@ -1,17 +1,15 @@
 -- What is read was spelled so.
-use Rattle.std.proofs.Common.{◌≡◌, ◌≢◌, ◌⊎◌, inl, inr, ℕ, zero, suc, ◌+◌, ◌-◌, ◌*◌, ◌/◌, ◌%◌, ◌^◌, ◌≤◌, ◌<◌, leb, ltb, List, [], ◌∷◌, ◌++◌, length, take, drop, get_or, replicate, refl, sym, ◌∙◌, ap, subst, arith, append_assoc, length-append, length-take, length-drop, take-append-drop, ◌==◌, ◌&&◌, ◌||◌, true, false, Bool, cond, Option, Some, None}
-use Rattle.std.proofs.lemmas.List.{length-replicate, take_at, drop_at}
-use Rattle.std.proofs.lemmas.Bool.{and_parts, eqb-true, eqb-false, leb-true, ltb-true}
+use Rattle.std.proofs.Common.{◌≡◌, ◌⊎◌, inl, inr, ℕ, zero, suc, ◌+◌, ◌-◌, ◌^◌, ◌≤◌, ◌<◌, leb, ltb, List, [], ◌∷◌, ◌++◌, length, take, drop, get_or, replicate, refl, sym, ◌∙◌, ap, subst, arith, length-take, take-append-drop, ◌==◌, ◌&&◌, ◌||◌, true, false, Bool, cond, Option, Some, None}
+use Rattle.std.proofs.lemmas.Bool.{and_parts, eqb-true, leb-true, ltb-true}
 use Rattle.std.specs.List.{list_all, AllByRecursion}
-use Rattle.std.specs.Int.{w64, to_le_bytes, byte_at}
+use Rattle.std.specs.Int.{w64, to_le_bytes}
 use Rattle.log_entry.specs.declared.entry.Body.{Body}
 use Rattle.log_entry.specs.declared.entry.Body.TheVariants.{Pointer, Embedded, Tombstone}
 use Rattle.log_entry.specs.declared.entry.Entry.{Entry}
-use Rattle.log_entry.specs.declared.entry.Read.{Read}
 use Rattle.log_entry.specs.declared.entry.Read.TheVariants as reads
 use Rattle.log_entry.specs.Words.{words_for, packed_in, packed, unpacked}
 use Rattle.log_entry.specs.Spelling.{first_word, body_words, words_of, Fits, HasSpelling}
-use Rattle.log_entry.specs.Reading.{op_of, form_of, version_of, high_of, length_of, size_of, keeps_1, keeps_2, keeps_3, keeps_4, keeps_6, tail_bytes, entry_rule, body_of, entry_of, read_by, read}
+use Rattle.log_entry.specs.Reading.{op_of, form_of, version_of, high_of, length_of, size_of, keeps_1, keeps_2, keeps_3, keeps_4, keeps_6, entry_rule, body_of, entry_of, read_by, read}
 use Rattle.log_entry.proofs.Bytes.{AreWords, packed_in-zeros, packed_in-unpacked, length-unpacked, all_zero_is}
 
 -- a word is its fields put together

@@ -1,17 +1,16 @@
 -- What is spelled is read, and what is read was spelled.
-use Rattle.std.proofs.Common.{◌≡◌, ◌⊎◌, inl, inr, ℕ, zero, suc, ◌+◌, ◌-◌, ◌*◌, ◌/◌, ◌%◌, ◌^◌, ◌≤◌, ◌<◌, ◌≢◌, leb, ltb, List, [], ◌∷◌, ◌++◌, length, take, drop, get_or, replicate, refl, sym, ◌∙◌, ap, subst, arith, append_assoc, append-nil, length-append, length-take, length-drop, take-append-drop, ◌==◌, ◌&&◌, true, false, Bool, cond, Option, Some, None}
-use Rattle.std.proofs.lemmas.List.{length-replicate, take_at, drop_at}
-use Rattle.std.proofs.lemmas.Bool.{and_parts, and_from, eqb-true, eq-eqb, ne_eqb, cond-true, cond-false, le-leb, lt-ltb}
-use Rattle.std.specs.List.{list_all, AllByRecursion}
+use Rattle.std.proofs.Common.{◌≡◌, ℕ, zero, suc, ◌+◌, ◌-◌, ◌*◌, ◌%◌, ◌^◌, ◌≤◌, ◌<◌, ◌≢◌, leb, List, [], ◌∷◌, ◌++◌, length, take, drop, get_or, replicate, refl, ◌∙◌, ap, arith, length-append, ◌==◌, true, false, cond, None}
+use Rattle.std.proofs.lemmas.List.{take_at, drop_at}
+use Rattle.std.proofs.lemmas.Bool.{and_from, ne_eqb, cond-true, cond-false, le-leb, lt-ltb}
+use Rattle.std.specs.List.{list_all}
 use Rattle.log_entry.specs.declared.entry.Body.{Body}
 use Rattle.log_entry.specs.declared.entry.Body.TheVariants.{Pointer, Embedded, Tombstone}
 use Rattle.log_entry.specs.declared.entry.Entry.{Entry}
-use Rattle.log_entry.specs.declared.entry.Read.{Read}
 use Rattle.log_entry.specs.declared.entry.Read.TheVariants as reads
-use Rattle.log_entry.specs.Words.{words_for, packed_in, packed, unpacked}
+use Rattle.log_entry.specs.Words.{words_for, packed, unpacked}
 use Rattle.log_entry.specs.Spelling.{first_word, body_words, words_of, Fits, HasSpelling}
-use Rattle.log_entry.specs.Reading.{op_of, form_of, version_of, high_of, length_of, size_of, keeps_1, keeps_2, keeps_3, keeps_4, keeps_6, tail_bytes, entry_rule, body_of, entry_of, read_by, read}
-use Rattle.log_entry.proofs.Bytes.{AreBytes, are_bytes, unpacked-packed, length-packed_in, all_zero-replicate}
+use Rattle.log_entry.specs.Reading.{op_of, form_of, version_of, high_of, length_of, size_of, keeps_1, keeps_2, keeps_3, keeps_4, keeps_6, tail_bytes, entry_rule, body_of, entry_of, read}
+use Rattle.log_entry.proofs.Bytes.{are_bytes, unpacked-packed, length-packed_in, all_zero-replicate}
 
 -- the fields of the word that was put together
 module _ (op form v high : ℕ) (o : op < 4) (f : form < 4) (w : v < 2 ^ 20) where

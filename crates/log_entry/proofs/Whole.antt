@@ -1,6 +1,6 @@
 -- A payload that is scanned to its end spells batches.
-use Rattle.std.proofs.Common.{◌≡◌, ◌≢◌, ◌⊎◌, inl, inr, ℕ, zero, suc, ◌+◌, ◌-◌, ◌*◌, ◌/◌, ◌%◌, ◌^◌, ◌≤◌, ◌<◌, List, [], ◌∷◌, ◌++◌, length, take, drop, get_or, replicate, refl, sym, ◌∙◌, ap, subst, arith, append_assoc, length-append, length-drop, ◌==◌, ◌&&◌, not, true, false, Bool, cond, Option, Some, None}
-use Rattle.std.proofs.lemmas.Bool.{eqb-true, eqb-false, eq-eqb, ne_eqb}
+use Rattle.std.proofs.Common.{◌≡◌, ◌≢◌, ℕ, zero, suc, ◌+◌, ◌-◌, ◌%◌, ◌≤◌, ◌<◌, List, [], ◌∷◌, ◌++◌, length, drop, replicate, refl, sym, ◌∙◌, ap, subst, arith, append_assoc, length-append, length-drop, ◌==◌, not, true, false, Bool, cond, Option, Some, None}
+use Rattle.std.proofs.lemmas.Bool.{eqb-true, eqb-false, ne_eqb}
 use Rattle.std.specs.List.{flat_map, AllByRecursion}
 use Rattle.log_entry.specs.declared.entry.Entry.{Entry}
 use Rattle.log_entry.specs.declared.entry.Read.{Read}
@@ -9,7 +9,7 @@ use Rattle.log_entry.specs.declared.entry.Body.{Body}
 use Rattle.log_entry.specs.declared.entry.Body.TheVariants.{Pointer, Embedded, Tombstone}
 use Rattle.log_entry.specs.Spelling.{words_of, body_words, HasSpelling}
 use Rattle.log_entry.specs.Reading.{read, read_by, entry_rule}
-use Rattle.log_entry.specs.Batches.{padding, batch_words, IsBatch, SpellsBatches, Scan, ended, broken, with_entry, scan, scan_of, spells}
+use Rattle.log_entry.specs.Batches.{padding, batch_words, IsBatch, SpellsBatches, Scan, broken, with_entry, scan, spells}
 use Rattle.log_entry.proofs.Bytes.{AreWords}
 use Rattle.log_entry.proofs.Exact.{read_exact}
 use Rattle.log_entry.proofs.Scans.{entry_found, line_start, scan_spelled}
