@@ -16,8 +16,16 @@ chunk_words l = l.chunk_bytes / 8
 abbrev pub payload_words : Geometry → ℕ
 payload_words l = l.chunk_bytes / 8 - 32
 
+-- the payload in lines of 8 words
+abbrev pub payload_lines : Geometry → ℕ
+payload_lines l = l.chunk_bytes / 64 - 4
+
 abbrev pub total_bytes : Geometry → ℕ
 total_bytes l = 4096 + l.cores * l.chunks * l.chunk_bytes
+
+-- the first word of a part
+abbrev pub part_first : Geometry → ℕ → ℕ
+part_first l c = 512 + c * (l.chunks * chunk_words l)
 
 -- the first word of a chunk
 abbrev pub chunk_first : Geometry → ℕ → ℕ → ℕ

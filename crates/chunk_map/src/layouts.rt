@@ -1,6 +1,8 @@
 // The numbers of a layout.
 ghost use Rattle.std.specs.Prelude.{◌≡◌, ℕ, ◌+◌, ◌-◌, ◌*◌, ◌/◌, ◌^◌, ◌<◌, ◌≤◌, ◌==◌};
-ghost use Rattle.chunk_map.specs.Layouts.{is_chunk_size, layout_rule};
+ghost use Rattle.chunk_map.specs.Layouts.{is_chunk_size, layout_rule, part_first, chunk_first, payload_lines, total_bytes};
+
+use std::marker::Model;
 
 /// The four numbers of a layout, as they stand in a superblock. Nothing says that they keep the rules.
 #[derive(Clone, Copy)]
@@ -35,6 +37,7 @@ fn region_bytes(cores: u64, chunks: u64, chunk_bytes: u64) -> u64
     cores * chunks * chunk_bytes
 }
 
+/// The first rule of a layout that the numbers break.
 pub fn layout_rule(cores: u64, group: u64, chunks: u64, chunk_bytes: u64) -> Option<u32>
     ensures { result ≡ layout_rule (record { cores = cores; group = group; chunks = chunks; chunk_bytes = chunk_bytes }) }
 {
@@ -54,4 +57,117 @@ pub fn layout_rule(cores: u64, group: u64, chunks: u64, chunk_bytes: u64) -> Opt
         return Some(5);
     }
     None
+}
+
+/// The numbers break a rule of a layout: 1 to 5, the first that is broken.
+#[derive(Clone, Copy, Debug, PartialEq, Eq)]
+pub struct BadLayout {
+    pub rule: u32,
+}
+
+/// The layout of a region, whose numbers keep the five rules.
+#[derive(Clone, Copy)]
+pub struct Layout {
+    cores: u32,
+    group: u32,
+    chunks: u32,
+    chunk_bytes: u64,
+}
+
+impl Model for Layout {
+    ghost use Rattle.chunk_map.specs.Layouts.{IsLayout};
+    ghost use Rattle.chunk_map.specs.declared.layouts.Geometry.{Geometry};
+
+    ghost Value = { Geometry };
+
+    ghost view = { λ l. record { cores = l.cores; group = l.group; chunks = l.chunks; chunk_bytes = l.chunk_bytes } };
+
+    ghost inverse = { λ g. record { cores = g.cores; group = g.group; chunks = g.chunks; chunk_bytes = g.chunk_bytes } };
+
+    ghost invariant = { λ l. IsLayout (record { cores = l.cores; group = l.group; chunks = l.chunks; chunk_bytes = l.chunk_bytes }) };
+}
+
+impl Layout {
+    ghost use Rattle.chunk_map.specs.Checked.{checked_layout};
+
+    /// The layout with these numbers, or the first rule that they break.
+    pub fn new(cores: u32, group: u32, chunks: u32, chunk_bytes: u64) -> Result<Layout, BadLayout>
+        ensures { result ≡ checked_layout (record { cores = cores; group = group; chunks = chunks; chunk_bytes = chunk_bytes }) }
+    {
+        if let Some(rule) = layout_rule(cores as u64, group as u64, chunks as u64, chunk_bytes) {
+            return Err(BadLayout { rule });
+        }
+        Ok(Layout {
+            cores,
+            group,
+            chunks,
+            chunk_bytes,
+        })
+    }
+
+    /// The numbers of the layout, as plain data.
+    pub fn geometry(&self) -> Geometry
+        ensures { result ≡ self.now }
+    {
+        Geometry {
+            cores: self.cores,
+            group: self.group,
+            chunks: self.chunks,
+            chunk_bytes: self.chunk_bytes,
+        }
+    }
+
+    pub fn cores(&self) -> u32
+        ensures { result ≡ self.now.cores }
+    {
+        self.cores
+    }
+
+    /// How many cores share a table, in a group.
+    pub fn group(&self) -> u32
+        ensures { result ≡ self.now.group }
+    {
+        self.group
+    }
+
+    /// How many chunks each core has.
+    pub fn chunks(&self) -> u32
+        ensures { result ≡ self.now.chunks }
+    {
+        self.chunks
+    }
+
+    pub fn chunk_bytes(&self) -> u64
+        ensures { result ≡ self.now.chunk_bytes }
+    {
+        self.chunk_bytes
+    }
+
+    /// The first word of a core's part. Of the number of cores it is the word behind the last part.
+    pub fn part_first(&self, part: u32) -> u64
+        ensures { result ≡ part_first self.now part }
+    {
+        512 + part as u64 * (self.chunks as u64 * (self.chunk_bytes / 8))
+    }
+
+    /// The first word of a core's chunk, that is of its head.
+    pub fn chunk_first(&self, part: u32, chunk: u32) -> u64
+        ensures { result ≡ chunk_first self.now part chunk }
+    {
+        512 + (part as u64 * self.chunks as u64 + chunk as u64) * (self.chunk_bytes / 8)
+    }
+
+    /// How many lines of a chunk come after its head.
+    pub fn payload_lines(&self) -> u64
+        ensures { result ≡ payload_lines self.now }
+    {
+        self.chunk_bytes / 64 - 4
+    }
+
+    /// The bytes of a region with this layout.
+    pub fn total_bytes(&self) -> u64
+        ensures { result ≡ total_bytes self.now }
+    {
+        4096 + self.cores as u64 * self.chunks as u64 * self.chunk_bytes
+    }
 }
