@@ -3,3 +3,4 @@
 
 pub mod heads;
 pub mod layouts;
+pub mod words;
