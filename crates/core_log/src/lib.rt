@@ -2,3 +2,9 @@
 #![tactic(auto)]
 
 mod chunk;
+mod log;
+mod tails;
+mod types;
+
+pub use log::CoreLog;
+pub use types::{LogChunk, Placed, Room};
