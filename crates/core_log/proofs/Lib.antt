@@ -1,0 +1,5 @@
+pub mod Padded
+pub mod Append
+pub mod TailLaws
+pub mod LogLaws
+pub mod BatchLaws

@@ -1,0 +1,4 @@
+pub mod Chunk
+pub mod Log
+pub mod Places
+pub mod Entries

@@ -1,0 +1,91 @@
+// One chunk of a log: a batch is appended behind its tail.
+ghost use Rattle.std.specs.Prelude.{◌≡◌, ◌⊎◌, ℕ, ◌+◌, ◌-◌, ◌*◌, ◌/◌, ◌%◌, ◌^◌, ◌≤◌, ◌<◌, length, [], slice_index, OnOk, OnErr};
+ghost use Rattle.pm_region.specs.Cell.{Cell, certain};
+ghost use Rattle.pm_region.specs.State.{State, During, IsTelling, cell_now, Rose};
+ghost use Rattle.pm_region.specs.Words.{KeepsOutside, EachIn, Surely};
+ghost use Rattle.core_log.specs.Chunk.{lines_for, padded, words_now, HasOrLacks, ChunkLies, IsLog, Appended};
+
+use chunk_map::words::set_word;
+use pm_region::{Region, RegionFault};
+
+// The word of a list, or 0 behind its end.
+fn word_or_zero(words: &[u64], at: u64) -> u64
+    ensures { result ≡ slice_index words.now at }
+{
+    if at < words.len() as u64 {
+        words[at as usize]
+    } else {
+        0
+    }
+}
+
+// Stores so many words: those of the list, then zeros.
+fn store_all<R: Region>(region: &mut R, at: u64, words: &[u64], count: u64)
+    requires low { (R.state region.old).frame.first ≤ at }
+    requires high { at + count ≤ (R.state region.old).frame.first + (R.state region.old).frame.words }
+    requires fits { at + count < 2 ^ 64 }
+    ensures run { During (R.state region.old) (R.state region.new) (KeepsOutside (cell_now (R.state region.old)) at (at + count)) }
+    ensures stored { IsTelling (R.state region.new) → (j : ℕ) → j < count
+        → (cell_now (R.state region.new) (at + j)).last ≡ slice_index words.now j }
+{
+    for i in 0..count {
+        region.store(at + i, word_or_zero(words, i));
+    }
+}
+
+// Flushes so many lines, one after another.
+fn flush_all<R: Region>(region: &mut R, line: u64, count: u64)
+    requires low { (R.state region.old).frame.first ≤ 8 * line }
+    requires high { 8 * (line + count) ≤ (R.state region.old).frame.first + (R.state region.old).frame.words }
+    requires fits { line + count < 2 ^ 64 }
+    ensures run { During (R.state region.old) (R.state region.new) (KeepsOutside (cell_now (R.state region.old)) (8 * line) (8 * (line + count))) }
+    ensures lasts { IsTelling (R.state region.new) → (w : ℕ) → (cell_now (R.state region.new) w).last ≡ (cell_now (R.state region.old) w).last }
+    ensures marks { IsTelling (R.state region.new) → (w : ℕ) → 8 * line ≤ w → w < 8 * (line + count) → (cell_now (R.state region.new) w).marked ≡ [] }
+{
+    for i in 0..count {
+        region.flush(line + i);
+    }
+}
+
+// Makes so many lines certain: the words of the list, then zeros.
+fn write_lines<R: Region>(
+    region: &mut R,
+    line: u64,
+    words: &[u64],
+    lines: u64,
+) -> Result<(), RegionFault>
+    requires low { (R.state region.old).frame.first ≤ 8 * line }
+    requires high { 8 * (line + lines) ≤ (R.state region.old).frame.first + (R.state region.old).frame.words }
+    requires fits { 8 * (line + lines) < 2 ^ 64 }
+    ensures run { During (R.state region.old) (R.state region.new) (KeepsOutside (cell_now (R.state region.old)) (8 * line) (8 * (line + lines))) }
+    ensures ok { OnOk result (IsTelling (R.state region.new) → (j : ℕ) → j < 8 * lines
+        → cell_now (R.state region.new) (8 * line + j) ≡ certain (slice_index words.now j)) }
+    ensures cause { OnErr result (Rose (R.state region.old).faults (R.state region.new).faults) }
+{
+    store_all(region, 8 * line, words, 8 * lines);
+    flush_all(region, line, lines);
+    region.fence()
+}
+
+/// Appends a batch to a chunk of a log, with zeros up to a line's end. At every moment an image has it
+/// wholly or not at all. The chunk begins at word `at` and has `words` words.
+pub fn append_at<R: Region>(
+    region: &mut R,
+    at: u64,
+    words: u64,
+    tail: u64,
+    batch: &[u64],
+) -> Result<(), RegionFault>
+    requires lies { ChunkLies (R.state region.old).frame at words tail }
+    requires log { IsTelling (R.state region.old) → IsLog (cell_now (R.state region.old)) at tail }
+    requires room { tail + 8 * lines_for (length batch.now) + 32 ≤ words }
+    ensures moments { During (R.state region.old) (R.state region.new) (EachIn at (at + words)
+        (HasOrLacks at tail (words_now (R.state region.old) at tail) (padded batch.now))) }
+    ensures outside { During (R.state region.old) (R.state region.new) (KeepsOutside (cell_now (R.state region.old)) at (at + words)) }
+    ensures ok { OnOk result (IsTelling (R.state region.new) → Appended (R.state region.old) (R.state region.new) at tail (padded batch.now)) }
+    ensures cause { OnErr result (Rose (R.state region.old).faults (R.state region.new).faults) }
+{
+    let lines = (batch.len() as u64 + 7) / 8;
+    write_lines(region, at / 8 + 4 + tail / 8, batch, lines)?;
+    set_word(region, at + 1, tail + 8 * lines)
+}

@@ -1,0 +1,10 @@
+//! One core's log: batches of entries in chunks of a region.
+#![tactic(auto)]
+
+mod chunk;
+mod log;
+mod tails;
+mod types;
+
+pub use log::CoreLog;
+pub use types::{LogChunk, Placed, Room};

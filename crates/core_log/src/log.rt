@@ -1,0 +1,147 @@
+// A core's log: its chunks with their tails, and which of them is open.
+ghost use Rattle.std.specs.Prelude.{◌≡◌, ◌⊎◌, ℕ, ◌+◌, ◌*◌, ◌/◌, ◌%◌, ◌^◌, ◌≤◌, ◌<◌, List, length, Some, None, true, is_some, OnOk, OnErr, IfOk};
+ghost use Rattle.std.specs.List.{flat_map};
+ghost use Rattle.pm_region.specs.State.{State, During, IsTelling, cell_now, Rose};
+ghost use Rattle.pm_region.specs.Words.{KeepsOutside, EachIn, Surely, lasts};
+ghost use Rattle.chunk_map.specs.Layouts.{chunk_words, payload_words, payload_lines, chunk_first};
+ghost use Rattle.log_entry.specs.declared.entry.Entry.{Entry};
+ghost use Rattle.log_entry.specs.Spelling.{words_of};
+ghost use Rattle.log_entry.specs.Batches.{IsBatch};
+ghost use Rattle.core_log.specs.Chunk.{lines_for, padded, words_now, HasOrLacks, FreeOrEmpty};
+ghost use Rattle.core_log.specs.Log.{LogState, IsOwn, tail_of, with_tail, chunk_with, IsChunkOf, first_of, open_number, open_first, open_tail, room_of, EachInOpen, HoldsEntries, StandsIn};
+ghost use Rattle.core_log.specs.Entries.{open_entries, added_entries, HasEntries, HasEntriesOrLacks, AppendedBatch};
+
+use crate::chunk::append_at;
+use crate::tails::{set_tail, tail_of};
+use crate::types::{LogChunk, Placed};
+use chunk_map::layouts::Layout;
+use log_entry::WordBuffer;
+use pm_region::{Region, RegionFault};
+use std::marker::Model;
+
+/// The log of one core: its chunks with their tails, by rising number, and the open chunk.
+#[derive(Drop)]
+pub struct CoreLog {
+    layout: Layout,
+    part: u32,
+    chunks: Vec<LogChunk>,
+    opened: Option<u32>,
+}
+
+impl Model for CoreLog {
+    ghost use Rattle.std.specs.Prelude.{◌<◌, vec_capacity};
+    ghost use Rattle.core_log.specs.Log.{LogState, IsOwn};
+
+    ghost Value = { LogState };
+
+    ghost view = { λ a. record { layout = a.layout; part = a.part; chunks = a.chunks.items; opened = a.opened } };
+
+    ghost invariant = { λ a. IsOwn (record { layout = a.layout; part = a.part; chunks = a.chunks.items; opened = a.opened }) × (a.layout.chunks < vec_capacity a.chunks) };
+}
+
+impl CoreLog {
+    /// The free lines of the open chunk, or 0 where none is open.
+    pub fn room(&self) -> u64
+        ensures { result ≡ room_of self.now }
+    {
+        match self.opened {
+            None => 0,
+            Some(chunk) => {
+                self.layout.payload_lines() - tail_of(&self.chunks, chunk).unwrap_or(0) / 8
+            }
+        }
+    }
+
+    /// The log's chunks by rising number.
+    pub fn chunks(&self) -> &[LogChunk]
+        ensures { result.now ≡ self.now.chunks }
+    {
+        self.chunks.as_slice()
+    }
+
+    /// The number of the open chunk, where one is open.
+    pub fn opened(&self) -> Option<u32>
+        ensures { result ≡ self.now.opened }
+    {
+        self.opened
+    }
+
+    // The open chunk and its tail.
+    fn open_place(&self) -> Placed
+        requires { is_some self.now.opened ≡ true }
+        ensures chunk { result.chunk ≡ open_number self.now }
+        ensures place { result.place ≡ open_tail self.now }
+    {
+        let chunk = self.opened.unwrap();
+        Placed {
+            chunk,
+            place: tail_of(&self.chunks, chunk).unwrap_or(0),
+        }
+    }
+
+    // The first word of a chunk of the part.
+    fn first_of(&self, chunk: u32) -> u64
+        ensures { result ≡ first_of self.now chunk }
+    {
+        self.layout.chunk_first(self.part, chunk)
+    }
+
+    fn chunk_words(&self) -> u64
+        ensures { result ≡ chunk_words self.now.layout }
+    {
+        self.layout.chunk_bytes() / 8
+    }
+
+    fn move_tail(&mut self, chunk: u32, tail: u64)
+        requires { IsChunkOf self.old.layout (chunk_with chunk tail) }
+        ensures { self.new ≡ record self.old { chunks = with_tail self.old.chunks chunk tail } }
+    {
+        set_tail(&mut self.chunks, chunk, tail);
+    }
+
+    fn begin_chunk(&mut self, chunk: u32)
+        requires { chunk < self.old.layout.chunks }
+        ensures { self.new ≡ record self.old { chunks = with_tail self.old.chunks chunk 0; opened = Some chunk } }
+    {
+        set_tail(&mut self.chunks, chunk, 0);
+        self.opened = Some(chunk);
+    }
+
+    /// Appends one batch to the open chunk: the words of the buffer, and zeros up to a line's end. At every
+    /// moment of the call an image has the batch wholly or not at all. One flush for each line and one more,
+    /// and two fences. After a fault the log's numbers are as before, but nobody may say that the log still
+    /// stands in the region.
+    pub fn append_batch<R: Region>(
+        &mut self,
+        region: &mut R,
+        batch: &WordBuffer,
+    ) -> Result<Placed, RegionFault>
+        requires stands { StandsIn (R.state region.old) self.old }
+        requires entries { HoldsEntries batch.now.words }
+        requires room { lines_for (length batch.now.words) ≤ room_of self.old }
+        // The words before the tail, with the whole batch or without it.
+        ensures moments { During (R.state region.old) (R.state region.new) (EachInOpen self.old (HasOrLacks (open_first self.old) (open_tail self.old)
+            (words_now (R.state region.old) (open_first self.old) (open_tail self.old)) (padded batch.now.words))) }
+        // The same of the entries that images show.
+        ensures entries { (es : List Entry) → batch.now.words ≡ flat_map words_of es → IsBatch es
+            → During (R.state region.old) (R.state region.new) (EachInOpen self.old (HasEntriesOrLacks self.old (open_entries self.old (lasts (R.state region.old))) es)) }
+        // No word outside the open chunk is stored or flushed.
+        ensures outside { During (R.state region.old) (R.state region.new)
+            (KeepsOutside (cell_now (R.state region.old)) (open_first self.old) (open_first self.old + chunk_words self.old.layout)) }
+        ensures ok { OnOk result (AppendedBatch (R.state region.old) (R.state region.new) self.old self.new (padded batch.now.words)) }
+        ensures ok_entries { OnOk result ((es : List Entry) → batch.now.words ≡ flat_map words_of es → IsBatch es → IsTelling (R.state region.new)
+            → EachInOpen self.old (HasEntries self.old (open_entries self.old (lasts (R.state region.old))) es) (cell_now (R.state region.new))) }
+        ensures placed { IfOk result (λ p. (self.old.opened ≡ Some p.chunk) × (p.place ≡ open_tail self.old)) }
+        ensures err { OnErr result (self.new ≡ self.old) }
+        ensures cause { OnErr result (Rose (R.state region.old).faults (R.state region.new).faults) }
+    {
+        let place = self.open_place();
+        let at = self.first_of(place.chunk);
+        let words = self.chunk_words();
+        let list = batch.words();
+        append_at(region, at, words, place.place, list)?;
+        let lines = (list.len() as u64 + 7) / 8;
+        self.move_tail(place.chunk, place.place + 8 * lines);
+        Ok(place)
+    }
+}
