@@ -1,19 +1,10 @@
 -- What leaves a crash no value more.
-<<<<<<< HEAD
 use Rattle.std.proofs.Common.{◌≡◌, ◌⊎◌, inl, inr, ⊎_elim, ℕ, ◌+◌, ◌/◌, ◌≤◌, ◌<◌, ◌==◌, ◌&&◌, nat_le, nat_lt, if◌then◌else◌, List, [], ◌∷◌, ◌++◌, refl, sym, ◌∙◌, subst, arith, append_assoc}
 use Rattle.std.proofs.lemmas.Bool.{cases_lt, cond_both, cond-true, cond-false}
 use Rattle.std.proofs.lemmas.Bool.Decides.{nat_tests}
 use Rattle.pm_region.specs.Cell.{Cell, certain, stored, flushed, fenced, MayBe, HasValue, values, flush_line, fence_range}
 use Rattle.pm_region.proofs.Cells.{may_be_last}
 use Rattle.pm_region.specs.Words.{Kept, KeepsOutside, Narrows, Surely, MayLeaveIn}
-=======
-use Rattle.std.proofs.Common.{◌≡◌, ◌≢◌, ◌⊎◌, inl, inr, ⊎_elim, ℕ, ◌+◌, ◌*◌, ◌/◌, ◌≤◌, ◌<◌, ◌==◌, ◌&&◌, nat_le, nat_lt, if◌then◌else◌, List, [], ◌∷◌, ◌++◌, refl, sym, ◌∙◌, ap, subst, arith, append_assoc}
-use Rattle.std.proofs.lemmas.Bool.{cases_eq, cases_lt, cond_both, cond-true, cond-false}
-use Rattle.std.proofs.lemmas.Bool.Decides.{nat_tests}
-use Rattle.pm_region.specs.Cell.{Cell, certain, stored, flushed, fenced, MayBe, HasValue, values, store_at, flush_line, fence_range}
-use Rattle.pm_region.proofs.Cells.{may_be_last}
-use Rattle.pm_region.specs.Words.{Kept, KeepsOutside, Narrows, Surely, MayLeaveIn, EachIn}
->>>>>>> 55e09475aec1d2f2788811c0603888aee1571679
 
 has_right : (xs ys : List ℕ) (v : ℕ) → HasValue ys v → HasValue (xs ++ ys) v
 has_right [] ys v has = has

@@ -1,0 +1,85 @@
+// One core's log with its free chunks and the cells of the keys.
+ghost use Rattle.std.specs.Prelude.{◌≡◌, ◌⊎◌, ℕ, ◌+◌, ◌-◌, ◌*◌, ◌/◌, ◌^◌, ◌<◌, ◌≤◌, length, OnOk, OnErr};
+ghost use Rattle.pm_region.specs.State.{State, During, IsTelling, Rose};
+
+use crate::cells::Cells;
+use core_log::CoreLog;
+use fs_model::{Key, Value, Version};
+use log_entry::{Body, Entry, WordBuffer, write_entry};
+use pm_region::{Region, RegionFault};
+
+/// The log of the one core of a region, with what is not in it: which chunks are free, and the cells.
+#[derive(Drop)]
+pub struct Store {
+    pub log: CoreLog,
+    pub cells: Cells,
+    /// The numbers of the free chunks, the lowest last.
+    pub free: Vec<u32>,
+    /// The words of the batch in hand.
+    pub batch: WordBuffer,
+}
+
+impl Store {
+    ghost use Rattle.core_log.specs.Log.{room_of};
+    ghost use Rattle.core_log.specs.Chunk.{lines_for};
+    ghost use Rattle.chunk_map.specs.Layouts.{payload_lines};
+    ghost use Rattle.serial_engine.specs.Cells.{cell_of, last_of, has_record, Settles};
+    ghost use Rattle.serial_engine.specs.Moments.{EachImage, ShowsEither};
+    ghost use Rattle.serial_engine.specs.Shows.{Shows};
+    ghost use Rattle.serial_engine.specs.Ready.{Ready};
+
+    /// Opens the lowest free chunk where the open one has too few free lines.
+    fn make_room<R: Region>(&mut self, region: &mut R, lines: u64) -> Result<(), RegionFault>
+        requires ready { Ready (R.state region.old) self.old }
+        requires chunk { lines ≤ payload_lines self.old.log.layout }
+        requires room { (lines ≤ room_of self.old.log) ⊎ (0 < length self.old.free.items) }
+        ensures moments { During (R.state region.old) (R.state region.new) (EachImage (R.state region.old).frame
+            (Shows (R.state region.old).frame.bytes self.old.log.layout (cell_of self.old.cells) (last_of self.old.cells))) }
+        ensures ready { OnOk result (Ready (R.state region.new) self.new) }
+        ensures room { OnOk result (lines ≤ room_of self.new.log) }
+        ensures layout { self.new.log.layout ≡ self.old.log.layout }
+        ensures cells { self.new.cells ≡ self.old.cells }
+        ensures cause { OnErr result (Rose (R.state region.old).faults (R.state region.new).faults) }
+    {
+        if lines <= self.log.room() {
+            return Ok(());
+        }
+        let chunk = self.free.pop().unwrap();
+        self.log.open_chunk(region, chunk)
+    }
+
+    /// Appends a put as a batch of its own, and records it once the batch is certain.
+    fn append<R: Region>(
+        &mut self,
+        region: &mut R,
+        key: Key,
+        version: Version,
+        value: Value,
+    ) -> Result<(), RegionFault>
+        requires ready { Ready (R.state region.old) self.old }
+        requires record { has_record self.old.cells key ≡ true }
+        requires next { version ≡ last_of self.old.cells key + 1 }
+        requires spelled { version ≤ 1048574 }
+        requires short { length value ≤ 255 }
+        requires room { lines_for (2 + (length value + 7) / 8) ≤ room_of self.old.log }
+        ensures moments { During (R.state region.old) (R.state region.new) (EachImage (R.state region.old).frame
+            (ShowsEither (R.state region.old).frame.bytes self.old.log.layout (cell_of self.old.cells) (last_of self.old.cells) key version value)) }
+        ensures ready { OnOk result (Ready (R.state region.new) self.new) }
+        ensures settled { OnOk result (Settles self.old.cells self.new.cells key version value) }
+        ensures layout { self.new.log.layout ≡ self.old.log.layout }
+        ensures cause { OnErr result (Rose (R.state region.old).faults (R.state region.new).faults) }
+    {
+        let entry = Entry {
+            key,
+            version,
+            body: Body::Embedded(value),
+        };
+        write_entry(&entry, &mut self.batch);
+        self.log.append_batch(region, &self.batch)?;
+        self.batch.clear();
+        if let Body::Embedded(value) = entry.body {
+            self.cells.settle(key, version, value);
+        }
+        Ok(())
+    }
+}
