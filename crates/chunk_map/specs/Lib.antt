@@ -1,2 +1,3 @@
 pub mod Layouts
 pub mod Checked
+pub mod Setting

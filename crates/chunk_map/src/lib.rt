@@ -3,4 +3,5 @@
 
 pub mod heads;
 pub mod layouts;
+pub mod setting;
 pub mod words;
