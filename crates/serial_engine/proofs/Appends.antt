@@ -17,10 +17,10 @@ use Rattle.serial_engine.specs.Shows.{Shows}
 use Rattle.serial_engine.specs.Moments.{EachImage, with_at, ShowsEither}
 use Rattle.serial_engine.proofs.Images.{shows_still, shows_more}
 
-with_here : {X : Type 0} (f : ℕ → X) (key : ℕ) (x : X) → with_at f key x key ≡ x
+pub with_here : {X : Type 0} (f : ℕ → X) (key : ℕ) (x : X) → with_at f key x key ≡ x
 with_here f key x = (λ t. cond (eq-eqb key key refl t) x (f key))
 
-with_else : {X : Type 0} (f : ℕ → X) (key : ℕ) (x : X) (k : ℕ) → k ≢ key → with_at f key x k ≡ f k
+pub with_else : {X : Type 0} (f : ℕ → X) (key : ℕ) (x : X) (k : ℕ) → k ≢ key → with_at f key x k ≡ f k
 with_else f key x k ne = (λ t. cond (ne_eqb k key ne t) x (f k))
 
 -- the chunk reads, and has the entries from before, or one more

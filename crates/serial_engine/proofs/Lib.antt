@@ -1,3 +1,5 @@
 pub mod Sound
 pub mod Images
 pub mod Appends
+pub mod Puts
+pub mod Appended

@@ -1,5 +1,6 @@
 // One core's log with its free chunks and the cells of the keys.
 ghost use Rattle.std.specs.Prelude.{◌≡◌, ◌⊎◌, ℕ, ◌+◌, ◌-◌, ◌*◌, ◌/◌, ◌^◌, ◌<◌, ◌≤◌, length, true, OnOk, OnErr};
+ghost use Rattle.std.specs.List.{AllByRecursion};
 ghost use Rattle.pm_region.specs.State.{State, During, IsTelling, Rose};
 
 use crate::cells::Cells;
@@ -41,6 +42,7 @@ impl Store {
         requires next { version ≡ last_of self.old.cells key + 1 }
         requires spelled { version ≤ 1048574 }
         requires short { length value ≤ 255 }
+        requires bytes { AllByRecursion (λ b. b < 256) value }
         requires room { lines_for (2 + (length value + 7) / 8) ≤ room_of self.old.log }
         ensures moments { During (R.state region.old) (R.state region.new) (EachImage (R.state region.old).frame
             (ShowsEither (R.state region.old).frame.bytes self.old.log.layout (cell_of self.old.cells) (last_of self.old.cells) key version value)) }

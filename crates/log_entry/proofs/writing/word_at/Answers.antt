@@ -1,6 +1,6 @@
 use Rattle.std.proofs.Common.{◌≡◌, ◌+◌, get_or, ◌∙◌, ap, arith}
 use Rattle.log_entry.proofs.WordAt.{byte_there}
-use Rattle.log_entry.proofs.packing.word_at.Goals as goal
+use Rattle.log_entry.proofs.writing.word_at.Goals as goal
 
 pub returns : goal.returns
 returns c =
