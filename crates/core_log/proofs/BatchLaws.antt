@@ -93,7 +93,7 @@ module _ (s : State) (log : LogState) (stands : StandsIn s log) (some : is_some 
   open_spelled telling = stands.spelled telling (open_number log) (open_tail log) (open_has log stands.own some)
 
 -- the head of a log
-head_of : (l : Geometry) (tail : ℕ) → tail % 8 ≡ 0 → tail ≤ payload_words l → head_by l 1 tail ≡ Ok (Log tail)
+pub head_of : (l : Geometry) (tail : ℕ) → tail % 8 ≡ 0 → tail ≤ payload_words l → head_by l 1 tail ≡ Ok (Log tail)
 head_of l tail whole fits = cond-true (tail % 8 == 0 && nat_le tail (payload_words l)) (Ok (Log tail)) (Err 5) (and_from _ _ (eq-eqb (tail % 8) 0 whole) (le-leb tail (payload_words l) fits))
 
 -- an image's chunk with these words has the entries that they spell

@@ -3,3 +3,5 @@ pub mod Append
 pub mod TailLaws
 pub mod LogLaws
 pub mod BatchLaws
+pub mod OpenLaws
+pub mod FreshLaws

@@ -34,13 +34,16 @@ room_in log own j = by_tail (tail_of log.chunks j) refl
     by_tail None is = omega arith
     by_tail (Some t) is = (tail_fits log.layout own.layout (chunk_with j t) (own_chunk log own j t is)).1
 
--- a place is free in a list that has one more than the part has chunks
+within : (l : Geometry) (cs : List LogChunk) → AllByRecursion (IsChunkOf l) cs → AllByRecursion (λ (c : LogChunk). c.chunk < l.chunks) cs
+within l [] all = tt
+within l (c ∷ cs) all = (all.0.within, within l cs all.1)
+
+-- a rising list of a part's chunks is no longer than the part has chunks
+pub kept_short : (l : Geometry) (cs : List LogChunk) → IsRising 0 cs → AllByRecursion (IsChunkOf l) cs → length cs ≤ l.chunks
+kept_short l cs rising each = omega (arith, rising_short 0 l.chunks cs (omega arith) rising (within l cs each))
+
 pub has_place : (log : LogState) → IsOwn log → length log.chunks ≤ log.layout.chunks
-has_place log own = omega (arith, rising_short 0 log.layout.chunks log.chunks (omega arith) own.rising (within log.chunks own.each))
-  where
-    within : (cs : List LogChunk) → AllByRecursion (IsChunkOf log.layout) cs → AllByRecursion (λ (c : LogChunk). c.chunk < log.layout.chunks) cs
-    within [] all = tt
-    within (c ∷ cs) all = (all.0.within, within cs all.1)
+has_place log own = kept_short log.layout log.chunks own.rising own.each
 
 still_some : (cs : List LogChunk) (j t k : ℕ) → is_some (tail_of cs k) ≡ true → is_some (tail_of (with_tail cs j t) k) ≡ true
 still_some cs j t k some = ⊎_elim (λ here. ap is_some (ap (tail_of (with_tail cs j t)) here ∙ tail_set cs j t)) (λ other. ap is_some (tail_other cs j t k other) ∙ some) (cases_eq k j)

@@ -114,3 +114,17 @@ all_of P (c ∷ cs) j t all = by_number (all_of P cs j t all.1) (c.chunk == j) r
 pub rising_short : (from n : ℕ) (cs : List LogChunk) → from ≤ n → IsRising from cs → AllByRecursion (λ (c : LogChunk). c.chunk < n) cs → from + length cs ≤ n
 rising_short from n [] le rising all = omega (arith, le)
 rising_short from n (c ∷ cs) le rising all = let rest = rising_short (c.chunk + 1) n cs (let lt = all.0 in omega arith) rising.1 all.1 in omega (arith, rest, rising.0)
+
+-- what all elements have, one at a place has
+pub all_at : (P : LogChunk → Type 0) (cs : List LogChunk) (i : ℕ) (d : LogChunk) → AllByRecursion P cs → i < length cs → P (get_or cs i d)
+all_at P [] i d all lt = absurd (omega (arith, lt))
+all_at P (c ∷ cs) zero d all lt = all.0
+all_at P (c ∷ cs) (suc i) d all lt = all_at P cs i d all.1 (omega (arith, lt))
+
+-- no number of a rising list is below its start
+pub rising_at : (from : ℕ) (cs : List LogChunk) (j t : ℕ) → IsRising from cs → tail_of cs j ≡ Some t → from ≤ j
+rising_at from [] j t rising is = absurd (cc is)
+rising_at from (c ∷ cs) j t rising is = elim (c.chunk == j) as (λ b. (c.chunk == j) ≡ b → cond b (Some c.tail) (tail_of cs j) ≡ Some t → from ≤ j) [
+  | true ↦ λ here at. let e = eqb-true c.chunk j here in omega (arith, e, rising.0)
+  | false ↦ λ other at. let le = rising_at (c.chunk + 1) cs j t rising.1 at in omega (arith, le, rising.0)
+] refl is

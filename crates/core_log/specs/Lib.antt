@@ -2,3 +2,5 @@ pub mod Chunk
 pub mod Log
 pub mod Places
 pub mod Entries
+pub mod Opening
+pub mod Fresh

@@ -1,6 +1,6 @@
 // A core's log: its chunks with their tails, and which of them is open.
 ghost use Rattle.std.specs.Prelude.{◌≡◌, ◌⊎◌, ℕ, ◌+◌, ◌*◌, ◌/◌, ◌%◌, ◌^◌, ◌≤◌, ◌<◌, List, length, Some, None, true, is_some, OnOk, OnErr, IfOk};
-ghost use Rattle.std.specs.List.{flat_map};
+ghost use Rattle.std.specs.List.{flat_map, AllByRecursion};
 ghost use Rattle.pm_region.specs.State.{State, During, IsTelling, cell_now, Rose};
 ghost use Rattle.pm_region.specs.Words.{KeepsOutside, EachIn, Surely, lasts};
 ghost use Rattle.chunk_map.specs.Layouts.{chunk_words, payload_words, payload_lines, chunk_first};
@@ -9,14 +9,20 @@ ghost use Rattle.log_entry.specs.Spelling.{words_of};
 ghost use Rattle.log_entry.specs.Batches.{IsBatch};
 ghost use Rattle.core_log.specs.Chunk.{lines_for, padded, words_now, HasOrLacks, FreeOrEmpty};
 ghost use Rattle.core_log.specs.Log.{LogState, IsOwn, tail_of, with_tail, chunk_with, IsChunkOf, first_of, open_number, open_first, open_tail, room_of, EachInOpen, HoldsEntries, StandsIn};
+ghost use Rattle.core_log.specs.Fresh.{HasEachOnce, IsEmptiest};
+ghost use Rattle.core_log.specs.Opening.{EachInChunk, HasNoEntries, OpenedChunk};
 ghost use Rattle.core_log.specs.Entries.{open_entries, added_entries, HasEntries, HasEntriesOrLacks, AppendedBatch};
 
 use crate::chunk::append_at;
-use crate::tails::{set_tail, tail_of};
+use crate::tails::{emptiest, set_tail, sorted, tail_of};
 use crate::types::{LogChunk, Placed};
+use chunk_map::heads::Head;
 use chunk_map::layouts::Layout;
+use chunk_map::setting::set_head;
+use fs_errors::Memory;
 use log_entry::WordBuffer;
 use pm_region::{Region, RegionFault};
+use std::alloc::Global;
 use std::marker::Model;
 
 /// The log of one core: its chunks with their tails, by rising number, and the open chunk.
@@ -40,6 +46,33 @@ impl Model for CoreLog {
 }
 
 impl CoreLog {
+    /// The log of a part with these chunks. The open chunk is the one with most free lines, of the lowest
+    /// number among equals, or none. No later call takes memory for the chunks.
+    pub fn open(
+        alloc: Global,
+        layout: Layout,
+        part: u32,
+        chunks: Vec<LogChunk>,
+    ) -> Result<CoreLog, Memory>
+        requires part { part < layout.cores }
+        requires each { AllByRecursion (IsChunkOf layout) chunks.items }
+        requires once { HasEachOnce chunks.items }
+        ensures own { IfOk result (λ log. IsOwn log) }
+        ensures layout { IfOk result (λ log. log.layout ≡ layout) }
+        ensures part { IfOk result (λ log. log.part ≡ part) }
+        ensures chunks { IfOk result (λ log. (j : ℕ) → tail_of log.chunks j ≡ tail_of chunks.items j) }
+        ensures opened { IfOk result (λ log. IsEmptiest log.chunks log.opened) }
+    {
+        let kept = sorted(alloc, layout, &chunks)?;
+        let opened = emptiest(&kept);
+        Ok(CoreLog {
+            layout,
+            part,
+            chunks: kept,
+            opened,
+        })
+    }
+
     /// The free lines of the open chunk, or 0 where none is open.
     pub fn room(&self) -> u64
         ensures { result ≡ room_of self.now }
@@ -143,5 +176,24 @@ impl CoreLog {
         let lines = (list.len() as u64 + 7) / 8;
         self.move_tail(place.chunk, place.place + 8 * lines);
         Ok(place)
+    }
+
+    /// Makes a Free chunk of the part the open one, with nothing in it, by two fences. It takes no memory.
+    pub fn open_chunk<R: Region>(&mut self, region: &mut R, chunk: u32) -> Result<(), RegionFault>
+        requires stands { StandsIn (R.state region.old) self.old }
+        requires part { chunk < self.old.layout.chunks }
+        requires free { IsTelling (R.state region.old) → Surely (cell_now (R.state region.old) (first_of self.old chunk)) 0 }
+        ensures moments { During (R.state region.old) (R.state region.new) (EachInChunk self.old chunk (FreeOrEmpty (first_of self.old chunk))) }
+        ensures entries { During (R.state region.old) (R.state region.new) (EachInChunk self.old chunk (HasNoEntries self.old chunk)) }
+        // No word outside the head's first line is stored or flushed.
+        ensures outside { During (R.state region.old) (R.state region.new) (KeepsOutside (cell_now (R.state region.old)) (first_of self.old chunk) (first_of self.old chunk + 8)) }
+        ensures ok { OnOk result (OpenedChunk (R.state region.new) self.old self.new chunk) }
+        ensures err { OnErr result (self.new ≡ self.old) }
+        ensures cause { OnErr result (Rose (R.state region.old).faults (R.state region.new).faults) }
+    {
+        let at = self.first_of(chunk);
+        set_head(region, at, Head::Log { tail: 0 })?;
+        self.begin_chunk(chunk);
+        Ok(())
     }
 }
