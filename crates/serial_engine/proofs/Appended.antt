@@ -1,10 +1,10 @@
 -- The store before and after a put that is appended.
-use Rattle.std.proofs.Common.{◌≡◌, ◌≢◌, ◌⊎◌, inl, inr, ℕ, ◌+◌, ◌-◌, ◌*◌, ◌/◌, ◌<◌, ◌≤◌, ◌^◌, List, [], ◌∷◌, ◌++◌, length, refl, sym, ◌∙◌, ap, subst, arith, ◌==◌, true, false, Bool, cond, Option, Some, None}
+use Rattle.std.proofs.Common.{◌≡◌, ℕ, ◌+◌, ◌/◌, ◌<◌, ◌≤◌, ◌^◌, List, [], length, refl, sym, ◌∙◌, ap, subst, arith, ◌==◌, true, false, cond, Option, Some, None}
 use Rattle.std.specs.Prelude.{is_some}
 use Rattle.std.specs.List.{AllByRecursion}
 use Rattle.std.proofs.lemmas.Bool.{eqb-true, eqb-false}
-use Rattle.pm_region.specs.State.{State, Frame, IsTelling, cell_now, During}
-use Rattle.pm_region.specs.Words.{KeepsOutside, lasts}
+use Rattle.pm_region.specs.State.{State, Frame, cell_now, During}
+use Rattle.pm_region.specs.Words.{KeepsOutside}
 use Rattle.log_entry.specs.declared.entry.Entry.{Entry}
 use Rattle.log_entry.specs.declared.entry.Body.TheVariants.{Embedded}
 use Rattle.log_entry.specs.Spelling.{words_of, HasSpelling}
@@ -20,7 +20,6 @@ use Rattle.serial_engine.specs.Cells.{cell_of, last_of, Settles}
 use Rattle.serial_engine.specs.Shows.{Shows}
 use Rattle.serial_engine.specs.Moments.{EachImage, with_at, ShowsEither}
 use Rattle.serial_engine.specs.Ready.{Ready}
-use Rattle.serial_engine.proofs.Appends.{with_here, with_else}
 use Rattle.serial_engine.proofs.Puts.{spelled_put, put_length, put_moments, put_shows, still_free}
 
 -- a log with room has an open chunk
@@ -60,17 +59,17 @@ module _ (s t : State) (b : Store) (R : Ready s b) (key version : ℕ) (value : 
     cells_are = λ i k. cell_at k i where
       cell_at : (k : ℕ) → with_at (cell_of b.cells) key (Some value) k ≡ cell_of cells' k
       cell_at k = elim (k == key) as (λ c. (k == key) ≡ c → cond c (Some value) (cell_of b.cells k) ≡ cell_of cells' k) [
-          | true ↦ λ q. sym settles.cell ∙ ap (cell_of cells') (sym (eqb-true k key q))
-          | false ↦ λ q. sym (settles.other_cells k (eqb-false k key q))
-        ] refl
+        | true ↦ λ q. sym settles.cell ∙ ap (cell_of cells') (sym (eqb-true k key q))
+        | false ↦ λ q. sym (settles.other_cells k (eqb-false k key q))
+      ] refl
 
     lasts_are : with_at (last_of b.cells) key version ≡ last_of cells'
     lasts_are = λ i k. last_at k i where
       last_at : (k : ℕ) → with_at (last_of b.cells) key version k ≡ last_of cells' k
       last_at k = elim (k == key) as (λ c. (k == key) ≡ c → cond c version (last_of b.cells k) ≡ last_of cells' k) [
-          | true ↦ λ q. sym settles.last ∙ ap (last_of cells') (sym (eqb-true k key q))
-          | false ↦ λ q. sym (settles.other_lasts k (eqb-false k key q))
-        ] refl
+        | true ↦ λ q. sym settles.last ∙ ap (last_of cells') (sym (eqb-true k key q))
+        | false ↦ λ q. sym (settles.other_lasts k (eqb-false k key q))
+      ] refl
 
     pub put_ready : Ready t (record { log = log'; cells = cells'; free = b.free; batch = batch' })
     put_ready = record {
@@ -84,14 +83,14 @@ module _ (s t : State) (b : Store) (R : Ready s b) (key version : ℕ) (value : 
       room = subst (λ n. 34 ≤ n) (sym room) R.room;
       versions = λ k. subst (λ f. f k ≤ 1048574) lasts_are (bounded k);
       shows = λ telling.
-        subst (λ f. EachImage f (Shows f.bytes log'.layout (cell_of cells') (last_of cells')) (cell_now t)) (sym frame_same)
-        (subst (λ g. EachImage s.frame (Shows s.frame.bytes g (cell_of cells') (last_of cells')) (cell_now t)) (sym layout_same)
-        (subst (λ f. EachImage s.frame (Shows s.frame.bytes b.log.layout f (last_of cells')) (cell_now t)) cells_are
-        (subst (λ f. EachImage s.frame (Shows s.frame.bytes b.log.layout (with_at (cell_of b.cells) key (Some value)) f) (cell_now t)) lasts_are
-        (put_shows s t s.frame.bytes b.log (cell_of b.cells) (last_of b.cells) R.one R.part R.stands some R.shows e value refl next spelled ws is fits_words outside words_run log' after telling))));
+          subst (λ f. EachImage f (Shows f.bytes log'.layout (cell_of cells') (last_of cells')) (cell_now t)) (sym frame_same)
+          (subst (λ g. EachImage s.frame (Shows s.frame.bytes g (cell_of cells') (last_of cells')) (cell_now t)) (sym layout_same)
+          (subst (λ f. EachImage s.frame (Shows s.frame.bytes b.log.layout f (last_of cells')) (cell_now t)) cells_are
+          (subst (λ f. EachImage s.frame (Shows s.frame.bytes b.log.layout (with_at (cell_of b.cells) key (Some value)) f) (cell_now t)) lasts_are
+          (put_shows s t s.frame.bytes b.log (cell_of b.cells) (last_of b.cells) R.one R.part R.stands some R.shows e value refl next spelled ws is fits_words outside words_run log' after telling))));
     } where
       bounded : (k : ℕ) → with_at (last_of b.cells) key version k ≤ 1048574
       bounded k = elim (k == key) as (λ c. cond c version (last_of b.cells k) ≤ 1048574) [
-          | true ↦ high
-          | false ↦ R.versions k
-        ]
+        | true ↦ high
+        | false ↦ R.versions k
+      ]

@@ -1,12 +1,11 @@
 -- From one chunk to whole images: what each moment of an append shows.
-use Rattle.std.proofs.Common.{◌≡◌, ◌≢◌, ◌⊎◌, inl, inr, ℕ, zero, suc, ◌+◌, ◌-◌, ◌*◌, ◌/◌, ◌%◌, ◌<◌, ◌≤◌, List, [], ◌∷◌, ◌++◌, refl, sym, ◌∙◌, ap, subst, arith, ◌==◌, true, false, Bool, cond, Option, Some, None}
+use Rattle.std.proofs.Common.{◌≡◌, ◌≢◌, ◌⊎◌, inl, inr, ℕ, ◌+◌, ◌<◌, ◌≤◌, List, [], ◌∷◌, ◌++◌, refl, sym, ◌∙◌, ap, arith, true, cond, Option, Some}
 use Rattle.std.proofs.lemmas.Bool.{eq-eqb, ne_eqb}
-use Rattle.pm_region.specs.Cell.{Cell, MayBe}
-use Rattle.pm_region.specs.State.{State, Frame, InRange, MayLeave, IsTelling, IsTold, cell_now, During}
+use Rattle.pm_region.specs.Cell.{Cell}
+use Rattle.pm_region.specs.State.{State, MayLeave, IsTelling, cell_now, During}
 use Rattle.pm_region.specs.Words.{KeepsOutside, MayLeaveIn, EachIn, lasts}
 use Rattle.pm_region.proofs.Moments.{weaken, both, at_exit, told_at_entry}
 use Rattle.pm_region.proofs.Narrow.{patch, patch_in, patch_out, was_image}
-use Rattle.log_entry.specs.declared.entry.Entry.{Entry}
 use Rattle.log_entry.specs.declared.entry.Body.TheVariants.{Embedded}
 use Rattle.chunk_map.specs.declared.layouts.Geometry.{Geometry}
 use Rattle.chunk_map.specs.Layouts.{chunk_first, chunk_words}

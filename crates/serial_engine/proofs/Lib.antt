@@ -2,4 +2,5 @@ pub mod Sound
 pub mod Images
 pub mod Appends
 pub mod Puts
+pub mod Opened
 pub mod Appended

@@ -1,32 +1,28 @@
 -- A put that is appended: what each moment shows, and what stands afterwards.
-use Rattle.std.proofs.Common.{◌≡◌, ◌≢◌, ◌⊎◌, inl, inr, ⊎_elim, ℕ, zero, suc, ◌+◌, ◌-◌, ◌*◌, ◌/◌, ◌%◌, ◌^◌, ◌<◌, ◌≤◌, List, [], ◌∷◌, ◌++◌, length, refl, sym, ◌∙◌, ap, subst, arith, ◌==◌, ◌&&◌, nat_le, true, false, Bool, cond, Option, Some, None, Result, Ok, Err, append-nil}
-use Rattle.std.specs.Prelude.{slice_index, is_some, unwrap_or}
+use Rattle.std.proofs.Common.{◌≡◌, ◌≢◌, ◌⊎◌, inl, inr, ℕ, ◌+◌, ◌*◌, ◌/◌, ◌%◌, ◌^◌, ◌<◌, ◌≤◌, List, [], ◌∷◌, ◌++◌, length, sym, ◌∙◌, ap, subst, arith, ◌==◌, ◌&&◌, nat_le, true, Option, Some, None, Ok, Err, append-nil}
+use Rattle.std.specs.Prelude.{slice_index, is_some}
 use Rattle.std.specs.List.{flat_map, AllByRecursion}
-use Rattle.std.proofs.lemmas.Bool.{eq-eqb, ne_eqb, eqb-true, eqb-false, le-leb, and_from, cond-true, cases_lt}
-use Rattle.pm_region.specs.Cell.{Cell}
-use Rattle.pm_region.specs.State.{State, Frame, IsTelling, cell_now, During}
+use Rattle.std.proofs.lemmas.Bool.{eq-eqb, le-leb, and_from, cond-true}
+use Rattle.pm_region.specs.State.{State, IsTelling, cell_now, During}
 use Rattle.pm_region.specs.Words.{KeepsOutside, EachIn, Surely, lasts}
-use Rattle.pm_region.proofs.Moments.{weaken, both, at_exit, told_at_entry}
+use Rattle.pm_region.proofs.Moments.{weaken, at_exit, told_at_entry}
 use Rattle.pm_region.proofs.Narrow.{surely_kept}
 use Rattle.log_entry.specs.declared.entry.Entry.{Entry}
 use Rattle.log_entry.specs.declared.entry.Body.TheVariants.{Embedded}
-use Rattle.log_entry.specs.Words.{packed, words_for}
 use Rattle.log_entry.specs.Spelling.{words_of, HasSpelling}
-use Rattle.log_entry.specs.Batches.{Scan, scan_of, IsBatch, SpellsBatches, batch_words}
+use Rattle.log_entry.specs.Batches.{Scan, scan_of, IsBatch, SpellsBatches}
 use Rattle.log_entry.proofs.Bytes.{length-packed_in}
 use Rattle.log_entry.proofs.Scans.{scan_spelled, spells-append}
 use Rattle.chunk_map.specs.declared.layouts.Geometry.{Geometry}
-use Rattle.chunk_map.specs.declared.heads.Head.{Head}
-use Rattle.chunk_map.specs.declared.heads.Head.TheVariants.{Free, Log, Data}
+use Rattle.chunk_map.specs.declared.heads.Head.TheVariants.{Log}
 use Rattle.chunk_map.specs.Layouts.{chunk_first, chunk_words, payload_words, head_at, head_by}
 use Rattle.store_image.specs.declared.types.PlacedEntry.{PlacedEntry}
 use Rattle.store_image.specs.Parts.{chunk_entries, chunk_reads, scan_behind, scan_at, head_reads}
 use Rattle.core_log.specs.Chunk.{words_now, padded, HasLog, HasOrLacks, lines_for, ChunkLies}
-use Rattle.core_log.specs.Log.{LogState, StandsIn, EachInOpen, HoldsEntries, Spelled, IsChunkOf, chunk_with, tail_of, with_tail, first_of, open_number, open_first, open_tail, room_of}
-use Rattle.core_log.specs.Entries.{open_entries, added_entries, HasEntries, HasEntriesOrLacks, AppendedBatch}
+use Rattle.core_log.specs.Log.{LogState, StandsIn, EachInOpen, HoldsEntries, Spelled, IsChunkOf, chunk_with, tail_of, first_of, open_number, open_first, open_tail, room_of}
+use Rattle.core_log.specs.Entries.{open_entries, AppendedBatch}
 use Rattle.core_log.proofs.Padded.{length-padded}
 use Rattle.core_log.proofs.TailLaws.{tail_other}
-use Rattle.core_log.proofs.LogLaws.{chunk_lies}
 use Rattle.core_log.proofs.BatchLaws.{open_has, open_chunk_of, moved_chunk_of, open_lies, open_spelled, has_entries, entries_or_lacks}
 use Rattle.serial_engine.specs.Shows.{Shows}
 use Rattle.serial_engine.specs.Moments.{EachImage, with_at, ShowsEither}
@@ -37,8 +33,8 @@ use Rattle.serial_engine.proofs.Appends.{HasOneMore, shows_moments, shows_exit}
 -- one entry makes a batch
 pub holds_one : (e : Entry) → HasSpelling e → (ws : List ℕ) → ws ≡ words_of e → HoldsEntries ws
 holds_one e spelled ws is = record { entries = e ∷ []; words = is ∙ sym (append-nil (words_of e)); batch = one_batch e spelled } where
-    one_batch : (e : Entry) → HasSpelling e → IsBatch (e ∷ [])
-    one_batch e spelled = record { some = omega arith; each = (spelled, tt) }
+  one_batch : (e : Entry) → HasSpelling e → IsBatch (e ∷ [])
+  one_batch e spelled = record { some = omega arith; each = (spelled, tt) }
 
 -- a chunk with a log's words reads
 pub log_chunk_reads : (l : Geometry) (image : ℕ → ℕ) (at tail : ℕ) (ws : List ℕ) (bs : List (List Entry)) → tail % 8 ≡ 0 → tail ≤ payload_words l → HasLog at tail ws image → SpellsBatches ws bs → chunk_reads l image at ≡ true
@@ -123,8 +119,8 @@ module _ (s t : State) (bytes : ℕ) (log : LogState) (cells : ℕ → Option (L
   chunk_run = at_zero (λ p. During s t (EachIn (chunk_first l p j) (chunk_first l p j + chunk_words l)
       (λ image. (chunk_reads l image (chunk_first l p j) ≡ true) × ((chunk_entries l image p j ≡ chunk_entries l (lasts s) p j) ⊎ (chunk_entries l image p j ≡ chunk_entries l (lasts s) p j ++ x ∷ [])))))
       (weaken s t (EachInOpen log (HasOrLacks (open_first log) (open_tail log) (words_now s (open_first log) (open_tail log)) (padded ws)))
-        (EachInOpen log (λ image. (chunk_reads l image (open_first log) ≡ true) × ((open_entries log image ≡ open_entries log (lasts s)) ⊎ (open_entries log image ≡ open_entries log (lasts s) ++ x ∷ []))))
-        (λ telling m each image may. one_more telling image (each image may)) words_run)
+      (EachInOpen log (λ image. (chunk_reads l image (open_first log) ≡ true) × ((open_entries log image ≡ open_entries log (lasts s)) ⊎ (open_entries log image ≡ open_entries log (lasts s) ++ x ∷ []))))
+      (λ telling m each image may. one_more telling image (each image may)) words_run)
 
   pub put_moments : During s t (EachImage s.frame (ShowsEither bytes l cells versions e.key e.version value))
   put_moments = shows_moments s t bytes l cells versions j one room own_chunk.within low high shows x value body next out chunk_run
@@ -134,8 +130,8 @@ module _ (s t : State) (bytes : ℕ) (log : LogState) (cells : ℕ → Option (L
     put_shows telling = shows_exit s t bytes l cells versions j one room own_chunk.within low high shows x value body next out telling
         (at_zero (λ p. EachIn (chunk_first l p j) (chunk_first l p j + chunk_words l) (λ image. (chunk_reads l image (chunk_first l p j) ≡ true) × (chunk_entries l image p j ≡ chunk_entries l (lasts s) p j ++ x ∷ [])) (cell_now t))
         (λ image may. let was = told_at_entry s t (KeepsOutside (cell_now s) (open_first log) (open_first log + chunk_words l)) outside telling in
-          let h = after.has telling image may in
-          ((one_more was image (inr h)).0, has_entries s log stands some was ws (e ∷ []) flat batch fits image h)))
+        let h = after.has telling image may in
+        ((one_more was image (inr h)).0, has_entries s log stands some was ws (e ∷ []) flat batch fits image h)))
 
     -- free chunks stay free
     pub still_free : (free : List ℕ) → AreFree s log free → AreFree t log' free
@@ -145,14 +141,18 @@ module _ (s t : State) (bytes : ℕ) (log : LogState) (cells : ℕ → Option (L
     } where
       layout_is : log'.layout ≡ l
       layout_is = ap (λ (g : LogState). g.layout) after.log_is
+
       part_is : log'.part ≡ log.part
       part_is = ap (λ (g : LogState). g.part) after.log_is
+
       first_is : (k : ℕ) → first_of log' k ≡ first_of log k
       first_is k = (λ i. chunk_first (layout_is i) (part_is i) k)
+
       outside_of : (k : ℕ) → (512 + (0 * l.chunks + k) * chunk_words l + 0 < 512 + (0 * l.chunks + j) * chunk_words l) ⊎ (512 + (0 * l.chunks + j) * chunk_words l + chunk_words l ≤ 512 + (0 * l.chunks + k) * chunk_words l + 0)
           → (chunk_first l 0 k < chunk_first l 0 j) ⊎ (chunk_first l 0 j + chunk_words l ≤ chunk_first l 0 k)
       outside_of k (inl h) = inl (omega (arith, h))
       outside_of k (inr h) = inr (omega (arith, h))
+
       free_one : (k : ℕ) → IsFree s log k → IsFree t log' k
       free_one k f =
           let ne : k ≢ j = λ e. none_some (tail_of log.chunks k) (open_tail log) (ap (tail_of log.chunks) e ∙ open_has log stands.own some) f.other in
@@ -160,12 +160,12 @@ module _ (s t : State) (bytes : ℕ) (log : LogState) (cells : ℕ → Option (L
             within = subst (λ (g : Geometry). k < g.chunks) (sym layout_is) f.within;
             other = ap (λ (g : LogState). tail_of g.chunks k) after.log_is ∙ tail_other log.chunks j _ k ne ∙ f.other;
             free = λ telling.
-              let was = told_at_entry s t (KeepsOutside (cell_now s) (open_first log) (open_first log + chunk_words l)) outside telling in
-              let kept = at_exit s t (KeepsOutside (cell_now s) (chunk_first l 0 j) (chunk_first l 0 j + chunk_words l)) out telling in
-              let where_is = apart (chunk_words l) (0 * l.chunks + k) (0 * l.chunks + j) 0 (omega (arith, room)) (λ e. ne (omega (arith, e))) in
-              let sure : Surely (cell_now s (chunk_first l 0 k)) 0 = at_zero (λ p. Surely (cell_now s (chunk_first l p k)) 0) (f.free was) in
-              let moved : Surely (cell_now t (chunk_first l 0 k)) 0 = surely_kept (cell_now s (chunk_first l 0 k)) (cell_now t (chunk_first l 0 k)) 0 sure (kept (chunk_first l 0 k) (outside_of k where_is)) in
-              subst (λ w. Surely (cell_now t w) 0) (sym (first_is k ∙ ap (λ p. chunk_first l p k) part)) moved;
+                let was = told_at_entry s t (KeepsOutside (cell_now s) (open_first log) (open_first log + chunk_words l)) outside telling in
+                let kept = at_exit s t (KeepsOutside (cell_now s) (chunk_first l 0 j) (chunk_first l 0 j + chunk_words l)) out telling in
+                let where_is = apart (chunk_words l) (0 * l.chunks + k) (0 * l.chunks + j) 0 (omega (arith, room)) (λ e. ne (omega (arith, e))) in
+                let sure : Surely (cell_now s (chunk_first l 0 k)) 0 = at_zero (λ p. Surely (cell_now s (chunk_first l p k)) 0) (f.free was) in
+                let moved : Surely (cell_now t (chunk_first l 0 k)) 0 = surely_kept (cell_now s (chunk_first l 0 k)) (cell_now t (chunk_first l 0 k)) 0 sure (kept (chunk_first l 0 k) (outside_of k where_is)) in
+                subst (λ w. Surely (cell_now t w) 0) (sym (first_is k ∙ ap (λ p. chunk_first l p k) part)) moved;
           }
 
 -- what an append leaves, as the store's own words say it

@@ -1,21 +1,20 @@
 -- An image that shows the cells is sound.
-use Rattle.std.proofs.Common.{◌≡◌, ◌≢◌, ◌⊎◌, inl, inr, ℕ, zero, suc, ◌+◌, ◌-◌, ◌*◌, ◌/◌, ◌%◌, ◌<◌, ◌≤◌, List, [], ◌∷◌, ◌++◌, refl, sym, ◌∙◌, ap, subst, arith, ◌==◌, ◌&&◌, ◌||◌, not, true, false, Bool, cond, Option, Some, None, Result, Ok, Err, append_assoc, ltb}
+use Rattle.std.proofs.Common.{◌≡◌, ◌⊎◌, inl, inr, ℕ, zero, suc, ◌+◌, ◌/◌, ◌%◌, ◌<◌, ◌≤◌, List, [], ◌∷◌, ◌++◌, refl, sym, ◌∙◌, ap, subst, arith, ◌==◌, ◌&&◌, ◌||◌, not, true, false, Bool, cond, Option, Some, None, Result, Ok, Err, append_assoc, ltb}
 use Rattle.std.specs.Prelude.{option_map}
 use Rattle.std.specs.Option.{option_or}
 use Rattle.std.specs.List.{list_any, list_all}
-use Rattle.std.proofs.lemmas.Bool.{eqb-true, eq-eqb, ne_eqb, eqb-false}
+use Rattle.std.proofs.lemmas.Bool.{eqb-true, eq-eqb}
 use Rattle.log_entry.specs.declared.entry.Entry.{Entry}
 use Rattle.log_entry.specs.declared.entry.Body.{Body}
 use Rattle.log_entry.specs.declared.entry.Body.TheVariants.{Pointer, Embedded, Tombstone}
 use Rattle.log_entry.specs.Batches.{Scan}
 use Rattle.chunk_map.specs.declared.layouts.Geometry.{Geometry}
 use Rattle.chunk_map.specs.declared.heads.Head.{Head}
-use Rattle.chunk_map.specs.Layouts.{numbers, layout_of, superblock_rule, chunk_first, head_at, owner, is_of_group}
+use Rattle.chunk_map.specs.Layouts.{numbers, chunk_first, head_at, owner, is_of_group}
 use Rattle.store_image.specs.declared.types.PlacedEntry.{PlacedEntry}
-use Rattle.store_image.specs.declared.types.Fault.{Fault}
-use Rattle.store_image.specs.Parts.{all_entries, chunk_reads, head_reads, scan_at}
+use Rattle.store_image.specs.Parts.{all_entries, head_reads, scan_at}
 use Rattle.store_image.specs.Winners.{winner_in, better, keys_of}
-use Rattle.store_image.specs.Soundness.{first_some, damaged, rule_of, rule_behind, chunk_rule, chunk_fault, same_body, contradicts, clash_after, clash_fault, body_rule, winner_fault, block_fault, damage, fault_by, first_fault, IsSound}
+use Rattle.store_image.specs.Soundness.{first_some, damaged, rule_behind, chunk_rule, chunk_fault, same_body, contradicts, clash_after, clash_fault, body_rule, winner_fault, block_fault, damage, fault_by, first_fault, IsSound}
 use Rattle.serial_engine.specs.Shows.{In, is_embedded, Shows}
 
 none_first : {X Y : Type 0} (f : X → Option Y) (xs : List X) → ((x : X) → In x xs → f x ≡ None) → first_some f xs ≡ None
@@ -40,25 +39,26 @@ pub in_either : {X : Type 0} (x : X) (a b : List X) → In x (a ++ b) → In x a
 in_either x [] b h = inr h
 in_either x (y ∷ a) b (inl e) = inl (inl e)
 in_either x (y ∷ a) b (inr h) = elim (in_either x a b h) [
-    | inl p ↦ inl (inr p)
-    | inr p ↦ inr p
-  ]
+  | inl p ↦ inl (inr p)
+  | inr p ↦ inr p
+]
 
 -- a winner is one of the entries, and has the key
 pub winner_is : (k : ℕ) (es : List PlacedEntry) (x : PlacedEntry) → winner_in k es ≡ Some x → In x es × (x.entry.key ≡ k)
 winner_is k [] x e = cc e
 winner_is k (y ∷ ys) x e = elim (y.entry.key == k) as (λ b. (y.entry.key == k) ≡ b → cond b (Some (better y (winner_in k ys))) (winner_in k ys) ≡ Some x → In x (y ∷ ys) × (x.entry.key ≡ k)) [
-    | true ↦ λ own is. either (winner_in k ys) (λ z. winner_is k ys z) (eqb-true y.entry.key k own) is
-    | false ↦ λ own is. let r = winner_is k ys x is in (inr r.0, r.1)
-  ] refl e where
-    some_of : (x y : PlacedEntry) → Some x ≡ Some y → x ≡ y
-    some_of x y e = cc
-    either : (o : Option PlacedEntry) → ((z : PlacedEntry) → o ≡ Some z → In z ys × (z.entry.key ≡ k)) → y.entry.key ≡ k → Some (better y o) ≡ Some x → In x (y ∷ ys) × (x.entry.key ≡ k)
-    either None rest own is = let e = some_of y x is in (inl (sym e), ap (λ (z : PlacedEntry). z.entry.key) (sym e) ∙ own)
-    either (Some z) rest own is = elim (ltb y.entry.version z.entry.version) as (λ b. Some (cond b z y) ≡ Some x → In x (y ∷ ys) × (x.entry.key ≡ k)) [
-        | true ↦ λ q. let e = some_of z x q in let r = rest z refl in (inr (subst (λ w. In w ys) e r.0), ap (λ (w : PlacedEntry). w.entry.key) (sym e) ∙ r.1)
-        | false ↦ λ q. let e = some_of y x q in (inl (sym e), ap (λ (w : PlacedEntry). w.entry.key) (sym e) ∙ own)
-      ] is
+  | true ↦ λ own is. either (winner_in k ys) (λ z. winner_is k ys z) (eqb-true y.entry.key k own) is
+  | false ↦ λ own is. let r = winner_is k ys x is in (inr r.0, r.1)
+] refl e where
+  some_of : (x y : PlacedEntry) → Some x ≡ Some y → x ≡ y
+  some_of x y e = cc
+
+  either : (o : Option PlacedEntry) → ((z : PlacedEntry) → o ≡ Some z → In z ys × (z.entry.key ≡ k)) → y.entry.key ≡ k → Some (better y o) ≡ Some x → In x (y ∷ ys) × (x.entry.key ≡ k)
+  either None rest own is = let e = some_of y x is in (inl (sym e), ap (λ (z : PlacedEntry). z.entry.key) (sym e) ∙ own)
+  either (Some z) rest own is = elim (ltb y.entry.version z.entry.version) as (λ b. Some (cond b z y) ≡ Some x → In x (y ∷ ys) × (x.entry.key ≡ k)) [
+    | true ↦ λ q. let e = some_of z x q in let r = rest z refl in (inr (subst (λ w. In w ys) e r.0), ap (λ (w : PlacedEntry). w.entry.key) (sym e) ∙ r.1)
+    | false ↦ λ q. let e = some_of y x q in (inl (sym e), ap (λ (w : PlacedEntry). w.entry.key) (sym e) ∙ own)
+  ] is
 
 -- entries of which each two of one name agree don't clash
 abbrev pub Agree : List PlacedEntry → Type 0
@@ -70,12 +70,12 @@ none_any p (x ∷ xs) h = (λ t. h x (inl refl) t || list_any p xs) ∙ none_any
 
 agreeing : (x y : PlacedEntry) → (x.entry.key ≡ y.entry.key → x.entry.version ≡ y.entry.version → (same_body x.entry.body y.entry.body ≡ true) × (x.core ≡ y.core)) → contradicts x y ≡ false
 agreeing x y h = elim (x.entry.key == y.entry.key) as (λ b. (x.entry.key == y.entry.key) ≡ b → (b && x.entry.version == y.entry.version && not (same_body x.entry.body y.entry.body && x.core == y.core)) ≡ false) [
-    | false ↦ λ e. refl
-    | true ↦ λ e. elim (x.entry.version == y.entry.version) as (λ b. (x.entry.version == y.entry.version) ≡ b → (b && not (same_body x.entry.body y.entry.body && x.core == y.core)) ≡ false) [
-        | false ↦ λ f. refl
-        | true ↦ λ f. let r = h (eqb-true x.entry.key y.entry.key e) (eqb-true x.entry.version y.entry.version f) in (λ t. not (r.0 t && eq-eqb x.core y.core r.1 t))
-      ] refl
+  | false ↦ λ e. refl
+  | true ↦ λ e. elim (x.entry.version == y.entry.version) as (λ b. (x.entry.version == y.entry.version) ≡ b → (b && not (same_body x.entry.body y.entry.body && x.core == y.core)) ≡ false) [
+    | false ↦ λ f. refl
+    | true ↦ λ f. let r = h (eqb-true x.entry.key y.entry.key e) (eqb-true x.entry.version y.entry.version f) in (λ t. not (r.0 t && eq-eqb x.core y.core r.1 t))
   ] refl
+] refl
 
 no_clash : (before xs : List PlacedEntry) → Agree (before ++ xs) → clash_after before xs ≡ None
 no_clash before [] h = refl
@@ -102,9 +102,9 @@ module _ (bytes : ℕ) (l : Geometry) (cells : ℕ → Option (List ℕ)) (lasts
   chunks_none = none_first _ (numbers 0 l.cores) (λ c h.
       let own : c ≡ 0 = let r = number_in 0 l.cores c h in omega (arith, r.1, one) in
       none_first _ (numbers 0 l.chunks) (λ j g.
-        let within = (number_in 0 l.chunks j g).1 in
-        ap (λ c. option_map (damaged c j) (chunk_rule l image c j)) own
-        ∙ ap (option_map (damaged 0 j)) (rule_none (head_at l image (chunk_first l 0 j)) (scan_at l image (chunk_first l 0 j)) (is.reads j (omega (arith, within))))))
+      let within = (number_in 0 l.chunks j g).1 in
+      ap (λ c. option_map (damaged c j) (chunk_rule l image c j)) own
+      ∙ ap (option_map (damaged 0 j)) (rule_none (head_at l image (chunk_first l 0 j)) (scan_at l image (chunk_first l 0 j)) (is.reads j (omega (arith, within))))))
 
   body_none : (k : ℕ) (b : Body) → is_embedded b ≡ true → body_rule l image (all_entries l image) k b ≡ None
   body_none k (Pointer p) e = cc e

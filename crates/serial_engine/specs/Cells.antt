@@ -1,5 +1,5 @@
 -- What is known of each key in memory: its last version, 0 where it was never changed, and its cell.
-use Rattle.std.specs.Prelude.{◌≡◌, ◌≢◌, ℕ, List, Bool, Option, Some, None}
+use Rattle.std.specs.Prelude.{◌≡◌, ◌≢◌, ℕ, List, Bool, Option, Some}
 use Rattle.std.specs.Option.{option_map_or, option_and_then, is_some}
 use Rattle.std.specs.Ordering.{nat_cmp}
 use Rattle.std.specs.BTreeMap.{get}

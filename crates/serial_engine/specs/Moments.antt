@@ -1,5 +1,5 @@
 -- What the images of a moment show.
-use Rattle.std.specs.Prelude.{◌≡◌, ◌⊎◌, ℕ, ◌==◌, List, Option, Some, if◌then◌else◌}
+use Rattle.std.specs.Prelude.{◌⊎◌, ℕ, ◌==◌, List, Option, Some, if◌then◌else◌}
 use Rattle.pm_region.specs.Cell.{Cell}
 use Rattle.pm_region.specs.State.{Frame, MayLeave}
 use Rattle.chunk_map.specs.declared.layouts.Geometry.{Geometry}

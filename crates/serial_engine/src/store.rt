@@ -29,6 +29,27 @@ impl Store {
     ghost use Rattle.serial_engine.specs.Shows.{Shows};
     ghost use Rattle.serial_engine.specs.Ready.{Ready};
 
+    /// Opens the lowest free chunk where the open one has too few free lines.
+    fn make_room<R: Region>(&mut self, region: &mut R, lines: u64) -> Result<(), RegionFault>
+        requires ready { Ready (R.state region.old) self.old }
+        requires chunk { lines ≤ payload_lines self.old.log.layout }
+        requires room { (lines ≤ room_of self.old.log) ⊎ (0 < length self.old.free.items) }
+        ensures moments { During (R.state region.old) (R.state region.new) (EachImage (R.state region.old).frame
+            (Shows (R.state region.old).frame.bytes self.old.log.layout (cell_of self.old.cells) (last_of self.old.cells))) }
+        ensures ready { OnOk result (Ready (R.state region.new) self.new) }
+        ensures room { OnOk result (lines ≤ room_of self.new.log) }
+        ensures layout { self.new.log.layout ≡ self.old.log.layout }
+        ensures cells { self.new.cells ≡ self.old.cells }
+        ensures cause { OnErr result (Rose (R.state region.old).faults (R.state region.new).faults) }
+    {
+        if lines <= self.log.room() {
+            return Ok(());
+        }
+        let chunk = self.free.pop().unwrap();
+        self.log.open_chunk(region, chunk)?;
+        Ok(())
+    }
+
     /// Appends a put as a batch of its own, and records it once the batch is certain.
     fn append<R: Region>(
         &mut self,

@@ -1,5 +1,5 @@
 -- The calls' conditions, and from the log's clauses to the store's.
-use Rattle.std.proofs.Common.{◌≡◌, ◌⊎◌, ℕ, ◌+◌, ◌≤◌, length, refl, sym, ◌∙◌, ap, subst, arith}
+use Rattle.std.proofs.Common.{◌≡◌, ◌+◌, ◌≤◌, length, sym, ◌∙◌, ap, subst, arith}
 use Rattle.std.proofs.Common.{◌++◌, ◌/◌}
 use Rattle.log_entry.specs.declared.entry.Body.TheVariants.{Embedded}
 use Rattle.log_entry.specs.Spelling.{words_of}
@@ -29,8 +29,8 @@ append_batch-requires-clause-entries g c =
 pub append_batch-requires-clause-room : goal.append_batch-requires-clause-room
 append_batch-requires-clause-room g c =
     let long : length c.write_entry.new.buf.words ≡ 2 + (length c.args.value + 7) / 8 =
-        ap length (c.write_entry.ensures.words ∙ ap (λ ws. ws ++ words_of (record { key = c.args.key; version = c.args.version; body = Embedded c.args.value })) c.requires.ready.empty)
-        ∙ put_length c.args.key c.args.version c.args.value in
+    ap length (c.write_entry.ensures.words ∙ ap (λ ws. ws ++ words_of (record { key = c.args.key; version = c.args.version; body = Embedded c.args.value })) c.requires.ready.empty)
+    ∙ put_length c.args.key c.args.version c.args.value in
     subst (λ n. lines_for n ≤ room_of c.args.self.now.log) (sym long) c.requires.room
 
 pub returns-in_err-append_batch-clause-moments : goal.returns-in_err-append_batch-clause-moments
