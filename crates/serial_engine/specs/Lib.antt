@@ -2,3 +2,4 @@ pub mod Cells
 pub mod Shows
 pub mod Moments
 pub mod Ready
+pub mod Answers
