@@ -3,4 +3,5 @@ pub mod Images
 pub mod Appends
 pub mod Puts
 pub mod Opened
+pub mod Stored
 pub mod Appended

@@ -3,3 +3,4 @@ pub mod Shows
 pub mod Moments
 pub mod Ready
 pub mod Answers
+pub mod Refusals

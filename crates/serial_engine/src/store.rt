@@ -1,13 +1,18 @@
 // One core's log with its free chunks and the cells of the keys.
 ghost use Rattle.std.specs.Prelude.{◌≡◌, ◌⊎◌, ℕ, ◌+◌, ◌-◌, ◌*◌, ◌/◌, ◌^◌, ◌<◌, ◌≤◌, length, true, OnOk, OnErr};
 ghost use Rattle.std.specs.List.{AllByRecursion};
+ghost use Rattle.serial_engine.specs.Refusals.{lines_needed};
 ghost use Rattle.pm_region.specs.State.{State, During, IsTelling, Rose};
 
+use crate::answers::{Counts, Shortage};
 use crate::cells::Cells;
 use core_log::CoreLog;
 use fs_model::{Key, Value, Version};
 use log_entry::{Body, Entry, WordBuffer, write_entry};
 use pm_region::{Region, RegionFault};
+
+// The greatest version of a put.
+const LAST_PUT: Version = 1_048_574;
 
 /// The log of the one core of a region, with what is not in it: which chunks are free, and the cells.
 #[derive(Drop)]
@@ -28,6 +33,7 @@ impl Store {
     ghost use Rattle.serial_engine.specs.Moments.{EachImage, ShowsEither};
     ghost use Rattle.serial_engine.specs.Shows.{Shows};
     ghost use Rattle.serial_engine.specs.Ready.{Ready};
+    ghost use Rattle.serial_engine.specs.Refusals.{IsRefusal, lines_needed};
 
     /// Opens the lowest free chunk where the open one has too few free lines.
     fn make_room<R: Region>(&mut self, region: &mut R, lines: u64) -> Result<(), RegionFault>
@@ -85,4 +91,58 @@ impl Store {
         }
         Ok(())
     }
+
+    /// Why a put whose entry takes so many lines is refused now, or `None` where it is not.
+    pub fn refusal(&self, key: Key, lines: u64) -> Option<Shortage>
+        requires free { length self.now.free.items < 2 ^ 32 }
+        ensures { IsRefusal self.now key lines result }
+    {
+        let last = self.cells.last(key);
+        if last >= LAST_PUT {
+            return Some(Shortage::Versions { last });
+        }
+        let open = self.log.room();
+        let free = self.free.len();
+        if open < lines && free < 2 {
+            return Some(Shortage::Room(Counts {
+                free_chunks: free as u32,
+                open_lines: open,
+                pledged_lines: 0,
+                need_lines: lines,
+                class: 0,
+                free_blocks: 0,
+            }));
+        }
+        None
+    }
+
+    /// Stores a value that is not refused. After a fault nothing is written any more.
+    pub fn put<R: Region>(&mut self, region: &mut R, key: Key, value: Value) -> Result<(), RegionFault>
+        requires ready { Ready (R.state region.old) self.old }
+        requires record { has_record self.old.cells key ≡ true }
+        requires versions { last_of self.old.cells key < 1048574 }
+        requires short { length value ≤ 255 }
+        requires room { (lines_needed (length value) ≤ room_of self.old.log) ⊎ (0 < length self.old.free.items) }
+        ensures moments { During (R.state region.old) (R.state region.new) (EachImage (R.state region.old).frame
+            (ShowsEither (R.state region.old).frame.bytes self.old.log.layout (cell_of self.old.cells) (last_of self.old.cells) key (last_of self.old.cells key + 1) value)) }
+        ensures ready { OnOk result (Ready (R.state region.new) self.new) }
+        ensures settled { OnOk result (Settles self.old.cells self.new.cells key (last_of self.old.cells key + 1) value) }
+        ensures layout { self.new.log.layout ≡ self.old.log.layout }
+        ensures cause { OnErr result (Rose (R.state region.old).faults (R.state region.new).faults) }
+    {
+        let version = self.cells.last(key) + 1;
+        let lines = lines_needed(value.bytes());
+        self.make_room(region, lines)?;
+        self.append(region, key, version, value)?;
+        Ok(())
+    }
+}
+
+/// The lines that the entry of an embedded value takes.
+pub fn lines_needed(value: &[u8]) -> u64
+    requires { length value.now ≤ 255 }
+    ensures lines { result ≡ lines_needed (length value.now) }
+    ensures bytes { AllByRecursion (λ b. b < 256) value.now }
+{
+    (2 + (value.len() as u64 + 7) / 8 + 7) / 8
 }
