@@ -4,4 +4,5 @@ pub mod Appends
 pub mod Puts
 pub mod Opened
 pub mod Stored
+pub mod Steps
 pub mod Appended

@@ -4,3 +4,4 @@ pub mod Moments
 pub mod Ready
 pub mod Answers
 pub mod Refusals
+pub mod Going

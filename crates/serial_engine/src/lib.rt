@@ -3,4 +3,5 @@
 
 pub mod answers;
 pub mod cells;
+pub mod run;
 pub mod store;
