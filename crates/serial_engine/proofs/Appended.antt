@@ -79,6 +79,7 @@ module _ (s t : State) (b : Store) (R : Ready s b) (key version : ℕ) (value : 
       words = ap (λ (f : Frame). f.words) frame_same ∙ R.words ∙ ap (λ (g : Geometry). total_bytes g / 8) (sym layout_same);
       stands = after.stands;
       free = still_free s t s.frame.bytes b.log (cell_of b.cells) (last_of b.cells) R.one R.part R.stands some R.shows e value refl next spelled ws is fits_words outside words_run log' after b.free.items R.free;
+      few = R.few;
       empty = empty;
       room = subst (λ n. 34 ≤ n) (sym room) R.room;
       versions = λ k. subst (λ f. f k ≤ 1048574) lasts_are (bounded k);

@@ -5,4 +5,5 @@ pub mod Puts
 pub mod Opened
 pub mod Stored
 pub mod Steps
+pub mod Requests
 pub mod Appended

@@ -154,6 +154,7 @@ module _ (s t : State) (b : Store) (R : Ready s b) (rest : List ℕ) (chunk : �
       words = ap (λ (f : Frame). f.words) outside.frame ∙ R.words ∙ ap (λ (g : Geometry). total_bytes g / 8) (sym layout_same);
       stands = after.stands;
       free = subst (AreFree t log') (sym free_rest) rest_free;
+      few = let few = R.few in let short = ap length free_rest in omega (arith, few, long, short);
       empty = R.empty;
       room = R.room;
       versions = R.versions;

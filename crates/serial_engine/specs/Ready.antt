@@ -27,6 +27,7 @@ pub record Ready (s : State) (e : Store) : Type 0 where
   pub words : s.frame.words ≡ total_bytes e.log.layout / 8
   pub stands : StandsIn s e.log
   pub free : AreFree s e.log e.free.items
+  pub few : length e.free.items ≤ 64
   pub empty : e.batch.words ≡ []
   pub room : 34 ≤ e.batch.room
   pub versions : (k : ℕ) → last_of e.cells k ≤ 1048574

@@ -19,3 +19,69 @@ pub struct Run {
     /// A call of the region has failed, and nothing is written any more.
     pub stopped: bool,
 }
+
+impl Run {
+    ghost use Rattle.fs_model.specs.declared.model.Request.TheVariants.{Put, Get};
+    ghost use Rattle.serial_engine.specs.Answers.{HasRoom};
+    ghost use Rattle.serial_engine.specs.Going.{IsServed, IsReady, Going, AnswersOne, AnswersNone};
+
+    fn get(&mut self, alloc: Global, key: Key) -> Result<(), Memory>
+        requires room { HasRoom self.old.answers }
+        requires going { self.old.stopped ≡ false }
+        ensures ok { (s : State) → OnOk result (AnswersOne s s self.old self.new (Get key)) }
+        ensures err { OnErr result (self.new ≡ self.old) }
+        ensures store { self.new.store ≡ self.old.store }
+        ensures stopped { self.new.stopped ≡ false }
+    {
+        let reply = self.store.get(alloc, key)?;
+        self.answers.reply(reply);
+        Ok(())
+    }
+
+    fn put<R: Region>(&mut self, region: &mut R, key: Key, value: Value) -> Result<(), Memory>
+        requires room { HasRoom self.old.answers }
+        requires going { self.old.stopped ≡ false }
+        requires ready { Ready (R.state region.old) self.old.store }
+        requires short { length value ≤ 255 }
+        ensures ok { OnOk result (AnswersOne (R.state region.old) (R.state region.new) self.old self.new (Put key value)) }
+        ensures err { OnErr result (AnswersNone (R.state region.old) (R.state region.new) self.old self.new) }
+        ensures ready { IsReady (R.state region.new) self.new }
+        ensures cause { self.new.stopped ≡ true → Rose (R.state region.old).faults (R.state region.new).faults }
+    {
+        if let Some(why) = self.store.refusal(key, lines_needed(value.bytes())) {
+            self.answers.refuse(why);
+            return Ok(());
+        }
+        self.store.admit(key)?;
+        match self.store.put(region, key, value) {
+            Ok(()) => self.answers.finish(Reply::Stored, region.stamp()),
+            Err(_) => {
+                self.stopped = true;
+                self.answers.reply(Reply::Stopped);
+            }
+        }
+        Ok(())
+    }
+
+    /// Answers one request. Want of memory leaves the request unanswered, and the region as it was.
+    pub fn answer<R: Region>(&mut self, alloc: Global, region: &mut R, request: Request) -> Result<(), Memory>
+        requires served { IsServed request }
+        requires ready { IsReady (R.state region.old) self.old }
+        ensures ok { OnOk result (AnswersOne (R.state region.old) (R.state region.new) self.old self.new request) }
+        ensures err { OnErr result (AnswersNone (R.state region.old) (R.state region.new) self.old self.new) }
+        ensures ready { IsReady (R.state region.new) self.new }
+        ensures cause { self.old.stopped ≡ false → self.new.stopped ≡ true → Rose (R.state region.old).faults (R.state region.new).faults }
+        ensures stays { self.old.stopped ≡ true → self.new.stopped ≡ true }
+    {
+        self.answers.reserve()?;
+        if self.stopped {
+            self.answers.reply(Reply::Stopped);
+            return Ok(());
+        }
+        match request {
+            Request::Put { key, value } => self.put(region, key, value),
+            Request::Get { key } => self.get(alloc, key),
+            Request::Delete { .. } => unreachable!(),
+        }
+    }
+}

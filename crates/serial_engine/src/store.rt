@@ -1,5 +1,5 @@
 // One core's log with its free chunks and the cells of the keys.
-ghost use Rattle.std.specs.Prelude.{◌≡◌, ◌⊎◌, ℕ, ◌+◌, ◌-◌, ◌*◌, ◌/◌, ◌^◌, ◌<◌, ◌≤◌, length, true, OnOk, OnErr};
+ghost use Rattle.std.specs.Prelude.{◌≡◌, ◌⊎◌, ℕ, ◌+◌, ◌-◌, ◌*◌, ◌/◌, ◌^◌, ◌<◌, ◌≤◌, length, true, IfOk, OnOk, OnErr};
 ghost use Rattle.std.specs.List.{AllByRecursion};
 ghost use Rattle.serial_engine.specs.Refusals.{lines_needed};
 ghost use Rattle.pm_region.specs.State.{State, During, IsTelling, Rose};
@@ -7,9 +7,11 @@ ghost use Rattle.pm_region.specs.State.{State, During, IsTelling, Rose};
 use crate::answers::{Counts, Shortage};
 use crate::cells::Cells;
 use core_log::CoreLog;
-use fs_model::{Key, Value, Version};
+use fs_errors::Memory;
+use fs_model::{Key, Reply, Value, Version};
 use log_entry::{Body, Entry, WordBuffer, write_entry};
 use pm_region::{Region, RegionFault};
+use std::alloc::Global;
 
 // The greatest version of a put.
 const LAST_PUT: Version = 1_048_574;
@@ -26,10 +28,12 @@ pub struct Store {
 }
 
 impl Store {
+    ghost use Rattle.fs_model.specs.declared.model.Request.TheVariants.{Get};
+    ghost use Rattle.fs_model.specs.Cells.{answer_to};
     ghost use Rattle.core_log.specs.Log.{room_of};
     ghost use Rattle.core_log.specs.Chunk.{lines_for};
     ghost use Rattle.chunk_map.specs.Layouts.{payload_lines};
-    ghost use Rattle.serial_engine.specs.Cells.{cell_of, last_of, has_record, Settles};
+    ghost use Rattle.serial_engine.specs.Cells.{cell_of, last_of, has_record, SameCells, Settles};
     ghost use Rattle.serial_engine.specs.Moments.{EachImage, ShowsEither};
     ghost use Rattle.serial_engine.specs.Shows.{Shows};
     ghost use Rattle.serial_engine.specs.Ready.{Ready};
@@ -92,9 +96,30 @@ impl Store {
         Ok(())
     }
 
+    /// Makes room for the record of a change.
+    pub fn admit(&mut self, key: Key) -> Result<(), Memory>
+        ensures same { SameCells self.old.cells self.new.cells }
+        ensures room { OnOk result (has_record self.new.cells key ≡ true) }
+        ensures log { self.new.log ≡ self.old.log }
+        ensures free { self.new.free ≡ self.old.free }
+        ensures batch { self.new.batch ≡ self.old.batch }
+    {
+        self.cells.admit(key)
+    }
+
+    /// The answer to a get.
+    pub fn get(&self, alloc: Global, key: Key) -> Result<Reply, Memory>
+        ensures { IfOk result (λ reply. reply ≡ answer_to (Get key) (cell_of self.now.cells key)) }
+    {
+        match self.cells.look(key) {
+            None => Ok(Reply::Absent),
+            Some(value) => Ok(Reply::Value(value.copy(alloc)?)),
+        }
+    }
+
     /// Why a put whose entry takes so many lines is refused now, or `None` where it is not.
     pub fn refusal(&self, key: Key, lines: u64) -> Option<Shortage>
-        requires free { length self.now.free.items < 2 ^ 32 }
+        requires free { length self.now.free.items ≤ 64 }
         ensures { IsRefusal self.now key lines result }
     {
         let last = self.cells.last(key);
