@@ -1,5 +1,5 @@
 -- A run that goes on by one request, in the words of its own state.
-use Rattle.std.proofs.Common.{◌≡◌, ◌⊎◌, inl, inr, ℕ, ◌+◌, ◌<◌, ◌≤◌, List, [], ◌∷◌, ◌++◌, length, map, refl, sym, ◌∙◌, ap, subst, arith, true, false, Bool, cond, Option, Some, None, ◌==◌}
+use Rattle.std.proofs.Common.{◌≡◌, ◌⊎◌, inl, inr, ℕ, ◌+◌, ◌<◌, ◌≤◌, List, [], ◌∷◌, ◌++◌, length, map, refl, sym, ◌∙◌, ap, subst, arith, true, false, Bool, cond, Option, Some, None, ◌==◌, Result, Ok, Err, OnOk, OnErr}
 use Rattle.std.proofs.lemmas.List.{map-append}
 use Rattle.std.proofs.lemmas.Bool.{eqb-true, eqb-false}
 use Rattle.pm_region.specs.Cell.{Cell}
@@ -188,3 +188,32 @@ module _ (s t : State) (e : Run) (a : Answers) (admitted after : Store) (k : ℕ
             (subst (λ l. EachImage t.frame (Shows t.frame.bytes l (with_at (cell_of admitted.cells) k (Some v)) (with_at (last_of admitted.cells) k (last_of admitted.cells k + 1))) (cell_now t)) layout
             (subst (λ c. EachImage t.frame (Shows t.frame.bytes after.log.layout c (with_at (last_of admitted.cells) k (last_of admitted.cells k + 1))) (cell_now t)) (λ i j. sym (settled_at j) i)
             (subst (λ c. EachImage t.frame (Shows t.frame.bytes after.log.layout (cell_of after.cells) c) (cell_now t)) (λ i j. sym (last_at j) i) (ready.shows telling))))
+
+pub on_ok : {T E : Type 0} (r : Result T E) {P Q : Type 0} → (P → Q) → OnOk r P → OnOk r Q
+on_ok (Ok x) f h = f h
+on_ok (Err e) f h = tt
+
+pub on_err : {T E : Type 0} (r : Result T E) {P Q : Type 0} → (P → Q) → OnErr r P → OnErr r Q
+on_err (Ok x) f h = tt
+on_err (Err e) f h = f h
+
+-- room for answers changes nothing of where a run stands
+room_made : (s0 s : State) (start : ℕ → Option (List ℕ)) (done : List Request) (e : Run) (a : Answers) → a.replies.items ≡ e.answers.replies.items → a.finishes.items ≡ e.answers.finishes.items → a.refusals.items ≡ e.answers.refusals.items
+    → Going s0 s start done e → Going s0 s start done (record { store = e.store; answers = a; stopped = e.stopped })
+room_made s0 s start done e a reps fin ref g = going_by s0 s start done e.answers.replies.items (told_by e.answers) (record { store = e.store; answers = a; stopped = e.stopped }) reps (told_same e.answers a fin ref) g.recorded g.images g.answered
+
+pub one_after_room : (s t : State) (e : Run) (a : Answers) (e' : Run) (q p : Request) → a.replies.items ≡ e.answers.replies.items → a.finishes.items ≡ e.answers.finishes.items → a.refusals.items ≡ e.answers.refusals.items → p ≡ q
+    → AnswersOne s t (record { store = e.store; answers = a; stopped = e.stopped }) e' q → AnswersOne s t e e' p
+one_after_room s t e a e' q p reps fin ref is h s0 start done g = subst (λ x. Going s0 t start (done ++ x ∷ []) e') (sym is) (h s0 start done (room_made s0 s start done e a reps fin ref g))
+
+pub none_after_room : (s t : State) (e : Run) (a : Answers) (e' : Run) → a.replies.items ≡ e.answers.replies.items → a.finishes.items ≡ e.answers.finishes.items → a.refusals.items ≡ e.answers.refusals.items
+    → AnswersNone s t (record { store = e.store; answers = a; stopped = e.stopped }) e' → AnswersNone s t e e'
+none_after_room s t e a e' reps fin ref h s0 start done g = h s0 start done (room_made s0 s start done e a reps fin ref g)
+
+pub always_err : {T E : Type 0} (r : Result T E) {P : Type 0} → P → OnErr r P
+always_err (Ok x) h = tt
+always_err (Err e) h = h
+
+-- a store of which only records changed, and no value or version
+pub ready_after : (s : State) (b b' : Store) → SameCells b.cells b'.cells → b'.log ≡ b.log → b'.free ≡ b.free → b'.batch ≡ b.batch → Ready s b → Ready s b'
+ready_after s b b' same log free batch R = subst (Ready s) (λ i. record { log = sym log i; cells = b'.cells; free = sym free i; batch = sym batch i }) (ready_alike s b b'.cells same R)
