@@ -1,9 +1,9 @@
 -- A run that goes on by one request, in the words of its own state.
-use Rattle.std.proofs.Common.{◌≡◌, ◌⊎◌, inl, inr, ℕ, ◌+◌, ◌<◌, ◌≤◌, List, [], ◌∷◌, ◌++◌, length, map, refl, sym, ◌∙◌, ap, subst, arith, true, false, Bool, cond, Option, Some, None, ◌==◌, Result, Ok, Err, OnOk, OnErr}
+use Rattle.std.proofs.Common.{◌≡◌, ◌⊎◌, inl, inr, ℕ, ◌+◌, ◌<◌, ◌≤◌, List, [], ◌∷◌, ◌++◌, length, map, refl, sym, ◌∙◌, ap, subst, arith, true, false, Bool, cond, Option, Some, None, ◌==◌, Result, Ok, Err, OnOk, OnErr, append_assoc, append-nil}
 use Rattle.std.proofs.lemmas.List.{map-append}
 use Rattle.std.proofs.lemmas.Bool.{eqb-true, eqb-false}
 use Rattle.pm_region.specs.Cell.{Cell}
-use Rattle.pm_region.specs.State.{State, Frame, IsTelling, cell_now, During}
+use Rattle.pm_region.specs.State.{State, Frame, IsTelling, cell_now, During, Rose}
 use Rattle.pm_region.proofs.Moments.{over_weaken}
 use Rattle.fs_model.specs.declared.model.Request.{Request}
 use Rattle.fs_model.specs.declared.model.Request.TheVariants.{Put, Get, Delete}
@@ -28,7 +28,7 @@ use Rattle.serial_engine.specs.Cells.{cell_of, last_of, SameCells, Settles}
 use Rattle.serial_engine.specs.Shows.{Shows}
 use Rattle.serial_engine.specs.Moments.{EachImage, with_at, ShowsEither}
 use Rattle.serial_engine.specs.Ready.{Ready}
-use Rattle.serial_engine.specs.Going.{RecoversSoFar, Going, AnswersOne, AnswersNone}
+use Rattle.serial_engine.specs.Going.{RecoversSoFar, Going, AnswersOne, AnswersNone, AnswersList, AnswersSome}
 use Rattle.serial_engine.proofs.Appends.{with_here, with_else}
 use Rattle.serial_engine.proofs.Steps.{images_stopped, images_quiet, images_failed, images_finished}
 
@@ -217,3 +217,18 @@ always_err (Err e) h = h
 -- a store of which only records changed, and no value or version
 pub ready_after : (s : State) (b b' : Store) → SameCells b.cells b'.cells → b'.log ≡ b.log → b'.free ≡ b.free → b'.batch ≡ b.batch → Ready s b → Ready s b'
 ready_after s b b' same log free batch R = subst (Ready s) (λ i. record { log = sym log i; cells = b'.cells; free = sym free i; batch = sym batch i }) (ready_alike s b b'.cells same R)
+
+-- one request behind a list of them
+pub list_then_one : (s m t : State) (e mid e' : Run) (qs : List Request) (q : Request) → AnswersList s m e mid qs → AnswersOne m t mid e' q → AnswersList s t e e' (qs ++ q ∷ [])
+list_then_one s m t e mid e' qs q first next s0 start done g = subst (λ xs. Going s0 t start xs e') (append_assoc done qs (q ∷ [])) (next s0 start (done ++ qs) (first s0 start done g))
+
+pub list_then_none : (s m t : State) (e mid e' : Run) (qs : List Request) → AnswersList s m e mid qs → AnswersNone m t mid e' → AnswersList s t e e' qs
+list_then_none s m t e mid e' qs first next s0 start done g = next s0 start (done ++ qs) (first s0 start done g)
+
+pub list_none : (s : State) (e : Run) → AnswersList s s e e []
+list_none s e s0 start done g = subst (λ xs. Going s0 s start xs e) (sym (append-nil done)) g
+
+-- the cause of a stop, over two calls
+pub rose_on : (a b c : ℕ) (before mid after : Bool) → a ≤ b → b ≤ c → (before ≡ false → mid ≡ true → Rose a b) → (mid ≡ false → after ≡ true → Rose b c) → before ≡ false → after ≡ true → Rose a c
+rose_on a b c before true after low high first next going stopped = let r = first going refl in omega (arith, r, high)
+rose_on a b c before false after low high first next going stopped = let r = next refl stopped in omega (arith, r, low)

@@ -38,3 +38,14 @@ AnswersOne old new e e' q = (s0 : State) (start : ℕ → Option (List ℕ)) (do
 -- or nothing was answered
 abbrev pub AnswersNone : State → State → Run → Run → Type 0
 AnswersNone old new e e' = (s0 : State) (start : ℕ → Option (List ℕ)) (done : List Request) → Going s0 old start done e → Going s0 new start done e'
+
+-- these requests are answered now
+abbrev pub AnswersList : State → State → Run → Run → List Request → Type 0
+AnswersList old new e e' qs = (s0 : State) (start : ℕ → Option (List ℕ)) (done : List Request) → Going s0 old start done e → Going s0 new start (done ++ qs) e'
+
+-- some of them from the front are
+pub record AnswersSome (old new : State) (e e' : Run) (qs : List Request) : Type 0 where
+  pub front : List Request
+  pub rest : List Request
+  pub all : qs ≡ front ++ rest
+  pub answers : AnswersList old new e e' front

@@ -1,5 +1,6 @@
 // Requests, one after another.
 ghost use Rattle.std.specs.Prelude.{◌≡◌, ◌⊎◌, ℕ, ◌+◌, ◌^◌, ◌<◌, ◌≤◌, List, [], ◌∷◌, ◌++◌, length, Bool, true, false, Option, IfOk, OnOk, OnErr, MatchResult};
+ghost use Rattle.std.specs.List.{AllByRecursion};
 ghost use Rattle.pm_region.specs.State.{State, Rose};
 ghost use Rattle.fs_model.specs.declared.model.Request.{Request};
 ghost use Rattle.serial_engine.specs.Ready.{Ready};
@@ -23,7 +24,7 @@ pub struct Run {
 impl Run {
     ghost use Rattle.fs_model.specs.declared.model.Request.TheVariants.{Put, Get};
     ghost use Rattle.serial_engine.specs.Answers.{HasRoom};
-    ghost use Rattle.serial_engine.specs.Going.{IsServed, IsReady, Going, AnswersOne, AnswersNone};
+    ghost use Rattle.serial_engine.specs.Going.{IsServed, IsReady, Going, AnswersOne, AnswersNone, AnswersList, AnswersSome};
 
     fn get(&mut self, alloc: Global, key: Key) -> Result<(), Memory>
         requires room { HasRoom self.old.answers }
@@ -46,6 +47,7 @@ impl Run {
         ensures ok { OnOk result (AnswersOne (R.state region.old) (R.state region.new) self.old self.new (Put key value)) }
         ensures err { OnErr result (AnswersNone (R.state region.old) (R.state region.new) self.old self.new) }
         ensures ready { IsReady (R.state region.new) self.new }
+        ensures count { (R.state region.old).faults ≤ (R.state region.new).faults }
         ensures cause { self.new.stopped ≡ true → Rose (R.state region.old).faults (R.state region.new).faults }
     {
         if let Some(why) = self.store.refusal(key, lines_needed(value.bytes())) {
@@ -70,6 +72,7 @@ impl Run {
         ensures ok { OnOk result (AnswersOne (R.state region.old) (R.state region.new) self.old self.new request) }
         ensures err { OnErr result (AnswersNone (R.state region.old) (R.state region.new) self.old self.new) }
         ensures ready { IsReady (R.state region.new) self.new }
+        ensures count { (R.state region.old).faults ≤ (R.state region.new).faults }
         ensures cause { self.old.stopped ≡ false → self.new.stopped ≡ true → Rose (R.state region.old).faults (R.state region.new).faults }
         ensures stays { self.old.stopped ≡ true → self.new.stopped ≡ true }
     {
@@ -83,5 +86,21 @@ impl Run {
             Request::Get { key } => self.get(alloc, key),
             Request::Delete { .. } => unreachable!(),
         }
+    }
+
+    /// Answers requests in order, up to the first for which there is no memory.
+    pub fn answer_all<R: Region>(&mut self, alloc: Global, region: &mut R, requests: Vec<Request>) -> Result<(), Memory>
+        requires served { AllByRecursion IsServed requests.items }
+        requires ready { IsReady (R.state region.old) self.old }
+        ensures ok { OnOk result (AnswersList (R.state region.old) (R.state region.new) self.old self.new requests.items) }
+        ensures err { OnErr result (AnswersSome (R.state region.old) (R.state region.new) self.old self.new requests.items) }
+        ensures ready { IsReady (R.state region.new) self.new }
+        ensures count { (R.state region.old).faults ≤ (R.state region.new).faults }
+        ensures cause { self.old.stopped ≡ false → self.new.stopped ≡ true → Rose (R.state region.old).faults (R.state region.new).faults }
+    {
+        for request in requests {
+            self.answer(alloc, region, request)?;
+        }
+        Ok(())
     }
 }
