@@ -1,3 +1,4 @@
 pub mod Layouts
 pub mod Checked
 pub mod Setting
+pub mod Superblock

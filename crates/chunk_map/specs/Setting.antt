@@ -1,8 +1,10 @@
 -- What the head of a chunk is while it is set, and afterwards. A head's first two words are the kind and the tail.
-use Rattle.std.specs.Prelude.{◌≡◌, ◌⊎◌, ℕ, ◌+◌, ◌*◌, ◌%◌, ◌≤◌, ◌<◌}
+use Rattle.std.specs.Prelude.{◌≡◌, ◌⊎◌, ℕ, ◌+◌, ◌*◌, ◌%◌, ◌≤◌, ◌<◌, Result, Ok}
 use Rattle.pm_region.specs.Cell.{Cell, MayBe}
 use Rattle.pm_region.specs.State.{Frame}
 use Rattle.pm_region.specs.Words.{Surely}
+use Rattle.chunk_map.specs.declared.layouts.Geometry.{Geometry}
+use Rattle.chunk_map.specs.Layouts.{head_at}
 use Rattle.chunk_map.specs.declared.heads.Head.{Head}
 use Rattle.chunk_map.specs.declared.heads.Head.TheVariants.{Free, Log, Data}
 
@@ -36,3 +38,11 @@ abbrev pub SurelyHead : (ℕ → Cell) → ℕ → Head → Type 0
 SurelyHead cells at Free = Surely (cells at) 0
 SurelyHead cells at (Log tail) = Surely (cells at) 1 × Surely (cells (at + 1)) tail
 SurelyHead cells at (Data class) = Surely (cells at) (2 + 256 * class)
+
+-- the head of an image is this one, or breaks this rule
+abbrev pub HasHead : Geometry → ℕ → Result Head ℕ → (ℕ → ℕ) → Type 0
+HasHead l at head image = head_at l image at ≡ head
+
+-- the head of an image is the old one or the new one
+abbrev pub HasEitherHead : Geometry → ℕ → Result Head ℕ → Head → (ℕ → ℕ) → Type 0
+HasEitherHead l at before after image = HasHead l at before image ⊎ HasHead l at (Ok after) image

@@ -8,8 +8,17 @@ use crate::layouts::Geometry;
 #[derive(Clone, Copy)]
 pub enum Head {
     Free,
+    /// A log. The first `tail` words of the payload hold batches.
     Log { tail: u64 },
+    /// Blocks of one class.
     Data { class: u32 },
+}
+
+/// The head of a chunk breaks a rule: 4, the kind is none; 5, the tail of a Log is no multiple of 8 or does
+/// not lie in the payload.
+#[derive(Clone, Copy, Debug, PartialEq, Eq)]
+pub struct BadHead {
+    pub rule: u32,
 }
 
 fn is_class(chunk_bytes: u64, class: u64) -> bool

@@ -1,6 +1,6 @@
 // The numbers of a layout.
 ghost use Rattle.std.specs.Prelude.{◌≡◌, ℕ, ◌+◌, ◌-◌, ◌*◌, ◌/◌, ◌^◌, ◌<◌, ◌≤◌, ◌==◌};
-ghost use Rattle.chunk_map.specs.Layouts.{is_chunk_size, layout_rule, part_first, chunk_first, payload_lines, total_bytes};
+ghost use Rattle.chunk_map.specs.Layouts.{IsLayout, is_chunk_size, layout_rule, part_first, chunk_first, payload_lines, total_bytes};
 
 use std::marker::Model;
 
@@ -105,9 +105,10 @@ impl Layout {
         })
     }
 
-    /// The numbers of the layout, as plain data.
+    /// The numbers of the layout, as plain data. They keep the rules.
     pub fn geometry(&self) -> Geometry
-        ensures { result ≡ self.now }
+        ensures value { result ≡ self.now }
+        ensures rules { IsLayout self.now }
     {
         Geometry {
             cores: self.cores,

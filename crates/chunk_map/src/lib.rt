@@ -3,5 +3,13 @@
 
 pub mod heads;
 pub mod layouts;
+pub mod reading;
 pub mod setting;
+pub mod superblock;
 pub mod words;
+
+pub use heads::{BadHead, Head};
+pub use layouts::{BadLayout, Geometry, Layout};
+pub use reading::{read_head, read_superblock};
+pub use setting::set_head;
+pub use superblock::{NotARegion, write_superblock};

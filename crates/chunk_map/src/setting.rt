@@ -1,9 +1,11 @@
 // The head of a chunk is set.
-ghost use Rattle.std.specs.Prelude.{◌≡◌, ◌⊎◌, ℕ, ◌+◌, ◌*◌, ◌/◌, ◌%◌, ◌^◌, ◌≤◌, ◌<◌, OnOk, OnErr};
+ghost use Rattle.std.specs.Prelude.{◌≡◌, ◌⊎◌, ℕ, ◌+◌, ◌*◌, ◌/◌, ◌%◌, ◌^◌, ◌≤◌, ◌<◌, Result, OnOk, OnErr};
 ghost use Rattle.pm_region.specs.Cell.{Cell, MayBe};
 ghost use Rattle.pm_region.specs.State.{State, Frame, During, IsTelling, cell_now, Rose};
 ghost use Rattle.pm_region.specs.Words.{KeepsOutside, EachIn, Surely, Sets};
-ghost use Rattle.chunk_map.specs.Setting.{HeadLies, HasKind, HasTail, HeadTurns, SurelyHead};
+ghost use Rattle.chunk_map.specs.declared.layouts.Geometry.{Geometry};
+ghost use Rattle.chunk_map.specs.Checked.{FitsHead};
+ghost use Rattle.chunk_map.specs.Setting.{HeadLies, HasKind, HasTail, HeadTurns, SurelyHead, HasHead, HasEitherHead};
 
 use crate::heads::Head;
 use crate::words::set_word;
@@ -38,6 +40,9 @@ pub fn set_head<R: Region>(region: &mut R, at: u64, head: Head) -> Result<(), Re
     requires { HeadLies (R.state region.old).frame at }
     // At each moment the head is the old one or the new one.
     ensures moments { During (R.state region.old) (R.state region.new) (EachIn at (at + 2) (HeadTurns (cell_now (R.state region.old)) at head)) }
+    // The same of heads as they are read: where the head was one for sure, it is that one or the new one.
+    ensures heads { (l : Geometry) (before : Result Head ℕ) → FitsHead l head → (IsTelling (R.state region.old) → EachIn at (at + 2) (HasHead l at before) (cell_now (R.state region.old)))
+        → During (R.state region.old) (R.state region.new) (EachIn at (at + 2) (HasEitherHead l at before head)) }
     // No word outside the head's first line is stored or flushed.
     ensures outside { During (R.state region.old) (R.state region.new) (KeepsOutside (cell_now (R.state region.old)) at (at + 8)) }
     ensures ok { OnOk result (IsTelling (R.state region.new) → SurelyHead (cell_now (R.state region.new)) at head) }

@@ -1,13 +1,13 @@
-// One word of a region is made certain.
-ghost use Rattle.std.specs.Prelude.{◌≡◌, ◌⊎◌, ℕ, ◌+◌, ◌*◌, ◌/◌, ◌≤◌, ◌<◌, OnOk, OnErr};
+// Words and lines of a region are stored, flushed and made certain. Addresses are word numbers of the region.
+ghost use Rattle.std.specs.Prelude.{◌≡◌, ◌⊎◌, ℕ, ◌+◌, ◌*◌, ◌/◌, ◌^◌, ◌≤◌, ◌<◌, [], length, slice_index, OnOk, OnErr};
 ghost use Rattle.pm_region.specs.Cell.{Cell, certain};
 ghost use Rattle.pm_region.specs.State.{State, During, IsTelling, LineInRange, cell_now, Rose};
-ghost use Rattle.pm_region.specs.Words.{Sets};
+ghost use Rattle.pm_region.specs.Words.{KeepsOutside, Sets};
 
 use pm_region::{Region, RegionFault};
 
-/// Stores a word and makes it certain: one store, one flush of its line, one fence. The address is a word
-/// number of the region. At every moment the word may be what it might be before or the new value.
+/// Stores a word and makes it certain: one store, one flush of its line, one fence. At every moment the word
+/// may be what it might be before or the new value.
 pub fn set_word<R: Region>(region: &mut R, at: u64, value: u64) -> Result<(), RegionFault>
     requires { LineInRange (R.state region.old).frame (at / 8) }
     ensures run { During (R.state region.old) (R.state region.new) (Sets (cell_now (R.state region.old)) (at / 8) at value) }
@@ -17,4 +17,32 @@ pub fn set_word<R: Region>(region: &mut R, at: u64, value: u64) -> Result<(), Re
     region.store(at, value);
     region.flush(at / 8);
     region.fence()
+}
+
+/// Stores words, one after another from a place on, and no other word.
+pub fn store_words<R: Region>(region: &mut R, at: u64, words: &[u64])
+    requires low { (R.state region.old).frame.first ≤ at }
+    requires high { at + length words.now ≤ (R.state region.old).frame.first + (R.state region.old).frame.words }
+    requires fits { at + length words.now < 2 ^ 64 }
+    ensures run { During (R.state region.old) (R.state region.new) (KeepsOutside (cell_now (R.state region.old)) at (at + length words.now)) }
+    ensures stored { IsTelling (R.state region.new) → (j : ℕ) → j < length words.now
+        → (cell_now (R.state region.new) (at + j)).last ≡ slice_index words.now j }
+{
+    for (i, word) in words.iter().enumerate() {
+        region.store(at + i as u64, *word);
+    }
+}
+
+/// Flushes so many lines, one after another. A line is named by its number, its first word's divided by 8.
+pub fn flush_lines<R: Region>(region: &mut R, line: u64, count: u64)
+    requires low { (R.state region.old).frame.first ≤ 8 * line }
+    requires high { 8 * (line + count) ≤ (R.state region.old).frame.first + (R.state region.old).frame.words }
+    requires fits { line + count < 2 ^ 64 }
+    ensures run { During (R.state region.old) (R.state region.new) (KeepsOutside (cell_now (R.state region.old)) (8 * line) (8 * (line + count))) }
+    ensures lasts { IsTelling (R.state region.new) → (w : ℕ) → (cell_now (R.state region.new) w).last ≡ (cell_now (R.state region.old) w).last }
+    ensures marks { IsTelling (R.state region.new) → (w : ℕ) → 8 * line ≤ w → w < 8 * (line + count) → (cell_now (R.state region.new) w).marked ≡ [] }
+{
+    for i in 0..count {
+        region.flush(line + i);
+    }
 }

@@ -5,3 +5,5 @@ pub mod LogLaws
 pub mod BatchLaws
 pub mod OpenLaws
 pub mod FreshLaws
+pub mod WithoutLaws
+pub mod RetireLaws

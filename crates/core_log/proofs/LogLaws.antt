@@ -20,7 +20,7 @@ pub own_chunk : (log : LogState) → IsOwn log → (j t : ℕ) → tail_of log.c
 own_chunk log own j t is = all_of (IsChunkOf log.layout) log.chunks j t own.each is
 
 -- a tail fits in its chunk
-tail_fits : (l : Geometry) → IsLayout l → (c : LogChunk) → IsChunkOf l c → (c.tail + 32 ≤ chunk_words l) × (c.tail / 8 ≤ payload_lines l)
+pub tail_fits : (l : Geometry) → IsLayout l → (c : LogChunk) → IsChunkOf l c → (c.tail + 32 ≤ chunk_words l) × (c.tail / 8 ≤ payload_lines l)
 tail_fits l is c chunk =
     let size = (numbers_of l is).size in
     let payload = payload_of l size in

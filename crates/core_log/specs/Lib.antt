@@ -4,3 +4,4 @@ pub mod Places
 pub mod Entries
 pub mod Opening
 pub mod Fresh
+pub mod Retiring

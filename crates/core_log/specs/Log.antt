@@ -31,6 +31,11 @@ abbrev pub with_tail : List LogChunk → ℕ → ℕ → List LogChunk
 with_tail [] j tail = chunk_with j tail ∷ []
 with_tail (c ∷ cs) j tail = if nat_lt j c.chunk then chunk_with j tail ∷ c ∷ cs else (if c.chunk == j then chunk_with j tail ∷ cs else c ∷ with_tail cs j tail)
 
+-- the list without a chunk
+abbrev pub without : List LogChunk → ℕ → List LogChunk
+without [] j = []
+without (c ∷ cs) j = if c.chunk == j then cs else c ∷ without cs j
+
 -- each number is greater than the one before
 abbrev pub IsRising : ℕ → List LogChunk → Type 0
 IsRising from [] = Unit {0}
@@ -50,9 +55,12 @@ pub record IsOwn (log : LogState) : Type 0 where
   pub each : AllByRecursion (IsChunkOf log.layout) log.chunks
   pub opened : (j : ℕ) → log.opened ≡ Some j → is_some (tail_of log.chunks j) ≡ true
 
--- the first word of a chunk, of the open one, and its tail
+-- the first word and the tail of a chunk, and of the open one
 abbrev pub first_of : LogState → ℕ → ℕ
 first_of log j = chunk_first log.layout log.part j
+
+abbrev pub tail_in : LogState → ℕ → ℕ
+tail_in log j = unwrap_or (tail_of log.chunks j) 0
 
 abbrev pub open_number : LogState → ℕ
 open_number log = unwrap_or log.opened 0

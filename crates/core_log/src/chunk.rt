@@ -5,7 +5,7 @@ ghost use Rattle.pm_region.specs.State.{State, During, IsTelling, cell_now, Rose
 ghost use Rattle.pm_region.specs.Words.{KeepsOutside, EachIn, Surely};
 ghost use Rattle.core_log.specs.Chunk.{lines_for, padded, words_now, HasOrLacks, ChunkLies, IsLog, Appended};
 
-use chunk_map::words::set_word;
+use chunk_map::words::{flush_lines, set_word};
 use pm_region::{Region, RegionFault};
 
 // The word of a list, or 0 behind its end.
@@ -33,20 +33,6 @@ fn store_all<R: Region>(region: &mut R, at: u64, words: &[u64], count: u64)
     }
 }
 
-// Flushes so many lines, one after another.
-fn flush_all<R: Region>(region: &mut R, line: u64, count: u64)
-    requires low { (R.state region.old).frame.first ≤ 8 * line }
-    requires high { 8 * (line + count) ≤ (R.state region.old).frame.first + (R.state region.old).frame.words }
-    requires fits { line + count < 2 ^ 64 }
-    ensures run { During (R.state region.old) (R.state region.new) (KeepsOutside (cell_now (R.state region.old)) (8 * line) (8 * (line + count))) }
-    ensures lasts { IsTelling (R.state region.new) → (w : ℕ) → (cell_now (R.state region.new) w).last ≡ (cell_now (R.state region.old) w).last }
-    ensures marks { IsTelling (R.state region.new) → (w : ℕ) → 8 * line ≤ w → w < 8 * (line + count) → (cell_now (R.state region.new) w).marked ≡ [] }
-{
-    for i in 0..count {
-        region.flush(line + i);
-    }
-}
-
 // Makes so many lines certain: the words of the list, then zeros.
 fn write_lines<R: Region>(
     region: &mut R,
@@ -63,7 +49,7 @@ fn write_lines<R: Region>(
     ensures cause { OnErr result (Rose (R.state region.old).faults (R.state region.new).faults) }
 {
     store_all(region, 8 * line, words, 8 * lines);
-    flush_all(region, line, lines);
+    flush_lines(region, line, lines);
     region.fence()
 }
 

@@ -1,5 +1,5 @@
 // A core's log: its chunks with their tails, and which of them is open.
-ghost use Rattle.std.specs.Prelude.{◌≡◌, ◌⊎◌, ℕ, ◌+◌, ◌*◌, ◌/◌, ◌%◌, ◌^◌, ◌≤◌, ◌<◌, List, length, Some, None, true, is_some, OnOk, OnErr, IfOk};
+ghost use Rattle.std.specs.Prelude.{◌≡◌, ◌≢◌, ◌⊎◌, ℕ, ◌+◌, ◌*◌, ◌/◌, ◌%◌, ◌^◌, ◌≤◌, ◌<◌, List, length, Some, None, true, is_some, OnOk, OnErr, IfOk};
 ghost use Rattle.std.specs.List.{flat_map, AllByRecursion};
 ghost use Rattle.pm_region.specs.State.{State, During, IsTelling, cell_now, Rose};
 ghost use Rattle.pm_region.specs.Words.{KeepsOutside, EachIn, Surely, lasts};
@@ -7,14 +7,15 @@ ghost use Rattle.chunk_map.specs.Layouts.{chunk_words, payload_words, payload_li
 ghost use Rattle.log_entry.specs.declared.entry.Entry.{Entry};
 ghost use Rattle.log_entry.specs.Spelling.{words_of};
 ghost use Rattle.log_entry.specs.Batches.{IsBatch};
-ghost use Rattle.core_log.specs.Chunk.{lines_for, padded, words_now, HasOrLacks, FreeOrEmpty};
-ghost use Rattle.core_log.specs.Log.{LogState, IsOwn, tail_of, with_tail, chunk_with, IsChunkOf, first_of, open_number, open_first, open_tail, room_of, EachInOpen, HoldsEntries, StandsIn};
+ghost use Rattle.core_log.specs.Chunk.{lines_for, padded, words_now, HasOrLacks, FreeOrEmpty, FreeOrLog};
+ghost use Rattle.core_log.specs.Log.{LogState, IsOwn, tail_of, with_tail, without, chunk_with, IsChunkOf, first_of, tail_in, open_number, open_first, open_tail, room_of, EachInOpen, HoldsEntries, StandsIn};
 ghost use Rattle.core_log.specs.Fresh.{HasEachOnce, IsEmptiest};
 ghost use Rattle.core_log.specs.Opening.{EachInChunk, HasNoEntries, OpenedChunk};
+ghost use Rattle.core_log.specs.Retiring.{HasSameOrNone, RetiredChunk};
 ghost use Rattle.core_log.specs.Entries.{open_entries, added_entries, HasEntries, HasEntriesOrLacks, AppendedBatch};
 
 use crate::chunk::append_at;
-use crate::tails::{emptiest, set_tail, sorted, tail_of};
+use crate::tails::{emptiest, set_tail, sorted, tail_of, take_out};
 use crate::types::{LogChunk, Placed};
 use chunk_map::heads::Head;
 use chunk_map::layouts::Layout;
@@ -194,6 +195,35 @@ impl CoreLog {
         let at = self.first_of(chunk);
         set_head(region, at, Head::Log { tail: 0 })?;
         self.begin_chunk(chunk);
+        Ok(())
+    }
+
+    fn lose_chunk(&mut self, chunk: u32)
+        requires has { is_some (tail_of self.old.chunks chunk) ≡ true }
+        requires closed { self.old.opened ≢ Some chunk }
+        ensures { self.new ≡ record self.old { chunks = without self.old.chunks chunk } }
+    {
+        take_out(&mut self.chunks, chunk);
+    }
+
+    /// Makes a chunk of the log that is not the open one certainly Free, by one fence. The log has it no more.
+    pub fn retire<R: Region>(&mut self, region: &mut R, chunk: u32) -> Result<(), RegionFault>
+        requires stands { StandsIn (R.state region.old) self.old }
+        requires has { is_some (tail_of self.old.chunks chunk) ≡ true }
+        requires closed { self.old.opened ≢ Some chunk }
+        ensures moments { During (R.state region.old) (R.state region.new) (EachInChunk self.old chunk
+            (FreeOrLog (first_of self.old chunk) (tail_in self.old chunk) (words_now (R.state region.old) (first_of self.old chunk) (tail_in self.old chunk)))) }
+        // The chunk's entries are shown as before, or none of them.
+        ensures entries { During (R.state region.old) (R.state region.new) (EachInChunk self.old chunk (HasSameOrNone (R.state region.old) self.old chunk)) }
+        // No word outside the head's first line is stored or flushed.
+        ensures outside { During (R.state region.old) (R.state region.new) (KeepsOutside (cell_now (R.state region.old)) (first_of self.old chunk) (first_of self.old chunk + 8)) }
+        ensures ok { OnOk result (RetiredChunk (R.state region.new) self.old self.new chunk) }
+        ensures err { OnErr result (self.new ≡ self.old) }
+        ensures cause { OnErr result (Rose (R.state region.old).faults (R.state region.new).faults) }
+    {
+        let at = self.first_of(chunk);
+        set_head(region, at, Head::Free)?;
+        self.lose_chunk(chunk);
         Ok(())
     }
 }

@@ -2,7 +2,7 @@
 ghost use Rattle.std.specs.List.{AllByRecursion};
 ghost use Rattle.std.specs.Prelude.{IfOk, ◌≡◌, ℕ, ◌+◌, ◌-◌, ◌<◌, ◌≤◌, length, Some, None, is_some, true, vec_len, vec_capacity};
 ghost use Rattle.chunk_map.specs.Layouts.{IsLayout};
-ghost use Rattle.core_log.specs.Log.{tail_of, with_tail, IsRising, IsChunkOf};
+ghost use Rattle.core_log.specs.Log.{tail_of, with_tail, without, IsRising, IsChunkOf};
 ghost use Rattle.core_log.specs.Fresh.{HasEachOnce, IsEmptiest, all_set, emptiest};
 ghost use Rattle.core_log.specs.Places.{place_of};
 
@@ -48,6 +48,17 @@ pub fn set_tail(chunks: &mut Vec<LogChunk>, chunk: u32, tail: u64)
         chunks[at] = new;
     } else {
         chunks.insert(at, new).unwrap();
+    }
+}
+
+// Takes a chunk out.
+pub fn take_out(chunks: &mut Vec<LogChunk>, chunk: u32)
+    ensures items { is_some (tail_of chunks.old.items chunk) ≡ true → IsRising 0 chunks.old.items → chunks.new.items ≡ without chunks.old.items chunk }
+    ensures capacity { vec_capacity chunks.old ≤ vec_capacity chunks.new }
+{
+    let at = place_of(chunks, chunk);
+    if at < chunks.len() {
+        let _ = chunks.remove(at);
     }
 }
 

@@ -1,5 +1,5 @@
 -- The lines of an input, or the first that breaks a rule.
-use Rattle.std.specs.Prelude.{ℕ, zero, suc, ◌+◌, ◌-◌, ◌*◌, ◌^◌, ◌==◌, ◌&&◌, ◌||◌, not, nat_lt, nat_le, List, [], ◌∷◌, length, fold, Bool, true, false, Option, Some, None, Result, Ok, Err, if◌then◌else◌, bytes_eq, codes}
+use Rattle.std.specs.Prelude.{ℕ, ◌+◌, ◌-◌, ◌*◌, ◌==◌, ◌&&◌, not, nat_le, List, [], ◌∷◌, length, fold, Bool, true, false, Option, Some, None, Result, Ok, Err, if◌then◌else◌, bytes_eq, codes}
 use Rattle.std.specs.List.{list_all, filter_map}
 use Rattle.fs_model.specs.declared.model.Request.{Request}
 use Rattle.fs_model.specs.declared.model.Request.TheVariants.{Put, Get, Delete}
@@ -52,9 +52,12 @@ abbrev pub field_alone : List ℕ × Option (List ℕ) → Option (List ℕ)
 field_alone (bs, None) = Some bs
 field_alone (bs, Some more) = None
 
+abbrev pub lone_key : Option (List ℕ) → Result ℕ ℕ
+lone_key None = Err 4
+lone_key (Some bs) = key_at bs
+
 abbrev pub key_line : (ℕ → Request) → Option (List ℕ) → Result Line ℕ
-key_line ask None = Err 4
-key_line ask (Some bs) = map_ok (λ k. Ask (ask k)) (key_at bs)
+key_line ask field = map_ok (λ k. Ask (ask k)) (lone_key field)
 
 abbrev pub lone_field : Option (List ℕ) → Option (List ℕ)
 lone_field None = None

@@ -1,23 +1,12 @@
 -- The word that stands at a place of some bytes.
-use Rattle.std.proofs.Common.{◌≡◌, ℕ, zero, suc, ◌+◌, ◌-◌, ◌*◌, ◌<◌, List, [], ◌∷◌, ◌++◌, take, drop, get_or, refl, sym, ◌∙◌, ap, arith, append_assoc}
+use Rattle.std.proofs.Common.{◌≡◌, ℕ, suc, ◌+◌, ◌-◌, ◌*◌, ◌<◌, List, [], ◌∷◌, ◌++◌, take, drop, get_or, get_or-take, get_or-drop, sym, ◌∙◌, ap, arith, append_assoc}
 use Rattle.std.proofs.lemmas.List.{drop-drop}
 use Rattle.std.specs.Int.{w64, from_le_bytes}
 use Rattle.log_entry.specs.Words.{packed_in}
 
-get_or-drop : (n : ℕ) (xs : List ℕ) (i : ℕ) → get_or (drop n xs) i 0 ≡ get_or xs (n + i) 0
-get_or-drop zero xs i = let e : i ≡ 0 + i = omega arith in ap (λ k. get_or xs k 0) e
-get_or-drop (suc n) [] i = refl
-get_or-drop (suc n) (x ∷ xs) i = get_or-drop n xs i ∙ (let e : suc (n + i) ≡ suc n + i = omega arith in ap (λ k. get_or (x ∷ xs) k 0) e)
-
-get_or-take : (n : ℕ) (xs : List ℕ) (i : ℕ) → i < n → get_or (take n xs) i 0 ≡ get_or xs i 0
-get_or-take zero xs i lt = let bad : ⊥ = omega (arith, lt) in absurd bad
-get_or-take (suc n) [] i lt = refl
-get_or-take (suc n) (x ∷ xs) zero lt = refl
-get_or-take (suc n) (x ∷ xs) (suc i) lt = get_or-take n xs i (omega (arith, lt))
-
 -- a byte of the word's eight
 pub byte_there : (xs : List ℕ) (at i : ℕ) → i < 8 → get_or (take 8 (drop at xs)) i 0 ≡ get_or xs (at + i) 0
-byte_there xs at i lt = get_or-take 8 (drop at xs) i lt ∙ get_or-drop at xs i
+byte_there xs at i lt = get_or-take 8 (drop at xs) i 0 lt ∙ get_or-drop at xs i 0
 
 -- the words of the bytes from the i-th word on: that word, and those from the next on
 packed_next : (n i : ℕ) (xs : List ℕ) → i < n → packed_in (n - i) (drop (8 * i) xs) ≡ from_le_bytes w64 (take 8 (drop (8 * i) xs)) ∷ packed_in (n - (i + 1)) (drop (8 * (i + 1)) xs)

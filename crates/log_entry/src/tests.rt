@@ -1,5 +1,7 @@
-use crate::entry::{Body, Read};
-use crate::reading::read_entry;
+use crate::{
+    Body, Entry, EntryName, Read, WordBuffer, entry_lines, entry_words, read_entry, write_entry,
+};
+use fs_model::Value;
 use std::test::Fail;
 
 /// The word whose bytes these are, the first the lowest.
@@ -71,5 +73,65 @@ fn delete_pointer_and_last(rt: HostRuntime) -> Result<(), Fail> {
             Read::BadEntry { rule: 2 }
         )
     );
+    Ok(())
+}
+
+#[test]
+fn the_vectors_are_written(rt: HostRuntime) -> Result<(), Fail> {
+    let alloc = rt.alloc();
+    let mut buffer = WordBuffer::with_room(alloc, 10)?;
+    let embedded = Entry {
+        key: 5,
+        version: 1,
+        body: Body::Embedded(Value::of(Vec::from_slice(alloc, b"abc")?)),
+    };
+    assert_eq!(rt; entry_words(&embedded), 3);
+    assert_eq!(rt; entry_lines(&embedded), 1);
+    write_entry(&embedded, &mut buffer);
+    write_entry(
+        &Entry {
+            key: 5,
+            version: 2,
+            body: Body::Tombstone,
+        },
+        &mut buffer,
+    );
+    write_entry(
+        &Entry {
+            key: 2,
+            version: 1,
+            body: Body::Pointer(17),
+        },
+        &mut buffer,
+    );
+    write_entry(
+        &Entry {
+            key: 9,
+            version: 1048574,
+            body: Body::Embedded(Value::of(Vec::from_slice(alloc, b"q")?)),
+        },
+        &mut buffer,
+    );
+    let wanted = [
+        word([0x15, 0, 0, 3, 0, 0, 0, 0]),
+        5,
+        word([0x61, 0x62, 0x63, 0, 0, 0, 0, 0]),
+        word([0x22, 0, 0, 0, 0, 0, 0, 0]),
+        5,
+        word([0x11, 0, 0, 0x11, 0, 0, 0, 0]),
+        2,
+        word([0xe5, 0xff, 0xff, 1, 0, 0, 0, 0]),
+        9,
+        0x71,
+    ];
+    assert_eq!(rt; buffer.words(), wanted.as_slice());
+    buffer.clear();
+    buffer.push(7);
+    assert_eq!(rt; buffer.words(), [7].as_slice());
+    let name = EntryName {
+        key: embedded.key,
+        version: embedded.version,
+    };
+    assert!(rt; name == EntryName { key: 5, version: 1 });
     Ok(())
 }

@@ -2,10 +2,12 @@
 ghost use Rattle.std.specs.Prelude.{◌≡◌, ℕ, ◌+◌, ◌*◌, ◌/◌, ◌^◌, ◌<◌, ◌≤◌, ◌++◌, length, take, drop, slice_index};
 ghost use Rattle.std.specs.Int.{w64, from_le_bytes};
 ghost use Rattle.log_entry.specs.Words.{words_for, packed};
+ghost use Rattle.log_entry.specs.Grammar.{IsNoPrefix};
 ghost use Rattle.log_entry.specs.Spelling.{first_word, words_of, HasSpelling};
 
 use crate::buffer::WordBuffer;
 use crate::entry::{Body, Entry};
+use crate::packing::{word_at, words_for};
 
 fn first_word(op: u64, form: u64, version: u32, high: u64) -> u64
     requires op { op ≤ 2 }
@@ -17,14 +19,6 @@ fn first_word(op: u64, form: u64, version: u32, high: u64) -> u64
     op + 4 * form + 16 * version as u64 + 16_777_216 * high
 }
 
-/// How many words so many bytes take.
-fn words_for(bytes: usize) -> u64
-    requires { bytes ≤ 255 }
-    ensures { result ≡ words_for bytes }
-{
-    (bytes as u64 + 7) / 8
-}
-
 /// How many words the entry's spelling has: from 2 to 34.
 pub fn entry_words(entry: &Entry) -> u64
     requires { HasSpelling entry.now }
@@ -33,7 +27,7 @@ pub fn entry_words(entry: &Entry) -> u64
     ensures high { result ≤ 34 }
 {
     match &entry.body {
-        Body::Embedded(value) => 2 + words_for(value.bytes().len()),
+        Body::Embedded(value) => 2 + words_for(value.bytes().len() as u64),
         Body::Pointer(_) => 2,
         Body::Tombstone => 2,
     }
@@ -49,29 +43,6 @@ pub fn entry_lines(entry: &Entry) -> u64
     (entry_words(entry) + 7) / 8
 }
 
-fn byte_at(bytes: &[u8], at: usize) -> u8
-    ensures { result ≡ slice_index bytes.now at }
-{
-    if at < bytes.len() { bytes[at] } else { 0 }
-}
-
-/// The word of eight bytes from a place on, with zeros past the end.
-fn word_at(bytes: &[u8], at: usize) -> u64
-    requires { at < 2 ^ 32 }
-    ensures { result ≡ from_le_bytes w64 (take 8 (drop at bytes.now)) }
-{
-    u64::from_le_bytes([
-        byte_at(bytes, at),
-        byte_at(bytes, at + 1),
-        byte_at(bytes, at + 2),
-        byte_at(bytes, at + 3),
-        byte_at(bytes, at + 4),
-        byte_at(bytes, at + 5),
-        byte_at(bytes, at + 6),
-        byte_at(bytes, at + 7),
-    ])
-}
-
 /// Appends the words of some bytes.
 fn write_bytes(bytes: &[u8], buf: &mut WordBuffer)
     requires short { length bytes.now ≤ 255 }
@@ -79,7 +50,7 @@ fn write_bytes(bytes: &[u8], buf: &mut WordBuffer)
     ensures words { buf.new.words ≡ buf.old.words ++ packed bytes.now }
     ensures room { buf.new.room ≡ buf.old.room }
 {
-    let count = words_for(bytes.len()) as usize;
+    let count = words_for(bytes.len() as u64) as usize;
     for i in 0..count {
         buf.push(word_at(bytes, 8 * i));
     }
@@ -91,6 +62,7 @@ pub fn write_entry(entry: &Entry, buf: &mut WordBuffer)
     requires room { length buf.old.words + length (words_of entry.now) ≤ buf.old.room }
     ensures words { buf.new.words ≡ buf.old.words ++ words_of entry.now }
     ensures room { buf.new.room ≡ buf.old.room }
+    ensures whole { IsNoPrefix entry.now }
 {
     match &entry.body {
         Body::Pointer(pointer) => {

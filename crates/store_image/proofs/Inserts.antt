@@ -1,5 +1,5 @@
 -- Where one chunk has more entries, and all else is as it was.
-use Rattle.std.proofs.Common.{◌≡◌, ◌≢◌, ◌⊎◌, inl, inr, ℕ, zero, suc, ◌+◌, ◌-◌, ◌<◌, ◌≤◌, List, [], ◌∷◌, ◌++◌, refl, sym, ◌∙◌, ap, arith, append_assoc, append-nil}
+use Rattle.std.proofs.Common.{◌≡◌, ◌≢◌, ◌⊎◌, inl, inr, ℕ, zero, suc, ◌+◌, ◌-◌, ◌<◌, List, [], ◌++◌, sym, ◌∙◌, ap, arith, append_assoc, append-nil}
 use Rattle.std.specs.List.{flat_map}
 use Rattle.chunk_map.specs.declared.layouts.Geometry.{Geometry}
 use Rattle.store_image.specs.declared.types.PlacedEntry.{PlacedEntry}
@@ -51,3 +51,9 @@ all_inserted l i j c n xs low high same more =
     over_one (part_entries l i) (part_entries l j) l.cores c xs low
     (λ d ne. over_numbers (chunk_entries l i d) (chunk_entries l j d) 0 l.chunks (λ m a b. same d m (inl ne)))
     (over_one (chunk_entries l i c) (chunk_entries l j c) l.chunks n xs high (λ m ne. same c m (inr ne)) (at_end (chunk_entries l i c n) xs (chunk_entries l j c n) more))
+
+-- A chunk that has no entries any more takes its own out of all, and changes nothing else.
+pub all_removed : (l : Geometry) (i j : ℕ → ℕ) (c n : ℕ) → c < l.cores → n < l.chunks
+    → ((d m : ℕ) → (d ≢ c) ⊎ (m ≢ n) → chunk_entries l j d m ≡ chunk_entries l i d m)
+    → chunk_entries l j c n ≡ [] → Inserted (all_entries l j) (chunk_entries l i c n) (all_entries l i)
+all_removed l i j c n low high same none = all_inserted l j i c n (chunk_entries l i c n) low high same (ap (λ l'. l' ++ chunk_entries l i c n) (sym none))

@@ -1,18 +1,17 @@
 -- What a chunk says depends on its own words alone.
-use Rattle.std.proofs.Common.{◌≡◌, ◌≢◌, ◌⊎◌, inl, inr, ℕ, zero, suc, ◌+◌, ◌-◌, ◌*◌, ◌/◌, ◌%◌, ◌^◌, ◌<◌, ◌≤◌, List, [], ◌∷◌, ◌++◌, length, refl, sym, ◌∙◌, ap, arith, ◌==◌, ◌&&◌, true, false, Bool, cond, Option, Some, None, Result, Ok, Err, leb, map}
+use Rattle.std.proofs.Common.{◌≡◌, ◌⊎◌, inl, inr, ℕ, zero, suc, ◌+◌, ◌/◌, ◌%◌, ◌<◌, ◌≤◌, List, ◌++◌, length, refl, sym, ◌∙◌, ap, arith, ◌==◌, ◌&&◌, true, false, Bool, cond, Result, Ok, Err, leb, []}
 use Rattle.std.proofs.lemmas.Bool.{and_parts, eqb-true, leb-true}
 use Rattle.std.specs.List.{flat_map}
 use Rattle.log_entry.specs.declared.entry.Entry.{Entry}
 use Rattle.log_entry.specs.Words.{words_from}
-use Rattle.log_entry.specs.Batches.{Scan, scan_of, ended, SpellsBatches, IsBatch, batch_words}
-use Rattle.log_entry.proofs.Images.{words_same, words_append, words_list}
+use Rattle.log_entry.specs.Batches.{Scan, scan_of, SpellsBatches, IsBatch, batch_words}
+use Rattle.log_entry.proofs.Images.{words_same, words_append}
 use Rattle.log_entry.proofs.Scans.{scan-append, entries_from}
 use Rattle.chunk_map.specs.declared.layouts.Geometry.{Geometry}
 use Rattle.chunk_map.specs.declared.heads.Head.{Head}
 use Rattle.chunk_map.specs.declared.heads.Head.TheVariants.{Free, Log, Data}
-use Rattle.store_image.specs.declared.types.PlacedEntry.{PlacedEntry}
 use Rattle.chunk_map.specs.Layouts.{numbers, chunk_words, chunk_first, payload_words, head_by, head_at, is_class}
-use Rattle.store_image.specs.Parts.{payload, scan_behind, scan_at, placed, chunk_entries, part_entries, all_entries, reads, chunk_reads, head_reads}
+use Rattle.store_image.specs.Parts.{payload, scan_behind, scan_at, placed, chunk_entries, part_entries, chunk_reads, head_reads}
 
 -- which way a choice went
 pub chosen : {X : Type 0} (b : Bool) (x y z : X) → cond b x y ≡ z → ((b ≡ true) × (x ≡ z)) ⊎ ((b ≡ false) × (y ≡ z))
@@ -93,3 +92,13 @@ appended l i j at t bs es old new spelled is same added =
     words_append j (at + 32) t (length (batch_words es)) ∙ (let front = words_same j i (at + 32) t same in (λ x. front x ++ added x)) in
     ap (scan_behind j at) new ∙ ap scan_of words ∙ scan-append (payload i at t) bs es spelled is
     ∙ ap (λ h. record { entries = (scan_behind i at h).entries ++ entries_from (length (payload i at t)) es; whole = true }) (sym old)
+
+-- A free chunk has no entries, nor has a data chunk, nor a log without a tail.
+pub free_entries : (l : Geometry) (image : ℕ → ℕ) (c n : ℕ) → head_at l image (chunk_first l c n) ≡ Ok Free → chunk_entries l image c n ≡ []
+free_entries l image c n e = ap (λ h. placed c n (scan_behind image (chunk_first l c n) h).entries) e
+
+pub data_entries : (l : Geometry) (image : ℕ → ℕ) (c n class : ℕ) → head_at l image (chunk_first l c n) ≡ Ok (Data class) → chunk_entries l image c n ≡ []
+data_entries l image c n class e = ap (λ h. placed c n (scan_behind image (chunk_first l c n) h).entries) e
+
+pub empty_entries : (l : Geometry) (image : ℕ → ℕ) (c n : ℕ) → head_at l image (chunk_first l c n) ≡ Ok (Log 0) → chunk_entries l image c n ≡ []
+empty_entries l image c n e = ap (λ h. placed c n (scan_behind image (chunk_first l c n) h).entries) e

@@ -1,6 +1,5 @@
 -- Damaged images, and what is found in them.
-use Rattle.std.proofs.Common.{◌≡◌, ℕ, ◌+◌, ◌*◌, ◌^◌, ◌==◌, List, [], ◌∷◌, ◌++◌, refl, cond, Option, Some, None}
-use Rattle.log_entry.specs.declared.entry.Body.TheVariants.{Pointer, Embedded, Tombstone}
+use Rattle.std.proofs.Common.{◌≡◌, ℕ, ◌==◌, List, [], ◌∷◌, ◌++◌, refl, cond, Some, None}
 use Rattle.log_entry.specs.Reading.{read}
 use Rattle.store_image.specs.declared.types.Fault.TheVariants.{NotARegion, Damaged}
 use Rattle.chunk_map.specs.Layouts.{magic, layout_of}

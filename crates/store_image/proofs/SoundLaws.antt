@@ -1,27 +1,19 @@
 -- What a sound image keeps to.
-use Rattle.std.proofs.Common.{◌≡◌, ◌≢◌, ◌⊎◌, inl, inr, ℕ, zero, suc, ◌+◌, ◌-◌, ◌*◌, ◌<◌, ◌≤◌, List, [], ◌∷◌, ◌++◌, length, refl, sym, ◌∙◌, ap, subst, arith, ◌==◌, ◌&&◌, ◌||◌, not, true, false, Bool, cond, Option, Some, None, ltb, Ok, Err, Result}
+use Rattle.std.proofs.Common.{◌≡◌, ◌⊎◌, inl, inr, ℕ, zero, suc, ◌+◌, ◌*◌, ◌<◌, ◌≤◌, List, [], ◌∷◌, ◌++◌, refl, sym, ◌∙◌, ap, arith, ◌==◌, ◌&&◌, ◌||◌, not, true, false, Bool, cond, Option, Some, None, ltb}
 use Rattle.std.specs.Prelude.{bytes_eq, option_map}
 use Rattle.std.specs.Option.{option_or}
 use Rattle.std.proofs.lemmas.Slice.Eq.{bytes_eq-Decides}
-use Rattle.std.specs.List.{list_any, flat_map, list_all}
-use Rattle.std.proofs.lemmas.Bool.{and_parts, and_from, eqb-true, eqb-false, eq-eqb, ne_eqb, lt-ltb, ltb-true}
+use Rattle.std.specs.List.{list_any}
+use Rattle.std.proofs.lemmas.Bool.{and_from, eqb-true, eqb-false, eq-eqb, lt-ltb}
 use Rattle.log_entry.specs.declared.entry.Body.{Body}
 use Rattle.log_entry.specs.declared.entry.Body.TheVariants.{Pointer, Embedded, Tombstone}
-use Rattle.log_entry.specs.Batches.{Scan}
 use Rattle.chunk_map.specs.declared.layouts.Geometry.{Geometry}
-use Rattle.chunk_map.specs.declared.heads.Head.{Head}
 use Rattle.store_image.specs.declared.types.PlacedEntry.{PlacedEntry}
-use Rattle.store_image.specs.declared.types.Fault.{Fault}
-use Rattle.store_image.specs.declared.types.Fault.TheVariants.{NotARegion, Damaged}
-use Rattle.chunk_map.specs.Layouts.{numbers, superblock_rule, layout_of, chunk_first, head_at, owner, is_of_group, has_class}
-use Rattle.store_image.specs.Parts.{scan_at, all_entries, block_class, chunk_reads, reads, head_reads, held, held_by, block_bytes}
+use Rattle.chunk_map.specs.Layouts.{numbers, superblock_rule, layout_of, owner, has_class}
+use Rattle.store_image.specs.Parts.{all_entries, block_class, held, held_by, block_bytes}
 use Rattle.store_image.specs.Winners.{better, winner_in, with_key, keys_of}
-use Rattle.store_image.specs.Soundness.{first_some, damaged, rule_behind, chunk_rule, chunk_fault, same_body, contradicts, clash_after, clash_fault, points_to, pointer_rule, body_rule, winner_fault, block_fault, damage, fault_by, first_fault, IsSound}
-use Rattle.store_image.proofs.Local.{chosen}
-
-abbrev pub In : {X : Type 0} → X → List X → Type 0
-In x [] = ⊥
-In x (y ∷ ys) = (x ≡ y) ⊎ In x ys
+use Rattle.store_image.specs.Soundness.{first_some, damaged, chunk_rule, chunk_fault, same_body, contradicts, clash_after, clash_fault, points_to, pointer_rule, body_rule, winner_fault, block_fault, damage, fault_by, first_fault, IsSound}
+use Rattle.store_image.specs.Facts.{In}
 
 or_none : {X : Type 0} (a b : Option X) → option_or a b ≡ None → (a ≡ None) × (b ≡ None)
 or_none None b e = (refl, e)
@@ -113,7 +105,7 @@ winner_key k (y ∷ ys) x e = elim (y.entry.key == k) as (λ b. (y.entry.key == 
   | false ↦ λ t q. in_with y.entry.key k (keys_of ys) (inr (winner_key k ys x q))
 ] refl e
 
-none_any : {X : Type 0} (test : X → Bool) (xs : List X) (x : X) → list_any test xs ≡ false → In x xs → test x ≡ false
+pub none_any : {X : Type 0} (test : X → Bool) (xs : List X) (x : X) → list_any test xs ≡ false → In x xs → test x ≡ false
 none_any test [] x e h = absurd h
 none_any test (y ∷ ys) x e h = elim (test y) as (λ b. test y ≡ b → (b || list_any test ys) ≡ false → test x ≡ false) [
   | true ↦ λ t q. cc q
@@ -192,10 +184,10 @@ clash_pair before (z ∷ zs) x y none (inl a) (inr h) = inr (inl (clash_before (
 clash_pair before (z ∷ zs) x y none (inr h) (inl b) = inr (inr (clash_before (before ++ z ∷ []) zs y x (clash_cond (list_any (contradicts z) before) z _ none).1 (in_later y z before (inr b)) h))
 clash_pair before (z ∷ zs) x y none (inr g) (inr h) = clash_pair (before ++ z ∷ []) zs x y (clash_cond (list_any (contradicts z) before) z _ none).1 g h
 
-equal_bytes : (u v : List ℕ) → bytes_eq u v ≡ true → u ≡ v
+pub equal_bytes : (u v : List ℕ) → bytes_eq u v ≡ true → u ≡ v
 equal_bytes u v e = (bytes_eq-Decides u v).0 e
 
-same_bodies : (a b : Body) → same_body a b ≡ true → a ≡ b
+pub same_bodies : (a b : Body) → same_body a b ≡ true → a ≡ b
 same_bodies (Pointer p) (Pointer q) e = ap Pointer (eqb-true p q e)
 same_bodies (Pointer p) (Embedded v) e = cc e
 same_bodies (Pointer p) Tombstone e = cc e

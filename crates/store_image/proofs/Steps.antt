@@ -1,12 +1,12 @@
 -- One step of a scan, at a place of a list.
-use Rattle.std.proofs.Common.{◌≡◌, ◌≢◌, ℕ, zero, suc, ◌+◌, ◌-◌, ◌%◌, ◌<◌, ◌≤◌, List, [], ◌∷◌, ◌++◌, length, take, drop, get_or, refl, sym, ◌∙◌, ap, arith, ◌==◌, ◌&&◌, not, true, false, Bool, cond, map, append_assoc, append-nil, Option, Some, None}
-use Rattle.std.proofs.lemmas.List.{drop_more, take_more, take_rest}
-use Rattle.std.proofs.lemmas.Bool.{ne_eqb, eq-eqb, cond-true, cond-false}
+use Rattle.std.proofs.Common.{◌≡◌, ◌≢◌, ℕ, zero, suc, ◌+◌, ◌-◌, ◌%◌, ◌<◌, ◌≤◌, List, ◌∷◌, length, take, drop, get_or, refl, sym, ◌∙◌, ap, arith, ◌==◌, ◌&&◌, not, true, false, Bool}
+use Rattle.std.proofs.lemmas.List.{drop_more, take_more}
+use Rattle.std.proofs.lemmas.Bool.{ne_eqb, eq-eqb, cond-false}
 use Rattle.std.specs.List.{list_any}
 use Rattle.log_entry.specs.declared.entry.Entry.{Entry}
 use Rattle.log_entry.specs.declared.entry.Read.TheVariants as reads
 use Rattle.log_entry.specs.Reading.{read}
-use Rattle.log_entry.specs.Batches.{Scan, ended, broken, with_entry, scan}
+use Rattle.log_entry.specs.Batches.{broken, with_entry, scan}
 use Rattle.store_image.specs.declared.types.PlacedEntry.{PlacedEntry}
 use Rattle.store_image.specs.Soundness.{contradicts, clash_after}
 
@@ -38,22 +38,19 @@ module _ (ws : List ℕ) (p : ℕ) (within : p < length ws) where
     pub pad_at : read (drop p ws) ≡ reads.Padding → p % 8 ≢ 0 → scan p 0 padded (drop p ws) ≡ scan (p + 1) 0 true (drop (p + 1) ws)
     pad_at is line = let front : read (get_or ws p 0 ∷ drop (p + 1) ws) ≡ reads.Padding = ap read (sym more) ∙ is in let at : (p % 8 == 0) ≡ false = ne_eqb (p % 8) 0 line in ap (scan p 0 padded) more ∙ rw outside (rw (front, at) refl)
 
--- The same of what the code knows: left isn't above 0, and the words are read from a slice.
+-- The same of what the code knows: left isn't above 0.
 module _ (ws : List ℕ) (p left : ℕ) (padded : Bool) (within : p < length ws) (none : left ≤ 0) (outside : (padded && not (p % 8 == 0)) ≡ false) where
   is_zero : left ≡ 0
   is_zero = omega (arith, none)
 
-  at_slice : read (take (length ws - p) (drop p ws)) ≡ read (drop p ws)
-  at_slice = ap read (take_rest ws p)
+  pub finds : (e : Entry) (n : ℕ) → reads.Entry e n ≡ read (drop p ws) → scan p left padded (drop p ws) ≡ with_entry p e (scan (p + 1) (n - 1) false (drop (p + 1) ws))
+  finds e n is = ap (λ k. scan p k padded (drop p ws)) is_zero ∙ entry_at ws p within padded outside e n (sym is)
 
-  pub finds : (e : Entry) (n : ℕ) → reads.Entry e n ≡ read (take (length ws - p) (drop p ws)) → scan p left padded (drop p ws) ≡ with_entry p e (scan (p + 1) (n - 1) false (drop (p + 1) ws))
-  finds e n is = ap (λ k. scan p k padded (drop p ws)) is_zero ∙ entry_at ws p within padded outside e n (sym at_slice ∙ sym is)
+  pub refuses : (rule : ℕ) → reads.BadEntry rule ≡ read (drop p ws) → scan p left padded (drop p ws) ≡ broken
+  refuses rule is = ap (λ k. scan p k padded (drop p ws)) is_zero ∙ bad_at ws p within padded outside rule (sym is)
 
-  pub refuses : (rule : ℕ) → reads.BadEntry rule ≡ read (take (length ws - p) (drop p ws)) → scan p left padded (drop p ws) ≡ broken
-  refuses rule is = ap (λ k. scan p k padded (drop p ws)) is_zero ∙ bad_at ws p within padded outside rule (sym at_slice ∙ sym is)
-
-  pub pads : reads.Padding ≡ read (take (length ws - p) (drop p ws)) → p % 8 ≢ 0 → scan p left padded (drop p ws) ≡ scan (p + 1) 0 true (drop (p + 1) ws)
-  pads is line = ap (λ k. scan p k padded (drop p ws)) is_zero ∙ pad_at ws p within padded outside (sym at_slice ∙ sym is) line
+  pub pads : reads.Padding ≡ read (drop p ws) → p % 8 ≢ 0 → scan p left padded (drop p ws) ≡ scan (p + 1) 0 true (drop (p + 1) ws)
+  pads is line = ap (λ k. scan p k padded (drop p ws)) is_zero ∙ pad_at ws p within padded outside (sym is) line
 
 -- no entry up to place i contradicts one before it, nor does the next
 pub clash_step : (es : List PlacedEntry) (i : ℕ) (x : PlacedEntry) → i < length es → list_any (contradicts (get_or es i x)) (take i es) ≡ false → clash_after (take i es) (drop i es) ≡ clash_after (take (i + 1) es) (drop (i + 1) es)

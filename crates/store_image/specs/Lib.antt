@@ -2,3 +2,5 @@ pub mod Parts
 pub mod Winners
 pub mod Soundness
 pub mod Scanned
+pub mod Listing
+pub mod Facts

@@ -1,5 +1,5 @@
 -- What a scan of the code shows.
-use Rattle.std.specs.Prelude.{◌≡◌, ℕ, List, map, ◌++◌, ◌+◌, drop, Bool, false}
+use Rattle.std.specs.Prelude.{◌≡◌, ℕ, List, map, ◌+◌, drop, Bool, false}
 use Rattle.log_entry.specs.declared.entry.Entry.{Entry}
 use Rattle.log_entry.specs.Batches.{Scan, broken, with_entry, scan}
 use Rattle.store_image.specs.declared.scanning.AtPlace.{AtPlace}

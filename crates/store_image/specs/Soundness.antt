@@ -1,7 +1,7 @@
 -- The first broken rule of soundness, in the order in which they are tested.
-use Rattle.std.specs.Prelude.{◌≡◌, ℕ, ◌*◌, ◌==◌, ◌&&◌, ◌||◌, not, nat_lt, List, [], ◌∷◌, ◌++◌, length, Bool, true, false, Option, Some, None, Result, Ok, Err, if◌then◌else◌, bytes_eq, option_map}
+use Rattle.std.specs.Prelude.{◌≡◌, ℕ, ◌*◌, ◌==◌, ◌&&◌, not, nat_lt, List, [], ◌∷◌, ◌++◌, Bool, true, false, Option, Some, None, Result, Ok, Err, if◌then◌else◌, bytes_eq, option_map}
 use Rattle.std.specs.Option.{option_or}
-use Rattle.std.specs.List.{list_any, list_all, find}
+use Rattle.std.specs.List.{list_any, list_all}
 use Rattle.log_entry.specs.declared.entry.Body.{Body}
 use Rattle.log_entry.specs.declared.entry.Body.TheVariants.{Pointer, Embedded, Tombstone}
 use Rattle.log_entry.specs.Batches.{Scan}
@@ -33,8 +33,11 @@ rule_behind l c (Ok head) s = rule_of l c s
 abbrev pub chunk_rule : Geometry → (ℕ → ℕ) → ℕ → ℕ → Option ℕ
 chunk_rule l image c j = rule_behind l c (head_at l image (chunk_first l c j)) (scan_at l image (chunk_first l c j))
 
+abbrev pub part_fault : Geometry → (ℕ → ℕ) → ℕ → Option Fault
+part_fault l image c = first_some (λ j. option_map (damaged c j) (chunk_rule l image c j)) (numbers 0 l.chunks)
+
 abbrev pub chunk_fault : Geometry → (ℕ → ℕ) → Option Fault
-chunk_fault l image = first_some (λ c. first_some (λ j. option_map (damaged c j) (chunk_rule l image c j)) (numbers 0 l.chunks)) (numbers 0 l.cores)
+chunk_fault l image = first_some (λ c. part_fault l image c) (numbers 0 l.cores)
 
 abbrev pub same_body : Body → Body → Bool
 same_body (Pointer p) (Pointer q) = p == q

@@ -1,11 +1,12 @@
 // Scanning a payload, place by place.
 ghost use Rattle.std.specs.Prelude.{◌≡◌, ℕ, ◌+◌, ◌*◌, ◌^◌, ◌<◌, ◌≤◌, ◌==◌, ◌&&◌, ◌%◌, not, length, IfOk, map};
-ghost use Rattle.log_entry.specs.Batches.{Scan, scan, scan_of};
+ghost use Rattle.log_entry.specs.Batches.{Scan, ended, scan, scan_of};
 ghost use Rattle.store_image.specs.Scanned.{IsScan, IsNext, shown};
 
+use fs_errors::Memory;
 use log_entry::entry::{Entry, Read};
-use log_entry::reading::read_front;
-use std::alloc::{AllocError, Global};
+use log_entry::reading::read_entry;
+use std::alloc::Global;
 
 /// An entry with its place in the payload.
 #[derive(Drop)]
@@ -19,6 +20,18 @@ pub struct AtPlace {
 pub struct Scanned {
     pub entries: Vec<AtPlace>,
     pub whole: bool,
+}
+
+impl Scanned {
+    /// Of no words at all.
+    pub fn nothing(alloc: Global) -> Scanned
+        ensures { IsScan result ended }
+    {
+        Scanned {
+            entries: Vec::new(alloc),
+            whole: true,
+        }
+    }
 }
 
 /// How reading goes on behind a place.
@@ -41,7 +54,7 @@ fn what_follows(
     place: usize,
     left: u64,
     padded: bool,
-) -> Result<Next, AllocError>
+) -> Result<Next, Memory>
     requires { place < length payload.now }
     ensures { IfOk result (IsNext payload.now place left padded) }
 {
@@ -60,7 +73,7 @@ fn what_follows(
             padded: true,
         });
     }
-    match read_front(alloc, &payload[place..])? {
+    match read_entry(alloc, payload, place as u64)? {
         Read::Entry { entry, length } => {
             Ok(Next::Found {
                 entry,
@@ -82,7 +95,7 @@ fn what_follows(
 }
 
 /// What stands in a payload.
-pub fn scan(alloc: Global, payload: &[u64]) -> Result<Scanned, AllocError>
+pub fn scan(alloc: Global, payload: &[u64]) -> Result<Scanned, Memory>
     ensures { IfOk result (λ s. IsScan s (scan_of payload.now)) }
 {
     let mut entries = Vec::new(alloc);

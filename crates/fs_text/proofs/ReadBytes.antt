@@ -1,0 +1,71 @@
+-- What is said of the bytes that were read is said of all that a source told.
+use Rattle.std.proofs.Common.{◌≡◌, ℕ, ◌<◌, ◌⊎◌, inl, inr, List, [], ◌++◌, length, Option, Some, None, Result, Ok, Err, sym, ap, ◌∙◌, subst, arith, append-nil}
+use Rattle.std.specs.Prelude.{IfSome, OnOk}
+use Rattle.fs_text.specs.declared.line.Line.{Line}
+use Rattle.fs_text.specs.declared.input.InputError.{InputError}
+use Rattle.fs_text.specs.declared.stages.Built.{Built}
+use Rattle.fs_text.specs.declared.stages.UntilError.{UntilError}
+use Rattle.fs_text.specs.Input.{input_of}
+use Rattle.fs_text.specs.Reading.{Answers}
+use Rattle.fs_text.specs.Stages.{input_or_stop, StopsAs}
+use Rattle.fs_text.specs.Streams.{Gives, IsAtEnd}
+use Rattle.fs_text.proofs.Limits.{over}
+use Rattle.fs_text.proofs.Whole.{over_input}
+
+short_or_long : (n : ℕ) → (n < 67108865) ⊎ (67108864 < n)
+short_or_long n = grind arith
+
+-- all of it was read, or what is left doesn't matter
+abbrev Same : {A : Type 0} → (List ℕ → A) → List ℕ → List ℕ → Type 0
+Same f xs v = f v ≡ f xs
+
+read_same : {A : Type 0} (f : List ℕ → A) (xs ys v : List ℕ) → xs ≡ v ++ ys → (length v < 67108865 → ys ≡ []) → (67108864 < length v → f v ≡ f (v ++ ys)) → f v ≡ f xs
+read_same f xs ys v e end long = at_size (short_or_long (length v))
+  where
+    at_size : (length v < 67108865) ⊎ (67108864 < length v) → f v ≡ f xs
+    at_size (inl h) = ap f (sym (append-nil v) ∙ ap (λ zs. v ++ zs) (sym (end h)) ∙ sym e)
+    at_size (inr h) = long h ∙ ap f (sym e)
+
+pub told_until : (coming left : Option (List ℕ)) (v : List ℕ) (built : Built) (cores : ℕ) (r : Result (List Line) UntilError)
+    → Gives coming left v → (length v < 67108865 → IsAtEnd left) → StopsAs r (input_or_stop built cores v)
+    → IfSome coming (λ bytes. StopsAs r (input_or_stop built cores bytes))
+told_until None left v built cores r h end said = tt
+told_until (Some xs) None v built cores r h end said = absurd h
+told_until (Some xs) (Some ys) v built cores r h end said =
+    let same : input_or_stop built cores v ≡ input_or_stop built cores xs =
+    read_same (λ zs. input_or_stop built cores zs) xs ys v h end (λ long. let (e, whole, front) = over built cores v ys long in front ∙ sym whole) in
+    subst (λ s. StopsAs r s) same said
+
+pub ended_until : (left : Option (List ℕ)) (v : List ℕ) (built : Built) (cores : ℕ) (r : Result (List Line) UntilError)
+    → (length v < 67108865 → IsAtEnd left) → StopsAs r (input_or_stop built cores v) → OnOk r (IsAtEnd left)
+ended_until left v built cores (Err e) end said = tt
+ended_until left v built cores (Ok lines) end said = at_size (short_or_long (length v))
+  where
+    at_size : (length v < 67108865) ⊎ (67108864 < length v) → IsAtEnd left
+    at_size (inl h) = end h
+    at_size (inr h) = let (e, whole, front) = over built cores v [] h in absurd (differ (sym said ∙ front))
+      where
+        differ : {A B : Type 0} {x : A} {y : B} → Ok x ≡ Err y → ⊥
+        differ h = cc
+
+pub told_input : (coming left : Option (List ℕ)) (v : List ℕ) (cores : ℕ) (r : Result (List Line) InputError)
+    → Gives coming left v → (length v < 67108865 → IsAtEnd left) → Answers r (input_of cores v)
+    → IfSome coming (λ bytes. Answers r (input_of cores bytes))
+told_input None left v cores r h end said = tt
+told_input (Some xs) None v cores r h end said = absurd h
+told_input (Some xs) (Some ys) v cores r h end said =
+    let same : input_of cores v ≡ input_of cores xs =
+    read_same (λ zs. input_of cores zs) xs ys v h end (λ long. let (e, whole, front) = over_input cores v ys long in front ∙ sym whole) in
+    subst (λ s. Answers r s) same said
+
+pub ended_input : (left : Option (List ℕ)) (v : List ℕ) (cores : ℕ) (r : Result (List Line) InputError)
+    → (length v < 67108865 → IsAtEnd left) → Answers r (input_of cores v) → OnOk r (IsAtEnd left)
+ended_input left v cores (Err e) end said = tt
+ended_input left v cores (Ok lines) end said = at_size (short_or_long (length v))
+  where
+    at_size : (length v < 67108865) ⊎ (67108864 < length v) → IsAtEnd left
+    at_size (inl h) = end h
+    at_size (inr h) = let (e, whole, front) = over_input cores v [] h in absurd (differ (sym said ∙ front))
+      where
+        differ : {A B : Type 0} {x : A} {y : B} → Ok x ≡ Err y → ⊥
+        differ h = cc

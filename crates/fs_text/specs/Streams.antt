@@ -1,0 +1,28 @@
+-- What a source and a sink say of themselves, where they do, and what a call makes of it.
+use Rattle.std.specs.Prelude.{◌≡◌, ℕ, List, [], ◌++◌, Option, Some, None}
+
+-- What a source has left: these bytes come, and then what it has left then. One that doesn't tell says no more than that.
+abbrev pub Gives : Option (List ℕ) → Option (List ℕ) → List ℕ → Type 0
+Gives None None bytes = Unit {0}
+Gives None (Some rest) bytes = ⊥
+Gives (Some coming) None bytes = ⊥
+Gives (Some coming) (Some rest) bytes = coming ≡ bytes ++ rest
+
+-- nothing is left, where it is told
+abbrev pub IsAtEnd : Option (List ℕ) → Type 0
+IsAtEnd None = Unit {0}
+IsAtEnd (Some coming) = coming ≡ []
+
+-- A sink took these bytes behind those that it had taken. It may stop telling, and doesn't begin to tell.
+abbrev pub Takes : Option (List ℕ) → Option (List ℕ) → List ℕ → Type 0
+Takes before None bytes = Unit {0}
+Takes None (Some now) bytes = ⊥
+Takes (Some before) (Some now) bytes = now ≡ before ++ bytes
+
+-- It took bytes from the front, and all but the rest of them.
+abbrev pub TakesUpTo : Option (List ℕ) → Option (List ℕ) → List ℕ → List ℕ → Type 0
+TakesUpTo before now bytes rest = (front : List ℕ) × (bytes ≡ front ++ rest) × Takes before now front
+
+-- It took bytes from the front, perhaps all of them, perhaps none.
+abbrev pub TakesPrefix : Option (List ℕ) → Option (List ℕ) → List ℕ → Type 0
+TakesPrefix before now bytes = (rest : List ℕ) × TakesUpTo before now bytes rest

@@ -1,0 +1,152 @@
+// A whole input.
+ghost use Rattle.std.specs.Prelude.{◌≡◌, ℕ, ◌≤◌, List, OnOk, IfOk, IfSome, IsErrOf, Ok};
+ghost use Rattle.pm_region.specs.State.{Rose};
+ghost use Rattle.fs_text.specs.Input.{input_of};
+ghost use Rattle.fs_text.specs.Reading.{Answers};
+ghost use Rattle.fs_text.specs.Stages.{input_or_stop, StopsAs};
+ghost use Rattle.fs_text.specs.Streams.{IsAtEnd};
+
+use crate::fields::first_line;
+use crate::line::Line;
+use crate::reading::{ReadError, read_all};
+use crate::source::Source;
+use crate::stages::{Built, Stop, UntilError, judge_at_stage};
+use crate::totals::Totals;
+use std::alloc::Global;
+use std::marker::Model;
+use thiserror::Error;
+
+/// The lines of an input in order, which contracts see as a list.
+#[derive(Debug, Drop)]
+pub struct Input {
+    lines: Vec<Line>,
+}
+
+impl Model for Input {
+    ghost use Rattle.std.specs.Prelude.{List};
+    ghost use Rattle.fs_text.specs.declared.line.Line.{Line};
+
+    ghost Value = { List Line };
+
+    ghost view = { λ a. a.lines.items };
+}
+
+impl Input {
+    /// The input of these lines. It takes no memory.
+    pub fn of(lines: Vec<Line>) -> Input
+        ensures { result ≡ lines.items }
+    {
+        Input { lines }
+    }
+
+    /// The lines in order.
+    pub fn lines(&self) -> &[Line]
+        ensures { result.now ≡ self.now }
+    {
+        self.lines.as_slice()
+    }
+
+    /// Gives the lines back. It takes no memory.
+    pub fn into_lines(self) -> Vec<Line>
+        ensures { result.items ≡ self }
+    {
+        self.lines
+    }
+}
+
+/// Why an input gives no lines.
+#[derive(Clone, Copy, Debug, PartialEq, Eq, Error)]
+pub enum InputError {
+    /// This line, counted from 1, is the first that breaks a rule, and this is the first rule that it breaks.
+    #[error("line {line}: rule {rule}")]
+    BadInput { line: u64, rule: u32 },
+    /// The source failed.
+    #[error("the source failed")]
+    SourceFault,
+    /// No memory.
+    #[error("out of memory")]
+    Memory,
+}
+
+impl From<ReadError> for InputError {
+    ghost use Rattle.fs_text.specs.Reading.{as_input_error};
+
+    ghost from_gives = { λ e r. r ≡ as_input_error e };
+
+    fn from(error: ReadError) -> InputError {
+        match error {
+            ReadError::SourceFault => InputError::SourceFault,
+            ReadError::Memory => InputError::Memory,
+        }
+    }
+}
+
+/// The lines of an input, or the first one that isn't good by what is built.
+pub fn parse_until(
+    alloc: Global,
+    bytes: &[u8],
+    cores: u32,
+    built: Built,
+) -> Result<Input, UntilError>
+    ensures exact { StopsAs result (input_or_stop built cores bytes.now) }
+    ensures no_fault { IsErrOf result UntilError.SourceFault → ⊥ }
+{
+    let mut lines = Vec::new(alloc);
+    let mut totals = Totals::none();
+    let mut number = 1u64;
+    let mut rest = bytes;
+    while !rest.is_empty() {
+        let first = first_line(rest);
+        let (line, next) = judge_at_stage(alloc, built, cores, number, &totals, &first)?;
+        lines.push(line)?;
+        totals = next;
+        number += 1;
+        rest = first.rest;
+    }
+    Ok(Input::of(lines))
+}
+
+/// The lines of an input, or the first one that breaks a rule.
+pub fn parse_input(alloc: Global, bytes: &[u8], cores: u32) -> Result<Input, InputError>
+    ensures exact { Answers result (input_of cores bytes.now) }
+    ensures no_fault { IsErrOf result InputError.SourceFault → ⊥ }
+{
+    match parse_until(alloc, bytes, cores, Built::all()) {
+        Ok(input) => Ok(input),
+        Err(UntilError::Stop(Stop::Bad { line, rule })) => Err(InputError::BadInput { line, rule }),
+        Err(UntilError::Memory) => Err(InputError::Memory),
+        Err(UntilError::Stop(Stop::NotBuilt { .. })) => unreachable!(),
+        Err(UntilError::SourceFault) => unreachable!(),
+    }
+}
+
+/// Reads a source to its end, and gives its lines, or the first one that isn't good by what is built. A source of more
+/// bytes than an input may have is read up to one byte past them.
+pub fn read_until<S: Source>(
+    alloc: Global,
+    source: &mut S,
+    cores: u32,
+    built: Built,
+) -> Result<Input, UntilError>
+    ensures exact { IfSome (S.coming source.old) (λ bytes. StopsAs result (input_or_stop built cores bytes)) }
+    ensures some { (bytes : List ℕ) × StopsAs result (input_or_stop built cores bytes) }
+    ensures end { OnOk result (IsAtEnd (S.coming source.new)) }
+    ensures cause { IsErrOf result UntilError.SourceFault → Rose (S.fault_count source.old) (S.fault_count source.new) }
+    ensures count { S.fault_count source.old ≤ S.fault_count source.new }
+{
+    let bytes = read_all(alloc, source)?;
+    parse_until(alloc, &bytes, cores, built)
+}
+
+/// Reads a source to its end, and gives its lines, or the first one that breaks a rule. A source of more bytes than an
+/// input may have is read up to one byte past them.
+pub fn read_input<S: Source>(alloc: Global, source: &mut S, cores: u32) -> Result<Input, InputError>
+    ensures exact { IfSome (S.coming source.old) (λ bytes. Answers result (input_of cores bytes)) }
+    ensures some { (bytes : List ℕ) × Answers result (input_of cores bytes) }
+    ensures end { OnOk result (IsAtEnd (S.coming source.new)) }
+    ensures cause { IsErrOf result InputError.SourceFault → Rose (S.fault_count source.old) (S.fault_count source.new) }
+    ensures count { S.fault_count source.old ≤ S.fault_count source.new }
+{
+    let bytes = read_all(alloc, source)?;
+    parse_input(alloc, &bytes, cores)
+}

@@ -1,0 +1,34 @@
+// Where an input comes from.
+ghost use Rattle.std.specs.Prelude.{◌≡◌, ℕ, ◌<◌, ◌≤◌, List, Option, length, take, IfOk, OnErr};
+ghost use Rattle.pm_region.specs.State.{Rose};
+ghost use Rattle.fs_text.specs.Streams.{Gives, IsAtEnd};
+
+use thiserror::Error;
+
+/// A read that failed.
+#[derive(Clone, Copy, Debug, PartialEq, Eq, Error)]
+#[error("the source failed")]
+pub struct SourceFault;
+
+/// Bytes that come one piece after the other, and then end.
+pub trait Source {
+    /// The bytes still to come, where the source tells them. A real stream doesn't.
+    ghost coming: { Self → Option (List ℕ) };
+
+    /// How many reads have failed.
+    ghost fault_count: { Self → ℕ };
+
+    /// Puts the next bytes at the front of `buf`, and answers how many. It answers 0 at the end, and where `buf` has
+    /// no room. A read that fails takes nothing away from what is still to come.
+    fn read(&mut self, buf: &mut [u8]) -> Result<usize, SourceFault>
+        ensures within { IfOk result (λ n. n ≤ length buf.new) }
+        ensures gives { IfOk result (λ n. Gives (coming self.old) (coming self.new) (take n buf.new)) }
+        ensures end { IfOk result (λ n. n ≡ 0 → 0 < length buf.old → IsAtEnd (coming self.new)) }
+        ensures err { OnErr result (coming self.new ≡ coming self.old) }
+        ensures cause { OnErr result (Rose (fault_count self.old) (fault_count self.new)) }
+        ensures count { fault_count self.old ≤ fault_count self.new };
+
+    /// How many reads have failed. The count stands still at the type's end.
+    fn faults(&self) -> u64
+        ensures { result ≡ fault_count self.now };
+}

@@ -1,0 +1,55 @@
+// A reader of std as a source.
+ghost use Rattle.std.specs.Prelude.{◌≡◌, ◌≤◌, length, None, IfSome};
+
+use crate::source::{Source, SourceFault};
+use std::io::{ErrorKind, Read};
+
+/// A reader of std. It tells nothing of what is to come.
+#[derive(Drop)]
+pub struct StdSource<T: Read + Drop> {
+    reader: T,
+    faults: u64,
+}
+
+impl<T: Read + Drop> StdSource<T> {
+    /// A source that reads from this reader. A read that a signal interrupts is tried again.
+    pub fn over(reader: T) -> StdSource<T>
+        ensures { result.faults ≡ 0 }
+    {
+        StdSource { reader, faults: 0 }
+    }
+}
+
+impl<T: Read + Drop> Source for StdSource<T> {
+    ghost coming = { λ s. None };
+
+    ghost fault_count = { λ s. s.faults };
+
+    fn read(&mut self, buf: &mut [u8]) -> Result<usize, SourceFault> {
+        match read_retrying(&mut self.reader, buf) {
+            Some(count) => Ok(count),
+            None => {
+                self.faults = self.faults.saturating_add(1);
+                Err(SourceFault)
+            }
+        }
+    }
+
+    fn faults(&self) -> u64 {
+        self.faults
+    }
+}
+
+// Reads once, and again where a signal interrupts it. None where it failed.
+fn read_retrying<T: Read>(reader: &mut T, buf: &mut [u8]) -> Option<usize>
+    ensures { IfSome result (λ n. n ≤ length buf.new) }
+{
+    for _ in 0..u64::MAX {
+        match reader.read(buf) {
+            Ok(count) => return Some(count),
+            Err(error) if error.kind() == ErrorKind::Interrupted => {}
+            Err(_) => break,
+        }
+    }
+    None
+}

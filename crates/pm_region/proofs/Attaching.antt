@@ -1,0 +1,22 @@
+-- What an attach says of the region over a volume.
+use Rattle.std.proofs.Common.{◌≡◌, ◌⊎◌, ℕ, ◌≤◌, ◌<◌, ◌*◌, ◌/◌, Bool, List, get_or, length, nat_le, if◌then◌else◌, refl, sym, ◌∙◌, ap, arith}
+use Rattle.pm_region.specs.Cell.{MayBe}
+use Rattle.pm_region.specs.State.{State, IsTelling, InRange, cell_now}
+use Rattle.pm_region.specs.Split.{words_in, Attached}
+use Rattle.pm_region.specs.Volumes.{volume_state, found_in}
+use Rattle.pm_region.specs.declared.volume.Volume.{Volume}
+use Rattle.pm_region.proofs.Now.{may_find}
+
+-- by the bytes that it has then
+pub attached_own : (old new : State) (bytes : ℕ) (image : ℕ → ℕ) → Attached old new bytes image → Attached old new new.frame.bytes image
+attached_own old new bytes image is = record {
+  first = is.first;
+  words = is.words ∙ ap (λ (n : ℕ). words_in n) (sym is.bytes_are);
+  bytes_are = refl;
+  parted = is.parted;
+  stamp = is.stamp;
+  certainly = is.certainly;
+}
+
+pub volume_finds : (v : Volume) (r n w : ℕ) → IsTelling (volume_state v r n) → InRange (volume_state v r n).frame w → MayBe (cell_now (volume_state v r n) w) (found_in v w)
+volume_finds v r n w telling within = may_find v.history v.attached v.parted v.cuts.items v.bytes r n v.at_zero w telling within

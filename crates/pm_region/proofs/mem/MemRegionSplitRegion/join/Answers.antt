@@ -1,0 +1,14 @@
+use Rattle.std.proofs.Common.{◌≡◌, ◌<◌, ◌≤◌, ℕ, List, length, get_or, sym, ◌∙◌, subst, arith}
+use Rattle.pm_region.specs.Split.{TakesPiece}
+use Rattle.pm_region.specs.Volumes.{volume_state}
+use Rattle.pm_region.specs.Mem.{mem_piece_state}
+use Rattle.pm_region.specs.declared.mem.MemPiece.{MemPiece}
+use Rattle.pm_region.proofs.mem.MemRegionSplitRegion.join.Goals as goal
+
+pub returns-clause-pieces : goal.returns-clause-pieces
+returns-clause-pieces c = λ i p.
+    let r = c.args.self.now.counts.refusals in
+    let n = c.greatest_count-self.result in
+    subst (λ (l : List MemPiece). i < length l → TakesPiece (volume_state c.join.new.self r n) (mem_piece_state (get_or l i p))) c.deref-2.ensures.value
+    (λ lt. c.join.ensures.pieces i p lt r n (get_or c.deref-2.result.now i p).faults
+    (subst (λ (l : List MemPiece). i < length l → (get_or l i p).faults ≤ n) (c.deref.ensures.value ∙ sym c.deref-2.ensures.value) (c.greatest_count-self.ensures.pieces i p) lt))

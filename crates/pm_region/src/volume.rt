@@ -1,0 +1,181 @@
+// What the two regions in memory have in common: all but their counts.
+ghost use Rattle.std.specs.Prelude.{◌≡◌, ℕ, ◌+◌, ◌-◌, ◌*◌, ◌^◌, ◌≤◌, ◌<◌, List, [], true, false, length, slice_index, slice_index_or, IfOk, OnOk, OnErr, IsErrOf};
+ghost use Rattle.pm_region.specs.Cell.{Cell, certain, store_at, flush_line, fence_range, unchanged};
+ghost use Rattle.pm_region.specs.State.{State, Frame, IsTold, IsTelling, cell_now};
+ghost use Rattle.pm_region.specs.Split.{words_in};
+ghost use Rattle.pm_region.specs.Bytes.{word_at};
+
+use crate::bytes::words_of;
+use crate::history::History;
+use crate::image::{ImageError, Pick};
+use crate::part::Part;
+use crate::pieces::{latest_stamp, take_back};
+use std::alloc::{AllocError, Global};
+
+/// Words in memory with their whole history, and how they are attached and split. `bytes` is the length of what an
+/// attach finds, which need not be whole words.
+#[derive(Drop)]
+pub struct Volume {
+    pub history: History,
+    pub bytes: u64,
+    pub attached: bool,
+    pub parted: bool,
+    pub cuts: Vec<u64>,
+    ghost at_zero: { history.first ≡ 0 },
+    ghost long: { length history.words.items ≡ words_in bytes },
+    ghost within: { (i : ℕ) → i < length cuts.items → slice_index cuts.items i ≤ length history.words.items },
+}
+
+impl Volume {
+    ghost use Rattle.pm_region.specs.Volumes.{volume_state, volume_words, found_in, limit_of, VolumeMoves, VolumeAttached, VolumeStays, VolumeParted, VolumeJoined, CamePart, TakesPart};
+    ghost use Rattle.pm_region.specs.Image.{picked};
+
+    /// A volume whose attach finds these bytes, with room for so many steps.
+    pub fn new(alloc: Global, bytes: &[u8], steps: u64) -> Result<Volume, AllocError>
+        ensures found { IfOk result (λ v. (w : ℕ) → w < words_in (length bytes.now) → found_in v w ≡ word_at bytes.now w) }
+        ensures closed { IfOk result (λ v. volume_words v ≡ 0) }
+        ensures bytes { IfOk result (λ v. v.bytes ≡ length bytes.now) }
+        ensures limit { IfOk result (λ v. limit_of v ≡ steps) }
+    {
+        let words = words_of(alloc, bytes)?;
+        let history = History::new(alloc, &words, steps)?;
+        Ok(Volume {
+            history,
+            bytes: bytes.len() as u64,
+            attached: false,
+            parted: false,
+            cuts: Vec::new(alloc),
+        })
+    }
+
+    /// A volume, not attached yet, whose attach finds one of the images that a crash at this stamp may have left.
+    pub fn image(&self, alloc: Global, stamp: u64, pick: Pick) -> Result<Volume, ImageError>
+        ensures not_told { IsErrOf result ImageError.NotTold → (r n : ℕ) → IsTold (volume_state self.now r n) stamp → ⊥ }
+        ensures told { OnOk result ((r n : ℕ) → IsTold (volume_state self.now r n) stamp) }
+        ensures image { IfOk result (λ v. (r n w : ℕ) → w < words_in self.now.bytes → found_in v w ≡ picked pick w ((volume_state self.now r n).cells stamp w)) }
+        ensures closed { IfOk result (λ v. volume_words v ≡ 0) }
+        ensures bytes { IfOk result (λ v. v.bytes ≡ self.now.bytes) }
+        ensures limit { IfOk result (λ v. limit_of v ≡ limit_of self.now) }
+    {
+        let words = self.history.image(alloc, stamp, pick)?;
+        let history = History::new(alloc, &words, self.history.journal.limit)?;
+        Ok(Volume {
+            history,
+            bytes: self.bytes,
+            attached: false,
+            parted: false,
+            cuts: Vec::new(alloc),
+        })
+    }
+
+    pub fn words(&self) -> u64
+        ensures { result ≡ volume_words self.now }
+    {
+        if self.attached && !self.parted {
+            self.history.len()
+        } else {
+            0
+        }
+    }
+
+    pub fn stamp(&self) -> u64
+        ensures { (r n : ℕ) → result ≡ (volume_state self.now r n).stamp }
+    {
+        self.history.journal.stamp
+    }
+
+    pub fn load(&self, at: u64) -> u64
+        requires { at < volume_words self.now }
+        ensures { (r n : ℕ) → IsTelling (volume_state self.now r n) → result ≡ (cell_now (volume_state self.now r n) at).last }
+    {
+        self.history.load(at)
+    }
+
+    pub fn store(&mut self, at: u64, value: u64)
+        requires { at < volume_words self.old }
+        ensures { VolumeMoves self.old self.new (store_at at value) }
+    {
+        self.history.store(at, value);
+    }
+
+    pub fn flush(&mut self, line: u64)
+        requires { 8 * line + 8 ≤ volume_words self.old }
+        ensures { VolumeMoves self.old self.new (flush_line line) }
+    {
+        self.history.flush(line);
+    }
+
+    pub fn fence(&mut self)
+        ensures { VolumeMoves self.old self.new (fence_range 0 (volume_words self.old)) }
+    {
+        let words = self.words();
+        self.history.fence(0, words);
+    }
+
+    /// A fence that failed.
+    pub fn stand(&mut self)
+        ensures { VolumeMoves self.old self.new unchanged }
+    {
+        self.history.stand();
+    }
+
+    pub fn attach(&mut self, alloc: Global) -> Result<(), AllocError>
+        ensures ok { OnOk result (VolumeAttached self.old self.new self.old.bytes (found_in self.old)) }
+        ensures wide { OnOk result ((w : ℕ) → w < volume_words self.new → found_in self.old w < 2 ^ 64) }
+        ensures err { OnErr result (self.new ≡ self.old) }
+        ensures limit { limit_of self.new ≡ limit_of self.old }
+    {
+        self.history.restart(alloc)?;
+        self.attached = true;
+        self.parted = false;
+        self.cuts.clear();
+        Ok(())
+    }
+
+    pub fn create(&mut self, alloc: Global, words: u64) -> Result<(), AllocError>
+        requires { words ≤ 33554944 }
+        ensures ok { OnOk result (VolumeAttached self.old self.new (8 * words) (λ w. 0)) }
+        ensures err { OnErr result (self.new ≡ self.old) }
+        ensures limit { limit_of self.new ≡ limit_of self.old }
+    {
+        let zeros = vec![in alloc; 0; words as usize]?;
+        self.history = History::new(alloc, &zeros, self.history.journal.limit)?;
+        self.bytes = 8 * words;
+        self.attached = true;
+        self.parted = false;
+        self.cuts.clear();
+        Ok(())
+    }
+
+    /// Parts it at these cuts, with room for the steps of so many pieces.
+    pub fn part(&mut self, pieces: u64, cuts: Vec<u64>) -> Result<(), AllocError>
+        requires { (i : ℕ) → i < length cuts.items → slice_index cuts.items i ≤ volume_words self.old }
+        ensures ok { OnOk result (VolumeParted self.old self.new cuts.items) }
+        ensures err { OnErr result (VolumeStays self.old self.new) }
+        ensures limit { limit_of self.new ≡ limit_of self.old }
+    {
+        self.history.make_room(pieces)?;
+        self.parted = true;
+        self.cuts = cuts;
+        Ok(())
+    }
+
+    /// Takes its pieces back.
+    pub fn join<P: Part>(&mut self, pieces: &[P])
+        requires parted { self.old.parted ≡ true }
+        requires count { length pieces.now ≡ length self.old.cuts.items - 1 }
+        requires pieces { (i : ℕ) (p : P) → i < length pieces.now → CamePart self.old i (P.part (slice_index_or pieces.now i p)) }
+        ensures whole { VolumeJoined self.old self.new }
+        ensures pieces { (i : ℕ) (p : P) → i < length pieces.now → TakesPart self.new (P.part (slice_index_or pieces.now i p)) }
+        ensures limit { limit_of self.new ≡ limit_of self.old }
+    {
+        let before = self.history.journal.is_complete();
+        let latest = latest_stamp(pieces, self.history.journal.stamp);
+        self.history.close();
+        let complete = take_back(&mut self.history, pieces, before);
+        self.history.reopen(latest, complete);
+        self.attached = true;
+        self.parted = false;
+        self.cuts.clear();
+    }
+}
