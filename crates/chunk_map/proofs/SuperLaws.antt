@@ -92,7 +92,7 @@ no_magic l is image zero =
     let other : (image 0 == magic) ≡ false = ap (λ (n : ℕ). n == magic) zero in
     cond-true _ _ _ (length_kept l is) ∙ cond-false (image 0 == magic && image 1 == 1) _ _ (and_left (image 0 == magic) (image 1 == 1) other)
 
-keeps_rules : (l : Geometry) → IsLayout l → (image : ℕ → ℕ) → IsSuperblock l image → superblock_rule (total_bytes l) image ≡ None
+pub keeps_rules : (l : Geometry) → IsLayout l → (image : ℕ → ℕ) → IsSuperblock l image → superblock_rule (total_bytes l) image ≡ None
 keeps_rules l is image has =
     let first = and_from (image 0 == magic) (image 1 == 1) (eq-eqb (image 0) magic has.magic_is) (eq-eqb (image 1) 1 has.format) in
     let same : (is_none (layout_rule (layout_of image)) && total_bytes l == total_bytes (layout_of image)) ≡ true =

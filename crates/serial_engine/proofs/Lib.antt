@@ -6,4 +6,5 @@ pub mod Opened
 pub mod Stored
 pub mod Steps
 pub mod Requests
+pub mod Starts
 pub mod Appended

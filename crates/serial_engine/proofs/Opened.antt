@@ -24,7 +24,7 @@ use Rattle.serial_engine.proofs.Appends.{stays_moments}
 use Rattle.serial_engine.proofs.Puts.{log_chunk_reads}
 
 -- a Free chunk reads, and has no entries
-free_reads : (l : Geometry) (image : ℕ → ℕ) (at : ℕ) → image at ≡ 0 → chunk_reads l image at ≡ true
+pub free_reads : (l : Geometry) (image : ℕ → ℕ) (at : ℕ) → image at ≡ 0 → chunk_reads l image at ≡ true
 free_reads l image at is = (λ i. head_reads (head_by l (is i) (image (at + 1))) (scan_behind image at (head_by l (is i) (image (at + 1)))))
 
 pub free_entries : (l : Geometry) (image : ℕ → ℕ) (c j : ℕ) → image (chunk_first l c j) ≡ 0 → chunk_entries l image c j ≡ []

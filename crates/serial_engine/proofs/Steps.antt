@@ -3,7 +3,7 @@ use Rattle.std.proofs.Common.{◌≡◌, ◌⊎◌, inl, inr, ⊎_elim, ℕ, ◌
 use Rattle.std.proofs.lemmas.Bool.{cases_lt, cases_eq, eq-eqb, ne_eqb}
 use Rattle.pm_region.specs.Cell.{Cell}
 use Rattle.pm_region.specs.State.{State, Frame, IsTold, IsTelling, cell_now, Over, During, MayLeave}
-use Rattle.pm_region.proofs.Moments.{along, over_weaken}
+use Rattle.pm_region.proofs.Moments.{along, over_weaken, over_started}
 use Rattle.fs_model.specs.declared.model.Request.{Request}
 use Rattle.fs_model.specs.declared.model.Request.TheVariants.{Put, Get, Delete}
 use Rattle.fs_model.specs.declared.model.Reply.{Reply}
@@ -114,3 +114,24 @@ module _ (s0 s : State) (start : ℕ → Option (List ℕ)) (done : List Request
                 holds_all s0.frame.bytes start more replies' (with_finish start done replies r s.stamp cell q reply A t.stamp low) t.stamp next B n image past
                 (subst (λ (f : Frame). HoldsCells f.bytes next image) frame_is (shown_holds s.frame.bytes l next (with_at lasts key version) image one (exit telling image here))))
               (cases_lt n t.stamp))
+
+-- Before the first request, with a report that names none.
+pub nothing_answered : (start : ℕ → Option (List ℕ)) (now : ℕ) → Answered start [] [] (record { finishes = []; refusals = [] }) now start
+nothing_answered start now = record {
+  lawful = record { count = refl; each = λ k. tt };
+  fits = record { named = λ i. refl; told = λ i. refl; why = λ j i r e. absurd (none_is e) };
+  cells = λ k. refl;
+  going = λ k. refl;
+  left = λ k. refl;
+  settled = λ k. refl;
+  finishes = λ i e. absurd (cc e);
+  refusals = λ i e. absurd (cc e);
+  counted = λ k t. omega arith;
+  whole = λ k t low. refl;
+} where
+  none_is : {X : Type 0} {x : X} → None ≡ Some x → ⊥
+  none_is e = cc e
+
+pub images_at_start : (s : State) (start : ℕ → Option (List ℕ)) → (IsTelling s → EachImage s.frame (HoldsCells s.frame.bytes start) (cell_now s)) → RecoversSoFar s s start [] (record { finishes = []; refusals = [] })
+images_at_start s start holds = over_started s (λ t cells. EachImage s.frame (Recovers s.frame.bytes start [] (record { finishes = []; refusals = [] }) (λ k. finished_by k [] [] t)) cells)
+    (λ telling image may. holds_all s.frame.bytes start [] [] (record { finishes = []; refusals = [] }) s.stamp start (nothing_answered start s.stamp) s.stamp image (omega arith) (holds telling image may))

@@ -5,3 +5,4 @@ pub mod Ready
 pub mod Answers
 pub mod Refusals
 pub mod Going
+pub mod Empty

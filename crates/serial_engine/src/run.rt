@@ -3,6 +3,8 @@ ghost use Rattle.std.specs.Prelude.{◌≡◌, ◌⊎◌, ℕ, ◌+◌, ◌^◌,
 ghost use Rattle.std.specs.List.{AllByRecursion};
 ghost use Rattle.pm_region.specs.State.{State, Rose};
 ghost use Rattle.fs_model.specs.declared.model.Request.{Request};
+ghost use Rattle.serial_engine.specs.Cells.{cell_of};
+ghost use Rattle.serial_engine.specs.Going.{Going};
 ghost use Rattle.serial_engine.specs.Ready.{Ready};
 
 use crate::answers::Answers;
@@ -24,7 +26,7 @@ pub struct Run {
 impl Run {
     ghost use Rattle.fs_model.specs.declared.model.Request.TheVariants.{Put, Get};
     ghost use Rattle.serial_engine.specs.Answers.{HasRoom};
-    ghost use Rattle.serial_engine.specs.Going.{IsServed, IsReady, Going, AnswersOne, AnswersNone, AnswersList, AnswersSome};
+    ghost use Rattle.serial_engine.specs.Going.{IsServed, IsReady, AnswersOne, AnswersNone, AnswersList, AnswersSome};
 
     fn get(&mut self, alloc: Global, key: Key) -> Result<(), Memory>
         requires room { HasRoom self.old.answers }
@@ -102,5 +104,18 @@ impl Run {
             self.answer(alloc, region, request)?;
         }
         Ok(())
+    }
+}
+
+/// A run that begins: no request is answered yet.
+pub fn begin(alloc: Global, store: Store) -> Run
+    ensures going { (s : State) → Ready s store → Going s s (cell_of store.cells) [] result }
+    ensures store { result.store ≡ store }
+    ensures stopped { result.stopped ≡ false }
+{
+    Run {
+        store,
+        answers: Answers::new(alloc),
+        stopped: false,
     }
 }

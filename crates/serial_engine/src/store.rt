@@ -1,11 +1,12 @@
 // One core's log with its free chunks and the cells of the keys.
-ghost use Rattle.std.specs.Prelude.{◌≡◌, ◌⊎◌, ℕ, ◌+◌, ◌-◌, ◌*◌, ◌/◌, ◌^◌, ◌<◌, ◌≤◌, length, true, IfOk, OnOk, OnErr};
+ghost use Rattle.std.specs.Prelude.{◌≡◌, ◌⊎◌, ℕ, ◌+◌, ◌-◌, ◌*◌, ◌/◌, ◌^◌, ◌<◌, ◌≤◌, length, slice_index, None, true, IfOk, OnOk, OnErr};
 ghost use Rattle.std.specs.List.{AllByRecursion};
 ghost use Rattle.serial_engine.specs.Refusals.{lines_needed};
 ghost use Rattle.pm_region.specs.State.{State, During, IsTelling, Rose};
 
 use crate::answers::{Counts, Shortage};
 use crate::cells::Cells;
+use chunk_map::layouts::Layout;
 use core_log::CoreLog;
 use fs_errors::Memory;
 use fs_model::{Key, Reply, Value, Version};
@@ -15,6 +16,9 @@ use std::alloc::Global;
 
 // The greatest version of a put.
 const LAST_PUT: Version = 1_048_574;
+
+// The words of the longest entry.
+const LONGEST_ENTRY: u64 = 34;
 
 /// The log of the one core of a region, with what is not in it: which chunks are free, and the cells.
 #[derive(Drop)]
@@ -37,7 +41,26 @@ impl Store {
     ghost use Rattle.serial_engine.specs.Moments.{EachImage, ShowsEither};
     ghost use Rattle.serial_engine.specs.Shows.{Shows};
     ghost use Rattle.serial_engine.specs.Ready.{Ready};
+    ghost use Rattle.serial_engine.specs.Empty.{IsEmptyRegion};
     ghost use Rattle.serial_engine.specs.Refusals.{IsRefusal, lines_needed};
+
+    /// The store of a region of one core with nothing in it.
+    pub fn empty(alloc: Global, layout: Layout) -> Result<Store, Memory>
+        requires one { layout.cores ≡ 1 }
+        ensures layout { IfOk result (λ store. store.log.layout ≡ layout) }
+        ensures ready { IfOk result (λ store. (s : State) → IsEmptyRegion s layout → Ready s store) }
+        ensures cells { IfOk result (λ store. (k : ℕ) → cell_of store.cells k ≡ None) }
+    {
+        let log = CoreLog::open(alloc, layout, 0, Vec::new(alloc))?;
+        let free = falling(alloc, layout.chunks())?;
+        let batch = WordBuffer::with_room(alloc, LONGEST_ENTRY)?;
+        Ok(Store {
+            log,
+            cells: Cells::new(alloc),
+            free,
+            batch,
+        })
+    }
 
     /// Opens the lowest free chunk where the open one has too few free lines.
     fn make_room<R: Region>(&mut self, region: &mut R, lines: u64) -> Result<(), RegionFault>
@@ -170,4 +193,17 @@ pub fn lines_needed(value: &[u8]) -> u64
     ensures bytes { AllByRecursion (λ b. b < 256) value.now }
 {
     (2 + (value.len() as u64 + 7) / 8 + 7) / 8
+}
+
+// The numbers below a count, the greatest first.
+fn falling(alloc: Global, count: u32) -> Result<Vec<u32>, Memory>
+    requires { count ≤ 64 }
+    ensures few { IfOk result (λ v. length v.items ≡ count) }
+    ensures at { IfOk result (λ v. (i : ℕ) → i < count → slice_index v.items i + i + 1 ≡ count) }
+{
+    let mut numbers = Vec::with_capacity(alloc, count as usize)?;
+    for i in 0..count {
+        numbers.push(count - 1 - i)?;
+    }
+    Ok(numbers)
 }

@@ -1,0 +1,5 @@
+pub mod Commands
+pub mod Statuses
+pub mod Fresh
+pub mod Promise
+pub mod Played

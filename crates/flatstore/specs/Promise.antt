@@ -1,0 +1,81 @@
+-- What a call of the program promises, over the region, the source and the sink before and after it.
+use Rattle.std.specs.Prelude.{◌≡◌, ◌⊎◌, ℕ, List, [], ◌++◌, Bool, true, false, Option, Some, None, Result, Ok, Err}
+use Rattle.fs_model.specs.declared.model.Request.{Request}
+use Rattle.store_image.specs.Soundness.{IsSound}
+use Rattle.pm_region.specs.State.{State, IsTelling, Rose}
+use Rattle.pm_region.specs.Split.{Attached}
+use Rattle.fs_text.specs.declared.line.Line.{Line}
+use Rattle.fs_text.specs.declared.stages.Built.{Built}
+use Rattle.fs_text.specs.declared.stages.Stop.{Stop}
+use Rattle.fs_text.specs.declared.stages.Stop.TheVariants as stops
+use Rattle.fs_text.specs.Input.{trace_of}
+use Rattle.fs_text.specs.Stages.{input_or_stop}
+use Rattle.fs_text.specs.Streams.{Takes}
+use Rattle.headline.specs.Headline.{Told, cells_of, WritesReplies, BeginsReplies, RecoversThroughout, RecoversAll}
+use Rattle.serial_engine.specs.Answers.{told}
+use Rattle.flatstore.specs.Fresh.{IsFresh}
+use Rattle.flatstore.specs.declared.report.Status.{Status}
+use Rattle.flatstore.specs.declared.report.Status.TheVariants as statuses
+use Rattle.flatstore.specs.declared.report.Report.{Report}
+
+-- a source that tells what comes gives this input; one that doesn't may give any
+abbrev pub IsInput : Option (List ℕ) → List ℕ → Type 0
+IsInput None input = Unit {0}
+IsInput (Some coming) input = coming ≡ input
+
+-- what a report says of the requests
+abbrev pub told_in : Report → Told
+told_in r = told r.finishes.items r.refusals.items
+
+-- The sink took the whole text of lawful replies that fit the report, or the beginning of such a text.
+abbrev pub WritesAll : (ℕ → Option (List ℕ)) → List Request → Told → Option (List ℕ) → Option (List ℕ) → Type 0
+WritesAll start trace r before now = (written : List ℕ) × Takes before now written × WritesReplies start trace r written
+
+abbrev pub WritesFront : (ℕ → Option (List ℕ)) → List Request → Told → Option (List ℕ) → Option (List ℕ) → Type 0
+WritesFront start trace r before now = (written : List ℕ) × Takes before now written × BeginsReplies start trace r written
+
+-- The headline, of a replay of this input on a region that was attached with these words.
+pub record Replays (old new : State) (found : ℕ → ℕ) (input : List ℕ) (before now : Option (List ℕ)) (sink_faults sink_faults' : ℕ) (r : Report) : Type 0 where
+  -- At the end the whole text was written: also where a call of the region failed, but for attaching, and no write did.
+  pub done : r.status ≡ statuses.Done → IsTelling new → WritesAll (cells_of found) (trace_of (found 2) input) (told_in r) before now
+  pub failed : r.status ≡ statuses.RegionFault → (Rose old.frame.refusals new.frame.refusals → ⊥) → (Rose sink_faults sink_faults' → ⊥) → IsTelling new → WritesAll (cells_of found) (trace_of (found 2) input) (told_in r) before now
+  pub begins : IsTelling new → WritesFront (cells_of found) (trace_of (found 2) input) (told_in r) before now
+  -- Whatever a crash leaves at any told moment since the attach is sound, and recovers for each key its finished changes, or one more.
+  pub crash : RecoversThroughout new (cells_of found) (trace_of (found 2) input) (told_in r)
+  -- At the end it recovers all.
+  pub last : r.status ≡ statuses.Done → RecoversAll new (cells_of found) (trace_of (found 2) input) (told_in r)
+
+-- what is built: neither deletes nor `go` lines, nor values of 256 bytes and more
+abbrev pub built_now : Built
+built_now = record { delete = false; go = false; blocks = false }
+
+abbrev pub status_of : Result (List Line) Stop → Status
+status_of (Ok lines) = statuses.Done
+status_of (Err (stops.Bad line rule)) = statuses.BadInput line rule
+status_of (Err (stops.NotBuilt line)) = statuses.NotBuilt line
+
+-- the status that the words found and the input alone decide
+abbrev pub IsDue : ℕ → (ℕ → ℕ) → List ℕ → Status → Type 0
+IsDue bytes found input status =
+    ((IsFresh bytes found → ⊥) × (status ≡ statuses.NotBuilt 0)) ⊎ (IsFresh bytes found × (status ≡ status_of (input_or_stop built_now 1 input)))
+
+-- a fault, or want of memory
+abbrev pub IsFault : State → State → ℕ → ℕ → ℕ → ℕ → Status → Type 0
+IsFault old new source source' sink sink' status =
+    (status ≡ statuses.Memory) ⊎ (((status ≡ statuses.SourceFault) × Rose source source') ⊎ (((status ≡ statuses.SinkFault) × Rose sink sink') ⊎ ((status ≡ statuses.RegionFault) × Rose old.faults new.faults)))
+
+-- a status at which nothing was written and no word of the region changed
+abbrev pub is_quiet : Status → Bool
+is_quiet statuses.Done = false
+is_quiet statuses.Usage = true
+is_quiet (statuses.BadInput line rule) = true
+is_quiet statuses.SourceFault = true
+is_quiet statuses.SinkFault = false
+is_quiet statuses.RegionFault = false
+is_quiet statuses.Memory = false
+is_quiet (statuses.NotBuilt line) = true
+
+-- a line stops the reading
+abbrev pub is_stop : Result (List Line) Stop → Bool
+is_stop (Ok lines) = false
+is_stop (Err stop) = true

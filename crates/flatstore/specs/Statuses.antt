@@ -1,0 +1,25 @@
+-- Exit statuses, and the lines on standard error.
+use Rattle.std.specs.Prelude.{ℕ, List, [], ◌++◌, codes}
+use Rattle.std.specs.Int.Decimal.{decimal}
+use Rattle.flatstore.specs.declared.report.Status.{Status}
+use Rattle.flatstore.specs.declared.report.Status.TheVariants.{Done, Usage, BadInput, SourceFault, SinkFault, RegionFault, Memory, NotBuilt}
+
+abbrev pub exit_code : Status → ℕ
+exit_code Done = 0
+exit_code Usage = 1
+exit_code (BadInput line rule) = 2
+exit_code SourceFault = 3
+exit_code SinkFault = 4
+exit_code RegionFault = 5
+exit_code Memory = 8
+exit_code (NotBuilt line) = 20
+
+abbrev pub fault_line : Status → List ℕ
+fault_line Done = []
+fault_line Usage = codes "flatstore: usage: flatstore format REGION --cores N --group N --chunks N --chunk-bytes N, replay REGION, run REGION, dump REGION, log REGION, load REGION START COUNT"
+fault_line (BadInput line rule) = codes "flatstore: line " ++ (decimal line ++ (codes " breaks input rule " ++ decimal rule))
+fault_line SourceFault = codes "flatstore: reading the input failed"
+fault_line SinkFault = codes "flatstore: writing the output failed"
+fault_line RegionFault = codes "flatstore: the region failed"
+fault_line Memory = codes "flatstore: out of memory"
+fault_line (NotBuilt line) = codes "flatstore: not built yet: line " ++ decimal line

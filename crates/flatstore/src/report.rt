@@ -1,0 +1,92 @@
+// What a call of the program reports.
+ghost use Rattle.std.specs.Prelude.{◌≡◌, ℕ, ◌<◌, [], IfOk, string_bytes};
+ghost use Rattle.flatstore.specs.Statuses.{exit_code, fault_line};
+
+use fs_errors::Memory;
+use serial_engine::answers::{Finish, Refusal};
+use std::alloc::Global;
+
+/// How a call ended.
+#[derive(Clone, Copy, Debug, PartialEq, Eq)]
+pub enum Status {
+    /// Every request was answered, and the text was written.
+    Done,
+    /// The words are no form of the program.
+    Usage,
+    /// This line of the input, counted from 1, is the first that breaks a rule, and this is the first rule that it breaks.
+    BadInput { line: u64, rule: u32 },
+    /// A read of the input failed.
+    SourceFault,
+    /// A write of the output failed.
+    SinkFault,
+    /// A call of the region failed.
+    RegionFault,
+    /// No memory was to be had.
+    Memory,
+    /// What is asked isn't built yet: by this line of the input, counted from 1, or by the region where it is 0.
+    NotBuilt { line: u64 },
+}
+
+/// How a call ended, and what it reports of the requests. Requests are numbered from 0 in the order of the input.
+#[derive(Drop)]
+pub struct Report {
+    pub status: Status,
+    /// One for each change that was answered `Stored` or `Deleted`.
+    pub finishes: Vec<Finish>,
+    /// One for each request that was refused for a cause of its own.
+    pub refusals: Vec<Refusal>,
+    /// Whether the region was attached in this call.
+    pub attached: bool,
+}
+
+impl Report {
+    /// A report of a call that answered no request.
+    pub fn of(alloc: Global, status: Status, attached: bool) -> Report
+        ensures status { result.status ≡ status }
+        ensures finishes { result.finishes.items ≡ [] }
+        ensures refusals { result.refusals.items ≡ [] }
+        ensures attached { result.attached ≡ attached }
+    {
+        Report {
+            status,
+            finishes: Vec::new(alloc),
+            refusals: Vec::new(alloc),
+            attached,
+        }
+    }
+}
+
+impl Status {
+    /// The status with which the program exits.
+    pub fn code(&self) -> u8
+        ensures { result ≡ exit_code self.now }
+    {
+        match self {
+            Status::Done => 0,
+            Status::Usage => 1,
+            Status::BadInput { .. } => 2,
+            Status::SourceFault => 3,
+            Status::SinkFault => 4,
+            Status::RegionFault => 5,
+            Status::Memory => 8,
+            Status::NotBuilt { .. } => 20,
+        }
+    }
+
+    /// The line for standard error, without a newline at its end. There is none at `Done`, and the text is empty.
+    pub fn text(&self, alloc: Global) -> Result<String, Memory>
+        ensures { IfOk result (λ text. string_bytes text ≡ fault_line self.now) }
+    {
+        let text = match self {
+            Status::Done => format!(in alloc; "")?,
+            Status::Usage => format!(in alloc; "flatstore: usage: flatstore format REGION --cores N --group N --chunks N --chunk-bytes N, replay REGION, run REGION, dump REGION, log REGION, load REGION START COUNT")?,
+            Status::BadInput { line, rule } => format!(in alloc; "flatstore: line {line} breaks input rule {rule}")?,
+            Status::SourceFault => format!(in alloc; "flatstore: reading the input failed")?,
+            Status::SinkFault => format!(in alloc; "flatstore: writing the output failed")?,
+            Status::RegionFault => format!(in alloc; "flatstore: the region failed")?,
+            Status::Memory => format!(in alloc; "flatstore: out of memory")?,
+            Status::NotBuilt { line } => format!(in alloc; "flatstore: not built yet: line {line}")?,
+        };
+        Ok(text)
+    }
+}
