@@ -7,3 +7,6 @@ pub mod OpenLaws
 pub mod FreshLaws
 pub mod WithoutLaws
 pub mod RetireLaws
+pub mod ItemLaws
+pub mod WalkLaws
+pub mod Clients

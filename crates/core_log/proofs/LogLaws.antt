@@ -67,14 +67,12 @@ own_open log j own lt = record {
 }
 
 -- where a chunk of the part lies
-pub chunk_lies : (s : State) (log : LogState) (j t : ℕ) → StandsIn s log → IsChunkOf log.layout (chunk_with j t) → ChunkLies s.frame (first_of log j) (chunk_words log.layout) t
-chunk_lies s log j t stands is =
+pub part_lies : (f : Frame) (log : LogState) (j t : ℕ) → IsOwn log → f.first ≤ part_first log.layout log.part → part_first log.layout (log.part + 1) ≤ f.first + f.words
+    → IsChunkOf log.layout (chunk_with j t) → ChunkLies f (first_of log j) (chunk_words log.layout) t
+part_lies f log j t own low high is =
     let l = log.layout in
-    let own = stands.own in
     let numbers = numbers_of l own.layout in
     let inside = chunk_in_part l log.part j is.within in
-    let low = stands.low in
-    let high = stands.high in
     let total = numbers.total in
     let end : 8 * part_first l (log.part + 1) ≤ 4096 + l.cores * l.chunks * l.chunk_bytes = part_within l log.part own.layout own.part in
     let line = chunk_first_whole l log.part j numbers.size in
@@ -86,6 +84,9 @@ chunk_lies s log j t stands is =
       tail_in = (tail_fits l own.layout (chunk_with j t) is).0;
       tail_whole = is.whole;
     }
+
+pub chunk_lies : (s : State) (log : LogState) (j t : ℕ) → StandsIn s log → IsChunkOf log.layout (chunk_with j t) → ChunkLies s.frame (first_of log j) (chunk_words log.layout) t
+chunk_lies s log j t stands is = part_lies s.frame log j t stands.own stands.low stands.high is
 
 pub kept_last : (a b : Cell) → Kept a b → b.last ≡ a.last
 kept_last a b kept = ⊎_elim (λ same. ap (λ (c : Cell). c.last) same) (λ after. ap (λ (c : Cell). c.last) after) kept

@@ -26,7 +26,7 @@ use Rattle.core_log.proofs.LogLaws.{own_chunk, chunk_lies, log_kept, words_kept,
 use Rattle.core_log.proofs.BatchLaws.{entries_read}
 use Rattle.core_log.proofs.WithoutLaws.{without_other, without_self, rising_without, all_without}
 
-is_tail : (o : Option ℕ) → is_some o ≡ true → o ≡ Some (unwrap_or o 0)
+pub is_tail : (o : Option ℕ) → is_some o ≡ true → o ≡ Some (unwrap_or o 0)
 is_tail None some = absurd (cc some)
 is_tail (Some t) some = refl
 

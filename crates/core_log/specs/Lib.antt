@@ -5,3 +5,4 @@ pub mod Entries
 pub mod Opening
 pub mod Fresh
 pub mod Retiring
+pub mod Walking

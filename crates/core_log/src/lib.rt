@@ -5,6 +5,7 @@ mod chunk;
 mod log;
 mod tails;
 mod types;
+mod walking;
 
 pub use log::CoreLog;
-pub use types::{LogChunk, Placed, Room};
+pub use types::{LogChunk, Peek, Placed, Room, WalkStep};

@@ -1,5 +1,5 @@
 // A core's log: its chunks with their tails, and which of them is open.
-ghost use Rattle.std.specs.Prelude.{◌≡◌, ◌≢◌, ◌⊎◌, ℕ, ◌+◌, ◌*◌, ◌/◌, ◌%◌, ◌^◌, ◌≤◌, ◌<◌, List, length, Some, None, true, is_some, OnOk, OnErr, IfOk};
+ghost use Rattle.std.specs.Prelude.{◌≡◌, ◌≢◌, ◌⊎◌, ℕ, ◌+◌, ◌*◌, ◌/◌, ◌%◌, ◌^◌, ◌≤◌, ◌<◌, List, length, Some, None, true, is_some, OnOk, OnErr, IfOk, IfSome, Option, option_map};
 ghost use Rattle.std.specs.List.{flat_map, AllByRecursion};
 ghost use Rattle.pm_region.specs.State.{State, During, IsTelling, cell_now, Rose};
 ghost use Rattle.pm_region.specs.Words.{KeepsOutside, EachIn, Surely, lasts};
@@ -12,11 +12,13 @@ ghost use Rattle.core_log.specs.Log.{LogState, IsOwn, tail_of, with_tail, withou
 ghost use Rattle.core_log.specs.Fresh.{HasEachOnce, IsEmptiest};
 ghost use Rattle.core_log.specs.Opening.{EachInChunk, HasNoEntries, OpenedChunk};
 ghost use Rattle.core_log.specs.Retiring.{HasSameOrNone, RetiredChunk};
+ghost use Rattle.core_log.specs.Walking.{LiesIn, IsReadable, entries_in, next_entry, step_at, peek_at};
 ghost use Rattle.core_log.specs.Entries.{open_entries, added_entries, HasEntries, HasEntriesOrLacks, AppendedBatch};
 
 use crate::chunk::append_at;
 use crate::tails::{emptiest, set_tail, sorted, tail_of, take_out};
-use crate::types::{LogChunk, Placed};
+use crate::types::{LogChunk, Peek, Placed, WalkStep};
+use crate::walking::{peek_from, walk_from};
 use chunk_map::heads::Head;
 use chunk_map::layouts::Layout;
 use chunk_map::setting::set_head;
@@ -225,5 +227,49 @@ impl CoreLog {
         set_head(region, at, Head::Free)?;
         self.lose_chunk(chunk);
         Ok(())
+    }
+
+    fn tail_in(&self, chunk: u32) -> u64
+        ensures { result ≡ tail_in self.now chunk }
+    {
+        tail_of(&self.chunks, chunk).unwrap_or(0)
+    }
+
+    /// The next entry of a chunk of the log at or after a place, without its body; none exactly where no
+    /// entry stands there before the tail. A place is a word of the payload.
+    pub fn peek<R: Region>(&self, region: &R, chunk: u32, place: u64) -> Option<Peek>
+        requires lies { LiesIn (R.state region.now).frame self.now }
+        requires has { is_some (tail_of self.now.chunks chunk) ≡ true }
+        requires readable { IsReadable (R.state region.now) self.now chunk place }
+        ensures told { IsTelling (R.state region.now) → result ≡ option_map (peek_at (first_of self.now chunk + 32)) (next_entry place (entries_in (R.state region.now) self.now chunk)) }
+        // Reading may go on behind the entry.
+        ensures next { IfSome result (λ p. IsReadable (R.state region.now) self.now chunk p.next) }
+        ensures within { IfSome result (λ p. (place ≤ p.place) × (p.place < p.next)) }
+        ensures at { IfSome result (λ p. p.at ≡ first_of self.now chunk + 32 + p.place) }
+    {
+        let first = self.first_of(chunk) + 32;
+        let tail = self.tail_in(chunk);
+        peek_from(region, first, place, tail)
+    }
+
+    /// The same with the body.
+    pub fn walk<R: Region>(
+        &self,
+        alloc: Global,
+        region: &R,
+        chunk: u32,
+        place: u64,
+    ) -> Result<Option<WalkStep>, Memory>
+        requires lies { LiesIn (R.state region.now).frame self.now }
+        requires has { is_some (tail_of self.now.chunks chunk) ≡ true }
+        requires readable { IsReadable (R.state region.now) self.now chunk place }
+        ensures told { IfOk result (λ step. IsTelling (R.state region.now) → step ≡ option_map step_at (next_entry place (entries_in (R.state region.now) self.now chunk))) }
+        // Reading may go on behind the entry.
+        ensures next { IfOk result (λ step. IfSome step (λ s. IsReadable (R.state region.now) self.now chunk s.next)) }
+        ensures within { IfOk result (λ step. IfSome step (λ s. (place ≤ s.place) × (s.place < s.next))) }
+    {
+        let first = self.first_of(chunk) + 32;
+        let tail = self.tail_in(chunk);
+        walk_from(alloc, region, first, place, tail)
     }
 }

@@ -1,4 +1,5 @@
 // What callers of a log hand in and get back.
+use log_entry::{Entry, EntryName};
 
 /// A chunk of a log, by its number in the part. Of its payload the words before `tail` hold batches.
 #[derive(Clone, Copy, Debug, PartialEq, Eq)]
@@ -12,6 +13,23 @@ pub struct LogChunk {
 pub struct Placed {
     pub chunk: u32,
     pub place: u64,
+}
+
+/// An entry of a chunk, with its place and the place behind it: words of the payload.
+#[derive(Drop)]
+pub struct WalkStep {
+    pub entry: Entry,
+    pub place: u64,
+    pub next: u64,
+}
+
+/// The same without the body. `at` is the entry's first word, as a word number of the region.
+#[derive(Clone, Copy, Debug, PartialEq, Eq)]
+pub struct Peek {
+    pub name: EntryName,
+    pub place: u64,
+    pub next: u64,
+    pub at: u64,
 }
 
 /// The room of a part, in lines and chunks.

@@ -13,7 +13,7 @@ use Rattle.fs_text.specs.Input.{Before, lines_of, on_front, size_with, line_at, 
 use Rattle.fs_text.specs.Stages.{line_or_stop, lines_or_stop, input_or_stop, staged, is_closed, puts_block, behind}
 use Rattle.fs_text.proofs.FirstBytes.{IsFirstAt, IsMissing, lines_at, lines_missing}
 
-guarded : {A : Type 0} (b : Bool) (r : Result A ℕ) (e : ℕ) (y : A) → cond b r (Err e) ≡ Ok y → (b ≡ true) × (r ≡ Ok y)
+pub guarded : {A : Type 0} (b : Bool) (r : Result A ℕ) (e : ℕ) (y : A) → cond b r (Err e) ≡ Ok y → (b ≡ true) × (r ≡ Ok y)
 guarded true r e y h = (refl, h)
 guarded false r e y h = cc
 
@@ -21,7 +21,7 @@ with_line_bytes : (b : Before) (size : ℕ) (line : Line) → (with_line b size 
 with_line_bytes b size (Ask q) = refl
 with_line_bytes b size (Go core turns) = refl
 
-counted_ok : (b : Before) (line : Line) (y : Line × Before) → counted b line ≡ Ok y → y ≡ (line, b)
+pub counted_ok : (b : Before) (line : Line) (y : Line × Before) → counted b line ≡ Ok y → y ≡ (line, b)
 counted_ok b line y h =
     let one = guarded (nat_le b.requests 1000000) (cond (nat_le b.turns 16777216) (Ok (line, b)) (Err 9)) 8 y h in
     let two = guarded (nat_le b.turns 16777216) (Ok (line, b)) 9 y one.1 in cc two.1
@@ -30,7 +30,7 @@ count_line_ok : (b : Before) (size : ℕ) (r : Result Line ℕ) (y : Line × Bef
 count_line_ok b size (Ok line) y h = ap (λ (z : Line × Before). z.1.bytes) (counted_ok (with_line b size line) line y h) ∙ with_line_bytes b size line
 count_line_ok b size (Err rule) y h = cc
 
-le_true : (m n : ℕ) → nat_le m n ≡ true → m ≤ n
+pub le_true : (m n : ℕ) → nat_le m n ≡ true → m ≤ n
 le_true m n h = grind (arith, common_steps)
 
 gt_false : (m n : ℕ) → n < m → nat_le m n ≡ false

@@ -20,11 +20,11 @@ behind_front : (x : Line) (r : Result (List Line) (ℕ × ℕ)) → behind x (as
 behind_front x (Ok xs) = refl
 behind_front x (Err e) = refl
 
-goes_on : (cores number : ℕ) (b : Before) (x : List ℕ × Bool) (xs : List (List ℕ × Bool)) (y : Line × Before)
+pub goes_on : (cores number : ℕ) (b : Before) (x : List ℕ × Bool) (xs : List (List ℕ × Bool)) (y : Line × Before)
     → line_at cores b x ≡ Ok y → lines_from cores number b (x ∷ xs) ≡ with_front y.0 (lines_from cores (number + 1) y.1 xs)
 goes_on cores number b x xs y e = rw (lines_from, e) refl
 
-breaks : (cores number : ℕ) (b : Before) (x : List ℕ × Bool) (xs : List (List ℕ × Bool)) (rule : ℕ)
+pub breaks : (cores number : ℕ) (b : Before) (x : List ℕ × Bool) (xs : List (List ℕ × Bool)) (rule : ℕ)
     → line_at cores b x ≡ Err rule → lines_from cores number b (x ∷ xs) ≡ Err (number, rule)
 breaks cores number b x xs rule e = rw (lines_from, e) refl
 
@@ -65,7 +65,7 @@ whole_rule cores bytes line rule h = rule_back (input_of cores bytes) line rule 
 pub whole_built : (cores : ℕ) (bytes : List ℕ) (line : ℕ) → input_or_stop everything cores bytes ≡ Err (NotBuilt line) → ⊥
 whole_built cores bytes line h = never_unbuilt (input_of cores bytes) line (sym (all_built cores bytes) ∙ h)
 
-ok_no_error : {A B : Type 0} (x : A) (y : B) → Ok x ≡ Err y → ⊥
+pub ok_no_error : {A B : Type 0} (x : A) (y : B) → Ok x ≡ Err y → ⊥
 ok_no_error x y h = cc
 
 back_error : (r : Result (List Line) (ℕ × ℕ)) (e : Stop) → as_stop r ≡ Err e → (f : ℕ × ℕ) × (r ≡ Err f) × (Bad f.0 f.1 ≡ e)

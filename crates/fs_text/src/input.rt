@@ -1,6 +1,7 @@
 // A whole input.
 ghost use Rattle.std.specs.Prelude.{◌≡◌, ℕ, ◌≤◌, List, OnOk, IfOk, IfSome, IsErrOf, Ok};
 ghost use Rattle.pm_region.specs.State.{Rose};
+ghost use Rattle.fs_text.specs.Bounds.{IsWithin};
 ghost use Rattle.fs_text.specs.Input.{input_of};
 ghost use Rattle.fs_text.specs.Reading.{Answers};
 ghost use Rattle.fs_text.specs.Stages.{input_or_stop, StopsAs};
@@ -130,6 +131,7 @@ pub fn read_until<S: Source>(
 ) -> Result<Input, UntilError>
     ensures exact { IfSome (S.coming source.old) (λ bytes. StopsAs result (input_or_stop built cores bytes)) }
     ensures some { (bytes : List ℕ) × StopsAs result (input_or_stop built cores bytes) }
+    ensures within { IfOk result (λ input. IsWithin cores input) }
     ensures end { OnOk result (IsAtEnd (S.coming source.new)) }
     ensures cause { IsErrOf result UntilError.SourceFault → Rose (S.fault_count source.old) (S.fault_count source.new) }
     ensures count { S.fault_count source.old ≤ S.fault_count source.new }
@@ -143,6 +145,7 @@ pub fn read_until<S: Source>(
 pub fn read_input<S: Source>(alloc: Global, source: &mut S, cores: u32) -> Result<Input, InputError>
     ensures exact { IfSome (S.coming source.old) (λ bytes. Answers result (input_of cores bytes)) }
     ensures some { (bytes : List ℕ) × Answers result (input_of cores bytes) }
+    ensures within { IfOk result (λ input. IsWithin cores input) }
     ensures end { OnOk result (IsAtEnd (S.coming source.new)) }
     ensures cause { IsErrOf result InputError.SourceFault → Rose (S.fault_count source.old) (S.fault_count source.new) }
     ensures count { S.fault_count source.old ≤ S.fault_count source.new }

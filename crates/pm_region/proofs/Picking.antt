@@ -56,8 +56,11 @@ picked_more first start steps pick image image' i at d lt only repicks are = rec
   count = repicks.count ∙ are.count;
   each = λ k within. ⊎_elim (λ here. inl (repicks.here k within here)) (λ other. ⊎_elim
       (λ done. inl (repicks.others k within other ∙ done))
-      (λ was. inr (repicks.others k within other ∙ was.0, more steps i d (first + k) (certain (get_or start k 0)) lt ∙ ap (λ (c : Cell). act (get_or steps i d) (first + k) c) was.1
-        ∙ stays_certain (get_or steps i d) (first + k) (get_or start k 0) (λ here. other (only (first + k) here))))
+      (λ was. inr (
+        repicks.others k within other ∙ was.0,
+        more steps i d (first + k) (certain (get_or start k 0)) lt ∙ ap (λ (c : Cell). act (get_or steps i d) (first + k) c) was.1
+            ∙ stays_certain (get_or steps i d) (first + k) (get_or start k 0) (λ here. other (only (first + k) here)),
+      ))
       (are.each k within)) (cases_eq (first + k) at);
 }
 
@@ -65,7 +68,7 @@ picked_more first start steps pick image image' i at d lt only repicks are = rec
 pub all_picked : (first : ℕ) (start : List ℕ) (steps : List Step) (pick : Pick) (image : List ℕ) → ArePicked first start steps pick image (length steps) → (k : ℕ) → k < length start → get_or image k 0 ≡ pick_of first start steps pick k
 all_picked first start steps pick image are k lt = ⊎_elim (λ done. done)
     (λ was. was.0 ∙ sym (picked_certain pick (first + k) (get_or start k 0))
-      ∙ ap (λ (c : Cell). picked pick (first + k) c) (sym was.1 ∙ ap (λ (l : List Step). cell_after l (first + k) (certain (get_or start k 0))) (take_all (length steps) steps (omega arith)))) (are.each k lt)
+    ∙ ap (λ (c : Cell). picked pick (first + k) c) (sym was.1 ∙ ap (λ (l : List Step). cell_after l (first + k) (certain (get_or start k 0))) (take_all (length steps) steps (omega arith)))) (are.each k lt)
 
 -- the word of a store
 pub stores_that : (s : Step) (at value : ℕ) → s ≡ Store at value → (w : ℕ) → Stores s w → w ≡ at

@@ -308,8 +308,7 @@ fn open_words<R: Files<File = File>>(
     alloc: Global,
     rt: &R,
     path: &str,
-) -> Result<(File, FileWords), AttachError>
-{
+) -> Result<(File, FileWords), AttachError> {
     let file = or_fault(open_file(rt, path))?;
     let size = or_fault(file.metadata())?.len();
     let count = word_count(size) as usize;

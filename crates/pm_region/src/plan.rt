@@ -51,11 +51,7 @@ impl Counts {
 }
 
 /// The numbers of the fences of one piece.
-pub fn fences_of(
-    alloc: Global,
-    fences: &[FenceNumber],
-    piece: u64,
-) -> Result<Vec<u64>, AllocError>
+pub fn fences_of(alloc: Global, fences: &[FenceNumber], piece: u64) -> Result<Vec<u64>, AllocError>
     ensures { IfOk result (λ numbers. numbers.items ≡ numbers_in piece fences.now) }
 {
     let mut numbers = Vec::new(alloc);

@@ -75,10 +75,17 @@ fn images_of_a_steady_region(rt: HostRuntime) -> Result<(), Fail> {
         (4, Pick::Oldest, 5),
         (4, Pick::Newest, 6),
     ] {
-        assert_eq!(rt; first_of_image(alloc, &region, stamp, pick), Ok(want), "at {stamp}");
+        assert_eq!(rt;
+            first_of_image(alloc, &region, stamp, pick),
+            Ok(want),
+            "at {stamp}"
+        );
     }
     put(&mut region, 0, 7);
-    assert_eq!(rt; first_of_image(alloc, &region, 5, Pick::Newest), Err(ImageError::NotTold));
+    assert_eq!(rt;
+        first_of_image(alloc, &region, 5, Pick::Newest),
+        Err(ImageError::NotTold)
+    );
     assert_eq!(rt; first_of_image(alloc, &region, 4, Pick::Newest), Ok(6));
     Ok(())
 }
@@ -88,7 +95,12 @@ fn faults_of_a_region(rt: HostRuntime) -> Result<(), Fail> {
     let alloc = rt.alloc();
     let bytes = vec![in alloc; 0u8; 64]?;
     let opens = vec![in alloc; 1]?;
-    let fences = vec![in alloc; FenceNumber { piece: 0, number: 2 }]?;
+    let fences = vec![in alloc;
+        FenceNumber {
+            piece: 0,
+            number: 2
+        },
+    ]?;
     let mut region = MemRegion::new(alloc, bytes, 100, Faults { opens, fences })?;
     assert_eq!(rt; region.attach(alloc), Err(AttachError::RegionFault));
     assert_eq!(rt; region.faults(), 1);
@@ -140,8 +152,12 @@ fn words_of_a_file(rt: HostRuntime) -> Result<(), Fail> {
     assert_eq!(rt; region.create(alloc, 16), Ok(()));
     assert_eq!(rt; region.words(), 16);
     assert_eq!(rt; region.attach(alloc), Ok(()));
-    assert_eq!(rt; get(&region, 8), 0);
     assert_eq!(rt; region.bytes(), 128);
+    assert_eq!(rt; region.words(), 16);
+    assert_eq!(rt; write_part(alloc, &mut region, 8, 21), Ok(true));
+    assert_eq!(rt; get(&region, 0), 21);
+    assert_eq!(rt; region.attach(alloc), Ok(()));
+    assert_eq!(rt; get(&region, 0), 21);
     fs::remove_file(&rt, name)?;
     assert_eq!(rt; region.attach(alloc), Err(AttachError::RegionFault));
     assert_eq!(rt; region.faults(), 1);
@@ -190,7 +206,10 @@ fn pieces_of_a_region(rt: HostRuntime) -> Result<(), Fail> {
     assert_eq!(rt; region.words(), 16);
     assert_eq!(rt; region.stamp(), 4);
     assert_eq!(rt; first_of_image(alloc, &region, 4, Pick::Oldest), Ok(77));
-    assert_eq!(rt; first_of_image(alloc, &region, 3, Pick::Oldest), Err(ImageError::NotTold));
+    assert_eq!(rt;
+        first_of_image(alloc, &region, 3, Pick::Oldest),
+        Err(ImageError::NotTold)
+    );
     Ok(())
 }
 
@@ -199,7 +218,12 @@ fn faults_of_a_piece(rt: HostRuntime) -> Result<(), Fail> {
     let alloc = rt.alloc();
     let bytes = vec![in alloc; 0u8; 128]?;
     let opens = vec![in alloc; 3]?;
-    let fences = vec![in alloc; FenceNumber { piece: 1, number: 1 }]?;
+    let fences = vec![in alloc;
+        FenceNumber {
+            piece: 1,
+            number: 1
+        },
+    ]?;
     let mut region = MemRegion::new(alloc, bytes, 100, Faults { opens, fences })?;
     region.attach(alloc)?;
     assert_eq!(rt; region.words(), 16);

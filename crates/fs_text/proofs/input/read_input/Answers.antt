@@ -1,6 +1,7 @@
 use Rattle.std.proofs.Common.{subst}
 use Rattle.fs_text.specs.Input.{input_of}
 use Rattle.fs_text.specs.Reading.{Answers}
+use Rattle.fs_text.proofs.Within.{answer_within}
 use Rattle.fs_text.proofs.ReadBytes.{told_input, ended_input}
 use Rattle.fs_text.proofs.input.read_input.Goals as goal
 
@@ -14,3 +15,6 @@ pub returns-clause-end : goal.returns-clause-end
 returns-clause-end g c =
     ended_input (g.S.Source.coming c.read_all.new.source) c.in_ok-bytes.bytes.items c.args.cores c.parse_input.result c.in_ok-bytes.ensures.end
     (subst (λ xs. Answers c.parse_input.result (input_of c.args.cores xs)) c.deref.ensures.value c.parse_input.ensures.exact)
+
+pub returns-clause-within : goal.returns-clause-within
+returns-clause-within g c = answer_within c.args.cores c.deref.result.now c.parse_input.result c.parse_input.ensures.exact

@@ -15,7 +15,7 @@ loop-step-preserved c =
     let i = c.loop-step.step-index in
     let lt = c.loop-step-test.true in
     elim c.match-step.branch [
-      in-Store+in_ok-pick_word w ↦
+      | in-Store+in_ok-pick_word w ↦
           subst (λ (l : List ℕ). ArePicked first start steps pick l (i + 1)) (sym (ap (λ v. v.items) w.image-is))
           (picked_more first start steps pick c.loop-step.image.items w.pick_word.new.image.items i w.in-Store.at (Store 0 0) lt
           (stores_that (get_or steps i (Store 0 0)) w.in-Store.at w.in-Store.value w.in-Store.is) w.in_ok-pick_word.ensures c.loop-step.invariant)

@@ -11,7 +11,7 @@ loop-fence-preserved c =
     let i = c.loop-fence.fence-index in
     let lt = c.loop-fence-test.true in
     elim c.if-from-piece.branch [
-      then-from-piece+in_ok-push w ↦
+      | then-from-piece+in_ok-push w ↦
           ap (λ v. v.items) w.numbers-is ∙ w.in_ok-push.ensures.items ∙ ap (λ (l : List ℕ). l ++ (get_or fences i d).number ∷ []) c.loop-fence.invariant
           ∙ sym (numbers_with c.args.piece fences i d lt (sym c.from.ensures ∙ w.if-from-piece.true))
       | else-from-piece w ↦
