@@ -1,1 +1,4 @@
 pub mod Inputs
+pub mod Answering
+pub mod Attached
+pub mod Replaying

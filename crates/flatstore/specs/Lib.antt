@@ -2,4 +2,5 @@ pub mod Commands
 pub mod Statuses
 pub mod Fresh
 pub mod Promise
+pub mod Reads
 pub mod Played

@@ -1,21 +1,19 @@
 -- What a replay did between attaching and writing.
-use Rattle.std.specs.Prelude.{◌≡◌, ◌⊎◌, ℕ, List, [], ◌++◌, Bool, true, false, Option, Some, None, Result, Ok, Err}
-use Rattle.std.specs.List.{filter_map}
+use Rattle.std.specs.Prelude.{◌≡◌, ◌⊎◌, ℕ, List, [], ◌++◌, Bool, true, false, Option, Some, None}
 use Rattle.fs_model.specs.declared.model.Request.{Request}
 use Rattle.fs_model.specs.declared.model.Reply.{Reply}
 use Rattle.fs_model.specs.Changes.{cell_after_all}
 use Rattle.pm_region.specs.State.{State, IsTelling, cell_now, Rose}
 use Rattle.pm_region.specs.Words.{lasts}
-use Rattle.fs_text.specs.declared.line.Line.{Line}
-use Rattle.fs_text.specs.Input.{request_in}
-use Rattle.fs_text.specs.Stages.{input_or_stop}
 use Rattle.headline.specs.Headline.{changes_in, cells_of}
 use Rattle.headline.specs.Run.{Recorded}
 use Rattle.serial_engine.specs.Moments.{EachImage}
 use Rattle.serial_engine.specs.Answers.{told_by}
 use Rattle.serial_engine.specs.Going.{RecoversSoFar}
 use Rattle.flatstore.specs.Fresh.{IsFresh}
-use Rattle.flatstore.specs.Promise.{IsInput, built_now, status_of, is_stop}
+use Rattle.fs_text.specs.Streams.{Takes, TakesPrefix}
+use Rattle.fs_text.specs.Output.{replies_text}
+use Rattle.flatstore.specs.Reads.{IsRead, IsUnread}
 use Rattle.flatstore.specs.declared.report.Status.{Status}
 use Rattle.flatstore.specs.declared.report.Status.TheVariants as statuses
 use Rattle.flatstore.specs.declared.replay.Ended.{Ended}
@@ -24,22 +22,33 @@ use Rattle.flatstore.specs.declared.replay.Ended.{Ended}
 abbrev pub no_cells : ℕ → Option (List ℕ)
 no_cells k = None
 
-pub record Played (s t : State) (coming : Option (List ℕ)) (e : Ended) : Type 0 where
-  pub fresh : IsTelling s → IsFresh s.frame.bytes (lasts s)
-  pub input : List ℕ
-  pub is_input : IsInput coming input
-  pub lines : List Line
-  pub read : input_or_stop built_now 1 input ≡ Ok lines
-  pub images : RecoversSoFar s t no_cells (filter_map request_in lines) (told_by e.answers)
-  pub lawful : (more : List Reply) × Recorded no_cells (filter_map request_in lines) (e.answers.replies.items ++ more) (told_by e.answers)
-  pub whole : e.complete ≡ true → Recorded no_cells (filter_map request_in lines) e.answers.replies.items (told_by e.answers)
+-- What answering these requests did, from an empty store.
+pub record HasAnswered (s t : State) (trace : List Request) (e : Ended) : Type 0 where
+  pub images : RecoversSoFar s t no_cells trace (told_by e.answers)
+  pub lawful : (more : List Reply) × Recorded no_cells trace (e.answers.replies.items ++ more) (told_by e.answers)
+  pub whole : e.complete ≡ true → Recorded no_cells trace e.answers.replies.items (told_by e.answers)
   pub all : e.complete ≡ true → e.stopped ≡ false → IsTelling t
-      → EachImage t.frame (λ image. (k : ℕ) → cells_of image k ≡ cell_after_all (changes_in no_cells (filter_map request_in lines) (told_by e.answers) k) None) (cell_now t)
+      → EachImage t.frame (λ image. (k : ℕ) → cells_of image k ≡ cell_after_all (changes_in no_cells trace (told_by e.answers) k) None) (cell_now t)
   pub cause : e.stopped ≡ true → Rose s.faults t.faults
+
+-- and of a whole replay
+pub record Played (s t : State) (coming : Option (List ℕ)) (e : Ended) : Type 0 where
+  pub fresh_bytes : s.frame.bytes ≡ 20480
+  pub fresh : IsTelling s → IsFresh s.frame.bytes (lasts s)
+  pub trace : List Request
+  pub read : IsRead coming trace
+  pub answered : HasAnswered s t trace e
 
 -- why a replay answered nothing
 abbrev pub IsRefused : State → Option (List ℕ) → ℕ → ℕ → Status → Type 0
 IsRefused s coming source source' status =
     ((status ≡ statuses.NotBuilt 0) × (IsTelling s → IsFresh s.frame.bytes (lasts s) → ⊥))
-    ⊎ (((IsTelling s → IsFresh s.frame.bytes (lasts s)) × ((input : List ℕ) × IsInput coming input × (is_stop (input_or_stop built_now 1 input) ≡ true) × (status ≡ status_of (input_or_stop built_now 1 input))))
-    ⊎ (((status ≡ statuses.SourceFault) × Rose source source') ⊎ (status ≡ statuses.Memory)))
+    ⊎ ((s.frame.bytes ≡ 20480) × (IsTelling s → IsFresh s.frame.bytes (lasts s)) × IsUnread coming source source' status)
+
+-- What the writing did: everything was written, or the front of it, and the status says which.
+abbrev pub HasWritten : Ended → Option (List ℕ) → Option (List ℕ) → ℕ → ℕ → Status → Type 0
+HasWritten e before now faults faults' status =
+    ((status ≡ statuses.Done) × (e.complete ≡ true) × (e.stopped ≡ false) × Takes before now (replies_text e.answers.replies.items))
+    ⊎ (((status ≡ statuses.RegionFault) × (e.complete ≡ true) × (e.stopped ≡ true) × (Takes before now (replies_text e.answers.replies.items) ⊎ (Rose faults faults' × TakesPrefix before now (replies_text e.answers.replies.items))))
+    ⊎ (((status ≡ statuses.SinkFault) × (e.complete ≡ true) × Rose faults faults' × TakesPrefix before now (replies_text e.answers.replies.items))
+    ⊎ ((status ≡ statuses.Memory) × (((e.complete ≡ true) × TakesPrefix before now (replies_text e.answers.replies.items)) ⊎ (now ≡ before)))))

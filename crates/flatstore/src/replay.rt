@@ -1,20 +1,33 @@
 // A replay: the input is read, and its requests are answered.
 ghost use Rattle.std.specs.Prelude.{◌≡◌, ◌⊎◌, ℕ, ◌≤◌, List, Some, None, true, false, OnOk, OnErr, IfOk, IfErr, IfSome};
 ghost use Rattle.std.specs.List.{filter_map, AllByRecursion};
-ghost use Rattle.pm_region.specs.State.{State, IsTelling, Rose};
+ghost use Rattle.pm_region.specs.Cell.{certain};
+ghost use Rattle.pm_region.specs.State.{State, IsTelling, InRange, cell_now, Rose};
+ghost use Rattle.pm_region.specs.Words.{lasts};
+ghost use Rattle.pm_region.specs.Split.{words_in};
 ghost use Rattle.fs_text.specs.Input.{request_in};
+ghost use Rattle.serial_engine.specs.Cells.{cell_of};
+ghost use Rattle.serial_engine.specs.Empty.{IsEmptyRegion};
+ghost use Rattle.serial_engine.specs.Ready.{Ready};
+ghost use Rattle.serial_engine.specs.Going.{IsServed};
+ghost use Rattle.flatstore.specs.Fresh.{fresh_layout};
+ghost use Rattle.flatstore.specs.Reads.{IsRead, IsUnread};
+ghost use Rattle.flatstore.specs.Played.{HasAnswered, Played, IsRefused};
 
 use crate::fresh::is_fresh;
-use crate::report::Status;
+use crate::report::{Report, Status};
 use chunk_map::layouts::Layout;
 use fs_errors::Memory;
 use fs_model::Request;
-use fs_text::{Built, Input, Line, Source, Stop, UntilError, read_until};
-use pm_region::SplitRegion;
+use fs_text::{Built, Input, Line, OutError, Sink, Source, Stop, UntilError, read_until, write_replies};
+use pm_region::{Region, SplitRegion};
 use serial_engine::answers::Answers;
-use serial_engine::run::Run;
+use serial_engine::run::begin;
 use serial_engine::store::Store;
 use std::alloc::Global;
+
+// The cores of the one layout that is served.
+const CORES: u32 = 1;
 
 // What is built of the forms of lines.
 const BUILT: Built = Built {
@@ -37,14 +50,31 @@ fn requests(alloc: Global, input: Input) -> Result<Vec<Request>, Memory>
     Ok(requests)
 }
 
-impl From<UntilError> for Status {
-    fn from(error: UntilError) -> Status {
-        match error {
-            UntilError::Stop(Stop::Bad { line, rule }) => Status::BadInput { line, rule },
-            UntilError::Stop(Stop::NotBuilt { line }) => Status::NotBuilt { line },
-            UntilError::SourceFault => Status::SourceFault,
-            UntilError::Memory => Status::Memory,
-        }
+/// Reads the input to its end, and gives its requests in order.
+fn read<S: Source>(alloc: Global, source: &mut S) -> Result<Vec<Request>, Status>
+    ensures ok { IfOk result (λ qs. IsRead (S.coming source.old) qs.items) }
+    ensures err { IfErr result (IsUnread (S.coming source.old) (S.fault_count source.old) (S.fault_count source.new)) }
+{
+    match read_until(alloc, source, CORES, BUILT) {
+        Ok(input) => match requests(alloc, input) {
+            Ok(requests) => Ok(requests),
+            Err(_) => Err(Status::Memory),
+        },
+        Err(UntilError::Stop(Stop::Bad { line, rule })) => Err(Status::BadInput { line, rule }),
+        Err(UntilError::Stop(Stop::NotBuilt { line })) => Err(Status::NotBuilt { line }),
+        Err(UntilError::SourceFault) => Err(Status::SourceFault),
+        Err(UntilError::Memory) => Err(Status::Memory),
+    }
+}
+
+/// The store of the fresh region.
+fn fresh_store(alloc: Global) -> Result<Store, Memory>
+    ensures ready { IfOk result (λ store. (s : State) → IsEmptyRegion s fresh_layout → Ready s store) }
+    ensures cells { IfOk result (λ store. (k : ℕ) → cell_of store.cells k ≡ None) }
+{
+    match Layout::new(CORES, 1, 4, 4096) {
+        Ok(layout) => Store::empty(alloc, layout),
+        Err(_) => unreachable!(),
     }
 }
 
@@ -58,10 +88,38 @@ pub struct Ended {
     pub complete: bool,
 }
 
-/// Reads the input and answers its requests, on a region that was attached. Where it answers a status, the region is as it was.
-pub fn replay<S: Source, R: SplitRegion>(alloc: Global, source: &mut S, region: &mut R) -> Result<Ended, Status>
+/// Answers requests in order, up to the first for which there is no memory.
+fn answer<R: Region>(alloc: Global, region: &mut R, store: Store, requests: Vec<Request>) -> Ended
+    requires ready { Ready (R.state region.old) store }
+    requires cells { (k : ℕ) → cell_of store.cells k ≡ None }
+    requires served { AllByRecursion IsServed requests.items }
+    ensures { HasAnswered (R.state region.old) (R.state region.new) requests.items result }
+{
+    let mut run = begin(alloc, store);
+    match run.answer_all(alloc, region, requests) {
+        Ok(()) => Ended {
+            answers: run.answers,
+            stopped: run.stopped,
+            complete: true,
+        },
+        Err(_) => Ended {
+            answers: run.answers,
+            stopped: run.stopped,
+            complete: false,
+        },
+    }
+}
+
+/// Reads the input and answers its requests, on a region that was attached. Where it answers a status, the region is
+/// as it was.
+pub fn replay<S: Source, R: SplitRegion>(
+    alloc: Global,
+    source: &mut S,
+    region: &mut R,
+) -> Result<Ended, Status>
     requires first { (R.state region.old).frame.first ≡ 0 }
     requires words { (R.state region.old).frame.words ≡ words_in (R.state region.old).frame.bytes }
+    requires certain { IsTelling (R.state region.old) → (w : ℕ) → InRange (R.state region.old).frame w → cell_now (R.state region.old) w ≡ certain (lasts (R.state region.old) w) }
     ensures played { IfOk result (Played (R.state region.old) (R.state region.new) (S.coming source.old)) }
     ensures refused { IfErr result (IsRefused (R.state region.old) (S.coming source.old) (S.fault_count source.old) (S.fault_count source.new)) }
     ensures untouched { OnErr result (region.new ≡ region.old) }
@@ -69,7 +127,52 @@ pub fn replay<S: Source, R: SplitRegion>(alloc: Global, source: &mut S, region: 
     if !is_fresh(region) {
         return Err(Status::NotBuilt { line: 0 });
     }
-    let requests = read(alloc, source)?;
-    let store = fresh_store(alloc)?;
-    Ok(answer(alloc, region, store, requests))
+    match read(alloc, source) {
+        Err(status) => Err(status),
+        Ok(requests) => match fresh_store(alloc) {
+            Err(_) => Err(Status::Memory),
+            Ok(store) => Ok(answer(alloc, region, store, requests)),
+        },
+    }
+}
+
+impl Ended {
+    ghost use Rattle.flatstore.specs.Played.{HasWritten};
+
+    /// Writes the replies, where every request was answered, and reports.
+    pub fn write<O: Sink>(self, alloc: Global, sink: &mut O) -> Report
+        ensures finishes { result.finishes.items ≡ self.answers.finishes.items }
+        ensures refusals { result.refusals.items ≡ self.answers.refusals.items }
+        ensures attached { result.attached ≡ true }
+        ensures written { HasWritten self (O.taken sink.old) (O.taken sink.new) (O.fault_count sink.old) (O.fault_count sink.new) result.status }
+        ensures untouched { self.complete ≡ false → sink.new ≡ sink.old }
+    {
+        let status = if !self.complete {
+            Status::Memory
+        } else {
+            match write_replies(alloc, sink, self.answers.replies.as_slice()) {
+                Err(OutError::Memory) => Status::Memory,
+                Err(OutError::SinkFault) => {
+                    if self.stopped {
+                        Status::RegionFault
+                    } else {
+                        Status::SinkFault
+                    }
+                }
+                Ok(()) => {
+                    if self.stopped {
+                        Status::RegionFault
+                    } else {
+                        Status::Done
+                    }
+                }
+            }
+        };
+        Report {
+            status,
+            finishes: self.answers.finishes,
+            refusals: self.answers.refusals,
+            attached: true,
+        }
+    }
 }

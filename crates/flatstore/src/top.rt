@@ -8,9 +8,10 @@ ghost use Rattle.flatstore.specs.Promise.{IsInput, Replays, IsDue, IsFault, is_q
 ghost use Rattle.flatstore.specs.declared.report.Status.TheVariants as statuses;
 
 use crate::command::replayed;
+use crate::replay::replay;
 use crate::report::{Report, Status};
 use fs_text::{Sink, Source};
-use pm_region::SplitRegion;
+use pm_region::{AttachError, SplitRegion};
 use std::alloc::Global;
 
 /// Does what the words of a command line ask. The first word is the program's name, and the only form so far is
@@ -49,11 +50,12 @@ pub fn flatstore<S: Source, O: Sink, R: SplitRegion>(
     if replayed(words).is_none() {
         return Report::of(alloc, Status::Usage, false);
     }
-    if let Err(error) = region.attach(alloc) {
-        return Report::of(alloc, error.into(), false);
-    }
-    match replay(alloc, source, region) {
-        Err(status) => Report::of(alloc, status, true),
-        Ok(ended) => ended.write(alloc, sink),
+    match region.attach(alloc) {
+        Err(AttachError::RegionFault) => Report::of(alloc, Status::RegionFault, false),
+        Err(AttachError::Memory) => Report::of(alloc, Status::Memory, false),
+        Ok(()) => match replay(alloc, source, region) {
+            Err(status) => Report::of(alloc, status, true),
+            Ok(ended) => ended.write(alloc, sink),
+        },
     }
 }

@@ -1,3 +1,4 @@
 pub mod Lists
 pub mod Run
 pub mod Crash
+pub mod Images

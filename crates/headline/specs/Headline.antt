@@ -31,7 +31,7 @@ refused_in r = map (λ x. x.0) r.refusals
 abbrev pub changes_in : (ℕ → Option (List ℕ)) → List Request → Told → ℕ → List Request
 changes_in start trace r k = changes_of (start k) k trace (finished_in r) (refused_in r)
 
--- H1: bytes that are the text of replies, or begin it
+-- bytes that are the text of replies, or begin it
 pub record Answers (start : ℕ → Option (List ℕ)) (trace : List Request) (r : Told) (replies : List Reply) : Type 0 where
   pub lawful : IsLawful start trace replies
   pub fits : Fits (finished_in r) r.refusals replies
@@ -42,17 +42,17 @@ WritesReplies start trace r bytes = (replies : List Reply) × Answers start trac
 abbrev pub BeginsReplies : (ℕ → Option (List ℕ)) → List Request → Told → List ℕ → Type 0
 BeginsReplies start trace r bytes = (more : List ℕ) × WritesReplies start trace r (bytes ++ more)
 
--- H2 of one image: it is sound, and recovers for each key the cell after its first f changes, or after one more
+-- One image: it is sound, and recovers for each key the cell after its first f changes, or after one more
 pub record Recovers (bytes : ℕ) (start : ℕ → Option (List ℕ)) (trace : List Request) (r : Told) (f : ℕ → ℕ) (image : ℕ → ℕ) : Type 0 where
   pub sound : IsSound bytes image
   pub cells : (k : ℕ) → k < 2 ^ 64 → IsPrefixCell (start k) (changes_in start trace r k) (f k) (cells_of image k)
 
--- H2: at each stamp that the region tells, with the finishes by that stamp
+-- At each stamp that the region tells, with the finishes by that stamp
 abbrev pub RecoversThroughout : State → (ℕ → Option (List ℕ)) → List Request → Told → Type 0
 RecoversThroughout s start trace r =
     (t : ℕ) → IsTold s t → (image : ℕ → ℕ) → MayLeave s.frame (s.cells t) image → Recovers s.frame.bytes start trace r (λ k. finished_by k trace r.finishes t) image
 
--- H2 at exit alone, with all finishes
+-- At exit alone, with all finishes
 abbrev pub RecoversAtExit : State → (ℕ → Option (List ℕ)) → List Request → Told → Type 0
 RecoversAtExit s start trace r =
     IsTelling s → (image : ℕ → ℕ) → MayLeave s.frame (cell_now s) image → Recovers s.frame.bytes start trace r (λ k. finished_by k trace r.finishes (2 ^ 64)) image
@@ -62,7 +62,7 @@ abbrev pub RecoversAll : State → (ℕ → Option (List ℕ)) → List Request 
 RecoversAll s start trace r =
     IsTelling s → (image : ℕ → ℕ) → MayLeave s.frame (cell_now s) image → (k : ℕ) → k < 2 ^ 64 → cells_of image k ≡ cell_after_all (changes_in start trace r k) (start k)
 
--- H4, of one image: it follows from the image being sound
+-- No two winners share a block: it follows from the image being sound
 abbrev pub HasOwnBlocks : (ℕ → ℕ) → Type 0
 HasOwnBlocks image =
     (j k p : ℕ) (x y : PlacedEntry) → winner (layout_of image) image j ≡ Some x → winner (layout_of image) image k ≡ Some y
