@@ -44,7 +44,7 @@ log_chunk_reads l image at tail ws bs whole fits has spelled =
     let scan : scan_at l image at ≡ scan_of ws = ap (scan_behind image at) head ∙ ap scan_of has.2 in
     (λ i. head_reads (head i) (scan i)) ∙ ap (λ (s : Scan). s.whole) (scan_spelled ws bs spelled)
 
-none_some : (o : Option ℕ) (v : ℕ) → o ≡ Some v → o ≡ None → ⊥
+pub none_some : (o : Option ℕ) (v : ℕ) → o ≡ Some v → o ≡ None → ⊥
 none_some None v a b = cc a
 none_some (Some x) v a b = cc b
 

@@ -33,7 +33,7 @@ use Rattle.serial_engine.proofs.Appends.{with_here, with_else}
 use Rattle.serial_engine.proofs.Steps.{images_stopped, images_quiet, images_failed, images_finished}
 
 -- where a run stands, by lists that are equal to its own
-going_by : (s0 s : State) (start : ℕ → Option (List ℕ)) (xs : List Request) (replies : List Reply) (r : Told) (e : Run) → e.answers.replies.items ≡ replies → told_by e.answers ≡ r
+pub going_by : (s0 s : State) (start : ℕ → Option (List ℕ)) (xs : List Request) (replies : List Reply) (r : Told) (e : Run) → e.answers.replies.items ≡ replies → told_by e.answers ≡ r
     → Recorded start xs replies r → RecoversSoFar s0 s start xs r → (e.stopped ≡ false → Answered start xs replies r s.stamp (cell_of e.store.cells)) → Going s0 s start xs e
 going_by s0 s start xs replies r e same told_is R images A = record {
   recorded = subst (λ rs. Recorded start xs rs (told_by e.answers)) (sym same) (subst (λ x. Recorded start xs replies x) (sym told_is) R);
