@@ -38,8 +38,8 @@ fresh_is_empty bytes image is =
         layout = (λ i. record { cores = cores i; group = group i; chunks = chunks i; chunk_bytes = size i });
       };
       free = λ j lt.
-        let where : chunk_first fresh_layout 0 j ≡ 512 + 512 * j = omega arith in
-        is.words (chunk_first fresh_layout 0 j) (omega (arith, where, lt)) ∙ zero_behind (chunk_first fresh_layout 0 j) (omega (arith, where));
+        let place : chunk_first fresh_layout 0 j ≡ 512 + 512 * j = omega arith in
+        is.words (chunk_first fresh_layout 0 j) (omega (arith, place, lt)) ∙ zero_behind (chunk_first fresh_layout 0 j) (omega (arith, place));
     }
 
 pub fresh_no_cells : (bytes : ℕ) (image : ℕ → ℕ) → IsFresh bytes image → no_cells ≡ cells_of image

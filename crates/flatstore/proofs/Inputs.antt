@@ -80,7 +80,7 @@ abbrev others_line : ℕ → List ℕ × Option (List ℕ) → Result Line ℕ
 others_line cores c = cond (bytes_eq c.0 (codes "delete")) (key_line (λ k. Delete k) (lone_field c.1)) (cond (bytes_eq c.0 (codes "go")) (go_line cores c.1) (Err 3))
 
 served_line : (cores : ℕ) (c : List ℕ × Option (List ℕ)) (line : Line) → line_by cores c ≡ Ok line → is_closed built_now c.0 ≡ false → puts_block line ≡ false → ServedLine line
-served_line cores c line h open no_block = elim (bytes_eq c.0 (codes "put")) as (λ b. cond b (put_line c.1) (cond (bytes_eq c.0 (codes "get")) (key_line (λ k. Get k) (lone_field c.1)) (others_line cores c)) ≡ Ok line → ServedLine line) [
+served_line cores c line h unshut no_block = elim (bytes_eq c.0 (codes "put")) as (λ b. cond b (put_line c.1) (cond (bytes_eq c.0 (codes "get")) (key_line (λ k. Get k) (lone_field c.1)) (others_line cores c)) ≡ Ok line → ServedLine line) [
     | true ↦ λ e. let p = put_is c.1 line e in subst ServedLine (sym p.2) (short_of p.1 (ap puts_block (sym p.2) ∙ no_block))
     | false ↦ λ e. elim (bytes_eq c.0 (codes "get")) as (λ b. cond b (key_line (λ k. Get k) (lone_field c.1)) (others_line cores c) ≡ Ok line → ServedLine line) [
       | true ↦ λ f. let p = get_is (lone_field c.1) line f in subst ServedLine (sym p.1) tt
@@ -89,7 +89,7 @@ served_line cores c line h open no_block = elim (bytes_eq c.0 (codes "put")) as 
   ] h where
     none : others_line cores c ≡ Ok line → ⊥
     none e =
-        let shut = or_parts (bytes_eq c.0 (codes "delete")) (bytes_eq c.0 (codes "go")) open in
+        let shut = or_parts (bytes_eq c.0 (codes "delete")) (bytes_eq c.0 (codes "go")) unshut in
         let bad : Err 3 ≡ Ok line = sym (λ i. cond (shut.0 i) (key_line (λ k. Delete k) (lone_field c.1)) (cond (shut.1 i) (go_line cores c.1) (Err 3))) ∙ e in
         no_ok bad
     no_ok : {line : Line} → Err {T = Line} 3 ≡ Ok line → ⊥
@@ -109,9 +109,9 @@ module _ (cores : ℕ) where
         let rest = behind_ok y.0 (lines_or_stop built_now cores (number + 1) y.1 xs) lines (sym (goes_on_by built_now cores number b x xs y is) ∙ h) in
         let again = lines_ok (number + 1) y.1 xs rest.0 rest.1 in
         let line : line_at cores b x ≡ Ok y = staged_ok number (is_closed built_now (cut x.0).0) false (line_at cores b x) y is in
-        let open = open_of (is_closed built_now (cut x.0).0) y (ap (λ r. staged number (is_closed built_now (cut x.0).0) false r) (sym line) ∙ is) in
+        let passed = open_of (is_closed built_now (cut x.0).0) y (ap (λ r. staged number (is_closed built_now (cut x.0).0) false r) (sym line) ∙ is) in
         (from_line y line ∙ ap (with_front y.0) again.0 ∙ ap (λ (l : List Line). Ok l) rest.2,
-          subst (AllByRecursion ServedLine) rest.2 (served_line cores (cut x.0) y.0 (said_line cores b x y line) open.0 open.1, again.1))
+          subst (AllByRecursion ServedLine) rest.2 (served_line cores (cut x.0) y.0 (said_line cores b x y line) passed.0 passed.1, again.1))
       where
         from_line : (y : Line × Before) → line_at cores b x ≡ Ok y → lines_from cores number b (x ∷ xs) ≡ with_front y.0 (lines_from cores (number + 1) y.1 xs)
         from_line y e = rw (lines_from, e) refl

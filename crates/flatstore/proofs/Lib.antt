@@ -2,3 +2,4 @@ pub mod Inputs
 pub mod Answering
 pub mod Attached
 pub mod Replaying
+pub mod Refused

@@ -48,7 +48,7 @@ front_text start trace r replies before now R took = (took.1.0, took.1.2, (took.
 whole_front : (start : ℕ → Option (List ℕ)) (trace : List Request) (r : Told) (replies : List Reply) (before now : Option (List ℕ)) → Recorded start trace replies r → Takes before now (replies_text replies) → WritesFront start trace r before now
 whole_front start trace r replies before now R took = (replies_text replies, took, ([], (replies, record { lawful = R.lawful; fits = R.fits }, append-nil (replies_text replies))))
 
-no_text : (start : ℕ → Option (List ℕ)) (trace : List Request) (r : Told) (replies : List Reply) (before now : Option (List ℕ)) → Recorded start trace replies r → now ≡ before → WritesFront start trace r before now
+pub no_text : (start : ℕ → Option (List ℕ)) (trace : List Request) (r : Told) (replies : List Reply) (before now : Option (List ℕ)) → Recorded start trace replies r → now ≡ before → WritesFront start trace r before now
 no_text start trace r replies before now R same = ([], subst (λ x. Takes before x []) (sym same) (takes_nothing before), (replies_text replies, (replies, record { lawful = R.lawful; fits = R.fits }, refl)))
 
 apart : (s : Status) {P : Type 0} → s ≡ statuses.Done → (s ≡ statuses.RegionFault) ⊎ ((s ≡ statuses.SinkFault) ⊎ (s ≡ statuses.Memory)) → P

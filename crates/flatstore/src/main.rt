@@ -1,11 +1,66 @@
-//! The program `flatstore`.
+//! The program `flatstore`: a key-value store in a region file.
 #![tactic(auto)]
 
-pub mod command;
-pub mod fresh;
-pub mod replay;
-pub mod report;
-pub mod top;
+use fs_errors::Memory;
+use fs_text::{StdSink, StdSource};
+use pm_region::FileRegion;
+use report::Status;
+use std::alloc::Global;
+use std::env;
+use std::io;
+use std::process::ExitCode;
+use top::flatstore;
 
-fn main(rt: HostRuntime) {
+mod command;
+mod fresh;
+mod replay;
+mod report;
+mod top;
+
+/// The words of the command line, the program's name first.
+fn command_line(rt: &HostRuntime, alloc: Global) -> Result<Vec<String>, Memory> {
+    match env::args(rt) {
+        Ok(words) => Ok(words.collect(alloc)?),
+        Err(_) => Err(Memory),
+    }
+}
+
+/// Does what the command line asks, with the region in its file, standard input and standard output.
+fn run(rt: &HostRuntime, alloc: Global) -> Result<Status, Memory> {
+    let words = command_line(rt, alloc)?;
+    let path = command::region_path(alloc, &words)?;
+    let own = match rt.clone() {
+        Ok(own) => own,
+        Err(_) => return Err(Memory),
+    };
+    let mut region = FileRegion::at(own, path);
+    let mut source = StdSource::over(rt.reader());
+    let mut sink = StdSink::over(io::writer(rt));
+    let report = flatstore(alloc, &words, &mut source, &mut sink, &mut region);
+    Ok(report.status)
+}
+
+/// Says on standard error why a call failed. A write that fails there is let go: the exit status says the same.
+fn complain(rt: &HostRuntime, alloc: Global, status: Status) {
+    if status == Status::Done {
+        return;
+    }
+    match status.text(alloc) {
+        Ok(text) => {
+            let _ = eprintln!(rt; "{text}");
+        }
+        Err(_) => {
+            let _ = eprintln!(rt; "flatstore: out of memory");
+        }
+    }
+}
+
+fn main(rt: HostRuntime) -> ExitCode {
+    let alloc = rt.alloc();
+    let status = match run(&rt, alloc) {
+        Ok(status) => status,
+        Err(_) => Status::Memory,
+    };
+    complain(&rt, alloc, status);
+    ExitCode::from(status.code())
 }

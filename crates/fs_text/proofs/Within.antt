@@ -1,5 +1,5 @@
 -- The lines of an input are within the rules.
-use Rattle.std.proofs.Common.{◌≡◌, ℕ, zero, suc, ◌+◌, ◌-◌, ◌≤◌, ◌⊎◌, inl, inr, Bool, true, false, List, [], ◌∷◌, length, Option, Some, None, Result, Ok, Err, refl, sym, ap, ◌∙◌, cond, subst, arith}
+use Rattle.std.proofs.Common.{◌≡◌, ℕ, suc, ◌+◌, ◌-◌, ◌≤◌, ◌⊎◌, inl, inr, Bool, true, false, List, [], ◌∷◌, length, Option, Some, None, Result, Ok, Err, refl, sym, ap, ◌∙◌, cond, subst, arith}
 use Rattle.std.specs.Prelude.{IfSome, IfOk, nat_le, ◌==◌, ◌&&◌, bytes_eq, codes}
 use Rattle.std.specs.List.{AllByRecursion, filter_map, sum_by}
 use Rattle.std.proofs.lemmas.List.Sums.{sum_by-cons}
@@ -13,8 +13,8 @@ use Rattle.fs_text.specs.declared.stages.UntilError.{UntilError}
 use Rattle.fs_text.specs.declared.input.InputError.{InputError}
 use Rattle.fs_text.specs.Reading.{Answers}
 use Rattle.fs_text.specs.Bounds.{IsShort, IsLine, IsWithin, turns_in}
-use Rattle.fs_text.specs.Input.{Before, cut, push_front, within, map_ok, key_at, lone_key, key_line, lone_field, put_fields, put_line, go_turns, go_core, core_at, number_of, go_rest, go_fields, go_line, line_by, with_line, counted, count_line, size_with, line_at, with_front, lines_of, lines_from, input_of, request_in}
-use Rattle.fs_text.specs.Stages.{line_or_stop, lines_or_stop, input_or_stop, staged, is_closed, behind, StopsAs}
+use Rattle.fs_text.specs.Input.{Before, cut, push_front, within, map_ok, key_at, lone_key, key_line, lone_field, put_fields, put_line, go_core, core_at, number_of, go_rest, go_fields, go_line, line_by, with_line, counted, count_line, size_with, line_at, with_front, lines_of, lines_from, input_of, request_in}
+use Rattle.fs_text.specs.Stages.{line_or_stop, lines_or_stop, input_or_stop, is_closed, behind, StopsAs}
 use Rattle.fs_text.proofs.Limits.{guarded, counted_ok, le_true, staged_ok, goes_on_by, stops_by}
 use Rattle.fs_text.proofs.Whole.{goes_on, breaks, ok_no_error}
 
@@ -34,9 +34,10 @@ within_ok : (low high rule : ℕ) (o : Option ℕ) (n : ℕ) → within low high
 within_ok low high rule None n h = absurd (ok_no_error n rule (sym h))
 within_ok low high rule (Some m) n h =
     let (test, same) = guarded (nat_le low m && nat_le m high) (Ok m) rule n h in
-    let e : m ≡ n = cc same in
-    (le_true low n (subst (λ k. nat_le low k ≡ true) e (and_left (nat_le low m) (nat_le m high) test)),
-     le_true n high (subst (λ k. nat_le k high ≡ true) e (and_right (nat_le low m) (nat_le m high) test)))
+    let e : m ≡ n = cc same in (
+      le_true low n (subst (λ k. nat_le low k ≡ true) e (and_left (nat_le low m) (nat_le m high) test)),
+      le_true n high (subst (λ k. nat_le k high ≡ true) e (and_right (nat_le low m) (nat_le m high) test)),
+    )
 
 abbrev RestFits : ℕ → List ℕ × Option (List ℕ) → Type 0
 RestFits n p = IfSome p.1 (λ v. length v ≤ n)
@@ -110,7 +111,7 @@ line_by_within cores n (word, rest) line small fits h =
     let deletes = key_line (λ k. Delete k) (lone_field rest) in
     let goes = go_line cores rest in
     elim (either (bytes_eq word (codes "put")) puts
-            (cond (bytes_eq word (codes "get")) gets (cond (bytes_eq word (codes "delete")) deletes (cond (bytes_eq word (codes "go")) goes (Err 3)))) (Ok line) h) [
+    (cond (bytes_eq word (codes "get")) gets (cond (bytes_eq word (codes "delete")) deletes (cond (bytes_eq word (codes "go")) goes (Err 3)))) (Ok line) h) [
       | inl e ↦ put_line_within cores n rest line small fits e
       | inr e ↦ after_put e
     ]
@@ -191,7 +192,7 @@ lines_within cores number b (x ∷ xs) lines few slow h =
         let (size, next) = facts.count in
         let later = again y.1 tail facts.requests facts.turns rest in
         subst (λ ls. LeavesRoom cores b ls) same
-            (one_before cores b size y.0 tail facts.line (subst (λ c. LeavesRoom cores c tail) next later))
+        (one_before cores b size y.0 tail facts.line (subst (λ c. LeavesRoom cores c tail) next later))
 
 pub input_within : (cores : ℕ) (bytes : List ℕ) (lines : List Line) → input_of cores bytes ≡ Ok lines → IsWithin cores lines
 unfolding input_of

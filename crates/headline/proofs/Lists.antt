@@ -103,6 +103,6 @@ get_end (x ∷ xs) y = get_end xs y
 pub each_behind : {X : Type 0} (P : X → Type 0) (p : X → Bool) (xs : List X) → AllByRecursion P xs → AllByRecursion P (behind_last p xs)
 each_behind P p [] h = tt
 each_behind P p (x ∷ xs) h = elim (list_any p (x ∷ xs)) as (λ b. AllByRecursion P (cond b (behind_last p xs) (x ∷ xs))) [
-    | true ↦ each_behind P p xs h.1
-    | false ↦ h
-  ]
+  | true ↦ each_behind P p xs h.1
+  | false ↦ h
+]

@@ -55,7 +55,7 @@ module _ (done more : List Request) (fin fin' ref ref' : List ℕ)
       ∙ ap requests_in (filter-append (λ x. names fin' x.0) (requests_of k done) (numbered k (length done) more))
       ∙ map-append (λ (x : ℕ × Request). x.1) (filter (λ x. names fin' x.0) (requests_of k done)) (filter (λ x. names fin' x.0) (numbered k (length done) more))
       ∙ ap (λ l. requests_in l ++ requests_in (filter (λ x. names fin' x.0) (numbered k (length done) more)))
-        (filter_same (λ (x : ℕ × Request). names fin' x.0) (λ x. names fin x.0) (requests_of k done) fin_agree)
+      (filter_same (λ (x : ℕ × Request). names fin' x.0) (λ x. names fin x.0) (requests_of k done) fin_agree)
 
   -- what is found behind the last finished one is what was found before, or the first among what came
   pub waiting-append : (c : Option (List ℕ)) → list_any (λ x. names fin' x.0) (numbered k (length done) more) ≡ false
@@ -76,20 +76,21 @@ pub changes_grow : (s : Option (List ℕ)) (k : ℕ) (done more : List Request) 
 changes_grow s k done more fin ref within =
     let above : AllByRecursion (λ (x : ℕ × Request). names fin x.0 ≡ false) (numbered k (length done) more) = each_number (λ m. names fin m ≡ false) k (length done) more (λ m low high. unnamed m low) in
     let same : finished_changes k (done ++ more) fin ≡ finished_changes k done fin =
-        finished-append done more fin fin ref ref (λ m lt. refl) (λ m lt. refl) k
-        ∙ ap (λ l. finished_changes k done fin ++ requests_in l) (filter_none (λ (x : ℕ × Request). names fin x.0) (numbered k (length done) more) above)
-        ∙ append-nil (finished_changes k done fin) in
+    finished-append done more fin fin ref ref (λ m lt. refl) (λ m lt. refl) k
+    ∙ ap (λ l. finished_changes k done fin ++ requests_in l) (filter_none (λ (x : ℕ × Request). names fin x.0) (numbered k (length done) more) above)
+    ∙ append-nil (finished_changes k done fin) in
     let c : Option (List ℕ) = cell_after_all (finished_changes k done fin) s in
     let found = waiting-append done more fin fin ref ref (λ m lt. refl) (λ m lt. refl) k c (any_none (λ (x : ℕ × Request). names fin x.0) (numbered k (length done) more) above) in
     let e : changes_of s k (done ++ more) fin ref ≡ finished_changes k done fin ++ requests_in (option_to_list (option_or (find (is_waiting c ref) (behind_last (λ x. names fin x.0) (requests_of k done))) (find (is_waiting c ref) (numbered k (length done) more)))) =
-        (λ t. same t ++ requests_in (option_to_list (find (is_waiting (cell_after_all (same t) s) ref) (behind_last (λ x. names fin x.0) (requests_of k (done ++ more)))))) ∙ ap (λ o. finished_changes k done fin ++ requests_in (option_to_list o)) found in
+    (λ t. same t ++ requests_in (option_to_list (find (is_waiting (cell_after_all (same t) s) ref) (behind_last (λ x. names fin x.0) (requests_of k (done ++ more)))))) ∙ ap (λ o. finished_changes k done fin ++ requests_in (option_to_list o)) found in
     let r = longer (find (is_waiting c ref) (behind_last (λ x. names fin x.0) (requests_of k done))) (find (is_waiting c ref) (numbered k (length done) more)) in
     (r.0, e ∙ ap (λ l. finished_changes k done fin ++ l) r.1 ∙ sym (append_assoc (finished_changes k done fin) _ r.0)) where
       unnamed : (m : ℕ) → length done ≤ m → names fin m ≡ false
       unnamed m low = elim (names fin m) as (λ b. names fin m ≡ b → b ≡ false) [
-          | true ↦ λ e. absurd (let w = within m e in omega (arith, low, w))
-          | false ↦ λ e. refl
-        ] refl
+        | true ↦ λ e. absurd (let w = within m e in omega (arith, low, w))
+        | false ↦ λ e. refl
+      ] refl
+
       longer : (o p : Option (ℕ × Request)) → (ys : List Request) × (requests_in (option_to_list (option_or o p)) ≡ requests_in (option_to_list o) ++ ys)
       longer None p = (requests_in (option_to_list p), refl)
       longer (Some x) p = ([], refl)
@@ -109,9 +110,9 @@ prefix_grows s c xs ys f in_xs h =
 -- what holds of the request's own key, and of each other one
 pub by_key : (P : ℕ → Type 0) (own : ℕ) → P own → ((k : ℕ) → (own ≡ k → ⊥) → P k) → (k : ℕ) → P k
 by_key P own h others k = elim (own == k) as (λ b. (own == k) ≡ b → P k) [
-    | true ↦ λ e. subst P (eqb-true own k e) h
-    | false ↦ λ e. others k (eqb-false own k e)
-  ] refl
+  | true ↦ λ e. subst P (eqb-true own k e) h
+  | false ↦ λ e. others k (eqb-false own k e)
+] refl
 
 cell_of-append : (c : Option (List ℕ)) (xs ys : List (Request × Reply)) → cell_of c (xs ++ ys) ≡ cell_of (cell_of c xs) ys
 cell_of-append c [] ys = refl
@@ -143,8 +144,8 @@ module _ (start : ℕ → Option (List ℕ)) (done : List Request) (replies : Li
   more_lawful h may = record {
     count = length-append replies (reply ∷ []) ∙ ap (λ n. n + 1) count ∙ sym (length-append done (q ∷ []));
     each = by_key (λ k. IsLawfulFor (start k) false (asked k (zip (done ++ q ∷ []) (replies ++ reply ∷ [])))) (key_of q)
-      (subst (λ l. IsLawfulFor (start (key_of q)) false l) (sym own_more) (lawful-more (start (key_of q)) false (asked (key_of q) (zip done replies)) q reply (h.each (key_of q)) may))
-      (λ k ne. subst (λ l. IsLawfulFor (start k) false l) (sym (other_more k ne)) (h.each k));
+        (subst (λ l. IsLawfulFor (start (key_of q)) false l) (sym own_more) (lawful-more (start (key_of q)) false (asked (key_of q) (zip done replies)) q reply (h.each (key_of q)) may))
+        (λ k ne. subst (λ l. IsLawfulFor (start k) false l) (sym (other_more k ne)) (h.each k));
   }
 
   pub own_cell : cell_of (start (key_of q)) (asked (key_of q) (zip (done ++ q ∷ []) (replies ++ reply ∷ []))) ≡ cell_left q reply (cell_of (start (key_of q)) (asked (key_of q) (zip done replies)))
@@ -183,23 +184,23 @@ gain_none test y n i ne = (λ t. cond (ne_eqb n i ne t) (cond (test y) 1 0) 0)
 
 once_more : (test : Reply → Bool) (xs : List Reply) (y : Reply) (i : ℕ) → once_where test (xs ++ y ∷ []) i ≡ once_where test xs i + gain test y (length xs) i
 once_more test xs y i = elim (cases_lt i (length xs)) [
-    | inl lt ↦
-        let e = once_before test xs y i lt in
-        let none = gain_none test y (length xs) i (λ is. omega (arith, lt, is)) in
-        omega (arith, e, none)
-    | inr ge ↦ by_key (λ i. length xs ≤ i → once_where test (xs ++ y ∷ []) i ≡ once_where test xs i + gain test y (length xs) i) (length xs)
-        (λ low.
-          let e = once_end test xs y in
-          let z = once_past test xs (length xs) low in
-          let same = gain_here test y (length xs) in
-          omega (arith, e, z, same))
-        (λ i ne low.
-          let z = once_past test xs i low in
-          let more = once_past test (xs ++ y ∷ []) i (let n = length-append xs (y ∷ []) in omega (arith, n, low, ne)) in
-          let none = gain_none test y (length xs) i ne in
-          omega (arith, z, more, none))
-        i ge
-  ]
+  | inl lt ↦
+      let e = once_before test xs y i lt in
+      let none = gain_none test y (length xs) i (λ is. omega (arith, lt, is)) in
+      omega (arith, e, none)
+  | inr ge ↦ by_key (λ i. length xs ≤ i → once_where test (xs ++ y ∷ []) i ≡ once_where test xs i + gain test y (length xs) i) (length xs)
+      (λ low.
+      let e = once_end test xs y in
+      let z = once_past test xs (length xs) low in
+      let same = gain_here test y (length xs) in
+      omega (arith, e, z, same))
+      (λ i ne low.
+      let z = once_past test xs i low in
+      let more = once_past test (xs ++ y ∷ []) i (let n = length-append xs (y ∷ []) in omega (arith, n, low, ne)) in
+      let none = gain_none test y (length xs) i ne in
+      omega (arith, z, more, none))
+      i ge
+]
 
 some_of : (x y : ℕ × Reply) → Some x ≡ Some y → x ≡ y
 some_of x y e = cc
@@ -229,11 +230,11 @@ module _ (replies : List Reply) (reply : Reply) where
   pub fits_finish : (fin : List ℕ) (refused : List (ℕ × Reply)) → Fits fin refused replies → is_finish reply ≡ true → is_told reply ≡ false → Fits (fin ++ length replies ∷ []) refused (replies ++ reply ∷ [])
   fits_finish fin refused f finish untold = record {
     named = λ i.
-      let here = f.named i in
-      let one = count_one (λ n. n == i) fin (length replies) in
-      let more = once_more is_finish replies reply i in
-      let g : gain is_finish reply (length replies) i ≡ cond (length replies == i) 1 0 = (λ t. cond (length replies == i) (cond (finish t) 1 0) 0) in
-      omega (arith, here, one, more, g);
+        let here = f.named i in
+        let one = count_one (λ n. n == i) fin (length replies) in
+        let more = once_more is_finish replies reply i in
+        let g : gain is_finish reply (length replies) i ≡ cond (length replies == i) 1 0 = (λ t. cond (length replies == i) (cond (finish t) 1 0) 0) in
+        omega (arith, here, one, more, g);
     told = λ i. same_count is_told (count_by (λ x. x.0 == i) refused) i (f.told i) untold;
     why = why_more refused f.why;
   }
@@ -242,11 +243,11 @@ module _ (replies : List Reply) (reply : Reply) where
   fits_refusal fin refused f quiet told = record {
     named = λ i. same_count is_finish (count_by (λ n. n == i) fin) i (f.named i) quiet;
     told = λ i.
-      let here = f.told i in
-      let one = count_one (λ (x : ℕ × Reply). x.0 == i) refused (length replies, reply) in
-      let more = once_more is_told replies reply i in
-      let g : gain is_told reply (length replies) i ≡ cond (length replies == i) 1 0 = (λ t. cond (length replies == i) (cond (told t) 1 0) 0) in
-      omega (arith, here, one, more, g);
+        let here = f.told i in
+        let one = count_one (λ (x : ℕ × Reply). x.0 == i) refused (length replies, reply) in
+        let more = once_more is_told replies reply i in
+        let g : gain is_told reply (length replies) i ≡ cond (length replies == i) 1 0 = (λ t. cond (length replies == i) (cond (told t) 1 0) 0) in
+        omega (arith, here, one, more, g);
     why = λ j i r e. elim (cases_lt j (length refused)) [
       | inl lt ↦ why_more refused f.why j i r (sym (get_before refused (length replies, reply) j lt) ∙ e)
       | inr ge ↦ last j i r ge e
@@ -273,19 +274,19 @@ is_finish_of k trace t f = leb f.1 t && option_map_or (λ q. key_of q == k) (sli
 pub each_finish : (n : ℕ) (fs : List (ℕ × ℕ)) → ((i : ℕ) → names (map (λ (f : ℕ × ℕ). f.0) fs) i ≡ true → i < n) → AllByRecursion (λ (f : ℕ × ℕ). f.0 < n) fs
 each_finish n [] h = tt
 each_finish n (f ∷ fs) h = (
-    h f.0 (λ t. eq-eqb f.0 f.0 refl t || names (map (λ (f : ℕ × ℕ). f.0) fs) f.0),
-    each_finish n fs (λ i e. h i ((λ t. (f.0 == i) || e t) ∙ or_true (f.0 == i)))
-  ) where
-    or_true : (b : Bool) → (b || true) ≡ true
-    or_true true = refl
-    or_true false = refl
+  h f.0 (λ t. eq-eqb f.0 f.0 refl t || names (map (λ (f : ℕ × ℕ). f.0) fs) f.0),
+  each_finish n fs (λ i e. h i ((λ t. (f.0 == i) || e t) ∙ or_true (f.0 == i))),
+) where
+  or_true : (b : Bool) → (b || true) ≡ true
+  or_true true = refl
+  or_true false = refl
 
 -- requests behind those that the finishes name don't count
 pub finished_by-append : (k t : ℕ) (done more : List Request) (fs : List (ℕ × ℕ)) → AllByRecursion (λ (f : ℕ × ℕ). f.0 < length done) fs → finished_by k (done ++ more) fs t ≡ finished_by k done fs t
 finished_by-append k t done more fs h = count_same (is_finish_of k (done ++ more) t) (is_finish_of k done t) fs (agree fs h) where
-    agree : (fs : List (ℕ × ℕ)) → AllByRecursion (λ (f : ℕ × ℕ). f.0 < length done) fs → AllByRecursion (λ (f : ℕ × ℕ). is_finish_of k (done ++ more) t f ≡ is_finish_of k done t f) fs
-    agree [] h = tt
-    agree (f ∷ fs) h = ((λ i. leb f.1 t && option_map_or (λ q. key_of q == k) (get_front done more f.0 h.0 i) false), agree fs h.1)
+  agree : (fs : List (ℕ × ℕ)) → AllByRecursion (λ (f : ℕ × ℕ). f.0 < length done) fs → AllByRecursion (λ (f : ℕ × ℕ). is_finish_of k (done ++ more) t f ≡ is_finish_of k done t f) fs
+  agree [] h = tt
+  agree (f ∷ fs) h = ((λ i. leb f.1 t && option_map_or (λ q. key_of q == k) (get_front done more f.0 h.0 i) false), agree fs h.1)
 
 module _ (done : List Request) (q : Request) (k : ℕ) where
   abbrev pub own : List (ℕ × Request)
@@ -315,15 +316,15 @@ module _ (done : List Request) (q : Request) (k : ℕ) where
 -- how a list of numbers names, with one more
 names_more : (xs : List ℕ) (n m : ℕ) → (n ≡ m → ⊥) → names (xs ++ n ∷ []) m ≡ names xs m
 names_more xs n m ne = list_any-append (λ i. i == m) xs (n ∷ []) ∙ (λ t. names xs m || (ne_eqb n m ne t || false)) ∙ or_false (names xs m) where
-    or_false : (b : Bool) → (b || false) ≡ b
-    or_false true = refl
-    or_false false = refl
+  or_false : (b : Bool) → (b || false) ≡ b
+  or_false true = refl
+  or_false false = refl
 
 names_end : (xs : List ℕ) (n : ℕ) → names (xs ++ n ∷ []) n ≡ true
 names_end xs n = list_any-append (λ i. i == n) xs (n ∷ []) ∙ (λ t. names xs n || (eq-eqb n n refl t || false)) ∙ or_true (names xs n) where
-    or_true : (b : Bool) → (b || true) ≡ true
-    or_true true = refl
-    or_true false = refl
+  or_true : (b : Bool) → (b || true) ≡ true
+  or_true true = refl
+  or_true false = refl
 
 names_within : (xs : List ℕ) (n : ℕ) → ((i : ℕ) → names xs i ≡ true → i < n) → (i : ℕ) → names (xs ++ n ∷ []) i ≡ true → i < n + 1
 names_within xs n h = by_key (λ i. names (xs ++ n ∷ []) i ≡ true → i < n + 1) n (λ e. omega arith)
@@ -331,9 +332,9 @@ names_within xs n h = by_key (λ i. names (xs ++ n ∷ []) i ≡ true → i < n 
 
 pub unnamed : (xs : List ℕ) (n : ℕ) → ((i : ℕ) → names xs i ≡ true → i < n) → names xs n ≡ false
 unnamed xs n h = elim (names xs n) as (λ b. names xs n ≡ b → b ≡ false) [
-    | true ↦ λ e. absurd (let lt = h n e in omega (arith, lt))
-    | false ↦ λ e. refl
-  ] refl
+  | true ↦ λ e. absurd (let lt = h n e in omega (arith, lt))
+  | false ↦ λ e. refl
+] refl
 
 -- The three ways in which a run goes on.
 module _ (start : ℕ → Option (List ℕ)) (done : List Request) (replies : List Reply) (r : Told) (now : ℕ) (cell : ℕ → Option (List ℕ)) (q : Request) (reply : Reply)
@@ -412,7 +413,7 @@ module _ (start : ℕ → Option (List ℕ)) (done : List Request) (replies : Li
   answered_refusal quiet told goes m leaves =
       let named : map (λ (x : ℕ × Reply). x.0) (r.refusals ++ (n, reply) ∷ []) ≡ ref ++ n ∷ [] = map-append (λ (x : ℕ × Reply). x.0) r.refusals ((n, reply) ∷ []) in
       let same : (m : ℕ) → m < n → names (map (λ (x : ℕ × Reply). x.0) (r.refusals ++ (n, reply) ∷ [])) m ≡ names ref m =
-          λ m lt. ap (λ l. names l m) named ∙ names_more ref n m (λ e. omega (arith, lt, e)) in
+      λ m lt. ap (λ l. names l m) named ∙ names_more ref n m (λ e. omega (arith, lt, e)) in
       let here : names (map (λ (x : ℕ × Reply). x.0) (r.refusals ++ (n, reply) ∷ [])) n ≡ true = ap (λ l. names l n) named ∙ names_end ref n in
       record {
         lawful = more_lawful start done replies q reply A.lawful.count A.lawful (may m);
@@ -471,7 +472,7 @@ module _ (start : ℕ → Option (List ℕ)) (done : List Request) (replies : Li
         let one = count_one (is_finish_of k (done ++ q ∷ []) t) r.finishes (n, later) in
         let before = finished_by-append k t done (q ∷ []) r.finishes each_fin in
         let here : cond {A = ℕ} (is_finish_of k (done ++ q ∷ []) t (n, later)) 1 0 ≡ cond (leb later t && key == k) 1 0 =
-            ap (λ o. cond {A = ℕ} (leb later t && option_map_or (λ q. key_of q == k) o false) 1 0) (get_end done q) in
+        ap (λ o. cond {A = ℕ} (leb later t && option_map_or (λ q. key_of q == k) o false) 1 0) (get_end done q) in
         omega (arith, one, before, here)
 
     own_counted : (t : ℕ) → finished_by key (done ++ q ∷ []) with_finish.finishes t ≤ length (finished_changes key (done ++ q ∷ []) (finished_in with_finish))
@@ -510,9 +511,9 @@ module _ (start : ℕ → Option (List ℕ)) (done : List Request) (replies : Li
         omega (arith, more, none) where
           not_leb : (m n : ℕ) → n < m → leb m n ≡ false
           not_leb m n lt = elim (leb m n) as (λ b. leb m n ≡ b → b ≡ false) [
-              | true ↦ λ e. absurd (let le = leb-true m n e in omega (arith, lt, le))
-              | false ↦ λ e. refl
-            ] refl
+            | true ↦ λ e. absurd (let le = leb-true m n e in omega (arith, lt, le))
+            | false ↦ λ e. refl
+          ] refl
 
     pub answered_finish : (next : ℕ → Option (List ℕ)) → is_finish reply ≡ true → is_told reply ≡ false → is_stopped reply ≡ false → MayReply q (cell key) false reply
         → cell_left q reply (cell key) ≡ cell_after q (cell key) → next key ≡ cell_after q (cell key) → ((k : ℕ) → (key ≡ k → ⊥) → next k ≡ cell k)
@@ -523,15 +524,15 @@ module _ (start : ℕ → Option (List ℕ)) (done : List Request) (replies : Li
       cells = cells_more next (own ∙ sym leaves) others;
       going = goes_on start done replies q reply A.lawful.count goes A.going;
       left = by_key (λ k. cell_after_all (finished_changes k (done ++ q ∷ []) (finished_in with_finish)) (start k) ≡ next k) key
-        (ap (λ l. cell_after_all l (start key)) own_changes ∙ changes-append (start key) (finished_changes key done fin) (q ∷ []) ∙ ap (cell_after q) (A.left key) ∙ sym own)
-        (λ k ne. ap (λ l. cell_after_all l (start k)) (other_changes k ne) ∙ A.left k ∙ sym (others k ne));
+          (ap (λ l. cell_after_all l (start key)) own_changes ∙ changes-append (start key) (finished_changes key done fin) (q ∷ []) ∙ ap (cell_after q) (A.left key) ∙ sym own)
+          (λ k ne. ap (λ l. cell_after_all l (start k)) (other_changes k ne) ∙ A.left k ∙ sym (others k ne));
       settled = by_key (λ k. unfinished_change (start k) k (done ++ q ∷ []) (finished_in with_finish) ref ≡ []) key own_settled other_settled;
       finishes = λ i e. let lt = names_within fin n A.finishes i (ap (λ l. names l i) (sym named_fin) ∙ e) in omega (arith, lt, longer);
       refusals = λ i e. let lt = A.refusals i e in omega (arith, lt, longer);
       counted = λ k t. by_key (λ k. finished_by k (done ++ q ∷ []) with_finish.finishes t ≤ length (finished_changes k (done ++ q ∷ []) (finished_in with_finish))) key (own_counted t)
-        (λ k ne. let same = other_by k t ne in let before = A.counted k t in let long : length (finished_changes k (done ++ q ∷ []) (finished_in with_finish)) ≡ length (finished_changes k done fin) = ap length (other_changes k ne) in omega (arith, same, before, long)) k;
+          (λ k ne. let same = other_by k t ne in let before = A.counted k t in let long : length (finished_changes k (done ++ q ∷ []) (finished_in with_finish)) ≡ length (finished_changes k done fin) = ap length (other_changes k ne) in omega (arith, same, before, long)) k;
       whole = λ k t ge. by_key (λ k. finished_by k (done ++ q ∷ []) with_finish.finishes t ≡ length (finished_changes k (done ++ q ∷ []) (finished_in with_finish))) key (own_whole t ge)
-        (λ k ne. other_by k t ne ∙ A.whole k t (omega (arith, low, ge)) ∙ ap length (sym (other_changes k ne))) k;
+          (λ k ne. other_by k t ne ∙ A.whole k t (omega (arith, low, ge)) ∙ ap length (sym (other_changes k ne))) k;
     }
 
 -- what stays true
@@ -563,8 +564,8 @@ module _ (start : ℕ → Option (List ℕ)) (done : List Request) (replies : Li
         finishes = λ i e. let lt = R.finishes i e in omega (arith, lt, longer);
         refusals = λ i e. let lt = R.refusals i e in omega (arith, lt, longer);
         counted = λ k t.
-          let same = finished_by-append k t done (q ∷ []) r.finishes fins in
-          let long : length (finished_changes k (done ++ q ∷ []) fin') ≡ length (finished_changes k done fin') = ap length (stopped_changes k) in
-          let before = R.counted k t in
-          omega (arith, same, long, before);
+            let same = finished_by-append k t done (q ∷ []) r.finishes fins in
+            let long : length (finished_changes k (done ++ q ∷ []) fin') ≡ length (finished_changes k done fin') = ap length (stopped_changes k) in
+            let before = R.counted k t in
+            omega (arith, same, long, before);
       }

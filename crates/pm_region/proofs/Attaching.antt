@@ -1,5 +1,5 @@
 -- What an attach says of the region over a volume.
-use Rattle.std.proofs.Common.{◌≡◌, ◌⊎◌, ℕ, ◌≤◌, ◌<◌, ◌*◌, ◌/◌, Bool, List, get_or, length, nat_le, if◌then◌else◌, refl, sym, ◌∙◌, ap, arith}
+use Rattle.std.proofs.Common.{ℕ, refl, sym, ◌∙◌, ap}
 use Rattle.pm_region.specs.Cell.{MayBe}
 use Rattle.pm_region.specs.State.{State, IsTelling, InRange, cell_now}
 use Rattle.pm_region.specs.Split.{words_in, Attached}

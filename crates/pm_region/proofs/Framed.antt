@@ -1,7 +1,7 @@
 -- What a call of a history says of the region or piece over it.
-use Rattle.std.proofs.Common.{◌≡◌, ◌≢◌, ◌⊎◌, inl, inr, ⊎_elim, ℕ, zero, suc, ◌+◌, ◌-◌, ◌*◌, ◌/◌, ◌%◌, ◌^◌, ◌≤◌, ◌<◌, ◌&&◌, min, nat_le, not, Bool, true, false, List, [], ◌∷◌, ◌++◌, length, get_or, take, drop, set, if◌then◌else◌, refl, sym, ◌∙◌, ap, subst, arith, length-append, take-append-drop}
+use Rattle.std.proofs.Common.{◌≡◌, ℕ, ◌≤◌, ◌&&◌, not, Bool, false, List, [], if◌then◌else◌, refl, sym, subst}
 use Rattle.pm_region.specs.Cell.{Cell}
-use Rattle.pm_region.specs.State.{State, Frame, Goes}
+use Rattle.pm_region.specs.State.{Frame, Goes}
 use Rattle.pm_region.specs.Moves.{Moves, history_state}
 use Rattle.pm_region.specs.Volumes.{frame_of, state_with, part_frame, part_state}
 use Rattle.pm_region.specs.declared.history.History.{History}

@@ -1,9 +1,9 @@
 -- How an image is picked.
-use Rattle.std.proofs.Common.{◌≡◌, ◌≢◌, ◌⊎◌, inl, inr, ⊎_elim, ℕ, zero, suc, ◌+◌, ◌-◌, ◌*◌, ◌/◌, ◌%◌, ◌^◌, ◌≤◌, ◌<◌, ◌&&◌, min, nat_le, not, Bool, true, false, List, [], ◌∷◌, ◌++◌, length, get_or, take, drop, set, if◌then◌else◌, refl, sym, ◌∙◌, ap, subst, arith, length-append, take-append-drop}
+use Rattle.std.proofs.Common.{◌≡◌, inl, inr, ⊎_elim, ℕ, ◌+◌, ◌/◌, ◌%◌, ◌<◌, ◌&&◌, nat_le, List, [], ◌∷◌, length, get_or, take, refl, sym, ◌∙◌, ap, subst, arith}
 use Rattle.std.proofs.lemmas.Bool.{cases_eq, cond_both}
 use Rattle.std.proofs.lemmas.List.{take_more, take_all}
 use Rattle.std.proofs.Common.{◌==◌, nat_lt}
-use Rattle.pm_region.specs.Cell.{Cell, certain, values, flushed, fenced, flush_line, fence_range, store_at}
+use Rattle.pm_region.specs.Cell.{Cell, certain, flushed, fenced}
 use Rattle.pm_region.specs.Journals.{act, cell_after}
 use Rattle.pm_region.specs.Image.{picked, pick_of, ArePicked, Repicks}
 use Rattle.pm_region.specs.declared.image.Pick.{Pick}

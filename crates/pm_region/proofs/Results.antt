@@ -1,5 +1,5 @@
 -- Clauses on a result, from what holds anyway.
-use Rattle.std.proofs.Common.{◌≡◌, Result, Ok, Err, OnErr, IsErrOf, ap, refl}
+use Rattle.std.proofs.Common.{Result, Ok, Err, OnErr, IsErrOf, ap}
 
 pub on_err : {A E : Type 0} (r : Result A E) (P : Type 0) → P → OnErr r P
 on_err (Ok a) P holds = tt

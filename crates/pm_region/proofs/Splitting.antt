@@ -1,11 +1,11 @@
 -- What a split says of each piece.
-use Rattle.std.proofs.Common.{◌≡◌, ◌≢◌, ◌⊎◌, inl, inr, ⊎_elim, ℕ, zero, suc, ◌+◌, ◌-◌, ◌*◌, ◌/◌, ◌%◌, ◌^◌, ◌≤◌, ◌<◌, ◌&&◌, min, nat_le, not, Bool, true, false, List, [], ◌∷◌, ◌++◌, length, get_or, take, drop, set, if◌then◌else◌, refl, sym, ◌∙◌, ap, subst, arith, length-append, take-append-drop}
+use Rattle.std.proofs.Common.{◌≡◌, ℕ, ◌+◌, ◌-◌, ◌≤◌, ◌<◌, List, get_or, refl, sym, ◌∙◌, ap, arith}
 use Rattle.pm_region.specs.Cell.{certain}
 use Rattle.pm_region.specs.State.{Frame}
 use Rattle.pm_region.specs.Split.{IsPiece, Parted}
 use Rattle.pm_region.specs.Journals.{cell_after, GoesOnFrom, IsComplete}
 use Rattle.pm_region.specs.Moves.{history_state, cell_of, IsPart}
-use Rattle.pm_region.specs.Volumes.{part_frame, part_state, volume_state}
+use Rattle.pm_region.specs.Volumes.{part_frame, volume_state}
 use Rattle.pm_region.specs.declared.history.History.{History}
 use Rattle.pm_region.specs.declared.volume.Volume.{Volume}
 use Rattle.pm_region.specs.declared.journal.Journal.{Journal}

@@ -1,5 +1,5 @@
 -- The words of bytes.
-use Rattle.std.specs.Prelude.{◌≡◌, ℕ, ◌*◌, ◌^◌, ◌<◌, List, length, drop, slice_index}
+use Rattle.std.specs.Prelude.{◌≡◌, ℕ, ◌*◌, ◌<◌, List, length, drop, slice_index}
 use Rattle.byteorder.specs.Endian.{little_number}
 
 -- the word at a place: eight bytes, the lowest first

@@ -1,5 +1,5 @@
 -- What a region in a file and its pieces say of themselves: nothing of their contents.
-use Rattle.std.specs.Prelude.{◌≡◌, ℕ, ◌+◌, ◌-◌, ◌*◌, ◌<◌, length, slice_index, slice_index_or, Bool, true, false, if◌then◌else◌, [], List}
+use Rattle.std.specs.Prelude.{◌≡◌, ℕ, ◌+◌, ◌-◌, ◌*◌, ◌<◌, length, slice_index, slice_index_or, Bool, false, if◌then◌else◌, [], List}
 use Rattle.pm_region.specs.Cell.{certain}
 use Rattle.pm_region.specs.State.{State, Frame}
 use Rattle.pm_region.specs.Split.{words_in}

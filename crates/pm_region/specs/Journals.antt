@@ -1,6 +1,6 @@
 -- A journal of steps, and what it makes of a cell.
 use Rattle.std.specs.Prelude.{◌≡◌, ◌⊎◌, ℕ, ◌+◌, ◌-◌, ◌^◌, ◌≤◌, ◌<◌, ◌&&◌, nat_le, min, Bool, true, List, [], ◌∷◌, ◌++◌, length, take, drop}
-use Rattle.pm_region.specs.Cell.{Cell, certain, store_at, flush_line, fence_range}
+use Rattle.pm_region.specs.Cell.{Cell, store_at, flush_line, fence_range}
 use Rattle.pm_region.specs.declared.journal.Step.{Step}
 use Rattle.pm_region.specs.declared.journal.Step.TheVariants.{Store, Flush, Fence, Nothing}
 use Rattle.pm_region.specs.declared.journal.Journal.{Journal}

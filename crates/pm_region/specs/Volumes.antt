@@ -1,5 +1,5 @@
 -- What a volume says, whatever its counts.
-use Rattle.std.specs.Prelude.{◌≡◌, ◌&&◌, ℕ, ◌+◌, ◌≤◌, not, Bool, true, false, if◌then◌else◌, [], List, length, slice_index}
+use Rattle.std.specs.Prelude.{◌&&◌, ℕ, ◌≤◌, not, Bool, false, if◌then◌else◌, [], List, length, slice_index}
 use Rattle.pm_region.specs.Cell.{Cell}
 use Rattle.pm_region.specs.State.{State, Frame, Goes}
 use Rattle.pm_region.specs.Split.{Attached, Stays, Parted, CameFrom, TakesPiece, Joined}

@@ -151,8 +151,8 @@ fn words_of_a_file(rt: HostRuntime) -> Result<(), Fail> {
     assert_eq!(rt; region.bytes(), 200);
     assert_eq!(rt; region.create(alloc, 16), Ok(()));
     assert_eq!(rt; region.words(), 16);
-    assert_eq!(rt; region.attach(alloc), Ok(()));
     assert_eq!(rt; region.bytes(), 128);
+    region.attach(alloc)?;
     assert_eq!(rt; region.words(), 16);
     assert_eq!(rt; write_part(alloc, &mut region, 8, 21), Ok(true));
     assert_eq!(rt; get(&region, 0), 21);

@@ -39,7 +39,7 @@ going_by s0 s start xs replies r e same told_is R images A = record {
   recorded = subst (λ rs. Recorded start xs rs (told_by e.answers)) (sym same) (subst (λ x. Recorded start xs replies x) (sym told_is) R);
   images = subst (λ x. RecoversSoFar s0 s start xs x) (sym told_is) images;
   answered = λ going. subst (λ rs. Answered start xs rs (told_by e.answers) s.stamp (cell_of e.store.cells)) (sym same)
-    (subst (λ x. Answered start xs replies x s.stamp (cell_of e.store.cells)) (sym told_is) (A going));
+      (subst (λ x. Answered start xs replies x s.stamp (cell_of e.store.cells)) (sym told_is) (A going));
 }
 
 told_same : (a b : Answers) → b.finishes.items ≡ a.finishes.items → b.refusals.items ≡ a.refusals.items → told_by b ≡ told_by a
@@ -82,9 +82,9 @@ answers_refused s e a k v why going reps fin ref s0 start done g =
     let f = refused_facts k v (cell_of e.store.cells k) why in
     let B = answered_refusal start done e.answers.replies.items r s.stamp (cell_of e.store.cells) q reply A f.0 f.1 f.2 (inr f.4) f.3 in
     let names : map (λ (x : Refusal). (x.request, reply_to x.why)) a.refusals.items ≡ r.refusals ++ (length done, reply) ∷ [] =
-        ap (map (λ (x : Refusal). (x.request, reply_to x.why))) ref
-        ∙ map-append (λ (x : Refusal). (x.request, reply_to x.why)) e.answers.refusals.items (record { request = length e.answers.replies.items; why = why } ∷ [])
-        ∙ ap (λ n. r.refusals ++ (n, reply) ∷ []) A.lawful.count in
+    ap (map (λ (x : Refusal). (x.request, reply_to x.why))) ref
+    ∙ map-append (λ (x : Refusal). (x.request, reply_to x.why)) e.answers.refusals.items (record { request = length e.answers.replies.items; why = why } ∷ [])
+    ∙ ap (λ n. r.refusals ++ (n, reply) ∷ []) A.lawful.count in
     let told_is : told_by a ≡ r' = (λ i. record { finishes = map (λ (x : Finish). (x.request, x.stamp)) (fin i); refusals = names i }) in
     going_by s0 s start (done ++ q ∷ []) (e.answers.replies.items ++ reply ∷ []) r' (record { store = e.store; answers = a; stopped = e.stopped }) reps told_is
     (recorded start (done ++ q ∷ []) (e.answers.replies.items ++ reply ∷ []) r' s.stamp (cell_of e.store.cells) B)
@@ -111,11 +111,19 @@ lasts_alike a b same = λ i k. same.lasts k i
 
 pub ready_alike : (s : State) (b : Store) (cells : Cells) → SameCells b.cells cells → Ready s b → Ready s (record { log = b.log; cells = cells; free = b.free; batch = b.batch })
 ready_alike s b cells same R = record {
-  one = R.one; part = R.part; first = R.first; words = R.words; stands = R.stands; free = R.free; few = R.few; empty = R.empty; room = R.room;
+  one = R.one;
+  part = R.part;
+  first = R.first;
+  words = R.words;
+  stands = R.stands;
+  free = R.free;
+  few = R.few;
+  empty = R.empty;
+  room = R.room;
   versions = λ k. subst (λ n. n ≤ 1048574) (sym (same.lasts k)) (R.versions k);
   shows = λ telling.
-    subst (λ f. EachImage s.frame (Shows s.frame.bytes b.log.layout f (last_of cells)) (cell_now s)) (sym (cells_alike b.cells cells same))
-    (subst (λ f. EachImage s.frame (Shows s.frame.bytes b.log.layout (cell_of b.cells) f) (cell_now s)) (sym (lasts_alike b.cells cells same)) (R.shows telling));
+      subst (λ f. EachImage s.frame (Shows s.frame.bytes b.log.layout f (last_of cells)) (cell_now s)) (sym (cells_alike b.cells cells same))
+      (subst (λ f. EachImage s.frame (Shows s.frame.bytes b.log.layout (cell_of b.cells) f) (cell_now s)) (sym (lasts_alike b.cells cells same)) (R.shows telling));
 }
 
 -- nothing was answered, and the cells are the same
@@ -160,28 +168,30 @@ module _ (s t : State) (e : Run) (a : Answers) (admitted after : Store) (k : ℕ
       let next : ℕ → Option (List ℕ) = with_at (cell_of admitted.cells) k (Some v) in
       let r' : Told = with_finish start done e.answers.replies.items r s.stamp (cell_of admitted.cells) q Stored B0 t.stamp low in
       let B = answered_finish start done e.answers.replies.items r s.stamp (cell_of admitted.cells) q Stored B0 t.stamp low next refl refl refl (inl refl) refl
-          (with_here (cell_of admitted.cells) k (Some v)) (λ j ne. with_else (cell_of admitted.cells) k (Some v) j (λ e. ne (sym e))) in
+      (with_here (cell_of admitted.cells) k (Some v)) (λ j ne. with_else (cell_of admitted.cells) k (Some v) j (λ e. ne (sym e))) in
       let names : map (λ (x : Finish). (x.request, x.stamp)) a.finishes.items ≡ r.finishes ++ (length done, t.stamp) ∷ [] =
-          ap (map (λ (x : Finish). (x.request, x.stamp))) fin
-          ∙ map-append (λ (x : Finish). (x.request, x.stamp)) e.answers.finishes.items (record { request = length e.answers.replies.items; stamp = t.stamp } ∷ [])
-          ∙ ap (λ n. r.finishes ++ (n, t.stamp) ∷ []) B0.lawful.count in
+      ap (map (λ (x : Finish). (x.request, x.stamp))) fin
+      ∙ map-append (λ (x : Finish). (x.request, x.stamp)) e.answers.finishes.items (record { request = length e.answers.replies.items; stamp = t.stamp } ∷ [])
+      ∙ ap (λ n. r.finishes ++ (n, t.stamp) ∷ []) B0.lawful.count in
       let told_is : told_by a ≡ r' = (λ i. record { finishes = names i; refusals = map (λ (x : Refusal). (x.request, reply_to x.why)) (ref i) }) in
       let cells : next ≡ cell_of after.cells = λ i j. settled_at j i in
       going_by s0 t start (done ++ q ∷ []) (e.answers.replies.items ++ Stored ∷ []) r' (record { store = after; answers = a; stopped = e.stopped }) reps told_is
       (recorded start (done ++ q ∷ []) (e.answers.replies.items ++ Stored ∷ []) r' t.stamp next B)
       (images_finished s0 s start done e.answers.replies.items r q (cell_of admitted.cells) B0 Stored t admitted.log.layout one_core (last_of admitted.cells) k (last_of admitted.cells k + 1) v refl run g.images low
-        (e.answers.replies.items ++ Stored ∷ []) B (λ telling. shows_next telling))
+      (e.answers.replies.items ++ Stored ∷ []) B (λ telling. shows_next telling))
       (λ still. subst (λ c. Answered start (done ++ q ∷ []) (e.answers.replies.items ++ Stored ∷ []) r' t.stamp c) cells B) where
         settled_at : (j : ℕ) → with_at (cell_of admitted.cells) k (Some v) j ≡ cell_of after.cells j
         settled_at j = elim (j == k) as (λ b. (j == k) ≡ b → cond b (Some v) (cell_of admitted.cells j) ≡ cell_of after.cells j) [
-            | true ↦ λ is. sym settles.cell ∙ ap (cell_of after.cells) (sym (eqb-true j k is))
-            | false ↦ λ isnt. sym (settles.other_cells j (eqb-false j k isnt))
-          ] refl
+          | true ↦ λ is. sym settles.cell ∙ ap (cell_of after.cells) (sym (eqb-true j k is))
+          | false ↦ λ isnt. sym (settles.other_cells j (eqb-false j k isnt))
+        ] refl
+
         last_at : (j : ℕ) → with_at (last_of admitted.cells) k (last_of admitted.cells k + 1) j ≡ last_of after.cells j
         last_at j = elim (j == k) as (λ b. (j == k) ≡ b → cond b (last_of admitted.cells k + 1) (last_of admitted.cells j) ≡ last_of after.cells j) [
-            | true ↦ λ is. sym settles.last ∙ ap (last_of after.cells) (sym (eqb-true j k is))
-            | false ↦ λ isnt. sym (settles.other_lasts j (eqb-false j k isnt))
-          ] refl
+          | true ↦ λ is. sym settles.last ∙ ap (last_of after.cells) (sym (eqb-true j k is))
+          | false ↦ λ isnt. sym (settles.other_lasts j (eqb-false j k isnt))
+        ] refl
+
         shows_next : IsTelling t → EachImage s.frame (Shows s.frame.bytes admitted.log.layout (with_at (cell_of admitted.cells) k (Some v)) (with_at (last_of admitted.cells) k (last_of admitted.cells k + 1))) (cell_now t)
         shows_next telling =
             subst (λ f. EachImage f (Shows f.bytes admitted.log.layout (with_at (cell_of admitted.cells) k (Some v)) (with_at (last_of admitted.cells) k (last_of admitted.cells k + 1))) (cell_now t)) run.frame

@@ -36,8 +36,8 @@ none_in_all f from (suc n) h = (λ i. h from (omega arith) (omega arith) i ++ no
 pub empty_shows : (l : Geometry) (image : ℕ → ℕ) → l.cores ≡ 1 → IsLayout l → IsEmptyImage l image → Shows (total_bytes l) l (λ k. None) (λ k. 0) image
 empty_shows l image one is empty =
     let none : all_entries l image ≡ [] = none_in_all (part_entries l image) 0 l.cores (λ c low high.
-      let z : c ≡ 0 = omega (arith, high, one) in
-      ap (part_entries l image) z ∙ none_in_all (chunk_entries l image 0) 0 l.chunks (λ j a b. free_entries l image 0 j (empty.free j (omega (arith, b))))) in
+    let z : c ≡ 0 = omega (arith, high, one) in
+    ap (part_entries l image) z ∙ none_in_all (chunk_entries l image 0) 0 l.chunks (λ j a b. free_entries l image 0 j (empty.free j (omega (arith, b))))) in
     record {
       superblock = keeps_rules l is image empty.superblock;
       layout = empty.superblock.layout;
@@ -62,12 +62,12 @@ kind_in_range s l e j lt =
 certain_word : (s : State) (l : Geometry) → IsEmptyRegion s l → IsTelling s → (w : ℕ) → InRange s.frame w → (v : ℕ) → ((image : ℕ → ℕ) → MayLeave s.frame (cell_now s) image → image w ≡ v) → Surely (cell_now s w) v
 certain_word s l e telling w inside v has x may =
     sym (patch_in w (w + 1) (λ n. x) (lasts s) w (omega arith) (omega arith)) ∙ has (patch w (w + 1) (λ n. x) (lasts s)) (λ n r. ⊎_elim
-      (λ lt. subst (λ y. MayBe (cell_now s n) y) (sym (patch_out w (w + 1) (λ m. x) (lasts s) n (inl lt))) (may_be_last (cell_now s n) (lasts s n) refl))
-      (λ ge. ⊎_elim
-        (λ lt. let is : w ≡ n = omega (arith, ge, lt) in subst (λ m. MayBe (cell_now s m) (patch w (w + 1) (λ k. x) (lasts s) m)) is (subst (λ y. MayBe (cell_now s w) y) (sym (patch_in w (w + 1) (λ m. x) (lasts s) w (omega arith) (omega arith))) may))
-        (λ past. subst (λ y. MayBe (cell_now s n) y) (sym (patch_out w (w + 1) (λ m. x) (lasts s) n (inr past))) (may_be_last (cell_now s n) (lasts s n) refl))
-        (cases_lt n (w + 1)))
-      (cases_lt n w))
+    (λ lt. subst (λ y. MayBe (cell_now s n) y) (sym (patch_out w (w + 1) (λ m. x) (lasts s) n (inl lt))) (may_be_last (cell_now s n) (lasts s n) refl))
+    (λ ge. ⊎_elim
+    (λ lt. let is : w ≡ n = omega (arith, ge, lt) in subst (λ m. MayBe (cell_now s m) (patch w (w + 1) (λ k. x) (lasts s) m)) is (subst (λ y. MayBe (cell_now s w) y) (sym (patch_in w (w + 1) (λ m. x) (lasts s) w (omega arith) (omega arith))) may))
+    (λ past. subst (λ y. MayBe (cell_now s n) y) (sym (patch_out w (w + 1) (λ m. x) (lasts s) n (inr past))) (may_be_last (cell_now s n) (lasts s n) refl))
+    (cases_lt n (w + 1)))
+    (cases_lt n w))
 
 module _ (s : State) (l : Geometry) (e : IsEmptyRegion s l) (b : Store) (own : IsOwn b.log) (layout : b.log.layout ≡ l) (part : b.log.part ≡ 0) (none : (j : ℕ) → tail_of b.log.chunks j ≡ None)
     (falling : (i : ℕ) → i + 1 < length b.free.items → slice_index b.free.items (i + 1) < slice_index b.free.items i) (within : (i : ℕ) → i < length b.free.items → slice_index b.free.items i < l.chunks) (few : length b.free.items ≤ 64)
@@ -110,9 +110,9 @@ module _ (s : State) (l : Geometry) (e : IsEmptyRegion s l) (b : Store) (own : I
     room = room;
     versions = λ k. let z = lasts k in omega (arith, z);
     shows = λ telling image may.
-      subst (λ n. Shows n b.log.layout (cell_of b.cells) (last_of b.cells) image) (sym e.bytes)
-      (subst (λ g. Shows (total_bytes l) g (cell_of b.cells) (last_of b.cells) image) (sym layout)
-      (subst (λ f. Shows (total_bytes l) l f (last_of b.cells) image) (λ i k. sym (cells k) i)
-      (subst (λ f. Shows (total_bytes l) l (λ k. None) f image) (λ i k. sym (lasts k) i)
-      (empty_shows l image e.one e.layout (e.images telling image may)))));
+        subst (λ n. Shows n b.log.layout (cell_of b.cells) (last_of b.cells) image) (sym e.bytes)
+        (subst (λ g. Shows (total_bytes l) g (cell_of b.cells) (last_of b.cells) image) (sym layout)
+        (subst (λ f. Shows (total_bytes l) l f (last_of b.cells) image) (λ i k. sym (cells k) i)
+        (subst (λ f. Shows (total_bytes l) l (λ k. None) f image) (λ i k. sym (lasts k) i)
+        (empty_shows l image e.one e.layout (e.images telling image may)))));
   }

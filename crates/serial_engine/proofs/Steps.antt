@@ -42,8 +42,8 @@ over_split s0 s t P Q R first next before after = record {
   only = λ n told lt. first.only n (next.only n told (omega (arith, lt, first.later))) lt;
   was = λ n told le. ⊎_elim (λ lt. first.was n (next.only n told lt) le) (λ ge. first.was s.stamp (next.was n told ge) first.later) (cases_lt n s.stamp);
   each = λ n told le. ⊎_elim
-    (λ lt. let was = next.only n told lt in along (R n) (t.cells n) (s.cells n) (λ w. next.same n w was) (before n lt was (first.each n was le)))
-    (λ ge. after n ge told (next.each n told ge)) (cases_lt n s.stamp);
+      (λ lt. let was = next.only n told lt in along (R n) (t.cells n) (s.cells n) (λ w. next.same n w was) (before n lt was (first.each n was le)))
+      (λ ge. after n ge told (next.each n told ge)) (cases_lt n s.stamp);
 }
 
 module _ (s0 s : State) (start : ℕ → Option (List ℕ)) (done : List Request) (replies : List Reply) (r : Told) (q : Request) where
@@ -64,9 +64,9 @@ module _ (s0 s : State) (start : ℕ → Option (List ℕ)) (done : List Request
     pub images_quiet : (r' : Told) (replies' : List Reply) → r'.finishes ≡ r.finishes → Answered start more replies' r' s.stamp cell → RecoversSoFar s0 s start done r → RecoversSoFar s0 s start more r'
     images_quiet r' replies' same B images = over_weaken s0 s (By done r) (By more r')
         (λ t telling told le each image may. recovers_still s0.frame.bytes start done replies r s.stamp cell A more replies' r' s.stamp cell B
-          (λ k. ap (λ fs. finished_changes k more (map (λ (f : ℕ × ℕ). f.0) fs)) same ∙ changes_stay start done replies r s.stamp cell q reply A (refused_in r) (λ m lt. refl) k)
-          (λ k n. ap (λ fs. finished_by k more fs n) same ∙ finished_by-append k n done (q ∷ []) r.finishes (each_finish (length done) r.finishes A.finishes))
-          t image (each image may)) images
+        (λ k. ap (λ fs. finished_changes k more (map (λ (f : ℕ × ℕ). f.0) fs)) same ∙ changes_stay start done replies r s.stamp cell q reply A (refused_in r) (λ m lt. refl) k)
+        (λ k n. ap (λ fs. finished_by k more fs n) same ∙ finished_by-append k n done (q ∷ []) r.finishes (each_finish (length done) r.finishes A.finishes))
+        t image (each image may)) images
 
     module _ (t : State) (l : Geometry) (one : l.cores ≡ 1) (lasts : ℕ → ℕ) (key version : ℕ) (value : List ℕ) (put : q ≡ Put key value)
         (run : During s t (EachImage s.frame (ShowsEither s.frame.bytes l cell lasts key version value))) (images : RecoversSoFar s0 s start done r) where
@@ -106,14 +106,14 @@ module _ (s0 s : State) (start : ℕ → Option (List ℕ)) (done : List Request
             (By more (with_finish start done replies r s.stamp cell q reply A t.stamp low)) images run
             (λ n lt told each image may. recovers_before s0.frame.bytes start done replies r s.stamp cell A q next own_next others reply t.stamp low n image (omega (arith, lt, low)) (each image may))
             (λ n ge told each image may. ⊎_elim
-              (λ lt. recovers_during s0.frame.bytes start done replies r s.stamp cell A q next own_next others reply t.stamp low n image ge lt (holds image (each image (in_s (t.cells n) image may))))
-              (λ past.
-                let is : n ≡ t.stamp = let seen = told.seen in omega (arith, seen, past) in
-                let telling : IsTelling t = subst (IsTold t) is told in
-                let here : MayLeave s.frame (cell_now t) image = subst (λ n. MayLeave s.frame (t.cells n) image) is (in_s (t.cells n) image may) in
-                holds_all s0.frame.bytes start more replies' (with_finish start done replies r s.stamp cell q reply A t.stamp low) t.stamp next B n image past
-                (subst (λ (f : Frame). HoldsCells f.bytes next image) frame_is (shown_holds s.frame.bytes l next (with_at lasts key version) image one (exit telling image here))))
-              (cases_lt n t.stamp))
+            (λ lt. recovers_during s0.frame.bytes start done replies r s.stamp cell A q next own_next others reply t.stamp low n image ge lt (holds image (each image (in_s (t.cells n) image may))))
+            (λ past.
+            let is : n ≡ t.stamp = let seen = told.seen in omega (arith, seen, past) in
+            let telling : IsTelling t = subst (IsTold t) is told in
+            let here : MayLeave s.frame (cell_now t) image = subst (λ n. MayLeave s.frame (t.cells n) image) is (in_s (t.cells n) image may) in
+            holds_all s0.frame.bytes start more replies' (with_finish start done replies r s.stamp cell q reply A t.stamp low) t.stamp next B n image past
+            (subst (λ (f : Frame). HoldsCells f.bytes next image) frame_is (shown_holds s.frame.bytes l next (with_at lasts key version) image one (exit telling image here))))
+            (cases_lt n t.stamp))
 
 -- Before the first request, with a report that names none.
 pub nothing_answered : (start : ℕ → Option (List ℕ)) (now : ℕ) → Answered start [] [] (record { finishes = []; refusals = [] }) now start

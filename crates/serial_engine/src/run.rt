@@ -68,7 +68,12 @@ impl Run {
     }
 
     /// Answers one request. Want of memory leaves the request unanswered, and the region as it was.
-    pub fn answer<R: Region>(&mut self, alloc: Global, region: &mut R, request: Request) -> Result<(), Memory>
+    pub fn answer<R: Region>(
+        &mut self,
+        alloc: Global,
+        region: &mut R,
+        request: Request,
+    ) -> Result<(), Memory>
         requires served { IsServed request }
         requires ready { IsReady (R.state region.old) self.old }
         ensures ok { OnOk result (AnswersOne (R.state region.old) (R.state region.new) self.old self.new request) }
@@ -91,7 +96,12 @@ impl Run {
     }
 
     /// Answers requests in order, up to the first for which there is no memory.
-    pub fn answer_all<R: Region>(&mut self, alloc: Global, region: &mut R, requests: Vec<Request>) -> Result<(), Memory>
+    pub fn answer_all<R: Region>(
+        &mut self,
+        alloc: Global,
+        region: &mut R,
+        requests: Vec<Request>,
+    ) -> Result<(), Memory>
         requires served { AllByRecursion IsServed requests.items }
         requires ready { IsReady (R.state region.old) self.old }
         ensures ok { OnOk result (AnswersList (R.state region.old) (R.state region.new) self.old self.new requests.items) }

@@ -165,7 +165,12 @@ impl Store {
     }
 
     /// Stores a value that is not refused. After a fault nothing is written any more.
-    pub fn put<R: Region>(&mut self, region: &mut R, key: Key, value: Value) -> Result<(), RegionFault>
+    pub fn put<R: Region>(
+        &mut self,
+        region: &mut R,
+        key: Key,
+        value: Value,
+    ) -> Result<(), RegionFault>
         requires ready { Ready (R.state region.old) self.old }
         requires record { has_record self.old.cells key ≡ true }
         requires versions { last_of self.old.cells key < 1048574 }

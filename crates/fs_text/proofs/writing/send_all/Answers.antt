@@ -1,4 +1,3 @@
-use Rattle.std.proofs.Common.{arith}
 use Rattle.std.proofs.Math.Nat.{le_trans}
 use Rattle.fs_text.proofs.Streaming.{up_to_part}
 use Rattle.fs_text.proofs.writing.send_all.Goals as goal

@@ -1,5 +1,4 @@
-use Rattle.std.proofs.Common.{◌≡◌, ◌+◌, [], ◌∷◌, ◌++◌, get_or, refl}
-use Rattle.pm_region.specs.Files.{IsFilePart}
+use Rattle.std.proofs.Common.{get_or, refl}
 use Rattle.pm_region.specs.declared.file.FilePiece.{FilePiece}
 use Rattle.pm_region.proofs.Filing.{file_parts_more}
 use Rattle.pm_region.proofs.file.file_pieces.Goals as goal

@@ -1,4 +1,3 @@
-use Rattle.std.proofs.Common.{◌+◌, ◌-◌}
 use Rattle.pm_region.specs.Files.{AreFileParts}
 use Rattle.pm_region.proofs.file.file_pieces.Given as goal
 

@@ -1,7 +1,6 @@
-use Rattle.std.proofs.Common.{◌≡◌, ◌≢◌, ◌+◌, ◌<◌, ℕ, List, Vec, length, get_or, refl, sym, ◌∙◌, ap, subst}
+use Rattle.std.proofs.Common.{◌+◌, ℕ, List, get_or, sym, ap, subst}
 use Rattle.pm_region.specs.Image.{ArePicked}
-use Rattle.pm_region.specs.declared.journal.Step.{Step}
-use Rattle.pm_region.specs.declared.journal.Step.TheVariants.{Store, Flush, Fence, Nothing}
+use Rattle.pm_region.specs.declared.journal.Step.TheVariants.{Store}
 use Rattle.pm_region.proofs.Picking.{picked_on, picked_more, stores_that, stores_none}
 use Rattle.pm_region.proofs.image.pick_words.Goals as goal
 use Rattle.pm_region.proofs.image.pick_words.Goals.{in-Store+in_ok-pick_word, in_default}

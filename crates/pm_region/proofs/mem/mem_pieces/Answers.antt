@@ -1,4 +1,4 @@
-use Rattle.std.proofs.Common.{◌≡◌, [], ◌∷◌, ◌++◌, refl, rules}
+use Rattle.std.proofs.Common.{refl}
 use Rattle.pm_region.specs.declared.mem.MemPiece.{MemPiece}
 use Rattle.pm_region.proofs.Taking.{parts_more}
 use Rattle.pm_region.proofs.Planning.{planned_more}

@@ -1,4 +1,3 @@
-use Rattle.std.proofs.Common.{◌≡◌, ℕ, ◌+◌, ◌-◌}
 use Rattle.pm_region.specs.Join.{AreParts}
 use Rattle.pm_region.specs.Mem.{ArePlanned}
 use Rattle.pm_region.proofs.mem.mem_pieces.Given as goal

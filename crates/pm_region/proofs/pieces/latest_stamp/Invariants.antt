@@ -1,4 +1,4 @@
-use Rattle.std.proofs.Common.{◌≡◌, ℕ, ◌≤◌, ◌<◌, length, get_or}
+use Rattle.std.proofs.Common.{ℕ, ◌≤◌, ◌<◌, get_or}
 use Rattle.pm_region.proofs.pieces.latest_stamp.Given as goal
 
 abbrev pub invariant-loop-piece : goal.invariant-loop-piece

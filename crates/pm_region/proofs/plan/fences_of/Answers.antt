@@ -1,4 +1,4 @@
-use Rattle.std.proofs.Common.{◌≡◌, ◌≢◌, ◌++◌, ◌∷◌, [], ℕ, List, get_or, sym, ◌∙◌, ap}
+use Rattle.std.proofs.Common.{◌++◌, ◌∷◌, [], ℕ, List, get_or, sym, ◌∙◌, ap}
 use Rattle.pm_region.specs.declared.plan.FenceNumber.{FenceNumber}
 use Rattle.pm_region.proofs.Planning.{numbers_with, numbers_without}
 use Rattle.pm_region.proofs.plan.fences_of.Goals as goal

@@ -1,4 +1,4 @@
-use Rattle.std.proofs.Common.{◌≡◌, ◌<◌, ◌^◌, ℕ, List, length, get_or, sym, ap, subst, arith}
+use Rattle.std.proofs.Common.{◌<◌, ◌^◌, ℕ, List, get_or, sym, subst, arith}
 use Rattle.pm_region.proofs.history.History.new.Goals as goal
 
 pub invariant_of-result-clause-wide : goal.invariant_of-result-clause-wide

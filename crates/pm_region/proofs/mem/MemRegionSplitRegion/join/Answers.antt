@@ -1,4 +1,4 @@
-use Rattle.std.proofs.Common.{◌≡◌, ◌<◌, ◌≤◌, ℕ, List, length, get_or, sym, ◌∙◌, subst, arith}
+use Rattle.std.proofs.Common.{◌<◌, ◌≤◌, List, length, get_or, sym, ◌∙◌, subst}
 use Rattle.pm_region.specs.Split.{TakesPiece}
 use Rattle.pm_region.specs.Volumes.{volume_state}
 use Rattle.pm_region.specs.Mem.{mem_piece_state}

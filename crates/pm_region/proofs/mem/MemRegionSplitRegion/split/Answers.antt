@@ -1,4 +1,4 @@
-use Rattle.std.proofs.Common.{◌≡◌, ◌+◌, ◌-◌, ◌<◌, ◌≤◌, ℕ, List, length, get_or, refl, sym, ◌∙◌, subst, arith, rules}
+use Rattle.std.proofs.Common.{◌-◌, ◌<◌, ℕ, length, get_or, refl, sym, ◌∙◌, subst, arith}
 use Rattle.pm_region.specs.Split.{IsPiece}
 use Rattle.pm_region.specs.Volumes.{frame_of, part_state, volume_state}
 use Rattle.pm_region.proofs.Results.{on_err}

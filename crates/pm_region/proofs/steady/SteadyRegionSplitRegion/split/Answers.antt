@@ -1,4 +1,4 @@
-use Rattle.std.proofs.Common.{◌+◌, ◌-◌, ◌<◌, ◌≤◌, ℕ, List, length, refl, subst, arith, rules}
+use Rattle.std.proofs.Common.{◌-◌, ◌<◌, ℕ, List, length, refl, subst, arith}
 use Rattle.pm_region.specs.Split.{Parted}
 use Rattle.pm_region.specs.Steady.{steady_state}
 use Rattle.pm_region.specs.Volumes.{frame_of, state_with}

@@ -1,4 +1,4 @@
-use Rattle.std.proofs.Common.{◌≡◌, ◌<◌, ◌≤◌, length, get_or, arith}
+use Rattle.std.proofs.Common.{get_or}
 use Rattle.pm_region.proofs.Joining.{fits, takes, joined}
 use Rattle.pm_region.proofs.volume.Volume.join.Goals as goal
 

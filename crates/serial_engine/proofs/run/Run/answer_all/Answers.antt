@@ -25,13 +25,13 @@ answer-requires-clause-ready g c = c.loop-request.invariant.ready
 pub loop-request-preserved : goal.loop-request-preserved
 loop-request-preserved g c = record {
   answers = list_then_one (g.R.Region.state c.args.region.now) (g.R.Region.state c.loop-request.region) (g.R.Region.state c.answer.new.region) c.args.self.now c.loop-request.self c.answer.new.self c.loop-request.yielded c.in-Some.request
-    c.loop-request.invariant.answers c.in_ok-answer.ensures.ok;
+      c.loop-request.invariant.answers c.in_ok-answer.ensures.ok;
   ready = c.answer.ensures.ready;
   split = c.loop-request.invariant.split ∙ ap (λ xs. c.loop-request.yielded ++ xs) c.in-Some.ensures.steps.0 ∙ sym (append_assoc c.loop-request.yielded (c.in-Some.request ∷ []) c.next.new.self.rest.items);
   served = (subst (AllByRecursion IsServed) c.in-Some.ensures.steps.0 c.loop-request.invariant.served).1;
   count = omega (arith, c.loop-request.invariant.count, c.answer.ensures.count);
   cause = rose_on (g.R.Region.state c.args.region.now).faults (g.R.Region.state c.loop-request.region).faults (g.R.Region.state c.answer.new.region).faults c.args.self.now.stopped c.loop-request.self.stopped c.answer.new.self.stopped
-    c.loop-request.invariant.count c.answer.ensures.count c.loop-request.invariant.cause c.answer.ensures.cause;
+      c.loop-request.invariant.count c.answer.ensures.count c.loop-request.invariant.cause c.answer.ensures.cause;
 }
 
 pub returns-in_err-answer-clause-err : goal.returns-in_err-answer-clause-err
@@ -40,7 +40,7 @@ returns-in_err-answer-clause-err g c = always_err c.from_residual.result (record
   rest = c.loop-request.request-iterator.rest.items;
   all = c.loop-request.invariant.split;
   answers = list_then_none (g.R.Region.state c.args.region.now) (g.R.Region.state c.loop-request.region) (g.R.Region.state c.answer.new.region) c.args.self.now c.loop-request.self c.answer.new.self c.loop-request.yielded
-    c.loop-request.invariant.answers c.in_err-answer.ensures.err;
+      c.loop-request.invariant.answers c.in_err-answer.ensures.err;
 })
 
 pub returns-in_err-answer-clause-count : goal.returns-in_err-answer-clause-count

@@ -1,0 +1,116 @@
+-- From a replay that answered nothing to what the program promises.
+use Rattle.std.proofs.Common.{◌≡◌, ◌⊎◌, inl, inr, ℕ, List, [], sym, ◌∙◌, ap, subst, refl, true, false, Bool, Option, Some, None, Result, Ok, Err}
+use Rattle.pm_region.specs.State.{State, IsTelling, Rose}
+use Rattle.pm_region.specs.Split.{Attached}
+use Rattle.fs_model.specs.declared.model.Request.{Request}
+use Rattle.fs_model.specs.declared.model.Reply.{Reply}
+use Rattle.store_image.specs.Soundness.{IsSound}
+use Rattle.fs_text.specs.declared.line.Line.{Line}
+use Rattle.fs_text.specs.declared.stages.Stop.{Stop}
+use Rattle.fs_text.specs.declared.stages.Stop.TheVariants as stops
+use Rattle.fs_text.specs.Input.{trace_of}
+use Rattle.fs_text.specs.Stages.{input_or_stop}
+use Rattle.headline.specs.Headline.{Told, cells_of, RecoversThroughout}
+use Rattle.headline.specs.Run.{Recorded}
+use Rattle.headline.proofs.Run.{recorded}
+use Rattle.serial_engine.specs.Answers.{told}
+use Rattle.serial_engine.proofs.Steps.{nothing_answered}
+use Rattle.pm_region.specs.Words.{lasts}
+use Rattle.flatstore.specs.Fresh.{IsFresh}
+use Rattle.flatstore.specs.Promise.{WritesFront, IsInput, Replays, IsDue, IsFault, built_now, status_of, is_stop, told_in}
+use Rattle.flatstore.specs.Reads.{IsUnread}
+use Rattle.flatstore.specs.Played.{IsRefused}
+use Rattle.flatstore.specs.declared.report.Status.{Status}
+use Rattle.flatstore.specs.declared.report.Status.TheVariants as statuses
+use Rattle.flatstore.specs.declared.report.Report.{Report}
+use Rattle.flatstore.proofs.Answering.{all_stop}
+use Rattle.flatstore.proofs.Attached.{found_fresh, lasts_fresh, crash_at_attach}
+use Rattle.flatstore.proofs.Replaying.{no_text}
+
+-- a status at which no request was answered for want of more than memory
+abbrev pub answers_none : Status → Bool
+answers_none statuses.Done = false
+answers_none statuses.Usage = false
+answers_none (statuses.BadInput line rule) = true
+answers_none statuses.SourceFault = true
+answers_none statuses.SinkFault = false
+answers_none statuses.RegionFault = false
+answers_none statuses.Memory = true
+answers_none (statuses.NotBuilt line) = true
+
+stop_none : (r : Result (List Line) Stop) → is_stop r ≡ true → answers_none (status_of r) ≡ true
+stop_none (Ok lines) h = cc h
+stop_none (Err (stops.Bad line rule)) h = refl
+stop_none (Err (stops.NotBuilt line)) h = refl
+
+pub some_input : (coming : Option (List ℕ)) → (input : List ℕ) × IsInput coming input
+some_input None = ([], tt)
+some_input (Some bytes) = (bytes, refl)
+
+pub input_is : (coming : Option (List ℕ)) (input : List ℕ) → IsInput coming input → (told : List ℕ) → coming ≡ Some told → input ≡ told
+input_is None input h told e = cc e
+input_is (Some bytes) input h told e = let same : bytes ≡ told = cc e in sym h ∙ same
+
+module _ (old s : State) (found : ℕ → ℕ) (A : Attached old s s.frame.bytes found) (coming : Option (List ℕ)) (source source' : ℕ) (status : Status) (U : IsRefused s coming source source' status) where
+  unread_none : IsUnread coming source source' status → answers_none status ≡ true
+  unread_none (inl u) = ap answers_none u.3 ∙ stop_none (input_or_stop built_now 1 u.0) u.2
+  unread_none (inr (inl u)) = ap answers_none u.0
+  unread_none (inr (inr u)) = ap answers_none u
+
+  refused_none : IsRefused s coming source source' status → answers_none status ≡ true
+  refused_none (inl u) = ap answers_none u.0
+  refused_none (inr u) = unread_none u.2
+
+  pub is_none : answers_none status ≡ true
+  is_none = refused_none U
+
+  pub apart_from : (other : Status) → answers_none other ≡ false → status ≡ other → ⊥
+  apart_from other no e = both (answers_none other) (sym (ap answers_none e) ∙ is_none) no where
+    both : (b : Bool) → b ≡ true → b ≡ false → ⊥
+    both b p q = cc (sym p ∙ q)
+
+  pub refused_replays : (r : Report) → r.status ≡ status → r.finishes.items ≡ [] → r.refusals.items ≡ [] → (input : List ℕ) (text : Option (List ℕ)) (faults : ℕ) → IsSound s.frame.bytes found
+      → Replays old s found input text text faults faults r
+  refused_replays r is fin ref input text faults sound =
+      let none : Told = record { finishes = []; refusals = [] } in
+      let nothing : told_in r ≡ none = (λ i. told (fin i) (ref i)) in
+      let trace : List Request = trace_of (found 2) input in
+      let stops = all_stop (cells_of found) [] [] none trace (recorded (cells_of found) [] [] none 0 (cells_of found) (nothing_answered (cells_of found) 0)) in
+      record {
+        done = λ done telling. absurd (apart_from statuses.Done refl (sym is ∙ done));
+        failed = λ failed other steady telling. absurd (apart_from statuses.RegionFault refl (sym is ∙ failed));
+        begins = λ telling. subst (λ x. WritesFront (cells_of found) trace x text text) (sym nothing) (no_text (cells_of found) trace none stops.0 text text stops.1 refl);
+        crash = subst (λ x. RecoversThroughout s (cells_of found) trace x) (sym nothing) (crash_at_attach old s found A sound trace);
+        last = λ done telling image may k small. absurd (apart_from statuses.Done refl (sym is ∙ done));
+      }
+
+  unread_due : IsUnread coming source source' status → IsTelling s → IsFresh s.frame.bytes (lasts s) → (input : List ℕ) → coming ≡ Some input → (sink sink' : ℕ) → IsDue s.frame.bytes found input status ⊎ IsFault old s source source' sink sink' status
+  unread_due u telling fresh input is sink sink' = elim u [
+      | inl x ↦ inl (inr (found_fresh old s found A telling fresh, x.3 ∙ ap (λ i. status_of (input_or_stop built_now 1 i)) (input_is coming x.0 x.1 input is)))
+      | inr y ↦ elim y [ | inl f ↦ inr (inr (inl f)) | inr m ↦ inr (inl m) ]
+    ]
+
+  pub refused_due : (input : List ℕ) → coming ≡ Some input → IsTelling s → (sink sink' : ℕ) → IsDue s.frame.bytes found input status ⊎ IsFault old s source source' sink sink' status
+  refused_due input is telling sink sink' = elim U [
+      | inl u ↦ inl (inl (λ fresh. u.1 telling (lasts_fresh old s found A telling fresh), u.0))
+      | inr u ↦ unread_due u.2 telling (u.1 telling) input is sink sink'
+    ]
+
+  unread_source : IsUnread coming source source' status → status ≡ statuses.SourceFault → Rose source source'
+  unread_source (inl u) e = absurd (no_source (input_or_stop built_now 1 u.0) (sym u.3 ∙ e)) where
+    no_source : (r : Result (List Line) Stop) → status_of r ≡ statuses.SourceFault → ⊥
+    no_source (Ok lines) q = cc q
+    no_source (Err (stops.Bad line rule)) q = cc q
+    no_source (Err (stops.NotBuilt line)) q = cc q
+  unread_source (inr (inl u)) e = u.1
+  unread_source (inr (inr u)) e = absurd (cc_no (sym u ∙ e)) where
+    cc_no : statuses.Memory ≡ statuses.SourceFault → ⊥
+    cc_no q = cc q
+
+  pub refused_source : status ≡ statuses.SourceFault → Rose source source'
+  refused_source e = elim U [
+      | inl u ↦ absurd (no_source (sym u.0 ∙ e))
+      | inr u ↦ unread_source u.2 e
+    ] where
+      no_source : statuses.NotBuilt 0 ≡ statuses.SourceFault → ⊥
+      no_source q = cc q
