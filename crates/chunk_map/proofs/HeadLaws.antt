@@ -1,17 +1,17 @@
 -- The head of a chunk is read while it is set.
-use Rattle.std.proofs.Common.{◌≡◌, ◌≢◌, ◌⊎◌, inl, inr, ⊎_elim, ℕ, zero, suc, ◌+◌, ◌-◌, ◌*◌, ◌/◌, ◌%◌, ◌≤◌, ◌<◌, ◌==◌, ◌&&◌, nat_le, true, false, cond, Result, Ok, Err, refl, sym, ◌∙◌, ap, subst, arith}
+use Rattle.std.proofs.Common.{◌≡◌, ◌≢◌, inl, inr, ⊎_elim, ℕ, ◌+◌, ◌*◌, ◌/◌, ◌%◌, ◌==◌, ◌&&◌, nat_le, cond, Result, Ok, Err, refl, sym, ◌∙◌, ap, subst, arith}
 use Rattle.std.proofs.lemmas.Bool.{cases_eq, and_from, eq-eqb, ne_eqb, le-leb, cond-true, cond-false}
-use Rattle.pm_region.specs.Cell.{Cell, MayBe}
+use Rattle.pm_region.specs.Cell.{MayBe}
 use Rattle.pm_region.specs.State.{State, IsTelling, cell_now, During}
-use Rattle.pm_region.specs.Words.{MayLeaveIn, EachIn}
+use Rattle.pm_region.specs.Words.{EachIn}
 use Rattle.pm_region.proofs.Moments.{weaken}
 use Rattle.pm_region.proofs.Cells.{may_be_last}
 use Rattle.chunk_map.specs.declared.layouts.Geometry.{Geometry}
 use Rattle.chunk_map.specs.declared.heads.Head.{Head}
 use Rattle.chunk_map.specs.declared.heads.Head.TheVariants.{Free, Log, Data}
-use Rattle.chunk_map.specs.Layouts.{payload_words, is_class, head_by, head_at}
+use Rattle.chunk_map.specs.Layouts.{payload_words, is_class, head_by}
 use Rattle.chunk_map.specs.Checked.{FitsHead}
-use Rattle.chunk_map.specs.Setting.{HasKind, HasTail, HeadTurns, HasHead, HasEitherHead}
+use Rattle.chunk_map.specs.Setting.{HeadTurns, HasHead, HasEitherHead}
 
 -- the words of a head that fits are read as it
 pub log_read : (l : Geometry) (tail : ℕ) → FitsHead l (Log tail) → head_by l 1 tail ≡ Ok (Log tail)

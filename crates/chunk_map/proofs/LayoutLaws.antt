@@ -1,10 +1,10 @@
 -- What the rules of a layout say of its numbers, and where parts and chunks lie.
-use Rattle.std.proofs.Common.{◌≡◌, ◌≢◌, ◌⊎◌, inl, inr, ⊎_elim, ℕ, suc, ◌+◌, ◌-◌, ◌*◌, ◌/◌, ◌%◌, ◌^◌, ◌≤◌, ◌<◌, ◌==◌, ◌&&◌, ◌||◌, nat_le, Bool, true, false, if◌then◌else◌, List, [], ◌∷◌, Option, Some, None, refl, sym, ◌∙◌, ap, subst, arith, lit≤}
+use Rattle.std.proofs.Common.{◌≡◌, ◌≢◌, ◌⊎◌, inl, inr, ⊎_elim, ℕ, suc, ◌+◌, ◌*◌, ◌/◌, ◌%◌, ◌^◌, ◌≤◌, ◌<◌, ◌==◌, ◌&&◌, ◌||◌, nat_le, Bool, true, false, if◌then◌else◌, List, [], ◌∷◌, Option, Some, None, refl, sym, ◌∙◌, ap, subst, arith, lit≤}
 use Rattle.std.specs.List.{list_any, AllByRecursion}
-use Rattle.std.proofs.Math.Nat.{mul_assoc, add-mul, mul-le-mul_left, mul-le-mul_right, mul-le-mul}
+use Rattle.std.proofs.Math.Nat.{mul_assoc, add-mul, mul-le-mul_right, mul-le-mul}
 use Rattle.std.proofs.lemmas.Bool.{and_parts, eqb-true, leb-true, cases_lt}
 use Rattle.chunk_map.specs.declared.layouts.Geometry.{Geometry}
-use Rattle.chunk_map.specs.Layouts.{layout_rule, IsLayout, is_chunk_size, chunk_words, payload_words, payload_lines, total_bytes, part_first, chunk_first}
+use Rattle.chunk_map.specs.Layouts.{IsLayout, is_chunk_size, chunk_words, payload_words, payload_lines, total_bytes, part_first, chunk_first}
 
 kept : (b : Bool) (x : Option ℕ) (rule : ℕ) → (if b then x else Some rule) ≡ None → (b ≡ true) × (x ≡ None)
 kept true x rule e = (refl, e)

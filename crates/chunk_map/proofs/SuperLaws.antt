@@ -1,8 +1,8 @@
 -- Words of one line are made certain, and the superblock by two such steps.
-use Rattle.std.proofs.Common.{◌≡◌, ◌≢◌, ◌⊎◌, inl, inr, ⊎_elim, ℕ, ◌+◌, ◌-◌, ◌*◌, ◌/◌, ◌%◌, ◌^◌, ◌≤◌, ◌<◌, ◌==◌, ◌&&◌, nat_le, true, false, List, [], ◌∷◌, length, get_or, Bool, is_none, Option, Some, None, Result, Ok, Err, OnOk, OnErr, refl, sym, ◌∙◌, ap, subst, arith}
-use Rattle.pm_region.specs.Cell.{Cell, certain, MayBe, fenced, flushed, flush_line, fence_range, unchanged}
+use Rattle.std.proofs.Common.{◌≡◌, inl, inr, ⊎_elim, ℕ, ◌+◌, ◌*◌, ◌%◌, ◌≤◌, ◌<◌, ◌==◌, ◌&&◌, nat_le, true, false, List, [], ◌∷◌, length, get_or, is_none, Some, None, Result, Ok, Err, OnOk, OnErr, sym, ◌∙◌, ap, arith}
+use Rattle.pm_region.specs.Cell.{Cell, certain, fenced, flush_line, fence_range, unchanged}
 use Rattle.pm_region.specs.State.{State, Frame, IsTelling, cell_now, Goes, During}
-use Rattle.pm_region.specs.Words.{Kept, KeepsOutside, Narrows, Surely, MayLeaveIn, EachIn, Sets}
+use Rattle.pm_region.specs.Words.{KeepsOutside, Surely, MayLeaveIn, EachIn, Sets}
 use Rattle.pm_region.specs.declared.region.RegionFault.{RegionFault}
 use Rattle.pm_region.proofs.Moments.{weaken, goes_on, then_on, at_exit, told_at_entry}
 use Rattle.pm_region.proofs.Narrow.{kept_narrows, surely_narrows, surely_certain, flush_narrows, fence_narrows}

@@ -1,5 +1,5 @@
 -- What the head of a chunk is while it is set, and afterwards. A head's first two words are the kind and the tail.
-use Rattle.std.specs.Prelude.{◌≡◌, ◌⊎◌, ℕ, ◌+◌, ◌*◌, ◌%◌, ◌≤◌, ◌<◌, Result, Ok}
+use Rattle.std.specs.Prelude.{◌≡◌, ◌⊎◌, ℕ, ◌+◌, ◌*◌, ◌%◌, ◌≤◌, Result, Ok}
 use Rattle.pm_region.specs.Cell.{Cell, MayBe}
 use Rattle.pm_region.specs.State.{Frame}
 use Rattle.pm_region.specs.Words.{Surely}

@@ -6,6 +6,8 @@ pub mod layouts;
 pub mod reading;
 pub mod setting;
 pub mod superblock;
+#[cfg(test)]
+mod tests;
 pub mod words;
 
 pub use heads::{BadHead, Head};

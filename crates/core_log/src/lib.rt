@@ -4,6 +4,8 @@
 mod chunk;
 mod log;
 mod tails;
+#[cfg(test)]
+mod tests;
 mod types;
 mod walking;
 

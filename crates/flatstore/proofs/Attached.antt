@@ -75,10 +75,10 @@ module _ (old s : State) (found : ℕ → ℕ) (A : Attached old s s.frame.bytes
       let small = within_limit (superblock_rule s.frame.bytes found) (has_layout s.frame.bytes found sound) refl in
       let words : s.frame.words ≡ s.frame.bytes / 8 = A.words ∙ (λ i. cond (small i) (s.frame.bytes / 8) 0) in
       at_attach s.frame (s.cells n) found A.first words (λ w inside. ap (λ m. s.cells m w) is ∙ A.certainly w inside telling) image may sound trace (record { finishes = []; refusals = [] }) where
+        some_none : (o : Option ℕ) → o ≡ Some 1 → o ≡ None → ⊥
+        some_none o a b = cc (sym a ∙ b)
         within_limit : (r : Option ℕ) → r ≡ None → superblock_rule s.frame.bytes found ≡ r → nat_le s.frame.bytes 268439552 ≡ true
         within_limit r none is = elim (chosen (s.frame.bytes % 8 == 0 && nat_le 4096 s.frame.bytes && nat_le s.frame.bytes 268439552) _ _ _ (is ∙ none)) [
             | inl p ↦ (and_parts (s.frame.bytes % 8 == 0 && nat_le 4096 s.frame.bytes) (nat_le s.frame.bytes 268439552) p.0).1
-            | inr p ↦ absurd (some_none p.1)
+            | inr p ↦ absurd (some_none (Some 1) refl p.1)
           ]
-        some_none : Some 1 ≡ None {T = ℕ} → ⊥
-        some_none e = cc e

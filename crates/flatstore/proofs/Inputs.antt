@@ -38,14 +38,14 @@ said_line cores b x y h =
     let one = chosen_ok (nat_le (b.bytes + size_with x) 67108864) _ 1 y h in
     let two = chosen_ok (nat_le (length x.0) 1048640) _ 2 y one.1 in
     of_count (line_by cores (cut x.0)) two.1 where
+      front_of : (r : Result (Line × Before) ℕ) (p q : Line × Before) → r ≡ Ok p → r ≡ Ok q → p.0 ≡ q.0
+      front_of r p q a e = let same : p ≡ q = cc (sym a ∙ e) in ap (λ (z : Line × Before). z.0) same
       of_count : (r : Result Line ℕ) → count_line b (size_with x) r ≡ Ok y → r ≡ Ok y.0
       of_count (Ok line) e =
           let a = chosen_ok (nat_le (with_line b (size_with x) line).requests 1000000) _ 8 y e in
           let c = chosen_ok (nat_le (with_line b (size_with x) line).turns 16777216) _ 9 y a.1 in
-          ap (λ (z : Line). Ok z) (front_of (line, with_line b (size_with x) line) y c.1)
+          ap (λ (z : Line). Ok z) (front_of (Ok (line, with_line b (size_with x) line)) (line, with_line b (size_with x) line) y refl c.1)
       of_count (Err rule) e = cc e
-      front_of : (p q : Line × Before) → Ok {E = ℕ} p ≡ Ok q → p.0 ≡ q.0
-      front_of p q e = let same : p ≡ q = cc e in ap (λ (z : Line × Before). z.0) same
 
 put_is : (r : Option (List ℕ)) (line : Line) → put_line r ≡ Ok line → (k : ℕ) × (v : List ℕ) × (line ≡ Ask (Put k v))
 put_is None line h = cc h
@@ -87,36 +87,35 @@ served_line cores c line h unshut no_block = elim (bytes_eq c.0 (codes "put")) a
       | false ↦ λ f. absurd (none f)
     ] e
   ] h where
+    no_ok : (r : Result Line ℕ) → r ≡ Err 3 → r ≡ Ok line → ⊥
+    no_ok r a e = cc (sym a ∙ e)
     none : others_line cores c ≡ Ok line → ⊥
     none e =
         let shut = or_parts (bytes_eq c.0 (codes "delete")) (bytes_eq c.0 (codes "go")) unshut in
-        let bad : Err 3 ≡ Ok line = sym (λ i. cond (shut.0 i) (key_line (λ k. Delete k) (lone_field c.1)) (cond (shut.1 i) (go_line cores c.1) (Err 3))) ∙ e in
-        no_ok bad
-    no_ok : {line : Line} → Err {T = Line} 3 ≡ Ok line → ⊥
-    no_ok e = cc e
+        no_ok (others_line cores c) (λ i. cond (shut.0 i) (key_line (λ k. Delete k) (lone_field c.1)) (cond (shut.1 i) (go_line cores c.1) (Err 3))) e
 
 -- every line that is read is one that is served
 module _ (cores : ℕ) where
   lines_ok : (number : ℕ) (b : Before) (xs : List (List ℕ × Bool)) (lines : List Line) → lines_or_stop built_now cores number b xs ≡ Ok lines → (lines_from cores number b xs ≡ Ok lines) × AllByRecursion ServedLine lines
   lines_ok number b [] lines h = let e : [] ≡ lines = cc h in (ap (λ (l : List Line). Ok l) e, subst (AllByRecursion ServedLine) e tt)
-  lines_ok number b (x ∷ xs) lines h = split (line_or_stop built_now cores number b x) refl where
-    split : (r : Result (Line × Before) Stop) → line_or_stop built_now cores number b x ≡ r → (lines_from cores number b (x ∷ xs) ≡ Ok lines) × AllByRecursion ServedLine lines
-    split (Err e) is = absurd (no_lines (sym (stops_by built_now cores number b x xs e is) ∙ h))
-      where
-        no_lines : {e : Stop} → Err {T = List Line} e ≡ Ok lines → ⊥
-        no_lines q = cc q
-    split (Ok y) is =
+  lines_ok number b (x ∷ xs) lines h = split (line_or_stop built_now cores number b x) refl (λ c rest e. lines_ok (number + 1) c xs rest e) where
+    no_lines : (r : Result (List Line) Stop) (e : Stop) → r ≡ Err e → r ≡ Ok lines → ⊥
+    no_lines r e a q = cc (sym a ∙ q)
+    from_line : (y : Line × Before) → line_at cores b x ≡ Ok y → lines_from cores number b (x ∷ xs) ≡ with_front y.0 (lines_from cores (number + 1) y.1 xs)
+    from_line y e = rw (lines_from, e) refl
+    open_of : (closed : Bool) (y : Line × Before) → staged number closed false (Ok y) ≡ Ok y → (closed ≡ false) × (puts_block y.0 ≡ false)
+    open_of closed y e = or_parts closed (puts_block y.0) (passed_ok (closed || (true && puts_block y.0)) (Ok y) (NotBuilt number) y e).0
+    split : (r : Result (Line × Before) Stop) → line_or_stop built_now cores number b x ≡ r
+        → ((c : Before) (rest : List Line) → lines_or_stop built_now cores (number + 1) c xs ≡ Ok rest → (lines_from cores (number + 1) c xs ≡ Ok rest) × AllByRecursion ServedLine rest)
+        → (lines_from cores number b (x ∷ xs) ≡ Ok lines) × AllByRecursion ServedLine lines
+    split (Err e) is on = absurd (no_lines (lines_or_stop built_now cores number b (x ∷ xs)) e (stops_by built_now cores number b x xs e is) h)
+    split (Ok y) is on =
         let rest = behind_ok y.0 (lines_or_stop built_now cores (number + 1) y.1 xs) lines (sym (goes_on_by built_now cores number b x xs y is) ∙ h) in
-        let again = lines_ok (number + 1) y.1 xs rest.0 rest.1 in
+        let again = on y.1 rest.0 rest.1 in
         let line : line_at cores b x ≡ Ok y = staged_ok number (is_closed built_now (cut x.0).0) false (line_at cores b x) y is in
         let passed = open_of (is_closed built_now (cut x.0).0) y (ap (λ r. staged number (is_closed built_now (cut x.0).0) false r) (sym line) ∙ is) in
         (from_line y line ∙ ap (with_front y.0) again.0 ∙ ap (λ (l : List Line). Ok l) rest.2,
           subst (AllByRecursion ServedLine) rest.2 (served_line cores (cut x.0) y.0 (said_line cores b x y line) passed.0 passed.1, again.1))
-      where
-        from_line : (y : Line × Before) → line_at cores b x ≡ Ok y → lines_from cores number b (x ∷ xs) ≡ with_front y.0 (lines_from cores (number + 1) y.1 xs)
-        from_line y e = rw (lines_from, e) refl
-        open_of : (closed : Bool) (y : Line × Before) → staged number closed false (Ok y) ≡ Ok y → (closed ≡ false) × (puts_block y.0 ≡ false)
-        open_of closed y e = or_parts closed (puts_block y.0) (passed_ok (closed || (true && puts_block y.0)) (Ok y) (NotBuilt number) y e).0
 
 served_requests : (lines : List Line) → AllByRecursion ServedLine lines → AllByRecursion IsServed (filter_map request_in lines)
 served_requests [] h = tt

@@ -3,3 +3,4 @@ pub mod Answering
 pub mod Attached
 pub mod Replaying
 pub mod Refused
+pub mod Reading

@@ -65,7 +65,7 @@ module _ (old s : State) (found : ℕ → ℕ) (A : Attached old s s.frame.bytes
   is_none = refused_none U
 
   pub apart_from : (other : Status) → answers_none other ≡ false → status ≡ other → ⊥
-  apart_from other no e = both (answers_none other) (sym (ap answers_none e) ∙ is_none) no where
+  apart_from other unlike e = both (answers_none other) (sym (ap answers_none e) ∙ is_none) unlike where
     both : (b : Bool) → b ≡ true → b ≡ false → ⊥
     both b p q = cc (sym p ∙ q)
 

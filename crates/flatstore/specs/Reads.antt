@@ -5,6 +5,8 @@ use Rattle.fs_model.specs.declared.model.Request.{Request}
 use Rattle.pm_region.specs.State.{Rose}
 use Rattle.fs_text.specs.declared.line.Line.{Line}
 use Rattle.fs_text.specs.Input.{request_in}
+use Rattle.fs_text.specs.declared.stages.UntilError.{UntilError}
+use Rattle.fs_text.specs.declared.stages.UntilError.TheVariants as until
 use Rattle.fs_text.specs.Stages.{input_or_stop}
 use Rattle.flatstore.specs.Promise.{IsInput, built_now, status_of, is_stop}
 use Rattle.flatstore.specs.declared.report.Status.{Status}
@@ -23,3 +25,9 @@ abbrev pub IsUnread : Option (List ℕ) → ℕ → ℕ → Status → Type 0
 IsUnread coming faults faults' status =
     ((input : List ℕ) × IsInput coming input × (is_stop (input_or_stop built_now 1 input) ≡ true) × (status ≡ status_of (input_or_stop built_now 1 input)))
     ⊎ (((status ≡ statuses.SourceFault) × Rose faults faults') ⊎ (status ≡ statuses.Memory))
+
+-- the status for an input that was not read
+abbrev pub unread_as : UntilError → Status
+unread_as (until.Stop stop) = status_of (Err stop)
+unread_as until.SourceFault = statuses.SourceFault
+unread_as until.Memory = statuses.Memory

@@ -15,6 +15,8 @@ mod command;
 mod fresh;
 mod replay;
 mod report;
+#[cfg(test)]
+mod tests;
 mod top;
 
 /// The words of the command line, the program's name first.

@@ -11,7 +11,7 @@ ghost use Rattle.serial_engine.specs.Empty.{IsEmptyRegion};
 ghost use Rattle.serial_engine.specs.Ready.{Ready};
 ghost use Rattle.serial_engine.specs.Going.{IsServed};
 ghost use Rattle.flatstore.specs.Fresh.{fresh_layout};
-ghost use Rattle.flatstore.specs.Reads.{IsRead, IsUnread};
+ghost use Rattle.flatstore.specs.Reads.{IsRead, IsUnread, unread_as};
 ghost use Rattle.flatstore.specs.Played.{HasAnswered, Played, IsRefused};
 
 use crate::fresh::is_fresh;
@@ -50,6 +50,18 @@ fn requests(alloc: Global, input: Input) -> Result<Vec<Request>, Memory>
     Ok(requests)
 }
 
+// The status for an input that was not read.
+fn unread(error: UntilError) -> Status
+    ensures { result ≡ unread_as error }
+{
+    match error {
+        UntilError::Stop(Stop::Bad { line, rule }) => Status::BadInput { line, rule },
+        UntilError::Stop(Stop::NotBuilt { line }) => Status::NotBuilt { line },
+        UntilError::SourceFault => Status::SourceFault,
+        UntilError::Memory => Status::Memory,
+    }
+}
+
 /// Reads the input to its end, and gives its requests in order.
 fn read<S: Source>(alloc: Global, source: &mut S) -> Result<Vec<Request>, Status>
     ensures ok { IfOk result (λ qs. IsRead (S.coming source.old) qs.items) }
@@ -60,10 +72,7 @@ fn read<S: Source>(alloc: Global, source: &mut S) -> Result<Vec<Request>, Status
             Ok(requests) => Ok(requests),
             Err(_) => Err(Status::Memory),
         },
-        Err(UntilError::Stop(Stop::Bad { line, rule })) => Err(Status::BadInput { line, rule }),
-        Err(UntilError::Stop(Stop::NotBuilt { line })) => Err(Status::NotBuilt { line }),
-        Err(UntilError::SourceFault) => Err(Status::SourceFault),
-        Err(UntilError::Memory) => Err(Status::Memory),
+        Err(error) => Err(unread(error)),
     }
 }
 

@@ -10,7 +10,7 @@ use Rattle.store_image.proofs.Agree.{fault_agrees, cells_agree}
 use Rattle.store_image.proofs.SoundLaws.{own_blocks, has_layout}
 use Rattle.headline.specs.Headline.{cells_of, HasOwnBlocks, Recovers, Told, changes_in}
 
-certain_may_be : (v x : ℕ) → MayBe (certain v) x → x ≡ v
+pub certain_may_be : (v x : ℕ) → MayBe (certain v) x → x ≡ v
 certain_may_be v x (inl e) = e
 certain_may_be v x (inr h) = absurd h
 

@@ -1,5 +1,5 @@
-use Rattle.std.proofs.Common.{ℕ, ◌+◌, sym, subst, rules}
-use Rattle.pm_region.specs.State.{State, During, cell_now}
+use Rattle.std.proofs.Common.{◌+◌, sym, subst}
+use Rattle.pm_region.specs.State.{During, cell_now}
 use Rattle.pm_region.specs.Words.{EachIn}
 use Rattle.chunk_map.specs.declared.heads.Head.{Head}
 use Rattle.chunk_map.specs.declared.heads.Head.TheVariants.{Free, Log, Data}

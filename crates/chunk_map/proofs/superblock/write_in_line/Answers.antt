@@ -1,4 +1,4 @@
-use Rattle.std.proofs.Common.{◌≤◌, ◌<◌, ◌+◌, ◌*◌, ◌/◌, arith}
+use Rattle.std.proofs.Common.{◌/◌, arith}
 use Rattle.chunk_map.proofs.SuperLaws.{narrows_run, certain_words}
 use Rattle.chunk_map.proofs.superblock.write_in_line.Goals as goal
 

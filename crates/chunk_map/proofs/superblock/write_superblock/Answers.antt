@@ -1,9 +1,9 @@
-use Rattle.std.proofs.Common.{◌≡◌, ◌+◌, ◌<◌, ◌≤◌, ◌∷◌, [], List, ℕ, Result, OnOk, length, get_or, sym, ◌∙◌, ap, subst, arith, rules}
+use Rattle.std.proofs.Common.{◌≡◌, ◌+◌, ◌<◌, ℕ, get_or, ◌∙◌, ap, rules}
 use Rattle.pm_region.specs.Cell.{certain}
 use Rattle.pm_region.specs.State.{State, During, IsTelling, cell_now}
 use Rattle.pm_region.specs.Words.{EachIn}
 use Rattle.chunk_map.specs.declared.layouts.Geometry.{Geometry}
-use Rattle.chunk_map.specs.Superblock.{MayHaveSuperblock, NarrowsOutside}
+use Rattle.chunk_map.specs.Superblock.{MayHaveSuperblock}
 use Rattle.chunk_map.proofs.SuperLaws.{on_ok, numbers_of, superblock_turns, superblock_stands, refused_or_whole}
 use Rattle.chunk_map.proofs.superblock.write_superblock.Goals as goal
 

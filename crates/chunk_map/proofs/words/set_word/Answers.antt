@@ -1,4 +1,4 @@
-use Rattle.std.proofs.Common.{◌*◌, ◌/◌, ◌+◌, ◌≤◌, ◌<◌, arith}
+use Rattle.std.proofs.Common.{◌/◌, arith}
 use Rattle.pm_region.proofs.Runs.{set_run}
 use Rattle.chunk_map.proofs.words.set_word.Goals as goal
 

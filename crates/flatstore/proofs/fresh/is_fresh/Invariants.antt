@@ -6,4 +6,4 @@ use Rattle.flatstore.specs.Fresh.{fresh_word}
 use Rattle.flatstore.proofs.fresh.is_fresh.Given as goal
 
 abbrev pub invariant-loop-at : goal.invariant-loop-at
-invariant-loop-at g l = IsTelling (g.R.SplitRegion.Region.state l.fn.region.now) → (w : ℕ) → w < l.at → lasts (g.R.SplitRegion.Region.state l.fn.region.now) w ≡ fresh_word w
+invariant-loop-at g l = IsTelling (g.R.Region.state l.fn.region) → (w : ℕ) → w < l.at → lasts (g.R.Region.state l.fn.region) w ≡ fresh_word w

@@ -1,8 +1,7 @@
 -- The layout is the one of the fresh region.
-use Rattle.std.proofs.Common.{◌≡◌, sym, ◌∙◌, subst, Ok, IfOk}
+use Rattle.std.proofs.Common.{◌≡◌, sym, ◌∙◌, subst, IfOk}
 use Rattle.pm_region.specs.State.{State}
 use Rattle.chunk_map.specs.declared.layouts.Geometry.{Geometry}
-use Rattle.chunk_map.specs.declared.layouts.BadLayout.{BadLayout}
 use Rattle.serial_engine.specs.Empty.{IsEmptyRegion}
 use Rattle.serial_engine.specs.Ready.{Ready}
 use Rattle.flatstore.specs.Fresh.{fresh_layout}
@@ -11,5 +10,5 @@ use Rattle.flatstore.proofs.replay.fresh_store.Goals as goal
 pub returns-clause-ready : goal.returns-clause-ready
 returns-clause-ready c = subst (λ (l : Geometry). IfOk c.empty.result (λ store. (s : State) → IsEmptyRegion s l → Ready s store)) same c.empty.ensures.ready
   where
-    found : Ok {E = BadLayout} c.in-Ok.layout ≡ Ok fresh_layout = sym c.in-Ok.is ∙ c.new.ensures
-    same : c.in-Ok.layout ≡ fresh_layout = cc found
+    same : c.in-Ok.layout ≡ fresh_layout
+    same = cc (sym c.in-Ok.is ∙ c.new.ensures)
