@@ -24,9 +24,11 @@ use Rattle.flatstore.specs.declared.replay.Ended.{Ended}
 pub all_stop : (start : ℕ → Option (List ℕ)) (done : List Request) (replies : List Reply) (r : Told) (rest : List Request) → Recorded start done replies r → (more : List Reply) × Recorded start (done ++ rest) (replies ++ more) r
 all_stop start done replies r [] R = ([], subst (λ xs. Recorded start xs (replies ++ []) r) (sym (append-nil done)) (subst (λ rs. Recorded start done rs r) (sym (append-nil replies)) R))
 all_stop start done replies r (q ∷ rest) R =
-    let again = all_stop start (done ++ q ∷ []) (replies ++ Stopped ∷ []) r rest (recorded_stopped start done replies r q R) in
-    (Stopped ∷ again.0, subst (λ xs. Recorded start xs (replies ++ (Stopped ∷ again.0)) r) (append_assoc done (q ∷ []) rest)
-      (subst (λ rs. Recorded start ((done ++ q ∷ []) ++ rest) rs r) (append_assoc replies (Stopped ∷ []) again.0) again.1))
+    let again = all_stop start (done ++ q ∷ []) (replies ++ Stopped ∷ []) r rest (recorded_stopped start done replies r q R) in (
+      Stopped ∷ again.0,
+      subst (λ xs. Recorded start xs (replies ++ (Stopped ∷ again.0)) r) (append_assoc done (q ∷ []) rest)
+          (subst (λ rs. Recorded start ((done ++ q ∷ []) ++ rest) rs r) (append_assoc replies (Stopped ∷ []) again.0) again.1),
+    )
 
 -- all requests were answered
 pub answered_all : (s t : State) (qs : List Request) (e : Run) → Going s t no_cells qs e → IsReady t e → (e.stopped ≡ true → Rose s.faults t.faults)
@@ -36,10 +38,10 @@ answered_all s t qs e g ready cause = record {
   lawful = ([], subst (λ rs. Recorded no_cells qs rs (told_by e.answers)) (sym (append-nil e.answers.replies.items)) g.recorded);
   whole = λ done. g.recorded;
   all = λ done going telling image may k.
-    let R = ready going in
-    let A = g.answered going in
-    let held = shown_holds t.frame.bytes e.store.log.layout (cell_of e.store.cells) _ image R.one (R.shows telling image may) in
-    held.cells k ∙ sym (A.left k) ∙ ap (λ l. cell_after_all l None) (sym (ap (λ l. finished_changes k qs (finished_in (told_by e.answers)) ++ l) (A.settled k) ∙ append-nil (finished_changes k qs (finished_in (told_by e.answers)))));
+      let R = ready going in
+      let A = g.answered going in
+      let held = shown_holds t.frame.bytes e.store.log.layout (cell_of e.store.cells) _ image R.one (R.shows telling image may) in
+      held.cells k ∙ sym (A.left k) ∙ ap (λ l. cell_after_all l None) (sym (ap (λ l. finished_changes k qs (finished_in (told_by e.answers)) ++ l) (A.settled k) ∙ append-nil (finished_changes k qs (finished_in (told_by e.answers)))));
   cause = cause;
 }
 
@@ -52,7 +54,7 @@ answered_some s t qs e0 e some g0 cause =
     let stops = all_stop no_cells some.front e.answers.replies.items (told_by e.answers) some.rest g.recorded in
     record {
       images = subst (λ xs. RecoversSoFar s t no_cells xs (told_by e.answers)) (sym all)
-        (over_weaken s t (λ n cells. EachImage s.frame (Recovers s.frame.bytes no_cells some.front (told_by e.answers) (λ k. finished_by k some.front (told_by e.answers).finishes n)) cells)
+          (over_weaken s t (λ n cells. EachImage s.frame (Recovers s.frame.bytes no_cells some.front (told_by e.answers) (λ k. finished_by k some.front (told_by e.answers).finishes n)) cells)
           (λ n cells. EachImage s.frame (Recovers s.frame.bytes no_cells (some.front ++ some.rest) (told_by e.answers) (λ k. finished_by k (some.front ++ some.rest) (told_by e.answers).finishes n)) cells)
           (λ n telling told le each image may. recovers_grow s.frame.bytes no_cells some.front some.rest e.answers.replies.items (told_by e.answers) n image g.recorded (each image may)) g.images);
       lawful = (stops.0, subst (λ xs. Recorded no_cells xs (e.answers.replies.items ++ stops.0) (told_by e.answers)) (sym all) stops.1);

@@ -23,7 +23,7 @@ use Rattle.flatstore.specs.Played.{no_cells}
 zero_behind : (w : ℕ) → 6 ≤ w → fresh_word w ≡ 0
 zero_behind w low =
     (λ i. cond (ne_eqb w 0 (λ e. omega (arith, low, e)) i) magic (cond (ne_eqb w 1 (λ e. omega (arith, low, e)) i) 1 (cond (ne_eqb w 2 (λ e. omega (arith, low, e)) i) 1
-      (cond (ne_eqb w 3 (λ e. omega (arith, low, e)) i) 1 (cond (ne_eqb w 4 (λ e. omega (arith, low, e)) i) 4 (cond (ne_eqb w 5 (λ e. omega (arith, low, e)) i) 4096 0))))))
+    (cond (ne_eqb w 3 (λ e. omega (arith, low, e)) i) 1 (cond (ne_eqb w 4 (λ e. omega (arith, low, e)) i) 4 (cond (ne_eqb w 5 (λ e. omega (arith, low, e)) i) 4096 0))))))
 
 pub fresh_is_empty : (bytes : ℕ) (image : ℕ → ℕ) → IsFresh bytes image → IsEmptyImage fresh_layout image
 fresh_is_empty bytes image is =
@@ -38,8 +38,8 @@ fresh_is_empty bytes image is =
         layout = (λ i. record { cores = cores i; group = group i; chunks = chunks i; chunk_bytes = size i });
       };
       free = λ j lt.
-        let place : chunk_first fresh_layout 0 j ≡ 512 + 512 * j = omega arith in
-        is.words (chunk_first fresh_layout 0 j) (omega (arith, place, lt)) ∙ zero_behind (chunk_first fresh_layout 0 j) (omega (arith, place));
+          let place : chunk_first fresh_layout 0 j ≡ 512 + 512 * j = omega arith in
+          is.words (chunk_first fresh_layout 0 j) (omega (arith, place, lt)) ∙ zero_behind (chunk_first fresh_layout 0 j) (omega (arith, place));
     }
 
 pub fresh_no_cells : (bytes : ℕ) (image : ℕ → ℕ) → IsFresh bytes image → no_cells ≡ cells_of image
@@ -77,8 +77,9 @@ module _ (old s : State) (found : ℕ → ℕ) (A : Attached old s s.frame.bytes
       at_attach s.frame (s.cells n) found A.first words (λ w inside. ap (λ m. s.cells m w) is ∙ A.certainly w inside telling) image may sound trace (record { finishes = []; refusals = [] }) where
         some_none : (o : Option ℕ) → o ≡ Some 1 → o ≡ None → ⊥
         some_none o a b = cc (sym a ∙ b)
+
         within_limit : (r : Option ℕ) → r ≡ None → superblock_rule s.frame.bytes found ≡ r → nat_le s.frame.bytes 268439552 ≡ true
         within_limit r none is = elim (chosen (s.frame.bytes % 8 == 0 && nat_le 4096 s.frame.bytes && nat_le s.frame.bytes 268439552) _ _ _ (is ∙ none)) [
-            | inl p ↦ (and_parts (s.frame.bytes % 8 == 0 && nat_le 4096 s.frame.bytes) (nat_le s.frame.bytes 268439552) p.0).1
-            | inr p ↦ absurd (some_none (Some 1) refl p.1)
-          ]
+          | inl p ↦ (and_parts (s.frame.bytes % 8 == 0 && nat_le 4096 s.frame.bytes) (nat_le s.frame.bytes 268439552) p.0).1
+          | inr p ↦ absurd (some_none (Some 1) refl p.1)
+        ]

@@ -40,6 +40,7 @@ said_line cores b x y h =
     of_count (line_by cores (cut x.0)) two.1 where
       front_of : (r : Result (Line × Before) ℕ) (p q : Line × Before) → r ≡ Ok p → r ≡ Ok q → p.0 ≡ q.0
       front_of r p q a e = let same : p ≡ q = cc (sym a ∙ e) in ap (λ (z : Line × Before). z.0) same
+
       of_count : (r : Result Line ℕ) → count_line b (size_with x) r ≡ Ok y → r ≡ Ok y.0
       of_count (Ok line) e =
           let a = chosen_ok (nat_le (with_line b (size_with x) line).requests 1000000) _ 8 y e in
@@ -50,27 +51,28 @@ said_line cores b x y h =
 put_is : (r : Option (List ℕ)) (line : Line) → put_line r ≡ Ok line → (k : ℕ) × (v : List ℕ) × (line ≡ Ask (Put k v))
 put_is None line h = cc h
 put_is (Some bs) line h = fields (cut bs) h where
-    mapped : (r : Result ℕ ℕ) (v : List ℕ) → map_ok (λ k. Ask (Put k v)) r ≡ Ok line → (k : ℕ) × (w : List ℕ) × (line ≡ Ask (Put k w))
-    mapped (Ok k) v e = (k, v, cc e)
-    mapped (Err rule) v e = cc e
-    fields : (c : List ℕ × Option (List ℕ)) → put_fields c ≡ Ok line → (k : ℕ) × (v : List ℕ) × (line ≡ Ask (Put k v))
-    fields (b, None) e = cc e
-    fields (b, Some v) e = mapped (key_at b) v e
+  mapped : (r : Result ℕ ℕ) (v : List ℕ) → map_ok (λ k. Ask (Put k v)) r ≡ Ok line → (k : ℕ) × (w : List ℕ) × (line ≡ Ask (Put k w))
+  mapped (Ok k) v e = (k, v, cc e)
+  mapped (Err rule) v e = cc e
+
+  fields : (c : List ℕ × Option (List ℕ)) → put_fields c ≡ Ok line → (k : ℕ) × (v : List ℕ) × (line ≡ Ask (Put k v))
+  fields (b, None) e = cc e
+  fields (b, Some v) e = mapped (key_at b) v e
 
 get_is : (o : Option (List ℕ)) (line : Line) → key_line (λ k. Get k) o ≡ Ok line → (k : ℕ) × (line ≡ Ask (Get k))
 get_is None line h = cc h
 get_is (Some bs) line h = mapped (key_at bs) h where
-    mapped : (r : Result ℕ ℕ) → map_ok (λ k. Ask (Get k)) r ≡ Ok line → (k : ℕ) × (line ≡ Ask (Get k))
-    mapped (Ok k) e = (k, cc e)
-    mapped (Err rule) e = cc e
+  mapped : (r : Result ℕ ℕ) → map_ok (λ k. Ask (Get k)) r ≡ Ok line → (k : ℕ) × (line ≡ Ask (Get k))
+  mapped (Ok k) e = (k, cc e)
+  mapped (Err rule) e = cc e
 
 short_of : (v : List ℕ) → nat_le 256 (length v) ≡ false → length v ≤ 255
 short_of v no_block = elim (cases_lt (length v) 256) [
-    | inl lt ↦ omega (arith, lt)
-    | inr ge ↦ let yes_block = le-leb 256 (length v) ge in absurd (both (nat_le 256 (length v)) yes_block no_block)
-  ] where
-    both : (b : Bool) → b ≡ true → b ≡ false → ⊥
-    both b p q = cc (sym p ∙ q)
+  | inl lt ↦ omega (arith, lt)
+  | inr ge ↦ let yes_block = le-leb 256 (length v) ge in absurd (both (nat_le 256 (length v)) yes_block no_block)
+] where
+  both : (b : Bool) → b ≡ true → b ≡ false → ⊥
+  both b p q = cc (sym p ∙ q)
 
 or_parts : (a b : Bool) → (a || b) ≡ false → (a ≡ false) × (b ≡ false)
 or_parts true b h = cc h
@@ -81,18 +83,19 @@ others_line cores c = cond (bytes_eq c.0 (codes "delete")) (key_line (λ k. Dele
 
 served_line : (cores : ℕ) (c : List ℕ × Option (List ℕ)) (line : Line) → line_by cores c ≡ Ok line → is_closed built_now c.0 ≡ false → puts_block line ≡ false → ServedLine line
 served_line cores c line h unshut no_block = elim (bytes_eq c.0 (codes "put")) as (λ b. cond b (put_line c.1) (cond (bytes_eq c.0 (codes "get")) (key_line (λ k. Get k) (lone_field c.1)) (others_line cores c)) ≡ Ok line → ServedLine line) [
-    | true ↦ λ e. let p = put_is c.1 line e in subst ServedLine (sym p.2) (short_of p.1 (ap puts_block (sym p.2) ∙ no_block))
-    | false ↦ λ e. elim (bytes_eq c.0 (codes "get")) as (λ b. cond b (key_line (λ k. Get k) (lone_field c.1)) (others_line cores c) ≡ Ok line → ServedLine line) [
-      | true ↦ λ f. let p = get_is (lone_field c.1) line f in subst ServedLine (sym p.1) tt
-      | false ↦ λ f. absurd (none f)
-    ] e
-  ] h where
-    no_ok : (r : Result Line ℕ) → r ≡ Err 3 → r ≡ Ok line → ⊥
-    no_ok r a e = cc (sym a ∙ e)
-    none : others_line cores c ≡ Ok line → ⊥
-    none e =
-        let shut = or_parts (bytes_eq c.0 (codes "delete")) (bytes_eq c.0 (codes "go")) unshut in
-        no_ok (others_line cores c) (λ i. cond (shut.0 i) (key_line (λ k. Delete k) (lone_field c.1)) (cond (shut.1 i) (go_line cores c.1) (Err 3))) e
+  | true ↦ λ e. let p = put_is c.1 line e in subst ServedLine (sym p.2) (short_of p.1 (ap puts_block (sym p.2) ∙ no_block))
+  | false ↦ λ e. elim (bytes_eq c.0 (codes "get")) as (λ b. cond b (key_line (λ k. Get k) (lone_field c.1)) (others_line cores c) ≡ Ok line → ServedLine line) [
+    | true ↦ λ f. let p = get_is (lone_field c.1) line f in subst ServedLine (sym p.1) tt
+    | false ↦ λ f. absurd (none f)
+  ] e
+] h where
+  no_ok : (r : Result Line ℕ) → r ≡ Err 3 → r ≡ Ok line → ⊥
+  no_ok r a e = cc (sym a ∙ e)
+
+  none : others_line cores c ≡ Ok line → ⊥
+  none e =
+      let shut = or_parts (bytes_eq c.0 (codes "delete")) (bytes_eq c.0 (codes "go")) unshut in
+      no_ok (others_line cores c) (λ i. cond (shut.0 i) (key_line (λ k. Delete k) (lone_field c.1)) (cond (shut.1 i) (go_line cores c.1) (Err 3))) e
 
 -- every line that is read is one that is served
 module _ (cores : ℕ) where
@@ -101,10 +104,13 @@ module _ (cores : ℕ) where
   lines_ok number b (x ∷ xs) lines h = split (line_or_stop built_now cores number b x) refl (λ c rest e. lines_ok (number + 1) c xs rest e) where
     no_lines : (r : Result (List Line) Stop) (e : Stop) → r ≡ Err e → r ≡ Ok lines → ⊥
     no_lines r e a q = cc (sym a ∙ q)
+
     from_line : (y : Line × Before) → line_at cores b x ≡ Ok y → lines_from cores number b (x ∷ xs) ≡ with_front y.0 (lines_from cores (number + 1) y.1 xs)
     from_line y e = rw (lines_from, e) refl
+
     open_of : (closed : Bool) (y : Line × Before) → staged number closed false (Ok y) ≡ Ok y → (closed ≡ false) × (puts_block y.0 ≡ false)
     open_of closed y e = or_parts closed (puts_block y.0) (passed_ok (closed || (true && puts_block y.0)) (Ok y) (NotBuilt number) y e).0
+
     split : (r : Result (Line × Before) Stop) → line_or_stop built_now cores number b x ≡ r
         → ((c : Before) (rest : List Line) → lines_or_stop built_now cores (number + 1) c xs ≡ Ok rest → (lines_from cores (number + 1) c xs ≡ Ok rest) × AllByRecursion ServedLine rest)
         → (lines_from cores number b (x ∷ xs) ≡ Ok lines) × AllByRecursion ServedLine lines
@@ -113,9 +119,10 @@ module _ (cores : ℕ) where
         let rest = behind_ok y.0 (lines_or_stop built_now cores (number + 1) y.1 xs) lines (sym (goes_on_by built_now cores number b x xs y is) ∙ h) in
         let again = on y.1 rest.0 rest.1 in
         let line : line_at cores b x ≡ Ok y = staged_ok number (is_closed built_now (cut x.0).0) false (line_at cores b x) y is in
-        let passed = open_of (is_closed built_now (cut x.0).0) y (ap (λ r. staged number (is_closed built_now (cut x.0).0) false r) (sym line) ∙ is) in
-        (from_line y line ∙ ap (with_front y.0) again.0 ∙ ap (λ (l : List Line). Ok l) rest.2,
-          subst (AllByRecursion ServedLine) rest.2 (served_line cores (cut x.0) y.0 (said_line cores b x y line) passed.0 passed.1, again.1))
+        let passed = open_of (is_closed built_now (cut x.0).0) y (ap (λ r. staged number (is_closed built_now (cut x.0).0) false r) (sym line) ∙ is) in (
+          from_line y line ∙ ap (with_front y.0) again.0 ∙ ap (λ (l : List Line). Ok l) rest.2,
+          subst (AllByRecursion ServedLine) rest.2 (served_line cores (cut x.0) y.0 (said_line cores b x y line) passed.0 passed.1, again.1),
+        )
 
 served_requests : (lines : List Line) → AllByRecursion ServedLine lines → AllByRecursion IsServed (filter_map request_in lines)
 served_requests [] h = tt

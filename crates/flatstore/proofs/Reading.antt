@@ -43,7 +43,7 @@ fresh_region s first words sure bytes fresh =
       images = λ telling image may. fresh_is_empty 20480 image (record {
         length = refl;
         words = λ w lt.
-          let inside : InRange s.frame w = record { low = omega (arith, first); high = omega (arith, first, count, lt) } in
-          certain_may_be (lasts s w) (image w) (subst (λ (c : Cell). MayBe c (image w)) (sure telling w inside) (may w inside)) ∙ (fresh telling).words w lt;
+            let inside : InRange s.frame w = record { low = omega (arith, first); high = omega (arith, first, count, lt) } in
+            certain_may_be (lasts s w) (image w) (subst (λ (c : Cell). MayBe c (image w)) (sure telling w inside) (may w inside)) ∙ (fresh telling).words w lt;
       });
     }

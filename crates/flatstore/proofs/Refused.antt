@@ -86,15 +86,15 @@ module _ (old s : State) (found : ℕ → ℕ) (A : Attached old s s.frame.bytes
 
   unread_due : IsUnread coming source source' status → IsTelling s → IsFresh s.frame.bytes (lasts s) → (input : List ℕ) → coming ≡ Some input → (sink sink' : ℕ) → IsDue s.frame.bytes found input status ⊎ IsFault old s source source' sink sink' status
   unread_due u telling fresh input is sink sink' = elim u [
-      | inl x ↦ inl (inr (found_fresh old s found A telling fresh, x.3 ∙ ap (λ i. status_of (input_or_stop built_now 1 i)) (input_is coming x.0 x.1 input is)))
-      | inr y ↦ elim y [ | inl f ↦ inr (inr (inl f)) | inr m ↦ inr (inl m) ]
-    ]
+    | inl x ↦ inl (inr (found_fresh old s found A telling fresh, x.3 ∙ ap (λ i. status_of (input_or_stop built_now 1 i)) (input_is coming x.0 x.1 input is)))
+    | inr y ↦ elim y [ inl f ↦ inr (inr (inl f)) | inr m ↦ inr (inl m) ]
+  ]
 
   pub refused_due : (input : List ℕ) → coming ≡ Some input → IsTelling s → (sink sink' : ℕ) → IsDue s.frame.bytes found input status ⊎ IsFault old s source source' sink sink' status
   refused_due input is telling sink sink' = elim U [
-      | inl u ↦ inl (inl (λ fresh. u.1 telling (lasts_fresh old s found A telling fresh), u.0))
-      | inr u ↦ unread_due u.2 telling (u.1 telling) input is sink sink'
-    ]
+    | inl u ↦ inl (inl (λ fresh. u.1 telling (lasts_fresh old s found A telling fresh), u.0))
+    | inr u ↦ unread_due u.2 telling (u.1 telling) input is sink sink'
+  ]
 
   unread_source : IsUnread coming source source' status → status ≡ statuses.SourceFault → Rose source source'
   unread_source (inl u) e = absurd (no_source (input_or_stop built_now 1 u.0) (sym u.3 ∙ e)) where
@@ -109,8 +109,8 @@ module _ (old s : State) (found : ℕ → ℕ) (A : Attached old s s.frame.bytes
 
   pub refused_source : status ≡ statuses.SourceFault → Rose source source'
   refused_source e = elim U [
-      | inl u ↦ absurd (no_source (sym u.0 ∙ e))
-      | inr u ↦ unread_source u.2 e
-    ] where
-      no_source : statuses.NotBuilt 0 ≡ statuses.SourceFault → ⊥
-      no_source q = cc q
+    | inl u ↦ absurd (no_source (sym u.0 ∙ e))
+    | inr u ↦ unread_source u.2 e
+  ] where
+    no_source : statuses.NotBuilt 0 ≡ statuses.SourceFault → ⊥
+    no_source q = cc q

@@ -80,14 +80,14 @@ module _ (old s t : State) (found : ℕ → ℕ) (A : Attached old s s.frame.byt
   begun : HasWritten e before now faults faults' status → WritesFront no_cells P.trace (told_by e.answers) before now
   begun (inl w) = whole_front no_cells P.trace (told_by e.answers) e.answers.replies.items before now (H.whole w.1) w.3
   begun (inr (inl w)) = elim w.3 [
-      | inl all ↦ whole_front no_cells P.trace (told_by e.answers) e.answers.replies.items before now (H.whole w.1) all
-      | inr some ↦ front_text no_cells P.trace (told_by e.answers) e.answers.replies.items before now (H.whole w.1) some.1
-    ]
+    | inl all ↦ whole_front no_cells P.trace (told_by e.answers) e.answers.replies.items before now (H.whole w.1) all
+    | inr some ↦ front_text no_cells P.trace (told_by e.answers) e.answers.replies.items before now (H.whole w.1) some.1
+  ]
   begun (inr (inr (inl w))) = front_text no_cells P.trace (told_by e.answers) e.answers.replies.items before now (H.whole w.1) w.3
   begun (inr (inr (inr w))) = elim w.1 [
-      | inl some ↦ front_text no_cells P.trace (told_by e.answers) e.answers.replies.items before now (H.whole some.0) some.1
-      | inr same ↦ no_text no_cells P.trace (told_by e.answers) (e.answers.replies.items ++ H.lawful.0) before now H.lawful.1 same
-    ]
+    | inl some ↦ front_text no_cells P.trace (told_by e.answers) e.answers.replies.items before now (H.whole some.0) some.1
+    | inr same ↦ no_text no_cells P.trace (told_by e.answers) (e.answers.replies.items ++ H.lawful.0) before now H.lawful.1 same
+  ]
 
   written : HasWritten e before now faults faults' status → status ≡ statuses.Done → WritesAll no_cells P.trace (told_by e.answers) before now
   written (inl w) done = all_text no_cells P.trace (told_by e.answers) e.answers.replies.items before now (H.whole w.1) w.3
@@ -103,9 +103,9 @@ module _ (old s t : State) (found : ℕ → ℕ) (A : Attached old s s.frame.byt
   written_failed : HasWritten e before now faults faults' status → status ≡ statuses.RegionFault → (Rose faults faults' → ⊥) → WritesAll no_cells P.trace (told_by e.answers) before now
   written_failed (inl w) failed steady = fault_apart failed (inl w.0)
   written_failed (inr (inl w)) failed steady = elim w.3 [
-      | inl all ↦ all_text no_cells P.trace (told_by e.answers) e.answers.replies.items before now (H.whole w.1) all
-      | inr some ↦ absurd (steady some.0)
-    ]
+    | inl all ↦ all_text no_cells P.trace (told_by e.answers) e.answers.replies.items before now (H.whole w.1) all
+    | inr some ↦ absurd (steady some.0)
+  ]
   written_failed (inr (inr (inl w))) failed steady = fault_apart failed (inr (inl w.0))
   written_failed (inr (inr (inr w))) failed steady = fault_apart failed (inr (inr w.0))
 
@@ -130,8 +130,8 @@ module _ (old s t : State) (found : ℕ → ℕ) (A : Attached old s s.frame.byt
     begins = λ telling. as_found (λ start trace x. WritesFront start trace x before now) (telling_then telling) (begun W);
     crash = crash_then;
     last = λ done telling image may k small.
-      let c = complete W (sym report_status ∙ done) in
-      as_found (λ start trace x. cells_of image k ≡ cell_after_all (changes_in start trace x k) (start k)) (telling_then telling) (H.all c.0 c.1 telling image may k);
+        let c = complete W (sym report_status ∙ done) in
+        as_found (λ start trace x. cells_of image k ≡ cell_after_all (changes_in start trace x k) (start k)) (telling_then telling) (H.all c.0 c.1 telling image may k);
   }
 
   -- the status that is due

@@ -6,9 +6,8 @@ use fs_text::{StdSink, StdSource};
 use pm_region::FileRegion;
 use report::Status;
 use std::alloc::Global;
-use std::env;
-use std::io;
 use std::process::ExitCode;
+use std::{env, io};
 use top::flatstore;
 
 mod command;

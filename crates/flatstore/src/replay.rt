@@ -19,7 +19,9 @@ use crate::report::{Report, Status};
 use chunk_map::layouts::Layout;
 use fs_errors::Memory;
 use fs_model::Request;
-use fs_text::{Built, Input, Line, OutError, Sink, Source, Stop, UntilError, read_until, write_replies};
+use fs_text::{
+    Built, Input, Line, OutError, Sink, Source, Stop, UntilError, read_until, write_replies,
+};
 use pm_region::{Region, SplitRegion};
 use serial_engine::answers::Answers;
 use serial_engine::run::begin;

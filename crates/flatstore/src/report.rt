@@ -79,13 +79,19 @@ impl Status {
     {
         let text = match self {
             Status::Done => format!(in alloc; "")?,
-            Status::Usage => format!(in alloc; "flatstore: usage: flatstore format REGION --cores N --group N --chunks N --chunk-bytes N, replay REGION, run REGION, dump REGION, log REGION, load REGION START COUNT")?,
-            Status::BadInput { line, rule } => format!(in alloc; "flatstore: line {line} breaks input rule {rule}")?,
+            Status::Usage => format!(in alloc;
+                "flatstore: usage: flatstore format REGION --cores N --group N --chunks N --chunk-bytes N, replay REGION, run REGION, dump REGION, log REGION, load REGION START COUNT"
+            )?,
+            Status::BadInput { line, rule } => format!(in alloc;
+                "flatstore: line {line} breaks input rule {rule}"
+            )?,
             Status::SourceFault => format!(in alloc; "flatstore: reading the input failed")?,
             Status::SinkFault => format!(in alloc; "flatstore: writing the output failed")?,
             Status::RegionFault => format!(in alloc; "flatstore: the region failed")?,
             Status::Memory => format!(in alloc; "flatstore: out of memory")?,
-            Status::NotBuilt { line } => format!(in alloc; "flatstore: not built yet: line {line}")?,
+            Status::NotBuilt { line } => format!(in alloc;
+                "flatstore: not built yet: line {line}"
+            )?,
         };
         Ok(text)
     }

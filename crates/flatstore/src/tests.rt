@@ -5,8 +5,7 @@ use fs_errors::Memory;
 use fs_model::Value;
 use fs_text::{MemSink, MemSource, SteadySink, SteadySource};
 use pm_region::{
-    Faults, FenceNumber, FileRegion, ImageError, MemRegion, Pick, Region, SplitRegion,
-    SteadyRegion,
+    Faults, FenceNumber, FileRegion, ImageError, MemRegion, Pick, Region, SplitRegion, SteadyRegion,
 };
 use serial_engine::answers::{Counts, Finish, Refusal, Shortage};
 use std::alloc::{AllocError, Global};
@@ -85,7 +84,9 @@ fn cell(alloc: Global, words: &[u64], key: u64) -> Result<Option<Value>, Fail> {
     if words.len() * 8 != BYTES {
         return Ok(Some(Value::of(Vec::from_slice(alloc, b"another length")?)));
     }
-    if first_fault(alloc, words, BYTES as u64)?.is_some() || read_layout(words, BYTES as u64).is_err() {
+    if first_fault(alloc, words, BYTES as u64)?.is_some()
+        || read_layout(words, BYTES as u64).is_err()
+    {
         return Ok(Some(Value::of(Vec::from_slice(alloc, b"not sound")?)));
     }
     for pair in recovered_cells(alloc, words)? {
@@ -103,13 +104,29 @@ fn replies(rt: HostRuntime) -> Result<(), Fail> {
         ("", Status::Done, ""),
         (THREE, Status::Done, "stored\nvalue abc\nabsent\n"),
         ("put 5 \nget 5\n", Status::Done, "stored\nvalue \n"),
-        ("put 1 a\nput 1 bc\nget 1", Status::Done, "stored\nstored\nvalue bc\n"),
-        ("put 18446744073709551615 m\nget 18446744073709551615\n", Status::Done, "stored\nvalue m\n"),
+        (
+            "put 1 a\nput 1 bc\nget 1",
+            Status::Done,
+            "stored\nstored\nvalue bc\n",
+        ),
+        (
+            "put 18446744073709551615 m\nget 18446744073709551615\n",
+            Status::Done,
+            "stored\nvalue m\n",
+        ),
         ("put 5", Status::BadInput { line: 1, rule: 4 }, ""),
-        ("get 18446744073709551616\n", Status::BadInput { line: 1, rule: 5 }, ""),
+        (
+            "get 18446744073709551616\n",
+            Status::BadInput { line: 1, rule: 5 },
+            "",
+        ),
         ("get 007\n", Status::BadInput { line: 1, rule: 5 }, ""),
         ("get -1\n", Status::BadInput { line: 1, rule: 5 }, ""),
-        ("put 1 a\nGet 5\n", Status::BadInput { line: 2, rule: 3 }, ""),
+        (
+            "put 1 a\nGet 5\n",
+            Status::BadInput { line: 2, rule: 3 },
+            "",
+        ),
         ("get 1\ndelete 1\n", Status::NotBuilt { line: 2 }, ""),
         ("go 0 1\n", Status::NotBuilt { line: 1 }, ""),
     ];
@@ -136,7 +153,13 @@ fn words_that_are_no_form(rt: HostRuntime) -> Result<(), Fail> {
         let mut region = steady(alloc)?;
         let mut source = SteadySource::new(Vec::new(alloc), 1);
         let mut sink = SteadySink::new(alloc, 10, 1)?;
-        let report = flatstore(alloc, &command(alloc, line)?, &mut source, &mut sink, &mut region);
+        let report = flatstore(
+            alloc,
+            &command(alloc, line)?,
+            &mut source,
+            &mut sink,
+            &mut region,
+        );
         assert_eq!(rt; report.status, Status::Usage);
         assert!(rt; !report.attached);
     }
@@ -180,7 +203,10 @@ fn a_full_log(rt: HostRuntime) -> Result<(), Fail> {
         class: 0,
         free_blocks: 0,
     });
-    assert_eq!(rt; report.refusals.as_slice(), [Refusal { request: 36, why }].as_slice());
+    assert_eq!(rt;
+        report.refusals.as_slice(),
+        [Refusal { request: 36, why }].as_slice()
+    );
     Ok(())
 }
 
@@ -261,11 +287,20 @@ fn a_region_in_a_file(rt: HostRuntime) -> Result<(), Fail> {
     let mut region = FileRegion::at(rt.clone()?, String::from_str(alloc, name)?);
     let (report, written) = replay(alloc, &mut region, THREE)?;
     assert_eq!(rt; report.status, Status::Done);
-    assert_eq!(rt; written.as_slice(), b"stored\nvalue abc\nabsent\n".as_slice());
+    assert_eq!(rt;
+        written.as_slice(),
+        b"stored\nvalue abc\nabsent\n".as_slice()
+    );
     let mut again = FileRegion::at(rt.clone()?, String::from_str(alloc, name)?);
     assert_eq!(rt; again.attach(alloc), Ok(()));
     let words = words_of(alloc, &again)?;
-    for (place, word) in [(512, 1), (513, 8), (544, 0x0300_0015), (545, 5), (546, 0x0063_6261)] {
+    for (place, word) in [
+        (512, 1),
+        (513, 8),
+        (544, 0x0300_0015),
+        (545, 5),
+        (546, 0x0063_6261),
+    ] {
         assert_eq!(rt; words.get(place), Some(&word));
     }
     fs::remove_file(&rt, name)?;

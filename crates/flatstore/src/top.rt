@@ -30,12 +30,12 @@ pub fn flatstore<S: Source, O: Sink, R: SplitRegion>(
     // The headline.
     ensures replay { result.attached ≡ true → IsSound (R.state region.new).frame.bytes (R.found region.old)
         → (input : List ℕ) × IsInput (S.coming source.old) input × Replays (R.state region.old) (R.state region.new) (R.found region.old) input
-            (O.taken sink.old) (O.taken sink.new) (O.fault_count sink.old) (O.fault_count sink.new) result }
+        (O.taken sink.old) (O.taken sink.new) (O.fault_count sink.old) (O.fault_count sink.new) result }
 
     // Where region and source tell, their words and bytes decide on the status, but for faults that were counted and want of memory.
     ensures due { (input : List ℕ) → S.coming source.old ≡ Some input → result.attached ≡ true → IsTelling (R.state region.new)
         → IsDue (R.state region.new).frame.bytes (R.found region.old) input result.status
-            ⊎ IsFault (R.state region.old) (R.state region.new) (S.fault_count source.old) (S.fault_count source.new) (O.fault_count sink.old) (O.fault_count sink.new) result.status }
+        ⊎ IsFault (R.state region.old) (R.state region.new) (S.fault_count source.old) (S.fault_count source.new) (O.fault_count sink.old) (O.fault_count sink.new) result.status }
     ensures attaching { result.attached ≡ false → (result.status ≡ statuses.Usage) ⊎ ((result.status ≡ statuses.Memory) ⊎ (result.status ≡ statuses.RegionFault)) }
     ensures source_fault { result.status ≡ statuses.SourceFault → Rose (S.fault_count source.old) (S.fault_count source.new) }
     ensures sink_fault { result.status ≡ statuses.SinkFault → Rose (O.fault_count sink.old) (O.fault_count sink.new) }
