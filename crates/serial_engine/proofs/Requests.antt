@@ -1,17 +1,14 @@
 -- A run that goes on by one request, in the words of its own state.
-use Rattle.std.proofs.Common.{◌≡◌, ◌⊎◌, inl, inr, ℕ, ◌+◌, ◌<◌, ◌≤◌, List, [], ◌∷◌, ◌++◌, length, map, refl, sym, ◌∙◌, ap, subst, arith, true, false, Bool, cond, Option, Some, None, ◌==◌, Result, Ok, Err, OnOk, OnErr, append_assoc, append-nil}
+use Rattle.std.proofs.Common.{◌≡◌, inl, inr, ℕ, ◌+◌, ◌≤◌, List, [], ◌∷◌, ◌++◌, length, map, refl, sym, ◌∙◌, ap, subst, arith, true, false, Bool, cond, Option, Some, None, ◌==◌, Result, Ok, Err, OnOk, OnErr, append_assoc, append-nil}
 use Rattle.std.proofs.lemmas.List.{map-append}
 use Rattle.std.proofs.lemmas.Bool.{eqb-true, eqb-false}
-use Rattle.pm_region.specs.Cell.{Cell}
-use Rattle.pm_region.specs.State.{State, Frame, IsTelling, cell_now, During, Rose}
-use Rattle.pm_region.proofs.Moments.{over_weaken}
+use Rattle.pm_region.specs.State.{State, IsTelling, cell_now, During, Rose}
 use Rattle.fs_model.specs.declared.model.Request.{Request}
-use Rattle.fs_model.specs.declared.model.Request.TheVariants.{Put, Get, Delete}
+use Rattle.fs_model.specs.declared.model.Request.TheVariants.{Put, Get}
 use Rattle.fs_model.specs.declared.model.Reply.{Reply}
-use Rattle.fs_model.specs.declared.model.Reply.TheVariants.{Stored, Value, Absent, Stopped}
-use Rattle.fs_model.specs.Cells.{key_of, answer_to, cell_after, is_change}
-use Rattle.fs_model.specs.Lawful.{MayReply, is_finish, is_told, is_stopped, is_refusal, may_refuse, cell_left}
-use Rattle.chunk_map.specs.declared.layouts.Geometry.{Geometry}
+use Rattle.fs_model.specs.declared.model.Reply.TheVariants.{Stored, Stopped}
+use Rattle.fs_model.specs.Cells.{answer_to}
+use Rattle.fs_model.specs.Lawful.{is_finish, is_told, is_stopped, may_refuse, cell_left}
 use Rattle.headline.specs.Headline.{Told}
 use Rattle.headline.specs.Run.{Answered, Recorded}
 use Rattle.headline.proofs.Run.{recorded, recorded_stopped, answered_quiet, answered_refusal, answered_finish, with_finish}
@@ -28,7 +25,7 @@ use Rattle.serial_engine.specs.Cells.{cell_of, last_of, SameCells, Settles}
 use Rattle.serial_engine.specs.Shows.{Shows}
 use Rattle.serial_engine.specs.Moments.{EachImage, with_at, ShowsEither}
 use Rattle.serial_engine.specs.Ready.{Ready}
-use Rattle.serial_engine.specs.Going.{RecoversSoFar, Going, AnswersOne, AnswersNone, AnswersList, AnswersSome}
+use Rattle.serial_engine.specs.Going.{RecoversSoFar, Going, AnswersOne, AnswersNone, AnswersList}
 use Rattle.serial_engine.proofs.Appends.{with_here, with_else}
 use Rattle.serial_engine.proofs.Steps.{images_stopped, images_quiet, images_failed, images_finished}
 

@@ -1,8 +1,8 @@
 -- The store of a region with nothing in it.
-use Rattle.std.proofs.Common.{◌≡◌, ◌≢◌, ◌⊎◌, inl, inr, ℕ, zero, suc, ◌+◌, ◌-◌, ◌*◌, ◌/◌, ◌<◌, ◌≤◌, List, [], ◌∷◌, ◌++◌, length, refl, sym, ◌∙◌, ap, subst, arith, true, false, Option, Some, None}
+use Rattle.std.proofs.Common.{◌≡◌, inl, inr, ℕ, zero, suc, ◌+◌, ◌/◌, ◌<◌, ◌≤◌, List, [], ◌++◌, length, refl, sym, ◌∙◌, ap, subst, arith, None}
 use Rattle.std.specs.Prelude.{slice_index}
 use Rattle.std.specs.List.{flat_map}
-use Rattle.pm_region.specs.Cell.{Cell, MayBe}
+use Rattle.pm_region.specs.Cell.{MayBe}
 use Rattle.std.proofs.Common.{⊎_elim}
 use Rattle.std.proofs.lemmas.Bool.{cases_lt}
 use Rattle.pm_region.specs.State.{State, IsTelling, cell_now, InRange, MayLeave}
@@ -11,21 +11,19 @@ use Rattle.pm_region.proofs.Cells.{may_be_last}
 use Rattle.pm_region.proofs.Narrow.{patch, patch_in, patch_out}
 use Rattle.chunk_map.proofs.LayoutLaws.{numbers_of, chunk_in_part, part_within, chunk_words_whole}
 use Rattle.chunk_map.specs.declared.layouts.Geometry.{Geometry}
-use Rattle.chunk_map.specs.Layouts.{numbers, IsLayout, total_bytes, chunk_first, chunk_words, part_first}
+use Rattle.chunk_map.specs.Layouts.{numbers, IsLayout, total_bytes, chunk_first, part_first}
 use Rattle.chunk_map.proofs.SuperLaws.{keeps_rules}
 use Rattle.store_image.specs.declared.types.PlacedEntry.{PlacedEntry}
 use Rattle.std.specs.Option.{option_and_then}
 use Rattle.chunk_map.specs.Layouts.{owner}
 use Rattle.store_image.specs.Winners.{winner_in, cell_by}
-use Rattle.store_image.specs.Parts.{all_entries, part_entries, chunk_entries, chunk_reads, held}
-use Rattle.core_log.specs.Log.{LogState, IsOwn, StandsIn, tail_of, first_of}
-use Rattle.serial_engine.specs.declared.cells.Cells.{Cells}
+use Rattle.store_image.specs.Parts.{all_entries, part_entries, chunk_entries, held}
+use Rattle.core_log.specs.Log.{LogState, IsOwn, tail_of, first_of}
 use Rattle.serial_engine.specs.declared.store.Store.{Store}
 use Rattle.serial_engine.specs.Cells.{cell_of, last_of}
-use Rattle.serial_engine.specs.Ready.{Ready, IsFree, AreFree}
+use Rattle.serial_engine.specs.Ready.{Ready}
 use Rattle.serial_engine.proofs.Puts.{none_some}
 use Rattle.serial_engine.specs.Shows.{In, Shows}
-use Rattle.serial_engine.specs.Moments.{EachImage}
 use Rattle.serial_engine.specs.Empty.{IsEmptyImage, IsEmptyRegion}
 use Rattle.serial_engine.proofs.Opened.{free_entries, free_reads}
 

@@ -1,20 +1,18 @@
 -- One request more, of a run of the store.
-use Rattle.std.proofs.Common.{◌≡◌, ◌⊎◌, inl, inr, ⊎_elim, ℕ, ◌+◌, ◌<◌, ◌≤◌, List, [], ◌∷◌, ◌++◌, length, map, refl, sym, ◌∙◌, ap, subst, arith, true, false, Bool, Option, Some, None, ◌==◌, cond}
-use Rattle.std.proofs.lemmas.Bool.{cases_lt, cases_eq, eq-eqb, ne_eqb}
+use Rattle.std.proofs.Common.{◌≡◌, ◌⊎◌, inl, inr, ⊎_elim, ℕ, ◌<◌, ◌≤◌, List, [], ◌∷◌, ◌++◌, length, map, refl, sym, ◌∙◌, ap, subst, arith, true, Option, Some, None}
+use Rattle.std.proofs.lemmas.Bool.{cases_lt}
 use Rattle.pm_region.specs.Cell.{Cell}
 use Rattle.pm_region.specs.State.{State, Frame, IsTold, IsTelling, cell_now, Over, During, MayLeave}
 use Rattle.pm_region.proofs.Moments.{along, over_weaken, over_started}
 use Rattle.fs_model.specs.declared.model.Request.{Request}
-use Rattle.fs_model.specs.declared.model.Request.TheVariants.{Put, Get, Delete}
+use Rattle.fs_model.specs.declared.model.Request.TheVariants.{Put}
 use Rattle.fs_model.specs.declared.model.Reply.{Reply}
-use Rattle.fs_model.specs.declared.model.Reply.TheVariants.{Stored, Value, Absent, Deleted, Full, VersionsSpent, TooLong, Stopped}
-use Rattle.fs_model.specs.Cells.{key_of, answer_to, cell_after, is_change}
-use Rattle.fs_model.specs.Lawful.{MayReply, is_finish, is_told, is_stopped, cell_left}
+use Rattle.fs_model.specs.Cells.{key_of, cell_after, is_change}
 use Rattle.fs_model.specs.Changes.{finished_by, finished_changes}
 use Rattle.chunk_map.specs.declared.layouts.Geometry.{Geometry}
-use Rattle.headline.specs.Headline.{Told, finished_in, refused_in, cells_of, Recovers}
+use Rattle.headline.specs.Headline.{Told, refused_in, Recovers}
 use Rattle.headline.specs.Run.{Answered, Recorded, HoldsCells}
-use Rattle.headline.proofs.Run.{recorded, recorded_stopped, answered_quiet, answered_refusal, answered_finish, changes_stay, finished_by-append, each_finish, with_finish}
+use Rattle.headline.proofs.Run.{recorded, changes_stay, finished_by-append, each_finish, with_finish}
 use Rattle.headline.proofs.Crash.{recovers_grow, recovers_still, recovers_failed, recovers_before, recovers_during, holds_all}
 use Rattle.store_image.specs.Winners.{recovered}
 use Rattle.serial_engine.specs.Shows.{Shows}

@@ -1,8 +1,7 @@
 -- A put is a chunk that may be opened, then an append.
-use Rattle.std.proofs.Common.{◌≡◌, ◌⊎◌, inl, ℕ, zero, suc, ◌+◌, ◌<◌, List, [], ◌∷◌, length, refl, sym, ◌∙◌, ap, subst, get_or, arith}
+use Rattle.std.proofs.Common.{◌≡◌, inl, ℕ, suc, ◌<◌, List, [], ◌∷◌, length, subst, get_or, arith}
 use Rattle.std.specs.List.{AllByRecursion}
-use Rattle.pm_region.specs.Cell.{Cell}
-use Rattle.pm_region.specs.State.{State, Frame, During}
+use Rattle.pm_region.specs.State.{State, During}
 use Rattle.pm_region.proofs.Moments.{weaken, then_on}
 use Rattle.chunk_map.specs.declared.layouts.Geometry.{Geometry}
 use Rattle.serial_engine.specs.declared.cells.Cells.{Cells}

@@ -1,5 +1,5 @@
 -- What answers report.
-use Rattle.std.specs.Prelude.{ℕ, ◌<◌, List, map, vec_len, vec_capacity}
+use Rattle.std.specs.Prelude.{◌<◌, List, map, vec_len, vec_capacity}
 use Rattle.fs_model.specs.declared.model.Reply.{Reply}
 use Rattle.fs_model.specs.declared.model.Reply.TheVariants.{Full, VersionsSpent, TooLong}
 use Rattle.headline.specs.Headline.{Told}

@@ -1,5 +1,5 @@
 -- A region of one core with nothing in it, and the store that begins there.
-use Rattle.std.specs.Prelude.{◌≡◌, ℕ, ◌/◌, ◌<◌, Option, None}
+use Rattle.std.specs.Prelude.{◌≡◌, ℕ, ◌/◌, ◌<◌}
 use Rattle.pm_region.specs.State.{State, IsTelling, cell_now}
 use Rattle.chunk_map.specs.declared.layouts.Geometry.{Geometry}
 use Rattle.chunk_map.specs.Layouts.{IsLayout, total_bytes, chunk_first}

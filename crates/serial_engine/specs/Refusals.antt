@@ -1,5 +1,5 @@
 -- When a put of an embedded value is refused, and with which counts.
-use Rattle.std.specs.Prelude.{◌≡◌, ◌⊎◌, ℕ, ◌+◌, ◌/◌, ◌<◌, ◌≤◌, List, length, Option, Some, None}
+use Rattle.std.specs.Prelude.{◌≡◌, ◌⊎◌, ℕ, ◌+◌, ◌/◌, ◌<◌, ◌≤◌, length, Option, Some, None}
 use Rattle.core_log.specs.Log.{room_of}
 use Rattle.serial_engine.specs.declared.store.Store.{Store}
 use Rattle.serial_engine.specs.declared.answers.Counts.{Counts}

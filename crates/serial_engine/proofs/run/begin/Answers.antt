@@ -1,6 +1,5 @@
 -- No request is answered yet, and each image has the cells of the store.
 use Rattle.std.proofs.Common.{[], false}
-use Rattle.fs_model.specs.declared.model.Reply.{Reply}
 use Rattle.headline.specs.Headline.{Told}
 use Rattle.headline.proofs.Run.{recorded}
 use Rattle.serial_engine.specs.Answers.{told}

@@ -1,5 +1,5 @@
 -- The numbers so far.
-use Rattle.std.specs.Prelude.{◌≡◌, ℕ, ◌+◌, ◌<◌, length, slice_index, vec_len, vec_capacity}
+use Rattle.std.specs.Prelude.{◌≡◌, ℕ, ◌+◌, ◌<◌, length, slice_index}
 use Rattle.serial_engine.proofs.store.falling.Given as goal
 
 abbrev pub invariant-loop-i : goal.invariant-loop-i

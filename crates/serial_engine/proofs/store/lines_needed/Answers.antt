@@ -1,5 +1,5 @@
 -- A slice of bytes has bytes.
-use Rattle.std.proofs.Common.{ℕ, arith}
+use Rattle.std.proofs.Common.{arith}
 use Rattle.serial_engine.proofs.Stored.{each_byte}
 use Rattle.serial_engine.proofs.store.lines_needed.Goals as goal
 

@@ -1,5 +1,5 @@
 -- The loop over the requests.
-use Rattle.std.proofs.Common.{◌≡◌, ◌++◌, ◌∷◌, [], refl, sym, ◌∙◌, ap, subst, append_assoc, append-nil, arith, true, false}
+use Rattle.std.proofs.Common.{◌≡◌, ◌++◌, ◌∷◌, [], sym, ◌∙◌, ap, subst, append_assoc, append-nil, arith, true, false}
 use Rattle.std.proofs.lemmas.List.{nil_from_length}
 use Rattle.std.specs.List.{AllByRecursion}
 use Rattle.serial_engine.specs.Going.{IsServed, AnswersList}

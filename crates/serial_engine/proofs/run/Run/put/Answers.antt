@@ -1,5 +1,5 @@
 -- A put is refused, or admitted and then stored or failed.
-use Rattle.std.proofs.Common.{List, [], ◌∷◌, ◌++◌, length, sym, ◌∙◌, ap}
+use Rattle.std.proofs.Common.{[], ◌∷◌, ◌++◌, length, ◌∙◌, ap}
 use Rattle.serial_engine.proofs.Requests.{answers_refused, answers_none, answers_stored, answers_failed, always_err, ready_after}
 use Rattle.serial_engine.proofs.run.Run.put.Goals as goal
 

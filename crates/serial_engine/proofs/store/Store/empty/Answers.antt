@@ -1,6 +1,5 @@
 -- Everything that a store of an empty region needs holds at once.
-use Rattle.std.proofs.Common.{sym, ap, ◌∙◌, ◌+◌, ◌<◌, length, subst, arith}
-use Rattle.std.specs.Prelude.{slice_index}
+use Rattle.std.proofs.Common.{ap, ◌∙◌, ◌+◌, arith}
 use Rattle.chunk_map.proofs.LayoutLaws.{numbers_of}
 use Rattle.core_log.specs.Log.{tail_of}
 use Rattle.serial_engine.proofs.Starts.{ready_at_start}

@@ -1,7 +1,7 @@
 -- The moments of the two calls, one after the other.
 use Rattle.std.specs.List.{AllByRecursion}
-use Rattle.std.proofs.Common.{◌≡◌, ℕ, ◌+◌, ◌<◌, refl, sym, ◌∙◌, ap, subst}
-use Rattle.serial_engine.proofs.Stored.{before_either, both_runs, each_byte}
+use Rattle.std.proofs.Common.{◌+◌, ◌<◌, subst}
+use Rattle.serial_engine.proofs.Stored.{before_either, both_runs}
 use Rattle.serial_engine.specs.Cells.{cell_of, last_of}
 use Rattle.serial_engine.specs.Moments.{EachImage, ShowsEither}
 use Rattle.pm_region.specs.State.{During}
