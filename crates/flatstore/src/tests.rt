@@ -3,11 +3,11 @@ use crate::report::{Report, Status};
 use crate::top::flatstore;
 use fs_errors::Memory;
 use fs_model::Value;
-use fs_text::{MemSink, MemSource, SteadySink, SteadySource};
+use fs_text::{MemSink, MemSource, Sink, Source, SteadySink, SteadySource};
 use pm_region::{
-    Faults, FenceNumber, FileRegion, ImageError, MemRegion, Pick, Region, SplitRegion, SteadyRegion,
+    Faults, FenceNumber, FileRegion, MemRegion, Pick, Region, SplitRegion, SteadyRegion,
 };
-use serial_engine::answers::{Counts, Finish, Refusal, Shortage};
+use serial_engine::answers::{Counts, Refusal, Shortage};
 use std::alloc::{AllocError, Global};
 use std::fs;
 use std::test::Fail;
@@ -15,6 +15,8 @@ use store_image::superblock::read_layout;
 use store_image::{first_fault, recovered_cells};
 
 const BYTES: usize = 20480;
+
+const REPLAY: [&str; 3] = ["flatstore", "replay", "region"];
 
 const THREE: &str = "put 5 abc\nget 5\nget 6\n";
 
@@ -27,14 +29,20 @@ const PICKS: [Pick; 6] = [
     Pick::Mixed(3),
 ];
 
+fn set(bytes: &mut [u8], place: usize, byte: u8) {
+    if let Some(at) = bytes.get_mut(place) {
+        *at = byte;
+    }
+}
+
 // The bytes of the fresh region: the superblock of one core with four chunks of 4,096 bytes.
 fn fresh(alloc: Global) -> Result<Vec<u8>, AllocError> {
     let mut bytes = vec![in alloc; 0u8; BYTES]?;
     for (place, byte) in b"FLATST01".iter().enumerate() {
-        bytes[place] = *byte;
+        set(&mut bytes, place, *byte);
     }
     for (place, byte) in [(8, 1), (16, 1), (24, 1), (32, 4), (41, 16)] {
-        bytes[place] = byte;
+        set(&mut bytes, place, byte);
     }
     Ok(bytes)
 }
@@ -47,39 +55,53 @@ fn command(alloc: Global, words: &[&str]) -> Result<Vec<String>, AllocError> {
     Ok(line)
 }
 
+// One call of the program, of which only the report counts.
+fn call<S: Source, O: Sink, R: SplitRegion>(
+    alloc: Global,
+    words: &[&str],
+    source: &mut S,
+    sink: &mut O,
+    region: &mut R,
+) -> Result<Report, AllocError> {
+    let line = command(alloc, words)?;
+    Ok(flatstore(alloc, &line, source, sink, region))
+}
+
 // Replays an input on a region, into a sink that takes everything.
 fn replay<R: SplitRegion>(
     alloc: Global,
     region: &mut R,
     input: &str,
-) -> Result<(Report, Vec<u8>), AllocError> {
-    let line = command(alloc, &["flatstore", "replay", "region"])?;
+) -> Result<(Report, Vec<u8>), Fail> {
     let mut source = SteadySource::new(Vec::from_slice(alloc, input.as_bytes())?, 7);
-    let mut sink = match SteadySink::new(alloc, 100_000, 1000) {
-        Ok(sink) => sink,
-        Err(_) => return Err(AllocError),
-    };
-    let report = flatstore(alloc, &line, &mut source, &mut sink, region);
+    let mut sink = SteadySink::new(alloc, 100_000, 1000)?;
+    let report = call(alloc, &REPLAY, &mut source, &mut sink, region)?;
     let text = Vec::from_slice(alloc, sink.text().unwrap_or(b"not kept"))?;
     Ok((report, text))
 }
 
-fn steady(alloc: Global) -> Result<SteadyRegion, AllocError> {
-    match SteadyRegion::new(alloc, fresh(alloc)?, 5000) {
-        Ok(region) => Ok(region),
-        Err(_) => Err(AllocError),
-    }
+fn steady(alloc: Global) -> Result<SteadyRegion, Memory> {
+    SteadyRegion::new(alloc, fresh(alloc)?, 5000)
 }
 
+// Replays an input on a region in memory that is fresh.
+fn row(alloc: Global, input: &str) -> Result<(Report, Vec<u8>), Fail> {
+    let mut region = steady(alloc)?;
+    replay(alloc, &mut region, input)
+}
+
+// The words of a region that starts at word 0.
 fn words_of<R: Region>(alloc: Global, region: &R) -> Result<Vec<u64>, AllocError> {
     let mut words = Vec::new(alloc);
-    for place in 0..region.words() {
-        words.push(region.load(region.first() + place))?;
+    if region.first() == 0 {
+        for place in 0..region.words() {
+            words.push(region.load(place))?;
+        }
     }
     Ok(words)
 }
 
-// Key 5's cell in an image, once the yardstick has found it sound.
+// A key's cell in an image, once the yardstick has found it sound.
 fn cell(alloc: Global, words: &[u64], key: u64) -> Result<Option<Value>, Fail> {
     if words.len() * 8 != BYTES {
         return Ok(Some(Value::of(Vec::from_slice(alloc, b"another length")?)));
@@ -95,6 +117,13 @@ fn cell(alloc: Global, words: &[u64], key: u64) -> Result<Option<Value>, Fail> {
         }
     }
     Ok(None)
+}
+
+// A key's cell in a region that is yet to be attached.
+fn cell_in<R: SplitRegion>(alloc: Global, region: &mut R, key: u64) -> Result<Option<Value>, Fail> {
+    region.attach(alloc)?;
+    let words = words_of(alloc, region)?;
+    cell(alloc, &words, key)
 }
 
 #[test]
@@ -131,13 +160,20 @@ fn replies(rt: HostRuntime) -> Result<(), Fail> {
         ("go 0 1\n", Status::NotBuilt { line: 1 }, ""),
     ];
     for (input, status, text) in table {
-        let mut region = steady(alloc)?;
-        let (report, written) = replay(alloc, &mut region, input)?;
+        let (report, written) = row(alloc, input)?;
         assert_eq!(rt; report.status, status);
         assert_eq!(rt; written.as_slice(), text.as_bytes());
-        assert!(rt; report.attached);
     }
     Ok(())
+}
+
+// What a call with these words says, on a fresh region.
+fn said(alloc: Global, words: &[&str]) -> Result<(Status, bool), Fail> {
+    let mut region = steady(alloc)?;
+    let mut source = SteadySource::new(Vec::new(alloc), 1);
+    let mut sink = SteadySink::new(alloc, 10, 1)?;
+    let report = call(alloc, words, &mut source, &mut sink, &mut region)?;
+    Ok((report.status, report.attached))
 }
 
 #[test]
@@ -150,18 +186,7 @@ fn words_that_are_no_form(rt: HostRuntime) -> Result<(), Fail> {
         &["flatstore", "replay", "region", "more"],
     ];
     for line in lines {
-        let mut region = steady(alloc)?;
-        let mut source = SteadySource::new(Vec::new(alloc), 1);
-        let mut sink = SteadySink::new(alloc, 10, 1)?;
-        let report = flatstore(
-            alloc,
-            &command(alloc, line)?,
-            &mut source,
-            &mut sink,
-            &mut region,
-        );
-        assert_eq!(rt; report.status, Status::Usage);
-        assert!(rt; !report.attached);
+        assert_eq!(rt; said(alloc, line)?, (Status::Usage, false));
     }
     Ok(())
 }
@@ -171,7 +196,7 @@ fn another_region(rt: HostRuntime) -> Result<(), Fail> {
     let alloc = rt.alloc();
     for (place, byte) in [(0, b'G'), (32, 5), (20479, 1)] {
         let mut bytes = fresh(alloc)?;
-        bytes[place] = byte;
+        set(&mut bytes, place, byte);
         let mut region = SteadyRegion::new(alloc, bytes, 5000)?;
         let (report, written) = replay(alloc, &mut region, THREE)?;
         assert_eq!(rt; report.status, Status::NotBuilt { line: 0 });
@@ -180,18 +205,23 @@ fn another_region(rt: HostRuntime) -> Result<(), Fail> {
     Ok(())
 }
 
-#[test]
-fn a_full_log(rt: HostRuntime) -> Result<(), Fail> {
-    let alloc = rt.alloc();
+// 37 puts of values with 255 bytes, and the replies to them: a chunk of 60 lines has 12 entries of 5 lines.
+fn many(alloc: Global) -> Result<(String, String), Fail> {
+    let value = String::from_utf8(vec![in alloc; b'v'; 255]?)?;
     let mut input = String::new(alloc);
     let mut text = String::new(alloc);
-    let value = String::from_utf8(vec![in alloc; b'v'; 255]?)?;
     for key in 1..38u64 {
         input.push_str(format!(in alloc; "put {key} {value}\n")?.as_str())?;
         text.push_str(if key < 37 { "stored\n" } else { "full\n" })?;
     }
-    let mut region = steady(alloc)?;
-    let (report, written) = replay(alloc, &mut region, input.as_str())?;
+    Ok((input, text))
+}
+
+#[test]
+fn a_full_log(rt: HostRuntime) -> Result<(), Fail> {
+    let alloc = rt.alloc();
+    let (input, text) = many(alloc)?;
+    let (report, written) = row(alloc, input.as_str())?;
     assert_eq!(rt; report.status, Status::Done);
     assert_eq!(rt; written.as_slice(), text.as_bytes());
     assert_eq!(rt; report.finishes.len(), 36);
@@ -210,27 +240,53 @@ fn a_full_log(rt: HostRuntime) -> Result<(), Fail> {
     Ok(())
 }
 
+fn failing(alloc: Global, number: u64) -> Result<MemRegion, Memory> {
+    let plan = Faults {
+        opens: Vec::new(alloc),
+        fences: vec![in alloc; FenceNumber { piece: 0, number }]?,
+    };
+    MemRegion::new(alloc, fresh(alloc)?, 5000, plan)
+}
+
+// Whether each image of the last stamp has no value for key 1, or `a`.
+fn has_none_or_a(alloc: Global, region: &MemRegion) -> Result<bool, Fail> {
+    for pick in PICKS {
+        let mut image = region.image_at(alloc, region.stamp(), pick)?;
+        if let Some(value) = cell_in(alloc, &mut image, 1)? {
+            if value.bytes() != b"a".as_slice() {
+                return Ok(false);
+            }
+        }
+    }
+    Ok(true)
+}
+
 #[test]
 fn failing_fences(rt: HostRuntime) -> Result<(), Fail> {
     let alloc = rt.alloc();
     for number in 1..5 {
-        let plan = Faults {
-            opens: Vec::new(alloc),
-            fences: vec![in alloc; FenceNumber { piece: 0, number }]?,
-        };
-        let mut region = MemRegion::new(alloc, fresh(alloc)?, 5000, plan)?;
+        let mut region = failing(alloc, number)?;
         let (report, written) = replay(alloc, &mut region, "put 1 a\nget 1\n")?;
         assert_eq!(rt; report.status, Status::RegionFault);
         assert_eq!(rt; written.as_slice(), b"stopped\nstopped\n".as_slice());
-        assert_eq!(rt; region.faults(), 1);
-        for pick in PICKS {
-            let mut image = region.image_at(alloc, region.stamp(), pick)?;
-            assert_eq!(rt; image.attach(alloc), Ok(()));
-            let cell = cell(alloc, &words_of(alloc, &image)?, 1)?;
-            assert!(rt; cell.is_none_or(|value| value.bytes() == b"a".as_slice()));
-        }
+        assert!(rt; has_none_or_a(alloc, &region)?);
     }
     Ok(())
+}
+
+// Whether each image of a stamp has `abc` for key 5, or no value where the change isn't finished.
+fn has_abc(alloc: Global, region: &SteadyRegion, stamp: u64, finished: bool) -> Result<bool, Fail> {
+    for pick in PICKS {
+        let mut image = region.image_at(alloc, stamp, pick)?;
+        let good = match cell_in(alloc, &mut image, 5)? {
+            Some(value) => value.bytes() == b"abc".as_slice(),
+            None => !finished,
+        };
+        if !good {
+            return Ok(false);
+        }
+    }
+    Ok(true)
 }
 
 #[test]
@@ -238,62 +294,71 @@ fn images_at_each_stamp(rt: HostRuntime) -> Result<(), Fail> {
     let alloc = rt.alloc();
     let mut region = steady(alloc)?;
     let (report, _) = replay(alloc, &mut region, THREE)?;
-    assert_eq!(rt; report.finishes.len(), 1);
-    assert_eq!(rt; report.finishes[0].request, 0);
-    let finish = report.finishes[0].stamp;
+    let finish = match report.finishes.first() {
+        Some(finish) => finish.stamp,
+        None => u64::MAX,
+    };
     assert!(rt; finish <= region.stamp());
-    for stamp in 0..region.stamp() + 1 {
-        for pick in PICKS {
-            let mut image = region.image_at(alloc, stamp, pick)?;
-            assert_eq!(rt; image.attach(alloc), Ok(()));
-            match cell(alloc, &words_of(alloc, &image)?, 5)? {
-                Some(value) => assert_eq!(rt; value.bytes(), b"abc".as_slice()),
-                None => assert!(rt; stamp < finish),
-            }
-        }
+    for stamp in 0..region.stamp() {
+        assert!(rt; has_abc(alloc, &region, stamp, finish <= stamp)?);
     }
+    assert!(rt; has_abc(alloc, &region, region.stamp(), true)?);
     Ok(())
 }
 
 #[test]
-fn failing_streams(rt: HostRuntime) -> Result<(), Fail> {
+fn a_failing_source(rt: HostRuntime) -> Result<(), Fail> {
     let alloc = rt.alloc();
-    let line = command(alloc, &["flatstore", "replay", "region"])?;
-    // 16 bytes are the first two lines, so the second read ends inside line 3
+    // the second read would begin inside line 3
     let input = Vec::from_slice(alloc, THREE.as_bytes())?;
     let mut source = MemSource::new(input, 18, vec![in alloc; 2]?);
     let mut sink = SteadySink::new(alloc, 100, 10)?;
     let mut region = steady(alloc)?;
-    let report = flatstore(alloc, &line, &mut source, &mut sink, &mut region);
+    let report = call(alloc, &REPLAY, &mut source, &mut sink, &mut region)?;
     assert_eq!(rt; report.status, Status::SourceFault);
     assert_eq!(rt; sink.text(), Some(b"".as_slice()));
     assert_eq!(rt; region.stamp(), 0);
+    Ok(())
+}
 
+#[test]
+fn a_failing_sink(rt: HostRuntime) -> Result<(), Fail> {
+    let alloc = rt.alloc();
     let input = Vec::from_slice(alloc, b"put 5 abc\nget 5\n")?;
     let mut source = SteadySource::new(input, 100);
     let mut sink = MemSink::new(alloc, 100, 10, vec![in alloc; 2]?)?;
     let mut region = steady(alloc)?;
-    let report = flatstore(alloc, &line, &mut source, &mut sink, &mut region);
+    let report = call(alloc, &REPLAY, &mut source, &mut sink, &mut region)?;
     assert_eq!(rt; report.status, Status::SinkFault);
     assert_eq!(rt; sink.text(), Some(b"stored\nval".as_slice()));
     Ok(())
 }
 
+// Replays an input on the region in a file.
+fn replay_file(rt: &HostRuntime, name: &str, input: &str) -> Result<(Report, Vec<u8>), Fail> {
+    let alloc = rt.alloc();
+    let mut region = FileRegion::at(rt.clone()?, String::from_str(alloc, name)?);
+    replay(alloc, &mut region, input)
+}
+
+fn words_of_file(rt: &HostRuntime, name: &str) -> Result<Vec<u64>, Fail> {
+    let alloc = rt.alloc();
+    let mut region = FileRegion::at(rt.clone()?, String::from_str(alloc, name)?);
+    region.attach(alloc)?;
+    Ok(words_of(alloc, &region)?)
+}
+
 #[test]
 fn a_region_in_a_file(rt: HostRuntime) -> Result<(), Fail> {
-    let alloc = rt.alloc();
     let name = "flatstore_a_region_in_a_file";
-    fs::write(&rt, name, fresh(alloc)?.as_slice())?;
-    let mut region = FileRegion::at(rt.clone()?, String::from_str(alloc, name)?);
-    let (report, written) = replay(alloc, &mut region, THREE)?;
+    fs::write(&rt, name, fresh(rt.alloc())?.as_slice())?;
+    let (report, written) = replay_file(&rt, name, THREE)?;
     assert_eq!(rt; report.status, Status::Done);
     assert_eq!(rt;
         written.as_slice(),
         b"stored\nvalue abc\nabsent\n".as_slice()
     );
-    let mut again = FileRegion::at(rt.clone()?, String::from_str(alloc, name)?);
-    assert_eq!(rt; again.attach(alloc), Ok(()));
-    let words = words_of(alloc, &again)?;
+    let words = words_of_file(&rt, name)?;
     for (place, word) in [
         (512, 1),
         (513, 8),
@@ -304,9 +369,7 @@ fn a_region_in_a_file(rt: HostRuntime) -> Result<(), Fail> {
         assert_eq!(rt; words.get(place), Some(&word));
     }
     fs::remove_file(&rt, name)?;
-
-    let mut region = FileRegion::at(rt.clone()?, String::from_str(alloc, name)?);
-    let (report, written) = replay(alloc, &mut region, THREE)?;
+    let (report, written) = replay_file(&rt, name, THREE)?;
     assert_eq!(rt; report.status, Status::RegionFault);
     assert!(rt; written.is_empty());
     Ok(())
