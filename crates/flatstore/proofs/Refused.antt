@@ -81,6 +81,8 @@ module _ (old s : State) (found : ℕ → ℕ) (A : Attached old s s.frame.bytes
         failed = λ failed other steady telling. absurd (apart_from statuses.RegionFault refl (sym is ∙ failed));
         begins = λ telling. subst (λ x. WritesFront (cells_of found) trace x text text) (sym nothing) (no_text (cells_of found) trace none stops.0 text text stops.1 refl);
         crash = subst (λ x. RecoversThroughout s (cells_of found) trace x) (sym nothing) (crash_at_attach old s found A sound trace);
+        refused = λ telling. ([], trace, refl, ref);
+        refused_all = λ done telling. absurd (apart_from statuses.Done refl (sym is ∙ done));
         last = λ done telling image may k small. absurd (apart_from statuses.Done refl (sym is ∙ done));
       }
 

@@ -22,7 +22,8 @@ use Rattle.headline.proofs.Run.{recorded}
 use Rattle.serial_engine.specs.Answers.{told_by}
 use Rattle.serial_engine.specs.Moments.{EachImage}
 use Rattle.serial_engine.proofs.Steps.{nothing_answered}
-use Rattle.flatstore.specs.Fresh.{IsFresh}
+use Rattle.serial_engine.specs.Stock.{refusals_from}
+use Rattle.flatstore.specs.Fresh.{IsFresh, fresh_lines, fresh_stock}
 use Rattle.flatstore.specs.Promise.{IsInput, WritesAll, WritesFront, Replays, IsDue, IsFault, built_now, status_of, is_stop, told_in}
 use Rattle.flatstore.specs.Reads.{IsRead, IsUnread}
 use Rattle.flatstore.specs.Played.{no_cells, HasAnswered, Played, IsRefused, HasWritten}
@@ -58,7 +59,7 @@ apart s e (inr (inr f)) = cc (sym e ∙ f)
 
 -- A replay that answered its requests, and what was written of it.
 module _ (old s t : State) (found : ℕ → ℕ) (A : Attached old s s.frame.bytes found) (coming before now : Option (List ℕ)) (faults faults' : ℕ) (e : Ended) (status : Status)
-    (P : Played s t coming e) (W : HasWritten e before now faults faults' status) (r : Report) (report_status : r.status ≡ status) (report_told : told_in r ≡ told_by e.answers) where
+    (P : Played s t coming e) (W : HasWritten e before now faults faults' status) (r : Report) (report_status : r.status ≡ status) (report_told : told_in r ≡ told_by e.answers) (report_refused : r.refusals.items ≡ e.answers.refusals.items) where
   H : HasAnswered s t P.trace e
   H = P.answered
 
@@ -132,6 +133,11 @@ module _ (old s t : State) (found : ℕ → ℕ) (A : Attached old s s.frame.byt
     last = λ done telling image may k small.
         let c = complete W (sym report_status ∙ done) in
         as_found (λ start trace x. cells_of image k ≡ cell_after_all (changes_in start trace x k) (start k)) (telling_then telling) (H.all c.0 c.1 telling image may k);
+    refused = λ telling. subst (λ xs. (front : List Request) × (rest : List Request) × (xs ≡ front ++ rest) × (r.refusals.items ≡ refusals_from fresh_lines 0 fresh_stock front)) (trace_is (telling_then telling))
+      (H.refused.0, H.refused.1, H.refused.2, report_refused ∙ H.refused.3);
+    refused_all = λ done telling.
+        let c = complete W (sym report_status ∙ done) in
+        report_refused ∙ H.refused_all c.0 c.1 ∙ ap (λ xs. refusals_from fresh_lines 0 fresh_stock xs) (trace_is (telling_then telling));
   }
 
   -- the status that is due

@@ -10,7 +10,8 @@ use Rattle.headline.specs.Run.{Recorded}
 use Rattle.serial_engine.specs.Moments.{EachImage}
 use Rattle.serial_engine.specs.Answers.{told_by}
 use Rattle.serial_engine.specs.Going.{RecoversSoFar}
-use Rattle.flatstore.specs.Fresh.{IsFresh}
+use Rattle.serial_engine.specs.Stock.{refusals_from}
+use Rattle.flatstore.specs.Fresh.{IsFresh, fresh_lines, fresh_stock}
 use Rattle.fs_text.specs.Streams.{Takes, TakesPrefix}
 use Rattle.fs_text.specs.Output.{replies_text}
 use Rattle.flatstore.specs.Reads.{IsRead, IsUnread}
@@ -30,6 +31,9 @@ pub record HasAnswered (s t : State) (trace : List Request) (e : Ended) : Type 0
   pub all : e.complete ≡ true → e.stopped ≡ false → IsTelling t
       → EachImage t.frame (λ image. (k : ℕ) → cells_of image k ≡ cell_after_all (changes_in no_cells trace (told_by e.answers) k) None) (cell_now t)
   pub cause : e.stopped ≡ true → Rose s.faults t.faults
+  -- the refusals are those of the requests up to the one at which it stopped
+  pub refused : (front : List Request) × (rest : List Request) × (trace ≡ front ++ rest) × (e.answers.refusals.items ≡ refusals_from fresh_lines 0 fresh_stock front)
+  pub refused_all : e.complete ≡ true → e.stopped ≡ false → e.answers.refusals.items ≡ refusals_from fresh_lines 0 fresh_stock trace
 
 -- and of a whole replay
 pub record Played (s t : State) (coming : Option (List ℕ)) (e : Ended) : Type 0 where

@@ -13,7 +13,8 @@ use Rattle.fs_text.specs.Stages.{input_or_stop}
 use Rattle.fs_text.specs.Streams.{Takes}
 use Rattle.headline.specs.Headline.{Told, cells_of, WritesReplies, BeginsReplies, RecoversThroughout, RecoversAll}
 use Rattle.serial_engine.specs.Answers.{told}
-use Rattle.flatstore.specs.Fresh.{IsFresh}
+use Rattle.serial_engine.specs.Stock.{refusals_from}
+use Rattle.flatstore.specs.Fresh.{IsFresh, fresh_lines, fresh_stock}
 use Rattle.flatstore.specs.declared.report.Status.{Status}
 use Rattle.flatstore.specs.declared.report.Status.TheVariants as statuses
 use Rattle.flatstore.specs.declared.report.Report.{Report}
@@ -44,6 +45,9 @@ pub record Replays (old new : State) (found : ℕ → ℕ) (input : List ℕ) (b
   pub crash : RecoversThroughout new (cells_of found) (trace_of (found 2) input) (told_in r)
   -- At the end it recovers all.
   pub last : r.status ≡ statuses.Done → RecoversAll new (cells_of found) (trace_of (found 2) input) (told_in r)
+  -- The requests alone say which were refused, with which counts: all of them at the end, and else those before the first that was not answered.
+  pub refused : IsTelling new → (front : List Request) × (rest : List Request) × (trace_of (found 2) input ≡ front ++ rest) × (r.refusals.items ≡ refusals_from fresh_lines 0 fresh_stock front)
+  pub refused_all : r.status ≡ statuses.Done → IsTelling new → r.refusals.items ≡ refusals_from fresh_lines 0 fresh_stock (trace_of (found 2) input)
 
 -- what is built: neither deletes nor `go` lines, nor values of 256 bytes and more
 abbrev pub built_now : Built

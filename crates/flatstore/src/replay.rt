@@ -10,6 +10,7 @@ ghost use Rattle.serial_engine.specs.Cells.{cell_of};
 ghost use Rattle.serial_engine.specs.Empty.{IsEmptyRegion};
 ghost use Rattle.serial_engine.specs.Ready.{Ready};
 ghost use Rattle.serial_engine.specs.Going.{IsServed};
+ghost use Rattle.serial_engine.specs.Stock.{IsUnused};
 ghost use Rattle.flatstore.specs.Fresh.{fresh_layout};
 ghost use Rattle.flatstore.specs.Reads.{IsRead, IsUnread, unread_as};
 ghost use Rattle.flatstore.specs.Played.{HasAnswered, Played, IsRefused};
@@ -82,6 +83,8 @@ fn read<S: Source>(alloc: Global, source: &mut S) -> Result<Vec<Request>, Status
 fn fresh_store(alloc: Global) -> Result<Store, Memory>
     ensures ready { IfOk result (λ store. (s : State) → IsEmptyRegion s fresh_layout → Ready s store) }
     ensures cells { IfOk result (λ store. (k : ℕ) → cell_of store.cells k ≡ None) }
+    ensures unused { IfOk result (λ store. IsUnused store 4) }
+    ensures layout { IfOk result (λ store. store.log.layout ≡ fresh_layout) }
 {
     match Layout::new(CORES, 1, 4, 4096) {
         Ok(layout) => Store::empty(alloc, layout),
@@ -103,6 +106,8 @@ pub struct Ended {
 fn answer<R: Region>(alloc: Global, region: &mut R, store: Store, requests: Vec<Request>) -> Ended
     requires ready { Ready (R.state region.old) store }
     requires cells { (k : ℕ) → cell_of store.cells k ≡ None }
+    requires unused { IsUnused store 4 }
+    requires layout { store.log.layout ≡ fresh_layout }
     requires served { AllByRecursion IsServed requests.items }
     ensures { HasAnswered (R.state region.old) (R.state region.new) requests.items result }
 {

@@ -23,7 +23,7 @@ use Rattle.serial_engine.specs.Ready.{Ready}
 use Rattle.serial_engine.proofs.Puts.{spelled_put, put_length, put_moments, put_shows, still_free}
 
 -- a log with room has an open chunk
-some_open : (log : LogState) (o : Option ℕ) → 1 ≤ lines_left log o → is_some o ≡ true
+pub some_open : (log : LogState) (o : Option ℕ) → 1 ≤ lines_left log o → is_some o ≡ true
 some_open log None low = absurd (omega (arith, low))
 some_open log (Some j) low = refl
 

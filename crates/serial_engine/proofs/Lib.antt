@@ -8,3 +8,4 @@ pub mod Steps
 pub mod Requests
 pub mod Starts
 pub mod Appended
+pub mod Stocks

@@ -6,3 +6,4 @@ pub mod Answers
 pub mod Refusals
 pub mod Going
 pub mod Empty
+pub mod Stock

@@ -6,6 +6,8 @@ ghost use Rattle.fs_model.specs.declared.model.Request.{Request};
 ghost use Rattle.serial_engine.specs.Cells.{cell_of};
 ghost use Rattle.serial_engine.specs.Going.{Going};
 ghost use Rattle.serial_engine.specs.Ready.{Ready};
+ghost use Rattle.chunk_map.specs.Layouts.{payload_lines};
+ghost use Rattle.serial_engine.specs.Stock.{Stocked, stock_of};
 
 use crate::answers::Answers;
 use crate::store::{Store, lines_needed};
@@ -26,12 +28,14 @@ pub struct Run {
 impl Run {
     ghost use Rattle.fs_model.specs.declared.model.Request.TheVariants.{Put, Get};
     ghost use Rattle.serial_engine.specs.Answers.{HasRoom};
+    ghost use Rattle.serial_engine.specs.Stock.{StocksOne, StocksNone, StocksList, StocksSome};
     ghost use Rattle.serial_engine.specs.Going.{IsServed, IsReady, AnswersOne, AnswersNone, AnswersList, AnswersSome};
 
     fn get(&mut self, alloc: Global, key: Key) -> Result<(), Memory>
         requires room { HasRoom self.old.answers }
         requires going { self.old.stopped ≡ false }
         ensures ok { (s : State) → OnOk result (AnswersOne s s self.old self.new (Get key)) }
+        ensures stock { OnOk result (StocksOne self.old self.new (Get key)) }
         ensures err { OnErr result (self.new ≡ self.old) }
         ensures store { self.new.store ≡ self.old.store }
         ensures stopped { self.new.stopped ≡ false }
@@ -48,6 +52,8 @@ impl Run {
         requires short { length value ≤ 255 }
         ensures ok { OnOk result (AnswersOne (R.state region.old) (R.state region.new) self.old self.new (Put key value)) }
         ensures err { OnErr result (AnswersNone (R.state region.old) (R.state region.new) self.old self.new) }
+        ensures stock { OnOk result (StocksOne self.old self.new (Put key value)) }
+        ensures stock_err { OnErr result (StocksNone self.old self.new) }
         ensures ready { IsReady (R.state region.new) self.new }
         ensures count { (R.state region.old).faults ≤ (R.state region.new).faults }
         ensures cause { self.new.stopped ≡ true → Rose (R.state region.old).faults (R.state region.new).faults }
@@ -78,6 +84,8 @@ impl Run {
         requires ready { IsReady (R.state region.old) self.old }
         ensures ok { OnOk result (AnswersOne (R.state region.old) (R.state region.new) self.old self.new request) }
         ensures err { OnErr result (AnswersNone (R.state region.old) (R.state region.new) self.old self.new) }
+        ensures stock { OnOk result (StocksOne self.old self.new request) }
+        ensures stock_err { OnErr result (StocksNone self.old self.new) }
         ensures ready { IsReady (R.state region.new) self.new }
         ensures count { (R.state region.old).faults ≤ (R.state region.new).faults }
         ensures cause { self.old.stopped ≡ false → self.new.stopped ≡ true → Rose (R.state region.old).faults (R.state region.new).faults }
@@ -106,6 +114,8 @@ impl Run {
         requires ready { IsReady (R.state region.old) self.old }
         ensures ok { OnOk result (AnswersList (R.state region.old) (R.state region.new) self.old self.new requests.items) }
         ensures err { OnErr result (AnswersSome (R.state region.old) (R.state region.new) self.old self.new requests.items) }
+        ensures stock { OnOk result (StocksList self.old self.new requests.items) }
+        ensures stock_err { OnErr result (StocksSome self.old self.new requests.items) }
         ensures ready { IsReady (R.state region.new) self.new }
         ensures count { (R.state region.old).faults ≤ (R.state region.new).faults }
         ensures cause { self.old.stopped ≡ false → self.new.stopped ≡ true → Rose (R.state region.old).faults (R.state region.new).faults }
@@ -120,6 +130,7 @@ impl Run {
 /// A run that begins: no request is answered yet.
 pub fn begin(alloc: Global, store: Store) -> Run
     ensures going { (s : State) → Ready s store → Going s s (cell_of store.cells) [] result }
+    ensures stock { Stocked (payload_lines store.log.layout) (stock_of store) [] result }
     ensures store { result.store ≡ store }
     ensures stopped { result.stopped ≡ false }
 {

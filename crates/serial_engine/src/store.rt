@@ -43,6 +43,7 @@ impl Store {
     ghost use Rattle.serial_engine.specs.Ready.{Ready};
     ghost use Rattle.serial_engine.specs.Empty.{IsEmptyRegion};
     ghost use Rattle.serial_engine.specs.Refusals.{IsRefusal, lines_needed};
+    ghost use Rattle.serial_engine.specs.Stock.{IsUnused, MadeRoom, stock_of, after_put};
 
     /// The store of a region of one core with nothing in it.
     pub fn empty(alloc: Global, layout: Layout) -> Result<Store, Memory>
@@ -50,6 +51,7 @@ impl Store {
         ensures layout { IfOk result (λ store. store.log.layout ≡ layout) }
         ensures ready { IfOk result (λ store. (s : State) → IsEmptyRegion s layout → Ready s store) }
         ensures cells { IfOk result (λ store. (k : ℕ) → cell_of store.cells k ≡ None) }
+        ensures unused { IfOk result (λ store. IsUnused store layout.chunks) }
     {
         let log = CoreLog::open(alloc, layout, 0, Vec::new(alloc))?;
         let free = falling(alloc, layout.chunks())?;
@@ -71,6 +73,7 @@ impl Store {
             (Shows (R.state region.old).frame.bytes self.old.log.layout (cell_of self.old.cells) (last_of self.old.cells))) }
         ensures ready { OnOk result (Ready (R.state region.new) self.new) }
         ensures room { OnOk result (lines ≤ room_of self.new.log) }
+        ensures made { OnOk result (MadeRoom lines self.old self.new) }
         ensures layout { self.new.log.layout ≡ self.old.log.layout }
         ensures cells { self.new.cells ≡ self.old.cells }
         ensures cause { OnErr result (Rose (R.state region.old).faults (R.state region.new).faults) }
@@ -102,6 +105,8 @@ impl Store {
             (ShowsEither (R.state region.old).frame.bytes self.old.log.layout (cell_of self.old.cells) (last_of self.old.cells) key version value)) }
         ensures ready { OnOk result (Ready (R.state region.new) self.new) }
         ensures settled { OnOk result (Settles self.old.cells self.new.cells key version value) }
+        ensures taken { OnOk result (room_of self.new.log ≡ room_of self.old.log - lines_for (2 + (length value + 7) / 8)) }
+        ensures free { self.new.free ≡ self.old.free }
         ensures layout { self.new.log.layout ≡ self.old.log.layout }
         ensures cause { OnErr result (Rose (R.state region.old).faults (R.state region.new).faults) }
     {
@@ -180,6 +185,7 @@ impl Store {
             (ShowsEither (R.state region.old).frame.bytes self.old.log.layout (cell_of self.old.cells) (last_of self.old.cells) key (last_of self.old.cells key + 1) value)) }
         ensures ready { OnOk result (Ready (R.state region.new) self.new) }
         ensures settled { OnOk result (Settles self.old.cells self.new.cells key (last_of self.old.cells key + 1) value) }
+        ensures stock { OnOk result (stock_of self.new ≡ after_put (payload_lines self.old.log.layout) (stock_of self.old) key (lines_needed (length value))) }
         ensures layout { self.new.log.layout ≡ self.old.log.layout }
         ensures cause { OnErr result (Rose (R.state region.old).faults (R.state region.new).faults) }
     {

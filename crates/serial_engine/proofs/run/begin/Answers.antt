@@ -6,6 +6,7 @@ use Rattle.serial_engine.specs.Answers.{told}
 use Rattle.serial_engine.specs.Cells.{cell_of, last_of}
 use Rattle.serial_engine.proofs.Requests.{going_by}
 use Rattle.serial_engine.proofs.Steps.{nothing_answered, images_at_start, shown_holds}
+use Rattle.serial_engine.proofs.Stocks.{stocked_start}
 use Rattle.serial_engine.proofs.run.begin.Goals as goal
 
 pub returns-clause-going : goal.returns-clause-going
@@ -17,3 +18,6 @@ returns-clause-going c = λ s ready.
     (recorded (cell_of e.cells) [] [] none s.stamp (cell_of e.cells) A)
     (images_at_start s (cell_of e.cells) (λ telling image may. shown_holds s.frame.bytes e.log.layout (cell_of e.cells) (last_of e.cells) image ready.one (ready.shows telling image may)))
     (λ going. A)
+
+pub returns-clause-stock : goal.returns-clause-stock
+returns-clause-stock c = stocked_start c.args.store c.new.result c.new.ensures.replies c.new.ensures.refusals

@@ -1,11 +1,12 @@
 -- The calls' conditions, and from the log's clauses to the store's.
-use Rattle.std.proofs.Common.{◌≡◌, ◌+◌, ◌≤◌, length, sym, ◌∙◌, ap, subst, arith}
+use Rattle.std.proofs.Common.{◌≡◌, ◌+◌, ◌-◌, ◌≤◌, length, sym, ◌∙◌, ap, subst, arith}
 use Rattle.std.proofs.Common.{◌++◌, ◌/◌}
 use Rattle.log_entry.specs.declared.entry.Body.TheVariants.{Embedded}
 use Rattle.log_entry.specs.Spelling.{words_of}
 use Rattle.core_log.specs.Chunk.{lines_for}
 use Rattle.core_log.specs.Log.{room_of}
-use Rattle.serial_engine.proofs.Appended.{put_run, put_ready}
+use Rattle.serial_engine.proofs.Appended.{put_run, put_ready, some_open}
+use Rattle.serial_engine.proofs.Stocks.{room_taken}
 use Rattle.serial_engine.proofs.Puts.{holds_one, spelled_put, put_length}
 use Rattle.serial_engine.proofs.store.Store.append.Goals as goal
 
@@ -54,3 +55,11 @@ returns-in-Embedded-clause-ready g c =
     (c.write_entry.ensures.words ∙ ap (λ ws. ws ++ words_of (record { key = c.args.key; version = c.args.version; body = Embedded c.args.value })) c.requires.ready.empty)
     c.append_batch.ensures.outside c.append_batch.ensures.moments
     c.append_batch.new.self c.in_ok-append_batch.ensures.ok c.settle.new.self c.settle.ensures c.clear.new.self c.clear.ensures.words (c.clear.ensures.room ∙ c.write_entry.ensures.room)
+
+pub returns-in-Embedded-clause-taken : goal.returns-in-Embedded-clause-taken
+returns-in-Embedded-clause-taken g c =
+    let words = c.write_entry.ensures.words ∙ ap (λ ws. ws ++ words_of (record { key = c.args.key; version = c.args.version; body = Embedded c.args.value })) c.requires.ready.empty in
+    let long : length c.write_entry.new.buf.words ≡ 2 + (length c.args.value + 7) / 8 = ap length words ∙ put_length c.args.key c.args.version c.args.value in
+    let room = c.requires.room in
+    let some = some_open c.args.self.now.log c.args.self.now.log.opened (omega (arith, room)) in
+    room_taken c.args.self.now.log c.append_batch.new.self c.write_entry.new.buf.words some c.in_ok-append_batch.ensures.ok.log_is ∙ ap (λ n. room_of c.args.self.now.log - lines_for n) long

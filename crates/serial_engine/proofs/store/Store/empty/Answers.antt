@@ -3,6 +3,7 @@ use Rattle.std.proofs.Common.{ap, ◌∙◌, ◌+◌, arith}
 use Rattle.chunk_map.proofs.LayoutLaws.{numbers_of}
 use Rattle.core_log.specs.Log.{tail_of}
 use Rattle.serial_engine.proofs.Starts.{ready_at_start}
+use Rattle.serial_engine.proofs.Stocks.{no_room}
 use Rattle.serial_engine.proofs.store.Store.empty.Goals as goal
 
 pub returns-clause-ready : goal.returns-clause-ready
@@ -15,3 +16,10 @@ returns-clause-ready c = λ s empty.
     (λ i lt. let a = c.in_ok-free.ensures.at i (omega (arith, count, lt)) in omega (arith, a))
     (omega (arith, count, small))
     c.new-2.ensures.cells c.new-2.ensures.lasts c.in_ok-batch.ensures.empty (let r = c.in_ok-batch.ensures.room in omega (arith, r))
+
+pub returns-clause-unused : goal.returns-clause-unused
+returns-clause-unused c = record {
+  free = c.in_ok-free.ensures.few ∙ c.chunks.ensures;
+  room = no_room c.in_ok-log.log c.in_ok-log.log.opened c.in_ok-log.ensures.opened (λ j. c.in_ok-log.ensures.chunks j ∙ ap (λ xs. tail_of xs j) c.new.ensures.items);
+  lasts = c.new-2.ensures.lasts;
+}

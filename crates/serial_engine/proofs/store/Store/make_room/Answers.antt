@@ -1,5 +1,7 @@
 -- The chunk that is opened is free, and each moment shows the same cells.
-use Rattle.std.proofs.Common.{◌++◌, refl, ◌∙◌, ap}
+use Rattle.std.proofs.Common.{[], ◌∷◌, ◌++◌, length, refl, ◌∙◌, ap, arith}
+use Rattle.std.proofs.lemmas.List.{length-append}
+use Rattle.serial_engine.proofs.Stocks.{made_none, made_open}
 use Rattle.std.specs.Option.{option_to_list}
 use Rattle.pm_region.proofs.Moments.{started}
 use Rattle.serial_engine.specs.Cells.{cell_of, last_of}
@@ -33,3 +35,12 @@ pub returns-clause-ready : goal.returns-clause-ready
 returns-clause-ready g c = open_ready (g.R.Region.state c.args.region.now) (g.R.Region.state c.open_chunk.new.region) c.args.self.now c.requires.ready c.pop.new.self.items c.unwrap-chunk.result (c.pop.ensures.items ∙ ap (λ o. c.pop.new.self.items ++ option_to_list o) c.unwrap-chunk.ensures)
     c.open_chunk.ensures.outside c.open_chunk.ensures.moments c.open_chunk.ensures.entries
     c.open_chunk.new.self c.in_ok-open_chunk.ensures.ok c.pop.new.self refl
+
+pub returns-then-lines-room-clause-made : goal.returns-then-lines-room-clause-made
+returns-then-lines-room-clause-made g c = made_none c.args.lines c.args.self.now (let fits = c.if-lines-room.true in let room = c.room.ensures in omega (arith, fits, room))
+
+pub returns-clause-made : goal.returns-clause-made
+returns-clause-made g c =
+    let rest = c.pop.ensures.items ∙ ap (λ o. c.pop.new.self.items ++ option_to_list o) c.unwrap-chunk.ensures in
+    made_open c.args.lines c.args.self.now (record { log = c.open_chunk.new.self; cells = c.args.self.now.cells; free = c.pop.new.self; batch = c.args.self.now.batch }) (let short = c.if-lines-room.false in let room = c.room.ensures in omega (arith, short, room))
+    (ap length rest ∙ length-append c.pop.new.self.items (c.unwrap-chunk.result ∷ [])) c.in_ok-open_chunk.ensures.ok.room
