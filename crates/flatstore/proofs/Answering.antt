@@ -1,14 +1,13 @@
 -- What answering a list of requests did, from where the run came to.
-use Rattle.std.proofs.Common.{◌≡◌, ◌⊎◌, inl, inr, ℕ, ◌+◌, ◌<◌, ◌≤◌, List, [], ◌∷◌, ◌++◌, length, refl, sym, ◌∙◌, ap, subst, arith, true, false, Bool, Option, Some, None, append_assoc, append-nil}
-use Rattle.pm_region.specs.Cell.{Cell}
-use Rattle.pm_region.specs.State.{State, IsTelling, cell_now, Rose}
+use Rattle.std.proofs.Common.{◌≡◌, ℕ, List, [], ◌∷◌, ◌++◌, sym, ◌∙◌, ap, subst, true, false, Option, None, append_assoc, append-nil}
+use Rattle.pm_region.specs.State.{State, Rose}
 use Rattle.pm_region.proofs.Moments.{over_weaken}
 use Rattle.fs_model.specs.declared.model.Request.{Request}
 use Rattle.fs_model.specs.declared.model.Reply.{Reply}
 use Rattle.fs_model.specs.declared.model.Reply.TheVariants.{Stopped}
-use Rattle.fs_model.specs.Changes.{finished_by, finished_changes, unfinished_change, cell_after_all}
-use Rattle.headline.specs.Headline.{Told, cells_of, changes_in, Recovers, finished_in, refused_in}
-use Rattle.headline.specs.Run.{Answered, Recorded}
+use Rattle.fs_model.specs.Changes.{finished_by, finished_changes, cell_after_all}
+use Rattle.headline.specs.Headline.{Told, Recovers, finished_in}
+use Rattle.headline.specs.Run.{Recorded}
 use Rattle.headline.proofs.Run.{recorded_stopped}
 use Rattle.headline.proofs.Crash.{recovers_grow}
 use Rattle.serial_engine.specs.declared.run.Run.{Run}
@@ -16,13 +15,12 @@ use Rattle.serial_engine.specs.Answers.{told_by}
 use Rattle.serial_engine.specs.Cells.{cell_of}
 use Rattle.serial_engine.specs.Moments.{EachImage}
 use Rattle.serial_engine.specs.Going.{Going, IsReady, RecoversSoFar, AnswersSome}
-use Rattle.serial_engine.specs.Stock.{Stock, Stocked, stock_of, StocksSome, refusals_from}
+use Rattle.serial_engine.specs.Stock.{Stocked, stock_of, StocksSome, refusals_from}
 use Rattle.serial_engine.specs.Stock.{IsUnused}
 use Rattle.serial_engine.specs.declared.store.Store.{Store}
 use Rattle.serial_engine.proofs.Steps.{shown_holds}
 use Rattle.flatstore.specs.Fresh.{fresh_lines, fresh_stock}
 use Rattle.flatstore.specs.Played.{no_cells, HasAnswered}
-use Rattle.flatstore.specs.declared.replay.Ended.{Ended}
 
 -- Requests behind may all be answered Stopped.
 pub all_stop : (start : ℕ → Option (List ℕ)) (done : List Request) (replies : List Reply) (r : Told) (rest : List Request) → Recorded start done replies r → (more : List Reply) × Recorded start (done ++ rest) (replies ++ more) r

@@ -1,19 +1,18 @@
 -- What a region that was just attached says.
-use Rattle.std.proofs.Common.{◌≡◌, ◌≢◌, ◌⊎◌, inl, inr, ℕ, zero, suc, ◌+◌, ◌-◌, ◌*◌, ◌/◌, ◌%◌, ◌<◌, ◌≤◌, ◌==◌, ◌&&◌, List, [], ◌∷◌, ◌++◌, refl, sym, ◌∙◌, ap, subst, arith, true, false, Bool, cond, Option, Some, None, nat_le}
+use Rattle.std.proofs.Common.{◌≡◌, inl, inr, ℕ, ◌+◌, ◌*◌, ◌/◌, ◌%◌, ◌<◌, ◌≤◌, ◌==◌, ◌&&◌, List, [], refl, sym, ◌∙◌, ap, subst, arith, true, cond, Option, Some, None, nat_le}
 use Rattle.std.proofs.lemmas.Bool.{ne_eqb, and_parts}
-use Rattle.pm_region.specs.Cell.{Cell, certain, MayBe}
-use Rattle.pm_region.specs.State.{State, Frame, InRange, IsTold, IsTelling, MayLeave, cell_now}
+use Rattle.pm_region.specs.Cell.{Cell, certain}
+use Rattle.pm_region.specs.State.{State, InRange, IsTold, IsTelling, cell_now}
 use Rattle.pm_region.specs.Words.{lasts}
 use Rattle.pm_region.specs.Split.{Attached, words_in}
 use Rattle.fs_model.specs.declared.model.Request.{Request}
-use Rattle.chunk_map.specs.declared.layouts.Geometry.{Geometry}
-use Rattle.chunk_map.specs.Layouts.{layout_of, superblock_rule, chunk_first, magic}
+use Rattle.chunk_map.specs.Layouts.{superblock_rule, chunk_first, magic}
 use Rattle.store_image.specs.Soundness.{IsSound}
 use Rattle.store_image.proofs.Local.{chosen}
 use Rattle.store_image.proofs.SoundLaws.{has_layout}
-use Rattle.headline.specs.Headline.{Told, cells_of, Recovers, RecoversThroughout}
+use Rattle.headline.specs.Headline.{cells_of, RecoversThroughout}
 use Rattle.headline.proofs.Images.{at_attach}
-use Rattle.serial_engine.specs.Empty.{IsEmptyImage, IsEmptyRegion}
+use Rattle.serial_engine.specs.Empty.{IsEmptyImage}
 use Rattle.serial_engine.proofs.Starts.{empty_shows}
 use Rattle.serial_engine.proofs.Steps.{shown_holds}
 use Rattle.flatstore.specs.Fresh.{fresh_layout, fresh_word, IsFresh}

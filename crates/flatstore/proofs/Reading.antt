@@ -1,5 +1,5 @@
 -- Why an input was not read, and the fresh region that a replay begins on.
-use Rattle.std.proofs.Common.{◌≡◌, ◌⊎◌, inl, inr, ℕ, ◌<◌, ◌≤◌, List, refl, sym, ◌∙◌, ap, subst, arith, true, Option, Some, None, Result, Ok, Err, IfSome}
+use Rattle.std.proofs.Common.{◌≡◌, inl, inr, ℕ, List, refl, sym, ◌∙◌, ap, subst, arith, Option, Some, None, Result, Err, IfSome}
 use Rattle.pm_region.specs.Cell.{Cell, certain, MayBe}
 use Rattle.pm_region.specs.State.{State, IsTelling, InRange, cell_now, Rose}
 use Rattle.pm_region.specs.Words.{lasts}

@@ -3,7 +3,6 @@ use Rattle.std.proofs.Common.{◌≡◌, ◌⊎◌, inl, inr, ℕ, List, [], sym
 use Rattle.pm_region.specs.State.{State, IsTelling, Rose}
 use Rattle.pm_region.specs.Split.{Attached}
 use Rattle.fs_model.specs.declared.model.Request.{Request}
-use Rattle.fs_model.specs.declared.model.Reply.{Reply}
 use Rattle.store_image.specs.Soundness.{IsSound}
 use Rattle.fs_text.specs.declared.line.Line.{Line}
 use Rattle.fs_text.specs.declared.stages.Stop.{Stop}
@@ -11,7 +10,6 @@ use Rattle.fs_text.specs.declared.stages.Stop.TheVariants as stops
 use Rattle.fs_text.specs.Input.{trace_of}
 use Rattle.fs_text.specs.Stages.{input_or_stop}
 use Rattle.headline.specs.Headline.{Told, cells_of, RecoversThroughout}
-use Rattle.headline.specs.Run.{Recorded}
 use Rattle.headline.proofs.Run.{recorded}
 use Rattle.serial_engine.specs.Answers.{told}
 use Rattle.serial_engine.proofs.Steps.{nothing_answered}

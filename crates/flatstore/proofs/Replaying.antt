@@ -1,39 +1,27 @@
 -- From what a replay did to what the program promises.
-use Rattle.std.proofs.Common.{◌≡◌, ◌≢◌, ◌⊎◌, inl, inr, ℕ, ◌+◌, ◌<◌, ◌≤◌, List, [], ◌∷◌, ◌++◌, refl, sym, ◌∙◌, ap, subst, arith, true, false, Bool, cond, Option, Some, None, Result, Ok, Err, append-nil}
-use Rattle.std.specs.List.{filter_map}
-use Rattle.pm_region.specs.Cell.{Cell}
-use Rattle.pm_region.specs.State.{State, Frame, IsTold, IsTelling, MayLeave, cell_now, Rose}
-use Rattle.pm_region.specs.Words.{lasts}
+use Rattle.std.proofs.Common.{◌≡◌, ◌⊎◌, inl, inr, ℕ, ◌≤◌, List, [], ◌++◌, refl, sym, ◌∙◌, ap, subst, arith, true, false, Option, Some, None, append-nil}
+use Rattle.pm_region.specs.State.{State, Frame, IsTelling, MayLeave, Rose}
 use Rattle.pm_region.specs.Split.{Attached}
 use Rattle.fs_model.specs.declared.model.Request.{Request}
 use Rattle.fs_model.specs.declared.model.Reply.{Reply}
 use Rattle.fs_model.specs.Changes.{cell_after_all, finished_by}
-use Rattle.store_image.specs.Soundness.{IsSound}
-use Rattle.fs_text.specs.declared.line.Line.{Line}
-use Rattle.fs_text.specs.declared.stages.Stop.{Stop}
-use Rattle.fs_text.specs.declared.stages.Stop.TheVariants as stops
-use Rattle.fs_text.specs.Input.{trace_of, request_in}
+use Rattle.fs_text.specs.Input.{trace_of}
 use Rattle.fs_text.specs.Stages.{input_or_stop}
-use Rattle.fs_text.specs.Streams.{Takes, TakesUpTo, TakesPrefix}
+use Rattle.fs_text.specs.Streams.{Takes, TakesPrefix}
 use Rattle.fs_text.specs.Output.{replies_text}
-use Rattle.headline.specs.Headline.{Told, cells_of, Answers, WritesReplies, BeginsReplies, Recovers, RecoversThroughout, RecoversAll, changes_in}
+use Rattle.headline.specs.Headline.{Told, cells_of, Recovers, RecoversThroughout, changes_in}
 use Rattle.headline.specs.Run.{Recorded}
-use Rattle.headline.proofs.Run.{recorded}
 use Rattle.serial_engine.specs.Answers.{told_by}
-use Rattle.serial_engine.specs.Moments.{EachImage}
-use Rattle.serial_engine.proofs.Steps.{nothing_answered}
 use Rattle.serial_engine.specs.Stock.{refusals_from}
 use Rattle.flatstore.specs.Fresh.{IsFresh, fresh_lines, fresh_stock}
-use Rattle.flatstore.specs.Promise.{IsInput, WritesAll, WritesFront, Replays, IsDue, IsFault, built_now, status_of, is_stop, told_in}
-use Rattle.flatstore.specs.Reads.{IsRead, IsUnread}
-use Rattle.flatstore.specs.Played.{no_cells, HasAnswered, Played, IsRefused, HasWritten}
+use Rattle.flatstore.specs.Promise.{IsInput, WritesAll, WritesFront, Replays, IsDue, IsFault, built_now, status_of, told_in}
+use Rattle.flatstore.specs.Played.{no_cells, HasAnswered, Played, HasWritten}
 use Rattle.flatstore.specs.declared.replay.Ended.{Ended}
 use Rattle.flatstore.specs.declared.report.Status.{Status}
 use Rattle.flatstore.specs.declared.report.Status.TheVariants as statuses
 use Rattle.flatstore.specs.declared.report.Report.{Report}
 use Rattle.flatstore.proofs.Inputs.{read_trace}
-use Rattle.flatstore.proofs.Answering.{all_stop}
-use Rattle.flatstore.proofs.Attached.{found_fresh, lasts_fresh, fresh_no_cells, crash_at_attach}
+use Rattle.flatstore.proofs.Attached.{found_fresh, fresh_no_cells}
 
 takes_nothing : (x : Option (List ℕ)) → Takes x x []
 takes_nothing None = tt
@@ -134,7 +122,7 @@ module _ (old s t : State) (found : ℕ → ℕ) (A : Attached old s s.frame.byt
         let c = complete W (sym report_status ∙ done) in
         as_found (λ start trace x. cells_of image k ≡ cell_after_all (changes_in start trace x k) (start k)) (telling_then telling) (H.all c.0 c.1 telling image may k);
     refused = λ telling. subst (λ xs. (front : List Request) × (rest : List Request) × (xs ≡ front ++ rest) × (r.refusals.items ≡ refusals_from fresh_lines 0 fresh_stock front)) (trace_is (telling_then telling))
-      (H.refused.0, H.refused.1, H.refused.2, report_refused ∙ H.refused.3);
+        (H.refused.0, H.refused.1, H.refused.2, report_refused ∙ H.refused.3);
     refused_all = λ done telling.
         let c = complete W (sym report_status ∙ done) in
         report_refused ∙ H.refused_all c.0 c.1 ∙ ap (λ xs. refusals_from fresh_lines 0 fresh_stock xs) (trace_is (telling_then telling));

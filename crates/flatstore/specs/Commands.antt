@@ -1,5 +1,5 @@
 -- The forms of a command line.
-use Rattle.std.specs.Prelude.{ℕ, ◌&&◌, List, [], ◌∷◌, map, Bool, Option, Some, None, if◌then◌else◌, bytes_eq, codes, String, string_bytes}
+use Rattle.std.specs.Prelude.{ℕ, List, [], ◌∷◌, map, Option, Some, None, if◌then◌else◌, bytes_eq, codes, String, string_bytes}
 use Rattle.std.specs.Global.{Global}
 
 -- the bytes of each word

@@ -1,9 +1,7 @@
 -- What a call of the program promises, over the region, the source and the sink before and after it.
-use Rattle.std.specs.Prelude.{◌≡◌, ◌⊎◌, ℕ, List, [], ◌++◌, Bool, true, false, Option, Some, None, Result, Ok, Err}
+use Rattle.std.specs.Prelude.{◌≡◌, ◌⊎◌, ℕ, List, ◌++◌, Bool, true, false, Option, Some, None, Result, Ok, Err}
 use Rattle.fs_model.specs.declared.model.Request.{Request}
-use Rattle.store_image.specs.Soundness.{IsSound}
 use Rattle.pm_region.specs.State.{State, IsTelling, Rose}
-use Rattle.pm_region.specs.Split.{Attached}
 use Rattle.fs_text.specs.declared.line.Line.{Line}
 use Rattle.fs_text.specs.declared.stages.Built.{Built}
 use Rattle.fs_text.specs.declared.stages.Stop.{Stop}

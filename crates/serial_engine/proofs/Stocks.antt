@@ -1,11 +1,11 @@
 -- The refusals of a run, request by request.
 use Rattle.std.specs.Prelude.{unwrap_or}
 use Rattle.std.specs.Global.{Vec}
-use Rattle.std.proofs.Common.{◌≡◌, ◌⊎◌, inl, inr, ℕ, zero, suc, ◌+◌, ◌-◌, ◌*◌, ◌/◌, ◌<◌, ◌≤◌, ◌==◌, ◌&&◌, List, [], ◌∷◌, ◌++◌, length, refl, sym, ◌∙◌, ap, subst, arith, true, false, Bool, cond, Option, Some, None, Result, Ok, Err, OnOk, OnErr, append_assoc, append-nil, nat_lt, nat_le, is_some}
+use Rattle.std.proofs.Common.{◌≡◌, ◌⊎◌, inl, inr, ℕ, ◌+◌, ◌-◌, ◌*◌, ◌/◌, ◌<◌, ◌≤◌, ◌==◌, ◌&&◌, List, [], ◌∷◌, ◌++◌, length, refl, sym, ◌∙◌, ap, subst, arith, true, false, Bool, cond, Option, Some, None, append_assoc, append-nil, nat_lt, is_some}
 use Rattle.std.proofs.lemmas.Bool.{eqb-true, eqb-false, le-leb, lt-leb, lt-ltb, le-ltb, and_from}
 use Rattle.std.proofs.lemmas.List.{length-append}
 use Rattle.fs_model.specs.declared.model.Request.{Request}
-use Rattle.fs_model.specs.declared.model.Request.TheVariants.{Put, Get, Delete}
+use Rattle.fs_model.specs.declared.model.Request.TheVariants.{Put, Get}
 use Rattle.fs_model.specs.declared.model.Reply.{Reply}
 use Rattle.chunk_map.specs.declared.layouts.Geometry.{Geometry}
 use Rattle.chunk_map.specs.Layouts.{payload_lines}
@@ -17,13 +17,12 @@ use Rattle.core_log.proofs.TailLaws.{tail_set}
 use Rattle.serial_engine.specs.declared.cells.Cells.{Cells}
 use Rattle.serial_engine.specs.declared.store.Store.{Store}
 use Rattle.serial_engine.specs.declared.answers.Answers.{Answers}
-use Rattle.serial_engine.specs.declared.answers.Refusal.{Refusal}
 use Rattle.serial_engine.specs.declared.answers.Shortage.{Shortage}
 use Rattle.serial_engine.specs.declared.answers.Shortage.TheVariants.{Room, Block, Versions, Length}
 use Rattle.serial_engine.specs.declared.run.Run.{Run}
 use Rattle.serial_engine.specs.Cells.{last_of, SameCells, Settles}
 use Rattle.serial_engine.specs.Moments.{with_at}
-use Rattle.serial_engine.specs.Refusals.{IsRefusal, LacksRoom, lines_needed}
+use Rattle.serial_engine.specs.Refusals.{IsRefusal, lines_needed}
 use Rattle.serial_engine.specs.Stock.{Stock, stock_of, counts_at, why_refused, after_put, why, after, stock_after, named, refusals_from, Stocked, StocksOne, StocksList, StocksNone, MadeRoom}
 
 stock_behind : (lines : ℕ) (s : Stock) (qs : List Request) (q : Request) → stock_after lines s (qs ++ q ∷ []) ≡ after lines (stock_after lines s qs) q
@@ -45,7 +44,7 @@ pub stocked_next : (lines : ℕ) (begin : Stock) (done : List Request) (e e' : R
 stocked_next lines begin done e e' q reply S going layout reps refs stock =
     let was = S.going going in
     let all : e'.answers.refusals.items ≡ refusals_from lines 0 begin (done ++ q ∷ []) =
-      refs ∙ (λ i. was.1 i ++ named (S.counted i) (why (was.0 i) q)) ∙ sym (refusals_behind lines 0 begin done q ∙ ap (λ n. refusals_from lines 0 begin done ++ named n (why (stock_after lines begin done) q)) (omega arith)) in
+    refs ∙ (λ i. was.1 i ++ named (S.counted i) (why (was.0 i) q)) ∙ sym (refusals_behind lines 0 begin done q ∙ ap (λ n. refusals_from lines 0 begin done ++ named n (why (stock_after lines begin done) q)) (omega arith)) in
     record {
       lines_are = ap (λ (l : Geometry). payload_lines l) layout ∙ S.lines_are;
       counted = ap length reps ∙ length-append e.answers.replies.items (reply ∷ []) ∙ ap (λ n. n + 1) S.counted ∙ sym (length-append done (q ∷ []));
@@ -85,14 +84,14 @@ and_false true b (inr h) = h
 pub refusal_is : (e : Store) (key need : ℕ) (r : Option Shortage) → IsRefusal e key need r → r ≡ why_refused (stock_of e) key need
 refusal_is e key need None h = sym
     ((λ i. cond (lt-leb 1048574 (last_of e.cells key) h.0 i) (Some (Versions (last_of e.cells key))) (cond (both i) (Some (Room (counts_at (stock_of e) need))) None))) where
-  both : (nat_lt (room_of e.log) need && nat_lt (length e.free.items) 2) ≡ false
-  both = and_false (nat_lt (room_of e.log) need) (nat_lt (length e.free.items) 2) (elim h.1 [
-      | inl fits ↦ inl (le-ltb (room_of e.log) need fits)
-      | inr free ↦ inr (le-ltb (length e.free.items) 2 free)
-    ])
+      both : (nat_lt (room_of e.log) need && nat_lt (length e.free.items) 2) ≡ false
+      both = and_false (nat_lt (room_of e.log) need) (nat_lt (length e.free.items) 2) (elim h.1 [
+        | inl fits ↦ inl (le-ltb (room_of e.log) need fits)
+        | inr free ↦ inr (le-ltb (length e.free.items) 2 free)
+      ])
 refusal_is e key need (Some (Room c)) h = ap (λ x. Some (Room x)) h.2 ∙ sym
     ((λ i. cond (lt-leb 1048574 (last_of e.cells key) h.0 i) (Some (Versions (last_of e.cells key)))
-      (cond (and_from (nat_lt (room_of e.log) need) (nat_lt (length e.free.items) 2) (lt-ltb (room_of e.log) need h.1.0) (lt-ltb (length e.free.items) 2 h.1.1) i) (Some (Room (counts_at (stock_of e) need))) None)))
+    (cond (and_from (nat_lt (room_of e.log) need) (nat_lt (length e.free.items) 2) (lt-ltb (room_of e.log) need h.1.0) (lt-ltb (length e.free.items) 2 h.1.1) i) (Some (Room (counts_at (stock_of e) need))) None)))
 refusal_is e key need (Some (Block c)) h = absurd h
 refusal_is e key need (Some (Versions last)) h = ap (λ n. Some (Versions n)) h.1 ∙ sym
     ((λ i. cond (le-leb 1048574 (last_of e.cells key) h.0 i) (Some (Versions (last_of e.cells key))) (cond (nat_lt (room_of e.log) need && nat_lt (length e.free.items) 2) (Some (Room (counts_at (stock_of e) need))) None)))
@@ -152,9 +151,9 @@ no_room log (Some k) h none = absurd (both (tail_of log.chunks k) h.0 h.1 (none 
 
 settled_lasts : (old mid new : Cells) (key version : ℕ) (value : List ℕ) → mid ≡ old → version ≡ last_of old key → Settles mid new key (version + 1) value → (k : ℕ) → last_of new k ≡ with_at (last_of old) key (last_of old key + 1) k
 settled_lasts old mid new key version value same at settles k = elim (k == key) as (λ c. (k == key) ≡ c → last_of new k ≡ cond c (last_of old key + 1) (last_of old k)) [
-    | true ↦ λ q. ap (last_of new) (eqb-true k key q) ∙ settles.last ∙ ap (λ n. n + 1) at
-    | false ↦ λ q. settles.other_lasts k (eqb-false k key q) ∙ ap (λ c. last_of c k) same
-  ] refl
+  | true ↦ λ q. ap (last_of new) (eqb-true k key q) ∙ settles.last ∙ ap (λ n. n + 1) at
+  | false ↦ λ q. settles.other_lasts k (eqb-false k key q) ∙ ap (λ c. last_of c k) same
+] refl
 
 pub stock_put : (old mid new : Store) (key version : ℕ) (value : List ℕ) → version ≡ last_of old.cells key → mid.cells ≡ old.cells → MadeRoom (lines_needed (length value)) old mid → new.free ≡ mid.free
     → room_of new.log ≡ room_of mid.log - lines_needed (length value) → Settles mid.cells new.cells key (version + 1) value
@@ -187,7 +186,7 @@ stocks_stored e a admitted end k v reply going free same log frees layout stock 
     let is = refusal_is e.store k (lines_needed (length v)) None free in
     let layouts = layout ∙ ap (λ (g : LogState). g.layout) log in
     let taken : stock_of end ≡ after_put lines (stock_of e.store) k (lines_needed (length v)) =
-      stock ∙ (λ i. after_put ((ap (λ (g : LogState). payload_lines g.layout) log ∙ S.lines_are) i) (stock_alike e.store admitted same log frees i) k (lines_needed (length v))) in
+    stock ∙ (λ i. after_put ((ap (λ (g : LogState). payload_lines g.layout) log ∙ S.lines_are) i) (stock_alike e.store admitted same log frees i) k (lines_needed (length v))) in
     stocked_next lines begin done e (record { store = end; answers = a; stopped = e.stopped }) (Put k v) reply S going layouts reps
     (refs ∙ sym (append-nil e.answers.refusals.items) ∙ ap (λ o. e.answers.refusals.items ++ named (length e.answers.replies.items) o) is) (taken ∙ sym (after_stored lines (stock_of e.store) k v (sym is)))
 

@@ -1,5 +1,5 @@
 -- All requests were answered, or those before memory ran out.
-use Rattle.std.proofs.Common.{◌≡◌, ℕ, List, [], Option, None, sym, ap, subst, true}
+use Rattle.std.proofs.Common.{◌≡◌, [], ap, subst}
 use Rattle.serial_engine.specs.Cells.{cell_of}
 use Rattle.serial_engine.specs.Going.{Going}
 use Rattle.flatstore.specs.Played.{no_cells}
@@ -17,7 +17,7 @@ returns-in-Ok g c =
     let none : cell_of c.args.store.cells ≡ no_cells = (λ i k. c.requires.cells k i) in
     let begun : Going s s no_cells [] c.begin-run.result = subst (λ f. Going s s f [] c.begin-run.result) none (c.begin-run.ensures.going s c.requires.ready) in
     answered_all s t c.args.requests.items c.answer_all.new.self (c.in-Ok.ensures.ok s no_cells [] begun) c.answer_all.ensures.ready (c.answer_all.ensures.cause c.begin-run.ensures.stopped)
-      (c.in-Ok.ensures.stock fresh_lines fresh_stock [] (subst (λ b. Stocked fresh_lines b [] c.begin-run.result) (unused_stock c.args.store c.requires.unused) (subst (λ n. Stocked n (stock_of c.args.store) [] c.begin-run.result) (ap (λ (l : Geometry). payload_lines l) c.requires.layout) c.begin-run.ensures.stock)))
+    (c.in-Ok.ensures.stock fresh_lines fresh_stock [] (subst (λ b. Stocked fresh_lines b [] c.begin-run.result) (unused_stock c.args.store c.requires.unused) (subst (λ n. Stocked n (stock_of c.args.store) [] c.begin-run.result) (ap (λ (l : Geometry). payload_lines l) c.requires.layout) c.begin-run.ensures.stock)))
 
 pub returns : goal.returns
 returns g c =
@@ -26,4 +26,4 @@ returns g c =
     let none : cell_of c.args.store.cells ≡ no_cells = (λ i k. c.requires.cells k i) in
     let begun : Going s s no_cells [] c.begin-run.result = subst (λ f. Going s s f [] c.begin-run.result) none (c.begin-run.ensures.going s c.requires.ready) in
     answered_some s t c.args.requests.items c.begin-run.result c.answer_all.new.self c.in-Err.ensures.err begun (c.answer_all.ensures.cause c.begin-run.ensures.stopped)
-      (some_refused c.args.requests.items c.begin-run.result c.answer_all.new.self c.in-Err.ensures.stock_err (subst (λ b. Stocked fresh_lines b [] c.begin-run.result) (unused_stock c.args.store c.requires.unused) (subst (λ n. Stocked n (stock_of c.args.store) [] c.begin-run.result) (ap (λ (l : Geometry). payload_lines l) c.requires.layout) c.begin-run.ensures.stock)))
+    (some_refused c.args.requests.items c.begin-run.result c.answer_all.new.self c.in-Err.ensures.stock_err (subst (λ b. Stocked fresh_lines b [] c.begin-run.result) (unused_stock c.args.store c.requires.unused) (subst (λ n. Stocked n (stock_of c.args.store) [] c.begin-run.result) (ap (λ (l : Geometry). payload_lines l) c.requires.layout) c.begin-run.ensures.stock)))

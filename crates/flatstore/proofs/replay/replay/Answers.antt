@@ -1,10 +1,7 @@
 -- A region that is fresh, and an input that is read.
-use Rattle.std.proofs.Common.{◌≡◌, refl, sym, subst, true}
+use Rattle.std.proofs.Common.{refl, sym, subst}
 use Rattle.std.specs.List.{AllByRecursion}
-use Rattle.pm_region.specs.State.{State, IsTelling}
-use Rattle.pm_region.specs.Words.{lasts}
 use Rattle.serial_engine.specs.Going.{IsServed}
-use Rattle.flatstore.specs.Fresh.{IsFresh}
 use Rattle.flatstore.proofs.Inputs.{read_served}
 use Rattle.flatstore.proofs.Reading.{fresh_region}
 use Rattle.flatstore.proofs.replay.replay.Goals as goal

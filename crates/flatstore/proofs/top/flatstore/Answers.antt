@@ -1,12 +1,11 @@
 -- The promise, where requests were answered and where none was.
-use Rattle.std.proofs.Common.{◌≡◌, refl, sym, ◌∙◌, ap, subst}
+use Rattle.std.proofs.Common.{refl, sym, ap, subst}
 use Rattle.pm_region.specs.State.{State}
-use Rattle.pm_region.specs.Split.{Attached}
 use Rattle.store_image.specs.Soundness.{IsSound}
 use Rattle.serial_engine.specs.Answers.{told}
 use Rattle.flatstore.specs.Promise.{Replays}
-use Rattle.flatstore.proofs.Replaying.{played_replays, played_due}
-use Rattle.flatstore.proofs.Refused.{some_input, refused_replays, refused_due}
+use Rattle.flatstore.proofs.Replaying.{played_replays}
+use Rattle.flatstore.proofs.Refused.{some_input, refused_replays}
 use Rattle.flatstore.proofs.top.flatstore.Goals as goal
 
 pub returns-in-Err-clause-replay : goal.returns-in-Err-clause-replay
@@ -32,5 +31,5 @@ returns-in-Ok-replay-clause-replay g c = λ attached sound.
       P.read.is_input,
       played_replays (g.R.Region.state c.args.region.now) (g.R.Region.state c.attach.new.self) (g.R.Region.state c.replay.new.region) (g.R.SplitRegion.found c.args.region.now) c.in-Ok.ensures.ok
           (g.S.Source.coming c.args.source.now) (g.O.Sink.taken c.args.sink.now) (g.O.Sink.taken c.write.new.sink) (g.O.Sink.fault_count c.args.sink.now) (g.O.Sink.fault_count c.write.new.sink) c.in-Ok-replay.ended c.write.result.status
-          P c.write.ensures.written c.write.result refl (λ i. told (c.write.ensures.finishes i) (c.write.ensures.refusals i)),
+          P c.write.ensures.written c.write.result refl (λ i. told (c.write.ensures.finishes i) (c.write.ensures.refusals i)) c.write.ensures.refusals,
     )
