@@ -57,7 +57,7 @@ abbrev pub RecoversAtExit : State → (ℕ → Option (List ℕ)) → List Reque
 RecoversAtExit s start trace r =
     IsTelling s → (image : ℕ → ℕ) → MayLeave s.frame (cell_now s) image → Recovers s.frame.bytes start trace r (λ k. finished_by k trace r.finishes (2 ^ 64)) image
 
--- H3
+-- At exit, each image recovers all changes
 abbrev pub RecoversAll : State → (ℕ → Option (List ℕ)) → List Request → Told → Type 0
 RecoversAll s start trace r =
     IsTelling s → (image : ℕ → ℕ) → MayLeave s.frame (cell_now s) image → (k : ℕ) → k < 2 ^ 64 → cells_of image k ≡ cell_after_all (changes_in start trace r k) (start k)
