@@ -82,16 +82,10 @@ module _ (s t : State) (b : Store) (R : Ready s b) (key version : ℕ) (value : 
       few = R.few;
       empty = empty;
       room = subst (λ n. 34 ≤ n) (sym room) R.room;
-      versions = λ k. subst (λ f. f k ≤ 1048574) lasts_are (bounded k);
       shows = λ telling.
           subst (λ f. EachImage f (Shows f.bytes log'.layout (cell_of cells') (last_of cells')) (cell_now t)) (sym frame_same)
           (subst (λ g. EachImage s.frame (Shows s.frame.bytes g (cell_of cells') (last_of cells')) (cell_now t)) (sym layout_same)
           (subst (λ f. EachImage s.frame (Shows s.frame.bytes b.log.layout f (last_of cells')) (cell_now t)) cells_are
           (subst (λ f. EachImage s.frame (Shows s.frame.bytes b.log.layout (with_at (cell_of b.cells) key (Some value)) f) (cell_now t)) lasts_are
           (put_shows s t s.frame.bytes b.log (cell_of b.cells) (last_of b.cells) R.one R.part R.stands some R.shows e value refl next spelled ws is fits_words outside words_run log' after telling))));
-    } where
-      bounded : (k : ℕ) → with_at (last_of b.cells) key version k ≤ 1048574
-      bounded k = elim (k == key) as (λ c. cond c version (last_of b.cells k) ≤ 1048574) [
-        | true ↦ high
-        | false ↦ R.versions k
-      ]
+    }

@@ -1,5 +1,5 @@
 -- From one chunk to whole images: what each moment of an append shows.
-use Rattle.std.proofs.Common.{◌≡◌, ◌≢◌, ◌⊎◌, inl, inr, ℕ, ◌+◌, ◌<◌, ◌≤◌, List, [], ◌∷◌, ◌++◌, refl, sym, ◌∙◌, ap, arith, true, cond, Option, Some}
+use Rattle.std.proofs.Common.{◌≡◌, ◌≢◌, ◌⊎◌, inl, inr, ℕ, ◌+◌, ◌<◌, ◌≤◌, List, [], ◌∷◌, ◌++◌, refl, sym, ◌∙◌, ap, arith, true, cond, Option, Some, Ok}
 use Rattle.std.proofs.lemmas.Bool.{eq-eqb, ne_eqb}
 use Rattle.pm_region.specs.Cell.{Cell}
 use Rattle.pm_region.specs.State.{State, MayLeave, IsTelling, cell_now, During}
@@ -8,10 +8,11 @@ use Rattle.pm_region.proofs.Moments.{weaken, both, at_exit, told_at_entry}
 use Rattle.pm_region.proofs.Narrow.{patch, patch_in, patch_out, was_image}
 use Rattle.log_entry.specs.declared.entry.Body.TheVariants.{Embedded}
 use Rattle.chunk_map.specs.declared.layouts.Geometry.{Geometry}
-use Rattle.chunk_map.specs.Layouts.{chunk_first, chunk_words}
+use Rattle.chunk_map.specs.Layouts.{chunk_first, chunk_words, head_at}
+use Rattle.chunk_map.specs.declared.heads.Head.TheVariants.{Data}
 use Rattle.store_image.specs.declared.types.PlacedEntry.{PlacedEntry}
 use Rattle.store_image.specs.Parts.{chunk_entries, chunk_reads}
-use Rattle.store_image.proofs.Local.{chunk_same}
+use Rattle.store_image.proofs.Local.{chunk_same, head_same}
 use Rattle.serial_engine.specs.Shows.{Shows}
 use Rattle.serial_engine.specs.Moments.{EachImage, with_at, ShowsEither}
 use Rattle.serial_engine.proofs.Images.{shows_still, shows_more}
@@ -29,7 +30,8 @@ HasOneMore l j before x image = (chunk_reads l image (chunk_first l 0 j) ≡ tru
 module _ (s t : State) (bytes : ℕ) (l : Geometry) (cells : ℕ → Option (List ℕ)) (versions : ℕ → ℕ) (j : ℕ)
     (one : l.cores ≡ 1) (room : 32 ≤ chunk_words l) (within : j < l.chunks)
     (low : s.frame.first ≤ chunk_first l 0 j) (high : chunk_first l 0 j + chunk_words l ≤ s.frame.first + s.frame.words)
-    (shows : IsTelling s → EachImage s.frame (Shows bytes l cells versions) (cell_now s)) where
+    (shows : IsTelling s → EachImage s.frame (Shows bytes l cells versions) (cell_now s))
+    (not_data : IsTelling s → (class : ℕ) → head_at l (lasts s) (chunk_first l 0 j) ≡ Ok (Data class) → ⊥) where
   abbrev at : ℕ
   at = chunk_first l 0 j
 
@@ -53,18 +55,25 @@ module _ (s t : State) (bytes : ℕ) (l : Geometry) (cells : ℕ → Option (Lis
     unfolding before
     before_entries = chunk_same l before (lasts s) 0 j room (λ k lt. patch_in at end (lasts s) image (at + k) (omega arith) (omega (arith, lt)))
 
+    before_head : head_at l before at ≡ head_at l (lasts s) at
+    unfolding before
+    before_head = head_same l before (lasts s) at room (λ k lt. patch_in at end (lasts s) image (at + k) (omega arith) (omega (arith, lt)))
+
+    no_data : (class : ℕ) → head_at l before at ≡ Ok (Data class) → ⊥
+    no_data class e = not_data telling class (sym before_head ∙ e)
+
     of_chunk : MayLeaveIn m at end image
     of_chunk w ge lt = may w (record { low = omega (arith, low, ge); high = omega (arith, high, lt) })
 
     still : chunk_reads l image at ≡ true → chunk_entries l image 0 j ≡ chunk_entries l (lasts s) 0 j → Shows bytes l cells versions image
-    still reads same = shows_still bytes l room before image j within outside cells versions one before_shows reads (same ∙ sym before_entries)
+    still reads same = shows_still bytes l room before image j within outside cells versions one before_shows reads no_data (same ∙ sym before_entries)
 
     module _ (x : PlacedEntry) (value : List ℕ) (body : x.entry.body ≡ Embedded value) (next : x.entry.version ≡ versions x.entry.key + 1) where
       more : chunk_reads l image at ≡ true → chunk_entries l image 0 j ≡ chunk_entries l (lasts s) 0 j ++ x ∷ []
           → Shows bytes l (with_at cells x.entry.key (Some value)) (with_at versions x.entry.key x.entry.version) image
-      more reads adds = shows_more bytes l room before image j within outside cells versions one before_shows reads x value
-          (with_at cells x.entry.key (Some value)) (with_at versions x.entry.key x.entry.version)
+      more reads adds = shows_more bytes l room before image j within outside cells versions one before_shows reads no_data x value
           (adds ∙ ap (λ es. es ++ x ∷ []) (sym before_entries)) body next
+          (with_at cells x.entry.key (Some value)) (with_at versions x.entry.key x.entry.version)
           (with_here cells x.entry.key (Some value)) (with_here versions x.entry.key x.entry.version)
           (with_else cells x.entry.key (Some value)) (with_else versions x.entry.key x.entry.version)
 

@@ -6,7 +6,8 @@ pub mod Opened
 pub mod Stored
 pub mod Steps
 pub mod Requests
-pub mod Starts
 pub mod Appended
 pub mod Stocks
 pub mod Roomy
+pub mod Lookups
+pub mod Recovered

@@ -1,5 +1,5 @@
 -- The store before and after its log opens the lowest free chunk.
-use Rattle.std.proofs.Common.{◌≡◌, inl, inr, ⊎_elim, ℕ, zero, suc, ◌+◌, ◌-◌, ◌*◌, ◌/◌, ◌<◌, ◌≤◌, List, [], ◌∷◌, ◌++◌, length, refl, sym, ◌∙◌, ap, subst, arith, true, length-append}
+use Rattle.std.proofs.Common.{◌≡◌, inl, inr, ⊎_elim, ℕ, zero, suc, ◌+◌, ◌-◌, ◌*◌, ◌/◌, ◌<◌, ◌≤◌, List, [], ◌∷◌, ◌++◌, length, refl, sym, ◌∙◌, ap, subst, arith, true, Ok, length-append}
 use Rattle.std.specs.Prelude.{slice_index}
 use Rattle.std.specs.Global.{Vec}
 use Rattle.pm_region.specs.State.{State, Frame, IsTelling, cell_now, During}
@@ -7,7 +7,8 @@ use Rattle.pm_region.specs.Words.{KeepsOutside, EachIn, Surely, lasts}
 use Rattle.pm_region.proofs.Moments.{weaken, both, at_exit, told_at_entry}
 use Rattle.pm_region.proofs.Narrow.{surely_kept, surely_last}
 use Rattle.chunk_map.specs.declared.layouts.Geometry.{Geometry}
-use Rattle.chunk_map.specs.Layouts.{chunk_first, chunk_words, total_bytes, head_by}
+use Rattle.chunk_map.specs.Layouts.{chunk_first, chunk_words, total_bytes, head_by, head_at}
+use Rattle.chunk_map.specs.declared.heads.Head.TheVariants.{Data}
 use Rattle.store_image.specs.Parts.{chunk_entries, chunk_reads, scan_behind, head_reads, placed}
 use Rattle.core_log.specs.Chunk.{FreeOrEmpty, ChunkLies}
 use Rattle.core_log.specs.Log.{LogState, tail_of, first_of}
@@ -21,7 +22,7 @@ use Rattle.serial_engine.specs.Moments.{EachImage}
 use Rattle.serial_engine.specs.Ready.{Ready, IsFree, AreFree}
 use Rattle.serial_engine.proofs.Images.{apart}
 use Rattle.serial_engine.proofs.Appends.{stays_moments}
-use Rattle.serial_engine.proofs.Puts.{log_chunk_reads}
+use Rattle.serial_engine.proofs.Puts.{log_chunk_reads, free_not_data}
 
 -- a Free chunk reads, and has no entries
 pub free_reads : (l : Geometry) (image : ℕ → ℕ) (at : ℕ) → image at ≡ 0 → chunk_reads l image at ≡ true
@@ -113,8 +114,12 @@ module _ (s t : State) (b : Store) (R : Ready s b) (rest : List ℕ) (chunk : �
   high : chunk_first l 0 chunk + chunk_words l ≤ s.frame.first + s.frame.words
   high = at_zero (λ p. chunk_first l p chunk + chunk_words l ≤ s.frame.first + s.frame.words) lies.high
 
+  not_data : IsTelling s → (class : ℕ) → head_at l (lasts s) (chunk_first l 0 chunk) ≡ Ok (Data class) → ⊥
+  not_data telling class e = free_not_data l (lasts s) (chunk_first l 0 chunk) class
+      (at_zero (λ p. lasts s (chunk_first l p chunk) ≡ 0) (surely_last (cell_now s (first_of b.log chunk)) 0 (last_free.free telling))) e
+
   pub open_moments : During s t (EachImage s.frame (Shows s.frame.bytes l (cell_of b.cells) (last_of b.cells)))
-  open_moments = stays_moments s t s.frame.bytes l (cell_of b.cells) (last_of b.cells) chunk R.one room last_free.within low high R.shows out chunk_run
+  open_moments = stays_moments s t s.frame.bytes l (cell_of b.cells) (last_of b.cells) chunk R.one room last_free.within low high R.shows not_data out chunk_run
 
   module _ (log' : LogState) (after : OpenedChunk t b.log log' chunk) (free' : Vec ℕ) (free_rest : free'.items ≡ rest) where
     layout_same : log'.layout ≡ l
@@ -126,7 +131,9 @@ module _ (s t : State) (b : Store) (R : Ready s b) (rest : List ℕ) (chunk : �
     one_free : (k : ℕ) → chunk < k → IsFree s b.log k → IsFree t log' k
     one_free k more f = record {
       within = subst (λ (g : Geometry). k < g.chunks) (sym layout_same) f.within;
-      other = ap (λ (g : LogState). tail_of g.chunks k) after.log_is ∙ tail_other b.log.chunks chunk 0 k (λ e. omega (arith, more, e)) ∙ f.other;
+      other = λ telling.
+          let was = told_at_entry s t (KeepsOutside (cell_now s) (chunk_first l 0 chunk) (chunk_first l 0 chunk + chunk_words l)) out telling in
+          ap (λ (g : LogState). tail_of g.chunks k) after.log_is ∙ tail_other b.log.chunks chunk 0 k (λ e. omega (arith, more, e)) ∙ f.other was;
       free = λ telling.
           let was = told_at_entry s t (KeepsOutside (cell_now s) (chunk_first l 0 chunk) (chunk_first l 0 chunk + chunk_words l)) out telling in
           let kept = at_exit s t (KeepsOutside (cell_now s) (chunk_first l 0 chunk) (chunk_first l 0 chunk + chunk_words l)) out telling in
@@ -157,7 +164,6 @@ module _ (s t : State) (b : Store) (R : Ready s b) (rest : List ℕ) (chunk : �
       few = let few = R.few in let short = ap length free_rest in omega (arith, few, long, short);
       empty = R.empty;
       room = R.room;
-      versions = R.versions;
       shows = λ telling.
           subst (λ f. EachImage f (Shows f.bytes log'.layout (cell_of b.cells) (last_of b.cells)) (cell_now t)) (sym outside.frame)
           (subst (λ g. EachImage s.frame (Shows s.frame.bytes g (cell_of b.cells) (last_of b.cells)) (cell_now t)) (sym layout_same)

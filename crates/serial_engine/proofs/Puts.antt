@@ -1,12 +1,12 @@
 -- A put that is appended: what each moment shows, and what stands afterwards.
-use Rattle.std.proofs.Common.{◌≡◌, ◌≢◌, ◌⊎◌, inl, inr, ℕ, ◌+◌, ◌*◌, ◌/◌, ◌%◌, ◌^◌, ◌<◌, ◌≤◌, List, [], ◌∷◌, ◌++◌, length, sym, ◌∙◌, ap, subst, arith, ◌==◌, ◌&&◌, nat_le, true, Option, Some, None, Ok, Err, append-nil}
+use Rattle.std.proofs.Common.{◌≡◌, ◌≢◌, ◌⊎◌, inl, inr, ℕ, ◌+◌, ◌*◌, ◌/◌, ◌%◌, ◌^◌, ◌<◌, ◌≤◌, List, [], ◌∷◌, ◌++◌, length, sym, ◌∙◌, ap, subst, arith, ◌==◌, ◌&&◌, nat_le, true, false, Bool, cond, Option, Some, None, Result, Ok, Err, append-nil}
 use Rattle.std.specs.Prelude.{slice_index, is_some}
 use Rattle.std.specs.List.{flat_map, AllByRecursion}
 use Rattle.std.proofs.lemmas.Bool.{eq-eqb, le-leb, and_from, cond-true}
 use Rattle.pm_region.specs.State.{State, IsTelling, cell_now, During}
 use Rattle.pm_region.specs.Words.{KeepsOutside, EachIn, Surely, lasts}
 use Rattle.pm_region.proofs.Moments.{weaken, at_exit, told_at_entry}
-use Rattle.pm_region.proofs.Narrow.{surely_kept}
+use Rattle.pm_region.proofs.Narrow.{surely_kept, surely_last}
 use Rattle.log_entry.specs.declared.entry.Entry.{Entry}
 use Rattle.log_entry.specs.declared.entry.Body.TheVariants.{Embedded}
 use Rattle.log_entry.specs.Spelling.{words_of, HasSpelling}
@@ -14,7 +14,8 @@ use Rattle.log_entry.specs.Batches.{Scan, scan_of, IsBatch, SpellsBatches}
 use Rattle.log_entry.proofs.Bytes.{length-packed_in}
 use Rattle.log_entry.proofs.Scans.{scan_spelled, spells-append}
 use Rattle.chunk_map.specs.declared.layouts.Geometry.{Geometry}
-use Rattle.chunk_map.specs.declared.heads.Head.TheVariants.{Log}
+use Rattle.chunk_map.specs.declared.heads.Head.{Head}
+use Rattle.chunk_map.specs.declared.heads.Head.TheVariants.{Free, Log, Data}
 use Rattle.chunk_map.specs.Layouts.{chunk_first, chunk_words, payload_words, head_at, head_by}
 use Rattle.store_image.specs.declared.types.PlacedEntry.{PlacedEntry}
 use Rattle.store_image.specs.Parts.{chunk_entries, chunk_reads, scan_behind, scan_at, head_reads}
@@ -43,6 +44,18 @@ log_chunk_reads l image at tail ws bs whole fits has spelled =
     let head : head_at l image at ≡ Ok (Log tail) = (λ i. head_by l (has.0 i) (has.1 i)) ∙ head_is in
     let scan : scan_at l image at ≡ scan_of ws = ap (scan_behind image at) head ∙ ap scan_of has.2 in
     (λ i. head_reads (head i) (scan i)) ∙ ap (λ (s : Scan). s.whole) (scan_spelled ws bs spelled)
+
+-- no log is a data chunk, nor is a free chunk
+pub log_not_data : (l : Geometry) (image : ℕ → ℕ) (at class : ℕ) → image at ≡ 1 → head_at l image at ≡ Ok (Data class) → ⊥
+log_not_data l image at class is e = by_tail (image (at + 1) % 8 == 0 && nat_le (image (at + 1)) (payload_words l)) (ap (λ k. head_by l k (image (at + 1))) (sym is) ∙ e) where
+  by_tail : (b : Bool) → cond {A = Result Head ℕ} b (Ok (Log (image (at + 1)))) (Err 5) ≡ Ok (Data class) → ⊥
+  by_tail true q = cc q
+  by_tail false q = cc q
+
+pub free_not_data : (l : Geometry) (image : ℕ → ℕ) (at class : ℕ) → image at ≡ 0 → head_at l image at ≡ Ok (Data class) → ⊥
+free_not_data l image at class is e = not_free (head_at l image at) (ap (λ k. head_by l k (image (at + 1))) is) e where
+  not_free : (r : Result Head ℕ) → r ≡ Ok Free → r ≡ Ok (Data class) → ⊥
+  not_free r f d = cc (sym f ∙ d)
 
 pub none_some : (o : Option ℕ) (v : ℕ) → o ≡ Some v → o ≡ None → ⊥
 none_some None v a b = cc a
@@ -122,12 +135,16 @@ module _ (s t : State) (bytes : ℕ) (log : LogState) (cells : ℕ → Option (L
       (EachInOpen log (λ image. (chunk_reads l image (open_first log) ≡ true) × ((open_entries log image ≡ open_entries log (lasts s)) ⊎ (open_entries log image ≡ open_entries log (lasts s) ++ x ∷ []))))
       (λ telling m each image may. one_more telling image (each image may)) words_run)
 
+  not_data : IsTelling s → (class : ℕ) → head_at l (lasts s) (chunk_first l 0 j) ≡ Ok (Data class) → ⊥
+  not_data telling class e = log_not_data l (lasts s) (chunk_first l 0 j) class
+      (at_zero (λ p. lasts s (chunk_first l p j) ≡ 1) (surely_last (cell_now s (open_first log)) 1 (stands.logs telling j (open_tail log) (open_has log stands.own some)).kind)) e
+
   pub put_moments : During s t (EachImage s.frame (ShowsEither bytes l cells versions e.key e.version value))
-  put_moments = shows_moments s t bytes l cells versions j one room own_chunk.within low high shows x value body next out chunk_run
+  put_moments = shows_moments s t bytes l cells versions j one room own_chunk.within low high shows not_data x value body next out chunk_run
 
   module _ (log' : LogState) (after : AppendedBatch s t log log' (padded ws)) where
     pub put_shows : IsTelling t → EachImage s.frame (Shows bytes l (with_at cells e.key (Some value)) (with_at versions e.key e.version)) (cell_now t)
-    put_shows telling = shows_exit s t bytes l cells versions j one room own_chunk.within low high shows x value body next out telling
+    put_shows telling = shows_exit s t bytes l cells versions j one room own_chunk.within low high shows not_data x value body next out telling
         (at_zero (λ p. EachIn (chunk_first l p j) (chunk_first l p j + chunk_words l) (λ image. (chunk_reads l image (chunk_first l p j) ≡ true) × (chunk_entries l image p j ≡ chunk_entries l (lasts s) p j ++ x ∷ [])) (cell_now t))
         (λ image may. let was = told_at_entry s t (KeepsOutside (cell_now s) (open_first log) (open_first log + chunk_words l)) outside telling in
         let h = after.has telling image may in
@@ -155,14 +172,16 @@ module _ (s t : State) (bytes : ℕ) (log : LogState) (cells : ℕ → Option (L
 
       free_one : (k : ℕ) → IsFree s log k → IsFree t log' k
       free_one k f =
-          let ne : k ≢ j = λ e. none_some (tail_of log.chunks k) (open_tail log) (ap (tail_of log.chunks) e ∙ open_has log stands.own some) f.other in
+          let ne : IsTelling s → k ≢ j = λ was e. none_some (tail_of log.chunks k) (open_tail log) (ap (tail_of log.chunks) e ∙ open_has log stands.own some) (f.other was) in
           record {
             within = subst (λ (g : Geometry). k < g.chunks) (sym layout_is) f.within;
-            other = ap (λ (g : LogState). tail_of g.chunks k) after.log_is ∙ tail_other log.chunks j _ k ne ∙ f.other;
+            other = λ telling.
+                let was = told_at_entry s t (KeepsOutside (cell_now s) (open_first log) (open_first log + chunk_words log.layout)) outside telling in
+                ap (λ (g : LogState). tail_of g.chunks k) after.log_is ∙ tail_other log.chunks j _ k (ne was) ∙ f.other was;
             free = λ telling.
                 let was = told_at_entry s t (KeepsOutside (cell_now s) (open_first log) (open_first log + chunk_words l)) outside telling in
                 let kept = at_exit s t (KeepsOutside (cell_now s) (chunk_first l 0 j) (chunk_first l 0 j + chunk_words l)) out telling in
-                let where_is = apart (chunk_words l) (0 * l.chunks + k) (0 * l.chunks + j) 0 (omega (arith, room)) (λ e. ne (omega (arith, e))) in
+                let where_is = apart (chunk_words l) (0 * l.chunks + k) (0 * l.chunks + j) 0 (omega (arith, room)) (λ e. ne was (omega (arith, e))) in
                 let sure : Surely (cell_now s (chunk_first l 0 k)) 0 = at_zero (λ p. Surely (cell_now s (chunk_first l p k)) 0) (f.free was) in
                 let moved : Surely (cell_now t (chunk_first l 0 k)) 0 = surely_kept (cell_now s (chunk_first l 0 k)) (cell_now t (chunk_first l 0 k)) 0 sure (kept (chunk_first l 0 k) (outside_of k where_is)) in
                 subst (λ w. Surely (cell_now t w) 0) (sym (first_is k ∙ ap (λ p. chunk_first l p k) part)) moved;

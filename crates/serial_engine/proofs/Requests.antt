@@ -117,7 +117,6 @@ ready_alike s b cells same R = record {
   few = R.few;
   empty = R.empty;
   room = R.room;
-  versions = λ k. subst (λ n. n ≤ 1048574) (sym (same.lasts k)) (R.versions k);
   shows = λ telling.
       subst (λ f. EachImage s.frame (Shows s.frame.bytes b.log.layout f (last_of cells)) (cell_now s)) (sym (cells_alike b.cells cells same))
       (subst (λ f. EachImage s.frame (Shows s.frame.bytes b.log.layout (cell_of b.cells) f) (cell_now s)) (sym (lasts_alike b.cells cells same)) (R.shows telling));

@@ -29,7 +29,7 @@ needs qs = sum_by need_of qs
 abbrev pub capacity : ℕ → Stock → ℕ
 capacity lines s = s.room + (s.free - 1) * (lines - 4)
 
-abbrev once : Bool → ℕ
+abbrev pub once : Bool → ℕ
 once b = cond b 1 0
 
 -- the versions suffice, from these on

@@ -22,9 +22,9 @@ use Rattle.serial_engine.proofs.Sound.{is_sound}
 use Rattle.serial_engine.proofs.Appends.{with_here, with_else}
 
 -- an image that shows cells holds them
-pub shown_holds : (bytes : ℕ) (l : Geometry) (cells : ℕ → Option (List ℕ)) (lasts : ℕ → ℕ) (image : ℕ → ℕ) → l.cores ≡ 1 → Shows bytes l cells lasts image → HoldsCells bytes cells image
-shown_holds bytes l cells lasts image one is = record {
-  sound = is_sound bytes l cells lasts image one is;
+pub shown_holds : (bytes : ℕ) (l : Geometry) (cells : ℕ → Option (List ℕ)) (lasts : ℕ → ℕ) (image : ℕ → ℕ) → Shows bytes l cells lasts image → HoldsCells bytes cells image
+shown_holds bytes l cells lasts image is = record {
+  sound = is_sound bytes l cells lasts image is;
   cells = λ k. ap (λ g. recovered g image k) is.layout ∙ is.recovers k;
 }
 
@@ -81,8 +81,8 @@ module _ (s0 s : State) (start : ℕ → Option (List ℕ)) (done : List Request
       frame_is = images.frame
 
       holds : (image : ℕ → ℕ) → ShowsEither s.frame.bytes l cell lasts key version value image → HoldsCells s0.frame.bytes cell image ⊎ HoldsCells s0.frame.bytes next image
-      holds image (inl h) = inl (subst (λ (f : Frame). HoldsCells f.bytes cell image) frame_is (shown_holds s.frame.bytes l cell lasts image one h))
-      holds image (inr h) = inr (subst (λ (f : Frame). HoldsCells f.bytes next image) frame_is (shown_holds s.frame.bytes l next (with_at lasts key version) image one h))
+      holds image (inl h) = inl (subst (λ (f : Frame). HoldsCells f.bytes cell image) frame_is (shown_holds s.frame.bytes l cell lasts image h))
+      holds image (inr h) = inr (subst (λ (f : Frame). HoldsCells f.bytes next image) frame_is (shown_holds s.frame.bytes l next (with_at lasts key version) image h))
 
       in_s : (cells : ℕ → Cell) (image : ℕ → ℕ) → MayLeave s0.frame cells image → MayLeave s.frame cells image
       in_s cells image may = subst (λ f. MayLeave f cells image) (sym frame_is) may
@@ -110,7 +110,7 @@ module _ (s0 s : State) (start : ℕ → Option (List ℕ)) (done : List Request
             let telling : IsTelling t = subst (IsTold t) is told in
             let here : MayLeave s.frame (cell_now t) image = subst (λ n. MayLeave s.frame (t.cells n) image) is (in_s (t.cells n) image may) in
             holds_all s0.frame.bytes start more replies' (with_finish start done replies r s.stamp cell q reply A t.stamp low) t.stamp next B n image past
-            (subst (λ (f : Frame). HoldsCells f.bytes next image) frame_is (shown_holds s.frame.bytes l next (with_at lasts key version) image one (exit telling image here))))
+            (subst (λ (f : Frame). HoldsCells f.bytes next image) frame_is (shown_holds s.frame.bytes l next (with_at lasts key version) image (exit telling image here))))
             (cases_lt n t.stamp))
 
 -- Before the first request, with a report that names none.

@@ -5,5 +5,5 @@ pub mod Ready
 pub mod Answers
 pub mod Refusals
 pub mod Going
-pub mod Empty
 pub mod Stock
+pub mod Opening

@@ -9,10 +9,10 @@ use Rattle.serial_engine.specs.Shows.{Shows}
 use Rattle.serial_engine.specs.Moments.{EachImage}
 use Rattle.serial_engine.specs.declared.store.Store.{Store}
 
--- a chunk of the part that no log has, and that is certainly Free
+-- a chunk of the part that, where the region tells, no log has, and that is certainly Free
 pub record IsFree (s : State) (log : LogState) (j : ℕ) : Type 0 where
   pub within : j < log.layout.chunks
-  pub other : tail_of log.chunks j ≡ None
+  pub other : IsTelling s → tail_of log.chunks j ≡ None
   pub free : IsTelling s → Surely (cell_now s (first_of log j)) 0
 
 -- Free chunks, the greatest first.
@@ -30,5 +30,4 @@ pub record Ready (s : State) (e : Store) : Type 0 where
   pub few : length e.free.items ≤ 64
   pub empty : e.batch.words ≡ []
   pub room : 34 ≤ e.batch.room
-  pub versions : (k : ℕ) → last_of e.cells k ≤ 1048574
   pub shows : IsTelling s → EachImage s.frame (Shows s.frame.bytes e.log.layout (cell_of e.cells) (last_of e.cells)) (cell_now s)

@@ -1,15 +1,22 @@
 // One core's log with its free chunks and the cells of the keys.
-ghost use Rattle.std.specs.Prelude.{◌≡◌, ◌⊎◌, ℕ, ◌+◌, ◌-◌, ◌*◌, ◌/◌, ◌^◌, ◌<◌, ◌≤◌, length, slice_index, None, true, IfOk, OnOk, OnErr};
+ghost use Rattle.std.specs.Prelude.{◌≡◌, ◌⊎◌, ℕ, ◌+◌, ◌-◌, ◌*◌, ◌/◌, ◌^◌, ◌<◌, ◌≤◌, length, map, None, true, IfOk, OnOk, OnErr};
 ghost use Rattle.std.specs.List.{AllByRecursion};
 ghost use Rattle.serial_engine.specs.Refusals.{lines_needed};
 ghost use Rattle.pm_region.specs.State.{State, During, IsTelling, Rose};
+ghost use Rattle.pm_region.specs.Words.{lasts};
+ghost use Rattle.chunk_map.specs.Layouts.{chunk_first, head_at};
+ghost use Rattle.chunk_map.specs.Setting.{HeadLies};
+ghost use Rattle.headline.specs.Ample.{is_free};
+ghost use Rattle.serial_engine.specs.Opening.{HeadsLie, IsFalling, free_below};
 
 use crate::answers::{Counts, Shortage};
 use crate::cells::Cells;
+use chunk_map::heads::Head;
 use chunk_map::layouts::Layout;
+use chunk_map::reading::read_head;
 use core_log::CoreLog;
 use fs_errors::Memory;
-use fs_model::{Key, Reply, Value, Version};
+use fs_model::{Key, Pair, Reply, Value, Version};
 use log_entry::{Body, Entry, WordBuffer, write_entry};
 use pm_region::{Region, RegionFault};
 use std::alloc::Global;
@@ -40,25 +47,39 @@ impl Store {
     ghost use Rattle.serial_engine.specs.Cells.{cell_of, last_of, has_record, SameCells, Settles};
     ghost use Rattle.serial_engine.specs.Moments.{EachImage, ShowsEither};
     ghost use Rattle.serial_engine.specs.Shows.{Shows};
+    ghost use Rattle.store_image.specs.Listing.{IsRising, lookup};
+    ghost use Rattle.headline.specs.Ample.{free_chunks};
+    ghost use Rattle.serial_engine.specs.Opening.{HeadsLie, IsRegionOf, AreNewest, version_with};
     ghost use Rattle.serial_engine.specs.Ready.{Ready};
-    ghost use Rattle.serial_engine.specs.Empty.{IsEmptyRegion};
     ghost use Rattle.serial_engine.specs.Refusals.{IsRefusal, lines_needed};
-    ghost use Rattle.serial_engine.specs.Stock.{IsUnused, MadeRoom, stock_of, after_put};
+    ghost use Rattle.serial_engine.specs.Stock.{MadeRoom, stock_of, after_put};
 
-    /// The store of a region of one core with nothing in it.
-    pub fn empty(alloc: Global, layout: Layout) -> Result<Store, Memory>
-        requires one { layout.cores ≡ 1 }
-        ensures layout { IfOk result (λ store. store.log.layout ≡ layout) }
-        ensures ready { IfOk result (λ store. (s : State) → IsEmptyRegion s layout → Ready s store) }
-        ensures cells { IfOk result (λ store. (k : ℕ) → cell_of store.cells k ≡ None) }
-        ensures unused { IfOk result (λ store. IsUnused store layout.chunks) }
+    /// The store of a sound region of one core: its log, the newest entry of each key, and the values, each by rising
+    /// key. The heads of the region tell which chunks are free.
+    pub fn open<R: Region>(
+        alloc: Global,
+        region: &R,
+        layout: Layout,
+        log: CoreLog,
+        newest: Vec<Entry>,
+        values: Vec<Pair>,
+    ) -> Result<Store, Memory>
+        requires layout { log.layout ≡ layout }
+        requires heads { HeadsLie (R.state region.now) layout }
+        requires chunks { layout.chunks ≤ 64 }
+        ensures log { IfOk result (λ store. store.log ≡ log) }
+        ensures cells { IsRising (map (λ p. p.key) values.items) → IfOk result (λ store. (k : ℕ) → cell_of store.cells k ≡ lookup k values.items) }
+        ensures lasts { IsRising (map (λ e. e.key) newest.items) → IfOk result (λ store. (k : ℕ) → last_of store.cells k ≡ version_with k newest.items) }
+        ensures free { IfOk result (λ store. IsTelling (R.state region.now) → length store.free.items ≡ free_chunks layout (lasts (R.state region.now)) 0) }
+        ensures ready { IfOk result (λ store. IsRegionOf (R.state region.now) log → (IsTelling (R.state region.now) → AreNewest (R.state region.now) log newest.items values.items)
+            → Ready (R.state region.now) store) }
     {
-        let log = CoreLog::open(alloc, layout, 0, Vec::new(alloc))?;
-        let free = falling(alloc, layout.chunks())?;
+        let cells = Cells::of(alloc, newest, values)?;
+        let free = free_chunks(alloc, region, &layout)?;
         let batch = WordBuffer::with_room(alloc, LONGEST_ENTRY)?;
         Ok(Store {
             log,
-            cells: Cells::new(alloc),
+            cells,
             free,
             batch,
         })
@@ -206,15 +227,31 @@ pub fn lines_needed(value: &[u8]) -> u64
     (2 + (value.len() as u64 + 7) / 8 + 7) / 8
 }
 
-// The numbers below a count, the greatest first.
-fn falling(alloc: Global, count: u32) -> Result<Vec<u32>, Memory>
-    requires { count ≤ 64 }
-    ensures few { IfOk result (λ v. length v.items ≡ count) }
-    ensures at { IfOk result (λ v. (i : ℕ) → i < count → slice_index v.items i + i + 1 ≡ count) }
+// Whether the head of a chunk of the one part says Free.
+fn has_free_head<R: Region>(region: &R, layout: &Layout, chunk: u32) -> bool
+    requires head { HeadLies (R.state region.now).frame (chunk_first layout.now 0 chunk) }
+    ensures { IsTelling (R.state region.now) → result ≡ is_free (head_at layout.now (lasts (R.state region.now)) (chunk_first layout.now 0 chunk)) }
 {
+    match read_head(region, layout, layout.chunk_first(0, chunk)) {
+        Ok(Head::Free) => true,
+        _ => false,
+    }
+}
+
+// The free chunks of the one part, the greatest first.
+fn free_chunks<R: Region>(alloc: Global, region: &R, layout: &Layout) -> Result<Vec<u32>, Memory>
+    requires heads { HeadsLie (R.state region.now) layout.now }
+    requires chunks { layout.now.chunks ≤ 64 }
+    ensures falling { IfOk result (λ v. IsFalling layout.now.chunks v.items) }
+    ensures free { IfOk result (λ v. IsTelling (R.state region.now) → v.items ≡ free_below layout.now (lasts (R.state region.now)) layout.now.chunks) }
+{
+    let count = layout.chunks();
     let mut numbers = Vec::with_capacity(alloc, count as usize)?;
     for i in 0..count {
-        numbers.push(count - 1 - i)?;
+        let chunk = count - 1 - i;
+        if has_free_head(region, layout, chunk) {
+            numbers.push(chunk)?;
+        }
     }
     Ok(numbers)
 }

@@ -16,7 +16,7 @@ returns-clause-going c = λ s ready.
     let A = nothing_answered (cell_of e.cells) s.stamp in
     going_by s s (cell_of e.cells) [] [] none (record { store = e; answers = c.new.result; stopped = false }) c.new.ensures.replies (λ i. told (c.new.ensures.finishes i) (c.new.ensures.refusals i))
     (recorded (cell_of e.cells) [] [] none s.stamp (cell_of e.cells) A)
-    (images_at_start s (cell_of e.cells) (λ telling image may. shown_holds s.frame.bytes e.log.layout (cell_of e.cells) (last_of e.cells) image ready.one (ready.shows telling image may)))
+    (images_at_start s (cell_of e.cells) (λ telling image may. shown_holds s.frame.bytes e.log.layout (cell_of e.cells) (last_of e.cells) image (ready.shows telling image may)))
     (λ going. A)
 
 pub returns-clause-stock : goal.returns-clause-stock
