@@ -16,12 +16,9 @@ use Rattle.serial_engine.specs.Answers.{told_by}
 use Rattle.serial_engine.specs.Cells.{cell_of}
 use Rattle.serial_engine.specs.Moments.{EachImage}
 use Rattle.serial_engine.specs.Going.{Going, IsReady, RecoversSoFar, AnswersSome}
-use Rattle.serial_engine.specs.Stock.{Stocked, stock_of, StocksSome, refusals_from}
-use Rattle.serial_engine.specs.Stock.{IsUnused}
-use Rattle.serial_engine.specs.declared.store.Store.{Store}
+use Rattle.serial_engine.specs.Stock.{Stock, Stocked, StocksSome, refusals_from}
 use Rattle.serial_engine.proofs.Steps.{shown_holds}
-use Rattle.flatstore.specs.Fresh.{fresh_lines, fresh_stock}
-use Rattle.flatstore.specs.Played.{no_cells, HasAnswered}
+use Rattle.flatstore.specs.Played.{HasAnswered}
 
 -- Requests behind may all be answered Stopped.
 pub all_stop : (start : ℕ → Option (List ℕ)) (done : List Request) (replies : List Reply) (r : Told) (rest : List Request) → Recorded start done replies r → (more : List Reply) × Recorded start (done ++ rest) (replies ++ more) r
@@ -34,37 +31,37 @@ all_stop start done replies r (q ∷ rest) R =
     )
 
 -- all requests were answered
-pub answered_all : (s t : State) (qs : List Request) (e : Run) → Going s t no_cells qs e → IsReady t e → (e.stopped ≡ true → Rose s.faults t.faults)
-    → Stocked fresh_lines fresh_stock qs e → HasAnswered s t qs (record { answers = e.answers; stopped = e.stopped; complete = true })
-answered_all s t qs e g ready cause stocked = record {
+pub answered_all : (s t : State) (start : ℕ → Option (List ℕ)) (lines : ℕ) (begin : Stock) (qs : List Request) (e : Run) → Going s t start qs e → IsReady t e → (e.stopped ≡ true → Rose s.faults t.faults)
+    → Stocked lines begin qs e → HasAnswered s t start lines begin qs (record { answers = e.answers; stopped = e.stopped; complete = true })
+answered_all s t start lines begin qs e g ready cause stocked = record {
   images = g.images;
-  lawful = ([], subst (λ rs. Recorded no_cells qs rs (told_by e.answers)) (sym (append-nil e.answers.replies.items)) g.recorded);
+  lawful = ([], subst (λ rs. Recorded start qs rs (told_by e.answers)) (sym (append-nil e.answers.replies.items)) g.recorded);
   whole = λ done. g.recorded;
   all = λ done going telling image may k.
       let R = ready going in
       let A = g.answered going in
-      let held = shown_holds t.frame.bytes e.store.log.layout (cell_of e.store.cells) _ image R.one (R.shows telling image may) in
-      held.cells k ∙ sym (A.left k) ∙ ap (λ l. cell_after_all l None) (sym (ap (λ l. finished_changes k qs (finished_in (told_by e.answers)) ++ l) (A.settled k) ∙ append-nil (finished_changes k qs (finished_in (told_by e.answers)))));
+      let held = shown_holds t.frame.bytes e.store.log.layout (cell_of e.store.cells) _ image (R.shows telling image may) in
+      held.cells k ∙ sym (A.left k) ∙ ap (λ l. cell_after_all l (start k)) (sym (ap (λ l. finished_changes k qs (finished_in (told_by e.answers)) ++ l) (A.settled k) ∙ append-nil (finished_changes k qs (finished_in (told_by e.answers)))));
   cause = cause;
-  steady = λ done going. none_stopped no_cells qs e.answers.replies.items (told_by e.answers) t.stamp (cell_of e.store.cells) (g.answered going);
+  steady = λ done going. none_stopped start qs e.answers.replies.items (told_by e.answers) t.stamp (cell_of e.store.cells) (g.answered going);
   refused = stocked.told;
   refused_all = λ done going. (stocked.going going).1;
 }
 
 -- Memory ran out on the way.
-pub answered_some : (s t : State) (qs : List Request) (e0 e : Run) → AnswersSome s t e0 e qs → Going s s no_cells [] e0 → (e.stopped ≡ true → Rose s.faults t.faults)
-    → (front : List Request) × (rest : List Request) × (qs ≡ front ++ rest) × (e.answers.refusals.items ≡ refusals_from fresh_lines 0 fresh_stock front)
-    → HasAnswered s t qs (record { answers = e.answers; stopped = e.stopped; complete = false })
-answered_some s t qs e0 e some g0 cause refused =
-    let g = some.answers s no_cells [] g0 in
+pub answered_some : (s t : State) (start : ℕ → Option (List ℕ)) (lines : ℕ) (begin : Stock) (qs : List Request) (e0 e : Run) → AnswersSome s t e0 e qs → Going s s start [] e0 → (e.stopped ≡ true → Rose s.faults t.faults)
+    → (front : List Request) × (rest : List Request) × (qs ≡ front ++ rest) × (e.answers.refusals.items ≡ refusals_from lines 0 begin front)
+    → HasAnswered s t start lines begin qs (record { answers = e.answers; stopped = e.stopped; complete = false })
+answered_some s t start lines begin qs e0 e some g0 cause refused =
+    let g = some.answers s start [] g0 in
     let all : qs ≡ some.front ++ some.rest = some.all in
-    let stops = all_stop no_cells some.front e.answers.replies.items (told_by e.answers) some.rest g.recorded in
+    let stops = all_stop start some.front e.answers.replies.items (told_by e.answers) some.rest g.recorded in
     record {
-      images = subst (λ xs. RecoversSoFar s t no_cells xs (told_by e.answers)) (sym all)
-          (over_weaken s t (λ n cells. EachImage s.frame (Recovers s.frame.bytes no_cells some.front (told_by e.answers) (λ k. finished_by k some.front (told_by e.answers).finishes n)) cells)
-          (λ n cells. EachImage s.frame (Recovers s.frame.bytes no_cells (some.front ++ some.rest) (told_by e.answers) (λ k. finished_by k (some.front ++ some.rest) (told_by e.answers).finishes n)) cells)
-          (λ n telling told le each image may. recovers_grow s.frame.bytes no_cells some.front some.rest e.answers.replies.items (told_by e.answers) n image g.recorded (each image may)) g.images);
-      lawful = (stops.0, subst (λ xs. Recorded no_cells xs (e.answers.replies.items ++ stops.0) (told_by e.answers)) (sym all) stops.1);
+      images = subst (λ xs. RecoversSoFar s t start xs (told_by e.answers)) (sym all)
+          (over_weaken s t (λ n cells. EachImage s.frame (Recovers s.frame.bytes start some.front (told_by e.answers) (λ k. finished_by k some.front (told_by e.answers).finishes n)) cells)
+          (λ n cells. EachImage s.frame (Recovers s.frame.bytes start (some.front ++ some.rest) (told_by e.answers) (λ k. finished_by k (some.front ++ some.rest) (told_by e.answers).finishes n)) cells)
+          (λ n telling told le each image may. recovers_grow s.frame.bytes start some.front some.rest e.answers.replies.items (told_by e.answers) n image g.recorded (each image may)) g.images);
+      lawful = (stops.0, subst (λ xs. Recorded start xs (e.answers.replies.items ++ stops.0) (told_by e.answers)) (sym all) stops.1);
       whole = λ done. absurd (false_true done);
       all = λ done. absurd (false_true done);
       cause = cause;
@@ -75,11 +72,7 @@ answered_some s t qs e0 e some g0 cause refused =
       false_true : false ≡ true → ⊥
       false_true q = cc q
 
--- The stock of an unused store of four chunks.
-pub unused_stock : (e : Store) → IsUnused e 4 → stock_of e ≡ fresh_stock
-unused_stock e u = (λ i. record { free = u.free i; room = u.room i; lasts = λ k. u.lasts k i })
-
-pub some_refused : (qs : List Request) (e0 e : Run) → StocksSome e0 e qs → Stocked fresh_lines fresh_stock [] e0 → (front : List Request) × (rest : List Request) × (qs ≡ front ++ rest) × (e.answers.refusals.items ≡ refusals_from fresh_lines 0 fresh_stock front)
-some_refused qs e0 e some S0 =
-    let S = some.stocks fresh_lines fresh_stock [] S0 in
+pub some_refused : (lines : ℕ) (begin : Stock) (qs : List Request) (e0 e : Run) → StocksSome e0 e qs → Stocked lines begin [] e0 → (front : List Request) × (rest : List Request) × (qs ≡ front ++ rest) × (e.answers.refusals.items ≡ refusals_from lines 0 begin front)
+some_refused lines begin qs e0 e some S0 =
+    let S = some.stocks lines begin [] S0 in
     (S.told.0, S.told.1 ++ some.rest, some.all ∙ ap (λ xs. xs ++ some.rest) S.told.2 ∙ append_assoc S.told.0 S.told.1 some.rest, S.told.3)

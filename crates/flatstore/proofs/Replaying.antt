@@ -1,5 +1,5 @@
 -- From what a replay did to what the program promises.
-use Rattle.std.proofs.Common.{◌≡◌, ◌⊎◌, inl, inr, ℕ, ◌≤◌, List, [], ◌∷◌, ◌++◌, refl, sym, ◌∙◌, ap, subst, arith, true, false, Bool, Option, Some, None, append-nil}
+use Rattle.std.proofs.Common.{◌≡◌, ◌⊎◌, inl, inr, ℕ, ◌/◌, ◌<◌, ◌≤◌, ◌==◌, cond, List, [], ◌∷◌, ◌++◌, refl, sym, ◌∙◌, ap, subst, arith, true, false, Bool, Option, Some, None, append-nil, take, ◌+◌}
 use Rattle.std.specs.List.{AllByRecursion}
 use Rattle.pm_region.specs.State.{State, Frame, IsTelling, MayLeave, Rose}
 use Rattle.pm_region.specs.Split.{Attached}
@@ -11,25 +11,32 @@ use Rattle.fs_text.specs.Stages.{input_or_stop}
 use Rattle.fs_text.specs.Streams.{Takes, TakesPrefix}
 use Rattle.fs_text.specs.Output.{replies_text}
 use Rattle.fs_model.specs.Lawful.{is_stopped}
-use Rattle.chunk_map.specs.Layouts.{layout_of, owner}
+use Rattle.pm_region.specs.Words.{lasts}
+use Rattle.chunk_map.specs.Layouts.{IsLayout, layout_of, superblock_rule, owner}
+use Rattle.store_image.specs.Soundness.{IsSound, first_fault}
+use Rattle.store_image.proofs.Agree.{cells_agree}
+use Rattle.store_image.proofs.Places.{superblock_facts}
+use Rattle.store_image.proofs.SoundLaws.{has_layout}
+use Rattle.std.proofs.lemmas.Bool.{eq-eqb}
 use Rattle.headline.specs.Ample.{IsAmpleFor}
-use Rattle.headline.specs.Limits.{IsAsked}
+use Rattle.headline.specs.Limits.{IsAsked, version_of, changes_asked}
 use Rattle.headline.specs.Headline.{Answers, Told, cells_of, Recovers, RecoversThroughout, changes_in}
 use Rattle.headline.specs.Run.{Recorded}
 use Rattle.serial_engine.specs.Answers.{told_by}
 use Rattle.serial_engine.specs.Stock.{refusals_from, is_full}
+use Rattle.serial_engine.specs.declared.answers.Shortage.TheVariants.{Versions}
 use Rattle.serial_engine.specs.declared.answers.Refusal.{Refusal}
 use Rattle.serial_engine.specs.Going.{IsServed}
-use Rattle.flatstore.specs.Fresh.{IsFresh, fresh_layout, fresh_lines, fresh_stock}
-use Rattle.flatstore.specs.Promise.{IsInput, WritesAll, WritesFront, Replays, IsDue, IsFault, built_now, status_of, told_in}
-use Rattle.flatstore.specs.Played.{no_cells, HasAnswered, Played, HasWritten}
+use Rattle.flatstore.specs.Found.{lines_found, stock_found}
+use Rattle.flatstore.specs.Promise.{IsInput, WritesAll, WritesFront, Replays, due, IsDue, IsFault, built_now, status_of, told_in}
+use Rattle.flatstore.specs.Played.{HasAnswered, Played, HasWritten}
 use Rattle.flatstore.specs.declared.replay.Ended.{Ended}
 use Rattle.flatstore.specs.declared.report.Status.{Status}
 use Rattle.flatstore.specs.declared.report.Status.TheVariants as statuses
 use Rattle.flatstore.specs.declared.report.Report.{Report}
 use Rattle.flatstore.proofs.Inputs.{read_trace, read_served}
-use Rattle.flatstore.proofs.Attached.{found_fresh, fresh_is_empty, fresh_no_cells}
-use Rattle.flatstore.proofs.Roomy.{full_of, unrefused_of}
+use Rattle.flatstore.proofs.Attached.{found_fresh, fresh_is_empty, fresh_P.start}
+use Rattle.flatstore.proofs.Roomy.{full_of, spent_of, unrefused_of}
 
 takes_nothing : (x : Option (List ℕ)) → Takes x x []
 takes_nothing None = tt
@@ -71,23 +78,43 @@ apart s e (inr (inr f)) = cc (sym e ∙ f)
 -- A replay that answered its requests, and what was written of it.
 module _ (old s t : State) (found : ℕ → ℕ) (A : Attached old s s.frame.bytes found) (coming before now : Option (List ℕ)) (faults faults' : ℕ) (e : Ended) (status : Status)
     (P : Played s t coming e) (W : HasWritten e before now faults faults' status) (r : Report) (report_status : r.status ≡ status) (report_told : told_in r ≡ told_by e.answers) (report_refused : r.refusals.items ≡ e.answers.refusals.items) (report_complete : r.complete ≡ e.complete) (low : old.faults ≤ s.faults) where
-  H : HasAnswered s t P.trace e
+  H : HasAnswered s t P.start P.lines P.begin P.trace e
   H = P.answered
 
   telling_then : IsTelling t → IsTelling s
   telling_then telling = H.images.was t.stamp telling (H.images.later)
 
-  start_is : IsTelling s → no_cells ≡ cells_of found
-  start_is telling = fresh_no_cells s.frame.bytes found (found_fresh old s found A telling (P.fresh telling))
+  sound_found : IsTelling s → IsSound s.frame.bytes found
+  sound_found telling = sym (found_fault old s found A telling) ∙ P.sound telling
+
+  words_found : IsTelling s → (w : ℕ) → w < s.frame.bytes / 8 → lasts s w ≡ found w
+  words_found telling = found_words old s found A (sound_small old s found A (sound_found telling)) telling
+
+  rule_found : IsTelling s → superblock_rule s.frame.bytes found ≡ None
+  rule_found telling = has_layout s.frame.bytes found (sound_found telling)
+
+  one_found : IsTelling s → found 2 ≡ 1
+  one_found telling = let low = (superblock_facts s.frame.bytes found (rule_found telling)).0 in sym (words_found telling 2 (omega (arith, low))) ∙ P.one telling
+
+  start_is : IsTelling s → P.start ≡ cells_of found
+  start_is telling = P.start_is telling ∙ (λ i k. cells_agree s.frame.bytes (lasts s) found (words_found telling) (rule_found telling) k i)
+
+  lines_is : IsTelling s → P.lines ≡ lines_found found
+  lines_is telling = P.lines_are telling ∙ lines_agree s.frame.bytes (lasts s) found (words_found telling) (rule_found telling)
+
+  begin_is : IsTelling s → P.begin ≡ stock_found found
+  begin_is telling = P.begin_is telling ∙ stock_agrees s.frame.bytes (lasts s) found (words_found telling) (rule_found telling)
 
   trace_is : IsTelling s → P.trace ≡ trace_of (found 2) P.read.input
-  trace_is telling =
-      let one : found 2 ≡ 1 = (found_fresh old s found A telling (P.fresh telling)).words 2 (omega arith) in
-      P.read.asked ∙ sym (read_trace 1 P.read.input P.read.lines P.read.good) ∙ ap (λ c. trace_of c P.read.input) (sym one)
+  trace_is telling = P.read.asked ∙ sym (read_trace 1 P.read.input P.read.lines P.read.good) ∙ ap (λ c. trace_of c P.read.input) (sym (one_found telling))
 
   -- in the words of what was found
-  as_found : (Q : (ℕ → Option (List ℕ)) → List Request → Told → Type 0) → IsTelling s → Q no_cells P.trace (told_by e.answers) → Q (cells_of found) (trace_of (found 2) P.read.input) (told_in r)
+  as_found : (Q : (ℕ → Option (List ℕ)) → List Request → Told → Type 0) → IsTelling s → Q P.start P.trace (told_by e.answers) → Q (cells_of found) (trace_of (found 2) P.read.input) (told_in r)
   as_found Q telling h = subst (Q (cells_of found) (trace_of (found 2) P.read.input)) (sym report_told) (subst (λ xs. Q (cells_of found) xs (told_by e.answers)) (trace_is telling) (subst (λ f. Q f P.trace (told_by e.answers)) (start_is telling) h))
+
+  -- the refusals, by what was found
+  refused_is : IsTelling s → (front : List Request) → e.answers.refusals.items ≡ refusals_from P.lines 0 P.begin front → r.refusals.items ≡ refusals_from (lines_found found) 0 (stock_found found) front
+  refused_is telling front is = report_refused ∙ is ∙ (λ i. refusals_from (lines_is telling i) 0 (begin_is telling i) front)
 
   abbrev replies : List Reply
   replies = e.answers.replies.items
@@ -111,19 +138,19 @@ module _ (old s t : State) (found : ℕ → ℕ) (A : Attached old s s.frame.byt
     both b p q = cc (sym p ∙ q)
 
   abbrev Front : Type 0
-  Front = WritesFront no_cells P.trace (told_by e.answers) FrontMayStop before now
+  Front = WritesFront P.start P.trace (told_by e.answers) FrontMayStop before now
 
   front_of : e.complete ≡ true → TakesPrefix before now (replies_text replies) → Front
-  front_of done = front_text no_cells P.trace (told_by e.answers) FrontMayStop replies (H.whole done) (whole_may done) before now
+  front_of done = front_text P.start P.trace (told_by e.answers) FrontMayStop replies (H.whole done) (whole_may done) before now
 
   whole_of : e.complete ≡ true → Takes before now (replies_text replies) → Front
-  whole_of done = whole_front no_cells P.trace (told_by e.answers) FrontMayStop replies (H.whole done) (whole_may done) before now
+  whole_of done = whole_front P.start P.trace (told_by e.answers) FrontMayStop replies (H.whole done) (whole_may done) before now
 
   none_of : now ≡ before → Front
   none_of same = by_end e.complete refl where
     by_end : (b : Bool) → e.complete ≡ b → Front
-    by_end true done = no_text no_cells P.trace (told_by e.answers) FrontMayStop replies (H.whole done) (whole_may done) before now same
-    by_end false cut = no_text no_cells P.trace (told_by e.answers) FrontMayStop (replies ++ H.lawful.0) H.lawful.1 (may_all FrontMayStop (replies ++ H.lawful.0) (cut_may cut)) before now same
+    by_end true done = no_text P.start P.trace (told_by e.answers) FrontMayStop replies (H.whole done) (whole_may done) before now same
+    by_end false cut = no_text P.start P.trace (told_by e.answers) FrontMayStop (replies ++ H.lawful.0) H.lawful.1 (may_all FrontMayStop (replies ++ H.lawful.0) (cut_may cut)) before now same
 
   begun : HasWritten e before now faults faults' status → Front
   begun (inl w) = whole_of w.1 w.3
@@ -131,10 +158,10 @@ module _ (old s t : State) (found : ℕ → ℕ) (A : Attached old s s.frame.byt
   begun (inr (inr (inl w))) = front_of w.1 w.3
   begun (inr (inr (inr w))) = elim w.1 [ inl some ↦ front_of some.0 some.1 | inr same ↦ none_of same ]
 
-  text_of : (MayStop : Type 0) → e.complete ≡ true → AllByRecursion (λ x. is_stopped x ≡ true → MayStop) replies → Takes before now (replies_text replies) → WritesAll no_cells P.trace (told_by e.answers) MayStop before now
-  text_of MayStop done S = all_text no_cells P.trace (told_by e.answers) MayStop replies (H.whole done) S before now
+  text_of : (MayStop : Type 0) → e.complete ≡ true → AllByRecursion (λ x. is_stopped x ≡ true → MayStop) replies → Takes before now (replies_text replies) → WritesAll P.start P.trace (told_by e.answers) MayStop before now
+  text_of MayStop done S = all_text P.start P.trace (told_by e.answers) MayStop replies (H.whole done) S before now
 
-  written : HasWritten e before now faults faults' status → status ≡ statuses.Done → WritesAll no_cells P.trace (told_by e.answers) ⊥ before now
+  written : HasWritten e before now faults faults' status → status ≡ statuses.Done → WritesAll P.start P.trace (told_by e.answers) ⊥ before now
   written (inl w) done = text_of ⊥ w.1 (never_stopped ⊥ replies (H.steady w.1 w.2)) w.3
   written (inr (inl w)) done = apart status done (inl w.0)
   written (inr (inr (inl w))) done = apart status done (inr (inl w.0))
@@ -145,7 +172,7 @@ module _ (old s t : State) (found : ℕ → ℕ) (A : Attached old s s.frame.byt
   fault_apart f (inr (inl d)) = cc (sym f ∙ d)
   fault_apart f (inr (inr d)) = cc (sym f ∙ d)
 
-  written_failed : HasWritten e before now faults faults' status → status ≡ statuses.RegionFault → (Rose faults faults' → ⊥) → WritesAll no_cells P.trace (told_by e.answers) (Rose old.faults t.faults) before now
+  written_failed : HasWritten e before now faults faults' status → status ≡ statuses.RegionFault → (Rose faults faults' → ⊥) → WritesAll P.start P.trace (told_by e.answers) (Rose old.faults t.faults) before now
   written_failed (inl w) failed steady = fault_apart failed (inl w.0)
   written_failed (inr (inl w)) failed steady = elim w.3 [
     | inl all ↦ text_of (Rose old.faults t.faults) w.1 (may_all (Rose old.faults t.faults) replies (risen w.2)) all
@@ -166,19 +193,25 @@ module _ (old s t : State) (found : ℕ → ℕ) (A : Attached old s s.frame.byt
       let telling : IsTelling s = H.images.was n told (omega (arith, stamp)) in
       let here : MayLeave s.frame (t.cells n) image = subst (λ f. MayLeave f (t.cells n) image) H.images.frame may in
       as_found (λ start trace x. Recovers t.frame.bytes start trace x (λ k. finished_by k trace x.finishes n) image) telling
-      (subst (λ (f : Frame). Recovers f.bytes no_cells P.trace (told_by e.answers) (λ k. finished_by k P.trace (told_by e.answers).finishes n) image) (sym H.images.frame) (H.images.each n told (omega (arith, stamp)) image here))
+      (subst (λ (f : Frame). Recovers f.bytes P.start P.trace (told_by e.answers) (λ k. finished_by k P.trace (told_by e.answers).finishes n) image) (sym H.images.frame) (H.images.each n told (omega (arith, stamp)) image here))
 
   abbrev trace : List Request
   trace = trace_of (found 2) P.read.input
 
-  judged_all : e.complete ≡ true → e.stopped ≡ false → IsTelling t → r.refusals.items ≡ refusals_from fresh_lines 0 fresh_stock trace
-  judged_all done going telling = report_refused ∙ H.refused_all done going ∙ ap (λ xs. refusals_from fresh_lines 0 fresh_stock xs) (trace_is (telling_then telling))
+  judged_all : e.complete ≡ true → e.stopped ≡ false → IsTelling t → r.refusals.items ≡ refusals_from (lines_found found) 0 (stock_found found) trace
+  judged_all done going telling = refused_is (telling_then telling) P.trace (H.refused_all done going) ∙ ap (λ xs. refusals_from (lines_found found) 0 (stock_found found) xs) (trace_is (telling_then telling))
 
-  layout_is : IsTelling t → layout_of found ≡ fresh_layout
-  layout_is telling = (fresh_is_empty s.frame.bytes found (found_fresh old s found A (telling_then telling) (P.fresh (telling_then telling)))).superblock.layout
+  layout_kept : IsTelling t → IsLayout (layout_of found)
+  layout_kept telling = (superblock_facts s.frame.bytes found (rule_found (telling_then telling))).1
 
   served_all : IsTelling t → AllByRecursion IsServed trace
   served_all telling = subst (AllByRecursion IsServed) (trace_is (telling_then telling)) (subst (AllByRecursion IsServed) (sym P.read.asked) (read_served 1 P.read.input P.read.lines P.read.good))
+
+  front_of_trace : IsTelling t → trace ≡ H.refused.0 ++ H.refused.1
+  front_of_trace telling = sym (trace_is (telling_then telling)) ∙ H.refused.2
+
+  front_refused : IsTelling t → r.refusals.items ≡ refusals_from (lines_found found) 0 (stock_found found) H.refused.0
+  front_refused telling = refused_is (telling_then telling) H.refused.0 H.refused.3
 
   pub played_replays : Replays old t found P.read.input before now faults faults' r
   played_replays = record {
@@ -189,26 +222,29 @@ module _ (old s t : State) (found : ℕ → ℕ) (A : Attached old s s.frame.byt
     last = λ done telling image may k small.
         let c = complete W (sym report_status ∙ done) in
         as_found (λ start trace x. cells_of image k ≡ cell_after_all (changes_in start trace x k) (start k)) (telling_then telling) (H.all c.0 c.1 telling image may k);
-    refused = λ telling. subst (λ xs. (front : List Request) × (rest : List Request) × (xs ≡ front ++ rest) × (r.refusals.items ≡ refusals_from fresh_lines 0 fresh_stock front)) (trace_is (telling_then telling))
-        (H.refused.0, H.refused.1, H.refused.2, report_refused ∙ H.refused.3);
+    refused = λ telling. (H.refused.0, H.refused.1, front_of_trace telling, front_refused telling);
     refused_all = λ done telling.
         let c = complete W (sym report_status ∙ done) in
         judged_all c.0 c.1 telling;
     ended = λ complete telling. by_end complete telling e.stopped refl;
     full = λ telling. subst (λ xs. AllByRecursion (λ (x : Refusal). is_full x.why ≡ true → (k : ℕ) → IsAsked trace x.request k → IsAmpleFor (layout_of found) found trace (owner (layout_of found) k) → ⊥) xs)
-        (sym (report_refused ∙ H.refused.3)) (full_of found (layout_is telling) trace (served_all telling) H.refused.0 H.refused.1 (sym (trace_is (telling_then telling)) ∙ H.refused.2));
-    unrefused = λ telling within. report_refused ∙ H.refused.3 ∙ unrefused_of found (layout_is telling) trace (served_all telling) H.refused.0 H.refused.1 (sym (trace_is (telling_then telling)) ∙ H.refused.2) within;
+        (sym (front_refused telling)) (full_of found (layout_kept telling) (one_found (telling_then telling)) trace (served_all telling) H.refused.0 H.refused.1 (front_of_trace telling));
+    spent = λ telling. subst (λ xs. AllByRecursion (λ (x : Refusal). (last : ℕ) → x.why ≡ Versions last → (k : ℕ) → IsAsked trace x.request k → 1048574 ≤ version_of found k + changes_asked k (take x.request trace)) xs)
+        (sym (front_refused telling)) (spent_of found (layout_kept telling) (one_found (telling_then telling)) trace (served_all telling) H.refused.0 H.refused.1 (front_of_trace telling));
+    unrefused = λ telling within. front_refused telling ∙ unrefused_of found (layout_kept telling) (one_found (telling_then telling)) trace (served_all telling) H.refused.0 H.refused.1 (front_of_trace telling) within;
   } where
-    by_end : r.complete ≡ true → IsTelling t → (b : Bool) → e.stopped ≡ b → (r.refusals.items ≡ refusals_from fresh_lines 0 fresh_stock trace) ⊎ Rose old.faults t.faults
+    by_end : r.complete ≡ true → IsTelling t → (b : Bool) → e.stopped ≡ b → (r.refusals.items ≡ refusals_from (lines_found found) 0 (stock_found found) trace) ⊎ Rose old.faults t.faults
     by_end complete telling true stopped = inr (risen stopped)
     by_end complete telling false going = inl (judged_all (sym report_complete ∙ complete) going telling)
 
   -- the status that is due
   due_of : HasWritten e before now faults faults' status → (source source' : ℕ) (input : List ℕ) → coming ≡ Some input → IsTelling t → old.faults ≤ s.faults → IsDue t.frame.bytes found input status ⊎ IsFault old t source source' faults faults' status
   due_of (inl w) source source' input is telling low =
-      let fresh = found_fresh old s found A (telling_then telling) (P.fresh (telling_then telling)) in
       let same : P.read.input ≡ input = input_is coming P.read.input P.read.is_input input is in
-      inl (inr (subst (λ (f : Frame). IsFresh f.bytes found) (sym H.images.frame) fresh, w.0 ∙ sym (ap (λ i. status_of (input_or_stop built_now 1 i)) (sym same) ∙ ap status_of P.read.good)))
+      let sound : first_fault t.frame.bytes found ≡ None = subst (λ (f : Frame). first_fault f.bytes found ≡ None) (sym H.images.frame) (sound_found (telling_then telling)) in
+      let core = eq-eqb (found 2) 1 (one_found (telling_then telling)) in
+      inl (w.0 ∙ sym (ap (due found input) sound ∙ ap (λ b. cond b (status_of (input_or_stop built_now 1 input)) (statuses.NotBuilt 0)) core
+      ∙ ap (λ i. status_of (input_or_stop built_now 1 i)) (sym same) ∙ ap status_of P.read.good))
     where
       input_is : (c : Option (List ℕ)) (i : List ℕ) → IsInput c i → (j : List ℕ) → c ≡ Some j → i ≡ j
       input_is None i h j e = cc e

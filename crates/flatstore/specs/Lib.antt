@@ -1,6 +1,6 @@
 pub mod Commands
 pub mod Statuses
-pub mod Fresh
+pub mod Found
 pub mod Promise
 pub mod Reads
 pub mod Played

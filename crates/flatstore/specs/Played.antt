@@ -1,5 +1,5 @@
 -- What a replay did between attaching and writing.
-use Rattle.std.specs.Prelude.{◌≡◌, ◌⊎◌, ℕ, List, ◌++◌, true, false, Option, None}
+use Rattle.std.specs.Prelude.{◌≡◌, ◌⊎◌, ℕ, List, ◌++◌, true, false, Option, Some, None}
 use Rattle.fs_model.specs.declared.model.Request.{Request}
 use Rattle.fs_model.specs.declared.model.Reply.{Reply}
 use Rattle.std.specs.List.{AllByRecursion}
@@ -12,8 +12,14 @@ use Rattle.headline.specs.Run.{Recorded}
 use Rattle.serial_engine.specs.Moments.{EachImage}
 use Rattle.serial_engine.specs.Answers.{told_by}
 use Rattle.serial_engine.specs.Going.{RecoversSoFar}
-use Rattle.serial_engine.specs.Stock.{refusals_from}
-use Rattle.flatstore.specs.Fresh.{IsFresh, fresh_lines, fresh_stock}
+use Rattle.serial_engine.specs.Stock.{Stock, refusals_from}
+use Rattle.chunk_map.specs.Layouts.{payload_lines}
+use Rattle.store_image.specs.declared.types.Fault.{Fault}
+use Rattle.store_image.specs.Soundness.{first_fault}
+use Rattle.recover.specs.declared.types.Recovered.{Recovered}
+use Rattle.recover.specs.Recovering.{IsMade, IsFound, AllStand}
+use Rattle.flatstore.specs.Found.{lines_found, stock_found}
+use Rattle.flatstore.specs.Promise.{fault_status}
 use Rattle.fs_text.specs.Streams.{Takes, TakesPrefix}
 use Rattle.fs_text.specs.Output.{replies_text}
 use Rattle.flatstore.specs.Reads.{IsRead, IsUnread}
@@ -21,36 +27,50 @@ use Rattle.flatstore.specs.declared.report.Status.{Status}
 use Rattle.flatstore.specs.declared.report.Status.TheVariants as statuses
 use Rattle.flatstore.specs.declared.replay.Ended.{Ended}
 
--- no key has a value
-abbrev pub no_cells : ℕ → Option (List ℕ)
-no_cells k = None
+-- What was recovered of a region of one core.
+pub record IsOpened (s : State) (r : Recovered) : Type 0 where
+  pub made : IsMade s.frame.bytes r
+  pub one : r.layout.cores ≡ 1
+  pub found : IsTelling s → IsFound s.frame.bytes (lasts s) r
+  pub stands : AllStand s r
 
--- What answering these requests did, from an empty store.
-pub record HasAnswered (s t : State) (trace : List Request) (e : Ended) : Type 0 where
-  pub images : RecoversSoFar s t no_cells trace (told_by e.answers)
-  pub lawful : (more : List Reply) × Recorded no_cells trace (e.answers.replies.items ++ more) (told_by e.answers)
-  pub whole : e.complete ≡ true → Recorded no_cells trace e.answers.replies.items (told_by e.answers)
+-- What answering these requests did, from these cells and this stock.
+pub record HasAnswered (s t : State) (start : ℕ → Option (List ℕ)) (lines : ℕ) (begin : Stock) (trace : List Request) (e : Ended) : Type 0 where
+  pub images : RecoversSoFar s t start trace (told_by e.answers)
+  pub lawful : (more : List Reply) × Recorded start trace (e.answers.replies.items ++ more) (told_by e.answers)
+  pub whole : e.complete ≡ true → Recorded start trace e.answers.replies.items (told_by e.answers)
   pub all : e.complete ≡ true → e.stopped ≡ false → IsTelling t
-      → EachImage t.frame (λ image. (k : ℕ) → cells_of image k ≡ cell_after_all (changes_in no_cells trace (told_by e.answers) k) None) (cell_now t)
+      → EachImage t.frame (λ image. (k : ℕ) → cells_of image k ≡ cell_after_all (changes_in start trace (told_by e.answers) k) (start k)) (cell_now t)
   pub cause : e.stopped ≡ true → Rose s.faults t.faults
   pub steady : e.complete ≡ true → e.stopped ≡ false → AllByRecursion (λ x. is_stopped x ≡ false) e.answers.replies.items
   -- the refusals are those of the requests up to the one at which it stopped
-  pub refused : (front : List Request) × (rest : List Request) × (trace ≡ front ++ rest) × (e.answers.refusals.items ≡ refusals_from fresh_lines 0 fresh_stock front)
-  pub refused_all : e.complete ≡ true → e.stopped ≡ false → e.answers.refusals.items ≡ refusals_from fresh_lines 0 fresh_stock trace
+  pub refused : (front : List Request) × (rest : List Request) × (trace ≡ front ++ rest) × (e.answers.refusals.items ≡ refusals_from lines 0 begin front)
+  pub refused_all : e.complete ≡ true → e.stopped ≡ false → e.answers.refusals.items ≡ refusals_from lines 0 begin trace
 
 -- and of a whole replay
 pub record Played (s t : State) (coming : Option (List ℕ)) (e : Ended) : Type 0 where
-  pub fresh_bytes : s.frame.bytes ≡ 20480
-  pub fresh : IsTelling s → IsFresh s.frame.bytes (lasts s)
+  pub start : ℕ → Option (List ℕ)
+  pub lines : ℕ
+  pub begin : Stock
+  pub sound : IsTelling s → first_fault s.frame.bytes (lasts s) ≡ None
+  pub one : IsTelling s → lasts s 2 ≡ 1
+  pub start_is : IsTelling s → start ≡ cells_of (lasts s)
+  pub lines_are : IsTelling s → lines ≡ lines_found (lasts s)
+  pub begin_is : IsTelling s → begin ≡ stock_found (lasts s)
   pub trace : List Request
   pub read : IsRead coming trace
-  pub answered : HasAnswered s t trace e
+  pub answered : HasAnswered s t start lines begin trace e
+
+-- Why a region is not served: it breaks a rule, or it has several cores.
+abbrev pub IsUnserved : State → Status → Type 0
+IsUnserved s status =
+    ((fault : Fault) × (status ≡ fault_status fault) × (IsTelling s → first_fault s.frame.bytes (lasts s) ≡ Some fault))
+    ⊎ (((status ≡ statuses.NotBuilt 0) × (IsTelling s → (first_fault s.frame.bytes (lasts s) ≡ None) × (lasts s 2 ≡ 1 → ⊥))) ⊎ (status ≡ statuses.Memory))
 
 -- why a replay answered nothing
 abbrev pub IsRefused : State → Option (List ℕ) → ℕ → ℕ → Status → Type 0
 IsRefused s coming source source' status =
-    ((status ≡ statuses.NotBuilt 0) × (IsTelling s → IsFresh s.frame.bytes (lasts s) → ⊥))
-    ⊎ ((s.frame.bytes ≡ 20480) × (IsTelling s → IsFresh s.frame.bytes (lasts s)) × IsUnread coming source source' status)
+    IsUnserved s status ⊎ ((IsTelling s → (first_fault s.frame.bytes (lasts s) ≡ None) × (lasts s 2 ≡ 1)) × IsUnread coming source source' status)
 
 -- What the writing did: everything was written, or the front of it, and the status says which.
 abbrev pub HasWritten : Ended → Option (List ℕ) → Option (List ℕ) → ℕ → ℕ → Status → Type 0

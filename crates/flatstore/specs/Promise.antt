@@ -1,5 +1,5 @@
 -- What a call of the program promises, over the region, the source and the sink before and after it.
-use Rattle.std.specs.Prelude.{◌≡◌, ◌⊎◌, ℕ, List, [], ◌++◌, Bool, true, false, Option, Some, None, Result, Ok, Err}
+use Rattle.std.specs.Prelude.{◌≡◌, ◌⊎◌, ℕ, ◌+◌, ◌≤◌, List, [], ◌++◌, take, ◌==◌, Bool, true, false, Option, Some, None, Result, Ok, Err, if◌then◌else◌}
 use Rattle.std.specs.List.{AllByRecursion}
 use Rattle.fs_model.specs.declared.model.Request.{Request}
 use Rattle.pm_region.specs.State.{State, IsTelling, Rose}
@@ -12,11 +12,15 @@ use Rattle.fs_text.specs.Stages.{input_or_stop}
 use Rattle.fs_text.specs.Streams.{Takes}
 use Rattle.headline.specs.Headline.{Told, cells_of, WritesReplies, BeginsReplies, RecoversThroughout, RecoversAll}
 use Rattle.headline.specs.Ample.{IsAmpleFor}
-use Rattle.headline.specs.Limits.{IsAsked, IsWithinLimits}
+use Rattle.headline.specs.Limits.{IsAsked, version_of, changes_asked, IsWithinLimits}
 use Rattle.chunk_map.specs.Layouts.{layout_of, owner}
+use Rattle.store_image.specs.declared.types.Fault.{Fault}
+use Rattle.store_image.specs.declared.types.Fault.TheVariants as faults
+use Rattle.store_image.specs.Soundness.{first_fault}
 use Rattle.serial_engine.specs.Answers.{told}
 use Rattle.serial_engine.specs.Stock.{refusals_from, is_full}
-use Rattle.flatstore.specs.Fresh.{IsFresh, fresh_lines, fresh_stock}
+use Rattle.serial_engine.specs.declared.answers.Shortage.TheVariants.{Versions}
+use Rattle.flatstore.specs.Found.{lines_found, stock_found}
 use Rattle.flatstore.specs.declared.report.Status.{Status}
 use Rattle.flatstore.specs.declared.report.Status.TheVariants as statuses
 use Rattle.flatstore.specs.declared.report.Report.{Report}
@@ -50,13 +54,16 @@ pub record Replays (old new : State) (found : ℕ → ℕ) (input : List ℕ) (b
   -- At the end it recovers all.
   pub last : r.status ≡ statuses.Done → RecoversAll new (cells_of found) (trace_of (found 2) input) (told_in r)
   -- The requests alone say which were refused, with which counts: all of them at the end, and else those before the first that was not answered.
-  pub refused : IsTelling new → (front : List Request) × (rest : List Request) × (trace_of (found 2) input ≡ front ++ rest) × (r.refusals.items ≡ refusals_from fresh_lines 0 fresh_stock front)
+  pub refused : IsTelling new → (front : List Request) × (rest : List Request) × (trace_of (found 2) input ≡ front ++ rest) × (r.refusals.items ≡ refusals_from (lines_found found) 0 (stock_found found) front)
   -- A report that says so did come to the end: then those are all refusals, unless a call of the region failed.
-  pub ended : r.complete ≡ true → IsTelling new → (r.refusals.items ≡ refusals_from fresh_lines 0 fresh_stock (trace_of (found 2) input)) ⊎ Rose old.faults new.faults
-  pub refused_all : r.status ≡ statuses.Done → IsTelling new → r.refusals.items ≡ refusals_from fresh_lines 0 fresh_stock (trace_of (found 2) input)
-  -- A change is refused for want of room only where the input is not ample for the part of its key's owner, and nothing is refused within all limits.
+  pub ended : r.complete ≡ true → IsTelling new → (r.refusals.items ≡ refusals_from (lines_found found) 0 (stock_found found) (trace_of (found 2) input)) ⊎ Rose old.faults new.faults
+  pub refused_all : r.status ≡ statuses.Done → IsTelling new → r.refusals.items ≡ refusals_from (lines_found found) 0 (stock_found found) (trace_of (found 2) input)
+  -- A change is refused for want of room only where the input is not ample for the part of its key's owner,
+  -- a put for its version only where its key has so many versions, or the requests before it may use them up, and nothing is refused within all limits.
   pub full : IsTelling new → AllByRecursion (λ x. is_full x.why ≡ true → (k : ℕ) → IsAsked (trace_of (found 2) input) x.request k
       → IsAmpleFor (layout_of found) found (trace_of (found 2) input) (owner (layout_of found) k) → ⊥) r.refusals.items
+  pub spent : IsTelling new → AllByRecursion (λ x. (last : ℕ) → x.why ≡ Versions last → (k : ℕ) → IsAsked (trace_of (found 2) input) x.request k
+      → 1048574 ≤ version_of found k + changes_asked k (take x.request (trace_of (found 2) input))) r.refusals.items
   pub unrefused : IsTelling new → IsWithinLimits found (trace_of (found 2) input) → r.refusals.items ≡ []
 
 -- what is built: neither deletes nor `go` lines, nor values of 256 bytes and more
@@ -68,10 +75,18 @@ status_of (Ok lines) = statuses.Done
 status_of (Err (stops.Bad line rule)) = statuses.BadInput line rule
 status_of (Err (stops.NotBuilt line)) = statuses.NotBuilt line
 
--- the status that the words found and the input alone decide
+-- a region that breaks a rule
+abbrev pub fault_status : Fault → Status
+fault_status (faults.NotARegion rule) = statuses.NotARegion rule
+fault_status (faults.Damaged part chunk rule) = statuses.Damaged part chunk rule
+
+-- the status that the words found and the input alone decide: several cores are not served yet
+abbrev pub due : (ℕ → ℕ) → List ℕ → Option Fault → Status
+due found input (Some fault) = fault_status fault
+due found input None = if found 2 == 1 then status_of (input_or_stop built_now 1 input) else statuses.NotBuilt 0
+
 abbrev pub IsDue : ℕ → (ℕ → ℕ) → List ℕ → Status → Type 0
-IsDue bytes found input status =
-    ((IsFresh bytes found → ⊥) × (status ≡ statuses.NotBuilt 0)) ⊎ (IsFresh bytes found × (status ≡ status_of (input_or_stop built_now 1 input)))
+IsDue bytes found input status = status ≡ due found input (first_fault bytes found)
 
 -- a fault, or want of memory
 abbrev pub IsFault : State → State → ℕ → ℕ → ℕ → ℕ → Status → Type 0
@@ -86,6 +101,8 @@ is_quiet (statuses.BadInput line rule) = true
 is_quiet statuses.SourceFault = true
 is_quiet statuses.SinkFault = false
 is_quiet statuses.RegionFault = false
+is_quiet (statuses.Damaged part chunk rule) = true
+is_quiet (statuses.NotARegion rule) = true
 is_quiet statuses.Memory = false
 is_quiet (statuses.NotBuilt line) = true
 

@@ -11,7 +11,6 @@ use std::{env, io};
 use top::flatstore;
 
 mod command;
-mod fresh;
 mod replay;
 mod report;
 #[cfg(test)]

@@ -7,29 +7,31 @@ ghost use Rattle.pm_region.specs.Words.{lasts};
 ghost use Rattle.pm_region.specs.Split.{words_in};
 ghost use Rattle.fs_text.specs.Input.{request_in};
 ghost use Rattle.serial_engine.specs.Cells.{cell_of};
-ghost use Rattle.serial_engine.specs.Empty.{IsEmptyRegion};
 ghost use Rattle.serial_engine.specs.Ready.{Ready};
 ghost use Rattle.serial_engine.specs.Going.{IsServed};
-ghost use Rattle.serial_engine.specs.Stock.{IsUnused};
-ghost use Rattle.flatstore.specs.Fresh.{fresh_layout};
+ghost use Rattle.serial_engine.specs.Stock.{stock_of};
+ghost use Rattle.chunk_map.specs.Layouts.{payload_lines};
+ghost use Rattle.headline.specs.Headline.{cells_of};
+ghost use Rattle.flatstore.specs.Found.{lines_found, stock_found};
+ghost use Rattle.flatstore.specs.Promise.{fault_status};
 ghost use Rattle.flatstore.specs.Reads.{IsRead, IsUnread, unread_as};
-ghost use Rattle.flatstore.specs.Played.{HasAnswered, Played, IsRefused};
+ghost use Rattle.flatstore.specs.Played.{IsOpened, HasAnswered, Played, IsUnserved, IsRefused};
 
-use crate::fresh::is_fresh;
 use crate::report::{Report, Status};
-use chunk_map::layouts::Layout;
 use fs_errors::Memory;
 use fs_model::Request;
 use fs_text::{
     Built, Input, Line, OutError, Sink, Source, Stop, UntilError, read_until, write_replies,
 };
 use pm_region::{Region, SplitRegion};
+use recover::{RecoverError, Recovered, pairs, recover};
 use serial_engine::answers::Answers;
 use serial_engine::run::begin;
 use serial_engine::store::Store;
 use std::alloc::Global;
+use store_image::Fault;
 
-// The cores of the one layout that is served.
+// The cores of the layouts that are served.
 const CORES: u32 = 1;
 
 // What is built of the forms of lines.
@@ -79,17 +81,60 @@ fn read<S: Source>(alloc: Global, source: &mut S) -> Result<Vec<Request>, Status
     }
 }
 
-/// The store of the fresh region.
-fn fresh_store(alloc: Global) -> Result<Store, Memory>
-    ensures ready { IfOk result (λ store. (s : State) → IsEmptyRegion s fresh_layout → Ready s store) }
-    ensures cells { IfOk result (λ store. (k : ℕ) → cell_of store.cells k ≡ None) }
-    ensures unused { IfOk result (λ store. IsUnused store 4) }
-    ensures layout { IfOk result (λ store. store.log.layout ≡ fresh_layout) }
+// The status for a region that is not sound.
+fn damage(fault: Fault) -> Status
+    ensures { result ≡ fault_status fault }
 {
-    match Layout::new(CORES, 1, 4, 4096) {
-        Ok(layout) => Store::empty(alloc, layout),
-        Err(_) => unreachable!(),
+    match fault {
+        Fault::NotARegion { rule } => Status::NotARegion { rule },
+        Fault::Damaged { part, chunk, rule } => Status::Damaged { part, chunk, rule },
     }
+}
+
+/// What the words of an attached region say, where it is sound and has one core.
+fn recovered<R: SplitRegion>(alloc: Global, region: &R) -> Result<Recovered, Status>
+    requires first { (R.state region.now).frame.first ≡ 0 }
+    requires words { (R.state region.now).frame.words ≡ words_in (R.state region.now).frame.bytes }
+    requires certain { IsTelling (R.state region.now) → (w : ℕ) → InRange (R.state region.now).frame w → cell_now (R.state region.now) w ≡ certain (lasts (R.state region.now) w) }
+    ensures ok { IfOk result (IsOpened (R.state region.now)) }
+    ensures err { IfErr result (IsUnserved (R.state region.now)) }
+{
+    match recover(alloc, region, region.bytes()) {
+        Err(RecoverError::Fault(fault)) => Err(damage(fault)),
+        Err(RecoverError::Memory) => Err(Status::Memory),
+        Ok(recovered) => {
+            if recovered.layout.cores() == CORES {
+                Ok(recovered)
+            } else {
+                Err(Status::NotBuilt { line: 0 })
+            }
+        }
+    }
+}
+
+/// The store that begins on a region of one core.
+fn open_store<R: SplitRegion>(
+    alloc: Global,
+    region: &R,
+    recovered: Recovered,
+) -> Result<Store, Memory>
+    requires first { (R.state region.now).frame.first ≡ 0 }
+    requires words { (R.state region.now).frame.words ≡ words_in (R.state region.now).frame.bytes }
+    requires certain { IsTelling (R.state region.now) → (w : ℕ) → InRange (R.state region.now).frame w → cell_now (R.state region.now) w ≡ certain (lasts (R.state region.now) w) }
+    requires opened { IsOpened (R.state region.now) recovered }
+    ensures ready { IfOk result (Ready (R.state region.now)) }
+    ensures cells { IfOk result (λ store. IsTelling (R.state region.now) → cell_of store.cells ≡ cells_of (lasts (R.state region.now))) }
+    ensures lines { IfOk result (λ store. IsTelling (R.state region.now) → payload_lines store.log.layout ≡ lines_found (lasts (R.state region.now))) }
+    ensures stock { IfOk result (λ store. IsTelling (R.state region.now) → stock_of store ≡ stock_found (lasts (R.state region.now))) }
+{
+    let values = pairs(alloc, region, &recovered)?;
+    let Recovered {
+        layout,
+        mut starts,
+        winners,
+    } = recovered;
+    let start = starts.pop().unwrap();
+    Store::open(alloc, region, layout, start.log, winners, values)
 }
 
 /// A replay that came to the end of its requests, or of memory.
@@ -105,11 +150,8 @@ pub struct Ended {
 /// Answers requests in order, up to the first for which there is no memory.
 fn answer<R: Region>(alloc: Global, region: &mut R, store: Store, requests: Vec<Request>) -> Ended
     requires ready { Ready (R.state region.old) store }
-    requires cells { (k : ℕ) → cell_of store.cells k ≡ None }
-    requires unused { IsUnused store 4 }
-    requires layout { store.log.layout ≡ fresh_layout }
     requires served { AllByRecursion IsServed requests.items }
-    ensures { HasAnswered (R.state region.old) (R.state region.new) requests.items result }
+    ensures { HasAnswered (R.state region.old) (R.state region.new) (cell_of store.cells) (payload_lines store.log.layout) (stock_of store) requests.items result }
 {
     let mut run = begin(alloc, store);
     match run.answer_all(alloc, region, requests) {
@@ -140,12 +182,13 @@ pub fn replay<S: Source, R: SplitRegion>(
     ensures refused { IfErr result (IsRefused (R.state region.old) (S.coming source.old) (S.fault_count source.old) (S.fault_count source.new)) }
     ensures untouched { OnErr result (region.new ≡ region.old) }
 {
-    if !is_fresh(region) {
-        return Err(Status::NotBuilt { line: 0 });
-    }
+    let recovered = match recovered(alloc, region) {
+        Ok(recovered) => recovered,
+        Err(status) => return Err(status),
+    };
     match read(alloc, source) {
         Err(status) => Err(status),
-        Ok(requests) => match fresh_store(alloc) {
+        Ok(requests) => match open_store(alloc, region, recovered) {
             Err(_) => Err(Status::Memory),
             Ok(store) => Ok(answer(alloc, region, store, requests)),
         },

@@ -21,9 +21,14 @@ pub enum Status {
     SinkFault,
     /// A call of the region failed.
     RegionFault,
+    /// The region breaks this rule of soundness first, in this chunk of this part.
+    Damaged { part: u32, chunk: u32, rule: u32 },
+    /// The region's length or superblock breaks this rule first.
+    NotARegion { rule: u32 },
     /// No memory was to be had.
     Memory,
-    /// What is asked isn't built yet: by this line of the input, counted from 1, or by the region where it is 0.
+    /// What is asked isn't built yet: by this line of the input, counted from 1, or by the region, which has several
+    /// cores, where it is 0.
     NotBuilt { line: u64 },
 }
 
@@ -72,6 +77,8 @@ impl Status {
             Status::SourceFault => 3,
             Status::SinkFault => 4,
             Status::RegionFault => 5,
+            Status::Damaged { .. } => 6,
+            Status::NotARegion { .. } => 7,
             Status::Memory => 8,
             Status::NotBuilt { .. } => 20,
         }
@@ -92,6 +99,12 @@ impl Status {
             Status::SourceFault => format!(in alloc; "flatstore: reading the input failed")?,
             Status::SinkFault => format!(in alloc; "flatstore: writing the output failed")?,
             Status::RegionFault => format!(in alloc; "flatstore: the region failed")?,
+            Status::Damaged { part, chunk, rule } => format!(in alloc;
+                "flatstore: damaged region: part {part} chunk {chunk} rule {rule}"
+            )?,
+            Status::NotARegion { rule } => format!(in alloc;
+                "flatstore: not a region: rule {rule}"
+            )?,
             Status::Memory => format!(in alloc; "flatstore: out of memory")?,
             Status::NotBuilt { line } => format!(in alloc;
                 "flatstore: not built yet: line {line}"

@@ -191,17 +191,137 @@ fn words_that_are_no_form(rt: HostRuntime) -> Result<(), Fail> {
     Ok(())
 }
 
+// The bytes of the fresh region with others at some places.
+fn with(alloc: Global, places: &[(usize, u8)]) -> Result<Vec<u8>, AllocError> {
+    let mut bytes = fresh(alloc)?;
+    for (place, byte) in places {
+        set(&mut bytes, *place, *byte);
+    }
+    Ok(bytes)
+}
+
+// Replays the three lines on a region with these bytes.
+fn three_on(alloc: Global, bytes: Vec<u8>) -> Result<(Status, Vec<u8>), Fail> {
+    let mut region = SteadyRegion::new(alloc, bytes, 5000)?;
+    let (report, written) = replay(alloc, &mut region, THREE)?;
+    Ok((report.status, written))
+}
+
 #[test]
-fn another_region(rt: HostRuntime) -> Result<(), Fail> {
+fn damaged_regions(rt: HostRuntime) -> Result<(), Fail> {
     let alloc = rt.alloc();
-    for (place, byte) in [(0, b'G'), (32, 5), (20479, 1)] {
-        let mut bytes = fresh(alloc)?;
-        set(&mut bytes, place, byte);
-        let mut region = SteadyRegion::new(alloc, bytes, 5000)?;
-        let (report, written) = replay(alloc, &mut region, THREE)?;
-        assert_eq!(rt; report.status, Status::NotBuilt { line: 0 });
+    // key 1 version 1, as `a` in log chunk 0 and as `b` in log chunk 1
+    let twice: [(usize, u8); 12] = [
+        (4096, 1),
+        (4104, 8),
+        (4352, 0x15),
+        (4355, 1),
+        (4360, 1),
+        (4368, b'a'),
+        (8192, 1),
+        (8200, 8),
+        (8448, 0x15),
+        (8451, 1),
+        (8456, 1),
+        (8464, b'b'),
+    ];
+    // keys 1 and 2 in log chunk 1, both pointing at 17, a block of class 1 in data chunk 0 with length 256
+    let shared: [(usize, u8); 11] = [
+        (4096, 2),
+        (4097, 1),
+        (4353, 1),
+        (8192, 1),
+        (8200, 8),
+        (8448, 0x11),
+        (8451, 17),
+        (8456, 1),
+        (8464, 0x11),
+        (8467, 17),
+        (8472, 2),
+    ];
+    let mut short = fresh(alloc)?;
+    let _ = short.pop();
+    let table = [
+        (short, Status::NotARegion { rule: 1 }),
+        (with(alloc, &[(0, b'G')])?, Status::NotARegion { rule: 2 }),
+        (with(alloc, &[(32, 5)])?, Status::NotARegion { rule: 3 }),
+        (
+            with(alloc, twice.as_slice())?,
+            Status::Damaged {
+                part: 0,
+                chunk: 1,
+                rule: 8,
+            },
+        ),
+        (
+            with(alloc, shared.as_slice())?,
+            Status::Damaged {
+                part: 0,
+                chunk: 1,
+                rule: 11,
+            },
+        ),
+    ];
+    for (bytes, status) in table {
+        let (said, written) = three_on(alloc, bytes)?;
+        assert_eq!(rt; said, status);
         assert!(rt; written.is_empty());
     }
+    Ok(())
+}
+
+#[test]
+fn several_cores(rt: HostRuntime) -> Result<(), Fail> {
+    let alloc = rt.alloc();
+    let mut bytes = with(alloc, &[(16, 2)])?;
+    bytes.resize(36864, 0)?;
+    let (said, written) = three_on(alloc, bytes)?;
+    assert_eq!(rt; said, Status::NotBuilt { line: 0 });
+    assert!(rt; written.is_empty());
+    Ok(())
+}
+
+#[test]
+fn a_region_with_puts(rt: HostRuntime) -> Result<(), Fail> {
+    let alloc = rt.alloc();
+    let mut region = steady(alloc)?;
+    let (report, _) = replay(alloc, &mut region, THREE)?;
+    assert_eq!(rt; report.status, Status::Done);
+    let (report, written) = replay(alloc, &mut region, "get 5\nput 5 de\n")?;
+    assert_eq!(rt; report.status, Status::Done);
+    assert_eq!(rt; written.as_slice(), b"value abc\nstored\n".as_slice());
+    let (_, written) = replay(alloc, &mut region, "get 5")?;
+    assert_eq!(rt; written.as_slice(), b"value de\n".as_slice());
+    Ok(())
+}
+
+// The only entry is key 9 version 1,048,574 with the value `q`, in log chunk 0.
+fn spent(alloc: Global) -> Result<Vec<u8>, AllocError> {
+    let places: [(usize, u8); 8] = [
+        (4096, 1),
+        (4104, 8),
+        (4352, 0xe5),
+        (4353, 0xff),
+        (4354, 0xff),
+        (4355, 1),
+        (4360, 9),
+        (4368, b'q'),
+    ];
+    with(alloc, places.as_slice())
+}
+
+#[test]
+fn versions_spent(rt: HostRuntime) -> Result<(), Fail> {
+    let alloc = rt.alloc();
+    let mut region = SteadyRegion::new(alloc, spent(alloc)?, 5000)?;
+    let (report, written) = replay(alloc, &mut region, "put 9 r\nget 9\n")?;
+    assert_eq!(rt; report.status, Status::Done);
+    assert_eq!(rt; written.as_slice(), b"versions spent\nvalue q\n".as_slice());
+    let why = Shortage::Versions { last: 1_048_574 };
+    assert_eq!(rt;
+        report.refusals.as_slice(),
+        [Refusal { request: 0, why }].as_slice()
+    );
     Ok(())
 }
 

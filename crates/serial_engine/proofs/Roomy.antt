@@ -1,12 +1,13 @@
 -- Requests for which there is room are not refused for want of it.
-use Rattle.std.proofs.Common.{◌≡◌, ◌⊎◌, inl, inr, ℕ, zero, suc, ◌+◌, ◌-◌, ◌*◌, ◌/◌, ◌<◌, ◌≤◌, ◌==◌, ◌&&◌, List, [], ◌∷◌, ◌++◌, length, refl, sym, ◌∙◌, ap, subst, arith, true, false, Bool, cond, Option, Some, None, nat_lt, nat_le, is_some}
+use Rattle.std.proofs.Common.{◌≡◌, ◌⊎◌, inl, inr, ℕ, zero, suc, ◌+◌, ◌-◌, ◌*◌, ◌/◌, ◌<◌, ◌≤◌, ◌==◌, ◌&&◌, List, [], ◌∷◌, ◌++◌, length, refl, sym, ◌∙◌, ap, subst, arith, true, false, Bool, cond, Option, Some, None, nat_lt, nat_le, is_some, take}
 use Rattle.std.specs.List.{AllByRecursion, sum_by}
 use Rattle.std.proofs.Math.Nat.{zero-mul, suc-mul}
-use Rattle.std.proofs.lemmas.Bool.{eqb-true, eqb-false, eq-eqb, ne_eqb, lt-leb, lt-ltb, le-ltb, cases_lt}
+use Rattle.std.proofs.lemmas.Bool.{eqb-true, eqb-false, eq-eqb, ne_eqb, leb-true, lt-leb, lt-ltb, le-ltb, cases_lt}
 use Rattle.std.proofs.lemmas.List.Sums.{sum_by-cons, sum_by-append}
 use Rattle.fs_model.specs.declared.model.Request.{Request}
 use Rattle.fs_model.specs.declared.model.Request.TheVariants.{Put, Get, Delete}
-use Rattle.headline.specs.Limits.{may_change, changes_asked}
+use Rattle.fs_model.specs.Cells.{key_of}
+use Rattle.headline.specs.Limits.{IsAsked, may_change, changes_asked}
 use Rattle.serial_engine.specs.declared.answers.Refusal.{Refusal}
 use Rattle.serial_engine.specs.declared.answers.Shortage.{Shortage}
 use Rattle.serial_engine.specs.declared.answers.Shortage.TheVariants.{Room, Block, Versions, Length}
@@ -153,3 +154,60 @@ module _ (lines : ℕ) (big : 5 ≤ lines) where
       let first : s.lasts k + 0 < 1048574 = left [] qs k v refl in
       ap (λ o. named n o ++ refusals_from lines (n + 1) (after lines s (Put k v)) qs) (no_cause s k (lines_needed (length v)) (fits lines s (lines_needed (length v)) (needs qs) sum) (omega (arith, first)))
       ∙ none_refused (n + 1) (after lines s (Put k v)) qs served.1 (left_by s k v (needs qs) served.0 sum) (suffices_behind s k v qs left)
+
+  -- a request gives its key one version more at most
+  one_more : (s : Stock) (q : Request) (j : ℕ) → (after lines s q).lasts j ≤ s.lasts j + once (may_change j q)
+  one_more s (Get k) j = omega arith
+  one_more s (Delete k) j = omega arith
+  one_more s (Put k v) j = by_cause (why_refused s k (lines_needed (length v))) refl where
+    by_key : (b : Bool) → (j == k) ≡ b → cond (j == k) (s.lasts k + 1) (s.lasts j) ≤ s.lasts j + once (k == j)
+    by_key true e =
+        let same : j ≡ k = eqb-true j k e in
+        let lasts : s.lasts j ≡ s.lasts k = ap s.lasts same in
+        let now : cond (j == k) (s.lasts k + 1) (s.lasts j) ≡ s.lasts k + 1 = ap (λ b. cond b (s.lasts k + 1) (s.lasts j)) e in
+        let was = ap once (eq-eqb k j (sym same)) in
+        omega (arith, lasts, now, was)
+    by_key false e = let now : cond (j == k) (s.lasts k + 1) (s.lasts j) ≡ s.lasts j = ap (λ b. cond b (s.lasts k + 1) (s.lasts j)) e in omega (arith, now)
+
+    by_cause : (o : Option Shortage) → why_refused s k (lines_needed (length v)) ≡ o → (after lines s (Put k v)).lasts j ≤ s.lasts j + once (k == j)
+    by_cause None e = subst (λ (t : Stock). t.lasts j ≤ s.lasts j + once (k == j)) (sym (after_stored lines s k v e)) (by_key (j == k) refl)
+    by_cause (Some cause) e = subst (λ (t : Stock). t.lasts j ≤ s.lasts j + once (k == j)) (sym (after_refused lines s k v cause e)) (omega arith)
+
+  -- A put is refused for its version only where so many requests before it may have used the versions up.
+  abbrev pub IsSpent : ℕ → Stock → List Request → Refusal → Type 0
+  IsSpent n s qs x = ((n ≤ x.request) × (x.request < n + length qs)) × ((last : ℕ) → x.why ≡ Versions last → (k : ℕ) → IsAsked qs (x.request - n) k → 1048574 ≤ s.lasts k + changes_asked k (take (x.request - n) qs))
+
+  versions_of : (s : Stock) (q : Request) (last k : ℕ) → why s q ≡ Some (Versions last) → key_of q ≡ k → 1048574 ≤ s.lasts k
+  versions_of s (Get j) last k e own = cc e
+  versions_of s (Delete j) last k e own = cc e
+  versions_of s (Put j v) last k e own = subst (λ i. 1048574 ≤ s.lasts i) own (by (nat_le 1048574 (s.lasts j)) refl e) where
+    by : (b : Bool) → nat_le 1048574 (s.lasts j) ≡ b → cond b (Some (Versions (s.lasts j))) (cond (nat_lt s.room (lines_needed (length v)) && nat_lt s.free 2) (Some (Room (counts_at s (lines_needed (length v))))) None) ≡ Some (Versions last) → 1048574 ≤ s.lasts j
+    by true is h = leb-true 1048574 (s.lasts j) is
+    by false is h = absurd (room (nat_lt s.room (lines_needed (length v)) && nat_lt s.free 2) h) where
+      room : (b : Bool) → cond b (Some (Room (counts_at s (lines_needed (length v))))) None ≡ Some (Versions last) → ⊥
+      room true q = cc q
+      room false q = cc q
+
+  -- from the requests behind one to those with it
+  spent_behind : (n : ℕ) (s : Stock) (q : Request) (qs : List Request) (xs : List Refusal) → AllByRecursion (IsSpent (n + 1) (after lines s q) qs) xs → AllByRecursion (IsSpent n s (q ∷ qs)) xs
+  spent_behind n s q qs [] h = tt
+  spent_behind n s q qs (x ∷ xs) h = ((let low = h.0.0.0 in let high = h.0.0.1 in (omega (arith, low), omega (arith, high)), λ last why k asked.
+      let low = h.0.0.0 in
+      let next : x.request - n ≡ suc (x.request - (n + 1)) = omega (arith, low) in
+      let behind = h.0.1 last why k (subst (λ i. IsAsked (q ∷ qs) i k) next asked) in
+      let taken : changes_asked k (take (x.request - n) (q ∷ qs)) ≡ changes_asked k (q ∷ take (x.request - (n + 1)) qs) = ap (λ i. changes_asked k (take i (q ∷ qs))) next in
+      let count = sum_by-cons (λ p. once (may_change k p)) q (take (x.request - (n + 1)) qs) in
+      let more = one_more s q k in
+      omega (arith, behind, taken, count, more)), spent_behind n s q qs xs h.1)
+
+  own_spent : (n : ℕ) (s : Stock) (q : Request) (qs : List Request) (o : Option Shortage) → why s q ≡ o → (rest : List Refusal) → AllByRecursion (IsSpent n s (q ∷ qs)) rest → AllByRecursion (IsSpent n s (q ∷ qs)) (named n o ++ rest)
+  own_spent n s q qs None is rest h = h
+  own_spent n s q qs (Some cause) is rest h = (((omega arith, omega arith), λ last why' k asked.
+      let zero_is : n - n ≡ 0 = omega arith in
+      let own : key_of q ≡ k = (let e : Some (key_of q) ≡ Some k = subst (λ i. IsAsked (q ∷ qs) i k) zero_is asked in cc e) in
+      let used = versions_of s q last k (is ∙ ap Some why') own in
+      omega (arith, used)), h)
+
+  pub all_spent : (n : ℕ) (s : Stock) (qs : List Request) → AllByRecursion (IsSpent n s qs) (refusals_from lines n s qs)
+  all_spent n s [] = tt
+  all_spent n s (q ∷ qs) = own_spent n s q qs (why s q) refl (refusals_from lines (n + 1) (after lines s q) qs) (spent_behind n s q qs (refusals_from lines (n + 1) (after lines s q) qs) (all_spent (n + 1) (after lines s q) qs))

@@ -1,0 +1,192 @@
+-- What a store that is opened over a recovered region has, and that it is ready.
+use Rattle.std.proofs.Common.{◌≡◌, ◌≢◌, ◌⊎◌, inl, inr, ℕ, zero, suc, ◌+◌, ◌-◌, ◌*◌, ◌/◌, ◌%◌, ◌<◌, ◌≤◌, ◌==◌, List, [], ◌∷◌, ◌++◌, length, map, refl, sym, ◌∙◌, ap, subst, arith, true, false, Bool, cond, Option, Some, None, Result, Ok, Err, nat_lt}
+use Rattle.std.proofs.Math.Nat.{le-max_left, le-max_right, max-le}
+use Rattle.std.specs.Prelude.{slice_index_or, option_map, unwrap_or}
+use Rattle.std.specs.Option.{option_map_or}
+use Rattle.std.specs.List.{find}
+use Rattle.std.proofs.lemmas.Bool.{lt-ltb, ltb-true, le-leb, eqb-true, eqb-false}
+use Rattle.fs_model.specs.declared.model.Pair.{Pair}
+use Rattle.log_entry.specs.declared.entry.Entry.{Entry}
+use Rattle.pm_region.specs.Cell.{certain, MayBe}
+use Rattle.pm_region.specs.State.{State, IsTelling, InRange, cell_now}
+use Rattle.pm_region.specs.Words.{Surely, lasts}
+use Rattle.pm_region.specs.Split.{words_in}
+use Rattle.chunk_map.specs.declared.layouts.Geometry.{Geometry}
+use Rattle.chunk_map.specs.declared.heads.Head.{Head}
+use Rattle.chunk_map.specs.declared.heads.Head.TheVariants.{Free, Log, Data}
+use Rattle.chunk_map.specs.Layouts.{numbers, layout_of, total_bytes, chunk_first, chunk_words, head_at, payload_lines, IsLayout}
+use Rattle.chunk_map.proofs.LayoutLaws.{numbers_of}
+use Rattle.store_image.specs.declared.types.PlacedEntry.{PlacedEntry}
+use Rattle.store_image.specs.Facts.{In, IsStore}
+use Rattle.store_image.specs.Listing.{lookup, ListsCells}
+use Rattle.store_image.specs.Parts.{all_entries}
+use Rattle.store_image.specs.Winners.{winner_in, winner, recovered}
+use Rattle.store_image.proofs.Copies.{winner_some, winner_max}
+use Rattle.core_log.specs.Log.{LogState, StandsIn, tail_of, lines_left, room_of}
+use Rattle.core_log.specs.Fresh.{IsEmptiest}
+use Rattle.headline.proofs.Images.{certain_may_be}
+use Rattle.headline.specs.Limits.{version_in, version_of}
+use Rattle.recover.specs.declared.types.CoreStart.{CoreStart}
+use Rattle.recover.specs.declared.types.Recovered.{Recovered}
+use Rattle.recover.specs.Recovering.{IsFound, cells_found}
+use Rattle.recover.specs.Regions.{Covers}
+use Rattle.recover.proofs.RegionLaws.{chunk_lies}
+use Rattle.recover.specs.Winning.{entry_with}
+use Rattle.recover.specs.Logs.{tail_behind, log_tail, HasLogsOf, IsStart}
+use Rattle.serial_engine.specs.Opening.{HeadsLie, IsRegionOf, AreNewest, version_with}
+use Rattle.flatstore.specs.Found.{lines_behind, most, room_in}
+use Rattle.flatstore.specs.Played.{IsOpened}
+
+-- The greatest of some numbers.
+most_bounded : (f : ℕ → ℕ) (m from n : ℕ) → ((k : ℕ) → from ≤ k → k < from + n → f k ≤ m) → most (map f (numbers from n)) ≤ m
+most_bounded f m from zero h = omega arith
+most_bounded f m from (suc n) h = max-le (h from (omega arith) (omega arith)) (most_bounded f m (suc from) n (λ k low high. h k (omega (arith, low)) (omega (arith, high))))
+
+most_has : (f : ℕ → ℕ) (k from n : ℕ) → from ≤ k → k < from + n → f k ≤ most (map f (numbers from n))
+most_has f k from zero low high = absurd (omega (arith, low, high))
+most_has f k from (suc n) low high = elim (k == from) as (λ b. (k == from) ≡ b → f k ≤ most (map f (numbers from (suc n)))) [
+  | true ↦ λ e. let left = le-max_left (f from) (most (map f (numbers (suc from) n))) in let same = ap f (eqb-true k from e) in omega (arith, left, same)
+  | false ↦ λ e.
+      let right = le-max_right (f from) (most (map f (numbers (suc from) n))) in
+      let more = most_has f k (suc from) n (let ne = eqb-false k from e in omega (arith, low, ne)) (omega (arith, high)) in
+      omega (arith, right, more)
+] refl
+
+-- The free lines of the open chunk are the most that a chunk of the log has.
+module _ (l : Geometry) (image : ℕ → ℕ) (log : LogState) (layout_is : log.layout ≡ l) (has : HasLogsOf l image 0 log) where
+  abbrev head : ℕ → Result Head ℕ
+  head j = head_at l image (chunk_first l 0 j)
+
+  tail_is : (j : ℕ) → j < l.chunks → tail_of log.chunks j ≡ tail_behind (head j)
+  tail_is j lt = has j ∙ ap (λ b. cond b (tail_behind (head j)) None) (lt-ltb j l.chunks lt)
+
+  within : (j tail : ℕ) → tail_of log.chunks j ≡ Some tail → j < l.chunks
+  within j tail is = by (nat_lt j l.chunks) refl where
+    by : (b : Bool) → nat_lt j l.chunks ≡ b → j < l.chunks
+    by true e = ltb-true j l.chunks e
+    by false e = absurd (none (sym is ∙ has j ∙ ap (λ b. cond b (tail_behind (head j)) None) e)) where
+      none : Some tail ≡ None → ⊥
+      none q = cc q
+
+  lines_by : (h : Result Head ℕ) (tail : ℕ) → tail_behind h ≡ Some tail → lines_behind l h ≡ payload_lines l - tail / 8
+  lines_by (Ok Free) tail e = cc e
+  lines_by (Ok (Log t)) tail e = let same : t ≡ tail = cc e in ap (λ n. payload_lines l - n / 8) same
+  lines_by (Ok (Data class)) tail e = cc e
+  lines_by (Err rule) tail e = cc e
+
+  lines_none : (h : Result Head ℕ) → tail_behind h ≡ None → lines_behind l h ≡ 0
+  lines_none (Ok Free) e = refl
+  lines_none (Ok (Log t)) e = cc e
+  lines_none (Ok (Data class)) e = refl
+  lines_none (Err rule) e = refl
+
+  by_tail : (j : ℕ) (o : Option ℕ) → tail_behind (head j) ≡ o → (m : ℕ) → ((tail : ℕ) → o ≡ Some tail → payload_lines l - tail / 8 ≤ m) → lines_behind l (head j) ≤ m
+  by_tail j None e m h = let none = lines_none (head j) e in omega (arith, none)
+  by_tail j (Some tail) e m h = let is = lines_by (head j) tail e in let le = h tail refl in omega (arith, is, le)
+
+  pub room_is : (o : Option ℕ) → IsEmptiest log.chunks o → lines_left log o ≡ room_in l image
+  room_is None h =
+      let le = most_bounded (λ j. lines_behind l (head j)) 0 0 l.chunks (λ j low high. by_tail j None (sym (tail_is j (omega (arith, high))) ∙ h j) 0 (λ tail e. cc e)) in
+      omega (arith, le)
+  room_is (Some k) h =
+      let lt : k < l.chunks = within k h.0 h.1 in
+      let here : tail_behind (head k) ≡ Some h.0 = sym (tail_is k lt) ∙ h.1 in
+      let own = lines_by (head k) h.0 here in
+      let left : lines_left log (Some k) ≡ payload_lines l - h.0 / 8 = (λ i. payload_lines (layout_is i) - unwrap_or (h.1 i) 0 / 8) in
+      let low = most_has (λ j. lines_behind l (head j)) k 0 l.chunks (omega arith) (omega (arith, lt)) in
+      let high = most_bounded (λ j. lines_behind l (head j)) (payload_lines l - h.0 / 8) 0 l.chunks (λ j low high.
+      by_tail j (tail_behind (head j)) refl (payload_lines l - h.0 / 8) (λ tail e. no_less j tail (h.2 j tail (tail_is j (omega (arith, high)) ∙ e)))) in
+      omega (arith, own, left, low, high) where
+        no_less : (j tail : ℕ) → (h.0 < tail) ⊎ ((h.0 ≡ tail) × (k ≤ j)) → payload_lines l - tail / 8 ≤ payload_lines l - h.0 / 8
+        no_less j tail (inl less) = omega (arith, less)
+        no_less j tail (inr e) = let same = e.0 in omega (arith, same)
+
+-- The one start of a region of one core.
+pub only_start : (starts rest : List CoreStart) (start d : CoreStart) → length starts ≡ 1 → starts ≡ rest ++ start ∷ [] → slice_index_or starts 0 d ≡ start
+only_start starts [] start d one is = ap (λ xs. slice_index_or xs 0 d) is
+only_start starts (x ∷ []) start d one is = absurd (let n = ap length is in omega (arith, one, n))
+only_start starts (x ∷ y ∷ rest) start d one is = absurd (let n = ap length is in omega (arith, one, n))
+
+module _ (s : State) (first : s.frame.first ≡ 0) (words : s.frame.words ≡ words_in s.frame.bytes) (sure : IsTelling s → (w : ℕ) → InRange s.frame w → cell_now s w ≡ certain (lasts s w))
+    (r : Recovered) (O : IsOpened s r) where
+  abbrev l : Geometry
+  l = r.layout
+
+  total : total_bytes l ≡ s.frame.bytes
+  total = O.made.total
+
+  pub bytes_small : s.frame.bytes ≤ 268439552
+  bytes_small = let n = numbers_of l O.made.layout in let t = total in let most = n.total in omega (arith, t, most)
+
+  pub words_are : s.frame.words ≡ total_bytes l / 8
+  words_are = words ∙ ap (λ b. cond b (s.frame.bytes / 8) 0) (le-leb s.frame.bytes 268439552 bytes_small) ∙ ap (λ n. n / 8) (sym total)
+
+  pub covers : Covers s.frame l
+  covers = record { layout = O.made.layout; first = first; words = words_are }
+
+  pub heads_lie : HeadsLie s l
+  heads_lie j lt = chunk_lies s.frame l covers 0 j (let one = O.one in omega (arith, one)) lt
+
+  -- it is found in so many bytes as its layout has
+  pub found_here : IsTelling s → IsFound (total_bytes l) (lasts s) r
+  found_here telling = subst (λ n. IsFound n (lasts s) r) (sym total) (O.found telling)
+
+  pub few_chunks : l.chunks ≤ 64
+  few_chunks = (numbers_of l O.made.layout).chunks_high
+
+  -- the start
+  module _ (rest : List CoreStart) (start : CoreStart) (starts_are : r.starts.items ≡ rest ++ start ∷ []) where
+    own_start : IsStart l 0 start
+    own_start = subst (IsStart l 0) (only_start r.starts.items rest start start (O.made.count ∙ O.one) starts_are) (O.made.starts 0 start (let one = O.one in omega (arith, one)))
+
+    pub layout_is : start.log.layout ≡ l
+    layout_is = own_start.layout_is
+
+    found_layout : IsTelling s → layout_of (lasts s) ≡ l
+    found_layout telling = sym (O.found telling).is_of.layout_is
+
+    pub region_of : IsRegionOf s start.log
+    region_of = record {
+      one = ap (λ (g : Geometry). g.cores) layout_is ∙ O.one;
+      part = own_start.part_is;
+      first = first;
+      words = words_are ∙ ap (λ (g : Geometry). total_bytes g / 8) (sym layout_is);
+      stands = subst (λ (x : CoreStart). StandsIn s x.log) (only_start r.starts.items rest start start (O.made.count ∙ O.one) starts_are) (O.stands 0 start (let one = O.one in omega (arith, one)));
+      certain = λ telling w inside x may. certain_may_be (lasts s w) x (subst (λ c. MayBe c x) (sure telling w inside) may);
+      sound = λ telling. (O.found telling).sound;
+      layout = λ telling. found_layout telling ∙ sym layout_is;
+    }
+
+    -- what the winners and pairs say
+    pub newest : (values : List Pair) → (IsTelling s → ListsCells (cells_found (lasts s)) values) → IsTelling s → AreNewest s start.log r.winners.items values
+    newest values lists telling =
+        let of = (O.found telling).is_of in
+        let lists' = lists telling in
+        let same : start.log.layout ≡ layout_of (lasts s) = layout_is ∙ sym (found_layout telling) in
+        record {
+          newest_rise = O.made.rising;
+          values_rise = lists'.rising;
+          versions = λ x h. newer (layout_of (lasts s)) x (subst (λ g. In x (all_entries g (lasts s))) same h) (winner (layout_of (lasts s)) (lasts s) x.entry.key) refl (of.each x.entry.key);
+          values_are = λ k. lists'.each k ∙ ap (λ g. recovered g (lasts s) k) (sym same);
+        } where
+          newer : (g : Geometry) (x : PlacedEntry) → In x (all_entries g (lasts s)) → (o : Option PlacedEntry) → winner_in x.entry.key (all_entries g (lasts s)) ≡ o
+              → entry_with x.entry.key r.winners.items ≡ option_map (λ (y : PlacedEntry). y.entry) o → x.entry.version ≤ version_with x.entry.key r.winners.items
+          newer g x h None w e = absurd (winner_some x.entry.key (all_entries g (lasts s)) x h refl w)
+          newer g x h (Some y) w e =
+              let le = winner_max x.entry.key (all_entries g (lasts s)) y x w h refl in
+              let is = ap (λ o. option_map_or (λ (z : Entry). z.version) o 0) e in
+              omega (arith, le, is)
+
+    pub version_is : IsTelling s → (k : ℕ) → version_with k r.winners.items ≡ version_of (lasts s) k
+    version_is telling k = ap (λ o. option_map_or (λ (z : Entry). z.version) o 0) ((O.found telling).is_of.each k) ∙ by (winner (layout_of (lasts s)) (lasts s) k) where
+      by : (o : Option PlacedEntry) → option_map_or (λ (z : Entry). z.version) (option_map (λ (y : PlacedEntry). y.entry) o) 0 ≡ version_in o
+      by None = refl
+      by (Some y) = refl
+
+    pub open_room : IsTelling s → room_of start.log ≡ room_in (layout_of (lasts s)) (lasts s)
+    open_room telling =
+        let of = (O.found telling).is_of in
+        let has : HasLogsOf (layout_of (lasts s)) (lasts s) 0 start.log =
+        subst (λ (x : CoreStart). HasLogsOf (layout_of (lasts s)) (lasts s) 0 x.log) (only_start r.starts.items rest start start (O.made.count ∙ O.one) starts_are)
+        (of.logs 0 start (let one = O.one in let same = ap (λ (g : Geometry). g.cores) (found_layout telling) in omega (arith, one, same))) in
+        room_is (layout_of (lasts s)) (lasts s) start.log (layout_is ∙ sym (found_layout telling)) has start.log.opened own_start.opened
