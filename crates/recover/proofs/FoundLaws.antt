@@ -1,6 +1,6 @@
 -- What is said of a region by its superblock.
 use Rattle.std.proofs.Common.{◌≡◌, ℕ, ◌+◌, ◌*◌, ◌/◌, ◌%◌, ◌<◌, ◌≤◌, Option, Some, None, refl, sym, ◌∙◌, ap, subst, arith}
-use Rattle.std.specs.Prelude.{Result, Ok, Err, Vec}
+use Rattle.std.specs.Prelude.{Result, Ok, Err, IfOk, Vec}
 use Rattle.std.specs.Result.{result_err}
 use Rattle.std.specs.Global.{Global}
 use Rattle.pm_region.specs.State.{Frame}
@@ -12,6 +12,8 @@ use Rattle.store_image.proofs.Places.{layout_numbers}
 use Rattle.store_image.specs.declared.types.PlacedEntry.{PlacedEntry}
 use Rattle.store_image.specs.declared.types.Fault.{Fault}
 use Rattle.store_image.specs.Soundness.{damage}
+use Rattle.store_image.specs.Parts.{all_entries}
+use Rattle.recover.specs.Winning.{winners_of, AreWinners}
 use Rattle.recover.specs.Gathering.{Judges}
 use Rattle.recover.specs.Regions.{Covers}
 
@@ -55,3 +57,10 @@ covers_all f l bytes first words layout total = record {
 pub judged_fault : (l : Geometry) (image : ℕ → ℕ) (r : Result (Vec PlacedEntry Global) Fault) → Judges l image r → result_err r ≡ damage l image
 judged_fault l image (Ok ws) is = sym is.0
 judged_fault l image (Err f) is = sym is
+
+-- the winners of what was judged
+pub judged_made : (r : Result (Vec PlacedEntry Global) Fault) (v : Vec PlacedEntry Global) → IfOk r (λ ws. AreWinners ws.items) → r ≡ Ok v → AreWinners v.items
+judged_made r v made is = subst (λ (r : Result (Vec PlacedEntry Global) Fault). IfOk r (λ ws. AreWinners ws.items)) is made
+
+pub judged_sound : (l : Geometry) (image : ℕ → ℕ) (r : Result (Vec PlacedEntry Global) Fault) (v : Vec PlacedEntry Global) → Judges l image r → r ≡ Ok v → (damage l image ≡ None) × (v.items ≡ winners_of (all_entries l image))
+judged_sound l image r v told is = subst (Judges l image) is told

@@ -6,3 +6,5 @@ pub mod BlockLaws
 pub mod JudgeLaws
 pub mod SpellLaws
 pub mod FoundLaws
+pub mod LogLaws
+pub mod MadeLaws

@@ -1,10 +1,11 @@
 -- The logs that an image has.
-use Rattle.std.specs.Prelude.{◌≡◌, ℕ, nat_lt, Option, Some, None, Result, Ok, Err, if◌then◌else◌}
+use Rattle.std.specs.Prelude.{◌≡◌, ℕ, nat_lt, List, [], ◌∷◌, Option, Some, None, Result, Ok, Err, if◌then◌else◌}
 use Rattle.chunk_map.specs.declared.layouts.Geometry.{Geometry}
 use Rattle.chunk_map.specs.declared.heads.Head.{Head}
 use Rattle.chunk_map.specs.declared.heads.Head.TheVariants.{Free, Log, Data}
 use Rattle.chunk_map.specs.Layouts.{chunk_first, head_at}
-use Rattle.core_log.specs.Log.{LogState, IsOwn, tail_of}
+use Rattle.core_log.specs.declared.types.LogChunk.{LogChunk}
+use Rattle.core_log.specs.Log.{LogState, IsOwn, tail_of, chunk_with}
 use Rattle.core_log.specs.Fresh.{IsEmptiest}
 use Rattle.recover.specs.declared.types.CoreStart.{CoreStart}
 
@@ -17,6 +18,11 @@ tail_behind (Err rule) = None
 -- the tail of chunk j of a part, where the part has that chunk and it is a log
 abbrev pub log_tail : Geometry → (ℕ → ℕ) → ℕ → ℕ → Option ℕ
 log_tail l image c j = if nat_lt j l.chunks then tail_behind (head_at l image (chunk_first l c j)) else None
+
+-- the chunk with its tail, where it has one
+abbrev pub with_log : ℕ → Option ℕ → List LogChunk
+with_log j None = []
+with_log j (Some tail) = chunk_with j tail ∷ []
 
 -- the log has exactly the part's Log chunks, with their tails
 abbrev pub HasLogsOf : Geometry → (ℕ → ℕ) → ℕ → LogState → Type 0

@@ -1,13 +1,14 @@
 // The logs of the cores.
-ghost use Rattle.std.specs.Prelude.{◌≡◌, ℕ, ◌<◌, length, slice_index_or, IfOk};
+ghost use Rattle.std.specs.Prelude.{◌≡◌, ℕ, ◌<◌, ◌++◌, length, slice_index_or, IfOk, IfSome};
 ghost use Rattle.std.specs.List.{AllByRecursion};
 ghost use Rattle.pm_region.specs.State.{IsTelling};
 ghost use Rattle.pm_region.specs.Words.{lasts};
-ghost use Rattle.core_log.specs.Log.{tail_of, IsChunkOf};
+ghost use Rattle.chunk_map.specs.Layouts.{chunk_first, head_at};
+ghost use Rattle.core_log.specs.Log.{tail_of, chunk_with, IsChunkOf};
 ghost use Rattle.core_log.specs.Fresh.{HasEachOnce};
 ghost use Rattle.recover.specs.Regions.{Covers};
 ghost use Rattle.recover.specs.declared.types.CoreStart.{CoreStart};
-ghost use Rattle.recover.specs.Logs.{log_tail, HasLogsOf, IsStart};
+ghost use Rattle.recover.specs.Logs.{tail_behind, log_tail, with_log, HasLogsOf, IsStart};
 
 use crate::types::CoreStart;
 use chunk_map::{Head, Layout, read_head};
@@ -15,6 +16,30 @@ use core_log::{CoreLog, LogChunk};
 use fs_errors::Memory;
 use pm_region::Region;
 use std::alloc::Global;
+
+/// The tail of a chunk, where it is a log.
+fn tail_at<R: Region>(region: &R, layout: &Layout, part: u32, chunk: u32) -> Option<u64>
+    requires covers { Covers (R.state region.now).frame layout.now }
+    requires part { part < layout.now.cores }
+    requires chunk { chunk < layout.now.chunks }
+    ensures told { IsTelling (R.state region.now) → result ≡ tail_behind (head_at layout.now (lasts (R.state region.now)) (chunk_first layout.now part chunk)) }
+    ensures fits { IfSome result (λ tail. IsChunkOf layout.now (chunk_with chunk tail)) }
+{
+    match read_head(region, layout, layout.chunk_first(part, chunk)) {
+        Ok(Head::Log { tail }) => Some(tail),
+        _ => None,
+    }
+}
+
+/// Appends a chunk, where it has a tail.
+fn push_log(logs: &mut Vec<LogChunk>, chunk: u32, tail: Option<u64>) -> Result<(), Memory>
+    ensures { IfOk result (λ _. logs.new.items ≡ logs.old.items ++ with_log chunk tail) }
+{
+    if let Some(tail) = tail {
+        logs.push(LogChunk { chunk, tail })?;
+    }
+    Ok(())
+}
 
 /// The Log chunks of a part with their tails, by rising number.
 fn log_chunks<R: Region>(
@@ -31,10 +56,8 @@ fn log_chunks<R: Region>(
 {
     let mut logs = Vec::new(alloc);
     for chunk in 0..layout.chunks() {
-        let at = layout.chunk_first(part, chunk);
-        if let Ok(Head::Log { tail }) = read_head(region, layout, at) {
-            logs.push(LogChunk { chunk, tail })?;
-        }
+        let tail = tail_at(region, layout, part, chunk);
+        push_log(&mut logs, chunk, tail)?;
     }
     Ok(logs)
 }
