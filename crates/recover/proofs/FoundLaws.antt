@@ -12,9 +12,12 @@ use Rattle.store_image.proofs.Places.{layout_numbers}
 use Rattle.store_image.specs.declared.types.PlacedEntry.{PlacedEntry}
 use Rattle.store_image.specs.declared.types.Fault.{Fault}
 use Rattle.store_image.specs.Soundness.{damage}
+use Rattle.store_image.specs.Facts.{IsStore}
+use Rattle.store_image.proofs.Loops.{judged}
+use Rattle.store_image.proofs.SoundFacts.{sound_store}
 use Rattle.store_image.specs.Parts.{all_entries}
 use Rattle.recover.specs.Winning.{winners_of, AreWinners}
-use Rattle.recover.specs.Gathering.{Judges}
+use Rattle.recover.specs.Gathering.{Judges, AllSpell}
 use Rattle.recover.specs.Regions.{Covers}
 
 module _ (bytes : ℕ) (image : ℕ → ℕ) where
@@ -62,5 +65,9 @@ judged_fault l image (Err f) is = sym is
 pub judged_made : (r : Result (Vec PlacedEntry Global) Fault) (v : Vec PlacedEntry Global) → IfOk r (λ ws. AreWinners ws.items) → r ≡ Ok v → AreWinners v.items
 judged_made r v made is = subst (λ (r : Result (Vec PlacedEntry Global) Fault). IfOk r (λ ws. AreWinners ws.items)) is made
 
-pub judged_sound : (l : Geometry) (image : ℕ → ℕ) (r : Result (Vec PlacedEntry Global) Fault) (v : Vec PlacedEntry Global) → Judges l image r → r ≡ Ok v → (damage l image ≡ None) × (v.items ≡ winners_of (all_entries l image))
+pub judged_sound : (l : Geometry) (image : ℕ → ℕ) (r : Result (Vec PlacedEntry Global) Fault) (v : Vec PlacedEntry Global) → Judges l image r → r ≡ Ok v → (damage l image ≡ None) × (v.items ≡ winners_of (all_entries l image)) × AllSpell l image
 judged_sound l image r v told is = subst (Judges l image) is told
+
+-- a region that broke no rule
+pub store_found : (bytes : ℕ) (image : ℕ → ℕ) (l : Geometry) → superblock_rule bytes image ≡ None → l ≡ layout_of image → damage l image ≡ None → IsStore bytes image
+store_found bytes image l kept is none = sound_store bytes image (sym (judged bytes image l None kept is (sym none)))

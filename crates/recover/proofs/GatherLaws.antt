@@ -21,3 +21,7 @@ module _ {Y : Type 0} (f : ℕ → Option Y) (i n : ℕ) where
 pub not_none : {Y : Type 0} (o : Option Y) → is_some o ≡ true → o ≡ None → ⊥
 not_none None some none = cc some
 not_none (Some y) some none = cc none
+
+pub is_none : {Y : Type 0} (o : Option Y) → is_some o ≡ false → o ≡ None
+is_none None none = refl
+is_none (Some y) none = absurd (cc none)

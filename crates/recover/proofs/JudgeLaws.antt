@@ -22,7 +22,7 @@ use Rattle.store_image.specs.Soundness.{first_some, damaged, same_body, points_t
 use Rattle.store_image.proofs.SoundFacts.{in_back, winner_is}
 use Rattle.store_image.proofs.Listings.{rising_keys}
 use Rattle.store_image.proofs.Loops.{chunks_decide, clash_decides, blocks_decide}
-use Rattle.recover.specs.Gathering.{Gathers}
+use Rattle.recover.specs.Gathering.{Gathers, AllSpell}
 use Rattle.recover.specs.Winning.{winners_of, AreSpelled}
 use Rattle.recover.specs.Judging.{is_taken, rule_beside, body_beside, fault_beside, winners_fault}
 use Rattle.recover.proofs.WinningLaws.{above_in}
@@ -108,16 +108,12 @@ module _ (l : Geometry) (image : ℕ → ℕ) (ws : List PlacedEntry) (i : ℕ) 
 pub no_fault : (l : Geometry) (image : ℕ → ℕ) (ws : List PlacedEntry) (i : ℕ) → length ws ≤ i → None ≡ winners_fault l image (take i ws) (drop i ws)
 no_fault l image ws i le = sym (ap (winners_fault l image (take i ws)) (drop_of_length-le ws le))
 
-pub is_none : {Y : Type 0} (f : Option Y) → is_some f ≡ false → f ≡ None
-is_none None none = refl
-is_none (Some y) none = absurd (cc none)
-
 -- what the steps find one after another decides
 module _ (l : Geometry) (image : ℕ → ℕ) where
   pub by_chunks : (r : Result (Vec PlacedEntry Global) Fault) (f : Fault) → Gathers l image r → r ≡ Err f → damage l image ≡ Some f
   by_chunks r f gathers is = sym (chunks_decide l image (all_entries l image) refl (Some f) (sym (subst (Gathers l image) is gathers)) refl)
 
-  pub gathered : (r : Result (Vec PlacedEntry Global) Fault) (v : Vec PlacedEntry Global) → Gathers l image r → r ≡ Ok v → (chunk_fault l image ≡ None) × (v.items ≡ all_entries l image)
+  pub gathered : (r : Result (Vec PlacedEntry Global) Fault) (v : Vec PlacedEntry Global) → Gathers l image r → r ≡ Ok v → (chunk_fault l image ≡ None) × (v.items ≡ all_entries l image) × AllSpell l image
   gathered r v gathers is = subst (Gathers l image) is gathers
 
   module _ (es : List PlacedEntry) (is : es ≡ all_entries l image) (whole : chunk_fault l image ≡ None) where

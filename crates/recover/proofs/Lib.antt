@@ -8,3 +8,4 @@ pub mod SpellLaws
 pub mod FoundLaws
 pub mod LogLaws
 pub mod MadeLaws
+pub mod StandLaws

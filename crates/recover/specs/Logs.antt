@@ -4,8 +4,9 @@ use Rattle.chunk_map.specs.declared.layouts.Geometry.{Geometry}
 use Rattle.chunk_map.specs.declared.heads.Head.{Head}
 use Rattle.chunk_map.specs.declared.heads.Head.TheVariants.{Free, Log, Data}
 use Rattle.chunk_map.specs.Layouts.{chunk_first, head_at}
+use Rattle.store_image.specs.Parts.{payload}
 use Rattle.core_log.specs.declared.types.LogChunk.{LogChunk}
-use Rattle.core_log.specs.Log.{LogState, IsOwn, tail_of, chunk_with}
+use Rattle.core_log.specs.Log.{LogState, IsOwn, Spelled, tail_of, chunk_with}
 use Rattle.core_log.specs.Fresh.{IsEmptiest}
 use Rattle.recover.specs.declared.types.CoreStart.{CoreStart}
 
@@ -23,6 +24,10 @@ log_tail l image c j = if nat_lt j l.chunks then tail_behind (head_at l image (c
 abbrev pub with_log : ℕ → Option ℕ → List LogChunk
 with_log j None = []
 with_log j (Some tail) = chunk_with j tail ∷ []
+
+-- where the chunk is a log, its words up to the tail are a list of batches
+abbrev pub SpellsLog : Geometry → (ℕ → ℕ) → ℕ → ℕ → Type 0
+SpellsLog l image c j = (tail : ℕ) → head_at l image (chunk_first l c j) ≡ Ok (Log tail) → Spelled (payload image (chunk_first l c j) tail)
 
 -- the log has exactly the part's Log chunks, with their tails
 abbrev pub HasLogsOf : Geometry → (ℕ → ℕ) → ℕ → LogState → Type 0

@@ -17,6 +17,7 @@ use Rattle.recover.specs.declared.types.Recovered.{Recovered}
 use Rattle.recover.specs.declared.types.RecoverError.{RecoverError}
 use Rattle.recover.specs.declared.types.RecoverError.TheVariants as errors
 use Rattle.recover.specs.Logs.{HasLogsOf, IsStart}
+use Rattle.recover.specs.Gathering.{AllSpell}
 use Rattle.recover.specs.Winning.{winners_of, entry_with}
 
 -- whatever the region tells: a layout of a region of so many bytes, a start for each core in order, and entries by rising key that words can spell
@@ -32,6 +33,7 @@ pub record IsMade (bytes : ℕ) (r : Recovered) : Type 0 where
 pub record IsOf (l : Geometry) (image : ℕ → ℕ) (r : Recovered) : Type 0 where
   pub layout_is : r.layout ≡ l
   pub logs : (c : ℕ) (d : CoreStart) → c < l.cores → HasLogsOf l image c (slice_index_or r.starts.items c d).log
+  pub spells : AllSpell l image
   -- the winner of each key that has one, by rising key
   pub winners : r.winners.items ≡ map (λ x. x.entry) (winners_of (all_entries l image))
   -- so a key has the entry of its winner, or none

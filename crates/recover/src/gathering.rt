@@ -1,5 +1,5 @@
 // The entries of a region, chunk by chunk.
-ghost use Rattle.std.specs.Prelude.{◌≡◌, ℕ, ◌+◌, ◌/◌, ◌<◌, ◌≤◌, ◌++◌, option_map, IfOk};
+ghost use Rattle.std.specs.Prelude.{◌≡◌, ℕ, ◌+◌, ◌/◌, ◌<◌, ◌≤◌, ◌%◌, ◌++◌, length, true, None, option_map, IfOk};
 ghost use Rattle.std.specs.List.{AllByRecursion};
 ghost use Rattle.pm_region.specs.State.{IsTelling};
 ghost use Rattle.pm_region.specs.Words.{lasts};
@@ -9,7 +9,9 @@ ghost use Rattle.chunk_map.specs.Layouts.{chunk_first};
 ghost use Rattle.store_image.specs.Parts.{scan_at, chunk_entries};
 ghost use Rattle.store_image.specs.Scanned.{IsScan, shown};
 ghost use Rattle.store_image.specs.Soundness.{damaged, chunk_rule};
+ghost use Rattle.core_log.specs.Log.{Spelled};
 ghost use Rattle.recover.specs.Regions.{Covers};
+ghost use Rattle.recover.specs.Logs.{SpellsLog};
 ghost use Rattle.recover.specs.Winning.{AreSpelled};
 ghost use Rattle.recover.specs.Gathering.{GathersPart, Gathers};
 
@@ -27,6 +29,7 @@ use store_image::{Fault, PlacedEntry};
 fn scan_log(alloc: Global, words: &[u64]) -> Result<Scanned, Memory>
     ensures scan { IfOk result (λ s. IsScan s (scan_of words.now)) }
     ensures spelled { IfOk result (λ s. AllByRecursion (λ x. HasSpelling x.1) (shown s.entries.items)) }
+    ensures batches { IfOk result (λ s. s.whole ≡ true → length words.now % 8 ≡ 0 → Spelled words.now) }
 {
     let scanned = scan(alloc, words)?;
     Ok(scanned)
@@ -47,6 +50,7 @@ fn read_chunk<R: Region>(
     ensures told { IfOk result (λ r. IsTelling (R.state region.now) → (r.0 ≡ chunk_rule layout.now (lasts (R.state region.now)) part chunk)
         × IsScan r.1 (scan_at layout.now (lasts (R.state region.now)) (chunk_first layout.now part chunk))) }
     ensures spelled { IfOk result (λ r. AllByRecursion (λ x. HasSpelling x.1) (shown r.1.entries.items)) }
+    ensures batches { IfOk result (λ r. IsTelling (R.state region.now) → r.0 ≡ None → SpellsLog layout.now (lasts (R.state region.now)) part chunk) }
 {
     let at = layout.chunk_first(part, chunk);
     match read_head(region, layout, at) {
@@ -76,6 +80,7 @@ fn gather_chunk<R: Region>(
     ensures fault { IfOk result (λ f. IsTelling (R.state region.now) → f ≡ option_map (damaged part chunk) (chunk_rule layout.now (lasts (R.state region.now)) part chunk)) }
     ensures entries { IfOk result (λ _. IsTelling (R.state region.now) → entries.new.items ≡ entries.old.items ++ chunk_entries layout.now (lasts (R.state region.now)) part chunk) }
     ensures spelled { IfOk result (λ _. AreSpelled entries.old.items → AreSpelled entries.new.items) }
+    ensures batches { IfOk result (λ f. IsTelling (R.state region.now) → f ≡ None → SpellsLog layout.now (lasts (R.state region.now)) part chunk) }
 {
     let (rule, scanned) = read_chunk(alloc, region, layout, part, chunk)?;
     place_entries(part, chunk, scanned.entries, entries)?;

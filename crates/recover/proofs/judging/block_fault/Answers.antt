@@ -2,7 +2,8 @@ use Rattle.std.proofs.Common.{◌+◌, take, drop, refl, sym, ◌∙◌, ap, sub
 use Rattle.pm_region.specs.Words.{lasts}
 use Rattle.recover.specs.Judging.{HasPointers}
 use Rattle.recover.proofs.ClashLaws.{one_more}
-use Rattle.recover.proofs.JudgeLaws.{fault_here, fault_later, no_fault, is_none}
+use Rattle.recover.proofs.GatherLaws.{is_none}
+use Rattle.recover.proofs.JudgeLaws.{fault_here, fault_later, no_fault}
 use Rattle.recover.proofs.judging.block_fault.Goals as goal
 
 pub loop-winner-init : goal.loop-winner-init

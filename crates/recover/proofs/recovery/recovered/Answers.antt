@@ -29,6 +29,7 @@ returns-clause-told g c = λ telling.
     (sound.0, record {
       layout_is = refl;
       logs = c.in_ok-starts.ensures.told telling;
+      spells = sound.2;
       winners = listed;
       each = λ k. ap (entry_with k) listed ∙ found_each (all_entries l image) k;
     })
