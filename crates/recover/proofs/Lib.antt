@@ -9,3 +9,4 @@ pub mod FoundLaws
 pub mod LogLaws
 pub mod MadeLaws
 pub mod StandLaws
+pub mod PairLaws
