@@ -16,6 +16,14 @@ use Rattle.store_image.proofs.SoundLaws.{has_layout}
 use Rattle.headline.specs.Headline.{cells_of, RecoversThroughout}
 use Rattle.headline.proofs.Images.{at_attach}
 
+-- a region that is too long breaks the first rule, whatever its words
+too_long : (bytes : ℕ) (image : ℕ → ℕ) → 268439552 < bytes → first_fault bytes image ≡ Some (NotARegion 1)
+unfolding first_fault
+too_long bytes image big = ap (fault_by image) (by (bytes % 8 == 0 && nat_le 4096 bytes)) where
+  by : (b : Bool) → cond {A = Option ℕ} (b && nat_le bytes 268439552) (cond (image 0 == magic && image 1 == 1) (cond (is_none (layout_rule (layout_of image)) && bytes == total_bytes (layout_of image)) None (Some 3)) (Some 2)) (Some 1) ≡ Some 1
+  by true = ap (λ b. cond {A = Option ℕ} b (cond (image 0 == magic && image 1 == 1) (cond (is_none (layout_rule (layout_of image)) && bytes == total_bytes (layout_of image)) None (Some 3)) (Some 2)) (Some 1)) (lt-leb bytes 268439552 big)
+  by false = refl
+
 module _ (old s : State) (found : ℕ → ℕ) (A : Attached old s s.frame.bytes found) where
   -- it has the words that were found
   pub found_last : IsTelling s → (w : ℕ) → InRange s.frame w → lasts s w ≡ found w
@@ -34,14 +42,8 @@ module _ (old s : State) (found : ℕ → ℕ) (A : Attached old s s.frame.bytes
   pub found_fault : IsTelling s → first_fault s.frame.bytes (lasts s) ≡ first_fault s.frame.bytes found
   found_fault telling = elim (cases_lt 268439552 s.frame.bytes) [
     | inr small ↦ fault_agrees s.frame.bytes (lasts s) found (found_words small telling)
-    | inl big ↦ too_long (lasts s) big ∙ sym (too_long found big)
-  ] where
-    too_long : (image : ℕ → ℕ) → 268439552 < s.frame.bytes → first_fault s.frame.bytes image ≡ Some (NotARegion 1)
-    unfolding first_fault
-    too_long image big = ap (fault_by image) (by (s.frame.bytes % 8 == 0 && nat_le 4096 s.frame.bytes)) where
-      by : (b : Bool) → cond (b && nat_le s.frame.bytes 268439552) (cond (image 0 == magic && image 1 == 1) (cond (is_none (layout_rule (layout_of image)) && s.frame.bytes == total_bytes (layout_of image)) None (Some 3)) (Some 2)) (Some 1) ≡ Some 1
-      by true = ap (λ b. cond b (cond (image 0 == magic && image 1 == 1) (cond (is_none (layout_rule (layout_of image)) && s.frame.bytes == total_bytes (layout_of image)) None (Some 3)) (Some 2)) (Some 1)) (lt-leb s.frame.bytes 268439552 big)
-      by false = refl
+    | inl big ↦ too_long s.frame.bytes (lasts s) big ∙ sym (too_long s.frame.bytes found big)
+  ]
 
   -- and so what a sound one says.
   pub sound_small : IsSound s.frame.bytes found → s.frame.bytes ≤ 268439552

@@ -21,6 +21,8 @@ use Rattle.store_image.specs.Facts.{In, IsStore}
 use Rattle.store_image.specs.Listing.{lookup, ListsCells}
 use Rattle.store_image.specs.Parts.{all_entries}
 use Rattle.store_image.specs.Winners.{winner_in, winner, recovered}
+use Rattle.store_image.specs.Soundness.{first_fault}
+use Rattle.store_image.proofs.SoundFacts.{store_sound}
 use Rattle.store_image.proofs.Copies.{winner_some, winner_max}
 use Rattle.core_log.specs.Log.{LogState, StandsIn, tail_of, lines_left, room_of}
 use Rattle.core_log.specs.Fresh.{IsEmptiest}
@@ -142,7 +144,7 @@ module _ (s : State) (first : s.frame.first ≡ 0) (words : s.frame.words ≡ wo
     pub layout_is : start.log.layout ≡ l
     layout_is = own_start.layout_is
 
-    found_layout : IsTelling s → layout_of (lasts s) ≡ l
+    pub found_layout : IsTelling s → layout_of (lasts s) ≡ l
     found_layout telling = sym (O.found telling).is_of.layout_is
 
     pub region_of : IsRegionOf s start.log
@@ -190,3 +192,10 @@ module _ (s : State) (first : s.frame.first ≡ 0) (words : s.frame.words ≡ wo
         subst (λ (x : CoreStart). HasLogsOf (layout_of (lasts s)) (lasts s) 0 x.log) (only_start r.starts.items rest start start (O.made.count ∙ O.one) starts_are)
         (of.logs 0 start (let one = O.one in let same = ap (λ (g : Geometry). g.cores) (found_layout telling) in omega (arith, one, same))) in
         room_is (layout_of (lasts s)) (lasts s) start.log (layout_is ∙ sym (found_layout telling)) has start.log.opened own_start.opened
+
+-- what is known of a region that was recovered
+pub found_sound : (s : State) (r : Recovered) → IsOpened s r → IsTelling s → first_fault s.frame.bytes (lasts s) ≡ None
+found_sound s r O telling = store_sound s.frame.bytes (lasts s) (O.found telling).sound
+
+pub found_one : (s : State) (r : Recovered) → IsOpened s r → IsTelling s → lasts s 2 ≡ 1
+found_one s r O telling = ap (λ (g : Geometry). g.cores) (sym (O.found telling).is_of.layout_is) ∙ O.one

@@ -35,7 +35,8 @@ use Rattle.flatstore.specs.declared.report.Status.{Status}
 use Rattle.flatstore.specs.declared.report.Status.TheVariants as statuses
 use Rattle.flatstore.specs.declared.report.Report.{Report}
 use Rattle.flatstore.proofs.Inputs.{read_trace, read_served}
-use Rattle.flatstore.proofs.Attached.{found_fresh, fresh_is_empty, fresh_P.start}
+use Rattle.flatstore.proofs.Attached.{found_words, found_fault, sound_small}
+use Rattle.flatstore.proofs.Agreeing.{lines_agree, stock_agrees}
 use Rattle.flatstore.proofs.Roomy.{full_of, spent_of, unrefused_of}
 
 takes_nothing : (x : Option (List ℕ)) → Takes x x []

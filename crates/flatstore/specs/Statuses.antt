@@ -15,6 +15,9 @@ exit_code (NotARegion rule) = 7
 exit_code Memory = 8
 exit_code (NotBuilt line) = 20
 
+abbrev pub damage_line : ℕ → ℕ → ℕ → List ℕ
+damage_line part chunk rule = codes "flatstore: damaged region: part " ++ (decimal part ++ (codes " chunk " ++ (decimal chunk ++ (codes " rule " ++ decimal rule))))
+
 abbrev pub fault_line : Status → List ℕ
 fault_line Done = []
 fault_line Usage = codes "flatstore: usage: flatstore format REGION --cores N --group N --chunks N --chunk-bytes N, replay REGION, run REGION, dump REGION, log REGION, load REGION START COUNT"
@@ -22,7 +25,7 @@ fault_line (BadInput line rule) = codes "flatstore: line " ++ (decimal line ++ (
 fault_line SourceFault = codes "flatstore: reading the input failed"
 fault_line SinkFault = codes "flatstore: writing the output failed"
 fault_line RegionFault = codes "flatstore: the region failed"
-fault_line (Damaged part chunk rule) = codes "flatstore: damaged region: part " ++ (decimal part ++ (codes " chunk " ++ (decimal chunk ++ (codes " rule " ++ decimal rule))))
+fault_line (Damaged part chunk rule) = damage_line part chunk rule
 fault_line (NotARegion rule) = codes "flatstore: not a region: rule " ++ decimal rule
 fault_line Memory = codes "flatstore: out of memory"
 fault_line (NotBuilt line) = codes "flatstore: not built yet: line " ++ decimal line

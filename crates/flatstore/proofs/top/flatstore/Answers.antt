@@ -1,11 +1,11 @@
 -- The promise, where requests were answered and where none was.
-use Rattle.std.proofs.Common.{refl, sym, ap, subst}
-use Rattle.pm_region.specs.State.{State}
+use Rattle.std.proofs.Common.{◌⊎◌, refl, sym, ap, subst}
+use Rattle.pm_region.specs.State.{State, IsTelling}
 use Rattle.store_image.specs.Soundness.{IsSound}
 use Rattle.serial_engine.specs.Answers.{told}
-use Rattle.flatstore.specs.Promise.{Replays}
-use Rattle.flatstore.proofs.Replaying.{played_replays}
-use Rattle.flatstore.proofs.Refused.{some_input, refused_replays}
+use Rattle.flatstore.specs.Promise.{Replays, IsDue, IsFault}
+use Rattle.flatstore.proofs.Replaying.{played_replays, played_due}
+use Rattle.flatstore.proofs.Refused.{some_input, refused_replays, refused_due}
 use Rattle.flatstore.proofs.top.flatstore.Goals as goal
 
 pub returns-in-Err-clause-replay : goal.returns-in-Err-clause-replay
@@ -33,3 +33,23 @@ returns-in-Ok-replay-clause-replay g c = λ attached sound.
           (g.S.Source.coming c.args.source.now) (g.O.Sink.taken c.args.sink.now) (g.O.Sink.taken c.write.new.sink) (g.O.Sink.fault_count c.args.sink.now) (g.O.Sink.fault_count c.write.new.sink) c.in-Ok-replay.ended c.write.result.status
           P c.write.ensures.written c.write.result refl (λ i. told (c.write.ensures.finishes i) (c.write.ensures.refusals i)) c.write.ensures.refusals c.write.ensures.complete c.attach.ensures.cause.later,
     )
+
+pub returns-in-Err-clause-due : goal.returns-in-Err-clause-due
+returns-in-Err-clause-due g c = λ input is attached telling.
+    let old = g.R.Region.state c.args.region.now in
+    let s = g.R.Region.state c.attach.new.self in
+    let found = g.R.SplitRegion.found c.args.region.now in
+    let source = g.S.Source.fault_count c.args.source.now in
+    let source' = g.S.Source.fault_count c.replay.new.source in
+    let sink = g.O.Sink.fault_count c.args.sink.now in
+    let same = ap g.R.Region.state (sym c.in-Err.ensures.untouched) in
+    subst (λ (t : State). IsDue t.frame.bytes found input c.of-in-Err.result.status ⊎ IsFault old t source source' sink sink c.of-in-Err.result.status) same
+    (subst (λ st. IsDue s.frame.bytes found input st ⊎ IsFault old s source source' sink sink st) (sym c.of-in-Err.ensures.status)
+    (refused_due old s found c.in-Ok.ensures.ok (g.S.Source.coming c.args.source.now) source source' c.in-Err.status c.in-Err.ensures.refused input is (subst IsTelling (sym same) telling) sink sink))
+
+pub returns-in-Ok-replay-clause-due : goal.returns-in-Ok-replay-clause-due
+returns-in-Ok-replay-clause-due g c = λ input is attached telling.
+    played_due (g.R.Region.state c.args.region.now) (g.R.Region.state c.attach.new.self) (g.R.Region.state c.replay.new.region) (g.R.SplitRegion.found c.args.region.now) c.in-Ok.ensures.ok
+    (g.S.Source.coming c.args.source.now) (g.O.Sink.taken c.args.sink.now) (g.O.Sink.taken c.write.new.sink) (g.O.Sink.fault_count c.args.sink.now) (g.O.Sink.fault_count c.write.new.sink) c.in-Ok-replay.ended c.write.result.status
+    c.in-Ok-replay.ensures.played c.write.ensures.written c.write.result refl (λ i. told (c.write.ensures.finishes i) (c.write.ensures.refusals i)) c.write.ensures.refusals c.write.ensures.complete c.attach.ensures.cause.later
+    (g.S.Source.fault_count c.args.source.now) (g.S.Source.fault_count c.replay.new.source) input is telling c.attach.ensures.cause.later
