@@ -5,3 +5,5 @@ pub mod Replaying
 pub mod Refused
 pub mod Reading
 pub mod Roomy
+pub mod Forms
+pub mod Emptiness

@@ -40,6 +40,8 @@ answers_none statuses.SourceFault = true
 answers_none statuses.SinkFault = false
 answers_none statuses.RegionFault = false
 answers_none statuses.Memory = true
+answers_none (statuses.Damaged part chunk rule) = true
+answers_none (statuses.NotARegion rule) = true
 answers_none (statuses.NotBuilt line) = true
 
 stop_none : (r : Result (List Line) Stop) → is_stop r ≡ true → answers_none (status_of r) ≡ true

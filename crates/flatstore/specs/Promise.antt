@@ -86,6 +86,8 @@ is_quiet (statuses.BadInput line rule) = true
 is_quiet statuses.SourceFault = true
 is_quiet statuses.SinkFault = false
 is_quiet statuses.RegionFault = false
+is_quiet (statuses.Damaged part chunk rule) = true
+is_quiet (statuses.NotARegion rule) = true
 is_quiet statuses.Memory = false
 is_quiet (statuses.NotBuilt line) = true
 

@@ -1,7 +1,7 @@
 -- Exit statuses, and the lines on standard error.
 use Rattle.std.specs.Prelude.{ℕ, List, [], ◌++◌, codes, decimal}
 use Rattle.flatstore.specs.declared.report.Status.{Status}
-use Rattle.flatstore.specs.declared.report.Status.TheVariants.{Done, Usage, BadInput, SourceFault, SinkFault, RegionFault, Memory, NotBuilt}
+use Rattle.flatstore.specs.declared.report.Status.TheVariants.{Done, Usage, BadInput, SourceFault, SinkFault, RegionFault, Damaged, NotARegion, Memory, NotBuilt}
 
 abbrev pub exit_code : Status → ℕ
 exit_code Done = 0
@@ -10,8 +10,13 @@ exit_code (BadInput line rule) = 2
 exit_code SourceFault = 3
 exit_code SinkFault = 4
 exit_code RegionFault = 5
+exit_code (Damaged part chunk rule) = 6
+exit_code (NotARegion rule) = 7
 exit_code Memory = 8
 exit_code (NotBuilt line) = 20
+
+abbrev pub damage_line : ℕ → ℕ → ℕ → List ℕ
+damage_line part chunk rule = codes "flatstore: damaged region: part " ++ (decimal part ++ (codes " chunk " ++ (decimal chunk ++ (codes " rule " ++ decimal rule))))
 
 abbrev pub fault_line : Status → List ℕ
 fault_line Done = []
@@ -20,5 +25,7 @@ fault_line (BadInput line rule) = codes "flatstore: line " ++ (decimal line ++ (
 fault_line SourceFault = codes "flatstore: reading the input failed"
 fault_line SinkFault = codes "flatstore: writing the output failed"
 fault_line RegionFault = codes "flatstore: the region failed"
+fault_line (Damaged part chunk rule) = damage_line part chunk rule
+fault_line (NotARegion rule) = codes "flatstore: not a region: rule " ++ decimal rule
 fault_line Memory = codes "flatstore: out of memory"
 fault_line (NotBuilt line) = codes "flatstore: not built yet: line " ++ decimal line

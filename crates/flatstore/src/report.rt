@@ -1,6 +1,6 @@
 // What a call of the program reports.
 ghost use Rattle.std.specs.Prelude.{◌≡◌, ℕ, ◌<◌, [], false, IfOk, string_bytes};
-ghost use Rattle.flatstore.specs.Statuses.{exit_code, fault_line};
+ghost use Rattle.flatstore.specs.Statuses.{exit_code, damage_line, fault_line};
 
 use fs_errors::Memory;
 use serial_engine::answers::{Finish, Refusal};
@@ -21,6 +21,11 @@ pub enum Status {
     SinkFault,
     /// A call of the region failed.
     RegionFault,
+    /// The region has a superblock, and this chunk of this part is the first that breaks one of rules 4 to 11. Parts
+    /// and their chunks are counted from 0.
+    Damaged { part: u32, chunk: u32, rule: u32 },
+    /// The region has no superblock: the first that is broken of rules 1 to 3.
+    NotARegion { rule: u32 },
     /// No memory was to be had.
     Memory,
     /// What is asked isn't built yet: by this line of the input, counted from 1, or by the region where it is 0.
@@ -35,9 +40,10 @@ pub struct Report {
     pub finishes: Vec<Finish>,
     /// One for each request that was refused for a cause of its own.
     pub refusals: Vec<Refusal>,
-    /// Whether the region was attached in this call.
+    /// Whether the region was attached in this call, or created.
     pub attached: bool,
-    /// Whether every request was answered. Where not, nothing was written.
+    /// Whether every request was answered. Where not, nothing was written. A call without requests has none to answer,
+    /// and says no.
     pub complete: bool,
 }
 
@@ -60,6 +66,15 @@ impl Report {
     }
 }
 
+fn damage_text(alloc: Global, part: u32, chunk: u32, rule: u32) -> Result<String, Memory>
+    ensures { IfOk result (λ text. string_bytes text ≡ damage_line part chunk rule) }
+{
+    let text = format!(in alloc;
+        "flatstore: damaged region: part {part} chunk {chunk} rule {rule}"
+    )?;
+    Ok(text)
+}
+
 impl Status {
     /// The status with which the program exits.
     pub fn code(&self) -> u8
@@ -72,6 +87,8 @@ impl Status {
             Status::SourceFault => 3,
             Status::SinkFault => 4,
             Status::RegionFault => 5,
+            Status::Damaged { .. } => 6,
+            Status::NotARegion { .. } => 7,
             Status::Memory => 8,
             Status::NotBuilt { .. } => 20,
         }
@@ -92,6 +109,10 @@ impl Status {
             Status::SourceFault => format!(in alloc; "flatstore: reading the input failed")?,
             Status::SinkFault => format!(in alloc; "flatstore: writing the output failed")?,
             Status::RegionFault => format!(in alloc; "flatstore: the region failed")?,
+            Status::Damaged { part, chunk, rule } => damage_text(alloc, *part, *chunk, *rule)?,
+            Status::NotARegion { rule } => format!(in alloc;
+                "flatstore: not a region: rule {rule}"
+            )?,
             Status::Memory => format!(in alloc; "flatstore: out of memory")?,
             Status::NotBuilt { line } => format!(in alloc;
                 "flatstore: not built yet: line {line}"
