@@ -11,3 +11,4 @@ mod walking;
 
 pub use log::CoreLog;
 pub use types::{LogChunk, Peek, Placed, Room, WalkStep};
+pub use walking::load_words;

@@ -53,8 +53,8 @@ fn skip_zeros<R: Region>(region: &R, first: u64, place: u64, tail: u64) -> u64
     tail
 }
 
-// So many words of the region, from a word on.
-fn load_words<R: Region>(
+/// So many words of the region, from a word on. The number is the word's in the region.
+pub fn load_words<R: Region>(
     alloc: Global,
     region: &R,
     first: u64,

@@ -12,7 +12,8 @@ use fs_model::Value;
 use log_entry::packing::{unpack, words_for};
 use std::alloc::Global;
 
-fn is_start(layout: &Geometry, class: u32, unit: u64) -> bool
+/// Whether a block of a class begins at a unit of a chunk and lies in it wholly. A unit has 256 bytes.
+pub fn is_start(layout: &Geometry, class: u32, unit: u64) -> bool
     requires { class ≤ 12 }
     ensures { result ≡ is_start layout.now class unit }
 {

@@ -28,7 +28,8 @@ fn in_group(layout: &Geometry, part: u32, entries: &[AtPlace]) -> bool
     true
 }
 
-fn log_rule(layout: &Geometry, part: u32, scanned: &Scanned) -> Option<u32>
+/// The first of rules 6 and 7 that a log of the part breaks, by what stands in its payload.
+pub fn log_rule(layout: &Geometry, part: u32, scanned: &Scanned) -> Option<u32>
     requires cores { 1 ≤ layout.now.cores }
     requires group { 1 ≤ layout.now.group }
     ensures { (found : Scan) → IsScan scanned.now found → result ≡ rule_of layout.now part found }

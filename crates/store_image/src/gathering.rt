@@ -12,7 +12,8 @@ use chunk_map::layouts::Geometry;
 use fs_errors::Memory;
 use std::alloc::Global;
 
-fn place_entries(
+/// Appends the entries of a chunk with their places.
+pub fn place_entries(
     part: u32,
     chunk: u32,
     found: Vec<AtPlace>,

@@ -44,7 +44,7 @@ fn cell(
 }
 
 /// Appends the key's pair, where it is live.
-fn push_pair(pairs: &mut Vec<Pair>, key: u64, value: Option<Value>) -> Result<(), Memory>
+pub fn push_pair(pairs: &mut Vec<Pair>, key: u64, value: Option<Value>) -> Result<(), Memory>
     ensures { IfOk result (λ _. pairs.new.items ≡ pairs.old.items ++ with_pair key value []) }
 {
     if let Some(value) = value {

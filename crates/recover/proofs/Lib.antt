@@ -1,0 +1,13 @@
+pub mod WinningLaws
+pub mod ClashLaws
+pub mod RegionLaws
+pub mod GatherLaws
+pub mod BlockLaws
+pub mod JudgeLaws
+pub mod SpellLaws
+pub mod FoundLaws
+pub mod LogLaws
+pub mod MadeLaws
+pub mod StandLaws
+pub mod PairLaws
+pub mod Clients

@@ -1,0 +1,30 @@
+-- What is said of an image by reading its chunks one after another.
+use Rattle.std.specs.Prelude.{◌≡◌, ℕ, ◌<◌, List, ◌++◌, Option, Some, None, Result, Ok, Err, Vec}
+use Rattle.std.specs.Global.{Global}
+use Rattle.chunk_map.specs.declared.layouts.Geometry.{Geometry}
+use Rattle.store_image.specs.declared.types.PlacedEntry.{PlacedEntry}
+use Rattle.store_image.specs.declared.types.Fault.{Fault}
+use Rattle.store_image.specs.Parts.{part_entries, all_entries}
+use Rattle.store_image.specs.Soundness.{part_fault, chunk_fault, damage}
+use Rattle.recover.specs.Winning.{winners_of}
+use Rattle.recover.specs.Logs.{SpellsLog}
+
+-- a part's first fault; where there is none, its entries are appended
+pub record GathersPart (l : Geometry) (image : ℕ → ℕ) (c : ℕ) (old new : List PlacedEntry) (fault : Option Fault) : Type 0 where
+  pub fault_is : fault ≡ part_fault l image c
+  pub entries : fault ≡ None → new ≡ old ++ part_entries l image c
+  pub spells : fault ≡ None → (j : ℕ) → j < l.chunks → SpellsLog l image c j
+
+-- the words of each log are a list of batches
+abbrev pub AllSpell : Geometry → (ℕ → ℕ) → Type 0
+AllSpell l image = (c j : ℕ) → c < l.cores → j < l.chunks → SpellsLog l image c j
+
+-- all entries, or the fault of the first damaged chunk
+abbrev pub Gathers : Geometry → (ℕ → ℕ) → Result (Vec PlacedEntry Global) Fault → Type 0
+Gathers l image (Ok es) = (chunk_fault l image ≡ None) × (es.items ≡ all_entries l image) × AllSpell l image
+Gathers l image (Err fault) = chunk_fault l image ≡ Some fault
+
+-- the winners of a part that keeps all rules, or the first broken one
+abbrev pub Judges : Geometry → (ℕ → ℕ) → Result (Vec PlacedEntry Global) Fault → Type 0
+Judges l image (Ok ws) = (damage l image ≡ None) × (ws.items ≡ winners_of (all_entries l image)) × AllSpell l image
+Judges l image (Err fault) = damage l image ≡ Some fault

@@ -1,0 +1,25 @@
+//! Recovery: what the words of a region say after a crash. One walk over the logs finds the first broken rule
+//! of soundness, or the winner of each key and the logs of the cores. It writes nothing.
+//!
+//! The plain and slow program of `store_image` says the same of a list of words; its definitions are the
+//! yardstick here. This one reads the region word by word, chunk by chunk, in time linear in the words up to
+//! the logs' tails, and by ordered maps in the entries.
+#![tactic(auto)]
+
+pub mod blocks;
+pub mod clashes;
+pub mod gathering;
+pub mod judging;
+pub mod listing;
+pub mod logs;
+
+pub mod recovery;
+#[cfg(test)]
+mod tests;
+pub mod types;
+pub mod winning;
+
+pub use listing::pairs;
+pub use recovery::{first_fault, recover};
+pub use store_image::Fault;
+pub use types::{CoreStart, RecoverError, Recovered};
