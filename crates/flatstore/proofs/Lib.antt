@@ -7,3 +7,5 @@ pub mod Reading
 pub mod Roomy
 pub mod Agreeing
 pub mod Openings
+pub mod Forms
+pub mod Emptiness

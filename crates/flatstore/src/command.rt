@@ -1,27 +1,114 @@
 // The words of the command line.
-ghost use Rattle.std.specs.Prelude.{◌≡◌, ℕ, List, [], Option, IfOk, codes, string_bytes, option_map};
-ghost use Rattle.std.specs.Option.{option_map_or};
-ghost use Rattle.flatstore.specs.Commands.{form_of, words_of};
+ghost use Rattle.std.specs.Prelude.{◌≡◌, IfOk, option_map, string_bytes};
+ghost use Rattle.clap.specs.Words.{found_of, rows_of, subcommand_rows_of};
+ghost use Rattle.chunk_map.specs.Checked.{layout_by_rule};
+ghost use Rattle.flatstore.specs.Commands.{form_of, form_in, form_named, layout_in, number_in, words_of};
+ghost use Rattle.flatstore.specs.Asked.{asked, path_of};
 
+use crate::parser::program;
+use chunk_map::Layout;
+use chunk_map::layouts::layout_rule;
+use clap::ArgMatches;
+use clap::error::ErrorKind;
 use fs_errors::Memory;
 use std::alloc::Global;
 
-/// The path of the region where the words after the program's name are `replay REGION`, or `None` where they are no
-/// form of the program. The path is the third word, and may be empty.
-pub fn replayed(words: &Vec<String>) -> Option<&str>
-    ensures { option_map (λ t. t.now) result ≡ form_of (words_of words.now.items) }
+/// What the words ask for. The path is that of the region, and may be empty.
+#[derive(Drop)]
+pub enum Command<'a> {
+    /// An empty region of this layout, in place of whatever is there.
+    Format { path: &'a str, layout: Layout },
+    /// Answers to the requests of the input, in order.
+    Replay { path: &'a str },
+}
+
+fn number_in(matches: &ArgMatches, name: &str) -> Option<u64>
+    ensures { result ≡ number_in name.now (rows_of (found_of matches.now)) }
 {
-    if words.len() == 3 && words[1].as_str() == "replay" {
-        Some(words[2].as_str())
-    } else {
-        None
+    matches.get_one::<u64>(name)
+}
+
+/// The layout with these numbers, where they keep its rules.
+fn layout_of(cores: u64, group: u64, chunks: u64, chunk_bytes: u64) -> Option<Layout>
+    ensures { result ≡ layout_by_rule (record { cores = cores; group = group; chunks = chunks; chunk_bytes = chunk_bytes }) }
+{
+    if layout_rule(cores, group, chunks, chunk_bytes).is_some() {
+        return None;
+    }
+    Layout::new(cores as u32, group as u32, chunks as u32, chunk_bytes).ok()
+}
+
+fn layout_in(matches: &ArgMatches) -> Option<Layout>
+    ensures { result ≡ layout_in (rows_of (found_of matches.now)) }
+{
+    let cores = number_in(matches, "cores")?;
+    let group = number_in(matches, "group")?;
+    let chunks = number_in(matches, "chunks")?;
+    let chunk_bytes = number_in(matches, "chunk-bytes")?;
+    layout_of(cores, group, chunks, chunk_bytes)
+}
+
+/// The command of a subcommand's name, its matches and its path.
+fn command_named<'a>(name: &str, matches: &ArgMatches, path: &'a str) -> Option<Command<'a>>
+    ensures { option_map asked result ≡ form_named name.now (rows_of (found_of matches.now)) path.entry.now }
+{
+    if name == "format" {
+        let layout = layout_in(matches)?;
+        return Some(Command::Format { path, layout });
+    }
+    if name == "replay" {
+        return Some(Command::Replay { path });
+    }
+    None
+}
+
+fn command_in<'a>(matches: &ArgMatches<'a>) -> Option<Command<'a>>
+    ensures { option_map asked result ≡ form_in (subcommand_rows_of matches.now) }
+{
+    let (name, own) = matches.subcommand()?;
+    let path = own.get_str("region")?;
+    command_named(name, own, path)
+}
+
+/// What the words of a command line ask for, the program's name first, or `None` where they are no form of the
+/// program: where `clap` refuses them, or where the numbers for a new region break a rule of its layout.
+pub fn parse_command<'a>(alloc: Global, words: &'a [String]) -> Result<Option<Command<'a>>, Memory>
+    ensures { IfOk result (λ c. option_map asked c ≡ form_of (words_of words.entry.now)) }
+{
+    let program = program(alloc)?;
+    match program.try_get_matches_from(words) {
+        Ok(matches) => Ok(command_in(&matches)),
+        Err(error) => {
+            if error.kind() == ErrorKind::OutOfMemory {
+                Err(Memory)
+            } else {
+                Ok(None)
+            }
+        }
     }
 }
 
-/// The path of the region, or the empty path where the words are no form.
-pub fn region_path(alloc: Global, words: &Vec<String>) -> Result<String, Memory>
-    ensures { IfOk result (λ path. string_bytes path ≡ option_map_or (λ p. p) (form_of (words_of words.now.items)) []) }
+impl<'a> Command<'a> {
+    ghost use Rattle.flatstore.specs.Asked.{path_of};
+
+    /// The path of the region.
+    pub fn path(&self) -> &'a str
+        ensures { result.now ≡ path_of (asked self.now) }
+    {
+        match self {
+            Command::Format { path, .. } => path,
+            Command::Replay { path } => path,
+        }
+    }
+}
+
+/// The path of the region, or `None` exactly where the words are no form.
+pub fn region_path(alloc: Global, words: &Vec<String>) -> Result<Option<String>, Memory>
+    ensures { IfOk result (λ path. option_map string_bytes path ≡ option_map path_of (form_of (words_of words.now.items))) }
 {
-    let path = String::from_str(alloc, replayed(words).unwrap_or(""))?;
-    Ok(path)
+    match parse_command(alloc, words.as_slice()) {
+        Err(error) => Err(error),
+        Ok(None) => Ok(None),
+        Ok(Some(command)) => Ok(Some(String::from_str(alloc, command.path())?)),
+    }
 }

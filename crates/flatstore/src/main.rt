@@ -11,6 +11,11 @@ use std::{env, io};
 use top::flatstore;
 
 mod command;
+#[cfg(test)]
+mod format_tests;
+mod formatting;
+mod parser;
+mod playing;
 mod replay;
 mod report;
 #[cfg(test)]
@@ -28,7 +33,11 @@ fn command_line(rt: &HostRuntime, alloc: Global) -> Result<Vec<String>, Memory> 
 /// Does what the command line asks, with the region in its file, standard input and standard output.
 fn run(rt: &HostRuntime, alloc: Global) -> Result<Status, Memory> {
     let words = command_line(rt, alloc)?;
-    let path = command::region_path(alloc, &words)?;
+    let path = match command::region_path(alloc, &words)? {
+        Some(path) => path,
+        // it is never opened
+        None => String::new(alloc),
+    };
     let own = match rt.clone() {
         Ok(own) => own,
         Err(_) => return Err(Memory),

@@ -69,8 +69,9 @@ impl Report {
 fn damage_text(alloc: Global, part: u32, chunk: u32, rule: u32) -> Result<String, Memory>
     ensures { IfOk result (λ text. string_bytes text ≡ damage_line part chunk rule) }
 {
-    let text =
-        format!(in alloc; "flatstore: damaged region: part {part} chunk {chunk} rule {rule}")?;
+    let text = format!(in alloc;
+        "flatstore: damaged region: part {part} chunk {chunk} rule {rule}"
+    )?;
     Ok(text)
 }
 

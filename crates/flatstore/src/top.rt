@@ -1,22 +1,26 @@
 // The top call: what the program does with its region, its input and its output.
-ghost use Rattle.std.specs.Prelude.{◌≡◌, ◌⊎◌, ℕ, ◌≤◌, List, Some, None, true, false, ◌↔◌, OnOk, OnErr, IfOk};
+ghost use Rattle.std.specs.Prelude.{◌≡◌, ◌⊎◌, ℕ, ◌≤◌, List, Some, None, true, false, OnOk, OnErr, IfOk};
 ghost use Rattle.pm_region.specs.State.{State, IsTelling, Rose};
 ghost use Rattle.pm_region.specs.Split.{Attached};
+ghost use Rattle.chunk_map.specs.declared.layouts.Geometry.{Geometry};
 ghost use Rattle.store_image.specs.Soundness.{IsSound};
 ghost use Rattle.flatstore.specs.Commands.{form_of, words_of};
+ghost use Rattle.flatstore.specs.Commands.Form.{Format, Replay};
+ghost use Rattle.flatstore.specs.Formats.{Formats};
 ghost use Rattle.flatstore.specs.Promise.{IsInput, Replays, IsDue, IsFault, is_quiet};
 ghost use Rattle.flatstore.specs.declared.report.Status.TheVariants as statuses;
 
-use crate::command::replayed;
-use crate::replay::replay;
+use crate::command::{Command, parse_command};
+use crate::formatting::format_region;
+use crate::playing::replay_region;
 use crate::report::{Report, Status};
 use fs_text::{Sink, Source};
-use pm_region::{AttachError, SplitRegion};
+use pm_region::SplitRegion;
 use std::alloc::Global;
 
-/// Does what the words of a command line ask. The first word is the program's name, and the only form so far is
-/// `replay REGION`: the region is attached, the input is read, its requests are answered in order, and the replies
-/// are written once all are answered.
+/// Does what the words of a command line ask. The first word is the program's name. For `format` the region is created
+/// and its superblock written. For `replay` the region is attached, the input is read, its requests are answered in
+/// order, and the replies are written once all are answered.
 pub fn flatstore<S: Source, O: Sink, R: SplitRegion>(
     alloc: Global,
     words: &Vec<String>,
@@ -24,16 +28,23 @@ pub fn flatstore<S: Source, O: Sink, R: SplitRegion>(
     sink: &mut O,
     region: &mut R,
 ) -> Report
-    // The words alone decide on Usage.
-    ensures usage { (result.status ≡ statuses.Usage) ↔ (form_of (words_of words.now.items) ≡ None) }
+    // The words alone decide on Usage, but for want of memory.
+    ensures usage { result.status ≡ statuses.Usage → form_of (words_of words.now.items) ≡ None }
+    ensures no_form { form_of (words_of words.now.items) ≡ None → (result.status ≡ statuses.Usage) ⊎ (result.status ≡ statuses.Memory) }
+
+    // A region that is made is the empty one, and until then it is refused.
+    ensures format { (path : List ℕ) (l : Geometry) → form_of (words_of words.now.items) ≡ Some (Format path l)
+        → Formats (R.state region.old) (R.state region.new) l result × (source.new ≡ source.old) × (sink.new ≡ sink.old) }
 
     // The headline.
-    ensures replay { result.attached ≡ true → IsSound (R.state region.new).frame.bytes (R.found region.old)
+    ensures replay { (path : List ℕ) → form_of (words_of words.now.items) ≡ Some (Replay path)
+        → result.attached ≡ true → IsSound (R.state region.new).frame.bytes (R.found region.old)
         → (input : List ℕ) × IsInput (S.coming source.old) input × Replays (R.state region.old) (R.state region.new) (R.found region.old) input
         (O.taken sink.old) (O.taken sink.new) (O.fault_count sink.old) (O.fault_count sink.new) result }
 
     // Where region and source tell, their words and bytes decide on the status, but for faults that were counted and want of memory.
-    ensures due { (input : List ℕ) → S.coming source.old ≡ Some input → result.attached ≡ true → IsTelling (R.state region.new)
+    ensures due { (path : List ℕ) → form_of (words_of words.now.items) ≡ Some (Replay path)
+        → (input : List ℕ) → S.coming source.old ≡ Some input → result.attached ≡ true → IsTelling (R.state region.new)
         → IsDue (R.state region.new).frame.bytes (R.found region.old) input result.status
         ⊎ IsFault (R.state region.old) (R.state region.new) (S.fault_count source.old) (S.fault_count source.new) (O.fault_count sink.old) (O.fault_count sink.new) result.status }
     ensures attaching { result.attached ≡ false → (result.status ≡ statuses.Usage) ⊎ ((result.status ≡ statuses.Memory) ⊎ (result.status ≡ statuses.RegionFault)) }
@@ -47,19 +58,17 @@ pub fn flatstore<S: Source, O: Sink, R: SplitRegion>(
 
     // Nothing is lost or changed by a refusal.
     ensures sink_untouched { is_quiet result.status ≡ true → sink.new ≡ sink.old }
-    ensures usage_untouched { result.status ≡ statuses.Usage → (region.new ≡ region.old) × (source.new ≡ source.old) }
+    ensures no_form_untouched { form_of (words_of words.now.items) ≡ None → (region.new ≡ region.old) × (source.new ≡ source.old) }
     ensures region_untouched { is_quiet result.status ≡ true → result.attached ≡ true
         → Attached (R.state region.old) (R.state region.new) (R.state region.new).frame.bytes (R.found region.old) }
 {
-    if replayed(words).is_none() {
-        return Report::of(alloc, Status::Usage, false);
-    }
-    match region.attach(alloc) {
-        Err(AttachError::RegionFault) => Report::of(alloc, Status::RegionFault, false),
-        Err(AttachError::Memory) => Report::of(alloc, Status::Memory, false),
-        Ok(()) => match replay(alloc, source, region) {
-            Err(status) => Report::of(alloc, status, true),
-            Ok(ended) => ended.write(alloc, sink),
-        },
+    let command = match parse_command(alloc, words.as_slice()) {
+        Err(_) => return Report::of(alloc, Status::Memory, false),
+        Ok(None) => return Report::of(alloc, Status::Usage, false),
+        Ok(Some(command)) => command,
+    };
+    match command {
+        Command::Format { layout, .. } => format_region(alloc, region, layout),
+        Command::Replay { .. } => replay_region(alloc, source, sink, region),
     }
 }

@@ -10,3 +10,4 @@ pub mod LogLaws
 pub mod MadeLaws
 pub mod StandLaws
 pub mod PairLaws
+pub mod Clients

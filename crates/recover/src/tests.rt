@@ -2,6 +2,7 @@
 ghost use Rattle.std.specs.Prelude.{◌≡◌, vec_len, IfOk};
 
 use crate::{Fault, RecoverError, first_fault, pairs, recover};
+use core_log::LogChunk;
 use fs_errors::Memory;
 use pm_region::{Region, SplitRegion, SteadyRegion};
 use std::alloc::Global;
@@ -93,5 +94,174 @@ fn damage(rt: HostRuntime) -> Result<(), Fail> {
         (1059, 2),
     ];
     assert!(rt; judged(alloc, &shared)? == damaged(0, 1, 11));
+    Ok(())
+}
+
+/// Two cores of one group, with four chunks each.
+const TWO_CORES: [(u64, u64); 26] = [
+    (2, 2),
+    (3, 2),
+    // part 0: a block of 256 bytes in chunk 0; in chunk 1 key 2 points at it, and key 1 is `a`
+    (512, 258),
+    (544, 256),
+    (545, 7),
+    (1024, 1),
+    (1025, 8),
+    (1056, 0x1100_0011),
+    (1057, 2),
+    (1058, 0x0100_0015),
+    (1059, 1),
+    (1060, 97),
+    // part 1: an empty log in chunk 0; in chunk 3 key 1 is deleted, and key 5 is `abc`
+    (2560, 1),
+    (2561, 0),
+    (4096, 1),
+    (4097, 8),
+    (4128, 0x22),
+    (4129, 1),
+    (4130, 0x0300_0015),
+    (4131, 5),
+    (4132, 0x0063_6261),
+    // what isn't read: beyond a tail, a payload of blocks, words of a head
+    (1064, 3),
+    (1023, 9),
+    (4100, 5),
+    (513, 77),
+    (4136, 0x15),
+];
+
+#[test]
+fn two_cores(rt: HostRuntime) -> Result<(), Fail> {
+    let alloc = rt.alloc();
+    let region = region(alloc, 4608, &TWO_CORES)?;
+    assert_eq!(rt; region.first(), 0);
+    assert_eq!(rt; region.words(), 4608);
+    let recovered = recover(alloc, &region, 36864)?;
+    assert_eq!(rt; recovered.layout.cores(), 2);
+    assert_eq!(rt; recovered.layout.group(), 2);
+    assert_eq!(rt; recovered.starts.len(), 2);
+    let first = &recovered.starts[0];
+    assert_eq!(rt; first.core, 0);
+    assert_eq!(rt; first.log.chunks(), [LogChunk { chunk: 1, tail: 8 }].as_slice());
+    assert_eq!(rt; first.log.opened(), Some(1));
+    let second = &recovered.starts[1];
+    assert_eq!(rt; second.core, 1);
+    let logs = [LogChunk { chunk: 0, tail: 0 }, LogChunk { chunk: 3, tail: 8 }];
+    assert_eq!(rt; second.log.chunks(), logs.as_slice());
+    assert_eq!(rt; second.log.opened(), Some(0));
+    let winners = &recovered.winners;
+    assert_eq!(rt; winners.len(), 3);
+    assert_eq!(rt; (winners[0].key, winners[0].version), (1, 2));
+    assert_eq!(rt; (winners[1].key, winners[1].version), (2, 1));
+    assert_eq!(rt; (winners[2].key, winners[2].version), (5, 1));
+    let pairs = pairs(alloc, &region, &recovered)?;
+    assert_eq!(rt; pairs.len(), 2);
+    assert_eq!(rt; pairs[0].key, 2);
+    assert_eq!(rt; pairs[0].value.bytes().len(), 256);
+    assert!(rt; pairs[0].value.bytes().starts_with(&[7, 0]));
+    assert_eq!(rt; pairs[1].key, 5);
+    assert_eq!(rt; pairs[1].value.bytes(), b"abc".as_slice());
+    Ok(())
+}
+
+#[test]
+fn refusals(rt: HostRuntime) -> Result<(), Fail> {
+    let alloc = rt.alloc();
+    // key 5 isn't owned by a core of part 0's group, which is of one core
+    let mut alone = region(alloc, 4608, &TWO_CORES)?;
+    write(&mut alone, &[(3, 1), (1059, 5)]);
+    assert!(rt; found(alloc, &alone, 36864)? == damaged(0, 1, 7));
+    // an entry stands in both parts
+    let mut twice = region(alloc, 4608, &TWO_CORES)?;
+    write(&mut twice, &[(4128, 0x0100_0015), (4129, 1), (4130, 97), (4131, 0)]);
+    write(&mut twice, &[(4132, 0)]);
+    assert_eq!(rt; twice.first(), 0);
+    assert_eq!(rt; twice.words(), 4608);
+    let fault = recover(alloc, &twice, 36864).err();
+    assert!(rt; fault == Some(RecoverError::Fault(Fault::Damaged { part: 1, chunk: 3, rule: 8 })));
+    // the block has a length of class 2; a pointer to no block
+    let mut long = region(alloc, 4608, &TWO_CORES)?;
+    write(&mut long, &[(544, 505)]);
+    assert!(rt; found(alloc, &long, 36864)? == damaged(0, 1, 10));
+    write(&mut long, &[(1056, 0x1200_0011)]);
+    assert!(rt; found(alloc, &long, 36864)? == damaged(0, 1, 9));
+    Ok(())
+}
+
+/// The same words in a list, for the plain program.
+fn words_of(alloc: Global, writes: &[(u64, u64)]) -> Result<Vec<u64>, Memory>
+    ensures { IfOk result (λ v. vec_len v ≡ 2560) }
+{
+    let mut words = vec![in alloc; 0u64; 2560]?;
+    for (at, word) in writes {
+        if *at < 2560 {
+            words[*at as usize] = *word;
+        }
+    }
+    Ok(words)
+}
+
+/// One core: a block in chunk 0, logs in chunks 1 and 2 with three entries each.
+const ONE_LOG: [(u64, u64); 25] = [
+    (0, 0x3130_5453_5441_4c46),
+    (1, 1),
+    (2, 1),
+    (3, 1),
+    (4, 4),
+    (5, 4096),
+    (512, 258),
+    (544, 300),
+    (1024, 1),
+    (1025, 16),
+    (1056, 0x1100_0011),
+    (1057, 2),
+    (1058, 0x0100_0015),
+    (1059, 1),
+    (1060, 97),
+    (1064, 0x22),
+    (1065, 1),
+    (1536, 1),
+    (1537, 8),
+    (1568, 0x1100_0011),
+    (1569, 2),
+    (1570, 0x0100_0035),
+    (1571, 1),
+    (1572, 98),
+    (1573, 0x1900_0021),
+];
+
+const PLACES: [u64; 14] =
+    [1, 5, 512, 544, 1024, 1025, 1056, 1057, 1059, 1064, 1537, 1568, 1570, 1571];
+
+const WORDS: [u64; 12] = [
+    0,
+    1,
+    2,
+    8,
+    16,
+    258,
+    505,
+    0x22,
+    0x0100_0015,
+    0x1100_0021,
+    0x1300_0011,
+    u64::MAX,
+];
+
+#[test]
+fn the_plain_program(rt: HostRuntime) -> Result<(), Fail> {
+    let alloc = rt.alloc();
+    for at in PLACES {
+        for word in WORDS {
+            let mut region = region(alloc, 2560, &ONE_LOG)?;
+            write(&mut region, &[(at, word)]);
+            let mut words = words_of(alloc, &ONE_LOG)?;
+            if at < 2560 {
+                words[at as usize] = word;
+            }
+            let plain = store_image::first_fault(alloc, &words, 20480)?;
+            assert!(rt; found(alloc, &region, 20480)? == plain);
+        }
+    }
     Ok(())
 }

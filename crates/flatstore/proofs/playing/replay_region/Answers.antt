@@ -6,7 +6,7 @@ use Rattle.serial_engine.specs.Answers.{told}
 use Rattle.flatstore.specs.Promise.{Replays, IsDue, IsFault}
 use Rattle.flatstore.proofs.Replaying.{played_replays, played_due}
 use Rattle.flatstore.proofs.Refused.{some_input, refused_replays, refused_due}
-use Rattle.flatstore.proofs.top.flatstore.Goals as goal
+use Rattle.flatstore.proofs.playing.replay_region.Goals as goal
 
 pub returns-in-Err-clause-replay : goal.returns-in-Err-clause-replay
 returns-in-Err-clause-replay g c = λ attached sound.

@@ -1,0 +1,25 @@
+-- Once the region is created, its images are those of a superblock that is written over zeros.
+use Rattle.std.proofs.Common.{rules, ◌≡◌, ◌*◌, ◌/◌, subst}
+use Rattle.pm_region.specs.State.{State, During, IsTelling, cell_now}
+use Rattle.pm_region.specs.Split.{Attached}
+use Rattle.pm_region.specs.Words.{EachIn}
+use Rattle.chunk_map.specs.Layouts.{IsLayout}
+use Rattle.flatstore.specs.Formats.{Formats}
+use Rattle.flatstore.specs.declared.report.Status.TheVariants as statuses
+use Rattle.flatstore.specs.declared.report.Report.{Report}
+use Rattle.flatstore.proofs.Emptiness.{made_stops, made_ends}
+use Rattle.flatstore.proofs.formatting.format_region.Goals as goal
+
+pub returns-in-Err-clause-promise : goal.returns-in-Err-clause-promise
+returns-in-Err-clause-promise g c =
+    let is : IsLayout c.args.layout = search rules in
+    let created = subst (λ n. Attached (g.R.Region.state c.args.region.now) (g.R.Region.state c.create.new.self) (8 * (n / 8)) (λ w. 0)) c.total_bytes.ensures c.in-Ok.ensures.ok in
+    made_stops (g.R.Region.state c.args.region.now) (g.R.Region.state c.create.new.self) (g.R.Region.state c.write_superblock.new.region) c.args.layout is created
+    c.write_superblock.ensures.fresh c.write_superblock.ensures.others c.create.ensures.cause.later c.in-Err.ensures.cause c.of-in-Err.result c.of-in-Err.ensures.status c.of-in-Err.ensures.attached
+
+pub returns-in-Ok-write_superblock-clause-promise : goal.returns-in-Ok-write_superblock-clause-promise
+returns-in-Ok-write_superblock-clause-promise g c =
+    let is : IsLayout c.args.layout = search rules in
+    let created = subst (λ n. Attached (g.R.Region.state c.args.region.now) (g.R.Region.state c.create.new.self) (8 * (n / 8)) (λ w. 0)) c.total_bytes.ensures c.in-Ok.ensures.ok in
+    made_ends (g.R.Region.state c.args.region.now) (g.R.Region.state c.create.new.self) (g.R.Region.state c.write_superblock.new.region) c.args.layout is created
+    c.write_superblock.ensures.fresh c.write_superblock.ensures.others c.in-Ok-write_superblock.ensures.ok c.of-in-Ok-write_superblock.result c.of-in-Ok-write_superblock.ensures.status c.of-in-Ok-write_superblock.ensures.attached

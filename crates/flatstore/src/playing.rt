@@ -1,0 +1,54 @@
+// The requests of the input are answered on the region.
+ghost use Rattle.std.specs.Prelude.{◌≡◌, ◌⊎◌, ℕ, ◌≤◌, List, Some, None, true, false, OnOk, OnErr, IfOk};
+ghost use Rattle.pm_region.specs.State.{State, IsTelling, Rose};
+ghost use Rattle.pm_region.specs.Split.{Attached};
+ghost use Rattle.store_image.specs.Soundness.{IsSound};
+ghost use Rattle.flatstore.specs.Promise.{IsInput, Replays, IsDue, IsFault, is_quiet};
+ghost use Rattle.flatstore.specs.declared.report.Status.TheVariants as statuses;
+
+use crate::replay::replay;
+use crate::report::{Report, Status};
+use fs_text::{Sink, Source};
+use pm_region::{AttachError, SplitRegion};
+use std::alloc::Global;
+
+/// Attaches the region, reads the input, answers its requests in order, and writes the replies once all are answered.
+pub fn replay_region<S: Source, O: Sink, R: SplitRegion>(
+    alloc: Global,
+    source: &mut S,
+    sink: &mut O,
+    region: &mut R,
+) -> Report
+    // The headline.
+    ensures replay { result.attached ≡ true → IsSound (R.state region.new).frame.bytes (R.found region.old)
+        → (input : List ℕ) × IsInput (S.coming source.old) input × Replays (R.state region.old) (R.state region.new) (R.found region.old) input
+        (O.taken sink.old) (O.taken sink.new) (O.fault_count sink.old) (O.fault_count sink.new) result }
+
+    // Where region and source tell, their words and bytes decide on the status, but for faults that were counted and want of memory.
+    ensures due { (input : List ℕ) → S.coming source.old ≡ Some input → result.attached ≡ true → IsTelling (R.state region.new)
+        → IsDue (R.state region.new).frame.bytes (R.found region.old) input result.status
+        ⊎ IsFault (R.state region.old) (R.state region.new) (S.fault_count source.old) (S.fault_count source.new) (O.fault_count sink.old) (O.fault_count sink.new) result.status }
+    ensures attaching { result.attached ≡ false → (result.status ≡ statuses.Memory) ⊎ (result.status ≡ statuses.RegionFault) }
+    ensures source_fault { result.status ≡ statuses.SourceFault → Rose (S.fault_count source.old) (S.fault_count source.new) }
+    ensures sink_fault { result.status ≡ statuses.SinkFault → Rose (O.fault_count sink.old) (O.fault_count sink.new) }
+    ensures region_fault { result.status ≡ statuses.RegionFault → Rose (R.state region.old).faults (R.state region.new).faults }
+    ensures no_usage { result.status ≡ statuses.Usage → ⊥ }
+
+    // Nothing is written where the run didn't come to its end.
+    ensures incomplete { result.complete ≡ false → sink.new ≡ sink.old }
+    ensures unattached { result.attached ≡ false → result.complete ≡ false }
+
+    // Nothing is lost or changed by a refusal.
+    ensures sink_untouched { is_quiet result.status ≡ true → sink.new ≡ sink.old }
+    ensures region_untouched { is_quiet result.status ≡ true → result.attached ≡ true
+        → Attached (R.state region.old) (R.state region.new) (R.state region.new).frame.bytes (R.found region.old) }
+{
+    match region.attach(alloc) {
+        Err(AttachError::RegionFault) => Report::of(alloc, Status::RegionFault, false),
+        Err(AttachError::Memory) => Report::of(alloc, Status::Memory, false),
+        Ok(()) => match replay(alloc, source, region) {
+            Err(status) => Report::of(alloc, status, true),
+            Ok(ended) => ended.write(alloc, sink),
+        },
+    }
+}
