@@ -75,12 +75,12 @@ module _ (l : Geometry) (is : IsLayout l) (one : l.cores ≡ 1) where
       let more : (payload_lines l - 5) * a ≤ (payload_lines l - 4) * (f - 1) = widen (omega (arith, few)) in
       let turn : (payload_lines l - 4) * (f - 1) ≡ (f - 1) * (payload_lines l - 4) = omega arith in
       omega (arith, bytes, up, times, split, factor, more, turn, size)
-        where
-          widen : a ≤ f - 1 → (payload_lines l - 5) * a ≤ (payload_lines l - 4) * (f - 1)
-          widen le =
-              let one : (payload_lines l - 5) * a ≤ (payload_lines l - 4) * a = mul-le-mul_right a (omega arith) in
-              let two : (payload_lines l - 4) * a ≤ (payload_lines l - 4) * (f - 1) = mul-le-mul_left (payload_lines l - 4) le in
-              omega (arith, one, two)
+    where
+      widen : a ≤ f - 1 → (payload_lines l - 5) * a ≤ (payload_lines l - 4) * (f - 1)
+      widen le =
+          let one : (payload_lines l - 5) * a ≤ (payload_lines l - 4) * a = mul-le-mul_right a (omega arith) in
+          let two : (payload_lines l - 4) * a ≤ (payload_lines l - 4) * (f - 1) = mul-le-mul_left (payload_lines l - 4) le in
+          omega (arith, one, two)
 
   ample_needs : (image : ℕ → ℕ) (room : ℕ) (qs : List Request) → AllByRecursion IsServed qs → IsAmpleFor l image qs 0 → needs qs ≤ room + (free_chunks l image 0 - 1) * (payload_lines l - 4)
   ample_needs image room qs served ample =

@@ -191,22 +191,34 @@ module _ (lines : ℕ) (big : 5 ≤ lines) where
   -- from the requests behind one to those with it
   spent_behind : (n : ℕ) (s : Stock) (q : Request) (qs : List Request) (xs : List Refusal) → AllByRecursion (IsSpent (n + 1) (after lines s q) qs) xs → AllByRecursion (IsSpent n s (q ∷ qs)) xs
   spent_behind n s q qs [] h = tt
-  spent_behind n s q qs (x ∷ xs) h = ((let low = h.0.0.0 in let high = h.0.0.1 in (omega (arith, low), omega (arith, high)), λ last why k asked.
-      let low = h.0.0.0 in
-      let next : x.request - n ≡ suc (x.request - (n + 1)) = omega (arith, low) in
-      let behind = h.0.1 last why k (subst (λ i. IsAsked (q ∷ qs) i k) next asked) in
-      let taken : changes_asked k (take (x.request - n) (q ∷ qs)) ≡ changes_asked k (q ∷ take (x.request - (n + 1)) qs) = ap (λ i. changes_asked k (take i (q ∷ qs))) next in
-      let count = sum_by-cons (λ p. once (may_change k p)) q (take (x.request - (n + 1)) qs) in
-      let more = one_more s q k in
-      omega (arith, behind, taken, count, more)), spent_behind n s q qs xs h.1)
+  spent_behind n s q qs (x ∷ xs) h = (
+    (
+      let low = h.0.0.0 in let high = h.0.0.1 in (omega (arith, low), omega (arith, high)),
+      λ last why k asked.
+          let low = h.0.0.0 in
+          let next : x.request - n ≡ suc (x.request - (n + 1)) = omega (arith, low) in
+          let behind = h.0.1 last why k (subst (λ i. IsAsked (q ∷ qs) i k) next asked) in
+          let taken : changes_asked k (take (x.request - n) (q ∷ qs)) ≡ changes_asked k (q ∷ take (x.request - (n + 1)) qs) = ap (λ i. changes_asked k (take i (q ∷ qs))) next in
+          let count = sum_by-cons (λ p. once (may_change k p)) q (take (x.request - (n + 1)) qs) in
+          let more = one_more s q k in
+          omega (arith, behind, taken, count, more),
+    ),
+    spent_behind n s q qs xs h.1,
+  )
 
   own_spent : (n : ℕ) (s : Stock) (q : Request) (qs : List Request) (o : Option Shortage) → why s q ≡ o → (rest : List Refusal) → AllByRecursion (IsSpent n s (q ∷ qs)) rest → AllByRecursion (IsSpent n s (q ∷ qs)) (named n o ++ rest)
   own_spent n s q qs None is rest h = h
-  own_spent n s q qs (Some cause) is rest h = (((omega arith, omega arith), λ last why' k asked.
-      let zero_is : n - n ≡ 0 = omega arith in
-      let own : key_of q ≡ k = (let e : Some (key_of q) ≡ Some k = subst (λ i. IsAsked (q ∷ qs) i k) zero_is asked in cc e) in
-      let used = versions_of s q last k (is ∙ ap Some why') own in
-      omega (arith, used)), h)
+  own_spent n s q qs (Some cause) is rest h = (
+    (
+      (omega arith, omega arith),
+      λ last why' k asked.
+          let zero_is : n - n ≡ 0 = omega arith in
+          let own : key_of q ≡ k = (let e : Some (key_of q) ≡ Some k = subst (λ i. IsAsked (q ∷ qs) i k) zero_is asked in cc e) in
+          let used = versions_of s q last k (is ∙ ap Some why') own in
+          omega (arith, used),
+    ),
+    h,
+  )
 
   pub all_spent : (n : ℕ) (s : Stock) (qs : List Request) → AllByRecursion (IsSpent n s qs) (refusals_from lines n s qs)
   all_spent n s [] = tt

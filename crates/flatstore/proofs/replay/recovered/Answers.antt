@@ -24,6 +24,9 @@ returns-else-cores-eq-CORES-clause-err g c =
     let s = g.R.Region.state c.args.region.now in
     let several = c.if-cores-eq-CORES.false in
     let count = c.cores.ensures in
-    inr (inl (refl, λ telling.
-    let found = subst (λ n. IsFound n (lasts s) c.in-Ok.recovered) c.bytes.ensures (c.in-Ok.ensures.told telling) in
-    (store_sound s.frame.bytes (lasts s) found.sound, λ one. several (count ∙ ap (λ (l : Geometry). l.cores) found.is_of.layout_is ∙ one))))
+    inr (inl (
+      refl,
+      λ telling.
+          let found = subst (λ n. IsFound n (lasts s) c.in-Ok.recovered) c.bytes.ensures (c.in-Ok.ensures.told telling) in
+          (store_sound s.frame.bytes (lasts s) found.sound, λ one. several (count ∙ ap (λ (l : Geometry). l.cores) found.is_of.layout_is ∙ one)),
+    ))
