@@ -12,7 +12,6 @@ pub mod gathering;
 pub mod judging;
 pub mod listing;
 pub mod logs;
-
 pub mod recovery;
 #[cfg(test)]
 mod tests;
