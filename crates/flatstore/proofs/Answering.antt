@@ -10,6 +10,7 @@ use Rattle.headline.specs.Headline.{Told, Recovers, finished_in}
 use Rattle.headline.specs.Run.{Recorded}
 use Rattle.headline.proofs.Run.{recorded_stopped}
 use Rattle.headline.proofs.Crash.{recovers_grow}
+use Rattle.headline.proofs.Steady.{none_stopped}
 use Rattle.serial_engine.specs.declared.run.Run.{Run}
 use Rattle.serial_engine.specs.Answers.{told_by}
 use Rattle.serial_engine.specs.Cells.{cell_of}
@@ -45,6 +46,7 @@ answered_all s t qs e g ready cause stocked = record {
       let held = shown_holds t.frame.bytes e.store.log.layout (cell_of e.store.cells) _ image R.one (R.shows telling image may) in
       held.cells k ∙ sym (A.left k) ∙ ap (λ l. cell_after_all l None) (sym (ap (λ l. finished_changes k qs (finished_in (told_by e.answers)) ++ l) (A.settled k) ∙ append-nil (finished_changes k qs (finished_in (told_by e.answers)))));
   cause = cause;
+  steady = λ done going. none_stopped no_cells qs e.answers.replies.items (told_by e.answers) t.stamp (cell_of e.store.cells) (g.answered going);
   refused = stocked.told;
   refused_all = λ done going. (stocked.going going).1;
 }
@@ -66,6 +68,7 @@ answered_some s t qs e0 e some g0 cause refused =
       whole = λ done. absurd (false_true done);
       all = λ done. absurd (false_true done);
       cause = cause;
+      steady = λ done. absurd (false_true done);
       refused = refused;
       refused_all = λ done. absurd (false_true done);
     } where

@@ -4,3 +4,4 @@ pub mod Attached
 pub mod Replaying
 pub mod Refused
 pub mod Reading
+pub mod Roomy

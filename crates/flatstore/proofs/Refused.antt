@@ -9,6 +9,12 @@ use Rattle.fs_text.specs.declared.stages.Stop.{Stop}
 use Rattle.fs_text.specs.declared.stages.Stop.TheVariants as stops
 use Rattle.fs_text.specs.Input.{trace_of}
 use Rattle.fs_text.specs.Stages.{input_or_stop}
+use Rattle.std.specs.List.{AllByRecursion}
+use Rattle.chunk_map.specs.Layouts.{layout_of, owner}
+use Rattle.headline.specs.Ample.{IsAmpleFor}
+use Rattle.headline.specs.Limits.{IsAsked}
+use Rattle.serial_engine.specs.declared.answers.Refusal.{Refusal}
+use Rattle.serial_engine.specs.Stock.{is_full}
 use Rattle.headline.specs.Headline.{Told, cells_of, RecoversThroughout}
 use Rattle.headline.proofs.Run.{recorded}
 use Rattle.serial_engine.specs.Answers.{told}
@@ -23,7 +29,7 @@ use Rattle.flatstore.specs.declared.report.Status.TheVariants as statuses
 use Rattle.flatstore.specs.declared.report.Report.{Report}
 use Rattle.flatstore.proofs.Answering.{all_stop}
 use Rattle.flatstore.proofs.Attached.{found_fresh, lasts_fresh, crash_at_attach}
-use Rattle.flatstore.proofs.Replaying.{no_text}
+use Rattle.flatstore.proofs.Replaying.{no_text, may_all}
 
 -- a status at which no request was answered for want of more than memory
 abbrev pub answers_none : Status → Bool
@@ -62,25 +68,31 @@ module _ (old s : State) (found : ℕ → ℕ) (A : Attached old s s.frame.bytes
   pub is_none : answers_none status ≡ true
   is_none = refused_none U
 
-  pub apart_from : (other : Status) → answers_none other ≡ false → status ≡ other → ⊥
-  apart_from other unlike e = both (answers_none other) (sym (ap answers_none e) ∙ is_none) unlike where
-    both : (b : Bool) → b ≡ true → b ≡ false → ⊥
-    both b p q = cc (sym p ∙ q)
+  both_ways : (b : Bool) → b ≡ true → b ≡ false → ⊥
+  both_ways b p q = cc (sym p ∙ q)
 
-  pub refused_replays : (r : Report) → r.status ≡ status → r.finishes.items ≡ [] → r.refusals.items ≡ [] → (input : List ℕ) (text : Option (List ℕ)) (faults : ℕ) → IsSound s.frame.bytes found
+  pub apart_from : (other : Status) → answers_none other ≡ false → status ≡ other → ⊥
+  apart_from other unlike e = both_ways (answers_none other) (sym (ap answers_none e) ∙ is_none) unlike
+
+  pub refused_replays : (r : Report) → r.status ≡ status → r.finishes.items ≡ [] → r.refusals.items ≡ [] → r.complete ≡ false → (input : List ℕ) (text : Option (List ℕ)) (faults : ℕ) → IsSound s.frame.bytes found
       → Replays old s found input text text faults faults r
-  refused_replays r is fin ref input text faults sound =
+  refused_replays r is fin ref cut input text faults sound =
       let none : Told = record { finishes = []; refusals = [] } in
       let nothing : told_in r ≡ none = (λ i. told (fin i) (ref i)) in
       let trace : List Request = trace_of (found 2) input in
+      let MayStop : Type 0 = r.complete ≡ true → Rose old.faults s.faults in
+      let may : MayStop = (λ complete. absurd (both_ways r.complete complete cut)) in
       let stops = all_stop (cells_of found) [] [] none trace (recorded (cells_of found) [] [] none 0 (cells_of found) (nothing_answered (cells_of found) 0)) in
       record {
         done = λ done telling. absurd (apart_from statuses.Done refl (sym is ∙ done));
         failed = λ failed other steady telling. absurd (apart_from statuses.RegionFault refl (sym is ∙ failed));
-        begins = λ telling. subst (λ x. WritesFront (cells_of found) trace x text text) (sym nothing) (no_text (cells_of found) trace none stops.0 text text stops.1 refl);
+        begins = λ telling. subst (λ x. WritesFront (cells_of found) trace x MayStop text text) (sym nothing) (no_text (cells_of found) trace none MayStop stops.0 stops.1 (may_all MayStop stops.0 may) text text refl);
         crash = subst (λ x. RecoversThroughout s (cells_of found) trace x) (sym nothing) (crash_at_attach old s found A sound trace);
         refused = λ telling. ([], trace, refl, ref);
         refused_all = λ done telling. absurd (apart_from statuses.Done refl (sym is ∙ done));
+        ended = λ complete telling. absurd (both_ways r.complete complete cut);
+        full = λ telling. subst (λ xs. AllByRecursion (λ (x : Refusal). is_full x.why ≡ true → (k : ℕ) → IsAsked trace x.request k → IsAmpleFor (layout_of found) found trace (owner (layout_of found) k) → ⊥) xs) (sym ref) tt;
+        unrefused = λ telling within. ref;
         last = λ done telling image may k small. absurd (apart_from statuses.Done refl (sym is ∙ done));
       }
 

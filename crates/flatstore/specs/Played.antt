@@ -2,7 +2,9 @@
 use Rattle.std.specs.Prelude.{◌≡◌, ◌⊎◌, ℕ, List, ◌++◌, true, false, Option, None}
 use Rattle.fs_model.specs.declared.model.Request.{Request}
 use Rattle.fs_model.specs.declared.model.Reply.{Reply}
+use Rattle.std.specs.List.{AllByRecursion}
 use Rattle.fs_model.specs.Changes.{cell_after_all}
+use Rattle.fs_model.specs.Lawful.{is_stopped}
 use Rattle.pm_region.specs.State.{State, IsTelling, cell_now, Rose}
 use Rattle.pm_region.specs.Words.{lasts}
 use Rattle.headline.specs.Headline.{changes_in, cells_of}
@@ -31,6 +33,7 @@ pub record HasAnswered (s t : State) (trace : List Request) (e : Ended) : Type 0
   pub all : e.complete ≡ true → e.stopped ≡ false → IsTelling t
       → EachImage t.frame (λ image. (k : ℕ) → cells_of image k ≡ cell_after_all (changes_in no_cells trace (told_by e.answers) k) None) (cell_now t)
   pub cause : e.stopped ≡ true → Rose s.faults t.faults
+  pub steady : e.complete ≡ true → e.stopped ≡ false → AllByRecursion (λ x. is_stopped x ≡ false) e.answers.replies.items
   -- the refusals are those of the requests up to the one at which it stopped
   pub refused : (front : List Request) × (rest : List Request) × (trace ≡ front ++ rest) × (e.answers.refusals.items ≡ refusals_from fresh_lines 0 fresh_stock front)
   pub refused_all : e.complete ≡ true → e.stopped ≡ false → e.answers.refusals.items ≡ refusals_from fresh_lines 0 fresh_stock trace

@@ -1,5 +1,6 @@
 -- What a call of the program promises, over the region, the source and the sink before and after it.
-use Rattle.std.specs.Prelude.{◌≡◌, ◌⊎◌, ℕ, List, ◌++◌, Bool, true, false, Option, Some, None, Result, Ok, Err}
+use Rattle.std.specs.Prelude.{◌≡◌, ◌⊎◌, ℕ, List, [], ◌++◌, Bool, true, false, Option, Some, None, Result, Ok, Err}
+use Rattle.std.specs.List.{AllByRecursion}
 use Rattle.fs_model.specs.declared.model.Request.{Request}
 use Rattle.pm_region.specs.State.{State, IsTelling, Rose}
 use Rattle.fs_text.specs.declared.line.Line.{Line}
@@ -10,8 +11,11 @@ use Rattle.fs_text.specs.Input.{trace_of}
 use Rattle.fs_text.specs.Stages.{input_or_stop}
 use Rattle.fs_text.specs.Streams.{Takes}
 use Rattle.headline.specs.Headline.{Told, cells_of, WritesReplies, BeginsReplies, RecoversThroughout, RecoversAll}
+use Rattle.headline.specs.Ample.{IsAmpleFor}
+use Rattle.headline.specs.Limits.{IsAsked, IsWithinLimits}
+use Rattle.chunk_map.specs.Layouts.{layout_of, owner}
 use Rattle.serial_engine.specs.Answers.{told}
-use Rattle.serial_engine.specs.Stock.{refusals_from}
+use Rattle.serial_engine.specs.Stock.{refusals_from, is_full}
 use Rattle.flatstore.specs.Fresh.{IsFresh, fresh_lines, fresh_stock}
 use Rattle.flatstore.specs.declared.report.Status.{Status}
 use Rattle.flatstore.specs.declared.report.Status.TheVariants as statuses
@@ -26,26 +30,34 @@ IsInput (Some coming) input = coming ≡ input
 abbrev pub told_in : Report → Told
 told_in r = told r.finishes.items r.refusals.items
 
--- The sink took the whole text of lawful replies that fit the report, or the beginning of such a text.
-abbrev pub WritesAll : (ℕ → Option (List ℕ)) → List Request → Told → Option (List ℕ) → Option (List ℕ) → Type 0
-WritesAll start trace r before now = (written : List ℕ) × Takes before now written × WritesReplies start trace r written
+-- The sink took the whole text of lawful replies that fit the report, or the beginning of such a text. One is `stopped` only for a cause.
+abbrev pub WritesAll : (ℕ → Option (List ℕ)) → List Request → Told → Type 0 → Option (List ℕ) → Option (List ℕ) → Type 0
+WritesAll start trace r MayStop before now = (written : List ℕ) × Takes before now written × WritesReplies start trace r MayStop written
 
-abbrev pub WritesFront : (ℕ → Option (List ℕ)) → List Request → Told → Option (List ℕ) → Option (List ℕ) → Type 0
-WritesFront start trace r before now = (written : List ℕ) × Takes before now written × BeginsReplies start trace r written
+abbrev pub WritesFront : (ℕ → Option (List ℕ)) → List Request → Told → Type 0 → Option (List ℕ) → Option (List ℕ) → Type 0
+WritesFront start trace r MayStop before now = (written : List ℕ) × Takes before now written × BeginsReplies start trace r MayStop written
 
 -- The headline, of a replay of this input on a region that was attached with these words.
 pub record Replays (old new : State) (found : ℕ → ℕ) (input : List ℕ) (before now : Option (List ℕ)) (sink_faults sink_faults' : ℕ) (r : Report) : Type 0 where
-  -- At the end the whole text was written: also where a call of the region failed, but for attaching, and no write did.
-  pub done : r.status ≡ statuses.Done → IsTelling new → WritesAll (cells_of found) (trace_of (found 2) input) (told_in r) before now
-  pub failed : r.status ≡ statuses.RegionFault → (Rose old.frame.refusals new.frame.refusals → ⊥) → (Rose sink_faults sink_faults' → ⊥) → IsTelling new → WritesAll (cells_of found) (trace_of (found 2) input) (told_in r) before now
-  pub begins : IsTelling new → WritesFront (cells_of found) (trace_of (found 2) input) (told_in r) before now
+  -- At the end the whole text was written, without a `stopped`; also where a call of the region failed, but for attaching, and no write did.
+  pub done : r.status ≡ statuses.Done → IsTelling new → WritesAll (cells_of found) (trace_of (found 2) input) (told_in r) ⊥ before now
+  pub failed : r.status ≡ statuses.RegionFault → (Rose old.frame.refusals new.frame.refusals → ⊥) → (Rose sink_faults sink_faults' → ⊥) → IsTelling new
+      → WritesAll (cells_of found) (trace_of (found 2) input) (told_in r) (Rose old.faults new.faults) before now
+  -- Else the beginning of such a text, where a request is `stopped` only if a call of the region failed, or the run did not come to its end.
+  pub begins : IsTelling new → WritesFront (cells_of found) (trace_of (found 2) input) (told_in r) (r.complete ≡ true → Rose old.faults new.faults) before now
   -- Whatever a crash leaves at any told moment since the attach is sound, and recovers for each key its finished changes, or one more.
   pub crash : RecoversThroughout new (cells_of found) (trace_of (found 2) input) (told_in r)
   -- At the end it recovers all.
   pub last : r.status ≡ statuses.Done → RecoversAll new (cells_of found) (trace_of (found 2) input) (told_in r)
   -- The requests alone say which were refused, with which counts: all of them at the end, and else those before the first that was not answered.
   pub refused : IsTelling new → (front : List Request) × (rest : List Request) × (trace_of (found 2) input ≡ front ++ rest) × (r.refusals.items ≡ refusals_from fresh_lines 0 fresh_stock front)
+  -- A report that says so did come to the end: then those are all refusals, unless a call of the region failed.
+  pub ended : r.complete ≡ true → IsTelling new → (r.refusals.items ≡ refusals_from fresh_lines 0 fresh_stock (trace_of (found 2) input)) ⊎ Rose old.faults new.faults
   pub refused_all : r.status ≡ statuses.Done → IsTelling new → r.refusals.items ≡ refusals_from fresh_lines 0 fresh_stock (trace_of (found 2) input)
+  -- A change is refused for want of room only where the input is not ample for the part of its key's owner, and nothing is refused within all limits.
+  pub full : IsTelling new → AllByRecursion (λ x. is_full x.why ≡ true → (k : ℕ) → IsAsked (trace_of (found 2) input) x.request k
+      → IsAmpleFor (layout_of found) found (trace_of (found 2) input) (owner (layout_of found) k) → ⊥) r.refusals.items
+  pub unrefused : IsTelling new → IsWithinLimits found (trace_of (found 2) input) → r.refusals.items ≡ []
 
 -- what is built: neither deletes nor `go` lines, nor values of 256 bytes and more
 abbrev pub built_now : Built

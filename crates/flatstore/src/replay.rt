@@ -160,10 +160,12 @@ impl Ended {
         ensures finishes { result.finishes.items ≡ self.answers.finishes.items }
         ensures refusals { result.refusals.items ≡ self.answers.refusals.items }
         ensures attached { result.attached ≡ true }
+        ensures complete { result.complete ≡ self.complete }
         ensures written { HasWritten self (O.taken sink.old) (O.taken sink.new) (O.fault_count sink.old) (O.fault_count sink.new) result.status }
         ensures untouched { self.complete ≡ false → sink.new ≡ sink.old }
     {
-        let status = if !self.complete {
+        let complete = self.complete;
+        let status = if !complete {
             Status::Memory
         } else {
             match write_replies(alloc, sink, self.answers.replies.as_slice()) {
@@ -189,6 +191,7 @@ impl Ended {
             finishes: self.answers.finishes,
             refusals: self.answers.refusals,
             attached: true,
+            complete,
         }
     }
 }

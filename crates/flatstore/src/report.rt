@@ -1,5 +1,5 @@
 // What a call of the program reports.
-ghost use Rattle.std.specs.Prelude.{◌≡◌, ℕ, ◌<◌, [], IfOk, string_bytes};
+ghost use Rattle.std.specs.Prelude.{◌≡◌, ℕ, ◌<◌, [], false, IfOk, string_bytes};
 ghost use Rattle.flatstore.specs.Statuses.{exit_code, fault_line};
 
 use fs_errors::Memory;
@@ -37,6 +37,8 @@ pub struct Report {
     pub refusals: Vec<Refusal>,
     /// Whether the region was attached in this call.
     pub attached: bool,
+    /// Whether every request was answered. Where not, nothing was written.
+    pub complete: bool,
 }
 
 impl Report {
@@ -46,12 +48,14 @@ impl Report {
         ensures finishes { result.finishes.items ≡ [] }
         ensures refusals { result.refusals.items ≡ [] }
         ensures attached { result.attached ≡ attached }
+        ensures complete { result.complete ≡ false }
     {
         Report {
             status,
             finishes: Vec::new(alloc),
             refusals: Vec::new(alloc),
             attached,
+            complete: false,
         }
     }
 }

@@ -41,6 +41,10 @@ pub fn flatstore<S: Source, O: Sink, R: SplitRegion>(
     ensures sink_fault { result.status ≡ statuses.SinkFault → Rose (O.fault_count sink.old) (O.fault_count sink.new) }
     ensures region_fault { result.status ≡ statuses.RegionFault → Rose (R.state region.old).faults (R.state region.new).faults }
 
+    // Nothing is written where the run didn't come to its end.
+    ensures incomplete { result.complete ≡ false → sink.new ≡ sink.old }
+    ensures unattached { result.attached ≡ false → result.complete ≡ false }
+
     // Nothing is lost or changed by a refusal.
     ensures sink_untouched { is_quiet result.status ≡ true → sink.new ≡ sink.old }
     ensures usage_untouched { result.status ≡ statuses.Usage → (region.new ≡ region.old) × (source.new ≡ source.old) }

@@ -2,3 +2,4 @@ pub mod Lists
 pub mod Run
 pub mod Crash
 pub mod Images
+pub mod Steady

@@ -1,8 +1,9 @@
 -- What a run promises: its replies, and what each crash recovers.
-use Rattle.std.specs.Prelude.{◌≡◌, ◌⊎◌, ℕ, ◌+◌, ◌^◌, ◌<◌, ◌==◌, ◌++◌, List, length, map, Option, Some, None}
+use Rattle.std.specs.Prelude.{◌≡◌, ◌⊎◌, ℕ, ◌+◌, ◌^◌, ◌<◌, ◌==◌, ◌++◌, List, length, map, true, Option, Some, None}
+use Rattle.std.specs.List.{AllByRecursion}
 use Rattle.fs_model.specs.declared.model.Request.{Request}
 use Rattle.fs_model.specs.declared.model.Reply.{Reply}
-use Rattle.fs_model.specs.Lawful.{IsLawful, Fits}
+use Rattle.fs_model.specs.Lawful.{IsLawful, Fits, is_stopped}
 use Rattle.fs_model.specs.Changes.{changes_of, cell_after_all, finished_by, IsPrefixCell}
 use Rattle.log_entry.specs.declared.entry.Body.TheVariants.{Pointer}
 use Rattle.store_image.specs.declared.types.PlacedEntry.{PlacedEntry}
@@ -31,16 +32,18 @@ refused_in r = map (λ x. x.0) r.refusals
 abbrev pub changes_in : (ℕ → Option (List ℕ)) → List Request → Told → ℕ → List Request
 changes_in start trace r k = changes_of (start k) k trace (finished_in r) (refused_in r)
 
--- bytes that are the text of replies, or begin it
-pub record Answers (start : ℕ → Option (List ℕ)) (trace : List Request) (r : Told) (replies : List Reply) : Type 0 where
+-- Replies that a run may give. One is `Stopped` only for a cause.
+pub record Answers (start : ℕ → Option (List ℕ)) (trace : List Request) (r : Told) (MayStop : Type 0) (replies : List Reply) : Type 0 where
   pub lawful : IsLawful start trace replies
   pub fits : Fits (finished_in r) r.refusals replies
+  pub stops : AllByRecursion (λ x. is_stopped x ≡ true → MayStop) replies
 
-abbrev pub WritesReplies : (ℕ → Option (List ℕ)) → List Request → Told → List ℕ → Type 0
-WritesReplies start trace r bytes = (replies : List Reply) × Answers start trace r replies × (bytes ≡ replies_text replies)
+-- bytes that are the text of such replies, or begin it
+abbrev pub WritesReplies : (ℕ → Option (List ℕ)) → List Request → Told → Type 0 → List ℕ → Type 0
+WritesReplies start trace r MayStop bytes = (replies : List Reply) × Answers start trace r MayStop replies × (bytes ≡ replies_text replies)
 
-abbrev pub BeginsReplies : (ℕ → Option (List ℕ)) → List Request → Told → List ℕ → Type 0
-BeginsReplies start trace r bytes = (more : List ℕ) × WritesReplies start trace r (bytes ++ more)
+abbrev pub BeginsReplies : (ℕ → Option (List ℕ)) → List Request → Told → Type 0 → List ℕ → Type 0
+BeginsReplies start trace r MayStop bytes = (more : List ℕ) × WritesReplies start trace r MayStop (bytes ++ more)
 
 -- One image: it is sound, and recovers for each key the cell after its first f changes, or after one more
 pub record Recovers (bytes : ℕ) (start : ℕ → Option (List ℕ)) (trace : List Request) (r : Told) (f : ℕ → ℕ) (image : ℕ → ℕ) : Type 0 where

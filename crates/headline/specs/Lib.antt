@@ -1,3 +1,4 @@
 pub mod Headline
 pub mod Ample
 pub mod Run
+pub mod Limits

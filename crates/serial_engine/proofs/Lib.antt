@@ -9,3 +9,4 @@ pub mod Requests
 pub mod Starts
 pub mod Appended
 pub mod Stocks
+pub mod Roomy

@@ -75,7 +75,7 @@ stocked_same lines begin done e e' S layout reps refs stops stock = record {
   going = λ still. let was = S.going (sym stops ∙ still) in (stock ∙ was.0, refs ∙ was.1);
 }
 
-and_false : (a b : Bool) → (a ≡ false) ⊎ (b ≡ false) → (a && b) ≡ false
+pub and_false : (a b : Bool) → (a ≡ false) ⊎ (b ≡ false) → (a && b) ≡ false
 and_false false b h = refl
 and_false true b (inl h) = cc h
 and_false true b (inr h) = h

@@ -1,5 +1,5 @@
 -- What a store has left for new entries, and which requests it refuses for it: by the requests alone.
-use Rattle.std.specs.Prelude.{◌≡◌, ℕ, ◌+◌, ◌-◌, ◌&&◌, nat_lt, nat_le, List, [], ◌∷◌, ◌++◌, length, false, Option, Some, None, is_some, if◌then◌else◌}
+use Rattle.std.specs.Prelude.{◌≡◌, ℕ, ◌+◌, ◌-◌, ◌&&◌, nat_lt, nat_le, List, [], ◌∷◌, ◌++◌, length, Bool, true, false, Option, Some, None, is_some, if◌then◌else◌}
 use Rattle.fs_model.specs.declared.model.Request.{Request}
 use Rattle.fs_model.specs.declared.model.Request.TheVariants.{Put, Get, Delete}
 use Rattle.chunk_map.specs.Layouts.{payload_lines}
@@ -7,7 +7,7 @@ use Rattle.core_log.specs.Log.{room_of}
 use Rattle.serial_engine.specs.declared.answers.Counts.{Counts}
 use Rattle.serial_engine.specs.declared.answers.Refusal.{Refusal}
 use Rattle.serial_engine.specs.declared.answers.Shortage.{Shortage}
-use Rattle.serial_engine.specs.declared.answers.Shortage.TheVariants.{Room, Versions}
+use Rattle.serial_engine.specs.declared.answers.Shortage.TheVariants.{Room, Block, Versions, Length}
 use Rattle.serial_engine.specs.declared.run.Run.{Run}
 use Rattle.serial_engine.specs.declared.store.Store.{Store}
 use Rattle.serial_engine.specs.Cells.{last_of}
@@ -62,6 +62,13 @@ named n (Some cause) = record { request = n; why = cause } ∷ []
 abbrev pub refusals_from : ℕ → ℕ → Stock → List Request → List Refusal
 refusals_from lines n s [] = []
 refusals_from lines n s (q ∷ qs) = named n (why s q) ++ refusals_from lines (n + 1) (after lines s q) qs
+
+-- the causes of the reply `Full`
+abbrev pub is_full : Shortage → Bool
+is_full (Room counts) = true
+is_full (Block counts) = true
+is_full (Versions last) = false
+is_full (Length length) = false
 
 -- Where a run stands: its refusals are those of its requests, up to the one at which it stopped.
 pub record Stocked (lines : ℕ) (begin : Stock) (done : List Request) (e : Run) : Type 0 where
