@@ -1,5 +1,5 @@
 -- Where blocks lie in a region of a layout.
-use Rattle.std.proofs.Common.{◌≡◌, ℕ, ◌+◌, ◌-◌, ◌*◌, ◌/◌, ◌%◌, ◌^◌, ◌<◌, ◌≤◌, List, take, cond, true, false, Some, None, sym, ◌∙◌, ap, arith}
+use Rattle.std.proofs.Common.{◌≡◌, ℕ, ◌+◌, ◌-◌, ◌*◌, ◌/◌, ◌^◌, ◌<◌, ◌≤◌, List, take, cond, true, false, Some, None, sym, ◌∙◌, ap, arith}
 use Rattle.log_entry.specs.Words.{words_for, unpacked, words_from}
 use Rattle.pm_region.specs.State.{Frame}
 use Rattle.chunk_map.specs.declared.layouts.Geometry.{Geometry}

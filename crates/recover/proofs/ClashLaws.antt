@@ -1,7 +1,7 @@
 -- Entries of one name, and what contradicts them.
-use Rattle.std.proofs.Common.{◌≡◌, ◌⊎◌, inl, inr, ℕ, ◌+◌, ◌<◌, ◌≤◌, List, [], ◌∷◌, ◌++◌, length, take, drop, get_or, refl, sym, ◌∙◌, ap, subst, arith, ◌==◌, ◌&&◌, ◌||◌, not, true, false, cond, Bool, Option, Some, None}
+use Rattle.std.proofs.Common.{◌≡◌, ◌⊎◌, inl, inr, ℕ, ◌+◌, ◌<◌, ◌≤◌, List, [], ◌∷◌, ◌++◌, length, take, drop, get_or, refl, sym, ◌∙◌, ap, subst, ◌==◌, ◌&&◌, ◌||◌, not, true, false, cond, Bool, Option, Some, None}
 use denote.Ref.{Bor}
-use Rattle.std.proofs.lemmas.Bool.{eqb-true, eqb-false, eq-eqb, ne_eqb, and_parts, and_from, both_ways, not-false}
+use Rattle.std.proofs.lemmas.Bool.{eqb-true, eq-eqb, and_parts, and_from, both_ways, not-false}
 use Rattle.std.specs.List.{list_any}
 use Rattle.std.specs.Ordering.{nat_cmp, is_eq, ordering_then}
 use Rattle.std.specs.declared.cmp.Ordering.{Ordering}
@@ -113,7 +113,7 @@ module _ (m : BTreeMap (ℕ × ℕ) (Bor PlacedEntry)) (before : List PlacedEntr
 
 -- the first of its name is noted
 module _ (m n : BTreeMap (ℕ × ℕ) (Bor PlacedEntry)) (before : List PlacedEntry) (notes : Notes m before) (b : Bor PlacedEntry) (none : get name_cmp m (b.now.entry.key, b.now.entry.version) ≡ None)
-  (updates : Updates name_cmp m n (b.now.entry.key, b.now.entry.version) (Some b)) where
+    (updates : Updates name_cmp m n (b.now.entry.key, b.now.entry.version) (Some b)) where
   x : PlacedEntry
   x = b.now
 

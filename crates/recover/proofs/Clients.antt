@@ -1,5 +1,5 @@
 -- What callers need to list the pairs of a recovered region.
-use Rattle.std.proofs.Common.{◌≡◌, ℕ, ◌/◌, sym, ◌∙◌, ap, subst}
+use Rattle.std.proofs.Common.{◌≡◌, ℕ, ◌/◌, sym, subst}
 use Rattle.pm_region.specs.State.{Frame}
 use Rattle.chunk_map.specs.Layouts.{total_bytes}
 use Rattle.chunk_map.specs.Checked.{IsLength}

@@ -1,5 +1,5 @@
 -- The rules on blocks, told of the list of winners.
-use Rattle.std.proofs.Common.{◌≡◌, inl, inr, ℕ, ◌+◌, ◌*◌, ◌<◌, ◌≤◌, ltb, List, [], ◌∷◌, ◌++◌, length, take, drop, get_or, refl, sym, ◌∙◌, ap, subst, arith, ◌&&◌, ◌||◌, true, false, cond, Bool, Option, Some, None, append_assoc, append-nil}
+use Rattle.std.proofs.Common.{◌≡◌, inl, ℕ, ◌+◌, ◌*◌, ◌<◌, ◌≤◌, ltb, List, [], ◌∷◌, ◌++◌, length, take, drop, get_or, refl, sym, ◌∙◌, ap, subst, arith, ◌&&◌, ◌||◌, true, false, cond, Bool, Option, Some, None, append_assoc, append-nil}
 use Rattle.std.specs.Prelude.{option_map, is_some, Result, Ok, Err, IfOk, Vec}
 use Rattle.std.specs.Global.{Global}
 use Rattle.std.proofs.lemmas.List.{drop_more}
@@ -17,8 +17,7 @@ use Rattle.store_image.specs.declared.types.Fault.{Fault}
 use Rattle.store_image.specs.Parts.{block_class, all_entries}
 use Rattle.store_image.specs.Winners.{winner_in, keys_of}
 use Rattle.store_image.specs.Listing.{IsRising}
-use Rattle.store_image.specs.Facts.{In}
-use Rattle.store_image.specs.Soundness.{first_some, damaged, same_body, points_to, pointer_rule, body_rule, winner_fault, block_fault, chunk_fault, clash_fault, damage}
+use Rattle.store_image.specs.Soundness.{first_some, damaged, points_to, pointer_rule, body_rule, winner_fault, block_fault, chunk_fault, clash_fault, damage}
 use Rattle.store_image.proofs.SoundFacts.{in_back, winner_is}
 use Rattle.store_image.proofs.Listings.{rising_keys}
 use Rattle.store_image.proofs.Loops.{chunks_decide, clash_decides, blocks_decide}

@@ -1,13 +1,11 @@
 -- The Log chunks of a part, one after another.
-use Rattle.std.proofs.Common.{◌≡◌, ◌⊎◌, inl, inr, ⊎_elim, ℕ, ◌+◌, ◌-◌, ◌<◌, ◌≤◌, ◌==◌, ltb, Bool, true, false, cond, List, [], ◌∷◌, ◌++◌, length, Option, Some, None, refl, sym, ◌∙◌, ap, subst, arith, append-nil}
+use Rattle.std.proofs.Common.{◌≡◌, ⊎_elim, ℕ, ◌+◌, ◌<◌, ◌≤◌, ◌==◌, ltb, true, false, cond, List, [], ◌∷◌, ◌++◌, length, Option, Some, None, refl, sym, ◌∙◌, ap, subst, arith, append-nil}
 use Rattle.std.specs.Prelude.{IfSome, slice_index_or}
 use Rattle.std.specs.List.{AllByRecursion}
 use Rattle.std.proofs.lemmas.List.{get_or_push}
 use Rattle.std.proofs.Math.ListN.{get_or-append}
-use Rattle.std.proofs.lemmas.Bool.{eqb-true, eqb-false, eq-eqb, ne_eqb, ltb-true, ltb-false, lt-ltb, le-ltb, cases_eq}
+use Rattle.std.proofs.lemmas.Bool.{eq-eqb, ne_eqb, ltb-true, ltb-false, cases_eq}
 use Rattle.chunk_map.specs.declared.layouts.Geometry.{Geometry}
-use Rattle.chunk_map.specs.declared.heads.Head.{Head}
-use Rattle.chunk_map.specs.declared.heads.Head.TheVariants.{Free, Log, Data}
 use Rattle.chunk_map.specs.Layouts.{chunk_first, head_at}
 use Rattle.core_log.specs.declared.types.LogChunk.{LogChunk}
 use Rattle.core_log.specs.Log.{tail_of, chunk_with, IsChunkOf}
@@ -114,7 +112,7 @@ has_more l image part n cs new (Some tail) is there ends has = subst (HasBelow l
 pub each_more : (X : Type 0) (P : ℕ → X → Type 0) (xs new : List X) (x : X) (n : ℕ) → length xs ≡ n → new ≡ xs ++ x ∷ [] → ((c : ℕ) (d : X) → c < n → P c (slice_index_or xs c d)) → P n x → (c : ℕ) (d : X) → c < n + 1 → P c (slice_index_or new c d)
 each_more X P xs new x n long is each last c d lt = ⊎_elim
     (λ same. let at : slice_index_or new c d ≡ x = ap (λ l. slice_index_or l c d) is ∙ get_or_push xs x d c (long ∙ sym same) in
-      subst (λ (y : X). P c y) (sym at) (subst (λ (m : ℕ). P m x) (sym same) last))
+    subst (λ (y : X). P c y) (sym at) (subst (λ (m : ℕ). P m x) (sym same) last))
     (λ ne. let less : c < n = omega (arith, lt, ne) in let at : slice_index_or new c d ≡ slice_index_or xs c d = ap (λ l. slice_index_or l c d) is ∙ get_or-append xs (x ∷ []) d c (omega (arith, less, long)) in
-      subst (λ (y : X). P c y) (sym at) (each c d less))
+    subst (λ (y : X). P c y) (sym at) (each c d less))
     (cases_eq c n)

@@ -1,11 +1,11 @@
 -- Where chunks lie in a region of a layout.
-use Rattle.std.proofs.Common.{◌≡◌, ℕ, ◌+◌, ◌*◌, ◌/◌, ◌%◌, ◌^◌, ◌<◌, ◌≤◌, sym, ◌∙◌, ap, arith}
+use Rattle.std.proofs.Common.{◌≡◌, ℕ, ◌+◌, ◌*◌, ◌/◌, ◌^◌, ◌<◌, ◌≤◌, sym, ◌∙◌, ap, arith}
 use Rattle.std.specs.Prelude.{Result, Ok, Err}
 use Rattle.chunk_map.specs.declared.heads.Head.{Head}
 use Rattle.chunk_map.specs.Checked.{checked_head}
 use Rattle.pm_region.specs.State.{Frame}
 use Rattle.chunk_map.specs.declared.layouts.Geometry.{Geometry}
-use Rattle.chunk_map.specs.Layouts.{chunk_words, payload_words, chunk_first, total_bytes}
+use Rattle.chunk_map.specs.Layouts.{chunk_words, payload_words, chunk_first}
 use Rattle.chunk_map.specs.Setting.{HeadLies}
 use Rattle.chunk_map.proofs.LayoutLaws.{numbers_of, chunk_first_whole}
 use Rattle.store_image.proofs.Places.{layout_numbers, chunk_ends, chunk_number}

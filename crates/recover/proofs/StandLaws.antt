@@ -1,17 +1,17 @@
 -- Where each word is certain, the logs stand in the region.
-use Rattle.std.proofs.Common.{◌≡◌, ℕ, ◌+◌, ◌*◌, ◌/◌, ◌<◌, ◌≤◌, ltb, Bool, true, false, cond, Option, Some, None, refl, sym, ◌∙◌, ap, subst, arith}
+use Rattle.std.proofs.Common.{◌≡◌, ℕ, ◌+◌, ◌<◌, ltb, true, false, cond, Some, None, refl, sym, ◌∙◌, ap, subst, arith}
 use Rattle.std.specs.Prelude.{Result, Ok, Err, IfOk, slice_index_or}
 use Rattle.std.proofs.lemmas.Bool.{ltb-true}
-use Rattle.pm_region.specs.State.{State, Frame, IsTelling, InRange, cell_now}
-use Rattle.pm_region.specs.Words.{Surely, lasts}
+use Rattle.pm_region.specs.State.{State, IsTelling, cell_now}
+use Rattle.pm_region.specs.Words.{lasts}
 use Rattle.chunk_map.specs.declared.layouts.Geometry.{Geometry}
 use Rattle.chunk_map.specs.declared.heads.Head.{Head}
 use Rattle.chunk_map.specs.declared.heads.Head.TheVariants.{Free, Log, Data}
-use Rattle.chunk_map.specs.Layouts.{chunk_first, head_at, part_first, payload_words, total_bytes}
+use Rattle.chunk_map.specs.Layouts.{chunk_first, head_at}
 use Rattle.chunk_map.proofs.LayoutLaws.{part_within}
 use Rattle.store_image.proofs.Local.{tail_within}
-use Rattle.core_log.specs.Chunk.{IsLog, words_now}
-use Rattle.core_log.specs.Log.{LogState, IsOwn, StandsIn, Spelled, tail_of, first_of}
+use Rattle.core_log.specs.Chunk.{IsLog}
+use Rattle.core_log.specs.Log.{LogState, IsOwn, StandsIn, tail_of, first_of}
 use Rattle.store_image.specs.declared.types.Fault.{Fault}
 use Rattle.store_image.specs.Soundness.{damage}
 use Rattle.recover.specs.declared.types.CoreStart.{CoreStart}
@@ -36,7 +36,6 @@ log_there l image c j tail is = elim (ltb j l.chunks) as (λ b. ltb j l.chunks �
 ] refl is
 
 module _ (s : State) (log : LogState) (covers : Covers s.frame log.layout) (own : IsOwn log) (has : IsTelling s → HasLogsOf log.layout (lasts s) log.part log) (spell : IsTelling s → AllSpell log.layout (lasts s)) (certain : IsCertain s) where
-
   there : IsTelling s → (j tail : ℕ) → tail_of log.chunks j ≡ Some tail → (j < log.layout.chunks) × (head_at log.layout (lasts s) (first_of log j) ≡ Ok (Log tail))
   there telling j tail is = log_there log.layout (lasts s) log.part j tail (sym (has telling j) ∙ is)
 

@@ -1,5 +1,5 @@
 -- The map of winners, entry by entry.
-use Rattle.std.proofs.Common.{◌≡◌, inl, inr, ℕ, ◌-◌, ◌<◌, ◌≤◌, take, append_assoc, append-nil, List, [], ◌∷◌, ◌++◌, map, refl, sym, ◌∙◌, ap, arith, ◌==◌, true, false, cond, Option, Some, None, ltb, Bool}
+use Rattle.std.proofs.Common.{◌≡◌, inl, inr, ℕ, ◌-◌, ◌<◌, take, append_assoc, append-nil, List, [], ◌∷◌, ◌++◌, refl, sym, ◌∙◌, ap, arith, ◌==◌, true, false, cond, Option, Some, None, ltb}
 use Rattle.std.specs.Option.{option_to_list, option_map_or}
 use Rattle.std.specs.List.{flat_map, All, AllByRecursion}
 use Rattle.std.proofs.lemmas.List.Elements.{All-head, All-tail}
@@ -7,7 +7,7 @@ use Rattle.std.specs.Map.{keys_of as map_keys, values_of}
 use Rattle.std.specs.Ordering.{nat_cmp, is_eq, match_ordering}
 use Rattle.std.specs.declared.cmp.Ordering.TheVariants.{Less, Equal, Greater}
 use Rattle.std.specs.BTreeMap.{BTreeMap, get, keys, insert_entry, IsOrdered, Updates}
-use Rattle.std.proofs.lemmas.Bool.{eqb-true, eqb-false, ltb-true, ltb-false, le-ltb, eq-eqb, ne_eqb, lt-ltb}
+use Rattle.std.proofs.lemmas.Bool.{eqb-true, le-ltb, eq-eqb, ne_eqb}
 use Rattle.std.specs.Cmp.{unsigned_tied}
 use Rattle.std.proofs.lemmas.Cmp.{nat_cmp_total}
 use Rattle.std.proofs.lemmas.Map.Views.{All-found}
@@ -42,13 +42,13 @@ has_key k (x ∷ xs) is (inl p) = rw (le-ltb k x (omega (arith, p)), eq-eqb k x 
 has_key k (x ∷ xs) is (inr h) = let lt = above_in x k xs is.0 h in rw (le-ltb k x (omega (arith, lt)), ne_eqb k x (λ e. omega (arith, lt, e))) (ap (λ ks. x ∷ ks) (has_key k xs is.1 h))
 
 -- an entry that isn't older than the one of its key goes in
-module _ (m n : BTreeMap ℕ PlacedEntry) (x : PlacedEntry) (es : List PlacedEntry) (has : HasWinners m es) where
+module _ (m : BTreeMap ℕ PlacedEntry) (x : PlacedEntry) (es : List PlacedEntry) (has : HasWinners m es) where
   wins : (o : Option PlacedEntry) → option_map_or (λ y. ltb x.entry.version y.entry.version) o false ≡ false → better x o ≡ x
   wins None new = refl
   wins (Some y) new = rw new refl
 
-  pub put : keys n ≡ map_keys (insert_entry nat_cmp m.entries x.entry.key x) → Updates nat_cmp m n x.entry.key (Some x) → is_older m x ≡ false → HasWinners n (x ∷ es)
-  put keys_are updates new = record {
+  pub put : (n : BTreeMap ℕ PlacedEntry) → keys n ≡ map_keys (insert_entry nat_cmp m.entries x.entry.key x) → Updates nat_cmp m n x.entry.key (Some x) → is_older m x ≡ false → HasWinners n (x ∷ es)
+  put n keys_are updates new = record {
     keys_are = keys_are ∙ inserted_keys m.entries x.entry.key x ∙ ap (with_key x.entry.key) has.keys_are;
     each = λ q. updates.0 q ∙ here q;
   } where

@@ -24,7 +24,7 @@ abbrev pub Gathers : Geometry → (ℕ → ℕ) → Result (Vec PlacedEntry Glob
 Gathers l image (Ok es) = (chunk_fault l image ≡ None) × (es.items ≡ all_entries l image) × AllSpell l image
 Gathers l image (Err fault) = chunk_fault l image ≡ Some fault
 
--- the winners of a part that keeps all rules, or the first broken one
+-- the winners of an image that keeps rules 4 to 11, or the first that it breaks
 abbrev pub Judges : Geometry → (ℕ → ℕ) → Result (Vec PlacedEntry Global) Fault → Type 0
 Judges l image (Ok ws) = (damage l image ≡ None) × (ws.items ≡ winners_of (all_entries l image)) × AllSpell l image
 Judges l image (Err fault) = damage l image ≡ Some fault

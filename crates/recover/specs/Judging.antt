@@ -13,7 +13,6 @@ use Rattle.store_image.specs.declared.types.Fault.{Fault}
 use Rattle.store_image.specs.Parts.{block_class}
 use Rattle.store_image.specs.Soundness.{damaged, same_body}
 
-
 -- whether one of these entries has the pointer
 abbrev pub is_taken : ℕ → List PlacedEntry → Bool
 is_taken p ws = list_any (λ x. same_body (Pointer p) x.entry.body) ws

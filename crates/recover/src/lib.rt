@@ -6,18 +6,17 @@
 //! the logs' tails, and by ordered maps in the entries.
 #![tactic(auto)]
 
-pub mod blocks;
-pub mod clashes;
-pub mod gathering;
-pub mod judging;
-pub mod listing;
-pub mod logs;
-
-pub mod recovery;
+mod blocks;
+mod clashes;
+mod gathering;
+mod judging;
+mod listing;
+mod logs;
+mod recovery;
 #[cfg(test)]
 mod tests;
-pub mod types;
-pub mod winning;
+mod types;
+mod winning;
 
 pub use listing::pairs;
 pub use recovery::{first_fault, recover};

@@ -77,11 +77,7 @@ fn recovered<R: Region>(
 }
 
 /// The logs and winners of a region of so many bytes, or the first broken rule. It writes nothing.
-pub fn recover<R: Region>(
-    alloc: Global,
-    region: &R,
-    bytes: u64,
-) -> Result<Recovered, RecoverError>
+pub fn recover<R: Region>(alloc: Global, region: &R, bytes: u64) -> Result<Recovered, RecoverError>
     requires first { (R.state region.now).frame.first ≡ 0 }
     requires words { IsLength bytes → (R.state region.now).frame.words ≡ bytes / 8 }
     // Whatever the region tells.

@@ -142,11 +142,17 @@ fn two_cores(rt: HostRuntime) -> Result<(), Fail> {
     assert_eq!(rt; recovered.starts.len(), 2);
     let first = &recovered.starts[0];
     assert_eq!(rt; first.core, 0);
-    assert_eq!(rt; first.log.chunks(), [LogChunk { chunk: 1, tail: 8 }].as_slice());
+    assert_eq!(rt;
+        first.log.chunks(),
+        [LogChunk { chunk: 1, tail: 8 }].as_slice()
+    );
     assert_eq!(rt; first.log.opened(), Some(1));
     let second = &recovered.starts[1];
     assert_eq!(rt; second.core, 1);
-    let logs = [LogChunk { chunk: 0, tail: 0 }, LogChunk { chunk: 3, tail: 8 }];
+    let logs = [
+        LogChunk { chunk: 0, tail: 0 },
+        LogChunk { chunk: 3, tail: 8 },
+    ];
     assert_eq!(rt; second.log.chunks(), logs.as_slice());
     assert_eq!(rt; second.log.opened(), Some(0));
     let winners = &recovered.winners;
@@ -173,12 +179,22 @@ fn refusals(rt: HostRuntime) -> Result<(), Fail> {
     assert!(rt; found(alloc, &alone, 36864)? == damaged(0, 1, 7));
     // an entry stands in both parts
     let mut twice = region(alloc, 4608, &TWO_CORES)?;
-    write(&mut twice, &[(4128, 0x0100_0015), (4129, 1), (4130, 97), (4131, 0)]);
+    write(
+        &mut twice,
+        &[(4128, 0x0100_0015), (4129, 1), (4130, 97), (4131, 0)],
+    );
     write(&mut twice, &[(4132, 0)]);
     assert_eq!(rt; twice.first(), 0);
     assert_eq!(rt; twice.words(), 4608);
     let fault = recover(alloc, &twice, 36864).err();
-    assert!(rt; fault == Some(RecoverError::Fault(Fault::Damaged { part: 1, chunk: 3, rule: 8 })));
+    assert!(rt;
+        fault
+            == Some(RecoverError::Fault(Fault::Damaged {
+                part: 1,
+                chunk: 3,
+                rule: 8
+            }))
+    );
     // the block has a length of class 2; a pointer to no block
     let mut long = region(alloc, 4608, &TWO_CORES)?;
     write(&mut long, &[(544, 505)]);
@@ -230,8 +246,9 @@ const ONE_LOG: [(u64, u64); 25] = [
     (1573, 0x1900_0021),
 ];
 
-const PLACES: [u64; 14] =
-    [1, 5, 512, 544, 1024, 1025, 1056, 1057, 1059, 1064, 1537, 1568, 1570, 1571];
+const PLACES: [u64; 14] = [
+    1, 5, 512, 544, 1024, 1025, 1056, 1057, 1059, 1064, 1537, 1568, 1570, 1571,
+];
 
 const WORDS: [u64; 12] = [
     0,

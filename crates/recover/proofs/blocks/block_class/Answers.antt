@@ -1,4 +1,4 @@
-use Rattle.std.proofs.Common.{◌≡◌, ◌-◌, ◌/◌, ◌%◌, true, sym, ◌∙◌, ap, arith}
+use Rattle.std.proofs.Common.{◌≡◌, ◌/◌, true, sym, ◌∙◌, ap}
 use Rattle.chunk_map.specs.declared.layouts.Geometry.{Geometry}
 use Rattle.store_image.specs.Parts.{is_start, chunk_at, unit_at}
 use Rattle.recover.proofs.BlockLaws.{block_lies}

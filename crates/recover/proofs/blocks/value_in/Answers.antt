@@ -1,8 +1,8 @@
-use Rattle.std.proofs.Common.{◌+◌, ◌*◌, ◌^◌, ◌<◌, sym, ◌∙◌, ap, arith}
+use Rattle.std.proofs.Common.{◌+◌, ◌*◌, sym, ◌∙◌, ap, arith}
 use Rattle.pm_region.specs.Words.{lasts}
-use Rattle.log_entry.specs.Words.{words_for, words_from, unpacked}
+use Rattle.log_entry.specs.Words.{words_from}
 use Rattle.store_image.proofs.Places.{class_room}
-use Rattle.recover.proofs.BlockLaws.{small, block_value, no_value}
+use Rattle.recover.proofs.BlockLaws.{small, block_value}
 use Rattle.recover.proofs.blocks.value_in.Goals as goal
 
 pub overflow_mul-at : goal.overflow_mul-at

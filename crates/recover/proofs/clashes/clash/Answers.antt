@@ -1,5 +1,4 @@
-use Rattle.std.proofs.Common.{◌+◌, take, refl, sym, ◌∙◌, ap, subst}
-use Rattle.store_image.specs.Soundness.{contradicts}
+use Rattle.std.proofs.Common.{take, refl, sym, ◌∙◌, subst}
 use Rattle.recover.specs.Clashes.{Notes}
 use Rattle.recover.proofs.ClashLaws.{notes_none, one_more, clash_here, clash_later, clash_none}
 use Rattle.recover.proofs.clashes.clash.Goals as goal

@@ -1,4 +1,4 @@
-use Rattle.std.proofs.Common.{sym, ◌∙◌, ap, refl}
+use Rattle.std.proofs.Common.{sym, ◌∙◌, ap}
 use Rattle.std.specs.Option.{option_copied}
 use Rattle.recover.proofs.ClashLaws.{no_clash, notes_more, clash_is, still_notes}
 use Rattle.recover.proofs.clashes.is_clash.Goals as goal

@@ -1,4 +1,4 @@
-use Rattle.std.proofs.Common.{below_more, ℕ, ◌<◌, ◌≤◌, refl, sym, ◌∙◌, ap, arith, Some, None}
+use Rattle.std.proofs.Common.{below_more, ℕ, ◌<◌, ◌≤◌, sym, ◌∙◌, ap, arith}
 use Rattle.std.specs.Prelude.{is_some}
 use Rattle.pm_region.specs.Words.{lasts}
 use Rattle.store_image.specs.Parts.{part_entries}
@@ -31,7 +31,8 @@ pub returns-clause-told : goal.returns-clause-told
 returns-clause-told g c = λ telling.
     let image = lasts (g.R.Region.state c.args.region.now) in
     let l = c.args.layout.now in
-    let le : l.cores ≤ c.loop-part.part = omega (arith, c.loop-part-test.false, c.cores-part-end.ensures) in
-    (sym (ends (part_fault l image) c.loop-part.part l.cores le ∙ c.loop-part.invariant.fault telling),
-    list_end (part_entries l image) c.loop-part.part l.cores c.loop-part.entries.items le ∙ c.loop-part.invariant.entries telling,
-    λ k j lt. c.loop-part.invariant.spells telling k (omega (arith, lt, le)) j)
+    let le : l.cores ≤ c.loop-part.part = omega (arith, c.loop-part-test.false, c.cores-part-end.ensures) in (
+      sym (ends (part_fault l image) c.loop-part.part l.cores le ∙ c.loop-part.invariant.fault telling),
+      list_end (part_entries l image) c.loop-part.part l.cores c.loop-part.entries.items le ∙ c.loop-part.invariant.entries telling,
+      λ k j lt. c.loop-part.invariant.spells telling k (omega (arith, lt, le)) j,
+    )

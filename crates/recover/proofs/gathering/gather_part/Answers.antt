@@ -1,7 +1,6 @@
-use Rattle.std.proofs.Common.{below_more, ℕ, ◌<◌, ◌≤◌, sym, ◌∙◌, ap, arith, None, Option}
+use Rattle.std.proofs.Common.{below_more, ◌<◌, ◌≤◌, sym, ◌∙◌, arith}
 use Rattle.std.specs.Prelude.{option_map}
 use Rattle.pm_region.specs.Words.{lasts}
-use Rattle.store_image.specs.declared.types.Fault.{Fault}
 use Rattle.store_image.specs.Parts.{chunk_entries}
 use Rattle.store_image.specs.Soundness.{damaged, chunk_rule}
 use Rattle.store_image.proofs.Loops.{list_next, list_end}

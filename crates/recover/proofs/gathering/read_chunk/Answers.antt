@@ -1,6 +1,5 @@
-use Rattle.std.proofs.Common.{◌≡◌, ◌+◌, ◌%◌, length, sym, ◌∙◌, ap, subst, arith, Ok}
+use Rattle.std.proofs.Common.{◌%◌, length, sym, ◌∙◌, ap, subst, arith, Ok}
 use Rattle.pm_region.specs.Words.{lasts}
-use Rattle.log_entry.specs.Words.{words_from}
 use Rattle.chunk_map.specs.Layouts.{head_at}
 use Rattle.chunk_map.specs.Setting.{HeadLies}
 use Rattle.chunk_map.specs.declared.layouts.Geometry.{Geometry}
@@ -41,20 +40,20 @@ load_words-requires-clause-fits g c =
 pub returns-in_ok-scanned-in-Ok-Log : goal.returns-in_ok-scanned-in-Ok-Log
 returns-in_ok-scanned-in-Ok-Log g c = record {
   told = λ telling.
-    let s = g.R.Region.state c.args.region.now in
-    let l = c.args.layout.now in
-    let head = head_read (head_at l (lasts s) c.chunk_first-at.result) (Log c.in-Ok-Log.tail) (sym (c.in-Ok-Log.is ∙ ap Ok c.in-Ok-Log.field-0-is) ∙ c.read_head.ensures.told telling) in
-    log_read l (lasts s) c.args.part c.args.chunk c.chunk_first-at.result c.in-Ok-Log.tail c.in_ok-scanned-in-Ok-Log.scanned c.log_rule-rule.result c.deref.result.now
-    c.chunk_first-at.ensures head (c.deref.ensures.value ∙ c.in_ok-words-in-Ok-Log.ensures.words telling) c.in_ok-scanned-in-Ok-Log.ensures.scan
-    (λ found is. c.log_rule-rule.ensures found is ∙ ap (λ (l : Geometry). rule_of l c.args.part found) c.geometry.ensures.value);
+      let s = g.R.Region.state c.args.region.now in
+      let l = c.args.layout.now in
+      let head = head_read (head_at l (lasts s) c.chunk_first-at.result) (Log c.in-Ok-Log.tail) (sym (c.in-Ok-Log.is ∙ ap Ok c.in-Ok-Log.field-0-is) ∙ c.read_head.ensures.told telling) in
+      log_read l (lasts s) c.args.part c.args.chunk c.chunk_first-at.result c.in-Ok-Log.tail c.in_ok-scanned-in-Ok-Log.scanned c.log_rule-rule.result c.deref.result.now
+      c.chunk_first-at.ensures head (c.deref.ensures.value ∙ c.in_ok-words-in-Ok-Log.ensures.words telling) c.in_ok-scanned-in-Ok-Log.ensures.scan
+      (λ found is. c.log_rule-rule.ensures found is ∙ ap (λ (l : Geometry). rule_of l c.args.part found) c.geometry.ensures.value);
   spelled = c.in_ok-scanned-in-Ok-Log.ensures.spelled;
   batches = λ telling none tail head.
-    let s = g.R.Region.state c.args.region.now in
-    let l = c.args.layout.now in
-    let here = head_read (head_at l (lasts s) c.chunk_first-at.result) (Log c.in-Ok-Log.tail) (sym (c.in-Ok-Log.is ∙ ap Ok c.in-Ok-Log.field-0-is) ∙ c.read_head.ensures.told telling) in
-    let fits = subst (FitsHead l) c.in-Ok-Log.field-0-is c.in-Ok-Log.ensures.fits in
-    let words = c.deref.ensures.value ∙ c.in_ok-words-in-Ok-Log.ensures.words telling in
-    log_spelled l (lasts s) c.args.part c.args.chunk c.chunk_first-at.result c.in-Ok-Log.tail tail c.deref.result.now c.chunk_first-at.ensures here head words
-    (c.in_ok-scanned-in-Ok-Log.ensures.batches (whole_of l c.args.part c.in_ok-scanned-in-Ok-Log.scanned c.log_rule-rule.result (λ found is. c.log_rule-rule.ensures found is ∙ ap (λ (l : Geometry). rule_of l c.args.part found) c.geometry.ensures.value) none)
+      let s = g.R.Region.state c.args.region.now in
+      let l = c.args.layout.now in
+      let here = head_read (head_at l (lasts s) c.chunk_first-at.result) (Log c.in-Ok-Log.tail) (sym (c.in-Ok-Log.is ∙ ap Ok c.in-Ok-Log.field-0-is) ∙ c.read_head.ensures.told telling) in
+      let fits = subst (FitsHead l) c.in-Ok-Log.field-0-is c.in-Ok-Log.ensures.fits in
+      let words = c.deref.ensures.value ∙ c.in_ok-words-in-Ok-Log.ensures.words telling in
+      log_spelled l (lasts s) c.args.part c.args.chunk c.chunk_first-at.result c.in-Ok-Log.tail tail c.deref.result.now c.chunk_first-at.ensures here head words
+      (c.in_ok-scanned-in-Ok-Log.ensures.batches (whole_of l c.args.part c.in_ok-scanned-in-Ok-Log.scanned c.log_rule-rule.result (λ found is. c.log_rule-rule.ensures found is ∙ ap (λ (l : Geometry). rule_of l c.args.part found) c.geometry.ensures.value) none)
       (ap (λ n. n % 8) (ap length c.deref.ensures.value ∙ c.in_ok-words-in-Ok-Log.ensures.long) ∙ fits.0));
 }

@@ -1,4 +1,4 @@
-use Rattle.std.proofs.Common.{◌+◌, take, drop, refl, sym, ◌∙◌, ap, subst}
+use Rattle.std.proofs.Common.{take, refl, sym, ◌∙◌, subst}
 use Rattle.pm_region.specs.Words.{lasts}
 use Rattle.recover.specs.Judging.{HasPointers}
 use Rattle.recover.proofs.ClashLaws.{one_more}

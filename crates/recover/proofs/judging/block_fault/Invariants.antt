@@ -1,5 +1,5 @@
 use Rattle.std.proofs.Common.{◌≡◌, [], take, drop}
-use Rattle.pm_region.specs.State.{State, IsTelling}
+use Rattle.pm_region.specs.State.{IsTelling}
 use Rattle.pm_region.specs.Words.{lasts}
 use Rattle.recover.specs.Judging.{winners_fault, HasPointers}
 use Rattle.recover.proofs.judging.block_fault.Given as goal

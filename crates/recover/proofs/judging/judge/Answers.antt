@@ -1,8 +1,7 @@
-use Rattle.std.proofs.Common.{[], sym, ◌∙◌, ap, subst}
+use Rattle.std.proofs.Common.{sym, ◌∙◌, ap}
 use Rattle.pm_region.specs.Words.{lasts}
 use Rattle.store_image.specs.Soundness.{clash_fault}
-use Rattle.recover.specs.Winning.{winners_of, AreSpelled}
-use Rattle.recover.specs.Judging.{winners_fault}
+use Rattle.recover.specs.Winning.{winners_of}
 use Rattle.recover.proofs.JudgeLaws.{by_chunks, gathered, by_clash, by_winners, spelled_of}
 use Rattle.recover.proofs.judging.judge.Goals as goal
 
@@ -30,9 +29,12 @@ pub returns-in-None-clause-told : goal.returns-in-None-clause-told
 returns-in-None-clause-told g c = λ telling.
     let image = lasts (g.R.Region.state c.args.region.now) in
     let l = c.args.layout.now in
-    let all = gathered l image c.in_ok-entries.field-0 c.in-Ok.entries (c.in_ok-entries.ensures.told telling) c.in-Ok.is in
-    (by_winners l image c.in-Ok.entries.items all.1 all.0 c.in_ok-fault-2.field-0 c.deref-2.result.now (sym c.in_default.is ∙ c.in_ok-fault.ensures ∙ ap clash_fault c.deref.ensures.value) (c.deref-2.ensures.value ∙ c.in_ok-winners.ensures) (c.in_ok-fault-2.ensures telling)
-    ∙ c.in-None.is, c.in_ok-winners.ensures ∙ ap winners_of all.1, all.2)
+    let all = gathered l image c.in_ok-entries.field-0 c.in-Ok.entries (c.in_ok-entries.ensures.told telling) c.in-Ok.is in (
+      by_winners l image c.in-Ok.entries.items all.1 all.0 c.in_ok-fault-2.field-0 c.deref-2.result.now (sym c.in_default.is ∙ c.in_ok-fault.ensures ∙ ap clash_fault c.deref.ensures.value) (c.deref-2.ensures.value ∙ c.in_ok-winners.ensures) (c.in_ok-fault-2.ensures telling)
+          ∙ c.in-None.is,
+      c.in_ok-winners.ensures ∙ ap winners_of all.1,
+      all.2,
+    )
 
 pub returns-in-None-clause-made : goal.returns-in-None-clause-made
 returns-in-None-clause-made g c = record {

@@ -1,4 +1,4 @@
-use Rattle.std.proofs.Common.{◌<◌, ◌≤◌, sym, subst, arith, ℕ}
+use Rattle.std.proofs.Common.{◌≤◌, sym, subst, arith}
 use Rattle.pm_region.specs.Words.{lasts}
 use Rattle.recover.proofs.LogLaws.{Collects, collects_none, collects_more, has_more, has_all}
 use Rattle.recover.proofs.logs.log_chunks.Goals as goal

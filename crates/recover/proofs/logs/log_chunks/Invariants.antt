@@ -1,4 +1,4 @@
-use Rattle.pm_region.specs.State.{State, IsTelling}
+use Rattle.pm_region.specs.State.{IsTelling}
 use Rattle.pm_region.specs.Words.{lasts}
 use Rattle.recover.proofs.LogLaws.{Collects, HasBelow}
 use Rattle.recover.proofs.logs.log_chunks.Given as goal

@@ -1,4 +1,4 @@
-use Rattle.std.proofs.Common.{◌≡◌, ℕ, ◌+◌, [], ◌∷◌, length, length-append, sym, ◌∙◌, ap, arith}
+use Rattle.std.proofs.Common.{◌+◌, [], ◌∷◌, length, length-append, ◌∙◌, ap}
 use Rattle.pm_region.specs.Words.{lasts}
 use Rattle.recover.specs.declared.types.CoreStart.{CoreStart}
 use Rattle.recover.specs.Logs.{HasLogsOf, IsStart}

@@ -1,4 +1,4 @@
-use Rattle.std.proofs.Common.{◌≡◌, Some, sym, ◌∙◌, ap}
+use Rattle.std.proofs.Common.{◌≡◌, Some, sym, ◌∙◌}
 use Rattle.pm_region.specs.State.{IsTelling}
 use Rattle.pm_region.specs.Words.{lasts}
 use Rattle.store_image.specs.declared.types.Fault.TheVariants.{NotARegion}
@@ -22,6 +22,6 @@ returns-in_ok-judged-in-Ok g c =
     let image = lasts (g.R.Region.state c.args.region.now) in
     let l = c.in-Ok.layout in
     let first : IsTelling (g.R.Region.state c.args.region.now) → c.err.result ≡ first_fault c.args.bytes image = λ telling.
-      let kept = superblock_kept c.args.bytes image l (sym c.in-Ok.is ∙ c.read_superblock.ensures.told telling) in
-      judged c.args.bytes image l c.err.result kept.0 kept.1 (c.err.ensures.value ∙ judged_fault l image c.in_ok-judged-in-Ok.judged (c.in_ok-judged-in-Ok.ensures.told telling)) in
+    let kept = superblock_kept c.args.bytes image l (sym c.in-Ok.is ∙ c.read_superblock.ensures.told telling) in
+    judged c.args.bytes image l c.err.result kept.0 kept.1 (c.err.ensures.value ∙ judged_fault l image c.in_ok-judged-in-Ok.judged (c.in_ok-judged-in-Ok.ensures.told telling)) in
     record { first = first; sound = λ telling. none_tells c.args.bytes image c.err.result (first telling) }

@@ -1,5 +1,4 @@
-use Rattle.std.proofs.Common.{Some, sym, ◌∙◌, ap, subst}
-use Rattle.pm_region.specs.State.{IsTelling}
+use Rattle.std.proofs.Common.{Some, sym, ◌∙◌, subst}
 use Rattle.pm_region.specs.Words.{lasts}
 use Rattle.chunk_map.specs.declared.layouts.Geometry.{Geometry}
 use Rattle.chunk_map.specs.Layouts.{total_bytes}

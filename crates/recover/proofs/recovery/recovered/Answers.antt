@@ -1,5 +1,4 @@
-use Rattle.std.proofs.Common.{refl, ◌∙◌, sym, ap, map}
-use Rattle.std.specs.Prelude.{option_map}
+use Rattle.std.proofs.Common.{refl, ◌∙◌, ap, map}
 use Rattle.pm_region.specs.Words.{lasts}
 use Rattle.store_image.specs.declared.types.PlacedEntry.{PlacedEntry}
 use Rattle.store_image.specs.Parts.{all_entries}
@@ -25,11 +24,13 @@ returns-clause-told g c = λ telling.
     let image = lasts (g.R.Region.state c.args.region.now) in
     let l = c.args.layout in
     let sound = judged_sound l image c.in_ok-winners.field-0 c.in-Ok.winners (c.in_ok-winners.ensures.told telling) c.in-Ok.is in
-    let listed = c.in_ok-winners-in-Ok.ensures ∙ ap (map (λ (x : PlacedEntry). x.entry)) sound.1 in
-    (sound.0, record {
-      layout_is = refl;
-      logs = c.in_ok-starts.ensures.told telling;
-      spells = sound.2;
-      winners = listed;
-      each = λ k. ap (entry_with k) listed ∙ found_each (all_entries l image) k;
-    })
+    let listed = c.in_ok-winners-in-Ok.ensures ∙ ap (map (λ (x : PlacedEntry). x.entry)) sound.1 in (
+      sound.0,
+      record {
+        layout_is = refl;
+        logs = c.in_ok-starts.ensures.told telling;
+        spells = sound.2;
+        winners = listed;
+        each = λ k. ap (entry_with k) listed ∙ found_each (all_entries l image) k;
+      },
+    )
