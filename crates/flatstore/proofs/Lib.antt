@@ -7,3 +7,4 @@ pub mod Reading
 pub mod Roomy
 pub mod Forms
 pub mod Emptiness
+pub mod Listed

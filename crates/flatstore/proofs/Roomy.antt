@@ -1,6 +1,6 @@
 -- What an input that is ample for the fresh region is not refused.
-use Rattle.std.proofs.Common.{◌≡◌, ℕ, ◌+◌, ◌-◌, ◌*◌, ◌/◌, ◌%◌, ◌≤◌, ◌<◌, ◌==◌, List, [], ◌∷◌, ◌++◌, length, refl, sym, ◌∙◌, ap, subst, arith, true, false, Bool, cond, nat_lt, nat_le, append_assoc}
-use Rattle.std.specs.List.{AllByRecursion, count_by}
+use Rattle.std.proofs.Common.{◌≡◌, ℕ, ◌+◌, ◌*◌, ◌/◌, ◌≤◌, ◌<◌, List, [], ◌∷◌, ◌++◌, length, refl, sym, ◌∙◌, ap, subst, arith, true, false, Bool, cond, append_assoc}
+use Rattle.std.specs.List.{AllByRecursion}
 use Rattle.std.proofs.lemmas.Bool.{eq-eqb, le-ltb, lt-leb}
 use Rattle.std.proofs.lemmas.List.Sums.{sum_by-cons, sum_by-append, count_by-le-length}
 use Rattle.fs_model.specs.declared.model.Request.{Request}
@@ -9,12 +9,12 @@ use Rattle.fs_model.specs.Cells.{key_of}
 use Rattle.chunk_map.specs.declared.layouts.Geometry.{Geometry}
 use Rattle.chunk_map.specs.Layouts.{numbers, layout_of, owner, is_of_group, chunk_first, head_at}
 use Rattle.headline.specs.Ample.{IsAmpleFor, parts_of, lines_of, log_bytes, data_chunks, free_chunks, is_free}
-use Rattle.headline.specs.Limits.{IsAsked, IsWithinLimits, version_of, changes_asked}
+use Rattle.headline.specs.Limits.{IsAsked, IsWithinLimits}
 use Rattle.serial_engine.specs.declared.answers.Refusal.{Refusal}
 use Rattle.serial_engine.specs.Going.{IsServed}
 use Rattle.serial_engine.specs.Refusals.{lines_needed}
 use Rattle.serial_engine.specs.Stock.{refusals_from, is_full}
-use Rattle.serial_engine.proofs.Roomy.{need_of, needs, capacity, Suffices, none_full, none_refused}
+use Rattle.serial_engine.proofs.Roomy.{need_of, needs, capacity, none_full, none_refused}
 use Rattle.flatstore.specs.Fresh.{fresh_layout, fresh_lines, fresh_stock}
 
 -- the one core owns every key

@@ -42,8 +42,8 @@ pub struct Report {
     pub refusals: Vec<Refusal>,
     /// Whether the region was attached in this call, or created.
     pub attached: bool,
-    /// Whether every request was answered. Where not, nothing was written. A call without requests has none to answer,
-    /// and says no.
+    /// Whether the whole text was ready to be written: for `replay`, whether every request was answered. Where not,
+    /// nothing was written. `format` has no text, and says no.
     pub complete: bool,
 }
 
