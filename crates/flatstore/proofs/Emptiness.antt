@@ -1,17 +1,16 @@
 -- The images of a region that is created and given its superblock.
-use Rattle.std.proofs.Common.{◌≡◌, ◌⊎◌, inl, inr, ⊎_elim, ℕ, zero, suc, ◌+◌, ◌*◌, ◌/◌, ◌<◌, ◌≤◌, nat_le, List, [], ◌++◌, refl, sym, ◌∙◌, ap, subst, arith, true, false, cond, Option, Some, None, Ok}
+use Rattle.std.proofs.Common.{◌≡◌, inl, inr, ⊎_elim, ℕ, zero, suc, ◌+◌, ◌*◌, ◌/◌, ◌<◌, ◌≤◌, List, [], ◌++◌, refl, sym, ◌∙◌, ap, subst, arith, true, false, cond, Some, None}
 use Rattle.std.proofs.lemmas.Bool.{le-leb}
 use Rattle.std.specs.List.{flat_map}
 use Rattle.std.specs.Option.{option_and_then}
-use Rattle.pm_region.specs.Cell.{Cell, MayBe, certain}
+use Rattle.pm_region.specs.Cell.{MayBe}
 use Rattle.pm_region.specs.State.{State, Frame, During, InRange, IsTold, IsTelling, MayLeave, cell_now, Rose}
 use Rattle.pm_region.specs.Words.{EachIn, Surely}
 use Rattle.pm_region.specs.Split.{Attached, words_in}
 use Rattle.pm_region.proofs.Cells.{certain_may_be}
 use Rattle.pm_region.proofs.Narrow.{surely_certain}
 use Rattle.chunk_map.specs.declared.layouts.Geometry.{Geometry}
-use Rattle.chunk_map.specs.declared.heads.Head.TheVariants.{Free}
-use Rattle.chunk_map.specs.Layouts.{numbers, IsLayout, head_at, head_by, chunk_words, total_bytes, part_first, chunk_first, owner, layout_of, superblock_rule}
+use Rattle.chunk_map.specs.Layouts.{numbers, IsLayout, head_by, total_bytes, chunk_first, owner, superblock_rule}
 use Rattle.chunk_map.specs.Superblock.{IsSuperblock, IsRefusedOrWhole, NarrowsOutside}
 use Rattle.chunk_map.proofs.LayoutLaws.{numbers_of, chunk_words_whole, chunk_in_part, part_within, parts_end}
 use Rattle.chunk_map.proofs.SuperLaws.{keeps_rules}
@@ -20,9 +19,8 @@ use Rattle.store_image.specs.declared.types.Fault.TheVariants.{NotARegion}
 use Rattle.store_image.specs.Facts.{In, KeepsRules}
 use Rattle.store_image.specs.Parts.{all_entries, part_entries, chunk_entries, held}
 use Rattle.store_image.specs.Winners.{winner_in, cell_by}
-use Rattle.store_image.specs.Soundness.{first_fault, fault_by, IsSound}
+use Rattle.store_image.specs.Soundness.{first_fault, fault_by}
 use Rattle.store_image.proofs.SoundFacts.{store_sound}
-use Rattle.headline.specs.Headline.{cells_of}
 use Rattle.serial_engine.specs.Moments.{EachImage}
 use Rattle.serial_engine.proofs.Opened.{free_entries, free_reads}
 use Rattle.flatstore.specs.declared.report.Status.TheVariants as statuses

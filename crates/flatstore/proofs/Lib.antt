@@ -9,3 +9,4 @@ pub mod Agreeing
 pub mod Openings
 pub mod Forms
 pub mod Emptiness
+pub mod Listed

@@ -26,8 +26,9 @@ use Rattle.store_image.specs.declared.types.Fault.TheVariants as faults
 use Rattle.store_image.proofs.Places.{superblock_facts}
 use Rattle.store_image.proofs.SoundLaws.{has_layout}
 use Rattle.std.proofs.lemmas.Bool.{eq-eqb, ne_eqb}
-use Rattle.flatstore.specs.Promise.{WritesFront, IsInput, Replays, due, IsDue, IsFault, built_now, status_of, fault_status, is_stop, told_in}
+use Rattle.flatstore.specs.Promise.{WritesFront, IsInput, Replays, due, IsDue, IsFault, built_now, status_of, is_stop, told_in}
 use Rattle.flatstore.specs.Reads.{IsUnread}
+use Rattle.flatstore.specs.Statuses.{fault_status}
 use Rattle.flatstore.specs.Played.{IsUnserved, IsRefused}
 use Rattle.flatstore.specs.declared.report.Status.{Status}
 use Rattle.flatstore.specs.declared.report.Status.TheVariants as statuses

@@ -1,6 +1,6 @@
 -- What a call with the words of `format` promises.
-use Rattle.std.specs.Prelude.{◌≡◌, ◌⊎◌, ℕ, ◌/◌, ◌≤◌, ◌<◌, Bool, true, false, Some, None, Ok}
-use Rattle.pm_region.specs.State.{State, IsTold, IsTelling, MayLeave, cell_now, Rose}
+use Rattle.std.specs.Prelude.{◌≡◌, ◌⊎◌, ℕ, ◌/◌, ◌≤◌, ◌<◌, true, false, Some, None, Ok}
+use Rattle.pm_region.specs.State.{State, IsTold, IsTelling, cell_now, Rose}
 use Rattle.chunk_map.specs.declared.layouts.Geometry.{Geometry}
 use Rattle.chunk_map.specs.declared.heads.Head.TheVariants.{Free}
 use Rattle.chunk_map.specs.Layouts.{chunk_first, head_at, total_bytes}

@@ -4,5 +4,6 @@ pub mod Statuses
 pub mod Found
 pub mod Promise
 pub mod Formats
+pub mod Dumps
 pub mod Reads
 pub mod Played

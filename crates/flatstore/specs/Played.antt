@@ -19,7 +19,7 @@ use Rattle.store_image.specs.Soundness.{first_fault}
 use Rattle.recover.specs.declared.types.Recovered.{Recovered}
 use Rattle.recover.specs.Recovering.{IsMade, IsFound, AllStand}
 use Rattle.flatstore.specs.Found.{lines_found, stock_found}
-use Rattle.flatstore.specs.Promise.{fault_status}
+use Rattle.flatstore.specs.Statuses.{fault_status}
 use Rattle.fs_text.specs.Streams.{Takes, TakesPrefix}
 use Rattle.fs_text.specs.Output.{replies_text}
 use Rattle.flatstore.specs.Reads.{IsRead, IsUnread}

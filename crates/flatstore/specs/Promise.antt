@@ -15,7 +15,6 @@ use Rattle.headline.specs.Ample.{IsAmpleFor}
 use Rattle.headline.specs.Limits.{IsAsked, version_of, changes_asked, IsWithinLimits}
 use Rattle.chunk_map.specs.Layouts.{layout_of, owner}
 use Rattle.store_image.specs.declared.types.Fault.{Fault}
-use Rattle.store_image.specs.declared.types.Fault.TheVariants as faults
 use Rattle.store_image.specs.Soundness.{first_fault}
 use Rattle.serial_engine.specs.Answers.{told}
 use Rattle.serial_engine.specs.Stock.{refusals_from, is_full}
@@ -24,6 +23,7 @@ use Rattle.flatstore.specs.Found.{lines_found, stock_found}
 use Rattle.flatstore.specs.declared.report.Status.{Status}
 use Rattle.flatstore.specs.declared.report.Status.TheVariants as statuses
 use Rattle.flatstore.specs.declared.report.Report.{Report}
+use Rattle.flatstore.specs.Statuses.{fault_status}
 
 -- a source that tells what comes gives this input; one that doesn't may give any
 abbrev pub IsInput : Option (List ℕ) → List ℕ → Type 0
@@ -74,11 +74,6 @@ abbrev pub status_of : Result (List Line) Stop → Status
 status_of (Ok lines) = statuses.Done
 status_of (Err (stops.Bad line rule)) = statuses.BadInput line rule
 status_of (Err (stops.NotBuilt line)) = statuses.NotBuilt line
-
--- a region that breaks a rule
-abbrev pub fault_status : Fault → Status
-fault_status (faults.NotARegion rule) = statuses.NotARegion rule
-fault_status (faults.Damaged part chunk rule) = statuses.Damaged part chunk rule
 
 -- the status that the words found and the input alone decide: several cores are not served yet
 abbrev pub due : (ℕ → ℕ) → List ℕ → Option Fault → Status

@@ -1,7 +1,14 @@
 -- Exit statuses, and the lines on standard error.
 use Rattle.std.specs.Prelude.{ℕ, List, [], ◌++◌, codes, decimal}
+use Rattle.store_image.specs.declared.types.Fault.{Fault}
+use Rattle.store_image.specs.declared.types.Fault.TheVariants as faults
 use Rattle.flatstore.specs.declared.report.Status.{Status}
 use Rattle.flatstore.specs.declared.report.Status.TheVariants.{Done, Usage, BadInput, SourceFault, SinkFault, RegionFault, Damaged, NotARegion, Memory, NotBuilt}
+
+-- a region that breaks a rule
+abbrev pub fault_status : Fault → Status
+fault_status (faults.NotARegion rule) = NotARegion rule
+fault_status (faults.Damaged part chunk rule) = Damaged part chunk rule
 
 abbrev pub exit_code : Status → ℕ
 exit_code Done = 0

@@ -20,6 +20,8 @@ pub enum Command<'a> {
     Format { path: &'a str, layout: Layout },
     /// Answers to the requests of the input, in order.
     Replay { path: &'a str },
+    /// The live pairs, by rising key.
+    Dump { path: &'a str },
 }
 
 fn number_in(matches: &ArgMatches, name: &str) -> Option<u64>
@@ -58,6 +60,9 @@ fn command_named<'a>(name: &str, matches: &ArgMatches, path: &'a str) -> Option<
     }
     if name == "replay" {
         return Some(Command::Replay { path });
+    }
+    if name == "dump" {
+        return Some(Command::Dump { path });
     }
     None
 }
@@ -98,6 +103,7 @@ impl<'a> Command<'a> {
         match self {
             Command::Format { path, .. } => path,
             Command::Replay { path } => path,
+            Command::Dump { path } => path,
         }
     }
 }

@@ -12,6 +12,9 @@ use top::flatstore;
 
 mod command;
 #[cfg(test)]
+mod dump_tests;
+mod dumping;
+#[cfg(test)]
 mod format_tests;
 mod formatting;
 mod parser;

@@ -13,7 +13,6 @@ ghost use Rattle.serial_engine.specs.Stock.{stock_of};
 ghost use Rattle.chunk_map.specs.Layouts.{payload_lines};
 ghost use Rattle.headline.specs.Headline.{cells_of};
 ghost use Rattle.flatstore.specs.Found.{lines_found, stock_found};
-ghost use Rattle.flatstore.specs.Promise.{fault_status};
 ghost use Rattle.flatstore.specs.Reads.{IsRead, IsUnread, unread_as};
 ghost use Rattle.flatstore.specs.Played.{IsOpened, HasAnswered, Played, IsUnserved, IsRefused};
 
@@ -29,7 +28,6 @@ use serial_engine::answers::Answers;
 use serial_engine::run::begin;
 use serial_engine::store::Store;
 use std::alloc::Global;
-use store_image::Fault;
 
 // The cores of the layouts that are served.
 const CORES: u32 = 1;
@@ -81,16 +79,6 @@ fn read<S: Source>(alloc: Global, source: &mut S) -> Result<Vec<Request>, Status
     }
 }
 
-// The status for a region that is not sound.
-fn damage(fault: Fault) -> Status
-    ensures { result ≡ fault_status fault }
-{
-    match fault {
-        Fault::NotARegion { rule } => Status::NotARegion { rule },
-        Fault::Damaged { part, chunk, rule } => Status::Damaged { part, chunk, rule },
-    }
-}
-
 /// What the words of an attached region say, where it is sound and has one core.
 fn recovered<R: SplitRegion>(alloc: Global, region: &R) -> Result<Recovered, Status>
     requires first { (R.state region.now).frame.first ≡ 0 }
@@ -100,7 +88,7 @@ fn recovered<R: SplitRegion>(alloc: Global, region: &R) -> Result<Recovered, Sta
     ensures err { IfErr result (IsUnserved (R.state region.now)) }
 {
     match recover(alloc, region, region.bytes()) {
-        Err(RecoverError::Fault(fault)) => Err(damage(fault)),
+        Err(RecoverError::Fault(fault)) => Err(Status::of_fault(fault)),
         Err(RecoverError::Memory) => Err(Status::Memory),
         Ok(recovered) => {
             if recovered.layout.cores() == CORES {

@@ -1,10 +1,11 @@
 // What a call of the program reports.
 ghost use Rattle.std.specs.Prelude.{◌≡◌, ℕ, ◌<◌, [], false, IfOk, string_bytes};
-ghost use Rattle.flatstore.specs.Statuses.{exit_code, damage_line, fault_line};
+ghost use Rattle.flatstore.specs.Statuses.{exit_code, damage_line, fault_line, fault_status};
 
 use fs_errors::Memory;
 use serial_engine::answers::{Finish, Refusal};
 use std::alloc::Global;
+use store_image::Fault;
 
 /// How a call ended.
 #[derive(Clone, Copy, Debug, PartialEq, Eq)]
@@ -42,8 +43,8 @@ pub struct Report {
     pub refusals: Vec<Refusal>,
     /// Whether the region was attached in this call, or created.
     pub attached: bool,
-    /// Whether every request was answered. Where not, nothing was written. A call without requests has none to answer,
-    /// and says no.
+    /// Whether the whole text was ready to be written: for `replay`, whether every request was answered. Where not,
+    /// nothing was written. `format` has no text, and says no.
     pub complete: bool,
 }
 
@@ -76,6 +77,16 @@ fn damage_text(alloc: Global, part: u32, chunk: u32, rule: u32) -> Result<String
 }
 
 impl Status {
+    /// The status for a region that breaks a rule.
+    pub fn of_fault(fault: Fault) -> Status
+        ensures { result ≡ fault_status fault }
+    {
+        match fault {
+            Fault::NotARegion { rule } => Status::NotARegion { rule },
+            Fault::Damaged { part, chunk, rule } => Status::Damaged { part, chunk, rule },
+        }
+    }
+
     /// The status with which the program exits.
     pub fn code(&self) -> u8
         ensures { result ≡ exit_code self.now }

@@ -5,12 +5,14 @@ ghost use Rattle.pm_region.specs.Split.{Attached};
 ghost use Rattle.chunk_map.specs.declared.layouts.Geometry.{Geometry};
 ghost use Rattle.store_image.specs.Soundness.{IsSound};
 ghost use Rattle.flatstore.specs.Commands.{form_of, words_of};
-ghost use Rattle.flatstore.specs.Commands.Form.{Format, Replay};
+ghost use Rattle.flatstore.specs.Commands.Form.{Format, Replay, Dump};
+ghost use Rattle.flatstore.specs.Dumps.{Dumps};
 ghost use Rattle.flatstore.specs.Formats.{Formats};
 ghost use Rattle.flatstore.specs.Promise.{IsInput, Replays, IsDue, IsFault, is_quiet};
 ghost use Rattle.flatstore.specs.declared.report.Status.TheVariants as statuses;
 
 use crate::command::{Command, parse_command};
+use crate::dumping::dump_region;
 use crate::formatting::format_region;
 use crate::playing::replay_region;
 use crate::report::{Report, Status};
@@ -20,7 +22,8 @@ use std::alloc::Global;
 
 /// Does what the words of a command line ask. The first word is the program's name. For `format` the region is created
 /// and its superblock written. For `replay` the region is attached, the input is read, its requests are answered in
-/// order, and the replies are written once all are answered.
+/// order, and the replies are written once all are answered. For `dump` the region is attached, and its live pairs are
+/// written.
 pub fn flatstore<S: Source, O: Sink, R: SplitRegion>(
     alloc: Global,
     words: &Vec<String>,
@@ -35,6 +38,11 @@ pub fn flatstore<S: Source, O: Sink, R: SplitRegion>(
     // A region that is made is the empty one, and until then it is refused.
     ensures format { (path : List ℕ) (l : Geometry) → form_of (words_of words.now.items) ≡ Some (Format path l)
         → Formats (R.state region.old) (R.state region.new) l result × (source.new ≡ source.old) × (sink.new ≡ sink.old) }
+
+    // What is dumped are the cells that the words of the region recover.
+    ensures dump { (path : List ℕ) → form_of (words_of words.now.items) ≡ Some (Dump path)
+        → Dumps (R.state region.old) (R.state region.new) (R.found region.old) (O.taken sink.old) (O.taken sink.new) (O.fault_count sink.old) (O.fault_count sink.new) result
+        × (source.new ≡ source.old) }
 
     // The headline.
     ensures replay { (path : List ℕ) → form_of (words_of words.now.items) ≡ Some (Replay path)
@@ -70,5 +78,6 @@ pub fn flatstore<S: Source, O: Sink, R: SplitRegion>(
     match command {
         Command::Format { layout, .. } => format_region(alloc, region, layout),
         Command::Replay { .. } => replay_region(alloc, source, sink, region),
+        Command::Dump { .. } => dump_region(alloc, sink, region),
     }
 }

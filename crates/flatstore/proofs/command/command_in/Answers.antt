@@ -1,11 +1,10 @@
 -- The name and the matches of the subcommand are those of one that was met, and the path is its first word.
-use Rattle.std.proofs.Common.{◌≡◌, ◌∙◌, sym, ap, subst, List, Option, Some, None, option_map}
+use Rattle.std.proofs.Common.{◌≡◌, ◌∙◌, sym, ap, Some, None, option_map}
 use Rattle.std.specs.Prelude.{option_and_then, codes}
-use Rattle.clap.specs.Words.{Row, Text, found_of, rows_of, first_of, subcommand_rows_of}
-use Rattle.clap.specs.Simple.{subcommand_rows}
+use Rattle.clap.specs.Words.{found_of, rows_of, first_of, subcommand_rows_of}
 use Rattle.clap.specs.declared.parser.matches.ArgMatches.TheViews.{out-ArgMatches}
 use Rattle.clap.proofs.WalkLemmas.{first_value-rows}
-use Rattle.flatstore.specs.Commands.{Form, form_in, form_named}
+use Rattle.flatstore.specs.Commands.{form_in, form_named}
 use Rattle.flatstore.proofs.Forms.{named_rows, name_of}
 use Rattle.flatstore.proofs.command.command_in.Goals as goal
 

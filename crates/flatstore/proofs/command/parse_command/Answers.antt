@@ -1,5 +1,5 @@
 -- Words are a form where `clap` takes them, and none where it refuses them for another cause than memory.
-use Rattle.std.proofs.Common.{◌≡◌, ◌∙◌, sym, ap, subst, inl, inr}
+use Rattle.std.proofs.Common.{◌∙◌, sym, ap, subst, inl, inr}
 use Rattle.clap.specs.Words.{App, is_simple, is_simple_and_free, HasKind, kind_of, fault_of, subcommand_of}
 use Rattle.flatstore.specs.Commands.{form_in, program, words_of}
 use Rattle.flatstore.proofs.Forms.{program_is_simple, program_is_free, taken, refused}

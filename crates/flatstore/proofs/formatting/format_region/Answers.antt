@@ -1,12 +1,7 @@
 -- Once the region is created, its images are those of a superblock that is written over zeros.
-use Rattle.std.proofs.Common.{rules, ◌≡◌, ◌*◌, ◌/◌, subst}
-use Rattle.pm_region.specs.State.{State, During, IsTelling, cell_now}
+use Rattle.std.proofs.Common.{rules, ◌*◌, ◌/◌, subst}
 use Rattle.pm_region.specs.Split.{Attached}
-use Rattle.pm_region.specs.Words.{EachIn}
 use Rattle.chunk_map.specs.Layouts.{IsLayout}
-use Rattle.flatstore.specs.Formats.{Formats}
-use Rattle.flatstore.specs.declared.report.Status.TheVariants as statuses
-use Rattle.flatstore.specs.declared.report.Report.{Report}
 use Rattle.flatstore.proofs.Emptiness.{made_stops, made_ends}
 use Rattle.flatstore.proofs.formatting.format_region.Goals as goal
 

@@ -1,0 +1,21 @@
+-- What was read stands in the region as it was found.
+use Rattle.std.proofs.Common.{List, subst}
+use Rattle.fs_model.specs.declared.model.Pair.{Pair}
+use Rattle.flatstore.specs.Dumps.{HasDumped}
+use Rattle.flatstore.proofs.Listed.{dumps_none, dumps_pairs}
+use Rattle.flatstore.proofs.dumping.dump_region.Goals as goal
+
+pub returns-in-Err-clause-promise : goal.returns-in-Err-clause-promise
+returns-in-Err-clause-promise g c =
+    dumps_none (g.R.Region.state c.args.region.now) (g.R.Region.state c.attach.new.self) (g.R.SplitRegion.found c.args.region.now) c.in-Ok.ensures.ok
+    (g.O.Sink.taken c.args.sink.now) (g.O.Sink.fault_count c.args.sink.now) c.in-Err.status c.in-Err.ensures.err c.of-in-Err.result c.of-in-Err.ensures.status c.of-in-Err.ensures.complete
+
+pub returns-in-Ok-live_pairs-clause-promise : goal.returns-in-Ok-live_pairs-clause-promise
+returns-in-Ok-live_pairs-clause-promise g c =
+    let before = g.O.Sink.taken c.args.sink.now in
+    let now = g.O.Sink.taken c.write_dump.new.sink in
+    let count = g.O.Sink.fault_count c.args.sink.now in
+    let count' = g.O.Sink.fault_count c.write_dump.new.sink in
+    dumps_pairs (g.R.Region.state c.args.region.now) (g.R.Region.state c.attach.new.self) (g.R.SplitRegion.found c.args.region.now) c.in-Ok.ensures.ok
+    c.in-Ok-live_pairs.pairs.items c.in-Ok-live_pairs.ensures.ok before now count count' c.write_dump.result
+    (subst (λ (ps : List Pair). HasDumped ps before now count count' c.write_dump.result.status) c.deref.ensures.value c.write_dump.ensures.written)

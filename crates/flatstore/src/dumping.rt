@@ -1,0 +1,79 @@
+// The live pairs of the region are written.
+ghost use Rattle.std.specs.Prelude.{◌≡◌, ◌⊎◌, ℕ, Some, true, false, IfOk, IfErr};
+ghost use Rattle.pm_region.specs.State.{IsTelling, Rose};
+ghost use Rattle.pm_region.specs.Words.{lasts};
+ghost use Rattle.pm_region.specs.Split.{Attached, words_in};
+ghost use Rattle.store_image.specs.Listing.{ListsCells};
+ghost use Rattle.store_image.specs.Soundness.{IsSound};
+ghost use Rattle.headline.specs.Headline.{cells_of};
+ghost use Rattle.flatstore.specs.Dumps.{Dumps, HasDumped, IsUnlisted};
+ghost use Rattle.flatstore.specs.Promise.{is_quiet};
+ghost use Rattle.flatstore.specs.declared.report.Status.TheVariants as statuses;
+
+use crate::report::{Report, Status};
+use fs_model::Pair;
+use fs_text::{OutError, Sink, write_pairs};
+use pm_region::{AttachError, SplitRegion};
+use recover::{RecoverError, pairs, recover};
+use std::alloc::Global;
+
+/// The live pairs of an attached region, by rising key, or the status where there are none.
+fn live_pairs<R: SplitRegion>(alloc: Global, region: &R) -> Result<Vec<Pair>, Status>
+    requires first { (R.state region.now).frame.first ≡ 0 }
+    requires words { (R.state region.now).frame.words ≡ words_in (R.state region.now).frame.bytes }
+    ensures ok { IfOk result (λ pairs. IsTelling (R.state region.now)
+        → IsSound (R.state region.now).frame.bytes (lasts (R.state region.now)) × ListsCells (cells_of (lasts (R.state region.now))) pairs.items) }
+    ensures err { IfErr result (IsUnlisted (R.state region.now) (lasts (R.state region.now))) }
+{
+    match recover(alloc, region, region.bytes()) {
+        Err(RecoverError::Memory) => Err(Status::Memory),
+        Err(RecoverError::Fault(fault)) => Err(Status::of_fault(fault)),
+        Ok(recovered) => match pairs(alloc, region, &recovered) {
+            Err(_) => Err(Status::Memory),
+            Ok(pairs) => Ok(pairs),
+        },
+    }
+}
+
+/// Writes the pairs, and reports.
+fn write_dump<O: Sink>(alloc: Global, sink: &mut O, pairs: &[Pair]) -> Report
+    ensures written { HasDumped pairs.now (O.taken sink.old) (O.taken sink.new) (O.fault_count sink.old) (O.fault_count sink.new) result.status }
+    ensures attached { result.attached ≡ true }
+    ensures complete { result.complete ≡ true }
+{
+    let status = match write_pairs(alloc, sink, pairs) {
+        Ok(()) => Status::Done,
+        Err(OutError::SinkFault) => Status::SinkFault,
+        Err(OutError::Memory) => Status::Memory,
+    };
+    Report {
+        status,
+        finishes: Vec::new(alloc),
+        refusals: Vec::new(alloc),
+        attached: true,
+        complete: true,
+    }
+}
+
+/// Attaches the region, and writes its live pairs by rising key. A region that breaks a rule has none.
+pub fn dump_region<O: Sink, R: SplitRegion>(alloc: Global, sink: &mut O, region: &mut R) -> Report
+    ensures promise { Dumps (R.state region.old) (R.state region.new) (R.found region.old)
+        (O.taken sink.old) (O.taken sink.new) (O.fault_count sink.old) (O.fault_count sink.new) result }
+    ensures attaching { result.attached ≡ false → (result.status ≡ statuses.Memory) ⊎ (result.status ≡ statuses.RegionFault) }
+    ensures no_usage { result.status ≡ statuses.Usage → ⊥ }
+    ensures no_source_fault { result.status ≡ statuses.SourceFault → ⊥ }
+    ensures sink_fault { result.status ≡ statuses.SinkFault → Rose (O.fault_count sink.old) (O.fault_count sink.new) }
+    ensures region_fault { result.status ≡ statuses.RegionFault → Rose (R.state region.old).faults (R.state region.new).faults }
+    ensures incomplete { result.complete ≡ false → sink.new ≡ sink.old }
+    ensures unattached { result.attached ≡ false → result.complete ≡ false }
+    ensures sink_untouched { is_quiet result.status ≡ true → sink.new ≡ sink.old }
+{
+    match region.attach(alloc) {
+        Err(AttachError::RegionFault) => Report::of(alloc, Status::RegionFault, false),
+        Err(AttachError::Memory) => Report::of(alloc, Status::Memory, false),
+        Ok(()) => match live_pairs(alloc, region) {
+            Err(status) => Report::of(alloc, status, true),
+            Ok(pairs) => write_dump(alloc, sink, &pairs),
+        },
+    }
+}
