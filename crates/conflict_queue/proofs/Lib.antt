@@ -1,0 +1,5 @@
+pub mod ChainLaws
+pub mod TableLaws
+pub mod WriteLaws
+pub mod AtPlace
+pub mod QueueLaws
