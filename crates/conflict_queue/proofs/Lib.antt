@@ -3,3 +3,4 @@ pub mod TableLaws
 pub mod WriteLaws
 pub mod AtPlace
 pub mod QueueLaws
+pub mod CoverLaws

@@ -9,6 +9,7 @@ use Rattle.conflict_queue.specs.Chains.{IsChain, held_at, next_of, key_held, nod
 use Rattle.conflict_queue.specs.Queue.{IsQueue}
 use Rattle.conflict_queue.proofs.ChainLaws.{not_in_tail, held_length}
 use Rattle.conflict_queue.proofs.TableLaws.{held_by_is}
+use Rattle.conflict_queue.proofs.CoverLaws.{chains_once, chains_all}
 
 -- a chain stays where a place is added behind the others
 pushed : (ns : List Node) (n : Node) (k at : Option ℕ) (xs : List ℕ) → IsChain ns k at xs → IsChain (ns ++ n ∷ []) k at xs
@@ -31,16 +32,23 @@ one_more_free ns at is =
       all = let a = is.all in omega (arith, l, a);
     }
 
-pub opened : (ns : List Node) (cs : List Chain) (first : Option ℕ) (places : ℕ) → AllFree ns first → length ns ≡ 64 → cs ≡ [] → 64 ≤ places → IsQueue ns cs first 64 places
-opened ns cs first places free nodes none room = record {
-  unused = free.numbers;
-  chain = free.chain;
-  free_nodes = free.all ∙ nodes;
-  table = subst (IsTable ns) (sym none) (record { chains = tt; keys = tt });
+-- that no place is in two chains, and every place in one, follows from the rest
+queue_of : (ns : List Node) (cs : List Chain) (first : Option ℕ) (count places : ℕ) (unused : List ℕ) → IsChain ns None first unused → length unused ≡ count → IsTable ns cs → length ns ≡ 64 → length (all_held ns cs) + count ≡ 64 → 64 ≤ places → IsQueue ns cs first count places
+queue_of ns cs first count places unused chain counted table nodes together room = record {
+  unused = unused;
+  chain = chain;
+  free_nodes = counted;
+  table = table;
   nodes = nodes;
-  together = ap (λ (xs : List Chain). length (all_held ns xs) + 64) none;
+  disjoint = chains_once ns cs first unused table chain;
+  all = λ i lt. chains_all ns cs first unused table chain (omega (arith, counted, nodes, together)) i (omega (arith, lt, nodes));
+  together = together;
   room = room;
 }
+
+pub opened : (ns : List Node) (cs : List Chain) (first : Option ℕ) (places : ℕ) → AllFree ns first → length ns ≡ 64 → cs ≡ [] → 64 ≤ places → IsQueue ns cs first 64 places
+opened ns cs first places free nodes none room =
+    queue_of ns cs first 64 places free.numbers free.chain (free.all ∙ nodes) (subst (IsTable ns) (sym none) (record { chains = tt; keys = tt })) nodes (ap (λ (xs : List Chain). length (all_held ns xs) + 64) none) room
 
 -- each chain holds something
 pub chains_short : (ns : List Node) (cs : List Chain) → AllByRecursion (IsKeyChain ns) cs → length cs ≤ length (all_held ns cs)
@@ -85,15 +93,8 @@ held_queue ns ms cs ds first next count places more i h is at extends goes le =
     let counted = is.free_nodes in
     let all = is.together in
     let room = is.room in
-    record {
-      unused = f.rest;
-      chain = subst (λ (o : Option ℕ). IsChain ms None o f.rest) (sym goes) (extends.rest (next_of ns i) f.rest f.chain.3 out);
-      free_nodes = omega (arith, n, counted);
-      table = extends.table;
-      nodes = extends.nodes ∙ is.nodes;
-      together = omega (arith, added, n, counted, all);
-      room = omega (arith, room, le);
-    }
+    queue_of ms ds next (count - 1) more f.rest (subst (λ (o : Option ℕ). IsChain ms None o f.rest) (sym goes) (extends.rest (next_of ns i) f.rest f.chain.3 out)) (omega (arith, n, counted)) extends.table (extends.nodes ∙ is.nodes)
+    (omega (arith, added, n, counted, all)) (omega (arith, room, le))
 
 pub released_queue : (ns ms : List Node) (cs ds : List Chain) (first now : Option ℕ) (count places more : ℕ) (c : Chain) (h : Held) → IsQueue ns cs first count places → Shortens ns cs ms ds first c h → now ≡ Some c.first → places ≤ more → IsQueue ms ds now (count + 1) more
 released_queue ns ms cs ds first now count places more c h is shortens at le =
@@ -101,12 +102,5 @@ released_queue ns ms cs ds first now count places more c h is shortens at le =
     let counted = is.free_nodes in
     let all = is.together in
     let room = is.room in
-    record {
-      unused = c.first ∷ is.unused;
-      chain = subst (λ (o : Option ℕ). IsChain ms None o (c.first ∷ is.unused)) (sym at) (shortens.free is.unused is.chain);
-      free_nodes = omega (arith, counted);
-      table = shortens.table;
-      nodes = shortens.nodes ∙ is.nodes;
-      together = omega (arith, taken, all);
-      room = omega (arith, room, le);
-    }
+    queue_of ms ds now (count + 1) more (c.first ∷ is.unused) (subst (λ (o : Option ℕ). IsChain ms None o (c.first ∷ is.unused)) (sym at) (shortens.free is.unused is.chain)) (omega (arith, counted)) shortens.table (shortens.nodes ∙ is.nodes)
+    (omega (arith, taken, all)) (omega (arith, room, le))

@@ -58,6 +58,11 @@ abbrev pub all_held : List Node → List Chain → List Held
 all_held ns [] = []
 all_held ns (c ∷ cs) = held_by ns c ++ all_held ns cs
 
+-- the numbers of all places that hold something, chain by chain
+abbrev pub numbers_of : List Node → List Chain → List ℕ
+numbers_of ns [] = []
+numbers_of ns (c ∷ cs) = numbers_from ns (Some c.first) ++ numbers_of ns cs
+
 -- the chain of a key: its places hold requests of that key, and its last one is known
 pub record IsKeyChain (ns : List Node) (c : Chain) : Type 0 where
   pub rest : List ℕ
