@@ -1,8 +1,8 @@
 -- Which entries wait to be told, after each change.
-use Rattle.std.proofs.Common.{◌≡◌, ◌≢◌, ◌⊎◌, inl, ⊎_elim, ℕ, ◌+◌, ◌≤◌, ◌<◌, ◌==◌, false, List, [], ◌∷◌, ◌++◌, length, get_or, take, Option, Some, None, refl, sym, ◌∙◌, ap, subst, arith}
+use Rattle.std.proofs.Common.{◌≡◌, ◌≢◌, ◌⊎◌, inl, ⊎_elim, ℕ, ◌+◌, ◌≤◌, ◌<◌, ◌==◌, Bool, true, false, cond, List, [], ◌∷◌, ◌++◌, length, get_or, take, Option, Some, None, refl, sym, ◌∙◌, ap, subst, arith}
 use Rattle.std.specs.Prelude.{Result, Ok, Err, OnOk, OnErr}
 use Rattle.std.specs.List.{AllByRecursion}
-use Rattle.std.proofs.lemmas.Bool.{cases_eq, eq-eqb, ne_eqb, cond-true, cond-false}
+use Rattle.std.proofs.lemmas.Bool.{cases_eq, eqb-true, eq-eqb, ne_eqb, cond-true, cond-false}
 use Rattle.std.proofs.lemmas.List.{append_assoc, take_more}
 use Rattle.log_entry.specs.declared.entry.EntryName.{EntryName}
 use Rattle.core_index.specs.declared.types.Head.{Head}
@@ -10,11 +10,12 @@ use Rattle.core_index.specs.declared.notices.Notice.{Notice}
 use Rattle.core_index.specs.declared.types.Record.{Record}
 use Rattle.core_index.specs.declared.types.Standee.{Standee}
 use Rattle.core_index.specs.declared.types.Standing.{Standing}
-use Rattle.core_index.specs.Records.{KeyRecord, Awaits, standing_with, opened}
-use Rattle.core_index.specs.Slots.{Place, mortal, standee_with, count_dead, count_of, alive_at, record_with, OnlyDead}
-use Rattle.core_index.specs.Noted.{Book, Noted, NotedIfDead, name_with}
+use Rattle.core_index.specs.Records.{KeyRecord, Awaits, is_dead, standing_at, standing_with, opened}
+use Rattle.core_index.specs.Slots.{Place, mortal, standee_with, count_dead, count_of, alive_at, home_in, home_alive, record_with, OnlyDead}
+use Rattle.core_index.specs.Noted.{Book, Noted, NotedIfDead, count_lively, name_with}
 use Rattle.core_index.specs.Index.{place_at, known_in, room_in, known_at, room_at, mortal_in, all_mortal, Step, ToldAt, HasNoneAbove, Entered, Entering, opened_in, IsIndex}
 use Rattle.core_index.proofs.StandingLaws.{found_has}
+use Rattle.core_index.proofs.DeadLaws.{alive_is, alive_none}
 use Rattle.core_index.proofs.SlotLaws.{awaits_needs}
 
 -- a change of one key, by which one entry may die
@@ -113,24 +114,54 @@ more_noted k b c r ss i d lt kept all new = subst (AllByRecursion (NotedIfDead c
     push [] all = (new, tt)
     push (x ∷ xs) all = (λ dies. kept x.home (name_with k x.version) (all.0 dies), push xs all.1)
 
-pub entered_index : {T E : Type 0} (r : Result T E) (es fs : List (ℕ × Place)) (b c : Book) (k : ℕ) (p : Place) → IsIndex es b → OnOk r (Step es fs k (Some p)) → OnErr r (fs ≡ es) → p.room ≡ 0 → ((v h : ℕ) → Awaits p.known h v → Noted c h (name_with k v)) → ((h : ℕ) (n : EntryName) → Noted b h n → Noted c h n) → b.spare + 1 ≤ c.spare → IsIndex fs c
+-- how many entries are not dead, one further
+
+lively_push : (r : KeyRecord) (xs : List Standing) (x : Standing) → count_lively r (xs ++ x ∷ []) ≡ count_lively r xs + cond (is_dead r x.version) 0 1
+lively_push r [] x = omega arith
+lively_push r (y ∷ xs) x = let rest = lively_push r xs x in omega (arith, rest)
+
+pub lively_dead : (r : KeyRecord) (ss : List Standing) (i : ℕ) (d : Standing) → i < length ss → is_dead r (get_or ss i d).version ≡ true → count_lively r (take (i + 1) ss) ≡ count_lively r (take i ss)
+lively_dead r ss i d lt dies =
+    let a : count_lively r (take (i + 1) ss) ≡ count_lively r (take i ss) + cond (is_dead r (get_or ss i d).version) 0 1 = ap (count_lively r) (take_more ss i d lt) ∙ lively_push r (take i ss) (get_or ss i d) in
+    let b = cond-true {A = ℕ} (is_dead r (get_or ss i d).version) 0 1 dies in
+    omega (arith, a, b)
+
+pub lively_more : (r : KeyRecord) (ss : List Standing) (i : ℕ) (d : Standing) → i < length ss → is_dead r (get_or ss i d).version ≡ false → count_lively r (take (i + 1) ss) ≡ count_lively r (take i ss) + 1
+lively_more r ss i d lt lives =
+    let a : count_lively r (take (i + 1) ss) ≡ count_lively r (take i ss) + cond (is_dead r (get_or ss i d).version) 0 1 = ap (count_lively r) (take_more ss i d lt) ∙ lively_push r (take i ss) (get_or ss i d) in
+    let b = cond-false {A = ℕ} (is_dead r (get_or ss i d).version) 0 1 lives in
+    omega (arith, a, b)
+
+found_lively : (r : KeyRecord) (ss : List Standing) (v : ℕ) (s : Standing) → standing_at ss v ≡ Some s → is_dead r v ≡ false → 1 ≤ count_lively r ss
+found_lively r [] v s is lives = absurd (cc is)
+found_lively r (x ∷ ss) v s is lives = by (found_lively r ss v s) (x.version == v) refl is
+  where
+    by : (standing_at ss v ≡ Some s → is_dead r v ≡ false → 1 ≤ count_lively r ss) → (b : Bool) → (x.version == v) ≡ b → cond b (Some x) (standing_at ss v) ≡ Some s → 1 ≤ count_lively r (x ∷ ss)
+    by rest true same at = let e = eqb-true x.version v same in let one = cond-false {A = ℕ} (is_dead r x.version) 0 1 (ap (is_dead r) e ∙ lives) in omega (arith, one)
+    by rest false other at = let le = rest at lives in omega (arith, le)
+
+-- the one that is alive is not dead
+pub alive_lively : (r : KeyRecord) → count_of (home_alive r) ≤ count_lively r r.standing
+alive_lively r = by (is_dead r r.version) refl (standing_at r.standing r.version) refl
+  where
+    by : (b : Bool) → is_dead r r.version ≡ b → (o : Option Standing) → standing_at r.standing r.version ≡ o → count_of (home_alive r) ≤ count_lively r r.standing
+    by true dies o at = let none = ap count_of (alive_none r dies) in omega (arith, none)
+    by false lives None at = let none : count_of (home_alive r) ≡ 0 = ap count_of (cond-false (is_dead r r.version) None (home_in (standing_at r.standing r.version)) lives ∙ ap home_in at) in omega (arith, none)
+    by false lives (Some s) at = let one : count_of (home_alive r) ≡ 1 = ap count_of (alive_is r s lives at) in let le = found_lively r r.standing r.version s at lives in omega (arith, one, le)
+
+pub entered_index : {T E : Type 0} (r : Result T E) (es fs : List (ℕ × Place)) (b c : Book) (k : ℕ) (p : Place) → IsIndex es b → OnOk r (Step es fs k (Some p)) → OnErr r (fs ≡ es) → p.room ≡ 0 → ((v h : ℕ) → Awaits p.known h v → Noted c h (name_with k v)) → ((h : ℕ) (n : EntryName) → Noted b h n → Noted c h n) → b.spare + count_of (alive_at p.known) ≤ c.spare → IsIndex fs c
 entered_index (Err e) es fs b c k p is ok err none noted kept le = subst (λ (xs : List (ℕ × Place)). IsIndex xs c) (sym err) (record { noted = λ j v h waits. kept h (name_with j v) (is.noted j v h waits); spare = let s = is.spare in omega (arith, s, le) })
 entered_index (Ok x) es fs b c k p is step err none noted kept le =
     let known : known_at fs k ≡ p.known = ap known_in step.here in
     let sum = step.count in
     let room = is.spare in
-    let one = at_most_one (alive_at p.known) in
     record {
       noted = λ j v h waits. ⊎_elim
           (λ (e : j ≡ k). subst (λ (i : ℕ). Noted c h (name_with i v)) (sym e) (noted v h (subst (λ (o : Option KeyRecord). Awaits o h v) known (subst (λ (i : ℕ). Awaits (known_at fs i) h v) e waits))))
           (λ (ne : j ≢ k). kept h (name_with j v) (is.noted j v h (subst (λ (o : Option KeyRecord). Awaits o h v) (ap known_in (step.others j ne)) waits)))
           (cases_eq j k);
-      spare = omega (arith, sum, room, one, none, le);
+      spare = omega (arith, sum, room, none, le);
     }
-  where
-    at_most_one : (o : Option ℕ) → count_of o ≤ 1
-    at_most_one None = omega arith
-    at_most_one (Some h) = omega arith
 
 -- One record after another, from the last one on.
 

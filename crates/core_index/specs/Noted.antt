@@ -1,5 +1,5 @@
 -- Names that homes are to be told.
-use Rattle.std.specs.Prelude.{◌≡◌, ◌≢◌, ◌⊎◌, ℕ, ◌+◌, ◌%◌, ◌≤◌, List, [], ◌∷◌, length, slice_index_or, map, true}
+use Rattle.std.specs.Prelude.{◌≡◌, ◌≢◌, ◌⊎◌, ℕ, ◌+◌, ◌%◌, ◌≤◌, List, [], ◌∷◌, length, slice_index_or, map, true, if◌then◌else◌}
 use Rattle.std.specs.List.{AllByRecursion}
 use Rattle.std.specs.declared.vec.Vec.{Vec}
 use Rattle.std.specs.Vec.{vec_capacity}
@@ -57,3 +57,8 @@ LacksHome home xs = AllByRecursion (λ x. x.home ≢ home) xs
 
 abbrev pub NotedIfDead : Book → ℕ → KeyRecord → Standing → Type 0
 NotedIfDead b k r s = is_dead r s.version ≡ true → Noted b s.home (name_with k s.version)
+
+-- how many entries of the list are not dead
+abbrev pub count_lively : KeyRecord → List Standing → ℕ
+count_lively r [] = 0
+count_lively r (s ∷ ss) = (if is_dead r s.version then 0 else 1) + count_lively r ss

@@ -69,7 +69,7 @@ impl CoreIndex {
         ensures { OnOk result (Entered self.old self.new start) }
     {
         let key = start.key;
-        self.notices.reserve(start.standing.len() as u64 + 1)?;
+        self.notices.reserve(start.standing.len() as u64)?;
         let slot = Slot::of(alloc, start)?;
         slot.note_dead(key, &mut self.notices);
         enter_at(&mut self.slots, key, slot)

@@ -3,9 +3,9 @@ ghost use Rattle.std.specs.Prelude.{◌≡◌, ◌+◌, ◌-◌, ◌<◌, ◌≤
 ghost use Rattle.std.specs.Bool.{Decides};
 ghost use Rattle.std.specs.List.{AllByRecursion};
 ghost use Rattle.log_entry.specs.declared.entry.EntryName.{EntryName};
-ghost use Rattle.core_index.specs.Noted.{Noted, NotedIfDead, name_with};
+ghost use Rattle.core_index.specs.Noted.{Noted, NotedIfDead, count_lively, name_with};
 ghost use Rattle.core_index.specs.Records.{Awaits, standing_of, Shows, settled, opened, told_in, without, last_of, block_of, is_forgettable, live_version};
-ghost use Rattle.core_index.specs.Slots.{alive_at, home_alive, record_with, known_with, mortal, count_dead, dead_by, died, OnlyDead, TellsOne};
+ghost use Rattle.core_index.specs.Slots.{alive_at, home_alive, record_with, known_with, mortal, count_of, count_dead, dead_by, died, OnlyDead, TellsOne};
 
 use crate::notices::Notices;
 use crate::standing::{awaits, is_dead, is_tombstone, standing_at, take_out, tell_first, untold};
@@ -172,7 +172,7 @@ impl Slot {
         requires { length (standing_of self.now.known) ≤ notices.old.spare }
         ensures noted { (v h : ℕ) → Awaits self.now.known h v → Noted notices.new h (name_with key v) }
         ensures kept { (h : ℕ) (n : EntryName) → Noted notices.old h n → Noted notices.new h n }
-        ensures spare { notices.old.spare ≤ notices.new.spare + length (standing_of self.now.known) }
+        ensures spare { notices.old.spare + count_of (alive_at self.now.known) ≤ notices.new.spare + length (standing_of self.now.known) }
     {
         if let Some(head) = &self.head {
             note_all(head, &self.standing, key, notices);
@@ -254,7 +254,7 @@ fn note_all(head: &Head, standing: &[Standing], key: Key, notices: &mut Notices)
     requires { length standing.now ≤ notices.old.spare }
     ensures noted { AllByRecursion (NotedIfDead notices.new key (record_with head.now standing.now)) standing.now }
     ensures kept { (h : ℕ) (n : EntryName) → Noted notices.old h n → Noted notices.new h n }
-    ensures spare { notices.old.spare ≤ notices.new.spare + length standing.now }
+    ensures spare { notices.old.spare + count_lively (record_with head.now standing.now) standing.now ≤ notices.new.spare + length standing.now }
 {
     for s in standing {
         if is_dead(head, standing, s.version) {

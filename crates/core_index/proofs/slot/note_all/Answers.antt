@@ -4,7 +4,7 @@ use Rattle.core_index.specs.declared.types.Standing.{Standing}
 use Rattle.core_index.specs.Records.{KeyRecord, standing_with}
 use Rattle.core_index.specs.Slots.{record_with}
 use Rattle.core_index.specs.Noted.{Book, Noted, NotedIfDead, name_with}
-use Rattle.core_index.proofs.IndexLaws.{more_noted}
+use Rattle.core_index.proofs.IndexLaws.{more_noted, lively_dead, lively_more}
 use Rattle.core_index.proofs.slot.note_all.Goals as goal
 use Rattle.core_index.proofs.slot.note_all.Goals.{then-is_dead, else-is_dead}
 
@@ -26,7 +26,7 @@ loop-s-preserved c =
           record {
             noted = more_noted k b now r ss i d lt kept was.noted new;
             kept = λ h n noted. kept h n (was.kept h n noted);
-            spare = let s = was.spare in let t = w.push.ensures.spare in let e : now.spare ≡ w.push.new.self.spare = ap (λ (x : Book). x.spare) w.notices-is in omega (arith, s, t, e);
+            spare = let s = was.spare in let t = w.push.ensures.spare in let e : now.spare ≡ w.push.new.self.spare = ap (λ (x : Book). x.spare) w.notices-is in let more = lively_dead r ss i d lt (sym w.if-is_dead.ensures) in omega (arith, s, t, e, more);
           }
       | else-is_dead w ↦
           let kept : (h : ℕ) (n : EntryName) → Noted b h n → Noted now h n = λ h n noted. subst (λ (x : Book). Noted x h n) (sym w.notices-is) noted in
@@ -34,6 +34,6 @@ loop-s-preserved c =
           record {
             noted = more_noted k b now r ss i d lt kept was.noted new;
             kept = λ h n noted. kept h n (was.kept h n noted);
-            spare = let s = was.spare in let e : now.spare ≡ b.spare = ap (λ (x : Book). x.spare) w.notices-is in omega (arith, s, e);
+            spare = let s = was.spare in let e : now.spare ≡ b.spare = ap (λ (x : Book). x.spare) w.notices-is in let more = lively_more r ss i d lt (sym w.if-is_dead.ensures) in omega (arith, s, e, more);
           }
     ]
