@@ -1,0 +1,6 @@
+pub mod ChainLaws
+pub mod TableLaws
+pub mod WriteLaws
+pub mod AtPlace
+pub mod QueueLaws
+pub mod CoverLaws

@@ -1,0 +1,12 @@
+//! Requests that wait for their key, in order of arrival, in places that are all taken beforehand.
+#![tactic(auto)]
+
+mod chains;
+mod nodes;
+mod queue;
+#[cfg(test)]
+mod tests;
+mod types;
+
+pub use queue::ConflictQueue;
+pub use types::{Held, NoNode};

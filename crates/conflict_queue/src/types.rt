@@ -1,0 +1,15 @@
+// What waits, and what is given back where there is no place.
+use fs_model::Request;
+
+/// A request that waits for its key, with the number that its owner gave it.
+#[derive(Debug, Drop)]
+pub struct Held {
+    pub number: u64,
+    pub request: Request,
+}
+
+/// All places are in use. The request comes back.
+#[derive(Debug, Drop)]
+pub struct NoNode {
+    pub request: Request,
+}

@@ -1,0 +1,123 @@
+-- Changes of the map at one key.
+use Rattle.std.proofs.Common.{◌≡◌, ◌≢◌, ⊎_elim, ℕ, ◌≤◌, false, List, Option, Some, None, option_map, refl, sym, ◌∙◌, ap, subst, arith}
+use Rattle.std.specs.List.{sum_by}
+use Rattle.std.specs.Option.{unwrap_or}
+use Rattle.std.specs.Map.{values_of, keys_of, set_value, remove_entry}
+use Rattle.std.specs.BTreeMap.{is_at, insert_entry}
+use Rattle.std.specs.Ordering.{nat_cmp}
+use Rattle.std.specs.Cmp.{unsigned_tied, nat_cmp_total}
+use Rattle.std.specs.List.Sorted.{IsStrictlySortedBy}
+use Rattle.std.proofs.lemmas.Map.Entries.{sum_by-set_value, sum_by-insert_entry, sum_by-remove_entry}
+use Rattle.std.proofs.lemmas.Bool.{ne_eqb}
+use Rattle.std.specs.Prelude.{Result, Ok, Err, OnOk, OnErr}
+use Rattle.std.proofs.lemmas.Bool.{cases_eq}
+use Rattle.std.proofs.lemmas.Map.Steps.{set_value_same}
+use Rattle.log_entry.specs.declared.entry.EntryName.{EntryName}
+use Rattle.core_index.specs.Records.{KeyRecord, Awaits, told_in}
+use Rattle.core_index.specs.Slots.{Place, mortal, TellsOne}
+use Rattle.core_index.specs.Index.{place_at, known_in, room_in, known_at, room_at, mortal_in, all_mortal, Step, Changes, SameRoom, ToldAt, Forgets}
+
+pub apart : (k q : ℕ) → q ≢ k → is_at (nat_cmp k) q ≡ false
+apart k q ne = unsigned_tied k q ∙ ne_eqb k q (λ e. ne (sym e))
+
+count_in : (o : Option Place) → unwrap_or (option_map mortal o) 0 ≡ mortal_in o
+count_in None = refl
+count_in (Some p) = refl
+
+-- a value that is written to the key
+pub step_set : (es fs : List (ℕ × Place)) (k : ℕ) (v w : Place) → place_at es k ≡ Some v → fs ≡ set_value (is_at (nat_cmp k)) es w → place_at fs k ≡ Some w → ((q : ℕ) → is_at (nat_cmp k) q ≡ false → place_at fs q ≡ place_at es q) → Step es fs k (Some w)
+step_set es fs k v w at is here others = record {
+  here = here;
+  others = λ j ne. others j (apart k j ne);
+  count =
+      let sum = sum_by-set_value mortal (is_at (nat_cmp k)) es v w at in
+      let a : all_mortal fs ≡ sum_by mortal (values_of (set_value (is_at (nat_cmp k)) es w)) = ap all_mortal is in
+      let b : mortal_in (place_at es k) ≡ mortal v = ap mortal_in at in
+      omega (arith, sum, a, b);
+}
+
+-- a key that is put in, or gets another value
+pub step_insert : (es fs : List (ℕ × Place)) (k : ℕ) (w : Place) → IsStrictlySortedBy nat_cmp (keys_of es) → fs ≡ insert_entry nat_cmp es k w → place_at fs k ≡ Some w → ((q : ℕ) → is_at (nat_cmp k) q ≡ false → place_at fs q ≡ place_at es q) → Step es fs k (Some w)
+step_insert es fs k w sorted is here others = record {
+  here = here;
+  others = λ j ne. others j (apart k j ne);
+  count =
+      let sum = sum_by-insert_entry mortal nat_cmp_total es k w sorted in
+      let a : all_mortal fs ≡ sum_by mortal (values_of (insert_entry nat_cmp es k w)) = ap all_mortal is in
+      let b = count_in (place_at es k) in
+      omega (arith, sum, a, b);
+}
+
+-- a key that is taken out
+pub step_remove : (es fs : List (ℕ × Place)) (k : ℕ) → fs ≡ remove_entry (is_at (nat_cmp k)) es → place_at fs k ≡ None → ((q : ℕ) → is_at (nat_cmp k) q ≡ false → place_at fs q ≡ place_at es q) → Step es fs k None
+step_remove es fs k is here others = record {
+  here = here;
+  others = λ j ne. others j (apart k j ne);
+  count =
+      let sum = sum_by-remove_entry mortal (is_at (nat_cmp k)) es in
+      let a : all_mortal fs ≡ sum_by mortal (values_of (remove_entry (is_at (nat_cmp k)) es)) = ap all_mortal is in
+      let b = count_in (place_at es k) in
+      omega (arith, sum, a, b);
+}
+
+-- nothing changed
+pub step_none : (es : List (ℕ × Place)) (k : ℕ) → Step es es k (place_at es k)
+step_none es k = record { here = refl; others = λ j ne. refl; count = refl }
+
+-- a value that is written back changes nothing
+pub same_set : (es fs : List (ℕ × Place)) (k : ℕ) (v w : Place) → place_at es k ≡ Some v → fs ≡ set_value (is_at (nat_cmp k)) es w → w ≡ v → fs ≡ es
+same_set es fs k v w at is same = is ∙ set_value_same (is_at (nat_cmp k)) es w (at ∙ ap (λ (p : Place). Some p) (sym same))
+
+pub on_ok : {T E P Q : Type 0} (r : Result T E) → (P → Q) → OnOk r P → OnOk r Q
+on_ok (Ok x) f p = f p
+on_ok (Err e) f p = tt
+
+pub on_err : {T E P Q : Type 0} (r : Result T E) → (P → Q) → OnErr r P → OnErr r Q
+on_err (Ok x) f p = tt
+on_err (Err e) f p = f p
+
+-- What a step says of records and room.
+
+pub step_known : (es fs : List (ℕ × Place)) (k : ℕ) (now : Option Place) → Step es fs k now → Changes es fs k (known_in now)
+step_known es fs k now step = record { here = ap known_in step.here; others = λ j ne. ap known_in (step.others j ne) }
+
+pub step_room : (es fs : List (ℕ × Place)) (k : ℕ) (now : Option Place) → Step es fs k now → room_in now ≡ room_at es k → SameRoom es fs
+step_room es fs k now step same = λ j. ⊎_elim (λ (e : j ≡ k). ap (room_at fs) e ∙ ap room_in step.here ∙ same ∙ ap (room_at es) (sym e)) (λ (ne : j ≢ k). ap room_in (step.others j ne)) (cases_eq j k)
+
+pub told_at : (es fs : List (ℕ × Place)) (home : ℕ) (n : EntryName) (v w : Place) → place_at es n.key ≡ Some v → Step es fs n.key (Some w) → TellsOne v w home n.version → mortal w ≤ mortal v → ToldAt es fs home n
+told_at es fs home n v w at step one le =
+    let known : known_at es n.key ≡ v.known = ap known_in at in
+    let room : room_at es n.key ≡ v.room = ap room_in at in
+    let now : known_at fs n.key ≡ w.known = ap known_in step.here in
+    record {
+      tells = record {
+        waited = subst (λ (o : Option KeyRecord). Awaits o home n.version) (sym known) one.waited;
+        change = record { here = now ∙ ap (λ (p : Place). p.known) one.told ∙ ap (option_map (told_in n.version)) (sym known); others = λ j ne. ap known_in (step.others j ne) };
+        room = step_room es fs n.key (Some w) step (ap (λ (p : Place). p.room) one.told ∙ sym room);
+      };
+      waits = λ v' h after.
+          let both = one.others v' h (subst (λ (o : Option KeyRecord). Awaits o h v') now after) in
+          (both.0, subst (λ (o : Option KeyRecord). Awaits o h v') (sym known) both.1);
+      count = let sum = step.count in let a : mortal_in (place_at es n.key) ≡ mortal v = ap mortal_in at in omega (arith, sum, a, le);
+    }
+
+room_mortal : (o : Option Place) → room_in o ≤ mortal_in o
+room_mortal None = omega arith
+room_mortal (Some p) = omega arith
+
+pub forgets_keeping : (es fs : List (ℕ × Place)) (k : ℕ) → Step es fs k (Some (record { known = None; room = room_at es k })) → Forgets es fs k
+forgets_keeping es fs k step = record {
+  change = step_known es fs k (Some (record { known = None; room = room_at es k })) step;
+  room = step_room es fs k (Some (record { known = None; room = room_at es k })) step refl;
+  count = let sum = step.count in let le = room_mortal (place_at es k) in omega (arith, sum, le);
+}
+
+pub forgets_all : (es fs gs : List (ℕ × Place)) (k : ℕ) → Step es fs k (Some (record { known = None; room = room_at es k })) → Step fs gs k None → room_at es k ≡ 0 → Forgets es gs k
+forgets_all es fs gs k first second none =
+    let a = forgets_keeping es fs k first in
+    let room : room_in None ≡ room_at fs k = sym (ap room_in first.here ∙ none) in
+    record {
+      change = record { here = ap known_in second.here; others = λ j ne. ap known_in (second.others j ne) ∙ a.change.others j ne };
+      room = λ j. step_room fs gs k None second room j ∙ a.room j;
+      count = let sum = second.count in let le = a.count in omega (arith, sum, le);
+    }

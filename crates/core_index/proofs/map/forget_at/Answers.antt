@@ -1,0 +1,15 @@
+use Rattle.std.proofs.Common.{sym, ◌∙◌}
+use Rattle.core_index.proofs.StepLaws.{step_remove, forgets_all, forgets_keeping}
+use Rattle.core_index.proofs.map.forget_at.Goals as goal
+
+pub returns-then-room-eq0 : goal.returns-then-room-eq0
+returns-then-room-eq0 c =
+    let es = c.args.slots.now.entries in
+    let fs = c.clear_at-room.new.slots.entries in
+    let first = c.clear_at-room.ensures.step in
+    let e = c.remove.ensures in
+    let second = step_remove fs c.remove.new.self.entries c.args.key e.entries e.updates.1 e.updates.2 in
+    forgets_all es fs c.remove.new.self.entries c.args.key first second (sym c.clear_at-room.ensures.room ∙ c.if-room-eq0.true)
+
+pub returns-else-room-eq0 : goal.returns-else-room-eq0
+returns-else-room-eq0 c = forgets_keeping c.args.slots.now.entries c.clear_at-room.new.slots.entries c.args.key c.clear_at-room.ensures.step

@@ -1,0 +1,110 @@
+-- The index as its callers see it: a map from keys to records, with room for so many changes of a key to come.
+use Rattle.std.specs.Prelude.{◌≡◌, ◌≢◌, ℕ, ◌+◌, ◌≤◌, ◌==◌, List, [], ◌∷◌, ◌++◌, if◌then◌else◌, Option, Some, None, option_map}
+use Rattle.std.specs.List.{sum_by, AllByRecursion}
+use Rattle.std.specs.Map.{lookup, values_of}
+use Rattle.std.specs.BTreeMap.{is_at}
+use Rattle.std.specs.Ordering.{nat_cmp}
+use Rattle.log_entry.specs.declared.entry.EntryName.{EntryName}
+use Rattle.core_index.specs.declared.types.Record.{Record}
+use Rattle.core_index.specs.Records.{KeyRecord, Awaits, told_in, without, live_version, opened}
+use Rattle.core_index.specs.Slots.{Place, mortal}
+use Rattle.core_index.specs.Noted.{Book, Noted, name_with}
+
+abbrev pub place_at : List (ℕ × Place) → ℕ → Option Place
+place_at es k = lookup (is_at (nat_cmp k)) es
+
+abbrev pub known_in : Option Place → Option KeyRecord
+known_in None = None
+known_in (Some p) = p.known
+
+abbrev pub room_in : Option Place → ℕ
+room_in None = 0
+room_in (Some p) = p.room
+
+-- the key's record, where it has one
+abbrev pub known_at : List (ℕ × Place) → ℕ → Option KeyRecord
+known_at es k = known_in (place_at es k)
+
+-- for how many changes of the key there is room
+abbrev pub room_at : List (ℕ × Place) → ℕ → ℕ
+room_at es k = room_in (place_at es k)
+
+abbrev pub mortal_in : Option Place → ℕ
+mortal_in None = 0
+mortal_in (Some p) = mortal p
+
+-- how many entries may still die
+abbrev pub all_mortal : List (ℕ × Place) → ℕ
+all_mortal es = sum_by mortal (values_of es)
+
+-- The key has this now, and every other key what it had.
+pub record Step (es fs : List (ℕ × Place)) (k : ℕ) (now : Option Place) : Type 0 where
+  pub here : place_at fs k ≡ now
+  pub others : (j : ℕ) → j ≢ k → place_at fs j ≡ place_at es j
+  pub count : all_mortal fs + mortal_in (place_at es k) ≡ all_mortal es + mortal_in now
+
+-- The key has this record now, and every other key the one that it had.
+pub record Changes (old new : List (ℕ × Place)) (k : ℕ) (now : Option KeyRecord) : Type 0 where
+  pub here : known_at new k ≡ now
+  pub others : (j : ℕ) → j ≢ k → known_at new j ≡ known_at old j
+
+abbrev pub SameRoom : List (ℕ × Place) → List (ℕ × Place) → Type 0
+SameRoom old new = (j : ℕ) → room_at new j ≡ room_at old j
+
+-- A dead entry that stands at this home was not told, and is told now. Nothing else changed.
+pub record Tells (old new : List (ℕ × Place)) (home : ℕ) (n : EntryName) : Type 0 where
+  pub waited : Awaits (known_at old n.key) home n.version
+  pub change : Changes old new n.key (option_map (told_in n.version) (known_at old n.key))
+  pub room : SameRoom old new
+
+-- the same, with which entries wait afterwards, and how many may still die
+pub record ToldAt (old new : List (ℕ × Place)) (home : ℕ) (n : EntryName) : Type 0 where
+  pub tells : Tells old new home n
+  pub waits : (w h : ℕ) → Awaits (known_at new n.key) h w → (w ≢ n.version) × Awaits (known_at old n.key) h w
+  pub count : all_mortal new ≤ all_mortal old
+
+abbrev pub gone_place : ℕ → Place → Place
+gone_place v p = record { known = option_map (without v) p.known; room = p.room }
+
+-- The key has no record any more. Its room stays.
+pub record Forgets (old new : List (ℕ × Place)) (k : ℕ) : Type 0 where
+  pub change : Changes old new k None
+  pub room : SameRoom old new
+  pub count : all_mortal new ≤ all_mortal old
+
+-- the record of a key in a list, as it is at the start
+abbrev pub opened_in : List Record → ℕ → Option KeyRecord
+opened_in [] k = None
+opened_in (r ∷ rs) k = if r.key == k then Some (opened r) else opened_in rs k
+
+-- What is true of the index's fields between two calls: each entry that waits to be told is noted, and there is
+-- room for every name that may still die.
+pub record IsIndex (es : List (ℕ × Place)) (b : Book) : Type 0 where
+  pub noted : (k v h : ℕ) → Awaits (known_at es k) h v → Noted b h (name_with k v)
+  pub spare : all_mortal es ≤ b.spare
+
+-- the live keys with their versions, in the order of the entries
+abbrev pub live_name : ℕ → Option ℕ → List EntryName
+live_name k None = []
+live_name k (Some v) = name_with k v ∷ []
+
+abbrev pub live_names : List (ℕ × Place) → List EntryName
+live_names [] = []
+live_names (e ∷ es) = live_name e.0 (live_version e.1.known) ++ live_names es
+
+-- no entry of the record stands above its version
+abbrev pub HasNoneAbove : Record → Type 0
+HasNoneAbove r = AllByRecursion (λ s. s.version ≤ r.version) r.standing.items
+
+-- a record of the start was put in
+pub record Entered (old new : List (ℕ × Place)) (r : Record) : Type 0 where
+  pub change : Changes old new r.key (Some (opened r))
+  pub none : room_at new r.key ≡ 0
+  pub room : (j : ℕ) → j ≢ r.key → room_at new j ≡ room_at old j
+
+-- Of all records these are left, and the index has the others.
+pub record Entering (all left : List Record) (es : List (ℕ × Place)) : Type 0 where
+  pub done : List Record
+  pub split : all ≡ left ++ done
+  pub known : (k : ℕ) → known_at es k ≡ opened_in done k
+  pub room : (k : ℕ) → room_at es k ≡ 0

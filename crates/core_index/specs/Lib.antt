@@ -1,0 +1,4 @@
+pub mod Records
+pub mod Slots
+pub mod Noted
+pub mod Index

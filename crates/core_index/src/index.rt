@@ -1,0 +1,184 @@
+// The index: the map of keys, and the names that homes are to be told.
+ghost use Rattle.std.specs.Prelude.{◌≡◌, ◌≢◌, ◌⊎◌, ◌↔◌, ℕ, ◌+◌, ◌^◌, ◌<◌, ◌≤◌, true, false, IsTrue, Some, None, option_map, map, OnOk, OnErr, IfOk, IfErr, IfSome, IfNone};
+ghost use Rattle.std.specs.List.{AllByRecursion, Contains};
+ghost use Rattle.std.specs.List.Sorted.{IsStrictlyIncreasing};
+ghost use Rattle.log_entry.specs.declared.entry.EntryName.{EntryName};
+ghost use Rattle.core_index.specs.Records.{Awaits, Shows, settled, without, last_of, block_of, is_forgettable, live_version};
+ghost use Rattle.core_index.specs.Noted.{name_with};
+ghost use Rattle.core_index.specs.Index.{known_at, room_at, Changes, SameRoom, Tells, HasNoneAbove, Entered, opened_in};
+
+use crate::listing::live_in;
+use crate::map::{enter_at, forget_at, gone_at, reserve_at, settle_at};
+use crate::notices::Notices;
+use crate::slot::Slot;
+use crate::telling::{next_dead, note_dead};
+use crate::types::{Look, Record, Spent};
+use fs_errors::Memory;
+use fs_model::{Key, Version};
+use log_entry::{Entry, EntryName};
+use std::alloc::Global;
+use std::collections::BTreeMap;
+use std::marker::Model;
+
+// The greatest last version from which a put still finds a number: the one behind it is left for a delete.
+const SPENT: Version = 1_048_574;
+
+/// The keys of one core: for each its last version, the value or block that this left, and the entries that
+/// stand in a log. A key without a record has last version 0.
+#[derive(Drop)]
+pub struct CoreIndex {
+    slots: BTreeMap<Key, Slot>,
+    notices: Notices,
+}
+
+impl Model for CoreIndex {
+    ghost use Rattle.std.specs.Prelude.{List, ℕ};
+    ghost use Rattle.core_index.specs.Slots.{Place};
+
+    ghost Value = { List (ℕ × Place) };
+
+    ghost use Rattle.core_index.specs.Index.{IsIndex};
+
+    ghost view = { λ a. a.slots.entries };
+
+    ghost invariant = { λ a. IsIndex a.slots.entries a.notices };
+}
+
+impl CoreIndex {
+    /// The index of these records. No death was told yet, and there is no room for changes. Where a key or,
+    /// in a record, a version stands twice, the first one counts.
+    pub fn open(alloc: Global, records: Vec<Record>) -> Result<CoreIndex, Memory>
+        requires { AllByRecursion HasNoneAbove records.items }
+        ensures records { IfOk result (λ index. (k : ℕ) → known_at index k ≡ opened_in records.items k) }
+        ensures room { IfOk result (λ index. (k : ℕ) → room_at index k ≡ 0) }
+    {
+        let mut index = CoreIndex {
+            slots: BTreeMap::new(alloc),
+            notices: Notices::open(alloc)?,
+        };
+        let mut left = records;
+        while let Some(record) = left.pop() {
+            index.enter(alloc, record)?;
+        }
+        Ok(index)
+    }
+
+    // Puts a record in, in place of any that the key has.
+    fn enter(&mut self, alloc: Global, start: Record) -> Result<(), Memory>
+        requires { HasNoneAbove start }
+        ensures { OnOk result (Entered self.old self.new start) }
+    {
+        let key = start.key;
+        self.notices.reserve(start.standing.len() as u64)?;
+        let slot = Slot::of(alloc, start)?;
+        slot.note_dead(key, &mut self.notices);
+        enter_at(&mut self.slots, key, slot)
+    }
+
+    /// Makes room for one more `settle` of the key.
+    pub fn admit(&mut self, alloc: Global, key: Key) -> Result<(), Memory>
+        ensures ok { OnOk result (room_at self.new key ≡ room_at self.old key + 1) }
+        ensures others { (j : ℕ) → j ≢ key → room_at self.new j ≡ room_at self.old j }
+        ensures records { (j : ℕ) → known_at self.new j ≡ known_at self.old j }
+        ensures err { OnErr result (self.new ≡ self.old) }
+    {
+        self.notices.reserve(1)?;
+        reserve_at(alloc, &mut self.slots, key)
+    }
+
+    /// What the key has.
+    pub fn look(&self, key: Key) -> Look<'_>
+        ensures { Shows (known_at self.now key) result }
+    {
+        match self.slots.get(&key) {
+            None => Look::Unknown,
+            Some(slot) => slot.look(),
+        }
+    }
+
+    fn last(&self, key: Key) -> Version
+        ensures { result ≡ last_of (known_at self.now key) }
+    {
+        match self.slots.get(&key) {
+            None => 0,
+            Some(slot) => slot.last(),
+        }
+    }
+
+    /// The number of the key's next change. A put finds none left exactly from last version 1,048,574 on. A
+    /// delete is asked for only where a number is left, as there always is for a key with a value.
+    pub fn next_version(&self, key: Key, delete: bool) -> Result<Version, Spent>
+        requires { delete ≡ true → last_of (known_at self.now key) + 1 < 2 ^ 32 }
+        ensures next { IfOk result (λ version. version ≡ last_of (known_at self.now key) + 1) }
+        ensures left { OnOk result ((delete ≡ true) ⊎ (last_of (known_at self.now key) < 1048574)) }
+        ensures last { IfErr result (λ spent. spent.last ≡ last_of (known_at self.now key)) }
+        ensures spent { OnErr result ((delete ≡ false) × (1048574 ≤ last_of (known_at self.now key))) }
+    {
+        let last = self.last(key);
+        if !delete && last >= SPENT {
+            return Err(Spent { last });
+        }
+        Ok(last + 1)
+    }
+
+    /// Records a finished change whose entry stands in the log of `home`, and gives the block of the value
+    /// before it. It takes no memory, as `admit` made room for it.
+    pub fn settle(&mut self, entry: Entry, home: u32) -> Option<u64>
+        requires room { 0 < room_at self.old entry.key }
+        requires next { entry.version ≡ last_of (known_at self.old entry.key) + 1 }
+        ensures settled { Changes self.old self.new entry.key (Some (settled (known_at self.old entry.key) entry.version entry.body home)) }
+        ensures replaced { result ≡ block_of (known_at self.old entry.key) }
+        ensures room { room_at self.new entry.key + 1 ≡ room_at self.old entry.key }
+        ensures others { (j : ℕ) → j ≢ entry.key → room_at self.new j ≡ room_at self.old j }
+    {
+        let Entry { key, version, body } = entry;
+        let settled = settle_at(&mut self.slots, key, version, body, home);
+        note_dead(&mut self.notices, key, settled.dead);
+        settled.replaced
+    }
+
+    /// The next dead entry that this home is to be told; none exactly where nothing is left to tell it.
+    pub fn next_notice(&mut self, home: u32) -> Option<EntryName>
+        ensures told { IfSome result (λ name. Tells self.old self.new home name) }
+        ensures none { IfNone result ((name : EntryName) → ¬ Awaits (known_at self.old name.key) home name.version) }
+        ensures unchanged { IfNone result (self.new ≡ self.old) }
+    {
+        next_dead(&mut self.slots, &mut self.notices, home)
+    }
+
+    /// Takes an entry out of those that stand: it is in no log any more.
+    pub fn gone(&mut self, name: EntryName)
+        ensures gone { Changes self.old self.new name.key (option_map (without name.version) (known_at self.old name.key)) }
+        ensures room { SameRoom self.old self.new }
+    {
+        let dead = gone_at(&mut self.slots, name);
+        note_dead(&mut self.notices, name.key, dead);
+    }
+
+    /// Whether the key has a record, is deleted, and has no standing entry.
+    pub fn forgettable(&self, key: Key) -> bool
+        ensures { result ≡ is_forgettable (known_at self.now key) }
+    {
+        match self.slots.get(&key) {
+            None => false,
+            Some(slot) => slot.is_forgettable(),
+        }
+    }
+
+    /// Takes the record of such a key out: its versions start at 1 again. Room that `admit` made stays.
+    pub fn forget(&mut self, key: Key)
+        requires { IsTrue (is_forgettable (known_at self.old key)) }
+        ensures forgotten { Changes self.old self.new key None }
+        ensures room { SameRoom self.old self.new }
+    {
+        forget_at(&mut self.slots, key);
+    }
+
+    /// The live keys with their versions, by rising key.
+    pub fn live(&self, alloc: Global) -> Result<Vec<EntryName>, Memory>
+        ensures rising { IfOk result (λ names. IsStrictlyIncreasing (map (λ n. n.key) names.items)) }
+        ensures each { IfOk result (λ names. (k v : ℕ) → Contains names.items (name_with k v) ↔ (live_version (known_at self.now k) ≡ Some v)) }
+    {
+        live_in(alloc, &self.slots)
+    }
+}

@@ -1,0 +1,107 @@
+// Changes of one key in the map of keys.
+ghost use Rattle.std.specs.Prelude.{◌≡◌, ◌+◌, ◌-◌, ◌<◌, ◌≤◌, true, false, IsTrue, OnOk, OnErr, Some, None, option_map};
+ghost use Rattle.core_index.specs.Records.{Awaits, settled, last_of, block_of, is_forgettable};
+ghost use Rattle.core_index.specs.Slots.{mortal, count_dead, OnlyDead};
+ghost use Rattle.core_index.specs.Index.{Step, ToldAt, known_at, room_at, mortal_in, place_at, gone_place, Forgets};
+
+use crate::slot::Slot;
+use crate::types::{Settled, Standee};
+use fs_errors::Memory;
+use fs_model::{Key, Version};
+use log_entry::{Body, EntryName};
+use std::alloc::Global;
+use std::collections::BTreeMap;
+
+// Records a finished change of a key that has room for it.
+pub fn settle_at(
+    slots: &mut BTreeMap<Key, Slot>,
+    key: Key,
+    version: Version,
+    body: Body,
+    home: u32,
+) -> Settled
+    requires room { 0 < room_at slots.old.entries key }
+    requires next { version ≡ last_of (known_at slots.old.entries key) + 1 }
+    ensures step { Step slots.old.entries slots.new.entries key (Some (record { known = Some (settled (known_at slots.old.entries key) version body home); room = room_at slots.old.entries key - 1 })) }
+    ensures replaced { result.replaced ≡ block_of (known_at slots.old.entries key) }
+    ensures dead { OnlyDead (known_at slots.old.entries key) (known_at slots.new.entries key) result.dead }
+    ensures mortal { mortal_in (place_at slots.new.entries key) + count_dead result.dead ≤ mortal_in (place_at slots.old.entries key) }
+{
+    match slots.get_mut(&key) {
+        Some(slot) => slot.settle(version, body, home),
+        None => Settled {
+            replaced: None,
+            dead: None,
+        },
+    }
+}
+
+// Makes room for one more change of a key.
+pub fn reserve_at(alloc: Global, slots: &mut BTreeMap<Key, Slot>, key: Key) -> Result<(), Memory>
+    ensures ok { OnOk result (Step slots.old.entries slots.new.entries key (Some (record { known = known_at slots.old.entries key; room = room_at slots.old.entries key + 1 }))) }
+    ensures err { OnErr result (slots.new.entries ≡ slots.old.entries) }
+{
+    match slots.get_mut(&key) {
+        Some(slot) => slot.reserve(),
+        None => enter_at(slots, key, Slot::with_room(alloc)?),
+    }
+}
+
+// Gives a key this slot.
+pub fn enter_at(slots: &mut BTreeMap<Key, Slot>, key: Key, slot: Slot) -> Result<(), Memory>
+    ensures ok { OnOk result (Step slots.old.entries slots.new.entries key (Some slot)) }
+    ensures err { OnErr result (slots.new.entries ≡ slots.old.entries) }
+{
+    let _ = slots.insert(key, slot)?;
+    Ok(())
+}
+
+// Tells a home of a dead entry, where it waits to be told.
+pub fn tell_at(slots: &mut BTreeMap<Key, Slot>, name: EntryName, home: u32) -> bool
+    ensures told { result ≡ true → ToldAt slots.old.entries slots.new.entries home name }
+    ensures none { result ≡ false → ¬ Awaits (known_at slots.old.entries name.key) home name.version }
+    ensures unchanged { result ≡ false → slots.new.entries ≡ slots.old.entries }
+{
+    match slots.get_mut(&name.key) {
+        Some(slot) => slot.tell(name.version, home),
+        None => false,
+    }
+}
+
+// Takes an entry out of those that stand. Gives the entry that died by it.
+pub fn gone_at(slots: &mut BTreeMap<Key, Slot>, name: EntryName) -> Option<Standee>
+    ensures step { Step slots.old.entries slots.new.entries name.key (option_map (gone_place name.version) (place_at slots.old.entries name.key)) }
+    ensures dead { OnlyDead (known_at slots.old.entries name.key) (known_at slots.new.entries name.key) result }
+    ensures mortal { mortal_in (place_at slots.new.entries name.key) + count_dead result ≤ mortal_in (place_at slots.old.entries name.key) }
+{
+    match slots.get_mut(&name.key) {
+        Some(slot) => slot.gone(name.version),
+        None => None,
+    }
+}
+
+// Takes a record out, and gives the room that stays.
+fn clear_at(slots: &mut BTreeMap<Key, Slot>, key: Key) -> u64
+    requires { IsTrue (is_forgettable (known_at slots.old.entries key)) }
+    ensures step { Step slots.old.entries slots.new.entries key (Some (record { known = None; room = room_at slots.old.entries key })) }
+    ensures room { result ≡ room_at slots.old.entries key }
+{
+    match slots.get_mut(&key) {
+        Some(slot) => {
+            slot.forget();
+            slot.room()
+        }
+        None => 0,
+    }
+}
+
+// Takes a record out. Its place goes too, where there is no room to keep.
+pub fn forget_at(slots: &mut BTreeMap<Key, Slot>, key: Key)
+    requires { IsTrue (is_forgettable (known_at slots.old.entries key)) }
+    ensures { Forgets slots.old.entries slots.new.entries key }
+{
+    let room = clear_at(slots, key);
+    if room == 0 {
+        let _ = slots.remove(&key);
+    }
+}

@@ -1,0 +1,294 @@
+// What the index keeps of one key.
+ghost use Rattle.std.specs.Prelude.{◌≡◌, ◌+◌, ◌-◌, ◌<◌, ◌≤◌, ℕ, Some, None, [], true, false, option_map, length, IfOk, OnOk, OnErr, IsTrue};
+ghost use Rattle.std.specs.Bool.{Decides};
+ghost use Rattle.std.specs.List.{AllByRecursion};
+ghost use Rattle.log_entry.specs.declared.entry.EntryName.{EntryName};
+ghost use Rattle.core_index.specs.Noted.{Noted, NotedIfDead, count_lively, name_with};
+ghost use Rattle.core_index.specs.Records.{Awaits, standing_of, Shows, settled, opened, told_in, without, last_of, block_of, is_forgettable, live_version};
+ghost use Rattle.core_index.specs.Slots.{alive_at, home_alive, record_with, known_with, mortal, count_of, count_dead, dead_by, died, OnlyDead, TellsOne};
+
+use crate::notices::Notices;
+use crate::standing::{awaits, is_dead, is_tombstone, standing_at, take_out, tell_first, untold};
+use crate::types::{Head, Look, Record, Settled, Standee, Standing};
+use fs_errors::Memory;
+use fs_model::{Key, Version};
+use log_entry::{Body, EntryName};
+use std::alloc::Global;
+use std::marker::Model;
+use std::mem::replace;
+
+// A key's record, where it has one, and room for so many changes to come. No call but `with_room`, `of` and
+// `reserve` takes memory.
+#[derive(Drop)]
+pub struct Slot {
+    head: Option<Head>,
+    standing: Vec<Standing>,
+    room: u64,
+}
+
+impl Model for Slot {
+    ghost use Rattle.std.specs.Vec.{vec_capacity};
+    ghost use Rattle.core_index.specs.Slots.{Place, known_with, IsSlot};
+
+    ghost Value = { Place };
+
+    ghost view = { λ a. record { known = known_with a.head a.standing.items; room = a.room } };
+
+    ghost invariant = { λ a. IsSlot a.head a.standing.items a.room (vec_capacity a.standing) };
+}
+
+impl Slot {
+    // No record, and room for one change.
+    pub fn with_room(alloc: Global) -> Result<Slot, Memory>
+        ensures { IfOk result (λ slot. slot ≡ record { known = None; room = 1 }) }
+    {
+        Ok(Slot {
+            head: None,
+            standing: Vec::with_capacity(alloc, 1)?,
+            room: 1,
+        })
+    }
+
+    // A record at the start, with no room.
+    pub fn of(alloc: Global, start: Record) -> Result<Slot, Memory>
+        requires { AllByRecursion (λ s. s.version ≤ start.version) start.standing.items }
+        ensures { IfOk result (λ slot. slot ≡ record { known = Some (opened start); room = 0 }) }
+    {
+        let standing = untold(alloc, &start.standing)?;
+        Ok(Slot {
+            head: Some(Head {
+                version: start.version,
+                body: start.body,
+            }),
+            standing,
+            room: 0,
+        })
+    }
+
+    // Makes room for one more change.
+    pub fn reserve(&mut self) -> Result<(), Memory>
+        ensures ok { OnOk result (self.new ≡ record { known = self.old.known; room = self.old.room + 1 }) }
+        ensures err { OnErr result (self.new ≡ self.old) }
+    {
+        let room = self.room.checked_add(1).ok_or(Memory)?;
+        self.standing.reserve(room as usize)?;
+        self.room = room;
+        Ok(())
+    }
+
+    pub fn last(&self) -> Version
+        ensures { result ≡ last_of self.now.known }
+    {
+        match &self.head {
+            None => 0,
+            Some(head) => head.version,
+        }
+    }
+
+    pub fn is_forgettable(&self) -> bool
+        ensures { result ≡ is_forgettable self.now.known }
+    {
+        match &self.head {
+            None => false,
+            Some(head) => is_tombstone(&head.body) && self.standing.is_empty(),
+        }
+    }
+
+    // The home of the last version's entry, where it stands and is not dead.
+    pub fn alive(&self) -> Option<u32>
+        ensures { result ≡ alive_at self.now.known }
+    {
+        match &self.head {
+            None => None,
+            Some(head) => alive_in(head, &self.standing),
+        }
+    }
+
+    // Records a finished change.
+    pub fn settle(&mut self, version: Version, body: Body, home: u32) -> Settled
+        requires room { 0 < self.old.room }
+        requires next { version ≡ last_of self.old.known + 1 }
+        ensures settled { self.new ≡ record { known = Some (settled self.old.known version body home); room = self.old.room - 1 } }
+        ensures replaced { result.replaced ≡ block_of self.old.known }
+        ensures dead { OnlyDead self.old.known self.new.known result.dead }
+        ensures mortal { mortal self.new + count_dead result.dead ≤ mortal self.old }
+    {
+        let last = self.last();
+        let alive = self.alive();
+        let old = replace(&mut self.head, Some(Head { version, body }));
+        self.standing
+            .push(Standing {
+                version,
+                home,
+                told: false,
+            })
+            .unwrap();
+        self.room -= 1;
+        let dead = dead_by(Standee { version, home }, last, alive, self.alive());
+        Settled {
+            replaced: block_in(old),
+            dead,
+        }
+    }
+
+    // Whether an entry is dead and waits to be told to its home.
+    fn awaits(&self, version: Version, home: u32) -> bool
+        ensures { Decides result (Awaits self.now.known home version) }
+    {
+        match &self.head {
+            None => false,
+            Some(head) => awaits(head, &self.standing, version, home),
+        }
+    }
+
+    // Tells a home of a dead entry, where it waits to be told.
+    pub fn tell(&mut self, version: Version, home: u32) -> bool
+        ensures told { result ≡ true → TellsOne self.old self.new home version }
+        ensures none { result ≡ false → ¬ Awaits self.old.known home version }
+        ensures unchanged { result ≡ false → self.new ≡ self.old }
+        ensures mortal { mortal self.new ≤ mortal self.old }
+    {
+        if !self.awaits(version, home) {
+            return false;
+        }
+        tell_first(&mut self.standing, version);
+        true
+    }
+
+    // Takes an entry out of those that stand. Gives the entry that died by it.
+    pub fn gone(&mut self, version: Version) -> Option<Standee>
+        ensures gone { self.new ≡ record { known = option_map (without version) self.old.known; room = self.old.room } }
+        ensures dead { OnlyDead self.old.known self.new.known result }
+        ensures mortal { mortal self.new + count_dead result ≤ mortal self.old }
+    {
+        let last = self.last();
+        let alive = self.alive();
+        take_out(&mut self.standing, version);
+        died(version, last, alive, self.alive())
+    }
+
+    // Notes each entry that is dead and was not told.
+    pub fn note_dead(&self, key: Key, notices: &mut Notices)
+        requires { length (standing_of self.now.known) ≤ notices.old.spare }
+        ensures noted { (v h : ℕ) → Awaits self.now.known h v → Noted notices.new h (name_with key v) }
+        ensures kept { (h : ℕ) (n : EntryName) → Noted notices.old h n → Noted notices.new h n }
+        ensures spare { notices.old.spare + count_of (alive_at self.now.known) ≤ notices.new.spare + length (standing_of self.now.known) }
+    {
+        if let Some(head) = &self.head {
+            note_all(head, &self.standing, key, notices);
+        }
+    }
+
+    // Takes out the record of a key that is deleted and of which nothing stands.
+    pub fn forget(&mut self)
+        requires { IsTrue (is_forgettable self.old.known) }
+        ensures { self.new ≡ record { known = None; room = self.old.room } }
+    {
+        self.head = None;
+    }
+
+    pub fn room(&self) -> u64
+        ensures { result ≡ self.now.room }
+    {
+        self.room
+    }
+
+    pub fn live_version(&self) -> Option<Version>
+        ensures { result ≡ live_version self.now.known }
+    {
+        match &self.head {
+            None => None,
+            Some(head) => {
+                if is_tombstone(&head.body) {
+                    None
+                } else {
+                    Some(head.version)
+                }
+            }
+        }
+    }
+
+    pub fn look(&self) -> Look<'_>
+        ensures { Shows self.now.known result }
+    {
+        match &self.head {
+            None => Look::Unknown,
+            Some(head) => match &head.body {
+                Body::Tombstone => Look::Deleted,
+                Body::Pointer(pointer) => Look::Block(*pointer),
+                Body::Embedded(value) => Look::Embedded(value.bytes()),
+            },
+        }
+    }
+}
+
+// What dies by a finished change: its own entry at once, or the one that was alive.
+fn dead_by(own: Standee, last: Version, before: Option<u32>, after: Option<u32>) -> Option<Standee>
+    ensures { result ≡ dead_by own.version own.home last before after }
+{
+    match (before, after) {
+        (_, None) => Some(own),
+        (None, Some(_)) => None,
+        (Some(home), Some(_)) => Some(Standee {
+            version: last,
+            home,
+        }),
+    }
+}
+
+// The entry of the last version, where it was alive and is no more, and is not the one that went.
+fn died(version: Version, last: Version, before: Option<u32>, after: Option<u32>) -> Option<Standee>
+    ensures { result ≡ died version last before after }
+{
+    match (before, after) {
+        (Some(home), None) if version != last => Some(Standee {
+            version: last,
+            home,
+        }),
+        _ => None,
+    }
+}
+
+// Notes each of these entries that is dead.
+fn note_all(head: &Head, standing: &[Standing], key: Key, notices: &mut Notices)
+    requires { length standing.now ≤ notices.old.spare }
+    ensures noted { AllByRecursion (NotedIfDead notices.new key (record_with head.now standing.now)) standing.now }
+    ensures kept { (h : ℕ) (n : EntryName) → Noted notices.old h n → Noted notices.new h n }
+    ensures spare { notices.old.spare + count_lively (record_with head.now standing.now) standing.now ≤ notices.new.spare + length standing.now }
+{
+    for s in standing {
+        if is_dead(head, standing, s.version) {
+            let name = EntryName {
+                key,
+                version: s.version,
+            };
+            notices.push(s.home, name);
+        }
+    }
+}
+
+fn alive_in(head: &Head, standing: &[Standing]) -> Option<u32>
+    ensures { result ≡ home_alive (record_with head.now standing.now) }
+{
+    if is_dead(head, standing, head.version) {
+        return None;
+    }
+    match standing_at(standing, head.version) {
+        None => None,
+        Some(s) => Some(s.home),
+    }
+}
+
+fn block_in(head: Option<Head>) -> Option<u64>
+    ensures { result ≡ block_of (known_with head []) }
+{
+    match head {
+        Some(
+            Head {
+                body: Body::Pointer(pointer),
+                ..
+            },
+        ) => Some(pointer),
+        _ => None,
+    }
+}

@@ -1,0 +1,51 @@
+// Dead entries on their way to be told.
+ghost use Rattle.std.specs.Prelude.{◌≡◌, ℕ, ◌+◌, ◌≤◌, Some, IfSome, IfNone};
+ghost use Rattle.log_entry.specs.declared.entry.EntryName.{EntryName};
+ghost use Rattle.core_index.specs.Records.{Awaits};
+ghost use Rattle.core_index.specs.Slots.{count_dead, standee_with};
+ghost use Rattle.core_index.specs.Noted.{Noted, name_with};
+ghost use Rattle.core_index.specs.Index.{IsIndex, Tells, known_at};
+
+use crate::map::tell_at;
+use crate::notices::Notices;
+use crate::slot::Slot;
+use crate::types::Standee;
+use fs_model::Key;
+use log_entry::EntryName;
+use std::collections::BTreeMap;
+
+// Notes an entry that died, where one did.
+pub fn note_dead(notices: &mut Notices, key: Key, dead: Option<Standee>)
+    requires { count_dead dead ≤ notices.old.spare }
+    ensures added { (v h : ℕ) → dead ≡ Some (standee_with v h) → Noted notices.new h (name_with key v) }
+    ensures kept { (h : ℕ) (n : EntryName) → Noted notices.old h n → Noted notices.new h n }
+    ensures spare { notices.new.spare + count_dead dead ≡ notices.old.spare }
+{
+    if let Some(standee) = dead {
+        let name = EntryName {
+            key,
+            version: standee.version,
+        };
+        notices.push(standee.home, name);
+    }
+}
+
+// Tells a home of a dead entry. A name that is noted and does not wait any more is passed over.
+pub fn next_dead(
+    slots: &mut BTreeMap<Key, Slot>,
+    notices: &mut Notices,
+    home: u32,
+) -> Option<EntryName>
+    requires { IsIndex slots.old.entries notices.old }
+    ensures index { IsIndex slots.new.entries notices.new }
+    ensures told { IfSome result (λ name. Tells slots.old.entries slots.new.entries home name) }
+    ensures none { IfNone result ((name : EntryName) → ¬ Awaits (known_at slots.old.entries name.key) home name.version) }
+    ensures unchanged { IfNone result (slots.new.entries ≡ slots.old.entries) }
+{
+    while let Some(name) = notices.take(home) {
+        if tell_at(slots, name, home) {
+            return Some(name);
+        }
+    }
+    None
+}

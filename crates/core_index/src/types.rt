@@ -1,0 +1,60 @@
+// What goes into an index and what comes out of it.
+use fs_model::{Key, Version};
+use log_entry::Body;
+
+/// An entry that stands in a log. `home` is the core in whose log it stands.
+#[derive(Clone, Copy, Debug, PartialEq, Eq)]
+pub struct Standee {
+    pub version: Version,
+    pub home: u32,
+}
+
+/// What is known of a key at the start: its last version, what that left, and its entries in all logs.
+#[derive(Drop)]
+pub struct Record {
+    pub key: Key,
+    pub version: Version,
+    pub body: Body,
+    pub standing: Vec<Standee>,
+}
+
+/// What a key has.
+#[derive(Debug, Drop)]
+pub enum Look<'a> {
+    /// The key has no record.
+    Unknown,
+    /// Its last change was a delete.
+    Deleted,
+    /// Its value, which is kept beside the key.
+    Embedded(&'a [u8]),
+    /// The block of its value, by the block's first byte in the region divided by 256.
+    Block(u64),
+}
+
+/// The key was changed as often as versions go.
+#[derive(Clone, Copy, Debug, PartialEq, Eq)]
+pub struct Spent {
+    pub last: Version,
+}
+
+// An entry that stands in a log, and whether its death was told to its home.
+#[derive(Clone, Copy, Debug, PartialEq, Eq)]
+pub struct Standing {
+    pub version: Version,
+    pub home: u32,
+    pub told: bool,
+}
+
+// The last change of a key.
+#[derive(Drop)]
+pub struct Head {
+    pub version: Version,
+    pub body: Body,
+}
+
+// What a finished change did: the block of the value before it, and the entry that died by it.
+#[derive(Clone, Copy, Debug, PartialEq, Eq)]
+pub struct Settled {
+    pub replaced: Option<u64>,
+    pub dead: Option<Standee>,
+}
