@@ -1,0 +1,9 @@
+pub mod Places
+pub mod Updates
+pub mod State
+pub mod Invariant
+pub mod Steps
+pub mod Tidying
+pub mod Runs
+pub mod Crashes
+pub mod Opening
