@@ -20,4 +20,5 @@ pub mod Receive
 pub mod Tidy
 pub mod Runs
 pub mod Safe
+pub mod Images
 pub mod Opened

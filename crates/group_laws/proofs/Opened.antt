@@ -1,5 +1,5 @@
 -- An opened state is lawful.
-use Rattle.std.proofs.Common.{◌≡◌, ℕ, zero, suc, Bool, true, false, List, Option, Some, None, inl, inr, arith, refl, sym, ap, ◌∙◌, subst}
+use Rattle.std.proofs.Common.{◌≡◌, ◌<◌, ℕ, zero, suc, Bool, true, false, List, Option, Some, None, inl, inr, arith, refl, sym, ap, ◌∙◌, subst}
 use Rattle.std.proofs.lemmas.Bool.{cases_eq}
 use Rattle.log_entry.specs.declared.entry.Body.{Body}
 use Rattle.log_entry.specs.declared.entry.Body.TheVariants.{Pointer, Embedded, Tombstone}
@@ -147,7 +147,7 @@ module _ (w : Group) (x : Contents) (sound : IsSound w.place x) (open_ : IsFound
       mail_from = λ a h n y q. nothing (open_.mail a h) q;
     };
     blocks = record {
-      lies = λ m p b q. let e = (open_.blocks m p b).0 q in (sound.lies m p b.bytes e.4, e.3);
+      lies = λ m p b q. let e = (open_.blocks m p b).0 q in (sound.lies m p b.bytes e.4, e.3, subst (λ (o : ℕ). o < members w.place) (ap (owner w.place) e.1.key ∙ e.3) (sound.group e.1.home e.0 e.1.stands).1);
       distinct = λ m n p q b c i j ne. let e = (open_.blocks m p b).0 i in let f = (open_.blocks n q c).0 j in elim (cases_eq m n) [
         | inl s ↦ sound.apart n p q b.bytes c.bytes (rw s at e.4) f.4 (ne s)
         | inr d ↦ let a = sound.lies m p b.bytes e.4 in let z = sound.lies n q c.bytes f.4 in let up = parts_rise w.place m n in let down = parts_rise w.place n m in grind (arith, a, z, up, down, d)

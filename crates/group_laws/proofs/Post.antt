@@ -1,5 +1,5 @@
 -- A Post keeps the invariant.
-use Rattle.std.proofs.Common.{◌≡◌, ℕ, ◌+◌, ◌≤◌, List, [], ◌∷◌, ◌++◌, length, Option, Some, ◌⊎◌, inl, inr, arith, refl, sym, ap, ◌∙◌}
+use Rattle.std.proofs.Common.{◌≡◌, ℕ, ◌+◌, ◌<◌, ◌≤◌, List, [], ◌∷◌, ◌++◌, length, Option, Some, ◌⊎◌, inl, inr, arith, refl, sym, ap, ◌∙◌}
 use Rattle.log_entry.specs.declared.entry.Body.{Body}
 use Rattle.log_entry.specs.declared.entry.Entry.{Entry}
 use Rattle.group_laws.proofs.Places.{parts_rise, units_some}
@@ -8,7 +8,7 @@ use Rattle.group_laws.specs.declared.types.Pending.{Pending}
 use Rattle.group_laws.specs.declared.types.Block.{Block}
 use Rattle.group_laws.specs.declared.types.Seen.{Seen}
 use Rattle.store_image.specs.Facts.{In}
-use Rattle.group_laws.specs.Places.{Apart, LiesIn, owner, units}
+use Rattle.group_laws.specs.Places.{Apart, LiesIn, members, owner, units}
 use Rattle.group_laws.specs.Updates.{times}
 use Rattle.group_laws.specs.State.{Group, shown}
 use Rattle.group_laws.specs.Invariant.{Blocks, Cells, Counts, Gives, IsHeld, IsLogged, Keys, Lawful, Logs, Looks, PendsAt, Slots}
@@ -164,8 +164,8 @@ module _ (w : Group) (m s : ℕ) (e : Entry) (value : List ℕ) (L : Lawful w) (
   turn p a q b (inl i) = inr i
   turn p a q b (inr i) = inl i
 
-  new_lies : (n p : ℕ) (b : Block) → (n ≡ m) × (e.body ≡ Pointer p) × (b ≡ record { key = e.key; bytes = value }) → LiesIn w.place n p (units (length b.bytes)) × (owner w.place b.key ≡ n)
-  new_lies n p b i = rw (i.0, i.2) ((can.block p i.1).1.0, can.own)
+  new_lies : (n p : ℕ) (b : Block) → (n ≡ m) × (e.body ≡ Pointer p) × (b ≡ record { key = e.key; bytes = value }) → LiesIn w.place n p (units (length b.bytes)) × (owner w.place b.key ≡ n) × (n < members w.place)
+  new_lies n p b i = rw (i.0, i.2) ((can.block p i.1).1.0, can.own, can.slot.0)
 
   new_apart : (o p q : ℕ) (b c : Block) → e.body ≡ Pointer p → b ≡ record { key = e.key; bytes = value } → w.blocks o q ≡ Some c → Apart p (units (length b.bytes)) q (units (length c.bytes))
   new_apart o p q b c i j k = rw j (elim (cases_eq o m) [

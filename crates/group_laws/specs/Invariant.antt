@@ -128,7 +128,7 @@ IsAwaited w k p = (q : Pending) × (w.pending k ≡ Some q) × (q.entry.body ≡
 
 -- Blocks that must hold a value lie in their owner's part and share no unit, and they are just those of live values and pending entries. So no block serves two values. A pending entry's block is another one than its key's live value has: taking the entry back puts its block back, and must not put back the live one.
 pub record Blocks (w : Group) : Type 0 where
-  pub lies : (m p : ℕ) (b : Block) → w.blocks m p ≡ Some b → LiesIn w.place m p (units (length b.bytes)) × (owner w.place b.key ≡ m)
+  pub lies : (m p : ℕ) (b : Block) → w.blocks m p ≡ Some b → LiesIn w.place m p (units (length b.bytes)) × (owner w.place b.key ≡ m) × (m < members w.place)
   pub distinct : (m n p q : ℕ) (b c : Block) → w.blocks m p ≡ Some b → w.blocks n q ≡ Some c → (m ≡ n → p ≢ q) → Apart p (units (length b.bytes)) q (units (length c.bytes))
   pub used : (m p : ℕ) (b : Block) → w.blocks m p ≡ Some b → IsLive w b.key p b.bytes ⊎ IsAwaited w b.key p
   pub awaited : (k p : ℕ) → IsAwaited w k p → (v : List ℕ) × (w.blocks (owner w.place k) p ≡ Some (record { key = k; bytes = v }))

@@ -6,4 +6,5 @@ pub mod Steps
 pub mod Tidying
 pub mod Runs
 pub mod Crashes
+pub mod Images
 pub mod Opening

@@ -1,10 +1,11 @@
 use Rattle.group_laws.proofs.Runs.{run_keeps}
 use Rattle.group_laws.proofs.Safe as safe
+use Rattle.group_laws.proofs.Images.{images_safe}
 use Rattle.group_laws.proofs.laws.every_run.Goals as goal
 
 pub returns : goal.returns
 returns c = record {
   lawful = λ w xs u L r. run_keeps w xs u L r;
-  safe = λ w xs u x L r ok. safe.safe u (run_keeps w xs u L r) x ok;
+  safe = λ w xs u images L r ok. images_safe u (run_keeps w xs u L r) images ok;
   distinct = λ w xs u L r. safe.distinct u (run_keeps w xs u L r);
 }
