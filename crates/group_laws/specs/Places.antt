@@ -15,7 +15,7 @@ pub record IsPlace (p : Place) : Type 0 where
   pub group : p.group < p.layout.cores / p.layout.group
 
 -- members are numbered from 0 in each group
-unfoldable pub members : Place → ℕ
+abbrev pub members : Place → ℕ
 members p = p.layout.group
 
 -- the core that a member is

@@ -32,7 +32,7 @@ pub struct Block {
 }
 
 /// What the word of a slot tells of it.
-#[derive(Clone, Copy)]
+#[derive(Clone, Copy, Debug, PartialEq, Eq)]
 pub enum SlotWord {
     Empty,
     Posted,
@@ -43,7 +43,7 @@ pub enum SlotWord {
 }
 
 /// What a member found in one load.
-#[derive(Clone, Copy)]
+#[derive(Clone, Copy, Debug, PartialEq, Eq)]
 pub enum Seen {
     /// The slot of a member, both by number.
     Slot(u32, u32, SlotWord),

@@ -1,0 +1,4 @@
+pub mod Names
+pub mod Shows
+pub mod Makes
+pub mod Finds

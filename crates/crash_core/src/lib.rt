@@ -1,0 +1,15 @@
+//! The group machine over plain data: the state of a group of cores, its steps one at a time, and the claim
+//! over every list of steps.
+#![tactic(auto)]
+
+mod copies;
+mod kinds;
+mod leading;
+mod names;
+mod places;
+mod state;
+mod tables;
+
+pub use kinds::{Change, Kind, Step, StepError, StepsError};
+pub use names::{Names, Notices};
+pub use state::{CoreView, GroupState};
