@@ -1,6 +1,9 @@
 pub mod Lists
+pub mod Bytes
+pub mod Bounds
 pub mod Views
 pub mod Pairs
 pub mod Made
 pub mod Found
 pub mod Leaders
+pub mod Owners

@@ -7,6 +7,7 @@ mod kinds;
 mod leading;
 mod names;
 mod places;
+mod posting;
 mod state;
 mod tables;
 
