@@ -7,3 +7,6 @@ pub mod Made
 pub mod Found
 pub mod Leaders
 pub mod Owners
+pub mod Numbers
+pub mod Laws
+pub mod Runs

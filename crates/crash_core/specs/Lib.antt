@@ -2,3 +2,5 @@ pub mod Names
 pub mod Shows
 pub mod Makes
 pub mod Finds
+pub mod Steps
+pub mod Words

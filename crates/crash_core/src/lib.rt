@@ -5,6 +5,7 @@
 mod copies;
 mod kinds;
 mod leading;
+mod machine;
 mod names;
 mod places;
 mod posting;
@@ -12,5 +13,6 @@ mod state;
 mod tables;
 
 pub use kinds::{Change, Kind, Step, StepError, StepsError};
+pub use machine::{all_steps, step};
 pub use names::{Names, Notices};
 pub use state::{CoreView, GroupState};
