@@ -6,12 +6,12 @@ use Rattle.std.specs.Ordering.{nat_cmp}
 use Rattle.std.specs.BTreeMap.{BTreeMap, get, Updates}
 use Rattle.log_entry.specs.declared.entry.Entry.{Entry}
 use Rattle.group_laws.specs.declared.types.Slot.{Slot}
-use Rattle.group_laws.specs.declared.types.Slot.TheVariants.{Empty, Taken}
+use Rattle.group_laws.specs.declared.types.Slot.TheVariants.{Empty, Taken, Done, Failed}
 use Rattle.group_laws.specs.declared.types.Seen.{Seen}
 use Rattle.group_laws.specs.Places.{Place, owner}
 use Rattle.group_laws.specs.Updates.{put2, put3, has}
 use Rattle.group_laws.specs.State.{Group}
-use Rattle.group_laws.specs.Steps.{locks, finds, takes, unlocks, commits}
+use Rattle.group_laws.specs.Steps.{locks, finds, takes, unlocks, commits, marks, fails}
 use Rattle.crash_core.specs.declared.names.Notices.{Notices}
 use Rattle.crash_core.specs.declared.state.CoreView.{CoreView}
 use Rattle.crash_core.specs.Shows.{pair_cmp, of, notices_of, no_notices, last_in, mailed_in, group_at}
@@ -131,4 +131,36 @@ module _ (p : Place) (mail : BTreeMap (ℕ × ℕ) Notices) (vs : List CoreView)
       holds = λ h. views.kept_field vs m v w at (λ v. v.holds) false refl h i;
       looked = λ h. views.put_field vs m v w at (λ v. v.looked.items) [] [] cleared h i;
       took = λ h. views.changed_field vs m v w at (λ v. v.took.items) [] (λ es. es ++ e ∷ []) more h i;
+    }
+
+  pub mark_is : (o : Option ℕ) (slots slots' : BTreeMap (ℕ × ℕ) Slot) (a s : ℕ) (e : Entry) (taken : BTreeMap (ℕ × ℕ) Entry) (looked : Vec Seen)
+      → Updates pair_cmp slots slots' (a, s) (Some (Done e m)) → Updates pair_cmp v.taken taken (a, s) None → looked.items ≡ []
+      → group_at p o slots' mail (slice_set vs m (record v { taken = taken; looked = looked })) ≡ marks (group_at p o slots mail vs) m a s e
+  mark_is o slots slots' a s e taken looked slot_set taken_set cleared =
+    let w : CoreView = record v { taken = taken; looked = looked } in
+    owns_same o slots' v.kept v.flying taken v.broken v.holds looked v.took ∙ λ i. record (marks (group_at p o slots mail vs) m a s e) {
+      slot = λ b t. pair_put (λ o. unwrap_or o Empty) slots slots' a s (Some (Done e m)) slot_set b t i;
+      kept = λ h. views.kept_field vs m v w at (λ v. v.kept.items) [] refl h i;
+      flying = λ h. views.kept_field vs m v w at (λ v. v.flying.items) [] refl h i;
+      taken = λ h b t. pairs_put (λ v. v.taken) w a s None taken_set h b t i;
+      broken = λ h. views.kept_field vs m v w at (λ v. v.broken) false refl h i;
+      holds = λ h. views.kept_field vs m v w at (λ v. v.holds) false refl h i;
+      looked = λ h. views.put_field vs m v w at (λ v. v.looked.items) [] [] cleared h i;
+      took = λ h. views.kept_field vs m v w at (λ v. v.took.items) [] refl h i;
+    }
+
+  pub fail_is : (o : Option ℕ) (slots slots' : BTreeMap (ℕ × ℕ) Slot) (a s : ℕ) (e : Entry) (taken : BTreeMap (ℕ × ℕ) Entry) (looked : Vec Seen)
+      → Updates pair_cmp slots slots' (a, s) (Some (Failed e)) → Updates pair_cmp v.taken taken (a, s) None → looked.items ≡ []
+      → group_at p o slots' mail (slice_set vs m (record v { taken = taken; broken = true; looked = looked })) ≡ fails (group_at p o slots mail vs) m a s e
+  fail_is o slots slots' a s e taken looked slot_set taken_set cleared =
+    let w : CoreView = record v { taken = taken; broken = true; looked = looked } in
+    owns_same o slots' v.kept v.flying taken true v.holds looked v.took ∙ λ i. record (fails (group_at p o slots mail vs) m a s e) {
+      slot = λ b t. pair_put (λ o. unwrap_or o Empty) slots slots' a s (Some (Failed e)) slot_set b t i;
+      kept = λ h. views.kept_field vs m v w at (λ v. v.kept.items) [] refl h i;
+      flying = λ h. views.kept_field vs m v w at (λ v. v.flying.items) [] refl h i;
+      taken = λ h b t. pairs_put (λ v. v.taken) w a s None taken_set h b t i;
+      broken = λ h. views.put_field vs m v w at (λ v. v.broken) false true refl h i;
+      holds = λ h. views.kept_field vs m v w at (λ v. v.holds) false refl h i;
+      looked = λ h. views.put_field vs m v w at (λ v. v.looked.items) [] [] cleared h i;
+      took = λ h. views.kept_field vs m v w at (λ v. v.took.items) [] refl h i;
     }

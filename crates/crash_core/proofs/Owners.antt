@@ -15,7 +15,7 @@ use Rattle.group_laws.specs.declared.types.Seen.{Seen}
 use Rattle.group_laws.specs.Places.{Place, owner}
 use Rattle.group_laws.specs.Updates.{put, put2, change, has}
 use Rattle.group_laws.specs.State.{Group}
-use Rattle.group_laws.specs.Steps.{posts, with_block}
+use Rattle.group_laws.specs.Steps.{posts, with_block, withdraws, points_at}
 use Rattle.crash_core.specs.declared.names.Notices.{Notices}
 use Rattle.crash_core.specs.declared.state.CoreView.{CoreView}
 use Rattle.crash_core.specs.Shows.{pair_cmp, of, no_notices, last_in, mailed_in, group_at}
@@ -83,4 +83,24 @@ module _ (p : Place) (o : Option ℕ) (mail : BTreeMap (ℕ × ℕ) Notices) (vs
       dead = λ h k n. views.kept_field vs m v w at (λ v. has v.dead.items k n) false refl h i;
       blocks = λ h q. blocks_changed w (with_block e.key value e.body) block_added h q i;
       posted = λ h. views.changed_field vs m v w at (λ v. v.posted.items) [] (λ es. es ++ e ∷ []) more h i;
+    }
+
+  pub withdraw_is : (slots slots' : BTreeMap (ℕ × ℕ) Slot) (s : ℕ) (e : Entry) (pending : BTreeMap ℕ Pending) (blocks : BTreeMap ℕ Block) (looked : Vec Seen)
+      → owner p e.key ≡ m → Updates pair_cmp slots slots' (m, s) (Some Empty) → Updates nat_cmp v.pending pending e.key None
+      → ((q : ℕ) → get nat_cmp blocks q ≡ cond (points_at e.body q) None (get nat_cmp v.blocks q)) → looked.items ≡ []
+      → group_at p o slots' mail (slice_set vs m (record v { looked = looked; pending = pending; blocks = blocks })) ≡ withdraws (group_at p o slots mail vs) m s e
+  withdraw_is slots slots' s e pending blocks looked own slot_set pending_set block_dropped cleared =
+    let w : CoreView = record v { looked = looked; pending = pending; blocks = blocks } in
+    leads_same slots' v.broken looked v.last v.cell pending v.present v.told v.dead blocks v.posted ∙ λ i. record (withdraws (group_at p o slots mail vs) m s e) {
+      slot = λ b t. pair_put (λ o. unwrap_or o Empty) slots slots' m s (Some Empty) slot_set b t i;
+      broken = λ h. views.kept_field vs m v w at (λ v. v.broken) false refl h i;
+      looked = λ h. views.put_field vs m v w at (λ v. v.looked.items) [] [] cleared h i;
+      last = λ k. views.kept_field vs m v w at (λ v. last_in v k) 0 refl (owner p k) i;
+      cell = λ k. views.kept_field vs m v w at (λ v. get nat_cmp v.cell k) None refl (owner p k) i;
+      pending = λ k. views.put_key vs m v w at (owner p) (λ v k. get nat_cmp v.pending k) None None e.key own (number_put (λ o. o) v.pending pending e.key None pending_set) k i;
+      present = λ k n. views.kept_field vs m v w at (λ v. get pair_cmp v.present (k, n)) None refl (owner p k) i;
+      told = λ k n. views.kept_field vs m v w at (λ v. has v.told.items k n) false refl (owner p k) i;
+      dead = λ h k n. views.kept_field vs m v w at (λ v. has v.dead.items k n) false refl h i;
+      blocks = λ h q. blocks_changed w (λ old p. cond (points_at e.body p) None (old p)) block_dropped h q i;
+      posted = λ h. views.kept_field vs m v w at (λ v. v.posted.items) [] refl h i;
     }

@@ -165,6 +165,7 @@ only_own k body old p = cond (is_of k (old p) && not (points_at body p)) None (o
 -- Finish of a slot that is Done: the owner settles the change. The two rules on its keys follow.
 pub record CanFinish (w : Group) (m s : ℕ) (e : Entry) (home : ℕ) : Type 0 where
   pub slot : IsSlot w m s
+  pub own : owner w.place e.key ≡ m
   pub seen : In (SeenSlot m s (ShowsDone home)) (w.looked m)
   pub done : w.slot m s ≡ Done e home
 
@@ -183,6 +184,7 @@ finishes w m s e home =
 -- Finish of a slot that is Failed: the change is in doubt, and its owner stops. The two rules follow here too.
 pub record CanGiveUp (w : Group) (m s : ℕ) (e : Entry) : Type 0 where
   pub slot : IsSlot w m s
+  pub own : owner w.place e.key ≡ m
   pub seen : In (SeenSlot m s ShowsFailed) (w.looked m)
   pub failed : w.slot m s ≡ Failed e
 
@@ -198,6 +200,7 @@ gives_up w m s e =
 -- Withdraw: a leader takes a posted change of its own back.
 pub record CanWithdraw (w : Group) (m s : ℕ) (e : Entry) : Type 0 where
   pub slot : IsSlot w m s
+  pub own : owner w.place e.key ≡ m
   pub holds : w.holds m ≡ true
   pub seen : In (SeenSlot m s ShowsPosted) (w.looked m)
   pub posted : w.slot m s ≡ Posted e
