@@ -3,6 +3,8 @@ pub mod Bytes
 pub mod Bounds
 pub mod Views
 pub mod Pairs
+pub mod Entries
+pub mod NameLists
 pub mod Made
 pub mod Found
 pub mod Leaders

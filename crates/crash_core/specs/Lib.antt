@@ -4,3 +4,4 @@ pub mod Makes
 pub mod Finds
 pub mod Steps
 pub mod Words
+pub mod Deaths

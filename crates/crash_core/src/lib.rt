@@ -10,6 +10,7 @@ mod machine;
 mod names;
 mod places;
 mod posting;
+mod rules;
 mod state;
 mod tables;
 

@@ -13,7 +13,7 @@ module _ (w : Group) (m : ℕ) (l : ℕ → ℕ) (t : ℕ → ℕ → Bool) (d :
 
   -- where something is known of the key, it isn't forgotten
   same : (k : ℕ) → (IsSpent w m k → ⊥) → l k ≡ w.last k
-  same k ne = elim (can.forgets k) [ inl i ↦ absurd (ne i.0) | inr i ↦ i.1 ]
+  same k ne = elim (can.keeps k) [ inl i ↦ absurd (ne i.0) | inr i ↦ i ]
 
   same_present : (k v h : ℕ) → w.present k v ≡ Some h → l k ≡ w.last k
   same_present k v h p = same k (λ s. absurd (let none = s.2 v in cc (p, none)))
@@ -58,8 +58,8 @@ module _ (w : Group) (m : ℕ) (l : ℕ → ℕ) (t : ℕ → ℕ → Bool) (d :
       under_key = L.keys.under_key;
       next_version = λ k p q. rw (same_pending k p q) (L.keys.next_version k p q);
       not_above = λ k v h p. rw (same_present k v h p) (L.keys.not_above k v h p);
-      no_cell = λ k z. elim (can.forgets k) [ inl i ↦ i.0.1 | inr i ↦ L.keys.no_cell k (sym i.1 ∙ z) ];
-      no_names = λ k v z. elim (can.forgets k) [ inl i ↦ i.0.2 v | inr i ↦ L.keys.no_names k v (sym i.1 ∙ z) ];
+      no_cell = λ k z. elim (can.keeps k) [ inl i ↦ i.0.1 | inr i ↦ L.keys.no_cell k (sym i ∙ z) ];
+      no_names = λ k v z. elim (can.keeps k) [ inl i ↦ i.0.2 v | inr i ↦ L.keys.no_names k v (sym i ∙ z) ];
       told_present = λ k v q. elim ((can.tells k v).0 q) [ inl i ↦ L.keys.told_present k v i | inr i ↦ (m, i.1) ];
     };
     standing = record {
@@ -73,16 +73,16 @@ module _ (w : Group) (m : ℕ) (l : ℕ → ℕ) (t : ℕ → ℕ → Bool) (d :
     };
     cells = record {
       value = λ k v c. let old = L.cells.value k v c in (old.0, at_last k old.0 (same_cell k v c) old.1, old.2);
-      tombs = λ k h x c g i j. elim (can.forgets k) [
+      tombs = λ k h x c g i j. elim (can.keeps k) [
         | inl s ↦ elim (L.logs.known h x g) [
           | inl p ↦ absurd (let none = s.0.2 x.version in let at : w.present k x.version ≡ Some h = ap (λ (k : ℕ). w.present k x.version) (sym i) ∙ p in cc (at, none))
           | inr p ↦ absurd (let none = s.0.3 in let at : w.pending k ≡ Some (record { entry = x; slot = p.0 }) = ap w.pending (sym i) ∙ p.1 in cc (at, none))
         ]
-        | inr s ↦ L.cells.tombs k h x c g i (j ∙ s.1)
+        | inr s ↦ L.cells.tombs k h x c g i (j ∙ s)
       ];
-      grave = λ k c z. elim (can.forgets k) [
+      grave = λ k c z. elim (can.keeps k) [
         | inl s ↦ absurd (z s.1)
-        | inr s ↦ elim (L.cells.grave k c (λ y. z (s.1 ∙ y))) [ inl x ↦ inl (x.0, at_last k x.0 s.1 x.1) | inr alone ↦ inr (λ v h p. alone v h p ∙ sym s.1) ]
+        | inr s ↦ elim (L.cells.grave k c (λ y. z (s ∙ y))) [ inl x ↦ inl (x.0, at_last k x.0 s x.1) | inr alone ↦ inr (λ v h p. alone v h p ∙ sym s) ]
       ];
     };
     deaths = record {

@@ -14,7 +14,8 @@ TellsItself w m k v = (owner w.place k ≡ m) × (w.present k v ≡ Some m) × I
 
 -- what the rules make of the last versions, the names told and the names dead
 pub record IsTidy (w : Group) (m : ℕ) (last : ℕ → ℕ) (told : ℕ → ℕ → Bool) (dead : ℕ → ℕ → ℕ → Bool) : Type 0 where
-  pub forgets : (k : ℕ) → (IsSpent w m k × (last k ≡ 0)) ⊎ ((IsSpent w m k → ⊥) × (last k ≡ w.last k))
+  pub forgets : (k : ℕ) → IsSpent w m k → last k ≡ 0
+  pub keeps : (k : ℕ) → (IsSpent w m k × (last k ≡ 0)) ⊎ (last k ≡ w.last k)
   pub tells : (k v : ℕ) → (told k v ≡ true) ↔ ((w.told k v ≡ true) ⊎ TellsItself w m k v)
   pub learns : (h k v : ℕ) → (dead h k v ≡ true) ↔ ((w.dead h k v ≡ true) ⊎ ((h ≡ m) × TellsItself w m k v))
 
