@@ -9,6 +9,7 @@ pub mod Made
 pub mod Found
 pub mod Leaders
 pub mod Owners
+pub mod Tidies
 pub mod Numbers
 pub mod Laws
 pub mod Runs

@@ -28,7 +28,7 @@ applied false f g q = refl
 
 module _ (p : Place) (o : Option ℕ) (mail : BTreeMap (ℕ × ℕ) Notices) (vs : List CoreView) (m : ℕ) (v : CoreView) (at : slice_get vs m ≡ Some v) where
   -- an owner's step leaves what its view has as a leader
-  leads_same : (slots : BTreeMap (ℕ × ℕ) Slot) (broken : Bool) (looked : Vec Seen) (last : BTreeMap ℕ ℕ) (cell : BTreeMap ℕ (List ℕ)) (pending : BTreeMap ℕ Pending) (present : BTreeMap (ℕ × ℕ) ℕ) (told dead : Vec EntryName) (blocks : BTreeMap ℕ Block) (posted : Vec Entry)
+  pub leads_same : (slots : BTreeMap (ℕ × ℕ) Slot) (broken : Bool) (looked : Vec Seen) (last : BTreeMap ℕ ℕ) (cell : BTreeMap ℕ (List ℕ)) (pending : BTreeMap ℕ Pending) (present : BTreeMap (ℕ × ℕ) ℕ) (told dead : Vec EntryName) (blocks : BTreeMap ℕ Block) (posted : Vec Entry)
       → let w : CoreView = record v { broken = broken; looked = looked; last = last; cell = cell; pending = pending; present = present; told = told; dead = dead; blocks = blocks; posted = posted } in
         let ws = slice_set vs m w in
         group_at p o slots mail ws ≡ record (group_at p o slots mail vs) {

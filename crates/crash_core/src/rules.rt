@@ -139,3 +139,19 @@ fn forget(last: &mut BTreeMap<Key, Version>, keys: &[Key])
         last.remove(key);
     }
 }
+
+/// Applies both rules to the member's own keys.
+pub fn tidy(alloc: Global, state: &mut GroupState, member: u32) -> Result<(), Memory>
+    requires whole { IsWhole state.old }
+    requires member { member < state.old.layout.group }
+    ensures { OnOk result (IsWhole state.new × Tidied (group_of state.old) member (group_of state.new)) }
+{
+    let view = &state.views[member as usize];
+    let spent = spent_keys(alloc, view)?;
+    let names = names_to_tell(alloc, state, member, view)?;
+    let view = &mut state.views[member as usize];
+    forget(&mut view.last, &spent);
+    view.told.extend_from_slice(&names)?;
+    view.dead.extend_from_slice(&names)?;
+    Ok(())
+}
