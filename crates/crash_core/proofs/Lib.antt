@@ -10,6 +10,7 @@ pub mod Found
 pub mod Leaders
 pub mod Owners
 pub mod Tidies
+pub mod Replaced
 pub mod Numbers
 pub mod Laws
 pub mod Runs

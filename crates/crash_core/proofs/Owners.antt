@@ -5,6 +5,8 @@ use Rattle.std.specs.Global.{Vec}
 use Rattle.std.specs.Ordering.{nat_cmp}
 use Rattle.std.specs.BTreeMap.{BTreeMap, get, Updates}
 use Rattle.fs_model.specs.declared.model.Value.{Value}
+use Rattle.log_entry.specs.declared.entry.Body.{Body}
+use Rattle.log_entry.specs.declared.entry.Body.TheVariants.{Pointer, Embedded, Tombstone}
 use Rattle.log_entry.specs.declared.entry.Entry.{Entry}
 use Rattle.log_entry.specs.declared.entry.EntryName.{EntryName}
 use Rattle.group_laws.specs.declared.types.Slot.{Slot}
@@ -15,10 +17,11 @@ use Rattle.group_laws.specs.declared.types.Seen.{Seen}
 use Rattle.group_laws.specs.Places.{Place, owner}
 use Rattle.group_laws.specs.Updates.{put, put2, change, has}
 use Rattle.group_laws.specs.State.{Group}
-use Rattle.group_laws.specs.Steps.{posts, with_block, withdraws, points_at}
+use Rattle.group_laws.specs.Steps.{posts, with_block, withdraws, points_at, finishes, gives_up, left_by, bytes_of, only_own}
 use Rattle.crash_core.specs.declared.names.Notices.{Notices}
 use Rattle.crash_core.specs.declared.state.CoreView.{CoreView}
 use Rattle.crash_core.specs.Shows.{pair_cmp, of, no_notices, last_in, mailed_in, group_at}
+use Rattle.crash_core.specs.Finds.{left_in}
 use Rattle.crash_core.proofs.Views as views
 use Rattle.crash_core.proofs.Pairs.{number_put, pair_put}
 
@@ -102,5 +105,52 @@ module _ (p : Place) (o : Option ℕ) (mail : BTreeMap (ℕ × ℕ) Notices) (vs
       told = λ k n. views.kept_field vs m v w at (λ v. has v.told.items k n) false refl (owner p k) i;
       dead = λ h k n. views.kept_field vs m v w at (λ v. has v.dead.items k n) false refl h i;
       blocks = λ h q. blocks_changed w (λ old p. cond (points_at e.body p) None (old p)) block_dropped h q i;
+      posted = λ h. views.kept_field vs m v w at (λ v. v.posted.items) [] refl h i;
+    }
+
+  left_same : (slots : BTreeMap (ℕ × ℕ) Slot) (body : Body) → left_in (get nat_cmp v.blocks) body ≡ left_by (group_at p o slots mail vs) m body
+  left_same slots (Pointer q) = ap bytes_of (sym (ap (of (λ (v : CoreView). get nat_cmp v.blocks q) None) at))
+  left_same slots (Embedded u) = refl
+  left_same slots Tombstone = refl
+
+  pub finish_is : (slots slots' : BTreeMap (ℕ × ℕ) Slot) (s : ℕ) (e : Entry) (home : ℕ) (last : BTreeMap ℕ ℕ) (cell : BTreeMap ℕ (List ℕ)) (pending : BTreeMap ℕ Pending) (present : BTreeMap (ℕ × ℕ) ℕ) (blocks : BTreeMap ℕ Block) (looked : Vec Seen)
+      → owner p e.key ≡ m → Updates pair_cmp slots slots' (m, s) (Some Empty) → Updates nat_cmp v.last last e.key (Some e.version)
+      → ((k : ℕ) → get nat_cmp cell k ≡ put (get nat_cmp v.cell) e.key (left_in (get nat_cmp v.blocks) e.body) k)
+      → Updates nat_cmp v.pending pending e.key None → Updates pair_cmp v.present present (e.key, e.version) (Some home)
+      → ((q : ℕ) → get nat_cmp blocks q ≡ only_own e.key e.body (get nat_cmp v.blocks) q) → looked.items ≡ []
+      → group_at p o slots' mail (slice_set vs m (record v { looked = looked; last = last; cell = cell; pending = pending; present = present; blocks = blocks })) ≡ finishes (group_at p o slots mail vs) m s e home
+  finish_is slots slots' s e home last cell pending present blocks looked own slot_set last_set cell_set pending_set present_set replaced cleared =
+    let w : CoreView = record v { looked = looked; last = last; cell = cell; pending = pending; present = present; blocks = blocks } in
+    let left = left_same slots e.body in
+    leads_same slots' v.broken looked last cell pending present v.told v.dead blocks v.posted ∙ λ i. record (finishes (group_at p o slots mail vs) m s e home) {
+      slot = λ b t. pair_put (λ o. unwrap_or o Empty) slots slots' m s (Some Empty) slot_set b t i;
+      broken = λ h. views.kept_field vs m v w at (λ v. v.broken) false refl h i;
+      looked = λ h. views.put_field vs m v w at (λ v. v.looked.items) [] [] cleared h i;
+      last = λ k. views.put_key vs m v w at (owner p) last_in 0 e.version e.key own (number_put (λ o. unwrap_or o 0) v.last last e.key (Some e.version) last_set) k i;
+      cell = λ k. views.put_key vs m v w at (owner p) (λ v k. get nat_cmp v.cell k) None (left_by (group_at p o slots mail vs) m e.body) e.key own (λ k. cell_set k ∙ ap (λ (x : Option (List ℕ)). put (get nat_cmp v.cell) e.key x k) left) k i;
+      pending = λ k. views.put_key vs m v w at (owner p) (λ v k. get nat_cmp v.pending k) None None e.key own (number_put (λ o. o) v.pending pending e.key None pending_set) k i;
+      present = λ k n. views.put_pair vs m v w at (owner p) (λ v k n. get pair_cmp v.present (k, n)) None (Some home) e.key e.version own (pair_put (λ o. o) v.present present e.key e.version (Some home) present_set) k n i;
+      told = λ k n. views.kept_field vs m v w at (λ v. has v.told.items k n) false refl (owner p k) i;
+      dead = λ h k n. views.kept_field vs m v w at (λ v. has v.dead.items k n) false refl h i;
+      blocks = λ h q. blocks_changed w (only_own e.key e.body) replaced h q i;
+      posted = λ h. views.kept_field vs m v w at (λ v. v.posted.items) [] refl h i;
+    }
+
+  pub doubt_is : (slots slots' : BTreeMap (ℕ × ℕ) Slot) (s : ℕ) (e : Entry) (pending : BTreeMap ℕ Pending) (looked : Vec Seen)
+      → owner p e.key ≡ m → Updates pair_cmp slots slots' (m, s) (Some Empty) → Updates nat_cmp v.pending pending e.key (Some (record { entry = e; slot = None })) → looked.items ≡ []
+      → group_at p o slots' mail (slice_set vs m (record v { broken = true; looked = looked; pending = pending })) ≡ gives_up (group_at p o slots mail vs) m s e
+  doubt_is slots slots' s e pending looked own slot_set pending_set cleared =
+    let w : CoreView = record v { broken = true; looked = looked; pending = pending } in
+    leads_same slots' true looked v.last v.cell pending v.present v.told v.dead v.blocks v.posted ∙ λ i. record (gives_up (group_at p o slots mail vs) m s e) {
+      slot = λ b t. pair_put (λ o. unwrap_or o Empty) slots slots' m s (Some Empty) slot_set b t i;
+      broken = λ h. views.put_field vs m v w at (λ v. v.broken) false true refl h i;
+      looked = λ h. views.put_field vs m v w at (λ v. v.looked.items) [] [] cleared h i;
+      last = λ k. views.kept_field vs m v w at (λ v. last_in v k) 0 refl (owner p k) i;
+      cell = λ k. views.kept_field vs m v w at (λ v. get nat_cmp v.cell k) None refl (owner p k) i;
+      pending = λ k. views.put_key vs m v w at (owner p) (λ v k. get nat_cmp v.pending k) None (Some (record { entry = e; slot = None })) e.key own (number_put (λ o. o) v.pending pending e.key (Some (record { entry = e; slot = None })) pending_set) k i;
+      present = λ k n. views.kept_field vs m v w at (λ v. get pair_cmp v.present (k, n)) None refl (owner p k) i;
+      told = λ k n. views.kept_field vs m v w at (λ v. has v.told.items k n) false refl (owner p k) i;
+      dead = λ h k n. views.kept_field vs m v w at (λ v. has v.dead.items k n) false refl h i;
+      blocks = λ h q. views.kept_field vs m v w at (λ v. get nat_cmp v.blocks q) None refl h i;
       posted = λ h. views.kept_field vs m v w at (λ v. v.posted.items) [] refl h i;
     }

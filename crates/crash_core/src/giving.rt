@@ -5,7 +5,7 @@ ghost use Rattle.std.specs.BTreeMap.{get};
 ghost use Rattle.store_image.specs.Facts.{In};
 ghost use Rattle.log_entry.specs.declared.entry.Entry.{Entry};
 ghost use Rattle.group_laws.specs.declared.types.Slot.TheVariants.{Posted};
-ghost use Rattle.group_laws.specs.Steps.{CanWithdraw, IsSlot, points_at};
+ghost use Rattle.group_laws.specs.Steps.{CanWithdraw, points_at};
 ghost use Rattle.group_laws.specs.Runs.Kind.{Mark, Fail, Withdraw};
 ghost use Rattle.crash_core.specs.Shows.{group_of, IsWhole};
 ghost use Rattle.crash_core.specs.Makes.{Makes};
@@ -13,7 +13,7 @@ ghost use Rattle.crash_core.specs.Makes.{Makes};
 use crate::copies::copy_entry;
 use crate::places::owner_of;
 use crate::state::GroupState;
-use crate::tables::{has_member, posted_at, saw};
+use crate::tables::{has_member, has_slot, posted_at, saw};
 use fs_errors::Memory;
 use group_laws::types::{Block, Seen, Slot, SlotWord};
 use log_entry::entry::{Body, Entry};
@@ -79,14 +79,6 @@ fn taken_at(
         }
         None => Ok(None),
     }
-}
-
-/// Whether the group has this slot.
-fn has_slot(state: &GroupState, member: u32, slot: u32) -> bool
-    requires { IsWhole state.now }
-    ensures { IsTrue result ↔ IsSlot (group_of state.now) member slot }
-{
-    has_member(state, member) && slot < 8
 }
 
 /// Gives a change back that is certain in the own log.

@@ -7,7 +7,6 @@ ghost use Rattle.group_laws.specs.Steps.{CanLock, CanTake, CanUnlock, CanCommit}
 ghost use Rattle.group_laws.specs.Runs.Kind.{Lock, Look, LookMail, Take, Unlock, Commit};
 ghost use Rattle.crash_core.specs.Shows.{group_of, IsWhole};
 ghost use Rattle.crash_core.specs.Makes.{Makes};
-ghost use Rattle.crash_core.specs.Finds.{Finds};
 
 use crate::copies::copy_entry;
 use crate::state::GroupState;

@@ -3,6 +3,7 @@
 #![tactic(auto)]
 
 mod copies;
+mod finishing;
 mod giving;
 mod kinds;
 mod leading;
