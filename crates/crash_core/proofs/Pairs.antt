@@ -10,7 +10,7 @@ use Rattle.std.proofs.lemmas.Bool.{cases_eq, eq-eqb, ne_eqb}
 use Rattle.group_laws.specs.Updates.{put, put2}
 use Rattle.crash_core.specs.Shows.{pair_cmp}
 
-swapped : (a b : ℕ) → eqb a b ≡ eqb b a
+pub swapped : (a b : ℕ) → eqb a b ≡ eqb b a
 swapped a b = elim (cases_eq a b) [
   | inl e ↦ eq-eqb a b e ∙ sym (eq-eqb b a (sym e))
   | inr ne ↦ ne_eqb a b ne ∙ sym (ne_eqb b a (λ e. ne (sym e)))

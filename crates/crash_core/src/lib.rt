@@ -7,11 +7,13 @@ mod finishing;
 mod giving;
 mod kinds;
 mod leading;
+
 mod machine;
 mod names;
 mod places;
 mod posting;
 mod rules;
+mod sets;
 mod state;
 mod tables;
 

@@ -44,6 +44,15 @@ impl Names {
         self.names.push(name).unwrap();
     }
 
+    /// A copy with no more room than names.
+    pub fn copy(&self, alloc: Global) -> Result<Names, Memory>
+        ensures { IfOk result (λ n. n.names ≡ self.now.names) }
+    {
+        let names = Vec::from_slice(alloc, self.names.as_slice())?;
+        let room = names.len() as u64;
+        Ok(Names { names, room })
+    }
+
     /// The names in order.
     pub fn names(&self) -> &[EntryName]
         ensures { result.now ≡ self.now.names }
@@ -59,4 +68,18 @@ pub struct Notices {
     pub dead: Names,
     /// Entries of the receiver's keys that vanished from the sender's log.
     pub gone: Names,
+}
+
+impl Notices {
+    ghost use Rattle.std.specs.Prelude.{◌≡◌, IfOk};
+    ghost use Rattle.crash_core.specs.Shows.{notices_of};
+
+    /// A copy.
+    pub fn copy(&self, alloc: Global) -> Result<Notices, Memory>
+        ensures { IfOk result (λ n. notices_of n ≡ notices_of self.now) }
+    {
+        let dead = self.dead.copy(alloc)?;
+        let gone = self.gone.copy(alloc)?;
+        Ok(Notices { dead, gone })
+    }
 }
