@@ -9,6 +9,8 @@ pub mod Made
 pub mod Found
 pub mod Leaders
 pub mod Owners
+pub mod Cleaners
+pub mod Own
 pub mod Tidies
 pub mod Replaced
 pub mod Numbers

@@ -19,6 +19,7 @@ use Rattle.crash_core.specs.declared.state.CoreView.{CoreView}
 use Rattle.crash_core.specs.Shows.{pair_cmp, of, last_in, group_at}
 use Rattle.crash_core.specs.Deaths.{IsDeadIn, IsSpentIn, MustTell}
 use Rattle.crash_core.proofs.Views as views
+use Rattle.crash_core.proofs.Own as shown_own
 use Rattle.crash_core.proofs.Owners.{leads_same}
 use Rattle.crash_core.proofs.NameLists.{in_either, in_front, in_back}
 
@@ -49,7 +50,7 @@ module _ (p : Place) (o : Option ℕ) (slots : BTreeMap (ℕ × ℕ) Slot) (mail
   ws = slice_set vs m new
 
   was_own : {X : Type 0} (f : CoreView → X) (d : X) (k : ℕ) → owner p k ≡ m → of f d (slice_get vs (owner p k)) ≡ f v
-  was_own f d k own = ap (λ (h : ℕ). of f d (slice_get vs h)) own ∙ ap (of f d) at
+  was_own f d k own = shown_own.was_own p o slots mail vs m v at f d k own
 
   is_own : {X : Type 0} (f : CoreView → X) (d : X) (k : ℕ) → owner p k ≡ m → of f d (slice_get ws (owner p k)) ≡ f new
   is_own f d k own = ap (λ (h : ℕ). of f d (slice_get ws h)) own ∙ ap (of f d) (views.set_same vs m v new at)
@@ -71,15 +72,13 @@ module _ (p : Place) (o : Option ℕ) (slots : BTreeMap (ℕ × ℕ) Slot) (mail
        was_own (λ v. get nat_cmp v.pending k) None k own ∙ s.2)
 
   last_was : (k : ℕ) → owner p k ≡ m → w.last k ≡ last_in v k
-  last_was k own = was_own (λ v. last_in v k) 0 k own
+  last_was k own = shown_own.last_was p o slots mail vs m v at k own
 
   dead_in : (k n : ℕ) → owner p k ≡ m → IsDead w k n → IsDeadIn v k n
-  dead_in k n own (inl less) = inl (subst (λ (l : ℕ). n < l) (last_was k own) less)
-  dead_in k n own (inr d) = inr (d.0 ∙ last_was k own, sym (was_own (λ v. get nat_cmp v.cell k) None k own) ∙ d.1, λ u h e. d.2 u h (was_own (λ v. get pair_cmp v.present (k, u)) None k own ∙ e))
+  dead_in k n own d = shown_own.dead_in p o slots mail vs m v at k n own d
 
   in_dead : (k n : ℕ) → owner p k ≡ m → IsDeadIn v k n → IsDead w k n
-  in_dead k n own (inl less) = inl (subst (λ (l : ℕ). n < l) (sym (last_was k own)) less)
-  in_dead k n own (inr d) = inr (d.0 ∙ sym (last_was k own), was_own (λ v. get nat_cmp v.cell k) None k own ∙ d.1, λ u h e. d.2 u h (sym (was_own (λ v. get pair_cmp v.present (k, u)) None k own) ∙ e))
+  in_dead k n own d = shown_own.in_dead p o slots mail vs m v at k n own d
 
   tells_in : (k n : ℕ) → TellsItself w m k n → has names k n ≡ true
   tells_in k n t = (must k n).1 (t.0, sym (was_own (λ v. get pair_cmp v.present (k, n)) None k t.0) ∙ t.1, dead_in k n t.0 t.2)

@@ -2,6 +2,7 @@
 //! over every list of steps.
 #![tactic(auto)]
 
+mod cleaning;
 mod copies;
 mod finishing;
 mod giving;
