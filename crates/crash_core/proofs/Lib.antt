@@ -16,3 +16,4 @@ pub mod Replaced
 pub mod Numbers
 pub mod Laws
 pub mod Runs
+pub mod Empties

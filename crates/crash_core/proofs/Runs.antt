@@ -5,7 +5,7 @@ use Rattle.std.specs.Prelude.{slice_get}
 use Rattle.std.proofs.lemmas.List.{take_more}
 use Rattle.group_laws.specs.State.{Group}
 use Rattle.group_laws.specs.Invariant.{Lawful}
-use Rattle.group_laws.specs.Runs.Kind.{Split, Join, Post, Lock, Look, LookMail, Take, Unlock, Commit}
+use Rattle.group_laws.specs.Runs.Kind.{Split, Join, Post, Lock, Look, LookMail, Take, Unlock, Commit, Mark, Finish, Fail, Withdraw, Doom, Retire, Send, Receive}
 use Rattle.group_laws.proofs.Runs.{step_keeps}
 use Rattle.group_laws.proofs.Safe as safe
 use Rattle.group_laws.proofs.Images.{images_safe}
@@ -13,7 +13,7 @@ use Rattle.crash_core.specs.declared.kinds.Kind.{Kind}
 use Rattle.crash_core.specs.declared.kinds.Kind.TheVariants as kinds
 use Rattle.crash_core.specs.declared.kinds.Step.{Step}
 use Rattle.crash_core.specs.declared.state.GroupState.{GroupState}
-use Rattle.crash_core.specs.Shows.{group_of, IsWhole}
+use Rattle.crash_core.specs.Shows.{group_of, notices_of, IsWhole}
 use Rattle.crash_core.specs.Steps.{IsMade, AreMade, IsReached}
 
 pub made_keeps : (w : Group) (m : ℕ) (kind : Kind) (u : Group) → Lawful w → IsMade w m kind u → Lawful u
@@ -28,6 +28,14 @@ made_keeps w m (kinds.Look word) u L s = elim s [
 made_keeps w m (kinds.Take a n) u L s = step_keeps w m (Take a n) u L s
 made_keeps w m kinds.Unlock u L s = step_keeps w m Unlock u L s
 made_keeps w m kinds.Commit u L s = step_keeps w m Commit u L s
+made_keeps w m (kinds.Mark a n) u L s = step_keeps w m (Mark a n) u L s
+made_keeps w m (kinds.Finish n) u L s = step_keeps w m (Finish n) u L s
+made_keeps w m (kinds.Fail a n) u L s = step_keeps w m (Fail a n) u L s
+made_keeps w m (kinds.Withdraw n) u L s = step_keeps w m (Withdraw n) u L s
+made_keeps w m (kinds.Doom ns) u L s = step_keeps w m (Doom ns.names) u L s
+made_keeps w m (kinds.Retire ns) u L s = step_keeps w m (Retire ns.names) u L s
+made_keeps w m (kinds.Send to n) u L s = step_keeps w m (Send to (notices_of n)) u L s
+made_keeps w m (kinds.Receive from) u L s = step_keeps w m (Receive from) u L s
 
 one_more : (w : Group) (xs : List Step) (x : Step) (mid u : Group) → AreMade w xs mid → IsMade mid x.member x.kind u → AreMade w (xs ++ x ∷ []) u
 one_more w [] x mid u r s = (u, subst (λ (v : Group). IsMade v x.member x.kind u) r s, refl)

@@ -6,8 +6,7 @@ use Rattle.group_laws.specs.Invariant.{Lawful}
 use Rattle.group_laws.specs.Crashes.{Distinct}
 use Rattle.group_laws.specs.Images.{IsLicensedImage, IsSafe}
 use Rattle.group_laws.specs.Runs.{IsStep}
-use Rattle.group_laws.specs.Runs.{Kind as Laws_kind}
-use Rattle.group_laws.specs.Runs.Kind.{Split as Splits, Join as Joins, Post as Posts, Lock as Locks, Look as Looks, LookMail as Looks_mail, Take as Takes, Unlock as Unlocks, Commit as Commits}
+use Rattle.group_laws.specs.Runs.Kind.{Split as Splits, Join as Joins, Post as Posts, Lock as Locks, Look as Looks, LookMail as Looks_mail, Take as Takes, Unlock as Unlocks, Commit as Commits, Mark as Marks, Finish as Finishes, Fail as Fails, Withdraw as Withdraws, Doom as Dooms, Retire as Retires, Send as Sends, Receive as Receives}
 use Rattle.crash_core.specs.declared.kinds.Kind.{Kind}
 use Rattle.crash_core.specs.declared.kinds.Kind.TheVariants as kinds
 use Rattle.crash_core.specs.declared.kinds.Step.{Step}
@@ -16,7 +15,7 @@ use Rattle.crash_core.specs.declared.kinds.StepError.TheVariants as faults
 use Rattle.crash_core.specs.declared.kinds.StepsError.{StepsError}
 use Rattle.crash_core.specs.declared.kinds.StepsError.TheVariants as stops
 use Rattle.crash_core.specs.declared.state.GroupState.{GroupState}
-use Rattle.crash_core.specs.Shows.{group_of, IsWhole}
+use Rattle.crash_core.specs.Shows.{group_of, notices_of, IsWhole}
 
 -- The numbers of the words of a table with n members: behind the lock and the members' own words the slots, and behind these the mailboxes.
 abbrev pub slot_word : ℕ → ℕ → ℕ → ℕ
@@ -37,6 +36,14 @@ IsMade w m (kinds.Look word) u =
 IsMade w m (kinds.Take a s) u = IsStep w m (Takes a s) u
 IsMade w m kinds.Unlock u = IsStep w m Unlocks u
 IsMade w m kinds.Commit u = IsStep w m Commits u
+IsMade w m (kinds.Mark a s) u = IsStep w m (Marks a s) u
+IsMade w m (kinds.Finish s) u = IsStep w m (Finishes s) u
+IsMade w m (kinds.Fail a s) u = IsStep w m (Fails a s) u
+IsMade w m (kinds.Withdraw s) u = IsStep w m (Withdraws s) u
+IsMade w m (kinds.Doom ns) u = IsStep w m (Dooms ns.names) u
+IsMade w m (kinds.Retire ns) u = IsStep w m (Retires ns.names) u
+IsMade w m (kinds.Send to n) u = IsStep w m (Sends to (notices_of n)) u
+IsMade w m (kinds.Receive from) u = IsStep w m (Receives from) u
 
 -- What a call that tries a step makes of a state: the step, or nothing where it isn't enabled.
 abbrev pub MakesStep : Bool → GroupState → Step → GroupState → Type 0

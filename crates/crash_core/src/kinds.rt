@@ -38,6 +38,22 @@ pub enum Kind {
     Unlock,
     /// Makes certain what was taken.
     Commit,
+    /// Gives a change back that is certain in the own log.
+    Mark { member: u32, slot: u32 },
+    /// Takes a change of an own slot back that is done, or failed.
+    Finish { slot: u32 },
+    /// Gives a change back that could not be written.
+    Fail { member: u32, slot: u32 },
+    /// As the leader, takes an own change back that nobody took.
+    Withdraw { slot: u32 },
+    /// Lets dead entries of the own log vanish from now on.
+    Doom { names: Names },
+    /// Records that doomed entries have vanished.
+    Retire { names: Names },
+    /// Tells another member of dead and of vanished entries.
+    Send { to: u32, notices: Notices },
+    /// Takes what another member told.
+    Receive { from: u32 },
 }
 
 /// What a member does, and which.

@@ -8,7 +8,6 @@ mod finishing;
 mod giving;
 mod kinds;
 mod leading;
-
 mod machine;
 mod names;
 mod places;
@@ -17,6 +16,8 @@ mod rules;
 mod sets;
 mod state;
 mod tables;
+#[cfg(test)]
+mod tests;
 
 pub use kinds::{Change, Kind, Step, StepError, StepsError};
 pub use machine::{all_steps, step};

@@ -7,6 +7,9 @@ ghost use Rattle.crash_core.specs.Steps.{MakesStep, IsOutcome, IsRun};
 ghost use Rattle.crash_core.specs.Words.{IsWordOf};
 ghost use Rattle.crash_core.specs.declared.kinds.Kind.TheVariants as kinds;
 
+use crate::cleaning::{doom, receive, retire, send};
+use crate::finishing::finish;
+use crate::giving::{fail, mark, withdraw};
 use crate::kinds::{Change, Kind, Step, StepError, StepsError};
 use crate::leading::{commit, lock, look_at_mail, look_at_slot, take, unlock};
 use crate::posting::post;
@@ -96,6 +99,20 @@ fn make(alloc: Global, state: &mut GroupState, step: &Step) -> Result<bool, Memo
         } => take(alloc, state, member, *owner, *slot),
         Kind::Unlock => Ok(unlock(state, member)),
         Kind::Commit => commit(state, member),
+        Kind::Mark {
+            member: owner,
+            slot,
+        } => mark(alloc, state, member, *owner, *slot),
+        Kind::Finish { slot } => finish(alloc, state, member, *slot),
+        Kind::Fail {
+            member: owner,
+            slot,
+        } => fail(alloc, state, member, *owner, *slot),
+        Kind::Withdraw { slot } => withdraw(alloc, state, member, *slot),
+        Kind::Doom { names } => doom(state, member, names.names()),
+        Kind::Retire { names } => retire(alloc, state, member, names.names()),
+        Kind::Send { to, notices } => send(alloc, state, member, *to, notices),
+        Kind::Receive { from } => receive(alloc, state, member, *from),
     }
 }
 

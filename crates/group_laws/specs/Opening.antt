@@ -51,3 +51,7 @@ AllTidied (suc n) w u = (mid : Group) × AllTidied n w mid × Tidied mid n u
 -- the group opens with this state
 abbrev pub IsOpened : Group → Contents → Type 0
 IsOpened u x = (w : Group) × IsFound w x × AllTidied (members w.place) w u
+
+-- what the parts of an empty region say
+abbrev pub nothing : Contents
+nothing = record { entries = λ h e. false; holds = λ h p. None }
