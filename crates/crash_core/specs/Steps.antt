@@ -1,11 +1,13 @@
 -- The steps as data: what each asks and leaves, and what a list of them leads to.
-use Rattle.std.specs.Prelude.{◌≡◌, ℕ, ◌+◌, ◌*◌, ◌<◌, List, [], ◌∷◌, take, length, Bool, true, false, Option, Some, None, Result, Ok, Err, ◌⊎◌, slice_get}
+use Rattle.std.specs.Prelude.{◌≡◌, ℕ, ◌+◌, ◌*◌, ◌<◌, List, [], ◌∷◌, ◌++◌, take, length, Bool, true, false, Option, Some, None, Result, Ok, Err, ◌⊎◌, slice_get}
 use Rattle.group_laws.specs.Places.{members}
 use Rattle.group_laws.specs.State.{Group}
 use Rattle.group_laws.specs.Invariant.{Lawful}
 use Rattle.group_laws.specs.Crashes.{Distinct}
 use Rattle.group_laws.specs.Images.{IsLicensedImage, IsSafe}
 use Rattle.group_laws.specs.Runs.{IsStep}
+use Rattle.group_laws.specs.Finishes.{cell_after}
+use Rattle.group_laws.specs.Finishes as laws
 use Rattle.group_laws.specs.Runs.Kind.{Split as Splits, Join as Joins, Post as Posts, Lock as Locks, Look as Looks, LookMail as Looks_mail, Take as Takes, Unlock as Unlocks, Commit as Commits, Mark as Marks, Finish as Finishes, Fail as Fails, Withdraw as Withdraws, Doom as Dooms, Retire as Retires, Send as Sends, Receive as Receives}
 use Rattle.crash_core.specs.declared.kinds.Kind.{Kind}
 use Rattle.crash_core.specs.declared.kinds.Kind.TheVariants as kinds
@@ -60,10 +62,35 @@ abbrev pub AreMade : Group → List Step → Group → Type 0
 AreMade w [] u = u ≡ w
 AreMade w (x ∷ xs) u = (mid : Group) × IsMade w x.member x.kind mid × AreMade mid xs u
 
--- The steps lead to h. There the invariant holds, whatever a crash leaves is safe, and no block serves two values.
+-- what a step finished, as the laws say it
+abbrev pub finished : (w : Group) (m : ℕ) (kind : Kind) (u : Group) → IsMade w m kind u → List (ℕ × Option (List ℕ))
+finished w m kinds.Split u s = []
+finished w m kinds.Join u s = []
+finished w m (kinds.Post n change value) u s = []
+finished w m kinds.Lock u s = []
+finished w m (kinds.Look word) u s = []
+finished w m (kinds.Take a n) u s = []
+finished w m kinds.Unlock u s = []
+finished w m kinds.Commit u s = []
+finished w m (kinds.Mark a n) u s = []
+finished w m (kinds.Finish n) u s = laws.finished w m (Finishes n) u s
+finished w m (kinds.Fail a n) u s = []
+finished w m (kinds.Withdraw n) u s = []
+finished w m (kinds.Doom ns) u s = []
+finished w m (kinds.Retire ns) u s = []
+finished w m (kinds.Send to n) u s = []
+finished w m (kinds.Receive from) u s = []
+
+-- what the steps finished, in order: keys with the cells that their entries leave
+abbrev pub finishes_of : (w : Group) (steps : List Step) (u : Group) → AreMade w steps u → List (ℕ × Option (List ℕ))
+finishes_of w [] u r = []
+finishes_of w (x ∷ xs) u r = finished w x.member x.kind r.0 r.1 ++ finishes_of r.0 xs u r.2
+
+-- The steps lead to h. There each key's cell is what its finished changes left, the invariant holds, whatever a crash leaves is safe, and no block serves two values.
 pub record IsReached (g : GroupState) (steps : List Step) (h : GroupState) : Type 0 where
   pub whole : IsWhole h
   pub made : AreMade (group_of g) steps (group_of h)
+  pub cells : (k : ℕ) → (group_of h).cell k ≡ cell_after k (finishes_of (group_of g) steps (group_of h) made) ((group_of g).cell k)
   pub lawful : Lawful (group_of h)
   pub safe : (images : ℕ → ℕ → ℕ) → ((i : ℕ) → i < h.layout.group → IsLicensedImage (group_of h) i (images i)) → IsSafe (group_of h) images
   pub distinct : Distinct (group_of h)

@@ -4,8 +4,8 @@ ghost use Rattle.group_laws.specs.Places.{owner, first_unit, units, LiesIn, Apar
 
 use chunk_map::layouts::Layout;
 
-#[tactic(auto, unfolding(group_laws::specs::Places::owner))]
 /// The member that owns a key, or the number of members where another group has it.
+#[tactic(auto, unfolding(group_laws::specs::Places::owner))]
 pub fn owner_of(layout: &Layout, group: u32, key: u64) -> u32
     ensures { result ≡ owner (record { layout = layout.now; group = group }) key }
 {
@@ -46,9 +46,9 @@ pub fn is_apart(first: u64, units: u64, other: u64, other_units: u64) -> bool
         || other as u128 + other_units as u128 <= first as u128
 }
 
-#[tactic(auto, unfolding(group_laws::specs::Places::units))]
 /// How many units the block of a value of this length has. The least class of blocks that has room for the
 /// length and the bytes is taken.
+#[tactic(auto, unfolding(group_laws::specs::Places::units))]
 pub fn units_of(length: usize) -> u64
     requires { length < 2 ^ 63 }
     ensures { result ≡ units length }

@@ -43,6 +43,7 @@ fn is_short(bytes: &[u8]) -> bool
 fn has_spelling(entry: &Entry) -> bool
     ensures { IsTrue result ↔ HasSpelling entry.now }
 {
+    // A read, so that the key is known to be a word.
     let _key = entry.key;
     match &entry.body {
         Body::Pointer(pointer) => is_put_version(entry.version) && *pointer < 1 << 40,

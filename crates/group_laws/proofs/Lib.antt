@@ -19,6 +19,7 @@ pub mod Send
 pub mod Receive
 pub mod Tidy
 pub mod Runs
+pub mod Finishes
 pub mod Safe
 pub mod Images
 pub mod Opened

@@ -5,6 +5,7 @@ pub mod Invariant
 pub mod Steps
 pub mod Tidying
 pub mod Runs
+pub mod Finishes
 pub mod Crashes
 pub mod Images
 pub mod Opening
