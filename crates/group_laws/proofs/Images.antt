@@ -1,5 +1,5 @@
 -- What is said of the contents of a group's parts holds of their words.
-use Rattle.std.proofs.Common.{◌≡◌, ℕ, zero, suc, ◌+◌, ◌<◌, ◌≤◌, Bool, true, false, cond, ◌&&◌, List, [], ◌∷◌, ◌++◌, map, Option, Some, None, ◌⊎◌, inl, inr, arith, refl, sym, ap, ◌∙◌, subst, ltb}
+use Rattle.std.proofs.Common.{◌≡◌, ℕ, ◌<◌, ◌≤◌, Bool, true, false, ◌&&◌, List, [], ◌∷◌, map, Option, Some, None, ◌⊎◌, inl, inr, arith, refl, sym, ap, ◌∙◌, subst, ltb}
 use Rattle.std.specs.List.{flat_map, list_any}
 use Rattle.std.specs.Option.{option_and_then}
 use Rattle.std.proofs.lemmas.Bool.{and_parts, and_from, or_cases, or_left, or_right, ltb-true, lt-ltb}
@@ -8,18 +8,17 @@ use Rattle.log_entry.specs.declared.entry.Body.TheVariants.{Pointer, Embedded, T
 use Rattle.log_entry.specs.declared.entry.Entry.{Entry}
 use Rattle.chunk_map.specs.Layouts.{numbers}
 use Rattle.store_image.specs.declared.types.PlacedEntry.{PlacedEntry}
-use Rattle.store_image.specs.Parts.{placed, chunk_entries, part_entries}
+use Rattle.store_image.specs.Parts.{placed, chunk_entries}
 use Rattle.store_image.specs.Winners.{winner_in, cell_by}
 use Rattle.store_image.specs.Facts.{In}
 use Rattle.store_image.proofs.SoundFacts.{in_front, in_back, in_either, number_in, winner_is}
 use Rattle.store_image.proofs.SoundLaws.{in_numbers}
 use Rattle.store_image.proofs.Copies.{winner_some, winner_max}
-use Rattle.group_laws.specs.declared.types.Block.{Block}
 use Rattle.group_laws.specs.Places.{Place, members, core_of, owner}
 use Rattle.group_laws.specs.Updates.{same_entry}
 use Rattle.group_laws.specs.State.{Group}
-use Rattle.group_laws.specs.Invariant.{Lawful, IsLogged}
-use Rattle.group_laws.specs.Crashes.{Contents, IsLicensed, IsWinner, HasNone, Leaves, Recovers, IsNext, Safe}
+use Rattle.group_laws.specs.Invariant.{Lawful}
+use Rattle.group_laws.specs.Crashes.{Contents, IsLicensed, IsWinner, HasNone, Leaves, Recovers, Safe}
 use Rattle.group_laws.specs.Images.{log_of, StandsIn, block_of, IsLicensedImage, group_entries, recovered, IsSafe}
 use Rattle.group_laws.proofs.Times.{same_entry-true, same_entry-itself}
 use Rattle.group_laws.proofs.Safe as safe
@@ -160,10 +159,10 @@ module _ (w : Group) (L : Lawful w) (images : ℕ → ℕ → ℕ) (ok : (h : �
     well = λ h low. (ok h low).well;
     grouped = λ y i. let at = home y i in whole.group at.0 y.entry at.1;
     agree = λ y z i j k v.
-      let a = home y i in
-      let b = home z j in
-      let one = whole.one_body a.0 b.0 y.entry z.entry a.1 b.1 k v in
-      (ap (λ (e : Entry). e.body) one.1, a.2 ∙ ap (core_of w.place) one.0 ∙ sym b.2);
+        let a = home y i in
+        let b = home z j in
+        let one = whole.one_body a.0 b.0 y.entry z.entry a.1 b.1 k v in
+        (ap (λ (e : Entry). e.body) one.1, a.2 ∙ ap (core_of w.place) one.0 ∙ sym b.2);
     block = block;
     own = λ j k p y z q r b c. whole.own j k p y.entry z.entry (wins j y q) (wins k z r) b c;
     cells = λ k. whole.cells k (recovered w.place images k) (found k (winner_in k es) refl);
