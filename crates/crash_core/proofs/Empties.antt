@@ -84,12 +84,18 @@ module _ (p : Place) (place : IsPlace p) (slots : BTreeMap (ℕ × ℕ) Slot) (m
   }
 
   tidy : (m : ℕ) → Tidied w m w
-  tidy m = (w.last, w.told, w.dead, record {
+  tidy m = (
+    w.last,
+    w.told,
+    w.dead,
+    record {
       forgets = λ k s. last k;
       keeps = λ k. inr refl;
       tells = λ k n. (λ t. inl t, λ q. elim q [ inl t ↦ t | inr itself ↦ clash (present k n) itself.1 ]);
       learns = λ h k n. (λ t. inl t, λ q. elim q [ inl t ↦ t | inr itself ↦ clash (present k n) itself.1.1 ]);
-    }, refl)
+    },
+    refl,
+  )
 
   all_tidy : (n : ℕ) → AllTidied n w w
   all_tidy zero = refl

@@ -27,7 +27,7 @@ pub as_kind : {E : Type 0} (r : Result Bool E) (g h : GroupState) (s : Step) (la
     → IfOk r (λ made. Makes made g s.member law h) → IfOk r (λ made. MakesStep made g s h)
 as_kind r g h s law kind is to from p =
     along r (λ made. Makes made g s.member law h) (λ made. MakesStep made g s h)
-      (as_data g h s law (λ u q. subst (λ (k : Kind). IsMade (group_of g) s.member k u) (sym is) (to u q)) (λ u q. from u (subst (λ (k : Kind). IsMade (group_of g) s.member k u) is q))) p
+    (as_data g h s law (λ u q. subst (λ (k : Kind). IsMade (group_of g) s.member k u) (sym is) (to u q)) (λ u q. from u (subst (λ (k : Kind). IsMade (group_of g) s.member k u) is q))) p
 
 -- the same step under another record of it
 pub same_step : {E : Type 0} (r : Result Bool E) (g h : GroupState) (s : Step) (kind : Kind) → s.kind ≡ kind → IfOk r (λ made. MakesStep made g (record { member = s.member; kind = kind }) h) → IfOk r (λ made. MakesStep made g s h)

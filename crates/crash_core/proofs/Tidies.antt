@@ -60,16 +60,19 @@ module _ (p : Place) (o : Option ℕ) (slots : BTreeMap (ℕ × ℕ) Slot) (mail
 
   spent_in : (k : ℕ) → IsSpent w m k → IsSpentIn v k
   spent_in k s =
-      let own = s.0 in
-      (sym (was_own (λ v. get nat_cmp v.cell k) None k own) ∙ s.1,
-       λ u h e. let none = s.2 u in let here = was_own (λ v. get pair_cmp v.present (k, u)) None k own in cc (e, none, here),
-       sym (was_own (λ v. get nat_cmp v.pending k) None k own) ∙ s.3)
+      let own = s.0 in (
+        sym (was_own (λ v. get nat_cmp v.cell k) None k own) ∙ s.1,
+        λ u h e. let none = s.2 u in let here = was_own (λ v. get pair_cmp v.present (k, u)) None k own in cc (e, none, here),
+        sym (was_own (λ v. get nat_cmp v.pending k) None k own) ∙ s.3,
+      )
 
   in_spent : (k : ℕ) → owner p k ≡ m → IsSpentIn v k → IsSpent w m k
-  in_spent k own s =
-      (own, was_own (λ v. get nat_cmp v.cell k) None k own ∙ s.0,
-       λ u. was_own (λ v. get pair_cmp v.present (k, u)) None k own ∙ none_of _ (s.1 u),
-       was_own (λ v. get nat_cmp v.pending k) None k own ∙ s.2)
+  in_spent k own s = (
+    own,
+    was_own (λ v. get nat_cmp v.cell k) None k own ∙ s.0,
+    λ u. was_own (λ v. get pair_cmp v.present (k, u)) None k own ∙ none_of _ (s.1 u),
+    was_own (λ v. get nat_cmp v.pending k) None k own ∙ s.2,
+  )
 
   last_was : (k : ℕ) → owner p k ≡ m → w.last k ≡ last_in v k
   last_was k own = shown_own.last_was p o slots mail vs m v at k own
@@ -131,28 +134,31 @@ module _ (p : Place) (o : Option ℕ) (slots : BTreeMap (ℕ × ℕ) Slot) (mail
       | inr ne ↦ inr (is_other (λ v. last_in v k) 0 k ne)
     ];
     tells = λ k n. elim (cases_eq (owner p k) m) [
-      | inl own ↦ (λ t. elim (in_either v.told.items names k n (sym (in_told k n own) ∙ t)) [ inl old ↦ inl (told_was k n own ∙ old) | inr fresh ↦ inr (in_tells k n fresh) ],
-          λ q. in_told k n own ∙ elim q [ inl old ↦ in_front v.told.items names k n (sym (told_was k n own) ∙ old) | inr itself ↦ in_back v.told.items names k n (tells_in k n itself) ])
+      | inl own ↦ (
+        λ t. elim (in_either v.told.items names k n (sym (in_told k n own) ∙ t)) [ inl old ↦ inl (told_was k n own ∙ old) | inr fresh ↦ inr (in_tells k n fresh) ],
+        λ q. in_told k n own ∙ elim q [ inl old ↦ in_front v.told.items names k n (sym (told_was k n own) ∙ old) | inr itself ↦ in_back v.told.items names k n (tells_in k n itself) ],
+      )
       | inr ne ↦ let same = is_other (λ v. has v.told.items k n) false k ne in (λ t. inl (sym same ∙ t), λ q. elim q [ inl old ↦ same ∙ old | inr itself ↦ absurd (ne itself.0) ])
     ];
     learns = λ h k n. elim (cases_eq h m) [
-      | inl own ↦ subst (λ (h : ℕ). (dead' h k n ≡ true → (w.dead h k n ≡ true) ⊎ ((h ≡ m) × TellsItself w m k n)) × ((w.dead h k n ≡ true) ⊎ ((h ≡ m) × TellsItself w m k n) → dead' h k n ≡ true)) (sym own)
-          (λ t. elim (in_either v.dead.items names k n (sym (in_dead_list k n) ∙ t)) [ inl old ↦ inl (dead_was k n ∙ old) | inr fresh ↦ inr (refl, in_tells k n fresh) ],
-           λ q. in_dead_list k n ∙ elim q [ inl old ↦ in_front v.dead.items names k n (sym (dead_was k n) ∙ old) | inr itself ↦ in_back v.dead.items names k n (tells_in k n itself.1) ])
+      | inl own ↦ subst (λ (h : ℕ). (dead' h k n ≡ true → (w.dead h k n ≡ true) ⊎ ((h ≡ m) × TellsItself w m k n)) × ((w.dead h k n ≡ true) ⊎ ((h ≡ m) × TellsItself w m k n) → dead' h k n ≡ true)) (sym own) (
+        λ t. elim (in_either v.dead.items names k n (sym (in_dead_list k n) ∙ t)) [ inl old ↦ inl (dead_was k n ∙ old) | inr fresh ↦ inr (refl, in_tells k n fresh) ],
+        λ q. in_dead_list k n ∙ elim q [ inl old ↦ in_front v.dead.items names k n (sym (dead_was k n) ∙ old) | inr itself ↦ in_back v.dead.items names k n (tells_in k n itself.1) ],
+      )
       | inr ne ↦ let same = ap (of (λ (v : CoreView). has v.dead.items k n) false) (views.set_other vs m v new at h ne) in (λ t. inl (sym same ∙ t), λ q. elim q [ inl old ↦ same ∙ old | inr itself ↦ absurd (ne itself.0) ])
     ];
   }
 
   shown : group_at p o slots mail ws ≡ tidies w last' told' dead'
   shown = leads_same p o mail vs m v at slots v.broken v.looked last v.cell v.pending v.present told dead v.blocks v.posted ∙ λ i. record (tidies w last' told' dead') {
-      broken = λ h. views.kept_field vs m v new at (λ v. v.broken) false refl h i;
-      looked = λ h. views.kept_field vs m v new at (λ v. v.looked.items) [] refl h i;
-      cell = λ k. views.kept_field vs m v new at (λ v. get nat_cmp v.cell k) None refl (owner p k) i;
-      pending = λ k. views.kept_field vs m v new at (λ v. get nat_cmp v.pending k) None refl (owner p k) i;
-      present = λ k n. views.kept_field vs m v new at (λ v. get pair_cmp v.present (k, n)) None refl (owner p k) i;
-      blocks = λ h q. views.kept_field vs m v new at (λ v. get nat_cmp v.blocks q) None refl h i;
-      posted = λ h. views.kept_field vs m v new at (λ v. v.posted.items) [] refl h i;
-    }
+    broken = λ h. views.kept_field vs m v new at (λ v. v.broken) false refl h i;
+    looked = λ h. views.kept_field vs m v new at (λ v. v.looked.items) [] refl h i;
+    cell = λ k. views.kept_field vs m v new at (λ v. get nat_cmp v.cell k) None refl (owner p k) i;
+    pending = λ k. views.kept_field vs m v new at (λ v. get nat_cmp v.pending k) None refl (owner p k) i;
+    present = λ k n. views.kept_field vs m v new at (λ v. get pair_cmp v.present (k, n)) None refl (owner p k) i;
+    blocks = λ h q. views.kept_field vs m v new at (λ v. get nat_cmp v.blocks q) None refl h i;
+    posted = λ h. views.kept_field vs m v new at (λ v. v.posted.items) [] refl h i;
+  }
 
   pub tidied : Tidied w m (group_at p o slots mail ws)
   tidied = (last', told', dead', is_tidy, shown)

@@ -18,16 +18,16 @@ module _ {V : Type 0} (vs : List V) (m : ℕ) (v w : V) (at : slice_get vs m ≡
 
   pub set_other : (h : ℕ) → (h ≡ m → ⊥) → slice_get (slice_set vs m w) h ≡ slice_get vs h
   set_other h ne = elim (cases_lt h (length vs)) [
-      | inl l ↦ slice_get-get_or (slice_set vs m w) h w (let z = length-set vs m w in omega (arith, z, l)) ∙ ap Some (get_or-set_other vs m h w w ne) ∙ sym (slice_get-get_or vs h w l)
-      | inr l ↦ slice_get_past (slice_set vs m w) h (let z = length-set vs m w in omega (arith, z, l)) ∙ sym (slice_get_past vs h l)
-    ]
+    | inl l ↦ slice_get-get_or (slice_set vs m w) h w (let z = length-set vs m w in omega (arith, z, l)) ∙ ap Some (get_or-set_other vs m h w w ne) ∙ sym (slice_get-get_or vs h w l)
+    | inr l ↦ slice_get_past (slice_set vs m w) h (let z = length-set vs m w in omega (arith, z, l)) ∙ sym (slice_get_past vs h l)
+  ]
 
   -- a field that the new view has as the old one
   pub kept_field : {X : Type 0} (f : V → X) (d : X) → f w ≡ f v → (h : ℕ) → of f d (slice_get (slice_set vs m w) h) ≡ of f d (slice_get vs h)
   kept_field f d e h = elim (cases_eq h m) [
-      | inl i ↦ ap (λ (h : ℕ). of f d (slice_get (slice_set vs m w) h)) i ∙ ap (of f d) set_same ∙ e ∙ sym (ap (λ (h : ℕ). of f d (slice_get vs h)) i ∙ ap (of f d) at)
-      | inr ne ↦ ap (of f d) (set_other h ne)
-    ]
+    | inl i ↦ ap (λ (h : ℕ). of f d (slice_get (slice_set vs m w) h)) i ∙ ap (of f d) set_same ∙ e ∙ sym (ap (λ (h : ℕ). of f d (slice_get vs h)) i ∙ ap (of f d) at)
+    | inr ne ↦ ap (of f d) (set_other h ne)
+  ]
 
   -- a field that changes by g
   pub changed_field : {X : Type 0} (f : V → X) (d : X) (g : X → X) → f w ≡ g (f v) → (h : ℕ) → of f d (slice_get (slice_set vs m w) h) ≡ change (λ h. of f d (slice_get vs h)) m g h

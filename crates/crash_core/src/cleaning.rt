@@ -164,12 +164,7 @@ fn may_report(state: &GroupState, view: &CoreView, name: &EntryName, to: u32) ->
 }
 
 /// Whether these entries left the own log and are of the other member's keys.
-fn may_report_all(
-    state: &GroupState,
-    view: &CoreView,
-    names: &[EntryName],
-    to: u32,
-) -> bool
+fn may_report_all(state: &GroupState, view: &CoreView, names: &[EntryName], to: u32) -> bool
     ensures { IsTrue result ↔ ((k n : ℕ) → has names.now k n ≡ true → (has view.now.leaving.items k n ≡ true) × (owner (place_of state.now) k ≡ to)) }
 {
     for name in names {
@@ -248,7 +243,10 @@ fn may_receive(state: &GroupState, member: u32, from: u32, notices: &Notices) ->
     if !has_member(state, member) || !has_member(state, from) {
         return false;
     }
-    saw(&state.views[member as usize].looked, Seen::Mail(from, member, true))
+    saw(
+        &state.views[member as usize].looked,
+        Seen::Mail(from, member, true),
+    )
 }
 
 /// Empties a mailbox and records what it said.

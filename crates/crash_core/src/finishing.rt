@@ -64,27 +64,26 @@ fn failed_at(
 }
 
 /// Whether the member may take back its own entry, of whose slot it saw this word.
-fn may_take_back(
-    state: &GroupState,
-    member: u32,
-    slot: u32,
-    entry: &Entry,
-    word: SlotWord,
-) -> bool
+fn may_take_back(state: &GroupState, member: u32, slot: u32, entry: &Entry, word: SlotWord) -> bool
     requires { IsWhole state.now }
     ensures done { (home : ℕ) → word ≡ words.Done home → (group_of state.now).slot member slot ≡ Done entry.now home → IsTrue result ↔ CanFinish (group_of state.now) member slot entry.now home }
     ensures failed { word ≡ words.Failed → (group_of state.now).slot member slot ≡ Failed entry.now → IsTrue result ↔ CanGiveUp (group_of state.now) member slot entry.now }
 {
-    if !has_slot(state, member, slot)
-        || owner_of(&state.layout, state.group, entry.key) != member
-    {
+    if !has_slot(state, member, slot) || owner_of(&state.layout, state.group, entry.key) != member {
         return false;
     }
-    saw(&state.views[member as usize].looked, Seen::Slot(member, slot, word))
+    saw(
+        &state.views[member as usize].looked,
+        Seen::Slot(member, slot, word),
+    )
 }
 
 /// The value that a body leaves, by these blocks. None for a tombstone.
-fn left_by(alloc: Global, blocks: &BTreeMap<u64, Block>, body: &Body) -> Result<Option<Value>, Memory>
+fn left_by(
+    alloc: Global,
+    blocks: &BTreeMap<u64, Block>,
+    body: &Body,
+) -> Result<Option<Value>, Memory>
     ensures { IfOk result (λ left. left ≡ left_in (get nat_cmp blocks.now) body.now) }
 {
     match body {
@@ -212,12 +211,7 @@ fn settle(
 }
 
 /// Records a change as in doubt, and that its owner writes no more.
-fn doubt(
-    state: &mut GroupState,
-    member: u32,
-    slot: u32,
-    entry: Entry,
-) -> Result<(), Memory>
+fn doubt(state: &mut GroupState, member: u32, slot: u32, entry: Entry) -> Result<(), Memory>
     requires whole { IsWhole state.old }
     requires member { member < state.old.layout.group }
     requires own { owner (place_of state.old) entry.key ≡ member }
@@ -274,12 +268,7 @@ fn finish_failed(
 }
 
 /// Takes back a change of an own slot that the member saw Done or Failed.
-pub fn finish(
-    alloc: Global,
-    state: &mut GroupState,
-    member: u32,
-    slot: u32,
-) -> Result<bool, Memory>
+pub fn finish(alloc: Global, state: &mut GroupState, member: u32, slot: u32) -> Result<bool, Memory>
     requires { IsWhole state.old }
     ensures { IfOk result (λ made. Makes made state.old member (Finish slot) state.new) }
 {

@@ -101,7 +101,9 @@ pub fn mark(
     if !contains(&state.views[member as usize].kept, &entry) {
         return Ok(false);
     }
-    state.slots.insert((owner, slot), Slot::Done(entry, member))?;
+    state
+        .slots
+        .insert((owner, slot), Slot::Done(entry, member))?;
     let view = &mut state.views[member as usize];
     view.taken.remove(&(owner, slot));
     view.looked.clear();
@@ -141,9 +143,7 @@ fn may_withdraw(state: &GroupState, member: u32, slot: u32, entry: &Entry) -> bo
     requires { IsWhole state.now }
     ensures { (group_of state.now).slot member slot ≡ Posted entry.now → IsTrue result ↔ CanWithdraw (group_of state.now) member slot entry.now }
 {
-    if !has_slot(state, member, slot)
-        || owner_of(&state.layout, state.group, entry.key) != member
-    {
+    if !has_slot(state, member, slot) || owner_of(&state.layout, state.group, entry.key) != member {
         return false;
     }
     let view = &state.views[member as usize];

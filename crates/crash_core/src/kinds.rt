@@ -31,29 +31,53 @@ pub enum Kind {
     Lock,
     /// Loads the word of a slot or of a mailbox. Words are numbered as in the group's table: the lock, an own
     /// word for each member, the slots by member, the mailboxes by sender.
-    Look { word: u64 },
+    Look {
+        word: u64,
+    },
     /// As the leader, takes the change of a slot.
-    Take { member: u32, slot: u32 },
+    Take {
+        member: u32,
+        slot: u32,
+    },
     /// Gives the lock back.
     Unlock,
     /// Makes certain what was taken.
     Commit,
     /// Gives a change back that is certain in the own log.
-    Mark { member: u32, slot: u32 },
+    Mark {
+        member: u32,
+        slot: u32,
+    },
     /// Takes a change of an own slot back that is done, or failed.
-    Finish { slot: u32 },
+    Finish {
+        slot: u32,
+    },
     /// Gives a change back that could not be written.
-    Fail { member: u32, slot: u32 },
+    Fail {
+        member: u32,
+        slot: u32,
+    },
     /// As the leader, takes an own change back that nobody took.
-    Withdraw { slot: u32 },
+    Withdraw {
+        slot: u32,
+    },
     /// Lets dead entries of the own log vanish from now on.
-    Doom { names: Names },
+    Doom {
+        names: Names,
+    },
     /// Records that doomed entries have vanished.
-    Retire { names: Names },
+    Retire {
+        names: Names,
+    },
     /// Tells another member of dead and of vanished entries.
-    Send { to: u32, notices: Notices },
+    Send {
+        to: u32,
+        notices: Notices,
+    },
     /// Takes what another member told.
-    Receive { from: u32 },
+    Receive {
+        from: u32,
+    },
 }
 
 /// What a member does, and which.

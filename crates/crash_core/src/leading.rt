@@ -110,12 +110,7 @@ pub fn look_at_slot(
 }
 
 /// Loads the word of a mailbox.
-pub fn look_at_mail(
-    state: &mut GroupState,
-    member: u32,
-    from: u32,
-    to: u32,
-) -> Result<bool, Memory>
+pub fn look_at_mail(state: &mut GroupState, member: u32, from: u32, to: u32) -> Result<bool, Memory>
     requires { IsWhole state.old }
     ensures { IfOk result (λ made. Makes made state.old member (LookMail from to) state.new) }
 {

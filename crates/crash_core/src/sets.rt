@@ -83,11 +83,7 @@ fn add_entry(
 }
 
 /// The entries of a list but those of these names.
-pub fn entries_but(
-    alloc: Global,
-    list: &[Entry],
-    out: &[EntryName],
-) -> Result<Vec<Entry>, Memory>
+pub fn entries_but(alloc: Global, list: &[Entry], out: &[EntryName]) -> Result<Vec<Entry>, Memory>
     ensures { IfOk result (λ left. left.items ≡ without out.now list.now) }
 {
     let mut left = Vec::new(alloc);

@@ -51,6 +51,27 @@ fn flying(state: &GroupState, member: usize) -> usize {
     }
 }
 
+/// Where a list of steps stopped, and the state there.
+#[derive(Drop)]
+struct Stop {
+    at: u64,
+    state: GroupState,
+}
+
+fn stop_of(error: StepsError) -> Option<Stop> {
+    match error {
+        StepsError::NotEnabled { at, state } => Some(Stop { at, state }),
+        StepsError::Memory => None,
+    }
+}
+
+fn where_stopped(outcome: Result<GroupState, StepsError>) -> Option<Stop> {
+    match outcome {
+        Ok(_) => None,
+        Err(error) => stop_of(error),
+    }
+}
+
 /// The leader 0 looks at slot 0 of a member, whose word this is, and takes what it offers.
 fn add_take(steps: &mut Vec<Step>, member: u32, word: u64) -> Result<(), Fail> {
     add(steps, 0, Kind::Look { word })?;
@@ -107,13 +128,13 @@ fn a_mark_before_the_commit(rt: HostRuntime) -> Result<(), Fail> {
     add_batch(&rt, &mut steps)?;
     add(&mut steps, 0, Kind::Mark { member: 0, slot: 0 })?;
     add(&mut steps, 0, Kind::Commit)?;
-    match all_steps(rt.alloc(), state, &steps) {
-        Err(StepsError::NotEnabled { at, state }) => {
-            assert_eq!(rt; at, 11);
-            assert_eq!(rt; flying(&state, 0), 3);
-            assert_eq!(rt; kept(&state, 0), 0);
+    match where_stopped(all_steps(rt.alloc(), state, &steps)) {
+        Some(stop) => {
+            assert_eq!(rt; stop.at, 11);
+            assert_eq!(rt; flying(&stop.state, 0), 3);
+            assert_eq!(rt; kept(&stop.state, 0), 0);
         }
-        _ => assert!(rt; false),
+        None => assert!(rt; false),
     }
     Ok(())
 }
@@ -149,12 +170,12 @@ fn a_tombstone_is_not_dead_yet(rt: HostRuntime) -> Result<(), Fail> {
     let mut steps = Vec::new(rt.alloc());
     add_put_and_delete(&rt, &mut steps)?;
     add_clean(&rt, &mut steps, 1, 2)?;
-    match all_steps(rt.alloc(), state, &steps) {
-        Err(StepsError::NotEnabled { at, state }) => {
-            assert_eq!(rt; at, 18);
-            assert_eq!(rt; state.last(1), 2);
+    match where_stopped(all_steps(rt.alloc(), state, &steps)) {
+        Some(stop) => {
+            assert_eq!(rt; stop.at, 18);
+            assert_eq!(rt; stop.state.last(1), 2);
         }
-        _ => assert!(rt; false),
+        None => assert!(rt; false),
     }
     Ok(())
 }
@@ -228,12 +249,12 @@ fn a_change_comes_back(rt: HostRuntime) -> Result<(), Fail> {
     add(&mut steps, 0, Kind::Fail { member: 0, slot: 0 })?;
     add_finish(&mut steps, 0, 2)?;
     add(&mut steps, 0, Kind::Commit)?;
-    match all_steps(rt.alloc(), state, &steps) {
-        Err(StepsError::NotEnabled { at, state }) => {
-            assert_eq!(rt; at, 11);
-            assert_eq!(rt; state.last(1), 0);
+    match where_stopped(all_steps(rt.alloc(), state, &steps)) {
+        Some(stop) => {
+            assert_eq!(rt; stop.at, 11);
+            assert_eq!(rt; stop.state.last(1), 0);
         }
-        _ => assert!(rt; false),
+        None => assert!(rt; false),
     }
     Ok(())
 }

@@ -13,15 +13,16 @@ loop-name-preserved c = λ k n.
     let xs = c.args.names.now in
     let i = c.loop-name.name-index in
     let added = c.in_ok-add_foreign.ensures k n in
-    let old = c.loop-name.invariant k n in
-    (λ t. elim (added.0 t) [
+    let old = c.loop-name.invariant k n in (
+      λ t. elim (added.0 t) [
         | inl j ↦ let was = old.0 j in (more_from xs i d k n c.loop-name-test.true (inl was.0), was.1)
         | inr j ↦ (more_from xs i d k n c.loop-name-test.true (inr (j.0, j.1)), j.2)
       ],
       λ p. elim (more_cases xs i d k n c.loop-name-test.true p.0) [
         | inl j ↦ added.1 (inl (old.1 (j, p.1)))
         | inr j ↦ added.1 (inr (j.0, j.1, p.1))
-      ])
+      ],
+    )
 
 pub returns : goal.returns
 returns c = λ k n.

@@ -9,5 +9,5 @@ pub returns : goal.returns
 returns c =
     let out = c.in_ok-pointers.pointers.items in
     own_left c.args.key c.args.body.now (get nat_cmp c.args.blocks.now) (get nat_cmp c.drop_blocks.new.blocks) out c.in_ok-pointers.ensures.only c.in_ok-pointers.ensures.all
-      (λ q i. c.drop_blocks.ensures.gone q (subst (In q) (sym c.deref.ensures.value) i))
-      (λ q away. c.drop_blocks.ensures.kept q (λ i. away (subst (In q) c.deref.ensures.value i)))
+    (λ q i. c.drop_blocks.ensures.gone q (subst (In q) (sym c.deref.ensures.value) i))
+    (λ q away. c.drop_blocks.ensures.kept q (λ i. away (subst (In q) c.deref.ensures.value i)))

@@ -11,10 +11,17 @@ returns-in-Some c =
     let m = c.args.member in
     let v = c.index_mut-view.result.now in
     let can = c.if-not-may_lock.ensures.0 refl in
-    let at = view_at g m v c.requires can.member c.index_mut-view.ensures.value in
-    (still_whole g m (record v { looked = c.push.new.self }) c.requires,
-      (can, inr (c.in-Some.holder, c.in-Some.is,
-        find_is (place_of g) g.mail g.views.items m v at g.holder g.slots c.push.new.self (Holder c.in-Some.holder) c.in_ok-push.ensures.items)))
+    let at = view_at g m v c.requires can.member c.index_mut-view.ensures.value in (
+      still_whole g m (record v { looked = c.push.new.self }) c.requires,
+      (
+        can,
+        inr (
+          c.in-Some.holder,
+          c.in-Some.is,
+          find_is (place_of g) g.mail g.views.items m v at g.holder g.slots c.push.new.self (Holder c.in-Some.holder) c.in_ok-push.ensures.items,
+        ),
+      ),
+    )
 
 pub returns : goal.returns
 returns c =
@@ -22,7 +29,13 @@ returns c =
     let m = c.args.member in
     let v = c.index_mut-view-2.result.now in
     let can = c.if-not-may_lock.ensures.0 refl in
-    let at = view_at g m v c.requires can.member c.index_mut-view-2.ensures.value in
-    (still_whole g m (record v { holds = true; looked = c.clear.new.self }) c.requires,
-      (can, inl (c.in_default.is,
-        lock_is (place_of g) g.mail g.views.items m v at g.holder g.slots c.clear.new.self c.clear.ensures.items)))
+    let at = view_at g m v c.requires can.member c.index_mut-view-2.ensures.value in (
+      still_whole g m (record v { holds = true; looked = c.clear.new.self }) c.requires,
+      (
+        can,
+        inl (
+          c.in_default.is,
+          lock_is (place_of g) g.mail g.views.items m v at g.holder g.slots c.clear.new.self c.clear.ensures.items,
+        ),
+      ),
+    )

@@ -15,7 +15,7 @@ loop-i-preserved c =
     record {
       whole = made.0;
       made = made_more (group_of c.args.state) c.args.steps.now c.loop-i.i x (group_of c.loop-i.state) (group_of c.make.new.state) c.loop-i-test.true old.made
-        (subst (λ (y : Step). IsMade (group_of c.loop-i.state) y.member y.kind (group_of c.make.new.state)) c.index-steps-i.is made.1);
+          (subst (λ (y : Step). IsMade (group_of c.loop-i.state) y.member y.kind (group_of c.make.new.state)) c.index-steps-i.is made.1);
       lawful = made_keeps (group_of c.loop-i.state) x.member x.kind (group_of c.make.new.state) old.lawful made.1;
     }
 
@@ -26,7 +26,7 @@ returns-in-Ok-false c =
     let x = c.index-steps-i.result in
     let there = reached c.args.state (take c.loop-i.i c.args.steps.now) c.loop-i.state old.whole old.made old.lawful in
     stopped c.args.state c.args.steps.now c.loop-i.i x c.loop-i.state c.make.new.state made.0 there
-      (slice_get-get_or c.args.steps.now c.loop-i.i x c.loop-i-test.true ∙ ap Some (sym c.index-steps-i.is)) made.1
+    (slice_get-get_or c.args.steps.now c.loop-i.i x c.loop-i-test.true ∙ ap Some (sym c.index-steps-i.is)) made.1
 
 pub returns : goal.returns
 returns c =

@@ -26,9 +26,9 @@ here first count p q b d rest it e far l =
 
 pub loop-pointer-preserved : goal.loop-pointer-preserved
 loop-pointer-preserved c = λ q b at. elim (c.loop-pointer.invariant q b at) [
-    | inl a ↦ inl a
-    | inr l ↦ here c.args.first c.args.count c.in-Some.pointer.now q b c.in-Some.block.now c.next.new.self c.loop-pointer.pointer-iterator c.in-Some.ensures.steps (rw (c.units_of.ensures, c.bytes.ensures) at (c.is_apart.ensures.0 c.if-not-is_apart.false)) l
-  ]
+  | inl a ↦ inl a
+  | inr l ↦ here c.args.first c.args.count c.in-Some.pointer.now q b c.in-Some.block.now c.next.new.self c.loop-pointer.pointer-iterator c.in-Some.ensures.steps (rw (c.units_of.ensures, c.bytes.ensures) at (c.is_apart.ensures.0 c.if-not-is_apart.false)) l
+]
 
 pub returns : goal.returns
 returns c = (λ _ q b at. elim (c.loop-pointer.invariant q b at) [ inl a ↦ a | inr l ↦ absurd (let none = subst (λ (xs : List (ℕ × Block)). lookup (is_at (nat_cmp q)) xs ≡ Some b) c.in-None.ensures.steps.0 l in cc none) ], λ _. refl)

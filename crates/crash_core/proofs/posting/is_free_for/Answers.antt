@@ -20,7 +20,13 @@ returns c =
     let long = ap length c.bytes-length.ensures in
     let at = view_at g m v c.requires.whole c.requires.member c.index.ensures in
     let blocks : (q : ℕ) → (group_of g).blocks m q ≡ get nat_cmp v.blocks q = λ q. ap (of (λ (v : CoreView). get nat_cmp v.blocks q) None) at in
-    let lies : LiesIn (place_of g) m p (units (length value)) = subst (λ (n : ℕ). LiesIn (place_of g) m p n) size (c.if-not-lies_in.ensures.0 refl) in
-    (λ t. ((omega (arith, long), omega (arith, long)), (lies,
-        λ q b e. subst (λ (n : ℕ). Apart p n q (units (length b.bytes))) size (c.is_clear.ensures.0 t q b (sym (blocks q) ∙ e)))),
-      λ free. c.is_clear.ensures.1 (λ q b e. subst (λ (n : ℕ). Apart p n q (units (length b.bytes))) (sym size) (free.1.1 q b (blocks q ∙ e))))
+    let lies : LiesIn (place_of g) m p (units (length value)) = subst (λ (n : ℕ). LiesIn (place_of g) m p n) size (c.if-not-lies_in.ensures.0 refl) in (
+      λ t. (
+        (omega (arith, long), omega (arith, long)),
+        (
+          lies,
+          λ q b e. subst (λ (n : ℕ). Apart p n q (units (length b.bytes))) size (c.is_clear.ensures.0 t q b (sym (blocks q) ∙ e)),
+        ),
+      ),
+      λ free. c.is_clear.ensures.1 (λ q b e. subst (λ (n : ℕ). Apart p n q (units (length b.bytes))) (sym size) (free.1.1 q b (blocks q ∙ e))),
+    )

@@ -9,12 +9,13 @@ returns-in_ok-push c = λ k.
     let old = c.args.keys.now.items in
     let x = c.args.key in
     let items = c.in_ok-push.ensures.items in
-    let spent = c.if-is_spent.ensures.0 refl in
-    (λ t. elim (In-push k x old (subst (In k) items t)) [
+    let spent = c.if-is_spent.ensures.0 refl in (
+      λ t. elim (In-push k x old (subst (In k) items t)) [
         | inl i ↦ inr (i, subst (λ (q : ℕ). IsSpentIn c.args.view.now q) (sym i) spent)
         | inr i ↦ inl i
       ],
       λ p. subst (In k) (sym items) (elim p [
         | inl i ↦ In-append_left k old (x ∷ []) i
         | inr i ↦ In-append_right k old (x ∷ []) (inl i.0)
-      ]))
+      ]),
+    )

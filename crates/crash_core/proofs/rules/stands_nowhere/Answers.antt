@@ -17,12 +17,15 @@ returns-then-name-key c =
 
 pub loop-name-preserved : goal.loop-name-preserved
 loop-name-preserved c = λ q h at. elim (c.loop-name.invariant q h at) [
-    | inl a ↦ inl a
-    | inr l ↦ met (λ (q : ℕ × ℕ). is_at (pair_cmp q)) pair_key (λ (q : ℕ × ℕ) (h : ℕ). q.0 ≡ c.args.key → ⊥) c.in-Some.name.now c.in-Some.field-0-1.now c.next.new.self c.loop-name.name-iterator q h c.in-Some.ensures.steps c.if-name-key.false l
-  ]
+  | inl a ↦ inl a
+  | inr l ↦ met (λ (q : ℕ × ℕ). is_at (pair_cmp q)) pair_key (λ (q : ℕ × ℕ) (h : ℕ). q.0 ≡ c.args.key → ⊥) c.in-Some.name.now c.in-Some.field-0-1.now c.next.new.self c.loop-name.name-iterator q h c.in-Some.ensures.steps c.if-name-key.false l
+]
 
 pub returns : goal.returns
-returns c = (λ _ u h at. elim (c.loop-name.invariant (c.args.key, u) h at) [
+returns c = (
+  λ _ u h at. elim (c.loop-name.invariant (c.args.key, u) h at) [
     | inl a ↦ a refl
     | inr l ↦ ended (is_at (pair_cmp (c.args.key, u))) c.loop-name.name-iterator h c.in-None.ensures.steps.0 l
-  ], λ _. refl)
+  ],
+  λ _. refl,
+)

@@ -12,9 +12,9 @@ loop-entry-preserved c =
     let i = c.loop-entry.entry-index in
     let x = c.entry-item.result in
     c.in_ok-add_entry.ensures
-      ∙ (λ j. c.loop-entry.invariant j ++ without ns (c.entry-item.is j ∷ []))
-      ∙ sym (without_append ns (take i xs) (get_or xs i x ∷ []))
-      ∙ ap (without ns) (sym (take_more xs i x (omega arith)))
+    ∙ (λ j. c.loop-entry.invariant j ++ without ns (c.entry-item.is j ∷ []))
+    ∙ sym (without_append ns (take i xs) (get_or xs i x ∷ []))
+    ∙ ap (without ns) (sym (take_more xs i x (omega arith)))
 
 pub returns : goal.returns
 returns c = c.loop-entry.invariant ∙ ap (without c.args.out.now) (take_all c.loop-entry.entry-index c.args.list.now c.loop-entry-test.false)

@@ -22,10 +22,10 @@ loop-name-preserved c = λ k n.
     let x = get_or xs i d in
     let o = get pair_cmp c.args.present.now (k, n) in
     pair_put (λ (o : Option ℕ). o) c.loop-name.present c.remove.new.self x.key x.version None c.remove.ensures.updates k n
-      ∙ ap (cond (eqb k x.key && eqb n x.version) None) (c.loop-name.invariant k n)
-      ∙ ap (λ (b : Bool). cond b None (cond (has (take i xs) k n) None o)) (λ j. swapped k x.key j && swapped n x.version j)
-      ∙ both_out (eqb x.key k && eqb x.version n) (has (take i xs) k n) o
-      ∙ ap (λ (b : Bool). cond b None o) (sym (has_more xs i d k n c.loop-name-test.true))
+    ∙ ap (cond (eqb k x.key && eqb n x.version) None) (c.loop-name.invariant k n)
+    ∙ ap (λ (b : Bool). cond b None (cond (has (take i xs) k n) None o)) (λ j. swapped k x.key j && swapped n x.version j)
+    ∙ both_out (eqb x.key k && eqb x.version n) (has (take i xs) k n) o
+    ∙ ap (λ (b : Bool). cond b None o) (sym (has_more xs i d k n c.loop-name-test.true))
 
 pub returns : goal.returns
 returns c = λ k n. c.loop-name.invariant k n ∙ ap (λ (xs : List EntryName). cond (has xs k n) None (get pair_cmp c.args.present.now (k, n))) (take_all c.loop-name.name-index c.args.names.now c.loop-name-test.false)
