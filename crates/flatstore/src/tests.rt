@@ -20,7 +20,7 @@ const REPLAY: [&str; 3] = ["flatstore", "replay", "region"];
 
 const THREE: &str = "put 5 abc\nget 5\nget 6\n";
 
-const PICKS: [Pick; 6] = [
+pub const PICKS: [Pick; 6] = [
     Pick::Oldest,
     Pick::Newest,
     Pick::Mixed(0),
@@ -47,7 +47,7 @@ fn fresh(alloc: Global) -> Result<Vec<u8>, AllocError> {
     Ok(bytes)
 }
 
-fn command(alloc: Global, words: &[&str]) -> Result<Vec<String>, AllocError> {
+pub fn command(alloc: Global, words: &[&str]) -> Result<Vec<String>, AllocError> {
     let mut line = Vec::new(alloc);
     for word in words {
         line.push(String::from_str(alloc, word)?)?;
@@ -56,7 +56,7 @@ fn command(alloc: Global, words: &[&str]) -> Result<Vec<String>, AllocError> {
 }
 
 // One call of the program, of which only the report counts.
-fn call<S: Source, O: Sink, R: SplitRegion>(
+pub fn call<S: Source, O: Sink, R: SplitRegion>(
     alloc: Global,
     words: &[&str],
     source: &mut S,
@@ -68,7 +68,7 @@ fn call<S: Source, O: Sink, R: SplitRegion>(
 }
 
 // Replays an input on a region, into a sink that takes everything.
-fn replay<R: SplitRegion>(
+pub fn replay<R: SplitRegion>(
     alloc: Global,
     region: &mut R,
     input: &str,
@@ -91,7 +91,7 @@ fn row(alloc: Global, input: &str) -> Result<(Report, Vec<u8>), Fail> {
 }
 
 // The words of a region that starts at word 0.
-fn words_of<R: Region>(alloc: Global, region: &R) -> Result<Vec<u64>, AllocError> {
+pub fn words_of<R: Region>(alloc: Global, region: &R) -> Result<Vec<u64>, AllocError> {
     let mut words = Vec::new(alloc);
     if region.first() == 0 {
         for place in 0..region.words() {
@@ -192,7 +192,7 @@ fn words_that_are_no_form(rt: HostRuntime) -> Result<(), Fail> {
 }
 
 // The bytes of the fresh region with others at some places.
-fn with(alloc: Global, places: &[(usize, u8)]) -> Result<Vec<u8>, AllocError> {
+pub fn with(alloc: Global, places: &[(usize, u8)]) -> Result<Vec<u8>, AllocError> {
     let mut bytes = fresh(alloc)?;
     for (place, byte) in places {
         set(&mut bytes, *place, *byte);
