@@ -1,0 +1,13 @@
+-- The view that a step writes, and that there is still one for each member.
+use Rattle.std.proofs.Common.{◌≡◌, ℕ, ◌<◌, length, get_or, Some, sym, ap, ◌∙◌, arith, length-set}
+use Rattle.std.specs.Prelude.{slice_get, slice_set}
+use Rattle.std.proofs.lemmas.Option.{slice_get-get_or}
+use Rattle.crash_core.specs.declared.state.CoreView.{CoreView}
+use Rattle.crash_core.specs.declared.state.GroupState.{GroupState}
+use Rattle.crash_core.specs.Shows.{IsWhole}
+
+pub view_at : (g : GroupState) (m : ℕ) (v : CoreView) → IsWhole g → m < g.layout.group → v ≡ get_or g.views.items m v → slice_get g.views.items m ≡ Some v
+view_at g m v whole low is = slice_get-get_or g.views.items m v (omega (arith, whole, low)) ∙ ap Some (sym is)
+
+pub still_whole : (g : GroupState) (m : ℕ) (w : CoreView) → IsWhole g → length (slice_set g.views.items m w) ≡ g.layout.group
+still_whole g m w whole = length-set g.views.items m w ∙ whole

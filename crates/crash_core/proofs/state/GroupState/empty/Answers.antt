@@ -1,0 +1,18 @@
+use Rattle.std.proofs.Common.{◌≡◌, refl, ap, ◌∙◌}
+use Rattle.chunk_map.specs.declared.layouts.Geometry.{Geometry}
+use Rattle.group_laws.specs.Places.{Place, IsPlace}
+use Rattle.crash_core.proofs.Empties.{opened, lawful}
+use Rattle.crash_core.proofs.state.GroupState.empty.Goals as goal
+
+pub returns : goal.returns
+returns c =
+    let p : Place = record { layout = c.args.layout.now; group = c.args.group } in
+    let place : IsPlace p = record { layout = c.geometry-geometry.ensures.rules; group = c.requires } in
+    let views = c.in_ok-views.views.items in
+    let all = c.in_ok-views.ensures.empty in
+    record {
+      place = refl;
+      whole = c.in_ok-views.ensures.count ∙ ap (λ (g : Geometry). g.group) c.geometry-geometry.ensures.value;
+      opened = opened p place c.new.result c.new-2.result views c.new.ensures.empty c.new-2.ensures.empty all;
+      lawful = lawful p place c.new.result c.new-2.result views c.new.ensures.empty c.new-2.ensures.empty all;
+    }

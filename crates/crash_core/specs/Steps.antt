@@ -1,0 +1,102 @@
+-- The steps as data: what each asks and leaves, and what a list of them leads to.
+use Rattle.std.specs.Prelude.{◌≡◌, ℕ, ◌+◌, ◌*◌, ◌<◌, List, [], ◌∷◌, ◌++◌, take, length, Bool, true, false, Option, Some, None, Result, Ok, Err, ◌⊎◌, slice_get}
+use Rattle.group_laws.specs.Places.{members}
+use Rattle.group_laws.specs.State.{Group}
+use Rattle.group_laws.specs.Invariant.{Lawful}
+use Rattle.group_laws.specs.Crashes.{Distinct}
+use Rattle.group_laws.specs.Images.{IsLicensedImage, IsSafe}
+use Rattle.group_laws.specs.Runs.{IsStep}
+use Rattle.group_laws.specs.Finishes.{cell_after}
+use Rattle.group_laws.specs.Finishes as laws
+use Rattle.group_laws.specs.Runs.Kind.{Split as Splits, Join as Joins, Post as Posts, Lock as Locks, Look as Looks, LookMail as Looks_mail, Take as Takes, Unlock as Unlocks, Commit as Commits, Mark as Marks, Finish as Finishes, Fail as Fails, Withdraw as Withdraws, Doom as Dooms, Retire as Retires, Send as Sends, Receive as Receives}
+use Rattle.crash_core.specs.declared.kinds.Kind.{Kind}
+use Rattle.crash_core.specs.declared.kinds.Kind.TheVariants as kinds
+use Rattle.crash_core.specs.declared.kinds.Step.{Step}
+use Rattle.crash_core.specs.declared.kinds.StepError.{StepError}
+use Rattle.crash_core.specs.declared.kinds.StepError.TheVariants as faults
+use Rattle.crash_core.specs.declared.kinds.StepsError.{StepsError}
+use Rattle.crash_core.specs.declared.kinds.StepsError.TheVariants as stops
+use Rattle.crash_core.specs.declared.state.GroupState.{GroupState}
+use Rattle.crash_core.specs.Shows.{group_of, notices_of, IsWhole}
+
+-- The numbers of the words of a table with n members: behind the lock and the members' own words the slots, and behind these the mailboxes.
+abbrev pub slot_word : ℕ → ℕ → ℕ → ℕ
+slot_word n a s = 1 + n + 8 * a + s
+
+abbrev pub mail_word : ℕ → ℕ → ℕ → ℕ
+mail_word n a b = 1 + 9 * n + n * a + b
+
+-- member m's step of this kind is enabled at w, and leaves u
+abbrev pub IsMade : Group → ℕ → Kind → Group → Type 0
+IsMade w m kinds.Split u = IsStep w m Splits u
+IsMade w m kinds.Join u = IsStep w m Joins u
+IsMade w m (kinds.Post s change value) u = (change.home ≡ None) × IsStep w m (Posts s change.entry value) u
+IsMade w m kinds.Lock u = IsStep w m Locks u
+IsMade w m (kinds.Look word) u =
+    ((a : ℕ) × (s : ℕ) × (word ≡ slot_word (members w.place) a s) × IsStep w m (Looks a s) u)
+    ⊎ ((a : ℕ) × (b : ℕ) × (word ≡ mail_word (members w.place) a b) × IsStep w m (Looks_mail a b) u)
+IsMade w m (kinds.Take a s) u = IsStep w m (Takes a s) u
+IsMade w m kinds.Unlock u = IsStep w m Unlocks u
+IsMade w m kinds.Commit u = IsStep w m Commits u
+IsMade w m (kinds.Mark a s) u = IsStep w m (Marks a s) u
+IsMade w m (kinds.Finish s) u = IsStep w m (Finishes s) u
+IsMade w m (kinds.Fail a s) u = IsStep w m (Fails a s) u
+IsMade w m (kinds.Withdraw s) u = IsStep w m (Withdraws s) u
+IsMade w m (kinds.Doom ns) u = IsStep w m (Dooms ns.names) u
+IsMade w m (kinds.Retire ns) u = IsStep w m (Retires ns.names) u
+IsMade w m (kinds.Send to n) u = IsStep w m (Sends to (notices_of n)) u
+IsMade w m (kinds.Receive from) u = IsStep w m (Receives from) u
+
+-- What a call that tries a step makes of a state: the step, or nothing where it isn't enabled.
+abbrev pub MakesStep : Bool → GroupState → Step → GroupState → Type 0
+MakesStep true g s h = IsWhole h × IsMade (group_of g) s.member s.kind (group_of h)
+MakesStep false g s h = (h ≡ g) × ((u : Group) → IsMade (group_of g) s.member s.kind u → ⊥)
+
+abbrev pub IsOutcome : GroupState → Step → Result GroupState StepError → Type 0
+IsOutcome g s (Ok h) = MakesStep true g s h
+IsOutcome g s (Err (faults.NotEnabled h)) = MakesStep false g s h
+IsOutcome g s (Err faults.Memory) = Unit {0}
+
+-- the steps lead from w to u
+abbrev pub AreMade : Group → List Step → Group → Type 0
+AreMade w [] u = u ≡ w
+AreMade w (x ∷ xs) u = (mid : Group) × IsMade w x.member x.kind mid × AreMade mid xs u
+
+-- what a step finished, as the laws say it
+abbrev pub finished : (w : Group) (m : ℕ) (kind : Kind) (u : Group) → IsMade w m kind u → List (ℕ × Option (List ℕ))
+finished w m kinds.Split u s = []
+finished w m kinds.Join u s = []
+finished w m (kinds.Post n change value) u s = []
+finished w m kinds.Lock u s = []
+finished w m (kinds.Look word) u s = []
+finished w m (kinds.Take a n) u s = []
+finished w m kinds.Unlock u s = []
+finished w m kinds.Commit u s = []
+finished w m (kinds.Mark a n) u s = []
+finished w m (kinds.Finish n) u s = laws.finished w m (Finishes n) u s
+finished w m (kinds.Fail a n) u s = []
+finished w m (kinds.Withdraw n) u s = []
+finished w m (kinds.Doom ns) u s = []
+finished w m (kinds.Retire ns) u s = []
+finished w m (kinds.Send to n) u s = []
+finished w m (kinds.Receive from) u s = []
+
+-- what the steps finished, in order: keys with the cells that their entries leave
+abbrev pub finishes_of : (w : Group) (steps : List Step) (u : Group) → AreMade w steps u → List (ℕ × Option (List ℕ))
+finishes_of w [] u r = []
+finishes_of w (x ∷ xs) u r = finished w x.member x.kind r.0 r.1 ++ finishes_of r.0 xs u r.2
+
+-- The steps lead to h. There each key's cell is what its finished changes left, the invariant holds, whatever a crash leaves is safe, and no block serves two values.
+pub record IsReached (g : GroupState) (steps : List Step) (h : GroupState) : Type 0 where
+  pub whole : IsWhole h
+  pub made : AreMade (group_of g) steps (group_of h)
+  pub cells : (k : ℕ) → (group_of h).cell k ≡ cell_after k (finishes_of (group_of g) steps (group_of h) made) ((group_of g).cell k)
+  pub lawful : Lawful (group_of h)
+  pub safe : (images : ℕ → ℕ → ℕ) → ((i : ℕ) → i < h.layout.group → IsLicensedImage (group_of h) i (images i)) → IsSafe (group_of h) images
+  pub distinct : Distinct (group_of h)
+
+-- what a call that makes all steps answers
+abbrev pub IsRun : GroupState → List Step → Result GroupState StepsError → Type 0
+IsRun g steps (Ok h) = IsReached g steps h
+IsRun g steps (Err (stops.NotEnabled at h)) = IsReached g (take at steps) h × ((next : Step) × (slice_get steps at ≡ Some next) × ((u : Group) → IsMade (group_of h) next.member next.kind u → ⊥))
+IsRun g steps (Err stops.Memory) = Unit {0}

@@ -1,0 +1,25 @@
+//! The group machine over plain data: the state of a group of cores, its steps one at a time, and the claim
+//! over every list of steps.
+#![tactic(auto)]
+
+mod cleaning;
+mod copies;
+mod finishing;
+mod giving;
+mod kinds;
+mod leading;
+mod machine;
+mod names;
+mod places;
+mod posting;
+mod rules;
+mod sets;
+mod state;
+mod tables;
+#[cfg(test)]
+mod tests;
+
+pub use kinds::{Change, Kind, Step, StepError, StepsError};
+pub use machine::{all_steps, step};
+pub use names::{Names, Notices};
+pub use state::{CoreView, GroupState};

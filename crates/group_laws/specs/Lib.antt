@@ -1,0 +1,11 @@
+pub mod Places
+pub mod Updates
+pub mod State
+pub mod Invariant
+pub mod Steps
+pub mod Tidying
+pub mod Runs
+pub mod Finishes
+pub mod Crashes
+pub mod Images
+pub mod Opening
