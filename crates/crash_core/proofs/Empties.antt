@@ -26,15 +26,15 @@ pub all_push : (vs : List CoreView) (v : CoreView) → AllByRecursion IsEmptyVie
 all_push [] v all is = (is, tt)
 all_push (x ∷ vs) v all is = (all.0, all_push vs v all.1 is)
 
-read : {X : Type 0} (f : CoreView → X) (d : X) → ((v : CoreView) → IsEmptyView v → f v ≡ d) → (vs : List CoreView) → AllByRecursion IsEmptyView vs → (h : ℕ) → of f d (slice_get vs h) ≡ d
+pub read : {X : Type 0} (f : CoreView → X) (d : X) → ((v : CoreView) → IsEmptyView v → f v ≡ d) → (vs : List CoreView) → AllByRecursion IsEmptyView vs → (h : ℕ) → of f d (slice_get vs h) ≡ d
 read f d is [] all h = refl
 read f d is (v ∷ vs) all zero = is v all.0
 read f d is (v ∷ vs) all (suc h) = read f d is vs all.1 h
 
-nothing_at : {X : Type 0} (m : BTreeMap ℕ X) → IsEmpty m → (k : ℕ) → get nat_cmp m k ≡ None
+pub nothing_at : {X : Type 0} (m : BTreeMap ℕ X) → IsEmpty m → (k : ℕ) → get nat_cmp m k ≡ None
 nothing_at m e k = ap (lookup (is_at (nat_cmp k))) e
 
-none_at : {X : Type 0} (m : BTreeMap (ℕ × ℕ) X) → IsEmpty m → (k n : ℕ) → get pair_cmp m (k, n) ≡ None
+pub none_at : {X : Type 0} (m : BTreeMap (ℕ × ℕ) X) → IsEmpty m → (k n : ℕ) → get pair_cmp m (k, n) ≡ None
 none_at m e k n = ap (lookup (is_at (pair_cmp (k, n)))) e
 
 clash : {A X : Type 0} {o : Option X} {x : X} → o ≡ None → o ≡ Some x → A

@@ -17,3 +17,4 @@ pub mod Numbers
 pub mod Laws
 pub mod Runs
 pub mod Empties
+pub mod Blank

@@ -12,6 +12,7 @@ ghost use Rattle.crash_core.specs.Makes.{Makes};
 
 use crate::copies::copy_entry;
 use crate::places::owner_of;
+use crate::sizes::words_in;
 use crate::state::GroupState;
 use crate::tables::{has_member, has_slot, posted_at, saw};
 use fs_errors::Memory;
@@ -147,7 +148,8 @@ fn may_withdraw(state: &GroupState, member: u32, slot: u32, entry: &Entry) -> bo
         return false;
     }
     let view = &state.views[member as usize];
-    view.holds && saw(&view.looked, Seen::Slot(member, slot, SlotWord::Posted))
+    let posted = SlotWord::Posted(words_in(entry));
+    view.holds && saw(&view.looked, Seen::Slot(member, slot, posted))
 }
 
 /// Takes the block out that a body points to, where it does.

@@ -1,6 +1,5 @@
 // The steps of a leader: taking the lock, taking what others posted, making it certain, giving the lock back.
 ghost use Rattle.std.specs.Prelude.{◌≡◌, ℕ, IfOk, IsTrue, ◌↔◌, Some, None, true, false};
-ghost use Rattle.log_entry.specs.declared.entry.Entry.{Entry};
 ghost use Rattle.group_laws.specs.declared.types.Slot.TheVariants.{Posted};
 ghost use Rattle.group_laws.specs.State.{Group};
 ghost use Rattle.group_laws.specs.Steps.{CanLock, CanTake, CanUnlock, CanCommit};
@@ -9,6 +8,7 @@ ghost use Rattle.crash_core.specs.Shows.{group_of, IsWhole};
 ghost use Rattle.crash_core.specs.Makes.{Makes};
 
 use crate::copies::copy_entry;
+use crate::sizes::words_in;
 use crate::state::GroupState;
 use crate::tables::{has_member, mail_at, posted_at, saw, word_at};
 use fs_errors::Memory;
@@ -123,16 +123,17 @@ pub fn look_at_mail(state: &mut GroupState, member: u32, from: u32, to: u32) -> 
     Ok(true)
 }
 
-/// Whether the member may take from a slot, if that is still Posted.
-fn may_take_from(state: &GroupState, member: u32, owner: u32, slot: u32) -> bool
+/// Whether the member may take the entry that is posted in a slot.
+fn may_take_from(state: &GroupState, member: u32, owner: u32, slot: u32, entry: &Entry) -> bool
     requires { IsWhole state.now }
-    ensures { (e : Entry) → (group_of state.now).slot owner slot ≡ Posted e → IsTrue result ↔ CanTake (group_of state.now) member owner slot e }
+    ensures { (group_of state.now).slot owner slot ≡ Posted entry.now → IsTrue result ↔ CanTake (group_of state.now) member owner slot entry.now }
 {
     if !has_member(state, member) || !has_member(state, owner) || slot >= 8 {
         return false;
     }
     let view = &state.views[member as usize];
-    view.holds && !view.broken && saw(&view.looked, Seen::Slot(owner, slot, SlotWord::Posted))
+    let posted = SlotWord::Posted(words_in(entry));
+    view.holds && !view.broken && saw(&view.looked, Seen::Slot(owner, slot, posted))
 }
 
 /// Takes the change of a slot that the leader saw Posted.
@@ -149,7 +150,7 @@ pub fn take(
     let Some(entry) = posted_at(alloc, state, owner, slot)? else {
         return Ok(false);
     };
-    if !may_take_from(state, member, owner, slot) {
+    if !may_take_from(state, member, owner, slot, &entry) {
         return Ok(false);
     }
     let flying = copy_entry(alloc, &entry)?;

@@ -14,6 +14,7 @@ mod places;
 mod posting;
 mod rules;
 mod sets;
+mod sizes;
 mod state;
 mod tables;
 #[cfg(test)]
@@ -22,4 +23,5 @@ mod tests;
 pub use kinds::{Change, Kind, Step, StepError, StepsError};
 pub use machine::{all_steps, step};
 pub use names::{Names, Notices};
+pub use sizes::words_in;
 pub use state::{CoreView, GroupState};

@@ -1,9 +1,11 @@
 // The state of a group as plain data.
-ghost use Rattle.std.specs.Prelude.{◌≡◌, ◌/◌, ◌<◌, length, IfOk};
+ghost use Rattle.std.specs.Prelude.{◌≡◌, ℕ, ◌/◌, ◌<◌, length, IfOk};
 ghost use Rattle.std.specs.List.{AllByRecursion};
 ghost use Rattle.std.specs.Option.{option_copied};
 ghost use Rattle.group_laws.specs.Invariant.{Lawful};
 ghost use Rattle.group_laws.specs.Opening.{IsOpened, nothing};
+ghost use Rattle.group_laws.specs.OpeningImages as images;
+ghost use Rattle.group_laws.specs.OpeningImages.{IsBlank};
 ghost use Rattle.crash_core.specs.Shows.{group_of, place_of, IsWhole, IsEmptyView};
 
 use crate::names::Notices;
@@ -115,12 +117,14 @@ fn empty_views(alloc: Global, count: u32) -> Result<Vec<CoreView>, Memory>
 }
 
 impl GroupState {
-    /// The state of a group of the layout that opens on an empty region.
+    /// The state of a group of the layout that opens on an empty region: the one that the words of any region say
+    /// in which each chunk is free.
     pub fn empty(alloc: Global, layout: &Layout, group: u32) -> Result<GroupState, Memory>
         requires { group < layout.now.cores / layout.now.group }
         ensures place { IfOk result (λ g. place_of g ≡ record { layout = layout.now; group = group }) }
         ensures whole { IfOk result (λ g. IsWhole g) }
         ensures opened { IfOk result (λ g. IsOpened (group_of g) nothing) }
+        ensures words { IfOk result (λ g. (image : ℕ → ℕ) → IsBlank layout.now image → group_of g ≡ images.opened (place_of g) image) }
         ensures lawful { IfOk result (λ g. Lawful (group_of g)) }
     {
         let geometry = layout.geometry();

@@ -7,6 +7,7 @@ ghost use Rattle.crash_core.specs.Shows.{group_of, IsWhole};
 ghost use Rattle.crash_core.specs.Finds.{posted_in};
 
 use crate::copies::copy_entry;
+use crate::sizes::words_in;
 use crate::state::GroupState;
 use fs_errors::Memory;
 use group_laws::types::{Seen, Slot, SlotWord};
@@ -54,7 +55,7 @@ pub fn word_of(slot: &Slot) -> SlotWord
 {
     match slot {
         Slot::Empty => SlotWord::Empty,
-        Slot::Posted(_) => SlotWord::Posted,
+        Slot::Posted(entry) => SlotWord::Posted(words_in(entry)),
         Slot::Taken => SlotWord::Taken,
         Slot::Done(_, home) => SlotWord::Done(*home),
         Slot::Failed(_) => SlotWord::Failed,

@@ -47,7 +47,7 @@ module _ (w : Group) (m : ℕ) (ns : List EntryName) (L : Lawful w) (can : CanDo
     counts = assumption;
     looks = record {
       holds_is = L.looks.holds_is;
-      posted_seen = λ n b t h q. L.looks.posted_seen n b t h (looked_was n _ q);
+      posted_seen = λ n b t o h q. L.looks.posted_seen n b t o h (looked_was n _ q);
       done_seen = λ n t h q. L.looks.done_seen n t h (looked_was n _ q);
       failed_seen = λ n t q. L.looks.failed_seen n t (looked_was n _ q);
       empty_seen = λ n b q. L.looks.empty_seen n b (looked_was n _ q);

@@ -148,7 +148,7 @@ module _ (w : Group) (m s : ℕ) (e : Entry) (home : ℕ) (L : Lawful w) (can : 
   keeps_looks : Looks new
   keeps_looks = record {
     holds_is = L.looks.holds_is;
-    posted_seen = λ n b t h q. slot_stays (λ u. shown u ≡ ShowsPosted) b t (λ i. absurd (cc i)) (L.looks.posted_seen n b t h (looked_was n _ q).1);
+    posted_seen = λ n b t o h q. slot_stays (λ u. shown u ≡ ShowsPosted o) b t (λ i. absurd (cc i)) (L.looks.posted_seen n b t o h (looked_was n _ q).1);
     done_seen = λ n t h q. let was = looked_was n _ q in if2_into (λ u. shown u ≡ ShowsDone h) m s Empty (w.slot n t) n t (λ i _. absurd (was.0 i)) (λ _. L.looks.done_seen n t h was.1);
     failed_seen = λ n t q. let was = looked_was n _ q in if2_into (λ u. shown u ≡ ShowsFailed) m s Empty (w.slot n t) n t (λ i _. absurd (was.0 i)) (λ _. L.looks.failed_seen n t was.1);
     empty_seen = λ n b q. L.looks.empty_seen n b (looked_was n _ q).1;

@@ -23,3 +23,8 @@ pub mod Finishes
 pub mod Safe
 pub mod Images
 pub mod Opened
+pub mod PartBlocks
+pub mod GroupEntries
+pub mod OpeningFound
+pub mod OpeningTidied
+pub mod Posted

@@ -28,7 +28,7 @@ module _ (w : Group) (m : ℕ) (L : Lawful w) (free : w.holder ≡ None) where
         λ q. elim (if_cases (λ b. b ≡ true) m true (w.holds n) n q) [ inl i ↦ ap Some (sym i.0) | inr i ↦ absurd (let h = (L.looks.holds_is n).0 i.1 in grind (arith, h, free)) ],
         λ q. if_into (λ b. b ≡ true) m true (w.holds n) n (λ _. refl) (λ ne. absurd (ne (cc (sym q)))),
       );
-      posted_seen = λ n b t h q. absurd ((looked_was n _ q).0 (cc (sym h)));
+      posted_seen = λ n b t o h q. absurd ((looked_was n _ q).0 (cc (sym h)));
       done_seen = λ n t h q. L.looks.done_seen n t h (looked_was n _ q).1;
       failed_seen = λ n t q. L.looks.failed_seen n t (looked_was n _ q).1;
       empty_seen = λ n b q. L.looks.empty_seen n b (looked_was n _ q).1;
@@ -56,7 +56,7 @@ module _ (w : Group) (m : ℕ) (L : Lawful w) (can : CanUnlock w m) where
         λ q. elim (if_cases (λ b. b ≡ true) m false (w.holds n) n q) [ inl i ↦ absurd (cc (i.1)) | inr i ↦ absurd (let h = (L.looks.holds_is n).0 i.1 in let mine = (L.looks.holds_is m).0 can.holds in i.0 (cc (h, mine))) ],
         λ q. absurd (cc q),
       );
-      posted_seen = λ n b t h q. absurd (cc h);
+      posted_seen = λ n b t o h q. absurd (cc h);
       done_seen = λ n t h q. L.looks.done_seen n t h (unlooked_was n _ q).1;
       failed_seen = λ n t q. L.looks.failed_seen n t (unlooked_was n _ q).1;
       empty_seen = λ n b q. L.looks.empty_seen n b (unlooked_was n _ q).1;
@@ -87,7 +87,7 @@ module _ (w : Group) (m : ℕ) (y : Seen) (L : Lawful w) where
     counts = assumption;
     looks = record {
       holds_is = L.looks.holds_is;
-      posted_seen = λ n b u h q. elim (found_was n _ q) [ inl i ↦ sym (subst IsTrue_of (sym i) t) | inr i ↦ L.looks.posted_seen n b u h i ];
+      posted_seen = λ n b u o h q. elim (found_was n _ q) [ inl i ↦ sym (subst IsTrue_of (sym i) t) | inr i ↦ L.looks.posted_seen n b u o h i ];
       done_seen = λ n u h q. elim (found_was n _ q) [ inl i ↦ sym (subst IsTrue_of (sym i) t) | inr i ↦ L.looks.done_seen n u h i ];
       failed_seen = λ n u q. elim (found_was n _ q) [ inl i ↦ sym (subst IsTrue_of (sym i) t) | inr i ↦ L.looks.failed_seen n u i ];
       empty_seen = λ n b q. elim (found_was n _ q) [ inl i ↦ (subst IsTrue_of (sym i) t).1 refl | inr i ↦ L.looks.empty_seen n b i ];

@@ -83,7 +83,7 @@ module _ (w : Group) (m a s : ℕ) (e : Entry) (L : Lawful w) (can : CanMark w m
     };
     looks = record {
       holds_is = L.looks.holds_is;
-      posted_seen = λ n b t h q. slot_stays (λ u. shown u ≡ ShowsPosted) b t (λ i. absurd (cc i)) (L.looks.posted_seen n b t h (looked_was n _ q));
+      posted_seen = λ n b t o h q. slot_stays (λ u. shown u ≡ ShowsPosted o) b t (λ i. absurd (cc i)) (L.looks.posted_seen n b t o h (looked_was n _ q));
       done_seen = λ n t h q. slot_stays (λ u. shown u ≡ ShowsDone h) n t (λ i. absurd (cc i)) (L.looks.done_seen n t h (looked_was n _ q));
       failed_seen = λ n t q. slot_stays (λ u. shown u ≡ ShowsFailed) n t (λ i. absurd (cc i)) (L.looks.failed_seen n t (looked_was n _ q));
       empty_seen = λ n b q. L.looks.empty_seen n b (looked_was n _ q);

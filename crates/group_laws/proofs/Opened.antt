@@ -105,7 +105,7 @@ module _ (w : Group) (x : Contents) (sound : IsSound w.place x) (open_ : IsFound
     };
     looks = record {
       holds_is = λ m. (λ t. clash (open_.holds m) t, λ h. nothing open_.holder h);
-      posted_seen = λ m a s h. nothing open_.holder h;
+      posted_seen = λ m a s o h. nothing open_.holder h;
       done_seen = λ m s h q. absurd (unlooked m _ q);
       failed_seen = λ m s q. absurd (unlooked m _ q);
       empty_seen = λ m b q. absurd (unlooked m _ q);

@@ -98,7 +98,7 @@ module _ (w : Group) (m s : ℕ) (e : Entry) (value : List ℕ) (L : Lawful w) (
   keeps_looks : Looks new
   keeps_looks = record {
     holds_is = L.looks.holds_is;
-    posted_seen = λ n b t h q. slot_into (λ u. shown u ≡ ShowsPosted) b t (λ _ _. refl) (λ _. L.looks.posted_seen n b t h (looked_was n _ q).1);
+    posted_seen = λ n b t o h q. slot_into (λ u. shown u ≡ ShowsPosted o) b t (λ i j. absurd (let was = L.looks.posted_seen n b t o h (looked_was n _ q).1 in let empty = can.empty in cc (was, empty, i, j))) (λ _. L.looks.posted_seen n b t o h (looked_was n _ q).1);
     done_seen = λ n t h q. let was = looked_was n _ q in slot_into (λ u. shown u ≡ ShowsDone h) n t (λ i j. absurd (was.0 i)) (λ _. L.looks.done_seen n t h was.1);
     failed_seen = λ n t q. let was = looked_was n _ q in slot_into (λ u. shown u ≡ ShowsFailed) n t (λ i j. absurd (was.0 i)) (λ _. L.looks.failed_seen n t was.1);
     empty_seen = λ n b q. L.looks.empty_seen n b (looked_was n _ q).1;

@@ -79,7 +79,7 @@ module _ (w : Group) (m from : ℕ) (n : Notices) (L : Lawful w) (can : CanRecei
     };
     looks = record {
       holds_is = L.looks.holds_is;
-      posted_seen = λ n b t h q. L.looks.posted_seen n b t h (looked_was n _ q).1;
+      posted_seen = λ n b t o h q. L.looks.posted_seen n b t o h (looked_was n _ q).1;
       done_seen = λ n t h q. L.looks.done_seen n t h (looked_was n _ q).1;
       failed_seen = λ n t q. L.looks.failed_seen n t (looked_was n _ q).1;
       empty_seen = λ o b q. if2_into (λ u. u ≡ None) from m None (w.mail o b) o b (λ _ _. refl) (λ _. L.looks.empty_seen o b (looked_was o _ q).1);

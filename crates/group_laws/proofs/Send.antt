@@ -70,7 +70,7 @@ module _ (w : Group) (m to : ℕ) (n : Notices) (L : Lawful w) (can : CanSend w 
     };
     looks = record {
       holds_is = L.looks.holds_is;
-      posted_seen = λ n b t h q. L.looks.posted_seen n b t h (looked_was n _ q).1;
+      posted_seen = λ n b t o h q. L.looks.posted_seen n b t o h (looked_was n _ q).1;
       done_seen = λ n t h q. L.looks.done_seen n t h (looked_was n _ q).1;
       failed_seen = λ n t q. L.looks.failed_seen n t (looked_was n _ q).1;
       empty_seen = λ o b q. let was = looked_was o _ q in if2_into (λ u. u ≡ None) m to (Some n) (w.mail o b) o b (λ i _. absurd (was.0 i)) (λ _. L.looks.empty_seen o b was.1);

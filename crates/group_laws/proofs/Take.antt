@@ -76,7 +76,7 @@ module _ (w : Group) (m a s : ℕ) (e : Entry) (L : Lawful w) (can : CanTake w m
   keeps_looks : Looks new
   keeps_looks = record {
     holds_is = L.looks.holds_is;
-    posted_seen = λ n b t h q. let was = looked_was n _ q in let me = (L.looks.holds_is m).0 can.holds in grind (arith, was);
+    posted_seen = λ n b t o h q. let was = looked_was n _ q in let me = (L.looks.holds_is m).0 can.holds in grind (arith, was);
     done_seen = λ n t h q. let was = looked_was n _ q in if2_into (λ u. shown u ≡ ShowsDone h) a s Taken (w.slot n t) n t (λ i j. let x = L.looks.done_seen n t h was.1 in grind (arith, x, can.entry)) (λ _. L.looks.done_seen n t h was.1);
     failed_seen = λ n t q. let was = looked_was n _ q in if2_into (λ u. shown u ≡ ShowsFailed) a s Taken (w.slot n t) n t (λ i j. let x = L.looks.failed_seen n t was.1 in grind (arith, x, can.entry)) (λ _. L.looks.failed_seen n t was.1);
     empty_seen = λ n b q. L.looks.empty_seen n b (looked_was n _ q).1;

@@ -63,7 +63,7 @@ module _ (w : Group) (m s : ℕ) (e : Entry) (L : Lawful w) (can : CanWithdraw w
   keeps_looks : Looks new
   keeps_looks = record {
     holds_is = L.looks.holds_is;
-    posted_seen = λ n b t h q. absurd (let was = looked_was n _ q in let me = (L.looks.holds_is m).0 can.holds in was.0 (cc (h, me)));
+    posted_seen = λ n b t o h q. absurd (let was = looked_was n _ q in let me = (L.looks.holds_is m).0 can.holds in was.0 (cc (h, me)));
     done_seen = λ n t h q. slot_stays (λ u. shown u ≡ ShowsDone h) n t (λ i. absurd (cc i)) (L.looks.done_seen n t h (looked_was n _ q).1);
     failed_seen = λ n t q. slot_stays (λ u. shown u ≡ ShowsFailed) n t (λ i. absurd (cc i)) (L.looks.failed_seen n t (looked_was n _ q).1);
     empty_seen = λ n b q. L.looks.empty_seen n b (looked_was n _ q).1;

@@ -47,7 +47,7 @@ pub record Slots (w : Group) : Type 0 where
 -- What a member loaded of words that only it may change stays true until its own next step. So a condition on a load is a condition on the state.
 pub record Looks (w : Group) : Type 0 where
   pub holds_is : (m : ℕ) → (w.holds m ≡ true) ↔ (w.holder ≡ Some m)
-  pub posted_seen : (m a s : ℕ) → w.holder ≡ Some m → In (SeenSlot a s ShowsPosted) (w.looked m) → shown (w.slot a s) ≡ ShowsPosted
+  pub posted_seen : (m a s n : ℕ) → w.holder ≡ Some m → In (SeenSlot a s (ShowsPosted n)) (w.looked m) → shown (w.slot a s) ≡ ShowsPosted n
   pub done_seen : (m s h : ℕ) → In (SeenSlot m s (ShowsDone h)) (w.looked m) → shown (w.slot m s) ≡ ShowsDone h
   pub failed_seen : (m s : ℕ) → In (SeenSlot m s ShowsFailed) (w.looked m) → shown (w.slot m s) ≡ ShowsFailed
   pub empty_seen : (m b : ℕ) → In (SeenMail m b false) (w.looked m) → w.mail m b ≡ None

@@ -9,3 +9,5 @@ pub mod Finishes
 pub mod Crashes
 pub mod Images
 pub mod Opening
+pub mod OpeningImages
+pub mod Posts

@@ -1,7 +1,8 @@
 -- The state of a group. Each field of a member's view is a function of the member; what a view has by key is a function of the key alone, since each key has one owner.
-use Rattle.std.specs.Prelude.{ℕ, Bool, true, false, List, Option, Some, None}
+use Rattle.std.specs.Prelude.{ℕ, Bool, true, false, List, length, Option, Some, None}
 use Rattle.log_entry.specs.declared.entry.Entry.{Entry}
 use Rattle.log_entry.specs.declared.entry.EntryName.{EntryName}
+use Rattle.log_entry.specs.Spelling.{words_of}
 use Rattle.group_laws.specs.declared.types.Slot.{Slot}
 use Rattle.group_laws.specs.declared.types.Slot.TheVariants.{Empty, Posted, Taken, Done, Failed}
 use Rattle.group_laws.specs.declared.types.Pending.{Pending}
@@ -14,7 +15,7 @@ use Rattle.group_laws.specs.Places.{Place}
 -- what the word of a slot tells
 abbrev pub shown : Slot → SlotWord
 shown Empty = words.Empty
-shown (Posted e) = words.Posted
+shown (Posted e) = words.Posted (length (words_of e))
 shown Taken = words.Taken
 shown (Done e h) = words.Done h
 shown (Failed e) = words.Failed

@@ -4,7 +4,7 @@ use Rattle.log_entry.specs.declared.entry.Body.{Body}
 use Rattle.log_entry.specs.declared.entry.Body.TheVariants.{Pointer, Embedded, Tombstone}
 use Rattle.log_entry.specs.declared.entry.Entry.{Entry}
 use Rattle.log_entry.specs.declared.entry.EntryName.{EntryName}
-use Rattle.log_entry.specs.Spelling.{HasSpelling}
+use Rattle.log_entry.specs.Spelling.{words_of, HasSpelling}
 use Rattle.store_image.specs.Facts.{In}
 use Rattle.group_laws.specs.declared.types.Slot.TheVariants.{Empty, Posted, Taken, Done, Failed}
 use Rattle.group_laws.specs.declared.types.Block.{Block}
@@ -73,7 +73,7 @@ pub record CanTake (w : Group) (m a s : ℕ) (e : Entry) : Type 0 where
   pub member : IsMember w m
   pub slot : IsSlot w a s
   pub holds : w.holds m ≡ true
-  pub seen : In (SeenSlot a s ShowsPosted) (w.looked m)
+  pub seen : In (SeenSlot a s (ShowsPosted (length (words_of e)))) (w.looked m)
   pub whole : w.broken m ≡ false
   pub entry : w.slot a s ≡ Posted e
 
@@ -202,7 +202,7 @@ pub record CanWithdraw (w : Group) (m s : ℕ) (e : Entry) : Type 0 where
   pub slot : IsSlot w m s
   pub own : owner w.place e.key ≡ m
   pub holds : w.holds m ≡ true
-  pub seen : In (SeenSlot m s ShowsPosted) (w.looked m)
+  pub seen : In (SeenSlot m s (ShowsPosted (length (words_of e)))) (w.looked m)
   pub posted : w.slot m s ≡ Posted e
 
 abbrev pub withdraws : Group → ℕ → ℕ → Entry → Group

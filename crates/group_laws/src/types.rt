@@ -35,7 +35,8 @@ pub struct Block {
 #[derive(Clone, Copy, Debug, PartialEq, Eq)]
 pub enum SlotWord {
     Empty,
-    Posted,
+    /// With the number of words of its entry.
+    Posted(u64),
     Taken,
     /// With the number of the member in whose log the entry is certain.
     Done(u32),

@@ -15,7 +15,7 @@ returns c =
     let e = c.in-Some.entry in
     let v = c.index_mut-view.result.now in
     let slot : (group_of g).slot c.args.owner c.args.slot ≡ Posted e = posted_is _ e (sym c.in_ok-entry.ensures ∙ c.in-Some.is) in
-    let can = (c.if-not-may_take_from.ensures e slot).0 refl in
+    let can = (c.if-not-may_take_from.ensures slot).0 refl in
     let at = view_at g m v c.requires can.member c.index_mut-view.ensures.value in (
       still_whole g m (record v { flying = c.push.new.self; taken = c.insert-2.new.self; looked = c.clear.new.self; took = c.push-2.new.self }) c.requires,
       (

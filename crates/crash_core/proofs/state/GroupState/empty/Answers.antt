@@ -2,6 +2,7 @@ use Rattle.std.proofs.Common.{◌≡◌, refl, ap, ◌∙◌}
 use Rattle.chunk_map.specs.declared.layouts.Geometry.{Geometry}
 use Rattle.group_laws.specs.Places.{Place, IsPlace}
 use Rattle.crash_core.proofs.Empties.{opened, lawful}
+use Rattle.crash_core.proofs.Blank.{is_opened}
 use Rattle.crash_core.proofs.state.GroupState.empty.Goals as goal
 
 pub returns : goal.returns
@@ -14,5 +15,6 @@ returns c =
       place = refl;
       whole = c.in_ok-views.ensures.count ∙ ap (λ (g : Geometry). g.group) c.geometry-geometry.ensures.value;
       opened = opened p place c.new.result c.new-2.result views c.new.ensures.empty c.new-2.ensures.empty all;
+      words = λ image blank. is_opened p place image blank c.new.result c.new-2.result views c.new.ensures.empty c.new-2.ensures.empty all;
       lawful = lawful p place c.new.result c.new-2.result views c.new.ensures.empty c.new-2.ensures.empty all;
     }

@@ -1,0 +1,19 @@
+// How long entries are.
+ghost use Rattle.std.specs.Prelude.{◌≡◌, length};
+ghost use Rattle.log_entry.specs.Spelling.{words_of};
+
+use log_entry::entry::{Body, Entry};
+
+/// How many words an entry has. It asks for no spelling, since a state may hold any entries.
+pub fn words_in(entry: &Entry) -> u64
+    ensures { result ≡ length (words_of entry.now) }
+{
+    match &entry.body {
+        Body::Embedded(value) => {
+            let bytes = value.bytes().len() as u64;
+            2 + bytes / 8 + (bytes % 8 + 7) / 8
+        }
+        Body::Pointer(_) => 2,
+        Body::Tombstone => 2,
+    }
+}
