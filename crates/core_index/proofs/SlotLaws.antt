@@ -9,7 +9,7 @@ use Rattle.core_index.specs.declared.types.Standee.{Standee}
 use Rattle.core_index.specs.declared.types.Standing.{Standing}
 use Rattle.core_index.specs.Records.{KeyRecord, standing_with, standing_at, is_tombstone, stands_alone, is_dead, Awaits, last_of, told, told_in, untold}
 use Rattle.core_index.specs.Slots.{record_with, known_with, AreBelow, home_in, home_alive, alive_at, count_of, standee_with, count_dead, dead_by, died, OnlyDead, TellsOne, IsSlot}
-use Rattle.core_index.proofs.StandingLaws.{found_version, at_told, at_told_other, alone_told, below_told, others, at_without, at_without_other, alone_without, below_without}
+use Rattle.core_index.proofs.StandingLaws.{found_version, at_told, at_told_other, alone_told, below_told, none_above, at_added, below_more, others, at_without, at_without_other, alone_without, below_without}
 use Rattle.core_index.proofs.DeadLaws.{dead_last, dead_alone, alive_is, alive_none, awaits_or_alive, settled_dead}
 
 same_standing : (s : Standing) (v home : ℕ) → s.version ≡ v → s.home ≡ home → s.told ≡ false → s ≡ standing_with v home false
@@ -151,8 +151,8 @@ shorter : (ss : List Standing) (v : ℕ) → length (others v ss) ≤ length ss
 shorter [] v = omega arith
 shorter (s ∷ ss) v = let rest = shorter ss v in elim (s.version == v) as (λ b. length (cond (not b) (s ∷ others v ss) (others v ss)) ≤ suc (length ss)) [ true ↦ omega (arith, rest) | false ↦ omega (arith, rest) ]
 
-pub gone_slot : (o : Option Head) (ss ts : List Standing) (v room places more : ℕ) → IsSlot o ss room places → ts ≡ others v ss → more ≡ places → IsSlot o ts room more
-gone_slot o ss ts v room places more is gone same = subst (λ (xs : List Standing). IsSlot o xs room more) (sym gone) (record { below = by o is.below; fits = let f = is.fits in let s = shorter ss v in omega (arith, f, s, same) })
+pub gone_slot : (o : Option Head) (ss ts : List Standing) (v room places more : ℕ) (alive now : Option ℕ) → IsSlot o ss room places alive → ts ≡ others v ss → more ≡ places → now ≡ alive_at (known_with o ts) → IsSlot o ts room more now
+gone_slot o ss ts v room places more alive now is gone same lives = record { below = subst (AreBelow o) (sym gone) (by o is.below); fits = let f = is.fits in let s = shorter ss v in let l = ap length gone in omega (arith, f, s, same, l); alive_is = lives }
   where
     by : (o : Option Head) → AreBelow o ss → AreBelow o (others v ss)
     by None none = ap (others v) none
@@ -162,8 +162,8 @@ told_length : (ss : List Standing) (v : ℕ) → length (told ss v) ≡ length s
 told_length [] v = refl
 told_length (s ∷ ss) v = let rest = told_length ss v in elim (s.version == v) as (λ b. length (cond b (standing_with s.version s.home true ∷ ss) (s ∷ told ss v)) ≡ suc (length ss)) [ true ↦ refl | false ↦ ap (λ (n : ℕ). suc n) rest ]
 
-pub told_slot : (o : Option Head) (ss ts : List Standing) (v room places more : ℕ) → IsSlot o ss room places → ts ≡ told ss v → more ≡ places → IsSlot o ts room more
-told_slot o ss ts v room places more is now same = subst (λ (xs : List Standing). IsSlot o xs room more) (sym now) (record { below = by o is.below; fits = let f = is.fits in let l = told_length ss v in omega (arith, f, l, same) })
+pub told_slot : (o : Option Head) (ss ts : List Standing) (v room places more : ℕ) (alive : Option ℕ) → IsSlot o ss room places alive → ts ≡ told ss v → more ≡ places → alive_at (known_with o ts) ≡ alive_at (known_with o ss) → IsSlot o ts room more alive
+told_slot o ss ts v room places more alive is now same lives = record { below = subst (AreBelow o) (sym now) (by o is.below); fits = let f = is.fits in let l = told_length ss v in let e = ap length now in omega (arith, f, l, same, e); alive_is = is.alive_is ∙ sym lives }
   where
     by : (o : Option Head) → AreBelow o ss → AreBelow o (told ss v)
     by None none = ap (λ (xs : List Standing). told xs v) none
@@ -185,3 +185,18 @@ settled_only o ss b n home below next =
     settled_dead o ss b n home (dead_by n home (last_of (known_with o ss)) (alive_at (known_with o ss)) (home_alive new)) below next
     (λ none. ap (dead_by n home (last_of (known_with o ss)) (alive_at (known_with o ss))) none)
     (λ now was is had. ap (dead_by n home (last_of (known_with o ss)) (alive_at (known_with o ss))) is ∙ ap (λ (p : Option ℕ). dead_by n home (last_of (known_with o ss)) p (Some now)) had)
+
+-- Who is alive once a change is settled: its own entry, but where it is dead at once.
+pub settled_alive : (o : Option Head) (ss : List Standing) (b : Body) (n home : ℕ) (alive : Option ℕ) → AreBelow o ss → n ≡ last_of (known_with o ss) + 1
+    → alive ≡ cond (is_dead (record { version = n; body = b; standing = ss ++ standing_with n home false ∷ [] }) n) None (Some home)
+    → alive ≡ home_alive (record { version = n; body = b; standing = ss ++ standing_with n home false ∷ [] })
+settled_alive o ss b n home alive below next is =
+    is ∙ ap (λ x. cond (is_dead (record { version = n; body = b; standing = ss ++ standing_with n home false ∷ [] }) n) None (home_in x)) (sym (at_added ss (standing_with n home false) (none_yet o below next))) where
+      none_yet : (o : Option Head) → AreBelow o ss → n ≡ last_of (known_with o ss) + 1 → standing_at ss n ≡ None
+      none_yet None empty next = ap (λ xs. standing_at xs n) empty
+      none_yet (Some h) all next = none_above ss n h.version all (omega (arith, next))
+
+-- and no entry stands above the new version
+pub settled_below : (o : Option Head) (ss : List Standing) (b : Body) (n home : ℕ) → AreBelow o ss → n ≡ last_of (known_with o ss) + 1 → AreBelow (Some (record { version = n; body = b })) (ss ++ standing_with n home false ∷ [])
+settled_below None ss b n home empty next = subst (λ xs. AllByRecursion (λ (s : Standing). s.version ≤ n) (xs ++ standing_with n home false ∷ [])) (sym empty) (omega arith, tt)
+settled_below (Some h) ss b n home all next = below_more ss (standing_with n home false) h.version n (omega (arith, next)) (omega arith) all

@@ -22,10 +22,6 @@ abbrev pub AreBelow : Option Head → List Standing → Type 0
 AreBelow None ss = ss ≡ []
 AreBelow (Some h) ss = AllByRecursion (λ s. s.version ≤ h.version) ss
 
-pub record IsSlot (h : Option Head) (ss : List Standing) (room places : ℕ) : Type 0 where
-  pub below : AreBelow h ss
-  pub fits : length ss + room ≤ places
-
 abbrev pub home_in : Option Standing → Option ℕ
 home_in None = None
 home_in (Some s) = Some s.home
@@ -37,6 +33,12 @@ home_alive r = if is_dead r r.version then None else home_in (standing_at r.stan
 abbrev pub alive_at : Option KeyRecord → Option ℕ
 alive_at None = None
 alive_at (Some r) = home_alive r
+
+-- What is true of a slot's fields: `alive` is the home of the last version's entry, so that no change looks for it among the entries.
+pub record IsSlot (h : Option Head) (ss : List Standing) (room places : ℕ) (alive : Option ℕ) : Type 0 where
+  pub below : AreBelow h ss
+  pub fits : length ss + room ≤ places
+  pub alive_is : alive ≡ alive_at (known_with h ss)
 
 abbrev pub count_of : Option ℕ → ℕ
 count_of None = 0

@@ -1,10 +1,10 @@
 // What the index keeps of one key.
-ghost use Rattle.std.specs.Prelude.{◌≡◌, ◌+◌, ◌-◌, ◌<◌, ◌≤◌, ℕ, Some, None, [], true, false, option_map, length, IfOk, OnOk, OnErr, IsTrue};
+ghost use Rattle.std.specs.Prelude.{◌≡◌, ◌+◌, ◌-◌, ◌<◌, ◌≤◌, ℕ, Some, None, [], true, false, if◌then◌else◌, option_map, length, IfOk, OnOk, OnErr, IsTrue};
 ghost use Rattle.std.specs.Bool.{Decides};
 ghost use Rattle.std.specs.List.{AllByRecursion};
 ghost use Rattle.log_entry.specs.declared.entry.EntryName.{EntryName};
 ghost use Rattle.core_index.specs.Noted.{Noted, NotedIfDead, count_lively, name_with};
-ghost use Rattle.core_index.specs.Records.{Awaits, standing_of, Shows, settled, opened, told_in, without, last_of, block_of, is_forgettable, live_version};
+ghost use Rattle.core_index.specs.Records.{Awaits, is_dead, standing_of, Shows, settled, opened, told_in, without, last_of, block_of, is_forgettable, live_version};
 ghost use Rattle.core_index.specs.Slots.{alive_at, home_alive, record_with, known_with, mortal, count_of, count_dead, dead_by, died, OnlyDead, TellsOne};
 
 use crate::notices::Notices;
@@ -24,6 +24,8 @@ pub struct Slot {
     head: Option<Head>,
     standing: Vec<Standing>,
     room: u64,
+    // The home of the last version's entry, where it stands and is not dead.
+    alive: Option<u32>,
 }
 
 impl Model for Slot {
@@ -34,7 +36,7 @@ impl Model for Slot {
 
     ghost view = { λ a. record { known = known_with a.head a.standing.items; room = a.room } };
 
-    ghost invariant = { λ a. IsSlot a.head a.standing.items a.room (vec_capacity a.standing) };
+    ghost invariant = { λ a. IsSlot a.head a.standing.items a.room (vec_capacity a.standing) a.alive };
 }
 
 impl Slot {
@@ -46,6 +48,7 @@ impl Slot {
             head: None,
             standing: Vec::with_capacity(alloc, 1)?,
             room: 1,
+            alive: None,
         })
     }
 
@@ -55,13 +58,16 @@ impl Slot {
         ensures { IfOk result (λ slot. slot ≡ record { known = Some (opened start); room = 0 }) }
     {
         let standing = untold(alloc, &start.standing)?;
+        let head = Head {
+            version: start.version,
+            body: start.body,
+        };
+        let alive = alive_in(&head, &standing);
         Ok(Slot {
-            head: Some(Head {
-                version: start.version,
-                body: start.body,
-            }),
+            head: Some(head),
             standing,
             room: 0,
+            alive,
         })
     }
 
@@ -98,10 +104,7 @@ impl Slot {
     pub fn alive(&self) -> Option<u32>
         ensures { result ≡ alive_at self.now.known }
     {
-        match &self.head {
-            None => None,
-            Some(head) => alive_in(head, &self.standing),
-        }
+        self.alive
     }
 
     // Records a finished change.
@@ -114,8 +117,7 @@ impl Slot {
         ensures mortal { mortal self.new + count_dead result.dead ≤ mortal self.old }
     {
         let last = self.last();
-        let alive = self.alive();
-        let old = replace(&mut self.head, Some(Head { version, body }));
+        let before = self.alive;
         self.standing
             .push(Standing {
                 version,
@@ -124,7 +126,10 @@ impl Slot {
             })
             .unwrap();
         self.room -= 1;
-        let dead = dead_by(Standee { version, home }, last, alive, self.alive());
+        let head = Head { version, body };
+        self.alive = alive_at_end(&head, &self.standing, home);
+        let dead = dead_by(Standee { version, home }, last, before, self.alive);
+        let old = replace(&mut self.head, Some(head));
         Settled {
             replaced: block_in(old),
             dead,
@@ -162,9 +167,10 @@ impl Slot {
         ensures mortal { mortal self.new + count_dead result ≤ mortal self.old }
     {
         let last = self.last();
-        let alive = self.alive();
+        let before = self.alive;
         take_out(&mut self.standing, version);
-        died(version, last, alive, self.alive())
+        self.alive = alive_of(&self.head, &self.standing);
+        died(version, last, before, self.alive)
     }
 
     // Notes each entry that is dead and was not told.
@@ -185,6 +191,7 @@ impl Slot {
         ensures { self.new ≡ record { known = None; room = self.old.room } }
     {
         self.head = None;
+        self.alive = None;
     }
 
     pub fn room(&self) -> u64
@@ -264,6 +271,27 @@ fn note_all(head: &Head, standing: &[Standing], key: Key, notices: &mut Notices)
             };
             notices.push(s.home, name);
         }
+    }
+}
+
+// The home of the last version's entry, which is the last of these and stands there, where it is not dead.
+fn alive_at_end(head: &Head, standing: &[Standing], home: u32) -> Option<u32>
+    ensures { result ≡ (if is_dead (record_with head.now standing.now) head.now.version then None else Some home) }
+{
+    if is_dead(head, standing, head.version) {
+        None
+    } else {
+        Some(home)
+    }
+}
+
+// The home of the last version's entry, looked for among the entries.
+fn alive_of(head: &Option<Head>, standing: &[Standing]) -> Option<u32>
+    ensures { result ≡ alive_at (known_with head.now standing.now) }
+{
+    match head {
+        None => None,
+        Some(head) => alive_in(head, standing),
     }
 }
 

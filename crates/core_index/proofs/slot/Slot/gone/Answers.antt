@@ -8,7 +8,7 @@ use Rattle.core_index.proofs.SlotLaws.{gone_only, gone_count, gone_slot}
 use Rattle.core_index.proofs.slot.Slot.gone.Goals as goal
 
 pub invariant_of-self : goal.invariant_of-self
-invariant_of-self c = gone_slot c.self.inside.head c.self.inside.standing.items c.take_out.new.standing.items c.args.version c.self.inside.room _ _ c.self.invariant c.take_out.ensures.items c.take_out.ensures.capacity
+invariant_of-self c = gone_slot c.self.inside.head c.self.inside.standing.items c.take_out.new.standing.items c.args.version c.self.inside.room _ _ c.self.inside.alive _ c.self.invariant c.take_out.ensures.items c.take_out.ensures.capacity (search rules)
 
 pub returns-clause-dead : goal.returns-clause-dead
 returns-clause-dead c =

@@ -12,4 +12,5 @@ invariant_of-result c =
     record {
       below = subst (λ (xs : List Standing). AllByRecursion (λ (s : Standing). s.version ≤ n) xs) (sym items) (untold_below c.args.start.standing.items n c.requires);
       fits = search rules;
+      alive_is = search rules;
     }

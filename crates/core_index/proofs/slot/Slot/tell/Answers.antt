@@ -5,7 +5,8 @@ use Rattle.core_index.proofs.SlotLaws.{told_slot, told_one, told_alive}
 use Rattle.core_index.proofs.slot.Slot.tell.Goals as goal
 
 pub invariant_of-self : goal.invariant_of-self
-invariant_of-self c = told_slot c.self.inside.head c.self.inside.standing.items c.tell_first.new.standing.items c.args.version c.self.inside.room _ _ c.self.invariant c.tell_first.ensures.items c.tell_first.ensures.capacity
+invariant_of-self c = told_slot c.self.inside.head c.self.inside.standing.items c.tell_first.new.standing.items c.args.version c.self.inside.room _ _ c.self.inside.alive c.self.invariant c.tell_first.ensures.items c.tell_first.ensures.capacity
+    (told_alive c.self.inside.head c.self.inside.standing.items c.tell_first.new.standing.items c.args.version c.tell_first.ensures.items)
 
 pub returns-clause-told : goal.returns-clause-told
 returns-clause-told c = λ _.
