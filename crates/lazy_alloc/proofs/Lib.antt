@@ -1,0 +1,17 @@
+pub mod BitLaws
+pub mod BlockLaws
+pub mod ClassLaws
+pub mod Clients
+pub mod CountLaws
+pub mod CutLaws
+pub mod FormLaws
+pub mod KeptLaws
+pub mod LinkLaws
+pub mod OpenLaws
+pub mod PlaceLaws
+pub mod RebuildLaws
+pub mod SetLaws
+pub mod StartLaws
+pub mod StepLaws
+pub mod ValueLaws
+pub mod WriteLaws

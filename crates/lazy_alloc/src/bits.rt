@@ -1,0 +1,96 @@
+// Sets of numbers as bits: up to 64 in one word, and more in a list of words.
+ghost use Rattle.std.specs.Prelude.{◌≡◌, ℕ, ◌+◌, ◌*◌, ◌/◌, ◌%◌, ◌<◌, ◌≤◌, ◌==◌, ◌||◌, ◌&&◌, not, length, true, false, IfSome, MatchOption};
+ghost use Rattle.lazy_alloc.specs.Bits.{has, has_bit};
+
+pub fn has(word: u64, at: u32) -> bool
+    requires { at < 64 }
+    ensures { result ≡ has word at }
+{
+    word >> at & 1 == 1
+}
+
+pub fn with(word: u64, at: u32) -> u64
+    requires { at < 64 }
+    ensures { (i : ℕ) → has result i ≡ (i == at || has word i) }
+{
+    word | 1 << at
+}
+
+// The same where `on` holds, and the word itself where it doesn't.
+pub fn with_if(word: u64, at: u32, on: bool) -> u64
+    requires { at < 64 }
+    ensures { (i : ℕ) → has result i ≡ ((i == at && on) || has word i) }
+{
+    if on { with(word, at) } else { word }
+}
+
+pub fn without(word: u64, at: u32) -> u64
+    requires { at < 64 }
+    ensures { (i : ℕ) → has result i ≡ (has word i && not (i == at)) }
+{
+    word & !(1 << at)
+}
+
+// The lowest bit that is set.
+pub fn lowest(word: u64) -> Option<u32>
+    ensures small { IfSome result (λ j. j < 64) }
+    ensures lowest { MatchOption result ((i : ℕ) → has word i ≡ false) (λ j. (has word j ≡ true) × ((i : ℕ) → i < j → has word i ≡ false)) }
+{
+    if word == 0 {
+        None
+    } else {
+        Some(word.trailing_zeros())
+    }
+}
+
+// The lowest bit that is not set.
+fn lowest_unset(word: u64) -> Option<u32>
+    ensures small { IfSome result (λ j. j < 64) }
+    ensures lowest { MatchOption result ((i : ℕ) → i < 64 → has word i ≡ true) (λ j. (has word j ≡ false) × ((i : ℕ) → i < j → has word i ≡ true)) }
+{
+    if word == u64::MAX {
+        None
+    } else {
+        Some(word.trailing_ones())
+    }
+}
+
+pub fn is_set(words: &[u64], at: u64) -> bool
+    requires { at < 64 * length words.now }
+    ensures { result ≡ has_bit words.now at }
+{
+    has(words[(at / 64) as usize], (at % 64) as u32)
+}
+
+pub fn set(words: &mut Vec<u64>, at: u64)
+    requires { at < 64 * length words.old.items }
+    ensures long { length words.new.items ≡ length words.old.items }
+    ensures each { (i : ℕ) → has_bit words.new.items i ≡ (i == at || has_bit words.old.items i) }
+{
+    let word = (at / 64) as usize;
+    words[word] = with(words[word], (at % 64) as u32);
+}
+
+pub fn clear(words: &mut Vec<u64>, at: u64)
+    requires { at < 64 * length words.old.items }
+    ensures long { length words.new.items ≡ length words.old.items }
+    ensures each { (i : ℕ) → has_bit words.new.items i ≡ (has_bit words.old.items i && not (i == at)) }
+{
+    let word = (at / 64) as usize;
+    words[word] = without(words[word], (at % 64) as u32);
+}
+
+// Of so many bits from a word on, the lowest that is not set, counted from that word's first bit.
+pub fn first_unset(words: &[u64], from: u64, count: u64) -> Option<u64>
+    requires { 64 * from + count ≤ 64 * length words.now }
+    ensures { MatchOption result ((i : ℕ) → i < count → has_bit words.now (64 * from + i) ≡ true)
+        (λ b. (b < count) × ((has_bit words.now (64 * from + b) ≡ false) × ((i : ℕ) → i < b → has_bit words.now (64 * from + i) ≡ true))) }
+{
+    for i in 0..count.div_ceil(64) {
+        if let Some(bit) = lowest_unset(words[(from + i) as usize]) {
+            let found = 64 * i + bit as u64;
+            return if found < count { Some(found) } else { None };
+        }
+    }
+    None
+}

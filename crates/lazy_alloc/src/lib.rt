@@ -1,0 +1,17 @@
+//! The allocator of one core's part: free chunks, and chunks that are cut into blocks for larger values.
+#![tactic(auto)]
+
+mod allocator;
+mod bits;
+mod chains;
+mod classes;
+mod counts;
+mod places;
+#[cfg(test)]
+mod tests;
+mod values;
+mod written;
+
+pub use allocator::Allocator;
+pub use classes::class_of;
+pub use values::value_in;

@@ -1,0 +1,167 @@
+// One part with four chunks of 4,096 bytes. Expected values are those of the format: a chunk of 16 units has a head of one,
+// and 7 blocks of class 1 or 3 of class 2.
+ghost use Rattle.std.specs.Prelude.{◌≡◌, ◌≤◌, ◌<◌, ◌+◌, ◌*◌, ◌^◌, ℕ, length, None, true, false, IfOk};
+ghost use Rattle.pm_region.specs.State.{IsTelling, InRange, cell_now};
+ghost use Rattle.pm_region.specs.Cell.{certain};
+ghost use Rattle.lazy_alloc.specs.Sets.{AreSets, chunk_class};
+ghost use Rattle.lazy_alloc.specs.Written.{PartLies};
+
+use crate::{Allocator, class_of, value_in};
+use chunk_map::{Head, Layout};
+use fs_model::Value;
+use pm_region::{Region, SplitRegion, SteadyRegion};
+use std::alloc::Global;
+use std::test::Fail;
+
+// The part with no chunk cut.
+fn free_part(alloc: Global) -> Result<Allocator, Fail>
+    ensures sets { IfOk result (λ a. AreSets a) }
+    ensures layout { IfOk result (λ a. a.layout ≡ record { cores = 1; group = 1; chunks = 4; chunk_bytes = 4096 }) }
+    ensures part { IfOk result (λ a. a.part ≡ 0) }
+    ensures uncut { IfOk result (λ a. (j : ℕ) → chunk_class a j ≡ None) }
+{
+    let layout = Layout::new(1, 1, 4, 4096)?;
+    let heads = [Head::Free; 4];
+    Ok(Allocator::rebuild(alloc, layout, 0, &heads, &[])?)
+}
+
+fn take(a: &mut Allocator, class: u32, may_cut: bool) -> Option<u64>
+    requires low { 1 ≤ class }
+    requires high { class ≤ 2 }
+    requires sets { AreSets a.old }
+    requires layout { a.old.layout ≡ record { cores = 1; group = 1; chunks = 4; chunk_bytes = 4096 } }
+    ensures sets { AreSets a.new }
+    ensures layout { a.new.layout ≡ record { cores = 1; group = 1; chunks = 4; chunk_bytes = 4096 } }
+{
+    a.take(class, may_cut)
+}
+
+fn put_back(a: &mut Allocator, pointer: u64)
+    requires sets { AreSets a.old }
+    requires layout { a.old.layout ≡ record { cores = 1; group = 1; chunks = 4; chunk_bytes = 4096 } }
+    ensures sets { AreSets a.new }
+    ensures layout { a.new.layout ≡ record { cores = 1; group = 1; chunks = 4; chunk_bytes = 4096 } }
+{
+    if a.is_allocated(pointer) {
+        a.put_back(pointer);
+    }
+}
+
+// The chunk that the log gets, which comes back at once.
+fn lend_chunk(a: &mut Allocator) -> Option<u32>
+    requires { AreSets a.old }
+{
+    let chunk = a.take_chunk()?;
+    a.give_chunk(chunk);
+    Some(chunk)
+}
+
+#[test]
+fn lowest_blocks(rt: HostRuntime) -> Result<(), Fail> {
+    let mut a = free_part(rt.alloc())?;
+    for pointer in [17, 19, 21, 23, 25, 27, 29, 33] {
+        assert_eq!(rt; take(&mut a, 1, true), Some(pointer));
+    }
+    assert_eq!(rt; (a.free_chunks(), a.free_blocks(1)), (2, 6));
+    put_back(&mut a, 21);
+    put_back(&mut a, 17);
+    assert_eq!(rt; a.free_blocks(1), 8);
+    assert_eq!(rt; take(&mut a, 1, true), Some(17));
+    assert_eq!(rt; take(&mut a, 1, true), Some(21));
+    assert_eq!(rt; take(&mut a, 2, false), None);
+    assert_eq!(rt; lend_chunk(&mut a), Some(2));
+    Ok(())
+}
+
+#[test]
+fn known_blocks(rt: HostRuntime) -> Result<(), Fail> {
+    let layout = Layout::new(1, 1, 4, 4096)?;
+    let heads = [
+        Head::Log { tail: 8 },
+        Head::Data { class: 1 },
+        Head::Free,
+        Head::Data { class: 2 },
+    ];
+    let mut a = Allocator::rebuild(rt.alloc(), layout, 0, &heads, &[37, 33, 33, 65, 66, 17])?;
+    assert_eq!(rt;
+        (a.free_chunks(), a.free_blocks(1), a.free_blocks(2)),
+        (1, 5, 2)
+    );
+    assert_eq!(rt;
+        [33, 37, 65, 66, 17].map(|p| a.is_allocated(p)),
+        [true, true, true, false, false]
+    );
+    assert_eq!(rt; take(&mut a, 1, false), Some(35));
+    assert_eq!(rt; take(&mut a, 2, false), Some(69));
+    Ok(())
+}
+
+#[test]
+fn classes(rt: HostRuntime) {
+    let least = [
+        class_of(256),
+        class_of(504),
+        class_of(505),
+        class_of(1016),
+        class_of(1017),
+        class_of(1048568),
+    ];
+    assert_eq!(rt; least, [1, 1, 2, 2, 3, 12]);
+}
+
+// Puts a value into a block of class 2 and reads it back.
+fn store<R: Region>(
+    alloc: Global,
+    a: &mut Allocator,
+    region: &mut R,
+    value: &[u8],
+) -> Result<Option<(u64, Value)>, Fail>
+    requires sets { AreSets a.old }
+    requires layout { a.old.layout ≡ record { cores = 1; group = 1; chunks = 4; chunk_bytes = 4096 } }
+    requires part { a.old.part ≡ 0 }
+    requires uncut { (j : ℕ) → chunk_class a.old j ≡ None }
+    requires long { 505 ≤ length value.now }
+    requires short { length value.now ≤ 1016 }
+    requires lies { PartLies (R.state region.old).frame a.old }
+    requires zero { IsTelling (R.state region.old) → (w : ℕ) → InRange (R.state region.old).frame w → cell_now (R.state region.old) w ≡ certain 0 }
+{
+    let Some(pointer) = a.take(2, true) else {
+        return Ok(None);
+    };
+    a.write_value(region, pointer, value)?;
+    let read = a.read_value(alloc, region, pointer)?;
+    Ok(Some((pointer, read)))
+}
+
+fn word(region: &SteadyRegion, at: u64) -> u64 {
+    if region.first() == 0 && at < region.words() {
+        region.load(at)
+    } else {
+        0
+    }
+}
+
+#[test]
+fn a_value(rt: HostRuntime) -> Result<(), Fail> {
+    let alloc = rt.alloc();
+    let mut region = SteadyRegion::new(alloc, Vec::new(alloc), 100)?;
+    region.create(alloc, 2560)?;
+    let mut a = free_part(alloc)?;
+    let mut value = vec![in alloc; 7; 1000]?;
+    assert_eq!(rt; value.len(), 1000);
+    value[0] = 1;
+    value[999] = 2;
+    let (pointer, read) = store(alloc, &mut a, &mut region, &value)?.ok_or("no block")?;
+    assert_eq!(rt; pointer, 17);
+    assert_eq!(rt; read.bytes(), value.as_slice());
+    assert_eq!(rt;
+        [512, 544, 545, 669, 670].map(|at| word(&region, at)),
+        [514, 1000, 0x0707_0707_0707_0701, 0x0207_0707_0707_0707, 0]
+    );
+    if region.first() == 0 && region.words() == 2560 {
+        let held = value_in(alloc, &region, 17, 2)?;
+        assert_eq!(rt; held.ok_or("no value")?.bytes(), value.as_slice());
+        assert!(rt; value_in(alloc, &region, 17, 1)?.is_none());
+    }
+    Ok(())
+}
