@@ -23,7 +23,7 @@ then_both Less b = refl
 then_both Equal b = refl
 then_both Greater b = refl
 
-same_name : (k v j u : ℕ) → is_eq (name_cmp (k, v) (j, u)) ≡ ((k == j) && (v == u))
+pub same_name : (k v j u : ℕ) → is_eq (name_cmp (k, v) (j, u)) ≡ ((k == j) && (v == u))
 same_name k v j u = then_both (nat_cmp k j) (nat_cmp v u) ∙ (λ i. unsigned_tied k j i && unsigned_tied v u i)
 
 -- what an entry that contradicts another is, and what one is that doesn't
@@ -46,7 +46,7 @@ contradicts_same x y z a b body core =
     let version : y.entry.version ≡ z.entry.version = a.version ∙ sym b.version in
     (λ i. x.entry.key == key i && x.entry.version == version i && not (same_body x.entry.body (body i) && x.core == core i))
 
-any_in : {X : Type 0} (test : X → Bool) (xs : List X) (x : X) → In x xs → test x ≡ true → list_any test xs ≡ true
+pub any_in : {X : Type 0} (test : X → Bool) (xs : List X) (x : X) → In x xs → test x ≡ true → list_any test xs ≡ true
 any_in test [] x h is = absurd h
 any_in test (y ∷ ys) x (inl p) is = rw (sym (ap test p) ∙ is) refl
 any_in test (y ∷ ys) x (inr h) is = elim (test y) as (λ b. (b || list_any test ys) ≡ true) [

@@ -1,6 +1,6 @@
 -- What is said of a region by its superblock.
-use Rattle.std.proofs.Common.{◌≡◌, ℕ, ◌+◌, ◌*◌, ◌/◌, Option, Some, None, refl, sym, ◌∙◌, ap, subst, arith}
-use Rattle.std.specs.Prelude.{Result, Ok, Err, IfOk, Vec}
+use Rattle.std.proofs.Common.{◌≡◌, ℕ, ◌<◌, ◌+◌, ◌*◌, ◌/◌, Option, Some, None, refl, sym, ◌∙◌, ap, subst, arith}
+use Rattle.std.specs.Prelude.{Result, Ok, Err, IfOk, Vec, slice_index_or}
 use Rattle.std.specs.Result.{result_err}
 use Rattle.std.specs.Global.{Global}
 use Rattle.pm_region.specs.State.{Frame}
@@ -12,12 +12,15 @@ use Rattle.store_image.proofs.Places.{layout_numbers}
 use Rattle.store_image.specs.declared.types.PlacedEntry.{PlacedEntry}
 use Rattle.store_image.specs.declared.types.Fault.{Fault}
 use Rattle.store_image.specs.Soundness.{damage}
-use Rattle.store_image.specs.Facts.{IsStore}
+use Rattle.store_image.specs.Facts.{KeepsRules, IsStore}
 use Rattle.store_image.proofs.Loops.{judged}
 use Rattle.store_image.proofs.SoundFacts.{sound_store}
 use Rattle.store_image.specs.Parts.{all_entries}
-use Rattle.recover.specs.Winning.{winners_of, AreWinners}
-use Rattle.recover.specs.Gathering.{Judges, AllSpell}
+use Rattle.recover.specs.declared.shares.Share.{Share}
+use Rattle.recover.specs.declared.types.CoreStart.{CoreStart}
+use Rattle.recover.specs.Gathering.{AreAgreed, Agrees, Judges, AllSpell}
+use Rattle.recover.specs.Shares.{AreShares, Shares}
+use Rattle.recover.specs.Heads.{IsStartOf, Starts, AllStart}
 use Rattle.recover.specs.Regions.{Covers}
 
 module _ (bytes : ℕ) (image : ℕ → ℕ) where
@@ -58,16 +61,49 @@ covers_all f l bytes first words layout total = record {
 
 -- the fault of what was judged
 pub judged_fault : (l : Geometry) (image : ℕ → ℕ) (r : Result (Vec PlacedEntry Global) Fault) → Judges l image r → result_err r ≡ damage l image
-judged_fault l image (Ok ws) is = sym is.0
+judged_fault l image (Ok ws) is = sym is
 judged_fault l image (Err f) is = sym is
 
--- the winners of what was judged
-pub judged_made : (r : Result (Vec PlacedEntry Global) Fault) (v : Vec PlacedEntry Global) → IfOk r (λ ws. AreWinners ws.items) → r ≡ Ok v → AreWinners v.items
-judged_made r v made is = subst (λ (r : Result (Vec PlacedEntry Global) Fault). IfOk r (λ ws. AreWinners ws.items)) is made
+module _ (l : Geometry) (image : ℕ → ℕ) where
+  -- the entries that agree, or the fault
+  pub agreed_of : (r : Result (Vec PlacedEntry Global) Fault) (v : Vec PlacedEntry Global) → Agrees l image r → r ≡ Ok v → AreAgreed l image v.items × AllSpell l image
+  agreed_of r v told is = subst (Agrees l image) is told
 
-pub judged_sound : (l : Geometry) (image : ℕ → ℕ) (r : Result (Vec PlacedEntry Global) Fault) (v : Vec PlacedEntry Global) → Judges l image r → r ≡ Ok v → (damage l image ≡ None) × (v.items ≡ winners_of (all_entries l image)) × AllSpell l image
-judged_sound l image r v told is = subst (Judges l image) is told
+  pub agreed_fault : (r : Result (Vec PlacedEntry Global) Fault) (f : Fault) → Agrees l image r → r ≡ Err f → damage l image ≡ Some f
+  agreed_fault r f told is = subst (Agrees l image) is told
+
+  -- the winners that were judged
+  pub judged_ok : (r : Result (Vec PlacedEntry Global) Fault) (v : Vec PlacedEntry Global) → Judges l image r → r ≡ Ok v → damage l image ≡ None
+  judged_ok r v told is = subst (Judges l image) is told
+
+  pub judged_err : (r : Result (Vec PlacedEntry Global) Fault) (f : Fault) → Judges l image r → r ≡ Err f → damage l image ≡ Some f
+  judged_err r f told is = subst (Judges l image) is told
+
+  -- the shares
+  pub shares_ok : (r : Result (Vec Share Global) Fault) (v : Vec Share Global) → Shares l image r → r ≡ Ok v → (damage l image ≡ None) × AllSpell l image × AreShares l (all_entries l image) v.items
+  shares_ok r v told is = subst (Shares l image) is told
+
+  pub shares_err : (r : Result (Vec Share Global) Fault) (f : Fault) → Shares l image r → r ≡ Err f → damage l image ≡ Some f
+  shares_err r f told is = subst (Shares l image) is told
+
+  -- the starts
+  pub start_ok : (c : ℕ) (r : Result CoreStart Fault) (start : CoreStart) → Starts l image c r → r ≡ Ok start → IsStartOf l image c start
+  start_ok c r start told is = subst (Starts l image c) is told
+
+  pub starts_ok : (r : Result (Vec CoreStart Global) Fault) (v : Vec CoreStart Global) → AllStart l image r → r ≡ Ok v → (c : ℕ) (d : CoreStart) → c < l.cores → IsStartOf l image c (slice_index_or v.items c d)
+  starts_ok r v told is = subst (AllStart l image) is told
+
+  pub starts_err : (r : Result (Vec CoreStart Global) Fault) (f : Fault) → AllStart l image r → r ≡ Err f → ⊥
+  starts_err r f told is = subst (AllStart l image) is told
+
+-- whatever was answered: what holds of each answer holds of this one
+pub ok_of : {X E : Type 0} (P : X → Type 0) (r : Result X E) (v : X) → IfOk r P → r ≡ Ok v → P v
+ok_of P r v holds is = subst (λ (r : Result _ _). IfOk r P) is holds
 
 -- a region that broke no rule
 pub store_found : (bytes : ℕ) (image : ℕ → ℕ) (l : Geometry) → superblock_rule bytes image ≡ None → l ≡ layout_of image → damage l image ≡ None → IsStore bytes image
 store_found bytes image l kept is none = sound_store bytes image (sym (judged bytes image l None kept is (sym none)))
+
+-- and keeps them all
+pub rules_kept : (bytes : ℕ) (image : ℕ → ℕ) (l : Geometry) → superblock_rule bytes image ≡ None → l ≡ layout_of image → damage l image ≡ None → KeepsRules l image
+rules_kept bytes image l kept is none = subst (λ (k : Geometry). KeepsRules k image) (sym is) (store_found bytes image l kept is none).rules

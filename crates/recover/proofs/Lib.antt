@@ -1,3 +1,4 @@
+pub mod ListLaws
 pub mod WinningLaws
 pub mod ClashLaws
 pub mod RegionLaws
@@ -8,6 +9,10 @@ pub mod SpellLaws
 pub mod FoundLaws
 pub mod LogLaws
 pub mod MadeLaws
+pub mod StandingLaws
+pub mod ShareLaws
+pub mod HeadLaws
+pub mod StartLaws
 pub mod StandLaws
 pub mod PairLaws
 pub mod Clients

@@ -1,22 +1,18 @@
 -- The Log chunks of a part, one after another.
-use Rattle.std.proofs.Common.{◌≡◌, ⊎_elim, ℕ, ◌+◌, ◌<◌, ◌≤◌, ◌==◌, ltb, true, false, cond, List, [], ◌∷◌, ◌++◌, length, Option, Some, None, refl, sym, ◌∙◌, ap, subst, arith, append-nil}
+use Rattle.std.proofs.Common.{◌≡◌, ⊎_elim, ℕ, ◌+◌, ◌<◌, ◌≤◌, ◌==◌, true, false, cond, List, [], ◌∷◌, ◌++◌, length, Option, Some, None, refl, sym, ◌∙◌, ap, subst, arith, append-nil}
 use Rattle.std.specs.Prelude.{IfSome, slice_index_or}
 use Rattle.std.specs.List.{AllByRecursion}
 use Rattle.std.proofs.lemmas.List.{get_or_push}
 use Rattle.std.proofs.Math.ListN.{get_or-append}
-use Rattle.std.proofs.lemmas.Bool.{eq-eqb, ne_eqb, ltb-true, ltb-false, cases_eq}
+use Rattle.std.proofs.lemmas.Bool.{eq-eqb, ne_eqb, cases_eq}
 use Rattle.chunk_map.specs.declared.layouts.Geometry.{Geometry}
-use Rattle.chunk_map.specs.Layouts.{chunk_first, head_at}
 use Rattle.core_log.specs.declared.types.LogChunk.{LogChunk}
 use Rattle.core_log.specs.Log.{tail_of, chunk_with, IsChunkOf}
 use Rattle.core_log.specs.Fresh.{HasEachOnce}
-use Rattle.recover.specs.Logs.{tail_behind, log_tail, with_log}
+use Rattle.recover.specs.Logs.{with_log}
+use Rattle.recover.proofs.ListLaws.{or_else, or_none}
 
 -- the tail of a chunk in a list with one more at its end
-abbrev or_else : {X : Type 0} → Option X → Option X → Option X
-or_else None y = y
-or_else (Some x) y = Some x
-
 tail_append : (cs : List LogChunk) (c : LogChunk) (j : ℕ) → tail_of (cs ++ c ∷ []) j ≡ or_else (tail_of cs j) (cond (c.chunk == j) (Some c.tail) None)
 tail_append [] c j = refl
 tail_append (d ∷ cs) c j = elim (d.chunk == j) as (λ b. cond b (Some d.tail) (tail_of (cs ++ c ∷ []) j) ≡ or_else (cond b (Some d.tail) (tail_of cs j)) (cond (c.chunk == j) (Some c.tail) None)) [
@@ -57,35 +53,26 @@ pub all_more : (l : Geometry) (cs : List LogChunk) (c : LogChunk) → AllByRecur
 all_more l [] c all is = (is, tt)
 all_more l (d ∷ cs) c all is = (all.0, all_more l cs c all.1 is)
 
--- The list has exactly the Log chunks of the part below a number.
-module _ (l : Geometry) (image : ℕ → ℕ) (part : ℕ) where
-  abbrev tail_there : ℕ → Option ℕ
-  tail_there j = tail_behind (head_at l image (chunk_first l part j))
-
+-- The list has exactly the Log chunks below a number, by the tails of all chunks.
+module _ (tails : ℕ → Option ℕ) where
   abbrev pub HasBelow : ℕ → List LogChunk → Type 0
-  HasBelow n cs = (j : ℕ) → j < n → tail_of cs j ≡ tail_there j
+  HasBelow n cs = (j : ℕ) → j < n → tail_of cs j ≡ tails j
 
-  pub below_log : (n tail : ℕ) (cs : List LogChunk) → HasBelow n cs → EndsBefore n cs → tail_there n ≡ Some tail → HasBelow (n + 1) (cs ++ chunk_with n tail ∷ [])
+  below_log : (n tail : ℕ) (cs : List LogChunk) → HasBelow n cs → EndsBefore n cs → tails n ≡ Some tail → HasBelow (n + 1) (cs ++ chunk_with n tail ∷ [])
   below_log n tail cs has ends head j lt = tail_append cs (chunk_with n tail) j ∙ ⊎_elim
-      (λ same. ap (λ o. or_else o (cond (n == j) (Some tail) None)) (ends j (omega (arith, same))) ∙ ap (λ b. cond b (Some tail) None) (eq-eqb n j (sym same)) ∙ sym (ap (λ k. tail_there k) same ∙ head))
+      (λ same. ap (λ o. or_else o (cond (n == j) (Some tail) None)) (ends j (omega (arith, same))) ∙ ap (λ b. cond b (Some tail) None) (eq-eqb n j (sym same)) ∙ sym (ap tails same ∙ head))
       (λ ne. ap (λ b. or_else (tail_of cs j) (cond b (Some tail) None)) (ne_eqb n j (λ e. ne (sym e))) ∙ or_none (tail_of cs j) ∙ has j (omega (arith, lt, ne)))
       (cases_eq j n)
-    where
-      or_none : (o : Option ℕ) → or_else o None ≡ o
-      or_none None = refl
-      or_none (Some x) = refl
 
-  pub below_other : (n : ℕ) (cs : List LogChunk) → HasBelow n cs → EndsBefore n cs → tail_there n ≡ None → HasBelow (n + 1) cs
+  below_other : (n : ℕ) (cs : List LogChunk) → HasBelow n cs → EndsBefore n cs → tails n ≡ None → HasBelow (n + 1) cs
   below_other n cs has ends none j lt = ⊎_elim
-      (λ same. ends j (omega (arith, same)) ∙ sym (ap (λ k. tail_there k) same ∙ none))
+      (λ same. ends j (omega (arith, same)) ∙ sym (ap tails same ∙ none))
       (λ ne. has j (omega (arith, lt, ne)))
       (cases_eq j n)
 
-  pub has_all : (n : ℕ) (cs : List LogChunk) → l.chunks ≤ n → n ≤ l.chunks → HasBelow n cs → EndsBefore n cs → (j : ℕ) → tail_of cs j ≡ log_tail l image part j
-  has_all n cs low high has ends j = elim (ltb j l.chunks) as (λ b. ltb j l.chunks ≡ b → tail_of cs j ≡ cond b (tail_there j) None) [
-    | true ↦ λ e. (let lt = ltb-true j l.chunks e in has j (omega (arith, lt, low)))
-    | false ↦ λ e. (let le = ltb-false j l.chunks e in ends j (omega (arith, le, high)))
-  ] refl
+  pub has_more : (n : ℕ) (cs new : List LogChunk) (o : Option ℕ) → new ≡ cs ++ with_log n o → o ≡ tails n → EndsBefore n cs → HasBelow n cs → HasBelow (n + 1) new
+  has_more n cs new None is there ends has = subst (HasBelow (n + 1)) (sym (is ∙ append-nil cs)) (below_other n cs has ends (sym there))
+  has_more n cs new (Some tail) is there ends has = subst (HasBelow (n + 1)) (sym is) (below_log n tail cs has ends (sym there))
 
 -- a list of Log chunks of the part, each once, none of them from a number on
 pub record Collects (l : Geometry) (n : ℕ) (cs : List LogChunk) : Type 0 where
@@ -103,10 +90,6 @@ collects_more l n cs new (Some tail) is fits so = subst (Collects l (n + 1)) (sy
   once = once_more n cs (chunk_with n tail) so.once so.ends refl;
   ends = ends_more n cs (chunk_with n tail) so.ends refl;
 })
-
-pub has_more : (l : Geometry) (image : ℕ → ℕ) (part n : ℕ) (cs new : List LogChunk) (o : Option ℕ) → new ≡ cs ++ with_log n o → o ≡ tail_behind (head_at l image (chunk_first l part n)) → EndsBefore n cs → HasBelow l image part n cs → HasBelow l image part (n + 1) new
-has_more l image part n cs new None is there ends has = subst (HasBelow l image part (n + 1)) (sym (is ∙ append-nil cs)) (below_other l image part n cs has ends (sym there))
-has_more l image part n cs new (Some tail) is there ends has = subst (HasBelow l image part (n + 1)) (sym is) (below_log l image part n tail cs has ends (sym there))
 
 -- what holds of each of a list by its index, and of one more
 pub each_more : (X : Type 0) (P : ℕ → X → Type 0) (xs new : List X) (x : X) (n : ℕ) → length xs ≡ n → new ≡ xs ++ x ∷ [] → ((c : ℕ) (d : X) → c < n → P c (slice_index_or xs c d)) → P n x → (c : ℕ) (d : X) → c < n + 1 → P c (slice_index_or new c d)

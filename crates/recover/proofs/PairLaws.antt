@@ -1,61 +1,159 @@
--- The pairs of winners are those of the recovered cells.
-use Rattle.std.proofs.Common.{◌≡◌, ℕ, ◌+◌, ◌<◌, ◌≤◌, List, [], ◌∷◌, ◌++◌, length, map, drop, get_or, Option, Some, None, refl, sym, ◌∙◌, ap, subst, append_assoc, append-nil}
-use Rattle.std.specs.Option.{option_to_list, option_and_then}
-use Rattle.std.proofs.lemmas.List.{drop_more}
-use Rattle.std.proofs.Math.ListN.{drop_of_length-le}
+-- The live pairs are those of the recovered cells.
+use Rattle.std.proofs.Common.{◌≡◌, ◌≢◌, ⊎_elim, inl, inr, ℕ, ◌+◌, ◌<◌, ◌≤◌, ltb, ◌==◌, List, [], ◌∷◌, ◌++◌, length, get_or, map, Bool, true, false, cond, Option, Some, None, refl, sym, ◌∙◌, ap, subst, arith, append_assoc}
+use Rattle.std.specs.Prelude.{slice_index_or}
+use Rattle.std.specs.Option.{option_and_then}
+use Rattle.std.specs.List.{AllByRecursion}
+use Rattle.std.specs.List.{list_any}
+use Rattle.std.specs.List.Sorted.{IsStrictlySortedBy}
+use Rattle.std.specs.Ordering.{nat_cmp}
+use Rattle.std.specs.declared.cmp.Ordering.TheVariants.{Less}
+use Rattle.std.specs.Cmp.{ranked, unsigned_tied}
+use Rattle.std.specs.BTreeMap.{is_at}
+use Rattle.std.specs.BTreeSet.{BTreeSet, contains, Updates}
+use Rattle.std.proofs.lemmas.Bool.{eqb-true, eqb-false, ltb-true, ltb-false, cases_eq}
+use Rattle.std.proofs.lemmas.List.{get_or_past, get_or_read}
+use Rattle.std.proofs.lemmas.Option.{slice_get-get_or}
+use Rattle.std.proofs.lemmas.Map.Keys.{sorted_head, sorted_tail}
 use Rattle.fs_model.specs.declared.model.Pair.{Pair}
-use Rattle.log_entry.specs.declared.entry.Entry.{Entry}
+use Rattle.log_entry.specs.declared.entry.EntryName.{EntryName}
+use Rattle.log_entry.specs.declared.entry.Body.{Body}
+use Rattle.log_entry.specs.declared.entry.Body.TheVariants.{Pointer, Embedded, Tombstone}
 use Rattle.chunk_map.specs.declared.layouts.Geometry.{Geometry}
 use Rattle.chunk_map.specs.Layouts.{owner}
 use Rattle.store_image.specs.declared.types.PlacedEntry.{PlacedEntry}
-use Rattle.store_image.specs.Parts.{all_entries, held}
-use Rattle.store_image.specs.Winners.{winner_in, keys_of, cell_by, recovered}
-use Rattle.store_image.specs.Listing.{ListsCells, with_pair}
-use Rattle.store_image.proofs.SoundFacts.{winner_is}
-use Rattle.store_image.proofs.Listings.{pairs_of, lists_pairs}
-use Rattle.recover.specs.Winning.{winners_of}
-use Rattle.recover.proofs.JudgeLaws.{winners_at}
+use Rattle.store_image.specs.Parts.{held}
+use Rattle.store_image.specs.Winners.{winner, cell_by, recovered}
+use Rattle.store_image.specs.Listing.{IsRising, lookup, ListsCells, with_pair}
+use Rattle.store_image.specs.Facts.{In}
+use Rattle.store_image.proofs.Listings.{pairs_of}
+use Rattle.core_index.specs.Records.{KeyRecord, is_tombstone, live_version}
+use Rattle.core_index.specs.Index.{known_at}
+use Rattle.lazy_alloc.specs.Sets.{chunk_is_due}
+use Rattle.recover.specs.declared.types.CoreStart.{CoreStart}
+use Rattle.recover.specs.declared.types.Recovered.{Recovered}
+use Rattle.recover.specs.Starts.{KnownAs}
+use Rattle.recover.specs.Listing.{cell_known}
+use Rattle.recover.specs.Recovering.{IsOf}
+use Rattle.recover.proofs.ListLaws.{any_found}
 
-module _ (l : Geometry) (image : ℕ → ℕ) where
-  -- what an entry leaves of its key
-  abbrev pub left_by : Entry → Option (List ℕ)
-  left_by e = cell_by (held l image (owner l e.key)) e.body
+-- the pairs of rising keys list the cells, where each key that has one is among them
+module _ (cells : ℕ → Option (List ℕ)) where
+  above_pairs : (b : ℕ) (ks : List ℕ) → AllByRecursion (λ y. b < y) ks → AllByRecursion (λ y. b < y) (map (λ (x : Pair). x.key) (pairs_of cells ks))
+  above_pairs b [] all = tt
+  above_pairs b (k ∷ ks) all = elim (cells k) as (λ o. AllByRecursion (λ y. b < y) (map (λ (x : Pair). x.key) (with_pair k o (pairs_of cells ks)))) [
+    | None ↦ above_pairs b ks all.1
+    | Some v ↦ (all.0, above_pairs b ks all.1)
+  ]
 
-  -- the live pairs of entries
-  abbrev pub pairs_left : List Entry → List Pair
-  pairs_left [] = []
-  pairs_left (e ∷ es) = with_pair e.key (left_by e) (pairs_left es)
+  rising_pairs : (ks : List ℕ) → IsRising ks → IsRising (map (λ (x : Pair). x.key) (pairs_of cells ks))
+  rising_pairs [] is = tt
+  rising_pairs (k ∷ ks) is = elim (cells k) as (λ o. IsRising (map (λ (x : Pair). x.key) (with_pair k o (pairs_of cells ks)))) [
+    | None ↦ rising_pairs ks is.1
+    | Some v ↦ (above_pairs k ks is.0, rising_pairs ks is.1)
+  ]
 
-  abbrev entries_at : List ℕ → List Entry
-  entries_at ks = map (λ (x : PlacedEntry). x.entry) (winners_at (all_entries l image) ks)
+  looked_here : (k x : ℕ) (xs : List ℕ) → ((In k (x ∷ xs) → ⊥) → cells k ≡ None) → (((In k xs → ⊥) → cells k ≡ None) → lookup k (pairs_of cells xs) ≡ cells k) → (o : Option (List ℕ)) → cells x ≡ o → lookup k (with_pair x o (pairs_of cells xs)) ≡ cells k
+  looked_here k x xs none again None e = again not_here where
+    not_here : (In k xs → ⊥) → cells k ≡ None
+    not_here h = elim (k == x) as (λ c. (k == x) ≡ c → cells k ≡ None) [
+      | true ↦ λ q. ap cells (eqb-true k x q) ∙ e
+      | false ↦ λ q. none (λ i. elim i [ inl p ↦ eqb-false k x q p | inr p ↦ h p ])
+    ] refl
+  looked_here k x xs none again (Some v) e = elim (x == k) as (λ c. (x == k) ≡ c → lookup k (record { key = x; value = v } ∷ pairs_of cells xs) ≡ cells k) [
+    | true ↦ λ q. rw q (sym e ∙ ap cells (eqb-true x k q))
+    | false ↦ λ q. rw q (again (λ h. none (λ i. elim i [ inl p ↦ eqb-false x k q (sym p) | inr p ↦ h p ])))
+  ] refl
 
-  same_pairs : (ks : List ℕ) → pairs_left (entries_at ks) ≡ pairs_of (recovered l image) ks
-  same_pairs [] = refl
-  same_pairs (k ∷ ks) = by (winner_in k (all_entries l image)) refl (same_pairs ks) where
-    by : (o : Option PlacedEntry) → winner_in k (all_entries l image) ≡ o → pairs_left (entries_at ks) ≡ pairs_of (recovered l image) ks
-        → pairs_left (map (λ (x : PlacedEntry). x.entry) (option_to_list (winner_in k (all_entries l image)) ++ winners_at (all_entries l image) ks)) ≡ with_pair k (recovered l image k) (pairs_of (recovered l image) ks)
-    by None won again =
-        ap (λ o. pairs_left (map (λ (x : PlacedEntry). x.entry) (option_to_list o ++ winners_at (all_entries l image) ks))) won ∙ again
-        ∙ ap (λ o. with_pair k (option_and_then (λ (x : PlacedEntry). cell_by (held l image (owner l k)) x.entry.body) o) (pairs_of (recovered l image) ks)) (sym won)
-    by (Some x) won again =
-        ap (λ o. pairs_left (map (λ (x : PlacedEntry). x.entry) (option_to_list o ++ winners_at (all_entries l image) ks))) won
-        ∙ ap (with_pair x.entry.key (left_by x.entry)) again
-        ∙ ap (λ j. with_pair j (cell_by (held l image (owner l j)) x.entry.body) (pairs_of (recovered l image) ks)) (winner_is k (all_entries l image) x won).1
-        ∙ ap (λ o. with_pair k (option_and_then (λ (x : PlacedEntry). cell_by (held l image (owner l k)) x.entry.body) o) (pairs_of (recovered l image) ks)) (sym won)
+  looked_up : (k : ℕ) (ks : List ℕ) → ((In k ks → ⊥) → cells k ≡ None) → lookup k (pairs_of cells ks) ≡ cells k
+  looked_up k [] none = sym (none (λ h. h))
+  looked_up k (x ∷ xs) none = looked_here k x xs none (looked_up k xs) (cells x) refl
+
+  pub lists_cells : (ks : List ℕ) → IsRising ks → ((k : ℕ) → (In k ks → ⊥) → cells k ≡ None) → ListsCells cells (pairs_of cells ks)
+  lists_cells ks rising none = record { rising = rising_pairs ks rising; each = λ k. looked_up k ks (none k) }
 
   -- one more
-  module _ (es : List Entry) (i : ℕ) (e : Entry) (lt : i < length es) (here : e ≡ get_or es i e) where
-    before : (k : ℕ) (o : Option (List ℕ)) (rest : List Pair) → with_pair k o [] ++ rest ≡ with_pair k o rest
-    before k None rest = refl
-    before k (Some v) rest = refl
+  pub pair_more : (old new : List Pair) (k : ℕ) (ks : List ℕ) (v : Option (List ℕ)) → new ≡ old ++ with_pair k v [] → v ≡ cells k → new ++ pairs_of cells ks ≡ old ++ pairs_of cells (k ∷ ks)
+  pair_more old new k ks v is value =
+      ap (λ p. p ++ pairs_of cells ks) is ∙ append_assoc old (with_pair k v []) (pairs_of cells ks) ∙ ap (λ p. old ++ p) (before v ∙ ap (λ o. with_pair k o (pairs_of cells ks)) value)
+    where
+      before : (o : Option (List ℕ)) → with_pair k o [] ++ pairs_of cells ks ≡ with_pair k o (pairs_of cells ks)
+      before None = refl
+      before (Some v) = refl
 
-    pub pair_more : (old new : List Pair) (v : Option (List ℕ)) → new ≡ old ++ with_pair e.key v [] → v ≡ left_by e → new ++ pairs_left (drop (i + 1) es) ≡ old ++ pairs_left (drop i es)
-    pair_more old new v is value =
-        ap (λ p. p ++ pairs_left (drop (i + 1) es)) is ∙ append_assoc old (with_pair e.key v []) (pairs_left (drop (i + 1) es))
-        ∙ ap (λ p. old ++ p) (before e.key v (pairs_left (drop (i + 1) es)) ∙ ap (λ o. with_pair e.key o (pairs_left (drop (i + 1) es))) value ∙ sym (ap pairs_left (drop_more es i e lt ∙ ap (λ d. d ∷ drop (i + 1) es) (sym here))))
+module _ (l : Geometry) (image : ℕ → ℕ) (r : Recovered) (is : IsOf l image r) where
+  -- there is a start for each core: one that is not there would be due and not due
+  abbrev some_start : CoreStart
+  some_start = record {
+    core = 0;
+    log = record { layout = l; part = 0; chunks = []; opened = None };
+    allocator = record { layout = l; part = 0; chunks = record { is_free = false; class = None; is_due = true } ∷ []; used = [] };
+    index = [];
+  }
 
-  -- all of them
-  pub pairs_all : (es : List Entry) (i : ℕ) (ps : List Pair) → es ≡ map (λ (x : PlacedEntry). x.entry) (winners_of (all_entries l image)) → length es ≤ i → ps ++ pairs_left (drop i es) ≡ pairs_left es → ListsCells (recovered l image) ps
-  pairs_all es i ps is le all =
-      let whole : ps ≡ pairs_of (recovered l image) (keys_of (all_entries l image)) = sym (append-nil ps) ∙ ap (λ xs. ps ++ pairs_left xs) (sym (drop_of_length-le es le)) ∙ all ∙ ap pairs_left is ∙ same_pairs (keys_of (all_entries l image)) in
-      subst (ListsCells (recovered l image)) (sym whole) (lists_pairs l image)
+  missing : (c : ℕ) → c < l.cores → length r.starts.items ≤ c → ⊥
+  missing c lt le = cc (sym (ap (λ (s : CoreStart). chunk_is_due s.allocator 0) (get_or_past r.starts.items c some_start le)) ∙ (is.allocators c some_start lt).due 0)
+
+  pub has_start : (c : ℕ) → c < l.cores → c < length r.starts.items
+  has_start c lt = elim (ltb c (length r.starts.items)) as (λ b. ltb c (length r.starts.items) ≡ b → c < length r.starts.items) [
+    | true ↦ λ e. ltb-true c (length r.starts.items) e
+    | false ↦ λ e. absurd (missing c lt (ltb-false c (length r.starts.items) e))
+  ] refl
+
+  -- the cell by the index of the key's core
+  same_cell : (blocks : ℕ → Option (List ℕ)) (o : Option PlacedEntry) (known : Option KeyRecord) → KnownAs o known → cell_known blocks known ≡ option_and_then (λ (x : PlacedEntry). cell_by blocks x.entry.body) o
+  same_cell blocks None known as_known = ap (cell_known blocks) as_known
+  same_cell blocks (Some x) None as_known = absurd as_known
+  same_cell blocks (Some x) (Some known) as_known = ap (cell_by blocks) as_known.1
+
+  pub cell_is : (k : ℕ) (d : CoreStart) → owner l k < l.cores → cell_known (held l image (owner l k)) (known_at (slice_index_or r.starts.items (owner l k) d).index k) ≡ recovered l image k
+  cell_is k d lt = same_cell (held l image (owner l k)) (winner l image k) (known_at (slice_index_or r.starts.items (owner l k) d).index k) ((is.indexes (owner l k) d lt).known k refl)
+
+  -- a key that is not live has no cell
+  not_live : (blocks : ℕ → Option (List ℕ)) (known : Option KeyRecord) → ((v : ℕ) → live_version known ≡ Some v → ⊥) → cell_known blocks known ≡ None
+  not_live blocks None none = refl
+  not_live blocks (Some known) none = by known.body refl where
+    by : (b : Body) → known.body ≡ b → cell_by blocks known.body ≡ None
+    by (Pointer p) body = absurd (none known.version (ap (λ b. cond (is_tombstone b) None (Some known.version)) body))
+    by (Embedded v) body = absurd (none known.version (ap (λ b. cond (is_tombstone b) None (Some known.version)) body))
+    by Tombstone body = ap (cell_by blocks) body
+
+  pub no_cell : (ks : List ℕ) → ((c k v : ℕ) (d : CoreStart) → c < length r.starts.items → live_version (known_at (slice_index_or r.starts.items c d).index k) ≡ Some v → In k ks) → (k : ℕ) → owner l k < l.cores → (In k ks → ⊥) → recovered l image k ≡ None
+  no_cell ks live k lt none =
+      sym (cell_is k some_start lt) ∙ not_live (held l image (owner l k)) (known_at (slice_index_or r.starts.items (owner l k) some_start).index k) (λ v is. none (live (owner l k) k v some_start (has_start (owner l k) lt) is))
+
+-- the keys of a set
+pub set_rises : (ks : List ℕ) → IsStrictlySortedBy nat_cmp ks → IsRising ks
+unfolding IsStrictlySortedBy
+set_rises [] sorted = tt
+set_rises (k ∷ ks) sorted = (above ks (sorted_head nat_cmp k ks sorted), set_rises ks (sorted_tail nat_cmp k ks sorted)) where
+  above : (ks : List ℕ) → AllByRecursion (λ y. nat_cmp k y ≡ Less) ks → AllByRecursion (λ y. k < y) ks
+  above [] all = tt
+  above (j ∷ js) all = (ranked k j Less (sym all.0), above js all.1)
+
+pub set_has : (k : ℕ) (ks : List ℕ) → list_any (is_at (nat_cmp k)) ks ≡ true → In k ks
+set_has k ks has = let found = any_found (is_at (nat_cmp k)) ks has in subst (λ (j : ℕ). In j ks) (sym (eqb-true k found.0 (sym (unsigned_tied k found.0) ∙ found.2))) found.1
+
+-- a key more
+pub set_kept : (old new : BTreeSet ℕ) (k : ℕ) → Updates nat_cmp old new k true → (q : ℕ) → contains nat_cmp old q ≡ true → contains nat_cmp new q ≡ true
+set_kept old new k updates q has = updates.0 q ∙ ap (cond (is_at (nat_cmp k) q) true) has ∙ either (is_at (nat_cmp k) q) where
+  either : (b : Bool) → cond b true true ≡ true
+  either true = refl
+  either false = refl
+
+any_default : {X : Type 0} (xs : List X) (n : ℕ) (d e : X) → n < length xs → get_or xs n d ≡ get_or xs n e
+any_default xs n d e lt = let same : Some (get_or xs n d) ≡ Some (get_or xs n e) = sym (slice_get-get_or xs n d lt) ∙ slice_get-get_or xs n e lt in cc same
+
+pub names_added : (old new : BTreeSet ℕ) (names : List EntryName) (n : ℕ) (e : EntryName) → n < length names → Updates nat_cmp old new (get_or names n e).key true → ((i : ℕ) (d : EntryName) → i < n → contains nat_cmp old (slice_index_or names i d).key ≡ true)
+    → (i : ℕ) (d : EntryName) → i < n + 1 → contains nat_cmp new (slice_index_or names i d).key ≡ true
+names_added old new names n e low updates has i d lt = ⊎_elim
+    (λ (same : i ≡ n). ap (λ (j : ℕ). contains nat_cmp new (slice_index_or names j d).key) same ∙ ap (λ (y : EntryName). contains nat_cmp new y.key) (any_default names n d e low) ∙ updates.1)
+    (λ (ne : i ≢ n). set_kept old new (get_or names n e).key updates (slice_index_or names i d).key (has i d (omega (arith, lt, ne))))
+    (cases_eq i n)
+
+pub live_added : (old new : BTreeSet ℕ) (starts : List CoreStart) (n : ℕ) (x : CoreStart) → n < length starts → x ≡ get_or starts n x → ((k : ℕ) → contains nat_cmp old k ≡ true → contains nat_cmp new k ≡ true) → ((k v : ℕ) → live_version (known_at x.index k) ≡ Some v → contains nat_cmp new k ≡ true)
+    → ((c k v : ℕ) (d : CoreStart) → c < n → live_version (known_at (slice_index_or starts c d).index k) ≡ Some v → contains nat_cmp old k ≡ true)
+    → (c k v : ℕ) (d : CoreStart) → c < n + 1 → live_version (known_at (slice_index_or starts c d).index k) ≡ Some v → contains nat_cmp new k ≡ true
+live_added old new starts n x low here kept live has c k v d lt is = ⊎_elim
+    (λ (e : c ≡ n). live k v (ap (λ (y : CoreStart). live_version (known_at y.index k)) (get_or_read starts n x low here d ∙ ap (λ (j : ℕ). slice_index_or starts j d) (sym e)) ∙ is))
+    (λ (ne : c ≢ n). kept k (has c k v d (omega (arith, lt, ne)) is))
+    (cases_eq c n)

@@ -5,8 +5,7 @@ use Rattle.chunk_map.specs.declared.layouts.Geometry.{Geometry}
 use Rattle.store_image.specs.declared.types.PlacedEntry.{PlacedEntry}
 use Rattle.store_image.specs.declared.types.Fault.{Fault}
 use Rattle.store_image.specs.Parts.{part_entries, all_entries}
-use Rattle.store_image.specs.Soundness.{part_fault, chunk_fault, damage}
-use Rattle.recover.specs.Winning.{winners_of}
+use Rattle.store_image.specs.Soundness.{part_fault, chunk_fault, clash_fault, damage}
 use Rattle.recover.specs.Logs.{SpellsLog}
 
 -- a part's first fault; where there is none, its entries are appended
@@ -24,7 +23,18 @@ abbrev pub Gathers : Geometry → (ℕ → ℕ) → Result (Vec PlacedEntry Glob
 Gathers l image (Ok es) = (chunk_fault l image ≡ None) × (es.items ≡ all_entries l image) × AllSpell l image
 Gathers l image (Err fault) = chunk_fault l image ≡ Some fault
 
--- the winners of an image that keeps rules 4 to 11, or the first that it breaks
+-- all entries of an image that keeps rules 4 to 8
+pub record AreAgreed (l : Geometry) (image : ℕ → ℕ) (es : List PlacedEntry) : Type 0 where
+  pub all : es ≡ all_entries l image
+  pub chunks : chunk_fault l image ≡ None
+  pub clash : clash_fault es ≡ None
+
+-- those, or the first fault of an image that breaks one
+abbrev pub Agrees : Geometry → (ℕ → ℕ) → Result (Vec PlacedEntry Global) Fault → Type 0
+Agrees l image (Ok es) = AreAgreed l image es.items × AllSpell l image
+Agrees l image (Err fault) = damage l image ≡ Some fault
+
+-- whether an image keeps rules 4 to 11, or the first that it breaks
 abbrev pub Judges : Geometry → (ℕ → ℕ) → Result (Vec PlacedEntry Global) Fault → Type 0
-Judges l image (Ok ws) = (damage l image ≡ None) × (ws.items ≡ winners_of (all_entries l image)) × AllSpell l image
+Judges l image (Ok ws) = damage l image ≡ None
 Judges l image (Err fault) = damage l image ≡ Some fault

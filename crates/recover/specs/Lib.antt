@@ -3,5 +3,10 @@ pub mod Winning
 pub mod Clashes
 pub mod Judging
 pub mod Gathering
+pub mod Starts
+pub mod Standing
+pub mod Shares
 pub mod Logs
+pub mod Heads
+pub mod Listing
 pub mod Recovering

@@ -8,6 +8,8 @@ use Rattle.store_image.specs.Parts.{payload}
 use Rattle.core_log.specs.declared.types.LogChunk.{LogChunk}
 use Rattle.core_log.specs.Log.{LogState, IsOwn, Spelled, tail_of, chunk_with}
 use Rattle.core_log.specs.Fresh.{IsEmptiest}
+use Rattle.lazy_alloc.specs.Sets.{AreSets}
+use Rattle.recover.specs.Starts.{IsSpelledIndex}
 use Rattle.recover.specs.declared.types.CoreStart.{CoreStart}
 
 abbrev pub tail_behind : Result Head ℕ → Option ℕ
@@ -33,10 +35,14 @@ SpellsLog l image c j = (tail : ℕ) → head_at l image (chunk_first l c j) ≡
 abbrev pub HasLogsOf : Geometry → (ℕ → ℕ) → ℕ → LogState → Type 0
 HasLogsOf l image c log = (j : ℕ) → tail_of log.chunks j ≡ log_tail l image c j
 
--- The start of core c, as a log is opened: the emptiest chunk is the open one.
+-- The start of core c, whatever the region tells. The emptiest chunk of the log is the open one.
 pub record IsStart (l : Geometry) (c : ℕ) (start : CoreStart) : Type 0 where
   pub core_is : start.core ≡ c
   pub layout_is : start.log.layout ≡ l
   pub part_is : start.log.part ≡ c
   pub own : IsOwn start.log
+  pub sets : AreSets start.allocator
+  pub allocator_layout : start.allocator.layout ≡ l
+  pub allocator_part : start.allocator.part ≡ c
+  pub spelled : IsSpelledIndex start.index
   pub opened : IsEmptiest start.log.chunks start.log.opened

@@ -1,16 +1,12 @@
 -- What recovery gives.
-use Rattle.std.specs.Prelude.{◌≡◌, ℕ, ◌<◌, List, length, map, slice_index_or, option_map, Option, Some, None, Result, Ok, Err}
-use Rattle.std.specs.List.{AllByRecursion}
+use Rattle.std.specs.Prelude.{◌≡◌, ℕ, ◌<◌, List, length, slice_index_or, Option, Some, None, Result, Ok, Err}
 use Rattle.pm_region.specs.State.{State}
-use Rattle.log_entry.specs.Spelling.{HasSpelling}
 use Rattle.chunk_map.specs.Layouts.{IsLayout, total_bytes, layout_of}
 use Rattle.chunk_map.specs.declared.layouts.Geometry.{Geometry}
 use Rattle.store_image.specs.declared.types.Fault.{Fault}
-use Rattle.store_image.specs.Parts.{all_entries}
-use Rattle.store_image.specs.Winners.{winner, recovered}
+use Rattle.store_image.specs.Winners.{recovered}
 use Rattle.store_image.specs.Soundness.{damage, first_fault}
 use Rattle.store_image.specs.Facts.{IsStore}
-use Rattle.store_image.specs.Listing.{IsRising}
 use Rattle.core_log.specs.Log.{StandsIn}
 use Rattle.recover.specs.declared.types.CoreStart.{CoreStart}
 use Rattle.recover.specs.declared.types.Recovered.{Recovered}
@@ -18,26 +14,22 @@ use Rattle.recover.specs.declared.types.RecoverError.{RecoverError}
 use Rattle.recover.specs.declared.types.RecoverError.TheVariants as errors
 use Rattle.recover.specs.Logs.{HasLogsOf, IsStart}
 use Rattle.recover.specs.Gathering.{AllSpell}
-use Rattle.recover.specs.Winning.{winners_of, entry_with}
+use Rattle.recover.specs.Starts.{IsAllocatorOf, IsIndexOf}
 
--- whatever the region tells: a layout of a region of so many bytes, a start for each core in order, and entries by rising key that words can spell
+-- whatever the region tells: a layout of a region of so many bytes, a start for each core in order
 pub record IsMade (bytes : ℕ) (r : Recovered) : Type 0 where
   pub layout : IsLayout r.layout
   pub total : total_bytes r.layout ≡ bytes
   pub count : length r.starts.items ≡ r.layout.cores
   pub starts : (c : ℕ) (d : CoreStart) → c < r.layout.cores → IsStart r.layout c (slice_index_or r.starts.items c d)
-  pub rising : IsRising (map (λ e. e.key) r.winners.items)
-  pub spelled : AllByRecursion HasSpelling r.winners.items
 
--- the logs and the winners of an image with this layout
+-- the logs, the allocators and the indexes of an image with this layout
 pub record IsOf (l : Geometry) (image : ℕ → ℕ) (r : Recovered) : Type 0 where
   pub layout_is : r.layout ≡ l
   pub logs : (c : ℕ) (d : CoreStart) → c < l.cores → HasLogsOf l image c (slice_index_or r.starts.items c d).log
   pub spells : AllSpell l image
-  -- the winner of each key that has one, by rising key
-  pub winners : r.winners.items ≡ map (λ x. x.entry) (winners_of (all_entries l image))
-  -- so a key has the entry of its winner, or none
-  pub each : (k : ℕ) → entry_with k r.winners.items ≡ option_map (λ x. x.entry) (winner l image k)
+  pub allocators : (c : ℕ) (d : CoreStart) → c < l.cores → IsAllocatorOf l image c (slice_index_or r.starts.items c d).allocator
+  pub indexes : (c : ℕ) (d : CoreStart) → c < l.cores → IsIndexOf l image c (slice_index_or r.starts.items c d).index
 
 -- those of an image that keeps rules 4 to 11, or the first that it breaks
 abbrev pub Restores : Geometry → (ℕ → ℕ) → Result Recovered Fault → Type 0

@@ -4,7 +4,6 @@ use Rattle.std.specs.Option.{option_to_list, option_map_or}
 use Rattle.std.specs.List.{flat_map, AllByRecursion}
 use Rattle.std.specs.Ordering.{nat_cmp}
 use Rattle.std.specs.BTreeMap.{BTreeMap, get, keys}
-use Rattle.log_entry.specs.declared.entry.Entry.{Entry}
 use Rattle.log_entry.specs.Spelling.{HasSpelling}
 use Rattle.store_image.specs.declared.types.PlacedEntry.{PlacedEntry}
 use Rattle.store_image.specs.Winners.{winner_in, keys_of}
@@ -13,9 +12,9 @@ use Rattle.store_image.specs.Winners.{winner_in, keys_of}
 abbrev pub winners_of : List PlacedEntry → List PlacedEntry
 winners_of es = flat_map (λ k. option_to_list (winner_in k es)) (keys_of es)
 
--- the entry of a key, where the list has one
-abbrev pub entry_with : ℕ → List Entry → Option Entry
-entry_with k es = find (λ e. e.key == k) es
+-- the winner of a key in a list of winners
+abbrev pub won_in : ℕ → List PlacedEntry → Option PlacedEntry
+won_in k ws = find (λ x. x.entry.key == k) ws
 
 -- each entry is one that words can spell: its version and its value are in their bounds
 abbrev pub AreSpelled : List PlacedEntry → Type 0
@@ -29,9 +28,3 @@ is_older best x = option_map_or (λ y. nat_lt x.entry.version y.entry.version) (
 pub record HasWinners (best : BTreeMap ℕ PlacedEntry) (es : List PlacedEntry) : Type 0 where
   pub keys_are : keys best ≡ keys_of es
   pub each : (k : ℕ) → get nat_cmp best k ≡ winner_in k es
-
--- the winners of some entries that words can spell
-pub record AreWinners (ws : List PlacedEntry) : Type 0 where
-  pub entries : List PlacedEntry
-  pub won : ws ≡ winners_of entries
-  pub spelled : AreSpelled entries

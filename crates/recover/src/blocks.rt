@@ -3,18 +3,16 @@ ghost use Rattle.std.specs.Prelude.{◌≡◌, ◌+◌, ◌*◌, ◌/◌, ◌^�
 ghost use Rattle.pm_region.specs.State.{IsTelling};
 ghost use Rattle.pm_region.specs.Words.{lasts};
 ghost use Rattle.chunk_map.specs.Layouts.{total_bytes};
-ghost use Rattle.store_image.specs.Parts.{block_class, held_by, held};
+ghost use Rattle.store_image.specs.Parts.{block_class, held};
 ghost use Rattle.recover.specs.Regions.{Covers};
 
 use chunk_map::{Head, Layout, read_head};
-use core_log::load_words;
 use fs_errors::Memory;
 use fs_model::Value;
-use log_entry::packing::{unpack, words_for};
+use lazy_alloc::value_in;
 use pm_region::Region;
 use std::alloc::Global;
 use store_image::blocks::is_start;
-use store_image::geometry::has_class;
 
 /// The class of the block that begins at a pointer, where a block of the part does. A pointer is the number
 /// of the block's first byte in the region divided by 256.
@@ -47,30 +45,6 @@ pub fn block_class<R: Region>(region: &R, layout: &Layout, part: u32, pointer: u
     }
 }
 
-/// The bytes of the value in a block of this class, where the block's first word is a length of the class.
-fn value_in<R: Region>(
-    alloc: Global,
-    region: &R,
-    layout: &Layout,
-    pointer: u64,
-    class: u32,
-) -> Result<Option<Value>, Memory>
-    requires covers { Covers (R.state region.now).frame layout.now }
-    requires class { class ≤ 12 }
-    requires within { 32 * pointer + 32 * 2 ^ class ≤ total_bytes layout.now / 8 }
-    ensures { IfOk result (λ v. IsTelling (R.state region.now) → v ≡ held_by (lasts (R.state region.now)) pointer (Some class)) }
-{
-    let at = 32 * pointer;
-    let length = region.load(at);
-    if !has_class(length, class) {
-        return Ok(None);
-    }
-    let words = load_words(alloc, region, at + 1, words_for(length))?;
-    let mut bytes = unpack(alloc, &words)?;
-    bytes.truncate(length as usize);
-    Ok(Some(Value::of(bytes)))
-}
-
 /// What the block of a part at a pointer holds: none where no block of the part begins there, or where its
 /// first word is no length of its class.
 pub fn held<R: Region>(
@@ -86,6 +60,6 @@ pub fn held<R: Region>(
 {
     match block_class(region, layout, part, pointer) {
         None => Ok(None),
-        Some(class) => value_in(alloc, region, layout, pointer, class),
+        Some(class) => value_in(alloc, region, pointer, class),
     }
 }

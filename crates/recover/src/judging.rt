@@ -9,8 +9,8 @@ ghost use Rattle.store_image.specs.declared.types.PlacedEntry.{PlacedEntry};
 ghost use Rattle.store_image.specs.Parts.{all_entries, block_class};
 ghost use Rattle.store_image.specs.Soundness.{block_fault};
 ghost use Rattle.recover.specs.Regions.{Covers};
-ghost use Rattle.recover.specs.Winning.{AreWinners};
-ghost use Rattle.recover.specs.Gathering.{Judges};
+ghost use Rattle.recover.specs.Winning.{winners_of, AreSpelled};
+ghost use Rattle.recover.specs.Gathering.{AreAgreed, Agrees, Judges};
 ghost use Rattle.recover.specs.Judging.{rule_beside, fault_beside, winners_fault, HasPointers};
 
 use crate::blocks::block_class;
@@ -102,23 +102,38 @@ fn block_fault<R: Region>(
     Ok(None)
 }
 
-/// The winners of a region by rising key, or the first broken one of rules 4 to 11.
-pub fn judge<R: Region>(
+/// All entries of a region by part, chunk and place, or the first broken one of rules 4 to 8.
+pub fn agreed_entries<R: Region>(
     alloc: Global,
     region: &R,
     layout: &Layout,
 ) -> Result<Result<Vec<PlacedEntry>, Fault>, Memory>
     requires covers { Covers (R.state region.now).frame layout.now }
-    ensures told { IfOk result (λ r. IsTelling (R.state region.now) → Judges layout.now (lasts (R.state region.now)) r) }
-    ensures made { IfOk result (λ r. IfOk r (λ winners. AreWinners winners.items)) }
+    ensures told { IfOk result (λ r. IsTelling (R.state region.now) → Agrees layout.now (lasts (R.state region.now)) r) }
+    ensures spelled { IfOk result (λ r. IfOk r (λ entries. AreSpelled entries.items)) }
 {
     let entries = match gather(alloc, region, layout)? {
         Ok(entries) => entries,
         Err(fault) => return Ok(Err(fault)),
     };
-    if let Some(fault) = clash_fault(alloc, &entries)? {
-        return Ok(Err(fault));
+    match clash_fault(alloc, &entries)? {
+        Some(fault) => Ok(Err(fault)),
+        None => Ok(Ok(entries)),
     }
+}
+
+/// The winners of entries that break none of rules 4 to 8, by rising key, or the first broken one of rules 9
+/// to 11.
+pub fn judge<R: Region>(
+    alloc: Global,
+    region: &R,
+    layout: &Layout,
+    entries: Vec<PlacedEntry>,
+) -> Result<Result<Vec<PlacedEntry>, Fault>, Memory>
+    requires covers { Covers (R.state region.now).frame layout.now }
+    ensures told { IfOk result (λ r. IsTelling (R.state region.now) → AreAgreed layout.now (lasts (R.state region.now)) entries.items → Judges layout.now (lasts (R.state region.now)) r) }
+    ensures winners { IfOk result (λ r. IfOk r (λ winners. winners.items ≡ winners_of entries.items)) }
+{
     let winners = winners(alloc, entries)?;
     match block_fault(alloc, region, layout, &winners)? {
         Some(fault) => Ok(Err(fault)),

@@ -1,24 +1,40 @@
 // Recovery of a region.
-ghost use Rattle.std.specs.Prelude.{◌≡◌, ◌↔◌, ℕ, ◌/◌, None, IfOk, map, List};
+ghost use Rattle.std.specs.Prelude.{◌≡◌, ◌↔◌, ℕ, ◌/◌, ◌<◌, None, IfOk, length, slice_index_or};
 ghost use Rattle.pm_region.specs.State.{IsTelling};
 ghost use Rattle.pm_region.specs.Words.{lasts};
 ghost use Rattle.chunk_map.specs.Layouts.{total_bytes};
 ghost use Rattle.chunk_map.specs.Checked.{IsLength};
-ghost use Rattle.store_image.specs.declared.types.PlacedEntry.{PlacedEntry};
-ghost use Rattle.store_image.specs.Soundness.{first_fault};
-ghost use Rattle.store_image.specs.Facts.{IsStore};
+ghost use Rattle.store_image.specs.Soundness.{damage, first_fault};
+ghost use Rattle.store_image.specs.Facts.{KeepsRules, IsStore};
+ghost use Rattle.recover.specs.declared.shares.Share.{Share};
 ghost use Rattle.recover.specs.Regions.{Covers, IsCertain};
+ghost use Rattle.recover.specs.Shares.{IsShared, Shares};
 ghost use Rattle.recover.specs.Recovering.{IsMade, Restores, Recovers, AllStand};
 
-use crate::judging::judge;
-use crate::logs::starts;
+use crate::judging::{agreed_entries, judge};
+use crate::shares::{Share, shares};
+use crate::standing::standees;
+use crate::starts::starts;
 use crate::types::{RecoverError, Recovered};
 use chunk_map::{Layout, read_superblock};
 use fs_errors::Memory;
-use log_entry::Entry;
 use pm_region::Region;
 use std::alloc::Global;
-use store_image::{Fault, PlacedEntry};
+use store_image::Fault;
+
+/// The first of rules 4 to 11 that a region of this layout breaks.
+fn damage<R: Region>(alloc: Global, region: &R, layout: &Layout) -> Result<Option<Fault>, Memory>
+    requires covers { Covers (R.state region.now).frame layout.now }
+    ensures { IfOk result (λ f. IsTelling (R.state region.now) → f ≡ damage layout.now (lasts (R.state region.now))) }
+{
+    match agreed_entries(alloc, region, layout)? {
+        Err(fault) => Ok(Some(fault)),
+        Ok(entries) => {
+            let judged = judge(alloc, region, layout, entries)?;
+            Ok(judged.err())
+        }
+    }
+}
 
 /// The first rule of soundness that a region of so many bytes breaks, or none where it is sound.
 ///
@@ -37,24 +53,38 @@ pub fn first_fault<R: Region>(
     match read_superblock(region, bytes) {
         Err(bad) => Ok(Some(Fault::NotARegion { rule: bad.rule })),
         Ok(layout) => {
-            let judged = judge(alloc, region, &layout)?;
-            Ok(judged.err())
+            let fault = damage(alloc, region, &layout)?;
+            Ok(fault)
         }
     }
 }
 
-/// The entries without their places.
-fn without_places(alloc: Global, placed: Vec<PlacedEntry>) -> Result<Vec<Entry>, Memory>
-    ensures { IfOk result (λ entries. entries.items ≡ map (λ x. x.entry) placed.items) }
+/// What each core gets of the entries of a region, or the first broken one of rules 4 to 11.
+fn judged_shares<R: Region>(
+    alloc: Global,
+    region: &R,
+    layout: &Layout,
+) -> Result<Result<Vec<Share>, Fault>, Memory>
+    requires covers { Covers (R.state region.now).frame layout.now }
+    ensures count { IfOk result (λ r. IfOk r (λ shares. length shares.items ≡ layout.now.cores)) }
+    ensures made { IfOk result (λ r. IfOk r (λ shares. (c : ℕ) (d : Share) → c < layout.now.cores → IsShared layout.now c (slice_index_or shares.items c d))) }
+    ensures told { IfOk result (λ r. IsTelling (R.state region.now) → Shares layout.now (lasts (R.state region.now)) r) }
 {
-    let mut entries = Vec::with_capacity(alloc, placed.len())?;
-    for x in placed {
-        entries.push(x.entry)?;
+    let entries = match agreed_entries(alloc, region, layout)? {
+        Ok(entries) => entries,
+        Err(fault) => return Ok(Err(fault)),
+    };
+    let standing = standees(alloc, &entries)?;
+    match judge(alloc, region, layout, entries)? {
+        Ok(winners) => {
+            let shares = shares(alloc, layout, winners, standing)?;
+            Ok(Ok(shares))
+        }
+        Err(fault) => Ok(Err(fault)),
     }
-    Ok(entries)
 }
 
-/// The logs and winners of a region of this layout, or the first broken one of rules 4 to 11.
+/// What a region of this layout recovers, or the first broken one of rules 4 to 11.
 fn recovered<R: Region>(
     alloc: Global,
     region: &R,
@@ -62,21 +92,20 @@ fn recovered<R: Region>(
 ) -> Result<Result<Recovered, Fault>, Memory>
     requires covers { Covers (R.state region.now).frame layout }
     ensures made { IfOk result (λ r. IfOk r (IsMade (total_bytes layout))) }
-    ensures told { IfOk result (λ r. IsTelling (R.state region.now) → Restores layout (lasts (R.state region.now)) r) }
+    ensures told { IfOk result (λ r. IsTelling (R.state region.now) → (damage layout (lasts (R.state region.now)) ≡ None → KeepsRules layout (lasts (R.state region.now))) → Restores layout (lasts (R.state region.now)) r) }
 {
-    let winners = match judge(alloc, region, &layout)? {
-        Ok(winners) => without_places(alloc, winners)?,
+    let shares = match judged_shares(alloc, region, &layout)? {
+        Ok(shares) => shares,
         Err(fault) => return Ok(Err(fault)),
     };
-    let starts = starts(alloc, region, &layout)?;
-    Ok(Ok(Recovered {
-        layout,
-        starts,
-        winners,
-    }))
+    match starts(alloc, region, &layout, shares)? {
+        Ok(starts) => Ok(Ok(Recovered { layout, starts })),
+        Err(fault) => Ok(Err(fault)),
+    }
 }
 
-/// The logs and winners of a region of so many bytes, or the first broken rule. It writes nothing.
+/// What the cores of a region of so many bytes begin with, or the first broken rule: their logs, their
+/// allocators and their indexes. It writes nothing.
 pub fn recover<R: Region>(alloc: Global, region: &R, bytes: u64) -> Result<Recovered, RecoverError>
     requires first { (R.state region.now).frame.first ≡ 0 }
     requires words { IsLength bytes → (R.state region.now).frame.words ≡ bytes / 8 }

@@ -1,9 +1,14 @@
 // Damaged regions, and what is recovered of sound ones. Expected values are those of the format's rules.
-ghost use Rattle.std.specs.Prelude.{◌≡◌, vec_len, IfOk};
+ghost use Rattle.std.specs.Prelude.{◌≡◌, ℕ, ◌<◌, length, slice_index_or, vec_len, IfOk};
+ghost use Rattle.chunk_map.specs.Layouts.{IsLayout};
+ghost use Rattle.recover.specs.declared.types.CoreStart.{CoreStart};
 
-use crate::{Fault, RecoverError, first_fault, pairs, recover};
+use crate::{Fault, RecoverError, Recovered, first_fault, pairs, recover};
+use core_index::Look;
 use core_log::LogChunk;
 use fs_errors::Memory;
+use fs_model::Key;
+use log_entry::EntryName;
 use pm_region::{Region, SplitRegion, SteadyRegion};
 use std::alloc::Global;
 use std::test::Fail;
@@ -48,6 +53,24 @@ fn judged(alloc: Global, writes: &[(u64, u64)]) -> Result<Option<Fault>, Fail> {
     let region = region(alloc, 2560, writes)?;
     let fault = found(alloc, &region, 20480)?;
     Ok(fault)
+}
+
+/// How many blocks of 512 bytes are free in a core's part. Each layout has that class.
+fn free_small_blocks(recovered: &Recovered, core: usize) -> Option<u32>
+    requires { (c : ℕ) (d : CoreStart) → c < length recovered.now.starts.items → IsLayout (slice_index_or recovered.now.starts.items c d).allocator.layout }
+{
+    match recovered.starts.get(core) {
+        Some(start) => Some(start.allocator.free_blocks(1)),
+        None => None,
+    }
+}
+
+/// What a key has in a core's index.
+fn look_at(recovered: &Recovered, core: usize, key: Key) -> Look<'_> {
+    match recovered.starts.get(core) {
+        Some(start) => start.index.look(key),
+        None => Look::Unknown,
+    }
 }
 
 fn damaged(part: u32, chunk: u32, rule: u32) -> Option<Fault> {
@@ -131,7 +154,7 @@ const TWO_CORES: [(u64, u64); 26] = [
 ];
 
 #[test]
-fn two_cores(rt: HostRuntime) -> Result<(), Fail> {
+fn logs_of_two_cores(rt: HostRuntime) -> Result<(), Fail> {
     let alloc = rt.alloc();
     let region = region(alloc, 4608, &TWO_CORES)?;
     assert_eq!(rt; region.first(), 0);
@@ -155,11 +178,33 @@ fn two_cores(rt: HostRuntime) -> Result<(), Fail> {
     ];
     assert_eq!(rt; second.log.chunks(), logs.as_slice());
     assert_eq!(rt; second.log.opened(), Some(0));
-    let winners = &recovered.winners;
-    assert_eq!(rt; winners.len(), 3);
-    assert_eq!(rt; (winners[0].key, winners[0].version), (1, 2));
-    assert_eq!(rt; (winners[1].key, winners[1].version), (2, 1));
-    assert_eq!(rt; (winners[2].key, winners[2].version), (5, 1));
+    Ok(())
+}
+
+#[test]
+fn keys_of_two_cores(rt: HostRuntime) -> Result<(), Fail> {
+    let alloc = rt.alloc();
+    let region = region(alloc, 4608, &TWO_CORES)?;
+    assert_eq!(rt; region.first(), 0);
+    assert_eq!(rt; region.words(), 4608);
+    let recovered = recover(alloc, &region, 36864)?;
+    // key 2 is core 0's, in the first of seven blocks; key 1 is deleted, and key 5 has a value
+    assert!(rt; matches!(look_at(&recovered, 0, 2), Look::Block(17)));
+    assert!(rt; matches!(look_at(&recovered, 0, 1), Look::Unknown));
+    assert!(rt; matches!(look_at(&recovered, 1, 1), Look::Deleted));
+    assert!(rt; matches!(look_at(&recovered, 1, 5), Look::Embedded(_)));
+    assert_eq!(rt; free_small_blocks(&recovered, 0), Some(6));
+    assert_eq!(rt; free_small_blocks(&recovered, 1), Some(0));
+    Ok(())
+}
+
+#[test]
+fn pairs_of_two_cores(rt: HostRuntime) -> Result<(), Fail> {
+    let alloc = rt.alloc();
+    let region = region(alloc, 4608, &TWO_CORES)?;
+    assert_eq!(rt; region.first(), 0);
+    assert_eq!(rt; region.words(), 4608);
+    let recovered = recover(alloc, &region, 36864)?;
     let pairs = pairs(alloc, &region, &recovered)?;
     assert_eq!(rt; pairs.len(), 2);
     assert_eq!(rt; pairs[0].key, 2);
@@ -167,6 +212,41 @@ fn two_cores(rt: HostRuntime) -> Result<(), Fail> {
     assert!(rt; pairs[0].value.bytes().starts_with(&[7, 0]));
     assert_eq!(rt; pairs[1].key, 5);
     assert_eq!(rt; pairs[1].value.bytes(), b"abc".as_slice());
+    Ok(())
+}
+
+/// One core: key 1 was put twice, with blocks of 256 bytes.
+const TWICE: [(u64, u64); 9] = [
+    (512, 258),
+    (544, 256),
+    (608, 256),
+    (1024, 1),
+    (1025, 8),
+    (1056, 0x1100_0011),
+    (1057, 1),
+    (1058, 0x1300_0021),
+    (1059, 1),
+];
+
+#[test]
+fn two_puts(rt: HostRuntime) -> Result<(), Fail> {
+    let alloc = rt.alloc();
+    let region = region(alloc, 2560, &TWICE)?;
+    assert_eq!(rt; region.first(), 0);
+    assert_eq!(rt; region.words(), 2560);
+    let mut recovered = recover(alloc, &region, 20480)?;
+    // the last put's block alone is allocated, of the seven of its chunk
+    assert!(rt; matches!(look_at(&recovered, 0, 1), Look::Block(19)));
+    assert_eq!(rt; free_small_blocks(&recovered, 0), Some(6));
+    assert_eq!(rt; recovered.starts.len(), 1);
+    let start = &mut recovered.starts[0];
+    assert_eq!(rt; start.allocator.free_chunks(), 2);
+    assert!(rt; !start.allocator.is_allocated(17));
+    assert!(rt; start.allocator.is_allocated(19));
+    // its first put still stands, and is dead
+    let old = EntryName { key: 1, version: 1 };
+    assert!(rt; start.index.next_notice(0) == Some(old));
+    assert!(rt; start.index.next_notice(0).is_none());
     Ok(())
 }
 

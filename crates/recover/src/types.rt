@@ -1,7 +1,8 @@
 // What recovery gives.
 use chunk_map::Layout;
+use core_index::CoreIndex;
 use core_log::CoreLog;
-use log_entry::Entry;
+use lazy_alloc::Allocator;
 use store_image::Fault;
 use thiserror::Error;
 
@@ -11,6 +12,10 @@ pub struct CoreStart {
     pub core: u32,
     /// The log of the core's part.
     pub log: CoreLog,
+    /// The free chunks and blocks of the part. Exactly the blocks of live values are allocated.
+    pub allocator: Allocator,
+    /// The keys of the core: the newest version of each and what it left, and its entries in all logs.
+    pub index: CoreIndex,
 }
 
 /// What the words of a sound region say.
@@ -19,8 +24,6 @@ pub struct Recovered {
     pub layout: Layout,
     /// One start for each core, in their order.
     pub starts: Vec<CoreStart>,
-    /// The entry of greatest version of each key that has one, by rising key. Deletes are among them.
-    pub winners: Vec<Entry>,
 }
 
 /// Why nothing was recovered.

@@ -1,44 +1,12 @@
-use Rattle.std.proofs.Common.{sym, ◌∙◌, ap}
+use Rattle.std.proofs.Common.{sym, ◌∙◌}
 use Rattle.pm_region.specs.Words.{lasts}
-use Rattle.store_image.specs.Soundness.{clash_fault}
-use Rattle.recover.specs.Winning.{winners_of}
-use Rattle.recover.proofs.JudgeLaws.{by_chunks, gathered, by_clash, by_winners, spelled_of}
+use Rattle.recover.proofs.JudgeLaws.{by_winners}
 use Rattle.recover.proofs.judging.judge.Goals as goal
 
-pub returns-in-Err-clause-told : goal.returns-in-Err-clause-told
-returns-in-Err-clause-told g c = λ telling.
-    let image = lasts (g.R.Region.state c.args.region.now) in
-    by_chunks c.args.layout.now image c.in_ok-entries.field-0 c.in-Err.fault (c.in_ok-entries.ensures.told telling) c.in-Err.is
-
 pub returns-in-Some-clause-told : goal.returns-in-Some-clause-told
-returns-in-Some-clause-told g c = λ telling.
-    let image = lasts (g.R.Region.state c.args.region.now) in
-    let l = c.args.layout.now in
-    let all = gathered l image c.in_ok-entries.field-0 c.in-Ok.entries (c.in_ok-entries.ensures.told telling) c.in-Ok.is in
-    by_clash l image c.in-Ok.entries.items all.1 all.0 c.in-Some.fault (sym c.in-Some.is ∙ c.in_ok-fault.ensures ∙ ap clash_fault c.deref.ensures.value)
-
-pub returns-in-Some-2-clause-told : goal.returns-in-Some-2-clause-told
-returns-in-Some-2-clause-told g c = λ telling.
-    let image = lasts (g.R.Region.state c.args.region.now) in
-    let l = c.args.layout.now in
-    let all = gathered l image c.in_ok-entries.field-0 c.in-Ok.entries (c.in_ok-entries.ensures.told telling) c.in-Ok.is in
-    by_winners l image c.in-Ok.entries.items all.1 all.0 c.in_ok-fault-2.field-0 c.deref-2.result.now (sym c.in_default.is ∙ c.in_ok-fault.ensures ∙ ap clash_fault c.deref.ensures.value) (c.deref-2.ensures.value ∙ c.in_ok-winners.ensures) (c.in_ok-fault-2.ensures telling)
-    ∙ c.in-Some-2.is
+returns-in-Some-clause-told g c = λ telling agreed.
+    by_winners c.args.layout.now (lasts (g.R.Region.state c.args.region.now)) c.args.entries.items agreed.all agreed.chunks c.in_ok-fault.field-0 c.deref.result.now (sym agreed.clash) (c.deref.ensures.value ∙ c.in_ok-winners.ensures) (c.in_ok-fault.ensures telling) ∙ c.in-Some.is
 
 pub returns-in-None-clause-told : goal.returns-in-None-clause-told
-returns-in-None-clause-told g c = λ telling.
-    let image = lasts (g.R.Region.state c.args.region.now) in
-    let l = c.args.layout.now in
-    let all = gathered l image c.in_ok-entries.field-0 c.in-Ok.entries (c.in_ok-entries.ensures.told telling) c.in-Ok.is in (
-      by_winners l image c.in-Ok.entries.items all.1 all.0 c.in_ok-fault-2.field-0 c.deref-2.result.now (sym c.in_default.is ∙ c.in_ok-fault.ensures ∙ ap clash_fault c.deref.ensures.value) (c.deref-2.ensures.value ∙ c.in_ok-winners.ensures) (c.in_ok-fault-2.ensures telling)
-          ∙ c.in-None.is,
-      c.in_ok-winners.ensures ∙ ap winners_of all.1,
-      all.2,
-    )
-
-pub returns-in-None-clause-made : goal.returns-in-None-clause-made
-returns-in-None-clause-made g c = record {
-  entries = c.in-Ok.entries.items;
-  won = c.in_ok-winners.ensures;
-  spelled = spelled_of c.in_ok-entries.field-0 c.in-Ok.entries c.in_ok-entries.ensures.spelled c.in-Ok.is;
-}
+returns-in-None-clause-told g c = λ telling agreed.
+    by_winners c.args.layout.now (lasts (g.R.Region.state c.args.region.now)) c.args.entries.items agreed.all agreed.chunks c.in_ok-fault.field-0 c.deref.result.now (sym agreed.clash) (c.deref.ensures.value ∙ c.in_ok-winners.ensures) (c.in_ok-fault.ensures telling) ∙ c.in-None.is

@@ -1,0 +1,45 @@
+use Rattle.std.proofs.Common.{◌≡◌, ℕ, ◌==◌, ◌&&◌, not, length, refl, ◌∙◌, ap}
+use Rattle.std.specs.Prelude.{slice_get, is_none}
+use Rattle.std.specs.List.{list_any}
+use Rattle.pm_region.specs.Words.{lasts}
+use Rattle.lazy_alloc.specs.Heads.{is_free_there, class_there}
+use Rattle.lazy_alloc.specs.Sets.{chunk_is_free, chunk_class, block_is_used, class_at}
+use Rattle.recover.specs.Heads.{tail_there}
+use Rattle.recover.proofs.FoundLaws.{ok_of}
+use Rattle.recover.proofs.HeadLaws.{heads_ok, logs_of}
+use Rattle.recover.proofs.StartLaws.{spelled_index, index_of, allocator_of}
+use Rattle.recover.proofs.starts.start.Goals as goal
+
+pub returns-clause-made : goal.returns-clause-made
+returns-clause-made g c =
+    let log = c.in_ok-log.ensures in
+    let allocator = c.in_ok-allocator.ensures in
+    record {
+      core_is = refl;
+      layout_is = log.layout;
+      part_is = log.part;
+      own = log.own;
+      sets = allocator.sets;
+      allocator_layout = allocator.layout;
+      allocator_part = allocator.part;
+      spelled = spelled_index c.args.layout.now c.args.core c.args.share c.requires.share c.in_ok-index.index c.in_ok-index.ensures.records;
+      opened = log.opened;
+    }
+
+pub returns-clause-told : goal.returns-clause-told
+returns-clause-told g c = λ telling kept share.
+    let image = lasts (g.R.Region.state c.args.region.now) in
+    let l = c.args.layout.now in
+    let heads = c.in-Ok.heads.items in
+    let count = ok_of (λ heads. length heads.items ≡ l.chunks) c.in_ok-heads.field-0 c.in-Ok.heads c.in_ok-heads.ensures.count c.in-Ok.is in
+    let are = heads_ok l image c.args.core c.in_ok-heads.field-0 c.in-Ok.heads (c.in_ok-heads.ensures.told telling) c.in-Ok.is in
+    let allocator = c.in_ok-allocator.ensures in
+    let free : (j : ℕ) → chunk_is_free c.in_ok-allocator.allocator j ≡ is_free_there (slice_get heads j) = λ j. allocator.free j ∙ ap (λ hs. is_free_there (slice_get hs j)) c.deref-2.ensures.value in
+    let class : (j : ℕ) → chunk_class c.in_ok-allocator.allocator j ≡ class_there (slice_get heads j) = λ j. allocator.class j ∙ ap (λ hs. class_there (slice_get hs j)) c.deref-2.ensures.value in
+    let used : (p : ℕ) → block_is_used c.in_ok-allocator.allocator p ≡ (list_any (λ q. q == p) c.args.share.pointers.items && not (is_none (class_at c.in_ok-allocator.allocator p))) =
+    λ p. allocator.used p ∙ ap (λ ps. list_any (λ q. q == p) ps && not (is_none (class_at c.in_ok-allocator.allocator p))) c.deref-3.ensures.value in
+    record {
+      logs = logs_of l image c.args.core heads count are c.in_ok-log.log.chunks (λ j. c.in_ok-log.ensures.chunks j ∙ c.in_ok-chunks.ensures.tails j ∙ ap (λ hs. tail_there (slice_get hs j)) c.deref.ensures.value);
+      allocator = allocator_of l image c.args.core c.args.share share c.requires.covers.layout kept heads count are c.in_ok-allocator.allocator allocator.layout allocator.part free class allocator.due used;
+      index = index_of l image c.args.core c.args.share share c.in_ok-index.index c.in_ok-index.ensures.records c.in_ok-index.ensures.room;
+    }

@@ -1,0 +1,38 @@
+use Rattle.std.proofs.Common.{◌≡◌, ◌<◌, ◌+◌, ◌++◌, ◌∷◌, [], length, length-append, sym, ◌∙◌, ap, subst, append_assoc, arith}
+use Rattle.std.specs.Prelude.{slice_index_or}
+use Rattle.pm_region.specs.Words.{lasts}
+use Rattle.store_image.specs.Parts.{all_entries}
+use Rattle.recover.specs.declared.types.CoreStart.{CoreStart}
+use Rattle.recover.specs.declared.shares.Share.{Share}
+use Rattle.recover.specs.Shares.{IsShare}
+use Rattle.recover.specs.Logs.{IsStart}
+use Rattle.recover.specs.Heads.{IsStartOf}
+use Rattle.recover.proofs.FoundLaws.{ok_of, start_ok}
+use Rattle.recover.proofs.ListLaws.{behind}
+use Rattle.recover.proofs.LogLaws.{each_more}
+use Rattle.recover.proofs.starts.starts.Goals as goal
+
+pub loop-share-preserved : goal.loop-share-preserved
+loop-share-preserved g c =
+    let image = lasts (g.R.Region.state c.args.region.now) in
+    let l = c.args.layout.now in
+    let inv = c.loop-share.invariant in
+    let done = c.loop-share.yielded in
+    let share = c.in-Some.share in
+    let rest = c.next.new.self.rest.items in
+    let old = c.loop-share.starts.items in
+    let new = c.push.new.self.items in
+    let x = c.in-Ok.start in
+    let n = c.loop-share.core in
+    let split : c.args.shares.items ≡ done ++ (share ∷ rest) = inv.split ∙ ap (λ xs. done ++ xs) c.in-Some.ensures.steps.0 in
+    let there : slice_index_or c.args.shares.items n share ≡ share = ap (λ xs. slice_index_or xs n share) split ∙ behind done share rest n share inv.passed in
+    let long = ap length split ∙ length-append done (share ∷ rest) in
+    let lt : n < l.cores = omega (arith, long, inv.passed, c.requires.count) in
+    record {
+      split = split ∙ sym (append_assoc done (share ∷ []) rest);
+      passed = length-append done (share ∷ []) ∙ ap (λ k. k + 1) inv.passed;
+      count = ap length c.in_ok-push-in-Ok.ensures.items ∙ length-append old (x ∷ []) ∙ ap (λ k. k + 1) inv.count;
+      made = each_more CoreStart (IsStart l) old new x n inv.count c.in_ok-push-in-Ok.ensures.items inv.made (ok_of (IsStart l n) c.in_ok-start.field-0 x c.in_ok-start.ensures.made c.in-Ok.is);
+      told = λ telling kept shares. each_more CoreStart (IsStartOf l image) old new x n inv.count c.in_ok-push-in-Ok.ensures.items (inv.told telling kept shares)
+          (start_ok l image n c.in_ok-start.field-0 x (c.in_ok-start.ensures.told telling kept (subst (λ (s : Share). IsShare l (all_entries l image) n s) there (shares n share lt))) c.in-Ok.is);
+    }
