@@ -1,0 +1,11 @@
+-- A slice of bytes has bytes.
+use Rattle.std.proofs.Common.{ℕ, suc, ◌+◌, ◌<◌, List, [], ◌∷◌, length, get_or, arith}
+use Rattle.std.specs.List.{AllByRecursion}
+use Rattle.core_store.proofs.needs.byte_count.Goals as goal
+
+each_byte : (xs : List ℕ) → ((k : ℕ) → k < length xs → get_or xs k 0 < 256) → AllByRecursion (λ b. b < 256) xs
+each_byte [] h = tt
+each_byte (x ∷ xs) h = (h 0 (omega arith), each_byte xs (λ k lt. h (suc k) (omega (arith, lt))))
+
+pub returns-clause-bytes : goal.returns-clause-bytes
+returns-clause-bytes c = each_byte c.args.value.now (λ k lt. let f = c.type_inv.value k in omega (arith, f))

@@ -1,0 +1,9 @@
+pub mod Shows
+pub mod Moments
+pub mod Records
+pub mod Keeps
+pub mod Ready
+pub mod Stock
+pub mod Opening
+pub mod Answered
+pub mod Changing

@@ -1,0 +1,47 @@
+// What a value needs: lines of the log, and a block.
+ghost use Rattle.std.specs.Prelude.{◌≡◌, ◌-◌, ◌/◌, ◌≤◌, ◌<◌, ◌^◌, length};
+ghost use Rattle.std.specs.List.{AllByRecursion};
+ghost use Rattle.chunk_map.specs.Layouts.{IsLayout};
+ghost use Rattle.core_store.specs.Stock.{lines_needed, class_for};
+
+use chunk_map::Layout;
+use lazy_alloc::class_of;
+
+/// The bytes of a value are counted.
+pub fn byte_count(value: &[u8]) -> u64
+    ensures count { result ≡ length value.now }
+    ensures bytes { AllByRecursion (λ b. b < 256) value.now }
+    ensures long { result < 2 ^ 63 }
+{
+    value.len() as u64
+}
+
+/// The bytes of the longest value that a block of the layout holds.
+pub fn longest_value(layout: &Layout) -> u64
+    ensures value { result ≡ layout.now.chunk_bytes / 4 - 8 }
+    ensures small { result ≤ 1048568 }
+    ensures rules { IsLayout layout.now }
+{
+    let numbers = layout.geometry();
+    numbers.chunk_bytes / 4 - 8
+}
+
+/// The lines of the log that a put of so many bytes takes.
+pub fn lines_needed(length: u64) -> u64
+    requires { length < 2 ^ 63 }
+    ensures { result ≡ lines_needed length }
+{
+    if length >= 256 {
+        1
+    } else {
+        (2 + (length + 7) / 8 + 7) / 8
+    }
+}
+
+/// The class of the block that a value of this length gets, or 0 where it stands beside its key.
+pub fn class_or_zero(length: u64) -> u32
+    requires { length ≤ 1048568 }
+    ensures { result ≡ class_for length }
+{
+    if length >= 256 { class_of(length) } else { 0 }
+}
