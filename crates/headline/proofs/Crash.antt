@@ -1,12 +1,11 @@
 -- What a crash recovers, while the run goes on.
-use Rattle.std.proofs.Common.{◌≡◌, ◌⊎◌, inl, inr, ℕ, ◌+◌, ◌<◌, ◌≤◌, ◌^◌, List, [], ◌∷◌, ◌++◌, length, refl, sym, ◌∙◌, ap, subst, arith, true, false, Bool, Option, Some, None, take, length-append, append-nil, append_assoc, filter, not, ◌&&◌, ◌==◌, cond}
+use Rattle.std.proofs.Common.{◌≡◌, ◌⊎◌, inl, inr, ℕ, ◌+◌, ◌<◌, ◌≤◌, List, [], ◌∷◌, ◌++◌, length, refl, sym, ◌∙◌, ap, subst, arith, true, false, Option, Some, None, take, length-append, append-nil, append_assoc, not, ◌&&◌, cond}
 use Rattle.std.proofs.lemmas.List.{take-append-le, take_all}
-use Rattle.std.proofs.lemmas.Bool.{eq-eqb, cases_lt, eqb-true, eqb-false}
-use Rattle.std.specs.List.{AllByRecursion, find, list_any}
+use Rattle.std.specs.List.{AllByRecursion, find}
 use Rattle.std.specs.Option.{option_or, option_to_list}
 use Rattle.fs_model.specs.declared.model.Request.{Request}
 use Rattle.fs_model.specs.declared.model.Reply.{Reply}
-use Rattle.fs_model.specs.Changes.{names, finished_changes, unfinished_change, changes_of, cell_after_all, finished_by, IsPrefixCell}
+use Rattle.fs_model.specs.Changes.{names, finished_changes, unfinished_change, cell_after_all, finished_by, IsPrefixCell}
 use Rattle.headline.specs.Headline.{Told, finished_in, refused_in, changes_in, cells_of, Recovers}
 use Rattle.fs_model.specs.Cells.{key_of, is_change, cell_after}
 use Rattle.fs_model.specs.Changes.{requests_in, behind_last, requests_of}
@@ -17,9 +16,9 @@ use Rattle.headline.proofs.Lists.{each_number, any_none}
 use Rattle.headline.proofs.Run.{changes_grow, prefix_grows, finished_by-append, each_finish, recorded, stopped_changes, waiting-append, is_waiting, own, own_is, none_found, with_finish, own_changes, other_changes, by_before, by_key, unnamed}
 
 -- An image recovers a prefix of the changes also when more requests came, none of them named.
-pub recovers_grow : (bytes : ℕ) (start : ℕ → Option (List ℕ)) (done more : List Request) (replies : List Reply) (r : Told) (t : ℕ) (image : ℕ → ℕ) → Recorded start done replies r
+pub recovers_grow : (Known : Type 0) (bytes : ℕ) (start : ℕ → Option (List ℕ)) (done more : List Request) (replies : List Reply) (r : Told) (t : ℕ) (image : ℕ → ℕ) → Recorded Known start done replies r
     → Recovers bytes start done r (λ k. finished_by k done r.finishes t) image → Recovers bytes start (done ++ more) r (λ k. finished_by k (done ++ more) r.finishes t) image
-recovers_grow bytes start done more replies r t image R is = record {
+recovers_grow Known bytes start done more replies r t image R is = record {
   sound = is.sound;
   cells = λ k lt.
       let g = changes_grow (start k) k done more (finished_in r) (refused_in r) R.finishes in
@@ -35,7 +34,7 @@ recovers_grow bytes start done more replies r t image R is = record {
 take_front : (xs ys : List Request) (f : ℕ) → f ≡ length xs → take f (xs ++ ys) ≡ xs
 take_front xs ys f e = take-append-le f xs ys (omega (arith, e)) ∙ take_all f xs (omega (arith, e))
 
-module _ (bytes : ℕ) (start : ℕ → Option (List ℕ)) (done : List Request) (replies : List Reply) (r : Told) (now : ℕ) (cell : ℕ → Option (List ℕ)) (A : Answered start done replies r now cell) where
+module _ (Known : Type 0) (bytes : ℕ) (start : ℕ → Option (List ℕ)) (done : List Request) (replies : List Reply) (r : Told) (now : ℕ) (cell : ℕ → Option (List ℕ)) (A : Answered Known start done replies r now cell) where
   abbrev finished : ℕ → List Request
   finished k = finished_changes k done (finished_in r)
 
@@ -47,10 +46,10 @@ module _ (bytes : ℕ) (start : ℕ → Option (List ℕ)) (done : List Request)
   }
 
   -- where the changes and the counts stay as they are
-  pub recovers_still : (done' : List Request) (replies' : List Reply) (r' : Told) (now' : ℕ) (cell' : ℕ → Option (List ℕ)) → Answered start done' replies' r' now' cell'
+  pub recovers_still : (Known' : Type 0) (done' : List Request) (replies' : List Reply) (r' : Told) (now' : ℕ) (cell' : ℕ → Option (List ℕ)) → Answered Known' start done' replies' r' now' cell'
       → ((k : ℕ) → finished_changes k done' (finished_in r') ≡ finished k) → ((k t : ℕ) → finished_by k done' r'.finishes t ≡ finished_by k done r.finishes t)
       → (t : ℕ) (image : ℕ → ℕ) → Recovers bytes start done r (λ k. finished_by k done r.finishes t) image → Recovers bytes start done' r' (λ k. finished_by k done' r'.finishes t) image
-  recovers_still done' replies' r' now' cell' B same counts t image is = record {
+  recovers_still Known' done' replies' r' now' cell' B same counts t image is = record {
     sound = is.sound;
     cells = λ k lt.
         let changes : changes_in start done' r' k ≡ changes_in start done r k = (λ i. same k i ++ B.settled k i) ∙ ap (λ l. finished k ++ l) (sym (A.settled k)) in
@@ -84,8 +83,8 @@ module _ (bytes : ℕ) (start : ℕ → Option (List ℕ)) (done : List Request)
       pub recovers_failed : is_change q (cell (key_of q)) ≡ true → (t : ℕ) (image : ℕ → ℕ) → now ≤ t → HoldsCells bytes cell image ⊎ HoldsCells bytes next image
           → Recovers bytes start (done ++ q ∷ []) r (λ k. finished_by k (done ++ q ∷ []) r.finishes t) image
       recovers_failed changes t image low is =
-          let R = recorded start done replies r now cell A in
-          let same : (k : ℕ) → finished_changes k (done ++ q ∷ []) (finished_in r) ≡ finished k = stopped_changes start done replies r q R in
+          let R = recorded Known start done replies r now cell A in
+          let same : (k : ℕ) → finished_changes k (done ++ q ∷ []) (finished_in r) ≡ finished k = stopped_changes Known start done replies r q R in
           record {
             sound = sound_of image is;
             cells = λ k lt. prefix_of (changes_in start (done ++ q ∷ []) r)
@@ -98,7 +97,7 @@ module _ (bytes : ℕ) (start : ℕ → Option (List ℕ)) (done : List Request)
             waits : unfinished_change (start (key_of q)) (key_of q) (done ++ q ∷ []) (finished_in r) (refused_in r) ≡ q ∷ []
             waits =
                 let k = key_of q in
-                let R = recorded start done replies r now cell A in
+                let R = recorded Known start done replies r now cell A in
                 let above : AllByRecursion (λ (x : ℕ × Request). names (finished_in r) x.0 ≡ false) (own done q k) =
                 each_number (λ m. names (finished_in r) m ≡ false) k (length done) (q ∷ []) (λ m low high. subst (λ m. names (finished_in r) m ≡ false) (let e : length done ≡ m = omega (arith, low, high) in e) (unnamed (finished_in r) (length done) A.finishes)) in
                 let before : find (is_waiting (cell k) (refused_in r)) (behind_last (λ x. names (finished_in r) x.0) (requests_of k done)) ≡ None =
@@ -106,7 +105,7 @@ module _ (bytes : ℕ) (start : ℕ → Option (List ℕ)) (done : List Request)
                 let here : find (is_waiting (cell k) (refused_in r)) (own done q k) ≡ Some (length done, q) =
                 ap (find (is_waiting (cell k) (refused_in r))) (own_is done q k refl)
                 ∙ (λ i. cond (changes i && not (unnamed (refused_in r) (length done) A.refusals i)) (Some (length done, q)) None) in
-                ap (λ l. requests_in (option_to_list (find (is_waiting (cell_after_all l (start k)) (refused_in r)) (behind_last (λ x. names (finished_in r) x.0) (requests_of k (done ++ q ∷ [])))))) (stopped_changes start done replies r q R k)
+                ap (λ l. requests_in (option_to_list (find (is_waiting (cell_after_all l (start k)) (refused_in r)) (behind_last (λ x. names (finished_in r) x.0) (requests_of k (done ++ q ∷ [])))))) (stopped_changes Known start done replies r q R k)
                 ∙ ap (λ c. requests_in (option_to_list (find (is_waiting c (refused_in r)) (behind_last (λ x. names (finished_in r) x.0) (requests_of k (done ++ q ∷ [])))))) (A.left k)
                 ∙ ap (λ o. requests_in (option_to_list o)) (waiting-append done (q ∷ []) (finished_in r) (finished_in r) (refused_in r) (refused_in r) (λ m lt. refl) (λ m lt. refl) k (cell k) (any_none (λ (x : ℕ × Request). names (finished_in r) x.0) (own done q k) above)
                 ∙ (λ i. option_or (before i) (here i)))
@@ -114,17 +113,17 @@ module _ (bytes : ℕ) (start : ℕ → Option (List ℕ)) (done : List Request)
       -- The change is finished at a stamp: before it, the image holds the cells or the next ones; an image from before the call recovers what it did.
       module _ (reply : Reply) (later : ℕ) (low : now ≤ later) where
         abbrev after : Told
-        after = with_finish start done replies r now cell q reply A later low
+        after = with_finish Known start done replies r now cell q reply A later low
 
         grown : (k : ℕ) → (ys : List Request) × (changes_in start (done ++ q ∷ []) after k ≡ finished k ++ ys)
         grown = by_key (λ k. (ys : List Request) × (changes_in start (done ++ q ∷ []) after k ≡ finished k ++ ys)) (key_of q)
             (q ∷ unfinished_change (start (key_of q)) (key_of q) (done ++ q ∷ []) (finished_in after) (refused_in after), own_grown)
             (λ k ne. (
               unfinished_change (start k) k (done ++ q ∷ []) (finished_in after) (refused_in after),
-              ap (λ l. l ++ unfinished_change (start k) k (done ++ q ∷ []) (finished_in after) (refused_in after)) (other_changes start done replies r now cell q reply A later low k ne),
+              ap (λ l. l ++ unfinished_change (start k) k (done ++ q ∷ []) (finished_in after) (refused_in after)) (other_changes Known start done replies r now cell q reply A later low k ne),
             )) where
               own_grown : changes_in start (done ++ q ∷ []) after (key_of q) ≡ finished (key_of q) ++ (q ∷ unfinished_change (start (key_of q)) (key_of q) (done ++ q ∷ []) (finished_in after) (refused_in after))
-              own_grown = ap (λ l. l ++ unfinished_change (start (key_of q)) (key_of q) (done ++ q ∷ []) (finished_in after) (refused_in after)) (own_changes start done replies r now cell q reply A later low)
+              own_grown = ap (λ l. l ++ unfinished_change (start (key_of q)) (key_of q) (done ++ q ∷ []) (finished_in after) (refused_in after)) (own_changes Known start done replies r now cell q reply A later low)
                   ∙ append_assoc (finished (key_of q)) (q ∷ []) (unfinished_change (start (key_of q)) (key_of q) (done ++ q ∷ []) (finished_in after) (refused_in after))
 
         pub recovers_before : (t : ℕ) (image : ℕ → ℕ) → t < later → Recovers bytes start done r (λ k. finished_by k done r.finishes t) image
@@ -135,7 +134,7 @@ module _ (bytes : ℕ) (start : ℕ → Option (List ℕ)) (done : List Request)
               let g = grown k in
               let none : changes_in start done r k ≡ finished k = ap (λ l. finished k ++ l) (A.settled k) ∙ append-nil (finished k) in
               let few = A.counted k t in
-              subst (λ f. IsPrefixCell (start k) (changes_in start (done ++ q ∷ []) after k) f (cells_of image k)) (sym (by_before start done replies r now cell q reply A later low k t lt))
+              subst (λ f. IsPrefixCell (start k) (changes_in start (done ++ q ∷ []) after k) f (cells_of image k)) (sym (by_before Known start done replies r now cell q reply A later low k t lt))
               (subst (λ xs. IsPrefixCell (start k) xs (finished_by k done r.finishes t) (cells_of image k)) (sym g.1)
               (prefix_grows (start k) (cells_of image k) (finished k) g.0 (finished_by k done r.finishes t) few
               (subst (λ xs. IsPrefixCell (start k) xs (finished_by k done r.finishes t) (cells_of image k)) none (is.cells k small))));
@@ -147,10 +146,10 @@ module _ (bytes : ℕ) (start : ℕ → Option (List ℕ)) (done : List Request)
           sound = sound_of image is;
           cells = λ k small. prefix_of (changes_in start (done ++ q ∷ []) after) grown (
             unfinished_change (start (key_of q)) (key_of q) (done ++ q ∷ []) (finished_in after) (refused_in after),
-            ap (λ l. l ++ unfinished_change (start (key_of q)) (key_of q) (done ++ q ∷ []) (finished_in after) (refused_in after)) (own_changes start done replies r now cell q reply A later low)
+            ap (λ l. l ++ unfinished_change (start (key_of q)) (key_of q) (done ++ q ∷ []) (finished_in after) (refused_in after)) (own_changes Known start done replies r now cell q reply A later low)
                 ∙ append_assoc (finished (key_of q)) (q ∷ []) (unfinished_change (start (key_of q)) (key_of q) (done ++ q ∷ []) (finished_in after) (refused_in after)),
           )
               (λ k. finished_by k (done ++ q ∷ []) after.finishes t)
-              (λ k. by_before start done replies r now cell q reply A later low k t lt ∙ A.whole k t from)
+              (λ k. by_before Known start done replies r now cell q reply A later low k t lt ∙ A.whole k t from)
               image is k;
         }

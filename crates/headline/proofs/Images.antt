@@ -1,14 +1,12 @@
 -- Images of a region whose words are certain, and what a sound one keeps to.
-use Rattle.std.proofs.Common.{◌≡◌, ◌⊎◌, inl, inr, ℕ, ◌+◌, ◌*◌, ◌/◌, ◌^◌, ◌<◌, ◌≤◌, List, [], ◌∷◌, ◌++◌, refl, sym, ◌∙◌, ap, subst, arith, Option, Some, None}
-use Rattle.pm_region.specs.Cell.{Cell, certain, MayBe, HasValue}
-use Rattle.pm_region.specs.State.{State, Frame, InRange, IsTold, IsTelling, MayLeave, cell_now}
+use Rattle.std.proofs.Common.{◌≡◌, inl, inr, ℕ, ◌/◌, ◌<◌, List, ◌∙◌, subst, arith}
+use Rattle.pm_region.specs.Cell.{Cell, certain, MayBe}
+use Rattle.pm_region.specs.State.{Frame, InRange, MayLeave}
 use Rattle.fs_model.specs.declared.model.Request.{Request}
-use Rattle.fs_model.specs.Changes.{IsPrefixCell}
-use Rattle.chunk_map.specs.Layouts.{layout_of, superblock_rule}
 use Rattle.store_image.specs.Soundness.{first_fault, IsSound}
 use Rattle.store_image.proofs.Agree.{fault_agrees, cells_agree}
 use Rattle.store_image.proofs.SoundLaws.{own_blocks, has_layout}
-use Rattle.headline.specs.Headline.{cells_of, HasOwnBlocks, Recovers, Told, changes_in}
+use Rattle.headline.specs.Headline.{cells_of, HasOwnBlocks, Recovers, Told}
 
 pub certain_may_be : (v x : ℕ) → MayBe (certain v) x → x ≡ v
 certain_may_be v x (inl e) = e

@@ -1,10 +1,10 @@
 -- Lists with one element more, and tests that agree on a list.
-use Rattle.std.proofs.Common.{◌≡◌, ◌⊎◌, inl, inr, ℕ, zero, suc, ◌+◌, ◌<◌, ◌≤◌, List, [], ◌∷◌, ◌++◌, length, map, filter, refl, sym, ◌∙◌, ap, arith, ◌==◌, ◌||◌, ◌&&◌, true, false, Bool, cond, Option, Some, None, take, fold, append_assoc}
+use Rattle.std.proofs.Common.{◌≡◌, ℕ, zero, suc, ◌+◌, ◌<◌, ◌≤◌, List, [], ◌∷◌, ◌++◌, length, filter, refl, ◌∙◌, ap, arith, ◌==◌, ◌||◌, true, false, Bool, cond, Some}
 use Rattle.std.specs.List.{AllByRecursion, list_any, enumerate_from, zip, find, slice_get}
 use Rattle.std.proofs.lemmas.List.Folds.{list_any-append}
 use Rattle.fs_model.specs.declared.model.Request.{Request}
 use Rattle.fs_model.specs.Cells.{key_of}
-use Rattle.fs_model.specs.Changes.{behind_last, names}
+use Rattle.fs_model.specs.Changes.{behind_last}
 
 module _ {X : Type 0} (p q : X → Bool) where
   pub filter_same : (xs : List X) → AllByRecursion (λ x. p x ≡ q x) xs → filter p xs ≡ filter q xs

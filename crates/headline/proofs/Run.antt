@@ -1,5 +1,5 @@
 -- One request more is answered.
-use Rattle.std.proofs.Common.{◌≡◌, ◌⊎◌, inl, inr, ℕ, zero, suc, ◌+◌, ◌<◌, ◌≤◌, List, [], ◌∷◌, ◌++◌, length, map, filter, refl, sym, ◌∙◌, ap, subst, arith, ◌==◌, ◌||◌, ◌&&◌, not, true, false, Bool, cond, Option, Some, None, leb, take, append_assoc, append-nil, length-append}
+use Rattle.std.proofs.Common.{◌≡◌, inl, inr, ℕ, ◌+◌, ◌<◌, ◌≤◌, List, [], ◌∷◌, ◌++◌, length, map, filter, refl, sym, ◌∙◌, ap, subst, arith, ◌==◌, ◌||◌, ◌&&◌, not, true, false, Bool, cond, Option, Some, None, leb, take, append_assoc, append-nil, length-append}
 use Rattle.std.proofs.lemmas.Bool.{eqb-true, eq-eqb, eqb-false, ne_eqb, cases_lt, leb-true, le-leb}
 use Rattle.std.proofs.lemmas.Option.{slice_get_past, slice_get_within}
 use Rattle.std.proofs.lemmas.List.Sums.{sum_by-append, sum_by-cons}
@@ -17,7 +17,7 @@ use Rattle.fs_model.proofs.Answered.{asked-append, lawful-more, changes-append}
 use Rattle.fs_model.specs.Changes.{requests_of, names, behind_last, requests_in, finished_changes, unfinished_change, changes_of, cell_after_all, finished_by, IsPrefixCell}
 use Rattle.headline.specs.Headline.{Told, finished_in, refused_in}
 use Rattle.headline.specs.Run.{Answered, Recorded}
-use Rattle.headline.proofs.Lists.{filter_same, any_same, behind_same, find_same, filter_none, any_none, behind-append, behind_end, enumerate-append, each_number, zip-append, get_before, get_front, get_end, each_behind}
+use Rattle.headline.proofs.Lists.{filter_same, behind_same, find_same, filter_none, any_none, behind-append, behind_end, enumerate-append, each_number, zip-append, get_before, get_front, get_end, each_behind}
 
 -- the numbered requests of a key among these, which begin with number n
 abbrev pub numbered : ℕ → ℕ → List Request → List (ℕ × Request)
@@ -337,8 +337,8 @@ unnamed xs n h = elim (names xs n) as (λ b. names xs n ≡ b → b ≡ false) [
 ] refl
 
 -- The three ways in which a run goes on.
-module _ (start : ℕ → Option (List ℕ)) (done : List Request) (replies : List Reply) (r : Told) (now : ℕ) (cell : ℕ → Option (List ℕ)) (q : Request) (reply : Reply)
-    (A : Answered start done replies r now cell) where
+module _ (Known : Type 0) (start : ℕ → Option (List ℕ)) (done : List Request) (replies : List Reply) (r : Told) (now : ℕ) (cell : ℕ → Option (List ℕ)) (q : Request) (reply : Reply)
+    (A : Answered Known start done replies r now cell) where
   abbrev key : ℕ
   key = key_of q
 
@@ -351,14 +351,17 @@ module _ (start : ℕ → Option (List ℕ)) (done : List Request) (replies : Li
   abbrev n : ℕ
   n = length done
 
-  may : MayReply q (cell key) false reply → MayReply q (cell_of (start key) (asked key (zip done replies))) (stopped_of false (asked key (zip done replies))) reply
-  may m = subst (λ b. MayReply q (cell_of (start key) (asked key (zip done replies))) b reply) (sym (A.going key)) (subst (λ c. MayReply q c false reply) (sym (A.cells key)) m)
+  may : (Known → MayReply q (cell key) false reply) → Known → MayReply q (cell_of (start key) (asked key (zip done replies))) (stopped_of false (asked key (zip done replies))) reply
+  may m known = subst (λ b. MayReply q (cell_of (start key) (asked key (zip done replies))) b reply) (sym (A.going key)) (subst (λ c. MayReply q c false reply) (sym (A.cells key)) (m known))
+
+  counted_more : length (replies ++ reply ∷ []) ≡ length (done ++ q ∷ [])
+  counted_more = length-append replies (reply ∷ []) ∙ ap (λ n. n + 1) A.count ∙ sym (length-append done (q ∷ []))
 
   cells_more : (next : ℕ → Option (List ℕ)) → next key ≡ cell_left q reply (cell key) → ((k : ℕ) → (key ≡ k → ⊥) → next k ≡ cell k)
       → (k : ℕ) → cell_of (start k) (asked k (zip (done ++ q ∷ []) (replies ++ reply ∷ []))) ≡ next k
   cells_more next own others = by_key (λ k. cell_of (start k) (asked k (zip (done ++ q ∷ []) (replies ++ reply ∷ []))) ≡ next k) key
-      (own_cell start done replies q reply A.lawful.count ∙ ap (cell_left q reply) (A.cells key) ∙ sym own)
-      (λ k ne. other_cell start done replies q reply A.lawful.count k ne ∙ A.cells k ∙ sym (others k ne))
+      (own_cell start done replies q reply A.count ∙ ap (cell_left q reply) (A.cells key) ∙ sym own)
+      (λ k ne. other_cell start done replies q reply A.count k ne ∙ A.cells k ∙ sym (others k ne))
 
   each_fin : AllByRecursion (λ (f : ℕ × ℕ). f.0 < n) r.finishes
   each_fin = each_finish n r.finishes A.finishes
@@ -392,13 +395,13 @@ module _ (start : ℕ → Option (List ℕ)) (done : List Request) (replies : Li
   longer = length-append done (q ∷ [])
 
   -- an answer that changes nothing
-  pub answered_quiet : is_finish reply ≡ false → is_told reply ≡ false → is_stopped reply ≡ false → MayReply q (cell key) false reply
-      → is_change q (cell key) ≡ false → cell_left q reply (cell key) ≡ cell key → Answered start (done ++ q ∷ []) (replies ++ reply ∷ []) r now cell
+  pub answered_quiet : is_finish reply ≡ false → is_told reply ≡ false → is_stopped reply ≡ false → (Known → MayReply q (cell key) false reply) → is_change q (cell key) ≡ false → cell_left q reply (cell key) ≡ cell key → Answered Known start (done ++ q ∷ []) (replies ++ reply ∷ []) r now cell
   answered_quiet quiet untold goes m unchanging leaves = record {
-    lawful = more_lawful start done replies q reply A.lawful.count A.lawful (may m);
+    count = counted_more;
+    lawful = λ known. more_lawful start done replies q reply A.count (A.lawful known) (may m known);
     fits = fits_quiet replies reply fin r.refusals A.fits quiet untold;
     cells = cells_more cell (sym leaves) (λ k ne. refl);
-    going = goes_on start done replies q reply A.lawful.count goes A.going;
+    going = goes_on start done replies q reply A.count goes A.going;
     left = λ k. ap (λ l. cell_after_all l (start k)) (changes_stay ref (λ m lt. refl) k) ∙ A.left k;
     settled = λ k. quiet_settled ref (λ m lt. refl) k (λ e. (λ t. (ap (λ k. is_change q (cell k)) (sym e) ∙ unchanging) t && not (names ref n)));
     finishes = λ i e. let lt = A.finishes i e in omega (arith, lt, longer);
@@ -408,18 +411,19 @@ module _ (start : ℕ → Option (List ℕ)) (done : List Request) (replies : Li
   }
 
   -- a refusal that the report tells
-  pub answered_refusal : is_finish reply ≡ false → is_told reply ≡ true → is_stopped reply ≡ false → MayReply q (cell key) false reply → cell_left q reply (cell key) ≡ cell key
-      → Answered start (done ++ q ∷ []) (replies ++ reply ∷ []) (record { finishes = r.finishes; refusals = r.refusals ++ (n, reply) ∷ [] }) now cell
+  pub answered_refusal : is_finish reply ≡ false → is_told reply ≡ true → is_stopped reply ≡ false → (Known → MayReply q (cell key) false reply) → cell_left q reply (cell key) ≡ cell key
+      → Answered Known start (done ++ q ∷ []) (replies ++ reply ∷ []) (record { finishes = r.finishes; refusals = r.refusals ++ (n, reply) ∷ [] }) now cell
   answered_refusal quiet told goes m leaves =
       let named : map (λ (x : ℕ × Reply). x.0) (r.refusals ++ (n, reply) ∷ []) ≡ ref ++ n ∷ [] = map-append (λ (x : ℕ × Reply). x.0) r.refusals ((n, reply) ∷ []) in
       let same : (m : ℕ) → m < n → names (map (λ (x : ℕ × Reply). x.0) (r.refusals ++ (n, reply) ∷ [])) m ≡ names ref m =
       λ m lt. ap (λ l. names l m) named ∙ names_more ref n m (λ e. omega (arith, lt, e)) in
       let here : names (map (λ (x : ℕ × Reply). x.0) (r.refusals ++ (n, reply) ∷ [])) n ≡ true = ap (λ l. names l n) named ∙ names_end ref n in
       record {
-        lawful = more_lawful start done replies q reply A.lawful.count A.lawful (may m);
-        fits = subst (λ i. Fits fin (r.refusals ++ (i, reply) ∷ []) (replies ++ reply ∷ [])) A.lawful.count (fits_refusal replies reply fin r.refusals A.fits quiet told);
+        count = counted_more;
+        lawful = λ known. more_lawful start done replies q reply A.count (A.lawful known) (may m known);
+        fits = subst (λ i. Fits fin (r.refusals ++ (i, reply) ∷ []) (replies ++ reply ∷ [])) A.count (fits_refusal replies reply fin r.refusals A.fits quiet told);
         cells = cells_more cell (sym leaves) (λ k ne. refl);
-        going = goes_on start done replies q reply A.lawful.count goes A.going;
+        going = goes_on start done replies q reply A.count goes A.going;
         left = λ k. ap (λ l. cell_after_all l (start k)) (changes_stay _ same k) ∙ A.left k;
         settled = λ k. quiet_settled _ same k (λ e. (λ t. is_change q (cell k) && not (here t)) ∙ and_false (is_change q (cell k)));
         finishes = λ i e. let lt = A.finishes i e in omega (arith, lt, longer);
@@ -515,14 +519,14 @@ module _ (start : ℕ → Option (List ℕ)) (done : List Request) (replies : Li
             | false ↦ λ e. refl
           ] refl
 
-    pub answered_finish : (next : ℕ → Option (List ℕ)) → is_finish reply ≡ true → is_told reply ≡ false → is_stopped reply ≡ false → MayReply q (cell key) false reply
-        → cell_left q reply (cell key) ≡ cell_after q (cell key) → next key ≡ cell_after q (cell key) → ((k : ℕ) → (key ≡ k → ⊥) → next k ≡ cell k)
-        → Answered start (done ++ q ∷ []) (replies ++ reply ∷ []) with_finish later next
+    pub answered_finish : (next : ℕ → Option (List ℕ)) → is_finish reply ≡ true → is_told reply ≡ false → is_stopped reply ≡ false → (Known → MayReply q (cell key) false reply) → cell_left q reply (cell key) ≡ cell_after q (cell key) → next key ≡ cell_after q (cell key) → ((k : ℕ) → (key ≡ k → ⊥) → next k ≡ cell k)
+        → Answered Known start (done ++ q ∷ []) (replies ++ reply ∷ []) with_finish later next
     answered_finish next finish untold goes m leaves own others = record {
-      lawful = more_lawful start done replies q reply A.lawful.count A.lawful (may m);
-      fits = subst (λ l. Fits l r.refusals (replies ++ reply ∷ [])) (ap (λ i. fin ++ i ∷ []) A.lawful.count ∙ sym named_fin) (fits_finish replies reply fin r.refusals A.fits finish untold);
+      count = counted_more;
+      lawful = λ known. more_lawful start done replies q reply A.count (A.lawful known) (may m known);
+      fits = subst (λ l. Fits l r.refusals (replies ++ reply ∷ [])) (ap (λ i. fin ++ i ∷ []) A.count ∙ sym named_fin) (fits_finish replies reply fin r.refusals A.fits finish untold);
       cells = cells_more next (own ∙ sym leaves) others;
-      going = goes_on start done replies q reply A.lawful.count goes A.going;
+      going = goes_on start done replies q reply A.count goes A.going;
       left = by_key (λ k. cell_after_all (finished_changes k (done ++ q ∷ []) (finished_in with_finish)) (start k) ≡ next k) key
           (ap (λ l. cell_after_all l (start key)) own_changes ∙ changes-append (start key) (finished_changes key done fin) (q ∷ []) ∙ ap (cell_after q) (A.left key) ∙ sym own)
           (λ k ne. ap (λ l. cell_after_all l (start k)) (other_changes k ne) ∙ A.left k ∙ sym (others k ne));
@@ -536,15 +540,15 @@ module _ (start : ℕ → Option (List ℕ)) (done : List Request) (replies : Li
     }
 
 -- what stays true
-pub recorded : (start : ℕ → Option (List ℕ)) (done : List Request) (replies : List Reply) (r : Told) (now : ℕ) (cell : ℕ → Option (List ℕ)) → Answered start done replies r now cell → Recorded start done replies r
-recorded start done replies r now cell A = record { lawful = A.lawful; fits = A.fits; finishes = A.finishes; refusals = A.refusals; counted = A.counted }
+pub recorded : (Known : Type 0) (start : ℕ → Option (List ℕ)) (done : List Request) (replies : List Reply) (r : Told) (now : ℕ) (cell : ℕ → Option (List ℕ)) → Answered Known start done replies r now cell → Recorded Known start done replies r
+recorded Known start done replies r now cell A = record { count = A.count; lawful = A.lawful; fits = A.fits; finishes = A.finishes; refusals = A.refusals; counted = A.counted }
 
 -- Stopped is lawful always.
 may_stop : (q : Request) (c : Option (List ℕ)) (stopped : Bool) → MayReply q c stopped Stopped
 may_stop q c true = refl
 may_stop q c false = inr refl
 
-module _ (start : ℕ → Option (List ℕ)) (done : List Request) (replies : List Reply) (r : Told) (q : Request) (R : Recorded start done replies r) where
+module _ (Known : Type 0) (start : ℕ → Option (List ℕ)) (done : List Request) (replies : List Reply) (r : Told) (q : Request) (R : Recorded Known start done replies r) where
   abbrev fin' : List ℕ
   fin' = finished_in r
 
@@ -555,11 +559,12 @@ module _ (start : ℕ → Option (List ℕ)) (done : List Request) (replies : Li
   stopped_changes k = finished_stays done q k fin' fin' [] [] (λ m lt. refl) (λ m lt. refl) (start k)
       (filter_none (λ (x : ℕ × Request). names fin' x.0) (own done q k) (each_number (λ m. names fin' m ≡ false) k (length done) (q ∷ []) (λ m low high. subst (λ m. names fin' m ≡ false) (let e : length done ≡ m = omega (arith, low, high) in e) (unnamed fin' (length done) R.finishes))))
 
-  pub recorded_stopped : Recorded start (done ++ q ∷ []) (replies ++ Stopped ∷ []) r
+  pub recorded_stopped : Recorded Known start (done ++ q ∷ []) (replies ++ Stopped ∷ []) r
   recorded_stopped =
       let longer : length (done ++ q ∷ []) ≡ length done + 1 = length-append done (q ∷ []) in
       record {
-        lawful = more_lawful start done replies q Stopped R.lawful.count R.lawful (may_stop q _ _);
+        count = length-append replies (Stopped ∷ []) ∙ ap (λ n. n + 1) R.count ∙ sym longer;
+        lawful = λ known. more_lawful start done replies q Stopped R.count (R.lawful known) (may_stop q _ _);
         fits = fits_quiet replies Stopped fin' r.refusals R.fits refl refl;
         finishes = λ i e. let lt = R.finishes i e in omega (arith, lt, longer);
         refusals = λ i e. let lt = R.refusals i e in omega (arith, lt, longer);
@@ -569,3 +574,22 @@ module _ (start : ℕ → Option (List ℕ)) (done : List Request) (replies : Li
             let before = R.counted k t in
             omega (arith, same, long, before);
       }
+
+-- the same by less that is known
+pub answered_by : (K L : Type 0) (start : ℕ → Option (List ℕ)) (done : List Request) (replies : List Reply) (r : Told) (now : ℕ) (cell : ℕ → Option (List ℕ)) → (L → K) → Answered K start done replies r now cell → Answered L start done replies r now cell
+answered_by K L start done replies r now cell f A = record {
+  count = A.count;
+  lawful = λ known. A.lawful (f known);
+  fits = A.fits;
+  cells = A.cells;
+  going = A.going;
+  left = A.left;
+  settled = A.settled;
+  finishes = A.finishes;
+  refusals = A.refusals;
+  counted = A.counted;
+  whole = A.whole;
+}
+
+pub recorded_by : (K L : Type 0) (start : ℕ → Option (List ℕ)) (done : List Request) (replies : List Reply) (r : Told) → (L → K) → Recorded K start done replies r → Recorded L start done replies r
+recorded_by K L start done replies r f R = record { count = R.count; lawful = λ known. R.lawful (f known); fits = R.fits; finishes = R.finishes; refusals = R.refusals; counted = R.counted }

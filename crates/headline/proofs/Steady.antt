@@ -1,5 +1,5 @@
 -- A store that hasn't stopped has answered no request `Stopped`.
-use Rattle.std.proofs.Common.{◌≡◌, ℕ, suc, List, [], ◌∷◌, length, refl, sym, ◌∙◌, ap, subst, arith, ◌==◌, ◌||◌, true, false, Bool, cond, Option}
+use Rattle.std.proofs.Common.{◌≡◌, ℕ, List, [], ◌∷◌, length, refl, sym, ◌∙◌, ap, arith, ◌==◌, ◌||◌, true, false, Bool, cond, Option}
 use Rattle.std.proofs.lemmas.Bool.{eq-eqb}
 use Rattle.std.specs.List.{AllByRecursion, zip}
 use Rattle.fs_model.specs.declared.model.Request.{Request}
@@ -35,5 +35,5 @@ steady (q ∷ qs) (x ∷ xs) len none =
       steady qs xs (omega (arith, len)) (λ k. behind_steady k q x (asked k (zip qs xs)) (key_of q == k) (none k)),
     )
 
-pub none_stopped : (start : ℕ → Option (List ℕ)) (done : List Request) (replies : List Reply) (r : Told) (now : ℕ) (cell : ℕ → Option (List ℕ)) → Answered start done replies r now cell → AllByRecursion (λ x. is_stopped x ≡ false) replies
-none_stopped start done replies r now cell A = steady done replies A.lawful.count A.going
+pub none_stopped : (Known : Type 0) (start : ℕ → Option (List ℕ)) (done : List Request) (replies : List Reply) (r : Told) (now : ℕ) (cell : ℕ → Option (List ℕ)) → Answered Known start done replies r now cell → AllByRecursion (λ x. is_stopped x ≡ false) replies
+none_stopped Known start done replies r now cell A = steady done replies A.count A.going

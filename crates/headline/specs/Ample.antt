@@ -1,13 +1,12 @@
 -- Which inputs a part of an image has room for.
-use Rattle.std.specs.Prelude.{ℕ, ◌+◌, ◌-◌, ◌*◌, ◌/◌, ◌^◌, ◌≤◌, ◌<◌, ◌==◌, ◌&&◌, nat_lt, nat_le, List, [], ◌∷◌, length, Bool, true, false, Result, Ok, Err, if◌then◌else◌, count_by, sum_by}
+use Rattle.std.specs.Prelude.{ℕ, ◌+◌, ◌-◌, ◌*◌, ◌/◌, ◌≤◌, ◌<◌, ◌==◌, ◌&&◌, nat_lt, nat_le, List, length, Bool, false, if◌then◌else◌, count_by, sum_by}
 use Rattle.fs_model.specs.declared.model.Request.{Request}
 use Rattle.fs_model.specs.declared.model.Request.TheVariants.{Put, Get, Delete}
 use Rattle.fs_model.specs.Cells.{key_of}
 use Rattle.chunk_map.specs.declared.layouts.Geometry.{Geometry}
-use Rattle.chunk_map.specs.declared.heads.Head.{Head}
-use Rattle.chunk_map.specs.declared.heads.Head.TheVariants.{Free, Log, Data}
 use Rattle.chunk_map.specs.Layouts.{numbers, chunk_first, head_at, owner, is_of_group, has_class}
-use Rattle.store_image.specs.Parts.{chunk_units}
+use Rattle.lazy_alloc.specs.Heads.{is_free}
+use Rattle.lazy_alloc.specs.Sets.{blocks_in}
 
 -- n divided by d, rounded up
 abbrev pub parts_of : ℕ → ℕ → ℕ
@@ -27,17 +26,8 @@ is_put_of l c class (Put k v) = owner l k == c && has_class (length v) class && 
 is_put_of l c class (Get k) = false
 is_put_of l c class (Delete k) = false
 
-abbrev pub blocks_of : Geometry → ℕ → ℕ
-blocks_of l class = (chunk_units l - 1) / 2 ^ class
-
 abbrev pub data_chunks : Geometry → ℕ → List Request → ℕ
-data_chunks l c trace = sum_by (λ class. parts_of (count_by (is_put_of l c class) trace) (blocks_of l class)) (numbers 1 12)
-
-abbrev pub is_free : Result Head ℕ → Bool
-is_free (Ok Free) = true
-is_free (Ok (Log tail)) = false
-is_free (Ok (Data class)) = false
-is_free (Err rule) = false
+data_chunks l c trace = sum_by (λ class. parts_of (count_by (is_put_of l c class) trace) (blocks_in l class)) (numbers 1 12)
 
 abbrev pub free_chunks : Geometry → (ℕ → ℕ) → ℕ → ℕ
 free_chunks l image c = count_by (λ j. is_free (head_at l image (chunk_first l c j))) (numbers 0 l.chunks)

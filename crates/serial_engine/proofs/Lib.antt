@@ -1,13 +1,6 @@
 pub mod Sound
-pub mod Images
-pub mod Appends
-pub mod Puts
-pub mod Opened
-pub mod Stored
 pub mod Steps
+pub mod Growing
 pub mod Requests
-pub mod Appended
-pub mod Stocks
+pub mod Cases
 pub mod Roomy
-pub mod Lookups
-pub mod Recovered

@@ -1,13 +1,13 @@
 -- What answers report.
-use Rattle.std.specs.Prelude.{◌<◌, List, map, vec_len, vec_capacity}
+use Rattle.std.specs.Prelude.{◌≡◌, ◌<◌, ℕ, List, [], ◌∷◌, ◌++◌, length, map, vec_len, vec_capacity}
 use Rattle.fs_model.specs.declared.model.Reply.{Reply}
 use Rattle.fs_model.specs.declared.model.Reply.TheVariants.{Full, VersionsSpent, TooLong}
 use Rattle.headline.specs.Headline.{Told}
+use Rattle.core_store.specs.declared.types.Shortage.{Shortage}
+use Rattle.core_store.specs.declared.types.Shortage.TheVariants.{Room, Block, Versions, Length}
 use Rattle.serial_engine.specs.declared.answers.Answers.{Answers}
 use Rattle.serial_engine.specs.declared.answers.Finish.{Finish}
 use Rattle.serial_engine.specs.declared.answers.Refusal.{Refusal}
-use Rattle.serial_engine.specs.declared.answers.Shortage.{Shortage}
-use Rattle.serial_engine.specs.declared.answers.Shortage.TheVariants.{Room, Block, Versions, Length}
 
 -- the reply that a cause stands for
 abbrev pub reply_to : Shortage → Reply
@@ -30,3 +30,27 @@ pub record HasRoom (a : Answers) : Type 0 where
   pub replies : vec_len a.replies < vec_capacity a.replies
   pub finishes : vec_len a.finishes < vec_capacity a.finishes
   pub refusals : vec_len a.refusals < vec_capacity a.refusals
+
+-- one reply more, which the report does not name
+pub record Replies (old new : Answers) (reply : Reply) : Type 0 where
+  pub replies : new.replies.items ≡ old.replies.items ++ reply ∷ []
+  pub finishes : new.finishes.items ≡ old.finishes.items
+  pub refusals : new.refusals.items ≡ old.refusals.items
+
+-- the reply to a change that is finished at this stamp
+pub record Finishes (old new : Answers) (reply : Reply) (stamp : ℕ) : Type 0 where
+  pub replies : new.replies.items ≡ old.replies.items ++ reply ∷ []
+  pub finishes : new.finishes.items ≡ old.finishes.items ++ record { request = length old.replies.items; stamp = stamp } ∷ []
+  pub refusals : new.refusals.items ≡ old.refusals.items
+
+-- a refusal with its cause
+pub record Refuses (old new : Answers) (why : Shortage) : Type 0 where
+  pub replies : new.replies.items ≡ old.replies.items ++ reply_to why ∷ []
+  pub finishes : new.finishes.items ≡ old.finishes.items
+  pub refusals : new.refusals.items ≡ old.refusals.items ++ record { request = length old.replies.items; why = why } ∷ []
+
+-- the same answers
+pub record SameAnswers (old new : Answers) : Type 0 where
+  pub replies : new.replies.items ≡ old.replies.items
+  pub finishes : new.finishes.items ≡ old.finishes.items
+  pub refusals : new.refusals.items ≡ old.refusals.items

@@ -1,9 +1,3 @@
-pub mod Cells
-pub mod Shows
-pub mod Moments
-pub mod Ready
 pub mod Answers
 pub mod Refusals
 pub mod Going
-pub mod Stock
-pub mod Opening

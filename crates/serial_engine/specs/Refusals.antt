@@ -1,27 +1,40 @@
--- When a put of an embedded value is refused, and with which counts.
-use Rattle.std.specs.Prelude.{◌≡◌, ◌⊎◌, ℕ, ◌+◌, ◌/◌, ◌<◌, ◌≤◌, length, Option, Some, None}
-use Rattle.core_log.specs.Log.{room_of}
-use Rattle.serial_engine.specs.declared.store.Store.{Store}
-use Rattle.serial_engine.specs.declared.answers.Counts.{Counts}
-use Rattle.serial_engine.specs.declared.answers.Shortage.{Shortage}
-use Rattle.serial_engine.specs.declared.answers.Shortage.TheVariants.{Room, Block, Versions, Length}
-use Rattle.serial_engine.specs.Cells.{last_of}
+-- Which requests are refused, by the requests alone: with what a store has left before each of them.
+use Rattle.std.specs.Prelude.{ℕ, ◌+◌, List, [], ◌∷◌, ◌++◌, length, Bool, true, false, Option, Some, None, is_some, if◌then◌else◌}
+use Rattle.fs_model.specs.declared.model.Request.{Request}
+use Rattle.fs_model.specs.declared.model.Request.TheVariants.{Put, Get, Delete}
+use Rattle.chunk_map.specs.declared.layouts.Geometry.{Geometry}
+use Rattle.core_store.specs.declared.types.Shortage.{Shortage}
+use Rattle.core_store.specs.declared.types.Shortage.TheVariants.{Room, Block, Versions, Length}
+use Rattle.core_store.specs.Stock.{Stock, why_put, why_delete, after_put, after_delete}
+use Rattle.serial_engine.specs.declared.answers.Refusal.{Refusal}
 
--- how many lines the entry of an embedded value of this length takes
-abbrev pub lines_needed : ℕ → ℕ
-lines_needed length = (2 + (length + 7) / 8 + 7) / 8
+abbrev pub why : Geometry → Stock → Request → Option Shortage
+why l s (Put k v) = why_put l s k (length v)
+why l s (Get k) = None
+why l s (Delete k) = if is_some (s.holds k) then why_delete s else None
 
--- the entry fits neither in the open chunk nor in a fresh one: the last free chunk is kept
-abbrev pub LacksRoom : Store → ℕ → Type 0
-LacksRoom e need = (room_of e.log < need) × (length e.free.items < 2)
+-- a refused request leaves the stock
+abbrev pub after : Geometry → Stock → Request → Stock
+after l s (Put k v) = if is_some (why_put l s k (length v)) then s else after_put l s k (length v)
+after l s (Get k) = s
+after l s (Delete k) = if is_some (s.holds k) then (if is_some (why_delete s) then s else after_delete l s k) else s
 
-abbrev pub room_counts : Store → ℕ → Counts
-room_counts e need = record { free_chunks = length e.free.items; open_lines = room_of e.log; pledged_lines = 0; need_lines = need; class = 0; free_blocks = 0 }
+abbrev pub stock_after : Geometry → Stock → List Request → Stock
+stock_after l s [] = s
+stock_after l s (q ∷ qs) = stock_after l (after l s q) qs
 
--- No refusal, or the cause that comes first.
-abbrev pub IsRefusal : Store → ℕ → ℕ → Option Shortage → Type 0
-IsRefusal e key need None = (last_of e.cells key < 1048574) × ((need ≤ room_of e.log) ⊎ (2 ≤ length e.free.items))
-IsRefusal e key need (Some (Room c)) = (last_of e.cells key < 1048574) × LacksRoom e need × (c ≡ room_counts e need)
-IsRefusal e key need (Some (Block c)) = ⊥
-IsRefusal e key need (Some (Versions last)) = (1048574 ≤ last_of e.cells key) × (last ≡ last_of e.cells key)
-IsRefusal e key need (Some (Length length)) = ⊥
+abbrev pub named : ℕ → Option Shortage → List Refusal
+named n None = []
+named n (Some cause) = record { request = n; why = cause } ∷ []
+
+-- the refusals among requests that are all answered, the first of which has this number
+abbrev pub refusals_from : Geometry → ℕ → Stock → List Request → List Refusal
+refusals_from l n s [] = []
+refusals_from l n s (q ∷ qs) = named n (why l s q) ++ refusals_from l (n + 1) (after l s q) qs
+
+-- the causes of the reply `Full`
+abbrev pub is_full : Shortage → Bool
+is_full (Room counts) = true
+is_full (Block counts) = true
+is_full (Versions last) = false
+is_full (Length length) = false

@@ -1,38 +1,10 @@
 // What a run answers, and what it reports of its answers.
 ghost use Rattle.std.specs.Prelude.{◌≡◌, ℕ, ◌+◌, ◌<◌, ◌≤◌, [], ◌∷◌, ◌++◌, length, OnOk, vec_len, vec_capacity};
 
+use core_store::Shortage;
 use fs_errors::Memory;
-use fs_model::{Reply, Version};
+use fs_model::Reply;
 use std::alloc::Global;
-
-/// The numbers by which a change was refused for want of room, of its core at that moment.
-#[derive(Clone, Copy, Debug, PartialEq, Eq)]
-pub struct Counts {
-    pub free_chunks: u32,
-    /// Free lines of the open log chunk.
-    pub open_lines: u64,
-    /// Lines that were promised to changes under way.
-    pub pledged_lines: u64,
-    /// Lines that the change's entry needs.
-    pub need_lines: u64,
-    /// The class of the block that the value needs, or 0 where it needs none.
-    pub class: u32,
-    /// Free blocks of that class, or 0.
-    pub free_blocks: u32,
-}
-
-/// Why a request was refused.
-#[derive(Clone, Copy, Debug, PartialEq, Eq)]
-pub enum Shortage {
-    /// The log has no room for the entry.
-    Room(Counts),
-    /// No block is free for the value, and none may be cut.
-    Block(Counts),
-    /// The key's last version is the greatest that a put may follow.
-    Versions { last: Version },
-    /// The value has so many bytes, more than a block can hold.
-    Length { length: u64 },
-}
 
 /// A change that was answered `Stored` or `Deleted`.
 #[derive(Clone, Copy, Debug, PartialEq, Eq)]
@@ -60,7 +32,7 @@ pub struct Answers {
 }
 
 impl Answers {
-    ghost use Rattle.serial_engine.specs.Answers.{HasRoom, reply_to};
+    ghost use Rattle.serial_engine.specs.Answers.{HasRoom, SameAnswers, Replies, Finishes, Refuses};
 
     /// No answers yet.
     pub fn new(alloc: Global) -> Answers
@@ -77,9 +49,7 @@ impl Answers {
 
     /// Makes room for one answer of any kind.
     pub fn reserve(&mut self) -> Result<(), Memory>
-        ensures replies { self.new.replies.items ≡ self.old.replies.items }
-        ensures finishes { self.new.finishes.items ≡ self.old.finishes.items }
-        ensures refusals { self.new.refusals.items ≡ self.old.refusals.items }
+        ensures same { SameAnswers self.old self.new }
         ensures room { OnOk result (HasRoom self.new) }
     {
         self.replies.reserve(1)?;
@@ -90,20 +60,16 @@ impl Answers {
 
     /// A reply that the report doesn't name.
     pub fn reply(&mut self, reply: Reply)
-        requires { HasRoom self.old }
-        ensures replies { self.new.replies.items ≡ self.old.replies.items ++ reply ∷ [] }
-        ensures finishes { self.new.finishes.items ≡ self.old.finishes.items }
-        ensures refusals { self.new.refusals.items ≡ self.old.refusals.items }
+        requires room { HasRoom self.old }
+        ensures { Replies self.old self.new reply }
     {
         self.replies.push(reply).unwrap();
     }
 
     /// The reply to a change that is finished at this stamp.
     pub fn finish(&mut self, reply: Reply, stamp: u64)
-        requires { HasRoom self.old }
-        ensures replies { self.new.replies.items ≡ self.old.replies.items ++ reply ∷ [] }
-        ensures finishes { self.new.finishes.items ≡ self.old.finishes.items ++ record { request = length self.old.replies.items; stamp = stamp } ∷ [] }
-        ensures refusals { self.new.refusals.items ≡ self.old.refusals.items }
+        requires room { HasRoom self.old }
+        ensures { Finishes self.old self.new reply stamp }
     {
         let request = self.replies.len() as u64;
         self.replies.push(reply).unwrap();
@@ -112,10 +78,8 @@ impl Answers {
 
     /// A refusal with its cause.
     pub fn refuse(&mut self, why: Shortage)
-        requires { HasRoom self.old }
-        ensures replies { self.new.replies.items ≡ self.old.replies.items ++ reply_to why ∷ [] }
-        ensures finishes { self.new.finishes.items ≡ self.old.finishes.items }
-        ensures refusals { self.new.refusals.items ≡ self.old.refusals.items ++ record { request = length self.old.replies.items; why = why } ∷ [] }
+        requires room { HasRoom self.old }
+        ensures { Refuses self.old self.new why }
     {
         let request = self.replies.len() as u64;
         let reply = match why {

@@ -2,6 +2,4 @@
 #![tactic(auto)]
 
 pub mod answers;
-pub mod cells;
 pub mod run;
-pub mod store;

@@ -1,19 +1,17 @@
 // Requests, one after another.
-ghost use Rattle.std.specs.Prelude.{◌≡◌, ◌⊎◌, ℕ, ◌+◌, ◌^◌, ◌<◌, ◌≤◌, List, [], ◌∷◌, ◌++◌, length, Bool, true, false, Option, IfOk, OnOk, OnErr, MatchResult};
-ghost use Rattle.std.specs.List.{AllByRecursion};
-ghost use Rattle.pm_region.specs.State.{State, Rose};
-ghost use Rattle.fs_model.specs.declared.model.Request.{Request};
-ghost use Rattle.serial_engine.specs.Cells.{cell_of};
+ghost use Rattle.std.specs.Prelude.{◌≡◌, ℕ, ◌^◌, ◌<◌, ◌≤◌, List, [], length, true, false, Option, Some, is_some, OnOk, OnErr};
+ghost use Rattle.pm_region.specs.State.{State, IsTelling, Rose};
+ghost use Rattle.core_store.specs.Ready.{Ready};
+ghost use Rattle.core_store.specs.Keeps.{Keeps};
+ghost use Rattle.core_store.specs.declared.types.Shortage.{Shortage};
+ghost use Rattle.core_store.specs.Stock.{stock_of, class_held, why_put, why_delete};
 ghost use Rattle.serial_engine.specs.Going.{Going};
-ghost use Rattle.serial_engine.specs.Ready.{Ready};
-ghost use Rattle.chunk_map.specs.Layouts.{payload_lines};
-ghost use Rattle.serial_engine.specs.Stock.{Stocked, stock_of};
 
 use crate::answers::Answers;
-use crate::store::{Store, lines_needed};
+use core_store::Store;
 use fs_errors::Memory;
 use fs_model::{Key, Reply, Request, Value};
-use pm_region::Region;
+use pm_region::{Region, RegionFault};
 use std::alloc::Global;
 
 /// A store with the answers that it gave.
@@ -26,50 +24,95 @@ pub struct Run {
 }
 
 impl Run {
-    ghost use Rattle.fs_model.specs.declared.model.Request.TheVariants.{Put, Get};
-    ghost use Rattle.serial_engine.specs.Answers.{HasRoom};
-    ghost use Rattle.serial_engine.specs.Stock.{StocksOne, StocksNone, StocksList, StocksSome};
-    ghost use Rattle.serial_engine.specs.Going.{IsServed, IsReady, AnswersOne, AnswersNone, AnswersList, AnswersSome};
+    ghost use Rattle.fs_model.specs.declared.model.Request.TheVariants.{Put, Get, Delete};
+    ghost use Rattle.fs_model.specs.declared.model.Reply.TheVariants.{Stopped};
+    ghost use Rattle.serial_engine.specs.Answers.{HasRoom, Replies, Finishes};
+    ghost use Rattle.serial_engine.specs.Going.{IsReady, Runs, AnswersOne, AnswersNone, AnswersList, AnswersSome};
 
-    fn get(&mut self, alloc: Global, key: Key) -> Result<(), Memory>
+    // A change that was tried is finished at this stamp, or the store stops.
+    fn conclude(&mut self, outcome: Result<(), RegionFault>, reply: Reply, stamp: u64)
         requires room { HasRoom self.old.answers }
         requires going { self.old.stopped ≡ false }
-        ensures ok { (s : State) → OnOk result (AnswersOne s s self.old self.new (Get key)) }
-        ensures stock { OnOk result (StocksOne self.old self.new (Get key)) }
-        ensures err { OnErr result (self.new ≡ self.old) }
+        ensures finished { OnOk outcome (Finishes self.old.answers self.new.answers reply stamp × (self.new.stopped ≡ false)) }
+        ensures failed { OnErr outcome (Replies self.old.answers self.new.answers Stopped × (self.new.stopped ≡ true)) }
         ensures store { self.new.store ≡ self.old.store }
-        ensures stopped { self.new.stopped ≡ false }
     {
-        let reply = self.store.get(alloc, key)?;
-        self.answers.reply(reply);
-        Ok(())
-    }
-
-    fn put<R: Region>(&mut self, region: &mut R, key: Key, value: Value) -> Result<(), Memory>
-        requires room { HasRoom self.old.answers }
-        requires going { self.old.stopped ≡ false }
-        requires ready { Ready (R.state region.old) self.old.store }
-        requires short { length value ≤ 255 }
-        ensures ok { OnOk result (AnswersOne (R.state region.old) (R.state region.new) self.old self.new (Put key value)) }
-        ensures err { OnErr result (AnswersNone (R.state region.old) (R.state region.new) self.old self.new) }
-        ensures stock { OnOk result (StocksOne self.old self.new (Put key value)) }
-        ensures stock_err { OnErr result (StocksNone self.old self.new) }
-        ensures ready { IsReady (R.state region.new) self.new }
-        ensures count { (R.state region.old).faults ≤ (R.state region.new).faults }
-        ensures cause { self.new.stopped ≡ true → Rose (R.state region.old).faults (R.state region.new).faults }
-    {
-        if let Some(why) = self.store.refusal(key, lines_needed(value.bytes())) {
-            self.answers.refuse(why);
-            return Ok(());
-        }
-        self.store.admit(key)?;
-        match self.store.put(region, key, value) {
-            Ok(()) => self.answers.finish(Reply::Stored, region.stamp()),
+        match outcome {
+            Ok(()) => self.answers.finish(reply, stamp),
             Err(_) => {
                 self.stopped = true;
                 self.answers.reply(Reply::Stopped);
             }
         }
+    }
+
+    fn get<R: Region>(&mut self, alloc: Global, region: &R, key: Key) -> Result<(), Memory>
+        requires room { HasRoom self.old.answers }
+        requires going { self.old.stopped ≡ false }
+        requires ready { Ready (R.state region.now) self.old.store }
+        ensures ok { OnOk result (AnswersOne (R.state region.now) (R.state region.now) self.old self.new (Get key)) }
+        ensures err { OnErr result (self.new ≡ self.old) }
+        ensures store { self.new.store ≡ self.old.store }
+        ensures stopped { self.new.stopped ≡ false }
+    {
+        let reply = self.store.get(alloc, region, key)?;
+        self.answers.reply(reply);
+        Ok(())
+    }
+
+    fn put<R: Region>(
+        &mut self,
+        alloc: Global,
+        region: &mut R,
+        key: Key,
+        value: Value,
+    ) -> Result<(), Memory>
+        requires room { HasRoom self.old.answers }
+        requires going { self.old.stopped ≡ false }
+        requires ready { Ready (R.state region.old) self.old.store }
+        ensures ok { OnOk result (AnswersOne (R.state region.old) (R.state region.new) self.old self.new (Put key value)) }
+        ensures err { OnErr result (AnswersNone (R.state region.old) (R.state region.new) self.old self.new) }
+        // A refusal leaves store and region as they were.
+        ensures refused { (cause : Shortage) → why_put self.old.store.log.layout (stock_of self.old.store) key (length value) ≡ Some cause → (self.new.store ≡ self.old.store) × (R.state region.new ≡ R.state region.old) }
+        ensures ready { IsReady (R.state region.new) self.new }
+        ensures run { Runs (R.state region.old) (R.state region.new) }
+        ensures cause { self.new.stopped ≡ true → Rose (R.state region.old).faults (R.state region.new).faults }
+    {
+        let length = value.bytes().len() as u64;
+        if let Some(why) = self.store.put_refusal(key, length) {
+            self.answers.refuse(why);
+            return Ok(());
+        }
+        self.store.admit(alloc, key)?;
+        let outcome = self.store.put(region, key, value);
+        self.conclude(outcome, Reply::Stored, region.stamp());
+        Ok(())
+    }
+
+    fn delete<R: Region>(&mut self, alloc: Global, region: &mut R, key: Key) -> Result<(), Memory>
+        requires room { HasRoom self.old.answers }
+        requires going { self.old.stopped ≡ false }
+        requires ready { Ready (R.state region.old) self.old.store }
+        ensures ok { OnOk result (AnswersOne (R.state region.old) (R.state region.new) self.old self.new (Delete key)) }
+        ensures err { OnErr result (AnswersNone (R.state region.old) (R.state region.new) self.old self.new) }
+        // A refusal leaves store and region as they were, and so does the delete of a key without a value.
+        ensures refused { (cause : Shortage) → why_delete (stock_of self.old.store) ≡ Some cause → (self.new.store ≡ self.old.store) × (R.state region.new ≡ R.state region.old) }
+        ensures absent { is_some (class_held self.old.store key) ≡ false → (self.new.store ≡ self.old.store) × (R.state region.new ≡ R.state region.old) }
+        ensures ready { IsReady (R.state region.new) self.new }
+        ensures run { Runs (R.state region.old) (R.state region.new) }
+        ensures cause { self.new.stopped ≡ true → Rose (R.state region.old).faults (R.state region.new).faults }
+    {
+        if !self.store.is_live(key) {
+            self.answers.reply(Reply::Absent);
+            return Ok(());
+        }
+        if let Some(why) = self.store.delete_refusal() {
+            self.answers.refuse(why);
+            return Ok(());
+        }
+        self.store.admit(alloc, key)?;
+        let outcome = self.store.delete(region, key);
+        self.conclude(outcome, Reply::Deleted, region.stamp());
         Ok(())
     }
 
@@ -80,14 +123,11 @@ impl Run {
         region: &mut R,
         request: Request,
     ) -> Result<(), Memory>
-        requires served { IsServed request }
         requires ready { IsReady (R.state region.old) self.old }
         ensures ok { OnOk result (AnswersOne (R.state region.old) (R.state region.new) self.old self.new request) }
         ensures err { OnErr result (AnswersNone (R.state region.old) (R.state region.new) self.old self.new) }
-        ensures stock { OnOk result (StocksOne self.old self.new request) }
-        ensures stock_err { OnErr result (StocksNone self.old self.new) }
         ensures ready { IsReady (R.state region.new) self.new }
-        ensures count { (R.state region.old).faults ≤ (R.state region.new).faults }
+        ensures run { Runs (R.state region.old) (R.state region.new) }
         ensures cause { self.old.stopped ≡ false → self.new.stopped ≡ true → Rose (R.state region.old).faults (R.state region.new).faults }
         ensures stays { self.old.stopped ≡ true → self.new.stopped ≡ true }
     {
@@ -97,9 +137,9 @@ impl Run {
             return Ok(());
         }
         match request {
-            Request::Put { key, value } => self.put(region, key, value),
-            Request::Get { key } => self.get(alloc, key),
-            Request::Delete { .. } => unreachable!(),
+            Request::Put { key, value } => self.put(alloc, region, key, value),
+            Request::Get { key } => self.get(alloc, region, key),
+            Request::Delete { key } => self.delete(alloc, region, key),
         }
     }
 
@@ -110,14 +150,11 @@ impl Run {
         region: &mut R,
         requests: Vec<Request>,
     ) -> Result<(), Memory>
-        requires served { AllByRecursion IsServed requests.items }
         requires ready { IsReady (R.state region.old) self.old }
         ensures ok { OnOk result (AnswersList (R.state region.old) (R.state region.new) self.old self.new requests.items) }
         ensures err { OnErr result (AnswersSome (R.state region.old) (R.state region.new) self.old self.new requests.items) }
-        ensures stock { OnOk result (StocksList self.old self.new requests.items) }
-        ensures stock_err { OnErr result (StocksSome self.old self.new requests.items) }
         ensures ready { IsReady (R.state region.new) self.new }
-        ensures count { (R.state region.old).faults ≤ (R.state region.new).faults }
+        ensures run { Runs (R.state region.old) (R.state region.new) }
         ensures cause { self.old.stopped ≡ false → self.new.stopped ≡ true → Rose (R.state region.old).faults (R.state region.new).faults }
     {
         for request in requests {
@@ -129,8 +166,8 @@ impl Run {
 
 /// A run that begins: no request is answered yet.
 pub fn begin(alloc: Global, store: Store) -> Run
-    ensures going { (s : State) → Ready s store → Going s s (cell_of store.cells) [] result }
-    ensures stock { Stocked (payload_lines store.log.layout) (stock_of store) [] result }
+    ensures going { (s : State) (cells : ℕ → Option (List ℕ)) → Ready s store → Keeps s store cells
+        → Going (record { at = s; layout = store.log.layout; cells = cells; stock = stock_of store }) s [] result }
     ensures store { result.store ≡ store }
     ensures stopped { result.stopped ≡ false }
 {
