@@ -1,6 +1,6 @@
 -- What answering a list of requests did, from where the run came to.
-use Rattle.std.proofs.Common.{◌≡◌, ℕ, List, [], ◌∷◌, ◌++◌, sym, ◌∙◌, ap, subst, true, false, Option, None, append_assoc, append-nil}
-use Rattle.pm_region.specs.State.{State, Rose}
+use Rattle.std.proofs.Common.{◌≡◌, ℕ, List, [], ◌∷◌, ◌++◌, sym, ◌∙◌, ap, subst, true, false, Option, append_assoc, append-nil}
+use Rattle.pm_region.specs.State.{State, IsTelling}
 use Rattle.pm_region.proofs.Moments.{over_weaken}
 use Rattle.fs_model.specs.declared.model.Request.{Request}
 use Rattle.fs_model.specs.declared.model.Reply.{Reply}
@@ -11,68 +11,57 @@ use Rattle.headline.specs.Run.{Recorded}
 use Rattle.headline.proofs.Run.{recorded_stopped}
 use Rattle.headline.proofs.Crash.{recovers_grow}
 use Rattle.headline.proofs.Steady.{none_stopped}
+use Rattle.core_store.specs.Records.{last_in}
+use Rattle.core_store.specs.Moments.{EachImage}
 use Rattle.serial_engine.specs.declared.run.Run.{Run}
 use Rattle.serial_engine.specs.Answers.{told_by}
-use Rattle.serial_engine.specs.Cells.{cell_of}
-use Rattle.serial_engine.specs.Moments.{EachImage}
-use Rattle.serial_engine.specs.Going.{Going, IsReady, RecoversSoFar, AnswersSome}
-use Rattle.serial_engine.specs.Stock.{Stock, Stocked, StocksSome, refusals_from}
+use Rattle.serial_engine.specs.Going.{Origin, Going, RecoversSoFar, AnswersSome}
 use Rattle.serial_engine.proofs.Steps.{shown_holds}
 use Rattle.flatstore.specs.Played.{HasAnswered}
 
 -- Requests behind may all be answered Stopped.
-pub all_stop : (start : ℕ → Option (List ℕ)) (done : List Request) (replies : List Reply) (r : Told) (rest : List Request) → Recorded start done replies r → (more : List Reply) × Recorded start (done ++ rest) (replies ++ more) r
-all_stop start done replies r [] R = ([], subst (λ xs. Recorded start xs (replies ++ []) r) (sym (append-nil done)) (subst (λ rs. Recorded start done rs r) (sym (append-nil replies)) R))
-all_stop start done replies r (q ∷ rest) R =
-    let again = all_stop start (done ++ q ∷ []) (replies ++ Stopped ∷ []) r rest (recorded_stopped start done replies r q R) in (
+pub all_stop : (Known : Type 0) (start : ℕ → Option (List ℕ)) (done : List Request) (replies : List Reply) (r : Told) (rest : List Request) → Recorded Known start done replies r → (more : List Reply) × Recorded Known start (done ++ rest) (replies ++ more) r
+all_stop Known start done replies r [] R = ([], subst (λ xs. Recorded Known start xs (replies ++ []) r) (sym (append-nil done)) (subst (λ rs. Recorded Known start done rs r) (sym (append-nil replies)) R))
+all_stop Known start done replies r (q ∷ rest) R =
+    let again = all_stop Known start (done ++ q ∷ []) (replies ++ Stopped ∷ []) r rest (recorded_stopped Known start done replies r q R) in (
       Stopped ∷ again.0,
-      subst (λ xs. Recorded start xs (replies ++ (Stopped ∷ again.0)) r) (append_assoc done (q ∷ []) rest)
-          (subst (λ rs. Recorded start ((done ++ q ∷ []) ++ rest) rs r) (append_assoc replies (Stopped ∷ []) again.0) again.1),
+      subst (λ xs. Recorded Known start xs (replies ++ (Stopped ∷ again.0)) r) (append_assoc done (q ∷ []) rest)
+          (subst (λ rs. Recorded Known start ((done ++ q ∷ []) ++ rest) rs r) (append_assoc replies (Stopped ∷ []) again.0) again.1),
     )
 
 -- all requests were answered
-pub answered_all : (s t : State) (start : ℕ → Option (List ℕ)) (lines : ℕ) (begin : Stock) (qs : List Request) (e : Run) → Going s t start qs e → IsReady t e → (e.stopped ≡ true → Rose s.faults t.faults)
-    → Stocked lines begin qs e → HasAnswered s t start lines begin qs (record { answers = e.answers; stopped = e.stopped; complete = true })
-answered_all s t start lines begin qs e g ready cause stocked = record {
+pub answered_all : (o : Origin) (t : State) (qs : List Request) (e : Run) → Going o t qs e → HasAnswered o.at t o.cells o.layout o.stock qs (record { answers = e.answers; stopped = e.stopped; complete = true })
+answered_all o t qs e g = record {
   images = g.images;
-  lawful = ([], subst (λ rs. Recorded start qs rs (told_by e.answers)) (sym (append-nil e.answers.replies.items)) g.recorded);
+  lawful = ([], subst (λ rs. Recorded (IsTelling t) o.cells qs rs (told_by e.answers)) (sym (append-nil e.answers.replies.items)) g.recorded);
   whole = λ done. g.recorded;
   all = λ done going telling image may k.
-      let R = ready going in
-      let A = g.answered going in
-      let held = shown_holds t.frame.bytes e.store.log.layout (cell_of e.store.cells) _ image (R.shows telling image may) in
-      held.cells k ∙ sym (A.left k) ∙ ap (λ l. cell_after_all l (start k)) (sym (ap (λ l. finished_changes k qs (finished_in (told_by e.answers)) ++ l) (A.settled k) ∙ append-nil (finished_changes k qs (finished_in (told_by e.answers)))));
-  cause = cause;
-  steady = λ done going. none_stopped start qs e.answers.replies.items (told_by e.answers) t.stamp (cell_of e.store.cells) (g.answered going);
-  refused = stocked.told;
-  refused_all = λ done going. (stocked.going going).1;
+      let S = g.serves going in
+      let A = S.answered in
+      let held = shown_holds t.frame.bytes e.store.log.layout S.cells (last_in e.store) image (S.keeps.shows telling image may) in
+      held.cells k ∙ sym (A.left k) ∙ ap (λ l. cell_after_all l (o.cells k)) (sym (ap (λ l. finished_changes k qs (finished_in (told_by e.answers)) ++ l) (A.settled k) ∙ append-nil (finished_changes k qs (finished_in (told_by e.answers)))));
+  steady = λ done going. let S = g.serves going in none_stopped (IsTelling t) o.cells qs e.answers.replies.items (told_by e.answers) t.stamp S.cells S.answered;
+  refused = g.refused;
+  refused_all = λ done going. (g.serves going).refusals;
 }
 
 -- Memory ran out on the way.
-pub answered_some : (s t : State) (start : ℕ → Option (List ℕ)) (lines : ℕ) (begin : Stock) (qs : List Request) (e0 e : Run) → AnswersSome s t e0 e qs → Going s s start [] e0 → (e.stopped ≡ true → Rose s.faults t.faults)
-    → (front : List Request) × (rest : List Request) × (qs ≡ front ++ rest) × (e.answers.refusals.items ≡ refusals_from lines 0 begin front)
-    → HasAnswered s t start lines begin qs (record { answers = e.answers; stopped = e.stopped; complete = false })
-answered_some s t start lines begin qs e0 e some g0 cause refused =
-    let g = some.answers s start [] g0 in
+pub answered_some : (o : Origin) (t : State) (qs : List Request) (e0 e : Run) → AnswersSome o.at t e0 e qs → Going o o.at [] e0 → HasAnswered o.at t o.cells o.layout o.stock qs (record { answers = e.answers; stopped = e.stopped; complete = false })
+answered_some o t qs e0 e some g0 =
+    let g = some.answers o [] g0 in
     let all : qs ≡ some.front ++ some.rest = some.all in
-    let stops = all_stop start some.front e.answers.replies.items (told_by e.answers) some.rest g.recorded in
+    let stops = all_stop (IsTelling t) o.cells some.front e.answers.replies.items (told_by e.answers) some.rest g.recorded in
     record {
-      images = subst (λ xs. RecoversSoFar s t start xs (told_by e.answers)) (sym all)
-          (over_weaken s t (λ n cells. EachImage s.frame (Recovers s.frame.bytes start some.front (told_by e.answers) (λ k. finished_by k some.front (told_by e.answers).finishes n)) cells)
-          (λ n cells. EachImage s.frame (Recovers s.frame.bytes start (some.front ++ some.rest) (told_by e.answers) (λ k. finished_by k (some.front ++ some.rest) (told_by e.answers).finishes n)) cells)
-          (λ n telling told le each image may. recovers_grow s.frame.bytes start some.front some.rest e.answers.replies.items (told_by e.answers) n image g.recorded (each image may)) g.images);
-      lawful = (stops.0, subst (λ xs. Recorded start xs (e.answers.replies.items ++ stops.0) (told_by e.answers)) (sym all) stops.1);
+      images = subst (λ xs. RecoversSoFar o.at t o.cells xs (told_by e.answers)) (sym all)
+          (over_weaken o.at t (λ n cells. EachImage o.at.frame (Recovers o.at.frame.bytes o.cells some.front (told_by e.answers) (λ k. finished_by k some.front (told_by e.answers).finishes n)) cells)
+          (λ n cells. EachImage o.at.frame (Recovers o.at.frame.bytes o.cells (some.front ++ some.rest) (told_by e.answers) (λ k. finished_by k (some.front ++ some.rest) (told_by e.answers).finishes n)) cells)
+          (λ n telling told le each image may. recovers_grow (IsTelling t) o.at.frame.bytes o.cells some.front some.rest e.answers.replies.items (told_by e.answers) n image g.recorded (each image may)) g.images);
+      lawful = (stops.0, subst (λ xs. Recorded (IsTelling t) o.cells xs (e.answers.replies.items ++ stops.0) (told_by e.answers)) (sym all) stops.1);
       whole = λ done. absurd (false_true done);
       all = λ done. absurd (false_true done);
-      cause = cause;
       steady = λ done. absurd (false_true done);
-      refused = refused;
+      refused = (g.refused.0, g.refused.1 ++ some.rest, all ∙ ap (λ xs. xs ++ some.rest) g.refused.2 ∙ append_assoc g.refused.0 g.refused.1 some.rest, g.refused.3);
       refused_all = λ done. absurd (false_true done);
     } where
       false_true : false ≡ true → ⊥
       false_true q = cc q
-
-pub some_refused : (lines : ℕ) (begin : Stock) (qs : List Request) (e0 e : Run) → StocksSome e0 e qs → Stocked lines begin [] e0 → (front : List Request) × (rest : List Request) × (qs ≡ front ++ rest) × (e.answers.refusals.items ≡ refusals_from lines 0 begin front)
-some_refused lines begin qs e0 e some S0 =
-    let S = some.stocks lines begin [] S0 in
-    (S.told.0, S.told.1 ++ some.rest, some.all ∙ ap (λ xs. xs ++ some.rest) S.told.2 ∙ append_assoc S.told.0 S.told.1 some.rest, S.told.3)

@@ -21,8 +21,8 @@ use Rattle.store_image.specs.Parts.{all_entries, part_entries, chunk_entries, he
 use Rattle.store_image.specs.Winners.{winner_in, cell_by}
 use Rattle.store_image.specs.Soundness.{first_fault, fault_by}
 use Rattle.store_image.proofs.SoundFacts.{store_sound}
-use Rattle.serial_engine.specs.Moments.{EachImage}
-use Rattle.serial_engine.proofs.Opened.{free_entries, free_reads}
+use Rattle.core_store.specs.Moments.{EachImage}
+use Rattle.core_store.proofs.LogChunks.{free_entries, free_reads}
 use Rattle.flatstore.specs.declared.report.Status.TheVariants as statuses
 use Rattle.flatstore.specs.declared.report.Report.{Report}
 use Rattle.flatstore.specs.Formats.{Formats, IsEmptyStore, IsRefusedOrEmpty}

@@ -10,3 +10,4 @@ pub mod Openings
 pub mod Forms
 pub mod Emptiness
 pub mod Listed
+pub mod Stocks

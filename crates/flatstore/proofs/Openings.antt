@@ -1,43 +1,39 @@
 -- What a store that is opened over a recovered region has, and that it is ready.
-use Rattle.std.proofs.Common.{◌≡◌, ◌≢◌, ◌⊎◌, inl, inr, ℕ, zero, suc, ◌+◌, ◌-◌, ◌*◌, ◌/◌, ◌%◌, ◌<◌, ◌≤◌, ◌==◌, List, [], ◌∷◌, ◌++◌, length, map, refl, sym, ◌∙◌, ap, subst, arith, true, false, Bool, cond, Option, Some, None, Result, Ok, Err, nat_lt}
+use Rattle.std.proofs.Common.{◌≡◌, ◌⊎◌, inl, inr, ℕ, zero, suc, ◌+◌, ◌-◌, ◌*◌, ◌/◌, ◌<◌, ◌≤◌, ◌==◌, List, [], ◌∷◌, ◌++◌, length, map, refl, sym, ◌∙◌, ap, subst, arith, true, false, Bool, cond, Option, Some, None, Result, Ok, Err, nat_lt}
 use Rattle.std.proofs.Math.Nat.{le-max_left, le-max_right, max-le}
-use Rattle.std.specs.Prelude.{slice_index_or, option_map, unwrap_or}
-use Rattle.std.specs.Option.{option_map_or}
-use Rattle.std.specs.List.{find}
+use Rattle.std.specs.Prelude.{slice_index_or, unwrap_or}
+use Rattle.std.specs.Option.{option_and_then}
 use Rattle.std.proofs.lemmas.Bool.{lt-ltb, ltb-true, le-leb, eqb-true, eqb-false}
-use Rattle.fs_model.specs.declared.model.Pair.{Pair}
-use Rattle.log_entry.specs.declared.entry.Entry.{Entry}
 use Rattle.pm_region.specs.Cell.{certain, MayBe}
 use Rattle.pm_region.specs.State.{State, IsTelling, InRange, cell_now}
-use Rattle.pm_region.specs.Words.{Surely, lasts}
+use Rattle.pm_region.specs.Words.{lasts}
 use Rattle.pm_region.specs.Split.{words_in}
 use Rattle.chunk_map.specs.declared.layouts.Geometry.{Geometry}
 use Rattle.chunk_map.specs.declared.heads.Head.{Head}
 use Rattle.chunk_map.specs.declared.heads.Head.TheVariants.{Free, Log, Data}
-use Rattle.chunk_map.specs.Layouts.{numbers, layout_of, total_bytes, chunk_first, chunk_words, head_at, payload_lines, IsLayout}
+use Rattle.chunk_map.specs.Layouts.{numbers, layout_of, total_bytes, chunk_first, head_at, payload_lines}
 use Rattle.chunk_map.proofs.LayoutLaws.{numbers_of}
-use Rattle.store_image.specs.declared.types.PlacedEntry.{PlacedEntry}
-use Rattle.store_image.specs.Facts.{In, IsStore}
-use Rattle.store_image.specs.Listing.{lookup, ListsCells}
-use Rattle.store_image.specs.Parts.{all_entries}
-use Rattle.store_image.specs.Winners.{winner_in, winner, recovered}
+use Rattle.store_image.specs.Winners.{winner}
 use Rattle.store_image.specs.Soundness.{first_fault}
 use Rattle.store_image.proofs.SoundFacts.{store_sound}
-use Rattle.store_image.proofs.Copies.{winner_some, winner_max}
+use Rattle.core_index.specs.Records.{KeyRecord, last_of}
+use Rattle.core_index.specs.Index.{known_at}
 use Rattle.core_log.specs.Log.{LogState, StandsIn, tail_of, lines_left, room_of}
 use Rattle.core_log.specs.Fresh.{IsEmptiest}
+use Rattle.lazy_alloc.specs.Sets.{free_chunk_count, free_block_count}
 use Rattle.headline.proofs.Images.{certain_may_be}
-use Rattle.headline.specs.Limits.{version_in, version_of}
+use Rattle.headline.specs.Limits.{version_in}
 use Rattle.recover.specs.declared.types.CoreStart.{CoreStart}
 use Rattle.recover.specs.declared.types.Recovered.{Recovered}
-use Rattle.recover.specs.Recovering.{IsFound, cells_found}
-use Rattle.recover.specs.Regions.{Covers}
-use Rattle.recover.proofs.RegionLaws.{chunk_lies}
-use Rattle.recover.specs.Winning.{entry_with}
+use Rattle.recover.specs.Recovering.{IsOf}
 use Rattle.recover.specs.Logs.{tail_behind, log_tail, HasLogsOf, IsStart}
-use Rattle.serial_engine.specs.Opening.{HeadsLie, IsRegionOf, AreNewest, version_with}
-use Rattle.flatstore.specs.Found.{lines_behind, most, room_in}
+use Rattle.recover.specs.Starts.{IsAllocatorOf, IsIndexOf}
+use Rattle.core_store.specs.declared.store.Store.{Store}
+use Rattle.core_store.specs.Opening.{IsRegionOf}
+use Rattle.core_store.specs.Stock.{class_of_body, stock_of}
+use Rattle.flatstore.specs.Found.{lines_behind, most, room_in, unused_blocks, class_found, stock_by, stock_found}
 use Rattle.flatstore.specs.Played.{IsOpened}
+use Rattle.flatstore.proofs.Stocks.{free_same, blocks_same, last_same, held_same}
 
 -- The greatest of some numbers.
 most_bounded : (f : ℕ → ℕ) (m from n : ℕ) → ((k : ℕ) → from ≤ k → k < from + n → f k ≤ m) → most (map f (numbers from n)) ≤ m
@@ -123,19 +119,6 @@ module _ (s : State) (first : s.frame.first ≡ 0) (words : s.frame.words ≡ wo
   pub words_are : s.frame.words ≡ total_bytes l / 8
   words_are = words ∙ ap (λ b. cond b (s.frame.bytes / 8) 0) (le-leb s.frame.bytes 268439552 bytes_small) ∙ ap (λ n. n / 8) (sym total)
 
-  pub covers : Covers s.frame l
-  covers = record { layout = O.made.layout; first = first; words = words_are }
-
-  pub heads_lie : HeadsLie s l
-  heads_lie j lt = chunk_lies s.frame l covers 0 j (let one = O.one in omega (arith, one)) lt
-
-  -- it is found in so many bytes as its layout has
-  pub found_here : IsTelling s → IsFound (total_bytes l) (lasts s) r
-  found_here telling = subst (λ n. IsFound n (lasts s) r) (sym total) (O.found telling)
-
-  pub few_chunks : l.chunks ≤ 64
-  few_chunks = (numbers_of l O.made.layout).chunks_high
-
   -- the start
   module _ (rest : List CoreStart) (start : CoreStart) (starts_are : r.starts.items ≡ rest ++ start ∷ []) where
     own_start : IsStart l 0 start
@@ -147,51 +130,49 @@ module _ (s : State) (first : s.frame.first ≡ 0) (words : s.frame.words ≡ wo
     pub found_layout : IsTelling s → layout_of (lasts s) ≡ l
     found_layout telling = sym (O.found telling).is_of.layout_is
 
-    pub region_of : IsRegionOf s start.log
+    -- it is the one start, of the one core
+    only : (d : CoreStart) → slice_index_or r.starts.items 0 d ≡ start
+    only d = only_start r.starts.items rest start d (O.made.count ∙ O.one) starts_are
+
+    first_core : 0 < r.layout.cores
+    first_core = let one = O.one in omega (arith, one)
+
+    pub start_of : IsStart l 0 start
+    start_of = own_start
+
+    found_of : (telling : IsTelling s) → IsOf l (lasts s) r
+    found_of telling = subst (λ g. IsOf g (lasts s) r) (found_layout telling) (O.found telling).is_of
+
+    pub region_of : IsRegionOf s l start
     region_of = record {
-      one = ap (λ (g : Geometry). g.cores) layout_is ∙ O.one;
-      part = own_start.part_is;
       first = first;
-      words = words_are ∙ ap (λ (g : Geometry). total_bytes g / 8) (sym layout_is);
-      stands = subst (λ (x : CoreStart). StandsIn s x.log) (only_start r.starts.items rest start start (O.made.count ∙ O.one) starts_are) (O.stands 0 start (let one = O.one in omega (arith, one)));
+      words = words_are;
+      stands = subst (λ (x : CoreStart). StandsIn s x.log) (only start) (O.stands 0 start first_core);
       certain = λ telling w inside x may. certain_may_be (lasts s w) x (subst (λ c. MayBe c x) (sure telling w inside) may);
       sound = λ telling. (O.found telling).sound;
-      layout = λ telling. found_layout telling ∙ sym layout_is;
+      layout = found_layout;
+      logs = λ telling. subst (λ (x : CoreStart). HasLogsOf l (lasts s) 0 x.log) (only start) ((found_of telling).logs 0 start first_core);
+      allocator = λ telling. subst (λ (x : CoreStart). IsAllocatorOf l (lasts s) 0 x.allocator) (only start) ((found_of telling).allocators 0 start first_core);
+      index = λ telling. subst (λ (x : CoreStart). IsIndexOf l (lasts s) 0 x.index) (only start) ((found_of telling).indexes 0 start first_core);
     }
 
-    -- what the winners and pairs say
-    pub newest : (values : List Pair) → (IsTelling s → ListsCells (cells_found (lasts s)) values) → IsTelling s → AreNewest s start.log r.winners.items values
-    newest values lists telling =
-        let of = (O.found telling).is_of in
-        let lists' = lists telling in
-        let same : start.log.layout ≡ layout_of (lasts s) = layout_is ∙ sym (found_layout telling) in
-        record {
-          newest_rise = O.made.rising;
-          values_rise = lists'.rising;
-          versions = λ x h. newer (layout_of (lasts s)) x (subst (λ g. In x (all_entries g (lasts s))) same h) (winner (layout_of (lasts s)) (lasts s) x.entry.key) refl (of.each x.entry.key);
-          values_are = λ k. lists'.each k ∙ ap (λ g. recovered g (lasts s) k) (sym same);
-        } where
-          newer : (g : Geometry) (x : PlacedEntry) → In x (all_entries g (lasts s)) → (o : Option PlacedEntry) → winner_in x.entry.key (all_entries g (lasts s)) ≡ o
-              → entry_with x.entry.key r.winners.items ≡ option_map (λ (y : PlacedEntry). y.entry) o → x.entry.version ≤ version_with x.entry.key r.winners.items
-          newer g x h None w e = absurd (winner_some x.entry.key (all_entries g (lasts s)) x h refl w)
-          newer g x h (Some y) w e =
-              let le = winner_max x.entry.key (all_entries g (lasts s)) y x w h refl in
-              let is = ap (λ o. option_map_or (λ (z : Entry). z.version) o 0) e in
-              omega (arith, le, is)
-
-    pub version_is : IsTelling s → (k : ℕ) → version_with k r.winners.items ≡ version_of (lasts s) k
-    version_is telling k = ap (λ o. option_map_or (λ (z : Entry). z.version) o 0) ((O.found telling).is_of.each k) ∙ by (winner (layout_of (lasts s)) (lasts s) k) where
-      by : (o : Option PlacedEntry) → option_map_or (λ (z : Entry). z.version) (option_map (λ (y : PlacedEntry). y.entry) o) 0 ≡ version_in o
-      by None = refl
-      by (Some y) = refl
-
-    pub open_room : IsTelling s → room_of start.log ≡ room_in (layout_of (lasts s)) (lasts s)
-    open_room telling =
-        let of = (O.found telling).is_of in
-        let has : HasLogsOf (layout_of (lasts s)) (lasts s) 0 start.log =
-        subst (λ (x : CoreStart). HasLogsOf (layout_of (lasts s)) (lasts s) 0 x.log) (only_start r.starts.items rest start start (O.made.count ∙ O.one) starts_are)
-        (of.logs 0 start (let one = O.one in let same = ap (λ (g : Geometry). g.cores) (found_layout telling) in omega (arith, one, same))) in
-        room_is (layout_of (lasts s)) (lasts s) start.log (layout_is ∙ sym (found_layout telling)) has start.log.opened own_start.opened
+    -- what the store has left
+    pub stock_opened : (e : Store) → e.log ≡ start.log → e.allocator ≡ start.allocator → e.index ≡ start.index → IsTelling s → stock_of e ≡ stock_found (lasts s)
+    stock_opened e log allocator index telling =
+        let R = region_of in
+        let A = R.allocator telling in
+        let I = R.index telling in
+        let n = numbers_of l O.made.layout in
+        let some : 1 ≤ l.chunks = (let low = n.chunks_low in omega (arith, low)) in
+        let own = own_start in
+        let free = ap free_chunk_count allocator ∙ free_same l (lasts s) some O.one start.allocator own.allocator_layout own.allocator_part A in
+        let room = ap (λ (g : LogState). room_of g) log ∙ room_is l (lasts s) start.log layout_is (R.logs telling) start.log.opened own.opened in
+        let blocks : (c : ℕ) → free_block_count e.allocator c ≡ unused_blocks l (lasts s) c = λ c. ap (λ x. free_block_count x c) allocator ∙ blocks_same l (lasts s) some O.one start.allocator own.allocator_layout own.allocator_part A c in
+        let last : (k : ℕ) → last_of (known_at e.index k) ≡ version_in (winner l (lasts s) k) = λ k. ap (λ x. last_of (known_at x k)) index ∙ last_same l (lasts s) some O.one start.allocator own.allocator_layout own.allocator_part A start.index I k in
+        let held : (k : ℕ) → option_and_then (λ (x : KeyRecord). class_of_body e.allocator x.body) (known_at e.index k) ≡ class_found l (lasts s) k =
+        λ k. (λ i. option_and_then (λ (x : KeyRecord). class_of_body (allocator i) x.body) (known_at (index i) k)) ∙ held_same l (lasts s) some O.one start.allocator own.allocator_layout own.allocator_part A start.index I k in
+        (λ i. record { free = free i; room = room i; blocks = λ c. blocks c i; lasts = λ k. last k i; holds = λ k. held k i })
+        ∙ ap (λ g. stock_by g (lasts s)) (sym (found_layout telling))
 
 -- what is known of a region that was recovered
 pub found_sound : (s : State) (r : Recovered) → IsOpened s r → IsTelling s → first_fault s.frame.bytes (lasts s) ≡ None

@@ -14,8 +14,8 @@ use Rattle.chunk_map.specs.Layouts.{layout_of, owner}
 use Rattle.headline.specs.Ample.{IsAmpleFor}
 use Rattle.headline.specs.Limits.{IsAsked, version_of, changes_asked}
 use Rattle.serial_engine.specs.declared.answers.Refusal.{Refusal}
-use Rattle.serial_engine.specs.Stock.{is_full}
-use Rattle.serial_engine.specs.declared.answers.Shortage.TheVariants.{Versions}
+use Rattle.serial_engine.specs.Refusals.{is_full}
+use Rattle.core_store.specs.declared.types.Shortage.TheVariants.{Versions}
 use Rattle.headline.specs.Headline.{Told, cells_of, RecoversThroughout}
 use Rattle.headline.proofs.Run.{recorded}
 use Rattle.serial_engine.specs.Answers.{told}
@@ -96,11 +96,11 @@ module _ (old s : State) (found : ℕ → ℕ) (A : Attached old s s.frame.bytes
       let trace : List Request = trace_of (found 2) input in
       let MayStop : Type 0 = r.complete ≡ true → Rose old.faults s.faults in
       let may : MayStop = (λ complete. absurd (both_ways r.complete complete cut)) in
-      let stops = all_stop (cells_of found) [] [] none trace (recorded (cells_of found) [] [] none 0 (cells_of found) (nothing_answered (cells_of found) 0)) in
+      let stops = all_stop (Unit {0}) (cells_of found) [] [] none trace (recorded (Unit {0}) (cells_of found) [] [] none 0 (cells_of found) (nothing_answered (Unit {0}) (cells_of found) 0)) in
       record {
         done = λ done telling. absurd (apart_from statuses.Done refl (sym is ∙ done));
         failed = λ failed other steady telling. absurd (apart_from statuses.RegionFault refl (sym is ∙ failed));
-        begins = λ telling. subst (λ x. WritesFront (cells_of found) trace x MayStop text text) (sym nothing) (no_text (cells_of found) trace none MayStop stops.0 stops.1 (may_all MayStop stops.0 may) text text refl);
+        begins = λ telling. subst (λ x. WritesFront (cells_of found) trace x MayStop text text) (sym nothing) (no_text (Unit {0}) (cells_of found) trace none MayStop stops.0 stops.1 tt (may_all MayStop stops.0 may) text text refl);
         crash = subst (λ x. RecoversThroughout s (cells_of found) trace x) (sym nothing) (crash_at_attach old s found A sound trace);
         refused = λ telling. ([], trace, refl, ref);
         refused_all = λ done telling. absurd (apart_from statuses.Done refl (sym is ∙ done));

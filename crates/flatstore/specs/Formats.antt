@@ -8,7 +8,7 @@ use Rattle.chunk_map.specs.Superblock.{IsSuperblock}
 use Rattle.store_image.specs.declared.types.Fault.TheVariants.{NotARegion}
 use Rattle.store_image.specs.Soundness.{IsSound, first_fault}
 use Rattle.headline.specs.Headline.{cells_of}
-use Rattle.serial_engine.specs.Moments.{EachImage}
+use Rattle.core_store.specs.Moments.{EachImage}
 use Rattle.flatstore.specs.declared.report.Status.TheVariants as statuses
 use Rattle.flatstore.specs.declared.report.Report.{Report}
 

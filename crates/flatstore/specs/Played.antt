@@ -9,16 +9,18 @@ use Rattle.pm_region.specs.State.{State, IsTelling, cell_now, Rose}
 use Rattle.pm_region.specs.Words.{lasts}
 use Rattle.headline.specs.Headline.{changes_in, cells_of}
 use Rattle.headline.specs.Run.{Recorded}
-use Rattle.serial_engine.specs.Moments.{EachImage}
+use Rattle.core_store.specs.Moments.{EachImage}
+use Rattle.core_store.specs.Stock.{Stock}
 use Rattle.serial_engine.specs.Answers.{told_by}
-use Rattle.serial_engine.specs.Going.{RecoversSoFar}
-use Rattle.serial_engine.specs.Stock.{Stock, refusals_from}
-use Rattle.chunk_map.specs.Layouts.{payload_lines}
+use Rattle.serial_engine.specs.Going.{RecoversSoFar, Runs}
+use Rattle.serial_engine.specs.Refusals.{refusals_from}
+use Rattle.chunk_map.specs.declared.layouts.Geometry.{Geometry}
+use Rattle.chunk_map.specs.Layouts.{layout_of}
 use Rattle.store_image.specs.declared.types.Fault.{Fault}
 use Rattle.store_image.specs.Soundness.{first_fault}
 use Rattle.recover.specs.declared.types.Recovered.{Recovered}
 use Rattle.recover.specs.Recovering.{IsMade, IsFound, AllStand}
-use Rattle.flatstore.specs.Found.{lines_found, stock_found}
+use Rattle.flatstore.specs.Found.{stock_found}
 use Rattle.flatstore.specs.Statuses.{fault_status}
 use Rattle.fs_text.specs.Streams.{Takes, TakesPrefix}
 use Rattle.fs_text.specs.Output.{replies_text}
@@ -34,32 +36,28 @@ pub record IsOpened (s : State) (r : Recovered) : Type 0 where
   pub found : IsTelling s → IsFound s.frame.bytes (lasts s) r
   pub stands : AllStand s r
 
--- What answering these requests did, from these cells and this stock.
-pub record HasAnswered (s t : State) (start : ℕ → Option (List ℕ)) (lines : ℕ) (begin : Stock) (trace : List Request) (e : Ended) : Type 0 where
+-- What answering these requests did, from these cells and this stock. That the replies are lawful is said where the region still tells at the end.
+pub record HasAnswered (s t : State) (start : ℕ → Option (List ℕ)) (l : Geometry) (begin : Stock) (trace : List Request) (e : Ended) : Type 0 where
   pub images : RecoversSoFar s t start trace (told_by e.answers)
-  pub lawful : (more : List Reply) × Recorded start trace (e.answers.replies.items ++ more) (told_by e.answers)
-  pub whole : e.complete ≡ true → Recorded start trace e.answers.replies.items (told_by e.answers)
+  pub lawful : (more : List Reply) × Recorded (IsTelling t) start trace (e.answers.replies.items ++ more) (told_by e.answers)
+  pub whole : e.complete ≡ true → Recorded (IsTelling t) start trace e.answers.replies.items (told_by e.answers)
   pub all : e.complete ≡ true → e.stopped ≡ false → IsTelling t
       → EachImage t.frame (λ image. (k : ℕ) → cells_of image k ≡ cell_after_all (changes_in start trace (told_by e.answers) k) (start k)) (cell_now t)
-  pub cause : e.stopped ≡ true → Rose s.faults t.faults
   pub steady : e.complete ≡ true → e.stopped ≡ false → AllByRecursion (λ x. is_stopped x ≡ false) e.answers.replies.items
   -- the refusals are those of the requests up to the one at which it stopped
-  pub refused : (front : List Request) × (rest : List Request) × (trace ≡ front ++ rest) × (e.answers.refusals.items ≡ refusals_from lines 0 begin front)
-  pub refused_all : e.complete ≡ true → e.stopped ≡ false → e.answers.refusals.items ≡ refusals_from lines 0 begin trace
+  pub refused : (front : List Request) × (rest : List Request) × (trace ≡ front ++ rest) × (e.answers.refusals.items ≡ refusals_from l 0 begin front)
+  pub refused_all : e.complete ≡ true → e.stopped ≡ false → e.answers.refusals.items ≡ refusals_from l 0 begin trace
 
 -- and of a whole replay
 pub record Played (s t : State) (coming : Option (List ℕ)) (e : Ended) : Type 0 where
-  pub start : ℕ → Option (List ℕ)
-  pub lines : ℕ
-  pub begin : Stock
   pub sound : IsTelling s → first_fault s.frame.bytes (lasts s) ≡ None
   pub one : IsTelling s → lasts s 2 ≡ 1
-  pub start_is : IsTelling s → start ≡ cells_of (lasts s)
-  pub lines_are : IsTelling s → lines ≡ lines_found (lasts s)
-  pub begin_is : IsTelling s → begin ≡ stock_found (lasts s)
   pub trace : List Request
   pub read : IsRead coming trace
-  pub answered : HasAnswered s t start lines begin trace e
+  -- whatever the region tells
+  pub run : Runs s t
+  pub cause : e.stopped ≡ true → Rose s.faults t.faults
+  pub answered : IsTelling s → HasAnswered s t (cells_of (lasts s)) (layout_of (lasts s)) (stock_found (lasts s)) trace e
 
 -- Why a region is not served: it breaks a rule, or it has several cores.
 abbrev pub IsUnserved : State → Status → Type 0

@@ -17,9 +17,9 @@ use Rattle.chunk_map.specs.Layouts.{layout_of, owner}
 use Rattle.store_image.specs.declared.types.Fault.{Fault}
 use Rattle.store_image.specs.Soundness.{first_fault}
 use Rattle.serial_engine.specs.Answers.{told}
-use Rattle.serial_engine.specs.Stock.{refusals_from, is_full}
-use Rattle.serial_engine.specs.declared.answers.Shortage.TheVariants.{Versions}
-use Rattle.flatstore.specs.Found.{lines_found, stock_found}
+use Rattle.serial_engine.specs.Refusals.{refusals_from, is_full}
+use Rattle.core_store.specs.declared.types.Shortage.TheVariants.{Versions}
+use Rattle.flatstore.specs.Found.{stock_found}
 use Rattle.flatstore.specs.declared.report.Status.{Status}
 use Rattle.flatstore.specs.declared.report.Status.TheVariants as statuses
 use Rattle.flatstore.specs.declared.report.Report.{Report}
@@ -54,10 +54,10 @@ pub record Replays (old new : State) (found : ℕ → ℕ) (input : List ℕ) (b
   -- At the end it recovers all.
   pub last : r.status ≡ statuses.Done → RecoversAll new (cells_of found) (trace_of (found 2) input) (told_in r)
   -- The requests alone say which were refused, with which counts: all of them at the end, and else those before the first that was not answered.
-  pub refused : IsTelling new → (front : List Request) × (rest : List Request) × (trace_of (found 2) input ≡ front ++ rest) × (r.refusals.items ≡ refusals_from (lines_found found) 0 (stock_found found) front)
+  pub refused : IsTelling new → (front : List Request) × (rest : List Request) × (trace_of (found 2) input ≡ front ++ rest) × (r.refusals.items ≡ refusals_from (layout_of found) 0 (stock_found found) front)
   -- A report that says so did come to the end: then those are all refusals, unless a call of the region failed.
-  pub ended : r.complete ≡ true → IsTelling new → (r.refusals.items ≡ refusals_from (lines_found found) 0 (stock_found found) (trace_of (found 2) input)) ⊎ Rose old.faults new.faults
-  pub refused_all : r.status ≡ statuses.Done → IsTelling new → r.refusals.items ≡ refusals_from (lines_found found) 0 (stock_found found) (trace_of (found 2) input)
+  pub ended : r.complete ≡ true → IsTelling new → (r.refusals.items ≡ refusals_from (layout_of found) 0 (stock_found found) (trace_of (found 2) input)) ⊎ Rose old.faults new.faults
+  pub refused_all : r.status ≡ statuses.Done → IsTelling new → r.refusals.items ≡ refusals_from (layout_of found) 0 (stock_found found) (trace_of (found 2) input)
   -- A change is refused for want of room only where the input is not ample for the part of its key's owner,
   -- a put for its version only where its key has so many versions, or the requests before it may use them up, and nothing is refused within all limits.
   pub full : IsTelling new → AllByRecursion (λ x. is_full x.why ≡ true → (k : ℕ) → IsAsked (trace_of (found 2) input) x.request k
@@ -66,9 +66,9 @@ pub record Replays (old new : State) (found : ℕ → ℕ) (input : List ℕ) (b
       → 1048574 ≤ version_of found k + changes_asked k (take x.request (trace_of (found 2) input))) r.refusals.items
   pub unrefused : IsTelling new → IsWithinLimits found (trace_of (found 2) input) → r.refusals.items ≡ []
 
--- what is built: neither deletes nor `go` lines, nor values of 256 bytes and more
+-- what is built: all but `go` lines
 abbrev pub built_now : Built
-built_now = record { delete = false; go = false; blocks = false }
+built_now = record { delete = true; go = false; blocks = true }
 
 abbrev pub status_of : Result (List Line) Stop → Status
 status_of (Ok lines) = statuses.Done

@@ -26,7 +26,7 @@ fn dump<O: Sink, R: SplitRegion>(
 fn live_pairs(rt: HostRuntime) -> Result<(), Fail> {
     let alloc = rt.alloc();
     let mut region = region(alloc, &[])?;
-    let input = "put 50 abc\nput 5 a\nput 5 de\nput 9 \n";
+    let input = "put 50 abc\nput 5 a\nput 5 de\nput 9 \nput 7 x\ndelete 7\n";
     let (report, _) = replay(alloc, &mut region, input)?;
     assert_eq!(rt; report.status, Status::Done);
     let mut sink = SteadySink::new(alloc, 1000, 7)?;

@@ -10,6 +10,8 @@ use std::process::ExitCode;
 use std::{env, io};
 use top::flatstore;
 
+#[cfg(test)]
+mod change_tests;
 mod command;
 #[cfg(test)]
 mod dump_tests;

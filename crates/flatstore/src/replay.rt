@@ -1,32 +1,32 @@
 // A replay: the input is read, and its requests are answered.
-ghost use Rattle.std.specs.Prelude.{◌≡◌, ◌⊎◌, ℕ, ◌≤◌, List, Some, None, true, false, OnOk, OnErr, IfOk, IfErr, IfSome};
+ghost use Rattle.std.specs.Prelude.{◌≡◌, ◌⊎◌, ℕ, ◌≤◌, List, Some, None, Option, true, false, OnOk, OnErr, IfOk, IfErr, IfSome};
 ghost use Rattle.std.specs.List.{filter_map, AllByRecursion};
 ghost use Rattle.pm_region.specs.Cell.{certain};
 ghost use Rattle.pm_region.specs.State.{State, IsTelling, InRange, cell_now, Rose};
 ghost use Rattle.pm_region.specs.Words.{lasts};
 ghost use Rattle.pm_region.specs.Split.{words_in};
 ghost use Rattle.fs_text.specs.Input.{request_in};
-ghost use Rattle.serial_engine.specs.Cells.{cell_of};
-ghost use Rattle.serial_engine.specs.Ready.{Ready};
-ghost use Rattle.serial_engine.specs.Going.{IsServed};
-ghost use Rattle.serial_engine.specs.Stock.{stock_of};
-ghost use Rattle.chunk_map.specs.Layouts.{payload_lines};
+ghost use Rattle.core_store.specs.Ready.{Ready};
+ghost use Rattle.core_store.specs.Keeps.{Keeps};
+ghost use Rattle.core_store.specs.Stock.{stock_of};
+ghost use Rattle.serial_engine.specs.Going.{Runs};
+ghost use Rattle.chunk_map.specs.Layouts.{layout_of};
 ghost use Rattle.headline.specs.Headline.{cells_of};
-ghost use Rattle.flatstore.specs.Found.{lines_found, stock_found};
+ghost use Rattle.flatstore.specs.Found.{stock_found};
 ghost use Rattle.flatstore.specs.Reads.{IsRead, IsUnread, unread_as};
 ghost use Rattle.flatstore.specs.Played.{IsOpened, HasAnswered, Played, IsUnserved, IsRefused};
 
 use crate::report::{Report, Status};
+use core_store::Store;
 use fs_errors::Memory;
 use fs_model::Request;
 use fs_text::{
     Built, Input, Line, OutError, Sink, Source, Stop, UntilError, read_until, write_replies,
 };
 use pm_region::{Region, SplitRegion};
-use recover::{RecoverError, Recovered, pairs, recover};
+use recover::{RecoverError, Recovered, recover};
 use serial_engine::answers::Answers;
 use serial_engine::run::begin;
-use serial_engine::store::Store;
 use std::alloc::Global;
 
 // The cores of the layouts that are served.
@@ -34,9 +34,9 @@ const CORES: u32 = 1;
 
 // What is built of the forms of lines.
 const BUILT: Built = Built {
-    delete: false,
+    delete: true,
     go: false,
-    blocks: false,
+    blocks: true,
 };
 
 /// The requests of an input, in order.
@@ -111,18 +111,13 @@ fn open_store<R: SplitRegion>(
     requires certain { IsTelling (R.state region.now) → (w : ℕ) → InRange (R.state region.now).frame w → cell_now (R.state region.now) w ≡ certain (lasts (R.state region.now) w) }
     requires opened { IsOpened (R.state region.now) recovered }
     ensures ready { IfOk result (Ready (R.state region.now)) }
-    ensures cells { IfOk result (λ store. IsTelling (R.state region.now) → cell_of store.cells ≡ cells_of (lasts (R.state region.now))) }
-    ensures lines { IfOk result (λ store. IsTelling (R.state region.now) → payload_lines store.log.layout ≡ lines_found (lasts (R.state region.now))) }
+    ensures keeps { IfOk result (λ store. IsTelling (R.state region.now) → Keeps (R.state region.now) store (cells_of (lasts (R.state region.now)))) }
+    ensures layout { IfOk result (λ store. IsTelling (R.state region.now) → store.log.layout ≡ layout_of (lasts (R.state region.now))) }
     ensures stock { IfOk result (λ store. IsTelling (R.state region.now) → stock_of store ≡ stock_found (lasts (R.state region.now))) }
 {
-    let values = pairs(alloc, region, &recovered)?;
-    let Recovered {
-        layout,
-        mut starts,
-        winners,
-    } = recovered;
+    let Recovered { layout, mut starts } = recovered;
     let start = starts.pop().unwrap();
-    Store::open(alloc, region, layout, start.log, winners, values)
+    Store::open(alloc, region, layout, start)
 }
 
 /// A replay that came to the end of its requests, or of memory.
@@ -138,8 +133,10 @@ pub struct Ended {
 /// Answers requests in order, up to the first for which there is no memory.
 fn answer<R: Region>(alloc: Global, region: &mut R, store: Store, requests: Vec<Request>) -> Ended
     requires ready { Ready (R.state region.old) store }
-    requires served { AllByRecursion IsServed requests.items }
-    ensures { HasAnswered (R.state region.old) (R.state region.new) (cell_of store.cells) (payload_lines store.log.layout) (stock_of store) requests.items result }
+    ensures run { Runs (R.state region.old) (R.state region.new) }
+    ensures cause { result.stopped ≡ true → Rose (R.state region.old).faults (R.state region.new).faults }
+    ensures answered { (cells : ℕ → Option (List ℕ)) → Keeps (R.state region.old) store cells
+        → HasAnswered (R.state region.old) (R.state region.new) cells store.log.layout (stock_of store) requests.items result }
 {
     let mut run = begin(alloc, store);
     match run.answer_all(alloc, region, requests) {

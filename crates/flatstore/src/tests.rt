@@ -1,13 +1,15 @@
 // The worked rows of a replay on one core, on the top call.
+use crate::change_tests::put;
 use crate::report::{Report, Status};
 use crate::top::flatstore;
+use core_store::{Counts, Shortage};
 use fs_errors::Memory;
 use fs_model::Value;
 use fs_text::{MemSink, MemSource, Sink, Source, SteadySink, SteadySource};
 use pm_region::{
     Faults, FenceNumber, FileRegion, MemRegion, Pick, Region, SplitRegion, SteadyRegion,
 };
-use serial_engine::answers::{Counts, Refusal, Shortage};
+use serial_engine::answers::Refusal;
 use std::alloc::{AllocError, Global};
 use std::fs;
 use std::test::Fail;
@@ -85,7 +87,7 @@ fn steady(alloc: Global) -> Result<SteadyRegion, Memory> {
 }
 
 // Replays an input on a region in memory that is fresh.
-fn row(alloc: Global, input: &str) -> Result<(Report, Vec<u8>), Fail> {
+pub fn row(alloc: Global, input: &str) -> Result<(Report, Vec<u8>), Fail> {
     let mut region = steady(alloc)?;
     replay(alloc, &mut region, input)
 }
@@ -156,7 +158,7 @@ fn replies(rt: HostRuntime) -> Result<(), Fail> {
             Status::BadInput { line: 2, rule: 3 },
             "",
         ),
-        ("get 1\ndelete 1\n", Status::NotBuilt { line: 2 }, ""),
+        ("get 1\ngo 0 1\n", Status::NotBuilt { line: 2 }, ""),
         ("go 0 1\n", Status::NotBuilt { line: 1 }, ""),
     ];
     for (input, status, text) in table {
@@ -296,7 +298,7 @@ fn a_region_with_puts(rt: HostRuntime) -> Result<(), Fail> {
 }
 
 // The only entry is key 9 version 1,048,574 with the value `q`, in log chunk 0.
-fn spent(alloc: Global) -> Result<Vec<u8>, AllocError> {
+pub fn spent(alloc: Global) -> Result<Vec<u8>, AllocError> {
     let places: [(usize, u8); 8] = [
         (4096, 1),
         (4104, 8),
@@ -368,12 +370,12 @@ fn failing(alloc: Global, number: u64) -> Result<MemRegion, Memory> {
     MemRegion::new(alloc, fresh(alloc)?, 5000, plan)
 }
 
-// Whether each image of the last stamp has no value for key 1, or `a`.
-fn has_none_or_a(alloc: Global, region: &MemRegion) -> Result<bool, Fail> {
+// Whether each image of the last stamp has no value for key 1, or this one.
+fn has_none_or(alloc: Global, region: &MemRegion, bytes: &[u8]) -> Result<bool, Fail> {
     for pick in PICKS {
         let mut image = region.image_at(alloc, region.stamp(), pick)?;
         if let Some(value) = cell_in(alloc, &mut image, 1)? {
-            if value.bytes() != b"a".as_slice() {
+            if value.bytes() != bytes {
                 return Ok(false);
             }
         }
@@ -389,7 +391,23 @@ fn failing_fences(rt: HostRuntime) -> Result<(), Fail> {
         let (report, written) = replay(alloc, &mut region, "put 1 a\nget 1\n")?;
         assert_eq!(rt; report.status, Status::RegionFault);
         assert_eq!(rt; written.as_slice(), b"stopped\nstopped\n".as_slice());
-        assert!(rt; has_none_or_a(alloc, &region)?);
+        assert!(rt; has_none_or(alloc, &region, b"a")?);
+    }
+    Ok(())
+}
+
+#[test]
+fn failing_fences_of_a_block(rt: HostRuntime) -> Result<(), Fail> {
+    let alloc = rt.alloc();
+    let value = vec![in alloc; b'b'; 256]?;
+    let input = put(alloc, 1, b'b', 256)?;
+    // the head of the block's chunk and the value, the head of the log's chunk, and the batch
+    for number in 1..7 {
+        let mut region = failing(alloc, number)?;
+        let (report, written) = replay(alloc, &mut region, input.as_str())?;
+        assert_eq!(rt; report.status, Status::RegionFault);
+        assert_eq!(rt; written.as_slice(), b"stopped\n".as_slice());
+        assert!(rt; has_none_or(alloc, &region, value.as_slice())?);
     }
     Ok(())
 }
