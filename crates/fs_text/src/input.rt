@@ -17,6 +17,9 @@ use std::alloc::Global;
 use std::marker::Model;
 use thiserror::Error;
 
+/// The bytes that are read at most: one more than an input may have.
+const MOST_READ: usize = 67_108_865;
+
 /// The lines of an input in order, which contracts see as a list.
 #[derive(Debug, Drop)]
 pub struct Input {
@@ -136,7 +139,7 @@ pub fn read_until<S: Source>(
     ensures cause { IsErrOf result UntilError.SourceFault → Rose (S.fault_count source.old) (S.fault_count source.new) }
     ensures count { S.fault_count source.old ≤ S.fault_count source.new }
 {
-    let bytes = read_all(alloc, source)?;
+    let bytes = read_all(alloc, source, MOST_READ)?;
     parse_until(alloc, &bytes, cores, built)
 }
 
@@ -150,6 +153,6 @@ pub fn read_input<S: Source>(alloc: Global, source: &mut S, cores: u32) -> Resul
     ensures cause { IsErrOf result InputError.SourceFault → Rose (S.fault_count source.old) (S.fault_count source.new) }
     ensures count { S.fault_count source.old ≤ S.fault_count source.new }
 {
-    let bytes = read_all(alloc, source)?;
+    let bytes = read_all(alloc, source, MOST_READ)?;
     parse_input(alloc, &bytes, cores)
 }

@@ -7,8 +7,6 @@ use crate::source::{Source, SourceFault};
 use std::alloc::{AllocError, Global};
 use thiserror::Error;
 
-/// The bytes that are read at most: one more than an input may have.
-const MOST_READ: usize = 67_108_865;
 /// The bytes that are made room for at first.
 const FIRST_ROOM: usize = 65_536;
 
@@ -45,19 +43,19 @@ impl From<AllocError> for ReadError {
 
 // Makes room behind the filled front of the buffer. It makes it twice as long, so that a whole source takes time by its
 // length.
-fn make_room(bytes: &mut Vec<u8>, filled: usize) -> Result<(), AllocError>
+fn make_room(bytes: &mut Vec<u8>, filled: usize, most: usize) -> Result<(), AllocError>
     requires within { filled ≤ length bytes.old.items }
-    requires room { filled < 67108865 }
-    requires most { length bytes.old.items ≤ 67108865 }
+    requires room { filled < most }
+    requires most { length bytes.old.items ≤ most }
     ensures kept { OnOk result (take filled bytes.new.items ≡ take filled bytes.old.items) }
     ensures room { OnOk result (filled < length bytes.new.items) }
-    ensures most { OnOk result (length bytes.new.items ≤ 67108865) }
+    ensures most { OnOk result (length bytes.new.items ≤ most) }
 {
     if filled < bytes.len() {
         return Ok(());
     }
     let twice = filled * 2;
-    bytes.resize(twice.max(FIRST_ROOM).min(MOST_READ), 0)
+    bytes.resize(twice.max(FIRST_ROOM).min(most), 0)
 }
 
 // Reads once into the buffer behind its filled front, and answers how many bytes came.
@@ -78,17 +76,22 @@ fn read_behind<S: Source>(
     source.read(&mut bytes[filled..])
 }
 
-/// The bytes of a source up to its end, or as many as are read at most.
-pub fn read_all<S: Source>(alloc: Global, source: &mut S) -> Result<Vec<u8>, ReadError>
+/// The bytes of a source up to its end, or the first `most` of them.
+pub fn read_all<S: Source>(
+    alloc: Global,
+    source: &mut S,
+    most: usize,
+) -> Result<Vec<u8>, ReadError>
     ensures gives { IfOk result (λ bytes. Gives (S.coming source.old) (S.coming source.new) bytes.items) }
-    ensures end { IfOk result (λ bytes. length bytes.items < 67108865 → IsAtEnd (S.coming source.new)) }
+    ensures most { IfOk result (λ bytes. length bytes.items ≤ most) }
+    ensures end { IfOk result (λ bytes. length bytes.items < most → IsAtEnd (S.coming source.new)) }
     ensures cause { IsErrOf result ReadError.SourceFault → Rose (S.fault_count source.old) (S.fault_count source.new) }
     ensures count { S.fault_count source.old ≤ S.fault_count source.new }
 {
     let mut bytes = Vec::new(alloc);
     let mut filled = 0;
-    while filled < MOST_READ {
-        make_room(&mut bytes, filled)?;
+    while filled < most {
+        make_room(&mut bytes, filled, most)?;
         let count = read_behind(source, &mut bytes, filled)?;
         if count == 0 {
             bytes.truncate(filled);

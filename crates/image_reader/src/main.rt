@@ -5,7 +5,6 @@
 mod bytes;
 mod ending;
 mod image;
-mod input;
 mod reading;
 mod rules;
 

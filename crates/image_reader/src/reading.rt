@@ -3,10 +3,10 @@ ghost use Rattle.std.specs.Prelude.{◌≡◌, ◌≤◌};
 ghost use Rattle.pm_region.specs.State.{Rose};
 ghost use Rattle.image_reader.specs.declared.ending.Ending.TheVariants as endings;
 
+use crate::bytes::MOST_BYTES;
 use crate::ending::Ending;
 use crate::image::{Found, read_image};
-use crate::input::{ReadError, read_all};
-use fs_text::{OutError, Sink, Source, write_pairs};
+use fs_text::{OutError, ReadError, Sink, Source, read_all, write_pairs};
 use std::alloc::Global;
 
 /// Reads a region from a source, and writes its live pairs to a sink where it is sound.
@@ -14,7 +14,7 @@ pub fn read_region<S: Source, O: Sink>(alloc: Global, source: &mut S, sink: &mut
     ensures source_fault { result ≡ endings.SourceFault → Rose (S.fault_count source.old) (S.fault_count source.new) }
     ensures sink_fault { result ≡ endings.SinkFault → Rose (O.fault_count sink.old) (O.fault_count sink.new) }
 {
-    let bytes = match read_all(alloc, source) {
+    let bytes = match read_all(alloc, source, MOST_BYTES + 1) {
         Ok(bytes) => bytes,
         Err(ReadError::SourceFault) => return Ending::SourceFault,
         Err(ReadError::Memory) => return Ending::Memory,

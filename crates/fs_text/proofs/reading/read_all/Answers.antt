@@ -6,7 +6,7 @@ use Rattle.fs_text.proofs.reading.read_all.Goals as goal
 pub loop-filled-preserved : goal.loop-filled-preserved
 loop-filled-preserved g c = record {
   within = subst (λ n. c.loop-filled.filled + c.in_ok-count.count ≤ n) (sym c.in_ok-count.ensures.size) c.in_ok-count.ensures.within;
-  most = subst (λ n. n ≤ 67108865) (sym c.in_ok-count.ensures.size) c.in_ok-make_room.ensures.most;
+  most = subst (λ n. n ≤ c.args.most) (sym c.in_ok-count.ensures.size) c.in_ok-make_room.ensures.most;
   gives = gives_behind (g.S.Source.coming c.args.source.now) (g.S.Source.coming c.loop-filled.source) (g.S.Source.coming c.read_behind.new.source)
       c.loop-filled.bytes.items c.read_behind.new.bytes.items c.loop-filled.filled c.in_ok-count.count
       (c.in_ok-count.ensures.kept ∙ c.in_ok-make_room.ensures.kept) c.loop-filled.invariant.gives c.in_ok-count.ensures.gives;
