@@ -11,23 +11,6 @@ use Rattle.core_store.specs.Moments.{EachImage}
 use Rattle.core_store.specs.Keeps.{LeavesIn, Ties, Keeps}
 use Rattle.core_store.specs.Ready.{Ready, Standing}
 
-pub standing_of : (s : State) (e : Store) → Ready s e → Standing s e
-standing_of s e r = record {
-  one = r.one;
-  part = r.part;
-  sets = r.sets;
-  layout_is = r.layout_is;
-  allocator_layout = r.allocator_layout;
-  allocator_part = r.allocator_part;
-  spelled = r.spelled;
-  first = r.first;
-  words = r.words;
-  stands = r.stands;
-  chunks = r.chunks;
-  empty = r.empty;
-  room = r.room;
-}
-
 module _ (s : State) (b : Store) (index : List (ℕ × Place)) (same_layout : b.layout ≡ b.log.layout) (same : (k : ℕ) → known_at index k ≡ known_at b.index k) where
   abbrev pub admitted : Store
   admitted = record { log = b.log; allocator = b.allocator; index = index; batch = b.batch; layout = b.layout; one_layout = same_layout }
@@ -44,8 +27,8 @@ module _ (s : State) (b : Store) (index : List (ℕ × Place)) (same_layout : b.
     wins = λ telling. subst (λ (f : ℕ → Option KeyRecord). EachImage s.frame (Ties b.log.layout f) (cell_now s)) (sym knows) (K.wins telling);
   }
 
-  pub ready_admitted : Ready s b → Ready s admitted
-  ready_admitted r = record {
+  standing_admitted : Standing s b → Standing s admitted
+  standing_admitted r = record {
     one = r.one;
     part = r.part;
     sets = r.sets;
@@ -59,5 +42,7 @@ module _ (s : State) (b : Store) (index : List (ℕ × Place)) (same_layout : b.
     chunks = record { free = r.chunks.free; due = r.chunks.due; cut = r.chunks.cut };
     empty = r.empty;
     room = r.room;
-    kept = λ telling. let k = r.kept telling in (k.0, keeps_admitted k.0 k.1);
   }
+
+  pub ready_admitted : Ready s b → Ready s admitted
+  ready_admitted r = record { standing = standing_admitted r.standing; kept = λ telling. let k = r.kept telling in (k.0, keeps_admitted k.0 k.1) }

@@ -90,18 +90,6 @@ on_both (Err e) P Q R f p q = tt
 -- a store that stands and keeps cells as before is ready
 pub ready_after : (s t : State) (e f : Store) (key : ℕ) (cell : Option (List ℕ)) → During s t (λ cells. Unit {0}) → Ready s e → Standing t f → ((cells : ℕ → Option (List ℕ)) → Keeps s e cells → Keeps t f (with_at cells key cell)) → Ready t f
 ready_after s t e f key cell run r S keeps = record {
-  one = S.one;
-  part = S.part;
-  sets = S.sets;
-  layout_is = S.layout_is;
-  allocator_layout = S.allocator_layout;
-  allocator_part = S.allocator_part;
-  spelled = S.spelled;
-  first = S.first;
-  words = S.words;
-  stands = S.stands;
-  chunks = S.chunks;
-  empty = S.empty;
-  room = S.room;
+  standing = S;
   kept = λ telling. let was = r.kept (told_at_entry s t (λ cells. Unit {0}) run telling) in (with_at was.0 key cell, keeps was.0 was.1);
 }

@@ -25,7 +25,6 @@ use Rattle.core_store.specs.declared.store.Store.{Store}
 use Rattle.core_store.specs.Records.{known, last_in}
 use Rattle.core_store.specs.Keeps.{Keeps}
 use Rattle.core_store.specs.Ready.{Ready, Standing}
-use Rattle.core_store.proofs.Alike.{standing_of}
 use Rattle.core_store.proofs.Appends.{own_zero, wins_class}
 use Rattle.core_store.proofs.Blocks.{class_to, cut_at}
 use Rattle.core_store.proofs.Images.{Held}
@@ -93,7 +92,7 @@ module _ (s : State) (e : Store) (k p : ℕ) (S : Standing s e) (has : block_of 
       ∙ held_now
 
 pub read_holds : (s : State) (e : Store) (k p : ℕ) → Ready s e → block_of (known e k) ≡ Some p → IsTelling s → (class : ℕ) × (class_at e.allocator p ≡ Some class) × (has_class (lasts s (32 * p)) class ≡ true)
-read_holds s e k p R has telling = let kept = R.kept telling in read_class s e k p (standing_of s e R) has telling kept.0 kept.1
+read_holds s e k p R has telling = let kept = R.kept telling in read_class s e k p R.standing has telling kept.0 kept.1
 
 -- a look that shows a block
 body_shown : (b : Body) (p : ℕ) → ShowsBody b (Block p) → pointer_of b ≡ Some p

@@ -257,23 +257,25 @@ module _ (s : State) (l : Geometry) (start : CoreStart) (I : IsStart l 0 start) 
 
   pub started_ready : (e : Store) → e.log ≡ start.log → e.allocator ≡ a → e.index ≡ start.index → e.layout ≡ l → e.batch.words ≡ [] → 34 ≤ e.batch.room → Ready s e
   started_ready e log alloc index lay empty room = record {
-    one = ap (λ (g : Geometry). g.cores) log_layout ∙ one;
-    part = ap (λ (g : LogState). g.part) log ∙ I.part_is;
-    sets = subst AreSets (sym alloc) I.sets;
-    layout_is = lay ∙ sym log_layout;
-    allocator_layout = ap (λ (x : Sets). x.layout) alloc ∙ I.allocator_layout ∙ sym log_layout;
-    allocator_part = ap (λ (x : Sets). x.part) alloc ∙ I.allocator_part;
-    spelled = subst IsSpelledIndex (sym index) I.spelled;
-    first = R.first;
-    words = R.words ∙ ap (λ g. total_bytes g / 8) (sym log_layout);
-    stands = subst (StandsIn s) (sym log) R.stands;
-    chunks = record {
-      free = λ j h telling. moved j 0 (free_now j (ap (λ x. chunk_is_free x j) (sym alloc) ∙ h) telling);
-      due = λ j h telling. absurd (due_now j (ap (λ x. chunk_is_due x j) (sym alloc) ∙ h) telling);
-      cut = λ j c h off telling. moved j (2 + 256 * c) (cut_now j c (ap (λ x. chunk_class x j) (sym alloc) ∙ h) telling);
+    standing = record {
+      one = ap (λ (g : Geometry). g.cores) log_layout ∙ one;
+      part = ap (λ (g : LogState). g.part) log ∙ I.part_is;
+      sets = subst AreSets (sym alloc) I.sets;
+      layout_is = lay ∙ sym log_layout;
+      allocator_layout = ap (λ (x : Sets). x.layout) alloc ∙ I.allocator_layout ∙ sym log_layout;
+      allocator_part = ap (λ (x : Sets). x.part) alloc ∙ I.allocator_part;
+      spelled = subst IsSpelledIndex (sym index) I.spelled;
+      first = R.first;
+      words = R.words ∙ ap (λ g. total_bytes g / 8) (sym log_layout);
+      stands = subst (StandsIn s) (sym log) R.stands;
+      chunks = record {
+        free = λ j h telling. moved j 0 (free_now j (ap (λ x. chunk_is_free x j) (sym alloc) ∙ h) telling);
+        due = λ j h telling. absurd (due_now j (ap (λ x. chunk_is_due x j) (sym alloc) ∙ h) telling);
+        cut = λ j c h off telling. moved j (2 + 256 * c) (cut_now j c (ap (λ x. chunk_class x j) (sym alloc) ∙ h) telling);
+      };
+      empty = empty;
+      room = room;
     };
-    empty = empty;
-    room = room;
     kept = λ telling. (recovered l (lasts s), started_keeps telling e log alloc index);
   } where
     log_layout : e.log.layout ≡ l

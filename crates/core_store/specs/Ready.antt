@@ -33,17 +33,5 @@ pub record Standing (s : State) (e : Store) : Type 0 where
 
 -- The store stands in its region, and where that tells, it keeps some cells.
 pub record Ready (s : State) (e : Store) : Type 0 where
-  pub one : e.log.layout.cores ≡ 1
-  pub part : e.log.part ≡ 0
-  pub sets : AreSets e.allocator
-  pub layout_is : e.layout ≡ e.log.layout
-  pub allocator_layout : e.allocator.layout ≡ e.log.layout
-  pub allocator_part : e.allocator.part ≡ 0
-  pub spelled : IsSpelledIndex e.index
-  pub first : s.frame.first ≡ 0
-  pub words : s.frame.words ≡ total_bytes e.log.layout / 8
-  pub stands : StandsIn s e.log
-  pub chunks : ChunksStand s e
-  pub empty : e.batch.words ≡ []
-  pub room : 34 ≤ e.batch.room
+  pub standing : Standing s e
   pub kept : IsTelling s → (cells : ℕ → Option (List ℕ)) × Keeps s e cells
