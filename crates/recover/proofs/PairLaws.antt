@@ -36,41 +36,7 @@ use Rattle.recover.specs.Listing.{cell_known}
 use Rattle.recover.specs.Recovering.{IsOf}
 use Rattle.recover.proofs.ListLaws.{any_found}
 
--- the pairs of rising keys list the cells, where each key that has one is among them
 module _ (cells : ℕ → Option (List ℕ)) where
-  above_pairs : (b : ℕ) (ks : List ℕ) → AllByRecursion (λ y. b < y) ks → AllByRecursion (λ y. b < y) (map (λ (x : Pair). x.key) (pairs_of cells ks))
-  above_pairs b [] all = tt
-  above_pairs b (k ∷ ks) all = elim (cells k) as (λ o. AllByRecursion (λ y. b < y) (map (λ (x : Pair). x.key) (with_pair k o (pairs_of cells ks)))) [
-    | None ↦ above_pairs b ks all.1
-    | Some v ↦ (all.0, above_pairs b ks all.1)
-  ]
-
-  rising_pairs : (ks : List ℕ) → IsRising ks → IsRising (map (λ (x : Pair). x.key) (pairs_of cells ks))
-  rising_pairs [] is = tt
-  rising_pairs (k ∷ ks) is = elim (cells k) as (λ o. IsRising (map (λ (x : Pair). x.key) (with_pair k o (pairs_of cells ks)))) [
-    | None ↦ rising_pairs ks is.1
-    | Some v ↦ (above_pairs k ks is.0, rising_pairs ks is.1)
-  ]
-
-  looked_here : (k x : ℕ) (xs : List ℕ) → ((In k (x ∷ xs) → ⊥) → cells k ≡ None) → (((In k xs → ⊥) → cells k ≡ None) → lookup k (pairs_of cells xs) ≡ cells k) → (o : Option (List ℕ)) → cells x ≡ o → lookup k (with_pair x o (pairs_of cells xs)) ≡ cells k
-  looked_here k x xs none again None e = again not_here where
-    not_here : (In k xs → ⊥) → cells k ≡ None
-    not_here h = elim (k == x) as (λ c. (k == x) ≡ c → cells k ≡ None) [
-      | true ↦ λ q. ap cells (eqb-true k x q) ∙ e
-      | false ↦ λ q. none (λ i. elim i [ inl p ↦ eqb-false k x q p | inr p ↦ h p ])
-    ] refl
-  looked_here k x xs none again (Some v) e = elim (x == k) as (λ c. (x == k) ≡ c → lookup k (record { key = x; value = v } ∷ pairs_of cells xs) ≡ cells k) [
-    | true ↦ λ q. rw q (sym e ∙ ap cells (eqb-true x k q))
-    | false ↦ λ q. rw q (again (λ h. none (λ i. elim i [ inl p ↦ eqb-false x k q (sym p) | inr p ↦ h p ])))
-  ] refl
-
-  looked_up : (k : ℕ) (ks : List ℕ) → ((In k ks → ⊥) → cells k ≡ None) → lookup k (pairs_of cells ks) ≡ cells k
-  looked_up k [] none = sym (none (λ h. h))
-  looked_up k (x ∷ xs) none = looked_here k x xs none (looked_up k xs) (cells x) refl
-
-  pub lists_cells : (ks : List ℕ) → IsRising ks → ((k : ℕ) → (In k ks → ⊥) → cells k ≡ None) → ListsCells cells (pairs_of cells ks)
-  lists_cells ks rising none = record { rising = rising_pairs ks rising; each = λ k. looked_up k ks (none k) }
-
   -- one more
   pub pair_more : (old new : List Pair) (k : ℕ) (ks : List ℕ) (v : Option (List ℕ)) → new ≡ old ++ with_pair k v [] → v ≡ cells k → new ++ pairs_of cells ks ≡ old ++ pairs_of cells (k ∷ ks)
   pair_more old new k ks v is value =

@@ -80,11 +80,13 @@ looked_up : (cells : ℕ → Option (List ℕ)) (k : ℕ) (ks : List ℕ) → ((
 looked_up cells k [] none = sym (none (λ h. h))
 looked_up cells k (x ∷ xs) none = looked_here cells k x xs none (looked_up cells k xs) (cells x) refl
 
+-- the pairs of rising keys list the cells, where each key that has one is among them
+pub lists_cells : (cells : ℕ → Option (List ℕ)) (ks : List ℕ) → IsRising ks → ((k : ℕ) → (In k ks → ⊥) → cells k ≡ None) → ListsCells cells (pairs_of cells ks)
+lists_cells cells ks rising none = record { rising = rising_pairs cells ks rising; each = λ k. looked_up cells k ks (none k) }
+
 pub lists_pairs : (l : Geometry) (image : ℕ → ℕ) → ListsCells (recovered l image) (pairs_of (recovered l image) (keys_of (all_entries l image)))
-lists_pairs l image = record {
-  rising = rising_pairs (recovered l image) (keys_of (all_entries l image)) (rising_keys (all_entries l image));
-  each = λ k. looked_up (recovered l image) k (keys_of (all_entries l image)) (λ h. no_winner k (winner_in k (all_entries l image)) refl h);
-} where
+lists_pairs l image = lists_cells (recovered l image) (keys_of (all_entries l image)) (rising_keys (all_entries l image)) (λ k h. no_winner k (winner_in k (all_entries l image)) refl h)
+  where
   no_winner : (k : ℕ) (o : Option PlacedEntry) → winner_in k (all_entries l image) ≡ o → (In k (keys_of (all_entries l image)) → ⊥) → option_and_then (λ x. cell_by (held l image (owner l k)) x.entry.body) (winner_in k (all_entries l image)) ≡ None
   no_winner k None e h = ap (option_and_then (λ x. cell_by (held l image (owner l k)) x.entry.body)) e
   no_winner k (Some x) e h = absurd (h (winner_key k (all_entries l image) x e))

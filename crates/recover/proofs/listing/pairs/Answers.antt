@@ -6,12 +6,12 @@ use Rattle.store_image.specs.Winners.{recovered}
 use Rattle.store_image.specs.Listing.{ListsCells}
 use Rattle.store_image.specs.Facts.{In}
 use Rattle.store_image.proofs.Places.{layout_numbers}
-use Rattle.store_image.proofs.Listings.{pairs_of}
+use Rattle.store_image.proofs.Listings.{pairs_of, lists_cells}
 use Rattle.core_index.specs.Records.{live_version}
 use Rattle.core_index.specs.Index.{known_at}
 use Rattle.recover.specs.declared.types.CoreStart.{CoreStart}
 use Rattle.recover.specs.Recovering.{IsOf}
-use Rattle.recover.proofs.PairLaws.{lists_cells, pair_more, no_cell, set_rises, set_has}
+use Rattle.recover.proofs.PairLaws.{pair_more, no_cell, set_rises, set_has}
 use Rattle.recover.proofs.listing.pairs.Goals as goal
 
 pub loop-key-preserved : goal.loop-key-preserved
