@@ -8,6 +8,8 @@ mod classes;
 mod counts;
 mod places;
 #[cfg(test)]
+mod plain;
+#[cfg(test)]
 mod tests;
 mod values;
 mod written;

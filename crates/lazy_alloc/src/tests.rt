@@ -6,6 +6,7 @@ ghost use Rattle.pm_region.specs.Cell.{certain};
 ghost use Rattle.lazy_alloc.specs.Sets.{AreSets, chunk_class};
 ghost use Rattle.lazy_alloc.specs.Written.{PartLies};
 
+use crate::plain::Plain;
 use crate::{Allocator, class_of, value_in};
 use chunk_map::{Head, Layout};
 use fs_model::Value;
@@ -70,6 +71,111 @@ fn lowest_blocks(rt: HostRuntime) -> Result<(), Fail> {
     assert_eq!(rt; take(&mut a, 1, true), Some(21));
     assert_eq!(rt; take(&mut a, 2, false), None);
     assert_eq!(rt; lend_chunk(&mut a), Some(2));
+    Ok(())
+}
+
+// Whether the two forms give the same block.
+fn take_both(a: &mut Allocator, plain: &mut Plain, class: u32, may_cut: bool) -> bool
+    requires low { 1 ≤ class }
+    requires high { class ≤ 2 }
+    requires sets { AreSets a.old }
+    requires layout { a.old.layout ≡ record { cores = 1; group = 1; chunks = 4; chunk_bytes = 4096 } }
+    ensures sets { AreSets a.new }
+    ensures layout { a.new.layout ≡ record { cores = 1; group = 1; chunks = 4; chunk_bytes = 4096 } }
+{
+    take(a, class, may_cut) == plain.take(class, may_cut)
+}
+
+// Whether the block with this pointer is allocated in both forms or in none. It is put back.
+fn put_back_both(a: &mut Allocator, plain: &mut Plain, pointer: u64) -> bool
+    requires sets { AreSets a.old }
+    requires layout { a.old.layout ≡ record { cores = 1; group = 1; chunks = 4; chunk_bytes = 4096 } }
+    ensures sets { AreSets a.new }
+    ensures layout { a.new.layout ≡ record { cores = 1; group = 1; chunks = 4; chunk_bytes = 4096 } }
+{
+    let same = a.is_allocated(pointer) == plain.is_allocated(pointer);
+    put_back(a, pointer);
+    plain.put_back(pointer);
+    same
+}
+
+// Whether the two forms lend the same chunk to the log. It comes back.
+fn lend_both(a: &mut Allocator, plain: &mut Plain) -> bool
+    requires sets { AreSets a.old }
+    requires layout { a.old.layout ≡ record { cores = 1; group = 1; chunks = 4; chunk_bytes = 4096 } }
+    ensures sets { AreSets a.new }
+    ensures layout { a.new.layout ≡ record { cores = 1; group = 1; chunks = 4; chunk_bytes = 4096 } }
+{
+    let lent = plain.take_chunk();
+    let Some(chunk) = a.take_chunk() else {
+        return lent.is_none();
+    };
+    let same_count = a.free_chunks() == plain.free_chunks();
+    a.give_chunk(chunk);
+    plain.give_chunk(chunk);
+    same_count && lent == Some(chunk)
+}
+
+// One change of both forms, picked by a random number: whether they answer the same.
+fn change_both(a: &mut Allocator, plain: &mut Plain, random: u64) -> bool
+    requires sets { AreSets a.old }
+    requires layout { a.old.layout ≡ record { cores = 1; group = 1; chunks = 4; chunk_bytes = 4096 } }
+    ensures sets { AreSets a.new }
+    ensures layout { a.new.layout ≡ record { cores = 1; group = 1; chunks = 4; chunk_bytes = 4096 } }
+{
+    match random % 16 {
+        0 => take_both(a, plain, 1, true),
+        1 => take_both(a, plain, 2, true),
+        2 | 3 => take_both(a, plain, 1, false),
+        4 | 5 => take_both(a, plain, 2, false),
+        6 => lend_both(a, plain),
+        7 | 8 => put_back_both(a, plain, random / 16 % 82),
+        _ => put_back_both(a, plain, 17 + random / 16 % 32 * 2),
+    }
+}
+
+// Whether all counts are the same in both forms.
+fn same_counts(a: &Allocator, plain: &Plain) -> bool
+    requires layout { a.now.layout ≡ record { cores = 1; group = 1; chunks = 4; chunk_bytes = 4096 } }
+{
+    a.free_chunks() == plain.free_chunks()
+        && a.free_blocks(1) == plain.free_blocks(1)
+        && a.free_blocks(2) == plain.free_blocks(2)
+}
+
+// One change of both forms: whether they answer the same and count the same behind it.
+fn step(a: &mut Allocator, plain: &mut Plain, random: u64) -> bool
+    requires sets { AreSets a.old }
+    requires layout { a.old.layout ≡ record { cores = 1; group = 1; chunks = 4; chunk_bytes = 4096 } }
+    ensures sets { AreSets a.new }
+    ensures layout { a.new.layout ≡ record { cores = 1; group = 1; chunks = 4; chunk_bytes = 4096 } }
+{
+    let same_answer = change_both(a, plain, random);
+    same_answer && same_counts(a, plain)
+}
+
+// The next state of a linear congruential generator, whose upper bits are the random ones.
+fn next(state: u64) -> u64 {
+    state
+        .wrapping_mul(6_364_136_223_846_793_005)
+        .wrapping_add(1_442_695_040_888_963_407)
+}
+
+// A part that is cut stays so: each round begins with a free one.
+#[test]
+fn as_the_plain_form(rt: HostRuntime) -> Result<(), Fail> {
+    let mut state = 1;
+    for round in 0..20 {
+        let mut a = free_part(rt.alloc())?;
+        let mut plain = Plain::free_part();
+        for turn in 0..100 {
+            state = next(state);
+            assert!(rt;
+                step(&mut a, &mut plain, state >> 33),
+                "round {round}, turn {turn}"
+            );
+        }
+    }
     Ok(())
 }
 
