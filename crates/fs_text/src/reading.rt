@@ -77,11 +77,7 @@ fn read_behind<S: Source>(
 }
 
 /// The bytes of a source up to its end, or the first `most` of them.
-pub fn read_all<S: Source>(
-    alloc: Global,
-    source: &mut S,
-    most: usize,
-) -> Result<Vec<u8>, ReadError>
+pub fn read_all<S: Source>(alloc: Global, source: &mut S, most: usize) -> Result<Vec<u8>, ReadError>
     ensures gives { IfOk result (λ bytes. Gives (S.coming source.old) (S.coming source.new) bytes.items) }
     ensures most { IfOk result (λ bytes. length bytes.items ≤ most) }
     ensures end { IfOk result (λ bytes. length bytes.items < most → IsAtEnd (S.coming source.new)) }

@@ -87,9 +87,9 @@ lists_cells cells ks rising none = record { rising = rising_pairs cells ks risin
 pub lists_pairs : (l : Geometry) (image : ℕ → ℕ) → ListsCells (recovered l image) (pairs_of (recovered l image) (keys_of (all_entries l image)))
 lists_pairs l image = lists_cells (recovered l image) (keys_of (all_entries l image)) (rising_keys (all_entries l image)) (λ k h. no_winner k (winner_in k (all_entries l image)) refl h)
   where
-  no_winner : (k : ℕ) (o : Option PlacedEntry) → winner_in k (all_entries l image) ≡ o → (In k (keys_of (all_entries l image)) → ⊥) → option_and_then (λ x. cell_by (held l image (owner l k)) x.entry.body) (winner_in k (all_entries l image)) ≡ None
-  no_winner k None e h = ap (option_and_then (λ x. cell_by (held l image (owner l k)) x.entry.body)) e
-  no_winner k (Some x) e h = absurd (h (winner_key k (all_entries l image) x e))
+    no_winner : (k : ℕ) (o : Option PlacedEntry) → winner_in k (all_entries l image) ≡ o → (In k (keys_of (all_entries l image)) → ⊥) → option_and_then (λ x. cell_by (held l image (owner l k)) x.entry.body) (winner_in k (all_entries l image)) ≡ None
+    no_winner k None e h = ap (option_and_then (λ x. cell_by (held l image (owner l k)) x.entry.body)) e
+    no_winner k (Some x) e h = absurd (h (winner_key k (all_entries l image) x e))
 
 -- the pairs so far, and those of the keys from the i-th on
 module _ (cells : ℕ → Option (List ℕ)) (ks : List ℕ) (i : ℕ) (ps : List Pair) (lt : i < length ks) where
