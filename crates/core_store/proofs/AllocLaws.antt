@@ -1,11 +1,11 @@
 -- What a take, a write and a release of a block change of an allocator.
-use Rattle.std.proofs.Common.{◌≡◌, ◌≢◌, ◌⊎◌, inl, inr, ⊎_elim, ℕ, zero, suc, ◌+◌, ◌-◌, ◌*◌, ◌/◌, ◌%◌, ◌^◌, ◌<◌, ◌≤◌, refl, sym, ◌∙◌, ap, subst, arith, ◌==◌, ◌&&◌, ◌||◌, not, true, false, cond, Bool, List, [], ◌∷◌, Option, Some, None, leb, if◌then◌else◌}
+use Rattle.std.proofs.Common.{◌≡◌, inl, inr, ⊎_elim, ℕ, zero, suc, ◌+◌, ◌-◌, ◌*◌, ◌/◌, ◌%◌, ◌^◌, ◌<◌, ◌≤◌, refl, sym, ◌∙◌, ap, subst, arith, ◌==◌, ◌&&◌, ◌||◌, not, true, false, cond, Bool, Option, Some, None, leb}
 use Rattle.std.specs.Prelude.{unwrap_or, count_by}
 use Rattle.std.specs.Option.{option_map_or, option_and_then}
 use Rattle.std.proofs.lemmas.List.Sums.{sum_by-cons}
 use Rattle.std.proofs.Math.Nat.{add-mul-mod_self_right, add-mul-div_right, mod-eq_of_lt, div-eq_of_lt}
 use Rattle.std.proofs.lemmas.Nat.{pow_pos}
-use Rattle.std.proofs.lemmas.Bool.{eqb-true, eqb-false, eq-eqb, ne_eqb, and_parts, and_from, le-leb, leb-true, or_cases, cases_eq, cases_lt}
+use Rattle.std.proofs.lemmas.Bool.{eqb-true, eqb-false, eq-eqb, and_parts, and_from, le-leb, leb-true, or_cases}
 use Rattle.log_entry.specs.declared.entry.Body.{Body}
 use Rattle.log_entry.specs.declared.entry.Body.TheVariants.{Pointer, Embedded, Tombstone}
 use Rattle.chunk_map.specs.declared.layouts.Geometry.{Geometry}
@@ -13,10 +13,10 @@ use Rattle.chunk_map.specs.Layouts.{is_class, numbers}
 use Rattle.store_image.specs.Parts.{chunk_units, chunk_at, unit_at, is_start}
 use Rattle.store_image.proofs.Places.{Numbers}
 use Rattle.store_image.proofs.BlockLaws.{chunk_of}
-use Rattle.lazy_alloc.specs.Sets.{Sets, AreSets, chunk_is_free, chunk_class, chunk_is_due, block_is_used, class_at, start_in, is_free_block, free_chunk_count, free_block_count, first_block, part_unit, SameChunks, TakesBlock, Cuts, Takes, PutsBack}
-use Rattle.core_store.specs.Changing.{Gains, Frees}
+use Rattle.lazy_alloc.specs.Sets.{Sets, AreSets, chunk_is_free, chunk_class, chunk_is_due, block_is_used, class_at, start_in, is_free_block, free_chunk_count, free_block_count, first_block, SameChunks, TakesBlock, Cuts, Takes}
+use Rattle.core_store.specs.Changing.{Gains}
 use Rattle.core_store.specs.Stock.{class_of_body}
-use Rattle.core_store.proofs.Blocks.{Starts, Cut, cut_at, class_by}
+use Rattle.core_store.proofs.Blocks.{Starts, cut_at, class_by}
 
 -- two allocators with the same chunks have the same classes
 module _ (a b : Sets) (lay : b.layout ≡ a.layout) (part : b.part ≡ a.part) (classes : (j : ℕ) → chunk_class b j ≡ chunk_class a j) where

@@ -1,5 +1,5 @@
 -- An entry that is appended as a batch of its own: what each moment shows, and each image afterwards.
-use Rattle.std.proofs.Common.{◌≡◌, ◌≢◌, ◌⊎◌, inl, inr, ℕ, ◌+◌, ◌*◌, ◌/◌, ◌%◌, ◌<◌, ◌≤◌, List, [], ◌∷◌, ◌++◌, length, refl, sym, ◌∙◌, ap, subst, arith, true, Option, Some, None, Ok, append-nil}
+use Rattle.std.proofs.Common.{◌≡◌, ◌≢◌, ◌⊎◌, inl, inr, ℕ, ◌+◌, ◌≤◌, List, [], ◌∷◌, ◌++◌, length, sym, ◌∙◌, ap, subst, arith, true, Option, Some, Ok, append-nil}
 use Rattle.std.specs.Prelude.{is_some}
 use Rattle.std.specs.List.{flat_map}
 use Rattle.pm_region.specs.State.{State, IsTelling, cell_now, During}
@@ -8,7 +8,7 @@ use Rattle.pm_region.proofs.Moments.{weaken, told_at_entry}
 use Rattle.pm_region.proofs.Narrow.{surely_last}
 use Rattle.log_entry.specs.declared.entry.Entry.{Entry}
 use Rattle.log_entry.specs.Spelling.{words_of, HasSpelling}
-use Rattle.log_entry.specs.Batches.{IsBatch, SpellsBatches}
+use Rattle.log_entry.specs.Batches.{SpellsBatches}
 use Rattle.log_entry.proofs.Scans.{spells-append}
 use Rattle.chunk_map.specs.declared.layouts.Geometry.{Geometry}
 use Rattle.chunk_map.specs.declared.heads.Head.TheVariants.{Data}
@@ -16,9 +16,9 @@ use Rattle.chunk_map.specs.Layouts.{chunk_first, chunk_words, head_at}
 use Rattle.store_image.specs.declared.types.PlacedEntry.{PlacedEntry}
 use Rattle.store_image.specs.Parts.{chunk_entries, chunk_reads}
 use Rattle.store_image.proofs.Places.{layout_numbers}
-use Rattle.core_index.specs.Records.{KeyRecord, last_of}
+use Rattle.core_index.specs.Records.{KeyRecord}
 use Rattle.core_log.specs.Chunk.{words_now, padded, HasOrLacks, lines_for, ChunkLies}
-use Rattle.core_log.specs.Log.{LogState, StandsIn, EachInOpen, Spelled, IsChunkOf, chunk_with, open_number, open_first, open_tail, room_of}
+use Rattle.core_log.specs.Log.{LogState, EachInOpen, Spelled, IsChunkOf, chunk_with, open_number, open_first, open_tail, room_of}
 use Rattle.core_log.specs.Entries.{open_entries, AppendedBatch}
 use Rattle.core_log.proofs.Padded.{length-padded}
 use Rattle.core_log.proofs.BatchLaws.{room_opens, open_has, open_chunk_of, moved_chunk_of, open_lies, open_spelled, has_entries, entries_or_lacks}

@@ -1,22 +1,19 @@
 -- What an entry brings with it, in each image.
-use Rattle.std.proofs.Common.{◌≡◌, ◌⊎◌, inl, inr, ℕ, ◌+◌, ◌*◌, ◌/◌, ◌^◌, ◌<◌, ◌≤◌, List, length, Option, Some, None, Ok, true, false, cond, refl, sym, ◌∙◌, ap, subst, arith}
+use Rattle.std.proofs.Common.{◌≡◌, ℕ, ◌+◌, ◌*◌, ◌<◌, ◌≤◌, List, Option, Some, None, true, cond, refl, sym, ◌∙◌, ap, subst, arith}
 use Rattle.pm_region.specs.State.{State, InRange, MayLeave, IsTelling, cell_now}
 use Rattle.pm_region.specs.Words.{Surely}
 use Rattle.log_entry.specs.declared.entry.Body.{Body}
 use Rattle.log_entry.specs.declared.entry.Body.TheVariants.{Pointer, Embedded, Tombstone}
 use Rattle.chunk_map.specs.declared.layouts.Geometry.{Geometry}
-use Rattle.chunk_map.specs.declared.heads.Head.TheVariants.{Data}
-use Rattle.chunk_map.specs.Layouts.{chunk_first, chunk_words, part_first, total_bytes, head_at, is_class, has_class}
+use Rattle.chunk_map.specs.Layouts.{chunk_first, chunk_words, part_first, is_class, has_class}
 use Rattle.chunk_map.proofs.LayoutLaws.{numbers_of, chunk_words_whole, chunk_in_part}
-use Rattle.store_image.specs.Parts.{block_class, block_bytes, held_by, held}
+use Rattle.store_image.specs.Parts.{held_by, held}
 use Rattle.store_image.specs.Winners.{cell_by}
-use Rattle.store_image.proofs.Places.{Numbers}
 use Rattle.store_image.proofs.BlockLaws.{chunk_of}
 use Rattle.core_index.specs.Records.{block_of}
 use Rattle.core_log.specs.Log.{first_of}
 use Rattle.lazy_alloc.specs.Sets.{Sets, class_at}
 use Rattle.lazy_alloc.specs.Sets as alloc
-use Rattle.lazy_alloc.specs.Written.{HoldsValue}
 use Rattle.core_store.specs.declared.store.Store.{Store}
 use Rattle.core_store.specs.Records.{known}
 use Rattle.core_store.specs.Ready.{Standing}

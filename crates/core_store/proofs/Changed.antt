@@ -1,11 +1,10 @@
 -- A change is made of runs, one after the other.
-use Rattle.std.proofs.Common.{◌≡◌, inl, ℕ, ◌+◌, ◌-◌, ◌/◌, ◌<◌, ◌≤◌, List, length, Option, Some, None, Result, Ok, Err, OnOk, Bool, true, false, cond, leb, ltb, refl, sym, ◌∙◌, ap, subst, arith}
+use Rattle.std.proofs.Common.{◌≡◌, inl, ℕ, ◌-◌, ◌/◌, ◌<◌, ◌≤◌, List, length, Option, Some, None, Result, Ok, Err, OnOk, Bool, true, false, cond, leb, ltb, refl, sym, ◌∙◌, subst, arith}
 use Rattle.std.proofs.lemmas.Bool.{ltb-false, leb-false, le-ltb, lt-leb}
-use Rattle.pm_region.specs.State.{State, IsTelling, During}
+use Rattle.pm_region.specs.State.{State, During}
 use Rattle.pm_region.specs.declared.region.RegionFault.{RegionFault}
 use Rattle.pm_region.proofs.Moments.{weaken, then_on, told_at_entry}
 use Rattle.log_entry.specs.declared.entry.Entry.{Entry}
-use Rattle.log_entry.specs.declared.entry.Body.{Body}
 use Rattle.log_entry.specs.Spelling.{words_of, HasSpelling}
 use Rattle.chunk_map.specs.declared.layouts.Geometry.{Geometry}
 use Rattle.chunk_map.specs.Layouts.{IsLayout, payload_lines}

@@ -1,13 +1,13 @@
 -- What callers need to open a store over a region of one core that was attached and recovered.
-use Rattle.std.proofs.Common.{◌≡◌, ℕ, ◌+◌, ◌/◌, ◌<◌, ◌≤◌, List, [], ◌∷◌, ◌++◌, length, length-append, refl, sym, ◌∙◌, ap, subst, arith}
+use Rattle.std.proofs.Common.{◌≡◌, ℕ, ◌/◌, ◌<◌, List, [], ◌∷◌, ◌++◌, length, length-append, refl, sym, ◌∙◌, ap, subst, arith}
 use Rattle.std.specs.Prelude.{slice_index_or}
-use Rattle.pm_region.specs.Cell.{Cell, certain}
-use Rattle.pm_region.specs.State.{State, IsTelling, InRange, cell_now}
+use Rattle.pm_region.specs.Cell.{Cell}
+use Rattle.pm_region.specs.State.{State, IsTelling, cell_now}
 use Rattle.pm_region.specs.Words.{Surely, lasts}
 use Rattle.pm_region.specs.Split.{Attached}
 use Rattle.pm_region.proofs.Narrow.{surely_certain}
 use Rattle.chunk_map.specs.declared.layouts.Geometry.{Geometry}
-use Rattle.chunk_map.specs.Layouts.{layout_of, total_bytes}
+use Rattle.chunk_map.specs.Layouts.{layout_of}
 use Rattle.store_image.specs.Facts.{IsStore}
 use Rattle.core_log.specs.Log.{StandsIn}
 use Rattle.recover.specs.declared.types.CoreStart.{CoreStart}

@@ -1,8 +1,8 @@
 -- A value that is read from its block is the key's.
-use Rattle.std.proofs.Common.{◌≡◌, ℕ, ◌+◌, ◌*◌, ◌/◌, ◌<◌, ◌≤◌, List, length, Option, Some, None, Result, Ok, true, false, Bool, refl, sym, ◌∙◌, ap, subst, arith}
+use Rattle.std.proofs.Common.{◌≡◌, ℕ, ◌+◌, ◌*◌, List, Option, Some, None, Result, Ok, true, false, Bool, refl, sym, ◌∙◌, ap, subst}
 use Rattle.std.specs.Option.{option_and_then}
 use Rattle.pm_region.specs.State.{State, MayLeave, IsTelling, cell_now}
-use Rattle.pm_region.specs.Words.{Surely, lasts}
+use Rattle.pm_region.specs.Words.{lasts}
 use Rattle.pm_region.proofs.Cells.{may_be_last}
 use Rattle.pm_region.proofs.Narrow.{surely_last}
 use Rattle.log_entry.specs.declared.entry.Body.{Body}
@@ -12,14 +12,14 @@ use Rattle.chunk_map.specs.declared.heads.Head.{Head}
 use Rattle.chunk_map.specs.declared.heads.Head.TheVariants.{Free, Data}
 use Rattle.chunk_map.specs.Layouts.{chunk_first, head_at, has_class, is_class, owner}
 use Rattle.store_image.specs.declared.types.PlacedEntry.{PlacedEntry}
-use Rattle.store_image.specs.Parts.{all_entries, block_class, block_bytes, held}
-use Rattle.store_image.specs.Winners.{winner, winner_in, recovered, cell_by}
+use Rattle.store_image.specs.Parts.{block_class, block_bytes, held}
+use Rattle.store_image.specs.Winners.{winner, cell_by}
 use Rattle.store_image.proofs.BlockLaws.{chunk_of}
 use Rattle.core_index.specs.Records.{KeyRecord, block_of, pointer_of, ShowsBody}
 use Rattle.core_index.specs.Records as index
 use Rattle.core_index.specs.declared.types.Look.TheVariants.{Block}
 use Rattle.core_log.specs.Log.{first_of}
-use Rattle.lazy_alloc.specs.Sets.{Sets, class_at, chunk_is_due, chunk_class}
+use Rattle.lazy_alloc.specs.Sets.{class_at, chunk_is_due, chunk_class}
 use Rattle.recover.specs.Starts.{KnownAs}
 use Rattle.core_store.specs.declared.store.Store.{Store}
 use Rattle.core_store.specs.Records.{known, last_in}

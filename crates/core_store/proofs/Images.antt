@@ -1,7 +1,7 @@
 -- Two images that differ in one chunk: it has one entry more in the second, or the same.
-use Rattle.std.proofs.Common.{◌≡◌, ◌≢◌, ◌⊎◌, inl, inr, ℕ, ◌+◌, ◌*◌, ◌/◌, ◌%◌, ◌^◌, ◌<◌, ◌≤◌, List, [], ◌∷◌, ◌++◌, refl, sym, ◌∙◌, ap, subst, arith, ◌==◌, ◌&&◌, true, false, Bool, cond, Option, Some, None, Ok, append-nil, nat_le, leb}
+use Rattle.std.proofs.Common.{◌≡◌, ◌≢◌, ◌⊎◌, inl, inr, ℕ, ◌+◌, ◌*◌, ◌/◌, ◌%◌, ◌<◌, ◌≤◌, List, [], ◌∷◌, ◌++◌, refl, sym, ◌∙◌, ap, subst, arith, ◌==◌, ◌&&◌, true, false, Bool, cond, Option, Some, None, append-nil, nat_le}
 use Rattle.std.proofs.Math.Nat.{mul-le-mul_right}
-use Rattle.std.specs.Prelude.{is_none, option_map}
+use Rattle.std.specs.Prelude.{is_none}
 use Rattle.std.specs.Option.{option_and_then}
 use Rattle.std.proofs.lemmas.Bool.{eqb-true, eq-eqb, ne_eqb, eqb-false, cases_lt}
 use Rattle.log_entry.specs.declared.entry.Body.{Body}
@@ -14,7 +14,6 @@ use Rattle.store_image.specs.Parts.{all_entries, chunk_entries, chunk_reads, blo
 use Rattle.store_image.specs.Winners.{winner_in, recovered, cell_by}
 use Rattle.store_image.proofs.Local.{chunk_same, reads_same}
 use Rattle.store_image.proofs.Inserts.{all_inserted}
-use Rattle.store_image.proofs.Places.{Numbers, layout_numbers, superblock_facts}
 use Rattle.store_image.proofs.SoundFacts.{in_inserted, winner_is, agree_inserted}
 use Rattle.store_image.proofs.WinnerLaws.{winner-inserted, winner-skipped}
 use Rattle.core_index.specs.Records.{KeyRecord}

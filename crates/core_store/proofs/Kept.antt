@@ -1,12 +1,11 @@
 -- Where one chunk of a part is written, the others stand as before.
-use Rattle.std.proofs.Common.{◌≡◌, ◌≢◌, ◌⊎◌, inl, inr, ⊎_elim, ℕ, ◌+◌, ◌<◌, ◌≤◌, Option, Some, None, refl, sym, ◌∙◌, ap, subst, arith}
+use Rattle.std.proofs.Common.{◌≡◌, ◌≢◌, inl, inr, ⊎_elim, ℕ, ◌+◌, ◌<◌, ◌≤◌, Option, Some, None, sym, ◌∙◌, ap, subst, arith}
 use Rattle.pm_region.specs.State.{State, Frame, IsTelling, cell_now, During}
 use Rattle.pm_region.specs.Words.{Kept, KeepsOutside, Surely}
 use Rattle.pm_region.proofs.Moments.{at_exit, told_at_entry}
 use Rattle.pm_region.proofs.Narrow.{surely_kept}
 use Rattle.chunk_map.specs.Layouts.{chunk_words, part_first}
 use Rattle.chunk_map.proofs.LayoutLaws.{numbers_of, chunk_words_whole, chunks_apart}
-use Rattle.core_log.specs.Chunk.{words_now}
 use Rattle.core_log.specs.Log.{LogState, IsOwn, StandsIn, Spelled, tail_of, first_of, chunk_with}
 use Rattle.core_log.proofs.LogLaws.{own_chunk, tail_fits, log_kept, words_kept}
 

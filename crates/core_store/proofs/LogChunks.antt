@@ -1,5 +1,5 @@
 -- What the chunks of a log say of an image, by their words.
-use Rattle.std.proofs.Common.{◌≡◌, inl, inr, ℕ, ◌+◌, ◌*◌, ◌/◌, ◌%◌, ◌≤◌, List, [], ◌∷◌, ◌++◌, length, refl, sym, ◌∙◌, ap, arith, ◌==◌, ◌&&◌, nat_le, true, false, Bool, cond, Result, Ok, Err, append-nil}
+use Rattle.std.proofs.Common.{◌≡◌, inl, inr, ℕ, ◌+◌, ◌/◌, ◌%◌, ◌≤◌, List, [], ◌∷◌, length, refl, sym, ◌∙◌, ap, arith, ◌==◌, ◌&&◌, nat_le, true, false, Bool, cond, Result, Ok, Err, append-nil}
 use Rattle.std.proofs.lemmas.Bool.{eq-eqb, le-leb, and_from, cond-true}
 use Rattle.log_entry.specs.declared.entry.Entry.{Entry}
 use Rattle.log_entry.specs.declared.entry.Body.{Body}

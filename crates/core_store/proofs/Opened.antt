@@ -1,27 +1,26 @@
 -- The store before and after its log opens the lowest free chunk.
-use Rattle.std.proofs.Common.{◌≡◌, ◌≢◌, ◌⊎◌, inl, inr, ⊎_elim, ℕ, ◌+◌, ◌*◌, ◌/◌, ◌^◌, ◌<◌, ◌≤◌, ◌==◌, ◌&&◌, not, List, [], length, Option, Some, None, is_none, refl, sym, ◌∙◌, ap, subst, arith, true, false, Bool, Ok}
+use Rattle.std.proofs.Common.{◌≡◌, ◌≢◌, inl, inr, ⊎_elim, ℕ, ◌+◌, ◌*◌, ◌/◌, ◌^◌, ◌<◌, ◌≤◌, ◌==◌, not, List, [], Option, Some, None, is_none, refl, sym, ◌∙◌, ap, subst, arith, true, false, Bool, Ok}
 use Rattle.std.specs.Option.{IsSome, option_and_then}
 use Rattle.std.proofs.lemmas.Bool.{and_parts, eq-eqb}
-use Rattle.pm_region.specs.Cell.{Cell}
 use Rattle.pm_region.specs.State.{State, Frame, IsTelling, cell_now, During}
-use Rattle.pm_region.specs.Words.{KeepsOutside, MayLeaveIn, EachIn, Surely, lasts}
+use Rattle.pm_region.specs.Words.{KeepsOutside, EachIn, Surely, lasts}
 use Rattle.pm_region.proofs.Moments.{weaken, both, at_exit}
 use Rattle.pm_region.proofs.Narrow.{surely_last, kept_narrows}
 use Rattle.log_entry.specs.declared.entry.Body.{Body}
 use Rattle.log_entry.specs.declared.entry.Body.TheVariants.{Pointer, Embedded, Tombstone}
 use Rattle.chunk_map.specs.declared.layouts.Geometry.{Geometry}
 use Rattle.chunk_map.specs.declared.heads.Head.TheVariants.{Data}
-use Rattle.chunk_map.specs.Layouts.{chunk_first, chunk_words, total_bytes, head_at, is_class, payload_lines}
+use Rattle.chunk_map.specs.Layouts.{chunk_first, chunk_words, total_bytes, head_at, is_class}
 use Rattle.chunk_map.proofs.LayoutLaws.{chunks_apart}
 use Rattle.store_image.specs.Parts.{chunk_entries, chunk_reads}
-use Rattle.store_image.proofs.Places.{Numbers, layout_numbers}
+use Rattle.store_image.proofs.Places.{layout_numbers}
 use Rattle.store_image.proofs.BlockLaws.{chunk_of}
-use Rattle.core_index.specs.Records.{KeyRecord, last_of, block_of, pointer_of}
+use Rattle.core_index.specs.Records.{KeyRecord, last_of, block_of}
 use Rattle.core_index.specs.Index.{known_at}
 use Rattle.recover.specs.Starts.{IsSpelledIndex}
 use Rattle.log_entry.specs.Buffer.{Buffer}
 use Rattle.core_log.specs.Chunk.{FreeOrEmpty, ChunkLies}
-use Rattle.core_log.specs.Log.{LogState, StandsIn, tail_of, first_of, room_of}
+use Rattle.core_log.specs.Log.{LogState, tail_of, first_of, room_of}
 use Rattle.core_log.specs.Opening.{EachInChunk, OpenedChunk}
 use Rattle.core_log.proofs.TailLaws.{tail_other}
 use Rattle.core_log.proofs.LogLaws.{chunk_lies}
@@ -32,10 +31,10 @@ use Rattle.core_store.specs.declared.store.Store.{Store}
 use Rattle.core_store.specs.Records.{known, last_in, block_in}
 use Rattle.core_store.specs.Shows.{Shows}
 use Rattle.core_store.specs.Moments.{EachImage}
-use Rattle.core_store.specs.Keeps.{HasBlock, Leaves, LeavesIn, Ties}
+use Rattle.core_store.specs.Keeps.{LeavesIn, Ties}
 use Rattle.core_store.specs.Ready.{Standing}
-use Rattle.core_store.specs.Stock.{Stock, stock_of, class_held, class_of_body}
-use Rattle.core_store.specs.Changing.{Holds, Brings, Awaiting, with_room}
+use Rattle.core_store.specs.Stock.{stock_of, class_of_body}
+use Rattle.core_store.specs.Changing.{Brings, Awaiting, with_room}
 use Rattle.core_store.proofs.Appends.{stays_moments}
 use Rattle.core_store.proofs.AllocLaws.{class_same, bodies_same}
 use Rattle.core_store.proofs.Blocks.{cut_at}

@@ -1,15 +1,14 @@
 -- A value in a block: what the calls ask, and what they leave.
-use Rattle.std.proofs.Common.{◌≡◌, ◌≢◌, ◌⊎◌, inl, inr, ⊎_elim, ℕ, ◌+◌, ◌-◌, ◌*◌, ◌/◌, ◌^◌, ◌<◌, ◌≤◌, ◌==◌, ◌&&◌, ◌||◌, not, List, length, Option, Some, None, true, false, Bool, cond, refl, sym, ◌∙◌, ap, subst, arith, leb, ltb}
+use Rattle.std.proofs.Common.{◌≡◌, ◌⊎◌, inl, inr, ⊎_elim, ℕ, ◌+◌, ◌-◌, ◌*◌, ◌/◌, ◌^◌, ◌<◌, ◌≤◌, ◌==◌, ◌&&◌, ◌||◌, List, length, Option, Some, true, false, Bool, cond, refl, sym, ◌∙◌, ap, subst, arith, leb, ltb}
 use Rattle.std.specs.Prelude.{unwrap_or}
 use Rattle.std.specs.Option.{option_and_then}
-use Rattle.std.proofs.lemmas.Bool.{eq-eqb, le-leb, lt-leb, lt-ltb, ltb-false, ltb-true, or_cases, and_parts, leb-true, eqb-true, cases_lt}
+use Rattle.std.proofs.lemmas.Bool.{eq-eqb, le-leb, lt-leb, ltb-false, ltb-true, or_cases, and_parts, leb-true}
 use Rattle.pm_region.specs.State.{State, During, cell_now}
 use Rattle.pm_region.specs.Words.{EachIn}
 use Rattle.pm_region.proofs.Moments.{weaken}
 use Rattle.log_entry.specs.Spelling.{words_of}
 use Rattle.log_entry.specs.declared.entry.Body.TheVariants.{Pointer, Embedded}
 use Rattle.log_entry.proofs.Bytes.{length-packed_in}
-use Rattle.chunk_map.specs.declared.layouts.Geometry.{Geometry}
 use Rattle.chunk_map.specs.Layouts.{is_class, has_class, part_first, total_bytes}
 use Rattle.chunk_map.proofs.LayoutLaws.{numbers_of, chunk_in_part, part_within}
 use Rattle.store_image.proofs.Places.{layout_numbers}
@@ -18,7 +17,7 @@ use Rattle.core_index.specs.Records.{KeyRecord, last_of}
 use Rattle.core_index.specs.Index.{known_at}
 use Rattle.core_log.specs.Chunk.{lines_for}
 use Rattle.core_log.specs.Log.{LogState, room_of}
-use Rattle.lazy_alloc.specs.Sets.{Sets, AreSets, block_is_used, class_at, free_chunk_count, free_block_count, Takes}
+use Rattle.lazy_alloc.specs.Sets.{AreSets, block_is_used, class_at, free_chunk_count, Takes}
 use Rattle.lazy_alloc.specs.Written.{HasHead, PartLies, KeepsOthers, HeadTurnsTo, WroteValue, head_of}
 use Rattle.core_store.specs.declared.store.Store.{Store}
 use Rattle.core_store.specs.Records.{known, last_in}
@@ -26,7 +25,7 @@ use Rattle.core_store.specs.Shows.{Shows}
 use Rattle.core_store.specs.Moments.{EachImage}
 use Rattle.core_store.specs.Keeps.{Keeps, Ties}
 use Rattle.core_store.specs.Ready.{Standing}
-use Rattle.core_store.specs.Stock.{Stock, stock_of, class_of_body, class_held, class_for, lines_needed, lacks_room, lacks_block, may_cut, after_take}
+use Rattle.core_store.specs.Stock.{stock_of, class_of_body, class_held, class_for, lines_needed, lacks_room, may_cut, after_take}
 use Rattle.core_store.specs.Changing.{Awaiting, SameRest, Gains}
 use Rattle.core_store.proofs.ClassLaws.{class_for_long, class_small, class_fits, fit_of}
 use Rattle.core_store.proofs.AllocLaws.{gains, class_same, chunk_count_same, block_count_same}

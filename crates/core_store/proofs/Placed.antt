@@ -1,7 +1,6 @@
 -- What each moment shows while a value is written to a block that was taken, and what stands afterwards.
 use Rattle.std.proofs.Common.{◌≡◌, ◌≢◌, ◌⊎◌, inl, inr, ⊎_elim, ℕ, ◌+◌, ◌*◌, ◌/◌, ◌^◌, ◌<◌, ◌≤◌, ◌==◌, ◌&&◌, ◌||◌, not, List, length, Option, Some, None, Ok, true, false, Bool, refl, sym, ◌∙◌, ap, subst, arith}
-use Rattle.std.proofs.lemmas.Bool.{cases_eq, or_cases, eqb-true, eqb-false, eq-eqb, ne_eqb, and_parts}
-use Rattle.pm_region.specs.Cell.{Cell}
+use Rattle.std.proofs.lemmas.Bool.{cases_eq, or_cases, eqb-true, eq-eqb, ne_eqb, and_parts}
 use Rattle.pm_region.specs.State.{State, Frame, IsTelling, cell_now, During}
 use Rattle.pm_region.specs.Words.{KeepsOutside, Kept, EachIn, Surely}
 use Rattle.pm_region.proofs.Moments.{weaken, at_exit}
@@ -11,9 +10,8 @@ use Rattle.chunk_map.specs.declared.layouts.Geometry.{Geometry}
 use Rattle.chunk_map.specs.declared.heads.Head.TheVariants.{Free, Data}
 use Rattle.chunk_map.specs.Layouts.{chunk_words, chunk_first, total_bytes, part_first, head_at, is_class, has_class}
 use Rattle.chunk_map.proofs.LayoutLaws.{chunk_in_part}
-use Rattle.store_image.proofs.Places.{Numbers, layout_numbers}
 use Rattle.store_image.proofs.BlockLaws.{chunk_of}
-use Rattle.core_index.specs.Records.{KeyRecord, block_of, last_of}
+use Rattle.core_index.specs.Records.{KeyRecord, block_of}
 use Rattle.core_index.specs.Index.{known_at}
 use Rattle.core_log.specs.Log.{LogState, StandsIn, tail_of, first_of}
 use Rattle.lazy_alloc.specs.Sets.{Sets, AreSets, chunk_is_free, chunk_class, chunk_is_due, block_is_used, class_at}
@@ -24,14 +22,14 @@ use Rattle.core_store.specs.declared.store.Store.{Store}
 use Rattle.core_store.specs.Records.{known, last_in, block_in}
 use Rattle.core_store.specs.Shows.{Shows}
 use Rattle.core_store.specs.Moments.{EachImage}
-use Rattle.core_store.specs.Keeps.{HasBlock, LeavesIn, Ties, Keeps}
-use Rattle.core_store.specs.Ready.{ChunksStand, Standing}
+use Rattle.core_store.specs.Keeps.{LeavesIn, Ties, Keeps}
+use Rattle.core_store.specs.Ready.{Standing}
 use Rattle.core_store.specs.Changing.{Holds, Awaiting, SameRest, Gains}
 use Rattle.core_store.proofs.AllocLaws.{class_same}
 use Rattle.core_store.proofs.Kept.{kind_kept, stands_still, told_before}
 use Rattle.core_store.proofs.Leaving.{at_block, leaves_still, shows_along, ties_along}
 use Rattle.core_store.proofs.Written.{write_moments, within}
-use Rattle.core_store.proofs.Placing.{taken_stands, cut, chunk_same, head_in, of_class, has_head, not_logged, first_zero, size, out, is_numbers}
+use Rattle.core_store.proofs.Placing.{taken_stands, cut, head_in, of_class, has_head, not_logged, first_zero, size, out, is_numbers}
 
 both_ways : (b : Bool) → b ≡ true → b ≡ false → ⊥
 both_ways b t f = cc (sym t ∙ f)

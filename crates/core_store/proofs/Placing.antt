@@ -1,37 +1,24 @@
 -- The store before and after a block is taken and its value written.
-use Rattle.std.proofs.Common.{◌≡◌, ◌≢◌, ◌⊎◌, inl, inr, ⊎_elim, ℕ, ◌+◌, ◌*◌, ◌/◌, ◌^◌, ◌<◌, ◌≤◌, ◌==◌, ◌&&◌, ◌||◌, not, List, length, Option, Some, None, Ok, true, false, Bool, refl, sym, ◌∙◌, ap, subst, arith}
-use Rattle.std.proofs.lemmas.Bool.{cases_eq, or_cases, eqb-true, eqb-false, eq-eqb, and_parts}
-use Rattle.pm_region.specs.Cell.{Cell}
-use Rattle.pm_region.specs.State.{State, Frame, IsTelling, cell_now, During}
-use Rattle.pm_region.specs.Words.{KeepsOutside, Kept, EachIn, Surely}
-use Rattle.pm_region.proofs.Moments.{weaken, at_exit, told_at_entry}
-use Rattle.log_entry.specs.declared.entry.Body.TheVariants.{Pointer}
+use Rattle.std.proofs.Common.{◌≡◌, inl, inr, ⊎_elim, ℕ, ◌+◌, ◌*◌, ◌/◌, ◌≤◌, List, length, Some, None, true, false, Bool, refl, sym, ◌∙◌, ap, subst, arith}
+use Rattle.pm_region.specs.State.{State, IsTelling, cell_now, During}
+use Rattle.pm_region.specs.Words.{KeepsOutside, Surely}
+use Rattle.pm_region.proofs.Moments.{weaken}
 use Rattle.log_entry.specs.Buffer.{Buffer}
 use Rattle.chunk_map.specs.declared.layouts.Geometry.{Geometry}
-use Rattle.chunk_map.specs.declared.heads.Head.TheVariants.{Free, Data}
-use Rattle.chunk_map.specs.Layouts.{IsLayout, chunk_words, chunk_first, total_bytes, part_first, head_at, is_class, has_class}
-use Rattle.chunk_map.proofs.LayoutLaws.{numbers_of, chunk_words_whole, chunk_in_part}
-use Rattle.store_image.specs.Parts.{chunk_at}
+use Rattle.chunk_map.specs.Layouts.{chunk_words, chunk_first, total_bytes, part_first, is_class, has_class}
+use Rattle.chunk_map.proofs.LayoutLaws.{numbers_of, chunk_words_whole}
 use Rattle.store_image.proofs.Places.{Numbers, layout_numbers}
 use Rattle.store_image.proofs.BlockLaws.{chunk_of}
-use Rattle.core_index.specs.Records.{KeyRecord, block_of, last_of}
 use Rattle.core_log.specs.Log.{LogState, StandsIn, tail_of, first_of}
 use Rattle.lazy_alloc.specs.Sets.{Sets, AreSets, SameBlocks, chunk_is_free, chunk_class, chunk_is_due, block_is_used, class_at}
 use Rattle.lazy_alloc.specs.Sets as alloc
-use Rattle.lazy_alloc.specs.Written.{PartLies, HasHead, KeepsOthers, HeadTurnsTo, WroteValue, head_of}
+use Rattle.lazy_alloc.specs.Written.{PartLies, HasHead, KeepsOthers, head_of}
 use Rattle.recover.specs.Starts.{IsSpelledIndex}
 use Rattle.core_store.specs.declared.store.Store.{Store}
-use Rattle.core_store.specs.Records.{known, last_in, block_in}
-use Rattle.core_store.specs.Shows.{Shows}
-use Rattle.core_store.specs.Moments.{EachImage}
-use Rattle.core_store.specs.Keeps.{HasBlock, LeavesIn, Ties, Keeps}
 use Rattle.core_store.specs.Ready.{ChunksStand, Standing}
-use Rattle.core_store.specs.Changing.{Holds, Awaiting, SameRest, Gains}
-use Rattle.core_store.proofs.Blocks.{Starts, Cut, cut_at}
-use Rattle.core_store.proofs.AllocLaws.{class_same}
-use Rattle.core_store.proofs.Kept.{kind_kept, stands_still, told_before}
-use Rattle.core_store.proofs.Leaving.{at_block, block_still, leaves_still, shows_along, ties_along}
-use Rattle.core_store.proofs.Written.{write_moments, within, block_begins, block_ends}
+use Rattle.core_store.specs.Changing.{SameRest, Gains}
+use Rattle.core_store.proofs.Blocks.{Cut, cut_at}
+use Rattle.core_store.proofs.Written.{block_begins, block_ends}
 
 -- The region holds the allocator's part.
 pub part_lies : (s : State) (e : Store) → Standing s e → PartLies s.frame e.allocator

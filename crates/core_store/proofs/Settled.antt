@@ -1,5 +1,5 @@
 -- The store after an entry was appended and recorded, and the block of the value before was freed.
-use Rattle.std.proofs.Common.{◌≡◌, ◌≢◌, ◌⊎◌, inl, inr, ⊎_elim, ℕ, ◌+◌, ◌-◌, ◌*◌, ◌/◌, ◌<◌, ◌≤◌, ◌==◌, ◌&&◌, not, List, [], length, Option, Some, None, true, false, Bool, refl, sym, ◌∙◌, ap, subst, arith}
+use Rattle.std.proofs.Common.{◌≡◌, ◌≢◌, inl, inr, ℕ, ◌+◌, ◌-◌, ◌*◌, ◌/◌, ◌≤◌, ◌==◌, not, List, [], length, Option, Some, None, true, false, Bool, refl, sym, ◌∙◌, ap, subst, arith}
 use Rattle.std.specs.Prelude.{unwrap_or, is_some}
 use Rattle.std.specs.Option.{option_and_then}
 use Rattle.std.proofs.lemmas.Bool.{cases_eq, and_parts, and_from, eq-eqb, ne_eqb}
@@ -9,13 +9,12 @@ use Rattle.log_entry.specs.declared.entry.Body.{Body}
 use Rattle.log_entry.specs.declared.entry.Body.TheVariants.{Pointer, Embedded, Tombstone}
 use Rattle.log_entry.specs.declared.entry.Entry.{Entry}
 use Rattle.log_entry.specs.Spelling.{words_of, HasSpelling}
-use Rattle.log_entry.specs.Buffer.{Buffer}
 use Rattle.chunk_map.specs.declared.layouts.Geometry.{Geometry}
 use Rattle.chunk_map.specs.Layouts.{chunk_first, chunk_words, total_bytes, payload_lines}
 use Rattle.core_index.specs.Records.{KeyRecord, last_of, block_of, pointer_of, settled}
 use Rattle.core_index.specs.Index.{known_at, Changes}
 use Rattle.core_log.specs.Chunk.{words_now, padded, HasOrLacks, lines_for}
-use Rattle.core_log.specs.Log.{LogState, StandsIn, EachInOpen, tail_of, first_of, with_tail, lines_left, open_number, open_first, open_tail, room_of}
+use Rattle.core_log.specs.Log.{LogState, EachInOpen, tail_of, first_of, lines_left, open_number, open_first, open_tail, room_of}
 use Rattle.core_log.specs.Entries.{AppendedBatch}
 use Rattle.core_log.proofs.Padded.{length-padded}
 use Rattle.core_log.proofs.TailLaws.{tail_set, tail_other}
@@ -25,15 +24,15 @@ use Rattle.recover.specs.Starts.{IsSpelledIndex}
 use Rattle.core_store.specs.declared.store.Store.{Store}
 use Rattle.core_store.specs.Records.{known, last_in, block_in}
 use Rattle.core_store.specs.Moments.{with_at}
-use Rattle.core_store.specs.Keeps.{HasBlock, Leaves, LeavesIn, Keeps}
+use Rattle.core_store.specs.Keeps.{Leaves, LeavesIn, Keeps}
 use Rattle.core_store.specs.Ready.{Standing}
-use Rattle.core_store.specs.Stock.{Stock, stock_of, class_held, class_of_body, after_settle}
+use Rattle.core_store.specs.Stock.{stock_of, class_held, class_of_body, after_settle}
 use Rattle.core_store.specs.Changing.{Brings, Awaiting, Frees, less_room}
 use Rattle.core_store.proofs.Appends.{with_here, with_else}
 use Rattle.core_store.proofs.AllocLaws.{chunks_class, chunks_body}
 use Rattle.core_store.proofs.Appended.{some_open, append_shows, append_ties}
 use Rattle.core_store.proofs.Kept.{kind_kept, told_before}
-use Rattle.core_store.proofs.Leaving.{AtBlock, at_block, shows_along, ties_along}
+use Rattle.core_store.proofs.Leaving.{shows_along, ties_along}
 use Rattle.core_store.proofs.StockLaws.{at_one, freed}
 
 none_some : (o : Option ℕ) (c : ℕ) → o ≡ None → o ≡ Some c → ⊥

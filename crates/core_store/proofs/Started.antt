@@ -1,20 +1,19 @@
 -- A store that is opened over a sound region is ready.
-use Rattle.std.proofs.Common.{◌≡◌, ◌⊎◌, inl, inr, ℕ, ◌+◌, ◌-◌, ◌*◌, ◌/◌, ◌%◌, ◌^◌, ◌<◌, ◌≤◌, ◌==◌, ◌&&◌, nat_le, nat_lt, List, [], length, length-take, take, refl, sym, ◌∙◌, ap, subst, arith, true, false, Bool, cond, Option, Some, None, Result, Ok, Err}
+use Rattle.std.proofs.Common.{◌≡◌, ℕ, ◌+◌, ◌*◌, ◌/◌, ◌%◌, ◌<◌, ◌≤◌, ◌==◌, ◌&&◌, nat_le, nat_lt, List, [], length, length-take, refl, sym, ◌∙◌, ap, subst, arith, true, false, Bool, cond, Option, Some, None, Result, Ok, Err}
 use Rattle.std.specs.Option.{option_and_then}
-use Rattle.std.proofs.lemmas.Bool.{eqb-true, and_parts, cases_lt}
+use Rattle.std.proofs.lemmas.Bool.{eqb-true, and_parts}
 use Rattle.log_entry.specs.declared.entry.Body.{Body}
 use Rattle.log_entry.specs.declared.entry.Body.TheVariants.{Pointer, Embedded, Tombstone}
-use Rattle.log_entry.specs.Spelling.{HasSpelling, Fits}
+use Rattle.log_entry.specs.Spelling.{Fits}
 use Rattle.log_entry.specs.Words.{words_for, unpacked, words_from}
 use Rattle.log_entry.proofs.Bytes.{length-unpacked}
 use Rattle.log_entry.proofs.Images.{length-words}
 use Rattle.pm_region.specs.State.{State, IsTelling, InRange, MayLeave, cell_now}
 use Rattle.pm_region.specs.Words.{Surely, lasts}
-use Rattle.pm_region.proofs.Narrow.{surely_last}
 use Rattle.chunk_map.specs.declared.layouts.Geometry.{Geometry}
 use Rattle.chunk_map.specs.declared.heads.Head.{Head}
 use Rattle.chunk_map.specs.declared.heads.Head.TheVariants.{Free, Log, Data}
-use Rattle.chunk_map.specs.Layouts.{IsLayout, layout_of, total_bytes, chunk_first, chunk_words, head_at, head_by, payload_words, is_class, owner, has_class}
+use Rattle.chunk_map.specs.Layouts.{IsLayout, layout_of, total_bytes, chunk_first, head_at, head_by, payload_words, is_class, owner, has_class}
 use Rattle.chunk_map.proofs.LayoutLaws.{numbers_of, chunk_in_part, part_within, chunk_words_whole}
 use Rattle.store_image.specs.declared.types.PlacedEntry.{PlacedEntry}
 use Rattle.store_image.specs.Facts.{In, KeepsRules, IsStore}
@@ -25,25 +24,24 @@ use Rattle.store_image.proofs.BlockLaws.{chunk_of}
 use Rattle.store_image.proofs.Copies.{winner_max, winner_some}
 use Rattle.store_image.proofs.Places.{Numbers, layout_numbers, superblock_facts}
 use Rattle.store_image.proofs.SoundFacts.{store_sound, sound_store}
-use Rattle.core_index.specs.Records.{KeyRecord, last_of, block_of, pointer_of}
+use Rattle.core_index.specs.Records.{KeyRecord, last_of, block_of}
 use Rattle.core_index.specs.Index.{known_at}
 use Rattle.core_index.specs.Slots.{Place}
 use Rattle.core_log.specs.Log.{LogState, StandsIn, tail_of, first_of}
 use Rattle.lazy_alloc.specs.Heads.{is_free, class_in}
-use Rattle.lazy_alloc.specs.Sets.{Sets, AreSets, chunk_is_free, chunk_class, chunk_is_due, block_is_used, class_at}
+use Rattle.lazy_alloc.specs.Sets.{Sets, AreSets, chunk_is_free, chunk_class, chunk_is_due, block_is_used}
 use Rattle.recover.specs.declared.types.CoreStart.{CoreStart}
-use Rattle.recover.specs.Logs.{IsStart, log_tail, tail_behind}
-use Rattle.recover.specs.Starts.{KnownAs, IsWon, IsSpelledIndex}
+use Rattle.recover.specs.Logs.{IsStart, tail_behind}
+use Rattle.recover.specs.Starts.{KnownAs, IsSpelledIndex}
 use Rattle.core_store.specs.declared.store.Store.{Store}
-use Rattle.core_store.specs.Records.{known, last_in, block_in}
 use Rattle.core_store.specs.Shows.{Shows}
 use Rattle.core_store.specs.Keeps.{HasBlock, Leaves, LeavesIn, Keeps, Ties}
-use Rattle.core_store.specs.Ready.{ChunksStand, Ready}
+use Rattle.core_store.specs.Ready.{Ready}
 use Rattle.core_store.specs.Opening.{IsRegionOf}
 use Rattle.core_store.proofs.Appends.{own_zero, tied_points}
 use Rattle.core_store.proofs.Blocks.{class_to, class_by, chunk_below}
 use Rattle.core_store.proofs.Getting.{tied}
-use Rattle.core_store.proofs.Images.{Held, held_class}
+use Rattle.core_store.proofs.Images.{held_class}
 
 -- A head tells its kind word.
 free_kind : (l : Geometry) (kind tail : ℕ) → is_free (head_by l kind tail) ≡ true → (kind ≡ 0) × (head_by l kind tail ≡ Ok Free)

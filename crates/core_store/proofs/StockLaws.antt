@@ -1,26 +1,20 @@
 -- The stock of a store after each step of a change.
-use Rattle.std.proofs.Common.{◌≡◌, ◌≢◌, ◌⊎◌, inl, inr, ⊎_elim, ℕ, ◌+◌, ◌-◌, ◌<◌, ◌≤◌, ◌==◌, List, Option, Some, None, true, false, Bool, cond, refl, sym, ◌∙◌, ap, subst, arith, ltb}
+use Rattle.std.proofs.Common.{◌≡◌, ◌≢◌, ◌⊎◌, inl, inr, ℕ, ◌+◌, ◌-◌, ◌<◌, ◌≤◌, ◌==◌, List, Option, Some, None, true, false, Bool, cond, refl, sym, ◌∙◌, ap, arith}
 use Rattle.std.specs.Prelude.{unwrap_or}
 use Rattle.std.specs.Option.{option_and_then}
-use Rattle.std.proofs.lemmas.Bool.{eqb-true, eqb-false, eq-eqb, ne_eqb, ltb-true, ltb-false, lt-ltb, le-ltb}
+use Rattle.std.proofs.lemmas.Bool.{eqb-true, eqb-false, eq-eqb, ne_eqb, lt-ltb, le-ltb}
 use Rattle.log_entry.specs.declared.entry.Body.{Body}
 use Rattle.log_entry.specs.declared.entry.Body.TheVariants.{Pointer, Embedded, Tombstone}
 use Rattle.chunk_map.specs.declared.layouts.Geometry.{Geometry}
-use Rattle.chunk_map.specs.Layouts.{payload_lines, has_class}
-use Rattle.core_index.specs.Records.{KeyRecord, last_of, block_of}
-use Rattle.core_log.specs.Log.{LogState, room_of}
+use Rattle.chunk_map.specs.Layouts.{payload_lines}
+use Rattle.core_index.specs.Records.{KeyRecord, block_of}
 use Rattle.lazy_alloc.specs.Sets.{Sets, class_at, block_is_used, free_chunk_count, free_block_count, blocks_in, Takes, PutsBack}
-use Rattle.core_store.specs.declared.store.Store.{Store}
-use Rattle.core_store.specs.Records.{known, last_in}
 use Rattle.core_store.specs.Moments.{with_at}
-use Rattle.core_store.specs.Keeps.{HasBlock, Leaves, LeavesIn}
-use Rattle.core_store.specs.Stock.{Stock, stock_of, class_of_body, class_held, after_take, after_append, after_settle, blocks_after}
-use Rattle.core_store.specs.Changing.{Frees, with_room, less_room}
+use Rattle.core_store.specs.Keeps.{Leaves, LeavesIn}
+use Rattle.core_store.specs.Stock.{Stock, class_of_body, after_take, blocks_after}
+use Rattle.core_store.specs.Changing.{Frees, with_room}
 use Rattle.core_store.proofs.Taking.{no_blocks}
-use Rattle.core_store.proofs.AllocLaws.{chunks_body}
 use Rattle.core_store.proofs.ClassLaws.{class_some}
-use Rattle.core_store.proofs.Leaving.{AtBlock, at_block}
-use Rattle.core_store.proofs.Appends.{with_here, with_else}
 
 -- a function with another value at one number
 pub at_one : {X : Type 0} (f g : ℕ → X) (key : ℕ) (x : X) → g key ≡ x → ((k : ℕ) → k ≢ key → g k ≡ f k) → with_at f key x ≡ g

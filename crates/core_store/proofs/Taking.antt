@@ -1,9 +1,9 @@
 -- A block is found where a put is not refused.
-use Rattle.std.proofs.Common.{◌≡◌, ⊎_elim, ℕ, ◌+◌, ◌*◌, ◌^◌, ◌<◌, ◌≤◌, inl, inr, ◌⊎◌, refl, sym, ◌∙◌, ap, arith, ◌==◌, ◌&&◌, ◌||◌, not, true, false, Bool, Option, Some, None, leb}
+use Rattle.std.proofs.Common.{◌≡◌, ⊎_elim, ℕ, ◌*◌, ◌^◌, ◌≤◌, refl, sym, ◌∙◌, arith, ◌==◌, ◌&&◌, ◌||◌, not, true, false, Bool, Option, Some, None, leb}
 use Rattle.std.specs.Option.{IsSome}
 use Rattle.std.proofs.lemmas.Bool.{eq-eqb, ne_eqb, and_parts, or_cases, leb-true, eqb-true}
 use Rattle.chunk_map.specs.declared.layouts.Geometry.{Geometry}
-use Rattle.chunk_map.specs.Layouts.{is_class, numbers}
+use Rattle.chunk_map.specs.Layouts.{is_class}
 use Rattle.lazy_alloc.specs.Sets.{Sets, chunk_is_free, is_free_block, free_chunk_count, free_block_count, part_unit, Takes}
 use Rattle.store_image.specs.Parts.{chunk_units}
 use Rattle.core_store.specs.declared.store.Store.{Store}

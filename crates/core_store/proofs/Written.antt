@@ -3,8 +3,8 @@ use Rattle.std.proofs.Common.{◌≡◌, ◌≢◌, ◌⊎◌, inl, inr, ⊎_eli
 use Rattle.std.proofs.lemmas.Bool.{cases_lt}
 use Rattle.std.proofs.lemmas.Nat.{pow_pos}
 use Rattle.pm_region.specs.Cell.{Cell, MayBe}
-use Rattle.pm_region.specs.State.{State, InRange, MayLeave, IsTelling, cell_now, During}
-use Rattle.pm_region.specs.Words.{Kept, EachIn, MayLeaveIn, Surely, lasts}
+use Rattle.pm_region.specs.State.{State, MayLeave, IsTelling, cell_now, During}
+use Rattle.pm_region.specs.Words.{Kept, EachIn, Surely, lasts}
 use Rattle.pm_region.proofs.Moments.{weaken, both}
 use Rattle.pm_region.proofs.Cells.{may_be_last}
 use Rattle.pm_region.proofs.Narrow.{patch, patch_in, patch_out, kept_narrows, surely_last}

@@ -1,5 +1,4 @@
 -- What a get answers, whatever the region tells.
-use Rattle.std.specs.Prelude.{List}
 use Rattle.fs_model.specs.declared.model.Reply.{Reply}
 use Rattle.fs_model.specs.declared.model.Reply.TheVariants.{Stored, Value, Absent, Deleted, Full, VersionsSpent, TooLong, Stopped}
 

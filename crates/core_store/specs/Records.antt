@@ -1,7 +1,5 @@
 -- What the store knows of each key in memory: its last version, and what that left.
-use Rattle.std.specs.Prelude.{◌≡◌, ℕ, ◌≤◌, List, length, Option, Some, None, option_map}
-use Rattle.log_entry.specs.declared.entry.Body.{Body}
-use Rattle.log_entry.specs.declared.entry.Body.TheVariants.{Pointer, Embedded, Tombstone}
+use Rattle.std.specs.Prelude.{ℕ, Option}
 use Rattle.core_index.specs.Records.{KeyRecord, last_of, block_of}
 use Rattle.core_index.specs.Index.{known_at}
 use Rattle.core_store.specs.declared.store.Store.{Store}

@@ -1,5 +1,5 @@
 -- The calls' conditions, and from the log's clauses to the store's.
-use Rattle.std.proofs.Common.{◌≡◌, ◌+◌, ◌≤◌, ◌++◌, length, Some, refl, sym, ◌∙◌, ap, subst, arith}
+use Rattle.std.proofs.Common.{◌≤◌, ◌++◌, length, Some, sym, ◌∙◌, ap, subst, arith}
 use Rattle.log_entry.specs.Spelling.{words_of}
 use Rattle.log_entry.specs.Buffer.{Buffer}
 use Rattle.core_index.specs.Index.{Changes}

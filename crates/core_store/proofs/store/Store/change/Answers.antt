@@ -1,9 +1,8 @@
 -- The moments of the two calls, one after the other.
-use Rattle.std.proofs.Common.{◌≡◌, ◌+◌, ◌≤◌, ◌<◌, ℕ, List, Option, length, refl, sym, ◌∙◌, ap, subst, arith}
-use Rattle.log_entry.specs.declared.entry.Body.{Body}
+use Rattle.std.proofs.Common.{◌≡◌, ℕ, List, Option, length}
 use Rattle.log_entry.specs.Spelling.{words_of}
 use Rattle.core_index.specs.Records.{last_of}
-use Rattle.core_index.specs.Index.{known_at, room_at}
+use Rattle.core_index.specs.Index.{known_at}
 use Rattle.core_log.specs.Chunk.{lines_for}
 use Rattle.core_store.specs.Records.{last_in}
 use Rattle.core_store.specs.Keeps.{Keeps}

@@ -1,18 +1,14 @@
 -- A tombstone is one change.
-use Rattle.std.proofs.Common.{◌≡◌, ℕ, ◌+◌, ◌-◌, ◌/◌, ◌<◌, ◌≤◌, List, length, Option, Some, None, OnOk, refl, sym, ◌∙◌, ap, subst, arith}
+use Rattle.std.proofs.Common.{◌≡◌, ℕ, List, Option, None, refl, subst}
 use Rattle.pm_region.specs.State.{During}
-use Rattle.log_entry.specs.declared.entry.Body.{Body}
 use Rattle.log_entry.specs.declared.entry.Body.TheVariants.{Tombstone}
-use Rattle.core_index.specs.Records.{last_of}
-use Rattle.core_index.specs.Index.{known_at}
 use Rattle.core_log.proofs.Append.{on_ok}
 use Rattle.core_store.specs.Records.{last_in}
-use Rattle.core_store.specs.Shows.{Shows}
 use Rattle.core_store.specs.Keeps.{Keeps}
 use Rattle.core_store.specs.Ready.{Ready, Standing}
 use Rattle.core_store.specs.Moments.{EachImage, with_at, ShowsEither}
 use Rattle.core_store.specs.Changing.{Awaiting}
-use Rattle.core_store.specs.Stock.{stock_of, class_of_body, class_for, lines_needed, after_settle, after_append, after_take, after_put, after_delete}
+use Rattle.core_store.specs.Stock.{stock_of, class_of_body, after_settle, after_append, after_delete}
 use Rattle.core_store.proofs.Changed.{on_both, ready_after}
 use Rattle.core_store.proofs.Leaving.{awaiting_of}
 use Rattle.core_store.proofs.store.Store.delete.Goals as goal

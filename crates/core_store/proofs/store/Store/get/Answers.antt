@@ -1,5 +1,5 @@
 -- A block holds the key's value.
-use Rattle.std.proofs.Common.{◌≡◌, Some, sym, ◌∙◌, ap}
+use Rattle.std.proofs.Common.{sym, ◌∙◌, ap}
 use Rattle.fs_model.specs.declared.model.Request.TheVariants.{Get}
 use Rattle.fs_model.specs.declared.model.Reply.TheVariants.{Value}
 use Rattle.fs_model.specs.Cells.{answer_to}

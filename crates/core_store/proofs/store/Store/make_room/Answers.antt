@@ -1,5 +1,5 @@
 -- The chunk that is opened is free, and each moment shows the same cells.
-use Rattle.std.proofs.Common.{◌≡◌, ⊎_elim, ℕ, ◌+◌, ◌<◌, ◌≤◌, inl, inr, refl, sym, ◌∙◌, ap, subst, arith}
+use Rattle.std.proofs.Common.{⊎_elim, refl, sym, ◌∙◌, ap, subst, arith}
 use Rattle.pm_region.proofs.Moments.{started}
 use Rattle.core_log.specs.Log.{LogState}
 use Rattle.lazy_alloc.specs.Sets.{TakesChunkOrNone}

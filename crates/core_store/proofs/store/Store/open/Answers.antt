@@ -1,5 +1,5 @@
 -- The store keeps what the region recovers.
-use Rattle.std.proofs.Common.{◌≤◌, refl, sym, subst, arith}
+use Rattle.std.proofs.Common.{refl, arith}
 use Rattle.core_store.proofs.Started.{started_ready, started_keeps}
 use Rattle.core_store.proofs.store.Store.open.Goals as goal
 

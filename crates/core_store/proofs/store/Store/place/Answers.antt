@@ -1,7 +1,6 @@
 -- The calls' conditions, and from the allocator's clauses to the store's.
-use Rattle.std.proofs.Common.{◌≡◌, ℕ, ◌+◌, ◌-◌, ◌/◌, ◌<◌, ◌≤◌, length, true, false, Some, refl, sym, ◌∙◌, ap, subst, arith}
+use Rattle.std.proofs.Common.{◌≡◌, ℕ, ◌<◌, length, true, Some, refl, sym, ◌∙◌, ap, subst, arith}
 use Rattle.std.specs.List.{AllByRecursion}
-use Rattle.pm_region.specs.State.{cell_now}
 use Rattle.pm_region.proofs.Moments.{started}
 use Rattle.chunk_map.specs.Layouts.{has_class}
 use Rattle.lazy_alloc.specs.Sets.{class_at}
@@ -9,10 +8,9 @@ use Rattle.lazy_alloc.specs.Written.{HasHead, WroteValue}
 use Rattle.core_store.specs.Records.{last_in}
 use Rattle.core_store.specs.Shows.{Shows}
 use Rattle.core_store.specs.Moments.{EachImage}
-use Rattle.core_store.specs.Stock.{stock_of, lacks_block, class_for, after_take}
-use Rattle.core_store.proofs.ClassLaws.{class_for_short, class_for_long, class_fits, class_small}
-use Rattle.core_store.proofs.Leaving.{awaiting_of}
-use Rattle.core_store.proofs.PlaceLaws.{lines_long, lines_embedded, taken_used, taken_class, taken_lies, pointer_small, write_run, moments, stands_now, awaits_now, class_now, room_now, stock_now, has_room}
+use Rattle.core_store.specs.Stock.{stock_of, lacks_block}
+use Rattle.core_store.proofs.ClassLaws.{class_for_long, class_fits, class_small}
+use Rattle.core_store.proofs.PlaceLaws.{lines_long, lines_embedded, taken_used, taken_class, taken_lies, pointer_small, write_run, moments, stands_now, awaits_now, class_now, room_now, stock_now}
 use Rattle.core_store.proofs.store.Store.place.Goals as goal
 
 pub returns-then-length-lt256-clause-moments : goal.returns-then-length-lt256-clause-moments

@@ -1,17 +1,15 @@
 -- The value is placed, and its entry is one change.
-use Rattle.std.proofs.Common.{◌≡◌, ℕ, ◌+◌, ◌-◌, ◌/◌, ◌<◌, ◌≤◌, List, length, Option, Some, None, OnOk, refl, sym, ◌∙◌, ap, subst, arith}
+use Rattle.std.proofs.Common.{◌≡◌, ℕ, ◌+◌, List, length, Option, Some, ◌∙◌, ap, subst, arith}
 use Rattle.pm_region.specs.State.{During}
-use Rattle.log_entry.specs.declared.entry.Body.{Body}
 use Rattle.core_index.specs.Records.{last_of}
 use Rattle.core_index.specs.Index.{known_at}
 use Rattle.core_log.proofs.Append.{on_ok}
 use Rattle.core_store.specs.Records.{last_in}
-use Rattle.core_store.specs.Shows.{Shows}
 use Rattle.core_store.specs.Keeps.{Keeps}
 use Rattle.core_store.specs.Ready.{Ready, Standing}
 use Rattle.core_store.specs.Moments.{EachImage, with_at, ShowsEither}
 use Rattle.core_store.specs.Changing.{Awaiting}
-use Rattle.core_store.specs.Stock.{stock_of, class_of_body, class_for, lines_needed, after_settle, after_append, after_take, after_put, after_delete}
+use Rattle.core_store.specs.Stock.{stock_of, class_of_body, lines_needed, after_settle, after_append, after_put}
 use Rattle.core_store.proofs.Changed.{before_either, both_runs, both_go, may_put, stock_put, on_both, ready_after}
 use Rattle.core_store.proofs.store.Store.put.Goals as goal
 

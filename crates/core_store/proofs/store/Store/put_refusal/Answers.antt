@@ -1,5 +1,5 @@
 -- The causes in their order.
-use Rattle.std.proofs.Common.{◌≡◌, ◌⊎◌, ⊎_elim, ℕ, ◌-◌, ◌/◌, ◌≤◌, ◌<◌, true, false, sym, ◌∙◌, ap, subst, arith}
+use Rattle.std.proofs.Common.{◌≡◌, ◌⊎◌, ⊎_elim, ◌-◌, ◌/◌, true, sym, ◌∙◌, ap, subst, arith}
 use Rattle.chunk_map.specs.declared.layouts.Geometry.{Geometry}
 use Rattle.chunk_map.specs.Layouts.{is_class}
 use Rattle.core_store.specs.Stock.{stock_of}
