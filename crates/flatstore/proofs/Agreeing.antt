@@ -1,5 +1,5 @@
 -- Two images with the same words say the same of the store that begins on them.
-use Rattle.std.proofs.Common.{◌≡◌, ℕ, zero, suc, ◌+◌, ◌*◌, ◌/◌, ◌<◌, ◌≤◌, ◌==◌, ◌&&◌, not, List, [], ◌∷◌, map, refl, sym, ◌∙◌, ap, arith, true, false, Bool, cond, Option, Some, None, nat_le}
+use Rattle.std.proofs.Common.{◌≡◌, ℕ, zero, suc, ◌+◌, ◌*◌, ◌/◌, ◌<◌, ◌≤◌, ◌==◌, ◌&&◌, not, ◌∷◌, map, refl, sym, ◌∙◌, ap, arith, true, false, Bool, cond, Some, None, nat_le}
 use Rattle.std.specs.Prelude.{unwrap_or}
 use Rattle.std.specs.Option.{option_map_or, option_and_then}
 use Rattle.std.specs.List.{count_by, list_any}

@@ -1,11 +1,11 @@
 -- What a region that was just attached says.
-use Rattle.std.proofs.Common.{◌≡◌, inl, inr, ℕ, ◌+◌, ◌*◌, ◌/◌, ◌%◌, ◌<◌, ◌≤◌, ◌==◌, ◌&&◌, List, [], refl, sym, ◌∙◌, ap, subst, arith, true, false, Bool, cond, Option, Some, None, nat_le}
+use Rattle.std.proofs.Common.{◌≡◌, inl, inr, ℕ, ◌/◌, ◌%◌, ◌<◌, ◌≤◌, ◌==◌, ◌&&◌, List, [], refl, sym, ◌∙◌, ap, subst, arith, true, false, Bool, cond, Option, Some, None, nat_le}
 use Rattle.std.specs.Prelude.{is_none}
 use Rattle.std.proofs.lemmas.Bool.{cases_lt, le-leb, lt-leb}
 use Rattle.pm_region.specs.Cell.{Cell, certain}
 use Rattle.pm_region.specs.State.{State, InRange, IsTold, IsTelling, cell_now}
 use Rattle.pm_region.specs.Words.{lasts}
-use Rattle.pm_region.specs.Split.{Attached, words_in}
+use Rattle.pm_region.specs.Split.{Attached}
 use Rattle.fs_model.specs.declared.model.Request.{Request}
 use Rattle.chunk_map.specs.Layouts.{layout_of, layout_rule, total_bytes, magic}
 use Rattle.store_image.specs.declared.types.Fault.TheVariants.{NotARegion}

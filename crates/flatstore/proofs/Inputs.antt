@@ -1,15 +1,10 @@
 -- An input that is read whole breaks no rule, and asks only what is built.
-use Rattle.std.proofs.Common.{◌≡◌, inl, inr, ℕ, ◌+◌, ◌≤◌, List, [], ◌∷◌, length, refl, sym, ◌∙◌, ap, subst, arith, ◌&&◌, ◌||◌, true, false, Bool, cond, Option, Some, None, Result, Ok, Err, nat_le}
-use Rattle.std.specs.Prelude.{bytes_eq, codes}
-use Rattle.std.specs.List.{filter_map, AllByRecursion}
-use Rattle.std.proofs.lemmas.Bool.{le-leb, cases_lt}
-use Rattle.fs_model.specs.declared.model.Request.TheVariants.{Put, Get, Delete}
+use Rattle.std.proofs.Common.{◌≡◌, ℕ, ◌+◌, List, [], ◌∷◌, refl, sym, ◌∙◌, ap, true, Bool, Result, Ok, Err}
+use Rattle.std.specs.List.{filter_map}
 use Rattle.fs_text.specs.declared.line.Line.{Line}
-use Rattle.fs_text.specs.declared.line.Line.TheVariants.{Ask, Go}
 use Rattle.fs_text.specs.declared.stages.Stop.{Stop}
-use Rattle.fs_text.specs.declared.stages.Stop.TheVariants.{NotBuilt}
-use Rattle.fs_text.specs.Input.{Before, cut, line_at, line_by, line_at, count_line, with_line, size_with, lines_of, lines_from, with_front, input_of, request_in, trace_in, trace_of, put_line, put_fields, key_line, lone_field, map_ok, key_at, go_line}
-use Rattle.fs_text.specs.Stages.{is_closed, puts_block, staged, line_or_stop, behind, lines_or_stop, input_or_stop}
+use Rattle.fs_text.specs.Input.{Before, cut, line_at, line_at, lines_of, lines_from, with_front, input_of, request_in, trace_in, trace_of}
+use Rattle.fs_text.specs.Stages.{is_closed, line_or_stop, behind, lines_or_stop, input_or_stop}
 use Rattle.fs_text.proofs.Limits.{staged_ok, goes_on_by, stops_by}
 use Rattle.flatstore.specs.Promise.{built_now}
 

@@ -1,5 +1,5 @@
 -- What a store that is opened over a recovered region has, and that it is ready.
-use Rattle.std.proofs.Common.{◌≡◌, ◌⊎◌, inl, inr, ℕ, zero, suc, ◌+◌, ◌-◌, ◌*◌, ◌/◌, ◌<◌, ◌≤◌, ◌==◌, List, [], ◌∷◌, ◌++◌, length, map, refl, sym, ◌∙◌, ap, subst, arith, true, false, Bool, cond, Option, Some, None, Result, Ok, Err, nat_lt}
+use Rattle.std.proofs.Common.{◌≡◌, ◌⊎◌, inl, inr, ℕ, zero, suc, ◌+◌, ◌-◌, ◌/◌, ◌<◌, ◌≤◌, ◌==◌, List, [], ◌∷◌, ◌++◌, length, map, refl, sym, ◌∙◌, ap, subst, arith, true, false, Bool, cond, Option, Some, None, Result, Ok, Err, nat_lt}
 use Rattle.std.proofs.Math.Nat.{le-max_left, le-max_right, max-le}
 use Rattle.std.specs.Prelude.{slice_index_or, unwrap_or}
 use Rattle.std.specs.Option.{option_and_then}
@@ -26,7 +26,7 @@ use Rattle.headline.specs.Limits.{version_in}
 use Rattle.recover.specs.declared.types.CoreStart.{CoreStart}
 use Rattle.recover.specs.declared.types.Recovered.{Recovered}
 use Rattle.recover.specs.Recovering.{IsOf}
-use Rattle.recover.specs.Logs.{tail_behind, log_tail, HasLogsOf, IsStart}
+use Rattle.recover.specs.Logs.{tail_behind, HasLogsOf, IsStart}
 use Rattle.recover.specs.Starts.{IsAllocatorOf, IsIndexOf}
 use Rattle.core_store.specs.declared.store.Store.{Store}
 use Rattle.core_store.specs.Opening.{IsRegionOf}

@@ -1,5 +1,5 @@
 -- Why an input was not read.
-use Rattle.std.proofs.Common.{◌≡◌, inl, inr, ℕ, List, refl, sym, ◌∙◌, ap, subst, arith, Option, Some, None, Result, Err, IfSome}
+use Rattle.std.proofs.Common.{◌≡◌, inl, inr, ℕ, List, refl, sym, ap, subst, Option, Some, None, Result, Err, IfSome}
 use Rattle.pm_region.specs.State.{Rose}
 use Rattle.fs_text.specs.declared.line.Line.{Line}
 use Rattle.fs_text.specs.declared.stages.Stop.{Stop}

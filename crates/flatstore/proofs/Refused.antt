@@ -1,5 +1,5 @@
 -- From a replay that answered nothing to what the program promises.
-use Rattle.std.proofs.Common.{◌≡◌, ◌⊎◌, inl, inr, ℕ, ◌/◌, ◌<◌, ◌==◌, ◌+◌, ◌≤◌, take, arith, cond, List, [], sym, ◌∙◌, ap, subst, refl, true, false, Bool, Option, Some, None, Result, Ok, Err}
+use Rattle.std.proofs.Common.{◌≡◌, ◌⊎◌, inl, inr, ℕ, ◌+◌, ◌≤◌, take, arith, cond, List, [], sym, ◌∙◌, ap, subst, refl, true, false, Bool, Option, Some, None, Result, Ok, Err}
 use Rattle.pm_region.specs.State.{State, IsTelling, Rose}
 use Rattle.pm_region.specs.Split.{Attached}
 use Rattle.fs_model.specs.declared.model.Request.{Request}

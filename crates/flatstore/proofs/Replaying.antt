@@ -1,5 +1,5 @@
 -- From what a replay did to what the program promises.
-use Rattle.std.proofs.Common.{◌≡◌, ◌⊎◌, inl, inr, ℕ, ◌/◌, ◌<◌, ◌≤◌, ◌==◌, cond, List, [], ◌∷◌, ◌++◌, refl, sym, ◌∙◌, ap, subst, arith, true, false, Bool, Option, Some, None, append-nil, take, ◌+◌}
+use Rattle.std.proofs.Common.{◌≡◌, ◌⊎◌, inl, inr, ℕ, ◌/◌, ◌<◌, ◌≤◌, cond, List, [], ◌∷◌, ◌++◌, refl, sym, ◌∙◌, ap, subst, arith, true, false, Bool, Option, Some, None, append-nil, take, ◌+◌}
 use Rattle.std.specs.List.{AllByRecursion}
 use Rattle.pm_region.specs.State.{State, Frame, IsTelling, MayLeave, Rose}
 use Rattle.pm_region.specs.Split.{Attached}

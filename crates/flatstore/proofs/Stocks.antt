@@ -1,5 +1,5 @@
 -- What an opened store has left is what the words found say.
-use Rattle.std.proofs.Common.{◌≡◌, ◌⊎◌, inl, inr, ℕ, zero, suc, ◌+◌, ◌-◌, ◌*◌, ◌/◌, ◌%◌, ◌<◌, ◌≤◌, ◌==◌, ◌&&◌, ◌||◌, not, List, [], ◌∷◌, refl, sym, ◌∙◌, ap, subst, arith, true, false, Bool, cond, Option, Some, None, Result, Ok, Err, nat_le}
+use Rattle.std.proofs.Common.{◌≡◌, inl, inr, ℕ, ◌+◌, ◌*◌, ◌/◌, ◌%◌, ◌<◌, ◌≤◌, ◌==◌, ◌&&◌, ◌||◌, not, List, [], ◌∷◌, refl, sym, ◌∙◌, ap, subst, arith, true, false, Bool, cond, Option, Some, None, Result, Ok, Err, nat_le}
 use Rattle.std.proofs.Math.Nat.{mod-eq_of_lt, lt-mul-div-succ}
 use Rattle.std.specs.Prelude.{unwrap_or}
 use Rattle.std.specs.Option.{option_map_or, option_and_then}
@@ -13,7 +13,7 @@ use Rattle.chunk_map.specs.declared.heads.Head.TheVariants.{Free, Log, Data}
 use Rattle.chunk_map.specs.Layouts.{numbers, chunk_first, chunk_words, head_at, owner}
 use Rattle.store_image.specs.declared.types.PlacedEntry.{PlacedEntry}
 use Rattle.store_image.specs.Facts.{In}
-use Rattle.store_image.specs.Parts.{chunk_units, chunk_at, unit_at, is_start, class_behind, block_class, all_entries}
+use Rattle.store_image.specs.Parts.{chunk_units, chunk_at, unit_at, class_behind, block_class, all_entries}
 use Rattle.store_image.specs.Winners.{winner, keys_of}
 use Rattle.store_image.specs.Soundness.{points_to, same_body}
 use Rattle.store_image.proofs.SoundLaws.{winner_key, same_bodies}

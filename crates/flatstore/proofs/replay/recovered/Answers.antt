@@ -1,7 +1,6 @@
 -- What was recovered has one core, or several.
-use Rattle.std.proofs.Common.{◌≡◌, inl, inr, sym, ◌∙◌, ap, subst, refl}
+use Rattle.std.proofs.Common.{inl, inr, sym, ◌∙◌, ap, subst, refl}
 use Rattle.pm_region.specs.Cell.{MayBe}
-use Rattle.pm_region.specs.State.{State, IsTelling}
 use Rattle.pm_region.specs.Words.{lasts}
 use Rattle.chunk_map.specs.declared.layouts.Geometry.{Geometry}
 use Rattle.headline.proofs.Images.{certain_may_be}
