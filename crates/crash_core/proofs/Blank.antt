@@ -18,10 +18,8 @@ use Rattle.store_image.proofs.Local.{free_entries}
 use Rattle.store_image.proofs.SoundFacts.{number_in}
 use Rattle.group_laws.specs.declared.types.Slot.{Slot}
 use Rattle.group_laws.specs.declared.types.Slot.TheVariants.{Empty}
-use Rattle.group_laws.specs.declared.types.Block.{Block}
 use Rattle.group_laws.specs.Places.{Place, IsPlace, members, core_of, owner}
 use Rattle.group_laws.specs.Updates.{has}
-use Rattle.group_laws.specs.State.{Group}
 use Rattle.group_laws.specs.Images.{log_of, block_of}
 use Rattle.group_laws.specs.OpeningImages.{is_own, kept_in, last_of, cell_of, home_of, pointing, block_at, is_dead, is_at, is_own_dead, opened, IsBlank}
 use Rattle.group_laws.proofs.GroupEntries.{core_low}

@@ -1,5 +1,5 @@
 -- What the steps of cleaning leave of the group that is shown.
-use Rattle.std.proofs.Common.{◌≡◌, ℕ, Bool, true, false, cond, ◌&&◌, ◌||◌, not, eqb, List, [], ◌∷◌, ◌++◌, Option, Some, None, unwrap_or, refl, sym, ap, ◌∙◌}
+use Rattle.std.proofs.Common.{◌≡◌, ℕ, Bool, true, false, cond, ◌&&◌, ◌||◌, not, eqb, List, [], ◌++◌, Option, Some, None, unwrap_or, refl, sym, ap, ◌∙◌}
 use Rattle.std.specs.Prelude.{slice_get, slice_set, option_map}
 use Rattle.std.specs.Global.{Vec}
 use Rattle.std.specs.Ordering.{nat_cmp}
@@ -10,7 +10,7 @@ use Rattle.log_entry.specs.declared.entry.EntryName.{EntryName}
 use Rattle.group_laws.specs.declared.types.Slot.{Slot}
 use Rattle.group_laws.specs.declared.types.Seen.{Seen}
 use Rattle.group_laws.specs.Places.{Place, owner}
-use Rattle.group_laws.specs.Updates.{put, put2, has, without}
+use Rattle.group_laws.specs.Updates.{put2, has, without}
 use Rattle.group_laws.specs.State.{Group}
 use Rattle.group_laws.specs.State as laws
 use Rattle.group_laws.specs.Steps.{dooms, retires, sends, receives}

@@ -1,20 +1,18 @@
 -- The state with empty views is the opened state of an empty region.
-use Rattle.std.proofs.Common.{◌≡◌, ℕ, zero, suc, ◌/◌, ◌<◌, Bool, true, false, List, [], ◌∷◌, ◌++◌, Option, Some, None, unwrap_or, ◌⊎◌, inl, inr, refl, sym, ap, ◌∙◌, subst}
+use Rattle.std.proofs.Common.{◌≡◌, ℕ, zero, suc, false, List, [], ◌∷◌, ◌++◌, Option, Some, None, unwrap_or, inl, inr, refl, ap, subst}
 use Rattle.std.specs.Prelude.{slice_get, option_map}
 use Rattle.std.specs.List.{AllByRecursion}
 use Rattle.std.specs.Ordering.{nat_cmp}
 use Rattle.std.specs.Map.{lookup}
 use Rattle.std.specs.BTreeMap.{BTreeMap, IsEmpty, get, is_at}
-use Rattle.log_entry.specs.declared.entry.Entry.{Entry}
 use Rattle.log_entry.specs.declared.entry.EntryName.{EntryName}
 use Rattle.store_image.specs.Facts.{In}
 use Rattle.group_laws.specs.declared.types.Slot.{Slot}
 use Rattle.group_laws.specs.declared.types.Slot.TheVariants.{Empty}
-use Rattle.group_laws.specs.declared.types.Block.{Block}
 use Rattle.group_laws.specs.Places.{Place, IsPlace, members, owner}
 use Rattle.group_laws.specs.Updates.{has}
 use Rattle.group_laws.specs.State.{Group}
-use Rattle.group_laws.specs.Tidying.{Tidied, IsTidy}
+use Rattle.group_laws.specs.Tidying.{Tidied}
 use Rattle.group_laws.specs.Invariant.{Lawful}
 use Rattle.group_laws.specs.Opening.{IsSound, IsFound, AllTidied, IsOpened, nothing}
 use Rattle.group_laws.proofs.Opened as laws

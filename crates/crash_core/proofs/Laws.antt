@@ -1,12 +1,10 @@
 -- A step of the laws, as a step of the data.
-use Rattle.std.proofs.Common.{◌≡◌, ℕ, Bool, true, false, Result, Ok, Err, Option, Some, None, ◌⊎◌, inl, inr, refl, sym, subst}
+use Rattle.std.proofs.Common.{◌≡◌, Bool, true, false, Result, Ok, Err, Option, Some, None, refl, sym, subst}
 use Rattle.std.specs.Option.{is_some}
 use Rattle.std.specs.Prelude.{IfOk}
 use Rattle.group_laws.specs.State.{Group}
 use Rattle.group_laws.specs.Runs.{IsStep, Kind as Law}
-use Rattle.group_laws.specs.Runs.Kind.{Post, Look, LookMail}
 use Rattle.crash_core.specs.declared.kinds.Kind.{Kind}
-use Rattle.crash_core.specs.declared.kinds.Kind.TheVariants as kinds
 use Rattle.crash_core.specs.declared.kinds.Step.{Step}
 use Rattle.crash_core.specs.declared.state.GroupState.{GroupState}
 use Rattle.crash_core.specs.Shows.{group_of}

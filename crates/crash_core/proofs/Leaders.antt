@@ -1,6 +1,6 @@
 -- What the steps of a leader leave of the group that is shown.
 use Rattle.std.proofs.Common.{◌≡◌, ℕ, Bool, true, false, cond, ◌&&◌, eqb, List, [], ◌∷◌, ◌++◌, Option, Some, None, unwrap_or, refl, sym, ap, ◌∙◌}
-use Rattle.std.specs.Prelude.{slice_get, slice_set, option_map}
+use Rattle.std.specs.Prelude.{slice_get, slice_set}
 use Rattle.std.specs.Global.{Vec}
 use Rattle.std.specs.Ordering.{nat_cmp}
 use Rattle.std.specs.BTreeMap.{BTreeMap, get, Updates}
@@ -9,12 +9,11 @@ use Rattle.group_laws.specs.declared.types.Slot.{Slot}
 use Rattle.group_laws.specs.declared.types.Slot.TheVariants.{Empty, Taken, Done, Failed}
 use Rattle.group_laws.specs.declared.types.Seen.{Seen}
 use Rattle.group_laws.specs.Places.{Place, owner}
-use Rattle.group_laws.specs.Updates.{put2, put3, has}
-use Rattle.group_laws.specs.State.{Group}
+use Rattle.group_laws.specs.Updates.{put3, has}
 use Rattle.group_laws.specs.Steps.{locks, finds, takes, unlocks, commits, marks, fails}
 use Rattle.crash_core.specs.declared.names.Notices.{Notices}
 use Rattle.crash_core.specs.declared.state.CoreView.{CoreView}
-use Rattle.crash_core.specs.Shows.{pair_cmp, of, notices_of, no_notices, last_in, mailed_in, group_at}
+use Rattle.crash_core.specs.Shows.{pair_cmp, of, no_notices, last_in, mailed_in, group_at}
 use Rattle.crash_core.proofs.Views as views
 use Rattle.crash_core.proofs.Pairs.{pair_put}
 

@@ -1,5 +1,5 @@
 -- Elements of the front of a list.
-use Rattle.std.proofs.Common.{◌≡◌, ℕ, ◌+◌, ◌<◌, zero, suc, List, [], ◌∷◌, ◌++◌, take, length, get_or, refl, sym, subst, arith, ◌⊎◌, inl, inr}
+use Rattle.std.proofs.Common.{◌≡◌, ℕ, ◌+◌, ◌<◌, zero, suc, List, [], ◌∷◌, take, length, get_or, refl, sym, subst, arith, ◌⊎◌, inl, inr}
 use Rattle.std.proofs.lemmas.List.{take_more}
 use Rattle.store_image.specs.Facts.{In}
 use Rattle.group_laws.proofs.Puts.{In-push, In-append_left, In-append_right}

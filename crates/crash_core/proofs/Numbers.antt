@@ -1,7 +1,7 @@
 -- Each word of a table has one number.
-use Rattle.std.proofs.Common.{◌≡◌, ℕ, ◌+◌, ◌*◌, ◌<◌, ◌≤◌, ◌⊎◌, inl, inr, arith, refl, ap, sym, ◌∙◌}
+use Rattle.std.proofs.Common.{◌≡◌, ℕ, ◌+◌, ◌*◌, ◌<◌, inl, inr, arith, ap, sym}
 use Rattle.std.proofs.Math.Nat.{mul-le-mul_left}
-use Rattle.std.proofs.lemmas.Bool.{cases_eq, cases_lt}
+use Rattle.std.proofs.lemmas.Bool.{cases_lt}
 use Rattle.crash_core.specs.Steps.{slot_word, mail_word}
 
 pub slot_once : (n a s b t : ℕ) → s < 8 → t < 8 → slot_word n a s ≡ slot_word n b t → (a ≡ b) × (s ≡ t)

@@ -1,10 +1,9 @@
 -- What the steps of a key's owner leave of the group that is shown.
-use Rattle.std.proofs.Common.{◌≡◌, ℕ, Bool, true, false, cond, ◌&&◌, eqb, List, [], ◌∷◌, ◌++◌, Option, Some, None, unwrap_or, refl, sym, ap, ◌∙◌}
+use Rattle.std.proofs.Common.{◌≡◌, ℕ, Bool, true, false, cond, eqb, List, [], ◌∷◌, ◌++◌, Option, Some, None, unwrap_or, refl, sym, ap, ◌∙◌}
 use Rattle.std.specs.Prelude.{slice_get, slice_set}
 use Rattle.std.specs.Global.{Vec}
 use Rattle.std.specs.Ordering.{nat_cmp}
 use Rattle.std.specs.BTreeMap.{BTreeMap, get, Updates}
-use Rattle.fs_model.specs.declared.model.Value.{Value}
 use Rattle.log_entry.specs.declared.entry.Body.{Body}
 use Rattle.log_entry.specs.declared.entry.Body.TheVariants.{Pointer, Embedded, Tombstone}
 use Rattle.log_entry.specs.declared.entry.Entry.{Entry}
@@ -15,8 +14,7 @@ use Rattle.group_laws.specs.declared.types.Pending.{Pending}
 use Rattle.group_laws.specs.declared.types.Block.{Block}
 use Rattle.group_laws.specs.declared.types.Seen.{Seen}
 use Rattle.group_laws.specs.Places.{Place, owner}
-use Rattle.group_laws.specs.Updates.{put, put2, change, has}
-use Rattle.group_laws.specs.State.{Group}
+use Rattle.group_laws.specs.Updates.{put, change, has}
 use Rattle.group_laws.specs.Steps.{posts, with_block, withdraws, points_at, finishes, gives_up, left_by, bytes_of, only_own}
 use Rattle.crash_core.specs.declared.names.Notices.{Notices}
 use Rattle.crash_core.specs.declared.state.CoreView.{CoreView}

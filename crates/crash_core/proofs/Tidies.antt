@@ -1,5 +1,5 @@
 -- The two rules on the data are the two rules on the group that is shown.
-use Rattle.std.proofs.Common.{◌≡◌, ℕ, ◌<◌, Bool, true, false, List, [], ◌∷◌, ◌++◌, Option, Some, None, unwrap_or, ◌⊎◌, inl, inr, refl, sym, ap, ◌∙◌, subst}
+use Rattle.std.proofs.Common.{◌≡◌, ℕ, Bool, true, false, List, [], ◌∷◌, ◌++◌, Option, Some, None, unwrap_or, ◌⊎◌, inl, inr, refl, sym, ap, ◌∙◌, subst}
 use Rattle.std.specs.Prelude.{slice_get, slice_set}
 use Rattle.std.specs.Global.{Vec}
 use Rattle.std.specs.Ordering.{nat_cmp}
@@ -8,7 +8,6 @@ use Rattle.std.proofs.lemmas.Bool.{cases_eq}
 use Rattle.log_entry.specs.declared.entry.EntryName.{EntryName}
 use Rattle.store_image.specs.Facts.{In}
 use Rattle.group_laws.specs.declared.types.Slot.{Slot}
-use Rattle.group_laws.specs.declared.types.Pending.{Pending}
 use Rattle.group_laws.specs.Places.{Place, owner}
 use Rattle.group_laws.specs.Updates.{has}
 use Rattle.group_laws.specs.State.{Group}

@@ -1,5 +1,4 @@
-use Rattle.std.proofs.Common.{◌≡◌, ℕ, Bool, true, false, ◌&&◌, not, List, [], ◌++◌, sym, ap, ◌∙◌}
-use Rattle.log_entry.specs.declared.entry.Entry.{Entry}
+use Rattle.std.proofs.Common.{◌≡◌, ℕ, ◌&&◌, not, List, ◌++◌, ap, ◌∙◌}
 use Rattle.log_entry.specs.declared.entry.EntryName.{EntryName}
 use Rattle.group_laws.specs.Updates.{has, without}
 use Rattle.crash_core.specs.Shows.{place_of}

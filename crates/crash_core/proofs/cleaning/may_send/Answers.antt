@@ -1,8 +1,7 @@
-use Rattle.std.proofs.Common.{◌≡◌, ℕ, true, false, refl, sym, ap, ◌∙◌, List, [], Option, subst}
+use Rattle.std.proofs.Common.{◌≡◌, ℕ, true, false, refl, sym, ap, ◌∙◌, List, [], subst}
 use Rattle.store_image.specs.Facts.{In}
 use Rattle.log_entry.specs.declared.entry.EntryName.{EntryName}
 use Rattle.group_laws.specs.Updates.{has}
-use Rattle.group_laws.specs.declared.types.Seen.{Seen}
 use Rattle.group_laws.specs.declared.types.Seen.TheVariants.{Mail as SeenMail}
 use Rattle.crash_core.specs.declared.state.CoreView.{CoreView}
 use Rattle.crash_core.specs.Shows.{group_of, place_of, of}

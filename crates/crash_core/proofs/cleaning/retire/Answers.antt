@@ -1,4 +1,4 @@
-use Rattle.std.proofs.Common.{◌≡◌, refl, true, false, subst}
+use Rattle.std.proofs.Common.{refl, subst}
 use Rattle.group_laws.specs.State.{Group}
 use Rattle.group_laws.specs.Tidying.{Tidied}
 use Rattle.crash_core.specs.Shows.{group_of}

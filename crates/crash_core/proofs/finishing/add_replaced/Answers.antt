@@ -1,4 +1,4 @@
-use Rattle.std.proofs.Common.{◌≡◌, ℕ, true, false, Some, ◌&&◌, not, List, [], ◌∷◌, ◌++◌, refl, sym, ◌∙◌, inl, inr, subst}
+use Rattle.std.proofs.Common.{◌≡◌, ℕ, true, Some, ◌&&◌, not, [], ◌∷◌, sym, ◌∙◌, inl, inr, subst}
 use Rattle.store_image.specs.Facts.{In}
 use Rattle.group_laws.specs.Steps.{is_of, points_at}
 use Rattle.group_laws.proofs.Puts.{In-push, In-append_left, In-append_right}

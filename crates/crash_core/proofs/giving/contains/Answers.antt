@@ -1,4 +1,4 @@
-use Rattle.std.proofs.Common.{◌≡◌, ◌<◌, ℕ, length, refl, sym, ◌∙◌, arith, inl, inr, true, false}
+use Rattle.std.proofs.Common.{refl, sym, ◌∙◌, arith, inl, inr}
 use Rattle.crash_core.proofs.Lists.{In-take_more, In-at}
 use Rattle.crash_core.proofs.giving.contains.Goals as goal
 

@@ -1,6 +1,5 @@
-use Rattle.std.proofs.Common.{◌≡◌, refl, true, false, Some, Option, List, [], sym, ◌∙◌, ap, subst}
+use Rattle.std.proofs.Common.{refl, [], sym, ◌∙◌, ap, subst}
 use Rattle.store_image.specs.Facts.{In}
-use Rattle.log_entry.specs.declared.entry.Entry.{Entry}
 use Rattle.group_laws.specs.Steps.{CanMark}
 use Rattle.crash_core.specs.Shows.{place_of, group_of, of}
 use Rattle.crash_core.specs.declared.state.CoreView.{CoreView}

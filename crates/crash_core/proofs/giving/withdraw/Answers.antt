@@ -1,4 +1,4 @@
-use Rattle.std.proofs.Common.{◌≡◌, refl, true, false, Some, sym, ◌∙◌}
+use Rattle.std.proofs.Common.{◌≡◌, refl, sym, ◌∙◌}
 use Rattle.group_laws.specs.declared.types.Slot.TheVariants.{Posted}
 use Rattle.crash_core.specs.Shows.{place_of, group_of}
 use Rattle.crash_core.proofs.Made.{view_at, still_whole}

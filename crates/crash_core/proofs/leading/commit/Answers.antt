@@ -1,4 +1,4 @@
-use Rattle.std.proofs.Common.{◌≡◌, refl}
+use Rattle.std.proofs.Common.{refl}
 use Rattle.crash_core.specs.Shows.{place_of}
 use Rattle.crash_core.proofs.Made.{view_at, still_whole}
 use Rattle.crash_core.proofs.Leaders.{commit_is}

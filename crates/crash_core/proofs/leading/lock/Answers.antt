@@ -1,4 +1,4 @@
-use Rattle.std.proofs.Common.{◌≡◌, refl, true, false, inl, inr, Some, None, Option}
+use Rattle.std.proofs.Common.{refl, true, inl, inr}
 use Rattle.group_laws.specs.declared.types.Seen.TheVariants.{Holder}
 use Rattle.crash_core.specs.Shows.{place_of}
 use Rattle.crash_core.proofs.Made.{view_at, still_whole}

@@ -1,4 +1,4 @@
-use Rattle.std.proofs.Common.{◌≡◌, ◌<◌, refl, true, false, arith}
+use Rattle.std.proofs.Common.{refl}
 use Rattle.group_laws.specs.declared.types.Seen.TheVariants.{Mail as SeenMail}
 use Rattle.group_laws.specs.State.{is_full}
 use Rattle.crash_core.specs.Shows.{place_of, group_of}

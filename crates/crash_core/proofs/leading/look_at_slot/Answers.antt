@@ -1,4 +1,4 @@
-use Rattle.std.proofs.Common.{◌≡◌, ◌<◌, refl, true, false, arith}
+use Rattle.std.proofs.Common.{refl, arith}
 use Rattle.group_laws.specs.declared.types.Seen.TheVariants.{Slot as SeenSlot}
 use Rattle.group_laws.specs.State.{shown}
 use Rattle.crash_core.specs.Shows.{place_of, group_of}

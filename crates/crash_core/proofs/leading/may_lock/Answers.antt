@@ -1,6 +1,5 @@
-use Rattle.std.proofs.Common.{◌≡◌, ℕ, refl, true, false, None, length, ap, ◌∙◌, sym}
+use Rattle.std.proofs.Common.{◌≡◌, ℕ, refl, false, None, length, ap, ◌∙◌, sym}
 use Rattle.std.specs.BTreeMap.{get}
-use Rattle.group_laws.specs.Steps.{CanLock}
 use Rattle.crash_core.specs.Shows.{group_of, of, pair_cmp}
 use Rattle.crash_core.specs.declared.state.CoreView.{CoreView}
 use Rattle.crash_core.proofs.Made.{view_at}

@@ -1,8 +1,7 @@
-use Rattle.std.proofs.Common.{◌≡◌, refl, true, false, Some, sym, ◌∙◌, ap, List, ◌∷◌, [], ◌++◌}
+use Rattle.std.proofs.Common.{◌≡◌, refl, sym, ◌∙◌, ap, ◌∷◌, [], ◌++◌}
 use Rattle.log_entry.specs.declared.entry.Entry.{Entry}
 use Rattle.group_laws.specs.declared.types.Slot.TheVariants.{Posted}
 use Rattle.crash_core.specs.Shows.{place_of, group_of}
-use Rattle.crash_core.specs.Finds.{posted_in}
 use Rattle.crash_core.proofs.Made.{view_at, still_whole}
 use Rattle.crash_core.proofs.Leaders.{take_is}
 use Rattle.crash_core.proofs.Found.{posted_is}

@@ -1,13 +1,11 @@
-use Rattle.std.proofs.Common.{◌≡◌, ◌<◌, ℕ, refl, None, inl, inr, sym, subst, ◌∙◌, ap}
-use Rattle.group_laws.specs.State.{Group}
+use Rattle.std.proofs.Common.{ℕ, refl, inl, inr, sym, subst, ◌∙◌}
 use Rattle.group_laws.specs.Runs.{Kind as Law, IsStep}
 use Rattle.group_laws.specs.Runs.Kind.{Look, LookMail}
 use Rattle.crash_core.specs.declared.kinds.Kind.TheVariants as kinds
 use Rattle.crash_core.specs.declared.kinds.Step.{Step}
 use Rattle.crash_core.specs.Shows.{group_of}
 use Rattle.crash_core.specs.Makes.{Makes}
-use Rattle.crash_core.specs.Steps.{MakesStep, IsMade}
-use Rattle.crash_core.specs.Words.{IsWordOf}
+use Rattle.crash_core.specs.Steps.{MakesStep}
 use Rattle.crash_core.proofs.Numbers.{slot_once, not_both, mail_once}
 use Rattle.crash_core.proofs.Laws.{along, as_data}
 use Rattle.crash_core.proofs.machine.look.Goals as goal

@@ -1,4 +1,4 @@
-use Rattle.std.proofs.Common.{◌≡◌, List, subst}
+use Rattle.std.proofs.Common.{List, subst}
 use Rattle.std.specs.Prelude.{IfOk}
 use Rattle.log_entry.specs.declared.entry.EntryName.{EntryName}
 use Rattle.crash_core.specs.Makes.{Makes}

@@ -1,4 +1,4 @@
-use Rattle.std.proofs.Common.{◌≡◌, sym, false}
+use Rattle.std.proofs.Common.{sym}
 use Rattle.group_laws.specs.Runs.{Kind as Law}
 use Rattle.group_laws.specs.Runs.Kind.{Post}
 use Rattle.crash_core.specs.declared.kinds.Kind.TheVariants as kinds

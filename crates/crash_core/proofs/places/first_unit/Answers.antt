@@ -1,6 +1,5 @@
-use Rattle.std.proofs.Common.{◌≡◌, ℕ, ◌+◌, ◌*◌, ◌/◌, ◌<◌, ◌≤◌, arith, ap, sym}
+use Rattle.std.proofs.Common.{◌+◌, ◌*◌, ◌/◌, arith, ap}
 use Rattle.chunk_map.specs.declared.layouts.Geometry.{Geometry}
-use Rattle.chunk_map.specs.Layouts.{IsLayout}
 use Rattle.group_laws.specs.Places.{first_unit}
 use Rattle.crash_core.proofs.Bounds.{part_small, core_small, unit_small}
 use Rattle.crash_core.proofs.places.first_unit.Goals as goal

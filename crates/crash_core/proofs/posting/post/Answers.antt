@@ -1,10 +1,8 @@
-use Rattle.std.proofs.Common.{◌≡◌, refl, true, false, Some, Option, ap, sym, ◌∙◌, subst, ℕ, List, ◌∷◌, [], ◌++◌}
+use Rattle.std.proofs.Common.{◌≡◌, refl, Some, ap, ◌∙◌, subst, ℕ, List, ◌∷◌, [], ◌++◌}
 use Rattle.std.specs.Ordering.{nat_cmp}
 use Rattle.std.specs.BTreeMap.{get, Updates}
 use Rattle.log_entry.specs.declared.entry.Entry.{Entry}
-use Rattle.group_laws.specs.declared.types.Slot.{Slot}
 use Rattle.group_laws.specs.declared.types.Slot.TheVariants.{Posted}
-use Rattle.group_laws.specs.declared.types.Pending.{Pending}
 use Rattle.group_laws.specs.Steps.{with_block}
 use Rattle.crash_core.specs.Shows.{place_of, pair_cmp}
 use Rattle.crash_core.proofs.Made.{view_at, still_whole}

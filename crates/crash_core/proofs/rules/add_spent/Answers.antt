@@ -1,4 +1,4 @@
-use Rattle.std.proofs.Common.{◌≡◌, ℕ, true, false, List, [], ◌∷◌, ◌++◌, refl, sym, ◌∙◌, inl, inr, subst}
+use Rattle.std.proofs.Common.{ℕ, [], ◌∷◌, refl, sym, inl, inr, subst}
 use Rattle.store_image.specs.Facts.{In}
 use Rattle.group_laws.proofs.Puts.{In-push, In-append_left, In-append_right}
 use Rattle.crash_core.specs.Deaths.{IsSpentIn}

@@ -1,4 +1,4 @@
-use Rattle.std.proofs.Common.{◌≡◌, ℕ, true, false, Some, refl, inl, inr, subst}
+use Rattle.std.proofs.Common.{◌≡◌, ℕ, Some, refl, inl, inr, subst}
 use Rattle.std.specs.BTreeMap.{get, is_at}
 use Rattle.std.specs.Map.Iter.{deref_pair}
 use Rattle.std.proofs.lemmas.Map.Views.{All-turn}

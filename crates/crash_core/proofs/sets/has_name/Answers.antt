@@ -1,4 +1,4 @@
-use Rattle.std.proofs.Common.{◌≡◌, ◌+◌, ◌<◌, ◌≤◌, ℕ, true, false, length, get_or, take, List, arith, refl, sym, ap, ◌∙◌, inl, inr}
+use Rattle.std.proofs.Common.{◌+◌, take, List, refl, sym, ap, ◌∙◌, inl, inr}
 use Rattle.std.proofs.lemmas.List.{take_all}
 use Rattle.log_entry.specs.declared.entry.EntryName.{EntryName}
 use Rattle.group_laws.specs.Updates.{has}

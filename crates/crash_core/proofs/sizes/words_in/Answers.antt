@@ -1,4 +1,4 @@
-use Rattle.std.proofs.Common.{ℕ, ◌+◌, ◌/◌, ◌%◌, List, length, ap, arith}
+use Rattle.std.proofs.Common.{length, ap, arith}
 use Rattle.log_entry.specs.Words.{words_for}
 use Rattle.log_entry.proofs.Bytes.{length-packed_in}
 use Rattle.crash_core.proofs.sizes.words_in.Goals as goal

@@ -1,4 +1,4 @@
-use Rattle.std.proofs.Common.{◌≡◌, ◌<◌, ℕ, length, refl, sym, arith, inl, inr, true, false}
+use Rattle.std.proofs.Common.{◌<◌, length, refl, sym, arith, inl, inr}
 use Rattle.group_laws.specs.declared.types.Seen.TheVariants.{Slot as SeenSlot}
 use Rattle.group_laws.specs.declared.types.SlotWord.TheVariants.{Empty as ShowsEmpty}
 use Rattle.crash_core.proofs.Lists.{In-take_more, In-at}
