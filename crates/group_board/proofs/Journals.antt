@@ -1,0 +1,29 @@
+-- What one step more in a journal makes of the state.
+use Rattle.std.proofs.Common.{◌≡◌, ℕ, List, refl, sym, ap, ◌∙◌}
+use Rattle.group_laws.specs.OpeningImages.{opened}
+use Rattle.group_board.specs.declared.journal.Act.{Act}
+use Rattle.group_board.specs.declared.journal.Note.{Note}
+use Rattle.group_board.specs.declared.journal.Journal.{Journal}
+use Rattle.group_board.specs.Journals.{image_of, place_in, begun, note_of, noted, effect, with_finished, names_in, names, state}
+
+state_noted : (n : Note) (j : Journal) → state (noted n j) ≡ effect (names (noted n j)) (state j) n.member n.act
+unfolding state names
+state_noted n j = refl
+
+names_noted : (n : Note) (j : Journal) → names (noted n j) ≡ with_finished n.act (names j)
+unfolding names
+names_noted n j = refl
+
+pub state_begun : (g : ℕ) (ws : List ℕ) → state (begun g ws) ≡ opened (place_in g ws) (image_of ws)
+unfolding state
+state_begun g ws = refl
+
+pub names_begun : (g : ℕ) (ws : List ℕ) → names (begun g ws) ≡ names_in g ws
+unfolding names
+names_begun g ws = refl
+
+pub state_is : (i j : Journal) (m : ℕ) (a : Act) → i ≡ noted (note_of m a) j → state i ≡ effect (names i) (state j) m a
+state_is i j m a e = ap state e ∙ (state_noted (note_of m a) j ∙ ap (λ x. effect (names x) (state j) m a) (sym e))
+
+pub names_are : (i j : Journal) (m : ℕ) (a : Act) → i ≡ noted (note_of m a) j → names i ≡ with_finished a (names j)
+names_are i j m a e = ap names e ∙ names_noted (note_of m a) j

@@ -1,0 +1,10 @@
+pub mod Tidies
+pub mod Picks
+pub mod Journals
+pub mod Views
+pub mod Keeping
+pub mod Facts
+pub mod Calls
+pub mod Mail
+pub mod Opens
+pub mod Trials

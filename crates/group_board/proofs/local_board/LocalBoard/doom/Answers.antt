@@ -1,0 +1,20 @@
+use Rattle.std.proofs.Common.{◌∙◌, ap}
+use Rattle.group_laws.specs.Places.{members}
+use Rattle.group_board.proofs.Calls.{doom_step, doom_view, doom_kept}
+use Rattle.group_board.proofs.local_board.LocalBoard.doom.Goals as goal
+
+pub invariant_of-self : goal.invariant_of-self
+invariant_of-self c =
+    let me = c.args.self.now in
+    let step = doom_step c.args.self.now.keeper.me.0 c.note.new.seat.me.0 c.args.member c.args.names.now c.note.ensures.1 c.requires in
+    record {
+      sized = (me.sized.0, me.sized.1, me.sized.2, me.sized.3, ap (λ p. members p) step.0 ∙ me.sized.4);
+      here = c.note.ensures.0 ∙ me.here;
+      kept = doom_kept c.args.self.now.keeper.me.0 c.note.new.seat.me.0 c.args.member me.member_count me.holder me.slots.items me.mail.items me.kept c.args.names.now c.note.ensures.1 step;
+    }
+
+pub returns-clause-step : goal.returns-clause-step
+returns-clause-step c = let me = c.args.self.now in doom_step c.args.self.now.keeper.me.0 c.note.new.seat.me.0 c.args.member c.args.names.now c.note.ensures.1 c.requires
+
+pub returns-clause-view : goal.returns-clause-view
+returns-clause-view c = let me = c.args.self.now in doom_view c.args.self.now.keeper.me.0 c.note.new.seat.me.0 c.args.member c.args.names.now c.note.ensures.1

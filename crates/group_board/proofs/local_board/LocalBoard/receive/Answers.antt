@@ -1,0 +1,19 @@
+use Rattle.std.proofs.Common.{◌∙◌, ap, sym, true}
+use Rattle.group_laws.specs.Steps.{finds}
+use Rattle.group_laws.specs.declared.types.Seen.TheVariants as loads
+use Rattle.crash_core.specs.Shows.{notices_of}
+use Rattle.group_board.specs.Journals.{state}
+use Rattle.group_board.proofs.Mail.{seen_in, receive_steps, receive_place, receive_view}
+use Rattle.group_board.proofs.local_board.LocalBoard.receive.Goals as goal
+
+pub take_mail-requires-clause-seen : goal.take_mail-requires-clause-seen
+take_mail-requires-clause-seen c = seen_in (state c.args.self.now.keeper.me.0) (state c.look_at_mail.new.self.keeper.me.0) c.args.member c.args.from c.args.member true (c.look_at_mail.ensures.state ∙ ap (λ x. finds (state c.args.self.now.keeper.me.0) c.args.member (loads.Mail c.args.from c.args.member x)) c.if-look_at_mail.true)
+
+pub returns-then-look_at_mail-clause-place : goal.returns-then-look_at_mail-clause-place
+returns-then-look_at_mail-clause-place c = receive_place (state c.args.self.now.keeper.me.0) (state c.look_at_mail.new.self.keeper.me.0) c.args.member c.args.from (notices_of c.take_mail.result) (c.look_at_mail.ensures.state ∙ ap (λ x. finds (state c.args.self.now.keeper.me.0) c.args.member (loads.Mail c.args.from c.args.member x)) c.if-look_at_mail.true) (state c.take_mail.new.self.keeper.me.0) c.take_mail.ensures.state
+
+pub returns-then-look_at_mail-clause-step : goal.returns-then-look_at_mail-clause-step
+returns-then-look_at_mail-clause-step c = receive_steps (state c.args.self.now.keeper.me.0) (state c.look_at_mail.new.self.keeper.me.0) c.args.member c.args.from (notices_of c.take_mail.result) (c.look_at_mail.ensures.state ∙ ap (λ x. finds (state c.args.self.now.keeper.me.0) c.args.member (loads.Mail c.args.from c.args.member x)) c.if-look_at_mail.true) (state c.take_mail.new.self.keeper.me.0) c.requires.member c.requires.sender c.take_mail.ensures.stood c.take_mail.ensures.state (sym c.if-look_at_mail.true ∙ c.look_at_mail.ensures.found)
+
+pub returns-then-look_at_mail-clause-view : goal.returns-then-look_at_mail-clause-view
+returns-then-look_at_mail-clause-view c = receive_view (state c.args.self.now.keeper.me.0) (state c.look_at_mail.new.self.keeper.me.0) c.args.member c.args.from (notices_of c.take_mail.result) (c.look_at_mail.ensures.state ∙ ap (λ x. finds (state c.args.self.now.keeper.me.0) c.args.member (loads.Mail c.args.from c.args.member x)) c.if-look_at_mail.true) (state c.take_mail.new.self.keeper.me.0) c.take_mail.ensures.state

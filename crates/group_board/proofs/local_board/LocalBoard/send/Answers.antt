@@ -1,0 +1,19 @@
+use Rattle.std.proofs.Common.{◌∙◌, ap, sym}
+use Rattle.group_laws.specs.Steps.{finds}
+use Rattle.group_laws.specs.declared.types.Seen.TheVariants as loads
+use Rattle.crash_core.specs.Shows.{notices_of}
+use Rattle.group_board.specs.Journals.{state}
+use Rattle.group_board.proofs.Mail.{can_send, send_steps, send_place, send_view}
+use Rattle.group_board.proofs.local_board.LocalBoard.send.Goals as goal
+
+pub put_mail-requires : goal.put_mail-requires
+put_mail-requires c = can_send (state c.args.self.now.keeper.me.0) (state c.look_at_mail.new.self.keeper.me.0) c.args.member c.args.to (notices_of c.args.notices) (c.look_at_mail.ensures.state ∙ ap (λ x. finds (state c.args.self.now.keeper.me.0) c.args.member (loads.Mail c.args.member c.args.to x)) c.if-look_at_mail.false) c.requires
+
+pub returns-clause-place : goal.returns-clause-place
+returns-clause-place c = send_place (state c.args.self.now.keeper.me.0) (state c.look_at_mail.new.self.keeper.me.0) c.args.member c.args.to (notices_of c.args.notices) (c.look_at_mail.ensures.state ∙ ap (λ x. finds (state c.args.self.now.keeper.me.0) c.args.member (loads.Mail c.args.member c.args.to x)) c.if-look_at_mail.false) c.requires (state c.put_mail.new.self.keeper.me.0) c.put_mail.ensures.state
+
+pub returns-clause-step : goal.returns-clause-step
+returns-clause-step c = send_steps (state c.args.self.now.keeper.me.0) (state c.look_at_mail.new.self.keeper.me.0) c.args.member c.args.to (notices_of c.args.notices) (c.look_at_mail.ensures.state ∙ ap (λ x. finds (state c.args.self.now.keeper.me.0) c.args.member (loads.Mail c.args.member c.args.to x)) c.if-look_at_mail.false) c.requires (state c.put_mail.new.self.keeper.me.0) c.put_mail.ensures.state (sym c.if-look_at_mail.false ∙ c.look_at_mail.ensures.found)
+
+pub returns-clause-view : goal.returns-clause-view
+returns-clause-view c = send_view (state c.args.self.now.keeper.me.0) (state c.look_at_mail.new.self.keeper.me.0) c.args.member c.args.to (notices_of c.args.notices) (c.look_at_mail.ensures.state ∙ ap (λ x. finds (state c.args.self.now.keeper.me.0) c.args.member (loads.Mail c.args.member c.args.to x)) c.if-look_at_mail.false) c.requires (state c.put_mail.new.self.keeper.me.0) c.put_mail.ensures.state

@@ -1,0 +1,96 @@
+// A member's seat at the board of one thread. It tells the state of the group.
+ghost use Rattle.std.specs.Prelude.{Some, refl};
+ghost use Rattle.group_board.specs.Journals.{state};
+ghost use Rattle.group_board.specs.Views.{view_of};
+
+use crate::board::{Board, Busy, MailFull, SlotState};
+use crate::local_board::LocalBoard;
+use crash_core::{Change, Notices};
+use log_entry::entry::EntryName;
+
+/// The seat of one member at a board of one thread.
+#[derive(Drop)]
+pub struct LocalSeat<'a> {
+    pub board: &'a mut LocalBoard,
+    pub member: u32,
+}
+
+impl<'a> Board for LocalSeat<'a> {
+    ghost number = { λ s. s.member };
+
+    ghost place = { λ s. (state s.board.now.keeper.me.0).place };
+
+    ghost table = { λ s. s.board.now.table.shared.table_id };
+
+    ghost handle = { λ s. s.board.ghost_name };
+
+    ghost view = { λ s. view_of (state s.board.now.keeper.me.0) s.member };
+
+    ghost whole = { λ s. Some (state s.board.now.keeper.me.0) };
+
+    ghost agrees = { λ s. (refl, refl) };
+
+    fn member(&self) -> u32 {
+        self.member
+    }
+
+    fn members(&self) -> u32 {
+        self.board.member_count
+    }
+
+    fn post(&mut self, slot: u32, change: Change, value: &[u8]) {
+        self.board.post(self.member, slot, change, value);
+    }
+
+    fn try_lock(&mut self) -> Result<(), Busy> {
+        self.board.try_lock(self.member)
+    }
+
+    fn look(&mut self, member: u32, slot: u32) -> SlotState {
+        self.board.look(self.member, member, slot)
+    }
+
+    fn take(&mut self, member: u32, slot: u32) -> Change {
+        self.board.take(self.member, member, slot)
+    }
+
+    fn unlock(&mut self) {
+        self.board.unlock(self.member);
+    }
+
+    fn commit(&mut self) {
+        self.board.commit(self.member);
+    }
+
+    fn mark(&mut self, member: u32, slot: u32, change: Change) {
+        self.board.mark(self.member, member, slot, change);
+    }
+
+    fn fail(&mut self, member: u32, slot: u32, change: Change) {
+        self.board.fail(self.member, member, slot, change);
+    }
+
+    fn finish(&mut self, slot: u32) -> Change {
+        self.board.finish(self.member, slot)
+    }
+
+    fn withdraw(&mut self, slot: u32) -> Change {
+        self.board.withdraw(self.member, slot)
+    }
+
+    fn doom(&mut self, names: &[EntryName]) {
+        self.board.doom(self.member, names);
+    }
+
+    fn retire(&mut self, names: &[EntryName]) {
+        self.board.retire(self.member, names);
+    }
+
+    fn send(&mut self, to: u32, notices: Notices) -> Result<(), MailFull> {
+        self.board.send(self.member, to, notices)
+    }
+
+    fn receive(&mut self, from: u32) -> Option<Notices> {
+        self.board.receive(self.member, from)
+    }
+}

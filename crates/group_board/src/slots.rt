@@ -1,0 +1,77 @@
+// What stands in a slot, and what comes out of it.
+ghost use Rattle.std.specs.Prelude.{◌≡◌, ℕ, ◌+◌, ◌*◌, ◌<◌, length, Option};
+ghost use Rattle.log_entry.specs.Spelling.{words_of};
+ghost use Rattle.group_laws.specs.State.{shown};
+ghost use Rattle.group_laws.specs.declared.types.Slot.TheVariants as slots;
+ghost use Rattle.group_board.specs.Told.{state_of, stood_as};
+ghost use Rattle.group_board.specs.Slots.{IsPosted, IsOver};
+
+use crate::board::SlotState;
+use crash_core::{Change, words_in};
+use group_laws::types::{Slot, SlotWord};
+
+/// The place of a slot or of a mailbox in its list, which has rows of 8.
+pub fn place_of(row: u32, column: u32) -> usize
+    requires { (row < 8) × (column < 8) }
+    ensures { result ≡ 8 * row + column }
+{
+    8 * row as usize + column as usize
+}
+
+/// What the word of a slot tells of it.
+pub fn word_of(slot: &Slot) -> SlotWord
+    ensures { result ≡ shown slot.now }
+{
+    match slot {
+        Slot::Empty => SlotWord::Empty,
+        Slot::Posted(entry) => SlotWord::Posted(words_in(entry)),
+        Slot::Taken => SlotWord::Taken,
+        Slot::Done(_, home) => SlotWord::Done(*home),
+        Slot::Failed(_) => SlotWord::Failed,
+    }
+}
+
+/// What a look answers at a word.
+pub fn answer_at(word: SlotWord) -> SlotState
+    ensures { result ≡ state_of word }
+{
+    match word {
+        SlotWord::Empty => SlotState::Empty,
+        SlotWord::Posted(words) => SlotState::Posted { words },
+        SlotWord::Taken => SlotState::Taken,
+        SlotWord::Done(_) => SlotState::Done,
+        SlotWord::Failed => SlotState::Failed,
+    }
+}
+
+/// The change that a slot offers.
+pub fn offered(slot: Slot) -> Change
+    requires { IsPosted slot }
+    ensures stood { slot ≡ slots.Posted result.entry }
+    ensures home { result.home ≡ Option.None }
+{
+    match slot {
+        Slot::Posted(entry) => Change { entry, home: None },
+        Slot::Empty => unreachable!(),
+        Slot::Taken => unreachable!(),
+        Slot::Done(_, _) => unreachable!(),
+        Slot::Failed(_) => unreachable!(),
+    }
+}
+
+/// The change that its leader gave back, with its home where it is Done.
+pub fn given_back(slot: Slot) -> Change
+    requires { IsOver slot }
+    ensures { slot ≡ stood_as result.entry result.home }
+{
+    match slot {
+        Slot::Done(entry, home) => Change {
+            entry,
+            home: Some(home),
+        },
+        Slot::Failed(entry) => Change { entry, home: None },
+        Slot::Empty => unreachable!(),
+        Slot::Posted(_) => unreachable!(),
+        Slot::Taken => unreachable!(),
+    }
+}

@@ -1,0 +1,183 @@
+// One change's way, the lock and a mailbox, at the board of one thread. The requests and answers are those that the calls
+// themselves describe.
+ghost use Rattle.std.specs.Prelude.{◌≡◌, ◌≢◌, ◌<◌, ℕ, [], IfOk, IfSome, MatchResult};
+ghost use Rattle.group_laws.specs.Places as places;
+ghost use Rattle.group_board.specs.Journals.{state};
+ghost use Rattle.group_board.specs.Views.{view_of};
+ghost use Rattle.group_board.specs.Conditions.{MayPost, MayLock};
+ghost use Rattle.group_board.specs.Trials.{small_words, fresh, first_put, Leads, Has};
+
+use crate::{Board, Busy, Change, LocalBoard, LocalSeat, Names, Notices, Opening, SlotState};
+use fs_model::model::Value;
+use log_entry::entry::{Body, Entry};
+use std::test::Fail;
+
+/// Two cores of one group on an empty region.
+struct Small;
+
+impl Opening for Small {
+    ghost words = { small_words };
+
+    ghost bytes = { 36864 };
+
+    ghost group = { 0 };
+}
+
+fn open_small(rt: &HostRuntime) -> Result<LocalBoard, Fail>
+    ensures { IfOk result (λ b. state b.keeper.me.0 ≡ fresh) }
+{
+    let board = LocalBoard::open::<Small>(rt.alloc(), 2)?;
+    Ok(board)
+}
+
+/// Posts a change in slot 0 and tries to become the leader.
+fn offer<B: Board>(board: &mut B, change: Change) -> Result<(), Busy>
+    requires post { MayPost (B.place board.old) (B.number board.old) (B.view board.old) 0 change [] }
+    requires lock { MayLock (B.place board.old) (B.number board.old) (B.view board.old) }
+    ensures { IfOk result (λ _. Leads (B.place board.new) (B.number board.new) (B.view board.new)) }
+{
+    board.post(0, change, &[]);
+    board.try_lock()
+}
+
+/// Takes what the leader itself offers in slot 0.
+fn collect<B: Board>(board: &mut B) -> Option<Change>
+    requires { Leads (B.place board.old) (B.number board.old) (B.view board.old) }
+    ensures { IfSome result (λ c. Has (B.place board.new) (B.number board.new) (B.view board.new) c.entry) }
+{
+    let member = board.member();
+    match board.look(member, 0) {
+        SlotState::Posted { words: _ } => Some(board.take(member, 0)),
+        _ => None,
+    }
+}
+
+/// Gives the lock and the own change back, as certain.
+fn give_back<B: Board>(board: &mut B, change: Change)
+    requires { Has (B.place board.old) (B.number board.old) (B.view board.old) change.entry }
+    ensures { B.number board.new < places.members (B.place board.new) }
+{
+    let member = board.member();
+    board.unlock();
+    board.commit();
+    board.mark(member, 0, change);
+}
+
+/// Takes the own change back from slot 0.
+fn settle<B: Board>(board: &mut B) -> Option<Change>
+    requires { B.number board.old < places.members (B.place board.old) }
+{
+    let member = board.member();
+    match board.look(member, 0) {
+        SlotState::Done => Some(board.finish(0)),
+        _ => None,
+    }
+}
+
+/// A put of one byte under key 0.
+fn put(rt: &HostRuntime) -> Result<Change, Fail>
+    ensures { IfOk result (λ c. c ≡ first_put) }
+{
+    let bytes = Vec::from_slice(rt.alloc(), b"a")?;
+    Ok(Change {
+        entry: Entry {
+            key: 0,
+            version: 1,
+            body: Body::Embedded(Value::of(bytes)),
+        },
+        home: None,
+    })
+}
+
+#[test]
+fn the_way_of_one_change(rt: HostRuntime) -> Result<(), Fail> {
+    let change = put(&rt)?;
+    let mut board = open_small(&rt)?;
+    let mut seat = LocalSeat {
+        board: &mut board,
+        member: 0,
+    };
+    if offer(&mut seat, change).is_err() {
+        assert!(rt; false);
+        return Ok(());
+    }
+    let Some(change) = collect(&mut seat) else {
+        assert!(rt; false);
+        return Ok(());
+    };
+    assert_eq!(rt; change.home, None);
+    give_back(&mut seat, change);
+    match settle(&mut seat) {
+        Some(change) => {
+            assert_eq!(rt; change.home, Some(0));
+            assert_eq!(rt; change.entry.version, 1);
+        }
+        None => assert!(rt; false),
+    }
+    Ok(())
+}
+
+/// Tries the lock, and gives the holder that it found.
+fn lock(board: &mut LocalBoard, member: u32) -> Option<u32>
+    requires { MayLock (state board.old.keeper.me.0).place member (view_of (state board.old.keeper.me.0) member) }
+    ensures { (m : ℕ) → m ≢ member → MayLock (state board.old.keeper.me.0).place m (view_of (state board.old.keeper.me.0) m) → MayLock (state board.new.keeper.me.0).place m (view_of (state board.new.keeper.me.0) m) }
+{
+    let mut seat = LocalSeat { board, member };
+    match seat.try_lock() {
+        Ok(_) => None,
+        Err(busy) => Some(busy.holder),
+    }
+}
+
+#[test]
+fn the_lock_has_one_holder(rt: HostRuntime) -> Result<(), Fail> {
+    let mut board = open_small(&rt)?;
+    let free = lock(&mut board, 0);
+    let held = lock(&mut board, 1);
+    assert_eq!(rt; free, None);
+    assert_eq!(rt; held, Some(0));
+    Ok(())
+}
+
+/// Notices of nothing.
+fn no_notices(rt: &HostRuntime) -> Result<Notices, Fail>
+    ensures { IfOk result (λ n. (n.dead.names ≡ []) × (n.gone.names ≡ [])) }
+{
+    let dead = Names::with_room(rt.alloc(), 0)?;
+    let gone = Names::with_room(rt.alloc(), 0)?;
+    Ok(Notices { dead, gone })
+}
+
+/// Whether the mailbox from member 0 to member 1 was full, and the notices came back.
+fn is_refused(rt: &HostRuntime, board: &mut LocalBoard) -> Result<bool, Fail>
+    requires { places.members (state board.old.keeper.me.0).place ≡ 2 }
+    ensures { IfOk result (λ _. places.members (state board.new.keeper.me.0).place ≡ 2) }
+{
+    let notices = no_notices(rt)?;
+    let mut seat = LocalSeat { board, member: 0 };
+    let sent = seat.send(1, notices);
+    Ok(sent.is_err())
+}
+
+/// Whether that mailbox had something.
+fn is_received(board: &mut LocalBoard) -> bool
+    requires { places.members (state board.old.keeper.me.0).place ≡ 2 }
+    ensures { places.members (state board.new.keeper.me.0).place ≡ 2 }
+{
+    let mut seat = LocalSeat { board, member: 1 };
+    let received = seat.receive(0);
+    received.is_some()
+}
+
+#[test]
+fn a_mailbox_is_full_until_it_is_read(rt: HostRuntime) -> Result<(), Fail> {
+    let mut board = open_small(&rt)?;
+    let unsent = is_received(&mut board);
+    let first = is_refused(&rt, &mut board)?;
+    let second = is_refused(&rt, &mut board)?;
+    let read = is_received(&mut board);
+    let again = is_received(&mut board);
+    assert_eq!(rt; (unsent, first, second), (false, false, true));
+    assert_eq!(rt; (read, again), (true, false));
+    Ok(())
+}
