@@ -1,13 +1,15 @@
 -- The steps as data: what each asks and leaves, and what a list of them leads to.
-use Rattle.std.specs.Prelude.{◌≡◌, ℕ, ◌+◌, ◌*◌, ◌<◌, List, [], ◌∷◌, ◌++◌, take, Bool, true, false, Option, Some, None, Result, Ok, Err, ◌⊎◌, slice_get}
+use Rattle.std.specs.Prelude.{◌≡◌, ℕ, ◌+◌, ◌*◌, ◌<◌, List, [], ◌∷◌, take, Bool, true, false, Some, None, Result, Ok, Err, ◌⊎◌, slice_get}
+use Rattle.std.proofs.Common.{inl, inr}
 use Rattle.group_laws.specs.Places.{members}
 use Rattle.group_laws.specs.State.{Group}
 use Rattle.group_laws.specs.Invariant.{Lawful}
 use Rattle.group_laws.specs.Crashes.{Distinct}
 use Rattle.group_laws.specs.Images.{IsLicensedImage, IsSafe}
-use Rattle.group_laws.specs.Runs.{IsStep}
-use Rattle.group_laws.specs.Finishes.{cell_after}
-use Rattle.group_laws.specs.Finishes as laws
+use Rattle.group_laws.specs.Runs as runs
+use Rattle.group_laws.specs.Runs.{IsStep, Runs}
+use Rattle.group_laws.specs.Posts.{offer_of, settled}
+use Rattle.group_laws.specs.Finishes.{finishes_in, cell_after}
 use Rattle.group_laws.specs.Runs.Kind.{Split as Splits, Join as Joins, Post as Posts, Lock as Locks, Look as Looks, LookMail as Looks_mail, Take as Takes, Unlock as Unlocks, Commit as Commits, Mark as Marks, Finish as Finishes, Fail as Fails, Withdraw as Withdraws, Doom as Dooms, Retire as Retires, Send as Sends, Receive as Receives}
 use Rattle.crash_core.specs.declared.kinds.Kind.{Kind}
 use Rattle.crash_core.specs.declared.kinds.Kind.TheVariants as kinds
@@ -62,35 +64,61 @@ abbrev pub AreMade : Group → List Step → Group → Type 0
 AreMade w [] u = u ≡ w
 AreMade w (x ∷ xs) u = (mid : Group) × IsMade w x.member x.kind mid × AreMade mid xs u
 
--- what a step finished, as the laws say it
-abbrev pub finished : (w : Group) (m : ℕ) (kind : Kind) (u : Group) → IsMade w m kind u → List (ℕ × Option (List ℕ))
-finished w m kinds.Split u s = []
-finished w m kinds.Join u s = []
-finished w m (kinds.Post n change value) u s = []
-finished w m kinds.Lock u s = []
-finished w m (kinds.Look word) u s = []
-finished w m (kinds.Take a n) u s = []
-finished w m kinds.Unlock u s = []
-finished w m kinds.Commit u s = []
-finished w m (kinds.Mark a n) u s = []
-finished w m (kinds.Finish n) u s = laws.finished w m (Finishes n) u s
-finished w m (kinds.Fail a n) u s = []
-finished w m (kinds.Withdraw n) u s = []
-finished w m (kinds.Doom ns) u s = []
-finished w m (kinds.Retire ns) u s = []
-finished w m (kinds.Send to n) u s = []
-finished w m (kinds.Receive from) u s = []
+-- the kind of a step, as the laws have it: a load is that of a slot or of a mailbox
+abbrev pub kind_of : (w : Group) (m : ℕ) (kind : Kind) (u : Group) → IsMade w m kind u → runs.Kind
+kind_of w m kinds.Split u s = Splits
+kind_of w m kinds.Join u s = Joins
+kind_of w m (kinds.Post n change value) u s = Posts n change.entry value
+kind_of w m kinds.Lock u s = Locks
+kind_of w m (kinds.Look word) u (inl s) = Looks s.0 s.1
+kind_of w m (kinds.Look word) u (inr s) = Looks_mail s.0 s.1
+kind_of w m (kinds.Take a n) u s = Takes a n
+kind_of w m kinds.Unlock u s = Unlocks
+kind_of w m kinds.Commit u s = Commits
+kind_of w m (kinds.Mark a n) u s = Marks a n
+kind_of w m (kinds.Finish n) u s = Finishes n
+kind_of w m (kinds.Fail a n) u s = Fails a n
+kind_of w m (kinds.Withdraw n) u s = Withdraws n
+kind_of w m (kinds.Doom ns) u s = Dooms ns.names
+kind_of w m (kinds.Retire ns) u s = Retires ns.names
+kind_of w m (kinds.Send to n) u s = Sends to (notices_of n)
+kind_of w m (kinds.Receive from) u s = Receives from
 
--- what the steps finished, in order: keys with the cells that their entries leave
-abbrev pub finishes_of : (w : Group) (steps : List Step) (u : Group) → AreMade w steps u → List (ℕ × Option (List ℕ))
-finishes_of w [] u r = []
-finishes_of w (x ∷ xs) u r = finished w x.member x.kind r.0 r.1 ++ finishes_of r.0 xs u r.2
+-- it is a step of that kind
+abbrev pub step_of : (w : Group) (m : ℕ) (kind : Kind) (u : Group) (s : IsMade w m kind u) → IsStep w m (kind_of w m kind u s) u
+step_of w m kinds.Split u s = s
+step_of w m kinds.Join u s = s
+step_of w m (kinds.Post n change value) u s = s.1
+step_of w m kinds.Lock u s = s
+step_of w m (kinds.Look word) u (inl s) = s.3
+step_of w m (kinds.Look word) u (inr s) = s.3
+step_of w m (kinds.Take a n) u s = s
+step_of w m kinds.Unlock u s = s
+step_of w m kinds.Commit u s = s
+step_of w m (kinds.Mark a n) u s = s
+step_of w m (kinds.Finish n) u s = s
+step_of w m (kinds.Fail a n) u s = s
+step_of w m (kinds.Withdraw n) u s = s
+step_of w m (kinds.Doom ns) u s = s
+step_of w m (kinds.Retire ns) u s = s
+step_of w m (kinds.Send to n) u s = s
+step_of w m (kinds.Receive from) u s = s
 
--- The steps lead to h. There each key's cell is what its finished changes left, the invariant holds, whatever a crash leaves is safe, and no block serves two values.
+-- the run of the laws that these steps are
+abbrev pub kinds_of : (w : Group) (steps : List Step) (u : Group) → AreMade w steps u → List (ℕ × runs.Kind)
+kinds_of w [] u r = []
+kinds_of w (x ∷ xs) u r = (x.member, kind_of w x.member x.kind r.0 r.1) ∷ kinds_of r.0 xs u r.2
+
+abbrev pub run_of : (w : Group) (steps : List Step) (u : Group) (r : AreMade w steps u) → Runs w (kinds_of w steps u r) u
+run_of w [] u r = r
+run_of w (x ∷ xs) u r = (r.0, step_of w x.member x.kind r.0 r.1, run_of r.0 xs u r.2)
+
+-- The steps lead to h. There each key's cell is what its finished changes left, each of them what its key's last post offered, the invariant holds, whatever a crash leaves is safe, and no block serves two values.
 pub record IsReached (g : GroupState) (steps : List Step) (h : GroupState) : Type 0 where
   pub whole : IsWhole h
   pub made : AreMade (group_of g) steps (group_of h)
-  pub cells : (k : ℕ) → (group_of h).cell k ≡ cell_after k (finishes_of (group_of g) steps (group_of h) made) ((group_of g).cell k)
+  pub cells : (k : ℕ) → (group_of h).cell k ≡ cell_after k (finishes_in (group_of g) (kinds_of (group_of g) steps (group_of h) made) (group_of h) (run_of (group_of g) steps (group_of h) made)) ((group_of g).cell k)
+  pub posted : (k : ℕ) → (group_of h).cell k ≡ settled k (group_of g) (kinds_of (group_of g) steps (group_of h) made) (group_of h) (run_of (group_of g) steps (group_of h) made) (offer_of (group_of g) k) ((group_of g).cell k)
   pub lawful : Lawful (group_of h)
   pub safe : (images : ℕ → ℕ → ℕ) → ((i : ℕ) → i < h.layout.group → IsLicensedImage (group_of h) i (images i)) → IsSafe (group_of h) images
   pub distinct : Distinct (group_of h)

@@ -132,7 +132,8 @@ pub fn step(alloc: Global, state: GroupState, step: &Step) -> Result<GroupState,
 
 /// Makes all steps in order, up to the first whose condition does not hold. In the state that comes back the
 /// invariant holds: whatever a crash leaves of it recovers each key's cell or the one that its posted change
-/// leaves, and no block serves two values. Each cell is what the finished changes of its key left.
+/// leaves, and no block serves two values. Each cell is what the finished changes of its key left, in order, and each
+/// of these left what its key's last post offered.
 pub fn all_steps(alloc: Global, state: GroupState, steps: &[Step]) -> Result<GroupState, StepsError>
     requires whole { IsWhole state }
     requires lawful { Lawful (group_of state) }
