@@ -23,5 +23,5 @@ mod tests;
 pub use kinds::{Change, Kind, Step, StepError, StepsError};
 pub use machine::{all_steps, step};
 pub use names::{Names, Notices};
-pub use sizes::words_in;
 pub use state::{CoreView, GroupState};
+pub use tables::word_of;

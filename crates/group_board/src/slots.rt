@@ -1,13 +1,11 @@
 // What stands in a slot, and what comes out of it.
-ghost use Rattle.std.specs.Prelude.{◌≡◌, ℕ, ◌+◌, ◌*◌, ◌<◌, length, Option};
-ghost use Rattle.log_entry.specs.Spelling.{words_of};
-ghost use Rattle.group_laws.specs.State.{shown};
+ghost use Rattle.std.specs.Prelude.{◌≡◌, ◌+◌, ◌*◌, ◌<◌, Option};
 ghost use Rattle.group_laws.specs.declared.types.Slot.TheVariants as slots;
 ghost use Rattle.group_board.specs.Told.{state_of, stood_as};
 ghost use Rattle.group_board.specs.Slots.{IsPosted, IsOver};
 
 use crate::board::SlotState;
-use crash_core::{Change, words_in};
+use crash_core::Change;
 use group_laws::types::{Slot, SlotWord};
 
 /// The place of a slot or of a mailbox in its list, which has rows of 8.
@@ -16,19 +14,6 @@ pub fn place_of(row: u32, column: u32) -> usize
     ensures { result ≡ 8 * row + column }
 {
     8 * row as usize + column as usize
-}
-
-/// What the word of a slot tells of it.
-pub fn word_of(slot: &Slot) -> SlotWord
-    ensures { result ≡ shown slot.now }
-{
-    match slot {
-        Slot::Empty => SlotWord::Empty,
-        Slot::Posted(entry) => SlotWord::Posted(words_in(entry)),
-        Slot::Taken => SlotWord::Taken,
-        Slot::Done(_, home) => SlotWord::Done(*home),
-        Slot::Failed(_) => SlotWord::Failed,
-    }
 }
 
 /// What a look answers at a word.
