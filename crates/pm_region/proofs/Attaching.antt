@@ -15,8 +15,9 @@ attached_own old new bytes image is = record {
   bytes_are = refl;
   parted = is.parted;
   stamp = is.stamp;
+  since = is.since;
   certainly = is.certainly;
 }
 
 pub volume_finds : (v : Volume) (r n w : ℕ) → IsTelling (volume_state v r n) → InRange (volume_state v r n).frame w → MayBe (cell_now (volume_state v r n) w) (found_in v w)
-volume_finds v r n w telling within = may_find v.history v.attached v.parted v.cuts.items v.bytes r n v.at_zero w telling within
+volume_finds v r n w telling within = may_find v.history v.attached v.parted v.cuts.items v.bytes v.opens r n v.at_zero w telling within

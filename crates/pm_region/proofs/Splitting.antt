@@ -31,7 +31,8 @@ pub is_piece : (f : Frame) (n : ℕ) (h part : History) (cuts : List ℕ) (i : �
     → IsPiece (history_state f n h) cuts i (history_state (part_frame part) n part)
 is_piece f n h part cuts i from at_zero rising is = record {
   between = record { first = is.first; end = let first = is.first in let long = is.length in omega arith };
-  since = is.journal.since ∙ sym is.journal.stamp;
+  stamp = is.journal.stamp;
+  since = is.journal.since;
   faults = refl;
   tells = λ telling. complete_telling (part_frame part) n part refl (goes_on_complete h.journal part.journal is.journal (telling_complete f n h telling));
   told = λ telling. complete_telling f n h from (was_complete h.journal part.journal is.journal (telling_complete (part_frame part) n part telling));

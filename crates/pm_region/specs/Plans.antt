@@ -1,5 +1,5 @@
 -- Which calls of a region are to fail.
-use Rattle.std.specs.Prelude.{ℕ, ◌+◌, ◌-◌, ◌^◌, ◌==◌, min, Bool, if◌then◌else◌, List, [], ◌∷◌}
+use Rattle.std.specs.Prelude.{ℕ, ◌==◌, Bool, if◌then◌else◌, List, [], ◌∷◌}
 use Rattle.std.specs.List.{list_any}
 use Rattle.pm_region.specs.declared.plan.FenceNumber.{FenceNumber}
 
@@ -11,7 +11,3 @@ is_one_of n numbers = list_any (λ y. y == n) numbers
 abbrev pub numbers_in : ℕ → List FenceNumber → List ℕ
 numbers_in piece [] = []
 numbers_in piece (f ∷ fs) = if f.piece == piece then f.number ∷ numbers_in piece fs else numbers_in piece fs
-
--- the number of the call after so many
-abbrev pub next_number : ℕ → ℕ
-next_number made = min (made + 1) (2 ^ 64 - 1)

@@ -11,9 +11,9 @@ use Rattle.pm_region.specs.declared.volume.Volume.{Volume}
 abbrev pub words_open : History → Bool → Bool → ℕ
 words_open h attached parted = if attached && not parted then length h.words.items else 0
 
--- the frame and the state, from the parts of a volume, with r refusals and n faults
-abbrev pub frame_of : History → Bool → Bool → List ℕ → ℕ → ℕ → Frame
-frame_of h attached parted cuts bytes r = record {
+-- the frame and the state, from the parts of a volume, with o opens, r refusals and n faults
+abbrev pub frame_of : History → Bool → Bool → List ℕ → ℕ → ℕ → ℕ → Frame
+frame_of h attached parted cuts bytes o r = record {
   first = 0;
   words = words_open h attached parted;
   since = h.journal.since;
@@ -21,16 +21,17 @@ frame_of h attached parted cuts bytes r = record {
   cuts = cuts;
   bytes = bytes;
   refusals = r;
+  opens = o;
 }
 
-abbrev pub state_with : History → Bool → Bool → List ℕ → ℕ → ℕ → ℕ → State
-state_with h attached parted cuts bytes r n = history_state (frame_of h attached parted cuts bytes r) n h
+abbrev pub state_with : History → Bool → Bool → List ℕ → ℕ → ℕ → ℕ → ℕ → State
+state_with h attached parted cuts bytes o r n = history_state (frame_of h attached parted cuts bytes o r) n h
 
 abbrev pub volume_words : Volume → ℕ
 volume_words v = words_open v.history v.attached v.parted
 
 abbrev pub volume_state : Volume → ℕ → ℕ → State
-volume_state v r n = state_with v.history v.attached v.parted v.cuts.items v.bytes r n
+volume_state v r n = state_with v.history v.attached v.parted v.cuts.items v.bytes v.opens r n
 
 -- the words that an attach finds
 abbrev pub found_in : Volume → ℕ → ℕ
@@ -42,7 +43,7 @@ limit_of v = v.history.journal.limit
 
 -- A piece that isn't parted; its last fields say nothing.
 abbrev pub part_frame : History → Frame
-part_frame h = record { first = h.first; words = length h.words.items; since = h.journal.since; parted = false; cuts = []; bytes = 0; refusals = 0 }
+part_frame h = record { first = h.first; words = length h.words.items; since = h.journal.since; parted = false; cuts = []; bytes = 0; refusals = 0; opens = 0 }
 
 abbrev pub part_state : History → ℕ → State
 part_state h n = history_state (part_frame h) n h

@@ -87,6 +87,7 @@ pub struct FileRegion<R: Files<File = File> + Drop> {
     stamp: u64,
     faults: u64,
     refusals: u64,
+    opens: u64,
 }
 
 impl<R: Files<File = File> + Drop> FileRegion<R> {
@@ -95,7 +96,7 @@ impl<R: Files<File = File> + Drop> FileRegion<R> {
     /// The region in the file of this name. It touches no file until it is attached or created.
     pub fn at(rt: R, path: String) -> FileRegion<R>
         ensures closed { ((file_state result).frame.words ≡ 0) × ((file_state result).frame.parted ≡ false) }
-        ensures counts { ((file_state result).faults ≡ 0) × ((file_state result).frame.refusals ≡ 0) }
+        ensures counts { ((file_state result).faults ≡ 0) × ((file_state result).frame.refusals ≡ 0) × ((file_state result).frame.opens ≡ 0) }
     {
         let alloc = *path.allocator();
         FileRegion {
@@ -109,6 +110,7 @@ impl<R: Files<File = File> + Drop> FileRegion<R> {
             stamp: 0,
             faults: 0,
             refusals: 0,
+            opens: 0,
         }
     }
 }
@@ -166,7 +168,7 @@ impl<R: Files<File = File> + Drop> Region for FileRegion<R> {
 
 impl<R: Files<File = File> + Drop> SplitRegion for FileRegion<R> {
     ghost use Rattle.pm_region.specs.Files.{file_state, file_piece_state};
-    ghost use Rattle.pm_region.specs.Split.{CameFrom, TakesPiece, Joined};
+    ghost use Rattle.pm_region.specs.Split.{CameFrom, TakesPiece, Joined, IsNotOpened, ComesNext};
 
     type Piece = FilePiece;
 
@@ -177,6 +179,7 @@ impl<R: Files<File = File> + Drop> SplitRegion for FileRegion<R> {
     }
 
     fn attach(&mut self, alloc: Global) -> Result<(), AttachError> {
+        self.opens = self.opens.saturating_add(1);
         match open_words(alloc, &self.rt, &self.path) {
             Ok((file, words)) => {
                 self.file = Some(file);
@@ -191,6 +194,7 @@ impl<R: Files<File = File> + Drop> SplitRegion for FileRegion<R> {
     }
 
     fn create(&mut self, alloc: Global, words: u64) -> Result<(), AttachError> {
+        self.opens = self.opens.saturating_add(1);
         match create_words(alloc, &self.rt, &self.path, words) {
             Ok((file, words)) => {
                 self.file = Some(file);
@@ -241,6 +245,8 @@ impl<R: Files<File = File> + Drop> SplitRegion for FileRegion<R> {
         ensures whole { Joined (file_state self.old) (file_state self.new) }
         ensures pieces { (i : ℕ) (p : FilePiece) → i < length pieces.items
             → TakesPiece (file_state self.new) (file_piece_state (slice_index_or pieces.items i p)) }
+        ensures next { ComesNext file_piece_state (file_state self.old) (file_state self.new) pieces.items }
+        ensures opens { IsNotOpened (file_state self.old) (file_state self.new) }
     {
         let latest = latest(&pieces, self.stamp);
         self.stamp = latest.saturating_add(1);
@@ -257,7 +263,7 @@ impl<R: Files<File = File> + Drop> FileRegion<R> {
 
     // Begins with these words.
     fn begin(&mut self, words: FileWords)
-        ensures frame { ((file_state self.new).frame ≡ file_frame words.size false [] 0 self.old.refusals) × ((file_state self.new).stamp ≡ 0) }
+        ensures frame { ((file_state self.new).frame ≡ file_frame words.size false [] 0 self.old.refusals self.old.opens) × ((file_state self.new).stamp ≡ 0) }
         ensures counts { (self.new.faults ≡ self.old.faults) × (self.new.refusals ≡ self.old.refusals) }
     {
         self.words = words;

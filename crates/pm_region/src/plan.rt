@@ -1,7 +1,7 @@
 // Which calls of a region in memory are to fail.
 ghost use Rattle.std.specs.Prelude.{◌≡◌, ◌↔◌, ℕ, ◌+◌, ◌-◌, ◌^◌, ◌≤◌, List, [], true, Err, IfOk, OnOk, OnErr, IsErr, IsErrOf};
-ghost use Rattle.pm_region.specs.State.{Rose};
-ghost use Rattle.pm_region.specs.Plans.{numbers_in, is_one_of, next_number};
+ghost use Rattle.pm_region.specs.State.{Rose, counted};
+ghost use Rattle.pm_region.specs.Plans.{numbers_in, is_one_of};
 
 use crate::split::AttachError;
 use std::alloc::{AllocError, Global};
@@ -37,8 +37,8 @@ impl Counts {
         ensures fault { OnErr result ((result ≡ Err AttachError.RegionFault) × Rose self.old.faults self.new.faults × Rose self.old.refusals self.new.refusals) }
         ensures later { (self.old.faults ≤ self.new.faults) × (self.old.refusals ≤ self.new.refusals) }
         ensures ok { OnOk result ((self.new.faults ≡ self.old.faults) × (self.new.refusals ≡ self.old.refusals)) }
-        ensures plan { IsErr result ↔ (is_one_of (next_number self.old.opens) self.old.plan.opens.items ≡ true) }
-        ensures counted { (self.new.opens ≡ next_number self.old.opens) × (self.new.plan ≡ self.old.plan) }
+        ensures plan { IsErr result ↔ (is_one_of (counted self.old.opens) self.old.plan.opens.items ≡ true) }
+        ensures counted { (self.new.opens ≡ counted self.old.opens) × (self.new.plan ≡ self.old.plan) }
     {
         self.opens = self.opens.saturating_add(1);
         if self.plan.opens.contains(&self.opens) {

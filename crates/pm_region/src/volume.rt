@@ -1,7 +1,7 @@
 // What the two regions in memory have in common: all but their counts.
 ghost use Rattle.std.specs.Prelude.{◌≡◌, ℕ, ◌+◌, ◌-◌, ◌*◌, ◌^◌, ◌≤◌, ◌<◌, List, [], true, false, length, slice_index, slice_index_or, IfOk, OnOk, OnErr, IsErrOf};
 ghost use Rattle.pm_region.specs.Cell.{Cell, certain, store_at, flush_line, fence_range, unchanged};
-ghost use Rattle.pm_region.specs.State.{State, Frame, IsTold, IsTelling, cell_now};
+ghost use Rattle.pm_region.specs.State.{State, Frame, IsTold, IsTelling, cell_now, counted};
 ghost use Rattle.pm_region.specs.Split.{words_in};
 ghost use Rattle.pm_region.specs.Bytes.{word_at};
 
@@ -13,7 +13,7 @@ use crate::pieces::{latest_stamp, take_back};
 use std::alloc::{AllocError, Global};
 
 /// Words in memory with their whole history, and how they are attached and split. `bytes` is the length of what an
-/// attach finds, which need not be whole words.
+/// attach finds, which need not be whole words; `opens` counts the calls of attach and create.
 #[derive(Drop)]
 pub struct Volume {
     pub history: History,
@@ -21,6 +21,7 @@ pub struct Volume {
     pub attached: bool,
     pub parted: bool,
     pub cuts: Vec<u64>,
+    pub opens: u64,
     ghost at_zero: { history.first ≡ 0 },
     ghost long: { length history.words.items ≡ words_in bytes },
     ghost within: { (i : ℕ) → i < length cuts.items → slice_index cuts.items i ≤ length history.words.items },
@@ -45,6 +46,7 @@ impl Volume {
             attached: false,
             parted: false,
             cuts: Vec::new(alloc),
+            opens: 0,
         })
     }
 
@@ -65,6 +67,7 @@ impl Volume {
             attached: false,
             parted: false,
             cuts: Vec::new(alloc),
+            opens: 0,
         })
     }
 
@@ -119,10 +122,18 @@ impl Volume {
         self.history.stand();
     }
 
+    /// Counts a call of attach or create.
+    pub fn count_open(&mut self)
+        ensures { self.new ≡ record self.old { opens = counted self.old.opens } }
+    {
+        self.opens = self.opens.saturating_add(1);
+    }
+
     pub fn attach(&mut self, alloc: Global) -> Result<(), AllocError>
         ensures ok { OnOk result (VolumeAttached self.old self.new self.old.bytes (found_in self.old)) }
         ensures wide { OnOk result ((w : ℕ) → w < volume_words self.new → found_in self.old w < 2 ^ 64) }
         ensures err { OnErr result (self.new ≡ self.old) }
+        ensures opens { self.new.opens ≡ self.old.opens }
         ensures limit { limit_of self.new ≡ limit_of self.old }
     {
         self.history.restart(alloc)?;
@@ -136,6 +147,7 @@ impl Volume {
         requires { words ≤ 33554944 }
         ensures ok { OnOk result (VolumeAttached self.old self.new (8 * words) (λ w. 0)) }
         ensures err { OnErr result (self.new ≡ self.old) }
+        ensures opens { self.new.opens ≡ self.old.opens }
         ensures limit { limit_of self.new ≡ limit_of self.old }
     {
         let zeros = vec![in alloc; 0; words as usize]?;
@@ -152,6 +164,7 @@ impl Volume {
         requires { (i : ℕ) → i < length cuts.items → slice_index cuts.items i ≤ volume_words self.old }
         ensures ok { OnOk result (VolumeParted self.old self.new cuts.items) }
         ensures err { OnErr result (VolumeStays self.old self.new) }
+        ensures opens { self.new.opens ≡ self.old.opens }
         ensures limit { limit_of self.new ≡ limit_of self.old }
     {
         self.history.make_room(pieces)?;
@@ -167,6 +180,7 @@ impl Volume {
         requires pieces { (i : ℕ) (p : P) → i < length pieces.now → CamePart self.old i (P.part (slice_index_or pieces.now i p)) }
         ensures whole { VolumeJoined self.old self.new }
         ensures pieces { (i : ℕ) (p : P) → i < length pieces.now → TakesPart self.new (P.part (slice_index_or pieces.now i p)) }
+        ensures opens { self.new.opens ≡ self.old.opens }
         ensures limit { limit_of self.new ≡ limit_of self.old }
     {
         let before = self.history.journal.is_complete();
