@@ -14,6 +14,7 @@ mod plan;
 mod region;
 mod split;
 mod steady;
+mod step;
 mod volume;
 mod word_cells;
 
