@@ -66,6 +66,7 @@ pub fn peek_from<R: Region>(region: &R, first: u64, place: u64, tail: u64) -> Op
     ensures next { IsTelling (R.state region.now) → IfSome result (λ p. IsBetween p.next (scan_of (words_from (lasts (R.state region.now)) first tail)).entries) }
     ensures within { IfSome result (λ p. (place ≤ p.place) × ((p.place < p.next) × (p.next ≤ tail))) }
     ensures at { IfSome result (λ p. p.at ≡ first + p.place) }
+    ensures size { IfSome result (λ p. p.next ≤ p.place + 34) }
 {
     let at = skip_zeros(region, first, place, tail);
     if at >= tail {
