@@ -2,11 +2,14 @@
 #![tactic(auto)]
 
 mod bytes;
+mod calls;
+mod device;
 mod file;
 mod file_words;
 mod history;
 mod image;
 mod journal;
+mod line_set;
 mod mem;
 mod part;
 mod pieces;
