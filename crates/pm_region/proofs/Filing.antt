@@ -3,7 +3,7 @@ use Rattle.std.proofs.Common.{◌≡◌, ⊎_elim, ℕ, ◌+◌, ◌<◌, List, 
 use Rattle.std.proofs.lemmas.Bool.{cases_eq}
 use Rattle.std.proofs.lemmas.List.{get_or_push, get_or_append_left}
 use Rattle.pm_region.specs.Files.{IsFilePart, AreFileParts}
-use Rattle.pm_region.specs.declared.file.FilePiece.{FilePiece}
+use Rattle.pm_region.specs.declared.file_piece.FilePiece.{FilePiece}
 
 pub file_parts_more : (cuts : List ℕ) (stamp faults : ℕ) (pieces pieces' : List FilePiece) (i : ℕ) (q : FilePiece) → AreFileParts cuts stamp faults pieces i → IsFilePart cuts stamp faults i q
     → pieces' ≡ pieces ++ q ∷ [] → AreFileParts cuts stamp faults pieces' (i + 1)

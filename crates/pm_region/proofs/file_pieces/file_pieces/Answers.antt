@@ -1,7 +1,7 @@
 use Rattle.std.proofs.Common.{get_or, refl}
-use Rattle.pm_region.specs.declared.file.FilePiece.{FilePiece}
+use Rattle.pm_region.specs.declared.file_piece.FilePiece.{FilePiece}
 use Rattle.pm_region.proofs.Filing.{file_parts_more}
-use Rattle.pm_region.proofs.file.file_pieces.Goals as goal
+use Rattle.pm_region.proofs.file_pieces.file_pieces.Goals as goal
 
 pub loop-i-preserved : goal.loop-i-preserved
 loop-i-preserved g c =
