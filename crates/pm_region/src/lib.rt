@@ -22,6 +22,7 @@ mod line_runs;
 mod split;
 mod steady;
 mod volume;
+mod word_cells;
 
 pub use file::FileRegion;
 pub use file_piece::FilePiece;
