@@ -8,7 +8,7 @@ use Rattle.std.proofs.lemmas.List.Elements.{All-get_or, All-from_get_or}
 use Rattle.std.proofs.lemmas.List.Sorted.{All-permutation, IsPermutation-sym, length_permutation}
 use Rattle.std.specs.List.{All}
 use Rattle.std.specs.List.Sorted.{IsPermutation}
-use Rattle.std.proofs.lemmas.List.Sums.{sum_by-set}
+use Rattle.std.proofs.lemmas.List.Sums.{sum_by-cons, sum_by-set}
 use Rattle.pm_region.specs.Marks.{one_if, marked_in, is_marked, IsUnlisted, KeepsLines}
 
 true_or_false : (b : Bool) → (b ≡ true → ⊥) → b ≡ false
@@ -16,24 +16,13 @@ true_or_false b = elim b as (λ v. (v ≡ true → ⊥) → v ≡ false) [ true 
 
 pub at_most_all : (marks : List Bool) → marked_in marks ≤ length marks
 at_most_all [] = omega arith
-at_most_all (true ∷ marks) =
-    let h = at_most_all marks in
-    let m : marked_in (true ∷ marks) ≡ suc (marked_in marks) = refl in
-    let n : length (true ∷ marks) ≡ suc (length marks) = refl in
-    omega (arith, h, m, n)
-at_most_all (false ∷ marks) =
-    let h = at_most_all marks in
-    let m : marked_in (false ∷ marks) ≡ marked_in marks = refl in
-    let n : length (false ∷ marks) ≡ suc (length marks) = refl in
-    omega (arith, h, m, n)
+at_most_all (true ∷ marks) = let h = at_most_all marks in let m = sum_by-cons one_if true marks in omega (arith, h, m)
+at_most_all (false ∷ marks) = let h = at_most_all marks in let m = sum_by-cons one_if false marks in omega (arith, h, m)
 
 pub no_marks : (marks : List Bool) → ((k : ℕ) → is_marked marks k ≡ false) → marked_in marks ≡ 0
 no_marks [] none = refl
 no_marks (true ∷ marks) none = let h : true ≡ false = none 0 in absurd (cc)
-no_marks (false ∷ marks) none =
-    let m : marked_in (false ∷ marks) ≡ marked_in marks = refl in
-    let h = no_marks marks (λ k. none (suc k)) in
-    omega (arith, h, m)
+no_marks (false ∷ marks) none = let h = no_marks marks (λ k. none (suc k)) in let m = sum_by-cons one_if false marks in omega (arith, h, m)
 
 -- one more is marked
 pub one_more : (marks : List Bool) (line : ℕ) → line < length marks → is_marked marks line ≡ false → marked_in (set marks line true) ≡ marked_in marks + 1

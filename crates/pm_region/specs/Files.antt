@@ -1,5 +1,9 @@
 -- What a region in a file and its pieces say of themselves: nothing of their contents.
 use Rattle.std.specs.Prelude.{◌≡◌, ◌⊎◌, ℕ, ◌+◌, ◌/◌, ◌≤◌, ◌<◌, length, slice_index, slice_index_or, Bool, true, false, if◌then◌else◌, [], List, Option, IsSome, IfSome}
+use Rattle.std.specs.declared.fs.File.{File}
+use Rattle.std.specs.declared.io.traits.Read as Read
+use Rattle.std.specs.declared.io.traits.Write as Write
+use Rattle.std.specs.declared.io.traits.Seek as Seek
 use Rattle.pm_region.specs.Cell.{certain}
 use Rattle.pm_region.specs.State.{State, Frame}
 use Rattle.pm_region.specs.Split.{words_in}
@@ -27,7 +31,7 @@ file_frame size parted cuts since refusals opens = record {
   opens = opens;
 }
 
-abbrev pub file_state : {R F : Type 0} → FileRegion R F → State
+abbrev pub file_state : {R F : Type 0} {reads : Read.Ghosts File} {writes : Write.Ghosts File} {seeks : Seek.Ghosts File} {lists : Read.Ghosts F} → FileRegion R F reads writes seeks lists → State
 file_state r = silent_state (file_frame r.words.size r.parted r.cuts.items r.since r.refusals r.opens) r.stamp r.faults
 
 -- the piece from one cut to the next of these words, at this stamp and count

@@ -16,14 +16,6 @@ use std::alloc::Global;
 use std::fs::File;
 use std::rt::Files;
 
-impl From<RegionFault> for AttachError {
-    ghost from_gives = { λ _ e. e ≡ AttachError.RegionFault };
-
-    fn from(_: RegionFault) -> AttachError {
-        AttachError::RegionFault
-    }
-}
-
 /// A region in a file, which is locked while it is attached. It keeps the words in memory; a fence writes the flushed
 /// lines and syncs the file. A file that is missing, is locked or can't be read or written is a fault, which is
 /// counted. A file that can only be read is attached too, and its first fence is a fault. It tells nothing of its

@@ -11,6 +11,16 @@ use std::alloc::Global;
 use std::fs::File;
 use std::rt::Files;
 
+impl From<RegionFault> for AttachError {
+    ghost use Rattle.pm_region.specs.declared.split.AttachError.TheVariants.{RegionFault};
+
+    ghost from_gives = { λ _ e. e ≡ RegionFault };
+
+    fn from(_: RegionFault) -> AttachError {
+        AttachError::RegionFault
+    }
+}
+
 /// The file as it stands. Its words are read at once.
 pub fn open_words<R: Files<File = File>>(
     alloc: Global,

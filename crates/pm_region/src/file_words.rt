@@ -2,12 +2,11 @@
 ghost use Rattle.std.specs.Prelude.{◌≡◌, ℕ, ◌+◌, ◌-◌, ◌*◌, ◌/◌, ◌%◌, ◌≤◌, ◌<◌, length};
 ghost use Rattle.pm_region.specs.Split.{words_in};
 
-use crate::bytes::word_count;
+use crate::bytes::{set_word, set_words, word, word_count};
 use crate::device::Device;
 use crate::line_set::LineSet;
 use crate::region::RegionFault;
 use crate::line_runs::write_runs;
-use byteorder::{ByteOrder, LittleEndian};
 use std::alloc::{AllocError, Global};
 
 /// How many words a line has.
@@ -60,14 +59,14 @@ impl FileWords {
         requires { place < words_in self.now.size }
         ensures { result ≡ word_of self.now place }
     {
-        LittleEndian::read_u64(&self.bytes[8 * place as usize..])
+        word(&self.bytes, place)
     }
 
     pub fn store(&mut self, place: u64, value: u64)
         requires { place < words_in self.old.size }
         ensures { IsStored self.old self.new place value }
     {
-        LittleEndian::write_u64(&mut self.bytes[8 * place as usize..], value);
+        set_word(&mut self.bytes, place, value);
     }
 
     /// Remembers a line. It takes no memory.
@@ -106,7 +105,8 @@ impl FileWords {
         ensures { IfOk result (IsPart self.now from end) }
     {
         let bytes = self.bytes[8 * from as usize..8 * end as usize].to_vec(alloc)?;
-        FileWords::new(alloc, 8 * (end - from), bytes)
+        let part = FileWords::new(alloc, 8 * (end - from), bytes)?;
+        Ok(part)
     }
 
     /// Takes the words of a part back that begins at the place `first`, with what is flushed of them.
@@ -115,8 +115,7 @@ impl FileWords {
         requires within { first + words_in part.now.size ≤ words_in self.old.size }
         ensures { TakesPart self.old self.new part.now first }
     {
-        let low = 8 * first as usize;
-        self.bytes[low..low + part.bytes.len()].copy_from_slice(&part.bytes);
+        set_words(&mut self.bytes, first, &part.bytes);
         self.flushed.insert_all(&part.flushed, (first / LINE_WORDS) as u32);
     }
 }

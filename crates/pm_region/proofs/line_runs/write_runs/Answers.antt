@@ -1,5 +1,5 @@
-use Rattle.std.proofs.Common.{◌≡◌, ℕ, ◌+◌, ◌-◌, ◌*◌, ◌≤◌, List, length, get_or, sym, subst, arith}
-use Rattle.pm_region.specs.Calls.{Call}
+use Rattle.std.proofs.Common.{◌≡◌, ℕ, ◌+◌, ◌-◌, ◌*◌, ◌≤◌, List, ◌∷◌, length, get_or, take, drop, sym, subst, arith}
+use Rattle.pm_region.specs.Calls.{Call, wrote}
 use Rattle.pm_region.specs.LineRuns.{AreRuns}
 use Rattle.pm_region.proofs.Writing.{no_runs, one_run}
 use Rattle.pm_region.proofs.line_runs.write_runs.Goals as goal
@@ -32,7 +32,8 @@ loop-from-preserved c =
     let fits : 64 * get_or lines from 0 + 64 * (end - from) ≤ length bytes = omega (arith, last, fits_last) in
     let same : from + (end - from) ≡ end = omega arith in
     let more = one_run start lines bytes from (end - from) before c.loop-from.device.calls.made c.loop-from.invariant.runs fits (λ j lt. c.run_end-end.ensures.neighbours j (omega arith)) in
+    let now : List Call = wrote (start + 64 * get_or lines from 0) (take (64 * (end - from)) (drop (64 * get_or lines from 0) bytes)) ∷ c.loop-from.device.calls.made in
     record {
       low = most;
-      runs = subst (λ (calls : List Call). AreRuns start lines bytes end before calls) (sym c.in_ok-write_run.ensures) (subst (λ (n : ℕ). AreRuns start lines bytes n before _) same more);
+      runs = subst (λ (calls : List Call). AreRuns start lines bytes end before calls) (sym c.in_ok-write_run.ensures) (subst (λ (n : ℕ). AreRuns start lines bytes n before now) same more);
     }
