@@ -1,10 +1,10 @@
 -- The parts of a region in a file.
-use Rattle.std.proofs.Common.{◌≡◌, ◌⊎◌, inl, ⊎_elim, ℕ, zero, suc, ◌+◌, ◌/◌, ◌≤◌, ◌<◌, true, refl, List, [], ◌∷◌, ◌++◌, length, get_or, sym, ◌∙◌, ap, subst, arith, length-append}
+use Rattle.std.proofs.Common.{◌≡◌, ◌⊎◌, inl, ⊎_elim, ℕ, zero, suc, ◌+◌, ◌-◌, ◌/◌, ◌≤◌, ◌<◌, true, refl, List, [], ◌∷◌, ◌++◌, length, get_or, sym, ◌∙◌, ap, subst, arith, length-append}
 use Rattle.std.proofs.lemmas.Bool.{cases_eq}
 use Rattle.std.proofs.lemmas.List.{get_or_push, get_or_append_left}
-use Rattle.pm_region.specs.Split.{words_in}
+use Rattle.pm_region.specs.Split.{words_in, AreCuts, IsBetween}
 use Rattle.pm_region.specs.Filed.{word_of, flushes, TakesPart}
-use Rattle.pm_region.specs.Files.{IsFilePart, AreFileParts, ArePlaced, IsInNone, HaveTaken, end_of}
+use Rattle.pm_region.specs.Files.{IsFilePart, AreFileParts, ArePlaced, IsInNone, HaveTaken, end_of, file_piece_state}
 use Rattle.pm_region.specs.declared.file_words.FileWords.{FileWords}
 use Rattle.pm_region.specs.declared.file_piece.FilePiece.{FilePiece}
 
@@ -70,3 +70,29 @@ taken_more old now new words i pieces q lt placed is have takes = record {
 
     line_here : (j : ℕ) (p : FilePiece) (line : ℕ) → j ≡ i → flushes (get_or pieces j p).words line ≡ true → flushes new ((get_or pieces j p).first / 8 + line) ≡ true
     line_here j p line e = subst (λ (s : FilePiece). flushes s.words line ≡ true → flushes new (s.first / 8 + line) ≡ true) (sym (at j p e)) (takes.takes line)
+
+-- the cuts rise from any to any later one
+pub cuts_rise : (words : ℕ) (cuts : List ℕ) (n j : ℕ) → AreCuts words cuts → j + n < length cuts → get_or cuts j 0 ≤ get_or cuts (j + n) 0
+cuts_rise words cuts zero j are lt =
+    let e : j ≡ j + zero = omega arith in
+    let same : get_or cuts j 0 ≤ get_or cuts j 0 = omega arith in
+    subst (λ (m : ℕ). get_or cuts j 0 ≤ get_or cuts m 0) e same
+cuts_rise words cuts (suc n) j are lt =
+    let before = cuts_rise words cuts n j are (omega arith) in
+    let step = are.rising (j + n) (omega arith) in
+    let e : j + suc n ≡ j + n + 1 = omega arith in
+    subst (λ (m : ℕ). get_or cuts j 0 ≤ get_or cuts m 0) (sym e) (omega (arith, before, step))
+
+-- the pieces of a region lie one behind the other
+pub pieces_placed : (words : ℕ) (cuts : List ℕ) (pieces : List FilePiece) → AreCuts words cuts → length pieces ≡ length cuts - 1
+    → ((i : ℕ) (p : FilePiece) → i < length pieces → IsBetween (file_piece_state (get_or pieces i p)).frame cuts i) → ArePlaced words pieces
+pieces_placed words cuts pieces are count between = record {
+  within = λ i p lt. let b = (between i p lt).end in let w = are.within (i + 1) (omega arith) in omega (arith, b, w);
+  apart = λ j i p below lt.
+    let b = (between j p (omega arith)).end in
+    let f = (between i p lt).first in
+    let far = cuts_rise words cuts (i - (j + 1)) (j + 1) are (omega arith) in
+    let e : j + 1 + (i - (j + 1)) ≡ i = omega arith in
+    let far' : get_or cuts (j + 1) 0 ≤ get_or cuts i 0 = subst (λ (m : ℕ). get_or cuts (j + 1) 0 ≤ get_or cuts m 0) e far in
+    omega (arith, b, f, far');
+}

@@ -6,7 +6,7 @@ ghost use Rattle.pm_region.specs.Split.{words_in, AreCuts};
 
 use crate::bytes::word_count;
 use crate::device::Device;
-use crate::file_open::{create_words, fence_file, open_words};
+use crate::file_open::{create_words, fence_file, open_words, write_pending};
 use crate::file_piece::FilePiece;
 use crate::file_pieces::{absorb_all, file_pieces, latest_of, most_faults};
 use crate::file_words::FileWords;
@@ -134,6 +134,7 @@ impl<R: Files<File = File> + Drop> Region for FileRegion<R> {
 
 impl<R: Files<File = File> + Drop> SplitRegion for FileRegion<R> {
     ghost use Rattle.pm_region.specs.Files.{file_state, file_piece_state, file_frame, AreFileParts, HaveTaken, HasOpened, HasMade};
+    ghost use Rattle.pm_region.specs.Filed.{flushes};
     ghost use Rattle.pm_region.specs.Split.{Attached, Stays, Refuses, IsPiece, Parted, CameFrom, TakesPiece, Joined, IsOpenedOnceMore, IsNotOpened, ComesNext};
 
     type Piece = FilePiece;
@@ -204,9 +205,23 @@ impl<R: Files<File = File> + Drop> SplitRegion for FileRegion<R> {
         ensures cause { Refuses (file_state self.old) (file_state self.new) result }
         ensures opens { IsNotOpened (file_state self.old) (file_state self.new) }
         ensures parts { IfOk result (λ pieces. AreFileParts self.old.words cuts.now self.old.stamp self.old.faults pieces.items (length cuts.now - 1)) }
+        ensures clean { OnOk result ((line : ℕ) → flushes self.new.words line ≡ false) }
     {
         let kept = cuts.to_vec(alloc)?;
-        match self.pieces(alloc, cuts) {
+        if write_pending(&mut self.words, &mut self.device).is_err() {
+            self.refuse(AttachError::RegionFault);
+            return Err(AttachError::RegionFault);
+        }
+        match file_pieces(
+            alloc,
+            &self.rt,
+            &self.device,
+            &self.words,
+            cuts,
+            &self.path,
+            self.stamp,
+            self.faults,
+        ) {
             Ok(pieces) => {
                 self.parted = true;
                 self.cuts = kept;
@@ -242,8 +257,7 @@ impl<R: Files<File = File> + Drop> SplitRegion for FileRegion<R> {
 }
 
 impl<R: Files<File = File> + Drop> FileRegion<R> {
-    ghost use Rattle.pm_region.specs.Files.{file_state, file_frame, AreFileParts};
-    ghost use Rattle.pm_region.specs.Filed.{IsKept, flushes};
+    ghost use Rattle.pm_region.specs.Files.{file_state, file_frame};
 
     // Begins with these words.
     fn begin(&mut self, words: FileWords)
@@ -258,34 +272,10 @@ impl<R: Files<File = File> + Drop> FileRegion<R> {
         self.stamp = 0;
     }
 
-    // The pieces between the cuts. What is flushed is written first, if there is any.
-    fn pieces(&mut self, alloc: Global, cuts: &[u64]) -> Result<Vec<FilePiece>, AttachError>
-        requires cuts { AreCuts (words_in self.old.words.size) cuts.now }
-        ensures parts { IfOk result (λ pieces. AreFileParts self.old.words cuts.now self.old.stamp self.old.faults pieces.items (length cuts.now - 1)) }
-        ensures same { self.new ≡ record self.old { words = self.new.words; device = self.new.device; cuts_fit = self.new.cuts_fit } }
-        ensures size { self.new.words.size ≡ self.old.words.size }
-    {
-        if !self.words.is_clean() {
-            fence_file(&mut self.words, &mut self.device)?;
-        }
-        match &self.device {
-            Some(device) => file_pieces(
-                alloc,
-                &self.rt,
-                device,
-                &self.words,
-                cuts,
-                &self.path,
-                self.stamp,
-                self.faults,
-            ),
-            None => Err(AttachError::RegionFault),
-        }
-    }
-
     // Counts a fault.
     fn refuse(&mut self, why: AttachError)
-        ensures words { self.new ≡ record self.old { faults = self.new.faults; refusals = self.new.refusals } }
+        ensures frame { (file_state self.new).frame ≡ record (file_state self.old).frame { refusals = self.new.refusals } }
+        ensures stamp { self.new.stamp ≡ self.old.stamp }
         ensures later { (self.old.faults ≤ self.new.faults) × (self.old.refusals ≤ self.new.refusals) }
         ensures fault { why ≡ AttachError.RegionFault → Rose self.old.faults self.new.faults × Rose self.old.refusals self.new.refusals }
         ensures memory { why ≡ AttachError.Memory → (self.new.faults ≡ self.old.faults) × (self.new.refusals ≡ self.old.refusals) }

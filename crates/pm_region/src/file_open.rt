@@ -1,6 +1,6 @@
 // How the file of a region is opened, made and written.
-ghost use Rattle.std.specs.Prelude.{◌≡◌, ℕ, ◌*◌, ◌≤◌, IfOk, OnOk, OnErr};
-ghost use Rattle.pm_region.specs.Filed.{calls_on, IsOpened, IsMade, IsFenced, IsKept};
+ghost use Rattle.std.specs.Prelude.{false, ◌≡◌, ℕ, ◌*◌, ◌≤◌, IfOk, OnOk, OnErr};
+ghost use Rattle.pm_region.specs.Filed.{calls_on, IsOpened, IsMade, IsFenced, IsKept, flushes};
 
 use crate::bytes::word_count;
 use crate::device::Device;
@@ -66,5 +66,18 @@ pub fn fence_file(words: &mut FileWords, device: &mut Option<Device>) -> Result<
     match device {
         Some(device) => words.write_flushed(device, 0),
         None => Err(RegionFault),
+    }
+}
+
+/// Writes what is flushed, if anything is.
+pub fn write_pending(words: &mut FileWords, device: &mut Option<Device>) -> Result<(), RegionFault>
+    ensures size { words.new.size ≡ words.old.size }
+    ensures bytes { words.new.bytes ≡ words.old.bytes }
+    ensures clean { OnOk result ((line : ℕ) → flushes words.new line ≡ false) }
+{
+    if words.is_clean() {
+        Ok(())
+    } else {
+        fence_file(words, device)
     }
 }

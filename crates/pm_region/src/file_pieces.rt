@@ -15,7 +15,7 @@ use std::rt::Files;
 pub fn file_pieces<R: Files<File = File>>(
     alloc: Global,
     rt: &R,
-    device: &Device,
+    device: &Option<Device>,
     words: &FileWords,
     cuts: &[u64],
     path: &str,
@@ -25,6 +25,9 @@ pub fn file_pieces<R: Files<File = File>>(
     requires cuts { AreCuts (words_in words.now.size) cuts.now }
     ensures { IfOk result (λ pieces. AreFileParts words.now cuts.now stamp faults pieces.items (length cuts.now - 1)) }
 {
+    let Some(device) = device else {
+        return Err(AttachError::RegionFault);
+    };
     let mut pieces = Vec::new(alloc);
     for i in 0..cuts.len().saturating_sub(1) {
         let device = device.again(rt, path)?;
