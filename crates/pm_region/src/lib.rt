@@ -34,4 +34,6 @@ pub use split::{AttachError, SplitRegion};
 pub use steady::{SteadyPiece, SteadyRegion};
 
 #[cfg(test)]
+mod file_tests;
+#[cfg(test)]
 mod tests;
