@@ -1,10 +1,12 @@
 // Words and lines of a region are stored, flushed and made certain. Addresses are word numbers of the region.
-ghost use Rattle.std.specs.Prelude.{◌≡◌, ◌⊎◌, ℕ, ◌+◌, ◌*◌, ◌/◌, ◌^◌, ◌≤◌, ◌<◌, [], length, slice_index, OnOk, OnErr};
+ghost use Rattle.std.specs.Prelude.{◌≡◌, ◌⊎◌, ℕ, ◌+◌, ◌*◌, ◌/◌, ◌^◌, ◌≤◌, ◌<◌, [], length, slice_index, IfOk, OnOk, OnErr};
 ghost use Rattle.pm_region.specs.Cell.{Cell, certain};
 ghost use Rattle.pm_region.specs.State.{State, During, IsTelling, LineInRange, cell_now, Rose};
-ghost use Rattle.pm_region.specs.Words.{KeepsOutside, Sets};
+ghost use Rattle.pm_region.specs.Words.{KeepsOutside, Sets, lasts};
 
+use fs_errors::Memory;
 use pm_region::{Region, RegionFault};
+use std::alloc::Global;
 
 /// Stores a word and makes it certain: one store, one flush of its line, one fence. At every moment the word
 /// may be what it might be before or the new value.
@@ -45,4 +47,24 @@ pub fn flush_lines<R: Region>(region: &mut R, line: u64, count: u64)
     for i in 0..count {
         region.flush(line + i);
     }
+}
+
+/// So many words of the region, from a word on, as a load gives each of them.
+pub fn load_words<R: Region>(
+    alloc: Global,
+    region: &R,
+    first: u64,
+    count: u64,
+) -> Result<Vec<u64>, Memory>
+    requires low { (R.state region.now).frame.first ≤ first }
+    requires high { first + count ≤ (R.state region.now).frame.first + (R.state region.now).frame.words }
+    requires fits { first + count < 2 ^ 64 }
+    ensures long { IfOk result (λ words. length words.items ≡ count) }
+    ensures words { IfOk result (λ words. IsTelling (R.state region.now) → (k : ℕ) → k < count → slice_index words.items k ≡ lasts (R.state region.now) (first + k)) }
+{
+    let mut words = Vec::with_capacity(alloc, count as usize)?;
+    for i in 0..count {
+        words.push(region.load(first + i))?;
+    }
+    Ok(words)
 }

@@ -41,12 +41,19 @@ some_spelled [] some = absurd (omega (arith, some))
 some_spelled (e ∷ es) some = let a = some_words e.key e.version e.body in let b = length-append (words_of e) (flat_map words_of es) in omega (arith, a, b)
 
 -- where there is room for entries a chunk is open
-pub room_opens : (log : LogState) (ws : List ℕ) → HoldsEntries ws → lines_for (length ws) ≤ room_of log → is_some log.opened ≡ true
-room_opens log ws holds room = by_opened log.opened room
+pub some_opens : (log : LogState) (ws : List ℕ) → 0 < length ws → lines_for (length ws) ≤ room_of log → is_some log.opened ≡ true
+some_opens log ws some room = by_opened log.opened room
   where
     by_opened : (o : Option ℕ) → lines_for (length ws) ≤ lines_left log o → is_some o ≡ true
-    by_opened None le = let some = some_spelled holds.entries holds.batch.some in let long = ap length holds.words in absurd (omega (arith, le, some, long))
+    by_opened None le = absurd (omega (arith, le, some))
     by_opened (Some j) le = refl
+
+-- entries have words
+pub holds_some : (ws : List ℕ) → HoldsEntries ws → 0 < length ws
+holds_some ws holds = let some = some_spelled holds.entries holds.batch.some in let long = ap length holds.words in omega (arith, some, long)
+
+pub room_opens : (log : LogState) (ws : List ℕ) → HoldsEntries ws → lines_for (length ws) ≤ room_of log → is_some log.opened ≡ true
+room_opens log ws holds room = some_opens log ws (holds_some ws holds) room
 
 is_number : (o : Option ℕ) → is_some o ≡ true → o ≡ Some (unwrap_or o 0)
 is_number None some = absurd (cc some)
@@ -155,7 +162,7 @@ entries_run s t log ws stands some room run es words batch =
     (λ telling m each image may. entries_or_lacks s log stands some telling ws es words batch room image (each image may)) run
 
 -- the log after the batch
-module _ (s t : State) (log log' : LogState) (ws : List ℕ) (stands : StandsIn s log) (some : is_some log.opened ≡ true) (holds : HoldsEntries ws) (room : lines_for (length ws) ≤ room_of log)
+module _ (s t : State) (log log' : LogState) (ws : List ℕ) (stands : StandsIn s log) (some : is_some log.opened ≡ true) (holds_told : IsTelling s → HoldsEntries ws) (room : lines_for (length ws) ≤ room_of log)
     (outside : During s t (KeepsOutside (cell_now s) (open_first log) (open_first log + chunk_words log.layout)))
     (app : IsTelling t → Appended s t (open_first log) (open_tail log) (padded ws))
     (log_is : log' ≡ record log { chunks = with_tail log.chunks (open_number log) (open_tail log + 8 * lines_for (length ws)) }) where
@@ -171,6 +178,7 @@ module _ (s t : State) (log log' : LogState) (ws : List ℕ) (stands : StandsIn 
   spells : IsTelling t → Spelled (words_now t (open_first log) (open_tail log + length (padded ws)))
   spells telling =
       let was = open_spelled s log stands some (told_before telling) in
+      let holds = holds_told (told_before telling) in
       let same : padded ws ≡ batch_words holds.entries = ap padded holds.words in
       let words : words_now t (open_first log) (open_tail log + length (padded ws)) ≡ words_now s (open_first log) (open_tail log) ++ batch_words holds.entries =
       (app telling).words_are ∙ ap (λ (xs : List ℕ). words_now s (open_first log) (open_tail log) ++ xs) same in

@@ -11,4 +11,3 @@ mod walking;
 
 pub use log::CoreLog;
 pub use types::{LogChunk, Peek, Placed, Room, WalkStep};
-pub use walking::load_words;

@@ -153,7 +153,8 @@ impl CoreLog {
         batch: &WordBuffer,
     ) -> Result<Placed, RegionFault>
         requires stands { StandsIn (R.state region.old) self.old }
-        requires entries { HoldsEntries batch.now.words }
+        requires some { 0 < length batch.now.words }
+        requires entries { IsTelling (R.state region.old) → HoldsEntries batch.now.words }
         requires room { lines_for (length batch.now.words) ≤ room_of self.old }
         // The words before the tail, with the whole batch or without it.
         ensures moments { During (R.state region.old) (R.state region.new) (EachInOpen self.old (HasOrLacks (open_first self.old) (open_tail self.old)
@@ -246,6 +247,7 @@ impl CoreLog {
         ensures next { IfSome result (λ p. IsReadable (R.state region.now) self.now chunk p.next) }
         ensures within { IfSome result (λ p. (place ≤ p.place) × (p.place < p.next)) }
         ensures at { IfSome result (λ p. p.at ≡ first_of self.now chunk + 32 + p.place) }
+        ensures size { IfSome result (λ p. p.next ≤ p.place + 34) }
     {
         let first = self.first_of(chunk) + 32;
         let tail = self.tail_in(chunk);

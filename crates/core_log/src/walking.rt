@@ -9,6 +9,7 @@ ghost use Rattle.core_log.specs.Log.{Spelled};
 ghost use Rattle.core_log.specs.Walking.{IsBetween, next_entry, step_at, peek_at};
 
 use crate::types::{Peek, WalkStep};
+use chunk_map::words::load_words;
 use fs_errors::Memory;
 use log_entry::{EntryName, Read, read_entry};
 use pm_region::Region;
@@ -53,26 +54,6 @@ fn skip_zeros<R: Region>(region: &R, first: u64, place: u64, tail: u64) -> u64
     tail
 }
 
-/// So many words of the region, from a word on. The number is the word's in the region.
-pub fn load_words<R: Region>(
-    alloc: Global,
-    region: &R,
-    first: u64,
-    count: u64,
-) -> Result<Vec<u64>, Memory>
-    requires low { (R.state region.now).frame.first ≤ first }
-    requires high { first + count ≤ (R.state region.now).frame.first + (R.state region.now).frame.words }
-    requires fits { first + count < 2 ^ 64 }
-    ensures long { IfOk result (λ words. length words.items ≡ count) }
-    ensures words { IfOk result (λ words. IsTelling (R.state region.now) → words.items ≡ words_from (lasts (R.state region.now)) first count) }
-{
-    let mut words = Vec::with_capacity(alloc, count as usize)?;
-    for i in 0..count {
-        words.push(region.load(first + i))?;
-    }
-    Ok(words)
-}
-
 // The next entry at or after a place of a payload, without its body. The payload begins at word `first`.
 pub fn peek_from<R: Region>(region: &R, first: u64, place: u64, tail: u64) -> Option<Peek>
     requires low { (R.state region.now).frame.first ≤ first }
@@ -85,6 +66,7 @@ pub fn peek_from<R: Region>(region: &R, first: u64, place: u64, tail: u64) -> Op
     ensures next { IsTelling (R.state region.now) → IfSome result (λ p. IsBetween p.next (scan_of (words_from (lasts (R.state region.now)) first tail)).entries) }
     ensures within { IfSome result (λ p. (place ≤ p.place) × ((p.place < p.next) × (p.next ≤ tail))) }
     ensures at { IfSome result (λ p. p.at ≡ first + p.place) }
+    ensures size { IfSome result (λ p. p.next ≤ p.place + 34) }
 {
     let at = skip_zeros(region, first, place, tail);
     if at >= tail {

@@ -1,4 +1,4 @@
-//! The one error that any crate of the store may answer.
+//! The one error that any crate of the store may answer, and what it means that a count rose.
 #![tactic(auto)]
 
 use std::alloc::{AllocError, AllocFailed};

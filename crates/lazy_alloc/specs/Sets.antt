@@ -2,6 +2,7 @@
 use Rattle.std.specs.Prelude.{◌≡◌, ◌⊎◌, ℕ, ◌+◌, ◌-◌, ◌*◌, ◌/◌, ◌%◌, ◌^◌, ◌<◌, ◌==◌, ◌&&◌, ◌||◌, not, nat_le, List, Bool, true, false, slice_get, Option, Some, None, is_none, if◌then◌else◌, count_by}
 use Rattle.std.specs.Option.{option_map_or, option_and_then}
 use Rattle.chunk_map.specs.declared.layouts.Geometry.{Geometry}
+pub use Rattle.chunk_map.specs.Chunks.{blocks_in}
 use Rattle.chunk_map.specs.Layouts.{numbers, is_class}
 use Rattle.store_image.specs.Parts.{chunk_units, chunk_at, unit_at, is_start}
 
@@ -53,10 +54,6 @@ free_chunk_count a = count_by (chunk_is_free a) (numbers 0 a.layout.chunks)
 abbrev pub free_block_count : Sets → ℕ → ℕ
 free_block_count a class =
     count_by (is_free_block a class) (numbers (part_unit a) (a.layout.chunks * chunk_units a.layout))
-
--- how many blocks of a class a chunk holds
-abbrev pub blocks_in : Geometry → ℕ → ℕ
-blocks_in l class = (chunk_units l - 1) / 2 ^ class
 
 -- the pointer of a chunk's first block
 abbrev pub first_block : Sets → ℕ → ℕ

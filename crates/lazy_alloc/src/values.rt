@@ -4,7 +4,7 @@ ghost use Rattle.pm_region.specs.State.{IsTelling};
 ghost use Rattle.pm_region.specs.Words.{lasts};
 ghost use Rattle.store_image.specs.Parts.{held_by};
 
-use core_log::load_words;
+use chunk_map::words::load_words;
 use fs_errors::Memory;
 use fs_model::Value;
 use log_entry::packing::{unpack, words_for};

@@ -9,21 +9,21 @@ use Rattle.pm_region.specs.Volumes.{part_frame, volume_state}
 use Rattle.pm_region.specs.declared.history.History.{History}
 use Rattle.pm_region.specs.declared.volume.Volume.{Volume}
 use Rattle.pm_region.specs.declared.journal.Journal.{Journal}
-use Rattle.pm_region.specs.declared.journal.Step.{Step}
+use Rattle.pm_region.specs.declared.step.Step.{Step}
 use Rattle.pm_region.proofs.Now.{now_cell, telling_complete, complete_telling}
 
-goes_on_complete : (old new : Journal) → GoesOnFrom old new → IsComplete old → IsComplete new
-goes_on_complete old new goes complete = record { kept = omega (arith, goes.stamp, goes.limit, complete.kept); below = omega (arith, goes.stamp, complete.below) }
+goes_on_complete : (old new : Journal) (from end : ℕ) → GoesOnFrom old from end new → IsComplete old → IsComplete new
+goes_on_complete old new from end goes complete = record { kept = omega (arith, goes.stamp, goes.limit, complete.kept); below = omega (arith, goes.stamp, complete.below) }
 
-was_complete : (old new : Journal) → GoesOnFrom old new → IsComplete new → IsComplete old
-was_complete old new goes complete = record { kept = omega (arith, goes.stamp, goes.limit, complete.kept); below = omega (arith, goes.stamp, complete.below) }
+was_complete : (old new : Journal) (from end : ℕ) → GoesOnFrom old from end new → IsComplete new → IsComplete old
+was_complete old new from end goes complete = record { kept = omega (arith, goes.stamp, goes.limit, complete.kept); below = omega (arith, goes.stamp, complete.below) }
 
 part_cell : (h part : History) (from end w : ℕ) → IsPart h from end part → h.first ≤ from → from ≤ w → w < end → cell_of part w ≡ cell_of h w
 part_cell h part from end w is low ge lt =
     let first = is.first in
     let k : w - part.first < end - from = omega arith in
     let place : from - h.first + (w - part.first) ≡ w - h.first = omega arith in
-    ap (λ (l : List Step). cell_after l w (certain (get_or part.start.items (w - part.first) 0))) is.journal.steps
+    is.journal.steps w (certain (get_or part.start.items (w - part.first) 0)) ge lt
     ∙ ap (λ (v : ℕ). cell_after h.journal.steps.items w (certain v)) (is.start (w - part.first) k)
     ∙ ap (λ (x : ℕ). cell_after h.journal.steps.items w (certain (get_or h.start.items x 0))) place
 
@@ -34,8 +34,8 @@ is_piece f n h part cuts i from at_zero rising is = record {
   stamp = is.journal.stamp;
   since = is.journal.since;
   faults = refl;
-  tells = λ telling. complete_telling (part_frame part) n part refl (goes_on_complete h.journal part.journal is.journal (telling_complete f n h telling));
-  told = λ telling. complete_telling f n h from (was_complete h.journal part.journal is.journal (telling_complete (part_frame part) n part telling));
+  tells = λ telling. complete_telling (part_frame part) n part refl (goes_on_complete h.journal part.journal _ _ is.journal (telling_complete f n h telling));
+  told = λ telling. complete_telling f n h from (was_complete h.journal part.journal _ _ is.journal (telling_complete (part_frame part) n part telling));
   cells = λ w within.
       let low = within.low in
       let high = within.high in

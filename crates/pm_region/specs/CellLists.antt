@@ -4,7 +4,7 @@ use Rattle.pm_region.specs.Cell.{Cell, certain, HasValue}
 use Rattle.pm_region.specs.Image.{cell_of_data}
 use Rattle.pm_region.specs.Journals.{act}
 use Rattle.pm_region.specs.declared.image.CellData.{CellData}
-use Rattle.pm_region.specs.declared.journal.Step.{Step}
+use Rattle.pm_region.specs.declared.step.Step.{Step}
 
 abbrev pub cell_in : List CellData → ℕ → Cell
 cell_in ds k = slice_index_or (map cell_of_data ds) k (certain 0)

@@ -2,8 +2,8 @@
 use Rattle.std.specs.Prelude.{◌≡◌, ◌⊎◌, ℕ, ◌+◌, ◌-◌, ◌^◌, ◌≤◌, ◌<◌, ◌&&◌, nat_le, min, Bool, true, List, [], ◌∷◌, ◌++◌, length, take, drop, vec_capacity}
 use Rattle.pm_region.specs.State.{counted}
 use Rattle.pm_region.specs.Cell.{Cell, store_at, flush_line, fence_range}
-use Rattle.pm_region.specs.declared.journal.Step.{Step}
-use Rattle.pm_region.specs.declared.journal.Step.TheVariants.{Store, Flush, Fence, Nothing}
+use Rattle.pm_region.specs.declared.step.Step.{Step}
+use Rattle.pm_region.specs.declared.step.Step.TheVariants.{Store, Flush, Fence, Nothing}
 use Rattle.pm_region.specs.declared.journal.Journal.{Journal}
 
 -- what a step makes of the cell of a word
@@ -40,10 +40,14 @@ pub record IsComplete (j : Journal) : Type 0 where
   pub kept : j.stamp ≤ j.limit
   pub below : j.stamp < 2 ^ 64 - 1
 
--- It begins where the other one stands.
-pub record GoesOnFrom (old new : Journal) : Type 0 where
-  pub steps : new.steps.items ≡ old.steps.items
-  pub base : new.base ≡ length old.steps.items
+-- these steps make the same of the words from one to another
+abbrev pub SameWithin : ℕ → ℕ → List Step → List Step → Type 0
+SameWithin from end own steps = (w : ℕ) (c : Cell) → from ≤ w → w < end → cell_after own w c ≡ cell_after steps w c
+
+-- It begins where the other one stands, for the words from one to another.
+pub record GoesOnFrom (old : Journal) (from end : ℕ) (new : Journal) : Type 0 where
+  pub steps : SameWithin from end new.steps.items old.steps.items
+  pub base : new.base ≡ length new.steps.items
   pub since : new.since ≡ old.stamp
   pub stamp : new.stamp ≡ old.stamp
   pub limit : new.limit ≡ old.limit

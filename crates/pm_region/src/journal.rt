@@ -1,16 +1,8 @@
 // A journal of steps.
 ghost use Rattle.std.specs.Prelude.{◌≡◌, ℕ, ◌+◌, ◌-◌, ◌^◌, ◌≤◌, ◌<◌, min, [], ◌++◌, true, false, IfOk, OnOk, OnErr, length, vec_capacity, ◌*◌};
 
+use crate::step::{Step, touching_steps};
 use std::alloc::{AllocError, Global};
-
-/// One call of a region. A fence has the range of words that it covers, and one that failed is `Nothing`.
-#[derive(Clone, Copy)]
-pub enum Step {
-    Store { at: u64, value: u64 },
-    Flush { line: u64 },
-    Fence { first: u64, words: u64 },
-    Nothing,
-}
 
 /// The steps of a region, oldest first. The moment `since` stands after the first `base` of them, and each later
 /// moment one step later. It keeps the steps up to the stamp `limit`, for which it has room from the start: for its own,
@@ -71,12 +63,13 @@ impl Journal {
         self.stamp <= self.limit && self.stamp < u64::MAX
     }
 
-    /// One that begins where this one stands, with room for as many steps.
-    pub fn go_on(&self, alloc: Global) -> Result<Journal, AllocError>
-        ensures { IfOk result (GoesOnFrom self.now) }
+    /// One that begins where this one stands, for the words from one to another, with room for as many steps. It takes
+    /// no step but those that touch these words.
+    pub fn go_on(&self, alloc: Global, from: u64, end: u64) -> Result<Journal, AllocError>
+        ensures { IfOk result (GoesOnFrom self.now from end) }
     {
         let room = self.limit.saturating_sub(self.stamp);
-        let mut steps = self.steps.as_slice().to_vec(alloc)?;
+        let mut steps = touching_steps(alloc, &self.steps, from, end)?;
         steps.reserve(room as usize)?;
         let base = steps.len() as u64;
         Ok(Journal {

@@ -21,6 +21,7 @@ mod region;
 mod line_runs;
 mod split;
 mod steady;
+mod step;
 mod volume;
 mod word_cells;
 

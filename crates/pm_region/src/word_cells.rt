@@ -4,10 +4,10 @@ ghost use Rattle.pm_region.specs.Cell.{Cell, certain, HasValue};
 ghost use Rattle.pm_region.specs.Image.{cell_of_data};
 ghost use Rattle.pm_region.specs.CellLists.{cell_in, HasOne, ActsAt, Acts, AllAct, AreOpen};
 ghost use Rattle.pm_region.specs.Journals.{act, cell_after};
-ghost use Rattle.pm_region.specs.declared.journal.Step.TheVariants.{Store, Flush, Fence};
+ghost use Rattle.pm_region.specs.declared.step.Step.TheVariants.{Store, Flush, Fence};
 
 use crate::image::CellData;
-use crate::journal::Step;
+use crate::step::Step;
 use std::alloc::{AllocError, Global};
 
 /// The cells of words that were these at first, from `first` on, after these steps. A fence looks at the words that

@@ -15,8 +15,8 @@ ghost use Rattle.recover.specs.Logs.{SpellsLog};
 ghost use Rattle.recover.specs.Winning.{AreSpelled};
 ghost use Rattle.recover.specs.Gathering.{GathersPart, Gathers};
 
+use chunk_map::words::load_words;
 use chunk_map::{Head, Layout, read_head};
-use core_log::load_words;
 use fs_errors::Memory;
 use pm_region::Region;
 use std::alloc::Global;

@@ -8,6 +8,7 @@ use Rattle.chunk_map.specs.declared.layouts.Geometry.{Geometry}
 use Rattle.chunk_map.specs.declared.heads.Head.{Head}
 use Rattle.chunk_map.specs.declared.heads.Head.TheVariants.{Free, Log, Data}
 use Rattle.store_image.specs.declared.types.PlacedEntry.{PlacedEntry}
+pub use Rattle.chunk_map.specs.Chunks.{chunk_units}
 use Rattle.chunk_map.specs.Layouts.{numbers, chunk_words, chunk_first, head_at, has_class}
 
 -- the words behind a head, up to a tail
@@ -50,9 +51,6 @@ abbrev pub reads : Geometry → (ℕ → ℕ) → ℕ → Bool
 reads l image c = list_all (λ j. chunk_reads l image (chunk_first l c j)) (numbers 0 l.chunks)
 
 -- A pointer counts units of 256 bytes. The chunk in which it lies, all chunks counted from 0, and its unit there.
-abbrev pub chunk_units : Geometry → ℕ
-chunk_units l = l.chunk_bytes / 256
-
 abbrev pub chunk_at : Geometry → ℕ → ℕ
 chunk_at l p = (p - 16) / chunk_units l
 

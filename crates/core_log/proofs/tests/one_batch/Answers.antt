@@ -8,7 +8,7 @@ use Rattle.core_log.proofs.Clients.{may_start}
 use Rattle.core_log.proofs.tests.one_batch.Goals as goal
 
 pub append_batch-requires-clause-entries : goal.append_batch-requires-clause-entries
-append_batch-requires-clause-entries g c =
+append_batch-requires-clause-entries g c = λ telling.
     let e : Entry = record { key = 5; version = 2; body = Tombstone } in
     record {
       entries = e ∷ [];

@@ -8,7 +8,7 @@ use Rattle.log_entry.specs.Spelling.{words_of}
 use Rattle.log_entry.specs.Words.{words_from}
 use Rattle.log_entry.specs.Reading.{read}
 use Rattle.log_entry.specs.Batches.{scan_of}
-use Rattle.log_entry.proofs.Images.{length-words}
+use Rattle.log_entry.proofs.Images.{length-words, words_loaded}
 use Rattle.core_log.specs.declared.types.Peek.{Peek}
 use Rattle.core_log.specs.Walking.{next_entry, peek_at}
 use Rattle.core_log.proofs.WalkLaws.{next_is_spelled, entry_read, walk_is, walk_ends}
@@ -31,7 +31,7 @@ returns-in-Entry-clause-told g c = λ telling.
     let long = length-words f c.args.first c.args.tail in
     let xs = (scan_of ws).entries in
     let p = c.in-Some.found in
-    let words = c.in_ok-words.ensures.words telling in
+    let words = words_loaded f p.at (p.next - p.place) c.in_ok-words.words.items c.in_ok-words.ensures.long (c.in_ok-words.ensures.words telling) in
     let loaded : c.deref.result.now ≡ words_from f p.at (p.next - p.place) = c.deref.ensures.value ∙ words in
     let read_as : (x : ℕ × Entry) → next_entry c.args.place xs ≡ Some x → p ≡ peek_at c.args.first x → c.in_ok-entry.field-0 ≡ reads.Entry x.1 (length (words_of x.1)) = λ x found same.
     let spelled = next_is_spelled ws (c.requires.spelled telling) c.args.place (c.requires.between telling) (omega (arith, long, c.requires.place)) x found in
@@ -50,7 +50,7 @@ returns g c = record {
       let long = length-words f c.args.first c.args.tail in
       let xs = (scan_of ws).entries in
       let p = c.in-Some.found in
-      let words = c.in_ok-words.ensures.words telling in
+      let words = words_loaded f p.at (p.next - p.place) c.in_ok-words.words.items c.in_ok-words.ensures.long (c.in_ok-words.ensures.words telling) in
       let loaded : c.deref.result.now ≡ words_from f p.at (p.next - p.place) = c.deref.ensures.value ∙ words in
       let read_as : (x : ℕ × Entry) → next_entry c.args.place xs ≡ Some x → p ≡ peek_at c.args.first x → c.in_ok-entry.field-0 ≡ reads.Entry x.1 (length (words_of x.1)) = λ x found same.
       let spelled = next_is_spelled ws (c.requires.spelled telling) c.args.place (c.requires.between telling) (omega (arith, long, c.requires.place)) x found in

@@ -1,7 +1,7 @@
 use Rattle.std.proofs.Common.{ℕ, ◌+◌, ◌≡◌, ◌<◌, List, take, get_or, subst, sym, ap, arith}
 use Rattle.pm_region.specs.Cell.{Cell, HasValue}
 use Rattle.pm_region.specs.Journals.{act}
-use Rattle.pm_region.specs.declared.journal.Step.{Step}
+use Rattle.pm_region.specs.declared.step.Step.{Step}
 use Rattle.pm_region.proofs.Stepping.{acts_more, fence_twice, one_more_place, place_has}
 use Rattle.pm_region.proofs.word_cells.take_fence.Goals as goal
 

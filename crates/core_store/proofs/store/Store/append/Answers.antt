@@ -7,6 +7,7 @@ use Rattle.core_index.specs.Records.{settled}
 use Rattle.core_log.specs.Chunk.{lines_for, padded}
 use Rattle.core_log.specs.Entries.{AppendedBatch}
 use Rattle.core_log.specs.Log.{room_of}
+use Rattle.core_log.proofs.BatchLaws.{holds_some}
 use Rattle.core_store.specs.Changing.{Frees}
 use Rattle.core_store.specs.Records.{known}
 use Rattle.core_store.proofs.Appended.{append_run, append_moments}
@@ -18,7 +19,10 @@ pub write_entry-requires-clause-room : goal.write_entry-requires-clause-room
 write_entry-requires-clause-room g c = (let long = short_entry c.args.entry c.requires.spelling in let none = ap length c.requires.standing.empty in let room = c.requires.standing.room in omega (arith, long, none, room))
 
 pub append_batch-requires-clause-entries : goal.append_batch-requires-clause-entries
-append_batch-requires-clause-entries g c = holds_one c.args.entry c.requires.spelling c.write_entry.new.buf.words (c.write_entry.ensures.words ∙ ap (λ ws. ws ++ words_of c.args.entry) c.requires.standing.empty)
+append_batch-requires-clause-entries g c = λ telling. holds_one c.args.entry c.requires.spelling c.write_entry.new.buf.words (c.write_entry.ensures.words ∙ ap (λ ws. ws ++ words_of c.args.entry) c.requires.standing.empty)
+
+pub append_batch-requires-clause-some : goal.append_batch-requires-clause-some
+append_batch-requires-clause-some g c = holds_some c.write_entry.new.buf.words (holds_one c.args.entry c.requires.spelling c.write_entry.new.buf.words (c.write_entry.ensures.words ∙ ap (λ ws. ws ++ words_of c.args.entry) c.requires.standing.empty))
 
 pub append_batch-requires-clause-room : goal.append_batch-requires-clause-room
 append_batch-requires-clause-room g c = (subst (λ ws. lines_for (length ws) ≤ room_of c.args.self.now.log) (sym (c.write_entry.ensures.words ∙ ap (λ ws. ws ++ words_of c.args.entry) c.requires.standing.empty)) c.requires.room)

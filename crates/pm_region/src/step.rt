@@ -1,0 +1,50 @@
+// One step of a region.
+ghost use Rattle.std.specs.Prelude.{◌≡◌, ℕ, ◌+◌, ◌*◌, ◌/◌, ◌^◌, ◌≤◌, ◌<◌, false, take, IfOk};
+ghost use Rattle.pm_region.specs.Cell.{Cell};
+ghost use Rattle.pm_region.specs.Journals.{act, SameWithin};
+
+use std::alloc::{AllocError, Global};
+
+/// One call of a region. A fence has the range of words that it covers, and one that failed is `Nothing`.
+#[derive(Clone, Copy)]
+pub enum Step {
+    Store { at: u64, value: u64 },
+    Flush { line: u64 },
+    Fence { first: u64, words: u64 },
+    Nothing,
+}
+
+impl Step {
+    /// Whether it may change the cell of a word from one to another.
+    pub fn touches(&self, from: u64, end: u64) -> bool
+        ensures { result ≡ false → (w : ℕ) (c : Cell) → from ≤ w → w < end → act self.now w c ≡ c }
+    {
+        match *self {
+            Step::Store { at, .. } => from <= at && at < end,
+            Step::Flush { line } => {
+                let low = line.saturating_mul(8);
+                low < end && from < low.saturating_add(8)
+            }
+            Step::Fence { first, words } => first < end && from < first.saturating_add(words),
+            Step::Nothing => false,
+        }
+    }
+}
+
+/// The steps that touch the words from one to another.
+pub fn touching_steps(
+    alloc: Global,
+    steps: &[Step],
+    from: u64,
+    end: u64,
+) -> Result<Vec<Step>, AllocError>
+    ensures { IfOk result (λ own. SameWithin from end own.items steps.now) }
+{
+    let mut own = Vec::new(alloc);
+    for step in steps {
+        if step.touches(from, end) {
+            own.push(*step)?;
+        }
+    }
+    Ok(own)
+}
