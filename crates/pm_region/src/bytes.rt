@@ -1,6 +1,6 @@
 // Bytes as words, the lowest byte of a word first.
-ghost use Rattle.std.specs.Prelude.{◌≡◌, ℕ, ◌*◌, ◌≤◌, ◌<◌, ◌^◌, length, slice_index, IfOk};
-ghost use Rattle.pm_region.specs.Bytes.{AreWords};
+ghost use Rattle.std.specs.Prelude.{◌≡◌, ◌≢◌, ◌⊎◌, ℕ, ◌+◌, ◌*◌, ◌/◌, ◌%◌, ◌≤◌, ◌<◌, ◌^◌, length, slice_index, IfOk};
+ghost use Rattle.pm_region.specs.Bytes.{AreWords, word_at};
 ghost use Rattle.pm_region.specs.Split.{words_in};
 
 use byteorder::{ByteOrder, LittleEndian};
@@ -26,4 +26,33 @@ pub fn words_of(alloc: Global, bytes: &[u8]) -> Result<Vec<u64>, AllocError>
         words.push(LittleEndian::read_u64(&bytes[8 * k..]))?;
     }
     Ok(words)
+}
+
+/// The word at a place.
+pub fn word(bytes: &[u8], place: u64) -> u64
+    requires { 8 * place + 8 ≤ length bytes.now }
+    ensures { result ≡ word_at bytes.now place }
+{
+    LittleEndian::read_u64(&bytes[8 * place as usize..])
+}
+
+/// Stores a word.
+pub fn set_word(bytes: &mut [u8], place: u64, value: u64)
+    requires { 8 * place + 8 ≤ length bytes.old }
+    ensures this { word_at bytes.new place ≡ value }
+    ensures others { (k : ℕ) → k ≢ place → word_at bytes.new k ≡ word_at bytes.old k }
+{
+    let low = 8 * place as usize;
+    LittleEndian::write_u64(&mut bytes[low..low + 8], value);
+}
+
+/// Stores words, one behind the other, from a place on.
+pub fn set_words(bytes: &mut [u8], first: u64, words: &[u8])
+    requires whole { length words.now % 8 ≡ 0 }
+    requires within { 8 * first + length words.now ≤ length bytes.old }
+    ensures inner { (k : ℕ) → 8 * k < length words.now → word_at bytes.new (first + k) ≡ word_at words.now k }
+    ensures outer { (k : ℕ) → (k < first) ⊎ (first + length words.now / 8 ≤ k) → word_at bytes.new k ≡ word_at bytes.old k }
+{
+    let low = 8 * first as usize;
+    bytes[low..low + words.len()].copy_from_slice(words);
 }

@@ -1,85 +1,30 @@
-// A region in a file, and its pieces.
-ghost use Rattle.std.specs.Prelude.{◌≡◌, ℕ, ◌+◌, ◌-◌, ◌*◌, ◌^◌, ◌≤◌, ◌<◌, true, false, [], length, slice_index, slice_index_or, IfOk, OnOk, OnErr, IsErrOf, Err};
-ghost use Rattle.pm_region.specs.State.{State, Rose};
+// A region in a file.
+ghost use Rattle.std.specs.Prelude.{◌≡◌, ℕ, ◌+◌, ◌-◌, ◌*◌, ◌^◌, ◌≤◌, ◌<◌, true, false, [], Some, length, slice_index, slice_index_or, IfOk, OnOk, OnErr, IsErrOf, Err};
+ghost use Rattle.pm_region.specs.Cell.{MayBe, store_at, flush_line, fence_range, unchanged};
+ghost use Rattle.pm_region.specs.State.{State, Goes, InRange, LineInRange, IsTelling, cell_now, Rose};
 ghost use Rattle.pm_region.specs.Split.{words_in, AreCuts};
-ghost use Rattle.pm_region.specs.Files.{AreFileParts};
 
 use crate::bytes::word_count;
+use crate::device::Device;
+use crate::file_open::{create_words, fence_file, open_words, write_pending};
+use crate::file_piece::FilePiece;
+use crate::file_pieces::{absorb_all, file_pieces, latest_of, most_faults};
 use crate::file_words::FileWords;
 use crate::region::{Region, RegionFault};
 use crate::split::{AttachError, SplitRegion};
 use std::alloc::Global;
-use std::fs::{File, OpenOptions};
-use std::io;
-use std::os::unix::fs::FileExt;
+use std::fs::File;
 use std::rt::Files;
 
-/// A piece of a `FileRegion`, which has opened the file for itself.
-#[derive(Drop)]
-pub struct FilePiece {
-    first: u64,
-    words: FileWords,
-    file: File,
-    since: u64,
-    stamp: u64,
-    faults: u64,
-}
-
-impl Region for FilePiece {
-    ghost use Rattle.pm_region.specs.Files.{file_piece_state};
-
-    ghost state = { file_piece_state };
-
-    fn first(&self) -> u64 {
-        self.first
-    }
-
-    fn words(&self) -> u64 {
-        word_count(self.words.size)
-    }
-
-    fn load(&self, at: u64) -> u64 {
-        self.words.load(at - self.first)
-    }
-
-    fn store(&mut self, at: u64, value: u64) {
-        self.words.store(at - self.first, value);
-        self.stamp = self.stamp.saturating_add(1);
-    }
-
-    fn flush(&mut self, line: u64) {
-        self.words.flush(line);
-        self.stamp = self.stamp.saturating_add(1);
-    }
-
-    fn fence(&mut self) -> Result<(), RegionFault> {
-        self.stamp = self.stamp.saturating_add(1);
-        let words = &mut self.words;
-        match words.write_flushed(&self.file, self.first) {
-            Ok(()) => Ok(()),
-            Err(_) => {
-                self.faults = self.faults.saturating_add(1);
-                Err(RegionFault)
-            }
-        }
-    }
-
-    fn stamp(&self) -> u64 {
-        self.stamp
-    }
-
-    fn faults(&self) -> u64 {
-        self.faults
-    }
-}
-
-/// A region in a file. It keeps the words in memory; a fence writes the flushed lines and syncs the file. A file that
-/// is missing or can't be read or written is a fault, which is counted. It tells nothing of its contents.
+/// A region in a file, which is locked while it is attached. It keeps the words in memory; a fence writes the flushed
+/// lines and syncs the file. A file that is missing, is locked or can't be read or written is a fault, which is
+/// counted. A file that can only be read is attached too, and its first fence is a fault. It tells nothing of its
+/// contents.
 #[derive(Drop)]
 pub struct FileRegion<R: Files<File = File> + Drop> {
     rt: R,
     path: String,
-    file: Option<File>,
+    device: Option<Device>,
     words: FileWords,
     parted: bool,
     cuts: Vec<u64>,
@@ -88,6 +33,7 @@ pub struct FileRegion<R: Files<File = File> + Drop> {
     faults: u64,
     refusals: u64,
     opens: u64,
+    ghost cuts_fit: { AreCuts (words_in words.size) cuts.items },
 }
 
 impl<R: Files<File = File> + Drop> FileRegion<R> {
@@ -102,7 +48,7 @@ impl<R: Files<File = File> + Drop> FileRegion<R> {
         FileRegion {
             rt,
             path,
-            file: None,
+            device: None,
             words: FileWords::none(alloc),
             parted: false,
             cuts: Vec::new(alloc),
@@ -117,6 +63,7 @@ impl<R: Files<File = File> + Drop> FileRegion<R> {
 
 impl<R: Files<File = File> + Drop> Region for FileRegion<R> {
     ghost use Rattle.pm_region.specs.Files.{file_state};
+    ghost use Rattle.pm_region.specs.Filed.{word_of, calls_on, IsStored, IsFlushed, IsFenced, IsKept};
 
     ghost state = { λ r. file_state r };
 
@@ -132,27 +79,46 @@ impl<R: Files<File = File> + Drop> Region for FileRegion<R> {
         }
     }
 
-    fn load(&self, at: u64) -> u64 {
+    fn load(&self, at: u64) -> u64
+        requires { InRange (file_state self.now).frame at }
+        ensures told { IsTelling (file_state self.now) → result ≡ (cell_now (file_state self.now) at).last }
+        ensures word { result ≡ word_of self.now.words at }
+    {
         self.words.load(at)
     }
 
-    fn store(&mut self, at: u64, value: u64) {
+    fn store(&mut self, at: u64, value: u64)
+        requires { InRange (file_state self.old).frame at }
+        ensures goes { Goes (file_state self.old) (file_state self.new) (store_at at value) }
+        ensures stored { IsStored self.old.words self.new.words at value }
+    {
         self.words.store(at, value);
         self.stamp = self.stamp.saturating_add(1);
     }
 
-    fn flush(&mut self, line: u64) {
+    fn flush(&mut self, line: u64)
+        requires { LineInRange (file_state self.old).frame line }
+        ensures goes { Goes (file_state self.old) (file_state self.new) (flush_line line) }
+        ensures flushed { IsFlushed self.old.words self.new.words line }
+    {
         self.words.flush(line);
         self.stamp = self.stamp.saturating_add(1);
     }
 
-    fn fence(&mut self) -> Result<(), RegionFault> {
+    fn fence(&mut self) -> Result<(), RegionFault>
+        ensures ok { OnOk result (Goes (file_state self.old) (file_state self.new)
+            (fence_range (file_state self.old).frame.first (file_state self.old).frame.words)) }
+        ensures err { OnErr result (Goes (file_state self.old) (file_state self.new) unchanged) }
+        ensures cause { OnErr result (Rose (file_state self.old).faults (file_state self.new).faults) }
+        ensures fenced { OnOk result (IsFenced self.old.words self.new.words 0 (calls_on self.old.device) (calls_on self.new.device)) }
+        ensures kept { OnErr result (IsKept self.old.words self.new.words) }
+    {
         self.stamp = self.stamp.saturating_add(1);
-        match write_words(&mut self.words, &self.file) {
+        match fence_file(&mut self.words, &mut self.device) {
             Ok(()) => Ok(()),
-            Err(_) => {
+            Err(e) => {
                 self.faults = self.faults.saturating_add(1);
-                Err(RegionFault)
+                Err(e)
             }
         }
     }
@@ -167,8 +133,9 @@ impl<R: Files<File = File> + Drop> Region for FileRegion<R> {
 }
 
 impl<R: Files<File = File> + Drop> SplitRegion for FileRegion<R> {
-    ghost use Rattle.pm_region.specs.Files.{file_state, file_piece_state};
-    ghost use Rattle.pm_region.specs.Split.{CameFrom, TakesPiece, Joined, IsNotOpened, ComesNext};
+    ghost use Rattle.pm_region.specs.Files.{file_state, file_piece_state, file_frame, AreFileParts, HaveTaken, HasOpened, HasMade};
+    ghost use Rattle.pm_region.specs.Filed.{flushes};
+    ghost use Rattle.pm_region.specs.Split.{Attached, Stays, Refuses, IsPiece, Parted, CameFrom, TakesPiece, Joined, IsOpenedOnceMore, IsNotOpened, ComesNext};
 
     type Piece = FilePiece;
 
@@ -178,11 +145,22 @@ impl<R: Files<File = File> + Drop> SplitRegion for FileRegion<R> {
         self.words.size
     }
 
-    fn attach(&mut self, alloc: Global) -> Result<(), AttachError> {
+    fn attach(&mut self, alloc: Global) -> Result<(), AttachError>
+        ensures ok { OnOk result (Attached (file_state self.old) (file_state self.new) (file_state self.new).frame.bytes (λ w. 0)) }
+        ensures bytes { OnOk result (IsTelling (file_state self.new) → (file_state self.new).frame.bytes ≡ (file_state self.old).frame.bytes) }
+        ensures err { OnErr result (Stays (file_state self.old) (file_state self.new)) }
+        ensures cause { Refuses (file_state self.old) (file_state self.new) result }
+        ensures finds { (w : ℕ) → IsTelling (file_state self.old) → InRange (file_state self.old).frame w → MayBe (cell_now (file_state self.old) w) 0 }
+        ensures words { OnOk result ((w : ℕ) → InRange (file_state self.new).frame w → 0 < 2 ^ 64) }
+        ensures opens { IsOpenedOnceMore (file_state self.old) (file_state self.new) }
+        ensures opened { OnOk result (HasOpened self.new.device self.new.words) }
+    {
         self.opens = self.opens.saturating_add(1);
+        // Its own lock goes first, with the file.
+        self.device = None;
         match open_words(alloc, &self.rt, &self.path) {
-            Ok((file, words)) => {
-                self.file = Some(file);
+            Ok((device, words)) => {
+                self.device = Some(device);
                 self.begin(words);
                 Ok(())
             }
@@ -193,35 +171,54 @@ impl<R: Files<File = File> + Drop> SplitRegion for FileRegion<R> {
         }
     }
 
-    fn create(&mut self, alloc: Global, words: u64) -> Result<(), AttachError> {
+    fn create(&mut self, alloc: Global, words: u64) -> Result<(), AttachError>
+        requires { words ≤ 33554944 }
+        ensures ok { OnOk result (Attached (file_state self.old) (file_state self.new) (8 * words) (λ w. 0)) }
+        ensures cause { Refuses (file_state self.old) (file_state self.new) result }
+        ensures opens { IsOpenedOnceMore (file_state self.old) (file_state self.new) }
+        ensures made { OnOk result (HasMade words self.new.device self.new.words) }
+    {
         self.opens = self.opens.saturating_add(1);
+        self.device = None;
+        self.begin(FileWords::none(alloc));
         match create_words(alloc, &self.rt, &self.path, words) {
-            Ok((file, words)) => {
-                self.file = Some(file);
+            Ok((device, words)) => {
+                self.device = Some(device);
                 self.begin(words);
                 Ok(())
             }
             Err(e) => {
-                self.file = None;
-                self.begin(FileWords::none(alloc));
                 self.refuse(e);
                 Err(e)
             }
         }
     }
 
-    fn split(&mut self, alloc: Global, cuts: &[u64]) -> Result<Vec<FilePiece>, AttachError> {
+    fn split(&mut self, alloc: Global, cuts: &[u64]) -> Result<Vec<FilePiece>, AttachError>
+        requires whole { (file_state self.old).frame.parted ≡ false }
+        requires cuts { AreCuts (file_state self.old).frame.words cuts.now }
+        ensures count { IfOk result (λ pieces. length pieces.items ≡ length cuts.now - 1) }
+        ensures pieces { IfOk result (λ pieces. (i : ℕ) (p : FilePiece) → i < length pieces.items
+            → IsPiece (file_state self.old) cuts.now i (file_piece_state (slice_index_or pieces.items i p))) }
+        ensures ok { OnOk result (Parted (file_state self.old) (file_state self.new) cuts.now) }
+        ensures err { OnErr result (Stays (file_state self.old) (file_state self.new)) }
+        ensures cause { Refuses (file_state self.old) (file_state self.new) result }
+        ensures opens { IsNotOpened (file_state self.old) (file_state self.new) }
+        ensures parts { IfOk result (λ pieces. AreFileParts self.old.words cuts.now self.old.stamp self.old.faults pieces.items (length cuts.now - 1)) }
+        ensures clean { OnOk result ((line : ℕ) → flushes self.new.words line ≡ false) }
+    {
         let kept = cuts.to_vec(alloc)?;
-        if write_words(&mut self.words, &self.file).is_err() {
+        if write_pending(&mut self.words, &mut self.device).is_err() {
             self.refuse(AttachError::RegionFault);
             return Err(AttachError::RegionFault);
         }
         match file_pieces(
             alloc,
             &self.rt,
-            &self.path,
+            &self.device,
             &self.words,
             cuts,
+            &self.path,
             self.stamp,
             self.faults,
         ) {
@@ -247,8 +244,9 @@ impl<R: Files<File = File> + Drop> SplitRegion for FileRegion<R> {
             → TakesPiece (file_state self.new) (file_piece_state (slice_index_or pieces.items i p)) }
         ensures next { ComesNext file_piece_state (file_state self.old) (file_state self.new) pieces.items }
         ensures opens { IsNotOpened (file_state self.old) (file_state self.new) }
+        ensures taken { HaveTaken self.old.words self.new.words pieces.items (length pieces.items) }
     {
-        let latest = latest(&pieces, self.stamp);
+        let latest = latest_of(&pieces, self.stamp);
         self.stamp = latest.saturating_add(1);
         self.since = self.stamp;
         self.faults = most_faults(&pieces, self.faults);
@@ -265,17 +263,19 @@ impl<R: Files<File = File> + Drop> FileRegion<R> {
     fn begin(&mut self, words: FileWords)
         ensures frame { ((file_state self.new).frame ≡ file_frame words.size false [] 0 self.old.refusals self.old.opens) × ((file_state self.new).stamp ≡ 0) }
         ensures counts { (self.new.faults ≡ self.old.faults) × (self.new.refusals ≡ self.old.refusals) }
+        ensures file { (self.new.device ≡ self.old.device) × (self.new.words ≡ words) }
     {
+        self.cuts.clear();
         self.words = words;
         self.parted = false;
-        self.cuts.clear();
         self.since = 0;
         self.stamp = 0;
     }
 
     // Counts a fault.
     fn refuse(&mut self, why: AttachError)
-        ensures words { self.new ≡ record self.old { faults = self.new.faults; refusals = self.new.refusals } }
+        ensures frame { (file_state self.new).frame ≡ record (file_state self.old).frame { refusals = self.new.refusals } }
+        ensures stamp { self.new.stamp ≡ self.old.stamp }
         ensures later { (self.old.faults ≤ self.new.faults) × (self.old.refusals ≤ self.new.refusals) }
         ensures fault { why ≡ AttachError.RegionFault → Rose self.old.faults self.new.faults × Rose self.old.refusals self.new.refusals }
         ensures memory { why ≡ AttachError.Memory → (self.new.faults ≡ self.old.faults) × (self.new.refusals ≡ self.old.refusals) }
@@ -284,132 +284,5 @@ impl<R: Files<File = File> + Drop> FileRegion<R> {
             self.faults = self.faults.saturating_add(1);
             self.refusals = self.refusals.saturating_add(1);
         }
-    }
-}
-
-// What the system refuses is a fault of the region.
-fn or_fault<T: Drop>(answer: io::Result<T>) -> Result<T, AttachError> {
-    match answer {
-        Ok(value) => Ok(value),
-        Err(_) => Err(AttachError::RegionFault),
-    }
-}
-
-// Writes the flushed words, if there is a file.
-fn write_words(words: &mut FileWords, file: &Option<File>) -> io::Result<()>
-    ensures { words.new.size ≡ words.old.size }
-{
-    match file {
-        Some(file) => words.write_flushed(file, 0),
-        None => Ok(()),
-    }
-}
-
-fn open_file<R: Files<File = File>>(rt: &R, path: &str) -> io::Result<File> {
-    OpenOptions::new().read(true).write(true).open(rt, path)
-}
-
-// The file as it stands. The words are read at once.
-fn open_words<R: Files<File = File>>(
-    alloc: Global,
-    rt: &R,
-    path: &str,
-) -> Result<(File, FileWords), AttachError> {
-    let file = or_fault(open_file(rt, path))?;
-    let size = or_fault(file.metadata())?.len();
-    let count = word_count(size) as usize;
-    let mut bytes = vec![in alloc; 0u8; 8 * count]?;
-    or_fault(file.read_exact_at(&mut bytes, 0))?;
-    let words = FileWords::new(alloc, size, bytes)?;
-    Ok((file, words))
-}
-
-// A file of so many zero words, in place of what was there.
-fn create_words<R: Files<File = File>>(
-    alloc: Global,
-    rt: &R,
-    path: &str,
-    count: u64,
-) -> Result<(File, FileWords), AttachError>
-    requires { count ≤ 33554944 }
-    ensures { IfOk result (λ pair. pair.1.size ≡ 8 * count) }
-{
-    let bytes = vec![in alloc; 0u8; 8 * count as usize]?;
-    let words = FileWords::new(alloc, 8 * count, bytes)?;
-    let file = or_fault(
-        OpenOptions::new()
-            .read(true)
-            .write(true)
-            .create(true)
-            .truncate(true)
-            .open(rt, path),
-    )?;
-    or_fault(file.set_len(8 * count))?;
-    or_fault(file.sync_all())?;
-    Ok((file, words))
-}
-
-// The parts between the cuts, each with a file of its own.
-fn file_pieces<R: Files<File = File>>(
-    alloc: Global,
-    rt: &R,
-    path: &str,
-    words: &FileWords,
-    cuts: &[u64],
-    stamp: u64,
-    faults: u64,
-) -> Result<Vec<FilePiece>, AttachError>
-    requires cuts { AreCuts (words_in words.now.size) cuts.now }
-    ensures { IfOk result (λ pieces. AreFileParts cuts.now stamp faults pieces.items (length cuts.now - 1)) }
-{
-    let mut pieces = Vec::new(alloc);
-    for i in 0..cuts.len().saturating_sub(1) {
-        let file = or_fault(open_file(rt, path))?;
-        let words = words.part(alloc, cuts[i], cuts[i + 1])?;
-        pieces.push(FilePiece {
-            first: cuts[i],
-            words,
-            file,
-            since: stamp,
-            stamp,
-            faults,
-        })?;
-    }
-    Ok(pieces)
-}
-
-// The latest stamp of the pieces, and of what they were taken from.
-fn latest(pieces: &[FilePiece], from: u64) -> u64
-    ensures low { from ≤ result }
-    ensures pieces { (i : ℕ) (p : FilePiece) → i < length pieces.now → (slice_index_or pieces.now i p).stamp ≤ result }
-{
-    let mut latest = from;
-    for piece in pieces {
-        if piece.stamp > latest {
-            latest = piece.stamp;
-        }
-    }
-    latest
-}
-
-// The greatest count of the pieces, and of what they were taken from.
-fn most_faults(pieces: &[FilePiece], from: u64) -> u64
-    ensures low { from ≤ result }
-    ensures pieces { (i : ℕ) (p : FilePiece) → i < length pieces.now → (slice_index_or pieces.now i p).faults ≤ result }
-{
-    let mut most = from;
-    for piece in pieces {
-        if piece.faults > most {
-            most = piece.faults;
-        }
-    }
-    most
-}
-
-fn absorb_all(words: &mut FileWords, pieces: &[FilePiece])
-    ensures { words.new.size ≡ words.old.size }
-{
-    for piece in pieces {
-        words.absorb(&piece.words, piece.first);
     }
 }

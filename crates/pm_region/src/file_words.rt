@@ -1,94 +1,100 @@
 // Words of a file, kept in memory.
-ghost use Rattle.std.specs.Prelude.{◌≡◌, ℕ, ◌+◌, ◌-◌, ◌*◌, ◌/◌, ◌^◌, ◌≤◌, ◌<◌, true, false, length, IfOk};
+ghost use Rattle.std.specs.Prelude.{◌≡◌, ℕ, ◌+◌, ◌-◌, ◌*◌, ◌/◌, ◌%◌, ◌≤◌, ◌<◌, length};
 ghost use Rattle.pm_region.specs.Split.{words_in};
 
-use byteorder::{ByteOrder, LittleEndian};
+use crate::bytes::{set_word, set_words, word, word_count};
+use crate::device::Device;
+use crate::line_runs::write_runs;
+use crate::line_set::LineSet;
+use crate::region::RegionFault;
 use std::alloc::{AllocError, Global};
-use std::fs::File;
-use std::io;
-use std::os::unix::fs::FileExt;
+
+/// How many words a line has.
+pub const LINE_WORDS: u64 = 8;
 
 /// Words by their place, as bytes with the lowest of each word first. `size` is how many bytes the file or the
-/// piece has, which need not be whole words. `flushed` are the lines that the next fence writes; where there are more
-/// of them than it has room for, `all_flushed` says that it writes every line.
+/// piece has, which need not be whole words. `flushed` are the lines that the next fence writes, by their place: a line
+/// that isn't whole is never among them.
 #[derive(Drop)]
 pub struct FileWords {
     pub size: u64,
     pub bytes: Vec<u8>,
-    pub flushed: Vec<u64>,
-    pub all_flushed: bool,
+    pub flushed: LineSet,
     ghost whole: { length bytes.items ≡ 8 * words_in size },
+    ghost lines: { length flushed.marks.items ≡ words_in size / 8 },
 }
 
 impl FileWords {
+    ghost use Rattle.std.specs.Prelude.{IfOk, OnOk, OnErr, false, true};
+    ghost use Rattle.pm_region.specs.Filed.{IsStored, IsFlushed, IsKept, IsFenced, IsPart, TakesPart, flushes, word_of};
+
     /// No words.
     pub fn none(alloc: Global) -> FileWords
-        ensures { result.size ≡ 0 }
+        ensures size { result.size ≡ 0 }
+        ensures none { (line : ℕ) → flushes result line ≡ false }
     {
         FileWords {
             size: 0,
             bytes: Vec::new(alloc),
-            flushed: Vec::new(alloc),
-            all_flushed: false,
+            flushed: LineSet::none(alloc),
         }
     }
 
-    /// These words, of a file or piece of so many bytes. It takes the room for the list of flushed lines.
+    /// These words, of a file or piece of so many bytes. It takes the room for every line once.
     pub fn new(alloc: Global, size: u64, bytes: Vec<u8>) -> Result<FileWords, AllocError>
         requires { length bytes.items ≡ 8 * words_in size }
-        ensures { IfOk result (λ w. w.size ≡ size) }
+        ensures size { IfOk result (λ w. w.size ≡ size) }
+        ensures bytes { IfOk result (λ w. w.bytes ≡ bytes) }
+        ensures none { IfOk result (λ w. (line : ℕ) → flushes w line ≡ false) }
     {
-        let lines = bytes.len() / 64 + 1;
-        let flushed = Vec::with_capacity(alloc, lines)?;
+        let flushed = LineSet::new(alloc, (word_count(size) / LINE_WORDS) as u32)?;
         Ok(FileWords {
             size,
             bytes,
             flushed,
-            all_flushed: false,
         })
     }
 
     pub fn load(&self, place: u64) -> u64
         requires { place < words_in self.now.size }
+        ensures { result ≡ word_of self.now place }
     {
-        LittleEndian::read_u64(&self.bytes[8 * place as usize..])
+        word(&self.bytes, place)
     }
 
     pub fn store(&mut self, place: u64, value: u64)
         requires { place < words_in self.old.size }
-        ensures { self.new.size ≡ self.old.size }
+        ensures { IsStored self.old self.new place value }
     {
-        LittleEndian::write_u64(&mut self.bytes[8 * place as usize..], value);
+        set_word(&mut self.bytes, place, value);
     }
 
-    /// Remembers a line, by its number in the whole file. It takes no memory.
+    /// Remembers a line. It takes no memory.
     pub fn flush(&mut self, line: u64)
-        ensures { self.new.size ≡ self.old.size }
+        requires { 8 * line + 8 ≤ words_in self.old.size }
+        ensures { IsFlushed self.old self.new line }
     {
-        if self.flushed.len() == self.flushed.capacity() {
-            self.all_flushed = true;
-            return;
-        }
-        match self.flushed.push(line) {
-            Ok(()) => {}
-            Err(_) => unreachable!(),
-        }
+        self.flushed.insert(line as u32);
     }
 
-    /// Writes the flushed lines to the file, where these words begin at the word `first`, neighbours in one write, and
-    /// syncs it. Where that fails they stay flushed.
-    pub fn write_flushed(&mut self, file: &File, first: u64) -> io::Result<()>
-        ensures { self.new.size ≡ self.old.size }
+    /// Whether nothing is flushed.
+    pub fn is_clean(&self) -> bool
+        ensures { result ≡ true → (line : ℕ) → flushes self.now line ≡ false }
     {
-        if self.all_flushed {
-            file.write_all_at(&self.bytes, first.saturating_mul(8))?;
-        } else {
-            self.flushed.sort_unstable();
-            write_lines(file, &self.flushed, first, &self.bytes)?;
-        }
-        file.sync_data()?;
+        self.flushed.lines.is_empty()
+    }
+
+    /// Writes the flushed lines to the file, where these words begin at the byte `start`, each run of neighbours at
+    /// once, and syncs it. Where that fails they stay flushed.
+    pub fn write_flushed(&mut self, device: &mut Device, start: u64) -> Result<(), RegionFault>
+        requires { start ≤ 268439552 }
+        ensures ok { OnOk result (IsFenced self.old self.new start device.old.calls.made device.new.calls.made) }
+        ensures err { OnErr result (IsKept self.old self.new) }
+    {
+        self.flushed.sort();
+        write_runs(device, start, &self.flushed.lines, &self.bytes)?;
+        device.sync()?;
         self.flushed.clear();
-        self.all_flushed = false;
         Ok(())
     }
 
@@ -96,50 +102,21 @@ impl FileWords {
     pub fn part(&self, alloc: Global, from: u64, end: u64) -> Result<FileWords, AllocError>
         requires rising { from ≤ end }
         requires high { end ≤ words_in self.now.size }
-        ensures { IfOk result (λ w. w.size ≡ 8 * (end - from)) }
+        ensures { IfOk result (IsPart self.now from end) }
     {
         let bytes = self.bytes[8 * from as usize..8 * end as usize].to_vec(alloc)?;
-        FileWords::new(alloc, 8 * (end - from), bytes)
+        let part = FileWords::new(alloc, 8 * (end - from), bytes)?;
+        Ok(part)
     }
 
     /// Takes the words of a part back that begins at the place `first`, with what is flushed of them.
     pub fn absorb(&mut self, part: &FileWords, first: u64)
-        ensures { self.new.size ≡ self.old.size }
+        requires whole { first % 8 ≡ 0 }
+        requires within { first + words_in part.now.size ≤ words_in self.old.size }
+        ensures { TakesPart self.old self.new part.now first }
     {
-        let low = first.saturating_mul(8) as usize;
-        if low <= self.bytes.len() && part.bytes.len() <= self.bytes.len() - low {
-            self.bytes[low..low + part.bytes.len()].copy_from_slice(&part.bytes);
-        }
-        for line in &part.flushed {
-            self.flush(*line);
-        }
-        if part.all_flushed {
-            self.all_flushed = true;
-        }
+        set_words(&mut self.bytes, first, &part.bytes);
+        self.flushed
+            .insert_all(&part.flushed, (first / LINE_WORDS) as u32);
     }
-}
-
-// Writes these lines, which rise, each run of neighbours at once.
-fn write_lines(file: &File, lines: &[u64], first: u64, bytes: &[u8]) -> io::Result<()> {
-    let mut from = 0;
-    let mut end = 0;
-    for line in lines {
-        if *line > end {
-            write_run(file, from, end, first, bytes)?;
-            from = *line;
-        }
-        end = line.saturating_add(1);
-    }
-    write_run(file, from, end, first, bytes)
-}
-
-// Writes the lines from one to another, which are few enough for the numbers.
-fn write_run(file: &File, from: u64, end: u64, first: u64, bytes: &[u8]) -> io::Result<()> {
-    let start = first.saturating_mul(8);
-    let low = from.saturating_mul(64).saturating_sub(start) as usize;
-    let high = end.saturating_mul(64).saturating_sub(start) as usize;
-    if low < high && high <= bytes.len() {
-        file.write_all_at(&bytes[low..high], from.saturating_mul(64))?;
-    }
-    Ok(())
 }

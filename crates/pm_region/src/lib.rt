@@ -2,11 +2,18 @@
 #![tactic(auto)]
 
 mod bytes;
+mod calls;
+mod device;
 mod file;
+mod file_open;
+mod file_piece;
+mod file_pieces;
 mod file_words;
 mod history;
 mod image;
 mod journal;
+mod line_runs;
+mod line_set;
 mod mem;
 mod part;
 mod pieces;
@@ -18,7 +25,8 @@ mod step;
 mod volume;
 mod word_cells;
 
-pub use file::{FilePiece, FileRegion};
+pub use file::FileRegion;
+pub use file_piece::FilePiece;
 pub use image::{ImageError, Pick};
 pub use mem::{MemPiece, MemRegion};
 pub use plan::{Faults, FenceNumber};
@@ -26,5 +34,7 @@ pub use region::{Region, RegionFault};
 pub use split::{AttachError, SplitRegion};
 pub use steady::{SteadyPiece, SteadyRegion};
 
+#[cfg(test)]
+mod file_tests;
 #[cfg(test)]
 mod tests;

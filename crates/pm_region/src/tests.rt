@@ -4,21 +4,20 @@ ghost use Rattle.pm_region.specs.State.{During, cell_now};
 ghost use Rattle.pm_region.specs.Words.{KeepsOutside};
 
 use crate::{
-    AttachError, Faults, FenceNumber, FileRegion, ImageError, MemRegion, Pick, Region, RegionFault,
+    AttachError, Faults, FenceNumber, ImageError, MemRegion, Pick, Region, RegionFault,
     SplitRegion, SteadyRegion,
 };
 use std::alloc::Global;
-use std::fs;
 use std::test::Fail;
 
-fn put<R: Region>(region: &mut R, at: u64, value: u64) {
+pub(crate) fn put<R: Region>(region: &mut R, at: u64, value: u64) {
     let first = region.first();
     if first <= at && at - first < region.words() {
         region.store(at, value);
     }
 }
 
-fn get<R: Region>(region: &R, at: u64) -> u64 {
+pub(crate) fn get<R: Region>(region: &R, at: u64) -> u64 {
     let first = region.first();
     if first <= at && at - first < region.words() {
         region.load(at)
@@ -129,43 +128,12 @@ fn oldest(alloc: Global, region: &MemRegion) -> Result<u64, ImageError> {
     }
 }
 
-#[test]
-fn words_of_a_file(rt: HostRuntime) -> Result<(), Fail> {
-    let alloc = rt.alloc();
-    let name = "pm_region_words_of_a_file";
-    let mut bytes = vec![in alloc; 0u8; 200]?;
-    bytes[64] = 7;
-    fs::write(&rt, name, bytes.as_slice())?;
-    let mut region = FileRegion::at(rt.clone()?, String::from_str(alloc, name)?);
-    assert_eq!(rt; region.words(), 0);
-    assert_eq!(rt; region.attach(alloc), Ok(()));
-    assert_eq!(rt; region.words(), 25);
-    assert_eq!(rt; get(&region, 8), 7);
-    put(&mut region, 2, 12);
-    put(&mut region, 9, 13);
-    flush_first(&mut region);
-    assert_eq!(rt; region.fence(), Ok(()));
-    assert_eq!(rt; region.attach(alloc), Ok(()));
-    assert_eq!(rt; get(&region, 2), 12);
-    assert_eq!(rt; get(&region, 9), 0);
-    assert_eq!(rt; region.bytes(), 200);
-    assert_eq!(rt; region.create(alloc, 16), Ok(()));
-    assert_eq!(rt; region.words(), 16);
-    assert_eq!(rt; region.bytes(), 128);
-    region.attach(alloc)?;
-    assert_eq!(rt; region.words(), 16);
-    assert_eq!(rt; write_part(alloc, &mut region, 8, 21), Ok(true));
-    assert_eq!(rt; get(&region, 0), 21);
-    assert_eq!(rt; region.attach(alloc), Ok(()));
-    assert_eq!(rt; get(&region, 0), 21);
-    fs::remove_file(&rt, name)?;
-    assert_eq!(rt; region.attach(alloc), Err(AttachError::RegionFault));
-    assert_eq!(rt; region.faults(), 1);
-    Ok(())
-}
-
 // Stores a word of a piece, flushes its line and makes a fence.
-fn write_first<P: Region>(piece: &mut P, line: u64, value: u64) -> Result<(), RegionFault>
+pub(crate) fn write_first<P: Region>(
+    piece: &mut P,
+    line: u64,
+    value: u64,
+) -> Result<(), RegionFault>
     requires low { (P.state piece.old).frame.first ≤ 8 * line }
     requires high { 8 * line + 8 ≤ (P.state piece.old).frame.first + (P.state piece.old).frame.words }
     requires fits { 8 * line < 2 ^ 64 }
@@ -177,7 +145,7 @@ fn write_first<P: Region>(piece: &mut P, line: u64, value: u64) -> Result<(), Re
 }
 
 // Splits the region at a cut, writes in the piece below it, and joins.
-fn write_part<R: SplitRegion>(
+pub(crate) fn write_part<R: SplitRegion>(
     alloc: Global,
     region: &mut R,
     cut: u64,

@@ -1,6 +1,6 @@
 use Rattle.std.proofs.Common.{ℕ, ◌≤◌, ◌<◌, get_or}
-use Rattle.pm_region.specs.declared.file.FilePiece.{FilePiece}
-use Rattle.pm_region.proofs.file.most_faults.Given as goal
+use Rattle.pm_region.specs.declared.file_piece.FilePiece.{FilePiece}
+use Rattle.pm_region.proofs.file_pieces.most_faults.Given as goal
 
 abbrev pub invariant-loop-piece : goal.invariant-loop-piece
 invariant-loop-piece l = record {

@@ -1,0 +1,58 @@
+-- The calls of the system on an open file, as clauses see them, and what they leave in the file.
+use Rattle.std.specs.Prelude.{◌≡◌, ℕ, ◌+◌, ◌-◌, ◌==◌, nat_le, nat_lt, Bool, ◌&&◌, if◌then◌else◌, List, [], ◌∷◌, ◌++◌, length, slice_index}
+
+pub data Call : Type 0 where
+  -- the file was synced and its cached pages were dropped, so that a read gives what the disk has
+  settled : Call
+  -- the file had so many bytes
+  measured : ℕ → Call
+  -- a read from a place gave these bytes
+  gave : ℕ → List ℕ → Call
+  -- these bytes were written at a place
+  wrote : ℕ → List ℕ → Call
+  -- the file was cut to nothing
+  emptied : Call
+  -- what was written before is on the disk
+  synced : Call
+  -- the file's name is on the disk
+  named : Call
+  -- a write or a sync failed: the write may have left any part of its bytes
+  failed : Call
+
+-- the call of this kind, from its numbers (the kind, and a place or a size) and bytes
+abbrev pub call_of : List ℕ → List ℕ → Call
+call_of numbers bytes =
+    if slice_index numbers 0 == 0 then settled else
+    if slice_index numbers 0 == 1 then measured (slice_index numbers 1) else
+    if slice_index numbers 0 == 2 then gave (slice_index numbers 1) bytes else
+    if slice_index numbers 0 == 3 then wrote (slice_index numbers 1) bytes else
+    if slice_index numbers 0 == 4 then emptied else
+    if slice_index numbers 0 == 5 then synced else
+    if slice_index numbers 0 == 6 then named else failed
+
+-- a write of n bytes at a place covers the byte
+abbrev pub covers : ℕ → ℕ → ℕ → Bool
+covers at n byte = nat_le at byte && nat_lt byte (at + n)
+
+-- The byte of the file after these calls, of which the newest comes first, on a file that had the bytes `before`. What
+-- a write that failed left isn't said.
+abbrev pub byte_after : (ℕ → ℕ) → List Call → ℕ → ℕ
+byte_after before [] byte = before byte
+byte_after before (settled ∷ calls) byte = byte_after before calls byte
+byte_after before (measured n ∷ calls) byte = byte_after before calls byte
+byte_after before (gave at bytes ∷ calls) byte = byte_after before calls byte
+byte_after before (wrote at bytes ∷ calls) byte = if covers at (length bytes) byte then slice_index bytes (byte - at) else byte_after before calls byte
+byte_after before (emptied ∷ calls) byte = 0
+byte_after before (synced ∷ calls) byte = byte_after before calls byte
+byte_after before (named ∷ calls) byte = byte_after before calls byte
+byte_after before (failed ∷ calls) byte = byte_after before calls byte
+
+-- all of them are writes
+abbrev pub AreWrites : List Call → Type 0
+AreWrites [] = Unit {0}
+AreWrites (wrote at bytes ∷ calls) = AreWrites calls
+AreWrites (_ ∷ calls) = ⊥
+
+-- from the one list to the other only writes were made
+abbrev pub OnlyWrites : List Call → List Call → Type 0
+OnlyWrites before after = (writes : List Call) × (after ≡ writes ++ before) × AreWrites writes

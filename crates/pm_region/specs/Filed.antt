@@ -1,0 +1,85 @@
+-- What the calls of the words of a file do, and which calls of the system they make.
+use Rattle.std.specs.Prelude.{◌≡◌, ◌≢◌, ◌⊎◌, ℕ, ◌+◌, ◌-◌, ◌*◌, ◌/◌, ◌≤◌, ◌<◌, true, false, Bool, List, [], ◌∷◌, replicate, slice_index, Option, Some, None}
+use Rattle.pm_region.specs.Bytes.{word_at}
+use Rattle.pm_region.specs.Split.{words_in}
+use Rattle.pm_region.specs.Lines.{has_line, HasNone, Adds}
+use Rattle.pm_region.specs.Calls.{Call, settled, measured, gave, wrote, emptied, synced, named, byte_after, OnlyWrites}
+use Rattle.pm_region.specs.declared.device.Device.{Device}
+use Rattle.pm_region.specs.declared.file_words.FileWords.{FileWords}
+
+-- the word at a place
+abbrev pub word_of : FileWords → ℕ → ℕ
+word_of w k = word_at w.bytes.items k
+
+-- the next fence writes the line at this place, which is counted from the first of these words
+abbrev pub flushes : FileWords → ℕ → Bool
+flushes w line = has_line w.flushed line
+
+-- the calls on a file, none where there is no file
+abbrev pub calls_on : Option Device → List Call
+calls_on (Some d) = d.calls.made
+calls_on None = []
+
+pub record IsStored (old new : FileWords) (place value : ℕ) : Type 0 where
+  pub size : new.size ≡ old.size
+  pub flushed : new.flushed ≡ old.flushed
+  pub this : word_of new place ≡ value
+  pub others : (k : ℕ) → k ≢ place → word_of new k ≡ word_of old k
+
+pub record IsFlushed (old new : FileWords) (line : ℕ) : Type 0 where
+  pub size : new.size ≡ old.size
+  pub bytes : new.bytes ≡ old.bytes
+  pub flushed : Adds old.flushed new.flushed line
+
+-- the words stay, and what is flushed of them
+pub record IsKept (old new : FileWords) : Type 0 where
+  pub size : new.size ≡ old.size
+  pub bytes : new.bytes ≡ old.bytes
+  pub flushed : (line : ℕ) → flushes new line ≡ flushes old line
+
+-- the byte of the file is in none of the flushed lines of these words, which begin at the byte `start`
+abbrev pub IsBeside : FileWords → ℕ → ℕ → Type 0
+IsBeside w start byte = (line : ℕ) → flushes w line ≡ true → (byte < start + 64 * line) ⊎ (start + 64 * line + 64 ≤ byte)
+
+-- From some calls to others, the flushed lines of these words were written: only writes were made. Each byte of those
+-- lines has its place, and no other byte of the file changed.
+pub record IsWritten (w : FileWords) (start : ℕ) (before after : List Call) : Type 0 where
+  pub writes : OnlyWrites before after
+  pub lines : (disk : ℕ → ℕ) (line byte : ℕ) → flushes w line ≡ true → byte < 64
+      → byte_after disk after (start + (64 * line + byte)) ≡ slice_index w.bytes.items (64 * line + byte)
+  pub others : (disk : ℕ → ℕ) (byte : ℕ) → IsBeside w start byte → byte_after disk after byte ≡ byte_after disk before byte
+
+-- a fence wrote the flushed lines, synced the file, and nothing is flushed any more
+pub record IsFenced (old new : FileWords) (start : ℕ) (before after : List Call) : Type 0 where
+  pub size : new.size ≡ old.size
+  pub bytes : new.bytes ≡ old.bytes
+  pub none : (line : ℕ) → flushes new line ≡ false
+  pub writes : List Call
+  pub written : IsWritten old start before writes
+  pub synced_last : after ≡ synced ∷ writes
+
+-- the words from one place to another, with nothing flushed
+pub record IsPart (w : FileWords) (from end : ℕ) (part : FileWords) : Type 0 where
+  pub size : part.size ≡ 8 * (end - from)
+  pub words : (k : ℕ) → k < end - from → word_of part k ≡ word_of w (from + k)
+  pub none : (line : ℕ) → flushes part line ≡ false
+
+-- a part that begins at the place `first` was taken back, with what is flushed of it
+pub record TakesPart (old new part : FileWords) (first : ℕ) : Type 0 where
+  pub size : new.size ≡ old.size
+  pub inner : (k : ℕ) → k < words_in part.size → word_of new (first + k) ≡ word_of part k
+  pub outer : (k : ℕ) → (k < first) ⊎ (first + words_in part.size ≤ k) → word_of new k ≡ word_of old k
+  pub keeps : (line : ℕ) → flushes old line ≡ true → flushes new line ≡ true
+  pub takes : (line : ℕ) → flushes part line ≡ true → flushes new (first / 8 + line) ≡ true
+
+-- The file was settled, then measured, and then read: these are its words, and nothing is flushed.
+pub record IsOpened (device : Device) (w : FileWords) : Type 0 where
+  pub calls : device.calls.made ≡ gave 0 w.bytes.items ∷ measured w.size ∷ settled ∷ []
+  pub none : (line : ℕ) → flushes w line ≡ false
+
+-- The file was cut to nothing and synced, so many zero words were written and synced, and its name was made certain.
+pub record IsMade (count : ℕ) (device : Device) (w : FileWords) : Type 0 where
+  pub size : w.size ≡ 8 * count
+  pub zeros : w.bytes.items ≡ replicate (8 * count) 0
+  pub calls : device.calls.made ≡ named ∷ synced ∷ wrote 0 w.bytes.items ∷ synced ∷ emptied ∷ []
+  pub none : (line : ℕ) → flushes w line ≡ false

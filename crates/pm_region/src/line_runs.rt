@@ -1,0 +1,64 @@
+// The runs of neighbours among the flushed lines of a file.
+ghost use Rattle.std.specs.Prelude.{◌≡◌, ◌≢◌, ℕ, ◌+◌, ◌-◌, ◌*◌, ◌≤◌, ◌<◌, ◌∷◌, length, take, drop, slice_index, OnOk};
+ghost use Rattle.pm_region.specs.Calls.{wrote};
+ghost use Rattle.pm_region.specs.LineRuns.{AreRuns};
+
+use crate::device::Device;
+use crate::region::RegionFault;
+
+/// How many bytes a line has.
+pub const LINE_BYTES: u64 = 64;
+
+/// Where the run of neighbours ends that begins at a place of this list of lines.
+pub fn run_end(lines: &[u32], from: usize) -> usize
+    requires { from < length lines.now }
+    ensures after { from < result }
+    ensures within { result ≤ length lines.now }
+    ensures neighbours { (j : ℕ) → from + j < result → slice_index lines.now (from + j) ≡ slice_index lines.now from + j }
+    ensures longest { result < length lines.now → slice_index lines.now result ≢ slice_index lines.now from + (result - from) }
+{
+    let first = u64::from(lines[from]);
+    for end in from + 1..lines.len() {
+        if u64::from(lines[end]) != first + (end - from) as u64 {
+            return end;
+        }
+    }
+    lines.len()
+}
+
+/// Writes these lines to the file, where the bytes begin at the byte `start`, each run of neighbours at once.
+pub fn write_runs(
+    device: &mut Device,
+    start: u64,
+    lines: &[u32],
+    bytes: &[u8],
+) -> Result<(), RegionFault>
+    requires start { start ≤ 268439552 }
+    requires within { (j : ℕ) → j < length lines.now → 64 * slice_index lines.now j + 64 ≤ length bytes.now }
+    ensures { OnOk result (AreRuns start lines.now bytes.now (length lines.now) device.old.calls.made device.new.calls.made) }
+{
+    let mut from = 0;
+    while from < lines.len() {
+        let end = run_end(lines, from);
+        write_run(device, start, lines[from], (end - from) as u64, bytes)?;
+        from = end;
+    }
+    Ok(())
+}
+
+// Writes so many lines from the first one on.
+fn write_run(
+    device: &mut Device,
+    start: u64,
+    first: u32,
+    count: u64,
+    bytes: &[u8],
+) -> Result<(), RegionFault>
+    requires start { start ≤ 268439552 }
+    requires within { 64 * first + 64 * count ≤ length bytes.now }
+    ensures { OnOk result (device.new.calls.made ≡ wrote (start + 64 * first) (take (64 * count) (drop (64 * first) bytes.now)) ∷ device.old.calls.made) }
+{
+    let low = LINE_BYTES * u64::from(first);
+    let high = low + LINE_BYTES * count;
+    device.write(start + low, &bytes[low as usize..high as usize])
+}
