@@ -89,10 +89,10 @@ pub pieces_placed : (words : ℕ) (cuts : List ℕ) (pieces : List FilePiece) �
 pieces_placed words cuts pieces are count between = record {
   within = λ i p lt. let b = (between i p lt).end in let w = are.within (i + 1) (omega arith) in omega (arith, b, w);
   apart = λ j i p below lt.
-    let b = (between j p (omega arith)).end in
-    let f = (between i p lt).first in
-    let far = cuts_rise words cuts (i - (j + 1)) (j + 1) are (omega arith) in
-    let e : j + 1 + (i - (j + 1)) ≡ i = omega arith in
-    let far' : get_or cuts (j + 1) 0 ≤ get_or cuts i 0 = subst (λ (m : ℕ). get_or cuts (j + 1) 0 ≤ get_or cuts m 0) e far in
-    omega (arith, b, f, far');
+      let b = (between j p (omega arith)).end in
+      let f = (between i p lt).first in
+      let far = cuts_rise words cuts (i - (j + 1)) (j + 1) are (omega arith) in
+      let e : j + 1 + (i - (j + 1)) ≡ i = omega arith in
+      let far' : get_or cuts (j + 1) 0 ≤ get_or cuts i 0 = subst (λ (m : ℕ). get_or cuts (j + 1) 0 ≤ get_or cuts m 0) e far in
+      omega (arith, b, f, far');
 }

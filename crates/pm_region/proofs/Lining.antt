@@ -83,8 +83,8 @@ pub all_gone : (marks marks' : List Bool) (lines : List ℕ) → KeepsLines mark
     → ((j : ℕ) → j < length lines → is_marked marks' (get_or lines j 0) ≡ false) → (k : ℕ) → is_marked marks' k ≡ false
 all_gone marks marks' lines keeps kept gone k =
     true_or_false (is_marked marks' k) (λ now.
-      let clash : true ≡ false = sym (kept k now) ∙ keeps.listed k (λ j lt e. let c : true ≡ false = sym now ∙ sym (ap (λ (n : ℕ). is_marked marks' n) e) ∙ gone j lt in absurd (cc)) in
-      absurd (cc))
+    let clash : true ≡ false = sym (kept k now) ∙ keeps.listed k (λ j lt e. let c : true ≡ false = sym now ∙ sym (ap (λ (n : ℕ). is_marked marks' n) e) ∙ gone j lt in absurd (cc)) in
+    absurd (cc))
 
 -- nothing is marked
 pub keeps_none : (marks : List Bool) → ((k : ℕ) → is_marked marks k ≡ false) → KeepsLines marks []

@@ -45,21 +45,21 @@ put_above a k j xs ys fits len ge =
 pub word_inner : (first m k : ℕ) (xs ys : List ℕ) → 8 * first ≤ length xs → 8 * k + 8 ≤ length ys → word_at (put_mid (8 * first) m xs ys) (first + k) ≡ word_at ys k
 word_inner first m k xs ys fits lt =
     word_same (put_mid (8 * first) m xs ys) ys (first + k) k (λ j lt'.
-      let e : 8 * (first + k) + j ≡ 8 * first + (8 * k + j) = omega arith in
-      ap (λ (i : ℕ). get_or (put_mid (8 * first) m xs ys) i 0) e ∙ put_inner (8 * first) m (8 * k + j) xs ys fits (omega arith))
+    let e : 8 * (first + k) + j ≡ 8 * first + (8 * k + j) = omega arith in
+    ap (λ (i : ℕ). get_or (put_mid (8 * first) m xs ys) i 0) e ∙ put_inner (8 * first) m (8 * k + j) xs ys fits (omega arith))
 
 -- and the others stay
 pub word_outer : (first m k : ℕ) (xs ys : List ℕ) → 8 * first ≤ length xs → length ys ≡ m → (k < first) ⊎ (8 * first + m ≤ 8 * k) → word_at (put_mid (8 * first) m xs ys) k ≡ word_at xs k
 word_outer first m k xs ys fits len out =
     word_same (put_mid (8 * first) m xs ys) xs k k (λ j lt.
-      ⊎_elim (λ low. put_below (8 * first) m (8 * k + j) xs ys fits (omega arith)) (λ high. put_above (8 * first) m (8 * k + j) xs ys fits len (omega arith)) out)
+    ⊎_elim (λ low. put_below (8 * first) m (8 * k + j) xs ys fits (omega arith)) (λ high. put_above (8 * first) m (8 * k + j) xs ys fits len (omega arith)) out)
 
 -- the words from a place on
 pub word_part : (from m k : ℕ) (xs : List ℕ) → 8 * k + 8 ≤ m → word_at (take m (drop (8 * from) xs)) k ≡ word_at xs (from + k)
 word_part from m k xs lt =
     word_same (take m (drop (8 * from) xs)) xs k (from + k) (λ j lt'.
-      let e : 8 * from + (8 * k + j) ≡ 8 * (from + k) + j = omega arith in
-      get_or-take m (drop (8 * from) xs) (8 * k + j) 0 (omega arith) ∙ get_or-drop (8 * from) xs (8 * k + j) 0 ∙ ap (λ (i : ℕ). get_or xs i 0) e)
+    let e : 8 * from + (8 * k + j) ≡ 8 * (from + k) + j = omega arith in
+    get_or-take m (drop (8 * from) xs) (8 * k + j) 0 (omega arith) ∙ get_or-drop (8 * from) xs (8 * k + j) 0 ∙ ap (λ (i : ℕ). get_or xs i 0) e)
 
 -- the length of a part
 pub length_mid : (a k : ℕ) (xs : List ℕ) → a + k ≤ length xs → length (take k (drop a xs)) ≡ k

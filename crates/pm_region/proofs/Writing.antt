@@ -51,10 +51,10 @@ module _ (start : ℕ) (lines bytes : List ℕ) (from n : ℕ) where
   outside : IsRun → (byte : ℕ) → IsClear start lines (from + n) byte → (byte < start + 64 * first) ⊎ (start + 64 * first + 64 * n ≤ byte)
   outside next byte clear =
       ⊎_elim (λ low. inl low) (λ ge. ⊎_elim (λ lt.
-        let i = (byte - (start + 64 * first)) / 64 in
-        let below : i < n = omega arith in
-        let e : get_or lines (from + i) 0 ≡ first + i = next i (omega arith) in
-        absurd (⊎_elim (λ low. omega arith) (λ high. omega arith) (clear (from + i) (omega arith)))) (λ high. inr high) (cases_lt byte (start + 64 * first + 64 * n))) (cases_lt byte (start + 64 * first))
+      let i = (byte - (start + 64 * first)) / 64 in
+      let below : i < n = omega arith in
+      let e : get_or lines (from + i) 0 ≡ first + i = next i (omega arith) in
+      absurd (⊎_elim (λ low. omega arith) (λ high. omega arith) (clear (from + i) (omega arith)))) (λ high. inr high) (cases_lt byte (start + 64 * first + 64 * n))) (cases_lt byte (start + 64 * first))
 
   module _ (before after : List Call) (are : AreRuns start lines bytes from before after) (fits : 64 * first + 64 * n ≤ length bytes) (next : IsRun) where
     size : length run ≡ 64 * n
@@ -67,7 +67,7 @@ module _ (start : ℕ) (lines bytes : List ℕ) (from n : ℕ) where
         let n_is = size in
         ⊎_elim (λ low. beside disk (start + 64 * first) run after b (inl low) ∙ are.own disk j byte (earlier next j byte lt in_line (inl low)) in_line)
         (λ low. ⊎_elim (λ high. covered disk (start + 64 * first) run after b low (omega arith) ∙ in_run bytes first n (b - (start + 64 * first)) (omega arith) ∙ ap (λ (k : ℕ). get_or bytes k 0) (omega arith))
-          (λ high. beside disk (start + 64 * first) run after b (inr (omega arith)) ∙ are.own disk j byte (earlier next j byte lt in_line (inr high)) in_line) (cases_lt b (start + 64 * first + 64 * n)))
+        (λ high. beside disk (start + 64 * first) run after b (inr (omega arith)) ∙ are.own disk j byte (earlier next j byte lt in_line (inr high)) in_line) (cases_lt b (start + 64 * first + 64 * n)))
         (cases_lt b (start + 64 * first))
 
     other_bytes : (disk : ℕ → ℕ) (byte : ℕ) → IsClear start lines (from + n) byte → byte_after disk (wrote (start + 64 * first) run ∷ after) byte ≡ byte_after disk before byte

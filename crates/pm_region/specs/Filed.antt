@@ -46,7 +46,7 @@ IsBeside w start byte = (line : ℕ) → flushes w line ≡ true → (byte < sta
 pub record IsWritten (w : FileWords) (start : ℕ) (before after : List Call) : Type 0 where
   pub writes : OnlyWrites before after
   pub lines : (disk : ℕ → ℕ) (line byte : ℕ) → flushes w line ≡ true → byte < 64
-    → byte_after disk after (start + (64 * line + byte)) ≡ slice_index w.bytes.items (64 * line + byte)
+      → byte_after disk after (start + (64 * line + byte)) ≡ slice_index w.bytes.items (64 * line + byte)
   pub others : (disk : ℕ → ℕ) (byte : ℕ) → IsBeside w start byte → byte_after disk after byte ≡ byte_after disk before byte
 
 -- a fence wrote the flushed lines, synced the file, and nothing is flushed any more

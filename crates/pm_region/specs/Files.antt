@@ -64,11 +64,11 @@ IsInNone pieces n k = (j : ℕ) (p : FilePiece) → j < n → (k < (slice_index_
 pub record HaveTaken (old new : FileWords) (pieces : List FilePiece) (n : ℕ) : Type 0 where
   pub size : new.size ≡ old.size
   pub inner : (i : ℕ) (p : FilePiece) (k : ℕ) → i < n → k < words_in (slice_index_or pieces i p).words.size
-    → word_of new ((slice_index_or pieces i p).first + k) ≡ word_of (slice_index_or pieces i p).words k
+      → word_of new ((slice_index_or pieces i p).first + k) ≡ word_of (slice_index_or pieces i p).words k
   pub outer : (k : ℕ) → IsInNone pieces n k → word_of new k ≡ word_of old k
   pub keeps : (line : ℕ) → flushes old line ≡ true → flushes new line ≡ true
   pub takes : (i : ℕ) (p : FilePiece) (line : ℕ) → i < n → flushes (slice_index_or pieces i p).words line ≡ true
-    → flushes new ((slice_index_or pieces i p).first / 8 + line) ≡ true
+      → flushes new ((slice_index_or pieces i p).first / 8 + line) ≡ true
 
 -- the file was opened, and these are its words
 abbrev pub HasOpened : Option Device → FileWords → Type 0

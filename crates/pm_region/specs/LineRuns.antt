@@ -11,5 +11,5 @@ IsClear start lines n byte = (j : ℕ) → j < n → (byte < start + 64 * slice_
 pub record AreRuns (start : ℕ) (lines bytes : List ℕ) (n : ℕ) (before after : List Call) : Type 0 where
   pub writes : OnlyWrites before after
   pub own : (disk : ℕ → ℕ) (j byte : ℕ) → j < n → byte < 64
-    → byte_after disk after (start + (64 * slice_index lines j + byte)) ≡ slice_index bytes (64 * slice_index lines j + byte)
+      → byte_after disk after (start + (64 * slice_index lines j + byte)) ≡ slice_index bytes (64 * slice_index lines j + byte)
   pub others : (disk : ℕ → ℕ) (byte : ℕ) → IsClear start lines n byte → byte_after disk after byte ≡ byte_after disk before byte

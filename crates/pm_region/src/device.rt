@@ -177,7 +177,11 @@ fn open_locked<R: Files<File = File>>(rt: &R, path: &str) -> Result<(File, bool)
     let mut both = OpenOptions::new();
     if let Ok(found) = both.read(true).write(true).open(rt, path) {
         let file = above_streams(found)?;
-        return if file.try_lock().is_ok() { Ok((file, true)) } else { Err(RegionFault) };
+        return if file.try_lock().is_ok() {
+            Ok((file, true))
+        } else {
+            Err(RegionFault)
+        };
     }
     let mut reading = OpenOptions::new();
     let file = above_streams(reading.read(true).open(rt, path)?)?;

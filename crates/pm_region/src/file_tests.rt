@@ -137,7 +137,10 @@ fn pieces_of_a_file(rt: HostRuntime) -> Result<(), Fail> {
     // Another file of the same name is none to split.
     fs::write(&rt, "pm_region_other_file", want.as_slice())?;
     fs::rename(&rt, "pm_region_other_file", name)?;
-    assert_eq!(rt; write_part(alloc, &mut region, 8, 23), Err(AttachError::RegionFault));
+    assert_eq!(rt;
+        write_part(alloc, &mut region, 8, 23),
+        Err(AttachError::RegionFault)
+    );
     assert_eq!(rt; region.faults(), 1);
     fs::remove_file(&rt, name)?;
     Ok(())

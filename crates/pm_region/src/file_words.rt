@@ -4,9 +4,9 @@ ghost use Rattle.pm_region.specs.Split.{words_in};
 
 use crate::bytes::{set_word, set_words, word, word_count};
 use crate::device::Device;
+use crate::line_runs::write_runs;
 use crate::line_set::LineSet;
 use crate::region::RegionFault;
-use crate::line_runs::write_runs;
 use std::alloc::{AllocError, Global};
 
 /// How many words a line has.
@@ -116,6 +116,7 @@ impl FileWords {
         ensures { TakesPart self.old self.new part.now first }
     {
         set_words(&mut self.bytes, first, &part.bytes);
-        self.flushed.insert_all(&part.flushed, (first / LINE_WORDS) as u32);
+        self.flushed
+            .insert_all(&part.flushed, (first / LINE_WORDS) as u32);
     }
 }

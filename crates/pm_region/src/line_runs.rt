@@ -27,7 +27,12 @@ pub fn run_end(lines: &[u32], from: usize) -> usize
 }
 
 /// Writes these lines to the file, where the bytes begin at the byte `start`, each run of neighbours at once.
-pub fn write_runs(device: &mut Device, start: u64, lines: &[u32], bytes: &[u8]) -> Result<(), RegionFault>
+pub fn write_runs(
+    device: &mut Device,
+    start: u64,
+    lines: &[u32],
+    bytes: &[u8],
+) -> Result<(), RegionFault>
     requires start { start ≤ 268439552 }
     requires within { (j : ℕ) → j < length lines.now → 64 * slice_index lines.now j + 64 ≤ length bytes.now }
     ensures { OnOk result (AreRuns start lines.now bytes.now (length lines.now) device.old.calls.made device.new.calls.made) }
@@ -42,7 +47,13 @@ pub fn write_runs(device: &mut Device, start: u64, lines: &[u32], bytes: &[u8]) 
 }
 
 // Writes so many lines from the first one on.
-fn write_run(device: &mut Device, start: u64, first: u32, count: u64, bytes: &[u8]) -> Result<(), RegionFault>
+fn write_run(
+    device: &mut Device,
+    start: u64,
+    first: u32,
+    count: u64,
+    bytes: &[u8],
+) -> Result<(), RegionFault>
     requires start { start ≤ 268439552 }
     requires within { 64 * first + 64 * count ≤ length bytes.now }
     ensures { OnOk result (device.new.calls.made ≡ wrote (start + 64 * first) (take (64 * count) (drop (64 * first) bytes.now)) ∷ device.old.calls.made) }

@@ -129,7 +129,11 @@ fn oldest(alloc: Global, region: &MemRegion) -> Result<u64, ImageError> {
 }
 
 // Stores a word of a piece, flushes its line and makes a fence.
-pub(crate) fn write_first<P: Region>(piece: &mut P, line: u64, value: u64) -> Result<(), RegionFault>
+pub(crate) fn write_first<P: Region>(
+    piece: &mut P,
+    line: u64,
+    value: u64,
+) -> Result<(), RegionFault>
     requires low { (P.state piece.old).frame.first ≤ 8 * line }
     requires high { 8 * line + 8 ≤ (P.state piece.old).frame.first + (P.state piece.old).frame.words }
     requires fits { 8 * line < 2 ^ 64 }
