@@ -18,7 +18,9 @@ use Rattle.group_laws.proofs.Puts.{In-append_right}
 use Rattle.crash_core.specs.declared.kinds.Change.{Change}
 use Rattle.crash_core.proofs.Blank as blank
 use Rattle.group_board.specs.Journals.{image_of, place_in}
-use Rattle.group_board.specs.Views.{View, view_of, of_own, after_find, after_take, after_unlock, after_commit}
+use Rattle.group_laws.specs.MemberViews.{View, view_of, of_own}
+use Rattle.group_board.specs.Seats.{SeatAt}
+use Rattle.group_board.specs.Views.{after_find, after_take, after_unlock, after_commit}
 use Rattle.group_board.specs.Conditions.{MayPost, MayLock, MayTake, MayMark, MayFinish}
 use Rattle.group_board.specs.Told.{state_of}
 use Rattle.group_board.specs.Trials.{small_words, fresh, first_put, Leads, Has}
@@ -43,7 +45,10 @@ done_word words.Taken e = absurd (cc)
 done_word (words.Done h) e = (h, refl)
 done_word words.Failed e = absurd (cc)
 
--- at the same place, the same member
+-- a seat that is where it was is the same member's, at the same place
+pub stays : {s t : SeatAt} → t ≡ s → (t.number ≡ s.number) × (t.place ≡ s.place)
+stays e = (ap (λ (x : SeatAt). x.number) e, ap (λ (x : SeatAt). x.place) e)
+
 moved : (p q : Place) (m n : ℕ) → (n ≡ m) × (q ≡ p) → m < members p → n < members q
 moved p q m n same low = subst (λ (k : ℕ). k < members q) (sym same.0) (subst (λ (x : Place). m < members x) (sym same.1) low)
 

@@ -9,7 +9,7 @@ use Rattle.group_laws.specs.Places.{Place, members}
 use Rattle.group_laws.specs.State.{Group}
 use Rattle.group_laws.specs.OpeningImages.{opened}
 use Rattle.group_board.specs.Journals.{image_of, place_in}
-use Rattle.group_board.specs.Views.{View}
+use Rattle.group_laws.specs.MemberViews.{View}
 
 -- the superblock of a region of two cores in one group, with 4 chunks of 4096 bytes each; zeros follow
 abbrev pub small_words : List ℕ

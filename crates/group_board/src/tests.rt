@@ -3,7 +3,7 @@
 ghost use Rattle.std.specs.Prelude.{◌≡◌, ◌≢◌, ◌<◌, ℕ, [], IfOk, IfSome, MatchResult};
 ghost use Rattle.group_laws.specs.Places as places;
 ghost use Rattle.group_board.specs.Journals.{state};
-ghost use Rattle.group_board.specs.Views.{view_of};
+ghost use Rattle.group_laws.specs.MemberViews.{view_of};
 ghost use Rattle.group_board.specs.Conditions.{MayPost, MayLock};
 ghost use Rattle.group_board.specs.Trials.{small_words, fresh, first_put, Leads, Has};
 
@@ -32,9 +32,9 @@ fn open_small(rt: &HostRuntime) -> Result<LocalBoard, Fail>
 
 /// Posts a change in slot 0 and tries to become the leader.
 fn offer<B: Board>(board: &mut B, change: Change) -> Result<(), Busy>
-    requires post { MayPost (B.place board.old) (B.number board.old) (B.view board.old) 0 change [] }
-    requires lock { MayLock (B.place board.old) (B.number board.old) (B.view board.old) }
-    ensures { IfOk result (λ _. Leads (B.place board.new) (B.number board.new) (B.view board.new)) }
+    requires post { MayPost (B.seat board.old).place (B.seat board.old).number (B.view board.old) 0 change [] }
+    requires lock { MayLock (B.seat board.old).place (B.seat board.old).number (B.view board.old) }
+    ensures { IfOk result (λ _. Leads (B.seat board.new).place (B.seat board.new).number (B.view board.new)) }
 {
     board.post(0, change, &[]);
     board.try_lock()
@@ -42,8 +42,8 @@ fn offer<B: Board>(board: &mut B, change: Change) -> Result<(), Busy>
 
 /// Takes what the leader itself offers in slot 0.
 fn collect<B: Board>(board: &mut B) -> Option<Change>
-    requires { Leads (B.place board.old) (B.number board.old) (B.view board.old) }
-    ensures { IfSome result (λ c. Has (B.place board.new) (B.number board.new) (B.view board.new) c.entry) }
+    requires { Leads (B.seat board.old).place (B.seat board.old).number (B.view board.old) }
+    ensures { IfSome result (λ c. Has (B.seat board.new).place (B.seat board.new).number (B.view board.new) c.entry) }
 {
     let member = board.member();
     match board.look(member, 0) {
@@ -54,8 +54,8 @@ fn collect<B: Board>(board: &mut B) -> Option<Change>
 
 /// Gives the lock and the own change back, as certain.
 fn give_back<B: Board>(board: &mut B, change: Change)
-    requires { Has (B.place board.old) (B.number board.old) (B.view board.old) change.entry }
-    ensures { B.number board.new < places.members (B.place board.new) }
+    requires { Has (B.seat board.old).place (B.seat board.old).number (B.view board.old) change.entry }
+    ensures { (B.seat board.new).number < places.members (B.seat board.new).place }
 {
     let member = board.member();
     board.unlock();
@@ -65,7 +65,7 @@ fn give_back<B: Board>(board: &mut B, change: Change)
 
 /// Takes the own change back from slot 0.
 fn settle<B: Board>(board: &mut B) -> Option<Change>
-    requires { B.number board.old < places.members (B.place board.old) }
+    requires { (B.seat board.old).number < places.members (B.seat board.old).place }
 {
     let member = board.member();
     match board.look(member, 0) {
