@@ -1,7 +1,7 @@
 use Rattle.std.proofs.Common.{◌≡◌, length}
 use Rattle.std.specs.List.{AllByRecursion}
 use Rattle.crash_core.specs.Shows.{IsEmptyView}
-use Rattle.crash_core.proofs.state.empty_views.Given as goal
+use Rattle.crash_core.proofs.group_state.empty_views.Given as goal
 
 abbrev pub invariant-loop : goal.invariant-loop
 invariant-loop l = record {
