@@ -11,4 +11,4 @@ returns c =
     let v = c.index_mut-view.result.now in
     let can = c.if-not-may_doom.ensures.0 refl in
     let at = view_at g m v can.member c.index_mut-view.ensures.value in
-      (can, doom_is (place_of g) g.holder g.slots g.views.items m v at g.mail c.args.names.now c.extend_from_slice.new.self c.clear.new.self c.in_ok-extend_from_slice.ensures.items c.clear.ensures.items)
+    (can, doom_is (place_of g) g.holder g.slots g.views.items m v at g.mail c.args.names.now c.extend_from_slice.new.self c.clear.new.self c.in_ok-extend_from_slice.ensures.items c.clear.ensures.items)

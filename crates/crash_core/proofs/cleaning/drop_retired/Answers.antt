@@ -22,5 +22,5 @@ returns c =
     let doomed_set : (k n : ℕ) → has doomed.items k n ≡ (has v.doomed.items k n && not (has ns k n)) = λ k n. c.in_ok-view-3.ensures k n ∙ ap (λ (xs : List EntryName). has xs k n && not (has ns k n)) c.deref-3.ensures.value in
     let told_set : (k n : ℕ) → has told.items k n ≡ (has v.told.items k n && not (has ns k n)) = λ k n. c.in_ok-view-4.ensures k n ∙ ap (λ (xs : List EntryName). has xs k n && not (has ns k n)) c.deref-4.ensures.value in
     let leaving_set = c.in_ok-extend_from_slice.ensures.items ∙ ap (λ (xs : List EntryName). v.leaving.items ++ xs) c.deref-5.ensures.value in
-      retire_is (place_of g) g.holder g.slots g.views.items m v at g.mail ns c.in_ok-away.away.items kept c.clear.new.self c.take_out.new.present told dead doomed c.extend_from_slice.new.self
-          left c.take_out.ensures told_set dead_set doomed_set leaving_set c.in_ok-away.ensures c.clear.ensures.items
+    retire_is (place_of g) g.holder g.slots g.views.items m v at g.mail ns c.in_ok-away.away.items kept c.clear.new.self c.take_out.new.present told dead doomed c.extend_from_slice.new.self
+    left c.take_out.ensures told_set dead_set doomed_set leaving_set c.in_ok-away.ensures c.clear.ensures.items

@@ -20,5 +20,5 @@ returns c =
     ∙ ap (λ (xs : List EntryName). has xs k j && not (has c.names-2.result.now k j)) c.deref.ensures.value
     ∙ ap (λ (xs : List EntryName). has v.told.items k j && not (has xs k j)) c.names-2.ensures in
     let present_set : (k j : ℕ) → get pair_cmp c.take_out.new.present (k, j) ≡ cond (has n.gone k j) None (get pair_cmp v.present (k, j)) = λ k j. c.take_out.ensures k j ∙ ap (λ (xs : List EntryName). cond (has xs k j) None (get pair_cmp v.present (k, j))) c.names-3.ensures in
-      receive_is (place_of g) g.holder g.slots g.views.items m v at g.mail c.remove.new.self c.args.from n c.clear.new.self c.take_out.new.present told c.extend_from_slice.new.self
-          c.remove.ensures.updates dead_more present_set told_set c.clear.ensures.items
+    receive_is (place_of g) g.holder g.slots g.views.items m v at g.mail c.remove.new.self c.args.from n c.clear.new.self c.take_out.new.present told c.extend_from_slice.new.self
+    c.remove.ensures.updates dead_more present_set told_set c.clear.ensures.items

@@ -18,9 +18,8 @@ returns c =
     let told_more = c.in_ok-extend_from_slice.ensures.items ∙ ap (λ (xs : List EntryName). v.told.items ++ xs) c.names.ensures in
     let leaving_set : (k j : ℕ) → has leaving.items k j ≡ (has v.leaving.items k j && not (has n.gone k j)) = λ k j. c.in_ok-view.ensures k j
     ∙ ap (λ (xs : List EntryName). has xs k j && not (has c.names-2.result.now k j)) c.deref.ensures.value
-    ∙ ap (λ (xs : List EntryName). has v.leaving.items k j && not (has xs k j)) c.names-2.ensures in
-      (
-        can,
-        send_is (place_of g) g.holder g.slots g.views.items m v at g.mail c.insert.new.self c.args.to c.in_ok-mailed.mailed c.in_ok-sent.sent n c.clear.new.self c.extend_from_slice.new.self leaving c.insert-2.new.self
-            c.in_ok-sent.ensures c.in_ok-mailed.ensures c.in_ok-insert.ensures.updates c.in_ok-insert-2.ensures.updates told_more (λ k j t. (can.dead k j t).0) leaving_set c.clear.ensures.items,
-      )
+    ∙ ap (λ (xs : List EntryName). has v.leaving.items k j && not (has xs k j)) c.names-2.ensures in (
+      can,
+      send_is (place_of g) g.holder g.slots g.views.items m v at g.mail c.insert.new.self c.args.to c.in_ok-mailed.mailed c.in_ok-sent.sent n c.clear.new.self c.extend_from_slice.new.self leaving c.insert-2.new.self
+          c.in_ok-sent.ensures c.in_ok-mailed.ensures c.in_ok-insert.ensures.updates c.in_ok-insert-2.ensures.updates told_more (λ k j t. (can.dead k j t).0) leaving_set c.clear.ensures.items,
+    )

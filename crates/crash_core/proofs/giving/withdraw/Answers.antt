@@ -14,10 +14,9 @@ returns c =
     let v = c.index_mut-view.result.now in
     let slot : (group_of g).slot m c.args.slot ≡ Posted e = posted_is _ e (sym c.in_ok-entry.ensures ∙ c.in-Some.is) in
     let can = (c.if-not-may_withdraw.ensures slot).0 refl in
-    let at = view_at g m v can.slot.0 c.index_mut-view.ensures.value in
-      (
-        e,
-        can,
-        withdraw_is (place_of g) g.holder g.mail g.views.items m v at g.slots c.insert.new.self c.args.slot e c.remove.new.self c.drop_block.new.blocks c.clear.new.self
-            can.own c.in_ok-insert.ensures.updates c.remove.ensures.updates c.drop_block.ensures c.clear.ensures.items,
-      )
+    let at = view_at g m v can.slot.0 c.index_mut-view.ensures.value in (
+      e,
+      can,
+      withdraw_is (place_of g) g.holder g.mail g.views.items m v at g.slots c.insert.new.self c.args.slot e c.remove.new.self c.drop_block.new.blocks c.clear.new.self
+          can.own c.in_ok-insert.ensures.updates c.remove.ensures.updates c.drop_block.ensures c.clear.ensures.items,
+    )

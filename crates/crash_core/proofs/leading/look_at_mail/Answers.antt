@@ -14,10 +14,9 @@ returns c =
     let low = c.if-not-has_member.ensures.0 refl in
     let sender = c.if-not-has_member-2.ensures.0 refl in
     let receiver = c.if-not-has_member-3.ensures.0 refl in
-    let at = view_at g m v low c.index_mut-view.ensures.value in
-      (
-        low,
-        sender,
-        receiver,
-        find_is (place_of g) g.mail g.views.items m v at g.holder g.slots c.push.new.self (SeenMail c.args.from c.args.to (is_full ((group_of g).mail c.args.from c.args.to))) (rw (← c.mail_at-full.ensures) c.in_ok-push.ensures.items),
-      )
+    let at = view_at g m v low c.index_mut-view.ensures.value in (
+      low,
+      sender,
+      receiver,
+      find_is (place_of g) g.mail g.views.items m v at g.holder g.slots c.push.new.self (SeenMail c.args.from c.args.to (is_full ((group_of g).mail c.args.from c.args.to))) (rw (← c.mail_at-full.ensures) c.in_ok-push.ensures.items),
+    )

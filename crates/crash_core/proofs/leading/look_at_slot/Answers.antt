@@ -13,9 +13,8 @@ returns c =
     let v = c.index_mut-view.result.now in
     let low = c.if-not-has_member.ensures.0 refl in
     let other = c.if-not-has_member-2.ensures.0 refl in
-    let at = view_at g m v low c.index_mut-view.ensures.value in
-      (
-        low,
-        (other, omega arith),
-        find_is (place_of g) g.mail g.views.items m v at g.holder g.slots c.push.new.self (SeenSlot c.args.owner c.args.slot (shown ((group_of g).slot c.args.owner c.args.slot))) (rw (← c.word_at-word.ensures) c.in_ok-push.ensures.items),
-      )
+    let at = view_at g m v low c.index_mut-view.ensures.value in (
+      low,
+      (other, omega arith),
+      find_is (place_of g) g.mail g.views.items m v at g.holder g.slots c.push.new.self (SeenSlot c.args.owner c.args.slot (shown ((group_of g).slot c.args.owner c.args.slot))) (rw (← c.word_at-word.ensures) c.in_ok-push.ensures.items),
+    )

@@ -29,4 +29,4 @@ returns c =
     let kept : (k : ℕ) → (In k spent → ⊥) → get nat_cmp c.forget.new.last k ≡ get nat_cmp v.last k = λ k away. c.forget.ensures.kept k (λ i. away (subst (In k) c.deref.ensures.value i)) in
     let told = c.in_ok-extend_from_slice.ensures.items ∙ ap (λ (xs : List EntryName). v.told.items ++ xs) c.deref-2.ensures.value in
     let dead = c.in_ok-extend_from_slice-2.ensures.items ∙ ap (λ (xs : List EntryName). v.dead.items ++ xs) c.deref-3.ensures.value in
-      tidied (place_of g) g.holder g.slots g.mail g.views.items m v at c.forget.new.last c.extend_from_slice.new.self c.extend_from_slice-2.new.self spent names only all must gone kept told dead
+    tidied (place_of g) g.holder g.slots g.mail g.views.items m v at c.forget.new.last c.extend_from_slice.new.self c.extend_from_slice-2.new.self spent names only all must gone kept told dead
