@@ -21,13 +21,13 @@ use Rattle.group_board.specs.Journals.{image_of, place_in}
 use Rattle.group_laws.specs.MemberViews.{View, view_of, of_own}
 use Rattle.group_board.specs.Seats.{SeatAt}
 use Rattle.group_board.specs.Views.{after_find, after_take, after_unlock, after_commit}
-use Rattle.group_board.specs.Conditions.{MayPost, MayLock, MayTake, MayMark, MayFinish}
+use Rattle.group_board.specs.Conditions.{MayPost, MayLock, MayTake, MayMark, MayFail, MayFinish, MayWithdraw}
 use Rattle.group_board.specs.Told.{state_of}
 use Rattle.group_board.specs.Trials.{small_words, fresh, first_put, Leads, Has}
 use Rattle.group_board.specs.declared.board.SlotState.TheVariants as states
 
 -- the small image is sound
-pub small_sound : IsSound 36864 (image_of small_words)
+pub small_sound : IsSound 53248 (image_of small_words)
 unfolding first_fault
 small_sound = refl
 
@@ -85,6 +85,37 @@ may_mark p q r m n o a v u t e me one two has f g = record {
   kept = subst (λ (w : View). In e w.kept) (sym g) (In-append_right e u.kept u.flying (subst (λ (w : View). In e w.flying) (sym f) has.flying));
 }
 
+pub may_fail : (p q : Place) (m n a : ℕ) (v u : View) (e : Entry) → a ≡ m → (n ≡ m) × (q ≡ p) → Has p m v e → u ≡ after_unlock v → MayFail q n u a 0 e
+may_fail p q m n a v u e me same has f = record {
+  member = moved p q m n same has.member;
+  target = moved p q m a (me, same.1) has.member;
+  slot = omega arith;
+  taken = ap (λ w. w.taken a 0) f ∙ (ap (λ k. v.taken k 0) me ∙ has.taken);
+  flying = subst (λ (w : View). In e w.flying) (sym f) has.flying;
+}
+
+pub may_withdraw : (p q : Place) (m n a k : ℕ) (v u : View) (x : SlotWord) → a ≡ m → (n ≡ m) × (q ≡ p) → Leads p m v → state_of x ≡ states.Posted k → u ≡ after_find (loads.Slot a 0 x) v → MayWithdraw q n u 0
+may_withdraw p q m n a k v u x me same lead posted e = record {
+  member = moved p q m n same lead.member;
+  slot = omega arith;
+  holds = ap (λ w. w.holds) e ∙ lead.holds;
+  seen = (k, subst (λ (b : ℕ). In (loads.Slot b 0 (words.Posted k)) u.looked) (me ∙ sym same.0) (subst (λ (w : SlotWord). In (loads.Slot a 0 w) u.looked) (posted_word x k posted) (seen_last v u a x e)));
+}
+
+failed_word : (x : SlotWord) → state_of x ≡ states.Failed → x ≡ words.Failed
+failed_word words.Empty e = absurd (cc)
+failed_word (words.Posted k) e = absurd (cc)
+failed_word words.Taken e = absurd (cc)
+failed_word (words.Done h) e = absurd (cc)
+failed_word words.Failed e = refl
+
+pub may_give_up : (p q : Place) (m n a : ℕ) (v u : View) (x : SlotWord) → a ≡ m → (n ≡ m) × (q ≡ p) → m < members p → state_of x ≡ states.Failed → u ≡ after_find (loads.Slot a 0 x) v → MayFinish q n u 0
+may_give_up p q m n a v u x me same low failed e = record {
+  member = moved p q m n same low;
+  slot = omega arith;
+  seen = inl (subst (λ (k : ℕ). In (loads.Slot k 0 words.Failed) u.looked) (me ∙ sym same.0) (subst (λ (w : SlotWord). In (loads.Slot a 0 w) u.looked) (failed_word x failed) (seen_last v u a x e)));
+}
+
 pub may_finish : (p q : Place) (m n a : ℕ) (v u : View) (x : SlotWord) → a ≡ m → (n ≡ m) × (q ≡ p) → m < members p → state_of x ≡ states.Done → u ≡ after_find (loads.Slot a 0 x) v → MayFinish q n u 0
 may_finish p q m n a v u x me same low done e =
     let h = done_word x done in
@@ -110,27 +141,27 @@ none_own : {X : Type 0} (b : Bool) (d : X) → cond b d d ≡ d
 none_own true d = refl
 none_own false d = refl
 
-small_owner : owner small 0 ≡ 0
+small_owner : owner small 1 ≡ 1
 unfolding owner
 small_owner = refl
 
-fresh_post : MayPost fresh.place 0 (view_of fresh 0) 0 first_put []
+fresh_post : MayPost fresh.place 1 (view_of fresh 1) 0 first_put []
 fresh_post = record {
   member = omega arith;
   slot = omega arith;
-  free = λ k e p. (let q : None ≡ Some (record { entry = e; slot = Some 0 }) = sym (none_own {X = Option Pending} (eqb (owner fresh.place k) 0) None) ∙ p in absurd (cc));
+  free = λ k e p. (let q : None ≡ Some (record { entry = e; slot = Some 0 }) = sym (none_own {X = Option Pending} (eqb (owner fresh.place k) 1) None) ∙ p in absurd (cc));
   home = refl;
   spelled = record { key = omega arith; fits = (omega arith, omega arith, omega arith, (omega arith, tt)) };
   own = small_owner;
-  idle = none_own (eqb (owner fresh.place 0) 0) None;
+  idle = none_own (eqb (owner fresh.place 1) 1) None;
   whole = refl;
-  next = sym (ap (λ (x : ℕ). x + 1) (ap (λ (x : ℕ). of_own small 0 0 x 0) (blank.no_last small small_place (image_of small_words) small_blank 0) ∙ none_own (eqb (owner small 0) 0) 0));
+  next = sym (ap (λ (x : ℕ). x + 1) (ap (λ (x : ℕ). of_own small 1 1 x 0) (blank.no_last small small_place (image_of small_words) small_blank 1) ∙ none_own (eqb (owner small 1) 1) 0));
   live = λ t. absurd (cc);
   block = λ at t. absurd (cc);
 }
 
-pub may_post : (w : Group) (c : Change) → w ≡ fresh → c ≡ first_put → MayPost w.place 0 (view_of w 0) 0 c []
-may_post w c e f = subst (λ (x : Change). MayPost w.place 0 (view_of w 0) 0 x []) (sym f) (subst (λ (g : Group). MayPost g.place 0 (view_of g 0) 0 first_put []) (sym e) fresh_post)
+pub may_post : (w : Group) (c : Change) → w ≡ fresh → c ≡ first_put → MayPost w.place 1 (view_of w 1) 0 c []
+may_post w c e f = subst (λ (x : Change). MayPost w.place 1 (view_of w 1) 0 x []) (sym f) (subst (λ (g : Group). MayPost g.place 1 (view_of g 1) 0 first_put []) (sym e) fresh_post)
 
 -- another member's try of the lock changes nothing of what this one may do
 pub may_lock : (w u : Group) (h m : ℕ) → IsStep w h runs.Kind.Lock u → m ≢ h → MayLock w.place m (view_of w m) → MayLock u.place m (view_of u m)

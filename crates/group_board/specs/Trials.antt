@@ -11,9 +11,9 @@ use Rattle.group_laws.specs.OpeningImages.{opened}
 use Rattle.group_board.specs.Journals.{image_of, place_in}
 use Rattle.group_laws.specs.MemberViews.{View}
 
--- the superblock of a region of two cores in one group, with 4 chunks of 4096 bytes each; zeros follow
+-- the superblock of a region of three cores in one group, with 4 chunks of 4096 bytes each; zeros follow
 abbrev pub small_words : List ℕ
-small_words = magic ∷ 1 ∷ 2 ∷ 2 ∷ 4 ∷ 4096 ∷ []
+small_words = magic ∷ 1 ∷ 3 ∷ 3 ∷ 4 ∷ 4096 ∷ []
 
 abbrev pub fresh : Group
 fresh = opened (place_in 0 small_words) (image_of small_words)
@@ -32,6 +32,6 @@ pub record Has (p : Place) (m : ℕ) (v : View) (e : Entry) : Type 0 where
   pub taken : v.taken m 0 ≡ Some e
   pub flying : In e v.flying
 
--- a put of the byte 97 under key 0
+-- a put of the byte 97 under key 1, which is member 1's
 abbrev pub first_put : Change
-first_put = record { entry = record { key = 0; version = 1; body = Embedded (97 ∷ []) }; home = None }
+first_put = record { entry = record { key = 1; version = 1; body = Embedded (97 ∷ []) }; home = None }

@@ -160,9 +160,9 @@ pub trait Board {
             ≡ Option.Some (record { entry = result.entry; slot = Option.Some slot }) }
         ensures view { MatchOption result.home
             (TidiedIn (seat self.old).place (seat self.old).number
-                (after_give_up result.entry (view self.old)) (view self.new))
+            (after_give_up result.entry (view self.old)) (view self.new))
             (λ home. TidiedIn (seat self.old).place (seat self.old).number
-                (after_finish result.entry home (view self.old)) (view self.new)) }
+            (after_finish result.entry home (view self.old)) (view self.new)) }
         ensures stood { Stood (whole self.old) (seat self.old).number slot
             (stood_as result.entry result.home) }
         ensures whole { Makes (whole self.old) (seat self.old).number
@@ -210,13 +210,13 @@ pub trait Board {
         ensures view { MatchResult result
             (λ _. view self.new ≡ after_send to (notices_of notices) (view self.old))
             (λ full. view self.new
-                ≡ after_find (loads.Mail (seat self.old).number to true) (view self.old)) }
+            ≡ after_find (loads.Mail (seat self.old).number to true) (view self.old)) }
         ensures whole { MatchResult result
             (λ _. MakesBoth (whole self.old) (seat self.old).number
-                (runs.Kind.LookMail (seat self.old).number to) (runs.Kind.Send to (notices_of notices))
-                (whole self.new) (view self.new))
+            (runs.Kind.LookMail (seat self.old).number to) (runs.Kind.Send to (notices_of notices))
+            (whole self.new) (view self.new))
             (λ full. Makes (whole self.old) (seat self.old).number
-                (runs.Kind.LookMail (seat self.old).number to) (whole self.new) (view self.new)) };
+            (runs.Kind.LookMail (seat self.old).number to) (whole self.new) (view self.new)) };
 
     /// Takes what another member told, and None exactly where its mailbox was empty. Of each name that is told dead
     /// the entry is in the own log; each gone one is an own key's, was told dead, and stood at the sender.
@@ -228,15 +228,15 @@ pub trait Board {
         ensures view { MatchOption result
             (view self.new ≡ after_find (loads.Mail from (seat self.old).number false) (view self.old))
             (λ notices. TidiedIn (seat self.old).place (seat self.old).number
-                (after_receive (seat self.old).place (seat self.old).number
-                    (notices_of notices) (view self.old)) (view self.new)) }
+            (after_receive (seat self.old).place (seat self.old).number
+            (notices_of notices) (view self.old)) (view self.new)) }
         ensures stood { Held (whole self.old) from (seat self.old).number result }
         ensures whole { MatchOption result
             (Makes (whole self.old) (seat self.old).number
-                (runs.Kind.LookMail from (seat self.old).number) (whole self.new) (view self.new))
+            (runs.Kind.LookMail from (seat self.old).number) (whole self.new) (view self.new))
             (λ notices. MakesBoth (whole self.old) (seat self.old).number
-                (runs.Kind.LookMail from (seat self.old).number) (runs.Kind.Receive from)
-                (whole self.new) (view self.new)) };
+            (runs.Kind.LookMail from (seat self.old).number) (runs.Kind.Receive from)
+            (whole self.new) (view self.new)) };
 
     // Where the state is told, place and view are what it has of this member, and it is lawful.
     ghost agrees: { (s : Self) → IfSome (whole s)

@@ -18,10 +18,10 @@ pub struct LocalSeat<'a> {
 
 impl<'a> Board for LocalSeat<'a> {
     ghost seat = { λ s. record {
-        number = s.member;
-        place = (state s.board.now.keeper.me.0).place;
-        table = s.board.now.table.shared.table_id;
-        handle = s.board.ghost_name;
+      number = s.member;
+      place = (state s.board.now.keeper.me.0).place;
+      table = s.board.now.table.shared.table_id;
+      handle = s.board.ghost_name;
     } };
 
     ghost view = { λ s. view_of (state s.board.now.keeper.me.0) s.member };

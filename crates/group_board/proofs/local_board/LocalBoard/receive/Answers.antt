@@ -33,4 +33,4 @@ returns-then-look_at_mail-clause-lawful c =
 pub returns-else-look_at_mail-clause-lawful : goal.returns-else-look_at_mail-clause-lawful
 returns-else-look_at_mail-clause-lawful c =
     λ L. step_keeps (state c.args.self.now.keeper.me.0) c.args.member (runs.Kind.LookMail c.args.from c.args.member) (state c.look_at_mail.new.self.keeper.me.0) L
-        (mail_step (state c.args.self.now.keeper.me.0) (state c.look_at_mail.new.self.keeper.me.0) c.args.member c.args.from c.args.member c.look_at_mail.result c.look_at_mail.ensures.state c.requires.member c.requires.sender c.requires.member c.look_at_mail.ensures.found)
+    (mail_step (state c.args.self.now.keeper.me.0) (state c.look_at_mail.new.self.keeper.me.0) c.args.member c.args.from c.args.member c.look_at_mail.result c.look_at_mail.ensures.state c.requires.member c.requires.sender c.requires.member c.look_at_mail.ensures.found)

@@ -29,4 +29,4 @@ returns-clause-lawful c =
 pub returns-then-look_at_mail-clause-lawful : goal.returns-then-look_at_mail-clause-lawful
 returns-then-look_at_mail-clause-lawful c =
     λ L. step_keeps (state c.args.self.now.keeper.me.0) c.args.member (runs.Kind.LookMail c.args.member c.args.to) (state c.look_at_mail.new.self.keeper.me.0) L
-        (mail_step (state c.args.self.now.keeper.me.0) (state c.look_at_mail.new.self.keeper.me.0) c.args.member c.args.member c.args.to c.look_at_mail.result c.look_at_mail.ensures.state c.requires.member c.requires.member c.requires.receiver c.look_at_mail.ensures.found)
+    (mail_step (state c.args.self.now.keeper.me.0) (state c.look_at_mail.new.self.keeper.me.0) c.args.member c.args.member c.args.to c.look_at_mail.result c.look_at_mail.ensures.state c.requires.member c.requires.member c.requires.receiver c.look_at_mail.ensures.found)
