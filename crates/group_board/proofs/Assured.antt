@@ -1,5 +1,5 @@
 -- What the invariant says of an entry that is taken or comes back, and of what is heard, where it is known only that there is a proof of it.
-use Rattle.std.proofs.Common.{◌≡◌, ℕ, ◌<◌, ◌≤◌, Bool, true, false, ◌&&◌, eqb, List, [], ◌∷◌, Option, Some, None, IfSome, inl, inr, sym, ap, ◌∙◌, subst, eqb-true, eq-eqb}
+use Rattle.std.proofs.Common.{◌≡◌, ℕ, ◌<◌, Bool, true, false, ◌&&◌, eqb, List, [], ◌∷◌, Option, Some, None, IfSome, inl, inr, sym, ap, ◌∙◌, subst, eqb-true, eq-eqb}
 use Rattle.std.specs.List.{AllByRecursion, list_any}
 use Rattle.std.proofs.lemmas.Bool.{and_parts, and_from, or_cases, or_left, or_right}
 use Rattle.std.proofs.Math.Bridge.{le_prop}
@@ -12,10 +12,9 @@ use Rattle.log_entry.specs.Spelling.{HasSpelling, Fits}
 use Rattle.store_image.specs.Facts.{In}
 use Rattle.group_laws.specs.declared.types.Slot.{Slot}
 use Rattle.group_laws.specs.declared.types.Slot.TheVariants.{Posted, Done}
-use Rattle.group_laws.specs.Places.{members, owner}
+use Rattle.group_laws.specs.Places.{owner}
 use Rattle.group_laws.specs.Updates.{has}
-use Rattle.group_laws.specs.State.{Group}
-use Rattle.group_laws.specs.MemberViews.{View, view_of}
+use Rattle.group_laws.specs.MemberViews.{view_of}
 use Rattle.group_laws.proofs.Images.{in_any, any_in}
 use Rattle.group_laws.proofs.Names.{has_In}
 use Rattle.crash_core.specs.declared.names.Notices.{Notices}
@@ -23,7 +22,7 @@ use Rattle.crash_core.specs.Shows.{notices_of}
 use Rattle.group_board.specs.declared.journal.Journal.{Journal}
 use Rattle.group_board.specs.Journals.{state}
 use Rattle.group_board.specs.Kept.{IsKept}
-use Rattle.group_board.specs.Assurances.{IsHome, IsHeard, IsOwnEntry}
+use Rattle.group_board.specs.Assurances.{IsHome, IsHeard}
 use Rattle.group_board.specs.Told.{stood_as}
 use Rattle.group_board.proofs.Views.{own_is}
 
