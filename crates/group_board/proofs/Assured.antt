@@ -12,7 +12,7 @@ use Rattle.log_entry.specs.Spelling.{HasSpelling, Fits}
 use Rattle.store_image.specs.Facts.{In}
 use Rattle.group_laws.specs.declared.types.Slot.{Slot}
 use Rattle.group_laws.specs.declared.types.Slot.TheVariants.{Posted, Done}
-use Rattle.group_laws.specs.Places.{owner}
+use Rattle.group_laws.specs.Places.{members, owner}
 use Rattle.group_laws.specs.Updates.{has}
 use Rattle.group_laws.specs.MemberViews.{view_of}
 use Rattle.group_laws.proofs.Images.{in_any, any_in}
@@ -56,6 +56,10 @@ any_named k v (x ∷ xs) t = elim (or_cases (is_named k v x) (list_any (is_named
 ]
 
 module _ (n : ℕ) (h : Option ℕ) (slots : List Slot) (mail : List (Option Notices)) (j : Journal) (k : ∥ IsKept n h slots mail j ∥₁) where
+  -- who has the lock
+  pub holder_low : (at : ℕ) → h ≡ Some at → at < members (state j).place
+  holder_low at is = ∥∥₁_elim k le_prop (λ o. o.lawful.looks.holder_member at (o.holder_is ∙ is))
+
   pub posted_spelled : (a s : ℕ) (e : Entry) → (state j).slot a s ≡ Posted e → HasSpelling e
   posted_spelled a s e is = ∥∥₁_elim k (spelling_prop e) (λ o. o.lawful.keys.spelled e.key (record { entry = e; slot = Some s }) (o.lawful.slots.posted_named a s e is).0)
 

@@ -1,5 +1,5 @@
 -- What the tests' helpers need.
-use Rattle.std.proofs.Common.{◌≡◌, ◌≢◌, ℕ, ◌+◌, ◌<◌, ◌≤◌, Bool, true, false, cond, ◌&&◌, eqb, [], ◌∷◌, Option, Some, None, inl, inr, refl, sym, ap, ◌∙◌, subst, arith, eq-eqb, ne_eqb}
+use Rattle.std.proofs.Common.{◌≡◌, ◌≢◌, ℕ, ◌+◌, ◌<◌, ◌≤◌, Bool, true, false, cond, ◌&&◌, eqb, List, [], ◌∷◌, length, Option, Some, None, inl, inr, refl, sym, ap, ◌∙◌, subst, arith, eq-eqb, ne_eqb}
 use Rattle.std.proofs.Math.ListN.{get_or-eq_default}
 use Rattle.log_entry.specs.declared.entry.Entry.{Entry}
 use Rattle.chunk_map.specs.Layouts.{chunk_first, head_by}
@@ -9,7 +9,8 @@ use Rattle.group_laws.specs.declared.types.Seen.TheVariants as loads
 use Rattle.group_laws.specs.declared.types.SlotWord.{SlotWord}
 use Rattle.group_laws.specs.declared.types.SlotWord.TheVariants as words
 use Rattle.group_laws.specs.declared.types.Pending.{Pending}
-use Rattle.group_laws.specs.Places.{Place, IsPlace, members, owner}
+use Rattle.group_laws.specs.declared.types.Block.{Block}
+use Rattle.group_laws.specs.Places.{Place, IsPlace, members, owner, first_unit, units, LiesIn, GetsBlock}
 use Rattle.group_laws.specs.State.{Group}
 use Rattle.group_laws.specs.Runs.{IsStep}
 use Rattle.group_laws.specs.Runs as runs
@@ -21,9 +22,9 @@ use Rattle.group_board.specs.Journals.{image_of, place_in}
 use Rattle.group_laws.specs.MemberViews.{View, view_of, of_own}
 use Rattle.group_board.specs.Seats.{SeatAt}
 use Rattle.group_board.specs.Views.{after_find, after_take, after_unlock, after_commit}
-use Rattle.group_board.specs.Conditions.{MayPost, MayLock, MayTake, MayMark, MayFail, MayFinish, MayWithdraw}
+use Rattle.group_board.specs.Conditions.{IsClearIn, MayPost, MayLock, MayTake, MayMark, MayFail, MayFinish, MayWithdraw}
 use Rattle.group_board.specs.Told.{state_of}
-use Rattle.group_board.specs.Trials.{small_words, fresh, first_put, Leads, Has}
+use Rattle.group_board.specs.Trials.{small_words, fresh, first_put, long_put, Leads, Has}
 use Rattle.group_board.specs.declared.board.SlotState.TheVariants as states
 
 -- the small image is sound
@@ -162,6 +163,49 @@ fresh_post = record {
 
 pub may_post : (w : Group) (c : Change) → w ≡ fresh → c ≡ first_put → MayPost w.place 1 (view_of w 1) 0 c []
 may_post w c e f = subst (λ (x : Change). MayPost w.place 1 (view_of w 1) 0 x []) (sym f) (subst (λ (g : Group). MayPost g.place 1 (view_of g 1) 0 first_put []) (sym e) fresh_post)
+
+-- where a block of two units lies in the part of member 1
+part_begins : first_unit small 1 ≡ 80
+unfolding first_unit
+part_begins = refl
+
+part_ends : first_unit small 2 ≡ 144
+unfolding first_unit
+part_ends = refl
+
+two_units : units 256 ≡ 2
+unfolding units
+two_units = refl
+
+small_lies : LiesIn small 1 98 (units 256)
+small_lies = let a = part_begins in let b = part_ends in let c = two_units in (omega (arith, a), omega (arith, b, c))
+
+no_blocks : (q : ℕ) (b : Block) → (view_of fresh 1).blocks q ≡ Some b → ⊥
+no_blocks q b is = (let none = blank.no_block small small_place (image_of small_words) small_blank 1 q in absurd (cc (none, is)))
+
+long_block : (value : List ℕ) → length value ≡ 256 → GetsBlock (length value) × IsClearIn small 1 (view_of fresh 1) 98 value
+long_block value long = (
+  (omega (arith, long), omega (arith, long)),
+  (subst (λ (n : ℕ). LiesIn small 1 98 (units n)) (sym long) small_lies, λ q b is. absurd (no_blocks q b is)),
+)
+
+fresh_long : (value : List ℕ) → length value ≡ 256 → MayPost fresh.place 1 (view_of fresh 1) 0 long_put value
+fresh_long value long = record {
+  member = fresh_post.member;
+  slot = fresh_post.slot;
+  free = fresh_post.free;
+  home = refl;
+  spelled = record { key = omega arith; fits = (omega arith, omega arith, omega arith) };
+  own = fresh_post.own;
+  idle = fresh_post.idle;
+  whole = fresh_post.whole;
+  next = fresh_post.next;
+  live = λ t. absurd (cc);
+  block = λ at t. (let same : 98 ≡ at = cc t in subst (λ (a : ℕ). GetsBlock (length value) × IsClearIn small 1 (view_of fresh 1) a value) same (long_block value long));
+}
+
+pub may_post_long : (w : Group) (c : Change) (value : List ℕ) → w ≡ fresh → c ≡ long_put → length value ≡ 256 → MayPost w.place 1 (view_of w 1) 0 c value
+may_post_long w c value e f long = subst (λ (x : Change). MayPost w.place 1 (view_of w 1) 0 x value) (sym f) (subst (λ (g : Group). MayPost g.place 1 (view_of g 1) 0 long_put value) (sym e) (fresh_long value long))
 
 -- another member's try of the lock changes nothing of what this one may do
 pub may_lock : (w u : Group) (h m : ℕ) → IsStep w h runs.Kind.Lock u → m ≢ h → MayLock w.place m (view_of w m) → MayLock u.place m (view_of u m)

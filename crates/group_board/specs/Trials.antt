@@ -1,7 +1,7 @@
 -- What the helpers of the tests ask and leave: a member's one change, in slot 0, at the board of a small empty group.
 use Rattle.std.specs.Prelude.{◌≡◌, ℕ, ◌<◌, true, false, List, [], ◌∷◌, Some, None}
 use Rattle.log_entry.specs.declared.entry.Entry.{Entry}
-use Rattle.log_entry.specs.declared.entry.Body.TheVariants.{Embedded}
+use Rattle.log_entry.specs.declared.entry.Body.TheVariants.{Pointer, Embedded}
 use Rattle.crash_core.specs.declared.kinds.Change.{Change}
 use Rattle.store_image.specs.Facts.{In}
 use Rattle.chunk_map.specs.Layouts.{magic}
@@ -35,3 +35,7 @@ pub record Has (p : Place) (m : ℕ) (v : View) (e : Entry) : Type 0 where
 -- a put of the byte 97 under key 1, which is member 1's
 abbrev pub first_put : Change
 first_put = record { entry = record { key = 1; version = 1; body = Embedded (97 ∷ []) }; home = None }
+
+-- a put of a value with a block under key 1, in the second chunk of member 1's part
+abbrev pub long_put : Change
+long_put = record { entry = record { key = 1; version = 1; body = Pointer 98 }; home = None }

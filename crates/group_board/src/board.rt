@@ -1,5 +1,5 @@
 // The calls of a member of a group.
-ghost use Rattle.std.specs.Prelude.{◌≡◌, ◌≢◌, ℕ, Option, List, length, IfErr, IfSome, is_err, true, false, MatchOption, MatchResult};
+ghost use Rattle.std.specs.Prelude.{◌≡◌, ◌≢◌, ℕ, ◌<◌, Option, List, length, IfErr, IfSome, is_err, true, false, MatchOption, MatchResult};
 ghost use Rattle.log_entry.specs.Spelling.{words_of, HasSpelling};
 ghost use Rattle.store_image.specs.Facts.{In};
 ghost use Rattle.group_laws.specs.Places as places;
@@ -75,7 +75,7 @@ pub trait Board {
         ensures whole { Makes (whole self.old) (seat self.old).number
             (runs.Kind.Post slot change.entry value.now) (whole self.new) (view self.new) };
 
-    /// Tries to become the leader. It answers Busy only where it found that another member is.
+    /// Tries to become the leader. It answers Busy only where it found that another member is, with that member.
     fn try_lock(&mut self) -> Result<(), Busy>
         requires { MayLock (seat self.old).place (seat self.old).number (view self.old) }
         ensures seat { seat self.new ≡ seat self.old }
@@ -83,6 +83,7 @@ pub trait Board {
             (λ _. view self.new ≡ after_lock (view self.old))
             (λ busy. view self.new ≡ after_find (loads.Holder busy.holder) (view self.old)) }
         ensures other { IfErr result (λ busy. busy.holder ≢ (seat self.old).number) }
+        ensures holder { IfErr result (λ busy. busy.holder < places.members (seat self.old).place) }
         ensures found { IfSome (whole self.old) (λ w. MatchResult result
             (λ _. w.holder ≡ Option.None) (λ busy. w.holder ≡ Option.Some busy.holder)) }
         ensures whole { Makes (whole self.old) (seat self.old).number

@@ -131,6 +131,7 @@ impl LocalBoard {
         ensures table { self.new.table.shared.table_id ≡ self.old.table.shared.table_id }
         ensures step { Leads self.old.keeper.me.0 member runs.Kind.Lock self.new.keeper.me.0 }
         ensures other { IfErr result (λ busy. busy.holder ≢ member) }
+        ensures holder { IfErr result (λ busy. busy.holder < places.members (state self.old.keeper.me.0).place) }
         ensures found { MatchResult result (λ _. (state self.old.keeper.me.0).holder ≡ None) (λ busy. (state self.old.keeper.me.0).holder ≡ Some busy.holder) }
         ensures view { MatchResult result (λ _. view_of (state self.new.keeper.me.0) member ≡ after_lock (view_of (state self.old.keeper.me.0) member)) (λ busy. view_of (state self.new.keeper.me.0) member ≡ after_find (loads.Holder busy.holder) (view_of (state self.old.keeper.me.0) member)) }
     {

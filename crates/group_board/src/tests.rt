@@ -5,7 +5,7 @@ ghost use Rattle.group_laws.specs.Places as places;
 ghost use Rattle.group_board.specs.Journals.{state};
 ghost use Rattle.group_laws.specs.MemberViews.{view_of};
 ghost use Rattle.group_board.specs.Conditions.{MayPost, MayLock};
-ghost use Rattle.group_board.specs.Trials.{small_words, fresh, first_put, Leads, Has};
+ghost use Rattle.group_board.specs.Trials.{small_words, fresh, first_put, long_put, Leads, Has};
 
 use crate::{Board, Busy, Change, LocalBoard, LocalSeat, Names, Notices, Opening, SlotState};
 use fs_model::model::Value;
@@ -30,13 +30,13 @@ fn open_small(rt: &HostRuntime) -> Result<LocalBoard, Fail>
     Ok(board)
 }
 
-/// Posts a change in slot 0 and tries to become the leader.
-fn offer<B: Board>(board: &mut B, change: Change) -> Result<(), Busy>
-    requires post { MayPost (B.seat board.old).place (B.seat board.old).number (B.view board.old) 0 change [] }
+/// Posts a change in slot 0, with the bytes behind its pointer, and tries to become the leader.
+fn offer<B: Board>(board: &mut B, change: Change, value: &[u8]) -> Result<(), Busy>
+    requires post { MayPost (B.seat board.old).place (B.seat board.old).number (B.view board.old) 0 change value.now }
     requires lock { MayLock (B.seat board.old).place (B.seat board.old).number (B.view board.old) }
     ensures { IfOk result (λ _. Leads (B.seat board.new).place (B.seat board.new).number (B.view board.new)) }
 {
-    board.post(0, change, &[]);
+    board.post(0, change, value);
     board.try_lock()
 }
 
@@ -119,6 +119,20 @@ fn put(rt: &HostRuntime) -> Result<Change, Fail>
     })
 }
 
+/// A put under key 1 of a value with a block.
+fn put_long() -> Change
+    ensures { result ≡ long_put }
+{
+    Change {
+        entry: Entry {
+            key: 1,
+            version: 1,
+            body: Body::Pointer(98),
+        },
+        home: None,
+    }
+}
+
 #[test]
 fn the_way_of_one_change(rt: HostRuntime) -> Result<(), Fail> {
     let change = put(&rt)?;
@@ -127,7 +141,7 @@ fn the_way_of_one_change(rt: HostRuntime) -> Result<(), Fail> {
         board: &mut board,
         member: 1,
     };
-    if offer(&mut seat, change).is_err() {
+    if offer(&mut seat, change, &[]).is_err() {
         assert!(rt; false);
         return Ok(());
     }
@@ -155,7 +169,7 @@ fn a_change_that_could_not_be_written(rt: HostRuntime) -> Result<(), Fail> {
         board: &mut board,
         member: 1,
     };
-    if offer(&mut seat, change).is_err() {
+    if offer(&mut seat, change, &[]).is_err() {
         assert!(rt; false);
         return Ok(());
     }
@@ -173,13 +187,14 @@ fn a_change_that_could_not_be_written(rt: HostRuntime) -> Result<(), Fail> {
 
 #[test]
 fn a_change_that_is_taken_back(rt: HostRuntime) -> Result<(), Fail> {
-    let change = put(&rt)?;
+    let value = [7; 256];
+    let change = put_long();
     let mut board = open_small(&rt)?;
     let mut seat = LocalSeat {
         board: &mut board,
         member: 1,
     };
-    if offer(&mut seat, change).is_err() {
+    if offer(&mut seat, change, &value).is_err() {
         assert!(rt; false);
         return Ok(());
     }
