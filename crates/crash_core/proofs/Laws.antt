@@ -18,7 +18,7 @@ along (Err e) P Q f p = p
 -- where the law's step is the step of the data
 pub as_data : (g h : GroupState) (s : Step) (law : Law) → ((u : Group) → IsStep (group_of g) s.member law u → IsMade (group_of g) s.member s.kind u) → ((u : Group) → IsMade (group_of g) s.member s.kind u → IsStep (group_of g) s.member law u)
     → (made : Bool) → Makes made g s.member law h → MakesStep made g s h
-as_data g h s law to from true p = (p.0, to (group_of h) p.1)
+as_data g h s law to from true p = to (group_of h) p
 as_data g h s law to from false p = (p.0, λ u q. p.1 u (from u q))
 
 pub as_kind : {E : Type 0} (r : Result Bool E) (g h : GroupState) (s : Step) (law : Law) (kind : Kind) → s.kind ≡ kind → ((u : Group) → IsStep (group_of g) s.member law u → IsMade (group_of g) s.member kind u) → ((u : Group) → IsMade (group_of g) s.member kind u → IsStep (group_of g) s.member law u)

@@ -4,10 +4,9 @@ use Rattle.std.specs.Prelude.{slice_get, slice_set}
 use Rattle.std.proofs.lemmas.Option.{slice_get-get_or}
 use Rattle.crash_core.specs.declared.state.CoreView.{CoreView}
 use Rattle.crash_core.specs.declared.state.GroupState.{GroupState}
-use Rattle.crash_core.specs.Shows.{IsWhole}
 
-pub view_at : (g : GroupState) (m : ℕ) (v : CoreView) → IsWhole g → m < g.layout.group → v ≡ get_or g.views.items m v → slice_get g.views.items m ≡ Some v
-view_at g m v whole low is = slice_get-get_or g.views.items m v (omega (arith, whole, low)) ∙ ap Some (sym is)
+pub view_at : (g : GroupState) (m : ℕ) (v : CoreView) → m < g.layout.group → v ≡ get_or g.views.items m v → slice_get g.views.items m ≡ Some v
+view_at g m v low is = let whole = g.whole in slice_get-get_or g.views.items m v (omega (arith, whole, low)) ∙ ap Some (sym is)
 
-pub still_whole : (g : GroupState) (m : ℕ) (w : CoreView) → IsWhole g → length (slice_set g.views.items m w) ≡ g.layout.group
-still_whole g m w whole = length-set g.views.items m w ∙ whole
+pub still_whole : (g : GroupState) (m : ℕ) (w : CoreView) → length (slice_set g.views.items m w) ≡ g.layout.group
+still_whole g m w = length-set g.views.items m w ∙ g.whole

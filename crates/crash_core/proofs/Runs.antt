@@ -11,7 +11,7 @@ use Rattle.group_laws.proofs.Images.{images_safe}
 use Rattle.crash_core.specs.declared.kinds.Kind.{Kind}
 use Rattle.crash_core.specs.declared.kinds.Step.{Step}
 use Rattle.crash_core.specs.declared.state.GroupState.{GroupState}
-use Rattle.crash_core.specs.Shows.{group_of, IsWhole}
+use Rattle.crash_core.specs.Shows.{group_of}
 use Rattle.group_laws.proofs.Finishes.{run_cell}
 use Rattle.group_laws.proofs.Posted.{run_posted}
 use Rattle.crash_core.specs.Steps.{IsMade, AreMade, IsReached, kind_of, step_of, kinds_of, run_of}
@@ -26,9 +26,8 @@ one_more w (y ∷ ys) x mid u r s = (r.0, r.1, one_more r.0 ys x mid u r.2 s)
 pub made_more : (w : Group) (xs : List Step) (i : ℕ) (d : Step) (mid u : Group) → i < length xs → AreMade w (take i xs) mid → IsMade mid (get_or xs i d).member (get_or xs i d).kind u → AreMade w (take (i + 1) xs) u
 made_more w xs i d mid u l r s = subst (λ ys. AreMade w ys u) (sym (take_more xs i d l)) (one_more w (take i xs) (get_or xs i d) mid u r s)
 
-pub reached : (g : GroupState) (xs : List Step) (h : GroupState) → Lawful (group_of g) → IsWhole h → AreMade (group_of g) xs (group_of h) → Lawful (group_of h) → IsReached g xs h
-reached g xs h first whole made L = record {
-  whole = whole;
+pub reached : (g : GroupState) (xs : List Step) (h : GroupState) → Lawful (group_of g) → AreMade (group_of g) xs (group_of h) → Lawful (group_of h) → IsReached g xs h
+reached g xs h first made L = record {
   made = made;
   cells = λ k. run_cell (group_of g) (kinds_of (group_of g) xs (group_of h) made) (group_of h) (run_of (group_of g) xs (group_of h) made) k;
   posted = λ k. run_posted (group_of g) (kinds_of (group_of g) xs (group_of h) made) (group_of h) (run_of (group_of g) xs (group_of h) made) first k;

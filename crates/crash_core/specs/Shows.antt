@@ -1,5 +1,5 @@
 -- The group that a state shows.
-use Rattle.std.specs.Prelude.{◌≡◌, ℕ, false, List, [], length, Option, Some, None, unwrap_or, option_map, slice_get}
+use Rattle.std.specs.Prelude.{◌≡◌, ℕ, false, List, [], Option, Some, None, unwrap_or, option_map, slice_get}
 use Rattle.std.specs.declared.cmp.Ordering.{Ordering}
 use Rattle.std.specs.Ordering.{nat_cmp, ordering_then}
 use Rattle.std.specs.BTreeMap.{BTreeMap, IsEmpty, get}
@@ -67,10 +67,6 @@ place_of g = record { layout = g.layout; group = g.group }
 
 abbrev pub group_of : GroupState → Group
 group_of g = group_at (place_of g) g.holder g.slots g.mail g.views.items
-
--- there is one view for each member
-abbrev pub IsWhole : GroupState → Type 0
-IsWhole g = length g.views.items ≡ g.layout.group
 
 -- nothing is known, and nothing was done
 pub record IsEmptyView (v : CoreView) : Type 0 where

@@ -19,7 +19,7 @@ use Rattle.crash_core.specs.declared.kinds.StepError.TheVariants as faults
 use Rattle.crash_core.specs.declared.kinds.StepsError.{StepsError}
 use Rattle.crash_core.specs.declared.kinds.StepsError.TheVariants as stops
 use Rattle.crash_core.specs.declared.state.GroupState.{GroupState}
-use Rattle.crash_core.specs.Shows.{group_of, notices_of, IsWhole}
+use Rattle.crash_core.specs.Shows.{group_of, notices_of}
 
 -- The numbers of the words of a table with n members: behind the lock and the members' own words the slots, and behind these the mailboxes.
 abbrev pub slot_word : ℕ → ℕ → ℕ → ℕ
@@ -51,7 +51,7 @@ IsMade w m (kinds.Receive from) u = IsStep w m (Receives from) u
 
 -- What a call that tries a step makes of a state: the step, or nothing where it isn't enabled.
 abbrev pub MakesStep : Bool → GroupState → Step → GroupState → Type 0
-MakesStep true g s h = IsWhole h × IsMade (group_of g) s.member s.kind (group_of h)
+MakesStep true g s h = IsMade (group_of g) s.member s.kind (group_of h)
 MakesStep false g s h = (h ≡ g) × ((u : Group) → IsMade (group_of g) s.member s.kind u → ⊥)
 
 abbrev pub IsOutcome : GroupState → Step → Result GroupState StepError → Type 0
@@ -115,7 +115,6 @@ run_of w (x ∷ xs) u r = (r.0, step_of w x.member x.kind r.0 r.1, run_of r.0 xs
 
 -- The steps lead to h. There each key's cell is what its finished changes left, each of them what its key's last post offered, the invariant holds, whatever a crash leaves is safe, and no block serves two values.
 pub record IsReached (g : GroupState) (steps : List Step) (h : GroupState) : Type 0 where
-  pub whole : IsWhole h
   pub made : AreMade (group_of g) steps (group_of h)
   pub cells : (k : ℕ) → (group_of h).cell k ≡ cell_after k (finishes_in (group_of g) (kinds_of (group_of g) steps (group_of h) made) (group_of h) (run_of (group_of g) steps (group_of h) made)) ((group_of g).cell k)
   pub posted : (k : ℕ) → (group_of h).cell k ≡ settled k (group_of g) (kinds_of (group_of g) steps (group_of h) made) (group_of h) (run_of (group_of g) steps (group_of h) made) (offer_of (group_of g) k) ((group_of g).cell k)

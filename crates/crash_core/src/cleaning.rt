@@ -7,7 +7,7 @@ ghost use Rattle.group_laws.specs.Updates.{has};
 ghost use Rattle.group_laws.specs.Steps.{CanDoom, CanRetire, CanSend, CanReceive, retires, receives};
 ghost use Rattle.group_laws.specs.Invariant.{IsDead};
 ghost use Rattle.group_laws.specs.Runs.Kind.{Doom, Retire, Send, Receive};
-ghost use Rattle.crash_core.specs.Shows.{group_of, place_of, IsWhole, notices_of, pair_cmp};
+ghost use Rattle.crash_core.specs.Shows.{group_of, place_of, notices_of, pair_cmp};
 ghost use Rattle.crash_core.specs.Makes.{Makes};
 ghost use Rattle.crash_core.specs.Deaths.{IsDeadIn, MayTell};
 
@@ -23,7 +23,6 @@ use log_entry::entry::EntryName;
 use std::alloc::Global;
 
 fn may_doom(state: &GroupState, member: u32, names: &[EntryName]) -> bool
-    requires { IsWhole state.now }
     ensures { IsTrue result ↔ CanDoom (group_of state.now) member names.now }
 {
     has_member(state, member) && has_all(&state.views[member as usize].dead, names)
@@ -31,7 +30,6 @@ fn may_doom(state: &GroupState, member: u32, names: &[EntryName]) -> bool
 
 /// Lets these dead entries of the own log vanish from now on.
 pub fn doom(state: &mut GroupState, member: u32, names: &[EntryName]) -> Result<bool, Memory>
-    requires { IsWhole state.old }
     ensures { IfOk result (λ made. Makes made state.old member (Doom names.now) state.new) }
 {
     if !may_doom(state, member, names) {
@@ -44,7 +42,6 @@ pub fn doom(state: &mut GroupState, member: u32, names: &[EntryName]) -> Result<
 }
 
 fn may_retire(state: &GroupState, member: u32, names: &[EntryName]) -> bool
-    requires { IsWhole state.now }
     ensures { IsTrue result ↔ CanRetire (group_of state.now) member names.now }
 {
     has_member(state, member) && has_all(&state.views[member as usize].doomed, names)
@@ -88,9 +85,8 @@ fn drop_retired(
     member: u32,
     names: &[EntryName],
 ) -> Result<(), Memory>
-    requires whole { IsWhole state.old }
-    requires member { member < state.old.layout.group }
-    ensures { OnOk result (IsWhole state.new × (group_of state.new ≡ retires (group_of state.old) member names.now)) }
+    requires { member < state.old.layout.group }
+    ensures { OnOk result (group_of state.new ≡ retires (group_of state.old) member names.now) }
 {
     let away = foreign(alloc, state, member, names)?;
     let view = &mut state.views[member as usize];
@@ -111,7 +107,6 @@ pub fn retire(
     member: u32,
     names: &[EntryName],
 ) -> Result<bool, Memory>
-    requires { IsWhole state.old }
     ensures { IfOk result (λ made. Makes made state.old member (Retire names.now) state.new) }
 {
     if !may_retire(state, member, names) {
@@ -176,7 +171,6 @@ fn may_report_all(state: &GroupState, view: &CoreView, names: &[EntryName], to: 
 }
 
 fn may_send(state: &GroupState, member: u32, to: u32, notices: &Notices) -> bool
-    requires { IsWhole state.now }
     ensures { IsTrue result ↔ CanSend (group_of state.now) member to (notices_of notices.now) }
 {
     if !has_member(state, member) || !has_member(state, to) || to == member {
@@ -200,7 +194,6 @@ pub fn send(
     to: u32,
     notices: &Notices,
 ) -> Result<bool, Memory>
-    requires { IsWhole state.old }
     ensures { IfOk result (λ made. Makes made state.old member (Send to (notices_of notices.now)) state.new) }
 {
     if !may_send(state, member, to, notices) {
@@ -237,7 +230,6 @@ fn notices_at(
 
 /// Whether the member may empty a mailbox to it that has these notices.
 fn may_receive(state: &GroupState, member: u32, from: u32, notices: &Notices) -> bool
-    requires { IsWhole state.now }
     ensures { (group_of state.now).mail from member ≡ Some (notices_of notices.now) → IsTrue result ↔ CanReceive (group_of state.now) member from (notices_of notices.now) }
 {
     if !has_member(state, member) || !has_member(state, from) {
@@ -257,9 +249,8 @@ fn hear(
     from: u32,
     notices: &Notices,
 ) -> Result<(), Memory>
-    requires whole { IsWhole state.old }
-    requires member { member < state.old.layout.group }
-    ensures { OnOk result (IsWhole state.new × (group_of state.new ≡ receives (group_of state.old) member from (notices_of notices.now))) }
+    requires { member < state.old.layout.group }
+    ensures { OnOk result (group_of state.new ≡ receives (group_of state.old) member from (notices_of notices.now)) }
 {
     state.mail.remove(&(from, member));
     let view = &mut state.views[member as usize];
@@ -277,7 +268,6 @@ pub fn receive(
     member: u32,
     from: u32,
 ) -> Result<bool, Memory>
-    requires { IsWhole state.old }
     ensures { IfOk result (λ made. Makes made state.old member (Receive from) state.new) }
 {
     let Some(notices) = notices_at(alloc, state, from, member)? else {

@@ -11,7 +11,7 @@ ghost use Rattle.group_laws.specs.Places.{owner};
 ghost use Rattle.group_laws.specs.Updates.{put};
 ghost use Rattle.group_laws.specs.Steps.{CanFinish, CanGiveUp, finishes, gives_up, is_of, points_at, only_own};
 ghost use Rattle.group_laws.specs.Runs.Kind.{Finish};
-ghost use Rattle.crash_core.specs.Shows.{group_of, place_of, IsWhole};
+ghost use Rattle.crash_core.specs.Shows.{group_of, place_of};
 ghost use Rattle.crash_core.specs.Makes.{Makes};
 ghost use Rattle.crash_core.specs.Finds.{done_in, failed_in, left_in};
 
@@ -65,7 +65,6 @@ fn failed_at(
 
 /// Whether the member may take back its own entry, of whose slot it saw this word.
 fn may_take_back(state: &GroupState, member: u32, slot: u32, entry: &Entry, word: SlotWord) -> bool
-    requires { IsWhole state.now }
     ensures done { (home : ℕ) → word ≡ words.Done home → (group_of state.now).slot member slot ≡ Done entry.now home → IsTrue result ↔ CanFinish (group_of state.now) member slot entry.now home }
     ensures failed { word ≡ words.Failed → (group_of state.now).slot member slot ≡ Failed entry.now → IsTrue result ↔ CanGiveUp (group_of state.now) member slot entry.now }
 {
@@ -193,10 +192,9 @@ fn settle(
     entry: &Entry,
     home: u32,
 ) -> Result<(), Memory>
-    requires whole { IsWhole state.old }
     requires member { member < state.old.layout.group }
     requires own { owner (place_of state.old) entry.now.key ≡ member }
-    ensures { OnOk result (IsWhole state.new × (group_of state.new ≡ finishes (group_of state.old) member slot entry.now home)) }
+    ensures { OnOk result (group_of state.new ≡ finishes (group_of state.old) member slot entry.now home) }
 {
     state.slots.insert((member, slot), Slot::Empty)?;
     let view = &mut state.views[member as usize];
@@ -212,10 +210,9 @@ fn settle(
 
 /// Records a change as in doubt, and that its owner writes no more.
 fn doubt(state: &mut GroupState, member: u32, slot: u32, entry: Entry) -> Result<(), Memory>
-    requires whole { IsWhole state.old }
     requires member { member < state.old.layout.group }
     requires own { owner (place_of state.old) entry.key ≡ member }
-    ensures { OnOk result (IsWhole state.new × (group_of state.new ≡ gives_up (group_of state.old) member slot entry)) }
+    ensures { OnOk result (group_of state.new ≡ gives_up (group_of state.old) member slot entry) }
 {
     state.slots.insert((member, slot), Slot::Empty)?;
     let view = &mut state.views[member as usize];
@@ -235,8 +232,7 @@ fn finish_done(
     entry: &Entry,
     home: u32,
 ) -> Result<bool, Memory>
-    requires whole { IsWhole state.old }
-    requires done { (group_of state.old).slot member slot ≡ Done entry.now home }
+    requires { (group_of state.old).slot member slot ≡ Done entry.now home }
     ensures { IfOk result (λ made. Makes made state.old member (Finish slot) state.new) }
 {
     if !may_take_back(state, member, slot, entry, SlotWord::Done(home)) {
@@ -255,8 +251,7 @@ fn finish_failed(
     slot: u32,
     entry: Entry,
 ) -> Result<bool, Memory>
-    requires whole { IsWhole state.old }
-    requires failed { (group_of state.old).slot member slot ≡ Failed entry }
+    requires { (group_of state.old).slot member slot ≡ Failed entry }
     ensures { IfOk result (λ made. Makes made state.old member (Finish slot) state.new) }
 {
     if !may_take_back(state, member, slot, &entry, SlotWord::Failed) {
@@ -269,7 +264,6 @@ fn finish_failed(
 
 /// Takes back a change of an own slot that the member saw Done or Failed.
 pub fn finish(alloc: Global, state: &mut GroupState, member: u32, slot: u32) -> Result<bool, Memory>
-    requires { IsWhole state.old }
     ensures { IfOk result (λ made. Makes made state.old member (Finish slot) state.new) }
 {
     if let Some((entry, home)) = done_at(alloc, state, member, slot)? {

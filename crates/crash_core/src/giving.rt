@@ -7,7 +7,7 @@ ghost use Rattle.log_entry.specs.declared.entry.Entry.{Entry};
 ghost use Rattle.group_laws.specs.declared.types.Slot.TheVariants.{Posted};
 ghost use Rattle.group_laws.specs.Steps.{CanWithdraw, points_at};
 ghost use Rattle.group_laws.specs.Runs.Kind.{Mark, Fail, Withdraw};
-ghost use Rattle.crash_core.specs.Shows.{group_of, IsWhole};
+ghost use Rattle.crash_core.specs.Shows.{group_of};
 ghost use Rattle.crash_core.specs.Makes.{Makes};
 
 use crate::copies::copy_entry;
@@ -90,7 +90,6 @@ pub fn mark(
     owner: u32,
     slot: u32,
 ) -> Result<bool, Memory>
-    requires { IsWhole state.old }
     ensures { IfOk result (λ made. Makes made state.old member (Mark owner slot) state.new) }
 {
     if !has_member(state, member) || !has_slot(state, owner, slot) {
@@ -119,7 +118,6 @@ pub fn fail(
     owner: u32,
     slot: u32,
 ) -> Result<bool, Memory>
-    requires { IsWhole state.old }
     ensures { IfOk result (λ made. Makes made state.old member (Fail owner slot) state.new) }
 {
     if !has_member(state, member) || !has_slot(state, owner, slot) {
@@ -141,7 +139,6 @@ pub fn fail(
 
 /// Whether the member may take back the entry that is posted in a slot of its own.
 fn may_withdraw(state: &GroupState, member: u32, slot: u32, entry: &Entry) -> bool
-    requires { IsWhole state.now }
     ensures { (group_of state.now).slot member slot ≡ Posted entry.now → IsTrue result ↔ CanWithdraw (group_of state.now) member slot entry.now }
 {
     if !has_slot(state, member, slot) || owner_of(&state.layout, state.group, entry.key) != member {
@@ -168,7 +165,6 @@ pub fn withdraw(
     member: u32,
     slot: u32,
 ) -> Result<bool, Memory>
-    requires { IsWhole state.old }
     ensures { IfOk result (λ made. Makes made state.old member (Withdraw slot) state.new) }
 {
     let Some(entry) = posted_at(alloc, state, member, slot)? else {

@@ -4,7 +4,7 @@ ghost use Rattle.group_laws.specs.declared.types.Slot.TheVariants.{Posted};
 ghost use Rattle.group_laws.specs.State.{Group};
 ghost use Rattle.group_laws.specs.Steps.{CanLock, CanTake, CanUnlock, CanCommit};
 ghost use Rattle.group_laws.specs.Runs.Kind.{Lock, Look, LookMail, Take, Unlock, Commit};
-ghost use Rattle.crash_core.specs.Shows.{group_of, IsWhole};
+ghost use Rattle.crash_core.specs.Shows.{group_of};
 ghost use Rattle.crash_core.specs.Makes.{Makes};
 
 use crate::copies::copy_entry;
@@ -17,7 +17,6 @@ use log_entry::entry::Entry;
 use std::alloc::Global;
 
 fn may_unlock(state: &GroupState, member: u32) -> bool
-    requires { IsWhole state.now }
     ensures { IsTrue result ↔ CanUnlock (group_of state.now) member }
 {
     has_member(state, member) && state.views[member as usize].holds
@@ -25,7 +24,6 @@ fn may_unlock(state: &GroupState, member: u32) -> bool
 
 /// Gives the lock back.
 pub fn unlock(state: &mut GroupState, member: u32) -> bool
-    requires { IsWhole state.old }
     ensures { Makes result state.old member Unlock state.new }
 {
     if !may_unlock(state, member) {
@@ -39,7 +37,6 @@ pub fn unlock(state: &mut GroupState, member: u32) -> bool
 }
 
 fn may_commit(state: &GroupState, member: u32) -> bool
-    requires { IsWhole state.now }
     ensures { IsTrue result ↔ CanCommit (group_of state.now) member }
 {
     has_member(state, member) && !state.views[member as usize].broken
@@ -47,7 +44,6 @@ fn may_commit(state: &GroupState, member: u32) -> bool
 
 /// Makes certain what the member took.
 pub fn commit(state: &mut GroupState, member: u32) -> Result<bool, Memory>
-    requires { IsWhole state.old }
     ensures { IfOk result (λ made. Makes made state.old member Commit state.new) }
 {
     if !may_commit(state, member) {
@@ -60,7 +56,6 @@ pub fn commit(state: &mut GroupState, member: u32) -> Result<bool, Memory>
 }
 
 fn may_lock(state: &GroupState, member: u32) -> bool
-    requires { IsWhole state.now }
     ensures { IsTrue result ↔ CanLock (group_of state.now) member }
 {
     if !has_member(state, member) {
@@ -72,7 +67,6 @@ fn may_lock(state: &GroupState, member: u32) -> bool
 
 /// Makes the member the leader, or lets it know who is.
 pub fn lock(state: &mut GroupState, member: u32) -> Result<bool, Memory>
-    requires { IsWhole state.old }
     ensures { IfOk result (λ made. Makes made state.old member Lock state.new) }
 {
     if !may_lock(state, member) {
@@ -97,7 +91,6 @@ pub fn look_at_slot(
     owner: u32,
     slot: u32,
 ) -> Result<bool, Memory>
-    requires { IsWhole state.old }
     ensures { IfOk result (λ made. Makes made state.old member (Look owner slot) state.new) }
 {
     if !has_member(state, member) || !has_member(state, owner) || slot >= 8 {
@@ -111,7 +104,6 @@ pub fn look_at_slot(
 
 /// Loads the word of a mailbox.
 pub fn look_at_mail(state: &mut GroupState, member: u32, from: u32, to: u32) -> Result<bool, Memory>
-    requires { IsWhole state.old }
     ensures { IfOk result (λ made. Makes made state.old member (LookMail from to) state.new) }
 {
     if !has_member(state, member) || !has_member(state, from) || !has_member(state, to) {
@@ -125,7 +117,6 @@ pub fn look_at_mail(state: &mut GroupState, member: u32, from: u32, to: u32) -> 
 
 /// Whether the member may take the entry that is posted in a slot.
 fn may_take_from(state: &GroupState, member: u32, owner: u32, slot: u32, entry: &Entry) -> bool
-    requires { IsWhole state.now }
     ensures { (group_of state.now).slot owner slot ≡ Posted entry.now → IsTrue result ↔ CanTake (group_of state.now) member owner slot entry.now }
 {
     if !has_member(state, member) || !has_member(state, owner) || slot >= 8 {
@@ -144,7 +135,6 @@ pub fn take(
     owner: u32,
     slot: u32,
 ) -> Result<bool, Memory>
-    requires { IsWhole state.old }
     ensures { IfOk result (λ made. Makes made state.old member (Take owner slot) state.new) }
 {
     let Some(entry) = posted_at(alloc, state, owner, slot)? else {

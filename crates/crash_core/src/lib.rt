@@ -6,6 +6,7 @@ mod cleaning;
 mod copies;
 mod finishing;
 mod giving;
+mod group_state;
 mod kinds;
 mod leading;
 mod machine;

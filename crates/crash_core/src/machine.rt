@@ -1,7 +1,7 @@
 // One step, and lists of steps.
 ghost use Rattle.std.specs.Prelude.{◌≡◌, ◌<◌, ◌≤◌, IfOk, IsTrue, ◌↔◌, None};
 ghost use Rattle.group_laws.specs.Invariant.{Lawful};
-ghost use Rattle.crash_core.specs.Shows.{group_of, IsWhole};
+ghost use Rattle.crash_core.specs.Shows.{group_of};
 ghost use Rattle.crash_core.specs.Makes.{Makes};
 ghost use Rattle.crash_core.specs.Steps.{MakesStep, IsOutcome, IsRun};
 ghost use Rattle.crash_core.specs.Words.{IsWordOf};
@@ -49,7 +49,6 @@ fn word_numbered(members: u32, word: u64) -> Option<Word>
 
 /// Loads the word with this number.
 fn look(state: &mut GroupState, member: u32, word: u64) -> Result<bool, Memory>
-    requires { IsWhole state.old }
     ensures { IfOk result (λ made. MakesStep made state.old (record { member = member; kind = kinds.Look word }) state.new) }
 {
     match word_numbered(state.layout.group(), word) {
@@ -68,7 +67,6 @@ fn post_change(
     change: &Change,
     value: &Value,
 ) -> Result<bool, Memory>
-    requires { IsWhole state.old }
     ensures { IfOk result (λ made. MakesStep made state.old (record { member = member; kind = kinds.Post slot change.now value.now }) state.new) }
 {
     if change.home.is_some() {
@@ -79,7 +77,6 @@ fn post_change(
 
 /// Makes a step where it is enabled, and says whether it was. Where it was not, the state is as it was.
 fn make(alloc: Global, state: &mut GroupState, step: &Step) -> Result<bool, Memory>
-    requires { IsWhole state.old }
     ensures { IfOk result (λ made. MakesStep made state.old step.now state.new) }
 {
     let member = step.member;
@@ -116,10 +113,8 @@ fn make(alloc: Global, state: &mut GroupState, step: &Step) -> Result<bool, Memo
     }
 }
 
-/// Makes one step. Where its condition does not hold, the state comes back as it was. It must have one view
-/// for each member, as each state has that these calls make.
+/// Makes one step. Where its condition does not hold, the state comes back as it was.
 pub fn step(alloc: Global, state: GroupState, step: &Step) -> Result<GroupState, StepError>
-    requires { IsWhole state }
     ensures { IsOutcome state step.now result }
 {
     let mut state = state;
@@ -135,8 +130,7 @@ pub fn step(alloc: Global, state: GroupState, step: &Step) -> Result<GroupState,
 /// leaves, and no block serves two values. Each cell is what the finished changes of its key left, in order, and each
 /// of these left what its key's last post offered.
 pub fn all_steps(alloc: Global, state: GroupState, steps: &[Step]) -> Result<GroupState, StepsError>
-    requires whole { IsWhole state }
-    requires lawful { Lawful (group_of state) }
+    requires { Lawful (group_of state) }
     ensures { IsRun state steps.now result }
 {
     let mut state = state;

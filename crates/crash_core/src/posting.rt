@@ -11,7 +11,7 @@ ghost use Rattle.group_laws.specs.declared.types.Slot.TheVariants.{Empty};
 ghost use Rattle.group_laws.specs.Places.{owner, units, LiesIn, Apart, GetsBlock};
 ghost use Rattle.group_laws.specs.Steps.{IsSlot, IsClear, CanPost, with_block};
 ghost use Rattle.group_laws.specs.Runs.Kind.{Post};
-ghost use Rattle.crash_core.specs.Shows.{group_of, IsWhole, last_in};
+ghost use Rattle.crash_core.specs.Shows.{group_of, last_in};
 ghost use Rattle.crash_core.specs.Makes.{Makes};
 
 use crate::copies::copy_entry;
@@ -95,8 +95,7 @@ fn is_clear(blocks: &BTreeMap<u64, Block>, first: u64, count: u64) -> bool
 
 /// Whether a block at a pointer, for a value of this length, lies in the own part and covers no other.
 fn is_free_for(state: &GroupState, member: u32, pointer: u64, value: &Value) -> bool
-    requires whole { IsWhole state.now }
-    requires member { member < state.now.layout.group }
+    requires { member < state.now.layout.group }
     ensures { IsTrue result ↔ (GetsBlock (length value.now) × IsClear (group_of state.now) member pointer value.now) }
 {
     let length = value.bytes().len();
@@ -112,8 +111,7 @@ fn is_free_for(state: &GroupState, member: u32, pointer: u64, value: &Value) -> 
 
 /// Whether the block that an entry points to, where it does, may be had for the value.
 fn has_free_block(state: &GroupState, member: u32, entry: &Entry, value: &Value) -> bool
-    requires whole { IsWhole state.now }
-    requires member { member < state.now.layout.group }
+    requires { member < state.now.layout.group }
     ensures { IsTrue result ↔ ((p : ℕ) → entry.now.body ≡ Pointer p → GetsBlock (length value.now) × IsClear (group_of state.now) member p value.now) }
 {
     match entry.body {
@@ -124,7 +122,6 @@ fn has_free_block(state: &GroupState, member: u32, entry: &Entry, value: &Value)
 
 /// Whether a member may offer this entry in this slot.
 fn may_post(state: &GroupState, member: u32, slot: u32, entry: &Entry, value: &Value) -> bool
-    requires { IsWhole state.now }
     ensures { IsTrue result ↔ CanPost (group_of state.now) member slot entry.now value.now }
 {
     if !has_member(state, member) || slot >= 8 || !is_empty(state, member, slot) {
@@ -163,7 +160,6 @@ pub fn post(
     entry: &Entry,
     value: &Value,
 ) -> Result<bool, Memory>
-    requires { IsWhole state.old }
     ensures { IfOk result (λ made. Makes made state.old member (Post slot entry.now value.now) state.new) }
 {
     if !may_post(state, member, slot, entry, value) {

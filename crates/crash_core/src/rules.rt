@@ -7,7 +7,7 @@ ghost use Rattle.store_image.specs.Facts.{In};
 ghost use Rattle.group_laws.specs.Places.{owner};
 ghost use Rattle.group_laws.specs.Updates.{has};
 ghost use Rattle.group_laws.specs.Tidying.{Tidied};
-ghost use Rattle.crash_core.specs.Shows.{group_of, place_of, IsWhole, pair_cmp, last_in};
+ghost use Rattle.crash_core.specs.Shows.{group_of, place_of, pair_cmp, last_in};
 ghost use Rattle.crash_core.specs.Deaths.{IsDeadIn, IsSpentIn, MustTell};
 
 use crate::places::owner_of;
@@ -142,9 +142,8 @@ fn forget(last: &mut BTreeMap<Key, Version>, keys: &[Key])
 
 /// Applies both rules to the member's own keys.
 pub fn tidy(alloc: Global, state: &mut GroupState, member: u32) -> Result<(), Memory>
-    requires whole { IsWhole state.old }
-    requires member { member < state.old.layout.group }
-    ensures { OnOk result (IsWhole state.new × Tidied (group_of state.old) member (group_of state.new)) }
+    requires { member < state.old.layout.group }
+    ensures { OnOk result (Tidied (group_of state.old) member (group_of state.new)) }
 {
     let view = &state.views[member as usize];
     let spent = spent_keys(alloc, view)?;

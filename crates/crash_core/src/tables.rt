@@ -3,7 +3,7 @@ ghost use Rattle.std.specs.Prelude.{◌≡◌, ◌↔◌, ◌<◌, IsTrue, IfOk,
 ghost use Rattle.store_image.specs.Facts.{In};
 ghost use Rattle.group_laws.specs.State.{shown, is_full};
 ghost use Rattle.group_laws.specs.Steps.{IsSlot};
-ghost use Rattle.crash_core.specs.Shows.{group_of, IsWhole};
+ghost use Rattle.crash_core.specs.Shows.{group_of};
 ghost use Rattle.crash_core.specs.Finds.{posted_in};
 
 use crate::copies::copy_entry;
@@ -16,7 +16,6 @@ use std::alloc::Global;
 
 /// Whether the group has this member.
 pub fn has_member(state: &GroupState, member: u32) -> bool
-    requires { IsWhole state.now }
     ensures { IsTrue result ↔ (member < state.now.layout.group) }
 {
     (member as usize) < state.views.len()
@@ -24,7 +23,6 @@ pub fn has_member(state: &GroupState, member: u32) -> bool
 
 /// Whether the group has this slot.
 pub fn has_slot(state: &GroupState, member: u32, slot: u32) -> bool
-    requires { IsWhole state.now }
     ensures { IsTrue result ↔ IsSlot (group_of state.now) member slot }
 {
     has_member(state, member) && slot < 8

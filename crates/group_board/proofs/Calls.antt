@@ -26,9 +26,11 @@ use Rattle.group_board.specs.declared.journal.Journal.{Journal}
 use Rattle.group_board.specs.Tidies.{Covers, tidied}
 use Rattle.group_board.specs.Journals.{note_of, noted, finish_act, names, state}
 use Rattle.group_board.specs.Kept.{IsKept}
-use Rattle.group_board.specs.Views.{View, view_of, after_post, after_lock, after_find, after_take, after_unlock, after_commit, after_mark, after_fail, after_finish, after_give_up, after_withdraw, after_doom, after_retire, TidiedIn}
+use Rattle.group_laws.specs.MemberViews.{View, view_of}
+use Rattle.group_board.specs.Views.{after_post, after_lock, after_find, after_take, after_unlock, after_commit, after_mark, after_fail, after_finish, after_give_up, after_withdraw, after_doom, after_retire, TidiedIn}
 use Rattle.group_board.specs.Conditions.{MayPost, MayLock, MayLook, MayTake, MayUnlock, MayCommit, MayMark, MayFail, MayFinish, MayWithdraw, MayDoom, MayRetire}
 use Rattle.group_board.specs.Told.{Leads, stood_as}
+use Rattle.group_laws.proofs.Runs.{step_keeps}
 use Rattle.group_board.proofs.Tidies.{tidied_is}
 use Rattle.group_board.proofs.Journals.{state_is, names_are}
 use Rattle.group_board.proofs.Views as views
@@ -56,69 +58,73 @@ module _ (j i : Journal) (m : ℕ) where
     block = may.block;
   }
 
+  -- a step keeps the invariant
+  leads : (kind : Kind) → (state i).place ≡ w.place → IsStep w m kind (state i) → Leads j m kind i
+  leads kind place step = (place, step, λ L. step_keeps w m kind (state i) L step)
+
   pub post_step : (s : ℕ) (c : Change) (value : List ℕ) → Did (Post s c.entry value) → w.slot m s ≡ slots.Empty → MayPost w.place m (view_of w m) s c value → Leads j m (runs.Kind.Post s c.entry value) i
-  post_step s c value e empty may = let is = state_is i j m (Post s c.entry value) e in (ap (λ x. x.place) is, (can_post s c value empty may, is))
+  post_step s c value e empty may = let is = state_is i j m (Post s c.entry value) e in leads (runs.Kind.Post s c.entry value) (ap (λ x. x.place) is) (can_post s c value empty may, is)
 
   pub post_view : (s : ℕ) (c : Change) (value : List ℕ) → Did (Post s c.entry value) → owner w.place c.entry.key ≡ m → view_of (state i) m ≡ after_post s c.entry value (view_of w m)
   post_view s c value e own = ap (λ x. view_of x m) (state_is i j m (Post s c.entry value) e) ∙ views.view_posts w m s c.entry value own
 
   pub lock_step : Did Lock → w.holder ≡ None → MayLock w.place m (view_of w m) → Leads j m runs.Kind.Lock i
-  lock_step e free may = let is = state_is i j m Lock e in (ap (λ x. x.place) is, (record { member = may.member; not_held = may.not_held; gave_back = may.gave_back }, inl (free, is)))
+  lock_step e free may = let is = state_is i j m Lock e in leads runs.Kind.Lock (ap (λ x. x.place) is) (record { member = may.member; not_held = may.not_held; gave_back = may.gave_back }, inl (free, is))
 
   pub lock_view : Did Lock → view_of (state i) m ≡ after_lock (view_of w m)
   lock_view e = ap (λ x. view_of x m) (state_is i j m Lock e) ∙ views.view_locks w m
 
   pub busy_step : (h : ℕ) → Did (Found (loads.Holder h)) → w.holder ≡ Some h → MayLock w.place m (view_of w m) → Leads j m runs.Kind.Lock i
-  busy_step h e held may = let is = state_is i j m (Found (loads.Holder h)) e in (ap (λ x. x.place) is, (record { member = may.member; not_held = may.not_held; gave_back = may.gave_back }, inr (h, held, is)))
+  busy_step h e held may = let is = state_is i j m (Found (loads.Holder h)) e in leads runs.Kind.Lock (ap (λ x. x.place) is) (record { member = may.member; not_held = may.not_held; gave_back = may.gave_back }, inr (h, held, is))
 
   pub find_view : (x : Seen) → Did (Found x) → view_of (state i) m ≡ after_find x (view_of w m)
   find_view x e = ap (λ x. view_of x m) (state_is i j m (Found x) e) ∙ views.view_finds w m x
 
   pub look_step : (a s : ℕ) → Did (Found (loads.Slot a s (shown (w.slot a s)))) → MayLook w.place m a s → Leads j m (runs.Kind.Look a s) i
-  look_step a s e may = let is = state_is i j m (Found (loads.Slot a s (shown (w.slot a s)))) e in (ap (λ x. x.place) is, (may.member, (may.target, may.slot), is))
+  look_step a s e may = let is = state_is i j m (Found (loads.Slot a s (shown (w.slot a s)))) e in leads (runs.Kind.Look a s) (ap (λ x. x.place) is) (may.member, (may.target, may.slot), is)
 
   pub take_step : (a s : ℕ) (x : Entry) → Did (Take a s x) → w.slot a s ≡ slots.Posted x → In (loads.Slot a s (words.Posted (length (words_of x)))) (w.looked m) → MayTake w.place m (view_of w m) a s → Leads j m (runs.Kind.Take a s) i
   take_step a s x e there seen may = let is = state_is i j m (Take a s x) e in
-      (ap (λ x. x.place) is, (x, record { member = may.member; slot = (may.target, may.slot); holds = may.holds; seen = seen; whole = may.whole; entry = there }, is))
+      leads (runs.Kind.Take a s) (ap (λ x. x.place) is) (x, record { member = may.member; slot = (may.target, may.slot); holds = may.holds; seen = seen; whole = may.whole; entry = there }, is)
 
   pub take_view : (a s : ℕ) (x : Entry) → Did (Take a s x) → view_of (state i) m ≡ after_take a s x (view_of w m)
   take_view a s x e = ap (λ x. view_of x m) (state_is i j m (Take a s x) e) ∙ views.view_takes w m a s x
 
   pub unlock_step : Did Unlock → MayUnlock w.place m (view_of w m) → Leads j m runs.Kind.Unlock i
-  unlock_step e may = let is = state_is i j m Unlock e in (ap (λ x. x.place) is, (record { member = may.member; holds = may.holds }, is))
+  unlock_step e may = let is = state_is i j m Unlock e in leads runs.Kind.Unlock (ap (λ x. x.place) is) (record { member = may.member; holds = may.holds }, is)
 
   pub unlock_view : Did Unlock → view_of (state i) m ≡ after_unlock (view_of w m)
   unlock_view e = ap (λ x. view_of x m) (state_is i j m Unlock e) ∙ views.view_unlocks w m
 
   pub commit_step : Did Commit → MayCommit w.place m (view_of w m) → Leads j m runs.Kind.Commit i
-  commit_step e may = let is = state_is i j m Commit e in (ap (λ x. x.place) is, (record { member = may.member; whole = may.whole }, is))
+  commit_step e may = let is = state_is i j m Commit e in leads runs.Kind.Commit (ap (λ x. x.place) is) (record { member = may.member; whole = may.whole }, is)
 
   pub commit_view : Did Commit → view_of (state i) m ≡ after_commit (view_of w m)
   commit_view e = ap (λ x. view_of x m) (state_is i j m Commit e) ∙ views.view_commits w m
 
   pub mark_step : (a s : ℕ) (x : Entry) → Did (Mark a s x) → MayMark w.place m (view_of w m) a s x → Leads j m (runs.Kind.Mark a s) i
   mark_step a s x e may = let is = state_is i j m (Mark a s x) e in
-      (ap (λ x. x.place) is, (x, record { member = may.member; slot = (may.target, may.slot); taken = may.taken; kept = may.kept }, is))
+      leads (runs.Kind.Mark a s) (ap (λ x. x.place) is) (x, record { member = may.member; slot = (may.target, may.slot); taken = may.taken; kept = may.kept }, is)
 
   pub mark_view : (a s : ℕ) (x : Entry) → Did (Mark a s x) → view_of (state i) m ≡ after_mark a s (view_of w m)
   mark_view a s x e = ap (λ x. view_of x m) (state_is i j m (Mark a s x) e) ∙ views.view_marks w m a s x
 
   pub fail_step : (a s : ℕ) (x : Entry) → Did (Fail a s x) → MayFail w.place m (view_of w m) a s x → Leads j m (runs.Kind.Fail a s) i
   fail_step a s x e may = let is = state_is i j m (Fail a s x) e in
-      (ap (λ x. x.place) is, (x, record { member = may.member; slot = (may.target, may.slot); taken = may.taken; flying = may.flying }, is))
+      leads (runs.Kind.Fail a s) (ap (λ x. x.place) is) (x, record { member = may.member; slot = (may.target, may.slot); taken = may.taken; flying = may.flying }, is)
 
   pub fail_view : (a s : ℕ) (x : Entry) → Did (Fail a s x) → view_of (state i) m ≡ after_fail a s (view_of w m)
   fail_view a s x e = ap (λ x. view_of x m) (state_is i j m (Fail a s x) e) ∙ views.view_fails w m a s x
 
   pub withdraw_step : (s : ℕ) (x : Entry) → Did (Withdraw s x) → w.slot m s ≡ slots.Posted x → owner w.place x.key ≡ m → In (loads.Slot m s (words.Posted (length (words_of x)))) (w.looked m) → MayWithdraw w.place m (view_of w m) s → Leads j m (runs.Kind.Withdraw s) i
   withdraw_step s x e there own seen may = let is = state_is i j m (Withdraw s x) e in
-      (ap (λ x. x.place) is, (x, record { slot = (may.member, may.slot); own = own; holds = may.holds; seen = seen; posted = there }, is))
+      leads (runs.Kind.Withdraw s) (ap (λ x. x.place) is) (x, record { slot = (may.member, may.slot); own = own; holds = may.holds; seen = seen; posted = there }, is)
 
   pub withdraw_view : (s : ℕ) (x : Entry) → Did (Withdraw s x) → owner w.place x.key ≡ m → view_of (state i) m ≡ after_withdraw x (view_of w m)
   withdraw_view s x e own = ap (λ x. view_of x m) (state_is i j m (Withdraw s x) e) ∙ views.view_withdraws w m s x own
 
   pub doom_step : (ns : List EntryName) → Did (Doom ns) → MayDoom w.place m (view_of w m) ns → Leads j m (runs.Kind.Doom ns) i
-  doom_step ns e may = let is = state_is i j m (Doom ns) e in (ap (λ x. x.place) is, (record { member = may.member; dead = may.dead }, is))
+  doom_step ns e may = let is = state_is i j m (Doom ns) e in leads (runs.Kind.Doom ns) (ap (λ x. x.place) is) (record { member = may.member; dead = may.dead }, is)
 
   pub doom_view : (ns : List EntryName) → Did (Doom ns) → view_of (state i) m ≡ after_doom ns (view_of w m)
   doom_view ns e = ap (λ x. view_of x m) (state_is i j m (Doom ns) e) ∙ views.view_dooms w m ns
@@ -140,7 +146,7 @@ module _ (j i : Journal) (m : ℕ) where
 
     pub finish_step : (s : ℕ) (x : Entry) (h : ℕ) → Did (Finish s x h) → w.slot m s ≡ slots.Done x h → owner w.place x.key ≡ m → In (loads.Slot m s (words.Done h)) (w.looked m) → MayFinish w.place m (view_of w m) s → Leads j m (runs.Kind.Finish s) i
     finish_step s x h e there own seen may =
-        (ap (λ x. x.place) (state_is i j m (Finish s x h) e), inl (x, h, record { slot = (may.member, may.slot); own = own; seen = seen; done = there }, finish_tidied s x h e))
+        leads (runs.Kind.Finish s) (ap (λ x. x.place) (state_is i j m (Finish s x h) e)) (inl (x, h, record { slot = (may.member, may.slot); own = own; seen = seen; done = there }, finish_tidied s x h e))
 
     pub finish_view : (s : ℕ) (x : Entry) (h : ℕ) → Did (Finish s x h) → owner w.place x.key ≡ m → TidiedIn w.place m (after_finish x h (view_of w m)) (view_of (state i) m)
     finish_view s x h e own = view_from (finishes w m s x h) (after_finish x h (view_of w m)) (views.view_finishes w m s x h own) refl (finish_tidied s x h e)
@@ -153,7 +159,7 @@ module _ (j i : Journal) (m : ℕ) where
 
     pub give_up_step : (s : ℕ) (x : Entry) → Did (GiveUp s x) → w.slot m s ≡ slots.Failed x → owner w.place x.key ≡ m → In (loads.Slot m s words.Failed) (w.looked m) → MayFinish w.place m (view_of w m) s → Leads j m (runs.Kind.Finish s) i
     give_up_step s x e there own seen may =
-        (ap (λ x. x.place) (state_is i j m (GiveUp s x) e), inr (x, record { slot = (may.member, may.slot); own = own; seen = seen; failed = there }, give_up_tidied s x e))
+        leads (runs.Kind.Finish s) (ap (λ x. x.place) (state_is i j m (GiveUp s x) e)) (inr (x, record { slot = (may.member, may.slot); own = own; seen = seen; failed = there }, give_up_tidied s x e))
 
     pub give_up_view : (s : ℕ) (x : Entry) → Did (GiveUp s x) → owner w.place x.key ≡ m → TidiedIn w.place m (after_give_up x (view_of w m)) (view_of (state i) m)
     give_up_view s x e own = view_from (gives_up w m s x) (after_give_up x (view_of w m)) (views.view_gives_up w m s x own) refl (give_up_tidied s x e)
@@ -167,7 +173,7 @@ module _ (j i : Journal) (m : ℕ) where
     retire_tidied ns e = rules_follow (retires w m ns) (state_is i j m (Retire ns) e) (retire_covers ns e)
 
     pub retire_step : (ns : List EntryName) → Did (Retire ns) → MayRetire w.place m (view_of w m) ns → Leads j m (runs.Kind.Retire ns) i
-    retire_step ns e may = (ap (λ x. x.place) (state_is i j m (Retire ns) e), (record { member = may.member; doomed = may.doomed }, retire_tidied ns e))
+    retire_step ns e may = leads (runs.Kind.Retire ns) (ap (λ x. x.place) (state_is i j m (Retire ns) e)) (record { member = may.member; doomed = may.doomed }, retire_tidied ns e)
 
     pub retire_view : (ns : List EntryName) → Did (Retire ns) → TidiedIn w.place m (after_retire w.place m ns (view_of w m)) (view_of (state i) m)
     retire_view ns e = view_from (retires w m ns) (after_retire w.place m ns (view_of w m)) (views.view_retires w m ns) refl (retire_tidied ns e)

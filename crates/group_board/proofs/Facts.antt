@@ -26,7 +26,7 @@ use Rattle.group_board.specs.declared.journal.Journal.{Journal}
 use Rattle.group_board.specs.Tidies.{Covers}
 use Rattle.group_board.specs.Journals.{names, state}
 use Rattle.group_board.specs.Kept.{IsKept}
-use Rattle.group_board.specs.Views.{view_of}
+use Rattle.group_laws.specs.MemberViews.{view_of}
 use Rattle.group_board.specs.Conditions.{IsFree}
 use Rattle.group_board.specs.Slots.{IsOver}
 use Rattle.group_board.specs.Told.{stood_as}

@@ -4,6 +4,7 @@ pub mod Journals
 pub mod Views
 pub mod Keeping
 pub mod Facts
+pub mod Assured
 pub mod Calls
 pub mod Mail
 pub mod Opens

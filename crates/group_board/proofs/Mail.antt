@@ -10,8 +10,12 @@ use Rattle.group_laws.specs.Tidying.{Tidied}
 use Rattle.group_laws.specs.Runs.{IsStep}
 use Rattle.group_laws.specs.Runs as runs
 use Rattle.group_laws.proofs.Puts.{In-append_right}
-use Rattle.group_board.specs.Views.{View, view_of, after_find, after_send, after_receive, TidiedIn}
+use Rattle.group_laws.specs.MemberViews.{View, view_of}
+use Rattle.group_board.specs.Views.{after_find, after_send, after_receive, TidiedIn}
 use Rattle.group_board.specs.Conditions.{MaySend}
+use Rattle.group_laws.specs.Invariant.{Lawful}
+use Rattle.group_laws.proofs.Runs.{step_keeps}
+use Rattle.group_board.specs.Assurances.{IsHeard}
 use Rattle.group_board.specs.Told.{AreSteps}
 use Rattle.group_board.proofs.Picks.{here}
 use Rattle.group_board.proofs.Views as views
@@ -86,3 +90,13 @@ module _ (w mid : Group) (m from : ℕ) (n : Notices) (is : mid ≡ finds w m (l
 
   pub receive_place : (u : Group) → Tidied (receives mid m from n) m u → u.place ≡ w.place
   receive_place u t = ap (λ g. g.place) t.4 ∙ ap (λ g. g.place) is
+
+-- two steps keep the invariant
+pub steps_lawful : (w : Group) (m : ℕ) (first second : runs.Kind) (u : Group) → AreSteps w m first second u → Lawful w → Lawful u
+steps_lawful w m first second u s L = step_keeps s.0 m second u (step_keeps w m first s.0 L s.1) s.2
+
+-- what a member hears it hears of the state before its look, too
+pub heard_before : (w mid : Group) (m from : ℕ) (x : Seen) (n : Notices) → mid ≡ finds w m x → IsHeard mid.place m from (view_of mid m) n → IsHeard w.place m from (view_of w m) n
+heard_before w mid m from x n is h =
+    let told = subst (λ (g : Group). IsHeard g.place m from (view_of g m) n) is h in
+    record { dead = told.dead; own = told.own; told = told.told; stood = told.stood }

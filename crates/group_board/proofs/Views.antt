@@ -11,7 +11,8 @@ use Rattle.group_laws.specs.State.{Notices, Group}
 use Rattle.group_laws.specs.Steps.{with_block, points_at, only_own, left_by, posts, locks, finds, takes, unlocks, commits, marks, fails, finishes, gives_up, withdraws, dooms, retires, sends, receives}
 use Rattle.group_laws.specs.Invariant.{IsDead}
 use Rattle.group_laws.specs.Tidying.{IsSpent, TellsItself, IsTidy, Tidied}
-use Rattle.group_board.specs.Views.{of_own, view_of, left_in, after_post, after_lock, after_find, after_take, after_unlock, after_commit, after_mark, after_fail, after_finish, after_give_up, after_withdraw, after_doom, after_retire, after_send, after_receive, IsDeadIn, IsSpentIn, TellsItselfIn, IsTidyIn, TidiedIn}
+use Rattle.group_laws.specs.MemberViews.{of_own, view_of}
+use Rattle.group_board.specs.Views.{left_in, after_post, after_lock, after_find, after_take, after_unlock, after_commit, after_mark, after_fail, after_finish, after_give_up, after_withdraw, after_doom, after_retire, after_send, after_receive, IsDeadIn, IsSpentIn, TellsItselfIn, IsTidyIn, TidiedIn}
 use Rattle.group_board.proofs.Picks.{here, under, pulled, and_true}
 
 pub own_is : {X : Type 0} (p : Place) (m k : ℕ) (x d : X) → owner p k ≡ m → of_own p m k x d ≡ x

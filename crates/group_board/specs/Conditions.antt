@@ -12,7 +12,8 @@ use Rattle.group_laws.specs.Places.{Place, members, owner, units, LiesIn, Apart,
 use Rattle.group_laws.specs.Updates.{has}
 use Rattle.group_laws.specs.State.{Notices}
 use Rattle.crash_core.specs.declared.kinds.Change.{Change}
-use Rattle.group_board.specs.Views.{View, IsDeadIn}
+use Rattle.group_laws.specs.MemberViews.{View}
+use Rattle.group_board.specs.Views.{IsDeadIn}
 
 -- no own change that is out stands in this slot, so it is empty
 abbrev pub IsFree : View → ℕ → Type 0

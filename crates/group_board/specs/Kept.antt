@@ -2,6 +2,7 @@
 use Rattle.std.specs.Prelude.{◌≡◌, ℕ, ◌+◌, ◌*◌, ◌<◌, List, get_or, Option, None, option_map}
 use Rattle.atomic_table.specs.Seated.{TableId, table_id_coded}
 use Rattle.std.specs.Coded.{Coded-set}
+use mathlib.Core.Logic.{∥∥₁_map}
 use Rattle.group_laws.specs.declared.types.Slot.{Slot}
 use Rattle.group_laws.specs.declared.types.Slot.TheVariants.{Empty}
 use Rattle.group_laws.specs.Places.{members}
@@ -24,3 +25,7 @@ pub record IsKept (n : ℕ) (holder : Option ℕ) (slots : List Slot) (mail : Li
 -- two proofs that two tables are the same are equal
 pub TableId-set : (a b : TableId) → IsProp (a ≡ b)
 TableId-set = Coded-set table_id_coded
+
+-- the state that a board tells is lawful
+pub kept_lawful : (n : ℕ) (holder : Option ℕ) (slots : List Slot) (mail : List (Option Notices)) (j : Journal) → ∥ IsKept n holder slots mail j ∥₁ → ∥ Lawful (state j) ∥₁
+kept_lawful n holder slots mail j k = ∥∥₁_map k (λ o. o.lawful)

@@ -1,6 +1,8 @@
 pub mod Tidies
 pub mod Journals
 pub mod Views
+pub mod Seats
+pub mod Assurances
 pub mod Conditions
 pub mod Slots
 pub mod Told

@@ -1,6 +1,6 @@
 // A board that serves one thread: the lock, the slots and the mailboxes as plain data, and the journal of all steps.
-ghost use Rattle.std.specs.Prelude.{◌≡◌, ◌≢◌, ℕ, ◌+◌, ◌*◌, ◌/◌, ◌<◌, ◌≤◌, length, Option, None, Some, IfErr, IfOk, is_err, true, false, option_map, get_or, MatchOption, MatchResult};
-ghost use Rattle.log_entry.specs.Spelling.{words_of};
+ghost use Rattle.std.specs.Prelude.{◌≡◌, ◌≢◌, ℕ, ◌+◌, ◌*◌, ◌/◌, ◌<◌, ◌≤◌, length, Option, None, Some, IfErr, IfOk, IfSome, is_err, true, false, option_map, get_or, MatchOption, MatchResult};
+ghost use Rattle.log_entry.specs.Spelling.{words_of, HasSpelling};
 ghost use Rattle.chunk_map.specs.Layouts.{layout_of};
 ghost use Rattle.store_image.specs.Facts.{In};
 ghost use Rattle.store_image.specs.Soundness as images;
@@ -19,8 +19,10 @@ ghost use Rattle.group_laws.specs.declared.types.Seen.TheVariants as loads;
 ghost use Rattle.crash_core.specs.Shows.{notices_of};
 ghost use Rattle.group_board.specs.Journals.{image_of, place_in, state};
 ghost use Rattle.group_board.specs.Kept.{IsKept, TableId-set};
-ghost use Rattle.group_board.specs.Views.{view_of, after_post, after_lock, after_find, after_take, after_unlock, after_commit, after_mark, after_fail, after_finish, after_give_up, after_withdraw, after_doom, after_retire, after_send, after_receive, TidiedIn};
+ghost use Rattle.group_laws.specs.MemberViews.{view_of};
+ghost use Rattle.group_board.specs.Views.{after_post, after_lock, after_find, after_take, after_unlock, after_commit, after_mark, after_fail, after_finish, after_give_up, after_withdraw, after_doom, after_retire, after_send, after_receive, TidiedIn};
 ghost use Rattle.group_board.specs.Conditions.{MayPost, MayLock, MayLook, MayTake, MayUnlock, MayCommit, MayMark, MayFail, MayFinish, MayWithdraw, MayDoom, MayRetire, MaySend, MayReceive};
+ghost use Rattle.group_board.specs.Assurances.{IsHome, IsHeard};
 ghost use Rattle.group_board.specs.Told.{AreSteps, Leads, state_of, stood_as};
 
 use crate::board::{Busy, MailFull, SlotState};
@@ -129,6 +131,7 @@ impl LocalBoard {
         ensures table { self.new.table.shared.table_id ≡ self.old.table.shared.table_id }
         ensures step { Leads self.old.keeper.me.0 member runs.Kind.Lock self.new.keeper.me.0 }
         ensures other { IfErr result (λ busy. busy.holder ≢ member) }
+        ensures holder { IfErr result (λ busy. busy.holder < places.members (state self.old.keeper.me.0).place) }
         ensures found { MatchResult result (λ _. (state self.old.keeper.me.0).holder ≡ None) (λ busy. (state self.old.keeper.me.0).holder ≡ Some busy.holder) }
         ensures view { MatchResult result (λ _. view_of (state self.new.keeper.me.0) member ≡ after_lock (view_of (state self.old.keeper.me.0) member)) (λ busy. view_of (state self.new.keeper.me.0) member ≡ after_find (loads.Holder busy.holder) (view_of (state self.old.keeper.me.0) member)) }
     {
@@ -166,6 +169,7 @@ impl LocalBoard {
         requires { MayTake (state self.old.keeper.me.0).place member (view_of (state self.old.keeper.me.0) member) owner slot }
         ensures table { self.new.table.shared.table_id ≡ self.old.table.shared.table_id }
         ensures change { result.home ≡ None }
+        ensures spelled { HasSpelling result.entry }
         ensures words { (n : ℕ) → In (loads.Slot owner slot (words.Posted n)) ((state self.old.keeper.me.0).looked member) → length (words_of result.entry) ≡ n }
         ensures stood { (state self.old.keeper.me.0).slot owner slot ≡ slot_states.Posted result.entry }
         ensures step { Leads self.old.keeper.me.0 member (runs.Kind.Take owner slot) self.new.keeper.me.0 }
@@ -240,6 +244,7 @@ impl LocalBoard {
         requires { MayFinish (state self.old.keeper.me.0).place member (view_of (state self.old.keeper.me.0) member) slot }
         ensures table { self.new.table.shared.table_id ≡ self.old.table.shared.table_id }
         ensures seen { MatchOption result.home (In (loads.Slot member slot words.Failed) ((state self.old.keeper.me.0).looked member)) (λ home. In (loads.Slot member slot (words.Done home)) ((state self.old.keeper.me.0).looked member)) }
+        ensures home { IfSome result.home (IsHome (state self.old.keeper.me.0).place member (view_of (state self.old.keeper.me.0) member) result.entry) }
         ensures pending { (view_of (state self.old.keeper.me.0) member).pending result.entry.key ≡ Some (record { entry = result.entry; slot = Some slot }) }
         ensures stood { (state self.old.keeper.me.0).slot member slot ≡ stood_as result.entry result.home }
         ensures step { Leads self.old.keeper.me.0 member (runs.Kind.Finish slot) self.new.keeper.me.0 }
@@ -326,6 +331,7 @@ impl LocalBoard {
         requires seen { In (loads.Mail from member true) ((state self.old.keeper.me.0).looked member) }
         ensures table { self.new.table.shared.table_id ≡ self.old.table.shared.table_id }
         ensures stood { (state self.old.keeper.me.0).mail from member ≡ Some (notices_of result) }
+        ensures heard { IsHeard (state self.old.keeper.me.0).place member from (view_of (state self.old.keeper.me.0) member) (notices_of result) }
         ensures state { Tidied (receives (state self.old.keeper.me.0) member from (notices_of result)) member (state self.new.keeper.me.0) }
     {
         let place = place_of(from, member);
@@ -342,6 +348,7 @@ impl LocalBoard {
         ensures place { (state self.new.keeper.me.0).place ≡ (state self.old.keeper.me.0).place }
         ensures back { IfErr result (λ full. full.notices ≡ notices) }
         ensures found { is_full ((state self.old.keeper.me.0).mail member to) ≡ is_err result }
+        ensures lawful { Lawful (state self.old.keeper.me.0) → Lawful (state self.new.keeper.me.0) }
         ensures step { MatchResult result (λ _. AreSteps (state self.old.keeper.me.0) member (runs.Kind.LookMail member to) (runs.Kind.Send to (notices_of notices)) (state self.new.keeper.me.0)) (λ full. IsStep (state self.old.keeper.me.0) member (runs.Kind.LookMail member to) (state self.new.keeper.me.0)) }
         ensures view { MatchResult result (λ _. view_of (state self.new.keeper.me.0) member ≡ after_send to (notices_of notices) (view_of (state self.old.keeper.me.0) member)) (λ full. view_of (state self.new.keeper.me.0) member ≡ after_find (loads.Mail member to true) (view_of (state self.old.keeper.me.0) member)) }
     {
@@ -357,6 +364,8 @@ impl LocalBoard {
         ensures table { self.new.table.shared.table_id ≡ self.old.table.shared.table_id }
         ensures place { (state self.new.keeper.me.0).place ≡ (state self.old.keeper.me.0).place }
         ensures stood { (state self.old.keeper.me.0).mail from member ≡ option_map notices_of result }
+        ensures heard { IfSome result (λ notices. IsHeard (state self.old.keeper.me.0).place member from (view_of (state self.old.keeper.me.0) member) (notices_of notices)) }
+        ensures lawful { Lawful (state self.old.keeper.me.0) → Lawful (state self.new.keeper.me.0) }
         ensures step { MatchOption result (IsStep (state self.old.keeper.me.0) member (runs.Kind.LookMail from member) (state self.new.keeper.me.0)) (λ notices. AreSteps (state self.old.keeper.me.0) member (runs.Kind.LookMail from member) (runs.Kind.Receive from) (state self.new.keeper.me.0)) }
         ensures view { MatchOption result (view_of (state self.new.keeper.me.0) member ≡ after_find (loads.Mail from member false) (view_of (state self.old.keeper.me.0) member)) (λ notices. TidiedIn (state self.old.keeper.me.0).place member (after_receive (state self.old.keeper.me.0).place member (notices_of notices) (view_of (state self.old.keeper.me.0) member)) (view_of (state self.new.keeper.me.0) member)) }
     {

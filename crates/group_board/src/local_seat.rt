@@ -1,7 +1,8 @@
 // A member's seat at the board of one thread. It tells the state of the group.
 ghost use Rattle.std.specs.Prelude.{Some, refl};
 ghost use Rattle.group_board.specs.Journals.{state};
-ghost use Rattle.group_board.specs.Views.{view_of};
+ghost use Rattle.group_board.specs.Kept.{kept_lawful};
+ghost use Rattle.group_laws.specs.MemberViews.{view_of};
 
 use crate::board::{Board, Busy, MailFull, SlotState};
 use crate::local_board::LocalBoard;
@@ -16,19 +17,20 @@ pub struct LocalSeat<'a> {
 }
 
 impl<'a> Board for LocalSeat<'a> {
-    ghost number = { λ s. s.member };
-
-    ghost place = { λ s. (state s.board.now.keeper.me.0).place };
-
-    ghost table = { λ s. s.board.now.table.shared.table_id };
-
-    ghost handle = { λ s. s.board.ghost_name };
+    ghost seat = { λ s. record {
+      number = s.member;
+      place = (state s.board.now.keeper.me.0).place;
+      table = s.board.now.table.shared.table_id;
+      handle = s.board.ghost_name;
+    } };
 
     ghost view = { λ s. view_of (state s.board.now.keeper.me.0) s.member };
 
     ghost whole = { λ s. Some (state s.board.now.keeper.me.0) };
 
     ghost agrees = { λ s. (refl, refl) };
+
+    ghost lawful = { λ s. kept_lawful _ _ _ _ _ s.board.now.kept };
 
     fn member(&self) -> u32 {
         self.member

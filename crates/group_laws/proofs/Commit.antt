@@ -65,12 +65,14 @@ module _ (w : Group) (m : ℕ) (L : Lawful w) (whole : w.broken m ≡ false) whe
       taken_named = L.slots.taken_named;
       taken_by = L.slots.taken_by;
       taken_once = L.slots.taken_once;
+      taken_member = L.slots.taken_member;
       in_slot = L.slots.in_slot;
       once = L.slots.once;
       failed = λ n t x q. lost x (L.slots.failed n t x q);
       in_doubt = λ k x q. lost x (L.slots.in_doubt k x q);
     };
     looks = record {
+      holder_member = L.looks.holder_member;
       holds_is = L.looks.holds_is;
       posted_seen = λ n b t o h q. L.looks.posted_seen n b t o h (looked_was n _ q);
       done_seen = λ n t h q. L.looks.done_seen n t h (looked_was n _ q);

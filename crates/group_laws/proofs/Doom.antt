@@ -46,6 +46,7 @@ module _ (w : Group) (m : ℕ) (ns : List EntryName) (L : Lawful w) (can : CanDo
     standing = assumption;
     counts = assumption;
     looks = record {
+      holder_member = L.looks.holder_member;
       holds_is = L.looks.holds_is;
       posted_seen = λ n b t o h q. L.looks.posted_seen n b t o h (looked_was n _ q);
       done_seen = λ n t h q. L.looks.done_seen n t h (looked_was n _ q);

@@ -103,6 +103,7 @@ module _ (w : Group) (m s : ℕ) (e : Entry) (home : ℕ) (L : Lawful w) (can : 
   keeps_keys = record {
     under_key = λ k p q. L.keys.under_key k p (pending_was k p q).1;
     next_version = λ k p q. let was = pending_was k p q in rw (last_same k was.0) (L.keys.next_version k p was.1);
+    spelled = λ k p q. L.keys.spelled k p (pending_was k p q).1;
     not_above = λ k v h p. elim (present_was k v h p) [
       | inl i ↦ let l = last_new k i.0 in omega (arith, l, i.1)
       | inr i ↦ let low = L.keys.not_above k v h i.1 in let up = last_rises k in omega (arith, low, up)
@@ -136,6 +137,7 @@ module _ (w : Group) (m s : ℕ) (e : Entry) (home : ℕ) (L : Lawful w) (can : 
     taken_named = λ h n t x q. let old = L.slots.taken_named h n t x q in let named = stays_named n t x (λ d. absurd (cc (d, old.2))) (old.0, old.1) in (named.0, named.1, slot_stays (λ u. u ≡ Taken) n t (λ d. absurd (cc d)) old.2);
     taken_by = λ n t q. elim (slot_was (λ u. u ≡ Taken) n t q) [ inl i ↦ absurd (cc (i.2)) | inr i ↦ L.slots.taken_by n t i.1 ];
     taken_once = L.slots.taken_once;
+    taken_member = L.slots.taken_member;
     in_slot = λ k t x q z. let was = pending_was k _ q in elim (slot_was (λ u. u ≡ Empty) (owner w.place k) t z) [
       | inl i ↦ was.0 (this k x (rw i.1 at was.1) i.0)
       | inr i ↦ L.slots.in_slot k t x was.1 i.1
@@ -147,6 +149,7 @@ module _ (w : Group) (m s : ℕ) (e : Entry) (home : ℕ) (L : Lawful w) (can : 
 
   keeps_looks : Looks new
   keeps_looks = record {
+    holder_member = L.looks.holder_member;
     holds_is = L.looks.holds_is;
     posted_seen = λ n b t o h q. slot_stays (λ u. shown u ≡ ShowsPosted o) b t (λ i. absurd (cc i)) (L.looks.posted_seen n b t o h (looked_was n _ q).1);
     done_seen = λ n t h q. let was = looked_was n _ q in if2_into (λ u. shown u ≡ ShowsDone h) m s Empty (w.slot n t) n t (λ i _. absurd (was.0 i)) (λ _. L.looks.done_seen n t h was.1);

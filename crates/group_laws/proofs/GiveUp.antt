@@ -2,6 +2,7 @@
 use Rattle.std.proofs.Common.{◌≡◌, ℕ, true, [], Some, None, ◌⊎◌, inl, inr, arith, refl, sym, ap, ◌∙◌, subst}
 use Rattle.std.proofs.lemmas.Bool.{cases_eq}
 use Rattle.log_entry.specs.declared.entry.Entry.{Entry}
+use Rattle.log_entry.specs.Spelling.{HasSpelling}
 use Rattle.group_laws.specs.declared.types.Slot.{Slot}
 use Rattle.group_laws.specs.declared.types.Pending.{Pending}
 use Rattle.group_laws.specs.declared.types.Seen.{Seen}
@@ -99,6 +100,7 @@ module _ (w : Group) (m s : ℕ) (e : Entry) (L : Lawful w) (can : CanGiveUp w m
     keys = record {
       under_key = λ k p q. elim (pending_was k p q) [ inl i ↦ let is = i.1 in let j = i.0 in grind (arith, is, j) | inr i ↦ L.keys.under_key k p i.1 ];
       next_version = λ k p q. elim (pending_was k p q) [ inl i ↦ let is = i.1 in let j = i.0 in let n = L.keys.next_version e.key _ mine.0 in grind (arith, is, j, n) | inr i ↦ L.keys.next_version k p i.1 ];
+      spelled = λ k p q. elim (pending_was k p q) [ inl i ↦ (let was : HasSpelling e = L.keys.spelled e.key (record { entry = e; slot = Some s }) mine.0 in subst HasSpelling (let is : record { entry = e; slot = None } ≡ p = cc (i.1) in ap (λ (x : Pending). x.entry) is) was) | inr i ↦ L.keys.spelled k p i.1 ];
       not_above = L.keys.not_above;
       no_cell = L.keys.no_cell;
       no_names = L.keys.no_names;
@@ -111,12 +113,14 @@ module _ (w : Group) (m s : ℕ) (e : Entry) (L : Lawful w) (can : CanGiveUp w m
       taken_named = λ h n t x q. let old = L.slots.taken_named h n t x q in let named = stays_named n t x (λ i j. absurd (let z = can.failed in let y = old.2 in cc (rw (i, j) at y, z))) (old.0, old.1) in (named.0, named.1, slot_stays (λ u. u ≡ Taken) n t (λ d. absurd (cc d)) old.2);
       taken_by = λ n t q. elim (slot_was (λ u. u ≡ Taken) n t q) [ inl i ↦ absurd (cc (i.2)) | inr i ↦ L.slots.taken_by n t i.1 ];
       taken_once = L.slots.taken_once;
+      taken_member = L.slots.taken_member;
       in_slot = λ k t x q z. let was = pending_slot k t x q in elim (slot_was (λ u. u ≡ Empty) (owner w.place k) t z) [ inl i ↦ was.0 (this k x (rw i.1 at was.1) i.0) | inr i ↦ L.slots.in_slot k t x was.1 i.1 ];
       once = λ k l t x y p q. L.slots.once k l t x y (pending_slot k t x p).1 (pending_slot l t y q).1;
       failed = λ n t x q. elim (slot_was (λ u. u ≡ Failed x) n t q) [ inl i ↦ absurd (cc (i.2)) | inr i ↦ lost x (L.slots.failed n t x i.1) ];
       in_doubt = λ k x q. elim (pending_was k _ q) [ inl i ↦ let same : x ≡ e = grind (arith, i.1) in rw same (lost e (L.slots.failed m s e can.failed)) | inr i ↦ lost x (L.slots.in_doubt k x i.1) ];
     };
     looks = record {
+      holder_member = L.looks.holder_member;
       holds_is = L.looks.holds_is;
       posted_seen = λ n b t o h q. slot_stays (λ u. shown u ≡ ShowsPosted o) b t (λ i. absurd (cc i)) (L.looks.posted_seen n b t o h (looked_was n _ q).1);
       done_seen = λ n t h q. slot_stays (λ u. shown u ≡ ShowsDone h) n t (λ i. absurd (cc i)) (L.looks.done_seen n t h (looked_was n _ q).1);

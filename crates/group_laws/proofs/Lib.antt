@@ -28,3 +28,7 @@ pub mod GroupEntries
 pub mod OpeningFound
 pub mod OpeningTidied
 pub mod Posted
+pub mod Others
+pub mod Doubts
+pub mod PartWords
+pub mod SafeRegions

@@ -4,11 +4,11 @@ use Rattle.group_laws.specs.declared.types.Seen.{Seen}
 use Rattle.store_image.specs.Facts.{In}
 use Rattle.group_laws.specs.State.{Group, shown}
 use Rattle.group_laws.specs.Invariant.{Lawful}
-use Rattle.group_laws.specs.Steps.{CanUnlock, finds, locks, unlocks}
+use Rattle.group_laws.specs.Steps.{CanUnlock, IsMember, finds, locks, unlocks}
 use Rattle.group_laws.specs.declared.types.Seen.TheVariants.{Slot as SeenSlot, Mail as SeenMail, Holder as SeenHolder}
 use Rattle.group_laws.proofs.Puts.{In-push, if_cases, if_into}
 
-module _ (w : Group) (m : ℕ) (L : Lawful w) (free : w.holder ≡ None) where
+module _ (w : Group) (m : ℕ) (L : Lawful w) (member : IsMember w m) (free : w.holder ≡ None) where
   looked_was : (n : ℕ) (x : Seen) → In x ((locks w m).looked n) → ((n ≡ m) → ⊥) × In x (w.looked n)
   looked_was n x q = elim (if_cases (In x) m [] (w.looked n) n q) [ inl p ↦ absurd p.1 | inr p ↦ p ]
 
@@ -24,6 +24,7 @@ module _ (w : Group) (m : ℕ) (L : Lawful w) (free : w.holder ≡ None) where
     blocks = assumption;
     counts = assumption;
     looks = record {
+      holder_member = λ h q. (let same : m ≡ h = cc q in rw (← same) member);
       holds_is = λ n. (
         λ q. elim (if_cases (λ b. b ≡ true) m true (w.holds n) n q) [ inl i ↦ ap Some (sym i.0) | inr i ↦ absurd (let h = (L.looks.holds_is n).0 i.1 in grind (arith, h, free)) ],
         λ q. if_into (λ b. b ≡ true) m true (w.holds n) n (λ _. refl) (λ ne. absurd (ne (cc (sym q)))),
@@ -52,6 +53,7 @@ module _ (w : Group) (m : ℕ) (L : Lawful w) (can : CanUnlock w m) where
     blocks = assumption;
     counts = assumption;
     looks = record {
+      holder_member = λ h q. absurd (cc q);
       holds_is = λ n. (
         λ q. elim (if_cases (λ b. b ≡ true) m false (w.holds n) n q) [ inl i ↦ absurd (cc (i.1)) | inr i ↦ absurd (let h = (L.looks.holds_is n).0 i.1 in let mine = (L.looks.holds_is m).0 can.holds in i.0 (cc (h, mine))) ],
         λ q. absurd (cc q),
@@ -86,6 +88,7 @@ module _ (w : Group) (m : ℕ) (y : Seen) (L : Lawful w) where
     blocks = assumption;
     counts = assumption;
     looks = record {
+      holder_member = L.looks.holder_member;
       holds_is = L.looks.holds_is;
       posted_seen = λ n b u o h q. elim (found_was n _ q) [ inl i ↦ sym (subst IsTrue_of (sym i) t) | inr i ↦ L.looks.posted_seen n b u o h i ];
       done_seen = λ n u h q. elim (found_was n _ q) [ inl i ↦ sym (subst IsTrue_of (sym i) t) | inr i ↦ L.looks.done_seen n u h i ];

@@ -76,12 +76,14 @@ module _ (w : Group) (m a s : ℕ) (e : Entry) (L : Lawful w) (can : CanMark w m
           (old.0, old.1, if2_into (λ u. u ≡ Taken) a s (Done e m) (w.slot n t) n t (λ i j. absurd (elsewhere h n t x q i j)) (λ _. old.2));
       taken_by = λ n t q. elim (slot_was (λ u. u ≡ Taken) n t q) [ inl i ↦ absurd (cc (i.2)) | inr i ↦ let old = L.slots.taken_by n t i.1 in (old.0, old.1, taken_stays old.0 n t old.1 (λ _ j k. i.0 j k) old.2) ];
       taken_once = λ h i n t x y p q. L.slots.taken_once h i n t x y (taken_was h n t x p).1 (taken_was i n t y q).1;
+      taken_member = λ h n t x q. L.slots.taken_member h n t x (taken_was h n t x q).1;
       in_slot = λ k t x q z. elim (slot_was (λ u. u ≡ Empty) (owner w.place k) t z) [ inl i ↦ absurd (cc (i.2)) | inr i ↦ L.slots.in_slot k t x q i.1 ];
       once = L.slots.once;
       failed = λ n t x q. elim (slot_was (λ u. u ≡ Failed x) n t q) [ inl i ↦ absurd (cc (i.2)) | inr i ↦ L.slots.failed n t x i.1 ];
       in_doubt = L.slots.in_doubt;
     };
     looks = record {
+      holder_member = L.looks.holder_member;
       holds_is = L.looks.holds_is;
       posted_seen = λ n b t o h q. slot_stays (λ u. shown u ≡ ShowsPosted o) b t (λ i. absurd (cc i)) (L.looks.posted_seen n b t o h (looked_was n _ q));
       done_seen = λ n t h q. slot_stays (λ u. shown u ≡ ShowsDone h) n t (λ i. absurd (cc i)) (L.looks.done_seen n t h (looked_was n _ q));

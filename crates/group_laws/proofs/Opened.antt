@@ -80,6 +80,7 @@ module _ (w : Group) (x : Contents) (sound : IsSound w.place x) (open_ : IsFound
     keys = record {
       under_key = λ k p q. nothing (open_.pending k) q;
       next_version = λ k p q. nothing (open_.pending k) q;
+      spelled = λ k p q. nothing (open_.pending k) q;
       not_above = λ k v h p. let e = (open_.present k v h).0 p in elim (open_.last k) [
         | inl i ↦ absurd (i.0 h e.0 e.1 e.2)
         | inr i ↦ let top = i.1.greatest h e.0 e.1 e.2 in let l = i.2 in let n = e.3 in omega (arith, top, l, n)
@@ -98,12 +99,14 @@ module _ (w : Group) (x : Contents) (sound : IsSound w.place x) (open_ : IsFound
       taken_named = λ h m s e q. nothing (open_.taken h m s) q;
       taken_by = λ m s q. empty m s _ q (λ z. absurd (cc z));
       taken_once = λ h i m s e f p q. nothing (open_.taken h m s) p;
+      taken_member = λ h m s e q. nothing (open_.taken h m s) q;
       in_slot = λ k s e q. nothing (open_.pending k) q;
       once = λ k l s e f p. nothing (open_.pending k) p;
       failed = λ m s e q. empty m s _ q (λ z. absurd (cc z));
       in_doubt = λ k e q. nothing (open_.pending k) q;
     };
     looks = record {
+      holder_member = λ h q. nothing open_.holder q;
       holds_is = λ m. (λ t. clash (open_.holds m) t, λ h. nothing open_.holder h);
       posted_seen = λ m a s o h. nothing open_.holder h;
       done_seen = λ m s h q. absurd (unlooked m _ q);

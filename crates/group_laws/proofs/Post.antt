@@ -1,7 +1,8 @@
 -- A Post keeps the invariant.
-use Rattle.std.proofs.Common.{◌≡◌, ℕ, ◌+◌, ◌<◌, ◌≤◌, List, [], ◌∷◌, ◌++◌, length, Option, Some, ◌⊎◌, inl, inr, arith, refl, sym, ap, ◌∙◌}
+use Rattle.std.proofs.Common.{◌≡◌, ℕ, ◌+◌, ◌<◌, ◌≤◌, List, [], ◌∷◌, ◌++◌, length, Option, Some, ◌⊎◌, inl, inr, arith, refl, sym, ap, ◌∙◌, subst}
 use Rattle.log_entry.specs.declared.entry.Body.{Body}
 use Rattle.log_entry.specs.declared.entry.Entry.{Entry}
+use Rattle.log_entry.specs.Spelling.{HasSpelling}
 use Rattle.group_laws.proofs.Places.{parts_rise, units_some}
 use Rattle.group_laws.specs.declared.types.Slot.{Slot}
 use Rattle.group_laws.specs.declared.types.Pending.{Pending}
@@ -72,6 +73,7 @@ module _ (w : Group) (m s : ℕ) (e : Entry) (value : List ℕ) (L : Lawful w) (
   keeps_keys = record {
     under_key = λ k p q. let was = pending_was k p q in grind (arith, L.keys.under_key k p);
     next_version = λ k p q. let was = pending_was k p q in grind (arith, L.keys.next_version k p, can.next);
+    spelled = λ k p q. elim (pending_was k p q) [ inl i ↦ subst HasSpelling (let is : record { entry = e; slot = Some s } ≡ p = cc (i.1) in ap (λ (x : Pending). x.entry) is) can.spelled | inr i ↦ L.keys.spelled k p i.1 ];
     not_above = L.keys.not_above;
     no_cell = L.keys.no_cell;
     no_names = L.keys.no_names;
@@ -89,6 +91,7 @@ module _ (w : Group) (m s : ℕ) (e : Entry) (value : List ℕ) (L : Lawful w) (
     taken_named = λ h n t x q. let old = L.slots.taken_named h n t x q in (pending_stays _ _ old.0, old.1, slot_into (λ u. u ≡ Taken) n t (λ i j. absurd (grind (arith, can.empty, old.2))) (λ _. old.2));
     taken_by = λ n t q. elim (slot_was (λ u. u ≡ Taken) n t q) [ inl p ↦ absurd (cc (p.2)) | inr p ↦ L.slots.taken_by n t p.1 ];
     taken_once = L.slots.taken_once;
+    taken_member = L.slots.taken_member;
     in_slot = λ k t x q z. let was = pending_was k _ q in let slot = slot_was (λ u. u ≡ Empty) (owner w.place k) t z in grind (arith, L.slots.in_slot k t x, can.own);
     once = λ k l t x y p q o. let wp = pending_was k _ p in let wq = pending_was l _ q in grind (arith, L.slots.once k l t x y, L.slots.in_slot k t x, L.slots.in_slot l t y, can.empty, can.own);
     failed = λ n t x q. elim (slot_was (λ u. u ≡ Failed x) n t q) [ inl p ↦ absurd (cc (p.2)) | inr p ↦ L.slots.failed n t x p.1 ];
@@ -97,6 +100,7 @@ module _ (w : Group) (m s : ℕ) (e : Entry) (value : List ℕ) (L : Lawful w) (
 
   keeps_looks : Looks new
   keeps_looks = record {
+    holder_member = L.looks.holder_member;
     holds_is = L.looks.holds_is;
     posted_seen = λ n b t o h q. slot_into (λ u. shown u ≡ ShowsPosted o) b t (λ i j. absurd (let was = L.looks.posted_seen n b t o h (looked_was n _ q).1 in let empty = can.empty in cc (was, empty, i, j))) (λ _. L.looks.posted_seen n b t o h (looked_was n _ q).1);
     done_seen = λ n t h q. let was = looked_was n _ q in slot_into (λ u. shown u ≡ ShowsDone h) n t (λ i j. absurd (was.0 i)) (λ _. L.looks.done_seen n t h was.1);

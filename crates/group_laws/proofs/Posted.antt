@@ -23,7 +23,7 @@ neq-eqb : (a b : ℕ) → (a ≡ b → ⊥) → eqb a b ≡ false
 neq-eqb a b ne = false_from_ne_true (eqb a b) (λ t. ne (eqb-true a b t))
 
 -- the key's pending entry, where there is one, offers this
-abbrev Offers : ℕ → Option (List ℕ) → Group → Type 0
+abbrev pub Offers : ℕ → Option (List ℕ) → Group → Type 0
 Offers k offer w = (p : Pending) → w.pending k ≡ Some p → left_by w (owner w.place k) p.entry.body ≡ offer
 
 -- the pending entry's block is the key's own

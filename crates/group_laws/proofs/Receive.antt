@@ -72,12 +72,14 @@ module _ (w : Group) (m from : ℕ) (n : Notices) (L : Lawful w) (can : CanRecei
     keys = record {
       under_key = L.keys.under_key;
       next_version = L.keys.next_version;
+      spelled = L.keys.spelled;
       no_cell = L.keys.no_cell;
       not_above = λ k v h q. L.keys.not_above k v h (present_was k v h q).0;
       no_names = λ k v z. guard_into (λ u. u ≡ None) m (has n.gone k v) None (w.present k v) (owner w.place k) (λ _ _. refl) (λ _. L.keys.no_names k v z);
       told_present = λ k v q. let was = told_was k v q in let old = L.keys.told_present k v was.0 in (old.0, present_stays k v old.0 was.1 old.1);
     };
     looks = record {
+      holder_member = L.looks.holder_member;
       holds_is = L.looks.holds_is;
       posted_seen = λ n b t o h q. L.looks.posted_seen n b t o h (looked_was n _ q).1;
       done_seen = λ n t h q. L.looks.done_seen n t h (looked_was n _ q).1;

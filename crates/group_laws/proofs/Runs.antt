@@ -38,7 +38,7 @@ step_keeps w m Split u L s = along u w s.1 L
 step_keeps w m Join u L s = along u w s.1 L
 step_keeps w m (Post n e v) u L s = along _ _ s.1 (post.keeps w m n e v L s.0)
 step_keeps w m Lock u L s = elim s.1 [
-  | inl free ↦ along _ _ free.1 (lock.locks_keeps w m L free.0)
+  | inl free ↦ along _ _ free.1 (lock.locks_keeps w m L s.0.member free.0)
   | inr held ↦ along _ _ held.2 (lock.finds_keeps w m (SeenHolder held.0) L held.1)
 ]
 step_keeps w m (Look a n) u L s = along _ _ s.2 (lock.finds_keeps w m (SeenSlot a n (shown (w.slot a n))) L refl)

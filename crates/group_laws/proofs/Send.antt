@@ -63,12 +63,14 @@ module _ (w : Group) (m to : ℕ) (n : Notices) (L : Lawful w) (can : CanSend w 
     keys = record {
       under_key = L.keys.under_key;
       next_version = L.keys.next_version;
+      spelled = L.keys.spelled;
       not_above = L.keys.not_above;
       no_cell = L.keys.no_cell;
       no_names = L.keys.no_names;
       told_present = λ k v q. elim (told_was k v q) [ inl i ↦ L.keys.told_present k v i | inr i ↦ (to, (can.dead k v i).2) ];
     };
     looks = record {
+      holder_member = L.looks.holder_member;
       holds_is = L.looks.holds_is;
       posted_seen = λ n b t o h q. L.looks.posted_seen n b t o h (looked_was n _ q).1;
       done_seen = λ n t h q. L.looks.done_seen n t h (looked_was n _ q).1;

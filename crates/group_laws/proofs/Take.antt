@@ -63,6 +63,7 @@ module _ (w : Group) (m a s : ℕ) (e : Entry) (L : Lawful w) (can : CanTake w m
       | inr p ↦ let old = L.slots.taken_by n t p.1 in (old.0, old.1, taken_into old.0 n t old.1 (λ _ i j. absurd (p.0 i j)) (λ _. old.2))
     ];
     taken_once = λ h i n t x y p q. let wp = taken_was h n t x p in let wq = taken_was i n t y q in grind (arith, L.slots.taken_once h i n t x y, L.slots.taken_named h n t x, L.slots.taken_named i n t y, can.entry);
+    taken_member = λ h n t x q. elim (taken_was h n t x q) [ inl p ↦ rw p.0 can.member | inr p ↦ L.slots.taken_member h n t x p.1 ];
     in_slot = λ k t x q z. let was = slot_was (λ u. u ≡ Empty) (owner w.place k) t z in grind (arith, L.slots.in_slot k t x);
     once = L.slots.once;
     failed = λ n t x q. elim (slot_was (λ u. u ≡ Failed x) n t q) [ inl p ↦ absurd (cc (p.2)) | inr p ↦ lost x (L.slots.failed n t x p.1) ];
@@ -75,6 +76,7 @@ module _ (w : Group) (m a s : ℕ) (e : Entry) (L : Lawful w) (can : CanTake w m
 
   keeps_looks : Looks new
   keeps_looks = record {
+    holder_member = L.looks.holder_member;
     holds_is = L.looks.holds_is;
     posted_seen = λ n b t o h q. let was = looked_was n _ q in let me = (L.looks.holds_is m).0 can.holds in grind (arith, was);
     done_seen = λ n t h q. let was = looked_was n _ q in if2_into (λ u. shown u ≡ ShowsDone h) a s Taken (w.slot n t) n t (λ i j. let x = L.looks.done_seen n t h was.1 in grind (arith, x, can.entry)) (λ _. L.looks.done_seen n t h was.1);

@@ -57,6 +57,7 @@ module _ (w : Group) (m : ℕ) (l : ℕ → ℕ) (t : ℕ → ℕ → Bool) (d :
     keys = record {
       under_key = L.keys.under_key;
       next_version = λ k p q. rw (same_pending k p q) (L.keys.next_version k p q);
+      spelled = L.keys.spelled;
       not_above = λ k v h p. rw (same_present k v h p) (L.keys.not_above k v h p);
       no_cell = λ k z. elim (can.keeps k) [ inl i ↦ i.0.1 | inr i ↦ L.keys.no_cell k (sym i ∙ z) ];
       no_names = λ k v z. elim (can.keeps k) [ inl i ↦ i.0.2 v | inr i ↦ L.keys.no_names k v (sym i ∙ z) ];

@@ -54,6 +54,7 @@ module _ (w : Group) (m s : ℕ) (e : Entry) (L : Lawful w) (can : CanWithdraw w
     taken_named = λ h n t x q. let old = L.slots.taken_named h n t x q in let named = stays_named n t x (λ i j. absurd (let z = can.posted in let y = old.2 in cc (rw (i, j) at y, z))) (old.0, old.1) in (named.0, named.1, slot_stays (λ u. u ≡ Taken) n t (λ d. absurd (cc d)) old.2);
     taken_by = λ n t q. elim (slot_was (λ u. u ≡ Taken) n t q) [ inl i ↦ absurd (cc (i.2)) | inr i ↦ L.slots.taken_by n t i.1 ];
     taken_once = L.slots.taken_once;
+    taken_member = L.slots.taken_member;
     in_slot = λ k t x q z. let was = pending_was k _ q in elim (slot_was (λ u. u ≡ Empty) (owner w.place k) t z) [ inl i ↦ was.0 (this k x (rw i.1 at was.1) i.0) | inr i ↦ L.slots.in_slot k t x was.1 i.1 ];
     once = λ k l t x y p q. L.slots.once k l t x y (pending_was k _ p).1 (pending_was l _ q).1;
     failed = λ n t x q. elim (slot_was (λ u. u ≡ Failed x) n t q) [ inl i ↦ absurd (cc (i.2)) | inr i ↦ L.slots.failed n t x i.1 ];
@@ -62,6 +63,7 @@ module _ (w : Group) (m s : ℕ) (e : Entry) (L : Lawful w) (can : CanWithdraw w
 
   keeps_looks : Looks new
   keeps_looks = record {
+    holder_member = L.looks.holder_member;
     holds_is = L.looks.holds_is;
     posted_seen = λ n b t o h q. absurd (let was = looked_was n _ q in let me = (L.looks.holds_is m).0 can.holds in was.0 (cc (h, me)));
     done_seen = λ n t h q. slot_stays (λ u. shown u ≡ ShowsDone h) n t (λ i. absurd (cc i)) (L.looks.done_seen n t h (looked_was n _ q).1);
@@ -116,6 +118,7 @@ module _ (w : Group) (m s : ℕ) (e : Entry) (L : Lawful w) (can : CanWithdraw w
     keys = record {
       under_key = λ k p q. L.keys.under_key k p (pending_was k p q).1;
       next_version = λ k p q. L.keys.next_version k p (pending_was k p q).1;
+      spelled = λ k p q. L.keys.spelled k p (pending_was k p q).1;
       not_above = L.keys.not_above;
       no_cell = L.keys.no_cell;
       no_names = L.keys.no_names;

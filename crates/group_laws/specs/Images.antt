@@ -1,10 +1,10 @@
 -- What a crash may leave, and what it recovers, in the words of the parts: one image for each member.
-use Rattle.std.specs.Prelude.{◌≡◌, ℕ, ◌<◌, false, true, List, map, Option, Some, ◌⊎◌}
+use Rattle.std.specs.Prelude.{◌≡◌, ℕ, ◌+◌, ◌<◌, ◌≤◌, false, true, List, map, Option, Some, ◌⊎◌}
 use Rattle.std.specs.List.{flat_map}
 use Rattle.std.specs.Option.{option_and_then}
 use Rattle.log_entry.specs.declared.entry.Body.TheVariants.{Pointer}
 use Rattle.log_entry.specs.declared.entry.Entry.{Entry}
-use Rattle.chunk_map.specs.Layouts.{numbers}
+use Rattle.chunk_map.specs.Layouts.{numbers, part_first}
 use Rattle.store_image.specs.declared.types.PlacedEntry.{PlacedEntry}
 use Rattle.store_image.specs.Parts.{part_entries, reads, held}
 use Rattle.store_image.specs.Winners.{winner_in, cell_by}
@@ -12,7 +12,7 @@ use Rattle.store_image.specs.Facts.{In, Agree}
 use Rattle.group_laws.specs.declared.types.Block.{Block}
 use Rattle.group_laws.specs.Places.{Place, members, core_of, owner}
 use Rattle.group_laws.specs.State.{Group}
-use Rattle.group_laws.specs.Invariant.{IsLogged}
+use Rattle.group_laws.specs.MemberViews.{View, view_of}
 use Rattle.group_laws.specs.Crashes.{IsNext}
 
 -- the entries of a member's log with their places
@@ -27,13 +27,21 @@ StandsIn p image h e = In e (map (λ x. x.entry) (log_of p image h))
 abbrev pub block_of : Place → (ℕ → ℕ) → ℕ → ℕ → Option (List ℕ)
 block_of p image h at = held p.layout image (core_of p h) at
 
--- A crash may leave this image of h's part. It reads well, and has all that is certain but what may vanish, nothing that isn't logged, what was in flight wholly or not at all, and the blocks.
-pub record IsLicensedImage (w : Group) (h : ℕ) (image : ℕ → ℕ) : Type 0 where
-  pub well : reads w.place.layout image (core_of w.place h) ≡ true
-  pub has : (e : Entry) → In e (w.kept h) → w.doomed h e.key e.version ≡ false → StandsIn w.place image h e
-  pub only : (e : Entry) → StandsIn w.place image h e → IsLogged w h e
-  pub whole : ((e : Entry) → In e (w.flying h) → StandsIn w.place image h e) ⊎ ((e : Entry) → In e (w.flying h) → StandsIn w.place image h e → In e (w.kept h))
-  pub blocks : (p : ℕ) (b : Block) → w.blocks h p ≡ Some b → block_of w.place image h p ≡ Some b.bytes
+-- A crash may leave this image of the part of member h, who has v. It reads well, and has all that is certain but what may vanish, nothing that isn't logged, what was in flight wholly or not at all, and the blocks.
+pub record IsLicensedBy (p : Place) (h : ℕ) (v : View) (image : ℕ → ℕ) : Type 0 where
+  pub well : reads p.layout image (core_of p h) ≡ true
+  pub has : (e : Entry) → In e v.kept → v.doomed e.key e.version ≡ false → StandsIn p image h e
+  pub only : (e : Entry) → StandsIn p image h e → In e v.kept ⊎ In e v.flying
+  pub whole : ((e : Entry) → In e v.flying → StandsIn p image h e) ⊎ ((e : Entry) → In e v.flying → StandsIn p image h e → In e v.kept)
+  pub blocks : (q : ℕ) (b : Block) → v.blocks q ≡ Some b → block_of p image h q ≡ Some b.bytes
+
+-- the same of a member of this state
+abbrev pub IsLicensedImage : Group → ℕ → (ℕ → ℕ) → Type 0
+IsLicensedImage w h image = IsLicensedBy w.place h (view_of w h) image
+
+-- two images have the same words in the part of member h
+abbrev pub SamePart : Place → ℕ → (ℕ → ℕ) → (ℕ → ℕ) → Type 0
+SamePart p h i j = (n : ℕ) → part_first p.layout (core_of p h) ≤ n → n < part_first p.layout (core_of p h + 1) → i n ≡ j n
 
 -- all entries of a group's parts
 abbrev pub group_entries : Place → (ℕ → ℕ → ℕ) → List PlacedEntry

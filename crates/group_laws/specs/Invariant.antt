@@ -4,6 +4,7 @@ use Rattle.log_entry.specs.declared.entry.Body.{Body}
 use Rattle.log_entry.specs.declared.entry.Body.TheVariants.{Pointer, Embedded, Tombstone}
 use Rattle.log_entry.specs.declared.entry.Entry.{Entry}
 use Rattle.log_entry.specs.declared.entry.EntryName.{EntryName}
+use Rattle.log_entry.specs.Spelling.{HasSpelling}
 use Rattle.store_image.specs.Facts.{In}
 use Rattle.group_laws.specs.declared.types.Slot.TheVariants.{Empty, Posted, Taken, Done, Failed}
 use Rattle.group_laws.specs.declared.types.Pending.{Pending}
@@ -18,6 +19,7 @@ use Rattle.group_laws.specs.State.{Notices, Group, shown}
 pub record Keys (w : Group) : Type 0 where
   pub under_key : (k : ℕ) (p : Pending) → w.pending k ≡ Some p → p.entry.key ≡ k
   pub next_version : (k : ℕ) (p : Pending) → w.pending k ≡ Some p → p.entry.version ≡ w.last k + 1
+  pub spelled : (k : ℕ) (p : Pending) → w.pending k ≡ Some p → HasSpelling p.entry
   pub not_above : (k v h : ℕ) → w.present k v ≡ Some h → v ≤ w.last k
   pub no_cell : (k : ℕ) → w.last k ≡ 0 → w.cell k ≡ None
   pub no_names : (k v : ℕ) → w.last k ≡ 0 → w.present k v ≡ None
@@ -26,6 +28,10 @@ pub record Keys (w : Group) : Type 0 where
 -- the entry is pending with this slot, or with none
 abbrev pub PendsAt : Group → Entry → Option ℕ → Type 0
 PendsAt w e at = w.pending e.key ≡ Some (record { entry = e; slot = at })
+
+-- the key's change came back as failed, so a crash may find it or not
+abbrev pub IsInDoubt : Group → ℕ → Entry → Type 0
+IsInDoubt w k e = w.pending k ≡ Some (record { entry = e; slot = None })
 
 -- some member whose log is broken has the entry among those that it couldn't write
 abbrev pub IsLost : Group → Entry → Type 0
@@ -39,14 +45,16 @@ pub record Slots (w : Group) : Type 0 where
   pub taken_named : (h m s : ℕ) (e : Entry) → w.taken h m s ≡ Some e → PendsAt w e (Some s) × (owner w.place e.key ≡ m) × (w.slot m s ≡ Taken)
   pub taken_by : (m s : ℕ) → w.slot m s ≡ Taken → (h : ℕ) × (e : Entry) × (w.taken h m s ≡ Some e)
   pub taken_once : (h i m s : ℕ) (e f : Entry) → w.taken h m s ≡ Some e → w.taken i m s ≡ Some f → h ≡ i
+  pub taken_member : (h m s : ℕ) (e : Entry) → w.taken h m s ≡ Some e → h < members w.place
   pub in_slot : (k s : ℕ) (e : Entry) → w.pending k ≡ Some (record { entry = e; slot = Some s }) → w.slot (owner w.place k) s ≢ Empty
   pub once : (k l s : ℕ) (e f : Entry) → w.pending k ≡ Some (record { entry = e; slot = Some s }) → w.pending l ≡ Some (record { entry = f; slot = Some s }) → owner w.place k ≡ owner w.place l → k ≡ l
   pub failed : (m s : ℕ) (e : Entry) → w.slot m s ≡ Failed e → IsLost w e
-  pub in_doubt : (k : ℕ) (e : Entry) → w.pending k ≡ Some (record { entry = e; slot = None }) → IsLost w e
+  pub in_doubt : (k : ℕ) (e : Entry) → IsInDoubt w k e → IsLost w e
 
 -- What a member loaded of words that only it may change stays true until its own next step. So a condition on a load is a condition on the state.
 pub record Looks (w : Group) : Type 0 where
   pub holds_is : (m : ℕ) → (w.holds m ≡ true) ↔ (w.holder ≡ Some m)
+  pub holder_member : (h : ℕ) → w.holder ≡ Some h → h < members w.place
   pub posted_seen : (m a s n : ℕ) → w.holder ≡ Some m → In (SeenSlot a s (ShowsPosted n)) (w.looked m) → shown (w.slot a s) ≡ ShowsPosted n
   pub done_seen : (m s h : ℕ) → In (SeenSlot m s (ShowsDone h)) (w.looked m) → shown (w.slot m s) ≡ ShowsDone h
   pub failed_seen : (m s : ℕ) → In (SeenSlot m s ShowsFailed) (w.looked m) → shown (w.slot m s) ≡ ShowsFailed

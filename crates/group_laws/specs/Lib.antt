@@ -1,6 +1,7 @@
 pub mod Places
 pub mod Updates
 pub mod State
+pub mod MemberViews
 pub mod Invariant
 pub mod Steps
 pub mod Tidying
@@ -8,6 +9,7 @@ pub mod Runs
 pub mod Finishes
 pub mod Crashes
 pub mod Images
+pub mod Regions
 pub mod Opening
 pub mod OpeningImages
 pub mod Posts

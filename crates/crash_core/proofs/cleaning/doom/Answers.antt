@@ -1,6 +1,6 @@
 use Rattle.std.proofs.Common.{refl}
 use Rattle.crash_core.specs.Shows.{place_of}
-use Rattle.crash_core.proofs.Made.{view_at, still_whole}
+use Rattle.crash_core.proofs.Made.{view_at}
 use Rattle.crash_core.proofs.Cleaners.{doom_is}
 use Rattle.crash_core.proofs.cleaning.doom.Goals as goal
 
@@ -10,7 +10,5 @@ returns c =
     let m = c.args.member in
     let v = c.index_mut-view.result.now in
     let can = c.if-not-may_doom.ensures.0 refl in
-    let at = view_at g m v c.requires can.member c.index_mut-view.ensures.value in (
-      still_whole g m (record v { looked = c.clear.new.self; doomed = c.extend_from_slice.new.self }) c.requires,
-      (can, doom_is (place_of g) g.holder g.slots g.views.items m v at g.mail c.args.names.now c.extend_from_slice.new.self c.clear.new.self c.in_ok-extend_from_slice.ensures.items c.clear.ensures.items),
-    )
+    let at = view_at g m v can.member c.index_mut-view.ensures.value in
+    (can, doom_is (place_of g) g.holder g.slots g.views.items m v at g.mail c.args.names.now c.extend_from_slice.new.self c.clear.new.self c.in_ok-extend_from_slice.ensures.items c.clear.ensures.items)

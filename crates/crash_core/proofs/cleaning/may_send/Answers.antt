@@ -15,7 +15,7 @@ returns-then-not-may_tell_all c =
     let m = c.args.member in
     let v = c.index-view.result.now in
     let low = c.if-not-has_member.ensures.0 refl in
-    let at = view_at g m v c.requires low c.index-view.ensures in (
+    let at = view_at g m v low c.index-view.ensures in (
       λ t. absurd (cc t),
       λ can. absurd (
           let may = c.may_tell_all.ensures.1 (λ k n t. in_tell (place_of g) g.holder g.slots g.mail g.views.items m v at c.args.to k n (can.dead k n (subst (λ (xs : List EntryName). has xs k n ≡ true) c.names.ensures t))) in
@@ -28,7 +28,7 @@ returns c =
     let m = c.args.member in
     let v = c.index-view.result.now in
     let low = c.if-not-has_member.ensures.0 refl in
-    let at = view_at g m v c.requires low c.index-view.ensures in
+    let at = view_at g m v low c.index-view.ensures in
     let looked = ap (of (λ (v : CoreView). v.looked.items) []) at in
     let seen : In (SeenMail m c.args.to false) ((group_of g).looked m) = subst (In (SeenMail m c.args.to false)) (c.deref.ensures.value ∙ sym looked) (c.if-not-saw.ensures.0 refl) in
     let leaving : (k n : ℕ) → (group_of g).leaving m k n ≡ has v.leaving.items k n = λ k n. ap (of (λ (v : CoreView). has v.leaving.items k n) false) at in (

@@ -7,4 +7,4 @@ use Rattle.crash_core.proofs.cleaning.retire.Goals as goal
 pub returns : goal.returns
 returns c =
     let can = c.if-not-may_retire.ensures.0 refl in
-    (c.in_ok-tidy.ensures.0, (can, subst (λ (b : Group). Tidied b c.args.member (group_of c.tidy.new.state)) c.in_ok-drop_retired.ensures.1 c.in_ok-tidy.ensures.1))
+    (can, subst (λ (b : Group). Tidied b c.args.member (group_of c.tidy.new.state)) c.in_ok-drop_retired.ensures c.in_ok-tidy.ensures)

@@ -1,6 +1,5 @@
-use Rattle.std.proofs.Common.{true}
 use Rattle.crash_core.specs.Shows.{place_of}
-use Rattle.crash_core.proofs.Made.{view_at, still_whole}
+use Rattle.crash_core.proofs.Made.{view_at}
 use Rattle.crash_core.proofs.Owners.{doubt_is}
 use Rattle.crash_core.proofs.finishing.doubt.Goals as goal
 
@@ -9,8 +8,6 @@ returns c =
     let g = c.args.state.now in
     let m = c.args.member in
     let v = c.index_mut-view.result.now in
-    let at = view_at g m v c.requires.whole c.requires.member c.index_mut-view.ensures.value in (
-      still_whole g m (record v { broken = true; looked = c.clear.new.self; pending = c.insert-2.new.self }) c.requires.whole,
-      doubt_is (place_of g) g.holder g.mail g.views.items m v at g.slots c.insert.new.self c.args.slot c.args.entry c.insert-2.new.self c.clear.new.self
-          c.requires.own c.in_ok-insert.ensures.updates c.in_ok-insert-2.ensures.updates c.clear.ensures.items,
-    )
+    let at = view_at g m v c.requires.member c.index_mut-view.ensures.value in
+    doubt_is (place_of g) g.holder g.mail g.views.items m v at g.slots c.insert.new.self c.args.slot c.args.entry c.insert-2.new.self c.clear.new.self
+    c.requires.own c.in_ok-insert.ensures.updates c.in_ok-insert-2.ensures.updates c.clear.ensures.items

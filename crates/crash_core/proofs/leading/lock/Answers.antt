@@ -1,7 +1,7 @@
-use Rattle.std.proofs.Common.{refl, true, inl, inr}
+use Rattle.std.proofs.Common.{refl, inl, inr}
 use Rattle.group_laws.specs.declared.types.Seen.TheVariants.{Holder}
 use Rattle.crash_core.specs.Shows.{place_of}
-use Rattle.crash_core.proofs.Made.{view_at, still_whole}
+use Rattle.crash_core.proofs.Made.{view_at}
 use Rattle.crash_core.proofs.Leaders.{find_is, lock_is}
 use Rattle.crash_core.proofs.leading.lock.Goals as goal
 
@@ -11,15 +11,12 @@ returns-in-Some c =
     let m = c.args.member in
     let v = c.index_mut-view.result.now in
     let can = c.if-not-may_lock.ensures.0 refl in
-    let at = view_at g m v c.requires can.member c.index_mut-view.ensures.value in (
-      still_whole g m (record v { looked = c.push.new.self }) c.requires,
-      (
-        can,
-        inr (
-          c.in-Some.holder,
-          c.in-Some.is,
-          find_is (place_of g) g.mail g.views.items m v at g.holder g.slots c.push.new.self (Holder c.in-Some.holder) c.in_ok-push.ensures.items,
-        ),
+    let at = view_at g m v can.member c.index_mut-view.ensures.value in (
+      can,
+      inr (
+        c.in-Some.holder,
+        c.in-Some.is,
+        find_is (place_of g) g.mail g.views.items m v at g.holder g.slots c.push.new.self (Holder c.in-Some.holder) c.in_ok-push.ensures.items,
       ),
     )
 
@@ -29,13 +26,10 @@ returns c =
     let m = c.args.member in
     let v = c.index_mut-view-2.result.now in
     let can = c.if-not-may_lock.ensures.0 refl in
-    let at = view_at g m v c.requires can.member c.index_mut-view-2.ensures.value in (
-      still_whole g m (record v { holds = true; looked = c.clear.new.self }) c.requires,
-      (
-        can,
-        inl (
-          c.in_default.is,
-          lock_is (place_of g) g.mail g.views.items m v at g.holder g.slots c.clear.new.self c.clear.ensures.items,
-        ),
+    let at = view_at g m v can.member c.index_mut-view-2.ensures.value in (
+      can,
+      inl (
+        c.in_default.is,
+        lock_is (place_of g) g.mail g.views.items m v at g.holder g.slots c.clear.new.self c.clear.ensures.items,
       ),
     )

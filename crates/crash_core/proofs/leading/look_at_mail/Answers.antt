@@ -2,7 +2,7 @@ use Rattle.std.proofs.Common.{refl}
 use Rattle.group_laws.specs.declared.types.Seen.TheVariants.{Mail as SeenMail}
 use Rattle.group_laws.specs.State.{is_full}
 use Rattle.crash_core.specs.Shows.{place_of, group_of}
-use Rattle.crash_core.proofs.Made.{view_at, still_whole}
+use Rattle.crash_core.proofs.Made.{view_at}
 use Rattle.crash_core.proofs.Leaders.{find_is}
 use Rattle.crash_core.proofs.leading.look_at_mail.Goals as goal
 
@@ -14,12 +14,9 @@ returns c =
     let low = c.if-not-has_member.ensures.0 refl in
     let sender = c.if-not-has_member-2.ensures.0 refl in
     let receiver = c.if-not-has_member-3.ensures.0 refl in
-    let at = view_at g m v c.requires low c.index_mut-view.ensures.value in (
-      still_whole g m (record v { looked = c.push.new.self }) c.requires,
-      (
-        low,
-        sender,
-        receiver,
-        find_is (place_of g) g.mail g.views.items m v at g.holder g.slots c.push.new.self (SeenMail c.args.from c.args.to (is_full ((group_of g).mail c.args.from c.args.to))) (rw (← c.mail_at-full.ensures) c.in_ok-push.ensures.items),
-      ),
+    let at = view_at g m v low c.index_mut-view.ensures.value in (
+      low,
+      sender,
+      receiver,
+      find_is (place_of g) g.mail g.views.items m v at g.holder g.slots c.push.new.self (SeenMail c.args.from c.args.to (is_full ((group_of g).mail c.args.from c.args.to))) (rw (← c.mail_at-full.ensures) c.in_ok-push.ensures.items),
     )

@@ -13,10 +13,9 @@ loop-i-preserved c =
     let old = c.loop-i.invariant in
     let x = c.index-steps-i.result in
     record {
-      whole = made.0;
       made = made_more (group_of c.args.state) c.args.steps.now c.loop-i.i x (group_of c.loop-i.state) (group_of c.make.new.state) c.loop-i-test.true old.made
-          (subst (λ (y : Step). IsMade (group_of c.loop-i.state) y.member y.kind (group_of c.make.new.state)) c.index-steps-i.is made.1);
-      lawful = made_keeps (group_of c.loop-i.state) x.member x.kind (group_of c.make.new.state) old.lawful made.1;
+          (subst (λ (y : Step). IsMade (group_of c.loop-i.state) y.member y.kind (group_of c.make.new.state)) c.index-steps-i.is made);
+      lawful = made_keeps (group_of c.loop-i.state) x.member x.kind (group_of c.make.new.state) old.lawful made;
     }
 
 pub returns-in-Ok-false : goal.returns-in-Ok-false
@@ -24,7 +23,7 @@ returns-in-Ok-false c =
     let made = rw c.in-Ok-false.field-0-test at c.in-Ok-false.ensures in
     let old = c.loop-i.invariant in
     let x = c.index-steps-i.result in
-    let there = reached c.args.state (take c.loop-i.i c.args.steps.now) c.loop-i.state c.requires.lawful old.whole old.made old.lawful in
+    let there = reached c.args.state (take c.loop-i.i c.args.steps.now) c.loop-i.state c.requires old.made old.lawful in
     stopped c.args.state c.args.steps.now c.loop-i.i x c.loop-i.state c.make.new.state made.0 there
     (slice_get-get_or c.args.steps.now c.loop-i.i x c.loop-i-test.true ∙ ap Some (sym c.index-steps-i.is)) made.1
 
@@ -32,4 +31,4 @@ pub returns : goal.returns
 returns c =
     let old = c.loop-i.invariant in
     let all = take_all c.loop-i.i c.args.steps.now c.loop-i-test.false in
-    reached c.args.state c.args.steps.now c.loop-i.state c.requires.lawful old.whole (subst (λ (xs : List Step). AreMade (group_of c.args.state) xs (group_of c.loop-i.state)) all old.made) old.lawful
+    reached c.args.state c.args.steps.now c.loop-i.state c.requires (subst (λ (xs : List Step). AreMade (group_of c.args.state) xs (group_of c.loop-i.state)) all old.made) old.lawful

@@ -16,7 +16,7 @@ returns c =
     let value = c.args.value.now in
     let size : c.units_of-count.result ≡ units (length value) = c.units_of-count.ensures ∙ ap (λ (xs : List ℕ). units (length xs)) c.bytes-length.ensures in
     let long = ap length c.bytes-length.ensures in
-    let at = view_at g m v c.requires.whole c.requires.member c.index.ensures in
+    let at = view_at g m v c.requires c.index.ensures in
     let blocks : (q : ℕ) → (group_of g).blocks m q ≡ get nat_cmp v.blocks q = λ q. ap (of (λ (v : CoreView). get nat_cmp v.blocks q) None) at in
     let lies : LiesIn (place_of g) m p (units (length value)) = subst (λ (n : ℕ). LiesIn (place_of g) m p n) size (c.if-not-lies_in.ensures.0 refl) in (
       λ t. (

@@ -7,7 +7,7 @@ use Rattle.group_laws.specs.Updates.{has}
 use Rattle.crash_core.specs.declared.state.CoreView.{CoreView}
 use Rattle.crash_core.specs.Shows.{place_of}
 use Rattle.crash_core.specs.Deaths.{IsSpentIn, MustTell}
-use Rattle.crash_core.proofs.Made.{view_at, still_whole}
+use Rattle.crash_core.proofs.Made.{view_at}
 use Rattle.crash_core.proofs.Tidies.{tidied}
 use Rattle.crash_core.proofs.rules.tidy.Goals as goal
 
@@ -17,8 +17,8 @@ returns c =
     let m = c.args.member in
     let v = c.index_mut-view.result.now in
     let read = c.index-view.result.now in
-    let at = view_at g m v c.requires.whole c.requires.member c.index_mut-view.ensures.value in
-    let seen = view_at g m read c.requires.whole c.requires.member c.index-view.ensures in
+    let at = view_at g m v c.requires c.index_mut-view.ensures.value in
+    let seen = view_at g m read c.requires c.index-view.ensures in
     let same : read ≡ v = cc (at, seen) in
     let spent = c.in_ok-spent.spent.items in
     let names = c.in_ok-names.names.items in
@@ -28,7 +28,5 @@ returns c =
     let gone : (k : ℕ) → In k spent → get nat_cmp c.forget.new.last k ≡ None = λ k i. c.forget.ensures.gone k (subst (In k) (sym c.deref.ensures.value) i) in
     let kept : (k : ℕ) → (In k spent → ⊥) → get nat_cmp c.forget.new.last k ≡ get nat_cmp v.last k = λ k away. c.forget.ensures.kept k (λ i. away (subst (In k) c.deref.ensures.value i)) in
     let told = c.in_ok-extend_from_slice.ensures.items ∙ ap (λ (xs : List EntryName). v.told.items ++ xs) c.deref-2.ensures.value in
-    let dead = c.in_ok-extend_from_slice-2.ensures.items ∙ ap (λ (xs : List EntryName). v.dead.items ++ xs) c.deref-3.ensures.value in (
-      still_whole g m (record v { last = c.forget.new.last; told = c.extend_from_slice.new.self; dead = c.extend_from_slice-2.new.self }) c.requires.whole,
-      tidied (place_of g) g.holder g.slots g.mail g.views.items m v at c.forget.new.last c.extend_from_slice.new.self c.extend_from_slice-2.new.self spent names only all must gone kept told dead,
-    )
+    let dead = c.in_ok-extend_from_slice-2.ensures.items ∙ ap (λ (xs : List EntryName). v.dead.items ++ xs) c.deref-3.ensures.value in
+    tidied (place_of g) g.holder g.slots g.mail g.views.items m v at c.forget.new.last c.extend_from_slice.new.self c.extend_from_slice-2.new.self spent names only all must gone kept told dead

@@ -1,5 +1,4 @@
-use Rattle.std.proofs.Common.{refl, ap, ◌∙◌}
-use Rattle.chunk_map.specs.declared.layouts.Geometry.{Geometry}
+use Rattle.std.proofs.Common.{refl}
 use Rattle.group_laws.specs.Places.{Place, IsPlace}
 use Rattle.crash_core.proofs.Empties.{opened, lawful}
 use Rattle.crash_core.proofs.Blank.{is_opened}
@@ -13,7 +12,6 @@ returns c =
     let all = c.in_ok-views.ensures.empty in
     record {
       place = refl;
-      whole = c.in_ok-views.ensures.count ∙ ap (λ (g : Geometry). g.group) c.geometry-geometry.ensures.value;
       opened = opened p place c.new.result c.new-2.result views c.new.ensures.empty c.new-2.ensures.empty all;
       words = λ image blank. is_opened p place image blank c.new.result c.new-2.result views c.new.ensures.empty c.new-2.ensures.empty all;
       lawful = lawful p place c.new.result c.new-2.result views c.new.ensures.empty c.new-2.ensures.empty all;

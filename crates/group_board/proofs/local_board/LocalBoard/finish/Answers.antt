@@ -5,6 +5,7 @@ use Rattle.group_board.specs.Slots.{IsOver}
 use Rattle.group_board.proofs.Facts.{covers, is_over, read_slot, seen_as, stood_owner, stood_pends}
 use Rattle.group_board.proofs.Keeping.{slots_at}
 use Rattle.group_board.proofs.Calls.{over_step, over_view, over_kept}
+use Rattle.group_board.proofs.Assured.{stood_home}
 use Rattle.group_board.proofs.local_board.LocalBoard.finish.Goals as goal
 
 pub given_back-change-requires : goal.given_back-change-requires
@@ -67,3 +68,11 @@ returns-clause-view c =
     let there = read_slot me.member_count me.holder me.slots.items me.mail.items me.keeper.me.0 me.kept c.args.member c.args.slot c.place_of-place.result c.index_mut.result.now me.sized.2 (subst (λ (k : ℕ). c.args.member < k) me.sized.4 c.requires.member) c.requires.slot c.place_of-place.ensures c.index_mut.ensures.value ∙ (sym c.replace-stood.ensures.value ∙ c.given_back-change.ensures) in
     let own = stood_owner me.member_count me.holder me.slots.items me.mail.items me.keeper.me.0 me.kept c.args.member c.args.slot x home there in
     over_view me.keeper.me.0 c.note.new.seat.me.0 c.args.member c.args.slot x own (covers me.member_count me.holder me.slots.items me.mail.items me.keeper.me.0 me.kept) home c.note.ensures.1
+
+pub returns-clause-home : goal.returns-clause-home
+returns-clause-home c =
+    let me = c.args.self.now in
+    let x = c.given_back-change.result.entry in
+    let home = c.given_back-change.result.home in
+    let there = read_slot me.member_count me.holder me.slots.items me.mail.items me.keeper.me.0 me.kept c.args.member c.args.slot c.place_of-place.result c.index_mut.result.now me.sized.2 (subst (λ (k : ℕ). c.args.member < k) me.sized.4 c.requires.member) c.requires.slot c.place_of-place.ensures c.index_mut.ensures.value ∙ (sym c.replace-stood.ensures.value ∙ c.given_back-change.ensures) in
+    stood_home me.member_count me.holder me.slots.items me.mail.items me.keeper.me.0 me.kept c.args.member c.args.slot x home there

@@ -4,6 +4,9 @@ use Rattle.group_laws.specs.declared.types.Seen.TheVariants as loads
 use Rattle.crash_core.specs.Shows.{notices_of}
 use Rattle.group_board.specs.Journals.{state}
 use Rattle.group_board.proofs.Mail.{seen_in, receive_steps, receive_place, receive_view}
+use Rattle.group_board.proofs.Mail.{mail_step, steps_lawful, heard_before}
+use Rattle.group_laws.specs.Runs as runs
+use Rattle.group_laws.proofs.Runs.{step_keeps}
 use Rattle.group_board.proofs.local_board.LocalBoard.receive.Goals as goal
 
 pub take_mail-requires-clause-seen : goal.take_mail-requires-clause-seen
@@ -17,3 +20,17 @@ returns-then-look_at_mail-clause-step c = receive_steps (state c.args.self.now.k
 
 pub returns-then-look_at_mail-clause-view : goal.returns-then-look_at_mail-clause-view
 returns-then-look_at_mail-clause-view c = receive_view (state c.args.self.now.keeper.me.0) (state c.look_at_mail.new.self.keeper.me.0) c.args.member c.args.from (notices_of c.take_mail.result) (c.look_at_mail.ensures.state ∙ ap (λ x. finds (state c.args.self.now.keeper.me.0) c.args.member (loads.Mail c.args.from c.args.member x)) c.if-look_at_mail.true) (state c.take_mail.new.self.keeper.me.0) c.take_mail.ensures.state
+
+pub returns-then-look_at_mail-clause-heard : goal.returns-then-look_at_mail-clause-heard
+returns-then-look_at_mail-clause-heard c =
+    heard_before (state c.args.self.now.keeper.me.0) (state c.look_at_mail.new.self.keeper.me.0) c.args.member c.args.from (loads.Mail c.args.from c.args.member c.look_at_mail.result) (notices_of c.take_mail.result) c.look_at_mail.ensures.state c.take_mail.ensures.heard
+
+pub returns-then-look_at_mail-clause-lawful : goal.returns-then-look_at_mail-clause-lawful
+returns-then-look_at_mail-clause-lawful c =
+    steps_lawful (state c.args.self.now.keeper.me.0) c.args.member (runs.Kind.LookMail c.args.from c.args.member) (runs.Kind.Receive c.args.from) (state c.take_mail.new.self.keeper.me.0)
+    (receive_steps (state c.args.self.now.keeper.me.0) (state c.look_at_mail.new.self.keeper.me.0) c.args.member c.args.from (notices_of c.take_mail.result) (c.look_at_mail.ensures.state ∙ ap (λ x. finds (state c.args.self.now.keeper.me.0) c.args.member (loads.Mail c.args.from c.args.member x)) c.if-look_at_mail.true) (state c.take_mail.new.self.keeper.me.0) c.requires.member c.requires.sender c.take_mail.ensures.stood c.take_mail.ensures.state (sym c.if-look_at_mail.true ∙ c.look_at_mail.ensures.found))
+
+pub returns-else-look_at_mail-clause-lawful : goal.returns-else-look_at_mail-clause-lawful
+returns-else-look_at_mail-clause-lawful c =
+    λ L. step_keeps (state c.args.self.now.keeper.me.0) c.args.member (runs.Kind.LookMail c.args.from c.args.member) (state c.look_at_mail.new.self.keeper.me.0) L
+    (mail_step (state c.args.self.now.keeper.me.0) (state c.look_at_mail.new.self.keeper.me.0) c.args.member c.args.from c.args.member c.look_at_mail.result c.look_at_mail.ensures.state c.requires.member c.requires.sender c.requires.member c.look_at_mail.ensures.found)

@@ -5,6 +5,7 @@ use Rattle.crash_core.specs.Shows.{notices_of}
 use Rattle.group_board.proofs.Facts.{covers, read_mail, still_there}
 use Rattle.group_board.proofs.Keeping.{mail_at}
 use Rattle.group_board.proofs.Calls.{receive_tidied, receive_kept}
+use Rattle.group_board.proofs.Assured.{heard}
 use Rattle.group_board.proofs.local_board.LocalBoard.take_mail.Goals as goal
 
 pub unwrap-notices-requires : goal.unwrap-notices-requires
@@ -33,3 +34,9 @@ pub returns-clause-state : goal.returns-clause-state
 returns-clause-state c =
     let me = c.args.self.now in
     receive_tidied c.args.self.now.keeper.me.0 c.note.new.seat.me.0 c.args.member (covers me.member_count me.holder me.slots.items me.mail.items me.keeper.me.0 me.kept) c.args.from c.unwrap-notices.result c.note.ensures.1
+
+pub returns-clause-heard : goal.returns-clause-heard
+returns-clause-heard c =
+    let me = c.args.self.now in
+    let there = read_mail me.member_count me.holder me.slots.items me.mail.items me.keeper.me.0 me.kept c.args.from c.args.member c.place_of-place.result c.index_mut.result.now me.sized.3 me.sized.1 (subst (λ (k : ℕ). c.args.from < k) me.sized.4 c.requires.members.1) (subst (λ (k : ℕ). c.args.member < k) me.sized.4 c.requires.members.0) c.place_of-place.ensures c.index_mut.ensures.value ∙ ap (option_map notices_of) (sym c.replace-stood.ensures.value ∙ c.unwrap-notices.ensures) in
+    heard me.member_count me.holder me.slots.items me.mail.items me.keeper.me.0 me.kept c.args.member c.args.from c.unwrap-notices.result there

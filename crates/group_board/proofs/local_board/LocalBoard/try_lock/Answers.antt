@@ -4,11 +4,15 @@ use Rattle.group_laws.specs.Runs as runs
 use Rattle.group_laws.specs.declared.types.Seen.TheVariants as loads
 use Rattle.group_board.specs.Journals.{note_of, noted, lock_act}
 use Rattle.group_board.proofs.Facts.{holder_is, other_holds}
+use Rattle.group_board.proofs.Assured.{holder_low}
 use Rattle.group_board.proofs.Calls.{lock_step, lock_view, lock_kept, busy_step, find_view, find_kept}
 use Rattle.group_board.proofs.local_board.LocalBoard.try_lock.Goals as goal
 
 pub returns-in-Some-clause-other : goal.returns-in-Some-clause-other
 returns-in-Some-clause-other c = let me = c.args.self.now in other_holds me.member_count me.holder me.slots.items me.mail.items me.keeper.me.0 me.kept c.args.member c.in-Some.holder c.requires.not_held c.in-Some.is
+
+pub returns-in-Some-clause-holder : goal.returns-in-Some-clause-holder
+returns-in-Some-clause-holder c = let me = c.args.self.now in holder_low me.member_count me.holder me.slots.items me.mail.items me.keeper.me.0 me.kept c.in-Some.holder c.in-Some.is
 
 pub invariant_of-self : goal.invariant_of-self
 invariant_of-self c =
