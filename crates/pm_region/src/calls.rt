@@ -16,6 +16,9 @@ impl Model for Calls {
     ghost also_owns = { λ _. ftrue };
 }
 
+// It owns nothing.
+unsafe impl Send for Calls {}
+
 impl Calls {
     pub fn none() -> Calls
         ensures { result.made ≡ [] }

@@ -41,7 +41,7 @@ fn words_of_a_file(rt: HostRuntime) -> Result<(), Fail> {
     assert_eq!(rt; get(&region, 2), 12);
     assert_eq!(rt; get(&region, 9), 0);
     assert_eq!(rt; region.bytes(), 200);
-    assert_eq!(rt; region.create(alloc, 16), Ok(()));
+    region.create(alloc, 16)?;
     assert_eq!(rt; region.words(), 16);
     assert_eq!(rt; region.bytes(), 128);
     assert_eq!(rt; write_part(alloc, &mut region, 8, 21), Ok(true));
@@ -112,16 +112,35 @@ fn write_two<R: SplitRegion>(alloc: Global, region: &mut R) -> Result<bool, Atta
     Ok(done)
 }
 
+// Creates a region of 40 words, flushes line 0 with a word in it, and writes in two pieces.
+fn create_and_write_two<R: SplitRegion>(
+    alloc: Global,
+    region: &mut R,
+) -> Result<bool, AttachError> {
+    region.create(alloc, 40)?;
+    region.store(1, 20);
+    region.flush(0);
+    write_two(alloc, region)
+}
+
+// Splits a region that has the words for it, and writes in the piece.
+fn split_once_more<R: SplitRegion>(alloc: Global, region: &mut R) -> Result<bool, AttachError>
+    requires { (R.state region.old).frame.parted ≡ false }
+{
+    if region.words() < 8 {
+        return Ok(false);
+    }
+    write_part(alloc, region, 8, 23)
+}
+
 #[test]
 fn pieces_of_a_file(rt: HostRuntime) -> Result<(), Fail> {
     let alloc = rt.alloc();
     let name = "pm_region_pieces_of_a_file";
     let mut region = FileRegion::at(rt.clone()?, String::from_str(alloc, name)?);
-    region.create(alloc, 40)?;
+    let done = create_and_write_two(alloc, &mut region)?;
+    assert!(rt; done);
     assert_eq!(rt; region.words(), 40);
-    put(&mut region, 1, 20);
-    flush(&mut region, 0);
-    assert_eq!(rt; write_two(alloc, &mut region), Ok(true));
     assert_eq!(rt; get(&region, 8), 21);
     assert_eq!(rt; get(&region, 24), 22);
     // What was flushed before the split was written by it; line 3 is written by the next fence of the whole.
@@ -134,11 +153,22 @@ fn pieces_of_a_file(rt: HostRuntime) -> Result<(), Fail> {
     want[192] = 22;
     let found = fs::read(&rt, name)?;
     assert!(rt; found.as_slice() == want.as_slice());
-    // Another file of the same name is none to split.
-    fs::write(&rt, "pm_region_other_file", want.as_slice())?;
+    fs::remove_file(&rt, name)?;
+    Ok(())
+}
+
+// Another file of the same name is none to split.
+#[test]
+fn another_file(rt: HostRuntime) -> Result<(), Fail> {
+    let alloc = rt.alloc();
+    let name = "pm_region_another_file";
+    let mut region = FileRegion::at(rt.clone()?, String::from_str(alloc, name)?);
+    let other = vec![in alloc; 0u8; 64]?;
+    fs::write(&rt, "pm_region_other_file", other.as_slice())?;
+    region.create(alloc, 8)?;
     fs::rename(&rt, "pm_region_other_file", name)?;
     assert_eq!(rt;
-        write_part(alloc, &mut region, 8, 23),
+        split_once_more(alloc, &mut region),
         Err(AttachError::RegionFault)
     );
     assert_eq!(rt; region.faults(), 1);
