@@ -7,9 +7,21 @@ use Rattle.pm_region.specs.Volumes.{volume_state, found_in}
 use Rattle.pm_region.specs.declared.volume.Volume.{Volume}
 use Rattle.pm_region.proofs.Now.{may_find}
 
+-- whatever it was before
+pub attached_from : (old mid new : State) (bytes : ℕ) (image : ℕ → ℕ) → Attached mid new bytes image → Attached old new bytes image
+attached_from old mid new bytes image is = record {
+  first = is.first;
+  words = is.words;
+  bytes_are = is.bytes_are;
+  parted = is.parted;
+  stamp = is.stamp;
+  since = is.since;
+  certainly = is.certainly;
+}
+
 -- by the bytes that it has then
-pub attached_own : (old new : State) (bytes : ℕ) (image : ℕ → ℕ) → Attached old new bytes image → Attached old new new.frame.bytes image
-attached_own old new bytes image is = record {
+pub attached_own : (old mid new : State) (bytes : ℕ) (image : ℕ → ℕ) → Attached mid new bytes image → Attached old new new.frame.bytes image
+attached_own old mid new bytes image is = record {
   first = is.first;
   words = is.words ∙ ap (λ (n : ℕ). words_in n) (sym is.bytes_are);
   bytes_are = refl;

@@ -6,11 +6,11 @@ use Rattle.pm_region.specs.Cell.{Cell, certain, stored, flushed, fenced, MayBe, 
 use Rattle.pm_region.proofs.Cells.{may_be_last}
 use Rattle.pm_region.specs.Words.{Kept, KeepsOutside, Narrows, Surely, MayLeaveIn}
 
-has_right : (xs ys : List ℕ) (v : ℕ) → HasValue ys v → HasValue (xs ++ ys) v
+pub has_right : (xs ys : List ℕ) (v : ℕ) → HasValue ys v → HasValue (xs ++ ys) v
 has_right [] ys v has = has
 has_right (x ∷ xs) ys v has = inr (has_right xs ys v has)
 
-has_split : (xs ys : List ℕ) (v : ℕ) → HasValue (xs ++ ys) v → HasValue xs v ⊎ HasValue ys v
+pub has_split : (xs ys : List ℕ) (v : ℕ) → HasValue (xs ++ ys) v → HasValue xs v ⊎ HasValue ys v
 has_split [] ys v has = inr has
 has_split (x ∷ xs) ys v has = ⊎_elim (λ e. inl (inl e)) (λ rest. ⊎_elim (λ a. inl (inr a)) (λ b. inr b) (has_split xs ys v rest)) has
 

@@ -1,9 +1,13 @@
 -- Clauses on a result, from what holds anyway.
-use Rattle.std.proofs.Common.{Result, Ok, Err, OnErr, IsErrOf, ap}
+use Rattle.std.proofs.Common.{Result, Ok, Err, OnOk, OnErr, IsErrOf, ap}
 
 pub on_err : {A E : Type 0} (r : Result A E) (P : Type 0) → P → OnErr r P
 on_err (Ok a) P holds = tt
 on_err (Err e) P holds = holds
+
+pub on_ok : {A E : Type 0} {P Q : Type 0} (r : Result A E) → (P → Q) → OnOk r P → OnOk r Q
+on_ok (Ok a) so holds = so holds
+on_ok (Err e) so holds = tt
 
 error_or : {A E : Type 0} → E → Result A E → E
 error_or d (Ok a) = d

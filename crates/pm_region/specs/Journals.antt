@@ -1,5 +1,6 @@
 -- A journal of steps, and what it makes of a cell.
-use Rattle.std.specs.Prelude.{◌≡◌, ◌⊎◌, ℕ, ◌+◌, ◌-◌, ◌^◌, ◌≤◌, ◌<◌, ◌&&◌, nat_le, min, Bool, true, List, [], ◌∷◌, ◌++◌, length, take, drop}
+use Rattle.std.specs.Prelude.{◌≡◌, ◌⊎◌, ℕ, ◌+◌, ◌-◌, ◌^◌, ◌≤◌, ◌<◌, ◌&&◌, nat_le, min, Bool, true, List, [], ◌∷◌, ◌++◌, length, take, drop, vec_capacity}
+use Rattle.pm_region.specs.State.{counted}
 use Rattle.pm_region.specs.Cell.{Cell, store_at, flush_line, fence_range}
 use Rattle.pm_region.specs.declared.journal.Step.{Step}
 use Rattle.pm_region.specs.declared.journal.Step.TheVariants.{Store, Flush, Fence, Nothing}
@@ -29,6 +30,7 @@ pub record Records (old new : Journal) (step : Step) : Type 0 where
   pub base : new.base ≡ old.base
   pub since : new.since ≡ old.since
   pub limit : new.limit ≡ old.limit
+  pub shares : new.shares ≡ old.shares
   pub later : old.stamp ≤ new.stamp
   pub stamp : new.stamp ≡ min (old.stamp + 1) (2 ^ 64 - 1)
   pub steps : ((new.steps.items ≡ old.steps.items) × (old.limit ≤ old.stamp)) ⊎ ((new.steps.items ≡ old.steps.items ++ step ∷ []) × (old.stamp < old.limit))
@@ -49,6 +51,7 @@ pub record GoesOnFrom (old new : Journal) : Type 0 where
 -- It has the same steps and stands at the last stamp.
 pub record Closed (old new : Journal) : Type 0 where
   pub steps : new.steps.items ≡ old.steps.items
+  pub capacity : vec_capacity old.steps ≤ vec_capacity new.steps
   pub limit : new.limit ≡ old.limit
   pub since : new.since ≡ 2 ^ 64 - 1
 
@@ -59,6 +62,8 @@ pub record Appends (old new piece : Journal) (taken : Bool) : Type 0 where
   pub base : new.base ≡ length new.steps.items
   pub steps : taken ≡ true → new.steps.items ≡ old.steps.items ++ drop piece.base piece.steps.items
   pub complete : taken ≡ true → IsComplete piece
+  pub capacity : vec_capacity old.steps ≤ vec_capacity new.steps
+  pub fits : IsComplete piece → length old.steps.items + length (drop piece.base piece.steps.items) ≤ vec_capacity old.steps → taken ≡ true
 
 -- A new moment, and the only one that is told, if any.
 pub record Reopens (old new : Journal) (after : ℕ) (complete : Bool) : Type 0 where
@@ -66,8 +71,10 @@ pub record Reopens (old new : Journal) (after : ℕ) (complete : Bool) : Type 0 
   pub limit : new.limit ≡ old.limit
   pub base : new.base ≡ length old.steps.items
   pub since : new.since ≡ new.stamp
-  pub later : min (after + 1) (2 ^ 64 - 1) ≤ new.stamp
+  pub later : counted after ≤ new.stamp
   pub told : IsComplete new → complete ≡ true
+  pub past : old.limit < counted after → new.stamp ≡ counted after
+  pub next : complete ≡ true → length old.steps.items + (old.limit - counted after) ≤ vec_capacity old.steps → new.stamp ≡ counted after
 
 -- the same steps, whatever the room for more
 pub record SameSteps (old new : Journal) : Type 0 where

@@ -2,7 +2,7 @@
 use Rattle.std.specs.Prelude.{◌&&◌, ℕ, ◌≤◌, not, Bool, false, if◌then◌else◌, [], List, length, slice_index}
 use Rattle.pm_region.specs.Cell.{Cell}
 use Rattle.pm_region.specs.State.{State, Frame, Goes}
-use Rattle.pm_region.specs.Split.{Attached, Stays, Parted, CameFrom, TakesPiece, Joined}
+use Rattle.pm_region.specs.Split.{Attached, Stays, Parted, CameFrom, TakesPiece, Joined, ComesNext}
 use Rattle.pm_region.specs.Moves.{history_state}
 use Rattle.pm_region.specs.declared.history.History.{History}
 use Rattle.pm_region.specs.declared.volume.Volume.{Volume}
@@ -68,3 +68,7 @@ TakesPart new part = (r n m : ℕ) → m ≤ n → TakesPiece (volume_state new 
 
 abbrev pub VolumeJoined : Volume → Volume → Type 0
 VolumeJoined old new = (r n n' : ℕ) → n ≤ n' → Joined (volume_state old r n) (volume_state new r n')
+
+-- whatever the counts, those of the pieces too
+abbrev pub ComesAfter : {P : Type 0} → (P → History) → Volume → Volume → List P → Type 0
+ComesAfter {P = P} part old new pieces = (r n r' n' : ℕ) (m : P → ℕ) → ComesNext (λ p. part_state (part p) (m p)) (volume_state old r n) (volume_state new r' n') pieces

@@ -1,5 +1,5 @@
 // A journal of steps.
-ghost use Rattle.std.specs.Prelude.{◌≡◌, ℕ, ◌+◌, ◌-◌, ◌^◌, ◌≤◌, ◌<◌, min, [], ◌++◌, true, false, IfOk, OnOk, OnErr, length, vec_capacity};
+ghost use Rattle.std.specs.Prelude.{◌≡◌, ℕ, ◌+◌, ◌-◌, ◌^◌, ◌≤◌, ◌<◌, min, [], ◌++◌, true, false, IfOk, OnOk, OnErr, length, vec_capacity, ◌*◌};
 
 use std::alloc::{AllocError, Global};
 
@@ -13,7 +13,8 @@ pub enum Step {
 }
 
 /// The steps of a region, oldest first. The moment `since` stands after the first `base` of them, and each later
-/// moment one step later. It keeps the steps up to the stamp `limit`, for which it has room from the start.
+/// moment one step later. It keeps the steps up to the stamp `limit`, for which it has room from the start: for its own,
+/// and while its region is split for those of each piece, which are its `shares`.
 #[derive(Drop)]
 pub struct Journal {
     pub steps: Vec<Step>,
@@ -21,11 +22,13 @@ pub struct Journal {
     pub since: u64,
     pub stamp: u64,
     pub limit: u64,
+    pub shares: u64,
     ghost ordered: { since ≤ stamp },
     ghost last_stamp: { stamp < 2 ^ 64 },
     ghost last_limit: { limit < 2 ^ 64 },
     ghost kept: { length steps.items ≡ base + (min stamp limit - since) },
-    ghost room: { length steps.items + (limit - stamp) ≤ vec_capacity steps },
+    ghost own_share: { 1 ≤ shares },
+    ghost room: { length steps.items + (limit - stamp) * shares ≤ vec_capacity steps },
 }
 
 impl Journal {
@@ -43,6 +46,7 @@ impl Journal {
             since: 0,
             stamp: 0,
             limit,
+            shares: 1,
         })
     }
 
@@ -81,16 +85,25 @@ impl Journal {
             since: self.stamp,
             stamp: self.stamp,
             limit: self.limit,
+            shares: 1,
         })
     }
 
     /// Makes room for the steps of so many pieces beside its own.
     pub fn make_room(&mut self, pieces: u64) -> Result<(), AllocError>
-        ensures { SameSteps self.old self.new }
+        ensures same { SameSteps self.old self.new }
+        ensures shares { OnOk result (pieces < self.new.shares) }
     {
         let room = self.limit.saturating_sub(self.stamp);
-        let more = room.saturating_mul(pieces.saturating_add(1));
-        self.steps.reserve(more as usize)
+        let Some(shares) = pieces.checked_add(1) else {
+            return Err(AllocError);
+        };
+        let Some(more) = room.checked_mul(shares) else {
+            return Err(AllocError);
+        };
+        self.steps.reserve(more as usize)?;
+        self.shares = shares;
+        Ok(())
     }
 
     /// It stands at the last stamp, and tells nothing.
@@ -100,6 +113,7 @@ impl Journal {
         self.stamp = u64::MAX;
         self.since = u64::MAX;
         self.base = self.steps.len() as u64;
+        self.shares = 1;
     }
 
     /// Takes the steps of a piece, if there is room. It answers whether it has all of the piece's steps.
@@ -134,5 +148,6 @@ impl Journal {
         };
         self.since = self.stamp;
         self.base = self.steps.len() as u64;
+        self.shares = 1;
     }
 }

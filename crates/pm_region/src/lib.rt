@@ -15,6 +15,7 @@ mod region;
 mod split;
 mod steady;
 mod volume;
+mod word_cells;
 
 pub use file::{FilePiece, FileRegion};
 pub use image::{ImageError, Pick};

@@ -1,7 +1,7 @@
 // What the two regions in memory have in common: all but their counts.
 ghost use Rattle.std.specs.Prelude.{◌≡◌, ℕ, ◌+◌, ◌-◌, ◌*◌, ◌^◌, ◌≤◌, ◌<◌, List, [], true, false, length, slice_index, slice_index_or, IfOk, OnOk, OnErr, IsErrOf};
 ghost use Rattle.pm_region.specs.Cell.{Cell, certain, store_at, flush_line, fence_range, unchanged};
-ghost use Rattle.pm_region.specs.State.{State, Frame, IsTold, IsTelling, cell_now, counted};
+ghost use Rattle.pm_region.specs.State.{State, Frame, IsTold, IsTelling, cell_now};
 ghost use Rattle.pm_region.specs.Split.{words_in};
 ghost use Rattle.pm_region.specs.Bytes.{word_at};
 
@@ -24,11 +24,12 @@ pub struct Volume {
     pub opens: u64,
     ghost at_zero: { history.first ≡ 0 },
     ghost long: { length history.words.items ≡ words_in bytes },
+    ghost shared: { parted ≡ true → length cuts.items ≤ history.journal.shares },
     ghost within: { (i : ℕ) → i < length cuts.items → slice_index cuts.items i ≤ length history.words.items },
 }
 
 impl Volume {
-    ghost use Rattle.pm_region.specs.Volumes.{volume_state, volume_words, found_in, limit_of, VolumeMoves, VolumeAttached, VolumeStays, VolumeParted, VolumeJoined, CamePart, TakesPart};
+    ghost use Rattle.pm_region.specs.Volumes.{volume_state, volume_words, found_in, limit_of, VolumeMoves, VolumeAttached, VolumeStays, VolumeParted, VolumeJoined, CamePart, TakesPart, ComesAfter};
     ghost use Rattle.pm_region.specs.Image.{picked};
 
     /// A volume whose attach finds these bytes, with room for so many steps.
@@ -122,13 +123,6 @@ impl Volume {
         self.history.stand();
     }
 
-    /// Counts a call of attach or create.
-    pub fn count_open(&mut self)
-        ensures { self.new ≡ record self.old { opens = counted self.old.opens } }
-    {
-        self.opens = self.opens.saturating_add(1);
-    }
-
     pub fn attach(&mut self, alloc: Global) -> Result<(), AllocError>
         ensures ok { OnOk result (VolumeAttached self.old self.new self.old.bytes (found_in self.old)) }
         ensures wide { OnOk result ((w : ℕ) → w < volume_words self.new → found_in self.old w < 2 ^ 64) }
@@ -161,7 +155,9 @@ impl Volume {
 
     /// Parts it at these cuts, with room for the steps of so many pieces.
     pub fn part(&mut self, pieces: u64, cuts: Vec<u64>) -> Result<(), AllocError>
-        requires { (i : ℕ) → i < length cuts.items → slice_index cuts.items i ≤ volume_words self.old }
+        requires whole { self.old.parted ≡ false }
+        requires count { length cuts.items ≤ pieces + 1 }
+        requires within { (i : ℕ) → i < length cuts.items → slice_index cuts.items i ≤ volume_words self.old }
         ensures ok { OnOk result (VolumeParted self.old self.new cuts.items) }
         ensures err { OnErr result (VolumeStays self.old self.new) }
         ensures opens { self.new.opens ≡ self.old.opens }
@@ -180,6 +176,7 @@ impl Volume {
         requires pieces { (i : ℕ) (p : P) → i < length pieces.now → CamePart self.old i (P.part (slice_index_or pieces.now i p)) }
         ensures whole { VolumeJoined self.old self.new }
         ensures pieces { (i : ℕ) (p : P) → i < length pieces.now → TakesPart self.new (P.part (slice_index_or pieces.now i p)) }
+        ensures next { ComesAfter P.part self.old self.new pieces.now }
         ensures opens { self.new.opens ≡ self.old.opens }
         ensures limit { limit_of self.new ≡ limit_of self.old }
     {

@@ -11,7 +11,7 @@ pub returns-clause-finds : goal.returns-clause-finds
 returns-clause-finds c = volume_finds c.args.self.now.volume _ _
 
 pub returns-clause-ok : goal.returns-clause-ok
-returns-clause-ok c = attached_own _ _ _ _ (c.in_ok-attach.ensures.ok _ _ _ _)
+returns-clause-ok c = attached_own _ _ _ _ _ (c.in_ok-attach.ensures.ok 0 0 _ _)
 
 pub returns-clause-bytes : goal.returns-clause-bytes
 returns-clause-bytes c = λ telling. (c.in_ok-attach.ensures.ok 0 0 0 0).bytes_are
