@@ -1,37 +1,18 @@
 -- A region that was opened once, or not at all.
-use Rattle.std.proofs.Common.{◌≡◌, ◌⊎◌, inl, inr, ℕ, refl, sym, ◌∙◌, ap, subst, true, false, Bool, Result, Ok, Err}
-use Rattle.pm_region.specs.State.{State, Frame, IsTelling, Rose}
-use Rattle.pm_region.specs.Split.{Attached, Stays, Refuses, IsOpenedOnceMore, IsNotOpened}
+use Rattle.std.proofs.Common.{◌≡◌, ℕ, sym, ◌∙◌, subst, true, false, Bool, Result, Ok, Err}
+use Rattle.pm_region.specs.State.{State, Frame}
+use Rattle.pm_region.specs.Split.{Attached, Refuses, IsOpenedOnceMore}
 use Rattle.pm_region.specs.declared.split.AttachError.{AttachError}
-use Rattle.pm_region.specs.declared.split.AttachError.TheVariants.{RegionFault, Memory}
+use Rattle.pm_region.specs.declared.split.AttachError.TheVariants.{RegionFault}
 use Rattle.pm_region.proofs.Moments.{over_started}
 use Rattle.chunk_map.specs.declared.layouts.Geometry.{Geometry}
 use Rattle.chunk_map.specs.Layouts.{total_bytes}
 use Rattle.serial_engine.specs.Going.{Runs}
-use Rattle.flatstore.specs.Attaching.{GoesOnFrom, IsUnopened, HasNotOpened, Attaches, Creates}
-use Rattle.flatstore.specs.declared.report.Status.{Status}
-use Rattle.flatstore.specs.declared.report.Status.TheVariants as statuses
+use Rattle.flatstore.specs.Attaching.{GoesOnFrom, Attaches, Creates}
 use Rattle.flatstore.specs.declared.report.Report.{Report}
 
 both : (b : Bool) {P : Type 0} → b ≡ true → b ≡ false → P
 both b t f = cc (sym t ∙ f)
-
--- nothing was called
-pub as_it_was : (s : State) → IsUnopened s s
-as_it_was s = record {
-  stays = record {
-    first = refl;
-    words = refl;
-    since = refl;
-    bytes = refl;
-    parted = refl;
-    cuts = refl;
-    stamp = refl;
-    told = λ t. refl;
-    cells = λ t w. refl;
-  };
-  tried = inl refl;
-}
 
 pub no_more : (s : State) → Runs s s
 no_more s = over_started s _ (λ telling. tt)
@@ -60,21 +41,6 @@ attaches_once old at new found result x is R A once on r opened = record {
   cause = λ isnt. both r.attached opened isnt;
 }
 
-pub unattached_fault : {T : Type 0} (old new : State) (found : ℕ → ℕ) (result : Result T AttachError) → result ≡ Err RegionFault → Refuses old new result → Stays old new → IsOpenedOnceMore old new
-    → (r : Report) → r.attached ≡ false → r.status ≡ statuses.RegionFault → Attaches old new found r
-unattached_fault old new found result is R stays once r isnt status = record {
-  attached = λ opened. both r.attached opened isnt;
-  unattached = λ same. record { stays = stays; tried = inr once };
-  cause = λ same. inr (status, once, (R.fault is).1);
-}
-
-pub unattached_memory : (old new : State) (found : ℕ → ℕ) → IsUnopened old new → (r : Report) → r.attached ≡ false → r.status ≡ statuses.Memory → Attaches old new found r
-unattached_memory old new found unopened r isnt status = record {
-  attached = λ opened. both r.attached opened isnt;
-  unattached = λ same. unopened;
-  cause = λ same. inl status;
-}
-
 -- a region that is created
 pub creates_once : {T : Type 0} (old at new : State) (l : Geometry) (result : Result T AttachError) (x : T) → result ≡ Ok x → Refuses old at result → Attached old at (total_bytes l) (λ w. 0) → IsOpenedOnceMore old at → Runs at new
     → (r : Report) → r.attached ≡ true → Creates old new l r
@@ -82,11 +48,4 @@ creates_once old at new l result x is R A once on r opened = record {
   created = λ created. goes_on old at new (total_bytes l) (λ w. 0) result x is R A once on;
   uncreated = λ isnt. both r.attached opened isnt;
   cause = λ isnt. both r.attached opened isnt;
-}
-
-pub uncreated : (old new : State) (l : Geometry) (r : Report) → IsUnopened old new ⊎ IsOpenedOnceMore old new → r.attached ≡ false → HasNotOpened old new r.status → Creates old new l r
-uncreated old new l r left isnt cause = record {
-  created = λ opened. both r.attached opened isnt;
-  uncreated = λ same. left;
-  cause = λ same. cause;
 }

@@ -181,7 +181,8 @@ fn said(alloc: Global, words: &[&str]) -> Result<(Status, bool), Fail> {
 #[test]
 fn words_that_are_no_form(rt: HostRuntime) -> Result<(), Fail> {
     let alloc = rt.alloc();
-    let lines: [&[&str]; 4] = [
+    let lines: [&[&str]; 5] = [
+        &[],
         &["flatstore"],
         &["flatstore", "replay"],
         &["flatstore", "Replay", "region"],

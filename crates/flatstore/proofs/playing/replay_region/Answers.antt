@@ -1,11 +1,9 @@
 -- The promise, where requests were answered and where none was.
-use Rattle.std.proofs.Common.{List, ℕ, Option, refl, sym, ap, subst}
-use Rattle.pm_region.specs.State.{State}
+use Rattle.std.proofs.Common.{List, ℕ, refl, sym, ap, subst}
 use Rattle.serial_engine.specs.Answers.{told}
 use Rattle.flatstore.specs.Promise.{IsInput, Replays}
 use Rattle.flatstore.proofs.Replaying.{played_replays}
 use Rattle.flatstore.proofs.Refused.{refused_replays}
-use Rattle.flatstore.proofs.Opened.{attaches_once, unattached_fault, unattached_memory, no_more}
 use Rattle.flatstore.proofs.playing.replay_region.Goals as goal
 
 pub returns-in-Err-clause-replay : goal.returns-in-Err-clause-replay

@@ -10,9 +10,9 @@ returns-in-Ok-clause-answered g c = (
   [],
   counted_all c.args.requests.items c.answer_all.new.self (c.in-Ok.ensures.counts [] c.begin-run.ensures.counts),
   λ cells keeps.
-  let s = g.R.Region.state c.args.region.now in
-  let o : Origin = record { at = s; layout = c.args.store.log.layout; cells = cells; stock = stock_of c.args.store } in
-  answered_all o (g.R.Region.state c.answer_all.new.region) c.args.requests.items c.answer_all.new.self (c.in-Ok.ensures.ok o [] (c.begin-run.ensures.going s cells c.requires.ready keeps)),
+      let s = g.R.Region.state c.args.region.now in
+      let o : Origin = record { at = s; layout = c.args.store.log.layout; cells = cells; stock = stock_of c.args.store } in
+      answered_all o (g.R.Region.state c.answer_all.new.region) c.args.requests.items c.answer_all.new.self (c.in-Ok.ensures.ok o [] (c.begin-run.ensures.going s cells c.requires.ready keeps)),
 )
 
 pub returns-in-Ok-clause-cause : goal.returns-in-Ok-clause-cause
@@ -23,9 +23,9 @@ returns-clause-answered g c = (
   all_stopped c.in-Err.ensures.err.rest,
   counted_some c.in-Err.ensures.err.front c.in-Err.ensures.err.rest c.args.requests.items c.answer_all.new.self c.in-Err.ensures.err.all (c.in-Err.ensures.err.counts [] c.begin-run.ensures.counts),
   λ cells keeps.
-  let s = g.R.Region.state c.args.region.now in
-  let o : Origin = record { at = s; layout = c.args.store.log.layout; cells = cells; stock = stock_of c.args.store } in
-  answered_some o (g.R.Region.state c.answer_all.new.region) c.args.requests.items c.begin-run.result c.answer_all.new.self c.in-Err.ensures.err (c.begin-run.ensures.going s cells c.requires.ready keeps),
+      let s = g.R.Region.state c.args.region.now in
+      let o : Origin = record { at = s; layout = c.args.store.log.layout; cells = cells; stock = stock_of c.args.store } in
+      answered_some o (g.R.Region.state c.answer_all.new.region) c.args.requests.items c.begin-run.result c.answer_all.new.self c.in-Err.ensures.err (c.begin-run.ensures.going s cells c.requires.ready keeps),
 )
 
 pub returns-clause-cause : goal.returns-clause-cause
