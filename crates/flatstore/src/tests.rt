@@ -197,6 +197,7 @@ fn words_that_are_no_form(rt: HostRuntime) -> Result<(), Fail> {
 }
 
 // An environment with one word, which is not UTF-8.
+#[derive(Drop)]
 struct NoText {
     alloc: Global,
 }
