@@ -1,12 +1,14 @@
 -- The images of a region that is created and given its superblock.
-use Rattle.std.proofs.Common.{◌≡◌, inl, inr, ⊎_elim, ℕ, zero, suc, ◌+◌, ◌*◌, ◌/◌, ◌<◌, ◌≤◌, List, [], ◌++◌, refl, sym, ◌∙◌, ap, subst, arith, true, false, cond, Some, None}
+use Rattle.std.proofs.Common.{◌≡◌, inl, inr, ⊎_elim, ℕ, zero, suc, ◌+◌, ◌*◌, ◌/◌, ◌<◌, ◌≤◌, List, [], ◌++◌, refl, sym, ◌∙◌, ap, subst, arith, true, cond, Some, None, Result, Ok}
 use Rattle.std.proofs.lemmas.Bool.{le-leb}
 use Rattle.std.specs.List.{flat_map}
 use Rattle.std.specs.Option.{option_and_then}
 use Rattle.pm_region.specs.Cell.{MayBe}
 use Rattle.pm_region.specs.State.{State, Frame, During, InRange, IsTold, IsTelling, MayLeave, cell_now, Rose}
 use Rattle.pm_region.specs.Words.{EachIn, Surely}
-use Rattle.pm_region.specs.Split.{Attached, words_in}
+use Rattle.pm_region.specs.Split.{Attached, Refuses, IsOpenedOnceMore, words_in}
+use Rattle.pm_region.specs.declared.split.AttachError.{AttachError}
+use Rattle.flatstore.proofs.Opened.{creates_once}
 use Rattle.pm_region.proofs.Cells.{certain_may_be}
 use Rattle.pm_region.proofs.Narrow.{surely_certain}
 use Rattle.chunk_map.specs.declared.layouts.Geometry.{Geometry}
@@ -21,10 +23,13 @@ use Rattle.store_image.specs.Parts.{all_entries, part_entries, chunk_entries, he
 use Rattle.store_image.specs.Winners.{winner_in, cell_by}
 use Rattle.store_image.specs.Soundness.{first_fault, fault_by}
 use Rattle.store_image.proofs.SoundFacts.{store_sound}
+use Rattle.serial_engine.specs.Going.{Runs}
+use Rattle.pm_region.proofs.Moments.{over_weaken}
 use Rattle.core_store.specs.Moments.{EachImage}
 use Rattle.core_store.proofs.LogChunks.{free_entries, free_reads}
 use Rattle.flatstore.specs.declared.report.Status.TheVariants as statuses
 use Rattle.flatstore.specs.declared.report.Report.{Report}
+use Rattle.flatstore.specs.Attaching.{Creates}
 use Rattle.flatstore.specs.Formats.{Formats, IsEmptyStore, IsRefusedOrEmpty}
 
 none_in_all : {X : Type 0} (f : ℕ → List X) (from n : ℕ) → ((k : ℕ) → from ≤ k → k < from + n → f k ≡ []) → flat_map f (numbers from n) ≡ []
@@ -77,9 +82,6 @@ module _ (l : Geometry) (is : IsLayout l) (image : ℕ → ℕ) (super : IsSuper
   }
 
 -- A region that was created, and what came of it while the superblock was written.
-true_false : true ≡ false → ⊥
-true_false e = cc e
-
 module _ (old mid new : State) (l : Geometry) (is : IsLayout l) (A : Attached old mid (8 * (total_bytes l / 8)) (λ w. 0))
     (written : (IsTelling mid → Surely (cell_now mid 0) 0) → During mid new (EachIn 0 6 (IsRefusedOrWhole l (total_bytes l))))
     (others : During mid new (NarrowsOutside (cell_now mid) 0 6)) where
@@ -90,6 +92,15 @@ module _ (old mid new : State) (l : Geometry) (is : IsLayout l) (A : Attached ol
   words_are =
       let most = (numbers_of l is).total in
       A.words ∙ ap words_in whole ∙ (λ i. cond (le-leb (total_bytes l) 268439552 (omega (arith, most)) i) (total_bytes l / 8) 0)
+
+  created : Attached old mid (total_bytes l) (λ w. 0)
+  created = subst (λ n. Attached old mid n (λ w. 0)) whole A
+
+  runs : Runs mid new
+  runs = over_weaken mid new _ _ (λ n telling told le each. tt) others
+
+  pub made_once : {T : Type 0} (result : Result T AttachError) (x : T) → result ≡ Ok x → Refuses old mid result → IsOpenedOnceMore old mid → (r : Report) → r.attached ≡ true → Creates old new l r
+  made_once result x is R once r attached = creates_once old mid new l result x is R created once runs r attached
 
   pub size_is : new.frame.bytes ≡ total_bytes l
   size_is = ap (λ (f : Frame). f.bytes) others.frame ∙ A.bytes_are ∙ whole
@@ -126,10 +137,10 @@ module _ (old mid new : State) (l : Geometry) (is : IsLayout l) (A : Attached ol
   refused_throughout t told image may = refused_or_empty t told image may
 
   -- the fences of the superblock failed
-  pub made_stops : old.faults ≤ mid.faults → Rose mid.faults new.faults → (r : Report) → r.status ≡ statuses.RegionFault → r.attached ≡ true → Formats old new l r
-  made_stops later rose r status attached = record {
+  pub made_stops : old.faults ≤ mid.faults → Rose mid.faults new.faults → (r : Report) → r.status ≡ statuses.RegionFault → Creates old new l r → Formats old new l r
+  made_stops later rose r status creates = record {
     ends = inr (inr (status, omega (arith, later, rose)));
-    created = λ not. absurd (true_false (sym attached ∙ not));
+    creates = creates;
     size = λ made. size_is;
     crash = λ made. refused_throughout;
     done = λ done. absurd (no_end (sym status ∙ done));
@@ -138,10 +149,10 @@ module _ (old mid new : State) (l : Geometry) (is : IsLayout l) (A : Attached ol
     no_end e = cc e
 
   -- the superblock was written
-  pub made_ends : (IsTelling new → EachIn 0 6 (IsSuperblock l) (cell_now new)) → (r : Report) → r.status ≡ statuses.Done → r.attached ≡ true → Formats old new l r
-  made_ends super r status attached = record {
+  pub made_ends : (IsTelling new → EachIn 0 6 (IsSuperblock l) (cell_now new)) → (r : Report) → r.status ≡ statuses.Done → Creates old new l r → Formats old new l r
+  made_ends super r status creates = record {
     ends = inl status;
-    created = λ not. absurd (true_false (sym attached ∙ not));
+    creates = creates;
     size = λ made. size_is;
     crash = λ made. refused_throughout;
     done = λ done telling image may. empty_if_whole new.stamp telling image may (super telling image (in_front new.stamp telling image may));

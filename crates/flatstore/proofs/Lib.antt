@@ -3,6 +3,7 @@ pub mod Answering
 pub mod Attached
 pub mod Replaying
 pub mod Refused
+pub mod Opened
 pub mod Reading
 pub mod Roomy
 pub mod Agreeing

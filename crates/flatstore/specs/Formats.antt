@@ -1,5 +1,5 @@
 -- What a call with the words of `format` promises.
-use Rattle.std.specs.Prelude.{◌≡◌, ◌⊎◌, ℕ, ◌/◌, ◌≤◌, ◌<◌, true, false, Some, None, Ok}
+use Rattle.std.specs.Prelude.{◌≡◌, ◌⊎◌, ℕ, ◌/◌, ◌≤◌, ◌<◌, true, Some, None, Ok}
 use Rattle.pm_region.specs.State.{State, IsTold, IsTelling, cell_now, Rose}
 use Rattle.chunk_map.specs.declared.layouts.Geometry.{Geometry}
 use Rattle.chunk_map.specs.declared.heads.Head.TheVariants.{Free}
@@ -9,6 +9,7 @@ use Rattle.store_image.specs.declared.types.Fault.TheVariants.{NotARegion}
 use Rattle.store_image.specs.Soundness.{IsSound, first_fault}
 use Rattle.headline.specs.Headline.{cells_of}
 use Rattle.core_store.specs.Moments.{EachImage}
+use Rattle.flatstore.specs.Attaching.{Creates}
 use Rattle.flatstore.specs.declared.report.Status.TheVariants as statuses
 use Rattle.flatstore.specs.declared.report.Report.{Report}
 
@@ -28,8 +29,8 @@ IsRefusedOrEmpty l image = (first_fault (total_bytes l) image ≡ Some (NotARegi
 pub record Formats (old new : State) (l : Geometry) (r : Report) : Type 0 where
   -- It ends well, but for a fault that was counted and want of memory.
   pub ends : (r.status ≡ statuses.Done) ⊎ ((r.status ≡ statuses.Memory) ⊎ ((r.status ≡ statuses.RegionFault) × Rose old.faults new.faults))
-  -- The region was created, unless the device refused that or there was no memory.
-  pub created : r.attached ≡ false → (r.status ≡ statuses.Memory) ⊎ ((r.status ≡ statuses.RegionFault) × Rose old.frame.refusals new.frame.refusals)
+  -- The region was created once, unless the device refused that or there was no memory.
+  pub creates : Creates old new l r
   pub size : r.attached ≡ true → new.frame.bytes ≡ total_bytes l
   -- Whatever a crash leaves at any told moment since the region was created is refused, or is the empty region.
   pub crash : r.attached ≡ true → (t : ℕ) → IsTold new t → EachImage new.frame (IsRefusedOrEmpty l) (new.cells t)

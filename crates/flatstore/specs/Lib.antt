@@ -2,6 +2,8 @@ pub mod Commands
 pub mod Asked
 pub mod Statuses
 pub mod Found
+pub mod Attaching
+pub mod Ordering
 pub mod Promise
 pub mod Formats
 pub mod Dumps

@@ -1,29 +1,22 @@
 -- What a call of the program promises, over the region, the source and the sink before and after it.
-use Rattle.std.specs.Prelude.{◌≡◌, ◌⊎◌, ℕ, ◌+◌, ◌≤◌, List, [], ◌++◌, take, ◌==◌, Bool, true, false, Option, Some, None, Result, Ok, Err, if◌then◌else◌}
+use Rattle.std.specs.Prelude.{◌≡◌, ◌⊎◌, ℕ, ◌+◌, ◌≤◌, List, [], ◌++◌, take, Bool, true, Option, Some, None}
 use Rattle.std.specs.List.{AllByRecursion}
 use Rattle.fs_model.specs.declared.model.Request.{Request}
 use Rattle.pm_region.specs.State.{State, IsTelling, Rose}
-use Rattle.fs_text.specs.declared.line.Line.{Line}
-use Rattle.fs_text.specs.declared.stages.Built.{Built}
-use Rattle.fs_text.specs.declared.stages.Stop.{Stop}
-use Rattle.fs_text.specs.declared.stages.Stop.TheVariants as stops
 use Rattle.fs_text.specs.Input.{trace_of}
-use Rattle.fs_text.specs.Stages.{input_or_stop}
 use Rattle.fs_text.specs.Streams.{Takes}
 use Rattle.headline.specs.Headline.{Told, cells_of, WritesReplies, BeginsReplies, RecoversThroughout, RecoversAll}
 use Rattle.headline.specs.Ample.{IsAmpleFor}
 use Rattle.headline.specs.Limits.{IsAsked, version_of, changes_asked, IsWithinLimits}
 use Rattle.chunk_map.specs.Layouts.{layout_of, owner}
-use Rattle.store_image.specs.declared.types.Fault.{Fault}
-use Rattle.store_image.specs.Soundness.{first_fault}
+use Rattle.store_image.specs.Soundness.{IsSound}
 use Rattle.serial_engine.specs.Answers.{told}
 use Rattle.serial_engine.specs.Refusals.{refusals_from, is_full}
 use Rattle.core_store.specs.declared.types.Shortage.TheVariants.{Versions}
 use Rattle.flatstore.specs.Found.{stock_found}
-use Rattle.flatstore.specs.declared.report.Status.{Status}
+use Rattle.flatstore.specs.Ordering.{KeepsOrder, IsDue, IsFault, is_whole}
 use Rattle.flatstore.specs.declared.report.Status.TheVariants as statuses
 use Rattle.flatstore.specs.declared.report.Report.{Report}
-use Rattle.flatstore.specs.Statuses.{fault_status}
 
 -- a source that tells what comes gives this input; one that doesn't may give any
 abbrev pub IsInput : Option (List ℕ) → List ℕ → Type 0
@@ -34,74 +27,44 @@ IsInput (Some coming) input = coming ≡ input
 abbrev pub told_in : Report → Told
 told_in r = told r.finishes.items r.refusals.items
 
--- The sink took the whole text of lawful replies that fit the report, or the beginning of such a text. One is `stopped` only for a cause.
-abbrev pub WritesAll : (ℕ → Option (List ℕ)) → List Request → Told → Type 0 → Option (List ℕ) → Option (List ℕ) → Type 0
-WritesAll start trace r MayStop before now = (written : List ℕ) × Takes before now written × WritesReplies start trace r MayStop written
+-- the requests of an input: those to a region of one core, since no other is served
+abbrev pub asked_in : List ℕ → List Request
+asked_in input = trace_of 1 input
 
-abbrev pub WritesFront : (ℕ → Option (List ℕ)) → List Request → Told → Type 0 → Option (List ℕ) → Option (List ℕ) → Type 0
-WritesFront start trace r MayStop before now = (written : List ℕ) × Takes before now written × BeginsReplies start trace r MayStop written
+-- The sink took the whole text of replies that fit the report, or the beginning of such a text. They are lawful where the cells are known. One is `stopped` only for a cause.
+abbrev pub WritesAll : Type 0 → (ℕ → Option (List ℕ)) → List Request → Told → Type 0 → Option (List ℕ) → Option (List ℕ) → Type 0
+WritesAll Known start trace r MayStop before now = (written : List ℕ) × Takes before now written × WritesReplies Known start trace r MayStop written
 
--- The headline, of a replay of this input on a region that was attached with these words.
-pub record Replays (old new : State) (found : ℕ → ℕ) (input : List ℕ) (before now : Option (List ℕ)) (sink_faults sink_faults' : ℕ) (r : Report) : Type 0 where
-  -- At the end the whole text was written, without a `stopped`; also where a call of the region failed, but for attaching, and no write did.
-  pub done : r.status ≡ statuses.Done → IsTelling new → WritesAll (cells_of found) (trace_of (found 2) input) (told_in r) ⊥ before now
-  pub failed : r.status ≡ statuses.RegionFault → (Rose old.frame.refusals new.frame.refusals → ⊥) → (Rose sink_faults sink_faults' → ⊥) → IsTelling new
-      → WritesAll (cells_of found) (trace_of (found 2) input) (told_in r) (Rose old.faults new.faults) before now
-  -- Else the beginning of such a text, where a request is `stopped` only if a call of the region failed, or the run did not come to its end.
-  pub begins : IsTelling new → WritesFront (cells_of found) (trace_of (found 2) input) (told_in r) (r.complete ≡ true → Rose old.faults new.faults) before now
+abbrev pub WritesFront : Type 0 → (ℕ → Option (List ℕ)) → List Request → Told → Type 0 → Option (List ℕ) → Option (List ℕ) → Type 0
+WritesFront Known start trace r MayStop before now = (written : List ℕ) × Takes before now written × BeginsReplies Known start trace r MayStop written
+
+-- The headline, of a replay of this input on a region that was attached with these words. Of the source: what it had and has left, and its counts.
+-- Of the sink: what it had and has taken, whether that was flushed, and its counts.
+pub record Replays (old new : State) (found : ℕ → ℕ) (coming left : Option (List ℕ)) (source_faults source_faults' : ℕ) (input : List ℕ) (before now : Option (List ℕ)) (flushed : Bool) (sink_faults sink_faults' : ℕ) (r : Report) : Type 0 where
+  pub order : KeepsOrder old new found coming left input r
+  -- The words found and the input decide on the status, but for faults that were counted and want of memory.
+  pub due : IsTelling new → IsDue new.frame.bytes found input r.status ⊎ IsFault old new source_faults source_faults' sink_faults sink_faults' r.status
+  -- At the end the whole text was written and flushed, without a `stopped`; also where a call of the region failed, and no write did.
+  pub done : r.status ≡ statuses.Done → WritesAll (IsTelling new) (cells_of found) (asked_in input) (told_in r) ⊥ before now × (flushed ≡ true)
+  pub failed : r.status ≡ statuses.RegionFault → (Rose sink_faults sink_faults' → ⊥)
+      → WritesAll (IsTelling new) (cells_of found) (asked_in input) (told_in r) (Rose old.faults new.faults) before now × (flushed ≡ true)
+  -- Where a write failed and no call of the region did, the beginning of such a text, without a `stopped`.
+  pub sunk : r.status ≡ statuses.SinkFault → WritesFront (IsTelling new) (cells_of found) (asked_in input) (told_in r) ⊥ before now
+  -- Always the beginning of such a text, where a request is `stopped` only if a call of the region failed, or the run did not come to its end.
+  pub begins : WritesFront (IsTelling new) (cells_of found) (asked_in input) (told_in r) (r.complete ≡ true → Rose old.faults new.faults) before now
   -- Whatever a crash leaves at any told moment since the attach is sound, and recovers for each key its finished changes, or one more.
-  pub crash : RecoversThroughout new (cells_of found) (trace_of (found 2) input) (told_in r)
-  -- At the end it recovers all.
-  pub last : r.status ≡ statuses.Done → RecoversAll new (cells_of found) (trace_of (found 2) input) (told_in r)
+  pub crash : IsSound new.frame.bytes found → RecoversThroughout new (cells_of found) (asked_in input) (told_in r)
+  -- At the end it recovers all, also where a write failed.
+  pub last : is_whole r.status ≡ true → RecoversAll new (cells_of found) (asked_in input) (told_in r)
   -- The requests alone say which were refused, with which counts: all of them at the end, and else those before the first that was not answered.
-  pub refused : IsTelling new → (front : List Request) × (rest : List Request) × (trace_of (found 2) input ≡ front ++ rest) × (r.refusals.items ≡ refusals_from (layout_of found) 0 (stock_found found) front)
+  pub refused : IsTelling new → (front : List Request) × (rest : List Request) × (asked_in input ≡ front ++ rest) × (r.refusals.items ≡ refusals_from (layout_of found) 0 (stock_found found) front)
   -- A report that says so did come to the end: then those are all refusals, unless a call of the region failed.
-  pub ended : r.complete ≡ true → IsTelling new → (r.refusals.items ≡ refusals_from (layout_of found) 0 (stock_found found) (trace_of (found 2) input)) ⊎ Rose old.faults new.faults
-  pub refused_all : r.status ≡ statuses.Done → IsTelling new → r.refusals.items ≡ refusals_from (layout_of found) 0 (stock_found found) (trace_of (found 2) input)
+  pub ended : r.complete ≡ true → IsTelling new → (r.refusals.items ≡ refusals_from (layout_of found) 0 (stock_found found) (asked_in input)) ⊎ Rose old.faults new.faults
+  pub refused_all : is_whole r.status ≡ true → IsTelling new → r.refusals.items ≡ refusals_from (layout_of found) 0 (stock_found found) (asked_in input)
   -- A change is refused for want of room only where the input is not ample for the part of its key's owner,
   -- a put for its version only where its key has so many versions, or the requests before it may use them up, and nothing is refused within all limits.
-  pub full : IsTelling new → AllByRecursion (λ x. is_full x.why ≡ true → (k : ℕ) → IsAsked (trace_of (found 2) input) x.request k
-      → IsAmpleFor (layout_of found) found (trace_of (found 2) input) (owner (layout_of found) k) → ⊥) r.refusals.items
-  pub spent : IsTelling new → AllByRecursion (λ x. (last : ℕ) → x.why ≡ Versions last → (k : ℕ) → IsAsked (trace_of (found 2) input) x.request k
-      → 1048574 ≤ version_of found k + changes_asked k (take x.request (trace_of (found 2) input))) r.refusals.items
-  pub unrefused : IsTelling new → IsWithinLimits found (trace_of (found 2) input) → r.refusals.items ≡ []
-
--- what is built: all but `go` lines
-abbrev pub built_now : Built
-built_now = record { delete = true; go = false; blocks = true }
-
-abbrev pub status_of : Result (List Line) Stop → Status
-status_of (Ok lines) = statuses.Done
-status_of (Err (stops.Bad line rule)) = statuses.BadInput line rule
-status_of (Err (stops.NotBuilt line)) = statuses.NotBuilt line
-
--- the status that the words found and the input alone decide: several cores are not served yet
-abbrev pub due : (ℕ → ℕ) → List ℕ → Option Fault → Status
-due found input (Some fault) = fault_status fault
-due found input None = if found 2 == 1 then status_of (input_or_stop built_now 1 input) else statuses.NotBuilt 0
-
-abbrev pub IsDue : ℕ → (ℕ → ℕ) → List ℕ → Status → Type 0
-IsDue bytes found input status = status ≡ due found input (first_fault bytes found)
-
--- a fault, or want of memory
-abbrev pub IsFault : State → State → ℕ → ℕ → ℕ → ℕ → Status → Type 0
-IsFault old new source source' sink sink' status =
-    (status ≡ statuses.Memory) ⊎ (((status ≡ statuses.SourceFault) × Rose source source') ⊎ (((status ≡ statuses.SinkFault) × Rose sink sink') ⊎ ((status ≡ statuses.RegionFault) × Rose old.faults new.faults)))
-
--- a status at which nothing was written and no word of the region changed
-abbrev pub is_quiet : Status → Bool
-is_quiet statuses.Done = false
-is_quiet statuses.Usage = true
-is_quiet (statuses.BadInput line rule) = true
-is_quiet statuses.SourceFault = true
-is_quiet statuses.SinkFault = false
-is_quiet statuses.RegionFault = false
-is_quiet (statuses.Damaged part chunk rule) = true
-is_quiet (statuses.NotARegion rule) = true
-is_quiet statuses.Memory = false
-is_quiet (statuses.NotBuilt line) = true
-
--- a line stops the reading
-abbrev pub is_stop : Result (List Line) Stop → Bool
-is_stop (Ok lines) = false
-is_stop (Err stop) = true
+  pub full : IsTelling new → AllByRecursion (λ x. is_full x.why ≡ true → (k : ℕ) → IsAsked (asked_in input) x.request k
+      → IsAmpleFor (layout_of found) found (asked_in input) (owner (layout_of found) k) → ⊥) r.refusals.items
+  pub spent : IsTelling new → AllByRecursion (λ x. (last : ℕ) → x.why ≡ Versions last → (k : ℕ) → IsAsked (asked_in input) x.request k
+      → 1048574 ≤ version_of found k + changes_asked k (take x.request (asked_in input))) r.refusals.items
+  pub unrefused : IsTelling new → IsWithinLimits found (asked_in input) → r.refusals.items ≡ []

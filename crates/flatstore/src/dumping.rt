@@ -7,7 +7,7 @@ ghost use Rattle.store_image.specs.Listing.{ListsCells};
 ghost use Rattle.store_image.specs.Soundness.{IsSound};
 ghost use Rattle.headline.specs.Headline.{cells_of};
 ghost use Rattle.flatstore.specs.Dumps.{Dumps, HasDumped, IsUnlisted};
-ghost use Rattle.flatstore.specs.Promise.{is_quiet};
+ghost use Rattle.flatstore.specs.Ordering.{is_quiet};
 ghost use Rattle.flatstore.specs.declared.report.Status.TheVariants as statuses;
 
 use crate::report::{Report, Status};
@@ -37,7 +37,7 @@ fn live_pairs<R: SplitRegion>(alloc: Global, region: &R) -> Result<Vec<Pair>, St
 
 /// Writes the pairs, and reports.
 fn write_dump<O: Sink>(alloc: Global, sink: &mut O, pairs: &[Pair]) -> Report
-    ensures written { HasDumped pairs.now (O.taken sink.old) (O.taken sink.new) (O.fault_count sink.old) (O.fault_count sink.new) result.status }
+    ensures written { HasDumped pairs.now (O.taken sink.old) (O.taken sink.new) (O.flushed sink.new) (O.fault_count sink.old) (O.fault_count sink.new) result.status }
     ensures attached { result.attached ≡ true }
     ensures complete { result.complete ≡ true }
 {
@@ -51,6 +51,7 @@ fn write_dump<O: Sink>(alloc: Global, sink: &mut O, pairs: &[Pair]) -> Report
         finishes: Vec::new(alloc),
         refusals: Vec::new(alloc),
         attached: true,
+        began: false,
         complete: true,
     }
 }
@@ -58,8 +59,7 @@ fn write_dump<O: Sink>(alloc: Global, sink: &mut O, pairs: &[Pair]) -> Report
 /// Attaches the region, and writes its live pairs by rising key. A region that breaks a rule has none.
 pub fn dump_region<O: Sink, R: SplitRegion>(alloc: Global, sink: &mut O, region: &mut R) -> Report
     ensures promise { Dumps (R.state region.old) (R.state region.new) (R.found region.old)
-        (O.taken sink.old) (O.taken sink.new) (O.fault_count sink.old) (O.fault_count sink.new) result }
-    ensures attaching { result.attached ≡ false → (result.status ≡ statuses.Memory) ⊎ (result.status ≡ statuses.RegionFault) }
+        (O.taken sink.old) (O.taken sink.new) (O.flushed sink.new) (O.fault_count sink.old) (O.fault_count sink.new) result }
     ensures no_usage { result.status ≡ statuses.Usage → ⊥ }
     ensures no_source_fault { result.status ≡ statuses.SourceFault → ⊥ }
     ensures sink_fault { result.status ≡ statuses.SinkFault → Rose (O.fault_count sink.old) (O.fault_count sink.new) }

@@ -2,7 +2,7 @@
 ghost use Rattle.std.specs.Prelude.{◌≡◌, true, false};
 ghost use Rattle.pm_region.specs.State.{Rose};
 ghost use Rattle.flatstore.specs.Formats.{Formats};
-ghost use Rattle.flatstore.specs.Promise.{is_quiet};
+ghost use Rattle.flatstore.specs.Ordering.{is_quiet};
 ghost use Rattle.flatstore.specs.declared.report.Status.TheVariants as statuses;
 
 use crate::report::{Report, Status};

@@ -5,7 +5,9 @@ use fs_errors::Memory;
 use fs_text::{StdSink, StdSource};
 use pm_region::FileRegion;
 use report::Status;
-use std::alloc::Global;
+use std::alloc::{AllocGlobal, Global};
+use std::env::Env;
+use std::io::ErrorKind;
 use std::process::ExitCode;
 use std::{env, io};
 use top::flatstore;
@@ -27,10 +29,12 @@ mod report;
 mod tests;
 mod top;
 
-/// The words of the command line, the program's name first.
-fn command_line(rt: &HostRuntime, alloc: Global) -> Result<Vec<String>, Memory> {
+/// The words of the command line, the program's name first. Words that aren't UTF-8 are no words of the program, and
+/// there are none then.
+fn command_line<R: Env + AllocGlobal>(rt: &R, alloc: Global) -> Result<Vec<String>, Memory> {
     match env::args(rt) {
         Ok(words) => Ok(words.collect(alloc)?),
+        Err(error) if error.kind() == ErrorKind::InvalidData => Ok(Vec::new(alloc)),
         Err(_) => Err(Memory),
     }
 }

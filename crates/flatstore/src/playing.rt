@@ -2,8 +2,9 @@
 ghost use Rattle.std.specs.Prelude.{◌≡◌, ◌⊎◌, ℕ, ◌≤◌, List, Some, None, true, false, OnOk, OnErr, IfOk};
 ghost use Rattle.pm_region.specs.State.{State, IsTelling, Rose};
 ghost use Rattle.pm_region.specs.Split.{Attached};
-ghost use Rattle.store_image.specs.Soundness.{IsSound};
-ghost use Rattle.flatstore.specs.Promise.{IsInput, Replays, IsDue, IsFault, is_quiet};
+ghost use Rattle.flatstore.specs.Attaching.{Attaches};
+ghost use Rattle.flatstore.specs.Ordering.{is_of_region, is_quiet};
+ghost use Rattle.flatstore.specs.Promise.{IsInput, Replays};
 ghost use Rattle.flatstore.specs.declared.report.Status.TheVariants as statuses;
 
 use crate::replay::replay;
@@ -19,16 +20,13 @@ pub fn replay_region<S: Source, O: Sink, R: SplitRegion>(
     sink: &mut O,
     region: &mut R,
 ) -> Report
-    // The headline.
-    ensures replay { result.attached ≡ true → IsSound (R.state region.new).frame.bytes (R.found region.old)
-        → (input : List ℕ) × IsInput (S.coming source.old) input × Replays (R.state region.old) (R.state region.new) (R.found region.old) input
-        (O.taken sink.old) (O.taken sink.new) (O.fault_count sink.old) (O.fault_count sink.new) result }
+    ensures attaches { Attaches (R.state region.old) (R.state region.new) (R.found region.old) result }
 
-    // Where region and source tell, their words and bytes decide on the status, but for faults that were counted and want of memory.
-    ensures due { (input : List ℕ) → S.coming source.old ≡ Some input → result.attached ≡ true → IsTelling (R.state region.new)
-        → IsDue (R.state region.new).frame.bytes (R.found region.old) input result.status
-        ⊎ IsFault (R.state region.old) (R.state region.new) (S.fault_count source.old) (S.fault_count source.new) (O.fault_count sink.old) (O.fault_count sink.new) result.status }
-    ensures attaching { result.attached ≡ false → (result.status ≡ statuses.Memory) ⊎ (result.status ≡ statuses.RegionFault) }
+    // The headline.
+    ensures replay { result.attached ≡ true → (input : List ℕ) × IsInput (S.coming source.old) input
+        × Replays (R.state region.old) (R.state region.new) (R.found region.old)
+        (S.coming source.old) (S.coming source.new) (S.fault_count source.old) (S.fault_count source.new) input
+        (O.taken sink.old) (O.taken sink.new) (O.flushed sink.new) (O.fault_count sink.old) (O.fault_count sink.new) result }
     ensures source_fault { result.status ≡ statuses.SourceFault → Rose (S.fault_count source.old) (S.fault_count source.new) }
     ensures sink_fault { result.status ≡ statuses.SinkFault → Rose (O.fault_count sink.old) (O.fault_count sink.new) }
     ensures region_fault { result.status ≡ statuses.RegionFault → Rose (R.state region.old).faults (R.state region.new).faults }
@@ -39,6 +37,8 @@ pub fn replay_region<S: Source, O: Sink, R: SplitRegion>(
     ensures unattached { result.attached ≡ false → result.complete ≡ false }
 
     // Nothing is lost or changed by a refusal.
+    ensures unread { is_of_region result.status ≡ true → source.new ≡ source.old }
+    ensures unattached_unread { result.attached ≡ false → source.new ≡ source.old }
     ensures sink_untouched { is_quiet result.status ≡ true → sink.new ≡ sink.old }
     ensures region_untouched { is_quiet result.status ≡ true → result.attached ≡ true
         → Attached (R.state region.old) (R.state region.new) (R.state region.new).frame.bytes (R.found region.old) }

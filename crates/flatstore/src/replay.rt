@@ -14,7 +14,9 @@ ghost use Rattle.chunk_map.specs.Layouts.{layout_of};
 ghost use Rattle.headline.specs.Headline.{cells_of};
 ghost use Rattle.flatstore.specs.Found.{stock_found};
 ghost use Rattle.flatstore.specs.Reads.{IsRead, IsUnread, unread_as};
-ghost use Rattle.flatstore.specs.Played.{IsOpened, HasAnswered, Played, IsUnserved, IsRefused};
+ghost use Rattle.flatstore.specs.Played.{IsOpened, HasAnswered, HasCounted, Played, IsUnserved, IsRefused};
+ghost use Rattle.flatstore.specs.Ordering.{is_of_region};
+ghost use Rattle.fs_model.specs.declared.model.Reply.{Reply};
 
 use crate::report::{Report, Status};
 use core_store::Store;
@@ -67,8 +69,8 @@ fn unread(error: UntilError) -> Status
 
 /// Reads the input to its end, and gives its requests in order.
 fn read<S: Source>(alloc: Global, source: &mut S) -> Result<Vec<Request>, Status>
-    ensures ok { IfOk result (λ qs. IsRead (S.coming source.old) qs.items) }
-    ensures err { IfErr result (IsUnread (S.coming source.old) (S.fault_count source.old) (S.fault_count source.new)) }
+    ensures ok { IfOk result (λ qs. IsRead (S.coming source.old) (S.coming source.new) qs.items) }
+    ensures err { IfErr result (IsUnread (S.coming source.old) (S.coming source.new) (S.fault_count source.old) (S.fault_count source.new)) }
 {
     match read_until(alloc, source, CORES, BUILT) {
         Ok(input) => match requests(alloc, input) {
@@ -135,8 +137,8 @@ fn answer<R: Region>(alloc: Global, region: &mut R, store: Store, requests: Vec<
     requires ready { Ready (R.state region.old) store }
     ensures run { Runs (R.state region.old) (R.state region.new) }
     ensures cause { result.stopped ≡ true → Rose (R.state region.old).faults (R.state region.new).faults }
-    ensures answered { (cells : ℕ → Option (List ℕ)) → Keeps (R.state region.old) store cells
-        → HasAnswered (R.state region.old) (R.state region.new) cells store.log.layout (stock_of store) requests.items result }
+    ensures answered { (more : List Reply) × HasCounted requests.items more result × ((cells : ℕ → Option (List ℕ)) → Keeps (R.state region.old) store cells
+        → HasAnswered (R.state region.old) (R.state region.new) cells store.log.layout (stock_of store) requests.items more result) }
 {
     let mut run = begin(alloc, store);
     match run.answer_all(alloc, region, requests) {
@@ -163,9 +165,11 @@ pub fn replay<S: Source, R: SplitRegion>(
     requires first { (R.state region.old).frame.first ≡ 0 }
     requires words { (R.state region.old).frame.words ≡ words_in (R.state region.old).frame.bytes }
     requires certain { IsTelling (R.state region.old) → (w : ℕ) → InRange (R.state region.old).frame w → cell_now (R.state region.old) w ≡ certain (lasts (R.state region.old) w) }
-    ensures played { IfOk result (Played (R.state region.old) (R.state region.new) (S.coming source.old)) }
-    ensures refused { IfErr result (IsRefused (R.state region.old) (S.coming source.old) (S.fault_count source.old) (S.fault_count source.new)) }
+    ensures played { IfOk result (Played (R.state region.old) (R.state region.new) (S.coming source.old) (S.coming source.new)) }
+    ensures refused { IfErr result (IsRefused (R.state region.old) (S.coming source.old) (S.coming source.new) (S.fault_count source.old) (S.fault_count source.new)) }
     ensures untouched { OnErr result (region.new ≡ region.old) }
+    // A region that breaks a rule, or has several cores, goes before the source.
+    ensures unread { IfErr result (λ status. is_of_region status ≡ true → source.new ≡ source.old) }
 {
     let recovered = match recovered(alloc, region) {
         Ok(recovered) => recovered,
@@ -188,8 +192,9 @@ impl Ended {
         ensures finishes { result.finishes.items ≡ self.answers.finishes.items }
         ensures refusals { result.refusals.items ≡ self.answers.refusals.items }
         ensures attached { result.attached ≡ true }
+        ensures began { result.began ≡ true }
         ensures complete { result.complete ≡ self.complete }
-        ensures written { HasWritten self (O.taken sink.old) (O.taken sink.new) (O.fault_count sink.old) (O.fault_count sink.new) result.status }
+        ensures written { HasWritten self (O.taken sink.old) (O.taken sink.new) (O.flushed sink.new) (O.fault_count sink.old) (O.fault_count sink.new) result.status }
         ensures untouched { self.complete ≡ false → sink.new ≡ sink.old }
     {
         let complete = self.complete;
@@ -219,6 +224,7 @@ impl Ended {
             finishes: self.answers.finishes,
             refusals: self.answers.refusals,
             attached: true,
+            began: true,
             complete,
         }
     }

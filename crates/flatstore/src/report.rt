@@ -43,6 +43,8 @@ pub struct Report {
     pub refusals: Vec<Refusal>,
     /// Whether the region was attached in this call, or created.
     pub attached: bool,
+    /// Whether requests were begun to be answered. Before that no word of the region changes.
+    pub began: bool,
     /// Whether the whole text was ready to be written: for `replay`, whether every request was answered. Where not,
     /// nothing was written. `format` has no text, and says no.
     pub complete: bool,
@@ -55,6 +57,7 @@ impl Report {
         ensures finishes { result.finishes.items ≡ [] }
         ensures refusals { result.refusals.items ≡ [] }
         ensures attached { result.attached ≡ attached }
+        ensures began { result.began ≡ false }
         ensures complete { result.complete ≡ false }
     {
         Report {
@@ -62,6 +65,7 @@ impl Report {
             finishes: Vec::new(alloc),
             refusals: Vec::new(alloc),
             attached,
+            began: false,
             complete: false,
         }
     }

@@ -1,5 +1,6 @@
 // The worked rows of a replay on one core, on the top call.
 use crate::change_tests::put;
+use crate::command_line;
 use crate::report::{Report, Status};
 use crate::top::flatstore;
 use core_store::{Counts, Shortage};
@@ -10,7 +11,8 @@ use pm_region::{
     Faults, FenceNumber, FileRegion, MemRegion, Pick, Region, SplitRegion, SteadyRegion,
 };
 use serial_engine::answers::Refusal;
-use std::alloc::{AllocError, Global};
+use std::alloc::{Alloc, AllocError, Global};
+use std::env::{Env, FillError};
 use std::fs;
 use std::test::Fail;
 use store_image::superblock::read_layout;
@@ -181,7 +183,8 @@ fn said(alloc: Global, words: &[&str]) -> Result<(Status, bool), Fail> {
 #[test]
 fn words_that_are_no_form(rt: HostRuntime) -> Result<(), Fail> {
     let alloc = rt.alloc();
-    let lines: [&[&str]; 4] = [
+    let lines: [&[&str]; 5] = [
+        &[],
         &["flatstore"],
         &["flatstore", "replay"],
         &["flatstore", "Replay", "region"],
@@ -190,6 +193,51 @@ fn words_that_are_no_form(rt: HostRuntime) -> Result<(), Fail> {
     for line in lines {
         assert_eq!(rt; said(alloc, line)?, (Status::Usage, false));
     }
+    Ok(())
+}
+
+// An environment with one word, which is not UTF-8.
+#[derive(Drop)]
+struct NoText {
+    alloc: Global,
+}
+
+impl Alloc for NoText {
+    type A = Global;
+
+    fn alloc(&self) -> Global {
+        self.alloc
+    }
+}
+
+impl Env for NoText {
+    fn arg(&self, i: usize, buf: &mut [u8]) -> Result<usize, FillError> {
+        if i > 0 {
+            return Err(FillError::NotPresent);
+        }
+        match buf.first_mut() {
+            None => Err(FillError::TooLong),
+            Some(byte) => {
+                *byte = 0xff;
+                Ok(1)
+            }
+        }
+    }
+
+    fn var(&self, _name: &str, _buf: &mut [u8]) -> Result<usize, FillError> {
+        Err(FillError::NotPresent)
+    }
+
+    fn var_at(&self, _i: usize, _buf: &mut [u8]) -> Result<usize, FillError> {
+        Err(FillError::NotPresent)
+    }
+}
+
+#[test]
+fn words_that_are_no_text(rt: HostRuntime) -> Result<(), Fail> {
+    let alloc = rt.alloc();
+    let words = command_line(&NoText { alloc }, alloc)?;
+    assert_eq!(rt; words.len(), 0);
     Ok(())
 }
 

@@ -3,12 +3,13 @@ ghost use Rattle.std.specs.Prelude.{◌≡◌, ◌⊎◌, ℕ, ◌≤◌, List, 
 ghost use Rattle.pm_region.specs.State.{State, IsTelling, Rose};
 ghost use Rattle.pm_region.specs.Split.{Attached};
 ghost use Rattle.chunk_map.specs.declared.layouts.Geometry.{Geometry};
-ghost use Rattle.store_image.specs.Soundness.{IsSound};
 ghost use Rattle.flatstore.specs.Commands.{form_of, words_of};
 ghost use Rattle.flatstore.specs.Commands.Form.{Format, Replay, Dump};
 ghost use Rattle.flatstore.specs.Dumps.{Dumps};
 ghost use Rattle.flatstore.specs.Formats.{Formats};
-ghost use Rattle.flatstore.specs.Promise.{IsInput, Replays, IsDue, IsFault, is_quiet};
+ghost use Rattle.flatstore.specs.Attaching.{Attaches};
+ghost use Rattle.flatstore.specs.Ordering.{is_of_region, is_quiet};
+ghost use Rattle.flatstore.specs.Promise.{IsInput, Replays};
 ghost use Rattle.flatstore.specs.declared.report.Status.TheVariants as statuses;
 
 use crate::command::{Command, parse_command};
@@ -41,21 +42,20 @@ pub fn flatstore<S: Source, O: Sink, R: SplitRegion>(
 
     // What is dumped are the cells that the words of the region recover.
     ensures dump { (path : List ℕ) → form_of (words_of words.now.items) ≡ Some (Dump path)
-        → Dumps (R.state region.old) (R.state region.new) (R.found region.old) (O.taken sink.old) (O.taken sink.new) (O.fault_count sink.old) (O.fault_count sink.new) result
+        → Dumps (R.state region.old) (R.state region.new) (R.found region.old)
+        (O.taken sink.old) (O.taken sink.new) (O.flushed sink.new) (O.fault_count sink.old) (O.fault_count sink.new) result
         × (source.new ≡ source.old) }
 
     // The headline.
-    ensures replay { (path : List ℕ) → form_of (words_of words.now.items) ≡ Some (Replay path)
-        → result.attached ≡ true → IsSound (R.state region.new).frame.bytes (R.found region.old)
-        → (input : List ℕ) × IsInput (S.coming source.old) input × Replays (R.state region.old) (R.state region.new) (R.found region.old) input
-        (O.taken sink.old) (O.taken sink.new) (O.fault_count sink.old) (O.fault_count sink.new) result }
+    ensures attaches { (path : List ℕ) → form_of (words_of words.now.items) ≡ Some (Replay path)
+        → Attaches (R.state region.old) (R.state region.new) (R.found region.old) result }
+    ensures replay { (path : List ℕ) → form_of (words_of words.now.items) ≡ Some (Replay path) → result.attached ≡ true
+        → (input : List ℕ) × IsInput (S.coming source.old) input
+        × Replays (R.state region.old) (R.state region.new) (R.found region.old)
+        (S.coming source.old) (S.coming source.new) (S.fault_count source.old) (S.fault_count source.new) input
+        (O.taken sink.old) (O.taken sink.new) (O.flushed sink.new) (O.fault_count sink.old) (O.fault_count sink.new) result }
 
-    // Where region and source tell, their words and bytes decide on the status, but for faults that were counted and want of memory.
-    ensures due { (path : List ℕ) → form_of (words_of words.now.items) ≡ Some (Replay path)
-        → (input : List ℕ) → S.coming source.old ≡ Some input → result.attached ≡ true → IsTelling (R.state region.new)
-        → IsDue (R.state region.new).frame.bytes (R.found region.old) input result.status
-        ⊎ IsFault (R.state region.old) (R.state region.new) (S.fault_count source.old) (S.fault_count source.new) (O.fault_count sink.old) (O.fault_count sink.new) result.status }
-    ensures attaching { result.attached ≡ false → (result.status ≡ statuses.Usage) ⊎ ((result.status ≡ statuses.Memory) ⊎ (result.status ≡ statuses.RegionFault)) }
+    // A fault comes only where its count rose.
     ensures source_fault { result.status ≡ statuses.SourceFault → Rose (S.fault_count source.old) (S.fault_count source.new) }
     ensures sink_fault { result.status ≡ statuses.SinkFault → Rose (O.fault_count sink.old) (O.fault_count sink.new) }
     ensures region_fault { result.status ≡ statuses.RegionFault → Rose (R.state region.old).faults (R.state region.new).faults }
@@ -63,6 +63,10 @@ pub fn flatstore<S: Source, O: Sink, R: SplitRegion>(
     // Nothing is written where the run didn't come to its end.
     ensures incomplete { result.complete ≡ false → sink.new ≡ sink.old }
     ensures unattached { result.attached ≡ false → result.complete ≡ false }
+
+    // Nothing is read before the region's rules are tested.
+    ensures unread { is_of_region result.status ≡ true → source.new ≡ source.old }
+    ensures unattached_unread { result.attached ≡ false → source.new ≡ source.old }
 
     // Nothing is lost or changed by a refusal.
     ensures sink_untouched { is_quiet result.status ≡ true → sink.new ≡ sink.old }

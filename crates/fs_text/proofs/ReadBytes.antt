@@ -1,14 +1,16 @@
 -- What is said of the bytes that were read is said of all that a source told.
-use Rattle.std.proofs.Common.{◌≡◌, ℕ, ◌<◌, ◌⊎◌, inl, inr, List, [], ◌++◌, length, Option, Some, None, Result, Ok, Err, sym, ap, ◌∙◌, subst, arith, append-nil}
+use Rattle.std.proofs.Common.{◌≡◌, ℕ, ◌<◌, ◌⊎◌, inl, inr, List, [], ◌++◌, length, Option, Some, None, Result, Ok, Err, sym, ap, ◌∙◌, subst, arith, append-nil, true}
 use Rattle.std.specs.Prelude.{IfSome, OnOk}
 use Rattle.fs_text.specs.declared.line.Line.{Line}
 use Rattle.fs_text.specs.declared.input.InputError.{InputError}
 use Rattle.fs_text.specs.declared.stages.Built.{Built}
 use Rattle.fs_text.specs.declared.stages.UntilError.{UntilError}
+use Rattle.fs_text.specs.declared.reading.ReadError.{ReadError}
+use Rattle.fs_text.specs.declared.reading.ReadError.TheVariants as reads
 use Rattle.fs_text.specs.Input.{input_of}
 use Rattle.fs_text.specs.Reading.{Answers}
-use Rattle.fs_text.specs.Stages.{input_or_stop, StopsAs}
-use Rattle.fs_text.specs.Streams.{Gives, IsAtEnd}
+use Rattle.fs_text.specs.Stages.{input_or_stop, StopsAs, is_said, as_until_error}
+use Rattle.fs_text.specs.Streams.{Gives, IsAtEnd, IsReadOut}
 use Rattle.fs_text.proofs.Limits.{over}
 use Rattle.fs_text.proofs.Whole.{over_input}
 
@@ -35,6 +37,18 @@ told_until (Some xs) (Some ys) v built cores r h end said =
     let same : input_or_stop built cores v ≡ input_or_stop built cores xs =
     read_same (λ zs. input_or_stop built cores zs) xs ys v h end (λ long. let (e, whole, front) = over built cores v ys long in front ∙ sym whole) in
     subst (λ s. StopsAs r s) same said
+
+-- A reading that says something of the input came to its end, or past what an input may have.
+pub read_out : (coming left : Option (List ℕ)) (v : List ℕ) → Gives coming left v → (length v < 67108865 → IsAtEnd left) → IsReadOut coming left
+read_out coming left v gives end = at_size (short_or_long (length v))
+  where
+    at_size : (length v < 67108865) ⊎ (67108864 < length v) → IsReadOut coming left
+    at_size (inl h) = (v, gives, inr (end h))
+    at_size (inr h) = (v, gives, inl h)
+
+pub never_said : (e : ReadError) → is_said {A = List Line} (Err (as_until_error e)) ≡ true → ⊥
+never_said reads.SourceFault h = cc h
+never_said reads.Memory h = cc h
 
 pub ended_until : (left : Option (List ℕ)) (v : List ℕ) (built : Built) (cores : ℕ) (r : Result (List Line) UntilError)
     → (length v < 67108865 → IsAtEnd left) → StopsAs r (input_or_stop built cores v) → OnOk r (IsAtEnd left)

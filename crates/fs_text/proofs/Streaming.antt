@@ -9,11 +9,9 @@ gives_none None = tt
 gives_none (Some xs) = refl
 
 pub gives_more : (a b c : Option (List ℕ)) (xs ys : List ℕ) → Gives a b xs → Gives b c ys → Gives a c (xs ++ ys)
-gives_more None None None xs ys h k = tt
+gives_more None b c xs ys h k = tt
 gives_more (Some us) (Some vs) (Some ws) xs ys h k = h ∙ ap (λ zs. xs ++ zs) k ∙ sym (append_assoc xs ys ws)
-gives_more None (Some vs) c xs ys h k = absurd h
 gives_more (Some us) None c xs ys h k = absurd h
-gives_more None None (Some ws) xs ys h k = absurd k
 gives_more (Some us) (Some vs) None xs ys h k = absurd k
 
 -- the same where the bytes stand in one buffer

@@ -1,5 +1,5 @@
 -- What stops the reading of an input while some forms of lines aren't built.
-use Rattle.std.specs.Prelude.{◌≡◌, ℕ, ◌+◌, nat_lt, nat_le, Bool, false, ◌&&◌, ◌||◌, not, List, [], ◌∷◌, length, Result, Ok, Err, if◌then◌else◌, bytes_eq, codes}
+use Rattle.std.specs.Prelude.{◌≡◌, ℕ, ◌+◌, nat_lt, nat_le, Bool, true, false, ◌&&◌, ◌||◌, not, List, [], ◌∷◌, length, Result, Ok, Err, if◌then◌else◌, bytes_eq, codes}
 use Rattle.fs_model.specs.declared.model.Request.{Request}
 use Rattle.fs_model.specs.declared.model.Request.TheVariants.{Put, Get, Delete}
 use Rattle.fs_text.specs.declared.line.Line.{Line}
@@ -58,6 +58,13 @@ StopsAs (Ok x) said = said ≡ Ok x
 StopsAs (Err (until.Stop stop)) said = said ≡ Err stop
 StopsAs (Err until.SourceFault) said = Unit {0}
 StopsAs (Err until.Memory) said = Unit {0}
+
+-- whether it says something of the input
+abbrev pub is_said : {A : Type 0} → Result A UntilError → Bool
+is_said (Ok x) = true
+is_said (Err (until.Stop stop)) = true
+is_said (Err until.SourceFault) = false
+is_said (Err until.Memory) = false
 
 abbrev pub as_until_error : ReadError → UntilError
 as_until_error reads.SourceFault = until.SourceFault

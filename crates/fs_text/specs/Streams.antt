@@ -1,10 +1,9 @@
 -- What a source and a sink say of themselves, where they do, and what a call makes of it.
-use Rattle.std.specs.Prelude.{◌≡◌, ℕ, List, [], ◌++◌, Option, Some, None}
+use Rattle.std.specs.Prelude.{◌≡◌, ◌⊎◌, ℕ, ◌<◌, List, [], ◌++◌, length, Option, Some, None}
 
--- What a source has left: these bytes come, and then what it has left then. One that doesn't tell says no more than that.
+-- What a source has left: these bytes come, and then what it has left then. One that tells goes on telling.
 abbrev pub Gives : Option (List ℕ) → Option (List ℕ) → List ℕ → Type 0
-Gives None None bytes = Unit {0}
-Gives None (Some rest) bytes = ⊥
+Gives None left bytes = Unit {0}
 Gives (Some coming) None bytes = ⊥
 Gives (Some coming) (Some rest) bytes = coming ≡ bytes ++ rest
 
@@ -12,6 +11,10 @@ Gives (Some coming) (Some rest) bytes = coming ≡ bytes ++ rest
 abbrev pub IsAtEnd : Option (List ℕ) → Type 0
 IsAtEnd None = Unit {0}
 IsAtEnd (Some coming) = coming ≡ []
+
+-- It was read to its end, or past the bytes that an input may have.
+abbrev pub IsReadOut : Option (List ℕ) → Option (List ℕ) → Type 0
+IsReadOut coming left = (bytes : List ℕ) × Gives coming left bytes × ((67108864 < length bytes) ⊎ IsAtEnd left)
 
 -- A sink took these bytes behind those that it had taken. It may stop telling, and doesn't begin to tell.
 abbrev pub Takes : Option (List ℕ) → Option (List ℕ) → List ℕ → Type 0

@@ -1,11 +1,11 @@
 // A whole input.
-ghost use Rattle.std.specs.Prelude.{◌≡◌, ℕ, ◌≤◌, List, OnOk, IfOk, IfSome, IsErrOf, Ok};
+ghost use Rattle.std.specs.Prelude.{◌≡◌, ℕ, ◌≤◌, List, true, OnOk, IfOk, IfSome, IsErrOf, Ok};
 ghost use Rattle.pm_region.specs.State.{Rose};
 ghost use Rattle.fs_text.specs.Bounds.{IsWithin};
 ghost use Rattle.fs_text.specs.Input.{input_of};
 ghost use Rattle.fs_text.specs.Reading.{Answers};
-ghost use Rattle.fs_text.specs.Stages.{input_or_stop, StopsAs};
-ghost use Rattle.fs_text.specs.Streams.{IsAtEnd};
+ghost use Rattle.fs_text.specs.Stages.{input_or_stop, StopsAs, is_said};
+ghost use Rattle.fs_text.specs.Streams.{IsAtEnd, IsReadOut};
 
 use crate::fields::first_line;
 use crate::line::Line;
@@ -136,6 +136,7 @@ pub fn read_until<S: Source>(
     ensures some { (bytes : List ℕ) × StopsAs result (input_or_stop built cores bytes) }
     ensures within { IfOk result (λ input. IsWithin cores input) }
     ensures end { OnOk result (IsAtEnd (S.coming source.new)) }
+    ensures whole { is_said result ≡ true → IsReadOut (S.coming source.old) (S.coming source.new) }
     ensures cause { IsErrOf result UntilError.SourceFault → Rose (S.fault_count source.old) (S.fault_count source.new) }
     ensures count { S.fault_count source.old ≤ S.fault_count source.new }
 {

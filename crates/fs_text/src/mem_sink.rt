@@ -48,6 +48,7 @@ impl MemSink {
     // Counts a call, and fails where its number is in the list.
     fn count_call(&mut self) -> Result<(), SinkFault>
         ensures store { self.new.store ≡ self.old.store }
+        ensures flushed { self.new.flushed ≡ self.old.flushed }
         ensures cause { OnErr result (Rose self.old.faults self.new.faults) }
         ensures count { self.old.faults ≤ self.new.faults }
     {

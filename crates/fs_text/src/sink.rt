@@ -1,5 +1,5 @@
 // Where an output goes.
-ghost use Rattle.std.specs.Prelude.{◌≡◌, ℕ, ◌<◌, ◌≤◌, List, [], Option, Bool, true, length, take, IfOk, OnOk, OnErr};
+ghost use Rattle.std.specs.Prelude.{◌≡◌, ℕ, ◌<◌, ◌≤◌, List, [], Option, Bool, true, false, length, take, IfOk, OnOk, OnErr};
 ghost use Rattle.pm_region.specs.State.{Rose};
 ghost use Rattle.fs_text.specs.Streams.{Takes};
 
@@ -28,6 +28,7 @@ pub trait Sink {
         ensures some { IfOk result (λ n. 0 < length bytes.now → 0 < n) }
         ensures takes { IfOk result (λ n. Takes (taken self.old) (taken self.new) (take n bytes.now)) }
         ensures err { OnErr result (Takes (taken self.old) (taken self.new) []) }
+        ensures unflushed { flushed self.new ≡ false }
         ensures cause { OnErr result (Rose (fault_count self.old) (fault_count self.new)) }
         ensures count { fault_count self.old ≤ fault_count self.new };
 

@@ -1,5 +1,5 @@
 // Where an input comes from.
-ghost use Rattle.std.specs.Prelude.{◌≡◌, ℕ, ◌<◌, ◌≤◌, List, Option, length, take, IfOk, OnErr};
+ghost use Rattle.std.specs.Prelude.{◌≡◌, ℕ, ◌<◌, ◌≤◌, List, [], Option, length, take, IfOk, OnErr};
 ghost use Rattle.pm_region.specs.State.{Rose};
 ghost use Rattle.fs_text.specs.Streams.{Gives, IsAtEnd};
 
@@ -24,7 +24,7 @@ pub trait Source {
         ensures within { IfOk result (λ n. n ≤ length buf.new) }
         ensures gives { IfOk result (λ n. Gives (coming self.old) (coming self.new) (take n buf.new)) }
         ensures end { IfOk result (λ n. n ≡ 0 → 0 < length buf.old → IsAtEnd (coming self.new)) }
-        ensures err { OnErr result (coming self.new ≡ coming self.old) }
+        ensures err { OnErr result (Gives (coming self.old) (coming self.new) []) }
         ensures cause { OnErr result (Rose (fault_count self.old) (fault_count self.new)) }
         ensures count { fault_count self.old ≤ fault_count self.new };
 

@@ -1,11 +1,14 @@
 // A writer of std as a sink.
-ghost use Rattle.std.specs.Prelude.{◌≡◌, ◌≤◌, length, None, IfSome};
+ghost use Rattle.std.specs.Prelude.{◌≡◌, ◌<◌, ◌≤◌, [], true, false, length, take, None, IfOk, OnOk, OnErr, IfSome, IfNone};
+ghost use Rattle.std.specs.Io.KnownBytes.{Appends};
 ghost use Rattle.pm_region.specs.State.{Rose};
+ghost use Rattle.fs_text.specs.Streams.{Takes};
 
 use crate::sink::{Sink, SinkFault};
 use std::io::{ErrorKind, Write};
 
-/// A writer of std. It tells nothing of what it took.
+/// A writer of std. It tells nothing of what it took, but for the clauses of `write` and `flush`: what the writer holds
+/// grows by the bytes that were answered as taken, where the writer tells.
 #[derive(Drop)]
 pub struct StdSink<T: Write + Drop> {
     writer: T,
@@ -28,6 +31,8 @@ impl<T: Write + Drop> StdSink<T> {
 
     // Counts a fault.
     fn fail(&mut self) -> SinkFault
+        ensures writer { self.new.writer ≡ self.old.writer }
+        ensures flushed { self.new.flushed ≡ self.old.flushed }
         ensures cause { Rose self.old.faults self.new.faults }
         ensures count { self.old.faults ≤ self.new.faults }
     {
@@ -43,11 +48,24 @@ impl<T: Write + Drop> Sink for StdSink<T> {
 
     ghost fault_count = { λ s. s.faults };
 
-    fn write(&mut self, bytes: &[u8]) -> Result<usize, SinkFault> {
+    fn write(&mut self, bytes: &[u8]) -> Result<usize, SinkFault>
+        // What is asked of every sink.
+        ensures within { IfOk result (λ n. n ≤ length bytes.now) }
+        ensures some { IfOk result (λ n. 0 < length bytes.now → 0 < n) }
+        ensures takes { IfOk result (λ n. Takes None None (take n bytes.now)) }
+        ensures err { OnErr result (Takes None None []) }
+        ensures unflushed { self.new.flushed ≡ false }
+        ensures cause { OnErr result (Rose self.old.faults self.new.faults) }
+        ensures count { self.old.faults ≤ self.new.faults }
+        // What the writer took is what was answered, and nothing where it failed.
+        ensures taken { IfOk result (λ n. Appends (T.contents self.old.writer) (T.contents self.new.writer) (take n bytes.now)) }
+        ensures untaken { OnErr result (Appends (T.contents self.old.writer) (T.contents self.new.writer) []) }
+    {
         self.flushed = false;
         match write_retrying(&mut self.writer, bytes) {
-            Some(count) if count > 0 || bytes.is_empty() => Ok(count),
-            _ => Err(self.fail()),
+            None => Err(self.fail()),
+            Some(0) if !bytes.is_empty() => Err(self.fail()),
+            Some(count) => Ok(count),
         }
     }
 
@@ -66,7 +84,9 @@ impl<T: Write + Drop> Sink for StdSink<T> {
 
 // Writes once, and again where a signal interrupts it. None where it failed.
 fn write_retrying<T: Write>(writer: &mut T, bytes: &[u8]) -> Option<usize>
-    ensures { IfSome result (λ n. n ≤ length bytes.now) }
+    ensures within { IfSome result (λ n. n ≤ length bytes.now) }
+    ensures taken { IfSome result (λ n. Appends (T.contents writer.old) (T.contents writer.new) (take n bytes.now)) }
+    ensures failed { IfNone result (Appends (T.contents writer.old) (T.contents writer.new) []) }
 {
     for _ in 0..u64::MAX {
         match writer.write(bytes) {

@@ -1,10 +1,11 @@
 // A reader of std as a source.
-ghost use Rattle.std.specs.Prelude.{◌≡◌, ◌≤◌, length, None, IfSome};
+ghost use Rattle.std.specs.Prelude.{◌≡◌, ◌<◌, ◌≤◌, [], length, take, IfSome, IfNone};
+ghost use Rattle.fs_text.specs.Streams.{Gives, IsAtEnd};
 
 use crate::source::{Source, SourceFault};
 use std::io::{ErrorKind, Read};
 
-/// A reader of std. It tells nothing of what is to come.
+/// A reader of std. It tells what is to come where the reader does.
 #[derive(Drop)]
 pub struct StdSource<T: Read + Drop> {
     reader: T,
@@ -14,14 +15,15 @@ pub struct StdSource<T: Read + Drop> {
 impl<T: Read + Drop> StdSource<T> {
     /// A source that reads from this reader. A read that a signal interrupts is tried again.
     pub fn over(reader: T) -> StdSource<T>
-        ensures { result.faults ≡ 0 }
+        ensures reader { result.reader ≡ reader }
+        ensures faults { result.faults ≡ 0 }
     {
         StdSource { reader, faults: 0 }
     }
 }
 
 impl<T: Read + Drop> Source for StdSource<T> {
-    ghost coming = { λ s. None };
+    ghost coming = { λ s. T.remaining s.reader };
 
     ghost fault_count = { λ s. s.faults };
 
@@ -42,7 +44,10 @@ impl<T: Read + Drop> Source for StdSource<T> {
 
 // Reads once, and again where a signal interrupts it. None where it failed.
 fn read_retrying<T: Read>(reader: &mut T, buf: &mut [u8]) -> Option<usize>
-    ensures { IfSome result (λ n. n ≤ length buf.new) }
+    ensures within { IfSome result (λ n. n ≤ length buf.new) }
+    ensures gives { IfSome result (λ n. Gives (T.remaining reader.old) (T.remaining reader.new) (take n buf.new)) }
+    ensures end { IfSome result (λ n. n ≡ 0 → 0 < length buf.old → IsAtEnd (T.remaining reader.new)) }
+    ensures failed { IfNone result (Gives (T.remaining reader.old) (T.remaining reader.new) []) }
 {
     for _ in 0..u64::MAX {
         match reader.read(buf) {

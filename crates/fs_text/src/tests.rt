@@ -7,6 +7,8 @@ use crate::{
 use fs_model::{Reply, Request, Value};
 use log_entry::entry::{Body, Entry};
 use std::alloc::{AllocError, Global};
+use std::io;
+use std::io::Write;
 use std::test::Fail;
 
 fn value(alloc: Global, text: &str) -> Result<Value, AllocError> {
@@ -318,6 +320,31 @@ fn tally(rt: HostRuntime) -> Result<(), Fail> {
     let text = "requests 200000\nstored 100000\nvalue 47500\nabsent 30000\n\
         deleted 22500\nrefused 0\nlive 7500\nbytes 173099\n";
     assert_eq!(rt; sink.text(), Some(text.as_bytes()));
+    Ok(())
+}
+
+// A writer that takes all, and whose flush fails.
+#[derive(Drop)]
+struct Unflushed;
+
+impl Write for Unflushed {
+    fn write(&mut self, buf: &[u8]) -> io::Result<usize> {
+        Ok(buf.len())
+    }
+
+    fn flush(&mut self) -> io::Result<()> {
+        Err(io::Error::from(io::ErrorKind::BrokenPipe))
+    }
+}
+
+// The flush of a sink is the flush of its writer.
+#[test]
+fn flushes_the_writer(rt: HostRuntime) -> Result<(), Fail> {
+    let alloc = rt.alloc();
+    let mut sink = StdSink::over(Unflushed);
+    let outcome = write_replies(alloc, &mut sink, &[Reply::Absent]);
+    assert_eq!(rt; outcome.err(), Some(OutError::SinkFault));
+    assert_eq!(rt; sink.faults(), 1);
     Ok(())
 }
 

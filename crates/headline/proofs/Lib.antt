@@ -3,3 +3,4 @@ pub mod Run
 pub mod Crash
 pub mod Images
 pub mod Steady
+pub mod Counted

@@ -11,6 +11,7 @@ use Rattle.chunk_map.specs.Layouts.{layout_of}
 use Rattle.store_image.specs.Winners.{winner, recovered}
 use Rattle.store_image.specs.Soundness.{IsSound}
 use Rattle.fs_text.specs.Output.{replies_text}
+use Rattle.headline.specs.Kinds.{AreReplies}
 use Rattle.pm_region.specs.State.{State, IsTold, IsTelling, MayLeave, cell_now}
 
 -- what an image recovers, by the layout that it has
@@ -32,18 +33,19 @@ refused_in r = map (λ x. x.0) r.refusals
 abbrev pub changes_in : (ℕ → Option (List ℕ)) → List Request → Told → ℕ → List Request
 changes_in start trace r k = changes_of (start k) k trace (finished_in r) (refused_in r)
 
--- Replies that a run may give. One is `Stopped` only for a cause.
-pub record Answers (start : ℕ → Option (List ℕ)) (trace : List Request) (r : Told) (MayStop : Type 0) (replies : List Reply) : Type 0 where
-  pub lawful : IsLawful start trace replies
+-- Replies that a run may give, which are lawful where the cells are known: where the region tells. One is `Stopped` only for a cause.
+pub record Answers (Known : Type 0) (start : ℕ → Option (List ℕ)) (trace : List Request) (r : Told) (MayStop : Type 0) (replies : List Reply) : Type 0 where
+  pub each : AreReplies trace replies
+  pub lawful : Known → IsLawful start trace replies
   pub fits : Fits (finished_in r) r.refusals replies
   pub stops : AllByRecursion (λ x. is_stopped x ≡ true → MayStop) replies
 
 -- bytes that are the text of such replies, or begin it
-abbrev pub WritesReplies : (ℕ → Option (List ℕ)) → List Request → Told → Type 0 → List ℕ → Type 0
-WritesReplies start trace r MayStop bytes = (replies : List Reply) × Answers start trace r MayStop replies × (bytes ≡ replies_text replies)
+abbrev pub WritesReplies : Type 0 → (ℕ → Option (List ℕ)) → List Request → Told → Type 0 → List ℕ → Type 0
+WritesReplies Known start trace r MayStop bytes = (replies : List Reply) × Answers Known start trace r MayStop replies × (bytes ≡ replies_text replies)
 
-abbrev pub BeginsReplies : (ℕ → Option (List ℕ)) → List Request → Told → Type 0 → List ℕ → Type 0
-BeginsReplies start trace r MayStop bytes = (more : List ℕ) × WritesReplies start trace r MayStop (bytes ++ more)
+abbrev pub BeginsReplies : Type 0 → (ℕ → Option (List ℕ)) → List Request → Told → Type 0 → List ℕ → Type 0
+BeginsReplies Known start trace r MayStop bytes = (more : List ℕ) × WritesReplies Known start trace r MayStop (bytes ++ more)
 
 -- One image: it is sound, and recovers for each key the cell after its first f changes, or after one more
 pub record Recovers (bytes : ℕ) (start : ℕ → Option (List ℕ)) (trace : List Request) (r : Told) (f : ℕ → ℕ) (image : ℕ → ℕ) : Type 0 where

@@ -4,3 +4,4 @@ pub mod Growing
 pub mod Requests
 pub mod Cases
 pub mod Roomy
+pub mod Counted

@@ -12,6 +12,7 @@ use Rattle.core_store.specs.Keeps.{Keeps}
 use Rattle.core_store.specs.Stock.{Stock, stock_of}
 use Rattle.serial_engine.specs.Answers.{told_by}
 use Rattle.serial_engine.specs.Refusals.{stock_after, refusals_from}
+use Rattle.serial_engine.specs.Counting.{CountsList}
 use Rattle.serial_engine.specs.declared.run.Run.{Run}
 
 -- each image of each moment from s0 on recovers what the report so far says
@@ -63,6 +64,7 @@ pub record AnswersSome (old new : State) (e e' : Run) (qs : List Request) : Type
   pub rest : List Request
   pub all : qs ≡ front ++ rest
   pub answers : AnswersList old new e e' front
+  pub counts : CountsList e e' front
 
 -- calls of the region went from the one state to the other
 abbrev pub Runs : State → State → Type 0

@@ -5,6 +5,7 @@ ghost use Rattle.core_store.specs.Ready.{Ready};
 ghost use Rattle.core_store.specs.Keeps.{Keeps};
 ghost use Rattle.core_store.specs.declared.types.Shortage.{Shortage};
 ghost use Rattle.core_store.specs.Stock.{stock_of, class_held, why_put, why_delete};
+ghost use Rattle.serial_engine.specs.Counting.{Counts};
 ghost use Rattle.serial_engine.specs.Going.{Going};
 
 use crate::answers::Answers;
@@ -27,6 +28,7 @@ impl Run {
     ghost use Rattle.fs_model.specs.declared.model.Request.TheVariants.{Put, Get, Delete};
     ghost use Rattle.fs_model.specs.declared.model.Reply.TheVariants.{Stopped};
     ghost use Rattle.serial_engine.specs.Answers.{HasRoom, Replies, Finishes};
+    ghost use Rattle.serial_engine.specs.Counting.{CountsOne, CountsNone, CountsList};
     ghost use Rattle.serial_engine.specs.Going.{IsReady, Runs, AnswersOne, AnswersNone, AnswersList, AnswersSome};
 
     // A change that was tried is finished at this stamp, or the store stops.
@@ -52,6 +54,7 @@ impl Run {
         requires ready { Ready (R.state region.now) self.old.store }
         ensures ok { OnOk result (AnswersOne (R.state region.now) (R.state region.now) self.old self.new (Get key)) }
         ensures err { OnErr result (self.new ≡ self.old) }
+        ensures counts { OnOk result (CountsOne self.old self.new (Get key)) }
         ensures store { self.new.store ≡ self.old.store }
         ensures stopped { self.new.stopped ≡ false }
     {
@@ -72,6 +75,8 @@ impl Run {
         requires ready { Ready (R.state region.old) self.old.store }
         ensures ok { OnOk result (AnswersOne (R.state region.old) (R.state region.new) self.old self.new (Put key value)) }
         ensures err { OnErr result (AnswersNone (R.state region.old) (R.state region.new) self.old self.new) }
+        ensures counts { OnOk result (CountsOne self.old self.new (Put key value)) }
+        ensures counts_none { OnErr result (CountsNone self.old self.new) }
         // A refusal leaves store and region as they were.
         ensures refused { (cause : Shortage) → why_put self.old.store.log.layout (stock_of self.old.store) key (length value) ≡ Some cause → (self.new.store ≡ self.old.store) × (R.state region.new ≡ R.state region.old) }
         ensures ready { IsReady (R.state region.new) self.new }
@@ -95,6 +100,8 @@ impl Run {
         requires ready { Ready (R.state region.old) self.old.store }
         ensures ok { OnOk result (AnswersOne (R.state region.old) (R.state region.new) self.old self.new (Delete key)) }
         ensures err { OnErr result (AnswersNone (R.state region.old) (R.state region.new) self.old self.new) }
+        ensures counts { OnOk result (CountsOne self.old self.new (Delete key)) }
+        ensures counts_none { OnErr result (CountsNone self.old self.new) }
         // A refusal leaves store and region as they were, and so does the delete of a key without a value.
         ensures refused { (cause : Shortage) → why_delete (stock_of self.old.store) ≡ Some cause → (self.new.store ≡ self.old.store) × (R.state region.new ≡ R.state region.old) }
         ensures absent { is_some (class_held self.old.store key) ≡ false → (self.new.store ≡ self.old.store) × (R.state region.new ≡ R.state region.old) }
@@ -126,6 +133,9 @@ impl Run {
         requires ready { IsReady (R.state region.old) self.old }
         ensures ok { OnOk result (AnswersOne (R.state region.old) (R.state region.new) self.old self.new request) }
         ensures err { OnErr result (AnswersNone (R.state region.old) (R.state region.new) self.old self.new) }
+        // Whatever the region tells.
+        ensures counts { OnOk result (CountsOne self.old self.new request) }
+        ensures counts_none { OnErr result (CountsNone self.old self.new) }
         ensures ready { IsReady (R.state region.new) self.new }
         ensures run { Runs (R.state region.old) (R.state region.new) }
         ensures cause { self.old.stopped ≡ false → self.new.stopped ≡ true → Rose (R.state region.old).faults (R.state region.new).faults }
@@ -153,6 +163,8 @@ impl Run {
         requires ready { IsReady (R.state region.old) self.old }
         ensures ok { OnOk result (AnswersList (R.state region.old) (R.state region.new) self.old self.new requests.items) }
         ensures err { OnErr result (AnswersSome (R.state region.old) (R.state region.new) self.old self.new requests.items) }
+        // Whatever the region tells.
+        ensures counts { OnOk result (CountsList self.old self.new requests.items) }
         ensures ready { IsReady (R.state region.new) self.new }
         ensures run { Runs (R.state region.old) (R.state region.new) }
         ensures cause { self.old.stopped ≡ false → self.new.stopped ≡ true → Rose (R.state region.old).faults (R.state region.new).faults }
@@ -168,6 +180,7 @@ impl Run {
 pub fn begin(alloc: Global, store: Store) -> Run
     ensures going { (s : State) (cells : ℕ → Option (List ℕ)) → Ready s store → Keeps s store cells
         → Going (record { at = s; layout = store.log.layout; cells = cells; stock = stock_of store }) s [] result }
+    ensures counts { Counts [] result }
     ensures store { result.store ≡ store }
     ensures stopped { result.stopped ≡ false }
 {

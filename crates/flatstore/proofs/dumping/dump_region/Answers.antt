@@ -3,19 +3,29 @@ use Rattle.std.proofs.Common.{List, subst}
 use Rattle.fs_model.specs.declared.model.Pair.{Pair}
 use Rattle.flatstore.specs.Dumps.{HasDumped}
 use Rattle.flatstore.proofs.Listed.{dumps_none, dumps_pairs}
+use Rattle.flatstore.proofs.Opened.{attaches_once, no_more}
 use Rattle.flatstore.proofs.dumping.dump_region.Goals as goal
 
 pub returns-in-Err-clause-promise : goal.returns-in-Err-clause-promise
 returns-in-Err-clause-promise g c =
-    dumps_none (g.R.Region.state c.args.region.now) (g.R.Region.state c.attach.new.self) (g.R.SplitRegion.found c.args.region.now) c.in-Ok.ensures.ok
-    (g.O.Sink.taken c.args.sink.now) (g.O.Sink.fault_count c.args.sink.now) c.in-Err.status c.in-Err.ensures.err c.of-in-Err.result c.of-in-Err.ensures.status c.of-in-Err.ensures.complete
+    let old = g.R.Region.state c.args.region.now in
+    let at = g.R.Region.state c.attach.new.self in
+    let found = g.R.SplitRegion.found c.args.region.now in
+    dumps_none old at found c.in-Ok.ensures.ok
+    (g.O.Sink.taken c.args.sink.now) (g.O.Sink.flushed c.args.sink.now) (g.O.Sink.fault_count c.args.sink.now) c.in-Err.status c.in-Err.ensures.err c.of-in-Err.result c.of-in-Err.ensures.status c.of-in-Err.ensures.complete
+    (attaches_once old at at found c.attach.result _ c.in-Ok.is c.attach.ensures.cause c.in-Ok.ensures.ok c.attach.ensures.opens (no_more at) c.of-in-Err.result c.of-in-Err.ensures.attached)
 
 pub returns-in-Ok-live_pairs-clause-promise : goal.returns-in-Ok-live_pairs-clause-promise
 returns-in-Ok-live_pairs-clause-promise g c =
+    let old = g.R.Region.state c.args.region.now in
+    let at = g.R.Region.state c.attach.new.self in
+    let found = g.R.SplitRegion.found c.args.region.now in
     let before = g.O.Sink.taken c.args.sink.now in
     let now = g.O.Sink.taken c.write_dump.new.sink in
+    let flushed = g.O.Sink.flushed c.write_dump.new.sink in
     let count = g.O.Sink.fault_count c.args.sink.now in
     let count' = g.O.Sink.fault_count c.write_dump.new.sink in
-    dumps_pairs (g.R.Region.state c.args.region.now) (g.R.Region.state c.attach.new.self) (g.R.SplitRegion.found c.args.region.now) c.in-Ok.ensures.ok
-    c.in-Ok-live_pairs.pairs.items c.in-Ok-live_pairs.ensures.ok before now count count' c.write_dump.result
-    (subst (λ (ps : List Pair). HasDumped ps before now count count' c.write_dump.result.status) c.deref.ensures.value c.write_dump.ensures.written)
+    dumps_pairs old at found c.in-Ok.ensures.ok
+    c.in-Ok-live_pairs.pairs.items c.in-Ok-live_pairs.ensures.ok before now flushed count count' c.write_dump.result
+    (subst (λ (ps : List Pair). HasDumped ps before now flushed count count' c.write_dump.result.status) c.deref.ensures.value c.write_dump.ensures.written) c.write_dump.ensures.complete
+    (attaches_once old at at found c.attach.result _ c.in-Ok.is c.attach.ensures.cause c.in-Ok.ensures.ok c.attach.ensures.opens (no_more at) c.write_dump.result c.write_dump.ensures.attached)

@@ -1,55 +1,34 @@
 -- The promise, where requests were answered and where none was.
-use Rattle.std.proofs.Common.{◌⊎◌, refl, sym, ap, subst}
-use Rattle.pm_region.specs.State.{State, IsTelling}
-use Rattle.store_image.specs.Soundness.{IsSound}
+use Rattle.std.proofs.Common.{List, ℕ, refl, sym, ap, subst}
 use Rattle.serial_engine.specs.Answers.{told}
-use Rattle.flatstore.specs.Promise.{Replays, IsDue, IsFault}
-use Rattle.flatstore.proofs.Replaying.{played_replays, played_due}
-use Rattle.flatstore.proofs.Refused.{some_input, refused_replays, refused_due}
+use Rattle.flatstore.specs.Promise.{IsInput, Replays}
+use Rattle.flatstore.proofs.Replaying.{played_replays}
+use Rattle.flatstore.proofs.Refused.{refused_replays}
 use Rattle.flatstore.proofs.playing.replay_region.Goals as goal
 
 pub returns-in-Err-clause-replay : goal.returns-in-Err-clause-replay
-returns-in-Err-clause-replay g c = λ attached sound.
+returns-in-Err-clause-replay g c = λ attached.
     let old = g.R.Region.state c.args.region.now in
     let found = g.R.SplitRegion.found c.args.region.now in
     let coming = g.S.Source.coming c.args.source.now in
+    let left = g.S.Source.coming c.replay.new.source in
+    let count = g.S.Source.fault_count c.args.source.now in
+    let count' = g.S.Source.fault_count c.replay.new.source in
     let text = g.O.Sink.taken c.args.sink.now in
-    let faults = g.O.Sink.fault_count c.args.sink.now in
-    let same = c.in-Err.ensures.untouched in
-    let input = some_input coming in (
-      input.0,
-      input.1,
-      subst (λ s. Replays old s found input.0 text text faults faults c.of-in-Err.result) (ap g.R.Region.state (sym same))
-          (refused_replays old (g.R.Region.state c.attach.new.self) found c.in-Ok.ensures.ok coming (g.S.Source.fault_count c.args.source.now) (g.S.Source.fault_count c.replay.new.source) c.in-Err.status c.in-Err.ensures.refused
-          c.of-in-Err.result c.of-in-Err.ensures.status c.of-in-Err.ensures.finishes c.of-in-Err.ensures.refusals c.of-in-Err.ensures.complete input.0 text faults (subst (λ (s : State). IsSound s.frame.bytes found) (ap g.R.Region.state same) sound)),
-    )
+    let flushed = g.O.Sink.flushed c.args.sink.now in
+    let sink = g.O.Sink.fault_count c.args.sink.now in
+    subst (λ s. (input : List ℕ) × IsInput coming input × Replays old s found coming left count count' input text text flushed sink sink c.of-in-Err.result) (ap g.R.Region.state (sym c.in-Err.ensures.untouched))
+    (refused_replays old (g.R.Region.state c.attach.new.self) found c.in-Ok.ensures.ok coming left count count' c.in-Err.status c.in-Err.ensures.refused
+    c.of-in-Err.result c.of-in-Err.ensures.status c.of-in-Err.ensures.finishes c.of-in-Err.ensures.refusals c.of-in-Err.ensures.began c.of-in-Err.ensures.complete text flushed sink)
 
 pub returns-in-Ok-replay-clause-replay : goal.returns-in-Ok-replay-clause-replay
-returns-in-Ok-replay-clause-replay g c = λ attached sound.
+returns-in-Ok-replay-clause-replay g c = λ attached.
     let P = c.in-Ok-replay.ensures.played in (
       P.read.input,
       P.read.is_input,
       played_replays (g.R.Region.state c.args.region.now) (g.R.Region.state c.attach.new.self) (g.R.Region.state c.replay.new.region) (g.R.SplitRegion.found c.args.region.now) c.in-Ok.ensures.ok
-          (g.S.Source.coming c.args.source.now) (g.O.Sink.taken c.args.sink.now) (g.O.Sink.taken c.write.new.sink) (g.O.Sink.fault_count c.args.sink.now) (g.O.Sink.fault_count c.write.new.sink) c.in-Ok-replay.ended c.write.result.status
-          P c.write.ensures.written c.write.result refl (λ i. told (c.write.ensures.finishes i) (c.write.ensures.refusals i)) c.write.ensures.refusals c.write.ensures.complete c.attach.ensures.cause.later,
+          (g.S.Source.coming c.args.source.now) (g.S.Source.coming c.replay.new.source) (g.O.Sink.taken c.args.sink.now) (g.O.Sink.taken c.write.new.sink) (g.O.Sink.flushed c.write.new.sink)
+          (g.O.Sink.fault_count c.args.sink.now) (g.O.Sink.fault_count c.write.new.sink) c.in-Ok-replay.ended c.write.result.status
+          P c.write.ensures.written c.write.result refl (λ i. told (c.write.ensures.finishes i) (c.write.ensures.refusals i)) c.write.ensures.refusals c.write.ensures.began c.write.ensures.complete c.attach.ensures.cause.later
+          (g.S.Source.fault_count c.args.source.now) (g.S.Source.fault_count c.replay.new.source),
     )
-
-pub returns-in-Err-clause-due : goal.returns-in-Err-clause-due
-returns-in-Err-clause-due g c = λ input is attached telling.
-    let old = g.R.Region.state c.args.region.now in
-    let s = g.R.Region.state c.attach.new.self in
-    let found = g.R.SplitRegion.found c.args.region.now in
-    let source = g.S.Source.fault_count c.args.source.now in
-    let source' = g.S.Source.fault_count c.replay.new.source in
-    let sink = g.O.Sink.fault_count c.args.sink.now in
-    let same = ap g.R.Region.state (sym c.in-Err.ensures.untouched) in
-    subst (λ (t : State). IsDue t.frame.bytes found input c.of-in-Err.result.status ⊎ IsFault old t source source' sink sink c.of-in-Err.result.status) same
-    (subst (λ st. IsDue s.frame.bytes found input st ⊎ IsFault old s source source' sink sink st) (sym c.of-in-Err.ensures.status)
-    (refused_due old s found c.in-Ok.ensures.ok (g.S.Source.coming c.args.source.now) source source' c.in-Err.status c.in-Err.ensures.refused input is (subst IsTelling (sym same) telling) sink sink))
-
-pub returns-in-Ok-replay-clause-due : goal.returns-in-Ok-replay-clause-due
-returns-in-Ok-replay-clause-due g c = λ input is attached telling.
-    played_due (g.R.Region.state c.args.region.now) (g.R.Region.state c.attach.new.self) (g.R.Region.state c.replay.new.region) (g.R.SplitRegion.found c.args.region.now) c.in-Ok.ensures.ok
-    (g.S.Source.coming c.args.source.now) (g.O.Sink.taken c.args.sink.now) (g.O.Sink.taken c.write.new.sink) (g.O.Sink.fault_count c.args.sink.now) (g.O.Sink.fault_count c.write.new.sink) c.in-Ok-replay.ended c.write.result.status
-    c.in-Ok-replay.ensures.played c.write.ensures.written c.write.result refl (λ i. told (c.write.ensures.finishes i) (c.write.ensures.refusals i)) c.write.ensures.refusals c.write.ensures.complete c.attach.ensures.cause.later
-    (g.S.Source.fault_count c.args.source.now) (g.S.Source.fault_count c.replay.new.source) input is telling c.attach.ensures.cause.later

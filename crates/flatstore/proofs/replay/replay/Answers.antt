@@ -1,11 +1,13 @@
 -- A region that is recovered, and an input that is read.
-use Rattle.std.proofs.Common.{inr, subst}
+use Rattle.std.proofs.Common.{◌≡◌, Bool, true, false, inr, sym, ◌∙◌, subst}
 use Rattle.pm_region.specs.Words.{lasts}
 use Rattle.chunk_map.specs.Layouts.{layout_of}
 use Rattle.core_store.specs.Stock.{stock_of}
 use Rattle.headline.specs.Headline.{cells_of}
 use Rattle.flatstore.specs.Played.{HasAnswered}
 use Rattle.flatstore.proofs.Openings.{found_sound, found_one}
+use Rattle.flatstore.specs.Ordering.{is_of_region}
+use Rattle.flatstore.proofs.Refused.{unread_apart}
 use Rattle.flatstore.proofs.replay.replay.Goals as goal
 
 pub returns-in-Err-read-clause-refused : goal.returns-in-Err-read-clause-refused
@@ -27,8 +29,17 @@ returns-in-Ok-open_store-clause-played g c =
       read = c.in-Ok-read.ensures.ok;
       run = c.answer.ensures.run;
       cause = c.answer.ensures.cause;
+      more = c.answer.ensures.answered.0;
+      counted = c.answer.ensures.answered.1;
       answered = λ telling.
-          subst (λ b. HasAnswered s t (cells_of (lasts s)) (layout_of (lasts s)) b c.in-Ok-read.requests.items c.answer.result) (E.stock telling)
-          (subst (λ l. HasAnswered s t (cells_of (lasts s)) l (stock_of c.in-Ok-open_store.store) c.in-Ok-read.requests.items c.answer.result) (E.layout telling)
-          (c.answer.ensures.answered (cells_of (lasts s)) (E.keeps telling)));
+          subst (λ b. HasAnswered s t (cells_of (lasts s)) (layout_of (lasts s)) b c.in-Ok-read.requests.items c.answer.ensures.answered.0 c.answer.result) (E.stock telling)
+          (subst (λ l. HasAnswered s t (cells_of (lasts s)) l (stock_of c.in-Ok-open_store.store) c.in-Ok-read.requests.items c.answer.ensures.answered.0 c.answer.result) (E.layout telling)
+          (c.answer.ensures.answered.2 (cells_of (lasts s)) (E.keeps telling)));
     }
+
+pub returns-in-Err-read-clause-unread : goal.returns-in-Err-read-clause-unread
+returns-in-Err-read-clause-unread g c = λ broken. both (is_of_region c.in-Err-read.status) broken
+    (unread_apart (g.S.Source.coming c.args.source.now) (g.S.Source.coming c.read.new.source) (g.S.Source.fault_count c.args.source.now) (g.S.Source.fault_count c.read.new.source) c.in-Err-read.status c.in-Err-read.ensures.err)
+  where
+    both : (b : Bool) {P : Type 0} → b ≡ true → b ≡ false → P
+    both b t f = cc (sym t ∙ f)

@@ -1,11 +1,12 @@
 -- A delete finds no value, or is refused, or admitted and then tried.
-use Rattle.std.proofs.Common.{sym, ◌∙◌, ap, None}
+use Rattle.std.proofs.Common.{refl, sym, ◌∙◌, ap, None}
 use Rattle.std.specs.Prelude.{is_some}
 use Rattle.fs_model.specs.declared.model.Request.TheVariants.{Delete}
 use Rattle.fs_model.specs.declared.model.Reply.TheVariants as replies
 use Rattle.core_store.specs.Stock.{Stock, stock_of, why_delete, after_delete}
 use Rattle.serial_engine.proofs.Requests.{quiet_one, refused_one, changed_one, none_one}
 use Rattle.serial_engine.proofs.Cases.{on_ok, always_err, is_live, delete_changing, delete_quiet, delete_refusable, delete_absent, delete_refused, delete_done}
+use Rattle.serial_engine.proofs.Counted.{quiet_counts, refusal_counts, delete_refusal_is, changed_counts}
 use Rattle.serial_engine.proofs.run.Run.delete.Goals as goal
 
 pub returns-then-not-is_live-clause-ok : goal.returns-then-not-is_live-clause-ok
@@ -39,3 +40,13 @@ returns-clause-ok g c =
 
 pub returns-in_err-admit-clause-err : goal.returns-in_err-admit-clause-err
 returns-in_err-admit-clause-err g c = always_err c.from_residual.result (none_one (g.R.Region.state c.args.region.now) c.args.self.now c.admit.new.self (c.admit.ensures.keeps (g.R.Region.state c.args.region.now)) c.admit.ensures.stock c.admit.ensures.layout)
+
+pub returns-then-not-is_live-clause-counts : goal.returns-then-not-is_live-clause-counts
+returns-then-not-is_live-clause-counts g c = quiet_counts c.args.self.now (record { store = c.args.self.now.store; answers = c.reply.new.self; stopped = c.args.self.now.stopped }) (Delete c.args.key) replies.Absent refl c.reply.ensures refl refl (λ goes. (c.requires.going, refl))
+
+pub returns-in-Some-clause-counts : goal.returns-in-Some-clause-counts
+returns-in-Some-clause-counts g c = refusal_counts c.args.self.now (record { store = c.args.self.now.store; answers = c.refuse.new.self; stopped = c.args.self.now.stopped }) (Delete c.args.key) c.in-Some.why
+    (delete_refusal_is (stock_of c.args.self.now.store) c.args.key c.in-Some.why (sym c.delete_refusal.ensures ∙ c.in-Some.is)) c.refuse.ensures c.requires.going
+
+pub returns-clause-counts : goal.returns-clause-counts
+returns-clause-counts g c = changed_counts c.delete-outcome.result c.args.self.now c.conclude.new.self (Delete c.args.key) replies.Deleted c.stamp.result refl refl refl refl c.requires.going c.conclude.ensures.finished c.conclude.ensures.failed

@@ -1,10 +1,11 @@
 -- A put is refused, or admitted and then tried.
-use Rattle.std.proofs.Common.{◌≡◌, length, sym, ◌∙◌, ap, Some, None, Option}
+use Rattle.std.proofs.Common.{refl, ◌≡◌, length, sym, ◌∙◌, ap, Some, None, Option}
 use Rattle.fs_model.specs.declared.model.Request.TheVariants.{Put}
 use Rattle.fs_model.specs.declared.model.Reply.TheVariants as replies
 use Rattle.core_store.specs.Stock.{stock_of, why_put, after_put}
 use Rattle.serial_engine.proofs.Requests.{refused_one, changed_one, none_one}
 use Rattle.serial_engine.proofs.Cases.{on_ok, always_err, put_changes, put_refusable, put_refused, put_stored}
+use Rattle.serial_engine.proofs.Counted.{refusal_counts, put_refusal_is, changed_counts}
 use Rattle.serial_engine.proofs.run.Run.put.Goals as goal
 
 pub returns-in-Some-clause-ok : goal.returns-in-Some-clause-ok
@@ -42,3 +43,9 @@ returns-in_err-admit-clause-refused g c = λ cause is. unrefused _ cause _
 pub returns-clause-refused : goal.returns-clause-refused
 returns-clause-refused g c = λ cause is. unrefused _ cause _
     (ap (λ v. why_put c.args.self.now.store.log.layout (stock_of c.args.self.now.store) c.args.key (length v)) (sym c.bytes.ensures) ∙ sym c.put_refusal.ensures ∙ c.in_default.is) is
+
+pub returns-in-Some-clause-counts : goal.returns-in-Some-clause-counts
+returns-in-Some-clause-counts g c = refusal_counts c.args.self.now (record { store = c.args.self.now.store; answers = c.refuse.new.self; stopped = c.args.self.now.stopped }) (Put c.args.key c.args.value) c.in-Some.why (put_refusal_is c.args.key c.args.value c.in-Some.why) c.refuse.ensures c.requires.going
+
+pub returns-clause-counts : goal.returns-clause-counts
+returns-clause-counts g c = changed_counts c.put-outcome.result c.args.self.now c.conclude.new.self (Put c.args.key c.args.value) replies.Stored c.stamp.result refl refl refl refl c.requires.going c.conclude.ensures.finished c.conclude.ensures.failed

@@ -1,0 +1,40 @@
+-- How often a call opens its region, and what it leaves of one that it doesn't open.
+use Rattle.std.specs.Prelude.{◌≡◌, ◌⊎◌, ℕ, true, false}
+use Rattle.pm_region.specs.State.{State, Rose}
+use Rattle.pm_region.specs.Split.{Attached, Stays, IsOpenedOnceMore, IsNotOpened}
+use Rattle.chunk_map.specs.declared.layouts.Geometry.{Geometry}
+use Rattle.chunk_map.specs.Layouts.{total_bytes}
+use Rattle.serial_engine.specs.Going.{Runs}
+use Rattle.flatstore.specs.declared.report.Status.{Status}
+use Rattle.flatstore.specs.declared.report.Status.TheVariants as statuses
+use Rattle.flatstore.specs.declared.report.Report.{Report}
+
+-- It was opened once, with these words, and all that was done to it was done from that moment on.
+pub record GoesOnFrom (old new : State) (bytes : ℕ) (image : ℕ → ℕ) : Type 0 where
+  pub at : State
+  pub attached : Attached old at bytes image
+  pub once : IsOpenedOnceMore old at
+  pub granted : at.frame.refusals ≡ old.frame.refusals
+  pub on : Runs at new
+
+-- It stays as it was: nobody tried to open it, or that was refused.
+pub record IsUnopened (old new : State) : Type 0 where
+  pub stays : Stays old new
+  pub tried : IsNotOpened old new ⊎ IsOpenedOnceMore old new
+
+-- There was no memory, or the opening itself failed.
+abbrev pub HasNotOpened : State → State → Status → Type 0
+HasNotOpened old new status =
+    (status ≡ statuses.Memory) ⊎ ((status ≡ statuses.RegionFault) × IsOpenedOnceMore old new × Rose old.frame.refusals new.frame.refusals)
+
+-- A replay and a dump attach the region once, or leave it as it was.
+pub record Attaches (old new : State) (found : ℕ → ℕ) (r : Report) : Type 0 where
+  pub attached : r.attached ≡ true → GoesOnFrom old new new.frame.bytes found
+  pub unattached : r.attached ≡ false → IsUnopened old new
+  pub cause : r.attached ≡ false → HasNotOpened old new r.status
+
+-- A format creates the region once, or leaves it as it was, or its one try to create it failed.
+pub record Creates (old new : State) (l : Geometry) (r : Report) : Type 0 where
+  pub created : r.attached ≡ true → GoesOnFrom old new (total_bytes l) (λ w. 0)
+  pub uncreated : r.attached ≡ false → IsUnopened old new ⊎ IsOpenedOnceMore old new
+  pub cause : r.attached ≡ false → HasNotOpened old new r.status

@@ -1,0 +1,127 @@
+-- The order of a replay's work: attaching, the region's rules, reading the source to its end, the input's rules, the run, the writing.
+use Rattle.std.specs.Prelude.{◌≡◌, ◌⊎◌, ℕ, List, ◌==◌, not, Bool, true, false, Option, Some, None, Result, Ok, Err, if◌then◌else◌}
+use Rattle.pm_region.specs.State.{State, IsTelling, Rose}
+use Rattle.pm_region.specs.Split.{Attached}
+use Rattle.fs_text.specs.declared.line.Line.{Line}
+use Rattle.fs_text.specs.declared.stages.Built.{Built}
+use Rattle.fs_text.specs.declared.stages.Stop.{Stop}
+use Rattle.fs_text.specs.declared.stages.Stop.TheVariants as stops
+use Rattle.fs_text.specs.Stages.{input_or_stop}
+use Rattle.fs_text.specs.Streams.{IsReadOut}
+use Rattle.store_image.specs.declared.types.Fault.{Fault}
+use Rattle.store_image.specs.Soundness.{IsSound, first_fault}
+use Rattle.flatstore.specs.Statuses.{fault_status}
+use Rattle.flatstore.specs.declared.report.Status.{Status}
+use Rattle.flatstore.specs.declared.report.Status.TheVariants as statuses
+use Rattle.flatstore.specs.declared.report.Report.{Report}
+
+-- what is built: all but `go` lines
+abbrev pub built_now : Built
+built_now = record { delete = true; go = false; blocks = true }
+
+abbrev pub status_of : Result (List Line) Stop → Status
+status_of (Ok lines) = statuses.Done
+status_of (Err (stops.Bad line rule)) = statuses.BadInput line rule
+status_of (Err (stops.NotBuilt line)) = statuses.NotBuilt line
+
+-- the status that the words found and the input alone decide: several cores are not served yet
+abbrev pub due : (ℕ → ℕ) → List ℕ → Option Fault → Status
+due found input (Some fault) = fault_status fault
+due found input None = if found 2 == 1 then status_of (input_or_stop built_now 1 input) else statuses.NotBuilt 0
+
+abbrev pub IsDue : ℕ → (ℕ → ℕ) → List ℕ → Status → Type 0
+IsDue bytes found input status = status ≡ due found input (first_fault bytes found)
+
+-- a fault, or want of memory
+abbrev pub IsFault : State → State → ℕ → ℕ → ℕ → ℕ → Status → Type 0
+IsFault old new source source' sink sink' status =
+    (status ≡ statuses.Memory) ⊎ (((status ≡ statuses.SourceFault) × Rose source source') ⊎ (((status ≡ statuses.SinkFault) × Rose sink sink') ⊎ ((status ≡ statuses.RegionFault) × Rose old.faults new.faults)))
+
+-- a status at which nothing was written and no word of the region changed
+abbrev pub is_quiet : Status → Bool
+is_quiet statuses.Done = false
+is_quiet statuses.Usage = true
+is_quiet (statuses.BadInput line rule) = true
+is_quiet statuses.SourceFault = true
+is_quiet statuses.SinkFault = false
+is_quiet statuses.RegionFault = false
+is_quiet (statuses.Damaged part chunk rule) = true
+is_quiet (statuses.NotARegion rule) = true
+is_quiet statuses.Memory = false
+is_quiet (statuses.NotBuilt line) = true
+
+-- a line stops the reading
+abbrev pub is_stop : Result (List Line) Stop → Bool
+is_stop (Ok lines) = false
+is_stop (Err stop) = true
+
+-- a status that a broken rule of the region decides, or its cores: nothing is read then
+abbrev pub is_of_region : Status → Bool
+is_of_region statuses.Done = false
+is_of_region statuses.Usage = false
+is_of_region (statuses.BadInput line rule) = false
+is_of_region statuses.SourceFault = false
+is_of_region statuses.SinkFault = false
+is_of_region statuses.RegionFault = false
+is_of_region (statuses.Damaged part chunk rule) = true
+is_of_region (statuses.NotARegion rule) = true
+is_of_region statuses.Memory = false
+is_of_region (statuses.NotBuilt line) = line == 0
+
+-- a status that a line of the input decides
+abbrev pub is_of_line : Status → Bool
+is_of_line statuses.Done = false
+is_of_line statuses.Usage = false
+is_of_line (statuses.BadInput line rule) = true
+is_of_line statuses.SourceFault = false
+is_of_line statuses.SinkFault = false
+is_of_line statuses.RegionFault = false
+is_of_line (statuses.Damaged part chunk rule) = false
+is_of_line (statuses.NotARegion rule) = false
+is_of_line statuses.Memory = false
+is_of_line (statuses.NotBuilt line) = not (line == 0)
+
+-- a status of a run that came to its end, without a failed call of the region
+abbrev pub is_whole : Status → Bool
+is_whole statuses.Done = true
+is_whole statuses.Usage = false
+is_whole (statuses.BadInput line rule) = false
+is_whole statuses.SourceFault = false
+is_whole statuses.SinkFault = true
+is_whole statuses.RegionFault = false
+is_whole (statuses.Damaged part chunk rule) = false
+is_whole (statuses.NotARegion rule) = false
+is_whole statuses.Memory = false
+is_whole (statuses.NotBuilt line) = false
+
+-- a status of the run or of the writing, where it didn't lack memory
+abbrev pub is_of_run : Status → Bool
+is_of_run statuses.Done = true
+is_of_run statuses.Usage = false
+is_of_run (statuses.BadInput line rule) = false
+is_of_run statuses.SourceFault = false
+is_of_run statuses.SinkFault = true
+is_of_run statuses.RegionFault = true
+is_of_run (statuses.Damaged part chunk rule) = false
+is_of_run (statuses.NotARegion rule) = false
+is_of_run statuses.Memory = false
+is_of_run (statuses.NotBuilt line) = false
+
+-- the region keeps its rules, where it tells, and has one core
+abbrev pub IsServed : State → (ℕ → ℕ) → Type 0
+IsServed s found = IsTelling s → IsSound s.frame.bytes found × (found 2 ≡ 1)
+
+-- What an end says of the work before it. Before the run begins no word of the region changes.
+pub record KeepsOrder (old new : State) (found : ℕ → ℕ) (coming left : Option (List ℕ)) (input : List ℕ) (r : Report) : Type 0 where
+  pub untouched : r.began ≡ false → Attached old new new.frame.bytes found
+  -- The rules of the region go before the source,
+  pub source : r.status ≡ statuses.SourceFault → IsServed new found
+  -- and both before the rules of the input, which are those of all of it.
+  pub line : is_of_line r.status ≡ true → IsServed new found × IsReadOut coming left × (r.status ≡ status_of (input_or_stop built_now 1 input))
+  -- All of these go before the run,
+  pub began : r.began ≡ true → IsServed new found × IsReadOut coming left × (is_stop (input_or_stop built_now 1 input) ≡ false)
+  pub unbegun : is_quiet r.status ≡ true → r.began ≡ false
+  -- and the whole run before the writing.
+  pub run : is_of_run r.status ≡ true → r.began ≡ true
+  pub written : r.complete ≡ true → r.began ≡ true
+  pub whole : is_whole r.status ≡ true → r.complete ≡ true
