@@ -6,7 +6,6 @@ use Rattle.std.proofs.lemmas.Bool.{cases_eq, eqb-true, eq-eqb, ne_eqb, cond-true
 use Rattle.std.proofs.lemmas.List.{append_assoc, take_more}
 use Rattle.log_entry.specs.declared.entry.EntryName.{EntryName}
 use Rattle.core_index.specs.declared.types.Head.{Head}
-use Rattle.core_index.specs.declared.notices.Notice.{Notice}
 use Rattle.core_index.specs.declared.types.Record.{Record}
 use Rattle.core_index.specs.declared.types.Standee.{Standee}
 use Rattle.core_index.specs.declared.types.Standing.{Standing}
@@ -40,18 +39,18 @@ settled_index es fs b c k now dead is step only mortal added kept spare =
     let room = is.spare in
     index_step es fs b c k dead is (λ j ne. ap known_in (step.others j ne)) only added kept (omega (arith, sum, a, mortal, spare, room))
 
+abbrev pub KeepsNames : Book → Book → Type 0
+KeepsNames b c = (h : ℕ) (n : EntryName) → Noted b h n → Noted c h n
+
 -- more room alone
-pub roomier : (es : List (ℕ × Place)) (b c : Book) → IsIndex es b → c.lists ≡ b.lists → b.spare ≤ c.spare → IsIndex es c
-roomier es b c is same le = record {
-  noted = λ k v h waits. subst (λ (ls : List (List Notice)). Noted (record { lists = ls; spare = c.spare }) h (name_with k v)) (sym same) (is.noted k v h waits);
+pub roomier : (es : List (ℕ × Place)) (b c : Book) → IsIndex es b → KeepsNames b c → b.spare ≤ c.spare → IsIndex es c
+roomier es b c is kept le = record {
+  noted = λ k v h waits. kept h (name_with k v) (is.noted k v h waits);
   spare = let s = is.spare in omega (arith, s, le);
 }
 
-pub lists_kept : (b c : Book) → c.lists ≡ b.lists → (h : ℕ) (n : EntryName) → Noted b h n → Noted c h n
-lists_kept b c same h n noted = subst (λ (ls : List (List Notice)). Noted (record { lists = ls; spare = c.spare }) h n) (sym same) noted
-
 -- a key's record stays, and its room grows by one
-pub admitted_index : {T E : Type 0} (r : Result T E) (es fs : List (ℕ × Place)) (b c : Book) (k : ℕ) → IsIndex es b → OnOk r (Step es fs k (Some (record { known = known_at es k; room = room_at es k + 1 }))) → OnErr r (fs ≡ es) → c.lists ≡ b.lists → c.spare ≡ b.spare + 1 → IsIndex fs c
+pub admitted_index : {T E : Type 0} (r : Result T E) (es fs : List (ℕ × Place)) (b c : Book) (k : ℕ) → IsIndex es b → OnOk r (Step es fs k (Some (record { known = known_at es k; room = room_at es k + 1 }))) → OnErr r (fs ≡ es) → KeepsNames b c → c.spare ≡ b.spare + 1 → IsIndex fs c
 admitted_index (Err e) es fs b c k is ok err same spare = subst (λ (xs : List (ℕ × Place)). IsIndex xs c) (sym err) (roomier es b c is same (omega (arith, spare)))
 admitted_index (Ok x) es fs b c k is step err same spare =
     let wider : IsIndex es c = roomier es b c is same (omega (arith, spare)) in
