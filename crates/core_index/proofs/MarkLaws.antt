@@ -8,14 +8,14 @@ use Rattle.std.specs.BTreeMap.{insert_entry}
 use Rattle.std.specs.Ordering.{nat_cmp, match_ordering}
 use Rattle.std.specs.declared.cmp.Ordering.{Ordering}
 use Rattle.std.specs.declared.cmp.Ordering.TheVariants.{Less, Equal, Greater}
-use Rattle.std.proofs.lemmas.Bool.{eqb-true, eqb-false, eq-eqb, ne_eqb, lt-ltb, le-ltb, ltb-true, cond-true, cond-false, cases_eq, cases_lt}
+use Rattle.std.proofs.lemmas.Bool.{eqb-true, eqb-false, eq-eqb, ne_eqb, le-ltb, cond-true, cond-false, cases_eq, cases_lt}
 use Rattle.std.proofs.lemmas.Map.Keys.{sorted_head, sorted_tail}
 use Rattle.std.proofs.lemmas.List.{take_more, append_assoc, length-append}
 use Rattle.core_index.specs.declared.types.Marked.{Marked}
 use Rattle.core_index.specs.declared.types.Standee.{Standee}
 use Rattle.core_index.specs.declared.types.Standing.{Standing}
 use Rattle.core_index.specs.Records.{standing_with, standing_at, stands_alone, told, others, homes_of, untold_at, by_version, untold}
-use Rattle.core_index.specs.Marks.{kept, marked, mark_of, Rises, IsPlace, IsAbsent, AreMarks, Gathering}
+use Rattle.core_index.specs.Marks.{kept, marked, mark_of, Rises, IsAbsent, AreMarks, Gathering}
 
 -- an element behind another is greater
 above_at : (w : ℕ) (ms : List Marked) (j : ℕ) (d : Marked) → AllByRecursion (λ (x : Marked). w < x.entry.version) ms → j < length ms → w < (get_or ms j d).entry.version
@@ -44,12 +44,12 @@ pub absent_from : (ms : List Marked) (v at : ℕ) → Rises ms → ((k : ℕ) (d
 absent_from ms v at rises less more ne = all_from (λ (m : Marked). m.entry.version ≢ v) ms (λ k d within e. ⊎_elim
     (λ (lt : k < at). let is = less k d lt in absurd (omega (arith, is, e)))
     (λ (ge : at ≤ k). ⊎_elim
-        (λ (same : k ≡ at). ne (subst (λ (n : ℕ). n < length ms) same within) d (ap (λ (n : ℕ). (get_or ms n d).entry.version) (sym same) ∙ e))
-        (λ (other : k ≢ at). ⊎_elim
-            (λ (lt : at < k). let first = more at d (omega arith) (omega (arith, lt, within)) in let is = rises_pair ms at k d rises lt within in absurd (omega (arith, first, is, e)))
-            (λ (le : k ≤ at). absurd (other (omega (arith, le, ge))))
-            (cases_lt at k))
-        (cases_eq k at))
+    (λ (same : k ≡ at). ne (subst (λ (n : ℕ). n < length ms) same within) d (ap (λ (n : ℕ). (get_or ms n d).entry.version) (sym same) ∙ e))
+    (λ (other : k ≢ at). ⊎_elim
+    (λ (lt : at < k). let first = more at d (omega arith) (omega (arith, lt, within)) in let is = rises_pair ms at k d rises lt within in absurd (omega (arith, first, is, e)))
+    (λ (le : k ≤ at). absurd (other (omega (arith, le, ge))))
+    (cases_lt at k))
+    (cases_eq k at))
     (cases_lt k at))
 
 -- What a list without a version does.

@@ -1,12 +1,12 @@
 -- Names in places that are linked in chains.
-use Rattle.std.proofs.Common.{◌≡◌, ◌≢◌, ◌⊎◌, inl, inr, ⊎_elim, ℕ, zero, suc, ◌+◌, ◌-◌, ◌%◌, ◌≤◌, ◌<◌, ◌==◌, true, false, List, [], ◌∷◌, ◌++◌, length, get_or, Option, Some, None, refl, sym, ◌∙◌, ap, subst, arith, slice_set}
+use Rattle.std.proofs.Common.{◌≡◌, ◌≢◌, ◌⊎◌, inl, inr, ⊎_elim, ℕ, zero, suc, ◌+◌, ◌-◌, ◌%◌, ◌≤◌, ◌<◌, true, List, [], ◌∷◌, ◌++◌, length, get_or, Option, Some, None, refl, sym, ◌∙◌, ap, subst, arith, slice_set}
 use Rattle.std.specs.Option.{IsSome}
 use Rattle.std.specs.List.{AllByRecursion}
-use Rattle.std.proofs.lemmas.List.{length-append, length-set, get_or-set_same, get_or-set_other, get_or_append_left, get_or-append-add, get_or_default}
+use Rattle.std.proofs.lemmas.List.{length-append, length-set, get_or-set_same, get_or-set_other, get_or_append_left, get_or-append-add}
 use Rattle.std.proofs.lemmas.Bool.{cases_eq, cases_lt, eqb-true, eq-eqb}
 use Rattle.log_entry.specs.declared.entry.EntryName.{EntryName}
 use Rattle.core_index.specs.declared.notices.Node.{Node}
-use Rattle.core_index.specs.Noted.{Book, Noted, node_with, bare, home_at, name_at, next_at, is_for, IsFor, LacksHome, chain_of, Follows, In, Lacks, Once, IsChain, AreChains, one_used, count_used, IsBook, Grows}
+use Rattle.core_index.specs.Noted.{Book, Noted, node_with, bare, home_at, name_at, next_at, is_for, LacksHome, chain_of, Follows, In, Lacks, Once, IsChain, AreChains, one_used, count_used, IsBook, Grows}
 
 lacks_class : (ns : List Node) (i c : ℕ) (xs : List ℕ) → AllByRecursion (λ (x : ℕ). chain_of (home_at ns x) ≡ c) xs → chain_of (home_at ns i) ≢ c → Lacks i xs
 lacks_class ns i c [] own ne = tt
@@ -148,14 +148,14 @@ chains_moved ns hs a i n are lt first ne next =
           (λ (other : c ≢ b).
           let skip : get_or (slice_set gs b (Some i)) c d ≡ get_or gs c d = get_or-set_other gs b c (Some i) d other in
           subst (λ (o : Option ℕ). IsChain ms o c) (sym skip) (⊎_elim
-              (λ (e : c ≡ a).
-              let ch : IsChain ms (next_at ns i) a = chain_shorter ns ms i a (get_or hs a None) f from (first None) (λ q. ne (sym class ∙ q)) in
-              subst (λ (k : ℕ). IsChain ms (get_or gs k d) k) (sym e) (subst (λ (o : Option ℕ). IsChain ms o a) (sym (get_or-set_same hs a (next_at ns i) d in_a)) ch))
-              (λ (third : c ≢ a).
-              let was = are.each c d within in
-              let ch : IsChain ms (get_or hs c d) c = chain_other ns ms i c (get_or hs c d) f was (lacks_class ns i c was.numbers was.own (λ q. third (sym q ∙ old))) (λ q. other (sym q ∙ class)) in
-              subst (λ (o : Option ℕ). IsChain ms o c) (sym (get_or-set_other hs a c (next_at ns i) d third)) ch)
-              (cases_eq c a)))
+          (λ (e : c ≡ a).
+          let ch : IsChain ms (next_at ns i) a = chain_shorter ns ms i a (get_or hs a None) f from (first None) (λ q. ne (sym class ∙ q)) in
+          subst (λ (k : ℕ). IsChain ms (get_or gs k d) k) (sym e) (subst (λ (o : Option ℕ). IsChain ms o a) (sym (get_or-set_same hs a (next_at ns i) d in_a)) ch))
+          (λ (third : c ≢ a).
+          let was = are.each c d within in
+          let ch : IsChain ms (get_or hs c d) c = chain_other ns ms i c (get_or hs c d) f was (lacks_class ns i c was.numbers was.own (λ q. third (sym q ∙ old))) (λ q. other (sym q ∙ class)) in
+          subst (λ (o : Option ℕ). IsChain ms o c) (sym (get_or-set_other hs a c (next_at ns i) d third)) ch)
+          (cases_eq c a)))
           (cases_eq c b);
     }
 
@@ -336,15 +336,15 @@ taken_noted ns ms ls k f home used less spare next more name in_k in_f at_k over
     let some : Some h ≡ Some home = sym noted.home_is ∙ ap (home_at ns) e ∙ at_k in
     inl (cc some, sym noted.name_is ∙ ap (name_at ns) e))
     (λ (ne : noted.at ≢ k). ⊎_elim
-        (λ (e : noted.at ≡ f).
-        let apart : k ≢ f = λ q. ne (e ∙ sym q) in
-        let here : get_or ls k bare ≡ node_with (name_at ns f) (home_at ns f) next = ap (λ (xs : List Node). get_or xs k bare) free ∙ get_or-set_other ms f k (node_with name None more) bare apart ∙ ap (λ (xs : List Node). get_or xs k bare) over ∙ get_or-set_same ns k (node_with (name_at ns f) (home_at ns f) next) bare in_k in
-        inr (record { at = k; within = omega (arith, long_l, long_m, in_k); home_is = ap (λ (x : Node). x.home) here ∙ ap (home_at ns) (sym e) ∙ noted.home_is; name_is = ap (λ (x : Node). x.name) here ∙ ap (name_at ns) (sym e) ∙ noted.name_is }))
-        (λ (other : noted.at ≢ f).
-        let same : get_or ls noted.at bare ≡ get_or ns noted.at bare = ap (λ (xs : List Node). get_or xs noted.at bare) free ∙ get_or-set_other ms f noted.at (node_with name None more) bare other ∙ ap (λ (xs : List Node). get_or xs noted.at bare) over ∙ get_or-set_other ns k noted.at (node_with (name_at ns f) (home_at ns f) next) bare ne in
-        let w = noted.within in
-        inr (record { at = noted.at; within = omega (arith, long_l, long_m, w); home_is = ap (λ (x : Node). x.home) same ∙ noted.home_is; name_is = ap (λ (x : Node). x.name) same ∙ noted.name_is }))
-        (cases_eq noted.at f))
+    (λ (e : noted.at ≡ f).
+    let apart : k ≢ f = λ q. ne (e ∙ sym q) in
+    let here : get_or ls k bare ≡ node_with (name_at ns f) (home_at ns f) next = ap (λ (xs : List Node). get_or xs k bare) free ∙ get_or-set_other ms f k (node_with name None more) bare apart ∙ ap (λ (xs : List Node). get_or xs k bare) over ∙ get_or-set_same ns k (node_with (name_at ns f) (home_at ns f) next) bare in_k in
+    inr (record { at = k; within = omega (arith, long_l, long_m, in_k); home_is = ap (λ (x : Node). x.home) here ∙ ap (home_at ns) (sym e) ∙ noted.home_is; name_is = ap (λ (x : Node). x.name) here ∙ ap (name_at ns) (sym e) ∙ noted.name_is }))
+    (λ (other : noted.at ≢ f).
+    let same : get_or ls noted.at bare ≡ get_or ns noted.at bare = ap (λ (xs : List Node). get_or xs noted.at bare) free ∙ get_or-set_other ms f noted.at (node_with name None more) bare other ∙ ap (λ (xs : List Node). get_or xs noted.at bare) over ∙ get_or-set_other ns k noted.at (node_with (name_at ns f) (home_at ns f) next) bare ne in
+    let w = noted.within in
+    inr (record { at = noted.at; within = omega (arith, long_l, long_m, w); home_is = ap (λ (x : Node). x.home) same ∙ noted.home_is; name_is = ap (λ (x : Node). x.name) same ∙ noted.name_is }))
+    (cases_eq noted.at f))
     (cases_eq noted.at k)
   where
     long_m : length ms ≡ length ns
@@ -375,9 +375,9 @@ taken_count ns ms ls k f home n m in_k in_f at_k one same none over free =
     let e = ap count_used free in
     let g = ap one_used none in
     let h : one_used (home_at ms f) ≡ 1 = ⊎_elim
-        (λ (q : f ≡ k). ap (λ (xs : List Node). one_used (home_at xs f)) over ∙ ap (λ (j : ℕ). one_used (home_at (slice_set ns k n) j)) q ∙ ap (λ (x : Node). one_used x.home) (get_or-set_same ns k n bare in_k) ∙ one)
-        (λ (ne : f ≢ k). ap (λ (xs : List Node). one_used (home_at xs f)) over ∙ ap (λ (x : Node). one_used x.home) (get_or-set_other ns k f n bare ne) ∙ ap one_used (sym same) ∙ one)
-        (cases_eq f k) in
+    (λ (q : f ≡ k). ap (λ (xs : List Node). one_used (home_at xs f)) over ∙ ap (λ (j : ℕ). one_used (home_at (slice_set ns k n) j)) q ∙ ap (λ (x : Node). one_used x.home) (get_or-set_same ns k n bare in_k) ∙ one)
+    (λ (ne : f ≢ k). ap (λ (xs : List Node). one_used (home_at xs f)) over ∙ ap (λ (x : Node). one_used x.home) (get_or-set_other ns k f n bare ne) ∙ ap one_used (sym same) ∙ one)
+    (cases_eq f k) in
     omega (arith, a, b, c, d, e, g, h, one)
 
 pub taken_book : (ns ls : List Node) (hs gs : List (Option ℕ)) (used spare : ℕ) → IsBook ns hs used spare → AreChains ls gs → length ls ≡ length ns → count_used ls + 1 ≡ count_used ns → IsBook ls gs (used - 1) spare

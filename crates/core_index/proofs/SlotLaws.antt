@@ -1,11 +1,9 @@
 -- What a key's calls make of its record.
-use Rattle.std.proofs.Common.{◌≡◌, ◌≢◌, inl, inr, ⊎_elim, ℕ, suc, ◌+◌, ◌≤◌, ◌<◌, ◌==◌, nat_lt, Bool, true, false, cond, ◌&&◌, ◌||◌, not, List, [], ◌∷◌, ◌++◌, length, get_or, take, drop, map, Option, Some, None, refl, sym, ◌∙◌, ap, subst, arith, slice_set}
+use Rattle.std.proofs.Common.{◌≡◌, ◌≢◌, inl, inr, ⊎_elim, ℕ, ◌+◌, ◌≤◌, ◌==◌, nat_lt, Bool, true, false, cond, ◌&&◌, ◌||◌, List, [], ◌∷◌, ◌++◌, Option, Some, None, refl, sym, ◌∙◌, ap, subst, arith}
 use Rattle.std.specs.List.{AllByRecursion}
-use Rattle.std.proofs.lemmas.List.{set_split, drop_more}
-use Rattle.std.proofs.lemmas.Bool.{eq-eqb, ne_eqb, cond-true, cond-false}
+use Rattle.std.proofs.lemmas.Bool.{ne_eqb, cond-false}
 use Rattle.log_entry.specs.declared.entry.Body.{Body}
 use Rattle.core_index.specs.declared.types.Head.{Head}
-use Rattle.core_index.specs.declared.types.Standee.{Standee}
 use Rattle.core_index.specs.declared.types.Standing.{Standing}
 use Rattle.core_index.specs.Records.{KeyRecord, standing_with, standing_at, is_tombstone, stands_alone, is_dead, Awaits, last_of, told, told_in, others}
 use Rattle.core_index.specs.Slots.{record_with, known_with, AreBelow, home_in, home_alive, alive_at, count_of, standee_with, count_dead, dead_by, died, OnlyDead, TellsOne, IsSlot}

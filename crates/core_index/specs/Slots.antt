@@ -1,5 +1,5 @@
 -- What the index keeps of a key: its record, where it has one, and room for changes to come.
-use Rattle.std.specs.Prelude.{◌≡◌, ◌≢◌, ℕ, ◌+◌, ◌≤◌, ◌==◌, List, [], length, Option, Some, None, option_map, if◌then◌else◌, ◌⊎◌}
+use Rattle.std.specs.Prelude.{◌≡◌, ◌≢◌, ℕ, ◌+◌, ◌≤◌, ◌==◌, List, [], Option, Some, None, option_map, if◌then◌else◌, ◌⊎◌}
 use Rattle.std.specs.List.{AllByRecursion}
 use Rattle.core_index.specs.declared.types.Head.{Head}
 use Rattle.core_index.specs.declared.types.Standee.{Standee}

@@ -1,6 +1,4 @@
-use Rattle.std.proofs.Common.{[], refl, sym, ap, rules}
-use Rattle.std.proofs.lemmas.List.{append-nil}
-use Rattle.core_index.specs.Records.{homes_of}
+use Rattle.std.proofs.Common.{rules}
 use Rattle.core_index.proofs.MarkLaws.{gathered_more, gathered_all}
 use Rattle.core_index.proofs.entries.homes_of.Goals as goal
 

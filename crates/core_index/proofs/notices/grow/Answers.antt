@@ -1,4 +1,4 @@
-use Rattle.std.proofs.Common.{◌≡◌, ◌<◌, ◌++◌, ◌∷◌, [], ℕ, List, length, get_or, Option, Some, None, refl, sym, subst, arith, rules, slice_set}
+use Rattle.std.proofs.Common.{◌≡◌, ◌<◌, ◌++◌, ◌∷◌, [], ℕ, List, length, get_or, Some, None, refl, sym, subst, arith, rules, slice_set}
 use Rattle.std.proofs.lemmas.List.{get_or_read}
 use Rattle.core_index.specs.declared.notices.Node.{Node}
 use Rattle.core_index.specs.Noted.{node_with, name_with, AreChains, Grows}

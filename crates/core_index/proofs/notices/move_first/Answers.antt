@@ -1,4 +1,4 @@
-use Rattle.std.proofs.Common.{◌≡◌, ◌<◌, ℕ, List, length, get_or, Option, Some, None, sym, ◌∙◌, ap, subst, arith, rules, vec_len, slice_set}
+use Rattle.std.proofs.Common.{◌≡◌, ◌<◌, ℕ, length, get_or, Option, Some, None, sym, ◌∙◌, ap, subst, arith, rules, vec_len, slice_set}
 use Rattle.std.proofs.lemmas.List.{get_or_read}
 use Rattle.core_index.specs.declared.notices.Node.{Node}
 use Rattle.core_index.specs.Noted.{node_with, bare, chain_of, AreChains}

@@ -1,8 +1,6 @@
-use Rattle.std.proofs.Common.{◌≡◌, ◌+◌, ◌<◌, ◌≤◌, ◌∷◌, [], ℕ, List, length, get_or, take, sym, ◌∙◌, ap, subst, arith, rules}
+use Rattle.std.proofs.Common.{◌+◌, ◌∷◌, [], length, get_or, take, sym, ◌∙◌, ap, subst, arith}
 use Rattle.std.specs.List.{AllByRecursion}
-use Rattle.std.proofs.lemmas.List.{length-append, take_all}
-use Rattle.core_index.specs.declared.types.Marked.{Marked}
-use Rattle.core_index.specs.declared.types.Standing.{Standing}
+use Rattle.std.proofs.lemmas.List.{length-append}
 use Rattle.core_index.specs.Records.{KeyRecord}
 use Rattle.core_index.specs.Marks.{kept, marked}
 use Rattle.core_index.specs.Slots.{record_with}

@@ -1,7 +1,6 @@
-use Rattle.std.proofs.Common.{◌≡◌, ◌<◌, ◌-◌, List, length, get_or, Option, Some, None, Bool, true, false, cond, refl, sym, ◌∙◌, ap, subst, arith, rules, slice_set}
+use Rattle.std.proofs.Common.{◌≡◌, List, get_or, Some, None, Bool, cond, sym, ◌∙◌, ap, subst}
 use Rattle.std.proofs.lemmas.List.{get_or_read}
 use Rattle.core_index.specs.declared.types.Marked.{Marked}
-use Rattle.core_index.specs.declared.types.Standing.{Standing}
 use Rattle.core_index.specs.Records.{standing_at}
 use Rattle.core_index.specs.Marks.{Marks, kept, marked, IsPlace, IsAbsent}
 use Rattle.core_index.proofs.MarkLaws.{kept_at, absent_at}

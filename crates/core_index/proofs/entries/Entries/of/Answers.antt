@@ -1,4 +1,4 @@
-use Rattle.std.proofs.Common.{◌≡◌, length, map, sym, ◌∙◌, ap, rules}
+use Rattle.std.proofs.Common.{map, ◌∙◌, ap, rules}
 use Rattle.core_index.specs.Records.{untold_at}
 use Rattle.core_index.specs.Marks.{kept}
 use Rattle.core_index.proofs.MarkLaws.{made_marks, kept_marks}

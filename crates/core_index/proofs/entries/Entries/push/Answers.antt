@@ -1,4 +1,4 @@
-use Rattle.std.proofs.Common.{◌≡◌, ◌+◌, ◌<◌, ◌^◌, ◌++◌, ◌∷◌, [], length, false, sym, ◌∙◌, ap, arith, rules, vec_len}
+use Rattle.std.proofs.Common.{◌≡◌, ◌+◌, ◌<◌, ◌^◌, ◌++◌, ◌∷◌, [], length, false, ◌∙◌, ap, arith, rules, vec_len}
 use Rattle.core_index.specs.Records.{standing_with}
 use Rattle.core_index.specs.Marks.{Marks, kept, marked}
 use Rattle.core_index.proofs.MarkLaws.{kept_short, kept_push, pushed_marks}

@@ -1,7 +1,6 @@
-use Rattle.std.proofs.Common.{◌≡◌, ◌<◌, ◌-◌, List, length, get_or, Option, Some, None, Bool, true, false, cond, refl, sym, ◌∙◌, ap, subst, arith, rules, slice_set}
+use Rattle.std.proofs.Common.{◌≡◌, List, get_or, true, false, sym, ◌∙◌, ap, subst, arith, slice_set}
 use Rattle.std.proofs.lemmas.List.{get_or_read}
 use Rattle.core_index.specs.declared.types.Marked.{Marked}
-use Rattle.core_index.specs.declared.types.Standing.{Standing}
 use Rattle.core_index.specs.Records.{others}
 use Rattle.core_index.specs.Marks.{Marks, kept, marked, IsPlace, IsAbsent}
 use Rattle.core_index.proofs.MarkLaws.{gone_mark, gone_kept, gone_already, gone_length, gone_marks, absent_others}

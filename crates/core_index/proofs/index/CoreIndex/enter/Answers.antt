@@ -1,4 +1,4 @@
-use Rattle.std.proofs.Common.{◌≡◌, ℕ, length, ◌∙◌, ap, arith, rules, vec_len}
+use Rattle.std.proofs.Common.{◌≡◌, ℕ, ap, arith}
 use Rattle.log_entry.specs.declared.entry.EntryName.{EntryName}
 use Rattle.core_index.specs.Slots.{Place}
 use Rattle.core_index.specs.Noted.{Noted}

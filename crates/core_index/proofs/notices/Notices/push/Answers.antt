@@ -1,4 +1,4 @@
-use Rattle.std.proofs.Common.{◌≡◌, ◌+◌, ◌-◌, ◌<◌, ℕ, List, length, get_or, Option, Some, None, refl, sym, ◌∙◌, ap, subst, arith, rules, slice_set}
+use Rattle.std.proofs.Common.{◌≡◌, ◌+◌, ◌-◌, ◌<◌, ℕ, length, get_or, Option, Some, None, refl, sym, ◌∙◌, ap, subst, arith, slice_set}
 use Rattle.std.proofs.lemmas.List.{get_or_read}
 use Rattle.core_index.specs.Noted.{Book, Noted, node_with, home_at, chain_of}
 use Rattle.core_index.proofs.NoticeLaws.{first_of, free_home, never_full, some_from, put_book, put_noted, noted_here}

@@ -1,6 +1,5 @@
 use Rattle.std.proofs.Common.{◌≡◌, ◌+◌, ◌-◌, ◌<◌, ⊎_elim, inl, inr, ℕ, List, length, get_or, Option, Some, None, refl, sym, ◌∙◌, ap, subst, arith, rules, vec_len, slice_set}
 use Rattle.std.proofs.lemmas.List.{get_or_read, length-set}
-use Rattle.log_entry.specs.declared.entry.EntryName.{EntryName}
 use Rattle.core_index.specs.declared.notices.Node.{Node}
 use Rattle.core_index.specs.Noted.{Book, Noted, node_with, bare, name_at, home_at, next_at, chain_of, IsFor, AreChains, one_used, count_used}
 use Rattle.core_index.proofs.NoticeLaws.{first_of, none_of, chain_below, chains_over, for_home, used_home, taken_count, taken_book, taken_noted}

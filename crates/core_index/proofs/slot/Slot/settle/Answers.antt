@@ -1,7 +1,5 @@
-use Rattle.std.proofs.Common.{◌≡◌, ◌+◌, ◌++◌, ◌∷◌, ◌≤◌, [], List, length, Option, Some, None, false, cond, sym, ◌∙◌, ap, subst, arith, rules}
+use Rattle.std.proofs.Common.{◌≡◌, ◌+◌, ◌++◌, ◌∷◌, [], Option, Some, None, false, cond, sym, ◌∙◌, ap, subst, rules}
 use Rattle.core_index.specs.declared.types.Standee.{Standee}
-use Rattle.core_index.specs.declared.types.Standing.{Standing}
-use Rattle.core_index.specs.declared.types.Head.{Head}
 use Rattle.core_index.specs.Records.{KeyRecord, standing_with, is_dead, last_of}
 use Rattle.core_index.specs.Slots.{Place, record_with, known_with, AreBelow, alive_at, home_alive, dead_by, OnlyDead}
 use Rattle.core_index.proofs.SlotLaws.{settled_only, settled_alive, settled_below}
