@@ -1,12 +1,11 @@
 -- Which entries wait to be told, after each change.
-use Rattle.std.proofs.Common.{◌≡◌, ◌≢◌, ◌⊎◌, inl, ⊎_elim, ℕ, ◌+◌, ◌≤◌, ◌<◌, ◌==◌, Bool, true, false, cond, List, [], ◌∷◌, ◌++◌, length, get_or, take, Option, Some, None, refl, sym, ◌∙◌, ap, subst, arith}
+use Rattle.std.proofs.Common.{◌≡◌, ◌≢◌, ◌⊎◌, inl, ⊎_elim, ℕ, ◌+◌, ◌≤◌, ◌==◌, Bool, true, false, cond, List, [], ◌∷◌, ◌++◌, Option, Some, None, refl, sym, ◌∙◌, ap, subst, arith}
 use Rattle.std.specs.Prelude.{Result, Ok, Err, OnOk, OnErr}
 use Rattle.std.specs.List.{AllByRecursion}
 use Rattle.std.proofs.lemmas.Bool.{cases_eq, eqb-true, eq-eqb, ne_eqb, cond-true, cond-false}
-use Rattle.std.proofs.lemmas.List.{append_assoc, take_more}
+use Rattle.std.proofs.lemmas.List.{append_assoc}
 use Rattle.log_entry.specs.declared.entry.EntryName.{EntryName}
 use Rattle.core_index.specs.declared.types.Head.{Head}
-use Rattle.core_index.specs.declared.notices.Notice.{Notice}
 use Rattle.core_index.specs.declared.types.Record.{Record}
 use Rattle.core_index.specs.declared.types.Standee.{Standee}
 use Rattle.core_index.specs.declared.types.Standing.{Standing}
@@ -40,18 +39,18 @@ settled_index es fs b c k now dead is step only mortal added kept spare =
     let room = is.spare in
     index_step es fs b c k dead is (λ j ne. ap known_in (step.others j ne)) only added kept (omega (arith, sum, a, mortal, spare, room))
 
+abbrev pub KeepsNames : Book → Book → Type 0
+KeepsNames b c = (h : ℕ) (n : EntryName) → Noted b h n → Noted c h n
+
 -- more room alone
-pub roomier : (es : List (ℕ × Place)) (b c : Book) → IsIndex es b → c.lists ≡ b.lists → b.spare ≤ c.spare → IsIndex es c
-roomier es b c is same le = record {
-  noted = λ k v h waits. subst (λ (ls : List (List Notice)). Noted (record { lists = ls; spare = c.spare }) h (name_with k v)) (sym same) (is.noted k v h waits);
+pub roomier : (es : List (ℕ × Place)) (b c : Book) → IsIndex es b → KeepsNames b c → b.spare ≤ c.spare → IsIndex es c
+roomier es b c is kept le = record {
+  noted = λ k v h waits. kept h (name_with k v) (is.noted k v h waits);
   spare = let s = is.spare in omega (arith, s, le);
 }
 
-pub lists_kept : (b c : Book) → c.lists ≡ b.lists → (h : ℕ) (n : EntryName) → Noted b h n → Noted c h n
-lists_kept b c same h n noted = subst (λ (ls : List (List Notice)). Noted (record { lists = ls; spare = c.spare }) h n) (sym same) noted
-
 -- a key's record stays, and its room grows by one
-pub admitted_index : {T E : Type 0} (r : Result T E) (es fs : List (ℕ × Place)) (b c : Book) (k : ℕ) → IsIndex es b → OnOk r (Step es fs k (Some (record { known = known_at es k; room = room_at es k + 1 }))) → OnErr r (fs ≡ es) → c.lists ≡ b.lists → c.spare ≡ b.spare + 1 → IsIndex fs c
+pub admitted_index : {T E : Type 0} (r : Result T E) (es fs : List (ℕ × Place)) (b c : Book) (k : ℕ) → IsIndex es b → OnOk r (Step es fs k (Some (record { known = known_at es k; room = room_at es k + 1 }))) → OnErr r (fs ≡ es) → KeepsNames b c → c.spare ≡ b.spare + 1 → IsIndex fs c
 admitted_index (Err e) es fs b c k is ok err same spare = subst (λ (xs : List (ℕ × Place)). IsIndex xs c) (sym err) (roomier es b c is same (omega (arith, spare)))
 admitted_index (Ok x) es fs b c k is step err same spare =
     let wider : IsIndex es c = roomier es b c is same (omega (arith, spare)) in
@@ -107,30 +106,13 @@ all_noted k b h ss all v home waits =
     let needs = awaits_needs (record_with h ss) v home waits in
     found_has (NotedIfDead b k (record_with h ss)) ss v (standing_with v home false) all needs.stands needs.dead
 
-pub more_noted : (k : ℕ) (b c : Book) (r : KeyRecord) (ss : List Standing) (i : ℕ) (d : Standing) → i < length ss → ((h : ℕ) (n : EntryName) → Noted b h n → Noted c h n) → AllByRecursion (NotedIfDead b k r) (take i ss) → NotedIfDead c k r (get_or ss i d) → AllByRecursion (NotedIfDead c k r) (take (i + 1) ss)
-more_noted k b c r ss i d lt kept all new = subst (AllByRecursion (NotedIfDead c k r)) (sym (take_more ss i d lt)) (push (take i ss) all)
-  where
-    push : (xs : List Standing) → AllByRecursion (NotedIfDead b k r) xs → AllByRecursion (NotedIfDead c k r) (xs ++ get_or ss i d ∷ [])
-    push [] all = (new, tt)
-    push (x ∷ xs) all = (λ dies. kept x.home (name_with k x.version) (all.0 dies), push xs all.1)
+pub noted_append : (k : ℕ) (b c : Book) (r : KeyRecord) (xs ys : List Standing) → ((h : ℕ) (n : EntryName) → Noted b h n → Noted c h n) → AllByRecursion (NotedIfDead b k r) xs → AllByRecursion (NotedIfDead c k r) ys → AllByRecursion (NotedIfDead c k r) (xs ++ ys)
+noted_append k b c r [] ys kept all new = new
+noted_append k b c r (x ∷ xs) ys kept all new = (λ dies. kept x.home (name_with k x.version) (all.0 dies), noted_append k b c r xs ys kept all.1 new)
 
--- how many entries are not dead, one further
-
-lively_push : (r : KeyRecord) (xs : List Standing) (x : Standing) → count_lively r (xs ++ x ∷ []) ≡ count_lively r xs + cond (is_dead r x.version) 0 1
-lively_push r [] x = omega arith
-lively_push r (y ∷ xs) x = let rest = lively_push r xs x in omega (arith, rest)
-
-pub lively_dead : (r : KeyRecord) (ss : List Standing) (i : ℕ) (d : Standing) → i < length ss → is_dead r (get_or ss i d).version ≡ true → count_lively r (take (i + 1) ss) ≡ count_lively r (take i ss)
-lively_dead r ss i d lt dies =
-    let a : count_lively r (take (i + 1) ss) ≡ count_lively r (take i ss) + cond (is_dead r (get_or ss i d).version) 0 1 = ap (count_lively r) (take_more ss i d lt) ∙ lively_push r (take i ss) (get_or ss i d) in
-    let b = cond-true {A = ℕ} (is_dead r (get_or ss i d).version) 0 1 dies in
-    omega (arith, a, b)
-
-pub lively_more : (r : KeyRecord) (ss : List Standing) (i : ℕ) (d : Standing) → i < length ss → is_dead r (get_or ss i d).version ≡ false → count_lively r (take (i + 1) ss) ≡ count_lively r (take i ss) + 1
-lively_more r ss i d lt lives =
-    let a : count_lively r (take (i + 1) ss) ≡ count_lively r (take i ss) + cond (is_dead r (get_or ss i d).version) 0 1 = ap (count_lively r) (take_more ss i d lt) ∙ lively_push r (take i ss) (get_or ss i d) in
-    let b = cond-false {A = ℕ} (is_dead r (get_or ss i d).version) 0 1 lives in
-    omega (arith, a, b)
+pub lively_append : (r : KeyRecord) (xs ys : List Standing) → count_lively r (xs ++ ys) ≡ count_lively r xs + count_lively r ys
+lively_append r [] ys = omega arith
+lively_append r (x ∷ xs) ys = let rest = lively_append r xs ys in omega (arith, rest)
 
 found_lively : (r : KeyRecord) (ss : List Standing) (v : ℕ) (s : Standing) → standing_at ss v ≡ Some s → is_dead r v ≡ false → 1 ≤ count_lively r ss
 found_lively r [] v s is lives = absurd (cc is)

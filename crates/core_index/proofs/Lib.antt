@@ -1,3 +1,4 @@
+pub mod MarkLaws
 pub mod StandingLaws
 pub mod DeadLaws
 pub mod SlotLaws
@@ -5,3 +6,4 @@ pub mod NoticeLaws
 pub mod StepLaws
 pub mod IndexLaws
 pub mod ListingLaws
+pub mod Clients

@@ -1,15 +1,14 @@
 -- What a key's calls make of its record.
-use Rattle.std.proofs.Common.{◌≡◌, ◌≢◌, inl, inr, ⊎_elim, ℕ, suc, ◌+◌, ◌≤◌, ◌<◌, ◌==◌, nat_lt, Bool, true, false, cond, ◌&&◌, ◌||◌, not, List, [], ◌∷◌, ◌++◌, length, get_or, take, drop, map, Option, Some, None, refl, sym, ◌∙◌, ap, subst, arith, slice_set}
+use Rattle.std.proofs.Common.{◌≡◌, ◌≢◌, inl, inr, ⊎_elim, ℕ, ◌+◌, ◌≤◌, ◌==◌, nat_lt, Bool, true, false, cond, ◌&&◌, ◌||◌, List, [], ◌∷◌, ◌++◌, Option, Some, None, refl, sym, ◌∙◌, ap, subst, arith}
 use Rattle.std.specs.List.{AllByRecursion}
-use Rattle.std.proofs.lemmas.List.{set_split, drop_more}
-use Rattle.std.proofs.lemmas.Bool.{eq-eqb, ne_eqb, cond-true, cond-false}
+use Rattle.std.proofs.lemmas.Bool.{ne_eqb, cond-false}
 use Rattle.log_entry.specs.declared.entry.Body.{Body}
 use Rattle.core_index.specs.declared.types.Head.{Head}
-use Rattle.core_index.specs.declared.types.Standee.{Standee}
 use Rattle.core_index.specs.declared.types.Standing.{Standing}
-use Rattle.core_index.specs.Records.{KeyRecord, standing_with, standing_at, is_tombstone, stands_alone, is_dead, Awaits, last_of, told, told_in, untold}
+use Rattle.core_index.specs.Records.{KeyRecord, standing_with, standing_at, is_tombstone, stands_alone, is_dead, Awaits, last_of, told, told_in, others}
 use Rattle.core_index.specs.Slots.{record_with, known_with, AreBelow, home_in, home_alive, alive_at, count_of, standee_with, count_dead, dead_by, died, OnlyDead, TellsOne, IsSlot}
-use Rattle.core_index.proofs.StandingLaws.{found_version, at_told, at_told_other, alone_told, below_told, none_above, at_added, below_more, others, at_without, at_without_other, alone_without, below_without}
+use Rattle.core_index.specs.Marks.{Marks, Keeps}
+use Rattle.core_index.proofs.StandingLaws.{found_version, at_told, at_told_other, alone_told, below_told, none_above, at_added, below_more, at_without, at_without_other, alone_without, below_without}
 use Rattle.core_index.proofs.DeadLaws.{dead_last, dead_alone, alive_is, alive_none, awaits_or_alive, settled_dead}
 
 same_standing : (s : Standing) (v home : ℕ) → s.version ≡ v → s.home ≡ home → s.told ≡ false → s ≡ standing_with v home false
@@ -27,14 +26,6 @@ pub awaits_needs : (r : KeyRecord) (v home : ℕ) → Awaits (Some r) home v →
 awaits_needs r v home w =
     let e : r ≡ w.found = let has = w.has in cc has in
     record { stands = ap (λ (x : KeyRecord). standing_at x.standing v) e ∙ w.stands; dead = ap (λ (x : KeyRecord). is_dead x v) e ∙ w.dead }
-
-pub told_here : (ss : List Standing) (i v : ℕ) (d : Standing) → i < length ss → (get_or ss i d).version ≡ v → told ss v ≡ take i ss ++ told (drop i ss) v → told ss v ≡ slice_set ss i (standing_with (get_or ss i d).version (get_or ss i d).home true)
-told_here ss i v d lt is further =
-    let s = get_or ss i d in
-    let new = standing_with s.version s.home true in
-    let here : told (s ∷ drop (i + 1) ss) v ≡ new ∷ drop (i + 1) ss = cond-true (s.version == v) (new ∷ drop (i + 1) ss) (s ∷ told (drop (i + 1) ss) v) (eq-eqb s.version v is) in
-    let next : i + 1 ≡ suc i = omega arith in
-    further ∙ ap (λ (xs : List Standing). take i ss ++ told xs v) (drop_more ss i d lt) ∙ ap (λ (xs : List Standing). take i ss ++ xs) here ∙ ap (λ (n : ℕ). take i ss ++ new ∷ drop n ss) next ∙ sym (set_split ss i new lt)
 
 -- Telling keeps who else waits, and who is alive.
 
@@ -129,11 +120,6 @@ gone_mortal h ss v = by (home_alive (record_with h (others v ss))) refl (home_al
     by (Some home) now None was = let e = alive_without h ss v home now in absurd (cc (e, was))
     by (Some home) now (Some g) was = omega arith
 
--- the entries of a record at the start are not above its version
-pub untold_below : (ss : List Standee) (n : ℕ) → AllByRecursion (λ (s : Standee). s.version ≤ n) ss → AllByRecursion (λ (s : Standing). s.version ≤ n) (map untold ss)
-untold_below [] n all = tt
-untold_below (s ∷ ss) n all = (all.0, untold_below ss n all.1)
-
 -- The same where a key may have no record.
 
 none_waits : (home v : ℕ) → Awaits None home v → ⊥
@@ -147,27 +133,30 @@ pub gone_count : (o : Option Head) (ss : List Standing) (v : ℕ) → count_of (
 gone_count None ss v = omega arith
 gone_count (Some h) ss v = gone_mortal h ss v
 
-shorter : (ss : List Standing) (v : ℕ) → length (others v ss) ≤ length ss
-shorter [] v = omega arith
-shorter (s ∷ ss) v = let rest = shorter ss v in elim (s.version == v) as (λ b. length (cond (not b) (s ∷ others v ss) (others v ss)) ≤ suc (length ss)) [ true ↦ omega (arith, rest) | false ↦ omega (arith, rest) ]
+last_same : (o : Option Head) (xs ys : List Standing) → last_of (known_with o xs) ≡ last_of (known_with o ys)
+last_same None xs ys = refl
+last_same (Some h) xs ys = refl
 
-pub gone_slot : (o : Option Head) (ss ts : List Standing) (v room places more : ℕ) (alive now : Option ℕ) → IsSlot o ss room places alive → ts ≡ others v ss → more ≡ places → now ≡ alive_at (known_with o ts) → IsSlot o ts room more now
-gone_slot o ss ts v room places more alive now is gone same lives = record { below = subst (AreBelow o) (sym gone) (by o is.below); fits = let f = is.fits in let s = shorter ss v in let l = ap length gone in omega (arith, f, s, same, l); alive_is = lives }
+-- the fields of a slot whose entries are others by now
+pub kept_slot : (o : Option Head) (m n : Marks) (room more : ℕ) (alive now : Option ℕ) → IsSlot o m room alive → AreBelow o n.items → n.top ≡ m.top → more ≤ n.room → now ≡ alive_at (known_with o n.items) → IsSlot o n more now
+kept_slot o m n room more alive now is below top fits lives = record { below = below; top = let t = is.top in let same = last_same o m.items n.items in omega (arith, t, top, same); fits = fits; alive_is = lives }
+
+pub gone_slot : (o : Option Head) (m n : Marks) (v room : ℕ) (alive now : Option ℕ) → IsSlot o m room alive → n.items ≡ others v m.items → n.top ≡ m.top → n.room ≡ m.room → now ≡ alive_at (known_with o n.items) → IsSlot o n room now
+gone_slot o m n v room alive now is gone top same lives = kept_slot o m n room room alive now is (subst (AreBelow o) (sym gone) (by o is.below)) top (let f = is.fits in omega (arith, f, same)) lives
   where
-    by : (o : Option Head) → AreBelow o ss → AreBelow o (others v ss)
+    by : (o : Option Head) → AreBelow o m.items → AreBelow o (others v m.items)
     by None none = ap (others v) none
-    by (Some h) all = below_without ss v h.version all
+    by (Some h) all = below_without m.items v h.version all
 
-told_length : (ss : List Standing) (v : ℕ) → length (told ss v) ≡ length ss
-told_length [] v = refl
-told_length (s ∷ ss) v = let rest = told_length ss v in elim (s.version == v) as (λ b. length (cond b (standing_with s.version s.home true ∷ ss) (s ∷ told ss v)) ≡ suc (length ss)) [ true ↦ refl | false ↦ ap (λ (n : ℕ). suc n) rest ]
-
-pub told_slot : (o : Option Head) (ss ts : List Standing) (v room places more : ℕ) (alive : Option ℕ) → IsSlot o ss room places alive → ts ≡ told ss v → more ≡ places → alive_at (known_with o ts) ≡ alive_at (known_with o ss) → IsSlot o ts room more alive
-told_slot o ss ts v room places more alive is now same lives = record { below = subst (AreBelow o) (sym now) (by o is.below); fits = let f = is.fits in let l = told_length ss v in let e = ap length now in omega (arith, f, l, same, e); alive_is = is.alive_is ∙ sym lives }
+pub told_slot : (o : Option Head) (m n : Marks) (v room : ℕ) (alive : Option ℕ) → IsSlot o m room alive → n.items ≡ told m.items v → n.top ≡ m.top → n.room ≡ m.room → alive_at (known_with o n.items) ≡ alive_at (known_with o m.items) → IsSlot o n room alive
+told_slot o m n v room alive is now top same lives = kept_slot o m n room room alive alive is (subst (AreBelow o) (sym now) (by o is.below)) top (let f = is.fits in omega (arith, f, same)) (is.alive_is ∙ sym lives)
   where
-    by : (o : Option Head) → AreBelow o ss → AreBelow o (told ss v)
+    by : (o : Option Head) → AreBelow o m.items → AreBelow o (told m.items v)
     by None none = ap (λ (xs : List Standing). told xs v) none
-    by (Some h) all = below_told ss v h.version all
+    by (Some h) all = below_told m.items v h.version all
+
+pub reserved_slot : (o : Option Head) (m n : Marks) (room more : ℕ) (alive : Option ℕ) → IsSlot o m room alive → Keeps m n → more ≤ n.room → IsSlot o n more alive
+reserved_slot o m n room more alive is keeps fits = kept_slot o m n room more alive alive is (subst (AreBelow o) (sym keeps.items) is.below) keeps.top fits (is.alive_is ∙ ap (λ (xs : List Standing). alive_at (known_with o xs)) (sym keeps.items))
 
 pub told_one : (o : Option Head) (ss ts : List Standing) (room v home : ℕ) → ts ≡ told ss v → Awaits (known_with o ss) home v → TellsOne (record { known = known_with o ss; room = room }) (record { known = known_with o ts; room = room }) home v
 told_one None ss ts room v home now waits = absurd (none_waits home v waits)

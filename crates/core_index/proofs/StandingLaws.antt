@@ -1,14 +1,9 @@
 -- The entries of a key as a map from versions, and which of them are dead.
-use Rattle.std.proofs.Common.{◌≡◌, ◌≢◌, ℕ, ◌+◌, ◌≤◌, ◌<◌, ◌==◌, Bool, true, false, cond, ◌&&◌, not, List, [], ◌∷◌, ◌++◌, length, get_or, drop, Option, Some, None, refl, sym, ◌∙◌, ap, subst, arith}
-use Rattle.std.specs.List.{AllByRecursion, filter}
+use Rattle.std.proofs.Common.{◌≡◌, ◌≢◌, ℕ, ◌≤◌, ◌<◌, ◌==◌, Bool, true, false, cond, ◌&&◌, not, List, [], ◌∷◌, ◌++◌, Option, Some, None, refl, sym, ◌∙◌, ap, subst, arith}
+use Rattle.std.specs.List.{AllByRecursion}
 use Rattle.std.proofs.lemmas.Bool.{eqb-true, eq-eqb, ne_eqb, cond-true, cond-false}
-use Rattle.std.proofs.lemmas.List.{drop_more}
 use Rattle.core_index.specs.declared.types.Standing.{Standing}
-use Rattle.core_index.specs.Records.{standing_with, standing_at, stands_alone, told}
-
--- one entry further in a list
-pub standing_step : (ss : List Standing) (i v : ℕ) (d : Standing) → i < length ss → standing_at (drop i ss) v ≡ cond ((get_or ss i d).version == v) (Some (get_or ss i d)) (standing_at (drop (i + 1) ss) v)
-standing_step ss i v d lt = ap (λ (xs : List Standing). standing_at xs v) (drop_more ss i d lt)
+use Rattle.core_index.specs.Records.{standing_with, standing_at, stands_alone, told, others}
 
 -- an entry that is found has the version
 pub found_version : (ss : List Standing) (v : ℕ) (s : Standing) → standing_at ss v ≡ Some s → s.version ≡ v
@@ -85,9 +80,6 @@ below_told (x ∷ ss) v n all = elim (x.version == v) as (λ b. AllByRecursion (
 ]
 
 -- without a version
-abbrev pub others : ℕ → List Standing → List Standing
-others v ss = filter (λ (s : Standing). not (s.version == v)) ss
-
 pub at_without : (ss : List Standing) (v : ℕ) → standing_at (others v ss) v ≡ None
 at_without [] v = refl
 at_without (x ∷ ss) v = by (at_without ss v) (x.version == v) refl

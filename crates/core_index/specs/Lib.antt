@@ -1,4 +1,5 @@
 pub mod Records
+pub mod Marks
 pub mod Slots
 pub mod Noted
 pub mod Index

@@ -1,59 +1,107 @@
 -- Names that homes are to be told.
-use Rattle.std.specs.Prelude.{◌≡◌, ◌≢◌, ◌⊎◌, ℕ, ◌+◌, ◌%◌, ◌≤◌, List, [], ◌∷◌, length, slice_index_or, map, true, if◌then◌else◌}
+use Rattle.std.specs.Prelude.{◌≡◌, ◌≢◌, ◌⊎◌, ℕ, ◌+◌, ◌<◌, ◌==◌, ◌%◌, ◌≤◌, List, [], ◌∷◌, length, slice_index_or, Option, Some, None, Bool, true, false, if◌then◌else◌}
 use Rattle.std.specs.List.{AllByRecursion}
-use Rattle.std.specs.declared.vec.Vec.{Vec}
-use Rattle.std.specs.Vec.{vec_capacity}
-use Rattle.std.specs.Global.{Global}
 use Rattle.log_entry.specs.declared.entry.EntryName.{EntryName}
-use Rattle.core_index.specs.declared.notices.Notice.{Notice}
+use Rattle.core_index.specs.declared.notices.Node.{Node}
 use Rattle.core_index.specs.declared.types.Standing.{Standing}
 use Rattle.core_index.specs.Records.{KeyRecord, is_dead}
 
 abbrev pub name_with : ℕ → ℕ → EntryName
 name_with k v = record { key = k; version = v }
 
-abbrev pub notice_with : ℕ → EntryName → Notice
-notice_with home n = record { home = home; name = n }
+abbrev pub node_with : EntryName → Option ℕ → Option ℕ → Node
+node_with n home next = record { name = n; home = home; next = next }
 
-abbrev pub Has : List Notice → Notice → Type 0
-Has [] n = ⊥
-Has (x ∷ xs) n = (x ≡ n) ⊎ Has xs n
+abbrev pub bare : Node
+bare = node_with (name_with 0 0) None None
 
--- the list has one name less, and every other that it had
-pub record Leaves (old new : List Notice) (n : Notice) : Type 0 where
-  pub others : (x : Notice) → Has old x → (x ≡ n) ⊎ Has new x
-  pub less : length old ≡ length new + 1
+abbrev pub home_at : List Node → ℕ → Option ℕ
+home_at ns i = (slice_index_or ns i bare).home
 
--- the lists of names, and for how many more each has room
+abbrev pub name_at : List Node → ℕ → EntryName
+name_at ns i = (slice_index_or ns i bare).name
+
+abbrev pub next_at : List Node → ℕ → Option ℕ
+next_at ns i = (slice_index_or ns i bare).next
+
+-- the places, how many of them have a name, and for how many more there is room
 pub record Book : Type 0 where
-  pub lists : List (List Notice)
+  pub nodes : List Node
+  pub used : ℕ
   pub spare : ℕ
 
-abbrev pub list_of : Book → ℕ → List Notice
-list_of b home = slice_index_or b.lists (home % 8) []
+-- a place has this name for this home
+pub record Noted (b : Book) (home : ℕ) (n : EntryName) : Type 0 where
+  pub at : ℕ
+  pub within : at < length b.nodes
+  pub home_is : home_at b.nodes at ≡ Some home
+  pub name_is : name_at b.nodes at ≡ n
 
-abbrev pub Noted : Book → ℕ → EntryName → Type 0
-Noted b home n = Has (list_of b home) (notice_with home n)
+abbrev pub is_for : ℕ → Option ℕ → Bool
+is_for home None = false
+is_for home (Some h) = h == home
 
-abbrev pub items_of : List (Vec Notice Global) → List (List Notice)
-items_of vs = map (λ v. v.items) vs
+-- the place has a name for this home
+pub record IsFor (ns : List Node) (home i : ℕ) : Type 0 where
+  pub within : i < length ns
+  pub here : (d : Node) → is_for home (slice_index_or ns i d).home ≡ true
 
-abbrev pub Fits : ℕ → Vec Notice Global → Type 0
-Fits spare v = length v.items + spare ≤ vec_capacity v
+-- no place has a name for this home
+abbrev pub LacksHome : ℕ → List Node → Type 0
+LacksHome home ns = AllByRecursion (λ n. is_for home n.home ≡ false) ns
 
--- eight lists, each with room for so many more
-pub record HasRoom (vs : List (Vec Notice Global)) (spare : ℕ) : Type 0 where
-  pub eight : length vs ≡ 8
-  pub each : AllByRecursion (Fits spare) vs
+-- Names are linked in eight chains by their homes, and free places in one behind these.
+abbrev pub chain_of : Option ℕ → ℕ
+chain_of None = 8
+chain_of (Some home) = home % 8
 
--- the same names, and nowhere less room
-pub record KeepsLists (old new : List (Vec Notice Global)) : Type 0 where
-  pub items : items_of new ≡ items_of old
-  pub room : (spare : ℕ) → AllByRecursion (Fits spare) old → AllByRecursion (Fits spare) new
+-- The places of these numbers are met from one on, and no others.
+abbrev pub Follows : List Node → Option ℕ → List ℕ → Type 0
+Follows ns at [] = at ≡ None
+Follows ns at (x ∷ xs) = (at ≡ Some x) × (x < length ns) × Follows ns (next_at ns x) xs
 
--- no name of the list is for this home
-abbrev pub LacksHome : ℕ → List Notice → Type 0
-LacksHome home xs = AllByRecursion (λ x. x.home ≢ home) xs
+abbrev pub In : ℕ → List ℕ → Type 0
+In n [] = ⊥
+In n (x ∷ xs) = (x ≡ n) ⊎ In n xs
+
+abbrev pub Lacks : ℕ → List ℕ → Type 0
+Lacks n xs = AllByRecursion (λ x. x ≢ n) xs
+
+abbrev pub Once : List ℕ → Type 0
+Once [] = Unit {0}
+Once (x ∷ xs) = Lacks x xs × Once xs
+
+-- The chain that begins at a place has exactly the places of its homes, each once.
+pub record IsChain (ns : List Node) (at : Option ℕ) (c : ℕ) : Type 0 where
+  pub numbers : List ℕ
+  pub follows : Follows ns at numbers
+  pub once : Once numbers
+  pub own : AllByRecursion (λ x. chain_of (home_at ns x) ≡ c) numbers
+  pub all : (j : ℕ) → j < length ns → chain_of (home_at ns j) ≡ c → In j numbers
+
+pub record AreChains (ns : List Node) (hs : List (Option ℕ)) : Type 0 where
+  pub nine : length hs ≡ 9
+  pub each : (c : ℕ) (d : Option ℕ) → c < 9 → IsChain ns (slice_index_or hs c d) c
+
+abbrev pub one_used : Option ℕ → ℕ
+one_used None = 0
+one_used (Some h) = 1
+
+abbrev pub count_used : List Node → ℕ
+count_used [] = 0
+count_used (n ∷ ns) = one_used n.home + count_used ns
+
+-- What is true of the fields of such a book.
+pub record IsBook (ns : List Node) (hs : List (Option ℕ)) (used spare : ℕ) : Type 0 where
+  pub chains : AreChains ns hs
+  pub count : used ≡ count_used ns
+  pub room : spare + used ≤ length ns
+
+-- free places were added
+pub record Grows (old new : List Node) : Type 0 where
+  pub longer : length old ≤ length new
+  pub same : (i : ℕ) (d : Node) → i < length old → slice_index_or new i d ≡ slice_index_or old i d
+  pub count : count_used new ≡ count_used old
 
 abbrev pub NotedIfDead : Book → ℕ → KeyRecord → Standing → Type 0
 NotedIfDead b k r s = is_dead r s.version ≡ true → Noted b s.home (name_with k s.version)

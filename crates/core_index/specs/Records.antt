@@ -1,6 +1,8 @@
 -- A key's record, and which of its entries are dead.
 use Rattle.std.specs.Prelude.{◌≡◌, ℕ, ◌==◌, nat_lt, Bool, true, false, ◌&&◌, ◌||◌, not, List, [], ◌∷◌, ◌++◌, map, Option, Some, None, if◌then◌else◌}
 use Rattle.std.specs.List.{filter, list_all}
+use Rattle.std.specs.BTreeMap.{insert_entry}
+use Rattle.std.specs.Ordering.{nat_cmp}
 use Rattle.log_entry.specs.declared.entry.Body.{Body}
 use Rattle.log_entry.specs.declared.entry.Body.TheVariants as bodies
 use Rattle.core_index.specs.declared.types.Look.{Look}
@@ -74,9 +76,12 @@ told (s ∷ ss) v = if s.version == v then (standing_with s.version s.home true)
 abbrev pub told_in : ℕ → KeyRecord → KeyRecord
 told_in v r = record { version = r.version; body = r.body; standing = told r.standing v }
 
+abbrev pub others : ℕ → List Standing → List Standing
+others v ss = filter (λ s. not (s.version == v)) ss
+
 -- the record once a version stands in no log
 abbrev pub without : ℕ → KeyRecord → KeyRecord
-without v r = record { version = r.version; body = r.body; standing = filter (λ s. not (s.version == v)) r.standing }
+without v r = record { version = r.version; body = r.body; standing = others v r.standing }
 
 abbrev pub is_empty : List Standing → Bool
 is_empty [] = true
@@ -111,6 +116,18 @@ Shows (Some r) l = ShowsBody r.body l
 abbrev pub untold : Standee → Standing
 untold s = standing_with s.version s.home false
 
+-- the homes of entries as a map from versions; the first entry of a version counts
+abbrev pub homes_of : List Standee → List (ℕ × ℕ)
+homes_of [] = []
+homes_of (s ∷ ss) = insert_entry nat_cmp (homes_of ss) s.version s.home
+
+abbrev pub untold_at : (ℕ × ℕ) → Standing
+untold_at e = standing_with e.0 e.1 false
+
+-- the entries by rising version
+abbrev pub by_version : List Standee → List Standing
+by_version ss = map untold_at (homes_of ss)
+
 -- a record at the start: no death was told yet
 abbrev pub opened : Record → KeyRecord
-opened r = record { version = r.version; body = r.body; standing = map untold r.standing.items }
+opened r = record { version = r.version; body = r.body; standing = by_version r.standing.items }

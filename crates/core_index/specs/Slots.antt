@@ -1,10 +1,11 @@
 -- What the index keeps of a key: its record, where it has one, and room for changes to come.
-use Rattle.std.specs.Prelude.{◌≡◌, ◌≢◌, ℕ, ◌+◌, ◌≤◌, ◌==◌, List, [], length, Option, Some, None, option_map, if◌then◌else◌, ◌⊎◌}
+use Rattle.std.specs.Prelude.{◌≡◌, ◌≢◌, ℕ, ◌+◌, ◌≤◌, ◌==◌, List, [], Option, Some, None, option_map, if◌then◌else◌, ◌⊎◌}
 use Rattle.std.specs.List.{AllByRecursion}
 use Rattle.core_index.specs.declared.types.Head.{Head}
 use Rattle.core_index.specs.declared.types.Standee.{Standee}
 use Rattle.core_index.specs.declared.types.Standing.{Standing}
-use Rattle.core_index.specs.Records.{KeyRecord, standing_at, is_dead, told_in, Awaits}
+use Rattle.core_index.specs.Marks.{Marks}
+use Rattle.core_index.specs.Records.{KeyRecord, standing_at, is_dead, last_of, told_in, Awaits}
 
 pub record Place : Type 0 where
   pub known : Option KeyRecord
@@ -35,10 +36,11 @@ alive_at None = None
 alive_at (Some r) = home_alive r
 
 -- What is true of a slot's fields: `alive` is the home of the last version's entry, so that no change looks for it among the entries.
-pub record IsSlot (h : Option Head) (ss : List Standing) (room places : ℕ) (alive : Option ℕ) : Type 0 where
-  pub below : AreBelow h ss
-  pub fits : length ss + room ≤ places
-  pub alive_is : alive ≡ alive_at (known_with h ss)
+pub record IsSlot (h : Option Head) (m : Marks) (room : ℕ) (alive : Option ℕ) : Type 0 where
+  pub below : AreBelow h m.items
+  pub top : m.top ≤ last_of (known_with h m.items)
+  pub fits : room ≤ m.room
+  pub alive_is : alive ≡ alive_at (known_with h m.items)
 
 abbrev pub count_of : Option ℕ → ℕ
 count_of None = 0

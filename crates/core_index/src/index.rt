@@ -69,8 +69,8 @@ impl CoreIndex {
         ensures { OnOk result (Entered self.old self.new start) }
     {
         let key = start.key;
-        self.notices.reserve(start.standing.len() as u64)?;
         let slot = Slot::of(alloc, start)?;
+        self.notices.reserve(slot.len())?;
         slot.note_dead(key, &mut self.notices);
         enter_at(&mut self.slots, key, slot)
     }
@@ -84,6 +84,16 @@ impl CoreIndex {
     {
         self.notices.reserve(1)?;
         reserve_at(alloc, &mut self.slots, key)
+    }
+
+    /// For how many changes of the key there is room. A request that was refused leaves the room that was made for it.
+    pub fn room(&self, key: Key) -> u64
+        ensures { result ≡ room_at self.now key }
+    {
+        match self.slots.get(&key) {
+            None => 0,
+            Some(slot) => slot.room(),
+        }
     }
 
     /// What the key has.

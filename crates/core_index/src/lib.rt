@@ -1,6 +1,7 @@
 //! The keys of one core: last version, value, and the entries that stand in a log.
 #![tactic(auto)]
 
+mod entries;
 mod index;
 mod listing;
 mod map;

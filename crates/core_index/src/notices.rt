@@ -1,77 +1,181 @@
 // The names of dead entries that their homes are still to be told.
-ghost use Rattle.std.specs.Prelude.{◌≡◌, ◌⊎◌, ℕ, ◌+◌, ◌<◌, length, vec_capacity, OnOk, OnErr, IfOk, IfSome, IfNone};
+ghost use Rattle.std.specs.Prelude.{◌≡◌, ◌≢◌, ◌⊎◌, ℕ, ◌+◌, ◌<◌, ◌≤◌, length, slice_index_or, slice_set, vec_len, OnOk, OnErr, IfOk, IfSome, IfNone, Option, Some, None};
 ghost use Rattle.std.specs.List.{AllByRecursion};
 ghost use Rattle.log_entry.specs.declared.entry.EntryName.{EntryName};
-ghost use Rattle.core_index.specs.Noted.{Has, Noted, notice_with, list_of, Leaves, Fits, HasRoom, KeepsLists};
+ghost use Rattle.core_index.specs.Noted.{Noted, node_with, bare, chain_of, is_for, IsFor, LacksHome, AreChains, Grows};
 
 use fs_errors::Memory;
 use log_entry::EntryName;
 use std::alloc::Global;
 use std::marker::Model;
 
-const LISTS: u32 = 8;
+// As many chains as a group has members, so that each member of a group has one of its own.
+const CHAINS: u32 = 8;
 
-// A name for a home to be told.
+// The chain of the places that are free, behind the others.
+const FREE: usize = 8;
+
+// The greatest number of places, so that four bytes tell one.
+const MOST: usize = 4_294_967_295;
+
+// A place for a name, linked to the next one of its chain. The name is for `home`; a free place has none.
 #[derive(Clone, Copy, Debug, PartialEq, Eq)]
-pub struct Notice {
-    pub home: u32,
+pub struct Node {
     pub name: EntryName,
+    pub home: Option<u32>,
+    pub next: Option<u32>,
 }
 
-// Names by home, in as many lists as a group has members, so that each member of a group has a list of its own.
-// In every list there is room for `spare` more names. Only `open` and `reserve` take memory.
+// Names for homes, in places that are linked in chains by home. `used` counts the places with a name, and there is
+// room for `spare` more names. Only `open` and `reserve` take memory.
 #[derive(Drop)]
 pub struct Notices {
-    lists: Vec<Vec<Notice>>,
+    nodes: Vec<Node>,
+    heads: Vec<Option<u32>>,
+    used: u64,
     spare: u64,
 }
 
 impl Model for Notices {
-    ghost use Rattle.core_index.specs.Noted.{Book, items_of, HasRoom};
+    ghost use Rattle.core_index.specs.Noted.{Book, IsBook};
 
     ghost Value = { Book };
 
-    ghost view = { λ a. record { lists = items_of a.lists.items; spare = a.spare } };
+    ghost view = { λ a. record { nodes = a.nodes.items; used = a.used; spare = a.spare } };
 
-    ghost invariant = { λ a. HasRoom a.lists.items a.spare };
+    ghost invariant = { λ a. IsBook a.nodes.items a.heads.items a.used a.spare };
 }
 
-// Takes out the last name that is noted for a home.
-fn take_last(list: &mut Vec<Notice>, home: u32) -> Option<EntryName>
-    ensures none { IfNone result ((name : EntryName) → ¬ Has list.old.items (notice_with home name)) }
-    ensures unchanged { IfNone result (list.new.items ≡ list.old.items) }
-    ensures taken { IfSome result (λ name. Leaves list.old.items list.new.items (notice_with home name)) }
-    ensures room { vec_capacity list.new ≡ vec_capacity list.old }
+// The chain of a home's names, or that of the free places.
+fn chain_of(home: Option<u32>) -> usize
+    ensures { result ≡ chain_of home }
 {
-    let mut i = list.len();
-    while i > 0 {
-        i -= 1;
-        if list[i].home == home {
-            return Some(list.remove(i).name);
+    match home {
+        None => FREE,
+        Some(home) => (home % CHAINS) as usize,
+    }
+}
+
+fn is_for(node: &Node, home: u32) -> bool
+    ensures { result ≡ is_for home node.now.home }
+{
+    match node.home {
+        None => false,
+        Some(other) => other == home,
+    }
+}
+
+// A place with a name for this home. The first of its chain has one, where no two homes share a chain.
+fn place_for(nodes: &[Node], first: u32, home: u32) -> Option<usize>
+    requires { first < length nodes.now }
+    ensures found { IfSome result (IsFor nodes.now home) }
+    ensures none { IfNone result (LacksHome home nodes.now) }
+{
+    let first = first as usize;
+    if is_for(&nodes[first], home) {
+        return Some(first);
+    }
+    any_for(nodes, home)
+}
+
+fn any_for(nodes: &[Node], home: u32) -> Option<usize>
+    ensures found { IfSome result (IsFor nodes.now home) }
+    ensures none { IfNone result (LacksHome home nodes.now) }
+{
+    for (i, node) in nodes.iter().enumerate() {
+        if is_for(node, home) {
+            return Some(i);
         }
     }
     None
 }
 
-// Makes room for so many more names in each list.
-fn reserve_all(lists: &mut Vec<Vec<Notice>>, spare: u64) -> Result<(), Memory>
-    ensures kept { KeepsLists lists.old.items lists.new.items }
-    ensures room { OnOk result (AllByRecursion (Fits spare) lists.new.items) }
+// Gives the first place of a chain another name and home, and makes it the first one of the chain of that home.
+fn move_first(
+    nodes: &mut Vec<Node>,
+    heads: &mut Vec<Option<u32>>,
+    from: usize,
+    first: u32,
+    name: EntryName,
+    home: Option<u32>,
+)
+    requires chains { AreChains nodes.old.items heads.old.items }
+    requires from { from < 9 }
+    requires other { chain_of home ≢ from }
+    requires first { (d : Option ℕ) → slice_index_or heads.old.items from d ≡ Some first }
+    ensures chains { AreChains nodes.new.items heads.new.items }
+    ensures nodes { (d : Option ℕ) → nodes.new.items ≡ slice_set nodes.old.items first (node_with name home (slice_index_or heads.old.items (chain_of home) d)) }
 {
-    for i in 0..lists.len() {
-        lists[i].reserve(spare as usize)?;
+    let to = chain_of(home);
+    let next = nodes[first as usize].next;
+    nodes[first as usize] = Node {
+        name,
+        home,
+        next: heads[to],
+    };
+    heads[from] = next;
+    heads[to] = Some(first);
+}
+
+// Writes the name of the first place of a chain over that of another place of it.
+fn write_over(nodes: &mut Vec<Node>, place: usize, first: u32) -> EntryName
+    requires place { place < vec_len nodes.old }
+    requires first { first < vec_len nodes.old }
+    ensures name { result ≡ (slice_index_or nodes.old.items place bare).name }
+    ensures nodes { nodes.new.items ≡ slice_set nodes.old.items place (node_with (slice_index_or nodes.old.items first bare).name (slice_index_or nodes.old.items first bare).home (slice_index_or nodes.old.items place bare).next) }
+{
+    let Node { name, home, .. } = nodes[first as usize];
+    let over = nodes[place];
+    nodes[place] = Node {
+        name,
+        home,
+        next: over.next,
+    };
+    over.name
+}
+
+// Adds a free place.
+fn grow(nodes: &mut Vec<Node>, heads: &mut Vec<Option<u32>>) -> Result<(), Memory>
+    requires { AreChains nodes.old.items heads.old.items }
+    ensures chains { AreChains nodes.new.items heads.new.items }
+    ensures grows { Grows nodes.old.items nodes.new.items }
+    ensures ok { OnOk result (length nodes.new.items ≡ length nodes.old.items + 1) }
+    ensures err { OnErr result (nodes.new.items ≡ nodes.old.items) }
+{
+    if nodes.len() >= MOST {
+        return Err(Memory);
+    }
+    let at = nodes.len() as u32;
+    nodes.push(Node {
+        name: EntryName { key: 0, version: 0 },
+        home: None,
+        next: heads[FREE],
+    })?;
+    heads[FREE] = Some(at);
+    Ok(())
+}
+
+// Adds so many free places.
+fn grow_by(nodes: &mut Vec<Node>, heads: &mut Vec<Option<u32>>, more: u64) -> Result<(), Memory>
+    requires { AreChains nodes.old.items heads.old.items }
+    ensures chains { AreChains nodes.new.items heads.new.items }
+    ensures grows { Grows nodes.old.items nodes.new.items }
+    ensures ok { OnOk result (length nodes.new.items ≡ length nodes.old.items + more) }
+{
+    for _ in 0..more {
+        grow(nodes, heads)?;
     }
     Ok(())
 }
 
-fn empty_lists(alloc: Global) -> Result<Vec<Vec<Notice>>, Memory>
-    ensures { IfOk result (λ lists. HasRoom lists.items 0) }
+fn no_heads(alloc: Global) -> Result<Vec<Option<u32>>, Memory>
+    ensures { IfOk result (λ heads. (length heads.items ≡ 9) × AllByRecursion (λ h. h ≡ None) heads.items) }
 {
-    let mut lists = Vec::with_capacity(alloc, LISTS as usize)?;
-    for _ in 0..LISTS {
-        lists.push(Vec::new(alloc))?;
+    let mut heads = Vec::with_capacity(alloc, FREE + 1)?;
+    for _ in 0..FREE + 1 {
+        heads.push(None)?;
     }
-    Ok(lists)
+    Ok(heads)
 }
 
 impl Notices {
@@ -80,19 +184,22 @@ impl Notices {
         ensures { IfOk result (λ notices. notices.spare ≡ 0) }
     {
         Ok(Notices {
-            lists: empty_lists(alloc)?,
+            nodes: Vec::new(alloc),
+            heads: no_heads(alloc)?,
+            used: 0,
             spare: 0,
         })
     }
 
-    // Makes room for so many more names.
+    // Makes room for so many more names. Places that are free already are used first.
     pub fn reserve(&mut self, more: u64) -> Result<(), Memory>
-        ensures lists { self.new.lists ≡ self.old.lists }
+        ensures kept { (h : ℕ) (n : EntryName) → Noted self.old h n → Noted self.new h n }
         ensures ok { OnOk result (self.new.spare ≡ self.old.spare + more) }
         ensures err { OnErr result (self.new.spare ≡ self.old.spare) }
     {
         let spare = self.spare.checked_add(more).ok_or(Memory)?;
-        reserve_all(&mut self.lists, spare)?;
+        let free = self.nodes.len() as u64 - self.used;
+        grow_by(&mut self.nodes, &mut self.heads, spare.saturating_sub(free))?;
         self.spare = spare;
         Ok(())
     }
@@ -104,8 +211,16 @@ impl Notices {
         ensures kept { (h : ℕ) (n : EntryName) → Noted self.old h n → Noted self.new h n }
         ensures spare { self.new.spare + 1 ≡ self.old.spare }
     {
-        let at = (home % LISTS) as usize;
-        self.lists[at].push(Notice { home, name }).unwrap();
+        let first = self.heads[FREE].unwrap();
+        move_first(
+            &mut self.nodes,
+            &mut self.heads,
+            FREE,
+            first,
+            name,
+            Some(home),
+        );
+        self.used += 1;
         self.spare -= 1;
     }
 
@@ -114,10 +229,19 @@ impl Notices {
         ensures none { IfNone result ((name : EntryName) → ¬ Noted self.old home name) }
         ensures unchanged { IfNone result (self.new ≡ self.old) }
         ensures others { IfSome result (λ name. (h : ℕ) (n : EntryName) → Noted self.old h n → ((h ≡ home) × (n ≡ name)) ⊎ Noted self.new h n) }
-        ensures less { IfSome result (λ name. length (list_of self.old home) ≡ length (list_of self.new home) + 1) }
+        ensures less { IfSome result (λ name. self.old.used ≡ self.new.used + 1) }
         ensures spare { self.new.spare ≡ self.old.spare }
     {
-        let at = (home % LISTS) as usize;
-        take_last(&mut self.lists[at], home)
+        let chain = chain_of(Some(home));
+        let Some(first) = self.heads[chain] else {
+            return None;
+        };
+        let Some(place) = place_for(&self.nodes, first, home) else {
+            return None;
+        };
+        let name = write_over(&mut self.nodes, place, first);
+        move_first(&mut self.nodes, &mut self.heads, chain, first, name, None);
+        self.used -= 1;
+        Some(name)
     }
 }

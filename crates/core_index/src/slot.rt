@@ -1,15 +1,17 @@
 // What the index keeps of one key.
-ghost use Rattle.std.specs.Prelude.{◌≡◌, ◌+◌, ◌-◌, ◌<◌, ◌≤◌, ℕ, Some, None, [], true, false, if◌then◌else◌, option_map, length, IfOk, OnOk, OnErr, IsTrue};
+ghost use Rattle.std.specs.Prelude.{◌≡◌, ◌+◌, ◌-◌, ◌<◌, ◌≤◌, ◌∷◌, ℕ, Some, None, [], true, false, if◌then◌else◌, option_map, length, IfOk, OnOk, OnErr, IsTrue};
 ghost use Rattle.std.specs.Bool.{Decides};
 ghost use Rattle.std.specs.List.{AllByRecursion};
 ghost use Rattle.log_entry.specs.declared.entry.EntryName.{EntryName};
+ghost use Rattle.core_index.specs.Marks.{kept};
 ghost use Rattle.core_index.specs.Noted.{Noted, NotedIfDead, count_lively, name_with};
 ghost use Rattle.core_index.specs.Records.{Awaits, is_dead, standing_of, Shows, settled, opened, told_in, without, last_of, block_of, is_forgettable, live_version};
 ghost use Rattle.core_index.specs.Slots.{alive_at, home_alive, record_with, known_with, mortal, count_of, count_dead, dead_by, died, OnlyDead, TellsOne};
 
+use crate::entries::Entries;
 use crate::notices::Notices;
-use crate::standing::{awaits, is_dead, is_tombstone, standing_at, take_out, tell_first, untold};
-use crate::types::{Head, Look, Record, Settled, Standee, Standing};
+use crate::standing::{awaits, is_dead, is_tombstone};
+use crate::types::{Head, Look, Marked, Record, Settled, Standee};
 use fs_errors::Memory;
 use fs_model::{Key, Version};
 use log_entry::{Body, EntryName};
@@ -22,21 +24,20 @@ use std::mem::replace;
 #[derive(Drop)]
 pub struct Slot {
     head: Option<Head>,
-    standing: Vec<Standing>,
+    standing: Entries,
     room: u64,
     // The home of the last version's entry, where it stands and is not dead.
     alive: Option<u32>,
 }
 
 impl Model for Slot {
-    ghost use Rattle.std.specs.Vec.{vec_capacity};
     ghost use Rattle.core_index.specs.Slots.{Place, known_with, IsSlot};
 
     ghost Value = { Place };
 
     ghost view = { λ a. record { known = known_with a.head a.standing.items; room = a.room } };
 
-    ghost invariant = { λ a. IsSlot a.head a.standing.items a.room (vec_capacity a.standing) a.alive };
+    ghost invariant = { λ a. IsSlot a.head a.standing a.room a.alive };
 }
 
 impl Slot {
@@ -46,7 +47,7 @@ impl Slot {
     {
         Ok(Slot {
             head: None,
-            standing: Vec::with_capacity(alloc, 1)?,
+            standing: Entries::with_room(alloc)?,
             room: 1,
             alive: None,
         })
@@ -57,7 +58,7 @@ impl Slot {
         requires { AllByRecursion (λ s. s.version ≤ start.version) start.standing.items }
         ensures { IfOk result (λ slot. slot ≡ record { known = Some (opened start); room = 0 }) }
     {
-        let standing = untold(alloc, &start.standing)?;
+        let standing = Entries::of(alloc, start.standing, start.version)?;
         let head = Head {
             version: start.version,
             body: start.body,
@@ -77,7 +78,7 @@ impl Slot {
         ensures err { OnErr result (self.new ≡ self.old) }
     {
         let room = self.room.checked_add(1).ok_or(Memory)?;
-        self.standing.reserve(room as usize)?;
+        self.standing.reserve(room)?;
         self.room = room;
         Ok(())
     }
@@ -96,7 +97,7 @@ impl Slot {
     {
         match &self.head {
             None => false,
-            Some(head) => is_tombstone(&head.body) && self.standing.is_empty(),
+            Some(head) => is_tombstone(&head.body) && self.standing.len() == 0,
         }
     }
 
@@ -118,13 +119,7 @@ impl Slot {
     {
         let last = self.last();
         let before = self.alive;
-        self.standing
-            .push(Standing {
-                version,
-                home,
-                told: false,
-            })
-            .unwrap();
+        self.standing.push(version, home);
         self.room -= 1;
         let head = Head { version, body };
         self.alive = alive_at_end(&head, &self.standing, home);
@@ -156,7 +151,7 @@ impl Slot {
         if !self.awaits(version, home) {
             return false;
         }
-        tell_first(&mut self.standing, version);
+        self.standing.tell(version);
         true
     }
 
@@ -168,7 +163,7 @@ impl Slot {
     {
         let last = self.last();
         let before = self.alive;
-        take_out(&mut self.standing, version);
+        self.standing.take_out(version);
         self.alive = alive_of(&self.head, &self.standing);
         died(version, last, before, self.alive)
     }
@@ -181,7 +176,7 @@ impl Slot {
         ensures spare { notices.old.spare + count_of (alive_at self.now.known) ≤ notices.new.spare + length (standing_of self.now.known) }
     {
         if let Some(head) = &self.head {
-            note_all(head, &self.standing, key, notices);
+            note_all(head, &self.standing, self.standing.marks(), key, notices);
         }
     }
 
@@ -191,7 +186,15 @@ impl Slot {
         ensures { self.new ≡ record { known = None; room = self.old.room } }
     {
         self.head = None;
+        self.standing.clear();
         self.alive = None;
+    }
+
+    // How many entries stand.
+    pub fn len(&self) -> u64
+        ensures { result ≡ length (standing_of self.now.known) }
+    {
+        self.standing.len()
     }
 
     pub fn room(&self) -> u64
@@ -256,27 +259,41 @@ fn died(version: Version, last: Version, before: Option<u32>, after: Option<u32>
     }
 }
 
-// Notes each of these entries that is dead.
-fn note_all(head: &Head, standing: &[Standing], key: Key, notices: &mut Notices)
-    requires { length standing.now ≤ notices.old.spare }
-    ensures noted { AllByRecursion (NotedIfDead notices.new key (record_with head.now standing.now)) standing.now }
+// Notes an entry, where it stands and is dead.
+fn note_mark(head: &Head, standing: &Entries, mark: Marked, key: Key, notices: &mut Notices)
+    requires { length (kept (mark ∷ [])) ≤ notices.old.spare }
+    ensures noted { AllByRecursion (NotedIfDead notices.new key (record_with head.now standing.now.items)) (kept (mark ∷ [])) }
     ensures kept { (h : ℕ) (n : EntryName) → Noted notices.old h n → Noted notices.new h n }
-    ensures spare { notices.old.spare + count_lively (record_with head.now standing.now) standing.now ≤ notices.new.spare + length standing.now }
+    ensures spare { notices.old.spare + count_lively (record_with head.now standing.now.items) (kept (mark ∷ [])) ≤ notices.new.spare + length (kept (mark ∷ [])) }
 {
-    for s in standing {
-        if is_dead(head, standing, s.version) {
-            let name = EntryName {
-                key,
-                version: s.version,
-            };
-            notices.push(s.home, name);
-        }
+    let Marked { entry, gone } = mark;
+    if gone {
+        return;
+    }
+    if is_dead(head, standing, entry.version) {
+        let name = EntryName {
+            key,
+            version: entry.version,
+        };
+        notices.push(entry.home, name);
+    }
+}
+
+// Notes each of these entries that is dead.
+fn note_all(head: &Head, standing: &Entries, marks: &[Marked], key: Key, notices: &mut Notices)
+    requires { length (kept marks.now) ≤ notices.old.spare }
+    ensures noted { AllByRecursion (NotedIfDead notices.new key (record_with head.now standing.now.items)) (kept marks.now) }
+    ensures kept { (h : ℕ) (n : EntryName) → Noted notices.old h n → Noted notices.new h n }
+    ensures spare { notices.old.spare + count_lively (record_with head.now standing.now.items) (kept marks.now) ≤ notices.new.spare + length (kept marks.now) }
+{
+    for mark in marks {
+        note_mark(head, standing, *mark, key, notices);
     }
 }
 
 // The home of the last version's entry, which is the last of these and stands there, where it is not dead.
-fn alive_at_end(head: &Head, standing: &[Standing], home: u32) -> Option<u32>
-    ensures { result ≡ (if is_dead (record_with head.now standing.now) head.now.version then None else Some home) }
+fn alive_at_end(head: &Head, standing: &Entries, home: u32) -> Option<u32>
+    ensures { result ≡ (if is_dead (record_with head.now standing.now.items) head.now.version then None else Some home) }
 {
     if is_dead(head, standing, head.version) {
         None
@@ -286,8 +303,8 @@ fn alive_at_end(head: &Head, standing: &[Standing], home: u32) -> Option<u32>
 }
 
 // The home of the last version's entry, looked for among the entries.
-fn alive_of(head: &Option<Head>, standing: &[Standing]) -> Option<u32>
-    ensures { result ≡ alive_at (known_with head.now standing.now) }
+fn alive_of(head: &Option<Head>, standing: &Entries) -> Option<u32>
+    ensures { result ≡ alive_at (known_with head.now standing.now.items) }
 {
     match head {
         None => None,
@@ -295,13 +312,13 @@ fn alive_of(head: &Option<Head>, standing: &[Standing]) -> Option<u32>
     }
 }
 
-fn alive_in(head: &Head, standing: &[Standing]) -> Option<u32>
-    ensures { result ≡ home_alive (record_with head.now standing.now) }
+fn alive_in(head: &Head, standing: &Entries) -> Option<u32>
+    ensures { result ≡ home_alive (record_with head.now standing.now.items) }
 {
     if is_dead(head, standing, head.version) {
         return None;
     }
-    match standing_at(standing, head.version) {
+    match standing.find(head.version) {
         None => None,
         Some(s) => Some(s.home),
     }

@@ -45,6 +45,13 @@ pub struct Standing {
     pub told: bool,
 }
 
+// A place in a key's list. Its entry is gone once it stands in no log, and leaves the list when that is closed up.
+#[derive(Clone, Copy, Debug, PartialEq, Eq)]
+pub struct Marked {
+    pub entry: Standing,
+    pub gone: bool,
+}
+
 // The last change of a key.
 #[derive(Drop)]
 pub struct Head {

@@ -87,7 +87,7 @@ impl Store {
         })
     }
 
-    /// Makes room for the record of a change.
+    /// Makes room for the record of a change, where a change that was refused left none.
     pub fn admit(&mut self, alloc: Global, key: Key) -> Result<(), Memory>
         ensures room { OnOk result (0 < room_at self.new.index key) }
         ensures ready { (s : State) → Ready s self.old → Ready s self.new }
@@ -95,6 +95,9 @@ impl Store {
         ensures stock { stock_of self.new ≡ stock_of self.old }
         ensures layout { self.new.log.layout ≡ self.old.log.layout }
     {
+        if self.index.room(key) > 0 {
+            return Ok(());
+        }
         self.index.admit(alloc, key)
     }
 

@@ -1,5 +1,5 @@
 -- The shares of the cores, winner by winner.
-use Rattle.std.proofs.Common.{◌≡◌, ◌≢◌, ⊎_elim, ℕ, ◌<◌, ◌≤◌, ◌==◌, ◌&&◌, ◌||◌, List, [], ◌∷◌, ◌++◌, length, get_or, set, map, Bool, true, false, cond, Option, Some, None, refl, sym, ◌∙◌, ap, subst}
+use Rattle.std.proofs.Common.{◌≡◌, ◌≢◌, ⊎_elim, ℕ, ◌<◌, ◌≤◌, ◌==◌, ◌&&◌, ◌||◌, List, [], ◌∷◌, ◌++◌, length, get_or, set, Bool, true, false, cond, Option, Some, None, refl, sym, ◌∙◌, ap, subst}
 use Rattle.std.specs.Prelude.{option_map, is_some, slice_index_or, Vec, Result, Ok, Err, OnOk}
 use Rattle.std.specs.Global.{Global}
 use Rattle.std.specs.Option.{option_to_list, option_map_or}
@@ -18,7 +18,8 @@ use Rattle.store_image.proofs.SoundFacts.{winner_is}
 use Rattle.store_image.proofs.Copies.{winner_some}
 use Rattle.core_index.specs.declared.types.Record.{Record}
 use Rattle.core_index.specs.declared.types.Standee.{Standee}
-use Rattle.core_index.specs.Records.{KeyRecord, standing_at, standing_of, standing_with, untold, opened, pointer_of}
+use Rattle.core_index.specs.Records.{KeyRecord, standing_at, standing_of, standing_with, by_version, opened, pointer_of}
+use Rattle.core_index.proofs.Clients.{opened_at}
 use Rattle.core_index.specs.Index.{opened_in, HasNoneAbove}
 use Rattle.recover.specs.declared.shares.Share.{Share}
 use Rattle.recover.specs.Winning.{winners_of, won_in}
@@ -74,7 +75,7 @@ any_pointer p (Some q) = or_false (q == p) where
 module _ (l : Geometry) (start : ℕ → List Standee) where
   -- what a winner's key is known as, with the entries that stood at the start
   abbrev known_by : PlacedEntry → KeyRecord
-  known_by x = record { version = x.entry.version; body = x.entry.body; standing = map untold (start x.entry.key) }
+  known_by x = record { version = x.entry.version; body = x.entry.body; standing = by_version (start x.entry.key) }
 
   abbrev points : ℕ → ℕ → PlacedEntry → Bool
   points c p x = owner l x.entry.key == c && is_at_pointer p (pointer_of x.entry.body)
@@ -108,7 +109,7 @@ module _ (l : Geometry) (start : ℕ → List Standee) where
       fresh : (o : Option PlacedEntry) → won_in x.entry.key done ≡ o → is_some o ≡ false → opened r ≡ known_by x
       fresh o is none =
           let items : r.standing.items ≡ start x.entry.key = standing ∙ ap (λ o. cond (is_some o) [] (start x.entry.key)) is ∙ ap (λ b. cond b [] (start x.entry.key)) none in
-          (λ i. record { version = version i; body = body i; standing = map untold (items i) })
+          (λ i. record { version = version i; body = body i; standing = by_version (items i) })
 
       one : (b : Bool) (k : ℕ) → (x.entry.key == k) ≡ b → (o : Option PlacedEntry) → won_in k done ≡ o → or_else (option_map known_by o) (cond b (Some (opened r)) None) ≡ option_map known_by (or_else o (cond b (Some x) None))
       one b k same (Some y) is = refl
@@ -221,7 +222,7 @@ module _ (l : Geometry) (standing : BTreeMap ℕ (Vec Standee Global)) (es : Lis
 
   standing_is : (k v : ℕ) (o : Option PlacedEntry) → winner_in k es ≡ o → standing_at (standing_of (option_map (known_by l start) o)) v ≡ option_map (λ (x : PlacedEntry). standing_with v x.core false) (named_in k v es)
   standing_is k v None won = no_entry k v won (named_in k v es) refl
-  standing_is k v (Some x) won = ap (λ j. standing_at (map untold (start j)) v) (winner_is k es x won).1 ∙ has.each k v
+  standing_is k v (Some x) won = ap (λ j. standing_at (by_version (start j)) v) (winner_is k es x won).1 ∙ opened_at (start k) v ∙ has.each k v
 
   pub is_share : (c : ℕ) (share : Share) → Given l start c (winners_of es) share → IsShare l es c share
   is_share c share given = record {

@@ -1,39 +1,41 @@
-use Rattle.std.proofs.Common.{◌≡◌, ℕ, get_or, false, sym, ap, subst, arith, rules}
-use Rattle.log_entry.specs.declared.entry.EntryName.{EntryName}
-use Rattle.core_index.specs.declared.types.Standing.{Standing}
-use Rattle.core_index.specs.Records.{KeyRecord, standing_with}
+use Rattle.std.proofs.Common.{◌+◌, ◌∷◌, [], length, get_or, take, sym, ◌∙◌, ap, subst, arith}
+use Rattle.std.specs.List.{AllByRecursion}
+use Rattle.std.proofs.lemmas.List.{length-append}
+use Rattle.core_index.specs.Records.{KeyRecord}
+use Rattle.core_index.specs.Marks.{kept, marked}
 use Rattle.core_index.specs.Slots.{record_with}
-use Rattle.core_index.specs.Noted.{Book, Noted, NotedIfDead, name_with}
-use Rattle.core_index.proofs.IndexLaws.{more_noted, lively_dead, lively_more}
+use Rattle.core_index.specs.Noted.{NotedIfDead, count_lively}
+use Rattle.core_index.proofs.MarkLaws.{kept_more, kept_part}
+use Rattle.core_index.proofs.IndexLaws.{noted_append, lively_append}
 use Rattle.core_index.proofs.slot.note_all.Goals as goal
-use Rattle.core_index.proofs.slot.note_all.Goals.{then-is_dead, else-is_dead}
 
-pub loop-s-preserved : goal.loop-s-preserved
-loop-s-preserved c =
-    let ss = c.args.standing.now in
-    let i = c.loop-s.s-index in
-    let r : KeyRecord = record_with c.args.head.now ss in
-    let d : Standing = standing_with 0 0 false in
-    let k = c.args.key in
-    let lt = c.loop-s-test.true in
-    let was = c.loop-s.invariant in
-    let b : Book = c.loop-s.notices in
-    let now : Book = c.if-is_dead.notices in
-    elim c.if-is_dead.branch [
-      | then-is_dead w ↦
-          let kept : (h : ℕ) (n : EntryName) → Noted b h n → Noted now h n = λ h n noted. subst (λ (x : Book). Noted x h n) (sym w.notices-is) (w.push.ensures.kept h n noted) in
-          let new : NotedIfDead now k r (get_or ss i d) = λ _. subst (λ (x : Book). Noted x (get_or ss i d).home (name_with k (get_or ss i d).version)) (sym w.notices-is) (search rules) in
-          record {
-            noted = more_noted k b now r ss i d lt kept was.noted new;
-            kept = λ h n noted. kept h n (was.kept h n noted);
-            spare = let s = was.spare in let t = w.push.ensures.spare in let e : now.spare ≡ w.push.new.self.spare = ap (λ (x : Book). x.spare) w.notices-is in let more = lively_dead r ss i d lt (sym w.if-is_dead.ensures) in omega (arith, s, t, e, more);
-          }
-      | else-is_dead w ↦
-          let kept : (h : ℕ) (n : EntryName) → Noted b h n → Noted now h n = λ h n noted. subst (λ (x : Book). Noted x h n) (sym w.notices-is) noted in
-          let new : NotedIfDead now k r (get_or ss i d) = λ dies. let lives = w.if-is_dead.ensures in absurd (cc (lives, dies)) in
-          record {
-            noted = more_noted k b now r ss i d lt kept was.noted new;
-            kept = λ h n noted. kept h n (was.kept h n noted);
-            spare = let s = was.spare in let e : now.spare ≡ b.spare = ap (λ (x : Book). x.spare) w.notices-is in let more = lively_more r ss i d lt (sym w.if-is_dead.ensures) in omega (arith, s, e, more);
-          }
-    ]
+pub note_mark-requires : goal.note_mark-requires
+note_mark-requires c =
+    let ms = c.args.marks.now in
+    let i = c.loop-mark.mark-index in
+    let lt = c.loop-mark-test.true in
+    let more = ap length (kept_more ms i (marked 0 0) lt) ∙ length-append (kept (take i ms)) (kept (get_or ms i (marked 0 0) ∷ [])) in
+    let part = kept_part ms (i + 1) in
+    let was = c.loop-mark.invariant.spare in
+    let enough = c.requires in
+    omega (arith, more, part, was, enough)
+
+pub loop-mark-preserved : goal.loop-mark-preserved
+loop-mark-preserved c =
+    let ms = c.args.marks.now in
+    let i = c.loop-mark.mark-index in
+    let r : KeyRecord = record_with c.args.head.now c.args.standing.now.items in
+    let lt = c.loop-mark-test.true in
+    let more = kept_more ms i (marked 0 0) lt in
+    let was = c.loop-mark.invariant in
+    let now = c.note_mark.ensures in
+    record {
+      noted = subst (AllByRecursion (NotedIfDead c.note_mark.new.notices c.args.key r)) (sym more) (noted_append c.args.key c.loop-mark.notices c.note_mark.new.notices r (kept (take i ms)) (kept (get_or ms i (marked 0 0) ∷ [])) now.kept was.noted now.noted);
+      still = λ h n noted. now.kept h n (was.still h n noted);
+      spare =
+          let a = ap (count_lively r) more ∙ lively_append r (kept (take i ms)) (kept (get_or ms i (marked 0 0) ∷ [])) in
+          let b = ap length more ∙ length-append (kept (take i ms)) (kept (get_or ms i (marked 0 0) ∷ [])) in
+          let old = was.spare in
+          let new = now.spare in
+          omega (arith, a, b, old, new);
+    }

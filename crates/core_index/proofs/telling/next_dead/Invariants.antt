@@ -1,5 +1,4 @@
-use Rattle.std.proofs.Common.{◌≡◌, length}
-use Rattle.core_index.specs.Noted.{list_of}
+use Rattle.std.proofs.Common.{◌≡◌}
 use Rattle.core_index.specs.Index.{IsIndex}
 use Rattle.core_index.proofs.telling.next_dead.Given as goal
 
@@ -10,4 +9,4 @@ invariant-loop-name l = record {
 }
 
 abbrev pub decreases-loop-name : goal.decreases-loop-name
-decreases-loop-name l = length (list_of l.notices l.home)
+decreases-loop-name l = l.notices.used

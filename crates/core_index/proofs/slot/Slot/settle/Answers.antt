@@ -1,7 +1,5 @@
-use Rattle.std.proofs.Common.{◌≡◌, ◌+◌, ◌++◌, ◌∷◌, ◌≤◌, [], List, length, Option, Some, None, false, cond, sym, ◌∙◌, ap, subst, arith, rules}
+use Rattle.std.proofs.Common.{◌≡◌, ◌+◌, ◌++◌, ◌∷◌, [], Option, Some, None, false, cond, sym, ◌∙◌, ap, subst, rules}
 use Rattle.core_index.specs.declared.types.Standee.{Standee}
-use Rattle.core_index.specs.declared.types.Standing.{Standing}
-use Rattle.core_index.specs.declared.types.Head.{Head}
 use Rattle.core_index.specs.Records.{KeyRecord, standing_with, is_dead, last_of}
 use Rattle.core_index.specs.Slots.{Place, record_with, known_with, AreBelow, alive_at, home_alive, dead_by, OnlyDead}
 use Rattle.core_index.proofs.SlotLaws.{settled_only, settled_alive, settled_below}
@@ -20,13 +18,13 @@ invariant_of-self c =
     let new : KeyRecord = record { version = n; body = c.args.body; standing = ss ++ standing_with n home false ∷ [] } in
     let after : c.alive_at_end-self-inside.result ≡ cond (is_dead new n) None (Some home) = search rules in
     let alive = settled_alive o ss c.args.body n home c.alive_at_end-self-inside.result c.self.invariant.below next after in
-    let long : length c.push.new.self.items ≡ length ss + 1 = search rules in
     let room = c.requires.room in
     let room_is : c.self.inside.room ≡ c.args.self.now.room = ap (λ (p : Place). p.room) c.self.view_is in
     let fits = c.self.invariant.fits in
     let below : AreBelow (Some (record { version = n; body = c.args.body })) (ss ++ standing_with n home false ∷ []) = settled_below o ss c.args.body n home c.self.invariant.below next in
     record {
       below = subst (λ h. AreBelow h c.push.new.self.items) (sym head) (subst (AreBelow (Some (record { version = n; body = c.args.body }))) (sym more) below);
+      top = search rules;
       fits = search rules;
       alive_is = alive ∙ sym (ap (λ h. alive_at (known_with h c.push.new.self.items)) head ∙ ap (λ xs. home_alive (record_with (record { version = n; body = c.args.body }) xs)) more);
     }

@@ -1,0 +1,2 @@
+-- What the crates above use.
+pub use Rattle.core_index.proofs.MarkLaws.{opened_at}
