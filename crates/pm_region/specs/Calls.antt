@@ -2,7 +2,7 @@
 use Rattle.std.specs.Prelude.{◌≡◌, ℕ, ◌+◌, ◌-◌, ◌==◌, nat_le, nat_lt, Bool, ◌&&◌, if◌then◌else◌, List, [], ◌∷◌, ◌++◌, length, slice_index}
 
 pub data Call : Type 0 where
-  -- the file was synced and its cached pages were dropped, so that a read gives what the disk has
+  -- the file was synced, so that what a read gives is on the disk
   settled : Call
   -- the file had so many bytes
   measured : ℕ → Call

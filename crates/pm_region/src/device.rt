@@ -48,8 +48,8 @@ impl Device {
     ghost use Rattle.pm_region.specs.Calls.{settled, measured, gave, wrote, emptied, synced, named, failed};
 
     /// Opens the file for reading and writing, or where that is refused for reading only. It takes the lock of the
-    /// file, a shared one for reading only, and makes what the file has certain: it syncs the file, has its cached
-    /// pages dropped, so that a read gives what the disk has, and syncs its folder. Another program's lock is a fault.
+    /// file, a shared one for reading only, and makes what the file has certain: it syncs the file and its folder.
+    /// Another program's lock is a fault.
     pub fn attach<R: Files<File = File>>(
         alloc: Global,
         rt: &R,
@@ -59,8 +59,6 @@ impl Device {
     {
         let (file, writable) = open_locked(rt, path)?;
         file.sync_all()?;
-        // A system that refuses the advice goes on with its pages, which were just synced.
-        let _refused = libc::posix_fadvise(file.as_raw_fd(), 0, 0, libc::POSIX_FADV_DONTNEED);
         let folder = sync_folder(alloc, rt, path);
         if writable {
             folder?;
