@@ -46,10 +46,6 @@ read_out coming left v gives end = at_size (short_or_long (length v))
     at_size (inl h) = (v, gives, inr (end h))
     at_size (inr h) = (v, gives, inl h)
 
-pub never_said : (e : ReadError) → is_said {A = List Line} (Err (as_until_error e)) ≡ true → ⊥
-never_said reads.SourceFault h = cc h
-never_said reads.Memory h = cc h
-
 pub ended_until : (left : Option (List ℕ)) (v : List ℕ) (built : Built) (cores : ℕ) (r : Result (List Line) UntilError)
     → (length v < 67108865 → IsAtEnd left) → StopsAs r (input_or_stop built cores v) → OnOk r (IsAtEnd left)
 ended_until left v built cores (Err e) end said = tt

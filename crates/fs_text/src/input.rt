@@ -1,6 +1,6 @@
 // A whole input.
 ghost use Rattle.std.specs.Prelude.{◌≡◌, ℕ, ◌≤◌, List, true, OnOk, IfOk, IfSome, IsErrOf, Ok};
-ghost use Rattle.pm_region.specs.State.{Rose};
+ghost use Rattle.fs_errors.specs.Counts.{Rose};
 ghost use Rattle.fs_text.specs.Bounds.{IsWithin};
 ghost use Rattle.fs_text.specs.Input.{input_of};
 ghost use Rattle.fs_text.specs.Reading.{Answers};

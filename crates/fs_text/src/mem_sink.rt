@@ -1,6 +1,6 @@
 // A sink in memory whose calls fail by a list.
 ghost use Rattle.std.specs.Prelude.{◌≡◌, ◌+◌, ◌^◌, ◌-◌, ◌<◌, ◌≤◌, [], Some, IfOk, OnErr, option_copied};
-ghost use Rattle.pm_region.specs.State.{Rose};
+ghost use Rattle.fs_errors.specs.Counts.{Rose};
 
 use crate::sink::{Sink, SinkFault};
 use crate::store::Store;

@@ -1,6 +1,6 @@
 // Where an input comes from.
 ghost use Rattle.std.specs.Prelude.{◌≡◌, ℕ, ◌<◌, ◌≤◌, List, [], Option, length, take, IfOk, OnErr};
-ghost use Rattle.pm_region.specs.State.{Rose};
+ghost use Rattle.fs_errors.specs.Counts.{Rose};
 ghost use Rattle.fs_text.specs.Streams.{Gives, IsAtEnd};
 
 use thiserror::Error;

@@ -5,8 +5,7 @@ use Rattle.fs_model.specs.declared.model.Request.TheVariants.{Put, Get, Delete}
 use Rattle.fs_model.specs.Cells.{key_of}
 use Rattle.chunk_map.specs.declared.layouts.Geometry.{Geometry}
 use Rattle.chunk_map.specs.Layouts.{numbers, chunk_first, head_at, owner, is_of_group, has_class}
-use Rattle.lazy_alloc.specs.Heads.{is_free}
-use Rattle.lazy_alloc.specs.Sets.{blocks_in}
+use Rattle.chunk_map.specs.Chunks.{is_free, blocks_in}
 
 -- n divided by d, rounded up
 abbrev pub parts_of : ℕ → ℕ → ℕ

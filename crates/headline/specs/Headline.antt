@@ -57,11 +57,6 @@ abbrev pub RecoversThroughout : State → (ℕ → Option (List ℕ)) → List R
 RecoversThroughout s start trace r =
     (t : ℕ) → IsTold s t → (image : ℕ → ℕ) → MayLeave s.frame (s.cells t) image → Recovers s.frame.bytes start trace r (λ k. finished_by k trace r.finishes t) image
 
--- At exit alone, with all finishes
-abbrev pub RecoversAtExit : State → (ℕ → Option (List ℕ)) → List Request → Told → Type 0
-RecoversAtExit s start trace r =
-    IsTelling s → (image : ℕ → ℕ) → MayLeave s.frame (cell_now s) image → Recovers s.frame.bytes start trace r (λ k. finished_by k trace r.finishes (2 ^ 64)) image
-
 -- At exit, each image recovers all changes
 abbrev pub RecoversAll : State → (ℕ → Option (List ℕ)) → List Request → Told → Type 0
 RecoversAll s start trace r =
