@@ -58,6 +58,10 @@ pub record IsFenced (old new : FileWords) (start : ℕ) (before after : List Cal
   pub written : IsWritten old start before writes
   pub synced_last : after ≡ synced ∷ writes
 
+-- nothing was flushed and no call made, or a fence was made
+abbrev pub IsSettled : FileWords → FileWords → List Call → List Call → Type 0
+IsSettled old new before after = (((line : ℕ) → flushes old line ≡ false) × (after ≡ before)) ⊎ IsFenced old new 0 before after
+
 -- the words from one place to another, with nothing flushed
 pub record IsPart (w : FileWords) (from end : ℕ) (part : FileWords) : Type 0 where
   pub size : part.size ≡ 8 * (end - from)

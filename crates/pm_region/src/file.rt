@@ -134,7 +134,7 @@ impl<R: Files<File = File> + Drop> Region for FileRegion<R> {
 
 impl<R: Files<File = File> + Drop> SplitRegion for FileRegion<R> {
     ghost use Rattle.pm_region.specs.Files.{file_state, file_piece_state, file_frame, AreFileParts, HaveTaken, HasOpened, HasMade};
-    ghost use Rattle.pm_region.specs.Filed.{flushes};
+    ghost use Rattle.pm_region.specs.Filed.{flushes, calls_on, IsSettled};
     ghost use Rattle.pm_region.specs.Split.{Attached, Stays, Refuses, IsPiece, Parted, CameFrom, TakesPiece, Joined, IsOpenedOnceMore, IsNotOpened, ComesNext};
 
     type Piece = FilePiece;
@@ -206,6 +206,7 @@ impl<R: Files<File = File> + Drop> SplitRegion for FileRegion<R> {
         ensures opens { IsNotOpened (file_state self.old) (file_state self.new) }
         ensures parts { IfOk result (λ pieces. AreFileParts self.old.words cuts.now self.old.stamp self.old.faults pieces.items (length cuts.now - 1)) }
         ensures clean { OnOk result ((line : ℕ) → flushes self.new.words line ≡ false) }
+        ensures written { OnOk result (IsSettled self.old.words self.new.words (calls_on self.old.device) (calls_on self.new.device)) }
     {
         let kept = cuts.to_vec(alloc)?;
         if write_pending(&mut self.words, &mut self.device).is_err() {

@@ -1,6 +1,6 @@
 // How the file of a region is opened, made and written.
 ghost use Rattle.std.specs.Prelude.{false, ◌≡◌, ℕ, ◌*◌, ◌≤◌, IfOk, OnOk, OnErr};
-ghost use Rattle.pm_region.specs.Filed.{calls_on, IsOpened, IsMade, IsFenced, IsKept, flushes};
+ghost use Rattle.pm_region.specs.Filed.{calls_on, IsOpened, IsMade, IsFenced, IsKept, IsSettled, flushes};
 
 use crate::bytes::word_count;
 use crate::device::Device;
@@ -74,6 +74,7 @@ pub fn write_pending(words: &mut FileWords, device: &mut Option<Device>) -> Resu
     ensures size { words.new.size ≡ words.old.size }
     ensures bytes { words.new.bytes ≡ words.old.bytes }
     ensures clean { OnOk result ((line : ℕ) → flushes words.new line ≡ false) }
+    ensures written { OnOk result (IsSettled words.old words.new (calls_on device.old) (calls_on device.new)) }
 {
     if words.is_clean() {
         Ok(())
