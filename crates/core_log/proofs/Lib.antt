@@ -10,3 +10,4 @@ pub mod RetireLaws
 pub mod ItemLaws
 pub mod WalkLaws
 pub mod Clients
+pub mod Steps

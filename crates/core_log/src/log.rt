@@ -1,5 +1,5 @@
 // A core's log: its chunks with their tails, and which of them is open.
-ghost use Rattle.std.specs.Prelude.{◌≡◌, ◌≢◌, ◌⊎◌, ℕ, ◌+◌, ◌*◌, ◌/◌, ◌%◌, ◌^◌, ◌≤◌, ◌<◌, List, length, Some, None, true, is_some, OnOk, OnErr, IfOk, IfSome, Option, option_map};
+ghost use Rattle.std.specs.Prelude.{◌≡◌, ◌≢◌, ◌⊎◌, ℕ, ◌+◌, ◌-◌, ◌*◌, ◌/◌, ◌%◌, ◌^◌, ◌≤◌, ◌<◌, List, length, Some, None, true, is_some, OnOk, OnErr, IfOk, IfSome, Option, option_map};
 ghost use Rattle.std.specs.List.{flat_map, AllByRecursion};
 ghost use Rattle.pm_region.specs.State.{State, During, IsTelling, cell_now, Rose};
 ghost use Rattle.pm_region.specs.Words.{KeepsOutside, EachIn, Surely, lasts};
@@ -12,7 +12,7 @@ ghost use Rattle.core_log.specs.Log.{LogState, IsOwn, tail_of, with_tail, withou
 ghost use Rattle.core_log.specs.Fresh.{HasEachOnce, IsEmptiest};
 ghost use Rattle.core_log.specs.Opening.{EachInChunk, HasNoEntries, OpenedChunk};
 ghost use Rattle.core_log.specs.Retiring.{HasSameOrNone, RetiredChunk};
-ghost use Rattle.core_log.specs.Walking.{LiesIn, IsReadable, entries_in, next_entry, step_at, peek_at};
+ghost use Rattle.core_log.specs.Walking.{LiesIn, IsReadable, entries_in, next_entry, step_at, peek_at, WordsLie, IsStep, IsWalk};
 ghost use Rattle.core_log.specs.Entries.{open_entries, added_entries, HasEntries, HasEntriesOrLacks, AppendedBatch};
 
 use crate::chunk::append_at;
@@ -243,11 +243,14 @@ impl CoreLog {
         requires has { is_some (tail_of self.now.chunks chunk) ≡ true }
         requires readable { IsReadable (R.state region.now) self.now chunk place }
         ensures told { IsTelling (R.state region.now) → result ≡ option_map (peek_at (first_of self.now chunk + 32)) (next_entry place (entries_in (R.state region.now) self.now chunk)) }
+        // It is the first that is left there, and the words at `at` are its spelling. Behind it the others are left.
+        ensures step { IsTelling (R.state region.now) → IsStep (R.state region.now) self.now chunk place result }
         // Reading may go on behind the entry.
         ensures next { IfSome result (λ p. IsReadable (R.state region.now) self.now chunk p.next) }
         ensures within { IfSome result (λ p. (place ≤ p.place) × (p.place < p.next)) }
         ensures at { IfSome result (λ p. p.at ≡ first_of self.now chunk + 32 + p.place) }
         ensures size { IfSome result (λ p. p.next ≤ p.place + 34) }
+        ensures range { IfSome result (λ p. WordsLie (R.state region.now).frame p.at (p.next - p.place)) }
     {
         let first = self.first_of(chunk) + 32;
         let tail = self.tail_in(chunk);
@@ -266,6 +269,8 @@ impl CoreLog {
         requires has { is_some (tail_of self.now.chunks chunk) ≡ true }
         requires readable { IsReadable (R.state region.now) self.now chunk place }
         ensures told { IfOk result (λ step. IsTelling (R.state region.now) → step ≡ option_map step_at (next_entry place (entries_in (R.state region.now) self.now chunk))) }
+        // It is the first that is left there. Behind it the others are left.
+        ensures left { IfOk result (λ step. IsTelling (R.state region.now) → IsWalk (entries_in (R.state region.now) self.now chunk) place step) }
         // Reading may go on behind the entry.
         ensures next { IfOk result (λ step. IfSome step (λ s. IsReadable (R.state region.now) self.now chunk s.next)) }
         ensures within { IfOk result (λ step. IfSome step (λ s. (place ≤ s.place) × (s.place < s.next))) }

@@ -1,7 +1,8 @@
-use Rattle.std.proofs.Common.{◌≡◌, ◌≤◌, ◌<◌, ◌+◌, ◌^◌, sym, ◌∙◌, ap, subst, arith}
+use Rattle.std.proofs.Common.{◌+◌, ap, arith, rules}
 use Rattle.core_log.specs.Log.{tail_of, tail_in}
 use Rattle.core_log.proofs.LogLaws.{own_chunk, part_lies}
 use Rattle.core_log.proofs.RetireLaws.{is_tail}
+use Rattle.core_log.proofs.Steps.{step_is, found_lies}
 use Rattle.core_log.proofs.log.CoreLog.peek.Goals as goal
 
 pub peek_from-requires-clause-high : goal.peek_from-requires-clause-high
@@ -27,3 +28,15 @@ peek_from-requires-clause-fits g c =
     let at = c.first_of-first.ensures in
     let tail = c.tail_in-tail.ensures in
     omega (arith, fits, room, at, tail)
+
+pub returns-clause-told : goal.returns-clause-told
+returns-clause-told g c = search rules
+
+pub returns-clause-step : goal.returns-clause-step
+returns-clause-step g c = λ telling. step_is (g.R.Region.state c.args.region.now) c.args.self.now c.args.chunk c.args.place (c.requires.readable.spelled telling) (c.requires.readable.between telling) c.requires.readable.within c.peek_from.result (returns-clause-told g c telling)
+
+pub returns-clause-range : goal.returns-clause-range
+returns-clause-range g c =
+    let f = (g.R.Region.state c.args.region.now).frame in
+    let first = c.first_of-first.ensures in
+    found_lies f c.args.self.now c.args.chunk c.args.place (c.first_of-first.result + 32) c.tail_in-tail.result c.peek_from.result c.requires.lies c.requires.has (ap (λ n. n + 32) first) c.tail_in-tail.ensures c.peek_from.ensures.within c.peek_from.ensures.at

@@ -1,7 +1,10 @@
-use Rattle.std.proofs.Common.{◌≡◌, ◌≤◌, ◌<◌, ◌+◌, ◌^◌, sym, ◌∙◌, ap, subst, arith}
+use Rattle.std.proofs.Common.{arith, rules}
 use Rattle.core_log.specs.Log.{tail_of, tail_in}
 use Rattle.core_log.proofs.LogLaws.{own_chunk, part_lies}
 use Rattle.core_log.proofs.RetireLaws.{is_tail}
+use Rattle.pm_region.specs.State.{IsTelling}
+use Rattle.core_log.specs.Walking.{words_in}
+use Rattle.core_log.proofs.Steps.{walk_left}
 use Rattle.core_log.proofs.log.CoreLog.walk.Goals as goal
 
 pub walk_from-requires-clause-high : goal.walk_from-requires-clause-high
@@ -27,3 +30,11 @@ walk_from-requires-clause-fits g c =
     let at = c.first_of-first.ensures in
     let tail = c.tail_in-tail.ensures in
     omega (arith, fits, room, at, tail)
+
+pub returns-clause-told : goal.returns-clause-told
+returns-clause-told g c = search rules
+
+pub returns-clause-left : goal.returns-clause-left
+returns-clause-left g c =
+    let s = g.R.Region.state c.args.region.now in
+    walk_left (IsTelling s) (words_in s c.args.self.now c.args.chunk) c.args.place c.walk_from.result c.requires.readable.spelled (returns-clause-told g c)
