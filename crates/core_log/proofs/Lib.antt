@@ -10,3 +10,6 @@ pub mod RetireLaws
 pub mod ItemLaws
 pub mod WalkLaws
 pub mod Clients
+pub mod ChunkWords
+pub mod ChunkImages
+pub mod LogWrites
