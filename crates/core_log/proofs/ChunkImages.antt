@@ -1,5 +1,5 @@
 -- An image of a part that differs from another one in one chunk, which is no data chunk there.
-use Rattle.std.proofs.Common.{◌≡◌, ◌≢◌, ◌⊎◌, inl, inr, ⊎_elim, ℕ, zero, suc, ◌+◌, ◌-◌, ◌*◌, ◌/◌, ◌%◌, ◌^◌, ◌≤◌, ◌<◌, ◌==◌, ◌&&◌, leb, Bool, true, false, cond, List, [], ◌∷◌, ◌++◌, map, Option, Some, None, Ok, refl, sym, ◌∙◌, ap, subst, arith}
+use Rattle.std.proofs.Common.{◌≡◌, ◌≢◌, ◌⊎◌, inl, inr, ⊎_elim, ℕ, ◌+◌, ◌*◌, ◌/◌, ◌%◌, ◌≤◌, ◌<◌, ◌==◌, ◌&&◌, leb, Bool, true, false, cond, List, [], ◌∷◌, map, Option, Some, None, Ok, refl, sym, ◌∙◌, ap, subst, arith}
 use Rattle.std.specs.List.{flat_map, list_all}
 use Rattle.std.proofs.lemmas.Bool.{cases_eq, and_parts, and_from, eqb-true}
 use Rattle.log_entry.specs.declared.entry.Entry.{Entry}
@@ -50,14 +50,16 @@ pub part_has : (l : Geometry) (image : ℕ → ℕ) (c j : ℕ) (e : Entry) → 
 part_has l image c j e lt i =
     let x = of_map (λ (x : PlacedEntry). x.entry) e (chunk_entries l image c j) i in
     subst (λ (d : Entry). InPart l image c d) (sym x.2)
-      (in_map (λ (y : PlacedEntry). y.entry) x.0 _ (in_flat (λ n. chunk_entries l image c n) j x.0 (numbers 0 l.chunks) (in_numbers 0 l.chunks j (omega arith) (omega arith)) x.1))
+    (in_map (λ (y : PlacedEntry). y.entry) x.0 _ (in_flat (λ n. chunk_entries l image c n) j x.0 (numbers 0 l.chunks) (in_numbers 0 l.chunks j (omega arith) (omega arith)) x.1))
 
 pub part_of : (l : Geometry) (image : ℕ → ℕ) (c : ℕ) (e : Entry) → InPart l image c e → (j : ℕ) × (j < l.chunks) × InChunk l image c j e
 part_of l image c e i =
     let x = of_map (λ (x : PlacedEntry). x.entry) e _ i in
-    let at = of_flat (λ n. chunk_entries l image c n) x.0 (numbers 0 l.chunks) x.1 in
-    (at.0, (let lt = number_in 0 l.chunks at.0 at.1 in omega (arith, lt.1)),
-      subst (λ (d : Entry). InChunk l image c at.0 d) (sym x.2) (in_map (λ (y : PlacedEntry). y.entry) x.0 (chunk_entries l image c at.0) at.2))
+    let at = of_flat (λ n. chunk_entries l image c n) x.0 (numbers 0 l.chunks) x.1 in (
+      at.0,
+      (let lt = number_in 0 l.chunks at.0 at.1 in omega (arith, lt.1)),
+      subst (λ (d : Entry). InChunk l image c at.0 d) (sym x.2) (in_map (λ (y : PlacedEntry). y.entry) x.0 (chunk_entries l image c at.0) at.2),
+    )
 
 all_of : {X : Type 0} (f : X → Bool) (xs : List X) → list_all f xs ≡ true → (x : X) → In x xs → f x ≡ true
 all_of f [] all x i = absurd i
@@ -116,9 +118,9 @@ module _ (l : Geometry) (is : Numbers l) (c : ℕ) (low : c < l.cores) (j : ℕ)
         let lies = block_lies l is old c q has.0 low has.1 in
         let ne : chunk_of l q ≢ j = λ here. no_data has.0 (ap (λ n. head_at l old (chunk_first l c n)) (sym here) ∙ lies.head) in
         held_same l image old c q (class_same ne) (λ class at k less.
-          let again = block_lies l is old c q class low at in
-          let word = again.words k less in
-          ap image word.3 ∙ else_same (chunk_of l q) word.0 ne word.2 ∙ ap old (sym word.3)) ∙ e
+        let again = block_lies l is old c q class low at in
+        let word = again.words k less in
+        ap image word.3 ∙ else_same (chunk_of l q) word.0 ne word.2 ∙ ap old (sym word.3)) ∙ e
       where
         class_same : chunk_of l q ≢ j → block_class l image c q ≡ block_class l old c q
         class_same ne = by_test (leb 16 q && (chunk_at l q / l.chunks == c)) refl where
@@ -131,5 +133,5 @@ module _ (l : Geometry) (is : Numbers l) (c : ℕ) (low : c < l.cores) (j : ℕ)
               let number : c * l.chunks + chunk_of l q ≡ chunk_at l q = (let e : l.chunks * c ≡ c * l.chunks = omega arith in omega (arith, e, ap (λ x. l.chunks * x + chunk_at l q % l.chunks) (sym part) ∙ split)) in
               let first : 512 + chunk_at l q * chunk_words l ≡ chunk_first l c (chunk_of l q) = ap (λ n. 512 + n * chunk_words l) (sym number) in
               ap (class_behind l (unit_at l q)) (ap (head_at l image) first
-                ∙ head_same l image old (chunk_first l c (chunk_of l q)) room (λ k less. else_same (chunk_of l q) k ne less)
-                ∙ ap (head_at l old) (sym first))
+              ∙ head_same l image old (chunk_first l c (chunk_of l q)) room (λ k less. else_same (chunk_of l q) k ne less)
+              ∙ ap (head_at l old) (sym first))

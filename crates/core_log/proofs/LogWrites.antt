@@ -1,40 +1,40 @@
 -- What the part of a log is in images while the log is written: a batch is appended, a chunk is opened, or one is made Free.
-use Rattle.std.proofs.Common.{◌≡◌, ◌≢◌, ◌⊎◌, inl, inr, ⊎_elim, ℕ, ◌+◌, ◌≤◌, ◌<◌, true, List, [], ◌∷◌, ◌++◌, length, map, Option, Some, None, Ok, is_some, refl, sym, ◌∙◌, ap, subst, arith}
+use Rattle.std.proofs.Common.{◌≡◌, ◌≢◌, ◌⊎◌, inl, inr, ⊎_elim, ℕ, ◌+◌, ◌≤◌, ◌<◌, true, List, [], ◌∷◌, ◌++◌, length, map, Some, None, Ok, is_some, refl, sym, ◌∙◌, ap, subst, arith}
 use Rattle.std.specs.List.{flat_map}
 use Rattle.std.proofs.lemmas.Bool.{cases_eq}
 use Rattle.std.proofs.lemmas.List.{map-append}
 use Rattle.pm_region.specs.Cell.{Cell}
 use Rattle.pm_region.specs.State.{State, Frame, IsTelling, cell_now, During}
-use Rattle.pm_region.specs.Words.{Kept, KeepsOutside, MayLeaveIn, EachIn, Surely, lasts}
+use Rattle.pm_region.specs.Words.{Kept, KeepsOutside, MayLeaveIn, Surely, lasts}
 use Rattle.pm_region.proofs.Moments.{weaken, both, told_at_entry, at_exit}
 use Rattle.pm_region.proofs.Cells.{may_be_last}
 use Rattle.pm_region.proofs.Narrow.{surely_last}
 use Rattle.log_entry.specs.declared.entry.Entry.{Entry}
 use Rattle.log_entry.specs.Spelling.{words_of}
-use Rattle.log_entry.specs.Batches.{IsBatch, SpellsBatches, scan_of}
+use Rattle.log_entry.specs.Batches.{IsBatch, SpellsBatches}
 use Rattle.log_entry.proofs.Scans.{spells-append}
 use Rattle.chunk_map.specs.declared.heads.Head.TheVariants.{Data}
-use Rattle.chunk_map.specs.Layouts.{chunk_first, chunk_words, head_at, part_first}
+use Rattle.chunk_map.specs.Layouts.{chunk_words, head_at, part_first}
 use Rattle.chunk_map.proofs.LayoutLaws.{chunks_apart, chunk_in_part}
 use Rattle.store_image.specs.declared.types.PlacedEntry.{PlacedEntry}
 use Rattle.store_image.specs.Parts.{placed, chunk_entries, chunk_reads}
 use Rattle.store_image.specs.Facts.{In}
 use Rattle.store_image.proofs.Places.{Numbers, layout_numbers}
 use Rattle.store_image.proofs.SoundFacts.{in_front, in_back, in_either}
-use Rattle.core_log.specs.Chunk.{words_now, padded, HasOrLacks, HasLog, FreeOrEmpty, FreeOrLog, lines_for, ChunkLies}
-use Rattle.core_log.specs.Log.{LogState, StandsIn, EachInOpen, Spelled, IsChunkOf, HoldsEntries, chunk_with, tail_of, tail_in, first_of, open_number, open_first, open_tail, room_of}
+use Rattle.core_log.specs.Chunk.{words_now, padded, HasOrLacks, HasLog, FreeOrEmpty, FreeOrLog, lines_for}
+use Rattle.core_log.specs.Log.{LogState, StandsIn, EachInOpen, Spelled, IsChunkOf, chunk_with, tail_of, tail_in, first_of, open_number, open_first, open_tail, room_of}
 use Rattle.core_log.specs.Entries.{open_entries, added_entries, AppendedBatch}
 use Rattle.core_log.specs.Opening.{EachInChunk}
 use Rattle.core_log.specs.Walking.{entries_in}
-use Rattle.core_log.specs.PartImages.{MayLeavePart, EachInPart, StandsInPart, entries_of, KeepsPart, Gains, Loses, GainsSince, LosesSince}
+use Rattle.core_log.specs.PartImages.{MayLeavePart, EachInPart, entries_of, KeepsPart, Gains, Loses, GainsSince, LosesSince}
 use Rattle.core_log.proofs.Padded.{length-padded}
 use Rattle.core_log.proofs.Append.{log_reads}
 use Rattle.core_log.proofs.LogLaws.{own_chunk, tail_fits, log_kept, words_kept}
 use Rattle.core_log.proofs.RetireLaws.{is_tail}
-use Rattle.core_log.proofs.BatchLaws.{some_opens, holds_some, opened_is, open_has, open_chunk_of, moved_chunk_of, open_lies, open_log, open_spelled, has_entries, entries_read}
+use Rattle.core_log.proofs.BatchLaws.{some_opens, holds_some, open_has, open_chunk_of, moved_chunk_of, open_log, open_spelled, has_entries, entries_read}
 use Rattle.core_log.proofs.Clients.{AtEntry, at_entry}
 use Rattle.core_log.proofs.ChunkWords.{log_reads_well, log_not_data, free_not_data, free_or_empty_reads, free_reads_well, free_has_none, placed_entries, placed_all}
-use Rattle.core_log.proofs.ChunkImages.{InChunk, part_has, part_of, reads_kept, to_else, from_else, entries_else, block_stays}
+use Rattle.core_log.proofs.ChunkImages.{InChunk, part_has, part_of, reads_kept, to_else, from_else, block_stays}
 
 abbrev pub entries_all : List PlacedEntry → List Entry
 entries_all xs = map (λ (x : PlacedEntry). x.entry) xs
@@ -54,7 +54,7 @@ module _ (s : State) (log : LogState) (stands : StandsIn s log) (j : ℕ) (has :
   pub kind_now : IsTelling s → Surely (cell_now s (first_of log j)) 1
   kind_now telling = (stands.logs telling j (tail_in log j) (is_tail (tail_of log.chunks j) has)).kind
 
-in_chunk_of : (log : LogState) (cells : ℕ → Cell) (j : ℕ) (image : ℕ → ℕ) → j < log.layout.chunks → MayLeavePart log cells image → MayLeaveIn cells (first_of log j) (first_of log j + chunk_words log.layout) image
+pub in_chunk_of : (log : LogState) (cells : ℕ → Cell) (j : ℕ) (image : ℕ → ℕ) → j < log.layout.chunks → MayLeavePart log cells image → MayLeaveIn cells (first_of log j) (first_of log j + chunk_words log.layout) image
 in_chunk_of log cells j image lt may w low high = let lies = chunk_in_part log.layout log.part j lt in may w (omega (arith, lies.0, low)) (omega (arith, lies.1, high))
 
 some_words : (s : State) (log : LogState) → StandsIn s log → 32 ≤ chunk_words log.layout
@@ -118,9 +118,11 @@ module _ (s t : State) (log : LogState) (stands : StandsIn s log) (ws : List ℕ
 
   -- the words with the batch spell batches
   spells : Spelled (words_now s (open_first log) (open_tail log)) → (bs : List (List Entry)) × SpellsBatches (words_now s (open_first log) (open_tail log) ++ padded ws) bs
-  spells before = (before.batches ++ es ∷ [],
-      subst (λ ps. SpellsBatches (words_now s (open_first log) (open_tail log) ++ ps) (before.batches ++ es ∷ [])) (sym (ap padded words))
-      (spells-append (words_now s (open_first log) (open_tail log)) before.batches es before.spelled batch))
+  spells before = (
+    before.batches ++ es ∷ [],
+    subst (λ ps. SpellsBatches (words_now s (open_first log) (open_tail log) ++ ps) (before.batches ++ es ∷ [])) (sym (ap padded words))
+        (spells-append (words_now s (open_first log) (open_tail log)) before.batches es before.spelled batch),
+  )
 
   -- an image of a moment, and one at entry beside it
   module _ (telling : IsTelling s) (cells : ℕ → Cell) (kept : KeepsOutside (cell_now s) (open_first log) (open_first log + chunk_words log.layout) cells) (image : ℕ → ℕ) (may : MayLeavePart log cells image) where
@@ -154,10 +156,10 @@ module _ (s t : State) (log : LogState) (stands : StandsIn s log) (ws : List ℕ
         let whole = to.whole in
         let in_payload = to.fits in
         let entries : open_entries log image ≡ chunk_entries log.layout entry.before log.part (open_number log) ++ added_entries log es =
-            has_entries s log stands some_open telling ws es words batch fits image h ∙ ap (λ (xs : List PlacedEntry). xs ++ added_entries log es) (now_is ∙ sym before_is) in
+        has_entries s log stands some_open telling ws es words batch fits image h ∙ ap (λ (xs : List PlacedEntry). xs ++ added_entries log es) (now_is ∙ sym before_is) in
         let split : entries_all (open_entries log image) ≡ entries_all (chunk_entries log.layout entry.before log.part (open_number log)) ++ es =
-            ap entries_all entries ∙ map-append (λ (x : PlacedEntry). x.entry) (chunk_entries log.layout entry.before log.part (open_number log)) (added_entries log es)
-            ∙ ap (λ (xs : List Entry). entries_all (chunk_entries log.layout entry.before log.part (open_number log)) ++ xs) (placed_entries log.part (open_number log) (open_tail log) es) in
+        ap entries_all entries ∙ map-append (λ (x : PlacedEntry). x.entry) (chunk_entries log.layout entry.before log.part (open_number log)) (added_entries log es)
+        ∙ ap (λ (xs : List Entry). entries_all (chunk_entries log.layout entry.before log.part (open_number log)) ++ xs) (placed_entries log.part (open_number log) (open_tail log) es) in
         gains s log stands (open_number log) own.within image entry.before same no_data
         (log_reads_well log.layout image (open_first log) (open_tail log + length (padded ws)) (words_now s (open_first log) (open_tail log) ++ padded ws) after.0
         (omega (arith, long, whole)) (omega (arith, long, in_payload)) h after.1)
@@ -175,7 +177,7 @@ module _ (s t : State) (log : LogState) (stands : StandsIn s log) (ws : List ℕ
       (λ cells. EachInOpen log (HasOrLacks (open_first log) (open_tail log) (words_now s (open_first log) (open_tail log)) (padded ws)) cells × KeepsOutside (cell_now s) (open_first log) (open_first log + chunk_words log.layout) cells)
       (EachInPart log (λ image. GainsSince s log [] image ⊎ GainsSince s log es image))
       (λ telling cells h image may. let x = entry telling cells h.1 image may in
-        ⊎_elim (λ lacks. inl (x.before, x.may, lacking telling cells h.1 image may lacks)) (λ has. inr (x.before, x.may, having telling cells h.1 image may has)) (h.0 image (in_chunk telling cells h.1 image may)))
+      ⊎_elim (λ lacks. inl (x.before, x.may, lacking telling cells h.1 image may lacks)) (λ has. inr (x.before, x.may, having telling cells h.1 image may has)) (h.0 image (in_chunk telling cells h.1 image may)))
       (both s t (EachInOpen log (HasOrLacks (open_first log) (open_tail log) (words_now s (open_first log) (open_tail log)) (padded ws))) (KeepsOutside (cell_now s) (open_first log) (open_first log + chunk_words log.layout)) run outside)
 
   -- and in the end all of it

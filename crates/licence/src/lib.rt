@@ -1,13 +1,5 @@
-// A library with one function.
+//! What a member's view allows an image of its part to be, and what becomes of that: while the core's log and its
+//! blocks are written, and when the view makes its steps. There is no code here but the laws' statements.
 #![tactic(auto)]
 
-ghost use Rattle.std.specs.Prelude.{◌≡◌};
-ghost use Rattle.licence.specs.Echo.{echo_of};
-
-// The `ensures` clause is the contract: what `echo` returns is `echo_of` of its argument, a definition
-// in `specs/Echo.antt`, which a caller's clause can cite too.
-pub fn echo(x: usize) -> usize
-    ensures { result ≡ echo_of x }
-{
-    x
-}
+pub mod laws;
