@@ -11,3 +11,6 @@ pub mod ItemLaws
 pub mod WalkLaws
 pub mod Clients
 pub mod Steps
+pub mod ChunkWords
+pub mod ChunkImages
+pub mod LogWrites

@@ -6,3 +6,4 @@ pub mod Opening
 pub mod Fresh
 pub mod Retiring
 pub mod Walking
+pub mod PartImages

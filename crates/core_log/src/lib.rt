@@ -2,6 +2,7 @@
 #![tactic(auto)]
 
 mod chunk;
+pub mod laws;
 mod log;
 mod tails;
 #[cfg(test)]
