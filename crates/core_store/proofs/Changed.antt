@@ -15,8 +15,9 @@ use Rattle.core_store.specs.Shows.{Shows}
 use Rattle.core_store.specs.Keeps.{Keeps}
 use Rattle.core_store.specs.Ready.{Ready, Standing}
 use Rattle.core_store.specs.Moments.{EachImage, with_at, ShowsEither}
-use Rattle.core_store.specs.Stock.{Stock, class_for, lines_needed, lacks_room, lacks_block, why_put, after_take, after_append, after_settle, after_put}
-use Rattle.core_store.specs.declared.types.Shortage.TheVariants.{Length, Versions}
+use Rattle.core_store.specs.Stock.{Stock, lacks_room, lacks_block, why_put, after_take, after_append, after_settle, after_put}
+use Rattle.core_room.specs.Lengths.{class_for, lines_needed}
+use Rattle.core_room.specs.declared.types.Shortage.TheVariants.{Length, Versions}
 use Rattle.core_store.specs.Changing.{with_room, less_room, shortage_of}
 use Rattle.core_store.proofs.LogChunks.{short_entry}
 

@@ -3,7 +3,7 @@ mod Blocks
 pub mod Appends
 mod Written
 mod Alike
-mod ClassLaws
+mod SupplyLaws
 mod AllocLaws
 mod Taking
 mod Kept

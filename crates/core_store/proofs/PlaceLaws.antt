@@ -25,9 +25,10 @@ use Rattle.core_store.specs.Shows.{Shows}
 use Rattle.core_store.specs.Moments.{EachImage}
 use Rattle.core_store.specs.Keeps.{Keeps, Ties}
 use Rattle.core_store.specs.Ready.{Standing}
-use Rattle.core_store.specs.Stock.{stock_of, class_of_body, class_held, class_for, lines_needed, lacks_room, may_cut, after_take}
+use Rattle.core_store.specs.Stock.{stock_of, class_of_body, class_held, lacks_room, may_cut, after_take}
+use Rattle.core_room.specs.Lengths.{class_for, lines_needed}
 use Rattle.core_store.specs.Changing.{Awaiting, SameRest, Gains}
-use Rattle.core_store.proofs.ClassLaws.{class_for_long, class_small, class_fits, fit_of}
+use Rattle.core_room.proofs.LengthLaws.{class_for_long, class_small, class_fits, fit_of}
 use Rattle.core_store.proofs.AllocLaws.{gains, class_same, chunk_count_same, block_count_same}
 use Rattle.core_store.proofs.Taking.{class_not_zero}
 use Rattle.core_store.proofs.Leaving.{shows_along}

@@ -14,7 +14,7 @@ use Rattle.core_store.specs.Keeps.{Leaves, LeavesIn}
 use Rattle.core_store.specs.Stock.{Stock, class_of_body, after_take, blocks_after}
 use Rattle.core_store.specs.Changing.{Frees, with_room}
 use Rattle.core_store.proofs.Taking.{no_blocks}
-use Rattle.core_store.proofs.ClassLaws.{class_some}
+use Rattle.core_room.proofs.LengthLaws.{class_some}
 
 -- a function with another value at one number
 pub at_one : {X : Type 0} (f g : ℕ → X) (key : ℕ) (x : X) → g key ≡ x → ((k : ℕ) → k ≢ key → g k ≡ f k) → with_at f key x ≡ g

@@ -14,8 +14,8 @@ use Rattle.core_store.specs.Records.{known, last_in, block_in}
 use Rattle.core_store.specs.Shows.{Shows}
 use Rattle.core_store.specs.Moments.{EachImage}
 use Rattle.core_store.specs.Keeps.{HasBlock, Leaves, LeavesIn, Ties}
-use Rattle.core_store.specs.declared.types.Shortage.{Shortage}
-use Rattle.core_store.specs.declared.types.Shortage.TheVariants.{Room, Block}
+use Rattle.core_room.specs.declared.types.Shortage.{Shortage}
+use Rattle.core_room.specs.declared.types.Shortage.TheVariants.{Room, Block}
 use Rattle.core_store.specs.Stock.{Stock, lacks_room, lacks_block, counts_at}
 
 -- an allocated block that holds the value, and that no key has yet

@@ -7,9 +7,12 @@ use Rattle.chunk_map.specs.declared.layouts.Geometry.{Geometry}
 use Rattle.chunk_map.specs.Layouts.{numbers, payload_lines, has_class}
 use Rattle.core_log.specs.Log.{room_of}
 use Rattle.lazy_alloc.specs.Sets.{Sets, class_at, free_chunk_count, free_block_count, blocks_in}
-use Rattle.core_store.specs.declared.types.Counts.{Counts}
-use Rattle.core_store.specs.declared.types.Shortage.{Shortage}
-use Rattle.core_store.specs.declared.types.Shortage.TheVariants.{Room, Block, Versions, Length}
+use Rattle.core_room.specs.declared.types.Counts.{Counts}
+use Rattle.core_room.specs.declared.types.Shortage.{Shortage}
+use Rattle.core_room.specs.declared.types.Shortage.TheVariants.{Room, Block, Versions, Length}
+use Rattle.core_room.specs.declared.supply.Supply.{Supply}
+use Rattle.core_room.specs.Lengths.{class_for, lines_needed}
+use Rattle.core_room.specs.RoomRule.{fits_nowhere, leaves_chunk}
 use Rattle.core_store.specs.declared.store.Store.{Store}
 use Rattle.core_store.specs.Records.{known, last_in}
 use Rattle.core_store.specs.Moments.{with_at}
@@ -32,21 +35,17 @@ class_held e k = option_and_then (λ r. class_of_body e.allocator r.body) (known
 abbrev pub stock_of : Store → Stock
 stock_of e = record { free = free_chunk_count e.allocator; room = room_of e.log; blocks = free_block_count e.allocator; lasts = last_in e; holds = class_held e }
 
--- the class of the block that a value of this length gets, or 0 where it stands beside its key
-abbrev pub class_for : ℕ → ℕ
-class_for n = unwrap_or (find (has_class n) (numbers 1 12)) 0
+-- the room of a store, in which nothing is pledged
+abbrev pub supply_of : Stock → Supply
+supply_of s = record { free_chunks = s.free; open_lines = s.room; own_lines = 0; rest_lines = 0 }
 
--- the lines that the entry of such a value takes
-abbrev pub lines_needed : ℕ → ℕ
-lines_needed n = if nat_le 256 n then 1 else (2 + (n + 7) / 8 + 7) / 8
-
--- the entry fits neither in the open chunk nor in a fresh one: the last free chunk is kept
+-- the entry fits neither in the open chunk nor in a fresh one
 abbrev pub lacks_room : Stock → ℕ → Bool
-lacks_room s need = nat_lt s.room need && nat_lt s.free 2
+lacks_room s need = fits_nowhere s.room s.free need
 
--- a chunk may be cut where one is left for the log, and one more unless the entry fits in the open chunk
+-- a chunk may be cut, and the entry fits still
 abbrev pub may_cut : Stock → ℕ → Bool
-may_cut s need = nat_le 3 s.free || (s.free == 2 && nat_le need s.room)
+may_cut s need = leaves_chunk s.room s.free need
 
 abbrev pub lacks_block : Stock → ℕ → ℕ → Bool
 lacks_block s need class = not (class == 0) && s.blocks class == 0 && not (may_cut s need)

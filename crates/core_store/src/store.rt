@@ -9,11 +9,10 @@ ghost use Rattle.core_log.specs.Log.{room_of};
 ghost use Rattle.log_entry.specs.Spelling.{HasSpelling, Fits, words_of};
 ghost use Rattle.lazy_alloc.specs.Sets.{free_chunk_count, free_block_count};
 
-use crate::needs::{byte_count, class_or_zero, lines_needed, longest_value};
-use crate::types::{Counts, Shortage};
 use chunk_map::Layout;
 use core_index::{CoreIndex, Look};
 use core_log::CoreLog;
+use core_room::{Shortage, Supply, byte_count, class_or_zero, lines_needed, longest_value};
 use fs_errors::Memory;
 use fs_model::{Key, Reply, Value, Version};
 use lazy_alloc::{Allocator, class_of};
@@ -49,7 +48,8 @@ impl Store {
     ghost use Rattle.store_image.specs.Winners.{recovered};
     ghost use Rattle.recover.specs.Logs.{IsStart};
     ghost use Rattle.core_store.specs.Opening.{IsRegionOf};
-    ghost use Rattle.core_store.specs.Stock.{stock_of, class_held, class_of_body, class_for, lines_needed, lacks_room, lacks_block, may_cut, counts_at, why_put, why_delete, after_take, after_append, after_settle, after_put, after_delete};
+    ghost use Rattle.core_store.specs.Stock.{stock_of, supply_of, class_held, class_of_body, lacks_room, lacks_block, may_cut, why_put, why_delete, after_take, after_append, after_settle, after_put, after_delete};
+    ghost use Rattle.core_room.specs.Lengths.{class_for, lines_needed};
     ghost use Rattle.core_store.specs.Changing.{Awaiting, SameRest, Frees, with_room, less_room, shortage_of};
     ghost use Rattle.core_store.specs.Shows.{Shows};
     ghost use Rattle.lazy_alloc.specs.Sets.{Takes};
@@ -133,7 +133,7 @@ impl Store {
 
     /// Why a put of a value of so many bytes is refused now, or `None` where it is not.
     pub fn put_refusal(&self, key: Key, length: u64) -> Option<Shortage>
-        requires ready { AreSets self.now.allocator × (self.now.allocator.layout ≡ self.now.log.layout) }
+        requires layout { self.now.allocator.layout ≡ self.now.log.layout }
         ensures { result ≡ why_put self.now.log.layout (stock_of self.now) key length }
     {
         if length > longest_value(&self.layout) {
@@ -210,19 +210,23 @@ impl Store {
         self.index.next_version(key, delete).unwrap()
     }
 
-    // The entry fits neither in the open chunk nor in a fresh one.
-    fn lacks_room(&self, lines: u64) -> bool
-        ensures { result ≡ lacks_room (stock_of self.now) lines }
+    // The room of the store, in which nothing is pledged.
+    fn supply(&self) -> Supply
+        ensures { result ≡ supply_of (stock_of self.now) }
     {
-        self.log.room() < lines && self.allocator.free_chunks() < 2
+        Supply {
+            free_chunks: self.allocator.free_chunks(),
+            open_lines: self.log.room(),
+            own_lines: 0,
+            rest_lines: 0,
+        }
     }
 
     // A chunk may be cut, and still the entry fits.
     fn may_cut(&self, lines: u64) -> bool
         ensures { result ≡ may_cut (stock_of self.now) lines }
     {
-        let free = self.allocator.free_chunks();
-        free >= 3 || (free == 2 && lines <= self.log.room())
+        self.supply().may_cut(lines)
     }
 
     fn free_blocks(&self, class: u32) -> u32
@@ -236,45 +240,17 @@ impl Store {
         }
     }
 
-    // No block of the class is free, and none may be cut.
-    fn lacks_block(&self, lines: u64, class: u32) -> bool
-        requires { (class ≡ 0) ⊎ (is_class self.now.allocator.layout class ≡ true) }
-        ensures { result ≡ lacks_block (stock_of self.now) lines class }
-    {
-        class != 0 && self.free_blocks(class) == 0 && !self.may_cut(lines)
-    }
-
-    fn counts(&self, lines: u64, class: u32) -> Counts
-        requires { (class ≡ 0) ⊎ (is_class self.now.allocator.layout class ≡ true) }
-        ensures { result ≡ counts_at (stock_of self.now) lines class }
-    {
-        Counts {
-            free_chunks: self.allocator.free_chunks(),
-            open_lines: self.log.room(),
-            pledged_lines: 0,
-            need_lines: lines,
-            class,
-            free_blocks: self.free_blocks(class),
-        }
-    }
-
     // Why an entry of so many lines, with a block of the class, finds no place.
     fn shortage(&self, lines: u64, class: u32) -> Option<Shortage>
         requires { (class ≡ 0) ⊎ (is_class self.now.allocator.layout class ≡ true) }
         ensures { result ≡ shortage_of (stock_of self.now) lines class }
     {
-        if self.lacks_room(lines) {
-            return Some(Shortage::Room(self.counts(lines, class)));
-        }
-        if self.lacks_block(lines, class) {
-            return Some(Shortage::Block(self.counts(lines, class)));
-        }
-        None
+        self.supply()
+            .shortage(lines, class, self.free_blocks(class))
     }
 
     // Takes a block of the class. A chunk is cut for it where none is free.
     fn take(&mut self, class: u32) -> u64
-        requires sets { AreSets self.old.allocator }
         requires layout { self.old.allocator.layout ≡ self.old.log.layout }
         requires class { is_class self.old.log.layout class ≡ true }
         requires unrefused { lacks_block (stock_of self.old) 1 class ≡ false }

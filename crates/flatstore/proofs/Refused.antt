@@ -15,7 +15,7 @@ use Rattle.headline.specs.Ample.{IsAmpleFor}
 use Rattle.headline.specs.Limits.{IsAsked, version_of, changes_asked}
 use Rattle.serial_engine.specs.declared.answers.Refusal.{Refusal}
 use Rattle.serial_engine.specs.Refusals.{is_full}
-use Rattle.core_store.specs.declared.types.Shortage.TheVariants.{Versions}
+use Rattle.core_room.specs.declared.types.Shortage.TheVariants.{Versions}
 use Rattle.headline.specs.Headline.{Told, cells_of, RecoversThroughout}
 use Rattle.headline.proofs.Run.{recorded}
 use Rattle.serial_engine.specs.Answers.{told}

@@ -23,7 +23,7 @@ use Rattle.headline.specs.Headline.{Answers, Told, finished_in, cells_of, Recove
 use Rattle.headline.specs.Kinds.{AreReplies}
 use Rattle.serial_engine.specs.Answers.{told_by}
 use Rattle.serial_engine.specs.Refusals.{refusals_from, is_full}
-use Rattle.core_store.specs.declared.types.Shortage.TheVariants.{Versions}
+use Rattle.core_room.specs.declared.types.Shortage.TheVariants.{Versions}
 use Rattle.serial_engine.specs.declared.answers.Refusal.{Refusal}
 use Rattle.flatstore.specs.Found.{stock_found}
 use Rattle.flatstore.specs.Ordering.{KeepsOrder, IsServed, due, IsDue, IsFault, built_now, status_of, is_stop, is_quiet, is_of_line, is_whole}

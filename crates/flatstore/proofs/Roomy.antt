@@ -15,7 +15,7 @@ use Rattle.chunk_map.proofs.LayoutLaws.{numbers_of}
 use Rattle.lazy_alloc.specs.Sets.{blocks_in}
 use Rattle.headline.specs.Ample.{IsAmpleFor, parts_of, lines_of, log_bytes, is_put_of, data_chunks, free_chunks}
 use Rattle.headline.specs.Limits.{IsAsked, version_of, changes_asked, is_too_long, IsWithinLimits}
-use Rattle.core_store.specs.declared.types.Shortage.TheVariants.{Versions}
+use Rattle.core_room.specs.declared.types.Shortage.TheVariants.{Versions}
 use Rattle.core_store.specs.Stock.{Stock}
 use Rattle.serial_engine.specs.declared.answers.Refusal.{Refusal}
 use Rattle.serial_engine.specs.Refusals.{refusals_from, is_full}

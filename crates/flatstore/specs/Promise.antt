@@ -12,7 +12,7 @@ use Rattle.chunk_map.specs.Layouts.{layout_of, owner}
 use Rattle.store_image.specs.Soundness.{IsSound}
 use Rattle.serial_engine.specs.Answers.{told}
 use Rattle.serial_engine.specs.Refusals.{refusals_from, is_full}
-use Rattle.core_store.specs.declared.types.Shortage.TheVariants.{Versions}
+use Rattle.core_room.specs.declared.types.Shortage.TheVariants.{Versions}
 use Rattle.flatstore.specs.Found.{stock_found}
 use Rattle.flatstore.specs.Ordering.{KeepsOrder, IsDue, IsFault, is_whole}
 use Rattle.flatstore.specs.declared.report.Status.TheVariants as statuses

@@ -140,7 +140,6 @@ impl Allocator {
     /// is written with the first value. None exactly where no block of the class is free and no chunk is, or none may
     /// be cut.
     pub fn take(&mut self, class: u32, may_cut: bool) -> Option<u64>
-        requires sets { AreSets self.old }
         requires class { is_class self.old.layout class ≡ true }
         ensures sets { AreSets self.new }
         ensures takes { Takes self.old self.new class may_cut result }
@@ -163,7 +162,6 @@ impl Allocator {
 
     /// The lowest free chunk, for the log. None exactly where no chunk is free.
     pub fn take_chunk(&mut self) -> Option<u32>
-        requires sets { AreSets self.old }
         ensures sets { AreSets self.new }
         ensures takes { TakesChunkOrNone self.old self.new result }
     {
@@ -176,7 +174,6 @@ impl Allocator {
 
     /// Brings back a chunk of the part that the log has emptied.
     pub fn give_chunk(&mut self, chunk: u32)
-        requires sets { AreSets self.old }
         requires within { chunk < self.old.layout.chunks }
         requires taken { chunk_is_free self.old chunk ≡ false }
         requires uncut { chunk_class self.old chunk ≡ None }
@@ -188,7 +185,6 @@ impl Allocator {
 
     /// Frees an allocated block.
     pub fn put_back(&mut self, pointer: u64)
-        requires sets { AreSets self.old }
         requires used { block_is_used self.old pointer ≡ true }
         ensures sets { AreSets self.new }
         ensures puts { PutsBack self.old self.new pointer }
@@ -270,6 +266,7 @@ impl Allocator {
         ensures small { IfSome result (λ c. (1 ≤ c) × (c ≤ 12)) }
         ensures low { IfSome result (λ c. (16 ≤ pointer) × (1 ≤ unit_at self.now.layout pointer)) }
         ensures rules { IsLayout self.now.layout }
+        ensures sets { AreSets self.now }
     {
         if !is_in_part(&self.layout, self.part, pointer) {
             return None;
@@ -343,9 +340,9 @@ impl Allocator {
 
     // The lowest free block of a class.
     fn lowest_block(&self, class: u32) -> Option<u64>
-        requires sets { AreSets self.now }
         requires class { is_class self.now.layout class ≡ true }
-        ensures { LowestBlock self.now class result }
+        ensures sets { AreSets self.now }
+        ensures lowest { LowestBlock self.now class result }
     {
         match self.chains.first(class) {
             None => None,
@@ -362,7 +359,6 @@ impl Allocator {
         pointer: u64,
         value: &[u8],
     ) -> Result<(), RegionFault>
-        requires sets { AreSets self.old }
         requires used { block_is_used self.old pointer ≡ true }
         requires class { (class : ℕ) → class_at self.old pointer ≡ Some class → (has_class (length value.now) class ≡ true) × HasHead (R.state region.old) self.old pointer class }
         requires lies { PartLies (R.state region.old).frame self.old }
@@ -439,7 +435,6 @@ impl Allocator {
         region: &R,
         pointer: u64,
     ) -> Result<Value, Memory>
-        requires sets { AreSets self.now }
         requires lies { PartLies (R.state region.now).frame self.now }
         requires holds { IsTelling (R.state region.now) → (class : ℕ) × (class_at self.now pointer ≡ Some class) × (has_class (lasts (R.state region.now) (32 * pointer)) class ≡ true) }
         ensures { IfOk result (λ v. IsTelling (R.state region.now) → v ≡ block_bytes (lasts (R.state region.now)) pointer) }

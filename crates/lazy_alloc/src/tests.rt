@@ -3,6 +3,7 @@
 ghost use Rattle.std.specs.Prelude.{◌≡◌, ◌≤◌, ◌<◌, ◌+◌, ◌*◌, ◌^◌, ℕ, length, None, true, false, IfOk};
 ghost use Rattle.pm_region.specs.State.{IsTelling, InRange, cell_now};
 ghost use Rattle.pm_region.specs.Cell.{certain};
+ghost use Rattle.chunk_map.specs.Layouts.{IsLayout, is_class};
 ghost use Rattle.lazy_alloc.specs.Sets.{AreSets, chunk_class};
 ghost use Rattle.lazy_alloc.specs.Written.{PartLies};
 
@@ -215,23 +216,25 @@ fn classes(rt: HostRuntime) {
     assert_eq!(rt; least, [1, 1, 2, 2, 3, 12]);
 }
 
-// Puts a value into a block of class 2 and reads it back.
+// Puts a value into a block of a class and reads it back.
 fn store<R: Region>(
     alloc: Global,
     a: &mut Allocator,
     region: &mut R,
+    class: u32,
     value: &[u8],
 ) -> Result<Option<(u64, Value)>, Fail>
     requires sets { AreSets a.old }
-    requires layout { a.old.layout ≡ record { cores = 1; group = 1; chunks = 4; chunk_bytes = 4096 } }
-    requires part { a.old.part ≡ 0 }
+    requires rules { IsLayout a.old.layout }
+    requires class { is_class a.old.layout class ≡ true }
     requires uncut { (j : ℕ) → chunk_class a.old j ≡ None }
-    requires long { 505 ≤ length value.now }
-    requires short { length value.now ≤ 1016 }
+    requires long { 256 ≤ length value.now }
+    requires fits { length value.now + 8 ≤ 256 * 2 ^ class }
+    requires least { 128 * 2 ^ class < length value.now + 8 }
     requires lies { PartLies (R.state region.old).frame a.old }
     requires zero { IsTelling (R.state region.old) → (w : ℕ) → InRange (R.state region.old).frame w → cell_now (R.state region.old) w ≡ certain 0 }
 {
-    let Some(pointer) = a.take(2, true) else {
+    let Some(pointer) = a.take(class, true) else {
         return Ok(None);
     };
     a.write_value(region, pointer, value)?;
@@ -257,7 +260,7 @@ fn a_value(rt: HostRuntime) -> Result<(), Fail> {
     assert_eq!(rt; value.len(), 1000);
     value[0] = 1;
     value[999] = 2;
-    let (pointer, read) = store(alloc, &mut a, &mut region, &value)?.ok_or("no block")?;
+    let (pointer, read) = store(alloc, &mut a, &mut region, 2, &value)?.ok_or("no block")?;
     assert_eq!(rt; pointer, 17);
     assert_eq!(rt; read.bytes(), value.as_slice());
     assert_eq!(rt;
@@ -269,5 +272,37 @@ fn a_value(rt: HostRuntime) -> Result<(), Fail> {
         assert_eq!(rt; held.ok_or("no value")?.bytes(), value.as_slice());
         assert!(rt; value_in(alloc, &region, 17, 1)?.is_none());
     }
+    Ok(())
+}
+
+// A part of four chunks of 2 MiB, with no chunk cut.
+fn long_part(alloc: Global) -> Result<Allocator, Fail>
+    ensures sets { IfOk result (λ a. AreSets a) }
+    ensures layout { IfOk result (λ a. a.layout ≡ record { cores = 1; group = 1; chunks = 4; chunk_bytes = 2097152 }) }
+    ensures part { IfOk result (λ a. a.part ≡ 0) }
+    ensures uncut { IfOk result (λ a. (j : ℕ) → chunk_class a j ≡ None) }
+{
+    let layout = Layout::new(1, 1, 4, 2_097_152)?;
+    let heads = [Head::Free; 4];
+    Ok(Allocator::rebuild(alloc, layout, 0, &heads, &[])?)
+}
+
+// A value of 300,000 bytes takes a block of 512 KiB.
+#[test]
+fn a_long_value(rt: HostRuntime) -> Result<(), Fail> {
+    let alloc = rt.alloc();
+    let mut region = SteadyRegion::new(alloc, Vec::new(alloc), 100)?;
+    region.create(alloc, 1_049_088)?;
+    let mut a = long_part(alloc)?;
+    let mut value = vec![in alloc; 7; 300_000]?;
+    assert_eq!(rt; value.len(), 300_000);
+    value[299_999] = 2;
+    let (pointer, read) = store(alloc, &mut a, &mut region, 11, &value)?.ok_or("no block")?;
+    assert_eq!(rt; pointer, 17);
+    assert_eq!(rt; read.bytes(), value.as_slice());
+    assert_eq!(rt;
+        [512, 544, 545, 38044].map(|at| word(&region, at)),
+        [2818, 300_000, 0x0707_0707_0707_0707, 0x0207_0707_0707_0707]
+    );
     Ok(())
 }

@@ -14,8 +14,8 @@ use Rattle.chunk_map.specs.declared.layouts.Geometry.{Geometry}
 use Rattle.core_index.specs.Records.{KeyRecord}
 use Rattle.lazy_alloc.specs.Sets.{Sets}
 use Rattle.core_store.specs.declared.store.Store.{Store}
-use Rattle.core_store.specs.declared.types.Shortage.{Shortage}
-use Rattle.core_store.specs.declared.types.Shortage.TheVariants.{Room, Block, Versions, Length}
+use Rattle.core_room.specs.declared.types.Shortage.{Shortage}
+use Rattle.core_room.specs.declared.types.Shortage.TheVariants.{Room, Block, Versions, Length}
 use Rattle.core_store.specs.Answered.{IsGotten}
 use Rattle.core_store.specs.Records.{known}
 use Rattle.core_store.specs.Keeps.{Keeps, Leaves, LeavesIn}

@@ -10,8 +10,8 @@ use Rattle.fs_model.specs.Lawful.{Fits, is_finish, is_told, is_stopped}
 use Rattle.headline.specs.Kinds.{AreReplies, is_reply_to}
 use Rattle.headline.proofs.Counted.{are_more, all_more, stopped_to}
 use Rattle.headline.proofs.Run.{fits_quiet, fits_finish, fits_refusal}
-use Rattle.core_store.specs.declared.types.Shortage.{Shortage}
-use Rattle.core_store.specs.declared.types.Shortage.TheVariants.{Room, Block, Versions, Length}
+use Rattle.core_room.specs.declared.types.Shortage.{Shortage}
+use Rattle.core_room.specs.declared.types.Shortage.TheVariants.{Room, Block, Versions, Length}
 use Rattle.core_store.specs.Answered.{IsGotten}
 use Rattle.core_store.specs.Stock.{Stock, lacks_room, counts_at, why_delete}
 use Rattle.serial_engine.specs.declared.answers.Answers.{Answers}

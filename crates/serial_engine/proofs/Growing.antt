@@ -2,7 +2,7 @@
 use Rattle.std.proofs.Common.{◌≡◌, ℕ, ◌+◌, List, [], ◌∷◌, ◌++◌, length, refl, sym, ◌∙◌, ap, arith, Option, append_assoc, append-nil}
 use Rattle.fs_model.specs.declared.model.Request.{Request}
 use Rattle.chunk_map.specs.declared.layouts.Geometry.{Geometry}
-use Rattle.core_store.specs.declared.types.Shortage.{Shortage}
+use Rattle.core_room.specs.declared.types.Shortage.{Shortage}
 use Rattle.core_store.specs.Stock.{Stock}
 use Rattle.serial_engine.specs.declared.answers.Refusal.{Refusal}
 use Rattle.serial_engine.specs.Refusals.{why, after, stock_after, named, refusals_from}

@@ -13,8 +13,8 @@ use Rattle.headline.specs.Headline.{Told}
 use Rattle.headline.specs.Run.{Answered, Recorded, HoldsCells}
 use Rattle.headline.proofs.Run.{recorded, recorded_stopped, recorded_by, answered_by, answered_quiet, answered_refusal, answered_finish, with_finish}
 use Rattle.core_store.specs.declared.store.Store.{Store}
-use Rattle.core_store.specs.declared.types.Shortage.{Shortage}
-use Rattle.core_store.specs.declared.types.Shortage.TheVariants.{Room, Block, Versions, Length}
+use Rattle.core_room.specs.declared.types.Shortage.{Shortage}
+use Rattle.core_room.specs.declared.types.Shortage.TheVariants.{Room, Block, Versions, Length}
 use Rattle.core_store.specs.Records.{last_in}
 use Rattle.core_store.specs.Moments.{EachImage, with_at, ShowsEither}
 use Rattle.core_store.specs.Keeps.{Keeps}

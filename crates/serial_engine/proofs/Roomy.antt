@@ -16,10 +16,11 @@ use Rattle.chunk_map.specs.Layouts.{numbers, payload_lines, has_class}
 use Rattle.store_image.specs.Parts.{chunk_units}
 use Rattle.lazy_alloc.specs.Sets.{blocks_in}
 use Rattle.headline.specs.Ample.{lines_of, parts_of}
-use Rattle.core_store.specs.declared.types.Shortage.{Shortage}
-use Rattle.core_store.specs.declared.types.Shortage.TheVariants.{Room, Block, Versions, Length}
+use Rattle.core_room.specs.declared.types.Shortage.{Shortage}
+use Rattle.core_room.specs.declared.types.Shortage.TheVariants.{Room, Block, Versions, Length}
 use Rattle.core_store.specs.Moments.{with_at}
-use Rattle.core_store.specs.Stock.{Stock, class_for, lines_needed, lacks_room, lacks_block, may_cut, counts_at, why_put, why_delete, after_take, after_append, blocks_after, after_settle, after_put, after_delete}
+use Rattle.core_store.specs.Stock.{Stock, lacks_room, lacks_block, may_cut, counts_at, why_put, why_delete, after_take, after_append, blocks_after, after_settle, after_put, after_delete}
+use Rattle.core_room.specs.Lengths.{class_for, lines_needed}
 use Rattle.serial_engine.specs.declared.answers.Refusal.{Refusal}
 use Rattle.serial_engine.specs.Refusals.{why, after, named, refusals_from, is_full}
 use Rattle.core_store.proofs.Appends.{with_here, with_else}

@@ -3,8 +3,8 @@ use Rattle.std.specs.Prelude.{ℕ, ◌+◌, List, [], ◌∷◌, ◌++◌, lengt
 use Rattle.fs_model.specs.declared.model.Request.{Request}
 use Rattle.fs_model.specs.declared.model.Request.TheVariants.{Put, Get, Delete}
 use Rattle.chunk_map.specs.declared.layouts.Geometry.{Geometry}
-use Rattle.core_store.specs.declared.types.Shortage.{Shortage}
-use Rattle.core_store.specs.declared.types.Shortage.TheVariants.{Room, Block, Versions, Length}
+use Rattle.core_room.specs.declared.types.Shortage.{Shortage}
+use Rattle.core_room.specs.declared.types.Shortage.TheVariants.{Room, Block, Versions, Length}
 use Rattle.core_store.specs.Stock.{Stock, why_put, why_delete, after_put, after_delete}
 use Rattle.serial_engine.specs.declared.answers.Refusal.{Refusal}
 

@@ -3,7 +3,7 @@ ghost use Rattle.std.specs.Prelude.{◌≡◌, ℕ, ◌^◌, ◌<◌, ◌≤◌,
 ghost use Rattle.pm_region.specs.State.{State, IsTelling, Rose};
 ghost use Rattle.core_store.specs.Ready.{Ready};
 ghost use Rattle.core_store.specs.Keeps.{Keeps};
-ghost use Rattle.core_store.specs.declared.types.Shortage.{Shortage};
+ghost use Rattle.core_room.specs.declared.types.Shortage.{Shortage};
 ghost use Rattle.core_store.specs.Stock.{stock_of, class_held, why_put, why_delete};
 ghost use Rattle.serial_engine.specs.Counting.{Counts};
 ghost use Rattle.serial_engine.specs.Going.{Going};

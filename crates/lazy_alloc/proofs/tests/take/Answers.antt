@@ -5,8 +5,8 @@ use Rattle.chunk_map.specs.Layouts.{is_class}
 use Rattle.lazy_alloc.proofs.Clients.{takes_same}
 use Rattle.lazy_alloc.proofs.tests.take.Goals as goal
 
-pub take-requires-clause-class : goal.take-requires-clause-class
-take-requires-clause-class c =
+pub take-requires : goal.take-requires
+take-requires c =
     let l : Geometry = record { cores = 1; group = 1; chunks = 4; chunk_bytes = 4096 } in
     let low = c.requires.low in
     let high = c.requires.high in
@@ -16,7 +16,7 @@ take-requires-clause-class c =
     (λ e. ap (is_class l) e ∙ (let r : is_class l one ≡ true = refl in r))
     (λ ne. let e : c.args.class ≡ two = omega arith in ap (is_class l) e ∙ (let r : is_class l two ≡ true = refl in r))
     (cases_eq c.args.class one) in
-    ap (λ (g : Geometry). is_class g c.args.class) c.requires.layout ∙ here
+    record { class = ap (λ (g : Geometry). is_class g c.args.class) c.requires.layout ∙ here }
 
 pub returns-clause-layout : goal.returns-clause-layout
 returns-clause-layout c = (takes_same c.args.a.now c.take.new.self c.args.class c.args.may_cut c.take.result c.take.ensures.takes).layout_is ∙ c.requires.layout

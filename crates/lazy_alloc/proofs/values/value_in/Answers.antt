@@ -1,4 +1,4 @@
-use Rattle.std.proofs.Common.{◌≡◌, ℕ, ◌+◌, ◌*◌, rules}
+use Rattle.std.proofs.Common.{◌≡◌, ◌+◌, ◌*◌, rules}
 use Rattle.pm_region.specs.Words.{lasts}
 use Rattle.log_entry.specs.Words.{words_from}
 use Rattle.log_entry.proofs.Images.{words_loaded}

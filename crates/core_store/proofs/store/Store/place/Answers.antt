@@ -9,7 +9,7 @@ use Rattle.core_store.specs.Records.{last_in}
 use Rattle.core_store.specs.Shows.{Shows}
 use Rattle.core_store.specs.Moments.{EachImage}
 use Rattle.core_store.specs.Stock.{stock_of, lacks_block}
-use Rattle.core_store.proofs.ClassLaws.{class_for_long, class_fits, class_small}
+use Rattle.core_room.proofs.LengthLaws.{class_for_long, class_fits, class_small}
 use Rattle.core_store.proofs.PlaceLaws.{lines_long, lines_embedded, taken_used, taken_class, taken_lies, pointer_small, write_run, moments, stands_now, awaits_now, class_now, room_now, stock_now}
 use Rattle.core_store.proofs.store.Store.place.Goals as goal
 

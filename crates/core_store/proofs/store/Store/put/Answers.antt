@@ -9,7 +9,8 @@ use Rattle.core_store.specs.Keeps.{Keeps}
 use Rattle.core_store.specs.Ready.{Ready, Standing}
 use Rattle.core_store.specs.Moments.{EachImage, with_at, ShowsEither}
 use Rattle.core_store.specs.Changing.{Awaiting}
-use Rattle.core_store.specs.Stock.{stock_of, class_of_body, lines_needed, after_settle, after_append, after_put}
+use Rattle.core_store.specs.Stock.{stock_of, class_of_body, after_settle, after_append, after_put}
+use Rattle.core_room.specs.Lengths.{lines_needed}
 use Rattle.core_store.proofs.Changed.{before_either, both_runs, both_go, may_put, stock_put, on_both, ready_after}
 use Rattle.core_store.proofs.store.Store.put.Goals as goal
 

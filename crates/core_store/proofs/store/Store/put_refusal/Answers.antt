@@ -4,7 +4,7 @@ use Rattle.chunk_map.specs.declared.layouts.Geometry.{Geometry}
 use Rattle.chunk_map.specs.Layouts.{is_class}
 use Rattle.core_store.specs.Stock.{stock_of}
 use Rattle.core_store.specs.Changing.{shortage_of}
-use Rattle.core_store.proofs.ClassLaws.{class_in_layout}
+use Rattle.core_room.proofs.LengthLaws.{class_in_layout}
 use Rattle.core_store.proofs.Changed.{for_place}
 use Rattle.core_store.proofs.store.Store.put_refusal.Goals as goal
 
@@ -13,7 +13,7 @@ shortage-requires c =
     let short = c.if-length-longest_value.false in
     let longest = c.longest_value.ensures.value in
     let fits = class_in_layout c.args.self.now.layout c.longest_value.ensures.rules c.args.length (omega (arith, short, longest)) in
-    subst (λ (g : Geometry). (c.class_or_zero.result ≡ 0) ⊎ (is_class g c.class_or_zero.result ≡ true)) (c.args.self.now.one_layout ∙ sym c.requires.ready.1)
+    subst (λ (g : Geometry). (c.class_or_zero.result ≡ 0) ⊎ (is_class g c.class_or_zero.result ≡ true)) (c.args.self.now.one_layout ∙ sym c.requires.layout)
     (subst (λ n. (n ≡ 0) ⊎ (is_class c.args.self.now.layout n ≡ true)) (sym c.class_or_zero.ensures) fits)
 
 pub returns : goal.returns

@@ -1,7 +1,7 @@
 use Rattle.std.proofs.Common.{◌≡◌, ◌∙◌, sym, subst, None, Some, arith}
-use Rattle.lazy_alloc.specs.Sets.{Sets, class_at}
+use Rattle.lazy_alloc.specs.Sets.{Sets, class_at, AreSets}
 use Rattle.lazy_alloc.specs.Form.{chunk_in}
-use Rattle.lazy_alloc.proofs.FormLaws.{class_found, no_class, no_start, has_start, class_bounds}
+use Rattle.lazy_alloc.proofs.FormLaws.{class_found, no_class, no_start, has_start, class_bounds, are_sets}
 use Rattle.lazy_alloc.proofs.allocator.Allocator.class_at.Goals as goal
 
 pub is_start-requires-clause-class : goal.is_start-requires-clause-class
@@ -38,3 +38,23 @@ returns-in_default-clause-class c =
     let many = c.self.invariant.form.many in
     let found = class_found a.classes.items c.chunk_in.result (chunk_in a.layout c.args.pointer) c.index.result.now c.index.ensures c.chunk_in.ensures.value (let w = c.chunk_in.ensures.within in omega (arith, many, w)) ∙ c.in_default.is in
     subst (λ (s : Sets). None ≡ class_at s c.args.pointer) c.self.view_is (sym (no_class a.layout a.part a.free a.due a.classes.items a.bits.items c.self.invariant.form c.args.pointer found))
+
+pub returns-then-not-is_in_part-clause-sets : goal.returns-then-not-is_in_part-clause-sets
+returns-then-not-is_in_part-clause-sets c =
+    let a = c.self.inside in
+    subst AreSets c.self.view_is (are_sets a.layout a.part a.free a.due a.classes.items a.bits.items c.self.invariant.form)
+
+pub returns-then-is_start-clause-sets : goal.returns-then-is_start-clause-sets
+returns-then-is_start-clause-sets c =
+    let a = c.self.inside in
+    subst AreSets c.self.view_is (are_sets a.layout a.part a.free a.due a.classes.items a.bits.items c.self.invariant.form)
+
+pub returns-else-is_start-clause-sets : goal.returns-else-is_start-clause-sets
+returns-else-is_start-clause-sets c =
+    let a = c.self.inside in
+    subst AreSets c.self.view_is (are_sets a.layout a.part a.free a.due a.classes.items a.bits.items c.self.invariant.form)
+
+pub returns-in_default-clause-sets : goal.returns-in_default-clause-sets
+returns-in_default-clause-sets c =
+    let a = c.self.inside in
+    subst AreSets c.self.view_is (are_sets a.layout a.part a.free a.due a.classes.items a.bits.items c.self.invariant.form)

@@ -1,7 +1,7 @@
 use Rattle.std.proofs.Common.{◌≡◌, ◌<◌, ℕ, length, Option, None, Some, sym, ◌∙◌, ap, subst, arith}
 use Rattle.chunk_map.specs.Layouts.{is_class}
 use Rattle.lazy_alloc.specs.Chains.{LeastFrom}
-use Rattle.lazy_alloc.specs.Sets.{Sets, chunk_class}
+use Rattle.lazy_alloc.specs.Sets.{Sets, chunk_class, AreSets}
 use Rattle.lazy_alloc.specs.Steps.{LowestIn, LowestBlock}
 use Rattle.lazy_alloc.specs.Form.{chunk_in, is_open, sets_of}
 use Rattle.lazy_alloc.proofs.FormLaws.{are_sets, class_is, there}
@@ -20,8 +20,8 @@ first-requires c =
     let low : k < length a.chains.firsts.items = omega arith in
     low
 
-pub returns-in-None : goal.returns-in-None
-returns-in-None c =
+pub returns-in-None-clause-lowest : goal.returns-in-None-clause-lowest
+returns-in-None-clause-lowest c =
     let a = c.self.inside in
     let l = a.layout in
     let k = c.args.class in
@@ -57,8 +57,8 @@ lowest_in-requires-clause-cut c =
     let parts = open_parts l a.classes.items a.bits.items k c.in-Some.chunk first.1 in
     subst (λ (s : Sets). chunk_class s c.in-Some.chunk ≡ Some k) c.self.view_is (class_is a.layout a.part a.free a.due a.classes.items a.bits.items c.self.invariant.form c.in-Some.chunk ∙ parts.0)
 
-pub returns-in-Some : goal.returns-in-Some
-returns-in-Some c =
+pub returns-in-Some-clause-lowest : goal.returns-in-Some-clause-lowest
+returns-in-Some-clause-lowest c =
     let a = c.self.inside in
     let l = a.layout in
     let k = c.args.class in
@@ -73,3 +73,13 @@ returns-in-Some c =
     let some = open_lowest a.layout a.part a.free a.due a.classes.items a.bits.items a.counts.items a.chains.firsts.items a.chains.nexts.items c.self.invariant k c.in-Some.chunk c.lowest_in.result (omega (arith, within, size)) first.1 found in
     subst (λ (s : Sets). LowestBlock s k c.lowest_in.result) c.self.view_is
     (lowest_some (sets_of l a.part a.free a.due a.classes.items a.bits.items) k c.in-Some.chunk c.lowest_in.result (are_sets a.layout a.part a.free a.due a.classes.items a.bits.items c.self.invariant.form) some (λ q less. closed_none a.layout a.part a.free a.due a.classes.items a.bits.items a.counts.items a.chains.firsts.items a.chains.nexts.items c.self.invariant k q (first.2 (chunk_in l q) (omega arith) less)) found)
+
+pub returns-in-None-clause-sets : goal.returns-in-None-clause-sets
+returns-in-None-clause-sets c =
+    let a = c.self.inside in
+    subst AreSets c.self.view_is (are_sets a.layout a.part a.free a.due a.classes.items a.bits.items c.self.invariant.form)
+
+pub returns-in-Some-clause-sets : goal.returns-in-Some-clause-sets
+returns-in-Some-clause-sets c =
+    let a = c.self.inside in
+    subst AreSets c.self.view_is (are_sets a.layout a.part a.free a.due a.classes.items a.bits.items c.self.invariant.form)

@@ -1,7 +1,7 @@
 use Rattle.std.proofs.Common.{◌≡◌, ◌&&◌, ◌==◌, not, ◌*◌, ◌<◌, ℕ, true, length, Some, refl, sym, ◌∙◌, ap, subst, arith}
 use Rattle.lazy_alloc.specs.Bits.{has_bit}
 use Rattle.lazy_alloc.specs.Chains.{Adds, Lacks}
-use Rattle.lazy_alloc.specs.Sets.{Sets, Releases, SameChunks, class_at, block_is_used}
+use Rattle.lazy_alloc.specs.Sets.{Sets, Releases, SameChunks, class_at, block_is_used, AreSets}
 use Rattle.lazy_alloc.specs.Form.{sets_of, class_of_block, chunk_in, is_full}
 use Rattle.lazy_alloc.proofs.StepLaws.{marked_used, bit_in_room}
 use Rattle.lazy_alloc.proofs.FormLaws.{are_sets, class_at_is}
@@ -87,7 +87,7 @@ returns-clause-puts c =
     let at : class_of_block a.layout a.part a.classes.items c.args.pointer ≡ Some c.unwrap-class.result =
     sym (class_at_is a.layout a.part a.free a.due a.classes.items a.bits.items c.self.invariant.form c.args.pointer) ∙ ap (λ (s : Sets). class_at s c.args.pointer) c.self.view_is ∙ sym c.class_at.ensures.class ∙ c.unwrap-class.ensures in
     let new = sets_of a.layout a.part a.free a.due a.classes.items c.clear.new.words.items in
-    puts_back c.args.self.now new c.args.pointer c.requires.sets (returns-clause-sets c)
+    puts_back c.args.self.now new c.args.pointer (subst AreSets c.self.view_is (are_sets c.self.inside.layout c.self.inside.part c.self.inside.free c.self.inside.due c.self.inside.classes.items c.self.inside.bits.items c.self.invariant.form)) (returns-clause-sets c)
     (subst (λ (s : Sets). SameChunks s new) c.self.view_is (record { layout_is = refl; part_is = refl; free = λ j. refl; classes = λ j. refl; due = λ j. refl })) c.requires.used
     (subst (λ (s : Sets). Releases s new c.args.pointer) c.self.view_is
     (marked_used a.layout a.part a.free a.due a.classes.items a.bits.items c.clear.new.words.items c.self.invariant.form c.args.pointer c.unwrap-class.result at (λ x b. b && not x) (λ b. and_true b true refl) c.clear.ensures.long (λ i. c.clear.ensures.each i ∙ ap (λ (n : ℕ). has_bit a.bits.items i && not (i == n)) c.bit_of.ensures)))

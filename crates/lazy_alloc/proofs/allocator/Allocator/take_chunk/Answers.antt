@@ -1,5 +1,5 @@
 use Rattle.std.proofs.Common.{◌&&◌, ◌==◌, not, Bool, refl, sym, ◌∙◌, ap, subst}
-use Rattle.lazy_alloc.specs.Sets.{Sets, TakesChunk, chunk_is_free}
+use Rattle.lazy_alloc.specs.Sets.{Sets, AreSets, TakesChunk, chunk_is_free}
 use Rattle.lazy_alloc.specs.Form.{sets_of}
 use Rattle.lazy_alloc.proofs.FormLaws.{are_sets, free_is, class_is, due_is}
 use Rattle.lazy_alloc.proofs.KeptLaws.{kept_again}
@@ -11,6 +11,11 @@ pub returns-in_default-clause-takes : goal.returns-in_default-clause-takes
 returns-in_default-clause-takes c =
     let a = c.self.inside in
     (λ j. ap (λ (s : Sets). chunk_is_free s j) (sym c.self.view_is) ∙ free_is a.layout a.part a.free a.due a.classes.items a.bits.items c.self.invariant.form j ∙ c.in_default.ensures.lowest j, refl)
+
+pub returns-in_default-clause-sets : goal.returns-in_default-clause-sets
+returns-in_default-clause-sets c =
+    let a = c.self.inside in
+    subst AreSets c.self.view_is (are_sets a.layout a.part a.free a.due a.classes.items a.bits.items c.self.invariant.form)
 
 pub invariant_of-self : goal.invariant_of-self
 invariant_of-self c =

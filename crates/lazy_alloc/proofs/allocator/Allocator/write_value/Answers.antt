@@ -20,7 +20,7 @@ write_block-requires-clause-low g c =
     let k = c.unwrap-class.result in
     let st = g.R.Region.state in
     let at : class_at a p ≡ Some k = sym c.class_at.ensures.class ∙ c.unwrap-class.ensures in
-    let is = lie a p k c.class_at.ensures.rules c.requires.sets at in
+    let is = lie a p k c.class_at.ensures.rules c.class_at.ensures.sets at in
     let room = class_room _ k (c.requires.class k at).0 in
     let same = c.write_head.ensures.outside.frame in
     let frame = ap (λ (f : Frame). f.first) same in
@@ -34,7 +34,7 @@ write_block-requires-clause-high g c =
     let k = c.unwrap-class.result in
     let st = g.R.Region.state in
     let at : class_at a p ≡ Some k = sym c.class_at.ensures.class ∙ c.unwrap-class.ensures in
-    let is = lie a p k c.class_at.ensures.rules c.requires.sets at in
+    let is = lie a p k c.class_at.ensures.rules c.class_at.ensures.sets at in
     let room = class_room _ k (c.requires.class k at).0 in
     let same = c.write_head.ensures.outside.frame in
     let frame = ap (λ (f : Frame). f.first) same in
@@ -48,7 +48,7 @@ write_block-requires-clause-fits g c =
     let k = c.unwrap-class.result in
     let st = g.R.Region.state in
     let at : class_at a p ≡ Some k = sym c.class_at.ensures.class ∙ c.unwrap-class.ensures in
-    let is = lie a p k c.class_at.ensures.rules c.requires.sets at in
+    let is = lie a p k c.class_at.ensures.rules c.class_at.ensures.sets at in
     let room = class_room _ k (c.requires.class k at).0 in
     let same = c.write_head.ensures.outside.frame in
     let frame = ap (λ (f : Frame). f.first) same in
@@ -62,7 +62,7 @@ mark_written-requires g c =
     let k = c.unwrap-class.result in
     let st = g.R.Region.state in
     let at : class_at a p ≡ Some k = sym c.class_at.ensures.class ∙ c.unwrap-class.ensures in
-    let is = lie a p k c.class_at.ensures.rules c.requires.sets at in
+    let is = lie a p k c.class_at.ensures.rules c.class_at.ensures.sets at in
     let low = is.low in
     let first = is.first in
     omega arith
@@ -94,7 +94,7 @@ returns-in_err-write_block-clause-outside g c = λ class e.
     let k = c.unwrap-class.result in
     let st = g.R.Region.state in
     let at : class_at a p ≡ Some k = sym c.class_at.ensures.class ∙ c.unwrap-class.ensures in
-    let is = lie a p k c.class_at.ensures.rules c.requires.sets at in
+    let is = lie a p k c.class_at.ensures.rules c.class_at.ensures.sets at in
     let own : k ≡ class = (let two : Some k ≡ Some class = sym at ∙ e in cc two) in
     subst (λ (n : ℕ). During (st c.args.region.now) (st c.write_block.new.region) (KeepsOthers a p n (cell_now (st c.args.region.now)))) own
     (value_outside a p k c.args.value.now (st c.args.region.now) (st c.write_head.new.region) (st c.write_block.new.region) is (c.requires.class k at).0 c.write_head.ensures.outside c.write_block.ensures.run)
@@ -106,7 +106,7 @@ returns-in_err-write_block-clause-head g c = λ class e.
     let k = c.unwrap-class.result in
     let st = g.R.Region.state in
     let at : class_at a p ≡ Some k = sym c.class_at.ensures.class ∙ c.unwrap-class.ensures in
-    let is = lie a p k c.class_at.ensures.rules c.requires.sets at in
+    let is = lie a p k c.class_at.ensures.rules c.class_at.ensures.sets at in
     let own : k ≡ class = (let two : Some k ≡ Some class = sym at ∙ e in cc two) in
     subst (λ (n : ℕ). During (st c.args.region.now) (st c.write_block.new.region) (EachIn (head_of a p) (head_of a p + 2) (HeadTurnsTo a p n))) own
     (value_head a p k c.args.value.now (st c.args.region.now) (st c.write_head.new.region) (st c.write_block.new.region) is (c.requires.class k at).0 c.write_head.ensures.outside c.write_block.ensures.run c.in_ok-write_head.ensures.ok c.write_head.ensures.head)
@@ -118,7 +118,7 @@ returns-clause-outside g c = λ class e.
     let k = c.unwrap-class.result in
     let st = g.R.Region.state in
     let at : class_at a p ≡ Some k = sym c.class_at.ensures.class ∙ c.unwrap-class.ensures in
-    let is = lie a p k c.class_at.ensures.rules c.requires.sets at in
+    let is = lie a p k c.class_at.ensures.rules c.class_at.ensures.sets at in
     let own : k ≡ class = (let two : Some k ≡ Some class = sym at ∙ e in cc two) in
     subst (λ (n : ℕ). During (st c.args.region.now) (st c.write_block.new.region) (KeepsOthers a p n (cell_now (st c.args.region.now)))) own
     (value_outside a p k c.args.value.now (st c.args.region.now) (st c.write_head.new.region) (st c.write_block.new.region) is (c.requires.class k at).0 c.write_head.ensures.outside c.write_block.ensures.run)
@@ -130,7 +130,7 @@ returns-clause-head g c = λ class e.
     let k = c.unwrap-class.result in
     let st = g.R.Region.state in
     let at : class_at a p ≡ Some k = sym c.class_at.ensures.class ∙ c.unwrap-class.ensures in
-    let is = lie a p k c.class_at.ensures.rules c.requires.sets at in
+    let is = lie a p k c.class_at.ensures.rules c.class_at.ensures.sets at in
     let own : k ≡ class = (let two : Some k ≡ Some class = sym at ∙ e in cc two) in
     subst (λ (n : ℕ). During (st c.args.region.now) (st c.write_block.new.region) (EachIn (head_of a p) (head_of a p + 2) (HeadTurnsTo a p n))) own
     (value_head a p k c.args.value.now (st c.args.region.now) (st c.write_head.new.region) (st c.write_block.new.region) is (c.requires.class k at).0 c.write_head.ensures.outside c.write_block.ensures.run c.in_ok-write_head.ensures.ok c.write_head.ensures.head)
@@ -142,7 +142,7 @@ returns-clause-ok g c = λ class e.
     let k = c.unwrap-class.result in
     let st = g.R.Region.state in
     let at : class_at a p ≡ Some k = sym c.class_at.ensures.class ∙ c.unwrap-class.ensures in
-    let is = lie a p k c.class_at.ensures.rules c.requires.sets at in
+    let is = lie a p k c.class_at.ensures.rules c.class_at.ensures.sets at in
     let own : k ≡ class = (let two : Some k ≡ Some class = sym at ∙ e in cc two) in
     subst (λ (n : ℕ). WroteValue (st c.write_block.new.region) a c.mark_written.new.self p n c.args.value.now) own
     (wrote a p k c.args.value.now (st c.args.region.now) (st c.write_head.new.region) (st c.write_block.new.region) is (c.requires.class k at).0 c.write_head.ensures.outside c.write_block.ensures.run c.in_ok-write_head.ensures.ok c.mark_written.new.self

@@ -11,7 +11,7 @@ use Rattle.chunk_map.specs.Layouts.{IsLayout, is_chunk_size, is_class, has_class
 use Rattle.chunk_map.proofs.LayoutLaws.{numbers_of}
 use Rattle.store_image.specs.Facts.{In}
 use Rattle.store_image.proofs.SoundLaws.{in_numbers}
-use Rattle.core_store.specs.Stock.{class_for}
+use Rattle.core_room.specs.Lengths.{class_for}
 
 -- what a class says of a length
 pub record Fit (n class : ℕ) : Type 0 where

@@ -1,8 +1,8 @@
 // What a value needs: lines of the log, and a block.
-ghost use Rattle.std.specs.Prelude.{◌≡◌, ◌-◌, ◌/◌, ◌≤◌, ◌<◌, ◌^◌, length};
+ghost use Rattle.std.specs.Prelude.{◌≡◌, ◌+◌, ◌-◌, ◌/◌, ◌≤◌, ◌<◌, ◌^◌, length};
 ghost use Rattle.std.specs.List.{AllByRecursion};
 ghost use Rattle.chunk_map.specs.Layouts.{IsLayout};
-ghost use Rattle.core_store.specs.Stock.{lines_needed, class_for};
+ghost use Rattle.core_room.specs.Lengths.{lines_needed, class_for, lines_to_copy};
 
 use chunk_map::Layout;
 use lazy_alloc::class_of;
@@ -44,4 +44,13 @@ pub fn class_or_zero(length: u64) -> u32
     ensures { result ≡ class_for length }
 {
     if length >= 256 { class_of(length) } else { 0 }
+}
+
+/// The lines of the log that so many entries with so many words take at most, copied 64 to a batch.
+pub fn lines_to_copy(entries: u64, words: u64) -> u64
+    requires entries { entries < 2 ^ 63 }
+    requires words { words < 2 ^ 63 }
+    ensures { result ≡ lines_to_copy entries words }
+{
+    (words + 7) / 8 + (entries + 63) / 64
 }

@@ -1,7 +1,7 @@
 -- A slice of bytes has bytes.
 use Rattle.std.proofs.Common.{ℕ, suc, ◌<◌, List, [], ◌∷◌, length, get_or, arith}
 use Rattle.std.specs.List.{AllByRecursion}
-use Rattle.core_store.proofs.needs.byte_count.Goals as goal
+use Rattle.core_room.proofs.needs.byte_count.Goals as goal
 
 each_byte : (xs : List ℕ) → ((k : ℕ) → k < length xs → get_or xs k 0 < 256) → AllByRecursion (λ b. b < 256) xs
 each_byte [] h = tt
