@@ -7,3 +7,11 @@ pub mod Fresh
 pub mod Retiring
 pub mod Walking
 pub mod PartImages
+pub use Rattle.chunk_map.specs.Layouts
+pub use Rattle.log_entry.specs.Batches
+pub use Rattle.log_entry.specs.Reading
+pub use Rattle.log_entry.specs.Spelling
+pub use Rattle.pm_region.specs.Cell
+pub use Rattle.pm_region.specs.State
+pub use Rattle.store_image.specs.Facts
+pub use Rattle.store_image.specs.Parts

@@ -1,2 +1,3 @@
 pub mod Lengths
 pub mod RoomRule
+pub use Rattle.chunk_map.specs.Layouts

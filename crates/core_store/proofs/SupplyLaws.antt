@@ -29,8 +29,8 @@ pub shortage_is : (s : Stock) (need class free : ℕ) → free ≡ (if class == 
 shortage_is s need class free free_is =
     ap (rule.shortage_at (supply_of s) need class) free_is
     ∙ (λ i. if fits_nowhere s.room s.free (no_more s need i) then Some (Room (counts (nothing s i) (if class == 0 then 0 else (if class == 0 then 0 else s.blocks class))))
-      else (if not (class == 0) && (if class == 0 then 0 else s.blocks class) == 0 && not (leaves_chunk s.room s.free (no_more s need i)) then Some (Block (counts (nothing s i) (if class == 0 then 0 else (if class == 0 then 0 else s.blocks class)))) else None))
+    else (if not (class == 0) && (if class == 0 then 0 else s.blocks class) == 0 && not (leaves_chunk s.room s.free (no_more s need i)) then Some (Block (counts (nothing s i) (if class == 0 then 0 else (if class == 0 then 0 else s.blocks class)))) else None))
     ∙ (λ i. if fits_nowhere s.room s.free need then Some (Room (counts 0 (once (class == 0) (s.blocks class) i)))
-      else (if asked (class == 0) (s.blocks class) (not (leaves_chunk s.room s.free need)) i then Some (Block (counts 0 (once (class == 0) (s.blocks class) i))) else None)) where
-  counts : ℕ → ℕ → Counts
-  counts lines blocks = record { free_chunks = s.free; open_lines = s.room; pledged_lines = lines; need_lines = need; class = class; free_blocks = blocks }
+    else (if asked (class == 0) (s.blocks class) (not (leaves_chunk s.room s.free need)) i then Some (Block (counts 0 (once (class == 0) (s.blocks class) i))) else None)) where
+      counts : ℕ → ℕ → Counts
+      counts lines blocks = record { free_chunks = s.free; open_lines = s.room; pledged_lines = lines; need_lines = need; class = class; free_blocks = blocks }

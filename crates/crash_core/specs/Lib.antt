@@ -5,3 +5,17 @@ pub mod Finds
 pub mod Steps
 pub mod Words
 pub mod Deaths
+pub use Rattle.group_laws.specs.Crashes
+pub use Rattle.group_laws.specs.Finishes
+pub use Rattle.group_laws.specs.Images
+pub use Rattle.group_laws.specs.Invariant
+pub use Rattle.group_laws.specs.Opening
+pub use Rattle.group_laws.specs.OpeningImages
+pub use Rattle.group_laws.specs.Places
+pub use Rattle.group_laws.specs.Posts
+pub use Rattle.group_laws.specs.Runs
+pub use Rattle.group_laws.specs.State
+pub use Rattle.group_laws.specs.Tidying
+pub use Rattle.group_laws.specs.Updates
+pub use Rattle.log_entry.specs.Spelling
+pub use Rattle.store_image.specs.Facts

@@ -8,3 +8,17 @@ pub mod Slots
 pub mod Told
 pub mod Kept
 pub mod Trials
+pub use Rattle.chunk_map.specs.Layouts
+pub use Rattle.crash_core.specs.Shows
+pub use Rattle.group_laws.specs.Invariant
+pub use Rattle.group_laws.specs.MemberViews
+pub use Rattle.group_laws.specs.OpeningImages
+pub use Rattle.group_laws.specs.Places
+pub use Rattle.group_laws.specs.Runs
+pub use Rattle.group_laws.specs.State
+pub use Rattle.group_laws.specs.Steps
+pub use Rattle.group_laws.specs.Tidying
+pub use Rattle.group_laws.specs.Updates
+pub use Rattle.log_entry.specs.Spelling
+pub use Rattle.store_image.specs.Facts
+pub use Rattle.store_image.specs.Soundness

@@ -13,3 +13,9 @@ pub mod Regions
 pub mod Opening
 pub mod OpeningImages
 pub mod Posts
+pub use Rattle.chunk_map.specs.Layouts
+pub use Rattle.log_entry.specs.Spelling
+pub use Rattle.store_image.specs.Facts
+pub use Rattle.store_image.specs.Parts
+pub use Rattle.store_image.specs.Soundness
+pub use Rattle.store_image.specs.Winners

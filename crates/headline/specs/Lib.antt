@@ -3,3 +3,12 @@ pub mod Ample
 pub mod Run
 pub mod Limits
 pub mod Kinds
+pub use Rattle.chunk_map.specs.Chunks
+pub use Rattle.chunk_map.specs.Layouts
+pub use Rattle.fs_model.specs.Cells
+pub use Rattle.fs_model.specs.Changes
+pub use Rattle.fs_model.specs.Lawful
+pub use Rattle.fs_text.specs.Output
+pub use Rattle.pm_region.specs.State
+pub use Rattle.store_image.specs.Soundness
+pub use Rattle.store_image.specs.Winners

@@ -1,2 +1,11 @@
 pub mod Shown
 pub mod Endings
+pub use Rattle.chunk_map.specs.Layouts
+pub use Rattle.fs_text.specs.Output
+pub use Rattle.fs_text.specs.Streams
+pub use Rattle.pm_region.specs.Bytes
+pub use Rattle.pm_region.specs.Split
+pub use Rattle.pm_region.specs.State
+pub use Rattle.store_image.specs.Listing
+pub use Rattle.store_image.specs.Soundness
+pub use Rattle.store_image.specs.Winners

@@ -5,3 +5,10 @@ pub mod Heads
 pub mod Sets
 pub mod Steps
 pub mod Written
+pub use Rattle.chunk_map.specs.Checked
+pub use Rattle.chunk_map.specs.Chunks
+pub use Rattle.chunk_map.specs.Layouts
+pub use Rattle.chunk_map.specs.Setting
+pub use Rattle.pm_region.specs.Cell
+pub use Rattle.pm_region.specs.State
+pub use Rattle.store_image.specs.Parts

@@ -2,3 +2,13 @@ pub mod Answers
 pub mod Refusals
 pub mod Going
 pub mod Counting
+pub use Rattle.core_store.specs.Keeps
+pub use Rattle.core_store.specs.Moments
+pub use Rattle.core_store.specs.Ready
+pub use Rattle.core_store.specs.Stock
+pub use Rattle.fs_model.specs.Changes
+pub use Rattle.fs_model.specs.Lawful
+pub use Rattle.headline.specs.Headline
+pub use Rattle.headline.specs.Kinds
+pub use Rattle.headline.specs.Run
+pub use Rattle.pm_region.specs.State

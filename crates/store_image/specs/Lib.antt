@@ -4,3 +4,7 @@ pub mod Soundness
 pub mod Scanned
 pub mod Listing
 pub mod Facts
+pub use Rattle.chunk_map.specs.Chunks
+pub use Rattle.chunk_map.specs.Layouts
+pub use Rattle.log_entry.specs.Batches
+pub use Rattle.log_entry.specs.Words
