@@ -10,3 +10,4 @@ pub mod Logs
 pub mod Heads
 pub mod Listing
 pub mod Recovering
+pub mod OwnDead
