@@ -1,9 +1,9 @@
 -- What repeated steps find of a chunk: its entries, one after another.
-use Rattle.std.proofs.Common.{◌≡◌, ℕ, ◌+◌, ◌-◌, ◌%◌, ◌≤◌, ◌<◌, nat_le, true, false, cond, List, [], ◌∷◌, length, Option, Some, None, is_some, Result, Ok, Err, refl, sym, ◌∙◌, ap, subst, arith}
+use Rattle.std.proofs.Common.{◌≡◌, ◌⊎◌, inl, ℕ, ◌+◌, ◌-◌, ◌%◌, ◌≤◌, ◌<◌, nat_le, true, false, cond, List, [], ◌∷◌, length, Option, Some, None, is_some, Result, Ok, Err, refl, sym, ◌∙◌, ap, subst, arith}
 use Rattle.std.specs.Prelude.{option_map, IfSome, IfOk}
 use Rattle.std.proofs.lemmas.Bool.{cond-true, cond-false, le-leb, leb-true, leb-false}
 use Rattle.std.proofs.lemmas.Bool.Decides.{nat_tests}
-use Rattle.pm_region.specs.State.{State, Frame}
+use Rattle.pm_region.specs.State.{State, Frame, IsTelling}
 use Rattle.pm_region.specs.Words.{lasts}
 use Rattle.log_entry.specs.declared.entry.Entry.{Entry}
 use Rattle.log_entry.specs.Spelling.{words_of}
@@ -15,7 +15,7 @@ use Rattle.log_entry.proofs.Images.{length-words}
 use Rattle.core_log.specs.declared.types.Peek.{Peek}
 use Rattle.core_log.specs.declared.types.WalkStep.{WalkStep}
 use Rattle.core_log.specs.Log.{LogState, Spelled, tail_of, first_of, tail_in}
-use Rattle.core_log.specs.Walking.{LiesIn, IsBetween, next_entry, peek_at, step_at, entries_in, words_in, behind, WordsLie, IsStep, IsWalk}
+use Rattle.core_log.specs.Walking.{LiesIn, IsBetween, IsReadable, next_entry, peek_at, step_at, entries_in, words_in, behind, WordsLie, IsStep, IsWalk}
 use Rattle.core_log.proofs.ItemLaws.{placed_items, items_of, items_placed, first_is as entry_first}
 use Rattle.core_log.proofs.LogLaws.{own_chunk, part_lies}
 use Rattle.core_log.proofs.RetireLaws.{is_tail}
@@ -129,3 +129,11 @@ pub found_lies : (f : Frame) (log : LogState) (j place first tail : ℕ) (r : Op
     → IfSome r (λ p. (place ≤ p.place) × ((p.place < p.next) × (p.next ≤ tail))) → IfSome r (λ p. p.at ≡ first + p.place) → IfSome r (λ p. WordsLie f p.at (p.next - p.place))
 found_lies f log j place first tail None lies has first_is tail_is within at = tt
 found_lies f log j place first tail (Some p) lies has first_is tail_is within at = words_lie f log j p.at p.place p.next lies has (at ∙ ap (λ (n : ℕ). n + p.place) first_is) within.1.0 (omega (arith, within.1.1, tail_is))
+
+after_zero : (xs : List (ℕ × Entry)) → IsBetween 0 xs
+after_zero [] = tt
+after_zero (x ∷ xs) = (inl (omega arith), after_zero xs)
+
+-- reading may begin at the first place of a chunk whose words spell batches
+pub may_begin : (s : State) (log : LogState) (j : ℕ) → (IsTelling s → Spelled (words_in s log j)) → IsReadable s log j 0
+may_begin s log j spelled = record { within = omega arith; spelled = spelled; between = λ telling. after_zero (entries_in s log j) }

@@ -16,3 +16,4 @@ pub mod StartLaws
 pub mod StandLaws
 pub mod PairLaws
 pub mod Clients
+pub mod OwnLaws

@@ -1,5 +1,5 @@
 -- The shares of the cores, winner by winner.
-use Rattle.std.proofs.Common.{◌≡◌, ◌≢◌, ⊎_elim, ℕ, ◌<◌, ◌≤◌, ◌==◌, ◌&&◌, ◌||◌, List, [], ◌∷◌, ◌++◌, length, get_or, set, Bool, true, false, cond, Option, Some, None, refl, sym, ◌∙◌, ap, subst}
+use Rattle.std.proofs.Common.{◌≡◌, ◌≢◌, inl, inr, ⊎_elim, ℕ, ◌<◌, ◌≤◌, ◌==◌, ◌&&◌, ◌||◌, List, [], ◌∷◌, ◌++◌, length, get_or, set, Bool, true, false, cond, Option, Some, None, refl, sym, ◌∙◌, ap, subst}
 use Rattle.std.specs.Prelude.{option_map, is_some, slice_index_or, Vec, Result, Ok, Err, OnOk}
 use Rattle.std.specs.Global.{Global}
 use Rattle.std.specs.Option.{option_to_list, option_map_or}
@@ -25,7 +25,7 @@ use Rattle.recover.specs.declared.shares.Share.{Share}
 use Rattle.recover.specs.Winning.{winners_of, won_in}
 use Rattle.recover.specs.Starts.{KnownAs, named_in}
 use Rattle.recover.specs.Standing.{standees_at, HasStandees}
-use Rattle.recover.specs.Shares.{PointsFor, IsShare, AreShares, Appends, Gives, TakesOut}
+use Rattle.recover.specs.Shares.{PointsFor, IsBareOrKnown, IsShare, AreShares, Appends, Gives, TakesOut}
 use Rattle.recover.proofs.ClashLaws.{any_in}
 use Rattle.recover.proofs.ListLaws.{or_else, or_none, find_push, any_append, all_push, found_in, any_found}
 use Rattle.recover.proofs.MadeLaws.{won_each, winner_wins, among_winners}
@@ -84,6 +84,7 @@ module _ (l : Geometry) (start : ℕ → List Standee) where
   pub record Given (c : ℕ) (done : List PlacedEntry) (share : Share) : Type 0 where
     pub known : (k : ℕ) → opened_in share.records.items k ≡ cond (owner l k == c) (option_map known_by (won_in k done)) None
     pub below : AllByRecursion HasNoneAbove share.records.items
+    pub bare : AllByRecursion (IsBareOrKnown share.records.items) share.records.items
     pub pointers : (p : ℕ) → list_any (λ q. q == p) share.pointers.items ≡ list_any (points c p) done
 
   pub record AllGiven (done : List PlacedEntry) (shares : List Share) (left : BTreeMap ℕ (Vec Standee Global)) : Type 0 where
@@ -143,14 +144,38 @@ module _ (l : Geometry) (start : ℕ → List Standee) where
           ∙ (λ i. list_any (points here p) done || (sym (eq-eqb here here refl) i && is_at_pointer p (pointer_of (body i))))
           ∙ sym (any_push (points here p))
 
+      -- each record of the old list is known by the new one as before
+      still : (q : Record) → IsBareOrKnown share.records.items q → IsBareOrKnown new.records.items q
+      still q (inl none) = inl none
+      still q (inr known) = inr (ap (λ rs. opened_in rs q.key) records ∙ opened_push share.records.items r q.key ∙ ap (λ o. or_else o (cond (r.key == q.key) (Some (opened r)) None)) known)
+
+      all_still : (qs : List Record) → AllByRecursion (IsBareOrKnown share.records.items) qs → AllByRecursion (IsBareOrKnown new.records.items) qs
+      all_still [] all = tt
+      all_still (q ∷ qs) all = (still q all.0, all_still qs all.1)
+
+      -- and so is the record that was appended
+      last_one : (o : Option PlacedEntry) → won_in x.entry.key done ≡ o → IsBareOrKnown new.records.items r
+      last_one (Some y) won = inl (standing ∙ ap (λ o. cond (is_some o) [] (start x.entry.key)) won)
+      last_one None won =
+          let unknown : opened_in share.records.items r.key ≡ None = ap (opened_in share.records.items) key ∙ given.known x.entry.key ∙ ap (λ o. cond (owner l x.entry.key == here) (option_map known_by o) None) won ∙ nothing (owner l x.entry.key == here) in
+          inr (ap (λ rs. opened_in rs r.key) records ∙ opened_push share.records.items r r.key ∙ (λ i. or_else (unknown i) (cond (eq-eqb r.key r.key refl i) (Some (opened r)) None)))
+        where
+          nothing : (b : Bool) → cond b (option_map known_by None) None ≡ None
+          nothing true = refl
+          nothing false = refl
+
+      bare_more : AllByRecursion (IsBareOrKnown new.records.items) new.records.items
+      bare_more = subst (AllByRecursion (IsBareOrKnown new.records.items)) (sym records) (all_push (IsBareOrKnown new.records.items) share.records.items r (all_still share.records.items given.bare) (last_one (won_in x.entry.key done) refl))
+
       pub given_here : Given here (done ++ x ∷ []) new
-      given_here = record { known = known_more; below = below_more; pointers = pointers_more }
+      given_here = record { known = known_more; below = below_more; bare = bare_more; pointers = pointers_more }
 
     -- that of another one
     pub given_there : (c : ℕ) (share : Share) → c ≢ owner l x.entry.key → Given c done share → Given c (done ++ x ∷ []) share
     given_there c share other given = record {
       known = λ k. given.known k ∙ same k;
       below = given.below;
+      bare = given.bare;
       pointers = λ p. given.pointers p ∙ or_false (list_any (points c p) done) ∙ (λ i. list_any (points c p) done || (sym not_own i && is_at_pointer p (pointer_of x.entry.body))) ∙ sym (any_push (points c p));
     } where
       or_false : (b : Bool) → b ≡ (b || false)
@@ -192,6 +217,7 @@ module _ (l : Geometry) (start : ℕ → List Standee) where
     each = λ c d lt. (let none = empty c d lt in record {
       known = λ k. ap (λ rs. opened_in rs k) none.0 ∙ nothing (owner l k == c);
       below = subst (AllByRecursion HasNoneAbove) (sym none.0) tt;
+      bare = subst (λ (rs : List Record). AllByRecursion (IsBareOrKnown (slice_index_or shares c d).records.items) rs) (sym none.0) tt;
       pointers = λ p. ap (list_any (λ q. q == p)) none.1;
     });
     rest = same;
@@ -230,6 +256,7 @@ module _ (l : Geometry) (standing : BTreeMap ℕ (Vec Standee Global)) (es : Lis
     known = λ k own. subst (KnownAs (winner_in k es)) (sym (known k own)) (known_as (winner_in k es));
     standing = λ k v own. ap (λ o. standing_at (standing_of o) v) (known k own) ∙ standing_is k v (winner_in k es) refl;
     below = given.below;
+    bare = given.bare;
     points = λ p is. points_of p (any_found (points l start c p) (winners_of es) (sym (given.pointers p) ∙ is));
     pointed = λ p w. given.pointers p ∙ any_in (points l start c p) (winners_of es) w.winner_is (among_winners es w.key w.winner_is w.wins)
         (and_from (owner l w.winner_is.entry.key == c) (is_at_pointer p (pointer_of w.winner_is.entry.body)) (eq-eqb (owner l w.winner_is.entry.key) c (ap (owner l) (winner_is w.key es w.winner_is w.wins).1 ∙ w.owned)) (ap (λ b. is_at_pointer p (pointer_of b)) w.points ∙ eq-eqb p p refl));

@@ -8,7 +8,7 @@ use Rattle.store_image.specs.declared.types.Fault.{Fault}
 use Rattle.store_image.specs.Soundness.{damaged}
 use Rattle.recover.specs.declared.types.CoreStart.{CoreStart}
 use Rattle.recover.specs.Logs.{tail_behind, HasLogsOf}
-use Rattle.recover.specs.Starts.{IsAllocatorOf, IsIndexOf}
+use Rattle.recover.specs.Starts.{IsAllocatorOf, IsIndexOf, HasCopiesOf}
 
 -- the fault of a chunk of the part whose head is none
 pub record IsBadHead (l : Geometry) (image : ℕ → ℕ) (c : ℕ) (fault : Fault) : Type 0 where
@@ -36,6 +36,7 @@ pub record IsStartOf (l : Geometry) (image : ℕ → ℕ) (c : ℕ) (start : Cor
   pub logs : HasLogsOf l image c start.log
   pub allocator : IsAllocatorOf l image c start.allocator
   pub index : IsIndexOf l image c start.index
+  pub standing : HasCopiesOf image start.log start.standing
 
 -- there is no fault
 abbrev pub Starts : Geometry → (ℕ → ℕ) → ℕ → Result CoreStart Fault → Type 0

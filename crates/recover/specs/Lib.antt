@@ -20,6 +20,8 @@ pub use Rattle.core_log.specs.Log
 pub use Rattle.lazy_alloc.specs.Sets
 pub use Rattle.log_entry.specs.Batches
 pub use Rattle.log_entry.specs.Spelling
+pub use Rattle.log_standing.specs.ChunkCounts
+pub use Rattle.log_standing.specs.NameCounts
 pub use Rattle.pm_region.specs.State
 pub use Rattle.pm_region.specs.Words
 pub use Rattle.store_image.specs.Facts
@@ -27,3 +29,4 @@ pub use Rattle.store_image.specs.Parts
 pub use Rattle.store_image.specs.Scanned
 pub use Rattle.store_image.specs.Soundness
 pub use Rattle.store_image.specs.Winners
+pub mod OwnDead

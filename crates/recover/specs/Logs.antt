@@ -10,6 +10,7 @@ use Rattle.core_log.specs.Log.{LogState, IsOwn, Spelled, tail_of, chunk_with}
 use Rattle.core_log.specs.Fresh.{IsEmptiest}
 use Rattle.lazy_alloc.specs.Sets.{AreSets}
 use Rattle.recover.specs.Starts.{IsSpelledIndex}
+use Rattle.recover.specs.OwnDead.{TellsOwn}
 use Rattle.recover.specs.declared.types.CoreStart.{CoreStart}
 
 abbrev pub tail_behind : Result Head ℕ → Option ℕ
@@ -35,7 +36,7 @@ SpellsLog l image c j = (tail : ℕ) → head_at l image (chunk_first l c j) ≡
 abbrev pub HasLogsOf : Geometry → (ℕ → ℕ) → ℕ → LogState → Type 0
 HasLogsOf l image c log = (j : ℕ) → tail_of log.chunks j ≡ log_tail l image c j
 
--- The start of core c, whatever the region tells. The emptiest chunk of the log is the open one.
+-- The start of core c, whatever the region tells. The emptiest chunk of the log is the open one. Exactly the dead names of the core's own keys were told dead, where they stand in its log.
 pub record IsStart (l : Geometry) (c : ℕ) (start : CoreStart) : Type 0 where
   pub core_is : start.core ≡ c
   pub layout_is : start.log.layout ≡ l
@@ -46,3 +47,5 @@ pub record IsStart (l : Geometry) (c : ℕ) (start : CoreStart) : Type 0 where
   pub allocator_part : start.allocator.part ≡ c
   pub spelled : IsSpelledIndex start.index
   pub opened : IsEmptiest start.log.chunks start.log.opened
+  pub told : TellsOwn start.standing start.index
+  pub settled : start.standing.settled ≡ None

@@ -14,7 +14,7 @@ use Rattle.recover.specs.declared.types.RecoverError.{RecoverError}
 use Rattle.recover.specs.declared.types.RecoverError.TheVariants as errors
 use Rattle.recover.specs.Logs.{HasLogsOf, IsStart}
 use Rattle.recover.specs.Gathering.{AllSpell}
-use Rattle.recover.specs.Starts.{IsAllocatorOf, IsIndexOf}
+use Rattle.recover.specs.Starts.{IsAllocatorOf, IsIndexOf, HasCopiesOf}
 
 -- whatever the region tells: a layout of a region of so many bytes, a start for each core in order
 pub record IsMade (bytes : ℕ) (r : Recovered) : Type 0 where
@@ -30,6 +30,7 @@ pub record IsOf (l : Geometry) (image : ℕ → ℕ) (r : Recovered) : Type 0 wh
   pub spells : AllSpell l image
   pub allocators : (c : ℕ) (d : CoreStart) → c < l.cores → IsAllocatorOf l image c (slice_index_or r.starts.items c d).allocator
   pub indexes : (c : ℕ) (d : CoreStart) → c < l.cores → IsIndexOf l image c (slice_index_or r.starts.items c d).index
+  pub standings : (c : ℕ) (d : CoreStart) → c < l.cores → HasCopiesOf image (slice_index_or r.starts.items c d).log (slice_index_or r.starts.items c d).standing
 
 -- those of an image that keeps rules 4 to 11, or the first that it breaks
 abbrev pub Restores : Geometry → (ℕ → ℕ) → Result Recovered Fault → Type 0

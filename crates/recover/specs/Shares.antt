@@ -1,5 +1,5 @@
 -- What each core gets of the entries of all logs.
-use Rattle.std.specs.Prelude.{◌≡◌, ℕ, ◌<◌, ◌==◌, ◌≢◌, List, [], ◌∷◌, ◌++◌, true, false, slice_index_or, option_map, Result, Ok, Err, Some, None, Vec, if◌then◌else◌}
+use Rattle.std.specs.Prelude.{◌≡◌, ◌⊎◌, ℕ, ◌<◌, ◌==◌, ◌≢◌, List, [], ◌∷◌, ◌++◌, true, false, slice_index_or, option_map, Result, Ok, Err, Some, None, Vec, if◌then◌else◌}
 use Rattle.std.specs.Global.{Global}
 use Rattle.std.specs.BTreeMap.{BTreeMap}
 use Rattle.std.specs.Option.{option_to_list}
@@ -14,7 +14,7 @@ use Rattle.store_image.specs.Winners.{winner_in}
 use Rattle.store_image.specs.Soundness.{damage}
 use Rattle.core_index.specs.declared.types.Record.{Record}
 use Rattle.core_index.specs.declared.types.Standee.{Standee}
-use Rattle.core_index.specs.Records.{standing_at, standing_of, standing_with, pointer_of}
+use Rattle.core_index.specs.Records.{standing_at, standing_of, standing_with, opened, pointer_of}
 use Rattle.core_index.specs.Index.{opened_in, HasNoneAbove}
 use Rattle.recover.specs.declared.shares.Share.{Share}
 use Rattle.recover.specs.Gathering.{AllSpell}
@@ -30,12 +30,17 @@ pub record PointsFor (l : Geometry) (es : List PlacedEntry) (c p : ℕ) : Type 0
   pub owned : owner l key ≡ c
   pub points : winner_is.entry.body ≡ Pointer p
 
+-- A record has no entries, or is what the list knows of its key: so no key has two that have entries.
+abbrev pub IsBareOrKnown : List Record → Record → Type 0
+IsBareOrKnown rs r = (r.standing.items ≡ []) ⊎ (opened_in rs r.key ≡ Some (opened r))
+
 -- the core's keys with their winners and all their entries, and the pointers of the winners
 pub record IsShare (l : Geometry) (es : List PlacedEntry) (c : ℕ) (share : Share) : Type 0 where
   pub others : (k : ℕ) → (owner l k ≡ c → ⊥) → opened_in share.records.items k ≡ None
   pub known : (k : ℕ) → owner l k ≡ c → KnownAs (winner_in k es) (opened_in share.records.items k)
   pub standing : (k v : ℕ) → owner l k ≡ c → standing_at (standing_of (opened_in share.records.items k)) v ≡ option_map (λ x. standing_with v x.core false) (named_in k v es)
   pub below : AllByRecursion HasNoneAbove share.records.items
+  pub bare : AllByRecursion (IsBareOrKnown share.records.items) share.records.items
   pub points : (p : ℕ) → list_any (λ q. q == p) share.pointers.items ≡ true → PointsFor l es c p
   pub pointed : (p : ℕ) → PointsFor l es c p → list_any (λ q. q == p) share.pointers.items ≡ true
 

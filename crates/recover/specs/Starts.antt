@@ -10,6 +10,9 @@ use Rattle.store_image.specs.Winners.{winner}
 use Rattle.core_index.specs.Records.{KeyRecord, standing_at, standing_of, standing_with}
 use Rattle.core_index.specs.Index.{known_at, room_at}
 use Rattle.core_index.specs.Slots.{Place}
+use Rattle.core_log.specs.Log.{LogState}
+use Rattle.log_standing.specs.NameCounts.{StandingState, count_of}
+use Rattle.log_standing.specs.ChunkCounts.{chunks_in}
 use Rattle.lazy_alloc.specs.Heads.{is_free, class_in}
 use Rattle.lazy_alloc.specs.Sets.{Sets, chunk_is_free, chunk_class, chunk_is_due, block_is_used}
 
@@ -49,3 +52,7 @@ pub record IsIndexOf (l : Geometry) (image : ℕ → ℕ) (c : ℕ) (es : List (
   pub known : (k : ℕ) → owner l k ≡ c → KnownAs (winner l image k) (known_at es k)
   pub standing : (k v : ℕ) → owner l k ≡ c → standing_at (standing_of (known_at es k)) v ≡ option_map (λ x. standing_with v x.core false) (named_in k v (all_entries l image))
   pub room : (k : ℕ) → room_at es k ≡ 0
+
+-- The names that stand are those of the log's entries, each in as many copies as chunks have it.
+abbrev pub HasCopiesOf : (ℕ → ℕ) → LogState → StandingState → Type 0
+HasCopiesOf image log st = (k v : ℕ) → count_of st k v ≡ chunks_in image log k v

@@ -1,11 +1,11 @@
 //! Recovery: what the words of a region say after a crash. One walk over the logs finds the first broken rule
 //! of soundness, or what each core begins with: its log, its allocator, in which exactly the blocks of live
-//! values are allocated, and the index of its keys. It writes nothing.
+//! values are allocated, the index of its keys, and what stands in its log. It writes nothing.
 //!
 //! The plain and slow program of `store_image` says the same of a list of words; its definitions are the
 //! yardstick here. This one reads the region word by word, chunk by chunk, in time linear in the words up to
 //! the logs' tails, and by ordered maps in the entries. The heads of the chunks, two words each, are read a
-//! second time for the logs and the allocators.
+//! second time for the logs and the allocators, and the logs for the names that stand in them.
 #![tactic(auto)]
 
 mod blocks;
@@ -18,6 +18,7 @@ mod recovery;
 mod shares;
 mod standing;
 mod starts;
+mod telling;
 #[cfg(test)]
 mod tests;
 mod types;

@@ -73,6 +73,18 @@ fn look_at(recovered: &Recovered, core: usize, key: Key) -> Look<'_> {
     }
 }
 
+/// In how many copies a name stands in a core's log, and whether it was told dead.
+fn stands_at(recovered: &Recovered, core: usize, name: EntryName) -> (u64, bool) {
+    match recovered.starts.get(core) {
+        Some(start) => (start.standing.copies(name), start.standing.is_dead(name)),
+        None => (0, false),
+    }
+}
+
+fn name(key: Key, version: u32) -> EntryName {
+    EntryName { key, version }
+}
+
 fn damaged(part: u32, chunk: u32, rule: u32) -> Option<Fault> {
     Some(Fault::Damaged { part, chunk, rule })
 }
@@ -195,6 +207,10 @@ fn keys_of_two_cores(rt: HostRuntime) -> Result<(), Fail> {
     assert!(rt; matches!(look_at(&recovered, 1, 5), Look::Embedded(_)));
     assert_eq!(rt; free_small_blocks(&recovered, 0), Some(6));
     assert_eq!(rt; free_small_blocks(&recovered, 1), Some(0));
+    // key 1's value in part 0 is dead, and core 1, whose key it is, has yet to say so; the delete is needed still
+    assert_eq!(rt; stands_at(&recovered, 0, name(1, 1)), (1, false));
+    assert_eq!(rt; stands_at(&recovered, 1, name(1, 1)), (0, false));
+    assert_eq!(rt; stands_at(&recovered, 1, name(1, 2)), (1, false));
     Ok(())
 }
 
@@ -244,9 +260,43 @@ fn two_puts(rt: HostRuntime) -> Result<(), Fail> {
     assert!(rt; !start.allocator.is_allocated(17));
     assert!(rt; start.allocator.is_allocated(19));
     // its first put still stands, and is dead
-    let old = EntryName { key: 1, version: 1 };
+    let old = name(1, 1);
+    assert!(rt; start.standing.is_dead(old));
+    assert!(rt; !start.standing.is_dead(name(1, 2)));
     assert!(rt; start.index.next_notice(0) == Some(old));
     assert!(rt; start.index.next_notice(0).is_none());
+    Ok(())
+}
+
+/// One core: key 1 is `a` in chunk 1, and twice so in chunk 2; key 5 was deleted, and nothing older of it stands.
+const COPIED: [(u64, u64); 13] = [
+    (1024, 1),
+    (1025, 8),
+    (1056, 0x0100_0015),
+    (1057, 1),
+    (1058, 97),
+    (1536, 1),
+    (1537, 8),
+    (1568, 0x0100_0015),
+    (1569, 1),
+    (1570, 97),
+    (1571, 0x0100_0015),
+    (1572, 1),
+    (1573, 97),
+];
+
+const DELETED: [(u64, u64); 2] = [(1574, 0x72), (1575, 5)];
+
+#[test]
+fn copies(rt: HostRuntime) -> Result<(), Fail> {
+    let alloc = rt.alloc();
+    let mut region = region(alloc, 2560, &COPIED)?;
+    write(&mut region, &DELETED);
+    assert_eq!(rt; region.first(), 0);
+    assert_eq!(rt; region.words(), 2560);
+    let recovered = recover(alloc, &region, 20480)?;
+    assert_eq!(rt; stands_at(&recovered, 0, name(1, 1)), (2, false));
+    assert_eq!(rt; stands_at(&recovered, 0, name(5, 7)), (1, true));
     Ok(())
 }
 

@@ -3,6 +3,7 @@ use chunk_map::Layout;
 use core_index::CoreIndex;
 use core_log::CoreLog;
 use lazy_alloc::Allocator;
+use log_standing::Standing;
 use store_image::Fault;
 use thiserror::Error;
 
@@ -16,6 +17,8 @@ pub struct CoreStart {
     pub allocator: Allocator,
     /// The keys of the core: the newest version of each and what it left, and its entries in all logs.
     pub index: CoreIndex,
+    /// The entries that stand in the log. Those of the core's own keys that are dead were told dead.
+    pub standing: Standing,
 }
 
 /// What the words of a sound region say.

@@ -1,14 +1,34 @@
-use Rattle.std.proofs.Common.{◌≡◌, ℕ, ◌==◌, ◌&&◌, not, length, refl, ◌∙◌, ap}
+use Rattle.std.proofs.Common.{◌≡◌, ℕ, ◌==◌, ◌&&◌, not, length, refl, sym, ◌∙◌, ap, subst}
 use Rattle.std.specs.Prelude.{slice_get, is_none}
 use Rattle.std.specs.List.{list_any}
 use Rattle.pm_region.specs.Words.{lasts}
 use Rattle.lazy_alloc.specs.Heads.{is_free_there, class_there}
 use Rattle.lazy_alloc.specs.Sets.{chunk_is_free, chunk_class, block_is_used, class_at}
+use Rattle.core_index.specs.Index.{opened_in}
+use Rattle.recover.specs.Regions.{Covers}
 use Rattle.recover.specs.Heads.{tail_there}
+use Rattle.recover.proofs.StandLaws.{lies_log, spelled_log}
 use Rattle.recover.proofs.FoundLaws.{ok_of}
 use Rattle.recover.proofs.HeadLaws.{heads_ok, logs_of}
 use Rattle.recover.proofs.StartLaws.{spelled_index, index_of, allocator_of}
 use Rattle.recover.proofs.starts.start.Goals as goal
+
+pub own_standing-requires-clause-lies : goal.own_standing-requires-clause-lies
+own_standing-requires-clause-lies g c =
+    let log = c.in_ok-log.ensures in
+    lies_log (g.R.Region.state c.args.region.now).frame c.in_ok-log.log (subst (Covers (g.R.Region.state c.args.region.now).frame) (sym log.layout) c.requires.covers) log.own
+
+pub own_standing-requires-clause-spelled : goal.own_standing-requires-clause-spelled
+own_standing-requires-clause-spelled g c =
+    let s = g.R.Region.state c.args.region.now in
+    let l = c.args.layout.now in
+    let log = c.in_ok-log.ensures in
+    let heads = c.in-Ok.heads.items in
+    let count = ok_of (λ heads. length heads.items ≡ l.chunks) c.in_ok-heads.field-0 c.in-Ok.heads c.in_ok-heads.ensures.count c.in-Ok.is in
+    spelled_log s l c.args.core c.in_ok-log.log log.layout log.part c.requires.core
+    (λ telling. logs_of l (lasts s) c.args.core heads count (heads_ok l (lasts s) c.args.core c.in_ok-heads.field-0 c.in-Ok.heads (c.in_ok-heads.ensures.told telling) c.in-Ok.is) c.in_ok-log.log.chunks
+    (λ j. log.chunks j ∙ c.in_ok-chunks.ensures.tails j ∙ ap (λ hs. tail_there (slice_get hs j)) c.deref.ensures.value))
+    c.requires.spelled
 
 pub returns-clause-made : goal.returns-clause-made
 returns-clause-made g c =
@@ -24,6 +44,8 @@ returns-clause-made g c =
       allocator_part = allocator.part;
       spelled = spelled_index c.args.layout.now c.args.core c.args.share c.requires.share c.in_ok-index.index c.in_ok-index.ensures.records;
       opened = log.opened;
+      told = c.in_ok-standing.ensures.told c.in_ok-index.index (λ k. c.in_ok-index.ensures.records k ∙ ap (λ rs. opened_in rs k) (sym c.deref-4.ensures.value));
+      settled = c.in_ok-standing.ensures.settled;
     }
 
 pub returns-clause-told : goal.returns-clause-told
@@ -41,5 +63,6 @@ returns-clause-told g c = λ telling kept share.
     record {
       logs = logs_of l image c.args.core heads count are c.in_ok-log.log.chunks (λ j. c.in_ok-log.ensures.chunks j ∙ c.in_ok-chunks.ensures.tails j ∙ ap (λ hs. tail_there (slice_get hs j)) c.deref.ensures.value);
       allocator = allocator_of l image c.args.core c.args.share share c.requires.covers.layout kept heads count are c.in_ok-allocator.allocator allocator.layout allocator.part free class allocator.due used;
+      standing = c.in_ok-standing.ensures.counts telling;
       index = index_of l image c.args.core c.args.share share c.in_ok-index.index c.in_ok-index.ensures.records c.in_ok-index.ensures.room;
     }
