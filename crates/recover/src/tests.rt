@@ -231,6 +231,38 @@ fn pairs_of_two_cores(rt: HostRuntime) -> Result<(), Fail> {
     Ok(())
 }
 
+/// Sixteen cores in two groups, with four chunks each: in part 15, chunk 2 is a log in which key 15 is `abc`.
+const SIXTEEN_CORES: [(u64, u64); 7] = [
+    (2, 16),
+    (3, 8),
+    (32256, 1),
+    (32257, 8),
+    (32288, 0x0300_0015),
+    (32289, 15),
+    (32290, 0x0063_6261),
+];
+
+#[test]
+fn sixteen_cores(rt: HostRuntime) -> Result<(), Fail> {
+    let alloc = rt.alloc();
+    let region = region(alloc, 33280, &SIXTEEN_CORES)?;
+    assert_eq!(rt; region.first(), 0);
+    assert_eq!(rt; region.words(), 33280);
+    let recovered = recover(alloc, &region, 266_240)?;
+    assert_eq!(rt; recovered.starts.len(), 16);
+    let last = &recovered.starts[15];
+    assert_eq!(rt; last.core, 15);
+    assert_eq!(rt;
+        last.log.chunks(),
+        [LogChunk { chunk: 2, tail: 8 }].as_slice()
+    );
+    assert!(rt; matches!(look_at(&recovered, 15, 15), Look::Embedded(_)));
+    assert!(rt; matches!(look_at(&recovered, 14, 15), Look::Unknown));
+    assert_eq!(rt; stands_at(&recovered, 15, name(15, 1)), (1, false));
+    assert_eq!(rt; stands_at(&recovered, 14, name(15, 1)), (0, false));
+    Ok(())
+}
+
 /// One core: key 1 was put twice, with blocks of 256 bytes.
 const TWICE: [(u64, u64); 9] = [
     (512, 258),
