@@ -1,5 +1,5 @@
 -- What a table shows once the seats are joined.
-use Rattle.std.proofs.Common.{◌≡◌, ℕ, zero, suc, ◌+◌, true, cond, ◌||◌, List, [], ◌∷◌, ◌++◌, length, refl, sym, ap, ◌∙◌, subst, ⊎_elim, eq-eqb, ne_eqb, arith, Option, Some, None, is_none}
+use Rattle.std.proofs.Common.{◌≡◌, ℕ, zero, suc, ◌+◌, true, cond, ◌||◌, List, [], ◌∷◌, ◌++◌, length, length-append, append-nil, refl, sym, ap, ◌∙◌, subst, ⊎_elim, eq-eqb, ne_eqb, arith, Option, Some, None, is_none}
 use mathlib.Core.Option.{some, some-injective, some-ne-none}
 use mathlib.Core.Logic.{dite}
 use native.Mathlib.Decide.{ℕ_discrete}
@@ -7,19 +7,21 @@ use lib.ListN.{get_elem?}
 use Rattle.atomic_table.specs.Table.{Joins}
 use Rattle.atomic_table.proofs.Lists.{set_else, at_longer, at_last}
 use Rattle.atomic_table.specs.Seated.{TableId}
+use Rattle.group_laws.specs.Places.{Place, members}
+use Rattle.group_board.specs.Seats.{SeatAt}
 use Rattle.atomic_board.specs.declared.seat_data.Origin.{Origin}
 use Rattle.atomic_board.specs.declared.seat_data.Holding.{Holding}
 use Rattle.atomic_board.specs.declared.seat_data.Deed.{Deed}
 use Rattle.atomic_board.specs.declared.seat_data.SeatData.{SeatData}
 use Rattle.atomic_board.specs.declared.seat_data.SeatData.TheVariants.{Store, Own, Spent}
 use Rattle.atomic_board.specs.declared.token.SeatToken.{SeatToken}
-use Rattle.atomic_board.specs.Deeds.{place_of, view_by}
+use Rattle.atomic_board.specs.Deeds.{place_of, size, view_by}
 use Rattle.atomic_board.specs.ShownState.{TableState, ShowsLawful, views_of, is_back, deeds_in, deeds_at, stored, own_or}
 use Rattle.atomic_board.specs.StepTells.{is_own, is_store, is_settled, is_handless, number_in, origin_in, view_in, joined}
 use Rattle.atomic_board.specs.declared.member_seat.MemberSeat.{MemberSeat}
 use Rattle.atomic_board.specs.MemberSeats.{origin_at, view_at, seat_of}
-use Rattle.atomic_board.specs.Tokens.{member_at, Ended, HasFrom}
-use Rattle.atomic_board.proofs.SeatPlaces.{store_own, store_spent, own_spent}
+use Rattle.atomic_board.specs.Tokens.{AreTokens, member_at, Ended, HasFrom}
+use Rattle.atomic_board.proofs.SeatPlaces.{at_lt, store_own, store_spent, own_spent}
 use Rattle.atomic_board.proofs.RuleOpened.{same_back}
 use Rattle.atomic_board.proofs.SlotsReturned.{join_owes}
 use Rattle.atomic_board.proofs.OwedLeading.{same_origin}
@@ -114,3 +116,20 @@ ended b ts ws id d h s o at words = record {
 -- a member's seat at a table
 pub at_member : (t : MemberSeat) (z : TableId) (b : Origin) (k : ℕ) → t.seat.table_id ≡ z → origin_at t ≡ b → t.member ≡ k → seat_of t ≡ member_at z (place_of b) k
 at_member t z b k table origin member i = record { number = member i; place = place_of (origin i); table = table i; handle = 0 }
+
+-- a token by its place in the list
+pub token_there : (z : TableId) (p : Place) (ts left rest : List SeatToken) (t : SeatToken) → AreTokens z p ts → ts ≡ (left ++ t ∷ []) ++ rest → seat_of t.own ≡ member_at z p (length left)
+token_there z p ts left rest t are is = are (length left) t (ap (λ l. get_elem? l (length left)) is ∙ at_longer (left ++ t ∷ []) rest (length left) t (at_last left t (length left) refl))
+
+-- the last one is the last member's
+pub last_member : (z : TableId) (b : Origin) (ts left : List SeatToken) (t : SeatToken) → AreTokens z (place_of b) ts → ts ≡ left ++ t ∷ [] → length ts ≡ size b → t.own.member + 1 ≡ t.own.members
+last_member z b ts left t are is count =
+    let there = token_there z (place_of b) ts left [] t are (is ∙ sym (append-nil (left ++ t ∷ []))) in
+    let number = ap (λ (x : SeatAt). x.number) there in
+    let many = ap (λ (x : SeatAt). members x.place) there in
+    let long = ap length is ∙ length-append left (t ∷ []) in
+    let own = t.own.own.2 in omega (arith, number, many, long, own, count)
+
+-- before the first is joined
+pub has_none : (b : Origin) (ts : List SeatToken) (d : SeatData) → is_store d ≡ true → HasFrom b ts (length ts) d
+has_none b ts d store = let s = store_is d store in (s.0, s.1, s.2, s.3, λ k t low e. absurd (let l = at_lt ts k t e in omega (arith, l, low)))
