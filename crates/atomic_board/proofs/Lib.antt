@@ -20,3 +20,4 @@ pub mod OneState
 pub mod MailboxKept
 pub mod OwedMailing
 pub mod MailInHand
+pub mod TrialSteps

@@ -7,3 +7,4 @@ pub mod Identities
 pub mod MemberSeats
 pub mod Tokens
 pub mod GroupTables
+pub mod ThreadTrials

@@ -14,6 +14,8 @@ mod seat_board;
 mod seat_data;
 mod slot_order;
 mod table;
+#[cfg(test)]
+mod tests;
 mod token;
 
 pub use group_table::GroupTable;
