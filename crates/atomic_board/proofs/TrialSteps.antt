@@ -269,3 +269,10 @@ takes_back s t r n v u y x e (Some h) one two w is pends tidy =
     let found = finds s t n false x v u one w is in
     let same = back t n false u e found pends in
     (same ∙ ap (λ (z : SeatAt). entry_of z.number n) one, finishes t r n h u y e two found same tidy)
+
+-- a seat of the group of three
+pub at_three : (z : TableId) (b : Origin) (k : ℕ) (t : SeatToken) (own : MemberSeat) → began b ≡ began_on small_words → seat_of t.own ≡ member_at z (place_of b) k → own ≡ t.own → (members (seat_of own).place ≡ 3) × ((seat_of own).number ≡ k)
+at_three z b k t own is there same = (
+  ap (λ (o : MemberSeat). members (seat_of o).place) same ∙ (ap (λ (x : SeatAt). members x.place) there ∙ ap (λ (w : Group). members w.place) is),
+  ap (λ (o : MemberSeat). o.member) same ∙ ap (λ (x : SeatAt). x.number) there,
+)

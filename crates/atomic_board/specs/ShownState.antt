@@ -137,3 +137,7 @@ pub record ShowsLawful (b : Origin) (s : TableState) : Type 0 where
   pub mail : ℕ → ℕ → Option Notices
   pub fits : Fits b holder slot mail s
   pub reached : IsReached b (group_of (place_of b) holder slot mail (views_of b s.views))
+
+-- the state that is shown
+abbrev pub state_shown : (b : Origin) (s : TableState) → ShowsLawful b s → Group
+state_shown b s o = group_of (place_of b) o.holder o.slot o.mail (views_of b s.views)

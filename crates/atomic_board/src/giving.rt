@@ -13,34 +13,46 @@ ghost use Rattle.atomic_board.specs.ShownState.{ShowsLawful};
 ghost use Rattle.atomic_board.specs.StepTells.{tells_doom, tells_retire};
 ghost use Rattle.atomic_board.specs.MemberSeats.{place_at, view_at, Stays};
 
-use crate::slot_order::bring;
-use crate::parcel::Parcel;
-use crate::rule::{CoreView, Dooms, Fails, Finishes, Marks, Named, Retires, Withdraws};
 use crate::leading::{pool_place_of, pool_word_of, unpacked};
 use crate::member_seat::{Common, MemberSeat};
+use crate::parcel::Parcel;
+use crate::rule::{CoreView, Dooms, Fails, Finishes, Marks, Named, Retires, Withdraws};
+use crate::slot_order::bring;
 use crash_core::Change;
 use log_entry::entry::EntryName;
 use std::marker::Brand;
 
 // The steps of cleaning. The proof of the call picks the names.
 fn dooms<W: Named>(shared: &Common, seat: &mut CoreView, word: usize, _names: &[EntryName])
-    requires { (seat.old.table_id ≡ shared.now.table_id) × (word < shared.now.table_id.words) × Allows (ShowsLawful shared.now.key.me.0) shared.now.table_id.slots seat.old.id seat.old.me word (λ n. (n + 1) % 2 ^ 64) (tells_doom W.names (step shared.now.table_id.slots word 1 0 none) seat.old.me) }
-    ensures { (seat.new.table_id ≡ seat.old.table_id) × (r : ℕ) × tells_doom W.names (step shared.now.table_id.slots word 1 0 none) seat.old.me r seat.new.me }
+    requires { (seat.old.table_id ≡ shared.now.table_id) × (word < shared.now.table_id.words)
+        × Allows (ShowsLawful shared.now.key.me.0) shared.now.table_id.slots seat.old.id
+        seat.old.me word (λ n. (n + 1) % 2 ^ 64)
+        (tells_doom W.names (step shared.now.table_id.slots word 1 0 none) seat.old.me) }
+    ensures { (seat.new.table_id ≡ seat.old.table_id) × (r : ℕ)
+        × tells_doom W.names (step shared.now.table_id.slots word 1 0 none) seat.old.me r
+        seat.new.me }
 {
     shared.fetch_add::<Dooms<W>>(seat, word, 1);
 }
 
 fn retires<W: Named>(shared: &Common, seat: &mut CoreView, word: usize, _names: &[EntryName])
-    requires { (seat.old.table_id ≡ shared.now.table_id) × (word < shared.now.table_id.words) × Allows (ShowsLawful shared.now.key.me.0) shared.now.table_id.slots seat.old.id seat.old.me word (λ n. (n + 1) % 2 ^ 64) (tells_retire W.names (step shared.now.table_id.slots word 1 0 none) seat.old.me) }
-    ensures { (seat.new.table_id ≡ seat.old.table_id) × (r : ℕ) × tells_retire W.names (step shared.now.table_id.slots word 1 0 none) seat.old.me r seat.new.me }
+    requires { (seat.old.table_id ≡ shared.now.table_id) × (word < shared.now.table_id.words)
+        × Allows (ShowsLawful shared.now.key.me.0) shared.now.table_id.slots seat.old.id
+        seat.old.me word (λ n. (n + 1) % 2 ^ 64)
+        (tells_retire W.names (step shared.now.table_id.slots word 1 0 none) seat.old.me) }
+    ensures { (seat.new.table_id ≡ seat.old.table_id) × (r : ℕ)
+        × tells_retire W.names (step shared.now.table_id.slots word 1 0 none) seat.old.me r
+        seat.new.me }
 {
     shared.fetch_add::<Retires<W>>(seat, word, 1);
 }
 
+// Each is the call of `Board` with that name.
 impl MemberSeat {
-    pub fn mark(&mut self, shared: &Common, member: u32, slot: u32, change: Change)
+    pub(crate) fn mark(&mut self, shared: &Common, member: u32, slot: u32, change: Change)
         requires table { self.old.seat.table_id ≡ shared.now.table_id }
-        requires may { MayMark (place_at self.old) self.old.member (view_at self.old) member slot change.entry }
+        requires may { MayMark (place_at self.old) self.old.member
+            (view_at self.old) member slot change.entry }
         ensures same { Stays self.old self.new }
         ensures view { view_at self.new ≡ after_mark member slot (view_at self.old) }
     {
@@ -57,9 +69,10 @@ impl MemberSeat {
         let _ = self.held.pop_front();
     }
 
-    pub fn fail(&mut self, shared: &Common, member: u32, slot: u32, change: Change)
+    pub(crate) fn fail(&mut self, shared: &Common, member: u32, slot: u32, change: Change)
         requires table { self.old.seat.table_id ≡ shared.now.table_id }
-        requires may { MayFail (place_at self.old) self.old.member (view_at self.old) member slot change.entry }
+        requires may { MayFail (place_at self.old) self.old.member
+            (view_at self.old) member slot change.entry }
         ensures same { Stays self.old self.new }
         ensures view { view_at self.new ≡ after_fail member slot (view_at self.old) }
     {
@@ -75,14 +88,23 @@ impl MemberSeat {
         let _ = self.held.pop_front();
     }
 
-    pub fn finish(&mut self, shared: &Common, slot: u32) -> Change
+    pub(crate) fn finish(&mut self, shared: &Common, slot: u32) -> Change
         requires table { self.old.seat.table_id ≡ shared.now.table_id }
         requires may { MayFinish (place_at self.old) self.old.member (view_at self.old) slot }
         ensures same { Stays self.old self.new }
-        ensures seen { MatchOption result.home (In (loads.Slot self.old.member slot words.Failed) (view_at self.old).looked) (λ home. In (loads.Slot self.old.member slot (words.Done home)) (view_at self.old).looked) }
-        ensures home { IfSome result.home (IsHome (place_at self.old) self.old.member (view_at self.old) result.entry) }
-        ensures pending { (view_at self.old).pending result.entry.key ≡ Option.Some (record { entry = result.entry; slot = Option.Some slot }) }
-        ensures view { MatchOption result.home (TidiedIn (place_at self.old) self.old.member (after_give_up result.entry (view_at self.old)) (view_at self.new)) (λ home. TidiedIn (place_at self.old) self.old.member (after_finish result.entry home (view_at self.old)) (view_at self.new)) }
+        ensures seen { MatchOption result.home
+            (In (loads.Slot self.old.member slot words.Failed) (view_at self.old).looked)
+            (λ home. In (loads.Slot self.old.member slot (words.Done home))
+            (view_at self.old).looked) }
+        ensures home { IfSome result.home
+            (IsHome (place_at self.old) self.old.member (view_at self.old) result.entry) }
+        ensures pending { (view_at self.old).pending result.entry.key ≡ Option.Some
+            (record { entry = result.entry; slot = Option.Some slot }) }
+        ensures view { MatchOption result.home
+            (TidiedIn (place_at self.old) self.old.member
+            (after_give_up result.entry (view_at self.old)) (view_at self.new))
+            (λ home. TidiedIn (place_at self.old) self.old.member
+            (after_finish result.entry home (view_at self.old)) (view_at self.new)) }
     {
         let pool_word = pool_word_of(self.members, self.member, slot);
         let place = pool_place_of(self.member, slot);
@@ -92,12 +114,13 @@ impl MemberSeat {
         unpacked(parcel)
     }
 
-    pub fn withdraw(&mut self, shared: &Common, slot: u32) -> Change
+    pub(crate) fn withdraw(&mut self, shared: &Common, slot: u32) -> Change
         requires table { self.old.seat.table_id ≡ shared.now.table_id }
         requires may { MayWithdraw (place_at self.old) self.old.member (view_at self.old) slot }
         ensures same { Stays self.old self.new }
         ensures change { result.home ≡ Option.None }
-        ensures pending { (view_at self.old).pending result.entry.key ≡ Option.Some (record { entry = result.entry; slot = Option.Some slot }) }
+        ensures pending { (view_at self.old).pending result.entry.key ≡ Option.Some
+            (record { entry = result.entry; slot = Option.Some slot }) }
         ensures view { view_at self.new ≡ after_withdraw result.entry (view_at self.old) }
     {
         let pool_word = pool_word_of(self.members, self.member, slot);
@@ -108,7 +131,7 @@ impl MemberSeat {
         unpacked(parcel)
     }
 
-    pub fn doom(&mut self, shared: &Common, names: &[EntryName])
+    pub(crate) fn doom(&mut self, shared: &Common, names: &[EntryName])
         requires table { self.old.seat.table_id ≡ shared.now.table_id }
         requires may { MayDoom (place_at self.old) self.old.member (view_at self.old) names.now }
         ensures same { Stays self.old self.new }
@@ -117,11 +140,13 @@ impl MemberSeat {
         dooms::<Brand>(shared, &mut self.seat, 1 + self.member as usize, names);
     }
 
-    pub fn retire(&mut self, shared: &Common, names: &[EntryName])
+    pub(crate) fn retire(&mut self, shared: &Common, names: &[EntryName])
         requires table { self.old.seat.table_id ≡ shared.now.table_id }
         requires may { MayRetire (place_at self.old) self.old.member (view_at self.old) names.now }
         ensures same { Stays self.old self.new }
-        ensures view { TidiedIn (place_at self.old) self.old.member (after_retire (place_at self.old) self.old.member names.now (view_at self.old)) (view_at self.new) }
+        ensures view { TidiedIn (place_at self.old) self.old.member
+            (after_retire (place_at self.old) self.old.member names.now (view_at self.old))
+            (view_at self.new) }
     {
         retires::<Brand>(shared, &mut self.seat, 1 + self.member as usize, names);
     }

@@ -55,14 +55,20 @@ pub(crate) fn unpacked(parcel: Option<Parcel>) -> Change
 
 // The store that posts. The proof of the call picks the bytes behind the entry's pointer.
 fn offer<W: Value>(shared: &Common, seat: &mut CoreView, word: usize, new: u64, _value: &[u8])
-    requires { (seat.old.table_id ≡ shared.now.table_id) × (word < shared.now.table_id.words) × Allows (ShowsLawful shared.now.key.me.0) shared.now.table_id.slots seat.old.id seat.old.me word (λ _. new) (λ _. tells_post W.value (step shared.now.table_id.slots word new 0 none) seat.old.me new) }
-    ensures { (seat.new.table_id ≡ seat.old.table_id) × (seat.new.id ≡ seat.old.id) × tells_post W.value (step shared.now.table_id.slots word new 0 none) seat.old.me new seat.new.me }
+    requires { (seat.old.table_id ≡ shared.now.table_id) × (word < shared.now.table_id.words)
+        × Allows (ShowsLawful shared.now.key.me.0) shared.now.table_id.slots seat.old.id
+        seat.old.me word (λ _. new)
+        (λ _. tells_post W.value (step shared.now.table_id.slots word new 0 none) seat.old.me new) }
+    ensures { (seat.new.table_id ≡ seat.old.table_id) × (seat.new.id ≡ seat.old.id)
+        × tells_post W.value (step shared.now.table_id.slots word new 0 none) seat.old.me new
+        seat.new.me }
 {
     shared.store::<Posts<W>>(seat, word, new);
 }
 
+// Each is the call of `Board` with that name.
 impl MemberSeat {
-    pub fn commit(&mut self, shared: &Common)
+    pub(crate) fn commit(&mut self, shared: &Common)
         requires table { self.old.seat.table_id ≡ shared.now.table_id }
         requires may { MayCommit (place_at self.old) self.old.member (view_at self.old) }
         ensures same { Stays self.old self.new }
@@ -71,7 +77,7 @@ impl MemberSeat {
         shared.fetch_add::<Commits>(&mut self.seat, 1 + self.member as usize, 1);
     }
 
-    pub fn unlock(&mut self, shared: &Common)
+    pub(crate) fn unlock(&mut self, shared: &Common)
         requires table { self.old.seat.table_id ≡ shared.now.table_id }
         requires may { MayUnlock (place_at self.old) self.old.member (view_at self.old) }
         ensures same { Stays self.old self.new }
@@ -80,11 +86,12 @@ impl MemberSeat {
         shared.store::<Unlocks>(&mut self.seat, 0, 0);
     }
 
-    pub fn try_lock(&mut self, shared: &Common) -> Result<(), Busy>
+    pub(crate) fn try_lock(&mut self, shared: &Common) -> Result<(), Busy>
         requires table { self.old.seat.table_id ≡ shared.now.table_id }
         requires may { MayLock (place_at self.old) self.old.member (view_at self.old) }
         ensures same { Stays self.old self.new }
-        ensures view { MatchResult result (λ _. view_at self.new ≡ after_lock (view_at self.old)) (λ busy. view_at self.new ≡ after_find (loads.Holder busy.holder) (view_at self.old)) }
+        ensures view { MatchResult result (λ _. view_at self.new ≡ after_lock (view_at self.old))
+            (λ busy. view_at self.new ≡ after_find (loads.Holder busy.holder) (view_at self.old)) }
         ensures other { IfErr result (λ busy. busy.holder ≢ self.old.member) }
         ensures holder { IfErr result (λ busy. busy.holder < size (origin_at self.old)) }
     {
@@ -99,24 +106,26 @@ impl MemberSeat {
         }
     }
 
-    pub fn look(&mut self, shared: &Common, member: u32, slot: u32) -> SlotState
+    pub(crate) fn look(&mut self, shared: &Common, member: u32, slot: u32) -> SlotState
         requires table { self.old.seat.table_id ≡ shared.now.table_id }
         requires may { MayLook (place_at self.old) self.old.member member slot }
         ensures same { Stays self.old self.new }
-        ensures view { (word : SlotWord) × (state_of word ≡ result) × (view_at self.new ≡ after_find (loads.Slot member slot word) (view_at self.old)) }
+        ensures view { (word : SlotWord) × (state_of word ≡ result)
+            × (view_at self.new ≡ after_find (loads.Slot member slot word) (view_at self.old)) }
     {
         let pool_word = pool_word_of(self.members, member, slot);
         let found = shared.load::<Looks>(&mut self.seat, pool_word);
         state_at(found)
     }
 
-    pub fn take(&mut self, shared: &Common, member: u32, slot: u32) -> Change
+    pub(crate) fn take(&mut self, shared: &Common, member: u32, slot: u32) -> Change
         requires table { self.old.seat.table_id ≡ shared.now.table_id }
         requires may { MayTake (place_at self.old) self.old.member (view_at self.old) member slot }
         ensures same { Stays self.old self.new }
         ensures change { result.home ≡ Option.None }
         ensures spelled { HasSpelling result.entry }
-        ensures words { (n : ℕ) → In (loads.Slot member slot (words.Posted n)) (view_at self.old).looked → length (words_of result.entry) ≡ n }
+        ensures words { (n : ℕ) → In (loads.Slot member slot (words.Posted n))
+            (view_at self.old).looked → length (words_of result.entry) ≡ n }
         ensures view { view_at self.new ≡ after_take member slot result.entry (view_at self.old) }
     {
         let pool_word = pool_word_of(self.members, member, slot);
@@ -127,11 +136,13 @@ impl MemberSeat {
         unpacked(parcel)
     }
 
-    pub fn post(&mut self, shared: &Common, slot: u32, change: Change, value: &[u8])
+    pub(crate) fn post(&mut self, shared: &Common, slot: u32, change: Change, value: &[u8])
         requires table { self.old.seat.table_id ≡ shared.now.table_id }
-        requires may { MayPost (place_at self.old) self.old.member (view_at self.old) slot change value.now }
+        requires may { MayPost (place_at self.old) self.old.member
+            (view_at self.old) slot change value.now }
         ensures same { Stays self.old self.new }
-        ensures view { view_at self.new ≡ after_post slot change.entry value.now (view_at self.old) }
+        ensures view { view_at self.new ≡ after_post slot change.entry value.now
+            (view_at self.old) }
     {
         let pool_word = pool_word_of(self.members, self.member, slot);
         let place = pool_place_of(self.member, slot);

@@ -4,6 +4,7 @@
 
 mod giving;
 mod group_table;
+pub mod laws;
 mod leading;
 mod mailing;
 mod member_seat;

@@ -10,9 +10,9 @@ ghost use Rattle.atomic_board.specs.declared.parcel.Parcel.TheVariants as parcel
 ghost use Rattle.atomic_board.specs.TableWords.{mail_word, mail_place};
 ghost use Rattle.atomic_board.specs.MemberSeats.{place_at, view_at, Stays};
 
+use crate::member_seat::{Common, MemberSeat};
 use crate::parcel::Parcel;
 use crate::rule::{Receives, Sends, TryReceives, TrySends};
-use crate::member_seat::{Common, MemberSeat};
 use crash_core::Notices;
 use group_board::MailFull;
 
@@ -41,13 +41,23 @@ fn opened(parcel: Option<Parcel>) -> Notices
     notices
 }
 
+// Each is the call of `Board` with that name.
 impl MemberSeat {
-    pub fn send(&mut self, shared: &Common, to: u32, notices: Notices) -> Result<(), MailFull>
+    pub(crate) fn send(
+        &mut self,
+        shared: &Common,
+        to: u32,
+        notices: Notices,
+    ) -> Result<(), MailFull>
         requires table { self.old.seat.table_id ≡ shared.now.table_id }
-        requires may { MaySend (place_at self.old) self.old.member (view_at self.old) to (notices_of notices) }
+        requires may { MaySend (place_at self.old) self.old.member (view_at self.old) to
+            (notices_of notices) }
         ensures same { Stays self.old self.new }
         ensures back { IfErr result (λ full. full.notices ≡ notices) }
-        ensures view { MatchResult result (λ _. view_at self.new ≡ after_send to (notices_of notices) (view_at self.old)) (λ full. view_at self.new ≡ after_find (loads.Mail self.old.member to true) (view_at self.old)) }
+        ensures view { MatchResult result
+            (λ _. view_at self.new ≡ after_send to (notices_of notices) (view_at self.old))
+            (λ full. view_at self.new ≡ after_find (loads.Mail self.old.member to true)
+            (view_at self.old)) }
     {
         let word = mail_word_of(self.members, self.member, to);
         let place = mail_place_of(self.members, self.member, to);
@@ -60,12 +70,19 @@ impl MemberSeat {
         Ok(())
     }
 
-    pub fn receive(&mut self, shared: &Common, from: u32) -> Option<Notices>
+    pub(crate) fn receive(&mut self, shared: &Common, from: u32) -> Option<Notices>
         requires table { self.old.seat.table_id ≡ shared.now.table_id }
         requires may { MayReceive (place_at self.old) self.old.member from }
         ensures same { Stays self.old self.new }
-        ensures heard { IfSome result (λ notices. IsHeard (place_at self.old) self.old.member from (view_at self.old) (notices_of notices)) }
-        ensures view { MatchOption result (view_at self.new ≡ after_find (loads.Mail from self.old.member false) (view_at self.old)) (λ notices. TidiedIn (place_at self.old) self.old.member (after_receive (place_at self.old) self.old.member (notices_of notices) (view_at self.old)) (view_at self.new)) }
+        ensures heard { IfSome result
+            (λ notices. IsHeard (place_at self.old) self.old.member from (view_at self.old)
+            (notices_of notices)) }
+        ensures view { MatchOption result
+            (view_at self.new ≡ after_find (loads.Mail from self.old.member false)
+            (view_at self.old))
+            (λ notices. TidiedIn (place_at self.old) self.old.member
+            (after_receive (place_at self.old) self.old.member (notices_of notices)
+            (view_at self.old)) (view_at self.new)) }
     {
         let word = mail_word_of(self.members, from, self.member);
         let place = mail_place_of(self.members, from, self.member);

@@ -1,8 +1,8 @@
 // What a group opens on, which no code holds.
 ghost use Rattle.std.specs.Prelude.{◌≡◌, IfOk, []};
 
-use crate::seat_data::Origin;
 use crate::rule::OriginSeat;
+use crate::seat_data::Origin;
 use atomic_table::{Play, Table, TableRule};
 use fs_errors::Memory;
 use group_board::Opening;

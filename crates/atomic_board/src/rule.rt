@@ -7,8 +7,8 @@ ghost use Rattle.atomic_board.specs.ShownState.{ShowsLawful};
 ghost use Rattle.atomic_board.specs.declared.seat_data.SeatData.TheVariants.{Store};
 ghost use Rattle.atomic_board.specs.StepTells.{no_origin, tells_commit, tells_unlock, tells_lock, tells_look, tells_settle, tells_return, tells_take, tells_post, tells_give, tells_finish, tells_withdraw, tells_doom, tells_retire, tells_try_send, tells_send, tells_try_receive, tells_receive};
 
-use crate::seat_data::{Origin, SeatData};
 use crate::parcel::Parcel;
+use crate::seat_data::{Origin, SeatData};
 use atomic_table::{Play, Seat, TableRule};
 use std::marker::{Brand, PhantomData};
 

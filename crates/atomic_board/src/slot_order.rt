@@ -9,7 +9,8 @@ use std::collections::VecDeque;
 /// Turns the seat until the slot is the one that it took last.
 pub fn bring(seat: &mut CoreView, held: &mut VecDeque<usize>, slot: usize)
     requires { (numbers seat.old.me.1 ≡ held.old.items) × (has slot held.old.items ≡ true) }
-    ensures seat { (seat.new.table_id ≡ seat.old.table_id) × (seat.new.id ≡ seat.old.id) × (seat.new.me.0 ≡ seat.old.me.0) }
+    ensures seat { (seat.new.table_id ≡ seat.old.table_id) × (seat.new.id ≡ seat.old.id)
+        × (seat.new.me.0 ≡ seat.old.me.0) }
     ensures numbers { numbers seat.new.me.1 ≡ held.new.items }
     ensures empty { all_empty seat.new.me.1 ≡ all_empty seat.old.me.1 }
     ensures first { (others : List ℕ) × (held.new.items ≡ slot ∷ others) }

@@ -59,12 +59,15 @@ fn split_next(
     members: u32,
     mut held: VecDeque<usize>,
 ) -> MemberSeat
-    requires table { (spare.old.table_id ≡ shared.now.table_id) × (shared.now.table_id.words ≡ word_count members) × (size shared.now.key.me.0 ≡ members) }
+    requires table { (spare.old.table_id ≡ shared.now.table_id)
+        × (shared.now.table_id.words ≡ word_count members) × (size shared.now.key.me.0 ≡ members) }
     requires member { (member < members) × (members ≤ 8) }
     requires spare { spare.old.me ≡ (Store member shared.now.key.me.0 [], []) }
     requires held { (held.items ≡ []) × (64 ≤ deque_capacity held) }
-    ensures spare { (spare.new.table_id ≡ spare.old.table_id) × (spare.new.me ≡ (Store (member + 1) shared.now.key.me.0 [], [])) }
-    ensures token { (result.seat.table_id ≡ shared.now.table_id) × (result.member ≡ member) × (result.members ≡ members) × (origin_at result ≡ shared.now.key.me.0) }
+    ensures spare { (spare.new.table_id ≡ spare.old.table_id)
+        × (spare.new.me ≡ (Store (member + 1) shared.now.key.me.0 [], [])) }
+    ensures token { (result.seat.table_id ≡ shared.now.table_id) × (result.member ≡ member)
+        × (result.members ≡ members) × (origin_at result ≡ shared.now.key.me.0) }
     ensures view { view_at result ≡ view_of (began shared.now.key.me.0) member }
 {
     let mut seat = shared.split_seat::<SplitsOff>(spare);
@@ -88,7 +91,8 @@ fn split_all(
     mut hands: Vec<VecDeque<usize>>,
     mut tokens: Vec<SeatToken>,
 ) -> Vec<SeatToken>
-    requires table { (first.table_id ≡ shared.now.table_id) × (shared.now.table_id.words ≡ word_count members) × (size shared.now.key.me.0 ≡ members) }
+    requires table { (first.table_id ≡ shared.now.table_id)
+        × (shared.now.table_id.words ≡ word_count members) × (size shared.now.key.me.0 ≡ members) }
     requires members { (0 < members) × (members ≤ 8) }
     requires first { first.me ≡ (Store 0 shared.now.key.me.0 [], []) }
     requires hands { (length hands.items ≡ members) × AreEmptyHands hands.items }
@@ -128,17 +132,23 @@ fn empty_hands(alloc: Global, members: u32) -> Result<Vec<VecDeque<usize>>, Memo
 
 // The load by which a seat gives its slots back. The proof of the call picks what the table's group opened on.
 fn gives_back<W: OpenedOn>(shared: &Common, seat: &mut CoreView, word: usize)
-    requires { (seat.old.table_id ≡ shared.now.table_id) × (word < shared.now.table_id.words) × Allows (ShowsLawful shared.now.key.me.0) shared.now.table_id.slots seat.old.id seat.old.me word (λ n. n) (tells_return W.origin (step shared.now.table_id.slots word 0 0 none) seat.old.me) }
-    ensures { (seat.new.table_id ≡ seat.old.table_id) × (seat.new.me ≡ (seat.old.me.0, [])) × (origin_in seat.old.me.0 ≡ W.origin) }
+    requires { (seat.old.table_id ≡ shared.now.table_id) × (word < shared.now.table_id.words)
+        × Allows (ShowsLawful shared.now.key.me.0) shared.now.table_id.slots seat.old.id
+        seat.old.me word (λ n. n)
+        (tells_return W.origin (step shared.now.table_id.slots word 0 0 none) seat.old.me) }
+    ensures { (seat.new.table_id ≡ seat.old.table_id) × (seat.new.me ≡ (seat.old.me.0, []))
+        × (origin_in seat.old.me.0 ≡ W.origin) }
 {
     shared.load::<Returns<W>>(seat, word);
 }
 
 /// Gives a member's slots back, by one load, and joins its seat with the spare one.
 fn join_one(shared: &Common, spare: &mut CoreView, own: MemberSeat)
-    requires table { (spare.old.table_id ≡ shared.now.table_id) × (own.seat.table_id ≡ shared.now.table_id) }
+    requires table { (spare.old.table_id ≡ shared.now.table_id)
+        × (own.seat.table_id ≡ shared.now.table_id) }
     requires spare { (length spare.old.me.1 ≡ 0) × (is_store spare.old.me.0 ≡ true) }
-    ensures spare { (spare.new.table_id ≡ spare.old.table_id) × (spare.new.me ≡ (joined spare.old.me.0 own.seat.me.0, [])) }
+    ensures spare { (spare.new.table_id ≡ spare.old.table_id)
+        × (spare.new.me ≡ (joined spare.old.me.0 own.seat.me.0, [])) }
     ensures origin { origin_at own ≡ shared.now.key.me.0 }
 {
     let MemberSeat {
@@ -155,12 +165,11 @@ fn join_one(shared: &Common, spare: &mut CoreView, own: MemberSeat)
 fn apart(token: SeatToken) -> (MemberSeat, CoreView)
     requires { token.own.member + 1 ≡ token.own.members }
     ensures own { result.0 ≡ token.own }
-    ensures spare { (result.1.table_id ≡ token.own.seat.table_id) × (length result.1.me.1 ≡ 0) × (is_store result.1.me.0 ≡ true) }
+    ensures spare { (result.1.table_id ≡ token.own.seat.table_id) × (length result.1.me.1 ≡ 0)
+        × (is_store result.1.me.0 ≡ true) }
 {
     let SeatToken { own, spare } = token;
-    let Some(spare) = spare else {
-        unreachable!()
-    };
+    let Some(spare) = spare else { unreachable!() };
     (own, spare)
 }
 
@@ -207,10 +216,12 @@ impl GroupTable {
     /// change, and no mailbox is full.
     pub fn open<O: Opening>(alloc: Global, members: u32) -> Result<GroupTable, Memory>
         requires sound { images.IsSound O.bytes (image_of O.words) }
-        requires group { O.group < (layout_of (image_of O.words)).cores / (layout_of (image_of O.words)).group }
+        requires group { O.group < (layout_of (image_of O.words)).cores /
+            (layout_of (image_of O.words)).group }
         requires members { (layout_of (image_of O.words)).group ≡ members }
         ensures members { IfOk result (λ t. t.members ≡ members) }
-        ensures opened { IfOk result (λ t. began (origin_of t) ≡ opened (place_in O.group O.words) (image_of O.words)) }
+        ensures opened { IfOk result
+            (λ t. began (origin_of t) ≡ opened (place_in O.group O.words) (image_of O.words)) }
     {
         let plan = origin_seat::<O>(alloc)?;
         let count = members as usize;
@@ -234,7 +245,8 @@ impl GroupTable {
     pub fn seats(&mut self, alloc: Global) -> Result<Vec<SeatToken>, Memory>
         ensures same { self.new ≡ self.old }
         ensures count { IfOk result (λ ts. length ts.items ≡ self.old.members) }
-        ensures tokens { IfOk result (λ ts. AreTokens (id_of self.old) (group_place self.old) ts.items) }
+        ensures tokens { IfOk result
+            (λ ts. AreTokens (id_of self.old) (group_place self.old) ts.items) }
         ensures fresh { IfOk result (λ ts. AreFresh (origin_of self.old) ts.items) }
     {
         let members = self.members;

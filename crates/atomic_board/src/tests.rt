@@ -252,10 +252,9 @@ fn work_three<R: Threads + Sync>(
                 × IsStart small_words (id_of table.now) 1 b
                 × IsStart small_words (id_of table.now) 2 c
                 × (second ≡ put_of 1 1) × (third ≡ put_of 2 1) }
-            ensures { (seat_of result.0.0.own ≡ seat_of b.own) × (seat_of result.1.0.own ≡ seat_of c.own) }
-        {
-            work_two(rt, table, b, c, second, third)
-        },
+            ensures { (seat_of result.0.0.own ≡ seat_of b.own)
+                × (seat_of result.1.0.own ≡ seat_of c.own) }
+        { work_two(rt, table, b, c, second, third) },
     );
     (a, b, c, (done, second_done, third_done))
 }
@@ -305,7 +304,8 @@ fn first_turn<B: Board>(board: &mut B, change: Change) -> Option<u32>
     requires change { change ≡ put_of (B.seat board.old).number 1 }
     requires few { (B.seat board.old).number < 8 }
     ensures seat { B.seat board.new ≡ B.seat board.old }
-    ensures leads { IfNone result (Leads (B.seat board.new).place (B.seat board.new).number (B.view board.new)) }
+    ensures leads { IfNone result
+        (Leads (B.seat board.new).place (B.seat board.new).number (B.view board.new)) }
 {
     board.post(0, change, &[]);
     match board.try_lock() {
@@ -332,12 +332,18 @@ fn collect<B: Board>(board: &mut B, owner: u32) -> u32
 }
 
 /// A member's first turn, at its table.
-fn begin(table: &GroupTable, token: SeatToken, member: u32, change: Change) -> (SeatToken, Option<u32>)
+fn begin(
+    table: &GroupTable,
+    token: SeatToken,
+    member: u32,
+    change: Change,
+) -> (SeatToken, Option<u32>)
     requires group { began (origin_of table.now) ≡ began_on pair_words }
     requires token { IsStart pair_words (id_of table.now) member token }
     requires change { (member < 2) × (change ≡ put_of member 1) }
     ensures seat { seat_of result.0.own ≡ seat_of token.own }
-    ensures leads { IfNone result.1 (Leads (seat_of result.0.own).place (seat_of result.0.own).number (view_at result.0.own)) }
+    ensures leads { IfNone result.1
+        (Leads (seat_of result.0.own).place (seat_of result.0.own).number (view_at result.0.own)) }
 {
     let mut seat = table.attend(token);
     let found = first_turn(&mut seat, change);
@@ -346,7 +352,8 @@ fn begin(table: &GroupTable, token: SeatToken, member: u32, change: Change) -> (
 
 /// As the leader, takes what both members offer.
 fn take_both(table: &GroupTable, token: SeatToken) -> (SeatToken, u32)
-    requires leads { Leads (seat_of token.own).place (seat_of token.own).number (view_at token.own) }
+    requires leads { Leads (seat_of token.own).place (seat_of token.own).number
+        (view_at token.own) }
     requires table { (seat_of token.own).table ≡ id_of table.now }
     requires two { places.members (seat_of token.own).place ≡ 2 }
     ensures { seat_of result.0.own ≡ seat_of token.own }
@@ -448,10 +455,16 @@ fn is_received<B: Board>(board: &mut B, from: u32) -> bool
 
 /// Whether the mailbox from one member to another is empty until something is sent, then full, and empty again once it
 /// was read.
-fn holds_one<B: Board>(rt: &HostRuntime, sender: &mut B, receiver: &mut B) -> Result<bool, Fail>
-    requires members { (places.members (B.seat sender.old).place ≡ 3) × (places.members (B.seat receiver.old).place ≡ 3) }
-    requires pair { ((B.seat sender.old).number < 3) × ((B.seat receiver.old).number < 3) × ((B.seat receiver.old).number ≢ (B.seat sender.old).number) }
-    ensures sender { B.seat sender.new ≡ B.seat sender.old }
+fn holds_one<A: Board, B: Board>(
+    rt: &HostRuntime,
+    sender: &mut A,
+    receiver: &mut B,
+) -> Result<bool, Fail>
+    requires members { (places.members (A.seat sender.old).place ≡ 3)
+        × (places.members (B.seat receiver.old).place ≡ 3) }
+    requires pair { ((A.seat sender.old).number < 3) × ((B.seat receiver.old).number < 3)
+        × ((B.seat receiver.old).number ≢ (A.seat sender.old).number) }
+    ensures sender { A.seat sender.new ≡ A.seat sender.old }
     ensures receiver { B.seat receiver.new ≡ B.seat receiver.old }
 {
     let from = sender.member();
@@ -465,10 +478,12 @@ fn holds_one<B: Board>(rt: &HostRuntime, sender: &mut B, receiver: &mut B) -> Re
 }
 
 /// Both mailboxes of two members.
-fn hold_both<B: Board>(rt: &HostRuntime, a: &mut B, b: &mut B) -> Result<bool, Fail>
-    requires members { (places.members (B.seat a.old).place ≡ 3) × (places.members (B.seat b.old).place ≡ 3) }
-    requires pair { ((B.seat a.old).number < 3) × ((B.seat b.old).number < 3) × ((B.seat b.old).number ≢ (B.seat a.old).number) }
-    ensures a { B.seat a.new ≡ B.seat a.old }
+fn hold_both<A: Board, B: Board>(rt: &HostRuntime, a: &mut A, b: &mut B) -> Result<bool, Fail>
+    requires members { (places.members (A.seat a.old).place ≡ 3)
+        × (places.members (B.seat b.old).place ≡ 3) }
+    requires pair { ((A.seat a.old).number < 3) × ((B.seat b.old).number < 3)
+        × ((B.seat b.old).number ≢ (A.seat a.old).number) }
+    ensures a { A.seat a.new ≡ A.seat a.old }
     ensures b { B.seat b.new ≡ B.seat b.old }
 {
     let there = holds_one(rt, a, b)?;
@@ -478,9 +493,16 @@ fn hold_both<B: Board>(rt: &HostRuntime, a: &mut B, b: &mut B) -> Result<bool, F
 
 /// Whether each of the six mailboxes of three members holds one message, while the one from the first to the second is
 /// full.
-fn hold_all<B: Board>(rt: &HostRuntime, a: &mut B, b: &mut B, c: &mut B) -> Result<bool, Fail>
-    requires members { (places.members (B.seat a.old).place ≡ 3) × (places.members (B.seat b.old).place ≡ 3) × (places.members (B.seat c.old).place ≡ 3) }
-    requires numbers { ((B.seat a.old).number ≡ 0) × ((B.seat b.old).number ≡ 1) × ((B.seat c.old).number ≡ 2) }
+fn hold_all<A: Board, B: Board, C: Board>(
+    rt: &HostRuntime,
+    a: &mut A,
+    b: &mut B,
+    c: &mut C,
+) -> Result<bool, Fail>
+    requires members { (places.members (A.seat a.old).place ≡ 3)
+        × (places.members (B.seat b.old).place ≡ 3) × (places.members (C.seat c.old).place ≡ 3) }
+    requires numbers { ((A.seat a.old).number ≡ 0) × ((B.seat b.old).number ≡ 1)
+        × ((C.seat c.old).number ≡ 2) }
 {
     let first = hold_both(rt, a, b)?;
     let refused = is_refused(rt, a, 1)?;

@@ -25,7 +25,7 @@ loop-token-init c = let shared = c.args.shared.now in let left = c.pop.new.self.
     let there = token_there shared.table_id (place_of key) ts left [] last c.requires.tokens all in
     let own = c.apart-own.ensures.own in let spare = c.apart-own.ensures.spare in let told = c.join_one.ensures.spare in
     let has : HasFrom key ts (length left) (joined c.apart-own.result.1.me.0 last.own.seat.me.0) = has_more key ts [] left last c.apart-own.result.1.me.0 all (ap (λ (x : SeatAt). x.number) there)
-        (sym (ap (λ (x : MemberSeat). origin_at x) own) ∙ c.join_one.ensures.origin) (subst (λ l. HasFrom key ts (length l) c.apart-own.result.1.me.0) items (has_none key ts c.apart-own.result.1.me.0 spare.2)) in (
+    (sym (ap (λ (x : MemberSeat). origin_at x) own) ∙ c.join_one.ensures.origin) (subst (λ l. HasFrom key ts (length l) c.apart-own.result.1.me.0) items (has_none key ts c.apart-own.result.1.me.0 spare.2)) in (
       (last ∷ [], items),
       told.0 ∙ (spare.0 ∙ ap (λ (x : SeatAt). x.table) there),
       ap (λ (x : SeatState). x.1) told.1,
