@@ -38,7 +38,7 @@ use Rattle.atomic_board.proofs.RuleKept.{known, own_by, posted_home, doom_keeps}
 use Rattle.atomic_board.proofs.GivingKept.{mark_keeps, fail_keeps, withdraw_can, withdraw_keeps, finish_can, finish_keeps, give_up_can, give_up_keeps, retire_keeps}
 use Rattle.atomic_board.proofs.SlotsReturned.{posted_not_out, done_not_out, failed_not_out}
 use Rattle.atomic_board.proofs.ToldByState.{home_of}
-use Rattle.atomic_board.proofs.OwedLeading.{by_own, moved_base}
+use Rattle.atomic_board.proofs.OwedLeading.{by_own, at_own_origin}
 
 -- what lies in a slot that a leader gave back
 module _ (b : Origin) (s : TableState) (o : ShowsLawful b s) (m : ℕ) (q : Holding) (ds : List Deed) (me : get_elem? s.views (suc m) ≡ some (Own m q b ds)) (near : m < size b) where
@@ -192,7 +192,7 @@ module _ (key : Origin) (k id : ℕ) (me : SeatState) (mine : is_own me.0 ≡ tr
       → MayMark (place_of (origin_in me.0)) (number_in me.0) (view_in me.0) a t y.entry → Allows (ShowsLawful key) k id me i (λ _. x) (λ _. tells_give Mark (step k i x 0 none) me x)
   mark_owes i x a t y c at is out home may = by_own (λ d. (l : List (ℕ × Option Parcel)) → i ≡ pool_word (size (origin_in d)) a t → x ≡ 8 + number_in d → l ≡ (pool_place a t, Some (parcels.Change y)) ∷ c → y.home ≡ Some (number_in d) → MayMark (place_of (origin_in d)) (number_in d) (view_in d) a t y.entry
       → Allows (ShowsLawful key) k id (d, l) i (λ _. x) (λ _. tells_give Mark (step k i x 0 none) (d, l) x))
-      (λ m q b ds l at is out home may. moved_base key b k id m q ds l i (λ _. x) (λ _. tells_give Mark (step k i x 0 none) (Own m q b ds, l) x)
+      (λ m q b ds l at is out home may. at_own_origin key b k id m q ds l i (λ _. x) (λ _. tells_give Mark (step k i x 0 none) (Own m q b ds, l) x)
       (subst (λ z. Allows (ShowsLawful b) k id (Own m q b ds, z) i (λ _. x) (λ _. tells_give Mark (step k i x 0 none) (Own m q b ds, z) x)) (sym out)
       (subst (λ j. Allows (ShowsLawful b) k id (Own m q b ds, (pool_place a t, Some (parcels.Change y)) ∷ c) j (λ _. x) (λ _. tells_give Mark (step k j x 0 none) (Own m q b ds, (pool_place a t, Some (parcels.Change y)) ∷ c) x)) (sym at)
       (subst (λ z. Allows (ShowsLawful b) k id (Own m q b ds, (pool_place a t, Some (parcels.Change y)) ∷ c) (pool_word (size b) a t) (λ _. z) (λ _. tells_give Mark (step k (pool_word (size b) a t) z 0 none) (Own m q b ds, (pool_place a t, Some (parcels.Change y)) ∷ c) z)) (sym is)
@@ -202,27 +202,27 @@ module _ (key : Origin) (k id : ℕ) (me : SeatState) (mine : is_own me.0 ≡ tr
       → MayFail (place_of (origin_in me.0)) (number_in me.0) (view_in me.0) a t y.entry → Allows (ShowsLawful key) k id me i (λ _. 4) (λ _. tells_give Fail (step k i 4 0 none) me 4)
   fail_owes i a t y c at out home may = by_own (λ d. (l : List (ℕ × Option Parcel)) → i ≡ pool_word (size (origin_in d)) a t → l ≡ (pool_place a t, Some (parcels.Change y)) ∷ c → MayFail (place_of (origin_in d)) (number_in d) (view_in d) a t y.entry
       → Allows (ShowsLawful key) k id (d, l) i (λ _. 4) (λ _. tells_give Fail (step k i 4 0 none) (d, l) 4))
-      (λ m q b ds l at out may. moved_base key b k id m q ds l i (λ _. 4) (λ _. tells_give Fail (step k i 4 0 none) (Own m q b ds, l) 4)
+      (λ m q b ds l at out may. at_own_origin key b k id m q ds l i (λ _. 4) (λ _. tells_give Fail (step k i 4 0 none) (Own m q b ds, l) 4)
       (subst (λ z. Allows (ShowsLawful b) k id (Own m q b ds, z) i (λ _. 4) (λ _. tells_give Fail (step k i 4 0 none) (Own m q b ds, z) 4)) (sym out)
       (subst (λ j. Allows (ShowsLawful b) k id (Own m q b ds, (pool_place a t, Some (parcels.Change y)) ∷ c) j (λ _. 4) (λ _. tells_give Fail (step k j 4 0 none) (Own m q b ds, (pool_place a t, Some (parcels.Change y)) ∷ c) 4)) (sym at)
       (fail_allowed b k id m q ds c a t y home may)))) me.0 mine me.1 at out may
 
   pub withdraw_owes : (i t : ℕ) → i ≡ pool_word (size (origin_in me.0)) (number_in me.0) t → is_settled me.0 ≡ true → MayWithdraw (place_of (origin_in me.0)) (number_in me.0) (view_in me.0) t → Allows (ShowsLawful key) k id me i (λ _. 0) (λ _. tells_withdraw (step k i 0 0 none) me 0)
   withdraw_owes i t at settled may = by_own (λ d. i ≡ pool_word (size (origin_in d)) (number_in d) t → is_settled d ≡ true → MayWithdraw (place_of (origin_in d)) (number_in d) (view_in d) t → Allows (ShowsLawful key) k id (d, me.1) i (λ _. 0) (λ _. tells_withdraw (step k i 0 0 none) (d, me.1) 0))
-      (λ m q b ds at settled may. moved_base key b k id m q ds me.1 i (λ _. 0) (λ _. tells_withdraw (step k i 0 0 none) (Own m q b ds, me.1) 0)
+      (λ m q b ds at settled may. at_own_origin key b k id m q ds me.1 i (λ _. 0) (λ _. tells_withdraw (step k i 0 0 none) (Own m q b ds, me.1) 0)
       (subst (λ j. Allows (ShowsLawful b) k id (Own m q b ds, me.1) j (λ _. 0) (λ _. tells_withdraw (step k j 0 0 none) (Own m q b ds, me.1) 0)) (sym at) (withdraw_allowed b k id m q ds me.1 t settled may))) me.0 mine at settled may
 
   pub finish_owes : (i t : ℕ) → i ≡ pool_word (size (origin_in me.0)) (number_in me.0) t → is_settled me.0 ≡ true → MayFinish (place_of (origin_in me.0)) (number_in me.0) (view_in me.0) t → Allows (ShowsLawful key) k id me i (λ _. 0) (λ _. tells_finish (step k i 0 0 none) me 0)
   finish_owes i t at settled may = by_own (λ d. i ≡ pool_word (size (origin_in d)) (number_in d) t → is_settled d ≡ true → MayFinish (place_of (origin_in d)) (number_in d) (view_in d) t → Allows (ShowsLawful key) k id (d, me.1) i (λ _. 0) (λ _. tells_finish (step k i 0 0 none) (d, me.1) 0))
-      (λ m q b ds at settled may. moved_base key b k id m q ds me.1 i (λ _. 0) (λ _. tells_finish (step k i 0 0 none) (Own m q b ds, me.1) 0)
+      (λ m q b ds at settled may. at_own_origin key b k id m q ds me.1 i (λ _. 0) (λ _. tells_finish (step k i 0 0 none) (Own m q b ds, me.1) 0)
       (subst (λ j. Allows (ShowsLawful b) k id (Own m q b ds, me.1) j (λ _. 0) (λ _. tells_finish (step k j 0 0 none) (Own m q b ds, me.1) 0)) (sym at) (finish_allowed b k id m q ds me.1 t settled may))) me.0 mine at settled may
 
   pub doom_owes : (i : ℕ) (ns : List EntryName) (g : ℕ → ℕ) → i ≡ own_word (number_in me.0) → MayDoom (place_of (origin_in me.0)) (number_in me.0) (view_in me.0) ns → Allows (ShowsLawful key) k id me i g (tells_doom ns (step k i 1 0 none) me)
   doom_owes i ns g at may = by_own (λ d. i ≡ own_word (number_in d) → MayDoom (place_of (origin_in d)) (number_in d) (view_in d) ns → Allows (ShowsLawful key) k id (d, me.1) i g (tells_doom ns (step k i 1 0 none) (d, me.1)))
-      (λ m q b ds at may. moved_base key b k id m q ds me.1 i g (tells_doom ns (step k i 1 0 none) (Own m q b ds, me.1))
+      (λ m q b ds at may. at_own_origin key b k id m q ds me.1 i g (tells_doom ns (step k i 1 0 none) (Own m q b ds, me.1))
       (subst (λ j. Allows (ShowsLawful b) k id (Own m q b ds, me.1) j g (tells_doom ns (step k j 1 0 none) (Own m q b ds, me.1))) (sym at) (doom_allowed b k id m q ds me.1 ns g may))) me.0 mine at may
 
   pub retire_owes : (i : ℕ) (ns : List EntryName) (g : ℕ → ℕ) → i ≡ own_word (number_in me.0) → MayRetire (place_of (origin_in me.0)) (number_in me.0) (view_in me.0) ns → Allows (ShowsLawful key) k id me i g (tells_retire ns (step k i 1 0 none) me)
   retire_owes i ns g at may = by_own (λ d. i ≡ own_word (number_in d) → MayRetire (place_of (origin_in d)) (number_in d) (view_in d) ns → Allows (ShowsLawful key) k id (d, me.1) i g (tells_retire ns (step k i 1 0 none) (d, me.1)))
-      (λ m q b ds at may. moved_base key b k id m q ds me.1 i g (tells_retire ns (step k i 1 0 none) (Own m q b ds, me.1))
+      (λ m q b ds at may. at_own_origin key b k id m q ds me.1 i g (tells_retire ns (step k i 1 0 none) (Own m q b ds, me.1))
       (subst (λ j. Allows (ShowsLawful b) k id (Own m q b ds, me.1) j g (tells_retire ns (step k j 1 0 none) (Own m q b ds, me.1))) (sym at) (retire_allowed b k id m q ds me.1 ns g may))) me.0 mine at may

@@ -49,7 +49,7 @@ pub same_origin : (j m : ℕ) (q r : Holding) (b c : Origin) (ds es : List Deed)
 unfolding origin_of
 same_origin j m q r b c ds es e = ap (λ d. origin_of d b) e
 
--- a seat's base is its table's
+-- a seat's origin is its table's
 pub based : (b c : Origin) (k id m : ℕ) (q : Holding) (ds : List Deed) (l : List (ℕ × Option Parcel)) (i : ℕ) (f : ℕ → ℕ) (then : ℕ → SeatState → Type 0)
     → (c ≡ b → Allows (ShowsLawful b) k id (Own m q c ds, l) i f then) → Allows (ShowsLawful b) k id (Own m q c ds, l) i f then
 based b c k id m q ds l i f then g s o many me fits64 = g (is id me) s o many me fits64 where
@@ -59,10 +59,10 @@ based b c k id m q ds l i f then g s o many me fits64 = g (is id me) s o many me
       (λ (t : (r : Holding) × (es : List Deed) × (Own m q c ds ≡ Own j r b es)). same_origin m j q t.0 c b ds t.1 t.2)
       (λ (t : Own m q c ds ≡ Spent). absurd (own_spent m q c ds t)) (o.fits.own j (Own m q c ds) e)
 
--- the same at the table's own base
-pub moved_base : (b c : Origin) (k id m : ℕ) (q : Holding) (ds : List Deed) (l : List (ℕ × Option Parcel)) (i : ℕ) (f : ℕ → ℕ) (then : ℕ → SeatState → Type 0)
+-- the same at the table's own origin
+pub at_own_origin : (b c : Origin) (k id m : ℕ) (q : Holding) (ds : List Deed) (l : List (ℕ × Option Parcel)) (i : ℕ) (f : ℕ → ℕ) (then : ℕ → SeatState → Type 0)
     → Allows (ShowsLawful c) k id (Own m q c ds, l) i f then → Allows (ShowsLawful b) k id (Own m q c ds, l) i f then
-moved_base b c k id m q ds l i f then g = based b c k id m q ds l i f then (λ e. subst (λ x. Allows (ShowsLawful x) k id (Own m q c ds, l) i f then) e g)
+at_own_origin b c k id m q ds l i f then g = based b c k id m q ds l i f then (λ e. subst (λ x. Allows (ShowsLawful x) k id (Own m q c ds, l) i f then) e g)
 
 module _ (b : Origin) (k id m : ℕ) (q : Holding) (ds : List Deed) (c : List (ℕ × Option Parcel)) where
   abbrev me : SeatState
@@ -207,32 +207,32 @@ module _ (key : Origin) (k id : ℕ) (me : SeatState) (mine : is_own me.0 ≡ tr
 
   pub commit_owes : (i : ℕ) (g : ℕ → ℕ) → i ≡ own_word (number_in me.0) → MayCommit (place_of (origin_in me.0)) (number_in me.0) (view_in me.0) → Allows (ShowsLawful key) k id me i g (tells_commit (step k i 1 0 none) me)
   commit_owes i g at may = by_own (λ d. i ≡ own_word (number_in d) → MayCommit (place_of (origin_in d)) (number_in d) (view_in d) → Allows (ShowsLawful key) k id (d, me.1) i g (tells_commit (step k i 1 0 none) (d, me.1)))
-      (λ m q b ds at may. moved_base key b k id m q ds me.1 i g (tells_commit (step k i 1 0 none) (Own m q b ds, me.1))
+      (λ m q b ds at may. at_own_origin key b k id m q ds me.1 i g (tells_commit (step k i 1 0 none) (Own m q b ds, me.1))
       (subst (λ j. Allows (ShowsLawful b) k id (Own m q b ds, me.1) j g (tells_commit (step k j 1 0 none) (Own m q b ds, me.1))) (sym at) (commit_allowed b k id m q ds me.1 g may))) me.0 mine at may
 
   pub unlock_owes : MayUnlock (place_of (origin_in me.0)) (number_in me.0) (view_in me.0) → Allows (ShowsLawful key) k id me 0 (λ _. 0) (λ _. tells_unlock (step k 0 0 0 none) me 0)
   unlock_owes may = by_own (λ d. MayUnlock (place_of (origin_in d)) (number_in d) (view_in d) → Allows (ShowsLawful key) k id (d, me.1) 0 (λ _. 0) (λ _. tells_unlock (step k 0 0 0 none) (d, me.1) 0))
-      (λ m q b ds may. moved_base key b k id m q ds me.1 0 (λ _. 0) (λ _. tells_unlock (step k 0 0 0 none) (Own m q b ds, me.1) 0) (unlock_allowed b k id m q ds me.1 may)) me.0 mine may
+      (λ m q b ds may. at_own_origin key b k id m q ds me.1 0 (λ _. 0) (λ _. tells_unlock (step k 0 0 0 none) (Own m q b ds, me.1) 0) (unlock_allowed b k id m q ds me.1 may)) me.0 mine may
 
   pub lock_owes : (new : ℕ) → new ≡ number_in me.0 + 1 → MayLock (place_of (origin_in me.0)) (number_in me.0) (view_in me.0) → Allows (ShowsLawful key) k id me 0 (λ y. either (eqb y 0) new y) (tells_lock (step k 0 0 new none) me)
   lock_owes new at may = by_own (λ d. new ≡ number_in d + 1 → MayLock (place_of (origin_in d)) (number_in d) (view_in d) → Allows (ShowsLawful key) k id (d, me.1) 0 (λ y. either (eqb y 0) new y) (tells_lock (step k 0 0 new none) (d, me.1)))
-      (λ m q b ds at may. moved_base key b k id m q ds me.1 0 (λ y. either (eqb y 0) new y) (tells_lock (step k 0 0 new none) (Own m q b ds, me.1))
+      (λ m q b ds at may. at_own_origin key b k id m q ds me.1 0 (λ y. either (eqb y 0) new y) (tells_lock (step k 0 0 new none) (Own m q b ds, me.1))
       (subst (λ j. Allows (ShowsLawful b) k id (Own m q b ds, me.1) 0 (λ y. either (eqb y 0) j y) (tells_lock (step k 0 0 j none) (Own m q b ds, me.1))) (sym at) (lock_allowed b k id m q ds me.1 may))) me.0 mine at may
 
   pub look_owes : (i a t : ℕ) → i ≡ pool_word (size (origin_in me.0)) a t → MayLook (place_of (origin_in me.0)) (number_in me.0) a t → Allows (ShowsLawful key) k id me i (λ y. y) (tells_look (step k i 0 0 none) me)
   look_owes i a t at may = by_own (λ d. i ≡ pool_word (size (origin_in d)) a t → MayLook (place_of (origin_in d)) (number_in d) a t → Allows (ShowsLawful key) k id (d, me.1) i (λ y. y) (tells_look (step k i 0 0 none) (d, me.1)))
-      (λ m q b ds at may. moved_base key b k id m q ds me.1 i (λ y. y) (tells_look (step k i 0 0 none) (Own m q b ds, me.1))
+      (λ m q b ds at may. at_own_origin key b k id m q ds me.1 i (λ y. y) (tells_look (step k i 0 0 none) (Own m q b ds, me.1))
       (subst (λ j. Allows (ShowsLawful b) k id (Own m q b ds, me.1) j (λ y. y) (tells_look (step k j 0 0 none) (Own m q b ds, me.1))) (sym at) (look_allowed b k id m q ds me.1 a t may))) me.0 mine at may
 
   pub take_owes : (i a t : ℕ) → i ≡ pool_word (size (origin_in me.0)) a t → MayTake (place_of (origin_in me.0)) (number_in me.0) (view_in me.0) a t → Allows (ShowsLawful key) k id me i (λ _. 2) (λ _. tells_take (step k i 2 0 none) me 2)
   take_owes i a t at may = by_own (λ d. i ≡ pool_word (size (origin_in d)) a t → MayTake (place_of (origin_in d)) (number_in d) (view_in d) a t → Allows (ShowsLawful key) k id (d, me.1) i (λ _. 2) (λ _. tells_take (step k i 2 0 none) (d, me.1) 2))
-      (λ m q b ds at may. moved_base key b k id m q ds me.1 i (λ _. 2) (λ _. tells_take (step k i 2 0 none) (Own m q b ds, me.1) 2)
+      (λ m q b ds at may. at_own_origin key b k id m q ds me.1 i (λ _. 2) (λ _. tells_take (step k i 2 0 none) (Own m q b ds, me.1) 2)
       (subst (λ j. Allows (ShowsLawful b) k id (Own m q b ds, me.1) j (λ _. 2) (λ _. tells_take (step k j 2 0 none) (Own m q b ds, me.1) 2)) (sym at) (take_allowed b k id m q ds me.1 a t may))) me.0 mine at may
 
   pub post_owes : (i x t : ℕ) (y : Change) (value : List ℕ) (c : List (ℕ × Option Parcel)) → i ≡ pool_word (size (origin_in me.0)) (number_in me.0) t → x ≡ 16 + length (words_of y.entry) → me.1 ≡ (pool_place (number_in me.0) t, Some (parcels.Change y)) ∷ c
       → MayPost (place_of (origin_in me.0)) (number_in me.0) (view_in me.0) t y value → Allows (ShowsLawful key) k id me i (λ _. x) (λ _. tells_post value (step k i x 0 none) me x)
   post_owes i x t y value c at is out may = by_own (λ d. (l : List (ℕ × Option Parcel)) → i ≡ pool_word (size (origin_in d)) (number_in d) t → l ≡ (pool_place (number_in d) t, Some (parcels.Change y)) ∷ c → MayPost (place_of (origin_in d)) (number_in d) (view_in d) t y value → Allows (ShowsLawful key) k id (d, l) i (λ _. x) (λ _. tells_post value (step k i x 0 none) (d, l) x))
-      (λ m q b ds l at out may. moved_base key b k id m q ds l i (λ _. x) (λ _. tells_post value (step k i x 0 none) (Own m q b ds, l) x)
+      (λ m q b ds l at out may. at_own_origin key b k id m q ds l i (λ _. x) (λ _. tells_post value (step k i x 0 none) (Own m q b ds, l) x)
       (subst (λ z. Allows (ShowsLawful b) k id (Own m q b ds, z) i (λ _. x) (λ _. tells_post value (step k i x 0 none) (Own m q b ds, z) x)) (sym out)
       (subst (λ j. Allows (ShowsLawful b) k id (Own m q b ds, (pool_place m t, Some (parcels.Change y)) ∷ c) j (λ _. x) (λ _. tells_post value (step k j x 0 none) (Own m q b ds, (pool_place m t, Some (parcels.Change y)) ∷ c) x)) (sym at)
       (subst (λ z. Allows (ShowsLawful b) k id (Own m q b ds, (pool_place m t, Some (parcels.Change y)) ∷ c) (pool_word (size b) m t) (λ _. z) (λ _. tells_post value (step k (pool_word (size b) m t) z 0 none) (Own m q b ds, (pool_place m t, Some (parcels.Change y)) ∷ c) z)) (sym is)
@@ -240,7 +240,7 @@ module _ (key : Origin) (k id : ℕ) (me : SeatState) (mine : is_own me.0 ≡ tr
 
   pub settle_owes : (i : ℕ) → is_settled me.0 ≡ false → ((t : ℕ) → t < 8 → IsFree (view_in me.0) t) → Allows (ShowsLawful key) k id me i (λ y. y) (tells_settle (step k i 0 0 none) me)
   settle_owes i fresh free = by_own (λ d. is_settled d ≡ false → ((t : ℕ) → t < 8 → IsFree (view_in d) t) → Allows (ShowsLawful key) k id (d, me.1) i (λ y. y) (tells_settle (step k i 0 0 none) (d, me.1)))
-      (λ m q b ds fresh free. moved_base key b k id m q ds me.1 i (λ y. y) (tells_settle (step k i 0 0 none) (Own m q b ds, me.1)) (settle_allowed b k id m q ds me.1 i fresh free)) me.0 mine fresh free
+      (λ m q b ds fresh free. at_own_origin key b k id m q ds me.1 i (λ y. y) (tells_settle (step k i 0 0 none) (Own m q b ds, me.1)) (settle_allowed b k id m q ds me.1 i fresh free)) me.0 mine fresh free
 
   pub return_owes : (i : ℕ) (ks : List ℕ) → me.1 ≡ empties ks → is_settled me.0 ≡ true → ((a t : ℕ) → a < size (origin_in me.0) → t < 8 → IsNotOut (place_of (origin_in me.0)) (number_in me.0) (view_in me.0) a t → has (pool_place a t) ks ≡ false) → ((j : ℕ) → has j ks ≡ true → j < 8 * size (origin_in me.0))
       → Allows (ShowsLawful key) k id me i (λ y. y) (tells_return key (step k i 0 0 none) me)

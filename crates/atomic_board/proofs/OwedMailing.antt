@@ -31,7 +31,7 @@ use Rattle.group_board.specs.Assurances.{IsHeard}
 use Rattle.atomic_board.proofs.TidyViews.{tidied_view, covers_by}
 use Rattle.atomic_board.proofs.ToldByState.{heard}
 use Rattle.atomic_board.proofs.MailboxKept.{mail_apart2, box_zero, box_one, handed, peek_keeps, grab_keeps, send_keeps, fetch_keeps, receive_keeps}
-use Rattle.atomic_board.proofs.OwedLeading.{by_own, moved_base}
+use Rattle.atomic_board.proofs.OwedLeading.{by_own, at_own_origin}
 
 none_is : {X : Type 0} (o : Option X) → is_none o ≡ true → o ≡ None
 none_is None e = refl
@@ -120,19 +120,19 @@ module _ (b : Origin) (k id m : ℕ) (q : Holding) (ds : List Deed) (c : List (�
 module _ (key : Origin) (k id : ℕ) (me : SeatState) (mine : is_own me.0 ≡ true) where
   pub try_send_owes : (i to : ℕ) → i ≡ mail_word (size (origin_in me.0)) (number_in me.0) to → to < size (origin_in me.0) → to ≢ number_in me.0 → is_handless me.0 ≡ true → Allows (ShowsLawful key) k id me i (λ y. y) (tells_try_send (step k i 0 0 none) me)
   try_send_owes i to at less other empty = by_own (λ d. i ≡ mail_word (size (origin_in d)) (number_in d) to → to < size (origin_in d) → to ≢ number_in d → is_handless d ≡ true → Allows (ShowsLawful key) k id (d, me.1) i (λ y. y) (tells_try_send (step k i 0 0 none) (d, me.1)))
-      (λ m q b ds at less other empty. moved_base key b k id m q ds me.1 i (λ y. y) (tells_try_send (step k i 0 0 none) (Own m q b ds, me.1))
+      (λ m q b ds at less other empty. at_own_origin key b k id m q ds me.1 i (λ y. y) (tells_try_send (step k i 0 0 none) (Own m q b ds, me.1))
       (subst (λ j. Allows (ShowsLawful b) k id (Own m q b ds, me.1) j (λ y. y) (tells_try_send (step k j 0 0 none) (Own m q b ds, me.1))) (sym at) (try_send_allowed b k id m q ds me.1 to less other (none_is q.hand empty)))) me.0 mine at less other empty
 
   pub try_receive_owes : (i from : ℕ) → i ≡ mail_word (size (origin_in me.0)) from (number_in me.0) → from < size (origin_in me.0) → is_handless me.0 ≡ true → Allows (ShowsLawful key) k id me i (λ y. y) (tells_try_receive (step k i 0 0 none) me)
   try_receive_owes i from at low empty = by_own (λ d. i ≡ mail_word (size (origin_in d)) from (number_in d) → from < size (origin_in d) → is_handless d ≡ true → Allows (ShowsLawful key) k id (d, me.1) i (λ y. y) (tells_try_receive (step k i 0 0 none) (d, me.1)))
-      (λ m q b ds at low empty. moved_base key b k id m q ds me.1 i (λ y. y) (tells_try_receive (step k i 0 0 none) (Own m q b ds, me.1))
+      (λ m q b ds at low empty. at_own_origin key b k id m q ds me.1 i (λ y. y) (tells_try_receive (step k i 0 0 none) (Own m q b ds, me.1))
       (subst (λ j. Allows (ShowsLawful b) k id (Own m q b ds, me.1) j (λ y. y) (tells_try_receive (step k j 0 0 none) (Own m q b ds, me.1))) (sym at) (try_receive_allowed b k id m q ds me.1 from low (none_is q.hand empty)))) me.0 mine at low empty
 
   pub send_owes : (i to : ℕ) (n : Notices) (c : List (ℕ × Option Parcel)) → i ≡ mail_word (size (origin_in me.0)) (number_in me.0) to → me.1 ≡ (mail_place (size (origin_in me.0)) (number_in me.0) to, Some (parcels.Notices n)) ∷ c → MaySend (place_of (origin_in me.0)) (number_in me.0) (view_in me.0) to (notices_of n)
       → In (loads.Mail (number_in me.0) to false) (view_in me.0).looked → hand_in me.0 ≡ grip_at (pool_place (number_in me.0) to) [] [] → Allows (ShowsLawful key) k id me i (λ _. 1) (λ _. tells_send (step k i 1 0 none) me 1)
   send_owes i to n c at out may saw hand = by_own (λ d. (l : List (ℕ × Option Parcel)) → i ≡ mail_word (size (origin_in d)) (number_in d) to → l ≡ (mail_place (size (origin_in d)) (number_in d) to, Some (parcels.Notices n)) ∷ c → MaySend (place_of (origin_in d)) (number_in d) (view_in d) to (notices_of n)
       → In (loads.Mail (number_in d) to false) (view_in d).looked → hand_in d ≡ grip_at (pool_place (number_in d) to) [] [] → Allows (ShowsLawful key) k id (d, l) i (λ _. 1) (λ _. tells_send (step k i 1 0 none) (d, l) 1))
-      (λ m q b ds l at out may saw hand. moved_base key b k id m q ds l i (λ _. 1) (λ _. tells_send (step k i 1 0 none) (Own m q b ds, l) 1)
+      (λ m q b ds l at out may saw hand. at_own_origin key b k id m q ds l i (λ _. 1) (λ _. tells_send (step k i 1 0 none) (Own m q b ds, l) 1)
       (subst (λ z. Allows (ShowsLawful b) k id (Own m q b ds, z) i (λ _. 1) (λ _. tells_send (step k i 1 0 none) (Own m q b ds, z) 1)) (sym out)
       (subst (λ j. Allows (ShowsLawful b) k id (Own m q b ds, (mail_place (size b) m to, Some (parcels.Notices n)) ∷ c) j (λ _. 1) (λ _. tells_send (step k j 1 0 none) (Own m q b ds, (mail_place (size b) m to, Some (parcels.Notices n)) ∷ c) 1)) (sym at)
       (send_allowed b k id m q ds c to n may saw hand)))) me.0 mine me.1 at out may saw hand
@@ -141,7 +141,7 @@ module _ (key : Origin) (k id : ℕ) (me : SeatState) (mine : is_own me.0 ≡ tr
       → In (loads.Mail from (number_in me.0) true) (view_in me.0).looked → hand_in me.0 ≡ grip_at (pool_place from (number_in me.0)) (gripped (hand_in me.0)).dead (gripped (hand_in me.0)).gone → Allows (ShowsLawful key) k id me i (λ _. 0) (λ _. tells_receive (step k i 0 0 none) me 0)
   receive_owes i from c at out low saw hand = by_own (λ d. (l : List (ℕ × Option Parcel)) → i ≡ mail_word (size (origin_in d)) from (number_in d) → l ≡ (mail_place (size (origin_in d)) from (number_in d), None) ∷ c → from < size (origin_in d)
       → In (loads.Mail from (number_in d) true) (view_in d).looked → hand_in d ≡ grip_at (pool_place from (number_in d)) (gripped (hand_in d)).dead (gripped (hand_in d)).gone → Allows (ShowsLawful key) k id (d, l) i (λ _. 0) (λ _. tells_receive (step k i 0 0 none) (d, l) 0))
-      (λ m q b ds l at out low saw hand. moved_base key b k id m q ds l i (λ _. 0) (λ _. tells_receive (step k i 0 0 none) (Own m q b ds, l) 0)
+      (λ m q b ds l at out low saw hand. at_own_origin key b k id m q ds l i (λ _. 0) (λ _. tells_receive (step k i 0 0 none) (Own m q b ds, l) 0)
       (subst (λ z. Allows (ShowsLawful b) k id (Own m q b ds, z) i (λ _. 0) (λ _. tells_receive (step k i 0 0 none) (Own m q b ds, z) 0)) (sym out)
       (subst (λ j. Allows (ShowsLawful b) k id (Own m q b ds, (mail_place (size b) from m, None) ∷ c) j (λ _. 0) (λ _. tells_receive (step k j 0 0 none) (Own m q b ds, (mail_place (size b) from m, None) ∷ c) 0)) (sym at)
       (receive_allowed b k id m q ds c from low saw hand)))) me.0 mine me.1 at out low saw hand

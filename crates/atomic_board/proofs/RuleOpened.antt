@@ -197,7 +197,7 @@ pub split_owes : (b : Origin) (id k : ℕ) (back : List (ℕ × List Deed)) → 
 split_owes b zero k back less s o me = split_at k b back s.words s.homes s.views less o me
 split_owes b (suc j) k back less s o me = ⊎_elim (λ (t : (q : Holding) × (ds : List Deed) × (Store k b back ≡ Own j q b ds)). absurd (store_own k b b back j t.0 t.1 t.2)) (λ (t : Store k b back ≡ Spent). absurd (store_spent k b back t)) (o.fits.own j (Store k b back) me)
 
--- A seat's pose turns, with the homes, and each slot is still kept: the state shown is the same.
+-- What a seat holds turns, with the homes, and each slot is still kept: the state shown is the same.
 module _ (b : Origin) (s : TableState) (o : ShowsLawful b s) (m : ℕ) (q r : Holding) (ds : List Deed) (me : get_elem? s.views (suc m) ≡ some (Own m q b ds)) where
   pub pose_keeps : (i : ℕ) (hs : List (maybe.Option (Option Parcel))) → length hs ≡ length s.homes
       → ((a t : ℕ) → a < size b → t < 8 → IsHome (get_elem? hs (pool_place a t)) (put (pose_at s.views) m r a).settled (o.slot a t))

@@ -108,7 +108,7 @@ module _ (ds : List SeatData) (m : ℕ) (q : Holding) (b : Origin) (es : List De
     go (d ∷ l) h = put_at (pose_at (d ∷ l)) m q (λ j y. pose_at (set (d ∷ l) (suc m) (Own m q b es)) j ≡ y)
         (ap pose_or (set_here l m (Own m q b es) (omega arith))) (λ j ne. ap pose_or (set_else l m j (Own m q b es) ne)) k
 
--- once the seat of m has another pose and one more deed
+-- once the seat of m has another holding and one more deed
 module _ (ds : List SeatData) (m : ℕ) (q r : Holding) (b : Origin) (d : Deed) (es : List Deed) (me : get_elem? ds (suc m) ≡ some (Own m q b es)) where
   pub views_moved : (k : ℕ) → views_of b (set ds (suc m) (Own m r b (d ∷ es))) k ≡ change (views_of b ds) m (after_deed (names_by (names_of b) (d ∷ es)) (place_of b) m d) k
   views_moved k = ap (view_by b k) (deeds_set ds m r b (d ∷ es) (at_lt ds (suc m) (Own m q b es) me) k) ∙ at_k where
@@ -124,7 +124,7 @@ module _ (ds : List SeatData) (m : ℕ) (q r : Holding) (b : Origin) (d : Deed) 
   pub pose_moved : (k : ℕ) → pose_at (set ds (suc m) (Own m r b (d ∷ es))) k ≡ put (pose_at ds) m r k
   pose_moved = pose_set ds m r b (d ∷ es) (at_lt ds (suc m) (Own m q b es) me)
 
--- once it has another pose alone
+-- once it has another holding alone
 module _ (ds : List SeatData) (m : ℕ) (q r : Holding) (b : Origin) (es : List Deed) (me : get_elem? ds (suc m) ≡ some (Own m q b es)) where
   pub views_same : (k : ℕ) → views_of b (set ds (suc m) (Own m r b es)) k ≡ views_of b ds k
   views_same k = ap (view_by b k) (deeds_set ds m r b es (at_lt ds (suc m) (Own m q b es) me) k ∙ put_at (deeds_at ds) m es (λ j y. y ≡ deeds_at ds j) (sym (deeds_here ds m q b es me)) (λ j ne. refl) k)

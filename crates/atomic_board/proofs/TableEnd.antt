@@ -26,7 +26,7 @@ use Rattle.atomic_board.proofs.RuleOpened.{same_back}
 use Rattle.atomic_board.proofs.SlotsReturned.{join_owes}
 use Rattle.atomic_board.proofs.OwedLeading.{same_origin}
 
--- a seat's base is its table's
+-- a seat's origin is its table's
 seat_origin : (b c : Origin) (m : ℕ) (q : Holding) (ds : List Deed) (s : TableState) → ShowsLawful b s → (j : ℕ) → get_elem? s.views j ≡ some (Own m q c ds) → c ≡ b
 seat_origin b c m q ds s o zero e = absurd (store_own o.fits.given b c o.fits.back m q ds (some-injective (Store o.fits.given b o.fits.back) (Own m q c ds) (sym o.fits.store ∙ e)))
 seat_origin b c m q ds s o (suc j) e = ⊎_elim
