@@ -16,7 +16,6 @@ use Rattle.group_laws.specs.State.{Group, Notices, shown}
 use Rattle.group_laws.specs.Steps.{CanFinish, CanGiveUp, CanWithdraw, marks, fails, finishes, gives_up, withdraws, retires}
 use Rattle.group_laws.specs.Tidying.{Tidied}
 use Rattle.group_laws.specs.Runs as runs
-use Rattle.group_laws.specs.Invariant.{Lawful}
 use Rattle.atomic_board.proofs.Reaches.{step_reaches}
 use Rattle.group_laws.specs.MemberViews.{View}
 use Rattle.group_board.specs.Views.{after_finish, after_give_up, after_retire}

@@ -10,7 +10,7 @@ use Rattle.group_laws.specs.Updates.{put2, has}
 use Rattle.group_laws.specs.State.{Group, Notices, is_full}
 use Rattle.group_laws.specs.Steps.{finds, sends, receives}
 use Rattle.group_laws.specs.Runs as runs
-use Rattle.group_laws.specs.Invariant.{Lawful, IsDead}
+use Rattle.group_laws.specs.Invariant.{IsDead}
 use Rattle.atomic_board.proofs.Reaches.{step_reaches}
 use Rattle.group_laws.specs.MemberViews.{View}
 use Rattle.group_board.specs.Views.{after_receive, IsDeadIn}

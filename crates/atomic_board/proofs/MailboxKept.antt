@@ -13,7 +13,6 @@ use Rattle.store_image.specs.Facts.{In}
 use Rattle.group_laws.specs.declared.types.Seen.TheVariants as loads
 use Rattle.group_laws.specs.Updates.{put, put2}
 use Rattle.group_laws.specs.State.{Notices, is_full}
-use Rattle.group_laws.specs.Invariant.{Lawful}
 use Rattle.crash_core.specs.declared.names.Notices.{Notices as Parceled}
 use Rattle.crash_core.specs.Shows.{notices_of}
 use Rattle.group_laws.specs.MemberViews.{View}

@@ -12,7 +12,7 @@ use Rattle.group_laws.specs.declared.types.Slot.TheVariants.{Empty, Posted, Take
 use Rattle.group_laws.specs.Places.{owner}
 use Rattle.group_laws.specs.Updates.{put}
 use Rattle.log_entry.specs.declared.entry.Entry.{Entry}
-use Rattle.group_laws.specs.Invariant.{Lawful, PendsAt}
+use Rattle.group_laws.specs.Invariant.{PendsAt}
 use Rattle.group_laws.specs.MemberViews.{View}
 use Rattle.atomic_board.specs.declared.parcel.Parcel.{Parcel}
 use Rattle.atomic_board.specs.declared.seat_data.Origin.{Origin}

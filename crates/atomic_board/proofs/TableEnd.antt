@@ -16,7 +16,7 @@ use Rattle.atomic_board.specs.declared.seat_data.SeatData.{SeatData}
 use Rattle.atomic_board.specs.declared.seat_data.SeatData.TheVariants.{Store, Own, Spent}
 use Rattle.atomic_board.specs.declared.token.SeatToken.{SeatToken}
 use Rattle.atomic_board.specs.Deeds.{place_of, size, view_by}
-use Rattle.atomic_board.specs.ShownState.{TableState, ShowsLawful, views_of, is_back, deeds_in, deeds_at, stored, own_or}
+use Rattle.atomic_board.specs.ShownState.{TableState, ShowsLawful, is_back, deeds_in, deeds_at, stored, own_or}
 use Rattle.atomic_board.specs.StepTells.{is_own, is_store, is_settled, is_handless, number_in, origin_in, view_in, joined}
 use Rattle.atomic_board.specs.declared.member_seat.MemberSeat.{MemberSeat}
 use Rattle.atomic_board.specs.MemberSeats.{origin_at, view_at, seat_of}

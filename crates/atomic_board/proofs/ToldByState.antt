@@ -1,5 +1,5 @@
 -- What the state says of a change that comes back and of notices that are heard, in the words of the member's own view.
-use Rattle.std.proofs.Common.{◌≡◌, ℕ, suc, ◌<◌, true, false, List, Option, Some, None, inl, inr, sym, ap, ◌∙◌, subst}
+use Rattle.std.proofs.Common.{◌≡◌, ℕ, suc, ◌<◌, true, List, Some, inl, inr, sym, ap, ◌∙◌, subst}
 use mathlib.Core.Option.{some}
 use lib.ListN.{get_elem?}
 use Rattle.log_entry.specs.declared.entry.Entry.{Entry}
@@ -7,7 +7,7 @@ use Rattle.store_image.specs.Facts.{In}
 use Rattle.group_laws.specs.declared.types.Slot.TheVariants.{Done}
 use Rattle.group_laws.specs.Places.{owner}
 use Rattle.group_laws.specs.Updates.{has}
-use Rattle.group_laws.specs.State.{Group, Notices}
+use Rattle.group_laws.specs.State.{Notices}
 use Rattle.group_laws.specs.MemberViews.{View}
 use Rattle.group_laws.proofs.Names.{has_In}
 use Rattle.group_board.specs.Assurances.{IsHome, IsHeard, IsOwnEntry}
@@ -15,7 +15,7 @@ use Rattle.atomic_board.specs.declared.seat_data.Origin.{Origin}
 use Rattle.atomic_board.specs.declared.seat_data.Holding.{Holding}
 use Rattle.atomic_board.specs.declared.seat_data.Deed.{Deed}
 use Rattle.atomic_board.specs.declared.seat_data.SeatData.TheVariants.{Own}
-use Rattle.atomic_board.specs.Deeds.{group_of, place_of, size, view_by}
+use Rattle.atomic_board.specs.Deeds.{place_of, size, view_by}
 use Rattle.atomic_board.specs.ShownState.{TableState, views_of, ShowsLawful}
 use Rattle.atomic_board.proofs.RuleKept.{known, own_by}
 

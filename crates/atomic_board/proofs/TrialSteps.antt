@@ -1,5 +1,5 @@
 -- What the tests' helpers need: the way of one change, in the words of its member's view.
-use Rattle.std.proofs.Common.{◌≡◌, ◌≢◌, ℕ, zero, suc, ◌+◌, ◌<◌, ◌≤◌, ◌^◌, Bool, true, false, cond, ◌&&◌, eqb, eq-eqb, ne_eqb, List, [], ◌∷◌, ◌++◌, length, Option, Some, None, MatchOption, IfSome, inl, inr, ⊎_elim, refl, sym, ap, ◌∙◌, subst, arith}
+use Rattle.std.proofs.Common.{◌≡◌, ℕ, zero, suc, ◌+◌, ◌<◌, ◌≤◌, Bool, true, false, cond, ◌&&◌, eqb, eq-eqb, ne_eqb, List, [], ◌∷◌, ◌++◌, Option, Some, None, MatchOption, IfSome, inl, inr, ⊎_elim, refl, sym, ap, ◌∙◌, subst, arith}
 use mathlib.Core.Option.{some, some-injective, some-ne-none}
 use mathlib.Core.Logic.{dite}
 use native.Mathlib.Decide.{ℕ_discrete}
@@ -17,13 +17,13 @@ use Rattle.group_laws.specs.declared.types.Pending.{Pending}
 use Rattle.group_laws.specs.Places.{Place, IsPlace, members, owner}
 use Rattle.group_laws.specs.State.{Group}
 use Rattle.group_laws.specs.OpeningImages.{IsBlank}
-use Rattle.group_laws.specs.Updates.{put, put2}
+use Rattle.group_laws.specs.Updates.{put2}
 use Rattle.group_laws.specs.MemberViews.{View, view_of, of_own}
 use Rattle.group_laws.proofs.Puts.{In-append_right}
 use Rattle.crash_core.proofs.Blank as blank
 use Rattle.group_board.specs.Journals.{image_of, place_in}
 use Rattle.group_board.specs.Views.{after_post, after_lock, after_find, after_take, after_unlock, after_commit, after_mark, after_finish, after_give_up, TidiedIn}
-use Rattle.group_board.specs.Conditions.{MayPost, MayLock, MayTake, MayUnlock, MayCommit, MayMark, MayFinish}
+use Rattle.group_board.specs.Conditions.{MayPost, MayLock, MayTake, MayMark, MayFinish}
 use Rattle.group_board.specs.Seats.{SeatAt}
 use Rattle.group_board.specs.Told.{state_of}
 use Rattle.group_board.specs.Trials.{small_words}

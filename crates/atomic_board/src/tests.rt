@@ -14,8 +14,8 @@ use fs_model::model::Value;
 use group_board::{Board, Change, Names, Notices, Opening, SlotState};
 use log_entry::entry::{Body, Entry};
 use std::test::Fail;
-use std::thread::Threads;
 use std::thread;
+use std::thread::Threads;
 
 /// How many changes each member makes.
 const ROUNDS: u32 = 1000;

@@ -1,4 +1,4 @@
-use Rattle.std.proofs.Common.{◌≡◌, ℕ, ◌+◌, ◌-◌, ◌++◌, length, [], ◌∷◌, sym, ap, ◌∙◌, subst, arith, refl, true, false, Some, None}
+use Rattle.std.proofs.Common.{◌≡◌, ◌-◌, length, [], ◌∷◌, sym, ap, ◌∙◌, subst, arith, refl}
 use lib.ListN.{get_elem?}
 use Rattle.atomic_table.proofs.Lists.{at_longer, at_last}
 use Rattle.group_laws.specs.MemberViews.{view_of}

@@ -1,4 +1,4 @@
-use Rattle.std.proofs.Common.{ap, ◌∙◌, false, refl}
+use Rattle.std.proofs.Common.{ap, ◌∙◌, false}
 use Rattle.group_laws.specs.declared.types.Seen.TheVariants as loads
 use Rattle.group_board.specs.Views.{after_find}
 use Rattle.atomic_board.proofs.TrialSteps.{may_finish, finds, takes_back}
