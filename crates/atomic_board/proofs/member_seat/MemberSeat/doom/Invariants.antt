@@ -1,0 +1,4 @@
+use Rattle.atomic_board.proofs.member_seat.MemberSeat.doom.Given as goal
+
+abbrev pub ghosts-dooms : goal.ghosts-dooms
+ghosts-dooms a = record { names = a._names.now }

@@ -1,0 +1,4 @@
+use Rattle.atomic_board.proofs.member_seat.MemberSeat.retire.Given as goal
+
+abbrev pub ghosts-retires : goal.ghosts-retires
+ghosts-retires a = record { names = a._names.now }

@@ -1,0 +1,10 @@
+pub mod TableWords
+pub mod Deeds
+pub mod ShownState
+pub mod SlotsOut
+pub mod StepTells
+pub mod Identities
+pub mod MemberSeats
+pub mod Tokens
+pub mod GroupTables
+pub mod ThreadTrials

@@ -1,0 +1,35 @@
+// What a group opens on, which no code holds.
+ghost use Rattle.std.specs.Prelude.{◌≡◌, IfOk, []};
+
+use crate::rule::OriginSeat;
+use crate::seat_data::Origin;
+use atomic_table::{Play, Table, TableRule};
+use fs_errors::Memory;
+use group_board::Opening;
+use std::alloc::Global;
+use std::marker::PhantomData;
+
+/// The rule of a table that asks nothing.
+pub struct Asks;
+
+impl TableRule<u8, Origin, ()> for Asks {
+    ghost holds = { λ _ _. Unit {0} };
+
+    ghost first = { λ _. record { group = 0; words = [] } };
+}
+
+pub struct Opens<O> {
+    marker: PhantomData<O>,
+}
+
+impl<O: Opening> Play<u8, Origin> for Opens<O> {
+    ghost then = { λ st m r n. n ≡ (record { group = O.group; words = O.words }, m.1) };
+}
+
+pub fn origin_seat<O: Opening>(alloc: Global) -> Result<OriginSeat, Memory>
+    ensures { IfOk result (λ p. p.me.0 ≡ record { group = O.group; words = O.words }) }
+{
+    let (free, mut plan) = Table::<u8, Origin, (), Asks, Global>::of_words(alloc, &[0], &())?;
+    free.shared.load::<Opens<O>>(&mut plan, 0);
+    Ok(plan)
+}

@@ -1,0 +1,170 @@
+// The rule of the table, and what its steps tell.
+ghost use Rattle.std.specs.Prelude.{ℕ, List, []};
+ghost use Rattle.log_entry.specs.declared.entry.EntryName.{EntryName};
+ghost use Rattle.atomic_board.specs.declared.seat_data.Deed.TheVariants.{Mark, Fail};
+ghost use Rattle.atomic_board.specs.declared.seat_data.Origin.{Origin as OriginData};
+ghost use Rattle.atomic_board.specs.ShownState.{ShowsLawful};
+ghost use Rattle.atomic_board.specs.declared.seat_data.SeatData.TheVariants.{Store};
+ghost use Rattle.atomic_board.specs.StepTells.{no_origin, tells_commit, tells_unlock, tells_lock, tells_look, tells_settle, tells_return, tells_take, tells_post, tells_give, tells_finish, tells_withdraw, tells_doom, tells_retire, tells_try_send, tells_send, tells_try_receive, tells_receive};
+
+use crate::parcel::Parcel;
+use crate::seat_data::{Origin, SeatData};
+use atomic_table::{Play, Seat, TableRule};
+use std::marker::{Brand, PhantomData};
+
+pub type CoreView = Seat<Option<Parcel>, SeatData>;
+
+/// The seat of a table that asks nothing. Its view is what the group opens on, and it is the key of the group's table.
+pub type OriginSeat = Seat<u8, Origin>;
+
+pub struct Ruled;
+
+impl TableRule<Option<Parcel>, SeatData, OriginSeat> for Ruled {
+    ghost holds = { λ plan. ShowsLawful plan.me.0 };
+
+    ghost first = { λ plan. Store 0 plan.me.0 [] };
+}
+
+pub struct Commits;
+
+impl Play<Option<Parcel>, SeatData> for Commits {
+    ghost then = { tells_commit };
+}
+
+pub struct Unlocks;
+
+impl Play<Option<Parcel>, SeatData> for Unlocks {
+    ghost then = { tells_unlock };
+}
+
+pub struct Locks;
+
+impl Play<Option<Parcel>, SeatData> for Locks {
+    ghost then = { tells_lock };
+}
+
+pub struct Looks;
+
+impl Play<Option<Parcel>, SeatData> for Looks {
+    ghost then = { tells_look };
+}
+
+pub struct Settles;
+
+impl Play<Option<Parcel>, SeatData> for Settles {
+    ghost then = { tells_settle };
+}
+
+/// What a group opened on. The proof of the call picks it.
+pub trait OpenedOn {
+    ghost origin: { OriginData };
+}
+
+impl OpenedOn for Brand {
+    ghost origin = { no_origin };
+}
+
+/// A load by which a seat gives all its slots back. It tells what the table's group opened on.
+pub struct Returns<W> {
+    marker: PhantomData<W>,
+}
+
+impl<W: OpenedOn> Play<Option<Parcel>, SeatData> for Returns<W> {
+    ghost then = { tells_return W.origin };
+}
+
+pub struct Takes;
+
+impl Play<Option<Parcel>, SeatData> for Takes {
+    ghost then = { tells_take };
+}
+
+/// The bytes behind a posted entry's pointer. The proof of the call picks them.
+pub trait Value {
+    ghost value: { List ℕ };
+}
+
+impl Value for Brand {
+    ghost value = { [] };
+}
+
+pub struct Posts<W> {
+    marker: PhantomData<W>,
+}
+
+impl<W: Value> Play<Option<Parcel>, SeatData> for Posts<W> {
+    ghost then = { tells_post W.value };
+}
+
+pub struct Marks;
+
+impl Play<Option<Parcel>, SeatData> for Marks {
+    ghost then = { tells_give Mark };
+}
+
+pub struct Fails;
+
+impl Play<Option<Parcel>, SeatData> for Fails {
+    ghost then = { tells_give Fail };
+}
+
+pub struct Finishes;
+
+impl Play<Option<Parcel>, SeatData> for Finishes {
+    ghost then = { tells_finish };
+}
+
+pub struct Withdraws;
+
+impl Play<Option<Parcel>, SeatData> for Withdraws {
+    ghost then = { tells_withdraw };
+}
+
+/// The names of a step of cleaning. The proof of the call picks them.
+pub trait Named {
+    ghost names: { List EntryName };
+}
+
+impl Named for Brand {
+    ghost names = { [] };
+}
+
+pub struct Dooms<W> {
+    marker: PhantomData<W>,
+}
+
+impl<W: Named> Play<Option<Parcel>, SeatData> for Dooms<W> {
+    ghost then = { tells_doom W.names };
+}
+
+pub struct Retires<W> {
+    marker: PhantomData<W>,
+}
+
+impl<W: Named> Play<Option<Parcel>, SeatData> for Retires<W> {
+    ghost then = { tells_retire W.names };
+}
+
+pub struct TrySends;
+
+impl Play<Option<Parcel>, SeatData> for TrySends {
+    ghost then = { tells_try_send };
+}
+
+pub struct Sends;
+
+impl Play<Option<Parcel>, SeatData> for Sends {
+    ghost then = { tells_send };
+}
+
+pub struct TryReceives;
+
+impl Play<Option<Parcel>, SeatData> for TryReceives {
+    ghost then = { tells_try_receive };
+}
+
+pub struct Receives;
+
+impl Play<Option<Parcel>, SeatData> for Receives {
+    ghost then = { tells_receive };
+}
