@@ -4,6 +4,7 @@ use Rattle.std.proofs.lemmas.Bool.{cases_lt}
 use Rattle.log_entry.specs.Spelling.{words_of}
 use Rattle.core_log.specs.declared.types.Room.{Room}
 use Rattle.group_laws.specs.declared.types.Slot.{Slot}
+use Rattle.group_laws.specs.Places.{Place}
 use Rattle.group_laws.specs.State.{Group, shown}
 use Rattle.group_laws.specs.Runs.{Kind, Runs, IsStep}
 use Rattle.group_laws.specs.Runs.Kind.{Look, Take}
@@ -11,7 +12,10 @@ use Rattle.group_laws.specs.MemberViews.{View, view_of}
 use Rattle.group_board.specs.Views.{after_take}
 use Rattle.std.specs.Prelude.{IfSome}
 use Rattle.group_board.specs.Told.{Makes, state_of}
+use Rattle.group_laws.specs.declared.types.SlotWord.{SlotWord}
+use Rattle.group_laws.specs.declared.types.SlotWord.TheVariants as words
 use Rattle.group_board.specs.declared.board.SlotState.{SlotState}
+use Rattle.group_board.specs.declared.board.SlotState.TheVariants.{Posted}
 use Rattle.batch_leader.specs.declared.taken.Taken.{Taken}
 use Rattle.batch_leader.specs.declared.changes.Changes.{Changes}
 use Rattle.batch_leader.specs.declared.states.Collecting.{Collecting}
@@ -59,6 +63,11 @@ found_back None mid m a n i v x made found = tt
 found_back (Some w) None m a n i v x made found = absurd made
 found_back (Some w) (Some u) m a n i v x made found = ap (λ (f : ℕ → ℕ → Slot). state_of (shown (f (member_at m i) (slot_at i)))) (sym (looks_same w u m a n made.0)) ∙ found
 
+-- no step was made, where the view agrees with the state
+pub no_steps : (before : Option Group) (m : ℕ) (p : Place) (v : View) → IfSome before (λ u. (p ≡ u.place) × (v ≡ view_of u m)) → MakesAll before [] before m v
+no_steps None m p v is = tt
+no_steps (Some u) m p v is = (refl, is.1)
+
 -- one step is a list of steps
 pub one_step : (before after : Option Group) (m : ℕ) (kind : Kind) (v : View) → Makes before m kind after v → MakesAll before ((m, kind) ∷ []) after m v
 one_step None after m kind v made = tt
@@ -68,6 +77,14 @@ one_step (Some w) (Some u) m kind v made = ((u, made.0, refl), made.1)
 -- what a look found stands at its position
 pub found_at : (before : Option Group) (a s m i : ℕ) (x : SlotState) → a ≡ member_at m i → s ≡ slot_at i → IfSome before (λ w. state_of (shown (w.slot a s)) ≡ x) → Found before m i x
 found_at before a s m i x who which stood = subst (λ (n : ℕ). IfSome before (λ w. state_of (shown (w.slot (member_at m i) n)) ≡ x)) which (subst (λ (n : ℕ). IfSome before (λ w. state_of (shown (w.slot n s)) ≡ x)) who stood)
+
+-- a word that shows a posted entry
+pub posted_word : (w : SlotWord) (n : ℕ) → state_of w ≡ Posted n → w ≡ words.Posted n
+posted_word words.Empty n e = absurd (cc e)
+posted_word (words.Posted k) n e = (let same : k ≡ n = cc e in ap words.Posted same)
+posted_word words.Taken n e = absurd (cc e)
+posted_word (words.Done h) n e = absurd (cc e)
+posted_word words.Failed n e = absurd (cc e)
 
 -- A round that goes on: what was passed before, and what is done now.
 module _ (room : Room) (m : ℕ) (first now new : Collecting) (v0 v1 v2 : View) (w0 w1 w2 : Option Group) (low : first.at ≤ now.at) (changes : now.changes ≡ first.changes) (fresh : now.fresh ≡ first.fresh) (own : now.own_lines ≡ first.own_lines)

@@ -5,7 +5,7 @@ use Rattle.group_laws.specs.Places.{Place}
 use Rattle.group_laws.specs.MemberViews.{View, view_of}
 use Rattle.group_board.specs.Seats.{SeatAt}
 use Rattle.batch_leader.specs.Leading.{Collects, MakesAll, looks_upto, Went, steps_of, Passed}
-use Rattle.batch_leader.proofs.Steps.{went_true, went_false, made_true, made_false}
+use Rattle.batch_leader.proofs.Steps.{no_steps, went_true, went_false, made_true, made_false}
 use Rattle.batch_leader.proofs.states.Collecting.collect.Goals as goal
 
 number_of : {a b : SeatAt} → a ≡ b → a.number ≡ b.number
@@ -71,9 +71,5 @@ round-init g c =
       own = refl;
       looked = ((v c.args.board.now).looked, refl);
       passed = λ i ge lt. absurd (omega (arith, ge, lt));
-      made = subst (λ (n : ℕ). MakesAll (w c.args.board.now) (looks_upto m c.args.self.now.at n) (w c.args.board.now) m (v c.args.board.now)) (sym none) (nothing (w c.args.board.now) m (g.B.Board.seat c.args.board.now).place (v c.args.board.now) (g.met.B.Board.agrees c.args.board.now));
+      made = subst (λ (n : ℕ). MakesAll (w c.args.board.now) (looks_upto m c.args.self.now.at n) (w c.args.board.now) m (v c.args.board.now)) (sym none) (no_steps (w c.args.board.now) m (g.B.Board.seat c.args.board.now).place (v c.args.board.now) (g.met.B.Board.agrees c.args.board.now));
     }
-  where
-    nothing : (before : Option Group) (m : ℕ) (p : Place) (x : View) → IfSome before (λ u. (p ≡ u.place) × (x ≡ view_of u m)) → MakesAll before [] before m x
-    nothing None m p x is = tt
-    nothing (Some u) m p x is = (refl, is.1)

@@ -16,15 +16,8 @@ use Rattle.group_board.specs.declared.board.SlotState.TheVariants.{Empty, Posted
 use Rattle.batch_leader.specs.Rounds.{member_at, slot_at, own_lines, fits, Passes, shown_at}
 use Rattle.batch_leader.specs.Leading.{Collects, Found}
 use Rattle.batch_leader.proofs.CollectLaws.{collects_past, member_low}
-use Rattle.batch_leader.proofs.Steps.{found_at}
+use Rattle.batch_leader.proofs.Steps.{found_at, posted_word}
 use Rattle.batch_leader.proofs.states.Collecting.visit.Goals as goal
-
-posted_word : (w : SlotWord) (n : ℕ) → state_of w ≡ Posted n → w ≡ words.Posted n
-posted_word words.Empty n e = absurd (cc e)
-posted_word (words.Posted k) n e = (let same : k ≡ n = cc e in ap words.Posted same)
-posted_word words.Taken n e = absurd (cc e)
-posted_word (words.Done h) n e = absurd (cc e)
-posted_word words.Failed n e = absurd (cc e)
 
 pub look-found-requires : goal.look-found-requires
 look-found-requires g c =
