@@ -104,7 +104,7 @@ module _ (room : Room) (m : ℕ) (first now new : Collecting) (v0 v1 v2 : View) 
   takes_on t = record {
     change = t.change;
     taken = t.taken ∙ ap (λ (ts : List Taken). ts ++ t.change ∷ []) items;
-    some = t.some;
+    on = (let more = t.on in omega (arith, low, more));
     member = t.member;
     slot = t.slot;
     fits = (λ i. fits room (own_lines m (sym items i)) (sym items i) (sym fresh i) (t.change.member == m) (length (words_of t.change.change.entry))) ∙ t.fits;
@@ -119,6 +119,7 @@ module _ (room : Room) (m : ℕ) (first now new : Collecting) (v0 v1 v2 : View) 
     changes = k.changes ∙ changes;
     fresh = k.fresh ∙ fresh;
     own = k.own ∙ own;
+    on = (let more = k.on in omega (arith, low, more));
     view = (k.view.0, k.view.1 ∙ ap (λ (v : View). record v { looked = k.view.0 }) looked.1);
   }
 

@@ -1,4 +1,4 @@
--- The states of a leader, and what the view of its member has in each. `seat` is where the member sits.
+-- The states of a leader, and what the view has in each of the member m that leads, in a group at the place p. A seat says both; another seat of the same member will do as well.
 use Rattle.std.specs.Prelude.{◌≡◌, ◌≢◌, ◌⊎◌, ℕ, zero, suc, ◌+◌, ◌-◌, ◌*◌, ◌<◌, ◌≤◌, ◌==◌, Bool, true, false, List, [], ◌∷◌, ◌++◌, length, Option, Some, None, IfSome, IsSomeAnd}
 use Rattle.std.specs.List.{AllByRecursion}
 use Rattle.log_entry.specs.declared.entry.Entry.{Entry}
@@ -7,7 +7,7 @@ use Rattle.store_image.specs.Facts.{In}
 use Rattle.core_log.specs.declared.types.Room.{Room}
 use Rattle.core_log.specs.Chunk.{lines_for}
 use Rattle.group_laws.specs.declared.types.Seen.{Seen}
-use Rattle.group_laws.specs.Places.{members}
+use Rattle.group_laws.specs.Places.{Place, members}
 use Rattle.group_laws.specs.State.{Group}
 use Rattle.group_laws.specs.MemberViews.{View, view_of}
 use Rattle.group_laws.specs.Runs.{Kind, Runs}
@@ -36,16 +36,19 @@ abbrev pub IsFrom : ℕ → ℕ → Taken → Type 0
 IsFrom m at t = (i : ℕ) × (i < at) × (t.member ≡ member_at m i) × (t.slot ≡ slot_at i)
 
 -- The leader has the lock, and all that it took since is in its hands and in flight. Who is broken takes nothing.
-pub record Collects (seat : SeatAt) (v : View) (c : Collecting) : Type 0 where
-  pub member : seat.number < members seat.place
+pub record CollectsAt (p : Place) (m : ℕ) (v : View) (c : Collecting) : Type 0 where
+  pub member : m < members p
   pub holds : v.holds ≡ true
-  pub out : HasOut seat.place v (taken_by c)
+  pub out : HasOut p v (taken_by c)
   pub flying : v.broken ≡ false → v.flying ≡ entries_in (taken_by c)
   pub broken : v.broken ≡ true → taken_by c ≡ []
-  pub passed : AllByRecursion (IsFrom seat.number c.at) (taken_by c)
-  pub within : c.at ≤ round_end seat.place
-  pub own : c.own_lines ≡ own_lines seat.number (taken_by c)
+  pub passed : AllByRecursion (IsFrom m c.at) (taken_by c)
+  pub within : c.at ≤ round_end p
+  pub own : c.own_lines ≡ own_lines m (taken_by c)
   pub own_few : c.own_lines ≤ 5 * length (taken_by c)
+
+abbrev pub Collects : SeatAt → View → Collecting → Type 0
+Collects seat v c = CollectsAt seat.place seat.number v c
 
 -- There is a chunk with room for so many words.
 abbrev pub HasSpace : Room → Bool → ℕ → Type 0
@@ -82,7 +85,7 @@ pub record Fits (room : Room) (lines : ℕ) (ts : List Taken) (fresh mine : Bool
 pub record Takes (room : Room) (m : ℕ) (v v' : View) (old new : Collecting) : Type 0 where
   pub change : Taken
   pub taken : taken_by new ≡ taken_by old ++ change ∷ []
-  pub some : 0 < new.at
+  pub on : old.at < new.at
   pub member : change.member ≡ member_at m (new.at - 1)
   pub slot : change.slot ≡ slot_at (new.at - 1)
   pub home : change.change.home ≡ None
@@ -96,6 +99,7 @@ pub record Keeps (v v' : View) (old new : Collecting) : Type 0 where
   pub changes : new.changes ≡ old.changes
   pub fresh : new.fresh ≡ old.fresh
   pub own : new.own_lines ≡ old.own_lines
+  pub on : old.at ≤ new.at
   pub view : HasLooked v v'
 
 -- Each slot that it passed it found not Posted, or with an entry that doesn't fit.
@@ -145,22 +149,31 @@ pub record FindsNone (before after : Option Group) (m : ℕ) (v v' : View) : Typ
   pub made : MakesAll before (looks_upto m 0 8) after m v'
 
 -- A batch that is to be written: its entries are in flight, in this order, and the lock is given back.
-pub record IsBatchOf (seat : SeatAt) (v : View) (b : Batch) : Type 0 where
-  pub member : seat.number < members seat.place
-  pub out : HasOut seat.place v b.changes.taken.items
+pub record IsBatchAt (p : Place) (m : ℕ) (v : View) (b : Batch) : Type 0 where
+  pub member : m < members p
+  pub out : HasOut p v b.changes.taken.items
   pub flying : v.flying ≡ entries_in b.changes.taken.items
   pub whole : v.broken ≡ false
 
+abbrev pub IsBatchOf : SeatAt → View → Batch → Type 0
+IsBatchOf seat v b = IsBatchAt seat.place seat.number v b
+
 -- Changes to be given back as certain, and as failed.
-pub record IsCertain (seat : SeatAt) (v : View) (ts : List Taken) : Type 0 where
-  pub member : seat.number < members seat.place
-  pub out : HasOut seat.place v ts
+pub record IsCertainAt (p : Place) (m : ℕ) (v : View) (ts : List Taken) : Type 0 where
+  pub member : m < members p
+  pub out : HasOut p v ts
   pub kept : AllByRecursion (λ t. In t.change.entry v.kept) ts
 
-pub record IsLost (seat : SeatAt) (v : View) (ts : List Taken) : Type 0 where
-  pub member : seat.number < members seat.place
-  pub out : HasOut seat.place v ts
+abbrev pub IsCertain : SeatAt → View → List Taken → Type 0
+IsCertain seat v ts = IsCertainAt seat.place seat.number v ts
+
+pub record IsLostAt (p : Place) (m : ℕ) (v : View) (ts : List Taken) : Type 0 where
+  pub member : m < members p
+  pub out : HasOut p v ts
   pub flying : AllByRecursion (λ t. In t.change.entry v.flying) ts
+
+abbrev pub IsLost : SeatAt → View → List Taken → Type 0
+IsLost seat v ts = IsLostAt seat.place seat.number v ts
 
 -- What is left of a leader that gave the lock back: a batch of all that it took, or its room where it took nothing.
 abbrev pub IsReleased : SeatAt → View → Collecting → Released → Type 0

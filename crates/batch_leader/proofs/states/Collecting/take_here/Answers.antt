@@ -35,7 +35,7 @@ returns-clause-takes g c =
     record {
       change = record { member = c.args.member; slot = c.args.slot; change = c.take-change.result };
       taken = c.add.ensures;
-      some = omega arith;
+      on = omega arith;
       member = c.requires.member ∙ ap (member_at (g.B.Board.seat c.args.board.now).number) (sym back);
       slot = c.requires.slot ∙ ap slot_at (sym back);
       fits = (λ i. fits c.args.room.now (sym c.requires.collects.own i) c.args.self.now.changes.taken.items c.args.self.now.fresh (c.args.member == sym c.requires.own i) (long i)) ∙ c.requires.fits;

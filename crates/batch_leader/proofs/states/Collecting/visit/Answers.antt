@@ -50,7 +50,7 @@ returns-in-None-clause-went g c =
     let own = c.member-own.ensures in
     let m = (g.B.Board.seat c.args.board.now).number in
     let old = c.args.self.now in
-    (record { changes = refl; fresh = refl; own = refl; view = (_, seen.2) },
+    (record { changes = refl; fresh = refl; own = refl; on = omega arith; view = (_, seen.2) },
      λ i low high.
       let here : i ≡ old.at = omega (arith, low, high) in
       let who : c.member_at-member.result ≡ member_at m i = c.member_at-member.ensures ∙ (λ t. member_at (own t) (sym here t)) in
