@@ -2,3 +2,4 @@ pub mod TakenLaws
 pub mod CollectLaws
 pub mod Steps
 pub mod WithdrawLaws
+pub mod Trials

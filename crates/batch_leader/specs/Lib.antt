@@ -3,3 +3,4 @@ pub mod Rounds
 pub mod Leading
 pub mod GivingBack
 pub mod Persisting
+pub mod LeadTrials

@@ -14,6 +14,8 @@ mod round;
 mod starting;
 mod states;
 mod taken;
+#[cfg(test)]
+mod tests;
 mod withdrawing;
 
 pub use buffer::BatchBuffer;
