@@ -1,16 +1,12 @@
 -- What a leader has after one step more of its round.
-use Rattle.std.proofs.Common.{◌≡◌, ◌≢◌, ◌⊎◌, inl, inr, ⊎_elim, ℕ, zero, suc, ◌+◌, ◌-◌, ◌*◌, ◌/◌, ◌%◌, ◌≤◌, ◌<◌, ◌==◌, ◌&&◌, nat_le, nat_lt, Bool, true, false, cond, if◌then◌else◌, List, [], ◌∷◌, ◌++◌, length, map, Option, Some, None, refl, sym, ◌∙◌, ap, subst, arith, eqb, append-nil, append_assoc, length-append}
+use Rattle.std.proofs.Common.{◌≡◌, ℕ, ◌+◌, ◌*◌, ◌≤◌, ◌<◌, ◌==◌, ◌&&◌, nat_le, nat_lt, Bool, true, false, cond, if◌then◌else◌, List, [], ◌∷◌, ◌++◌, length, Option, Some, None, refl, sym, ◌∙◌, ap, subst, arith, eqb, append-nil, append_assoc, length-append}
 use Rattle.std.specs.List.{flat_map, AllByRecursion}
-use Rattle.std.proofs.lemmas.Bool.{eqb-true, eqb-false, eq-eqb, and_parts, and_from, cases_eq, leb-true}
+use Rattle.std.proofs.lemmas.Bool.{eqb-true, eq-eqb, and_parts, and_from, leb-true}
 use Rattle.std.proofs.lemmas.Bool.Decides.{nat_tests}
-use Rattle.std.proofs.lemmas.List.{map-append}
 use Rattle.log_entry.specs.declared.entry.Entry.{Entry}
 use Rattle.log_entry.specs.Spelling.{words_of, HasSpelling}
-use Rattle.store_image.specs.Facts.{In}
 use Rattle.core_log.specs.Chunk.{lines_for}
-use Rattle.group_laws.specs.Places.{Place, members}
-use Rattle.group_laws.specs.Updates.{put2}
-use Rattle.group_laws.proofs.Puts.{if2_into}
+use Rattle.group_laws.specs.Places.{members}
 use Rattle.group_laws.specs.MemberViews.{View}
 use Rattle.group_board.specs.Views.{after_lock, after_take}
 use Rattle.group_board.specs.Conditions.{MayLock}
@@ -18,7 +14,7 @@ use Rattle.group_board.specs.Seats.{SeatAt}
 use Rattle.batch_leader.specs.declared.taken.Taken.{Taken}
 use Rattle.batch_leader.specs.declared.changes.Changes.{Changes}
 use Rattle.batch_leader.specs.declared.states.Collecting.{Collecting}
-use Rattle.batch_leader.specs.TakenChanges.{spelled, entry_in, entries_in, taken_in, AreApart, IsTaken, HasOut}
+use Rattle.batch_leader.specs.TakenChanges.{spelled, entries_in, taken_in, AreApart, IsTaken, HasOut}
 use Rattle.core_log.specs.declared.types.Room.{Room}
 use Rattle.batch_leader.specs.Rounds.{member_at, slot_at, round_end, own_lines, fits, stays_in, goes_fresh, words_in, space, has_chunk}
 use Rattle.batch_leader.specs.Leading.{IsFrom, Collects, HasSpace}

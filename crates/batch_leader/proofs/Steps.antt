@@ -1,12 +1,12 @@
 -- Lists of steps, one after the other.
-use Rattle.std.proofs.Common.{◌≡◌, ⊎_elim, ℕ, zero, suc, ◌+◌, ◌-◌, ◌≤◌, ◌<◌, ◌==◌, Bool, true, false, List, [], ◌∷◌, ◌++◌, length, Option, Some, None, refl, sym, ◌∙◌, ap, subst, arith, append_assoc}
+use Rattle.std.proofs.Common.{◌≡◌, ⊎_elim, ℕ, zero, suc, ◌+◌, ◌-◌, ◌≤◌, ◌==◌, Bool, true, false, List, [], ◌∷◌, ◌++◌, length, Option, Some, None, refl, sym, ◌∙◌, ap, subst, arith, append_assoc}
 use Rattle.std.proofs.lemmas.Bool.{cases_lt}
 use Rattle.log_entry.specs.Spelling.{words_of}
 use Rattle.core_log.specs.declared.types.Room.{Room}
 use Rattle.group_laws.specs.declared.types.Slot.{Slot}
 use Rattle.group_laws.specs.Places.{Place}
 use Rattle.group_laws.specs.State.{Group, shown}
-use Rattle.group_laws.specs.Runs.{Kind, Runs, IsStep}
+use Rattle.group_laws.specs.Runs.{Kind, Runs}
 use Rattle.group_laws.specs.Runs.Kind.{Look, Take}
 use Rattle.group_laws.specs.MemberViews.{View, view_of}
 use Rattle.group_board.specs.Views.{after_take}
@@ -95,9 +95,11 @@ module _ (room : Room) (m : ℕ) (first now new : Collecting) (v0 v1 v2 : View) 
   passed_on : (end : ℕ) → Passed w1 room m now end → Passed w0 room m first end
   passed_on end more i ge lt = ⊎_elim (λ before. passed i ge before)
       (λ after.
-        let x = more i after lt in
-        (x.0, (subst (λ (b : Bool). Passes room (own_lines m first.changes.taken.items) first.changes.taken.items b (member_at m i == m) x.0) fresh (subst (λ (ts : List Taken). Passes room (own_lines m ts) ts now.fresh (member_at m i == m) x.0) items x.1)),
-          found_back w0 w1 m first.at (now.at - first.at) i v1 x.0 made x.2))
+      let x = more i after lt in (
+        x.0,
+        (subst (λ (b : Bool). Passes room (own_lines m first.changes.taken.items) first.changes.taken.items b (member_at m i == m) x.0) fresh (subst (λ (ts : List Taken). Passes room (own_lines m ts) ts now.fresh (member_at m i == m) x.0) items x.1)),
+        found_back w0 w1 m first.at (now.at - first.at) i v1 x.0 made x.2,
+      ))
       (cases_lt i now.at)
 
   takes_on : Takes room m v1 v2 now new → Takes room m v0 v2 first new
@@ -132,7 +134,7 @@ module _ (room : Room) (m : ℕ) (first now new : Collecting) (v0 v1 v2 : View) 
   pub made_true : MakesAll w1 (steps_of true m now new) w2 m v2 → MakesAll w0 (steps_of true m first new) w2 m v2
   made_true more = subst (λ xs. MakesAll w0 xs w2 m v2)
       (sym (append_assoc (looks_upto m first.at (now.at - first.at)) (looks_upto m now.at (new.at - now.at)) ((m, Take (member_at m (new.at - 1)) (slot_at (new.at - 1))) ∷ []))
-        ∙ ap (λ xs. xs ++ (m, Take (member_at m (new.at - 1)) (slot_at (new.at - 1))) ∷ []) (looks_on m first.at now.at new.at low next))
+      ∙ ap (λ xs. xs ++ (m, Take (member_at m (new.at - 1)) (slot_at (new.at - 1))) ∷ []) (looks_on m first.at now.at new.at low next))
       (makes_then w0 w1 w2 (looks_upto m first.at (now.at - first.at)) (steps_of true m now new) m v1 v2 made more)
 
   pub made_false : MakesAll w1 (steps_of false m now new) w2 m v2 → MakesAll w0 (steps_of false m first new) w2 m v2

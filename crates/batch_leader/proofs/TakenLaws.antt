@@ -1,19 +1,18 @@
 -- Lists of what was taken.
-use Rattle.std.proofs.Common.{◌≡◌, ◌≢◌, ◌⊎◌, inl, inr, ⊎_elim, ℕ, ◌+◌, ◌*◌, ◌≤◌, ◌<◌, ◌==◌, ◌&&◌, Bool, true, false, cond, List, [], ◌∷◌, ◌++◌, length, map, Option, Some, None, refl, sym, ◌∙◌, ap, subst, arith, eqb}
-use Rattle.std.specs.List.{flat_map, AllByRecursion}
-use Rattle.std.proofs.lemmas.Bool.{eqb-true, eqb-false, eq-eqb, and_parts, and_from}
-use Rattle.std.proofs.lemmas.List.{map-append}
+use Rattle.std.proofs.Common.{◌≡◌, ◌≢◌, inl, inr, ℕ, ◌<◌, ◌==◌, ◌&&◌, Bool, true, false, cond, List, [], ◌∷◌, ◌++◌, length, Some, None, refl, sym, ◌∙◌, subst, arith}
+use Rattle.std.specs.List.{AllByRecursion}
+use Rattle.std.proofs.lemmas.Bool.{eqb-true, and_parts}
 use Rattle.log_entry.specs.declared.entry.Entry.{Entry}
-use Rattle.log_entry.specs.Spelling.{words_of, HasSpelling}
+use Rattle.log_entry.specs.Spelling.{HasSpelling}
 use Rattle.log_entry.specs.Batches.{IsBatch}
 use Rattle.store_image.specs.Facts.{In}
-use Rattle.group_laws.specs.Places.{Place, members}
+use Rattle.group_laws.specs.Places.{Place}
 use Rattle.group_laws.specs.Updates.{put2}
 use Rattle.group_laws.proofs.Puts.{if2_into, In-append_right}
 use Rattle.group_laws.specs.MemberViews.{View}
 use Rattle.group_board.specs.Views.{after_commit}
 use Rattle.batch_leader.specs.declared.taken.Taken.{Taken}
-use Rattle.batch_leader.specs.TakenChanges.{entry_in, entries_in, taken_in, AreApart, IsTaken, HasOut}
+use Rattle.batch_leader.specs.TakenChanges.{entries_in, taken_in, IsTaken, HasOut}
 
 spelled_all : (p : Place) (ts : List Taken) → AllByRecursion (IsTaken p) ts → AllByRecursion HasSpelling (entries_in ts)
 spelled_all p [] each = tt

@@ -1,39 +1,34 @@
 -- What the tests' helpers need.
-use Rattle.std.proofs.Common.{◌≡◌, ◌≢◌, ◌⊎◌, inl, inr, ⊎_elim, ℕ, ◌+◌, ◌*◌, ◌/◌, ◌%◌, ◌≤◌, ◌<◌, Bool, true, false, cond, eqb, List, [], ◌∷◌, ◌++◌, length, map, Option, Some, None, refl, sym, ◌∙◌, ap, subst, arith}
-use Rattle.std.specs.Prelude.{IfSome, Result, Ok, Err}
+use Rattle.std.proofs.Common.{◌≡◌, inr, ℕ, ◌+◌, ◌≤◌, ◌<◌, Bool, true, false, cond, eqb, List, [], map, Option, Some, None, refl, sym, ◌∙◌, ap, subst, arith}
+use Rattle.std.specs.Prelude.{Result, Ok}
 use Rattle.chunk_map.specs.Checked.{checked_layout}
 use Rattle.chunk_map.specs.declared.layouts.BadLayout.{BadLayout}
 use Rattle.std.proofs.Math.ListN.{get_or-eq_default}
-use Rattle.std.specs.List.{AllByRecursion}
-use Rattle.pm_region.specs.Cell.{Cell, certain, MayBe}
-use Rattle.pm_region.specs.State.{State, IsTelling, cell_now, InRange, During}
-use Rattle.pm_region.specs.Words.{MayLeaveIn}
+use Rattle.pm_region.specs.Cell.{certain}
+use Rattle.pm_region.specs.State.{State, IsTelling, cell_now, InRange}
 use Rattle.pm_region.proofs.Cells.{certain_may_be}
 use Rattle.chunk_map.specs.declared.layouts.Geometry.{Geometry}
 use Rattle.chunk_map.specs.Layouts.{chunk_first, head_by, part_first, chunk_words, payload_lines}
 use Rattle.chunk_map.proofs.LayoutLaws.{chunk_in_part}
 use Rattle.log_entry.specs.declared.entry.Entry.{Entry}
 use Rattle.store_image.specs.declared.types.PlacedEntry.{PlacedEntry}
-use Rattle.store_image.specs.Parts.{chunk_entries}
 use Rattle.store_image.specs.Facts.{In}
 use Rattle.core_log.specs.Chunk.{lines_for}
-use Rattle.core_log.specs.Log.{LogState, IsOwn, StandsIn, tail_of, first_of}
+use Rattle.core_log.specs.Log.{LogState, IsOwn, tail_of, first_of}
 use Rattle.core_log.proofs.ChunkWords.{free_reads_well, free_has_none}
-use Rattle.core_log.proofs.ChunkImages.{InPart, InChunk, part_of, part_reads_by}
-use Rattle.group_laws.specs.Places.{Place, IsPlace, members, owner, core_of}
+use Rattle.core_log.proofs.ChunkImages.{InPart, part_of, part_reads_by}
+use Rattle.group_laws.specs.Places.{Place, IsPlace, owner, core_of}
 use Rattle.group_laws.specs.State.{Group}
 use Rattle.group_laws.specs.MemberViews.{View, view_of, of_own}
 use Rattle.group_laws.specs.Images.{IsLicensedBy}
 use Rattle.group_laws.specs.OpeningImages.{IsBlank}
-use Rattle.group_laws.specs.Runs.{Kind, Runs, IsStep}
 use Rattle.group_laws.specs.declared.types.Pending.{Pending}
-use Rattle.group_laws.proofs.Others.{frame}
 use Rattle.crash_core.specs.declared.kinds.Change.{Change}
 use Rattle.crash_core.proofs.Blank as blank
 use Rattle.group_board.specs.Journals.{image_of, place_in}
-use Rattle.group_board.specs.Conditions.{MayPost, MayLock}
+use Rattle.group_board.specs.Conditions.{MayPost}
 use Rattle.group_board.specs.Trials.{small_words, fresh}
-use Rattle.licence.specs.Licence.{Licensed, part_at, part_end}
+use Rattle.licence.specs.Licence.{part_at, part_end}
 use Rattle.licence.specs.Writes.{Begins}
 use Rattle.batch_leader.specs.Persisting.{HasRoom}
 use Rattle.batch_leader.specs.LeadTrials.{put_of, IsUnwritten}
@@ -69,13 +64,6 @@ fresh_post m k low small_key own = record {
   live = λ t. absurd (cc t);
   block = λ at t. absurd (cc t);
 }
-
-pub fresh_lock : (m : ℕ) → m < 3 → MayLock fresh.place m (view_of fresh m)
-fresh_lock m low = record { member = low; not_held = refl; gave_back = λ a s. refl }
-
-pub key_0 : owner small 0 ≡ 0
-unfolding owner
-key_0 = refl
 
 pub key_1 : owner small 1 ≡ 1
 unfolding owner

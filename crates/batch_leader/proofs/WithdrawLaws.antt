@@ -1,12 +1,12 @@
 -- A leader looks at its own slots, one after another.
-use Rattle.std.proofs.Common.{◌≡◌, ◌≢◌, ⊎_elim, ℕ, zero, suc, ◌+◌, ◌-◌, ◌*◌, ◌/◌, ◌%◌, ◌≤◌, ◌<◌, ◌==◌, Bool, true, false, List, [], ◌∷◌, ◌++◌, Option, Some, None, refl, sym, ◌∙◌, ap, subst, arith}
+use Rattle.std.proofs.Common.{◌≡◌, ⊎_elim, ℕ, suc, ◌+◌, ◌<◌, [], ◌∷◌, ◌++◌, Option, sym, ◌∙◌, ap, subst, arith}
 use Rattle.std.specs.Prelude.{IfSome}
 use Rattle.std.proofs.lemmas.Bool.{cases_lt}
 use Rattle.std.proofs.lemmas.Bool.Decides.{nat_tests}
 use Rattle.group_laws.specs.State.{Group, shown}
 use Rattle.group_laws.specs.MemberViews.{View}
 use Rattle.group_laws.specs.Runs.{Kind}
-use Rattle.group_laws.specs.Runs.Kind.{Look, Withdraw}
+use Rattle.group_laws.specs.Runs.Kind.{Look}
 use Rattle.group_board.specs.Told.{Makes, state_of}
 use Rattle.group_board.specs.declared.board.SlotState.{SlotState}
 use Rattle.batch_leader.specs.Rounds.{member_at, slot_at}
@@ -35,7 +35,10 @@ module _ (before mid after : Option Group) (m i : ℕ) (v u : View) (x : SlotSta
   pub lower_more : NonePosted before m i → IsNotPosted x → IfSome mid (λ w. state_of (shown (w.slot m i)) ≡ x) → NonePosted before m (i + 1)
   lower_more lower not stood k lt = ⊎_elim (λ below. lower k below)
       (λ above.
-      let same : k ≡ i = omega (arith, above, lt) in
-      (x, not, subst (λ (n : ℕ). Found before m n x) (sym same)
-      (found_back before mid m 0 i i v x made (found_at mid m i m i x (sym (own_member m i low)) (sym (own_slot i low)) stood))))
+      let same : k ≡ i = omega (arith, above, lt) in (
+        x,
+        not,
+        subst (λ (n : ℕ). Found before m n x) (sym same)
+            (found_back before mid m 0 i i v x made (found_at mid m i m i x (sym (own_member m i low)) (sym (own_slot i low)) stood)),
+      ))
       (cases_lt k i)

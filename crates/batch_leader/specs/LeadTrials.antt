@@ -1,12 +1,10 @@
 -- What the helpers of the tests ask and leave: two members of a small empty group, each with one change in slot 0.
-use Rattle.std.specs.Prelude.{◌≡◌, ◌≢◌, ℕ, ◌<◌, ◌≤◌, List, [], ◌∷◌, Option, Some, None, IfSome, IsSomeAnd}
-use Rattle.log_entry.specs.declared.entry.Entry.{Entry}
+use Rattle.std.specs.Prelude.{◌≡◌, ℕ, ◌≤◌, [], ◌∷◌, None}
 use Rattle.log_entry.specs.declared.entry.Body.TheVariants.{Embedded}
 use Rattle.core_log.specs.declared.types.Room.{Room}
 use Rattle.core_log.specs.Chunk.{lines_for}
 use Rattle.crash_core.specs.declared.kinds.Change.{Change}
-use Rattle.group_laws.specs.State.{Group}
-use Rattle.group_laws.specs.MemberViews.{View, view_of}
+use Rattle.group_laws.specs.MemberViews.{View}
 use Rattle.batch_leader.specs.declared.states.Batch.{Batch}
 use Rattle.batch_leader.specs.Rounds.{words_in}
 
@@ -22,10 +20,6 @@ empty_room = record { open_lines = 0; free_chunks = 4; pledged_lines = 1; payloa
 pub record IsUnwritten (v : View) : Type 0 where
   pub kept : v.kept ≡ []
   pub blocks : (q : ℕ) → v.blocks q ≡ None
-
--- what the other members have is as before
-abbrev pub LeavesOthers : Option Group → Option Group → ℕ → Type 0
-LeavesOthers before after m = IfSome before (λ w. IsSomeAnd after (λ u. (n : ℕ) → n ≢ m → view_of u n ≡ view_of w n))
 
 -- the batch fits in a fresh chunk
 abbrev pub FitsFresh : Batch → Type 0

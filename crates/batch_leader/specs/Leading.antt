@@ -1,7 +1,6 @@
 -- The states of a leader, and what the view has in each of the member m that leads, in a group at the place p. A seat says both; another seat of the same member will do as well.
 use Rattle.std.specs.Prelude.{◌≡◌, ◌≢◌, ◌⊎◌, ℕ, zero, suc, ◌+◌, ◌-◌, ◌*◌, ◌<◌, ◌≤◌, ◌==◌, Bool, true, false, List, [], ◌∷◌, ◌++◌, length, Option, Some, None, IfSome, IsSomeAnd}
 use Rattle.std.specs.List.{AllByRecursion}
-use Rattle.log_entry.specs.declared.entry.Entry.{Entry}
 use Rattle.log_entry.specs.Spelling.{words_of}
 use Rattle.store_image.specs.Facts.{In}
 use Rattle.core_log.specs.declared.types.Room.{Room}

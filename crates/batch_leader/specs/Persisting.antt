@@ -1,6 +1,5 @@
 -- A batch on its way into the own log.
-use Rattle.std.specs.Prelude.{◌≡◌, ℕ, ◌+◌, ◌<◌, ◌≤◌, List, Option, Some, None}
-use Rattle.pm_region.specs.Cell.{Cell}
+use Rattle.std.specs.Prelude.{ℕ, ◌+◌, ◌<◌, ◌≤◌, Option, Some, None}
 use Rattle.pm_region.specs.State.{State, IsTelling, cell_now, During}
 use Rattle.pm_region.specs.Words.{Surely, KeepsOutside}
 use Rattle.chunk_map.specs.Layouts.{payload_lines, chunk_words}

@@ -1,12 +1,12 @@
-// Two leaders at the board of one thread, each with one change of its own. What is expected is what the calls say of
-// the lock, and what the format says of a batch.
+// One change's way through a leader's hands, at the board of one thread. What is expected is what the format says of a
+// batch.
 ghost use Rattle.std.specs.Prelude.{◌≡◌, ◌≢◌, ◌<◌, ◌≤◌, ℕ, false, [], IfOk, IfSome};
 ghost use Rattle.group_laws.specs.Places.{members};
 ghost use Rattle.group_board.specs.Journals.{state};
 ghost use Rattle.group_board.specs.Conditions.{MayPost, MayLock};
 ghost use Rattle.group_board.specs.Trials.{small_words, fresh};
 ghost use Rattle.batch_leader.specs.Leading.{IsBatchOf};
-ghost use Rattle.batch_leader.specs.LeadTrials.{put_of, empty_room, IsUnwritten, LeavesOthers, FitsFresh};
+ghost use Rattle.batch_leader.specs.LeadTrials.{put_of, empty_room, IsUnwritten, FitsFresh};
 
 use crate::{Batch, BatchBuffer, Collected, Released, lead};
 use chunk_map::Layout;
@@ -134,6 +134,8 @@ fn a_batch_of_one_change(rt: HostRuntime) -> Result<(), Fail> {
         assert!(rt; false);
         return Ok(());
     };
+    assert!(rt; done.mark_one(&mut seat));
+    assert!(rt; !done.mark_one(&mut seat));
     done.mark_all(&mut seat);
     assert!(rt; done.is_done());
     let _buffer = done.done();

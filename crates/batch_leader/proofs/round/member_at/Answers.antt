@@ -1,4 +1,4 @@
-use Rattle.std.proofs.Common.{rules, arith}
+use Rattle.std.proofs.Common.{arith}
 use Rattle.std.proofs.lemmas.Bool.Decides.{nat_tests}
 use Rattle.batch_leader.specs.Rounds.{member_at}
 use Rattle.batch_leader.proofs.round.member_at.Goals as goal

@@ -1,9 +1,8 @@
-use Rattle.std.proofs.Common.{◌≡◌, ℕ, List, refl, sym, ◌∙◌, ap}
+use Rattle.std.proofs.Common.{◌≡◌, List, ◌∙◌, ap}
 use Rattle.pm_region.specs.Steady.{steady_state}
 use Rattle.core_log.specs.declared.types.LogChunk.{LogChunk}
 use Rattle.core_log.specs.Log.{tail_of}
 use Rattle.group_laws.specs.State.{Group}
-use Rattle.group_laws.specs.Places.{Place}
 use Rattle.group_board.specs.Journals.{state}
 use Rattle.group_board.specs.Seats.{SeatAt}
 use Rattle.batch_leader.specs.Rounds.{words_in}

@@ -1,8 +1,7 @@
-use Rattle.std.proofs.Common.{◌≡◌, ◌≢◌, ◌<◌, ◌≤◌, ℕ, List, [], length, refl, sym, ◌∙◌, ap, subst}
+use Rattle.std.proofs.Common.{◌≡◌, ◌≤◌, ℕ, List, length, refl, sym, ◌∙◌, ap, subst}
 use Rattle.std.specs.List.{flat_map}
 use Rattle.log_entry.specs.Spelling.{words_of}
 use Rattle.core_log.specs.Log.{HoldsEntries}
-use Rattle.pm_region.specs.State.{State, IsTelling, cell_now, During}
 use Rattle.pm_region.proofs.Moments.{at_exit}
 use Rattle.log_entry.specs.Batches.{IsBatch}
 use Rattle.core_log.specs.Chunk.{lines_for, padded}
@@ -14,11 +13,11 @@ use Rattle.group_board.specs.Seats.{SeatAt}
 use Rattle.group_board.specs.Views.{after_commit}
 use Rattle.licence.specs.Licence.{Licensed}
 use Rattle.licence.specs.ViewChanges.{Commits}
-use Rattle.licence.specs.Writes.{Begins, IsSpelled, Appends}
+use Rattle.licence.specs.Writes.{IsSpelled}
 use Rattle.licence.proofs.LogEvents.{batch_licensed, batch_committed, append_outside}
 use Rattle.batch_leader.specs.declared.states.Batch.{Batch}
 use Rattle.batch_leader.specs.declared.taken.Taken.{Taken}
-use Rattle.batch_leader.specs.TakenChanges.{spelled, entries_in}
+use Rattle.batch_leader.specs.TakenChanges.{entries_in}
 use Rattle.batch_leader.specs.Rounds.{words_in}
 use Rattle.batch_leader.specs.Leading.{IsBatchOf, IsCertain, IsLost}
 use Rattle.batch_leader.proofs.TakenLaws.{batch_of, all_flying, all_committed}
@@ -108,10 +107,12 @@ pub returns-in-Ok-clause-gives : goal.returns-in-Ok-clause-gives
 returns-in-Ok-clause-gives g c =
     let b = c.requires.batch in
     let seat = g.B.Board.seat c.args.board.now in
-    let ts = c.args.self.changes.taken.items in
-    (c.certain.ensures, certain_as seat (g.B.Board.view c.commit.new.self) ts c.certain.result.left.taken.items c.certain.ensures
-    (subst (λ (u : View). IsCertain seat u ts) (sym c.commit.ensures.view)
-    (record { member = b.member; out = record { each = b.out.each; taken = b.out.taken; apart = b.out.apart }; kept = all_committed ts (g.B.Board.view c.args.board.now) b.flying })))
+    let ts = c.args.self.changes.taken.items in (
+      c.certain.ensures,
+      certain_as seat (g.B.Board.view c.commit.new.self) ts c.certain.result.left.taken.items c.certain.ensures
+          (subst (λ (u : View). IsCertain seat u ts) (sym c.commit.ensures.view)
+          (record { member = b.member; out = record { each = b.out.each; taken = b.out.taken; apart = b.out.apart }; kept = all_committed ts (g.B.Board.view c.args.board.now) b.flying })),
+    )
 
 pub returns-in-Err-clause-gives : goal.returns-in-Err-clause-gives
 returns-in-Err-clause-gives g c =

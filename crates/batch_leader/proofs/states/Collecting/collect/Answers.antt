@@ -1,10 +1,7 @@
-use Rattle.std.proofs.Common.{◌≡◌, ℕ, zero, ◌+◌, ◌-◌, ◌<◌, true, false, Bool, Option, Some, None, refl, sym, ◌∙◌, ap, subst, arith}
-use Rattle.std.specs.Prelude.{IfSome, [], List}
-use Rattle.group_laws.specs.State.{Group}
-use Rattle.group_laws.specs.Places.{Place}
-use Rattle.group_laws.specs.MemberViews.{View, view_of}
+use Rattle.std.proofs.Common.{◌≡◌, ℕ, zero, ◌-◌, true, false, refl, sym, ◌∙◌, ap, subst, arith}
+use Rattle.group_laws.specs.MemberViews.{View}
 use Rattle.group_board.specs.Seats.{SeatAt}
-use Rattle.batch_leader.specs.Leading.{Collects, MakesAll, looks_upto, Went, steps_of, Passed}
+use Rattle.batch_leader.specs.Leading.{Collects, MakesAll, looks_upto, Went, steps_of}
 use Rattle.batch_leader.proofs.Steps.{no_steps, went_true, went_false, made_true, made_false}
 use Rattle.batch_leader.proofs.states.Collecting.collect.Goals as goal
 
@@ -18,7 +15,7 @@ returns-then-visit-clause-went g c =
     let v = g.B.Board.view in
     let m = (g.B.Board.seat c.args.board.now).number in
     went_true c.args.room.now m c.args.self.now c.round.self c.visit.new.self (v c.args.board.now) (v c.round.board) (v c.visit.new.board) (w c.args.board.now) (w c.round.board) (w c.visit.new.board)
-      i.low i.changes i.fresh i.own i.looked i.passed i.made c.visit.ensures.at (subst (λ (n : ℕ). Went true (w c.round.board) c.args.room.now n (v c.round.board) (v c.visit.new.board) c.round.self c.visit.new.self) (number_of i.sits) c.if-visit.ensures.went)
+    i.low i.changes i.fresh i.own i.looked i.passed i.made c.visit.ensures.at (subst (λ (n : ℕ). Went true (w c.round.board) c.args.room.now n (v c.round.board) (v c.visit.new.board) c.round.self c.visit.new.self) (number_of i.sits) c.if-visit.ensures.went)
 
 pub returns-then-visit-clause-made : goal.returns-then-visit-clause-made
 returns-then-visit-clause-made g c =
@@ -27,7 +24,7 @@ returns-then-visit-clause-made g c =
     let v = g.B.Board.view in
     let m = (g.B.Board.seat c.args.board.now).number in
     made_true c.args.room.now m c.args.self.now c.round.self c.visit.new.self (v c.args.board.now) (v c.round.board) (v c.visit.new.board) (w c.args.board.now) (w c.round.board) (w c.visit.new.board)
-      i.low i.changes i.fresh i.own i.looked i.passed i.made c.visit.ensures.at (subst (λ (n : ℕ). MakesAll (w c.round.board) (steps_of true n c.round.self c.visit.new.self) (w c.visit.new.board) n (v c.visit.new.board)) (number_of i.sits) c.if-visit.ensures.made)
+    i.low i.changes i.fresh i.own i.looked i.passed i.made c.visit.ensures.at (subst (λ (n : ℕ). MakesAll (w c.round.board) (steps_of true n c.round.self c.visit.new.self) (w c.visit.new.board) n (v c.visit.new.board)) (number_of i.sits) c.if-visit.ensures.made)
 
 pub round-preserved : goal.round-preserved
 round-preserved g c =
@@ -37,9 +34,9 @@ round-preserved g c =
     let m = (g.B.Board.seat c.args.board.now).number in
     let seat = c.visit.ensures.seat in
     let went = went_false c.args.room.now m c.args.self.now c.round.self c.visit.new.self (v c.args.board.now) (v c.round.board) (v c.visit.new.board) (w c.args.board.now) (w c.round.board) (w c.visit.new.board)
-      i.low i.changes i.fresh i.own i.looked i.passed i.made c.visit.ensures.at (subst (λ (n : ℕ). Went false (w c.round.board) c.args.room.now n (v c.round.board) (v c.visit.new.board) c.round.self c.visit.new.self) (number_of i.sits) c.if-visit.ensures.went) in
+    i.low i.changes i.fresh i.own i.looked i.passed i.made c.visit.ensures.at (subst (λ (n : ℕ). Went false (w c.round.board) c.args.room.now n (v c.round.board) (v c.visit.new.board) c.round.self c.visit.new.self) (number_of i.sits) c.if-visit.ensures.went) in
     let made = made_false c.args.room.now m c.args.self.now c.round.self c.visit.new.self (v c.args.board.now) (v c.round.board) (v c.visit.new.board) (w c.args.board.now) (w c.round.board) (w c.visit.new.board)
-      i.low i.changes i.fresh i.own i.looked i.passed i.made c.visit.ensures.at (subst (λ (n : ℕ). MakesAll (w c.round.board) (steps_of false n c.round.self c.visit.new.self) (w c.visit.new.board) n (v c.visit.new.board)) (number_of i.sits) c.if-visit.ensures.made) in
+    i.low i.changes i.fresh i.own i.looked i.passed i.made c.visit.ensures.at (subst (λ (n : ℕ). MakesAll (w c.round.board) (steps_of false n c.round.self c.visit.new.self) (w c.visit.new.board) n (v c.visit.new.board)) (number_of i.sits) c.if-visit.ensures.made) in
     record {
       sits = seat ∙ i.sits;
       collects = subst (λ (x : SeatAt). Collects x (v c.visit.new.board) c.visit.new.self) i.sits c.visit.ensures.collects;

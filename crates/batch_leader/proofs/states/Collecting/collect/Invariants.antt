@@ -1,4 +1,4 @@
-use Rattle.std.proofs.Common.{◌≡◌, ℕ, ◌+◌, ◌-◌, ◌≤◌, ◌<◌, false}
+use Rattle.std.proofs.Common.{◌≡◌, ◌-◌, ◌≤◌, false}
 use Rattle.batch_leader.specs.Leading.{Collects, Suits, HasLooked, Passed, MakesAll, looks_upto}
 use Rattle.batch_leader.proofs.states.Collecting.collect.Given as goal
 

@@ -1,4 +1,4 @@
-use Rattle.std.proofs.Common.{◌≡◌, ◌≢◌, ℕ, ◌+◌, ◌<◌, ◌≤◌, true, false, List, [], ◌∷◌, ◌++◌, Option, Some, None, inl, refl, sym, ◌∙◌, ap, subst, arith}
+use Rattle.std.proofs.Common.{◌≡◌, ℕ, ◌+◌, ◌<◌, [], ◌∷◌, ◌++◌, Option, inl, refl, sym, ◌∙◌, ap, subst, arith}
 use Rattle.store_image.specs.Facts.{In}
 use Rattle.std.specs.Prelude.{IfSome}
 use Rattle.group_laws.specs.State.{Group, shown}
@@ -10,12 +10,11 @@ use Rattle.group_laws.specs.declared.types.Seen.{Seen}
 use Rattle.group_laws.specs.declared.types.Seen.TheVariants as loads
 use Rattle.group_laws.specs.declared.types.SlotWord.{SlotWord}
 use Rattle.group_laws.specs.declared.types.SlotWord.TheVariants as words
-use Rattle.group_laws.specs.declared.types.Pending.{Pending}
 use Rattle.group_laws.proofs.Puts.{In-append_right}
 use Rattle.group_board.specs.Seats.{SeatAt}
 use Rattle.group_board.specs.Views.{after_find, after_withdraw}
 use Rattle.group_board.specs.Told.{Makes, state_of}
-use Rattle.batch_leader.specs.Leading.{Collects, MakesAll, looks_upto, HasLooked, NonePosted}
+use Rattle.batch_leader.specs.Leading.{looks_upto, HasLooked}
 use Rattle.batch_leader.proofs.CollectLaws.{collects_still}
 use Rattle.batch_leader.proofs.Steps.{no_steps, one_step, makes_then, posted_word}
 use Rattle.batch_leader.proofs.WithdrawLaws.{looks_more, lower_more}
@@ -64,8 +63,11 @@ withdraw-requires g c =
       member = subst (λ (x : SeatAt). x.number < members x.place) (sym sits) i.collects.member;
       slot = c.slots-test.true;
       holds = ap (λ (u : View). u.holds) seen.2 ∙ i.collects.holds;
-      seen = (posted.0, seen_in (g.B.Board.view c.slots.board) (g.B.Board.view c.look-found.new.self) c.member-own.result (g.B.Board.seat c.look-found.new.self).number c.slots.slot posted.0 seen.0
-          (c.member-own.ensures ∙ sym (number_of sits)) (posted_word seen.0 posted.0 (seen.1 ∙ posted.1)) seen.2);
+      seen = (
+        posted.0,
+        seen_in (g.B.Board.view c.slots.board) (g.B.Board.view c.look-found.new.self) c.member-own.result (g.B.Board.seat c.look-found.new.self).number c.slots.slot posted.0 seen.0
+            (c.member-own.ensures ∙ sym (number_of sits)) (posted_word seen.0 posted.0 (seen.1 ∙ posted.1)) seen.2,
+      );
     }
 
 pub returns-then-is_posted-clause-found : goal.returns-then-is_posted-clause-found

@@ -1,4 +1,4 @@
-use Rattle.std.proofs.Common.{◌≡◌, ℕ, ◌+◌}
+use Rattle.std.proofs.Common.{◌≡◌}
 use Rattle.batch_leader.specs.Leading.{Collects, HasLooked, NonePosted, MakesAll, looks_upto}
 use Rattle.batch_leader.proofs.states.Collecting.withdraw_own.Given as goal
 

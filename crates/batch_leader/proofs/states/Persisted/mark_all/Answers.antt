@@ -1,12 +1,11 @@
-use Rattle.std.proofs.Common.{◌≡◌, ℕ, List, [], ◌∷◌, ◌++◌, refl, sym, ◌∙◌, ap, subst, append_assoc}
-use Rattle.group_laws.specs.MemberViews.{View}
+use Rattle.std.proofs.Common.{◌≡◌, ℕ, List, [], ◌∷◌, ◌++◌, sym, ◌∙◌, ap, subst, append_assoc}
 use Rattle.group_laws.specs.Runs.{Kind}
 use Rattle.group_laws.specs.Runs.Kind.{Mark}
 use Rattle.group_board.specs.Seats.{SeatAt}
 use Rattle.group_board.specs.Told.{Makes}
 use Rattle.batch_leader.specs.declared.taken.Taken.{Taken}
-use Rattle.batch_leader.specs.Leading.{IsCertain, MakesAll}
-use Rattle.batch_leader.specs.GivingBack.{marked, marked_all, marks_of}
+use Rattle.batch_leader.specs.Leading.{IsCertain}
+use Rattle.batch_leader.specs.GivingBack.{marked_all, marks_of}
 use Rattle.batch_leader.proofs.Steps.{makes_then, one_step}
 use Rattle.batch_leader.proofs.states.Persisted.mark_all.Goals as goal
 
@@ -29,6 +28,6 @@ marks-preserved g c =
         i.made.0 ++ (m, kind) ∷ [],
         i.made.1 ∙ ap (λ (ts : List Taken). i.made.0 ++ marks_of m ts) gave.rest ∙ sym (append_assoc i.made.0 ((m, kind) ∷ []) (marks_of m left)),
         makes_then (w c.args.board.now) (w c.marks.board) (w c.mark_one.new.board) i.made.0 ((m, kind) ∷ []) m (v c.marks.board) (v c.mark_one.new.board) i.made.2
-        (one_step (w c.marks.board) (w c.mark_one.new.board) m kind (v c.mark_one.new.board) (subst (λ (n : ℕ). Makes (w c.marks.board) n kind (w c.mark_one.new.board) (v c.mark_one.new.board)) number gave.whole)),
+            (one_step (w c.marks.board) (w c.mark_one.new.board) m kind (v c.mark_one.new.board) (subst (λ (n : ℕ). Makes (w c.marks.board) n kind (w c.mark_one.new.board) (v c.mark_one.new.board)) number gave.whole)),
       );
     }
