@@ -1,0 +1,5 @@
+pub mod TakenLaws
+pub mod CollectLaws
+pub mod Steps
+pub mod WithdrawLaws
+pub mod Trials
