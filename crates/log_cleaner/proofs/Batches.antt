@@ -1,8 +1,7 @@
 -- A batch of copies, collected entry by entry.
-use Rattle.std.proofs.Common.{◌≡◌, ◌≢◌, ◌⊎◌, inl, inr, ⊎_elim, ℕ, zero, suc, ◌+◌, ◌-◌, ◌*◌, ◌≤◌, ◌<◌, ◌==◌, ◌&&◌, ◌||◌, not, Bool, true, false, cond, List, [], ◌∷◌, ◌++◌, length, map, take, Option, Some, None, refl, sym, ◌∙◌, ap, subst, arith, append_assoc, append-nil, length-append}
+use Rattle.std.proofs.Common.{◌≡◌, ◌⊎◌, inl, inr, ⊎_elim, ℕ, zero, suc, ◌+◌, ◌-◌, ◌<◌, ◌==◌, ◌&&◌, ◌||◌, not, Bool, true, false, cond, List, [], ◌∷◌, ◌++◌, length, take, Option, Some, None, refl, sym, ◌∙◌, ap, subst, arith, append_assoc, append-nil, length-append}
 use Rattle.std.specs.List.{filter, flat_map, AllByRecursion}
 use Rattle.std.proofs.lemmas.Bool.{cond-true, cond-false, eqb-true, and_parts}
-use Rattle.std.proofs.lemmas.List.{map-append}
 use Rattle.pm_region.specs.State.{State}
 use Rattle.pm_region.specs.Words.{lasts}
 use Rattle.log_entry.specs.declared.entry.Entry.{Entry}
@@ -10,15 +9,14 @@ use Rattle.log_entry.specs.Spelling.{words_of, HasSpelling}
 use Rattle.log_entry.specs.Words.{words_from}
 use Rattle.log_entry.specs.Buffer.{Buffer}
 use Rattle.core_log.specs.declared.types.Peek.{Peek}
-use Rattle.core_log.specs.Log.{LogState, Spelled, HoldsEntries}
-use Rattle.core_log.specs.Walking.{entries_in, words_in, behind, IsFound}
+use Rattle.core_log.specs.Log.{LogState, HoldsEntries}
+use Rattle.core_log.specs.Walking.{entries_in, behind, IsFound}
 use Rattle.log_standing.specs.declared.types.Copies.{Copies}
 use Rattle.log_standing.specs.NameCounts.{StandingState, name_eq, copies_at, count_in, told_in, count_of, one_more, Changes, SameCopies, wants}
 use Rattle.log_standing.specs.ChunkCounts.{is_named, has_name}
 use Rattle.log_cleaner.specs.Copying.{awaits, left_to_copy}
 use Rattle.log_cleaner.specs.CopyBatch.{firsts, next_batch, entries_of, Adds, Collected}
 use Rattle.log_standing.proofs.StandingLaws.{same_name, name_same}
-use Rattle.core_log.proofs.Steps.{ordered, all_behind}
 use Rattle.log_standing.proofs.Filled.{has_push}
 
 -- names are equal either way

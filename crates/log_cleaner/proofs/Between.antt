@@ -1,7 +1,7 @@
 -- A name is told dead between two turns of a cleaning.
-use Rattle.std.proofs.Common.{◌≡◌, ◌⊎◌, inl, inr, ⊎_elim, ℕ, ◌+◌, ◌≤◌, ◌<◌, ◌==◌, ◌&&◌, not, Bool, true, false, cond, List, [], ◌∷◌, length, Option, Some, None, refl, sym, ◌∙◌, ap, subst, arith}
+use Rattle.std.proofs.Common.{◌≡◌, ℕ, ◌≤◌, ◌==◌, ◌&&◌, not, Bool, true, false, List, [], length, Option, Some, None, refl, sym, ◌∙◌, ap, arith}
 use Rattle.std.specs.Prelude.{option_map}
-use Rattle.std.specs.List.{filter, sum_by}
+use Rattle.std.specs.List.{filter}
 use Rattle.std.proofs.lemmas.Bool.{cond-true, cond-false, eqb-true, eq-eqb}
 use Rattle.pm_region.specs.State.{State}
 use Rattle.log_entry.specs.declared.entry.Entry.{Entry}
@@ -9,14 +9,14 @@ use Rattle.log_entry.specs.Spelling.{words_of}
 use Rattle.core_log.specs.Log.{LogState}
 use Rattle.log_standing.specs.declared.types.Copies.{Copies}
 use Rattle.log_standing.specs.NameCounts.{StandingState, name_eq, copies_at, count_in, told_in, count_of, is_told, killed, Changes, bit}
-use Rattle.log_standing.specs.ChunkCounts.{is_named, has_name, chunks_with, IsStandingOf}
+use Rattle.log_standing.specs.ChunkCounts.{is_named, has_name, IsStandingOf}
 use Rattle.core_log.specs.Walking.{entries_in, behind}
 use Rattle.log_cleaner.specs.Copying.{awaits, left_to_copy, words_sum, IsSettledIn, IsUpToDate}
 use Rattle.log_cleaner.specs.Clearing.{ClearingState, is_doomed, IsGathered}
-use Rattle.log_standing.proofs.StandingLaws.{same_name, name_same}
+use Rattle.log_standing.proofs.StandingLaws.{same_name}
 use Rattle.log_cleaner.proofs.Batches.{name_sym, differs, filter_same, filter_both, and_false, and_true}
 use Rattle.log_cleaner.proofs.LessLaws.{sum_filter, sum_ones}
-use Rattle.log_cleaner.proofs.Parts.{Named, name_in}
+use Rattle.log_cleaner.proofs.Parts.{name_in}
 use Rattle.log_cleaner.proofs.ClearLaws.{filter_has}
 
 same_count : (o : Option Copies) → count_in (option_map killed o) ≡ count_in o

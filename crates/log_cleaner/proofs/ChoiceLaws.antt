@@ -1,5 +1,5 @@
 -- The first eligible chunk in cyclic order.
-use Rattle.std.proofs.Common.{◌≡◌, ◌⊎◌, inl, inr, ⊎_elim, ℕ, ◌+◌, ◌-◌, ◌≤◌, ◌<◌, true, Option, Some, None, is_some, refl, sym, ap, arith}
+use Rattle.std.proofs.Common.{◌≡◌, inl, inr, ⊎_elim, ℕ, ◌+◌, ◌≤◌, ◌<◌, true, Option, Some, None, is_some, refl, arith}
 use Rattle.std.proofs.lemmas.Bool.{cases_lt}
 use Rattle.pm_region.specs.State.{State}
 use Rattle.chunk_map.proofs.LayoutLaws.{numbers_of, chunk_words_whole, payload_of}

@@ -1,15 +1,14 @@
 -- A chunk with nothing left to copy is made Free.
-use Rattle.std.proofs.Common.{◌≡◌, ◌≢◌, ◌⊎◌, inl, inr, ⊎_elim, ℕ, zero, suc, ◌+◌, ◌-◌, ◌≤◌, ◌<◌, ◌==◌, ◌&&◌, not, Bool, true, false, cond, List, [], ◌∷◌, ◌++◌, map, Option, Some, None, is_some, refl, sym, ◌∙◌, ap, subst, arith}
+use Rattle.std.proofs.Common.{◌≡◌, ◌≢◌, inl, inr, ⊎_elim, ℕ, ◌+◌, ◌-◌, ◌≤◌, ◌<◌, ◌==◌, ◌&&◌, not, Bool, true, false, cond, List, [], ◌∷◌, map, Option, Some, None, is_some, refl, sym, ◌∙◌, ap, subst, arith}
 use Rattle.std.specs.List.{filter, count_by}
-use Rattle.std.proofs.lemmas.Bool.{cond-true, cond-false, eqb-true, eqb-false, eq-eqb, ne_eqb, and_parts, and_from, cases_eq}
+use Rattle.std.proofs.lemmas.Bool.{cond-true, cond-false, eqb-true, eq-eqb, ne_eqb, and_parts, cases_eq}
 use Rattle.pm_region.specs.Cell.{Cell}
 use Rattle.pm_region.specs.State.{State, IsTelling, cell_now, During}
-use Rattle.pm_region.specs.Words.{KeepsOutside, MayLeaveIn, EachIn, lasts}
+use Rattle.pm_region.specs.Words.{KeepsOutside, MayLeaveIn, lasts}
 use Rattle.pm_region.proofs.Moments.{weaken, both, told_at_entry}
 use Rattle.chunk_map.specs.Layouts.{chunk_words, part_first}
 use Rattle.chunk_map.proofs.LayoutLaws.{numbers_of, chunk_words_whole, chunks_apart, chunk_in_part}
 use Rattle.log_entry.specs.declared.entry.Entry.{Entry}
-use Rattle.log_entry.specs.declared.entry.EntryName.{EntryName}
 use Rattle.store_image.specs.declared.types.PlacedEntry.{PlacedEntry}
 use Rattle.store_image.specs.Parts.{chunk_entries, placed, chunk_reads}
 use Rattle.core_log.specs.Chunk.{words_now, FreeOrLog}
@@ -23,13 +22,13 @@ use Rattle.core_log.specs.Retiring.{HasSameOrNone, RetiredChunk}
 use Rattle.core_log.proofs.LogLaws.{tail_fits}
 use Rattle.core_log.proofs.WithoutLaws.{without_other, without_self}
 use Rattle.log_standing.specs.declared.types.Copies.{Copies}
-use Rattle.log_standing.specs.NameCounts.{StandingState, copies_at, count_in, count_of, is_told, times_in, wants, bit}
-use Rattle.log_cleaner.specs.Dropping.{one_less, lowered, Drops}
+use Rattle.log_standing.specs.NameCounts.{StandingState, copies_at, count_in, count_of, is_told, times_in, bit}
+use Rattle.log_cleaner.specs.Dropping.{lowered, Drops}
 use Rattle.log_standing.specs.ChunkCounts.{has_name, chunks_with, IsStandingOf}
 use Rattle.log_cleaner.specs.Copying.{awaits, left_to_copy}
 use Rattle.log_cleaner.specs.Clearing.{ClearingState, is_doomed, IsGathered}
-use Rattle.log_cleaner.specs.ImagesBeside.{Stands, EachInPart, IsBefore, LosesOnly, AgreesIn, Vanish}
-use Rattle.log_cleaner.proofs.Parts.{StandsAt, part_has, part_in, Among, placed_in, placed_has, Named, name_in, in_named, count_has, Another, another, count_without, count_same, chunk_of, chunk_lasts, was, was_may, was_outside, reads_kept, blocks_kept, free_well, log_well, same_else, was_chunk, image_chunk, entries_still}
+use Rattle.log_cleaner.specs.ImagesBeside.{Stands, EachInPart, LosesOnly, AgreesIn, Vanish}
+use Rattle.log_cleaner.proofs.Parts.{StandsAt, part_has, part_in, placed_in, placed_has, name_in, in_named, count_has, Another, another, count_without, count_same, chunk_of, chunk_lasts, was, was_may, was_outside, reads_kept, blocks_kept, free_well, log_well, same_else, was_chunk, image_chunk, entries_still}
 
 pub filter_has : {X : Type 0} (p : X → Bool) (xs : List X) (x : X) → In x xs → p x ≡ true → filter p xs ≡ [] → ⊥
 filter_has p [] x is passes none = is

@@ -1,17 +1,15 @@
 -- What is left of a chunk, counted entry by entry.
-use Rattle.std.proofs.Common.{◌≡◌, ◌⊎◌, inl, inr, ⊎_elim, ℕ, zero, suc, ◌+◌, ◌-◌, ◌≤◌, ◌<◌, ◌==◌, ◌&&◌, nat_le, not, Bool, true, false, cond, List, [], ◌∷◌, ◌++◌, length, Option, Some, None, refl, sym, ◌∙◌, ap, subst, arith}
-use Rattle.std.specs.List.{filter, sum_by}
+use Rattle.std.proofs.Common.{◌≡◌, ℕ, ◌+◌, ◌-◌, ◌≤◌, ◌<◌, Bool, true, false, cond, List, [], ◌∷◌, length, ◌∙◌, ap, arith}
 use Rattle.std.proofs.lemmas.List.Sums.{sum_by-cons}
 use Rattle.pm_region.specs.State.{State}
 use Rattle.log_entry.specs.declared.entry.Entry.{Entry}
 use Rattle.log_entry.specs.Spelling.{words_of}
 use Rattle.core_log.specs.declared.types.Peek.{Peek}
-use Rattle.core_log.specs.Log.{LogState, Spelled}
-use Rattle.core_log.specs.Walking.{entries_in, words_in, behind, IsFound}
+use Rattle.core_log.specs.Log.{LogState}
+use Rattle.core_log.specs.Walking.{entries_in, behind, IsFound}
 use Rattle.log_cleaner.specs.declared.types.Victim.{Victim}
 use Rattle.log_standing.specs.NameCounts.{StandingState, wants}
 use Rattle.log_cleaner.specs.Copying.{awaits, left_to_copy, words_sum, tally_of}
-use Rattle.core_log.proofs.Steps.{IsOrdered, ordered, all_behind}
 
 -- so much is counted of the entries before a place
 pub record Counted (st : StandingState) (es : List (ℕ × Entry)) (place : ℕ) (v : Victim) : Type 0 where

@@ -1,5 +1,5 @@
 -- What is left to be copied after a batch.
-use Rattle.std.proofs.Common.{◌≡◌, ◌⊎◌, inl, inr, ⊎_elim, ℕ, zero, suc, ◌+◌, ◌≤◌, ◌<◌, ◌==◌, ◌&&◌, not, Bool, true, false, cond, List, [], ◌∷◌, length, take, Option, Some, None, refl, sym, ◌∙◌, ap, subst, arith}
+use Rattle.std.proofs.Common.{◌≡◌, inl, inr, ℕ, zero, suc, ◌+◌, ◌≤◌, ◌==◌, ◌&&◌, not, Bool, true, false, cond, List, [], ◌∷◌, length, take, Option, Some, refl, sym, ◌∙◌, ap, arith}
 use Rattle.std.specs.List.{filter, sum_by}
 use Rattle.std.proofs.lemmas.Bool.{cond-true, cond-false, eqb-true, and_parts}
 use Rattle.std.proofs.lemmas.List.Sums.{sum_by-cons}
@@ -10,9 +10,9 @@ use Rattle.store_image.specs.Facts.{In}
 use Rattle.log_standing.specs.declared.types.Copies.{Copies}
 use Rattle.log_standing.specs.NameCounts.{StandingState, copies_at, count_in, told_in, count_of, one_more}
 use Rattle.log_standing.specs.ChunkCounts.{is_named, has_name}
-use Rattle.log_cleaner.specs.Copying.{awaits, left_to_copy, words_sum}
+use Rattle.log_cleaner.specs.Copying.{awaits, left_to_copy}
 use Rattle.log_cleaner.specs.CopyBatch.{firsts, next_batch, Adds, IsLess}
-use Rattle.log_cleaner.proofs.Parts.{Named, name_in, in_named}
+use Rattle.log_cleaner.proofs.Parts.{name_in, in_named}
 use Rattle.log_cleaner.proofs.Batches.{filter_same, filter_both, filter_swap, two_wants, and_false, and_true}
 use Rattle.log_cleaner.proofs.CopyLaws.{in_batch}
 

@@ -1,27 +1,26 @@
 -- What a part of an image has, chunk by chunk, and the chunks of a log.
-use Rattle.std.proofs.Common.{◌≡◌, ◌≢◌, ◌⊎◌, inl, inr, ⊎_elim, ℕ, zero, suc, ◌+◌, ◌-◌, ◌*◌, ◌/◌, ◌%◌, ◌≤◌, ◌<◌, ◌==◌, ◌&&◌, ◌||◌, Bool, true, false, cond, List, [], ◌∷◌, ◌++◌, length, map, Option, Some, None, is_some, unwrap_or, Result, Ok, Err, nat_le, refl, sym, ◌∙◌, ap, subst, arith}
-use Rattle.std.specs.List.{flat_map, list_any, list_all, sum_by, count_by, AllByRecursion}
-use Rattle.std.proofs.lemmas.Bool.{cond-true, cond-false, eqb-true, eqb-false, eq-eqb, ne_eqb, and_parts, and_from, cases_eq}
+use Rattle.std.proofs.Common.{◌≡◌, ◌≢◌, ◌⊎◌, inl, inr, ⊎_elim, ℕ, zero, suc, ◌+◌, ◌*◌, ◌/◌, ◌%◌, ◌≤◌, ◌<◌, ◌==◌, ◌&&◌, ◌||◌, Bool, true, false, cond, List, [], ◌∷◌, map, Option, Some, None, is_some, unwrap_or, Result, Ok, Err, nat_le, refl, sym, ◌∙◌, ap, subst, arith}
+use Rattle.std.specs.List.{flat_map, list_all, count_by}
+use Rattle.std.proofs.lemmas.Bool.{cond-true, eqb-true, eq-eqb, and_parts, and_from, cases_eq}
 use Rattle.std.proofs.lemmas.List.{map-append}
 use Rattle.std.proofs.lemmas.List.Sums.{sum_by-cons}
 use Rattle.pm_region.specs.Cell.{Cell}
 use Rattle.pm_region.specs.State.{State, IsTelling, cell_now, During}
-use Rattle.pm_region.specs.Words.{KeepsOutside, MayLeaveIn, EachIn, lasts}
+use Rattle.pm_region.specs.Words.{KeepsOutside, MayLeaveIn, lasts}
 use Rattle.pm_region.proofs.Moments.{at_exit}
 use Rattle.pm_region.proofs.Cells.{may_be_last}
-use Rattle.pm_region.proofs.Narrow.{patch, patch_in, patch_out, was_image}
+use Rattle.pm_region.proofs.Narrow.{patch, patch_out, was_image}
 use Rattle.chunk_map.specs.declared.layouts.Geometry.{Geometry}
 use Rattle.chunk_map.specs.declared.heads.Head.{Head}
 use Rattle.chunk_map.specs.declared.heads.Head.TheVariants.{Log, Data}
 use Rattle.chunk_map.specs.Layouts.{numbers, chunk_words, payload_words, part_first, chunk_first, head_by, head_at}
 use Rattle.chunk_map.proofs.LayoutLaws.{numbers_of, chunk_words_whole, chunks_apart, chunk_in_part}
 use Rattle.log_entry.specs.declared.entry.Entry.{Entry}
-use Rattle.log_entry.specs.Words.{words_from}
 use Rattle.log_entry.specs.Batches.{Scan, scan_of}
 use Rattle.log_entry.proofs.Images.{words_same}
 use Rattle.log_entry.proofs.Scans.{scan_spelled}
 use Rattle.store_image.specs.declared.types.PlacedEntry.{PlacedEntry}
-use Rattle.store_image.specs.Parts.{placed, chunk_entries, part_entries, chunk_reads, reads, head_reads, scan_behind, chunk_at, unit_at, class_behind, block_class, held_by, held}
+use Rattle.store_image.specs.Parts.{placed, chunk_entries, chunk_reads, reads, head_reads, scan_behind, chunk_at, unit_at, class_behind, block_class, held_by, held}
 use Rattle.store_image.proofs.BlockLaws.{chunk_of as in_chunk, block_lies, held_same}
 use Rattle.store_image.proofs.Places.{Numbers, layout_numbers}
 use Rattle.store_image.specs.Facts.{In}
@@ -29,14 +28,13 @@ use Rattle.store_image.proofs.SoundFacts.{in_front, in_back, in_either}
 use Rattle.store_image.proofs.Local.{chunk_same, reads_same, head_same}
 use Rattle.core_log.specs.declared.types.LogChunk.{LogChunk}
 use Rattle.core_log.specs.Chunk.{words_now, HasLog}
-use Rattle.core_log.specs.Log.{LogState, StandsIn, IsOwn, IsRising, IsChunkOf, Spelled, tail_of, without, tail_in, first_of, chunk_with}
+use Rattle.core_log.specs.Log.{LogState, StandsIn, IsRising, IsChunkOf, Spelled, tail_of, without, tail_in, first_of, chunk_with}
 use Rattle.core_log.specs.Walking.{entries_in}
 use Rattle.core_log.proofs.Append.{log_reads}
 use Rattle.core_log.proofs.LogLaws.{own_chunk, tail_fits, kept_last}
 use Rattle.core_log.proofs.BatchLaws.{entries_read, head_of}
 use Rattle.core_log.proofs.RetireLaws.{is_tail}
-use Rattle.log_standing.specs.NameCounts.{StandingState, name_eq}
-use Rattle.log_standing.specs.ChunkCounts.{is_named, has_name, chunks_with}
+use Rattle.log_standing.specs.ChunkCounts.{is_named, has_name}
 use Rattle.log_cleaner.specs.ImagesBeside.{Stands}
 use Rattle.log_standing.proofs.StandingLaws.{same_name, name_same}
 
@@ -229,15 +227,15 @@ some_class image q (Some class) b is = record { class = class; is = refl }
 class_same : (l : Geometry) (is : Numbers l) (i j : ℕ → ℕ) (c p class : ℕ) → block_class l j c p ≡ Some class → head_at l i (chunk_first l c (in_chunk l p)) ≡ head_at l j (chunk_first l c (in_chunk l p)) → block_class l i c p ≡ block_class l j c p
 class_same l is i j c p class has heads = elim (nat_le 16 p && (chunk_at l p / l.chunks == c)) as (λ b. (nat_le 16 p && (chunk_at l p / l.chunks == c)) ≡ b
     → cond b (class_behind l (unit_at l p) (head_at l i (512 + chunk_at l p * chunk_words l))) None ≡ cond b (class_behind l (unit_at l p) (head_at l j (512 + chunk_at l p * chunk_words l))) None) [
-  | true ↦ λ a.
-      let part : chunk_at l p / l.chunks ≡ c = eqb-true (chunk_at l p / l.chunks) c (and_parts (nat_le 16 p) (chunk_at l p / l.chunks == c) a).1 in
-      let some = is.chunks in
-      let split : l.chunks * (chunk_at l p / l.chunks) + chunk_at l p % l.chunks ≡ chunk_at l p = omega (arith, some) in
-      let number : c * l.chunks + in_chunk l p ≡ chunk_at l p = (let q : l.chunks * c ≡ c * l.chunks = omega arith in omega (arith, q, ap (λ x. l.chunks * x + chunk_at l p % l.chunks) (sym part) ∙ split)) in
-      let first : 512 + chunk_at l p * chunk_words l ≡ chunk_first l c (in_chunk l p) = ap (λ q. 512 + q * chunk_words l) (sym number) in
-      ap (class_behind l (unit_at l p)) (ap (head_at l i) first ∙ heads ∙ sym (ap (head_at l j) first))
-  | false ↦ λ a. refl
-] refl
+      | true ↦ λ a.
+          let part : chunk_at l p / l.chunks ≡ c = eqb-true (chunk_at l p / l.chunks) c (and_parts (nat_le 16 p) (chunk_at l p / l.chunks == c) a).1 in
+          let some = is.chunks in
+          let split : l.chunks * (chunk_at l p / l.chunks) + chunk_at l p % l.chunks ≡ chunk_at l p = omega (arith, some) in
+          let number : c * l.chunks + in_chunk l p ≡ chunk_at l p = (let q : l.chunks * c ≡ c * l.chunks = omega arith in omega (arith, q, ap (λ x. l.chunks * x + chunk_at l p % l.chunks) (sym part) ∙ split)) in
+          let first : 512 + chunk_at l p * chunk_words l ≡ chunk_first l c (in_chunk l p) = ap (λ q. 512 + q * chunk_words l) (sym number) in
+          ap (class_behind l (unit_at l p)) (ap (head_at l i) first ∙ heads ∙ sym (ap (head_at l j) first))
+      | false ↦ λ a. refl
+    ] refl
 
 -- Words of one chunk are written: an image of a moment, and one of the beginning beside it.
 module _ (s : State) (log : LogState) (stands : StandsIn s log) (j from end : ℕ) (low : first_of log j ≤ from) (high : end ≤ first_of log j + chunk_words log.layout)

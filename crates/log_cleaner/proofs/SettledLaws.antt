@@ -1,5 +1,5 @@
 -- Where the reading of a chunk begins, and what stays settled.
-use Rattle.std.proofs.Common.{◌≡◌, ◌⊎◌, ⊎_elim, ℕ, ◌≤◌, ◌==◌, ◌&&◌, not, List, true, Option, Some, None, is_some, sym, ◌∙◌, ap, subst, arith}
+use Rattle.std.proofs.Common.{◌≡◌, ◌⊎◌, ⊎_elim, ℕ, ◌≤◌, ◌==◌, ◌&&◌, not, List, true, Option, Some, is_some, sym, ◌∙◌, ap, subst}
 use Rattle.std.specs.Prelude.{IfSome}
 use Rattle.pm_region.specs.State.{State, IsTelling}
 use Rattle.log_entry.specs.declared.entry.Entry.{Entry}

@@ -1,5 +1,5 @@
 -- Which chunk is cleaned next.
-use Rattle.std.specs.Prelude.{◌≡◌, ◌⊎◌, ℕ, ◌+◌, ◌*◌, ◌/◌, ◌<◌, ◌≤◌, ◌&&◌, ◌||◌, nat_le, nat_lt, Bool, true, false, Option, Some, None, is_some}
+use Rattle.std.specs.Prelude.{◌≡◌, ◌⊎◌, ℕ, ◌+◌, ◌*◌, ◌/◌, ◌<◌, ◌≤◌, ◌&&◌, ◌||◌, nat_le, Bool, true, Option, Some, None, is_some}
 use Rattle.pm_region.specs.State.{State}
 use Rattle.core_log.specs.declared.types.Room.{Room}
 use Rattle.core_log.specs.Log.{LogState, tail_of}

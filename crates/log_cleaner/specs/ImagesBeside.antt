@@ -1,5 +1,5 @@
 -- What an image of a log's part has, beside an image of the call's beginning.
-use Rattle.std.specs.Prelude.{◌≡◌, ◌⊎◌, ℕ, ◌+◌, ◌≤◌, ◌<◌, List, map, true, Option, Some, is_some}
+use Rattle.std.specs.Prelude.{◌≡◌, ◌⊎◌, ℕ, ◌+◌, ◌≤◌, ◌<◌, List, map, true, Some, is_some}
 use Rattle.pm_region.specs.Cell.{Cell}
 use Rattle.pm_region.specs.State.{State, cell_now}
 use Rattle.pm_region.specs.Words.{MayLeaveIn, EachIn}
@@ -11,7 +11,7 @@ use Rattle.store_image.specs.Parts.{part_entries, reads, held}
 use Rattle.store_image.specs.Facts.{In}
 use Rattle.core_log.specs.Log.{LogState, tail_of, first_of}
 use Rattle.core_log.specs.Walking.{entries_in}
-use Rattle.log_standing.specs.NameCounts.{times_in, name_eq}
+use Rattle.log_standing.specs.NameCounts.{times_in}
 use Rattle.log_standing.specs.ChunkCounts.{chunks_with}
 
 -- the entry stands in the part

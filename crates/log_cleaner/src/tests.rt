@@ -190,7 +190,14 @@ const ROOM: Room = Room {
 fn found(alloc: Global, stage: &Stage) -> Result<Option<Victim>, Fail>
     requires { StandsIn (record (steady_state stage.now.region.region) { told = λ t. false }) stage.now.log }
 {
-    let found = victim(alloc, &stage.region, &stage.log, &stage.standing, None, &ROOM)?;
+    let found = victim(
+        alloc,
+        &stage.region,
+        &stage.log,
+        &stage.standing,
+        None,
+        &ROOM,
+    )?;
     Ok(found)
 }
 
@@ -352,6 +359,9 @@ fn one_lives(rt: HostRuntime) -> Result<(), Fail> {
     assert_eq!(rt; stage.standing.copies(name(60)), 1);
     // the copy of a line makes 13 steps, and the end of the chunk 3: at each of them the living ones stand
     assert_eq!(rt; end.saturating_sub(begin), 16);
-    assert_eq!(rt; images(alloc, region, begin, end.saturating_add(1))?, (102, 102));
+    assert_eq!(rt;
+        images(alloc, region, begin, end.saturating_add(1))?,
+        (102, 102)
+    );
     Ok(())
 }

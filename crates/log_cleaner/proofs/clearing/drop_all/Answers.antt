@@ -1,4 +1,3 @@
-use Rattle.std.proofs.Common.{◌≡◌, ℕ, ◌<◌, arith, rules}
 use Rattle.log_cleaner.proofs.DropLaws.{dropped_on}
 use Rattle.log_cleaner.proofs.clearing.drop_all.Goals as goal
 

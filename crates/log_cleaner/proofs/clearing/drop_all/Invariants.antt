@@ -1,4 +1,4 @@
-use Rattle.std.proofs.Common.{◌≡◌, ℕ, take}
+use Rattle.std.proofs.Common.{take}
 use Rattle.log_cleaner.specs.Dropping.{Drops}
 use Rattle.log_cleaner.proofs.clearing.drop_all.Given as goal
 

@@ -1,4 +1,4 @@
-use Rattle.std.proofs.Common.{◌≡◌, ◌≤◌, ◌<◌, ◌+◌, ℕ, List, length, refl, sym, ap, arith, rules}
+use Rattle.std.proofs.Common.{ℕ, List, length, ap, arith}
 use Rattle.log_entry.specs.declared.entry.Entry.{Entry}
 use Rattle.core_log.proofs.Clients.{may_start}
 use Rattle.core_log.specs.Walking.{entries_in, words_in}

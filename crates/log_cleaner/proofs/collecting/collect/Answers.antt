@@ -1,6 +1,3 @@
-use Rattle.std.proofs.Common.{◌≡◌, ℕ, Some, arith, rules}
-use Rattle.pm_region.specs.State.{State}
-use Rattle.core_log.specs.Log.{LogState}
 use Rattle.log_cleaner.specs.Copying.{begins}
 use Rattle.log_cleaner.proofs.SettledLaws.{starts, settled_one, settled_same}
 use Rattle.log_cleaner.proofs.collecting.collect.Goals as goal

@@ -1,6 +1,6 @@
-use Rattle.std.proofs.Common.{◌≡◌, ◌≤◌, ◌<◌, ◌+◌, ◌*◌, ◌^◌, ℕ, List, length, refl, sym, ◌∙◌, ap, arith, rules}
+use Rattle.std.proofs.Common.{◌<◌, ℕ, List, length, refl, ◌∙◌, ap, arith}
 use Rattle.core_log.specs.Walking.{entries_in}
-use Rattle.log_cleaner.proofs.Batches.{collect_starts, collect_on, collect_ends, collect_holds, none_left, full_taken}
+use Rattle.log_cleaner.proofs.Batches.{collect_starts, collect_on}
 use Rattle.log_cleaner.proofs.collecting.collect_from.Goals as goal
 
 pub loop-found-init : goal.loop-found-init

@@ -1,4 +1,4 @@
-use Rattle.std.proofs.Common.{◌≡◌, ◌≤◌, ◌-◌, ◌+◌, ◌*◌, ℕ, length}
+use Rattle.std.proofs.Common.{◌≡◌, ◌≤◌, ◌-◌, ◌*◌, ℕ, length}
 use Rattle.pm_region.specs.State.{State, IsTelling}
 use Rattle.log_entry.specs.Buffer.{Buffer}
 use Rattle.core_log.specs.Log.{LogState, tail_in}

@@ -1,8 +1,7 @@
-use Rattle.std.proofs.Common.{◌≡◌, ◌≤◌, ◌<◌, ◌+◌, ◌⊎◌, ⊎_elim, ℕ, List, length, refl, sym, ◌∙◌, ap, subst, arith, rules}
-use Rattle.pm_region.specs.State.{State, During, IsTelling, cell_now}
+use Rattle.std.proofs.Common.{◌≡◌, ◌+◌, ⊎_elim, ℕ, List, length, refl, sym, ◌∙◌, ap, arith}
+use Rattle.pm_region.specs.State.{IsTelling, cell_now}
 use Rattle.core_log.specs.Chunk.{lines_for}
 use Rattle.core_log.proofs.BatchLaws.{some_opens}
-use Rattle.log_cleaner.specs.CopyBatch.{batch_in}
 use Rattle.log_cleaner.proofs.CopyLaws.{same_parts, same_log, copy_parts, copy_standing, still_has, not_open}
 use Rattle.pm_region.specs.Words.{KeepsOutside}
 use Rattle.pm_region.proofs.Moments.{told_at_entry}
@@ -58,7 +57,7 @@ returns-clause-standing g c = λ telling.
     let ready = c.is_ready.ensures.ready c.if-not-is_ready.false in
     record {
       counts = copy_standing s log c.args.standing.now c.collect-taken.new.standing c.args.victim.now.chunk c.collect-taken.result ws c.requires.stands c.requires.has c.requires.closed (λ (t : IsTelling (g.R.Region.state c.args.region.now)). (c.requires.standing t).counts) c.collect-taken.ensures.told ready.0
-    (some_opens log ws (c.collect-taken.ensures.some ready.0) ready.1) ready.1 t c.append_batch.new.self c.in_ok-append_batch.ensures.ok c.append_batch.ensures.outside c.in_ok-append_batch.ensures.ok_entries telling;
+          (some_opens log ws (c.collect-taken.ensures.some ready.0) ready.1) ready.1 t c.append_batch.new.self c.in_ok-append_batch.ensures.ok c.append_batch.ensures.outside c.in_ok-append_batch.ensures.ok_entries telling;
       settled = settled_moved s t log c.append_batch.new.self c.collect-taken.new.standing c.args.victim.now.chunk (returns-clause-chunk g c telling) c.collect-taken.ensures.chunk (c.collect-taken.ensures.settled (told_at_entry s t (KeepsOutside (cell_now s) (open_first log) (open_first log + chunk_words log.layout)) c.append_batch.ensures.outside telling));
     }
 

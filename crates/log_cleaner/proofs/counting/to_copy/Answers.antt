@@ -1,4 +1,4 @@
-use Rattle.std.proofs.Common.{◌≡◌, ◌≤◌, ◌<◌, ◌+◌, ℕ, refl, sym, ap, arith, rules}
+use Rattle.std.proofs.Common.{refl, arith}
 use Rattle.core_log.specs.Walking.{entries_in}
 use Rattle.log_cleaner.proofs.SettledLaws.{starts}
 use Rattle.log_standing.specs.NameCounts.{wants}

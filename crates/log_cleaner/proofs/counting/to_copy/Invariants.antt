@@ -1,4 +1,4 @@
-use Rattle.std.proofs.Common.{◌≡◌, ◌≤◌, ◌-◌, ◌+◌, ℕ, length}
+use Rattle.std.proofs.Common.{◌≡◌, ◌≤◌, ◌-◌, ℕ}
 use Rattle.pm_region.specs.State.{State, IsTelling}
 use Rattle.core_log.specs.Log.{LogState, tail_in}
 use Rattle.core_log.specs.Walking.{IsReadable, entries_in}

@@ -1,6 +1,6 @@
-use Rattle.std.proofs.Common.{◌≡◌, ◌≤◌, ◌<◌, ◌+◌, ◌∷◌, [], ◌++◌, ℕ, List, length, refl, sym, ◌∙◌, ap, subst, arith, rules}
+use Rattle.std.proofs.Common.{List, length, sym, ◌∙◌, ap, arith}
 use Rattle.log_entry.specs.declared.entry.EntryName.{EntryName}
-use Rattle.log_standing.specs.NameCounts.{count_in, count_of, times_in}
+use Rattle.log_standing.specs.NameCounts.{count_in, times_in}
 use Rattle.log_cleaner.proofs.clearing.Clearing.begin.Goals as goal
 
 pub invariant_of-result : goal.invariant_of-result

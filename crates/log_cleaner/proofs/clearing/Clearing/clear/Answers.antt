@@ -1,4 +1,4 @@
-use Rattle.std.proofs.Common.{◌≡◌, ◌≤◌, ◌+◌, ℕ, List, None, Some, subst, sym, ◌∙◌, ap, arith}
+use Rattle.std.proofs.Common.{◌≡◌, ◌≤◌, ◌+◌, ℕ, List, None, subst, sym, ◌∙◌, ap}
 use Rattle.pm_region.specs.State.{State, During, IsTelling, cell_now}
 use Rattle.pm_region.specs.Words.{KeepsOutside}
 use Rattle.log_entry.specs.declared.entry.EntryName.{EntryName}
@@ -61,7 +61,7 @@ returns-clause-standing g c = λ telling.
     let e = ap (λ (x : ClearingState). x.chunk) c.self.view_is in
     record {
       counts = clear_standing s log c.args.standing.now c.args.self c.requires.stands c.requires.has c.requires.gathered c.requires.copied (λ (t : IsTelling (g.R.Region.state c.args.region.now)). (c.requires.standing t).counts) c.requires.agrees t c.retire.new.self c.settle.new.self
-    (subst (RetiredChunk t log c.retire.new.self) e c.in_ok-retire.ensures.ok) (outside_at s t log c.self.inside.chunk c.args.self.chunk e c.retire.ensures.outside) (returns-clause-dropped g c) telling;
+          (subst (RetiredChunk t log c.retire.new.self) e c.in_ok-retire.ensures.ok) (outside_at s t log c.self.inside.chunk c.args.self.chunk e c.retire.ensures.outside) (returns-clause-dropped g c) telling;
       settled = none_settled t c.retire.new.self c.settle.new.self c.settle.ensures.settled;
     }
 

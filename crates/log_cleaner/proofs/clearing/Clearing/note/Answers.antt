@@ -1,4 +1,4 @@
-use Rattle.std.proofs.Common.{◌≡◌, ◌≤◌, ◌<◌, ◌+◌, ◌∷◌, [], ◌++◌, ℕ, List, length, refl, sym, ◌∙◌, ap, subst, arith, rules, length-append}
+use Rattle.std.proofs.Common.{◌≡◌, ◌≤◌, ◌∷◌, [], List, length, sym, ◌∙◌, ap, subst, arith, length-append}
 use Rattle.log_entry.specs.declared.entry.EntryName.{EntryName}
 use Rattle.log_standing.specs.NameCounts.{count_of, times_in}
 use Rattle.log_cleaner.proofs.GatherLaws.{noted_seen, noted_once, pushed_long}
