@@ -1,0 +1,61 @@
+-- The first eligible chunk in cyclic order.
+use Rattle.std.proofs.Common.{◌≡◌, inl, inr, ⊎_elim, ℕ, ◌+◌, ◌≤◌, ◌<◌, true, Option, Some, None, is_some, refl, arith}
+use Rattle.std.proofs.lemmas.Bool.{cases_lt}
+use Rattle.pm_region.specs.State.{State}
+use Rattle.chunk_map.proofs.LayoutLaws.{numbers_of, chunk_words_whole, payload_of}
+use Rattle.core_log.specs.declared.types.Room.{Room}
+use Rattle.core_log.specs.Log.{LogState, StandsIn, tail_of, tail_in}
+use Rattle.log_cleaner.specs.declared.types.Victim.{Victim}
+use Rattle.log_standing.specs.NameCounts.{StandingState}
+use Rattle.log_cleaner.specs.Choosing.{IsEligible, Comes, IsVictim, IsFirstIn}
+use Rattle.log_cleaner.proofs.Parts.{chunk_of}
+
+pub tail_small : (s : State) (log : LogState) (j : ℕ) → StandsIn s log → is_some (tail_of log.chunks j) ≡ true → tail_in log j ≤ 524288
+tail_small s log j stands has =
+    let fits = (chunk_of s log stands j has).fits in
+    let size = (numbers_of log.layout stands.own.layout).size in
+    let words = (chunk_words_whole log.layout size).3 in
+    let payload = payload_of log.layout size in
+    omega (arith, fits, words, payload)
+
+eligible_small : (s : State) (log : LogState) (st : StandingState) (room : Room) (i : ℕ) → StandsIn s log → IsEligible s log st room i → i < 64
+eligible_small s log st room i stands is =
+    let within = (chunk_of s log stands i is.has).within in
+    let most = (numbers_of log.layout stands.own.layout).chunks_high in
+    omega (arith, within, most)
+
+-- where the search begins
+pub record BeginsAt (after : Option ℕ) (begin : ℕ) : Type 0 where
+  pub none : after ≡ None → begin ≡ 0
+  pub some : (a : ℕ) → after ≡ Some a → a < 64 → begin ≡ a + 1
+  pub past : (a : ℕ) → after ≡ Some a → 64 ≤ a → begin ≡ 64
+
+-- found at or behind it
+comes_first : (after : Option ℕ) (begin j : ℕ) → BeginsAt after begin → begin ≤ j → j < 64 → (i : ℕ) → (begin ≤ i → j ≤ i) → Comes after j i
+comes_first None begin j b low high i first = let e = b.none refl in first (omega (arith, e))
+comes_first (Some a) begin j b low high i first = ⊎_elim
+    (λ lt. let e = b.some a refl lt in inl (omega (arith, e, low), ⊎_elim (λ le. inr (omega (arith, le))) (λ ge. inl (first (omega (arith, e, ge)))) (cases_lt i begin)))
+    (λ ge. let e = b.past a refl ge in absurd (omega (arith, e, low, high)))
+    (cases_lt a 64)
+
+-- found before it, where none is behind
+comes_next : (after : Option ℕ) (begin j : ℕ) → BeginsAt after begin → j < begin → (i : ℕ) → i < begin → j ≤ i → Comes after j i
+comes_next None begin j b high i lt le = let e = b.none refl in absurd (omega (arith, e, high))
+comes_next (Some a) begin j b high i lt le = ⊎_elim
+    (λ below. let e = b.some a refl below in inr (omega (arith, e, high), omega (arith, e, lt), le))
+    (λ ge. let e = b.past a refl ge in inr (omega (arith, e, high, ge), omega (arith, e, lt, ge), le))
+    (cases_lt a 64)
+
+pub chosen_first : (s : State) (log : LogState) (st : StandingState) (after : Option ℕ) (room : Room) (begin : ℕ) (v : Victim) → StandsIn s log → BeginsAt after begin → IsFirstIn s log st room begin 64 (Some v) → IsVictim s log st after room (Some v)
+chosen_first s log st after room begin v stands b is =
+    (is.0, is.1, λ i eligible. comes_first after begin v.chunk b is.2.0 is.2.1 i (λ low. is.3 i low (eligible_small s log st room i stands eligible) eligible))
+
+pub chosen_next : (s : State) (log : LogState) (st : StandingState) (after : Option ℕ) (room : Room) (begin : ℕ) (r : Option Victim) → StandsIn s log → BeginsAt after begin → IsFirstIn s log st room begin 64 None → IsFirstIn s log st room 0 begin r → IsVictim s log st after room r
+chosen_next s log st after room begin None stands b none is = λ i eligible. ⊎_elim (λ lt. is i (omega arith) lt eligible) (λ ge. none i ge (eligible_small s log st room i stands eligible) eligible) (cases_lt i begin)
+chosen_next s log st after room begin (Some v) stands b none is = (
+  is.0,
+  is.1,
+  λ i eligible. ⊎_elim
+      (λ lt. comes_next after begin v.chunk b is.2.1 i lt (is.3 i (omega arith) lt eligible))
+      (λ ge. absurd (none i ge (eligible_small s log st room i stands eligible) eligible)) (cases_lt i begin),
+)

@@ -1,0 +1,245 @@
+-- A chunk with nothing left to copy is made Free.
+use Rattle.std.proofs.Common.{◌≡◌, ◌≢◌, inl, inr, ⊎_elim, ℕ, ◌+◌, ◌-◌, ◌≤◌, ◌<◌, ◌==◌, ◌&&◌, not, Bool, true, false, cond, List, [], ◌∷◌, map, Option, Some, None, is_some, refl, sym, ◌∙◌, ap, subst, arith}
+use Rattle.std.specs.List.{filter, count_by}
+use Rattle.std.proofs.lemmas.Bool.{cond-true, cond-false, eqb-true, eq-eqb, ne_eqb, and_parts, cases_eq}
+use Rattle.pm_region.specs.Cell.{Cell}
+use Rattle.pm_region.specs.State.{State, IsTelling, cell_now, During}
+use Rattle.pm_region.specs.Words.{KeepsOutside, MayLeaveIn, lasts}
+use Rattle.pm_region.proofs.Moments.{weaken, both, told_at_entry}
+use Rattle.chunk_map.specs.Layouts.{chunk_words, part_first}
+use Rattle.chunk_map.proofs.LayoutLaws.{numbers_of, chunk_words_whole, chunks_apart, chunk_in_part}
+use Rattle.log_entry.specs.declared.entry.Entry.{Entry}
+use Rattle.store_image.specs.declared.types.PlacedEntry.{PlacedEntry}
+use Rattle.store_image.specs.Parts.{chunk_entries, placed, chunk_reads}
+use Rattle.core_log.specs.Chunk.{words_now, FreeOrLog}
+use Rattle.core_log.proofs.RetireLaws.{is_tail}
+use Rattle.store_image.specs.Facts.{In}
+use Rattle.core_log.specs.declared.types.LogChunk.{LogChunk}
+use Rattle.core_log.specs.Log.{LogState, StandsIn, tail_of, without, tail_in, first_of, chunk_with}
+use Rattle.core_log.specs.Walking.{entries_in}
+use Rattle.core_log.specs.Opening.{EachInChunk}
+use Rattle.core_log.specs.Retiring.{HasSameOrNone, RetiredChunk}
+use Rattle.core_log.proofs.LogLaws.{tail_fits}
+use Rattle.core_log.proofs.WithoutLaws.{without_other, without_self}
+use Rattle.log_standing.specs.declared.types.Copies.{Copies}
+use Rattle.log_standing.specs.NameCounts.{StandingState, copies_at, count_in, count_of, is_told, times_in, bit}
+use Rattle.log_cleaner.specs.Dropping.{lowered, Drops}
+use Rattle.log_standing.specs.ChunkCounts.{has_name, chunks_with, IsStandingOf}
+use Rattle.log_cleaner.specs.Copying.{awaits, left_to_copy}
+use Rattle.log_cleaner.specs.Clearing.{ClearingState, is_doomed, IsGathered}
+use Rattle.log_cleaner.specs.ImagesBeside.{Stands, EachInPart, LosesOnly, AgreesIn, Vanish}
+use Rattle.log_cleaner.proofs.Parts.{StandsAt, part_has, part_in, placed_in, placed_has, name_in, in_named, count_has, Another, another, count_without, count_same, chunk_of, chunk_lasts, was, was_may, was_outside, reads_kept, blocks_kept, free_well, log_well, same_else, was_chunk, image_chunk, entries_still}
+
+pub filter_has : {X : Type 0} (p : X → Bool) (xs : List X) (x : X) → In x xs → p x ≡ true → filter p xs ≡ [] → ⊥
+filter_has p [] x is passes none = is
+filter_has p (y ∷ ys) x is passes none = ⊎_elim
+    (λ here. absurd (cc (sym (cond-true (p y) (y ∷ filter p ys) (filter p ys) (ap p (sym here) ∙ passes)) ∙ none)))
+    (λ later. elim (p y) as (λ b. cond b (y ∷ filter p ys) (filter p ys) ≡ [] → ⊥) [
+      | true ↦ λ e. absurd (cc e)
+      | false ↦ λ e. filter_has p ys x later passes e
+    ] none) is
+
+-- one copy less
+less_by_one : (o : Option Copies) → 0 < count_in o → count_in (lowered o) + 1 ≡ count_in o
+less_by_one None some = absurd (omega (arith, some))
+less_by_one (Some c) some = elim (c.count == 1) as (λ b. (c.count == 1) ≡ b → count_in (cond b None (Some (record { count = c.count - 1; dead = c.dead }))) + 1 ≡ c.count) [
+  | true ↦ λ is. let e = eqb-true c.count 1 is in omega (arith, e)
+  | false ↦ λ isnt. omega (arith, some)
+] refl
+
+module _ (s : State) (log : LogState) (st : StandingState) (c : ClearingState) (stands : StandsIn s log) (has : is_some (tail_of log.chunks c.chunk) ≡ true)
+    (gathered : IsTelling s → IsGathered st (entries_in s log c.chunk) c) (copied : IsTelling s → left_to_copy st (entries_in s log c.chunk) ≡ [])
+    (standing : IsTelling s → IsStandingOf s log st) (agrees : IsTelling s → AgreesIn s log) where
+  -- whether a chunk has a name
+  abbrev has_at : ℕ → ℕ → ℕ → Bool
+  has_at k v i = has_name (entries_in s log i) k v
+
+  -- An entry of the chunk that doesn't vanish stands in another chunk too.
+  module _ (telling : IsTelling s) (x : ℕ × Entry) (here : In x (entries_in s log c.chunk)) (stays : times_in c.doomed x.1.key x.1.version ≡ 0) where
+    some : 0 < count_of st x.1.key x.1.version
+    some = let e = standing telling x.1.key x.1.version in let n = count_has (has_at x.1.key x.1.version) log.chunks c.chunk has (in_named (entries_in s log c.chunk) x here) in omega (arith, e, n)
+
+    not_one : count_of st x.1.key x.1.version ≢ 1
+    not_one one = elim (is_told st x.1.key x.1.version) as (λ b. is_told st x.1.key x.1.version ≡ b → ⊥) [
+      | true ↦ λ told.
+          let e : times_in c.doomed x.1.key x.1.version ≡ 1 = (gathered telling).doomed x.1.key x.1.version
+          ∙ (λ i. bit (in_named (entries_in s log c.chunk) x here i && (told i && eq-eqb (count_of st x.1.key x.1.version) 1 one i))) in
+          omega (arith, e, stays)
+      | false ↦ λ untold. filter_has (awaits st) (entries_in s log c.chunk) x here (λ i. eq-eqb (count_of st x.1.key x.1.version) 1 one i && not (untold i)) (copied telling)
+    ] refl
+
+    pub two : 1 < count_of st x.1.key x.1.version
+    two = let a = some in let b = not_one in ⊎_elim (λ (one : count_of st x.1.key x.1.version ≡ 1). absurd (b one)) (λ (ne : count_of st x.1.key x.1.version ≢ 1). omega (arith, a, ne)) (cases_eq (count_of st x.1.key x.1.version) 1)
+
+    other : Another (has_at x.1.key x.1.version) log.chunks c.chunk
+    other = let n = two in let e = standing telling x.1.key x.1.version in another (has_at x.1.key x.1.version) log.chunks 0 c.chunk stands.own.rising (omega (arith, n, e))
+
+    -- in an image that has the other chunks' entries
+    pub still_stands : (image : ℕ → ℕ) → ((k : ℕ) → k ≢ c.chunk → is_some (tail_of log.chunks k) ≡ true → chunk_entries log.layout image log.part k ≡ placed log.part k (entries_in s log k)) → Stands log image x.1
+    still_stands image else_ =
+        let a = other in
+        let n = name_in (entries_in s log a.chunk) x.1.key x.1.version a.passes in
+        let same : n.found.1 ≡ x.1 = agrees telling a.chunk c.chunk n.found x a.has has n.here here n.key n.version in
+        let at : StandsAt log image a.chunk n.found.1 = subst (λ (es : List PlacedEntry). In n.found.1 (map (λ (y : PlacedEntry). y.entry) es)) (sym (else_ a.chunk a.other a.has)) (placed_has log.part a.chunk (entries_in s log a.chunk) n.found n.here) in
+        subst (Stands log image) same (part_has log image a.chunk n.found.1 (chunk_of s log stands a.chunk a.has).within at)
+
+  low : first_of log c.chunk ≤ first_of log c.chunk
+  low = omega arith
+
+  high : first_of log c.chunk + 8 ≤ first_of log c.chunk + chunk_words log.layout
+  high = let size = chunk_words_whole log.layout (numbers_of log.layout stands.own.layout).size in let big = size.2 in omega (arith, big)
+
+  module _ (telling : IsTelling s) (m : ℕ → Cell) (each : EachInChunk log c.chunk (HasSameOrNone s log c.chunk) m)
+      (free : EachInChunk log c.chunk (FreeOrLog (first_of log c.chunk) (tail_in log c.chunk) (words_now s (first_of log c.chunk) (tail_in log c.chunk))) m) (kept : KeepsOutside (cell_now s) (first_of log c.chunk) (first_of log c.chunk + 8) m)
+      (image : ℕ → ℕ) (may : MayLeaveIn m (part_first log.layout log.part) (part_first log.layout (log.part + 1)) image) where
+    before : ℕ → ℕ
+    before = was s log stands c.chunk (first_of log c.chunk) (first_of log c.chunk + 8) low high m kept image may
+
+    here_is : HasSameOrNone s log c.chunk image
+    here_is = let inside = chunk_in_part log.layout log.part c.chunk (chunk_of s log stands c.chunk has).within in each image (λ w ge lt. may w (omega (arith, ge, inside)) (omega (arith, lt, inside)))
+
+    before_chunk : chunk_entries log.layout before log.part c.chunk ≡ placed log.part c.chunk (entries_in s log c.chunk)
+    unfolding before
+    before_chunk = was_chunk s log stands c.chunk (first_of log c.chunk) (first_of log c.chunk + 8) low high m kept image may telling c.chunk has
+
+    else_same : (k : ℕ) → k ≢ c.chunk → chunk_entries log.layout image log.part k ≡ chunk_entries log.layout before log.part k
+    unfolding before
+    else_same = same_else s log stands c.chunk (first_of log c.chunk) (first_of log c.chunk + 8) low high m kept image may
+
+    abbrev entry_in : Entry → List PlacedEntry → Type 0
+    entry_in e es = In e (map (λ (y : PlacedEntry). y.entry) es)
+
+    only : (e : Entry) → Stands log image e → Stands log before e
+    only e is =
+        let p = part_in log image e is in
+        ⊎_elim
+        (λ (at : p.chunk ≡ c.chunk).
+        let there : StandsAt log image c.chunk e = subst (λ (k : ℕ). StandsAt log image k e) at p.at in
+        ⊎_elim
+        (λ (same : chunk_entries log.layout image log.part c.chunk ≡ chunk_entries log.layout (lasts s) log.part c.chunk).
+        part_has log before c.chunk e (chunk_of s log stands c.chunk has).within (subst (entry_in e) (same ∙ chunk_lasts s log stands c.chunk has telling ∙ sym before_chunk) there))
+        (λ (none : chunk_entries log.layout image log.part c.chunk ≡ []). absurd (subst (entry_in e) none there))
+        here_is)
+        (λ (ne : p.chunk ≢ c.chunk). part_has log before p.chunk e p.in_part (subst (entry_in e) (else_same p.chunk ne) p.at))
+        (cases_eq p.chunk c.chunk)
+
+    has_still : (e : Entry) → Stands log before e → times_in c.doomed e.key e.version ≡ 0 → Stands log image e
+    unfolding before
+    has_still e is stays =
+        let p = part_in log before e is in
+        ⊎_elim
+        (λ (at : p.chunk ≡ c.chunk).
+        let there : StandsAt log before c.chunk e = subst (λ (k : ℕ). StandsAt log before k e) at p.at in
+        let a = placed_in log.part c.chunk (entries_in s log c.chunk) e (subst (entry_in e) before_chunk there) in
+        subst (Stands log image) (sym a.is) (still_stands telling a.found a.here (sym (ap (λ (f : Entry). times_in c.doomed f.key f.version) a.is) ∙ stays) image (image_chunk s log stands c.chunk (first_of log c.chunk) (first_of log c.chunk + 8) low high m kept image may telling)))
+        (λ (ne : p.chunk ≢ c.chunk). part_has log image p.chunk e p.in_part (subst (entry_in e) (sym (else_same p.chunk ne)) p.at))
+        (cases_eq p.chunk c.chunk)
+
+    well : chunk_reads log.layout image (first_of log c.chunk) ≡ true
+    well =
+        let is = chunk_of s log stands c.chunk has in
+        let inside = chunk_in_part log.layout log.part c.chunk is.within in
+        ⊎_elim (λ none. free_well log.layout image (first_of log c.chunk) none)
+        (λ same. log_well log.layout image (first_of log c.chunk) (tail_in log c.chunk) (words_now s (first_of log c.chunk) (tail_in log c.chunk)) is.whole is.fits same (stands.spelled telling c.chunk (tail_in log c.chunk) (is_tail (tail_of log.chunks c.chunk) has)))
+        (free image (λ w ge lt. may w (omega (arith, ge, inside)) (omega (arith, lt, inside))))
+
+    pub loses : LosesOnly s log c.chunk c.doomed image
+    unfolding before
+    loses = record {
+      before = before;
+      beside = record {
+        may = was_may s log stands c.chunk (first_of log c.chunk) (first_of log c.chunk + 8) low high m kept image may;
+        outside = was_outside s log stands c.chunk (first_of log c.chunk) (first_of log c.chunk + 8) low high m kept image may;
+        reads = reads_kept s log stands c.chunk (first_of log c.chunk) (first_of log c.chunk + 8) low high m kept image may well;
+        blocks = blocks_kept s log stands c.chunk (first_of log c.chunk) (first_of log c.chunk + 8) low high m kept image may telling has;
+        only = only;
+      };
+      has = has_still;
+    }
+
+  pub clear_parts : (t : State) → During s t (EachInChunk log c.chunk (HasSameOrNone s log c.chunk)) → During s t (EachInChunk log c.chunk (FreeOrLog (first_of log c.chunk) (tail_in log c.chunk) (words_now s (first_of log c.chunk) (tail_in log c.chunk))))
+      → During s t (KeepsOutside (cell_now s) (first_of log c.chunk) (first_of log c.chunk + 8)) → During s t (EachInPart log (LosesOnly s log c.chunk c.doomed))
+  clear_parts t each free outside =
+      let E : (ℕ → Cell) → Type 0 = EachInChunk log c.chunk (HasSameOrNone s log c.chunk) in
+      let F : (ℕ → Cell) → Type 0 = EachInChunk log c.chunk (FreeOrLog (first_of log c.chunk) (tail_in log c.chunk) (words_now s (first_of log c.chunk) (tail_in log c.chunk))) in
+      let K : (ℕ → Cell) → Type 0 = KeepsOutside (cell_now s) (first_of log c.chunk) (first_of log c.chunk + 8) in
+      weaken s t (λ m. (E m × F m) × K m) (EachInPart log (LosesOnly s log c.chunk c.doomed))
+      (λ telling m is image may. loses telling m is.0.0 is.0.1 is.1 image may)
+      (both s t (λ m. E m × F m) K (both s t E F each free) outside)
+
+  -- The names afterwards.
+  module _ (t : State) (log' : LogState) (new : StandingState) (retired : RetiredChunk t log log' c.chunk) (outside : During s t (KeepsOutside (cell_now s) (first_of log c.chunk) (first_of log c.chunk + 8)))
+      (drops : Drops st new c.names) (telling_t : IsTelling t) where
+    telling : IsTelling s
+    telling = told_at_entry s t (KeepsOutside (cell_now s) (first_of log c.chunk) (first_of log c.chunk + 8)) outside telling_t
+
+    chunks_are : log'.chunks ≡ without log.chunks c.chunk
+    chunks_are = ap (λ (l : LogState). l.chunks) retired.log_is
+
+    left_in : (i : ℕ) → is_some (tail_of (without log.chunks c.chunk) i) ≡ true → i ≢ c.chunk
+    left_in i some at = let none : tail_of (without log.chunks c.chunk) i ≡ None = ap (tail_of (without log.chunks c.chunk)) at ∙ without_self log.chunks 0 c.chunk stands.own.rising in absurd (cc (sym (ap is_some none) ∙ some))
+
+    still_has : (i : ℕ) → is_some (tail_of (without log.chunks c.chunk) i) ≡ true → entries_in t log' i ≡ entries_in s log i
+    still_has i some =
+        let ne = left_in i some in
+        let same = without_other log.chunks c.chunk i ne in
+        let was_some : is_some (tail_of log.chunks i) ≡ true = ap is_some (sym same) ∙ some in
+        let fits = (tail_fits log.layout stands.own.layout (chunk_with i (tail_in log i)) (chunk_of s log stands i was_some)).0 in
+        let up = high in
+        entries_still s t log log' i (first_of log c.chunk) (first_of log c.chunk + 8) outside telling_t (ap (λ (l : LogState). l.layout) retired.log_is) (ap (λ (l : LogState). l.part) retired.log_is)
+        (ap (λ (cs : List LogChunk). tail_of cs i) chunks_are ∙ same)
+        (λ w ge lt. ⊎_elim (λ a. inl (omega (arith, a, lt, fits))) (λ b. inr (omega (arith, b, ge, up))) (chunks_apart log.layout log.part i c.chunk ne))
+
+    fewer : (k v : ℕ) → chunks_with t log' k v + cond (has_at k v c.chunk) 1 0 ≡ chunks_with s log k v
+    fewer k v =
+        let a = ap (λ (cs : List LogChunk). count_by (λ (x : LogChunk). has_name (entries_in t log' x.chunk) k v) cs) chunks_are in
+        let b = count_same (λ (i : ℕ). has_name (entries_in t log' i) k v) (has_at k v) (without log.chunks c.chunk) (λ i some. ap (λ (es : List (ℕ × Entry)). has_name es k v) (still_has i some)) in
+        let d = count_without (has_at k v) log.chunks c.chunk has in
+        omega (arith, a, b, d)
+
+    count_less : (k v : ℕ) → count_of new k v + cond (has_at k v c.chunk) 1 0 ≡ count_of st k v
+    count_less k v = elim (has_at k v c.chunk) as (λ b. has_at k v c.chunk ≡ b → count_of new k v + cond b 1 0 ≡ count_of st k v) [
+      | true ↦ λ is.
+          let one = (gathered telling).names k v ∙ ap bit is in
+          let n = standing telling k v in
+          let some = count_has (has_at k v) log.chunks c.chunk has is in
+          let dropped = drops k v ∙ cond-false (times_in c.names k v == 0) (copies_at st k v) (lowered (copies_at st k v)) (ne_eqb (times_in c.names k v) 0 (λ zero_is. omega (arith, one, zero_is))) in
+          let less = less_by_one (copies_at st k v) (omega (arith, n, some)) in
+          let e = ap count_in dropped in
+          omega (arith, e, less)
+      | false ↦ λ isnt.
+          let none = (gathered telling).names k v ∙ ap bit isnt in
+          let e = ap count_in (drops k v ∙ cond-true (times_in c.names k v == 0) (copies_at st k v) (lowered (copies_at st k v)) (eq-eqb (times_in c.names k v) 0 none)) in
+          omega (arith, e)
+    ] refl
+
+    pub clear_standing : IsStandingOf t log' new
+    clear_standing k v = let a = count_less k v in let b = fewer k v in let n = standing telling k v in omega (arith, a, b, n)
+
+    gone_one : (b d : Bool) → 0 < bit (b && d) → (b ≡ true) × (d ≡ true)
+    gone_one true true lt = (refl, refl)
+    gone_one true false lt = absurd (omega (arith, lt))
+    gone_one false d lt = absurd (omega (arith, lt))
+
+    pub clear_vanish : Vanish s t log log' c.doomed
+    clear_vanish = record {
+      gone = λ k v lt.
+          let d = (gathered telling).doomed k v in
+          let parts = gone_one (has_at k v c.chunk) (is_doomed st k v) (omega (arith, d, lt)) in
+          let one = eqb-true (count_of st k v) 1 (and_parts (is_told st k v) (count_of st k v == 1) parts.1).1 in
+          let b = fewer k v ∙ sym (standing telling k v) in
+          let e = ap {B = ℕ} (λ (q : Bool). cond q 1 0) parts.0 in
+          omega (arith, b, one, e);
+      stays = λ k v none some.
+          elim (has_at k v c.chunk) as (λ b. has_at k v c.chunk ≡ b → 0 < chunks_with t log' k v) [
+            | true ↦ λ is.
+                let n = name_in (entries_in s log c.chunk) k v is in
+                let more = two telling n.found n.here ((λ i. times_in c.doomed (n.key i) (n.version i)) ∙ none) in
+                let same : count_of st n.found.1.key n.found.1.version ≡ count_of st k v = λ i. count_of st (n.key i) (n.version i) in
+                let b = fewer k v ∙ sym (standing telling k v) in
+                let e = ap {B = ℕ} (λ (q : Bool). cond q 1 0) is in
+                let m : count_of st n.found.1.key n.found.1.version ≡ count_of st k v = same in
+                omega (arith, b, more, e, m)
+            | false ↦ λ isnt. let b = fewer k v in let e = ap {B = ℕ} (λ (q : Bool). cond q 1 0) isnt in omega (arith, b, e, some)
+          ] refl;
+    }

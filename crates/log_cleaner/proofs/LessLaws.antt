@@ -1,0 +1,107 @@
+-- What is left to be copied after a batch.
+use Rattle.std.proofs.Common.{◌≡◌, inl, inr, ℕ, zero, suc, ◌+◌, ◌≤◌, ◌==◌, ◌&&◌, not, Bool, true, false, cond, List, [], ◌∷◌, length, take, Option, Some, refl, sym, ◌∙◌, ap, arith}
+use Rattle.std.specs.List.{filter, sum_by}
+use Rattle.std.proofs.lemmas.Bool.{cond-true, cond-false, eqb-true, and_parts}
+use Rattle.std.proofs.lemmas.List.Sums.{sum_by-cons}
+use Rattle.std.proofs.lemmas.List.Filters.{sum_by-filter_both}
+use Rattle.log_entry.specs.declared.entry.Entry.{Entry}
+use Rattle.log_entry.specs.Spelling.{words_of}
+use Rattle.store_image.specs.Facts.{In}
+use Rattle.log_standing.specs.declared.types.Copies.{Copies}
+use Rattle.log_standing.specs.NameCounts.{StandingState, copies_at, count_in, told_in, count_of, one_more}
+use Rattle.log_standing.specs.ChunkCounts.{is_named, has_name}
+use Rattle.log_cleaner.specs.Copying.{awaits, left_to_copy}
+use Rattle.log_cleaner.specs.CopyBatch.{firsts, next_batch, Adds, IsLess}
+use Rattle.log_cleaner.proofs.Parts.{name_in, in_named}
+use Rattle.log_cleaner.proofs.Batches.{filter_same, filter_both, filter_swap, two_wants, and_false, and_true}
+use Rattle.log_cleaner.proofs.CopyLaws.{in_batch}
+
+module _ {X : Type 0} (f : X → ℕ) where
+  pub sum_filter : (p : X → Bool) (xs : List X) → sum_by f (filter p xs) ≤ sum_by f xs
+  sum_filter p [] = omega arith
+  sum_filter p (x ∷ xs) =
+      let rest = sum_filter p xs in
+      let a = sum_by-cons f x xs in
+      elim (p x) as (λ b. sum_by f (cond b (x ∷ filter p xs) (filter p xs)) ≤ sum_by f (x ∷ xs)) [
+        | true ↦ let b = sum_by-cons f x (filter p xs) in omega (arith, rest, a, b)
+        | false ↦ omega (arith, rest, a)
+      ]
+
+  sum_take : (p : X → Bool) (n : ℕ) (xs : List X) → sum_by f (filter p (take n xs)) ≤ sum_by f (filter p xs)
+  sum_take p zero xs = omega arith
+  sum_take p (suc n) [] = omega arith
+  sum_take p (suc n) (x ∷ xs) =
+      let rest = sum_take p n xs in
+      elim (p x) as (λ b. sum_by f (cond b (x ∷ filter p (take n xs)) (filter p (take n xs))) ≤ sum_by f (cond b (x ∷ filter p xs) (filter p xs))) [
+        | true ↦ let a = sum_by-cons f x (filter p (take n xs)) in let b = sum_by-cons f x (filter p xs) in omega (arith, rest, a, b)
+        | false ↦ rest
+      ]
+
+  filter_all : (p : X → Bool) (xs : List X) → ((x : X) → In x xs → p x ≡ true) → filter p xs ≡ xs
+  filter_all p [] all = refl
+  filter_all p (x ∷ xs) all = cond-true (p x) (x ∷ filter p xs) (filter p xs) (all x (inl refl)) ∙ ap (λ (l : List X). x ∷ l) (filter_all p xs (λ y is. all y (inr is)))
+
+sum_firsts : (f : ℕ × Entry → ℕ) (p : ℕ × Entry → Bool) (xs : List (ℕ × Entry)) → sum_by f (filter p (firsts xs)) ≤ sum_by f (filter p xs)
+sum_firsts f p [] = omega arith
+sum_firsts f p (x ∷ xs) =
+    let q : ℕ × Entry → Bool = λ y. not (is_named x.1.key x.1.version y) in
+    let swap = ap (sum_by f) (filter_swap p q (firsts xs)) in
+    let fewer = sum_filter f q (filter p (firsts xs)) in
+    let rest = sum_firsts f p xs in
+    elim (p x) as (λ b. sum_by f (cond b (x ∷ filter p (filter (λ y. not (is_named x.1.key x.1.version y)) (firsts xs))) (filter p (filter (λ y. not (is_named x.1.key x.1.version y)) (firsts xs)))) ≤ sum_by f (cond b (x ∷ filter p xs) (filter p xs))) [
+      | true ↦ let a = sum_by-cons f x (filter p (filter q (firsts xs))) in let b = sum_by-cons f x (filter p xs) in omega (arith, a, b, swap, fewer, rest)
+      | false ↦ omega (arith, swap, fewer, rest)
+    ]
+
+pub sum_ones : (xs : List (ℕ × Entry)) → sum_by (λ (x : ℕ × Entry). 1) xs ≡ length xs
+sum_ones [] = refl
+sum_ones (x ∷ xs) = let a = sum_by-cons (λ (y : ℕ × Entry). 1) x xs in let rest = sum_ones xs in omega (arith, a, rest)
+
+module _ (old new : StandingState) (es : List (ℕ × Entry)) (adds : Adds old new (next_batch old es)) where
+  in_it : ℕ × Entry → Bool
+  in_it y = has_name (next_batch old es) y.1.key y.1.version
+
+  awaits_now : (y : ℕ × Entry) → awaits new y ≡ (awaits old y && not (in_it y))
+  unfolding in_it
+  awaits_now y = by (has_name (next_batch old es) y.1.key y.1.version) refl
+    where
+      by : (b : Bool) → has_name (next_batch old es) y.1.key y.1.version ≡ b → awaits new y ≡ (awaits old y && not (has_name (next_batch old es) y.1.key y.1.version))
+      by true is =
+          let n = name_in (next_batch old es) y.1.key y.1.version is in
+          let one : count_of old n.found.1.key n.found.1.version ≡ 1 = eqb-true _ 1 (and_parts _ _ (in_batch old es n.found n.here).1).0 in
+          let one_here : count_of old y.1.key y.1.version ≡ 1 = sym (λ i. count_of old (n.key i) (n.version i)) ∙ one in
+          let at = adds y.1.key y.1.version ∙ cond-true (has_name (next_batch old es) y.1.key y.1.version) (Some (one_more (copies_at old y.1.key y.1.version))) (copies_at old y.1.key y.1.version) is in
+          ap (λ (o : Option Copies). count_in o == 1 && not (told_in o)) at ∙ two_wants (copies_at old y.1.key y.1.version) one_here ∙ sym (ap (λ (b : Bool). awaits old y && not b) is ∙ and_false (awaits old y))
+      by false isnt =
+          let at = adds y.1.key y.1.version ∙ cond-false (has_name (next_batch old es) y.1.key y.1.version) (Some (one_more (copies_at old y.1.key y.1.version))) (copies_at old y.1.key y.1.version) isnt in
+          ap (λ (o : Option Copies). count_in o == 1 && not (told_in o)) at ∙ sym (ap (λ (b : Bool). awaits old y && not b) isnt ∙ and_true (awaits old y))
+
+  left_is : left_to_copy new es ≡ filter (λ (y : ℕ × Entry). not (in_it y)) (left_to_copy old es)
+  left_is = filter_same (awaits new) (λ y. awaits old y && not (in_it y)) es awaits_now ∙ filter_both (awaits old) (λ y. not (in_it y)) es
+
+  less_by : (f : ℕ × Entry → ℕ) → sum_by f (next_batch old es) + sum_by f (left_to_copy new es) ≤ sum_by f (left_to_copy old es)
+  unfolding in_it
+  less_by f =
+      let L = left_to_copy old es in
+      let all = ap (sum_by f) (filter_all f in_it (next_batch old es) (λ x is. in_named (next_batch old es) x is)) in
+      let a = sum_take f in_it 64 (firsts L) in
+      let b = sum_firsts f in_it L in
+      let both = sum_by-filter_both in_it (λ y. not (in_it y)) (λ y. refl) f L in
+      let left = ap (sum_by f) left_is in
+      omega (arith, all, a, b, both, left)
+
+  pub is_less : IsLess old new es
+  is_less =
+      let n = less_by (λ (x : ℕ × Entry). 1) in
+      let a = sum_ones (next_batch old es) in
+      let b = sum_ones (left_to_copy new es) in
+      let d = sum_ones (left_to_copy old es) in
+      record { entries = omega (arith, n, a, b, d); words = less_by (λ (x : ℕ × Entry). length (words_of x.1)) }
+
+-- where the batch is empty nothing was left
+pub none_awaits : (old : StandingState) (es : List (ℕ × Entry)) (n : ℕ) → n ≡ length (next_batch old es) → n ≡ 0 → left_to_copy old es ≡ []
+none_awaits old es n count zero_is = by (left_to_copy old es) (sym count ∙ zero_is)
+  where
+    by : (xs : List (ℕ × Entry)) → length (take 64 (firsts xs)) ≡ 0 → xs ≡ []
+    by [] none = refl
+    by (x ∷ xs) none = absurd (omega (arith, none))

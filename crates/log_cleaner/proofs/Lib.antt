@@ -1,0 +1,11 @@
+pub mod DropLaws
+pub mod SettledLaws
+pub mod CountLaws
+pub mod GatherLaws
+pub mod Parts
+pub mod ClearLaws
+pub mod Batches
+pub mod CopyLaws
+pub mod ChoiceLaws
+pub mod LessLaws
+pub mod Between

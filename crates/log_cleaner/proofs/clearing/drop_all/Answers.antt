@@ -1,0 +1,5 @@
+use Rattle.log_cleaner.proofs.DropLaws.{dropped_on}
+use Rattle.log_cleaner.proofs.clearing.drop_all.Goals as goal
+
+pub loop-name-preserved : goal.loop-name-preserved
+loop-name-preserved c = dropped_on c.args.standing.now c.loop-name.standing c.drop_one.new.standing c.args.names.now c.loop-name.name-index (record { key = 0; version = 0 }) c.loop-name-test.true c.requires c.loop-name.invariant c.drop_one.ensures

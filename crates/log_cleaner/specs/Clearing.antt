@@ -1,0 +1,46 @@
+-- The names of a chunk, and those that vanish with it.
+use Rattle.std.specs.Prelude.{◌≡◌, ℕ, ◌+◌, ◌≤◌, ◌==◌, ◌&&◌, Bool, List, [], ◌∷◌, ◌++◌, length, if◌then◌else◌}
+use Rattle.log_entry.specs.declared.entry.Entry.{Entry}
+use Rattle.log_entry.specs.declared.entry.EntryName.{EntryName}
+use Rattle.log_standing.specs.NameCounts.{StandingState, bit, count_of, is_told, times_in}
+use Rattle.log_standing.specs.ChunkCounts.{has_name}
+
+-- the chunk, its names, those that vanish with it, and for how many more names there is room
+pub record ClearingState : Type 0 where
+  pub chunk : ℕ
+  pub names : List EntryName
+  pub doomed : List EntryName
+  pub room : ℕ
+
+abbrev pub IsFresh : ClearingState → Type 0
+IsFresh c = (c.names ≡ []) × (c.doomed ≡ [])
+
+-- the name was told dead and stands in one chunk alone
+abbrev pub is_doomed : StandingState → ℕ → ℕ → Bool
+is_doomed st k v = is_told st k v && count_of st k v == 1
+
+-- the list has each name of the entries once, and no other
+abbrev pub HasNames : List EntryName → List (ℕ × Entry) → Type 0
+HasNames ns es = (k v : ℕ) → times_in ns k v ≡ bit (has_name es k v)
+
+-- each name of theirs that was told dead and stands in one chunk alone, once, and no other
+abbrev pub HasDoomed : List EntryName → StandingState → List (ℕ × Entry) → Type 0
+HasDoomed ns st es = (k v : ℕ) → times_in ns k v ≡ bit (has_name es k v && is_doomed st k v)
+
+pub record IsGathered (st : StandingState) (es : List (ℕ × Entry)) (c : ClearingState) : Type 0 where
+  pub names : HasNames c.names es
+  pub doomed : HasDoomed c.doomed st es
+
+-- a name that wasn't noted yet is noted
+pub record NotesNew (st : StandingState) (old new : ClearingState) (n : EntryName) : Type 0 where
+  pub names : new.names ≡ old.names ++ n ∷ []
+  pub doomed : new.doomed ≡ (if is_doomed st n.key n.version then old.doomed ++ n ∷ [] else old.doomed)
+  pub room : new.room + 1 ≡ old.room
+
+-- What is true of the fields between two calls: the set of names seen is that of the list, which has each once; and there is room.
+pub record IsClearing (noted : StandingState) (names doomed : List EntryName) (names_room doomed_room : ℕ) : Type 0 where
+  pub names_fit : length names + noted.room ≤ names_room
+  pub doomed_fit : length names + noted.room ≤ doomed_room
+  pub fewer : length doomed ≤ length names
+  pub seen : (k v : ℕ) → count_of noted k v ≡ times_in names k v
+  pub once : (k v : ℕ) → times_in names k v ≤ 1

@@ -1,0 +1,49 @@
+-- The next batch of a chunk's copies.
+use Rattle.std.specs.Prelude.{◌≡◌, ◌≢◌, ℕ, ◌+◌, ◌≤◌, not, List, [], ◌∷◌, map, length, take, Some, if◌then◌else◌}
+use Rattle.std.specs.List.{filter, flat_map, AllByRecursion}
+use Rattle.pm_region.specs.State.{State}
+use Rattle.log_entry.specs.declared.entry.Entry.{Entry}
+use Rattle.log_entry.specs.Spelling.{words_of, HasSpelling}
+use Rattle.core_log.specs.Log.{LogState, tail_of}
+use Rattle.core_log.specs.Walking.{entries_in}
+use Rattle.log_standing.specs.NameCounts.{StandingState, copies_at, one_more}
+use Rattle.log_standing.specs.ChunkCounts.{is_named, has_name}
+use Rattle.log_cleaner.specs.Copying.{left_to_copy, words_sum}
+
+-- of equal entries the first
+abbrev pub firsts : List (ℕ × Entry) → List (ℕ × Entry)
+firsts [] = []
+firsts (x ∷ xs) = x ∷ filter (λ y. not (is_named x.1.key x.1.version y)) (firsts xs)
+
+-- the next entries by place that are still to be copied, equal ones once: 64 of them, or all
+abbrev pub next_batch : StandingState → List (ℕ × Entry) → List (ℕ × Entry)
+next_batch st es = take 64 (firsts (left_to_copy st es))
+
+abbrev pub entries_of : List (ℕ × Entry) → List Entry
+entries_of xs = map (λ x. x.1) xs
+
+abbrev pub batch_in : State → LogState → StandingState → ℕ → List (ℕ × Entry)
+batch_in s log st j = next_batch st (entries_in s log j)
+
+-- each name of these entries has one copy more
+abbrev pub Adds : StandingState → StandingState → List (ℕ × Entry) → Type 0
+Adds old new xs = (k v : ℕ) → copies_at new k v ≡ (if has_name xs k v then Some (one_more (copies_at old k v)) else copies_at old k v)
+
+-- the batch was collected: so many entries, their words, and the names that have a second copy now
+pub record Collected (old new : StandingState) (batch : List (ℕ × Entry)) (count : ℕ) (words : List ℕ) : Type 0 where
+  pub count_is : count ≡ length batch
+  pub words_are : words ≡ flat_map words_of (entries_of batch)
+  pub adds : Adds old new batch
+  pub spelled : AllByRecursion HasSpelling (entries_of batch)
+
+-- a chunk got entries, and no other one's tail moved
+pub record SameElse (old new : LogState) (j : ℕ) : Type 0 where
+  pub layout : new.layout ≡ old.layout
+  pub part : new.part ≡ old.part
+  pub opened : new.opened ≡ old.opened
+  pub tails : (i : ℕ) → i ≢ j → tail_of new.chunks i ≡ tail_of old.chunks i
+
+-- what is left to be copied is less by the batch, in entries and in words
+pub record IsLess (old new : StandingState) (es : List (ℕ × Entry)) : Type 0 where
+  pub entries : length (next_batch old es) + length (left_to_copy new es) ≤ length (left_to_copy old es)
+  pub words : words_sum (next_batch old es) + words_sum (left_to_copy new es) ≤ words_sum (left_to_copy old es)

@@ -1,0 +1,6 @@
+pub mod Copying
+pub mod Dropping
+pub mod Clearing
+pub mod ImagesBeside
+pub mod CopyBatch
+pub mod Choosing

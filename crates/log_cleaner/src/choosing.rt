@@ -1,0 +1,124 @@
+// Which chunk is cleaned next.
+ghost use Rattle.std.specs.Prelude.{◌≡◌, ◌≢◌, ℕ, ◌+◌, ◌*◌, ◌/◌, ◌^◌, ◌≤◌, ◌<◌, nat_le, true, is_some, Some, None, Option, IfOk};
+ghost use Rattle.pm_region.specs.State.{IsTelling};
+ghost use Rattle.core_log.specs.Log.{StandsIn, tail_of};
+ghost use Rattle.log_cleaner.specs.Copying.{IsUpToDate};
+ghost use Rattle.log_cleaner.specs.Choosing.{copy_lines, fits, IsCandidate, IsFirstIn, IsVictim};
+
+use crate::beginning::tail_of;
+use crate::counting::to_copy;
+use crate::types::Victim;
+use core_log::{CoreLog, Room};
+use fs_errors::Memory;
+use log_standing::Standing;
+use pm_region::Region;
+use std::alloc::Global;
+
+// No part has more chunks.
+const CHUNKS: u32 = 64;
+
+// The lines that the copies take at most.
+fn copy_lines(victim: Victim) -> u64
+    requires words { victim.words ≤ 2 ^ 32 }
+    requires entries { victim.entries ≤ 2 ^ 32 }
+    ensures { result ≡ copy_lines victim }
+{
+    (victim.words + 7) / 8 + (victim.entries + 63) / 64
+}
+
+// Whether the open chunk has so many lines besides what is promised.
+fn has_lines(room: &Room, lines: u64) -> bool
+    ensures { result ≡ nat_le (room.now.pledged_lines + lines) room.now.open_lines }
+{
+    lines <= room.open_lines && room.pledged_lines <= room.open_lines - lines
+}
+
+// Whether there is room for the copies.
+fn fits(room: &Room, victim: Victim) -> bool
+    requires words { victim.words ≤ 2 ^ 32 }
+    requires entries { victim.entries ≤ 2 ^ 32 }
+    ensures { result ≡ fits room.now victim }
+{
+    let lines = copy_lines(victim);
+    3 * lines <= room.payload_lines && (has_lines(room, lines) || room.free_chunks >= 1)
+}
+
+// What is to be copied of a chunk, where it is one to be cleaned.
+fn candidate<R: Region>(
+    region: &R,
+    log: &CoreLog,
+    standing: &Standing,
+    room: &Room,
+    chunk: u32,
+) -> Option<Victim>
+    requires stands { StandsIn (R.state region.now) log.now }
+    requires standing { IsTelling (R.state region.now) → IsUpToDate (R.state region.now) log.now standing.now }
+    ensures { IsTelling (R.state region.now) → IsCandidate (R.state region.now) log.now standing.now room.now chunk result }
+{
+    if log.opened() == Some(chunk) || tail_of(log, chunk).is_none() {
+        return None;
+    }
+    let victim = to_copy(region, log, standing, chunk);
+    if fits(room, victim) {
+        Some(victim)
+    } else {
+        None
+    }
+}
+
+// The first of some chunk numbers that is one to be cleaned.
+fn first_in<R: Region>(
+    region: &R,
+    log: &CoreLog,
+    standing: &Standing,
+    room: &Room,
+    low: u32,
+    high: u32,
+) -> Option<Victim>
+    requires stands { StandsIn (R.state region.now) log.now }
+    requires standing { IsTelling (R.state region.now) → IsUpToDate (R.state region.now) log.now standing.now }
+    ensures { IsTelling (R.state region.now) → IsFirstIn (R.state region.now) log.now standing.now room.now low high result }
+{
+    for chunk in low..high {
+        if let Some(victim) = candidate(region, log, standing, room, chunk) {
+            return Some(victim);
+        }
+    }
+    None
+}
+
+// The chunk number at which the search begins.
+fn begin_at(after: Option<u32>) -> u32
+    ensures none { after ≡ None → result ≡ 0 }
+    ensures some { (a : ℕ) → after ≡ Some a → a < 64 → result ≡ a + 1 }
+    ensures past { (a : ℕ) → after ≡ Some a → 64 ≤ a → result ≡ 64 }
+{
+    match after {
+        None => 0,
+        Some(a) => { if a < CHUNKS { a + 1 } else { CHUNKS } }
+    }
+}
+
+/// The chunk that is to be cleaned next, with what is still to be copied of it: of those chunks of the log that are
+/// not open and for whose copies there is room, the one that comes first behind the last victim in cyclic order; none
+/// exactly where there is no such chunk. Each chunk is read once at most.
+pub fn victim<R: Region>(
+    alloc: Global,
+    region: &R,
+    log: &CoreLog,
+    standing: &Standing,
+    after: Option<u32>,
+    room: &Room,
+) -> Result<Option<Victim>, Memory>
+    requires stands { StandsIn (R.state region.now) log.now }
+    requires standing { IsTelling (R.state region.now) → IsUpToDate (R.state region.now) log.now standing.now }
+    ensures { IfOk result (λ found. IsTelling (R.state region.now) → IsVictim (R.state region.now) log.now standing.now after room.now found) }
+{
+    let _ = alloc;
+    let begin = begin_at(after);
+    if let Some(found) = first_in(region, log, standing, room, begin, CHUNKS) {
+        return Ok(Some(found));
+    }
+    let found = first_in(region, log, standing, room, 0, begin);
+    Ok(found)
+}

@@ -1,0 +1,19 @@
+//! Cleaning of a core's own log: what of a chunk is still needed is copied, and the chunk is given up.
+#![tactic(auto)]
+
+mod beginning;
+mod choosing;
+mod clearing;
+mod collecting;
+mod copying;
+mod counting;
+#[cfg(test)]
+mod tests;
+mod types;
+
+pub use choosing::victim;
+pub use clearing::Clearing;
+pub use copying::copy_live;
+pub use counting::to_copy;
+pub use log_standing::Standing;
+pub use types::{Cleared, Victim};
