@@ -1,0 +1,4 @@
+pub mod TakenLaws
+pub mod CollectLaws
+pub mod Steps
+pub mod WithdrawLaws

@@ -1,0 +1,59 @@
+use Rattle.std.proofs.Common.{◌≡◌, ◌≢◌, ℕ, ◌+◌, ◌-◌, ◌≤◌, ◌<◌, ◌==◌, Bool, if◌then◌else◌, List, [], ◌++◌, length, refl, sym, ◌∙◌, ap, subst, arith, length-append}
+use Rattle.core_log.specs.Chunk.{lines_for}
+use Rattle.log_entry.specs.Spelling.{words_of}
+use Rattle.group_laws.specs.Places.{members}
+use Rattle.batch_leader.specs.declared.taken.Taken.{Taken}
+use Rattle.batch_leader.specs.Rounds.{space, goes_fresh, words_in, member_at, slot_at, fits, own_lines}
+use Rattle.batch_leader.specs.TakenChanges.{spelled}
+use Rattle.batch_leader.specs.Leading.{HasSpace}
+use Rattle.batch_leader.proofs.CollectLaws.{spelled_more, collects_more, fits_suits, member_low}
+use Rattle.batch_leader.proofs.states.Collecting.take_here.Goals as goal
+
+pub returns-clause-collects : goal.returns-clause-collects
+returns-clause-collects g c =
+    let long : length (words_of c.take-change.result.entry) ≡ c.args.count = c.take-change.ensures.words c.args.count c.requires.seen in
+    let t : Taken = record { member = c.args.member; slot = c.args.slot; change = c.take-change.result } in
+    collects_more (g.B.Board.seat c.args.board.now) (g.B.Board.view c.args.board.now) (g.B.Board.view c.take-change.new.self) c.args.self.now _ t
+      c.requires.collects c.requires.whole c.requires.few c.requires.within c.add.ensures refl
+      (ap (λ (n : ℕ). c.args.self.now.own_lines + n) (c.own_share-lines.ensures.share ∙ (λ i. if c.args.member == c.requires.own i then lines_for (sym long i) else 0)))
+      (omega (arith, long, c.requires.short)) c.requires.member c.requires.slot c.take-change.ensures.spelled c.take-change.ensures.view
+
+pub returns-clause-suits : goal.returns-clause-suits
+returns-clause-suits g c some =
+    let long : length (words_of c.take-change.result.entry) ≡ c.args.count = c.take-change.ensures.words c.args.count c.requires.seen in
+    let ts = c.args.self.now.changes.taken.items in
+    let total : words_in c.add.new.self.taken.items ≡ words_in ts + c.args.count =
+      ap words_in c.add.ensures ∙ ap length (spelled_more ts (record { member = c.args.member; slot = c.args.slot; change = c.take-change.result })) ∙ length-append (spelled ts) (words_of c.take-change.result.entry) ∙ ap (λ (n : ℕ). words_in ts + n) long in
+    let fresh = c.goes_fresh-fresh.ensures in
+    let fit = fits_suits c.args.room.now c.args.self.now.own_lines ts c.args.self.now.fresh (c.args.member == c.args.own) c.args.count c.requires.room c.requires.short c.requires.fits in
+    subst (HasSpace c.args.room.now c.goes_fresh-fresh.result) (sym total) (subst (λ (b : Bool). HasSpace c.args.room.now b (words_in ts + c.args.count)) (sym fresh) fit)
+
+pub returns-clause-takes : goal.returns-clause-takes
+returns-clause-takes g c =
+    let long : length (words_of c.take-change.result.entry) ≡ c.args.count = c.take-change.ensures.words c.args.count c.requires.seen in
+    let back : c.args.self.now.at + 1 - 1 ≡ c.args.self.now.at = omega arith in
+    record {
+      change = record { member = c.args.member; slot = c.args.slot; change = c.take-change.result };
+      taken = c.add.ensures;
+      some = omega arith;
+      member = c.requires.member ∙ ap (member_at (g.B.Board.seat c.args.board.now).number) (sym back);
+      slot = c.requires.slot ∙ ap slot_at (sym back);
+      fits = (λ i. fits c.args.room.now (sym c.requires.collects.own i) c.args.self.now.changes.taken.items c.args.self.now.fresh (c.args.member == sym c.requires.own i) (long i)) ∙ c.requires.fits;
+      fresh = c.goes_fresh-fresh.ensures ∙ ap (goes_fresh c.args.room.now c.args.self.now.changes.taken.items c.args.self.now.fresh) (sym long);
+      home = c.take-change.ensures.change;
+      over = refl;
+      view = c.take-change.ensures.view;
+    }
+
+pub take-change-requires : goal.take-change-requires
+take-change-requires g c =
+    let p = (g.B.Board.seat c.args.board.now).place in
+    let m = (g.B.Board.seat c.args.board.now).number in
+    record {
+      member = c.requires.collects.member;
+      target = subst (λ (a : ℕ). a < members p) (sym c.requires.member) (member_low m c.args.self.now.at (members p) c.requires.collects.member c.requires.within);
+      slot = let at = c.requires.slot in omega (arith, at);
+      holds = c.requires.collects.holds;
+      whole = c.requires.whole;
+      seen = (c.args.count, c.requires.seen);
+    }

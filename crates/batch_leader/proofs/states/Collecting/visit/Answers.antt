@@ -1,0 +1,61 @@
+use Rattle.std.proofs.Common.{◌≡◌, ◌≢◌, ◌⊎◌, inl, inr, ⊎_elim, ℕ, ◌+◌, ◌-◌, ◌≤◌, ◌<◌, ◌==◌, Bool, true, false, List, [], ◌∷◌, ◌++◌, length, Option, Some, None, refl, sym, ◌∙◌, ap, subst, arith}
+use Rattle.store_image.specs.Facts.{In}
+use Rattle.group_laws.specs.declared.types.Seen.{Seen}
+use Rattle.group_laws.specs.declared.types.Seen.TheVariants as loads
+use Rattle.group_laws.specs.declared.types.SlotWord.{SlotWord}
+use Rattle.group_laws.specs.declared.types.SlotWord.TheVariants as words
+use Rattle.group_laws.specs.Places.{members}
+use Rattle.std.specs.Prelude.{IfSome}
+use Rattle.group_laws.specs.State.{Group, shown}
+use Rattle.group_laws.proofs.Puts.{In-append_right}
+use Rattle.group_laws.specs.MemberViews.{View}
+use Rattle.group_board.specs.Views.{after_find}
+use Rattle.group_board.specs.Told.{state_of}
+use Rattle.group_board.specs.declared.board.SlotState.{SlotState}
+use Rattle.group_board.specs.declared.board.SlotState.TheVariants.{Empty, Posted, Taken, Done, Failed}
+use Rattle.batch_leader.specs.Rounds.{member_at, slot_at, own_lines, fits, Passes, shown_at}
+use Rattle.batch_leader.specs.Leading.{Collects, Found}
+use Rattle.batch_leader.proofs.CollectLaws.{collects_past, member_low}
+use Rattle.batch_leader.proofs.Steps.{found_at, posted_word}
+use Rattle.batch_leader.proofs.states.Collecting.visit.Goals as goal
+
+pub look-found-requires : goal.look-found-requires
+look-found-requires g c =
+    let p = (g.B.Board.seat c.args.board.now).place in
+    let m = (g.B.Board.seat c.args.board.now).number in
+    let own = c.member-own.ensures in
+    record {
+      member = c.requires.collects.member;
+      target = subst (λ (a : ℕ). a < members p) (sym (c.member_at-member.ensures ∙ ap (λ (x : ℕ). member_at x c.args.self.now.at) own)) (member_low m c.args.self.now.at (members p) c.requires.collects.member c.requires.within);
+      slot = let at = c.slot_at-slot.ensures in omega (arith, at);
+    }
+
+pub take_here-requires-clause-seen : goal.take_here-requires-clause-seen
+take_here-requires-clause-seen g c =
+    let seen = c.look-found.ensures.view in
+    let is = posted_word seen.0 c.in-Some.count (seen.1 ∙ c.in-Some.ensures.posted) in
+    subst (λ (u : View). In (loads.Slot c.member_at-member.result c.slot_at-slot.result (words.Posted c.in-Some.count)) u.looked) (sym seen.2)
+      (subst (λ (w : SlotWord). In (loads.Slot c.member_at-member.result c.slot_at-slot.result (words.Posted c.in-Some.count)) ((g.B.Board.view c.args.board.now).looked ++ loads.Slot c.member_at-member.result c.slot_at-slot.result w ∷ [])) (sym is)
+        (In-append_right _ (g.B.Board.view c.args.board.now).looked _ (inl refl)))
+
+pub returns-in-None-clause-collects : goal.returns-in-None-clause-collects
+returns-in-None-clause-collects g c =
+    let seen = c.look-found.ensures.view in
+    collects_past (g.B.Board.seat c.args.board.now) (g.B.Board.view c.args.board.now) (g.B.Board.view c.look-found.new.self) c.args.self.now _ c.requires.collects c.requires.within refl refl refl
+      (ap (λ (u : View). u.taken) seen.2) (ap (λ (u : View). u.holds) seen.2) (ap (λ (u : View). u.flying) seen.2) (ap (λ (u : View). u.broken) seen.2)
+
+pub returns-in-None-clause-went : goal.returns-in-None-clause-went
+returns-in-None-clause-went g c =
+    let seen = c.look-found.ensures.view in
+    let own = c.member-own.ensures in
+    let m = (g.B.Board.seat c.args.board.now).number in
+    let old = c.args.self.now in
+    (record { changes = refl; fresh = refl; own = refl; view = (_, seen.2) },
+     λ i low high.
+      let here : i ≡ old.at = omega (arith, low, high) in
+      let who : c.member_at-member.result ≡ member_at m i = c.member_at-member.ensures ∙ (λ t. member_at (own t) (sym here t)) in
+      let which : c.slot_at-slot.result ≡ slot_at i = c.slot_at-slot.ensures ∙ ap slot_at (sym here) in
+      (c.look-found.result,
+       (subst (λ (n : ℕ). Passes c.args.room.now n old.changes.taken.items old.fresh (member_at m i == m) c.look-found.result) c.requires.collects.own
+         (subst (λ (b : Bool). Passes c.args.room.now old.own_lines old.changes.taken.items old.fresh b c.look-found.result) (λ t. who t == own t) c.in-None.ensures)),
+       found_at (g.B.Board.whole c.args.board.now) c.member_at-member.result c.slot_at-slot.result m i c.look-found.result who which c.look-found.ensures.stood))

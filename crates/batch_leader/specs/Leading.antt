@@ -1,0 +1,168 @@
+-- The states of a leader, and what the view of its member has in each. `seat` is where the member sits.
+use Rattle.std.specs.Prelude.{◌≡◌, ◌≢◌, ◌⊎◌, ℕ, zero, suc, ◌+◌, ◌-◌, ◌*◌, ◌<◌, ◌≤◌, ◌==◌, Bool, true, false, List, [], ◌∷◌, ◌++◌, length, Option, Some, None, IfSome, IsSomeAnd}
+use Rattle.std.specs.List.{AllByRecursion}
+use Rattle.log_entry.specs.declared.entry.Entry.{Entry}
+use Rattle.log_entry.specs.Spelling.{words_of}
+use Rattle.store_image.specs.Facts.{In}
+use Rattle.core_log.specs.declared.types.Room.{Room}
+use Rattle.core_log.specs.Chunk.{lines_for}
+use Rattle.group_laws.specs.declared.types.Seen.{Seen}
+use Rattle.group_laws.specs.Places.{members}
+use Rattle.group_laws.specs.State.{Group}
+use Rattle.group_laws.specs.MemberViews.{View, view_of}
+use Rattle.group_laws.specs.Runs.{Kind, Runs}
+use Rattle.group_laws.specs.Runs.Kind.{Look, Take, Withdraw}
+use Rattle.group_board.specs.Seats.{SeatAt}
+use Rattle.group_board.specs.Views.{after_take, after_withdraw}
+use Rattle.group_board.specs.declared.board.SlotState.{SlotState}
+use Rattle.group_board.specs.declared.board.SlotState.TheVariants as slots
+use Rattle.crash_core.specs.declared.kinds.Change.{Change}
+use Rattle.batch_leader.specs.declared.taken.Taken.{Taken}
+use Rattle.batch_leader.specs.declared.states.Collecting.{Collecting}
+use Rattle.batch_leader.specs.declared.states.Batch.{Batch}
+use Rattle.batch_leader.specs.declared.states.Collected.{Collected}
+use Rattle.batch_leader.specs.declared.states.Collected.TheVariants.{Took, RoundOver}
+use Rattle.batch_leader.specs.declared.states.Released.{Released}
+use Rattle.batch_leader.specs.declared.states.Released.TheVariants as released
+use Rattle.batch_leader.specs.TakenChanges.{entries_in, HasOut}
+use Rattle.batch_leader.specs.Rounds.{member_at, slot_at, round_end, own_lines, words_in, space, fits, goes_fresh, Passes, shown_at}
+
+-- what was taken so far
+abbrev pub taken_by : Collecting → List Taken
+taken_by c = c.changes.taken.items
+
+-- the change is from a slot that the round of m has passed
+abbrev pub IsFrom : ℕ → ℕ → Taken → Type 0
+IsFrom m at t = (i : ℕ) × (i < at) × (t.member ≡ member_at m i) × (t.slot ≡ slot_at i)
+
+-- The leader has the lock, and all that it took since is in its hands and in flight. Who is broken takes nothing.
+pub record Collects (seat : SeatAt) (v : View) (c : Collecting) : Type 0 where
+  pub member : seat.number < members seat.place
+  pub holds : v.holds ≡ true
+  pub out : HasOut seat.place v (taken_by c)
+  pub flying : v.broken ≡ false → v.flying ≡ entries_in (taken_by c)
+  pub broken : v.broken ≡ true → taken_by c ≡ []
+  pub passed : AllByRecursion (IsFrom seat.number c.at) (taken_by c)
+  pub within : c.at ≤ round_end seat.place
+  pub own : c.own_lines ≡ own_lines seat.number (taken_by c)
+  pub own_few : c.own_lines ≤ 5 * length (taken_by c)
+
+-- There is a chunk with room for so many words.
+abbrev pub HasSpace : Room → Bool → ℕ → Type 0
+HasSpace room fresh n = (lines_for n ≤ space room fresh) × (fresh ≡ true → 0 < room.free_chunks)
+
+-- The entries have room in the batch's chunk, as this room tells it.
+abbrev pub Suits : Room → Collecting → Type 0
+Suits room c = taken_by c ≢ [] → HasSpace room c.fresh (words_in (taken_by c))
+
+-- looks of member m at n slots of its round, from a position on
+abbrev pub looks_upto : ℕ → ℕ → ℕ → List (ℕ × Kind)
+looks_upto m at zero = []
+looks_upto m at (suc n) = looks_upto m at n ++ (m, Look (member_at m (at + n)) (slot_at (at + n))) ∷ []
+
+-- These steps lead from the one told state to the other, where member m's view is v.
+abbrev pub MakesAll : Option Group → List (ℕ × Kind) → Option Group → ℕ → View → Type 0
+MakesAll before steps after m v = IfSome before (λ w. IsSomeAnd after (λ u. Runs w steps u × (v ≡ view_of u m)))
+
+-- nothing but what was looked at differs
+abbrev pub HasLooked : View → View → Type 0
+HasLooked old new = (xs : List Seen) × (new ≡ record old { looked = xs })
+
+-- what a look found at a position of m's round, where the state is told
+abbrev pub Found : Option Group → ℕ → ℕ → SlotState → Type 0
+Found before m i x = IfSome before (λ w. shown_at w m i ≡ x)
+
+-- the entry that a look found fits, and has so many words
+pub record Fits (room : Room) (lines : ℕ) (ts : List Taken) (fresh mine : Bool) (x : SlotState) (n : ℕ) : Type 0 where
+  pub posted : x ≡ slots.Posted n
+  pub short : n ≤ 34
+  pub fits : fits room lines ts fresh mine n ≡ true
+
+-- The leader took the change of the slot at the position before `new.at`, which fits.
+pub record Takes (room : Room) (m : ℕ) (v v' : View) (old new : Collecting) : Type 0 where
+  pub change : Taken
+  pub taken : taken_by new ≡ taken_by old ++ change ∷ []
+  pub some : 0 < new.at
+  pub member : change.member ≡ member_at m (new.at - 1)
+  pub slot : change.slot ≡ slot_at (new.at - 1)
+  pub home : change.change.home ≡ None
+  pub fits : fits room (own_lines m (taken_by old)) (taken_by old) old.fresh (change.member == m) (length (words_of change.change.entry)) ≡ true
+  pub fresh : new.fresh ≡ goes_fresh room (taken_by old) old.fresh (length (words_of change.change.entry))
+  pub over : new.over ≡ false
+  pub view : v' ≡ after_take change.member change.slot change.change.entry v
+
+-- The leader took nothing.
+pub record Keeps (v v' : View) (old new : Collecting) : Type 0 where
+  pub changes : new.changes ≡ old.changes
+  pub fresh : new.fresh ≡ old.fresh
+  pub own : new.own_lines ≡ old.own_lines
+  pub view : HasLooked v v'
+
+-- Each slot that it passed it found not Posted, or with an entry that doesn't fit.
+abbrev pub Passed : Option Group → Room → ℕ → Collecting → ℕ → Type 0
+Passed before room m old end =
+    (i : ℕ) → old.at ≤ i → i < end → (x : SlotState) × Passes room (own_lines m (taken_by old)) (taken_by old) old.fresh (member_at m i == m) x × Found before m i x
+
+-- Of the slots of its round it passed some, and took the change of the next one where `took` says so.
+abbrev pub Went : Bool → Option Group → Room → ℕ → View → View → Collecting → Collecting → Type 0
+Went true before room m v v' old new = Takes room m v v' old new × Passed before room m old (new.at - 1)
+Went false before room m v v' old new = Keeps v v' old new × Passed before room m old new.at
+
+-- the steps of this: looks, and one take
+abbrev pub steps_of : Bool → ℕ → Collecting → Collecting → List (ℕ × Kind)
+steps_of true m old new = looks_upto m old.at (new.at - old.at) ++ (m, Take (member_at m (new.at - 1)) (slot_at (new.at - 1))) ∷ []
+steps_of false m old new = looks_upto m old.at (new.at - old.at)
+
+abbrev pub took : Collected → Bool
+took Took = true
+took RoundOver = false
+
+-- the round is over: its last slot is behind, or 64 entries are there
+abbrev pub IsOver : SeatAt → Collecting → Type 0
+IsOver seat c = (c.at ≡ round_end seat.place) ⊎ (length (taken_by c) ≡ 64)
+
+-- Own slots are the first 8 of the round. Those below a number were found not Posted.
+abbrev pub IsNotPosted : SlotState → Type 0
+IsNotPosted x = (n : ℕ) → x ≢ slots.Posted n
+
+abbrev pub NonePosted : Option Group → ℕ → ℕ → Type 0
+NonePosted before m end = (i : ℕ) → i < end → (x : SlotState) × IsNotPosted x × Found before m i x
+
+-- The own change of a slot was taken back, which was the lowest one found Posted.
+pub record TakesBack (before after : Option Group) (m : ℕ) (v v' : View) (change : Change) : Type 0 where
+  pub slot : ℕ
+  pub within : slot < 8
+  pub lower : NonePosted before m slot
+  pub home : change.home ≡ None
+  pub pending : v.pending change.entry.key ≡ Some (record { entry = change.entry; slot = Some slot })
+  pub view : v' ≡ after_withdraw change.entry v
+  pub made : MakesAll before (looks_upto m 0 (slot + 1) ++ (m, Withdraw slot) ∷ []) after m v'
+
+-- No own slot was found Posted.
+pub record FindsNone (before after : Option Group) (m : ℕ) (v v' : View) : Type 0 where
+  pub none : NonePosted before m 8
+  pub view : HasLooked v v'
+  pub made : MakesAll before (looks_upto m 0 8) after m v'
+
+-- A batch that is to be written: its entries are in flight, in this order, and the lock is given back.
+pub record IsBatchOf (seat : SeatAt) (v : View) (b : Batch) : Type 0 where
+  pub member : seat.number < members seat.place
+  pub out : HasOut seat.place v b.changes.taken.items
+  pub flying : v.flying ≡ entries_in b.changes.taken.items
+  pub whole : v.broken ≡ false
+
+-- Changes to be given back as certain, and as failed.
+pub record IsCertain (seat : SeatAt) (v : View) (ts : List Taken) : Type 0 where
+  pub member : seat.number < members seat.place
+  pub out : HasOut seat.place v ts
+  pub kept : AllByRecursion (λ t. In t.change.entry v.kept) ts
+
+pub record IsLost (seat : SeatAt) (v : View) (ts : List Taken) : Type 0 where
+  pub member : seat.number < members seat.place
+  pub out : HasOut seat.place v ts
+  pub flying : AllByRecursion (λ t. In t.change.entry v.flying) ts
+
+-- What is left of a leader that gave the lock back: a batch of all that it took, or its room where it took nothing.
+abbrev pub IsReleased : SeatAt → View → Collecting → Released → Type 0
+IsReleased seat v c (released.Batch b) = IsBatchOf seat v b × (b.changes ≡ c.changes) × (b.fresh ≡ c.fresh)
+IsReleased seat v c (released.Nothing b) = (taken_by c ≡ []) × (v.broken ≡ false → v.flying ≡ []) × ((a s : ℕ) → v.taken a s ≡ None)

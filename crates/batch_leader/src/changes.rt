@@ -1,0 +1,89 @@
+// What a leader took, until it is written.
+ghost use Rattle.std.specs.Prelude.{◌≡◌, ◌≢◌, ℕ, ◌+◌, ◌*◌, ◌≤◌, ◌<◌, List, [], ◌∷◌, ◌++◌, length, vec_capacity, MatchOption};
+ghost use Rattle.log_entry.specs.Spelling.{words_of, HasSpelling};
+ghost use Rattle.batch_leader.specs.TakenChanges.{name_in, spelled, MatchBool};
+
+use crate::buffer::BatchBuffer;
+use crate::taken::Taken;
+use crash_core::Change;
+use log_entry::{EntryName, WordBuffer, entry_words, write_entry};
+
+/// The changes that a leader took, in order, with the words of their entries.
+#[derive(Drop)]
+pub struct Changes {
+    pub taken: Vec<Taken>,
+    pub words: WordBuffer,
+    ghost places: { 64 ≤ vec_capacity taken },
+    ghost room: { 2176 ≤ words.room },
+    ghost few: { length taken.items ≤ 64 },
+    ghost short: { length words.words ≤ 34 * length taken.items },
+    ghost written: { words.words ≡ spelled taken.items },
+}
+
+impl Changes {
+    /// No change yet.
+    pub fn none(buffer: BatchBuffer) -> Changes
+        ensures { result.taken.items ≡ [] }
+    {
+        let BatchBuffer { taken, words } = buffer;
+        Changes { taken, words }
+    }
+
+    /// The room, where nothing was taken.
+    pub fn into_buffer(self) -> BatchBuffer
+        requires { self.taken.items ≡ [] }
+    {
+        let Changes { taken, mut words } = self;
+        words.clear();
+        BatchBuffer { taken, words }
+    }
+
+    pub fn count(&self) -> u32
+        ensures { result ≡ length self.now.taken.items }
+    {
+        self.taken.len() as u32
+    }
+
+    pub fn is_empty(&self) -> bool
+        ensures { MatchBool result (self.now.taken.items ≡ []) (self.now.taken.items ≢ []) }
+    {
+        self.taken.is_empty()
+    }
+
+    pub fn word_count(&self) -> u64
+        ensures count { result ≡ length (spelled self.now.taken.items) }
+        ensures few { result ≤ 2176 }
+    {
+        self.words.words().len() as u64
+    }
+
+    /// Appends a change, with the words of its entry.
+    pub fn add(&mut self, member: u32, slot: u32, change: Change)
+        requires few { length self.old.taken.items < 64 }
+        requires spelled { HasSpelling change.entry }
+        ensures { self.new.taken.items
+            ≡ self.old.taken.items ++ (record { member = member; slot = slot; change = change }) ∷ [] }
+    {
+        let _words = entry_words(&change.entry);
+        write_entry(&change.entry, &mut self.words);
+        let taken = Taken {
+            member,
+            slot,
+            change,
+        };
+        self.taken.push(taken).unwrap();
+    }
+
+    /// The name of the entry with this number, counted from 0, and none exactly past the last one.
+    pub fn name_at(&self, at: u64) -> Option<EntryName>
+        ensures { result ≡ name_in self.now.taken.items at }
+    {
+        match self.taken.get(at as usize) {
+            None => None,
+            Some(taken) => Some(EntryName {
+                key: taken.change.entry.key,
+                version: taken.change.entry.version,
+            }),
+        }
+    }
+}

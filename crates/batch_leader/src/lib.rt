@@ -1,0 +1,21 @@
+//! Leading a group: collecting posted changes under the lock, writing them as one batch into the own log, and giving
+//! them back. Each state is a type of its own: only `Collecting` has the lock, and only its `release` makes a `Batch`,
+//! so nothing is written under the lock.
+#![tactic(auto)]
+
+mod buffer;
+mod changes;
+mod collecting;
+mod fitting;
+mod giving;
+mod persisting;
+mod returning;
+mod round;
+mod starting;
+mod states;
+mod taken;
+mod withdrawing;
+
+pub use buffer::BatchBuffer;
+pub use starting::lead;
+pub use states::{Batch, Collected, Collecting, FailedBatch, NotLeading, Persisted, Released};

@@ -1,0 +1,54 @@
+// What a leader has to give back, after its batch was written or could not be written.
+ghost use Rattle.std.specs.Prelude.{◌≡◌, ◌≢◌, ◌≤◌, [], ◌∷◌, vec_capacity, MatchOption};
+ghost use Rattle.batch_leader.specs.TakenChanges.{MatchBool};
+
+use crate::buffer::BatchBuffer;
+use crate::changes::Changes;
+use crate::taken::Taken;
+use log_entry::WordBuffer;
+
+/// Changes that are to be given back, in order.
+#[derive(Drop)]
+pub struct Returning {
+    pub taken: Vec<Taken>,
+    pub words: WordBuffer,
+    ghost places: { 64 ≤ vec_capacity taken },
+    ghost room: { 2176 ≤ words.room },
+}
+
+impl Returning {
+    pub fn all(changes: Changes) -> Returning
+        ensures { result.taken.items ≡ changes.taken.items }
+    {
+        let Changes { taken, words } = changes;
+        Returning { taken, words }
+    }
+
+    /// Takes the first change out. None exactly where none is left.
+    pub fn take_first(&mut self) -> Option<Taken>
+        ensures { MatchOption result
+            ((self.old.taken.items ≡ []) × (self.new ≡ self.old))
+            (λ t. self.old.taken.items ≡ t ∷ self.new.taken.items) }
+    {
+        if self.taken.is_empty() {
+            None
+        } else {
+            Some(self.taken.remove(0))
+        }
+    }
+
+    pub fn is_empty(&self) -> bool
+        ensures { MatchBool result (self.now.taken.items ≡ []) (self.now.taken.items ≢ []) }
+    {
+        self.taken.is_empty()
+    }
+
+    /// The room, once nothing is left.
+    pub fn into_buffer(self) -> BatchBuffer
+        requires { self.taken.items ≡ [] }
+    {
+        let Returning { taken, mut words } = self;
+        words.clear();
+        BatchBuffer { taken, words }
+    }
+}

@@ -1,0 +1,61 @@
+// The states of a leader.
+ghost use Rattle.std.specs.Prelude.{◌≢◌, []};
+
+use crate::buffer::BatchBuffer;
+use crate::changes::Changes;
+use crate::returning::Returning;
+
+/// A leader that has the lock and collects.
+#[derive(Drop)]
+pub struct Collecting {
+    pub(crate) changes: Changes,
+    /// The position in the round.
+    pub(crate) at: u32,
+    /// Whether the batch is for a fresh chunk.
+    pub(crate) fresh: bool,
+    /// The lines of the own entries among those taken, each by itself.
+    pub(crate) own_lines: u64,
+    /// Whether the lock may be given back: the round is over, or nothing was taken and no own slot was found Posted.
+    pub(crate) over: bool,
+}
+
+/// What a call of `collect` did.
+#[derive(Clone, Copy, Debug, PartialEq, Eq)]
+pub enum Collected {
+    Took,
+    RoundOver,
+}
+
+/// Another member has the lock.
+#[derive(Drop)]
+pub struct NotLeading {
+    pub buffer: BatchBuffer,
+    pub holder: u32,
+}
+
+/// What a leader has that gave the lock back.
+#[derive(Drop)]
+pub enum Released {
+    Batch(Batch),
+    Nothing(BatchBuffer),
+}
+
+/// Changes that were taken, and are to be written. The lock is given back.
+#[derive(Drop)]
+pub struct Batch {
+    pub(crate) changes: Changes,
+    pub(crate) fresh: bool,
+    ghost some: { changes.taken.items ≢ [] },
+}
+
+/// Changes that are certain in the own log, and are to be given back.
+#[derive(Drop)]
+pub struct Persisted {
+    pub(crate) left: Returning,
+}
+
+/// Changes that could not be written, and are to be given back.
+#[derive(Drop)]
+pub struct FailedBatch {
+    pub(crate) left: Returning,
+}
