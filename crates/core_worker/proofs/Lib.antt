@@ -1,0 +1,15 @@
+mod LeadTies
+mod Led
+mod Giving
+mod Rounds
+mod Writing
+mod Made
+mod Quiet
+mod Posts
+mod PostedBlocks
+mod BlockStands
+mod BlockPosts
+mod BlockClear
+mod HandKeys
+mod Aside
+mod QuietMoves

@@ -1,0 +1,13 @@
+//! One core: it accepts requests for its keys, and works them off in turns.
+#![tactic(auto)]
+
+mod gate;
+mod leading;
+mod posting;
+mod types;
+mod worker;
+
+pub use core_room::{Counts, Shortage};
+pub use gate::{Gate, OpenGate, Point};
+pub use types::{Answer, Cleaning, Leading, NotAccepted, Place, Turn, Victim};
+pub use worker::Worker;
