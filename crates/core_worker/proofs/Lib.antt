@@ -13,3 +13,11 @@ mod BlockClear
 mod HandKeys
 mod Aside
 mod QuietMoves
+mod RefusalLaws
+mod Gains
+mod Pointers
+mod Staging
+mod Finding
+mod Beginnings
+mod Winding
+mod Waiters

@@ -8,3 +8,4 @@ pub mod Accepting
 pub mod Turns
 pub mod WorkerMoves
 pub mod Posting
+pub mod Status

@@ -1,5 +1,5 @@
 -- The room of a worker at one moment, and which requests are refused for want of it.
-use Rattle.std.specs.Prelude.{◌≡◌, ◌⊎◌, ℕ, ◌+◌, ◌-◌, ◌/◌, ◌^◌, ◌<◌, ◌≤◌, nat_lt, nat_le, Bool, true, false, List, length, Option, Some, None, if◌then◌else◌}
+use Rattle.std.specs.Prelude.{◌≡◌, ◌⊎◌, ℕ, ◌+◌, ◌-◌, ◌/◌, ◌^◌, ◌<◌, ◌≤◌, ◌==◌, nat_lt, nat_le, Bool, true, false, List, length, Option, Some, None, if◌then◌else◌}
 use Rattle.chunk_map.specs.declared.layouts.Geometry.{Geometry}
 use Rattle.chunk_map.specs.Layouts.{payload_lines}
 use Rattle.core_log.specs.Log.{room_of}
@@ -46,9 +46,13 @@ HasKeptRoom w = KeepsRule w.cleaning (supply_of w)
 abbrev pub room_for : Worker → Room
 room_for w = record { open_lines = room_of w.log; free_chunks = free_chunk_count w.allocator; pledged_lines = pledged (supply_of w); payload_lines = payload_lines w.log.layout }
 
--- why a value of so many bytes finds no place: entry and block
+-- the free blocks of a class, 0 where no block is asked
+abbrev pub free_blocks : Sets → ℕ → ℕ
+free_blocks a class = if class == 0 then 0 else free_block_count a class
+
+-- why an entry of so many lines, with a block of the class or none, finds no place
 abbrev pub lacks : Supply → Sets → ℕ → ℕ → Option Shortage
-lacks s a need class = shortage_at s need class (free_block_count a class)
+lacks s a need class = shortage_at s need class (free_blocks a class)
 
 -- Why a put of so many bytes is refused, to a key with this last version: the first cause counts.
 abbrev pub why_put : Geometry → Supply → Sets → ℕ → ℕ → Option Shortage

@@ -62,6 +62,12 @@ is_lost (leads.Persisted x) = false
 is_lost (leads.Failed x) = true
 is_lost leads.Between = false
 
+-- Which member a worker serves, where its group stands, and what it has.
+pub record Membership : Type 0 where
+  pub place : Place
+  pub number : ℕ
+  pub view : View
+
 -- The worker is that of member m, and its places, blocks, keys and what it leads are what the view has.
 pub record Holds (p : Place) (m : ℕ) (v : View) (w : Worker) : Type 0 where
   pub place : IsPlace p

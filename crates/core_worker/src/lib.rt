@@ -1,9 +1,15 @@
 //! One core: it accepts requests for its keys, and works them off in turns.
 #![tactic(auto)]
 
+mod accepting;
+mod beginning;
 mod gate;
 mod leading;
 mod posting;
+mod refusing;
+mod releasing;
+mod status;
+mod supply;
 mod types;
 mod worker;
 
