@@ -1,17 +1,15 @@
 -- Another part's writes keep the ties to the region.
-use Rattle.std.proofs.Common.{◌≡◌, ◌⊎◌, inl, inr, ⊎_elim, ℕ, ◌+◌, ◌*◌, ◌^◌, ◌≤◌, ◌<◌, Bool, true, false, Option, Some, None, refl, sym, ◌∙◌, ap, subst, arith}
-use Rattle.std.specs.Prelude.{is_none}
-use Rattle.pm_region.specs.Cell.{Cell, MayBe}
+use Rattle.std.proofs.Common.{◌≡◌, ◌⊎◌, inl, inr, ⊎_elim, ℕ, ◌+◌, ◌*◌, ◌^◌, ◌≤◌, ◌<◌, false, Some, sym, ◌∙◌, subst, arith}
 use Rattle.pm_region.specs.State.{State, Frame, IsTelling, cell_now, During}
 use Rattle.pm_region.specs.Words.{Kept, KeepsOutside, Surely}
 use Rattle.pm_region.proofs.Moments.{at_exit, told_at_entry}
 use Rattle.pm_region.proofs.Narrow.{kept_narrows, surely_kept}
 use Rattle.chunk_map.specs.declared.layouts.Geometry.{Geometry}
-use Rattle.chunk_map.specs.Layouts.{chunk_words, chunk_first, part_first}
+use Rattle.chunk_map.specs.Layouts.{chunk_words, part_first}
 use Rattle.store_image.proofs.Places.{layout_numbers}
-use Rattle.core_log.specs.Log.{LogState, StandsIn, Spelled, tail_of, chunk_with, first_of}
+use Rattle.core_log.specs.Log.{Spelled, tail_of, chunk_with, first_of}
 use Rattle.core_log.proofs.LogLaws.{log_kept, words_kept, own_chunk, tail_fits}
-use Rattle.group_laws.specs.Places.{Place, core_of}
+use Rattle.group_laws.specs.Places.{Place}
 use Rattle.group_laws.specs.MemberViews.{View}
 use Rattle.licence.specs.Licence.{Licensed, grounded, part_at, part_end}
 use Rattle.chunk_map.proofs.LayoutLaws.{chunk_in_part}
@@ -49,7 +47,7 @@ module _ (s t : State) (p : Place) (m : ℕ) (v : View) (w : Worker) (H : Holds 
   kind runs telling j lt k sure =
       let size = (layout_numbers w.log.layout (S.log runs).own.layout).size in
       surely_kept (cell_now s (first_of w.log j)) (cell_now t (first_of w.log j)) k sure
-        (kept_in telling j (first_of w.log j) (subst (λ (l : Geometry). j < l.chunks) (H.allocator_layout ∙ sym H.log_layout) lt) (omega arith) (omega (arith, size)))
+      (kept_in telling j (first_of w.log j) (subst (λ (l : Geometry). j < l.chunks) (H.allocator_layout ∙ sym H.log_layout) lt) (omega arith) (omega (arith, size)))
 
   log_word : w.stopped ≡ false → IsTelling t → (k u : ℕ) → tail_of w.log.chunks k ≡ Some u → (x : ℕ) → first_of w.log k ≤ x → x < first_of w.log k + 32 + u → Kept (cell_now s x) (cell_now t x)
   log_word runs telling k u is x lo hi =

@@ -1,9 +1,8 @@
 -- What was done is what beginning a request is.
-use Rattle.std.proofs.Common.{◌≡◌, ◌≢◌, ℕ, ◌+◌, ◌<◌, ◌≤◌, arith, length, length-append, Result, Ok, Err, OnOk, OnErr, ◌⊎◌, inl, inr, ⊎_elim, List, ◌∷◌, [], ◌++◌, Bool, true, false, Option, Some, None, refl, sym, ◌∙◌, ap, subst}
+use Rattle.std.proofs.Common.{◌≡◌, ℕ, ◌+◌, ◌<◌, ◌≤◌, arith, length, length-append, Result, Ok, Err, OnOk, OnErr, inr, ⊎_elim, List, ◌∷◌, [], ◌++◌, Bool, true, false, Option, Some, None, refl, sym, ◌∙◌, ap, subst}
 use Rattle.std.specs.declared.collections.VecDeque.{VecDeque}
 use Rattle.std.specs.Global.{Global}
 use Rattle.fs_model.specs.declared.model.Request.{Request}
-use Rattle.fs_model.specs.declared.model.Reply.{Reply}
 use Rattle.fs_model.specs.declared.model.Reply.TheVariants as replies
 use Rattle.fs_model.specs.Cells.{key_of, answer_to, is_change}
 use Rattle.core_index.specs.Index.{known_at}
@@ -57,9 +56,30 @@ with_answers w a = record w { answers = a }
 
 pub answered_holds : (p : Place) (m : ℕ) (v : View) (w u : Worker) → u ≡ with_answers w u.answers → HoldsAside p m v w → HoldsAside p m v u
 answered_holds p m v w u e H = subst (λ (x : Worker). HoldsAside p m v x) (sym e) (record {
-  place = H.place; member = H.member; core = H.core; layout = H.layout; log_layout = H.log_layout; log_part = H.log_part; sets = H.sets; allocator_layout = H.allocator_layout; allocator_part = H.allocator_part;
-  spelled = H.spelled; eight = H.eight; placed = H.placed; apart = H.apart; pending = H.pending; admitted = H.admitted; keys = H.keys; blocks = H.blocks; waits = H.waits; leads = H.leads;
-  space = λ r. by w.leading (H.space r); broken = H.broken; lost = H.lost; cleaning = H.cleaning; remembers = H.remembers;
+  place = H.place;
+  member = H.member;
+  core = H.core;
+  layout = H.layout;
+  log_layout = H.log_layout;
+  log_part = H.log_part;
+  sets = H.sets;
+  allocator_layout = H.allocator_layout;
+  allocator_part = H.allocator_part;
+  spelled = H.spelled;
+  eight = H.eight;
+  placed = H.placed;
+  apart = H.apart;
+  pending = H.pending;
+  admitted = H.admitted;
+  keys = H.keys;
+  blocks = H.blocks;
+  waits = H.waits;
+  leads = H.leads;
+  space = λ r. by w.leading (H.space r);
+  broken = H.broken;
+  lost = H.lost;
+  cleaning = H.cleaning;
+  remembers = H.remembers;
 }) where
   by : (l : Leading) → HasSpaceFor (record w { queue = [] }) l → HasSpaceFor (record w { queue = []; answers = u.answers }) l
   by (leads.Nothing b) h = tt
@@ -95,25 +115,87 @@ room_by w q leads.Between h = tt
 -- the ties with nothing waiting, and back
 pub aside_of : (p : Place) (m : ℕ) (v : View) (w : Worker) → Holds p m v w → HoldsAside p m v w
 aside_of p m v w H = record {
-  place = H.place; member = H.member; core = H.core; layout = H.layout; log_layout = H.log_layout; log_part = H.log_part; sets = H.sets; allocator_layout = H.allocator_layout; allocator_part = H.allocator_part;
-  spelled = H.spelled; eight = H.eight; placed = H.placed; apart = H.apart; pending = H.pending; admitted = λ k busy. (let a = H.admitted k busy in omega (arith, a)); keys = H.keys; blocks = H.blocks; waits = λ on k idle. refl; leads = H.leads;
-  space = λ r. room_by w [] w.leading (H.space r); broken = H.broken; lost = H.lost; cleaning = H.cleaning; remembers = H.remembers;
+  place = H.place;
+  member = H.member;
+  core = H.core;
+  layout = H.layout;
+  log_layout = H.log_layout;
+  log_part = H.log_part;
+  sets = H.sets;
+  allocator_layout = H.allocator_layout;
+  allocator_part = H.allocator_part;
+  spelled = H.spelled;
+  eight = H.eight;
+  placed = H.placed;
+  apart = H.apart;
+  pending = H.pending;
+  admitted = λ k busy. (let a = H.admitted k busy in omega (arith, a));
+  keys = H.keys;
+  blocks = H.blocks;
+  waits = λ on k idle. refl;
+  leads = H.leads;
+  space = λ r. room_by w [] w.leading (H.space r);
+  broken = H.broken;
+  lost = H.lost;
+  cleaning = H.cleaning;
+  remembers = H.remembers;
 }
 
 pub of_aside : (p : Place) (m : ℕ) (v : View) (w : Worker) → HoldsAside p m v w → ((k : ℕ) → is_busy w.places.items k ≡ true → length (waiting w.queue k) < room_at w.index k) → (w.winds_down ≡ false → (k : ℕ) → is_busy w.places.items k ≡ false → waiting w.queue k ≡ []) → Holds p m v w
 of_aside p m v w H admitted waits = record {
-  place = H.place; member = H.member; core = H.core; layout = H.layout; log_layout = H.log_layout; log_part = H.log_part; sets = H.sets; allocator_layout = H.allocator_layout; allocator_part = H.allocator_part;
-  spelled = H.spelled; eight = H.eight; placed = H.placed; apart = H.apart; pending = H.pending; admitted = admitted; keys = H.keys; blocks = H.blocks; waits = waits; leads = H.leads;
-  space = λ r. room_by (record w { queue = [] }) w.queue w.leading (H.space r); broken = H.broken; lost = H.lost; cleaning = H.cleaning; remembers = H.remembers;
+  place = H.place;
+  member = H.member;
+  core = H.core;
+  layout = H.layout;
+  log_layout = H.log_layout;
+  log_part = H.log_part;
+  sets = H.sets;
+  allocator_layout = H.allocator_layout;
+  allocator_part = H.allocator_part;
+  spelled = H.spelled;
+  eight = H.eight;
+  placed = H.placed;
+  apart = H.apart;
+  pending = H.pending;
+  admitted = admitted;
+  keys = H.keys;
+  blocks = H.blocks;
+  waits = waits;
+  leads = H.leads;
+  space = λ r. room_by (record w { queue = [] }) w.queue w.leading (H.space r);
+  broken = H.broken;
+  lost = H.lost;
+  cleaning = H.cleaning;
+  remembers = H.remembers;
 }
 
 -- more room for records and answers
 pub prepared_holds : (p : Place) (m : ℕ) (v : View) (w u : Worker) → u ≡ record w { answers = u.answers; index = u.index } → ((k : ℕ) → known_at u.index k ≡ known_at w.index k) → ((k : ℕ) → room_at w.index k ≤ room_at u.index k) → HoldsAside p m v w → HoldsAside p m v u
 prepared_holds p m v w u e same more H = subst (λ (x : Worker). HoldsAside p m v x) (sym e) (record {
-  place = H.place; member = H.member; core = H.core; layout = H.layout; log_layout = H.log_layout; log_part = H.log_part; sets = H.sets; allocator_layout = H.allocator_layout; allocator_part = H.allocator_part;
-  spelled = λ k r known. H.spelled k r (sym (same k) ∙ known); eight = H.eight; placed = H.placed; apart = H.apart; pending = H.pending; admitted = λ k busy. (let a = H.admitted k busy in let b = more k in omega (arith, a, b));
-  keys = λ k own which. subst (KnowsKey p v k) (sym (same k)) (H.keys k own which); blocks = H.blocks; waits = λ on k idle. refl; leads = H.leads;
-  space = λ r. by w.leading (H.space r); broken = H.broken; lost = H.lost; cleaning = H.cleaning; remembers = λ r k own idle. ap is_forgettable (same k) ∙ H.remembers r k own idle;
+  place = H.place;
+  member = H.member;
+  core = H.core;
+  layout = H.layout;
+  log_layout = H.log_layout;
+  log_part = H.log_part;
+  sets = H.sets;
+  allocator_layout = H.allocator_layout;
+  allocator_part = H.allocator_part;
+  spelled = λ k r known. H.spelled k r (sym (same k) ∙ known);
+  eight = H.eight;
+  placed = H.placed;
+  apart = H.apart;
+  pending = H.pending;
+  admitted = λ k busy. (let a = H.admitted k busy in let b = more k in omega (arith, a, b));
+  keys = λ k own which. subst (KnowsKey p v k) (sym (same k)) (H.keys k own which);
+  blocks = H.blocks;
+  waits = λ on k idle. refl;
+  leads = H.leads;
+  space = λ r. by w.leading (H.space r);
+  broken = H.broken;
+  lost = H.lost;
+  cleaning = H.cleaning;
+  remembers = λ r k own idle. ap is_forgettable (same k) ∙ H.remembers r k own idle;
 }) where
   by : (l : Leading) → HasSpaceFor (record w { queue = [] }) l → HasSpaceFor (record w { queue = []; answers = u.answers; index = u.index }) l
   by (leads.Nothing b) h = tt
@@ -140,7 +222,7 @@ pub before_holds : (p : Place) (m : ℕ) (v : View) (w u : Worker) → IsAsBefor
 before_holds p m v w u B H =
     let x = record w { answers = u.answers; index = u.index } in
     subst (λ (y : Worker). Holds p m v y) (sym B.rest) (of_aside p m v (record w { answers = u.answers; index = u.index }) (prepared_holds p m v w (record w { answers = u.answers; index = u.index }) refl B.records B.room (aside_of p m v w H))
-      (λ k busy. (let a = H.admitted k busy in let b = B.room k in omega (arith, a, b))) H.waits)
+    (λ k busy. (let a = H.admitted k busy in let b = B.room k in omega (arith, a, b))) H.waits)
 
 -- after a request is held
 pub held_holds : (p : Place) (m : ℕ) (v : View) (w u : Worker) (q : List Held) (h : Held) → IsAsBefore w u → room_at u.index (key_of h.request) ≡ room_at w.index (key_of h.request) + 1 → is_busy w.places.items (key_of h.request) ≡ true → AddsLast u.queue q h → Holds p m v w → Holds p m v (record u { queue = q })
@@ -148,13 +230,13 @@ held_holds p m v w u q h B more busy adds H =
     let x = record w { answers = u.answers; index = u.index } in
     let A : AddsLast w.queue q h = subst (λ (y : Worker). AddsLast y.queue q h) B.rest adds in
     subst (λ (y : Worker). Holds p m v (record y { queue = q })) (sym B.rest) (of_aside p m v (record w { answers = u.answers; index = u.index; queue = q }) (prepared_holds p m v w (record w { answers = u.answers; index = u.index }) refl B.records B.room (aside_of p m v w H))
-      (λ k is. ⊎_elim
-        (λ same. (let a = H.admitted k is in let r = more in let key = A.key in
-          let grown : length (waiting q k) ≡ length (waiting w.queue k) + 1 = ap (λ n. length (waiting q n)) same ∙ ap length key ∙ length-append (waiting w.queue (key_of h.request)) (h ∷ []) ∙ ap (λ n. length (waiting w.queue n) + 1) (sym same) in
-          let room : room_at u.index k ≡ room_at w.index k + 1 = ap (room_at u.index) same ∙ r ∙ ap (λ n. room_at w.index n + 1) (sym same) in omega (arith, a, grown, room)))
-        (λ ne. (let a = H.admitted k is in let b = B.room k in let l = ap length (A.others k ne) in omega (arith, a, b, l)))
-        (cases_eq k (key_of h.request)))
-      (λ on k idle. A.others k (λ same. (let both : true ≡ false = sym busy ∙ ap (is_busy w.places.items) (sym same) ∙ idle in cc both)) ∙ H.waits on k idle))
+    (λ k is. ⊎_elim
+    (λ same. (let a = H.admitted k is in let r = more in let key = A.key in
+    let grown : length (waiting q k) ≡ length (waiting w.queue k) + 1 = ap (λ n. length (waiting q n)) same ∙ ap length key ∙ length-append (waiting w.queue (key_of h.request)) (h ∷ []) ∙ ap (λ n. length (waiting w.queue n) + 1) (sym same) in
+    let room : room_at u.index k ≡ room_at w.index k + 1 = ap (room_at u.index) same ∙ r ∙ ap (λ n. room_at w.index n + 1) (sym same) in omega (arith, a, grown, room)))
+    (λ ne. (let a = H.admitted k is in let b = B.room k in let l = ap length (A.others k ne) in omega (arith, a, b, l)))
+    (cases_eq k (key_of h.request)))
+    (λ on k idle. A.others k (λ same. (let both : true ≡ false = sym busy ∙ ap (is_busy w.places.items) (sym same) ∙ idle in cc both)) ∙ H.waits on k idle))
 
 -- after a request is begun
 begun_aside : {X Y : Type 0} (r : Result X Y) (p : Place) (m : ℕ) (v : View) (u b : Worker) → OnOk r (HoldsAside p m v b) → OnErr r (b ≡ u) → HoldsAside p m v u → HoldsAside p m v b
@@ -175,8 +257,8 @@ begun_holds r p m v u b H works rest ok err keeps =
     let queue : b.queue ≡ u.queue = ap (λ (x : Worker). x.queue) rest in
     let room : (k : ℕ) → room_at b.index k ≡ room_at u.index k = λ k. ap (λ (x : Worker). room_at x.index k) rest in
     of_aside p m v b A
-      (λ k busy. by_was k (is_busy u.places.items k) refl (A.admitted k busy) queue (room k))
-      (λ on k idle. ap (λ (q : List Held). waiting q k) queue ∙ H.waits works k (was_idle k (is_busy u.places.items k) refl idle))
+    (λ k busy. by_was k (is_busy u.places.items k) refl (A.admitted k busy) queue (room k))
+    (λ on k idle. ap (λ (q : List Held). waiting q k) queue ∙ H.waits works k (was_idle k (is_busy u.places.items k) refl idle))
   where
     by_was : (k : ℕ) (x : Bool) → is_busy u.places.items k ≡ x → 0 < room_at b.index k → b.queue ≡ u.queue → room_at b.index k ≡ room_at u.index k → length (waiting b.queue k) < room_at b.index k
     by_was k true e some queue room = (let a = H.admitted k e in let l = ap (λ (q : List Held). length (waiting q k)) queue in omega (arith, a, l, room))

@@ -1,5 +1,5 @@
 -- The block of a staged change lies in the part, and shares no unit with another one.
-use Rattle.std.proofs.Common.{◌≡◌, ◌≢◌, ◌⊎◌, inl, inr, ⊎_elim, ℕ, zero, suc, ◌+◌, ◌-◌, ◌*◌, ◌/◌, ◌%◌, ◌^◌, ◌≤◌, ◌<◌, ◌==◌, ◌&&◌, ◌||◌, leb, ltb, cond, Bool, true, false, List, length, Option, Some, None, unwrap_or, refl, sym, ◌∙◌, ap, subst, arith}
+use Rattle.std.proofs.Common.{◌≡◌, ◌≢◌, ◌⊎◌, inl, inr, ⊎_elim, ℕ, zero, suc, ◌+◌, ◌-◌, ◌*◌, ◌%◌, ◌^◌, ◌≤◌, ◌<◌, ◌==◌, ◌&&◌, ◌||◌, leb, ltb, cond, Bool, true, false, List, length, Some, None, unwrap_or, refl, sym, ◌∙◌, ap, subst, arith}
 use Rattle.std.specs.Prelude.{find}
 use Rattle.std.proofs.lemmas.Bool.{cases_eq, cases_lt, and_parts, leb-true}
 use Rattle.std.proofs.Math.Nat.{mul-le-mul_left, pow-le-pow_right}
@@ -9,10 +9,9 @@ use Rattle.chunk_map.specs.Layouts.{numbers, has_class, is_class}
 use Rattle.store_image.specs.Parts.{chunk_at, unit_at, chunk_units, is_start}
 use Rattle.store_image.proofs.Places.{Numbers, layout_numbers}
 use Rattle.store_image.proofs.BlockLaws.{chunk_of}
-use Rattle.lazy_alloc.specs.Sets.{Sets, AreSets, class_at, chunk_class}
+use Rattle.lazy_alloc.specs.Sets.{Sets, AreSets, chunk_class}
 use Rattle.lazy_alloc.proofs.SetLaws.{lies_at}
-use Rattle.group_laws.specs.declared.types.Block.{Block}
-use Rattle.group_laws.specs.Places.{Place, core_of, first_unit, units, LiesIn, Apart, GetsBlock}
+use Rattle.group_laws.specs.Places.{Place, core_of, first_unit, units, LiesIn, GetsBlock}
 use Rattle.group_laws.specs.MemberViews.{View}
 use Rattle.group_board.specs.Conditions.{IsClearIn}
 use Rattle.core_worker.specs.declared.worker.Worker.{Worker}
@@ -21,7 +20,7 @@ use Rattle.core_worker.specs.OwnPlaces.{place_at}
 use Rattle.core_worker.specs.KeyTies.{IsBlockFor}
 use Rattle.core_worker.specs.Posting.{IsStagedWith}
 use Rattle.core_worker.specs.Ties.{Holds}
-use Rattle.licence.proofs.Blocks.{Start, UnitOf, numbers_of, apart}
+use Rattle.licence.proofs.Blocks.{Start, numbers_of, apart}
 use Rattle.licence.proofs.BlockEvents.{start_at}
 use Rattle.core_worker.proofs.BlockStands.{staged_block}
 
@@ -62,28 +61,28 @@ bounds l c e =
 apart_any : (l : Geometry) (is : Numbers l) (c q r k d : ℕ) → Start l c q k → Start l c r d → (chunk_of l q ≡ chunk_of l r → k ≡ d) → q ≢ r → (q + 2 ^ k ≤ r) ⊎ (r + 2 ^ d ≤ q)
 apart_any l is c q r k d sq sr classes ne = ⊎_elim
     (λ same.
-      let e = classes same in
-      ⊎_elim (λ a. inl a) (λ b. inr (subst (λ (x : ℕ). r + 2 ^ x ≤ q) e b)) (apart l is c q r k sq (subst (Start l c r) (sym e) sr) same ne))
+    let e = classes same in
+    ⊎_elim (λ a. inl a) (λ b. inr (subst (λ (x : ℕ). r + 2 ^ x ≤ q) e b)) (apart l is c q r k sq (subst (Start l c r) (sym e) sr) same ne))
     (λ other.
-      let a = numbers_of l is c q k sq in
-      let b = numbers_of l is c r d sr in
-      let ea = ends l (unit_at l q) k sq.start in
-      let eb = ends l (unit_at l r) d sr.start in
-      let pa = a.place in
-      let pb = b.place in
-      let na = a.number in
-      let nb = b.number in
-      ⊎_elim
-        (λ less.
-          let more : chunk_units l * (chunk_at l q + 1) ≤ chunk_units l * chunk_at l r = mul-le-mul_left (chunk_units l) (omega (arith, less)) in
-          let one : chunk_units l * (chunk_at l q + 1) ≡ chunk_units l * chunk_at l q + chunk_units l = omega arith in
-          inl (omega (arith, more, one, pa, pb, ea)))
-        (λ ge.
-          let strict : chunk_at l r < chunk_at l q = omega (arith, ge, other, na, nb) in
-          let more : chunk_units l * (chunk_at l r + 1) ≤ chunk_units l * chunk_at l q = mul-le-mul_left (chunk_units l) (omega (arith, strict)) in
-          let one : chunk_units l * (chunk_at l r + 1) ≡ chunk_units l * chunk_at l r + chunk_units l = omega arith in
-          inr (omega (arith, more, one, pa, pb, eb)))
-        (cases_lt (chunk_at l q) (chunk_at l r)))
+    let a = numbers_of l is c q k sq in
+    let b = numbers_of l is c r d sr in
+    let ea = ends l (unit_at l q) k sq.start in
+    let eb = ends l (unit_at l r) d sr.start in
+    let pa = a.place in
+    let pb = b.place in
+    let na = a.number in
+    let nb = b.number in
+    ⊎_elim
+    (λ less.
+    let more : chunk_units l * (chunk_at l q + 1) ≤ chunk_units l * chunk_at l r = mul-le-mul_left (chunk_units l) (omega (arith, less)) in
+    let one : chunk_units l * (chunk_at l q + 1) ≡ chunk_units l * chunk_at l q + chunk_units l = omega arith in
+    inl (omega (arith, more, one, pa, pb, ea)))
+    (λ ge.
+    let strict : chunk_at l r < chunk_at l q = omega (arith, ge, other, na, nb) in
+    let more : chunk_units l * (chunk_at l r + 1) ≤ chunk_units l * chunk_at l q = mul-le-mul_left (chunk_units l) (omega (arith, strict)) in
+    let one : chunk_units l * (chunk_at l r + 1) ≡ chunk_units l * chunk_at l r + chunk_units l = omega arith in
+    inr (omega (arith, more, one, pa, pb, eb)))
+    (cases_lt (chunk_at l q) (chunk_at l r)))
     (cases_eq (chunk_of l q) (chunk_of l r))
 
 lies_start : (p : Place) (m q k n : ℕ) → Numbers p.layout → Start p.layout (core_of p m) q k → units n ≤ 2 ^ k → LiesIn p m q (units n)
@@ -130,12 +129,17 @@ pub clear_for : (p : Place) (m : ℕ) (v : View) (w : Worker) → Holds p m v w 
 clear_for p m v w H slot n q e u was staged =
     let is = layout_numbers p.layout H.place.layout in
     let x = staged_block p m v w H slot n q e u was staged in
-    let b = block_at p m w.allocator H.sets H.allocator_layout H.allocator_part q (length u) x.0 in
-    (b.gets, (lies_start p m q b.class (length u) is b.starts b.few, λ r d has.
-      let o = block_at p m w.allocator H.sets H.allocator_layout H.allocator_part r (length d.bytes) (H.blocks.held r d has) in
-      let fb = b.few in
-      let fo = o.few in
-      ⊎_elim (λ lo. inl (omega (arith, lo, fb))) (λ hi. inr (omega (arith, hi, fo)))
-        (apart_any p.layout is (core_of p m) q r b.class o.class b.starts o.starts
-          (λ same. (let both : Some b.class ≡ Some o.class = sym b.cut ∙ ap (chunk_class w.allocator) same ∙ o.cut in cc both))
-          (λ same. (let both : Some d ≡ None = sym has ∙ ap v.blocks (sym same) ∙ x.1 in cc both)))))
+    let b = block_at p m w.allocator H.sets H.allocator_layout H.allocator_part q (length u) x.0 in (
+      b.gets,
+      (
+        lies_start p m q b.class (length u) is b.starts b.few,
+        λ r d has.
+            let o = block_at p m w.allocator H.sets H.allocator_layout H.allocator_part r (length d.bytes) (H.blocks.held r d has) in
+            let fb = b.few in
+            let fo = o.few in
+            ⊎_elim (λ lo. inl (omega (arith, lo, fb))) (λ hi. inr (omega (arith, hi, fo)))
+            (apart_any p.layout is (core_of p m) q r b.class o.class b.starts o.starts
+            (λ same. (let both : Some b.class ≡ Some o.class = sym b.cut ∙ ap (chunk_class w.allocator) same ∙ o.cut in cc both))
+            (λ same. (let both : Some d ≡ None = sym has ∙ ap v.blocks (sym same) ∙ x.1 in cc both))),
+      ),
+    )

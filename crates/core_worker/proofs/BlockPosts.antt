@@ -1,12 +1,11 @@
 -- What posting a change with a block leaves of the ties.
-use Rattle.std.proofs.Common.{◌≡◌, ◌≢◌, ◌⊎◌, inl, inr, ⊎_elim, ℕ, zero, suc, ◌+◌, ◌≤◌, ◌<◌, ◌==◌, Bool, true, false, cond, List, [], ◌∷◌, ◌++◌, length, Option, Some, None, refl, sym, ◌∙◌, ap, subst, arith, eqb}
+use Rattle.std.proofs.Common.{◌≡◌, ◌≢◌, inl, inr, ⊎_elim, ℕ, ◌+◌, ◌≤◌, ◌<◌, Bool, true, false, cond, List, [], ◌∷◌, ◌++◌, length, Option, Some, None, refl, sym, ◌∙◌, ap, subst}
 use Rattle.std.specs.Prelude.{Vec}
 use Rattle.std.specs.Global.{Global}
 use Rattle.core_worker.specs.declared.types.Leading.TheVariants as leads
 use Rattle.batch_leader.specs.declared.buffer.BatchBuffer.{BatchBuffer}
-use Rattle.licence.specs.Licence.{Licensed, grounded}
 use Rattle.core_worker.specs.Ties.{LeadsAt}
-use Rattle.std.proofs.lemmas.Bool.{cases_eq, eqb-true, eqb-false, eq-eqb, ne_eqb}
+use Rattle.std.proofs.lemmas.Bool.{cases_eq, eq-eqb, ne_eqb}
 use Rattle.pm_region.specs.State.{State}
 use Rattle.log_entry.specs.declared.entry.Entry.{Entry}
 use Rattle.log_entry.specs.declared.entry.Body.{Body}
@@ -19,24 +18,20 @@ use Rattle.group_laws.specs.Steps.{with_block}
 use Rattle.group_laws.specs.Updates.{put}
 use Rattle.group_laws.specs.MemberViews.{View}
 use Rattle.group_board.specs.Views.{after_post}
-use Rattle.core_index.specs.Index.{room_at}
 use Rattle.core_worker.specs.declared.types.Place as places
 use Rattle.core_worker.specs.declared.types.Place.TheVariants.{Free, Staged, Posted}
 use Rattle.core_worker.specs.declared.worker.Worker.{Worker}
-use Rattle.core_worker.specs.OwnPlaces.{place_at, key_in, is_of, is_busy, AreApart, Replaces}
-use Rattle.core_worker.specs.KeyTies.{IsPlaced, Offers, IsStagedBlock, AreBlocks, KnowsKey}
-use Rattle.core_worker.specs.Posting.{PointsNowhere}
+use Rattle.core_worker.specs.OwnPlaces.{place_at, key_in, is_busy, Replaces}
+use Rattle.core_worker.specs.KeyTies.{IsPlaced, Offers, IsStagedBlock}
 use Rattle.core_worker.specs.Ties.{Holds, Stands, HasSpaceFor}
-use Rattle.core_worker.proofs.Led.{led_view}
 use Rattle.group_board.specs.Conditions.{IsFree}
 use Rattle.group_laws.specs.declared.types.Block.{Block}
 use Rattle.core_worker.specs.KeyTies.{IsBlockFor, Left, LeftIn}
 use Rattle.core_index.specs.Records.{KeyRecord}
 use Rattle.core_index.specs.Index.{known_at}
-use Rattle.crash_core.specs.declared.kinds.Change.{Change}
 use Rattle.group_laws.specs.Places.{GetsBlock}
 use Rattle.group_board.specs.Conditions.{MayPost, IsClearIn}
-use Rattle.core_worker.proofs.Posts.{busy_by, busy_has, same_keys, busy_same}
+use Rattle.core_worker.proofs.Posts.{same_keys, busy_same}
 
 abbrev slot_in : Option Pending → Option ℕ
 slot_in None = None
@@ -170,16 +165,16 @@ module _ (p : Place) (m : ℕ) (v : View) (w : Worker) (H : Holds p m v w) (slot
       eight = R.count ∙ H.eight;
       placed = λ s low. ⊎_elim
           (λ at. subst (λ (n : ℕ). IsPlaced p m posted n (place_at ps.items n)) (sym at) (subst (IsPlaced p m posted slot) (sym R.here)
-            (e, here e.key refl, refl, facts.1, offers_here e.body points, inl lines_are, few)))
+          (e, here e.key refl, refl, facts.1, offers_here e.body points, inl lines_are, few)))
           (λ ne. subst (IsPlaced p m posted s) (sym (R.others s ne)) (placed_still s ne (place_at w.places.items s) refl (H.placed s low)))
           (cases_eq s slot);
       apart = λ s t k a b. H.apart s t k (sym (keys_same s) ∙ a) (sym (keys_same t) ∙ b);
       pending = λ k q has. ⊎_elim
           (λ same. inl (slot, number, lines, lt, R.here ∙ ap (λ (n : ℕ). Posted number n lines) (sym same)))
           (λ differs. ⊎_elim
-            (λ x. inl (x.0, x.1, x.2, x.3, R.others x.0 (λ at. (let clash : Staged number e value ≡ Posted x.1 k x.2 = sym was ∙ ap (place_at w.places.items) (sym at) ∙ x.4 in cc clash)) ∙ x.4))
-            (λ y. inr (y.0, busy_is k ∙ y.1, y.2))
-            (H.pending k q (sym (other k differs) ∙ has)))
+          (λ x. inl (x.0, x.1, x.2, x.3, R.others x.0 (λ at. (let clash : Staged number e value ≡ Posted x.1 k x.2 = sym was ∙ ap (place_at w.places.items) (sym at) ∙ x.4 in cc clash)) ∙ x.4))
+          (λ y. inr (y.0, busy_is k ∙ y.1, y.2))
+          (H.pending k q (sym (other k differs) ∙ has)))
           (cases_eq k e.key);
       admitted = λ k busy. H.admitted k (sym (busy_is k) ∙ busy);
       keys = λ k own which. let K = H.keys k own (⊎_elim (λ r. inl r) (λ b. inr (sym (busy_is k) ∙ b)) which) in record { last = K.last; cell = left_in k (known_at w.index k) K.cell; present = K.present; told = K.told };

@@ -1,39 +1,32 @@
 -- After a value's block is written: the ties to the region by the view with the block.
-use Rattle.std.proofs.Common.{◌≡◌, ◌≢◌, ◌⊎◌, inl, inr, ⊎_elim, ℕ, zero, suc, ◌+◌, ◌-◌, ◌*◌, ◌^◌, ◌≤◌, ◌<◌, ◌==◌, ◌&&◌, not, Bool, true, false, List, length, Option, Some, None, refl, sym, ◌∙◌, ap, subst, arith}
-use Rattle.std.specs.Prelude.{is_none, Vec}
-use Rattle.std.specs.Global.{Global}
+use Rattle.std.proofs.Common.{◌≡◌, ◌≢◌, inl, inr, ⊎_elim, ℕ, ◌+◌, ◌*◌, ◌^◌, ◌≤◌, ◌<◌, ◌==◌, ◌&&◌, not, Bool, true, false, List, length, Some, None, refl, sym, ◌∙◌, ap, subst, arith}
 use Rattle.std.proofs.lemmas.Bool.{cases_eq, eq-eqb, ne_eqb, and_parts}
-use Rattle.pm_region.specs.Cell.{Cell}
 use Rattle.pm_region.specs.State.{State, Frame, IsTelling, cell_now, During}
-use Rattle.pm_region.specs.Words.{Kept, KeepsOutside, EachIn, Surely}
+use Rattle.pm_region.specs.Words.{KeepsOutside, EachIn, Surely}
 use Rattle.pm_region.proofs.Moments.{at_exit, told_at_entry}
 use Rattle.pm_region.proofs.Narrow.{surely_kept}
 use Rattle.log_entry.specs.declared.entry.Entry.{Entry}
 use Rattle.log_entry.specs.declared.entry.Body.TheVariants as bodies
 use Rattle.chunk_map.specs.declared.layouts.Geometry.{Geometry}
 use Rattle.chunk_map.specs.Layouts.{chunk_words, chunk_first, part_first, has_class}
-use Rattle.chunk_map.proofs.LayoutLaws.{chunks_apart}
 use Rattle.store_image.proofs.Places.{layout_numbers}
-use Rattle.core_log.specs.Chunk.{IsLog, words_now}
-use Rattle.core_log.specs.Log.{LogState, StandsIn, Spelled, tail_of, chunk_with, first_of}
-use Rattle.core_log.proofs.LogLaws.{log_kept, words_kept, own_chunk, tail_fits}
-use Rattle.lazy_alloc.specs.Sets.{Sets, AreSets, chunk_of, class_at, chunk_is_free, chunk_class, chunk_is_due}
-use Rattle.lazy_alloc.specs.Written.{PartLies, KeepsOthers, HeadTurnsTo, HasHead, WroteValue, head_of}
-use Rattle.lazy_alloc.proofs.SetLaws.{lies_at, SamePart, class_same}
+use Rattle.core_log.specs.Log.{tail_of, first_of}
+use Rattle.lazy_alloc.specs.Sets.{Sets, AreSets, chunk_of, class_at, chunk_class, chunk_is_due}
+use Rattle.lazy_alloc.specs.Written.{KeepsOthers, HeadTurnsTo, HasHead, WroteValue, head_of}
+use Rattle.lazy_alloc.proofs.SetLaws.{lies_at, class_same}
 use Rattle.group_laws.specs.Places.{Place, core_of}
 use Rattle.group_laws.specs.MemberViews.{View}
 use Rattle.group_board.specs.Views.{after_post}
 use Rattle.licence.specs.Licence.{Licensed, grounded}
 use Rattle.core_log.proofs.ChunkImages.{outside_chunk}
 use Rattle.core_worker.specs.declared.worker.Worker.{Worker}
-use Rattle.core_worker.specs.declared.types.Place as places
 use Rattle.core_worker.specs.declared.types.Leading.TheVariants as leads
 use Rattle.core_worker.specs.declared.types.Place.TheVariants.{Staged}
 use Rattle.batch_leader.specs.declared.buffer.BatchBuffer.{BatchBuffer}
 use Rattle.core_worker.specs.OwnPlaces.{place_at}
 use Rattle.core_worker.specs.Posting.{IsStagedWith}
 use Rattle.core_worker.specs.KeyTies.{IsBlockFor}
-use Rattle.core_worker.specs.Ties.{is_lost, HasSpaceFor, Holds, Stands}
+use Rattle.core_worker.specs.Ties.{HasSpaceFor, Holds, Stands}
 use Rattle.store_image.proofs.BlockLaws.{chunk_of as block_chunk_of}
 use Rattle.core_worker.proofs.Writing.{in_chunks}
 use Rattle.core_log.proofs.LogWrites.{log_beside}
@@ -171,7 +164,7 @@ module _ (s t : State) (p : Place) (m : ℕ) (v : View) (w : Worker) (H : Holds 
   only_chunk : During s t (KeepsOutside (cell_now s) (first_of w.log j) (first_of w.log j + chunk_words w.log.layout))
   only_chunk = to_log (λ l c. During s t (KeepsOutside (cell_now s) (chunk_first l c j) (chunk_first l c j + chunk_words l)))
       (subst (λ (k : ℕ). During s t (KeepsOutside (cell_now s) (chunk_first p.layout (core_of p m) k) (chunk_first p.layout (core_of p m) k + chunk_words p.layout))) (ap (λ l. block_chunk_of l q) (sym H.allocator_layout))
-        (block_chunk s t p m v a q class (block v unused S.licensed) writes))
+      (block_chunk s t p m v a q class (block v unused S.licensed) writes))
 
   before : IsTelling t → IsTelling s
   before telling = told_at_entry s t (KeepsOutside (cell_now s) (first_of w.log j) (first_of w.log j + chunk_words w.log.layout)) only_chunk telling
@@ -184,7 +177,7 @@ module _ (s t : State) (p : Place) (m : ℕ) (v : View) (w : Worker) (H : Holds 
       let size = (layout_numbers w.log.layout (S.log runs).own.layout).size in
       let out = outside_chunk w.log.layout w.log.part j k 0 ne (omega (arith, size)) in
       surely_kept (cell_now s (first_of w.log k)) (cell_now t (first_of w.log k)) x sure
-        (at_exit s t (KeepsOutside (cell_now s) (first_of w.log j) (first_of w.log j + chunk_words w.log.layout)) only_chunk telling (first_of w.log k) (⊎_elim (λ lo. inl (omega (arith, lo))) (λ hi. inr (omega (arith, hi))) out))
+      (at_exit s t (KeepsOutside (cell_now s) (first_of w.log j) (first_of w.log j + chunk_words w.log.layout)) only_chunk telling (first_of w.log k) (⊎_elim (λ lo. inl (omega (arith, lo))) (λ hi. inr (omega (arith, hi))) out))
 
   module _ (b : Sets) (value : List ℕ) (wrote : WroteValue t w.allocator b q class value) (slot : ℕ) (e : Entry) (long : has_class (length value) class ≡ true) (points : e.body ≡ bodies.Pointer q) where
     other : (k : ℕ) → chunk_is_due b k ≡ true → (chunk_is_due a k ≡ true) × (k ≢ j)
@@ -217,13 +210,14 @@ module _ (s t : State) (p : Place) (m : ℕ) (v : View) (w : Worker) (H : Holds 
           (was.0, kind_stays telling k (in_chunks a H.sets k (H.sets.due_in k o.0)) o.1 0 was.1);
       cut = λ r k c is un telling. ⊎_elim
           (λ same.
-            let cls : Some c ≡ Some class = sym (sym (wrote.classes k) ∙ is) ∙ ap (chunk_class a) same ∙ lies_in.0 in
-            let c_is : c ≡ class = cc cls in
-            (ap (tail_of w.log.chunks) same ∙ no_tail (before telling),
-             subst (λ (x : ℕ). Surely (cell_now t (first_of w.log k)) (2 + 256 * x)) (sym c_is) (subst (λ (x : ℕ). Surely (cell_now t (first_of w.log x)) (2 + 256 * class)) (sym same) (subst (λ (x : ℕ). Surely (cell_now t x) (2 + 256 * class)) (sym (first_is j)) (wrote.head telling)))))
+          let cls : Some c ≡ Some class = sym (sym (wrote.classes k) ∙ is) ∙ ap (chunk_class a) same ∙ lies_in.0 in
+          let c_is : c ≡ class = cc cls in (
+            ap (tail_of w.log.chunks) same ∙ no_tail (before telling),
+            subst (λ (x : ℕ). Surely (cell_now t (first_of w.log k)) (2 + 256 * x)) (sym c_is) (subst (λ (x : ℕ). Surely (cell_now t (first_of w.log x)) (2 + 256 * class)) (sym same) (subst (λ (x : ℕ). Surely (cell_now t x) (2 + 256 * class)) (sym (first_is j)) (wrote.head telling))),
+          ))
           (λ ne.
-            let was = S.cut runs k c (sym (wrote.classes k) ∙ is) (undue k ne un) (before telling) in
-            (was.0, kind_stays telling k (H.sets.cut_in k c (sym (wrote.classes k) ∙ is)).0 ne (2 + 256 * c) was.1))
+          let was = S.cut runs k c (sym (wrote.classes k) ∙ is) (undue k ne un) (before telling) in
+          (was.0, kind_stays telling k (H.sets.cut_in k c (sym (wrote.classes k) ∙ is)).0 ne (2 + 256 * c) was.1))
           (cases_eq k j);
     }
 

@@ -1,11 +1,10 @@
 -- What a block that was taken changes of an allocator.
-use Rattle.std.proofs.Common.{◌≡◌, ◌≢◌, ◌⊎◌, inl, inr, ⊎_elim, ℕ, ◌+◌, ◌-◌, ◌*◌, ◌%◌, ◌^◌, ◌≤◌, ◌<◌, ◌==◌, ◌&&◌, ◌||◌, not, nat_le, Bool, true, false, cond, Option, Some, None, refl, sym, ◌∙◌, ap, subst, arith}
+use Rattle.std.proofs.Common.{◌≡◌, ◌⊎◌, inl, inr, ⊎_elim, ℕ, ◌+◌, ◌%◌, ◌^◌, ◌==◌, ◌||◌, not, Bool, true, false, cond, Some, None, refl, sym, ◌∙◌, ap, subst, arith}
 use Rattle.std.specs.Option.{option_and_then}
 use Rattle.std.proofs.lemmas.Nat.{pow_pos}
 use Rattle.std.proofs.lemmas.Bool.{and_parts, and_from, le-leb, eq-eqb, eqb-true, eqb-false, or_cases}
 use Rattle.log_entry.specs.declared.entry.Body.{Body}
 use Rattle.log_entry.specs.declared.entry.Body.TheVariants as bodies
-use Rattle.chunk_map.specs.declared.layouts.Geometry.{Geometry}
 use Rattle.chunk_map.specs.Layouts.{is_class, has_class}
 use Rattle.store_image.specs.Parts.{chunk_units, is_start}
 use Rattle.lazy_alloc.specs.Sets.{Sets, AreSets, Takes, TakesBlock, Cuts, start_in, chunk_of, chunk_is_free, chunk_class, chunk_is_due, class_at, block_is_used}
@@ -93,15 +92,15 @@ module _ (old new : Sets) (sets : AreSets old) (sets' : AreSets new) (class q n 
       let many = class_fits old.layout class fits in
       let some = pow_pos class in
       let here : class_at new q ≡ Some class = (λ i. class_by (t.layout_is i) (t.part_is i) (chunk_class new) q)
-            ∙ placed_class old.layout old.part j 1 q was.0 (omega (arith, many, some)) t.first (chunk_class new)
-            ∙ ap (option_and_then (start_in old.layout 1)) t.cut ∙ ap (λ (b : Bool). cond b (Some class) None) first_start in
+      ∙ placed_class old.layout old.part j 1 q was.0 (omega (arith, many, some)) t.first (chunk_class new)
+      ∙ ap (option_and_then (start_in old.layout 1)) t.cut ∙ ap (λ (b : Bool). cond b (Some class) None) first_start in
       record {
         sets = sets';
         layout_is = t.layout_is;
         part_is = t.part_is;
         still = block_still t.used (λ r c e.
-          let l = lies_at old r c sets e in
-          class_point old new r part (t.classes (chunk_of old r) (λ at. (let both : None ≡ Some c = sym was.1 ∙ ap (chunk_class old) (sym at) ∙ l.class_is in cc both))) ∙ e);
+            let l = lies_at old r c sets e in
+            class_point old new r part (t.classes (chunk_of old r) (λ at. (let both : None ≡ Some c = sym was.1 ∙ ap (chunk_class old) (sym at) ∙ l.class_is in cc both))) ∙ e);
         fresh = fresh_block t.used here t.was_unused;
         only = only_new t.used;
         free = λ i e. (and_parts (chunk_is_free old i) (not (i == j)) (sym (t.free i) ∙ e)).0;

@@ -1,20 +1,14 @@
 -- What giving a change back leaves of what a core leads.
-use Rattle.std.proofs.Common.{◌≡◌, ◌≢◌, ◌⊎◌, inl, inr, ⊎_elim, ℕ, Bool, true, false, List, [], ◌∷◌, Option, Some, None, refl, sym, ◌∙◌, ap, subst}
+use Rattle.std.proofs.Common.{◌≡◌, ◌≢◌, ⊎_elim, ℕ, Bool, true, false, List, [], Option, None, sym, ◌∙◌, ap, subst}
 use Rattle.group_laws.specs.State.{Group}
 use Rattle.group_laws.specs.Runs.{Kind}
-use Rattle.group_laws.specs.Places.{Place, members}
-use Rattle.log_entry.specs.declared.entry.Entry.{Entry}
+use Rattle.group_laws.specs.Places.{Place}
 use Rattle.group_laws.specs.MemberViews.{View}
-use Rattle.group_board.specs.Views.{after_mark, after_fail}
 use Rattle.batch_leader.specs.declared.taken.Taken.{Taken}
-use Rattle.batch_leader.specs.declared.buffer.BatchBuffer.{BatchBuffer}
-use Rattle.batch_leader.specs.declared.states.Persisted.{Persisted}
-use Rattle.batch_leader.specs.declared.states.FailedBatch.{FailedBatch}
 use Rattle.batch_leader.specs.TakenChanges.{taken_in, HasOut}
 use Rattle.batch_leader.specs.Leading.{IsCertain, IsLost}
 use Rattle.batch_leader.specs.GivingBack.{GivesBack, GivesFirst}
 use Rattle.core_worker.specs.declared.types.Leading.{Leading}
-use Rattle.core_worker.specs.declared.types.Leading.TheVariants as leads
 use Rattle.core_worker.specs.declared.worker.Worker.{Worker}
 use Rattle.group_board.specs.Seats.{SeatAt}
 use Rattle.core_worker.specs.Ties.{LeadsAt, HasSpaceFor, is_lost}

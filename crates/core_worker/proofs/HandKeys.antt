@@ -1,14 +1,13 @@
 -- What a worker holds of an own key, by its ties alone.
-use Rattle.std.proofs.Common.{◌≡◌, ◌≢◌, ◌⊎◌, inl, inr, ⊎_elim, ℕ, zero, suc, ◌+◌, ◌<◌, ◌==◌, Bool, true, false, cond, List, [], ◌∷◌, length, Option, Some, None, refl, sym, ◌∙◌, ap, subst, arith}
+use Rattle.std.proofs.Common.{◌≡◌, ◌≢◌, inl, inr, ⊎_elim, ℕ, zero, suc, ◌<◌, Bool, true, false, cond, List, [], ◌∷◌, Option, Some, None, refl, sym, ◌∙◌, ap, subst}
 use Rattle.std.specs.Prelude.{option_map}
 use Rattle.std.proofs.lemmas.Bool.{eqb-true, eq-eqb}
 use Rattle.fs_model.specs.declared.model.Request.{Request}
-use Rattle.fs_model.specs.declared.model.Request.TheVariants.{Put, Delete}
+use Rattle.fs_model.specs.declared.model.Request.TheVariants.{Delete}
 use Rattle.fs_model.specs.Cells.{cell_after, is_change}
 use Rattle.log_entry.specs.declared.entry.Body.{Body}
 use Rattle.log_entry.specs.declared.entry.Body.TheVariants as bodies
 use Rattle.group_laws.specs.declared.types.Pending.{Pending}
-use Rattle.group_laws.specs.declared.types.Block.{Block}
 use Rattle.group_laws.specs.Places as places
 use Rattle.group_laws.specs.Steps.{bytes_of}
 use Rattle.group_laws.specs.MemberViews.{View}
@@ -19,7 +18,7 @@ use Rattle.core_worker.specs.declared.worker.Worker.{Worker}
 use Rattle.core_worker.specs.OwnPlaces.{place_at, key_in, is_of, is_busy, request_by, request_pending, bytes_or}
 use Rattle.core_worker.specs.KeyTies.{IsPlaced, Offers}
 use Rattle.core_worker.specs.Ties.{Holds}
-use Rattle.core_worker.specs.WorkerMoves.{Placed, Hands, placed_in, placed_for, hands_of, HoldsKey}
+use Rattle.core_worker.specs.WorkerMoves.{Placed, placed_in, placed_for, hands_of, HoldsKey}
 use Rattle.core_worker.proofs.Quiet.{found_at}
 
 abbrev asks : View → ℕ → Body → Request
@@ -79,10 +78,13 @@ holds_key p m v w H k = record {
   posted = λ x e posted. let at = found_at v w.places.items k x e in posted_of p m v k at.0 x (place_at w.places.items at.0) (H.placed at.0 (subst (λ (n : ℕ). at.0 < n) H.eight at.1)) at.2 at.3 posted;
   pending = λ q has. ⊎_elim
       (λ h.
-        let f = first_has v k w.places.items h.0 (ap key_in h.4) in
-        let same = H.apart f.0 h.0 k f.1 (ap key_in h.4) in
-        inl (record { number = h.1; request = asks v k q.entry.body; posted = true },
-          f.2 ∙ ap (λ t. placed_in v (place_at w.places.items t)) same ∙ ap (placed_in v) h.4 ∙ ap (λ o. option_map (λ r. record { number = h.1; request = r; posted = true }) (request_pending v k o)) has, refl))
+      let f = first_has v k w.places.items h.0 (ap key_in h.4) in
+      let same = H.apart f.0 h.0 k f.1 (ap key_in h.4) in
+      inl (
+        record { number = h.1; request = asks v k q.entry.body; posted = true },
+        f.2 ∙ ap (λ t. placed_in v (place_at w.places.items t)) same ∙ ap (placed_in v) h.4 ∙ ap (λ o. option_map (λ r. record { number = h.1; request = r; posted = true }) (request_pending v k o)) has,
+        refl,
+      ))
       (λ d. inr (d.0, none_for v k w.places.items d.1, d.2))
       (H.pending k q has);
 }

@@ -1,5 +1,5 @@
 -- What is led is the same at each seat of a member.
-use Rattle.std.proofs.Common.{◌≡◌, ◌<◌, ◌≤◌, ℕ, refl, sym, ◌∙◌, ap, subst}
+use Rattle.std.proofs.Common.{◌≡◌, ◌<◌, ◌≤◌, ℕ, refl, subst}
 use Rattle.std.specs.List.{AllByRecursion}
 use Rattle.group_laws.specs.Places.{Place, members}
 use Rattle.group_laws.specs.MemberViews.{View}

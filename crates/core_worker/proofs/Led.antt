@@ -1,21 +1,15 @@
 -- What a leader's steps leave of the ties.
-use Rattle.std.proofs.Common.{◌≡◌, ◌≢◌, ◌⊎◌, inl, inr, ⊎_elim, ℕ, ◌<◌, Bool, true, false, List, [], ◌∷◌, ◌++◌, length, Option, Some, None, refl, sym, ◌∙◌, ap, subst, arith}
-use Rattle.pm_region.specs.State.{State, IsTelling, cell_now}
-use Rattle.pm_region.specs.Words.{MayLeaveIn}
+use Rattle.std.proofs.Common.{◌≡◌, inl, inr, ⊎_elim, ℕ, Bool, true, false, List, [], Option, refl, sym, ◌∙◌, subst}
+use Rattle.pm_region.specs.State.{State}
 use Rattle.log_entry.specs.declared.entry.Entry.{Entry}
 use Rattle.group_laws.specs.declared.types.Seen.{Seen}
-use Rattle.group_laws.specs.Places.{Place, members}
+use Rattle.group_laws.specs.Places.{Place}
 use Rattle.group_laws.specs.MemberViews.{View}
-use Rattle.licence.specs.Licence.{Licensed, grounded, part_at, part_end}
-use Rattle.group_laws.specs.Images.{IsLicensedBy}
+use Rattle.licence.specs.Licence.{grounded}
 use Rattle.licence.proofs.Quiet.{allowed, flown}
-use Rattle.licence.specs.ViewChanges.{AllowsAll}
 use Rattle.core_worker.specs.declared.types.Leading.{Leading}
-use Rattle.core_worker.specs.declared.types.Leading.TheVariants as leads
 use Rattle.core_worker.specs.declared.worker.Worker.{Worker}
-use Rattle.core_worker.specs.Supplies.{room_for}
-use Rattle.group_board.specs.Seats.{SeatAt}
-use Rattle.core_worker.specs.Ties.{Leads, LeadsAt, HasSpaceFor, is_lost, Holds, Stands}
+use Rattle.core_worker.specs.Ties.{Leads, HasSpaceFor, is_lost, Holds, Stands}
 
 -- a view in which a leader's fields are others
 abbrev pub led_view : View → List Entry → List Entry → (ℕ → ℕ → Option Entry) → Bool → List Seen → List Entry → View
@@ -41,9 +35,12 @@ holds_led p m v w kept flying taken holds looked took l H leads space lost = rec
   pending = H.pending;
   admitted = H.admitted;
   keys = λ k own which. let K = H.keys k own which in record { last = K.last; cell = K.cell; present = K.present; told = K.told };
-  blocks = record { held = H.blocks.held; staged = λ q x. H.blocks.staged q (record { slot = x.slot; number = x.number; entry = x.entry; value = x.value; place = x.place; points = x.points });
-      once = λ q x y. H.blocks.once q (record { slot = x.slot; number = x.number; entry = x.entry; value = x.value; place = x.place; points = x.points }) (record { slot = y.slot; number = y.number; entry = y.entry; value = y.value; place = y.place; points = y.points });
-      only = λ q used. ⊎_elim (λ b. inl b) (λ x. inr (record { slot = x.slot; number = x.number; entry = x.entry; value = x.value; place = x.place; points = x.points })) (H.blocks.only q used) };
+  blocks = record {
+    held = H.blocks.held;
+    staged = λ q x. H.blocks.staged q (record { slot = x.slot; number = x.number; entry = x.entry; value = x.value; place = x.place; points = x.points });
+    once = λ q x y. H.blocks.once q (record { slot = x.slot; number = x.number; entry = x.entry; value = x.value; place = x.place; points = x.points }) (record { slot = y.slot; number = y.number; entry = y.entry; value = y.value; place = y.place; points = y.points });
+    only = λ q used. ⊎_elim (λ b. inl b) (λ x. inr (record { slot = x.slot; number = x.number; entry = x.entry; value = x.value; place = x.place; points = x.points })) (H.blocks.only q used);
+  };
   waits = H.waits;
   leads = leads;
   space = space;
@@ -123,9 +120,12 @@ failed_by p m v u w taken l e H leads space stopped = subst (λ (x : View). Hold
   pending = H.pending;
   admitted = H.admitted;
   keys = λ k own which. let K = H.keys k own which in record { last = K.last; cell = K.cell; present = K.present; told = K.told };
-  blocks = record { held = H.blocks.held; staged = λ q x. H.blocks.staged q (record { slot = x.slot; number = x.number; entry = x.entry; value = x.value; place = x.place; points = x.points });
-      once = λ q x y. H.blocks.once q (record { slot = x.slot; number = x.number; entry = x.entry; value = x.value; place = x.place; points = x.points }) (record { slot = y.slot; number = y.number; entry = y.entry; value = y.value; place = y.place; points = y.points });
-      only = λ q used. ⊎_elim (λ b. inl b) (λ x. inr (record { slot = x.slot; number = x.number; entry = x.entry; value = x.value; place = x.place; points = x.points })) (H.blocks.only q used) };
+  blocks = record {
+    held = H.blocks.held;
+    staged = λ q x. H.blocks.staged q (record { slot = x.slot; number = x.number; entry = x.entry; value = x.value; place = x.place; points = x.points });
+    once = λ q x y. H.blocks.once q (record { slot = x.slot; number = x.number; entry = x.entry; value = x.value; place = x.place; points = x.points }) (record { slot = y.slot; number = y.number; entry = y.entry; value = y.value; place = y.place; points = y.points });
+    only = λ q used. ⊎_elim (λ b. inl b) (λ x. inr (record { slot = x.slot; number = x.number; entry = x.entry; value = x.value; place = x.place; points = x.points })) (H.blocks.only q used);
+  };
   waits = H.waits;
   leads = subst (λ (x : View). Leads p m x l) e leads;
   space = λ runs. space;

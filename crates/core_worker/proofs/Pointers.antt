@@ -1,5 +1,5 @@
 -- The pointer of a block of the part is small, and there is a block where a put is not refused.
-use Rattle.std.proofs.Common.{◌≡◌, ◌≢◌, ◌⊎◌, inl, inr, ⊎_elim, ℕ, zero, suc, ◌+◌, ◌-◌, ◌*◌, ◌/◌, ◌%◌, ◌^◌, ◌<◌, ◌≤◌, ◌==◌, ◌&&◌, ◌||◌, not, Bool, true, false, cond, leb, ltb, List, [], ◌∷◌, length, Option, Some, None, refl, sym, ◌∙◌, ap, subst, arith}
+use Rattle.std.proofs.Common.{◌≡◌, ◌≢◌, inl, ⊎_elim, ℕ, suc, ◌+◌, ◌-◌, ◌*◌, ◌/◌, ◌^◌, ◌<◌, ◌≤◌, ◌==◌, ◌&&◌, ◌||◌, not, Bool, true, false, cond, leb, ltb, List, [], ◌∷◌, length, Option, Some, None, refl, sym, ◌∙◌, subst, arith}
 use Rattle.std.specs.Option.{IsSome}
 use Rattle.std.specs.List.{AllByRecursion}
 use Rattle.std.proofs.lemmas.Nat.{pow_pos}
@@ -9,11 +9,9 @@ use Rattle.chunk_map.specs.Layouts.{has_class}
 use Rattle.std.proofs.lemmas.Bool.{le-leb}
 use Rattle.std.proofs.lemmas.Bool.{eq-eqb, ne_eqb, and_parts, or_cases, leb-true, eqb-true, leb-false, ltb-false}
 use Rattle.chunk_map.specs.declared.layouts.Geometry.{Geometry}
-use Rattle.chunk_map.specs.Layouts.{IsLayout, is_class, part_first, chunk_first, total_bytes, head_at, chunk_words}
-use Rattle.chunk_map.proofs.LayoutLaws.{numbers_of, part_within}
-use Rattle.store_image.specs.Parts.{chunk_units, chunk_at, unit_at, class_behind}
-use Rattle.store_image.proofs.Places.{Numbers, layout_numbers}
-use Rattle.store_image.proofs.BlockLaws.{chunk_of}
+use Rattle.chunk_map.specs.Layouts.{IsLayout, is_class}
+use Rattle.chunk_map.proofs.LayoutLaws.{numbers_of}
+use Rattle.store_image.specs.Parts.{chunk_units}
 use Rattle.lazy_alloc.specs.Sets.{Sets, AreSets, class_at, chunk_is_free, is_free_block, free_chunk_count, free_block_count, part_unit, Takes}
 use Rattle.lazy_alloc.specs.Sets as sets
 use Rattle.lazy_alloc.proofs.SetLaws.{lies_at}
@@ -33,10 +31,9 @@ use Rattle.core_worker.specs.KeyTies.{IsPlaced, LeftIn}
 use Rattle.core_worker.specs.Refusals.{IsCounted, IsMeasured}
 use Rattle.core_room.specs.declared.supply.Supply.{Supply}
 use Rattle.core_worker.specs.Supplies.{supply_of, why_put, free_blocks}
-use Rattle.core_room.specs.RoomRule.{pledged, lacks_block, lacks_room, may_cut, counts_at}
+use Rattle.core_room.specs.RoomRule.{pledged, lacks_block, lacks_room, may_cut}
 use Rattle.core_room.specs.Lengths.{lines_needed, class_for}
 use Rattle.core_worker.specs.Beginning.{HoldsAside}
-use Rattle.core_worker.specs.Ties.{Holds}
 
 each : (ps : List Place) → ((s : ℕ) → s < length ps → IsCounted (place_at ps s)) → AllByRecursion IsCounted ps
 each [] h = tt

@@ -1,28 +1,10 @@
 -- A worker whose ties hold keeps what is promised of its keys, and a leader's steps answer nothing.
-use Rattle.std.proofs.Common.{◌≡◌, ◌≢◌, ◌⊎◌, inl, inr, ⊎_elim, ℕ, zero, suc, ◌+◌, ◌<◌, ◌==◌, Bool, true, false, cond, List, [], ◌∷◌, ◌++◌, map, length, Option, Some, None, refl, sym, ◌∙◌, ap, subst, arith, append-nil}
-use Rattle.std.proofs.lemmas.Bool.{eqb-true, eqb-false, eq-eqb}
-use Rattle.fs_model.specs.declared.model.Request.{Request}
-use Rattle.fs_model.specs.declared.model.Request.TheVariants.{Put, Delete}
-use Rattle.fs_model.specs.Cells.{cell_after, is_change}
-use Rattle.log_entry.specs.declared.entry.Body.{Body}
-use Rattle.log_entry.specs.declared.entry.Body.TheVariants as bodies
-use Rattle.log_entry.specs.declared.entry.Entry.{Entry}
-use Rattle.group_laws.specs.declared.types.Pending.{Pending}
-use Rattle.group_laws.specs.declared.types.Block.{Block}
-use Rattle.group_laws.specs.declared.types.Seen.{Seen}
-use Rattle.group_laws.specs.Places as places
-use Rattle.group_laws.specs.Steps.{bytes_of}
+use Rattle.std.proofs.Common.{◌≡◌, inl, ℕ, zero, suc, ◌<◌, Bool, true, false, cond, List, [], ◌∷◌, length, Option, Some, None, refl, sym, ◌∙◌, ap, arith, append-nil}
+use Rattle.std.proofs.lemmas.Bool.{eqb-true}
 use Rattle.group_laws.specs.MemberViews.{View}
-use Rattle.group_board.specs.Views.{left_in}
-use Rattle.core_worker.specs.declared.types.Leading.{Leading}
 use Rattle.core_worker.specs.declared.types.Place.{Place}
-use Rattle.core_worker.specs.declared.types.Place.TheVariants as kinds
-use Rattle.core_worker.specs.declared.worker.Worker.{Worker}
-use Rattle.core_worker.specs.OwnPlaces.{place_at, key_in, is_of, is_busy, AreApart, request_by, request_pending, bytes_or}
-use Rattle.core_worker.specs.KeyTies.{IsPlaced, Offers}
-use Rattle.core_worker.specs.Ties.{Holds}
-use Rattle.core_worker.specs.WorkerMoves.{Placed, Hands, placed_in, placed_for, hands_of, line_in, Fixed, HoldsKey, AnswersKey}
-use Rattle.core_worker.proofs.Led.{led_view}
+use Rattle.core_worker.specs.OwnPlaces.{place_at, key_in, is_of}
+use Rattle.core_worker.specs.WorkerMoves.{Placed, Hands, placed_in, placed_for, line_in, AnswersKey}
 
 -- a call that answers nothing of a key, and leaves what stands of it
 pub quiet_key : (v u : View) (w : Hands) (k : ℕ) → u.cell k ≡ v.cell k → u.pending k ≡ v.pending k → AnswersKey v u w w k [] []

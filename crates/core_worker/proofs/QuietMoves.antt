@@ -1,5 +1,5 @@
 -- A leader's item is a whole move to whoever runs several workers.
-use Rattle.std.proofs.Common.{◌≡◌, ◌⊎◌, inl, inr, ℕ, Bool, true, false, cond, List, [], ◌∷◌, ◌++◌, ◌==◌, map, Option, Some, None, refl, sym, ◌∙◌, ap, subst, append-nil}
+use Rattle.std.proofs.Common.{◌≡◌, ◌⊎◌, inl, ℕ, true, cond, List, [], ◌∷◌, ◌++◌, ◌==◌, map, Option, Some, None, refl, sym, ◌∙◌, ap, append-nil}
 use Rattle.std.specs.Prelude.{option_map, option_to_list, IfSome, IsSomeAnd}
 use Rattle.std.specs.List.{filter}
 use Rattle.fs_model.specs.Cells.{key_of}
@@ -8,7 +8,6 @@ use Rattle.pm_region.specs.Words.{KeepsOutside}
 use Rattle.log_entry.specs.declared.entry.Entry.{Entry}
 use Rattle.conflict_queue.specs.Waiting.{waiting}
 use Rattle.group_laws.specs.declared.types.Pending.{Pending}
-use Rattle.group_laws.specs.declared.types.Block.{Block}
 use Rattle.group_laws.specs.declared.types.Slot.TheVariants.{Failed}
 use Rattle.group_laws.specs.Places as places
 use Rattle.group_laws.specs.State.{Group}
@@ -22,7 +21,7 @@ use Rattle.core_worker.specs.declared.worker.Worker.{Worker}
 use Rattle.core_worker.specs.OwnPlaces.{key_in, is_of, request_pending}
 use Rattle.core_worker.specs.Ties.{Holds}
 use Rattle.core_worker.specs.Turns.{Steps}
-use Rattle.core_worker.specs.WorkerMoves.{Placed, Hands, placed_in, placed_for, placed, hands_of, line_in, AnswersKey, WorkerMoves, asked_by}
+use Rattle.core_worker.specs.WorkerMoves.{placed_in, placed_for, placed, hands_of, line_in, WorkerMoves, asked_by}
 use Rattle.core_worker.proofs.HandKeys.{holds_key}
 
 request_same : (v u : View) (k : ℕ) (o : Option Pending) → u.blocks ≡ v.blocks → request_pending u k o ≡ request_pending v k o

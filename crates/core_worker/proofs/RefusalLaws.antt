@@ -1,5 +1,5 @@
 -- A put that is short enough and has a version left is refused for want of room alone.
-use Rattle.std.proofs.Common.{◌≡◌, ℕ, ◌-◌, ◌/◌, ◌<◌, ◌≤◌, cond, Option, Some, None}
+use Rattle.std.proofs.Common.{◌≡◌, ℕ, ◌-◌, ◌/◌, ◌<◌, ◌≤◌, cond, Some}
 use Rattle.std.proofs.lemmas.Bool.{le-ltb, lt-leb}
 use Rattle.chunk_map.specs.declared.layouts.Geometry.{Geometry}
 use Rattle.lazy_alloc.specs.Sets.{Sets}

@@ -8,7 +8,6 @@ use Rattle.log_entry.specs.declared.entry.Entry.{Entry}
 use Rattle.log_entry.specs.declared.entry.Body.{Body}
 use Rattle.log_entry.specs.declared.entry.Body.TheVariants as bodies
 use Rattle.log_entry.specs.Spelling.{HasSpelling}
-use Rattle.chunk_map.specs.declared.layouts.Geometry.{Geometry}
 use Rattle.chunk_map.specs.Layouts.{part_first}
 use Rattle.core_index.specs.Index.{known_at, room_at}
 use Rattle.core_index.specs.Records.{last_of}
@@ -17,15 +16,14 @@ use Rattle.group_laws.specs.declared.types.Pending.{Pending}
 use Rattle.group_laws.specs.declared.types.Block.{Block}
 use Rattle.group_laws.specs.Places.{Place, owner}
 use Rattle.group_laws.specs.MemberViews.{View}
-use Rattle.group_board.specs.Conditions.{IsFree}
 use Rattle.batch_leader.specs.declared.buffer.BatchBuffer.{BatchBuffer}
 use Rattle.core_worker.specs.declared.types.Leading.TheVariants as leads
 use Rattle.core_worker.specs.declared.types.Place as places
 use Rattle.core_worker.specs.declared.types.Place.TheVariants.{Free, Staged, Posted}
 use Rattle.core_worker.specs.declared.worker.Worker.{Worker}
 use Rattle.core_worker.specs.OwnPlaces.{place_at, key_in, is_busy, Replaces}
-use Rattle.core_worker.specs.KeyTies.{IsPlaced, IsStagedBlock, IsBlockFor, AreBlocks}
-use Rattle.core_worker.specs.Ties.{Holds, Stands, HasSpaceFor}
+use Rattle.core_worker.specs.KeyTies.{IsPlaced, IsStagedBlock, IsBlockFor}
+use Rattle.core_worker.specs.Ties.{Stands, HasSpaceFor}
 use Rattle.core_worker.specs.Beginning.{HoldsAside}
 use Rattle.core_worker.proofs.Posts.{busy_by, busy_has}
 use Rattle.core_worker.proofs.Gains.{Allots}
@@ -45,7 +43,6 @@ value_in (Posted n k l) = []
 
 module _ (p : Place) (m : ℕ) (v : View) (w : Worker) (H : HoldsAside p m v w) (runs : w.stopped ≡ false) (slot : ℕ) (lt : slot < 8) (was : place_at w.places.items slot ≡ Free) (number : ℕ) (e : Entry) (value : List ℕ)
     (mine : owner p e.key ≡ m) (idle : is_busy w.places.items e.key ≡ false) (spelled : HasSpelling e) (version : e.version ≡ last_of (known_at w.index e.key) + 1) (live : e.body ≡ bodies.Tombstone → v.cell e.key ≢ None) (room : 0 < room_at w.index e.key) where
-
   none_pending : v.pending e.key ≡ None
   none_pending = by (v.pending e.key) refl where
     by : (o : Option Pending) → v.pending e.key ≡ o → o ≡ None
@@ -99,7 +96,7 @@ module _ (p : Place) (m : ℕ) (v : View) (w : Worker) (H : HoldsAside p m v w) 
       eight = R.count ∙ H.eight;
       placed = λ s low. ⊎_elim
           (λ at. subst (λ (n : ℕ). IsPlaced p m v n (place_at ps.items n)) (sym at) (subst (IsPlaced p m v slot) (sym R.here)
-            (subst (IsPlaced p m v slot) was (H.placed slot lt), mine, none_pending, spelled, version ∙ ap (λ n. n + 1) (sym (H.keys e.key mine (inl runs)).last), live)))
+          (subst (IsPlaced p m v slot) was (H.placed slot lt), mine, none_pending, spelled, version ∙ ap (λ n. n + 1) (sym (H.keys e.key mine (inl runs)).last), live)))
           (λ ne. subst (IsPlaced p m v s) (sym (R.others s ne)) (H.placed s low))
           (cases_eq s slot);
       apart = λ s t k x y. ⊎_elim

@@ -1,5 +1,5 @@
 -- The waiting requests of a key are begun one after the other.
-use Rattle.std.proofs.Common.{◌≡◌, ◌≢◌, ◌⊎◌, inl, inr, ⊎_elim, ℕ, ◌+◌, ◌<◌, ◌≤◌, ◌==◌, Bool, true, false, cond, List, [], ◌∷◌, length, Option, Some, None, Result, Ok, Err, OnOk, refl, sym, ◌∙◌, ap, subst, arith}
+use Rattle.std.proofs.Common.{◌≡◌, ℕ, ◌==◌, Bool, true, false, cond, List, [], ◌∷◌, Option, refl, sym, ◌∙◌, ap}
 use Rattle.std.specs.List.{filter}
 use Rattle.std.proofs.lemmas.Bool.{eqb-true}
 use Rattle.pm_region.specs.State.{State}
@@ -9,9 +9,8 @@ use Rattle.conflict_queue.specs.Waiting.{waiting, TakesFirst}
 use Rattle.group_laws.specs.Places.{Place}
 use Rattle.group_laws.specs.MemberViews.{View}
 use Rattle.core_worker.specs.declared.worker.Worker.{Worker}
-use Rattle.core_worker.specs.OwnPlaces.{is_busy}
-use Rattle.core_worker.specs.Beginning.{HoldsAside, Begins, BeginsAll}
-use Rattle.core_worker.specs.Ties.{Holds, Stands, HasSpaceFor}
+use Rattle.core_worker.specs.Beginning.{HoldsAside}
+use Rattle.core_worker.specs.Ties.{Stands, HasSpaceFor}
 use Rattle.core_worker.specs.declared.types.Leading.{Leading}
 use Rattle.core_worker.specs.declared.types.Leading.TheVariants as leads
 
@@ -29,9 +28,30 @@ first_key old new k h t = eqb-true (key_of h.request) k (first_of (λ x. key_of 
 -- with nothing waiting the ties say nothing of the queue, nor of what is in hand
 pub aside_other : (p : Place) (m : ℕ) (v : View) (w : Worker) (q : List Held) (h : Option Held) (b : Bool) → HoldsAside p m v w → HoldsAside p m v (record w { queue = q; in_hand = h; winds_down = b })
 aside_other p m v w q h b H = record {
-  place = H.place; member = H.member; core = H.core; layout = H.layout; log_layout = H.log_layout; log_part = H.log_part; sets = H.sets; allocator_layout = H.allocator_layout; allocator_part = H.allocator_part;
-  spelled = H.spelled; eight = H.eight; placed = H.placed; apart = H.apart; pending = H.pending; admitted = H.admitted; keys = H.keys; blocks = H.blocks; waits = λ on k idle. refl; leads = H.leads;
-  space = λ r. by w.leading (H.space r); broken = H.broken; lost = H.lost; cleaning = H.cleaning; remembers = H.remembers;
+  place = H.place;
+  member = H.member;
+  core = H.core;
+  layout = H.layout;
+  log_layout = H.log_layout;
+  log_part = H.log_part;
+  sets = H.sets;
+  allocator_layout = H.allocator_layout;
+  allocator_part = H.allocator_part;
+  spelled = H.spelled;
+  eight = H.eight;
+  placed = H.placed;
+  apart = H.apart;
+  pending = H.pending;
+  admitted = H.admitted;
+  keys = H.keys;
+  blocks = H.blocks;
+  waits = λ on k idle. refl;
+  leads = H.leads;
+  space = λ r. by w.leading (H.space r);
+  broken = H.broken;
+  lost = H.lost;
+  cleaning = H.cleaning;
+  remembers = H.remembers;
 } where
   by : (l : Leading) → HasSpaceFor (record w { queue = [] }) l → HasSpaceFor (record w { queue = []; in_hand = h; winds_down = b }) l
   by (leads.Nothing x) h = tt

@@ -1,5 +1,5 @@
 -- What is kept where answers are given out, and where a worker winds down.
-use Rattle.std.proofs.Common.{◌≡◌, ℕ, true, false, refl}
+use Rattle.std.proofs.Common.{ℕ, true, refl}
 use Rattle.std.specs.declared.collections.VecDeque.{VecDeque}
 use Rattle.std.specs.Global.{Global}
 use Rattle.pm_region.specs.State.{State}
@@ -28,9 +28,30 @@ space w leads.Between h = tt
 
 pub wound_holds : (p : Place) (m : ℕ) (v : View) (w : Worker) → Holds p m v w → Holds p m v (record w { winds_down = true })
 wound_holds p m v w H = record {
-  place = H.place; member = H.member; core = H.core; layout = H.layout; log_layout = H.log_layout; log_part = H.log_part; sets = H.sets; allocator_layout = H.allocator_layout; allocator_part = H.allocator_part;
-  spelled = H.spelled; eight = H.eight; placed = H.placed; apart = H.apart; pending = H.pending; admitted = H.admitted; keys = H.keys; blocks = H.blocks; waits = λ on. absurd (cc on); leads = H.leads;
-  space = λ r. space w w.leading (H.space r); broken = H.broken; lost = H.lost; cleaning = H.cleaning; remembers = H.remembers;
+  place = H.place;
+  member = H.member;
+  core = H.core;
+  layout = H.layout;
+  log_layout = H.log_layout;
+  log_part = H.log_part;
+  sets = H.sets;
+  allocator_layout = H.allocator_layout;
+  allocator_part = H.allocator_part;
+  spelled = H.spelled;
+  eight = H.eight;
+  placed = H.placed;
+  apart = H.apart;
+  pending = H.pending;
+  admitted = H.admitted;
+  keys = H.keys;
+  blocks = H.blocks;
+  waits = λ on. absurd (cc on);
+  leads = H.leads;
+  space = λ r. space w w.leading (H.space r);
+  broken = H.broken;
+  lost = H.lost;
+  cleaning = H.cleaning;
+  remembers = H.remembers;
 }
 
 pub wound_stands : (s : State) (p : Place) (m : ℕ) (v : View) (w : Worker) → Stands s p m v w → Stands s p m v (record w { winds_down = true })

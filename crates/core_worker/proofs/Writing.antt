@@ -1,8 +1,7 @@
 -- A batch that is written: what it needs, and what it leaves of the ties.
-use Rattle.std.proofs.Common.{◌≡◌, ◌≢◌, ◌⊎◌, inl, inr, ⊎_elim, ℕ, zero, suc, ◌+◌, ◌-◌, ◌*◌, ◌^◌, ◌≤◌, ◌<◌, ◌&&◌, ◌==◌, not, Bool, true, false, List, [], ◌∷◌, ◌++◌, length, Option, Some, None, refl, sym, ◌∙◌, ap, subst, arith, cond}
+use Rattle.std.proofs.Common.{◌≡◌, ◌≢◌, inl, inr, ⊎_elim, ℕ, ◌+◌, ◌*◌, ◌^◌, ◌≤◌, ◌<◌, ◌&&◌, ◌==◌, not, Bool, true, false, List, [], ◌∷◌, length, Option, Some, None, refl, sym, ◌∙◌, ap, subst, arith}
 use Rattle.std.specs.Prelude.{count_by, is_some, is_none}
-use Rattle.std.proofs.lemmas.Bool.{cases_eq, eq-eqb, and_parts}
-use Rattle.pm_region.specs.Cell.{Cell}
+use Rattle.std.proofs.lemmas.Bool.{eq-eqb, and_parts}
 use Rattle.pm_region.specs.State.{State, Frame, IsTelling, cell_now, During}
 use Rattle.pm_region.specs.Words.{KeepsOutside, Surely}
 use Rattle.pm_region.proofs.Moments.{at_exit, told_at_entry}
@@ -12,15 +11,13 @@ use Rattle.chunk_map.specs.declared.layouts.Geometry.{Geometry}
 use Rattle.chunk_map.specs.Layouts.{numbers, chunk_first, chunk_words, part_first}
 use Rattle.store_image.proofs.Places.{layout_numbers}
 use Rattle.core_log.specs.Chunk.{padded}
-use Rattle.core_log.specs.Log.{LogState, StandsIn, tail_of, with_tail, first_of, open_first, open_number, open_tail}
+use Rattle.core_log.specs.Log.{LogState, tail_of, first_of, open_first, open_number, open_tail}
 use Rattle.core_log.specs.Entries.{AppendedBatch}
 use Rattle.core_log.proofs.TailLaws.{tail_other}
 use Rattle.core_log.proofs.BatchLaws.{open_has, open_chunk_of}
 use Rattle.batch_leader.specs.declared.states.Persisted.{Persisted}
-use Rattle.lazy_alloc.specs.Sets.{Sets, AreSets, SameBlocks, TakesChunk, TakesChunkOrNone, chunk_is_free, chunk_class, chunk_is_due, class_at, block_is_used, free_chunk_count}
-use Rattle.lazy_alloc.proofs.SetLaws.{SamePart, class_same}
-use Rattle.lazy_alloc.specs.Written.{PartLies}
-use Rattle.group_laws.specs.declared.types.Block.{Block}
+use Rattle.lazy_alloc.specs.Sets.{Sets, AreSets, SameBlocks, chunk_is_free, chunk_class, chunk_is_due}
+use Rattle.lazy_alloc.proofs.SetLaws.{class_same}
 use Rattle.group_laws.specs.declared.types.Seen.{Seen}
 use Rattle.group_laws.specs.Places.{Place, core_of}
 use Rattle.group_laws.specs.MemberViews.{View}
@@ -33,7 +30,7 @@ use Rattle.core_worker.specs.declared.types.Leading.{Leading}
 use Rattle.core_worker.specs.declared.types.Leading.TheVariants as leads
 use Rattle.core_worker.specs.declared.worker.Worker.{Worker}
 use Rattle.core_worker.specs.Supplies.{room_for}
-use Rattle.core_worker.specs.KeyTies.{IsBlockFor, IsStagedBlock, AreBlocks}
+use Rattle.core_worker.specs.KeyTies.{IsBlockFor, AreBlocks}
 use Rattle.core_worker.specs.Ties.{Leads, HasSpaceFor, is_lost, Holds, Stands}
 use Rattle.core_worker.specs.Turns.{TakesFor}
 use Rattle.core_worker.proofs.Led.{led_view}
@@ -125,9 +122,12 @@ holds_wrote p m v u w a log l stopped kept flying taken holds looked took e H sa
       pending = λ k q e. ⊎_elim (λ x. inl x) (λ y. inr (y.0, y.1, stays y.2)) (H.pending k q e);
       admitted = H.admitted;
       keys = λ k own which. let K = H.keys k own (⊎_elim (λ r. inl (running r)) (λ b. inr b) which) in record { last = K.last; cell = K.cell; present = K.present; told = K.told };
-      blocks = (let B = blocks_stay v w.allocator a w.places.items same H.blocks in record { held = B.held; staged = λ q x. B.staged q (record { slot = x.slot; number = x.number; entry = x.entry; value = x.value; place = x.place; points = x.points });
-          once = λ q x y. B.once q (record { slot = x.slot; number = x.number; entry = x.entry; value = x.value; place = x.place; points = x.points }) (record { slot = y.slot; number = y.number; entry = y.entry; value = y.value; place = y.place; points = y.points });
-          only = λ q used. ⊎_elim (λ b. inl b) (λ x. inr (record { slot = x.slot; number = x.number; entry = x.entry; value = x.value; place = x.place; points = x.points })) (B.only q used) });
+      blocks = (let B = blocks_stay v w.allocator a w.places.items same H.blocks in record {
+        held = B.held;
+        staged = λ q x. B.staged q (record { slot = x.slot; number = x.number; entry = x.entry; value = x.value; place = x.place; points = x.points });
+        once = λ q x y. B.once q (record { slot = x.slot; number = x.number; entry = x.entry; value = x.value; place = x.place; points = x.points }) (record { slot = y.slot; number = y.number; entry = y.entry; value = y.value; place = y.place; points = y.points });
+        only = λ q used. ⊎_elim (λ b. inl b) (λ x. inr (record { slot = x.slot; number = x.number; entry = x.entry; value = x.value; place = x.place; points = x.points })) (B.only q used);
+      });
       waits = H.waits;
       leads = subst (λ (x : View). Leads p m x l) e leads;
       space = λ runs. space;
@@ -201,8 +201,8 @@ module _ (s t : State) (p : Place) (m : ℕ) (v : View) (w : Worker) (a : Sets) 
         let out = outside_chunk w.log.layout w.log.part n j 0 ne (omega (arith, size)) in
         let at = open_at in
         subst (λ (x : ℕ). Surely (cell_now t x) k) (sym (first_same j))
-          (surely_kept (cell_now s (first_of w.log j)) (cell_now t (first_of w.log j)) k sure
-            (kept (first_of w.log j) (⊎_elim (λ below. inl (omega (arith, below, at))) (λ above. inr (omega (arith, above, at))) out)))
+        (surely_kept (cell_now s (first_of w.log j)) (cell_now t (first_of w.log j)) k sure
+        (kept (first_of w.log j) (⊎_elim (λ below. inl (omega (arith, below, at))) (λ above. inr (omega (arith, above, at))) out)))
 
     pub tail_stays : tail_of w.log.chunks j ≡ None → tail_of log'.chunks j ≡ None
     tail_stays none = ap (λ (l : LogState). tail_of l.chunks j) wrote.log_is ∙ tail_other (opened_for w.log o).chunks n (open_tail (opened_for w.log o) + length (padded ws)) j ne ∙ by_fresh o ne ∙ none where

@@ -1,5 +1,5 @@
 -- What beginning a request does: it is answered, or a change is staged.
-use Rattle.std.specs.Prelude.{◌≡◌, ◌≢◌, ◌⊎◌, ℕ, ◌+◌, ◌<◌, ◌==◌, not, Bool, true, false, List, [], ◌∷◌, ◌++◌, length, Option, Some, None, is_none}
+use Rattle.std.specs.Prelude.{◌≡◌, ◌⊎◌, ℕ, ◌+◌, ◌<◌, Bool, true, false, List, [], ◌∷◌, ◌++◌, length, Option, Some, None}
 use Rattle.fs_model.specs.declared.model.Request.{Request}
 use Rattle.fs_model.specs.declared.model.Reply.{Reply}
 use Rattle.fs_model.specs.declared.model.Reply.TheVariants.{Stopped}
@@ -9,17 +9,18 @@ use Rattle.log_entry.specs.declared.entry.Entry.{Entry}
 use Rattle.log_entry.specs.declared.entry.Body.{Body}
 use Rattle.log_entry.specs.declared.entry.Body.TheVariants as bodies
 use Rattle.conflict_queue.specs.declared.types.Held.{Held}
-use Rattle.conflict_queue.specs.Waiting.{AddsLast, TakesFirst, waiting}
-use Rattle.core_index.specs.Index.{known_at, room_at}
+use Rattle.conflict_queue.specs.Waiting.{TakesFirst, waiting}
+use Rattle.core_index.specs.Index.{known_at}
 use Rattle.core_index.specs.Records.{last_of}
-use Rattle.lazy_alloc.specs.Sets.{Sets, Takes}
+use Rattle.lazy_alloc.specs.Sets.{Takes}
 use Rattle.group_laws.specs.MemberViews.{View}
 use Rattle.group_laws.specs.Places as places
+use Rattle.group_board.specs.Seats.{SeatAt}
 use Rattle.core_worker.specs.Ties.{Holds}
 use Rattle.core_worker.specs.declared.types.Answer.{Answer}
 use Rattle.core_room.specs.declared.types.Shortage.{Shortage}
 use Rattle.core_worker.specs.declared.types.Place.{Place}
-use Rattle.core_worker.specs.declared.types.Place.TheVariants.{Free, Staged, Posted}
+use Rattle.core_worker.specs.declared.types.Place.TheVariants.{Free, Staged}
 use Rattle.core_worker.specs.declared.worker.Worker.{Worker}
 use Rattle.core_worker.specs.OwnPlaces.{place_at, is_free, is_busy, IsLowest, Replaces, request_by}
 use Rattle.core_worker.specs.Supplies.{supply_of, why}
@@ -36,6 +37,9 @@ answer_with n reply refusal = record { number = n; reply = reply; refusal = refu
 -- the worker holds as it does with nothing waiting: what is true of it while requests of a key that isn't busy are begun
 abbrev pub HoldsAside : places.Place → ℕ → View → Worker → Type 0
 HoldsAside p m v w = Holds p m v (record w { queue = [] })
+
+abbrev pub HoldsAsideAt : SeatAt → View → Worker → Type 0
+HoldsAsideAt seat v w = HoldsAside seat.place seat.number v w
 
 -- one of the eight places is free
 abbrev pub HasFree : List Place → Type 0

@@ -1,5 +1,5 @@
 -- What a worker knows of its keys, as its view has it.
-use Rattle.std.specs.Prelude.{◌≡◌, ◌≢◌, ◌⊎◌, ◌↔◌, ℕ, ◌+◌, ◌<◌, ◌≤◌, Bool, true, false, List, length, Option, Some, None, option_map}
+use Rattle.std.specs.Prelude.{◌≡◌, ◌≢◌, ◌⊎◌, ℕ, ◌+◌, ◌≤◌, true, List, length, Option, Some, None, option_map}
 use Rattle.log_entry.specs.declared.entry.Body.{Body}
 use Rattle.log_entry.specs.declared.entry.Body.TheVariants as bodies
 use Rattle.log_entry.specs.declared.entry.Entry.{Entry}
@@ -7,18 +7,15 @@ use Rattle.log_entry.specs.Spelling.{HasSpelling, words_of}
 use Rattle.chunk_map.specs.Layouts.{has_class}
 use Rattle.core_log.specs.Chunk.{lines_for}
 use Rattle.core_index.specs.Records.{KeyRecord, last_of, standing_of, standing_at}
-use Rattle.core_index.specs.Index.{known_at, room_at}
 use Rattle.core_index.specs.declared.types.Standing.{Standing}
 use Rattle.lazy_alloc.specs.Sets.{Sets, class_at, block_is_used}
-use Rattle.group_laws.specs.declared.types.Pending.{Pending}
 use Rattle.group_laws.specs.declared.types.Block.{Block}
 use Rattle.group_laws.specs.Places.{Place, core_of, owner}
 use Rattle.group_laws.specs.MemberViews.{View}
 use Rattle.group_board.specs.Conditions.{IsFree}
 use Rattle.core_worker.specs.declared.types.Place as places
 use Rattle.core_worker.specs.declared.types.Place.TheVariants.{Free, Staged, Posted}
-use Rattle.core_worker.specs.declared.worker.Worker.{Worker}
-use Rattle.core_worker.specs.OwnPlaces.{place_at, key_in, is_busy, AreApart}
+use Rattle.core_worker.specs.OwnPlaces.{place_at}
 
 -- what the last change of a key left is the view's cell; a value in a block is what that block must hold
 abbrev pub Left : View → ℕ → Body → Option (List ℕ) → Type 0

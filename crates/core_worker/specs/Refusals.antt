@@ -1,5 +1,5 @@
 -- The replies that refusals stand for, and what makes the numbers of a refusal small.
-use Rattle.std.specs.Prelude.{◌≡◌, ℕ, ◌+◌, ◌≤◌, List, length, Option, Some, None}
+use Rattle.std.specs.Prelude.{◌≡◌, ℕ, ◌+◌, ◌≤◌, List, length}
 use Rattle.std.specs.VecDeque.{deque_len, deque_capacity}
 use Rattle.std.specs.List.{AllByRecursion}
 use Rattle.fs_model.specs.declared.model.Reply.{Reply}

@@ -1,5 +1,5 @@
 -- The room of a worker at one moment, and which requests are refused for want of it.
-use Rattle.std.specs.Prelude.{◌≡◌, ◌⊎◌, ℕ, ◌+◌, ◌-◌, ◌/◌, ◌^◌, ◌<◌, ◌≤◌, ◌==◌, nat_lt, nat_le, Bool, true, false, List, length, Option, Some, None, if◌then◌else◌}
+use Rattle.std.specs.Prelude.{ℕ, ◌-◌, ◌/◌, ◌^◌, ◌<◌, ◌==◌, nat_lt, nat_le, true, false, List, length, Option, Some, None, if◌then◌else◌}
 use Rattle.chunk_map.specs.declared.layouts.Geometry.{Geometry}
 use Rattle.chunk_map.specs.Layouts.{payload_lines}
 use Rattle.core_log.specs.Log.{room_of}

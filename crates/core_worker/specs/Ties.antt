@@ -1,12 +1,8 @@
 -- What ties a worker to its board and to its region, between two calls.
-use Rattle.std.specs.Prelude.{◌≡◌, ◌≢◌, ◌⊎◌, ℕ, ◌+◌, ◌*◌, ◌<◌, ◌≤◌, Bool, true, false, List, [], length, Option, Some, None, is_some}
-use Rattle.std.specs.List.{AllByRecursion}
+use Rattle.std.specs.Prelude.{◌≡◌, ◌≢◌, ◌⊎◌, ℕ, ◌+◌, ◌*◌, ◌<◌, Bool, true, false, [], length, Some, None}
 use Rattle.pm_region.specs.State.{State, IsTelling, cell_now}
 use Rattle.pm_region.specs.Words.{Surely}
-use Rattle.log_entry.specs.declared.entry.Entry.{Entry}
-use Rattle.chunk_map.specs.Layouts.{IsLayout}
-use Rattle.core_log.specs.Log.{StandsIn, LogState, tail_of, first_of}
-use Rattle.conflict_queue.specs.declared.types.Held.{Held}
+use Rattle.core_log.specs.Log.{StandsIn, tail_of, first_of}
 use Rattle.conflict_queue.specs.Waiting.{waiting}
 use Rattle.core_index.specs.Index.{known_at, room_at}
 use Rattle.core_index.specs.Records.{is_forgettable}
@@ -17,6 +13,7 @@ use Rattle.group_laws.specs.Places.{Place, IsPlace, members, core_of, owner}
 use Rattle.group_laws.specs.MemberViews.{View}
 use Rattle.licence.specs.Licence.{Licensed, grounded}
 use Rattle.group_board.specs.Seats.{SeatAt}
+use Rattle.batch_leader.specs.declared.buffer.BatchBuffer.{BatchBuffer}
 use Rattle.batch_leader.specs.Rounds.{words_in}
 use Rattle.batch_leader.specs.Leading.{Collects, IsBatchOf, IsCertain, IsLost, Suits, HasSpace}
 use Rattle.core_worker.specs.declared.types.Leading.{Leading}
@@ -24,7 +21,7 @@ use Rattle.core_worker.specs.declared.types.Leading.TheVariants as leads
 use Rattle.group_laws.specs.declared.types.Pending.{Pending}
 use Rattle.core_worker.specs.declared.types.Place.TheVariants.{Posted}
 use Rattle.core_worker.specs.declared.worker.Worker.{Worker}
-use Rattle.core_worker.specs.OwnPlaces.{place_at, key_in, is_busy, AreApart}
+use Rattle.core_worker.specs.OwnPlaces.{place_at, is_busy, AreApart}
 use Rattle.core_worker.specs.Supplies.{room_for, IsSmall}
 use Rattle.core_worker.specs.KeyTies.{KnowsKey, IsPlaced, AreBlocks}
 
@@ -61,12 +58,6 @@ is_lost (leads.Batch b) = false
 is_lost (leads.Persisted x) = false
 is_lost (leads.Failed x) = true
 is_lost leads.Between = false
-
--- Which member a worker serves, where its group stands, and what it has.
-pub record Membership : Type 0 where
-  pub place : Place
-  pub number : ℕ
-  pub view : View
 
 -- The worker is that of member m, and its places, blocks, keys and what it leads are what the view has.
 pub record Holds (p : Place) (m : ℕ) (v : View) (w : Worker) : Type 0 where
@@ -110,3 +101,18 @@ pub record Stands (s : State) (p : Place) (m : ℕ) (v : View) (w : Worker) : Ty
   pub free : w.stopped ≡ false → (j : ℕ) → chunk_is_free w.allocator j ≡ true → IsTelling s → (tail_of w.log.chunks j ≡ None) × Surely (cell_now s (first_of w.log j)) 0
   pub due : w.stopped ≡ false → (j : ℕ) → chunk_is_due w.allocator j ≡ true → IsTelling s → (tail_of w.log.chunks j ≡ None) × Surely (cell_now s (first_of w.log j)) 0
   pub cut : w.stopped ≡ false → (j c : ℕ) → chunk_class w.allocator j ≡ Some c → chunk_is_due w.allocator j ≡ false → IsTelling s → (tail_of w.log.chunks j ≡ None) × Surely (cell_now s (first_of w.log j)) (2 + 256 * c)
+
+-- the same at a seat
+abbrev pub HoldsAt : SeatAt → View → Worker → Type 0
+HoldsAt seat v w = Holds seat.place seat.number v w
+
+abbrev pub StandsAt : State → SeatAt → View → Worker → Type 0
+StandsAt s seat v w = Stands s seat.place seat.number v w
+
+-- whatever the region, what stood stands
+abbrev pub KeepsStanding : SeatAt → View → View → Worker → Worker → Type 0
+KeepsStanding seat v u w x = (s : State) → StandsAt s seat v w → StandsAt s seat u x
+
+-- it leads nothing: all it has is the room for the next batch
+abbrev pub LeadsNothing : Worker → Type 0
+LeadsNothing w = (buffer : BatchBuffer) × (w.leading ≡ leads.Nothing buffer)

@@ -1,13 +1,11 @@
 -- One turn of a core as a relation of what it was and what it is: which item it did, what it loaded before, and why it passed the items before that one.
-use Rattle.std.specs.Prelude.{◌≡◌, ◌≢◌, ◌⊎◌, ℕ, ◌+◌, ◌<◌, ◌==◌, Bool, true, false, List, [], ◌∷◌, ◌++◌, length, map, Option, Some, None, MatchOption, option_to_list}
-use Rattle.std.specs.List.{AllByRecursion}
+use Rattle.std.specs.Prelude.{◌≡◌, ◌≢◌, ◌⊎◌, ℕ, ◌+◌, ◌<◌, Bool, true, false, List, [], ◌∷◌, ◌++◌, length, map, Option, Some, None, MatchOption}
 use Rattle.fs_model.specs.declared.model.Reply.{Reply}
 use Rattle.fs_model.specs.declared.model.Reply.TheVariants.{Stored, Deleted, Stopped}
 use Rattle.log_entry.specs.declared.entry.Entry.{Entry}
 use Rattle.log_entry.specs.declared.entry.Body.{Body}
 use Rattle.log_entry.specs.declared.entry.Body.TheVariants as bodies
 use Rattle.store_image.specs.Facts.{In}
-use Rattle.group_laws.specs.declared.types.Seen.{Seen}
 use Rattle.group_laws.specs.declared.types.Seen.TheVariants.{Slot, Holder}
 use Rattle.group_laws.specs.declared.types.SlotWord.{SlotWord}
 use Rattle.group_laws.specs.declared.types.SlotWord.TheVariants as words
@@ -20,10 +18,10 @@ use Rattle.core_index.specs.Index.{known_at}
 use Rattle.core_index.specs.Records.{settled, block_of, is_forgettable}
 use Rattle.lazy_alloc.specs.Sets.{TakesChunkOrNone, PutsBack, Sets}
 use Rattle.group_laws.specs.MemberViews.{View}
-use Rattle.group_board.specs.Views.{after_post, after_lock, after_find, after_unlock, after_take, after_commit, after_mark, after_fail, after_finish, after_give_up, after_withdraw, TidiedIn}
+use Rattle.group_board.specs.Views.{after_post, after_lock, after_find, after_unlock, after_commit, after_mark, after_fail, after_finish, after_give_up, TidiedIn}
 use Rattle.group_board.specs.Seats.{SeatAt}
 use Rattle.batch_leader.specs.TakenChanges.{spelled}
-use Rattle.batch_leader.specs.Leading.{MakesAll, Went, steps_of, HasLooked, IsReleased, looks_upto}
+use Rattle.batch_leader.specs.Leading.{MakesAll, Went, HasLooked, IsReleased}
 use Rattle.batch_leader.specs.Persisting.{opened_for}
 use Rattle.batch_leader.specs.declared.states.Collecting.{Collecting}
 use Rattle.batch_leader.specs.declared.states.Released.{Released}
@@ -38,6 +36,7 @@ use Rattle.core_worker.specs.declared.types.Leading.TheVariants as leads
 use Rattle.core_worker.specs.declared.types.Place.TheVariants.{Free, Staged, Posted}
 use Rattle.core_worker.specs.declared.worker.Worker.{Worker}
 use Rattle.core_worker.specs.OwnPlaces.{place_at, is_staged, is_posted, IsLowest, HasNone, Replaces}
+use Rattle.core_worker.specs.Ties.{LeadsNothing}
 use Rattle.core_worker.specs.Supplies.{room_for}
 use Rattle.core_worker.specs.Beginning.{answers_of, answer_with, BeginsWaiting}
 
@@ -58,10 +57,6 @@ pub record Moment : Type 0 where
 -- nothing but what it leads differs
 abbrev pub SameButLeading : Worker → Worker → Type 0
 SameButLeading old new = new ≡ record old { leading = new.leading }
-
--- it leads nothing: all it has is the room for the next batch
-abbrev pub LeadsNothing : Worker → Type 0
-LeadsNothing w = (buffer : BatchBuffer) × (w.leading ≡ leads.Nothing buffer)
 
 -- what a lead that was given back leaves
 abbrev pub led_by : Released → Leading
@@ -213,7 +208,7 @@ pub record Finishes (p : Place) (m : ℕ) (a b : Moment) : Type 0 where
   pub answers : answers_of settled_now ≡ answers_of a.worker ++ answer_with number (MatchReply home entry.body) None ∷ []
   pub record_now : MatchOption home (known_at settled_now.index key ≡ known_at a.worker.index key)
       (λ h. (known_at settled_now.index key ≡ Some (settled (known_at a.worker.index key) entry.version entry.body (core_of p h)))
-        ⊎ ((is_forgettable (Some (settled (known_at a.worker.index key) entry.version entry.body (core_of p h))) ≡ true) × (known_at settled_now.index key ≡ None)))
+      ⊎ ((is_forgettable (Some (settled (known_at a.worker.index key) entry.version entry.body (core_of p h))) ≡ true) × (known_at settled_now.index key ≡ None)))
   pub other_records : (k : ℕ) → k ≢ key → known_at settled_now.index k ≡ known_at a.worker.index k
   pub block : MatchOption home (settled_now.allocator ≡ a.worker.allocator) (λ h. PutsBackIf a.worker.allocator settled_now.allocator (block_of (known_at a.worker.index key)))
   pub stops : MatchOption home (settled_now.stopped ≡ true) (λ h. settled_now.stopped ≡ a.worker.stopped)

@@ -11,7 +11,7 @@ ghost use Rattle.core_worker.specs.OwnPlaces.{is_busy};
 ghost use Rattle.core_worker.specs.Refusals.{HasAnswerRoom};
 ghost use Rattle.core_worker.specs.Beginning.{HasFree};
 ghost use Rattle.core_worker.specs.Accepting.{Prepared, Accepts, IsAsBefore};
-ghost use Rattle.core_worker.specs.Ties.{Holds, Stands};
+ghost use Rattle.core_worker.specs.Ties.{HoldsAt, LeadsNothing, StandsAt};
 
 use crate::refusing::key_of;
 use crate::types::{NotAccepted, Place};
@@ -68,16 +68,19 @@ impl Worker {
         number: u64,
         request: Request,
     ) -> Result<(), NotAccepted>
-        requires holds { Holds (B.seat board.now).place (B.seat board.now).number (B.view board.now) self.old }
-        requires stands { Stands (R.state region.now) (B.seat board.now).place (B.seat board.now).number (B.view board.now) self.old }
-        requires nothing { (b : BatchBuffer) × (self.old.leading ≡ leads.Nothing b) }
+        requires holds { HoldsAt (B.seat board.now) (B.view board.now) self.old }
+        requires stands { StandsAt (R.state region.now) (B.seat board.now)
+            (B.view board.now) self.old }
+        requires nothing { LeadsNothing self.old }
         requires own { owner (B.seat board.now).place (key_of request) ≡ (B.seat board.now).number }
         requires works { self.old.winds_down ≡ false }
         requires place { HasFree self.old.places.items }
         requires node { length self.old.queue < 64 }
-        ensures holds { Holds (B.seat board.now).place (B.seat board.now).number (B.view board.now) self.new }
-        ensures stands { Stands (R.state region.now) (B.seat board.now).place (B.seat board.now).number (B.view board.now) self.new }
-        ensures accepts { OnOk result (IsTelling (R.state region.now) → Accepts (B.view board.now) self.old self.new number request) }
+        ensures holds { HoldsAt (B.seat board.now) (B.view board.now) self.new }
+        ensures stands { StandsAt (R.state region.now) (B.seat board.now)
+            (B.view board.now) self.new }
+        ensures accepts { OnOk result (IsTelling (R.state region.now)
+            → Accepts (B.view board.now) self.old self.new number request) }
         ensures given_back { IfErr result (λ back. back.request ≡ request) }
         ensures unchanged { OnErr result (IsAsBefore self.old self.new) }
     {

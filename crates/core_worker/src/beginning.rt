@@ -14,11 +14,11 @@ ghost use Rattle.core_worker.specs.declared.types.Leading.TheVariants as leads;
 ghost use Rattle.core_worker.specs.OwnPlaces.{place_at, is_free, is_busy, IsLowest, Replaces};
 ghost use Rattle.core_worker.specs.Supplies.{supply_of, why, why_put};
 ghost use Rattle.core_worker.specs.Refusals.{HasAnswerRoom};
-ghost use Rattle.core_worker.specs.Beginning.{answer_with, HasFree, HoldsAside, IsStaged, Begins};
-ghost use Rattle.core_worker.specs.Ties.{Stands};
+ghost use Rattle.core_worker.specs.Beginning.{answer_with, HasFree, HoldsAsideAt, IsStaged, Begins};
+ghost use Rattle.core_worker.specs.Ties.{KeepsStanding, LeadsNothing, StandsAt};
 
-use crate::refusing::{key_of, reply_for};
 use crate::posting::place_in;
+use crate::refusing::{key_of, reply_for};
 use crate::types::{Answer, NotAccepted, Place};
 use crate::worker::Worker;
 use core_index::Look;
@@ -90,11 +90,13 @@ impl Worker {
         board: &B,
         key: Key,
     ) -> Result<Reply, Memory>
-        requires holds { HoldsAside (B.seat board.now).place (B.seat board.now).number (B.view board.now) self.now }
-        requires stands { Stands (R.state region.now) (B.seat board.now).place (B.seat board.now).number (B.view board.now) self.now }
+        requires holds { HoldsAsideAt (B.seat board.now) (B.view board.now) self.now }
+        requires stands { StandsAt (R.state region.now) (B.seat board.now)
+            (B.view board.now) self.now }
         requires runs { self.now.stopped ≡ false }
         requires own { owner (B.seat board.now).place key ≡ (B.seat board.now).number }
-        ensures { IfOk result (λ reply. IsTelling (R.state region.now) → reply ≡ answer_to (requests.Get key) ((B.view board.now).cell key)) }
+        ensures { IfOk result (λ reply. IsTelling (R.state region.now)
+            → reply ≡ answer_to (requests.Get key) ((B.view board.now).cell key)) }
     {
         match self.index.look(key) {
             Look::Unknown => Ok(Reply::Absent),
@@ -108,18 +110,26 @@ impl Worker {
     }
 
     // Stages a put of a value that stands beside its key.
-    fn stage_beside<B: Board>(&mut self, alloc: Global, board: &B, number: u64, key: Key, value: Value)
-        requires holds { HoldsAside (B.seat board.now).place (B.seat board.now).number (B.view board.now) self.old }
+    fn stage_beside<B: Board>(
+        &mut self,
+        alloc: Global,
+        board: &B,
+        number: u64,
+        key: Key,
+        value: Value,
+    )
+        requires holds { HoldsAsideAt (B.seat board.now) (B.view board.now) self.old }
         requires runs { self.old.stopped ≡ false }
-        requires nothing { (b : BatchBuffer) × (self.old.leading ≡ leads.Nothing b) }
+        requires nothing { LeadsNothing self.old }
         requires own { owner (B.seat board.now).place key ≡ (B.seat board.now).number }
         requires idle { is_busy self.old.places.items key ≡ false }
         requires room { 0 < room_at self.old.index key }
         requires place { HasFree self.old.places.items }
         requires short { length value < 256 }
         requires unspent { last_of (known_at self.old.index key) < 1048574 }
-        ensures holds { HoldsAside (B.seat board.now).place (B.seat board.now).number (B.view board.now) self.new }
-        ensures stands { (s : State) → Stands s (B.seat board.now).place (B.seat board.now).number (B.view board.now) self.old → Stands s (B.seat board.now).place (B.seat board.now).number (B.view board.now) self.new }
+        ensures holds { HoldsAsideAt (B.seat board.now) (B.view board.now) self.new }
+        ensures stands { KeepsStanding (B.seat board.now) (B.view board.now)
+            (B.view board.now) self.old self.new }
         ensures staged { IsStaged self.old self.new number (requests.Put key value) }
         ensures rest { self.new ≡ record self.old { allocator = self.new.allocator; places = self.new.places } }
     {
@@ -135,17 +145,19 @@ impl Worker {
 
     // Stages a put of a value that gets a block.
     fn stage_block<B: Board>(&mut self, board: &B, number: u64, key: Key, value: Value)
-        requires holds { HoldsAside (B.seat board.now).place (B.seat board.now).number (B.view board.now) self.old }
+        requires holds { HoldsAsideAt (B.seat board.now) (B.view board.now) self.old }
         requires runs { self.old.stopped ≡ false }
-        requires nothing { (b : BatchBuffer) × (self.old.leading ≡ leads.Nothing b) }
+        requires nothing { LeadsNothing self.old }
         requires own { owner (B.seat board.now).place key ≡ (B.seat board.now).number }
         requires idle { is_busy self.old.places.items key ≡ false }
         requires room { 0 < room_at self.old.index key }
         requires place { HasFree self.old.places.items }
         requires long { 256 ≤ length value }
-        requires unrefused { why_put self.old.layout (supply_of self.old) self.old.allocator (last_of (known_at self.old.index key)) (length value) ≡ None }
-        ensures holds { HoldsAside (B.seat board.now).place (B.seat board.now).number (B.view board.now) self.new }
-        ensures stands { (s : State) → Stands s (B.seat board.now).place (B.seat board.now).number (B.view board.now) self.old → Stands s (B.seat board.now).place (B.seat board.now).number (B.view board.now) self.new }
+        requires unrefused { why_put self.old.layout (supply_of self.old) self.old.allocator
+            (last_of (known_at self.old.index key)) (length value) ≡ None }
+        ensures holds { HoldsAsideAt (B.seat board.now) (B.view board.now) self.new }
+        ensures stands { KeepsStanding (B.seat board.now) (B.view board.now)
+            (B.view board.now) self.old self.new }
         ensures staged { IsStaged self.old self.new number (requests.Put key value) }
         ensures rest { self.new ≡ record self.old { allocator = self.new.allocator; places = self.new.places } }
     {
@@ -163,16 +175,17 @@ impl Worker {
 
     // Stages a delete of a key that has a value.
     fn stage_delete<B: Board>(&mut self, alloc: Global, board: &B, number: u64, key: Key)
-        requires holds { HoldsAside (B.seat board.now).place (B.seat board.now).number (B.view board.now) self.old }
+        requires holds { HoldsAsideAt (B.seat board.now) (B.view board.now) self.old }
         requires runs { self.old.stopped ≡ false }
-        requires nothing { (b : BatchBuffer) × (self.old.leading ≡ leads.Nothing b) }
+        requires nothing { LeadsNothing self.old }
         requires own { owner (B.seat board.now).place key ≡ (B.seat board.now).number }
         requires idle { is_busy self.old.places.items key ≡ false }
         requires room { 0 < room_at self.old.index key }
         requires place { HasFree self.old.places.items }
         requires live { (B.view board.now).cell key ≢ None }
-        ensures holds { HoldsAside (B.seat board.now).place (B.seat board.now).number (B.view board.now) self.new }
-        ensures stands { (s : State) → Stands s (B.seat board.now).place (B.seat board.now).number (B.view board.now) self.old → Stands s (B.seat board.now).place (B.seat board.now).number (B.view board.now) self.new }
+        ensures holds { HoldsAsideAt (B.seat board.now) (B.view board.now) self.new }
+        ensures stands { KeepsStanding (B.seat board.now) (B.view board.now)
+            (B.view board.now) self.old self.new }
         ensures staged { IsStaged self.old self.new number (requests.Delete key) }
         ensures rest { self.new ≡ record self.old { allocator = self.new.allocator; places = self.new.places } }
     {
@@ -189,16 +202,18 @@ impl Worker {
 impl Worker {
     // Stages a put that is not refused.
     fn stage_put<B: Board>(&mut self, alloc: Global, board: &B, number: u64, key: Key, value: Value)
-        requires holds { HoldsAside (B.seat board.now).place (B.seat board.now).number (B.view board.now) self.old }
+        requires holds { HoldsAsideAt (B.seat board.now) (B.view board.now) self.old }
         requires runs { self.old.stopped ≡ false }
-        requires nothing { (b : BatchBuffer) × (self.old.leading ≡ leads.Nothing b) }
+        requires nothing { LeadsNothing self.old }
         requires own { owner (B.seat board.now).place key ≡ (B.seat board.now).number }
         requires idle { is_busy self.old.places.items key ≡ false }
         requires room { 0 < room_at self.old.index key }
         requires place { HasFree self.old.places.items }
-        requires unrefused { why_put self.old.layout (supply_of self.old) self.old.allocator (last_of (known_at self.old.index key)) (length value) ≡ None }
-        ensures holds { HoldsAside (B.seat board.now).place (B.seat board.now).number (B.view board.now) self.new }
-        ensures stands { (s : State) → Stands s (B.seat board.now).place (B.seat board.now).number (B.view board.now) self.old → Stands s (B.seat board.now).place (B.seat board.now).number (B.view board.now) self.new }
+        requires unrefused { why_put self.old.layout (supply_of self.old) self.old.allocator
+            (last_of (known_at self.old.index key)) (length value) ≡ None }
+        ensures holds { HoldsAsideAt (B.seat board.now) (B.view board.now) self.new }
+        ensures stands { KeepsStanding (B.seat board.now) (B.view board.now)
+            (B.view board.now) self.old self.new }
         ensures staged { IsStaged self.old self.new number (requests.Put key value) }
         ensures rest { self.new ≡ record self.old { allocator = self.new.allocator; places = self.new.places } }
     {
@@ -219,24 +234,32 @@ impl Worker {
         request: Request,
         live: bool,
     ) -> Result<(), NotAccepted>
-        requires holds { HoldsAside (B.seat board.now).place (B.seat board.now).number (B.view board.now) self.old }
-        requires stands { Stands (R.state region.now) (B.seat board.now).place (B.seat board.now).number (B.view board.now) self.old }
+        requires holds { HoldsAsideAt (B.seat board.now) (B.view board.now) self.old }
+        requires stands { StandsAt (R.state region.now) (B.seat board.now)
+            (B.view board.now) self.old }
         requires runs { self.old.stopped ≡ false }
-        requires nothing { (b : BatchBuffer) × (self.old.leading ≡ leads.Nothing b) }
+        requires nothing { LeadsNothing self.old }
         requires own { owner (B.seat board.now).place (key_of request) ≡ (B.seat board.now).number }
         requires idle { is_busy self.old.places.items (key_of request) ≡ false }
         requires room { 0 < room_at self.old.index (key_of request) }
         requires place { HasFree self.old.places.items }
         requires answers { HasAnswerRoom 1 self.old }
-        requires why { why self.old.layout (supply_of self.old) self.old.allocator (last_of (known_at self.old.index (key_of request))) ((B.view board.now).cell (key_of request)) request ≡ None }
+        requires why { why self.old.layout (supply_of self.old) self.old.allocator (last_of
+            (known_at self.old.index (key_of request))) ((B.view board.now).cell
+            (key_of request)) request ≡ None }
         requires live { is_some ((B.view board.now).cell (key_of request)) ≡ live }
-        ensures holds { OnOk result (HoldsAside (B.seat board.now).place (B.seat board.now).number (B.view board.now) self.new) }
-        ensures stands { OnOk result (Stands (R.state region.now) (B.seat board.now).place (B.seat board.now).number (B.view board.now) self.new) }
-        ensures begins { OnOk result (IsTelling (R.state region.now) → Begins self.old self.new ((B.view board.now).cell (key_of request)) number request) }
-        ensures room { OnOk result ((n : ℕ) → HasAnswerRoom (n + 1) self.old → HasAnswerRoom n self.new) }
+        ensures holds { OnOk result (HoldsAsideAt (B.seat board.now) (B.view board.now) self.new) }
+        ensures stands { OnOk result (StandsAt (R.state region.now) (B.seat board.now)
+            (B.view board.now) self.new) }
+        ensures begins { OnOk result (IsTelling (R.state region.now)
+            → Begins self.old self.new ((B.view board.now).cell (key_of request)) number request) }
+        ensures room { OnOk result ((n : ℕ) → HasAnswerRoom (n + 1) self.old
+            → HasAnswerRoom n self.new) }
         ensures rest { self.new ≡ record self.old { allocator = self.new.allocator; places = self.new.places; answers = self.new.answers } }
-        ensures places { OnOk result ((self.new.places ≡ self.old.places) ⊎ (is_busy self.new.places.items (key_of request) ≡ true)) }
-        ensures busy { OnOk result ((k : ℕ) → is_busy self.old.places.items k ≡ true → is_busy self.new.places.items k ≡ true) }
+        ensures places { OnOk result ((self.new.places ≡ self.old.places)
+            ⊎ (is_busy self.new.places.items (key_of request) ≡ true)) }
+        ensures busy { OnOk result ((k : ℕ) → is_busy self.old.places.items k ≡ true
+            → is_busy self.new.places.items k ≡ true) }
         ensures given_back { IfErr result (λ back. back.request ≡ request) }
         ensures unchanged { OnErr result (self.new ≡ self.old) }
     {
@@ -276,22 +299,28 @@ impl Worker {
         number: u64,
         request: Request,
     ) -> Result<(), NotAccepted>
-        requires holds { HoldsAside (B.seat board.now).place (B.seat board.now).number (B.view board.now) self.old }
-        requires stands { Stands (R.state region.now) (B.seat board.now).place (B.seat board.now).number (B.view board.now) self.old }
+        requires holds { HoldsAsideAt (B.seat board.now) (B.view board.now) self.old }
+        requires stands { StandsAt (R.state region.now) (B.seat board.now)
+            (B.view board.now) self.old }
         requires runs { self.old.stopped ≡ false }
-        requires nothing { (b : BatchBuffer) × (self.old.leading ≡ leads.Nothing b) }
+        requires nothing { LeadsNothing self.old }
         requires own { owner (B.seat board.now).place (key_of request) ≡ (B.seat board.now).number }
         requires idle { is_busy self.old.places.items (key_of request) ≡ false }
         requires room { 0 < room_at self.old.index (key_of request) }
         requires place { HasFree self.old.places.items }
         requires answers { HasAnswerRoom 1 self.old }
-        ensures holds { OnOk result (HoldsAside (B.seat board.now).place (B.seat board.now).number (B.view board.now) self.new) }
-        ensures stands { OnOk result (Stands (R.state region.now) (B.seat board.now).place (B.seat board.now).number (B.view board.now) self.new) }
-        ensures begins { OnOk result (IsTelling (R.state region.now) → Begins self.old self.new ((B.view board.now).cell (key_of request)) number request) }
-        ensures room { OnOk result ((n : ℕ) → HasAnswerRoom (n + 1) self.old → HasAnswerRoom n self.new) }
+        ensures holds { OnOk result (HoldsAsideAt (B.seat board.now) (B.view board.now) self.new) }
+        ensures stands { OnOk result (StandsAt (R.state region.now) (B.seat board.now)
+            (B.view board.now) self.new) }
+        ensures begins { OnOk result (IsTelling (R.state region.now)
+            → Begins self.old self.new ((B.view board.now).cell (key_of request)) number request) }
+        ensures room { OnOk result ((n : ℕ) → HasAnswerRoom (n + 1) self.old
+            → HasAnswerRoom n self.new) }
         ensures rest { self.new ≡ record self.old { allocator = self.new.allocator; places = self.new.places; answers = self.new.answers } }
-        ensures places { OnOk result ((self.new.places ≡ self.old.places) ⊎ (is_busy self.new.places.items (key_of request) ≡ true)) }
-        ensures busy { OnOk result ((k : ℕ) → is_busy self.old.places.items k ≡ true → is_busy self.new.places.items k ≡ true) }
+        ensures places { OnOk result ((self.new.places ≡ self.old.places)
+            ⊎ (is_busy self.new.places.items (key_of request) ≡ true)) }
+        ensures busy { OnOk result ((k : ℕ) → is_busy self.old.places.items k ≡ true
+            → is_busy self.new.places.items k ≡ true) }
         ensures given_back { IfErr result (λ back. back.request ≡ request) }
         ensures unchanged { OnErr result (self.new ≡ self.old) }
     {
@@ -317,21 +346,27 @@ impl Worker {
         number: u64,
         request: Request,
     ) -> Result<(), NotAccepted>
-        requires holds { HoldsAside (B.seat board.now).place (B.seat board.now).number (B.view board.now) self.old }
-        requires stands { Stands (R.state region.now) (B.seat board.now).place (B.seat board.now).number (B.view board.now) self.old }
-        requires nothing { (b : BatchBuffer) × (self.old.leading ≡ leads.Nothing b) }
+        requires holds { HoldsAsideAt (B.seat board.now) (B.view board.now) self.old }
+        requires stands { StandsAt (R.state region.now) (B.seat board.now)
+            (B.view board.now) self.old }
+        requires nothing { LeadsNothing self.old }
         requires own { owner (B.seat board.now).place (key_of request) ≡ (B.seat board.now).number }
         requires idle { is_busy self.old.places.items (key_of request) ≡ false }
         requires room { 0 < room_at self.old.index (key_of request) }
         requires place { HasFree self.old.places.items }
         requires answers { HasAnswerRoom 1 self.old }
-        ensures holds { OnOk result (HoldsAside (B.seat board.now).place (B.seat board.now).number (B.view board.now) self.new) }
-        ensures stands { OnOk result (Stands (R.state region.now) (B.seat board.now).place (B.seat board.now).number (B.view board.now) self.new) }
-        ensures begins { OnOk result (IsTelling (R.state region.now) → Begins self.old self.new ((B.view board.now).cell (key_of request)) number request) }
-        ensures room { OnOk result ((n : ℕ) → HasAnswerRoom (n + 1) self.old → HasAnswerRoom n self.new) }
+        ensures holds { OnOk result (HoldsAsideAt (B.seat board.now) (B.view board.now) self.new) }
+        ensures stands { OnOk result (StandsAt (R.state region.now) (B.seat board.now)
+            (B.view board.now) self.new) }
+        ensures begins { OnOk result (IsTelling (R.state region.now)
+            → Begins self.old self.new ((B.view board.now).cell (key_of request)) number request) }
+        ensures room { OnOk result ((n : ℕ) → HasAnswerRoom (n + 1) self.old
+            → HasAnswerRoom n self.new) }
         ensures rest { self.new ≡ record self.old { allocator = self.new.allocator; places = self.new.places; answers = self.new.answers } }
-        ensures places { OnOk result ((self.new.places ≡ self.old.places) ⊎ (is_busy self.new.places.items (key_of request) ≡ true)) }
-        ensures busy { OnOk result ((k : ℕ) → is_busy self.old.places.items k ≡ true → is_busy self.new.places.items k ≡ true) }
+        ensures places { OnOk result ((self.new.places ≡ self.old.places)
+            ⊎ (is_busy self.new.places.items (key_of request) ≡ true)) }
+        ensures busy { OnOk result ((k : ℕ) → is_busy self.old.places.items k ≡ true
+            → is_busy self.new.places.items k ≡ true) }
         ensures given_back { IfErr result (λ back. back.request ≡ request) }
         ensures unchanged { OnErr result (self.new ≡ self.old) }
     {

@@ -13,7 +13,8 @@ ghost use Rattle.batch_leader.specs.declared.states.Collecting.{Collecting};
 ghost use Rattle.batch_leader.specs.declared.states.Persisted.{Persisted};
 ghost use Rattle.batch_leader.specs.declared.states.FailedBatch.{FailedBatch};
 ghost use Rattle.core_worker.specs.declared.types.Leading.TheVariants as leads;
-ghost use Rattle.core_worker.specs.Ties.{Holds, Stands};
+ghost use Rattle.batch_leader.specs.Persisting.{StaysLicensed, WritesPart};
+ghost use Rattle.core_worker.specs.Ties.{HoldsAt, KeepsStanding, LeadsNothing, StandsAt};
 ghost use Rattle.core_worker.specs.Turns.{TriesLock, GoesRound, Marks, Fails, persisted_left, failed_left, led_by, TakesFor, Steps, MadeOrStops};
 ghost use Rattle.lazy_alloc.specs.Sets.{AreSets};
 ghost use Rattle.licence.specs.Licence.{Licensed, part_at, part_end};
@@ -24,9 +25,9 @@ use crate::types::Leading;
 use crate::worker::Worker;
 use batch_leader::{Collected, FailedBatch, Persisted, Released, lead};
 use core_log::Room;
+use group_board::Board;
 use lazy_alloc::Allocator;
 use pm_region::Region;
-use group_board::Board;
 use std::mem;
 
 // The lowest free chunk, where one is needed.
@@ -35,11 +36,7 @@ fn chunk_for(allocator: &mut Allocator, needed: bool) -> Option<u32>
     ensures takes { TakesFor needed allocator.old allocator.new result }
     ensures sets { AreSets allocator.new }
 {
-    if needed {
-        allocator.take_chunk()
-    } else {
-        None
-    }
+    if needed { allocator.take_chunk() } else { None }
 }
 
 // What is left of a batch that is certain.
@@ -77,13 +74,16 @@ fn led_by(released: Released) -> Leading
 impl Worker {
     // Tries the lock. It answers false where it found a holder.
     pub(crate) fn try_lead<B: Board>(&mut self, board: &mut B) -> bool
-        requires holds { Holds (B.seat board.old).place (B.seat board.old).number (B.view board.old) self.old }
-        requires nothing { (b : BatchBuffer) × (self.old.leading ≡ leads.Nothing b) }
+        requires holds { HoldsAt (B.seat board.old) (B.view board.old) self.old }
+        requires nothing { LeadsNothing self.old }
         ensures seat { B.seat board.new ≡ B.seat board.old }
-        ensures holds { Holds (B.seat board.old).place (B.seat board.old).number (B.view board.new) self.new }
-        ensures stands { (s : State) → Stands s (B.seat board.old).place (B.seat board.old).number (B.view board.old) self.old → Stands s (B.seat board.old).place (B.seat board.old).number (B.view board.new) self.new }
-        ensures tried { TriesLock result (B.seat board.old).number (B.view board.old) (B.view board.new) self.old self.new }
-        ensures whole { Makes (B.whole board.old) (B.seat board.old).number runs.Kind.Lock (B.whole board.new) (B.view board.new) }
+        ensures holds { HoldsAt (B.seat board.old) (B.view board.new) self.new }
+        ensures stands { KeepsStanding (B.seat board.old) (B.view board.old)
+            (B.view board.new) self.old self.new }
+        ensures tried { TriesLock result (B.seat board.old).number (B.view board.old)
+            (B.view board.new) self.old self.new }
+        ensures whole { Makes (B.whole board.old) (B.seat board.old).number runs.Kind.Lock
+            (B.whole board.new) (B.view board.new) }
     {
         match mem::replace(&mut self.leading, Leading::Between) {
             Leading::Nothing(buffer) => match lead(board, buffer) {
@@ -102,13 +102,16 @@ impl Worker {
 
     // Gives the next change of a batch that is certain back. With the last one the core leads no more.
     pub(crate) fn mark_next<B: Board>(&mut self, board: &mut B)
-        requires holds { Holds (B.seat board.old).place (B.seat board.old).number (B.view board.old) self.old }
+        requires holds { HoldsAt (B.seat board.old) (B.view board.old) self.old }
         requires certain { (x : Persisted) × (self.old.leading ≡ leads.Persisted x) }
         ensures seat { B.seat board.new ≡ B.seat board.old }
-        ensures holds { Holds (B.seat board.old).place (B.seat board.old).number (B.view board.new) self.new }
-        ensures stands { (s : State) → Stands s (B.seat board.old).place (B.seat board.old).number (B.view board.old) self.old → Stands s (B.seat board.old).place (B.seat board.old).number (B.view board.new) self.new }
-        ensures made { Steps (B.whole board.old) (B.whole board.new) (B.seat board.old).number (B.view board.new) }
-        ensures marks { Marks (record { worker = self.old; view = B.view board.old }) (record { worker = self.new; view = B.view board.new }) }
+        ensures holds { HoldsAt (B.seat board.old) (B.view board.new) self.new }
+        ensures stands { KeepsStanding (B.seat board.old) (B.view board.old)
+            (B.view board.new) self.old self.new }
+        ensures made { Steps (B.whole board.old) (B.whole board.new) (B.seat board.old).number
+            (B.view board.new) }
+        ensures marks { Marks (record { worker = self.old; view = B.view board.old })
+            (record { worker = self.new; view = B.view board.new }) }
     {
         match mem::replace(&mut self.leading, Leading::Between) {
             Leading::Persisted(mut done) => {
@@ -121,13 +124,16 @@ impl Worker {
 
     // Gives the next change of a batch that is lost back. With the last one the core leads no more.
     pub(crate) fn fail_next<B: Board>(&mut self, board: &mut B)
-        requires holds { Holds (B.seat board.old).place (B.seat board.old).number (B.view board.old) self.old }
+        requires holds { HoldsAt (B.seat board.old) (B.view board.old) self.old }
         requires lost { (x : FailedBatch) × (self.old.leading ≡ leads.Failed x) }
         ensures seat { B.seat board.new ≡ B.seat board.old }
-        ensures holds { Holds (B.seat board.old).place (B.seat board.old).number (B.view board.new) self.new }
-        ensures stands { (s : State) → Stands s (B.seat board.old).place (B.seat board.old).number (B.view board.old) self.old → Stands s (B.seat board.old).place (B.seat board.old).number (B.view board.new) self.new }
-        ensures made { Steps (B.whole board.old) (B.whole board.new) (B.seat board.old).number (B.view board.new) }
-        ensures fails { Fails (record { worker = self.old; view = B.view board.old }) (record { worker = self.new; view = B.view board.new }) }
+        ensures holds { HoldsAt (B.seat board.old) (B.view board.new) self.new }
+        ensures stands { KeepsStanding (B.seat board.old) (B.view board.old)
+            (B.view board.new) self.old self.new }
+        ensures made { Steps (B.whole board.old) (B.whole board.new) (B.seat board.old).number
+            (B.view board.new) }
+        ensures fails { Fails (record { worker = self.old; view = B.view board.old })
+            (record { worker = self.new; view = B.view board.new }) }
     {
         match mem::replace(&mut self.leading, Leading::Between) {
             Leading::Failed(mut lost) => {
@@ -140,15 +146,19 @@ impl Worker {
 
     // Goes on with the round: takes the next change that fits, or gives the lock back where none is left.
     pub(crate) fn go_round<B: Board>(&mut self, board: &mut B, room: &Room)
-        requires holds { Holds (B.seat board.old).place (B.seat board.old).number (B.view board.old) self.old }
+        requires holds { HoldsAt (B.seat board.old) (B.view board.old) self.old }
         requires collects { (c : Collecting) × (self.old.leading ≡ leads.Collecting c) }
         requires runs { self.old.stopped ≡ false }
         requires room { room.now ≡ room_for self.old }
         ensures seat { B.seat board.new ≡ B.seat board.old }
-        ensures holds { Holds (B.seat board.old).place (B.seat board.old).number (B.view board.new) self.new }
-        ensures stands { (s : State) → Stands s (B.seat board.old).place (B.seat board.old).number (B.view board.old) self.old → Stands s (B.seat board.old).place (B.seat board.old).number (B.view board.new) self.new }
-        ensures made { Steps (B.whole board.old) (B.whole board.new) (B.seat board.old).number (B.view board.new) }
-        ensures went { GoesRound (B.whole board.old) (B.seat board.old) (record { worker = self.old; view = B.view board.old }) (record { worker = self.new; view = B.view board.new }) }
+        ensures holds { HoldsAt (B.seat board.old) (B.view board.new) self.new }
+        ensures stands { KeepsStanding (B.seat board.old) (B.view board.old)
+            (B.view board.new) self.old self.new }
+        ensures made { Steps (B.whole board.old) (B.whole board.new) (B.seat board.old).number
+            (B.view board.new) }
+        ensures went { GoesRound (B.whole board.old) (B.seat board.old)
+            (record { worker = self.old; view = B.view board.old })
+            (record { worker = self.new; view = B.view board.new }) }
     {
         match mem::replace(&mut self.leading, Leading::Between) {
             Leading::Collecting(mut collecting) => match collecting.collect(board, room) {
@@ -165,17 +175,22 @@ impl Worker {
 
     // Writes the batch in hand into the own log and commits. After a fault the core stops.
     pub(crate) fn write_batch<R: Region, B: Board>(&mut self, region: &mut R, board: &mut B)
-        requires holds { Holds (B.seat board.old).place (B.seat board.old).number (B.view board.old) self.old }
-        requires stands { Stands (R.state region.old) (B.seat board.old).place (B.seat board.old).number (B.view board.old) self.old }
+        requires holds { HoldsAt (B.seat board.old) (B.view board.old) self.old }
+        requires stands { StandsAt (R.state region.old) (B.seat board.old)
+            (B.view board.old) self.old }
         requires batch { (b : Batch) × (self.old.leading ≡ leads.Batch b) }
         requires runs { self.old.stopped ≡ false }
         ensures seat { B.seat board.new ≡ B.seat board.old }
-        ensures moments { During (R.state region.old) (R.state region.new) (Licensed (B.seat board.old).place (B.seat board.old).number (B.view board.old)) }
-        ensures outside { During (R.state region.old) (R.state region.new) (KeepsOutside (cell_now (R.state region.old)) (part_at (B.seat board.old).place (B.seat board.old).number) (part_end (B.seat board.old).place (B.seat board.old).number)) }
-        ensures holds { Holds (B.seat board.old).place (B.seat board.old).number (B.view board.new) self.new }
-        ensures stands { Stands (R.state region.new) (B.seat board.old).place (B.seat board.old).number (B.view board.new) self.new }
-        ensures made { MadeOrStops self.new.stopped (B.whole board.old) (B.whole board.new) (B.seat board.old).number (B.view board.old) (B.view board.new) }
-        ensures cause { self.new.stopped ≡ true → Rose (R.state region.old).faults (R.state region.new).faults }
+        ensures moments { StaysLicensed (R.state region.old) (R.state region.new)
+            (B.seat board.old) (B.view board.old) }
+        ensures outside { WritesPart (R.state region.old) (R.state region.new) (B.seat board.old) }
+        ensures holds { HoldsAt (B.seat board.old) (B.view board.new) self.new }
+        ensures stands { StandsAt (R.state region.new) (B.seat board.old)
+            (B.view board.new) self.new }
+        ensures made { MadeOrStops self.new.stopped (B.whole board.old) (B.whole board.new)
+            (B.seat board.old).number (B.view board.old) (B.view board.new) }
+        ensures cause { self.new.stopped ≡ true
+            → Rose (R.state region.old).faults (R.state region.new).faults }
     {
         match mem::replace(&mut self.leading, Leading::Between) {
             Leading::Batch(batch) => {

@@ -16,7 +16,8 @@ ghost use Rattle.batch_leader.specs.declared.buffer.BatchBuffer.{BatchBuffer};
 ghost use Rattle.core_worker.specs.declared.types.Leading.TheVariants as leads;
 ghost use Rattle.core_worker.specs.declared.types.Place.TheVariants as kinds;
 ghost use Rattle.core_worker.specs.OwnPlaces.{place_at, Replaces};
-ghost use Rattle.core_worker.specs.Ties.{Holds, Stands};
+ghost use Rattle.batch_leader.specs.Persisting.{StaysLicensed, WritesPart};
+ghost use Rattle.core_worker.specs.Ties.{HoldsAt, KeepsStanding, LeadsNothing, Stands, StandsAt};
 ghost use Rattle.core_worker.specs.Posting.{HasNoBlock, PostsPlain, IsStagedWith, WouldStand, PostsOrStops};
 
 use crate::types::Place;
@@ -46,8 +47,8 @@ fn write_for<R: Region, B: Board>(
     requires lies { PartLies (R.state region.old).frame allocator.old }
     requires unused { (B.view board.now).blocks pointer ≡ None }
     requires licensed { IsTelling (R.state region.old) → Licensed (B.seat board.now).place (B.seat board.now).number (B.view board.now) (cell_now (R.state region.old)) }
-    ensures moments { During (R.state region.old) (R.state region.new) (Licensed (B.seat board.now).place (B.seat board.now).number (B.view board.now)) }
-    ensures outside { During (R.state region.old) (R.state region.new) (KeepsOutside (cell_now (R.state region.old)) (part_at (B.seat board.now).place (B.seat board.now).number) (part_end (B.seat board.now).place (B.seat board.now).number)) }
+    ensures moments { StaysLicensed (R.state region.old) (R.state region.new) (B.seat board.now) (B.view board.now) }
+    ensures outside { WritesPart (R.state region.old) (R.state region.new) (B.seat board.now) }
     ensures others { (class : ℕ) → class_at allocator.old pointer ≡ Some class → During (R.state region.old) (R.state region.new) (KeepsOthers allocator.old pointer class (cell_now (R.state region.old))) }
     ensures head { (class : ℕ) → class_at allocator.old pointer ≡ Some class → During (R.state region.old) (R.state region.new) (EachIn (head_of allocator.old pointer) (head_of allocator.old pointer + 2) (HeadTurnsTo allocator.old pointer class)) }
     ensures exit { OnOk result ((slot : ℕ) (e : Entry) → e.body ≡ bodies.Pointer pointer → IsTelling (R.state region.new) → Licensed (B.seat board.now).place (B.seat board.now).number (after_post slot e value.now (B.view board.now)) (cell_now (R.state region.new))) }
@@ -85,19 +86,25 @@ impl Worker {
         slot: u32,
         pointer: u64,
     ) -> bool
-        requires holds { Holds (B.seat board.now).place (B.seat board.now).number (B.view board.now) self.old }
-        requires stands { Stands (R.state region.old) (B.seat board.now).place (B.seat board.now).number (B.view board.now) self.old }
+        requires holds { HoldsAt (B.seat board.now) (B.view board.now) self.old }
+        requires stands { StandsAt (R.state region.old) (B.seat board.now)
+            (B.view board.now) self.old }
         requires runs { self.old.stopped ≡ false }
-        requires nothing { (b : BatchBuffer) × (self.old.leading ≡ leads.Nothing b) }
+        requires nothing { LeadsNothing self.old }
         requires slot { slot < 8 }
         requires staged { IsStagedWith (place_at self.old.places.items slot) pointer }
-        ensures moments { During (R.state region.old) (R.state region.new) (Licensed (B.seat board.now).place (B.seat board.now).number (B.view board.now)) }
-        ensures outside { During (R.state region.old) (R.state region.new) (KeepsOutside (cell_now (R.state region.old)) (part_at (B.seat board.now).place (B.seat board.now).number) (part_end (B.seat board.now).place (B.seat board.now).number)) }
-        ensures holds { Holds (B.seat board.now).place (B.seat board.now).number (B.view board.now) self.new }
-        ensures ready { result ≡ true → WouldStand (R.state region.new) (B.seat board.now).place (B.seat board.now).number (B.view board.now) self.new slot (place_at self.old.places.items slot) }
-        ensures stands { result ≡ false → Stands (R.state region.new) (B.seat board.now).place (B.seat board.now).number (B.view board.now) self.new }
+        ensures moments { StaysLicensed (R.state region.old) (R.state region.new)
+            (B.seat board.now) (B.view board.now) }
+        ensures outside { WritesPart (R.state region.old) (R.state region.new) (B.seat board.now) }
+        ensures holds { HoldsAt (B.seat board.now) (B.view board.now) self.new }
+        ensures ready { result ≡ true → WouldStand (R.state region.new) (B.seat board.now).place
+            (B.seat board.now).number (B.view board.now) self.new slot
+            (place_at self.old.places.items slot) }
+        ensures stands { result ≡ false → StandsAt (R.state region.new) (B.seat board.now)
+            (B.view board.now) self.new }
         ensures rest { self.new ≡ record self.old { allocator = self.new.allocator; stopped = not result } }
-        ensures cause { result ≡ false → Rose (R.state region.old).faults (R.state region.new).faults }
+        ensures cause { result ≡ false → Rose (R.state region.old).faults
+            (R.state region.new).faults }
     {
         match place_in(&self.places, slot) {
             Place::Staged { value, .. } => {
@@ -115,15 +122,17 @@ impl Worker {
 
     // Posts the change that is staged in a place and needs no block.
     pub(crate) fn post_plain<B: Board>(&mut self, board: &mut B, slot: u32)
-        requires holds { Holds (B.seat board.old).place (B.seat board.old).number (B.view board.old) self.old }
+        requires holds { HoldsAt (B.seat board.old) (B.view board.old) self.old }
         requires runs { self.old.stopped ≡ false }
-        requires nothing { (b : BatchBuffer) × (self.old.leading ≡ leads.Nothing b) }
+        requires nothing { LeadsNothing self.old }
         requires slot { slot < 8 }
         requires staged { HasNoBlock (place_at self.old.places.items slot) }
         ensures seat { B.seat board.new ≡ B.seat board.old }
-        ensures holds { Holds (B.seat board.old).place (B.seat board.old).number (B.view board.new) self.new }
-        ensures stands { (s : State) → Stands s (B.seat board.old).place (B.seat board.old).number (B.view board.old) self.old → Stands s (B.seat board.old).place (B.seat board.old).number (B.view board.new) self.new }
-        ensures posts { PostsPlain (B.seat board.old).number (B.whole board.old) (B.whole board.new) (B.view board.old) (B.view board.new) self.old self.new slot }
+        ensures holds { HoldsAt (B.seat board.old) (B.view board.new) self.new }
+        ensures stands { KeepsStanding (B.seat board.old) (B.view board.old)
+            (B.view board.new) self.old self.new }
+        ensures posts { PostsPlain (B.seat board.old).number (B.whole board.old)
+            (B.whole board.new) (B.view board.old) (B.view board.new) self.old self.new slot }
     {
         match swap_place(&mut self.places, slot, Place::Free) {
             Place::Staged {
@@ -144,15 +153,20 @@ impl Worker {
 
     // Posts the change that is staged in a place, whose block is written.
     fn post_written<B: Board>(&mut self, board: &mut B, slot: u32, pointer: u64)
-        requires holds { Holds (B.seat board.old).place (B.seat board.old).number (B.view board.old) self.old }
+        requires holds { HoldsAt (B.seat board.old) (B.view board.old) self.old }
         requires runs { self.old.stopped ≡ false }
-        requires nothing { (b : BatchBuffer) × (self.old.leading ≡ leads.Nothing b) }
+        requires nothing { LeadsNothing self.old }
         requires slot { slot < 8 }
         requires staged { IsStagedWith (place_at self.old.places.items slot) pointer }
         ensures seat { B.seat board.new ≡ B.seat board.old }
-        ensures holds { Holds (B.seat board.old).place (B.seat board.old).number (B.view board.new) self.new }
-        ensures stands { (s : State) → WouldStand s (B.seat board.old).place (B.seat board.old).number (B.view board.old) self.old slot (place_at self.old.places.items slot) → Stands s (B.seat board.old).place (B.seat board.old).number (B.view board.new) self.new }
-        ensures posts { PostsPlain (B.seat board.old).number (B.whole board.old) (B.whole board.new) (B.view board.old) (B.view board.new) self.old self.new slot }
+        ensures holds { HoldsAt (B.seat board.old) (B.view board.new) self.new }
+        ensures stands { (s : State) → WouldStand s (B.seat board.old).place
+            (B.seat board.old).number (B.view board.old) self.old slot
+            (place_at self.old.places.items slot)
+            → Stands s (B.seat board.old).place (B.seat board.old).number
+            (B.view board.new) self.new }
+        ensures posts { PostsPlain (B.seat board.old).number (B.whole board.old)
+            (B.whole board.new) (B.view board.old) (B.view board.new) self.old self.new slot }
     {
         match swap_place(&mut self.places, slot, Place::Free) {
             Place::Staged {
@@ -180,19 +194,24 @@ impl Worker {
         slot: u32,
         pointer: u64,
     )
-        requires holds { Holds (B.seat board.old).place (B.seat board.old).number (B.view board.old) self.old }
-        requires stands { Stands (R.state region.old) (B.seat board.old).place (B.seat board.old).number (B.view board.old) self.old }
+        requires holds { HoldsAt (B.seat board.old) (B.view board.old) self.old }
+        requires stands { StandsAt (R.state region.old) (B.seat board.old)
+            (B.view board.old) self.old }
         requires runs { self.old.stopped ≡ false }
-        requires nothing { (b : BatchBuffer) × (self.old.leading ≡ leads.Nothing b) }
+        requires nothing { LeadsNothing self.old }
         requires slot { slot < 8 }
         requires staged { IsStagedWith (place_at self.old.places.items slot) pointer }
         ensures seat { B.seat board.new ≡ B.seat board.old }
-        ensures moments { During (R.state region.old) (R.state region.new) (Licensed (B.seat board.old).place (B.seat board.old).number (B.view board.old)) }
-        ensures outside { During (R.state region.old) (R.state region.new) (KeepsOutside (cell_now (R.state region.old)) (part_at (B.seat board.old).place (B.seat board.old).number) (part_end (B.seat board.old).place (B.seat board.old).number)) }
-        ensures holds { Holds (B.seat board.old).place (B.seat board.old).number (B.view board.new) self.new }
-        ensures stands { Stands (R.state region.new) (B.seat board.old).place (B.seat board.old).number (B.view board.new) self.new }
-        ensures posts { PostsOrStops (B.seat board.old).number (B.whole board.old) (B.whole board.new) (B.view board.old) (B.view board.new) self.old self.new slot }
-        ensures cause { self.new.stopped ≡ true → Rose (R.state region.old).faults (R.state region.new).faults }
+        ensures moments { StaysLicensed (R.state region.old) (R.state region.new)
+            (B.seat board.old) (B.view board.old) }
+        ensures outside { WritesPart (R.state region.old) (R.state region.new) (B.seat board.old) }
+        ensures holds { HoldsAt (B.seat board.old) (B.view board.new) self.new }
+        ensures stands { StandsAt (R.state region.new) (B.seat board.old)
+            (B.view board.new) self.new }
+        ensures posts { PostsOrStops (B.seat board.old).number (B.whole board.old)
+            (B.whole board.new) (B.view board.old) (B.view board.new) self.old self.new slot }
+        ensures cause { self.new.stopped ≡ true
+            → Rose (R.state region.old).faults (R.state region.new).faults }
     {
         if self.write_staged(region, &*board, slot, pointer) {
             self.post_written(board, slot, pointer);

@@ -8,8 +8,8 @@ ghost use Rattle.batch_leader.specs.declared.buffer.BatchBuffer.{BatchBuffer};
 ghost use Rattle.core_worker.specs.declared.types.Leading.TheVariants as leads;
 ghost use Rattle.core_worker.specs.OwnPlaces.{is_busy};
 ghost use Rattle.core_worker.specs.Refusals.{HasAnswerRoom};
-ghost use Rattle.core_worker.specs.Beginning.{HasFree, HoldsAside, BeginsAll};
-ghost use Rattle.core_worker.specs.Ties.{Stands};
+ghost use Rattle.core_worker.specs.Beginning.{HasFree, HoldsAsideAt, BeginsAll};
+ghost use Rattle.core_worker.specs.Ties.{LeadsNothing, StandsAt};
 
 use crate::accepting::is_busy;
 use crate::worker::Worker;
@@ -30,17 +30,21 @@ impl Worker {
         board: &B,
         key: Key,
     ) -> Result<(), Memory>
-        requires holds { HoldsAside (B.seat board.now).place (B.seat board.now).number (B.view board.now) self.old }
-        requires stands { Stands (R.state region.now) (B.seat board.now).place (B.seat board.now).number (B.view board.now) self.old }
-        requires nothing { (b : BatchBuffer) × (self.old.leading ≡ leads.Nothing b) }
+        requires holds { HoldsAsideAt (B.seat board.now) (B.view board.now) self.old }
+        requires stands { StandsAt (R.state region.now) (B.seat board.now)
+            (B.view board.now) self.old }
+        requires nothing { LeadsNothing self.old }
         requires own { owner (B.seat board.now).place key ≡ (B.seat board.now).number }
         requires idle { is_busy self.old.places.items key ≡ false }
         requires room { length (waiting self.old.queue key) ≤ room_at self.old.index key }
         requires place { HasFree self.old.places.items }
         requires answers { HasAnswerRoom (length (waiting self.old.queue key)) self.old }
-        ensures holds { HoldsAside (B.seat board.now).place (B.seat board.now).number (B.view board.now) self.new }
-        ensures stands { Stands (R.state region.now) (B.seat board.now).place (B.seat board.now).number (B.view board.now) self.new }
-        ensures begins { OnOk result (IsTelling (R.state region.now) → BeginsAll (waiting self.old.queue key) self.old self.new ((B.view board.now).cell key) key) }
+        ensures holds { HoldsAsideAt (B.seat board.now) (B.view board.now) self.new }
+        ensures stands { StandsAt (R.state region.now) (B.seat board.now)
+            (B.view board.now) self.new }
+        ensures begins { OnOk result (IsTelling (R.state region.now)
+            → BeginsAll (waiting self.old.queue key) self.old self.new
+            ((B.view board.now).cell key) key) }
         ensures memory { OnErr result (self.new.winds_down ≡ true) }
     {
         match self.queue.release(key) {

@@ -1,6 +1,6 @@
 // What a worker is made of, and what it answers.
-use core_room::Shortage;
 use batch_leader::{Batch, BatchBuffer, Collecting, FailedBatch, Persisted};
+use core_room::Shortage;
 use fs_model::{Key, Reply, Request, Value, Version};
 use log_entry::Entry;
 
@@ -49,14 +49,9 @@ pub struct Victim {
 pub enum Cleaning {
     Nothing,
     /// `first` until its first copy is made.
-    Copying {
-        victim: Victim,
-        first: bool,
-    },
+    Copying { victim: Victim, first: bool },
     /// The names that may vanish are doomed.
-    Doomed {
-        chunk: u32,
-    },
+    Doomed { chunk: u32 },
 }
 
 /// The answer to a request, by its number.

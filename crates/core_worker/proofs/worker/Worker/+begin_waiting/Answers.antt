@@ -1,18 +1,17 @@
 -- One waiting request is begun, and then the others.
-use Rattle.std.proofs.Common.{◌≡◌, ◌⊎◌, inl, inr, ⊎_elim, ℕ, ◌+◌, ◌<◌, ◌≤◌, List, length, true, false, Result, Ok, Err, OnOk, refl, sym, ◌∙◌, ap, subst, arith}
+use Rattle.std.proofs.Common.{◌≡◌, inl, inr, ⊎_elim, ℕ, ◌+◌, ◌<◌, List, length, true, false, Result, Ok, Err, OnOk, refl, sym, ◌∙◌, ap, subst, arith}
 use Rattle.std.specs.Prelude.{Vec}
 use Rattle.std.specs.Global.{Global}
 use Rattle.core_worker.specs.declared.types.Place as places
 use Rattle.core_worker.specs.Refusals.{HasAnswerRoom}
-use Rattle.fs_model.specs.Cells.{key_of}
 use Rattle.conflict_queue.specs.declared.types.Held.{Held}
-use Rattle.conflict_queue.specs.Waiting.{waiting, TakesFirst}
+use Rattle.conflict_queue.specs.Waiting.{waiting}
 use Rattle.core_index.specs.Index.{room_at}
 use Rattle.group_laws.specs.Places.{owner}
 use Rattle.core_worker.specs.declared.worker.Worker.{Worker}
 use Rattle.core_worker.specs.OwnPlaces.{is_busy}
 use Rattle.core_worker.specs.Beginning.{HasFree, HoldsAside, Begins, BeginsAll}
-use Rattle.core_worker.specs.Ties.{Holds, Stands}
+use Rattle.core_worker.specs.Ties.{Stands}
 use Rattle.core_worker.proofs.Waiters.{first_key, aside_other, stands_other}
 use Rattle.core_worker.proofs.worker.Worker.+begin_waiting.Goals as goal
 
@@ -117,12 +116,37 @@ begin_waiting-requires g t c κs within =
     let d = c.decreases in
     let idle : is_busy b.places.items c.args.key ≡ false = sym c.is_busy.ensures ∙ c.if-is_busy.false in
     let had = c.requires.answers in
-    let more : HasAnswerRoom (length (waiting q c.args.key) + 1) u = omega (arith, had, one) in
-    (omega (arith, d, all, count), (within.0, (within.1, (c.in-Ok.ensures.holds, (c.in-Ok.ensures.stands, (
-      (c.requires.nothing.0, ap (λ (x : Worker). x.leading) c.begin.ensures.rest ∙ c.requires.nothing.1), (
-      c.requires.own, (idle, (omega (arith, same, one, index, room), (
-      ⊎_elim (λ stay. subst (λ (x : Vec places.Place Global). HasFree x.items) (sym stay) c.requires.place) (λ busy. absurd (let both : true ≡ false = sym busy ∙ ap (is_busy b.places.items) fk ∙ idle in cc both)) c.in-Ok.ensures.places,
-      subst (λ (n : ℕ). HasAnswerRoom n b) (sym same) (c.in-Ok.ensures.room (length (waiting q c.args.key)) more)))))))))))
+    let more : HasAnswerRoom (length (waiting q c.args.key) + 1) u = omega (arith, had, one) in (
+      omega (arith, d, all, count),
+      (
+        within.0,
+        (
+          within.1,
+          (
+            c.in-Ok.ensures.holds,
+            (
+              c.in-Ok.ensures.stands,
+              (
+                (c.requires.nothing.0, ap (λ (x : Worker). x.leading) c.begin.ensures.rest ∙ c.requires.nothing.1),
+                (
+                  c.requires.own,
+                  (
+                    idle,
+                    (
+                      omega (arith, same, one, index, room),
+                      (
+                        ⊎_elim (λ stay. subst (λ (x : Vec places.Place Global). HasFree x.items) (sym stay) c.requires.place) (λ busy. absurd (let both : true ≡ false = sym busy ∙ ap (is_busy b.places.items) fk ∙ idle in cc both)) c.in-Ok.ensures.places,
+                        subst (λ (n : ℕ). HasAnswerRoom n b) (sym same) (c.in-Ok.ensures.room (length (waiting q c.args.key)) more),
+                      ),
+                    ),
+                  ),
+                ),
+              ),
+            ),
+          ),
+        ),
+      ),
+    )
 
 pub returns-in-Ok-clause-begins : goal.returns-in-Ok-clause-begins
 returns-in-Ok-clause-begins g t c =
@@ -138,6 +162,6 @@ returns-in-Ok-clause-begins g t c =
     let u : Worker = record w { queue = q } in
     let z = c.begin_waiting.new.self in
     map_ok c.begin_waiting.result _ _ (λ rest telling.
-      let begun : Begins u b (v.cell c.args.key) h.number h.request = subst (λ (k : ℕ). Begins u b (v.cell k) h.number h.request) fk (c.in-Ok.ensures.begins telling) in
-      let more : BeginsAll (waiting q c.args.key) b z (v.cell c.args.key) c.args.key = subst (λ (x : List Held). BeginsAll (waiting x c.args.key) b z (v.cell c.args.key) c.args.key) (ap (λ (x : Worker). x.queue) c.begin.ensures.rest) (rest telling) in
-      subst (λ (hs : List Held). BeginsAll hs w z (v.cell c.args.key) c.args.key) (sym T.key) (u, b, T, refl, begun, inr (sym c.is_busy.ensures ∙ c.if-is_busy.false, more))) c.begin_waiting.ensures.begins
+    let begun : Begins u b (v.cell c.args.key) h.number h.request = subst (λ (k : ℕ). Begins u b (v.cell k) h.number h.request) fk (c.in-Ok.ensures.begins telling) in
+    let more : BeginsAll (waiting q c.args.key) b z (v.cell c.args.key) c.args.key = subst (λ (x : List Held). BeginsAll (waiting x c.args.key) b z (v.cell c.args.key) c.args.key) (ap (λ (x : Worker). x.queue) c.begin.ensures.rest) (rest telling) in
+    subst (λ (hs : List Held). BeginsAll hs w z (v.cell c.args.key) c.args.key) (sym T.key) (u, b, T, refl, begun, inr (sym c.is_busy.ensures ∙ c.if-is_busy.false, more))) c.begin_waiting.ensures.begins

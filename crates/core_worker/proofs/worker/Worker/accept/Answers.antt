@@ -1,13 +1,12 @@
 -- A request is held, begun, or given back.
-use Rattle.std.proofs.Common.{◌≡◌, ◌⊎◌, inl, inr, ℕ, ◌+◌, true, false, refl, sym, ◌∙◌, ap, subst}
+use Rattle.std.proofs.Common.{◌≡◌, inl, ℕ, ◌+◌, refl, sym, ◌∙◌, ap, subst}
 use Rattle.fs_model.specs.Cells.{key_of}
 use Rattle.conflict_queue.specs.Waiting.{held_with}
 use Rattle.core_index.specs.Index.{room_at}
 use Rattle.pm_region.specs.State.{IsTelling}
 use Rattle.core_worker.specs.declared.worker.Worker.{Worker}
 use Rattle.core_worker.specs.OwnPlaces.{is_busy}
-use Rattle.core_worker.specs.Accepting.{IsAsBefore, Prepared}
-use Rattle.core_worker.specs.Ties.{Stands}
+use Rattle.core_worker.specs.Accepting.{Prepared}
 use Rattle.core_worker.proofs.Beginnings.{aside_of, before_holds, held_holds, prepared_stands, begun_holds, begun_stands, begun_accepts}
 use Rattle.core_worker.proofs.worker.Worker.accept.Goals as goal
 
@@ -22,9 +21,9 @@ returns-in-Ok-clause-holds g c =
     let P = c.prepare.ensures.ready c.if-not-prepare.false in
     let B = c.prepare.ensures.before in
     held_holds ((g.B.Board.seat c.args.board.now).place) ((g.B.Board.seat c.args.board.now).number) (g.B.Board.view c.args.board.now) c.args.self.now c.prepare.new.self c.hold.new.self (held_with c.args.number c.args.request) B
-      (subst (λ (k : ℕ). room_at c.prepare.new.self.index k ≡ room_at c.args.self.now.index k + 1) c.key_of-key.ensures P.record_room)
-      (ap (λ (y : Worker). is_busy y.places.items (key_of c.args.request)) (sym B.rest) ∙ ap (is_busy c.prepare.new.self.places.items) (sym c.key_of-key.ensures) ∙ sym c.is_busy.ensures ∙ c.if-is_busy.true)
-      c.in-Ok.ensures.added c.requires.holds
+    (subst (λ (k : ℕ). room_at c.prepare.new.self.index k ≡ room_at c.args.self.now.index k + 1) c.key_of-key.ensures P.record_room)
+    (ap (λ (y : Worker). is_busy y.places.items (key_of c.args.request)) (sym B.rest) ∙ ap (is_busy c.prepare.new.self.places.items) (sym c.key_of-key.ensures) ∙ sym c.is_busy.ensures ∙ c.if-is_busy.true)
+    c.in-Ok.ensures.added c.requires.holds
 
 pub returns-in-Ok-clause-stands : goal.returns-in-Ok-clause-stands
 returns-in-Ok-clause-stands g c =
@@ -34,9 +33,12 @@ returns-in-Ok-clause-stands g c =
 pub returns-in-Ok-clause-accepts : goal.returns-in-Ok-clause-accepts
 returns-in-Ok-clause-accepts g c telling =
     let P = c.prepare.ensures.ready c.if-not-prepare.false in
-    let B = c.prepare.ensures.before in
-    (c.prepare.new.self, B, subst (Prepared c.args.self.now c.prepare.new.self) c.key_of-key.ensures P,
-      inl (ap (λ (y : Worker). is_busy y.places.items (key_of c.args.request)) (sym B.rest) ∙ ap (is_busy c.prepare.new.self.places.items) (sym c.key_of-key.ensures) ∙ sym c.is_busy.ensures ∙ c.if-is_busy.true, c.in-Ok.ensures.added, refl))
+    let B = c.prepare.ensures.before in (
+      c.prepare.new.self,
+      B,
+      subst (Prepared c.args.self.now c.prepare.new.self) c.key_of-key.ensures P,
+      inl (ap (λ (y : Worker). is_busy y.places.items (key_of c.args.request)) (sym B.rest) ∙ ap (is_busy c.prepare.new.self.places.items) (sym c.key_of-key.ensures) ∙ sym c.is_busy.ensures ∙ c.if-is_busy.true, c.in-Ok.ensures.added, refl),
+    )
 
 pub begin-requires-clause-holds : goal.begin-requires-clause-holds
 begin-requires-clause-holds g c = aside_of ((g.B.Board.seat c.args.board.now).place) ((g.B.Board.seat c.args.board.now).number) (g.B.Board.view c.args.board.now) c.prepare.new.self (before_holds ((g.B.Board.seat c.args.board.now).place) ((g.B.Board.seat c.args.board.now).number) (g.B.Board.view c.args.board.now) c.args.self.now c.prepare.new.self c.prepare.ensures.before c.requires.holds)

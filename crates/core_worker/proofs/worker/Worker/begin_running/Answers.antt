@@ -1,18 +1,14 @@
 -- What was done is what beginning the request is, and what it leaves of the ties.
-use Rattle.std.proofs.Common.{◌≡◌, ◌≢◌, ℕ, List, [], ◌∷◌, ◌++◌, length, Bool, true, false, Option, Some, None, Result, Ok, Err, refl, sym, ◌∙◌, ap, subst}
+use Rattle.std.proofs.Common.{◌≡◌, [], ◌∷◌, ◌++◌, Some, sym, ◌∙◌, ap, subst}
 use Rattle.std.specs.Prelude.{is_some}
-use Rattle.fs_model.specs.declared.model.Request.{Request}
-use Rattle.fs_model.specs.declared.model.Request.TheVariants as requests
 use Rattle.fs_model.specs.declared.model.Reply.{Reply}
-use Rattle.fs_model.specs.declared.model.Reply.TheVariants as replies
-use Rattle.fs_model.specs.Cells.{key_of, answer_to, is_change}
+use Rattle.fs_model.specs.Cells.{key_of}
 use Rattle.core_index.specs.Index.{known_at}
-use Rattle.core_index.specs.Records.{last_of, live_version}
-use Rattle.core_worker.specs.Supplies.{supply_of, why}
-use Rattle.core_worker.specs.Beginning.{answer_with, Begins, IsAnswered}
-use Rattle.core_worker.proofs.Finding.{live_is, is_live, is_gone}
+use Rattle.core_index.specs.Records.{live_version}
+use Rattle.core_worker.specs.Beginning.{answer_with}
+use Rattle.core_worker.proofs.Finding.{live_is}
 use Rattle.core_worker.proofs.Pointers.{measured}
-use Rattle.core_worker.proofs.Beginnings.{begins_stopped, begins_refused, begins_answered, begins_staged, answered_holds, answered_stands, answered_busy, answered}
+use Rattle.core_worker.proofs.Beginnings.{begins_refused, answered_holds, answered_stands, answered_busy, answered}
 use Rattle.core_worker.proofs.worker.Worker.begin_running.Goals as goal
 
 pub refusal-requires : goal.refusal-requires
@@ -33,7 +29,7 @@ returns-in-Some-clause-begins g c telling =
     let live : is_some (v.cell (key_of c.args.request)) ≡ c.is_live-live.result = live_is p m v w c.requires.holds c.requires.runs (key_of c.args.request) c.requires.own ∙ ap (λ k. is_some (live_version (known_at w.index k))) (sym c.key_of.ensures) ∙ sym c.is_live-live.ensures in
     let why = c.refusal.ensures (v.cell (key_of c.args.request)) live in
     begins_refused w c.answer.new.self (v.cell (key_of c.args.request)) c.args.number c.args.request c.requires.runs c.refusal.result c.in-Some.shortage c.in-Some.is why
-      (answered w c.answer.new.self _ c.answer.ensures.rest (subst (λ (r : Reply). c.answer.new.self.answers.items ≡ w.answers.items ++ answer_with c.args.number r (Some c.in-Some.shortage) ∷ []) c.reply_for.ensures c.answer.ensures.answers))
+    (answered w c.answer.new.self _ c.answer.ensures.rest (subst (λ (r : Reply). c.answer.new.self.answers.items ≡ w.answers.items ++ answer_with c.args.number r (Some c.in-Some.shortage) ∷ []) c.reply_for.ensures c.answer.ensures.answers))
 
 pub begin_unrefused-requires-clause-why : goal.begin_unrefused-requires-clause-why
 begin_unrefused-requires-clause-why g c =

@@ -1,5 +1,5 @@
 -- What the answer or the change leaves of the ties.
-use Rattle.std.proofs.Common.{◌≡◌, inl, inr, refl, sym, ◌∙◌, ap, subst}
+use Rattle.std.proofs.Common.{inl, inr, sym, ap}
 use Rattle.core_worker.specs.declared.worker.Worker.{Worker}
 use Rattle.fs_model.specs.Cells.{key_of}
 use Rattle.fs_model.specs.declared.model.Request.TheVariants as requests

@@ -1,9 +1,8 @@
-use Rattle.std.proofs.Common.{◌≡◌, ◌≢◌, ℕ, Bool, true, false, List, [], ◌∷◌, Option, None, refl, sym, ◌∙◌, ap, subst}
+use Rattle.std.proofs.Common.{[], ◌∷◌, None, refl, sym, ◌∙◌, ap}
 use Rattle.group_laws.specs.Updates.{put2}
 use Rattle.group_laws.specs.Runs as runs
 use Rattle.group_laws.specs.MemberViews.{View}
-use Rattle.batch_leader.specs.GivingBack.{GivesFirst, failed}
-use Rattle.core_worker.specs.declared.types.Leading.{Leading}
+use Rattle.batch_leader.specs.GivingBack.{failed}
 use Rattle.core_worker.specs.declared.types.Leading.TheVariants as leads
 use Rattle.core_worker.specs.Ties.{is_lost}
 use Rattle.core_worker.proofs.LeadTies.{led_here, leads_of}
@@ -23,9 +22,9 @@ returns-clause-holds g c =
     let gave = gives_some c.fail_one-failed.result failed (λ a s. runs.Kind.Fail a s) m (g.B.Board.whole c.args.board.now) (g.B.Board.whole c.fail_one-failed.new.board) v u c.in-Failed.lost.left.taken.items c.fail_one-failed.new.self.left.taken.items c.fail_one-failed.ensures.gave had.2 in
     let left = c.still_lost.ensures in
     failed_by p m v u c.args.self.now (put2 v.taken gave.first.member gave.first.slot None) c.still_lost.result gave.view c.requires.holds
-      (leads_of seat u c.still_lost.result (leads_lost seat u c.fail_one-failed.new.self.left.taken.items c.still_lost.result left c.fail_one-failed.ensures.lost (ap (λ (x : View). x.holds) gave.view ∙ had.1) (ap (λ (x : View). x.broken) gave.view)))
-      (lost_space c.args.self.now c.fail_one-failed.new.self.left.taken.items c.still_lost.result left)
-      (c.requires.holds.lost (ap is_lost (sym c.in-Failed.ensures.value)))
+    (leads_of seat u c.still_lost.result (leads_lost seat u c.fail_one-failed.new.self.left.taken.items c.still_lost.result left c.fail_one-failed.ensures.lost (ap (λ (x : View). x.holds) gave.view ∙ had.1) (ap (λ (x : View). x.broken) gave.view)))
+    (lost_space c.args.self.now c.fail_one-failed.new.self.left.taken.items c.still_lost.result left)
+    (c.requires.holds.lost (ap is_lost (sym c.in-Failed.ensures.value)))
 
 pub returns-clause-stands : goal.returns-clause-stands
 returns-clause-stands g c s S =

@@ -1,9 +1,8 @@
-use Rattle.std.proofs.Common.{◌≡◌, ◌≢◌, ℕ, Bool, true, false, List, [], ◌∷◌, Option, None, refl, sym, ◌∙◌, ap, subst}
+use Rattle.std.proofs.Common.{◌≡◌, true, false, [], ◌∷◌, None, refl, sym, ◌∙◌, ap}
 use Rattle.group_laws.specs.Updates.{put2}
 use Rattle.group_laws.specs.Runs as runs
 use Rattle.group_laws.specs.MemberViews.{View}
-use Rattle.batch_leader.specs.GivingBack.{GivesFirst, marked}
-use Rattle.core_worker.specs.declared.types.Leading.{Leading}
+use Rattle.batch_leader.specs.GivingBack.{marked}
 use Rattle.core_worker.specs.declared.types.Leading.TheVariants as leads
 use Rattle.core_worker.specs.Ties.{is_lost}
 use Rattle.core_worker.proofs.LeadTies.{led_here, leads_of}
@@ -23,9 +22,9 @@ returns-clause-holds g c =
     let gave = gives_some c.mark_one-marked.result marked (λ a s. runs.Kind.Mark a s) m (g.B.Board.whole c.args.board.now) (g.B.Board.whole c.mark_one-marked.new.board) v u c.in-Persisted.done.left.taken.items c.mark_one-marked.new.self.left.taken.items c.mark_one-marked.ensures.gave had.3 in
     let left = c.still_certain.ensures in
     holds_by p m v u c.args.self.now v.kept v.flying (put2 v.taken gave.first.member gave.first.slot None) v.holds [] v.took c.still_certain.result gave.view c.requires.holds
-      (leads_of seat u c.still_certain.result (leads_certain seat u c.mark_one-marked.new.self.left.taken.items c.still_certain.result left c.mark_one-marked.ensures.certain (ap (λ (x : View). x.holds) gave.view ∙ had.1) (λ b. ap (λ (x : View). x.flying) gave.view ∙ had.2 (sym (ap (λ (x : View). x.broken) gave.view) ∙ b))))
-      (λ runs. certain_space c.args.self.now c.mark_one-marked.new.self.left.taken.items c.still_certain.result left)
-      (λ e. absurd (let both : true ≡ false = sym e ∙ certain_not_lost c.mark_one-marked.new.self.left.taken.items c.still_certain.result left in cc both))
+    (leads_of seat u c.still_certain.result (leads_certain seat u c.mark_one-marked.new.self.left.taken.items c.still_certain.result left c.mark_one-marked.ensures.certain (ap (λ (x : View). x.holds) gave.view ∙ had.1) (λ b. ap (λ (x : View). x.flying) gave.view ∙ had.2 (sym (ap (λ (x : View). x.broken) gave.view) ∙ b))))
+    (λ runs. certain_space c.args.self.now c.mark_one-marked.new.self.left.taken.items c.still_certain.result left)
+    (λ e. absurd (let both : true ≡ false = sym e ∙ certain_not_lost c.mark_one-marked.new.self.left.taken.items c.still_certain.result left in cc both))
 
 pub returns-clause-stands : goal.returns-clause-stands
 returns-clause-stands g c s S =

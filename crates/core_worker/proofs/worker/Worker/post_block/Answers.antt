@@ -1,7 +1,4 @@
-use Rattle.std.proofs.Common.{◌≡◌, ℕ, Bool, true, false, not, refl, inl, sym, ◌∙◌, ap, subst}
-use Rattle.core_worker.specs.declared.types.Leading.{Leading}
-use Rattle.core_worker.specs.declared.types.Leading.TheVariants as leads
-use Rattle.core_worker.specs.declared.types.Place as places
+use Rattle.std.proofs.Common.{Bool, not, inl, sym, ◌∙◌, ap, subst}
 use Rattle.core_worker.specs.declared.worker.Worker.{Worker}
 use Rattle.core_worker.specs.OwnPlaces.{place_at}
 use Rattle.core_worker.specs.Posting.{WouldStand}

@@ -1,12 +1,11 @@
-use Rattle.std.proofs.Common.{◌≡◌, ℕ, List, length, refl, sym, ◌∙◌, ap, subst}
-use Rattle.std.proofs.lemmas.Bool.{cases_eq}
+use Rattle.std.proofs.Common.{ℕ, List, refl, sym, ◌∙◌, ap, subst}
 use Rattle.group_laws.specs.MemberViews.{View}
 use Rattle.core_worker.specs.declared.types.Place as places
 use Rattle.core_worker.specs.declared.types.Place.TheVariants.{Free, Staged, Posted}
-use Rattle.core_worker.specs.OwnPlaces.{place_at, Replaces}
+use Rattle.core_worker.specs.OwnPlaces.{Replaces}
 use Rattle.core_worker.specs.Posting.{PointsNowhere, HasNoBlock}
-use Rattle.core_worker.specs.Ties.{Holds, Stands}
-use Rattle.core_worker.proofs.Posts.{holds_posted, stands_posted, view_is, posted_view}
+use Rattle.core_worker.specs.Ties.{Holds}
+use Rattle.core_worker.proofs.Posts.{holds_posted, stands_posted, view_is}
 use Rattle.core_worker.proofs.worker.Worker.post_plain.Goals as goal
 
 -- two changes of one place
@@ -23,7 +22,7 @@ returns-clause-holds g c =
     let none : PointsNowhere c.in-Staged.entry.body = subst HasNoBlock was c.requires.staged in
     let both = twice w.places.items c.swap_place.new.places.items c.swap_place-free.new.places.items c.args.slot Free (Posted c.in-Staged.number c.in-Staged.entry.key c.entry_lines-lines.result) c.swap_place.ensures.now c.swap_place-free.ensures.now in
     subst (λ (u : View). Holds p m u (record w { places = c.swap_place-free.new.places })) (sym (c.post.ensures.view ∙ view_is p m v w c.requires.holds c.args.slot c.in-Staged.number c.in-Staged.entry c.bytes.result.now c.requires.slot (was ∙ ap (λ (xs : List ℕ). Staged c.in-Staged.number c.in-Staged.entry xs) (sym c.bytes.ensures)) none c.requires.runs))
-      (holds_posted p m v w c.requires.holds c.args.slot c.in-Staged.number c.in-Staged.entry _ c.requires.slot was none c.requires.runs c.swap_place-free.new.places c.entry_lines-lines.result both c.entry_lines-lines.ensures.lines c.entry_lines-lines.ensures.high (c.requires.nothing.0) c.requires.nothing.1)
+    (holds_posted p m v w c.requires.holds c.args.slot c.in-Staged.number c.in-Staged.entry _ c.requires.slot was none c.requires.runs c.swap_place-free.new.places c.entry_lines-lines.result both c.entry_lines-lines.ensures.lines c.entry_lines-lines.ensures.high (c.requires.nothing.0) c.requires.nothing.1)
 
 pub returns-clause-stands : goal.returns-clause-stands
 returns-clause-stands g c s S =
@@ -34,7 +33,7 @@ returns-clause-stands g c s S =
     let was = sym c.in-Staged.ensures.was in
     let none : PointsNowhere c.in-Staged.entry.body = subst HasNoBlock was c.requires.staged in
     stands_posted s p m v (g.B.Board.view c.post.new.self) w c.args.slot c.in-Staged.entry c.swap_place-free.new.places none
-      (c.post.ensures.view ∙ view_is p m v w c.requires.holds c.args.slot c.in-Staged.number c.in-Staged.entry c.bytes.result.now c.requires.slot (was ∙ ap (λ (xs : List ℕ). Staged c.in-Staged.number c.in-Staged.entry xs) (sym c.bytes.ensures)) none c.requires.runs) S
+    (c.post.ensures.view ∙ view_is p m v w c.requires.holds c.args.slot c.in-Staged.number c.in-Staged.entry c.bytes.result.now c.requires.slot (was ∙ ap (λ (xs : List ℕ). Staged c.in-Staged.number c.in-Staged.entry xs) (sym c.bytes.ensures)) none c.requires.runs) S
 
 pub returns-clause-posts : goal.returns-clause-posts
 returns-clause-posts g c =

@@ -1,11 +1,9 @@
-use Rattle.std.proofs.Common.{◌≡◌, ℕ, List, length, refl, sym, ◌∙◌, ap, subst}
-use Rattle.std.proofs.lemmas.Bool.{cases_eq}
+use Rattle.std.proofs.Common.{◌≡◌, ℕ, List, refl, sym, ◌∙◌, ap, subst}
 use Rattle.group_laws.specs.MemberViews.{View}
 use Rattle.core_worker.specs.declared.types.Place as places
 use Rattle.core_worker.specs.declared.types.Place.TheVariants.{Free, Staged, Posted}
-use Rattle.core_worker.specs.OwnPlaces.{place_at, Replaces}
+use Rattle.core_worker.specs.OwnPlaces.{Replaces}
 use Rattle.core_worker.specs.Posting.{IsStagedWith, WouldStand}
-use Rattle.pm_region.specs.State.{State}
 use Rattle.core_worker.specs.Ties.{Holds, Stands}
 use Rattle.core_worker.proofs.BlockClear.{clear_for}
 use Rattle.core_worker.proofs.BlockPosts.{holds_posted_block, stands_places, view_is, may_post}
@@ -38,7 +36,7 @@ returns-clause-holds g c =
     let points : c.in-Staged.entry.body ≡ bodies.Pointer c.args.pointer = subst (λ x. IsStagedWith x c.args.pointer) was c.requires.staged in
     let both = twice w.places.items c.swap_place.new.places.items c.swap_place-free.new.places.items c.args.slot Free (Posted c.in-Staged.number c.in-Staged.entry.key c.entry_lines-lines.result) c.swap_place.ensures.now c.swap_place-free.ensures.now in
     subst (λ (u : View). Holds p m u (record w { places = c.swap_place-free.new.places })) (sym (c.post.ensures.view ∙ view_is p m v w c.requires.holds c.args.slot c.in-Staged.number c.in-Staged.entry c.bytes.result.now c.requires.slot (was ∙ ap (λ (xs : List ℕ). Staged c.in-Staged.number c.in-Staged.entry xs) (sym c.bytes.ensures)) c.args.pointer points c.requires.runs))
-      (holds_posted_block p m v w c.requires.holds c.args.slot c.in-Staged.number c.in-Staged.entry c.bytes.result.now c.requires.slot (was ∙ ap (λ (xs : List ℕ). Staged c.in-Staged.number c.in-Staged.entry xs) (sym c.bytes.ensures)) c.args.pointer points c.requires.runs c.swap_place-free.new.places c.entry_lines-lines.result both c.entry_lines-lines.ensures.lines c.entry_lines-lines.ensures.high (c.requires.nothing.0) c.requires.nothing.1)
+    (holds_posted_block p m v w c.requires.holds c.args.slot c.in-Staged.number c.in-Staged.entry c.bytes.result.now c.requires.slot (was ∙ ap (λ (xs : List ℕ). Staged c.in-Staged.number c.in-Staged.entry xs) (sym c.bytes.ensures)) c.args.pointer points c.requires.runs c.swap_place-free.new.places c.entry_lines-lines.result both c.entry_lines-lines.ensures.lines c.entry_lines-lines.ensures.high (c.requires.nothing.0) c.requires.nothing.1)
 
 pub returns-clause-stands : goal.returns-clause-stands
 returns-clause-stands g c s S =
@@ -49,8 +47,8 @@ returns-clause-stands g c s S =
     let was = sym c.in-Staged.ensures.was in
     let points : c.in-Staged.entry.body ≡ bodies.Pointer c.args.pointer = subst (λ x. IsStagedWith x c.args.pointer) was c.requires.staged in
     subst (λ (u : View). Stands s p m u (record w { places = c.swap_place-free.new.places })) (sym c.post.ensures.view)
-      (stands_places s p m (after_post c.args.slot c.in-Staged.entry c.bytes.result.now v) w c.swap_place-free.new.places
-        (subst (WouldStand s p m v w c.args.slot) (was ∙ ap (λ (xs : List ℕ). Staged c.in-Staged.number c.in-Staged.entry xs) (sym c.bytes.ensures)) S))
+    (stands_places s p m (after_post c.args.slot c.in-Staged.entry c.bytes.result.now v) w c.swap_place-free.new.places
+    (subst (WouldStand s p m v w c.args.slot) (was ∙ ap (λ (xs : List ℕ). Staged c.in-Staged.number c.in-Staged.entry xs) (sym c.bytes.ensures)) S))
 
 pub returns-clause-posts : goal.returns-clause-posts
 returns-clause-posts g c =

@@ -1,7 +1,6 @@
 -- The block is there, and what the change leaves of the ties.
-use Rattle.std.proofs.Common.{◌≡◌, ℕ, ◌+◌, ◌<◌, ◌≤◌, List, length, Option, Some, Result, Ok, true, Bool, refl, sym, ◌∙◌, ap, subst, arith}
+use Rattle.std.proofs.Common.{◌≡◌, ℕ, ◌+◌, List, length, Option, Some, Result, Ok, true, Bool, refl, sym, ◌∙◌, ap, subst, arith}
 use Rattle.std.specs.Result.{IfOk}
-use Rattle.pm_region.specs.State.{State}
 use Rattle.log_entry.specs.declared.entry.Entry.{Entry}
 use Rattle.log_entry.specs.declared.entry.Body.TheVariants as bodies
 use Rattle.log_entry.specs.Spelling.{HasSpelling}
@@ -9,11 +8,11 @@ use Rattle.chunk_map.specs.Layouts.{has_class, IsLayout}
 use Rattle.core_index.specs.Index.{known_at}
 use Rattle.core_index.specs.Records.{last_of}
 use Rattle.core_index.specs.declared.types.Spent.{Spent}
-use Rattle.lazy_alloc.specs.Sets.{Sets, Takes, class_at}
+use Rattle.lazy_alloc.specs.Sets.{Takes}
 use Rattle.core_worker.specs.OwnPlaces.{place_at}
 use Rattle.core_worker.specs.Supplies.{supply_of}
 use Rattle.core_room.specs.RoomRule.{may_cut}
-use Rattle.core_room.specs.Lengths.{class_for, lines_needed}
+use Rattle.core_room.specs.Lengths.{lines_needed}
 use Rattle.core_worker.proofs.Gains.{Allots, allots}
 use Rattle.core_worker.proofs.Pointers.{measured, free_is, block_class, block_there, class_is, one_line, layout_there, unspent, take_some, pointer_small}
 use Rattle.core_worker.proofs.Staging.{holds_staged, stands_staged}
@@ -41,9 +40,9 @@ unwrap-pointer-requires g c =
     let m = (g.B.Board.seat c.args.board.now).number in
     let v = g.B.Board.view c.args.board.now in
     take_some w c.take.new.self w.allocator.layout c.class_of-class.result 1
-      (block_class p m v w c.requires.holds (last_of (known_at w.index c.args.key)) (length c.args.value) c.class_of-class.result c.requires.unrefused c.requires.long has)
-      (block_there p m v w c.requires.holds (last_of (known_at w.index c.args.key)) (length c.args.value) c.class_of-class.result c.requires.unrefused c.requires.long has)
-      c.take.result (subst (λ (b : Bool). Takes w.allocator c.take.new.self c.class_of-class.result b c.take.result) c.may_cut-may_cut.ensures c.take.ensures.takes)
+    (block_class p m v w c.requires.holds (last_of (known_at w.index c.args.key)) (length c.args.value) c.class_of-class.result c.requires.unrefused c.requires.long has)
+    (block_there p m v w c.requires.holds (last_of (known_at w.index c.args.key)) (length c.args.value) c.class_of-class.result c.requires.unrefused c.requires.long has)
+    c.take.result (subst (λ (b : Bool). Takes w.allocator c.take.new.self c.class_of-class.result b c.take.result) c.may_cut-may_cut.ensures c.take.ensures.takes)
 
 pub returns-clause-holds : goal.returns-clause-holds
 returns-clause-holds g c =

@@ -1,17 +1,15 @@
 -- What the change leaves of the ties.
-use Rattle.std.proofs.Common.{◌≡◌, ℕ, ◌+◌, ◌<◌, ◌≤◌, List, [], length, Option, Some, Result, Ok, true, Bool, refl, sym, ◌∙◌, ap, subst, arith}
-use Rattle.std.specs.List.{AllByRecursion}
+use Rattle.std.proofs.Common.{◌≡◌, ℕ, ◌+◌, Result, Ok, subst}
 use Rattle.std.specs.Result.{IfOk}
 use Rattle.log_entry.specs.declared.entry.Entry.{Entry}
 use Rattle.log_entry.specs.declared.entry.Body.TheVariants as bodies
-use Rattle.log_entry.specs.Spelling.{HasSpelling}
 use Rattle.core_index.specs.Index.{known_at}
 use Rattle.core_index.specs.Records.{last_of}
 use Rattle.core_index.specs.declared.types.Spent.{Spent}
 use Rattle.core_worker.specs.OwnPlaces.{place_at}
 use Rattle.core_worker.proofs.Gains.{allots_none}
 use Rattle.core_worker.proofs.Pointers.{free_is, delete_spelled}
-use Rattle.core_worker.proofs.Staging.{holds_staged, stands_staged}
+use Rattle.core_worker.proofs.Staging.{holds_staged}
 use Rattle.core_worker.proofs.worker.Worker.stage_delete.Goals as goal
 
 next_is : (r : Result ℕ Spent) (version last : ℕ) → r ≡ Ok version → IfOk r (λ x. x ≡ last + 1) → version ≡ last + 1

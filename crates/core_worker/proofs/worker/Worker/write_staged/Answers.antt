@@ -1,8 +1,7 @@
-use Rattle.std.proofs.Common.{◌≡◌, ℕ, List, length, true, false, Some, sym, refl, ◌∙◌, ap, subst}
+use Rattle.std.proofs.Common.{ℕ, List, length, true, sym, ◌∙◌, ap, subst}
 use Rattle.chunk_map.specs.Layouts.{has_class}
 use Rattle.lazy_alloc.specs.Sets.{Sets}
 use Rattle.lazy_alloc.specs.Written.{WroteValue}
-use Rattle.core_worker.specs.OwnPlaces.{place_at}
 use Rattle.core_worker.specs.Posting.{IsStagedWith, WouldStand}
 use Rattle.core_worker.specs.Ties.{Holds, Stands}
 use Rattle.core_worker.proofs.BlockStands.{head_ready, staged_block, holds_written, holds_stopped, stands_block, stands_stopped}
@@ -43,8 +42,8 @@ returns-in-Ok-clause-ready g c same =
     let is = staged_block p m v c.args.self.now c.requires.holds c.args.slot c.in-Staged.number c.args.pointer c.in-Staged.entry c.in-Staged.value was c.requires.staged in
     let k = is.0.class in
     subst (WouldStand t p m v (record c.args.self.now { allocator = c.write_for.new.allocator }) c.args.slot) (sym was)
-      (stands_block s t p m v c.args.self.now c.requires.holds c.requires.stands c.requires.runs c.args.pointer k is.0.class_is is.1 (c.write_for.ensures.others k is.0.class_is) (c.write_for.ensures.head k is.0.class_is)
-        c.write_for.new.allocator c.in-Staged.value (subst (λ (xs : List ℕ). WroteValue t c.args.self.now.allocator c.write_for.new.allocator c.args.pointer k xs) c.bytes.ensures (c.in-Ok.ensures.ok k is.0.class_is)) c.args.slot c.in-Staged.entry is.0.fits (subst (λ x. IsStagedWith x c.args.pointer) was c.requires.staged))
+    (stands_block s t p m v c.args.self.now c.requires.holds c.requires.stands c.requires.runs c.args.pointer k is.0.class_is is.1 (c.write_for.ensures.others k is.0.class_is) (c.write_for.ensures.head k is.0.class_is)
+    c.write_for.new.allocator c.in-Staged.value (subst (λ (xs : List ℕ). WroteValue t c.args.self.now.allocator c.write_for.new.allocator c.args.pointer k xs) c.bytes.ensures (c.in-Ok.ensures.ok k is.0.class_is)) c.args.slot c.in-Staged.entry is.0.fits (subst (λ x. IsStagedWith x c.args.pointer) was c.requires.staged))
 
 pub returns-in-Err-clause-holds : goal.returns-in-Err-clause-holds
 returns-in-Err-clause-holds g c =
@@ -63,4 +62,4 @@ returns-in-Err-clause-stands g c failed =
     let is = staged_block p m v c.args.self.now c.requires.holds c.args.slot c.in-Staged.number c.args.pointer c.in-Staged.entry c.in-Staged.value (sym c.place_in.ensures ∙ c.in-Staged.is) c.requires.staged in
     let k = is.0.class in
     subst (λ (a : Sets). Stands t p m v (record c.args.self.now { allocator = a; stopped = true })) (sym c.in-Err.ensures.err)
-      (stands_stopped s t p m v c.args.self.now c.requires.holds c.requires.stands c.requires.runs c.args.pointer k is.0.class_is is.1 (c.write_for.ensures.others k is.0.class_is) (c.write_for.ensures.head k is.0.class_is))
+    (stands_stopped s t p m v c.args.self.now c.requires.holds c.requires.stands c.requires.runs c.args.pointer k is.0.class_is is.1 (c.write_for.ensures.others k is.0.class_is) (c.write_for.ensures.head k is.0.class_is))
