@@ -1,0 +1,149 @@
+-- What a leader's steps leave of the ties.
+use Rattle.std.proofs.Common.{◌≡◌, inl, inr, ⊎_elim, ℕ, Bool, true, false, List, [], Option, refl, sym, ◌∙◌, subst}
+use Rattle.pm_region.specs.State.{State}
+use Rattle.log_entry.specs.declared.entry.Entry.{Entry}
+use Rattle.group_laws.specs.declared.types.Seen.{Seen}
+use Rattle.group_laws.specs.Places.{Place}
+use Rattle.group_laws.specs.MemberViews.{View}
+use Rattle.licence.specs.Licence.{grounded}
+use Rattle.licence.proofs.Quiet.{allowed, flown}
+use Rattle.core_worker.specs.declared.types.Leading.{Leading}
+use Rattle.core_worker.specs.declared.worker.Worker.{Worker}
+use Rattle.core_worker.specs.Ties.{Leads, HasSpaceFor, is_lost, Holds, Stands}
+
+-- a view in which a leader's fields are others
+abbrev pub led_view : View → List Entry → List Entry → (ℕ → ℕ → Option Entry) → Bool → List Seen → List Entry → View
+led_view v kept flying taken holds looked took = record v { kept = kept; flying = flying; taken = taken; holds = holds; looked = looked; took = took }
+
+pub holds_led : (p : Place) (m : ℕ) (v : View) (w : Worker) (kept flying : List Entry) (taken : ℕ → ℕ → Option Entry) (holds : Bool) (looked : List Seen) (took : List Entry) (l : Leading) → Holds p m v w
+    → Leads p m (led_view v kept flying taken holds looked took) l → (w.stopped ≡ false → HasSpaceFor w l) → (is_lost l ≡ true → w.stopped ≡ true)
+    → Holds p m (led_view v kept flying taken holds looked took) (record w { leading = l })
+holds_led p m v w kept flying taken holds looked took l H leads space lost = record {
+  place = H.place;
+  member = H.member;
+  core = H.core;
+  layout = H.layout;
+  log_layout = H.log_layout;
+  log_part = H.log_part;
+  sets = H.sets;
+  allocator_layout = H.allocator_layout;
+  allocator_part = H.allocator_part;
+  spelled = H.spelled;
+  eight = H.eight;
+  placed = λ s lt. H.placed s lt;
+  apart = H.apart;
+  pending = H.pending;
+  admitted = H.admitted;
+  keys = λ k own which. let K = H.keys k own which in record { last = K.last; cell = K.cell; present = K.present; told = K.told };
+  blocks = record {
+    held = H.blocks.held;
+    staged = λ q x. H.blocks.staged q (record { slot = x.slot; number = x.number; entry = x.entry; value = x.value; place = x.place; points = x.points });
+    once = λ q x y. H.blocks.once q (record { slot = x.slot; number = x.number; entry = x.entry; value = x.value; place = x.place; points = x.points }) (record { slot = y.slot; number = y.number; entry = y.entry; value = y.value; place = y.place; points = y.points });
+    only = λ q used. ⊎_elim (λ b. inl b) (λ x. inr (record { slot = x.slot; number = x.number; entry = x.entry; value = x.value; place = x.place; points = x.points })) (H.blocks.only q used);
+  };
+  waits = H.waits;
+  leads = leads;
+  space = space;
+  broken = H.broken;
+  cleaning = H.cleaning;
+  remembers = H.remembers;
+  lost = lost;
+}
+
+-- nothing certain or in flight changes
+pub stands_quiet : (s : State) (p : Place) (m : ℕ) (v : View) (w : Worker) (taken : ℕ → ℕ → Option Entry) (holds : Bool) (looked : List Seen) (took : List Entry) (l : Leading) → (is_lost l ≡ false → is_lost w.leading ≡ false) → Stands s p m v w
+    → Stands s p m (led_view v v.kept v.flying taken holds looked took) (record w { leading = l })
+stands_quiet s p m v w taken holds looked took l landed S =
+    let u = led_view v v.kept v.flying taken holds looked took in
+    record {
+      lies = S.lies;
+      licensed = λ telling image may. allowed p m v u image (record { kept = refl; flying = refl; doomed = λ k n e. e; blocks = λ q b e. e }) (S.licensed telling image may);
+      landed = λ whole not_lost telling image may. allowed p m (grounded v) (grounded u) image (record { kept = refl; flying = refl; doomed = λ k n e. e; blocks = λ q b e. e }) (S.landed whole (landed not_lost) telling image may);
+      log = S.log;
+      free = S.free;
+      due = S.due;
+      cut = S.cut;
+    }
+
+-- the same of a view that is known to be such a one
+pub holds_by : (p : Place) (m : ℕ) (v u : View) (w : Worker) (kept flying : List Entry) (taken : ℕ → ℕ → Option Entry) (holds : Bool) (looked : List Seen) (took : List Entry) (l : Leading) → u ≡ led_view v kept flying taken holds looked took → Holds p m v w
+    → Leads p m u l → (w.stopped ≡ false → HasSpaceFor w l) → (is_lost l ≡ true → w.stopped ≡ true)
+    → Holds p m u (record w { leading = l })
+holds_by p m v u w kept flying taken holds looked took l e H leads space lost =
+    subst (λ (x : View). Holds p m x (record w { leading = l })) (sym e) (holds_led p m v w kept flying taken holds looked took l H (subst (λ (x : View). Leads p m x l) e leads) space lost)
+
+pub stands_by : (s : State) (p : Place) (m : ℕ) (v u : View) (w : Worker) (taken : ℕ → ℕ → Option Entry) (holds : Bool) (looked : List Seen) (took : List Entry) (l : Leading) → u ≡ led_view v v.kept v.flying taken holds looked took → (is_lost l ≡ false → is_lost w.leading ≡ false) → Stands s p m v w
+    → Stands s p m u (record w { leading = l })
+stands_by s p m v u w taken holds looked took l e landed S = subst (λ (x : View). Stands s p m x (record w { leading = l })) (sym e) (stands_quiet s p m v w taken holds looked took l landed S)
+
+-- what is taken while no image has what is in flight
+pub stands_taking : (s : State) (p : Place) (m : ℕ) (v u : View) (w : Worker) (flying : List Entry) (taken : ℕ → ℕ → Option Entry) (looked : List Seen) (took : List Entry) (l : Leading) → u ≡ led_view v v.kept flying taken v.holds looked took
+    → v.broken ≡ false → is_lost w.leading ≡ false → Stands s p m v w → Stands s p m u (record w { leading = l })
+stands_taking s p m v u w flying taken looked took l e whole not_lost S =
+    let x = led_view v v.kept flying taken v.holds looked took in
+    subst (λ (x : View). Stands s p m x (record w { leading = l })) (sym e) (record {
+      lies = S.lies;
+      licensed = λ telling image may. flown p m x image (allowed p m (grounded v) (grounded x) image (record { kept = refl; flying = refl; doomed = λ k n e. e; blocks = λ q b e. e }) (S.landed whole not_lost telling image may));
+      landed = λ still other telling image may. allowed p m (grounded v) (grounded x) image (record { kept = refl; flying = refl; doomed = λ k n e. e; blocks = λ q b e. e }) (S.landed whole not_lost telling image may);
+      log = S.log;
+      free = S.free;
+      due = S.due;
+      cut = S.cut;
+    })
+
+-- a core that runs is not broken
+pub runs_whole : (p : Place) (m : ℕ) (v : View) (w : Worker) → Holds p m v w → w.stopped ≡ false → v.broken ≡ false
+runs_whole p m v w H runs = by_case v.broken refl where
+  by_case : (b : Bool) → v.broken ≡ b → v.broken ≡ false
+  by_case false e = e
+  by_case true e = absurd (let both : true ≡ false = sym (H.broken e) ∙ runs in cc both)
+
+-- the same after an entry was failed: who has stopped may be broken
+abbrev pub failed_view : View → (ℕ → ℕ → Option Entry) → View
+failed_view v taken = record v { taken = taken; broken = true; looked = [] }
+
+pub failed_by : (p : Place) (m : ℕ) (v u : View) (w : Worker) (taken : ℕ → ℕ → Option Entry) (l : Leading) → u ≡ failed_view v taken → Holds p m v w → Leads p m u l → HasSpaceFor w l → w.stopped ≡ true → Holds p m u (record w { leading = l })
+failed_by p m v u w taken l e H leads space stopped = subst (λ (x : View). Holds p m x (record w { leading = l })) (sym e) (record {
+  place = H.place;
+  member = H.member;
+  core = H.core;
+  layout = H.layout;
+  log_layout = H.log_layout;
+  log_part = H.log_part;
+  sets = H.sets;
+  allocator_layout = H.allocator_layout;
+  allocator_part = H.allocator_part;
+  spelled = H.spelled;
+  eight = H.eight;
+  placed = λ s lt. H.placed s lt;
+  apart = H.apart;
+  pending = H.pending;
+  admitted = H.admitted;
+  keys = λ k own which. let K = H.keys k own which in record { last = K.last; cell = K.cell; present = K.present; told = K.told };
+  blocks = record {
+    held = H.blocks.held;
+    staged = λ q x. H.blocks.staged q (record { slot = x.slot; number = x.number; entry = x.entry; value = x.value; place = x.place; points = x.points });
+    once = λ q x y. H.blocks.once q (record { slot = x.slot; number = x.number; entry = x.entry; value = x.value; place = x.place; points = x.points }) (record { slot = y.slot; number = y.number; entry = y.entry; value = y.value; place = y.place; points = y.points });
+    only = λ q used. ⊎_elim (λ b. inl b) (λ x. inr (record { slot = x.slot; number = x.number; entry = x.entry; value = x.value; place = x.place; points = x.points })) (H.blocks.only q used);
+  };
+  waits = H.waits;
+  leads = subst (λ (x : View). Leads p m x l) e leads;
+  space = λ runs. space;
+  broken = λ b. stopped;
+  cleaning = H.cleaning;
+  remembers = H.remembers;
+  lost = λ b. stopped;
+})
+
+pub failed_stands : (s : State) (p : Place) (m : ℕ) (v u : View) (w : Worker) (taken : ℕ → ℕ → Option Entry) (l : Leading) → u ≡ failed_view v taken → Stands s p m v w → Stands s p m u (record w { leading = l })
+failed_stands s p m v u w taken l e S =
+    let x = failed_view v taken in
+    subst (λ (y : View). Stands s p m y (record w { leading = l })) (sym e) (record {
+      lies = S.lies;
+      licensed = λ telling image may. allowed p m v x image (record { kept = refl; flying = refl; doomed = λ k n e. e; blocks = λ q b e. e }) (S.licensed telling image may);
+      landed = λ whole. absurd (cc whole);
+      log = S.log;
+      free = S.free;
+      due = S.due;
+      cut = S.cut;
+    })

@@ -1,0 +1,58 @@
+-- What is kept where answers are given out, and where a worker winds down.
+use Rattle.std.proofs.Common.{ℕ, true, refl}
+use Rattle.std.specs.declared.collections.VecDeque.{VecDeque}
+use Rattle.std.specs.Global.{Global}
+use Rattle.pm_region.specs.State.{State}
+use Rattle.group_laws.specs.Places.{Place}
+use Rattle.group_laws.specs.MemberViews.{View}
+use Rattle.core_worker.specs.declared.types.Answer.{Answer}
+use Rattle.core_worker.specs.declared.types.Leading.{Leading}
+use Rattle.core_worker.specs.declared.types.Leading.TheVariants as leads
+use Rattle.core_worker.specs.declared.worker.Worker.{Worker}
+use Rattle.core_worker.specs.Ties.{Holds, Stands, HasSpaceFor}
+use Rattle.core_worker.proofs.Beginnings.{with_answers, answered_holds, answered_stands, aside_of, of_aside}
+
+pub given_holds : (p : Place) (m : ℕ) (v : View) (w : Worker) (a : VecDeque Answer Global) → Holds p m v w → Holds p m v (with_answers w a)
+given_holds p m v w a H = of_aside p m v (with_answers w a) (answered_holds p m v w (with_answers w a) refl (aside_of p m v w H)) H.admitted H.waits
+
+pub given_stands : (s : State) (p : Place) (m : ℕ) (v : View) (w : Worker) (a : VecDeque Answer Global) → Stands s p m v w → Stands s p m v (with_answers w a)
+given_stands s p m v w a S = answered_stands s p m v w (with_answers w a) refl S
+
+space : (w : Worker) (l : Leading) → HasSpaceFor w l → HasSpaceFor (record w { winds_down = true }) l
+space w (leads.Nothing b) h = tt
+space w (leads.Collecting c) h = h
+space w (leads.Batch b) h = h
+space w (leads.Persisted x) h = tt
+space w (leads.Failed x) h = tt
+space w leads.Between h = tt
+
+pub wound_holds : (p : Place) (m : ℕ) (v : View) (w : Worker) → Holds p m v w → Holds p m v (record w { winds_down = true })
+wound_holds p m v w H = record {
+  place = H.place;
+  member = H.member;
+  core = H.core;
+  layout = H.layout;
+  log_layout = H.log_layout;
+  log_part = H.log_part;
+  sets = H.sets;
+  allocator_layout = H.allocator_layout;
+  allocator_part = H.allocator_part;
+  spelled = H.spelled;
+  eight = H.eight;
+  placed = H.placed;
+  apart = H.apart;
+  pending = H.pending;
+  admitted = H.admitted;
+  keys = H.keys;
+  blocks = H.blocks;
+  waits = λ on. absurd (cc on);
+  leads = H.leads;
+  space = λ r. space w w.leading (H.space r);
+  broken = H.broken;
+  lost = H.lost;
+  cleaning = H.cleaning;
+  remembers = H.remembers;
+}
+
+pub wound_stands : (s : State) (p : Place) (m : ℕ) (v : View) (w : Worker) → Stands s p m v w → Stands s p m v (record w { winds_down = true })
+wound_stands s p m v w S = record { lies = S.lies; licensed = S.licensed; landed = S.landed; log = S.log; free = S.free; due = S.due; cut = S.cut }

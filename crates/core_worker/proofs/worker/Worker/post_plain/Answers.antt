@@ -1,0 +1,52 @@
+use Rattle.std.proofs.Common.{ℕ, List, refl, sym, ◌∙◌, ap, subst}
+use Rattle.group_laws.specs.MemberViews.{View}
+use Rattle.core_worker.specs.declared.types.Place as places
+use Rattle.core_worker.specs.declared.types.Place.TheVariants.{Free, Staged, Posted}
+use Rattle.core_worker.specs.OwnPlaces.{Replaces}
+use Rattle.core_worker.specs.Posting.{PointsNowhere, HasNoBlock}
+use Rattle.core_worker.specs.Ties.{Holds}
+use Rattle.core_worker.proofs.Posts.{holds_posted, stands_posted, view_is}
+use Rattle.core_worker.proofs.worker.Worker.post_plain.Goals as goal
+
+-- two changes of one place
+twice : (a b c : List places.Place) (s : ℕ) (x y : places.Place) → Replaces a b s x → Replaces b c s y → Replaces a c s y
+twice a b c s x y first next = record { count = next.count ∙ first.count; here = next.here; others = λ t ne. next.others t ne ∙ first.others t ne }
+
+pub returns-clause-holds : goal.returns-clause-holds
+returns-clause-holds g c =
+    let p = (g.B.Board.seat c.args.board.now).place in
+    let m = (g.B.Board.seat c.args.board.now).number in
+    let v = g.B.Board.view c.args.board.now in
+    let w = c.args.self.now in
+    let was = sym c.in-Staged.ensures.was in
+    let none : PointsNowhere c.in-Staged.entry.body = subst HasNoBlock was c.requires.staged in
+    let both = twice w.places.items c.swap_place.new.places.items c.swap_place-free.new.places.items c.args.slot Free (Posted c.in-Staged.number c.in-Staged.entry.key c.entry_lines-lines.result) c.swap_place.ensures.now c.swap_place-free.ensures.now in
+    subst (λ (u : View). Holds p m u (record w { places = c.swap_place-free.new.places })) (sym (c.post.ensures.view ∙ view_is p m v w c.requires.holds c.args.slot c.in-Staged.number c.in-Staged.entry c.bytes.result.now c.requires.slot (was ∙ ap (λ (xs : List ℕ). Staged c.in-Staged.number c.in-Staged.entry xs) (sym c.bytes.ensures)) none c.requires.runs))
+    (holds_posted p m v w c.requires.holds c.args.slot c.in-Staged.number c.in-Staged.entry _ c.requires.slot was none c.requires.runs c.swap_place-free.new.places c.entry_lines-lines.result both c.entry_lines-lines.ensures.lines c.entry_lines-lines.ensures.high (c.requires.nothing.0) c.requires.nothing.1)
+
+pub returns-clause-stands : goal.returns-clause-stands
+returns-clause-stands g c s S =
+    let p = (g.B.Board.seat c.args.board.now).place in
+    let m = (g.B.Board.seat c.args.board.now).number in
+    let v = g.B.Board.view c.args.board.now in
+    let w = c.args.self.now in
+    let was = sym c.in-Staged.ensures.was in
+    let none : PointsNowhere c.in-Staged.entry.body = subst HasNoBlock was c.requires.staged in
+    stands_posted s p m v (g.B.Board.view c.post.new.self) w c.args.slot c.in-Staged.entry c.swap_place-free.new.places none
+    (c.post.ensures.view ∙ view_is p m v w c.requires.holds c.args.slot c.in-Staged.number c.in-Staged.entry c.bytes.result.now c.requires.slot (was ∙ ap (λ (xs : List ℕ). Staged c.in-Staged.number c.in-Staged.entry xs) (sym c.bytes.ensures)) none c.requires.runs) S
+
+pub returns-clause-posts : goal.returns-clause-posts
+returns-clause-posts g c =
+    let w = c.args.self.now in
+    let was = sym c.in-Staged.ensures.was in
+    let both = twice w.places.items c.swap_place.new.places.items c.swap_place-free.new.places.items c.args.slot Free (Posted c.in-Staged.number c.in-Staged.entry.key c.entry_lines-lines.result) c.swap_place.ensures.now c.swap_place-free.ensures.now in
+    record {
+      number = c.in-Staged.number;
+      entry = c.in-Staged.entry;
+      value = c.bytes.result.now;
+      was = was ∙ ap (λ (xs : List ℕ). Staged c.in-Staged.number c.in-Staged.entry xs) (sym c.bytes.ensures);
+      places = subst (λ (n : ℕ). Replaces w.places.items c.swap_place-free.new.places.items c.args.slot (Posted c.in-Staged.number c.in-Staged.entry.key n)) c.entry_lines-lines.ensures.lines both;
+      rest = refl;
+      view = c.post.ensures.view;
+      whole = c.post.ensures.whole;
+    }

@@ -1,0 +1,47 @@
+use Rattle.std.proofs.Common.{true, [], ◌∷◌, ◌++◌, refl, sym, ◌∙◌, ap}
+use Rattle.group_laws.specs.declared.types.Seen.TheVariants as loads
+use Rattle.group_laws.specs.MemberViews.{View}
+use Rattle.core_worker.specs.declared.types.Leading.TheVariants as leads
+use Rattle.core_worker.specs.Ties.{is_lost}
+use Rattle.core_worker.proofs.LeadTies.{led_here, leads_of}
+use Rattle.core_worker.proofs.Led.{holds_by, stands_by}
+use Rattle.core_worker.proofs.worker.Worker.try_lead.Goals as goal
+
+pub returns-in-Ok-clause-holds : goal.returns-in-Ok-clause-holds
+returns-in-Ok-clause-holds g c =
+    let p = (g.B.Board.seat c.args.board.now).place in
+    let m = (g.B.Board.seat c.args.board.now).number in
+    let v = g.B.Board.view c.args.board.now in
+    let seat = g.B.Board.seat c.args.board.now in
+    let had = led_here seat v c.args.self.now.leading (leads.Nothing c.in-Nothing.buffer) c.requires.holds.leads (sym c.in-Nothing.ensures.value) in
+    holds_by p m v (g.B.Board.view c.lead.new.board) c.args.self.now v.kept v.flying v.taken true [] v.took (leads.Collecting c.in-Ok.collecting) c.in-Ok.ensures.view c.requires.holds (leads_of seat (g.B.Board.view c.lead.new.board) (leads.Collecting c.in-Ok.collecting) c.in-Ok.ensures.collects)
+    (λ runs some. absurd (some c.in-Ok.ensures.starts.0)) (λ e. absurd (cc e))
+
+pub returns-in-Ok-clause-stands : goal.returns-in-Ok-clause-stands
+returns-in-Ok-clause-stands g c s S =
+    let p = (g.B.Board.seat c.args.board.now).place in
+    let m = (g.B.Board.seat c.args.board.now).number in
+    let v = g.B.Board.view c.args.board.now in
+    stands_by s p m v (g.B.Board.view c.lead.new.board) c.args.self.now v.taken true [] v.took (leads.Collecting c.in-Ok.collecting) c.in-Ok.ensures.view (λ e. ap is_lost (sym c.in-Nothing.ensures.value)) S
+
+pub returns-in-Err-clause-holds : goal.returns-in-Err-clause-holds
+returns-in-Err-clause-holds g c =
+    let p = (g.B.Board.seat c.args.board.now).place in
+    let m = (g.B.Board.seat c.args.board.now).number in
+    let v = g.B.Board.view c.args.board.now in
+    let seat = g.B.Board.seat c.args.board.now in
+    let had = led_here seat v c.args.self.now.leading (leads.Nothing c.in-Nothing.buffer) c.requires.holds.leads (sym c.in-Nothing.ensures.value) in
+    let view = c.in-Err.ensures.view in
+    holds_by p m v (g.B.Board.view c.lead.new.board) c.args.self.now v.kept v.flying v.taken v.holds (v.looked ++ loads.Holder c.in-Err.busy.holder ∷ []) v.took (leads.Nothing c.in-Err.busy.buffer) view c.requires.holds
+    (leads_of seat (g.B.Board.view c.lead.new.board) (leads.Nothing c.in-Err.busy.buffer) (ap (λ (x : View). x.holds) view ∙ had.0, (λ a t. ap (λ (x : View). x.taken a t) view ∙ had.1 a t), (λ b. ap (λ (x : View). x.flying) view ∙ had.2 (sym (ap (λ (x : View). x.broken) view) ∙ b))))
+    (λ runs. tt) (λ e. absurd (cc e))
+
+pub returns-in-Err-clause-stands : goal.returns-in-Err-clause-stands
+returns-in-Err-clause-stands g c s S =
+    let p = (g.B.Board.seat c.args.board.now).place in
+    let m = (g.B.Board.seat c.args.board.now).number in
+    let v = g.B.Board.view c.args.board.now in
+    stands_by s p m v (g.B.Board.view c.lead.new.board) c.args.self.now v.taken v.holds (v.looked ++ loads.Holder c.in-Err.busy.holder ∷ []) v.took (leads.Nothing c.in-Err.busy.buffer) c.in-Err.ensures.view (λ e. ap is_lost (sym c.in-Nothing.ensures.value)) S
+
+pub returns-in-Err-clause-tried : goal.returns-in-Err-clause-tried
+returns-in-Err-clause-tried g c = ((c.in-Err.busy.holder, c.in-Err.ensures.other, c.in-Err.ensures.view), (c.in-Err.busy.buffer, refl), refl)

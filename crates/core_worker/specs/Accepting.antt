@@ -1,0 +1,28 @@
+-- Accepting a request: it is held behind those of its key, or begun.
+use Rattle.std.specs.Prelude.{◌≡◌, ◌⊎◌, ℕ, ◌+◌, ◌≤◌, true, false}
+use Rattle.fs_model.specs.declared.model.Request.{Request}
+use Rattle.fs_model.specs.Cells.{key_of}
+use Rattle.conflict_queue.specs.Waiting.{AddsLast, held_with}
+use Rattle.core_index.specs.Index.{known_at, room_at}
+use Rattle.group_laws.specs.MemberViews.{View}
+use Rattle.core_worker.specs.declared.worker.Worker.{Worker}
+use Rattle.core_worker.specs.OwnPlaces.{is_busy}
+use Rattle.core_worker.specs.Refusals.{HasAnswerRoom}
+use Rattle.core_worker.specs.Beginning.{Begins}
+
+-- nothing but the room for records and answers is another one
+pub record IsAsBefore (old new : Worker) : Type 0 where
+  pub rest : new ≡ record old { answers = new.answers; index = new.index }
+  pub answers : new.answers.items ≡ old.answers.items
+  pub records : (k : ℕ) → known_at new.index k ≡ known_at old.index k
+  pub room : (k : ℕ) → room_at old.index k ≤ room_at new.index k
+
+-- there is room for a record of the key more, and for the answers to all requests that can be unanswered
+pub record Prepared (old new : Worker) (k : ℕ) : Type 0 where
+  pub record_room : room_at new.index k ≡ room_at old.index k + 1
+  pub answers : HasAnswerRoom 73 new
+
+abbrev pub Accepts : View → Worker → Worker → ℕ → Request → Type 0
+Accepts v old new n r = (mid : Worker) × IsAsBefore old mid × Prepared old mid (key_of r)
+    × (((is_busy old.places.items (key_of r) ≡ true) × AddsLast mid.queue new.queue (held_with n r) × (new ≡ record mid { queue = new.queue }))
+    ⊎ ((is_busy old.places.items (key_of r) ≡ false) × Begins mid new (v.cell (key_of r)) n r))

@@ -1,0 +1,118 @@
+-- What beginning a request does: it is answered, or a change is staged.
+use Rattle.std.specs.Prelude.{◌≡◌, ◌⊎◌, ℕ, ◌+◌, ◌<◌, Bool, true, false, List, [], ◌∷◌, ◌++◌, length, Option, Some, None}
+use Rattle.fs_model.specs.declared.model.Request.{Request}
+use Rattle.fs_model.specs.declared.model.Reply.{Reply}
+use Rattle.fs_model.specs.declared.model.Reply.TheVariants.{Stopped}
+use Rattle.core_worker.specs.Refusals.{reply_to}
+use Rattle.fs_model.specs.Cells.{key_of, answer_to, is_change}
+use Rattle.log_entry.specs.declared.entry.Entry.{Entry}
+use Rattle.log_entry.specs.declared.entry.Body.{Body}
+use Rattle.log_entry.specs.declared.entry.Body.TheVariants as bodies
+use Rattle.conflict_queue.specs.declared.types.Held.{Held}
+use Rattle.conflict_queue.specs.Waiting.{TakesFirst, waiting}
+use Rattle.core_index.specs.Index.{known_at}
+use Rattle.core_index.specs.Records.{last_of}
+use Rattle.lazy_alloc.specs.Sets.{Takes}
+use Rattle.group_laws.specs.MemberViews.{View}
+use Rattle.group_laws.specs.Places as places
+use Rattle.group_board.specs.Seats.{SeatAt}
+use Rattle.core_worker.specs.Ties.{Holds}
+use Rattle.core_worker.specs.declared.types.Answer.{Answer}
+use Rattle.core_room.specs.declared.types.Shortage.{Shortage}
+use Rattle.core_worker.specs.declared.types.Place.{Place}
+use Rattle.core_worker.specs.declared.types.Place.TheVariants.{Free, Staged}
+use Rattle.core_worker.specs.declared.worker.Worker.{Worker}
+use Rattle.core_worker.specs.OwnPlaces.{place_at, is_free, is_busy, IsLowest, Replaces, request_by}
+use Rattle.core_worker.specs.Supplies.{supply_of, why}
+use Rattle.core_room.specs.RoomRule.{may_cut}
+use Rattle.core_room.specs.Lengths.{class_for, lines_needed}
+
+-- the answers that were fixed, first to last
+abbrev pub answers_of : Worker → List Answer
+answers_of w = w.answers.items
+
+abbrev pub answer_with : ℕ → Reply → Option Shortage → Answer
+answer_with n reply refusal = record { number = n; reply = reply; refusal = refusal }
+
+-- the worker holds as it does with nothing waiting: what is true of it while requests of a key that isn't busy are begun
+abbrev pub HoldsAside : places.Place → ℕ → View → Worker → Type 0
+HoldsAside p m v w = Holds p m v (record w { queue = [] })
+
+abbrev pub HoldsAsideAt : SeatAt → View → Worker → Type 0
+HoldsAsideAt seat v w = HoldsAside seat.place seat.number v w
+
+-- one of the eight places is free
+abbrev pub HasFree : List Place → Type 0
+HasFree ps = (s : ℕ) × (s < 8) × (place_at ps s ≡ Free)
+
+-- nothing but queue, places, answers, allocator, index and the request in hand differs
+pub record SameCore (old new : Worker) : Type 0 where
+  pub layout : new.layout ≡ old.layout
+  pub core : new.core ≡ old.core
+  pub log : new.log ≡ old.log
+  pub leading : new.leading ≡ old.leading
+  pub cleaning : new.cleaning ≡ old.cleaning
+  pub stopped : new.stopped ≡ old.stopped
+  pub winds_down : new.winds_down ≡ old.winds_down
+
+-- The request was answered. No place, block or chunk is another one.
+pub record IsAnswered (old new : Worker) (a : Answer) : Type 0 where
+  pub same : SameCore old new
+  pub answers : answers_of new ≡ answers_of old ++ a ∷ []
+  pub places : new.places.items ≡ old.places.items
+  pub allocator : new.allocator ≡ old.allocator
+  pub records : (k : ℕ) → known_at new.index k ≡ known_at old.index k
+
+-- The pointer is that of a block which was taken for the value, where it needs one.
+abbrev pub TakesFor : Worker → Worker → ℕ → Body → Type 0
+TakesFor old new n (bodies.Pointer q) = Takes old.allocator new.allocator (class_for n) (may_cut (supply_of old) (lines_needed n)) (Some q)
+TakesFor old new n (bodies.Embedded u) = new.allocator ≡ old.allocator
+TakesFor old new n bodies.Tombstone = new.allocator ≡ old.allocator
+
+-- A change was staged in the lowest free place: the next one of its key, by the request.
+pub record IsStaged (old new : Worker) (number : ℕ) (r : Request) : Type 0 where
+  pub same : SameCore old new
+  pub answers : answers_of new ≡ answers_of old
+  pub slot : ℕ
+  pub lowest : IsLowest is_free old.places.items slot
+  pub entry : Entry
+  pub value : List ℕ
+  pub placed : Replaces old.places.items new.places.items slot (Staged number entry value)
+  pub key : entry.key ≡ key_of r
+  pub version : entry.version ≡ last_of (known_at old.index (key_of r)) + 1
+  pub asks : request_by entry.key value entry.body ≡ r
+  pub block : TakesFor old new (length value) entry.body
+  pub records : (k : ℕ) → known_at new.index k ≡ known_at old.index k
+
+-- The request was answered by its cell, or staged where it changes something.
+abbrev pub GoesOn : Bool → Worker → Worker → Option (List ℕ) → ℕ → Request → Type 0
+GoesOn false old new cell n r = IsAnswered old new (answer_with n (answer_to r cell) None)
+GoesOn true old new cell n r = IsStaged old new n r
+
+-- Where it is refused, that is its answer, with the first cause.
+abbrev pub BeginsBy : Option Shortage → Worker → Worker → Option (List ℕ) → ℕ → Request → Type 0
+BeginsBy (Some cause) old new cell n r = IsAnswered old new (answer_with n (reply_to cause) (Some cause))
+BeginsBy None old new cell n r = GoesOn (is_change r cell) old new cell n r
+
+-- To begin a request of a key with this cell: a core that has stopped answers so.
+abbrev pub BeginsAs : Bool → Worker → Worker → Option (List ℕ) → ℕ → Request → Type 0
+BeginsAs true old new cell n r = IsAnswered old new (answer_with n Stopped None)
+BeginsAs false old new cell n r = BeginsBy (why old.layout (supply_of old) old.allocator (last_of (known_at old.index (key_of r))) cell r) old new cell n r
+
+abbrev pub Begins : Worker → Worker → Option (List ℕ) → ℕ → Request → Type 0
+Begins old new cell n r = BeginsAs old.stopped old new cell n r
+
+-- nothing but the queue differs
+abbrev pub SameButQueue : Worker → Worker → Type 0
+SameButQueue old new = new ≡ record old { queue = new.queue }
+
+-- The waiting requests of a key are begun in order, until one is staged or none waits. Whoever winds down begins none.
+abbrev pub BeginsAll : List Held → Worker → Worker → Option (List ℕ) → ℕ → Type 0
+BeginsAll [] old new cell k = new ≡ old
+BeginsAll (h ∷ hs) old new cell k =
+    (next : Worker) × (mid : Worker)
+    × TakesFirst old.queue next.queue k h × SameButQueue old next × Begins next mid cell h.number h.request
+    × (((is_busy mid.places.items k ≡ true) × (new ≡ mid)) ⊎ ((is_busy mid.places.items k ≡ false) × BeginsAll hs mid new cell k))
+
+abbrev pub BeginsWaiting : Worker → Worker → Option (List ℕ) → ℕ → Type 0
+BeginsWaiting old new cell k = BeginsAll (waiting old.queue k) old new cell k

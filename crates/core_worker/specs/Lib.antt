@@ -1,0 +1,11 @@
+pub mod OwnPlaces
+pub mod Supplies
+pub mod KeyTies
+pub mod Ties
+pub mod Refusals
+pub mod Beginning
+pub mod Accepting
+pub mod Turns
+pub mod WorkerMoves
+pub mod Posting
+pub mod Status

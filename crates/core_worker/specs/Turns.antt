@@ -1,0 +1,263 @@
+-- One turn of a core as a relation of what it was and what it is: which item it did, what it loaded before, and why it passed the items before that one.
+use Rattle.std.specs.Prelude.{◌≡◌, ◌≢◌, ◌⊎◌, ℕ, ◌+◌, ◌<◌, Bool, true, false, List, [], ◌∷◌, ◌++◌, length, map, Option, Some, None, MatchOption}
+use Rattle.fs_model.specs.declared.model.Reply.{Reply}
+use Rattle.fs_model.specs.declared.model.Reply.TheVariants.{Stored, Deleted, Stopped}
+use Rattle.log_entry.specs.declared.entry.Entry.{Entry}
+use Rattle.log_entry.specs.declared.entry.Body.{Body}
+use Rattle.log_entry.specs.declared.entry.Body.TheVariants as bodies
+use Rattle.store_image.specs.Facts.{In}
+use Rattle.group_laws.specs.declared.types.Seen.TheVariants.{Slot, Holder}
+use Rattle.group_laws.specs.declared.types.SlotWord.{SlotWord}
+use Rattle.group_laws.specs.declared.types.SlotWord.TheVariants as words
+use Rattle.group_laws.specs.Places.{Place, core_of}
+use Rattle.group_laws.specs.State.{Group}
+use Rattle.group_laws.specs.Runs.{Kind}
+use Rattle.core_log.specs.Chunk.{padded}
+use Rattle.core_log.specs.Log.{LogState, with_tail, open_number, open_tail}
+use Rattle.core_index.specs.Index.{known_at}
+use Rattle.core_index.specs.Records.{settled, block_of, is_forgettable}
+use Rattle.lazy_alloc.specs.Sets.{TakesChunkOrNone, PutsBack, Sets}
+use Rattle.group_laws.specs.MemberViews.{View}
+use Rattle.group_board.specs.Views.{after_post, after_lock, after_find, after_unlock, after_commit, after_mark, after_fail, after_finish, after_give_up, TidiedIn}
+use Rattle.group_board.specs.Seats.{SeatAt}
+use Rattle.batch_leader.specs.TakenChanges.{spelled}
+use Rattle.batch_leader.specs.Leading.{MakesAll, Went, HasLooked, IsReleased}
+use Rattle.batch_leader.specs.Persisting.{opened_for}
+use Rattle.batch_leader.specs.declared.states.Collecting.{Collecting}
+use Rattle.batch_leader.specs.declared.states.Released.{Released}
+use Rattle.batch_leader.specs.declared.states.Released.TheVariants as released
+use Rattle.batch_leader.specs.declared.states.Batch.{Batch}
+use Rattle.batch_leader.specs.declared.states.Persisted.{Persisted}
+use Rattle.batch_leader.specs.declared.states.FailedBatch.{FailedBatch}
+use Rattle.batch_leader.specs.declared.buffer.BatchBuffer.{BatchBuffer}
+use Rattle.batch_leader.specs.declared.taken.Taken.{Taken}
+use Rattle.core_worker.specs.declared.types.Leading.{Leading}
+use Rattle.core_worker.specs.declared.types.Leading.TheVariants as leads
+use Rattle.core_worker.specs.declared.types.Place.TheVariants.{Free, Staged, Posted}
+use Rattle.core_worker.specs.declared.worker.Worker.{Worker}
+use Rattle.core_worker.specs.OwnPlaces.{place_at, is_staged, is_posted, IsLowest, HasNone, Replaces}
+use Rattle.core_worker.specs.Ties.{LeadsNothing}
+use Rattle.core_worker.specs.Supplies.{room_for}
+use Rattle.core_worker.specs.Beginning.{answers_of, answer_with, BeginsWaiting}
+
+-- some steps of member m lead from the one told state to the other
+abbrev pub Steps : Option Group → Option Group → ℕ → View → Type 0
+Steps before after m v = (steps : List Kind) × MakesAll before (map (λ y. (m, y)) steps) after m v
+
+-- some steps, or none after a fault
+abbrev pub MadeOrStops : Bool → Option Group → Option Group → ℕ → View → View → Type 0
+MadeOrStops true before after m v u = (after ≡ before) × (u ≡ v)
+MadeOrStops false before after m v u = Steps before after m u
+
+-- A core at one moment: its worker, and its view.
+pub record Moment : Type 0 where
+  pub worker : Worker
+  pub view : View
+
+-- nothing but what it leads differs
+abbrev pub SameButLeading : Worker → Worker → Type 0
+SameButLeading old new = new ≡ record old { leading = new.leading }
+
+-- what a lead that was given back leaves
+abbrev pub led_by : Released → Leading
+led_by (released.Batch b) = leads.Batch b
+led_by (released.Nothing b) = leads.Nothing b
+
+abbrev pub first_is : List Taken → Taken → List Taken → Type 0
+first_is all t rest = all ≡ t ∷ rest
+
+-- what leads on: a state with these changes left, or nothing once the last is given back
+abbrev pub persisted_left : List Taken → Leading → Type 0
+persisted_left ts new = ((ts ≢ []) × ((x : Persisted) × (x.left.taken.items ≡ ts) × (new ≡ leads.Persisted x))) ⊎ ((ts ≡ []) × ((d : BatchBuffer) × (new ≡ leads.Nothing d)))
+
+abbrev pub failed_left : List Taken → Leading → Type 0
+failed_left ts new = ((ts ≢ []) × ((x : FailedBatch) × (x.left.taken.items ≡ ts) × (new ≡ leads.Failed x))) ⊎ ((ts ≡ []) × ((d : BatchBuffer) × (new ≡ leads.Nothing d)))
+
+-- Item 1, the take: the round goes on to the next slot that fits.
+pub record Collects (before : Option Group) (m : ℕ) (a b : Moment) : Type 0 where
+  pub old : Collecting
+  pub new : Collecting
+  pub led : a.worker.leading ≡ leads.Collecting old
+  pub leads_now : b.worker.leading ≡ leads.Collecting new
+  pub runs : a.worker.stopped ≡ false
+  pub went : Went true before (room_for a.worker) m a.view b.view old new
+  pub same : SameButLeading a.worker b.worker
+
+-- Item 1, the unlock: no further slot fits up to the round's end.
+pub record Releases (before : Option Group) (seat : SeatAt) (a b : Moment) : Type 0 where
+  pub old : Collecting
+  pub last : Collecting
+  pub mid : View
+  pub given : Released
+  pub led : a.worker.leading ≡ leads.Collecting old
+  pub leads_now : b.worker.leading ≡ led_by given
+  pub runs : a.worker.stopped ≡ false
+  pub went : Went false before (room_for a.worker) seat.number a.view mid old last
+  pub over : last.over ≡ true
+  pub released : IsReleased seat b.view last given
+  pub view : b.view ≡ after_unlock mid
+  pub same : SameButLeading a.worker b.worker
+
+-- the own places of what was committed pledge nothing any more
+abbrev pub Unpledges : ℕ → List Taken → Worker → Worker → Type 0
+Unpledges m ts old new = (s : ℕ) → ((t : Taken) × In t ts × (t.member ≡ m) × (t.slot ≡ s) × ((number key lines : ℕ) → place_at old.places.items s ≡ Posted number key lines → place_at new.places.items s ≡ Posted number key 0))
+    ⊎ (((t : Taken) → In t ts → t.member ≡ m → t.slot ≡ s → ⊥) × (place_at new.places.items s ≡ place_at old.places.items s))
+
+-- the log whose open chunk has the batch more
+abbrev pub appended_to : LogState → List ℕ → LogState
+appended_to log batch = record log { chunks = with_tail log.chunks (open_number log) (open_tail log + length batch) }
+
+-- the lowest free chunk is taken, where one is needed
+abbrev pub TakesFor : Bool → Sets → Sets → Option ℕ → Type 0
+TakesFor true old new fresh = TakesChunkOrNone old new fresh
+TakesFor false old new fresh = (fresh ≡ None) × (new ≡ old)
+
+-- Item 2: the batch is appended, where it was collected for one in a fresh chunk, the lowest free one; and committed.
+pub record Persists (m : ℕ) (a b : Moment) : Type 0 where
+  pub batch : Batch
+  pub done : Persisted
+  pub led : a.worker.leading ≡ leads.Batch batch
+  pub leads_now : b.worker.leading ≡ leads.Persisted done
+  pub gives : done.left.taken.items ≡ batch.changes.taken.items
+  pub fresh : Option ℕ
+  pub chunk : TakesFor batch.fresh a.worker.allocator b.worker.allocator fresh
+  pub log : b.worker.log ≡ appended_to (opened_for a.worker.log fresh) (padded (spelled batch.changes.taken.items))
+  pub pledged : Unpledges m batch.changes.taken.items a.worker b.worker
+  pub view : b.view ≡ after_commit a.view
+
+-- Item 2 at a fault: no event is made, and the core stops.
+pub record LosesBatch (a b : Moment) : Type 0 where
+  pub batch : Batch
+  pub lost : FailedBatch
+  pub led : a.worker.leading ≡ leads.Batch batch
+  pub leads_now : b.worker.leading ≡ leads.Failed lost
+  pub gives : lost.left.taken.items ≡ batch.changes.taken.items
+  pub stopped : b.worker.stopped ≡ true
+  pub view : b.view ≡ a.view
+
+-- Item 3: the next change is given back. With the last one the core leads no more.
+pub record Marks (a b : Moment) : Type 0 where
+  pub done : Persisted
+  pub first : Taken
+  pub rest : List Taken
+  pub led : a.worker.leading ≡ leads.Persisted done
+  pub order : done.left.taken.items ≡ first ∷ rest
+  pub leads_now : persisted_left rest b.worker.leading
+  pub view : b.view ≡ after_mark first.member first.slot a.view
+  pub same : SameButLeading a.worker b.worker
+
+pub record Fails (a b : Moment) : Type 0 where
+  pub lost : FailedBatch
+  pub first : Taken
+  pub rest : List Taken
+  pub led : a.worker.leading ≡ leads.Failed lost
+  pub order : lost.left.taken.items ≡ first ∷ rest
+  pub leads_now : failed_left rest b.worker.leading
+  pub view : b.view ≡ after_fail first.member first.slot a.view
+  pub same : SameButLeading a.worker b.worker
+
+-- What the loads of a turn found: of its posted places, lowest first, each slot up to the first that is given back.
+pub record Looked (m : ℕ) (a : Moment) (upto : ℕ) (v : View) : Type 0 where
+  pub found : ℕ → SlotWord
+  pub view : HasLooked a.view v
+  pub seen : (s : ℕ) → s < upto → is_posted (place_at a.worker.places.items s) ≡ true → In (Slot m s (found s)) v.looked
+
+abbrev pub IsBack : SlotWord → Type 0
+IsBack words.Empty = ⊥
+IsBack (words.Posted n) = ⊥
+IsBack words.Taken = ⊥
+IsBack (words.Done h) = Unit {0}
+IsBack words.Failed = Unit {0}
+
+-- it leads nothing, and found none of its posted places given back below a place
+pub record PassesItems (m : ℕ) (a : Moment) (upto : ℕ) (v : View) : Type 0 where
+  pub free : LeadsNothing a.worker
+  pub looked : Looked m a upto v
+  pub none : (s : ℕ) → s < upto → is_posted (place_at a.worker.places.items s) ≡ true → IsBack (looked.found s) → ⊥
+
+-- the reply of a change that is done, by what its entry leaves
+abbrev pub done_reply : Body → Reply
+done_reply (bodies.Pointer q) = Stored
+done_reply (bodies.Embedded u) = Stored
+done_reply bodies.Tombstone = Deleted
+
+abbrev pub PutsBackIf : Sets → Sets → Option ℕ → Type 0
+PutsBackIf old new None = new ≡ old
+PutsBackIf old new (Some q) = PutsBack old new q
+
+abbrev pub MatchReply : Option ℕ → Body → Reply
+MatchReply None body = Stopped
+MatchReply (Some h) body = done_reply body
+
+-- Item 4: the lowest posted place that is found given back is finished, and then the key's waiting requests are begun.
+pub record Finishes (p : Place) (m : ℕ) (a b : Moment) : Type 0 where
+  pub slot : ℕ
+  pub number : ℕ
+  pub key : ℕ
+  pub lines : ℕ
+  pub mid : View
+  pub before : PassesItems m a slot mid
+  pub place : place_at a.worker.places.items slot ≡ Posted number key lines
+  pub entry : Entry
+  pub home : Option ℕ
+  pub seen : MatchOption home (In (Slot m slot words.Failed) mid.looked) (λ h. In (Slot m slot (words.Done h)) mid.looked)
+  pub view : MatchOption home (TidiedIn p m (after_give_up entry mid) b.view) (λ h. TidiedIn p m (after_finish entry h mid) b.view)
+  -- after the change is settled and its place is free, before the waiting ones are begun
+  pub settled_now : Worker
+  pub places : Replaces a.worker.places.items settled_now.places.items slot Free
+  pub answers : answers_of settled_now ≡ answers_of a.worker ++ answer_with number (MatchReply home entry.body) None ∷ []
+  pub record_now : MatchOption home (known_at settled_now.index key ≡ known_at a.worker.index key)
+      (λ h. (known_at settled_now.index key ≡ Some (settled (known_at a.worker.index key) entry.version entry.body (core_of p h)))
+      ⊎ ((is_forgettable (Some (settled (known_at a.worker.index key) entry.version entry.body (core_of p h))) ≡ true) × (known_at settled_now.index key ≡ None)))
+  pub other_records : (k : ℕ) → k ≢ key → known_at settled_now.index k ≡ known_at a.worker.index k
+  pub block : MatchOption home (settled_now.allocator ≡ a.worker.allocator) (λ h. PutsBackIf a.worker.allocator settled_now.allocator (block_of (known_at a.worker.index key)))
+  pub stops : MatchOption home (settled_now.stopped ≡ true) (λ h. settled_now.stopped ≡ a.worker.stopped)
+  pub same : settled_now ≡ record a.worker { places = settled_now.places; answers = settled_now.answers; index = settled_now.index; allocator = settled_now.allocator; stopped = settled_now.stopped }
+  pub begins : ((a.worker.winds_down ≡ true) × (b.worker ≡ settled_now)) ⊎ ((a.worker.winds_down ≡ false) × BeginsWaiting settled_now b.worker (b.view.cell key) key)
+
+-- Item 5: the lowest staged place writes its block, where it has one, and posts.
+pub record Posts (m : ℕ) (a b : Moment) : Type 0 where
+  pub slot : ℕ
+  pub number : ℕ
+  pub entry : Entry
+  pub value : List ℕ
+  pub lines : ℕ
+  pub mid : View
+  pub before : PassesItems m a 8 mid
+  pub runs : (a.worker.stopped ≡ false) × (a.worker.winds_down ≡ false)
+  pub lowest : IsLowest is_staged a.worker.places.items slot
+  pub place : place_at a.worker.places.items slot ≡ Staged number entry value
+  pub places : Replaces a.worker.places.items b.worker.places.items slot (Posted number entry.key lines)
+  pub view : b.view ≡ after_post slot entry value mid
+  pub same : b.worker ≡ record a.worker { places = b.worker.places; allocator = b.worker.allocator }
+
+-- Item 7: an own slot was found Posted, and the lock is tried.
+pub record Locks (m : ℕ) (a b : Moment) : Type 0 where
+  pub mid : View
+  pub before : PassesItems m a 8 mid
+  pub posted : (s n : ℕ) × In (Slot m s (words.Posted n)) mid.looked
+  pub view : b.view ≡ after_lock mid
+  pub leads_now : (c : Collecting) × (b.worker.leading ≡ leads.Collecting c) × (c.at ≡ 0)
+  pub same : SameButLeading a.worker b.worker
+
+-- Why item 5 is passed: nothing is staged, the gate answered false, or the worker winds down.
+abbrev pub PassesPost : Bool → Worker → Type 0
+PassesPost refused w = HasNone is_staged w.places.items ⊎ ((refused ≡ true) ⊎ (w.winds_down ≡ true))
+
+-- Item 8: nothing applied. No own slot was found Posted, or the try found a holder.
+pub record Idles (refused : Bool) (m : ℕ) (a b : Moment) : Type 0 where
+  pub mid : View
+  pub before : PassesItems m a 8 mid
+  pub post : PassesPost refused a.worker
+  pub lock : (((s n : ℕ) → In (Slot m s (words.Posted n)) mid.looked → ⊥) × (b.view ≡ mid)) ⊎ ((h : ℕ) × (h ≢ m) × In (Holder h) b.view.looked × HasLooked a.view b.view)
+  pub free : LeadsNothing b.worker
+  pub same : SameButLeading a.worker b.worker
+
+-- a try of the lock: it is had, or a holder was found
+abbrev pub TriesLock : Bool → ℕ → View → View → Worker → Worker → Type 0
+TriesLock true m v u old new = (u ≡ after_lock v) × ((c : Collecting) × (new.leading ≡ leads.Collecting c) × (c.at ≡ 0)) × SameButLeading old new
+TriesLock false m v u old new = ((h : ℕ) × (h ≢ m) × (u ≡ after_find (Holder h) v)) × LeadsNothing new × SameButLeading old new
+
+-- item 1 of a core that hasn't stopped
+abbrev pub GoesRound : Option Group → SeatAt → Moment → Moment → Type 0
+GoesRound before seat a b = Collects before seat.number a b ⊎ Releases before seat a b

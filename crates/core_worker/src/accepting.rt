@@ -1,0 +1,101 @@
+// Accepting a request, and beginning those that waited.
+ghost use Rattle.std.specs.Prelude.{◌≡◌, ◌≢◌, ◌⊎◌, ℕ, ◌+◌, ◌<◌, ◌≤◌, List, [], length, Option, Some, None, true, false, IfOk, IfErr, OnOk, OnErr};
+ghost use Rattle.pm_region.specs.State.{State, IsTelling};
+ghost use Rattle.fs_model.specs.Cells.{key_of};
+ghost use Rattle.conflict_queue.specs.Waiting.{AddsLast, held_with};
+ghost use Rattle.core_index.specs.Index.{known_at, room_at};
+ghost use Rattle.group_laws.specs.Places.{owner};
+ghost use Rattle.batch_leader.specs.declared.buffer.BatchBuffer.{BatchBuffer};
+ghost use Rattle.core_worker.specs.declared.types.Leading.TheVariants as leads;
+ghost use Rattle.core_worker.specs.OwnPlaces.{is_busy};
+ghost use Rattle.core_worker.specs.Refusals.{HasAnswerRoom};
+ghost use Rattle.core_worker.specs.Beginning.{HasFree};
+ghost use Rattle.core_worker.specs.Accepting.{Prepared, Accepts, IsAsBefore};
+ghost use Rattle.core_worker.specs.Ties.{HoldsAt, LeadsNothing, StandsAt};
+
+use crate::refusing::key_of;
+use crate::types::{NotAccepted, Place};
+use crate::worker::Worker;
+use fs_model::{Key, Request};
+use group_board::Board;
+use pm_region::Region;
+use std::alloc::Global;
+
+// As many answers as there can be unanswered requests: those in the places and those that wait, and one more.
+const UNANSWERED: usize = 73;
+
+// Whether a change of the key stands in a place.
+pub(crate) fn is_busy(places: &Vec<Place>, key: Key) -> bool
+    ensures { result ≡ is_busy places.now.items key }
+{
+    for place in places {
+        match place {
+            Place::Free => {}
+            Place::Staged { entry, .. } => {
+                if key == entry.key {
+                    return true;
+                }
+            }
+            Place::Posted { key: other, .. } => {
+                if key == *other {
+                    return true;
+                }
+            }
+        }
+    }
+    false
+}
+
+impl Worker {
+    // Takes the memory that a request of the key will need up to its answer.
+    fn prepare(&mut self, alloc: Global, key: Key) -> bool
+        ensures before { IsAsBefore self.old self.new }
+        ensures ready { result ≡ true → Prepared self.old self.new key }
+    {
+        if self.answers.reserve(UNANSWERED).is_err() {
+            return false;
+        }
+        self.index.admit(alloc, key).is_ok()
+    }
+
+    // Accepts a request. One for a key with a change under way is held; any other is begun. Where there is no memory for
+    // it the request comes back, and nothing is answered, held or staged.
+    pub(crate) fn accept<R: Region, B: Board>(
+        &mut self,
+        alloc: Global,
+        region: &R,
+        board: &B,
+        number: u64,
+        request: Request,
+    ) -> Result<(), NotAccepted>
+        requires holds { HoldsAt (B.seat board.now) (B.view board.now) self.old }
+        requires stands { StandsAt (R.state region.now) (B.seat board.now)
+            (B.view board.now) self.old }
+        requires nothing { LeadsNothing self.old }
+        requires own { owner (B.seat board.now).place (key_of request) ≡ (B.seat board.now).number }
+        requires works { self.old.winds_down ≡ false }
+        requires place { HasFree self.old.places.items }
+        requires node { length self.old.queue < 64 }
+        ensures holds { HoldsAt (B.seat board.now) (B.view board.now) self.new }
+        ensures stands { StandsAt (R.state region.now) (B.seat board.now)
+            (B.view board.now) self.new }
+        ensures accepts { OnOk result (IsTelling (R.state region.now)
+            → Accepts (B.view board.now) self.old self.new number request) }
+        ensures given_back { IfErr result (λ back. back.request ≡ request) }
+        ensures unchanged { OnErr result (IsAsBefore self.old self.new) }
+    {
+        let key = key_of(&request);
+        if !self.prepare(alloc, key) {
+            return Err(NotAccepted { request });
+        }
+        if is_busy(&self.places, key) {
+            return match self.queue.hold(number, request) {
+                Ok(()) => Ok(()),
+                Err(full) => Err(NotAccepted {
+                    request: full.request,
+                }),
+            };
+        }
+        self.begin(alloc, region, board, number, request)
+    }
+}

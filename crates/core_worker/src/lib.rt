@@ -1,0 +1,19 @@
+//! One core: it accepts requests for its keys, and works them off in turns.
+#![tactic(auto)]
+
+mod accepting;
+mod beginning;
+mod gate;
+mod leading;
+mod posting;
+mod refusing;
+mod releasing;
+mod status;
+mod supply;
+mod types;
+mod worker;
+
+pub use core_room::{Counts, Shortage};
+pub use gate::{Gate, OpenGate, Point};
+pub use types::{Answer, Cleaning, Leading, NotAccepted, Place, Turn, Victim};
+pub use worker::Worker;

@@ -1,0 +1,99 @@
+// What room a core has, and what it has promised.
+ghost use Rattle.std.specs.Prelude.{◌≡◌, ◌⊎◌, ℕ, ◌+◌, ◌^◌, ◌<◌, ◌≤◌, length, true};
+ghost use Rattle.chunk_map.specs.Layouts.{is_class};
+ghost use Rattle.core_room.specs.RoomRule.{pledged, may_cut};
+ghost use Rattle.core_worker.specs.OwnPlaces.{lines_in, own};
+ghost use Rattle.core_worker.specs.Supplies.{supply_of, rest, IsSmall, free_blocks, lacks};
+ghost use Rattle.core_worker.specs.Refusals.{IsCounted, AreCounted, IsMeasured};
+
+use crate::types::{Cleaning, Place};
+use crate::worker::Worker;
+use core_room::{Shortage, Supply, lines_to_copy};
+use log_entry::entry_lines;
+
+// The lines of the log that a place pledges.
+fn lines_in(place: &Place) -> u64
+    requires { IsCounted place.now }
+    ensures lines { result ≡ lines_in place.now }
+    ensures few { result ≤ 5 }
+{
+    match place {
+        Place::Free => 0,
+        Place::Staged { entry, .. } => entry_lines(entry),
+        Place::Posted { lines, .. } => *lines,
+    }
+}
+
+// The lines that all places pledge.
+fn own_lines(places: &Vec<Place>) -> u64
+    requires each { AreCounted places.now.items }
+    requires eight { length places.now.items ≡ 8 }
+    ensures lines { result ≡ own places.now.items }
+    ensures few { result ≤ 40 }
+{
+    let mut lines = 0;
+    for place in places {
+        lines += lines_in(place);
+    }
+    lines
+}
+
+// The lines that a cleaning has still to copy.
+fn copy_lines(cleaning: &Cleaning) -> u64
+    requires { IsSmall cleaning.now }
+    ensures lines { result ≡ rest cleaning.now }
+    ensures few { result < 2 ^ 32 }
+{
+    match cleaning {
+        Cleaning::Nothing => 0,
+        Cleaning::Copying { victim, .. } => lines_to_copy(victim.entries, victim.words),
+        Cleaning::Doomed { .. } => 0,
+    }
+}
+
+impl Worker {
+    // The room of the core at this moment.
+    pub(crate) fn supply(&self) -> Supply
+        requires { IsMeasured self.now }
+        ensures supply { result ≡ supply_of self.now }
+        ensures few { pledged result < 2 ^ 33 }
+    {
+        Supply {
+            free_chunks: self.allocator.free_chunks(),
+            open_lines: self.log.room(),
+            own_lines: own_lines(&self.places),
+            rest_lines: copy_lines(&self.cleaning),
+        }
+    }
+
+    // A chunk may be cut, and still an entry of so many lines fits.
+    pub(crate) fn may_cut(&self, need: u64) -> bool
+        requires measured { IsMeasured self.now }
+        requires few { need ≤ 5 }
+        ensures { result ≡ may_cut (supply_of self.now) need }
+    {
+        self.supply().may_cut(need)
+    }
+
+    fn free_blocks(&self, class: u32) -> u32
+        requires { (class ≡ 0) ⊎ (is_class self.now.allocator.layout class ≡ true) }
+        ensures { result ≡ free_blocks self.now.allocator class }
+    {
+        if class == 0 {
+            0
+        } else {
+            self.allocator.free_blocks(class)
+        }
+    }
+
+    // Why an entry of so many lines, with a block of the class, finds no place.
+    pub(crate) fn shortage(&self, need: u64, class: u32) -> Option<Shortage>
+        requires measured { IsMeasured self.now }
+        requires few { need ≤ 5 }
+        requires class { (class ≡ 0) ⊎ (is_class self.now.allocator.layout class ≡ true) }
+        ensures { result ≡ lacks (supply_of self.now) self.now.allocator need class }
+    {
+        let free = self.free_blocks(class);
+        self.supply().shortage(need, class, free)
+    }
+}

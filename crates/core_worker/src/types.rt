@@ -1,0 +1,76 @@
+// What a worker is made of, and what it answers.
+use batch_leader::{Batch, BatchBuffer, Collecting, FailedBatch, Persisted};
+use core_room::Shortage;
+use fs_model::{Key, Reply, Request, Value, Version};
+use log_entry::Entry;
+
+/// One of the eight places, which are numbered as the core's slots.
+#[derive(Drop)]
+pub enum Place {
+    Free,
+    /// A change that is to be posted, with the number of its request. `value` is what its block is to hold, empty where it
+    /// has none.
+    Staged {
+        number: u64,
+        entry: Entry,
+        value: Value,
+    },
+    /// A change that was posted and is not finished. `lines` are those that the log must still have for it: 0 once the core
+    /// itself made its entry certain.
+    Posted {
+        number: u64,
+        key: Key,
+        lines: u64,
+    },
+}
+
+/// What the core leads, and how far.
+#[derive(Drop)]
+pub enum Leading {
+    Nothing(BatchBuffer),
+    Collecting(Collecting),
+    Batch(Batch),
+    Persisted(Persisted),
+    Failed(FailedBatch),
+    /// Between two of these, inside a call.
+    Between,
+}
+
+/// A chunk that is cleaned: how many entries, and how many words of them, are still to be copied.
+#[derive(Clone, Copy, Debug, PartialEq, Eq)]
+pub struct Victim {
+    pub chunk: u32,
+    pub entries: u64,
+    pub words: u64,
+}
+
+/// How far a cleaning is.
+#[derive(Clone, Copy, Debug, PartialEq, Eq)]
+pub enum Cleaning {
+    Nothing,
+    /// `first` until its first copy is made.
+    Copying { victim: Victim, first: bool },
+    /// The names that may vanish are doomed.
+    Doomed { chunk: u32 },
+}
+
+/// The answer to a request, by its number.
+#[derive(Drop)]
+pub struct Answer {
+    pub number: u64,
+    pub reply: Reply,
+    pub refusal: Option<Shortage>,
+}
+
+/// A request that was not accepted, for want of memory.
+#[derive(Drop)]
+pub struct NotAccepted {
+    pub request: Request,
+}
+
+/// Whether a turn found something to do.
+#[derive(Clone, Copy, Debug, PartialEq, Eq)]
+pub enum Turn {
+    Moved,
+    Idle,
+}
