@@ -1,5 +1,6 @@
 pub mod TakenLaws
 pub mod CollectLaws
 pub mod Steps
+pub mod SightLaws
 pub mod WithdrawLaws
 pub mod Trials
