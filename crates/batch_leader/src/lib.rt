@@ -16,6 +16,8 @@ mod states;
 mod taken;
 #[cfg(test)]
 mod tests;
+#[cfg(test)]
+mod two_leaders;
 mod withdrawing;
 
 pub use buffer::BatchBuffer;
