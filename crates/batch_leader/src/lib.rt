@@ -7,6 +7,8 @@ mod buffer;
 mod changes;
 mod collecting;
 mod fitting;
+#[cfg(test)]
+mod given_back;
 mod giving;
 mod persisting;
 mod returning;
