@@ -19,7 +19,8 @@ use Rattle.group_board.specs.declared.board.SlotState.TheVariants.{Posted}
 use Rattle.batch_leader.specs.declared.taken.Taken.{Taken}
 use Rattle.batch_leader.specs.declared.changes.Changes.{Changes}
 use Rattle.batch_leader.specs.declared.states.Collecting.{Collecting}
-use Rattle.batch_leader.specs.Leading.{MakesAll, looks_upto, HasLooked, Found, Takes, Keeps, Passed, Went, steps_of}
+use Rattle.batch_leader.specs.Leading.{MakesAll, looks_upto, HasLooked, Found, Takes, Keeps, Passed, Went, Saw, PassesAt, SawPassed, steps_of}
+use Rattle.batch_leader.proofs.SightLaws.{saw_then, saw_weaker}
 use Rattle.batch_leader.specs.Rounds.{member_at, slot_at, own_lines, fits, goes_fresh, Passes}
 
 pub runs_then : (w mid u : Group) (xs ys : List (ℕ × Kind)) → Runs w xs mid → Runs mid ys u → Runs w (xs ++ ys) u
@@ -101,6 +102,15 @@ module _ (room : Room) (m : ℕ) (first now new : Collecting) (v0 v1 v2 : View) 
         found_back w0 w1 m first.at (now.at - first.at) i v1 x.0 made x.2,
       ))
       (cases_lt i now.at)
+
+  passes_first : (i : ℕ) (x : SlotState) → PassesAt room m now i x → PassesAt room m first i x
+  passes_first i x passes =
+      subst (λ (b : Bool). Passes room (own_lines m first.changes.taken.items) first.changes.taken.items b (member_at m i == m) x) fresh
+      (subst (λ (ts : List Taken). Passes room (own_lines m ts) ts now.fresh (member_at m i == m) x) items passes)
+
+  pub saw_on : Saw v0 v1 m first.at now.at (PassesAt room m first) → SawPassed room m v1 v2 now new → SawPassed room m v0 v2 first new
+  saw_on before more =
+      saw_then v0 v1 v2 m first.at now.at new.at (PassesAt room m first) before (saw_weaker v1 v2 m now.at new.at (PassesAt room m now) (PassesAt room m first) passes_first more)
 
   takes_on : Takes room m v1 v2 now new → Takes room m v0 v2 first new
   takes_on t = record {

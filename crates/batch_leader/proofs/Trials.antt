@@ -76,7 +76,7 @@ fresh_unwritten m = record {
 }
 
 -- an image of zeros is licensed where nothing is certain
-zero_licensed : (p : Place) (m : ℕ) (v : View) (image : ℕ → ℕ) → IsUnwritten v → ((w : ℕ) → part_at p m ≤ w → w < part_end p m → image w ≡ 0) → 0 < chunk_words p.layout → IsLicensedBy p m v image
+pub zero_licensed : (p : Place) (m : ℕ) (v : View) (image : ℕ → ℕ) → IsUnwritten v → ((w : ℕ) → part_at p m ≤ w → w < part_end p m → image w ≡ 0) → 0 < chunk_words p.layout → IsLicensedBy p m v image
 zero_licensed p m v image none zero size = record {
   well = part_reads_by p.layout image (core_of p m) (λ j lt. free_reads_well p.layout image (chunk_first p.layout (core_of p m) j) (head j lt));
   has = λ e k live. absurd (subst (In e) none.kept k);

@@ -1,11 +1,24 @@
--- What the helpers of the tests ask and leave: two members of a small empty group, each with one change in slot 0.
-use Rattle.std.specs.Prelude.{◌≡◌, ℕ, ◌≤◌, [], ◌∷◌, None}
+-- What the helpers of the tests ask and leave: members of a small empty group, each with one change in slot 0.
+use Rattle.std.specs.Prelude.{◌≡◌, ◌≢◌, ℕ, ◌≤◌, [], ◌∷◌, Option, Some, None, IfSome, IsSomeAnd}
+use Rattle.pm_region.specs.Cell.{certain}
+use Rattle.pm_region.specs.State.{State, IsTelling, InRange, cell_now, During}
+use Rattle.pm_region.specs.Words.{KeepsOutside}
 use Rattle.log_entry.specs.declared.entry.Body.TheVariants.{Embedded}
 use Rattle.core_log.specs.declared.types.Room.{Room}
 use Rattle.core_log.specs.Chunk.{lines_for}
 use Rattle.crash_core.specs.declared.kinds.Change.{Change}
-use Rattle.group_laws.specs.MemberViews.{View}
+use Rattle.core_log.specs.Log.{LogState, IsOwn, tail_of}
+use Rattle.group_laws.specs.Places.{Place, members}
+use Rattle.group_laws.specs.State.{Group}
+use Rattle.group_laws.specs.MemberViews.{View, view_of}
+use Rattle.group_board.specs.Journals.{place_in}
+use Rattle.group_board.specs.Conditions.{MayPost, MayLock}
+use Rattle.group_board.specs.Trials.{small_words}
+use Rattle.licence.specs.Licence.{part_at, part_end}
+use Rattle.licence.specs.Writes.{Begins}
 use Rattle.batch_leader.specs.declared.states.Batch.{Batch}
+use Rattle.batch_leader.specs.Leading.{IsBatchAt}
+use Rattle.batch_leader.specs.Persisting.{HasRoom}
 use Rattle.batch_leader.specs.Rounds.{words_in}
 
 -- a put of the byte 97 under a key
@@ -24,3 +37,63 @@ pub record IsUnwritten (v : View) : Type 0 where
 -- the batch fits in a fresh chunk
 abbrev pub FitsFresh : Batch → Type 0
 FitsFresh b = lines_for (words_in b.changes.taken.items) ≤ 60
+
+-- what members other than m have stays
+abbrev pub KeepsOthers : Group → Group → ℕ → Type 0
+KeepsOthers w u m = (n : ℕ) → n ≢ m → view_of u n ≡ view_of w n
+
+abbrev pub LeavesOthers : Option Group → Option Group → ℕ → Type 0
+LeavesOthers before after m = IfSome before (λ w. IsSomeAnd after (λ u. KeepsOthers w u m))
+
+-- the place of a group of three cores
+abbrev pub small_place : Place
+small_place = place_in 0 small_words
+
+-- a region of three parts with nothing in them
+pub record IsBlankRegion (s : State) : Type 0 where
+  pub first : s.frame.first ≡ 0
+  pub words : s.frame.words ≡ 6656
+  pub zeros : (w : ℕ) → InRange s.frame w → IsTelling s → cell_now s w ≡ certain 0
+
+-- the log of core m, with no chunk yet
+pub record IsEmptyLog (log : LogState) (m : ℕ) : Type 0 where
+  pub own : IsOwn log
+  pub layout : log.layout ≡ small_place.layout
+  pub part : log.part ≡ m
+  pub none : (j : ℕ) → tail_of log.chunks j ≡ None
+
+-- Member m may post this change in slot 0, and then lead.
+pub record MayGather (p : Place) (m : ℕ) (v : View) (c : Change) : Type 0 where
+  pub post : MayPost p m v 0 c []
+  pub lock : MayLock p m v
+  pub idle : v.flying ≡ []
+  pub group : members p ≤ 8
+  pub put : (k : ℕ) × (c ≡ put_of k)
+
+-- It has a batch of what it posted.
+pub record Gathered (w u : Group) (m : ℕ) (b : Batch) : Type 0 where
+  pub place : u.place ≡ w.place
+  pub batch : IsBatchAt u.place m (view_of u m) b
+  pub fits : FitsFresh b
+  pub others : KeepsOthers w u m
+  pub unwritten : IsUnwritten (view_of w m) → IsUnwritten (view_of u m)
+
+-- It may write the batch into chunk 2 of its part.
+pub record MayWrite (p : Place) (m : ℕ) (v : View) (s : State) (log : LogState) (b : Batch) : Type 0 where
+  pub batch : IsBatchAt p m v b
+  pub begins : Begins s p m v log
+  pub room : HasRoom s log (words_in b.changes.taken.items) (Some 2)
+
+-- It wrote nothing else, and left what the others have.
+pub record Wrote (w u : Group) (m : ℕ) (s t : State) : Type 0 where
+  pub place : u.place ≡ w.place
+  pub others : KeepsOthers w u m
+  pub outside : During s t (KeepsOutside (cell_now s) (part_at w.place m) (part_end w.place m))
+
+-- Of the state u, members 0 and 1 each have a batch of what they posted.
+pub record HaveBatches (u : Group) (first second : Batch) : Type 0 where
+  pub place : u.place ≡ small_place
+  pub zero : IsBatchAt u.place 0 (view_of u 0) first
+  pub one : IsBatchAt u.place 1 (view_of u 1) second
+  pub fits : FitsFresh first × FitsFresh second
+  pub unwritten : IsUnwritten (view_of u 0) × IsUnwritten (view_of u 1)

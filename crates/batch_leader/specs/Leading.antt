@@ -6,6 +6,8 @@ use Rattle.store_image.specs.Facts.{In}
 use Rattle.core_log.specs.declared.types.Room.{Room}
 use Rattle.core_log.specs.Chunk.{lines_for}
 use Rattle.group_laws.specs.declared.types.Seen.{Seen}
+use Rattle.group_laws.specs.declared.types.Seen.TheVariants.{Slot}
+use Rattle.group_laws.specs.declared.types.SlotWord.{SlotWord}
 use Rattle.group_laws.specs.Places.{Place, members}
 use Rattle.group_laws.specs.State.{Group}
 use Rattle.group_laws.specs.MemberViews.{View, view_of}
@@ -13,6 +15,7 @@ use Rattle.group_laws.specs.Runs.{Kind, Runs}
 use Rattle.group_laws.specs.Runs.Kind.{Look, Take, Withdraw}
 use Rattle.group_board.specs.Seats.{SeatAt}
 use Rattle.group_board.specs.Views.{after_take, after_withdraw}
+use Rattle.group_board.specs.Told.{state_of}
 use Rattle.group_board.specs.declared.board.SlotState.{SlotState}
 use Rattle.group_board.specs.declared.board.SlotState.TheVariants as slots
 use Rattle.crash_core.specs.declared.kinds.Change.{Change}
@@ -74,6 +77,16 @@ HasLooked old new = (xs : List Seen) × (new ≡ record old { looked = xs })
 abbrev pub Found : Option Group → ℕ → ℕ → SlotState → Type 0
 Found before m i x = IfSome before (λ w. shown_at w m i ≡ x)
 
+-- a load of the slot at a position of m's round is among these, and showed this
+abbrev pub IsFoundIn : List Seen → ℕ → ℕ → SlotState → Type 0
+IsFoundIn looks m i x = (word : SlotWord) × (state_of word ≡ x) × In (Slot (member_at m i) (slot_at i) word) looks
+
+-- What m's view has of its round besides what it had: a load of each slot from one position to before another, and what each showed is as P says.
+pub record Saw (old new : View) (m first end : ℕ) (P : ℕ → SlotState → Type 0) : Type 0 where
+  pub looks : List Seen
+  pub more : new.looked ≡ old.looked ++ looks
+  pub found : (i : ℕ) → first ≤ i → i < end → (x : SlotState) × P i x × IsFoundIn looks m i x
+
 -- the entry that a look found fits, and has so many words
 pub record Fits (room : Room) (lines : ℕ) (ts : List Taken) (fresh mine : Bool) (x : SlotState) (n : ℕ) : Type 0 where
   pub posted : x ≡ slots.Posted n
@@ -106,6 +119,14 @@ abbrev pub Passed : Option Group → Room → ℕ → Collecting → ℕ → Typ
 Passed before room m old end =
     (i : ℕ) → old.at ≤ i → i < end → (x : SlotState) × Passes room (own_lines m (taken_by old)) (taken_by old) old.fresh (member_at m i == m) x × Found before m i x
 
+-- what a look shows at a position makes this leader pass the slot
+abbrev pub PassesAt : Room → ℕ → Collecting → ℕ → SlotState → Type 0
+PassesAt room m old i x = Passes room (own_lines m (taken_by old)) (taken_by old) old.fresh (member_at m i == m) x
+
+-- what it saw of the slots that it passed, where it took nothing
+abbrev pub SawPassed : Room → ℕ → View → View → Collecting → Collecting → Type 0
+SawPassed room m v v' old new = Saw v v' m old.at new.at (PassesAt room m old)
+
 -- Of the slots of its round it passed some, and took the change of the next one where `took` says so.
 abbrev pub Went : Bool → Option Group → Room → ℕ → View → View → Collecting → Collecting → Type 0
 Went true before room m v v' old new = Takes room m v v' old new × Passed before room m old (new.at - 1)
@@ -130,6 +151,10 @@ IsNotPosted x = (n : ℕ) → x ≢ slots.Posted n
 
 abbrev pub NonePosted : Option Group → ℕ → ℕ → Type 0
 NonePosted before m end = (i : ℕ) → i < end → (x : SlotState) × IsNotPosted x × Found before m i x
+
+-- what it saw of the own slots below a number
+abbrev pub SawNonePosted : ℕ → View → View → ℕ → Type 0
+SawNonePosted m v v' end = Saw v v' m 0 end (λ i x. IsNotPosted x)
 
 -- The own change of a slot was taken back, which was the lowest one found Posted.
 pub record TakesBack (before after : Option Group) (m : ℕ) (v v' : View) (change : Change) : Type 0 where

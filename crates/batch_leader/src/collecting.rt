@@ -8,7 +8,7 @@ ghost use Rattle.group_laws.specs.declared.types.SlotWord.TheVariants as words;
 ghost use Rattle.group_laws.specs.Places.{members};
 ghost use Rattle.group_board.specs.Views.{after_unlock};
 ghost use Rattle.group_board.specs.Told.{Makes};
-ghost use Rattle.batch_leader.specs.Leading.{Collects, Suits, Takes, Went, IsOver, steps_of, MakesAll, IsReleased, took, taken_by};
+ghost use Rattle.batch_leader.specs.Leading.{Collects, Suits, Takes, Went, SawPassed, IsOver, steps_of, MakesAll, IsReleased, took, taken_by};
 ghost use Rattle.batch_leader.specs.Rounds.{fits, member_at, slot_at, round_end};
 ghost use Rattle.batch_leader.specs.declared.states.Collected.TheVariants as answers;
 
@@ -77,6 +77,8 @@ impl Collecting {
         ensures at { self.new.at ≡ self.old.at + 1 }
         ensures went { Went result (B.whole board.old) room.now (B.seat board.old).number
             (B.view board.old) (B.view board.new) self.old self.new }
+        ensures seen { result ≡ false → SawPassed room.now (B.seat board.old).number
+            (B.view board.old) (B.view board.new) self.old self.new }
         ensures made { MakesAll (B.whole board.old) (steps_of result (B.seat board.old).number self.old self.new)
             (B.whole board.new) (B.seat board.old).number (B.view board.new) }
     {
@@ -109,6 +111,9 @@ impl Collecting {
         ensures collects { Collects (B.seat board.old) (B.view board.new) self.new }
         ensures suits { Suits room.now self.new }
         ensures went { Went (took result) (B.whole board.old) room.now (B.seat board.old).number
+            (B.view board.old) (B.view board.new) self.old self.new }
+        // Where it took nothing, its view has what it loaded of each slot that it passed.
+        ensures seen { result ≡ answers.RoundOver → SawPassed room.now (B.seat board.old).number
             (B.view board.old) (B.view board.new) self.old self.new }
         ensures over { result ≡ answers.RoundOver
             → (self.new.over ≡ true) × IsOver (B.seat board.old) self.new }

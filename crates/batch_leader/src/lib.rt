@@ -7,6 +7,8 @@ mod buffer;
 mod changes;
 mod collecting;
 mod fitting;
+#[cfg(test)]
+mod given_back;
 mod giving;
 mod persisting;
 mod returning;
@@ -16,6 +18,8 @@ mod states;
 mod taken;
 #[cfg(test)]
 mod tests;
+#[cfg(test)]
+mod two_leaders;
 mod withdrawing;
 
 pub use buffer::BatchBuffer;

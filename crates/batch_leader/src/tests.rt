@@ -1,12 +1,16 @@
 // One change's way through a leader's hands, at the board of one thread. What is expected is what the format says of a
 // batch.
-ghost use Rattle.std.specs.Prelude.{◌≡◌, ◌≢◌, ◌<◌, ◌≤◌, ℕ, false, [], IfOk, IfSome};
+ghost use Rattle.std.specs.Prelude.{◌≡◌, ◌≢◌, ◌<◌, ◌≤◌, ℕ, true, false, [], IfOk, IfSome, Option};
+ghost use Rattle.pm_region.specs.Steady.{steady_state};
+ghost use Rattle.licence.specs.Writes.{Begins};
 ghost use Rattle.group_laws.specs.Places.{members};
 ghost use Rattle.group_board.specs.Journals.{state};
 ghost use Rattle.group_board.specs.Conditions.{MayPost, MayLock};
 ghost use Rattle.group_board.specs.Trials.{small_words, fresh};
 ghost use Rattle.batch_leader.specs.Leading.{IsBatchOf};
-ghost use Rattle.batch_leader.specs.LeadTrials.{put_of, empty_room, IsUnwritten, FitsFresh};
+ghost use Rattle.batch_leader.specs.Persisting.{HasRoom, WritesPart};
+ghost use Rattle.batch_leader.specs.Rounds.{words_in};
+ghost use Rattle.batch_leader.specs.LeadTrials.{put_of, empty_room, IsUnwritten, LeavesOthers, FitsFresh};
 
 use crate::{Batch, BatchBuffer, Collected, Released, lead};
 use chunk_map::Layout;
@@ -18,7 +22,7 @@ use pm_region::{Region, SplitRegion, SteadyRegion};
 use std::test::Fail;
 
 /// Three cores of one group on an empty region.
-struct Small;
+pub(crate) struct Small;
 
 impl Opening for Small {
     ghost words = { small_words };
@@ -28,7 +32,7 @@ impl Opening for Small {
     ghost group = { 0 };
 }
 
-fn open_small(rt: &HostRuntime) -> Result<LocalBoard, Fail>
+pub(crate) fn open_small(rt: &HostRuntime) -> Result<LocalBoard, Fail>
     ensures { IfOk result (λ b. state b.keeper.me.0 ≡ fresh) }
 {
     let board = LocalBoard::open::<Small>(rt.alloc(), 3)?;
@@ -36,7 +40,7 @@ fn open_small(rt: &HostRuntime) -> Result<LocalBoard, Fail>
 }
 
 /// A put of one byte.
-fn put(rt: &HostRuntime, key: u64) -> Result<Change, Fail>
+pub(crate) fn put(rt: &HostRuntime, key: u64) -> Result<Change, Fail>
     ensures { IfOk result (λ c. c ≡ put_of key) }
 {
     let bytes = Vec::from_slice(rt.alloc(), b"a")?;
@@ -51,7 +55,7 @@ fn put(rt: &HostRuntime, key: u64) -> Result<Change, Fail>
 }
 
 /// The room of an empty part.
-fn empty_room() -> Room
+pub(crate) fn empty_room() -> Room
     ensures { result ≡ empty_room }
 {
     Room {
@@ -63,7 +67,7 @@ fn empty_room() -> Room
 }
 
 /// Posts a change, leads, takes it, goes on to the round's end, and gives the lock back.
-fn gather<B: Board>(board: &mut B, change: Change, buffer: BatchBuffer) -> Option<Batch>
+pub(crate) fn gather<B: Board>(board: &mut B, change: Change, buffer: BatchBuffer) -> Option<Batch>
     requires post { MayPost (B.seat board.old).place (B.seat board.old).number (B.view board.old)
         0 change [] }
     requires lock { MayLock (B.seat board.old).place (B.seat board.old).number (B.view board.old) }
@@ -73,6 +77,8 @@ fn gather<B: Board>(board: &mut B, change: Change, buffer: BatchBuffer) -> Optio
     ensures seat { B.seat board.new ≡ B.seat board.old }
     ensures batch { IfSome result (IsBatchOf (B.seat board.old) (B.view board.new)) }
     ensures fits { IfSome result FitsFresh }
+    ensures others { IfSome result (λ _. LeavesOthers (B.whole board.old) (B.whole board.new)
+        (B.seat board.old).number) }
     ensures unwritten { IfSome result (λ _. IsUnwritten (B.view board.old) → IsUnwritten (B.view board.new)) }
 {
     let room = empty_room();
@@ -90,9 +96,35 @@ fn gather<B: Board>(board: &mut B, change: Change, buffer: BatchBuffer) -> Optio
     }
 }
 
+/// Writes a batch into this fresh chunk of the own part, and marks all of it.
+pub(crate) fn write_back<B: Board>(
+    region: &mut SteadyRegion,
+    log: &mut CoreLog,
+    board: &mut B,
+    batch: Batch,
+    chunk: u32,
+) -> bool
+    requires batch { IsBatchOf (B.seat board.old) (B.view board.old) batch }
+    requires begins { Begins (steady_state region.old) (B.seat board.old).place
+        (B.seat board.old).number (B.view board.old) log.old }
+    requires room { HasRoom (steady_state region.old) log.old
+        (words_in batch.changes.taken.items) (Option.Some chunk) }
+    ensures seat { B.seat board.new ≡ B.seat board.old }
+    ensures outside { WritesPart (steady_state region.old) (steady_state region.new) (B.seat board.old) }
+    ensures others { result ≡ true → LeavesOthers (B.whole board.old) (B.whole board.new)
+        (B.seat board.old).number }
+{
+    let Ok(mut done) = batch.persist(region, log, board, Some(chunk)) else {
+        return false;
+    };
+    done.mark_all(board);
+    done.is_done()
+}
+
 /// Takes the own change back from slot 0, and gives its home.
-fn settle<B: Board>(board: &mut B) -> Option<u32>
+pub(crate) fn settle<B: Board>(board: &mut B) -> Option<u32>
     requires { (B.seat board.old).number < members (B.seat board.old).place }
+    ensures { B.seat board.new ≡ B.seat board.old }
 {
     let member = board.member();
     match board.look(member, 0) {
@@ -101,7 +133,7 @@ fn settle<B: Board>(board: &mut B) -> Option<u32>
     }
 }
 
-fn word(region: &SteadyRegion, at: u64) -> u64 {
+pub(crate) fn word(region: &SteadyRegion, at: u64) -> u64 {
     if region.first() == 0 && at < region.words() {
         region.load(at)
     } else {

@@ -1,6 +1,6 @@
 // Taking own changes back.
 ghost use Rattle.std.specs.Prelude.{◌≡◌, ◌≢◌, ℕ, ◌+◌, ◌<◌, ◌≤◌, true, false, [], IfSome, MatchOption, Option};
-ghost use Rattle.batch_leader.specs.Leading.{Collects, TakesBack, FindsNone, IsNotPosted, taken_by};
+ghost use Rattle.batch_leader.specs.Leading.{Collects, TakesBack, FindsNone, SawNonePosted, IsNotPosted, taken_by};
 ghost use Rattle.batch_leader.specs.TakenChanges.{MatchBool};
 ghost use Rattle.group_board.specs.declared.board.SlotState.TheVariants as slots;
 
@@ -35,6 +35,9 @@ impl Collecting {
             (B.view board.old) (B.view board.new))
             (TakesBack (B.whole board.old) (B.whole board.new) (B.seat board.old).number
             (B.view board.old) (B.view board.new)) }
+        // Where it took nothing back, its view has what it loaded of each own slot.
+        ensures seen { result ≡ Option.None → SawNonePosted (B.seat board.old).number
+            (B.view board.old) (B.view board.new) 8 }
     {
         let own = board.member();
         'slots: for slot in 0..SLOTS {

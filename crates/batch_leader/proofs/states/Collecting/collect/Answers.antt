@@ -1,8 +1,9 @@
 use Rattle.std.proofs.Common.{◌≡◌, ℕ, zero, ◌-◌, true, false, refl, sym, ◌∙◌, ap, subst, arith}
 use Rattle.group_laws.specs.MemberViews.{View}
 use Rattle.group_board.specs.Seats.{SeatAt}
-use Rattle.batch_leader.specs.Leading.{Collects, MakesAll, looks_upto, Went, steps_of}
-use Rattle.batch_leader.proofs.Steps.{no_steps, went_true, went_false, made_true, made_false}
+use Rattle.batch_leader.specs.Leading.{Collects, MakesAll, looks_upto, Went, SawPassed, PassesAt, steps_of}
+use Rattle.batch_leader.proofs.Steps.{no_steps, went_true, went_false, saw_on, made_true, made_false}
+use Rattle.batch_leader.proofs.SightLaws.{saw_none}
 use Rattle.batch_leader.proofs.states.Collecting.collect.Goals as goal
 
 number_of : {a b : SeatAt} → a ≡ b → a.number ≡ b.number
@@ -48,6 +49,8 @@ round-preserved g c =
       own = went.0.own;
       looked = went.0.view;
       passed = went.1;
+      saw = saw_on c.args.room.now m c.args.self.now c.round.self c.visit.new.self (v c.args.board.now) (v c.round.board) (v c.visit.new.board) (w c.args.board.now) (w c.round.board) (w c.visit.new.board)
+          i.low i.changes i.fresh i.own i.looked i.passed i.made c.visit.ensures.at i.saw (subst (λ (n : ℕ). SawPassed c.args.room.now n (v c.round.board) (v c.visit.new.board) c.round.self c.visit.new.self) (number_of i.sits) (c.if-visit.ensures.seen refl));
       made = made;
     }
 
@@ -68,5 +71,6 @@ round-init g c =
       own = refl;
       looked = ((v c.args.board.now).looked, refl);
       passed = λ i ge lt. absurd (omega (arith, ge, lt));
+      saw = saw_none (v c.args.board.now) m c.args.self.now.at (PassesAt c.args.room.now m c.args.self.now);
       made = subst (λ (n : ℕ). MakesAll (w c.args.board.now) (looks_upto m c.args.self.now.at n) (w c.args.board.now) m (v c.args.board.now)) (sym none) (no_steps (w c.args.board.now) m (g.B.Board.seat c.args.board.now).place (v c.args.board.now) (g.met.B.Board.agrees c.args.board.now));
     }

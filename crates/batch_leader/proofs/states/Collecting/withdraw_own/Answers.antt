@@ -14,10 +14,11 @@ use Rattle.group_laws.proofs.Puts.{In-append_right}
 use Rattle.group_board.specs.Seats.{SeatAt}
 use Rattle.group_board.specs.Views.{after_find, after_withdraw}
 use Rattle.group_board.specs.Told.{Makes, state_of}
-use Rattle.batch_leader.specs.Leading.{looks_upto, HasLooked}
+use Rattle.batch_leader.specs.Leading.{looks_upto, HasLooked, IsNotPosted}
 use Rattle.batch_leader.proofs.CollectLaws.{collects_still}
 use Rattle.batch_leader.proofs.Steps.{no_steps, one_step, makes_then, posted_word}
-use Rattle.batch_leader.proofs.WithdrawLaws.{looks_more, lower_more}
+use Rattle.batch_leader.proofs.WithdrawLaws.{own_member, own_slot, looks_more, lower_more}
+use Rattle.batch_leader.proofs.SightLaws.{saw_none, saw_one, saw_then}
 use Rattle.batch_leader.proofs.states.Collecting.withdraw_own.Goals as goal
 
 number_of : {a b : SeatAt} → a ≡ b → a.number ≡ b.number
@@ -43,6 +44,7 @@ slots-init g c =
       collects = c.requires.collects;
       looked = ((g.B.Board.view c.args.board.now).looked, refl);
       lower = λ i lt. absurd (omega (arith, lt));
+      saw = saw_none (g.B.Board.view c.args.board.now) seat.number 0 (λ i x. IsNotPosted x);
       made = no_steps (g.B.Board.whole c.args.board.now) seat.number seat.place (g.B.Board.view c.args.board.now) (g.met.B.Board.agrees c.args.board.now);
     }
 
@@ -109,5 +111,8 @@ slots-preserved g c =
       looked = looked_more (v c.args.board.now) (v c.slots.board) (v c.look-found.new.self) (loads.Slot c.member-own.result c.slots.slot seen.0) i.looked seen.2;
       lower = lower_more (w c.args.board.now) (w c.slots.board) (w c.look-found.new.self) m c.slots.slot (v c.slots.board) (v c.look-found.new.self) c.look-found.result c.slots-test.true i.made i.lower c.if-is_posted.ensures
           (subst (λ (n : ℕ). IfSome (w c.slots.board) (λ x. state_of (shown (x.slot n c.slots.slot)) ≡ c.look-found.result)) own c.look-found.ensures.stood);
+      saw = saw_then (v c.args.board.now) (v c.slots.board) (v c.look-found.new.self) m 0 c.slots.slot (c.slots.slot + 1) (λ i x. IsNotPosted x) i.saw
+          (saw_one (v c.slots.board) (v c.look-found.new.self) m c.slots.slot c.member-own.result c.slots.slot seen.0 c.look-found.result (λ i x. IsNotPosted x)
+          (own ∙ sym (own_member m c.slots.slot c.slots-test.true)) (sym (own_slot c.slots.slot c.slots-test.true)) seen.1 seen.2 c.if-is_posted.ensures);
       made = looks_more (w c.args.board.now) (w c.slots.board) (w c.look-found.new.self) m c.slots.slot (v c.slots.board) (v c.look-found.new.self) c.look-found.result c.slots-test.true i.made step;
     }

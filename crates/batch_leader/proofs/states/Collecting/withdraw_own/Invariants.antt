@@ -1,5 +1,5 @@
 use Rattle.std.proofs.Common.{◌≡◌}
-use Rattle.batch_leader.specs.Leading.{Collects, HasLooked, NonePosted, MakesAll, looks_upto}
+use Rattle.batch_leader.specs.Leading.{Collects, HasLooked, NonePosted, SawNonePosted, MakesAll, looks_upto}
 use Rattle.batch_leader.proofs.states.Collecting.withdraw_own.Given as goal
 
 abbrev pub invariant-slots : goal.invariant-slots
@@ -13,5 +13,6 @@ invariant-slots g l =
       collects : Collects seat (view l.board) l.self;
       looked : HasLooked (view l.fn.board) (view l.board);
       lower : NonePosted (whole l.fn.board) seat.number l.slot;
+      saw : SawNonePosted seat.number (view l.fn.board) (view l.board) l.slot;
       made : MakesAll (whole l.fn.board) (looks_upto seat.number 0 l.slot) (whole l.board) seat.number (view l.board);
     }
