@@ -74,7 +74,7 @@ in_take (suc n) (y ∷ ys) x is = ⊎_elim (λ here. inl here) (λ later. inr (i
 pub in_batch : (st : StandingState) (es : List (ℕ × Entry)) (x : ℕ × Entry) → In x (next_batch st es) → In x es × (awaits st x ≡ true)
 in_batch st es x is = in_filter (awaits st) es x (in_firsts (left_to_copy st es) x (in_take 64 (firsts (left_to_copy st es)) x is))
 
-in_entries : (xs : List (ℕ × Entry)) (e : Entry) → In e (entries_of xs) → Among xs e
+pub in_entries : (xs : List (ℕ × Entry)) (e : Entry) → In e (entries_of xs) → Among xs e
 in_entries [] e is = absurd is
 in_entries (x ∷ xs) e is = ⊎_elim (λ here. record { found = x; here = inl refl; is = here }) (λ later. let a = in_entries xs e later in record { found = a.found; here = inr a.here; is = a.is }) is
 

@@ -9,3 +9,4 @@ pub mod CopyLaws
 pub mod ChoiceLaws
 pub mod LessLaws
 pub mod Between
+pub mod Licences

@@ -2,5 +2,6 @@ pub mod Copying
 pub mod Dropping
 pub mod Clearing
 pub mod ImagesBeside
+pub mod Vanishing
 pub mod CopyBatch
 pub mod Choosing
