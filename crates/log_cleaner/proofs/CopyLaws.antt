@@ -82,6 +82,10 @@ in_places : (p : ℕ) (es : List Entry) (x : ℕ × Entry) → In x (with_places
 in_places p [] x is = absurd is
 in_places p (e ∷ es) x is = ⊎_elim (λ here. inl (ap (λ (y : ℕ × Entry). y.1) here)) (λ later. inr (in_places (p + length (words_of e)) es x later)) is
 
+pub long_entries : (xs : List (ℕ × Entry)) → length (entries_of xs) ≡ length xs
+long_entries [] = refl
+long_entries (x ∷ xs) = ap (λ (n : ℕ). suc n) (long_entries xs)
+
 names_placed : (p : ℕ) (xs : List (ℕ × Entry)) (k v : ℕ) → has_name (with_places p (entries_of xs)) k v ≡ has_name xs k v
 names_placed p [] k v = refl
 names_placed p (x ∷ xs) k v = ap (λ (b : Bool). is_named k v x || b) (names_placed (p + length (words_of x.1)) xs k v)
@@ -128,10 +132,6 @@ module _ (s : State) (log : LogState) (st st' : StandingState) (j taken : ℕ) (
 
   pub not_open : j ≢ open_number log
   not_open e = closed (opened_is log stands.own opens ∙ ap Some (sym e))
-
-  long_entries : (xs : List (ℕ × Entry)) → length (entries_of xs) ≡ length xs
-  long_entries [] = refl
-  long_entries (x ∷ xs) = ap (λ (n : ℕ). suc n) (long_entries xs)
 
   pub is_batch : IsTelling s → IsBatch (entries_of (batch_in s log st j))
   is_batch telling = let n = long_entries (batch_in s log st j) in let m = (collected telling).count_is in record { some = omega (arith, n, m, some); each = (collected telling).spelled }
