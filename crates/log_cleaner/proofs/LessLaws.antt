@@ -58,7 +58,7 @@ sum_ones [] = refl
 sum_ones (x ∷ xs) = let a = sum_by-cons (λ (y : ℕ × Entry). 1) x xs in let rest = sum_ones xs in omega (arith, a, rest)
 
 -- entries of which no two have one name
-filter_same_in : {X : Type 0} (p q : X → Bool) (xs : List X) → ((x : X) → In x xs → p x ≡ q x) → filter p xs ≡ filter q xs
+pub filter_same_in : {X : Type 0} (p q : X → Bool) (xs : List X) → ((x : X) → In x xs → p x ≡ q x) → filter p xs ≡ filter q xs
 filter_same_in p q [] same = refl
 filter_same_in p q (x ∷ xs) same = (λ i. cond (same x (inl refl) i) (x ∷ filter_same_in p q xs (λ y is. same y (inr is)) i) (filter_same_in p q xs (λ y is. same y (inr is)) i))
 

@@ -3,5 +3,6 @@ pub mod Dropping
 pub mod Clearing
 pub mod ImagesBeside
 pub mod Vanishing
+pub mod Additions
 pub mod CopyBatch
 pub mod Choosing

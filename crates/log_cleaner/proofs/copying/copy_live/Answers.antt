@@ -92,7 +92,7 @@ returns-clause-ok g c =
     let counts = λ (telling : IsTelling (g.R.Region.state c.args.region.now)). (c.requires.standing telling).counts in
     let chunk : IsTelling (g.R.Region.state c.append_batch.new.region) → entries_in (g.R.Region.state c.append_batch.new.region) c.append_batch.new.self c.args.victim.now.chunk ≡ entries_in (g.R.Region.state c.args.region.now) c.args.log.now c.args.victim.now.chunk = λ telling.
         still_has s log st st' j c.collect-taken.result ws c.requires.stands c.requires.has c.requires.closed counts c.collect-taken.ensures.told ready.0 opens ready.1
-        t log' c.in_ok-append_batch.ensures.ok c.append_batch.ensures.outside c.in_ok-append_batch.ensures.ok_entries telling j
+        t log' c.in_ok-append_batch.ensures.ok c.append_batch.ensures.outside telling j
         (not_open s log st st' j c.collect-taken.result ws c.requires.stands c.requires.has c.requires.closed counts c.collect-taken.ensures.told ready.0 opens ready.1) c.requires.has in
     record {
       stands = c.in_ok-append_batch.ensures.ok.stands;
@@ -100,7 +100,7 @@ returns-clause-ok g c =
       adds = λ telling. (c.collect-taken.ensures.told telling).adds;
       standing = λ telling. record {
         counts = copy_standing s log st st' j c.collect-taken.result ws c.requires.stands c.requires.has c.requires.closed counts c.collect-taken.ensures.told ready.0 opens ready.1
-            t log' c.in_ok-append_batch.ensures.ok c.append_batch.ensures.outside c.in_ok-append_batch.ensures.ok_entries telling;
+            t log' c.in_ok-append_batch.ensures.ok c.append_batch.ensures.outside telling;
         settled = settled_moved s t log log' st' j (chunk telling) c.collect-taken.ensures.chunk
             (c.collect-taken.ensures.settled (told_at_entry s t (KeepsOutside (cell_now s) (open_first log) (open_first log + chunk_words log.layout)) c.append_batch.ensures.outside telling));
       };
