@@ -36,6 +36,8 @@ use Rattle.log_standing.specs.ChunkCounts.{is_named, has_name, chunks_with, IsSt
 use Rattle.log_cleaner.specs.Copying.{awaits, left_to_copy}
 use Rattle.log_cleaner.specs.CopyBatch.{firsts, next_batch, entries_of, Collected, batch_in, SameElse}
 use Rattle.log_cleaner.specs.ImagesBeside.{Stands, EachInPart, HasSame}
+use Rattle.log_cleaner.specs.Additions.{is_among, Lacks}
+use Rattle.log_cleaner.proofs.AppendLaws.{else_has, chunks_more}
 use Rattle.log_cleaner.proofs.Parts.{StandsAt, part_has, part_in, Among, placed_in, placed_has, name_in, in_named, count_has, count_without, count_same, chunk_of, chunk_lasts, was, was_may, was_outside, reads_kept, blocks_kept, log_well, same_else, was_chunk, entries_still}
 
 -- nothing was written
@@ -74,7 +76,7 @@ in_take (suc n) (y ∷ ys) x is = ⊎_elim (λ here. inl here) (λ later. inr (i
 pub in_batch : (st : StandingState) (es : List (ℕ × Entry)) (x : ℕ × Entry) → In x (next_batch st es) → In x es × (awaits st x ≡ true)
 in_batch st es x is = in_filter (awaits st) es x (in_firsts (left_to_copy st es) x (in_take 64 (firsts (left_to_copy st es)) x is))
 
-in_entries : (xs : List (ℕ × Entry)) (e : Entry) → In e (entries_of xs) → Among xs e
+pub in_entries : (xs : List (ℕ × Entry)) (e : Entry) → In e (entries_of xs) → Among xs e
 in_entries [] e is = absurd is
 in_entries (x ∷ xs) e is = ⊎_elim (λ here. record { found = x; here = inl refl; is = here }) (λ later. let a = in_entries xs e later in record { found = a.found; here = inr a.here; is = a.is }) is
 
@@ -82,39 +84,13 @@ in_places : (p : ℕ) (es : List Entry) (x : ℕ × Entry) → In x (with_places
 in_places p [] x is = absurd is
 in_places p (e ∷ es) x is = ⊎_elim (λ here. inl (ap (λ (y : ℕ × Entry). y.1) here)) (λ later. inr (in_places (p + length (words_of e)) es x later)) is
 
-names_placed : (p : ℕ) (xs : List (ℕ × Entry)) (k v : ℕ) → has_name (with_places p (entries_of xs)) k v ≡ has_name xs k v
-names_placed p [] k v = refl
-names_placed p (x ∷ xs) k v = ap (λ (b : Bool). is_named k v x || b) (names_placed (p + length (words_of x.1)) xs k v)
+pub long_entries : (xs : List (ℕ × Entry)) → length (entries_of xs) ≡ length xs
+long_entries [] = refl
+long_entries (x ∷ xs) = ap (λ (n : ℕ). suc n) (long_entries xs)
 
-abbrev has_placed : List PlacedEntry → ℕ → ℕ → Bool
-has_placed ps k v = list_any (λ (x : PlacedEntry). name_eq (x.entry.key, x.entry.version) (k, v)) ps
-
-placed_names : (c j : ℕ) (xs : List (ℕ × Entry)) (k v : ℕ) → has_placed (placed c j xs) k v ≡ has_name xs k v
-placed_names c j [] k v = refl
-placed_names c j (x ∷ xs) k v = ap (λ (b : Bool). is_named k v x || b) (placed_names c j xs k v)
-
--- a tail that moves changes no count
-count_moved : (h : ℕ → Bool) (cs : List LogChunk) (from j n : ℕ) → IsRising from cs → is_some (tail_of cs j) ≡ true → count_by (λ (x : LogChunk). h x.chunk) (with_tail cs j n) ≡ count_by (λ (x : LogChunk). h x.chunk) cs
-count_moved h [] from j n rising has = absurd (cc has)
-count_moved h (c ∷ cs) from j n rising has = elim (nat_lt j c.chunk) as (λ b. nat_lt j c.chunk ≡ b → count_by (λ (x : LogChunk). h x.chunk) (cond b (chunk_with j n ∷ c ∷ cs) (cond (c.chunk == j) (chunk_with j n ∷ cs) (c ∷ with_tail cs j n))) ≡ count_by (λ (x : LogChunk). h x.chunk) (c ∷ cs)) [
-  | true ↦ λ lt. let below = ltb-true j c.chunk lt in absurd (none_below (c ∷ cs) c.chunk j (omega arith, rising.1) below has)
-  | false ↦ λ ge. elim (c.chunk == j) as (λ b. (c.chunk == j) ≡ b → count_by (λ (x : LogChunk). h x.chunk) (cond b (chunk_with j n ∷ cs) (c ∷ with_tail cs j n)) ≡ count_by (λ (x : LogChunk). h x.chunk) (c ∷ cs)) [
-    | true ↦ λ here.
-        let a = sum_by-cons (λ (x : LogChunk). cond (h x.chunk) 1 0) (chunk_with j n) cs in
-        let b = sum_by-cons (λ (x : LogChunk). cond (h x.chunk) 1 0) c cs in
-        let same = ap {B = ℕ} (λ (i : ℕ). cond (h i) 1 0) (eqb-true c.chunk j here) in
-        omega (arith, a, b, same)
-    | false ↦ λ other.
-        let a = sum_by-cons (λ (x : LogChunk). cond (h x.chunk) 1 0) c (with_tail cs j n) in
-        let b = sum_by-cons (λ (x : LogChunk). cond (h x.chunk) 1 0) c cs in
-        let rest = count_moved h cs (c.chunk + 1) j n rising.1 (ap is_some (sym (cond-false (c.chunk == j) (Some c.tail) (tail_of cs j) other)) ∙ has) in
-        omega (arith, a, b, rest)
-  ] refl
-] refl
-  where
-    none_below : (xs : List LogChunk) (f k : ℕ) → IsRising f xs → k < f → is_some (tail_of xs k) ≡ true → ⊥
-    none_below [] f k is lt some = cc some
-    none_below (x ∷ xs) f k is lt some = none_below xs (x.chunk + 1) k is.1 (omega (arith, lt, is.0)) (ap is_some (sym (cond-false (x.chunk == k) (Some x.tail) (tail_of xs k) (ne_eqb x.chunk k (λ e. omega (arith, e, lt, is.0))))) ∙ some)
+names_of : (xs : List (ℕ × Entry)) (k v : ℕ) → is_among (entries_of xs) k v ≡ has_name xs k v
+names_of [] k v = refl
+names_of (x ∷ xs) k v = ap (λ (b : Bool). is_named k v x || b) (names_of xs k v)
 
 count_adds : (o p : Option Copies) (b : Bool) → p ≡ cond b (Some (one_more o)) o → count_in p ≡ count_in o + cond b 1 0
 count_adds None p true is = ap count_in is
@@ -128,10 +104,6 @@ module _ (s : State) (log : LogState) (st st' : StandingState) (j taken : ℕ) (
 
   pub not_open : j ≢ open_number log
   not_open e = closed (opened_is log stands.own opens ∙ ap Some (sym e))
-
-  long_entries : (xs : List (ℕ × Entry)) → length (entries_of xs) ≡ length xs
-  long_entries [] = refl
-  long_entries (x ∷ xs) = ap (λ (n : ℕ). suc n) (long_entries xs)
 
   pub is_batch : IsTelling s → IsBatch (entries_of (batch_in s log st j))
   is_batch telling = let n = long_entries (batch_in s log st j) in let m = (collected telling).count_is in record { some = omega (arith, n, m, some); each = (collected telling).spelled }
@@ -248,44 +220,18 @@ module _ (s : State) (log : LogState) (st st' : StandingState) (j taken : ℕ) (
       (both s t (EachInOpen log (HasOrLacks (open_first log) (open_tail log) (words_now s (open_first log) (open_tail log)) (padded ws))) (KeepsOutside (cell_now s) (open_first log) (open_first log + chunk_words log.layout)) each outside)
 
   -- The names afterwards.
-  module _ (t : State) (log' : LogState) (appended : AppendedBatch s t log log' (padded ws)) (outside : During s t (KeepsOutside (cell_now s) (open_first log) (open_first log + chunk_words log.layout)))
-      (shown : (es : List Entry) → ws ≡ flat_map words_of es → IsBatch es → IsTelling t → EachInOpen log (HasEntries log (open_entries log (lasts s)) es) (cell_now t)) (telling_t : IsTelling t) where
+  module _ (t : State) (log' : LogState) (appended : AppendedBatch s t log log' (padded ws)) (outside : During s t (KeepsOutside (cell_now s) (open_first log) (open_first log + chunk_words log.layout))) (telling_t : IsTelling t) where
     told : IsTelling s
     told = told_at_entry s t (KeepsOutside (cell_now s) (open_first log) (open_first log + chunk_words log.layout)) outside telling_t
 
-    batch : List (ℕ × Entry)
-    batch = batch_in s log st j
-
-    moved : SameElse log log' (open_number log)
-    moved = same_log log log' (open_tail log + length (padded ws)) appended.log_is
-
-    chunks_are : log'.chunks ≡ with_tail log.chunks (open_number log) (open_tail log + length (padded ws))
-    chunks_are = ap (λ (l : LogState). l.chunks) appended.log_is
+    as_batch : AppendedBatch s t log log' (batch_words (entries_of (batch_in s log st j)))
+    as_batch = subst (AppendedBatch s t log log') (ap padded (collected told).words_are) appended
 
     pub still_has : (i : ℕ) → i ≢ open_number log → is_some (tail_of log.chunks i) ≡ true → entries_in t log' i ≡ entries_in s log i
-    still_has i ne was_some =
-        let fits = (tail_fits log.layout stands.own.layout (chunk_with i (tail_in log i)) (chunk_of s log stands i was_some)).0 in
-        entries_still s t log log' i (open_first log) (open_first log + chunk_words log.layout) outside telling_t moved.layout moved.part (moved.tails i ne)
-        (λ w ge lt. ⊎_elim (λ a. inl (omega (arith, a, lt, fits))) (λ b. inr (omega (arith, b, ge))) (chunks_apart log.layout log.part i (open_number log) ne))
-
-    -- the open chunk has the batch's names too
-    open_names : (k v : ℕ) → has_name (entries_in t log' (open_number log)) k v ≡ (has_name (entries_in s log (open_number log)) k v || has_name batch k v)
-    unfolding batch
-    open_names k v =
-        let now_some : is_some (tail_of log'.chunks (open_number log)) ≡ true = ap (λ (cs : List LogChunk). is_some (tail_of cs (open_number log))) chunks_are ∙ ap is_some (tail_set log.chunks (open_number log) (open_tail log + length (padded ws))) in
-        let now = chunk_lasts t log' appended.stands (open_number log) now_some telling_t in
-        let here : chunk_entries log'.layout (lasts t) log'.part (open_number log) ≡ open_entries log (lasts t) = λ i. chunk_entries (moved.layout i) (lasts t) (moved.part i) (open_number log) in
-        let has_both : open_entries log (lasts t) ≡ open_entries log (lasts s) ++ added_entries log (entries_of (batch_in s log st j)) = shown (entries_of (batch_in s log st j)) (collected told).words_are (is_batch told) telling_t (lasts t) (λ w a b. may_be_last (cell_now t w) (lasts t w) refl) in
-        let old = chunk_lasts s log stands (open_number log) open_some told in
-        sym (placed_names log'.part (open_number log) (entries_in t log' (open_number log)) k v)
-        ∙ ap (λ (ps : List PlacedEntry). has_placed ps k v) (sym now ∙ here ∙ has_both)
-        ∙ list_any-append (λ (x : PlacedEntry). name_eq (x.entry.key, x.entry.version) (k, v)) (open_entries log (lasts s)) (added_entries log (entries_of (batch_in s log st j)))
-        ∙ (λ i. (ap (λ (ps : List PlacedEntry). has_placed ps k v) old ∙ placed_names log.part (open_number log) (entries_in s log (open_number log)) k v) i
-        || (placed_names log.part (open_number log) (with_places (open_tail log) (entries_of (batch_in s log st j))) k v ∙ names_placed (open_tail log) (batch_in s log st j) k v) i)
+    still_has = else_has s t log log' (entries_of (batch_in s log st j)) stands.own opens (open_spelled s log stands opens told) (is_batch told) as_batch outside telling_t
 
     -- a name of the batch didn't stand in the open chunk
-    new_there : (k v : ℕ) → has_name batch k v ≡ true → has_name (entries_in s log (open_number log)) k v ≡ false
-    unfolding batch
+    new_there : (k v : ℕ) → has_name (batch_in s log st j) k v ≡ true → has_name (entries_in s log (open_number log)) k v ≡ false
     new_there k v is = elim (has_name (entries_in s log (open_number log)) k v) as (λ b. has_name (entries_in s log (open_number log)) k v ≡ b → b ≡ false) [
       | true ↦ λ there.
           let n = name_in (batch_in s log st j) k v is in
@@ -303,31 +249,13 @@ module _ (s : State) (log : LogState) (st st' : StandingState) (j taken : ℕ) (
       | false ↦ λ isnt. refl
     ] refl
 
-    chunks_more : (k v : ℕ) → chunks_with t log' k v ≡ chunks_with s log k v + cond (has_name batch k v) 1 0
-    chunks_more k v =
-        let g : ℕ → Bool = λ i. has_name (entries_in t log' i) k v in
-        let h : ℕ → Bool = λ i. has_name (entries_in s log i) k v in
-        let a : chunks_with t log' k v ≡ count_by (λ (x : LogChunk). g x.chunk) log.chunks =
-        ap (λ (cs : List LogChunk). count_by (λ (x : LogChunk). has_name (entries_in t log' x.chunk) k v) cs) chunks_are ∙ count_moved g log.chunks 0 (open_number log) (open_tail log + length (padded ws)) stands.own.rising open_some in
-        let b = count_without g log.chunks (open_number log) open_some in
-        let d = count_without h log.chunks (open_number log) open_some in
-        let e = count_same g h (without log.chunks (open_number log)) (λ i some_i.
-        let ne : i ≢ open_number log = λ at. absurd (cc (sym (ap is_some (ap (tail_of (without log.chunks (open_number log))) at ∙ without_self log.chunks 0 (open_number log) stands.own.rising)) ∙ some_i)) in
-        ap (λ (es : List (ℕ × Entry)). has_name es k v) (still_has i ne (ap is_some (sym (without_other log.chunks (open_number log) i ne)) ∙ some_i))) in
-        let names = ap {B = ℕ} (λ (q : Bool). cond q 1 0) (open_names k v) in
-        let sum = or_sum (has_name (entries_in s log (open_number log)) k v) (has_name batch k v) (new_there k v) in
-        omega (arith, a, b, d, e, names, sum)
-      where
-        or_sum : (p q : Bool) → (q ≡ true → p ≡ false) → cond {A = ℕ} (p || q) 1 0 ≡ cond p 1 0 + cond q 1 0
-        or_sum true true none = absurd (cc (none refl))
-        or_sum true false none = refl
-        or_sum false true none = refl
-        or_sum false false none = refl
+    among : (k v : ℕ) → is_among (entries_of (batch_in s log st j)) k v ≡ has_name (batch_in s log st j) k v
+    among k v = names_of (batch_in s log st j) k v
 
     pub copy_standing : IsStandingOf t log' st'
-    unfolding batch
     copy_standing k v =
         let a = count_adds (copies_at st k v) (copies_at st' k v) (has_name (batch_in s log st j) k v) ((collected told).adds k v) in
-        let b = chunks_more k v in
+        let lacks : Lacks (entries_in s log (open_number log)) (entries_of (batch_in s log st j)) = λ i w is. new_there i w (sym (among i w) ∙ is) in
+        let b = chunks_more s t log log' (entries_of (batch_in s log st j)) stands.own opens (open_spelled s log stands opens told) (is_batch told) as_batch outside telling_t lacks k v ∙ ap {B = ℕ} (λ (q : Bool). chunks_with s log k v + cond q 1 0) (among k v) in
         let n = standing told k v in
         omega (arith, a, b, n)

@@ -1,6 +1,6 @@
 -- What is left to be copied after a batch.
-use Rattle.std.proofs.Common.{◌≡◌, inl, inr, ℕ, zero, suc, ◌+◌, ◌≤◌, ◌==◌, ◌&&◌, not, Bool, true, false, cond, List, [], ◌∷◌, length, take, Option, Some, refl, sym, ◌∙◌, ap, arith}
-use Rattle.std.specs.List.{filter, sum_by}
+use Rattle.std.proofs.Common.{◌≡◌, inl, inr, ⊎_elim, ℕ, zero, suc, ◌+◌, ◌≤◌, ◌<◌, ◌-◌, ◌==◌, ◌&&◌, ◌||◌, not, Bool, true, false, cond, List, [], ◌∷◌, length, take, Option, Some, refl, sym, ◌∙◌, ap, arith}
+use Rattle.std.specs.List.{filter, sum_by, count_by, flat_map}
 use Rattle.std.proofs.lemmas.Bool.{cond-true, cond-false, eqb-true, and_parts}
 use Rattle.std.proofs.lemmas.List.Sums.{sum_by-cons}
 use Rattle.std.proofs.lemmas.List.Filters.{sum_by-filter_both}
@@ -8,12 +8,12 @@ use Rattle.log_entry.specs.declared.entry.Entry.{Entry}
 use Rattle.log_entry.specs.Spelling.{words_of}
 use Rattle.store_image.specs.Facts.{In}
 use Rattle.log_standing.specs.declared.types.Copies.{Copies}
-use Rattle.log_standing.specs.NameCounts.{StandingState, copies_at, count_in, told_in, count_of, one_more}
+use Rattle.log_standing.specs.NameCounts.{StandingState, name_eq, copies_at, count_in, told_in, count_of, one_more}
 use Rattle.log_standing.specs.ChunkCounts.{is_named, has_name}
-use Rattle.log_cleaner.specs.Copying.{awaits, left_to_copy}
-use Rattle.log_cleaner.specs.CopyBatch.{firsts, next_batch, Adds, IsLess}
+use Rattle.log_cleaner.specs.Copying.{awaits, left_to_copy, words_sum, IsEachOnce}
+use Rattle.log_cleaner.specs.CopyBatch.{firsts, next_batch, entries_of, Adds, IsLess, IsLessJust, Bounds, lowered_by, IsBatchOf}
 use Rattle.log_cleaner.proofs.Parts.{name_in, in_named}
-use Rattle.log_cleaner.proofs.Batches.{filter_same, filter_both, filter_swap, two_wants, and_false, and_true}
+use Rattle.log_cleaner.proofs.Batches.{name_sym, filter_same, filter_both, filter_swap, two_wants, and_false, and_true}
 use Rattle.log_cleaner.proofs.CopyLaws.{in_batch}
 
 module _ {X : Type 0} (f : X → ℕ) where
@@ -37,7 +37,7 @@ module _ {X : Type 0} (f : X → ℕ) where
         | false ↦ rest
       ]
 
-  filter_all : (p : X → Bool) (xs : List X) → ((x : X) → In x xs → p x ≡ true) → filter p xs ≡ xs
+  pub filter_all : (p : X → Bool) (xs : List X) → ((x : X) → In x xs → p x ≡ true) → filter p xs ≡ xs
   filter_all p [] all = refl
   filter_all p (x ∷ xs) all = cond-true (p x) (x ∷ filter p xs) (filter p xs) (all x (inl refl)) ∙ ap (λ (l : List X). x ∷ l) (filter_all p xs (λ y is. all y (inr is)))
 
@@ -56,6 +56,60 @@ sum_firsts f p (x ∷ xs) =
 pub sum_ones : (xs : List (ℕ × Entry)) → sum_by (λ (x : ℕ × Entry). 1) xs ≡ length xs
 sum_ones [] = refl
 sum_ones (x ∷ xs) = let a = sum_by-cons (λ (y : ℕ × Entry). 1) x xs in let rest = sum_ones xs in omega (arith, a, rest)
+
+-- entries of which no two have one name
+pub filter_same_in : {X : Type 0} (p q : X → Bool) (xs : List X) → ((x : X) → In x xs → p x ≡ q x) → filter p xs ≡ filter q xs
+filter_same_in p q [] same = refl
+filter_same_in p q (x ∷ xs) same = (λ i. cond (same x (inl refl) i) (x ∷ filter_same_in p q xs (λ y is. same y (inr is)) i) (filter_same_in p q xs (λ y is. same y (inr is)) i))
+
+filter_no : {X : Type 0} (xs : List X) → filter (λ (x : X). false) xs ≡ []
+filter_no [] = refl
+filter_no (x ∷ xs) = filter_no xs
+
+named_self : (x : ℕ × Entry) → is_named x.1.key x.1.version x ≡ true
+named_self x = just_one (is_named x.1.key x.1.version x) (in_named (x ∷ []) x (inl refl))
+  where
+    just_one : (b : Bool) → (b || false) ≡ true → b ≡ true
+    just_one true e = refl
+    just_one false e = e
+
+count_some : (p : ℕ × Entry → Bool) (xs : List (ℕ × Entry)) (y : ℕ × Entry) → In y xs → p y ≡ true → 0 < count_by p xs
+count_some p [] y is passes = absurd is
+count_some p (x ∷ xs) y is passes =
+    let a = sum_by-cons (λ (z : ℕ × Entry). cond (p z) 1 0) x xs in
+    ⊎_elim (λ (here : y ≡ x). let one = ap {B = ℕ} (λ (b : Bool). cond b 1 0) (sym (ap p here) ∙ passes) in omega (arith, a, one))
+    (λ later. let rest = count_some p xs y later passes in omega (arith, a, rest)) is
+
+fewer_once : (x : ℕ × Entry) (xs : List (ℕ × Entry)) → IsEachOnce (x ∷ xs) → IsEachOnce xs
+fewer_once x xs once k v = let a = sum_by-cons (λ (z : ℕ × Entry). cond (is_named k v z) 1 0) x xs in let o = once k v in omega (arith, a, o)
+
+apart : (x : ℕ × Entry) (xs : List (ℕ × Entry)) → IsEachOnce (x ∷ xs) → (y : ℕ × Entry) → In y xs → is_named y.1.key y.1.version x ≡ false
+apart x xs once y is = elim (is_named y.1.key y.1.version x) as (λ b. is_named y.1.key y.1.version x ≡ b → b ≡ false) [
+  | true ↦ λ same.
+      let a = sum_by-cons (λ (z : ℕ × Entry). cond (is_named y.1.key y.1.version z) 1 0) x xs in
+      let one = ap {B = ℕ} (λ (b : Bool). cond b 1 0) same in
+      let more = count_some (is_named y.1.key y.1.version) xs y is (named_self y) in
+      let o = once y.1.key y.1.version in
+      absurd (omega (arith, a, one, more, o))
+  | false ↦ λ isnt. refl
+] refl
+
+firsts_once : (xs : List (ℕ × Entry)) → IsEachOnce xs → firsts xs ≡ xs
+firsts_once [] once = refl
+firsts_once (x ∷ xs) once =
+    let rest = firsts_once xs (fewer_once x xs once) in
+    ap (λ (l : List (ℕ × Entry)). x ∷ l) (ap (filter (λ (y : ℕ × Entry). not (is_named x.1.key x.1.version y))) rest
+    ∙ filter_all (λ (y : ℕ × Entry). 1) (λ (y : ℕ × Entry). not (is_named x.1.key x.1.version y)) xs (λ y is. ap not (name_sym y.1.key y.1.version x.1.key x.1.version ∙ apart x xs once y is)))
+
+-- of such ones those that the first n have are the first n
+taken_once : (n : ℕ) (xs : List (ℕ × Entry)) → IsEachOnce xs → filter (λ (y : ℕ × Entry). has_name (take n xs) y.1.key y.1.version) xs ≡ take n xs
+taken_once zero xs once = filter_no xs
+taken_once (suc n) [] once = refl
+taken_once (suc n) (x ∷ xs) once =
+    let q : ℕ × Entry → Bool = λ y. is_named y.1.key y.1.version x || has_name (take n xs) y.1.key y.1.version in
+    cond-true (q x) (x ∷ filter q xs) (filter q xs) (ap (λ (b : Bool). b || has_name (take n xs) x.1.key x.1.version) (named_self x))
+    ∙ ap (λ (l : List (ℕ × Entry)). x ∷ l) (filter_same_in q (λ (y : ℕ × Entry). has_name (take n xs) y.1.key y.1.version) xs (λ y is. ap (λ (b : Bool). b || has_name (take n xs) y.1.key y.1.version) (apart x xs once y is))
+    ∙ taken_once n xs (fewer_once x xs once))
 
 module _ (old new : StandingState) (es : List (ℕ × Entry)) (adds : Adds old new (next_batch old es)) where
   in_it : ℕ × Entry → Bool
@@ -90,13 +144,39 @@ module _ (old new : StandingState) (es : List (ℕ × Entry)) (adds : Adds old n
       let left = ap (sum_by f) left_is in
       omega (arith, all, a, b, both, left)
 
+  -- just by the batch where no two that are left are equal
+  module _ (once : IsEachOnce (left_to_copy old es)) where
+    just_by : (f : ℕ × Entry → ℕ) → sum_by f (next_batch old es) + sum_by f (left_to_copy new es) ≡ sum_by f (left_to_copy old es)
+    unfolding in_it
+    just_by f =
+        let L = left_to_copy old es in
+        let whole = ap (take 64) (firsts_once L once) in
+        let named : (y : ℕ × Entry) → has_name (next_batch old es) y.1.key y.1.version ≡ has_name (take 64 L) y.1.key y.1.version = λ y. ap (λ (xs : List (ℕ × Entry)). has_name xs y.1.key y.1.version) whole in
+        let taken = ap (sum_by f) (filter_same in_it (λ y. has_name (take 64 L) y.1.key y.1.version) L named ∙ taken_once 64 L once ∙ sym whole) in
+        let both = sum_by-filter_both in_it (λ y. not (in_it y)) (λ y. refl) f L in
+        let left = ap (sum_by f) left_is in
+        omega (arith, taken, both, left)
+
+    pub is_just : IsLessJust old new es
+    unfolding in_it
+    is_just =
+        let n = just_by (λ (x : ℕ × Entry). 1) in
+        let a = sum_ones (next_batch old es) in
+        let b = sum_ones (left_to_copy new es) in
+        let d = sum_ones (left_to_copy old es) in
+        record {
+          entries = omega (arith, n, a, b, d);
+          words = just_by (λ (x : ℕ × Entry). length (words_of x.1));
+          once = λ k v. let l = ap (count_by (is_named k v)) left_is in let fewer = sum_filter (λ (x : ℕ × Entry). cond (is_named k v x) 1 0) (λ y. not (in_it y)) (left_to_copy old es) in let o = once k v in omega (arith, l, fewer, o);
+        }
+
   pub is_less : IsLess old new es
   is_less =
       let n = less_by (λ (x : ℕ × Entry). 1) in
       let a = sum_ones (next_batch old es) in
       let b = sum_ones (left_to_copy new es) in
       let d = sum_ones (left_to_copy old es) in
-      record { entries = omega (arith, n, a, b, d); words = less_by (λ (x : ℕ × Entry). length (words_of x.1)) }
+      record { entries = omega (arith, n, a, b, d); words = less_by (λ (x : ℕ × Entry). length (words_of x.1)); just = λ once. is_just once }
 
 -- where the batch is empty nothing was left
 pub none_awaits : (old : StandingState) (es : List (ℕ × Entry)) (n : ℕ) → n ≡ length (next_batch old es) → n ≡ 0 → left_to_copy old es ≡ []

@@ -9,3 +9,8 @@ pub mod CopyLaws
 pub mod ChoiceLaws
 pub mod LessLaws
 pub mod Between
+pub mod Licences
+pub mod AppendLaws
+pub mod Added
+pub mod Opened
+pub mod Tallies

@@ -1,9 +1,16 @@
 -- The names of a chunk, and those that vanish with it.
 use Rattle.std.specs.Prelude.{◌≡◌, ℕ, ◌+◌, ◌≤◌, ◌==◌, ◌&&◌, Bool, List, [], ◌∷◌, ◌++◌, length, if◌then◌else◌}
+use Rattle.pm_region.specs.State.{State, IsTelling}
 use Rattle.log_entry.specs.declared.entry.Entry.{Entry}
 use Rattle.log_entry.specs.declared.entry.EntryName.{EntryName}
+use Rattle.core_log.specs.Log.{LogState}
+use Rattle.core_log.specs.Retiring.{RetiredChunk}
+use Rattle.core_log.specs.Walking.{entries_in}
 use Rattle.log_standing.specs.NameCounts.{StandingState, bit, count_of, is_told, times_in}
 use Rattle.log_standing.specs.ChunkCounts.{has_name}
+use Rattle.log_cleaner.specs.Copying.{left_to_copy, IsUpToDate}
+use Rattle.log_cleaner.specs.Dropping.{Drops}
+use Rattle.log_cleaner.specs.ImagesBeside.{Vanish}
 
 -- the chunk, its names, those that vanish with it, and for how many more names there is room
 pub record ClearingState : Type 0 where
@@ -30,6 +37,18 @@ HasDoomed ns st es = (k v : ℕ) → times_in ns k v ≡ bit (has_name es k v &&
 pub record IsGathered (st : StandingState) (es : List (ℕ × Entry)) (c : ClearingState) : Type 0 where
   pub names : HasNames c.names es
   pub doomed : HasDoomed c.doomed st es
+
+-- the names of the chunk's entries were noted, and nothing of it is left to be copied
+pub record IsReady (s : State) (log : LogState) (st : StandingState) (c : ClearingState) : Type 0 where
+  pub gathered : IsGathered st (entries_in s log c.chunk) c
+  pub copied : left_to_copy st (entries_in s log c.chunk) ≡ []
+
+-- The chunk was given up. It is certainly Free, each of its names has one copy less, and the doomed ones stand in the log no more, all others still do.
+pub record HasCleared (s t : State) (log log' : LogState) (old new : StandingState) (c : ClearingState) : Type 0 where
+  pub retired : RetiredChunk t log log' c.chunk
+  pub dropped : Drops old new c.names
+  pub standing : IsTelling t → IsUpToDate t log' new
+  pub vanish : IsTelling t → Vanish s t log log' c.doomed
 
 -- a name that wasn't noted yet is noted
 pub record NotesNew (st : StandingState) (old new : ClearingState) (n : EntryName) : Type 0 where

@@ -1,14 +1,16 @@
 -- The next batch of a chunk's copies.
-use Rattle.std.specs.Prelude.{◌≡◌, ◌≢◌, ℕ, ◌+◌, ◌≤◌, not, List, [], ◌∷◌, map, length, take, Some, if◌then◌else◌}
+use Rattle.std.specs.Prelude.{◌≡◌, ◌≢◌, ℕ, ◌+◌, ◌-◌, ◌≤◌, not, List, [], ◌∷◌, map, length, take, Some, if◌then◌else◌}
 use Rattle.std.specs.List.{filter, flat_map, AllByRecursion}
-use Rattle.pm_region.specs.State.{State}
+use Rattle.pm_region.specs.State.{State, IsTelling}
 use Rattle.log_entry.specs.declared.entry.Entry.{Entry}
 use Rattle.log_entry.specs.Spelling.{words_of, HasSpelling}
-use Rattle.core_log.specs.Log.{LogState, tail_of}
+use Rattle.core_log.specs.Chunk.{lines_for}
+use Rattle.core_log.specs.Log.{LogState, StandsIn, tail_of, open_number, room_of}
 use Rattle.core_log.specs.Walking.{entries_in}
 use Rattle.log_standing.specs.NameCounts.{StandingState, copies_at, one_more}
 use Rattle.log_standing.specs.ChunkCounts.{is_named, has_name}
-use Rattle.log_cleaner.specs.Copying.{left_to_copy, words_sum}
+use Rattle.log_cleaner.specs.declared.types.Victim.{Victim}
+use Rattle.log_cleaner.specs.Copying.{left_to_copy, words_sum, IsUpToDate, IsEachOnce}
 
 -- of equal entries the first
 abbrev pub firsts : List (ℕ × Entry) → List (ℕ × Entry)
@@ -24,6 +26,13 @@ entries_of xs = map (λ x. x.1) xs
 
 abbrev pub batch_in : State → LogState → StandingState → ℕ → List (ℕ × Entry)
 batch_in s log st j = next_batch st (entries_in s log j)
+
+-- its entries, and that they fit in the open chunk
+abbrev pub copies_in : State → LogState → StandingState → ℕ → List Entry
+copies_in s log st j = entries_of (batch_in s log st j)
+
+abbrev pub CopiesFit : State → LogState → StandingState → ℕ → Type 0
+CopiesFit s log st j = IsTelling s → lines_for (length (flat_map words_of (copies_in s log st j))) ≤ room_of log
 
 -- each name of these entries has one copy more
 abbrev pub Adds : StandingState → StandingState → List (ℕ × Entry) → Type 0
@@ -43,7 +52,38 @@ pub record SameElse (old new : LogState) (j : ℕ) : Type 0 where
   pub opened : new.opened ≡ old.opened
   pub tails : (i : ℕ) → i ≢ j → tail_of new.chunks i ≡ tail_of old.chunks i
 
--- what is left to be copied is less by the batch, in entries and in words
+-- by the batch, just so many entries and words; and still no two that are left are equal
+pub record IsLessJust (old new : StandingState) (es : List (ℕ × Entry)) : Type 0 where
+  pub entries : length (next_batch old es) + length (left_to_copy new es) ≡ length (left_to_copy old es)
+  pub words : words_sum (next_batch old es) + words_sum (left_to_copy new es) ≡ words_sum (left_to_copy old es)
+  pub once : IsEachOnce (left_to_copy new es)
+
+-- What is left to be copied is less by the batch, in entries and in words: by just so much where no two that are left are equal, since equal ones wait together and one is copied.
 pub record IsLess (old new : StandingState) (es : List (ℕ × Entry)) : Type 0 where
   pub entries : length (next_batch old es) + length (left_to_copy new es) ≤ length (left_to_copy old es)
   pub words : words_sum (next_batch old es) + words_sum (left_to_copy new es) ≤ words_sum (left_to_copy old es)
+  pub just : IsEachOnce (left_to_copy old es) → IsLessJust old new es
+
+-- so many entries were copied, with these words; none only where none is left
+pub record IsBatchOf (s : State) (log : LogState) (st : StandingState) (j n : ℕ) (ws : List ℕ) : Type 0 where
+  pub count : n ≡ length (batch_in s log st j)
+  pub words : ws ≡ flat_map words_of (copies_in s log st j)
+  pub none : n ≡ 0 → left_to_copy st (entries_in s log j) ≡ []
+
+-- After a batch of copies. No other tail moved than the open chunk's, each name of the batch has one copy more, the entries of the victim's chunk stay, and what is left of them is less.
+pub record HasCopied (s t : State) (log log' : LogState) (old new : StandingState) (j : ℕ) : Type 0 where
+  pub stands : StandsIn t log'
+  pub tails : SameElse log log' (open_number log)
+  pub adds : IsTelling s → Adds old new (batch_in s log old j)
+  pub standing : IsTelling t → IsUpToDate t log' new
+  pub chunk : IsTelling t → entries_in t log' j ≡ entries_in s log j
+  pub less : IsTelling s → IsLess old new (entries_in s log j)
+
+-- numbers that a caller keeps of what is left of these entries: it is no more
+pub record Bounds (v : Victim) (st : StandingState) (es : List (ℕ × Entry)) : Type 0 where
+  pub entries : length (left_to_copy st es) ≤ v.entries
+  pub words : words_sum (left_to_copy st es) ≤ v.words
+
+-- the numbers after a batch of so many entries and words
+abbrev pub lowered_by : Victim → ℕ → ℕ → Victim
+lowered_by v n w = record v { entries = v.entries - n; words = v.words - w }

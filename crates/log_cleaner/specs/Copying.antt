@@ -1,6 +1,6 @@
 -- What of a chunk is still to be copied.
-use Rattle.std.specs.Prelude.{◌≡◌, ℕ, Bool, List, length, Some}
-use Rattle.std.specs.List.{filter, sum_by}
+use Rattle.std.specs.Prelude.{◌≡◌, ℕ, ◌≤◌, Bool, List, length, Some}
+use Rattle.std.specs.List.{filter, sum_by, count_by}
 use Rattle.pm_region.specs.State.{State}
 use Rattle.log_entry.specs.declared.entry.Entry.{Entry}
 use Rattle.log_entry.specs.Spelling.{words_of}
@@ -9,7 +9,7 @@ use Rattle.core_log.specs.Walking.{IsBetween, entries_in, behind}
 use Rattle.log_cleaner.specs.declared.types.Victim.{Victim}
 use Rattle.log_standing.specs.declared.types.Settled.{Settled}
 use Rattle.log_standing.specs.NameCounts.{StandingState, wants}
-use Rattle.log_standing.specs.ChunkCounts.{IsStandingOf}
+use Rattle.log_standing.specs.ChunkCounts.{is_named, IsStandingOf}
 
 -- the entry was not told dead and stands in one chunk alone
 abbrev pub awaits : StandingState → ℕ × Entry → Bool
@@ -18,6 +18,10 @@ awaits st x = wants st x.1.key x.1.version
 -- of a chunk's entries those that are still to be copied, each place of equal ones
 abbrev pub left_to_copy : StandingState → List (ℕ × Entry) → List (ℕ × Entry)
 left_to_copy st xs = filter (awaits st) xs
+
+-- no two of the entries have one name
+abbrev pub IsEachOnce : List (ℕ × Entry) → Type 0
+IsEachOnce xs = (k v : ℕ) → count_by (is_named k v) xs ≤ 1
 
 abbrev pub words_sum : List (ℕ × Entry) → ℕ
 words_sum xs = sum_by (λ x. length (words_of x.1)) xs

@@ -1,15 +1,18 @@
 -- What an image of a log's part has, beside an image of the call's beginning.
-use Rattle.std.specs.Prelude.{◌≡◌, ◌⊎◌, ℕ, ◌+◌, ◌≤◌, ◌<◌, List, map, true, Some, is_some}
+use Rattle.std.specs.Prelude.{◌≡◌, ◌⊎◌, ℕ, ◌+◌, ◌≤◌, ◌<◌, List, length, map, true, Some, is_some}
 use Rattle.pm_region.specs.Cell.{Cell}
-use Rattle.pm_region.specs.State.{State, cell_now}
-use Rattle.pm_region.specs.Words.{MayLeaveIn, EachIn}
+use Rattle.pm_region.specs.State.{State, IsTelling, cell_now, During}
+use Rattle.pm_region.specs.Words.{KeepsOutside, MayLeaveIn, EachIn, lasts}
 use Rattle.chunk_map.specs.Layouts.{chunk_words, part_first}
 use Rattle.log_entry.specs.declared.entry.Entry.{Entry}
 use Rattle.log_entry.specs.declared.entry.EntryName.{EntryName}
 use Rattle.store_image.specs.declared.types.PlacedEntry.{PlacedEntry}
 use Rattle.store_image.specs.Parts.{part_entries, reads, held}
 use Rattle.store_image.specs.Facts.{In}
-use Rattle.core_log.specs.Log.{LogState, tail_of, first_of}
+use Rattle.core_log.specs.Log.{LogState, tail_of, first_of, open_number, open_first, EachInOpen}
+use Rattle.core_log.specs.Entries.{open_entries, HasEntriesOrLacks}
+use Rattle.core_log.specs.Opening.{EachInChunk}
+use Rattle.core_log.specs.Retiring.{HasSameOrNone}
 use Rattle.core_log.specs.Walking.{entries_in}
 use Rattle.log_standing.specs.NameCounts.{times_in}
 use Rattle.log_standing.specs.ChunkCounts.{chunks_with}
@@ -41,6 +44,18 @@ pub record HasSame (s : State) (log : LogState) (j : ℕ) (image : ℕ → ℕ) 
   pub before : ℕ → ℕ
   pub beside : IsBefore s log j image before
   pub has : (e : Entry) → Stands log before e → Stands log image e
+
+-- Copies are made. The open chunk has the whole batch or none of it, no word outside it is stored or flushed, and each image of the part has just the entries of one of the beginning.
+pub record MakesCopies (s t : State) (log : LogState) (es : List Entry) : Type 0 where
+  pub entries : IsTelling s → 0 < length es → During s t (EachInOpen log (HasEntriesOrLacks log (open_entries log (lasts s)) es))
+  pub outside : During s t (KeepsOutside (cell_now s) (open_first log) (open_first log + chunk_words log.layout))
+  pub parts : During s t (EachInPart log (HasSame s log (open_number log)))
+
+-- A chunk is made Free. It has its entries or none of them, no word outside its head's line is stored or flushed, and each image of the part has the entries of one of the beginning but perhaps those of these names.
+pub record GivesUp (s t : State) (log : LogState) (j : ℕ) (doomed : List EntryName) : Type 0 where
+  pub entries : During s t (EachInChunk log j (HasSameOrNone s log j))
+  pub outside : During s t (KeepsOutside (cell_now s) (first_of log j) (first_of log j + 8))
+  pub parts : During s t (EachInPart log (LosesOnly s log j doomed))
 
 -- two entries of the log that have one name are equal
 abbrev pub AgreesIn : State → LogState → Type 0

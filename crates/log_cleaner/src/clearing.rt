@@ -1,17 +1,13 @@
 // A chunk of the log is given up: what vanishes with it.
 ghost use Rattle.std.specs.Prelude.{◌≡◌, ◌≢◌, ℕ, ◌+◌, ◌-◌, ◌==◌, ◌≤◌, ◌<◌, true, Some, OnOk, OnErr, is_some, [], ◌∷◌, ◌++◌, length, IfOk, vec_len, vec_capacity, if◌then◌else◌};
-ghost use Rattle.pm_region.specs.State.{IsTelling, During, cell_now, Rose};
-ghost use Rattle.pm_region.specs.Words.{KeepsOutside};
-ghost use Rattle.core_log.specs.Log.{StandsIn, tail_of, first_of};
-ghost use Rattle.core_log.specs.Opening.{EachInChunk};
-ghost use Rattle.core_log.specs.Retiring.{HasSameOrNone, RetiredChunk};
+ghost use Rattle.pm_region.specs.State.{IsTelling, Rose};
+ghost use Rattle.core_log.specs.Log.{StandsIn, tail_of};
 ghost use Rattle.core_log.specs.Walking.{entries_in};
 ghost use Rattle.log_standing.specs.NameCounts.{is_told, count_of, times_in, copies_at, Changes};
 ghost use Rattle.log_cleaner.specs.Dropping.{lowered, Drops};
-ghost use Rattle.log_standing.specs.ChunkCounts.{IsStandingOf};
-ghost use Rattle.log_cleaner.specs.Copying.{left_to_copy, IsUpToDate};
-ghost use Rattle.log_cleaner.specs.ImagesBeside.{EachInPart, LosesOnly, AgreesIn, Vanish};
-ghost use Rattle.log_cleaner.specs.Clearing.{ClearingState, IsFresh, is_doomed, IsGathered, NotesNew};
+ghost use Rattle.log_cleaner.specs.Copying.{IsUpToDate};
+ghost use Rattle.log_cleaner.specs.ImagesBeside.{AgreesIn, GivesUp};
+ghost use Rattle.log_cleaner.specs.Clearing.{ClearingState, IsFresh, is_doomed, IsGathered, IsReady, HasCleared, NotesNew};
 
 use crate::types::{Cleared, Victim};
 use core_log::CoreLog;
@@ -185,19 +181,12 @@ impl Clearing {
         requires stands { StandsIn (R.state region.old) log.old }
         requires has { is_some (tail_of log.old.chunks self.chunk) ≡ true }
         requires closed { log.old.opened ≢ Some self.chunk }
-        requires gathered { IsTelling (R.state region.old) → IsGathered standing.old (entries_in (R.state region.old) log.old self.chunk) self }
-        requires copied { IsTelling (R.state region.old) → left_to_copy standing.old (entries_in (R.state region.old) log.old self.chunk) ≡ [] }
+        requires ready { IsTelling (R.state region.old) → IsReady (R.state region.old) log.old standing.old self }
         requires standing { IsTelling (R.state region.old) → IsUpToDate (R.state region.old) log.old standing.old }
         requires agrees { IsTelling (R.state region.old) → AgreesIn (R.state region.old) log.old }
-        // The chunk's entries, or none of them.
-        ensures entries { During (R.state region.old) (R.state region.new) (EachInChunk log.old self.chunk (HasSameOrNone (R.state region.old) log.old self.chunk)) }
-        // No word outside the head's first line is stored or flushed.
-        ensures outside { During (R.state region.old) (R.state region.new) (KeepsOutside (cell_now (R.state region.old)) (first_of log.old self.chunk) (first_of log.old self.chunk + 8)) }
-        ensures parts { During (R.state region.old) (R.state region.new) (EachInPart log.old (LosesOnly (R.state region.old) log.old self.chunk self.doomed)) }
-        ensures ok { OnOk result (RetiredChunk (R.state region.new) log.old log.new self.chunk) }
-        ensures dropped { OnOk result (Drops standing.old standing.new self.names) }
-        ensures standing { OnOk result (IsTelling (R.state region.new) → IsUpToDate (R.state region.new) log.new standing.new) }
-        ensures vanish { OnOk result (IsTelling (R.state region.new) → Vanish (R.state region.old) (R.state region.new) log.old log.new self.doomed) }
+        ensures moments { GivesUp (R.state region.old) (R.state region.new) log.old self.chunk self.doomed }
+        ensures ok { OnOk result (HasCleared (R.state region.old) (R.state region.new) log.old log.new
+            standing.old standing.new self) }
         ensures chunk { IfOk result (λ cleared. cleared.chunk ≡ self.chunk) }
         ensures gone { IfOk result (λ cleared. cleared.gone.items ≡ self.doomed) }
         ensures cause { OnErr result (Rose (R.state region.old).faults (R.state region.new).faults) }

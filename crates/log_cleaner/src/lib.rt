@@ -7,6 +7,7 @@ mod clearing;
 mod collecting;
 mod copying;
 mod counting;
+pub mod laws;
 #[cfg(test)]
 mod tests;
 mod types;

@@ -26,50 +26,68 @@ moments_at s t log i j e run = subst (λ (k : ℕ). During s t (EachInChunk log 
 outside_at : (s t : State) (log : LogState) (i j : ℕ) → i ≡ j → During s t (KeepsOutside (cell_now s) (first_of log i) (first_of log i + 8)) → During s t (KeepsOutside (cell_now s) (first_of log j) (first_of log j + 8))
 outside_at s t log i j e run = subst (λ (k : ℕ). During s t (KeepsOutside (cell_now s) (first_of log k) (first_of log k + 8))) e run
 
-pub returns-in_err-retire-clause-parts : goal.returns-in_err-retire-clause-parts
-returns-in_err-retire-clause-parts g c =
+pub returns-in_err-retire-clause-moments : goal.returns-in_err-retire-clause-moments
+returns-in_err-retire-clause-moments g c =
     let s = g.R.Region.state c.args.region.now in
     let t = g.R.Region.state c.retire.new.region in
     let log = c.args.log.now in
     let e = ap (λ (x : ClearingState). x.chunk) c.self.view_is in
-    clear_parts s log c.args.standing.now c.args.self c.requires.stands c.requires.has c.requires.gathered c.requires.copied (λ (t : IsTelling (g.R.Region.state c.args.region.now)). (c.requires.standing t).counts) c.requires.agrees t
-    (entries_at s t log c.self.inside.chunk c.args.self.chunk e c.retire.ensures.entries) (moments_at s t log c.self.inside.chunk c.args.self.chunk e c.retire.ensures.moments) (outside_at s t log c.self.inside.chunk c.args.self.chunk e c.retire.ensures.outside)
+    let gathered = λ (telling : IsTelling (g.R.Region.state c.args.region.now)). (c.requires.ready telling).gathered in
+    let copied = λ (telling : IsTelling (g.R.Region.state c.args.region.now)). (c.requires.ready telling).copied in
+    let counts = λ (telling : IsTelling (g.R.Region.state c.args.region.now)). (c.requires.standing telling).counts in
+    let entries = entries_at s t log c.self.inside.chunk c.args.self.chunk e c.retire.ensures.entries in
+    let outside = outside_at s t log c.self.inside.chunk c.args.self.chunk e c.retire.ensures.outside in
+    record {
+      entries = entries;
+      outside = outside;
+      parts = clear_parts s log c.args.standing.now c.args.self c.requires.stands c.requires.has gathered copied counts c.requires.agrees t
+          entries (moments_at s t log c.self.inside.chunk c.args.self.chunk e c.retire.ensures.moments) outside;
+    }
 
-pub returns-clause-parts : goal.returns-clause-parts
-returns-clause-parts g c =
+pub returns-clause-moments : goal.returns-clause-moments
+returns-clause-moments g c =
     let s = g.R.Region.state c.args.region.now in
     let t = g.R.Region.state c.retire.new.region in
     let log = c.args.log.now in
     let e = ap (λ (x : ClearingState). x.chunk) c.self.view_is in
-    clear_parts s log c.args.standing.now c.args.self c.requires.stands c.requires.has c.requires.gathered c.requires.copied (λ (t : IsTelling (g.R.Region.state c.args.region.now)). (c.requires.standing t).counts) c.requires.agrees t
-    (entries_at s t log c.self.inside.chunk c.args.self.chunk e c.retire.ensures.entries) (moments_at s t log c.self.inside.chunk c.args.self.chunk e c.retire.ensures.moments) (outside_at s t log c.self.inside.chunk c.args.self.chunk e c.retire.ensures.outside)
+    let gathered = λ (telling : IsTelling (g.R.Region.state c.args.region.now)). (c.requires.ready telling).gathered in
+    let copied = λ (telling : IsTelling (g.R.Region.state c.args.region.now)). (c.requires.ready telling).copied in
+    let counts = λ (telling : IsTelling (g.R.Region.state c.args.region.now)). (c.requires.standing telling).counts in
+    let entries = entries_at s t log c.self.inside.chunk c.args.self.chunk e c.retire.ensures.entries in
+    let outside = outside_at s t log c.self.inside.chunk c.args.self.chunk e c.retire.ensures.outside in
+    record {
+      entries = entries;
+      outside = outside;
+      parts = clear_parts s log c.args.standing.now c.args.self c.requires.stands c.requires.has gathered copied counts c.requires.agrees t
+          entries (moments_at s t log c.self.inside.chunk c.args.self.chunk e c.retire.ensures.moments) outside;
+    }
 
 dropped_at : (old mid new : StandingState) (ns : List EntryName) → SameCopies mid new → Drops old mid ns → Drops old new ns
 dropped_at old mid new ns same drops k v = same k v ∙ drops k v
 
-pub returns-clause-dropped : goal.returns-clause-dropped
-returns-clause-dropped g c = dropped_at c.args.standing.now c.drop_all.new.standing c.settle.new.self c.args.self.names c.settle.ensures.copies (subst (Drops c.args.standing.now c.drop_all.new.standing) (c.deref.ensures.value ∙ ap (λ (x : ClearingState). x.names) c.self.view_is) c.drop_all.ensures)
-
 none_settled : (s : State) (log : LogState) (st : StandingState) → st.settled ≡ None → IsSettledIn s log st
 none_settled s log st none h at = absurd (cc (sym none ∙ at))
 
-pub returns-clause-standing : goal.returns-clause-standing
-returns-clause-standing g c = λ telling.
+pub returns-clause-ok : goal.returns-clause-ok
+returns-clause-ok g c =
     let s = g.R.Region.state c.args.region.now in
     let t = g.R.Region.state c.retire.new.region in
     let log = c.args.log.now in
+    let st = c.args.standing.now in
     let e = ap (λ (x : ClearingState). x.chunk) c.self.view_is in
+    let gathered = λ (telling : IsTelling (g.R.Region.state c.args.region.now)). (c.requires.ready telling).gathered in
+    let copied = λ (telling : IsTelling (g.R.Region.state c.args.region.now)). (c.requires.ready telling).copied in
+    let counts = λ (telling : IsTelling (g.R.Region.state c.args.region.now)). (c.requires.standing telling).counts in
+    let retired = subst (RetiredChunk t log c.retire.new.self) e c.in_ok-retire.ensures.ok in
+    let outside = outside_at s t log c.self.inside.chunk c.args.self.chunk e c.retire.ensures.outside in
+    let dropped : Drops c.args.standing.now c.settle.new.self c.args.self.names = dropped_at c.args.standing.now c.drop_all.new.standing c.settle.new.self c.args.self.names c.settle.ensures.copies
+        (subst (Drops c.args.standing.now c.drop_all.new.standing) (c.deref.ensures.value ∙ ap (λ (x : ClearingState). x.names) c.self.view_is) c.drop_all.ensures) in
     record {
-      counts = clear_standing s log c.args.standing.now c.args.self c.requires.stands c.requires.has c.requires.gathered c.requires.copied (λ (t : IsTelling (g.R.Region.state c.args.region.now)). (c.requires.standing t).counts) c.requires.agrees t c.retire.new.self c.settle.new.self
-          (subst (RetiredChunk t log c.retire.new.self) e c.in_ok-retire.ensures.ok) (outside_at s t log c.self.inside.chunk c.args.self.chunk e c.retire.ensures.outside) (returns-clause-dropped g c) telling;
-      settled = none_settled t c.retire.new.self c.settle.new.self c.settle.ensures.settled;
+      retired = retired;
+      dropped = dropped;
+      standing = λ telling. record {
+        counts = clear_standing s log st c.args.self c.requires.stands c.requires.has gathered copied counts c.requires.agrees t c.retire.new.self c.settle.new.self retired outside dropped telling;
+        settled = none_settled t c.retire.new.self c.settle.new.self c.settle.ensures.settled;
+      };
+      vanish = λ telling. clear_vanish s log st c.args.self c.requires.stands c.requires.has gathered copied counts c.requires.agrees t c.retire.new.self c.settle.new.self retired outside dropped telling;
     }
-
-pub returns-clause-vanish : goal.returns-clause-vanish
-returns-clause-vanish g c = λ telling.
-    let s = g.R.Region.state c.args.region.now in
-    let t = g.R.Region.state c.retire.new.region in
-    let log = c.args.log.now in
-    let e = ap (λ (x : ClearingState). x.chunk) c.self.view_is in
-    clear_vanish s log c.args.standing.now c.args.self c.requires.stands c.requires.has c.requires.gathered c.requires.copied (λ (t : IsTelling (g.R.Region.state c.args.region.now)). (c.requires.standing t).counts) c.requires.agrees t c.retire.new.self c.settle.new.self
-    (subst (RetiredChunk t log c.retire.new.self) e c.in_ok-retire.ensures.ok) (outside_at s t log c.self.inside.chunk c.args.self.chunk e c.retire.ensures.outside) (returns-clause-dropped g c) telling
