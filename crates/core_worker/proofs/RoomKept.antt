@@ -1,5 +1,5 @@
 -- The room rule is kept where a change is staged that was not refused.
-use Rattle.std.proofs.Common.{◌≡◌, ◌≢◌, Some, ◌/◌, ◌⊎◌, inl, inr, ⊎_elim, ℕ, zero, suc, ◌+◌, ◌<◌, ◌≤◌, ◌==◌, ◌&&◌, ◌||◌, leb, ltb, Bool, true, false, cond, List, [], ◌∷◌, length, refl, sym, ◌∙◌, ap, subst, arith}
+use Rattle.std.proofs.Common.{◌≡◌, ◌≢◌, Option, Some, ◌/◌, ◌⊎◌, inl, inr, ⊎_elim, ℕ, zero, suc, ◌+◌, ◌<◌, ◌≤◌, ◌==◌, ◌&&◌, ◌||◌, leb, ltb, Bool, true, false, cond, List, [], ◌∷◌, length, refl, sym, ◌∙◌, ap, subst, arith}
 use Rattle.std.proofs.lemmas.Bool.{lt-leb, ltb-false, leb-true, eqb-true, and_parts, or_cases}
 use Rattle.log_entry.specs.declared.entry.Entry.{Entry}
 use Rattle.log_entry.specs.declared.entry.Body.TheVariants as bodies
@@ -9,6 +9,12 @@ use Rattle.log_entry.proofs.Bytes.{length-packed_in}
 use Rattle.core_room.specs.Lengths.{lines_needed}
 use Rattle.core_log.specs.Chunk.{lines_for}
 use Rattle.core_log.specs.Log.{room_of}
+use Rattle.pm_region.specs.State.{State}
+use Rattle.lazy_alloc.specs.Written.{WroteValue}
+use Rattle.lazy_alloc.proofs.SetLaws.{chunks_same}
+use Rattle.group_laws.specs.State.{Group}
+use Rattle.group_laws.specs.MemberViews.{View}
+use Rattle.core_worker.specs.Posting.{PostsPlain}
 use Rattle.lazy_alloc.specs.Sets.{Sets, Takes, free_chunk_count}
 use Rattle.core_room.specs.declared.supply.Supply.{Supply}
 use Rattle.core_room.specs.RoomRule.{KeepsRoom, lacks_room, may_cut, fits_nowhere, leaves_chunk}
@@ -109,3 +115,20 @@ embedded_lines k v u short =
 -- an answer more pledges nothing
 pub answered_room : (w u : Worker) → u ≡ record w { answers = u.answers } → HasKeptRoom w → HasKeptRoom u
 answered_room w u e h = subst (λ (x : Worker). HasKeptRoom x) (sym e) h
+
+-- what has the same room keeps the rule
+pub room_again : (w u : Worker) → own u.places.items ≡ own w.places.items → free_chunk_count u.allocator ≡ free_chunk_count w.allocator → u.log ≡ w.log → u.cleaning ≡ w.cleaning → HasKeptRoom w → HasKeptRoom u
+room_again w u lines chunks log cleaning h =
+    let same : supply_of u ≡ supply_of w = λ i. record { free_chunks = chunks i; open_lines = room_of (log i); own_lines = lines i; rest_lines = rest (cleaning i) } in
+    subst (λ (c : Cleaning). KeepsRule c (supply_of u)) (sym cleaning) (subst (KeepsRule w.cleaning) (sym same) h)
+
+-- after a value was written to a block, as many chunks are free
+pub wrote_chunks : (s : State) (old new : Sets) (p class : ℕ) (value : List ℕ) → WroteValue s old new p class value → free_chunk_count new ≡ free_chunk_count old
+wrote_chunks s old new p class value W = chunks_same old new (record { layout_is = W.layout_is; part_is = W.part_is }) W.free
+
+-- a posted change pledges what the staged one did
+pub room_posted : (m : ℕ) (before after : Option Group) (x y : View) (w u : Worker) (slot : ℕ) → length w.places.items ≡ 8 → slot < 8 → PostsPlain m before after x y w u slot → HasKeptRoom w → HasKeptRoom u
+room_posted m before after x y w u slot eight lt P h =
+    let all = own_with w.places.items u.places.items slot (Posted P.number P.entry.key (lines_for (length (words_of P.entry)))) P.places (omega (arith, lt, eight)) in
+    let was = ap lines_in P.was in
+    room_again w u (omega (arith, all, was)) (ap (λ (z : Worker). free_chunk_count z.allocator) P.rest) (ap (λ (z : Worker). z.log) P.rest) (ap (λ (z : Worker). z.cleaning) P.rest) h

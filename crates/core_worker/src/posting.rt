@@ -5,7 +5,7 @@ ghost use Rattle.pm_region.specs.Words.{KeepsOutside, EachIn};
 ghost use Rattle.log_entry.specs.declared.entry.Entry.{Entry};
 ghost use Rattle.log_entry.specs.declared.entry.Body.TheVariants as bodies;
 ghost use Rattle.chunk_map.specs.Layouts.{has_class};
-ghost use Rattle.lazy_alloc.specs.Sets.{AreSets, class_at, block_is_used};
+ghost use Rattle.lazy_alloc.specs.Sets.{AreSets, free_chunk_count, class_at, block_is_used};
 ghost use Rattle.lazy_alloc.specs.Written.{PartLies, HasHead, WroteValue, KeepsOthers, HeadTurnsTo, head_of};
 ghost use Rattle.group_laws.specs.Places.{IsPlace, core_of};
 ghost use Rattle.licence.specs.Licence.{Licensed, part_at, part_end};
@@ -16,6 +16,7 @@ ghost use Rattle.batch_leader.specs.declared.buffer.BatchBuffer.{BatchBuffer};
 ghost use Rattle.core_worker.specs.declared.types.Leading.TheVariants as leads;
 ghost use Rattle.core_worker.specs.declared.types.Place.TheVariants as kinds;
 ghost use Rattle.core_worker.specs.OwnPlaces.{place_at, Replaces};
+ghost use Rattle.core_worker.specs.Supplies.{HasKeptRoom};
 ghost use Rattle.batch_leader.specs.Persisting.{StaysLicensed, WritesPart};
 ghost use Rattle.core_worker.specs.Ties.{HoldsAt, KeepsStanding, LeadsNothing, Stands, StandsAt};
 ghost use Rattle.core_worker.specs.Posting.{HasNoBlock, PostsPlain, IsStagedWith, WouldStand, PostsOrStops};
@@ -103,6 +104,7 @@ impl Worker {
         ensures stands { result ≡ false → StandsAt (R.state region.new) (B.seat board.now)
             (B.view board.now) self.new }
         ensures rest { self.new ≡ record self.old { allocator = self.new.allocator; stopped = not result } }
+        ensures chunks { free_chunk_count self.new.allocator ≡ free_chunk_count self.old.allocator }
         ensures cause { result ≡ false → Rose (R.state region.old).faults
             (R.state region.new).faults }
     {
@@ -131,6 +133,7 @@ impl Worker {
         ensures holds { HoldsAt (B.seat board.old) (B.view board.new) self.new }
         ensures stands { KeepsStanding (B.seat board.old) (B.view board.old)
             (B.view board.new) self.old self.new }
+        ensures rule { HasKeptRoom self.old → HasKeptRoom self.new }
         ensures posts { PostsPlain (B.seat board.old).number (B.whole board.old)
             (B.whole board.new) (B.view board.old) (B.view board.new) self.old self.new slot }
     {
@@ -165,6 +168,7 @@ impl Worker {
             (place_at self.old.places.items slot)
             → Stands s (B.seat board.old).place (B.seat board.old).number
             (B.view board.new) self.new }
+        ensures rule { HasKeptRoom self.old → HasKeptRoom self.new }
         ensures posts { PostsPlain (B.seat board.old).number (B.whole board.old)
             (B.whole board.new) (B.view board.old) (B.view board.new) self.old self.new slot }
     {
@@ -208,6 +212,7 @@ impl Worker {
         ensures holds { HoldsAt (B.seat board.old) (B.view board.new) self.new }
         ensures stands { StandsAt (R.state region.new) (B.seat board.old)
             (B.view board.new) self.new }
+        ensures rule { HasKeptRoom self.old → HasKeptRoom self.new }
         ensures posts { PostsOrStops (B.seat board.old).number (B.whole board.old)
             (B.whole board.new) (B.view board.old) (B.view board.new) self.old self.new slot }
         ensures cause { self.new.stopped ≡ true
