@@ -53,7 +53,8 @@ fn stage(places: &mut Vec<Place>, number: u64, entry: Entry, value: Value) -> u3
     requires some { HasFree places.old.items }
     ensures lowest { IsLowest is_free places.old.items result }
     ensures within { result < 8 }
-    ensures placed { Replaces places.old.items places.new.items result (kinds.Staged number entry value) }
+    ensures placed { Replaces places.old.items places.new.items result
+        (kinds.Staged number entry value) }
 {
     let slot = free_place(places);
     let staged = Place::Staged {
@@ -71,7 +72,8 @@ impl Worker {
     pub(crate) fn answer(&mut self, number: u64, reply: Reply, refusal: Option<Shortage>)
         requires room { HasAnswerRoom 1 self.old }
         ensures rest { self.new ≡ record self.old { answers = self.new.answers } }
-        ensures answers { self.new.answers.items ≡ self.old.answers.items ++ answer_with number reply refusal ∷ [] }
+        ensures answers { self.new.answers.items
+            ≡ self.old.answers.items ++ answer_with number reply refusal ∷ [] }
         ensures room { (n : ℕ) → HasAnswerRoom (n + 1) self.old → HasAnswerRoom n self.new }
     {
         let answer = Answer {

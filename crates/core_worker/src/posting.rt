@@ -42,19 +42,34 @@ fn write_for<R: Region, B: Board>(
     requires place { IsPlace (B.seat board.now).place }
     requires sets { AreSets allocator.old }
     requires layout { allocator.old.layout ≡ (B.seat board.now).place.layout }
-    requires part { allocator.old.part ≡ core_of (B.seat board.now).place (B.seat board.now).number }
+    requires part { allocator.old.part
+        ≡ core_of (B.seat board.now).place (B.seat board.now).number }
     requires used { block_is_used allocator.old pointer ≡ true }
-    requires class { (class : ℕ) × (class_at allocator.old pointer ≡ Some class) × (has_class (length value.now) class ≡ true) × HasHead (R.state region.old) allocator.old pointer class }
+    requires class { (class : ℕ) × (class_at allocator.old pointer ≡ Some class)
+        × (has_class (length value.now) class ≡ true)
+        × HasHead (R.state region.old) allocator.old pointer class }
     requires lies { PartLies (R.state region.old).frame allocator.old }
     requires unused { (B.view board.now).blocks pointer ≡ None }
-    requires licensed { IsTelling (R.state region.old) → Licensed (B.seat board.now).place (B.seat board.now).number (B.view board.now) (cell_now (R.state region.old)) }
-    ensures moments { StaysLicensed (R.state region.old) (R.state region.new) (B.seat board.now) (B.view board.now) }
+    requires licensed { IsTelling (R.state region.old)
+        → Licensed (B.seat board.now).place (B.seat board.now).number (B.view board.now)
+        (cell_now (R.state region.old)) }
+    ensures moments { StaysLicensed (R.state region.old) (R.state region.new)
+        (B.seat board.now) (B.view board.now) }
     ensures outside { WritesPart (R.state region.old) (R.state region.new) (B.seat board.now) }
-    ensures others { (class : ℕ) → class_at allocator.old pointer ≡ Some class → During (R.state region.old) (R.state region.new) (KeepsOthers allocator.old pointer class (cell_now (R.state region.old))) }
-    ensures head { (class : ℕ) → class_at allocator.old pointer ≡ Some class → During (R.state region.old) (R.state region.new) (EachIn (head_of allocator.old pointer) (head_of allocator.old pointer + 2) (HeadTurnsTo allocator.old pointer class)) }
-    ensures exit { OnOk result ((slot : ℕ) (e : Entry) → e.body ≡ bodies.Pointer pointer → IsTelling (R.state region.new) → Licensed (B.seat board.now).place (B.seat board.now).number (after_post slot e value.now (B.view board.now)) (cell_now (R.state region.new))) }
+    ensures others { (class : ℕ) → class_at allocator.old pointer ≡ Some class
+        → During (R.state region.old) (R.state region.new)
+        (KeepsOthers allocator.old pointer class (cell_now (R.state region.old))) }
+    ensures head { (class : ℕ) → class_at allocator.old pointer ≡ Some class
+        → During (R.state region.old) (R.state region.new)
+        (EachIn (head_of allocator.old pointer) (head_of allocator.old pointer + 2)
+        (HeadTurnsTo allocator.old pointer class)) }
+    ensures exit { OnOk result ((slot : ℕ) (e : Entry) → e.body ≡ bodies.Pointer pointer
+        → IsTelling (R.state region.new)
+        → Licensed (B.seat board.now).place (B.seat board.now).number
+        (after_post slot e value.now (B.view board.now)) (cell_now (R.state region.new))) }
     ensures sets { AreSets allocator.new }
-    ensures ok { OnOk result ((class : ℕ) → class_at allocator.old pointer ≡ Some class → WroteValue (R.state region.new) allocator.old allocator.new pointer class value.now) }
+    ensures ok { OnOk result ((class : ℕ) → class_at allocator.old pointer ≡ Some class
+        → WroteValue (R.state region.new) allocator.old allocator.new pointer class value.now) }
     ensures err { OnErr result (allocator.new ≡ allocator.old) }
     ensures cause { OnErr result (Rose (R.state region.old).faults (R.state region.new).faults) }
 {
@@ -103,8 +118,10 @@ impl Worker {
             (place_at self.old.places.items slot) }
         ensures stands { result ≡ false → StandsAt (R.state region.new) (B.seat board.now)
             (B.view board.now) self.new }
-        ensures rest { self.new ≡ record self.old { allocator = self.new.allocator; stopped = not result } }
-        ensures chunks { free_chunk_count self.new.allocator ≡ free_chunk_count self.old.allocator }
+        ensures rest { self.new
+            ≡ record self.old { allocator = self.new.allocator; stopped = not result } }
+        ensures chunks { free_chunk_count self.new.allocator
+            ≡ free_chunk_count self.old.allocator }
         ensures cause { result ≡ false → Rose (R.state region.old).faults
             (R.state region.new).faults }
     {
