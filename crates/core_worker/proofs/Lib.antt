@@ -19,5 +19,7 @@ mod Pointers
 mod Staging
 mod Finding
 mod Beginnings
+mod RoomKept
+mod Accepted
 mod Winding
 mod Waiters

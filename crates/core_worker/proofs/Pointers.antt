@@ -58,7 +58,7 @@ free_is (Staged n e u) t = absurd (cc t)
 free_is (Posted n k l) t = absurd (cc t)
 
 -- what isn't refused
-refused : {X : Type 0} (b : Bool) (x : X) (o : Option X) → cond b (Some x) o ≡ None → (b ≡ false) × (o ≡ None)
+pub refused : {X : Type 0} (b : Bool) (x : X) (o : Option X) → cond b (Some x) o ≡ None → (b ≡ false) × (o ≡ None)
 refused true x o e = absurd (cc e)
 refused false x o e = (refl, e)
 

@@ -6,11 +6,11 @@ use Rattle.pm_region.specs.State.{State}
 use Rattle.fs_model.specs.Cells.{key_of}
 use Rattle.conflict_queue.specs.declared.types.Held.{Held}
 use Rattle.conflict_queue.specs.Waiting.{waiting, TakesFirst}
-use Rattle.group_laws.specs.Places.{Place}
+use Rattle.group_laws.specs.Places.{Place, owner}
 use Rattle.group_laws.specs.MemberViews.{View}
 use Rattle.core_worker.specs.declared.worker.Worker.{Worker}
-use Rattle.core_worker.specs.Beginning.{HoldsAside}
-use Rattle.core_worker.specs.Ties.{Stands, HasSpaceFor}
+use Rattle.core_worker.specs.Beginning.{HoldsAside, IsHeldAside}
+use Rattle.core_worker.specs.Ties.{Stands, HasSpaceFor, Tie, StandsBy}
 use Rattle.core_worker.specs.declared.types.Leading.{Leading}
 use Rattle.core_worker.specs.declared.types.Leading.TheVariants as leads
 
@@ -63,3 +63,10 @@ aside_other p m v w q h b H = record {
 
 pub stands_other : (s : State) (p : Place) (m : ℕ) (v : View) (w : Worker) (q : List Held) (h : Option Held) (b : Bool) → Stands s p m v w → Stands s p m v (record w { queue = q; in_hand = h; winds_down = b })
 stands_other s p m v w q h b S = record { lies = S.lies; licensed = S.licensed; landed = S.landed; log = S.log; free = S.free; due = S.due; cut = S.cut }
+
+-- the first waiting request of a key is taken out: the ties for its key
+pub taken_aside : (w : Worker) (q : List Held) (k : ℕ) (h : Held) → TakesFirst w.queue q k h → (x : Tie) → IsHeldAside w k x → IsHeldAside (record w { queue = q }) (key_of h.request) x
+taken_aside w q k h T x a = record { holds = aside_other x.place x.number x.view w q w.in_hand w.winds_down a.holds; own = ap (owner x.place) (first_key w.queue q k h T) ∙ a.own }
+
+pub taken_stands : (s : State) (x : Tie) (w : Worker) (q : List Held) → StandsBy s x w → StandsBy s x (record w { queue = q })
+taken_stands s x w q S = stands_other s x.place x.number x.view w q w.in_hand w.winds_down S

@@ -1,5 +1,6 @@
 -- What beginning a request does: it is answered, or a change is staged.
 use Rattle.std.specs.Prelude.{◌≡◌, ◌⊎◌, ℕ, ◌+◌, ◌<◌, Bool, true, false, List, [], ◌∷◌, ◌++◌, length, Option, Some, None}
+use Rattle.pm_region.specs.State.{State, IsTelling}
 use Rattle.fs_model.specs.declared.model.Request.{Request}
 use Rattle.fs_model.specs.declared.model.Reply.{Reply}
 use Rattle.fs_model.specs.declared.model.Reply.TheVariants.{Stopped}
@@ -15,8 +16,7 @@ use Rattle.core_index.specs.Records.{last_of}
 use Rattle.lazy_alloc.specs.Sets.{Takes}
 use Rattle.group_laws.specs.MemberViews.{View}
 use Rattle.group_laws.specs.Places as places
-use Rattle.group_board.specs.Seats.{SeatAt}
-use Rattle.core_worker.specs.Ties.{Holds}
+use Rattle.core_worker.specs.Ties.{Holds, Tie, StandsBy}
 use Rattle.core_worker.specs.declared.types.Answer.{Answer}
 use Rattle.core_room.specs.declared.types.Shortage.{Shortage}
 use Rattle.core_worker.specs.declared.types.Place.{Place}
@@ -38,12 +38,43 @@ answer_with n reply refusal = record { number = n; reply = reply; refusal = refu
 abbrev pub HoldsAside : places.Place → ℕ → View → Worker → Type 0
 HoldsAside p m v w = Holds p m v (record w { queue = [] })
 
-abbrev pub HoldsAsideAt : SeatAt → View → Worker → Type 0
-HoldsAsideAt seat v w = HoldsAside seat.place seat.number v w
+-- The worker is so tied there, and the key is one of the member's.
+pub record IsHeldAside (w : Worker) (k : ℕ) (t : Tie) : Type 0 where
+  pub holds : HoldsAside t.place t.number t.view w
+  pub own : places.owner t.place k ≡ t.number
+
+-- it is so somewhere
+abbrev pub IsAside : Worker → ℕ → Type 0
+IsAside w k = (t : Tie) × IsHeldAside w k t
+
+-- and the region stands as it is tied there
+abbrev pub StandsAside : State → Worker → ℕ → Type 0
+StandsAside s w k = (t : Tie) × IsHeldAside w k t × StandsBy s t w
+
+-- what is so tied stays tied, and, whatever the region, what stood stands
+pub record KeepsTie (old new : Worker) (t : Tie) : Type 0 where
+  pub holds : HoldsAside t.place t.number t.view new
+  pub stands : (s : State) → StandsBy s t old → StandsBy s t new
+
+-- wherever it was
+abbrev pub KeepsTies : Worker → Worker → ℕ → Type 0
+KeepsTies old new k = (t : Tie) → IsHeldAside old k t → KeepsTie old new t
+
+-- what is true by each view that it may be tied to, where the region tells
+abbrev pub ByEachView : State → Worker → ℕ → (View → Type 0) → Type 0
+ByEachView s w k says = (t : Tie) → IsHeldAside w k t → StandsBy s t w → IsTelling s → says t.view
 
 -- one of the eight places is free
 abbrev pub HasFree : List Place → Type 0
 HasFree ps = (s : ℕ) × (s < 8) × (place_at ps s ≡ Free)
+
+-- nothing but allocator and places differs
+abbrev pub OnlyStages : Worker → Worker → Type 0
+OnlyStages old new = new ≡ record old { allocator = new.allocator; places = new.places }
+
+-- nothing but allocator, places and answers differs
+abbrev pub OnlyBegins : Worker → Worker → Type 0
+OnlyBegins old new = new ≡ record old { allocator = new.allocator; places = new.places; answers = new.answers }
 
 -- nothing but queue, places, answers, allocator, index and the request in hand differs
 pub record SameCore (old new : Worker) : Type 0 where

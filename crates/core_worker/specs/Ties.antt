@@ -116,3 +116,15 @@ KeepsStanding seat v u w x = (s : State) → StandsAt s seat v w → StandsAt s 
 -- it leads nothing: all it has is the room for the next batch
 abbrev pub LeadsNothing : Worker → Type 0
 LeadsNothing w = (buffer : BatchBuffer) × (w.leading ≡ leads.Nothing buffer)
+
+-- where a worker may be tied: a place among groups, a member there, and that member's view
+pub record Tie : Type 0 where
+  pub place : Place
+  pub number : ℕ
+  pub view : View
+
+abbrev pub HoldsBy : Tie → Worker → Type 0
+HoldsBy t w = Holds t.place t.number t.view w
+
+abbrev pub StandsBy : State → Tie → Worker → Type 0
+StandsBy s t w = Stands s t.place t.number t.view w

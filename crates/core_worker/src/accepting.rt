@@ -4,20 +4,18 @@ ghost use Rattle.pm_region.specs.State.{State, IsTelling};
 ghost use Rattle.fs_model.specs.Cells.{key_of};
 ghost use Rattle.conflict_queue.specs.Waiting.{AddsLast, held_with};
 ghost use Rattle.core_index.specs.Index.{known_at, room_at};
-ghost use Rattle.group_laws.specs.Places.{owner};
 ghost use Rattle.batch_leader.specs.declared.buffer.BatchBuffer.{BatchBuffer};
 ghost use Rattle.core_worker.specs.declared.types.Leading.TheVariants as leads;
 ghost use Rattle.core_worker.specs.OwnPlaces.{is_busy};
+ghost use Rattle.core_worker.specs.Supplies.{HasKeptRoom};
 ghost use Rattle.core_worker.specs.Refusals.{HasAnswerRoom};
-ghost use Rattle.core_worker.specs.Beginning.{HasFree};
-ghost use Rattle.core_worker.specs.Accepting.{Prepared, Accepts, IsAsBefore};
-ghost use Rattle.core_worker.specs.Ties.{HoldsAt, LeadsNothing, StandsAt};
+ghost use Rattle.core_worker.specs.Accepting.{Prepared, HasTie, StaysTied, AcceptsByEachView, IsAsBefore};
+ghost use Rattle.core_worker.specs.Status.{has_room, is_leading};
 
 use crate::refusing::key_of;
 use crate::types::{NotAccepted, Place};
 use crate::worker::Worker;
 use fs_model::{Key, Request};
-use group_board::Board;
 use pm_region::Region;
 use std::alloc::Global;
 
@@ -58,29 +56,23 @@ impl Worker {
         self.index.admit(alloc, key).is_ok()
     }
 
-    // Accepts a request. One for a key with a change under way is held; any other is begun. Where there is no memory for
-    // it the request comes back, and nothing is answered, held or staged.
-    pub(crate) fn accept<R: Region, B: Board>(
+    /// Accepts a request. One for a key with a change under way is held; any other is begun. Where there is no memory for
+    /// it the request comes back, and nothing is answered, held or staged.
+    pub fn accept<R: Region>(
         &mut self,
         alloc: Global,
         region: &R,
-        board: &B,
         number: u64,
         request: Request,
     ) -> Result<(), NotAccepted>
-        requires holds { HoldsAt (B.seat board.now) (B.view board.now) self.old }
-        requires stands { StandsAt (R.state region.now) (B.seat board.now)
-            (B.view board.now) self.old }
-        requires nothing { LeadsNothing self.old }
-        requires own { owner (B.seat board.now).place (key_of request) ≡ (B.seat board.now).number }
+        requires tied { HasTie (R.state region.now) self.old (key_of request) }
+        requires room { has_room self.old ≡ true }
+        requires free { is_leading self.old.leading ≡ false }
         requires works { self.old.winds_down ≡ false }
-        requires place { HasFree self.old.places.items }
-        requires node { length self.old.queue < 64 }
-        ensures holds { HoldsAt (B.seat board.now) (B.view board.now) self.new }
-        ensures stands { StandsAt (R.state region.now) (B.seat board.now)
-            (B.view board.now) self.new }
-        ensures accepts { OnOk result (IsTelling (R.state region.now)
-            → Accepts (B.view board.now) self.old self.new number request) }
+        ensures ties { StaysTied (R.state region.now) self.old self.new (key_of request) }
+        ensures accepts { OnOk result
+            (AcceptsByEachView (R.state region.now) self.old self.new number request) }
+        ensures rule { HasKeptRoom self.old → HasKeptRoom self.new }
         ensures given_back { IfErr result (λ back. back.request ≡ request) }
         ensures unchanged { OnErr result (IsAsBefore self.old self.new) }
     {
@@ -96,6 +88,6 @@ impl Worker {
                 }),
             };
         }
-        self.begin(alloc, region, board, number, request)
+        self.begin(alloc, region, number, request)
     }
 }

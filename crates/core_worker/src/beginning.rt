@@ -6,16 +6,17 @@ ghost use Rattle.fs_model.specs.declared.model.Request.TheVariants as requests;
 ghost use Rattle.fs_model.specs.Cells.{key_of, answer_to};
 ghost use Rattle.log_entry.specs.Spelling.{HasSpelling};
 ghost use Rattle.core_index.specs.Index.{known_at, room_at};
-ghost use Rattle.core_index.specs.Records.{last_of};
-ghost use Rattle.group_laws.specs.Places.{owner};
+ghost use Rattle.core_index.specs.Records.{last_of, live_version};
 ghost use Rattle.batch_leader.specs.declared.buffer.BatchBuffer.{BatchBuffer};
 ghost use Rattle.core_worker.specs.declared.types.Place.TheVariants as kinds;
 ghost use Rattle.core_worker.specs.declared.types.Leading.TheVariants as leads;
 ghost use Rattle.core_worker.specs.OwnPlaces.{place_at, is_free, is_busy, IsLowest, Replaces};
-ghost use Rattle.core_worker.specs.Supplies.{supply_of, why, why_put};
+ghost use Rattle.core_worker.specs.Supplies.{supply_of, HasKeptRoom, why, why_put};
+ghost use Rattle.core_room.specs.RoomRule.{lacks_room};
+ghost use Rattle.core_room.specs.Lengths.{lines_needed};
 ghost use Rattle.core_worker.specs.Refusals.{HasAnswerRoom};
-ghost use Rattle.core_worker.specs.Beginning.{answer_with, HasFree, HoldsAsideAt, IsStaged, Begins};
-ghost use Rattle.core_worker.specs.Ties.{KeepsStanding, LeadsNothing, StandsAt};
+ghost use Rattle.core_worker.specs.Beginning.{answer_with, HasFree, IsAside, StandsAside, KeepsTies, ByEachView, OnlyStages, OnlyBegins, IsStaged, Begins};
+ghost use Rattle.core_worker.specs.Ties.{LeadsNothing};
 
 use crate::posting::place_in;
 use crate::refusing::{key_of, reply_for};
@@ -25,7 +26,6 @@ use core_index::Look;
 use core_room::{Shortage, byte_count};
 use fs_errors::Memory;
 use fs_model::{Key, Reply, Request, Value};
-use group_board::Board;
 use lazy_alloc::class_of;
 use log_entry::{Body, Entry};
 use pm_region::Region;
@@ -53,7 +53,8 @@ fn stage(places: &mut Vec<Place>, number: u64, entry: Entry, value: Value) -> u3
     requires some { HasFree places.old.items }
     ensures lowest { IsLowest is_free places.old.items result }
     ensures within { result < 8 }
-    ensures placed { Replaces places.old.items places.new.items result (kinds.Staged number entry value) }
+    ensures placed { Replaces places.old.items places.new.items result
+        (kinds.Staged number entry value) }
 {
     let slot = free_place(places);
     let staged = Place::Staged {
@@ -71,7 +72,8 @@ impl Worker {
     pub(crate) fn answer(&mut self, number: u64, reply: Reply, refusal: Option<Shortage>)
         requires room { HasAnswerRoom 1 self.old }
         ensures rest { self.new ≡ record self.old { answers = self.new.answers } }
-        ensures answers { self.new.answers.items ≡ self.old.answers.items ++ answer_with number reply refusal ∷ [] }
+        ensures answers { self.new.answers.items
+            ≡ self.old.answers.items ++ answer_with number reply refusal ∷ [] }
         ensures room { (n : ℕ) → HasAnswerRoom (n + 1) self.old → HasAnswerRoom n self.new }
     {
         let answer = Answer {
@@ -83,20 +85,16 @@ impl Worker {
     }
 
     // The answer to a get of a core that runs. A value in a block is read from the region.
-    fn found<R: Region, B: Board>(
+    fn found<R: Region>(
         &self,
         alloc: Global,
         region: &R,
-        board: &B,
         key: Key,
     ) -> Result<Reply, Memory>
-        requires holds { HoldsAsideAt (B.seat board.now) (B.view board.now) self.now }
-        requires stands { StandsAt (R.state region.now) (B.seat board.now)
-            (B.view board.now) self.now }
+        requires tied { StandsAside (R.state region.now) self.now key }
         requires runs { self.now.stopped ≡ false }
-        requires own { owner (B.seat board.now).place key ≡ (B.seat board.now).number }
-        ensures { IfOk result (λ reply. IsTelling (R.state region.now)
-            → reply ≡ answer_to (requests.Get key) ((B.view board.now).cell key)) }
+        ensures { IfOk result (λ reply. ByEachView (R.state region.now) self.now key
+            (λ v. reply ≡ answer_to (requests.Get key) (v.cell key))) }
     {
         match self.index.look(key) {
             Look::Unknown => Ok(Reply::Absent),
@@ -110,28 +108,26 @@ impl Worker {
     }
 
     // Stages a put of a value that stands beside its key.
-    fn stage_beside<B: Board>(
+    fn stage_beside(
         &mut self,
         alloc: Global,
-        board: &B,
         number: u64,
         key: Key,
         value: Value,
     )
-        requires holds { HoldsAsideAt (B.seat board.now) (B.view board.now) self.old }
+        requires held { IsAside self.old key }
         requires runs { self.old.stopped ≡ false }
         requires nothing { LeadsNothing self.old }
-        requires own { owner (B.seat board.now).place key ≡ (B.seat board.now).number }
         requires idle { is_busy self.old.places.items key ≡ false }
         requires room { 0 < room_at self.old.index key }
         requires place { HasFree self.old.places.items }
         requires short { length value < 256 }
         requires unspent { last_of (known_at self.old.index key) < 1048574 }
-        ensures holds { HoldsAsideAt (B.seat board.now) (B.view board.now) self.new }
-        ensures stands { KeepsStanding (B.seat board.now) (B.view board.now)
-            (B.view board.now) self.old self.new }
+        requires fits { lacks_room (supply_of self.old) (lines_needed (length value)) ≡ false }
+        ensures keeps { KeepsTies self.old self.new key }
         ensures staged { IsStaged self.old self.new number (requests.Put key value) }
-        ensures rest { self.new ≡ record self.old { allocator = self.new.allocator; places = self.new.places } }
+        ensures rule { HasKeptRoom self.new }
+        ensures rest { OnlyStages self.old self.new }
     {
         let _count = byte_count(value.bytes());
         let version = self.index.next_version(key, false).unwrap();
@@ -144,22 +140,20 @@ impl Worker {
     }
 
     // Stages a put of a value that gets a block.
-    fn stage_block<B: Board>(&mut self, board: &B, number: u64, key: Key, value: Value)
-        requires holds { HoldsAsideAt (B.seat board.now) (B.view board.now) self.old }
+    fn stage_block(&mut self, number: u64, key: Key, value: Value)
+        requires held { IsAside self.old key }
         requires runs { self.old.stopped ≡ false }
         requires nothing { LeadsNothing self.old }
-        requires own { owner (B.seat board.now).place key ≡ (B.seat board.now).number }
         requires idle { is_busy self.old.places.items key ≡ false }
         requires room { 0 < room_at self.old.index key }
         requires place { HasFree self.old.places.items }
         requires long { 256 ≤ length value }
         requires unrefused { why_put self.old.layout (supply_of self.old) self.old.allocator
             (last_of (known_at self.old.index key)) (length value) ≡ None }
-        ensures holds { HoldsAsideAt (B.seat board.now) (B.view board.now) self.new }
-        ensures stands { KeepsStanding (B.seat board.now) (B.view board.now)
-            (B.view board.now) self.old self.new }
+        ensures keeps { KeepsTies self.old self.new key }
         ensures staged { IsStaged self.old self.new number (requests.Put key value) }
-        ensures rest { self.new ≡ record self.old { allocator = self.new.allocator; places = self.new.places } }
+        ensures rule { HasKeptRoom self.new }
+        ensures rest { OnlyStages self.old self.new }
     {
         let class = class_of(byte_count(value.bytes()));
         let may_cut = self.may_cut(1);
@@ -174,20 +168,19 @@ impl Worker {
     }
 
     // Stages a delete of a key that has a value.
-    fn stage_delete<B: Board>(&mut self, alloc: Global, board: &B, number: u64, key: Key)
-        requires holds { HoldsAsideAt (B.seat board.now) (B.view board.now) self.old }
+    fn stage_delete(&mut self, alloc: Global, number: u64, key: Key)
+        requires held { IsAside self.old key }
         requires runs { self.old.stopped ≡ false }
         requires nothing { LeadsNothing self.old }
-        requires own { owner (B.seat board.now).place key ≡ (B.seat board.now).number }
         requires idle { is_busy self.old.places.items key ≡ false }
         requires room { 0 < room_at self.old.index key }
         requires place { HasFree self.old.places.items }
-        requires live { (B.view board.now).cell key ≢ None }
-        ensures holds { HoldsAsideAt (B.seat board.now) (B.view board.now) self.new }
-        ensures stands { KeepsStanding (B.seat board.now) (B.view board.now)
-            (B.view board.now) self.old self.new }
+        requires live { is_some (live_version (known_at self.old.index key)) ≡ true }
+        requires fits { lacks_room (supply_of self.old) 1 ≡ false }
+        ensures keeps { KeepsTies self.old self.new key }
         ensures staged { IsStaged self.old self.new number (requests.Delete key) }
-        ensures rest { self.new ≡ record self.old { allocator = self.new.allocator; places = self.new.places } }
+        ensures rule { HasKeptRoom self.new }
+        ensures rest { OnlyStages self.old self.new }
     {
         let version = self.index.next_version(key, true).unwrap();
         let entry = Entry {
@@ -201,61 +194,54 @@ impl Worker {
 
 impl Worker {
     // Stages a put that is not refused.
-    fn stage_put<B: Board>(&mut self, alloc: Global, board: &B, number: u64, key: Key, value: Value)
-        requires holds { HoldsAsideAt (B.seat board.now) (B.view board.now) self.old }
+    fn stage_put(&mut self, alloc: Global, number: u64, key: Key, value: Value)
+        requires held { IsAside self.old key }
         requires runs { self.old.stopped ≡ false }
         requires nothing { LeadsNothing self.old }
-        requires own { owner (B.seat board.now).place key ≡ (B.seat board.now).number }
         requires idle { is_busy self.old.places.items key ≡ false }
         requires room { 0 < room_at self.old.index key }
         requires place { HasFree self.old.places.items }
         requires unrefused { why_put self.old.layout (supply_of self.old) self.old.allocator
             (last_of (known_at self.old.index key)) (length value) ≡ None }
-        ensures holds { HoldsAsideAt (B.seat board.now) (B.view board.now) self.new }
-        ensures stands { KeepsStanding (B.seat board.now) (B.view board.now)
-            (B.view board.now) self.old self.new }
+        ensures keeps { KeepsTies self.old self.new key }
         ensures staged { IsStaged self.old self.new number (requests.Put key value) }
-        ensures rest { self.new ≡ record self.old { allocator = self.new.allocator; places = self.new.places } }
+        ensures rule { HasKeptRoom self.new }
+        ensures rest { OnlyStages self.old self.new }
     {
         if byte_count(value.bytes()) < 256 {
-            self.stage_beside(alloc, board, number, key, value);
+            self.stage_beside(alloc, number, key, value);
         } else {
-            self.stage_block(board, number, key, value);
+            self.stage_block(number, key, value);
         }
     }
 
     // Answers or stages a request of a core that runs, which is not refused. `live` tells whether its key has a value.
-    fn begin_unrefused<R: Region, B: Board>(
+    fn begin_unrefused<R: Region>(
         &mut self,
         alloc: Global,
         region: &R,
-        board: &B,
         number: u64,
         request: Request,
         live: bool,
     ) -> Result<(), NotAccepted>
-        requires holds { HoldsAsideAt (B.seat board.now) (B.view board.now) self.old }
-        requires stands { StandsAt (R.state region.now) (B.seat board.now)
-            (B.view board.now) self.old }
+        requires tied { StandsAside (R.state region.now) self.old (key_of request) }
         requires runs { self.old.stopped ≡ false }
         requires nothing { LeadsNothing self.old }
-        requires own { owner (B.seat board.now).place (key_of request) ≡ (B.seat board.now).number }
         requires idle { is_busy self.old.places.items (key_of request) ≡ false }
         requires room { 0 < room_at self.old.index (key_of request) }
         requires place { HasFree self.old.places.items }
         requires answers { HasAnswerRoom 1 self.old }
-        requires why { why self.old.layout (supply_of self.old) self.old.allocator (last_of
-            (known_at self.old.index (key_of request))) ((B.view board.now).cell
-            (key_of request)) request ≡ None }
-        requires live { is_some ((B.view board.now).cell (key_of request)) ≡ live }
-        ensures holds { OnOk result (HoldsAsideAt (B.seat board.now) (B.view board.now) self.new) }
-        ensures stands { OnOk result (StandsAt (R.state region.now) (B.seat board.now)
-            (B.view board.now) self.new) }
-        ensures begins { OnOk result (IsTelling (R.state region.now)
-            → Begins self.old self.new ((B.view board.now).cell (key_of request)) number request) }
+        requires why { (cell : Option (List ℕ)) → is_some cell ≡ live
+            → why self.old.layout (supply_of self.old) self.old.allocator
+            (last_of (known_at self.old.index (key_of request))) cell request ≡ None }
+        requires live { is_some (live_version (known_at self.old.index (key_of request))) ≡ live }
+        ensures keeps { OnOk result (KeepsTies self.old self.new (key_of request)) }
+        ensures begins { OnOk result (ByEachView (R.state region.now) self.old (key_of request)
+            (λ v. Begins self.old self.new (v.cell (key_of request)) number request)) }
         ensures room { OnOk result ((n : ℕ) → HasAnswerRoom (n + 1) self.old
             → HasAnswerRoom n self.new) }
-        ensures rest { self.new ≡ record self.old { allocator = self.new.allocator; places = self.new.places; answers = self.new.answers } }
+        ensures rule { HasKeptRoom self.old → HasKeptRoom self.new }
+        ensures rest { OnlyBegins self.old self.new }
         ensures places { OnOk result ((self.new.places ≡ self.old.places)
             ⊎ (is_busy self.new.places.items (key_of request) ≡ true)) }
         ensures busy { OnOk result ((k : ℕ) → is_busy self.old.places.items k ≡ true
@@ -264,7 +250,7 @@ impl Worker {
         ensures unchanged { OnErr result (self.new ≡ self.old) }
     {
         match request {
-            Request::Get { key } => match self.found(alloc, region, board, key) {
+            Request::Get { key } => match self.found(alloc, region, key) {
                 Ok(reply) => {
                     self.answer(number, reply, None);
                     return Ok(());
@@ -276,12 +262,12 @@ impl Worker {
                 }
             },
             Request::Put { key, value } => {
-                self.stage_put(alloc, board, number, key, value);
+                self.stage_put(alloc, number, key, value);
                 return Ok(());
             }
             Request::Delete { key } => {
                 if live {
-                    self.stage_delete(alloc, board, number, key);
+                    self.stage_delete(alloc, number, key);
                     return Ok(());
                 }
                 self.answer(number, Reply::Absent, None);
@@ -291,32 +277,27 @@ impl Worker {
     }
 
     // Begins a request of a core that runs.
-    fn begin_running<R: Region, B: Board>(
+    fn begin_running<R: Region>(
         &mut self,
         alloc: Global,
         region: &R,
-        board: &B,
         number: u64,
         request: Request,
     ) -> Result<(), NotAccepted>
-        requires holds { HoldsAsideAt (B.seat board.now) (B.view board.now) self.old }
-        requires stands { StandsAt (R.state region.now) (B.seat board.now)
-            (B.view board.now) self.old }
+        requires tied { StandsAside (R.state region.now) self.old (key_of request) }
         requires runs { self.old.stopped ≡ false }
         requires nothing { LeadsNothing self.old }
-        requires own { owner (B.seat board.now).place (key_of request) ≡ (B.seat board.now).number }
         requires idle { is_busy self.old.places.items (key_of request) ≡ false }
         requires room { 0 < room_at self.old.index (key_of request) }
         requires place { HasFree self.old.places.items }
         requires answers { HasAnswerRoom 1 self.old }
-        ensures holds { OnOk result (HoldsAsideAt (B.seat board.now) (B.view board.now) self.new) }
-        ensures stands { OnOk result (StandsAt (R.state region.now) (B.seat board.now)
-            (B.view board.now) self.new) }
-        ensures begins { OnOk result (IsTelling (R.state region.now)
-            → Begins self.old self.new ((B.view board.now).cell (key_of request)) number request) }
+        ensures keeps { OnOk result (KeepsTies self.old self.new (key_of request)) }
+        ensures begins { OnOk result (ByEachView (R.state region.now) self.old (key_of request)
+            (λ v. Begins self.old self.new (v.cell (key_of request)) number request)) }
         ensures room { OnOk result ((n : ℕ) → HasAnswerRoom (n + 1) self.old
             → HasAnswerRoom n self.new) }
-        ensures rest { self.new ≡ record self.old { allocator = self.new.allocator; places = self.new.places; answers = self.new.answers } }
+        ensures rule { HasKeptRoom self.old → HasKeptRoom self.new }
+        ensures rest { OnlyBegins self.old self.new }
         ensures places { OnOk result ((self.new.places ≡ self.old.places)
             ⊎ (is_busy self.new.places.items (key_of request) ≡ true)) }
         ensures busy { OnOk result ((k : ℕ) → is_busy self.old.places.items k ≡ true
@@ -331,38 +312,33 @@ impl Worker {
                 return Ok(());
             }
             None => {
-                return self.begin_unrefused(alloc, region, board, number, request, live);
+                return self.begin_unrefused(alloc, region, number, request, live);
             }
         }
     }
 
     // Begins a request whose key has no change under way. Where there is no memory for the answer to a get, the request
     // comes back and nothing changed.
-    pub(crate) fn begin<R: Region, B: Board>(
+    pub(crate) fn begin<R: Region>(
         &mut self,
         alloc: Global,
         region: &R,
-        board: &B,
         number: u64,
         request: Request,
     ) -> Result<(), NotAccepted>
-        requires holds { HoldsAsideAt (B.seat board.now) (B.view board.now) self.old }
-        requires stands { StandsAt (R.state region.now) (B.seat board.now)
-            (B.view board.now) self.old }
+        requires tied { StandsAside (R.state region.now) self.old (key_of request) }
         requires nothing { LeadsNothing self.old }
-        requires own { owner (B.seat board.now).place (key_of request) ≡ (B.seat board.now).number }
         requires idle { is_busy self.old.places.items (key_of request) ≡ false }
         requires room { 0 < room_at self.old.index (key_of request) }
         requires place { HasFree self.old.places.items }
         requires answers { HasAnswerRoom 1 self.old }
-        ensures holds { OnOk result (HoldsAsideAt (B.seat board.now) (B.view board.now) self.new) }
-        ensures stands { OnOk result (StandsAt (R.state region.now) (B.seat board.now)
-            (B.view board.now) self.new) }
-        ensures begins { OnOk result (IsTelling (R.state region.now)
-            → Begins self.old self.new ((B.view board.now).cell (key_of request)) number request) }
+        ensures keeps { OnOk result (KeepsTies self.old self.new (key_of request)) }
+        ensures begins { OnOk result (ByEachView (R.state region.now) self.old (key_of request)
+            (λ v. Begins self.old self.new (v.cell (key_of request)) number request)) }
         ensures room { OnOk result ((n : ℕ) → HasAnswerRoom (n + 1) self.old
             → HasAnswerRoom n self.new) }
-        ensures rest { self.new ≡ record self.old { allocator = self.new.allocator; places = self.new.places; answers = self.new.answers } }
+        ensures rule { HasKeptRoom self.old → HasKeptRoom self.new }
+        ensures rest { OnlyBegins self.old self.new }
         ensures places { OnOk result ((self.new.places ≡ self.old.places)
             ⊎ (is_busy self.new.places.items (key_of request) ≡ true)) }
         ensures busy { OnOk result ((k : ℕ) → is_busy self.old.places.items k ≡ true
@@ -374,6 +350,6 @@ impl Worker {
             self.answer(number, Reply::Stopped, None);
             return Ok(());
         }
-        self.begin_running(alloc, region, board, number, request)
+        self.begin_running(alloc, region, number, request)
     }
 }

@@ -19,7 +19,7 @@ ghost use Rattle.core_worker.specs.Turns.{TriesLock, GoesRound, Marks, Fails, pe
 ghost use Rattle.lazy_alloc.specs.Sets.{AreSets};
 ghost use Rattle.licence.specs.Licence.{Licensed, part_at, part_end};
 ghost use Rattle.batch_leader.specs.declared.states.Batch.{Batch};
-ghost use Rattle.core_worker.specs.Supplies.{room_for};
+ghost use Rattle.core_worker.specs.Supplies.{room_for, HasKeptRoom};
 
 use crate::types::Leading;
 use crate::worker::Worker;
@@ -80,6 +80,7 @@ impl Worker {
         ensures holds { HoldsAt (B.seat board.old) (B.view board.new) self.new }
         ensures stands { KeepsStanding (B.seat board.old) (B.view board.old)
             (B.view board.new) self.old self.new }
+        ensures rule { HasKeptRoom self.old → HasKeptRoom self.new }
         ensures tried { TriesLock result (B.seat board.old).number (B.view board.old)
             (B.view board.new) self.old self.new }
         ensures whole { Makes (B.whole board.old) (B.seat board.old).number runs.Kind.Lock
@@ -110,6 +111,7 @@ impl Worker {
             (B.view board.new) self.old self.new }
         ensures made { Steps (B.whole board.old) (B.whole board.new) (B.seat board.old).number
             (B.view board.new) }
+        ensures rule { HasKeptRoom self.old → HasKeptRoom self.new }
         ensures marks { Marks (record { worker = self.old; view = B.view board.old })
             (record { worker = self.new; view = B.view board.new }) }
     {
@@ -132,6 +134,7 @@ impl Worker {
             (B.view board.new) self.old self.new }
         ensures made { Steps (B.whole board.old) (B.whole board.new) (B.seat board.old).number
             (B.view board.new) }
+        ensures rule { HasKeptRoom self.old → HasKeptRoom self.new }
         ensures fails { Fails (record { worker = self.old; view = B.view board.old })
             (record { worker = self.new; view = B.view board.new }) }
     {
@@ -156,6 +159,7 @@ impl Worker {
             (B.view board.new) self.old self.new }
         ensures made { Steps (B.whole board.old) (B.whole board.new) (B.seat board.old).number
             (B.view board.new) }
+        ensures rule { HasKeptRoom self.old → HasKeptRoom self.new }
         ensures went { GoesRound (B.whole board.old) (B.seat board.old)
             (record { worker = self.old; view = B.view board.old })
             (record { worker = self.new; view = B.view board.new }) }

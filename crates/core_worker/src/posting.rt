@@ -5,7 +5,7 @@ ghost use Rattle.pm_region.specs.Words.{KeepsOutside, EachIn};
 ghost use Rattle.log_entry.specs.declared.entry.Entry.{Entry};
 ghost use Rattle.log_entry.specs.declared.entry.Body.TheVariants as bodies;
 ghost use Rattle.chunk_map.specs.Layouts.{has_class};
-ghost use Rattle.lazy_alloc.specs.Sets.{AreSets, class_at, block_is_used};
+ghost use Rattle.lazy_alloc.specs.Sets.{AreSets, free_chunk_count, class_at, block_is_used};
 ghost use Rattle.lazy_alloc.specs.Written.{PartLies, HasHead, WroteValue, KeepsOthers, HeadTurnsTo, head_of};
 ghost use Rattle.group_laws.specs.Places.{IsPlace, core_of};
 ghost use Rattle.licence.specs.Licence.{Licensed, part_at, part_end};
@@ -16,6 +16,7 @@ ghost use Rattle.batch_leader.specs.declared.buffer.BatchBuffer.{BatchBuffer};
 ghost use Rattle.core_worker.specs.declared.types.Leading.TheVariants as leads;
 ghost use Rattle.core_worker.specs.declared.types.Place.TheVariants as kinds;
 ghost use Rattle.core_worker.specs.OwnPlaces.{place_at, Replaces};
+ghost use Rattle.core_worker.specs.Supplies.{HasKeptRoom};
 ghost use Rattle.batch_leader.specs.Persisting.{StaysLicensed, WritesPart};
 ghost use Rattle.core_worker.specs.Ties.{HoldsAt, KeepsStanding, LeadsNothing, Stands, StandsAt};
 ghost use Rattle.core_worker.specs.Posting.{HasNoBlock, PostsPlain, IsStagedWith, WouldStand, PostsOrStops};
@@ -41,19 +42,34 @@ fn write_for<R: Region, B: Board>(
     requires place { IsPlace (B.seat board.now).place }
     requires sets { AreSets allocator.old }
     requires layout { allocator.old.layout ≡ (B.seat board.now).place.layout }
-    requires part { allocator.old.part ≡ core_of (B.seat board.now).place (B.seat board.now).number }
+    requires part { allocator.old.part
+        ≡ core_of (B.seat board.now).place (B.seat board.now).number }
     requires used { block_is_used allocator.old pointer ≡ true }
-    requires class { (class : ℕ) × (class_at allocator.old pointer ≡ Some class) × (has_class (length value.now) class ≡ true) × HasHead (R.state region.old) allocator.old pointer class }
+    requires class { (class : ℕ) × (class_at allocator.old pointer ≡ Some class)
+        × (has_class (length value.now) class ≡ true)
+        × HasHead (R.state region.old) allocator.old pointer class }
     requires lies { PartLies (R.state region.old).frame allocator.old }
     requires unused { (B.view board.now).blocks pointer ≡ None }
-    requires licensed { IsTelling (R.state region.old) → Licensed (B.seat board.now).place (B.seat board.now).number (B.view board.now) (cell_now (R.state region.old)) }
-    ensures moments { StaysLicensed (R.state region.old) (R.state region.new) (B.seat board.now) (B.view board.now) }
+    requires licensed { IsTelling (R.state region.old)
+        → Licensed (B.seat board.now).place (B.seat board.now).number (B.view board.now)
+        (cell_now (R.state region.old)) }
+    ensures moments { StaysLicensed (R.state region.old) (R.state region.new)
+        (B.seat board.now) (B.view board.now) }
     ensures outside { WritesPart (R.state region.old) (R.state region.new) (B.seat board.now) }
-    ensures others { (class : ℕ) → class_at allocator.old pointer ≡ Some class → During (R.state region.old) (R.state region.new) (KeepsOthers allocator.old pointer class (cell_now (R.state region.old))) }
-    ensures head { (class : ℕ) → class_at allocator.old pointer ≡ Some class → During (R.state region.old) (R.state region.new) (EachIn (head_of allocator.old pointer) (head_of allocator.old pointer + 2) (HeadTurnsTo allocator.old pointer class)) }
-    ensures exit { OnOk result ((slot : ℕ) (e : Entry) → e.body ≡ bodies.Pointer pointer → IsTelling (R.state region.new) → Licensed (B.seat board.now).place (B.seat board.now).number (after_post slot e value.now (B.view board.now)) (cell_now (R.state region.new))) }
+    ensures others { (class : ℕ) → class_at allocator.old pointer ≡ Some class
+        → During (R.state region.old) (R.state region.new)
+        (KeepsOthers allocator.old pointer class (cell_now (R.state region.old))) }
+    ensures head { (class : ℕ) → class_at allocator.old pointer ≡ Some class
+        → During (R.state region.old) (R.state region.new)
+        (EachIn (head_of allocator.old pointer) (head_of allocator.old pointer + 2)
+        (HeadTurnsTo allocator.old pointer class)) }
+    ensures exit { OnOk result ((slot : ℕ) (e : Entry) → e.body ≡ bodies.Pointer pointer
+        → IsTelling (R.state region.new)
+        → Licensed (B.seat board.now).place (B.seat board.now).number
+        (after_post slot e value.now (B.view board.now)) (cell_now (R.state region.new))) }
     ensures sets { AreSets allocator.new }
-    ensures ok { OnOk result ((class : ℕ) → class_at allocator.old pointer ≡ Some class → WroteValue (R.state region.new) allocator.old allocator.new pointer class value.now) }
+    ensures ok { OnOk result ((class : ℕ) → class_at allocator.old pointer ≡ Some class
+        → WroteValue (R.state region.new) allocator.old allocator.new pointer class value.now) }
     ensures err { OnErr result (allocator.new ≡ allocator.old) }
     ensures cause { OnErr result (Rose (R.state region.old).faults (R.state region.new).faults) }
 {
@@ -102,7 +118,10 @@ impl Worker {
             (place_at self.old.places.items slot) }
         ensures stands { result ≡ false → StandsAt (R.state region.new) (B.seat board.now)
             (B.view board.now) self.new }
-        ensures rest { self.new ≡ record self.old { allocator = self.new.allocator; stopped = not result } }
+        ensures rest { self.new
+            ≡ record self.old { allocator = self.new.allocator; stopped = not result } }
+        ensures chunks { free_chunk_count self.new.allocator
+            ≡ free_chunk_count self.old.allocator }
         ensures cause { result ≡ false → Rose (R.state region.old).faults
             (R.state region.new).faults }
     {
@@ -131,6 +150,7 @@ impl Worker {
         ensures holds { HoldsAt (B.seat board.old) (B.view board.new) self.new }
         ensures stands { KeepsStanding (B.seat board.old) (B.view board.old)
             (B.view board.new) self.old self.new }
+        ensures rule { HasKeptRoom self.old → HasKeptRoom self.new }
         ensures posts { PostsPlain (B.seat board.old).number (B.whole board.old)
             (B.whole board.new) (B.view board.old) (B.view board.new) self.old self.new slot }
     {
@@ -165,6 +185,7 @@ impl Worker {
             (place_at self.old.places.items slot)
             → Stands s (B.seat board.old).place (B.seat board.old).number
             (B.view board.new) self.new }
+        ensures rule { HasKeptRoom self.old → HasKeptRoom self.new }
         ensures posts { PostsPlain (B.seat board.old).number (B.whole board.old)
             (B.whole board.new) (B.view board.old) (B.view board.new) self.old self.new slot }
     {
@@ -208,6 +229,7 @@ impl Worker {
         ensures holds { HoldsAt (B.seat board.old) (B.view board.new) self.new }
         ensures stands { StandsAt (R.state region.new) (B.seat board.old)
             (B.view board.new) self.new }
+        ensures rule { HasKeptRoom self.old → HasKeptRoom self.new }
         ensures posts { PostsOrStops (B.seat board.old).number (B.whole board.old)
             (B.whole board.new) (B.view board.old) (B.view board.new) self.old self.new slot }
         ensures cause { self.new.stopped ≡ true

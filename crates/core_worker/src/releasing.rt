@@ -3,48 +3,41 @@ ghost use Rattle.std.specs.Prelude.{◌≡◌, ◌≢◌, ◌⊎◌, ℕ, ◌+�
 ghost use Rattle.pm_region.specs.State.{State, IsTelling};
 ghost use Rattle.conflict_queue.specs.Waiting.{waiting};
 ghost use Rattle.core_index.specs.Index.{room_at};
-ghost use Rattle.group_laws.specs.Places.{owner};
 ghost use Rattle.batch_leader.specs.declared.buffer.BatchBuffer.{BatchBuffer};
 ghost use Rattle.core_worker.specs.declared.types.Leading.TheVariants as leads;
 ghost use Rattle.core_worker.specs.OwnPlaces.{is_busy};
+ghost use Rattle.core_worker.specs.Supplies.{HasKeptRoom};
 ghost use Rattle.core_worker.specs.Refusals.{HasAnswerRoom};
-ghost use Rattle.core_worker.specs.Beginning.{HasFree, HoldsAsideAt, BeginsAll};
-ghost use Rattle.core_worker.specs.Ties.{LeadsNothing, StandsAt};
+ghost use Rattle.core_worker.specs.Beginning.{HasFree, StandsAside, KeepsTies, ByEachView, BeginsAll};
+ghost use Rattle.core_worker.specs.Ties.{LeadsNothing};
 
 use crate::accepting::is_busy;
 use crate::worker::Worker;
 use conflict_queue::Held;
 use fs_errors::Memory;
 use fs_model::Key;
-use group_board::Board;
 use pm_region::Region;
 use std::alloc::Global;
 
 impl Worker {
     // Begins the waiting requests of a key in order, until one is staged or none waits. Where there is no memory for the
     // answer to a get, that request is in hand, and the core winds down.
-    pub(crate) fn begin_waiting<R: Region, B: Board>(
+    pub(crate) fn begin_waiting<R: Region>(
         &mut self,
         alloc: Global,
         region: &R,
-        board: &B,
         key: Key,
     ) -> Result<(), Memory>
-        requires holds { HoldsAsideAt (B.seat board.now) (B.view board.now) self.old }
-        requires stands { StandsAt (R.state region.now) (B.seat board.now)
-            (B.view board.now) self.old }
+        requires tied { StandsAside (R.state region.now) self.old key }
         requires nothing { LeadsNothing self.old }
-        requires own { owner (B.seat board.now).place key ≡ (B.seat board.now).number }
         requires idle { is_busy self.old.places.items key ≡ false }
         requires room { length (waiting self.old.queue key) ≤ room_at self.old.index key }
         requires place { HasFree self.old.places.items }
         requires answers { HasAnswerRoom (length (waiting self.old.queue key)) self.old }
-        ensures holds { HoldsAsideAt (B.seat board.now) (B.view board.now) self.new }
-        ensures stands { StandsAt (R.state region.now) (B.seat board.now)
-            (B.view board.now) self.new }
-        ensures begins { OnOk result (IsTelling (R.state region.now)
-            → BeginsAll (waiting self.old.queue key) self.old self.new
-            ((B.view board.now).cell key) key) }
+        ensures keeps { KeepsTies self.old self.new key }
+        ensures begins { OnOk result (ByEachView (R.state region.now) self.old key
+            (λ v. BeginsAll (waiting self.old.queue key) self.old self.new (v.cell key) key)) }
+        ensures rule { HasKeptRoom self.old → HasKeptRoom self.new }
         ensures memory { OnErr result (self.new.winds_down ≡ true) }
     {
         match self.queue.release(key) {
@@ -53,7 +46,7 @@ impl Worker {
             }
             Some(held) => {
                 let Held { number, request } = held;
-                match self.begin(alloc, region, board, number, request) {
+                match self.begin(alloc, region, number, request) {
                     Err(back) => {
                         self.in_hand = Some(Held {
                             number,
@@ -66,7 +59,7 @@ impl Worker {
                         if is_busy(&self.places, key) {
                             return Ok(());
                         }
-                        return self.begin_waiting(alloc, region, board, key);
+                        return self.begin_waiting(alloc, region, key);
                     }
                 }
             }

@@ -89,7 +89,8 @@ impl Worker {
             ((answers_of self.old ≡ []) × (answers_of self.new ≡ []))
             (λ a. answers_of self.old ≡ a ∷ answers_of self.new) }
         ensures rest { self.new ≡ record self.old { answers = self.new.answers } }
-        ensures holds { (p : PlaceOf) (m : ℕ) (v : View) → Holds p m v self.old → Holds p m v self.new }
+        ensures holds { (p : PlaceOf) (m : ℕ) (v : View)
+            → Holds p m v self.old → Holds p m v self.new }
         ensures stands { (s : State) (p : PlaceOf) (m : ℕ) (v : View)
             → Stands s p m v self.old → Stands s p m v self.new }
     {
@@ -99,7 +100,8 @@ impl Worker {
     /// Lets it finish what is posted or taken, and begin, post and accept nothing more. It needs no memory for this.
     pub fn wind_down(&mut self)
         ensures winds { self.new ≡ record self.old { winds_down = true } }
-        ensures holds { (p : PlaceOf) (m : ℕ) (v : View) → Holds p m v self.old → Holds p m v self.new }
+        ensures holds { (p : PlaceOf) (m : ℕ) (v : View)
+            → Holds p m v self.old → Holds p m v self.new }
         ensures stands { (s : State) (p : PlaceOf) (m : ℕ) (v : View)
             → Stands s p m v self.old → Stands s p m v self.new }
     {

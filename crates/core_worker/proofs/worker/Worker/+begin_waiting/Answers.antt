@@ -7,35 +7,19 @@ use Rattle.core_worker.specs.Refusals.{HasAnswerRoom}
 use Rattle.conflict_queue.specs.declared.types.Held.{Held}
 use Rattle.conflict_queue.specs.Waiting.{waiting}
 use Rattle.core_index.specs.Index.{room_at}
-use Rattle.group_laws.specs.Places.{owner}
 use Rattle.core_worker.specs.declared.worker.Worker.{Worker}
 use Rattle.core_worker.specs.OwnPlaces.{is_busy}
-use Rattle.core_worker.specs.Beginning.{HasFree, HoldsAside, Begins, BeginsAll}
-use Rattle.core_worker.specs.Ties.{Stands}
-use Rattle.core_worker.proofs.Waiters.{first_key, aside_other, stands_other}
+use Rattle.core_worker.specs.Beginning.{HasFree, HoldsAside, StandsAside, Begins, BeginsAll}
+use Rattle.core_worker.specs.Ties.{Stands, LeadsNothing}
+use Rattle.core_worker.proofs.Waiters.{first_key, aside_other, stands_other, taken_aside, taken_stands}
 use Rattle.core_worker.proofs.worker.Worker.+begin_waiting.Goals as goal
 
 map_ok : {X Y : Type 0} (r : Result X Y) (P Q : Type 0) → (P → Q) → OnOk r P → OnOk r Q
 map_ok (Ok x) P Q f h = f h
 map_ok (Err y) P Q f h = h
 
-pub begin-requires-clause-own : goal.begin-requires-clause-own
-begin-requires-clause-own g t c =
-    let p = (g.B.Board.seat c.args.board.now).place in
-    let m = (g.B.Board.seat c.args.board.now).number in
-    let v = g.B.Board.view c.args.board.now in
-    let w = c.args.self.now in
-    let q = c.release.new.self in
-    let h = c.in-Some.held in
-    let T = c.in-Some.ensures.taken in
-    let fk = first_key w.queue q c.args.key h T in
-    ap (owner p) fk ∙ c.requires.own
-
 pub begin-requires-clause-idle : goal.begin-requires-clause-idle
 begin-requires-clause-idle g t c =
-    let p = (g.B.Board.seat c.args.board.now).place in
-    let m = (g.B.Board.seat c.args.board.now).number in
-    let v = g.B.Board.view c.args.board.now in
     let w = c.args.self.now in
     let q = c.release.new.self in
     let h = c.in-Some.held in
@@ -45,9 +29,6 @@ begin-requires-clause-idle g t c =
 
 pub begin-requires-clause-room : goal.begin-requires-clause-room
 begin-requires-clause-room g t c =
-    let p = (g.B.Board.seat c.args.board.now).place in
-    let m = (g.B.Board.seat c.args.board.now).number in
-    let v = g.B.Board.view c.args.board.now in
     let w = c.args.self.now in
     let q = c.release.new.self in
     let h = c.in-Some.held in
@@ -57,36 +38,22 @@ begin-requires-clause-room g t c =
     let room = c.requires.room in
     subst (λ (k : ℕ). 0 < room_at w.index k) (sym fk) (omega (arith, one, room))
 
-pub returns-in-Err-clause-holds : goal.returns-in-Err-clause-holds
-returns-in-Err-clause-holds g t c =
-    let p = (g.B.Board.seat c.args.board.now).place in
-    let m = (g.B.Board.seat c.args.board.now).number in
-    let v = g.B.Board.view c.args.board.now in
+pub returns-in-Err-clause-keeps : goal.returns-in-Err-clause-keeps
+returns-in-Err-clause-keeps g t c x a =
+    let p = x.place in
+    let m = x.number in
+    let v = x.view in
     let w = c.args.self.now in
     let q = c.release.new.self in
-    let h = c.in-Some.held in
-    let T = c.in-Some.ensures.taken in
-    let fk = first_key w.queue q c.args.key h T in
-    aside_other p m v c.begin.new.self c.begin.new.self.queue _ true (subst (λ (x : Worker). HoldsAside p m v x) (sym c.in-Err.ensures.unchanged) (aside_other p m v w q w.in_hand w.winds_down c.requires.holds))
-
-pub returns-in-Err-clause-stands : goal.returns-in-Err-clause-stands
-returns-in-Err-clause-stands g t c =
-    let p = (g.B.Board.seat c.args.board.now).place in
-    let m = (g.B.Board.seat c.args.board.now).number in
-    let v = g.B.Board.view c.args.board.now in
-    let w = c.args.self.now in
-    let q = c.release.new.self in
-    let h = c.in-Some.held in
-    let T = c.in-Some.ensures.taken in
-    let fk = first_key w.queue q c.args.key h T in
-    let s = g.R.Region.state c.args.region.now in
-    stands_other s p m v c.begin.new.self c.begin.new.self.queue _ true (subst (λ (x : Worker). Stands s p m v x) (sym c.in-Err.ensures.unchanged) (stands_other s p m v w q w.in_hand w.winds_down c.requires.stands))
+    let same = sym c.in-Err.ensures.unchanged in
+    record {
+      holds = aside_other p m v c.begin.new.self c.begin.new.self.queue _ true (subst (λ (y : Worker). HoldsAside p m v y) same (aside_other p m v w q w.in_hand w.winds_down a.holds));
+      stands = λ s S. stands_other s p m v c.begin.new.self c.begin.new.self.queue _ true (subst (λ (y : Worker). Stands s p m v y) same (stands_other s p m v w q w.in_hand w.winds_down S));
+    }
 
 pub returns-then-is_busy-clause-begins : goal.returns-then-is_busy-clause-begins
-returns-then-is_busy-clause-begins g t c telling =
-    let p = (g.B.Board.seat c.args.board.now).place in
-    let m = (g.B.Board.seat c.args.board.now).number in
-    let v = g.B.Board.view c.args.board.now in
+returns-then-is_busy-clause-begins g t c x a S telling =
+    let v = x.view in
     let w = c.args.self.now in
     let q = c.release.new.self in
     let h = c.in-Some.held in
@@ -94,7 +61,7 @@ returns-then-is_busy-clause-begins g t c telling =
     let fk = first_key w.queue q c.args.key h T in
     let b = c.begin.new.self in
     let u : Worker = record w { queue = q } in
-    let begun : Begins u b (v.cell c.args.key) h.number h.request = subst (λ (k : ℕ). Begins u b (v.cell k) h.number h.request) fk (c.in-Ok.ensures.begins telling) in
+    let begun : Begins u b (v.cell c.args.key) h.number h.request = subst (λ (k : ℕ). Begins u b (v.cell k) h.number h.request) fk (c.in-Ok.ensures.begins x (taken_aside w q c.args.key h T x a) (taken_stands (g.R.Region.state c.args.region.now) x w q S) telling) in
     subst (λ (hs : List Held). BeginsAll hs w b (v.cell c.args.key) c.args.key) (sym T.key) (u, b, T, refl, begun, inl (sym c.is_busy.ensures ∙ c.if-is_busy.true, refl))
 
 pub begin_waiting-requires : goal.begin_waiting-requires
@@ -106,6 +73,10 @@ begin_waiting-requires g t c κs within =
     let fk = first_key w.queue q c.args.key h T in
     let b = c.begin.new.self in
     let u : Worker = record w { queue = q } in
+    let x = c.requires.tied.0 in
+    let a = taken_aside w q c.args.key h T x c.requires.tied.1 in
+    let K = c.in-Ok.ensures.keeps x a in
+    let s = g.R.Region.state c.args.region.now in
     let one = ap length T.key in
     let all = T.together in
     let queue : b.queue ≡ q = ap (λ (x : Worker). x.queue) c.begin.ensures.rest in
@@ -116,43 +87,41 @@ begin_waiting-requires g t c κs within =
     let d = c.decreases in
     let idle : is_busy b.places.items c.args.key ≡ false = sym c.is_busy.ensures ∙ c.if-is_busy.false in
     let had = c.requires.answers in
-    let more : HasAnswerRoom (length (waiting q c.args.key) + 1) u = omega (arith, had, one) in (
+    let more : HasAnswerRoom (length (waiting q c.args.key) + 1) u = omega (arith, had, one) in
+    let tied : StandsAside s b c.args.key = (x, record { holds = K.holds; own = c.requires.tied.1.own }, K.stands s (taken_stands s x w q c.requires.tied.2)) in
+    let free = ⊎_elim (λ stay. subst (λ (y : Vec places.Place Global). HasFree y.items) (sym stay) c.requires.place) (λ busy. absurd (let both : true ≡ false = sym busy ∙ ap (is_busy b.places.items) fk ∙ idle in cc both)) c.in-Ok.ensures.places in
+    let nothing : LeadsNothing b = (c.requires.nothing.0, ap (λ (y : Worker). y.leading) c.begin.ensures.rest ∙ c.requires.nothing.1) in
+    let answers = subst (λ (n : ℕ). HasAnswerRoom n b) (sym same) (c.in-Ok.ensures.room (length (waiting q c.args.key)) more) in (
       omega (arith, d, all, count),
-      (
-        within.0,
-        (
-          within.1,
-          (
-            c.in-Ok.ensures.holds,
-            (
-              c.in-Ok.ensures.stands,
-              (
-                (c.requires.nothing.0, ap (λ (x : Worker). x.leading) c.begin.ensures.rest ∙ c.requires.nothing.1),
-                (
-                  c.requires.own,
-                  (
-                    idle,
-                    (
-                      omega (arith, same, one, index, room),
-                      (
-                        ⊎_elim (λ stay. subst (λ (x : Vec places.Place Global). HasFree x.items) (sym stay) c.requires.place) (λ busy. absurd (let both : true ≡ false = sym busy ∙ ap (is_busy b.places.items) fk ∙ idle in cc both)) c.in-Ok.ensures.places,
-                        subst (λ (n : ℕ). HasAnswerRoom n b) (sym same) (c.in-Ok.ensures.room (length (waiting q c.args.key)) more),
-                      ),
-                    ),
-                  ),
-                ),
-              ),
-            ),
-          ),
-        ),
-      ),
+      (within, (tied, (nothing, (idle, (omega (arith, same, one, index, room), (free, answers)))))),
     )
+
+pub begin-requires-clause-tied : goal.begin-requires-clause-tied
+begin-requires-clause-tied g t c =
+    let w = c.args.self.now in
+    let x = c.requires.tied.0 in (
+      x,
+      taken_aside w c.release.new.self c.args.key c.in-Some.held c.in-Some.ensures.taken x c.requires.tied.1,
+      taken_stands (g.R.Region.state c.args.region.now) x w c.release.new.self c.requires.tied.2,
+    )
+
+pub returns-then-is_busy-clause-keeps : goal.returns-then-is_busy-clause-keeps
+returns-then-is_busy-clause-keeps g t c x a =
+    let w = c.args.self.now in
+    let q = c.release.new.self in
+    let K = c.in-Ok.ensures.keeps x (taken_aside w q c.args.key c.in-Some.held c.in-Some.ensures.taken x a) in
+    record { holds = K.holds; stands = λ s S. K.stands s (taken_stands s x w q S) }
+
+pub returns-in-Ok-clause-keeps : goal.returns-in-Ok-clause-keeps
+returns-in-Ok-clause-keeps g t c x a =
+    let w = c.args.self.now in
+    let q = c.release.new.self in
+    let K = c.in-Ok.ensures.keeps x (taken_aside w q c.args.key c.in-Some.held c.in-Some.ensures.taken x a) in
+    let L = c.begin_waiting.ensures.keeps x (record { holds = K.holds; own = a.own }) in
+    record { holds = L.holds; stands = λ s S. L.stands s (K.stands s (taken_stands s x w q S)) }
 
 pub returns-in-Ok-clause-begins : goal.returns-in-Ok-clause-begins
 returns-in-Ok-clause-begins g t c =
-    let p = (g.B.Board.seat c.args.board.now).place in
-    let m = (g.B.Board.seat c.args.board.now).number in
-    let v = g.B.Board.view c.args.board.now in
     let w = c.args.self.now in
     let q = c.release.new.self in
     let h = c.in-Some.held in
@@ -161,7 +130,21 @@ returns-in-Ok-clause-begins g t c =
     let b = c.begin.new.self in
     let u : Worker = record w { queue = q } in
     let z = c.begin_waiting.new.self in
-    map_ok c.begin_waiting.result _ _ (λ rest telling.
-    let begun : Begins u b (v.cell c.args.key) h.number h.request = subst (λ (k : ℕ). Begins u b (v.cell k) h.number h.request) fk (c.in-Ok.ensures.begins telling) in
-    let more : BeginsAll (waiting q c.args.key) b z (v.cell c.args.key) c.args.key = subst (λ (x : List Held). BeginsAll (waiting x c.args.key) b z (v.cell c.args.key) c.args.key) (ap (λ (x : Worker). x.queue) c.begin.ensures.rest) (rest telling) in
+    let s = g.R.Region.state c.args.region.now in
+    map_ok c.begin_waiting.result _ _ (λ rest x a S telling.
+    let v = x.view in
+    let a' = taken_aside w q c.args.key h T x a in
+    let S' = taken_stands s x w q S in
+    let K = c.in-Ok.ensures.keeps x a' in
+    let begun : Begins u b (v.cell c.args.key) h.number h.request = subst (λ (k : ℕ). Begins u b (v.cell k) h.number h.request) fk (c.in-Ok.ensures.begins x a' S' telling) in
+    let more : BeginsAll (waiting q c.args.key) b z (v.cell c.args.key) c.args.key = subst (λ (y : List Held). BeginsAll (waiting y c.args.key) b z (v.cell c.args.key) c.args.key) (ap (λ (y : Worker). y.queue) c.begin.ensures.rest) (rest x (record { holds = K.holds; own = a.own }) (K.stands s S') telling) in
     subst (λ (hs : List Held). BeginsAll hs w z (v.cell c.args.key) c.args.key) (sym T.key) (u, b, T, refl, begun, inr (sym c.is_busy.ensures ∙ c.if-is_busy.false, more))) c.begin_waiting.ensures.begins
+
+pub returns-in-Err-clause-rule : goal.returns-in-Err-clause-rule
+returns-in-Err-clause-rule g t c h = c.begin.ensures.rule h
+
+pub returns-then-is_busy-clause-rule : goal.returns-then-is_busy-clause-rule
+returns-then-is_busy-clause-rule g t c h = c.begin.ensures.rule h
+
+pub returns-in-Ok-clause-rule : goal.returns-in-Ok-clause-rule
+returns-in-Ok-clause-rule g t c h = c.begin_waiting.ensures.rule (c.begin.ensures.rule h)

@@ -1,37 +1,28 @@
 -- A request is held, begun, or given back.
-use Rattle.std.proofs.Common.{◌≡◌, inl, ℕ, ◌+◌, refl, sym, ◌∙◌, ap, subst}
+use Rattle.std.proofs.Common.{◌≡◌, inl, ℕ, ◌+◌, true, refl, sym, ◌∙◌, ap, subst, arith}
 use Rattle.fs_model.specs.Cells.{key_of}
 use Rattle.conflict_queue.specs.Waiting.{held_with}
 use Rattle.core_index.specs.Index.{room_at}
-use Rattle.pm_region.specs.State.{IsTelling}
 use Rattle.core_worker.specs.declared.worker.Worker.{Worker}
 use Rattle.core_worker.specs.OwnPlaces.{is_busy}
 use Rattle.core_worker.specs.Accepting.{Prepared}
-use Rattle.core_worker.proofs.Beginnings.{aside_of, before_holds, held_holds, prepared_stands, begun_holds, begun_stands, begun_accepts}
+use Rattle.core_worker.proofs.Accepted.{room_place, room_node, leads_nothing, prepared_tie, held_tie, tied_aside, begun_tie, accepts_begun, prepared_room}
 use Rattle.core_worker.proofs.worker.Worker.accept.Goals as goal
 
-pub returns-then-not-prepare-clause-holds : goal.returns-then-not-prepare-clause-holds
-returns-then-not-prepare-clause-holds g c = before_holds ((g.B.Board.seat c.args.board.now).place) ((g.B.Board.seat c.args.board.now).number) (g.B.Board.view c.args.board.now) c.args.self.now c.prepare.new.self c.prepare.ensures.before c.requires.holds
+pub returns-then-not-prepare-clause-ties : goal.returns-then-not-prepare-clause-ties
+returns-then-not-prepare-clause-ties g c = prepared_tie (g.R.Region.state c.args.region.now) (key_of c.args.request) c.args.self.now c.prepare.new.self c.prepare.ensures.before
 
-pub returns-then-not-prepare-clause-stands : goal.returns-then-not-prepare-clause-stands
-returns-then-not-prepare-clause-stands g c = prepared_stands (g.R.Region.state c.args.region.now) ((g.B.Board.seat c.args.board.now).place) ((g.B.Board.seat c.args.board.now).number) (g.B.Board.view c.args.board.now) c.args.self.now c.prepare.new.self c.prepare.ensures.before.rest c.requires.stands
-
-pub returns-in-Ok-clause-holds : goal.returns-in-Ok-clause-holds
-returns-in-Ok-clause-holds g c =
+pub returns-in-Ok-clause-ties : goal.returns-in-Ok-clause-ties
+returns-in-Ok-clause-ties g c =
     let P = c.prepare.ensures.ready c.if-not-prepare.false in
     let B = c.prepare.ensures.before in
-    held_holds ((g.B.Board.seat c.args.board.now).place) ((g.B.Board.seat c.args.board.now).number) (g.B.Board.view c.args.board.now) c.args.self.now c.prepare.new.self c.hold.new.self (held_with c.args.number c.args.request) B
+    held_tie (g.R.Region.state c.args.region.now) c.args.self.now c.prepare.new.self c.hold.new.self c.args.number c.args.request B
     (subst (λ (k : ℕ). room_at c.prepare.new.self.index k ≡ room_at c.args.self.now.index k + 1) c.key_of-key.ensures P.record_room)
     (ap (λ (y : Worker). is_busy y.places.items (key_of c.args.request)) (sym B.rest) ∙ ap (is_busy c.prepare.new.self.places.items) (sym c.key_of-key.ensures) ∙ sym c.is_busy.ensures ∙ c.if-is_busy.true)
-    c.in-Ok.ensures.added c.requires.holds
-
-pub returns-in-Ok-clause-stands : goal.returns-in-Ok-clause-stands
-returns-in-Ok-clause-stands g c =
-    let S = prepared_stands (g.R.Region.state c.args.region.now) ((g.B.Board.seat c.args.board.now).place) ((g.B.Board.seat c.args.board.now).number) (g.B.Board.view c.args.board.now) c.args.self.now c.prepare.new.self c.prepare.ensures.before.rest c.requires.stands in
-    record { lies = S.lies; licensed = S.licensed; landed = S.landed; log = S.log; free = S.free; due = S.due; cut = S.cut }
+    c.in-Ok.ensures.added
 
 pub returns-in-Ok-clause-accepts : goal.returns-in-Ok-clause-accepts
-returns-in-Ok-clause-accepts g c telling =
+returns-in-Ok-clause-accepts g c x T telling =
     let P = c.prepare.ensures.ready c.if-not-prepare.false in
     let B = c.prepare.ensures.before in (
       c.prepare.new.self,
@@ -40,22 +31,40 @@ returns-in-Ok-clause-accepts g c telling =
       inl (ap (λ (y : Worker). is_busy y.places.items (key_of c.args.request)) (sym B.rest) ∙ ap (is_busy c.prepare.new.self.places.items) (sym c.key_of-key.ensures) ∙ sym c.is_busy.ensures ∙ c.if-is_busy.true, c.in-Ok.ensures.added, refl),
     )
 
-pub begin-requires-clause-holds : goal.begin-requires-clause-holds
-begin-requires-clause-holds g c = aside_of ((g.B.Board.seat c.args.board.now).place) ((g.B.Board.seat c.args.board.now).number) (g.B.Board.view c.args.board.now) c.prepare.new.self (before_holds ((g.B.Board.seat c.args.board.now).place) ((g.B.Board.seat c.args.board.now).number) (g.B.Board.view c.args.board.now) c.args.self.now c.prepare.new.self c.prepare.ensures.before c.requires.holds)
-
-pub begin-requires-clause-stands : goal.begin-requires-clause-stands
-begin-requires-clause-stands g c = prepared_stands (g.R.Region.state c.args.region.now) ((g.B.Board.seat c.args.board.now).place) ((g.B.Board.seat c.args.board.now).number) (g.B.Board.view c.args.board.now) c.args.self.now c.prepare.new.self c.prepare.ensures.before.rest c.requires.stands
+pub begin-requires-clause-tied : goal.begin-requires-clause-tied
+begin-requires-clause-tied g c =
+    let s = g.R.Region.state c.args.region.now in
+    let k = key_of c.args.request in
+    let x = c.requires.tied.0 in
+    let T = prepared_tie s k c.args.self.now c.prepare.new.self c.prepare.ensures.before x c.requires.tied.1 in
+    (x, tied_aside s c.prepare.new.self k x T, T.stands)
 
 pub begin-requires-clause-nothing : goal.begin-requires-clause-nothing
-begin-requires-clause-nothing g c = (c.requires.nothing.0, ap (λ (x : Worker). x.leading) c.prepare.ensures.before.rest ∙ c.requires.nothing.1)
+begin-requires-clause-nothing g c =
+    let n = leads_nothing (g.R.Region.state c.args.region.now) c.args.self.now (key_of c.args.request) c.requires.tied.0 c.requires.tied.1 c.requires.free in
+    (n.0, ap (λ (x : Worker). x.leading) c.prepare.ensures.before.rest ∙ n.1)
 
-pub returns-clause-holds : goal.returns-clause-holds
-returns-clause-holds g c = begun_holds c.begin.result ((g.B.Board.seat c.args.board.now).place) ((g.B.Board.seat c.args.board.now).number) (g.B.Board.view c.args.board.now) c.prepare.new.self c.begin.new.self (before_holds ((g.B.Board.seat c.args.board.now).place) ((g.B.Board.seat c.args.board.now).number) (g.B.Board.view c.args.board.now) c.args.self.now c.prepare.new.self c.prepare.ensures.before c.requires.holds)
-    (ap (λ (x : Worker). x.winds_down) c.prepare.ensures.before.rest ∙ c.requires.works) c.begin.ensures.rest c.begin.ensures.holds c.begin.ensures.unchanged c.begin.ensures.busy
+pub begin-requires-clause-place : goal.begin-requires-clause-place
+begin-requires-clause-place g c = room_place c.args.self.now c.prepare.new.self c.prepare.ensures.before c.requires.tied.1.holds.eight c.requires.room
 
-pub returns-clause-stands : goal.returns-clause-stands
-returns-clause-stands g c = begun_stands c.begin.result (g.R.Region.state c.args.region.now) ((g.B.Board.seat c.args.board.now).place) ((g.B.Board.seat c.args.board.now).number) (g.B.Board.view c.args.board.now) c.prepare.new.self c.begin.new.self c.begin.ensures.stands c.begin.ensures.unchanged
-    (prepared_stands (g.R.Region.state c.args.region.now) ((g.B.Board.seat c.args.board.now).place) ((g.B.Board.seat c.args.board.now).number) (g.B.Board.view c.args.board.now) c.args.self.now c.prepare.new.self c.prepare.ensures.before.rest c.requires.stands)
+pub returns-clause-ties : goal.returns-clause-ties
+returns-clause-ties g c = begun_tie c.begin.result (g.R.Region.state c.args.region.now) (key_of c.args.request) c.args.self.now c.prepare.new.self c.begin.new.self c.prepare.ensures.before
+    (ap (λ (x : Worker). x.winds_down) c.prepare.ensures.before.rest ∙ c.requires.works) c.begin.ensures.rest c.begin.ensures.keeps c.begin.ensures.unchanged c.begin.ensures.busy
 
 pub returns-clause-accepts : goal.returns-clause-accepts
-returns-clause-accepts g c = begun_accepts c.begin.result (IsTelling (g.R.Region.state c.args.region.now)) (g.B.Board.view c.args.board.now) c.args.self.now c.prepare.new.self c.begin.new.self c.args.number c.key_of-key.result c.args.request c.key_of-key.ensures c.prepare.ensures.before (c.prepare.ensures.ready c.if-not-prepare.false) (sym c.is_busy.ensures ∙ c.if-is_busy.false) c.begin.ensures.begins
+returns-clause-accepts g c = accepts_begun c.begin.result (g.R.Region.state c.args.region.now) c.args.self.now c.prepare.new.self c.begin.new.self c.args.number c.key_of-key.result c.args.request c.key_of-key.ensures c.prepare.ensures.before (c.prepare.ensures.ready c.if-not-prepare.false) (sym c.is_busy.ensures ∙ c.if-is_busy.false) c.begin.ensures.begins
+
+pub returns-then-not-prepare-clause-rule : goal.returns-then-not-prepare-clause-rule
+returns-then-not-prepare-clause-rule g c = prepared_room c.args.self.now c.prepare.new.self c.prepare.ensures.before
+
+pub returns-in-Ok-clause-rule : goal.returns-in-Ok-clause-rule
+returns-in-Ok-clause-rule g c h = prepared_room c.args.self.now c.prepare.new.self c.prepare.ensures.before h
+
+pub returns-clause-rule : goal.returns-clause-rule
+returns-clause-rule g c h = c.begin.ensures.rule (prepared_room c.args.self.now c.prepare.new.self c.prepare.ensures.before h)
+
+pub returns-in-Err-clause-ties : goal.returns-in-Err-clause-ties
+returns-in-Err-clause-ties g c x T =
+    let full = c.in-Err.ensures.full in
+    let few = room_node c.args.self.now c.prepare.new.self c.prepare.ensures.before c.requires.room in
+    absurd (omega (arith, full, few))

@@ -1,6 +1,7 @@
+use Rattle.core_worker.proofs.RoomKept.{room_again}
 use Rattle.std.proofs.Common.{Bool, not, inl, sym, ◌∙◌, ap, subst}
 use Rattle.core_worker.specs.declared.worker.Worker.{Worker}
-use Rattle.core_worker.specs.OwnPlaces.{place_at}
+use Rattle.core_worker.specs.OwnPlaces.{place_at, own}
 use Rattle.core_worker.specs.Posting.{WouldStand}
 use Rattle.core_worker.proofs.worker.Worker.post_block.Goals as goal
 
@@ -19,3 +20,13 @@ returns-then-write_staged-clause-stands g c =
 pub returns-then-write_staged-clause-posts : goal.returns-then-write_staged-clause-posts
 returns-then-write_staged-clause-posts g c =
     inl (c.write_staged.new.self, c.write_staged.ensures.rest ∙ ap (λ (b : Bool). record c.args.self.now { allocator = c.write_staged.new.self.allocator; stopped = b }) (ap not c.if-write_staged.true ∙ sym c.requires.runs), c.post_written.ensures.posts)
+
+pub returns-then-write_staged-clause-rule : goal.returns-then-write_staged-clause-rule
+returns-then-write_staged-clause-rule g c h =
+    let e = c.write_staged.ensures.rest in
+    c.post_written.ensures.rule (room_again c.args.self.now c.write_staged.new.self (ap (λ (z : Worker). own z.places.items) e) c.write_staged.ensures.chunks (ap (λ (z : Worker). z.log) e) (ap (λ (z : Worker). z.cleaning) e) h)
+
+pub returns-else-write_staged-clause-rule : goal.returns-else-write_staged-clause-rule
+returns-else-write_staged-clause-rule g c h =
+    let e = c.write_staged.ensures.rest in
+    room_again c.args.self.now c.write_staged.new.self (ap (λ (z : Worker). own z.places.items) e) c.write_staged.ensures.chunks (ap (λ (z : Worker). z.log) e) (ap (λ (z : Worker). z.cleaning) e) h

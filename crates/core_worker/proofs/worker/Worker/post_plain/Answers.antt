@@ -1,9 +1,10 @@
+use Rattle.core_worker.proofs.RoomKept.{room_posted}
 use Rattle.std.proofs.Common.{ℕ, List, refl, sym, ◌∙◌, ap, subst}
 use Rattle.group_laws.specs.MemberViews.{View}
 use Rattle.core_worker.specs.declared.types.Place as places
 use Rattle.core_worker.specs.declared.types.Place.TheVariants.{Free, Staged, Posted}
 use Rattle.core_worker.specs.OwnPlaces.{Replaces}
-use Rattle.core_worker.specs.Posting.{PointsNowhere, HasNoBlock}
+use Rattle.core_worker.specs.Posting.{PostsPlain, PointsNowhere, HasNoBlock}
 use Rattle.core_worker.specs.Ties.{Holds}
 use Rattle.core_worker.proofs.Posts.{holds_posted, stands_posted, view_is}
 use Rattle.core_worker.proofs.worker.Worker.post_plain.Goals as goal
@@ -50,3 +51,9 @@ returns-clause-posts g c =
       view = c.post.ensures.view;
       whole = c.post.ensures.whole;
     }
+
+pub returns-clause-rule : goal.returns-clause-rule
+returns-clause-rule g c =
+    let n = (g.B.Board.seat c.args.board.now).number in
+    let P : PostsPlain n (g.B.Board.whole c.args.board.now) (g.B.Board.whole c.post.new.self) (g.B.Board.view c.args.board.now) (g.B.Board.view c.post.new.self) c.args.self.now (record c.args.self.now { places = c.swap_place-free.new.places }) c.args.slot = returns-clause-posts g c in
+    room_posted n _ _ _ _ c.args.self.now (record c.args.self.now { places = c.swap_place-free.new.places }) c.args.slot c.requires.holds.eight c.requires.slot P

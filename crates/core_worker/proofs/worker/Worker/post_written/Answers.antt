@@ -1,9 +1,10 @@
+use Rattle.core_worker.proofs.RoomKept.{room_posted}
 use Rattle.std.proofs.Common.{◌≡◌, ℕ, List, refl, sym, ◌∙◌, ap, subst}
 use Rattle.group_laws.specs.MemberViews.{View}
 use Rattle.core_worker.specs.declared.types.Place as places
 use Rattle.core_worker.specs.declared.types.Place.TheVariants.{Free, Staged, Posted}
 use Rattle.core_worker.specs.OwnPlaces.{Replaces}
-use Rattle.core_worker.specs.Posting.{IsStagedWith, WouldStand}
+use Rattle.core_worker.specs.Posting.{PostsPlain, IsStagedWith, WouldStand}
 use Rattle.core_worker.specs.Ties.{Holds, Stands}
 use Rattle.core_worker.proofs.BlockClear.{clear_for}
 use Rattle.core_worker.proofs.BlockPosts.{holds_posted_block, stands_places, view_is, may_post}
@@ -65,3 +66,9 @@ returns-clause-posts g c =
       view = c.post.ensures.view;
       whole = c.post.ensures.whole;
     }
+
+pub returns-clause-rule : goal.returns-clause-rule
+returns-clause-rule g c =
+    let n = (g.B.Board.seat c.args.board.now).number in
+    let P : PostsPlain n (g.B.Board.whole c.args.board.now) (g.B.Board.whole c.post.new.self) (g.B.Board.view c.args.board.now) (g.B.Board.view c.post.new.self) c.args.self.now (record c.args.self.now { places = c.swap_place-free.new.places }) c.args.slot = returns-clause-posts g c in
+    room_posted n _ _ _ _ c.args.self.now (record c.args.self.now { places = c.swap_place-free.new.places }) c.args.slot c.requires.holds.eight c.requires.slot P

@@ -1,5 +1,6 @@
 -- What the change leaves of the ties.
-use Rattle.std.proofs.Common.{◌≡◌, ℕ, ◌+◌, Result, Ok, subst}
+use Rattle.core_worker.proofs.RoomKept.{room_staged}
+use Rattle.std.proofs.Common.{◌≡◌, ℕ, ◌+◌, Result, Ok, refl, ◌∙◌, subst}
 use Rattle.std.specs.Result.{IfOk}
 use Rattle.log_entry.specs.declared.entry.Entry.{Entry}
 use Rattle.log_entry.specs.declared.entry.Body.TheVariants as bodies
@@ -7,23 +8,32 @@ use Rattle.core_index.specs.Index.{known_at}
 use Rattle.core_index.specs.Records.{last_of}
 use Rattle.core_index.specs.declared.types.Spent.{Spent}
 use Rattle.core_worker.specs.OwnPlaces.{place_at}
+use Rattle.core_worker.proofs.Finding.{live_is, is_live}
 use Rattle.core_worker.proofs.Gains.{allots_none}
 use Rattle.core_worker.proofs.Pointers.{free_is, delete_spelled}
-use Rattle.core_worker.proofs.Staging.{holds_staged}
+use Rattle.core_worker.proofs.Staging.{holds_staged, stands_staged}
 use Rattle.core_worker.proofs.worker.Worker.stage_delete.Goals as goal
 
 next_is : (r : Result ℕ Spent) (version last : ℕ) → r ≡ Ok version → IfOk r (λ x. x ≡ last + 1) → version ≡ last + 1
 next_is r version last e h = subst (λ (x : Result ℕ Spent). IfOk x (λ y. y ≡ last + 1)) e h
 
-pub returns-clause-holds : goal.returns-clause-holds
-returns-clause-holds g c =
-    let p = (g.B.Board.seat c.args.board.now).place in
-    let m = (g.B.Board.seat c.args.board.now).number in
-    let v = g.B.Board.view c.args.board.now in
+pub returns-clause-keeps : goal.returns-clause-keeps
+returns-clause-keeps c t h =
+    let p = t.place in
+    let m = t.number in
+    let v = t.view in
     let w = c.args.self.now in
     let last = last_of (known_at w.index c.args.key) in
     let next = next_is c.next_version.result c.unwrap-version.result last c.unwrap-version.ensures c.next_version.ensures.next in
     let e : Entry = record { key = c.args.key; version = c.unwrap-version.result; body = bodies.Tombstone } in
-    let spelled = delete_spelled p m v w c.requires.holds c.requires.runs c.args.key c.requires.own c.requires.live c.unwrap-version.result next c.ranges.key.fits in
+    let live = is_live (v.cell c.args.key) (live_is p m v w h.holds c.requires.runs c.args.key h.own ∙ c.requires.live) in
+    let spelled = delete_spelled p m v w h.holds c.requires.runs c.args.key h.own live c.unwrap-version.result next c.ranges.key.fits in
     let was = free_is (place_at w.places.items c.stage-slot.result) c.stage-slot.ensures.lowest.0 in
-    holds_staged p m v w c.requires.holds c.requires.runs c.stage-slot.result c.stage-slot.ensures.within was c.args.number e _ c.requires.own c.requires.idle spelled next (λ t. c.requires.live) c.requires.room w.allocator (allots_none w.allocator e.body _ c.requires.holds.sets tt) c.stage-slot.new.places c.stage-slot.ensures.placed c.requires.nothing.0 c.requires.nothing.1
+    record { holds = holds_staged p m v w h.holds c.requires.runs c.stage-slot.result c.stage-slot.ensures.within was c.args.number e _ h.own c.requires.idle spelled next (λ e. live) c.requires.room w.allocator (allots_none w.allocator e.body _ h.holds.sets tt) c.stage-slot.new.places c.stage-slot.ensures.placed c.requires.nothing.0 c.requires.nothing.1; stands = stands_staged p m v w h.holds c.requires.runs c.stage-slot.result c.stage-slot.ensures.within was c.args.number e _ h.own c.requires.idle spelled next (λ e. live) c.requires.room w.allocator (allots_none w.allocator e.body _ h.holds.sets tt) c.stage-slot.new.places c.stage-slot.ensures.placed }
+
+pub returns-clause-rule : goal.returns-clause-rule
+returns-clause-rule c =
+    let w = c.args.self.now in
+    let low = c.stage-slot.ensures.lowest in
+    room_staged w (record w { places = c.stage-slot.new.places }) c.stage-slot.result c.args.number _ _ 1 c.stage-slot.ensures.placed (free_is (place_at w.places.items c.stage-slot.result) low.0) low.1
+    refl refl refl refl c.requires.fits

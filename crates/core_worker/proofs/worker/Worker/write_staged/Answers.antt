@@ -1,6 +1,7 @@
+use Rattle.core_worker.proofs.RoomKept.{wrote_chunks}
 use Rattle.std.proofs.Common.{ℕ, List, length, true, sym, ◌∙◌, ap, subst}
 use Rattle.chunk_map.specs.Layouts.{has_class}
-use Rattle.lazy_alloc.specs.Sets.{Sets}
+use Rattle.lazy_alloc.specs.Sets.{Sets, free_chunk_count}
 use Rattle.lazy_alloc.specs.Written.{WroteValue}
 use Rattle.core_worker.specs.Posting.{IsStagedWith, WouldStand}
 use Rattle.core_worker.specs.Ties.{Holds, Stands}
@@ -63,3 +64,14 @@ returns-in-Err-clause-stands g c failed =
     let k = is.0.class in
     subst (λ (a : Sets). Stands t p m v (record c.args.self.now { allocator = a; stopped = true })) (sym c.in-Err.ensures.err)
     (stands_stopped s t p m v c.args.self.now c.requires.holds c.requires.stands c.requires.runs c.args.pointer k is.0.class_is is.1 (c.write_for.ensures.others k is.0.class_is) (c.write_for.ensures.head k is.0.class_is))
+
+pub returns-in-Ok-clause-chunks : goal.returns-in-Ok-clause-chunks
+returns-in-Ok-clause-chunks g c =
+    let p = (g.B.Board.seat c.args.board.now).place in
+    let m = (g.B.Board.seat c.args.board.now).number in
+    let v = g.B.Board.view c.args.board.now in
+    let is = staged_block p m v c.args.self.now c.requires.holds c.args.slot c.in-Staged.number c.args.pointer c.in-Staged.entry c.in-Staged.value (sym c.place_in.ensures ∙ c.in-Staged.is) c.requires.staged in
+    wrote_chunks (g.R.Region.state c.write_for.new.region) c.args.self.now.allocator c.write_for.new.allocator c.args.pointer is.0.class c.bytes.result.now (c.in-Ok.ensures.ok is.0.class is.0.class_is)
+
+pub returns-in-Err-clause-chunks : goal.returns-in-Err-clause-chunks
+returns-in-Err-clause-chunks g c = ap free_chunk_count c.in-Err.ensures.err

@@ -1,0 +1,88 @@
+-- A request is accepted, whatever view the worker is tied to.
+use Rattle.std.proofs.Common.{◌≡◌, ℕ, suc, ltb, ◌+◌, ◌<◌, List, [], ◌∷◌, length, Bool, true, false, Result, Ok, Err, OnOk, OnErr, refl, sym, ◌∙◌, ap, subst, arith}
+use Rattle.std.proofs.lemmas.Bool.{and_parts, ltb-true}
+use Rattle.pm_region.specs.State.{State, IsTelling}
+use Rattle.fs_model.specs.declared.model.Request.{Request}
+use Rattle.fs_model.specs.Cells.{key_of}
+use Rattle.conflict_queue.specs.declared.types.Held.{Held}
+use Rattle.conflict_queue.specs.Waiting.{AddsLast, held_with}
+use Rattle.core_index.specs.Index.{room_at}
+use Rattle.batch_leader.specs.declared.buffer.BatchBuffer.{BatchBuffer}
+use Rattle.core_worker.specs.declared.types.Leading.{Leading}
+use Rattle.core_worker.specs.declared.types.Leading.TheVariants as leads
+use Rattle.core_worker.specs.declared.types.Place.{Place}
+use Rattle.core_worker.specs.declared.types.Place.TheVariants.{Free, Staged, Posted}
+use Rattle.core_worker.specs.declared.worker.Worker.{Worker}
+use Rattle.core_worker.specs.OwnPlaces.{place_at, is_busy}
+use Rattle.core_worker.specs.Status.{any_free, has_room, is_leading}
+use Rattle.core_worker.specs.Supplies.{HasKeptRoom}
+use Rattle.core_worker.specs.Ties.{Tie, StandsBy, LeadsAt, LeadsNothing}
+use Rattle.core_worker.specs.Beginning.{HasFree, IsHeldAside, KeepsTies, ByEachView, OnlyBegins, Begins}
+use Rattle.core_worker.specs.Accepting.{IsAsBefore, Prepared, IsTied, StaysTied, AcceptsByEachView, Accepts}
+use Rattle.core_worker.proofs.Beginnings.{aside_of, before_holds, held_holds, prepared_stands, begun_holds, begun_accepts}
+
+-- what room says
+free_in : (ps : List Place) → any_free ps ≡ true → (s : ℕ) × (s < length ps) × (place_at ps s ≡ Free)
+free_in [] h = absurd (cc h)
+free_in (Free ∷ ps) h = (0, omega (arith), refl)
+free_in (Staged n e u ∷ ps) h = let r = free_in ps h in (suc r.0, (let l = r.1 in omega (arith, l)), r.2)
+free_in (Posted n k l ∷ ps) h = let r = free_in ps h in (suc r.0, (let l = r.1 in omega (arith, l)), r.2)
+
+pub room_place : (w u : Worker) → IsAsBefore w u → length w.places.items ≡ 8 → has_room w ≡ true → HasFree u.places.items
+room_place w u B eight room =
+    let r = free_in w.places.items (and_parts (any_free w.places.items) (ltb (length w.queue) 64) room).0 in
+    subst (λ (y : Worker). HasFree y.places.items) (sym B.rest) (r.0, (let l = r.1 in omega (arith, l, eight)), r.2)
+
+pub room_node : (w u : Worker) → IsAsBefore w u → has_room w ≡ true → length u.queue < 64
+room_node w u B room =
+    let same = ap (λ (y : Worker). length y.queue) B.rest in
+    let few = ltb-true (length w.queue) 64 (and_parts (any_free w.places.items) (ltb (length w.queue) 64) room).1 in
+    omega (arith, same, few)
+
+nothing_led : (x : Tie) (l : Leading) → (s : _) → LeadsAt s x.view l → is_leading l ≡ false → (b : BatchBuffer) × (l ≡ leads.Nothing b)
+nothing_led x (leads.Nothing b) s h e = (b, refl)
+nothing_led x (leads.Collecting c) s h e = absurd (cc e)
+nothing_led x (leads.Batch b) s h e = absurd (cc e)
+nothing_led x (leads.Persisted y) s h e = absurd (cc e)
+nothing_led x (leads.Failed y) s h e = absurd (cc e)
+nothing_led x leads.Between s h e = absurd h
+
+pub leads_nothing : (s : State) (w : Worker) (k : ℕ) (x : Tie) → IsTied s w k x → is_leading w.leading ≡ false → LeadsNothing w
+leads_nothing s w k x T e = nothing_led x w.leading T.holds.leads.seat T.holds.leads.at e
+
+-- after memory was taken for it
+pub prepared_tie : (s : State) (k : ℕ) (w u : Worker) → IsAsBefore w u → StaysTied s w u k
+prepared_tie s k w u B x T = record { holds = before_holds x.place x.number x.view w u B T.holds; stands = prepared_stands s x.place x.number x.view w u B.rest T.stands; own = T.own }
+
+pub tied_aside : (s : State) (w : Worker) (k : ℕ) (x : Tie) → IsTied s w k x → IsHeldAside w k x
+tied_aside s w k x T = record { holds = aside_of x.place x.number x.view w T.holds; own = T.own }
+
+-- after it was held
+pub held_tie : (s : State) (w u : Worker) (q : List Held) (n : ℕ) (r : Request) → IsAsBefore w u → room_at u.index (key_of r) ≡ room_at w.index (key_of r) + 1 → is_busy w.places.items (key_of r) ≡ true → AddsLast u.queue q (held_with n r) → StaysTied s w (record u { queue = q }) (key_of r)
+held_tie s w u q n r B more busy adds x T =
+    let S = prepared_stands s x.place x.number x.view w u B.rest T.stands in
+    record {
+      holds = held_holds x.place x.number x.view w u q (held_with n r) B more busy adds T.holds;
+      stands = record { lies = S.lies; licensed = S.licensed; landed = S.landed; log = S.log; free = S.free; due = S.due; cut = S.cut };
+      own = T.own;
+    }
+
+-- after it was begun
+pub begun_tie : {X Y : Type 0} (r : Result X Y) (s : State) (k : ℕ) (w u b : Worker) → IsAsBefore w u → u.winds_down ≡ false → OnlyBegins u b → OnOk r (KeepsTies u b k) → OnErr r (b ≡ u) → OnOk r ((j : ℕ) → is_busy u.places.items j ≡ true → is_busy b.places.items j ≡ true) → StaysTied s w b k
+begun_tie (Ok y) s k w u b B works rest keeps err busy x T =
+    let U = prepared_tie s k w u B x T in
+    let K = keeps x (tied_aside s u k x U) in
+    let done : Result (Unit {0}) (Unit {0}) = Ok tt in
+    record { holds = begun_holds done x.place x.number x.view u b U.holds works rest K.holds err busy; stands = K.stands s U.stands; own = T.own }
+begun_tie (Err y) s k w u b B works rest keeps err busy x T = subst (λ (z : Worker). IsTied s z k x) (sym err) (prepared_tie s k w u B x T)
+
+pub accepts_begun : {X Y : Type 0} (r : Result X Y) (s : State) (w u b : Worker) (n k : ℕ) (q : Request) → k ≡ key_of q → IsAsBefore w u → Prepared w u k → is_busy u.places.items k ≡ false → OnOk r (ByEachView s u (key_of q) (λ v. Begins u b (v.cell (key_of q)) n q)) → OnOk r (AcceptsByEachView s w b n q)
+accepts_begun (Ok y) s w u b n k q same B P idle begins = λ x T telling.
+    let U = prepared_tie s (key_of q) w u B x T in
+    let done : Result (Unit {0}) (Unit {0}) = Ok tt in
+    begun_accepts done (IsTelling s) x.view w u b n k q same B P idle (begins x (tied_aside s u (key_of q) x U) U.stands) telling
+accepts_begun (Err y) s w u b n k q same B P idle begins = begins
+
+-- what memory was taken for pledges nothing
+pub prepared_room : (w u : Worker) → IsAsBefore w u → HasKeptRoom w → HasKeptRoom u
+prepared_room w u B h = subst (λ (x : Worker). HasKeptRoom x) (sym B.rest) h
