@@ -108,8 +108,8 @@ may_write s u m log b first words zeros low place empty batch fits unwritten = r
     };
     licensed = λ telling image may. zero_licensed small_place m (view_of u m) image unwritten
         (λ w lo hi.
-          let at = part_small m in
-          certain_may_be (cell_now s w) 0 (image w) (zeros w (let a = at.0 in omega (arith, lo, a)) (let a = at.1 in omega (arith, hi, a)) telling) (may w lo hi))
+        let at = part_small m in
+        certain_may_be (cell_now s w) 0 (image w) (zeros w (let a = at.0 in omega (arith, lo, a)) (let a = at.1 in omega (arith, hi, a)) telling) (may w lo hi))
         (omega arith);
   });
   room =

@@ -20,3 +20,8 @@ pub use Rattle.group_board.specs.Told
 pub use Rattle.group_board.specs.Views
 pub use Rattle.pm_region.specs.Words
 pub use Rattle.licence.specs.Writes
+pub use Rattle.pm_region.specs.Cell
+pub use Rattle.group_board.specs.Journals
+pub use Rattle.pm_region.specs.Mem
+pub use Rattle.pm_region.specs.Steady
+pub use Rattle.group_board.specs.Trials

@@ -101,7 +101,12 @@ fn a_batch_that_could_not_be_written(rt: HostRuntime) -> Result<(), Fail> {
     let mut log = CoreLog::open(alloc, layout, 1, Vec::new(alloc))?;
     let plan = Faults {
         opens: Vec::new(alloc),
-        fences: vec![in alloc; FenceNumber { piece: 0, number: 1 }]?,
+        fences: vec![in alloc;
+            FenceNumber {
+                piece: 0,
+                number: 1
+            },
+        ]?,
     };
     let mut region = MemRegion::new(alloc, Vec::new(alloc), 100, plan)?;
     region.create(alloc, 6656)?;

@@ -181,7 +181,14 @@ fn a_second_leader_before_the_first_wrote(rt: HostRuntime) -> Result<(), Fail> {
     let mut region = SteadyRegion::new(alloc, Vec::new(alloc), 100)?;
     region.create(alloc, 6656)?;
     let start = region.stamp();
-    if !both_write(&mut region, &mut log, &mut next_log, &mut board, first, second) {
+    if !both_write(
+        &mut region,
+        &mut log,
+        &mut next_log,
+        &mut board,
+        first,
+        second,
+    ) {
         assert!(rt; false);
         return Ok(());
     }

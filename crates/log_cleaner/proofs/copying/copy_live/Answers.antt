@@ -91,9 +91,9 @@ returns-clause-ok g c =
     let opens = some_opens log ws (c.collect-taken.ensures.some ready.0) ready.1 in
     let counts = λ (telling : IsTelling (g.R.Region.state c.args.region.now)). (c.requires.standing telling).counts in
     let chunk : IsTelling (g.R.Region.state c.append_batch.new.region) → entries_in (g.R.Region.state c.append_batch.new.region) c.append_batch.new.self c.args.victim.now.chunk ≡ entries_in (g.R.Region.state c.args.region.now) c.args.log.now c.args.victim.now.chunk = λ telling.
-        still_has s log st st' j c.collect-taken.result ws c.requires.stands c.requires.has c.requires.closed counts c.collect-taken.ensures.told ready.0 opens ready.1
-        t log' c.in_ok-append_batch.ensures.ok c.append_batch.ensures.outside telling j
-        (not_open s log st st' j c.collect-taken.result ws c.requires.stands c.requires.has c.requires.closed counts c.collect-taken.ensures.told ready.0 opens ready.1) c.requires.has in
+    still_has s log st st' j c.collect-taken.result ws c.requires.stands c.requires.has c.requires.closed counts c.collect-taken.ensures.told ready.0 opens ready.1
+    t log' c.in_ok-append_batch.ensures.ok c.append_batch.ensures.outside telling j
+    (not_open s log st st' j c.collect-taken.result ws c.requires.stands c.requires.has c.requires.closed counts c.collect-taken.ensures.told ready.0 opens ready.1) c.requires.has in
     record {
       stands = c.in_ok-append_batch.ensures.ok.stands;
       tails = same_log log log' _ c.in_ok-append_batch.ensures.ok.log_is;
