@@ -1,22 +1,17 @@
-use Rattle.std.proofs.Common.{◌≡◌, ◌+◌, ◌<◌, ⊎_elim, ℕ, List, [], ◌∷◌, length, refl, sym, ◌∙◌, ap, arith}
-use Rattle.std.specs.List.{flat_map}
-use Rattle.pm_region.specs.State.{State, IsTelling, During, cell_now}
-use Rattle.pm_region.specs.Words.{KeepsOutside, lasts}
+use Rattle.std.proofs.Common.{◌≡◌, ◌+◌, ⊎_elim, ℕ, List, [], ◌∷◌, length, refl, sym, ◌∙◌, ap, arith}
+use Rattle.pm_region.specs.State.{State, IsTelling, cell_now}
+use Rattle.pm_region.specs.Words.{KeepsOutside}
 use Rattle.pm_region.proofs.Moments.{told_at_entry}
 use Rattle.pm_region.proofs.Runs.{all_kept}
 use Rattle.chunk_map.specs.Layouts.{chunk_words}
 use Rattle.log_entry.specs.declared.entry.Entry.{Entry}
-use Rattle.log_entry.specs.Spelling.{words_of}
-use Rattle.log_entry.specs.Batches.{IsBatch}
 use Rattle.core_log.specs.Chunk.{lines_for}
-use Rattle.core_log.specs.Entries.{open_entries, HasEntriesOrLacks}
-use Rattle.core_log.specs.Log.{LogState, EachInOpen, open_first}
+use Rattle.core_log.specs.Log.{LogState, open_first}
 use Rattle.core_log.specs.Walking.{entries_in}
 use Rattle.core_log.proofs.BatchLaws.{some_opens}
 use Rattle.log_standing.specs.NameCounts.{StandingState, count_in}
 use Rattle.log_standing.specs.ChunkCounts.{IsStandingOf}
 use Rattle.log_cleaner.specs.CopyBatch.{Adds, batch_in, copies_in, SameElse}
-use Rattle.log_cleaner.specs.ImagesBeside.{MakesCopies}
 use Rattle.log_cleaner.proofs.CopyLaws.{same_parts, same_log, copy_parts, copy_standing, still_has, not_open, is_batch, long_entries}
 use Rattle.log_cleaner.proofs.LessLaws.{is_less, none_awaits}
 use Rattle.log_cleaner.proofs.SettledLaws.{settled_moved}
@@ -91,9 +86,9 @@ returns-clause-ok g c =
     let opens = some_opens log ws (c.collect-taken.ensures.some ready.0) ready.1 in
     let counts = λ (telling : IsTelling (g.R.Region.state c.args.region.now)). (c.requires.standing telling).counts in
     let chunk : IsTelling (g.R.Region.state c.append_batch.new.region) → entries_in (g.R.Region.state c.append_batch.new.region) c.append_batch.new.self c.args.victim.now.chunk ≡ entries_in (g.R.Region.state c.args.region.now) c.args.log.now c.args.victim.now.chunk = λ telling.
-        still_has s log st st' j c.collect-taken.result ws c.requires.stands c.requires.has c.requires.closed counts c.collect-taken.ensures.told ready.0 opens ready.1
-        t log' c.in_ok-append_batch.ensures.ok c.append_batch.ensures.outside telling j
-        (not_open s log st st' j c.collect-taken.result ws c.requires.stands c.requires.has c.requires.closed counts c.collect-taken.ensures.told ready.0 opens ready.1) c.requires.has in
+    still_has s log st st' j c.collect-taken.result ws c.requires.stands c.requires.has c.requires.closed counts c.collect-taken.ensures.told ready.0 opens ready.1
+    t log' c.in_ok-append_batch.ensures.ok c.append_batch.ensures.outside telling j
+    (not_open s log st st' j c.collect-taken.result ws c.requires.stands c.requires.has c.requires.closed counts c.collect-taken.ensures.told ready.0 opens ready.1) c.requires.has in
     record {
       stands = c.in_ok-append_batch.ensures.ok.stands;
       tails = same_log log log' _ c.in_ok-append_batch.ensures.ok.log_is;

@@ -81,7 +81,7 @@ returns-clause-ok g c =
     let retired = subst (RetiredChunk t log c.retire.new.self) e c.in_ok-retire.ensures.ok in
     let outside = outside_at s t log c.self.inside.chunk c.args.self.chunk e c.retire.ensures.outside in
     let dropped : Drops c.args.standing.now c.settle.new.self c.args.self.names = dropped_at c.args.standing.now c.drop_all.new.standing c.settle.new.self c.args.self.names c.settle.ensures.copies
-        (subst (Drops c.args.standing.now c.drop_all.new.standing) (c.deref.ensures.value ∙ ap (λ (x : ClearingState). x.names) c.self.view_is) c.drop_all.ensures) in
+    (subst (Drops c.args.standing.now c.drop_all.new.standing) (c.deref.ensures.value ∙ ap (λ (x : ClearingState). x.names) c.self.view_is) c.drop_all.ensures) in
     record {
       retired = retired;
       dropped = dropped;
