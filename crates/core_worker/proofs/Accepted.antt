@@ -1,5 +1,5 @@
 -- A request is accepted, whatever view the worker is tied to.
-use Rattle.std.proofs.Common.{◌≡◌, ℕ, suc, ltb, ◌+◌, ◌<◌, List, [], ◌∷◌, length, Bool, true, false, Result, Ok, Err, OnOk, OnErr, refl, sym, ◌∙◌, ap, subst, arith}
+use Rattle.std.proofs.Common.{◌≡◌, ℕ, suc, ltb, ◌+◌, ◌<◌, List, [], ◌∷◌, length, true, false, Result, Ok, Err, OnOk, OnErr, refl, sym, ◌∙◌, ap, subst, arith}
 use Rattle.std.proofs.lemmas.Bool.{and_parts, ltb-true}
 use Rattle.pm_region.specs.State.{State, IsTelling}
 use Rattle.fs_model.specs.declared.model.Request.{Request}
@@ -16,9 +16,9 @@ use Rattle.core_worker.specs.declared.worker.Worker.{Worker}
 use Rattle.core_worker.specs.OwnPlaces.{place_at, is_busy}
 use Rattle.core_worker.specs.Status.{any_free, has_room, is_leading}
 use Rattle.core_worker.specs.Supplies.{HasKeptRoom}
-use Rattle.core_worker.specs.Ties.{Tie, StandsBy, LeadsAt, LeadsNothing}
+use Rattle.core_worker.specs.Ties.{Tie, LeadsAt, LeadsNothing}
 use Rattle.core_worker.specs.Beginning.{HasFree, IsHeldAside, KeepsTies, ByEachView, OnlyBegins, Begins}
-use Rattle.core_worker.specs.Accepting.{IsAsBefore, Prepared, IsTied, StaysTied, AcceptsByEachView, Accepts}
+use Rattle.core_worker.specs.Accepting.{IsAsBefore, Prepared, IsTied, StaysTied, AcceptsByEachView}
 use Rattle.core_worker.proofs.Beginnings.{aside_of, before_holds, held_holds, prepared_stands, begun_holds, begun_accepts}
 
 -- what room says

@@ -1,7 +1,6 @@
 -- A request is held, begun, or given back.
-use Rattle.std.proofs.Common.{◌≡◌, inl, ℕ, ◌+◌, true, refl, sym, ◌∙◌, ap, subst, arith}
+use Rattle.std.proofs.Common.{◌≡◌, inl, ℕ, ◌+◌, refl, sym, ◌∙◌, ap, subst, arith}
 use Rattle.fs_model.specs.Cells.{key_of}
-use Rattle.conflict_queue.specs.Waiting.{held_with}
 use Rattle.core_index.specs.Index.{room_at}
 use Rattle.core_worker.specs.declared.worker.Worker.{Worker}
 use Rattle.core_worker.specs.OwnPlaces.{is_busy}
