@@ -85,12 +85,7 @@ impl Worker {
     }
 
     // The answer to a get of a core that runs. A value in a block is read from the region.
-    fn found<R: Region>(
-        &self,
-        alloc: Global,
-        region: &R,
-        key: Key,
-    ) -> Result<Reply, Memory>
+    fn found<R: Region>(&self, alloc: Global, region: &R, key: Key) -> Result<Reply, Memory>
         requires tied { StandsAside (R.state region.now) self.now key }
         requires runs { self.now.stopped ≡ false }
         ensures { IfOk result (λ reply. ByEachView (R.state region.now) self.now key
@@ -108,13 +103,7 @@ impl Worker {
     }
 
     // Stages a put of a value that stands beside its key.
-    fn stage_beside(
-        &mut self,
-        alloc: Global,
-        number: u64,
-        key: Key,
-        value: Value,
-    )
+    fn stage_beside(&mut self, alloc: Global, number: u64, key: Key, value: Value)
         requires held { IsAside self.old key }
         requires runs { self.old.stopped ≡ false }
         requires nothing { LeadsNothing self.old }

@@ -35,7 +35,6 @@ pub take-requires : goal.take-requires
 take-requires c =
     let t = c.requires.held.0 in
     let h = c.requires.held.1 in
-   
     let has = has_of c.byte_count.result c.bytes.result.now c.args.value c.class_of-class.result c.byte_count.ensures.count c.bytes.ensures c.class_of-class.ensures in
     record { class = block_class t.place t.number t.view c.args.self.now h.holds (last_of (known_at c.args.self.now.index c.args.key)) (length c.args.value) c.class_of-class.result c.requires.unrefused c.requires.long has }
 
@@ -43,7 +42,6 @@ pub unwrap-pointer-requires : goal.unwrap-pointer-requires
 unwrap-pointer-requires c =
     let t = c.requires.held.0 in
     let h = c.requires.held.1 in
-   
     let w = c.args.self.now in
     let has = has_of c.byte_count.result c.bytes.result.now c.args.value c.class_of-class.result c.byte_count.ensures.count c.bytes.ensures c.class_of-class.ensures in
     let p = t.place in
@@ -81,7 +79,6 @@ pub returns-clause-staged : goal.returns-clause-staged
 returns-clause-staged c =
     let t = c.requires.held.0 in
     let h = c.requires.held.1 in
-   
     let p = t.place in
     let m = t.number in
     let v = t.view in
