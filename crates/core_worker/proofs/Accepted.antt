@@ -1,5 +1,5 @@
 -- A request is accepted, whatever view the worker is tied to.
-use Rattle.std.proofs.Common.{◌≡◌, ℕ, suc, ltb, ◌+◌, ◌<◌, List, [], ◌∷◌, length, Bool, true, false, Result, Ok, Err, OnOk, OnErr, refl, sym, ◌∙◌, ap, subst, arith}
+use Rattle.std.proofs.Common.{◌≡◌, ℕ, suc, ltb, ◌+◌, ◌<◌, List, [], ◌∷◌, length, true, false, Result, Ok, Err, OnOk, OnErr, refl, sym, ◌∙◌, ap, subst, arith}
 use Rattle.std.proofs.lemmas.Bool.{and_parts, ltb-true}
 use Rattle.pm_region.specs.State.{State, IsTelling}
 use Rattle.fs_model.specs.declared.model.Request.{Request}
@@ -16,9 +16,9 @@ use Rattle.core_worker.specs.declared.worker.Worker.{Worker}
 use Rattle.core_worker.specs.OwnPlaces.{place_at, is_busy}
 use Rattle.core_worker.specs.Status.{any_free, has_room, is_leading}
 use Rattle.core_worker.specs.Supplies.{HasKeptRoom}
-use Rattle.core_worker.specs.Ties.{Tie, StandsBy, LeadsAt, LeadsNothing}
+use Rattle.core_worker.specs.Ties.{Tie, LeadsAt, LeadsNothing}
 use Rattle.core_worker.specs.Beginning.{HasFree, IsHeldAside, KeepsTies, ByEachView, OnlyBegins, Begins}
-use Rattle.core_worker.specs.Accepting.{IsAsBefore, Prepared, IsTied, StaysTied, AcceptsByEachView, Accepts}
+use Rattle.core_worker.specs.Accepting.{IsAsBefore, Prepared, IsTied, StaysTied, AcceptsByEachView}
 use Rattle.core_worker.proofs.Beginnings.{aside_of, before_holds, held_holds, prepared_stands, begun_holds, begun_accepts}
 
 -- what room says
@@ -52,7 +52,7 @@ leads_nothing s w k x T e = nothing_led x w.leading T.holds.leads.seat T.holds.l
 
 -- after memory was taken for it
 pub prepared_tie : (s : State) (k : ℕ) (w u : Worker) → IsAsBefore w u → StaysTied s w u k
-prepared_tie s k w u B x T = record { holds = before_holds x.place x.number x.view w u B T.holds; stands = prepared_stands s x.place x.number x.view w u B.rest T.stands; own = T.own }
+prepared_tie s k w u B x T = record { holds = before_holds x.place x.number x.view w u B T.holds; stands = prepared_stands s x.place x.number x.view w u B.rest T.stands; own = T.own; hand = λ on. ap (λ (y : Worker). y.in_hand) B.rest ∙ T.hand (sym (ap (λ (y : Worker). y.winds_down) B.rest) ∙ on) }
 
 pub tied_aside : (s : State) (w : Worker) (k : ℕ) (x : Tie) → IsTied s w k x → IsHeldAside w k x
 tied_aside s w k x T = record { holds = aside_of x.place x.number x.view w T.holds; own = T.own }
@@ -65,6 +65,7 @@ held_tie s w u q n r B more busy adds x T =
       holds = held_holds x.place x.number x.view w u q (held_with n r) B more busy adds T.holds;
       stands = record { lies = S.lies; licensed = S.licensed; landed = S.landed; log = S.log; free = S.free; due = S.due; cut = S.cut };
       own = T.own;
+      hand = (prepared_tie s (key_of r) w u B x T).hand;
     }
 
 -- after it was begun
@@ -73,15 +74,15 @@ begun_tie (Ok y) s k w u b B works rest keeps err busy x T =
     let U = prepared_tie s k w u B x T in
     let K = keeps x (tied_aside s u k x U) in
     let done : Result (Unit {0}) (Unit {0}) = Ok tt in
-    record { holds = begun_holds done x.place x.number x.view u b U.holds works rest K.holds err busy; stands = K.stands s U.stands; own = T.own }
+    record { holds = begun_holds done x.place x.number x.view u b U.holds works rest K.holds err busy; stands = K.stands s U.stands; own = T.own; hand = λ on. ap (λ (z : Worker). z.in_hand) rest ∙ U.hand (sym (ap (λ (z : Worker). z.winds_down) rest) ∙ on) }
 begun_tie (Err y) s k w u b B works rest keeps err busy x T = subst (λ (z : Worker). IsTied s z k x) (sym err) (prepared_tie s k w u B x T)
 
-pub accepts_begun : {X Y : Type 0} (r : Result X Y) (s : State) (w u b : Worker) (n k : ℕ) (q : Request) → k ≡ key_of q → IsAsBefore w u → Prepared w u k → is_busy u.places.items k ≡ false → OnOk r (ByEachView s u (key_of q) (λ v. Begins u b (v.cell (key_of q)) n q)) → OnOk r (AcceptsByEachView s w b n q)
-accepts_begun (Ok y) s w u b n k q same B P idle begins = λ x T telling.
+pub accepts_begun : {X Y : Type 0} (r : Result X Y) (s : State) (w u b : Worker) (n k : ℕ) (q : Request) → k ≡ key_of q → IsAsBefore w u → Prepared w u k → is_busy u.places.items k ≡ false → OnlyBegins u b → OnOk r (ByEachView s u (key_of q) (λ v. Begins u b (v.cell (key_of q)) n q)) → OnOk r (AcceptsByEachView s w b n q)
+accepts_begun (Ok y) s w u b n k q same B P idle rest begins = λ x T telling.
     let U = prepared_tie s (key_of q) w u B x T in
     let done : Result (Unit {0}) (Unit {0}) = Ok tt in
-    begun_accepts done (IsTelling s) x.view w u b n k q same B P idle (begins x (tied_aside s u (key_of q) x U) U.stands) telling
-accepts_begun (Err y) s w u b n k q same B P idle begins = begins
+    begun_accepts done (IsTelling s) x.view w u b n k q same B P idle rest (begins x (tied_aside s u (key_of q) x U) U.stands) telling
+accepts_begun (Err y) s w u b n k q same B P idle rest begins = begins
 
 -- what memory was taken for pledges nothing
 pub prepared_room : (w u : Worker) → IsAsBefore w u → HasKeptRoom w → HasKeptRoom u

@@ -29,7 +29,7 @@ use Rattle.core_worker.specs.declared.types.Leading.TheVariants as leads
 use Rattle.core_worker.specs.Ties.{Holds, Stands, HasSpaceFor}
 use Rattle.core_worker.specs.Supplies.{supply_of, why}
 use Rattle.core_worker.specs.Refusals.{reply_to}
-use Rattle.core_worker.specs.Beginning.{answer_with, IsAnswered, IsStaged, BeginsBy, BeginsAs, GoesOn, Begins, HoldsAside}
+use Rattle.core_worker.specs.Beginning.{answer_with, IsAnswered, IsStaged, BeginsBy, BeginsAs, GoesOn, OnlyBegins, Begins, HoldsAside}
 
 pub begins_stopped : (w u : Worker) (cell : Option (List ℕ)) (n : ℕ) (r : Request) → w.stopped ≡ true → IsAnswered w u (answer_with n replies.Stopped None) → Begins w u cell n r
 begins_stopped w u cell n r stopped a = subst (λ (b : Bool). BeginsAs b w u cell n r) (sym stopped) a
@@ -268,6 +268,6 @@ begun_holds r p m v u b H works rest ok err keeps =
     was_idle k true e idle = absurd (let both : true ≡ false = sym (begun_busy r u b keeps err k e) ∙ idle in cc both)
     was_idle k false e idle = e
 
-pub begun_accepts : {X Y : Type 0} (r : Result X Y) (t : Type 0) (v : View) (w u b : Worker) (n k : ℕ) (q : Request) → k ≡ key_of q → IsAsBefore w u → Prepared w u k → is_busy u.places.items k ≡ false → OnOk r (t → Begins u b (v.cell (key_of q)) n q) → OnOk r (t → Accepts v w b n q)
-begun_accepts (Ok x) t v w u b n k q same B P idle begins = λ telling. (u, B, subst (Prepared w u) same P, inr (ap (λ (y : Worker). is_busy y.places.items (key_of q)) (sym B.rest) ∙ ap (is_busy u.places.items) (sym same) ∙ idle, begins telling))
-begun_accepts (Err y) t v w u b n k q same B P idle begins = begins
+pub begun_accepts : {X Y : Type 0} (r : Result X Y) (t : Type 0) (v : View) (w u b : Worker) (n k : ℕ) (q : Request) → k ≡ key_of q → IsAsBefore w u → Prepared w u k → is_busy u.places.items k ≡ false → OnlyBegins u b → OnOk r (t → Begins u b (v.cell (key_of q)) n q) → OnOk r (t → Accepts v w b n q)
+begun_accepts (Ok x) t v w u b n k q same B P idle rest begins = λ telling. (u, B, subst (Prepared w u) same P, inr (ap (λ (y : Worker). is_busy y.places.items (key_of q)) (sym B.rest) ∙ ap (is_busy u.places.items) (sym same) ∙ idle, rest, begins telling))
+begun_accepts (Err y) t v w u b n k q same B P idle rest begins = begins

@@ -1,6 +1,6 @@
 -- The room rule is kept where a change is staged that was not refused.
-use Rattle.std.proofs.Common.{◌≡◌, ◌≢◌, Option, Some, ◌/◌, ◌⊎◌, inl, inr, ⊎_elim, ℕ, zero, suc, ◌+◌, ◌<◌, ◌≤◌, ◌==◌, ◌&&◌, ◌||◌, leb, ltb, Bool, true, false, cond, List, [], ◌∷◌, length, refl, sym, ◌∙◌, ap, subst, arith}
-use Rattle.std.proofs.lemmas.Bool.{lt-leb, ltb-false, leb-true, eqb-true, and_parts, or_cases}
+use Rattle.std.proofs.Common.{◌≡◌, Option, Some, ◌/◌, ◌⊎◌, inl, inr, ⊎_elim, ℕ, zero, suc, ◌+◌, ◌<◌, ◌≤◌, ◌==◌, ◌&&◌, leb, ltb, Bool, true, false, cond, List, [], ◌∷◌, length, refl, sym, ◌∙◌, ap, subst, arith}
+use Rattle.std.proofs.lemmas.Bool.{lt-leb, ltb-false, leb-true, and_parts, or_cases}
 use Rattle.log_entry.specs.declared.entry.Entry.{Entry}
 use Rattle.log_entry.specs.declared.entry.Body.TheVariants as bodies
 use Rattle.log_entry.specs.Spelling.{words_of}
@@ -17,10 +17,7 @@ use Rattle.group_laws.specs.MemberViews.{View}
 use Rattle.core_worker.specs.Posting.{PostsPlain}
 use Rattle.lazy_alloc.specs.Sets.{Sets, Takes, free_chunk_count}
 use Rattle.core_room.specs.declared.supply.Supply.{Supply}
-use Rattle.core_room.specs.RoomRule.{KeepsRoom, lacks_room, may_cut, fits_nowhere, leaves_chunk}
-use Rattle.std.specs.declared.collections.VecDeque.{VecDeque}
-use Rattle.std.specs.Global.{Global}
-use Rattle.core_worker.specs.declared.types.Answer.{Answer}
+use Rattle.core_room.specs.RoomRule.{KeepsRoom, lacks_room, may_cut}
 use Rattle.core_worker.specs.declared.types.Cleaning.{Cleaning}
 use Rattle.core_worker.specs.declared.types.Cleaning.TheVariants.{Nothing, Copying, Doomed}
 use Rattle.core_worker.specs.declared.types.Place.{Place}

@@ -1,5 +1,5 @@
 -- Accepting a request: it is held behind those of its key, or begun.
-use Rattle.std.specs.Prelude.{◌≡◌, ◌⊎◌, ℕ, ◌+◌, ◌≤◌, true, false}
+use Rattle.std.specs.Prelude.{◌≡◌, ◌⊎◌, ℕ, ◌+◌, ◌≤◌, true, false, None}
 use Rattle.pm_region.specs.State.{State, IsTelling}
 use Rattle.fs_model.specs.declared.model.Request.{Request}
 use Rattle.fs_model.specs.Cells.{key_of}
@@ -10,7 +10,7 @@ use Rattle.group_laws.specs.MemberViews.{View}
 use Rattle.core_worker.specs.declared.worker.Worker.{Worker}
 use Rattle.core_worker.specs.OwnPlaces.{is_busy}
 use Rattle.core_worker.specs.Refusals.{HasAnswerRoom}
-use Rattle.core_worker.specs.Beginning.{Begins}
+use Rattle.core_worker.specs.Beginning.{OnlyBegins, Begins}
 use Rattle.core_worker.specs.Ties.{Tie, HoldsBy, StandsBy}
 
 -- nothing but the room for records and answers is another one
@@ -30,6 +30,8 @@ pub record IsTied (s : State) (w : Worker) (k : ℕ) (t : Tie) : Type 0 where
   pub holds : HoldsBy t w
   pub stands : StandsBy s t w
   pub own : owner t.place k ≡ t.number
+  -- nothing is in hand until the core winds down
+  pub hand : w.winds_down ≡ false → w.in_hand ≡ None
 
 -- it is so somewhere
 abbrev pub HasTie : State → Worker → ℕ → Type 0
@@ -42,7 +44,7 @@ StaysTied s old new k = (t : Tie) → IsTied s old k t → IsTied s new k t
 abbrev pub Accepts : View → Worker → Worker → ℕ → Request → Type 0
 Accepts v old new n r = (mid : Worker) × IsAsBefore old mid × Prepared old mid (key_of r)
     × (((is_busy old.places.items (key_of r) ≡ true) × AddsLast mid.queue new.queue (held_with n r) × (new ≡ record mid { queue = new.queue }))
-    ⊎ ((is_busy old.places.items (key_of r) ≡ false) × Begins mid new (v.cell (key_of r)) n r))
+    ⊎ ((is_busy old.places.items (key_of r) ≡ false) × OnlyBegins mid new × Begins mid new (v.cell (key_of r)) n r))
 
 -- by each view that the worker may be tied to, where the region tells
 abbrev pub AcceptsByEachView : State → Worker → Worker → ℕ → Request → Type 0

@@ -1,7 +1,6 @@
 -- A request is held, begun, or given back.
-use Rattle.std.proofs.Common.{◌≡◌, inl, ℕ, ◌+◌, true, refl, sym, ◌∙◌, ap, subst, arith}
+use Rattle.std.proofs.Common.{◌≡◌, inl, ℕ, ◌+◌, refl, sym, ◌∙◌, ap, subst, arith}
 use Rattle.fs_model.specs.Cells.{key_of}
-use Rattle.conflict_queue.specs.Waiting.{held_with}
 use Rattle.core_index.specs.Index.{room_at}
 use Rattle.core_worker.specs.declared.worker.Worker.{Worker}
 use Rattle.core_worker.specs.OwnPlaces.{is_busy}
@@ -52,7 +51,7 @@ returns-clause-ties g c = begun_tie c.begin.result (g.R.Region.state c.args.regi
     (ap (λ (x : Worker). x.winds_down) c.prepare.ensures.before.rest ∙ c.requires.works) c.begin.ensures.rest c.begin.ensures.keeps c.begin.ensures.unchanged c.begin.ensures.busy
 
 pub returns-clause-accepts : goal.returns-clause-accepts
-returns-clause-accepts g c = accepts_begun c.begin.result (g.R.Region.state c.args.region.now) c.args.self.now c.prepare.new.self c.begin.new.self c.args.number c.key_of-key.result c.args.request c.key_of-key.ensures c.prepare.ensures.before (c.prepare.ensures.ready c.if-not-prepare.false) (sym c.is_busy.ensures ∙ c.if-is_busy.false) c.begin.ensures.begins
+returns-clause-accepts g c = accepts_begun c.begin.result (g.R.Region.state c.args.region.now) c.args.self.now c.prepare.new.self c.begin.new.self c.args.number c.key_of-key.result c.args.request c.key_of-key.ensures c.prepare.ensures.before (c.prepare.ensures.ready c.if-not-prepare.false) (sym c.is_busy.ensures ∙ c.if-is_busy.false) c.begin.ensures.rest c.begin.ensures.begins
 
 pub returns-then-not-prepare-clause-rule : goal.returns-then-not-prepare-clause-rule
 returns-then-not-prepare-clause-rule g c = prepared_room c.args.self.now c.prepare.new.self c.prepare.ensures.before
