@@ -1,6 +1,5 @@
 -- Entries are appended to the log between two turns of a cleaning.
-use Rattle.std.proofs.Common.{◌≡◌, ◌≢◌, ℕ, ◌+◌, ◌<◌, ◌==◌, ◌&&◌, ◌||◌, nat_le, not, Bool, true, false, cond, List, [], ◌∷◌, Option, Some, None, is_some, refl, sym, ◌∙◌, ap, subst, arith}
-use Rattle.std.specs.List.{filter}
+use Rattle.std.proofs.Common.{◌≡◌, ◌≢◌, ℕ, ◌+◌, ◌==◌, ◌&&◌, ◌||◌, nat_le, not, Bool, true, false, cond, List, [], ◌∷◌, Option, Some, None, is_some, refl, sym, ◌∙◌, ap, subst, arith}
 use Rattle.std.proofs.lemmas.Bool.{cond-false}
 use Rattle.pm_region.specs.State.{State, IsTelling, cell_now}
 use Rattle.pm_region.specs.Words.{KeepsOutside}
@@ -9,14 +8,12 @@ use Rattle.chunk_map.specs.Layouts.{chunk_words}
 use Rattle.log_entry.specs.declared.entry.Entry.{Entry}
 use Rattle.core_log.specs.Log.{LogState, tail_of, open_number, open_first}
 use Rattle.core_log.specs.Walking.{IsBetween, entries_in, behind}
-use Rattle.store_image.specs.Facts.{In}
 use Rattle.log_standing.specs.declared.types.Copies.{Copies}
-use Rattle.log_standing.specs.declared.types.Settled.{Settled}
 use Rattle.log_standing.specs.NameCounts.{StandingState, copies_at, count_in, told_in, count_of, one_more, bit}
-use Rattle.log_standing.specs.ChunkCounts.{is_named, has_name, chunks_with, IsStandingOf}
+use Rattle.log_standing.specs.ChunkCounts.{is_named, has_name, IsStandingOf}
 use Rattle.log_cleaner.specs.Copying.{awaits, left_to_copy, IsSettledIn, IsUpToDate}
 use Rattle.log_cleaner.specs.Clearing.{ClearingState, is_doomed, IsGathered}
-use Rattle.log_cleaner.specs.Additions.{is_among, Lacks, AddsEach, AppendsNew, IsApart}
+use Rattle.log_cleaner.specs.Additions.{is_among, Lacks, AddsEach, AppendsNew}
 use Rattle.log_cleaner.proofs.Parts.{count_has, in_named}
 use Rattle.log_cleaner.proofs.AppendLaws.{else_has, chunks_more}
 use Rattle.log_cleaner.proofs.LessLaws.{filter_same_in}

@@ -1,6 +1,6 @@
 -- A batch of entries is appended to the open chunk: in which chunks each name stands then.
-use Rattle.std.proofs.Common.{◌≡◌, ◌≢◌, inl, inr, ⊎_elim, ℕ, zero, suc, ◌+◌, ◌≤◌, ◌<◌, ◌==◌, ◌||◌, nat_lt, Bool, true, false, cond, List, [], ◌∷◌, ◌++◌, length, Option, Some, None, is_some, unwrap_or, refl, sym, ◌∙◌, ap, subst, arith}
-use Rattle.std.specs.List.{flat_map, list_any, count_by}
+use Rattle.std.proofs.Common.{◌≡◌, ◌≢◌, inl, inr, ⊎_elim, ℕ, ◌+◌, ◌<◌, ◌==◌, ◌||◌, nat_lt, Bool, true, false, cond, List, [], ◌∷◌, ◌++◌, length, Option, Some, is_some, unwrap_or, refl, sym, ◌∙◌, ap, arith}
+use Rattle.std.specs.List.{count_by}
 use Rattle.std.proofs.lemmas.Bool.{cond-false, eqb-true, ne_eqb, ltb-true}
 use Rattle.std.proofs.lemmas.List.Sums.{sum_by-cons}
 use Rattle.std.proofs.lemmas.List.Folds.{list_any-append}
@@ -14,7 +14,7 @@ use Rattle.log_entry.specs.Spelling.{words_of}
 use Rattle.log_entry.specs.Batches.{IsBatch, batch_words, scan_of}
 use Rattle.log_entry.proofs.Scans.{entries_from, scan-append}
 use Rattle.core_log.specs.declared.types.LogChunk.{LogChunk}
-use Rattle.core_log.specs.Chunk.{padded, words_now}
+use Rattle.core_log.specs.Chunk.{words_now}
 use Rattle.core_log.specs.Entries.{AppendedBatch}
 use Rattle.core_log.specs.Log.{LogState, IsOwn, Spelled, IsRising, tail_of, with_tail, without, tail_in, first_of, chunk_with, open_number, open_first, open_tail}
 use Rattle.core_log.specs.Walking.{words_in, entries_in}

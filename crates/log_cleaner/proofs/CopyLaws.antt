@@ -1,17 +1,14 @@
 -- A batch of copies is appended to the open chunk.
-use Rattle.std.proofs.Common.{◌≡◌, ◌≢◌, inl, inr, ⊎_elim, ℕ, zero, suc, ◌+◌, ◌≤◌, ◌<◌, ◌==◌, ◌||◌, nat_lt, not, Bool, true, false, cond, List, [], ◌∷◌, ◌++◌, length, map, take, Option, Some, None, is_some, refl, sym, ◌∙◌, ap, subst, arith}
-use Rattle.std.specs.List.{filter, flat_map, list_any, count_by}
-use Rattle.std.proofs.lemmas.Bool.{cond-false, eqb-true, ne_eqb, and_parts, ltb-true, cases_eq}
+use Rattle.std.proofs.Common.{◌≡◌, ◌≢◌, inl, inr, ⊎_elim, ℕ, zero, suc, ◌+◌, ◌≤◌, ◌<◌, ◌||◌, not, Bool, true, false, cond, List, [], ◌∷◌, ◌++◌, length, map, take, Option, Some, None, is_some, refl, sym, ◌∙◌, ap, subst, arith}
+use Rattle.std.specs.List.{filter}
+use Rattle.std.proofs.lemmas.Bool.{eqb-true, and_parts, cases_eq}
 use Rattle.std.proofs.lemmas.List.{map-append}
-use Rattle.std.proofs.lemmas.List.Sums.{sum_by-cons}
-use Rattle.std.proofs.lemmas.List.Folds.{list_any-append}
 use Rattle.pm_region.specs.Cell.{Cell}
 use Rattle.pm_region.specs.State.{State, IsTelling, cell_now, During}
 use Rattle.pm_region.specs.Words.{KeepsOutside, MayLeaveIn, lasts}
 use Rattle.pm_region.proofs.Moments.{weaken, both, told_at_entry, started}
-use Rattle.pm_region.proofs.Cells.{may_be_last}
 use Rattle.chunk_map.specs.Layouts.{chunk_words, part_first}
-use Rattle.chunk_map.proofs.LayoutLaws.{chunks_apart, chunk_in_part}
+use Rattle.chunk_map.proofs.LayoutLaws.{chunk_in_part}
 use Rattle.log_entry.specs.declared.entry.Entry.{Entry}
 use Rattle.log_entry.specs.Spelling.{words_of}
 use Rattle.log_entry.specs.Batches.{IsBatch, batch_words}
@@ -21,24 +18,22 @@ use Rattle.log_entry.proofs.Scans.{spells-append}
 use Rattle.core_log.proofs.Padded.{length-padded}
 use Rattle.store_image.specs.Facts.{In}
 use Rattle.store_image.proofs.SoundFacts.{in_front, in_either}
-use Rattle.core_log.specs.declared.types.LogChunk.{LogChunk}
 use Rattle.core_log.specs.Chunk.{lines_for, padded, words_now, HasOrLacks}
-use Rattle.core_log.specs.Log.{LogState, StandsIn, Spelled, IsRising, tail_of, with_tail, without, tail_in, first_of, chunk_with, open_number, open_first, open_tail, room_of, EachInOpen}
+use Rattle.core_log.specs.Log.{LogState, StandsIn, Spelled, tail_of, with_tail, without, first_of, open_number, open_first, open_tail, room_of, EachInOpen}
 use Rattle.core_log.specs.Entries.{with_places, open_entries, added_entries, HasEntries, HasEntriesOrLacks, AppendedBatch}
 use Rattle.core_log.specs.Walking.{entries_in}
-use Rattle.core_log.proofs.LogLaws.{tail_fits}
-use Rattle.core_log.proofs.TailLaws.{tail_set, tail_other}
-use Rattle.core_log.proofs.WithoutLaws.{without_other, without_self}
+use Rattle.core_log.proofs.TailLaws.{tail_other}
+use Rattle.core_log.proofs.WithoutLaws.{without_other}
 use Rattle.core_log.proofs.BatchLaws.{open_has, opened_is, open_spelled, open_chunk_of, moved_chunk_of, entries_or_lacks}
 use Rattle.log_standing.specs.declared.types.Copies.{Copies}
-use Rattle.log_standing.specs.NameCounts.{StandingState, name_eq, copies_at, count_in, count_of, one_more}
+use Rattle.log_standing.specs.NameCounts.{StandingState, copies_at, count_in, count_of, one_more}
 use Rattle.log_standing.specs.ChunkCounts.{is_named, has_name, chunks_with, IsStandingOf}
 use Rattle.log_cleaner.specs.Copying.{awaits, left_to_copy}
 use Rattle.log_cleaner.specs.CopyBatch.{firsts, next_batch, entries_of, Collected, batch_in, SameElse}
 use Rattle.log_cleaner.specs.ImagesBeside.{Stands, EachInPart, HasSame}
 use Rattle.log_cleaner.specs.Additions.{is_among, Lacks}
 use Rattle.log_cleaner.proofs.AppendLaws.{else_has, chunks_more}
-use Rattle.log_cleaner.proofs.Parts.{StandsAt, part_has, part_in, Among, placed_in, placed_has, name_in, in_named, count_has, count_without, count_same, chunk_of, chunk_lasts, was, was_may, was_outside, reads_kept, blocks_kept, log_well, same_else, was_chunk, entries_still}
+use Rattle.log_cleaner.proofs.Parts.{StandsAt, part_has, part_in, Among, placed_in, placed_has, name_in, in_named, count_has, count_without, chunk_of, chunk_lasts, was, was_may, was_outside, reads_kept, blocks_kept, log_well, same_else, was_chunk}
 
 -- nothing was written
 pub same_parts : (s : State) (log : LogState) (j : ℕ) → During s s (EachInPart log (HasSame s log j))

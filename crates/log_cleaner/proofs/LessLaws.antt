@@ -1,6 +1,6 @@
 -- What is left to be copied after a batch.
-use Rattle.std.proofs.Common.{◌≡◌, inl, inr, ⊎_elim, ℕ, zero, suc, ◌+◌, ◌≤◌, ◌<◌, ◌-◌, ◌==◌, ◌&&◌, ◌||◌, not, Bool, true, false, cond, List, [], ◌∷◌, length, take, Option, Some, refl, sym, ◌∙◌, ap, arith}
-use Rattle.std.specs.List.{filter, sum_by, count_by, flat_map}
+use Rattle.std.proofs.Common.{◌≡◌, inl, inr, ⊎_elim, ℕ, zero, suc, ◌+◌, ◌≤◌, ◌<◌, ◌==◌, ◌&&◌, ◌||◌, not, Bool, true, false, cond, List, [], ◌∷◌, length, take, Option, Some, refl, sym, ◌∙◌, ap, arith}
+use Rattle.std.specs.List.{filter, sum_by, count_by}
 use Rattle.std.proofs.lemmas.Bool.{cond-true, cond-false, eqb-true, and_parts}
 use Rattle.std.proofs.lemmas.List.Sums.{sum_by-cons}
 use Rattle.std.proofs.lemmas.List.Filters.{sum_by-filter_both}
@@ -8,10 +8,10 @@ use Rattle.log_entry.specs.declared.entry.Entry.{Entry}
 use Rattle.log_entry.specs.Spelling.{words_of}
 use Rattle.store_image.specs.Facts.{In}
 use Rattle.log_standing.specs.declared.types.Copies.{Copies}
-use Rattle.log_standing.specs.NameCounts.{StandingState, name_eq, copies_at, count_in, told_in, count_of, one_more}
+use Rattle.log_standing.specs.NameCounts.{StandingState, copies_at, count_in, told_in, count_of, one_more}
 use Rattle.log_standing.specs.ChunkCounts.{is_named, has_name}
-use Rattle.log_cleaner.specs.Copying.{awaits, left_to_copy, words_sum, IsEachOnce}
-use Rattle.log_cleaner.specs.CopyBatch.{firsts, next_batch, entries_of, Adds, IsLess, IsLessJust, Bounds, lowered_by, IsBatchOf}
+use Rattle.log_cleaner.specs.Copying.{awaits, left_to_copy, IsEachOnce}
+use Rattle.log_cleaner.specs.CopyBatch.{firsts, next_batch, Adds, IsLess, IsLessJust}
 use Rattle.log_cleaner.proofs.Parts.{name_in, in_named}
 use Rattle.log_cleaner.proofs.Batches.{name_sym, filter_same, filter_both, filter_swap, two_wants, and_false, and_true}
 use Rattle.log_cleaner.proofs.CopyLaws.{in_batch}

@@ -1,6 +1,5 @@
 -- While copies are made, and while a chunk is made Free, each image stays licensed.
-use Rattle.std.proofs.Common.{◌≡◌, ◌≢◌, ◌⊎◌, inl, inr, ⊎_elim, ℕ, ◌+◌, ◌≤◌, ◌<◌, ◌==◌, ◌&&◌, ◌||◌, true, false, Bool, cond, List, [], ◌∷◌, Option, Some, None, is_some, unwrap_or, refl, sym, ◌∙◌, ap, subst, arith}
-use Rattle.std.specs.List.{count_by}
+use Rattle.std.proofs.Common.{◌≡◌, ◌≢◌, inl, inr, ⊎_elim, ℕ, ◌+◌, ◌≤◌, ◌<◌, ◌||◌, true, false, Bool, cond, List, [], ◌∷◌, Option, Some, None, is_some, unwrap_or, refl, sym, ◌∙◌, ap, subst, arith}
 use Rattle.std.proofs.lemmas.Bool.{cases_eq}
 use Rattle.std.proofs.lemmas.List.Sums.{sum_by-cons}
 use Rattle.pm_region.specs.State.{State, IsTelling, cell_now, During}
@@ -14,26 +13,25 @@ use Rattle.log_entry.specs.declared.entry.Entry.{Entry}
 use Rattle.log_entry.specs.declared.entry.EntryName.{EntryName}
 use Rattle.store_image.specs.Parts.{reads, held}
 use Rattle.store_image.specs.Facts.{In}
-use Rattle.core_log.specs.Log.{LogState, StandsIn, tail_of, without, first_of, open_number, open_first}
+use Rattle.core_log.specs.Log.{LogState, StandsIn, tail_of, first_of, open_number, open_first}
 use Rattle.core_log.specs.Opening.{EachInChunk, HasNoEntries}
 use Rattle.core_log.specs.PartImages.{EachInPart, entries_of}
 use Rattle.core_log.specs.Retiring.{RetiredChunk}
 use Rattle.core_log.specs.Walking.{entries_in}
 use Rattle.core_log.proofs.ChunkImages.{InPart}
 use Rattle.core_log.proofs.WithoutLaws.{without_other}
-use Rattle.group_laws.specs.declared.types.Block.{Block}
-use Rattle.group_laws.specs.Places.{Place, core_of}
+use Rattle.group_laws.specs.Places.{Place}
 use Rattle.group_laws.specs.Updates.{has}
 use Rattle.group_laws.specs.MemberViews.{View}
 use Rattle.group_laws.specs.Images.{IsLicensedBy}
 use Rattle.licence.specs.Licence.{Licensed, IsLogOf, part_at, part_end}
 use Rattle.licence.specs.ViewChanges.{Forgets, HaveVanished}
 use Rattle.licence.specs.Writes.{Begins}
-use Rattle.licence.proofs.Gained.{to_place, to_log, part_each, log_each, gained_kept}
+use Rattle.licence.proofs.Gained.{to_place, part_each, log_each, gained_kept}
 use Rattle.licence.proofs.LogEvents.{forgotten}
 use Rattle.log_standing.specs.NameCounts.{times_in, name_eq}
 use Rattle.log_standing.specs.ChunkCounts.{has_name}
-use Rattle.log_cleaner.specs.ImagesBeside.{Stands, HasSame, LosesOnly, MakesCopies, GivesUp, Vanish}
+use Rattle.log_cleaner.specs.ImagesBeside.{HasSame, LosesOnly, MakesCopies, GivesUp, Vanish}
 use Rattle.log_cleaner.specs.Vanishing.{MayGo, NoneElse}
 use Rattle.log_cleaner.proofs.Parts.{chunk_of, count_has, in_named}
 use Rattle.log_cleaner.proofs.CopyLaws.{in_entries}

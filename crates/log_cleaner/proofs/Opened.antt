@@ -1,10 +1,9 @@
 -- A chunk is opened between two turns of a cleaning.
-use Rattle.std.proofs.Common.{◌≡◌, ◌≢◌, inl, inr, ⊎_elim, ℕ, ◌+◌, ◌<◌, ◌==◌, nat_lt, Bool, true, false, cond, List, [], ◌∷◌, Option, Some, None, is_some, unwrap_or, refl, sym, ◌∙◌, ap, subst, arith}
+use Rattle.std.proofs.Common.{◌≡◌, ◌≢◌, inl, inr, ⊎_elim, ℕ, ◌+◌, ◌==◌, nat_lt, Bool, true, false, cond, List, [], ◌∷◌, Option, Some, None, is_some, unwrap_or, refl, sym, ◌∙◌, ap, subst, arith}
 use Rattle.std.specs.List.{count_by}
-use Rattle.std.proofs.lemmas.Bool.{cond-false, eqb-true}
+use Rattle.std.proofs.lemmas.Bool.{cond-false}
 use Rattle.std.proofs.lemmas.List.Sums.{sum_by-cons}
-use Rattle.pm_region.specs.State.{State, IsTelling, cell_now, During}
-use Rattle.chunk_map.specs.Layouts.{chunk_words}
+use Rattle.pm_region.specs.State.{State, IsTelling}
 use Rattle.chunk_map.proofs.LayoutLaws.{numbers_of, chunk_words_whole, chunks_apart}
 use Rattle.log_entry.specs.declared.entry.Entry.{Entry}
 use Rattle.log_entry.specs.Batches.{scan_of}
@@ -16,7 +15,7 @@ use Rattle.core_log.proofs.LogLaws.{own_chunk, tail_fits}
 use Rattle.core_log.proofs.RetireLaws.{is_tail}
 use Rattle.core_log.proofs.TailLaws.{tail_set, tail_other}
 use Rattle.log_standing.specs.NameCounts.{StandingState}
-use Rattle.log_standing.specs.ChunkCounts.{has_name, chunks_with, IsStandingOf}
+use Rattle.log_standing.specs.ChunkCounts.{has_name, IsStandingOf}
 use Rattle.log_cleaner.specs.Copying.{left_to_copy, IsSettledIn, IsUpToDate}
 use Rattle.log_cleaner.specs.Additions.{with_open, OpensNew}
 use Rattle.log_cleaner.proofs.Parts.{entries_still, count_same}

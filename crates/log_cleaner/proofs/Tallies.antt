@@ -1,5 +1,5 @@
 -- Numbers that a caller keeps of what is left to be copied.
-use Rattle.std.proofs.Common.{◌≡◌, ℕ, suc, ◌+◌, ◌-◌, ◌≤◌, List, [], ◌∷◌, ◌++◌, length, Option, refl, sym, ◌∙◌, ap, arith}
+use Rattle.std.proofs.Common.{◌≡◌, ℕ, ◌-◌, ◌≤◌, List, [], ◌∷◌, length, refl, ◌∙◌, ap, arith}
 use Rattle.std.specs.Prelude.{option_map}
 use Rattle.std.specs.List.{flat_map}
 use Rattle.std.proofs.lemmas.List.{length-append}
@@ -11,10 +11,8 @@ use Rattle.core_log.specs.Log.{LogState}
 use Rattle.core_log.specs.Walking.{entries_in}
 use Rattle.log_standing.specs.NameCounts.{StandingState, copies_at, killed, Changes}
 use Rattle.log_cleaner.specs.declared.types.Victim.{Victim}
-use Rattle.log_cleaner.specs.Additions.{Lacks, AddsEach}
 use Rattle.log_cleaner.specs.Copying.{left_to_copy, words_sum, tally_of, to_copy, IsEachOnce}
-use Rattle.log_cleaner.specs.CopyBatch.{batch_in, entries_of, next_batch, IsLess, IsBatchOf, Bounds, lowered_by}
-use Rattle.log_cleaner.proofs.Added.{add_left}
+use Rattle.log_cleaner.specs.CopyBatch.{batch_in, entries_of, IsLess, IsBatchOf, Bounds, lowered_by}
 use Rattle.log_cleaner.proofs.Between.{kill_less}
 
 words_long : (xs : List (ℕ × Entry)) → length (flat_map words_of (entries_of xs)) ≡ words_sum xs

@@ -1,22 +1,17 @@
-use Rattle.std.proofs.Common.{◌≡◌, ◌+◌, ◌<◌, ⊎_elim, ℕ, List, [], ◌∷◌, length, refl, sym, ◌∙◌, ap, arith}
-use Rattle.std.specs.List.{flat_map}
-use Rattle.pm_region.specs.State.{State, IsTelling, During, cell_now}
-use Rattle.pm_region.specs.Words.{KeepsOutside, lasts}
+use Rattle.std.proofs.Common.{◌≡◌, ◌+◌, ⊎_elim, ℕ, List, [], ◌∷◌, length, refl, sym, ◌∙◌, ap, arith}
+use Rattle.pm_region.specs.State.{State, IsTelling, cell_now}
+use Rattle.pm_region.specs.Words.{KeepsOutside}
 use Rattle.pm_region.proofs.Moments.{told_at_entry}
 use Rattle.pm_region.proofs.Runs.{all_kept}
 use Rattle.chunk_map.specs.Layouts.{chunk_words}
 use Rattle.log_entry.specs.declared.entry.Entry.{Entry}
-use Rattle.log_entry.specs.Spelling.{words_of}
-use Rattle.log_entry.specs.Batches.{IsBatch}
 use Rattle.core_log.specs.Chunk.{lines_for}
-use Rattle.core_log.specs.Entries.{open_entries, HasEntriesOrLacks}
-use Rattle.core_log.specs.Log.{LogState, EachInOpen, open_first}
+use Rattle.core_log.specs.Log.{LogState, open_first}
 use Rattle.core_log.specs.Walking.{entries_in}
 use Rattle.core_log.proofs.BatchLaws.{some_opens}
 use Rattle.log_standing.specs.NameCounts.{StandingState, count_in}
 use Rattle.log_standing.specs.ChunkCounts.{IsStandingOf}
 use Rattle.log_cleaner.specs.CopyBatch.{Adds, batch_in, copies_in, SameElse}
-use Rattle.log_cleaner.specs.ImagesBeside.{MakesCopies}
 use Rattle.log_cleaner.proofs.CopyLaws.{same_parts, same_log, copy_parts, copy_standing, still_has, not_open, is_batch, long_entries}
 use Rattle.log_cleaner.proofs.LessLaws.{is_less, none_awaits}
 use Rattle.log_cleaner.proofs.SettledLaws.{settled_moved}

@@ -1,4 +1,4 @@
-use Rattle.std.proofs.Common.{◌≡◌, ℕ, ◌<◌, ◌≤◌, List, [], ◌∷◌, ◌++◌, sym, ◌∙◌, ap, subst, arith, rules, lit<, lit≤}
+use Rattle.std.proofs.Common.{◌≡◌, ℕ, ◌<◌, ◌≤◌, List, [], ◌∷◌, ◌++◌, sym, ◌∙◌, ap, subst, arith, lit<, lit≤}
 use Rattle.log_entry.specs.declared.entry.Body.TheVariants.{Embedded}
 use Rattle.log_entry.specs.Spelling.{HasSpelling}
 use Rattle.log_cleaner.proofs.tests.with_entry.Goals as goal
