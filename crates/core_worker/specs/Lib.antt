@@ -2,6 +2,7 @@ pub mod OwnPlaces
 pub mod Supplies
 pub mod KeyTies
 pub mod Ties
+pub mod Order
 pub mod Refusals
 pub mod Beginning
 pub mod Accepting

@@ -1,0 +1,51 @@
+-- What else a worker keeps between two calls: what its index and its view have of one key's blocks and dead names, room for the answers to come, and what a stopped core may lead.
+use Rattle.std.specs.Prelude.{◌≡◌, ◌⊎◌, ℕ, ◌+◌, ◌≤◌, true, false, List, [], ◌∷◌, length, Option, Some, None, is_some, if◌then◌else◌}
+use Rattle.log_entry.specs.declared.entry.Body.TheVariants as bodies
+use Rattle.core_index.specs.Index.{known_at}
+use Rattle.core_index.specs.Records.{Awaits, last_of, standing_of, standing_at, block_of}
+use Rattle.core_index.specs.declared.types.Standing.{Standing}
+use Rattle.group_laws.specs.declared.types.Block.{Block}
+use Rattle.group_laws.specs.declared.types.Pending.{Pending}
+use Rattle.group_laws.specs.Places.{Place, core_of, owner}
+use Rattle.group_laws.specs.MemberViews.{View}
+use Rattle.core_worker.specs.declared.types.Leading.{Leading}
+use Rattle.core_worker.specs.declared.types.Leading.TheVariants as leads
+use Rattle.core_worker.specs.declared.types.Place as places
+use Rattle.core_worker.specs.declared.worker.Worker.{Worker}
+use Rattle.core_worker.specs.OwnPlaces.{is_free}
+use Rattle.core_worker.specs.Refusals.{HasAnswerRoom}
+
+-- the change under way of a key points to this block
+abbrev pub PointsAt : Option Pending → ℕ → Type 0
+PointsAt None q = ⊥
+PointsAt (Some x) q = x.entry.body ≡ bodies.Pointer q
+
+abbrev pub count_changes : List places.Place → ℕ
+count_changes [] = 0
+count_changes (x ∷ xs) = (if is_free x then 0 else 1) + count_changes xs
+
+-- how many accepted requests have no answer yet
+abbrev pub unanswered : Worker → ℕ
+unanswered w = count_changes w.places.items + (length w.queue + (if is_some w.in_hand then 1 else 0))
+
+-- A stopped core leads only to withdraw: it holds no batch, and has taken nothing.
+abbrev pub MayLeadStopped : Leading → Type 0
+MayLeadStopped (leads.Nothing buffer) = Unit {0}
+MayLeadStopped (leads.Collecting c) = c.changes.taken.items ≡ []
+MayLeadStopped (leads.Batch b) = ⊥
+MayLeadStopped (leads.Persisted x) = ⊥
+MayLeadStopped (leads.Failed x) = Unit {0}
+MayLeadStopped leads.Between = ⊥
+
+pub record InOrder (p : Place) (m : ℕ) (v : View) (w : Worker) : Type 0 where
+  -- each block is one of an own key
+  pub owned : (q : ℕ) (b : Block) → v.blocks q ≡ Some b → owner p b.key ≡ m
+  -- of a key of a core that runs, the view has no block but that of its value and that of its change under way
+  pub single : w.stopped ≡ false → (q : ℕ) (b : Block) → v.blocks q ≡ Some b → (block_of (known_at w.index b.key) ≡ Some q) ⊎ PointsAt (v.pending b.key) q
+  -- no dead name that stands in the own log waits to be told
+  pub heard : w.stopped ≡ false → (k n : ℕ) → Awaits (known_at w.index k) (core_of p m) n → ⊥
+  -- no entry stands above the last version of its key
+  pub versions : (k n : ℕ) (s : Standing) → standing_at (standing_of (known_at w.index k)) n ≡ Some s → n ≤ last_of (known_at w.index k)
+  -- each accepted request has room for its answer
+  pub answers : HasAnswerRoom (unanswered w) w
+  pub stops : w.stopped ≡ true → MayLeadStopped w.leading
