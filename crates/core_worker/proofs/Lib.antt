@@ -23,3 +23,5 @@ mod RoomKept
 mod Accepted
 mod Winding
 mod Waiters
+mod Unpledging
+mod BatchRoom
