@@ -23,3 +23,5 @@ mod RoomKept
 mod Accepted
 mod Winding
 mod Waiters
+pub mod Hearing
+pub mod Starting

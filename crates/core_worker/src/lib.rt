@@ -5,6 +5,7 @@ mod accepting;
 mod beginning;
 mod gate;
 mod leading;
+mod opening;
 mod posting;
 mod refusing;
 mod releasing;
