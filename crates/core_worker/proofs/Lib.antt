@@ -23,5 +23,8 @@ mod RoomKept
 mod Accepted
 mod Winding
 mod Waiters
-pub mod Hearing
-pub mod Starting
+mod Hearing
+mod StartKeys
+mod StartBlocks
+mod StartHeads
+mod Starting

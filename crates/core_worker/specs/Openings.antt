@@ -1,5 +1,6 @@
 -- What a worker begins with, where recovery gave its start.
 use Rattle.std.specs.Prelude.{◌≡◌, ℕ, ◌+◌, ◌<◌, ◌≤◌, ◌==◌, ◌&&◌, Bool, true, false, List, [], length, Option, Some, None, option_map, if◌then◌else◌}
+use Rattle.std.specs.VecDeque.{deque_len}
 use Rattle.log_entry.specs.declared.entry.Body.{Body}
 use Rattle.pm_region.specs.State.{State, IsTelling, cell_now}
 use Rattle.pm_region.specs.Words.{Surely}
@@ -56,7 +57,7 @@ pub record IsNew (start : CoreStart) (layout : Geometry) (w : Worker) : Type 0 w
   pub hand : w.in_hand ≡ None
   pub leading : LeadsNothing w
   pub cleaning : w.cleaning ≡ Nothing
-  pub answers : w.answers.items ≡ []
+  pub answers : (w.answers.items ≡ []) × (deque_len w.answers ≡ 0)
   pub runs : w.stopped ≡ false
   pub works : w.winds_down ≡ false
   pub fresh : w.accepted ≡ false
