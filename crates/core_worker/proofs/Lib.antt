@@ -28,3 +28,4 @@ mod StartKeys
 mod StartBlocks
 mod StartHeads
 mod Starting
+pub mod Clients

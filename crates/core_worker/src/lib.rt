@@ -11,6 +11,8 @@ mod refusing;
 mod releasing;
 mod status;
 mod supply;
+#[cfg(test)]
+mod tests;
 mod types;
 mod worker;
 
