@@ -25,3 +25,9 @@ mod Winding
 mod Waiters
 mod Unpledging
 mod BatchRoom
+mod Hearing
+mod StartKeys
+mod StartBlocks
+mod StartHeads
+mod Starting
+pub mod Clients

@@ -5,11 +5,14 @@ mod accepting;
 mod beginning;
 mod gate;
 mod leading;
+mod opening;
 mod posting;
 mod refusing;
 mod releasing;
 mod status;
 mod supply;
+#[cfg(test)]
+mod tests;
 mod types;
 mod worker;
 
