@@ -160,7 +160,10 @@ fn a_batch_of_64_changes_from_eight_members(rt: HostRuntime) -> Result<(), Fail>
     // own slots first, then member after member
     assert_eq!(rt; batch.name_at(0).map(|n| (n.key, n.version)), Some((0, 1)));
     assert_eq!(rt; batch.name_at(8).map(|n| (n.key, n.version)), Some((1, 1)));
-    assert_eq!(rt; batch.name_at(63).map(|n| (n.key, n.version)), Some((63, 1)));
+    assert_eq!(rt;
+        batch.name_at(63).map(|n| (n.key, n.version)),
+        Some((63, 1))
+    );
     assert!(rt; batch.name_at(64).is_none());
     if !write_at(&mut region, &mut log, &mut board, 0, batch) {
         assert!(rt; false);
