@@ -1,5 +1,5 @@
 -- A call of a worker, as its contract says it, is a move of the engine.
-use Rattle.std.proofs.Common.{◌≡◌, ◌≢◌, inl, inr, ℕ, ◌<◌, ◌==◌, List, [], ◌∷◌, ◌++◌, map, true, false, cond, Option, Some, refl, sym, ◌∙◌, ap, subst, arith, append_assoc}
+use Rattle.std.proofs.Common.{◌≡◌, ◌≢◌, inl, inr, ℕ, ◌<◌, ◌==◌, List, [], ◌∷◌, ◌++◌, map, Bool, true, false, cond, Option, Some, refl, sym, ◌∙◌, ap, subst, arith, append_assoc}
 use Rattle.std.specs.List.{AllByRecursion}
 use Rattle.std.proofs.lemmas.Bool.{eq-eqb, ne_eqb, eqb-true, eqb-false}
 use Rattle.std.proofs.lemmas.List.Elements.{filter-append}
@@ -55,12 +55,12 @@ answered_old : (xs : List Fixed) (t n : ℕ) (old : Option Answer) → ((x : Fix
 answered_old [] t n old none = refl
 answered_old (z ∷ zs) t n old none = ap (λ b. cond b (Some (record { reply = z.reply; stamp = t })) (answered zs t n old)) (ne_eqb z.number n (none z (inl refl))) ∙ answered_old zs t n old (λ x i. none x (inr i))
 
-module _ (start : ℕ → Option (List ℕ)) (e : Engine) (c : ℕ) (t : State) (b : Group) (v u : View) (w x : Hands) (accepted rest : List (ℕ × Request)) (fixed : List Fixed) (layout : IsLayout e.layout) (low : c < e.layout.cores)
+module _ (start : ℕ → Option (List ℕ)) (e : Engine) (c : ℕ) (t : State) (b : Group) (v u : View) (w x : Hands) (takes : Bool) (accepted rest : List (ℕ × Request)) (fixed : List Fixed) (layout : IsLayout e.layout) (low : c < e.layout.cores)
     (at : (e.group (group_of e.layout c)).place ≡ place_at e.layout (group_of e.layout c)) (at' : b.place ≡ place_at e.layout (group_of e.layout c)) (seat : u ≡ view_of b (member_of e.layout c))
     (S : Sits e c v w) (backlog : e.backlog c ≡ accepted ++ rest) (mine : (y : ℕ × Request) → In y accepted → owner e.layout (key_of y.1) ≡ c)
     (keys : (k : ℕ) → KeyStands (start k) e k) (W : WorkerMoves (place_at e.layout (group_of e.layout c)) (member_of e.layout c) e.region t (Some (e.group (group_of e.layout c))) (Some b) v u w x accepted fixed) where
   abbrev f : Engine
-  f = moved_to e c t b x rest fixed
+  f = moved_to e c t b x takes rest fixed
 
   -- the answered requests of a key are some that were given, in order
   module _ (k : ℕ) (own : owner e.layout k ≡ c) where
@@ -116,6 +116,7 @@ module _ (start : ℕ → Option (List ℕ)) (e : Engine) (c : ℕ) (t : State) 
     own_keys = mine;
     other_keys = λ k other. (there k (x.place k) (e.place k) other, there k (x.waits k) (e.waits k) other);
     other_stops = λ d ne. ap (λ q. cond q x.stopped (e.stopped d)) (ne_eqb d c ne);
+    other_takes = λ d ne. ap (λ q. cond q takes (e.takes d)) (ne_eqb d c ne);
     new_answers = λ y i. answered_new fixed t.stamp (e.answer y.number) y (λ z j q. once z y j i q) i;
     old_answers = λ n none. answered_old fixed t.stamp n (e.answer n) none;
   }

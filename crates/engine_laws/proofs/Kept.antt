@@ -50,6 +50,6 @@ done o ls e is r =
     let end = ran AnyTurn (Stands o) (turn_stands o) (gives o) cores ls (opening o) e first r in
     let last = last_pass AnyTurn (Stands o) (turn_stands o) (gives o) cores ls (opening o) e first r in
     let idle : (c : ℕ) → c < e.layout.cores → IsIdle e c = (λ c low.
-    still_pass AnyTurn (λ x y d m. m.1 refl) 0 cores last.0 e (λ d none. absurd (omega (arith, none))) last.2 c (let same : e.layout.cores ≡ cores = ap (λ (l : Geometry). l.cores) end.layout in omega (arith, low, same))) in
+    still_pass AnyTurn (λ x y d m. m.2 refl) 0 cores last.0 e (λ d none. absurd (omega (arith, none))) last.2 c (let same : e.layout.cores ≡ cores = ap (λ (l : Geometry). l.cores) end.layout in omega (arith, low, same))) in
     let D = drained o e end idle in
     record { promised = promised o e end; answered = drained_answered o e end D; drained = D }

@@ -96,6 +96,7 @@ module _ (o : Origin) (e : Engine) (S : Stands o e) (c : ℕ) (core : c < e.layo
     breaks = λ q. S.broken c core q;
     stays_stopped = λ q. q;
     other_stops = λ d ne. refl;
+    other_takes = λ d ne. refl;
   } where
     only : (y : ℕ × Request) → In y ((n, Get k) ∷ []) → owner e.layout (key_of y.1) ≡ c
     only y (inl q) = ap (λ (z : ℕ × Request). owner e.layout (key_of z.1)) q ∙ own

@@ -135,4 +135,5 @@ module _ (e f : Engine) (c : ℕ) (accepted : List (ℕ × Request)) (fixed : Li
     breaks = λ is. sym T.stopped ∙ W.breaks (ap (λ (y : View). y.broken) view' ∙ is);
     stays_stopped = λ is. sym T.stopped ∙ W.stays_stopped (S.stopped ∙ is);
     other_stops = A.other_stops;
+    other_takes = A.other_takes;
   }

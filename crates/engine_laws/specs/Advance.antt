@@ -1,5 +1,5 @@
 -- The state that one call of a worker leads to.
-use Rattle.std.specs.Prelude.{◌≡◌, ℕ, ◌<◌, ◌==◌, List, [], ◌∷◌, ◌++◌, Option, Some, if◌then◌else◌}
+use Rattle.std.specs.Prelude.{◌≡◌, ℕ, ◌<◌, ◌==◌, List, [], ◌∷◌, ◌++◌, Bool, Option, Some, if◌then◌else◌}
 use Rattle.fs_model.specs.declared.model.Request.{Request}
 use Rattle.fs_model.specs.Cells.{key_of}
 use Rattle.pm_region.specs.State.{State}
@@ -19,14 +19,15 @@ abbrev pub answered : List Fixed → ℕ → ℕ → Option Answer → Option An
 answered [] t n old = old
 answered (x ∷ xs) t n old = if x.number == n then Some (record { reply = x.reply; stamp = t }) else answered xs t n old
 
--- Core c's call led the region to t, its group to b, and its worker to x; `rest` is what its backlog still has.
-abbrev pub moved_to : Engine → ℕ → State → Group → Hands → List (ℕ × Request) → List Fixed → Engine
-moved_to e c t b x rest fixed = record {
+-- Core c's call led the region to t, its group to b, and its worker to x, which accepts the next request or not; `rest` is what its backlog still has.
+abbrev pub moved_to : Engine → ℕ → State → Group → Hands → Bool → List (ℕ × Request) → List Fixed → Engine
+moved_to e c t b x takes rest fixed = record {
   layout = e.layout;
   region = t;
   group = put e.group (group_of e.layout c) b;
   given = e.given;
   backlog = put e.backlog c rest;
+  takes = put e.takes c takes;
   stopped = put e.stopped c x.stopped;
   place = λ k. if owner e.layout k == c then x.place k else e.place k;
   waits = λ k. if owner e.layout k == c then x.waits k else e.waits k;

@@ -21,8 +21,9 @@ pub record Engine : Type 0 where
   pub group : ℕ → Group
   -- the requests so far; their index is their number
   pub given : List Request
-  -- by core: requests that its worker has not accepted yet, and whether it has stopped
+  -- by core: requests that its worker has not accepted yet, whether it accepts the next one, and whether it has stopped
   pub backlog : ℕ → List (ℕ × Request)
+  pub takes : ℕ → Bool
   pub stopped : ℕ → Bool
   -- by key: its change in a place of its owner's worker, and the accepted requests that wait for it, in order of arrival
   pub place : ℕ → Option Placed

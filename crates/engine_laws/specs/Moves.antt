@@ -82,3 +82,4 @@ pub record Moves (e f : Engine) (c : ℕ) (accepted : List (ℕ × Request)) (fi
   pub breaks : (f.group (group_of e.layout c)).broken (member_of e.layout c) ≡ true → f.stopped c ≡ true
   pub stays_stopped : e.stopped c ≡ true → f.stopped c ≡ true
   pub other_stops : (d : ℕ) → d ≢ c → f.stopped d ≡ e.stopped d
+  pub other_takes : (d : ℕ) → d ≢ c → f.takes d ≡ e.takes d

@@ -1,5 +1,5 @@
 -- What a replay promises at any state that it reaches.
-use Rattle.std.specs.Prelude.{◌≡◌, ℕ, ◌/◌, ◌<◌, ◌≤◌, List, [], ◌++◌, length, Bool, true, false}
+use Rattle.std.specs.Prelude.{◌≡◌, ℕ, ◌/◌, ◌<◌, ◌≤◌, List, [], ◌++◌, length, take, Bool, true, false, if◌then◌else◌}
 use Rattle.fs_model.specs.declared.model.Request.{Request}
 use Rattle.fs_model.specs.Changes.{finished_by, cell_after_all}
 use Rattle.pm_region.specs.State.{IsTold, IsTelling, MayLeave, cell_now, Rose}
@@ -38,9 +38,13 @@ pub record Promised (o : Origin) (e : Engine) : Type 0 where
 abbrev pub AnyMove : Engine → ℕ → Bool → Engine → Type 0
 AnyMove e c b f = (accepted : List (ℕ × Request)) × (fixed : List Fixed) × Moves e f c accepted fixed
 
--- one that answers false only where its core is idle
+-- what core c accepts in its next move: the first request of its backlog, where it takes one, and else none
+abbrev pub next_in : Engine → ℕ → List (ℕ × Request)
+next_in e c = if e.takes c then take 1 (e.backlog c) else []
+
+-- One that accepts the next request, or else makes a turn, and answers false only where its core is idle.
 abbrev pub AnyTurn : Engine → ℕ → Bool → Engine → Type 0
-AnyTurn e c b f = AnyMove e c b f × (b ≡ false → Idles e f c)
+AnyTurn e c b f = (m : AnyMove e c b f) × (m.0 ≡ next_in e c) × (b ≡ false → Idles e f c)
 
 -- Everything that was given is answered, nothing is under way, and the promises hold.
 pub record IsDone (o : Origin) (e : Engine) : Type 0 where

@@ -60,6 +60,7 @@ opening o = record {
   group = λ g. opened (place_at (layout_of o.found) g) o.found;
   given = [];
   backlog = λ c. [];
+  takes = λ c. true;
   stopped = λ c. false;
   place = λ k. None;
   waits = λ k. [];

@@ -29,6 +29,7 @@ pub record Around (e f : Engine) (c : ℕ) (accepted : List (ℕ × Request)) (f
   pub own_keys : (x : ℕ × Request) → In x accepted → owner e.layout (key_of x.1) ≡ c
   pub other_keys : (k : ℕ) → owner e.layout k ≢ c → (f.place k ≡ e.place k) × (f.waits k ≡ e.waits k)
   pub other_stops : (d : ℕ) → d ≢ c → f.stopped d ≡ e.stopped d
+  pub other_takes : (d : ℕ) → d ≢ c → f.takes d ≡ e.takes d
   pub new_answers : (x : Fixed) → In x fixed → f.answer x.number ≡ Some (record { reply = x.reply; stamp = f.region.stamp })
   pub old_answers : (n : ℕ) → ((x : Fixed) → In x fixed → x.number ≢ n) → f.answer n ≡ e.answer n
 

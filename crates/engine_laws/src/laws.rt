@@ -52,18 +52,21 @@ pub fn every_move()
 /// so does every other one that sat in the old one.
 pub fn every_call()
     ensures stands { (o : Origin) (e : Engine) (c : ℕ) (t : State) (b : Group) (v u : View)
-        (w x : Hands) (accepted rest : List (ℕ × Request)) (fixed : List Fixed)
+        (w x : Hands) (takes : Bool) (accepted rest : List (ℕ × Request))
+        (fixed : List Fixed)
         → Stands o e → Calls e c t b v u w x accepted rest fixed
-        → Stands o (moved_to e c t b x rest fixed) }
+        → Stands o (moved_to e c t b x takes rest fixed) }
     ensures sits { (o : Origin) (e : Engine) (c : ℕ) (t : State) (b : Group) (v u : View)
-        (w x : Hands) (accepted rest : List (ℕ × Request)) (fixed : List Fixed)
+        (w x : Hands) (takes : Bool) (accepted rest : List (ℕ × Request))
+        (fixed : List Fixed)
         → Stands o e → Calls e c t b v u w x accepted rest fixed
-        → Sits (moved_to e c t b x rest fixed) c u x }
+        → Sits (moved_to e c t b x takes rest fixed) c u x }
     ensures others { (o : Origin) (e : Engine) (c : ℕ) (t : State) (b : Group) (v u : View)
-        (w x : Hands) (accepted rest : List (ℕ × Request)) (fixed : List Fixed)
+        (w x : Hands) (takes : Bool) (accepted rest : List (ℕ × Request))
+        (fixed : List Fixed)
         → Stands o e → Calls e c t b v u w x accepted rest fixed
         → (d : ℕ) (v' : View) (w' : Hands) → d ≢ c → Sits e d v' w'
-        → Sits (moved_to e c t b x rest fixed) d v' w' }
+        → Sits (moved_to e c t b x takes rest fixed) d v' w' }
 {}
 
 /// What a call does for a key, and then begins the requests that waited for it, is done for the key by the one call.
