@@ -52,11 +52,14 @@ module _ (o : Origin) (e : Engine) (c : ℕ) (t : State) (b : Group) (v u : View
   pub call_others : (d : ℕ) (v' : View) (w' : Hands) → d ≢ c → Sits e d v' w' → Sits (moved_to e c t b x takes rest fixed) d v' w'
   call_others d v' w' ne T = others_sit e (moved_to e c t b x takes rest fixed) c d accepted fixed v' w' call_move ne T
 
-  -- each number is answered once, and was given
+  -- each number is answered once, and was given,
   pub call_once : (y z : Fixed) → In y fixed → In z fixed → y.number ≡ z.number → y ≡ z
   call_once y z i j q = once (start_of o) e c t b v u w x takes accepted rest fixed is_layout C.core at at' C.view C.sits C.backlog C.own S.keys C.moves y z i j q
 
+  -- and is that of its request
+  pub call_asked : (y : Fixed) → In y fixed → slice_get e.given y.number ≡ Some y.request
+  call_asked y i =
+      (in_requests (key_of y.request) e.given (y.number, y.request) (given (start_of o) e c t b v u w x takes accepted rest fixed is_layout C.core at at' C.view C.sits C.backlog C.own S.keys C.moves (key_of y.request) (of_core e.layout is_layout c (key_of y.request) (C.moves.own y i)) y (own_list (start_of o) e c t b v u w x takes accepted rest fixed is_layout C.core at at' C.view C.sits C.backlog C.own S.keys C.moves y i))).0
+
   pub call_given : (y : Fixed) → In y fixed → y.number < length e.given
-  call_given y i =
-      let r = in_requests (key_of y.request) e.given (y.number, y.request) (given (start_of o) e c t b v u w x takes accepted rest fixed is_layout C.core at at' C.view C.sits C.backlog C.own S.keys C.moves (key_of y.request) (of_core e.layout is_layout c (key_of y.request) (C.moves.own y i)) y (own_list (start_of o) e c t b v u w x takes accepted rest fixed is_layout C.core at at' C.view C.sits C.backlog C.own S.keys C.moves y i)) in
-      get_low e.given y.number y.request r.0
+  call_given y i = get_low e.given y.number y.request (call_asked y i)

@@ -1,23 +1,23 @@
 pub mod Cores
 pub mod Others
 pub mod Licences
-pub mod Opens
+mod Opens
 pub mod Numbers
-pub mod Histories
-pub mod ReplyKinds
-pub mod KeyMoves
+mod Histories
+mod ReplyKinds
+mod KeyMoves
 pub mod Stands
 pub mod Begins
-pub mod Reports
-pub mod Promises
+mod Reports
+mod Promises
 pub mod Ran
-pub mod Workers
-pub mod Advance
+mod Workers
+mod Advance
 pub mod Sits
 pub mod Calls
-pub mod Drained
+mod Drained
 pub mod Kept
 pub mod Beginning
-pub mod KeyLaw
-pub mod Exits
-pub mod Trials
+mod KeyLaw
+mod Exits
+mod Trials

@@ -24,7 +24,7 @@ use Rattle.engine_laws.proofs.Cores.{core_is, member_core}
 use Rattle.engine_laws.proofs.Others.{other_view}
 
 -- another core's words
-outside_part : (l : Geometry) (c d w : ℕ) → d ≢ c → part_first l d ≤ w → w < part_first l (d + 1) → (w < part_first l c) ⊎ (part_first l (c + 1) ≤ w)
+pub outside_part : (l : Geometry) (c d w : ℕ) → d ≢ c → part_first l d ≤ w → w < part_first l (d + 1) → (w < part_first l c) ⊎ (part_first l (c + 1) ≤ w)
 outside_part l c d w ne low high = elim (cases_lt d c) [
   | inl lt ↦ inl (let end = part_below l (d + 1) c (omega (arith, lt)) in omega (arith, end, high))
   | inr ge ↦ inr (let begin = part_below l (c + 1) d (omega (arith, ge, ne)) in omega (arith, begin, low))
