@@ -95,8 +95,8 @@ impl<W: CoreWorker> Engine<W> {
     ghost use Rattle.engine_laws.specs.Engine as engines;
     ghost use Rattle.engine_laws.specs.Stands.{Origin, Stands, opening};
     ghost use Rattle.engine_laws.specs.Promises.{AnyTurn, IsOrigin, IsDone, Promised};
-    ghost use Rattle.engine_laws.specs.Ran.{Drains, Ran};
-    ghost use Rattle.group_engine.specs.Passes.{NameCores, Ends, EndsIn};
+    ghost use Rattle.engine_laws.specs.Ran.{Ran};
+    ghost use Rattle.group_engine.specs.Passes.{NameCores, Ends, EndsIn, DrainsOut};
     ghost use Rattle.group_engine.specs.Shows.{Shows};
 
     /// Makes passes over the cores until nothing moves.
@@ -118,7 +118,7 @@ impl<W: CoreWorker> Engine<W> {
             × Shows W.hands W.answers W.stands W.fair W.room W.leads (λ q. q.items)
             (R.state region.new) self.new.layout self.new.workers.items self.new.boards.items
             self.new.backlogs.items self.new.answers.items f
-            × ((passes : ℕ) × Drains AnyTurn self.old.layout.cores passes e f)) }
+            × DrainsOut self.old.layout.cores e f) }
     {
         passes::drain(self, region)
     }

@@ -3,9 +3,9 @@ ghost use Rattle.std.specs.Prelude.{◌≡◌, ℕ, ◌<◌, ◌≤◌, IfOk, On
 ghost use Rattle.pm_region.specs.State.{State};
 ghost use Rattle.engine_laws.specs.Engine.{Engine};
 ghost use Rattle.engine_laws.specs.Promises.{AnyTurn};
-ghost use Rattle.engine_laws.specs.Ran.{Goes, Drains, Ran};
+ghost use Rattle.engine_laws.specs.Ran.{Goes, Ran};
 ghost use Rattle.engine_laws.specs.Stands.{given_to};
-ghost use Rattle.group_engine.specs.Passes.{Settles, Passes, NameCores, Ends, EndsIn};
+ghost use Rattle.group_engine.specs.Passes.{Settles, Passes, NameCores, Ends, EndsIn, DrainsOut, Reaches, Leads};
 
 use fs_errors::Memory;
 use fs_model::Request;
@@ -30,15 +30,18 @@ pub trait Cores {
     /// Gives a request to the owner of its key.
     fn give(&mut self, request: Request) -> Result<(), Memory>
         requires { (s : State) × (e : Engine) × shows s self.old e }
-        ensures gave { OnOk result ((s : State) (e : Engine) → shows s self.old e → shows s self.new (given_to e request)) }
+        ensures gave { OnOk result ((s : State) (e : Engine) → shows s self.old e
+            → shows s self.new (given_to e request)) }
         ensures cores { cores self.new ≡ cores self.old };
 
     /// Moves a core, and answers whether anything moved.
     fn advance<R: Region>(&mut self, region: &mut R, core: u32) -> Result<bool, Memory>
         requires core { core < cores self.old }
         requires shows { (e : Engine) × shows (R.state region.old) self.old e }
-        ensures moved { IfOk result (λ b. (e : Engine) → shows (R.state region.old) self.old e → (f : Engine) × shows (R.state region.new) self.new f × AnyTurn e core b f) }
-        ensures failed { OnErr result ((e : Engine) → shows (R.state region.old) self.old e → (f : Engine) × Ends (R.state region.new) e f) }
+        ensures moved { IfOk result (λ b. Leads (shows (R.state region.old) self.old)
+            (shows (R.state region.new) self.new) (λ e f. AnyTurn e core b f)) }
+        ensures failed { OnErr result (Reaches (shows (R.state region.old) self.old)
+            (Ends (R.state region.new))) }
         ensures cores { cores self.new ≡ cores self.old }
         ensures less { IfOk result (λ b. b ≡ true → left self.new < left self.old) }
         ensures idle { IfOk result (λ b. b ≡ false → left self.new ≤ left self.old) };
@@ -51,8 +54,10 @@ pub trait Cores {
 pub fn settle<C: Cores, R: Region>(cores: &mut C, region: &mut R, core: u32) -> Result<bool, Memory>
     requires core { core < C.cores cores.old }
     requires shows { (e : Engine) × C.shows (R.state region.old) cores.old e }
-    ensures failed { OnErr result ((e : Engine) → C.shows (R.state region.old) cores.old e → (f : Engine) × Ends (R.state region.new) e f) }
-    ensures settles { IfOk result (λ b. (e : Engine) → C.shows (R.state region.old) cores.old e → (f : Engine) × C.shows (R.state region.new) cores.new f × Settles core b e f) }
+    ensures failed { OnErr result (Reaches (C.shows (R.state region.old) cores.old)
+        (Ends (R.state region.new))) }
+    ensures settles { IfOk result (λ b. Leads (C.shows (R.state region.old) cores.old)
+        (C.shows (R.state region.new) cores.new) (λ e f. Settles core b e f)) }
     ensures cores { IfOk result (λ b. C.cores cores.new ≡ C.cores cores.old) }
     ensures less { IfOk result (λ b. b ≡ true → C.left cores.new < C.left cores.old) }
     ensures idle { IfOk result (λ b. b ≡ false → C.left cores.new ≤ C.left cores.old) }
@@ -70,8 +75,10 @@ pub fn settle<C: Cores, R: Region>(cores: &mut C, region: &mut R, core: u32) -> 
 /// Moves each core until it is idle, by rising number, and answers whether anything moved.
 pub fn pass<C: Cores, R: Region>(cores: &mut C, region: &mut R) -> Result<bool, Memory>
     requires { (e : Engine) × C.shows (R.state region.old) cores.old e }
-    ensures failed { OnErr result ((e : Engine) → C.shows (R.state region.old) cores.old e → (f : Engine) × Ends (R.state region.new) e f) }
-    ensures passes { IfOk result (λ b. (e : Engine) → C.shows (R.state region.old) cores.old e → (f : Engine) × C.shows (R.state region.new) cores.new f × Passes (C.cores cores.old) b e f) }
+    ensures failed { OnErr result (Reaches (C.shows (R.state region.old) cores.old)
+        (Ends (R.state region.new))) }
+    ensures passes { IfOk result (λ b. Leads (C.shows (R.state region.old) cores.old)
+        (C.shows (R.state region.new) cores.new) (λ e f. Passes (C.cores cores.old) b e f)) }
     ensures cores { IfOk result (λ b. C.cores cores.new ≡ C.cores cores.old) }
     ensures less { IfOk result (λ b. b ≡ true → C.left cores.new < C.left cores.old) }
     ensures idle { IfOk result (λ b. b ≡ false → C.left cores.new ≤ C.left cores.old) }
@@ -89,8 +96,10 @@ pub fn pass<C: Cores, R: Region>(cores: &mut C, region: &mut R) -> Result<bool, 
 /// Makes passes until nothing moves.
 pub fn drain<C: Cores, R: Region>(cores: &mut C, region: &mut R) -> Result<(), Memory>
     requires { (e : Engine) × C.shows (R.state region.old) cores.old e }
-    ensures failed { OnErr result ((e : Engine) → C.shows (R.state region.old) cores.old e → (f : Engine) × Ends (R.state region.new) e f) }
-    ensures drained { OnOk result ((e : Engine) → C.shows (R.state region.old) cores.old e → (f : Engine) × C.shows (R.state region.new) cores.new f × ((passes : ℕ) × Drains AnyTurn (C.cores cores.old) passes e f)) }
+    ensures failed { OnErr result (Reaches (C.shows (R.state region.old) cores.old)
+        (Ends (R.state region.new))) }
+    ensures drained { OnOk result (Leads (C.shows (R.state region.old) cores.old)
+        (C.shows (R.state region.new) cores.new) (DrainsOut (C.cores cores.old))) }
 {
     loop {
         if !pass(cores, region)? {
@@ -108,8 +117,10 @@ pub fn go<C: Cores, R: Region>(
 ) -> Result<(), Memory>
     requires core { core < C.cores cores.old }
     requires shows { (e : Engine) × C.shows (R.state region.old) cores.old e }
-    ensures failed { OnErr result ((e : Engine) → C.shows (R.state region.old) cores.old e → (f : Engine) × Ends (R.state region.new) e f) }
-    ensures went { OnOk result ((e : Engine) → C.shows (R.state region.old) cores.old e → (f : Engine) × C.shows (R.state region.new) cores.new f × Goes AnyTurn core turns e f) }
+    ensures failed { OnErr result (Reaches (C.shows (R.state region.old) cores.old)
+        (Ends (R.state region.new))) }
+    ensures went { OnOk result (Leads (C.shows (R.state region.old) cores.old)
+        (C.shows (R.state region.new) cores.new) (λ e f. Goes AnyTurn core turns e f)) }
     ensures cores { OnOk result (C.cores cores.new ≡ C.cores cores.old) }
 {
     for turn in 0..turns {
@@ -126,8 +137,11 @@ pub fn replay<C: Cores, R: Region>(
 ) -> Result<(), Memory>
     requires lines { NameCores (C.cores cores.old) lines.items }
     requires shows { (e : Engine) × C.shows (R.state region.old) cores.old e }
-    ensures failed { OnErr result ((e : Engine) → C.shows (R.state region.old) cores.old e → (f : Engine) × EndsIn (R.state region.new) lines.items e f) }
-    ensures ran { OnOk result ((e : Engine) → C.shows (R.state region.old) cores.old e → (f : Engine) × C.shows (R.state region.new) cores.new f × Ran AnyTurn (C.cores cores.old) lines.items e f) }
+    ensures failed { OnErr result (Reaches (C.shows (R.state region.old) cores.old)
+        (EndsIn (R.state region.new) lines.items)) }
+    ensures ran { OnOk result (Leads (C.shows (R.state region.old) cores.old)
+        (C.shows (R.state region.new) cores.new)
+        (λ e f. Ran AnyTurn (C.cores cores.old) lines.items e f)) }
 {
     loop {
         match lines.pop_front() {

@@ -82,7 +82,8 @@ pub trait CoreWorker {
     fn turn<R: Region, B: Board>(&mut self, region: &mut R, board: &mut B) -> Result<bool, Memory>
         requires stands { stands (B.seat board.old).place (B.seat board.old).number
             (R.state region.old) (B.view board.old) self.old }
-        requires fair { IfSome (B.whole board.old) (λ a. fair a (B.seat board.old).number self.old) }
+        requires fair { IfSome (B.whole board.old)
+            (λ a. fair a (B.seat board.old).number self.old) }
         ensures seat { B.seat board.new ≡ B.seat board.old }
         ensures turns { Turns hands answers stands fair room leads
             (B.seat board.old).place (B.seat board.old).number
