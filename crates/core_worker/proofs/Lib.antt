@@ -29,3 +29,4 @@ mod StartBlocks
 mod StartHeads
 mod Starting
 pub mod Clients
+mod Trials

@@ -1,8 +1,7 @@
 -- A worker that has accepted nothing is tied to the view that its group is opened with.
-use Rattle.std.proofs.Common.{◌≡◌, ◌≢◌, ◌⊎◌, inl, inr, ℕ, zero, suc, ◌+◌, ◌*◌, ◌<◌, ◌≤◌, eqb, Bool, true, false, cond, List, [], ◌∷◌, ◌++◌, length, Option, Some, None, option_map, is_some, refl, sym, ◌∙◌, ap, subst, arith}
-use Rattle.std.specs.VecDeque.{deque_capacity}
+use Rattle.std.proofs.Common.{◌≡◌, inl, inr, ℕ, zero, suc, ◌+◌, ◌*◌, eqb, Bool, true, false, cond, List, [], ◌∷◌, ◌++◌, length, Option, Some, None, option_map, is_some, refl, sym, ◌∙◌, ap, subst, arith}
 use Rattle.std.proofs.lemmas.Bool.{cases_eq}
-use Rattle.pm_region.specs.State.{State, IsTelling, cell_now}
+use Rattle.pm_region.specs.State.{State, cell_now}
 use Rattle.pm_region.specs.Words.{Surely}
 use Rattle.log_entry.specs.declared.entry.Body.{Body}
 use Rattle.log_entry.specs.declared.entry.Body.TheVariants.{Pointer}
@@ -10,38 +9,33 @@ use Rattle.log_entry.specs.Spelling.{HasSpelling}
 use Rattle.chunk_map.specs.declared.layouts.Geometry.{Geometry}
 use Rattle.chunk_map.specs.Layouts as layouts
 use Rattle.store_image.specs.declared.types.PlacedEntry.{PlacedEntry}
-use Rattle.store_image.specs.Winners.{winner}
 use Rattle.conflict_queue.specs.Waiting.{waiting}
 use Rattle.conflict_queue.specs.declared.types.Held.{Held}
 use Rattle.core_index.specs.declared.types.Standing.{Standing}
 use Rattle.core_index.specs.Index.{known_at}
-use Rattle.core_index.specs.Records.{KeyRecord, Awaits, last_of, block_of, pointer_of, standing_of, standing_at}
-use Rattle.core_log.specs.Log.{LogState, StandsIn, tail_of, first_of, room_of}
-use Rattle.lazy_alloc.specs.Sets.{Sets, AreSets, block_is_used, chunk_is_free, chunk_is_due, chunk_class}
+use Rattle.core_index.specs.Records.{KeyRecord, Awaits, block_of, pointer_of, standing_of, standing_at}
+use Rattle.core_log.specs.Log.{LogState, StandsIn, tail_of, first_of}
+use Rattle.lazy_alloc.specs.Sets.{Sets, AreSets, chunk_is_free, chunk_is_due, chunk_class}
 use Rattle.lazy_alloc.specs.Written.{PartLies}
 use Rattle.recover.specs.Starts.{KnownAs, IsSpelledIndex}
 use Rattle.recover.specs.declared.types.CoreStart.{CoreStart}
 use Rattle.group_laws.specs.declared.types.Block.{Block}
 use Rattle.group_laws.specs.declared.types.Pending.{Pending}
-use Rattle.group_laws.specs.Places.{Place, members, core_of, owner}
+use Rattle.group_laws.specs.Places.{Place, core_of, owner}
 use Rattle.group_laws.specs.MemberViews.{View}
 use Rattle.group_laws.proofs.GroupEntries.{own_core}
 use Rattle.group_laws.proofs.GroupEntries as entries
 use Rattle.group_board.specs.Seats.{SeatAt}
-use Rattle.core_room.specs.RoomRule.{pledged}
-use Rattle.licence.specs.Licence.{Licensed, grounded}
 use Rattle.core_worker.specs.declared.types.Cleaning.{Cleaning}
-use Rattle.core_worker.specs.declared.types.Leading.{Leading}
-use Rattle.core_worker.specs.declared.types.Leading.TheVariants as leads
 use Rattle.core_worker.specs.declared.types.Place as places
-use Rattle.core_worker.specs.declared.types.Place.TheVariants.{Free, Staged, Posted}
+use Rattle.core_worker.specs.declared.types.Place.TheVariants.{Free, Staged}
 use Rattle.core_worker.specs.declared.worker.Worker.{Worker}
 use Rattle.core_worker.specs.OwnPlaces.{place_at, key_in, lines_in, own, is_busy}
 use Rattle.core_worker.specs.Supplies.{rest, IsSmall, KeepsRule, HasKeptRoom, supply_of}
 use Rattle.core_worker.specs.KeyTies.{IsPlaced, IsStagedBlock, AreBlocks}
 use Rattle.core_worker.specs.Ties.{Holds, Stands, Leads, LeadsAt, HasSpaceFor, is_lost}
-use Rattle.core_worker.specs.Order.{InOrder, count_changes, MayLeadStopped, PointsAt}
-use Rattle.core_worker.specs.Openings.{HearsAll, IsNew, IsStartAt, IsCertainAt, last_change, opened_view}
+use Rattle.core_worker.specs.Order.{InOrder, count_changes}
+use Rattle.core_worker.specs.Openings.{IsNew, IsStartAt, IsCertainAt, last_change, opened_view}
 use Rattle.core_worker.proofs.StartKeys as start_keys
 use Rattle.core_worker.proofs.StartKeys.{changed, same_block}
 use Rattle.core_worker.proofs.StartBlocks as start_blocks

@@ -1,5 +1,5 @@
 -- What a worker begins with, where recovery gave its start.
-use Rattle.std.specs.Prelude.{◌≡◌, ℕ, ◌+◌, ◌<◌, ◌≤◌, ◌==◌, ◌&&◌, Bool, true, false, List, [], length, Option, Some, None, option_map, if◌then◌else◌}
+use Rattle.std.specs.Prelude.{◌≡◌, ℕ, ◌<◌, ◌≤◌, ◌==◌, ◌&&◌, Bool, true, false, List, [], length, Option, Some, None, option_map, if◌then◌else◌}
 use Rattle.std.specs.VecDeque.{deque_len}
 use Rattle.log_entry.specs.declared.entry.Body.{Body}
 use Rattle.pm_region.specs.State.{State, IsTelling, cell_now}
