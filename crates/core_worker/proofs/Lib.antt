@@ -13,6 +13,9 @@ mod BlockClear
 mod HandKeys
 mod Aside
 mod QuietMoves
+mod KeyMoves
+mod HandPlaces
+mod AcceptMoves
 mod RefusalLaws
 mod Gains
 mod Pointers
