@@ -204,7 +204,7 @@ module _ (s : State) (w b : Worker) (n : ℕ) (r : Request) (works : w.winds_dow
           (λ ne. key_by x.view x.view (hands_of x.view w) (hands_of x.view b) k [] (requests_for k ((n, r) ∷ [])) [] [] (no_request n r k (λ e. ne (sym e))) refl
           (still_key x.view (hands_of x.view w) (hands_of x.view b) k
           (held_beside x.view x.view w.places.items b.places.items S.slot (Staged n S.entry S.value) here T.holds.apart N.holds.apart k
-          (λ e. (let both : None ≡ Some k = sym (ap key_in was) ∙ e in cc both)) (λ e. ne (let both : Some S.entry.key ≡ Some k = e in let at : S.entry.key ≡ k = cc both in sym at ∙ S.key)) (λ t e. refl))
+          (λ e. (let both : None ≡ Some k = sym (ap key_in was) ∙ e in cc both)) (λ e. ne (let both : Some S.entry.key ≡ Some k = e in let at : S.entry.key ≡ k = cc both in sym at ∙ S.key)) (λ t low e. refl))
           (waits_same hand queue k)))
           (cases_eq k (key_of r));
       own = λ y i. absurd i;

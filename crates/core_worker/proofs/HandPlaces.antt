@@ -1,6 +1,5 @@
 -- What a worker holds of a key, by the place in which the key's change stands.
-use Rattle.std.proofs.Common.{◌≡◌, ◌≢◌, ⊎_elim, ℕ, Bool, true, false, List, Option, Some, None, refl, sym, ◌∙◌, ap}
-use Rattle.std.proofs.lemmas.Bool.{cases_eq}
+use Rattle.std.proofs.Common.{◌≡◌, ◌≢◌, ℕ, ◌<◌, Bool, true, false, List, length, Option, Some, None, refl, sym, ◌∙◌, ap}
 use Rattle.group_laws.specs.MemberViews.{View}
 use Rattle.core_worker.specs.declared.types.Place.{Place}
 use Rattle.core_worker.specs.OwnPlaces.{place_at, key_in, is_busy, AreApart, Replaces}
@@ -15,7 +14,7 @@ held_at v ps s k apart is =
     f.2 ∙ ap (λ t. placed_in v (place_at ps t)) (apart f.0 s k f.1 is)
 
 -- one place is another one, which has the key neither before nor after
-module _ (v u : View) (old new : List Place) (slot : ℕ) (x : Place) (R : Replaces old new slot x) (before : AreApart old) (after : AreApart new) (k : ℕ) (was : key_in (place_at old slot) ≢ Some k) (now : key_in x ≢ Some k) (same : (s : ℕ) → key_in (place_at old s) ≡ Some k → placed_in u (place_at old s) ≡ placed_in v (place_at old s)) where
+module _ (v u : View) (old new : List Place) (slot : ℕ) (x : Place) (R : Replaces old new slot x) (before : AreApart old) (after : AreApart new) (k : ℕ) (was : key_in (place_at old slot) ≢ Some k) (now : key_in x ≢ Some k) (same : (s : ℕ) → s < length old → key_in (place_at old s) ≡ Some k → placed_in u (place_at old s) ≡ placed_in v (place_at old s)) where
   not_slot : (s : ℕ) → key_in (place_at old s) ≡ Some k → s ≢ slot
   not_slot s is at = was (ap (λ n. key_in (place_at old n)) (sym at) ∙ is)
 
@@ -33,7 +32,7 @@ module _ (v u : View) (old new : List Place) (slot : ℕ) (x : Place) (R : Repla
   by true e =
       let at = busy_has old k e in
       let others = R.others at.0 (not_slot at.0 at.2) in
-      held_at u new at.0 k after (ap key_in others ∙ at.2) ∙ ap (placed_in u) others ∙ same at.0 at.2 ∙ sym (held_at v old at.0 k before at.2)
+      held_at u new at.0 k after (ap key_in others ∙ at.2) ∙ ap (placed_in u) others ∙ same at.0 at.1 at.2 ∙ sym (held_at v old at.0 k before at.2)
   by false e = none_for u k new (idle e (is_busy new k) refl) ∙ sym (none_for v k old e)
 
   pub held_beside : placed_for u new k ≡ placed_for v old k

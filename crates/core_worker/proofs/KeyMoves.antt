@@ -96,7 +96,7 @@ no_fixed x k ne = ap (λ b. cond b (x ∷ []) []) (ne_eqb (key_of x.request) k n
 pub key_by : (v u : View) (w x : Hands) (k : ℕ) (a b : List (ℕ × Request)) (f g : List Fixed) → b ≡ a → g ≡ f → AnswersKey v u w x k a f → AnswersKey v u w x k b g
 key_by v u w x k a b f g same also h = subst (λ (y : List (ℕ × Request)). AnswersKey v u w x k y g) (sym same) (subst (λ (y : List Fixed). AnswersKey v u w x k a y) (sym also) h)
 
-no_steps : (a : Option Group) (m : ℕ) → IfSome a (λ b. IsSomeAnd a (λ d. Runs b (map {B = ℕ × Kind} (λ y. (m, y)) []) d))
+pub no_steps : (a : Option Group) (m : ℕ) → IfSome a (λ b. IsSomeAnd a (λ d. Runs b (map {B = ℕ × Kind} (λ y. (m, y)) []) d))
 no_steps None m = tt
 no_steps (Some a) m = refl
 

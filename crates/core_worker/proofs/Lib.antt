@@ -16,6 +16,8 @@ mod QuietMoves
 mod KeyMoves
 mod HandPlaces
 mod AcceptMoves
+mod QuietItems
+mod PostMoves
 mod RefusalLaws
 mod Gains
 mod Pointers

@@ -37,6 +37,7 @@ use Rattle.core_worker.specs.declared.types.Place.TheVariants.{Free, Staged, Pos
 use Rattle.core_worker.specs.declared.worker.Worker.{Worker}
 use Rattle.core_worker.specs.OwnPlaces.{place_at, is_staged, is_posted, IsLowest, HasNone, Replaces}
 use Rattle.core_worker.specs.Ties.{LeadsNothing}
+use Rattle.core_worker.specs.Order.{InOrder}
 use Rattle.core_worker.specs.Supplies.{room_for}
 use Rattle.core_worker.specs.Beginning.{answers_of, answer_with, BeginsWaiting}
 
@@ -53,6 +54,10 @@ MadeOrStops false before after m v u = Steps before after m u
 pub record Moment : Type 0 where
   pub worker : Worker
   pub view : View
+
+-- the same at a seat
+abbrev pub InOrderAt : SeatAt → View → Worker → Type 0
+InOrderAt seat v w = InOrder seat.place seat.number v w
 
 -- nothing but what it leads differs
 abbrev pub SameButLeading : Worker → Worker → Type 0
