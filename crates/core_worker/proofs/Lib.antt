@@ -23,3 +23,4 @@ mod RoomKept
 mod Accepted
 mod Winding
 mod Waiters
+pub mod Serving
