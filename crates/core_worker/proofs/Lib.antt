@@ -24,3 +24,6 @@ mod Accepted
 mod Winding
 mod Waiters
 pub mod Serving
+mod Heard
+pub mod Tidied
+pub mod Freeing

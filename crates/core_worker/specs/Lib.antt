@@ -6,6 +6,8 @@ pub mod Order
 pub mod Refusals
 pub mod Beginning
 pub mod Serving
+pub mod Hearing
+pub mod Finishing
 pub mod Accepting
 pub mod Turns
 pub mod WorkerMoves
