@@ -1,9 +1,9 @@
 -- The entries of a key as a map from versions, and which of them are dead.
-use Rattle.std.proofs.Common.{◌≡◌, ◌≢◌, ℕ, ◌≤◌, ◌<◌, ◌==◌, Bool, true, false, cond, ◌&&◌, not, List, [], ◌∷◌, ◌++◌, Option, Some, None, refl, sym, ◌∙◌, ap, subst, arith}
+use Rattle.std.proofs.Common.{◌≡◌, ◌≢◌, ℕ, ◌+◌, ◌≤◌, ◌<◌, ◌==◌, Bool, true, false, cond, ◌&&◌, not, List, [], ◌∷◌, ◌++◌, Option, Some, None, refl, sym, ◌∙◌, ap, subst, arith}
 use Rattle.std.specs.List.{AllByRecursion}
 use Rattle.std.proofs.lemmas.Bool.{eqb-true, eq-eqb, ne_eqb, cond-true, cond-false}
 use Rattle.core_index.specs.declared.types.Standing.{Standing}
-use Rattle.core_index.specs.Records.{standing_with, standing_at, stands_alone, told, others}
+use Rattle.core_index.specs.Records.{standing_with, standing_at, stands_alone, told, count_untold, others}
 
 -- an entry that is found has the version
 pub found_version : (ss : List Standing) (v : ℕ) (s : Standing) → standing_at ss v ≡ Some s → s.version ≡ v
@@ -53,6 +53,18 @@ at_told (x ∷ ss) v s is = by (at_told ss v s) (x.version == v) refl is
         let f = eqb-true x.version v same in
         cond-true (x.version == v) (Some (standing_with x.version x.home true)) (standing_at ss v) same ∙ cc (e, f)
     by rest false other at = cond-false (x.version == v) (Some x) (standing_at (told ss v) v) other ∙ rest at
+
+-- and one entry less is to be told
+pub fewer_untold : (ss : List Standing) (v home : ℕ) → standing_at ss v ≡ Some (standing_with v home false) → count_untold (told ss v) + 1 ≡ count_untold ss
+fewer_untold [] v home is = absurd (cc is)
+fewer_untold (x ∷ ss) v home is = by (fewer_untold ss v home) (x.version == v) is
+  where
+    by : (standing_at ss v ≡ Some (standing_with v home false) → count_untold (told ss v) + 1 ≡ count_untold ss) → (b : Bool) → cond b (Some x) (standing_at ss v) ≡ Some (standing_with v home false)
+        → count_untold (cond b (standing_with x.version x.home true ∷ ss) (x ∷ told ss v)) + 1 ≡ count_untold (x ∷ ss)
+    by rest true at =
+        let new : x.told ≡ false = let e : x ≡ standing_with v home false = cc at in ap (λ (s : Standing). s.told) e in
+        subst (λ (b : Bool). 0 + count_untold ss + 1 ≡ cond b 0 1 + count_untold ss) (sym new) (omega arith)
+    by rest false at = let e = rest at in omega (arith, e)
 
 pub at_told_other : (ss : List Standing) (v w : ℕ) → w ≢ v → standing_at (told ss v) w ≡ standing_at ss w
 at_told_other [] v w ne = refl

@@ -1,5 +1,5 @@
 -- Changes of the map at one key.
-use Rattle.std.proofs.Common.{◌≡◌, ◌≢◌, ⊎_elim, ℕ, ◌≤◌, false, List, Option, Some, None, option_map, refl, sym, ◌∙◌, ap, subst, arith}
+use Rattle.std.proofs.Common.{◌≡◌, ◌≢◌, ⊎_elim, ℕ, ◌+◌, ◌≤◌, false, List, Option, Some, None, option_map, refl, sym, ◌∙◌, ap, subst, arith}
 use Rattle.std.specs.List.{sum_by}
 use Rattle.std.specs.Option.{unwrap_or}
 use Rattle.std.specs.Map.{values_of, keys_of, set_value, remove_entry}
@@ -13,9 +13,10 @@ use Rattle.std.specs.Prelude.{Result, Ok, Err, OnOk, OnErr}
 use Rattle.std.proofs.lemmas.Bool.{cases_eq}
 use Rattle.std.proofs.lemmas.Map.Steps.{set_value_same}
 use Rattle.log_entry.specs.declared.entry.EntryName.{EntryName}
-use Rattle.core_index.specs.Records.{KeyRecord, Awaits, told_in}
+use Rattle.core_index.specs.Records.{KeyRecord, Awaits, told, told_in, count_untold, standing_of}
 use Rattle.core_index.specs.Slots.{Place, mortal, TellsOne}
-use Rattle.core_index.specs.Index.{place_at, known_in, room_in, known_at, room_at, mortal_in, all_mortal, Step, Changes, SameRoom, ToldAt, Forgets}
+use Rattle.core_index.specs.Index.{place_at, known_in, room_in, known_at, room_at, mortal_in, all_mortal, untold_in, all_untold, Step, Changes, SameRoom, ToldAt, Forgets}
+use Rattle.core_index.proofs.StandingLaws.{fewer_untold}
 
 pub apart : (k q : ℕ) → q ≢ k → is_at (nat_cmp k) q ≡ false
 apart k q ne = unsigned_tied k q ∙ ne_eqb k q (λ e. ne (sym e))
@@ -84,8 +85,18 @@ step_known es fs k now step = record { here = ap known_in step.here; others = λ
 pub step_room : (es fs : List (ℕ × Place)) (k : ℕ) (now : Option Place) → Step es fs k now → room_in now ≡ room_at es k → SameRoom es fs
 step_room es fs k now step same = λ j. ⊎_elim (λ (e : j ≡ k). ap (room_at fs) e ∙ ap room_in step.here ∙ same ∙ ap (room_at es) (sym e)) (λ (ne : j ≢ k). ap room_in (step.others j ne)) (cases_eq j k)
 
-pub told_at : (es fs : List (ℕ × Place)) (home : ℕ) (n : EntryName) (v w : Place) → place_at es n.key ≡ Some v → Step es fs n.key (Some w) → TellsOne v w home n.version → mortal w ≤ mortal v → ToldAt es fs home n
-told_at es fs home n v w at step one le =
+-- who is told is one less to be told
+fewer_of : (v w : Place) (home n : ℕ) → TellsOne v w home n → untold_in w + 1 ≡ untold_in v
+fewer_of v w home n one =
+    let waits = one.waited in
+    let was : v.known ≡ Some waits.found = waits.has in
+    let now : untold_in w ≡ count_untold (told waits.found.standing n) = ap untold_in one.told ∙ ap (λ (o : Option KeyRecord). count_untold (standing_of (option_map (told_in n) o))) was in
+    let before : untold_in v ≡ count_untold waits.found.standing = ap (λ (o : Option KeyRecord). count_untold (standing_of o)) was in
+    let less = fewer_untold waits.found.standing n home waits.stands in
+    omega (arith, now, before, less)
+
+pub told_at : (es fs : List (ℕ × Place)) (home : ℕ) (n : EntryName) (v w : Place) → place_at es n.key ≡ Some v → fs ≡ set_value (is_at (nat_cmp n.key)) es w → Step es fs n.key (Some w) → TellsOne v w home n.version → mortal w ≤ mortal v → ToldAt es fs home n
+told_at es fs home n v w at is step one le =
     let known : known_at es n.key ≡ v.known = ap known_in at in
     let room : room_at es n.key ≡ v.room = ap room_in at in
     let now : known_at fs n.key ≡ w.known = ap known_in step.here in
@@ -99,6 +110,11 @@ told_at es fs home n v w at step one le =
           let both = one.others v' h (subst (λ (o : Option KeyRecord). Awaits o h v') now after) in
           (both.0, subst (λ (o : Option KeyRecord). Awaits o h v') (sym known) both.1);
       count = let sum = step.count in let a : mortal_in (place_at es n.key) ≡ mortal v = ap mortal_in at in omega (arith, sum, a, le);
+      fewer =
+          let sum = sum_by-set_value untold_in (is_at (nat_cmp n.key)) es v w at in
+          let a : all_untold fs ≡ sum_by untold_in (values_of (set_value (is_at (nat_cmp n.key)) es w)) = ap all_untold is in
+          let e = fewer_of v w home n.version one in
+          omega (arith, sum, a, e);
     }
 
 room_mortal : (o : Option Place) → room_in o ≤ mortal_in o

@@ -6,7 +6,7 @@ use Rattle.std.specs.BTreeMap.{is_at}
 use Rattle.std.specs.Ordering.{nat_cmp}
 use Rattle.log_entry.specs.declared.entry.EntryName.{EntryName}
 use Rattle.core_index.specs.declared.types.Record.{Record}
-use Rattle.core_index.specs.Records.{KeyRecord, Awaits, told_in, without, live_version, opened}
+use Rattle.core_index.specs.Records.{KeyRecord, Awaits, told_in, count_untold, standing_of, without, live_version, opened}
 use Rattle.core_index.specs.Slots.{Place, mortal}
 use Rattle.core_index.specs.Noted.{Book, Noted, name_with}
 
@@ -37,6 +37,13 @@ mortal_in (Some p) = mortal p
 abbrev pub all_mortal : List (ℕ × Place) → ℕ
 all_mortal es = sum_by mortal (values_of es)
 
+abbrev pub untold_in : Place → ℕ
+untold_in p = count_untold (standing_of p.known)
+
+-- how many entries that stand were not told
+abbrev pub all_untold : List (ℕ × Place) → ℕ
+all_untold es = sum_by untold_in (values_of es)
+
 -- The key has this now, and every other key what it had.
 pub record Step (es fs : List (ℕ × Place)) (k : ℕ) (now : Option Place) : Type 0 where
   pub here : place_at fs k ≡ now
@@ -57,11 +64,12 @@ pub record Tells (old new : List (ℕ × Place)) (home : ℕ) (n : EntryName) : 
   pub change : Changes old new n.key (option_map (told_in n.version) (known_at old n.key))
   pub room : SameRoom old new
 
--- the same, with which entries wait afterwards, and how many may still die
+-- the same, with which entries wait afterwards, and how many may still die or be told
 pub record ToldAt (old new : List (ℕ × Place)) (home : ℕ) (n : EntryName) : Type 0 where
   pub tells : Tells old new home n
   pub waits : (w h : ℕ) → Awaits (known_at new n.key) h w → (w ≢ n.version) × Awaits (known_at old n.key) h w
   pub count : all_mortal new ≤ all_mortal old
+  pub fewer : all_untold new + 1 ≡ all_untold old
 
 abbrev pub gone_place : ℕ → Place → Place
 gone_place v p = record { known = option_map (without v) p.known; room = p.room }

@@ -1,5 +1,5 @@
 -- A key's record, and which of its entries are dead.
-use Rattle.std.specs.Prelude.{◌≡◌, ℕ, ◌==◌, nat_lt, Bool, true, false, ◌&&◌, ◌||◌, not, List, [], ◌∷◌, ◌++◌, map, Option, Some, None, if◌then◌else◌}
+use Rattle.std.specs.Prelude.{◌≡◌, ℕ, ◌+◌, ◌==◌, nat_lt, Bool, true, false, ◌&&◌, ◌||◌, not, List, [], ◌∷◌, ◌++◌, map, Option, Some, None, if◌then◌else◌}
 use Rattle.std.specs.List.{filter, list_all}
 use Rattle.std.specs.BTreeMap.{insert_entry}
 use Rattle.std.specs.Ordering.{nat_cmp}
@@ -71,6 +71,11 @@ settled o v body home = record { version = v; body = body; standing = standing_o
 abbrev pub told : List Standing → ℕ → List Standing
 told [] v = []
 told (s ∷ ss) v = if s.version == v then (standing_with s.version s.home true) ∷ ss else s ∷ told ss v
+
+-- how many entries were not told
+abbrev pub count_untold : List Standing → ℕ
+count_untold [] = 0
+count_untold (s ∷ ss) = (if s.told then 0 else 1) + count_untold ss
 
 -- the record once the death of a version was told
 abbrev pub told_in : ℕ → KeyRecord → KeyRecord

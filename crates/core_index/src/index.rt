@@ -5,7 +5,7 @@ ghost use Rattle.std.specs.List.Sorted.{IsStrictlyIncreasing};
 ghost use Rattle.log_entry.specs.declared.entry.EntryName.{EntryName};
 ghost use Rattle.core_index.specs.Records.{Awaits, Shows, settled, without, last_of, block_of, is_forgettable, live_version};
 ghost use Rattle.core_index.specs.Noted.{name_with};
-ghost use Rattle.core_index.specs.Index.{known_at, room_at, Changes, SameRoom, Tells, HasNoneAbove, Entered, opened_in};
+ghost use Rattle.core_index.specs.Index.{known_at, room_at, Changes, SameRoom, Tells, HasNoneAbove, Entered, all_untold, opened_in};
 
 use crate::listing::live_in;
 use crate::map::{enter_at, forget_at, gone_at, reserve_at, settle_at};
@@ -150,6 +150,7 @@ impl CoreIndex {
     /// The next dead entry that this home is to be told; none exactly where nothing is left to tell it.
     pub fn next_notice(&mut self, home: u32) -> Option<EntryName>
         ensures told { IfSome result (λ name. Tells self.old self.new home name) }
+        ensures fewer { IfSome result (λ _. all_untold self.new + 1 ≡ all_untold self.old) }
         ensures none { IfNone result ((name : EntryName) → ¬ Awaits (known_at self.old name.key) home name.version) }
         ensures unchanged { IfNone result (self.new ≡ self.old) }
     {

@@ -4,7 +4,7 @@ ghost use Rattle.log_entry.specs.declared.entry.EntryName.{EntryName};
 ghost use Rattle.core_index.specs.Records.{Awaits};
 ghost use Rattle.core_index.specs.Slots.{count_dead, standee_with};
 ghost use Rattle.core_index.specs.Noted.{Noted, name_with};
-ghost use Rattle.core_index.specs.Index.{IsIndex, Tells, known_at};
+ghost use Rattle.core_index.specs.Index.{IsIndex, Tells, all_untold, known_at};
 
 use crate::map::tell_at;
 use crate::notices::Notices;
@@ -39,6 +39,7 @@ pub fn next_dead(
     requires { IsIndex slots.old.entries notices.old }
     ensures index { IsIndex slots.new.entries notices.new }
     ensures told { IfSome result (λ name. Tells slots.old.entries slots.new.entries home name) }
+    ensures fewer { IfSome result (λ _. all_untold slots.new.entries + 1 ≡ all_untold slots.old.entries) }
     ensures none { IfNone result ((name : EntryName) → ¬ Awaits (known_at slots.old.entries name.key) home name.version) }
     ensures unchanged { IfNone result (slots.new.entries ≡ slots.old.entries) }
 {

@@ -28,3 +28,7 @@ mod RoomKept
 mod Accepted
 mod Winding
 mod Waiters
+pub mod Serving
+mod Heard
+pub mod Tidied
+pub mod Freeing

@@ -5,6 +5,9 @@ pub mod Ties
 pub mod Order
 pub mod Refusals
 pub mod Beginning
+pub mod Serving
+pub mod Hearing
+pub mod Finishing
 pub mod Accepting
 pub mod Turns
 pub mod WorkerMoves

@@ -4,6 +4,7 @@
 mod accepting;
 mod beginning;
 mod gate;
+mod hearing;
 mod leading;
 mod posting;
 mod refusing;

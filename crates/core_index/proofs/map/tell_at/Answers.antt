@@ -14,7 +14,7 @@ returns-in-Some-clause-told c = λ tells.
     let wrote = c.get_mut.follows.holds w in
     let updates = wrote.3 (search rules) in
     let step = step_set es (c.get_mut.follows.lender w).entries k v w at wrote.0 updates.1 updates.2 in
-    told_at es (c.get_mut.follows.lender w).entries c.args.home c.args.name v w at step (c.tell.ensures.told tells) c.tell.ensures.mortal
+    told_at es (c.get_mut.follows.lender w).entries c.args.home c.args.name v w at wrote.0 step (c.tell.ensures.told tells) c.tell.ensures.mortal
 
 pub returns-in-Some-clause-unchanged : goal.returns-in-Some-clause-unchanged
 returns-in-Some-clause-unchanged c = λ none.

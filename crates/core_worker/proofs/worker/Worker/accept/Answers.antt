@@ -40,7 +40,7 @@ begin-requires-clause-tied g c =
     (x, tied_aside s c.prepare.new.self k x T, T.stands)
 
 pub begin-requires-clause-nothing : goal.begin-requires-clause-nothing
-begin-requires-clause-nothing g c =
+begin-requires-clause-nothing g c runs =
     let n = leads_nothing (g.R.Region.state c.args.region.now) c.args.self.now (key_of c.args.request) c.requires.tied.0 c.requires.tied.1 c.requires.free in
     (n.0, ap (λ (x : Worker). x.leading) c.prepare.ensures.before.rest ∙ n.1)
 
