@@ -18,6 +18,7 @@ mod HandPlaces
 mod AcceptMoves
 mod QuietItems
 mod PostMoves
+mod SearchLaws
 mod RefusalLaws
 mod Gains
 mod Pointers

@@ -6,12 +6,14 @@ use Rattle.log_entry.specs.declared.entry.Entry.{Entry}
 use Rattle.log_entry.specs.declared.entry.Body.{Body}
 use Rattle.log_entry.specs.declared.entry.Body.TheVariants as bodies
 use Rattle.store_image.specs.Facts.{In}
+use Rattle.group_laws.specs.declared.types.Seen.{Seen}
 use Rattle.group_laws.specs.declared.types.Seen.TheVariants.{Slot, Holder}
 use Rattle.group_laws.specs.declared.types.SlotWord.{SlotWord}
 use Rattle.group_laws.specs.declared.types.SlotWord.TheVariants as words
 use Rattle.group_laws.specs.Places.{Place, core_of}
 use Rattle.group_laws.specs.State.{Group}
 use Rattle.group_laws.specs.Runs.{Kind}
+use Rattle.group_laws.specs.Runs.Kind.{Look}
 use Rattle.core_log.specs.Chunk.{padded}
 use Rattle.core_log.specs.Log.{LogState, with_tail, open_number, open_tail}
 use Rattle.core_index.specs.Index.{known_at}
@@ -33,6 +35,7 @@ use Rattle.batch_leader.specs.declared.buffer.BatchBuffer.{BatchBuffer}
 use Rattle.batch_leader.specs.declared.taken.Taken.{Taken}
 use Rattle.core_worker.specs.declared.types.Leading.{Leading}
 use Rattle.core_worker.specs.declared.types.Leading.TheVariants as leads
+use Rattle.core_worker.specs.declared.types.Place as places
 use Rattle.core_worker.specs.declared.types.Place.TheVariants.{Free, Staged, Posted}
 use Rattle.core_worker.specs.declared.worker.Worker.{Worker}
 use Rattle.core_worker.specs.OwnPlaces.{place_at, is_staged, is_posted, IsLowest, HasNone, Replaces}
@@ -161,11 +164,24 @@ pub record Fails (a b : Moment) : Type 0 where
   pub view : b.view ≡ after_fail first.member first.slot a.view
   pub same : SameButLeading a.worker b.worker
 
--- What the loads of a turn found: of its posted places, lowest first, each slot up to the first that is given back.
+-- What the loads of this turn found: of its posted places, lowest first, each slot up to a place. Loads of earlier turns don't count.
 pub record Looked (m : ℕ) (a : Moment) (upto : ℕ) (v : View) : Type 0 where
   pub found : ℕ → SlotWord
-  pub view : HasLooked a.view v
-  pub seen : (s : ℕ) → s < upto → is_posted (place_at a.worker.places.items s) ≡ true → In (Slot m s (found s)) v.looked
+  pub looks : List Seen
+  pub view : v ≡ record a.view { looked = a.view.looked ++ looks }
+  pub seen : (s : ℕ) → s < upto → is_posted (place_at a.worker.places.items s) ≡ true → In (Slot m s (found s)) looks
+
+-- below a place a posted one was found that nobody had taken
+abbrev pub FindsPosted : List places.Place → (ℕ → SlotWord) → ℕ → Type 0
+FindsPosted ps found upto = (s n : ℕ) × (s < upto) × (is_posted (place_at ps s) ≡ true) × (found s ≡ words.Posted n)
+
+-- loads of own slots
+abbrev pub looks_at : ℕ → List ℕ → List (ℕ × Kind)
+looks_at m ss = map (λ s. (m, Look m s)) ss
+
+-- and no other step
+abbrev pub LooksMade : Option Group → Option Group → ℕ → View → Type 0
+LooksMade before after m v = (slots : List ℕ) × MakesAll before (looks_at m slots) after m v
 
 abbrev pub IsBack : SlotWord → Type 0
 IsBack words.Empty = ⊥
@@ -240,7 +256,7 @@ pub record Posts (m : ℕ) (a b : Moment) : Type 0 where
 pub record Locks (m : ℕ) (a b : Moment) : Type 0 where
   pub mid : View
   pub before : PassesItems m a 8 mid
-  pub posted : (s n : ℕ) × In (Slot m s (words.Posted n)) mid.looked
+  pub posted : FindsPosted a.worker.places.items before.looked.found 8
   pub view : b.view ≡ after_lock mid
   pub leads_now : (c : Collecting) × (b.worker.leading ≡ leads.Collecting c) × (c.at ≡ 0)
   pub same : SameButLeading a.worker b.worker
@@ -254,7 +270,7 @@ pub record Idles (refused : Bool) (m : ℕ) (a b : Moment) : Type 0 where
   pub mid : View
   pub before : PassesItems m a 8 mid
   pub post : PassesPost refused a.worker
-  pub lock : (((s n : ℕ) → In (Slot m s (words.Posted n)) mid.looked → ⊥) × (b.view ≡ mid)) ⊎ ((h : ℕ) × (h ≢ m) × In (Holder h) b.view.looked × HasLooked a.view b.view)
+  pub lock : ((FindsPosted a.worker.places.items before.looked.found 8 → ⊥) × (b.view ≡ mid)) ⊎ (FindsPosted a.worker.places.items before.looked.found 8 × ((h : ℕ) × (h ≢ m) × (b.view ≡ after_find (Holder h) mid)))
   pub free : LeadsNothing b.worker
   pub same : SameButLeading a.worker b.worker
 
