@@ -33,3 +33,5 @@ pub mod Serving
 mod Heard
 pub mod Tidied
 pub mod Freeing
+mod Unpledging
+mod BatchRoom
