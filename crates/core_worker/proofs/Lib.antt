@@ -19,6 +19,7 @@ mod AcceptMoves
 mod QuietItems
 mod PostMoves
 mod SearchLaws
+mod TurnLaws
 mod RefusalLaws
 mod Gains
 mod Pointers

@@ -3,6 +3,7 @@
 
 mod accepting;
 mod beginning;
+mod choosing;
 mod gate;
 mod hearing;
 mod leading;
@@ -12,6 +13,7 @@ mod releasing;
 mod searching;
 mod status;
 mod supply;
+mod turning;
 mod types;
 mod worker;
 
