@@ -267,6 +267,7 @@ pub record PostFacts (m : ℕ) (before after : Option Group) (v u : View) (w x :
   pub entry : Entry
   pub value : List ℕ
   pub lines : ℕ
+  pub pledges : lines ≡ lines_for (length (words_of entry))
   pub was : place_at w.places.items slot ≡ Staged number entry value
   pub places : Replaces w.places.items x.places.items slot (Posted number entry.key lines)
   pub same : x ≡ record w { places = x.places; allocator = x.allocator }
@@ -279,6 +280,7 @@ facts_of m before after v u w mid x slot same P = record {
   entry = P.entry;
   value = P.value;
   lines = lines_for (length (words_of P.entry));
+  pledges = refl;
   was = sym (ap (λ (y : Worker). place_at y.places.items slot) same) ∙ P.was;
   places = subst (λ (y : Worker). Replaces y.places.items x.places.items slot (Posted P.number P.entry.key (lines_for (length (words_of P.entry))))) same P.places;
   same = by x.places x.allocator (P.rest ∙ ap (λ (y : Worker). record y { places = x.places }) same) ;

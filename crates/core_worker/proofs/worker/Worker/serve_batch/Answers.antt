@@ -1,6 +1,7 @@
 -- Items 2 and 3 of a turn.
 use Rattle.std.proofs.Common.{◌≡◌, Bool, true, false, refl, subst}
 use Rattle.core_worker.specs.Order.{MayLeadStopped}
+use Rattle.core_worker.specs.Turning.Did.{writes, marks, fails}
 use Rattle.core_worker.proofs.QuietItems.{marks_led, fails_led, fails_stops}
 use Rattle.core_worker.proofs.TurnLaws.{keeps_leading, keeps_batch}
 use Rattle.core_worker.proofs.worker.Worker.serve_batch.Goals as goal
@@ -27,3 +28,12 @@ returns-in-Failed-clause-keeps g c =
     keeps_leading (g.B.Board.seat c.args.board.now) (g.R.Region.state c.args.region.now) (g.B.Board.whole c.args.board.now) (g.B.Board.whole c.fail_next.new.board) (g.B.Board.view c.args.board.now) (g.B.Board.view c.fail_next.new.board) c.args.self.now c.fail_next.new.self
     c.fail_next.ensures.holds c.fail_next.ensures.stands c.requires.stands c.fail_next.ensures.made (fails_led _ _ c.fail_next.ensures.fails) c.fail_next.ensures.fails.same
     (λ stopped. fails_stops _ _ c.fail_next.ensures.fails) c.requires.order c.fail_next.ensures.rule
+
+pub returns-in-Batch-clause-did : goal.returns-in-Batch-clause-did
+returns-in-Batch-clause-did g c refused = writes c.write_batch.ensures.persists
+
+pub returns-in-Persisted-clause-did : goal.returns-in-Persisted-clause-did
+returns-in-Persisted-clause-did g c refused = marks c.mark_next.ensures.marks
+
+pub returns-in-Failed-clause-did : goal.returns-in-Failed-clause-did
+returns-in-Failed-clause-did g c refused = fails c.fail_next.ensures.fails
