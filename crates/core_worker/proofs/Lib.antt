@@ -27,3 +27,5 @@ pub mod Serving
 mod Heard
 pub mod Tidied
 pub mod Freeing
+pub mod FreedOrder
+pub mod GivingUp

@@ -3,6 +3,7 @@
 
 mod accepting;
 mod beginning;
+mod finishing;
 mod gate;
 mod hearing;
 mod leading;
