@@ -29,3 +29,5 @@ pub mod Tidied
 pub mod Freeing
 pub mod FreedOrder
 pub mod GivingUp
+pub mod PuttingBack
+pub mod Settling
