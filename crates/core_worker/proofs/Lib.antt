@@ -13,6 +13,12 @@ mod BlockClear
 mod HandKeys
 mod Aside
 mod QuietMoves
+mod KeyMoves
+mod HandPlaces
+mod AcceptMoves
+mod QuietItems
+mod PostMoves
+mod SearchLaws
 mod RefusalLaws
 mod Gains
 mod Pointers
@@ -31,3 +37,5 @@ pub mod FreedOrder
 pub mod GivingUp
 pub mod PuttingBack
 pub mod Settling
+mod Unpledging
+mod BatchRoom

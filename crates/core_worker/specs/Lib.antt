@@ -10,6 +10,7 @@ pub mod Hearing
 pub mod Finishing
 pub mod Accepting
 pub mod Turns
+pub mod Searching
 pub mod WorkerMoves
 pub mod Posting
 pub mod Status

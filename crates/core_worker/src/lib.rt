@@ -10,6 +10,7 @@ mod leading;
 mod posting;
 mod refusing;
 mod releasing;
+mod searching;
 mod status;
 mod supply;
 mod types;
