@@ -37,5 +37,6 @@ pub mod FreedOrder
 pub mod GivingUp
 pub mod PuttingBack
 pub mod Settling
+pub mod TakingBack
 mod Unpledging
 mod BatchRoom
