@@ -38,5 +38,6 @@ pub mod GivingUp
 pub mod PuttingBack
 pub mod Settling
 pub mod TakingBack
+pub mod Served
 mod Unpledging
 mod BatchRoom
