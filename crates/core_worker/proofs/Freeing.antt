@@ -16,6 +16,7 @@ use Rattle.core_index.specs.declared.types.Standing.{Standing}
 use Rattle.recover.specs.Starts.{IsSpelledIndex}
 use Rattle.lazy_alloc.specs.Sets.{Sets, AreSets, SameChunks, block_is_used, class_at}
 use Rattle.lazy_alloc.proofs.SetLaws.{same_part, class_same}
+use Rattle.store_image.specs.Facts.{In}
 use Rattle.group_laws.specs.declared.types.Block.{Block}
 use Rattle.group_laws.specs.declared.types.Pending.{Pending}
 use Rattle.group_laws.specs.Places.{Place, core_of, owner}
@@ -85,7 +86,7 @@ module _ (p : Place) (m key slot : ℕ) (v u : View) (w x : Worker) (H : HoldsAs
   another : (s k : ℕ) → s ≢ slot → key_in (place_at w.places.items s) ≡ Some k → k ≢ key
   another s k ne has same = ne (H.apart s slot k has (was ∙ ap Some (sym same)))
 
-  busy_was : (k : ℕ) → is_busy x.places.items k ≡ true → (k ≢ key) × (is_busy w.places.items k ≡ true)
+  pub busy_was : (k : ℕ) → is_busy x.places.items k ≡ true → (k ≢ key) × (is_busy w.places.items k ≡ true)
   busy_was k busy =
       let at = busy_has x.places.items k busy in
       let there = elsewhere at.0 k at.2 in
@@ -132,7 +133,7 @@ module _ (p : Place) (m key slot : ℕ) (v u : View) (w x : Worker) (H : HoldsAs
       (free_still s is.0, is.1, F.pending d.key off ∙ is.2, is.3, is.4 ∙ ap (λ (i : ℕ). i + 1) (sym (F.last d.key is.1 off (busy_by w.places.items d.key s (ap key_in at)))), λ t none. is.5 t (sym (F.cell d.key off) ∙ none))
   placed_still s ne (Posted n k lines) at is =
       let off = another s k ne (ap key_in at) in
-      (is.0, F.pending k off ∙ is.1, is.2, is.3, offers_still k is.0.body off is.4, is.5, is.6)
+      (is.0, F.pending k off ∙ is.1, is.2, is.3, offers_still k is.0.body off is.4, ⊎_elim (λ all. inl all) (λ none. inr (none.0, subst (In is.0) (sym F.allows.kept) none.1)) is.5, is.6)
 
   was_staged : (q : ℕ) (s : IsStagedBlock u x.places.items q) → IsStagedBlock v w.places.items q
   was_staged q s = record { slot = s.slot; number = s.number; entry = s.entry; value = s.value; place = sym (F.places.others s.slot (elsewhere s.slot s.entry.key (ap key_in s.place)).0) ∙ s.place; points = s.points }
@@ -194,7 +195,7 @@ module _ (p : Place) (m key slot : ℕ) (v u : View) (w x : Worker) (H : HoldsAs
     space = F.space;
     broken = F.broken;
     lost = F.lost;
-    cleaning = subst (λ (c : Cleaning). IsSmall c) (sym F.cleaning) H.cleaning;
+    cleaning = F.cleaning ∙ H.cleaning;
     remembers = F.remembers;
   } where
     idle_by : (k : ℕ) → is_busy w.places.items k ≡ false → is_busy x.places.items k ≡ false

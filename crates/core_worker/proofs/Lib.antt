@@ -34,5 +34,11 @@ pub mod Serving
 mod Heard
 pub mod Tidied
 pub mod Freeing
+pub mod FreedOrder
+pub mod GivingUp
+pub mod PuttingBack
+pub mod Settling
+pub mod TakingBack
+pub mod Served
 mod Unpledging
 mod BatchRoom

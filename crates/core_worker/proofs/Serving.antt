@@ -26,7 +26,7 @@ use Rattle.core_worker.proofs.Posts.{busy_by, busy_has}
 use Rattle.core_worker.proofs.Pointers.{free_is}
 use Rattle.core_worker.proofs.Beginnings.{with_answers}
 
-abbrev one_in : Place → ℕ
+abbrev pub one_in : Place → ℕ
 one_in x = cond (is_free x) 0 1
 
 count_same : (xs ys : List Place) → length ys ≡ length xs → ((t : ℕ) → place_at ys t ≡ place_at xs t) → count_changes ys ≡ count_changes xs
@@ -97,7 +97,7 @@ order_kept p m v w u index leading stopped recalls answers hand O = record {
   stops = λ s. subst MayLeadStopped (sym leading) (O.stops (sym stopped ∙ s));
 }
 
-abbrev hands : Option Held → ℕ
+abbrev pub hands : Option Held → ℕ
 hands o = cond (is_some o) 1 0
 
 -- one of the waiting requests of a key is taken out and begun

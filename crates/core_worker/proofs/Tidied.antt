@@ -93,7 +93,7 @@ spent_last p m v k (Some r) K kept spent = absurd (
     by n None e = refl
     by n (Some s) e = absurd (let h = stands_of p 0 v k (Some r) K n s e in let both : None ≡ Some h.0 = sym (spent.2 n) ∙ h.1 in cc both)
 
-change_last : (a b : Option KeyRecord) → option_map last_change b ≡ option_map last_change a → last_of b ≡ last_of a
+pub change_last : (a b : Option KeyRecord) → option_map last_change b ≡ option_map last_change a → last_of b ≡ last_of a
 change_last None None e = refl
 change_last None (Some s) e = absurd (cc e)
 change_last (Some r) None e = absurd (cc e)

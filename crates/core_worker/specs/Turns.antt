@@ -43,7 +43,7 @@ use Rattle.core_worker.specs.OwnPlaces.{place_at, is_staged, is_posted, IsLowest
 use Rattle.core_worker.specs.Ties.{LeadsNothing}
 use Rattle.core_worker.specs.Order.{InOrder}
 use Rattle.core_worker.specs.Supplies.{room_for}
-use Rattle.core_worker.specs.Beginning.{answers_of, answer_with, BeginsWaiting}
+use Rattle.core_worker.specs.Finishing.{TakesBack, Serves}
 
 -- some steps of member m lead from the one told state to the other
 abbrev pub Steps : Option Group → Option Group → ℕ → View → Type 0
@@ -213,45 +213,15 @@ pub record PassesItems (m : ℕ) (a : Moment) (upto : ℕ) (v : View) : Type 0 w
   pub looked : Looked m a upto v
   pub none : (s : ℕ) → s < upto → is_posted (place_at a.worker.places.items s) ≡ true → IsBack (looked.found s) → ⊥
 
--- the reply of a change that is done, by what its entry leaves
-abbrev pub done_reply : Body → Reply
-done_reply (bodies.Pointer q) = Stored
-done_reply (bodies.Embedded u) = Stored
-done_reply bodies.Tombstone = Deleted
-
-abbrev pub PutsBackIf : Sets → Sets → Option ℕ → Type 0
-PutsBackIf old new None = new ≡ old
-PutsBackIf old new (Some q) = PutsBack old new q
-
-abbrev pub MatchReply : Option ℕ → Body → Reply
-MatchReply None body = Stopped
-MatchReply (Some h) body = done_reply body
-
 -- Item 4: the lowest posted place that is found given back is finished, and then the key's waiting requests are begun.
 pub record Finishes (p : Place) (m : ℕ) (a b : Moment) : Type 0 where
   pub slot : ℕ
-  pub number : ℕ
-  pub key : ℕ
-  pub lines : ℕ
   pub mid : View
   pub before : PassesItems m a slot mid
-  pub place : place_at a.worker.places.items slot ≡ Posted number key lines
-  pub entry : Entry
-  pub home : Option ℕ
-  pub seen : MatchOption home (In (Slot m slot words.Failed) mid.looked) (λ h. In (Slot m slot (words.Done h)) mid.looked)
-  pub view : MatchOption home (TidiedIn p m (after_give_up entry mid) b.view) (λ h. TidiedIn p m (after_finish entry h mid) b.view)
-  -- after the change is settled and its place is free, before the waiting ones are begun
-  pub settled_now : Worker
-  pub places : Replaces a.worker.places.items settled_now.places.items slot Free
-  pub answers : answers_of settled_now ≡ answers_of a.worker ++ answer_with number (MatchReply home entry.body) None ∷ []
-  pub record_now : MatchOption home (known_at settled_now.index key ≡ known_at a.worker.index key)
-      (λ h. (known_at settled_now.index key ≡ Some (settled (known_at a.worker.index key) entry.version entry.body (core_of p h)))
-      ⊎ ((is_forgettable (Some (settled (known_at a.worker.index key) entry.version entry.body (core_of p h))) ≡ true) × (known_at settled_now.index key ≡ None)))
-  pub other_records : (k : ℕ) → k ≢ key → known_at settled_now.index k ≡ known_at a.worker.index k
-  pub block : MatchOption home (settled_now.allocator ≡ a.worker.allocator) (λ h. PutsBackIf a.worker.allocator settled_now.allocator (block_of (known_at a.worker.index key)))
-  pub stops : MatchOption home (settled_now.stopped ≡ true) (λ h. settled_now.stopped ≡ a.worker.stopped)
-  pub same : settled_now ≡ record a.worker { places = settled_now.places; answers = settled_now.answers; index = settled_now.index; allocator = settled_now.allocator; stopped = settled_now.stopped }
-  pub begins : ((a.worker.winds_down ≡ true) × (b.worker ≡ settled_now)) ⊎ ((a.worker.winds_down ≡ false) × BeginsWaiting settled_now b.worker (b.view.cell key) key)
+  -- after its place is free, and before the waiting ones are begun
+  pub freed : Worker
+  pub takes : TakesBack p m slot mid b.view a.worker freed
+  pub begins : Serves freed b.worker (b.view.cell takes.entry.key) takes.entry.key
 
 -- Item 5: the lowest staged place writes its block, where it has one, and posts.
 pub record Posts (m : ℕ) (a b : Moment) : Type 0 where

@@ -4,6 +4,7 @@
 mod accepting;
 mod beginning;
 mod choosing;
+mod finishing;
 mod gate;
 mod hearing;
 mod leading;

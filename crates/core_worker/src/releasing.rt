@@ -9,6 +9,8 @@ ghost use Rattle.core_worker.specs.OwnPlaces.{is_busy};
 ghost use Rattle.core_worker.specs.Supplies.{HasKeptRoom};
 ghost use Rattle.core_worker.specs.Refusals.{HasAnswerRoom};
 ghost use Rattle.core_worker.specs.Beginning.{HasFree, StandsAside, KeepsTies, ByEachView, BeginsAll};
+ghost use Rattle.core_worker.specs.Finishing.{IsReady, IsServed, IsToServe, ServesByEachView};
+ghost use Rattle.core_worker.specs.Ties.{Tie};
 ghost use Rattle.core_worker.specs.Serving.{AllWait, KeepsOrders, LeadsNothingYet, OnlyServes, OthersWait};
 
 use crate::accepting::is_busy;
@@ -69,5 +71,28 @@ impl Worker {
                 }
             }
         }
+    }
+
+    // Begins what waits of a key, until it is busy again or the core winds down.
+    pub(crate) fn serve<R: Region>(
+        &mut self,
+        alloc: Global,
+        region: &R,
+        key: Key,
+    ) -> Result<(), Memory>
+        requires tied { (t : Tie) × IsToServe (R.state region.now) self.old key t }
+        requires ready { IsReady self.old key }
+        ensures ties { (s : State) (t : Tie) → IsToServe s self.old key t
+            → IsServed s self.new t }
+        ensures begins { OnOk result
+            (ServesByEachView (R.state region.now) self.old self.new key) }
+        ensures rule { HasKeptRoom self.old → HasKeptRoom self.new }
+        ensures memory { OnErr result (self.new.winds_down ≡ true) }
+        ensures rest { OnlyServes self.old self.new }
+    {
+        if self.winds_down {
+            return Ok(());
+        }
+        self.begin_waiting(alloc, region, key)
     }
 }
