@@ -33,6 +33,8 @@ use Rattle.atomic_board.specs.StepTells.{SeatState, origin_in, number_in, is_own
 use Rattle.atomic_board.proofs.SeatPlaces.{place, own_spent}
 use Rattle.atomic_board.proofs.RuleKept.{known, commit_keeps, lock_keeps, busy_keeps, not_self, unlock_keeps, look_keeps, take_can, take_keeps, posted_home, own_empty, post_keeps}
 use Rattle.atomic_board.proofs.RuleOpened.{takes_row, row_carried, settle_valid, settle_keeps}
+use Rattle.atomic_board.proofs.ToldByState.{taken_unlogged}
+use Rattle.group_board.specs.Assurances.{IsUnlogged}
 use Rattle.atomic_board.proofs.SlotsReturned.{gives_all, all_valid, all_given, back_keeps, posted_not_out, taken_none}
 
 pub by_own : (P : SeatData → Type 0) → ((m : ℕ) (q : Holding) (b : Origin) (ds : List Deed) → P (Own m q b ds)) → (d : SeatData) → is_own d ≡ true → P d
@@ -153,6 +155,7 @@ module _ (b : Origin) (k id m : ℕ) (q : Holding) (ds : List Deed) (c : List (�
           (λ n seen. words_same e e (o.slot a t) n can.1.entry (o.reached.lawful.looks.posted_seen m a t n ((o.reached.lawful.looks.holds_is m).0 can.1.holds)
               (subst (λ (u : View). In (loads.Slot a t (words.Posted n)) u.looked) (sym (known b s o m q ds there here.1)) (subst (λ j. In (loads.Slot j t (words.Posted n)) (view_by b m ds).looked) (sym x) (subst (λ j. In (loads.Slot a' j (words.Posted n)) (view_by b m ds).looked) (sym y) seen))))),
           o.reached.lawful.keys.spelled e.key (record { entry = e; slot = Some t }) (o.reached.lawful.slots.posted_named a t e can.1.entry).0,
+          subst (λ j. IsUnlogged m j t' (view_by b m ds) e) x (subst (λ j. IsUnlogged m a j (view_by b m ds) e) y (taken_unlogged b s o m q ds there here.1 a t e can.1.entry)),
         ),
       )
 

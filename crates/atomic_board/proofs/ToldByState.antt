@@ -4,13 +4,13 @@ use mathlib.Core.Option.{some}
 use lib.ListN.{get_elem?}
 use Rattle.log_entry.specs.declared.entry.Entry.{Entry}
 use Rattle.store_image.specs.Facts.{In}
-use Rattle.group_laws.specs.declared.types.Slot.TheVariants.{Done}
+use Rattle.group_laws.specs.declared.types.Slot.TheVariants.{Done, Posted}
 use Rattle.group_laws.specs.Places.{owner}
 use Rattle.group_laws.specs.Updates.{has}
 use Rattle.group_laws.specs.State.{Notices}
 use Rattle.group_laws.specs.MemberViews.{View}
 use Rattle.group_laws.proofs.Names.{has_In}
-use Rattle.group_board.specs.Assurances.{IsHome, IsHeard, IsOwnEntry}
+use Rattle.group_board.specs.Assurances.{IsHome, IsHeard, IsOwnEntry, IsUnlogged}
 use Rattle.atomic_board.specs.declared.seat_data.Origin.{Origin}
 use Rattle.atomic_board.specs.declared.seat_data.Holding.{Holding}
 use Rattle.atomic_board.specs.declared.seat_data.Deed.{Deed}
@@ -28,6 +28,15 @@ module _ (b : Origin) (s : TableState) (o : ShowsLawful b s) (m : ℕ) (q : Hold
     member = (o.reached.lawful.logs.group h e (inl kept.0)).0;
     kept = λ mine. subst (λ (u : View). In e u.kept) same (subst (λ (j : ℕ). In e (views_of b s.views j).kept) mine kept.0);
     spared = λ mine. ap (λ (u : View). u.doomed e.key e.version) (sym same) ∙ (ap (λ (j : ℕ). (views_of b s.views j).doomed e.key e.version) (sym mine) ∙ kept.1);
+  }
+
+  -- what is taken out of a slot is in no log yet
+  pub taken_unlogged : (a t : ℕ) (e : Entry) → o.slot a t ≡ Posted e → IsUnlogged m a t (view_by b m ds) e
+  taken_unlogged a t e is = record {
+    new = λ i. o.reached.lawful.logs.not_posted m a t e is (inl (subst (λ (u : View). In e u.kept) (sym same) i));
+    own = λ mine.
+        let named = o.reached.lawful.slots.posted_named a t e is in
+        sym (own_by b s o m q ds me near e.key (λ (u : View). u.pending e.key) (named.1 ∙ mine)) ∙ named.0;
   }
 
   module _ (from : ℕ) (n : Notices) (is : o.mail from m ≡ Some n) where

@@ -25,7 +25,7 @@ use Rattle.atomic_board.specs.ShownState.{lies, deeds_in, gripped, grip_at}
 use Rattle.atomic_board.specs.declared.seat_data.MailHold.{MailHold}
 use Rattle.crash_core.specs.declared.names.Notices.{Notices}
 use Rattle.crash_core.specs.Shows.{notices_of}
-use Rattle.group_board.specs.Assurances.{IsHome, IsHeard}
+use Rattle.group_board.specs.Assurances.{IsHome, IsHeard, IsUnlogged}
 use Rattle.atomic_board.specs.SlotsOut.{IsNamedBy}
 
 abbrev pub SeatState : Type 0
@@ -117,6 +117,7 @@ tells_take st m r n = (a t : ℕ) → t < 8 → st.word ≡ pool_word (size (ori
     → (e : Entry) × (n ≡ (did (Take a t e) m.0, (pool_place a t, lies e None) ∷ m.1)) × IsNotOut (place_of (origin_in m.0)) (number_in m.0) (view_in m.0) a t
     × ((c : ℕ) → In (loads.Slot a t (words.Posted c)) (view_in m.0).looked → length (words_of e) ≡ c)
     × HasSpelling e
+    × IsUnlogged (number_in m.0) a t (view_in m.0) e
 
 abbrev pub tells_post : List ℕ → Tells
 tells_post value st m r n = (t : ℕ) (c : Change) → st.word ≡ pool_word (size (origin_in m.0)) (number_in m.0) t → m.1 ≡ (pool_place (number_in m.0) t, Some (parcels.Change c)) ∷ rest m.1 → (n ≡ (did (Post t c.entry value) m.0, rest m.1)) × ((view_in m.0).taken (number_in m.0) t ≡ None)

@@ -7,6 +7,7 @@ ghost use Rattle.group_laws.specs.declared.types.SlotWord.{SlotWord};
 ghost use Rattle.group_laws.specs.declared.types.SlotWord.TheVariants as words;
 ghost use Rattle.group_laws.specs.declared.types.Seen.TheVariants as loads;
 ghost use Rattle.group_board.specs.Views.{after_post, after_lock, after_find, after_take, after_unlock, after_commit};
+ghost use Rattle.group_board.specs.Assurances.{IsUnlogged};
 ghost use Rattle.group_board.specs.Conditions.{MayPost, MayLock, MayLook, MayTake, MayUnlock, MayCommit};
 ghost use Rattle.group_board.specs.Told.{state_of};
 ghost use mathlib.Core.Option.{none};
@@ -126,6 +127,7 @@ impl MemberSeat {
         ensures spelled { HasSpelling result.entry }
         ensures words { (n : ℕ) → In (loads.Slot member slot (words.Posted n))
             (view_at self.old).looked → length (words_of result.entry) ≡ n }
+        ensures unlogged { IsUnlogged self.old.member member slot (view_at self.old) result.entry }
         ensures view { view_at self.new ≡ after_take member slot result.entry (view_at self.old) }
     {
         let pool_word = pool_word_of(self.members, member, slot);

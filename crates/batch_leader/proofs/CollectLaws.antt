@@ -1,13 +1,16 @@
 -- What a leader has after one step more of its round.
-use Rattle.std.proofs.Common.{◌≡◌, ℕ, ◌+◌, ◌*◌, ◌≤◌, ◌<◌, ◌==◌, ◌&&◌, nat_le, nat_lt, Bool, true, false, cond, if◌then◌else◌, List, [], ◌∷◌, ◌++◌, length, Option, Some, None, refl, sym, ◌∙◌, ap, subst, arith, eqb, append-nil, append_assoc, length-append}
+use Rattle.std.proofs.Common.{◌≡◌, ◌≢◌, inl, inr, ⊎_elim, ℕ, ◌+◌, ◌-◌, ◌*◌, ◌≤◌, ◌<◌, ◌==◌, ◌&&◌, ◌||◌, nat_le, nat_lt, Bool, true, false, cond, if◌then◌else◌, List, [], ◌∷◌, ◌++◌, length, Option, Some, None, refl, sym, ◌∙◌, ap, subst, arith, eqb, append-nil, append_assoc, length-append}
 use Rattle.std.specs.List.{flat_map, AllByRecursion}
-use Rattle.std.proofs.lemmas.Bool.{eqb-true, eq-eqb, and_parts, and_from, leb-true}
+use Rattle.std.proofs.lemmas.Bool.{eqb-true, eq-eqb, and_parts, and_from, or_cases, leb-true}
 use Rattle.std.proofs.lemmas.Bool.Decides.{nat_tests}
 use Rattle.log_entry.specs.declared.entry.Entry.{Entry}
 use Rattle.log_entry.specs.Spelling.{words_of, HasSpelling}
 use Rattle.core_log.specs.Chunk.{lines_for}
 use Rattle.group_laws.specs.Places.{members}
+use Rattle.store_image.specs.Facts.{In}
+use Rattle.group_laws.specs.declared.types.Pending.{Pending}
 use Rattle.group_laws.specs.MemberViews.{View}
+use Rattle.group_board.specs.Assurances.{IsUnlogged}
 use Rattle.group_board.specs.Views.{after_lock, after_take}
 use Rattle.group_board.specs.Conditions.{MayLock}
 use Rattle.group_board.specs.Seats.{SeatAt}
@@ -16,8 +19,8 @@ use Rattle.batch_leader.specs.declared.changes.Changes.{Changes}
 use Rattle.batch_leader.specs.declared.states.Collecting.{Collecting}
 use Rattle.batch_leader.specs.TakenChanges.{spelled, entries_in, taken_in, AreApart, IsTaken, HasOut}
 use Rattle.core_log.specs.declared.types.Room.{Room}
-use Rattle.batch_leader.specs.Rounds.{member_at, slot_at, round_end, own_lines, fits, stays_in, goes_fresh, words_in, space, has_chunk}
-use Rattle.batch_leader.specs.Leading.{IsFrom, Collects, HasSpace}
+use Rattle.batch_leader.specs.Rounds.{member_at, slot_at, round_end, own_lines, fits, stays_in, goes_fresh, words_in, space, left_free, leaves_room, has_chunk}
+use Rattle.batch_leader.specs.Leading.{IsFrom, AreUnlogged, Collects, IsKept, LeavesRoom, HasSpace}
 
 pub member_low : (m i n : ℕ) → m < n → i < 8 * n → member_at m i < n
 unfolding member_at
@@ -107,12 +110,25 @@ unfolding own_lines
 lines_more m [] t = omega arith
 lines_more m (x ∷ xs) t = let rest = lines_more m xs t in omega (arith, rest)
 
+pub own_none : (m : ℕ) (ts : List Taken) → ts ≡ [] → own_lines m ts ≡ 0
+unfolding own_lines
+own_none m ts e = ap (own_lines m) e
+
+-- what isn't in the own log yet, where neither what is pending nor the log differs
+pub unlogged_by : (m : ℕ) (v u : View) (ts : List Taken) → u.pending ≡ v.pending → u.kept ≡ v.kept → AreUnlogged m v ts → AreUnlogged m u ts
+unlogged_by m v u ts pending kept each = all_weaker (λ t. IsUnlogged m t.member t.slot v t.change.entry) (λ t. IsUnlogged m t.member t.slot u t.change.entry) ts
+    (λ t is. record {
+      new = λ i. is.new (subst (λ (es : List Entry). In t.change.entry es) kept i);
+      own = λ mine. ap (λ (f : ℕ → Option Pending). f t.change.entry.key) pending ∙ is.own mine;
+    })
+    each
+
 -- the leader after it took a change
 module _ (seat : SeatAt) (v u : View) (old new : Collecting) (t : Taken) (C : Collects seat v old) (whole : v.broken ≡ false) (few : length old.changes.taken.items < 64) (within : old.at < round_end seat.place)
     (items : new.changes.taken.items ≡ old.changes.taken.items ++ t ∷ []) (at : new.at ≡ old.at + 1)
     (own : new.own_lines ≡ old.own_lines + own_of seat.number t) (short : length (words_of t.change.entry) ≤ 34)
     (member : t.member ≡ member_at seat.number old.at) (slot : t.slot ≡ slot_at old.at) (spelled : HasSpelling t.change.entry)
-    (view : u ≡ after_take t.member t.slot t.change.entry v) where
+    (unlogged : IsUnlogged seat.number t.member t.slot v t.change.entry) (view : u ≡ after_take t.member t.slot t.change.entry v) where
   abbrev ts : List Taken
   ts = old.changes.taken.items
 
@@ -152,12 +168,14 @@ module _ (seat : SeatAt) (v u : View) (old new : Collecting) (t : Taken) (C : Co
     within = omega (arith, at, within);
     own = own ∙ ap (λ (n : ℕ). n + own_of seat.number t) C.own ∙ sym (lines_more seat.number ts t) ∙ ap (own_lines seat.number) (sym items);
     own_few = (let n : length new.changes.taken.items ≡ length (ts ++ t ∷ []) = ap length items in let l = longer in let a = C.own_few in let b = own_short in omega (arith, n, l, a, b, own));
+    unlogged = subst (AreUnlogged seat.number u) (sym items) (unlogged_by seat.number v u (ts ++ t ∷ []) (ap (λ (w : View). w.pending) view) (ap (λ (w : View). w.kept) view)
+        (all_more (λ x. IsUnlogged seat.number x.member x.slot v x.change.entry) ts t C.unlogged unlogged));
   }
 
 -- and after it passed a slot
 pub collects_past : (seat : SeatAt) (v u : View) (old new : Collecting) → Collects seat v old → old.at < round_end seat.place → new.changes ≡ old.changes → new.own_lines ≡ old.own_lines → new.at ≡ old.at + 1
-    → u.taken ≡ v.taken → u.holds ≡ v.holds → u.flying ≡ v.flying → u.broken ≡ v.broken → Collects seat u new
-collects_past seat v u old new C within changes own at taken holds flying broken =
+    → u.taken ≡ v.taken → u.holds ≡ v.holds → u.flying ≡ v.flying → u.broken ≡ v.broken → u.pending ≡ v.pending → u.kept ≡ v.kept → Collects seat u new
+collects_past seat v u old new C within changes own at taken holds flying broken pending kept =
     let items : new.changes.taken.items ≡ old.changes.taken.items = ap (λ (b : Changes). b.taken.items) changes in
     record {
       member = C.member;
@@ -170,12 +188,13 @@ collects_past seat v u old new C within changes own at taken holds flying broken
       within = omega (arith, at, within);
       own = own ∙ C.own ∙ ap (own_lines seat.number) (sym items);
       own_few = (let n : length new.changes.taken.items ≡ length old.changes.taken.items = ap length items in let a = C.own_few in omega (arith, n, a, own));
+      unlogged = subst (AreUnlogged seat.number u) (sym items) (unlogged_by seat.number v u old.changes.taken.items pending kept C.unlogged);
     }
 
 -- and after something that doesn't concern what it took
 pub collects_still : (seat : SeatAt) (v u : View) (old new : Collecting) → Collects seat v old → new.changes ≡ old.changes → new.own_lines ≡ old.own_lines → new.at ≡ old.at
-    → u.taken ≡ v.taken → u.holds ≡ v.holds → u.flying ≡ v.flying → u.broken ≡ v.broken → Collects seat u new
-collects_still seat v u old new C changes own at taken holds flying broken =
+    → u.taken ≡ v.taken → u.holds ≡ v.holds → u.flying ≡ v.flying → u.broken ≡ v.broken → u.pending ≡ v.pending → u.kept ≡ v.kept → Collects seat u new
+collects_still seat v u old new C changes own at taken holds flying broken pending kept =
     let items : new.changes.taken.items ≡ old.changes.taken.items = ap (λ (b : Changes). b.taken.items) changes in
     record {
       member = C.member;
@@ -187,6 +206,7 @@ collects_still seat v u old new C changes own at taken holds flying broken =
       within = (let low = C.within in omega (arith, at, low));
       own = own ∙ C.own ∙ ap (own_lines seat.number) (sym items);
       own_few = (let n : length new.changes.taken.items ≡ length old.changes.taken.items = ap length items in let a = C.own_few in omega (arith, n, a, own));
+      unlogged = subst (AreUnlogged seat.number u) (sym items) (unlogged_by seat.number v u old.changes.taken.items pending kept C.unlogged);
     }
 
 -- at the beginning
@@ -203,6 +223,7 @@ collects_first seat v u c may items landed at own view =
       within = omega (arith, at);
       own = own ∙ ap (own_lines seat.number) (sym items);
       own_few = omega (arith, own);
+      unlogged = subst (AreUnlogged seat.number u) (sym items) tt;
     }
 
 -- An entry that fits has room in the chunk that the batch is for.
@@ -221,9 +242,48 @@ chunk_of : (room : Room) (f : Bool) → has_chunk room f ≡ true → f ≡ true
 chunk_of room true e h = grind (arith, nat_tests)
 chunk_of room false e h = absurd (cc h)
 
-pub fits_suits : (room : Room) (lines : ℕ) (ts : List Taken) (fresh mine : Bool) (n : ℕ) → 5 ≤ room.payload_lines → n ≤ 34 → fits room lines ts fresh mine n ≡ true → HasSpace room (goes_fresh room ts fresh n) (words_in ts + n)
+-- what an own entry adds to the lines of own ones
+abbrev pub more_own : Bool → ℕ → ℕ
+more_own mine n = if mine then lines_for n else 0
+
+-- An entry that fits leaves the room rule kept for what is pledged to others, where it was kept without it.
+first_leaves : (room : Room) (n : ℕ) (b : Bool) → nat_lt room.open_lines (lines_for n) ≡ b → IsKept room → LeavesRoom room b (lines_for n) n
+first_leaves room n true t kept = let f = kept.fresh in inl (omega (arith, f))
+first_leaves room n false t kept = ⊎_elim (λ r. inl (omega (arith, r))) (λ f. inr f) kept.rule
+
+next_leaves : (room : Room) (lines words n : ℕ) (b : Bool) → LeavesRoom room b lines words → LeavesRoom room b (lines + lines_for n) (words + n)
+next_leaves room lines words n b left = ⊎_elim (λ r. inl (omega (arith, r))) (λ f. inr f) left
+
+other_leaves : (room : Room) (lines : ℕ) (ts : List Taken) (b : Bool) (n : ℕ) → leaves_room room lines ts b n ≡ true → LeavesRoom room b (lines + 0) (words_in ts + n)
+unfolding leaves_room
+other_leaves room lines ts b n e = ⊎_elim
+    (λ r. (let le = leb-true (room.pledged_lines - lines) (space room b - lines_for (words_in ts + n)) r in inl (omega (arith, le))))
+    (λ f. inr (leb-true 2 (left_free room b) f))
+    (or_cases (nat_le (room.pledged_lines - lines) (space room b - lines_for (words_in ts + n))) (nat_le 2 (left_free room b)) e)
+
+own_leaves : (room : Room) (lines : ℕ) (ts : List Taken) (fresh : Bool) (n : ℕ) → (ts ≡ [] → lines ≡ 0) → (ts ≢ [] → LeavesRoom room fresh lines (words_in ts)) → IsKept room
+    → LeavesRoom room (goes_fresh room ts fresh n) (lines + lines_for n) (words_in ts + n)
+unfolding goes_fresh
+own_leaves room lines [] fresh n none left kept =
+    let zero_lines : lines ≡ 0 = none refl in
+    let same : lines + lines_for n ≡ lines_for n = omega (arith, zero_lines) in
+    let words : words_in [] + n ≡ n = omega arith in
+    subst (λ (x : ℕ). LeavesRoom room (nat_lt room.open_lines (lines_for n)) x (words_in [] + n)) (sym same)
+    (subst (λ (x : ℕ). LeavesRoom room (nat_lt room.open_lines (lines_for n)) (lines_for n) x) (sym words) (first_leaves room n (nat_lt room.open_lines (lines_for n)) refl kept))
+own_leaves room lines (t ∷ ts) fresh n none left kept = next_leaves room lines (words_in (t ∷ ts)) n fresh (left (λ e. cc e))
+
+by_mine : (room : Room) (lines : ℕ) (ts : List Taken) (fresh mine : Bool) (n : ℕ) → (mine || leaves_room room lines ts (goes_fresh room ts fresh n) n) ≡ true → (ts ≡ [] → lines ≡ 0) → (ts ≢ [] → LeavesRoom room fresh lines (words_in ts)) → IsKept room
+    → LeavesRoom room (goes_fresh room ts fresh n) (lines + more_own mine n) (words_in ts + n)
+by_mine room lines ts fresh true n e none left kept = own_leaves room lines ts fresh n none left kept
+by_mine room lines ts fresh false n e none left kept = other_leaves room lines ts (goes_fresh room ts fresh n) n e
+
+pub fits_suits : (room : Room) (lines : ℕ) (ts : List Taken) (fresh mine : Bool) (n : ℕ) → 5 ≤ room.payload_lines → n ≤ 34 → (ts ≡ [] → lines ≡ 0) → (ts ≢ [] → HasSpace room fresh lines (words_in ts)) → fits room lines ts fresh mine n ≡ true
+    → HasSpace room (goes_fresh room ts fresh n) (lines + more_own mine n) (words_in ts + n)
 unfolding fits
-fits_suits room lines ts fresh mine n payload short e =
+fits_suits room lines ts fresh mine n payload short none had e =
     let stays = and_parts (stays_in room ts (goes_fresh room ts fresh n) n) _ (and_parts (nat_le n 34) _ e).1 in
-    let chunk = and_parts (has_chunk room (goes_fresh room ts fresh n)) _ stays.1 in
-    (suits_of room ts fresh n payload short stays.0, chunk_of room (goes_fresh room ts fresh n) chunk.0)
+    let chunk = and_parts (has_chunk room (goes_fresh room ts fresh n)) _ stays.1 in (
+      suits_of room ts fresh n payload short stays.0,
+      chunk_of room (goes_fresh room ts fresh n) chunk.0,
+      λ kept. by_mine room lines ts fresh mine n chunk.1 none (λ some. (had some).2 kept) kept,
+    )

@@ -6,3 +6,4 @@ pub mod OtherLaws
 pub mod WithdrawLaws
 pub mod Trials
 pub mod LeaderTrials
+pub mod EightTrials

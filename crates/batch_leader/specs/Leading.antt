@@ -14,6 +14,7 @@ use Rattle.group_laws.specs.MemberViews.{View, view_of}
 use Rattle.group_laws.specs.Runs.{Kind, Runs}
 use Rattle.group_laws.specs.Runs.Kind.{Look, Take, Withdraw}
 use Rattle.group_board.specs.Seats.{SeatAt}
+use Rattle.group_board.specs.Assurances.{IsUnlogged}
 use Rattle.group_board.specs.Views.{after_take, after_withdraw}
 use Rattle.group_board.specs.Told.{state_of}
 use Rattle.group_board.specs.declared.board.SlotState.{SlotState}
@@ -27,7 +28,7 @@ use Rattle.batch_leader.specs.declared.states.Collected.TheVariants.{Took, Round
 use Rattle.batch_leader.specs.declared.states.Released.{Released}
 use Rattle.batch_leader.specs.declared.states.Released.TheVariants as released
 use Rattle.batch_leader.specs.TakenChanges.{entries_in, HasOut}
-use Rattle.batch_leader.specs.Rounds.{member_at, slot_at, round_end, own_lines, words_in, space, fits, goes_fresh, Passes, shown_at}
+use Rattle.batch_leader.specs.Rounds.{member_at, slot_at, round_end, own_lines, words_in, space, left_free, fits, goes_fresh, Passes, shown_at}
 
 -- what was taken so far
 abbrev pub taken_by : Collecting → List Taken
@@ -36,6 +37,10 @@ taken_by c = c.changes.taken.items
 -- the change is from a slot that the round of m has passed
 abbrev pub IsFrom : ℕ → ℕ → Taken → Type 0
 IsFrom m at t = (i : ℕ) × (i < at) × (t.member ≡ member_at m i) × (t.slot ≡ slot_at i)
+
+-- none of these is in the own log yet, and own ones are the changes pending in their slots
+abbrev pub AreUnlogged : ℕ → View → List Taken → Type 0
+AreUnlogged m v ts = AllByRecursion (λ t. IsUnlogged m t.member t.slot v t.change.entry) ts
 
 -- The leader has the lock, and all that it took since is in its hands and in flight. Who is broken takes nothing.
 pub record CollectsAt (p : Place) (m : ℕ) (v : View) (c : Collecting) : Type 0 where
@@ -48,17 +53,27 @@ pub record CollectsAt (p : Place) (m : ℕ) (v : View) (c : Collecting) : Type 0
   pub within : c.at ≤ round_end p
   pub own : c.own_lines ≡ own_lines m (taken_by c)
   pub own_few : c.own_lines ≤ 5 * length (taken_by c)
+  pub unlogged : AreUnlogged m v (taken_by c)
 
 abbrev pub Collects : SeatAt → View → Collecting → Type 0
 Collects seat v c = CollectsAt seat.place seat.number v c
 
--- There is a chunk with room for so many words.
-abbrev pub HasSpace : Room → Bool → ℕ → Type 0
-HasSpace room fresh n = (lines_for n ≤ space room fresh) × (fresh ≡ true → 0 < room.free_chunks)
+-- The room rule as a leader is told of it: what is pledged fits in the open chunk, or two chunks are free. And it fits in a fresh chunk.
+pub record IsKept (room : Room) : Type 0 where
+  pub rule : (room.pledged_lines ≤ room.open_lines) ⊎ (2 ≤ room.free_chunks)
+  pub fresh : room.pledged_lines ≤ room.payload_lines
+
+-- Once a batch of so many words is written, with own entries of so many lines, what is pledged to others than these fits in its chunk, or two chunks are free.
+abbrev pub LeavesRoom : Room → Bool → ℕ → ℕ → Type 0
+LeavesRoom room fresh own n = (room.pledged_lines - own ≤ space room fresh - lines_for n) ⊎ (2 ≤ left_free room fresh)
+
+-- There is a chunk with room for so many words; and where the room rule is kept, writing them leaves it so.
+abbrev pub HasSpace : Room → Bool → ℕ → ℕ → Type 0
+HasSpace room fresh own n = (lines_for n ≤ space room fresh) × (fresh ≡ true → 0 < room.free_chunks) × (IsKept room → LeavesRoom room fresh own n)
 
 -- The entries have room in the batch's chunk, as this room tells it.
 abbrev pub Suits : Room → Collecting → Type 0
-Suits room c = taken_by c ≢ [] → HasSpace room c.fresh (words_in (taken_by c))
+Suits room c = taken_by c ≢ [] → HasSpace room c.fresh c.own_lines (words_in (taken_by c))
 
 -- looks of member m at n slots of its round, from a position on
 abbrev pub looks_upto : ℕ → ℕ → ℕ → List (ℕ × Kind)
@@ -178,6 +193,8 @@ pub record IsBatchAt (p : Place) (m : ℕ) (v : View) (b : Batch) : Type 0 where
   pub out : HasOut p v b.changes.taken.items
   pub flying : v.flying ≡ entries_in b.changes.taken.items
   pub whole : v.broken ≡ false
+  pub own : b.own_lines ≡ own_lines m b.changes.taken.items
+  pub unlogged : AreUnlogged m v b.changes.taken.items
 
 abbrev pub IsBatchOf : SeatAt → View → Batch → Type 0
 IsBatchOf seat v b = IsBatchAt seat.place seat.number v b
@@ -201,5 +218,5 @@ IsLost seat v ts = IsLostAt seat.place seat.number v ts
 
 -- What is left of a leader that gave the lock back: a batch of all that it took, or its room where it took nothing.
 abbrev pub IsReleased : SeatAt → View → Collecting → Released → Type 0
-IsReleased seat v c (released.Batch b) = IsBatchOf seat v b × (b.changes ≡ c.changes) × (b.fresh ≡ c.fresh)
+IsReleased seat v c (released.Batch b) = IsBatchOf seat v b × (b.changes ≡ c.changes) × (b.fresh ≡ c.fresh) × (b.own_lines ≡ c.own_lines)
 IsReleased seat v c (released.Nothing b) = (taken_by c ≡ []) × (v.broken ≡ false → v.flying ≡ []) × ((a s : ℕ) → v.taken a s ≡ None)

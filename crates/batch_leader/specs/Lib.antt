@@ -4,6 +4,7 @@ pub mod Leading
 pub mod GivingBack
 pub mod Persisting
 pub mod LeadTrials
+pub mod EightTrials
 pub use Rattle.core_log.specs.Chunk
 pub use Rattle.group_board.specs.Conditions
 pub use Rattle.core_log.specs.Entries

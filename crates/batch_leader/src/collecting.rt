@@ -34,6 +34,7 @@ impl Collecting {
         requires whole { (B.view board.old).broken ≡ false }
         requires few { length (taken_by self.old) < 64 }
         requires within { self.old.at < round_end (B.seat board.old).place }
+        requires suits { Suits room.now self.old }
         requires group { members (B.seat board.old).place ≤ 8 }
         requires room { 5 ≤ room.now.payload_lines }
         requires own { own ≡ (B.seat board.old).number }
@@ -146,13 +147,17 @@ impl Collecting {
             changes,
             at: _,
             fresh,
-            own_lines: _,
+            own_lines,
             over: _,
         } = self;
         if changes.is_empty() {
             Released::Nothing(changes.into_buffer())
         } else {
-            Released::Batch(Batch { changes, fresh })
+            Released::Batch(Batch {
+                changes,
+                fresh,
+                own_lines,
+            })
         }
     }
 }

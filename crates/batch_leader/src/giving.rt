@@ -1,7 +1,7 @@
 // Giving changes back.
-ghost use Rattle.std.specs.Prelude.{◌≡◌, ◌≢◌, ℕ, true, false, [], ◌∷◌};
+ghost use Rattle.std.specs.Prelude.{◌≡◌, ◌≢◌, ℕ, true, false, [], ◌∷◌, is_some};
 ghost use Rattle.group_laws.specs.Runs as runs;
-ghost use Rattle.batch_leader.specs.TakenChanges.{MatchBool};
+ghost use Rattle.batch_leader.specs.TakenChanges.{MatchBool, taken_in};
 ghost use Rattle.batch_leader.specs.Leading.{IsCertain, IsLost, MakesAll};
 ghost use Rattle.batch_leader.specs.GivingBack.{GivesBack, marked, failed, marked_all, marks_of};
 
@@ -47,6 +47,13 @@ impl Persisted {
         ensures { MatchBool result (self.now.left.taken.items ≡ []) (self.now.left.taken.items ≢ []) }
     {
         self.left.is_empty()
+    }
+
+    /// Whether the change out of this slot of the member is among those that are left.
+    pub fn has(&self, member: u32, slot: u32) -> bool
+        ensures { result ≡ is_some (taken_in self.now.left.taken.items member slot) }
+    {
+        self.left.has(member, slot)
     }
 
     /// The room for the next batch, once all are marked.

@@ -6,6 +6,8 @@
 mod buffer;
 mod changes;
 mod collecting;
+#[cfg(test)]
+mod eight_members;
 mod fitting;
 #[cfg(test)]
 mod given_back;

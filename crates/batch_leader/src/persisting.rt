@@ -39,7 +39,11 @@ impl Batch {
     fn lost(self) -> FailedBatch
         ensures { result.left.taken.items ≡ self.changes.taken.items }
     {
-        let Batch { changes, fresh: _ } = self;
+        let Batch {
+            changes,
+            fresh: _,
+            own_lines: _,
+        } = self;
         FailedBatch {
             left: Returning::all(changes),
         }
@@ -49,7 +53,11 @@ impl Batch {
     fn certain(self) -> Persisted
         ensures { result.left.taken.items ≡ self.changes.taken.items }
     {
-        let Batch { changes, fresh: _ } = self;
+        let Batch {
+            changes,
+            fresh: _,
+            own_lines: _,
+        } = self;
         Persisted {
             left: Returning::all(changes),
         }

@@ -1,6 +1,6 @@
 // What a leader has to give back, after its batch was written or could not be written.
-ghost use Rattle.std.specs.Prelude.{◌≡◌, ◌≢◌, ◌≤◌, [], ◌∷◌, vec_capacity, MatchOption};
-ghost use Rattle.batch_leader.specs.TakenChanges.{MatchBool};
+ghost use Rattle.std.specs.Prelude.{◌≡◌, ◌≢◌, ◌≤◌, [], ◌∷◌, vec_capacity, is_some, MatchOption};
+ghost use Rattle.batch_leader.specs.TakenChanges.{MatchBool, taken_in};
 
 use crate::buffer::BatchBuffer;
 use crate::changes::Changes;
@@ -35,6 +35,18 @@ impl Returning {
         } else {
             Some(self.taken.remove(0))
         }
+    }
+
+    /// Whether the change out of this slot of the member is one of them.
+    pub fn has(&self, member: u32, slot: u32) -> bool
+        ensures { result ≡ is_some (taken_in self.now.taken.items member slot) }
+    {
+        for taken in &self.taken {
+            if taken.member == member && taken.slot == slot {
+                return true;
+            }
+        }
+        false
     }
 
     pub fn is_empty(&self) -> bool

@@ -45,6 +45,8 @@ pub enum Released {
 pub struct Batch {
     pub(crate) changes: Changes,
     pub(crate) fresh: bool,
+    /// The lines of the own entries, each by itself.
+    pub(crate) own_lines: u64,
     ghost some: { changes.taken.items ≢ [] },
 }
 

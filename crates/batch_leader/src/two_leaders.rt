@@ -33,7 +33,7 @@ fn gather_at(
 }
 
 /// A member writes its batch, and gives back what is in it.
-fn write_at(
+pub(crate) fn write_at(
     region: &mut SteadyRegion,
     log: &mut CoreLog,
     board: &mut LocalBoard,

@@ -10,7 +10,7 @@ use Rattle.batch_leader.specs.declared.taken.Taken.{Taken}
 use Rattle.std.specs.Prelude.{List}
 use Rattle.batch_leader.specs.TakenChanges.{HasOut}
 use Rattle.batch_leader.specs.Rounds.{own_lines, round_end}
-use Rattle.batch_leader.specs.Leading.{Collects, IsBatchOf, IsCertain, IsLost, IsFrom, taken_by}
+use Rattle.batch_leader.specs.Leading.{Collects, IsBatchOf, IsCertain, IsLost, IsFrom, AreUnlogged, taken_by}
 use Rattle.core_worker.specs.declared.types.Leading.{Leading}
 use Rattle.core_worker.specs.declared.types.Leading.TheVariants as leads
 use Rattle.core_worker.specs.Ties.{LeadsAt, Leads}
@@ -30,6 +30,7 @@ module _ (seat other : SeatAt) (place : other.place ≡ seat.place) (number : ot
     within = subst (λ (p : Place). c.at ≤ round_end p) place C.within;
     own = subst (λ (n : ℕ). c.own_lines ≡ own_lines n (taken_by c)) number C.own;
     own_few = C.own_few;
+    unlogged = subst (λ (n : ℕ). AreUnlogged n v (taken_by c)) number C.unlogged;
   }
 
   batch : (v : View) (b : Batch) → IsBatchOf other v b → IsBatchOf seat v b
@@ -38,6 +39,8 @@ module _ (seat other : SeatAt) (place : other.place ≡ seat.place) (number : ot
     out = subst (λ (p : Place). HasOut p v b.changes.taken.items) place B.out;
     flying = B.flying;
     whole = B.whole;
+    own = subst (λ (n : ℕ). b.own_lines ≡ own_lines n b.changes.taken.items) number B.own;
+    unlogged = subst (λ (n : ℕ). AreUnlogged n v b.changes.taken.items) number B.unlogged;
   }
 
   certain : (v : View) (ts : List Taken) → IsCertain other v ts → IsCertain seat v ts

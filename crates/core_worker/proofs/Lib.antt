@@ -13,6 +13,13 @@ mod BlockClear
 mod HandKeys
 mod Aside
 mod QuietMoves
+mod KeyMoves
+mod HandPlaces
+mod AcceptMoves
+mod QuietItems
+mod PostMoves
+mod SearchLaws
+mod TurnLaws
 mod RefusalLaws
 mod Gains
 mod Pointers
@@ -23,7 +30,18 @@ mod RoomKept
 mod Accepted
 mod Winding
 mod Waiters
-mod Hearing
+pub mod Serving
+mod Heard
+pub mod Tidied
+pub mod Freeing
+pub mod FreedOrder
+pub mod GivingUp
+pub mod PuttingBack
+pub mod Settling
+pub mod TakingBack
+pub mod Served
+mod Unpledging
+mod BatchRoom
 mod StartKeys
 mod StartBlocks
 mod StartHeads

@@ -30,7 +30,7 @@ use Rattle.core_worker.specs.OwnPlaces.{place_at, is_free}
 use Rattle.core_worker.specs.KeyTies.{IsPlaced, LeftIn}
 use Rattle.core_worker.specs.Refusals.{IsCounted, IsMeasured}
 use Rattle.core_room.specs.declared.supply.Supply.{Supply}
-use Rattle.core_worker.specs.Supplies.{supply_of, why_put, free_blocks}
+use Rattle.core_worker.specs.Supplies.{IsSmall, supply_of, why_put, free_blocks}
 use Rattle.core_room.specs.RoomRule.{pledged, lacks_block, lacks_room, may_cut}
 use Rattle.core_room.specs.Lengths.{lines_needed, class_for}
 use Rattle.core_worker.specs.Beginning.{HoldsAside}
@@ -48,7 +48,7 @@ pub measured : (p : group.Place) (m : ℕ) (v : View) (w : Worker) → HoldsAsid
 measured p m v w H = record {
   eight = H.eight;
   counted = each w.places.items (λ s lt. let eight = H.eight in let low : s < 8 = omega (arith, lt, eight) in counted p m v s (place_at w.places.items s) (H.placed s low));
-  small = H.cleaning;
+  small = subst IsSmall (sym H.cleaning) tt;
   layout = H.allocator_layout ∙ sym H.layout;
 }
 

@@ -27,7 +27,7 @@ use Rattle.core_worker.specs.OwnPlaces.{place_at, lines_in, own, Replaces}
 use Rattle.core_worker.specs.Supplies.{supply_of, rest, KeepsRule, HasKeptRoom}
 
 -- the lines of equal places, and of places that differ in one
-own_same : (xs ys : List Place) → length ys ≡ length xs → ((t : ℕ) → place_at ys t ≡ place_at xs t) → own ys ≡ own xs
+pub own_same : (xs ys : List Place) → length ys ≡ length xs → ((t : ℕ) → place_at ys t ≡ place_at xs t) → own ys ≡ own xs
 own_same [] [] c h = refl
 own_same [] (y ∷ ys) c h = absurd (cc c)
 own_same (x ∷ xs) [] c h = absurd (cc c)

@@ -1,5 +1,5 @@
 -- What a round that is over leaves.
-use Rattle.std.proofs.Common.{◌≡◌, Bool, false, refl, sym, ◌∙◌, ap, subst}
+use Rattle.std.proofs.Common.{◌≡◌, ℕ, Bool, false, refl, sym, ◌∙◌, ap, subst}
 use Rattle.group_laws.specs.MemberViews.{View}
 use Rattle.batch_leader.specs.declared.states.Collecting.{Collecting}
 use Rattle.batch_leader.specs.declared.states.Released.{Released}
@@ -19,8 +19,9 @@ released_leads seat u c (released.Nothing b) is free = (free, is.2, is.1)
 
 pub released_space : (w : Worker) (seat : SeatAt) (u : View) (c : Collecting) (r : Released) → IsReleased seat u c r → Suits (room_for w) c → HasSpaceFor w (led_by r)
 released_space w seat u c (released.Batch b) is suits =
-    subst (λ (f : Bool). HasSpace (room_for w) f (words_in b.changes.taken.items)) (sym is.2)
-    (subst (λ (x : Changes). HasSpace (room_for w) c.fresh (words_in x.taken.items)) (sym is.1) (suits (λ none. b.some (ap (λ (x : Changes). x.taken.items) is.1 ∙ none))))
+    subst (λ (n : ℕ). HasSpace (room_for w) b.fresh n (words_in b.changes.taken.items)) (sym is.3)
+    (subst (λ (f : Bool). HasSpace (room_for w) f c.own_lines (words_in b.changes.taken.items)) (sym is.2)
+    (subst (λ (x : Changes). HasSpace (room_for w) c.fresh c.own_lines (words_in x.taken.items)) (sym is.1) (suits (λ none. b.some (ap (λ (x : Changes). x.taken.items) is.1 ∙ none)))))
 released_space w seat u c (released.Nothing b) is suits = tt
 
 pub released_not_lost : (r : Released) → is_lost (led_by r) ≡ false

@@ -29,7 +29,8 @@ use Rattle.group_laws.proofs.OpeningFound as founds
 use Rattle.group_laws.proofs.OpeningFound.{found_is, finds_one}
 use Rattle.group_laws.proofs.OpeningTidied.{all_true, all_from}
 use Rattle.core_worker.specs.KeyTies.{KnowsKey, Left, LeftIn}
-use Rattle.core_worker.specs.Openings.{is_dead_by, heard_at, last_change, HearsAll, opened_view}
+use Rattle.core_worker.specs.Hearing.{is_dead_by, heard_at, last_change, HearsAll}
+use Rattle.core_worker.specs.Openings.{opened_view}
 
 -- what the last change was is the same where version and body are
 

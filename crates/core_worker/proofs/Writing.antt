@@ -30,12 +30,16 @@ use Rattle.core_worker.specs.declared.types.Leading.{Leading}
 use Rattle.core_worker.specs.declared.types.Leading.TheVariants as leads
 use Rattle.core_worker.specs.declared.worker.Worker.{Worker}
 use Rattle.core_worker.specs.Supplies.{room_for}
-use Rattle.core_worker.specs.KeyTies.{IsBlockFor, AreBlocks}
+use Rattle.store_image.specs.Facts.{In}
+use Rattle.core_worker.specs.declared.types.Place as places
+use Rattle.core_worker.specs.declared.types.Place.TheVariants.{Free, Staged, Posted}
+use Rattle.core_worker.specs.OwnPlaces.{place_at}
+use Rattle.core_worker.specs.KeyTies.{IsBlockFor, AreBlocks, IsPlaced}
 use Rattle.core_worker.specs.Ties.{Leads, HasSpaceFor, is_lost, Holds, Stands}
 use Rattle.core_worker.specs.Turns.{TakesFor}
 use Rattle.core_worker.proofs.Led.{led_view}
 
-none_counted : (f : ℕ → Bool) (xs : List ℕ) → ((j : ℕ) → f j ≡ false) → count_by f xs ≡ 0
+pub none_counted : (f : ℕ → Bool) (xs : List ℕ) → ((j : ℕ) → f j ≡ false) → count_by f xs ≡ 0
 none_counted f [] none = refl
 none_counted f (x ∷ xs) none = by_first (f x) (none x) (none_counted f xs none) where
   by_first : (b : Bool) → b ≡ false → count_by f xs ≡ 0 → count_by f (x ∷ xs) ≡ 0
@@ -43,12 +47,12 @@ none_counted f (x ∷ xs) none = by_first (f x) (none x) (none_counted f xs none
 
 -- where there is space for the batch, the chunk that was taken has room
 pub room_ready : (s : State) (p : Place) (m : ℕ) (v : View) (w : Worker) → Stands s p m v w → AreSets w.allocator → w.allocator.layout ≡ w.log.layout → w.stopped ≡ false
-    → (f : Bool) (n : ℕ) (a : Sets) (o : Option ℕ) → HasSpace (room_for w) f n → TakesFor f w.allocator a o → HasRoom s w.log n o
-room_ready s p m v w S sets layout runs true n a None space takes = absurd (let some = space.1 refl in let none = none_counted (chunk_is_free w.allocator) (numbers 0 w.allocator.layout.chunks) takes.0 in omega (arith, some, none))
-room_ready s p m v w S sets layout runs true n a (Some j) space takes =
+    → (f : Bool) (own n : ℕ) (a : Sets) (o : Option ℕ) → HasSpace (room_for w) f own n → TakesFor f w.allocator a o → HasRoom s w.log n o
+room_ready s p m v w S sets layout runs true own n a None space takes = absurd (let some = space.1 refl in let none = none_counted (chunk_is_free w.allocator) (numbers 0 w.allocator.layout.chunks) takes.0 in omega (arith, some, none))
+room_ready s p m v w S sets layout runs true own n a (Some j) space takes =
     (space.0, subst (λ (l : Geometry). j < l.chunks) layout (sets.free_in j takes.was_free).0, λ telling. (S.free runs j takes.was_free telling).1)
-room_ready s p m v w S sets layout runs false n a None space takes = space.0
-room_ready s p m v w S sets layout runs false n a (Some j) space takes = absurd (cc (takes.0))
+room_ready s p m v w S sets layout runs false own n a None space takes = space.0
+room_ready s p m v w S sets layout runs false own n a (Some j) space takes = absurd (cc (takes.0))
 
 -- the allocator but for a chunk that is free no more
 pub record Same (old new : Sets) : Type 0 where
@@ -99,12 +103,19 @@ blocks_stay v old new ps same B = record {
       fits = is.fits;
     }
 
+-- a place is what a view has of its slot, also where more is certain
+placed_led : (p : Place) (m : ℕ) (v : View) (s : ℕ) (kept flying : List Entry) (taken : ℕ → ℕ → Option Entry) (holds : Bool) (looked : List Seen) (took : List Entry) → ((e : Entry) → In e v.kept → In e kept)
+    → (x : places.Place) → IsPlaced p m v s x → IsPlaced p m (led_view v kept flying taken holds looked took) s x
+placed_led p m v s kept flying taken holds looked took more Free is = is
+placed_led p m v s kept flying taken holds looked took more (Staged n e value) is = is
+placed_led p m v s kept flying taken holds looked took more (Posted n k lines) is = (is.0, is.1, is.2, is.3, is.4, ⊎_elim (λ full. inl full) (λ none. inr (none.0, more is.0 none.1)) is.5, is.6)
+
 -- the ties of a worker with another log and allocator
 pub holds_wrote : (p : Place) (m : ℕ) (v u : View) (w : Worker) (a : Sets) (log : LogState) (l : Leading) (stopped : Bool) (kept flying : List Entry) (taken : ℕ → ℕ → Option Entry) (holds : Bool) (looked : List Seen) (took : List Entry)
-    → u ≡ led_view v kept flying taken holds looked took → Holds p m v w → Same w.allocator a → AreSets a → log.layout ≡ p.layout → log.part ≡ core_of p m
+    → u ≡ led_view v kept flying taken holds looked took → ((x : Entry) → In x v.kept → In x kept) → Holds p m v w → Same w.allocator a → AreSets a → log.layout ≡ p.layout → log.part ≡ core_of p m
     → Leads p m u l → HasSpaceFor (record w { log = log; allocator = a; leading = l; stopped = stopped }) l → (u.broken ≡ true → stopped ≡ true) → (is_lost l ≡ true → stopped ≡ true) → (stopped ≡ false → w.stopped ≡ false) → (w.stopped ≡ true → stopped ≡ true)
     → Holds p m u (record w { log = log; allocator = a; leading = l; stopped = stopped })
-holds_wrote p m v u w a log l stopped kept flying taken holds looked took e H same sets layout part leads space broken lost running stays =
+holds_wrote p m v u w a log l stopped kept flying taken holds looked took e more H same sets layout part leads space broken lost running stays =
     subst (λ (x : View). Holds p m x (record w { log = log; allocator = a; leading = l; stopped = stopped })) (sym e) (record {
       place = H.place;
       member = H.member;
@@ -117,7 +128,7 @@ holds_wrote p m v u w a log l stopped kept flying taken holds looked took e H sa
       allocator_part = same.part ∙ H.allocator_part;
       spelled = H.spelled;
       eight = H.eight;
-      placed = λ s lt. H.placed s lt;
+      placed = λ s lt. placed_led p m v s kept flying taken holds looked took more (place_at w.places.items s) (H.placed s lt);
       apart = H.apart;
       pending = λ k q e. ⊎_elim (λ x. inl x) (λ y. inr (y.0, y.1, stays y.2)) (H.pending k q e);
       admitted = H.admitted;

@@ -8,6 +8,7 @@ use Rattle.chunk_map.specs.Layouts.{has_class}
 use Rattle.core_log.specs.Chunk.{lines_for}
 use Rattle.core_index.specs.Records.{KeyRecord, last_of, standing_of, standing_at}
 use Rattle.core_index.specs.declared.types.Standing.{Standing}
+use Rattle.store_image.specs.Facts.{In}
 use Rattle.lazy_alloc.specs.Sets.{Sets, class_at, block_is_used}
 use Rattle.group_laws.specs.declared.types.Block.{Block}
 use Rattle.group_laws.specs.Places.{Place, core_of, owner}
@@ -40,14 +41,14 @@ Offers v k (bodies.Pointer q) = (u : List ℕ) × (v.blocks q ≡ Some (record {
 Offers v k (bodies.Embedded u) = Unit {0}
 Offers v k bodies.Tombstone = v.cell k ≢ None
 
--- What a place has of its slot. A staged change is the next one of a key without one under way; of a posted one the view has the entry, in this slot.
+-- What a place has of its slot. A staged change is the next one of a key without one under way; of a posted one the view has the entry, in this slot. It pledges nothing only once that entry is certain in the own log.
 abbrev pub IsPlaced : Place → ℕ → View → ℕ → places.Place → Type 0
 IsPlaced p m v s Free = IsFree v s
 IsPlaced p m v s (Staged number entry value) =
     IsFree v s × (owner p entry.key ≡ m) × (v.pending entry.key ≡ None) × HasSpelling entry × (entry.version ≡ v.last entry.key + 1)
     × (entry.body ≡ bodies.Tombstone → v.cell entry.key ≢ None)
 IsPlaced p m v s (Posted number key lines) =
-    (e : Entry) × (v.pending key ≡ Some (record { entry = e; slot = Some s })) × (e.key ≡ key) × (owner p key ≡ m) × Offers v key e.body × ((lines ≡ lines_for (length (words_of e))) ⊎ (lines ≡ 0)) × (lines ≤ 5)
+    (e : Entry) × (v.pending key ≡ Some (record { entry = e; slot = Some s })) × (e.key ≡ key) × (owner p key ≡ m) × Offers v key e.body × ((lines ≡ lines_for (length (words_of e))) ⊎ ((lines ≡ 0) × In e v.kept)) × (lines ≤ 5)
 
 -- the block of a staged change, of the class of the value that it is to hold
 pub record IsStagedBlock (v : View) (ps : List places.Place) (q : ℕ) : Type 0 where

@@ -23,26 +23,8 @@ use Rattle.core_worker.specs.declared.types.Cleaning.TheVariants.{Nothing}
 use Rattle.core_worker.specs.declared.types.Place.TheVariants.{Free}
 use Rattle.core_worker.specs.declared.worker.Worker.{Worker}
 use Rattle.core_worker.specs.OwnPlaces.{place_at}
+use Rattle.core_worker.specs.Hearing.{HearsAll}
 use Rattle.core_worker.specs.Ties.{LeadsNothing}
-
--- the version is dead, as the record of its key has it
-abbrev pub is_dead_by : Option KeyRecord → ℕ → Bool
-is_dead_by None n = false
-is_dead_by (Some r) n = is_dead r n
-
--- an entry of a key with this record, where the dead ones that stand at a home were told
-abbrev pub heard_at : ℕ → Option KeyRecord → ℕ → Standing → Standing
-heard_at home o n s = if s.home == home && is_dead_by o n then standing_with s.version s.home true else s
-
-abbrev pub last_change : KeyRecord → ℕ × Body
-last_change r = (r.version, r.body)
-
--- Exactly the dead entries that stand at this home were told, so that none waits, and nothing else changed.
-pub record HearsAll (home : ℕ) (old new : List (ℕ × slots.Place)) : Type 0 where
-  pub changes : (k : ℕ) → option_map last_change (known_at new k) ≡ option_map last_change (known_at old k)
-  pub standing : (k n : ℕ) → standing_at (standing_of (known_at new k)) n ≡ option_map (heard_at home (known_at old k) n) (standing_at (standing_of (known_at old k)) n)
-  pub room : SameRoom old new
-  pub none : (k n : ℕ) → Awaits (known_at new k) home n → ⊥
 
 -- Whatever the region tells: the parts of the start are the worker's, the dead names of its own log were told, no request was accepted and nothing is led.
 pub record IsNew (start : CoreStart) (layout : Geometry) (w : Worker) : Type 0 where

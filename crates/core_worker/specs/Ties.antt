@@ -22,7 +22,8 @@ use Rattle.group_laws.specs.declared.types.Pending.{Pending}
 use Rattle.core_worker.specs.declared.types.Place.TheVariants.{Posted}
 use Rattle.core_worker.specs.declared.worker.Worker.{Worker}
 use Rattle.core_worker.specs.OwnPlaces.{place_at, is_busy, AreApart}
-use Rattle.core_worker.specs.Supplies.{room_for, IsSmall}
+use Rattle.core_worker.specs.declared.types.Cleaning.TheVariants.{Nothing}
+use Rattle.core_worker.specs.Supplies.{room_for}
 use Rattle.core_worker.specs.KeyTies.{KnowsKey, IsPlaced, AreBlocks}
 
 -- What the core leads. Only a collecting one has the lock; who leads nothing gave all back, and has nothing in flight but after a fault.
@@ -41,11 +42,11 @@ pub record Leads (p : Place) (m : ℕ) (v : View) (l : Leading) : Type 0 where
   pub number : seat.number ≡ m
   pub at : LeadsAt seat v l
 
--- a batch that is collected or held has a chunk with room for it
+-- a batch that is collected or held has a chunk with room for it, and leaves the room rule kept
 abbrev pub HasSpaceFor : Worker → Leading → Type 0
 HasSpaceFor w (leads.Nothing buffer) = Unit {0}
 HasSpaceFor w (leads.Collecting c) = Suits (room_for w) c
-HasSpaceFor w (leads.Batch b) = HasSpace (room_for w) b.fresh (words_in b.changes.taken.items)
+HasSpaceFor w (leads.Batch b) = HasSpace (room_for w) b.fresh b.own_lines (words_in b.changes.taken.items)
 HasSpaceFor w (leads.Persisted x) = Unit {0}
 HasSpaceFor w (leads.Failed x) = Unit {0}
 HasSpaceFor w leads.Between = Unit {0}
@@ -88,7 +89,8 @@ pub record Holds (p : Place) (m : ℕ) (v : View) (w : Worker) : Type 0 where
   -- a core that failed an entry, took one back as failed or could not write a batch has stopped
   pub broken : v.broken ≡ true → w.stopped ≡ true
   pub lost : is_lost w.leading ≡ true → w.stopped ≡ true
-  pub cleaning : IsSmall w.cleaning
+  -- no cleaning is under way
+  pub cleaning : w.cleaning ≡ Nothing
   -- until the core stops, no key has a record that is to be forgotten, but while a change of it is out
   pub remembers : w.stopped ≡ false → (k : ℕ) → owner p k ≡ m → v.pending k ≡ None → is_forgettable (known_at w.index k) ≡ false
 

@@ -6,13 +6,16 @@ use Rattle.log_entry.specs.declared.entry.Entry.{Entry}
 use Rattle.log_entry.specs.declared.entry.Body.{Body}
 use Rattle.log_entry.specs.declared.entry.Body.TheVariants as bodies
 use Rattle.store_image.specs.Facts.{In}
+use Rattle.group_laws.specs.declared.types.Seen.{Seen}
 use Rattle.group_laws.specs.declared.types.Seen.TheVariants.{Slot, Holder}
 use Rattle.group_laws.specs.declared.types.SlotWord.{SlotWord}
 use Rattle.group_laws.specs.declared.types.SlotWord.TheVariants as words
 use Rattle.group_laws.specs.Places.{Place, core_of}
 use Rattle.group_laws.specs.State.{Group}
 use Rattle.group_laws.specs.Runs.{Kind}
-use Rattle.core_log.specs.Chunk.{padded}
+use Rattle.group_laws.specs.Runs.Kind.{Look}
+use Rattle.log_entry.specs.Spelling.{words_of}
+use Rattle.core_log.specs.Chunk.{lines_for, padded}
 use Rattle.core_log.specs.Log.{LogState, with_tail, open_number, open_tail}
 use Rattle.core_index.specs.Index.{known_at}
 use Rattle.core_index.specs.Records.{settled, block_of, is_forgettable}
@@ -20,7 +23,7 @@ use Rattle.lazy_alloc.specs.Sets.{TakesChunkOrNone, PutsBack, Sets}
 use Rattle.group_laws.specs.MemberViews.{View}
 use Rattle.group_board.specs.Views.{after_post, after_lock, after_find, after_unlock, after_commit, after_mark, after_fail, after_finish, after_give_up, TidiedIn}
 use Rattle.group_board.specs.Seats.{SeatAt}
-use Rattle.batch_leader.specs.TakenChanges.{spelled}
+use Rattle.batch_leader.specs.TakenChanges.{spelled, taken_in}
 use Rattle.batch_leader.specs.Leading.{MakesAll, Went, HasLooked, IsReleased}
 use Rattle.batch_leader.specs.Persisting.{opened_for}
 use Rattle.batch_leader.specs.declared.states.Collecting.{Collecting}
@@ -33,12 +36,14 @@ use Rattle.batch_leader.specs.declared.buffer.BatchBuffer.{BatchBuffer}
 use Rattle.batch_leader.specs.declared.taken.Taken.{Taken}
 use Rattle.core_worker.specs.declared.types.Leading.{Leading}
 use Rattle.core_worker.specs.declared.types.Leading.TheVariants as leads
+use Rattle.core_worker.specs.declared.types.Place.{Place as WorkerPlace}
 use Rattle.core_worker.specs.declared.types.Place.TheVariants.{Free, Staged, Posted}
 use Rattle.core_worker.specs.declared.worker.Worker.{Worker}
 use Rattle.core_worker.specs.OwnPlaces.{place_at, is_staged, is_posted, IsLowest, HasNone, Replaces}
 use Rattle.core_worker.specs.Ties.{LeadsNothing}
+use Rattle.core_worker.specs.Order.{InOrder}
 use Rattle.core_worker.specs.Supplies.{room_for}
-use Rattle.core_worker.specs.Beginning.{answers_of, answer_with, BeginsWaiting}
+use Rattle.core_worker.specs.Finishing.{TakesBack, Serves}
 
 -- some steps of member m lead from the one told state to the other
 abbrev pub Steps : Option Group → Option Group → ℕ → View → Type 0
@@ -53,6 +58,10 @@ MadeOrStops false before after m v u = Steps before after m u
 pub record Moment : Type 0 where
   pub worker : Worker
   pub view : View
+
+-- the same at a seat
+abbrev pub InOrderAt : SeatAt → View → Worker → Type 0
+InOrderAt seat v w = InOrder seat.place seat.number v w
 
 -- nothing but what it leads differs
 abbrev pub SameButLeading : Worker → Worker → Type 0
@@ -98,10 +107,24 @@ pub record Releases (before : Option Group) (seat : SeatAt) (a b : Moment) : Typ
   pub view : b.view ≡ after_unlock mid
   pub same : SameButLeading a.worker b.worker
 
--- the own places of what was committed pledge nothing any more
+-- a place that pledges nothing any more, where it was posted
+abbrev pub unpledged : WorkerPlace → WorkerPlace
+unpledged Free = Free
+unpledged (Staged number entry value) = Staged number entry value
+unpledged (Posted number key lines) = Posted number key 0
+
+abbrev pub unpledged_if : Bool → WorkerPlace → WorkerPlace
+unpledged_if true x = unpledged x
+unpledged_if false x = x
+
+-- The place of an own entry that was committed pledges nothing any more; what was taken pledged its lines until then.
+abbrev pub UnpledgedAt : Option Entry → WorkerPlace → WorkerPlace → Type 0
+UnpledgedAt None old new = new ≡ old
+UnpledgedAt (Some e) old new = (number : ℕ) × (old ≡ Posted number e.key (lines_for (length (words_of e)))) × (new ≡ Posted number e.key 0)
+
+-- so it is with each place of m, of which these were committed
 abbrev pub Unpledges : ℕ → List Taken → Worker → Worker → Type 0
-Unpledges m ts old new = (s : ℕ) → ((t : Taken) × In t ts × (t.member ≡ m) × (t.slot ≡ s) × ((number key lines : ℕ) → place_at old.places.items s ≡ Posted number key lines → place_at new.places.items s ≡ Posted number key 0))
-    ⊎ (((t : Taken) → In t ts → t.member ≡ m → t.slot ≡ s → ⊥) × (place_at new.places.items s ≡ place_at old.places.items s))
+Unpledges m ts old new = (s : ℕ) → UnpledgedAt (taken_in ts m s) (place_at old.places.items s) (place_at new.places.items s)
 
 -- the log whose open chunk has the batch more
 abbrev pub appended_to : LogState → List ℕ → LogState
@@ -124,6 +147,7 @@ pub record Persists (m : ℕ) (a b : Moment) : Type 0 where
   pub log : b.worker.log ≡ appended_to (opened_for a.worker.log fresh) (padded (spelled batch.changes.taken.items))
   pub pledged : Unpledges m batch.changes.taken.items a.worker b.worker
   pub view : b.view ≡ after_commit a.view
+  pub same : b.worker ≡ record a.worker { log = b.worker.log; allocator = b.worker.allocator; places = b.worker.places; leading = b.worker.leading }
 
 -- Item 2 at a fault: no event is made, and the core stops.
 pub record LosesBatch (a b : Moment) : Type 0 where
@@ -134,6 +158,7 @@ pub record LosesBatch (a b : Moment) : Type 0 where
   pub gives : lost.left.taken.items ≡ batch.changes.taken.items
   pub stopped : b.worker.stopped ≡ true
   pub view : b.view ≡ a.view
+  pub same : b.worker ≡ record a.worker { log = b.worker.log; allocator = b.worker.allocator; leading = b.worker.leading; stopped = true }
 
 -- Item 3: the next change is given back. With the last one the core leads no more.
 pub record Marks (a b : Moment) : Type 0 where
@@ -156,11 +181,24 @@ pub record Fails (a b : Moment) : Type 0 where
   pub view : b.view ≡ after_fail first.member first.slot a.view
   pub same : SameButLeading a.worker b.worker
 
--- What the loads of a turn found: of its posted places, lowest first, each slot up to the first that is given back.
+-- What the loads of this turn found: of its posted places, lowest first, each slot up to a place. Loads of earlier turns don't count.
 pub record Looked (m : ℕ) (a : Moment) (upto : ℕ) (v : View) : Type 0 where
   pub found : ℕ → SlotWord
-  pub view : HasLooked a.view v
-  pub seen : (s : ℕ) → s < upto → is_posted (place_at a.worker.places.items s) ≡ true → In (Slot m s (found s)) v.looked
+  pub looks : List Seen
+  pub view : v ≡ record a.view { looked = a.view.looked ++ looks }
+  pub seen : (s : ℕ) → s < upto → is_posted (place_at a.worker.places.items s) ≡ true → In (Slot m s (found s)) looks
+
+-- below a place a posted one was found that nobody had taken
+abbrev pub FindsPosted : List WorkerPlace → (ℕ → SlotWord) → ℕ → Type 0
+FindsPosted ps found upto = (s n : ℕ) × (s < upto) × (is_posted (place_at ps s) ≡ true) × (found s ≡ words.Posted n)
+
+-- loads of own slots
+abbrev pub looks_at : ℕ → List ℕ → List (ℕ × Kind)
+looks_at m ss = map (λ s. (m, Look m s)) ss
+
+-- and no other step
+abbrev pub LooksMade : Option Group → Option Group → ℕ → View → Type 0
+LooksMade before after m v = (slots : List ℕ) × MakesAll before (looks_at m slots) after m v
 
 abbrev pub IsBack : SlotWord → Type 0
 IsBack words.Empty = ⊥
@@ -175,45 +213,15 @@ pub record PassesItems (m : ℕ) (a : Moment) (upto : ℕ) (v : View) : Type 0 w
   pub looked : Looked m a upto v
   pub none : (s : ℕ) → s < upto → is_posted (place_at a.worker.places.items s) ≡ true → IsBack (looked.found s) → ⊥
 
--- the reply of a change that is done, by what its entry leaves
-abbrev pub done_reply : Body → Reply
-done_reply (bodies.Pointer q) = Stored
-done_reply (bodies.Embedded u) = Stored
-done_reply bodies.Tombstone = Deleted
-
-abbrev pub PutsBackIf : Sets → Sets → Option ℕ → Type 0
-PutsBackIf old new None = new ≡ old
-PutsBackIf old new (Some q) = PutsBack old new q
-
-abbrev pub MatchReply : Option ℕ → Body → Reply
-MatchReply None body = Stopped
-MatchReply (Some h) body = done_reply body
-
 -- Item 4: the lowest posted place that is found given back is finished, and then the key's waiting requests are begun.
 pub record Finishes (p : Place) (m : ℕ) (a b : Moment) : Type 0 where
   pub slot : ℕ
-  pub number : ℕ
-  pub key : ℕ
-  pub lines : ℕ
   pub mid : View
   pub before : PassesItems m a slot mid
-  pub place : place_at a.worker.places.items slot ≡ Posted number key lines
-  pub entry : Entry
-  pub home : Option ℕ
-  pub seen : MatchOption home (In (Slot m slot words.Failed) mid.looked) (λ h. In (Slot m slot (words.Done h)) mid.looked)
-  pub view : MatchOption home (TidiedIn p m (after_give_up entry mid) b.view) (λ h. TidiedIn p m (after_finish entry h mid) b.view)
-  -- after the change is settled and its place is free, before the waiting ones are begun
-  pub settled_now : Worker
-  pub places : Replaces a.worker.places.items settled_now.places.items slot Free
-  pub answers : answers_of settled_now ≡ answers_of a.worker ++ answer_with number (MatchReply home entry.body) None ∷ []
-  pub record_now : MatchOption home (known_at settled_now.index key ≡ known_at a.worker.index key)
-      (λ h. (known_at settled_now.index key ≡ Some (settled (known_at a.worker.index key) entry.version entry.body (core_of p h)))
-      ⊎ ((is_forgettable (Some (settled (known_at a.worker.index key) entry.version entry.body (core_of p h))) ≡ true) × (known_at settled_now.index key ≡ None)))
-  pub other_records : (k : ℕ) → k ≢ key → known_at settled_now.index k ≡ known_at a.worker.index k
-  pub block : MatchOption home (settled_now.allocator ≡ a.worker.allocator) (λ h. PutsBackIf a.worker.allocator settled_now.allocator (block_of (known_at a.worker.index key)))
-  pub stops : MatchOption home (settled_now.stopped ≡ true) (λ h. settled_now.stopped ≡ a.worker.stopped)
-  pub same : settled_now ≡ record a.worker { places = settled_now.places; answers = settled_now.answers; index = settled_now.index; allocator = settled_now.allocator; stopped = settled_now.stopped }
-  pub begins : ((a.worker.winds_down ≡ true) × (b.worker ≡ settled_now)) ⊎ ((a.worker.winds_down ≡ false) × BeginsWaiting settled_now b.worker (b.view.cell key) key)
+  -- after its place is free, and before the waiting ones are begun
+  pub freed : Worker
+  pub takes : TakesBack p m slot mid b.view a.worker freed
+  pub begins : Serves freed b.worker (b.view.cell takes.entry.key) takes.entry.key
 
 -- Item 5: the lowest staged place writes its block, where it has one, and posts.
 pub record Posts (m : ℕ) (a b : Moment) : Type 0 where
@@ -227,31 +235,48 @@ pub record Posts (m : ℕ) (a b : Moment) : Type 0 where
   pub runs : (a.worker.stopped ≡ false) × (a.worker.winds_down ≡ false)
   pub lowest : IsLowest is_staged a.worker.places.items slot
   pub place : place_at a.worker.places.items slot ≡ Staged number entry value
+  pub pledges : lines ≡ lines_for (length (words_of entry))
   pub places : Replaces a.worker.places.items b.worker.places.items slot (Posted number entry.key lines)
   pub view : b.view ≡ after_post slot entry value mid
   pub same : b.worker ≡ record a.worker { places = b.worker.places; allocator = b.worker.allocator }
 
--- Item 7: an own slot was found Posted, and the lock is tried.
-pub record Locks (m : ℕ) (a b : Moment) : Type 0 where
+-- Item 5 at a fault: the block of the lowest staged change couldn't be written. The change stays staged, and the core stops.
+pub record LosesBlock (m : ℕ) (a b : Moment) : Type 0 where
+  pub slot : ℕ
   pub mid : View
   pub before : PassesItems m a 8 mid
-  pub posted : (s n : ℕ) × In (Slot m s (words.Posted n)) mid.looked
-  pub view : b.view ≡ after_lock mid
-  pub leads_now : (c : Collecting) × (b.worker.leading ≡ leads.Collecting c) × (c.at ≡ 0)
-  pub same : SameButLeading a.worker b.worker
+  pub runs : (a.worker.stopped ≡ false) × (a.worker.winds_down ≡ false)
+  pub lowest : IsLowest is_staged a.worker.places.items slot
+  pub view : b.view ≡ mid
+  pub same : b.worker ≡ record a.worker { allocator = b.worker.allocator; stopped = true }
 
 -- Why item 5 is passed: nothing is staged, the gate answered false, or the worker winds down.
 abbrev pub PassesPost : Bool → Worker → Type 0
 PassesPost refused w = HasNone is_staged w.places.items ⊎ ((refused ≡ true) ⊎ (w.winds_down ≡ true))
+
+-- Item 7: an own slot was found Posted, and the lock is tried and had.
+pub record Locks (refused : Bool) (m : ℕ) (a b : Moment) : Type 0 where
+  pub mid : View
+  pub before : PassesItems m a 8 mid
+  pub post : PassesPost refused a.worker
+  pub posted : FindsPosted a.worker.places.items before.looked.found 8
+  pub view : b.view ≡ after_lock mid
+  pub leads_now : (c : Collecting) × (b.worker.leading ≡ leads.Collecting c) × (c.at ≡ 0)
+  pub same : SameButLeading a.worker b.worker
 
 -- Item 8: nothing applied. No own slot was found Posted, or the try found a holder.
 pub record Idles (refused : Bool) (m : ℕ) (a b : Moment) : Type 0 where
   pub mid : View
   pub before : PassesItems m a 8 mid
   pub post : PassesPost refused a.worker
-  pub lock : (((s n : ℕ) → In (Slot m s (words.Posted n)) mid.looked → ⊥) × (b.view ≡ mid)) ⊎ ((h : ℕ) × (h ≢ m) × In (Holder h) b.view.looked × HasLooked a.view b.view)
+  pub lock : ((FindsPosted a.worker.places.items before.looked.found 8 → ⊥) × (b.view ≡ mid)) ⊎ (FindsPosted a.worker.places.items before.looked.found 8 × ((h : ℕ) × (h ≢ m) × (b.view ≡ after_find (Holder h) mid)))
   pub free : LeadsNothing b.worker
   pub same : SameButLeading a.worker b.worker
+
+-- item 2 was done, or failed and stopped the core
+abbrev pub PersistsOrLoses : Bool → ℕ → Moment → Moment → Type 0
+PersistsOrLoses false m a b = Persists m a b
+PersistsOrLoses true m a b = LosesBatch a b
 
 -- a try of the lock: it is had, or a holder was found
 abbrev pub TriesLock : Bool → ℕ → View → View → Worker → Worker → Type 0

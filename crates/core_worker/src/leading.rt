@@ -1,5 +1,5 @@
 // What a turn does for the group: trying the lock, collecting, writing the batch, and giving its changes back.
-ghost use Rattle.std.specs.Prelude.{◌≡◌, ◌≢◌, ◌⊎◌, ℕ, ◌+◌, ◌≤◌, ◌<◌, Bool, true, false, List, [], ◌∷◌, length, Option, OnOk, MatchOption};
+ghost use Rattle.std.specs.Prelude.{◌≡◌, ◌≢◌, ◌⊎◌, ℕ, ◌+◌, ◌≤◌, ◌<◌, Bool, true, false, List, [], ◌∷◌, length, is_some, Option, OnOk, MatchOption};
 ghost use Rattle.pm_region.specs.State.{State, During, IsTelling, cell_now, Rose};
 ghost use Rattle.pm_region.specs.Words.{KeepsOutside};
 ghost use Rattle.group_laws.specs.Runs as runs;
@@ -7,7 +7,8 @@ ghost use Rattle.group_laws.specs.declared.types.Seen.TheVariants as loads;
 ghost use Rattle.group_board.specs.Views.{after_lock, after_find};
 ghost use Rattle.group_board.specs.Told.{Makes};
 ghost use Rattle.batch_leader.specs.Leading.{MakesAll};
-ghost use Rattle.batch_leader.specs.TakenChanges.{MatchBool};
+ghost use Rattle.batch_leader.specs.TakenChanges.{MatchBool, taken_in};
+ghost use Rattle.core_worker.specs.OwnPlaces.{place_at, Replaces};
 ghost use Rattle.batch_leader.specs.declared.buffer.BatchBuffer.{BatchBuffer};
 ghost use Rattle.batch_leader.specs.declared.states.Collecting.{Collecting};
 ghost use Rattle.batch_leader.specs.declared.states.Persisted.{Persisted};
@@ -15,13 +16,14 @@ ghost use Rattle.batch_leader.specs.declared.states.FailedBatch.{FailedBatch};
 ghost use Rattle.core_worker.specs.declared.types.Leading.TheVariants as leads;
 ghost use Rattle.batch_leader.specs.Persisting.{StaysLicensed, WritesPart};
 ghost use Rattle.core_worker.specs.Ties.{HoldsAt, KeepsStanding, LeadsNothing, StandsAt};
-ghost use Rattle.core_worker.specs.Turns.{TriesLock, GoesRound, Marks, Fails, persisted_left, failed_left, led_by, TakesFor, Steps, MadeOrStops};
+ghost use Rattle.core_worker.specs.Turns.{TriesLock, GoesRound, Marks, Fails, persisted_left, failed_left, led_by, TakesFor, Steps, MadeOrStops, PersistsOrLoses, unpledged, unpledged_if};
 ghost use Rattle.lazy_alloc.specs.Sets.{AreSets};
 ghost use Rattle.licence.specs.Licence.{Licensed, part_at, part_end};
 ghost use Rattle.batch_leader.specs.declared.states.Batch.{Batch};
 ghost use Rattle.core_worker.specs.Supplies.{room_for, HasKeptRoom};
 
-use crate::types::Leading;
+use crate::posting::swap_place;
+use crate::types::{Leading, Place};
 use crate::worker::Worker;
 use batch_leader::{Collected, FailedBatch, Persisted, Released, lead};
 use core_log::Room;
@@ -68,6 +70,43 @@ fn led_by(released: Released) -> Leading
     match released {
         Released::Batch(batch) => Leading::Batch(batch),
         Released::Nothing(buffer) => Leading::Nothing(buffer),
+    }
+}
+
+// The same place, where it is posted with nothing pledged any more.
+fn unpledged(place: Place) -> Place
+    ensures { result ≡ unpledged place }
+{
+    match place {
+        Place::Posted { number, key, .. } => Place::Posted {
+            number,
+            key,
+            lines: 0,
+        },
+        other => other,
+    }
+}
+
+fn unpledge_at(places: &mut Vec<Place>, slot: u32)
+    requires { slot < length places.old.items }
+    ensures { Replaces places.old.items places.new.items slot
+        (unpledged (place_at places.old.items slot)) }
+{
+    let place = swap_place(places, slot, Place::Free);
+    let _ = swap_place(places, slot, unpledged(place));
+}
+
+// The places of the own changes that are certain pledge nothing any more.
+fn unpledge(places: &mut Vec<Place>, done: &Persisted, own: u32)
+    requires eight { length places.old.items ≡ 8 }
+    ensures count { length places.new.items ≡ 8 }
+    ensures each { (s : ℕ) → s < 8 → place_at places.new.items s
+        ≡ unpledged_if (is_some (taken_in done.now.left.taken.items own s)) (place_at places.old.items s) }
+{
+    for slot in 0..8 {
+        if done.has(own, slot) {
+            unpledge_at(places, slot);
+        }
     }
 }
 
@@ -195,12 +234,19 @@ impl Worker {
             (B.seat board.old).number (B.view board.old) (B.view board.new) }
         ensures cause { self.new.stopped ≡ true
             → Rose (R.state region.old).faults (R.state region.new).faults }
+        // The rule is one of a core that hasn't stopped.
+        ensures rule { self.new.stopped ≡ false → HasKeptRoom self.old → HasKeptRoom self.new }
+        ensures persists { PersistsOrLoses self.new.stopped (B.seat board.old).number
+            (record { worker = self.old; view = B.view board.old })
+            (record { worker = self.new; view = B.view board.new }) }
     {
         match mem::replace(&mut self.leading, Leading::Between) {
             Leading::Batch(batch) => {
                 let fresh = chunk_for(&mut self.allocator, batch.needs_chunk());
                 match batch.persist(region, &mut self.log, board, fresh) {
                     Ok(done) => {
+                        let own = board.member();
+                        unpledge(&mut self.places, &done, own);
                         self.leading = Leading::Persisted(done);
                     }
                     Err(lost) => {

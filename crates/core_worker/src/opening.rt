@@ -7,14 +7,14 @@ ghost use Rattle.core_worker.specs.OwnPlaces.{place_at};
 ghost use Rattle.core_worker.specs.Supplies.{HasKeptRoom};
 ghost use Rattle.core_worker.specs.Ties.{Holds, Stands};
 ghost use Rattle.core_worker.specs.Order.{InOrder};
-ghost use Rattle.core_worker.specs.Openings.{HearsAll, IsNew, IsStartAt, IsCertainAt, opened_view};
+ghost use Rattle.core_worker.specs.Openings.{IsNew, IsStartAt, IsCertainAt, opened_view};
 
+use crate::hearing::hear_own;
 use crate::types::{Cleaning, Leading, Place};
 use crate::worker::Worker;
 use batch_leader::BatchBuffer;
 use chunk_map::Layout;
 use conflict_queue::ConflictQueue;
-use core_index::CoreIndex;
 use fs_errors::Memory;
 use recover::CoreStart;
 use std::alloc::Global;
@@ -22,13 +22,6 @@ use std::collections::VecDeque;
 
 // How many places a worker has: one for each slot of its core.
 const PLACES: u32 = 8;
-
-// Tells the core of its own dead entries in its own log. No other core hears of them.
-fn hear_own(index: &mut CoreIndex, core: u32)
-    ensures { HearsAll core index.old index.new }
-{
-    while index.next_notice(core).is_some() {}
-}
 
 fn free_places(alloc: Global) -> Result<Vec<Place>, Memory>
     ensures eight { IfOk result (λ places. length places.items ≡ 8) }

@@ -29,6 +29,7 @@ use Rattle.group_board.specs.Kept.{IsKept}
 use Rattle.group_laws.specs.MemberViews.{view_of}
 use Rattle.group_board.specs.Conditions.{IsFree}
 use Rattle.group_board.specs.Slots.{IsOver}
+use Rattle.group_board.specs.Assurances.{IsUnlogged}
 use Rattle.group_board.specs.Told.{stood_as}
 use Rattle.std.proofs.lemmas.List.{get_or_read}
 use Rattle.group_board.proofs.Views.{own_is}
@@ -128,6 +129,13 @@ module _ (n : ℕ) (h : Option ℕ) (slots : List Slot) (mail : List (Option Not
 
   pub posted_pends : (m s : ℕ) (e : Entry) → (state j).slot m s ≡ Posted e → (view_of (state j) m).pending e.key ≡ Some (record { entry = e; slot = Some s })
   posted_pends m s e is = own_is (state j).place m e.key ((state j).pending e.key) None (posted_owner m s e is) ∙ ∥∥₁_elim k (Pending-set _ _) (λ o. (o.lawful.slots.posted_named m s e is).0)
+
+  -- what a leader takes is in no log
+  pub posted_unlogged : (m a s : ℕ) (e : Entry) → (state j).slot a s ≡ Posted e → IsUnlogged m a s (view_of (state j) m) e
+  posted_unlogged m a s e is = record {
+    new = λ i. ∥∥₁_elim k (λ x y. absurd x) (λ o. o.lawful.logs.not_posted m a s e is (inl i));
+    own = λ mine. posted_pends m s e (subst (λ (x : ℕ). (state j).slot x s ≡ Posted e) mine is);
+  }
 
   pub stood_owner : (m s : ℕ) (e : Entry) (home : Option ℕ) → (state j).slot m s ≡ stood_as e home → owner (state j).place e.key ≡ m
   stood_owner m s e home is = ∥∥₁_elim k (Coded-set coded_ℕ _ _) (λ o. (stood_named (state j) m s e home o.lawful is).1)

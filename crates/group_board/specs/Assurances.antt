@@ -7,6 +7,11 @@ use Rattle.group_laws.specs.Updates.{has}
 use Rattle.group_laws.specs.State.{Notices}
 use Rattle.group_laws.specs.MemberViews.{View}
 
+-- What m takes out of slot s of member a is in no log yet, so not in its own; an own change is the one pending in that slot.
+pub record IsUnlogged (m a s : ℕ) (v : View) (e : Entry) : Type 0 where
+  pub new : In e v.kept → ⊥
+  pub own : a ≡ m → v.pending e.key ≡ Some (record { entry = e; slot = Some s })
+
 -- The home of a change that came back is a member. Where it is m itself, the entry is certain in the own log, and may not vanish there.
 pub record IsHome (p : Place) (m : ℕ) (v : View) (e : Entry) (home : ℕ) : Type 0 where
   pub member : home < members p

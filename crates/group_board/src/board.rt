@@ -16,7 +16,7 @@ ghost use Rattle.crash_core.specs.Shows.{notices_of};
 ghost use Rattle.group_board.specs.Seats.{SeatAt};
 ghost use Rattle.group_board.specs.Views.{after_post, after_lock, after_find, after_take, after_unlock, after_commit, after_mark, after_fail, after_finish, after_give_up, after_withdraw, after_doom, after_retire, after_send, after_receive, TidiedIn};
 ghost use Rattle.group_board.specs.Conditions.{MayPost, MayLock, MayLook, MayTake, MayUnlock, MayCommit, MayMark, MayFail, MayFinish, MayWithdraw, MayDoom, MayRetire, MaySend, MayReceive};
-ghost use Rattle.group_board.specs.Assurances.{IsHome, IsHeard};
+ghost use Rattle.group_board.specs.Assurances.{IsHome, IsHeard, IsUnlogged};
 ghost use Rattle.group_board.specs.Told.{Makes, MakesBoth, Stood, Held, state_of, stood_as};
 
 use crash_core::{Change, Notices};
@@ -100,7 +100,7 @@ pub trait Board {
             (runs.Kind.Look member slot) (whole self.new) (view self.new) };
 
     /// As the leader, takes the change of a slot that a look found Posted. Its entry has a spelling, of as many
-    /// words as the look found.
+    /// words as the look found, and isn't in the own log yet; out of an own slot it is the change pending there.
     fn take(&mut self, member: u32, slot: u32) -> Change
         requires { MayTake (seat self.old).place (seat self.old).number (view self.old) member slot }
         ensures seat { seat self.new ≡ seat self.old }
@@ -108,6 +108,7 @@ pub trait Board {
         ensures spelled { HasSpelling result.entry }
         ensures words { (n : ℕ) → In (loads.Slot member slot (words.Posted n)) (view self.old).looked
             → length (words_of result.entry) ≡ n }
+        ensures unlogged { IsUnlogged (seat self.old).number member slot (view self.old) result.entry }
         ensures view { view self.new ≡ after_take member slot result.entry (view self.old) }
         ensures stood { Stood (whole self.old) member slot (slots.Posted result.entry) }
         ensures whole { Makes (whole self.old) (seat self.old).number

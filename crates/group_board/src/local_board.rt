@@ -22,7 +22,7 @@ ghost use Rattle.group_board.specs.Kept.{IsKept, TableId-set};
 ghost use Rattle.group_laws.specs.MemberViews.{view_of};
 ghost use Rattle.group_board.specs.Views.{after_post, after_lock, after_find, after_take, after_unlock, after_commit, after_mark, after_fail, after_finish, after_give_up, after_withdraw, after_doom, after_retire, after_send, after_receive, TidiedIn};
 ghost use Rattle.group_board.specs.Conditions.{MayPost, MayLock, MayLook, MayTake, MayUnlock, MayCommit, MayMark, MayFail, MayFinish, MayWithdraw, MayDoom, MayRetire, MaySend, MayReceive};
-ghost use Rattle.group_board.specs.Assurances.{IsHome, IsHeard};
+ghost use Rattle.group_board.specs.Assurances.{IsHome, IsHeard, IsUnlogged};
 ghost use Rattle.group_board.specs.Told.{AreSteps, Leads, state_of, stood_as};
 
 use crate::board::{Busy, MailFull, SlotState};
@@ -171,6 +171,7 @@ impl LocalBoard {
         ensures change { result.home ≡ None }
         ensures spelled { HasSpelling result.entry }
         ensures words { (n : ℕ) → In (loads.Slot owner slot (words.Posted n)) ((state self.old.keeper.me.0).looked member) → length (words_of result.entry) ≡ n }
+        ensures unlogged { IsUnlogged member owner slot (view_of (state self.old.keeper.me.0) member) result.entry }
         ensures stood { (state self.old.keeper.me.0).slot owner slot ≡ slot_states.Posted result.entry }
         ensures step { Leads self.old.keeper.me.0 member (runs.Kind.Take owner slot) self.new.keeper.me.0 }
         ensures view { view_of (state self.new.keeper.me.0) member ≡ after_take owner slot result.entry (view_of (state self.old.keeper.me.0) member) }

@@ -3,6 +3,7 @@ use Rattle.atomic_table.specs.Table.{rest}
 use Rattle.log_entry.specs.declared.entry.Entry.{Entry}
 use Rattle.log_entry.specs.Spelling.{words_of, HasSpelling}
 use Rattle.group_board.specs.Views.{after_take}
+use Rattle.group_board.specs.Assurances.{IsUnlogged}
 use Rattle.group_board.specs.Conditions.{MayTake}
 use Rattle.atomic_board.specs.TableWords.{pool_word, pool_place}
 use Rattle.atomic_board.specs.Deeds.{place_of}
@@ -100,3 +101,11 @@ returns-clause-spelled c = let me = c.args.self.now in let at = c.pool_word_of-p
     let exch = c.exchange-parcel.ensures in let same = ap (λ x. x.0) exch.3 in
     let got : c.exchange-parcel.result ≡ lies e None = sym (same_out c.store.new.seat.me.1 c.pool_place_of-place.result (lies e None) c.exchange-parcel.result (out ∙ ap₂ (λ k l. (k, lies e None) ∷ l) (sym place) (sym (ap (λ l. rest l) out))) exch.2) in
     let is = same_change (record { entry = e; home = None }) c.unpacked.result (sym got ∙ c.unpacked.ensures) in subst (λ (x : Change). HasSpelling x.entry) is told.4
+
+pub returns-clause-unlogged : goal.returns-clause-unlogged
+returns-clause-unlogged c = let me = c.args.self.now in let at = c.pool_word_of-pool_word.ensures in let may = c.requires.may in
+    let told = c.store.ensures.2 c.args.member c.args.slot may.slot (at ∙ ap (λ n. pool_word n c.args.member c.args.slot) (sym me.own.2)) in
+    let e : Entry = told.0 in let out = ap (λ x. x.1) told.1 in let place = c.pool_place_of-place.ensures in
+    let exch = c.exchange-parcel.ensures in let same = ap (λ x. x.0) exch.3 in
+    let got : c.exchange-parcel.result ≡ lies e None = sym (same_out c.store.new.seat.me.1 c.pool_place_of-place.result (lies e None) c.exchange-parcel.result (out ∙ ap₂ (λ k l. (k, lies e None) ∷ l) (sym place) (sym (ap (λ l. rest l) out))) exch.2) in
+    let is = same_change (record { entry = e; home = None }) c.unpacked.result (sym got ∙ c.unpacked.ensures) in subst (λ (x : Change). IsUnlogged me.member c.args.member c.args.slot (view_in me.seat.me.0) x.entry) is (subst (λ (j : ℕ). IsUnlogged j c.args.member c.args.slot (view_in me.seat.me.0) e) me.own.1 told.5)

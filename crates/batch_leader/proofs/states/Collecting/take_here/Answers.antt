@@ -1,4 +1,4 @@
-use Rattle.std.proofs.Common.{◌≡◌, ℕ, ◌+◌, ◌-◌, ◌<◌, ◌==◌, Bool, if◌then◌else◌, length, refl, sym, ◌∙◌, ap, subst, arith, length-append}
+use Rattle.std.proofs.Common.{◌≡◌, ℕ, ◌+◌, ◌-◌, ◌<◌, ◌==◌, Bool, if◌then◌else◌, [], length, refl, sym, ◌∙◌, ap, subst, arith, length-append}
 use Rattle.core_log.specs.Chunk.{lines_for}
 use Rattle.log_entry.specs.Spelling.{words_of}
 use Rattle.group_laws.specs.Places.{members}
@@ -6,7 +6,7 @@ use Rattle.batch_leader.specs.declared.taken.Taken.{Taken}
 use Rattle.batch_leader.specs.Rounds.{goes_fresh, words_in, member_at, slot_at, fits}
 use Rattle.batch_leader.specs.TakenChanges.{spelled}
 use Rattle.batch_leader.specs.Leading.{HasSpace}
-use Rattle.batch_leader.proofs.CollectLaws.{spelled_more, collects_more, fits_suits, member_low}
+use Rattle.batch_leader.proofs.CollectLaws.{spelled_more, collects_more, fits_suits, more_own, own_none, member_low}
 use Rattle.batch_leader.proofs.states.Collecting.take_here.Goals as goal
 
 pub returns-clause-collects : goal.returns-clause-collects
@@ -16,7 +16,7 @@ returns-clause-collects g c =
     collects_more (g.B.Board.seat c.args.board.now) (g.B.Board.view c.args.board.now) (g.B.Board.view c.take-change.new.self) c.args.self.now _ t
     c.requires.collects c.requires.whole c.requires.few c.requires.within c.add.ensures refl
     (ap (λ (n : ℕ). c.args.self.now.own_lines + n) (c.own_share-lines.ensures.share ∙ (λ i. if c.args.member == c.requires.own i then lines_for (sym long i) else 0)))
-    (omega (arith, long, c.requires.short)) c.requires.member c.requires.slot c.take-change.ensures.spelled c.take-change.ensures.view
+    (omega (arith, long, c.requires.short)) c.requires.member c.requires.slot c.take-change.ensures.spelled c.take-change.ensures.unlogged c.take-change.ensures.view
 
 pub returns-clause-suits : goal.returns-clause-suits
 returns-clause-suits g c some =
@@ -25,8 +25,12 @@ returns-clause-suits g c some =
     let total : words_in c.add.new.self.taken.items ≡ words_in ts + c.args.count =
     ap words_in c.add.ensures ∙ ap length (spelled_more ts (record { member = c.args.member; slot = c.args.slot; change = c.take-change.result })) ∙ length-append (spelled ts) (words_of c.take-change.result.entry) ∙ ap (λ (n : ℕ). words_in ts + n) long in
     let fresh = c.goes_fresh-fresh.ensures in
-    let fit = fits_suits c.args.room.now c.args.self.now.own_lines ts c.args.self.now.fresh (c.args.member == c.args.own) c.args.count c.requires.room c.requires.short c.requires.fits in
-    subst (HasSpace c.args.room.now c.goes_fresh-fresh.result) (sym total) (subst (λ (b : Bool). HasSpace c.args.room.now b (words_in ts + c.args.count)) (sym fresh) fit)
+    let none : ts ≡ [] → c.args.self.now.own_lines ≡ 0 = λ e. c.requires.collects.own ∙ own_none (g.B.Board.seat c.args.board.now).number ts e in
+    let fit = fits_suits c.args.room.now c.args.self.now.own_lines ts c.args.self.now.fresh (c.args.member == c.args.own) c.args.count c.requires.room c.requires.short none c.requires.suits c.requires.fits in
+    let lines : c.args.self.now.own_lines + c.own_share-lines.result ≡ c.args.self.now.own_lines + more_own (c.args.member == c.args.own) c.args.count = ap (λ (n : ℕ). c.args.self.now.own_lines + n) c.own_share-lines.ensures.share in
+    subst (λ (n : ℕ). HasSpace c.args.room.now c.goes_fresh-fresh.result n (words_in c.add.new.self.taken.items)) (sym lines)
+    (subst (HasSpace c.args.room.now c.goes_fresh-fresh.result (c.args.self.now.own_lines + more_own (c.args.member == c.args.own) c.args.count)) (sym total)
+    (subst (λ (b : Bool). HasSpace c.args.room.now b (c.args.self.now.own_lines + more_own (c.args.member == c.args.own) c.args.count) (words_in ts + c.args.count)) (sym fresh) fit))
 
 pub returns-clause-takes : goal.returns-clause-takes
 returns-clause-takes g c =

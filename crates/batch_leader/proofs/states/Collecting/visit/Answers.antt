@@ -34,7 +34,7 @@ pub returns-in-None-clause-collects : goal.returns-in-None-clause-collects
 returns-in-None-clause-collects g c =
     let seen = c.look-found.ensures.view in
     collects_past (g.B.Board.seat c.args.board.now) (g.B.Board.view c.args.board.now) (g.B.Board.view c.look-found.new.self) c.args.self.now _ c.requires.collects c.requires.within refl refl refl
-    (ap (λ (u : View). u.taken) seen.2) (ap (λ (u : View). u.holds) seen.2) (ap (λ (u : View). u.flying) seen.2) (ap (λ (u : View). u.broken) seen.2)
+    (ap (λ (u : View). u.taken) seen.2) (ap (λ (u : View). u.holds) seen.2) (ap (λ (u : View). u.flying) seen.2) (ap (λ (u : View). u.broken) seen.2) (ap (λ (u : View). u.pending) seen.2) (ap (λ (u : View). u.kept) seen.2)
 
 pub returns-in-None-clause-went : goal.returns-in-None-clause-went
 returns-in-None-clause-went g c =

@@ -107,7 +107,7 @@ slots-preserved g c =
       sits = c.look-found.ensures.seat ∙ i.sits;
       same = refl;
       collects = collects_still (g.B.Board.seat c.args.board.now) (v c.slots.board) (v c.look-found.new.self) c.args.self.now c.args.self.now i.collects refl refl refl
-          (ap (λ (u : View). u.taken) seen.2) (ap (λ (u : View). u.holds) seen.2) (ap (λ (u : View). u.flying) seen.2) (ap (λ (u : View). u.broken) seen.2);
+          (ap (λ (u : View). u.taken) seen.2) (ap (λ (u : View). u.holds) seen.2) (ap (λ (u : View). u.flying) seen.2) (ap (λ (u : View). u.broken) seen.2) (ap (λ (u : View). u.pending) seen.2) (ap (λ (u : View). u.kept) seen.2);
       looked = looked_more (v c.args.board.now) (v c.slots.board) (v c.look-found.new.self) (loads.Slot c.member-own.result c.slots.slot seen.0) i.looked seen.2;
       lower = lower_more (w c.args.board.now) (w c.slots.board) (w c.look-found.new.self) m c.slots.slot (v c.slots.board) (v c.look-found.new.self) c.look-found.result c.slots-test.true i.made i.lower c.if-is_posted.ensures
           (subst (λ (n : ℕ). IfSome (w c.slots.board) (λ x. state_of (shown (x.slot n c.slots.slot)) ≡ c.look-found.result)) own c.look-found.ensures.stood);

@@ -24,7 +24,7 @@ returns-in-Took-clause-holds g c =
     let v = g.B.Board.view c.args.board.now in
     let u = g.B.Board.view c.collect.new.board in
     let t = c.in-Took.ensures.went.0 in
-    holds_by p m v u c.args.self.now v.kept (v.flying ++ t.change.change.entry ∷ []) (put2 v.taken t.change.member t.change.slot (Some t.change.change.entry)) v.holds [] (v.took ++ t.change.change.entry ∷ []) (leads.Collecting c.collect.new.self) t.view c.requires.holds
+    holds_by p m v u c.args.self.now (v.flying ++ t.change.change.entry ∷ []) (put2 v.taken t.change.member t.change.slot (Some t.change.change.entry)) v.holds [] (v.took ++ t.change.change.entry ∷ []) (leads.Collecting c.collect.new.self) t.view c.requires.holds
     (leads_of (g.B.Board.seat c.args.board.now) u (leads.Collecting c.collect.new.self) c.in-Took.ensures.collects) (λ runs. subst (λ (r : Room). Suits r c.collect.new.self) c.requires.room c.in-Took.ensures.suits) (λ e. absurd (cc e))
 
 pub returns-in-Took-clause-stands : goal.returns-in-Took-clause-stands
@@ -63,7 +63,7 @@ returns-in-RoundOver-clause-holds g c =
     let led = c.led_by.ensures in
     let released = subst (λ (q : SeatAt). IsReleased q u c.collect.new.self c.release.result) seat c.release.ensures.released in
     let suits = subst (λ (r : Room). Suits r c.collect.new.self) c.requires.room c.collect.ensures.suits in
-    holds_by p m v u c.args.self.now v.kept v.flying v.taken false [] v.took c.led_by.result view c.requires.holds
+    holds_by p m v u c.args.self.now v.flying v.taken false [] v.took c.led_by.result view c.requires.holds
     (leads_of here u c.led_by.result (subst (LeadsAt here u) (sym led) (released_leads here u c.collect.new.self c.release.result released (ap (λ (x : View). x.holds) view))))
     (λ runs. subst (HasSpaceFor c.args.self.now) (sym led) (released_space c.args.self.now here u c.collect.new.self c.release.result released suits))
     (λ e. absurd (let both : true ≡ false = sym e ∙ ap is_lost led ∙ released_not_lost c.release.result in cc both))

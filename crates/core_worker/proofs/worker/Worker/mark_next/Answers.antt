@@ -21,7 +21,7 @@ returns-clause-holds g c =
     let had = led_here seat v c.args.self.now.leading (leads.Persisted c.in-Persisted.done) c.requires.holds.leads (sym c.in-Persisted.ensures.value) in
     let gave = gives_some c.mark_one-marked.result marked (λ a s. runs.Kind.Mark a s) m (g.B.Board.whole c.args.board.now) (g.B.Board.whole c.mark_one-marked.new.board) v u c.in-Persisted.done.left.taken.items c.mark_one-marked.new.self.left.taken.items c.mark_one-marked.ensures.gave had.3 in
     let left = c.still_certain.ensures in
-    holds_by p m v u c.args.self.now v.kept v.flying (put2 v.taken gave.first.member gave.first.slot None) v.holds [] v.took c.still_certain.result gave.view c.requires.holds
+    holds_by p m v u c.args.self.now v.flying (put2 v.taken gave.first.member gave.first.slot None) v.holds [] v.took c.still_certain.result gave.view c.requires.holds
     (leads_of seat u c.still_certain.result (leads_certain seat u c.mark_one-marked.new.self.left.taken.items c.still_certain.result left c.mark_one-marked.ensures.certain (ap (λ (x : View). x.holds) gave.view ∙ had.1) (λ b. ap (λ (x : View). x.flying) gave.view ∙ had.2 (sym (ap (λ (x : View). x.broken) gave.view) ∙ b))))
     (λ runs. certain_space c.args.self.now c.mark_one-marked.new.self.left.taken.items c.still_certain.result left)
     (λ e. absurd (let both : true ≡ false = sym e ∙ certain_not_lost c.mark_one-marked.new.self.left.taken.items c.still_certain.result left in cc both))

@@ -1,5 +1,10 @@
 use Rattle.std.proofs.Common.{◌≡◌, ℕ, Bool, true, false, [], ◌∷◌, ◌++◌, Option, refl, sym, ◌∙◌, ap, subst}
-use Rattle.std.specs.Prelude.{◌+◌}
+use Rattle.std.specs.Prelude.{◌+◌, ◌<◌, List, is_some}
+use Rattle.std.specs.List.{AllByRecursion}
+use Rattle.store_image.specs.Facts.{In}
+use Rattle.group_laws.proofs.Puts.{In-append_left}
+use Rattle.group_board.specs.Seats.{SeatAt}
+use Rattle.batch_leader.specs.declared.taken.Taken.{Taken}
 use Rattle.pm_region.specs.State.{During, cell_now}
 use Rattle.pm_region.specs.Words.{KeepsOutside}
 use Rattle.chunk_map.specs.declared.layouts.Geometry.{Geometry}
@@ -9,17 +14,20 @@ use Rattle.batch_leader.specs.Persisting.{opened_for}
 use Rattle.core_log.specs.Log.{HoldsEntries}
 use Rattle.core_log.proofs.BatchLaws.{room_opens}
 use Rattle.group_laws.specs.MemberViews.{View}
-use Rattle.batch_leader.specs.TakenChanges.{entries_in, spelled}
+use Rattle.batch_leader.specs.TakenChanges.{entries_in, spelled, taken_in}
 use Rattle.batch_leader.specs.Rounds.{words_in}
 use Rattle.batch_leader.specs.Persisting.{HasRoom}
 use Rattle.batch_leader.proofs.TakenLaws.{batch_of}
 use Rattle.core_worker.specs.declared.types.Leading.TheVariants as leads
 use Rattle.core_worker.specs.Ties.{HasSpaceFor}
-use Rattle.core_worker.specs.Turns.{TakesFor, MadeOrStops}
+use Rattle.core_worker.specs.Turns.{TakesFor, MadeOrStops, PersistsOrLoses, unpledged_if}
+use Rattle.core_worker.specs.OwnPlaces.{place_at, own as own_lines_of}
 use Rattle.group_laws.specs.Runs as runs
 use Rattle.core_worker.proofs.LeadTies.{led_here, leads_of}
 use Rattle.core_worker.proofs.Made.{one_step}
 use Rattle.core_worker.proofs.Writing.{opened_layout, room_ready, takes_same, holds_wrote, stands_wrote}
+use Rattle.core_worker.proofs.Unpledging.{pledged_by, less_own, each_place, certain_own, unpledged_at, holds_lowered, stands_lowered}
+use Rattle.core_worker.proofs.BatchRoom.{room_wrote}
 use Rattle.core_worker.proofs.worker.Worker.write_batch.Goals as goal
 
 pub persist-requires-clause-room : goal.persist-requires-clause-room
@@ -30,7 +38,7 @@ persist-requires-clause-room g c =
     let w = c.args.self.now in
     let H = c.requires.holds in
     let b = c.in-Batch.batch in
-    room_ready (g.R.Region.state c.args.region.now) p m v w c.requires.stands H.sets (H.allocator_layout ∙ sym H.log_layout) c.requires.runs b.fresh (words_in b.changes.taken.items) c.chunk_for-fresh.new.allocator c.chunk_for-fresh.result
+    room_ready (g.R.Region.state c.args.region.now) p m v w c.requires.stands H.sets (H.allocator_layout ∙ sym H.log_layout) c.requires.runs b.fresh b.own_lines (words_in b.changes.taken.items) c.chunk_for-fresh.new.allocator c.chunk_for-fresh.result
     (subst (HasSpaceFor w) (sym c.in-Batch.ensures.value) (H.space c.requires.runs)) (subst (λ (f : Bool). TakesFor f w.allocator c.chunk_for-fresh.new.allocator c.chunk_for-fresh.result) c.needs_chunk.ensures c.chunk_for-fresh.ensures.takes)
 
 pub returns-in-Ok-clause-holds : goal.returns-in-Ok-clause-holds
@@ -42,15 +50,20 @@ returns-in-Ok-clause-holds g c =
     let w = c.args.self.now in
     let H = c.requires.holds in
     let b = c.in-Batch.batch in
+    let ts = b.changes.taken.items in
     let seat = g.B.Board.seat c.args.board.now in
     let had = led_here seat v c.args.self.now.leading (leads.Batch b) c.requires.holds.leads (sym c.in-Batch.ensures.value) in
     let view = c.in-Ok.ensures.view in
     let gives = c.in-Ok.ensures.gives in
     let takes = subst (λ (f : Bool). TakesFor f w.allocator c.chunk_for-fresh.new.allocator c.chunk_for-fresh.result) c.needs_chunk.ensures c.chunk_for-fresh.ensures.takes in
-    holds_wrote p m v u w c.chunk_for-fresh.new.allocator c.persist.new.log (leads.Persisted c.in-Ok.done) w.stopped (v.kept ++ v.flying) [] v.taken v.holds [] v.took view H
-    (takes_same b.fresh w.allocator c.chunk_for-fresh.new.allocator c.chunk_for-fresh.result takes) c.chunk_for-fresh.ensures.sets c.in-Ok.ensures.log.layout c.in-Ok.ensures.log.part
-    (leads_of seat u (leads.Persisted c.in-Ok.done) (gives.1, ap (λ (x : View). x.holds) view ∙ had.1, (λ whole. ap (λ (x : View). x.flying) view), (λ none. b.some (sym gives.0 ∙ none))))
-    tt (λ broken. absurd (let both : true ≡ false = sym broken ∙ ap (λ (x : View). x.broken) view ∙ had.0.whole in cc both)) (λ lost. absurd (cc lost)) (λ runs. runs) (λ stopped. stopped)
+    let own : c.member-own.result ≡ m = c.member-own.ensures ∙ ap (λ (x : SeatAt). x.number) c.persist.ensures.seat in
+    let wrote = holds_wrote p m v u w c.chunk_for-fresh.new.allocator c.persist.new.log (leads.Persisted c.in-Ok.done) w.stopped (v.kept ++ v.flying) [] v.taken v.holds [] v.took view (λ x i. In-append_left x v.kept v.flying i) H
+        (takes_same b.fresh w.allocator c.chunk_for-fresh.new.allocator c.chunk_for-fresh.result takes) c.chunk_for-fresh.ensures.sets c.in-Ok.ensures.log.layout c.in-Ok.ensures.log.part
+        (leads_of seat u (leads.Persisted c.in-Ok.done) (gives.1, ap (λ (x : View). x.holds) view ∙ had.1, (λ whole. ap (λ (x : View). x.flying) view), (λ none. b.some (sym gives.0 ∙ none))))
+        tt (λ broken. absurd (let both : true ≡ false = sym broken ∙ ap (λ (x : View). x.broken) view ∙ had.0.whole in cc both)) (λ lost. absurd (cc lost)) (λ runs. runs) (λ stopped. stopped) in
+    holds_lowered p m u (record w { log = c.persist.new.log; allocator = c.chunk_for-fresh.new.allocator; leading = leads.Persisted c.in-Ok.done; stopped = w.stopped }) wrote c.unpledge.new.places c.unpledge.ensures.count (λ s. is_some (taken_in ts m s))
+    (λ s lt. c.unpledge.ensures.each s lt ∙ (λ i. unpledged_if (is_some (taken_in (gives.0 i) (own i) s)) (place_at w.places.items s)))
+    (certain_own p m v u w H ts had.0.unlogged (subst (λ (rs : List Taken). AllByRecursion (λ t. In t.change.entry u.kept) rs) gives.0 gives.1.kept) (ap (λ (x : View). x.pending) view)) (λ runs. tt)
 
 pub returns-in-Ok-clause-stands : goal.returns-in-Ok-clause-stands
 returns-in-Ok-clause-stands g c =
@@ -67,11 +80,12 @@ returns-in-Ok-clause-stands g c =
     let seat = g.B.Board.seat c.args.board.now in
     let had = led_here seat v c.args.self.now.leading (leads.Batch b) c.requires.holds.leads (sym c.in-Batch.ensures.value) in
     let takes = subst (λ (f : Bool). TakesFor f w.allocator a o) c.needs_chunk.ensures c.chunk_for-fresh.ensures.takes in
-    let room = room_ready s p m v w c.requires.stands H.sets (H.allocator_layout ∙ sym H.log_layout) c.requires.runs b.fresh (words_in b.changes.taken.items) a o (subst (HasSpaceFor w) (sym c.in-Batch.ensures.value) (H.space c.requires.runs)) takes in
+    let room = room_ready s p m v w c.requires.stands H.sets (H.allocator_layout ∙ sym H.log_layout) c.requires.runs b.fresh b.own_lines (words_in b.changes.taken.items) a o (subst (HasSpaceFor w) (sym c.in-Batch.ensures.value) (H.space c.requires.runs)) takes in
     let entries : HoldsEntries (spelled b.changes.taken.items) = record { entries = entries_in b.changes.taken.items; words = refl; batch = batch_of p b.changes.taken.items had.0.out.each b.some } in
-    stands_wrote s (g.R.Region.state c.persist.new.region) p m v w a c.persist.new.log b.fresh o (spelled b.changes.taken.items) H c.requires.stands c.requires.runs takes (subst (λ (l : Geometry). During s (g.R.Region.state c.persist.new.region) (KeepsOutside (cell_now s) (open_first (opened_for w.log o)) (open_first (opened_for w.log o) + chunk_words l))) (opened_layout w.log o) c.persist.ensures.chunk) c.in-Ok.ensures.wrote
+    stands_lowered (g.R.Region.state c.persist.new.region) p m u (record w { log = c.persist.new.log; allocator = a; leading = leads.Persisted c.in-Ok.done }) c.unpledge.new.places
+    (stands_wrote s (g.R.Region.state c.persist.new.region) p m v w a c.persist.new.log b.fresh o (spelled b.changes.taken.items) H c.requires.stands c.requires.runs takes (subst (λ (l : Geometry). During s (g.R.Region.state c.persist.new.region) (KeepsOutside (cell_now s) (open_first (opened_for w.log o)) (open_first (opened_for w.log o) + chunk_words l))) (opened_layout w.log o) c.persist.ensures.chunk) c.in-Ok.ensures.wrote
     (λ none. room_opens w.log (spelled b.changes.taken.items) entries (subst (λ (x : Option ℕ). HasRoom s w.log (words_in b.changes.taken.items) x) none room))
-    u c.in-Ok.done c.in-Ok.ensures.view c.persist.ensures.exit
+    u c.in-Ok.done c.in-Ok.ensures.view c.persist.ensures.exit)
 
 pub returns-in-Err-clause-holds : goal.returns-in-Err-clause-holds
 returns-in-Err-clause-holds g c =
@@ -87,7 +101,7 @@ returns-in-Err-clause-holds g c =
     let view = c.in-Err.ensures.view in
     let gives = c.in-Err.ensures.gives in
     let takes = subst (λ (f : Bool). TakesFor f w.allocator c.chunk_for-fresh.new.allocator c.chunk_for-fresh.result) c.needs_chunk.ensures c.chunk_for-fresh.ensures.takes in
-    holds_wrote p m v u w c.chunk_for-fresh.new.allocator c.persist.new.log (leads.Failed c.in-Err.lost) true v.kept v.flying v.taken v.holds v.looked v.took view H
+    holds_wrote p m v u w c.chunk_for-fresh.new.allocator c.persist.new.log (leads.Failed c.in-Err.lost) true v.kept v.flying v.taken v.holds v.looked v.took view (λ x i. i) H
     (takes_same b.fresh w.allocator c.chunk_for-fresh.new.allocator c.chunk_for-fresh.result takes) c.chunk_for-fresh.ensures.sets c.in-Err.ensures.log.layout c.in-Err.ensures.log.part
     (leads_of seat u (leads.Failed c.in-Err.lost) (gives.1, ap (λ (x : View). x.holds) view ∙ had.1, (λ none. b.some (sym gives.0 ∙ none))))
     tt (λ broken. refl) (λ lost. refl) (λ runs. absurd (cc runs)) (λ stopped. refl)
@@ -99,3 +113,76 @@ returns-in-Ok-clause-made g c =
     let u = g.B.Board.view c.persist.new.board in
     subst (λ (b : Bool). MadeOrStops b (g.B.Board.whole c.args.board.now) (g.B.Board.whole c.persist.new.board) m v u) (sym c.requires.runs)
     (runs.Kind.Commit ∷ [], one_step (g.B.Board.whole c.args.board.now) (g.B.Board.whole c.persist.new.board) m runs.Kind.Commit u c.in-Ok.ensures.made)
+
+pub returns-in-Ok-clause-rule : goal.returns-in-Ok-clause-rule
+returns-in-Ok-clause-rule g c runs rule =
+    let s = g.R.Region.state c.args.region.now in
+    let p = (g.B.Board.seat c.args.board.now).place in
+    let m = (g.B.Board.seat c.args.board.now).number in
+    let v = g.B.Board.view c.args.board.now in
+    let w = c.args.self.now in
+    let H = c.requires.holds in
+    let b = c.in-Batch.batch in
+    let ts = b.changes.taken.items in
+    let a = c.chunk_for-fresh.new.allocator in
+    let o = c.chunk_for-fresh.result in
+    let seat = g.B.Board.seat c.args.board.now in
+    let had = led_here seat v c.args.self.now.leading (leads.Batch b) c.requires.holds.leads (sym c.in-Batch.ensures.value) in
+    let gives = c.in-Ok.ensures.gives in
+    let takes = subst (λ (f : Bool). TakesFor f w.allocator a o) c.needs_chunk.ensures c.chunk_for-fresh.ensures.takes in
+    let space = subst (HasSpaceFor w) (sym c.in-Batch.ensures.value) (H.space c.requires.runs) in
+    let room = room_ready s p m v w c.requires.stands H.sets (H.allocator_layout ∙ sym H.log_layout) c.requires.runs b.fresh b.own_lines (words_in ts) a o space takes in
+    let entries : HoldsEntries (spelled ts) = record { entries = entries_in ts; words = refl; batch = batch_of p ts had.0.out.each b.some } in
+    let own : c.member-own.result ≡ m = c.member-own.ensures ∙ ap (λ (x : SeatAt). x.number) c.persist.ensures.seat in
+    let each : (s : ℕ) → s < 8 → place_at c.unpledge.new.places.items s ≡ unpledged_if (is_some (taken_in ts m s)) (place_at w.places.items s) = λ s lt. c.unpledge.ensures.each s lt ∙ (λ i. unpledged_if (is_some (taken_in (gives.0 i) (own i) s)) (place_at w.places.items s)) in
+    let less = less_own m ts c.unpledge.new.places.items w.places.items (c.unpledge.ensures.count ∙ sym H.eight) had.0.out.apart (pledged_by p m v w H ts had.0.unlogged) (each_place ts m w.places.items c.unpledge.new.places.items H.eight c.unpledge.ensures.count each) in
+    room_wrote p m v w (record w { log = c.persist.new.log; allocator = a; places = c.unpledge.new.places; leading = leads.Persisted c.in-Ok.done }) H b.fresh o b.own_lines (spelled ts) space takes
+    (λ none. room_opens w.log (spelled ts) entries (subst (λ (x : Option ℕ). HasRoom s w.log (words_in ts) x) none room))
+    c.in-Ok.ensures.wrote.log_is (ap (λ (n : ℕ). own_lines_of c.unpledge.new.places.items + n) had.0.own ∙ less) refl rule
+
+pub returns-in-Ok-clause-persists : goal.returns-in-Ok-clause-persists
+returns-in-Ok-clause-persists g c =
+    let p = (g.B.Board.seat c.args.board.now).place in
+    let m = (g.B.Board.seat c.args.board.now).number in
+    let v = g.B.Board.view c.args.board.now in
+    let u = g.B.Board.view c.persist.new.board in
+    let w = c.args.self.now in
+    let H = c.requires.holds in
+    let b = c.in-Batch.batch in
+    let ts = b.changes.taken.items in
+    let a = c.chunk_for-fresh.new.allocator in
+    let o = c.chunk_for-fresh.result in
+    let seat = g.B.Board.seat c.args.board.now in
+    let had = led_here seat v c.args.self.now.leading (leads.Batch b) c.requires.holds.leads (sym c.in-Batch.ensures.value) in
+    let gives = c.in-Ok.ensures.gives in
+    let takes = subst (λ (f : Bool). TakesFor f w.allocator a o) c.needs_chunk.ensures c.chunk_for-fresh.ensures.takes in
+    let own : c.member-own.result ≡ m = c.member-own.ensures ∙ ap (λ (x : SeatAt). x.number) c.persist.ensures.seat in
+    let each : (s : ℕ) → s < 8 → place_at c.unpledge.new.places.items s ≡ unpledged_if (is_some (taken_in ts m s)) (place_at w.places.items s) = λ s lt. c.unpledge.ensures.each s lt ∙ (λ i. unpledged_if (is_some (taken_in (gives.0 i) (own i) s)) (place_at w.places.items s)) in
+    let all = each_place ts m w.places.items c.unpledge.new.places.items H.eight c.unpledge.ensures.count each in
+    let new = record w { log = c.persist.new.log; allocator = a; places = c.unpledge.new.places; leading = leads.Persisted c.in-Ok.done } in
+    subst (λ (x : Bool). PersistsOrLoses x m (record { worker = w; view = v }) (record { worker = new; view = u })) (sym c.requires.runs)
+    (record {
+      batch = b;
+      done = c.in-Ok.done;
+      led = sym c.in-Batch.ensures.value;
+      leads_now = refl;
+      gives = gives.0;
+      fresh = o;
+      chunk = takes;
+      log = c.in-Ok.ensures.wrote.log_is;
+      pledged = λ s. unpledged_at ts m w.places.items (place_at c.unpledge.new.places.items s) s (pledged_by p m v w H ts had.0.unlogged s) (all s);
+      view = c.in-Ok.ensures.view;
+      same = refl;
+    })
+
+pub returns-in-Err-clause-persists : goal.returns-in-Err-clause-persists
+returns-in-Err-clause-persists g c = record {
+  batch = c.in-Batch.batch;
+  lost = c.in-Err.lost;
+  led = sym c.in-Batch.ensures.value;
+  leads_now = refl;
+  gives = c.in-Err.ensures.gives.0;
+  stopped = refl;
+  view = c.in-Err.ensures.view;
+  same = refl;
+}

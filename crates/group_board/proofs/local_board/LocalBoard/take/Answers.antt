@@ -6,7 +6,7 @@ use Rattle.group_laws.specs.declared.types.Seen.TheVariants as loads
 use Rattle.group_laws.specs.declared.types.SlotWord.TheVariants as words
 use Rattle.group_board.specs.Journals.{state}
 use Rattle.group_board.specs.Slots.{IsPosted}
-use Rattle.group_board.proofs.Facts.{posted_by, read_slot, posted_still, words_are}
+use Rattle.group_board.proofs.Facts.{posted_by, read_slot, posted_still, words_are, posted_unlogged}
 use Rattle.group_board.proofs.Keeping.{slots_at}
 use Rattle.group_board.proofs.Calls.{take_step, take_view, take_kept}
 use Rattle.group_board.proofs.Assured.{posted_spelled}
@@ -68,3 +68,9 @@ returns-clause-spelled c =
     let me = c.args.self.now in
     let found = read_slot me.member_count me.holder me.slots.items me.mail.items me.keeper.me.0 me.kept c.args.owner c.args.slot c.place_of-place.result c.index_mut.result.now me.sized.2 (subst (λ (k : ℕ). c.args.owner < k) me.sized.4 c.requires.target) c.requires.slot c.place_of-place.ensures c.index_mut.ensures.value in
     posted_spelled me.member_count me.holder me.slots.items me.mail.items me.keeper.me.0 me.kept c.args.owner c.args.slot c.offered-change.result.entry (found ∙ (sym c.replace-stood.ensures.value ∙ c.offered-change.ensures.stood))
+
+pub returns-clause-unlogged : goal.returns-clause-unlogged
+returns-clause-unlogged c =
+    let me = c.args.self.now in
+    let found = read_slot me.member_count me.holder me.slots.items me.mail.items me.keeper.me.0 me.kept c.args.owner c.args.slot c.place_of-place.result c.index_mut.result.now me.sized.2 (subst (λ (k : ℕ). c.args.owner < k) me.sized.4 c.requires.target) c.requires.slot c.place_of-place.ensures c.index_mut.ensures.value in
+    posted_unlogged me.member_count me.holder me.slots.items me.mail.items me.keeper.me.0 me.kept c.args.member c.args.owner c.args.slot c.offered-change.result.entry (found ∙ (sym c.replace-stood.ensures.value ∙ c.offered-change.ensures.stood))

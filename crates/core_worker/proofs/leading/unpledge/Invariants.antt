@@ -1,0 +1,14 @@
+use Rattle.std.proofs.Common.{◌≡◌, ℕ, ◌<◌, ◌≤◌, length}
+use Rattle.std.specs.Prelude.{is_some}
+use Rattle.batch_leader.specs.TakenChanges.{taken_in}
+use Rattle.core_worker.specs.OwnPlaces.{place_at}
+use Rattle.core_worker.specs.Turns.{unpledged_if}
+use Rattle.core_worker.proofs.leading.unpledge.Given as goal
+
+-- so it is with the places before this one, and the others are as they were
+abbrev pub invariant-loop-slot : goal.invariant-loop-slot
+invariant-loop-slot l = record {
+  count : length l.places.items ≡ 8;
+  before : (s : ℕ) → s < l.slot → place_at l.places.items s ≡ unpledged_if (is_some (taken_in l.done.left.taken.items l.own s)) (place_at l.fn.places.items s);
+  after : (s : ℕ) → l.slot ≤ s → place_at l.places.items s ≡ place_at l.fn.places.items s;
+}
