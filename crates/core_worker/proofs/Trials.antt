@@ -18,7 +18,7 @@ use Rattle.group_laws.proofs.GroupEntries as entries
 use Rattle.core_worker.specs.declared.worker.Worker.{Worker}
 use Rattle.core_worker.specs.Accepting.{HasTie}
 use Rattle.core_worker.specs.Ties.{Holds, Stands}
-use Rattle.core_worker.specs.Openings.{IsNew, IsStartAt, IsCertainAt, opened_view}
+use Rattle.core_worker.specs.Openings.{IsNew, IsStartAt, IsCertainAt, ByEachImage, opened_view}
 use Rattle.core_worker.specs.Trials.{MayAccept}
 use Rattle.core_worker.proofs.Clients.{start_at, certain_at, new_room, new_idle, core_is}
 use Rattle.core_worker.proofs.StartBlocks.{own_of}
@@ -61,11 +61,11 @@ module _ (s : State) (r : Recovered) (core : ℕ) (d start : CoreStart) (w : Wor
     },
   )
 
-  pub may_accept : ((p : Place) (m : ℕ) (image : ℕ → ℕ) → r.layout ≡ p.layout → IsStartAt p m image start → Holds p m (opened_view p m image) w)
-      → ((t : State) (p : Place) (m : ℕ) (image : ℕ → ℕ) → r.layout ≡ p.layout → IsStartAt p m image start → IsCertainAt t p m image start → Stands t p m (opened_view p m image) w)
-      → MayAccept s core w
+  pub may_accept : ByEachImage start r.layout (λ p m image. Holds p m (opened_view p m image) w)
+    → ByEachImage start r.layout (λ p m image. (t : State) → IsCertainAt t p m image start → Stands t p m (opened_view p m image) w)
+    → MayAccept s core w
   may_accept holds stands = record {
-    tied = tied (holds p m (lasts s) (λ i. l) at) (stands s p m (lasts s) (λ i. l) at here);
+    tied = tied (holds p m (lasts s) (λ i. l) at) (stands p m (lasts s) (λ i. l) at s here);
     room = new_room start l w N;
     free = new_idle start l w N;
     works = N.works;

@@ -56,6 +56,10 @@ pub record IsStartAt (p : Place) (m : ℕ) (image : ℕ → ℕ) (start : CoreSt
   pub made : IsStart p.layout (core_of p m) start
   pub found : IsStartOf p.layout image (core_of p m) start
 
+-- by each image of which it is that, of this layout
+abbrev pub ByEachImage : CoreStart → Geometry → (Place → ℕ → (ℕ → ℕ) → Type 0) → Type 0
+ByEachImage start layout P = (p : Place) (m : ℕ) (image : ℕ → ℕ) → layout ≡ p.layout → IsStartAt p m image start → P p m image
+
 -- The member's part lies in the region and has the image's words, each of them certain, and the log stands there.
 pub record IsCertainAt (s : State) (p : Place) (m : ℕ) (image : ℕ → ℕ) (start : CoreStart) : Type 0 where
   pub lies : PartLies s.frame start.allocator

@@ -1,13 +1,12 @@
 // What a worker begins with.
 ghost use Rattle.std.specs.Prelude.{◌≡◌, ℕ, length, IfOk};
 ghost use Rattle.pm_region.specs.State.{State};
-ghost use Rattle.group_laws.specs.Places.{Place as PlaceOf};
 ghost use Rattle.core_worker.specs.declared.types.Place.TheVariants as kinds;
 ghost use Rattle.core_worker.specs.OwnPlaces.{place_at};
 ghost use Rattle.core_worker.specs.Supplies.{HasKeptRoom};
 ghost use Rattle.core_worker.specs.Ties.{Holds, Stands};
 ghost use Rattle.core_worker.specs.Order.{InOrder};
-ghost use Rattle.core_worker.specs.Openings.{IsNew, IsStartAt, IsCertainAt, opened_view};
+ghost use Rattle.core_worker.specs.Openings.{IsNew, IsCertainAt, ByEachImage, opened_view};
 
 use crate::hearing::hear_own;
 use crate::types::{Cleaning, Leading, Place};
@@ -68,24 +67,22 @@ impl Worker {
         })
     }
 
-    /// The worker of a core that recovery found so, in the region's layout. It has the core's log, free room and keys, no
-    /// request is accepted, and nothing is led. The dead entries of its own keys in its own log are told, as the board of
-    /// its group has them when it is opened; those that stand in other logs are not.
+    /// The worker of a core that recovery found so, in the region's layout. It has the core's log, free room and keys,
+    /// no request is accepted, and nothing is led. The dead entries of its own keys in its own log are told, as the
+    /// board of its group has them when it is opened; those that stand in other logs are not.
     pub fn open(alloc: Global, start: CoreStart, layout: Layout) -> Result<Worker, Memory>
         // Whatever the region tells.
         ensures new { IfOk result (IsNew start layout) }
         ensures rule { IfOk result HasKeptRoom }
         // By the view of the member on whose image the group is opened.
-        ensures holds { IfOk result (λ w. (p : PlaceOf) (m : ℕ) (image : ℕ → ℕ)
-            → layout ≡ p.layout → IsStartAt p m image start
-            → Holds p m (opened_view p m image) w) }
-        ensures order { IfOk result (λ w. (p : PlaceOf) (m : ℕ) (image : ℕ → ℕ)
-            → layout ≡ p.layout → IsStartAt p m image start
-            → InOrder p m (opened_view p m image) w) }
-        // And by the region, where it has the image's words.
-        ensures stands { IfOk result (λ w. (s : State) (p : PlaceOf) (m : ℕ) (image : ℕ → ℕ)
-            → layout ≡ p.layout → IsStartAt p m image start → IsCertainAt s p m image start
-            → Stands s p m (opened_view p m image) w) }
+        ensures holds { IfOk result (λ w. ByEachImage start layout (λ p m image.
+            Holds p m (opened_view p m image) w)) }
+        ensures order { IfOk result (λ w. ByEachImage start layout (λ p m image.
+            InOrder p m (opened_view p m image) w)) }
+        // And by each region whose part has the image's words.
+        ensures stands { IfOk result (λ w. ByEachImage start layout (λ p m image.
+            (s : State) → IsCertainAt s p m image start
+            → Stands s p m (opened_view p m image) w)) }
     {
         let worker = Worker::new(alloc, start, layout)?;
         Ok(worker)
