@@ -32,7 +32,7 @@ use Rattle.core_worker.specs.declared.types.Place as places
 use Rattle.core_worker.specs.declared.types.Place.TheVariants.{Free, Staged}
 use Rattle.core_worker.specs.declared.worker.Worker.{Worker}
 use Rattle.core_worker.specs.OwnPlaces.{place_at, key_in, lines_in, own, is_busy}
-use Rattle.core_worker.specs.Supplies.{rest, IsSmall, KeepsRule, HasKeptRoom, supply_of}
+use Rattle.core_worker.specs.Supplies.{rest, KeepsRule, HasKeptRoom, supply_of}
 use Rattle.core_worker.specs.KeyTies.{IsPlaced, IsStagedBlock, AreBlocks}
 use Rattle.core_worker.specs.Ties.{Holds, Stands, Leads, LeadsAt, HasSpaceFor, is_lost}
 use Rattle.core_worker.specs.Order.{InOrder, PointsAt, count_changes}

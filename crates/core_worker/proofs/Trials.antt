@@ -62,8 +62,8 @@ module _ (s : State) (r : Recovered) (core : ℕ) (d start : CoreStart) (w : Wor
   )
 
   pub may_accept : ByEachImage start r.layout (λ p m image. Holds p m (opened_view p m image) w)
-    → ByEachImage start r.layout (λ p m image. (t : State) → IsCertainAt t p m image start → Stands t p m (opened_view p m image) w)
-    → MayAccept s core w
+      → ByEachImage start r.layout (λ p m image. (t : State) → IsCertainAt t p m image start → Stands t p m (opened_view p m image) w)
+      → MayAccept s core w
   may_accept holds stands = record {
     tied = tied (holds p m (lasts s) (λ i. l) at) (stands p m (lasts s) (λ i. l) at s here);
     room = new_room start l w N;

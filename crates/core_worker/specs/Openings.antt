@@ -1,16 +1,11 @@
 -- What a worker begins with, where recovery gave its start.
-use Rattle.std.specs.Prelude.{◌≡◌, ℕ, ◌<◌, ◌≤◌, ◌==◌, ◌&&◌, Bool, true, false, List, [], length, Option, Some, None, option_map, if◌then◌else◌}
+use Rattle.std.specs.Prelude.{◌≡◌, ℕ, ◌<◌, ◌≤◌, false, [], length, None}
 use Rattle.std.specs.VecDeque.{deque_len}
-use Rattle.log_entry.specs.declared.entry.Body.{Body}
 use Rattle.pm_region.specs.State.{State, IsTelling, cell_now}
 use Rattle.pm_region.specs.Words.{Surely}
 use Rattle.chunk_map.specs.declared.layouts.Geometry.{Geometry}
 use Rattle.store_image.specs.Facts.{KeepsRules}
 use Rattle.core_log.specs.Log.{StandsIn}
-use Rattle.core_index.specs.Index.{known_at, SameRoom}
-use Rattle.core_index.specs.Records.{KeyRecord, Awaits, is_dead, standing_at, standing_of, standing_with}
-use Rattle.core_index.specs.Slots as slots
-use Rattle.core_index.specs.declared.types.Standing.{Standing}
 use Rattle.lazy_alloc.specs.Written.{PartLies}
 use Rattle.recover.specs.declared.types.CoreStart.{CoreStart}
 use Rattle.recover.specs.Heads.{IsStartOf}
