@@ -42,3 +42,4 @@ pub mod TakingBack
 pub mod Served
 mod Unpledging
 mod BatchRoom
+mod ServedLines

@@ -25,7 +25,7 @@ use Rattle.core_worker.specs.Refusals.{HasAnswerRoom}
 use Rattle.core_worker.specs.Supplies.{HasKeptRoom}
 use Rattle.core_worker.specs.Ties.{Stands, Tie, HoldsBy, StandsBy}
 use Rattle.core_worker.specs.Order.{InOrder, InOrderBy}
-use Rattle.core_worker.specs.Beginning.{answers_of, answer_with, HasFree, HoldsAside, BeginsWaiting}
+use Rattle.core_worker.specs.Beginning.{answers_of, answer_with, HasFree, HoldsAside, BeginsShort, BeginsWaiting}
 use Rattle.core_worker.specs.Serving.{LeadsNothingYet, OthersWait}
 use Rattle.core_worker.specs.Hearing.{HearsAll}
 
@@ -114,6 +114,10 @@ Serves old new cell k = ((old.winds_down ≡ true) × (new ≡ old)) ⊎ ((old.w
 -- by each view that it may be tied to, where the region tells
 abbrev pub ServesByEachView : State → Worker → Worker → ℕ → Type 0
 ServesByEachView s old new k = (t : Tie) → IsToServe s old k t → IsTelling s → Serves old new (t.view.cell k) k
+
+-- for one of them there was no memory
+abbrev pub ServesShort : State → Worker → Worker → ℕ → Type 0
+ServesShort s old new k = (t : Tie) → IsToServe s old k t → IsTelling s → (old.winds_down ≡ false) × BeginsShort (waiting old.queue k) old new (t.view.cell k) k
 
 -- What a worker with view v that was tied is with view u, once a change of the key is out of its place.
 pub record IsFreed (p : groups.Place) (m : ℕ) (v u : View) (old new : Worker) (k : ℕ) : Type 0 where
