@@ -168,7 +168,7 @@ module _ (v : View) (k : ℕ) (cell : Option (List ℕ)) where
     -- one is answered, and then the others
     line_answered : (fs : List Fixed) → (A : Answers next mid cell h.number h.request) → Line v mid x k cell hs fs → Line v w x k cell (h ∷ hs) (record { number = h.number; request = h.request; reply = A.reply; refusal = A.cause } ∷ fs)
     line_answered fs A L = record {
-      answers = L.answers ∙ ap (λ (as : List Answer). as ++ map told fs) (A.is.answers ∙ ap (λ (y : Worker). answers_of y ++ answer_with h.number A.reply A.cause ∷ []) same) ∙ append_assoc (answers_of w) (answer_with h.number A.reply A.cause ∷ []) (map told fs);
+      answers = L.answers ∙ ap (λ (ys : List Answer). ys ++ map told fs) (A.is.answers ∙ ap (λ (y : Worker). answers_of y ++ answer_with h.number A.reply A.cause ∷ []) same) ∙ append_assoc (answers_of w) (answer_with h.number A.reply A.cause ∷ []) (map told fs);
       keys = λ y i. ⊎_elim (λ at. ap (λ (z : Fixed). key_of z.request) at ∙ first_key w.queue next.queue k h T) (λ more. L.keys y more) i;
       line = ap (λ (xs : List (ℕ × Request)). (h.number, h.request) ∷ xs) L.line;
       lawful = (
