@@ -39,5 +39,6 @@ pub mod PuttingBack
 pub mod Settling
 pub mod TakingBack
 pub mod Served
+mod Members
 mod Unpledging
 mod BatchRoom

@@ -1,5 +1,5 @@
 -- Finishing a change: its place is freed, its request answered, and what it replaced is put back.
-use Rattle.std.specs.Prelude.{◌≡◌, ◌≢◌, ◌⊎◌, ℕ, ◌+◌, ◌≤◌, true, false, List, ◌∷◌, [], ◌++◌, length, Option, Some, None, MatchOption}
+use Rattle.std.specs.Prelude.{◌≡◌, ◌≢◌, ◌⊎◌, ℕ, ◌+◌, ◌≤◌, true, false, List, ◌∷◌, [], ◌++◌, length, Option, Some, None, IfSome, MatchOption}
 use Rattle.pm_region.specs.State.{State, IsTelling}
 use Rattle.fs_model.specs.declared.model.Reply.{Reply}
 use Rattle.fs_model.specs.declared.model.Reply.TheVariants.{Stored, Deleted, Stopped}
@@ -14,6 +14,8 @@ use Rattle.core_index.specs.Slots as slots
 use Rattle.lazy_alloc.specs.Sets.{Sets, AreSets, PutsBack}
 use Rattle.group_laws.specs.declared.types.Seen.TheVariants as loads
 use Rattle.group_laws.specs.declared.types.SlotWord.TheVariants as words
+use Rattle.group_laws.specs.declared.types.Slot.TheVariants.{Failed}
+use Rattle.group_laws.specs.State.{Group}
 use Rattle.group_laws.specs.Places as groups
 use Rattle.group_laws.specs.MemberViews.{View}
 use Rattle.group_board.specs.Views.{after_finish, after_give_up, TidiedIn}
@@ -84,6 +86,18 @@ pub record TakesBack (p : groups.Place) (m slot : ℕ) (v u : View) (old new : W
   pub mid : Worker
   pub settles : MatchOption home (mid ≡ record old { stopped = true }) (λ h. Settles old mid entry (groups.core_of p h))
   pub lets : LetsGo mid new slot (reply_back home entry.body)
+
+-- the same, of a change of this key
+abbrev pub TakesBackKey : groups.Place → ℕ → ℕ → View → View → Worker → Worker → ℕ → Type 0
+TakesBackKey p m slot v u old new k = (x : TakesBack p m slot v u old new) × (x.entry.key ≡ k)
+
+-- a load found the own slot Done or Failed
+abbrev pub WasFoundBack : ℕ → ℕ → View → Type 0
+WasFoundBack m slot v = In (loads.Slot m slot words.Failed) v.looked ⊎ ((h : ℕ) × In (loads.Slot m slot (words.Done h)) v.looked)
+
+-- it stops only where an own slot was Failed, where the state is told
+abbrev pub StopsByFailed : Option Group → ℕ → Worker → Worker → Type 0
+StopsByFailed before m old new = new.stopped ≡ true → (old.stopped ≡ true) ⊎ IfSome before (λ a. (n : ℕ) × (d : Entry) × (a.slot m n ≡ Failed d))
 
 -- Nothing of the key stands in a place any more, and what waits of it may be begun.
 pub record IsReady (w : Worker) (k : ℕ) : Type 0 where
