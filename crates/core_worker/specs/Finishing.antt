@@ -1,5 +1,5 @@
 -- Finishing a change: its place is freed, its request answered, and what it replaced is put back.
-use Rattle.std.specs.Prelude.{◌≡◌, ◌≢◌, ◌⊎◌, ℕ, ◌+◌, ◌≤◌, true, false, List, ◌∷◌, [], ◌++◌, length, Option, Some, None, IfSome, MatchOption}
+use Rattle.std.specs.Prelude.{◌≡◌, ◌≢◌, ◌⊎◌, ℕ, ◌+◌, ◌≤◌, Bool, true, false, List, ◌∷◌, [], ◌++◌, length, Option, Some, None, IfSome, MatchOption}
 use Rattle.pm_region.specs.State.{State, IsTelling}
 use Rattle.fs_model.specs.declared.model.Reply.{Reply}
 use Rattle.fs_model.specs.declared.model.Reply.TheVariants.{Stored, Deleted, Stopped}
@@ -28,7 +28,7 @@ use Rattle.core_worker.specs.Supplies.{HasKeptRoom}
 use Rattle.core_worker.specs.Ties.{Stands, Tie, HoldsBy, StandsBy}
 use Rattle.core_worker.specs.Order.{InOrder, InOrderBy}
 use Rattle.core_worker.specs.Beginning.{answers_of, answer_with, HasFree, HoldsAside, BeginsWaiting}
-use Rattle.core_worker.specs.Serving.{LeadsNothingYet, OthersWait}
+use Rattle.core_worker.specs.Serving.{LeadsNothingYet, OthersWait, OnlyServes}
 use Rattle.core_worker.specs.Hearing.{HearsAll}
 
 -- the number of the request whose change stands in a place
@@ -137,3 +137,10 @@ pub record IsFreed (p : groups.Place) (m : ℕ) (v u : View) (old new : Worker) 
   pub own : groups.owner p k ≡ m
   pub ready : IsReady new k
   pub rule : HasKeptRoom old → HasKeptRoom new
+
+-- The change is taken back and its place is free, and then the key's waiting requests are begun; `all` where none of them is in hand.
+pub record FinishesSlot (s : State) (p : groups.Place) (m slot : ℕ) (v u : View) (old new : Worker) (all : Bool) : Type 0 where
+  pub freed : Worker
+  pub takes : TakesBack p m slot v u old freed
+  pub rest : OnlyServes freed new
+  pub begins : all ≡ true → IsTelling s → Serves freed new (u.cell takes.entry.key) takes.entry.key

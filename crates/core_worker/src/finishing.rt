@@ -1,29 +1,34 @@
 // Taking posted changes back that their leader gave back.
-ghost use Rattle.std.specs.Prelude.{◌≡◌, ◌⊎◌, ℕ, ◌+◌, ◌<◌, true, false, length, IfSome, Some};
+ghost use Rattle.std.specs.Prelude.{◌≡◌, ◌⊎◌, ℕ, ◌+◌, ◌<◌, true, false, length, is_ok, IfSome, Some, OnErr};
+ghost use Rattle.core_worker.specs.Supplies.{HasKeptRoom};
+ghost use Rattle.pm_region.specs.State.{State};
 ghost use Rattle.store_image.specs.Facts.{In};
 ghost use Rattle.group_laws.specs.Places.{Place as PlaceOf, IsPlace, members, core_of};
 ghost use Rattle.group_laws.specs.Runs as runs;
 ghost use Rattle.group_laws.specs.declared.types.Seen.TheVariants as loads;
 ghost use Rattle.group_laws.specs.declared.types.SlotWord.TheVariants as words;
 ghost use Rattle.group_board.specs.Told.{Makes};
-ghost use Rattle.core_worker.specs.Ties.{HoldsAt, LeadsNothing};
+ghost use Rattle.core_worker.specs.Ties.{HoldsAt, LeadsNothing, StandsAt};
 ghost use Rattle.core_worker.specs.Turns.{InOrderAt};
 ghost use Rattle.core_index.specs.Index.{known_at, room_at};
 ghost use Rattle.core_index.specs.Records.{last_of, block_of};
 ghost use Rattle.lazy_alloc.specs.Sets.{AreSets, block_is_used};
 ghost use Rattle.core_worker.specs.OwnPlaces.{place_at, is_free};
 ghost use Rattle.core_worker.specs.Refusals.{HasAnswerRoom};
-ghost use Rattle.core_worker.specs.Finishing.{done_reply, IsFreed, LetsGo, PutsBackIf, Settles, StopsByFailed, TakesBackKey, WasFoundBack};
+ghost use Rattle.core_worker.specs.Finishing.{done_reply, FinishesSlot, IsFreed, LetsGo, PutsBackIf, Settles, StopsByFailed, TakesBackKey, WasFoundBack};
 
 use crate::hearing::hear_own;
 use crate::posting::swap_place;
 use crate::types::Place;
 use crate::worker::Worker;
 use crash_core::Change;
+use fs_errors::Memory;
 use fs_model::{Key, Reply};
 use group_board::Board;
 use lazy_alloc::Allocator;
 use log_entry::{Body, Entry};
+use pm_region::Region;
+use std::alloc::Global;
 
 // The reply to a request whose change is done.
 fn done_reply(body: &Body) -> Reply
@@ -125,5 +130,39 @@ impl Worker {
                 return key;
             }
         }
+    }
+
+    // Finishes the change of a slot that was found given back, and begins what waits of its key.
+    pub(crate) fn take_back<R: Region, B: Board>(
+        &mut self,
+        alloc: Global,
+        region: &R,
+        board: &mut B,
+        slot: u32,
+    ) -> Result<(), Memory>
+        requires holds { HoldsAt (B.seat board.old) (B.view board.old) self.old }
+        requires stands { StandsAt (R.state region.now) (B.seat board.old)
+            (B.view board.old) self.old }
+        requires order { InOrderAt (B.seat board.old) (B.view board.old) self.old }
+        requires nothing { LeadsNothing self.old }
+        requires slot { slot < 8 }
+        requires seen { WasFoundBack (B.seat board.old).number slot (B.view board.old) }
+        ensures seat { B.seat board.new ≡ B.seat board.old }
+        ensures holds { HoldsAt (B.seat board.old) (B.view board.new) self.new }
+        ensures stands { StandsAt (R.state region.now) (B.seat board.old)
+            (B.view board.new) self.new }
+        ensures order { InOrderAt (B.seat board.old) (B.view board.new) self.new }
+        ensures rule { HasKeptRoom self.old → HasKeptRoom self.new }
+        ensures finishes { FinishesSlot (R.state region.now) (B.seat board.old).place
+            (B.seat board.old).number slot (B.view board.old) (B.view board.new)
+            self.old self.new (is_ok result) }
+        ensures memory { OnErr result (self.new.winds_down ≡ true) }
+        ensures cause { StopsByFailed (B.whole board.old) (B.seat board.old).number
+            self.old self.new }
+        ensures made { Makes (B.whole board.old) (B.seat board.old).number
+            (runs.Kind.Finish slot) (B.whole board.new) (B.view board.new) }
+    {
+        let key = self.take_out(board, slot);
+        self.serve(alloc, region, key)
     }
 }
