@@ -40,6 +40,7 @@ pub mod PuttingBack
 pub mod Settling
 pub mod TakingBack
 pub mod Served
+mod Members
 mod Unpledging
 mod BatchRoom
 mod ServedLines

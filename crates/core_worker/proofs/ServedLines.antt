@@ -3,7 +3,7 @@ use Rattle.std.proofs.Common.{◌≡◌, ◌≢◌, ◌⊎◌, inl, inr, ⊎_eli
 use Rattle.std.specs.Prelude.{Vec, option_to_list}
 use Rattle.std.specs.Global.{Global}
 use Rattle.std.specs.List.{AllByRecursion, filter}
-use Rattle.std.proofs.lemmas.Bool.{cases_eq}
+use Rattle.std.proofs.lemmas.Bool.{cases_eq, eq-eqb, ne_eqb}
 use Rattle.fs_model.specs.declared.model.Request.{Request}
 use Rattle.fs_model.specs.declared.model.Reply.{Reply}
 use Rattle.fs_model.specs.declared.model.Reply.TheVariants as replies
@@ -89,7 +89,7 @@ pub record Line (v : View) (w x : Worker) (k : ℕ) (cell : Option (List ℕ)) (
   pub halted : (y : Fixed) → In y fs → y.reply ≡ replies.Stopped → (x.stopped ≡ true) × (placed_for v x.places.items k ≡ None)
   pub stopped : x.stopped ≡ w.stopped
   pub other_places : (j : ℕ) → j ≢ k → placed_for v x.places.items j ≡ placed_for v w.places.items j
-  pub other_waits : (j : ℕ) → j ≢ k → filter (λ h. key_of h.request == j) (option_to_list x.in_hand) ++ waiting x.queue j ≡ waiting w.queue j
+  pub other_waits : (j : ℕ) → j ≢ k → filter (λ h. key_of h.request == j) (option_to_list x.in_hand) ++ waiting x.queue j ≡ filter (λ h. key_of h.request == j) (option_to_list w.in_hand) ++ waiting w.queue j
 
 stop_same : (b : Bool) (a : Reply) → (a ≡ replies.Stopped → b ≡ true) → (b || is_stopped a) ≡ b
 stop_same true a only = refl
@@ -143,7 +143,7 @@ module _ (v : View) (k : ℕ) (cell : Option (List ℕ)) where
     halted = λ y i. absurd i;
     stopped = ap (λ (y : Worker). y.stopped) same;
     other_places = λ j ne. ap (λ (y : Worker). placed_for v y.places.items j) same;
-    other_waits = λ j ne. ap (λ (y : Worker). filter (λ h. key_of h.request == j) (option_to_list y.in_hand) ++ waiting y.queue j) same ∙ hand_none w.in_hand j (waiting w.queue j) hand;
+    other_waits = λ j ne. ap (λ (y : Worker). filter (λ h. key_of h.request == j) (option_to_list y.in_hand) ++ waiting y.queue j) same;
   }
 
   module _ (w next mid x : Worker) (h : Held) (hs : List Held) (T : TakesFirst w.queue next.queue k h) (same : next ≡ record w { queue = next.queue }) (only : OnlyBegins next mid) where
@@ -182,7 +182,7 @@ module _ (v : View) (k : ℕ) (cell : Option (List ℕ)) where
           (λ more. L.halted y more e) i;
       stopped = L.stopped ∙ stopped_next;
       other_places = λ j ne. L.other_places j ne ∙ ap (λ (ps : List places.Place). placed_for v ps j) (A.is.places ∙ ap (λ (y : Worker). y.places.items) same);
-      other_waits = λ j ne. L.other_waits j ne ∙ waits_mid j ne;
+      other_waits = λ j ne. L.other_waits j ne ∙ (λ i. filter (λ h. key_of h.request == j) (option_to_list (hand_mid i)) ++ waits_mid j ne i);
     } where
       next_stops : next.stopped ≡ w.stopped
       next_stops = ap (λ (y : Worker). y.stopped) same
@@ -201,7 +201,7 @@ module _ (v : View) (k : ℕ) (cell : Option (List ℕ)) where
       stopped = ap (λ (y : Worker). y.stopped) is ∙ stopped_next;
       other_places = λ j ne. ap (λ (y : Worker). placed_for v y.places.items j) is ∙ held_beside v v w.places.items mid.places.items S.slot (Staged h.number S.entry S.value) here apart apart_now j
           (λ e. (let both : None ≡ Some j = sym (ap key_in was) ∙ e in cc both)) (λ e. ne (let both : Some S.entry.key ≡ Some j = e in let at : S.entry.key ≡ j = cc both in sym at ∙ key)) (λ t low e. refl);
-      other_waits = λ j ne. ap (λ (y : Worker). filter (λ h. key_of h.request == j) (option_to_list y.in_hand) ++ waiting y.queue j) is ∙ hand_none mid.in_hand j (waiting mid.queue j) (hand_mid ∙ hand) ∙ waits_mid j ne;
+      other_waits = λ j ne. ap (λ (y : Worker). filter (λ h. key_of h.request == j) (option_to_list y.in_hand) ++ waiting y.queue j) is ∙ (λ i. filter (λ h. key_of h.request == j) (option_to_list (hand_mid i)) ++ waits_mid j ne i);
     } where
       key : S.entry.key ≡ k
       key = S.key ∙ first_key w.queue next.queue k h T
@@ -246,3 +246,58 @@ module _ (v : View) (k : ℕ) (cell : Option (List ℕ)) where
       (λ more. absurd (let both : true ≡ false = sym (staged_then w next mid x h hs T same only S.1) ∙ more.0 in cc both))
       begins.6)
       (begins_one next mid cell h.number h.request begins.5)
+
+  -- for one there was no memory, and it is in hand
+  line_short : (w next x : Worker) (h : Held) (hs : List Held) → TakesFirst w.queue next.queue k h → next ≡ record w { queue = next.queue } → x ≡ record next { in_hand = Some h; winds_down = true } → w.in_hand ≡ None → is_busy w.places.items k ≡ false → waiting w.queue k ≡ h ∷ hs → Line v w x k cell (h ∷ hs) []
+  line_short w next x h hs T same is hand idle waits = record {
+    answers = ap (λ (y : Worker). answers_of y) whole ∙ sym (append-nil (answers_of w));
+    keys = λ y i. absurd i;
+    line = ap (map asked_by) (sym waits ∙ T.key) ∙ sym (ap (λ (y : Worker). placed (placed_for v y.places.items k) ++ map asked_by (filter (λ h. key_of h.request == k) (option_to_list y.in_hand) ++ waiting y.queue k)) is
+        ∙ (λ i. placed (none i) ++ map asked_by (cond (eq-eqb (key_of h.request) k (first_key w.queue next.queue k h T) i) (h ∷ []) [] ++ waiting next.queue k)));
+    lawful = tt;
+    cell_now = refl;
+    halts = λ stopped. (tt, ap (λ (y : Worker). placed_for v y.places.items k) is ∙ none);
+    halted = λ y i. absurd i;
+    stopped = ap (λ (y : Worker). y.stopped) is ∙ ap (λ (y : Worker). y.stopped) same;
+    other_places = λ j ne. ap (λ (y : Worker). placed_for v y.places.items j) is ∙ ap (λ (y : Worker). placed_for v y.places.items j) same;
+    other_waits = λ j ne. ap (λ (y : Worker). filter (λ h. key_of h.request == j) (option_to_list y.in_hand) ++ waiting y.queue j) is
+        ∙ (λ i. cond (ne_eqb (key_of h.request) j (λ e. ne (sym e ∙ first_key w.queue next.queue k h T)) i) (h ∷ []) [] ++ waiting next.queue j) ∙ T.others j ne ∙ sym (hand_none w.in_hand j (waiting w.queue j) hand);
+  } where
+    whole : x ≡ record w { queue = next.queue; in_hand = Some h; winds_down = true }
+    whole = is ∙ ap (λ (y : Worker). record y { in_hand = Some h; winds_down = true }) same
+
+    none : placed_for v next.places.items k ≡ None
+    none = ap (λ (y : Worker). placed_for v y.places.items k) same ∙ none_for v k w.places.items idle
+
+  pub lines_short : (hs : List Held) (w x : Worker) → BeginsShort hs w x cell k → w.in_hand ≡ None → is_busy w.places.items k ≡ false → AreApart w.places.items → waiting w.queue k ≡ hs → (fs : List Fixed) × Line v w x k cell hs fs
+  lines_short [] w x begins hand idle apart waits = absurd begins
+  lines_short (h ∷ hs) w x begins hand idle apart waits =
+      let next = begins.0 in
+      let T = begins.1 in
+      let same = begins.2 in
+      ⊎_elim
+      (λ is. ([], line_short w next x h hs T same is hand idle waits))
+      (λ more.
+      let mid = more.0 in
+      let only = more.1 in
+      ⊎_elim
+      (λ A. let L = lines_short hs mid x more.4 (hand_mid w next mid x h hs T same only ∙ hand) (answered_then w next mid x h hs T same only A idle) (apart_then w next mid x h hs T same only A apart) (rest_is w next mid x h hs T same only waits) in
+      (record { number = h.number; request = h.request; reply = A.reply; refusal = A.cause } ∷ L.0, line_answered w next mid x h hs T same only L.0 A L.1))
+      (λ S. absurd (let both : true ≡ false = sym (staged_then w next mid x h hs T same only S.1) ∙ more.3 in cc both))
+      (begins_one next mid cell h.number h.request more.2))
+      begins.3
+
+  -- a core that winds down begins none
+  pub line_kept : (w : Worker) → is_busy w.places.items k ≡ false → Line v w w k cell (filter (λ h. key_of h.request == k) (option_to_list w.in_hand) ++ waiting w.queue k) []
+  line_kept w idle = record {
+    answers = sym (append-nil (answers_of w));
+    keys = λ y i. absurd i;
+    line = sym (ap (λ (o : Option Placed). placed o ++ map asked_by (filter (λ h. key_of h.request == k) (option_to_list w.in_hand) ++ waiting w.queue k)) (none_for v k w.places.items idle));
+    lawful = tt;
+    cell_now = refl;
+    halts = λ stopped. (tt, none_for v k w.places.items idle);
+    halted = λ y i. absurd i;
+    stopped = refl;
+    other_places = λ j ne. refl;
+    other_waits = λ j ne. refl;
+  }
