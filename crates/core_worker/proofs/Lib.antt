@@ -44,3 +44,5 @@ mod Members
 mod Unpledging
 mod BatchRoom
 mod ServedLines
+mod LetGoMoves
+mod FinishMoves
