@@ -39,6 +39,8 @@ pub mod PuttingBack
 pub mod Settling
 pub mod TakingBack
 pub mod Served
+pub mod Dropping
+pub mod DropServed
 mod Members
 mod Unpledging
 mod BatchRoom

@@ -12,6 +12,7 @@ mod refusing;
 mod releasing;
 mod searching;
 mod status;
+mod stopping;
 mod supply;
 mod types;
 mod worker;
