@@ -41,6 +41,7 @@ pub mod TakingBack
 pub mod Served
 pub mod Dropping
 pub mod DropServed
+pub mod Withdrawing
 mod Members
 mod Unpledging
 mod BatchRoom
