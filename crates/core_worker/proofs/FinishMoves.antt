@@ -39,7 +39,7 @@ use Rattle.core_worker.proofs.HandKeys.{asks, body_holds}
 use Rattle.core_worker.proofs.LetGoMoves.{LetGo, let_go_turn}
 use Rattle.core_worker.proofs.Made.{one_step}
 
-asks_key : (k : ℕ) (value : List ℕ) (b : Body) → key_of (request_by k value b) ≡ k
+pub asks_key : (k : ℕ) (value : List ℕ) (b : Body) → key_of (request_by k value b) ≡ k
 asks_key k value (bodies.Pointer q) = refl
 asks_key k value (bodies.Embedded u) = refl
 asks_key k value bodies.Tombstone = refl
@@ -70,11 +70,11 @@ live_of v k (bodies.Pointer q) o e = absurd (cc e)
 live_of v k (bodies.Embedded u) o e = absurd (cc e)
 live_of v k bodies.Tombstone o e = o
 
-abbrev number_or : ℕ → Option ℕ → ℕ
+abbrev pub number_or : ℕ → Option ℕ → ℕ
 number_or d None = d
 number_or d (Some n) = n
 
-abbrev entry_or : Entry → Option Pending → Entry
+abbrev pub entry_or : Entry → Option Pending → Entry
 entry_or d None = d
 entry_or d (Some q) = q.entry
 

@@ -49,3 +49,4 @@ mod BatchRoom
 mod ServedLines
 mod LetGoMoves
 mod FinishMoves
+mod StopMoves

@@ -1,5 +1,5 @@
 -- What a stopped core does with its own changes.
-use Rattle.std.specs.Prelude.{◌≡◌, ℕ, Bool, true, List, Option, Some, None}
+use Rattle.std.specs.Prelude.{◌≡◌, ℕ, Bool, true, false, List, Option, Some, None}
 use Rattle.pm_region.specs.State.{State, IsTelling}
 use Rattle.fs_model.specs.declared.model.Reply.TheVariants.{Stopped}
 use Rattle.log_entry.specs.declared.entry.Entry.{Entry}
@@ -12,7 +12,7 @@ use Rattle.core_worker.specs.OwnPlaces.{place_at}
 use Rattle.core_worker.specs.Ties.{Tie, HoldsBy}
 use Rattle.core_worker.specs.Order.{InOrderBy}
 use Rattle.core_worker.specs.Serving.{OnlyServes}
-use Rattle.core_worker.specs.Finishing.{PutsBackIf, LetsGo, IsFreed, IsServed, Serves}
+use Rattle.core_worker.specs.Finishing.{PutsBackIf, LetsGo, IsFreed, IsServed, Serves, ShortOf}
 
 -- the block that a staged change has
 abbrev pub staged_block : Place → Option ℕ
@@ -41,3 +41,4 @@ pub record Drops (s : State) (slot : ℕ) (old new : Worker) (all : Bool) : Type
   pub puts : PutsAway old freed slot (pointer_of entry.body)
   pub rest : OnlyServes freed new
   pub begins : all ≡ true → (t : Tie) → IsServed s old t → IsTelling s → Serves freed new (t.view.cell entry.key) entry.key
+  pub short : all ≡ false → (t : Tie) → IsServed s old t → IsTelling s → ShortOf freed new (t.view.cell entry.key) entry.key
