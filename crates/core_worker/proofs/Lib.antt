@@ -40,8 +40,16 @@ pub mod PuttingBack
 pub mod Settling
 pub mod TakingBack
 pub mod Served
+pub mod Dropping
+pub mod DropServed
+pub mod Withdrawing
+mod Members
 mod Unpledging
 mod BatchRoom
+mod ServedLines
+mod LetGoMoves
+mod FinishMoves
+mod StopMoves
 mod StartKeys
 mod StartBlocks
 mod StartHeads

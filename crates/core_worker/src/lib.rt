@@ -14,6 +14,7 @@ mod refusing;
 mod releasing;
 mod searching;
 mod status;
+mod stopping;
 mod supply;
 #[cfg(test)]
 mod tests;
