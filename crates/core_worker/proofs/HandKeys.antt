@@ -21,11 +21,11 @@ use Rattle.core_worker.specs.Ties.{Holds}
 use Rattle.core_worker.specs.WorkerMoves.{Placed, placed_in, placed_for, hands_of, HoldsKey}
 use Rattle.core_worker.proofs.Quiet.{found_at}
 
-abbrev asks : View → ℕ → Body → Request
+abbrev pub asks : View → ℕ → Body → Request
 asks v k b = request_by k (bytes_or (left_in v.blocks b)) b
 
 -- the request of a posted change is one that changes the cell to what the entry leaves
-body_holds : (v : View) (k : ℕ) (b : Body) → Offers v k b → (is_change (asks v k b) (v.cell k) ≡ true) × (left_in v.blocks b ≡ cell_after (asks v k b) (v.cell k))
+pub body_holds : (v : View) (k : ℕ) (b : Body) → Offers v k b → (is_change (asks v k b) (v.cell k) ≡ true) × (left_in v.blocks b ≡ cell_after (asks v k b) (v.cell k))
 body_holds v k (bodies.Pointer q) o = (refl, (let left : left_in v.blocks (bodies.Pointer q) ≡ Some o.0 = ap bytes_of o.1 in left ∙ ap (λ c. Some (bytes_or c)) (sym left)))
 body_holds v k (bodies.Embedded u) o = (refl, refl)
 body_holds v k bodies.Tombstone o = (by_cell (v.cell k) o, refl) where
@@ -54,7 +54,7 @@ posted_of p m v k s x (kinds.Posted n j lines) is key placed posted =
     let h = body_holds v k is.0.body offers in
     (subst (λ r. is_change r (v.cell k) ≡ true) asked h.0, (record { entry = is.0; slot = Some s }, s, pend, refl, subst (λ r. left_in v.blocks is.0.body ≡ cell_after r (v.cell k)) asked h.1))
 
-first_has : (v : View) (k : ℕ) (ps : List Place) (s : ℕ) → key_in (place_at ps s) ≡ Some k → (t : ℕ) × (key_in (place_at ps t) ≡ Some k) × (placed_for v ps k ≡ placed_in v (place_at ps t))
+pub first_has : (v : View) (k : ℕ) (ps : List Place) (s : ℕ) → key_in (place_at ps s) ≡ Some k → (t : ℕ) × (key_in (place_at ps t) ≡ Some k) × (placed_for v ps k ≡ placed_in v (place_at ps t))
 first_has v k [] s e = absurd (cc e)
 first_has v k (y ∷ ys) s e = by_first (λ n h. first_has v k ys n h) (is_of k (key_in y)) refl s e where
   has : (o : Option ℕ) → is_of k o ≡ true → o ≡ Some k
@@ -66,7 +66,7 @@ first_has v k (y ∷ ys) s e = by_first (λ n h. first_has v k ys n h) (is_of k 
   by_first rest false is zero e = absurd (let both : true ≡ false = sym (ap (is_of k) e ∙ eq-eqb k k refl) ∙ is in cc both)
   by_first rest false is (suc s) e = let r = rest s e in (suc r.0, r.1, ap (λ b. cond b (placed_in v y) (placed_for v ys k)) is ∙ r.2)
 
-none_for : (v : View) (k : ℕ) (ps : List Place) → is_busy ps k ≡ false → placed_for v ps k ≡ None
+pub none_for : (v : View) (k : ℕ) (ps : List Place) → is_busy ps k ≡ false → placed_for v ps k ≡ None
 none_for v k [] e = refl
 none_for v k (y ∷ ys) e = by_first (λ h. none_for v k ys h) (is_of k (key_in y)) refl e where
   by_first : (is_busy ys k ≡ false → placed_for v ys k ≡ None) → (b : Bool) → is_of k (key_in y) ≡ b → cond b true (is_busy ys k) ≡ false → placed_for v (y ∷ ys) k ≡ None

@@ -13,6 +13,13 @@ mod BlockClear
 mod HandKeys
 mod Aside
 mod QuietMoves
+mod KeyMoves
+mod HandPlaces
+mod AcceptMoves
+mod QuietItems
+mod PostMoves
+mod SearchLaws
+mod TurnLaws
 mod RefusalLaws
 mod Gains
 mod Pointers
@@ -26,8 +33,27 @@ mod Waiters
 mod Unpledging
 mod BatchRoom
 mod Hearing
+pub mod Serving
+mod Heard
+pub mod Tidied
+pub mod Freeing
+pub mod FreedOrder
+pub mod GivingUp
+pub mod PuttingBack
+pub mod Settling
+pub mod TakingBack
+pub mod Served
+pub mod Dropping
+pub mod DropServed
+pub mod Withdrawing
+mod Members
+mod ServedLines
+mod LetGoMoves
+mod FinishMoves
+mod StopMoves
 mod StartKeys
 mod StartBlocks
 mod StartHeads
 mod Starting
 pub mod Clients
+mod Trials

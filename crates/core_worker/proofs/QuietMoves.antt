@@ -24,7 +24,7 @@ use Rattle.core_worker.specs.Turns.{Steps}
 use Rattle.core_worker.specs.WorkerMoves.{placed_in, placed_for, placed, hands_of, line_in, WorkerMoves, asked_by}
 use Rattle.core_worker.proofs.HandKeys.{holds_key}
 
-request_same : (v u : View) (k : ℕ) (o : Option Pending) → u.blocks ≡ v.blocks → request_pending u k o ≡ request_pending v k o
+pub request_same : (v u : View) (k : ℕ) (o : Option Pending) → u.blocks ≡ v.blocks → request_pending u k o ≡ request_pending v k o
 request_same v u k None e = refl
 request_same v u k (Some q) e = ap (λ bs. request_pending (record v { blocks = bs }) k (Some q)) e
 
@@ -33,18 +33,18 @@ in_same v u kinds.Free e f = refl
 in_same v u (kinds.Staged n d x) e f = refl
 in_same v u (kinds.Posted n k l) e f = ap (option_map (λ r. record { number = n; request = r; posted = true })) (request_same v u k (u.pending k) f ∙ ap (λ g. request_pending v k (g k)) e)
 
-for_same : (v u : View) (ps : List Place) (k : ℕ) → u.pending ≡ v.pending → u.blocks ≡ v.blocks → placed_for u ps k ≡ placed_for v ps k
+pub for_same : (v u : View) (ps : List Place) (k : ℕ) → u.pending ≡ v.pending → u.blocks ≡ v.blocks → placed_for u ps k ≡ placed_for v ps k
 for_same v u [] k e f = refl
 for_same v u (y ∷ ys) k e f = (λ i. cond (is_of k (key_in y)) (in_same v u y e f i) (for_same v u ys k e f i))
 
-runs_in : (m : ℕ) (ks : List Kind) (v : View) (before after : Option Group) → MakesAll before (map {B = ℕ × Kind} (λ y. (m, y)) ks) after m v → IfSome before (λ a. IsSomeAnd after (λ b. Runs a (map {B = ℕ × Kind} (λ y. (m, y)) ks) b))
+pub runs_in : (m : ℕ) (ks : List Kind) (v : View) (before after : Option Group) → MakesAll before (map {B = ℕ × Kind} (λ y. (m, y)) ks) after m v → IfSome before (λ a. IsSomeAnd after (λ b. Runs a (map {B = ℕ × Kind} (λ y. (m, y)) ks) b))
 runs_in m ks v None after h = tt
 runs_in m ks v (Some a) None h = h
 runs_in m ks v (Some a) (Some b) h = h.0
 
 pub quiet_moves : (p : places.Place) (m : ℕ) (s t : State) (before after : Option Group) (v u : View) (w x : Worker) → Holds p m u x
     → During s t (KeepsOutside (cell_now s) (part_at p m) (part_end p m)) → During s t (Licensed p m v) → (IsTelling t → Licensed p m u (cell_now t)) → Steps before after m u
-    → u.cell ≡ v.cell → u.pending ≡ v.pending → u.blocks ≡ v.blocks → x.places ≡ w.places → x.queue ≡ w.queue → x.in_hand ≡ w.in_hand
+    → u.cell ≡ v.cell → u.pending ≡ v.pending → u.blocks ≡ v.blocks → ((k : ℕ) → placed_for v x.places.items k ≡ placed_for v w.places.items k) → x.queue ≡ w.queue → x.in_hand ≡ w.in_hand
     → (x.stopped ≡ true → (w.stopped ≡ true) ⊎ (Rose s.faults t.faults ⊎ IfSome before (λ a. (n : ℕ) × (d : Entry) × (a.slot m n ≡ Failed d)))) → (w.stopped ≡ true → x.stopped ≡ true)
     → WorkerMoves p m s t before after v u (hands_of v w) (hands_of u x) [] []
 quiet_moves p m s t before after v u w x H outside moments exit made cell pending blocks places queue hand stops stays = record {
@@ -70,7 +70,7 @@ quiet_moves p m s t before after v u w x H outside moments exit made cell pendin
 }
   where
     place_same : (k : ℕ) → (hands_of u x).place k ≡ (hands_of v w).place k
-    place_same k = for_same v u x.places.items k pending blocks ∙ ap (λ ps. placed_for v ps.items k) places
+    place_same k = for_same v u x.places.items k pending blocks ∙ places k
 
     waits_same : (k : ℕ) → (hands_of u x).waits k ≡ (hands_of v w).waits k
     waits_same k = (λ i. map asked_by (filter (λ h. key_of h.request == k) (option_to_list (hand i)) ++ waiting (queue i) k))

@@ -1,9 +1,8 @@
 -- The blocks that an allocator begins with are those of the view with which a group is opened.
-use Rattle.std.proofs.Common.{◌≡◌, ◌⊎◌, inl, inr, ℕ, ◌+◌, ◌*◌, ◌/◌, ◌%◌, ◌<◌, ◌≤◌, ◌==◌, ◌&&◌, leb, Bool, true, false, cond, List, length, length-take, Option, Some, None, Result, Ok, Err, refl, sym, ◌∙◌, ap, subst, arith}
+use Rattle.std.proofs.Common.{◌≡◌, ℕ, ◌+◌, ◌*◌, ◌/◌, ◌%◌, ◌<◌, ◌==◌, ◌&&◌, leb, Bool, true, false, cond, List, length, length-take, Option, Some, None, Result, Ok, Err, refl, sym, ◌∙◌, ap, subst, arith}
 use Rattle.std.specs.Option.{option_and_then}
 use Rattle.std.proofs.lemmas.Bool.{eqb-true, and_parts}
 use Rattle.std.proofs.lemmas.Nat.{div-mul-add}
-use Rattle.log_entry.specs.declared.entry.Body.{Body}
 use Rattle.log_entry.specs.declared.entry.Body.TheVariants.{Pointer}
 use Rattle.log_entry.specs.Words.{words_for, unpacked, words_from}
 use Rattle.log_entry.proofs.Bytes.{length-unpacked}
@@ -20,7 +19,7 @@ use Rattle.store_image.specs.Winners.{winner}
 use Rattle.store_image.proofs.Places.{layout_numbers}
 use Rattle.lazy_alloc.specs.Heads.{class_in}
 use Rattle.lazy_alloc.specs.Sets.{Sets, start_in, chunk_class, class_at, block_is_used}
-use Rattle.recover.specs.Starts.{IsAllocatorOf, IsWon}
+use Rattle.recover.specs.Starts.{IsAllocatorOf}
 use Rattle.group_laws.specs.declared.types.Block.{Block}
 use Rattle.group_laws.specs.Places.{Place, IsPlace, members, core_of, owner}
 use Rattle.group_laws.specs.MemberViews.{View}

@@ -1,5 +1,5 @@
 -- What the heads of a part say at the start, and that each image of the part is licensed by the opened view.
-use Rattle.std.proofs.Common.{◌≡◌, ℕ, ◌+◌, ◌*◌, ◌/◌, ◌%◌, ◌<◌, ◌≤◌, ◌==◌, ◌&&◌, nat_le, nat_lt, Bool, true, false, cond, Option, Some, None, Result, Ok, Err, refl, sym, ◌∙◌, ap, subst, arith}
+use Rattle.std.proofs.Common.{◌≡◌, ℕ, ◌+◌, ◌*◌, ◌/◌, ◌%◌, ◌<◌, ◌==◌, ◌&&◌, nat_le, nat_lt, Bool, true, false, cond, Option, Some, None, Result, Ok, Err, refl, sym, ◌∙◌, ap, subst, arith}
 use Rattle.std.proofs.lemmas.Bool.{eqb-true, and_parts}
 use Rattle.pm_region.specs.State.{State, IsTelling, cell_now}
 use Rattle.pm_region.specs.Words.{Surely}
@@ -8,7 +8,6 @@ use Rattle.chunk_map.specs.declared.heads.Head.{Head}
 use Rattle.chunk_map.specs.declared.heads.Head.TheVariants.{Free, Log, Data}
 use Rattle.chunk_map.specs.Layouts.{chunk_first, head_at, head_by, payload_words, is_class}
 use Rattle.chunk_map.proofs.LayoutLaws.{chunk_in_part}
-use Rattle.store_image.specs.Facts.{KeepsRules}
 use Rattle.store_image.proofs.Places.{layout_numbers}
 use Rattle.core_log.specs.Log.{tail_of, first_of}
 use Rattle.lazy_alloc.specs.Heads.{is_free, class_in}
@@ -16,7 +15,6 @@ use Rattle.lazy_alloc.specs.Sets.{chunk_is_free, chunk_class, chunk_is_due}
 use Rattle.recover.specs.declared.types.CoreStart.{CoreStart}
 use Rattle.recover.specs.Logs.{tail_behind}
 use Rattle.group_laws.specs.Places.{Place, core_of}
-use Rattle.group_laws.specs.MemberViews.{View}
 use Rattle.group_laws.proofs.PartWords.{licensed_words}
 use Rattle.group_laws.proofs.OpeningTidied as opens
 use Rattle.licence.specs.Licence.{Licensed}

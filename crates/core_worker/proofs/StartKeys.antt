@@ -1,7 +1,6 @@
 -- What a worker knows of its keys at the start is what its view has of them once the group is opened.
-use Rattle.std.proofs.Common.{◌≡◌, ◌≢◌, ◌⊎◌, inl, inr, ℕ, ◌-◌, ◌*◌, ◌/◌, ◌<◌, ◌≤◌, ◌==◌, ◌&&◌, ◌||◌, nat_lt, eqb, not, Bool, true, false, cond, List, [], ◌∷◌, Option, Some, None, option_map, refl, sym, ◌∙◌, ap, subst, arith}
-use Rattle.std.specs.Prelude.{find, unwrap_or, is_none}
-use Rattle.std.specs.List.{list_all}
+use Rattle.std.proofs.Common.{◌≡◌, inl, inr, ℕ, ◌-◌, ◌*◌, ◌<◌, ◌≤◌, ◌==◌, ◌&&◌, ◌||◌, nat_lt, eqb, not, Bool, true, false, cond, List, [], ◌∷◌, Option, Some, None, option_map, refl, sym, ◌∙◌, ap, subst, arith}
+use Rattle.std.specs.Prelude.{unwrap_or, is_none}
 use Rattle.std.specs.Option.{option_and_then}
 use Rattle.std.proofs.lemmas.Bool.{eqb-true, eq-eqb, ne_eqb, and_parts, and_from, or_cases, or_left, or_right, cases_eq}
 use Rattle.log_entry.specs.declared.entry.Body.{Body}
@@ -10,7 +9,7 @@ use Rattle.chunk_map.specs.Layouts as layouts
 use Rattle.store_image.specs.declared.types.PlacedEntry.{PlacedEntry}
 use Rattle.store_image.specs.Facts.{In, KeepsRules}
 use Rattle.store_image.specs.Parts.{all_entries, held, block_bytes}
-use Rattle.store_image.specs.Winners.{winner, winner_in, recovered, cell_by}
+use Rattle.store_image.specs.Winners.{winner, recovered, cell_by}
 use Rattle.store_image.proofs.Copies.{winner_some, winner_max}
 use Rattle.store_image.proofs.SoundFacts.{winner_is}
 use Rattle.core_index.specs.declared.types.Standing.{Standing}
@@ -30,7 +29,8 @@ use Rattle.group_laws.proofs.OpeningFound as founds
 use Rattle.group_laws.proofs.OpeningFound.{found_is, finds_one}
 use Rattle.group_laws.proofs.OpeningTidied.{all_true, all_from}
 use Rattle.core_worker.specs.KeyTies.{KnowsKey, Left, LeftIn}
-use Rattle.core_worker.specs.Openings.{is_dead_by, heard_at, last_change, HearsAll, opened_view}
+use Rattle.core_worker.specs.Hearing.{is_dead_by, heard_at, last_change, HearsAll}
+use Rattle.core_worker.specs.Openings.{opened_view}
 
 -- what the last change was is the same where version and body are
 

@@ -1,8 +1,7 @@
 -- A worker that has accepted nothing is tied to the view that its group is opened with.
-use Rattle.std.proofs.Common.{◌≡◌, ◌≢◌, ◌⊎◌, inl, inr, ℕ, zero, suc, ◌+◌, ◌*◌, ◌<◌, ◌≤◌, eqb, Bool, true, false, cond, List, [], ◌∷◌, ◌++◌, length, Option, Some, None, option_map, is_some, refl, sym, ◌∙◌, ap, subst, arith}
-use Rattle.std.specs.VecDeque.{deque_capacity}
+use Rattle.std.proofs.Common.{◌≡◌, inl, inr, ℕ, zero, suc, ◌+◌, ◌*◌, ◌&&◌, eqb, Bool, true, false, cond, List, [], ◌∷◌, ◌++◌, length, Option, Some, None, option_map, is_some, refl, sym, ◌∙◌, ap, subst, arith}
 use Rattle.std.proofs.lemmas.Bool.{cases_eq}
-use Rattle.pm_region.specs.State.{State, IsTelling, cell_now}
+use Rattle.pm_region.specs.State.{State, cell_now}
 use Rattle.pm_region.specs.Words.{Surely}
 use Rattle.log_entry.specs.declared.entry.Body.{Body}
 use Rattle.log_entry.specs.declared.entry.Body.TheVariants.{Pointer}
@@ -10,38 +9,35 @@ use Rattle.log_entry.specs.Spelling.{HasSpelling}
 use Rattle.chunk_map.specs.declared.layouts.Geometry.{Geometry}
 use Rattle.chunk_map.specs.Layouts as layouts
 use Rattle.store_image.specs.declared.types.PlacedEntry.{PlacedEntry}
-use Rattle.store_image.specs.Winners.{winner}
 use Rattle.conflict_queue.specs.Waiting.{waiting}
 use Rattle.conflict_queue.specs.declared.types.Held.{Held}
 use Rattle.core_index.specs.declared.types.Standing.{Standing}
 use Rattle.core_index.specs.Index.{known_at}
-use Rattle.core_index.specs.Records.{KeyRecord, Awaits, last_of, block_of, pointer_of, standing_of, standing_at}
-use Rattle.core_log.specs.Log.{LogState, StandsIn, tail_of, first_of, room_of}
-use Rattle.lazy_alloc.specs.Sets.{Sets, AreSets, block_is_used, chunk_is_free, chunk_is_due, chunk_class}
+use Rattle.core_index.specs.Records.{KeyRecord, Awaits, block_of, pointer_of, standing_of, standing_at}
+use Rattle.core_log.specs.Log.{LogState, StandsIn, tail_of, first_of}
+use Rattle.lazy_alloc.specs.Sets.{Sets, AreSets, chunk_is_free, chunk_is_due, chunk_class}
 use Rattle.lazy_alloc.specs.Written.{PartLies}
 use Rattle.recover.specs.Starts.{KnownAs, IsSpelledIndex}
 use Rattle.recover.specs.declared.types.CoreStart.{CoreStart}
 use Rattle.group_laws.specs.declared.types.Block.{Block}
 use Rattle.group_laws.specs.declared.types.Pending.{Pending}
-use Rattle.group_laws.specs.Places.{Place, members, core_of, owner}
+use Rattle.group_laws.specs.Places.{Place, core_of, owner}
 use Rattle.group_laws.specs.MemberViews.{View}
+use Rattle.group_laws.specs.OpeningImages.{home_of, is_at, is_dead}
 use Rattle.group_laws.proofs.GroupEntries.{own_core}
 use Rattle.group_laws.proofs.GroupEntries as entries
 use Rattle.group_board.specs.Seats.{SeatAt}
-use Rattle.core_room.specs.RoomRule.{pledged}
-use Rattle.licence.specs.Licence.{Licensed, grounded}
 use Rattle.core_worker.specs.declared.types.Cleaning.{Cleaning}
-use Rattle.core_worker.specs.declared.types.Leading.{Leading}
-use Rattle.core_worker.specs.declared.types.Leading.TheVariants as leads
 use Rattle.core_worker.specs.declared.types.Place as places
-use Rattle.core_worker.specs.declared.types.Place.TheVariants.{Free, Staged, Posted}
+use Rattle.core_worker.specs.declared.types.Place.TheVariants.{Free, Staged}
 use Rattle.core_worker.specs.declared.worker.Worker.{Worker}
 use Rattle.core_worker.specs.OwnPlaces.{place_at, key_in, lines_in, own, is_busy}
-use Rattle.core_worker.specs.Supplies.{rest, IsSmall, KeepsRule, HasKeptRoom, supply_of}
+use Rattle.core_worker.specs.Supplies.{rest, KeepsRule, HasKeptRoom, supply_of}
 use Rattle.core_worker.specs.KeyTies.{IsPlaced, IsStagedBlock, AreBlocks}
 use Rattle.core_worker.specs.Ties.{Holds, Stands, Leads, LeadsAt, HasSpaceFor, is_lost}
-use Rattle.core_worker.specs.Order.{InOrder, count_changes, MayLeadStopped, PointsAt}
-use Rattle.core_worker.specs.Openings.{HearsAll, IsNew, IsStartAt, IsCertainAt, last_change, opened_view}
+use Rattle.core_worker.specs.Order.{InOrder, PointsAt, count_changes}
+use Rattle.core_worker.specs.Hearing.{last_change}
+use Rattle.core_worker.specs.Openings.{IsNew, IsStartAt, IsCertainAt, opened_view}
 use Rattle.core_worker.proofs.StartKeys as start_keys
 use Rattle.core_worker.proofs.StartKeys.{changed, same_block}
 use Rattle.core_worker.proofs.StartBlocks as start_blocks
@@ -74,6 +70,11 @@ no_key x k free has = let none : None ≡ Some k = sym (ap key_in free) ∙ has 
 none_either : (b : Bool) (X : Type 0) → cond {A = Option X} b None None ≡ None
 none_either true X = refl
 none_either false X = refl
+
+-- a name without a home is told nowhere
+told_none : (mine : Bool) (h : ℕ) (o : Option ℕ) (dead : Bool) → cond mine o None ≡ None → cond mine (is_at h o && dead) false ≡ false
+told_none true h o dead none = ap (λ (x : Option ℕ). is_at h x && dead) none
+told_none false h o dead none = refl
 
 -- Nothing is pledged.
 pub kept_room : (start : CoreStart) (layout : Geometry) (w : Worker) → IsNew start layout w → HasKeptRoom w
@@ -152,7 +153,7 @@ module _ (p : Place) (m : ℕ) (image : ℕ → ℕ) (start : CoreStart) (layout
     space = λ runs. subst (HasSpaceFor w) (sym N.leading.1) tt;
     broken = λ t. absurd (let two : false ≡ true = t in cc two);
     lost = λ t. absurd (let two : false ≡ true = sym (ap is_lost N.leading.1) ∙ t in cc two);
-    cleaning = subst IsSmall (sym N.cleaning) tt;
+    cleaning = N.cleaning;
     remembers = λ runs k own idle. start_keys.remembers p image at.place at.rules m at.member start.index at.found.index k own w.index start.core core_is N.index;
   }
 
@@ -178,8 +179,14 @@ module _ (p : Place) (m : ℕ) (image : ℕ → ℕ) (start : CoreStart) (layout
   pub order_now : InOrder p m v w
   order_now = record {
     owned = λ q b t. start_blocks.Owned.own (start_blocks.owned p image at.place at.rules m at.member start.allocator at.made.allocator_layout at.made.allocator_part at.found.allocator q b t);
-    single = λ runs q b t. inl (points_there q b t);
-    heard = λ runs k n waits. N.index.none k n (subst (λ (h : ℕ). Awaits (known_at w.index k) h n) (sym core_is) waits);
+    single = λ q b t. inl (points_there q b t);
+    distinct = λ k q points here. subst (λ (o : Option Pending). PointsAt o q) (no_pending k) points;
+    heard = λ k n waits. N.index.none k n (subst (λ (h : ℕ). Awaits (known_at w.index k) h n) (sym core_is) waits);
+    told = λ k n none. told_none (eqb (owner p k) m) (owner p k) (home_of p image k n) (is_dead p image k n) none;
+    next = λ k q t. pends k q t;
+    spelled = λ k q t. pends k q t;
+    recalls = λ k own busy none. idle k busy;
+    hand = λ works. N.hand;
     versions = λ k n s now. elim (cases_eq (layouts.owner p.layout k) c) [
       | inl mine ↦ start_keys.below p image at.place at.rules m at.member start.index at.found.index k (own_of p m k (entries.some_group p image at.place at.rules) at.member mine) w.index start.core core_is N.index n s now
       | inr other ↦ absurd (others k n s other now)

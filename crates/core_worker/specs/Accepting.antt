@@ -1,17 +1,19 @@
 -- Accepting a request: it is held behind those of its key, or begun.
-use Rattle.std.specs.Prelude.{◌≡◌, ◌⊎◌, ℕ, ◌+◌, ◌≤◌, true, false, None}
+use Rattle.std.specs.Prelude.{◌≡◌, ◌⊎◌, ℕ, ◌+◌, ◌≤◌, true, false, List, ◌++◌, map, Option, None}
 use Rattle.pm_region.specs.State.{State, IsTelling}
 use Rattle.fs_model.specs.declared.model.Request.{Request}
 use Rattle.fs_model.specs.Cells.{key_of}
 use Rattle.conflict_queue.specs.Waiting.{AddsLast, held_with}
 use Rattle.core_index.specs.Index.{known_at, room_at}
 use Rattle.group_laws.specs.Places.{owner}
+use Rattle.group_laws.specs.State.{Group}
 use Rattle.group_laws.specs.MemberViews.{View}
 use Rattle.core_worker.specs.declared.worker.Worker.{Worker}
 use Rattle.core_worker.specs.OwnPlaces.{is_busy}
 use Rattle.core_worker.specs.Refusals.{HasAnswerRoom}
-use Rattle.core_worker.specs.Beginning.{OnlyBegins, Begins}
+use Rattle.core_worker.specs.Beginning.{answers_of, OnlyBegins, Begins}
 use Rattle.core_worker.specs.Ties.{Tie, HoldsBy, StandsBy}
+use Rattle.core_worker.specs.WorkerMoves.{Fixed, told, hands_of, WorkerMoves}
 
 -- nothing but the room for records and answers is another one
 pub record IsAsBefore (old new : Worker) : Type 0 where
@@ -49,3 +51,9 @@ Accepts v old new n r = (mid : Worker) × IsAsBefore old mid × Prepared old mid
 -- by each view that the worker may be tied to, where the region tells
 abbrev pub AcceptsByEachView : State → Worker → Worker → ℕ → Request → Type 0
 AcceptsByEachView s old new n r = (t : Tie) → IsTied s old (key_of r) t → IsTelling s → Accepts t.view old new n r
+
+-- These requests were accepted, and what was fixed with them is what the worker answers besides, wherever it is tied and whatever the state of its group: a call that makes no step.
+pub record AcceptMoves (s : State) (old new : Worker) (k : ℕ) (accepted : List (ℕ × Request)) : Type 0 where
+  pub fixed : List Fixed
+  pub answers : IsTelling s → answers_of new ≡ answers_of old ++ map told fixed
+  pub moves : (t : Tie) → IsTied s old k t → IsTelling s → (a : Option Group) → WorkerMoves t.place t.number s s a a t.view t.view (hands_of t.view old) (hands_of t.view new) accepted fixed

@@ -5,9 +5,15 @@ pub mod Ties
 pub mod Order
 pub mod Refusals
 pub mod Beginning
+pub mod Serving
+pub mod Hearing
+pub mod Finishing
+pub mod Stopping
 pub mod Accepting
 pub mod Turns
+pub mod Searching
 pub mod WorkerMoves
+pub mod Turning
 pub mod Posting
 pub mod Status
 pub mod Openings

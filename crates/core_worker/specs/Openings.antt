@@ -1,16 +1,11 @@
 -- What a worker begins with, where recovery gave its start.
-use Rattle.std.specs.Prelude.{◌≡◌, ℕ, ◌+◌, ◌<◌, ◌≤◌, ◌==◌, ◌&&◌, Bool, true, false, List, [], length, Option, Some, None, option_map, if◌then◌else◌}
+use Rattle.std.specs.Prelude.{◌≡◌, ℕ, ◌<◌, ◌≤◌, false, [], length, None}
 use Rattle.std.specs.VecDeque.{deque_len}
-use Rattle.log_entry.specs.declared.entry.Body.{Body}
 use Rattle.pm_region.specs.State.{State, IsTelling, cell_now}
 use Rattle.pm_region.specs.Words.{Surely}
 use Rattle.chunk_map.specs.declared.layouts.Geometry.{Geometry}
 use Rattle.store_image.specs.Facts.{KeepsRules}
 use Rattle.core_log.specs.Log.{StandsIn}
-use Rattle.core_index.specs.Index.{known_at, SameRoom}
-use Rattle.core_index.specs.Records.{KeyRecord, Awaits, is_dead, standing_at, standing_of, standing_with}
-use Rattle.core_index.specs.Slots as slots
-use Rattle.core_index.specs.declared.types.Standing.{Standing}
 use Rattle.lazy_alloc.specs.Written.{PartLies}
 use Rattle.recover.specs.declared.types.CoreStart.{CoreStart}
 use Rattle.recover.specs.Heads.{IsStartOf}
@@ -23,26 +18,8 @@ use Rattle.core_worker.specs.declared.types.Cleaning.TheVariants.{Nothing}
 use Rattle.core_worker.specs.declared.types.Place.TheVariants.{Free}
 use Rattle.core_worker.specs.declared.worker.Worker.{Worker}
 use Rattle.core_worker.specs.OwnPlaces.{place_at}
+use Rattle.core_worker.specs.Hearing.{HearsAll}
 use Rattle.core_worker.specs.Ties.{LeadsNothing}
-
--- the version is dead, as the record of its key has it
-abbrev pub is_dead_by : Option KeyRecord → ℕ → Bool
-is_dead_by None n = false
-is_dead_by (Some r) n = is_dead r n
-
--- an entry of a key with this record, where the dead ones that stand at a home were told
-abbrev pub heard_at : ℕ → Option KeyRecord → ℕ → Standing → Standing
-heard_at home o n s = if s.home == home && is_dead_by o n then standing_with s.version s.home true else s
-
-abbrev pub last_change : KeyRecord → ℕ × Body
-last_change r = (r.version, r.body)
-
--- Exactly the dead entries that stand at this home were told, so that none waits, and nothing else changed.
-pub record HearsAll (home : ℕ) (old new : List (ℕ × slots.Place)) : Type 0 where
-  pub changes : (k : ℕ) → option_map last_change (known_at new k) ≡ option_map last_change (known_at old k)
-  pub standing : (k n : ℕ) → standing_at (standing_of (known_at new k)) n ≡ option_map (heard_at home (known_at old k) n) (standing_at (standing_of (known_at old k)) n)
-  pub room : SameRoom old new
-  pub none : (k n : ℕ) → Awaits (known_at new k) home n → ⊥
 
 -- Whatever the region tells: the parts of the start are the worker's, the dead names of its own log were told, no request was accepted and nothing is led.
 pub record IsNew (start : CoreStart) (layout : Geometry) (w : Worker) : Type 0 where
@@ -73,6 +50,10 @@ pub record IsStartAt (p : Place) (m : ℕ) (image : ℕ → ℕ) (start : CoreSt
   pub rules : KeepsRules p.layout image
   pub made : IsStart p.layout (core_of p m) start
   pub found : IsStartOf p.layout image (core_of p m) start
+
+-- by each image of which it is that, of this layout
+abbrev pub ByEachImage : CoreStart → Geometry → (Place → ℕ → (ℕ → ℕ) → Type 0) → Type 0
+ByEachImage start layout P = (p : Place) (m : ℕ) (image : ℕ → ℕ) → layout ≡ p.layout → IsStartAt p m image start → P p m image
 
 -- The member's part lies in the region and has the image's words, each of them certain, and the log stands there.
 pub record IsCertainAt (s : State) (p : Place) (m : ℕ) (image : ℕ → ℕ) (start : CoreStart) : Type 0 where

@@ -1,17 +1,20 @@
 -- One turn of a core as a relation of what it was and what it is: which item it did, what it loaded before, and why it passed the items before that one.
 use Rattle.std.specs.Prelude.{◌≡◌, ◌≢◌, ◌⊎◌, ℕ, ◌+◌, ◌<◌, Bool, true, false, List, [], ◌∷◌, ◌++◌, length, map, Option, Some, None, MatchOption}
+use Rattle.pm_region.specs.State.{State}
 use Rattle.fs_model.specs.declared.model.Reply.{Reply}
 use Rattle.fs_model.specs.declared.model.Reply.TheVariants.{Stored, Deleted, Stopped}
 use Rattle.log_entry.specs.declared.entry.Entry.{Entry}
 use Rattle.log_entry.specs.declared.entry.Body.{Body}
 use Rattle.log_entry.specs.declared.entry.Body.TheVariants as bodies
 use Rattle.store_image.specs.Facts.{In}
+use Rattle.group_laws.specs.declared.types.Seen.{Seen}
 use Rattle.group_laws.specs.declared.types.Seen.TheVariants.{Slot, Holder}
 use Rattle.group_laws.specs.declared.types.SlotWord.{SlotWord}
 use Rattle.group_laws.specs.declared.types.SlotWord.TheVariants as words
 use Rattle.group_laws.specs.Places.{Place, core_of}
 use Rattle.group_laws.specs.State.{Group}
 use Rattle.group_laws.specs.Runs.{Kind}
+use Rattle.group_laws.specs.Runs.Kind.{Look}
 use Rattle.log_entry.specs.Spelling.{words_of}
 use Rattle.core_log.specs.Chunk.{lines_for, padded}
 use Rattle.core_log.specs.Log.{LogState, with_tail, open_number, open_tail}
@@ -39,8 +42,9 @@ use Rattle.core_worker.specs.declared.types.Place.TheVariants.{Free, Staged, Pos
 use Rattle.core_worker.specs.declared.worker.Worker.{Worker}
 use Rattle.core_worker.specs.OwnPlaces.{place_at, is_staged, is_posted, IsLowest, HasNone, Replaces}
 use Rattle.core_worker.specs.Ties.{LeadsNothing}
+use Rattle.core_worker.specs.Order.{InOrder}
 use Rattle.core_worker.specs.Supplies.{room_for}
-use Rattle.core_worker.specs.Beginning.{answers_of, answer_with, BeginsWaiting}
+use Rattle.core_worker.specs.Finishing.{FinishesSlot}
 
 -- some steps of member m lead from the one told state to the other
 abbrev pub Steps : Option Group → Option Group → ℕ → View → Type 0
@@ -55,6 +59,10 @@ MadeOrStops false before after m v u = Steps before after m u
 pub record Moment : Type 0 where
   pub worker : Worker
   pub view : View
+
+-- the same at a seat
+abbrev pub InOrderAt : SeatAt → View → Worker → Type 0
+InOrderAt seat v w = InOrder seat.place seat.number v w
 
 -- nothing but what it leads differs
 abbrev pub SameButLeading : Worker → Worker → Type 0
@@ -174,11 +182,24 @@ pub record Fails (a b : Moment) : Type 0 where
   pub view : b.view ≡ after_fail first.member first.slot a.view
   pub same : SameButLeading a.worker b.worker
 
--- What the loads of a turn found: of its posted places, lowest first, each slot up to the first that is given back.
+-- What the loads of this turn found: of its posted places, lowest first, each slot up to a place. Loads of earlier turns don't count.
 pub record Looked (m : ℕ) (a : Moment) (upto : ℕ) (v : View) : Type 0 where
   pub found : ℕ → SlotWord
-  pub view : HasLooked a.view v
-  pub seen : (s : ℕ) → s < upto → is_posted (place_at a.worker.places.items s) ≡ true → In (Slot m s (found s)) v.looked
+  pub looks : List Seen
+  pub view : v ≡ record a.view { looked = a.view.looked ++ looks }
+  pub seen : (s : ℕ) → s < upto → is_posted (place_at a.worker.places.items s) ≡ true → In (Slot m s (found s)) looks
+
+-- below a place a posted one was found that nobody had taken
+abbrev pub FindsPosted : List WorkerPlace → (ℕ → SlotWord) → ℕ → Type 0
+FindsPosted ps found upto = (s n : ℕ) × (s < upto) × (is_posted (place_at ps s) ≡ true) × (found s ≡ words.Posted n)
+
+-- loads of own slots
+abbrev pub looks_at : ℕ → List ℕ → List (ℕ × Kind)
+looks_at m ss = map (λ s. (m, Look m s)) ss
+
+-- and no other step
+abbrev pub LooksMade : Option Group → Option Group → ℕ → View → Type 0
+LooksMade before after m v = (slots : List ℕ) × MakesAll before (looks_at m slots) after m v
 
 abbrev pub IsBack : SlotWord → Type 0
 IsBack words.Empty = ⊥
@@ -193,45 +214,12 @@ pub record PassesItems (m : ℕ) (a : Moment) (upto : ℕ) (v : View) : Type 0 w
   pub looked : Looked m a upto v
   pub none : (s : ℕ) → s < upto → is_posted (place_at a.worker.places.items s) ≡ true → IsBack (looked.found s) → ⊥
 
--- the reply of a change that is done, by what its entry leaves
-abbrev pub done_reply : Body → Reply
-done_reply (bodies.Pointer q) = Stored
-done_reply (bodies.Embedded u) = Stored
-done_reply bodies.Tombstone = Deleted
-
-abbrev pub PutsBackIf : Sets → Sets → Option ℕ → Type 0
-PutsBackIf old new None = new ≡ old
-PutsBackIf old new (Some q) = PutsBack old new q
-
-abbrev pub MatchReply : Option ℕ → Body → Reply
-MatchReply None body = Stopped
-MatchReply (Some h) body = done_reply body
-
--- Item 4: the lowest posted place that is found given back is finished, and then the key's waiting requests are begun.
-pub record Finishes (p : Place) (m : ℕ) (a b : Moment) : Type 0 where
+-- Item 4: the lowest posted place that is found given back is finished, and then the key's waiting requests are begun; `all` where there was memory for it.
+pub record Finishes (s : State) (p : Place) (m : ℕ) (a b : Moment) (all : Bool) : Type 0 where
   pub slot : ℕ
-  pub number : ℕ
-  pub key : ℕ
-  pub lines : ℕ
   pub mid : View
   pub before : PassesItems m a slot mid
-  pub place : place_at a.worker.places.items slot ≡ Posted number key lines
-  pub entry : Entry
-  pub home : Option ℕ
-  pub seen : MatchOption home (In (Slot m slot words.Failed) mid.looked) (λ h. In (Slot m slot (words.Done h)) mid.looked)
-  pub view : MatchOption home (TidiedIn p m (after_give_up entry mid) b.view) (λ h. TidiedIn p m (after_finish entry h mid) b.view)
-  -- after the change is settled and its place is free, before the waiting ones are begun
-  pub settled_now : Worker
-  pub places : Replaces a.worker.places.items settled_now.places.items slot Free
-  pub answers : answers_of settled_now ≡ answers_of a.worker ++ answer_with number (MatchReply home entry.body) None ∷ []
-  pub record_now : MatchOption home (known_at settled_now.index key ≡ known_at a.worker.index key)
-      (λ h. (known_at settled_now.index key ≡ Some (settled (known_at a.worker.index key) entry.version entry.body (core_of p h)))
-      ⊎ ((is_forgettable (Some (settled (known_at a.worker.index key) entry.version entry.body (core_of p h))) ≡ true) × (known_at settled_now.index key ≡ None)))
-  pub other_records : (k : ℕ) → k ≢ key → known_at settled_now.index k ≡ known_at a.worker.index k
-  pub block : MatchOption home (settled_now.allocator ≡ a.worker.allocator) (λ h. PutsBackIf a.worker.allocator settled_now.allocator (block_of (known_at a.worker.index key)))
-  pub stops : MatchOption home (settled_now.stopped ≡ true) (λ h. settled_now.stopped ≡ a.worker.stopped)
-  pub same : settled_now ≡ record a.worker { places = settled_now.places; answers = settled_now.answers; index = settled_now.index; allocator = settled_now.allocator; stopped = settled_now.stopped }
-  pub begins : ((a.worker.winds_down ≡ true) × (b.worker ≡ settled_now)) ⊎ ((a.worker.winds_down ≡ false) × BeginsWaiting settled_now b.worker (b.view.cell key) key)
+  pub finishes : FinishesSlot s p m slot mid b.view a.worker b.worker all
 
 -- Item 5: the lowest staged place writes its block, where it has one, and posts.
 pub record Posts (m : ℕ) (a b : Moment) : Type 0 where
@@ -245,29 +233,41 @@ pub record Posts (m : ℕ) (a b : Moment) : Type 0 where
   pub runs : (a.worker.stopped ≡ false) × (a.worker.winds_down ≡ false)
   pub lowest : IsLowest is_staged a.worker.places.items slot
   pub place : place_at a.worker.places.items slot ≡ Staged number entry value
+  pub pledges : lines ≡ lines_for (length (words_of entry))
   pub places : Replaces a.worker.places.items b.worker.places.items slot (Posted number entry.key lines)
   pub view : b.view ≡ after_post slot entry value mid
   pub same : b.worker ≡ record a.worker { places = b.worker.places; allocator = b.worker.allocator }
 
--- Item 7: an own slot was found Posted, and the lock is tried.
-pub record Locks (m : ℕ) (a b : Moment) : Type 0 where
+-- Item 5 at a fault: the block of the lowest staged change couldn't be written. The change stays staged, and the core stops.
+pub record LosesBlock (m : ℕ) (a b : Moment) : Type 0 where
+  pub slot : ℕ
   pub mid : View
   pub before : PassesItems m a 8 mid
-  pub posted : (s n : ℕ) × In (Slot m s (words.Posted n)) mid.looked
-  pub view : b.view ≡ after_lock mid
-  pub leads_now : (c : Collecting) × (b.worker.leading ≡ leads.Collecting c) × (c.at ≡ 0)
-  pub same : SameButLeading a.worker b.worker
+  pub runs : (a.worker.stopped ≡ false) × (a.worker.winds_down ≡ false)
+  pub lowest : IsLowest is_staged a.worker.places.items slot
+  pub view : b.view ≡ mid
+  pub same : b.worker ≡ record a.worker { allocator = b.worker.allocator; stopped = true }
 
 -- Why item 5 is passed: nothing is staged, the gate answered false, or the worker winds down.
 abbrev pub PassesPost : Bool → Worker → Type 0
 PassesPost refused w = HasNone is_staged w.places.items ⊎ ((refused ≡ true) ⊎ (w.winds_down ≡ true))
+
+-- Item 7: an own slot was found Posted, and the lock is tried and had.
+pub record Locks (refused : Bool) (m : ℕ) (a b : Moment) : Type 0 where
+  pub mid : View
+  pub before : PassesItems m a 8 mid
+  pub post : PassesPost refused a.worker
+  pub posted : FindsPosted a.worker.places.items before.looked.found 8
+  pub view : b.view ≡ after_lock mid
+  pub leads_now : (c : Collecting) × (b.worker.leading ≡ leads.Collecting c) × (c.at ≡ 0)
+  pub same : SameButLeading a.worker b.worker
 
 -- Item 8: nothing applied. No own slot was found Posted, or the try found a holder.
 pub record Idles (refused : Bool) (m : ℕ) (a b : Moment) : Type 0 where
   pub mid : View
   pub before : PassesItems m a 8 mid
   pub post : PassesPost refused a.worker
-  pub lock : (((s n : ℕ) → In (Slot m s (words.Posted n)) mid.looked → ⊥) × (b.view ≡ mid)) ⊎ ((h : ℕ) × (h ≢ m) × In (Holder h) b.view.looked × HasLooked a.view b.view)
+  pub lock : ((FindsPosted a.worker.places.items before.looked.found 8 → ⊥) × (b.view ≡ mid)) ⊎ (FindsPosted a.worker.places.items before.looked.found 8 × ((h : ℕ) × (h ≢ m) × (b.view ≡ after_find (Holder h) mid)))
   pub free : LeadsNothing b.worker
   pub same : SameButLeading a.worker b.worker
 

@@ -20,10 +20,13 @@ use Rattle.group_laws.specs.Runs.{Kind, Runs}
 use Rattle.group_laws.specs.MemberViews.{View}
 use Rattle.group_board.specs.Views.{left_in}
 use Rattle.licence.specs.Licence.{Licensed, part_at, part_end}
+use Rattle.core_room.specs.declared.types.Shortage.{Shortage}
+use Rattle.core_worker.specs.declared.types.Answer.{Answer}
 use Rattle.core_worker.specs.declared.types.Place.{Place}
 use Rattle.core_worker.specs.declared.types.Place.TheVariants as kinds
 use Rattle.core_worker.specs.declared.worker.Worker.{Worker}
 use Rattle.core_worker.specs.OwnPlaces.{key_in, is_of, request_by, request_pending}
+use Rattle.core_worker.specs.Beginning.{answer_with}
 
 -- a change in a place
 pub record Placed : Type 0 where
@@ -64,11 +67,16 @@ placed (Some x) = (x.number, x.request) ∷ []
 abbrev pub line_in : Hands → ℕ → List (ℕ × Request)
 line_in w k = placed (w.place k) ++ w.waits k
 
--- an answer that a call fixed, with its request
+-- an answer that a call fixed, with its request, and with the cause of a refusal
 pub record Fixed : Type 0 where
   pub number : ℕ
   pub request : Request
   pub reply : Reply
+  pub refusal : Option Shortage
+
+-- the answer that is given out
+abbrev pub told : Fixed → Answer
+told x = answer_with x.number x.reply x.refusal
 
 abbrev pub asked : Fixed → ℕ × Request
 asked x = (x.number, x.request)
@@ -101,12 +109,12 @@ pub record AnswersKey (v u : View) (w x : Hands) (k : ℕ) (accepted : List (ℕ
   -- a posted change stays as it is, or is the first that is answered
   pub posted : (y : Placed) → w.place k ≡ Some y → y.posted ≡ true
       → ((fixed ≡ []) × (x.place k ≡ Some y))
-      ⊎ ((r : Reply) × (rest : List Fixed) × (fixed ≡ record { number = y.number; request = y.request; reply = r } ∷ rest) × ((is_finish r ≡ true) ⊎ (r ≡ Stopped)))
+      ⊎ ((r : Reply) × (rest : List Fixed) × (fixed ≡ record { number = y.number; request = y.request; reply = r; refusal = None } ∷ rest) × ((is_finish r ≡ true) ⊎ (r ≡ Stopped)))
   -- a change in doubt was so before, or was posted and is answered Stopped
   pub doubt : (d : Entry) → u.pending k ≡ Some (record { entry = d; slot = None })
       → (v.pending k ≡ Some (record { entry = d; slot = None }))
       ⊎ ((y : Placed) × (rest : List Fixed) × (s : ℕ) × (w.place k ≡ Some y) × (y.posted ≡ true) × (v.pending k ≡ Some (record { entry = d; slot = Some s }))
-      × (fixed ≡ record { number = y.number; request = y.request; reply = Stopped } ∷ rest) × (left_in u.blocks d.body ≡ left_in v.blocks d.body))
+      × (fixed ≡ record { number = y.number; request = y.request; reply = Stopped; refusal = None } ∷ rest) × (left_in u.blocks d.body ≡ left_in v.blocks d.body))
 
 -- One call of the worker of member m: of the region from s to t, of the group's state where it is told, of the view from v to u, and of what it holds.
 pub record WorkerMoves (p : places.Place) (m : ℕ) (s t : State) (before after : Option Group) (v u : View) (w x : Hands) (accepted : List (ℕ × Request)) (fixed : List Fixed) : Type 0 where

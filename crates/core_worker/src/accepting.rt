@@ -1,5 +1,5 @@
 // Accepting a request, and beginning those that waited.
-ghost use Rattle.std.specs.Prelude.{◌≡◌, ◌≢◌, ◌⊎◌, ℕ, ◌+◌, ◌<◌, ◌≤◌, List, [], length, Option, Some, None, true, false, IfOk, IfErr, OnOk, OnErr};
+ghost use Rattle.std.specs.Prelude.{◌≡◌, ◌≢◌, ◌⊎◌, ℕ, ◌+◌, ◌<◌, ◌≤◌, List, [], ◌∷◌, length, Option, Some, None, true, false, IfOk, IfErr, OnOk, OnErr};
 ghost use Rattle.pm_region.specs.State.{State, IsTelling};
 ghost use Rattle.fs_model.specs.Cells.{key_of};
 ghost use Rattle.conflict_queue.specs.Waiting.{AddsLast, held_with};
@@ -9,7 +9,7 @@ ghost use Rattle.core_worker.specs.declared.types.Leading.TheVariants as leads;
 ghost use Rattle.core_worker.specs.OwnPlaces.{is_busy};
 ghost use Rattle.core_worker.specs.Supplies.{HasKeptRoom};
 ghost use Rattle.core_worker.specs.Refusals.{HasAnswerRoom};
-ghost use Rattle.core_worker.specs.Accepting.{Prepared, HasTie, StaysTied, AcceptsByEachView, IsAsBefore};
+ghost use Rattle.core_worker.specs.Accepting.{Prepared, HasTie, StaysTied, AcceptsByEachView, AcceptMoves, IsAsBefore};
 ghost use Rattle.core_worker.specs.Status.{has_room, is_leading};
 
 use crate::refusing::key_of;
@@ -75,6 +75,10 @@ impl Worker {
         ensures rule { HasKeptRoom self.old → HasKeptRoom self.new }
         ensures given_back { IfErr result (λ back. back.request ≡ request) }
         ensures unchanged { OnErr result (IsAsBefore self.old self.new) }
+        ensures moves { OnOk result (AcceptMoves (R.state region.now) self.old self.new
+            (key_of request) ((number, request) ∷ [])) }
+        ensures stays { OnErr result (AcceptMoves (R.state region.now) self.old self.new
+            (key_of request) []) }
     {
         let key = key_of(&request);
         if !self.prepare(alloc, key) {

@@ -17,6 +17,7 @@ ghost use Rattle.core_room.specs.Lengths.{lines_needed};
 ghost use Rattle.core_worker.specs.Refusals.{HasAnswerRoom};
 ghost use Rattle.core_worker.specs.Beginning.{answer_with, HasFree, IsAside, StandsAside, KeepsTies, ByEachView, OnlyStages, OnlyBegins, IsStaged, Begins};
 ghost use Rattle.core_worker.specs.Ties.{LeadsNothing};
+ghost use Rattle.core_worker.specs.Serving.{KeepsLine, LeadsNothingYet};
 
 use crate::posting::place_in;
 use crate::refusing::{key_of, reply_for};
@@ -235,6 +236,7 @@ impl Worker {
             ⊎ (is_busy self.new.places.items (key_of request) ≡ true)) }
         ensures busy { OnOk result ((k : ℕ) → is_busy self.old.places.items k ≡ true
             → is_busy self.new.places.items k ≡ true) }
+        ensures line { OnOk result (KeepsLine self.old self.new (key_of request)) }
         ensures given_back { IfErr result (λ back. back.request ≡ request) }
         ensures unchanged { OnErr result (self.new ≡ self.old) }
     {
@@ -291,6 +293,7 @@ impl Worker {
             ⊎ (is_busy self.new.places.items (key_of request) ≡ true)) }
         ensures busy { OnOk result ((k : ℕ) → is_busy self.old.places.items k ≡ true
             → is_busy self.new.places.items k ≡ true) }
+        ensures line { OnOk result (KeepsLine self.old self.new (key_of request)) }
         ensures given_back { IfErr result (λ back. back.request ≡ request) }
         ensures unchanged { OnErr result (self.new ≡ self.old) }
     {
@@ -316,7 +319,7 @@ impl Worker {
         request: Request,
     ) -> Result<(), NotAccepted>
         requires tied { StandsAside (R.state region.now) self.old (key_of request) }
-        requires nothing { LeadsNothing self.old }
+        requires nothing { LeadsNothingYet self.old }
         requires idle { is_busy self.old.places.items (key_of request) ≡ false }
         requires room { 0 < room_at self.old.index (key_of request) }
         requires place { HasFree self.old.places.items }
@@ -332,6 +335,7 @@ impl Worker {
             ⊎ (is_busy self.new.places.items (key_of request) ≡ true)) }
         ensures busy { OnOk result ((k : ℕ) → is_busy self.old.places.items k ≡ true
             → is_busy self.new.places.items k ≡ true) }
+        ensures line { OnOk result (KeepsLine self.old self.new (key_of request)) }
         ensures given_back { IfErr result (λ back. back.request ≡ request) }
         ensures unchanged { OnErr result (self.new ≡ self.old) }
     {

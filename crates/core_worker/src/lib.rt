@@ -3,16 +3,22 @@
 
 mod accepting;
 mod beginning;
+mod choosing;
+mod finishing;
 mod gate;
+mod hearing;
 mod leading;
 mod opening;
 mod posting;
 mod refusing;
 mod releasing;
+mod searching;
 mod status;
+mod stopping;
 mod supply;
 #[cfg(test)]
 mod tests;
+mod turning;
 mod types;
 mod worker;
 

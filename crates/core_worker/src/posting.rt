@@ -19,6 +19,8 @@ ghost use Rattle.core_worker.specs.OwnPlaces.{place_at, Replaces};
 ghost use Rattle.core_worker.specs.Supplies.{HasKeptRoom};
 ghost use Rattle.batch_leader.specs.Persisting.{StaysLicensed, WritesPart};
 ghost use Rattle.core_worker.specs.Ties.{HoldsAt, KeepsStanding, LeadsNothing, Stands, StandsAt};
+ghost use Rattle.core_worker.specs.Turns.{InOrderAt};
+ghost use Rattle.core_worker.specs.WorkerMoves.{hands_of, WorkerMoves};
 ghost use Rattle.core_worker.specs.Posting.{HasNoBlock, PostsPlain, IsStagedWith, WouldStand, PostsOrStops};
 
 use crate::types::Place;
@@ -153,6 +155,12 @@ impl Worker {
         ensures rule { HasKeptRoom self.old → HasKeptRoom self.new }
         ensures posts { PostsPlain (B.seat board.old).number (B.whole board.old)
             (B.whole board.new) (B.view board.old) (B.view board.new) self.old self.new slot }
+        ensures moves { (s : State) → StandsAt s (B.seat board.old) (B.view board.old) self.old
+            → WorkerMoves (B.seat board.old).place (B.seat board.old).number s s
+            (B.whole board.old) (B.whole board.new) (B.view board.old) (B.view board.new)
+            (hands_of (B.view board.old) self.old) (hands_of (B.view board.new) self.new) [] [] }
+        ensures order { InOrderAt (B.seat board.old) (B.view board.old) self.old
+            → InOrderAt (B.seat board.old) (B.view board.new) self.new }
     {
         match swap_place(&mut self.places, slot, Place::Free) {
             Place::Staged {
@@ -232,6 +240,12 @@ impl Worker {
         ensures rule { HasKeptRoom self.old → HasKeptRoom self.new }
         ensures posts { PostsOrStops (B.seat board.old).number (B.whole board.old)
             (B.whole board.new) (B.view board.old) (B.view board.new) self.old self.new slot }
+        ensures moves { WorkerMoves (B.seat board.old).place (B.seat board.old).number
+            (R.state region.old) (R.state region.new) (B.whole board.old) (B.whole board.new)
+            (B.view board.old) (B.view board.new) (hands_of (B.view board.old) self.old)
+            (hands_of (B.view board.new) self.new) [] [] }
+        ensures order { InOrderAt (B.seat board.old) (B.view board.old) self.old
+            → InOrderAt (B.seat board.old) (B.view board.new) self.new }
         ensures cause { self.new.stopped ≡ true
             → Rose (R.state region.old).faults (R.state region.new).faults }
     {

@@ -8,8 +8,10 @@ ghost use Rattle.core_worker.specs.declared.types.Leading.TheVariants as leads;
 ghost use Rattle.core_worker.specs.OwnPlaces.{is_busy};
 ghost use Rattle.core_worker.specs.Supplies.{HasKeptRoom};
 ghost use Rattle.core_worker.specs.Refusals.{HasAnswerRoom};
-ghost use Rattle.core_worker.specs.Beginning.{HasFree, StandsAside, KeepsTies, ByEachView, BeginsAll};
-ghost use Rattle.core_worker.specs.Ties.{LeadsNothing};
+ghost use Rattle.core_worker.specs.Beginning.{HasFree, StandsAside, KeepsTies, ByEachView, BeginsAll, BeginsShort};
+ghost use Rattle.core_worker.specs.Finishing.{IsReady, IsServed, IsToServe, ServesByEachView, ServesShort};
+ghost use Rattle.core_worker.specs.Ties.{Tie};
+ghost use Rattle.core_worker.specs.Serving.{AllWait, KeepsOrders, LeadsNothingYet, OnlyServes, OthersWait};
 
 use crate::accepting::is_busy;
 use crate::worker::Worker;
@@ -29,16 +31,23 @@ impl Worker {
         key: Key,
     ) -> Result<(), Memory>
         requires tied { StandsAside (R.state region.now) self.old key }
-        requires nothing { LeadsNothing self.old }
+        requires nothing { LeadsNothingYet self.old }
         requires idle { is_busy self.old.places.items key ≡ false }
         requires room { length (waiting self.old.queue key) ≤ room_at self.old.index key }
         requires place { HasFree self.old.places.items }
         requires answers { HasAnswerRoom (length (waiting self.old.queue key)) self.old }
+        requires others { OthersWait self.old key }
+        requires hand { self.old.in_hand ≡ None }
         ensures keeps { KeepsTies self.old self.new key }
         ensures begins { OnOk result (ByEachView (R.state region.now) self.old key
             (λ v. BeginsAll (waiting self.old.queue key) self.old self.new (v.cell key) key)) }
+        ensures short { OnErr result (ByEachView (R.state region.now) self.old key
+            (λ v. BeginsShort (waiting self.old.queue key) self.old self.new (v.cell key) key)) }
         ensures rule { HasKeptRoom self.old → HasKeptRoom self.new }
         ensures memory { OnErr result (self.new.winds_down ≡ true) }
+        ensures waits { AllWait self.new }
+        ensures order { KeepsOrders self.old self.new key }
+        ensures rest { OnlyServes self.old self.new }
     {
         match self.queue.release(key) {
             None => {
@@ -64,5 +73,29 @@ impl Worker {
                 }
             }
         }
+    }
+
+    // Begins what waits of a key, until it is busy again or the core winds down.
+    pub(crate) fn serve<R: Region>(
+        &mut self,
+        alloc: Global,
+        region: &R,
+        key: Key,
+    ) -> Result<(), Memory>
+        requires tied { (t : Tie) × IsToServe (R.state region.now) self.old key t }
+        requires ready { IsReady self.old key }
+        ensures ties { (s : State) (t : Tie) → IsToServe s self.old key t
+            → IsServed s self.new t }
+        ensures begins { OnOk result
+            (ServesByEachView (R.state region.now) self.old self.new key) }
+        ensures short { OnErr result (ServesShort (R.state region.now) self.old self.new key) }
+        ensures rule { HasKeptRoom self.old → HasKeptRoom self.new }
+        ensures memory { OnErr result (self.new.winds_down ≡ true) }
+        ensures rest { OnlyServes self.old self.new }
+    {
+        if self.winds_down {
+            return Ok(());
+        }
+        self.begin_waiting(alloc, region, key)
     }
 }

@@ -47,14 +47,16 @@ const TWO_GROUPS: [(usize, u64); 25] = [
 
 /// The bytes of these words, and zeros.
 fn bytes_of(alloc: Global, writes: &[(usize, u64)]) -> Result<Vec<u8>, Memory> {
-    let mut bytes = vec![in alloc; 0u8; 135_168]?;
+    let mut words = vec![in alloc; 0u64; 16_896]?;
     for (at, word) in writes {
-        let mut place = 8 * (*at % 16_896);
+        if *at < words.len() {
+            words[*at] = *word;
+        }
+    }
+    let mut bytes = Vec::with_capacity(alloc, 135_168)?;
+    for word in words {
         for byte in word.to_le_bytes() {
-            if place < bytes.len() {
-                bytes[place] = byte;
-            }
-            place += 1;
+            bytes.push(byte)?;
         }
     }
     Ok(bytes)
@@ -103,7 +105,10 @@ fn get(alloc: Global, region: &SteadyRegion, core: u32, key: Key) -> Result<Opti
     let Some(mut worker) = opened(alloc, region, core)? else {
         return Ok(None);
     };
-    if worker.accept(alloc, region, 7, Request::Get { key }).is_err() {
+    if worker
+        .accept(alloc, region, 7, Request::Get { key })
+        .is_err()
+    {
         return Ok(None);
     }
     match worker.next_answer() {

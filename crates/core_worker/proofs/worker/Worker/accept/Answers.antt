@@ -6,6 +6,7 @@ use Rattle.core_worker.specs.declared.worker.Worker.{Worker}
 use Rattle.core_worker.specs.OwnPlaces.{is_busy}
 use Rattle.core_worker.specs.Accepting.{Prepared}
 use Rattle.core_worker.proofs.Accepted.{room_place, room_node, leads_nothing, prepared_tie, held_tie, tied_aside, begun_tie, accepts_begun, prepared_room}
+use Rattle.core_worker.proofs.AcceptMoves.{accept_moves, back_moves, ok_accepts, err_accepts}
 use Rattle.core_worker.proofs.worker.Worker.accept.Goals as goal
 
 pub returns-then-not-prepare-clause-ties : goal.returns-then-not-prepare-clause-ties
@@ -39,7 +40,7 @@ begin-requires-clause-tied g c =
     (x, tied_aside s c.prepare.new.self k x T, T.stands)
 
 pub begin-requires-clause-nothing : goal.begin-requires-clause-nothing
-begin-requires-clause-nothing g c =
+begin-requires-clause-nothing g c runs =
     let n = leads_nothing (g.R.Region.state c.args.region.now) c.args.self.now (key_of c.args.request) c.requires.tied.0 c.requires.tied.1 c.requires.free in
     (n.0, ap (λ (x : Worker). x.leading) c.prepare.ensures.before.rest ∙ n.1)
 
@@ -67,3 +68,21 @@ returns-in-Err-clause-ties g c x T =
     let full = c.in-Err.ensures.full in
     let few = room_node c.args.self.now c.prepare.new.self c.prepare.ensures.before c.requires.room in
     absurd (omega (arith, full, few))
+
+pub returns-then-not-prepare-clause-stays : goal.returns-then-not-prepare-clause-stays
+returns-then-not-prepare-clause-stays g c = back_moves (g.R.Region.state c.args.region.now) c.args.self.now c.prepare.new.self (key_of c.args.request) c.prepare.ensures.before (returns-then-not-prepare-clause-ties g c)
+
+pub returns-in-Ok-clause-moves : goal.returns-in-Ok-clause-moves
+returns-in-Ok-clause-moves g c = accept_moves (g.R.Region.state c.args.region.now) c.args.self.now (record c.prepare.new.self { queue = c.hold.new.self }) c.args.number c.args.request c.requires.works c.requires.tied (returns-in-Ok-clause-ties g c) (returns-in-Ok-clause-accepts g c)
+
+pub returns-in-Err-clause-stays : goal.returns-in-Err-clause-stays
+returns-in-Err-clause-stays g c =
+    let full = c.in-Err.ensures.full in
+    let few = room_node c.args.self.now c.prepare.new.self c.prepare.ensures.before c.requires.room in
+    absurd (omega (arith, full, few))
+
+pub returns-clause-moves : goal.returns-clause-moves
+returns-clause-moves g c = ok_accepts c.begin.result (g.R.Region.state c.args.region.now) c.args.self.now c.begin.new.self c.args.number c.args.request c.requires.works c.requires.tied (returns-clause-ties g c) (returns-clause-accepts g c)
+
+pub returns-clause-stays : goal.returns-clause-stays
+returns-clause-stays g c = err_accepts c.begin.result (g.R.Region.state c.args.region.now) c.args.self.now c.prepare.new.self c.begin.new.self (key_of c.args.request) (returns-clause-ties g c) c.prepare.ensures.before c.begin.ensures.unchanged

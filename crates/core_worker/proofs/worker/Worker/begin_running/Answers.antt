@@ -10,6 +10,7 @@ use Rattle.core_worker.specs.Beginning.{answer_with}
 use Rattle.core_worker.proofs.Finding.{live_is}
 use Rattle.core_worker.proofs.Pointers.{measured}
 use Rattle.core_worker.proofs.Beginnings.{begins_refused, answered_holds, answered_stands, answered_busy, answered}
+use Rattle.core_worker.proofs.Serving.{line_answered}
 use Rattle.core_worker.proofs.worker.Worker.begin_running.Goals as goal
 
 pub refusal-requires : goal.refusal-requires
@@ -40,3 +41,6 @@ begin_unrefused-requires-clause-why g c cell live = sym (c.refusal.ensures cell 
 
 pub returns-in-Some-clause-rule : goal.returns-in-Some-clause-rule
 returns-in-Some-clause-rule g c = answered_room c.args.self.now c.answer.new.self c.answer.ensures.rest
+
+pub returns-in-Some-clause-line : goal.returns-in-Some-clause-line
+returns-in-Some-clause-line g c = line_answered c.args.self.now c.answer.new.self (key_of c.args.request) c.answer.ensures.rest c.answer.ensures.room

@@ -14,6 +14,7 @@ use Rattle.core_worker.specs.declared.worker.Worker.{Worker}
 use Rattle.fs_model.specs.Cells.{key_of, is_change}
 use Rattle.fs_model.specs.declared.model.Request.TheVariants as requests
 use Rattle.core_worker.proofs.Beginnings.{begins_staged, answered_holds, answered_stands, staged_busy, staged_keeps, answered_busy}
+use Rattle.core_worker.proofs.Serving.{line_answered, line_staged}
 use Rattle.core_worker.proofs.worker.Worker.begin_unrefused.Goals as goal
 
 pub returns-in-Ok-clause-keeps : goal.returns-in-Ok-clause-keeps
@@ -89,3 +90,15 @@ returns-in-Ok-clause-rule g c = answered_room c.args.self.now c.answer.new.self 
 
 pub returns-in-Delete-clause-rule : goal.returns-in-Delete-clause-rule
 returns-in-Delete-clause-rule g c = answered_room c.args.self.now c.answer-in-Delete.new.self c.answer-in-Delete.ensures.rest
+
+pub returns-in-Ok-clause-line : goal.returns-in-Ok-clause-line
+returns-in-Ok-clause-line g c = line_answered c.args.self.now c.answer.new.self (key_of c.args.request) c.answer.ensures.rest c.answer.ensures.room
+
+pub returns-in-Delete-clause-line : goal.returns-in-Delete-clause-line
+returns-in-Delete-clause-line g c = line_answered c.args.self.now c.answer-in-Delete.new.self (key_of c.args.request) c.answer-in-Delete.ensures.rest c.answer-in-Delete.ensures.room
+
+pub returns-in-Put-clause-line : goal.returns-in-Put-clause-line
+returns-in-Put-clause-line g c = line_staged c.args.self.now c.stage_put.new.self c.args.number (key_of c.args.request) (requests.Put c.in-Put.key c.in-Put.value) c.requires.runs c.stage_put.ensures.rest (ap key_of (sym c.in-Put.is)) c.stage_put.ensures.staged
+
+pub returns-then-live-clause-line : goal.returns-then-live-clause-line
+returns-then-live-clause-line g c = line_staged c.args.self.now c.stage_delete.new.self c.args.number (key_of c.args.request) (requests.Delete c.in-Delete.key) c.requires.runs c.stage_delete.ensures.rest (ap key_of (sym c.in-Delete.is)) c.stage_delete.ensures.staged

@@ -11,4 +11,4 @@ pub returns-clause-order : goal.returns-clause-order
 returns-clause-order c = λ p m image same at. order_now p m image c.args.start c.args.layout c.in_ok-worker.worker c.in_ok-worker.ensures same at
 
 pub returns-clause-stands : goal.returns-clause-stands
-returns-clause-stands c = λ s p m image same at here. stands_now p m image c.args.start c.args.layout c.in_ok-worker.worker c.in_ok-worker.ensures same at s here
+returns-clause-stands c = λ p m image same at s here. stands_now p m image c.args.start c.args.layout c.in_ok-worker.worker c.in_ok-worker.ensures same at s here

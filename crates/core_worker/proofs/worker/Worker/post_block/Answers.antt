@@ -1,8 +1,10 @@
 use Rattle.core_worker.proofs.RoomKept.{room_again}
-use Rattle.std.proofs.Common.{Bool, not, inl, sym, ◌∙◌, ap, subst}
+use Rattle.std.proofs.Common.{ℕ, Bool, not, inl, sym, ◌∙◌, ap, subst}
 use Rattle.core_worker.specs.declared.worker.Worker.{Worker}
 use Rattle.core_worker.specs.OwnPlaces.{place_at, own}
 use Rattle.core_worker.specs.Posting.{WouldStand}
+use Rattle.core_worker.specs.WorkerMoves.{placed_for, hands_of}
+use Rattle.core_worker.proofs.PostMoves.{facts_of, posted_moves, posted_order, fault_moves, fault_order}
 use Rattle.core_worker.proofs.worker.Worker.post_block.Goals as goal
 
 pub post_written-requires-clause-nothing : goal.post_written-requires-clause-nothing
@@ -30,3 +32,40 @@ pub returns-else-write_staged-clause-rule : goal.returns-else-write_staged-claus
 returns-else-write_staged-clause-rule g c h =
     let e = c.write_staged.ensures.rest in
     room_again c.args.self.now c.write_staged.new.self (ap (λ (z : Worker). own z.places.items) e) c.write_staged.ensures.chunks (ap (λ (z : Worker). z.log) e) (ap (λ (z : Worker). z.cleaning) e) h
+
+pub returns-then-write_staged-clause-moves : goal.returns-then-write_staged-clause-moves
+returns-then-write_staged-clause-moves g c =
+    let p = (g.B.Board.seat c.args.board.now).place in
+    let m = (g.B.Board.seat c.args.board.now).number in
+    let v = g.B.Board.view c.args.board.now in
+    let u = g.B.Board.view c.post_written.new.board in
+    let same = c.write_staged.ensures.rest ∙ ap (λ (b : Bool). record c.args.self.now { allocator = c.write_staged.new.self.allocator; stopped = b }) (ap not c.if-write_staged.true ∙ sym c.requires.runs) in
+    let F = facts_of m (g.B.Board.whole c.args.board.now) (g.B.Board.whole c.post_written.new.board) v u c.args.self.now c.write_staged.new.self c.post_written.new.self c.args.slot same c.post_written.ensures.posts in
+    posted_moves p m (g.B.Board.whole c.args.board.now) (g.B.Board.whole c.post_written.new.board) v u c.args.self.now c.post_written.new.self c.args.slot c.requires.slot c.requires.holds c.post_written.ensures.holds c.requires.runs F
+    (g.R.Region.state c.args.region.now) (g.R.Region.state c.write_staged.new.region) c.write_staged.ensures.outside c.write_staged.ensures.moments (returns-then-write_staged-clause-stands g c).licensed
+
+pub returns-then-write_staged-clause-order : goal.returns-then-write_staged-clause-order
+returns-then-write_staged-clause-order g c O =
+    let p = (g.B.Board.seat c.args.board.now).place in
+    let m = (g.B.Board.seat c.args.board.now).number in
+    let v = g.B.Board.view c.args.board.now in
+    let u = g.B.Board.view c.post_written.new.board in
+    let same = c.write_staged.ensures.rest ∙ ap (λ (b : Bool). record c.args.self.now { allocator = c.write_staged.new.self.allocator; stopped = b }) (ap not c.if-write_staged.true ∙ sym c.requires.runs) in
+    let F = facts_of m (g.B.Board.whole c.args.board.now) (g.B.Board.whole c.post_written.new.board) v u c.args.self.now c.write_staged.new.self c.post_written.new.self c.args.slot same c.post_written.ensures.posts in
+    posted_order p m (g.B.Board.whole c.args.board.now) (g.B.Board.whole c.post_written.new.board) v u c.args.self.now c.post_written.new.self c.args.slot c.requires.slot c.requires.holds c.post_written.ensures.holds c.requires.runs F O
+
+pub returns-else-write_staged-clause-moves : goal.returns-else-write_staged-clause-moves
+returns-else-write_staged-clause-moves g c =
+    let p = (g.B.Board.seat c.args.board.now).place in
+    let m = (g.B.Board.seat c.args.board.now).number in
+    let same = c.write_staged.ensures.rest ∙ ap (λ (b : Bool). record c.args.self.now { allocator = c.write_staged.new.self.allocator; stopped = not b }) c.if-write_staged.false in
+    fault_moves p m (g.R.Region.state c.args.region.now) (g.R.Region.state c.write_staged.new.region) (g.B.Board.whole c.args.board.now) (g.B.Board.view c.args.board.now) c.args.self.now c.write_staged.new.self c.write_staged.ensures.holds
+    (λ k. ap (λ (y : Worker). placed_for (g.B.Board.view c.args.board.now) y.places.items k) same) (λ k. ap (λ (y : Worker). (hands_of (g.B.Board.view c.args.board.now) y).waits k) same) (ap (λ (y : Worker). y.stopped) same)
+    c.write_staged.ensures.outside c.write_staged.ensures.moments (c.write_staged.ensures.stands c.if-write_staged.false).licensed (c.write_staged.ensures.cause c.if-write_staged.false)
+
+pub returns-else-write_staged-clause-order : goal.returns-else-write_staged-clause-order
+returns-else-write_staged-clause-order g c O =
+    let p = (g.B.Board.seat c.args.board.now).place in
+    let m = (g.B.Board.seat c.args.board.now).number in
+    let same = c.write_staged.ensures.rest ∙ ap (λ (b : Bool). record c.args.self.now { allocator = c.write_staged.new.self.allocator; stopped = not b }) c.if-write_staged.false in
+    fault_order p m (g.B.Board.view c.args.board.now) c.args.self.now c.write_staged.new.self same c.requires.nothing O

@@ -7,6 +7,7 @@ use Rattle.core_worker.specs.OwnPlaces.{Replaces}
 use Rattle.core_worker.specs.Posting.{PostsPlain, PointsNowhere, HasNoBlock}
 use Rattle.core_worker.specs.Ties.{Holds}
 use Rattle.core_worker.proofs.Posts.{holds_posted, stands_posted, view_is}
+use Rattle.core_worker.proofs.PostMoves.{facts_of, posted_moves, posted_order, here_moves}
 use Rattle.core_worker.proofs.worker.Worker.post_plain.Goals as goal
 
 -- two changes of one place
@@ -57,3 +58,22 @@ returns-clause-rule g c =
     let n = (g.B.Board.seat c.args.board.now).number in
     let P : PostsPlain n (g.B.Board.whole c.args.board.now) (g.B.Board.whole c.post.new.self) (g.B.Board.view c.args.board.now) (g.B.Board.view c.post.new.self) c.args.self.now (record c.args.self.now { places = c.swap_place-free.new.places }) c.args.slot = returns-clause-posts g c in
     room_posted n _ _ _ _ c.args.self.now (record c.args.self.now { places = c.swap_place-free.new.places }) c.args.slot c.requires.holds.eight c.requires.slot P
+
+pub returns-clause-moves : goal.returns-clause-moves
+returns-clause-moves g c s S =
+    let p = (g.B.Board.seat c.args.board.now).place in
+    let m = (g.B.Board.seat c.args.board.now).number in
+    let v = g.B.Board.view c.args.board.now in
+    let u = g.B.Board.view c.post.new.self in
+    here_moves p m (g.B.Board.whole c.args.board.now) (g.B.Board.whole c.post.new.self) v u c.args.self.now (record c.args.self.now { places = c.swap_place-free.new.places }) c.args.slot c.requires.slot c.requires.holds (returns-clause-holds g c) c.requires.runs
+    (facts_of m (g.B.Board.whole c.args.board.now) (g.B.Board.whole c.post.new.self) v u c.args.self.now c.args.self.now (record c.args.self.now { places = c.swap_place-free.new.places }) c.args.slot refl (returns-clause-posts g c))
+    s S (returns-clause-stands g c s S)
+
+pub returns-clause-order : goal.returns-clause-order
+returns-clause-order g c O =
+    let p = (g.B.Board.seat c.args.board.now).place in
+    let m = (g.B.Board.seat c.args.board.now).number in
+    let v = g.B.Board.view c.args.board.now in
+    let u = g.B.Board.view c.post.new.self in
+    posted_order p m (g.B.Board.whole c.args.board.now) (g.B.Board.whole c.post.new.self) v u c.args.self.now (record c.args.self.now { places = c.swap_place-free.new.places }) c.args.slot c.requires.slot c.requires.holds (returns-clause-holds g c) c.requires.runs
+    (facts_of m (g.B.Board.whole c.args.board.now) (g.B.Board.whole c.post.new.self) v u c.args.self.now c.args.self.now (record c.args.self.now { places = c.swap_place-free.new.places }) c.args.slot refl (returns-clause-posts g c)) O

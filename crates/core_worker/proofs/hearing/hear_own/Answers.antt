@@ -1,8 +1,8 @@
 use Rattle.std.proofs.Common.{◌≡◌, ℕ, List, sym, ◌∙◌, subst}
 use Rattle.core_index.specs.Slots.{Place}
-use Rattle.core_worker.specs.Openings.{HearsAll}
-use Rattle.core_worker.proofs.Hearing.{hears_more, hears_all, found_one, found_none}
-use Rattle.core_worker.proofs.opening.hear_own.Goals as goal
+use Rattle.core_worker.specs.Hearing.{HearsAll}
+use Rattle.core_worker.proofs.Heard.{hears_more, hears_all, found_one, found_none}
+use Rattle.core_worker.proofs.hearing.hear_own.Goals as goal
 
 pub loop-preserved : goal.loop-preserved
 loop-preserved c = found_one c.next_notice.result _ (sym c.is_some.ensures ∙ c.loop-test.true) c.next_notice.ensures.told (λ name tells. hears_more c.args.core c.args.index.now c.loop.index c.next_notice.new.self name c.loop.invariant tells)

@@ -1,0 +1,298 @@
+-- Accepting a request is a whole move to whoever runs several workers.
+use Rattle.std.proofs.Common.{◌≡◌, ◌≢◌, ◌⊎◌, inl, inr, ⊎_elim, ℕ, ◌==◌, Bool, true, false, cond, List, [], ◌∷◌, ◌++◌, map, Option, Some, None, Result, Ok, Err, OnOk, OnErr, refl, sym, ◌∙◌, ap, subst, append-nil}
+use Rattle.std.specs.Prelude.{Vec, option_to_list}
+use Rattle.std.specs.Global.{Global}
+use Rattle.std.specs.List.{filter}
+use Rattle.std.proofs.lemmas.Bool.{cases_eq}
+use Rattle.std.proofs.lemmas.List.{map-append}
+use Rattle.fs_model.specs.declared.model.Request.{Request}
+use Rattle.fs_model.specs.declared.model.Request.TheVariants.{Put, Get, Delete}
+use Rattle.fs_model.specs.declared.model.Reply.{Reply}
+use Rattle.fs_model.specs.declared.model.Reply.TheVariants as replies
+use Rattle.fs_model.specs.Cells.{key_of, answer_to, cell_after, is_change}
+use Rattle.fs_model.specs.Lawful.{MayReply, cell_left}
+use Rattle.pm_region.specs.State.{State, IsTelling}
+use Rattle.chunk_map.specs.declared.layouts.Geometry.{Geometry}
+use Rattle.lazy_alloc.specs.Sets.{Sets}
+use Rattle.core_room.specs.declared.supply.Supply.{Supply}
+use Rattle.core_room.specs.declared.types.Shortage.{Shortage}
+use Rattle.core_room.specs.declared.types.Shortage.TheVariants as causes
+use Rattle.core_room.specs.declared.types.Counts.{Counts}
+use Rattle.core_room.specs.RoomRule.{lacks_room, lacks_block, counts_at}
+use Rattle.conflict_queue.specs.declared.types.Held.{Held}
+use Rattle.conflict_queue.specs.Waiting.{waiting, AddsLast, held_with}
+use Rattle.core_index.specs.Index.{known_at}
+use Rattle.core_index.specs.Records.{last_of}
+use Rattle.group_laws.specs.Places.{owner}
+use Rattle.group_laws.specs.State.{Group}
+use Rattle.group_laws.specs.MemberViews.{View}
+use Rattle.store_image.specs.Facts.{In}
+use Rattle.core_worker.specs.declared.types.Answer.{Answer}
+use Rattle.core_worker.specs.declared.types.Place as places
+use Rattle.core_worker.specs.declared.worker.Worker.{Worker}
+use Rattle.core_worker.specs.declared.types.Place.TheVariants.{Free, Staged, Posted}
+use Rattle.core_worker.specs.OwnPlaces.{place_at, key_in, is_busy, Replaces}
+use Rattle.core_worker.specs.Supplies.{supply_of, lacks, why, why_put, why_delete, free_blocks}
+use Rattle.core_worker.specs.Refusals.{reply_to}
+use Rattle.core_worker.specs.Beginning.{answers_of, answer_with, OnlyBegins, IsAnswered, IsStaged, GoesOn, BeginsBy, BeginsAs, Begins}
+use Rattle.core_worker.specs.Ties.{Tie, Holds}
+use Rattle.core_worker.specs.Accepting.{IsAsBefore, IsTied, HasTie, StaysTied, Accepts, AcceptsByEachView, AcceptMoves}
+use Rattle.core_worker.specs.WorkerMoves.{Placed, Fixed, told, placed_in, placed_for, asked_by, hands_of, requests_for, fixed_of, AnswersKey, WorkerMoves}
+use Rattle.core_worker.proofs.HandKeys.{none_for}
+use Rattle.core_worker.proofs.HandPlaces.{held_at, held_beside}
+use Rattle.core_worker.proofs.Pointers.{free_is}
+use Rattle.core_worker.proofs.KeyMoves.{still_key, held_key, answered_key, staged_key, one_request, no_request, one_fixed, no_fixed, key_by, moves_here}
+
+pub not_stopped : (c : Shortage) → reply_to c ≢ replies.Stopped
+not_stopped (causes.Room x) e = absurd (cc e)
+not_stopped (causes.Block x) e = absurd (cc e)
+not_stopped (causes.Versions n) e = absurd (cc e)
+not_stopped (causes.Length n) e = absurd (cc e)
+
+-- a refusal leaves the cell
+pub left_by_refusal : (r : Request) (cell : Option (List ℕ)) (c : Shortage) → cell_left r (reply_to c) cell ≡ cell
+left_by_refusal r cell (causes.Room x) = refl
+left_by_refusal r cell (causes.Block x) = refl
+left_by_refusal r cell (causes.Versions n) = refl
+left_by_refusal r cell (causes.Length n) = refl
+
+put_refused : (k : ℕ) (u : List ℕ) (cell : Option (List ℕ)) (c : Shortage) → MayReply (Put k u) cell false (reply_to c)
+put_refused k u cell (causes.Room x) = inr refl
+put_refused k u cell (causes.Block x) = inr refl
+put_refused k u cell (causes.Versions n) = inr refl
+put_refused k u cell (causes.Length n) = inr refl
+
+abbrev IsForRoom : Option Shortage → Type 0
+IsForRoom None = Unit {0}
+IsForRoom (Some c) = reply_to c ≡ replies.Full
+
+by_room : (b d : Bool) (x y : Counts) → IsForRoom (cond b (Some (causes.Room x)) (cond d (Some (causes.Block y)) None))
+by_room true d x y = refl
+by_room false true x y = refl
+by_room false false x y = tt
+
+room_alone : (s : Supply) (a : Sets) (need class : ℕ) → IsForRoom (lacks s a need class)
+room_alone s a need class = by_room (lacks_room s need) (lacks_block s need class (free_blocks a class)) (counts_at s need class (free_blocks a class)) (counts_at s need class (free_blocks a class))
+
+-- a refusal for the cause that counts is one that the request may get
+pub may_refuse_for : (l : Geometry) (s : Supply) (a : Sets) (last : ℕ) (cell : Option (List ℕ)) (r : Request) (c : Shortage) → why l s a last cell r ≡ Some c → MayReply r cell false (reply_to c)
+may_refuse_for l s a last cell (Put k u) c e = put_refused k u cell c
+may_refuse_for l s a last cell (Get k) c e = absurd (cc e)
+may_refuse_for l s a last None (Delete k) c e = absurd (cc e)
+may_refuse_for l s a last (Some u) (Delete k) c e =
+    let full : reply_to c ≡ replies.Full = subst IsForRoom e (room_alone s a 1 0) in
+    subst (MayReply (Delete k) (Some u) false) (sym full) (inr refl)
+
+-- what is no change is answered by the cell, and leaves it
+pub still_left : (r : Request) (cell : Option (List ℕ)) → is_change r cell ≡ false → cell_left r (answer_to r cell) cell ≡ cell
+still_left (Put k u) cell e = absurd (cc e)
+still_left (Get k) None e = refl
+still_left (Get k) (Some u) e = refl
+still_left (Delete k) None e = refl
+still_left (Delete k) (Some u) e = absurd (cc e)
+
+pub still_runs : (r : Request) (cell : Option (List ℕ)) → answer_to r cell ≢ replies.Stopped
+still_runs (Put k u) cell e = absurd (cc e)
+still_runs (Get k) None e = absurd (cc e)
+still_runs (Get k) (Some u) e = absurd (cc e)
+still_runs (Delete k) None e = absurd (cc e)
+still_runs (Delete k) (Some u) e = absurd (cc e)
+
+-- the answers after the first ones, as those to a request
+abbrev fixed_by : Request → Answer → Fixed
+fixed_by r a = record { number = a.number; request = r; reply = a.reply; refusal = a.refusal }
+
+abbrev fixed_to : ℕ → Request → Reply → Option Shortage → Fixed
+fixed_to n r a cause = record { number = n; request = r; reply = a; refusal = cause }
+
+abbrev since : Request → List Answer → List Answer → List Fixed
+since r [] ys = map (fixed_by r) ys
+since r (x ∷ xs) [] = []
+since r (x ∷ xs) (y ∷ ys) = since r xs ys
+
+since_is : (r : Request) (xs ys : List Answer) → since r xs (xs ++ ys) ≡ map (fixed_by r) ys
+since_is r [] ys = refl
+since_is r (x ∷ xs) ys = since_is r xs ys
+
+in_none : (s : Option Held) (k : ℕ) (hs : List Held) → s ≡ None → map asked_by (filter (λ h. key_of h.request == k) (option_to_list s) ++ hs) ≡ map asked_by hs
+in_none s k hs e = ap (λ (o : Option Held). map asked_by (filter (λ h. key_of h.request == k) (option_to_list o) ++ hs)) e
+
+module _ (s : State) (w b : Worker) (n : ℕ) (r : Request) (works : w.winds_down ≡ false) (x : Tie) (T : IsTied s w (key_of r) x) (N : IsTied s b (key_of r) x) where
+  -- what is fixed is these answers, and each key's line goes on so
+  record Fixes (fs : List Fixed) : Type 0 where
+    is : since r (answers_of w) (answers_of b) ≡ fs
+    answers : answers_of b ≡ answers_of w ++ map told fs
+    stopped : b.stopped ≡ w.stopped
+    keys : (k : ℕ) → owner x.place k ≡ x.number → AnswersKey x.view x.view (hands_of x.view w) (hands_of x.view b) k (requests_for k ((n, r) ∷ [])) (fixed_of k fs)
+    own : (y : Fixed) → In y fs → owner x.place (key_of y.request) ≡ x.number
+
+  none_since : answers_of b ≡ answers_of w → since r (answers_of w) (answers_of b) ≡ []
+  none_since e = ap (since r (answers_of w)) (e ∙ sym (append-nil (answers_of w))) ∙ since_is r (answers_of w) []
+
+  hand_then : b.in_hand ≡ w.in_hand → b.in_hand ≡ None
+  hand_then e = e ∙ T.hand works
+
+  waits_before : (k : ℕ) → (hands_of x.view w).waits k ≡ map asked_by (waiting w.queue k)
+  waits_before k = in_none w.in_hand k (waiting w.queue k) (T.hand works)
+
+  waits_after : b.in_hand ≡ w.in_hand → (k : ℕ) → (hands_of x.view b).waits k ≡ map asked_by (waiting b.queue k)
+  waits_after e k = in_none b.in_hand k (waiting b.queue k) (hand_then e)
+
+  waits_same : b.in_hand ≡ w.in_hand → b.queue ≡ w.queue → (k : ℕ) → (hands_of x.view b).waits k ≡ (hands_of x.view w).waits k
+  waits_same hand queue k = waits_after hand k ∙ ap (λ (q : List Held). map asked_by (waiting q k)) queue ∙ sym (waits_before k)
+
+  -- it is held behind those of its key
+  fixes_held : answers_of b ≡ answers_of w → b.stopped ≡ w.stopped → b.places ≡ w.places → b.in_hand ≡ w.in_hand → AddsLast w.queue b.queue (held_with n r) → Fixes []
+  fixes_held answers stopped places hand adds = record {
+    is = none_since answers;
+    answers = answers ∙ sym (append-nil (answers_of w));
+    stopped = stopped;
+    keys = λ k own. ⊎_elim
+        (λ same. key_by x.view x.view (hands_of x.view w) (hands_of x.view b) k ((n, r) ∷ []) (requests_for k ((n, r) ∷ [])) [] [] (one_request n r k (sym same)) refl
+        (held_key x.view (hands_of x.view w) (hands_of x.view b) k n r (place_same k)
+        (waits_after hand k ∙ ap (λ j. map asked_by (waiting b.queue j)) same ∙ ap (map asked_by) adds.key ∙ map-append asked_by (waiting w.queue (key_of r)) (held_with n r ∷ []) ∙ ap (λ j. map asked_by (waiting w.queue j) ++ (n, r) ∷ []) (sym same) ∙ ap (λ (ys : List (ℕ × Request)). ys ++ (n, r) ∷ []) (sym (waits_before k)))))
+        (λ ne. key_by x.view x.view (hands_of x.view w) (hands_of x.view b) k [] (requests_for k ((n, r) ∷ [])) [] [] (no_request n r k (λ e. ne (sym e))) refl
+        (still_key x.view (hands_of x.view w) (hands_of x.view b) k (place_same k) (waits_after hand k ∙ ap (map asked_by) (adds.others k ne) ∙ sym (waits_before k))))
+        (cases_eq k (key_of r));
+    own = λ y i. absurd i;
+  } where
+    place_same : (k : ℕ) → placed_for x.view b.places.items k ≡ placed_for x.view w.places.items k
+    place_same k = ap (λ ps. placed_for x.view ps.items k) places
+
+  module _ (idle : is_busy w.places.items (key_of r) ≡ false) (hand : b.in_hand ≡ w.in_hand) (queue : b.queue ≡ w.queue) where
+    none_before : placed_for x.view w.places.items (key_of r) ≡ None
+    none_before = none_for x.view (key_of r) w.places.items idle
+
+    none_waits : (hands_of x.view w).waits (key_of r) ≡ []
+    none_waits = waits_before (key_of r) ∙ ap (map asked_by) (T.holds.waits works (key_of r) idle)
+
+    -- it is answered
+    fixes_answered : (a : Reply) (cause : Option Shortage) → answers_of b ≡ answers_of w ++ answer_with n a cause ∷ [] → b.stopped ≡ w.stopped → b.places.items ≡ w.places.items → MayReply r (x.view.cell (key_of r)) false a → cell_left r a (x.view.cell (key_of r)) ≡ x.view.cell (key_of r)
+        → (w.stopped ≡ true → a ≡ replies.Stopped) → (a ≡ replies.Stopped → w.stopped ≡ true) → Fixes (record { number = n; request = r; reply = a; refusal = cause } ∷ [])
+    fixes_answered a cause answers stopped places may left by_stop stops = record {
+      is = ap (since r (answers_of w)) answers ∙ since_is r (answers_of w) (answer_with n a cause ∷ []);
+      answers = answers;
+      stopped = stopped;
+      keys = λ k own. ⊎_elim
+          (λ same. subst (λ j. AnswersKey x.view x.view (hands_of x.view w) (hands_of x.view b) j (requests_for j ((n, r) ∷ [])) (fixed_of j (fixed_to n r a cause ∷ []))) (sym same)
+          (key_by x.view x.view (hands_of x.view w) (hands_of x.view b) (key_of r) ((n, r) ∷ []) (requests_for (key_of r) ((n, r) ∷ [])) (fixed_to n r a cause ∷ []) (fixed_of (key_of r) (fixed_to n r a cause ∷ [])) (one_request n r (key_of r) refl) (one_fixed (fixed_to n r a cause) (key_of r) refl)
+          (answered_key x.view (hands_of x.view w) (hands_of x.view b) (key_of r) n r a cause none_before none_waits (place_same (key_of r) ∙ none_before) (waits_same hand queue (key_of r) ∙ none_waits) may left by_stop (λ e. stopped ∙ stops e))))
+          (λ ne. key_by x.view x.view (hands_of x.view w) (hands_of x.view b) k [] (requests_for k ((n, r) ∷ [])) [] (fixed_of k (fixed_to n r a cause ∷ [])) (no_request n r k (λ e. ne (sym e))) (no_fixed (fixed_to n r a cause) k (λ e. ne (sym e)))
+          (still_key x.view (hands_of x.view w) (hands_of x.view b) k (place_same k) (waits_same hand queue k)))
+          (cases_eq k (key_of r));
+      own = own_by;
+    } where
+      place_same : (k : ℕ) → placed_for x.view b.places.items k ≡ placed_for x.view w.places.items k
+      place_same k = ap (λ ps. placed_for x.view ps k) places
+
+      own_by : (y : Fixed) → In y (record { number = n; request = r; reply = a; refusal = cause } ∷ []) → owner x.place (key_of y.request) ≡ x.number
+      own_by y (inl same) = ap (λ (z : Fixed). owner x.place (key_of z.request)) same ∙ T.own
+      own_by y (inr none) = absurd none
+
+    -- it is staged
+    fixes_staged : answers_of b ≡ answers_of w → b.stopped ≡ w.stopped → w.stopped ≡ false → (mid : Worker) → mid.places ≡ w.places → IsStaged mid b n r → Fixes []
+    fixes_staged answers stopped runs mid same_places S = record {
+      is = none_since answers;
+      answers = answers ∙ sym (append-nil (answers_of w));
+      stopped = stopped;
+      keys = λ k own. ⊎_elim
+          (λ same. subst (λ j. AnswersKey x.view x.view (hands_of x.view w) (hands_of x.view b) j (requests_for j ((n, r) ∷ [])) []) (sym same)
+          (key_by x.view x.view (hands_of x.view w) (hands_of x.view b) (key_of r) ((n, r) ∷ []) (requests_for (key_of r) ((n, r) ∷ [])) [] [] (one_request n r (key_of r) refl) refl
+          (staged_key x.view (hands_of x.view w) (hands_of x.view b) (key_of r) n r none_before none_waits
+          (held_at x.view b.places.items S.slot (key_of r) N.holds.apart (ap key_in S.placed.here ∙ ap Some S.key) ∙ ap (placed_in x.view) S.placed.here ∙ ap (λ q. Some (record { number = n; request = q; posted = false })) S.asks)
+          (waits_same hand queue (key_of r) ∙ none_waits) runs)))
+          (λ ne. key_by x.view x.view (hands_of x.view w) (hands_of x.view b) k [] (requests_for k ((n, r) ∷ [])) [] [] (no_request n r k (λ e. ne (sym e))) refl
+          (still_key x.view (hands_of x.view w) (hands_of x.view b) k
+          (held_beside x.view x.view w.places.items b.places.items S.slot (Staged n S.entry S.value) here T.holds.apart N.holds.apart k
+          (λ e. (let both : None ≡ Some k = sym (ap key_in was) ∙ e in cc both)) (λ e. ne (let both : Some S.entry.key ≡ Some k = e in let at : S.entry.key ≡ k = cc both in sym at ∙ S.key)) (λ t low e. refl))
+          (waits_same hand queue k)))
+          (cases_eq k (key_of r));
+      own = λ y i. absurd i;
+    } where
+      here : Replaces w.places.items b.places.items S.slot (Staged n S.entry S.value)
+      here = subst (λ (ps : Vec places.Place Global). Replaces ps.items b.places.items S.slot (Staged n S.entry S.value)) same_places S.placed
+
+      was : place_at w.places.items S.slot ≡ Free
+      was = ap (λ (ps : Vec places.Place Global). place_at ps.items S.slot) (sym same_places) ∙ free_is (place_at mid.places.items S.slot) S.lowest.0
+
+  abbrev cell : Option (List ℕ)
+  cell = x.view.cell (key_of r)
+
+  fixes_begun : (u : Worker) → IsAsBefore w u → is_busy w.places.items (key_of r) ≡ false → OnlyBegins u b → Begins u b (x.view.cell (key_of r)) n r → (fs : List Fixed) × Fixes fs
+  fixes_begun u B idle only begins = by_stop u.stopped refl begins where
+    in_hand : b.in_hand ≡ w.in_hand
+    in_hand = ap (λ (y : Worker). y.in_hand) only ∙ ap (λ (y : Worker). y.in_hand) B.rest
+
+    queue : b.queue ≡ w.queue
+    queue = ap (λ (y : Worker). y.queue) only ∙ ap (λ (y : Worker). y.queue) B.rest
+
+    halted : b.stopped ≡ w.stopped
+    halted = ap (λ (y : Worker). y.stopped) only ∙ ap (λ (y : Worker). y.stopped) B.rest
+
+    stopped_before : w.stopped ≡ u.stopped
+    stopped_before = sym (ap (λ (y : Worker). y.stopped) B.rest)
+
+    answered : (a : Reply) (cause : Option Shortage) → IsAnswered u b (answer_with n a cause) → MayReply r cell false a → cell_left r a cell ≡ cell → (w.stopped ≡ true → a ≡ replies.Stopped) → (a ≡ replies.Stopped → w.stopped ≡ true) → (fs : List Fixed) × Fixes fs
+    answered a cause is may left by_stop stops = (
+      record { number = n; request = r; reply = a; refusal = cause } ∷ [],
+      fixes_answered idle in_hand queue a cause (is.answers ∙ ap (λ (xs : List Answer). xs ++ answer_with n a cause ∷ []) B.answers) halted (is.places ∙ ap (λ (y : Worker). y.places.items) B.rest) may left by_stop stops,
+    )
+
+    runs_false : (d : Bool) → u.stopped ≡ d → d ≡ false → (a : Reply) → w.stopped ≡ true → a ≡ replies.Stopped
+    runs_false d e f a stopped = absurd (let both : true ≡ false = sym stopped ∙ stopped_before ∙ e ∙ f in cc both)
+
+    goes_on : (c : Bool) → u.stopped ≡ false → is_change r cell ≡ c → GoesOn c u b cell n r → (fs : List Fixed) × Fixes fs
+    goes_on false runs e is = answered (answer_to r cell) None is (inl refl) (still_left r cell e) (runs_false false runs refl (answer_to r cell)) (λ same. absurd (still_runs r cell same))
+    goes_on true runs e is = ([], fixes_staged idle in_hand queue (is.answers ∙ B.answers) halted (stopped_before ∙ runs) u (ap (λ (y : Worker). y.places) B.rest) is)
+
+    by_cause : (o : Option Shortage) → u.stopped ≡ false → why u.layout (supply_of u) u.allocator (last_of (known_at u.index (key_of r))) cell r ≡ o → BeginsBy o u b cell n r → (fs : List Fixed) × Fixes fs
+    by_cause None runs e is = goes_on (is_change r cell) runs refl is
+    by_cause (Some c) runs e is = answered (reply_to c) (Some c) is (may_refuse_for u.layout (supply_of u) u.allocator (last_of (known_at u.index (key_of r))) cell r c e) (left_by_refusal r cell c) (runs_false false runs refl (reply_to c)) (λ same. absurd (not_stopped c same))
+
+    by_stop : (d : Bool) → u.stopped ≡ d → BeginsAs d u b cell n r → (fs : List Fixed) × Fixes fs
+    by_stop true e is = answered replies.Stopped None is (inr refl) refl (λ s. refl) (λ s. stopped_before ∙ e)
+    by_stop false e is = by_cause (why u.layout (supply_of u) u.allocator (last_of (known_at u.index (key_of r))) cell r) e refl is
+
+  fixes : Accepts x.view w b n r → (fs : List Fixed) × Fixes fs
+  fixes A = ⊎_elim
+      (λ held. let e = held.2 in
+      ([], fixes_held (ap (λ (y : Worker). answers_of y) e ∙ A.1.answers) (ap (λ (y : Worker). y.stopped) e ∙ ap (λ (y : Worker). y.stopped) A.1.rest) (ap (λ (y : Worker). y.places) e ∙ ap (λ (y : Worker). y.places) A.1.rest) (ap (λ (y : Worker). y.in_hand) e ∙ ap (λ (y : Worker). y.in_hand) A.1.rest)
+      (subst (λ (q : List Held). AddsLast q b.queue (held_with n r)) (ap (λ (y : Worker). y.queue) A.1.rest) held.1)))
+      (λ begun. fixes_begun A.0 A.1 begun.0 begun.1 begun.2)
+      A.3
+
+  pub accept_fixed : Accepts x.view w b n r → answers_of b ≡ answers_of w ++ map told (since r (answers_of w) (answers_of b))
+  accept_fixed A = let F = fixes A in subst (λ (fs : List Fixed). answers_of b ≡ answers_of w ++ map told fs) (sym F.1.is) F.1.answers
+
+  pub accept_move : IsTelling s → Accepts x.view w b n r → (a : Option Group) → WorkerMoves x.place x.number s s a a x.view x.view (hands_of x.view w) (hands_of x.view b) ((n, r) ∷ []) (since r (answers_of w) (answers_of b))
+  accept_move telling A a =
+      let F = fixes A in
+      subst (λ (fs : List Fixed). WorkerMoves x.place x.number s s a a x.view x.view (hands_of x.view w) (hands_of x.view b) ((n, r) ∷ []) fs) (sym F.1.is)
+      (moves_here x.place x.number s a x.view w b ((n, r) ∷ []) F.0 N.holds N.stands.licensed F.1.stopped F.1.own F.1.keys)
+
+-- a request was accepted
+pub accept_moves : (s : State) (w b : Worker) (n : ℕ) (r : Request) → w.winds_down ≡ false → HasTie s w (key_of r) → StaysTied s w b (key_of r) → AcceptsByEachView s w b n r → AcceptMoves s w b (key_of r) ((n, r) ∷ [])
+accept_moves s w b n r works tied stays accepts = record {
+  fixed = since r (answers_of w) (answers_of b);
+  answers = λ telling. accept_fixed s w b n r works tied.0 tied.1 (stays tied.0 tied.1) (accepts tied.0 tied.1 telling);
+  moves = λ x T telling a. accept_move s w b n r works x T (stays x T) telling (accepts x T telling) a;
+}
+
+-- it was given back
+pub back_moves : (s : State) (w b : Worker) (k : ℕ) → IsAsBefore w b → StaysTied s w b k → AcceptMoves s w b k []
+back_moves s w b k B stays = record {
+  fixed = [];
+  answers = λ telling. B.answers ∙ sym (append-nil (answers_of w));
+  moves = λ x T telling a. let N = stays x T in
+      moves_here x.place x.number s a x.view w b [] [] N.holds N.stands.licensed (ap (λ (y : Worker). y.stopped) B.rest) (λ y i. absurd i)
+      (λ j own. still_key x.view (hands_of x.view w) (hands_of x.view b) j (ap (λ (y : Worker). placed_for x.view y.places.items j) B.rest)
+      (ap (λ (y : Worker). map asked_by (filter (λ h. key_of h.request == j) (option_to_list y.in_hand) ++ waiting y.queue j)) B.rest));
+}
+
+pub ok_accepts : {X Y : Type 0} (o : Result X Y) (s : State) (w b : Worker) (n : ℕ) (r : Request) → w.winds_down ≡ false → HasTie s w (key_of r) → StaysTied s w b (key_of r) → OnOk o (AcceptsByEachView s w b n r) → OnOk o (AcceptMoves s w b (key_of r) ((n, r) ∷ []))
+ok_accepts (Ok y) s w b n r works tied stays accepts = accept_moves s w b n r works tied stays accepts
+ok_accepts (Err y) s w b n r works tied stays accepts = accepts
+
+pub err_accepts : {X Y : Type 0} (o : Result X Y) (s : State) (w u b : Worker) (k : ℕ) → StaysTied s w b k → IsAsBefore w u → OnErr o (b ≡ u) → OnErr o (AcceptMoves s w b k [])
+err_accepts (Ok y) s w u b k stays before same = same
+err_accepts (Err y) s w u b k stays before same = back_moves s w b k (subst (IsAsBefore w) (sym same) before) stays
