@@ -2,10 +2,10 @@
 //! single atomic steps, and each member of the group makes its steps through a seat of its own.
 #![tactic(auto)]
 
-mod giving;
+mod seat_returns;
 mod group_table;
-pub mod laws;
-mod leading;
+pub mod table_laws;
+mod seat_leading;
 mod mailing;
 mod member_seat;
 mod origins;

@@ -19,7 +19,7 @@ ghost use Rattle.atomic_board.specs.Tokens.{AreTokens, AreFresh, AreEmptyHands, 
 ghost use Rattle.atomic_board.specs.GroupTables.{id_of, origin_of, group_place};
 
 use crate::group_table::GroupTable;
-use crate::leading::pool_place_of;
+use crate::seat_leading::pool_place_of;
 use crate::member_seat::{Common, MemberSeat};
 use crate::origins::origin_seat;
 use crate::parcel::Parcel;

@@ -2,7 +2,7 @@
 ghost use Rattle.std.specs.Prelude.{◌≡◌, ◌≢◌, ◌≤◌, [], ◌∷◌, vec_capacity, MatchOption};
 ghost use Rattle.batch_leader.specs.TakenChanges.{MatchBool};
 
-use crate::buffer::BatchBuffer;
+use crate::batch_buffer::BatchBuffer;
 use crate::changes::Changes;
 use crate::taken::Taken;
 use log_entry::WordBuffer;

@@ -4,7 +4,7 @@ use Rattle.std.specs.List.{AllByRecursion}
 use Rattle.fs_model.specs.Cells.{key_of}
 use Rattle.conflict_queue.specs.declared.types.Held.{Held}
 use Rattle.conflict_queue.specs.declared.nodes.Node.{Node}
-use Rattle.conflict_queue.specs.declared.chains.Chain.{Chain}
+use Rattle.conflict_queue.specs.declared.key_chains.Chain.{Chain}
 use Rattle.conflict_queue.specs.Waiting.{AddsLast, TakesFirst}
 
 abbrev pub bare : Node

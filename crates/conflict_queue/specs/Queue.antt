@@ -2,7 +2,7 @@
 use Rattle.std.specs.Prelude.{◌≡◌, ℕ, ◌+◌, ◌<◌, ◌≤◌, nat_eq, true, List, ◌++◌, length, Option, None}
 use Rattle.std.specs.List.{IsDistinct, list_any}
 use Rattle.conflict_queue.specs.declared.nodes.Node.{Node}
-use Rattle.conflict_queue.specs.declared.chains.Chain.{Chain}
+use Rattle.conflict_queue.specs.declared.key_chains.Chain.{Chain}
 use Rattle.conflict_queue.specs.Chains.{IsChain, IsTable, all_held, numbers_of}
 
 -- The free places are one chain that ends, and so are the places of each key. No place is in two of these chains,

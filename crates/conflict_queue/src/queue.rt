@@ -2,7 +2,7 @@
 ghost use Rattle.std.specs.Prelude.{◌≡◌, ◌+◌, ◌<◌, ◌≤◌, [], length, OnOk, OnErr, IfOk, IfErr, IfSome, IfNone};
 ghost use Rattle.conflict_queue.specs.Waiting.{waiting, held_with, AddsLast, TakesFirst};
 
-use crate::chains::{Chain, add_last, place_of, take_first};
+use crate::key_chains::{Chain, add_last, place_of, take_first};
 use crate::nodes::{NODES, Node, free_nodes};
 use crate::types::{Held, NoNode};
 use fs_errors::Memory;

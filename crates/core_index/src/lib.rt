@@ -3,12 +3,12 @@
 
 mod entries;
 mod index;
-mod listing;
+mod live_keys;
 mod map;
 mod notices;
 mod slot;
-mod standing;
-mod telling;
+mod dead_entries;
+mod death_notes;
 #[cfg(test)]
 mod tests;
 mod types;

@@ -10,7 +10,7 @@ ghost use Rattle.core_index.specs.Slots.{alive_at, home_alive, record_with, know
 
 use crate::entries::Entries;
 use crate::notices::Notices;
-use crate::standing::{awaits, is_dead, is_tombstone};
+use crate::dead_entries::{awaits, is_dead, is_tombstone};
 use crate::types::{Head, Look, Marked, Record, Settled, Standee};
 use fs_errors::Memory;
 use fs_model::{Key, Version};

@@ -2,7 +2,7 @@
 #![tactic(auto)]
 
 mod chunk;
-pub mod laws;
+pub mod part_laws;
 mod log;
 mod tails;
 #[cfg(test)]

@@ -3,7 +3,7 @@
 //! free. So whatever was accepted can be written.
 #![tactic(auto)]
 
-pub mod laws;
+pub mod room_laws;
 mod needs;
 mod supply;
 #[cfg(test)]

@@ -2,14 +2,14 @@
 #![tactic(auto)]
 
 mod accepting;
-mod beginning;
+mod begin_request;
 mod gate;
-mod leading;
-mod posting;
+mod lead_items;
+mod post_item;
 mod refusing;
 mod releasing;
 mod status;
-mod supply;
+mod worker_room;
 mod types;
 mod worker;
 

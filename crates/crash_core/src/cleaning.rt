@@ -12,8 +12,8 @@ ghost use Rattle.crash_core.specs.Makes.{Makes};
 ghost use Rattle.crash_core.specs.Deaths.{IsDeadIn, MayTell};
 
 use crate::names::Notices;
-use crate::places::owner_of;
-use crate::rules::{is_dead, tidy};
+use crate::member_places::owner_of;
+use crate::tidy_rules::{is_dead, tidy};
 use crate::sets::{entries_but, has_all, has_name, names_but, take_out};
 use crate::state::{CoreView, GroupState};
 use crate::tables::{has_member, saw};

@@ -16,8 +16,8 @@ ghost use Rattle.crash_core.specs.Makes.{Makes};
 ghost use Rattle.crash_core.specs.Finds.{done_in, failed_in, left_in};
 
 use crate::copies::copy_entry;
-use crate::places::owner_of;
-use crate::rules::tidy;
+use crate::member_places::owner_of;
+use crate::tidy_rules::tidy;
 use crate::state::GroupState;
 use crate::tables::{has_slot, saw};
 use fs_errors::Memory;

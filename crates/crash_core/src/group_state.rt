@@ -8,7 +8,7 @@ ghost use Rattle.group_laws.specs.OpeningImages as images;
 ghost use Rattle.group_laws.specs.OpeningImages.{IsBlank};
 ghost use Rattle.crash_core.specs.Shows.{group_of, place_of, IsEmptyView};
 
-use crate::places::owner_of;
+use crate::member_places::owner_of;
 use crate::state::{CoreView, GroupState};
 use chunk_map::layouts::Layout;
 use fs_errors::Memory;

@@ -9,8 +9,8 @@ use Rattle.fs_text.specs.declared.stages.Stop.{Stop}
 use Rattle.fs_text.specs.declared.stages.Stop.TheVariants.{Bad, NotBuilt}
 use Rattle.fs_text.specs.declared.stages.UntilError.{UntilError}
 use Rattle.fs_text.specs.declared.stages.UntilError.TheVariants as until
-use Rattle.fs_text.specs.declared.reading.ReadError.{ReadError}
-use Rattle.fs_text.specs.declared.reading.ReadError.TheVariants as reads
+use Rattle.fs_text.specs.declared.read_source.ReadError.{ReadError}
+use Rattle.fs_text.specs.declared.read_source.ReadError.TheVariants as reads
 use Rattle.fs_text.specs.Input.{Before, cut, line_at, lines_of}
 
 -- whether lines that begin with this word aren't built

@@ -9,7 +9,7 @@ ghost use Rattle.fs_text.specs.Streams.{IsAtEnd, IsReadOut};
 
 use crate::fields::first_line;
 use crate::line::Line;
-use crate::reading::{ReadError, read_all};
+use crate::read_source::{ReadError, read_all};
 use crate::source::Source;
 use crate::stages::{Built, Stop, UntilError, judge_at_stage};
 use crate::totals::Totals;

@@ -3,7 +3,7 @@ ghost use Rattle.std.specs.Prelude.{◌≡◌, ◌+◌, ◌^◌, ◌-◌, ◌<�
 ghost use Rattle.fs_errors.specs.Counts.{Rose};
 
 use crate::sink::{Sink, SinkFault};
-use crate::store::Store;
+use crate::byte_store::Store;
 use fs_errors::Memory;
 use std::alloc::Global;
 

@@ -6,7 +6,7 @@ ghost use Rattle.fs_text.specs.Streams.{Takes, TakesUpTo, TakesPrefix};
 
 use crate::line::Tally;
 use crate::sink::{Sink, SinkFault};
-use crate::writing::Pending;
+use crate::pending_text::Pending;
 use fs_model::{Pair, Reply};
 use log_entry::entry::Body;
 use std::alloc::{AllocError, Global};

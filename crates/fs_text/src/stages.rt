@@ -5,7 +5,7 @@ ghost use Rattle.fs_text.specs.Stages.{is_closed, puts_block, line_or_stop, Stop
 use crate::fields::{FirstLine, cut};
 use crate::line::Line;
 use crate::parsing::{LineError, judge};
-use crate::reading::ReadError;
+use crate::read_source::ReadError;
 use crate::totals::Totals;
 use fs_model::Request;
 use std::alloc::{AllocFailed, Global};

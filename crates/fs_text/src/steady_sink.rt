@@ -2,7 +2,7 @@
 ghost use Rattle.std.specs.Prelude.{◌≡◌, ◌<◌, [], Some, IfOk, option_copied};
 
 use crate::sink::{Sink, SinkFault};
-use crate::store::Store;
+use crate::byte_store::Store;
 use fs_errors::Memory;
 use std::alloc::Global;
 

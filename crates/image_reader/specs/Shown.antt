@@ -6,8 +6,8 @@ use Rattle.chunk_map.specs.Layouts.{layout_of}
 use Rattle.store_image.specs.Soundness.{first_fault}
 use Rattle.store_image.specs.Winners.{recovered}
 use Rattle.store_image.specs.Listing.{ListsCells}
-use Rattle.image_reader.specs.declared.image.Found.{Found}
-use Rattle.image_reader.specs.declared.image.Found.TheVariants.{Faulty, Sound}
+use Rattle.image_reader.specs.declared.image_reading.Found.{Found}
+use Rattle.image_reader.specs.declared.image_reading.Found.TheVariants.{Faulty, Sound}
 
 -- a fault is the first of the image, and pairs are the cells of an image that has none
 abbrev pub ShowsWords : Found → ℕ → (ℕ → ℕ) → Type 0

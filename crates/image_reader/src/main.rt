@@ -2,11 +2,11 @@
 //! region from standard input and writes its live pairs, or the first rule of soundness that it breaks.
 #![tactic(auto)]
 
-mod bytes;
+mod image_bytes;
 mod ending;
-mod image;
-mod reading;
-mod rules;
+mod image_reading;
+mod region_reading;
+mod rule_texts;
 
 use ending::Ending;
 use fs_text::{StdSink, StdSource};

@@ -3,10 +3,10 @@
 
 mod allocator;
 mod bits;
-mod chains;
+mod class_chains;
 mod classes;
 mod counts;
-mod places;
+mod block_places;
 #[cfg(test)]
 mod plain;
 #[cfg(test)]

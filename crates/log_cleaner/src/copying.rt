@@ -7,7 +7,7 @@ ghost use Rattle.log_cleaner.specs.Copying.{IsUpToDate};
 ghost use Rattle.log_cleaner.specs.CopyBatch.{copies_in, CopiesFit, IsBatchOf, HasCopied};
 ghost use Rattle.log_cleaner.specs.ImagesBeside.{MakesCopies};
 
-use crate::collecting::collect;
+use crate::collect_copies::collect;
 use crate::types::Victim;
 use core_log::CoreLog;
 use log_entry::WordBuffer;

@@ -5,7 +5,7 @@ ghost use Rattle.core_log.specs.Log.{StandsIn, tail_of, tail_in};
 ghost use Rattle.log_standing.specs.NameCounts.{wants};
 ghost use Rattle.log_cleaner.specs.Copying.{IsUpToDate, to_copy};
 
-use crate::beginning::begin_at;
+use crate::reading_start::begin_at;
 use crate::types::Victim;
 use core_log::{CoreLog, Peek};
 use log_standing::Standing;

@@ -4,7 +4,7 @@ ghost use Rattle.std.specs.Prelude.{◌≡◌, ◌≤◌, ◌<◌, true, false, 
 ghost use Rattle.pm_region.specs.Steady.{steady_state};
 ghost use Rattle.core_log.specs.Log.{StandsIn};
 
-use crate::beginning::tail_of;
+use crate::reading_start::tail_of;
 use crate::{Clearing, Standing, Victim, copy_live, to_copy, victim};
 use chunk_map::Layout;
 use core_log::{CoreLog, Room};

@@ -6,7 +6,7 @@ ghost use Rattle.core_log.specs.Walking.{LiesIn, entries_in};
 ghost use Rattle.log_standing.specs.NameCounts.{count_of, is_told, Gets};
 ghost use Rattle.log_standing.specs.ChunkCounts.{IsStandingOf, IsSpelled, IsUntold, GetsAll};
 
-use crate::standing::Standing;
+use crate::standing_names::Standing;
 use core_log::CoreLog;
 use fs_errors::Memory;
 use log_entry::EntryName;

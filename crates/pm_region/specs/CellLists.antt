@@ -3,7 +3,7 @@ use Rattle.std.specs.Prelude.{◌≡◌, ◌⊎◌, ℕ, ◌+◌, ◌<◌, List,
 use Rattle.pm_region.specs.Cell.{Cell, certain, HasValue}
 use Rattle.pm_region.specs.Image.{cell_of_data}
 use Rattle.pm_region.specs.Journals.{act}
-use Rattle.pm_region.specs.declared.image.CellData.{CellData}
+use Rattle.pm_region.specs.declared.crash_image.CellData.{CellData}
 use Rattle.pm_region.specs.declared.step.Step.{Step}
 
 abbrev pub cell_in : List CellData → ℕ → Cell

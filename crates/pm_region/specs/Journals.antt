@@ -4,7 +4,7 @@ use Rattle.pm_region.specs.State.{counted}
 use Rattle.pm_region.specs.Cell.{Cell, store_at, flush_line, fence_range}
 use Rattle.pm_region.specs.declared.step.Step.{Step}
 use Rattle.pm_region.specs.declared.step.Step.TheVariants.{Store, Flush, Fence, Nothing}
-use Rattle.pm_region.specs.declared.journal.Journal.{Journal}
+use Rattle.pm_region.specs.declared.region_journal.Journal.{Journal}
 
 -- what a step makes of the cell of a word
 abbrev pub act : Step → ℕ → Cell → Cell

@@ -4,7 +4,7 @@ ghost use Rattle.pm_region.specs.Cell.{MayBe, store_at, flush_line, fence_range,
 ghost use Rattle.pm_region.specs.State.{State, Goes, InRange, LineInRange, IsTelling, cell_now, Rose};
 ghost use Rattle.pm_region.specs.Split.{words_in, AreCuts};
 
-use crate::bytes::word_count;
+use crate::byte_words::word_count;
 use crate::device::Device;
 use crate::file_open::{create_words, fence_file, open_words, write_pending};
 use crate::file_piece::FilePiece;

@@ -2,7 +2,7 @@
 ghost use Rattle.std.specs.Prelude.{false, ◌≡◌, ℕ, ◌*◌, ◌≤◌, IfOk, OnOk, OnErr};
 ghost use Rattle.pm_region.specs.Filed.{calls_on, IsOpened, IsMade, IsFenced, IsKept, IsSettled, flushes};
 
-use crate::bytes::word_count;
+use crate::byte_words::word_count;
 use crate::device::Device;
 use crate::file_words::FileWords;
 use crate::region::RegionFault;

@@ -3,7 +3,7 @@ ghost use Rattle.std.specs.Prelude.{◌≡◌, ℕ, ◌+◌, ◌-◌, ◌*◌, �
 ghost use Rattle.pm_region.specs.Cell.{store_at, flush_line, fence_range, unchanged};
 ghost use Rattle.pm_region.specs.State.{Goes, InRange, LineInRange, IsTelling, cell_now, Rose};
 
-use crate::bytes::word_count;
+use crate::byte_words::word_count;
 use crate::device::Device;
 use crate::file_words::{FileWords, LINE_WORDS};
 use crate::region::{Region, RegionFault};

@@ -2,7 +2,7 @@
 ghost use Rattle.std.specs.Prelude.{◌≡◌, ℕ, ◌+◌, ◌-◌, ◌*◌, ◌/◌, ◌%◌, ◌≤◌, ◌<◌, length};
 ghost use Rattle.pm_region.specs.Split.{words_in};
 
-use crate::bytes::{set_word, set_words, word, word_count};
+use crate::byte_words::{set_word, set_words, word, word_count};
 use crate::device::Device;
 use crate::line_runs::write_runs;
 use crate::line_set::LineSet;

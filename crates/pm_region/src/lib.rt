@@ -1,7 +1,7 @@
 //! A region of persistent memory: what a crash may leave of it, at each moment.
 #![tactic(auto)]
 
-mod bytes;
+mod byte_words;
 mod calls;
 mod device;
 mod file;
@@ -10,8 +10,8 @@ mod file_piece;
 mod file_pieces;
 mod file_words;
 mod history;
-mod image;
-mod journal;
+mod crash_image;
+mod region_journal;
 mod line_runs;
 mod line_set;
 mod mem;
@@ -27,7 +27,7 @@ mod word_cells;
 
 pub use file::FileRegion;
 pub use file_piece::FilePiece;
-pub use image::{ImageError, Pick};
+pub use crash_image::{ImageError, Pick};
 pub use mem::{MemPiece, MemRegion};
 pub use plan::{Faults, FenceNumber};
 pub use region::{Region, RegionFault};

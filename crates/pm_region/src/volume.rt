@@ -5,9 +5,9 @@ ghost use Rattle.pm_region.specs.State.{State, Frame, IsTold, IsTelling, cell_no
 ghost use Rattle.pm_region.specs.Split.{words_in};
 ghost use Rattle.pm_region.specs.Bytes.{word_at};
 
-use crate::bytes::words_of;
+use crate::byte_words::words_of;
 use crate::history::History;
-use crate::image::{ImageError, Pick};
+use crate::crash_image::{ImageError, Pick};
 use crate::part::Part;
 use crate::pieces::{latest_stamp, take_back};
 use std::alloc::{AllocError, Global};

@@ -6,7 +6,7 @@ ghost use Rattle.pm_region.specs.CellLists.{cell_in, HasOne, ActsAt, Acts, AllAc
 ghost use Rattle.pm_region.specs.Journals.{act, cell_after};
 ghost use Rattle.pm_region.specs.declared.step.Step.TheVariants.{Store, Flush, Fence};
 
-use crate::image::CellData;
+use crate::crash_image::CellData;
 use crate::step::Step;
 use std::alloc::{AllocError, Global};
 

@@ -20,7 +20,7 @@ ghost use Rattle.recover.specs.Heads.{Starts, AllStart};
 
 use crate::logs::{heads, log_chunks};
 use crate::shares::Share;
-use crate::telling::tell_own;
+use crate::own_deaths::tell_own;
 use crate::types::CoreStart;
 use chunk_map::Layout;
 use core_index::{CoreIndex, Record};
