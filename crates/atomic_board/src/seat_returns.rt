@@ -13,10 +13,10 @@ ghost use Rattle.atomic_board.specs.ShownState.{ShowsLawful};
 ghost use Rattle.atomic_board.specs.StepTells.{tells_doom, tells_retire};
 ghost use Rattle.atomic_board.specs.MemberSeats.{place_at, view_at, Stays};
 
-use crate::seat_leading::{pool_place_of, pool_word_of, unpacked};
 use crate::member_seat::{Common, MemberSeat};
 use crate::parcel::Parcel;
 use crate::rule::{CoreView, Dooms, Fails, Finishes, Marks, Named, Retires, Withdraws};
+use crate::seat_leading::{pool_place_of, pool_word_of, unpacked};
 use crate::slot_order::bring;
 use crash_core::Change;
 use log_entry::entry::EntryName;

@@ -9,9 +9,9 @@ mod post_item;
 mod refusing;
 mod releasing;
 mod status;
-mod worker_room;
 mod types;
 mod worker;
+mod worker_room;
 
 pub use core_room::{Counts, Shortage};
 pub use gate::{Gate, OpenGate, Point};

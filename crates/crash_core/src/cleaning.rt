@@ -11,12 +11,12 @@ ghost use Rattle.crash_core.specs.Shows.{group_of, place_of, notices_of, pair_cm
 ghost use Rattle.crash_core.specs.Makes.{Makes};
 ghost use Rattle.crash_core.specs.Deaths.{IsDeadIn, MayTell};
 
-use crate::names::Notices;
 use crate::member_places::owner_of;
-use crate::tidy_rules::{is_dead, tidy};
+use crate::names::Notices;
 use crate::sets::{entries_but, has_all, has_name, names_but, take_out};
 use crate::state::{CoreView, GroupState};
 use crate::tables::{has_member, saw};
+use crate::tidy_rules::{is_dead, tidy};
 use fs_errors::Memory;
 use group_laws::types::Seen;
 use log_entry::entry::EntryName;

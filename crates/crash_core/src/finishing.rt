@@ -17,9 +17,9 @@ ghost use Rattle.crash_core.specs.Finds.{done_in, failed_in, left_in};
 
 use crate::copies::copy_entry;
 use crate::member_places::owner_of;
-use crate::tidy_rules::tidy;
 use crate::state::GroupState;
 use crate::tables::{has_slot, saw};
+use crate::tidy_rules::tidy;
 use fs_errors::Memory;
 use fs_model::model::{Key, Value};
 use group_laws::types::{Block, Pending, Seen, Slot, SlotWord};

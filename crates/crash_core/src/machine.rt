@@ -9,10 +9,10 @@ ghost use Rattle.crash_core.specs.declared.kinds.Kind.TheVariants as kinds;
 
 use crate::cleaning::{doom, receive, retire, send};
 use crate::finishing::finish;
-use crate::return_steps::{fail, mark, withdraw};
 use crate::kinds::{Change, Kind, Step, StepError, StepsError};
 use crate::leader_steps::{commit, lock, look_at_mail, look_at_slot, take, unlock};
 use crate::post_step::post;
+use crate::return_steps::{fail, mark, withdraw};
 use crate::state::GroupState;
 use crate::tables::has_member;
 use fs_errors::Memory;

@@ -5,8 +5,8 @@ ghost use Rattle.fs_text.specs.Output.{ended, lines_text, reply_line, replies_te
 ghost use Rattle.fs_text.specs.Streams.{Takes, TakesUpTo, TakesPrefix};
 
 use crate::line::Tally;
-use crate::sink::{Sink, SinkFault};
 use crate::pending_text::Pending;
+use crate::sink::{Sink, SinkFault};
 use fs_model::{Pair, Reply};
 use log_entry::entry::Body;
 use std::alloc::{AllocError, Global};

@@ -2,8 +2,8 @@
 //! region from standard input and writes its live pairs, or the first rule of soundness that it breaks.
 #![tactic(auto)]
 
-mod image_bytes;
 mod ending;
+mod image_bytes;
 mod image_reading;
 mod region_reading;
 mod rule_texts;

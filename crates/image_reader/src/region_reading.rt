@@ -4,8 +4,8 @@ ghost use Rattle.pm_region.specs.State.{Rose};
 ghost use Rattle.image_reader.specs.declared.ending.Ending.TheVariants as endings;
 ghost use Rattle.image_reader.specs.Endings.{Tells};
 
-use crate::image_bytes::MOST_BYTES;
 use crate::ending::Ending;
+use crate::image_bytes::MOST_BYTES;
 use crate::image_reading::{Found, read_image};
 use fs_text::{OutError, ReadError, Sink, Source, read_all, write_pairs};
 use std::alloc::Global;

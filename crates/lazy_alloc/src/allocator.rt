@@ -13,11 +13,11 @@ ghost use Rattle.lazy_alloc.specs.Heads.{is_free, class_in, is_free_there, class
 ghost use Rattle.lazy_alloc.specs.Written.{PartLies, HasHead, KeepsOthers, WroteValue, head_of, HeadTurnsTo};
 
 use crate::bits::{clear, first_unset, has, is_set, lowest, set, with, with_if, without};
-use crate::class_chains::{Chains, no_links};
-use crate::counts::{add_to, count_of, take_from};
 use crate::block_places::{
     bit_of, block_at, blocks_in, chunk_in, first_block, is_full, is_in_part, is_start, room, units,
 };
+use crate::class_chains::{Chains, no_links};
+use crate::counts::{add_to, count_of, take_from};
 use crate::values::value_in;
 use crate::written::write_block;
 use chunk_map::{Head, Layout, set_head};

@@ -3,10 +3,10 @@
 
 mod allocator;
 mod bits;
+mod block_places;
 mod class_chains;
 mod classes;
 mod counts;
-mod block_places;
 #[cfg(test)]
 mod plain;
 #[cfg(test)]

@@ -5,8 +5,8 @@ ghost use Rattle.core_log.specs.Log.{StandsIn, tail_of};
 ghost use Rattle.log_cleaner.specs.Copying.{IsUpToDate};
 ghost use Rattle.log_cleaner.specs.Choosing.{copy_lines, fits, IsCandidate, IsFirstIn, IsVictim};
 
-use crate::reading_start::tail_of;
 use crate::counting::to_copy;
+use crate::reading_start::tail_of;
 use crate::types::Victim;
 use core_log::{CoreLog, Room};
 use fs_errors::Memory;

@@ -1,13 +1,13 @@
 //! Cleaning of a core's own log: what of a chunk is still needed is copied, and the chunk is given up.
 #![tactic(auto)]
 
-mod reading_start;
 mod choosing;
+pub mod cleaning_laws;
 mod clearing;
 mod collect_copies;
 mod copying;
 mod counting;
-pub mod cleaning_laws;
+mod reading_start;
 #[cfg(test)]
 mod tests;
 mod types;

@@ -5,9 +5,9 @@ ghost use Rattle.log_entry.specs.Words.{words_for, packed};
 ghost use Rattle.log_entry.specs.Grammar.{IsNoPrefix};
 ghost use Rattle.log_entry.specs.Spelling.{first_word, words_of, HasSpelling};
 
-use crate::word_buffer::WordBuffer;
 use crate::entry::{Body, Entry};
 use crate::packing::{word_at, words_for};
+use crate::word_buffer::WordBuffer;
 
 fn first_word(op: u64, form: u64, version: u32, high: u64) -> u64
     requires op { op ≤ 2 }

@@ -3,6 +3,7 @@
 
 mod byte_words;
 mod calls;
+mod crash_image;
 mod device;
 mod file;
 mod file_open;
@@ -10,8 +11,6 @@ mod file_piece;
 mod file_pieces;
 mod file_words;
 mod history;
-mod crash_image;
-mod region_journal;
 mod line_runs;
 mod line_set;
 mod mem;
@@ -19,15 +18,16 @@ mod part;
 mod pieces;
 mod plan;
 mod region;
+mod region_journal;
 mod split;
 mod steady;
 mod step;
 mod volume;
 mod word_cells;
 
+pub use crash_image::{ImageError, Pick};
 pub use file::FileRegion;
 pub use file_piece::FilePiece;
-pub use crash_image::{ImageError, Pick};
 pub use mem::{MemPiece, MemRegion};
 pub use plan::{Faults, FenceNumber};
 pub use region::{Region, RegionFault};

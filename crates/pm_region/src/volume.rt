@@ -6,8 +6,8 @@ ghost use Rattle.pm_region.specs.Split.{words_in};
 ghost use Rattle.pm_region.specs.Bytes.{word_at};
 
 use crate::byte_words::words_of;
-use crate::history::History;
 use crate::crash_image::{ImageError, Pick};
+use crate::history::History;
 use crate::part::Part;
 use crate::pieces::{latest_stamp, take_back};
 use std::alloc::{AllocError, Global};

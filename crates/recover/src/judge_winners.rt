@@ -13,9 +13,9 @@ ghost use Rattle.recover.specs.Winning.{winners_of, AreSpelled};
 ghost use Rattle.recover.specs.Gathering.{AreAgreed, Agrees, Judges};
 ghost use Rattle.recover.specs.Judging.{rule_beside, fault_beside, winners_fault, HasPointers};
 
-use crate::region_blocks::block_class;
 use crate::clashes::clash_fault;
 use crate::gather_region::gather;
+use crate::region_blocks::block_class;
 use crate::winning::winners;
 use chunk_map::Layout;
 use fs_errors::Memory;

@@ -8,17 +8,17 @@
 //! second time for the logs and the allocators, and the logs for the names that stand in them.
 #![tactic(auto)]
 
-mod region_blocks;
 mod clashes;
 mod gather_region;
 mod judge_winners;
+mod key_standees;
 mod live_pairs;
 mod logs;
-mod recover_region;
-mod shares;
-mod key_standees;
-mod starts;
 mod own_deaths;
+mod recover_region;
+mod region_blocks;
+mod shares;
+mod starts;
 #[cfg(test)]
 mod tests;
 mod types;

@@ -12,8 +12,8 @@ ghost use Rattle.recover.specs.Shares.{IsShared, Shares};
 ghost use Rattle.recover.specs.Recovering.{IsMade, Restores, Recovers, AllStand};
 
 use crate::judge_winners::{agreed_entries, judge};
-use crate::shares::{Share, shares};
 use crate::key_standees::standees;
+use crate::shares::{Share, shares};
 use crate::starts::starts;
 use crate::types::{RecoverError, Recovered};
 use chunk_map::{Layout, read_superblock};

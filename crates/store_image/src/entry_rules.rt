@@ -7,8 +7,8 @@ ghost use Rattle.store_image.specs.Parts.{block_class};
 ghost use Rattle.store_image.specs.Winners.{winner_in, keys_of};
 ghost use Rattle.store_image.specs.Soundness.{first_some, same_body, contradicts, clash_after, clash_fault, points_to, pointer_rule, body_rule, winner_fault, block_fault};
 
-use crate::image_blocks::block_class;
 use crate::geometry::{has_class, owner};
+use crate::image_blocks::block_class;
 use crate::types::{Fault, PlacedEntry};
 use crate::winners::{keys_of, winner_in};
 use chunk_map::layouts::Geometry;

@@ -5,9 +5,9 @@ ghost use Rattle.store_image.specs.Parts.{all_entries};
 ghost use Rattle.store_image.specs.Winners.{recovered};
 ghost use Rattle.store_image.specs.Listing.{ListsCells, with_pair};
 
-use crate::image_blocks::held;
 use crate::gather_image::gather;
 use crate::geometry::owner;
+use crate::image_blocks::held;
 use crate::image_superblock::layout_at;
 use crate::types::PlacedEntry;
 use crate::winners::{keys_of, winner_in};
