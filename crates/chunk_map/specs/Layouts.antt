@@ -32,7 +32,8 @@ abbrev pub chunk_first : Geometry → ℕ → ℕ → ℕ
 chunk_first l c j = 512 + (c * l.chunks + j) * chunk_words l
 
 abbrev pub is_chunk_size : ℕ → Bool
-is_chunk_size n = list_any (λ e. n == 2 ^ e) (12 ∷ 13 ∷ 14 ∷ 15 ∷ 16 ∷ 17 ∷ 18 ∷ 19 ∷ 20 ∷ 21 ∷ 22 ∷ [])
+is_chunk_size n = list_any (λ e. n == 2 ^ e) (12 ∷ 13 ∷ 14 ∷ 15 ∷ 16 ∷ 17 ∷ 18 ∷ 19 ∷ 20 ∷ 21 ∷ 22
+    ∷ [])
 
 -- the first broken rule, or none
 abbrev pub layout_rule : Geometry → Option ℕ
@@ -41,7 +42,8 @@ layout_rule l =
     (if nat_le 1 l.group && nat_le l.group 8 && l.cores % l.group == 0 then
     (if nat_le 4 l.chunks && nat_le l.chunks 64 then
     (if is_chunk_size l.chunk_bytes then
-    (if nat_le (l.cores * l.chunks * l.chunk_bytes) 268435456 then None else Some 5) else Some 4) else Some 3) else Some 2) else Some 1
+    (if nat_le (l.cores * l.chunks * l.chunk_bytes) 268435456 then None else Some 5) else Some 4)
+    else Some 3) else Some 2) else Some 1
 
 abbrev pub IsLayout : Geometry → Type 0
 IsLayout l = layout_rule l ≡ None
@@ -51,14 +53,21 @@ abbrev pub magic : ℕ
 magic = 0x3130545354414c46
 
 abbrev pub layout_of : (ℕ → ℕ) → Geometry
-layout_of image = record { cores = image 2; group = image 3; chunks = image 4; chunk_bytes = image 5 }
+layout_of image = record {
+  cores = image 2;
+  group = image 3;
+  chunks = image 4;
+  chunk_bytes = image
+      5;
+}
 
 -- the first broken one of rules 1 to 3
 abbrev pub superblock_rule : ℕ → (ℕ → ℕ) → Option ℕ
 superblock_rule bytes image =
     if bytes % 8 == 0 && nat_le 4096 bytes && nat_le bytes 268439552 then
     (if image 0 == magic && image 1 == 1 then
-    (if is_none (layout_rule (layout_of image)) && bytes == total_bytes (layout_of image) then None else Some 3) else Some 2) else Some 1
+    (if is_none (layout_rule (layout_of image)) && bytes == total_bytes (layout_of image) then None
+    else Some 3) else Some 2) else Some 1
 
 abbrev pub owner : Geometry → ℕ → ℕ
 owner l key = key % l.cores
@@ -72,13 +81,15 @@ is_class l class = nat_le 1 class && nat_le class 12 && nat_le (1024 * 2 ^ class
 
 -- whether a value of this length gets a block, and one of this class: the least that has room for a word more
 abbrev pub has_class : ℕ → ℕ → Bool
-has_class length class = nat_le 256 length && nat_le (length + 8) (256 * 2 ^ class) && (class == 1 || nat_lt (128 * 2 ^ class) (length + 8))
+has_class length class = nat_le 256 length && nat_le (length + 8) (256 * 2 ^ class)
+    && (class == 1 || nat_lt (128 * 2 ^ class) (length + 8))
 
 -- the head that two words are, or the rule that they break
 abbrev pub head_by : Geometry → ℕ → ℕ → Result Head ℕ
 head_by l kind tail =
     if kind == 0 then Ok Free
-    else (if kind == 1 then (if tail % 8 == 0 && nat_le tail (payload_words l) then Ok (Log tail) else Err 5)
+    else (if kind == 1 then (if tail % 8 == 0 && nat_le tail (payload_words l) then Ok (Log tail)
+    else Err 5)
     else (if kind % 256 == 2 && is_class l (kind / 256) then Ok (Data (kind / 256)) else Err 4))
 
 abbrev pub head_at : Geometry → (ℕ → ℕ) → ℕ → Result Head ℕ

@@ -21,11 +21,13 @@ pub record HeadLies (f : Frame) (at : ℕ) : Type 0 where
 
 -- The kind word may be what it might be before or the new one, and the tail word what it might be before.
 abbrev pub HasKind : (ℕ → Cell) → ℕ → ℕ → (ℕ → ℕ) → Type 0
-HasKind old at kind image = (MayBe (old at) (image at) ⊎ (image at ≡ kind)) × MayBe (old (at + 1)) (image (at + 1))
+HasKind old at kind image = (MayBe (old at) (image at) ⊎ (image at ≡ kind))
+    × MayBe (old (at + 1)) (image (at + 1))
 
 -- The kind word may be what it might be before, and the tail word that or the new one; or both are new.
 abbrev pub HasTail : (ℕ → Cell) → ℕ → ℕ → (ℕ → ℕ) → Type 0
-HasTail old at tail image = (MayBe (old at) (image at) × (MayBe (old (at + 1)) (image (at + 1)) ⊎ (image (at + 1) ≡ tail))) ⊎ ((image at ≡ 1) × (image (at + 1) ≡ tail))
+HasTail old at tail image = (MayBe (old at) (image at) × (MayBe (old (at + 1)) (image (at + 1))
+    ⊎ (image (at + 1) ≡ tail))) ⊎ ((image at ≡ 1) × (image (at + 1) ≡ tail))
 
 -- what the two words of an image may be while the head is set
 abbrev pub HeadTurns : (ℕ → Cell) → ℕ → Head → (ℕ → ℕ) → Type 0

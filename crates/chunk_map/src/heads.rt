@@ -22,7 +22,8 @@ pub struct BadHead {
 }
 
 fn is_class(chunk_bytes: u64, class: u64) -> bool
-    ensures { result ≡ is_class (record { cores = 0; group = 0; chunks = 0; chunk_bytes = chunk_bytes }) class }
+    ensures { result ≡ is_class
+        (record { cores = 0; group = 0; chunks = 0; chunk_bytes = chunk_bytes }) class }
 {
     match class {
         1 => 2048 <= chunk_bytes,

@@ -39,7 +39,8 @@ fn region_bytes(cores: u64, chunks: u64, chunk_bytes: u64) -> u64
 
 /// The first rule of a layout that the numbers break.
 pub fn layout_rule(cores: u64, group: u64, chunks: u64, chunk_bytes: u64) -> Option<u32>
-    ensures { result ≡ layout_rule (record { cores = cores; group = group; chunks = chunks; chunk_bytes = chunk_bytes }) }
+    ensures { result ≡ layout_rule
+        (record { cores = cores; group = group; chunks = chunks; chunk_bytes = chunk_bytes }) }
 {
     if !(cores >= 1 && cores <= 16) {
         return Some(1);
@@ -92,7 +93,8 @@ impl Layout {
 
     /// The layout with these numbers, or the first rule that they break.
     pub fn new(cores: u32, group: u32, chunks: u32, chunk_bytes: u64) -> Result<Layout, BadLayout>
-        ensures { result ≡ checked_layout (record { cores = cores; group = group; chunks = chunks; chunk_bytes = chunk_bytes }) }
+        ensures { result ≡ checked_layout
+            (record { cores = cores; group = group; chunks = chunks; chunk_bytes = chunk_bytes }) }
     {
         if let Some(rule) = layout_rule(cores as u64, group as u64, chunks as u64, chunk_bytes) {
             return Err(BadLayout { rule });

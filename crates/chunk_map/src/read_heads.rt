@@ -14,7 +14,8 @@ use pm_region::Region;
 /// The head of a chunk, or the rule that it breaks. The address is a word number of the region.
 pub fn read_head<R: Region>(region: &R, layout: &Layout, at: u64) -> Result<Head, BadHead>
     requires { HeadLies (R.state region.now).frame at }
-    ensures told { IsTelling (R.state region.now) → result ≡ checked_head (head_at layout.now (lasts (R.state region.now)) at) }
+    ensures told { IsTelling (R.state region.now)
+        → result ≡ checked_head (head_at layout.now (lasts (R.state region.now)) at) }
     // Whatever the region tells.
     ensures fits { IfOk result (FitsHead layout.now) }
 {
@@ -29,7 +30,8 @@ pub fn read_head<R: Region>(region: &R, layout: &Layout, at: u64) -> Result<Head
 
 // The layout with these numbers, where they keep the rules.
 fn layout_of(cores: u64, group: u64, chunks: u64, chunk_bytes: u64) -> Option<Layout>
-    ensures { result ≡ layout_by_rule (record { cores = cores; group = group; chunks = chunks; chunk_bytes = chunk_bytes }) }
+    ensures { result ≡ layout_by_rule
+        (record { cores = cores; group = group; chunks = chunks; chunk_bytes = chunk_bytes }) }
 {
     if layout_rule(cores, group, chunks, chunk_bytes).is_some() {
         return None;
@@ -41,7 +43,8 @@ fn layout_of(cores: u64, group: u64, chunks: u64, chunk_bytes: u64) -> Option<La
 pub fn read_superblock<R: Region>(region: &R, bytes: u64) -> Result<Layout, NotARegion>
     requires first { (R.state region.now).frame.first ≡ 0 }
     requires words { IsLength bytes → (R.state region.now).frame.words ≡ bytes / 8 }
-    ensures told { IsTelling (R.state region.now) → result ≡ checked_superblock bytes (lasts (R.state region.now)) }
+    ensures told { IsTelling (R.state region.now)
+        → result ≡ checked_superblock bytes (lasts (R.state region.now)) }
     // Whatever the region tells.
     ensures bytes { IfOk result (λ l. IsLayout l × (total_bytes l ≡ bytes)) }
 {

@@ -33,7 +33,8 @@ pub fn add_last(nodes: &mut Vec<Node>, chains: &mut Vec<Chain>, node: u32, held:
     requires free { held_at nodes.old.items node ≡ None }
     requires room { vec_len chains.old < vec_capacity chains.old }
     requires below { length (all_held nodes.old.items chains.old.items) < length nodes.old.items }
-    ensures extends { Extends nodes.old.items chains.old.items nodes.new.items chains.new.items node held }
+    ensures extends { Extends nodes.old.items chains.old.items nodes.new.items chains.new.items node
+        held }
     ensures capacity { vec_capacity chains.old ≤ vec_capacity chains.new }
 {
     let key = key_of(&held.request);
@@ -65,7 +66,8 @@ pub fn take_first(
 ) -> Held
     requires table { IsTable nodes.old.items chains.old.items }
     requires place { place < vec_len chains.old }
-    ensures shortens { Shortens nodes.old.items chains.old.items nodes.new.items chains.new.items free (slice_index_or chains.old.items place none) result }
+    ensures shortens { Shortens nodes.old.items chains.old.items nodes.new.items chains.new.items
+        free (slice_index_or chains.old.items place none) result }
     ensures capacity { vec_capacity chains.old ≤ vec_capacity chains.new }
 {
     let first = chains[place].first;

@@ -57,7 +57,8 @@ pub fn exchange(nodes: &mut Vec<Node>, at: u32, node: Node) -> Node
 // Links a place to another.
 pub fn link(nodes: &mut Vec<Node>, at: u32, next: u32)
     requires { at < vec_len nodes.old }
-    ensures items { nodes.new.items ≡ slice_set nodes.old.items at (node_with (slice_index_or nodes.old.items at bare).held (Some next)) }
+    ensures items { nodes.new.items ≡ slice_set nodes.old.items at
+        (node_with (slice_index_or nodes.old.items at bare).held (Some next)) }
 {
     nodes[at as usize].next = Some(next);
 }

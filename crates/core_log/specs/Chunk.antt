@@ -24,7 +24,8 @@ HasLog at tail ws image = (image at ≡ 1) × (image (at + 1) ≡ tail) × (payl
 
 -- the words from before, with the batch wholly or without it
 abbrev pub HasOrLacks : ℕ → ℕ → List ℕ → List ℕ → (ℕ → ℕ) → Type 0
-HasOrLacks at tail ws batch image = HasLog at tail ws image ⊎ HasLog at (tail + length batch) (ws ++ batch) image
+HasOrLacks at tail ws batch image = HasLog at tail ws image
+    ⊎ HasLog at (tail + length batch) (ws ++ batch) image
 
 -- Free, or a Log with nothing in it
 abbrev pub FreeOrEmpty : ℕ → (ℕ → ℕ) → Type 0

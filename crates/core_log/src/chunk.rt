@@ -22,9 +22,11 @@ fn word_or_zero(words: &[u64], at: u64) -> u64
 // Stores so many words: those of the list, then zeros.
 fn store_all<R: Region>(region: &mut R, at: u64, words: &[u64], count: u64)
     requires low { (R.state region.old).frame.first ≤ at }
-    requires high { at + count ≤ (R.state region.old).frame.first + (R.state region.old).frame.words }
+    requires high { at + count ≤ (R.state region.old).frame.first
+        + (R.state region.old).frame.words }
     requires fits { at + count < 2 ^ 64 }
-    ensures run { During (R.state region.old) (R.state region.new) (KeepsOutside (cell_now (R.state region.old)) at (at + count)) }
+    ensures run { During (R.state region.old) (R.state region.new)
+        (KeepsOutside (cell_now (R.state region.old)) at (at + count)) }
     ensures stored { IsTelling (R.state region.new) → (j : ℕ) → j < count
         → (cell_now (R.state region.new) (at + j)).last ≡ slice_index words.now j }
 {
@@ -41,9 +43,11 @@ fn write_lines<R: Region>(
     lines: u64,
 ) -> Result<(), RegionFault>
     requires low { (R.state region.old).frame.first ≤ 8 * line }
-    requires high { 8 * (line + lines) ≤ (R.state region.old).frame.first + (R.state region.old).frame.words }
+    requires high { 8 * (line + lines) ≤ (R.state region.old).frame.first
+        + (R.state region.old).frame.words }
     requires fits { 8 * (line + lines) < 2 ^ 64 }
-    ensures run { During (R.state region.old) (R.state region.new) (KeepsOutside (cell_now (R.state region.old)) (8 * line) (8 * (line + lines))) }
+    ensures run { During (R.state region.old) (R.state region.new)
+        (KeepsOutside (cell_now (R.state region.old)) (8 * line) (8 * (line + lines))) }
     ensures ok { OnOk result (IsTelling (R.state region.new) → (j : ℕ) → j < 8 * lines
         → cell_now (R.state region.new) (8 * line + j) ≡ certain (slice_index words.now j)) }
     ensures cause { OnErr result (Rose (R.state region.old).faults (R.state region.new).faults) }
@@ -67,8 +71,10 @@ pub fn append_at<R: Region>(
     requires room { tail + 8 * lines_for (length batch.now) + 32 ≤ words }
     ensures moments { During (R.state region.old) (R.state region.new) (EachIn at (at + words)
         (HasOrLacks at tail (words_now (R.state region.old) at tail) (padded batch.now))) }
-    ensures outside { During (R.state region.old) (R.state region.new) (KeepsOutside (cell_now (R.state region.old)) at (at + words)) }
-    ensures ok { OnOk result (IsTelling (R.state region.new) → Appended (R.state region.old) (R.state region.new) at tail (padded batch.now)) }
+    ensures outside { During (R.state region.old) (R.state region.new)
+        (KeepsOutside (cell_now (R.state region.old)) at (at + words)) }
+    ensures ok { OnOk result (IsTelling (R.state region.new)
+        → Appended (R.state region.old) (R.state region.new) at tail (padded batch.now)) }
     ensures cause { OnErr result (Rose (R.state region.old).faults (R.state region.new).faults) }
 {
     let lines = (batch.len() as u64 + 7) / 8;

@@ -16,13 +16,15 @@ ghost use Rattle.core_log.specs.PartImages.{EachInPart, GainsSince, LosesSince};
 /// While a batch is appended, each image of the part has all of its entries more, or none, beside an image that a
 /// crash might leave before. Afterwards each has all of them.
 pub fn every_append()
-    ensures throughout { (s t : State) (log : LogState) (es : List Entry) (ws : List ℕ) → StandsIn s log
+    ensures throughout { (s t : State) (log : LogState) (es : List Entry) (ws : List ℕ)
+        → StandsIn s log
         → ws ≡ flat_map words_of es → IsBatch es → lines_for (length ws) ≤ room_of log
         → During s t (KeepsOutside (cell_now s) (open_first log) (open_first log + chunk_words log.layout))
         → During s t (EachInOpen log (HasOrLacks (open_first log) (open_tail log)
         (words_now s (open_first log) (open_tail log)) (padded ws)))
         → During s t (EachInPart log (λ image. GainsSince s log [] image ⊎ GainsSince s log es image)) }
-    ensures after { (s t : State) (log after : LogState) (es : List Entry) (ws : List ℕ) → StandsIn s log
+    ensures after { (s t : State) (log after : LogState) (es : List Entry) (ws : List ℕ)
+        → StandsIn s log
         → ws ≡ flat_map words_of es → IsBatch es → lines_for (length ws) ≤ room_of log
         → During s t (KeepsOutside (cell_now s) (open_first log) (open_first log + chunk_words log.layout))
         → AppendedBatch s t log after (padded ws)
@@ -31,7 +33,8 @@ pub fn every_append()
 
 /// While a chunk is opened, each image of the part has the entries that it had.
 pub fn every_opening()
-    ensures { (s t : State) (log : LogState) (chunk : ℕ) → StandsIn s log → chunk < log.layout.chunks
+    ensures { (s t : State) (log : LogState) (chunk : ℕ) → StandsIn s log
+        → chunk < log.layout.chunks
         → (IsTelling s → Surely (cell_now s (first_of log chunk)) 0)
         → During s t (KeepsOutside (cell_now s) (first_of log chunk) (first_of log chunk + 8))
         → During s t (EachInChunk log chunk (FreeOrEmpty (first_of log chunk)))
@@ -51,7 +54,8 @@ pub fn every_freeing()
 
 /// A log stands while a chunk of the part is written that it doesn't have.
 pub fn every_other_chunk()
-    ensures { (s t : State) (log : LogState) (chunk : ℕ) → (IsTelling s → tail_of log.chunks chunk ≡ None)
+    ensures { (s t : State) (log : LogState) (chunk : ℕ)
+        → (IsTelling s → tail_of log.chunks chunk ≡ None)
         → During s t (KeepsOutside (cell_now s) (first_of log chunk) (first_of log chunk + chunk_words log.layout))
         → StandsIn s log → StandsIn t log }
 {}

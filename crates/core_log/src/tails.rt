@@ -53,7 +53,8 @@ pub fn set_tail(chunks: &mut Vec<LogChunk>, chunk: u32, tail: u64)
 
 // Takes a chunk out.
 pub fn take_out(chunks: &mut Vec<LogChunk>, chunk: u32)
-    ensures items { is_some (tail_of chunks.old.items chunk) ≡ true → IsRising 0 chunks.old.items → chunks.new.items ≡ without chunks.old.items chunk }
+    ensures items { is_some (tail_of chunks.old.items chunk) ≡ true → IsRising 0 chunks.old.items
+        → chunks.new.items ≡ without chunks.old.items chunk }
     ensures capacity { vec_capacity chunks.old ≤ vec_capacity chunks.new }
 {
     let at = place_of(chunks, chunk);

@@ -38,13 +38,16 @@ fn version_of(word: u64) -> u32
 // The first place that has no zero word, from a place on; the tail where there is none.
 fn skip_zeros<R: Region>(region: &R, first: u64, place: u64, tail: u64) -> u64
     requires low { (R.state region.now).frame.first ≤ first }
-    requires high { first + tail ≤ (R.state region.now).frame.first + (R.state region.now).frame.words }
+    requires high { first + tail ≤ (R.state region.now).frame.first
+        + (R.state region.now).frame.words }
     requires fits { first + tail < 2 ^ 64 }
     requires place { place ≤ tail }
     ensures from { place ≤ result }
     ensures end { result ≤ tail }
-    ensures zeros { IsTelling (R.state region.now) → (k : ℕ) → place ≤ k → k < result → lasts (R.state region.now) (first + k) ≡ 0 }
-    ensures some { IsTelling (R.state region.now) → result < tail → lasts (R.state region.now) (first + result) ≢ 0 }
+    ensures zeros { IsTelling (R.state region.now) → (k : ℕ) → place ≤ k → k < result
+        → lasts (R.state region.now) (first + k) ≡ 0 }
+    ensures some { IsTelling (R.state region.now) → result < tail
+        → lasts (R.state region.now) (first + result) ≢ 0 }
 {
     for i in place..tail {
         if region.load(first + i) != 0 {
@@ -57,14 +60,22 @@ fn skip_zeros<R: Region>(region: &R, first: u64, place: u64, tail: u64) -> u64
 // The next entry at or after a place of a payload, without its body. The payload begins at word `first`.
 pub fn peek_from<R: Region>(region: &R, first: u64, place: u64, tail: u64) -> Option<Peek>
     requires low { (R.state region.now).frame.first ≤ first }
-    requires high { first + tail ≤ (R.state region.now).frame.first + (R.state region.now).frame.words }
+    requires high { first + tail ≤ (R.state region.now).frame.first
+        + (R.state region.now).frame.words }
     requires fits { first + tail < 2 ^ 64 }
     requires place { place ≤ tail }
-    requires spelled { IsTelling (R.state region.now) → Spelled (words_from (lasts (R.state region.now)) first tail) }
-    requires between { IsTelling (R.state region.now) → IsBetween place (scan_of (words_from (lasts (R.state region.now)) first tail)).entries }
-    ensures told { IsTelling (R.state region.now) → result ≡ option_map (peek_at first) (next_entry place (scan_of (words_from (lasts (R.state region.now)) first tail)).entries) }
-    ensures next { IsTelling (R.state region.now) → IfSome result (λ p. IsBetween p.next (scan_of (words_from (lasts (R.state region.now)) first tail)).entries) }
-    ensures within { IfSome result (λ p. (place ≤ p.place) × ((p.place < p.next) × (p.next ≤ tail))) }
+    requires spelled { IsTelling (R.state region.now)
+        → Spelled (words_from (lasts (R.state region.now)) first tail) }
+    requires between { IsTelling (R.state region.now)
+        → IsBetween place (scan_of (words_from (lasts (R.state region.now)) first tail)).entries }
+    ensures told { IsTelling (R.state region.now)
+        → result ≡ option_map (peek_at first)
+        (next_entry place (scan_of (words_from (lasts (R.state region.now)) first tail)).entries) }
+    ensures next { IsTelling (R.state region.now)
+        → IfSome result (λ p. IsBetween p.next
+        (scan_of (words_from (lasts (R.state region.now)) first tail)).entries) }
+    ensures within { IfSome result (λ p. (place ≤ p.place)
+        × ((p.place < p.next) × (p.next ≤ tail))) }
     ensures at { IfSome result (λ p. p.at ≡ first + p.place) }
     ensures size { IfSome result (λ p. p.next ≤ p.place + 34) }
 {
@@ -98,14 +109,22 @@ pub fn walk_from<R: Region>(
     tail: u64,
 ) -> Result<Option<WalkStep>, Memory>
     requires low { (R.state region.now).frame.first ≤ first }
-    requires high { first + tail ≤ (R.state region.now).frame.first + (R.state region.now).frame.words }
+    requires high { first + tail ≤ (R.state region.now).frame.first
+        + (R.state region.now).frame.words }
     requires fits { first + tail < 2 ^ 64 }
     requires place { place ≤ tail }
-    requires spelled { IsTelling (R.state region.now) → Spelled (words_from (lasts (R.state region.now)) first tail) }
-    requires between { IsTelling (R.state region.now) → IsBetween place (scan_of (words_from (lasts (R.state region.now)) first tail)).entries }
-    ensures told { IfOk result (λ step. IsTelling (R.state region.now) → step ≡ option_map step_at (next_entry place (scan_of (words_from (lasts (R.state region.now)) first tail)).entries)) }
-    ensures next { IfOk result (λ step. IsTelling (R.state region.now) → IfSome step (λ s. IsBetween s.next (scan_of (words_from (lasts (R.state region.now)) first tail)).entries)) }
-    ensures within { IfOk result (λ step. IfSome step (λ s. (place ≤ s.place) × ((s.place < s.next) × (s.next ≤ tail)))) }
+    requires spelled { IsTelling (R.state region.now)
+        → Spelled (words_from (lasts (R.state region.now)) first tail) }
+    requires between { IsTelling (R.state region.now)
+        → IsBetween place (scan_of (words_from (lasts (R.state region.now)) first tail)).entries }
+    ensures told { IfOk result (λ step. IsTelling (R.state region.now)
+        → step ≡ option_map step_at
+        (next_entry place (scan_of (words_from (lasts (R.state region.now)) first tail)).entries)) }
+    ensures next { IfOk result (λ step. IsTelling (R.state region.now)
+        → IfSome step (λ s. IsBetween s.next
+        (scan_of (words_from (lasts (R.state region.now)) first tail)).entries)) }
+    ensures within { IfOk result (λ step. IfSome step (λ s. (place ≤ s.place)
+        × ((s.place < s.next) × (s.next ≤ tail)))) }
 {
     let Some(found) = peek_from(region, first, place, tail) else {
         return Ok(None);

@@ -10,5 +10,6 @@ pub fn every_pledge()
 
 /// A chunk that may be cut leaves the rule kept when it is cut and the lines of its change are pledged.
 pub fn every_cut()
-    ensures { (s : Supply) (need : ℕ) → may_cut s need ≡ true → KeepsRoom (without_chunk (pledging s need)) }
+    ensures { (s : Supply) (need : ℕ) → may_cut s need ≡ true
+        → KeepsRoom (without_chunk (pledging s need)) }
 {}

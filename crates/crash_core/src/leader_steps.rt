@@ -117,7 +117,8 @@ pub fn look_at_mail(state: &mut GroupState, member: u32, from: u32, to: u32) -> 
 
 /// Whether the member may take the entry that is posted in a slot.
 fn may_take_from(state: &GroupState, member: u32, owner: u32, slot: u32, entry: &Entry) -> bool
-    ensures { (group_of state.now).slot owner slot ≡ Posted entry.now → IsTrue result ↔ CanTake (group_of state.now) member owner slot entry.now }
+    ensures { (group_of state.now).slot owner slot ≡ Posted entry.now
+        → IsTrue result ↔ CanTake (group_of state.now) member owner slot entry.now }
 {
     if !has_member(state, member) || !has_member(state, owner) || slot >= 8 {
         return false;

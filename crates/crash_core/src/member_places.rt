@@ -31,7 +31,8 @@ fn first_unit(layout: &Layout, group: u32, member: u64) -> u128
 
 /// Whether a run of units lies in a member's part.
 pub fn lies_in(layout: &Layout, group: u32, member: u32, at: u64, units: u64) -> bool
-    ensures { IsTrue result ↔ LiesIn (record { layout = layout.now; group = group }) member at units }
+    ensures { IsTrue result ↔ LiesIn (record { layout = layout.now; group = group }) member at
+        units }
 {
     let first = first_unit(layout, group, member as u64);
     let end = first_unit(layout, group, member as u64 + 1);

@@ -65,7 +65,8 @@ fn is_empty(state: &GroupState, member: u32, slot: u32) -> bool
 
 /// Whether the key has no change under way, and the entry's version is its next one.
 fn is_next(view: &CoreView, entry: &Entry) -> bool
-    ensures { IsTrue result ↔ ((get nat_cmp view.now.pending entry.now.key ≡ None) × (entry.now.version ≡ last_in view.now entry.now.key + 1)) }
+    ensures { IsTrue result ↔ ((get nat_cmp view.now.pending entry.now.key ≡ None)
+        × (entry.now.version ≡ last_in view.now entry.now.key + 1)) }
 {
     let last = view.last.get(&entry.key).copied().unwrap_or(0);
     !view.pending.contains_key(&entry.key) && entry.version >= 1 && last == entry.version - 1
@@ -73,7 +74,8 @@ fn is_next(view: &CoreView, entry: &Entry) -> bool
 
 /// Whether a delete has something to delete.
 fn is_useful(view: &CoreView, entry: &Entry) -> bool
-    ensures { IsTrue result ↔ (entry.now.body ≡ Tombstone → get nat_cmp view.now.cell entry.now.key ≢ None) }
+    ensures { IsTrue result ↔ (entry.now.body ≡ Tombstone → get nat_cmp view.now.cell entry.now.key
+        ≢ None) }
 {
     match entry.body {
         Body::Tombstone => view.cell.contains_key(&entry.key),
@@ -83,7 +85,8 @@ fn is_useful(view: &CoreView, entry: &Entry) -> bool
 
 /// Whether no block covers one of these units.
 fn is_clear(blocks: &BTreeMap<u64, Block>, first: u64, count: u64) -> bool
-    ensures { IsTrue result ↔ ((q : ℕ) (b : Block) → get nat_cmp blocks.now q ≡ Some b → Apart first count q (units (length b.bytes))) }
+    ensures { IsTrue result ↔ ((q : ℕ) (b : Block) → get nat_cmp blocks.now q ≡ Some b
+        → Apart first count q (units (length b.bytes))) }
 {
     for (pointer, block) in blocks {
         if !is_apart(first, count, *pointer, units_of(block.bytes.bytes().len())) {
@@ -96,7 +99,8 @@ fn is_clear(blocks: &BTreeMap<u64, Block>, first: u64, count: u64) -> bool
 /// Whether a block at a pointer, for a value of this length, lies in the own part and covers no other.
 fn is_free_for(state: &GroupState, member: u32, pointer: u64, value: &Value) -> bool
     requires { member < state.now.layout.group }
-    ensures { IsTrue result ↔ (GetsBlock (length value.now) × IsClear (group_of state.now) member pointer value.now) }
+    ensures { IsTrue result ↔ (GetsBlock (length value.now)
+        × IsClear (group_of state.now) member pointer value.now) }
 {
     let length = value.bytes().len();
     if length < 256 || length > 1_048_568 {
@@ -112,7 +116,8 @@ fn is_free_for(state: &GroupState, member: u32, pointer: u64, value: &Value) -> 
 /// Whether the block that an entry points to, where it does, may be had for the value.
 fn has_free_block(state: &GroupState, member: u32, entry: &Entry, value: &Value) -> bool
     requires { member < state.now.layout.group }
-    ensures { IsTrue result ↔ ((p : ℕ) → entry.now.body ≡ Pointer p → GetsBlock (length value.now) × IsClear (group_of state.now) member p value.now) }
+    ensures { IsTrue result ↔ ((p : ℕ) → entry.now.body ≡ Pointer p → GetsBlock (length value.now)
+        × IsClear (group_of state.now) member p value.now) }
 {
     match entry.body {
         Body::Pointer(pointer) => is_free_for(state, member, pointer, value),
@@ -139,7 +144,8 @@ fn may_post(state: &GroupState, member: u32, slot: u32, entry: &Entry, value: &V
 
 /// Adds the block that an entry points to, where it does.
 fn add_block(blocks: &mut BTreeMap<u64, Block>, entry: &Entry, bytes: Value) -> Result<(), Memory>
-    ensures { OnOk result ((q : ℕ) → get nat_cmp blocks.new q ≡ with_block entry.now.key bytes entry.now.body (get nat_cmp blocks.old) q) }
+    ensures { OnOk result ((q : ℕ) → get nat_cmp blocks.new q ≡ with_block entry.now.key bytes
+        entry.now.body (get nat_cmp blocks.old) q) }
 {
     match entry.body {
         Body::Pointer(pointer) => {
@@ -160,7 +166,8 @@ pub fn post(
     entry: &Entry,
     value: &Value,
 ) -> Result<bool, Memory>
-    ensures { IfOk result (λ made. Makes made state.old member (Post slot entry.now value.now) state.new) }
+    ensures { IfOk result (λ made. Makes made state.old member (Post slot entry.now value.now)
+        state.new) }
 {
     if !may_post(state, member, slot, entry, value) {
         return Ok(false);

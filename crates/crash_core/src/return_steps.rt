@@ -139,7 +139,8 @@ pub fn fail(
 
 /// Whether the member may take back the entry that is posted in a slot of its own.
 fn may_withdraw(state: &GroupState, member: u32, slot: u32, entry: &Entry) -> bool
-    ensures { (group_of state.now).slot member slot ≡ Posted entry.now → IsTrue result ↔ CanWithdraw (group_of state.now) member slot entry.now }
+    ensures { (group_of state.now).slot member slot ≡ Posted entry.now
+        → IsTrue result ↔ CanWithdraw (group_of state.now) member slot entry.now }
 {
     if !has_slot(state, member, slot) || owner_of(&state.layout, state.group, entry.key) != member {
         return false;
@@ -151,7 +152,8 @@ fn may_withdraw(state: &GroupState, member: u32, slot: u32, entry: &Entry) -> bo
 
 /// Takes the block out that a body points to, where it does.
 fn drop_block(blocks: &mut BTreeMap<u64, Block>, body: &Body)
-    ensures { (q : ℕ) → get nat_cmp blocks.new q ≡ cond (points_at body.now q) None (get nat_cmp blocks.old q) }
+    ensures { (q : ℕ) → get nat_cmp blocks.new q ≡ cond (points_at body.now q) None
+        (get nat_cmp blocks.old q) }
 {
     if let Body::Pointer(pointer) = body {
         blocks.remove(pointer);

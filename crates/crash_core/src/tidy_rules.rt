@@ -27,7 +27,8 @@ fn is_apart(name: &(Key, Version), key: Key, version: Version) -> bool
 
 /// Whether no other entry of a key stands than the one of this version.
 pub fn stands_alone(present: &BTreeMap<(Key, Version), u32>, key: Key, version: Version) -> bool
-    ensures { IsTrue result ↔ ((u h : ℕ) → get pair_cmp present.now (key, u) ≡ Some h → u ≡ version) }
+    ensures { IsTrue result ↔ ((u h : ℕ) → get pair_cmp present.now (key, u) ≡ Some h
+        → u ≡ version) }
 {
     for (name, _) in present {
         if !is_apart(name, key, version) {
@@ -72,7 +73,8 @@ fn is_spent(view: &CoreView, key: Key) -> bool
 
 /// Adds a key to a list where it is spent.
 fn add_spent(keys: &mut Vec<Key>, view: &CoreView, key: Key) -> Result<(), Memory>
-    ensures { OnOk result ((k : ℕ) → In k keys.new.items ↔ (In k keys.old.items ⊎ ((k ≡ key) × IsSpentIn view.now k))) }
+    ensures { OnOk result ((k : ℕ) → In k keys.new.items ↔ (In k keys.old.items
+        ⊎ ((k ≡ key) × IsSpentIn view.now k))) }
 {
     if is_spent(view, key) {
         keys.push(key)?;
@@ -83,7 +85,8 @@ fn add_spent(keys: &mut Vec<Key>, view: &CoreView, key: Key) -> Result<(), Memor
 /// The keys with a last version of which nothing is left.
 fn spent_keys(alloc: Global, view: &CoreView) -> Result<Vec<Key>, Memory>
     ensures only { IfOk result (λ keys. (k : ℕ) → In k keys.items → IsSpentIn view.now k) }
-    ensures all { IfOk result (λ keys. (k v : ℕ) → get nat_cmp view.now.last k ≡ Some v → IsSpentIn view.now k → In k keys.items) }
+    ensures all { IfOk result (λ keys. (k v : ℕ) → get nat_cmp view.now.last k ≡ Some v
+        → IsSpentIn view.now k → In k keys.items) }
 {
     let mut keys = Vec::new(alloc);
     for (key, _) in &view.last {
@@ -101,7 +104,10 @@ fn add_untold(
     name: EntryName,
     home: u32,
 ) -> Result<(), Memory>
-    ensures { OnOk result ((k n : ℕ) → (has names.new.items k n ≡ true) ↔ ((has names.old.items k n ≡ true) ⊎ ((k ≡ name.key) × (n ≡ name.version) × (owner (place_of state.now) k ≡ member) × (home ≡ member) × IsDeadIn view.now k n))) }
+    ensures { OnOk result ((k n : ℕ) → (has names.new.items k n ≡ true)
+        ↔ ((has names.old.items k n ≡ true)
+        ⊎ ((k ≡ name.key) × (n ≡ name.version) × (owner (place_of state.now) k ≡ member)
+        × (home ≡ member) × IsDeadIn view.now k n))) }
 {
     if home == member
         && owner_of(&state.layout, state.group, name.key) == member
@@ -119,7 +125,8 @@ fn names_to_tell(
     member: u32,
     view: &CoreView,
 ) -> Result<Vec<EntryName>, Memory>
-    ensures { IfOk result (λ names. (k n : ℕ) → (has names.items k n ≡ true) ↔ MustTell (place_of state.now) member view.now k n) }
+    ensures { IfOk result (λ names. (k n : ℕ) → (has names.items k n ≡ true)
+        ↔ MustTell (place_of state.now) member view.now k n) }
 {
     let mut names = Vec::new(alloc);
     for (name, home) in &view.present {

@@ -47,7 +47,8 @@ impl Store {
         ensures some { 0 < length piece.now → 0 < result }
         ensures room { self.new.room ≡ self.old.room }
         ensures takes { Takes self.old.bytes self.new.bytes (take result piece.now) }
-        ensures tells { IfSome self.old.bytes (λ bytes. length bytes + result ≤ self.old.room → IsSome self.new.bytes) }
+        ensures tells { IfSome self.old.bytes (λ bytes. length bytes + result ≤ self.old.room
+            → IsSome self.new.bytes) }
     {
         let count = (piece.len() as u64).min(self.most) as usize;
         let free = self.room as usize - self.kept.len();

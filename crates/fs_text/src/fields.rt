@@ -18,7 +18,8 @@ pub struct FirstLine<'a> {
 /// Parts a text that isn't empty after its first line.
 pub fn first_line(bytes: &[u8]) -> FirstLine<'_>
     requires { 0 < length bytes.now }
-    ensures lines { lines_of bytes.now ≡ (result.text.now, result.ended) ∷ lines_of result.rest.now }
+    ensures lines { lines_of bytes.now ≡ (result.text.now, result.ended)
+        ∷ lines_of result.rest.now }
     ensures shorter { length result.rest.now < length bytes.now }
 {
     match memchr(b'\n', bytes) {

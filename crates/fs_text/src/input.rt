@@ -132,12 +132,14 @@ pub fn read_until<S: Source>(
     cores: u32,
     built: Built,
 ) -> Result<Input, UntilError>
-    ensures exact { IfSome (S.coming source.old) (λ bytes. StopsAs result (input_or_stop built cores bytes)) }
+    ensures exact { IfSome (S.coming source.old)
+        (λ bytes. StopsAs result (input_or_stop built cores bytes)) }
     ensures some { (bytes : List ℕ) × StopsAs result (input_or_stop built cores bytes) }
     ensures within { IfOk result (λ input. IsWithin cores input) }
     ensures end { OnOk result (IsAtEnd (S.coming source.new)) }
     ensures whole { is_said result ≡ true → IsReadOut (S.coming source.old) (S.coming source.new) }
-    ensures cause { IsErrOf result UntilError.SourceFault → Rose (S.fault_count source.old) (S.fault_count source.new) }
+    ensures cause { IsErrOf result UntilError.SourceFault
+        → Rose (S.fault_count source.old) (S.fault_count source.new) }
     ensures count { S.fault_count source.old ≤ S.fault_count source.new }
 {
     let bytes = read_all(alloc, source, MOST_READ)?;
@@ -151,7 +153,8 @@ pub fn read_input<S: Source>(alloc: Global, source: &mut S, cores: u32) -> Resul
     ensures some { (bytes : List ℕ) × Answers result (input_of cores bytes) }
     ensures within { IfOk result (λ input. IsWithin cores input) }
     ensures end { OnOk result (IsAtEnd (S.coming source.new)) }
-    ensures cause { IsErrOf result InputError.SourceFault → Rose (S.fault_count source.old) (S.fault_count source.new) }
+    ensures cause { IsErrOf result InputError.SourceFault
+        → Rose (S.fault_count source.old) (S.fault_count source.new) }
     ensures count { S.fault_count source.old ≤ S.fault_count source.new }
 {
     let bytes = read_all(alloc, source, MOST_READ)?;

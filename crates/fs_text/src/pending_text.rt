@@ -83,8 +83,10 @@ impl Pending {
 
     /// Puts bytes behind what waits, and sends what there is no room for.
     pub fn put<O: Sink>(&mut self, sink: &mut O, bytes: &[u8]) -> Result<(), SinkFault>
-        ensures ok { OnOk result (TakesUpTo (O.taken sink.old) (O.taken sink.new) (self.old ++ bytes.now) self.new) }
-        ensures err { OnErr result (TakesPrefix (O.taken sink.old) (O.taken sink.new) (self.old ++ bytes.now)) }
+        ensures ok { OnOk result (TakesUpTo (O.taken sink.old) (O.taken sink.new)
+            (self.old ++ bytes.now) self.new) }
+        ensures err { OnErr result (TakesPrefix (O.taken sink.old) (O.taken sink.new)
+            (self.old ++ bytes.now)) }
         ensures cause { OnErr result (Rose (O.fault_count sink.old) (O.fault_count sink.new)) }
         ensures count { O.fault_count sink.old ≤ O.fault_count sink.new }
     {

@@ -68,7 +68,8 @@ fn read_behind<S: Source>(
     ensures size { length bytes.new.items ≡ length bytes.old.items }
     ensures within { IfOk result (λ n. filled + n ≤ length bytes.old.items) }
     ensures kept { take filled bytes.new.items ≡ take filled bytes.old.items }
-    ensures gives { IfOk result (λ n. Gives (S.coming source.old) (S.coming source.new) (take n (drop filled bytes.new.items))) }
+    ensures gives { IfOk result (λ n. Gives (S.coming source.old) (S.coming source.new)
+        (take n (drop filled bytes.new.items))) }
     ensures end { IfOk result (λ n. n ≡ 0 → IsAtEnd (S.coming source.new)) }
     ensures cause { OnErr result (Rose (S.fault_count source.old) (S.fault_count source.new)) }
     ensures count { S.fault_count source.old ≤ S.fault_count source.new }
@@ -78,10 +79,12 @@ fn read_behind<S: Source>(
 
 /// The bytes of a source up to its end, or the first `most` of them.
 pub fn read_all<S: Source>(alloc: Global, source: &mut S, most: usize) -> Result<Vec<u8>, ReadError>
-    ensures gives { IfOk result (λ bytes. Gives (S.coming source.old) (S.coming source.new) bytes.items) }
+    ensures gives { IfOk result (λ bytes. Gives (S.coming source.old) (S.coming source.new)
+        bytes.items) }
     ensures most { IfOk result (λ bytes. length bytes.items ≤ most) }
     ensures end { IfOk result (λ bytes. length bytes.items < most → IsAtEnd (S.coming source.new)) }
-    ensures cause { IsErrOf result ReadError.SourceFault → Rose (S.fault_count source.old) (S.fault_count source.new) }
+    ensures cause { IsErrOf result ReadError.SourceFault
+        → Rose (S.fault_count source.old) (S.fault_count source.new) }
     ensures count { S.fault_count source.old ≤ S.fault_count source.new }
 {
     let mut bytes = Vec::new(alloc);

@@ -110,7 +110,8 @@ pub fn judge_at_stage(
     before: &Totals,
     first: &FirstLine<'_>,
 ) -> Result<(Line, Totals), UntilError>
-    ensures exact { StopsAs result (line_or_stop built cores number before.now (first.now.text.now, first.now.ended)) }
+    ensures exact { StopsAs result (line_or_stop built cores number before.now
+        (first.now.text.now, first.now.ended)) }
     ensures no_fault { IsErrOf result UntilError.SourceFault → ⊥ }
 {
     let closed = built.is_closed(cut(first.text).0);

@@ -53,7 +53,8 @@ impl Totals {
     /// With a line of so many bytes, or rule 8 or 9.
     pub fn with_line(&self, size: u64, line: &Line) -> Result<Totals, u32>
         requires { self.now.bytes + size ≤ 67108864 }
-        ensures { counted (with_line self.now size line.now) line.now ≡ map_ok (λ totals. (line.now, totals)) result }
+        ensures { counted (with_line self.now size line.now) line.now
+            ≡ map_ok (λ totals. (line.now, totals)) result }
     {
         let mut totals = Totals {
             bytes: self.bytes + size,

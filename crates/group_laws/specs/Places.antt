@@ -24,7 +24,8 @@ core_of p m = p.group * p.layout.group + m
 
 -- The member that owns a key. Where another group has the key, it is a number that no member has.
 unfoldable pub owner : Place → ℕ → ℕ
-owner p k = if layouts.owner p.layout k / p.layout.group == p.group then layouts.owner p.layout k % p.layout.group else p.layout.group
+owner p k = if layouts.owner p.layout k / p.layout.group == p.group then layouts.owner p.layout k %
+    p.layout.group else p.layout.group
 
 -- The first unit of a member's part, and of the number of members the one behind the last part. A unit has 256 bytes, and pointers count units from the region's start.
 unfoldable pub first_unit : Place → ℕ → ℕ

@@ -18,7 +18,8 @@ ghost use Rattle.group_laws.specs.Opening.{IsSound, IsOpened};
 
 /// A step of any kind on a lawful state leaves a lawful state.
 pub fn every_step()
-    ensures { (w : Group) (m : ℕ) (kind : Kind) (u : Group) → Lawful w → IsStep w m kind u → Lawful u }
+    ensures { (w : Group) (m : ℕ) (kind : Kind) (u : Group) → Lawful w → IsStep w m kind u
+        → Lawful u }
 {}
 
 /// Whatever steps the members make, in whatever order: the state stays lawful. Whatever a crash then leaves of

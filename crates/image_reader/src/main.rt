@@ -10,7 +10,7 @@ mod rule_texts;
 
 use ending::Ending;
 use fs_text::{StdSink, StdSource};
-use reading::read_region;
+use region_reading::read_region;
 use std::alloc::Global;
 use std::io;
 use std::process::ExitCode;

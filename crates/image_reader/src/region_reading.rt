@@ -12,9 +12,12 @@ use std::alloc::Global;
 
 /// Reads a region from a source, and writes its live pairs to a sink where it is sound.
 pub fn read_region<S: Source, O: Sink>(alloc: Global, source: &mut S, sink: &mut O) -> Ending
-    ensures tells { Tells result (S.coming source.old) (S.coming source.new) (O.taken sink.old) (O.taken sink.new) }
-    ensures source_fault { result ≡ endings.SourceFault → Rose (S.fault_count source.old) (S.fault_count source.new) }
-    ensures sink_fault { result ≡ endings.SinkFault → Rose (O.fault_count sink.old) (O.fault_count sink.new) }
+    ensures tells { Tells result (S.coming source.old) (S.coming source.new) (O.taken sink.old)
+        (O.taken sink.new) }
+    ensures source_fault { result ≡ endings.SourceFault
+        → Rose (S.fault_count source.old) (S.fault_count source.new) }
+    ensures sink_fault { result ≡ endings.SinkFault
+        → Rose (O.fault_count sink.old) (O.fault_count sink.new) }
 {
     let bytes = match read_all(alloc, source, MOST_BYTES + 1) {
         Ok(bytes) => bytes,

@@ -90,10 +90,14 @@ impl Allocator {
         ensures sets { IfOk result (λ a. AreSets a) }
         ensures layout { IfOk result (λ a. a.layout ≡ layout) }
         ensures part { IfOk result (λ a. a.part ≡ part) }
-        ensures free { IfOk result (λ a. (j : ℕ) → chunk_is_free a j ≡ is_free_there (slice_get heads.now j)) }
-        ensures class { IfOk result (λ a. (j : ℕ) → chunk_class a j ≡ class_there (slice_get heads.now j)) }
+        ensures free { IfOk result (λ a. (j : ℕ)
+            → chunk_is_free a j ≡ is_free_there (slice_get heads.now j)) }
+        ensures class { IfOk result (λ a. (j : ℕ)
+            → chunk_class a j ≡ class_there (slice_get heads.now j)) }
         ensures due { IfOk result (λ a. (j : ℕ) → chunk_is_due a j ≡ false) }
-        ensures used { IfOk result (λ a. (p : ℕ) → block_is_used a p ≡ (list_any (λ q. q == p) used.now && not (is_none (class_at a p)))) }
+        ensures used { IfOk result (λ a. (p : ℕ)
+            → block_is_used a p ≡ (list_any (λ q. q == p) used.now
+            && not (is_none (class_at a p)))) }
     {
         let mut allocator = Allocator::uncut(alloc, layout, part)?;
         for (chunk, head) in heads.iter().enumerate() {
@@ -232,8 +236,10 @@ impl Allocator {
         ensures sets { AreSets self.new }
         ensures layout { self.new.layout ≡ self.old.layout }
         ensures part { self.new.part ≡ self.old.part }
-        ensures free { (i : ℕ) → chunk_is_free self.new i ≡ (if i == chunk then is_free (Ok head) else chunk_is_free self.old i) }
-        ensures class { (i : ℕ) → chunk_class self.new i ≡ (if i == chunk then class_in (Ok head) else chunk_class self.old i) }
+        ensures free { (i : ℕ) → chunk_is_free self.new i
+            ≡ (if i == chunk then is_free (Ok head) else chunk_is_free self.old i) }
+        ensures class { (i : ℕ) → chunk_class self.new i ≡ (if i == chunk then class_in (Ok head)
+            else chunk_class self.old i) }
         ensures due { (i : ℕ) → chunk_is_due self.new i ≡ chunk_is_due self.old i }
         ensures used { SameBlocks self.old self.new }
     {
@@ -360,15 +366,24 @@ impl Allocator {
         value: &[u8],
     ) -> Result<(), RegionFault>
         requires used { block_is_used self.old pointer ≡ true }
-        requires class { (class : ℕ) → class_at self.old pointer ≡ Some class → (has_class (length value.now) class ≡ true) × HasHead (R.state region.old) self.old pointer class }
+        requires class { (class : ℕ) → class_at self.old pointer ≡ Some class
+            → (has_class (length value.now) class ≡ true)
+            × HasHead (R.state region.old) self.old pointer class }
         requires lies { PartLies (R.state region.old).frame self.old }
         // At every moment no other word is written, and the head is what it was or that of the class.
-        ensures outside { (class : ℕ) → class_at self.old pointer ≡ Some class → During (R.state region.old) (R.state region.new) (KeepsOthers self.old pointer class (cell_now (R.state region.old))) }
-        ensures head { (class : ℕ) → class_at self.old pointer ≡ Some class → During (R.state region.old) (R.state region.new) (EachIn (head_of self.old pointer) (head_of self.old pointer + 2) (HeadTurnsTo self.old pointer class)) }
+        ensures outside { (class : ℕ) → class_at self.old pointer ≡ Some class
+            → During (R.state region.old) (R.state region.new)
+            (KeepsOthers self.old pointer class (cell_now (R.state region.old))) }
+        ensures head { (class : ℕ) → class_at self.old pointer ≡ Some class
+            → During (R.state region.old) (R.state region.new)
+            (EachIn (head_of self.old pointer) (head_of self.old pointer + 2)
+            (HeadTurnsTo self.old pointer class)) }
         ensures sets { AreSets self.new }
-        ensures ok { OnOk result ((class : ℕ) → class_at self.old pointer ≡ Some class → WroteValue (R.state region.new) self.old self.new pointer class value.now) }
+        ensures ok { OnOk result ((class : ℕ) → class_at self.old pointer ≡ Some class
+            → WroteValue (R.state region.new) self.old self.new pointer class value.now) }
         ensures err { OnErr result (self.new ≡ self.old) }
-        ensures cause { OnErr result (Rose (R.state region.old).faults (R.state region.new).faults) }
+        ensures cause { OnErr result
+            (Rose (R.state region.old).faults (R.state region.new).faults) }
     {
         let class = self.class_at(pointer).unwrap();
         self.write_head(region, pointer, class)?;
@@ -415,10 +430,15 @@ impl Allocator {
         requires at { class_at self.now pointer ≡ Some class }
         requires head { HasHead (R.state region.old) self.now pointer class }
         requires lies { PartLies (R.state region.old).frame self.now }
-        ensures outside { During (R.state region.old) (R.state region.new) (KeepsOthers self.now pointer class (cell_now (R.state region.old))) }
-        ensures head { During (R.state region.old) (R.state region.new) (EachIn (head_of self.now pointer) (head_of self.now pointer + 2) (HeadTurnsTo self.now pointer class)) }
-        ensures ok { OnOk result (IsTelling (R.state region.new) → Surely (cell_now (R.state region.new) (head_of self.now pointer)) (2 + 256 * class)) }
-        ensures cause { OnErr result (Rose (R.state region.old).faults (R.state region.new).faults) }
+        ensures outside { During (R.state region.old) (R.state region.new)
+            (KeepsOthers self.now pointer class (cell_now (R.state region.old))) }
+        ensures head { During (R.state region.old) (R.state region.new)
+            (EachIn (head_of self.now pointer) (head_of self.now pointer + 2)
+            (HeadTurnsTo self.now pointer class)) }
+        ensures ok { OnOk result (IsTelling (R.state region.new)
+            → Surely (cell_now (R.state region.new) (head_of self.now pointer)) (2 + 256 * class)) }
+        ensures cause { OnErr result
+            (Rose (R.state region.old).faults (R.state region.new).faults) }
     {
         if self.is_due(pointer) {
             let at = self.head_of(pointer);
@@ -436,8 +456,11 @@ impl Allocator {
         pointer: u64,
     ) -> Result<Value, Memory>
         requires lies { PartLies (R.state region.now).frame self.now }
-        requires holds { IsTelling (R.state region.now) → (class : ℕ) × (class_at self.now pointer ≡ Some class) × (has_class (lasts (R.state region.now) (32 * pointer)) class ≡ true) }
-        ensures { IfOk result (λ v. IsTelling (R.state region.now) → v ≡ block_bytes (lasts (R.state region.now)) pointer) }
+        requires holds { IsTelling (R.state region.now) → (class : ℕ)
+            × (class_at self.now pointer ≡ Some class)
+            × (has_class (lasts (R.state region.now) (32 * pointer)) class ≡ true) }
+        ensures { IfOk result (λ v. IsTelling (R.state region.now)
+            → v ≡ block_bytes (lasts (R.state region.now)) pointer) }
     {
         // Where the region tells its words there is a block with a value.
         match self.class_at(pointer) {

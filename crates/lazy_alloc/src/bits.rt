@@ -34,7 +34,8 @@ pub fn without(word: u64, at: u32) -> u64
 // The lowest bit that is set.
 pub fn lowest(word: u64) -> Option<u32>
     ensures small { IfSome result (λ j. j < 64) }
-    ensures lowest { MatchOption result ((i : ℕ) → has word i ≡ false) (λ j. (has word j ≡ true) × ((i : ℕ) → i < j → has word i ≡ false)) }
+    ensures lowest { MatchOption result ((i : ℕ) → has word i ≡ false) (λ j. (has word j ≡ true)
+        × ((i : ℕ) → i < j → has word i ≡ false)) }
 {
     if word == 0 {
         None
@@ -46,7 +47,8 @@ pub fn lowest(word: u64) -> Option<u32>
 // The lowest bit that is not set.
 fn lowest_unset(word: u64) -> Option<u32>
     ensures small { IfSome result (λ j. j < 64) }
-    ensures lowest { MatchOption result ((i : ℕ) → i < 64 → has word i ≡ true) (λ j. (has word j ≡ false) × ((i : ℕ) → i < j → has word i ≡ true)) }
+    ensures lowest { MatchOption result ((i : ℕ) → i < 64 → has word i ≡ true)
+        (λ j. (has word j ≡ false) × ((i : ℕ) → i < j → has word i ≡ true)) }
 {
     if word == u64::MAX {
         None
@@ -74,7 +76,8 @@ pub fn set(words: &mut Vec<u64>, at: u64)
 pub fn clear(words: &mut Vec<u64>, at: u64)
     requires { at < 64 * length words.old.items }
     ensures long { length words.new.items ≡ length words.old.items }
-    ensures each { (i : ℕ) → has_bit words.new.items i ≡ (has_bit words.old.items i && not (i == at)) }
+    ensures each { (i : ℕ) → has_bit words.new.items i
+        ≡ (has_bit words.old.items i && not (i == at)) }
 {
     let word = (at / 64) as usize;
     words[word] = without(words[word], (at % 64) as u32);

@@ -37,7 +37,8 @@ pub fn blocks_in(layout: &Layout, class: u32) -> u64
 
 /// Whether a pointer is one into the part.
 pub fn is_in_part(layout: &Layout, part: u32, pointer: u64) -> bool
-    ensures { result ≡ (nat_le 16 pointer && chunk_at layout.now pointer / layout.now.chunks == part) }
+    ensures { result ≡ (nat_le 16 pointer && chunk_at layout.now pointer / layout.now.chunks ==
+        part) }
 {
     pointer >= 16 && (pointer - 16) / units(layout) / layout.geometry().chunks as u64 == part as u64
 }
@@ -88,7 +89,8 @@ pub fn block_at(layout: &Layout, part: u32, chunk: u32, class: u32, block: u64) 
     requires chunk { chunk < layout.now.chunks }
     requires class { class ≤ 12 }
     requires fits { block * 2 ^ class < chunk_units layout.now }
-    ensures { result ≡ 16 + (part * layout.now.chunks + chunk) * chunk_units layout.now + (1 + block * 2 ^ class) }
+    ensures { result ≡ 16 + (part * layout.now.chunks + chunk) * chunk_units layout.now
+        + (1 + block * 2 ^ class) }
 {
     // A chunk has few units, which bounds the product.
     let _units = units(layout);

@@ -69,7 +69,8 @@ impl Chains {
     // The first chunk of a class's chain, where it is below one.
     fn first_below(&self, class: u32, chunk: u32) -> Option<u32>
         requires { class < length self.now.firsts.items }
-        ensures { MatchOption result ((f : ℕ) → link_at self.now.firsts.items class ≡ Some f → chunk ≤ f) (λ f. (link_at self.now.firsts.items class ≡ Some f) × (f < chunk)) }
+        ensures { MatchOption result ((f : ℕ) → link_at self.now.firsts.items class ≡ Some f
+            → chunk ≤ f) (λ f. (link_at self.now.firsts.items class ≡ Some f) × (f < chunk)) }
     {
         match self.first(class) {
             None => None,
@@ -83,7 +84,9 @@ impl Chains {
         requires first { first < chunk }
         ensures below { result < chunk }
         ensures last { (k : ℕ) → link_at self.now.nexts.items result ≡ Some k → chunk ≤ k }
-        ensures in_chain { (has : ℕ → ℕ → Bool) (c : ℕ) → IsLinked self.now.firsts.items self.now.nexts.items has → has c first ≡ true → has c result ≡ true }
+        ensures in_chain { (has : ℕ → ℕ → Bool) (c : ℕ)
+            → IsLinked self.now.firsts.items self.now.nexts.items has → has c first ≡ true
+            → has c result ≡ true }
     {
         let mut at = first;
         loop {
@@ -101,7 +104,9 @@ impl Chains {
         requires lacks { Lacks self.old.firsts.items self.old.nexts.items chunk }
         ensures firsts { length self.new.firsts.items ≡ length self.old.firsts.items }
         ensures nexts { length self.new.nexts.items ≡ length self.old.nexts.items }
-        ensures linked { (has has' : ℕ → ℕ → Bool) → IsLinked self.old.firsts.items self.old.nexts.items has → Adds has has' class chunk → IsLinked self.new.firsts.items self.new.nexts.items has' }
+        ensures linked { (has has' : ℕ → ℕ → Bool)
+            → IsLinked self.old.firsts.items self.old.nexts.items has → Adds has has' class chunk
+            → IsLinked self.new.firsts.items self.new.nexts.items has' }
     {
         match self.first_below(class, chunk) {
             Some(first) => {
@@ -122,7 +127,9 @@ impl Chains {
         requires holds { Holds self.old.firsts.items self.old.nexts.items class chunk }
         ensures firsts { length self.new.firsts.items ≡ length self.old.firsts.items }
         ensures nexts { length self.new.nexts.items ≡ length self.old.nexts.items }
-        ensures linked { (has has' : ℕ → ℕ → Bool) → IsLinked self.old.firsts.items self.old.nexts.items has → Removes has has' class chunk → IsLinked self.new.firsts.items self.new.nexts.items has' }
+        ensures linked { (has has' : ℕ → ℕ → Bool)
+            → IsLinked self.old.firsts.items self.old.nexts.items has → Removes has has' class chunk
+            → IsLinked self.new.firsts.items self.new.nexts.items has' }
     {
         let next = self.next(chunk);
         match self.first_below(class, chunk) {
@@ -141,7 +148,10 @@ impl Chains {
         requires lacks { on ≡ true → Lacks self.old.firsts.items self.old.nexts.items chunk }
         ensures firsts { length self.new.firsts.items ≡ length self.old.firsts.items }
         ensures nexts { length self.new.nexts.items ≡ length self.old.nexts.items }
-        ensures linked { (has has' : ℕ → ℕ → Bool) → IsLinked self.old.firsts.items self.old.nexts.items has → (on ≡ true → Adds has has' class chunk) → (on ≡ false → Same has has') → IsLinked self.new.firsts.items self.new.nexts.items has' }
+        ensures linked { (has has' : ℕ → ℕ → Bool)
+            → IsLinked self.old.firsts.items self.old.nexts.items has
+            → (on ≡ true → Adds has has' class chunk) → (on ≡ false → Same has has')
+            → IsLinked self.new.firsts.items self.new.nexts.items has' }
     {
         if on {
             self.link(class, chunk);
@@ -153,7 +163,10 @@ impl Chains {
         requires holds { on ≡ true → Holds self.old.firsts.items self.old.nexts.items class chunk }
         ensures firsts { length self.new.firsts.items ≡ length self.old.firsts.items }
         ensures nexts { length self.new.nexts.items ≡ length self.old.nexts.items }
-        ensures linked { (has has' : ℕ → ℕ → Bool) → IsLinked self.old.firsts.items self.old.nexts.items has → (on ≡ true → Removes has has' class chunk) → (on ≡ false → Same has has') → IsLinked self.new.firsts.items self.new.nexts.items has' }
+        ensures linked { (has has' : ℕ → ℕ → Bool)
+            → IsLinked self.old.firsts.items self.old.nexts.items has
+            → (on ≡ true → Removes has has' class chunk) → (on ≡ false → Same has has')
+            → IsLinked self.new.firsts.items self.new.nexts.items has' }
     {
         if on {
             self.unlink(class, chunk);

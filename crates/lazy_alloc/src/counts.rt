@@ -4,7 +4,8 @@ ghost use Rattle.std.specs.Prelude.{◌≡◌, ◌+◌, ◌-◌, ◌^◌, ◌<�
 pub fn add_to(counts: &mut Vec<u32>, class: u32, count: u32)
     requires class { class < length counts.old.items }
     requires fits { slice_index counts.old.items class + count < 2 ^ 32 }
-    ensures { counts.new.items ≡ slice_set counts.old.items class (slice_index counts.old.items class + count) }
+    ensures { counts.new.items ≡ slice_set counts.old.items class
+        (slice_index counts.old.items class + count) }
 {
     counts[class as usize] += count;
 }
@@ -12,7 +13,8 @@ pub fn add_to(counts: &mut Vec<u32>, class: u32, count: u32)
 pub fn take_from(counts: &mut Vec<u32>, class: u32)
     requires class { class < length counts.old.items }
     requires some { 1 ≤ slice_index counts.old.items class }
-    ensures { counts.new.items ≡ slice_set counts.old.items class (slice_index counts.old.items class - 1) }
+    ensures { counts.new.items ≡ slice_set counts.old.items class
+        (slice_index counts.old.items class - 1) }
 {
     counts[class as usize] -= 1;
 }

@@ -22,8 +22,10 @@ pub fn value_in<R: Region>(
 ) -> Result<Option<Value>, Memory>
     requires class { class ≤ 12 }
     requires low { (R.state region.now).frame.first ≤ 32 * pointer }
-    requires high { 32 * pointer + 32 * 2 ^ class ≤ (R.state region.now).frame.first + (R.state region.now).frame.words }
-    ensures { IfOk result (λ v. IsTelling (R.state region.now) → v ≡ held_by (lasts (R.state region.now)) pointer (Some class)) }
+    requires high { 32 * pointer + 32 * 2 ^ class ≤ (R.state region.now).frame.first
+        + (R.state region.now).frame.words }
+    ensures { IfOk result (λ v. IsTelling (R.state region.now)
+        → v ≡ held_by (lasts (R.state region.now)) pointer (Some class)) }
 {
     if pointer >= (1 << 59) - (1 << class) {
         return Err(Memory);

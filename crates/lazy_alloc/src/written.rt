@@ -26,9 +26,11 @@ fn block_word(value: &[u8], at: u64) -> u64
 fn store_block<R: Region>(region: &mut R, at: u64, value: &[u8], count: u64)
     requires count { count ≡ 1 + words_for (length value.now) }
     requires low { (R.state region.old).frame.first ≤ at }
-    requires high { at + count ≤ (R.state region.old).frame.first + (R.state region.old).frame.words }
+    requires high { at + count ≤ (R.state region.old).frame.first
+        + (R.state region.old).frame.words }
     requires fits { at + count < 2 ^ 64 }
-    ensures run { During (R.state region.old) (R.state region.new) (KeepsOutside (cell_now (R.state region.old)) at (at + count)) }
+    ensures run { During (R.state region.old) (R.state region.new)
+        (KeepsOutside (cell_now (R.state region.old)) at (at + count)) }
     ensures stored { IsTelling (R.state region.new) → (j : ℕ) → j < count
         → (cell_now (R.state region.new) (at + j)).last ≡ slice_index (block_words value.now) j }
 {
@@ -41,10 +43,14 @@ fn store_block<R: Region>(region: &mut R, at: u64, value: &[u8], count: u64)
 /// at line `line`.
 pub fn write_block<R: Region>(region: &mut R, line: u64, value: &[u8]) -> Result<(), RegionFault>
     requires low { (R.state region.old).frame.first ≤ 8 * line }
-    requires high { 8 * (line + block_lines value.now) ≤ (R.state region.old).frame.first + (R.state region.old).frame.words }
+    requires high { 8 * (line + block_lines value.now) ≤ (R.state region.old).frame.first
+        + (R.state region.old).frame.words }
     requires fits { 8 * (line + block_lines value.now) < 2 ^ 64 }
-    ensures run { During (R.state region.old) (R.state region.new) (KeepsOutside (cell_now (R.state region.old)) (8 * line) (8 * (line + block_lines value.now))) }
-    ensures ok { OnOk result (IsTelling (R.state region.new) → (j : ℕ) → j < 1 + words_for (length value.now)
+    ensures run { During (R.state region.old) (R.state region.new)
+        (KeepsOutside (cell_now (R.state region.old)) (8 * line)
+        (8 * (line + block_lines value.now))) }
+    ensures ok { OnOk result (IsTelling (R.state region.new) → (j : ℕ)
+        → j < 1 + words_for (length value.now)
         → cell_now (R.state region.new) (8 * line + j) ≡ certain (slice_index (block_words value.now) j)) }
     ensures cause { OnErr result (Rose (R.state region.old).faults (R.state region.new).faults) }
 {

@@ -29,7 +29,8 @@ pub fn every_batch()
     ensures throughout { (s t : State) (p : Place) (m : ℕ) (v : View) (log : LogState) (ws : List ℕ)
         → Begins s p m v log → IsSpelled log v.flying ws → Appends s t log ws
         → During s t (Licensed p m v) }
-    ensures after { (s t : State) (p : Place) (m : ℕ) (v u : View) (log after : LogState) (ws : List ℕ)
+    ensures after { (s t : State) (p : Place) (m : ℕ) (v u : View) (log after : LogState)
+        (ws : List ℕ)
         → Begins s p m v log → IsSpelled log v.flying ws → Appends s t log ws
         → AppendedBatch s t log after (padded ws) → Commits v u
         → IsTelling t → Licensed p m u (cell_now t) }
@@ -68,7 +69,8 @@ pub fn every_freed_chunk()
     ensures outside { (s t : State) (p : Place) (m : ℕ) (v : View) (log : LogState) (chunk : ℕ)
         → Begins s p m v log → Frees s t log chunk
         → During s t (KeepsOutside (cell_now s) (part_at p m) (part_end p m)) }
-    ensures after { (s : State) (p : Place) (m : ℕ) (v u : View) (log : LogState) (names : List EntryName)
+    ensures after { (s : State) (p : Place) (m : ℕ) (v u : View) (log : LogState)
+        (names : List EntryName)
         → IsLogOf p m log → HaveVanished s log names → Forgets names v u → IsTelling s
         → Licensed p m v (cell_now s) → Licensed p m u (cell_now s) }
 {}
@@ -81,7 +83,8 @@ pub fn every_block()
     ensures outside { (s t : State) (p : Place) (m : ℕ) (v : View) (a : Sets) (at class : ℕ)
         → IsUnused s p m v a at class → WritesBlock s t a at class
         → During s t (KeepsOutside (cell_now s) (part_at p m) (part_end p m)) }
-    ensures after { (s t : State) (p : Place) (m : ℕ) (v u : View) (a after : Sets) (at class : ℕ) (b : Block)
+    ensures after { (s t : State) (p : Place) (m : ℕ) (v u : View) (a after : Sets) (at class : ℕ)
+        (b : Block)
         → IsUnused s p m v a at class → WritesBlock s t a at class
         → has_class (length b.bytes) class ≡ true → WroteValue t a after at class b.bytes
         → GainsBlock at b v u → IsTelling t → Licensed p m u (cell_now t) }

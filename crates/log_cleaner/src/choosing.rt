@@ -52,8 +52,10 @@ fn candidate<R: Region>(
     chunk: u32,
 ) -> Option<Victim>
     requires stands { StandsIn (R.state region.now) log.now }
-    requires standing { IsTelling (R.state region.now) → IsUpToDate (R.state region.now) log.now standing.now }
-    ensures { IsTelling (R.state region.now) → IsCandidate (R.state region.now) log.now standing.now room.now chunk result }
+    requires standing { IsTelling (R.state region.now) → IsUpToDate (R.state region.now) log.now
+        standing.now }
+    ensures { IsTelling (R.state region.now) → IsCandidate (R.state region.now) log.now standing.now
+        room.now chunk result }
 {
     if log.opened() == Some(chunk) || tail_of(log, chunk).is_none() {
         return None;
@@ -76,8 +78,10 @@ fn first_in<R: Region>(
     high: u32,
 ) -> Option<Victim>
     requires stands { StandsIn (R.state region.now) log.now }
-    requires standing { IsTelling (R.state region.now) → IsUpToDate (R.state region.now) log.now standing.now }
-    ensures { IsTelling (R.state region.now) → IsFirstIn (R.state region.now) log.now standing.now room.now low high result }
+    requires standing { IsTelling (R.state region.now) → IsUpToDate (R.state region.now) log.now
+        standing.now }
+    ensures { IsTelling (R.state region.now) → IsFirstIn (R.state region.now) log.now standing.now
+        room.now low high result }
 {
     for chunk in low..high {
         if let Some(victim) = candidate(region, log, standing, room, chunk) {
@@ -111,8 +115,10 @@ pub fn victim<R: Region>(
     room: &Room,
 ) -> Result<Option<Victim>, Memory>
     requires stands { StandsIn (R.state region.now) log.now }
-    requires standing { IsTelling (R.state region.now) → IsUpToDate (R.state region.now) log.now standing.now }
-    ensures { IfOk result (λ found. IsTelling (R.state region.now) → IsVictim (R.state region.now) log.now standing.now after room.now found) }
+    requires standing { IsTelling (R.state region.now) → IsUpToDate (R.state region.now) log.now
+        standing.now }
+    ensures { IfOk result (λ found. IsTelling (R.state region.now)
+        → IsVictim (R.state region.now) log.now standing.now after room.now found) }
 {
     let _ = alloc;
     let begin = begin_at(after);

@@ -25,11 +25,13 @@ ghost use Rattle.log_cleaner.specs.Vanishing.{MayGo, NoneElse};
 
 /// While copies are made, each image is licensed by the view, which stays; also where the call ends in a fault.
 pub fn every_copying()
-    ensures throughout { (s t : State) (p : Place) (m : ℕ) (v : View) (log : LogState) (es : List Entry)
+    ensures throughout { (s t : State) (p : Place) (m : ℕ) (v : View) (log : LogState)
+        (es : List Entry)
         → Begins s p m v log → MakesCopies s t log es → During s t (Licensed p m v) }
     ensures exit { (s t : State) (p : Place) (m : ℕ) (v : View) (log : LogState) (es : List Entry)
         → Begins s p m v log → MakesCopies s t log es → IsTelling t → Licensed p m v (cell_now t) }
-    ensures outside { (s t : State) (p : Place) (m : ℕ) (v : View) (log : LogState) (es : List Entry)
+    ensures outside { (s t : State) (p : Place) (m : ℕ) (v : View) (log : LogState)
+        (es : List Entry)
         → Begins s p m v log → MakesCopies s t log es
         → During s t (KeepsOutside (cell_now s) (part_at p m) (part_end p m)) }
 {}
@@ -60,16 +62,19 @@ pub fn every_clearing()
 /// log's, each other chunk has its entries, and of a chunk that lacks the names just as much is left to be copied, and
 /// what was gathered of it stays so. A chunk of the log lacks each name that didn't stand in the log.
 pub fn every_lead()
-    ensures standing { (s t : State) (log after : LogState) (old new : StandingState) (es : List Entry)
+    ensures standing { (s t : State) (log after : LogState) (old new : StandingState)
+        (es : List Entry)
         → AppendsNew s t log after old es → AddsEach old new es
         → IsTelling t → IsUpToDate s log old → IsUpToDate t after new }
-    ensures chunk { (s t : State) (log after : LogState) (old new : StandingState) (es : List Entry) (chunk : ℕ)
+    ensures chunk { (s t : State) (log after : LogState) (old new : StandingState) (es : List Entry)
+        (chunk : ℕ)
         → AppendsNew s t log after old es → AddsEach old new es → IsTelling t
         → chunk ≢ open_number log → is_some (tail_of log.chunks chunk) ≡ true
         → entries_in t after chunk ≡ entries_in s log chunk }
     ensures left { (old new : StandingState) (es : List Entry) (xs : List (ℕ × Entry))
         → AddsEach old new es → Lacks xs es → left_to_copy new xs ≡ left_to_copy old xs }
-    ensures gathered { (old new : StandingState) (es : List Entry) (xs : List (ℕ × Entry)) (c : ClearingState)
+    ensures gathered { (old new : StandingState) (es : List Entry) (xs : List (ℕ × Entry))
+        (c : ClearingState)
         → AddsEach old new es → Lacks xs es → IsGathered old xs c → IsGathered new xs c }
     ensures lacks { (s : State) (log : LogState) (st : StandingState) (es : List Entry) (chunk : ℕ)
         → IsStandingOf s log st → ((k v : ℕ) → is_among es k v ≡ true → count_of st k v ≡ 0)
@@ -97,7 +102,8 @@ pub fn every_kill()
     ensures standing { (s : State) (log : LogState) (old new : StandingState) (k v : ℕ)
         → Changes old new k v (option_map killed (copies_at old k v)) → new.settled ≡ old.settled
         → IsUpToDate s log old → IsUpToDate s log new }
-    ensures gathered { (old new : StandingState) (k v : ℕ) (xs : List (ℕ × Entry)) (c : ClearingState)
+    ensures gathered { (old new : StandingState) (k v : ℕ) (xs : List (ℕ × Entry))
+        (c : ClearingState)
         → Changes old new k v (option_map killed (copies_at old k v))
         → left_to_copy old xs ≡ [] → IsGathered old xs c → IsGathered new xs c }
 {}
@@ -109,16 +115,19 @@ pub fn every_kill()
 pub fn every_tally()
     ensures begins { (s : State) (log : LogState) (st : StandingState) (chunk : ℕ) (kept : Victim)
         → kept ≡ to_copy s log st chunk → Bounds kept st (entries_in s log chunk) }
-    ensures within { (s : State) (log : LogState) (old new : StandingState) (chunk n : ℕ) (ws : List ℕ)
+    ensures within { (s : State) (log : LogState) (old new : StandingState) (chunk n : ℕ)
+        (ws : List ℕ)
         (kept : Victim)
         → IsBatchOf s log old chunk n ws → IsLess old new (entries_in s log chunk)
         → Bounds kept old (entries_in s log chunk) → (n ≤ kept.entries) × (length ws ≤ kept.words) }
-    ensures lowered { (s : State) (log : LogState) (old new : StandingState) (chunk n : ℕ) (ws : List ℕ)
+    ensures lowered { (s : State) (log : LogState) (old new : StandingState) (chunk n : ℕ)
+        (ws : List ℕ)
         (kept : Victim)
         → IsBatchOf s log old chunk n ws → IsLess old new (entries_in s log chunk)
         → Bounds kept old (entries_in s log chunk)
         → Bounds (lowered_by kept n (length ws)) new (entries_in s log chunk) }
-    ensures just { (s : State) (log : LogState) (old new : StandingState) (chunk n : ℕ) (ws : List ℕ)
+    ensures just { (s : State) (log : LogState) (old new : StandingState) (chunk n : ℕ)
+        (ws : List ℕ)
         (kept : Victim)
         → IsBatchOf s log old chunk n ws → IsLess old new (entries_in s log chunk)
         → IsEachOnce (left_to_copy old (entries_in s log chunk))

@@ -21,10 +21,12 @@ pub const MOST: u64 = 64;
 // Appends so many words of the region.
 fn copy_words<R: Region>(region: &R, first: u64, count: u64, buffer: &mut WordBuffer)
     requires low { (R.state region.now).frame.first ≤ first }
-    requires high { first + count ≤ (R.state region.now).frame.first + (R.state region.now).frame.words }
+    requires high { first + count ≤ (R.state region.now).frame.first
+        + (R.state region.now).frame.words }
     requires fits { first + count < 2 ^ 64 }
     requires room { length buffer.old.words + count ≤ buffer.old.room }
-    ensures words { IsTelling (R.state region.now) → buffer.new.words ≡ buffer.old.words ++ words_from (lasts (R.state region.now)) first count }
+    ensures words { IsTelling (R.state region.now) → buffer.new.words ≡ buffer.old.words
+        ++ words_from (lasts (R.state region.now)) first count }
     ensures long { length buffer.new.words ≡ length buffer.old.words + count }
     ensures room { buffer.new.room ≡ buffer.old.room }
 {
@@ -44,10 +46,16 @@ fn take_in<R: Region>(
     requires order { found.place < found.next }
     requires size { found.next ≤ found.place + 34 }
     requires room { length buffer.old.words + 34 ≤ buffer.old.room }
-    ensures passed { wants standing.old found.name.key found.name.version ≡ false → (result ≡ 0) × SameCopies standing.old standing.new × (buffer.new ≡ buffer.old) }
-    ensures added { wants standing.old found.name.key found.name.version ≡ true → (result ≡ 1) × Changes standing.old standing.new found.name.key found.name.version (Some (one_more (copies_at standing.old found.name.key found.name.version))) }
-    ensures words { wants standing.old found.name.key found.name.version ≡ true → IsTelling (R.state region.now) → buffer.new.words ≡ buffer.old.words ++ words_from (lasts (R.state region.now)) found.at (found.next - found.place) }
-    ensures long { (length buffer.old.words + result ≤ length buffer.new.words) × (length buffer.new.words ≤ length buffer.old.words + 34 * result) }
+    ensures passed { wants standing.old found.name.key found.name.version ≡ false → (result ≡ 0)
+        × SameCopies standing.old standing.new × (buffer.new ≡ buffer.old) }
+    ensures added { wants standing.old found.name.key found.name.version ≡ true → (result ≡ 1)
+        × Changes standing.old standing.new found.name.key found.name.version
+        (Some (one_more (copies_at standing.old found.name.key found.name.version))) }
+    ensures words { wants standing.old found.name.key found.name.version ≡ true
+        → IsTelling (R.state region.now) → buffer.new.words ≡ buffer.old.words
+        ++ words_from (lasts (R.state region.now)) found.at (found.next - found.place) }
+    ensures long { (length buffer.old.words + result ≤ length buffer.new.words)
+        × (length buffer.new.words ≤ length buffer.old.words + 34 * result) }
     ensures one { result ≤ 1 }
     ensures room { buffer.new.room ≡ buffer.old.room }
     ensures settled { standing.new.settled ≡ standing.old.settled }
@@ -73,15 +81,20 @@ fn collect_from<R: Region>(
     requires stands { StandsIn (R.state region.now) log.now }
     requires has { is_some (tail_of log.now.chunks chunk) ≡ true }
     requires readable { IsReadable (R.state region.now) log.now chunk from }
-    requires left { IsTelling (R.state region.now) → left_to_copy standing.old (entries_in (R.state region.now) log.now chunk) ≡ left_to_copy standing.old (behind from (entries_in (R.state region.now) log.now chunk)) }
+    requires left { IsTelling (R.state region.now)
+        → left_to_copy standing.old (entries_in (R.state region.now) log.now chunk)
+        ≡ left_to_copy standing.old (behind from (entries_in (R.state region.now) log.now chunk)) }
     requires empty { buffer.old.words ≡ [] }
     requires room { 2176 ≤ buffer.old.room }
-    ensures told { IsTelling (R.state region.now) → Collected standing.old standing.new (batch_in (R.state region.now) log.now standing.old chunk) result.0 buffer.new.words }
+    ensures told { IsTelling (R.state region.now)
+        → Collected standing.old standing.new (batch_in (R.state region.now) log.now standing.old
+        chunk) result.0 buffer.new.words }
     ensures holds { IsTelling (R.state region.now) → 0 < result.0 → HoldsEntries buffer.new.words }
     ensures some { 0 < result.0 → 0 < length buffer.new.words }
     ensures most { length buffer.new.words ≤ 2176 }
     ensures kept { buffer.new.room ≡ buffer.old.room }
-    ensures settled { IsTelling (R.state region.now) → IsSettled (R.state region.now) log.now standing.new (begins chunk result.1) }
+    ensures settled { IsTelling (R.state region.now) → IsSettled (R.state region.now) log.now
+        standing.new (begins chunk result.1) }
 {
     let mut taken = 0;
     let mut place = from;
@@ -106,15 +119,19 @@ pub fn collect<R: Region>(
 ) -> u64
     requires stands { StandsIn (R.state region.now) log.now }
     requires has { is_some (tail_of log.now.chunks chunk) ≡ true }
-    requires standing { IsTelling (R.state region.now) → IsUpToDate (R.state region.now) log.now standing.old }
+    requires standing { IsTelling (R.state region.now) → IsUpToDate (R.state region.now) log.now
+        standing.old }
     requires empty { buffer.old.words ≡ [] }
     requires room { 2176 ≤ buffer.old.room }
-    ensures told { IsTelling (R.state region.now) → Collected standing.old standing.new (batch_in (R.state region.now) log.now standing.old chunk) result buffer.new.words }
+    ensures told { IsTelling (R.state region.now)
+        → Collected standing.old standing.new (batch_in (R.state region.now) log.now standing.old
+        chunk) result buffer.new.words }
     ensures holds { IsTelling (R.state region.now) → 0 < result → HoldsEntries buffer.new.words }
     ensures some { 0 < result → 0 < length buffer.new.words }
     ensures most { length buffer.new.words ≤ 2176 }
     ensures kept { buffer.new.room ≡ buffer.old.room }
-    ensures settled { IsTelling (R.state region.now) → IsSettledIn (R.state region.now) log.now standing.new }
+    ensures settled { IsTelling (R.state region.now) → IsSettledIn (R.state region.now) log.now
+        standing.new }
     ensures chunk { IfSome standing.new.settled (λ h. h.chunk ≡ chunk) }
 {
     let from = begin_at(log, standing, chunk);

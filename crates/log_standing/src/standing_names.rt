@@ -20,7 +20,9 @@ fn copies_in(names: &HashMap<(Key, Version), Copies>, name: EntryName) -> Option
 
 // Writes what a name has that stands.
 fn set_in(names: &mut HashMap<(Key, Version), Copies>, name: EntryName, copies: Copies)
-    ensures set { IsSome (get name_eq names.old (name.key, name.version)) → (q : ℕ × ℕ) → get name_eq names.new q ≡ (if name_eq (name.key, name.version) q then Some copies else get name_eq names.old q) }
+    ensures set { IsSome (get name_eq names.old (name.key, name.version)) → (q : ℕ × ℕ)
+        → get name_eq names.new q ≡ (if name_eq (name.key, name.version) q then Some copies
+        else get name_eq names.old q) }
     ensures spare { spare names.new ≡ spare names.old }
 {
     if let Some(place) = names.get_mut(&(name.key, name.version)) {
@@ -31,7 +33,8 @@ fn set_in(names: &mut HashMap<(Key, Version), Copies>, name: EntryName, copies: 
 // Enters a name. There is a place for it.
 fn put_in(names: &mut HashMap<(Key, Version), Copies>, name: EntryName, copies: Copies)
     requires { 0 < spare names.old }
-    ensures put { (q : ℕ × ℕ) → get name_eq names.new q ≡ (if name_eq (name.key, name.version) q then Some copies else get name_eq names.old q) }
+    ensures put { (q : ℕ × ℕ) → get name_eq names.new q ≡ (if name_eq (name.key, name.version) q
+        then Some copies else get name_eq names.old q) }
     ensures spare { spare names.old ≤ spare names.new + 1 }
 {
     let put: Result<_, _> = names.insert((name.key, name.version), copies);
@@ -40,7 +43,8 @@ fn put_in(names: &mut HashMap<(Key, Version), Copies>, name: EntryName, copies: 
 
 // Takes a name out.
 fn take_in(names: &mut HashMap<(Key, Version), Copies>, name: EntryName)
-    ensures taken { (q : ℕ × ℕ) → get name_eq names.new q ≡ (if name_eq (name.key, name.version) q then None else get name_eq names.old q) }
+    ensures taken { (q : ℕ × ℕ) → get name_eq names.new q ≡ (if name_eq (name.key, name.version) q
+        then None else get name_eq names.old q) }
     ensures spare { spare names.old ≤ spare names.new }
 {
     let _ = names.remove(&(name.key, name.version));
@@ -72,7 +76,8 @@ impl Model for Standing {
 impl Standing {
     /// These names, each in as many copies as it stands in the list. None was told dead, and no place is reserved.
     pub fn open(alloc: Global, names: &[EntryName]) -> Result<Standing, Memory>
-        ensures names { IfOk result (λ s. (k v : ℕ) → copies_at s k v ≡ living (times_in names.now k v)) }
+        ensures names { IfOk result (λ s. (k v : ℕ)
+            → copies_at s k v ≡ living (times_in names.now k v)) }
         ensures settled { IfOk result (λ s. s.settled ≡ None) }
     {
         let mut standing = Standing {
@@ -110,7 +115,8 @@ impl Standing {
     /// One copy more of a name. It takes a reserved place, and no memory.
     pub fn add(&mut self, name: EntryName)
         requires { 0 < self.old.room }
-        ensures added { Changes self.old self.new name.key name.version (Some (one_more (copies_at self.old name.key name.version))) }
+        ensures added { Changes self.old self.new name.key name.version
+            (Some (one_more (copies_at self.old name.key name.version))) }
         ensures room { self.new.room + 1 ≡ self.old.room }
         ensures settled { self.new.settled ≡ self.old.settled }
     {
@@ -138,7 +144,8 @@ impl Standing {
 
     /// Notes that a name was told dead. One that does not stand is passed over.
     pub fn kill(&mut self, name: EntryName)
-        ensures killed { Changes self.old self.new name.key name.version (option_map killed (copies_at self.old name.key name.version)) }
+        ensures killed { Changes self.old self.new name.key name.version
+            (option_map killed (copies_at self.old name.key name.version)) }
         ensures room { self.new.room ≡ self.old.room }
         ensures settled { self.new.settled ≡ self.old.settled }
     {
@@ -211,7 +218,8 @@ impl Standing {
     /// A second copy of a name that has one. It takes no place.
     pub fn add_second(&mut self, name: EntryName)
         requires { count_of self.old name.key name.version ≡ 1 }
-        ensures added { Changes self.old self.new name.key name.version (Some (one_more (copies_at self.old name.key name.version))) }
+        ensures added { Changes self.old self.new name.key name.version
+            (Some (one_more (copies_at self.old name.key name.version))) }
         ensures room { self.new.room ≡ self.old.room }
         ensures settled { self.new.settled ≡ self.old.settled }
     {
@@ -225,7 +233,9 @@ impl Standing {
         requires { 0 < count_of self.old name.key name.version }
         ensures last { result ≡ (count_of self.old name.key name.version == 1) }
         ensures one { result ≡ true → Changes self.old self.new name.key name.version None }
-        ensures more { result ≡ false → Changes self.old self.new name.key name.version (Some (copies_with (count_of self.old name.key name.version - 1) (is_told self.old name.key name.version))) }
+        ensures more { result ≡ false → Changes self.old self.new name.key name.version
+            (Some (copies_with (count_of self.old name.key name.version - 1)
+            (is_told self.old name.key name.version))) }
         ensures room { self.new.room ≡ self.old.room }
         ensures settled { self.new.settled ≡ (if result then self.old.settled else None) }
     {

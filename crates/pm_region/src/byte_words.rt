@@ -50,8 +50,10 @@ pub fn set_word(bytes: &mut [u8], place: u64, value: u64)
 pub fn set_words(bytes: &mut [u8], first: u64, words: &[u8])
     requires whole { length words.now % 8 ≡ 0 }
     requires within { 8 * first + length words.now ≤ length bytes.old }
-    ensures inner { (k : ℕ) → 8 * k < length words.now → word_at bytes.new (first + k) ≡ word_at words.now k }
-    ensures outer { (k : ℕ) → (k < first) ⊎ (first + length words.now / 8 ≤ k) → word_at bytes.new k ≡ word_at bytes.old k }
+    ensures inner { (k : ℕ) → 8 * k < length words.now → word_at bytes.new (first + k)
+        ≡ word_at words.now k }
+    ensures outer { (k : ℕ) → (k < first) ⊎ (first + length words.now / 8 ≤ k)
+        → word_at bytes.new k ≡ word_at bytes.old k }
 {
     let low = 8 * first as usize;
     bytes[low..low + words.len()].copy_from_slice(words);

@@ -113,7 +113,8 @@ pub fn pick_words(
     pick: Pick,
 ) -> Result<Vec<u64>, AllocError>
     requires fits { first + length start.now < 2 ^ 64 }
-    ensures { IfOk result (λ image. ArePicked first start.now steps.now pick image.items (length start.now)) }
+    ensures { IfOk result (λ image. ArePicked first start.now steps.now pick image.items
+        (length start.now)) }
 {
     let cells = cells_after(alloc, first, start, steps)?;
     let mut image = Vec::with_capacity(alloc, start.len())?;

@@ -60,7 +60,8 @@ pub fn create_words<R: Files<File = File>>(
 
 /// A fence of the words of a file. Without a file it is a fault.
 pub fn fence_file(words: &mut FileWords, device: &mut Option<Device>) -> Result<(), RegionFault>
-    ensures ok { OnOk result (IsFenced words.old words.new 0 (calls_on device.old) (calls_on device.new)) }
+    ensures ok { OnOk result (IsFenced words.old words.new 0 (calls_on device.old)
+        (calls_on device.new)) }
     ensures err { OnErr result (IsKept words.old words.new) }
 {
     match device {
@@ -74,7 +75,8 @@ pub fn write_pending(words: &mut FileWords, device: &mut Option<Device>) -> Resu
     ensures size { words.new.size ≡ words.old.size }
     ensures bytes { words.new.bytes ≡ words.old.bytes }
     ensures clean { OnOk result ((line : ℕ) → flushes words.new line ≡ false) }
-    ensures written { OnOk result (IsSettled words.old words.new (calls_on device.old) (calls_on device.new)) }
+    ensures written { OnOk result (IsSettled words.old words.new (calls_on device.old)
+        (calls_on device.new)) }
 {
     if words.is_clean() {
         Ok(())

@@ -37,7 +37,8 @@ impl Region for FilePiece {
 
     fn load(&self, at: u64) -> u64
         requires { InRange (file_piece_state self.now).frame at }
-        ensures told { IsTelling (file_piece_state self.now) → result ≡ (cell_now (file_piece_state self.now) at).last }
+        ensures told { IsTelling (file_piece_state self.now)
+            → result ≡ (cell_now (file_piece_state self.now) at).last }
         ensures word { result ≡ word_of self.now.words (at - self.now.first) }
     {
         self.words.load(at - self.first)
@@ -45,7 +46,8 @@ impl Region for FilePiece {
 
     fn store(&mut self, at: u64, value: u64)
         requires { InRange (file_piece_state self.old).frame at }
-        ensures goes { Goes (file_piece_state self.old) (file_piece_state self.new) (store_at at value) }
+        ensures goes { Goes (file_piece_state self.old) (file_piece_state self.new)
+            (store_at at value) }
         ensures stored { IsStored self.old.words self.new.words (at - self.old.first) value }
     {
         self.words.store(at - self.first, value);
@@ -54,7 +56,8 @@ impl Region for FilePiece {
 
     fn flush(&mut self, line: u64)
         requires { LineInRange (file_piece_state self.old).frame line }
-        ensures goes { Goes (file_piece_state self.old) (file_piece_state self.new) (flush_line line) }
+        ensures goes { Goes (file_piece_state self.old) (file_piece_state self.new)
+            (flush_line line) }
         ensures flushed { IsFlushed self.old.words self.new.words (line - self.old.first / 8) }
     {
         self.words.flush(line - self.first / LINE_WORDS);
@@ -64,8 +67,10 @@ impl Region for FilePiece {
     fn fence(&mut self) -> Result<(), RegionFault>
         ensures ok { OnOk result (Goes (file_piece_state self.old) (file_piece_state self.new)
             (fence_range (file_piece_state self.old).frame.first (file_piece_state self.old).frame.words)) }
-        ensures err { OnErr result (Goes (file_piece_state self.old) (file_piece_state self.new) unchanged) }
-        ensures cause { OnErr result (Rose (file_piece_state self.old).faults (file_piece_state self.new).faults) }
+        ensures err { OnErr result (Goes (file_piece_state self.old) (file_piece_state self.new)
+            unchanged) }
+        ensures cause { OnErr result (Rose (file_piece_state self.old).faults
+            (file_piece_state self.new).faults) }
         ensures fenced { OnOk result (IsFenced self.old.words self.new.words (8 * self.old.first)
             self.old.device.calls.made self.new.device.calls.made) }
         ensures kept { OnErr result (IsKept self.old.words self.new.words) }

@@ -88,7 +88,8 @@ impl FileWords {
     /// once, and syncs it. Where that fails they stay flushed.
     pub fn write_flushed(&mut self, device: &mut Device, start: u64) -> Result<(), RegionFault>
         requires { start ≤ 268439552 }
-        ensures ok { OnOk result (IsFenced self.old self.new start device.old.calls.made device.new.calls.made) }
+        ensures ok { OnOk result (IsFenced self.old self.new start device.old.calls.made
+            device.new.calls.made) }
         ensures err { OnErr result (IsKept self.old self.new) }
     {
         self.flushed.sort();

@@ -14,8 +14,10 @@ pub fn run_end(lines: &[u32], from: usize) -> usize
     requires { from < length lines.now }
     ensures after { from < result }
     ensures within { result ≤ length lines.now }
-    ensures neighbours { (j : ℕ) → from + j < result → slice_index lines.now (from + j) ≡ slice_index lines.now from + j }
-    ensures longest { result < length lines.now → slice_index lines.now result ≢ slice_index lines.now from + (result - from) }
+    ensures neighbours { (j : ℕ) → from + j < result → slice_index lines.now (from + j)
+        ≡ slice_index lines.now from + j }
+    ensures longest { result < length lines.now → slice_index lines.now result ≢ slice_index
+        lines.now from + (result - from) }
 {
     let first = u64::from(lines[from]);
     for end in from + 1..lines.len() {
@@ -34,8 +36,10 @@ pub fn write_runs(
     bytes: &[u8],
 ) -> Result<(), RegionFault>
     requires start { start ≤ 268439552 }
-    requires within { (j : ℕ) → j < length lines.now → 64 * slice_index lines.now j + 64 ≤ length bytes.now }
-    ensures { OnOk result (AreRuns start lines.now bytes.now (length lines.now) device.old.calls.made device.new.calls.made) }
+    requires within { (j : ℕ) → j < length lines.now → 64 * slice_index lines.now j + 64
+        ≤ length bytes.now }
+    ensures { OnOk result (AreRuns start lines.now bytes.now (length lines.now)
+        device.old.calls.made device.new.calls.made) }
 {
     let mut from = 0;
     while from < lines.len() {
@@ -56,7 +60,8 @@ fn write_run(
 ) -> Result<(), RegionFault>
     requires start { start ≤ 268439552 }
     requires within { 64 * first + 64 * count ≤ length bytes.now }
-    ensures { OnOk result (device.new.calls.made ≡ wrote (start + 64 * first) (take (64 * count) (drop (64 * first) bytes.now)) ∷ device.old.calls.made) }
+    ensures { OnOk result (device.new.calls.made ≡ wrote (start + 64 * first)
+        (take (64 * count) (drop (64 * first) bytes.now)) ∷ device.old.calls.made) }
 {
     let low = LINE_BYTES * u64::from(first);
     let high = low + LINE_BYTES * count;

@@ -78,8 +78,10 @@ impl LineSet {
 fn unmark(marks: &mut Vec<bool>, lines: &[u32])
     requires { (j : ℕ) → j < length lines.now → slice_index lines.now j < length marks.old.items }
     ensures count { length marks.new.items ≡ length marks.old.items }
-    ensures kept { (k : ℕ) → is_marked marks.new.items k ≡ true → is_marked marks.old.items k ≡ true }
-    ensures gone { (j : ℕ) → j < length lines.now → is_marked marks.new.items (slice_index lines.now j) ≡ false }
+    ensures kept { (k : ℕ) → is_marked marks.new.items k ≡ true → is_marked marks.old.items k
+        ≡ true }
+    ensures gone { (j : ℕ) → j < length lines.now
+        → is_marked marks.new.items (slice_index lines.now j) ≡ false }
 {
     for line in lines {
         marks[*line as usize] = false;

@@ -29,7 +29,8 @@ impl Journal {
     /// An empty one with room for the steps up to this stamp.
     pub fn new(alloc: Global, limit: u64) -> Result<Journal, AllocError>
         ensures empty { IfOk result (λ j. j.steps.items ≡ []) }
-        ensures fields { IfOk result (λ j. (j.base ≡ 0) × (j.since ≡ 0) × (j.stamp ≡ 0) × (j.limit ≡ limit)) }
+        ensures fields { IfOk result (λ j. (j.base ≡ 0) × (j.since ≡ 0) × (j.stamp ≡ 0)
+            × (j.limit ≡ limit)) }
     {
         let steps = Vec::with_capacity(alloc, limit as usize)?;
         Ok(Journal {

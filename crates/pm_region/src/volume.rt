@@ -34,7 +34,8 @@ impl Volume {
 
     /// A volume whose attach finds these bytes, with room for so many steps.
     pub fn new(alloc: Global, bytes: &[u8], steps: u64) -> Result<Volume, AllocError>
-        ensures found { IfOk result (λ v. (w : ℕ) → w < words_in (length bytes.now) → found_in v w ≡ word_at bytes.now w) }
+        ensures found { IfOk result (λ v. (w : ℕ) → w < words_in (length bytes.now)
+            → found_in v w ≡ word_at bytes.now w) }
         ensures closed { IfOk result (λ v. volume_words v ≡ 0) }
         ensures bytes { IfOk result (λ v. v.bytes ≡ length bytes.now) }
         ensures limit { IfOk result (λ v. limit_of v ≡ steps) }
@@ -53,9 +54,11 @@ impl Volume {
 
     /// A volume, not attached yet, whose attach finds one of the images that a crash at this stamp may have left.
     pub fn image(&self, alloc: Global, stamp: u64, pick: Pick) -> Result<Volume, ImageError>
-        ensures not_told { IsErrOf result ImageError.NotTold → (r n : ℕ) → IsTold (volume_state self.now r n) stamp → ⊥ }
+        ensures not_told { IsErrOf result ImageError.NotTold → (r n : ℕ)
+            → IsTold (volume_state self.now r n) stamp → ⊥ }
         ensures told { OnOk result ((r n : ℕ) → IsTold (volume_state self.now r n) stamp) }
-        ensures image { IfOk result (λ v. (r n w : ℕ) → w < words_in self.now.bytes → found_in v w ≡ picked pick w ((volume_state self.now r n).cells stamp w)) }
+        ensures image { IfOk result (λ v. (r n w : ℕ) → w < words_in self.now.bytes
+            → found_in v w ≡ picked pick w ((volume_state self.now r n).cells stamp w)) }
         ensures closed { IfOk result (λ v. volume_words v ≡ 0) }
         ensures bytes { IfOk result (λ v. v.bytes ≡ self.now.bytes) }
         ensures limit { IfOk result (λ v. limit_of v ≡ limit_of self.now) }
@@ -90,7 +93,8 @@ impl Volume {
 
     pub fn load(&self, at: u64) -> u64
         requires { at < volume_words self.now }
-        ensures { (r n : ℕ) → IsTelling (volume_state self.now r n) → result ≡ (cell_now (volume_state self.now r n) at).last }
+        ensures { (r n : ℕ) → IsTelling (volume_state self.now r n)
+            → result ≡ (cell_now (volume_state self.now r n) at).last }
     {
         self.history.load(at)
     }
@@ -124,8 +128,10 @@ impl Volume {
     }
 
     pub fn attach(&mut self, alloc: Global) -> Result<(), AllocError>
-        ensures ok { OnOk result (VolumeAttached self.old self.new self.old.bytes (found_in self.old)) }
-        ensures wide { OnOk result ((w : ℕ) → w < volume_words self.new → found_in self.old w < 2 ^ 64) }
+        ensures ok { OnOk result (VolumeAttached self.old self.new self.old.bytes
+            (found_in self.old)) }
+        ensures wide { OnOk result ((w : ℕ) → w < volume_words self.new
+            → found_in self.old w < 2 ^ 64) }
         ensures err { OnErr result (self.new ≡ self.old) }
         ensures opens { self.new.opens ≡ self.old.opens }
         ensures limit { limit_of self.new ≡ limit_of self.old }
@@ -157,7 +163,8 @@ impl Volume {
     pub fn part(&mut self, pieces: u64, cuts: Vec<u64>) -> Result<(), AllocError>
         requires whole { self.old.parted ≡ false }
         requires count { length cuts.items ≤ pieces + 1 }
-        requires within { (i : ℕ) → i < length cuts.items → slice_index cuts.items i ≤ volume_words self.old }
+        requires within { (i : ℕ) → i < length cuts.items → slice_index cuts.items i
+            ≤ volume_words self.old }
         ensures ok { OnOk result (VolumeParted self.old self.new cuts.items) }
         ensures err { OnErr result (VolumeStays self.old self.new) }
         ensures opens { self.new.opens ≡ self.old.opens }
@@ -173,9 +180,11 @@ impl Volume {
     pub fn join<P: Part>(&mut self, pieces: &[P])
         requires parted { self.old.parted ≡ true }
         requires count { length pieces.now ≡ length self.old.cuts.items - 1 }
-        requires pieces { (i : ℕ) (p : P) → i < length pieces.now → CamePart self.old i (P.part (slice_index_or pieces.now i p)) }
+        requires pieces { (i : ℕ) (p : P) → i < length pieces.now
+            → CamePart self.old i (P.part (slice_index_or pieces.now i p)) }
         ensures whole { VolumeJoined self.old self.new }
-        ensures pieces { (i : ℕ) (p : P) → i < length pieces.now → TakesPart self.new (P.part (slice_index_or pieces.now i p)) }
+        ensures pieces { (i : ℕ) (p : P) → i < length pieces.now
+            → TakesPart self.new (P.part (slice_index_or pieces.now i p)) }
         ensures next { ComesAfter P.part self.old self.new pieces.now }
         ensures opens { self.new.opens ≡ self.old.opens }
         ensures limit { limit_of self.new ≡ limit_of self.old }

@@ -33,7 +33,8 @@ pub fn cells_after(
 
 fn certain_cells(alloc: Global, start: &[u64]) -> Result<Vec<CellData>, AllocError>
     ensures count { IfOk result (λ cells. length cells.items ≡ length start.now) }
-    ensures each { IfOk result (λ cells. (k : ℕ) → k < length start.now → cell_in cells.items k ≡ certain (slice_index start.now k)) }
+    ensures each { IfOk result (λ cells. (k : ℕ) → k < length start.now → cell_in cells.items k
+        ≡ certain (slice_index start.now k)) }
 {
     let mut cells = Vec::with_capacity(alloc, start.len())?;
     for value in start {
