@@ -7,8 +7,8 @@ use Rattle.conflict_queue.specs.Chains.{IsChain, IsTable, all_held, numbers_of}
 
 -- The free places are one chain that ends, and so are the places of each key. No place is in two of these chains,
 -- or twice in one, and every place is in one.
-pub record IsQueue (ns : List Node) (cs : List Chain) (first : Option ℕ) (count places : ℕ) : Type
-    0 where
+pub record IsQueue (ns : List Node) (cs : List Chain) (first : Option ℕ) (count places : ℕ) :
+    Type 0 where
   pub unused : List ℕ
   pub chain : IsChain ns None first unused
   pub free_nodes : length unused ≡ count

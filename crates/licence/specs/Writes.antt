@@ -65,8 +65,8 @@ pub record MaySpare (s : State) (v : View) (log : LogState) (j : ℕ) : Type 0 w
       → (v.doomed e.key e.version ≡ true) ⊎ StandsElsewhere s log j e
 
 -- The allocator is that of member m's part, the block at this pointer has this class, and no value of the view is in it. Of two blocks at different pointers no unit is shared, since those of one chunk have one class.
-pub record IsUnused (s : State) (p : Place) (m : ℕ) (v : View) (a : Sets) (q class : ℕ) : Type
-    0 where
+pub record IsUnused (s : State) (p : Place) (m : ℕ) (v : View) (a : Sets) (q class : ℕ) :
+    Type 0 where
   pub place : IsPlace p
   pub sets : AreSets a
   pub layout : a.layout ≡ p.layout

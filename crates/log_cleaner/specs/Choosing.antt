@@ -17,8 +17,8 @@ fits room v = nat_le (3 * copy_lines v) room.payload_lines
     && (nat_le (room.pledged_lines + copy_lines v) room.open_lines || nat_le 1 room.free_chunks)
 
 -- a chunk of the log that isn't the open one and whose copies fit
-pub record IsEligible (s : State) (log : LogState) (st : StandingState) (room : Room) (j : ℕ) : Type
-    0 where
+pub record IsEligible (s : State) (log : LogState) (st : StandingState) (room : Room) (j : ℕ) :
+    Type 0 where
   pub has : is_some (tail_of log.chunks j) ≡ true
   pub closed : log.opened ≡ Some j → ⊥
   pub fitting : fits room (to_copy s log st j) ≡ true

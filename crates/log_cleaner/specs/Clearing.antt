@@ -34,14 +34,14 @@ HasNames ns es = (k v : ℕ) → times_in ns k v ≡ bit (has_name es k v)
 abbrev pub HasDoomed : List EntryName → StandingState → List (ℕ × Entry) → Type 0
 HasDoomed ns st es = (k v : ℕ) → times_in ns k v ≡ bit (has_name es k v && is_doomed st k v)
 
-pub record IsGathered (st : StandingState) (es : List (ℕ × Entry)) (c : ClearingState) : Type
-    0 where
+pub record IsGathered (st : StandingState) (es : List (ℕ × Entry)) (c : ClearingState) :
+    Type 0 where
   pub names : HasNames c.names es
   pub doomed : HasDoomed c.doomed st es
 
 -- the names of the chunk's entries were noted, and nothing of it is left to be copied
-pub record IsReady (s : State) (log : LogState) (st : StandingState) (c : ClearingState) : Type
-    0 where
+pub record IsReady (s : State) (log : LogState) (st : StandingState) (c : ClearingState) :
+    Type 0 where
   pub gathered : IsGathered st (entries_in s log c.chunk) c
   pub copied : left_to_copy st (entries_in s log c.chunk) ≡ []
 

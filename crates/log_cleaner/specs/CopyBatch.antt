@@ -80,8 +80,8 @@ pub record IsBatchOf (s : State) (log : LogState) (st : StandingState) (j n : �
   pub none : n ≡ 0 → left_to_copy st (entries_in s log j) ≡ []
 
 -- After a batch of copies. No other tail moved than the open chunk's, each name of the batch has one copy more, the entries of the victim's chunk stay, and what is left of them is less.
-pub record HasCopied (s t : State) (log log' : LogState) (old new : StandingState) (j : ℕ) : Type
-    0 where
+pub record HasCopied (s t : State) (log log' : LogState) (old new : StandingState) (j : ℕ) :
+    Type 0 where
   pub stands : StandsIn t log'
   pub tails : SameElse log log' (open_number log)
   pub adds : IsTelling s → Adds old new (batch_in s log old j)

@@ -20,8 +20,8 @@ pub record ActsAt (step : Step) (first : ℕ) (old new : List CellData) (k : ℕ
   pub others : (j : ℕ) → (j ≡ k → ⊥) → cell_in new j ≡ cell_in old j
 
 -- Each cell took the step or stayed. Those at the places of which `Taken` holds took it.
-pub record Acts (step : Step) (first : ℕ) (old new : List CellData) (Taken : ℕ → Type 0) : Type
-    0 where
+pub record Acts (step : Step) (first : ℕ) (old new : List CellData) (Taken : ℕ → Type 0) :
+    Type 0 where
   pub count : length new ≡ length old
   pub each : (k : ℕ) → (cell_in new k ≡ cell_in old k)
       ⊎ (cell_in new k ≡ act step (first + k) (cell_in old k))

@@ -9,8 +9,8 @@ IsClear start lines n byte = (j : ℕ) → j < n → (byte < start + 64 * slice_
 
 -- From some calls to others only writes were made, by which each byte of the first n lines has its place, and no other
 -- byte of the file changed.
-pub record AreRuns (start : ℕ) (lines bytes : List ℕ) (n : ℕ) (before after : List Call) : Type
-    0 where
+pub record AreRuns (start : ℕ) (lines bytes : List ℕ) (n : ℕ) (before after : List Call) :
+    Type 0 where
   pub writes : OnlyWrites before after
   pub own : (disk : ℕ → ℕ) (j byte : ℕ) → j < n → byte < 64
       → byte_after disk after (start + (64 * slice_index lines j + byte)) ≡ slice_index bytes
