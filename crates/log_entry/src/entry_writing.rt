@@ -6,17 +6,18 @@ ghost use Rattle.log_entry.specs.Grammar.{IsNoPrefix};
 ghost use Rattle.log_entry.specs.Spelling.{first_word, words_of, HasSpelling};
 
 use crate::entry::{Body, Entry};
+use crate::entry_limits::{HIGH_UNIT, LAST_DELETE_VERSION, LONGEST_EMBEDDED, LONGEST_ENTRY, LONGEST_ENTRY_LINES, VERSION_UNIT};
 use crate::packing::{word_at, words_for};
 use crate::word_buffer::WordBuffer;
 
 fn first_word(op: u64, form: u64, version: u32, high: u64) -> u64
     requires op { op ≤ 2 }
     requires form { form ≤ 1 }
-    requires version { version < 2 ^ 20 }
+    requires version { version ≤ LAST_DELETE_VERSION }
     requires high { high < 2 ^ 40 }
     ensures { result ≡ first_word op form version high }
 {
-    op + 4 * form + 16 * version as u64 + 16_777_216 * high
+    op + 4 * form + VERSION_UNIT * version as u64 + HIGH_UNIT * high
 }
 
 /// How many words the entry's spelling has: from 2 to 34.
@@ -24,7 +25,7 @@ pub fn entry_words(entry: &Entry) -> u64
     requires { HasSpelling entry.now }
     ensures words { result ≡ length (words_of entry.now) }
     ensures low { 2 ≤ result }
-    ensures high { result ≤ 34 }
+    ensures high { result ≤ LONGEST_ENTRY }
 {
     match &entry.body {
         Body::Embedded(value) => 2 + words_for(value.bytes().len() as u64),
@@ -38,14 +39,14 @@ pub fn entry_lines(entry: &Entry) -> u64
     requires { HasSpelling entry.now }
     ensures lines { result ≡ (length (words_of entry.now) + 7) / 8 }
     ensures low { 1 ≤ result }
-    ensures high { result ≤ 5 }
+    ensures high { result ≤ LONGEST_ENTRY_LINES }
 {
     (entry_words(entry) + 7) / 8
 }
 
 /// Appends the words of some bytes.
 fn write_bytes(bytes: &[u8], buf: &mut WordBuffer)
-    requires short { length bytes.now ≤ 255 }
+    requires short { length bytes.now ≤ LONGEST_EMBEDDED }
     requires room { length buf.old.words + words_for (length bytes.now) ≤ buf.old.room }
     ensures words { buf.new.words ≡ buf.old.words ++ packed bytes.now }
     ensures room { buf.new.room ≡ buf.old.room }

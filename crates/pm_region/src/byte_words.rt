@@ -3,17 +3,15 @@ ghost use Rattle.std.specs.Prelude.{◌≡◌, ◌≢◌, ◌⊎◌, ℕ, ◌+�
 ghost use Rattle.pm_region.specs.Bytes.{AreWords, word_at};
 ghost use Rattle.pm_region.specs.Split.{words_in};
 
+use crate::region_sizes::{MOST_BYTES, WORD_BYTES};
 use byteorder::{ByteOrder, LittleEndian};
 use std::alloc::{AllocError, Global};
-
-/// The most bytes that a region has: 268,435,456 for its parts, and 4,096 before them. A longer one has no words.
-pub const MOST_BYTES: u64 = 268_439_552;
 
 /// How many words a region of so many bytes has.
 pub fn word_count(bytes: u64) -> u64
     ensures { result ≡ words_in bytes }
 {
-    if bytes <= MOST_BYTES { bytes / 8 } else { 0 }
+    if bytes <= MOST_BYTES { bytes / WORD_BYTES } else { 0 }
 }
 
 /// The words of a region with these bytes.
@@ -42,7 +40,7 @@ pub fn set_word(bytes: &mut [u8], place: u64, value: u64)
     ensures this { word_at bytes.new place ≡ value }
     ensures others { (k : ℕ) → k ≢ place → word_at bytes.new k ≡ word_at bytes.old k }
 {
-    let low = 8 * place as usize;
+    let low = (WORD_BYTES * place) as usize;
     LittleEndian::write_u64(&mut bytes[low..low + 8], value);
 }
 

@@ -5,6 +5,7 @@ ghost use Rattle.pm_region.specs.Image.{ArePicked};
 ghost use Rattle.pm_region.specs.declared.crash_image.ImageError.TheVariants.{Memory};
 ghost use Rattle.pm_region.specs.Journals.{act};
 
+use crate::region_sizes::LINE_WORDS;
 use crate::step::Step;
 use crate::word_cells::cells_after;
 use std::alloc::{AllocError, AllocFailed, Global};
@@ -31,6 +32,7 @@ impl CellData {
     ghost use Rattle.pm_region.specs.Image.{cell_of_data, picked};
     ghost use Rattle.pm_region.specs.CellLists.{HasOne};
 
+    /// A word that has this value alone.
     pub fn new(alloc: Global, value: u64) -> CellData
         ensures { cell_of_data result ≡ certain value }
     {
@@ -53,7 +55,7 @@ impl CellData {
                 }
             }
             Step::Flush { line } => {
-                if w / 8 == line {
+                if w / LINE_WORDS == line {
                     self.before.extend_from_slice(&self.marked)?;
                     self.marked.clear();
                 }
@@ -76,6 +78,7 @@ impl CellData {
         self.before.is_empty() && self.marked.is_empty()
     }
 
+    /// The value at a place of the list, oldest first.
     pub fn value(&self, k: usize) -> u64
         requires { k < length (values (cell_of_data self.now)) }
         ensures { result ≡ slice_index (values (cell_of_data self.now)) k }
@@ -89,6 +92,7 @@ impl CellData {
         }
     }
 
+    /// The value that an image has of the word `w`.
     pub fn pick(&self, pick: Pick, w: u64) -> u64
         ensures { result ≡ picked pick w (cell_of_data self.now) }
     {

@@ -11,6 +11,7 @@ use crate::file_piece::FilePiece;
 use crate::file_pieces::{absorb_all, file_pieces, latest_of, most_faults};
 use crate::file_words::FileWords;
 use crate::region::{Region, RegionFault};
+use crate::region_sizes::MOST_WORDS;
 use crate::split::{AttachError, SplitRegion};
 use std::alloc::Global;
 use std::fs::File;
@@ -180,7 +181,7 @@ impl<R: Files<File = File> + Drop> SplitRegion for FileRegion<R> {
     }
 
     fn create(&mut self, alloc: Global, words: u64) -> Result<(), AttachError>
-        requires { words ≤ 33554944 }
+        requires { words ≤ MOST_WORDS }
         ensures ok { OnOk result (Attached (file_state self.old) (file_state self.new) (8 * words)
             (λ w. 0)) }
         ensures cause { Refuses (file_state self.old) (file_state self.new) result }

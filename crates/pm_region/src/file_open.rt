@@ -6,6 +6,7 @@ use crate::byte_words::word_count;
 use crate::device::Device;
 use crate::file_words::FileWords;
 use crate::region::RegionFault;
+use crate::region_sizes::MOST_WORDS;
 use crate::split::AttachError;
 use std::alloc::Global;
 use std::fs::File;
@@ -45,7 +46,7 @@ pub fn create_words<R: Files<File = File>>(
     path: &str,
     count: u64,
 ) -> Result<(Device, FileWords), AttachError>
-    requires { count ≤ 33554944 }
+    requires { count ≤ MOST_WORDS }
     ensures { IfOk result (λ pair. IsMade count pair.0 pair.1) }
 {
     let bytes = vec![in alloc; 0u8; 8 * count as usize]?;

@@ -1,12 +1,14 @@
 // A piece of a region in a file.
 ghost use Rattle.std.specs.Prelude.{◌≡◌, ℕ, ◌+◌, ◌-◌, ◌*◌, ◌/◌, ◌%◌, ◌≤◌, ◌<◌, OnOk, OnErr};
 ghost use Rattle.pm_region.specs.Cell.{store_at, flush_line, fence_range, unchanged};
+ghost use Rattle.pm_region.specs.declared.region_sizes.TheConstants.{LINE_WORDS, MOST_WORDS};
 ghost use Rattle.pm_region.specs.State.{Goes, InRange, LineInRange, IsTelling, cell_now, Rose};
 
 use crate::byte_words::word_count;
 use crate::device::Device;
-use crate::file_words::{FileWords, LINE_WORDS};
+use crate::file_words::FileWords;
 use crate::region::{Region, RegionFault};
+use crate::region_sizes::LINE_WORDS;
 
 /// A piece of a `FileRegion`, which has opened the file for itself. The region has the file's lock.
 #[derive(Drop)]
@@ -17,8 +19,8 @@ pub struct FilePiece {
     pub(crate) since: u64,
     pub(crate) stamp: u64,
     pub(crate) faults: u64,
-    ghost whole: { first % 8 ≡ 0 },
-    ghost low: { first ≤ 33554944 },
+    ghost whole: { first % LINE_WORDS ≡ 0 },
+    ghost low: { first ≤ MOST_WORDS },
 }
 
 impl Region for FilePiece {

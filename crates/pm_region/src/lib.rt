@@ -19,6 +19,7 @@ mod pieces;
 mod plan;
 mod region;
 mod region_journal;
+pub mod region_sizes;
 mod split;
 mod steady;
 mod step;
@@ -31,6 +32,7 @@ pub use file_piece::FilePiece;
 pub use mem::{MemPiece, MemRegion};
 pub use plan::{Faults, FenceNumber};
 pub use region::{Region, RegionFault};
+pub use region_sizes::{LINE_BYTES, LINE_WORDS, MOST_BYTES, MOST_WORDS, WORD_BYTES};
 pub use split::{AttachError, SplitRegion};
 pub use steady::{SteadyPiece, SteadyRegion};
 

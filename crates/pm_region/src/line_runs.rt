@@ -5,9 +5,7 @@ ghost use Rattle.pm_region.specs.LineRuns.{AreRuns};
 
 use crate::device::Device;
 use crate::region::RegionFault;
-
-/// How many bytes a line has.
-pub const LINE_BYTES: u64 = 64;
+use crate::region_sizes::{LINE_BYTES, MOST_BYTES};
 
 /// Where the run of neighbours ends that begins at a place of this list of lines.
 pub fn run_end(lines: &[u32], from: usize) -> usize
@@ -35,8 +33,8 @@ pub fn write_runs(
     lines: &[u32],
     bytes: &[u8],
 ) -> Result<(), RegionFault>
-    requires start { start ≤ 268439552 }
-    requires within { (j : ℕ) → j < length lines.now → 64 * slice_index lines.now j + 64
+    requires start { start ≤ MOST_BYTES }
+    requires within { (j : ℕ) → j < length lines.now → LINE_BYTES * slice_index lines.now j + LINE_BYTES
         ≤ length bytes.now }
     ensures { OnOk result (AreRuns start lines.now bytes.now (length lines.now)
         device.old.calls.made device.new.calls.made) }
@@ -58,8 +56,8 @@ fn write_run(
     count: u64,
     bytes: &[u8],
 ) -> Result<(), RegionFault>
-    requires start { start ≤ 268439552 }
-    requires within { 64 * first + 64 * count ≤ length bytes.now }
+    requires start { start ≤ MOST_BYTES }
+    requires within { LINE_BYTES * first + LINE_BYTES * count ≤ length bytes.now }
     ensures { OnOk result (device.new.calls.made ≡ wrote (start + 64 * first)
         (take (64 * count) (drop (64 * first) bytes.now)) ∷ device.old.calls.made) }
 {

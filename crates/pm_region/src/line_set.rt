@@ -37,6 +37,7 @@ impl LineSet {
         Ok(LineSet { marks, lines })
     }
 
+    /// Adds a line. It takes no memory.
     pub fn insert(&mut self, line: u32)
         requires { line < length self.old.marks.items }
         ensures { Adds self.old self.new line }

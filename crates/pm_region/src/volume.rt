@@ -10,6 +10,7 @@ use crate::crash_image::{ImageError, Pick};
 use crate::history::History;
 use crate::part::Part;
 use crate::pieces::{latest_stamp, take_back};
+use crate::region_sizes::MOST_WORDS;
 use std::alloc::{AllocError, Global};
 
 /// Words in memory with their whole history, and how they are attached and split. `bytes` is the length of what an
@@ -75,6 +76,7 @@ impl Volume {
         })
     }
 
+    /// How many words there are now: none before an attach, and none while it is split.
     pub fn words(&self) -> u64
         ensures { result ≡ volume_words self.now }
     {
@@ -85,12 +87,14 @@ impl Volume {
         }
     }
 
+    /// The number of this moment.
     pub fn stamp(&self) -> u64
         ensures { (r n : ℕ) → result ≡ (volume_state self.now r n).stamp }
     {
         self.history.journal.stamp
     }
 
+    /// The word at an address, as it was stored last.
     pub fn load(&self, at: u64) -> u64
         requires { at < volume_words self.now }
         ensures { (r n : ℕ) → IsTelling (volume_state self.now r n)
@@ -99,6 +103,7 @@ impl Volume {
         self.history.load(at)
     }
 
+    /// Stores a word, and notes the step.
     pub fn store(&mut self, at: u64, value: u64)
         requires { at < volume_words self.old }
         ensures { VolumeMoves self.old self.new (store_at at value) }
@@ -106,6 +111,7 @@ impl Volume {
         self.history.store(at, value);
     }
 
+    /// Flushes a line, and notes the step.
     pub fn flush(&mut self, line: u64)
         requires { 8 * line + 8 ≤ volume_words self.old }
         ensures { VolumeMoves self.old self.new (flush_line line) }
@@ -113,6 +119,7 @@ impl Volume {
         self.history.flush(line);
     }
 
+    /// A fence of all words, which notes the step.
     pub fn fence(&mut self)
         ensures { VolumeMoves self.old self.new (fence_range 0 (volume_words self.old)) }
     {
@@ -127,6 +134,7 @@ impl Volume {
         self.history.stand();
     }
 
+    /// Begins with the words that it finds, each certain.
     pub fn attach(&mut self, alloc: Global) -> Result<(), AllocError>
         ensures ok { OnOk result (VolumeAttached self.old self.new self.old.bytes
             (found_in self.old)) }
@@ -143,8 +151,9 @@ impl Volume {
         Ok(())
     }
 
+    /// Begins with so many zero words, each certain.
     pub fn create(&mut self, alloc: Global, words: u64) -> Result<(), AllocError>
-        requires { words ≤ 33554944 }
+        requires { words ≤ MOST_WORDS }
         ensures ok { OnOk result (VolumeAttached self.old self.new (8 * words) (λ w. 0)) }
         ensures err { OnErr result (self.new ≡ self.old) }
         ensures opens { self.new.opens ≡ self.old.opens }
