@@ -2,6 +2,7 @@
 #![tactic(auto)]
 
 pub mod heads;
+pub mod layout_sizes;
 pub mod layouts;
 pub mod read_heads;
 pub mod setting;

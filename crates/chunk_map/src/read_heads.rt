@@ -7,9 +7,10 @@ ghost use Rattle.chunk_map.specs.Setting.{HeadLies};
 ghost use Rattle.chunk_map.specs.Checked.{checked_head, FitsHead, checked_superblock, IsLength, layout_by_rule};
 
 use crate::heads::{BadHead, Head, head_by};
+use crate::layout_sizes::{FORMAT, MAGIC, SUPERBLOCK_BYTES};
 use crate::layouts::{Layout, layout_rule};
-use crate::superblock::{MAGIC, NotARegion};
-use pm_region::Region;
+use crate::superblock::NotARegion;
+use pm_region::{MOST_BYTES, Region, WORD_BYTES};
 
 /// The head of a chunk, or the rule that it breaks. The address is a word number of the region.
 pub fn read_head<R: Region>(region: &R, layout: &Layout, at: u64) -> Result<Head, BadHead>
@@ -48,10 +49,10 @@ pub fn read_superblock<R: Region>(region: &R, bytes: u64) -> Result<Layout, NotA
     // Whatever the region tells.
     ensures bytes { IfOk result (λ l. IsLayout l × (total_bytes l ≡ bytes)) }
 {
-    if !(bytes % 8 == 0 && bytes >= 4096 && bytes <= 268439552) {
+    if !(bytes % WORD_BYTES == 0 && bytes >= SUPERBLOCK_BYTES && bytes <= MOST_BYTES) {
         return Err(NotARegion { rule: 1 });
     }
-    if !(region.load(0) == MAGIC && region.load(1) == 1) {
+    if !(region.load(0) == MAGIC && region.load(1) == FORMAT) {
         return Err(NotARegion { rule: 2 });
     }
     match layout_of(

@@ -8,6 +8,7 @@ ghost use Rattle.chunk_map.specs.Checked.{FitsHead};
 ghost use Rattle.chunk_map.specs.Setting.{HeadLies, HasKind, HasTail, HeadTurns, SurelyHead, HasHead, HasEitherHead};
 
 use crate::heads::Head;
+use crate::layout_sizes::CLASS_FACTOR;
 use crate::words::set_word;
 use pm_region::{Region, RegionFault};
 
@@ -63,6 +64,6 @@ pub fn set_head<R: Region>(region: &mut R, at: u64, head: Head) -> Result<(), Re
     match head {
         Head::Free => set_kind(region, at, 0),
         Head::Log { tail } => set_log(region, at, tail),
-        Head::Data { class } => set_kind(region, at, 2 + 256 * class as u64),
+        Head::Data { class } => set_kind(region, at, 2 + CLASS_FACTOR * class as u64),
     }
 }

@@ -7,12 +7,10 @@ ghost use Rattle.chunk_map.specs.Layouts.{total_bytes, IsLayout};
 ghost use Rattle.chunk_map.specs.Checked.{checked_superblock};
 ghost use Rattle.chunk_map.specs.Superblock.{IsSuperblock, MayHaveSuperblock, IsRefusedOrWhole, NarrowsOutside};
 
+use crate::layout_sizes::{FORMAT, MAGIC};
 use crate::layouts::Layout;
 use crate::words::{set_word, store_words};
-use pm_region::{Region, RegionFault};
-
-/// The bytes `FLATST01`, the first in the lowest byte.
-pub const MAGIC: u64 = 0x3130_5453_5441_4c46;
+use pm_region::{LINE_WORDS, Region, RegionFault};
 
 /// The region has no superblock: rule 1, its length in bytes is none; 2, the magic word or the format; 3, the
 /// numbers of the layout, or the length is another one. The first that is broken.
@@ -37,7 +35,7 @@ fn write_in_line<R: Region>(region: &mut R, at: u64, words: &[u64]) -> Result<()
     ensures cause { OnErr result (Rose (R.state region.old).faults (R.state region.new).faults) }
 {
     store_words(region, at, words);
-    region.flush(at / 8);
+    region.flush(at / LINE_WORDS);
     region.fence()
 }
 
@@ -62,7 +60,7 @@ pub fn write_superblock<R: Region>(region: &mut R, layout: &Layout) -> Result<()
 {
     let geometry = layout.geometry();
     let numbers = [
-        1,
+        FORMAT,
         geometry.cores as u64,
         geometry.group as u64,
         geometry.chunks as u64,

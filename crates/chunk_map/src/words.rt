@@ -5,7 +5,7 @@ ghost use Rattle.pm_region.specs.State.{State, During, IsTelling, LineInRange, c
 ghost use Rattle.pm_region.specs.Words.{KeepsOutside, Sets, lasts};
 
 use fs_errors::Memory;
-use pm_region::{Region, RegionFault};
+use pm_region::{LINE_WORDS, Region, RegionFault};
 use std::alloc::Global;
 
 /// Stores a word and makes it certain: one store, one flush of its line, one fence. At every moment the word
@@ -19,7 +19,7 @@ pub fn set_word<R: Region>(region: &mut R, at: u64, value: u64) -> Result<(), Re
     ensures cause { OnErr result (Rose (R.state region.old).faults (R.state region.new).faults) }
 {
     region.store(at, value);
-    region.flush(at / 8);
+    region.flush(at / LINE_WORDS);
     region.fence()
 }
 
