@@ -41,7 +41,7 @@ pub fn entry_lines(entry: &Entry) -> u64
     ensures low { 1 ≤ result }
     ensures high { result ≤ LONGEST_ENTRY_LINES }
 {
-    (entry_words(entry) + 7) / 8
+    entry_words(entry).div_ceil(8)
 }
 
 /// Appends the words of some bytes.
