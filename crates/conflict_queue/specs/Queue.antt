@@ -2,6 +2,7 @@
 use Rattle.std.specs.Prelude.{◌≡◌, ℕ, ◌+◌, ◌<◌, ◌≤◌, nat_eq, true, List, ◌++◌, length, Option, None}
 use Rattle.std.specs.List.{IsDistinct, list_any}
 use Rattle.conflict_queue.specs.declared.nodes.Node.{Node}
+use Rattle.conflict_queue.specs.declared.nodes.TheConstants.{NODES}
 use Rattle.conflict_queue.specs.declared.key_chains.Chain.{Chain}
 use Rattle.conflict_queue.specs.Chains.{IsChain, IsTable, all_held, numbers_of}
 
@@ -13,8 +14,8 @@ pub record IsQueue (ns : List Node) (cs : List Chain) (first : Option ℕ) (coun
   pub chain : IsChain ns None first unused
   pub free_nodes : length unused ≡ count
   pub table : IsTable ns cs
-  pub nodes : length ns ≡ 64
+  pub nodes : length ns ≡ NODES
   pub disjoint : IsDistinct nat_eq (unused ++ numbers_of ns cs)
-  pub all : (i : ℕ) → i < 64 → list_any (nat_eq i) (unused ++ numbers_of ns cs) ≡ true
-  pub together : length (all_held ns cs) + count ≡ 64
-  pub room : 64 ≤ places
+  pub all : (i : ℕ) → i < NODES → list_any (nat_eq i) (unused ++ numbers_of ns cs) ≡ true
+  pub together : length (all_held ns cs) + count ≡ NODES
+  pub room : NODES ≤ places

@@ -6,7 +6,7 @@ use crate::nodes::{Node, exchange, key_of, link};
 use crate::types::Held;
 use fs_model::Key;
 
-// The chain of a key with waiting requests: the numbers of its first and its last place.
+/// The chain of a key with waiting requests: the numbers of its first and its last place.
 #[derive(Clone, Copy, Debug, PartialEq, Eq)]
 pub struct Chain {
     pub key: Key,
@@ -14,7 +14,7 @@ pub struct Chain {
     pub last: u32,
 }
 
-// Where the key's chain stands in the table; its length where the key has none.
+/// Where the key's chain stands in the table; its length where the key has none.
 pub fn place_of(chains: &[Chain], key: Key) -> usize
     ensures { IsPlace chains.now key result }
 {
@@ -26,7 +26,7 @@ pub fn place_of(chains: &[Chain], key: Key) -> usize
     chains.len()
 }
 
-// Makes a free place the last of its key's chain.
+/// Makes a free place the last of its key's chain.
 pub fn add_last(nodes: &mut Vec<Node>, chains: &mut Vec<Chain>, node: u32, held: Held)
     requires table { IsTable nodes.old.items chains.old.items }
     requires node { node < vec_len nodes.old }
@@ -57,7 +57,7 @@ pub fn add_last(nodes: &mut Vec<Node>, chains: &mut Vec<Chain>, node: u32, held:
     let _ = exchange(nodes, node, new);
 }
 
-// Takes what the first place of a chain holds, and puts that place before the free ones.
+/// Takes what the first place of a chain holds, and puts that place before the free ones.
 pub fn take_first(
     nodes: &mut Vec<Node>,
     chains: &mut Vec<Chain>,
