@@ -3,6 +3,7 @@ use Rattle.std.specs.Prelude.{ℕ, ◌+◌, ◌-◌, ◌*◌, ◌==◌, ◌&&◌
 use Rattle.std.specs.List.{list_all, filter_map}
 use Rattle.fs_model.specs.declared.model.Request.{Request}
 use Rattle.fs_model.specs.declared.model.Request.TheVariants.{Put, Get, Delete}
+use Rattle.fs_text.specs.declared.input_limits.TheConstants.{LONGEST_LINE, MOST_INPUT_BYTES, MOST_LINE_TURNS, MOST_REQUESTS, MOST_TURNS}
 use Rattle.fs_text.specs.declared.line.Line.{Line}
 use Rattle.fs_text.specs.declared.line.Line.TheVariants.{Ask, Go}
 
@@ -86,7 +87,7 @@ core_at cores bs = within 0 (cores - 1) 6 (number_of bs)
 
 abbrev pub go_rest : ℕ → List ℕ → List ℕ × Option (List ℕ) → Result Line ℕ
 go_rest cores core (turns, None) = go_core (core_at cores core)
-    (within 1 1000000 7 (number_of turns))
+    (within 1 MOST_LINE_TURNS 7 (number_of turns))
 go_rest cores core (turns, Some more) = Err 4
 
 abbrev pub go_fields : ℕ → List ℕ × Option (List ℕ) → Result Line ℕ
@@ -127,7 +128,7 @@ with_line b size (Go core turns) = record {
 
 -- rules 8 and 9, of what stands up to and with the line
 abbrev pub counted : Before → Line → Result (Line × Before) ℕ
-counted b line = if nat_le b.requests 1000000 then (if nat_le b.turns 16777216 then Ok (line, b)
+counted b line = if nat_le b.requests MOST_REQUESTS then (if nat_le b.turns MOST_TURNS then Ok (line, b)
     else Err 9) else Err 8
 
 abbrev pub count_line : Before → ℕ → Result Line ℕ → Result (Line × Before) ℕ
@@ -140,8 +141,8 @@ size_with x = length x.0 + (if x.1 then 1 else 0)
 
 abbrev pub line_at : ℕ → Before → List ℕ × Bool → Result (Line × Before) ℕ
 line_at cores b x =
-    if nat_le (b.bytes + size_with x) 67108864 then
-    (if nat_le (length x.0) 1048640 then count_line b (size_with x) (line_by cores (cut x.0))
+    if nat_le (b.bytes + size_with x) MOST_INPUT_BYTES then
+    (if nat_le (length x.0) LONGEST_LINE then count_line b (size_with x) (line_by cores (cut x.0))
     else Err 2) else Err 1
 
 -- all lines, or the number of the first that breaks a rule and the rule; number is that of the next line

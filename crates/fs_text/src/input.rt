@@ -8,6 +8,7 @@ ghost use Rattle.fs_text.specs.Stages.{input_or_stop, StopsAs, is_said};
 ghost use Rattle.fs_text.specs.Streams.{IsAtEnd, IsReadOut};
 
 use crate::fields::first_line;
+use crate::input_limits::MOST_READ;
 use crate::line::Line;
 use crate::read_source::{ReadError, read_all};
 use crate::source::Source;
@@ -16,9 +17,6 @@ use crate::totals::Totals;
 use std::alloc::Global;
 use std::marker::Model;
 use thiserror::Error;
-
-/// The bytes that are read at most: one more than an input may have.
-const MOST_READ: usize = 67_108_865;
 
 /// The lines of an input in order, which contracts see as a list.
 #[derive(Debug, Drop)]
