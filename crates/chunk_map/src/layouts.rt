@@ -2,7 +2,10 @@
 ghost use Rattle.std.specs.Prelude.{◌≡◌, ℕ, ◌+◌, ◌-◌, ◌*◌, ◌/◌, ◌^◌, ◌<◌, ◌≤◌, ◌==◌};
 ghost use Rattle.chunk_map.specs.Layouts.{IsLayout, is_chunk_size, layout_rule, part_first, chunk_first, payload_lines, total_bytes};
 
-use crate::layout_sizes::{GREATEST_CHUNK, HEAD_LINES, LEAST_CHUNKS, MOST_CHUNKS, MOST_CORES, MOST_GROUP, MOST_PART_BYTES, SUPERBLOCK_BYTES, SUPERBLOCK_WORDS};
+use crate::layout_sizes::{
+    GREATEST_CHUNK, HEAD_LINES, LEAST_CHUNKS, MOST_CHUNKS, MOST_CORES, MOST_GROUP, MOST_PART_BYTES,
+    SUPERBLOCK_BYTES, SUPERBLOCK_WORDS,
+};
 use pm_region::{LINE_BYTES, WORD_BYTES};
 use std::marker::Model;
 
@@ -165,7 +168,8 @@ impl Layout {
     pub fn chunk_first(&self, part: u32, chunk: u32) -> u64
         ensures { result ≡ chunk_first self.now part chunk }
     {
-        SUPERBLOCK_WORDS + (part as u64 * self.chunks as u64 + chunk as u64) * (self.chunk_bytes / WORD_BYTES)
+        SUPERBLOCK_WORDS
+            + (part as u64 * self.chunks as u64 + chunk as u64) * (self.chunk_bytes / WORD_BYTES)
     }
 
     /// How many lines of a chunk come after its head.

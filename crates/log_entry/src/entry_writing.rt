@@ -6,7 +6,10 @@ ghost use Rattle.log_entry.specs.Grammar.{IsNoPrefix};
 ghost use Rattle.log_entry.specs.Spelling.{first_word, words_of, HasSpelling};
 
 use crate::entry::{Body, Entry};
-use crate::entry_limits::{HIGH_UNIT, LAST_DELETE_VERSION, LONGEST_EMBEDDED, LONGEST_ENTRY, LONGEST_ENTRY_LINES, VERSION_UNIT};
+use crate::entry_limits::{
+    HIGH_UNIT, LAST_DELETE_VERSION, LONGEST_EMBEDDED, LONGEST_ENTRY, LONGEST_ENTRY_LINES,
+    VERSION_UNIT,
+};
 use crate::packing::{word_at, words_for};
 use crate::word_buffer::WordBuffer;
 

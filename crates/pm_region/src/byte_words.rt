@@ -11,7 +11,11 @@ use std::alloc::{AllocError, Global};
 pub fn word_count(bytes: u64) -> u64
     ensures { result ≡ words_in bytes }
 {
-    if bytes <= MOST_BYTES { bytes / WORD_BYTES } else { 0 }
+    if bytes <= MOST_BYTES {
+        bytes / WORD_BYTES
+    } else {
+        0
+    }
 }
 
 /// The words of a region with these bytes.
