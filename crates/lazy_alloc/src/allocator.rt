@@ -20,6 +20,9 @@ use crate::class_chains::{Chains, no_links};
 use crate::counts::{add_to, count_of, take_from};
 use crate::values::value_in;
 use crate::written::write_block;
+use chunk_map::layout_sizes::{
+    CLASS_FACTOR, FIRST_UNIT, GREATEST_CLASS, LEAST_CHUNKS, MOST_CHUNKS, UNIT_LINES, UNIT_WORDS,
+};
 use chunk_map::{Head, Layout, set_head};
 use fs_errors::Memory;
 use fs_model::Value;
@@ -60,7 +63,7 @@ impl Model for Allocator {
 }
 
 // One more than the greatest class.
-const CLASSES: usize = 13;
+const CLASSES: usize = GREATEST_CLASS as usize + 1;
 
 fn no_bits(alloc: Global, words: usize) -> Result<Vec<u64>, Memory>
     ensures { IfOk result (λ v. v.items ≡ replicate words 0) }
@@ -69,7 +72,7 @@ fn no_bits(alloc: Global, words: usize) -> Result<Vec<u64>, Memory>
 }
 
 fn no_counts(alloc: Global) -> Result<Vec<u32>, Memory>
-    ensures { IfOk result (λ v. v.items ≡ replicate 13 0) }
+    ensures { IfOk result (λ v. v.items ≡ replicate CLASSES 0) }
 {
     Ok(vec![in alloc; 0; CLASSES]?)
 }
@@ -253,8 +256,8 @@ impl Allocator {
     // How many chunks the part has.
     fn chunks(&self) -> u32
         ensures value { result ≡ self.now.layout.chunks }
-        ensures low { 4 ≤ result }
-        ensures high { result ≤ 64 }
+        ensures low { LEAST_CHUNKS ≤ result }
+        ensures high { result ≤ MOST_CHUNKS }
     {
         self.layout.geometry().chunks
     }
@@ -269,8 +272,8 @@ impl Allocator {
     // The class of the block that begins at a pointer.
     fn class_at(&self, pointer: u64) -> Option<u32>
         ensures class { result ≡ class_at self.now pointer }
-        ensures small { IfSome result (λ c. (1 ≤ c) × (c ≤ 12)) }
-        ensures low { IfSome result (λ c. (16 ≤ pointer) × (1 ≤ unit_at self.now.layout pointer)) }
+        ensures small { IfSome result (λ c. (1 ≤ c) × (c ≤ GREATEST_CLASS)) }
+        ensures low { IfSome result (λ c. (FIRST_UNIT ≤ pointer) × (1 ≤ unit_at self.now.layout pointer)) }
         ensures rules { IsLayout self.now.layout }
         ensures sets { AreSets self.now }
     {
@@ -387,14 +390,14 @@ impl Allocator {
     {
         let class = self.class_at(pointer).unwrap();
         self.write_head(region, pointer, class)?;
-        write_block(region, 4 * pointer, value)?;
+        write_block(region, UNIT_LINES * pointer, value)?;
         self.mark_written(pointer);
         Ok(())
     }
 
     // Whether the head of the chunk is still to be written in which a pointer lies.
     fn is_due(&self, pointer: u64) -> bool
-        requires { 16 ≤ pointer }
+        requires { FIRST_UNIT ≤ pointer }
         ensures { result ≡ chunk_is_due self.now (chunk_of self.now pointer) }
     {
         has(self.due, chunk_in(&self.layout, pointer))
@@ -402,7 +405,7 @@ impl Allocator {
 
     // The first word of that head.
     fn head_of(&self, pointer: u64) -> u64
-        requires { 16 ≤ pointer }
+        requires { FIRST_UNIT ≤ pointer }
         ensures { result ≡ head_of self.now pointer }
     {
         self.layout
@@ -411,7 +414,7 @@ impl Allocator {
 
     // The head is written now.
     fn mark_written(&mut self, pointer: u64)
-        requires { 16 ≤ pointer }
+        requires { FIRST_UNIT ≤ pointer }
         ensures sets { AreSets self.new }
         ensures written { WritesHead self.old self.new pointer }
     {
@@ -436,7 +439,7 @@ impl Allocator {
             (EachIn (head_of self.now pointer) (head_of self.now pointer + 2)
             (HeadTurnsTo self.now pointer class)) }
         ensures ok { OnOk result (IsTelling (R.state region.new)
-            → Surely (cell_now (R.state region.new) (head_of self.now pointer)) (2 + 256 * class)) }
+            → Surely (cell_now (R.state region.new) (head_of self.now pointer)) (2 + CLASS_FACTOR * class)) }
         ensures cause { OnErr result
             (Rose (R.state region.old).faults (R.state region.new).faults) }
     {
@@ -458,7 +461,7 @@ impl Allocator {
         requires lies { PartLies (R.state region.now).frame self.now }
         requires holds { IsTelling (R.state region.now) → (class : ℕ)
             × (class_at self.now pointer ≡ Some class)
-            × (has_class (lasts (R.state region.now) (32 * pointer)) class ≡ true) }
+            × (has_class (lasts (R.state region.now) (UNIT_WORDS * pointer)) class ≡ true) }
         ensures { IfOk result (λ v. IsTelling (R.state region.now)
             → v ≡ block_bytes (lasts (R.state region.now)) pointer) }
     {

@@ -12,7 +12,7 @@ pub struct Chains {
     nexts: Vec<Option<u32>>,
 }
 
-// So many links that lead nowhere.
+/// So many links that lead nowhere.
 pub fn no_links(alloc: Global, count: usize) -> Result<Vec<Option<u32>>, Memory>
     ensures { IfOk result (λ v. v.items ≡ replicate count None) }
 {
@@ -158,6 +158,7 @@ impl Chains {
         }
     }
 
+    /// Takes a chunk out of the chain of its class, where `on` holds.
     pub fn unlink_if(&mut self, class: u32, chunk: u32, on: bool)
         requires class { class < length self.old.firsts.items }
         requires holds { on ≡ true → Holds self.old.firsts.items self.old.nexts.items class chunk }

@@ -8,7 +8,7 @@ ghost use Rattle.lazy_alloc.specs.Written.{block_words, block_lines};
 
 use chunk_map::words::flush_lines;
 use log_entry::packing::{word_at, words_for};
-use pm_region::{Region, RegionFault};
+use pm_region::{LINE_WORDS, Region, RegionFault};
 
 // A word of a block: the length, or eight bytes of the value with zeros past its end.
 fn block_word(value: &[u8], at: u64) -> u64
@@ -55,7 +55,7 @@ pub fn write_block<R: Region>(region: &mut R, line: u64, value: &[u8]) -> Result
     ensures cause { OnErr result (Rose (R.state region.old).faults (R.state region.new).faults) }
 {
     let count = 1 + words_for(value.len() as u64);
-    store_block(region, 8 * line, value, count);
-    flush_lines(region, line, (count + 7) / 8);
+    store_block(region, LINE_WORDS * line, value, count);
+    flush_lines(region, line, (count + 7) / LINE_WORDS);
     region.fence()
 }
