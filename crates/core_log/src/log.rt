@@ -20,11 +20,12 @@ use crate::tails::{emptiest, set_tail, sorted, tail_of, take_out};
 use crate::types::{LogChunk, Peek, Placed, WalkStep};
 use crate::walking::{peek_from, walk_from};
 use chunk_map::heads::Head;
+use chunk_map::layout_sizes::HEAD_WORDS;
 use chunk_map::layouts::Layout;
 use chunk_map::setting::set_head;
 use fs_errors::Memory;
-use log_entry::WordBuffer;
-use pm_region::{Region, RegionFault};
+use log_entry::{LONGEST_ENTRY, WordBuffer};
+use pm_region::{LINE_WORDS, Region, RegionFault, WORD_BYTES};
 use std::alloc::Global;
 use std::marker::Model;
 
@@ -84,7 +85,7 @@ impl CoreLog {
         match self.opened {
             None => 0,
             Some(chunk) => {
-                self.layout.payload_lines() - tail_of(&self.chunks, chunk).unwrap_or(0) / 8
+                self.layout.payload_lines() - tail_of(&self.chunks, chunk).unwrap_or(0) / LINE_WORDS
             }
         }
     }
@@ -126,7 +127,7 @@ impl CoreLog {
     fn chunk_words(&self) -> u64
         ensures { result ≡ chunk_words self.now.layout }
     {
-        self.layout.chunk_bytes() / 8
+        self.layout.chunk_bytes() / WORD_BYTES
     }
 
     fn move_tail(&mut self, chunk: u32, tail: u64)
@@ -187,8 +188,8 @@ impl CoreLog {
         let words = self.chunk_words();
         let list = batch.words();
         append_at(region, at, words, place.place, list)?;
-        let lines = (list.len() as u64 + 7) / 8;
-        self.move_tail(place.chunk, place.place + 8 * lines);
+        let lines = (list.len() as u64 + 7) / LINE_WORDS;
+        self.move_tail(place.chunk, place.place + LINE_WORDS * lines);
         Ok(place)
     }
 
@@ -264,7 +265,7 @@ impl CoreLog {
         requires has { is_some (tail_of self.now.chunks chunk) ≡ true }
         requires readable { IsReadable (R.state region.now) self.now chunk place }
         ensures told { IsTelling (R.state region.now)
-            → result ≡ option_map (peek_at (first_of self.now chunk + 32))
+            → result ≡ option_map (peek_at (first_of self.now chunk + HEAD_WORDS))
             (next_entry place (entries_in (R.state region.now) self.now chunk)) }
         // It is the first that is left there, and the words at `at` are its spelling. Behind it the others are left.
         ensures step { IsTelling (R.state region.now) → IsStep (R.state region.now) self.now chunk
@@ -272,12 +273,12 @@ impl CoreLog {
         // Reading may go on behind the entry.
         ensures next { IfSome result (λ p. IsReadable (R.state region.now) self.now chunk p.next) }
         ensures within { IfSome result (λ p. (place ≤ p.place) × (p.place < p.next)) }
-        ensures at { IfSome result (λ p. p.at ≡ first_of self.now chunk + 32 + p.place) }
-        ensures size { IfSome result (λ p. p.next ≤ p.place + 34) }
+        ensures at { IfSome result (λ p. p.at ≡ first_of self.now chunk + HEAD_WORDS + p.place) }
+        ensures size { IfSome result (λ p. p.next ≤ p.place + LONGEST_ENTRY) }
         ensures range { IfSome result (λ p. WordsLie (R.state region.now).frame p.at
             (p.next - p.place)) }
     {
-        let first = self.first_of(chunk) + 32;
+        let first = self.first_of(chunk) + HEAD_WORDS;
         let tail = self.tail_in(chunk);
         peek_from(region, first, place, tail)
     }
@@ -305,7 +306,7 @@ impl CoreLog {
         ensures within { IfOk result (λ step. IfSome step (λ s. (place ≤ s.place)
             × (s.place < s.next))) }
     {
-        let first = self.first_of(chunk) + 32;
+        let first = self.first_of(chunk) + HEAD_WORDS;
         let tail = self.tail_in(chunk);
         walk_from(alloc, region, first, place, tail)
     }
