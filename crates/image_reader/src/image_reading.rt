@@ -3,8 +3,10 @@ ghost use Rattle.std.specs.Prelude.{◌≡◌, ◌%◌, ◌/◌, ◌≤◌, leng
 ghost use Rattle.image_reader.specs.Shown.{ShowsBytes, ShowsWords};
 
 use crate::image_bytes::words_of;
+use chunk_map::layout_sizes::SUPERBLOCK_BYTES;
 use fs_errors::Memory;
 use fs_model::Pair;
+use pm_region::MOST_BYTES;
 use std::alloc::Global;
 use store_image::image_superblock::read_layout;
 use store_image::{Fault, first_fault, recovered_cells};
@@ -20,7 +22,7 @@ pub enum Found {
 
 // What an image of these words says, where there are as many as the length asks.
 fn read_words(alloc: Global, words: &[u64], bytes: u64) -> Result<Found, Memory>
-    requires { bytes % 8 ≡ 0 → 4096 ≤ bytes → bytes ≤ 268439552 → length words.now ≡ bytes / 8 }
+    requires { bytes % 8 ≡ 0 → SUPERBLOCK_BYTES ≤ bytes → bytes ≤ MOST_BYTES → length words.now ≡ bytes / 8 }
     ensures { IfOk result (λ found. ShowsWords found bytes (λ w. slice_index words.now w)) }
 {
     match read_layout(words, bytes) {

@@ -5,9 +5,9 @@ ghost use Rattle.image_reader.specs.declared.ending.Ending.TheVariants as ending
 ghost use Rattle.image_reader.specs.Endings.{Tells};
 
 use crate::ending::Ending;
-use crate::image_bytes::MOST_BYTES;
 use crate::image_reading::{Found, read_image};
 use fs_text::{OutError, ReadError, Sink, Source, read_all, write_pairs};
+use pm_region::MOST_BYTES;
 use std::alloc::Global;
 
 /// Reads a region from a source, and writes its live pairs to a sink where it is sound.
@@ -19,7 +19,7 @@ pub fn read_region<S: Source, O: Sink>(alloc: Global, source: &mut S, sink: &mut
     ensures sink_fault { result ≡ endings.SinkFault
         → Rose (O.fault_count sink.old) (O.fault_count sink.new) }
 {
-    let bytes = match read_all(alloc, source, MOST_BYTES + 1) {
+    let bytes = match read_all(alloc, source, MOST_BYTES as usize + 1) {
         Ok(bytes) => bytes,
         Err(ReadError::SourceFault) => return Ending::SourceFault,
         Err(ReadError::Memory) => return Ending::Memory,
