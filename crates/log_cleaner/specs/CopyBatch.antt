@@ -2,6 +2,7 @@
 use Rattle.std.specs.Prelude.{◌≡◌, ◌≢◌, ℕ, ◌+◌, ◌-◌, ◌≤◌, not, List, [], ◌∷◌, map, length, take, Some, if◌then◌else◌}
 use Rattle.std.specs.List.{filter, flat_map, AllByRecursion}
 use Rattle.pm_region.specs.State.{State, IsTelling}
+use Rattle.log_entry.specs.declared.entry_limits.TheConstants.{MOST_ENTRIES}
 use Rattle.log_entry.specs.declared.entry.Entry.{Entry}
 use Rattle.log_entry.specs.Spelling.{words_of, HasSpelling}
 use Rattle.core_log.specs.Chunk.{lines_for}
@@ -17,9 +18,9 @@ abbrev pub firsts : List (ℕ × Entry) → List (ℕ × Entry)
 firsts [] = []
 firsts (x ∷ xs) = x ∷ filter (λ y. not (is_named x.1.key x.1.version y)) (firsts xs)
 
--- the next entries by place that are still to be copied, equal ones once: 64 of them, or all
+-- the next entries by place that are still to be copied, equal ones once: as many as a batch has, or all
 abbrev pub next_batch : StandingState → List (ℕ × Entry) → List (ℕ × Entry)
-next_batch st es = take 64 (firsts (left_to_copy st es))
+next_batch st es = take MOST_ENTRIES (firsts (left_to_copy st es))
 
 abbrev pub entries_of : List (ℕ × Entry) → List Entry
 entries_of xs = map (λ x. x.1) xs

@@ -11,12 +11,9 @@ ghost use Rattle.log_cleaner.specs.CopyBatch.{Collected, batch_in};
 
 use crate::reading_start::begin_at;
 use core_log::{CoreLog, Peek};
-use log_entry::WordBuffer;
+use log_entry::{LONGEST_ENTRY, MOST_BATCH_WORDS, MOST_ENTRIES, WordBuffer};
 use log_standing::{Settled, Standing};
 use pm_region::Region;
-
-/// How many entries a batch has at most.
-pub const MOST: u64 = 64;
 
 // Appends so many words of the region.
 fn copy_words<R: Region>(region: &R, first: u64, count: u64, buffer: &mut WordBuffer)
@@ -44,8 +41,8 @@ fn take_in<R: Region>(
 ) -> u64
     requires lies { WordsLie (R.state region.now).frame found.at (found.next - found.place) }
     requires order { found.place < found.next }
-    requires size { found.next ≤ found.place + 34 }
-    requires room { length buffer.old.words + 34 ≤ buffer.old.room }
+    requires size { found.next ≤ found.place + LONGEST_ENTRY }
+    requires room { length buffer.old.words + LONGEST_ENTRY ≤ buffer.old.room }
     ensures passed { wants standing.old found.name.key found.name.version ≡ false → (result ≡ 0)
         × SameCopies standing.old standing.new × (buffer.new ≡ buffer.old) }
     ensures added { wants standing.old found.name.key found.name.version ≡ true → (result ≡ 1)
@@ -55,7 +52,7 @@ fn take_in<R: Region>(
         → IsTelling (R.state region.now) → buffer.new.words ≡ buffer.old.words
         ++ words_from (lasts (R.state region.now)) found.at (found.next - found.place) }
     ensures long { (length buffer.old.words + result ≤ length buffer.new.words)
-        × (length buffer.new.words ≤ length buffer.old.words + 34 * result) }
+        × (length buffer.new.words ≤ length buffer.old.words + LONGEST_ENTRY * result) }
     ensures one { result ≤ 1 }
     ensures room { buffer.new.room ≡ buffer.old.room }
     ensures settled { standing.new.settled ≡ standing.old.settled }
@@ -85,13 +82,13 @@ fn collect_from<R: Region>(
         → left_to_copy standing.old (entries_in (R.state region.now) log.now chunk)
         ≡ left_to_copy standing.old (behind from (entries_in (R.state region.now) log.now chunk)) }
     requires empty { buffer.old.words ≡ [] }
-    requires room { 2176 ≤ buffer.old.room }
+    requires room { MOST_BATCH_WORDS ≤ buffer.old.room }
     ensures told { IsTelling (R.state region.now)
         → Collected standing.old standing.new (batch_in (R.state region.now) log.now standing.old
         chunk) result.0 buffer.new.words }
     ensures holds { IsTelling (R.state region.now) → 0 < result.0 → HoldsEntries buffer.new.words }
     ensures some { 0 < result.0 → 0 < length buffer.new.words }
-    ensures most { length buffer.new.words ≤ 2176 }
+    ensures most { length buffer.new.words ≤ MOST_BATCH_WORDS }
     ensures kept { buffer.new.room ≡ buffer.old.room }
     ensures settled { IsTelling (R.state region.now) → IsSettled (R.state region.now) log.now
         standing.new (begins chunk result.1) }
@@ -99,7 +96,7 @@ fn collect_from<R: Region>(
     let mut taken = 0;
     let mut place = from;
     while let Some(found) = log.peek(region, chunk, place) {
-        if taken == MOST {
+        if taken == u64::from(MOST_ENTRIES) {
             return (taken, place);
         }
         taken += take_in(region, standing, found, buffer);
@@ -122,13 +119,13 @@ pub fn collect<R: Region>(
     requires standing { IsTelling (R.state region.now) → IsUpToDate (R.state region.now) log.now
         standing.old }
     requires empty { buffer.old.words ≡ [] }
-    requires room { 2176 ≤ buffer.old.room }
+    requires room { MOST_BATCH_WORDS ≤ buffer.old.room }
     ensures told { IsTelling (R.state region.now)
         → Collected standing.old standing.new (batch_in (R.state region.now) log.now standing.old
         chunk) result buffer.new.words }
     ensures holds { IsTelling (R.state region.now) → 0 < result → HoldsEntries buffer.new.words }
     ensures some { 0 < result → 0 < length buffer.new.words }
-    ensures most { length buffer.new.words ≤ 2176 }
+    ensures most { length buffer.new.words ≤ MOST_BATCH_WORDS }
     ensures kept { buffer.new.room ≡ buffer.old.room }
     ensures settled { IsTelling (R.state region.now) → IsSettledIn (R.state region.now) log.now
         standing.new }

@@ -10,13 +10,13 @@ ghost use Rattle.log_cleaner.specs.ImagesBeside.{MakesCopies};
 use crate::collect_copies::collect;
 use crate::types::Victim;
 use core_log::CoreLog;
-use log_entry::WordBuffer;
+use log_entry::{MOST_BATCH_WORDS, WordBuffer};
 use log_standing::Standing;
 use pm_region::{Region, RegionFault};
 
 // Whether there is a batch, and room for it.
 fn is_ready(log: &CoreLog, buffer: &WordBuffer, taken: u64) -> bool
-    requires { length buffer.now.words ≤ 2176 }
+    requires { length buffer.now.words ≤ MOST_BATCH_WORDS }
     ensures ready { result ≡ true → (0 < taken)
         × (lines_for (length buffer.now.words) ≤ room_of log.now) }
     ensures unready { result ≡ false → (taken ≡ 0)
@@ -41,7 +41,7 @@ pub fn copy_live<R: Region>(
     requires closed { log.old.opened ≢ Some victim.now.chunk }
     requires standing { IsTelling (R.state region.old) → IsUpToDate (R.state region.old) log.old
         standing.old }
-    requires buffer { 2176 ≤ buffer.old.room }
+    requires buffer { MOST_BATCH_WORDS ≤ buffer.old.room }
     requires room { CopiesFit (R.state region.old) log.old standing.old victim.now.chunk }
     ensures moments { MakesCopies (R.state region.old) (R.state region.new) log.old
         (copies_in (R.state region.old) log.old standing.old victim.now.chunk) }

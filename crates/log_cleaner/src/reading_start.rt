@@ -7,7 +7,7 @@ ghost use Rattle.log_cleaner.specs.Copying.{begins};
 use core_log::CoreLog;
 use log_standing::Standing;
 
-// The tail of a chunk, where the log has it.
+/// The tail of a chunk, where the log has it.
 pub fn tail_of(log: &CoreLog, chunk: u32) -> Option<u64>
     ensures { result ≡ tail_of log.now.chunks chunk }
 {
@@ -19,7 +19,7 @@ pub fn tail_of(log: &CoreLog, chunk: u32) -> Option<u64>
     None
 }
 
-// The first place of a chunk from which on an entry may still be to be copied.
+/// The first place of a chunk from which on an entry may still be to be copied.
 pub fn begin_at(log: &CoreLog, standing: &Standing, chunk: u32) -> u64
     ensures within { result ≤ tail_in log.now chunk }
     ensures begins { (result ≡ 0) ⊎ (standing.now.settled ≡ Some (begins chunk result)) }
