@@ -2,10 +2,7 @@
 //! single atomic steps, and each member of the group makes its steps through a seat of its own.
 #![tactic(auto)]
 
-mod giving;
 mod group_table;
-pub mod laws;
-mod leading;
 mod mailing;
 mod member_seat;
 mod origins;
@@ -13,8 +10,11 @@ mod parcel;
 mod rule;
 mod seat_board;
 mod seat_data;
+mod seat_leading;
+mod seat_returns;
 mod slot_order;
 mod table;
+pub mod table_laws;
 #[cfg(test)]
 mod tests;
 mod token;

@@ -3,7 +3,7 @@ ghost use Rattle.std.specs.Prelude.{◌≡◌, ◌≢◌, ℕ, ◌+◌, ◌*◌,
 ghost use Rattle.log_entry.specs.Spelling.{words_of, HasSpelling};
 ghost use Rattle.batch_leader.specs.TakenChanges.{name_in, spelled, MatchBool};
 
-use crate::buffer::BatchBuffer;
+use crate::batch_buffer::BatchBuffer;
 use crate::taken::Taken;
 use crash_core::Change;
 use log_entry::{EntryName, WordBuffer, entry_words, write_entry};

@@ -3,15 +3,15 @@
 //! so nothing is written under the lock.
 #![tactic(auto)]
 
-mod buffer;
+mod batch_buffer;
 mod changes;
-mod collecting;
+mod collect_changes;
 #[cfg(test)]
 mod eight_members;
 mod fitting;
 #[cfg(test)]
 mod given_back;
-mod giving;
+mod mark_and_fail;
 mod persisting;
 mod returning;
 mod round;
@@ -24,6 +24,6 @@ mod tests;
 mod two_leaders;
 mod withdrawing;
 
-pub use buffer::BatchBuffer;
+pub use batch_buffer::BatchBuffer;
 pub use starting::lead;
 pub use states::{Batch, Collected, Collecting, FailedBatch, NotLeading, Persisted, Released};

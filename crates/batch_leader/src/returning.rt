@@ -2,7 +2,7 @@
 ghost use Rattle.std.specs.Prelude.{◌≡◌, ◌≢◌, ◌≤◌, [], ◌∷◌, vec_capacity, is_some, MatchOption};
 ghost use Rattle.batch_leader.specs.TakenChanges.{MatchBool, taken_in};
 
-use crate::buffer::BatchBuffer;
+use crate::batch_buffer::BatchBuffer;
 use crate::changes::Changes;
 use crate::taken::Taken;
 use log_entry::WordBuffer;

@@ -8,7 +8,7 @@ ghost use Rattle.group_board.specs.Views.{after_lock, after_find};
 ghost use Rattle.group_board.specs.Told.{Makes};
 ghost use Rattle.batch_leader.specs.Leading.{Collects, taken_by};
 
-use crate::buffer::BatchBuffer;
+use crate::batch_buffer::BatchBuffer;
 use crate::changes::Changes;
 use crate::states::{Collecting, NotLeading};
 use group_board::Board;

@@ -1,7 +1,7 @@
 // The states of a leader.
 ghost use Rattle.std.specs.Prelude.{◌≢◌, []};
 
-use crate::buffer::BatchBuffer;
+use crate::batch_buffer::BatchBuffer;
 use crate::changes::Changes;
 use crate::returning::Returning;
 

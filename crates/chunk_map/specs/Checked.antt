@@ -1,5 +1,7 @@
 -- What is answered of numbers, heads and superblocks that may break a rule.
 use Rattle.std.specs.Prelude.{◌≡◌, ℕ, ◌%◌, ◌≤◌, true, Option, Some, None, Result, Ok, Err}
+use Rattle.pm_region.specs.declared.region_sizes.TheConstants.{MOST_BYTES}
+use Rattle.chunk_map.specs.declared.layout_sizes.TheConstants.{SUPERBLOCK_BYTES}
 use Rattle.chunk_map.specs.declared.layouts.Geometry.{Geometry}
 use Rattle.chunk_map.specs.declared.layouts.BadLayout.{BadLayout}
 use Rattle.chunk_map.specs.declared.heads.Head.{Head}
@@ -38,8 +40,8 @@ checked_superblock bytes image = superblock_by image (superblock_rule bytes imag
 -- a region may have this length in bytes
 pub record IsLength (bytes : ℕ) : Type 0 where
   pub whole : bytes % 8 ≡ 0
-  pub low : 4096 ≤ bytes
-  pub high : bytes ≤ 268439552
+  pub low : SUPERBLOCK_BYTES ≤ bytes
+  pub high : bytes ≤ MOST_BYTES
 
 abbrev pub kept_by : Geometry → Option ℕ → Option Geometry
 kept_by l None = Some l

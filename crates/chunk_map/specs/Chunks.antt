@@ -1,5 +1,6 @@
 -- What the head of a chunk says of its free room.
 use Rattle.std.specs.Prelude.{ℕ, ◌-◌, ◌/◌, ◌^◌, Bool, true, false, Option, Some, None, Result, Ok, Err}
+use Rattle.chunk_map.specs.declared.layout_sizes.TheConstants.{UNIT_BYTES}
 use Rattle.chunk_map.specs.declared.layouts.Geometry.{Geometry}
 use Rattle.chunk_map.specs.declared.heads.Head.{Head}
 use Rattle.chunk_map.specs.declared.heads.Head.TheVariants.{Free, Log, Data}
@@ -18,9 +19,9 @@ class_in (Ok (Log tail)) = None
 class_in (Ok (Data class)) = Some class
 class_in (Err rule) = None
 
--- how many units of 256 bytes a chunk has
+-- how many units a chunk has
 abbrev pub chunk_units : Geometry → ℕ
-chunk_units l = l.chunk_bytes / 256
+chunk_units l = l.chunk_bytes / UNIT_BYTES
 
 -- how many blocks of a class a chunk holds: all but its first unit, which has the head
 abbrev pub blocks_in : Geometry → ℕ → ℕ

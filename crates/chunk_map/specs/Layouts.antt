@@ -1,6 +1,8 @@
 -- The layout of a region: its numbers, the superblock, heads and classes. An image is its words by number, and a length in bytes.
 use Rattle.std.specs.Prelude.{◌≡◌, ℕ, zero, suc, ◌+◌, ◌-◌, ◌*◌, ◌/◌, ◌%◌, ◌^◌, ◌==◌, ◌&&◌, ◌||◌, nat_lt, nat_le, List, [], ◌∷◌, Bool, Option, Some, None, Result, Ok, Err, is_none, if◌then◌else◌}
 use Rattle.std.specs.List.{list_any}
+use Rattle.pm_region.specs.declared.region_sizes.TheConstants.{MOST_BYTES}
+use Rattle.chunk_map.specs.declared.layout_sizes.TheConstants.{CLASS_FACTOR, FORMAT, GREATEST_CLASS, HEAD_LINES, HEAD_WORDS, LEAST_CHUNKS, MAGIC, MOST_CHUNKS, MOST_CORES, MOST_GROUP, MOST_PART_BYTES, SHORTEST_IN_BLOCK, SUPERBLOCK_BYTES, SUPERBLOCK_WORDS, UNIT_BYTES}
 use Rattle.chunk_map.specs.declared.layouts.Geometry.{Geometry}
 use Rattle.chunk_map.specs.declared.heads.Head.{Head}
 use Rattle.chunk_map.specs.declared.heads.Head.TheVariants.{Free, Log, Data}
@@ -14,51 +16,59 @@ abbrev pub chunk_words : Geometry → ℕ
 chunk_words l = l.chunk_bytes / 8
 
 abbrev pub payload_words : Geometry → ℕ
-payload_words l = l.chunk_bytes / 8 - 32
+payload_words l = l.chunk_bytes / 8 - HEAD_WORDS
 
 -- the payload in lines of 8 words
 abbrev pub payload_lines : Geometry → ℕ
-payload_lines l = l.chunk_bytes / 64 - 4
+payload_lines l = l.chunk_bytes / 64 - HEAD_LINES
 
 abbrev pub total_bytes : Geometry → ℕ
-total_bytes l = 4096 + l.cores * l.chunks * l.chunk_bytes
+total_bytes l = SUPERBLOCK_BYTES + l.cores * l.chunks * l.chunk_bytes
 
 -- the first word of a part
 abbrev pub part_first : Geometry → ℕ → ℕ
-part_first l c = 512 + c * (l.chunks * chunk_words l)
+part_first l c = SUPERBLOCK_WORDS + c * (l.chunks * chunk_words l)
 
 -- the first word of a chunk
 abbrev pub chunk_first : Geometry → ℕ → ℕ → ℕ
-chunk_first l c j = 512 + (c * l.chunks + j) * chunk_words l
+chunk_first l c j = SUPERBLOCK_WORDS + (c * l.chunks + j) * chunk_words l
 
 abbrev pub is_chunk_size : ℕ → Bool
-is_chunk_size n = list_any (λ e. n == 2 ^ e) (12 ∷ 13 ∷ 14 ∷ 15 ∷ 16 ∷ 17 ∷ 18 ∷ 19 ∷ 20 ∷ 21 ∷ 22 ∷ [])
+is_chunk_size n = list_any (λ e. n == 2 ^ e) (12 ∷ 13 ∷ 14 ∷ 15 ∷ 16 ∷ 17 ∷ 18 ∷ 19 ∷ 20 ∷ 21 ∷ 22
+    ∷ [])
 
 -- the first broken rule, or none
 abbrev pub layout_rule : Geometry → Option ℕ
 layout_rule l =
-    if nat_le 1 l.cores && nat_le l.cores 16 then
-    (if nat_le 1 l.group && nat_le l.group 8 && l.cores % l.group == 0 then
-    (if nat_le 4 l.chunks && nat_le l.chunks 64 then
+    if nat_le 1 l.cores && nat_le l.cores MOST_CORES then
+    (if nat_le 1 l.group && nat_le l.group MOST_GROUP && l.cores % l.group == 0 then
+    (if nat_le LEAST_CHUNKS l.chunks && nat_le l.chunks MOST_CHUNKS then
     (if is_chunk_size l.chunk_bytes then
-    (if nat_le (l.cores * l.chunks * l.chunk_bytes) 268435456 then None else Some 5) else Some 4) else Some 3) else Some 2) else Some 1
+    (if nat_le (l.cores * l.chunks * l.chunk_bytes) MOST_PART_BYTES then None else Some 5) else Some 4)
+    else Some 3) else Some 2) else Some 1
 
 abbrev pub IsLayout : Geometry → Type 0
 IsLayout l = layout_rule l ≡ None
 
--- the bytes `FLATST01`, the first the lowest
 abbrev pub magic : ℕ
-magic = 0x3130545354414c46
+magic = MAGIC
 
 abbrev pub layout_of : (ℕ → ℕ) → Geometry
-layout_of image = record { cores = image 2; group = image 3; chunks = image 4; chunk_bytes = image 5 }
+layout_of image = record {
+  cores = image 2;
+  group = image 3;
+  chunks = image 4;
+  chunk_bytes = image
+      5;
+}
 
 -- the first broken one of rules 1 to 3
 abbrev pub superblock_rule : ℕ → (ℕ → ℕ) → Option ℕ
 superblock_rule bytes image =
-    if bytes % 8 == 0 && nat_le 4096 bytes && nat_le bytes 268439552 then
-    (if image 0 == magic && image 1 == 1 then
-    (if is_none (layout_rule (layout_of image)) && bytes == total_bytes (layout_of image) then None else Some 3) else Some 2) else Some 1
+    if bytes % 8 == 0 && nat_le SUPERBLOCK_BYTES bytes && nat_le bytes MOST_BYTES then
+    (if image 0 == magic && image 1 == FORMAT then
+    (if is_none (layout_rule (layout_of image)) && bytes == total_bytes (layout_of image) then None
+    else Some 3) else Some 2) else Some 1
 
 abbrev pub owner : Geometry → ℕ → ℕ
 owner l key = key % l.cores
@@ -66,20 +76,22 @@ owner l key = key % l.cores
 abbrev pub is_of_group : Geometry → ℕ → ℕ → Bool
 is_of_group l c key = owner l key / l.group == c / l.group
 
--- A class of the layout. No layout has one past 12.
+-- A class of the layout. No layout has one past the greatest.
 abbrev pub is_class : Geometry → ℕ → Bool
-is_class l class = nat_le 1 class && nat_le class 12 && nat_le (1024 * 2 ^ class) l.chunk_bytes
+is_class l class = nat_le 1 class && nat_le class GREATEST_CLASS && nat_le (4 * UNIT_BYTES * 2 ^ class) l.chunk_bytes
 
 -- whether a value of this length gets a block, and one of this class: the least that has room for a word more
 abbrev pub has_class : ℕ → ℕ → Bool
-has_class length class = nat_le 256 length && nat_le (length + 8) (256 * 2 ^ class) && (class == 1 || nat_lt (128 * 2 ^ class) (length + 8))
+has_class length class = nat_le SHORTEST_IN_BLOCK length && nat_le (length + 8) (UNIT_BYTES * 2 ^ class)
+    && (class == 1 || nat_lt (128 * 2 ^ class) (length + 8))
 
 -- the head that two words are, or the rule that they break
 abbrev pub head_by : Geometry → ℕ → ℕ → Result Head ℕ
 head_by l kind tail =
     if kind == 0 then Ok Free
-    else (if kind == 1 then (if tail % 8 == 0 && nat_le tail (payload_words l) then Ok (Log tail) else Err 5)
-    else (if kind % 256 == 2 && is_class l (kind / 256) then Ok (Data (kind / 256)) else Err 4))
+    else (if kind == 1 then (if tail % 8 == 0 && nat_le tail (payload_words l) then Ok (Log tail)
+    else Err 5)
+    else (if kind % CLASS_FACTOR == 2 && is_class l (kind / CLASS_FACTOR) then Ok (Data (kind / CLASS_FACTOR)) else Err 4))
 
 abbrev pub head_at : Geometry → (ℕ → ℕ) → ℕ → Result Head ℕ
 head_at l image at = head_by l (image at) (image (at + 1))

@@ -17,7 +17,8 @@ MayHaveSuperblock old l image = MayBe (old 0) (image 0) ⊎ IsSuperblock l image
 
 -- an image of so many bytes is refused by rule 2, or has the whole superblock and keeps the rules
 abbrev pub IsRefusedOrWhole : Geometry → ℕ → (ℕ → ℕ) → Type 0
-IsRefusedOrWhole l bytes image = (superblock_rule bytes image ≡ Some 2) ⊎ (IsSuperblock l image × (superblock_rule bytes image ≡ None))
+IsRefusedOrWhole l bytes image = (superblock_rule bytes image ≡ Some 2)
+    ⊎ (IsSuperblock l image × (superblock_rule bytes image ≡ None))
 
 -- no word outside a range is stored
 abbrev pub NarrowsOutside : (ℕ → Cell) → ℕ → ℕ → (ℕ → Cell) → Type 0

@@ -2,7 +2,9 @@
 ghost use Rattle.std.specs.Prelude.{◌≡◌, ℕ, ◌+◌, ◌-◌, ◌*◌, ◌/◌, ◌^◌, ◌<◌, ◌≤◌, ◌==◌};
 ghost use Rattle.chunk_map.specs.Layouts.{is_class, head_by, payload_words};
 
+use crate::layout_sizes::{CLASS_FACTOR, HEAD_WORDS, UNIT_BYTES};
 use crate::layouts::Geometry;
+use pm_region::{LINE_WORDS, WORD_BYTES};
 
 /// What a chunk is.
 #[derive(Clone, Copy)]
@@ -22,7 +24,8 @@ pub struct BadHead {
 }
 
 fn is_class(chunk_bytes: u64, class: u64) -> bool
-    ensures { result ≡ is_class (record { cores = 0; group = 0; chunks = 0; chunk_bytes = chunk_bytes }) class }
+    ensures { result ≡ is_class
+        (record { cores = 0; group = 0; chunks = 0; chunk_bytes = chunk_bytes }) class }
 {
     match class {
         1 => 2048 <= chunk_bytes,
@@ -43,21 +46,21 @@ fn is_class(chunk_bytes: u64, class: u64) -> bool
 
 /// The head that a kind word and a tail word are, or the rule that they break.
 pub fn head_by(geometry: &Geometry, kind: u64, tail: u64) -> Result<Head, u32>
-    requires size { 256 ≤ geometry.now.chunk_bytes }
+    requires size { UNIT_BYTES ≤ geometry.now.chunk_bytes }
     ensures { result ≡ head_by geometry.now kind tail }
 {
     if kind == 0 {
         return Ok(Head::Free);
     }
     if kind == 1 {
-        if tail % 8 == 0 && tail <= geometry.chunk_bytes / 8 - 32 {
+        if tail % LINE_WORDS == 0 && tail <= geometry.chunk_bytes / WORD_BYTES - HEAD_WORDS {
             return Ok(Head::Log { tail });
         }
         return Err(5);
     }
-    if kind % 256 == 2 && is_class(geometry.chunk_bytes, kind / 256) {
+    if kind % CLASS_FACTOR == 2 && is_class(geometry.chunk_bytes, kind / CLASS_FACTOR) {
         return Ok(Head::Data {
-            class: (kind / 256) as u32,
+            class: (kind / CLASS_FACTOR) as u32,
         });
     }
     Err(4)

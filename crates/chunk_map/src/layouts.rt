@@ -2,14 +2,23 @@
 ghost use Rattle.std.specs.Prelude.{◌≡◌, ℕ, ◌+◌, ◌-◌, ◌*◌, ◌/◌, ◌^◌, ◌<◌, ◌≤◌, ◌==◌};
 ghost use Rattle.chunk_map.specs.Layouts.{IsLayout, is_chunk_size, layout_rule, part_first, chunk_first, payload_lines, total_bytes};
 
+use crate::layout_sizes::{
+    GREATEST_CHUNK, HEAD_LINES, LEAST_CHUNKS, MOST_CHUNKS, MOST_CORES, MOST_GROUP, MOST_PART_BYTES,
+    SUPERBLOCK_BYTES, SUPERBLOCK_WORDS,
+};
+use pm_region::{LINE_BYTES, WORD_BYTES};
 use std::marker::Model;
 
 /// The four numbers of a layout, as they stand in a superblock. Nothing says that they keep the rules.
 #[derive(Clone, Copy)]
 pub struct Geometry {
+    /// How many cores, and so parts.
     pub cores: u32,
+    /// How many cores share a table.
     pub group: u32,
+    /// How many chunks each core has.
     pub chunks: u32,
+    /// How many bytes a chunk has, its head among them.
     pub chunk_bytes: u64,
 }
 
@@ -28,9 +37,9 @@ fn is_chunk_size(n: u64) -> bool
 }
 
 fn region_bytes(cores: u64, chunks: u64, chunk_bytes: u64) -> u64
-    requires cores { cores ≤ 16 }
-    requires chunks { chunks ≤ 64 }
-    requires bytes { chunk_bytes ≤ 4194304 }
+    requires cores { cores ≤ MOST_CORES }
+    requires chunks { chunks ≤ MOST_CHUNKS }
+    requires bytes { chunk_bytes ≤ GREATEST_CHUNK }
     ensures value { result ≡ cores * chunks * chunk_bytes }
     ensures small { result ≤ 4294967296 }
 {
@@ -39,21 +48,22 @@ fn region_bytes(cores: u64, chunks: u64, chunk_bytes: u64) -> u64
 
 /// The first rule of a layout that the numbers break.
 pub fn layout_rule(cores: u64, group: u64, chunks: u64, chunk_bytes: u64) -> Option<u32>
-    ensures { result ≡ layout_rule (record { cores = cores; group = group; chunks = chunks; chunk_bytes = chunk_bytes }) }
+    ensures { result ≡ layout_rule
+        (record { cores = cores; group = group; chunks = chunks; chunk_bytes = chunk_bytes }) }
 {
-    if !(cores >= 1 && cores <= 16) {
+    if !(cores >= 1 && cores <= MOST_CORES) {
         return Some(1);
     }
-    if !(group >= 1 && group <= 8 && cores % group == 0) {
+    if !(group >= 1 && group <= MOST_GROUP && cores % group == 0) {
         return Some(2);
     }
-    if !(chunks >= 4 && chunks <= 64) {
+    if !(chunks >= LEAST_CHUNKS && chunks <= MOST_CHUNKS) {
         return Some(3);
     }
     if !is_chunk_size(chunk_bytes) {
         return Some(4);
     }
-    if chunk_bytes > 4194304 || region_bytes(cores, chunks, chunk_bytes) > 268435456 {
+    if chunk_bytes > GREATEST_CHUNK || region_bytes(cores, chunks, chunk_bytes) > MOST_PART_BYTES {
         return Some(5);
     }
     None
@@ -92,7 +102,8 @@ impl Layout {
 
     /// The layout with these numbers, or the first rule that they break.
     pub fn new(cores: u32, group: u32, chunks: u32, chunk_bytes: u64) -> Result<Layout, BadLayout>
-        ensures { result ≡ checked_layout (record { cores = cores; group = group; chunks = chunks; chunk_bytes = chunk_bytes }) }
+        ensures { result ≡ checked_layout
+            (record { cores = cores; group = group; chunks = chunks; chunk_bytes = chunk_bytes }) }
     {
         if let Some(rule) = layout_rule(cores as u64, group as u64, chunks as u64, chunk_bytes) {
             return Err(BadLayout { rule });
@@ -118,6 +129,7 @@ impl Layout {
         }
     }
 
+    /// How many cores, and so parts, the layout has.
     pub fn cores(&self) -> u32
         ensures { result ≡ self.now.cores }
     {
@@ -138,6 +150,7 @@ impl Layout {
         self.chunks
     }
 
+    /// How many bytes a chunk has, its head among them.
     pub fn chunk_bytes(&self) -> u64
         ensures { result ≡ self.now.chunk_bytes }
     {
@@ -148,27 +161,28 @@ impl Layout {
     pub fn part_first(&self, part: u32) -> u64
         ensures { result ≡ part_first self.now part }
     {
-        512 + part as u64 * (self.chunks as u64 * (self.chunk_bytes / 8))
+        SUPERBLOCK_WORDS + part as u64 * (self.chunks as u64 * (self.chunk_bytes / WORD_BYTES))
     }
 
     /// The first word of a core's chunk, that is of its head.
     pub fn chunk_first(&self, part: u32, chunk: u32) -> u64
         ensures { result ≡ chunk_first self.now part chunk }
     {
-        512 + (part as u64 * self.chunks as u64 + chunk as u64) * (self.chunk_bytes / 8)
+        SUPERBLOCK_WORDS
+            + (part as u64 * self.chunks as u64 + chunk as u64) * (self.chunk_bytes / WORD_BYTES)
     }
 
     /// How many lines of a chunk come after its head.
     pub fn payload_lines(&self) -> u64
         ensures { result ≡ payload_lines self.now }
     {
-        self.chunk_bytes / 64 - 4
+        self.chunk_bytes / LINE_BYTES - HEAD_LINES
     }
 
     /// The bytes of a region with this layout.
     pub fn total_bytes(&self) -> u64
         ensures { result ≡ total_bytes self.now }
     {
-        4096 + self.cores as u64 * self.chunks as u64 * self.chunk_bytes
+        SUPERBLOCK_BYTES + self.cores as u64 * self.chunks as u64 * self.chunk_bytes
     }
 }

@@ -2,8 +2,9 @@
 #![tactic(auto)]
 
 pub mod heads;
+pub mod layout_sizes;
 pub mod layouts;
-pub mod reading;
+pub mod read_heads;
 pub mod setting;
 pub mod superblock;
 #[cfg(test)]
@@ -12,6 +13,6 @@ pub mod words;
 
 pub use heads::{BadHead, Head};
 pub use layouts::{BadLayout, Geometry, Layout};
-pub use reading::{read_head, read_superblock};
+pub use read_heads::{read_head, read_superblock};
 pub use setting::set_head;
 pub use superblock::{NotARegion, write_superblock};

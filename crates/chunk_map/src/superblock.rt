@@ -7,12 +7,10 @@ ghost use Rattle.chunk_map.specs.Layouts.{total_bytes, IsLayout};
 ghost use Rattle.chunk_map.specs.Checked.{checked_superblock};
 ghost use Rattle.chunk_map.specs.Superblock.{IsSuperblock, MayHaveSuperblock, IsRefusedOrWhole, NarrowsOutside};
 
+use crate::layout_sizes::{FORMAT, MAGIC};
 use crate::layouts::Layout;
 use crate::words::{set_word, store_words};
-use pm_region::{Region, RegionFault};
-
-/// The bytes `FLATST01`, the first in the lowest byte.
-pub const MAGIC: u64 = 0x3130_5453_5441_4c46;
+use pm_region::{LINE_WORDS, Region, RegionFault};
 
 /// The region has no superblock: rule 1, its length in bytes is none; 2, the magic word or the format; 3, the
 /// numbers of the layout, or the length is another one. The first that is broken.
@@ -24,16 +22,20 @@ pub struct NotARegion {
 // Makes words of one line certain, and stores no other word.
 fn write_in_line<R: Region>(region: &mut R, at: u64, words: &[u64]) -> Result<(), RegionFault>
     requires low { (R.state region.old).frame.first ≤ 8 * (at / 8) }
-    requires high { 8 * (at / 8) + 8 ≤ (R.state region.old).frame.first + (R.state region.old).frame.words }
+    requires high { 8 * (at / 8) + 8 ≤ (R.state region.old).frame.first
+        + (R.state region.old).frame.words }
     requires within { at + length words.now ≤ 8 * (at / 8) + 8 }
     requires fits { at + length words.now < 2 ^ 64 }
-    ensures run { During (R.state region.old) (R.state region.new) (KeepsOutside (cell_now (R.state region.old)) (8 * (at / 8)) (8 * (at / 8) + 8)) }
-    ensures others { During (R.state region.old) (R.state region.new) (NarrowsOutside (cell_now (R.state region.old)) at (at + length words.now)) }
-    ensures ok { OnOk result (IsTelling (R.state region.new) → (j : ℕ) → j < length words.now → cell_now (R.state region.new) (at + j) ≡ certain (slice_index words.now j)) }
+    ensures run { During (R.state region.old) (R.state region.new)
+        (KeepsOutside (cell_now (R.state region.old)) (8 * (at / 8)) (8 * (at / 8) + 8)) }
+    ensures others { During (R.state region.old) (R.state region.new)
+        (NarrowsOutside (cell_now (R.state region.old)) at (at + length words.now)) }
+    ensures ok { OnOk result (IsTelling (R.state region.new) → (j : ℕ) → j < length words.now
+        → cell_now (R.state region.new) (at + j) ≡ certain (slice_index words.now j)) }
     ensures cause { OnErr result (Rose (R.state region.old).faults (R.state region.new).faults) }
 {
     store_words(region, at, words);
-    region.flush(at / 8);
+    region.flush(at / LINE_WORDS);
     region.fence()
 }
 
@@ -42,19 +44,23 @@ pub fn write_superblock<R: Region>(region: &mut R, layout: &Layout) -> Result<()
     requires first { (R.state region.old).frame.first ≡ 0 }
     requires words { 8 ≤ (R.state region.old).frame.words }
     // At each moment word 0 is what it might be before, or the whole superblock is there.
-    ensures moments { During (R.state region.old) (R.state region.new) (EachIn 0 6 (MayHaveSuperblock (cell_now (R.state region.old)) layout.now)) }
+    ensures moments { During (R.state region.old) (R.state region.new)
+        (EachIn 0 6 (MayHaveSuperblock (cell_now (R.state region.old)) layout.now)) }
     // No word but the six is stored, and no line but the first is flushed.
-    ensures outside { During (R.state region.old) (R.state region.new) (KeepsOutside (cell_now (R.state region.old)) 0 8) }
-    ensures others { During (R.state region.old) (R.state region.new) (NarrowsOutside (cell_now (R.state region.old)) 0 6) }
+    ensures outside { During (R.state region.old) (R.state region.new)
+        (KeepsOutside (cell_now (R.state region.old)) 0 8) }
+    ensures others { During (R.state region.old) (R.state region.new)
+        (NarrowsOutside (cell_now (R.state region.old)) 0 6) }
     // Over a zero magic word each image is refused by rule 2 or has the whole superblock.
     ensures fresh { (IsTelling (R.state region.old) → Surely (cell_now (R.state region.old) 0) 0)
         → During (R.state region.old) (R.state region.new) (EachIn 0 6 (IsRefusedOrWhole layout.now (total_bytes layout.now))) }
-    ensures ok { OnOk result (IsTelling (R.state region.new) → EachIn 0 6 (IsSuperblock layout.now) (cell_now (R.state region.new))) }
+    ensures ok { OnOk result (IsTelling (R.state region.new)
+        → EachIn 0 6 (IsSuperblock layout.now) (cell_now (R.state region.new))) }
     ensures cause { OnErr result (Rose (R.state region.old).faults (R.state region.new).faults) }
 {
     let geometry = layout.geometry();
     let numbers = [
-        1,
+        FORMAT,
         geometry.cores as u64,
         geometry.group as u64,
         geometry.chunks as u64,

@@ -5,28 +5,32 @@ ghost use Rattle.pm_region.specs.State.{State, During, IsTelling, LineInRange, c
 ghost use Rattle.pm_region.specs.Words.{KeepsOutside, Sets, lasts};
 
 use fs_errors::Memory;
-use pm_region::{Region, RegionFault};
+use pm_region::{LINE_WORDS, Region, RegionFault};
 use std::alloc::Global;
 
 /// Stores a word and makes it certain: one store, one flush of its line, one fence. At every moment the word
 /// may be what it might be before or the new value.
 pub fn set_word<R: Region>(region: &mut R, at: u64, value: u64) -> Result<(), RegionFault>
     requires { LineInRange (R.state region.old).frame (at / 8) }
-    ensures run { During (R.state region.old) (R.state region.new) (Sets (cell_now (R.state region.old)) (at / 8) at value) }
-    ensures ok { OnOk result (IsTelling (R.state region.new) → cell_now (R.state region.new) at ≡ certain value) }
+    ensures run { During (R.state region.old) (R.state region.new)
+        (Sets (cell_now (R.state region.old)) (at / 8) at value) }
+    ensures ok { OnOk result (IsTelling (R.state region.new) → cell_now (R.state region.new) at
+        ≡ certain value) }
     ensures cause { OnErr result (Rose (R.state region.old).faults (R.state region.new).faults) }
 {
     region.store(at, value);
-    region.flush(at / 8);
+    region.flush(at / LINE_WORDS);
     region.fence()
 }
 
 /// Stores words, one after another from a place on, and no other word.
 pub fn store_words<R: Region>(region: &mut R, at: u64, words: &[u64])
     requires low { (R.state region.old).frame.first ≤ at }
-    requires high { at + length words.now ≤ (R.state region.old).frame.first + (R.state region.old).frame.words }
+    requires high { at + length words.now ≤ (R.state region.old).frame.first
+        + (R.state region.old).frame.words }
     requires fits { at + length words.now < 2 ^ 64 }
-    ensures run { During (R.state region.old) (R.state region.new) (KeepsOutside (cell_now (R.state region.old)) at (at + length words.now)) }
+    ensures run { During (R.state region.old) (R.state region.new)
+        (KeepsOutside (cell_now (R.state region.old)) at (at + length words.now)) }
     ensures stored { IsTelling (R.state region.new) → (j : ℕ) → j < length words.now
         → (cell_now (R.state region.new) (at + j)).last ≡ slice_index words.now j }
 {
@@ -38,11 +42,15 @@ pub fn store_words<R: Region>(region: &mut R, at: u64, words: &[u64])
 /// Flushes so many lines, one after another. A line is named by its number, its first word's divided by 8.
 pub fn flush_lines<R: Region>(region: &mut R, line: u64, count: u64)
     requires low { (R.state region.old).frame.first ≤ 8 * line }
-    requires high { 8 * (line + count) ≤ (R.state region.old).frame.first + (R.state region.old).frame.words }
+    requires high { 8 * (line + count) ≤ (R.state region.old).frame.first
+        + (R.state region.old).frame.words }
     requires fits { line + count < 2 ^ 64 }
-    ensures run { During (R.state region.old) (R.state region.new) (KeepsOutside (cell_now (R.state region.old)) (8 * line) (8 * (line + count))) }
-    ensures lasts { IsTelling (R.state region.new) → (w : ℕ) → (cell_now (R.state region.new) w).last ≡ (cell_now (R.state region.old) w).last }
-    ensures marks { IsTelling (R.state region.new) → (w : ℕ) → 8 * line ≤ w → w < 8 * (line + count) → (cell_now (R.state region.new) w).marked ≡ [] }
+    ensures run { During (R.state region.old) (R.state region.new)
+        (KeepsOutside (cell_now (R.state region.old)) (8 * line) (8 * (line + count))) }
+    ensures lasts { IsTelling (R.state region.new) → (w : ℕ)
+        → (cell_now (R.state region.new) w).last ≡ (cell_now (R.state region.old) w).last }
+    ensures marks { IsTelling (R.state region.new) → (w : ℕ) → 8 * line ≤ w → w < 8 * (line + count)
+        → (cell_now (R.state region.new) w).marked ≡ [] }
 {
     for i in 0..count {
         region.flush(line + i);
@@ -57,10 +65,12 @@ pub fn load_words<R: Region>(
     count: u64,
 ) -> Result<Vec<u64>, Memory>
     requires low { (R.state region.now).frame.first ≤ first }
-    requires high { first + count ≤ (R.state region.now).frame.first + (R.state region.now).frame.words }
+    requires high { first + count ≤ (R.state region.now).frame.first
+        + (R.state region.now).frame.words }
     requires fits { first + count < 2 ^ 64 }
     ensures long { IfOk result (λ words. length words.items ≡ count) }
-    ensures words { IfOk result (λ words. IsTelling (R.state region.now) → (k : ℕ) → k < count → slice_index words.items k ≡ lasts (R.state region.now) (first + k)) }
+    ensures words { IfOk result (λ words. IsTelling (R.state region.now) → (k : ℕ) → k < count
+        → slice_index words.items k ≡ lasts (R.state region.now) (first + k)) }
 {
     let mut words = Vec::with_capacity(alloc, count as usize)?;
     for i in 0..count {

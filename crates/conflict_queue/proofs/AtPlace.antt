@@ -5,7 +5,7 @@ use Rattle.std.proofs.lemmas.List.{set_split}
 use Rattle.fs_model.specs.Cells.{key_of}
 use Rattle.conflict_queue.specs.declared.types.Held.{Held}
 use Rattle.conflict_queue.specs.declared.nodes.Node.{Node}
-use Rattle.conflict_queue.specs.declared.chains.Chain.{Chain}
+use Rattle.conflict_queue.specs.declared.key_chains.Chain.{Chain}
 use Rattle.conflict_queue.specs.Chains.{held_at, next_of, node_with, all_held, chain_with, none, IsKeyChain, IsTable, Lacks, Extends, Shortens}
 use Rattle.conflict_queue.proofs.ChainLaws.{last_within}
 use Rattle.conflict_queue.proofs.TableLaws.{all_back, split_at}

@@ -6,7 +6,7 @@ use Rattle.std.proofs.lemmas.Bool.{eqb-true, ne_eqb}
 use Rattle.std.proofs.lemmas.Map.Keys.{IsDistinct-cons}
 use Rattle.std.proofs.lemmas.Map.Steps.{length-le_from_distinct_below}
 use Rattle.conflict_queue.specs.declared.nodes.Node.{Node}
-use Rattle.conflict_queue.specs.declared.chains.Chain.{Chain}
+use Rattle.conflict_queue.specs.declared.key_chains.Chain.{Chain}
 use Rattle.conflict_queue.specs.Chains.{IsChain, numbers_from, numbers_of, held_at, next_of, key_held, held_by, all_held, IsNotIn, IsKeyChain, IsTable, Lacks, HasEachKeyOnce}
 use Rattle.conflict_queue.proofs.ChainLaws.{followed_is, not_in_tail, held_length}
 use Rattle.conflict_queue.proofs.TableLaws.{held_by_is}

@@ -4,7 +4,7 @@ use Rattle.std.specs.List.{AllByRecursion}
 use Rattle.std.proofs.lemmas.List.{length-append, get_or_append_left, get_or_push}
 use Rattle.conflict_queue.specs.declared.types.Held.{Held}
 use Rattle.conflict_queue.specs.declared.nodes.Node.{Node}
-use Rattle.conflict_queue.specs.declared.chains.Chain.{Chain}
+use Rattle.conflict_queue.specs.declared.key_chains.Chain.{Chain}
 use Rattle.conflict_queue.specs.Chains.{IsChain, held_at, next_of, key_held, node_with, held_by, all_held, bare, IsNotIn, IsKeyChain, IsTable, AllFree, Extends, Shortens}
 use Rattle.conflict_queue.specs.Queue.{IsQueue}
 use Rattle.conflict_queue.proofs.ChainLaws.{not_in_tail, held_length}

@@ -7,7 +7,7 @@ use Rattle.std.proofs.lemmas.Bool.{eq-eqb, ne_eqb, cond-true, cond-false}
 use Rattle.fs_model.specs.Cells.{key_of}
 use Rattle.conflict_queue.specs.declared.types.Held.{Held}
 use Rattle.conflict_queue.specs.declared.nodes.Node.{Node}
-use Rattle.conflict_queue.specs.declared.chains.Chain.{Chain}
+use Rattle.conflict_queue.specs.declared.key_chains.Chain.{Chain}
 use Rattle.conflict_queue.specs.Waiting.{waiting, AddsLast, TakesFirst}
 use Rattle.conflict_queue.specs.Chains.{IsChain, held_at, next_of, held_in, held_by, all_held, none, IsKeyChain, Lacks, HasEachKeyOnce}
 use Rattle.conflict_queue.proofs.ChainLaws.{followed_is, some_held}

@@ -6,7 +6,7 @@ use Rattle.std.proofs.lemmas.Bool.{cases_eq}
 use Rattle.fs_model.specs.Cells.{key_of}
 use Rattle.conflict_queue.specs.declared.types.Held.{Held}
 use Rattle.conflict_queue.specs.declared.nodes.Node.{Node}
-use Rattle.conflict_queue.specs.declared.chains.Chain.{Chain}
+use Rattle.conflict_queue.specs.declared.key_chains.Chain.{Chain}
 use Rattle.conflict_queue.specs.Waiting.{waiting, AddsLast, TakesFirst}
 use Rattle.conflict_queue.specs.Chains.{IsChain, held_at, next_of, key_held, node_with, held_in, held_by, all_held, last_of, bare, chain_with, IsNotIn, IsKeyChain, IsTable, Lacks, Extends, Shortens}
 use Rattle.conflict_queue.proofs.ChainLaws.{not_in_key, not_in_tail, chain_kept, held_kept, last_key, last_within, Links, chain_more, last_more, held_append, some_held, held_length}

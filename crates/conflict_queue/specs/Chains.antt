@@ -4,7 +4,7 @@ use Rattle.std.specs.List.{AllByRecursion}
 use Rattle.fs_model.specs.Cells.{key_of}
 use Rattle.conflict_queue.specs.declared.types.Held.{Held}
 use Rattle.conflict_queue.specs.declared.nodes.Node.{Node}
-use Rattle.conflict_queue.specs.declared.chains.Chain.{Chain}
+use Rattle.conflict_queue.specs.declared.key_chains.Chain.{Chain}
 use Rattle.conflict_queue.specs.Waiting.{AddsLast, TakesFirst}
 
 abbrev pub bare : Node
@@ -27,7 +27,8 @@ key_held (Some h) = Some (key_of h.request)
 -- The places of these numbers are a chain that begins at `at`, ends, and holds requests of one key, or nothing.
 abbrev pub IsChain : List Node → Option ℕ → Option ℕ → List ℕ → Type 0
 IsChain ns k at [] = at ≡ None
-IsChain ns k at (x ∷ xs) = (at ≡ Some x) × (x < length ns) × (key_held (held_at ns x) ≡ k) × IsChain ns k (next_of ns x) xs
+IsChain ns k at (x ∷ xs) = (at ≡ Some x) × (x < length ns) × (key_held (held_at ns x) ≡ k)
+    × IsChain ns k (next_of ns x) xs
 
 -- the numbers that are met from one on, at most n of them
 abbrev pub followed : List Node → ℕ → Option ℕ → List ℕ
@@ -95,21 +96,24 @@ pub record IsPlace (cs : List Chain) (k i : ℕ) : Type 0 where
 
 -- a chain of free places without this one stays
 abbrev pub KeepsFree : List Node → List Node → ℕ → Type 0
-KeepsFree old new i = (at : Option ℕ) (xs : List ℕ) → IsChain old None at xs → IsNotIn i xs → IsChain new None at xs
+KeepsFree old new i = (at : Option ℕ) (xs : List ℕ) → IsChain old None at xs → IsNotIn i xs
+    → IsChain new None at xs
 
 -- this place comes before the chain of free ones that begins at `at`
 abbrev pub GainsFree : List Node → List Node → Option ℕ → ℕ → Type 0
 GainsFree old new at i = (xs : List ℕ) → IsChain old None at xs → IsChain new None (Some i) (i ∷ xs)
 
 -- A free place became the last one of the key's chain.
-pub record Extends (ns : List Node) (cs : List Chain) (ms : List Node) (ds : List Chain) (i : ℕ) (h : Held) : Type 0 where
+pub record Extends (ns : List Node) (cs : List Chain) (ms : List Node) (ds : List Chain) (i : ℕ)
+    (h : Held) : Type 0 where
   pub table : IsTable ms ds
   pub added : AddsLast (all_held ns cs) (all_held ms ds) h
   pub rest : KeepsFree ns ms i
   pub nodes : length ms ≡ length ns
 
 -- The first place of a chain became a free one, before those from `at` on.
-pub record Shortens (ns : List Node) (cs : List Chain) (ms : List Node) (ds : List Chain) (at : Option ℕ) (c : Chain) (h : Held) : Type 0 where
+pub record Shortens (ns : List Node) (cs : List Chain) (ms : List Node) (ds : List Chain)
+    (at : Option ℕ) (c : Chain) (h : Held) : Type 0 where
   pub table : IsTable ms ds
   pub taken : TakesFirst (all_held ns cs) (all_held ms ds) c.key h
   pub free : GainsFree ns ms at c.first

@@ -1,7 +1,7 @@
 //! Requests that wait for their key, in order of arrival, in places that are all taken beforehand.
 #![tactic(auto)]
 
-mod chains;
+mod key_chains;
 mod nodes;
 mod queue;
 #[cfg(test)]

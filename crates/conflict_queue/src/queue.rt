@@ -2,7 +2,7 @@
 ghost use Rattle.std.specs.Prelude.{◌≡◌, ◌+◌, ◌<◌, ◌≤◌, [], length, OnOk, OnErr, IfOk, IfErr, IfSome, IfNone};
 ghost use Rattle.conflict_queue.specs.Waiting.{waiting, held_with, AddsLast, TakesFirst};
 
-use crate::chains::{Chain, add_last, place_of, take_first};
+use crate::key_chains::{Chain, add_last, place_of, take_first};
 use crate::nodes::{NODES, Node, free_nodes};
 use crate::types::{Held, NoNode};
 use fs_errors::Memory;
@@ -52,7 +52,7 @@ impl ConflictQueue {
 
     /// How many more requests can wait.
     pub fn free_nodes(&self) -> u32
-        ensures { result + length self.now ≡ 64 }
+        ensures { result + length self.now ≡ NODES }
     {
         self.free_nodes
     }
@@ -61,8 +61,8 @@ impl ConflictQueue {
     /// all 64 places are in use the request comes back.
     pub fn hold(&mut self, number: u64, request: Request) -> Result<(), NoNode>
         ensures added { OnOk result (AddsLast self.old self.new (held_with number request)) }
-        ensures had_room { OnOk result (length self.old < 64) }
-        ensures full { OnErr result (length self.old ≡ 64) }
+        ensures had_room { OnOk result (length self.old < NODES) }
+        ensures full { OnErr result (length self.old ≡ NODES) }
         ensures given_back { IfErr result (λ refused. refused.request ≡ request) }
         ensures unchanged { OnErr result (self.new ≡ self.old) }
     {

@@ -38,7 +38,7 @@ impl PlainQueue {
     }
 }
 
-fn shown(held: &Option<Held>) -> Option<(u64, Key)> {
+fn number_and_key(held: &Option<Held>) -> Option<(u64, Key)> {
     match held {
         None => None,
         Some(held) => Some((held.number, key_of(&held.request))),
@@ -63,7 +63,7 @@ fn three_keys_in_turn(rt: HostRuntime) -> Result<(), Fail> {
         _ => assert!(rt; false),
     }
     for round in 0..21 {
-        assert_eq!(rt; shown(&queue.release(2)), Some((3 * round + 1, 2)));
+        assert_eq!(rt; number_and_key(&queue.release(2)), Some((3 * round + 1, 2)));
     }
     assert!(rt; queue.release(2).is_none());
     assert_eq!(rt; queue.free_nodes(), 21);
@@ -72,11 +72,11 @@ fn three_keys_in_turn(rt: HostRuntime) -> Result<(), Fail> {
     }
     assert!(rt; queue.hold(121, Request::Get { key: 2 }).is_err());
     for round in 0..22 {
-        assert_eq!(rt; shown(&queue.release(1)), Some((3 * round, 1)));
+        assert_eq!(rt; number_and_key(&queue.release(1)), Some((3 * round, 1)));
     }
     for round in 0..21 {
-        assert_eq!(rt; shown(&queue.release(3)), Some((3 * round + 2, 3)));
-        assert_eq!(rt; shown(&queue.release(2)), Some((100 + round, 2)));
+        assert_eq!(rt; number_and_key(&queue.release(3)), Some((3 * round + 2, 3)));
+        assert_eq!(rt; number_and_key(&queue.release(2)), Some((100 + round, 2)));
     }
     assert_eq!(rt; queue.free_nodes(), 64);
     Ok(())
@@ -99,7 +99,7 @@ fn as_a_plain_queue_does(rt: HostRuntime) -> Result<(), Fail> {
             }
         } else {
             let first = plain.release(key);
-            assert_eq!(rt; shown(&queue.release(key)), shown(&first));
+            assert_eq!(rt; number_and_key(&queue.release(key)), number_and_key(&first));
         }
         assert_eq!(rt; queue.free_nodes() as usize + plain.held.len(), 64);
     }

@@ -7,11 +7,11 @@ ghost use Rattle.core_index.specs.Records.{Awaits, Shows, settled, without, last
 ghost use Rattle.core_index.specs.Noted.{name_with};
 ghost use Rattle.core_index.specs.Index.{known_at, room_at, Changes, SameRoom, Tells, HasNoneAbove, Entered, all_untold, opened_in};
 
-use crate::listing::live_in;
+use crate::death_notes::{next_dead, note_dead};
+use crate::live_keys::live_in;
 use crate::map::{enter_at, forget_at, gone_at, reserve_at, settle_at};
 use crate::notices::Notices;
 use crate::slot::Slot;
-use crate::telling::{next_dead, note_dead};
 use crate::types::{Look, Record, Spent};
 use fs_errors::Memory;
 use fs_model::{Key, Version};

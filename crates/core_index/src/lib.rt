@@ -1,14 +1,14 @@
 //! The keys of one core: last version, value, and the entries that stand in a log.
 #![tactic(auto)]
 
+mod dead_entries;
+mod death_notes;
 mod entries;
 mod index;
-mod listing;
+mod live_keys;
 mod map;
 mod notices;
 mod slot;
-mod standing;
-mod telling;
 #[cfg(test)]
 mod tests;
 mod types;

@@ -8,9 +8,9 @@ ghost use Rattle.core_index.specs.Noted.{Noted, NotedIfDead, count_lively, name_
 ghost use Rattle.core_index.specs.Records.{Awaits, is_dead, standing_of, Shows, settled, opened, told_in, without, last_of, block_of, is_forgettable, live_version};
 ghost use Rattle.core_index.specs.Slots.{alive_at, home_alive, record_with, known_with, mortal, count_of, count_dead, dead_by, died, OnlyDead, TellsOne};
 
+use crate::dead_entries::{awaits, is_dead, is_tombstone};
 use crate::entries::Entries;
 use crate::notices::Notices;
-use crate::standing::{awaits, is_dead, is_tombstone};
 use crate::types::{Head, Look, Marked, Record, Settled, Standee};
 use fs_errors::Memory;
 use fs_model::{Key, Version};

@@ -1,8 +1,9 @@
--- What one chunk of a log is in a region, and how an image reads it. Addresses are word numbers of the region. A head has 32 words: the first two are the kind and the tail.
+-- What one chunk of a log is in a region, and how an image reads it. Addresses are word numbers of the region. The first two words of a head are the kind and the tail.
 use Rattle.std.specs.Prelude.{◌≡◌, ◌⊎◌, ℕ, ◌+◌, ◌/◌, ◌%◌, ◌^◌, ◌≤◌, ◌<◌, List, ◌++◌, length, replicate}
 use Rattle.pm_region.specs.Cell.{Cell}
 use Rattle.pm_region.specs.State.{State, Frame, cell_now}
 use Rattle.pm_region.specs.Words.{Surely, lasts}
+use Rattle.chunk_map.specs.declared.layout_sizes.TheConstants.{HEAD_WORDS}
 use Rattle.log_entry.specs.Batches.{padding}
 use Rattle.store_image.specs.Parts.{payload}
 
@@ -24,7 +25,8 @@ HasLog at tail ws image = (image at ≡ 1) × (image (at + 1) ≡ tail) × (payl
 
 -- the words from before, with the batch wholly or without it
 abbrev pub HasOrLacks : ℕ → ℕ → List ℕ → List ℕ → (ℕ → ℕ) → Type 0
-HasOrLacks at tail ws batch image = HasLog at tail ws image ⊎ HasLog at (tail + length batch) (ws ++ batch) image
+HasOrLacks at tail ws batch image = HasLog at tail ws image
+    ⊎ HasLog at (tail + length batch) (ws ++ batch) image
 
 -- Free, or a Log with nothing in it
 abbrev pub FreeOrEmpty : ℕ → (ℕ → ℕ) → Type 0
@@ -40,14 +42,14 @@ pub record ChunkLies (f : Frame) (at words tail : ℕ) : Type 0 where
   pub high : at + words ≤ f.first + f.words
   pub fits : at + words < 2 ^ 64
   pub line : at % 8 ≡ 0
-  pub tail_in : tail + 32 ≤ words
+  pub tail_in : tail + HEAD_WORDS ≤ words
   pub tail_whole : tail % 8 ≡ 0
 
 -- the kind Log, the tail and the words up to it are certain
 pub record IsLog (cells : ℕ → Cell) (at tail : ℕ) : Type 0 where
   pub kind : Surely (cells at) 1
   pub tail_is : Surely (cells (at + 1)) tail
-  pub words : (k : ℕ) → k < tail → Surely (cells (at + 32 + k)) (cells (at + 32 + k)).last
+  pub words : (k : ℕ) → k < tail → Surely (cells (at + HEAD_WORDS + k)) (cells (at + HEAD_WORDS + k)).last
 
 -- after a batch
 pub record Appended (old new : State) (at tail : ℕ) (batch : List ℕ) : Type 0 where

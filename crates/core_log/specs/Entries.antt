@@ -28,10 +28,16 @@ HasEntries log before es image = open_entries log image ≡ before ++ added_entr
 
 -- the entries from before, with all of the batch's or none of them
 abbrev pub HasEntriesOrLacks : LogState → List PlacedEntry → List Entry → (ℕ → ℕ) → Type 0
-HasEntriesOrLacks log before es image = (open_entries log image ≡ before) ⊎ HasEntries log before es image
+HasEntriesOrLacks log before es image = (open_entries log image ≡ before)
+    ⊎ HasEntries log before es image
 
 -- The tail of the open chunk moved past the batch, and each image has the batch.
 pub record AppendedBatch (old new : State) (log log' : LogState) (batch : List ℕ) : Type 0 where
   pub stands : StandsIn new log'
-  pub log_is : log' ≡ record log { chunks = with_tail log.chunks (open_number log) (open_tail log + length batch) }
-  pub has : IsTelling new → EachInOpen log (HasLog (open_first log) (open_tail log + length batch) (words_now old (open_first log) (open_tail log) ++ batch)) (cell_now new)
+  pub log_is : log' ≡ record log {
+    chunks = with_tail log.chunks (open_number log)
+        (open_tail log + length batch);
+  }
+  pub has : IsTelling new
+      → EachInOpen log (HasLog (open_first log) (open_tail log + length batch)
+      (words_now old (open_first log) (open_tail log) ++ batch)) (cell_now new)

@@ -11,7 +11,8 @@ HasEachOnce (c ∷ cs) = (tail_of cs c.chunk ≡ None) × HasEachOnce cs
 -- the chunk with most free lines, and the lowest number among equals; none where there is no chunk
 abbrev pub IsEmptiest : List LogChunk → Option ℕ → Type 0
 IsEmptiest cs None = (j : ℕ) → tail_of cs j ≡ None
-IsEmptiest cs (Some k) = (tail : ℕ) × (tail_of cs k ≡ Some tail) × ((j other : ℕ) → tail_of cs j ≡ Some other → (tail < other) ⊎ ((tail ≡ other) × (k ≤ j)))
+IsEmptiest cs (Some k) = (tail : ℕ) × (tail_of cs k ≡ Some tail)
+    × ((j other : ℕ) → tail_of cs j ≡ Some other → (tail < other) ⊎ ((tail ≡ other) × (k ≤ j)))
 
 -- the chunks set in a rising list, one after another
 abbrev pub all_set : List LogChunk → List LogChunk → List LogChunk

@@ -29,7 +29,8 @@ chunk_with j tail = record { chunk = j; tail = tail }
 -- a rising list with this tail for the chunk
 abbrev pub with_tail : List LogChunk → ℕ → ℕ → List LogChunk
 with_tail [] j tail = chunk_with j tail ∷ []
-with_tail (c ∷ cs) j tail = if nat_lt j c.chunk then chunk_with j tail ∷ c ∷ cs else (if c.chunk == j then chunk_with j tail ∷ cs else c ∷ with_tail cs j tail)
+with_tail (c ∷ cs) j tail = if nat_lt j c.chunk then chunk_with j tail ∷ c ∷ cs
+    else (if c.chunk == j then chunk_with j tail ∷ cs else c ∷ with_tail cs j tail)
 
 -- the list without a chunk
 abbrev pub without : List LogChunk → ℕ → List LogChunk
@@ -99,5 +100,7 @@ pub record StandsIn (s : State) (log : LogState) : Type 0 where
   pub own : IsOwn log
   pub low : s.frame.first ≤ part_first log.layout log.part
   pub high : part_first log.layout (log.part + 1) ≤ s.frame.first + s.frame.words
-  pub logs : IsTelling s → (j tail : ℕ) → tail_of log.chunks j ≡ Some tail → IsLog (cell_now s) (first_of log j) tail
-  pub spelled : IsTelling s → (j tail : ℕ) → tail_of log.chunks j ≡ Some tail → Spelled (words_now s (first_of log j) tail)
+  pub logs : IsTelling s → (j tail : ℕ) → tail_of log.chunks j ≡ Some tail
+      → IsLog (cell_now s) (first_of log j) tail
+  pub spelled : IsTelling s → (j tail : ℕ) → tail_of log.chunks j ≡ Some tail
+      → Spelled (words_now s (first_of log j) tail)

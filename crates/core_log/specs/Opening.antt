@@ -10,7 +10,8 @@ use Rattle.core_log.specs.Log.{LogState, StandsIn, with_tail, first_of, room_of}
 
 -- each image of a chunk's words has P
 abbrev pub EachInChunk : LogState → ℕ → ((ℕ → ℕ) → Type 0) → (ℕ → Cell) → Type 0
-EachInChunk log j P cells = EachIn (first_of log j) (first_of log j + chunk_words log.layout) P cells
+EachInChunk log j P cells = EachIn (first_of log j) (first_of log j + chunk_words log.layout) P
+    cells
 
 -- the image shows no entry in the chunk
 abbrev pub HasNoEntries : LogState → ℕ → (ℕ → ℕ) → Type 0

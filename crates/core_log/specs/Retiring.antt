@@ -8,7 +8,8 @@ use Rattle.core_log.specs.Opening.{EachInChunk, HasNoEntries}
 
 -- the image shows the chunk's entries as they are now, or none
 abbrev pub HasSameOrNone : State → LogState → ℕ → (ℕ → ℕ) → Type 0
-HasSameOrNone s log j image = (chunk_entries log.layout image log.part j ≡ chunk_entries log.layout (lasts s) log.part j) ⊎ HasNoEntries log j image
+HasSameOrNone s log j image = (chunk_entries log.layout image log.part j ≡ chunk_entries log.layout
+    (lasts s) log.part j) ⊎ HasNoEntries log j image
 
 -- The chunk is certainly Free and none of the log's, and no image shows an entry in it.
 pub record RetiredChunk (new : State) (log log' : LogState) (chunk : ℕ) : Type 0 where

@@ -47,7 +47,12 @@ step_at x = record { entry = x.1; place = x.0; next = x.0 + length (words_of x.1
 
 -- the same without the body, in a payload that begins at this word
 abbrev pub peek_at : ℕ → ℕ × Entry → Peek
-peek_at payload x = record { name = record { key = x.1.key; version = x.1.version }; place = x.0; next = x.0 + length (words_of x.1); at = payload + x.0 }
+peek_at payload x = record {
+  name = record { key = x.1.key; version = x.1.version };
+  place = x.0;
+  next = x.0 + length (words_of x.1);
+  at = payload + x.0;
+}
 
 -- the entries that are left at a place: those from the first on that begins there or later
 abbrev pub behind : ℕ → List (ℕ × Entry) → List (ℕ × Entry)

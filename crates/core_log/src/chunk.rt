@@ -5,8 +5,9 @@ ghost use Rattle.pm_region.specs.State.{State, During, IsTelling, cell_now, Rose
 ghost use Rattle.pm_region.specs.Words.{KeepsOutside, EachIn, Surely};
 ghost use Rattle.core_log.specs.Chunk.{lines_for, padded, words_now, HasOrLacks, ChunkLies, IsLog, Appended};
 
+use chunk_map::layout_sizes::{HEAD_LINES, HEAD_WORDS};
 use chunk_map::words::{flush_lines, set_word};
-use pm_region::{Region, RegionFault};
+use pm_region::{LINE_WORDS, Region, RegionFault};
 
 // The word of a list, or 0 behind its end.
 fn word_or_zero(words: &[u64], at: u64) -> u64
@@ -22,9 +23,11 @@ fn word_or_zero(words: &[u64], at: u64) -> u64
 // Stores so many words: those of the list, then zeros.
 fn store_all<R: Region>(region: &mut R, at: u64, words: &[u64], count: u64)
     requires low { (R.state region.old).frame.first ≤ at }
-    requires high { at + count ≤ (R.state region.old).frame.first + (R.state region.old).frame.words }
+    requires high { at + count ≤ (R.state region.old).frame.first
+        + (R.state region.old).frame.words }
     requires fits { at + count < 2 ^ 64 }
-    ensures run { During (R.state region.old) (R.state region.new) (KeepsOutside (cell_now (R.state region.old)) at (at + count)) }
+    ensures run { During (R.state region.old) (R.state region.new)
+        (KeepsOutside (cell_now (R.state region.old)) at (at + count)) }
     ensures stored { IsTelling (R.state region.new) → (j : ℕ) → j < count
         → (cell_now (R.state region.new) (at + j)).last ≡ slice_index words.now j }
 {
@@ -41,14 +44,16 @@ fn write_lines<R: Region>(
     lines: u64,
 ) -> Result<(), RegionFault>
     requires low { (R.state region.old).frame.first ≤ 8 * line }
-    requires high { 8 * (line + lines) ≤ (R.state region.old).frame.first + (R.state region.old).frame.words }
+    requires high { 8 * (line + lines) ≤ (R.state region.old).frame.first
+        + (R.state region.old).frame.words }
     requires fits { 8 * (line + lines) < 2 ^ 64 }
-    ensures run { During (R.state region.old) (R.state region.new) (KeepsOutside (cell_now (R.state region.old)) (8 * line) (8 * (line + lines))) }
+    ensures run { During (R.state region.old) (R.state region.new)
+        (KeepsOutside (cell_now (R.state region.old)) (8 * line) (8 * (line + lines))) }
     ensures ok { OnOk result (IsTelling (R.state region.new) → (j : ℕ) → j < 8 * lines
         → cell_now (R.state region.new) (8 * line + j) ≡ certain (slice_index words.now j)) }
     ensures cause { OnErr result (Rose (R.state region.old).faults (R.state region.new).faults) }
 {
-    store_all(region, 8 * line, words, 8 * lines);
+    store_all(region, LINE_WORDS * line, words, LINE_WORDS * lines);
     flush_lines(region, line, lines);
     region.fence()
 }
@@ -64,14 +69,21 @@ pub fn append_at<R: Region>(
 ) -> Result<(), RegionFault>
     requires lies { ChunkLies (R.state region.old).frame at words tail }
     requires log { IsTelling (R.state region.old) → IsLog (cell_now (R.state region.old)) at tail }
-    requires room { tail + 8 * lines_for (length batch.now) + 32 ≤ words }
+    requires room { tail + 8 * lines_for (length batch.now) + HEAD_WORDS ≤ words }
     ensures moments { During (R.state region.old) (R.state region.new) (EachIn at (at + words)
         (HasOrLacks at tail (words_now (R.state region.old) at tail) (padded batch.now))) }
-    ensures outside { During (R.state region.old) (R.state region.new) (KeepsOutside (cell_now (R.state region.old)) at (at + words)) }
-    ensures ok { OnOk result (IsTelling (R.state region.new) → Appended (R.state region.old) (R.state region.new) at tail (padded batch.now)) }
+    ensures outside { During (R.state region.old) (R.state region.new)
+        (KeepsOutside (cell_now (R.state region.old)) at (at + words)) }
+    ensures ok { OnOk result (IsTelling (R.state region.new)
+        → Appended (R.state region.old) (R.state region.new) at tail (padded batch.now)) }
     ensures cause { OnErr result (Rose (R.state region.old).faults (R.state region.new).faults) }
 {
-    let lines = (batch.len() as u64 + 7) / 8;
-    write_lines(region, at / 8 + 4 + tail / 8, batch, lines)?;
-    set_word(region, at + 1, tail + 8 * lines)
+    let lines = (batch.len() as u64 + 7) / LINE_WORDS;
+    write_lines(
+        region,
+        at / LINE_WORDS + HEAD_LINES + tail / LINE_WORDS,
+        batch,
+        lines,
+    )?;
+    set_word(region, at + 1, tail + LINE_WORDS * lines)
 }

@@ -2,8 +2,8 @@
 #![tactic(auto)]
 
 mod chunk;
-pub mod laws;
 mod log;
+pub mod part_laws;
 mod tails;
 #[cfg(test)]
 mod tests;

@@ -20,11 +20,12 @@ use crate::tails::{emptiest, set_tail, sorted, tail_of, take_out};
 use crate::types::{LogChunk, Peek, Placed, WalkStep};
 use crate::walking::{peek_from, walk_from};
 use chunk_map::heads::Head;
+use chunk_map::layout_sizes::HEAD_WORDS;
 use chunk_map::layouts::Layout;
 use chunk_map::setting::set_head;
 use fs_errors::Memory;
-use log_entry::WordBuffer;
-use pm_region::{Region, RegionFault};
+use log_entry::{LONGEST_ENTRY, WordBuffer};
+use pm_region::{LINE_WORDS, Region, RegionFault, WORD_BYTES};
 use std::alloc::Global;
 use std::marker::Model;
 
@@ -63,7 +64,8 @@ impl CoreLog {
         ensures own { IfOk result (λ log. IsOwn log) }
         ensures layout { IfOk result (λ log. log.layout ≡ layout) }
         ensures part { IfOk result (λ log. log.part ≡ part) }
-        ensures chunks { IfOk result (λ log. (j : ℕ) → tail_of log.chunks j ≡ tail_of chunks.items j) }
+        ensures chunks { IfOk result (λ log. (j : ℕ) → tail_of log.chunks j ≡ tail_of chunks.items
+            j) }
         ensures opened { IfOk result (λ log. IsEmptiest log.chunks log.opened) }
     {
         let kept = sorted(alloc, layout, &chunks)?;
@@ -83,7 +85,7 @@ impl CoreLog {
         match self.opened {
             None => 0,
             Some(chunk) => {
-                self.layout.payload_lines() - tail_of(&self.chunks, chunk).unwrap_or(0) / 8
+                self.layout.payload_lines() - tail_of(&self.chunks, chunk).unwrap_or(0) / LINE_WORDS
             }
         }
     }
@@ -125,7 +127,7 @@ impl CoreLog {
     fn chunk_words(&self) -> u64
         ensures { result ≡ chunk_words self.now.layout }
     {
-        self.layout.chunk_bytes() / 8
+        self.layout.chunk_bytes() / WORD_BYTES
     }
 
     fn move_tail(&mut self, chunk: u32, tail: u64)
@@ -137,7 +139,11 @@ impl CoreLog {
 
     fn begin_chunk(&mut self, chunk: u32)
         requires { chunk < self.old.layout.chunks }
-        ensures { self.new ≡ record self.old { chunks = with_tail self.old.chunks chunk 0; opened = Some chunk } }
+        ensures { self.new ≡ record self.old {
+          chunks = with_tail self.old.chunks chunk 0;
+          opened =
+              Some chunk;
+        } }
     {
         set_tail(&mut self.chunks, chunk, 0);
         self.opened = Some(chunk);
@@ -157,7 +163,8 @@ impl CoreLog {
         requires entries { IsTelling (R.state region.old) → HoldsEntries batch.now.words }
         requires room { lines_for (length batch.now.words) ≤ room_of self.old }
         // The words before the tail, with the whole batch or without it.
-        ensures moments { During (R.state region.old) (R.state region.new) (EachInOpen self.old (HasOrLacks (open_first self.old) (open_tail self.old)
+        ensures moments { During (R.state region.old) (R.state region.new)
+            (EachInOpen self.old (HasOrLacks (open_first self.old) (open_tail self.old)
             (words_now (R.state region.old) (open_first self.old) (open_tail self.old)) (padded batch.now.words))) }
         // The same of the entries that images show.
         ensures entries { (es : List Entry) → batch.now.words ≡ flat_map words_of es → IsBatch es
@@ -165,20 +172,24 @@ impl CoreLog {
         // No word outside the open chunk is stored or flushed.
         ensures outside { During (R.state region.old) (R.state region.new)
             (KeepsOutside (cell_now (R.state region.old)) (open_first self.old) (open_first self.old + chunk_words self.old.layout)) }
-        ensures ok { OnOk result (AppendedBatch (R.state region.old) (R.state region.new) self.old self.new (padded batch.now.words)) }
-        ensures ok_entries { OnOk result ((es : List Entry) → batch.now.words ≡ flat_map words_of es → IsBatch es → IsTelling (R.state region.new)
+        ensures ok { OnOk result (AppendedBatch (R.state region.old) (R.state region.new) self.old
+            self.new (padded batch.now.words)) }
+        ensures ok_entries { OnOk result ((es : List Entry) → batch.now.words ≡ flat_map words_of es
+            → IsBatch es → IsTelling (R.state region.new)
             → EachInOpen self.old (HasEntries self.old (open_entries self.old (lasts (R.state region.old))) es) (cell_now (R.state region.new))) }
-        ensures placed { IfOk result (λ p. (self.old.opened ≡ Some p.chunk) × (p.place ≡ open_tail self.old)) }
+        ensures placed { IfOk result (λ p. (self.old.opened ≡ Some p.chunk)
+            × (p.place ≡ open_tail self.old)) }
         ensures err { OnErr result (self.new ≡ self.old) }
-        ensures cause { OnErr result (Rose (R.state region.old).faults (R.state region.new).faults) }
+        ensures cause { OnErr result
+            (Rose (R.state region.old).faults (R.state region.new).faults) }
     {
         let place = self.open_place();
         let at = self.first_of(place.chunk);
         let words = self.chunk_words();
         let list = batch.words();
         append_at(region, at, words, place.place, list)?;
-        let lines = (list.len() as u64 + 7) / 8;
-        self.move_tail(place.chunk, place.place + 8 * lines);
+        let lines = (list.len() as u64 + 7) / LINE_WORDS;
+        self.move_tail(place.chunk, place.place + LINE_WORDS * lines);
         Ok(place)
     }
 
@@ -186,14 +197,20 @@ impl CoreLog {
     pub fn open_chunk<R: Region>(&mut self, region: &mut R, chunk: u32) -> Result<(), RegionFault>
         requires stands { StandsIn (R.state region.old) self.old }
         requires part { chunk < self.old.layout.chunks }
-        requires free { IsTelling (R.state region.old) → Surely (cell_now (R.state region.old) (first_of self.old chunk)) 0 }
-        ensures moments { During (R.state region.old) (R.state region.new) (EachInChunk self.old chunk (FreeOrEmpty (first_of self.old chunk))) }
-        ensures entries { During (R.state region.old) (R.state region.new) (EachInChunk self.old chunk (HasNoEntries self.old chunk)) }
+        requires free { IsTelling (R.state region.old)
+            → Surely (cell_now (R.state region.old) (first_of self.old chunk)) 0 }
+        ensures moments { During (R.state region.old) (R.state region.new)
+            (EachInChunk self.old chunk (FreeOrEmpty (first_of self.old chunk))) }
+        ensures entries { During (R.state region.old) (R.state region.new)
+            (EachInChunk self.old chunk (HasNoEntries self.old chunk)) }
         // No word outside the head's first line is stored or flushed.
-        ensures outside { During (R.state region.old) (R.state region.new) (KeepsOutside (cell_now (R.state region.old)) (first_of self.old chunk) (first_of self.old chunk + 8)) }
+        ensures outside { During (R.state region.old) (R.state region.new)
+            (KeepsOutside (cell_now (R.state region.old)) (first_of self.old chunk)
+            (first_of self.old chunk + 8)) }
         ensures ok { OnOk result (OpenedChunk (R.state region.new) self.old self.new chunk) }
         ensures err { OnErr result (self.new ≡ self.old) }
-        ensures cause { OnErr result (Rose (R.state region.old).faults (R.state region.new).faults) }
+        ensures cause { OnErr result
+            (Rose (R.state region.old).faults (R.state region.new).faults) }
     {
         let at = self.first_of(chunk);
         set_head(region, at, Head::Log { tail: 0 })?;
@@ -214,15 +231,20 @@ impl CoreLog {
         requires stands { StandsIn (R.state region.old) self.old }
         requires has { is_some (tail_of self.old.chunks chunk) ≡ true }
         requires closed { self.old.opened ≢ Some chunk }
-        ensures moments { During (R.state region.old) (R.state region.new) (EachInChunk self.old chunk
+        ensures moments { During (R.state region.old) (R.state region.new)
+            (EachInChunk self.old chunk
             (FreeOrLog (first_of self.old chunk) (tail_in self.old chunk) (words_now (R.state region.old) (first_of self.old chunk) (tail_in self.old chunk)))) }
         // The chunk's entries are shown as before, or none of them.
-        ensures entries { During (R.state region.old) (R.state region.new) (EachInChunk self.old chunk (HasSameOrNone (R.state region.old) self.old chunk)) }
+        ensures entries { During (R.state region.old) (R.state region.new)
+            (EachInChunk self.old chunk (HasSameOrNone (R.state region.old) self.old chunk)) }
         // No word outside the head's first line is stored or flushed.
-        ensures outside { During (R.state region.old) (R.state region.new) (KeepsOutside (cell_now (R.state region.old)) (first_of self.old chunk) (first_of self.old chunk + 8)) }
+        ensures outside { During (R.state region.old) (R.state region.new)
+            (KeepsOutside (cell_now (R.state region.old)) (first_of self.old chunk)
+            (first_of self.old chunk + 8)) }
         ensures ok { OnOk result (RetiredChunk (R.state region.new) self.old self.new chunk) }
         ensures err { OnErr result (self.new ≡ self.old) }
-        ensures cause { OnErr result (Rose (R.state region.old).faults (R.state region.new).faults) }
+        ensures cause { OnErr result
+            (Rose (R.state region.old).faults (R.state region.new).faults) }
     {
         let at = self.first_of(chunk);
         set_head(region, at, Head::Free)?;
@@ -242,17 +264,21 @@ impl CoreLog {
         requires lies { LiesIn (R.state region.now).frame self.now }
         requires has { is_some (tail_of self.now.chunks chunk) ≡ true }
         requires readable { IsReadable (R.state region.now) self.now chunk place }
-        ensures told { IsTelling (R.state region.now) → result ≡ option_map (peek_at (first_of self.now chunk + 32)) (next_entry place (entries_in (R.state region.now) self.now chunk)) }
+        ensures told { IsTelling (R.state region.now)
+            → result ≡ option_map (peek_at (first_of self.now chunk + HEAD_WORDS))
+            (next_entry place (entries_in (R.state region.now) self.now chunk)) }
         // It is the first that is left there, and the words at `at` are its spelling. Behind it the others are left.
-        ensures step { IsTelling (R.state region.now) → IsStep (R.state region.now) self.now chunk place result }
+        ensures step { IsTelling (R.state region.now) → IsStep (R.state region.now) self.now chunk
+            place result }
         // Reading may go on behind the entry.
         ensures next { IfSome result (λ p. IsReadable (R.state region.now) self.now chunk p.next) }
         ensures within { IfSome result (λ p. (place ≤ p.place) × (p.place < p.next)) }
-        ensures at { IfSome result (λ p. p.at ≡ first_of self.now chunk + 32 + p.place) }
-        ensures size { IfSome result (λ p. p.next ≤ p.place + 34) }
-        ensures range { IfSome result (λ p. WordsLie (R.state region.now).frame p.at (p.next - p.place)) }
+        ensures at { IfSome result (λ p. p.at ≡ first_of self.now chunk + HEAD_WORDS + p.place) }
+        ensures size { IfSome result (λ p. p.next ≤ p.place + LONGEST_ENTRY) }
+        ensures range { IfSome result (λ p. WordsLie (R.state region.now).frame p.at
+            (p.next - p.place)) }
     {
-        let first = self.first_of(chunk) + 32;
+        let first = self.first_of(chunk) + HEAD_WORDS;
         let tail = self.tail_in(chunk);
         peek_from(region, first, place, tail)
     }
@@ -268,14 +294,19 @@ impl CoreLog {
         requires lies { LiesIn (R.state region.now).frame self.now }
         requires has { is_some (tail_of self.now.chunks chunk) ≡ true }
         requires readable { IsReadable (R.state region.now) self.now chunk place }
-        ensures told { IfOk result (λ step. IsTelling (R.state region.now) → step ≡ option_map step_at (next_entry place (entries_in (R.state region.now) self.now chunk))) }
+        ensures told { IfOk result (λ step. IsTelling (R.state region.now)
+            → step ≡ option_map step_at
+            (next_entry place (entries_in (R.state region.now) self.now chunk))) }
         // It is the first that is left there. Behind it the others are left.
-        ensures left { IfOk result (λ step. IsTelling (R.state region.now) → IsWalk (entries_in (R.state region.now) self.now chunk) place step) }
+        ensures left { IfOk result (λ step. IsTelling (R.state region.now)
+            → IsWalk (entries_in (R.state region.now) self.now chunk) place step) }
         // Reading may go on behind the entry.
-        ensures next { IfOk result (λ step. IfSome step (λ s. IsReadable (R.state region.now) self.now chunk s.next)) }
-        ensures within { IfOk result (λ step. IfSome step (λ s. (place ≤ s.place) × (s.place < s.next))) }
+        ensures next { IfOk result
+            (λ step. IfSome step (λ s. IsReadable (R.state region.now) self.now chunk s.next)) }
+        ensures within { IfOk result (λ step. IfSome step (λ s. (place ≤ s.place)
+            × (s.place < s.next))) }
     {
-        let first = self.first_of(chunk) + 32;
+        let first = self.first_of(chunk) + HEAD_WORDS;
         let tail = self.tail_in(chunk);
         walk_from(alloc, region, first, place, tail)
     }

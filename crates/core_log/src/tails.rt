@@ -11,7 +11,7 @@ use chunk_map::layouts::Layout;
 use fs_errors::Memory;
 use std::alloc::Global;
 
-// The tail of a chunk, where the list has it.
+/// The tail of a chunk, where the list has it.
 pub fn tail_of(chunks: &[LogChunk], chunk: u32) -> Option<u64>
     ensures { result ≡ tail_of chunks.now chunk }
 {
@@ -36,7 +36,7 @@ fn place_of(chunks: &[LogChunk], chunk: u32) -> usize
     chunks.len()
 }
 
-// Gives a chunk a tail. A chunk that the list lacks needs a reserved place.
+/// Gives a chunk a tail. A chunk that the list lacks needs a reserved place.
 pub fn set_tail(chunks: &mut Vec<LogChunk>, chunk: u32, tail: u64)
     requires { vec_len chunks.old < vec_capacity chunks.old }
     ensures items { chunks.new.items ≡ with_tail chunks.old.items chunk tail }
@@ -51,9 +51,10 @@ pub fn set_tail(chunks: &mut Vec<LogChunk>, chunk: u32, tail: u64)
     }
 }
 
-// Takes a chunk out.
+/// Takes a chunk out.
 pub fn take_out(chunks: &mut Vec<LogChunk>, chunk: u32)
-    ensures items { is_some (tail_of chunks.old.items chunk) ≡ true → IsRising 0 chunks.old.items → chunks.new.items ≡ without chunks.old.items chunk }
+    ensures items { is_some (tail_of chunks.old.items chunk) ≡ true → IsRising 0 chunks.old.items
+        → chunks.new.items ≡ without chunks.old.items chunk }
     ensures capacity { vec_capacity chunks.old ≤ vec_capacity chunks.new }
 {
     let at = place_of(chunks, chunk);
@@ -62,8 +63,8 @@ pub fn take_out(chunks: &mut Vec<LogChunk>, chunk: u32)
     }
 }
 
-// The chunks by rising number, in a list with a place more than the part has chunks: so there is always a
-// place for one more.
+/// The chunks by rising number, in a list with a place more than the part has chunks: so there is always a
+/// place for one more.
 pub fn sorted(alloc: Global, layout: Layout, chunks: &[LogChunk]) -> Result<Vec<LogChunk>, Memory>
     requires each { AllByRecursion (IsChunkOf layout) chunks.now }
     requires once { HasEachOnce chunks.now }
@@ -79,7 +80,7 @@ pub fn sorted(alloc: Global, layout: Layout, chunks: &[LogChunk]) -> Result<Vec<
     Ok(kept)
 }
 
-// The number of the chunk with the least tail, the lowest among equals.
+/// The number of the chunk with the least tail, the lowest among equals.
 pub fn emptiest(chunks: &[LogChunk]) -> Option<u32>
     requires { IsRising 0 chunks.now }
     ensures { IsEmptiest chunks.now result }

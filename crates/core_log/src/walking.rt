@@ -2,7 +2,6 @@
 ghost use Rattle.std.specs.Prelude.{◌≡◌, ◌≢◌, ◌⊎◌, ℕ, ◌+◌, ◌-◌, ◌*◌, ◌/◌, ◌%◌, ◌^◌, ◌≤◌, ◌<◌, length, option_map, Option, IfOk, IfSome};
 ghost use Rattle.pm_region.specs.State.{State, Frame, IsTelling, cell_now};
 ghost use Rattle.pm_region.specs.Words.{lasts};
-ghost use Rattle.log_entry.specs.Reading.{size_of, version_of};
 ghost use Rattle.log_entry.specs.Words.{words_from};
 ghost use Rattle.log_entry.specs.Batches.{scan_of};
 ghost use Rattle.core_log.specs.Log.{Spelled};
@@ -11,40 +10,23 @@ ghost use Rattle.core_log.specs.Walking.{IsBetween, next_entry, step_at, peek_at
 use crate::types::{Peek, WalkStep};
 use chunk_map::words::load_words;
 use fs_errors::Memory;
-use log_entry::{EntryName, Read, read_entry};
+use log_entry::{EntryName, LONGEST_ENTRY, Read, read_entry, size_of, version_of};
 use pm_region::Region;
 use std::alloc::Global;
-
-// How many words an entry with this first word has.
-fn size_of(word: u64) -> u64
-    ensures value { result ≡ size_of word }
-    ensures low { 2 ≤ result }
-    ensures high { result ≤ 34 }
-{
-    if word / 4 % 4 == 1 {
-        2 + (word / 16777216 % 256 + 7) / 8
-    } else {
-        2
-    }
-}
-
-// The version of an entry with this first word.
-fn version_of(word: u64) -> u32
-    ensures { result ≡ version_of word }
-{
-    (word / 16 % 1048576) as u32
-}
 
 // The first place that has no zero word, from a place on; the tail where there is none.
 fn skip_zeros<R: Region>(region: &R, first: u64, place: u64, tail: u64) -> u64
     requires low { (R.state region.now).frame.first ≤ first }
-    requires high { first + tail ≤ (R.state region.now).frame.first + (R.state region.now).frame.words }
+    requires high { first + tail ≤ (R.state region.now).frame.first
+        + (R.state region.now).frame.words }
     requires fits { first + tail < 2 ^ 64 }
     requires place { place ≤ tail }
     ensures from { place ≤ result }
     ensures end { result ≤ tail }
-    ensures zeros { IsTelling (R.state region.now) → (k : ℕ) → place ≤ k → k < result → lasts (R.state region.now) (first + k) ≡ 0 }
-    ensures some { IsTelling (R.state region.now) → result < tail → lasts (R.state region.now) (first + result) ≢ 0 }
+    ensures zeros { IsTelling (R.state region.now) → (k : ℕ) → place ≤ k → k < result
+        → lasts (R.state region.now) (first + k) ≡ 0 }
+    ensures some { IsTelling (R.state region.now) → result < tail
+        → lasts (R.state region.now) (first + result) ≢ 0 }
 {
     for i in place..tail {
         if region.load(first + i) != 0 {
@@ -54,19 +36,27 @@ fn skip_zeros<R: Region>(region: &R, first: u64, place: u64, tail: u64) -> u64
     tail
 }
 
-// The next entry at or after a place of a payload, without its body. The payload begins at word `first`.
+/// The next entry at or after a place of a payload, without its body. The payload begins at word `first`.
 pub fn peek_from<R: Region>(region: &R, first: u64, place: u64, tail: u64) -> Option<Peek>
     requires low { (R.state region.now).frame.first ≤ first }
-    requires high { first + tail ≤ (R.state region.now).frame.first + (R.state region.now).frame.words }
+    requires high { first + tail ≤ (R.state region.now).frame.first
+        + (R.state region.now).frame.words }
     requires fits { first + tail < 2 ^ 64 }
     requires place { place ≤ tail }
-    requires spelled { IsTelling (R.state region.now) → Spelled (words_from (lasts (R.state region.now)) first tail) }
-    requires between { IsTelling (R.state region.now) → IsBetween place (scan_of (words_from (lasts (R.state region.now)) first tail)).entries }
-    ensures told { IsTelling (R.state region.now) → result ≡ option_map (peek_at first) (next_entry place (scan_of (words_from (lasts (R.state region.now)) first tail)).entries) }
-    ensures next { IsTelling (R.state region.now) → IfSome result (λ p. IsBetween p.next (scan_of (words_from (lasts (R.state region.now)) first tail)).entries) }
-    ensures within { IfSome result (λ p. (place ≤ p.place) × ((p.place < p.next) × (p.next ≤ tail))) }
+    requires spelled { IsTelling (R.state region.now)
+        → Spelled (words_from (lasts (R.state region.now)) first tail) }
+    requires between { IsTelling (R.state region.now)
+        → IsBetween place (scan_of (words_from (lasts (R.state region.now)) first tail)).entries }
+    ensures told { IsTelling (R.state region.now)
+        → result ≡ option_map (peek_at first)
+        (next_entry place (scan_of (words_from (lasts (R.state region.now)) first tail)).entries) }
+    ensures next { IsTelling (R.state region.now)
+        → IfSome result (λ p. IsBetween p.next
+        (scan_of (words_from (lasts (R.state region.now)) first tail)).entries) }
+    ensures within { IfSome result (λ p. (place ≤ p.place)
+        × ((p.place < p.next) × (p.next ≤ tail))) }
     ensures at { IfSome result (λ p. p.at ≡ first + p.place) }
-    ensures size { IfSome result (λ p. p.next ≤ p.place + 34) }
+    ensures size { IfSome result (λ p. p.next ≤ p.place + LONGEST_ENTRY) }
 {
     let at = skip_zeros(region, first, place, tail);
     if at >= tail {
@@ -89,7 +79,7 @@ pub fn peek_from<R: Region>(region: &R, first: u64, place: u64, tail: u64) -> Op
     })
 }
 
-// The same with the body.
+/// The same with the body.
 pub fn walk_from<R: Region>(
     alloc: Global,
     region: &R,
@@ -98,14 +88,22 @@ pub fn walk_from<R: Region>(
     tail: u64,
 ) -> Result<Option<WalkStep>, Memory>
     requires low { (R.state region.now).frame.first ≤ first }
-    requires high { first + tail ≤ (R.state region.now).frame.first + (R.state region.now).frame.words }
+    requires high { first + tail ≤ (R.state region.now).frame.first
+        + (R.state region.now).frame.words }
     requires fits { first + tail < 2 ^ 64 }
     requires place { place ≤ tail }
-    requires spelled { IsTelling (R.state region.now) → Spelled (words_from (lasts (R.state region.now)) first tail) }
-    requires between { IsTelling (R.state region.now) → IsBetween place (scan_of (words_from (lasts (R.state region.now)) first tail)).entries }
-    ensures told { IfOk result (λ step. IsTelling (R.state region.now) → step ≡ option_map step_at (next_entry place (scan_of (words_from (lasts (R.state region.now)) first tail)).entries)) }
-    ensures next { IfOk result (λ step. IsTelling (R.state region.now) → IfSome step (λ s. IsBetween s.next (scan_of (words_from (lasts (R.state region.now)) first tail)).entries)) }
-    ensures within { IfOk result (λ step. IfSome step (λ s. (place ≤ s.place) × ((s.place < s.next) × (s.next ≤ tail)))) }
+    requires spelled { IsTelling (R.state region.now)
+        → Spelled (words_from (lasts (R.state region.now)) first tail) }
+    requires between { IsTelling (R.state region.now)
+        → IsBetween place (scan_of (words_from (lasts (R.state region.now)) first tail)).entries }
+    ensures told { IfOk result (λ step. IsTelling (R.state region.now)
+        → step ≡ option_map step_at
+        (next_entry place (scan_of (words_from (lasts (R.state region.now)) first tail)).entries)) }
+    ensures next { IfOk result (λ step. IsTelling (R.state region.now)
+        → IfSome step (λ s. IsBetween s.next
+        (scan_of (words_from (lasts (R.state region.now)) first tail)).entries)) }
+    ensures within { IfOk result (λ step. IfSome step (λ s. (place ≤ s.place)
+        × ((s.place < s.next) × (s.next ≤ tail)))) }
 {
     let Some(found) = peek_from(region, first, place, tail) else {
         return Ok(None);

@@ -29,13 +29,22 @@ abbrev pub lacks_block : Supply → ℕ → ℕ → ℕ → Bool
 lacks_block s need class free = not (class == 0) && free == 0 && not (may_cut s need)
 
 abbrev pub counts_at : Supply → ℕ → ℕ → ℕ → Counts
-counts_at s need class free = record { free_chunks = s.free_chunks; open_lines = s.open_lines; pledged_lines = pledged s; need_lines = need; class = class; free_blocks = if class == 0 then 0 else free }
+counts_at s need class free = record {
+  free_chunks = s.free_chunks;
+  open_lines = s.open_lines;
+  pledged_lines = pledged s;
+  need_lines = need;
+  class = class;
+  free_blocks = if class == 0 then 0
+      else free;
+}
 
 -- why an entry of so many lines, with a block of the class or none, finds no place
 abbrev pub shortage_at : Supply → ℕ → ℕ → ℕ → Option Shortage
 shortage_at s need class free =
     if lacks_room s need then Some (Room (counts_at s need class free))
-    else (if lacks_block s need class free then Some (Block (counts_at s need class free)) else None)
+    else (if lacks_block s need class free then Some (Block (counts_at s need class free))
+    else None)
 
 -- The rule that a core keeps: what is pledged fits in the open chunk, or two chunks are free.
 abbrev pub KeepsRoom : Supply → Type 0

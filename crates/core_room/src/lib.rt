@@ -3,8 +3,8 @@
 //! free. So whatever was accepted can be written.
 #![tactic(auto)]
 
-pub mod laws;
 mod needs;
+pub mod room_laws;
 mod supply;
 #[cfg(test)]
 mod tests;

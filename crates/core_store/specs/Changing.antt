@@ -23,7 +23,8 @@ pub record Holds (s : State) (e : Store) (p : ℕ) (v : List ℕ) : Type 0 where
   pub block : HasBlock e.allocator p v
   pub fresh : (k : ℕ) → block_in e k ≡ Some p → ⊥
   pub written : chunk_is_due e.allocator (chunk_of e.allocator p) ≡ false
-  pub holds : IsTelling s → EachIn (32 * p) (32 * p + 32 * 2 ^ block.class) (HoldsValue p v) (cell_now s)
+  pub holds : IsTelling s → EachIn (32 * p) (32 * p + 32 * 2 ^ block.class) (HoldsValue p v)
+      (cell_now s)
 
 -- what an entry with this body will leave
 abbrev pub Brings : State → Store → Body → Option (List ℕ) → Type 0
@@ -33,11 +34,14 @@ Brings s e (Embedded v) cell = Leaves e.allocator (Embedded v) cell
 Brings s e Tombstone cell = cell ≡ None
 
 -- The store keeps these cells, but for a block that is allocated for an entry to come.
-pub record Awaiting (s : State) (e : Store) (cells : ℕ → Option (List ℕ)) (body : Body) (cell : Option (List ℕ)) : Type 0 where
+pub record Awaiting (s : State) (e : Store) (cells : ℕ → Option (List ℕ)) (body : Body)
+    (cell : Option (List ℕ)) : Type 0 where
   pub leaves : (k : ℕ) → LeavesIn e.allocator (known e k) (cells k)
   pub own : (j k p : ℕ) → block_in e j ≡ Some p → block_in e k ≡ Some p → j ≡ k
-  pub live : (p : ℕ) → block_is_used e.allocator p ≡ true → (pointer_of body ≡ Some p) ⊎ ((k : ℕ) × (block_in e k ≡ Some p))
-  pub shows : IsTelling s → EachImage s.frame (Shows s.frame.bytes e.log.layout cells (last_in e)) (cell_now s)
+  pub live : (p : ℕ) → block_is_used e.allocator p ≡ true → (pointer_of body ≡ Some p)
+      ⊎ ((k : ℕ) × (block_in e k ≡ Some p))
+  pub shows : IsTelling s → EachImage s.frame (Shows s.frame.bytes e.log.layout cells (last_in e))
+      (cell_now s)
   pub wins : IsTelling s → EachImage s.frame (Ties e.log.layout (known e)) (cell_now s)
   pub brings : Brings s e body cell
 
@@ -57,13 +61,16 @@ pub record Gains (old new : Sets) (class p : ℕ) : Type 0 where
   pub class_is : class_at new p ≡ Some class
   pub classes : (q c : ℕ) → class_at old q ≡ Some c → class_at new q ≡ Some c
   pub free : (j : ℕ) → chunk_is_free new j ≡ true → chunk_is_free old j ≡ true
-  pub due : (j : ℕ) → chunk_is_due new j ≡ true → (chunk_is_due old j ≡ true) ⊎ (chunk_is_free old j ≡ true)
-  pub cut : (j c : ℕ) → chunk_class new j ≡ Some c → chunk_is_due new j ≡ false → (chunk_class old j ≡ Some c) × (chunk_is_due old j ≡ false)
+  pub due : (j : ℕ) → chunk_is_due new j ≡ true → (chunk_is_due old j ≡ true)
+      ⊎ (chunk_is_free old j ≡ true)
+  pub cut : (j c : ℕ) → chunk_class new j ≡ Some c → chunk_is_due new j ≡ false
+      → (chunk_class old j ≡ Some c) × (chunk_is_due old j ≡ false)
 
 -- the block that no key has any more becomes free, where it is allocated
 abbrev pub Frees : Sets → Sets → Option ℕ → Type 0
 Frees old new None = new ≡ old
-Frees old new (Some p) = ((block_is_used old p ≡ true) × PutsBack old new p) ⊎ ((block_is_used old p ≡ false) × (new ≡ old))
+Frees old new (Some p) = ((block_is_used old p ≡ true) × PutsBack old new p)
+    ⊎ ((block_is_used old p ≡ false) × (new ≡ old))
 
 -- a chunk is opened where an entry of so many lines does not fit
 abbrev pub with_room : Geometry → ℕ → Stock → Stock

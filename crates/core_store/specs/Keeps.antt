@@ -41,5 +41,6 @@ pub record Keeps (s : State) (e : Store) (cells : ℕ → Option (List ℕ)) : T
   -- no block serves two values, and each allocated one serves one
   pub own : (j k p : ℕ) → block_in e j ≡ Some p → block_in e k ≡ Some p → j ≡ k
   pub live : (p : ℕ) → block_is_used e.allocator p ≡ true → (k : ℕ) × (block_in e k ≡ Some p)
-  pub shows : IsTelling s → EachImage s.frame (Shows s.frame.bytes e.log.layout cells (last_in e)) (cell_now s)
+  pub shows : IsTelling s → EachImage s.frame (Shows s.frame.bytes e.log.layout cells (last_in e))
+      (cell_now s)
   pub wins : IsTelling s → EachImage s.frame (Ties e.log.layout (known e)) (cell_now s)

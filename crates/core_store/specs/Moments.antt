@@ -14,6 +14,8 @@ abbrev pub with_at : {X : Type 0} → (ℕ → X) → ℕ → X → ℕ → X
 with_at f key x k = if k == key then x else f k
 
 -- the cells and last versions of one moment or of the next, in which the key has this cell by this version
-abbrev pub ShowsEither : ℕ → Geometry → (ℕ → Option (List ℕ)) → (ℕ → ℕ) → ℕ → ℕ → Option (List ℕ) → (ℕ → ℕ) → Type 0
+abbrev pub ShowsEither : ℕ → Geometry → (ℕ → Option (List ℕ)) → (ℕ → ℕ) → ℕ → ℕ → Option (List ℕ)
+    → (ℕ → ℕ) → Type 0
 ShowsEither bytes l cells lasts key version cell image =
-    Shows bytes l cells lasts image ⊎ Shows bytes l (with_at cells key cell) (with_at lasts key version) image
+    Shows bytes l cells lasts image ⊎ Shows bytes l (with_at cells key cell)
+    (with_at lasts key version) image

@@ -11,9 +11,13 @@ use Rattle.core_store.specs.Keeps.{Keeps}
 
 -- Where the region tells, no chunk of the log is another thing, and each chunk's kind word is certain.
 pub record ChunksStand (s : State) (e : Store) : Type 0 where
-  pub free : (j : ℕ) → chunk_is_free e.allocator j ≡ true → IsTelling s → (tail_of e.log.chunks j ≡ None) × Surely (cell_now s (first_of e.log j)) 0
-  pub due : (j : ℕ) → chunk_is_due e.allocator j ≡ true → IsTelling s → (tail_of e.log.chunks j ≡ None) × Surely (cell_now s (first_of e.log j)) 0
-  pub cut : (j c : ℕ) → chunk_class e.allocator j ≡ Some c → chunk_is_due e.allocator j ≡ false → IsTelling s → (tail_of e.log.chunks j ≡ None) × Surely (cell_now s (first_of e.log j)) (2 + 256 * c)
+  pub free : (j : ℕ) → chunk_is_free e.allocator j ≡ true → IsTelling s
+      → (tail_of e.log.chunks j ≡ None) × Surely (cell_now s (first_of e.log j)) 0
+  pub due : (j : ℕ) → chunk_is_due e.allocator j ≡ true → IsTelling s
+      → (tail_of e.log.chunks j ≡ None) × Surely (cell_now s (first_of e.log j)) 0
+  pub cut : (j c : ℕ) → chunk_class e.allocator j ≡ Some c → chunk_is_due e.allocator j ≡ false
+      → IsTelling s → (tail_of e.log.chunks j ≡ None) × Surely (cell_now s (first_of e.log j))
+      (2 + 256 * c)
 
 -- All this but that it keeps some cells.
 pub record Standing (s : State) (e : Store) : Type 0 where

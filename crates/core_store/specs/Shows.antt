@@ -7,7 +7,8 @@ use Rattle.store_image.specs.Facts.{In, KeepsRules}
 use Rattle.store_image.specs.Parts.{all_entries}
 use Rattle.store_image.specs.Winners.{recovered}
 
-pub record Shows (bytes : ℕ) (l : Geometry) (cells : ℕ → Option (List ℕ)) (lasts : ℕ → ℕ) (image : ℕ → ℕ) : Type 0 where
+pub record Shows (bytes : ℕ) (l : Geometry) (cells : ℕ → Option (List ℕ)) (lasts : ℕ → ℕ) (image : ℕ
+    → ℕ) : Type 0 where
   pub superblock : superblock_rule bytes image ≡ None
   pub layout : layout_of image ≡ l
   pub rules : KeepsRules l image

@@ -33,7 +33,14 @@ abbrev pub class_held : Store → ℕ → Option ℕ
 class_held e k = option_and_then (λ r. class_of_body e.allocator r.body) (known e k)
 
 abbrev pub stock_of : Store → Stock
-stock_of e = record { free = free_chunk_count e.allocator; room = room_of e.log; blocks = free_block_count e.allocator; lasts = last_in e; holds = class_held e }
+stock_of e = record {
+  free = free_chunk_count e.allocator;
+  room = room_of e.log;
+  blocks =
+      free_block_count e.allocator;
+  lasts = last_in e;
+  holds = class_held e;
+}
 
 -- the room of a store, in which nothing is pledged
 abbrev pub supply_of : Stock → Supply
@@ -51,15 +58,24 @@ abbrev pub lacks_block : Stock → ℕ → ℕ → Bool
 lacks_block s need class = not (class == 0) && s.blocks class == 0 && not (may_cut s need)
 
 abbrev pub counts_at : Stock → ℕ → ℕ → Counts
-counts_at s need class = record { free_chunks = s.free; open_lines = s.room; pledged_lines = 0; need_lines = need; class = class; free_blocks = if class == 0 then 0 else s.blocks class }
+counts_at s need class = record {
+  free_chunks = s.free;
+  open_lines = s.room;
+  pledged_lines = 0;
+  need_lines = need;
+  class = class;
+  free_blocks = if class == 0 then 0 else s.blocks class;
+}
 
 -- why a put of a value of this length is refused, by the cause that comes first
 abbrev pub why_put : Geometry → Stock → ℕ → ℕ → Option Shortage
 why_put l s key n =
     if nat_lt (l.chunk_bytes / 4 - 8) n then Some (Length n)
     else (if nat_le 1048574 (s.lasts key) then Some (Versions (s.lasts key))
-    else (if lacks_room s (lines_needed n) then Some (Room (counts_at s (lines_needed n) (class_for n)))
-    else (if lacks_block s (lines_needed n) (class_for n) then Some (Block (counts_at s (lines_needed n) (class_for n))) else None)))
+    else (if lacks_room s (lines_needed n)
+    then Some (Room (counts_at s (lines_needed n) (class_for n)))
+    else (if lacks_block s (lines_needed n) (class_for n)
+    then Some (Block (counts_at s (lines_needed n) (class_for n))) else None)))
 
 -- why a delete of a key that has a value is
 abbrev pub why_delete : Stock → Option Shortage
@@ -69,7 +85,11 @@ why_delete s = if lacks_room s 1 then Some (Room (counts_at s 1 0)) else None
 abbrev pub after_take : Geometry → ℕ → Stock → Stock
 after_take l class s =
     if class == 0 then s
-    else (if s.blocks class == 0 then record s { free = s.free - 1; blocks = with_at s.blocks class (blocks_in l class - 1) }
+    else (if s.blocks class == 0 then record s {
+      free = s.free - 1;
+      blocks = with_at s.blocks class
+          (blocks_in l class - 1);
+    }
     else record s { blocks = with_at s.blocks class (s.blocks class - 1) })
 
 -- an entry takes lines of the open chunk, or of a fresh one
@@ -82,7 +102,8 @@ after_append l need s = record s {
 -- the block of the value before becomes free
 abbrev pub blocks_after : Option ℕ → (ℕ → ℕ) → ℕ → ℕ
 blocks_after None blocks = blocks
-blocks_after (Some class) blocks = if class == 0 then blocks else with_at blocks class (blocks class + 1)
+blocks_after (Some class) blocks = if class == 0 then blocks else with_at blocks class
+    (blocks class + 1)
 
 -- the key has a value of this class, or none, by its next version
 abbrev pub after_settle : ℕ → Option ℕ → Stock → Stock
@@ -93,7 +114,8 @@ after_settle key class s = record s {
 }
 
 abbrev pub after_put : Geometry → Stock → ℕ → ℕ → Stock
-after_put l s key n = after_settle key (Some (class_for n)) (after_append l (lines_needed n) (after_take l (class_for n) s))
+after_put l s key n = after_settle key (Some (class_for n))
+    (after_append l (lines_needed n) (after_take l (class_for n) s))
 
 abbrev pub after_delete : Geometry → Stock → ℕ → Stock
 after_delete l s key = after_settle key None (after_append l 1 s)

@@ -66,7 +66,8 @@ impl Store {
         requires one { layout.cores ≡ 1 }
         requires region { IsRegionOf (R.state region.now) layout start }
         ensures ready { IfOk result (Ready (R.state region.now)) }
-        ensures keeps { IfOk result (λ store. IsTelling (R.state region.now) → Keeps (R.state region.now) store (recovered layout (lasts (R.state region.now)))) }
+        ensures keeps { IfOk result (λ store. IsTelling (R.state region.now)
+            → Keeps (R.state region.now) store (recovered layout (lasts (R.state region.now)))) }
         ensures log { IfOk result (λ store. store.log ≡ start.log) }
         ensures allocator { IfOk result (λ store. store.allocator ≡ start.allocator) }
         ensures index { IfOk result (λ store. store.index ≡ start.index) }
@@ -91,7 +92,8 @@ impl Store {
     pub fn admit(&mut self, alloc: Global, key: Key) -> Result<(), Memory>
         ensures room { OnOk result (0 < room_at self.new.index key) }
         ensures ready { (s : State) → Ready s self.old → Ready s self.new }
-        ensures keeps { (s : State) (cells : ℕ → Option (List ℕ)) → Keeps s self.old cells → Keeps s self.new cells }
+        ensures keeps { (s : State) (cells : ℕ → Option (List ℕ)) → Keeps s self.old cells
+            → Keeps s self.new cells }
         ensures stock { stock_of self.new ≡ stock_of self.old }
         ensures layout { self.new.log.layout ≡ self.old.log.layout }
     {
@@ -162,17 +164,25 @@ impl Store {
     ) -> Result<(), RegionFault>
         requires ready { Ready (R.state region.old) self.old }
         requires room { 0 < room_at self.old.index key }
-        requires unrefused { why_put self.old.log.layout (stock_of self.old) key (length value) ≡ None }
+        requires unrefused { why_put self.old.log.layout (stock_of self.old) key (length value)
+            ≡ None }
         // At each moment an image shows the cells as they were, or with this value.
-        ensures moments { (cells : ℕ → Option (List ℕ)) → Keeps (R.state region.old) self.old cells → During (R.state region.old) (R.state region.new) (EachImage (R.state region.old).frame
+        ensures moments { (cells : ℕ → Option (List ℕ)) → Keeps (R.state region.old) self.old cells
+            → During (R.state region.old) (R.state region.new) (EachImage (R.state region.old).frame
             (ShowsEither (R.state region.old).frame.bytes self.old.log.layout cells (last_in self.old) key (last_in self.old key + 1) (Some value))) }
-        ensures keeps { OnOk result ((cells : ℕ → Option (List ℕ)) → Keeps (R.state region.old) self.old cells → Keeps (R.state region.new) self.new (with_at cells key (Some value))) }
-        ensures stock { OnOk result ((cells : ℕ → Option (List ℕ)) → Keeps (R.state region.old) self.old cells → stock_of self.new ≡ after_put self.old.log.layout (stock_of self.old) key (length value)) }
+        ensures keeps { OnOk result ((cells : ℕ → Option (List ℕ))
+            → Keeps (R.state region.old) self.old cells
+            → Keeps (R.state region.new) self.new (with_at cells key (Some value))) }
+        ensures stock { OnOk result ((cells : ℕ → Option (List ℕ))
+            → Keeps (R.state region.old) self.old cells
+            → stock_of self.new ≡ after_put self.old.log.layout (stock_of self.old) key
+            (length value)) }
         ensures ready { OnOk result (Ready (R.state region.new) self.new) }
         ensures layout { self.new.log.layout ≡ self.old.log.layout }
         // Whatever the region tells, calls went from the one state to the other.
         ensures run { During (R.state region.old) (R.state region.new) (λ cells. Unit {0}) }
-        ensures cause { OnErr result (Rose (R.state region.old).faults (R.state region.new).faults) }
+        ensures cause { OnErr result
+            (Rose (R.state region.old).faults (R.state region.new).faults) }
     {
         let version = self.next_version(key, false);
         let lines = lines_needed(byte_count(value.bytes()));
@@ -187,15 +197,21 @@ impl Store {
         requires room { 0 < room_at self.old.index key }
         requires live { is_some (class_held self.old key) ≡ true }
         requires unrefused { why_delete (stock_of self.old) ≡ None }
-        ensures moments { (cells : ℕ → Option (List ℕ)) → Keeps (R.state region.old) self.old cells → During (R.state region.old) (R.state region.new) (EachImage (R.state region.old).frame
+        ensures moments { (cells : ℕ → Option (List ℕ)) → Keeps (R.state region.old) self.old cells
+            → During (R.state region.old) (R.state region.new) (EachImage (R.state region.old).frame
             (ShowsEither (R.state region.old).frame.bytes self.old.log.layout cells (last_in self.old) key (last_in self.old key + 1) None)) }
-        ensures keeps { OnOk result ((cells : ℕ → Option (List ℕ)) → Keeps (R.state region.old) self.old cells → Keeps (R.state region.new) self.new (with_at cells key None)) }
-        ensures stock { OnOk result ((cells : ℕ → Option (List ℕ)) → Keeps (R.state region.old) self.old cells → stock_of self.new ≡ after_delete self.old.log.layout (stock_of self.old) key) }
+        ensures keeps { OnOk result ((cells : ℕ → Option (List ℕ))
+            → Keeps (R.state region.old) self.old cells
+            → Keeps (R.state region.new) self.new (with_at cells key None)) }
+        ensures stock { OnOk result ((cells : ℕ → Option (List ℕ))
+            → Keeps (R.state region.old) self.old cells
+            → stock_of self.new ≡ after_delete self.old.log.layout (stock_of self.old) key) }
         ensures ready { OnOk result (Ready (R.state region.new) self.new) }
         ensures layout { self.new.log.layout ≡ self.old.log.layout }
         // Whatever the region tells, calls went from the one state to the other.
         ensures run { During (R.state region.old) (R.state region.new) (λ cells. Unit {0}) }
-        ensures cause { OnErr result (Rose (R.state region.old).faults (R.state region.new).faults) }
+        ensures cause { OnErr result
+            (Rose (R.state region.old).faults (R.state region.new).faults) }
     {
         let version = self.next_version(key, true);
         let body = Body::Tombstone;
@@ -204,7 +220,8 @@ impl Store {
 
     // The version of the key's next change.
     fn next_version(&self, key: Key, delete: bool) -> Version
-        requires { ((delete ≡ true) × (last_in self.now key + 1 < 2 ^ 32)) ⊎ ((delete ≡ false) × (last_in self.now key < 1048574)) }
+        requires { ((delete ≡ true) × (last_in self.now key + 1 < 2 ^ 32))
+            ⊎ ((delete ≡ false) × (last_in self.now key < 1048574)) }
         ensures { result ≡ last_in self.now key + 1 }
     {
         self.index.next_version(key, delete).unwrap()
@@ -256,7 +273,8 @@ impl Store {
         requires unrefused { lacks_block (stock_of self.old) 1 class ≡ false }
         ensures rest { SameRest self.old self.new }
         ensures sets { AreSets self.new.allocator }
-        ensures takes { Takes self.old.allocator self.new.allocator class (may_cut (stock_of self.old) 1) (Some result) }
+        ensures takes { Takes self.old.allocator self.new.allocator class
+            (may_cut (stock_of self.old) 1) (Some result) }
     {
         let may_cut = self.may_cut(1);
         self.allocator.take(class, may_cut).unwrap()
@@ -267,20 +285,32 @@ impl Store {
         requires standing { Standing (R.state region.old) self.old }
         requires short { length value ≤ self.old.log.layout.chunk_bytes / 4 - 8 }
         requires room { lacks_room (stock_of self.old) (lines_needed (length value)) ≡ false }
-        requires block { lacks_block (stock_of self.old) (lines_needed (length value)) (class_for (length value)) ≡ false }
-        ensures moments { (cells : ℕ → Option (List ℕ)) → Keeps (R.state region.old) self.old cells → During (R.state region.old) (R.state region.new) (EachImage (R.state region.old).frame
+        requires block { lacks_block (stock_of self.old) (lines_needed (length value))
+            (class_for (length value)) ≡ false }
+        ensures moments { (cells : ℕ → Option (List ℕ)) → Keeps (R.state region.old) self.old cells
+            → During (R.state region.old) (R.state region.new) (EachImage (R.state region.old).frame
             (Shows (R.state region.old).frame.bytes self.old.log.layout cells (last_in self.old))) }
-        ensures awaiting { IfOk result (λ body. (cells : ℕ → Option (List ℕ)) → Keeps (R.state region.old) self.old cells → Awaiting (R.state region.new) self.new cells body (Some value)) }
-        ensures stock { IfOk result (λ body. (cells : ℕ → Option (List ℕ)) → Keeps (R.state region.old) self.old cells → stock_of self.new ≡ after_take self.old.log.layout (class_for (length value)) (stock_of self.old)) }
-        ensures class { IfOk result (λ body. class_of_body self.new.allocator body ≡ Some (class_for (length value))) }
+        ensures awaiting { IfOk result (λ body. (cells : ℕ → Option (List ℕ))
+            → Keeps (R.state region.old) self.old cells → Awaiting (R.state region.new) self.new
+            cells body (Some value)) }
+        ensures stock { IfOk result (λ body. (cells : ℕ → Option (List ℕ))
+            → Keeps (R.state region.old) self.old cells
+            → stock_of self.new ≡ after_take self.old.log.layout (class_for (length value))
+            (stock_of self.old)) }
+        ensures class { IfOk result (λ body. class_of_body self.new.allocator body
+            ≡ Some (class_for (length value))) }
         ensures fits { IfOk result (λ body. (v : ℕ) → 1 ≤ v → v ≤ 1048574 → Fits v body) }
-        ensures lines { IfOk result (λ body. (k v : ℕ) → lines_for (length (words_of (record { key = k; version = v; body = body }))) ≡ lines_needed (length value)) }
-        ensures room { OnOk result ((lines_needed (length value) ≤ room_of self.new.log) ⊎ (0 < free_chunk_count self.new.allocator)) }
+        ensures lines { IfOk result (λ body. (k v : ℕ)
+            → lines_for (length (words_of (record { key = k; version = v; body = body })))
+            ≡ lines_needed (length value)) }
+        ensures room { OnOk result ((lines_needed (length value) ≤ room_of self.new.log)
+            ⊎ (0 < free_chunk_count self.new.allocator)) }
         ensures standing { OnOk result (Standing (R.state region.new) self.new) }
         ensures index { self.new.index ≡ self.old.index }
         ensures layout { self.new.log.layout ≡ self.old.log.layout }
         ensures run { During (R.state region.old) (R.state region.new) (λ cells. Unit {0}) }
-        ensures cause { OnErr result (Rose (R.state region.old).faults (R.state region.new).faults) }
+        ensures cause { OnErr result
+            (Rose (R.state region.old).faults (R.state region.new).faults) }
     {
         let length = byte_count(value.bytes());
         if length < 256 {
@@ -296,17 +326,24 @@ impl Store {
         requires standing { Standing (R.state region.old) self.old }
         requires chunk { lines ≤ payload_lines self.old.log.layout }
         requires room { (lines ≤ room_of self.old.log) ⊎ (0 < free_chunk_count self.old.allocator) }
-        ensures moments { (cells : ℕ → Option (List ℕ)) (body : Body) (cell : Option (List ℕ)) → Awaiting (R.state region.old) self.old cells body cell → During (R.state region.old) (R.state region.new) (EachImage (R.state region.old).frame
+        ensures moments { (cells : ℕ → Option (List ℕ)) (body : Body) (cell : Option (List ℕ))
+            → Awaiting (R.state region.old) self.old cells body cell
+            → During (R.state region.old) (R.state region.new) (EachImage (R.state region.old).frame
             (Shows (R.state region.old).frame.bytes self.old.log.layout cells (last_in self.old))) }
-        ensures awaiting { OnOk result ((cells : ℕ → Option (List ℕ)) (body : Body) (cell : Option (List ℕ)) → Awaiting (R.state region.old) self.old cells body cell → Awaiting (R.state region.new) self.new cells body cell) }
+        ensures awaiting { OnOk result ((cells : ℕ → Option (List ℕ)) (body : Body)
+            (cell : Option (List ℕ)) → Awaiting (R.state region.old) self.old cells body cell
+            → Awaiting (R.state region.new) self.new cells body cell) }
         ensures standing { OnOk result (Standing (R.state region.new) self.new) }
         ensures room { OnOk result (lines ≤ room_of self.new.log) }
-        ensures stock { OnOk result (stock_of self.new ≡ with_room self.old.log.layout lines (stock_of self.old)) }
-        ensures classes { OnOk result (class_of_body self.new.allocator ≡ class_of_body self.old.allocator) }
+        ensures stock { OnOk result (stock_of self.new ≡ with_room self.old.log.layout lines
+            (stock_of self.old)) }
+        ensures classes { OnOk result (class_of_body self.new.allocator
+            ≡ class_of_body self.old.allocator) }
         ensures index { self.new.index ≡ self.old.index }
         ensures layout { self.new.log.layout ≡ self.old.log.layout }
         ensures run { During (R.state region.old) (R.state region.new) (λ cells. Unit {0}) }
-        ensures cause { OnErr result (Rose (R.state region.old).faults (R.state region.new).faults) }
+        ensures cause { OnErr result
+            (Rose (R.state region.old).faults (R.state region.new).faults) }
     {
         if lines <= self.log.room() {
             return Ok(());
@@ -337,15 +374,21 @@ impl Store {
         requires next { entry.version ≡ last_in self.old entry.key + 1 }
         requires spelling { HasSpelling entry }
         requires room { lines_for (length (words_of entry)) ≤ room_of self.old.log }
-        ensures moments { (cells : ℕ → Option (List ℕ)) (cell : Option (List ℕ)) → Awaiting (R.state region.old) self.old cells entry.body cell → During (R.state region.old) (R.state region.new) (EachImage (R.state region.old).frame
+        ensures moments { (cells : ℕ → Option (List ℕ)) (cell : Option (List ℕ))
+            → Awaiting (R.state region.old) self.old cells entry.body cell
+            → During (R.state region.old) (R.state region.new) (EachImage (R.state region.old).frame
             (ShowsEither (R.state region.old).frame.bytes self.old.log.layout cells (last_in self.old) entry.key entry.version cell)) }
-        ensures keeps { OnOk result ((cells : ℕ → Option (List ℕ)) (cell : Option (List ℕ)) → Awaiting (R.state region.old) self.old cells entry.body cell → Keeps (R.state region.new) self.new (with_at cells entry.key cell)) }
-        ensures stock { OnOk result ((cells : ℕ → Option (List ℕ)) (cell : Option (List ℕ)) → Awaiting (R.state region.old) self.old cells entry.body cell
+        ensures keeps { OnOk result ((cells : ℕ → Option (List ℕ)) (cell : Option (List ℕ))
+            → Awaiting (R.state region.old) self.old cells entry.body cell
+            → Keeps (R.state region.new) self.new (with_at cells entry.key cell)) }
+        ensures stock { OnOk result ((cells : ℕ → Option (List ℕ)) (cell : Option (List ℕ))
+            → Awaiting (R.state region.old) self.old cells entry.body cell
             → stock_of self.new ≡ after_settle entry.key (class_of_body self.old.allocator entry.body) (less_room (lines_for (length (words_of entry))) (stock_of self.old))) }
         ensures standing { OnOk result (Standing (R.state region.new) self.new) }
         ensures layout { self.new.log.layout ≡ self.old.log.layout }
         ensures run { During (R.state region.old) (R.state region.new) (λ cells. Unit {0}) }
-        ensures cause { OnErr result (Rose (R.state region.old).faults (R.state region.new).faults) }
+        ensures cause { OnErr result
+            (Rose (R.state region.old).faults (R.state region.new).faults) }
     {
         write_entry(&entry, &mut self.batch);
         self.log.append_batch(region, &self.batch)?;
@@ -368,15 +411,21 @@ impl Store {
         requires spelling { HasSpelling entry }
         requires lines { lines ≡ lines_for (length (words_of entry)) }
         requires room { (lines ≤ room_of self.old.log) ⊎ (0 < free_chunk_count self.old.allocator) }
-        ensures moments { (cells : ℕ → Option (List ℕ)) (cell : Option (List ℕ)) → Awaiting (R.state region.old) self.old cells entry.body cell → During (R.state region.old) (R.state region.new) (EachImage (R.state region.old).frame
+        ensures moments { (cells : ℕ → Option (List ℕ)) (cell : Option (List ℕ))
+            → Awaiting (R.state region.old) self.old cells entry.body cell
+            → During (R.state region.old) (R.state region.new) (EachImage (R.state region.old).frame
             (ShowsEither (R.state region.old).frame.bytes self.old.log.layout cells (last_in self.old) entry.key entry.version cell)) }
-        ensures keeps { OnOk result ((cells : ℕ → Option (List ℕ)) (cell : Option (List ℕ)) → Awaiting (R.state region.old) self.old cells entry.body cell → Keeps (R.state region.new) self.new (with_at cells entry.key cell)) }
-        ensures stock { OnOk result ((cells : ℕ → Option (List ℕ)) (cell : Option (List ℕ)) → Awaiting (R.state region.old) self.old cells entry.body cell
+        ensures keeps { OnOk result ((cells : ℕ → Option (List ℕ)) (cell : Option (List ℕ))
+            → Awaiting (R.state region.old) self.old cells entry.body cell
+            → Keeps (R.state region.new) self.new (with_at cells entry.key cell)) }
+        ensures stock { OnOk result ((cells : ℕ → Option (List ℕ)) (cell : Option (List ℕ))
+            → Awaiting (R.state region.old) self.old cells entry.body cell
             → stock_of self.new ≡ after_settle entry.key (class_of_body self.old.allocator entry.body) (after_append self.old.log.layout lines (stock_of self.old))) }
         ensures standing { OnOk result (Standing (R.state region.new) self.new) }
         ensures layout { self.new.log.layout ≡ self.old.log.layout }
         ensures run { During (R.state region.old) (R.state region.new) (λ cells. Unit {0}) }
-        ensures cause { OnErr result (Rose (R.state region.old).faults (R.state region.new).faults) }
+        ensures cause { OnErr result
+            (Rose (R.state region.old).faults (R.state region.new).faults) }
     {
         self.make_room(region, lines)?;
         self.append(region, entry)

@@ -255,9 +255,11 @@ module _ (s : State) (w b : Worker) (n : ℕ) (r : Request) (works : w.winds_dow
 
   fixes : Accepts x.view w b n r → (fs : List Fixed) × Fixes fs
   fixes A = ⊎_elim
-      (λ held. let e = held.2 in
-      ([], fixes_held (ap (λ (y : Worker). answers_of y) e ∙ A.1.answers) (ap (λ (y : Worker). y.stopped) e ∙ ap (λ (y : Worker). y.stopped) A.1.rest) (ap (λ (y : Worker). y.places) e ∙ ap (λ (y : Worker). y.places) A.1.rest) (ap (λ (y : Worker). y.in_hand) e ∙ ap (λ (y : Worker). y.in_hand) A.1.rest)
-      (subst (λ (q : List Held). AddsLast q b.queue (held_with n r)) (ap (λ (y : Worker). y.queue) A.1.rest) held.1)))
+      (λ held. let e = held.2 in (
+        [],
+        fixes_held (ap (λ (y : Worker). answers_of y) e ∙ A.1.answers) (ap (λ (y : Worker). y.stopped) e ∙ ap (λ (y : Worker). y.stopped) A.1.rest) (ap (λ (y : Worker). y.places) e ∙ ap (λ (y : Worker). y.places) A.1.rest) (ap (λ (y : Worker). y.in_hand) e ∙ ap (λ (y : Worker). y.in_hand) A.1.rest)
+            (subst (λ (q : List Held). AddsLast q b.queue (held_with n r)) (ap (λ (y : Worker). y.queue) A.1.rest) held.1),
+      ))
       (λ begun. fixes_begun A.0 A.1 begun.0 begun.1 begun.2)
       A.3
 

@@ -7,7 +7,7 @@ use Rattle.fs_model.specs.Cells.{key_of}
 use Rattle.conflict_queue.specs.declared.types.Held.{Held}
 use Rattle.conflict_queue.specs.Waiting.{AddsLast, held_with}
 use Rattle.core_index.specs.Index.{room_at}
-use Rattle.batch_leader.specs.declared.buffer.BatchBuffer.{BatchBuffer}
+use Rattle.batch_leader.specs.declared.batch_buffer.BatchBuffer.{BatchBuffer}
 use Rattle.core_worker.specs.declared.types.Leading.{Leading}
 use Rattle.core_worker.specs.declared.types.Leading.TheVariants as leads
 use Rattle.core_worker.specs.declared.types.Place.{Place}

@@ -16,7 +16,7 @@ use Rattle.group_laws.specs.Places.{Place, core_of, owner}
 use Rattle.group_laws.specs.Updates.{put}
 use Rattle.group_laws.specs.MemberViews.{View}
 use Rattle.group_board.specs.Views.{after_give_up, IsSpentIn, IsTidyIn, TidiedIn}
-use Rattle.batch_leader.specs.declared.buffer.BatchBuffer.{BatchBuffer}
+use Rattle.batch_leader.specs.declared.batch_buffer.BatchBuffer.{BatchBuffer}
 use Rattle.lazy_alloc.specs.Sets.{Sets, SameChunks}
 use Rattle.core_worker.specs.declared.types.Answer.{Answer}
 use Rattle.core_worker.specs.declared.types.Leading.TheVariants as leads
@@ -141,8 +141,10 @@ module _ (p : Place) (m : ℕ) (v : View) (w : Worker) (H : HoldsAside p m v w) 
           (λ points. inr (subst (λ (o : Option Pending). PointsAt o q) (sym (here key refl)) (subst (λ (o : Option Pending). PointsAt o q) (ap v.pending same ∙ pends) points)))
           (O.single q d has);
       distinct = λ q points is. O.distinct key q (subst (λ (o : Option Pending). PointsAt o q) (sym pends) (subst (λ (o : Option Pending). PointsAt o q) (here key refl) points)) is;
-      next = λ q has. (ap (λ (y : Pending). y.entry.version) (pending_of q has) ∙ O.next key _ pends ∙ ap (λ (n : ℕ). n + 1) (sym (⊎_elim (λ x. absurd (let s = x.0.3 in let both : None ≡ Some doubt = sym s ∙ here key refl in cc both)) (λ same. same) (T.keeps key))),
-        subst (λ (y : Pending). HasSpelling y.entry) (sym (pending_of q has)) (O.spelled key _ pends));
+      next = λ q has. (
+        ap (λ (y : Pending). y.entry.version) (pending_of q has) ∙ O.next key _ pends ∙ ap (λ (n : ℕ). n + 1) (sym (⊎_elim (λ x. absurd (let s = x.0.3 in let both : None ≡ Some doubt = sym s ∙ here key refl in cc both)) (λ same. same) (T.keeps key))),
+        subst (λ (y : Pending). HasSpelling y.entry) (sym (pending_of q has)) (O.spelled key _ pends),
+      );
       answers = room_let_go w given slot key key_was (let eight = H.eight in omega (arith, eight, lt)) R refl refl room O.answers;
       hand = O.hand;
       stops = λ s. subst MayLeadStopped (sym nothing) tt;

@@ -78,7 +78,6 @@ module _ (p : Place) (m : ℕ) (v u : View) (w f x : Worker) (k slot : ℕ) (H :
     (doubt : (d : Entry) → u.pending k ≡ Some (record { entry = d; slot = None }) → (v.pending k ≡ Some (record { entry = d; slot = None })) ⊎ ((s : ℕ) × (pl.posted ≡ true) × (reply ≡ replies.Stopped) × (v.pending k ≡ Some (record { entry = d; slot = Some s })) × (left_in u.blocks d.body ≡ left_in v.blocks d.body)))
     (cells : (j : ℕ) → j ≢ k → u.cell j ≡ v.cell j) (pendings : (j : ℕ) → j ≢ k → u.pending j ≡ v.pending j) (blocks : (q : ℕ) (b : Block) → v.blocks q ≡ Some b → b.key ≢ k → u.blocks q ≡ v.blocks q)
     (serves : Serves f x (u.cell k) k ⊎ ShortOf f x (u.cell k) k) where
-
   idle : is_busy f.places.items k ≡ false
   idle = by (is_busy f.places.items k) refl where
     by : (b : Bool) → is_busy f.places.items k ≡ b → is_busy f.places.items k ≡ false
@@ -91,7 +90,7 @@ module _ (p : Place) (m : ℕ) (v u : View) (w f x : Worker) (k slot : ℕ) (H :
   apart : AreApart f.places.items
   apart s t j a b =
       let was : (n : ℕ) → key_in (place_at f.places.items n) ≡ Some j → key_in (place_at w.places.items n) ≡ Some j =
-          λ n e. ap key_in (sym (R.others n (λ same. (let both : None ≡ Some j = sym (ap key_in R.here) ∙ ap (λ i. key_in (place_at f.places.items i)) (sym same) ∙ e in cc both)))) ∙ e in
+      λ n e. ap key_in (sym (R.others n (λ same. (let both : None ≡ Some j = sym (ap key_in R.here) ∙ ap (λ i. key_in (place_at f.places.items i)) (sym same) ∙ e in cc both)))) ∙ e in
       H.apart s t j (was s a) (was t b)
 
   waits_none : f.in_hand ≡ None → map asked_by (waiting f.queue k) ≡ (hands_of v w).waits k

@@ -283,7 +283,7 @@ facts_of m before after v u w mid x slot same P = record {
   pledges = refl;
   was = sym (ap (λ (y : Worker). place_at y.places.items slot) same) ∙ P.was;
   places = subst (λ (y : Worker). Replaces y.places.items x.places.items slot (Posted P.number P.entry.key (lines_for (length (words_of P.entry))))) same P.places;
-  same = by x.places x.allocator (P.rest ∙ ap (λ (y : Worker). record y { places = x.places }) same) ;
+  same = by x.places x.allocator (P.rest ∙ ap (λ (y : Worker). record y { places = x.places }) same);
   view = P.view;
   made = (runs.Kind.Post slot P.entry P.value ∷ [], one_step before after m (runs.Kind.Post slot P.entry P.value) u P.whole);
 } where

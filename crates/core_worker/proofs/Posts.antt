@@ -3,7 +3,7 @@ use Rattle.std.proofs.Common.{◌≡◌, ◌≢◌, inl, inr, ⊎_elim, ℕ, zer
 use Rattle.std.specs.Prelude.{Vec}
 use Rattle.std.specs.Global.{Global}
 use Rattle.core_worker.specs.declared.types.Leading.TheVariants as leads
-use Rattle.batch_leader.specs.declared.buffer.BatchBuffer.{BatchBuffer}
+use Rattle.batch_leader.specs.declared.batch_buffer.BatchBuffer.{BatchBuffer}
 use Rattle.licence.specs.Licence.{grounded}
 use Rattle.licence.proofs.Quiet.{allowed}
 use Rattle.core_worker.specs.Ties.{LeadsAt}

@@ -26,7 +26,7 @@ use Rattle.core_worker.specs.declared.types.Place as places
 use Rattle.core_worker.specs.declared.types.Place.TheVariants.{Free, Staged, Posted}
 use Rattle.core_worker.specs.declared.types.Leading.{Leading}
 use Rattle.core_worker.specs.declared.types.Leading.TheVariants as leads
-use Rattle.batch_leader.specs.declared.buffer.BatchBuffer.{BatchBuffer}
+use Rattle.batch_leader.specs.declared.batch_buffer.BatchBuffer.{BatchBuffer}
 use Rattle.fs_model.specs.declared.model.Request.{Request}
 use Rattle.batch_leader.specs.Leading.{MakesAll}
 use Rattle.core_worker.specs.declared.worker.Worker.{Worker}

@@ -13,7 +13,7 @@ use Rattle.group_laws.specs.Places.{Place, IsPlace, members, core_of, owner}
 use Rattle.group_laws.specs.MemberViews.{View}
 use Rattle.licence.specs.Licence.{Licensed, grounded}
 use Rattle.group_board.specs.Seats.{SeatAt}
-use Rattle.batch_leader.specs.declared.buffer.BatchBuffer.{BatchBuffer}
+use Rattle.batch_leader.specs.declared.batch_buffer.BatchBuffer.{BatchBuffer}
 use Rattle.batch_leader.specs.Rounds.{words_in}
 use Rattle.batch_leader.specs.Leading.{Collects, IsBatchOf, IsCertain, IsLost, Suits, HasSpace}
 use Rattle.core_worker.specs.declared.types.Leading.{Leading}

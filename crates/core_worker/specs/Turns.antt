@@ -33,7 +33,7 @@ use Rattle.batch_leader.specs.declared.states.Released.TheVariants as released
 use Rattle.batch_leader.specs.declared.states.Batch.{Batch}
 use Rattle.batch_leader.specs.declared.states.Persisted.{Persisted}
 use Rattle.batch_leader.specs.declared.states.FailedBatch.{FailedBatch}
-use Rattle.batch_leader.specs.declared.buffer.BatchBuffer.{BatchBuffer}
+use Rattle.batch_leader.specs.declared.batch_buffer.BatchBuffer.{BatchBuffer}
 use Rattle.batch_leader.specs.declared.taken.Taken.{Taken}
 use Rattle.core_worker.specs.declared.types.Leading.{Leading}
 use Rattle.core_worker.specs.declared.types.Leading.TheVariants as leads

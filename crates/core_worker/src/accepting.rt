@@ -4,7 +4,7 @@ ghost use Rattle.pm_region.specs.State.{State, IsTelling};
 ghost use Rattle.fs_model.specs.Cells.{key_of};
 ghost use Rattle.conflict_queue.specs.Waiting.{AddsLast, held_with};
 ghost use Rattle.core_index.specs.Index.{known_at, room_at};
-ghost use Rattle.batch_leader.specs.declared.buffer.BatchBuffer.{BatchBuffer};
+ghost use Rattle.batch_leader.specs.declared.batch_buffer.BatchBuffer.{BatchBuffer};
 ghost use Rattle.core_worker.specs.declared.types.Leading.TheVariants as leads;
 ghost use Rattle.core_worker.specs.OwnPlaces.{is_busy};
 ghost use Rattle.core_worker.specs.Supplies.{HasKeptRoom};

@@ -5,7 +5,7 @@ ghost use Rattle.core_worker.specs.Posting.{HasNoBlock, IsStagedWith};
 ghost use Rattle.core_worker.specs.Turning.{Chooses};
 
 use crate::gate::{Gate, Point};
-use crate::posting::place_in;
+use crate::post_item::place_in;
 use crate::types::Place;
 use crate::worker::Worker;
 use log_entry::Body;

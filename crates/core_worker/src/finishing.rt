@@ -18,7 +18,7 @@ ghost use Rattle.core_worker.specs.Refusals.{HasAnswerRoom};
 ghost use Rattle.core_worker.specs.Finishing.{done_reply, FinishesSlot, IsFreed, LetsGo, PutsBackIf, Settles, StopsByFailed, TakesBackKey, WasFoundBack};
 
 use crate::hearing::hear_own;
-use crate::posting::swap_place;
+use crate::post_item::swap_place;
 use crate::types::Place;
 use crate::worker::Worker;
 use crash_core::Change;

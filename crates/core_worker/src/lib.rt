@@ -2,25 +2,25 @@
 #![tactic(auto)]
 
 mod accepting;
-mod beginning;
+mod begin_request;
 mod choosing;
 mod finishing;
 mod gate;
 mod hearing;
-mod leading;
+mod lead_items;
 mod opening;
-mod posting;
+mod post_item;
 mod refusing;
 mod releasing;
 mod searching;
 mod status;
 mod stopping;
-mod supply;
 #[cfg(test)]
 mod tests;
 mod turning;
 mod types;
 mod worker;
+mod worker_room;
 
 pub use core_room::{Counts, Shortage};
 pub use gate::{Gate, OpenGate, Point};

@@ -3,7 +3,7 @@ ghost use Rattle.std.specs.Prelude.{◌≡◌, ◌≢◌, ◌⊎◌, ℕ, ◌+�
 ghost use Rattle.pm_region.specs.State.{State, IsTelling};
 ghost use Rattle.conflict_queue.specs.Waiting.{waiting};
 ghost use Rattle.core_index.specs.Index.{room_at};
-ghost use Rattle.batch_leader.specs.declared.buffer.BatchBuffer.{BatchBuffer};
+ghost use Rattle.batch_leader.specs.declared.batch_buffer.BatchBuffer.{BatchBuffer};
 ghost use Rattle.core_worker.specs.declared.types.Leading.TheVariants as leads;
 ghost use Rattle.core_worker.specs.OwnPlaces.{is_busy};
 ghost use Rattle.core_worker.specs.Supplies.{HasKeptRoom};

@@ -6,7 +6,7 @@ ghost use Rattle.core_worker.specs.Ties.{HoldsAt, LeadsNothing};
 ghost use Rattle.core_worker.specs.Turns.{LooksMade};
 ghost use Rattle.core_worker.specs.Searching.{Sees, shows_back, shows_out, Finds};
 
-use crate::posting::place_in;
+use crate::post_item::place_in;
 use crate::types::Place;
 use crate::worker::Worker;
 use group_board::{Board, SlotState};

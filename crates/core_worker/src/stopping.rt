@@ -12,7 +12,7 @@ ghost use Rattle.core_worker.specs.Finishing.{IsServed};
 ghost use Rattle.core_worker.specs.Stopping.{Drops, FreesBySight, PutsAway, staged_block};
 
 use crate::finishing::put_back;
-use crate::posting::place_in;
+use crate::post_item::place_in;
 use crate::types::Place;
 use crate::worker::Worker;
 use fs_errors::Memory;

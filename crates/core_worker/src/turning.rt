@@ -16,7 +16,7 @@ ghost use Rattle.core_worker.specs.Turning.{HasBatch, KeepsTurn, Did, Turned, Te
 
 use crate::choosing::{Choice, staged_block};
 use crate::gate::Gate;
-use crate::posting::place_in;
+use crate::post_item::place_in;
 use crate::types::{Leading, Turn};
 use crate::worker::Worker;
 use core_log::Room;

@@ -35,7 +35,8 @@ abbrev pub mailed_in : CoreView → ℕ → laws.Notices
 mailed_in v b = unwrap_or (option_map notices_of (get nat_cmp v.mailed b)) no_notices
 
 -- the group at this place with this holder, slots, mailboxes and views
-abbrev pub group_at : Place → Option ℕ → BTreeMap (ℕ × ℕ) Slot → BTreeMap (ℕ × ℕ) Notices → List CoreView → Group
+abbrev pub group_at : Place → Option ℕ → BTreeMap (ℕ × ℕ) Slot → BTreeMap (ℕ × ℕ) Notices
+    → List CoreView → Group
 group_at p holder slots mail vs =
     record {
       place = p;

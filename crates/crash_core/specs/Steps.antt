@@ -32,7 +32,8 @@ mail_word n a b = 1 + 9 * n + n * a + b
 abbrev pub IsMade : Group → ℕ → Kind → Group → Type 0
 IsMade w m kinds.Split u = IsStep w m Splits u
 IsMade w m kinds.Join u = IsStep w m Joins u
-IsMade w m (kinds.Post s change value) u = (change.home ≡ None) × IsStep w m (Posts s change.entry value) u
+IsMade w m (kinds.Post s change value) u = (change.home ≡ None)
+    × IsStep w m (Posts s change.entry value) u
 IsMade w m kinds.Lock u = IsStep w m Locks u
 IsMade w m (kinds.Look word) u =
     ((a : ℕ) × (s : ℕ) × (word ≡ slot_word (members w.place) a s) × IsStep w m (Looks a s) u)
@@ -85,7 +86,8 @@ kind_of w m (kinds.Send to n) u s = Sends to (notices_of n)
 kind_of w m (kinds.Receive from) u s = Receives from
 
 -- it is a step of that kind
-abbrev pub step_of : (w : Group) (m : ℕ) (kind : Kind) (u : Group) (s : IsMade w m kind u) → IsStep w m (kind_of w m kind u s) u
+abbrev pub step_of : (w : Group) (m : ℕ) (kind : Kind) (u : Group) (s : IsMade w m kind u)
+    → IsStep w m (kind_of w m kind u s) u
 step_of w m kinds.Split u s = s
 step_of w m kinds.Join u s = s
 step_of w m (kinds.Post n change value) u s = s.1
@@ -105,25 +107,35 @@ step_of w m (kinds.Send to n) u s = s
 step_of w m (kinds.Receive from) u s = s
 
 -- the run of the laws that these steps are
-abbrev pub kinds_of : (w : Group) (steps : List Step) (u : Group) → AreMade w steps u → List (ℕ × runs.Kind)
+abbrev pub kinds_of : (w : Group) (steps : List Step) (u : Group) → AreMade w steps u
+    → List (ℕ × runs.Kind)
 kinds_of w [] u r = []
 kinds_of w (x ∷ xs) u r = (x.member, kind_of w x.member x.kind r.0 r.1) ∷ kinds_of r.0 xs u r.2
 
-abbrev pub run_of : (w : Group) (steps : List Step) (u : Group) (r : AreMade w steps u) → Runs w (kinds_of w steps u r) u
+abbrev pub run_of : (w : Group) (steps : List Step) (u : Group) (r : AreMade w steps u)
+    → Runs w (kinds_of w steps u r) u
 run_of w [] u r = r
 run_of w (x ∷ xs) u r = (r.0, step_of w x.member x.kind r.0 r.1, run_of r.0 xs u r.2)
 
 -- The steps lead to h. There each key's cell is what its finished changes left, each of them what its key's last post offered, the invariant holds, whatever a crash leaves is safe, and no block serves two values.
 pub record IsReached (g : GroupState) (steps : List Step) (h : GroupState) : Type 0 where
   pub made : AreMade (group_of g) steps (group_of h)
-  pub cells : (k : ℕ) → (group_of h).cell k ≡ cell_after k (finishes_in (group_of g) (kinds_of (group_of g) steps (group_of h) made) (group_of h) (run_of (group_of g) steps (group_of h) made)) ((group_of g).cell k)
-  pub posted : (k : ℕ) → (group_of h).cell k ≡ settled k (group_of g) (kinds_of (group_of g) steps (group_of h) made) (group_of h) (run_of (group_of g) steps (group_of h) made) (offer_of (group_of g) k) ((group_of g).cell k)
+  pub cells : (k : ℕ) → (group_of h).cell k
+      ≡ cell_after k (finishes_in (group_of g) (kinds_of (group_of g) steps (group_of h) made)
+      (group_of h) (run_of (group_of g) steps (group_of h) made)) ((group_of g).cell k)
+  pub posted : (k : ℕ) → (group_of h).cell k ≡ settled k (group_of g)
+      (kinds_of (group_of g) steps (group_of h) made) (group_of h)
+      (run_of (group_of g) steps (group_of h) made) (offer_of (group_of g) k) ((group_of g).cell k)
   pub lawful : Lawful (group_of h)
-  pub safe : (images : ℕ → ℕ → ℕ) → ((i : ℕ) → i < h.layout.group → IsLicensedImage (group_of h) i (images i)) → IsSafe (group_of h) images
+  pub safe : (images : ℕ → ℕ → ℕ)
+      → ((i : ℕ) → i < h.layout.group → IsLicensedImage (group_of h) i (images i))
+      → IsSafe (group_of h) images
   pub distinct : Distinct (group_of h)
 
 -- what a call that makes all steps answers
 abbrev pub IsRun : GroupState → List Step → Result GroupState StepsError → Type 0
 IsRun g steps (Ok h) = IsReached g steps h
-IsRun g steps (Err (stops.NotEnabled at h)) = IsReached g (take at steps) h × ((next : Step) × (slice_get steps at ≡ Some next) × ((u : Group) → IsMade (group_of h) next.member next.kind u → ⊥))
+IsRun g steps (Err (stops.NotEnabled at h)) = IsReached g (take at steps) h
+    × ((next : Step) × (slice_get steps at ≡ Some next)
+    × ((u : Group) → IsMade (group_of h) next.member next.kind u → ⊥))
 IsRun g steps (Err stops.Memory) = Unit {0}

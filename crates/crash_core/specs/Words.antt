@@ -8,4 +8,5 @@ use Rattle.crash_core.specs.Steps.{slot_word, mail_word}
 abbrev pub IsWordOf : ℕ → ℕ → Option Word → Type 0
 IsWordOf n word (Some (Slot a s)) = (a < n) × (s < 8) × (word ≡ slot_word n a s)
 IsWordOf n word (Some (Mail a b)) = (a < n) × (b < n) × (word ≡ mail_word n a b)
-IsWordOf n word None = ((a s : ℕ) → a < n → s < 8 → word ≡ slot_word n a s → ⊥) × ((a b : ℕ) → a < n → b < n → word ≡ mail_word n a b → ⊥)
+IsWordOf n word None = ((a s : ℕ) → a < n → s < 8 → word ≡ slot_word n a s → ⊥)
+    × ((a b : ℕ) → a < n → b < n → word ≡ mail_word n a b → ⊥)

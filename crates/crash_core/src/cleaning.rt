@@ -11,12 +11,12 @@ ghost use Rattle.crash_core.specs.Shows.{group_of, place_of, notices_of, pair_cm
 ghost use Rattle.crash_core.specs.Makes.{Makes};
 ghost use Rattle.crash_core.specs.Deaths.{IsDeadIn, MayTell};
 
+use crate::member_places::owner_of;
 use crate::names::Notices;
-use crate::places::owner_of;
-use crate::rules::{is_dead, tidy};
 use crate::sets::{entries_but, has_all, has_name, names_but, take_out};
 use crate::state::{CoreView, GroupState};
 use crate::tables::{has_member, saw};
+use crate::tidy_rules::{is_dead, tidy};
 use fs_errors::Memory;
 use group_laws::types::Seen;
 use log_entry::entry::EntryName;
@@ -54,7 +54,10 @@ fn add_foreign(
     member: u32,
     name: EntryName,
 ) -> Result<(), Memory>
-    ensures { OnOk result ((k n : ℕ) → (has list.new.items k n ≡ true) ↔ ((has list.old.items k n ≡ true) ⊎ ((k ≡ name.key) × (n ≡ name.version) × (eqb (owner (place_of state.now) k) member ≡ false)))) }
+    ensures { OnOk result ((k n : ℕ) → (has list.new.items k n ≡ true)
+        ↔ ((has list.old.items k n ≡ true)
+        ⊎ ((k ≡ name.key) × (n ≡ name.version)
+        × (eqb (owner (place_of state.now) k) member ≡ false)))) }
 {
     if owner_of(&state.layout, state.group, name.key) != member {
         list.push(name)?;
@@ -69,7 +72,9 @@ fn foreign(
     member: u32,
     names: &[EntryName],
 ) -> Result<Vec<EntryName>, Memory>
-    ensures { IfOk result (λ list. (k n : ℕ) → has list.items k n ≡ (has names.now k n && not (eqb (owner (place_of state.now) k) member))) }
+    ensures { IfOk result (λ list. (k n : ℕ)
+        → has list.items k n ≡ (has names.now k n
+        && not (eqb (owner (place_of state.now) k) member))) }
 {
     let mut list = Vec::new(alloc);
     for name in names {
@@ -119,7 +124,8 @@ pub fn retire(
 
 /// Whether the member may tell another that this entry in its log is dead.
 fn may_tell(state: &GroupState, member: u32, view: &CoreView, name: &EntryName, to: u32) -> bool
-    ensures { IsTrue result ↔ MayTell (place_of state.now) member view.now to name.now.key name.now.version }
+    ensures { IsTrue result ↔ MayTell (place_of state.now) member view.now to name.now.key
+        name.now.version }
 {
     if owner_of(&state.layout, state.group, name.key) != member
         || has_name(&view.told, name.key, name.version)
@@ -140,7 +146,8 @@ fn may_tell_all(
     names: &[EntryName],
     to: u32,
 ) -> bool
-    ensures { IsTrue result ↔ ((k n : ℕ) → has names.now k n ≡ true → MayTell (place_of state.now) member view.now to k n) }
+    ensures { IsTrue result ↔ ((k n : ℕ) → has names.now k n ≡ true
+        → MayTell (place_of state.now) member view.now to k n) }
 {
     for name in names {
         if !may_tell(state, member, view, name, to) {
@@ -152,7 +159,8 @@ fn may_tell_all(
 
 /// Whether an entry left the own log and is of the other member's keys.
 fn may_report(state: &GroupState, view: &CoreView, name: &EntryName, to: u32) -> bool
-    ensures { IsTrue result ↔ ((has view.now.leaving.items name.now.key name.now.version ≡ true) × (owner (place_of state.now) name.now.key ≡ to)) }
+    ensures { IsTrue result ↔ ((has view.now.leaving.items name.now.key name.now.version ≡ true)
+        × (owner (place_of state.now) name.now.key ≡ to)) }
 {
     has_name(&view.leaving, name.key, name.version)
         && owner_of(&state.layout, state.group, name.key) == to
@@ -160,7 +168,8 @@ fn may_report(state: &GroupState, view: &CoreView, name: &EntryName, to: u32) ->
 
 /// Whether these entries left the own log and are of the other member's keys.
 fn may_report_all(state: &GroupState, view: &CoreView, names: &[EntryName], to: u32) -> bool
-    ensures { IsTrue result ↔ ((k n : ℕ) → has names.now k n ≡ true → (has view.now.leaving.items k n ≡ true) × (owner (place_of state.now) k ≡ to)) }
+    ensures { IsTrue result ↔ ((k n : ℕ) → has names.now k n ≡ true
+        → (has view.now.leaving.items k n ≡ true) × (owner (place_of state.now) k ≡ to)) }
 {
     for name in names {
         if !may_report(state, view, name, to) {
@@ -194,7 +203,8 @@ pub fn send(
     to: u32,
     notices: &Notices,
 ) -> Result<bool, Memory>
-    ensures { IfOk result (λ made. Makes made state.old member (Send to (notices_of notices.now)) state.new) }
+    ensures { IfOk result (λ made. Makes made state.old member (Send to (notices_of notices.now))
+        state.new) }
 {
     if !may_send(state, member, to, notices) {
         return Ok(false);
@@ -230,7 +240,8 @@ fn notices_at(
 
 /// Whether the member may empty a mailbox to it that has these notices.
 fn may_receive(state: &GroupState, member: u32, from: u32, notices: &Notices) -> bool
-    ensures { (group_of state.now).mail from member ≡ Some (notices_of notices.now) → IsTrue result ↔ CanReceive (group_of state.now) member from (notices_of notices.now) }
+    ensures { (group_of state.now).mail from member ≡ Some (notices_of notices.now)
+        → IsTrue result ↔ CanReceive (group_of state.now) member from (notices_of notices.now) }
 {
     if !has_member(state, member) || !has_member(state, from) {
         return false;
@@ -250,7 +261,8 @@ fn hear(
     notices: &Notices,
 ) -> Result<(), Memory>
     requires { member < state.old.layout.group }
-    ensures { OnOk result (group_of state.new ≡ receives (group_of state.old) member from (notices_of notices.now)) }
+    ensures { OnOk result (group_of state.new ≡ receives (group_of state.old) member from
+        (notices_of notices.now)) }
 {
     state.mail.remove(&(from, member));
     let view = &mut state.views[member as usize];

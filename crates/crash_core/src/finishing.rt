@@ -16,10 +16,10 @@ ghost use Rattle.crash_core.specs.Makes.{Makes};
 ghost use Rattle.crash_core.specs.Finds.{done_in, failed_in, left_in};
 
 use crate::copies::copy_entry;
-use crate::places::owner_of;
-use crate::rules::tidy;
+use crate::member_places::owner_of;
 use crate::state::GroupState;
 use crate::tables::{has_slot, saw};
+use crate::tidy_rules::tidy;
 use fs_errors::Memory;
 use fs_model::model::{Key, Value};
 use group_laws::types::{Block, Pending, Seen, Slot, SlotWord};
@@ -65,8 +65,11 @@ fn failed_at(
 
 /// Whether the member may take back its own entry, of whose slot it saw this word.
 fn may_take_back(state: &GroupState, member: u32, slot: u32, entry: &Entry, word: SlotWord) -> bool
-    ensures done { (home : ℕ) → word ≡ words.Done home → (group_of state.now).slot member slot ≡ Done entry.now home → IsTrue result ↔ CanFinish (group_of state.now) member slot entry.now home }
-    ensures failed { word ≡ words.Failed → (group_of state.now).slot member slot ≡ Failed entry.now → IsTrue result ↔ CanGiveUp (group_of state.now) member slot entry.now }
+    ensures done { (home : ℕ) → word ≡ words.Done home → (group_of state.now).slot member slot
+        ≡ Done entry.now home → IsTrue result ↔ CanFinish (group_of state.now) member slot entry.now
+        home }
+    ensures failed { word ≡ words.Failed → (group_of state.now).slot member slot ≡ Failed entry.now
+        → IsTrue result ↔ CanGiveUp (group_of state.now) member slot entry.now }
 {
     if !has_slot(state, member, slot) || owner_of(&state.layout, state.group, entry.key) != member {
         return false;
@@ -103,7 +106,8 @@ fn left_by(
 
 /// Sets the cell of a key.
 fn set_cell(cell: &mut BTreeMap<Key, Value>, key: Key, left: Option<Value>) -> Result<(), Memory>
-    ensures { OnOk result ((k : ℕ) → get nat_cmp cell.new k ≡ put (get nat_cmp cell.old) key left k) }
+    ensures { OnOk result ((k : ℕ) → get nat_cmp cell.new k ≡ put (get nat_cmp cell.old) key left
+        k) }
 {
     if let Some(value) = left {
         cell.insert(key, value)?;
@@ -134,7 +138,8 @@ fn add_replaced(
     key: Key,
     body: &Body,
 ) -> Result<(), Memory>
-    ensures { OnOk result ((q : ℕ) → In q pointers.new.items ↔ (In q pointers.old.items ⊎ ((q ≡ pointer) × ((is_of key (Some block.now) && not (points_at body.now q)) ≡ true)))) }
+    ensures { OnOk result ((q : ℕ) → In q pointers.new.items ↔ (In q pointers.old.items
+        ⊎ ((q ≡ pointer) × ((is_of key (Some block.now) && not (points_at body.now q)) ≡ true)))) }
 {
     if is_replaced(block, pointer, key, body) {
         pointers.push(pointer)?;
@@ -149,8 +154,10 @@ fn replaced(
     key: Key,
     body: &Body,
 ) -> Result<Vec<u64>, Memory>
-    ensures only { IfOk result (λ ps. (q : ℕ) → In q ps.items → (is_of key (get nat_cmp blocks.now q) && not (points_at body.now q)) ≡ true) }
-    ensures all { IfOk result (λ ps. (q : ℕ) (b : Block) → get nat_cmp blocks.now q ≡ Some b → (is_of key (Some b) && not (points_at body.now q)) ≡ true → In q ps.items) }
+    ensures only { IfOk result (λ ps. (q : ℕ) → In q ps.items
+        → (is_of key (get nat_cmp blocks.now q) && not (points_at body.now q)) ≡ true) }
+    ensures all { IfOk result (λ ps. (q : ℕ) (b : Block) → get nat_cmp blocks.now q ≡ Some b
+        → (is_of key (Some b) && not (points_at body.now q)) ≡ true → In q ps.items) }
 {
     let mut pointers = Vec::new(alloc);
     for (pointer, block) in blocks {
@@ -162,7 +169,8 @@ fn replaced(
 /// Takes the blocks at these pointers out.
 fn drop_blocks(blocks: &mut BTreeMap<u64, Block>, pointers: &[u64])
     ensures gone { (q : ℕ) → In q pointers.now → get nat_cmp blocks.new q ≡ None }
-    ensures kept { (q : ℕ) → (In q pointers.now → ⊥) → get nat_cmp blocks.new q ≡ get nat_cmp blocks.old q }
+    ensures kept { (q : ℕ) → (In q pointers.now → ⊥) → get nat_cmp blocks.new q
+        ≡ get nat_cmp blocks.old q }
 {
     for pointer in pointers {
         blocks.remove(pointer);
@@ -176,7 +184,8 @@ fn drop_replaced(
     key: Key,
     body: &Body,
 ) -> Result<(), Memory>
-    ensures { OnOk result ((q : ℕ) → get nat_cmp blocks.new q ≡ only_own key body.now (get nat_cmp blocks.old) q) }
+    ensures { OnOk result ((q : ℕ) → get nat_cmp blocks.new q ≡ only_own key body.now
+        (get nat_cmp blocks.old) q) }
 {
     let pointers = replaced(alloc, blocks, key, body)?;
     drop_blocks(blocks, &pointers);
@@ -194,7 +203,8 @@ fn settle(
 ) -> Result<(), Memory>
     requires member { member < state.old.layout.group }
     requires own { owner (place_of state.old) entry.now.key ≡ member }
-    ensures { OnOk result (group_of state.new ≡ finishes (group_of state.old) member slot entry.now home) }
+    ensures { OnOk result (group_of state.new ≡ finishes (group_of state.old) member slot entry.now
+        home) }
 {
     state.slots.insert((member, slot), Slot::Empty)?;
     let view = &mut state.views[member as usize];

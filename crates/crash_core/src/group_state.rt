@@ -8,7 +8,7 @@ ghost use Rattle.group_laws.specs.OpeningImages as images;
 ghost use Rattle.group_laws.specs.OpeningImages.{IsBlank};
 ghost use Rattle.crash_core.specs.Shows.{group_of, place_of, IsEmptyView};
 
-use crate::places::owner_of;
+use crate::member_places::owner_of;
 use crate::state::{CoreView, GroupState};
 use chunk_map::layouts::Layout;
 use fs_errors::Memory;
@@ -61,9 +61,11 @@ impl GroupState {
     /// in which each chunk is free.
     pub fn empty(alloc: Global, layout: &Layout, group: u32) -> Result<GroupState, Memory>
         requires { group < layout.now.cores / layout.now.group }
-        ensures place { IfOk result (λ g. place_of g ≡ record { layout = layout.now; group = group }) }
+        ensures place { IfOk result
+            (λ g. place_of g ≡ record { layout = layout.now; group = group }) }
         ensures opened { IfOk result (λ g. IsOpened (group_of g) nothing) }
-        ensures words { IfOk result (λ g. (image : ℕ → ℕ) → IsBlank layout.now image → group_of g ≡ images.opened (place_of g) image) }
+        ensures words { IfOk result (λ g. (image : ℕ → ℕ) → IsBlank layout.now image
+            → group_of g ≡ images.opened (place_of g) image) }
         ensures lawful { IfOk result (λ g. Lawful (group_of g)) }
     {
         let geometry = layout.geometry();

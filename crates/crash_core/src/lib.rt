@@ -5,21 +5,21 @@
 mod cleaning;
 mod copies;
 mod finishing;
-mod giving;
 mod group_state;
 mod kinds;
-mod leading;
+mod leader_steps;
 mod machine;
+mod member_places;
 mod names;
-mod places;
-mod posting;
-mod rules;
+mod post_step;
+mod return_steps;
 mod sets;
 mod sizes;
 mod state;
 mod tables;
 #[cfg(test)]
 mod tests;
+mod tidy_rules;
 
 pub use kinds::{Change, Kind, Step, StepError, StepsError};
 pub use machine::{all_steps, step};

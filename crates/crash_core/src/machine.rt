@@ -9,10 +9,10 @@ ghost use Rattle.crash_core.specs.declared.kinds.Kind.TheVariants as kinds;
 
 use crate::cleaning::{doom, receive, retire, send};
 use crate::finishing::finish;
-use crate::giving::{fail, mark, withdraw};
 use crate::kinds::{Change, Kind, Step, StepError, StepsError};
-use crate::leading::{commit, lock, look_at_mail, look_at_slot, take, unlock};
-use crate::posting::post;
+use crate::leader_steps::{commit, lock, look_at_mail, look_at_slot, take, unlock};
+use crate::post_step::post;
+use crate::return_steps::{fail, mark, withdraw};
 use crate::state::GroupState;
 use crate::tables::has_member;
 use fs_errors::Memory;
@@ -49,7 +49,9 @@ fn word_numbered(members: u32, word: u64) -> Option<Word>
 
 /// Loads the word with this number.
 fn look(state: &mut GroupState, member: u32, word: u64) -> Result<bool, Memory>
-    ensures { IfOk result (λ made. MakesStep made state.old (record { member = member; kind = kinds.Look word }) state.new) }
+    ensures { IfOk result
+        (λ made. MakesStep made state.old (record { member = member; kind = kinds.Look word })
+        state.new) }
 {
     match word_numbered(state.layout.group(), word) {
         Some(Word::Slot(owner, slot)) => look_at_slot(state, member, owner, slot),
@@ -67,7 +69,9 @@ fn post_change(
     change: &Change,
     value: &Value,
 ) -> Result<bool, Memory>
-    ensures { IfOk result (λ made. MakesStep made state.old (record { member = member; kind = kinds.Post slot change.now value.now }) state.new) }
+    ensures { IfOk result
+        (λ made. MakesStep made state.old
+        (record { member = member; kind = kinds.Post slot change.now value.now }) state.new) }
 {
     if change.home.is_some() {
         return Ok(false);

@@ -43,7 +43,9 @@ pub fn has_all(list: &[EntryName], names: &[EntryName]) -> bool
 
 /// Adds a name to a list unless it is one of these.
 fn add_other(list: &mut Vec<EntryName>, name: EntryName, out: &[EntryName]) -> Result<(), Memory>
-    ensures { OnOk result ((k n : ℕ) → (has list.new.items k n ≡ true) ↔ ((has list.old.items k n ≡ true) ⊎ ((k ≡ name.key) × (n ≡ name.version) × (has out.now k n ≡ false)))) }
+    ensures { OnOk result ((k n : ℕ) → (has list.new.items k n ≡ true)
+        ↔ ((has list.old.items k n ≡ true)
+        ⊎ ((k ≡ name.key) × (n ≡ name.version) × (has out.now k n ≡ false)))) }
 {
     if !has_name(out, name.key, name.version) {
         list.push(name)?;
@@ -57,7 +59,8 @@ pub fn names_but(
     list: &[EntryName],
     out: &[EntryName],
 ) -> Result<Vec<EntryName>, Memory>
-    ensures { IfOk result (λ left. (k n : ℕ) → has left.items k n ≡ (has list.now k n && not (has out.now k n))) }
+    ensures { IfOk result (λ left. (k n : ℕ)
+        → has left.items k n ≡ (has list.now k n && not (has out.now k n))) }
 {
     let mut left = Vec::new(alloc);
     for name in list {
@@ -95,7 +98,8 @@ pub fn entries_but(alloc: Global, list: &[Entry], out: &[EntryName]) -> Result<V
 
 /// Takes these names out of a map.
 pub fn take_out(present: &mut BTreeMap<(Key, Version), u32>, names: &[EntryName])
-    ensures { (k n : ℕ) → get pair_cmp present.new (k, n) ≡ cond (has names.now k n) None (get pair_cmp present.old (k, n)) }
+    ensures { (k n : ℕ) → get pair_cmp present.new (k, n) ≡ cond (has names.now k n) None
+        (get pair_cmp present.old (k, n)) }
 {
     for name in names {
         present.remove(&(name.key, name.version));

@@ -15,7 +15,7 @@ use std::alloc::{Alloc, AllocError, Global};
 use std::env::{Env, FillError};
 use std::fs;
 use std::test::Fail;
-use store_image::superblock::read_layout;
+use store_image::image_superblock::read_layout;
 use store_image::{first_fault, recovered_cells};
 
 const BYTES: usize = 20480;

@@ -5,8 +5,8 @@ use Rattle.fs_text.specs.declared.line.Line.{Line}
 use Rattle.fs_text.specs.declared.input.InputError.{InputError}
 use Rattle.fs_text.specs.declared.stages.Built.{Built}
 use Rattle.fs_text.specs.declared.stages.UntilError.{UntilError}
-use Rattle.fs_text.specs.declared.reading.ReadError.{ReadError}
-use Rattle.fs_text.specs.declared.reading.ReadError.TheVariants as reads
+use Rattle.fs_text.specs.declared.read_source.ReadError.{ReadError}
+use Rattle.fs_text.specs.declared.read_source.ReadError.TheVariants as reads
 use Rattle.fs_text.specs.Input.{input_of}
 use Rattle.fs_text.specs.Reading.{Answers}
 use Rattle.fs_text.specs.Stages.{input_or_stop, StopsAs, is_said, as_until_error}

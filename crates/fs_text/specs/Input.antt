@@ -3,6 +3,7 @@ use Rattle.std.specs.Prelude.{ℕ, ◌+◌, ◌-◌, ◌*◌, ◌==◌, ◌&&◌
 use Rattle.std.specs.List.{list_all, filter_map}
 use Rattle.fs_model.specs.declared.model.Request.{Request}
 use Rattle.fs_model.specs.declared.model.Request.TheVariants.{Put, Get, Delete}
+use Rattle.fs_text.specs.declared.input_limits.TheConstants.{LONGEST_LINE, MOST_INPUT_BYTES, MOST_LINE_TURNS, MOST_REQUESTS, MOST_TURNS}
 use Rattle.fs_text.specs.declared.line.Line.{Line}
 use Rattle.fs_text.specs.declared.line.Line.TheVariants.{Ask, Go}
 
@@ -33,7 +34,8 @@ starts_well (b ∷ []) = true
 starts_well (b ∷ c ∷ bs) = not (b == 48)
 
 abbrev pub number_of : List ℕ → Option ℕ
-number_of bs = if starts_well bs && list_all is_digit bs then Some (fold (λ n b. 10 * n + (b - 48)) 0 bs) else None
+number_of bs = if starts_well bs && list_all is_digit bs
+    then Some (fold (λ n b. 10 * n + (b - 48)) 0 bs) else None
 
 -- the number where it is from low to high, else the rule
 abbrev pub within : ℕ → ℕ → ℕ → Option ℕ → Result ℕ ℕ
@@ -84,7 +86,8 @@ abbrev pub core_at : ℕ → List ℕ → Result ℕ ℕ
 core_at cores bs = within 0 (cores - 1) 6 (number_of bs)
 
 abbrev pub go_rest : ℕ → List ℕ → List ℕ × Option (List ℕ) → Result Line ℕ
-go_rest cores core (turns, None) = go_core (core_at cores core) (within 1 1000000 7 (number_of turns))
+go_rest cores core (turns, None) = go_core (core_at cores core)
+    (within 1 MOST_LINE_TURNS 7 (number_of turns))
 go_rest cores core (turns, Some more) = Err 4
 
 abbrev pub go_fields : ℕ → List ℕ × Option (List ℕ) → Result Line ℕ
@@ -110,12 +113,23 @@ pub record Before : Type 0 where
   pub turns : ℕ
 
 abbrev pub with_line : Before → ℕ → Line → Before
-with_line b size (Ask q) = record { bytes = b.bytes + size; requests = b.requests + 1; turns = b.turns }
-with_line b size (Go core turns) = record { bytes = b.bytes + size; requests = b.requests; turns = b.turns + turns }
+with_line b size (Ask q) = record {
+  bytes = b.bytes + size;
+  requests = b.requests + 1;
+  turns =
+      b.turns;
+}
+with_line b size (Go core turns) = record {
+  bytes = b.bytes + size;
+  requests = b.requests;
+  turns =
+      b.turns + turns;
+}
 
 -- rules 8 and 9, of what stands up to and with the line
 abbrev pub counted : Before → Line → Result (Line × Before) ℕ
-counted b line = if nat_le b.requests 1000000 then (if nat_le b.turns 16777216 then Ok (line, b) else Err 9) else Err 8
+counted b line = if nat_le b.requests MOST_REQUESTS then (if nat_le b.turns MOST_TURNS then Ok (line, b)
+    else Err 9) else Err 8
 
 abbrev pub count_line : Before → ℕ → Result Line ℕ → Result (Line × Before) ℕ
 count_line b size (Ok line) = counted (with_line b size line) line
@@ -127,8 +141,9 @@ size_with x = length x.0 + (if x.1 then 1 else 0)
 
 abbrev pub line_at : ℕ → Before → List ℕ × Bool → Result (Line × Before) ℕ
 line_at cores b x =
-    if nat_le (b.bytes + size_with x) 67108864 then
-    (if nat_le (length x.0) 1048640 then count_line b (size_with x) (line_by cores (cut x.0)) else Err 2) else Err 1
+    if nat_le (b.bytes + size_with x) MOST_INPUT_BYTES then
+    (if nat_le (length x.0) LONGEST_LINE then count_line b (size_with x) (line_by cores (cut x.0))
+    else Err 2) else Err 1
 
 -- all lines, or the number of the first that breaks a rule and the rule; number is that of the next line
 abbrev pub with_front : Line → Result (List Line) (ℕ × ℕ) → Result (List Line) (ℕ × ℕ)
@@ -144,7 +159,8 @@ lines_from cores number b (x ∷ xs) =
     ]
 
 unfoldable pub input_of : ℕ → List ℕ → Result (List Line) (ℕ × ℕ)
-input_of cores bytes = lines_from cores 1 (record { bytes = 0; requests = 0; turns = 0 }) (lines_of bytes)
+input_of cores bytes = lines_from cores 1 (record { bytes = 0; requests = 0; turns = 0 })
+    (lines_of bytes)
 
 abbrev pub request_in : Line → Option Request
 request_in (Ask q) = Some q

@@ -3,8 +3,8 @@ use Rattle.std.specs.Prelude.{◌≡◌, ℕ, ◌^◌, nat_lt, List, Option, Som
 use Rattle.fs_text.specs.declared.line.Line.{Line}
 use Rattle.fs_text.specs.declared.parsing.LineError.{LineError}
 use Rattle.fs_text.specs.declared.parsing.LineError.TheVariants as lines
-use Rattle.fs_text.specs.declared.reading.ReadError.{ReadError}
-use Rattle.fs_text.specs.declared.reading.ReadError.TheVariants as reads
+use Rattle.fs_text.specs.declared.read_source.ReadError.{ReadError}
+use Rattle.fs_text.specs.declared.read_source.ReadError.TheVariants as reads
 use Rattle.fs_text.specs.declared.input.InputError.{InputError}
 use Rattle.fs_text.specs.declared.input.InputError.TheVariants as inputs
 

@@ -9,8 +9,8 @@ use Rattle.fs_text.specs.declared.stages.Stop.{Stop}
 use Rattle.fs_text.specs.declared.stages.Stop.TheVariants.{Bad, NotBuilt}
 use Rattle.fs_text.specs.declared.stages.UntilError.{UntilError}
 use Rattle.fs_text.specs.declared.stages.UntilError.TheVariants as until
-use Rattle.fs_text.specs.declared.reading.ReadError.{ReadError}
-use Rattle.fs_text.specs.declared.reading.ReadError.TheVariants as reads
+use Rattle.fs_text.specs.declared.read_source.ReadError.{ReadError}
+use Rattle.fs_text.specs.declared.read_source.ReadError.TheVariants as reads
 use Rattle.fs_text.specs.Input.{Before, cut, line_at, lines_of}
 
 -- whether lines that begin with this word aren't built
@@ -30,11 +30,14 @@ puts_block (Go core turns) = false
 -- What the rules say of a line, by what is built. A line of a closed form may break a rule from 4 on, and one that puts
 -- a block breaks none.
 abbrev pub staged : ℕ → Bool → Bool → Result (Line × Before) ℕ → Result (Line × Before) Stop
-staged number closed blocks (Ok x) = if closed || (not blocks && puts_block x.0) then Err (NotBuilt number) else Ok x
-staged number closed blocks (Err rule) = if closed && nat_lt 3 rule then Err (NotBuilt number) else Err (Bad number rule)
+staged number closed blocks (Ok x) = if closed || (not blocks && puts_block x.0)
+    then Err (NotBuilt number) else Ok x
+staged number closed blocks (Err rule) = if closed && nat_lt 3 rule then Err (NotBuilt number)
+    else Err (Bad number rule)
 
 abbrev pub line_or_stop : Built → ℕ → ℕ → Before → List ℕ × Bool → Result (Line × Before) Stop
-line_or_stop built cores number b x = staged number (is_closed built (cut x.0).0) built.blocks (line_at cores b x)
+line_or_stop built cores number b x = staged number (is_closed built (cut x.0).0) built.blocks
+    (line_at cores b x)
 
 abbrev pub behind : Line → Result (List Line) Stop → Result (List Line) Stop
 behind x (Ok xs) = Ok (x ∷ xs)
@@ -50,7 +53,8 @@ lines_or_stop built cores number b (x ∷ xs) =
     ]
 
 unfoldable pub input_or_stop : Built → ℕ → List ℕ → Result (List Line) Stop
-input_or_stop built cores bytes = lines_or_stop built cores 1 (record { bytes = 0; requests = 0; turns = 0 }) (lines_of bytes)
+input_or_stop built cores bytes = lines_or_stop built cores 1
+    (record { bytes = 0; requests = 0; turns = 0 }) (lines_of bytes)
 
 -- The answer is what is said of a line or an input. A fault and want of memory say nothing of it.
 abbrev pub StopsAs : {A : Type 0} → Result A UntilError → Result A Stop → Type 0

@@ -1,5 +1,6 @@
 -- What a source and a sink say of themselves, where they do, and what a call makes of it.
 use Rattle.std.specs.Prelude.{◌≡◌, ◌⊎◌, ℕ, ◌<◌, List, [], ◌++◌, length, Option, Some, None}
+use Rattle.fs_text.specs.declared.input_limits.TheConstants.{MOST_INPUT_BYTES}
 
 -- What a source has left: these bytes come, and then what it has left then. One that tells goes on telling.
 abbrev pub Gives : Option (List ℕ) → Option (List ℕ) → List ℕ → Type 0
@@ -14,7 +15,8 @@ IsAtEnd (Some coming) = coming ≡ []
 
 -- It was read to its end, or past the bytes that an input may have.
 abbrev pub IsReadOut : Option (List ℕ) → Option (List ℕ) → Type 0
-IsReadOut coming left = (bytes : List ℕ) × Gives coming left bytes × ((67108864 < length bytes) ⊎ IsAtEnd left)
+IsReadOut coming left = (bytes : List ℕ) × Gives coming left bytes
+    × ((MOST_INPUT_BYTES < length bytes) ⊎ IsAtEnd left)
 
 -- A sink took these bytes behind those that it had taken. It may stop telling, and doesn't begin to tell.
 abbrev pub Takes : Option (List ℕ) → Option (List ℕ) → List ℕ → Type 0
@@ -24,7 +26,8 @@ Takes (Some before) (Some now) bytes = now ≡ before ++ bytes
 
 -- It took bytes from the front, and all but the rest of them.
 abbrev pub TakesUpTo : Option (List ℕ) → Option (List ℕ) → List ℕ → List ℕ → Type 0
-TakesUpTo before now bytes rest = (front : List ℕ) × (bytes ≡ front ++ rest) × Takes before now front
+TakesUpTo before now bytes rest = (front : List ℕ) × (bytes ≡ front ++ rest)
+    × Takes before now front
 
 -- It took bytes from the front, perhaps all of them, perhaps none.
 abbrev pub TakesPrefix : Option (List ℕ) → Option (List ℕ) → List ℕ → Type 0

@@ -20,6 +20,7 @@ impl Model for Feed {
 }
 
 impl Feed {
+    /// These bytes, in reads of at most so many.
     pub fn new(bytes: Vec<u8>, most: u64) -> Feed
         requires { 0 < most }
         ensures { result ≡ bytes.items }

@@ -3,6 +3,7 @@ ghost use Rattle.std.specs.Prelude.{◌≡◌, ℕ, true, ◌+◌, ◌*◌, ◌-
 ghost use Rattle.fs_text.specs.Input.{cut, lines_of, starts_well, is_digit, number_of, within, key_at, core_at};
 ghost use Rattle.fs_text.specs.Reading.{fitting};
 
+use crate::input_limits::MOST_LINE_TURNS;
 use memchr::memchr;
 
 /// The first line of a text, without its newline.
@@ -18,7 +19,8 @@ pub struct FirstLine<'a> {
 /// Parts a text that isn't empty after its first line.
 pub fn first_line(bytes: &[u8]) -> FirstLine<'_>
     requires { 0 < length bytes.now }
-    ensures lines { lines_of bytes.now ≡ (result.text.now, result.ended) ∷ lines_of result.rest.now }
+    ensures lines { lines_of bytes.now ≡ (result.text.now, result.ended)
+        ∷ lines_of result.rest.now }
     ensures shorter { length result.rest.now < length bytes.now }
 {
     match memchr(b'\n', bytes) {
@@ -110,9 +112,9 @@ pub fn core_at(cores: u32, bytes: &[u8]) -> Result<u32, u32>
 
 /// A number of turns, or rule 7.
 pub fn turns_at(bytes: &[u8]) -> Result<u32, u32>
-    ensures { result ≡ within 1 1000000 7 (number_of bytes.now) }
+    ensures { result ≡ within 1 MOST_LINE_TURNS 7 (number_of bytes.now) }
 {
-    match within(1, 1_000_000, 7, bytes) {
+    match within(1, MOST_LINE_TURNS, 7, bytes) {
         Ok(turns) => Ok(turns as u32),
         Err(rule) => Err(rule),
     }

@@ -8,17 +8,15 @@ ghost use Rattle.fs_text.specs.Stages.{input_or_stop, StopsAs, is_said};
 ghost use Rattle.fs_text.specs.Streams.{IsAtEnd, IsReadOut};
 
 use crate::fields::first_line;
+use crate::input_limits::MOST_READ;
 use crate::line::Line;
-use crate::reading::{ReadError, read_all};
+use crate::read_source::{ReadError, read_all};
 use crate::source::Source;
 use crate::stages::{Built, Stop, UntilError, judge_at_stage};
 use crate::totals::Totals;
 use std::alloc::Global;
 use std::marker::Model;
 use thiserror::Error;
-
-/// The bytes that are read at most: one more than an input may have.
-const MOST_READ: usize = 67_108_865;
 
 /// The lines of an input in order, which contracts see as a list.
 #[derive(Debug, Drop)]
@@ -132,12 +130,14 @@ pub fn read_until<S: Source>(
     cores: u32,
     built: Built,
 ) -> Result<Input, UntilError>
-    ensures exact { IfSome (S.coming source.old) (λ bytes. StopsAs result (input_or_stop built cores bytes)) }
+    ensures exact { IfSome (S.coming source.old)
+        (λ bytes. StopsAs result (input_or_stop built cores bytes)) }
     ensures some { (bytes : List ℕ) × StopsAs result (input_or_stop built cores bytes) }
     ensures within { IfOk result (λ input. IsWithin cores input) }
     ensures end { OnOk result (IsAtEnd (S.coming source.new)) }
     ensures whole { is_said result ≡ true → IsReadOut (S.coming source.old) (S.coming source.new) }
-    ensures cause { IsErrOf result UntilError.SourceFault → Rose (S.fault_count source.old) (S.fault_count source.new) }
+    ensures cause { IsErrOf result UntilError.SourceFault
+        → Rose (S.fault_count source.old) (S.fault_count source.new) }
     ensures count { S.fault_count source.old ≤ S.fault_count source.new }
 {
     let bytes = read_all(alloc, source, MOST_READ)?;
@@ -151,7 +151,8 @@ pub fn read_input<S: Source>(alloc: Global, source: &mut S, cores: u32) -> Resul
     ensures some { (bytes : List ℕ) × Answers result (input_of cores bytes) }
     ensures within { IfOk result (λ input. IsWithin cores input) }
     ensures end { OnOk result (IsAtEnd (S.coming source.new)) }
-    ensures cause { IsErrOf result InputError.SourceFault → Rose (S.fault_count source.old) (S.fault_count source.new) }
+    ensures cause { IsErrOf result InputError.SourceFault
+        → Rose (S.fault_count source.old) (S.fault_count source.new) }
     ensures count { S.fault_count source.old ≤ S.fault_count source.new }
 {
     let bytes = read_all(alloc, source, MOST_READ)?;

@@ -2,8 +2,8 @@
 ghost use Rattle.std.specs.Prelude.{◌≡◌, ◌+◌, ◌^◌, ◌-◌, ◌<◌, ◌≤◌, [], Some, IfOk, OnErr, option_copied};
 ghost use Rattle.fs_errors.specs.Counts.{Rose};
 
+use crate::byte_store::Store;
 use crate::sink::{Sink, SinkFault};
-use crate::store::Store;
 use fs_errors::Memory;
 use std::alloc::Global;
 

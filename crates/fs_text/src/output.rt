@@ -5,8 +5,8 @@ ghost use Rattle.fs_text.specs.Output.{ended, lines_text, reply_line, replies_te
 ghost use Rattle.fs_text.specs.Streams.{Takes, TakesUpTo, TakesPrefix};
 
 use crate::line::Tally;
+use crate::pending_text::Pending;
 use crate::sink::{Sink, SinkFault};
-use crate::writing::Pending;
 use fs_model::{Pair, Reply};
 use log_entry::entry::Body;
 use std::alloc::{AllocError, Global};
@@ -51,7 +51,8 @@ trait TextLine {
 
     // Puts the front of the line behind what stands in `front`, and answers the rest of the line.
     fn render<'a>(&'a self, front: &mut String) -> Result<&'a [u8], AllocError>
-        ensures { IfOk result (λ rest. string_bytes front.new ++ rest.now ≡ string_bytes front.old ++ line self.now) };
+        ensures { IfOk result (λ rest. string_bytes front.new ++ rest.now ≡ string_bytes front.old
+            ++ line self.now) };
 }
 
 // Puts a line, made of two parts, and its newline.
@@ -61,8 +62,10 @@ fn put_line<O: Sink>(
     front: &[u8],
     rest: &[u8],
 ) -> Result<(), SinkFault>
-    ensures ok { OnOk result (TakesUpTo (O.taken sink.old) (O.taken sink.new) (pending.old ++ ended (front.now ++ rest.now)) pending.new) }
-    ensures err { OnErr result (TakesPrefix (O.taken sink.old) (O.taken sink.new) (pending.old ++ ended (front.now ++ rest.now))) }
+    ensures ok { OnOk result (TakesUpTo (O.taken sink.old) (O.taken sink.new)
+        (pending.old ++ ended (front.now ++ rest.now)) pending.new) }
+    ensures err { OnErr result (TakesPrefix (O.taken sink.old) (O.taken sink.new)
+        (pending.old ++ ended (front.now ++ rest.now))) }
     ensures cause { OnErr result (Rose (O.fault_count sink.old) (O.fault_count sink.new)) }
     ensures count { O.fault_count sink.old ≤ O.fault_count sink.new }
 {
@@ -77,10 +80,13 @@ fn write_each<T: TextLine, O: Sink>(
     sink: &mut O,
     items: &[T],
 ) -> Result<(), OutError>
-    ensures ok { OnOk result (Takes (O.taken sink.old) (O.taken sink.new) (lines_text T.line items.now)) }
+    ensures ok { OnOk result (Takes (O.taken sink.old) (O.taken sink.new)
+        (lines_text T.line items.now)) }
     ensures flushed { OnOk result (O.flushed sink.new ≡ true) }
-    ensures err { OnErr result (TakesPrefix (O.taken sink.old) (O.taken sink.new) (lines_text T.line items.now)) }
-    ensures cause { IsErrOf result OutError.SinkFault → Rose (O.fault_count sink.old) (O.fault_count sink.new) }
+    ensures err { OnErr result (TakesPrefix (O.taken sink.old) (O.taken sink.new)
+        (lines_text T.line items.now)) }
+    ensures cause { IsErrOf result OutError.SinkFault
+        → Rose (O.fault_count sink.old) (O.fault_count sink.new) }
     ensures count { O.fault_count sink.old ≤ O.fault_count sink.new }
 {
     let mut pending = Pending::new(alloc)?;
@@ -131,7 +137,8 @@ impl TextLine for Pair {
 
 // Puts what an entry's line says of its place, key and version.
 fn put_place(placed: &PlacedEntry, front: &mut String) -> Result<(), AllocError>
-    ensures { OnOk result (string_bytes front.new ≡ string_bytes front.old ++ place_text placed.now) }
+    ensures { OnOk result (string_bytes front.new ≡ string_bytes front.old
+        ++ place_text placed.now) }
 {
     let entry = &placed.entry;
     write!(
@@ -185,10 +192,13 @@ pub fn write_replies<O: Sink>(
     sink: &mut O,
     replies: &[Reply],
 ) -> Result<(), OutError>
-    ensures ok { OnOk result (Takes (O.taken sink.old) (O.taken sink.new) (replies_text replies.now)) }
+    ensures ok { OnOk result (Takes (O.taken sink.old) (O.taken sink.new)
+        (replies_text replies.now)) }
     ensures flushed { OnOk result (O.flushed sink.new ≡ true) }
-    ensures err { OnErr result (TakesPrefix (O.taken sink.old) (O.taken sink.new) (replies_text replies.now)) }
-    ensures cause { IsErrOf result OutError.SinkFault → Rose (O.fault_count sink.old) (O.fault_count sink.new) }
+    ensures err { OnErr result (TakesPrefix (O.taken sink.old) (O.taken sink.new)
+        (replies_text replies.now)) }
+    ensures cause { IsErrOf result OutError.SinkFault
+        → Rose (O.fault_count sink.old) (O.fault_count sink.new) }
     ensures count { O.fault_count sink.old ≤ O.fault_count sink.new }
 {
     write_each(alloc, sink, replies)
@@ -198,8 +208,10 @@ pub fn write_replies<O: Sink>(
 pub fn write_pairs<O: Sink>(alloc: Global, sink: &mut O, pairs: &[Pair]) -> Result<(), OutError>
     ensures ok { OnOk result (Takes (O.taken sink.old) (O.taken sink.new) (pairs_text pairs.now)) }
     ensures flushed { OnOk result (O.flushed sink.new ≡ true) }
-    ensures err { OnErr result (TakesPrefix (O.taken sink.old) (O.taken sink.new) (pairs_text pairs.now)) }
-    ensures cause { IsErrOf result OutError.SinkFault → Rose (O.fault_count sink.old) (O.fault_count sink.new) }
+    ensures err { OnErr result (TakesPrefix (O.taken sink.old) (O.taken sink.new)
+        (pairs_text pairs.now)) }
+    ensures cause { IsErrOf result OutError.SinkFault
+        → Rose (O.fault_count sink.old) (O.fault_count sink.new) }
     ensures count { O.fault_count sink.old ≤ O.fault_count sink.new }
 {
     write_each(alloc, sink, pairs)
@@ -211,10 +223,13 @@ pub fn write_entries<O: Sink>(
     sink: &mut O,
     entries: &[PlacedEntry],
 ) -> Result<(), OutError>
-    ensures ok { OnOk result (Takes (O.taken sink.old) (O.taken sink.new) (entries_text entries.now)) }
+    ensures ok { OnOk result (Takes (O.taken sink.old) (O.taken sink.new)
+        (entries_text entries.now)) }
     ensures flushed { OnOk result (O.flushed sink.new ≡ true) }
-    ensures err { OnErr result (TakesPrefix (O.taken sink.old) (O.taken sink.new) (entries_text entries.now)) }
-    ensures cause { IsErrOf result OutError.SinkFault → Rose (O.fault_count sink.old) (O.fault_count sink.new) }
+    ensures err { OnErr result (TakesPrefix (O.taken sink.old) (O.taken sink.new)
+        (entries_text entries.now)) }
+    ensures cause { IsErrOf result OutError.SinkFault
+        → Rose (O.fault_count sink.old) (O.fault_count sink.new) }
     ensures count { O.fault_count sink.old ≤ O.fault_count sink.new }
 {
     write_each(alloc, sink, entries)
@@ -224,8 +239,10 @@ pub fn write_entries<O: Sink>(
 pub fn write_tally<O: Sink>(alloc: Global, sink: &mut O, tally: &Tally) -> Result<(), OutError>
     ensures ok { OnOk result (Takes (O.taken sink.old) (O.taken sink.new) (tally_text tally.now)) }
     ensures flushed { OnOk result (O.flushed sink.new ≡ true) }
-    ensures err { OnErr result (TakesPrefix (O.taken sink.old) (O.taken sink.new) (tally_text tally.now)) }
-    ensures cause { IsErrOf result OutError.SinkFault → Rose (O.fault_count sink.old) (O.fault_count sink.new) }
+    ensures err { OnErr result (TakesPrefix (O.taken sink.old) (O.taken sink.new)
+        (tally_text tally.now)) }
+    ensures cause { IsErrOf result OutError.SinkFault
+        → Rose (O.fault_count sink.old) (O.fault_count sink.new) }
     ensures count { O.fault_count sink.old ≤ O.fault_count sink.new }
 {
     let counts = [

@@ -4,14 +4,12 @@ ghost use Rattle.fs_text.specs.Input.{lone_key, lone_field, put_line, number_of,
 ghost use Rattle.fs_text.specs.Reading.{Says};
 
 use crate::fields::{core_at, cut, key_at, turns_at};
+use crate::input_limits::{LONGEST_LINE, MOST_LINE_TURNS};
 use crate::line::Line;
 use crate::totals::Totals;
 use fs_errors::Memory;
 use fs_model::{Request, Value};
 use std::alloc::{AllocError, Global};
-
-/// The bytes that a line may have without its newline.
-const LONGEST_LINE: usize = 1_048_640;
 
 /// Why a line gives nothing.
 #[derive(Clone, Copy, Debug, PartialEq, Eq)]
@@ -69,7 +67,7 @@ fn put_line(alloc: Global, rest: Option<&[u8]>) -> Result<Line, LineError>
 
 // The core and the turns, with rule 6 before rule 7.
 fn go_turns(cores: u32, core: &[u8], turns: &[u8]) -> Result<Line, u32>
-    ensures { result ≡ go_core (core_at cores core.now) (within 1 1000000 7 (number_of turns.now)) }
+    ensures { result ≡ go_core (core_at cores core.now) (within 1 MOST_LINE_TURNS 7 (number_of turns.now)) }
 {
     let core = core_at(cores, core)?;
     let turns = turns_at(turns)?;

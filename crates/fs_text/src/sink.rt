@@ -26,7 +26,8 @@ pub trait Sink {
     fn write(&mut self, bytes: &[u8]) -> Result<usize, SinkFault>
         ensures within { IfOk result (λ n. n ≤ length bytes.now) }
         ensures some { IfOk result (λ n. 0 < length bytes.now → 0 < n) }
-        ensures takes { IfOk result (λ n. Takes (taken self.old) (taken self.new) (take n bytes.now)) }
+        ensures takes { IfOk result (λ n. Takes (taken self.old) (taken self.new)
+            (take n bytes.now)) }
         ensures err { OnErr result (Takes (taken self.old) (taken self.new) []) }
         ensures unflushed { flushed self.new ≡ false }
         ensures cause { OnErr result (Rose (fault_count self.old) (fault_count self.new)) }

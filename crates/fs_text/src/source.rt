@@ -22,7 +22,8 @@ pub trait Source {
     /// no room. A read that fails takes nothing away from what is still to come.
     fn read(&mut self, buf: &mut [u8]) -> Result<usize, SourceFault>
         ensures within { IfOk result (λ n. n ≤ length buf.new) }
-        ensures gives { IfOk result (λ n. Gives (coming self.old) (coming self.new) (take n buf.new)) }
+        ensures gives { IfOk result (λ n. Gives (coming self.old) (coming self.new)
+            (take n buf.new)) }
         ensures end { IfOk result (λ n. n ≡ 0 → 0 < length buf.old → IsAtEnd (coming self.new)) }
         ensures err { OnErr result (Gives (coming self.old) (coming self.new) []) }
         ensures cause { OnErr result (Rose (fault_count self.old) (fault_count self.new)) }

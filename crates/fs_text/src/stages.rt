@@ -5,7 +5,7 @@ ghost use Rattle.fs_text.specs.Stages.{is_closed, puts_block, line_or_stop, Stop
 use crate::fields::{FirstLine, cut};
 use crate::line::Line;
 use crate::parsing::{LineError, judge};
-use crate::reading::ReadError;
+use crate::read_source::ReadError;
 use crate::totals::Totals;
 use fs_model::Request;
 use std::alloc::{AllocFailed, Global};
@@ -110,7 +110,8 @@ pub fn judge_at_stage(
     before: &Totals,
     first: &FirstLine<'_>,
 ) -> Result<(Line, Totals), UntilError>
-    ensures exact { StopsAs result (line_or_stop built cores number before.now (first.now.text.now, first.now.ended)) }
+    ensures exact { StopsAs result (line_or_stop built cores number before.now
+        (first.now.text.now, first.now.ended)) }
     ensures no_fault { IsErrOf result UntilError.SourceFault → ⊥ }
 {
     let closed = built.is_closed(cut(first.text).0);

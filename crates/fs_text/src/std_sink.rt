@@ -58,8 +58,10 @@ impl<T: Write + Drop> Sink for StdSink<T> {
         ensures cause { OnErr result (Rose self.old.faults self.new.faults) }
         ensures count { self.old.faults ≤ self.new.faults }
         // What the writer took is what was answered, and nothing where it failed.
-        ensures taken { IfOk result (λ n. Appends (T.contents self.old.writer) (T.contents self.new.writer) (take n bytes.now)) }
-        ensures untaken { OnErr result (Appends (T.contents self.old.writer) (T.contents self.new.writer) []) }
+        ensures taken { IfOk result (λ n. Appends (T.contents self.old.writer)
+            (T.contents self.new.writer) (take n bytes.now)) }
+        ensures untaken { OnErr result
+            (Appends (T.contents self.old.writer) (T.contents self.new.writer) []) }
     {
         self.flushed = false;
         match write_retrying(&mut self.writer, bytes) {
@@ -85,7 +87,8 @@ impl<T: Write + Drop> Sink for StdSink<T> {
 // Writes once, and again where a signal interrupts it. None where it failed.
 fn write_retrying<T: Write>(writer: &mut T, bytes: &[u8]) -> Option<usize>
     ensures within { IfSome result (λ n. n ≤ length bytes.now) }
-    ensures taken { IfSome result (λ n. Appends (T.contents writer.old) (T.contents writer.new) (take n bytes.now)) }
+    ensures taken { IfSome result (λ n. Appends (T.contents writer.old) (T.contents writer.new)
+        (take n bytes.now)) }
     ensures failed { IfNone result (Appends (T.contents writer.old) (T.contents writer.new) []) }
 {
     for _ in 0..u64::MAX {

@@ -45,8 +45,10 @@ impl<T: Read + Drop> Source for StdSource<T> {
 // Reads once, and again where a signal interrupts it. None where it failed.
 fn read_retrying<T: Read>(reader: &mut T, buf: &mut [u8]) -> Option<usize>
     ensures within { IfSome result (λ n. n ≤ length buf.new) }
-    ensures gives { IfSome result (λ n. Gives (T.remaining reader.old) (T.remaining reader.new) (take n buf.new)) }
-    ensures end { IfSome result (λ n. n ≡ 0 → 0 < length buf.old → IsAtEnd (T.remaining reader.new)) }
+    ensures gives { IfSome result (λ n. Gives (T.remaining reader.old) (T.remaining reader.new)
+        (take n buf.new)) }
+    ensures end { IfSome result (λ n. n ≡ 0 → 0 < length buf.old
+        → IsAtEnd (T.remaining reader.new)) }
     ensures failed { IfNone result (Gives (T.remaining reader.old) (T.remaining reader.new) []) }
 {
     for _ in 0..u64::MAX {

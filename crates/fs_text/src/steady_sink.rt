@@ -1,8 +1,8 @@
 // A sink in memory that never fails.
 ghost use Rattle.std.specs.Prelude.{◌≡◌, ◌<◌, [], Some, IfOk, option_copied};
 
+use crate::byte_store::Store;
 use crate::sink::{Sink, SinkFault};
-use crate::store::Store;
 use fs_errors::Memory;
 use std::alloc::Global;
 

@@ -45,7 +45,7 @@ fn show(alloc: Global, line: &Line) -> Result<String, AllocError> {
     }
 }
 
-fn shown(alloc: Global, input: &Input) -> Result<String, AllocError> {
+fn text_of_lines(alloc: Global, input: &Input) -> Result<String, AllocError> {
     let mut text = String::new(alloc);
     for line in input.lines() {
         text.push_str(show(alloc, line)?.as_str())?;
@@ -76,7 +76,7 @@ fn good_inputs(rt: HostRuntime) -> Result<(), Fail> {
     for (text, cores, lines) in table {
         let mut source = SteadySource::new(bytes(alloc, text)?, 3);
         let input = read_input(alloc, &mut source, cores)?;
-        assert_eq!(rt; shown(alloc, &input)?.as_str(), lines);
+        assert_eq!(rt; text_of_lines(alloc, &input)?.as_str(), lines);
         assert_eq!(rt; source.faults(), 0);
     }
     Ok(())
@@ -269,7 +269,7 @@ fn texts(rt: HostRuntime) -> Result<(), Fail> {
     Ok(())
 }
 
-fn placed(place: u64, key: u64, body: Body) -> PlacedEntry {
+fn entry_at(place: u64, key: u64, body: Body) -> PlacedEntry {
     let entry = Entry {
         key,
         version: 1,
@@ -289,9 +289,9 @@ fn entries(rt: HostRuntime) -> Result<(), Fail> {
     let mut long = Vec::new(alloc);
     long.resize(255, b'a')?;
     let entries = [
-        placed(0, 1, Body::Embedded(Value::of(long))),
-        placed(34, 2, Body::Pointer(17)),
-        placed(36, 3, Body::Tombstone),
+        entry_at(0, 1, Body::Embedded(Value::of(long))),
+        entry_at(34, 2, Body::Pointer(17)),
+        entry_at(36, 3, Body::Tombstone),
     ];
     let mut sink = SteadySink::new(alloc, 1_000, 1_000)?;
     write_entries(alloc, &mut sink, &entries)?;
@@ -354,7 +354,7 @@ fn std_streams(rt: HostRuntime) -> Result<(), Fail> {
     let mut source = StdSource::over(b"put 5 abc\nget 5\n".as_slice());
     let input = read_input(alloc, &mut source, 1)?;
     assert_eq!(rt;
-        shown(alloc, &input)?.as_str(),
+        text_of_lines(alloc, &input)?.as_str(),
         "put 5 [97, 98, 99] / get 5 / "
     );
     assert_eq!(rt; input.into_lines().len(), 2);

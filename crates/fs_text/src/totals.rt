@@ -2,15 +2,9 @@
 ghost use Rattle.std.specs.Prelude.{◌≡◌, ◌≤◌, ◌+◌, nat_le};
 ghost use Rattle.fs_text.specs.Input.{with_line, counted, map_ok};
 
+use crate::input_limits::{MOST_INPUT_BYTES, MOST_REQUESTS, MOST_TURNS};
 use crate::line::Line;
 use std::marker::Model;
-
-/// The bytes that an input may have.
-pub const MOST_BYTES: u64 = 67_108_864;
-
-const MOST_REQUESTS: u64 = 1_000_000;
-
-const MOST_TURNS: u64 = 16_777_216;
 
 /// What stands before a line: bytes, newlines counted, requests, and turns.
 #[derive(Drop)]
@@ -23,12 +17,13 @@ pub struct Totals {
 impl Model for Totals {
     ghost use Rattle.std.specs.Prelude.{◌≤◌};
     ghost use Rattle.fs_text.specs.Input.{Before};
+    ghost use Rattle.fs_text.specs.declared.input_limits.TheConstants.{MOST_INPUT_BYTES, MOST_REQUESTS, MOST_TURNS};
 
     ghost Value = { Before };
 
     ghost view = { λ t. record { bytes = t.bytes; requests = t.requests; turns = t.turns } };
 
-    ghost invariant = { λ t. (t.bytes ≤ 67108864) × (t.requests ≤ 1000000) × (t.turns ≤ 16777216) };
+    ghost invariant = { λ t. (t.bytes ≤ MOST_INPUT_BYTES) × (t.requests ≤ MOST_REQUESTS) × (t.turns ≤ MOST_TURNS) };
 }
 
 impl Totals {
@@ -45,15 +40,16 @@ impl Totals {
 
     /// Whether so many more bytes are within rule 1.
     pub fn has_room(&self, size: u64) -> bool
-        ensures { result ≡ nat_le (self.now.bytes + size) 67108864 }
+        ensures { result ≡ nat_le (self.now.bytes + size) MOST_INPUT_BYTES }
     {
-        size <= MOST_BYTES - self.bytes
+        size <= MOST_INPUT_BYTES - self.bytes
     }
 
     /// With a line of so many bytes, or rule 8 or 9.
     pub fn with_line(&self, size: u64, line: &Line) -> Result<Totals, u32>
-        requires { self.now.bytes + size ≤ 67108864 }
-        ensures { counted (with_line self.now size line.now) line.now ≡ map_ok (λ totals. (line.now, totals)) result }
+        requires { self.now.bytes + size ≤ MOST_INPUT_BYTES }
+        ensures { counted (with_line self.now size line.now) line.now
+            ≡ map_ok (λ totals. (line.now, totals)) result }
     {
         let mut totals = Totals {
             bytes: self.bytes + size,

@@ -19,7 +19,7 @@ use Rattle.group_laws.proofs.Images.{in_any, any_in}
 use Rattle.group_laws.proofs.Names.{has_In}
 use Rattle.crash_core.specs.declared.names.Notices.{Notices}
 use Rattle.crash_core.specs.Shows.{notices_of}
-use Rattle.group_board.specs.declared.journal.Journal.{Journal}
+use Rattle.group_board.specs.declared.board_journal.Journal.{Journal}
 use Rattle.group_board.specs.Journals.{state}
 use Rattle.group_board.specs.Kept.{IsKept}
 use Rattle.group_board.specs.Assurances.{IsHome, IsHeard}

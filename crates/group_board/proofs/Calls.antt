@@ -20,9 +20,9 @@ use Rattle.group_laws.specs.Runs as runs
 use Rattle.crash_core.specs.declared.kinds.Change.{Change}
 use Rattle.crash_core.specs.declared.names.Notices.{Notices}
 use Rattle.crash_core.specs.Shows.{notices_of}
-use Rattle.group_board.specs.declared.journal.Act.{Act}
-use Rattle.group_board.specs.declared.journal.Act.TheVariants.{Post, Lock, Found, Take, Unlock, Commit, Mark, Fail, Finish, GiveUp, Withdraw, Doom, Retire, Send, Receive}
-use Rattle.group_board.specs.declared.journal.Journal.{Journal}
+use Rattle.group_board.specs.declared.board_journal.Act.{Act}
+use Rattle.group_board.specs.declared.board_journal.Act.TheVariants.{Post, Lock, Found, Take, Unlock, Commit, Mark, Fail, Finish, GiveUp, Withdraw, Doom, Retire, Send, Receive}
+use Rattle.group_board.specs.declared.board_journal.Journal.{Journal}
 use Rattle.group_board.specs.Tidies.{Covers, tidied}
 use Rattle.group_board.specs.Journals.{note_of, noted, finish_act, names, state}
 use Rattle.group_board.specs.Kept.{IsKept}

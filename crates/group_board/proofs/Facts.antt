@@ -22,7 +22,7 @@ use Rattle.group_laws.specs.State as laws
 use Rattle.group_laws.specs.Invariant.{Lawful, PendsAt}
 use Rattle.crash_core.specs.declared.names.Notices.{Notices}
 use Rattle.crash_core.specs.Shows.{notices_of}
-use Rattle.group_board.specs.declared.journal.Journal.{Journal}
+use Rattle.group_board.specs.declared.board_journal.Journal.{Journal}
 use Rattle.group_board.specs.Tidies.{Covers}
 use Rattle.group_board.specs.Journals.{names, state}
 use Rattle.group_board.specs.Kept.{IsKept}

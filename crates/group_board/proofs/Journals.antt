@@ -1,9 +1,9 @@
 -- What one step more in a journal makes of the state.
 use Rattle.std.proofs.Common.{◌≡◌, ℕ, List, refl, sym, ap, ◌∙◌}
 use Rattle.group_laws.specs.OpeningImages.{opened}
-use Rattle.group_board.specs.declared.journal.Act.{Act}
-use Rattle.group_board.specs.declared.journal.Note.{Note}
-use Rattle.group_board.specs.declared.journal.Journal.{Journal}
+use Rattle.group_board.specs.declared.board_journal.Act.{Act}
+use Rattle.group_board.specs.declared.board_journal.Note.{Note}
+use Rattle.group_board.specs.declared.board_journal.Journal.{Journal}
 use Rattle.group_board.specs.Journals.{image_of, place_in, begun, note_of, noted, effect, with_finished, names_in, names, state}
 
 state_noted : (n : Note) (j : Journal) → state (noted n j) ≡ effect (names (noted n j)) (state j) n.member n.act

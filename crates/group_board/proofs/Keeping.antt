@@ -12,7 +12,7 @@ use Rattle.group_laws.specs.Runs.{Kind, IsStep}
 use Rattle.group_laws.proofs.Runs.{step_keeps}
 use Rattle.crash_core.specs.declared.names.Notices.{Notices}
 use Rattle.crash_core.specs.Shows.{notices_of}
-use Rattle.group_board.specs.declared.journal.Journal.{Journal}
+use Rattle.group_board.specs.declared.board_journal.Journal.{Journal}
 use Rattle.group_board.specs.Tidies.{Covers}
 use Rattle.group_board.specs.Journals.{names, state, name_of}
 use Rattle.group_board.specs.Kept.{IsKept}

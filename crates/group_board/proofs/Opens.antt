@@ -15,7 +15,7 @@ use Rattle.group_laws.specs.OpeningImages.{opened, entries_of, is_own}
 use Rattle.group_laws.proofs.OpeningTidied as laws
 use Rattle.crash_core.specs.declared.names.Notices.{Notices}
 use Rattle.crash_core.specs.Shows.{notices_of}
-use Rattle.group_board.specs.declared.journal.Journal.{Journal}
+use Rattle.group_board.specs.declared.board_journal.Journal.{Journal}
 use Rattle.group_board.specs.Tidies.{Covers}
 use Rattle.group_board.specs.Journals.{image_of, place_in, begun, name_of, names_in, names, state}
 use Rattle.group_board.specs.Kept.{IsKept}

@@ -9,10 +9,10 @@ use Rattle.group_laws.specs.Steps.{posts, locks, finds, takes, unlocks, commits,
 use Rattle.group_laws.specs.OpeningImages.{entries_of, opened}
 use Rattle.group_laws.specs.declared.types.Seen.TheVariants.{Holder}
 use Rattle.group_board.specs.Tidies.{tidied}
-use Rattle.group_board.specs.declared.journal.Act.{Act}
-use Rattle.group_board.specs.declared.journal.Act.TheVariants.{Post, Lock, Found, Take, Unlock, Commit, Mark, Fail, Finish, GiveUp, Withdraw, Doom, Retire, Send, Receive}
-use Rattle.group_board.specs.declared.journal.Note.{Note}
-use Rattle.group_board.specs.declared.journal.Journal.{Journal}
+use Rattle.group_board.specs.declared.board_journal.Act.{Act}
+use Rattle.group_board.specs.declared.board_journal.Act.TheVariants.{Post, Lock, Found, Take, Unlock, Commit, Mark, Fail, Finish, GiveUp, Withdraw, Doom, Retire, Send, Receive}
+use Rattle.group_board.specs.declared.board_journal.Note.{Note}
+use Rattle.group_board.specs.declared.board_journal.Journal.{Journal}
 
 -- the words by number; behind the last there are zeros
 abbrev pub image_of : List ℕ → ℕ → ℕ

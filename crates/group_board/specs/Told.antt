@@ -12,7 +12,7 @@ use Rattle.crash_core.specs.declared.names.Notices.{Notices}
 use Rattle.crash_core.specs.Shows.{notices_of}
 use Rattle.group_laws.specs.MemberViews.{View, view_of}
 use Rattle.group_board.specs.Journals.{state}
-use Rattle.group_board.specs.declared.journal.Journal.{Journal}
+use Rattle.group_board.specs.declared.board_journal.Journal.{Journal}
 use Rattle.group_board.specs.declared.board.SlotState.{SlotState}
 use Rattle.group_board.specs.declared.board.SlotState.TheVariants.{Empty, Posted, Taken, Done, Failed}
 

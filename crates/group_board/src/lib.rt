@@ -3,7 +3,7 @@
 #![tactic(auto)]
 
 mod board;
-mod journal;
+mod board_journal;
 mod local_board;
 mod local_seat;
 mod notes;

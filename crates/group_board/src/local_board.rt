@@ -26,7 +26,7 @@ ghost use Rattle.group_board.specs.Assurances.{IsHome, IsHeard, IsUnlogged};
 ghost use Rattle.group_board.specs.Told.{AreSteps, Leads, state_of, stood_as};
 
 use crate::board::{Busy, MailFull, SlotState};
-use crate::journal::Journal;
+use crate::board_journal::Journal;
 use crate::notes::{Asks, Begins, Keeper, note};
 use crate::opening::Opening;
 use crate::slots::{answer_at, given_back, offered, place_of};

@@ -2,10 +2,10 @@
 // program reads it, and each step of a call writes one note, by one load.
 ghost use Rattle.std.specs.Prelude.{◌≡◌, ℕ, ◌<◌, []};
 ghost use Rattle.group_board.specs.Journals.{begun, noted, note_of};
-ghost use Rattle.group_board.specs.declared.journal.Act.TheVariants.{Unlock};
-ghost use Rattle.group_board.specs.declared.journal.Note.{Note};
+ghost use Rattle.group_board.specs.declared.board_journal.Act.TheVariants.{Unlock};
+ghost use Rattle.group_board.specs.declared.board_journal.Note.{Note};
 
-use crate::journal::Journal;
+use crate::board_journal::Journal;
 use crate::opening::Opening;
 use atomic_table::{Play, Seat, Shared, TableRule};
 use std::marker::{Brand, PhantomData};

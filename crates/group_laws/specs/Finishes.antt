@@ -7,7 +7,8 @@ use Rattle.group_laws.specs.Runs.{Kind, IsStep, Runs}
 use Rattle.group_laws.specs.Runs.Kind.{Split, Join, Post, Lock, Look, LookMail, Take, Unlock, Commit, Mark, Finish, Fail, Withdraw, Doom, Retire, Send, Receive}
 
 -- The key whose change the step finished, and the cell that its entry leaves: the value of a put, none of a delete.
-abbrev pub finished : (w : Group) (m : ℕ) (kind : Kind) (u : Group) → IsStep w m kind u → List (ℕ × Option (List ℕ))
+abbrev pub finished : (w : Group) (m : ℕ) (kind : Kind) (u : Group) → IsStep w m kind u
+    → List (ℕ × Option (List ℕ))
 finished w m Split u s = []
 finished w m Join u s = []
 finished w m (Post n e v) u s = []
@@ -28,7 +29,8 @@ finished w m (Send to n) u s = []
 finished w m (Receive from) u s = []
 
 -- what the steps of a run finished, in order
-abbrev pub finishes_in : (w : Group) (steps : List (ℕ × Kind)) (u : Group) → Runs w steps u → List (ℕ × Option (List ℕ))
+abbrev pub finishes_in : (w : Group) (steps : List (ℕ × Kind)) (u : Group) → Runs w steps u
+    → List (ℕ × Option (List ℕ))
 finishes_in w [] u r = []
 finishes_in w (x ∷ xs) u r = finished w x.0 x.1 r.0 r.1 ++ finishes_in r.0 xs u r.2
 

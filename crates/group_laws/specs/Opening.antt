@@ -12,13 +12,18 @@ use Rattle.group_laws.specs.Crashes.{Contents, IsWinner, HasNone, Leaves}
 
 -- the rules of soundness, and how the blocks of a part lie
 pub record IsSound (at : Place) (x : Contents) : Type 0 where
-  pub group : (h : ℕ) (e : Entry) → x.entries h e ≡ true → (h < members at) × (owner at e.key < members at)
+  pub group : (h : ℕ) (e : Entry) → x.entries h e ≡ true → (h < members at)
+      × (owner at e.key < members at)
   pub from_one : (h : ℕ) (e : Entry) → x.entries h e ≡ true → 0 < e.version
-  pub one_body : (h i : ℕ) (e f : Entry) → x.entries h e ≡ true → x.entries i f ≡ true → e.key ≡ f.key → e.version ≡ f.version → (h ≡ i) × (e ≡ f)
-  pub block : (k p : ℕ) (e : Entry) → IsWinner x k e → e.body ≡ Pointer p → (v : List ℕ) × (x.holds (owner at k) p ≡ Some v)
+  pub one_body : (h i : ℕ) (e f : Entry) → x.entries h e ≡ true → x.entries i f ≡ true
+      → e.key ≡ f.key → e.version ≡ f.version → (h ≡ i) × (e ≡ f)
+  pub block : (k p : ℕ) (e : Entry) → IsWinner x k e → e.body ≡ Pointer p → (v : List ℕ)
+      × (x.holds (owner at k) p ≡ Some v)
   pub lies : (m p : ℕ) (v : List ℕ) → x.holds m p ≡ Some v → LiesIn at m p (units (length v))
-  pub apart : (m p q : ℕ) (v u : List ℕ) → x.holds m p ≡ Some v → x.holds m q ≡ Some u → p ≢ q → Apart p (units (length v)) q (units (length u))
-  pub one_key : (k l p : ℕ) (e f : Entry) → IsWinner x k e → IsWinner x l f → e.body ≡ Pointer p → f.body ≡ Pointer p → k ≡ l
+  pub apart : (m p q : ℕ) (v u : List ℕ) → x.holds m p ≡ Some v → x.holds m q ≡ Some u → p ≢ q
+      → Apart p (units (length v)) q (units (length u))
+  pub one_key : (k l p : ℕ) (e f : Entry) → IsWinner x k e → IsWinner x l f → e.body ≡ Pointer p
+      → f.body ≡ Pointer p → k ≡ l
 
 -- Before the two rules: the logs as they stand, each key as its winner has it, the winners' blocks, and nothing under way.
 pub record IsFound (w : Group) (x : Contents) : Type 0 where
@@ -32,14 +37,18 @@ pub record IsFound (w : Group) (x : Contents) : Type 0 where
   pub broken : (h : ℕ) → w.broken h ≡ false
   pub holds : (h : ℕ) → w.holds h ≡ false
   pub looked : (h : ℕ) → w.looked h ≡ []
-  pub last : (k : ℕ) → (HasNone x k × (w.last k ≡ 0) × (w.cell k ≡ None)) ⊎ ((e : Entry) × IsWinner x k e × (w.last k ≡ e.version) × Leaves (x.holds (owner w.place k)) e.body (w.cell k))
+  pub last : (k : ℕ) → (HasNone x k × (w.last k ≡ 0) × (w.cell k ≡ None))
+      ⊎ ((e : Entry) × IsWinner x k e × (w.last k ≡ e.version)
+      × Leaves (x.holds (owner w.place k)) e.body (w.cell k))
   pub pending : (k : ℕ) → w.pending k ≡ None
-  pub present : (k v h : ℕ) → (w.present k v ≡ Some h) ↔ ((e : Entry) × (x.entries h e ≡ true) × (e.key ≡ k) × (e.version ≡ v))
+  pub present : (k v h : ℕ) → (w.present k v ≡ Some h) ↔ ((e : Entry) × (x.entries h e ≡ true)
+      × (e.key ≡ k) × (e.version ≡ v))
   pub told : (k v : ℕ) → w.told k v ≡ false
   pub dead : (h k v : ℕ) → w.dead h k v ≡ false
   pub doomed : (h k v : ℕ) → w.doomed h k v ≡ false
   pub leaving : (h k v : ℕ) → w.leaving h k v ≡ false
-  pub blocks : (m p : ℕ) (b : Block) → (w.blocks m p ≡ Some b) ↔ ((e : Entry) × IsWinner x b.key e × (e.body ≡ Pointer p) × (owner w.place b.key ≡ m) × (x.holds m p ≡ Some b.bytes))
+  pub blocks : (m p : ℕ) (b : Block) → (w.blocks m p ≡ Some b) ↔ ((e : Entry) × IsWinner x b.key e
+      × (e.body ≡ Pointer p) × (owner w.place b.key ≡ m) × (x.holds m p ≡ Some b.bytes))
   pub posted : (h : ℕ) → w.posted h ≡ []
   pub took : (h : ℕ) → w.took h ≡ []
 

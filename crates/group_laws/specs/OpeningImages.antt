@@ -43,15 +43,19 @@ cell_of p image k = if is_own p k then images.recovered p.layout image k else No
 
 -- the member in whose log the entry of this key and version stands
 abbrev pub home_of : Place → (ℕ → ℕ) → ℕ → ℕ → Option ℕ
-home_of p image k v = if is_own p k then option_map (λ x. x.core - p.group * p.layout.group) (find (λ x. x.entry.key == k && x.entry.version == v) (entries_of p image)) else None
+home_of p image k v = if is_own p k then option_map (λ x. x.core - p.group * p.layout.group)
+    (find (λ x. x.entry.key == k && x.entry.version == v) (entries_of p image)) else None
 
 -- the key of member m whose winner points to a block
 abbrev pub pointing : Place → (ℕ → ℕ) → ℕ → ℕ → Option ℕ
-pointing p image m q = find (λ k. owner p k == m && points_to q (winner p.layout image k)) (keys_of (entries_of p image))
+pointing p image m q = find (λ k. owner p k == m && points_to q (winner p.layout image k))
+    (keys_of (entries_of p image))
 
 -- what m's block must hold, and for which key
 abbrev pub block_at : Place → (ℕ → ℕ) → ℕ → ℕ → Option Block
-block_at p image m q = if nat_lt m (members p) then option_and_then (λ k. option_map (λ v. record { key = k; bytes = v }) (block_of p image m q)) (pointing p image m q) else None
+block_at p image m q = if nat_lt m (members p) then option_and_then
+    (λ k. option_map (λ v. record { key = k; bytes = v }) (block_of p image m q))
+    (pointing p image m q) else None
 
 -- Before the two rules: the logs as they stand, each key as its winner has it, the winners' blocks, and nothing under way.
 abbrev pub found : Place → (ℕ → ℕ) → Group
@@ -83,11 +87,13 @@ found p image =
 
 -- each entry of the key has this version
 abbrev pub alone : Place → (ℕ → ℕ) → ℕ → ℕ → Bool
-alone p image k v = list_all (λ x. not (x.entry.key == k) || x.entry.version == v) (entries_of p image)
+alone p image k v = list_all (λ x. not (x.entry.key == k) || x.entry.version == v)
+    (entries_of p image)
 
 -- The name is dead: its key has a newer entry, or it is a tombstone that stands alone.
 abbrev pub is_dead : Place → (ℕ → ℕ) → ℕ → ℕ → Bool
-is_dead p image k v = nat_lt v (last_of p image k) || (v == last_of p image k && (is_none (cell_of p image k) && alone p image k v))
+is_dead p image k v = nat_lt v (last_of p image k)
+    || (v == last_of p image k && (is_none (cell_of p image k) && alone p image k v))
 
 -- the name stands in this member's log
 abbrev pub is_at : ℕ → Option ℕ → Bool
@@ -100,8 +106,13 @@ is_own_dead p image k v = is_at (owner p k) (home_of p image k v) && is_dead p i
 
 -- The opened state: what was found, after the two rules. No key is forgotten, since each that has a record has an entry.
 abbrev pub opened : Place → (ℕ → ℕ) → Group
-opened p image = record (found p image) { told = is_own_dead p image; dead = λ h k v. h == owner p k && is_own_dead p image k v }
+opened p image = record (found p image) {
+  told = is_own_dead p image;
+  dead = λ h k v. h == owner p k
+      && is_own_dead p image k v;
+}
 
 -- each chunk is free
 abbrev pub IsBlank : Geometry → (ℕ → ℕ) → Type 0
-IsBlank l image = (c j : ℕ) → c < l.cores → j < l.chunks → head_at l image (chunk_first l c j) ≡ Ok Free
+IsBlank l image = (c j : ℕ) → c < l.cores → j < l.chunks → head_at l image (chunk_first l c j)
+    ≡ Ok Free

@@ -1,5 +1,6 @@
 -- Where a group stands in a region: which cores it has, whose a key is, and where blocks lie.
 use Rattle.std.specs.Prelude.{ℕ, ◌+◌, ◌*◌, ◌/◌, ◌%◌, ◌^◌, ◌<◌, ◌≤◌, ◌==◌, nat_le, find, unwrap_or, if◌then◌else◌, ◌⊎◌}
+use Rattle.chunk_map.specs.declared.layout_sizes.TheConstants.{FIRST_UNIT, GREATEST_CLASS, LONGEST_VALUE, SHORTEST_IN_BLOCK, UNIT_BYTES}
 use Rattle.chunk_map.specs.declared.layouts.Geometry.{Geometry}
 use Rattle.chunk_map.specs.Layouts.{IsLayout, numbers, is_of_group}
 use Rattle.chunk_map.specs.Layouts as layouts
@@ -24,15 +25,16 @@ core_of p m = p.group * p.layout.group + m
 
 -- The member that owns a key. Where another group has the key, it is a number that no member has.
 unfoldable pub owner : Place → ℕ → ℕ
-owner p k = if layouts.owner p.layout k / p.layout.group == p.group then layouts.owner p.layout k % p.layout.group else p.layout.group
+owner p k = if layouts.owner p.layout k / p.layout.group == p.group then layouts.owner p.layout k %
+    p.layout.group else p.layout.group
 
--- The first unit of a member's part, and of the number of members the one behind the last part. A unit has 256 bytes, and pointers count units from the region's start.
+-- The first unit of a member's part, and of the number of members the one behind the last part. Pointers count units from the region's start.
 unfoldable pub first_unit : Place → ℕ → ℕ
-first_unit p m = 16 + (p.group * p.layout.group + m) * (p.layout.chunks * chunk_units p.layout)
+first_unit p m = FIRST_UNIT + (p.group * p.layout.group + m) * (p.layout.chunks * chunk_units p.layout)
 
 -- the units of a value's block: those of the least class that has room for the length word and the bytes
 unfoldable pub units : ℕ → ℕ
-units n = 2 ^ unwrap_or (find (λ class. nat_le (n + 8) (256 * 2 ^ class)) (numbers 1 12)) 13
+units n = 2 ^ unwrap_or (find (λ class. nat_le (n + 8) (UNIT_BYTES * 2 ^ class)) (numbers 1 GREATEST_CLASS)) 13
 
 -- a run of units lies in a member's part
 abbrev pub LiesIn : Place → ℕ → ℕ → ℕ → Type 0
@@ -44,4 +46,4 @@ Apart p a q b = (p + a ≤ q) ⊎ (q + b ≤ p)
 
 -- a value of this length has a block of its own
 abbrev pub GetsBlock : ℕ → Type 0
-GetsBlock n = (256 ≤ n) × (n ≤ 1048568)
+GetsBlock n = (SHORTEST_IN_BLOCK ≤ n) × (n ≤ LONGEST_VALUE)

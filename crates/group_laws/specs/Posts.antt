@@ -35,6 +35,8 @@ has_key k [] = false
 has_key k (f ∷ fs) = eqb k f.0 || has_key k fs
 
 -- The cell of a key after a run: each finish of the key leaves what its last post before it offered, and no other step changes the cell.
-abbrev pub settled : ℕ → (w : Group) (steps : List (ℕ × Kind)) (u : Group) → Runs w steps u → Option (List ℕ) → Option (List ℕ) → Option (List ℕ)
+abbrev pub settled : ℕ → (w : Group) (steps : List (ℕ × Kind)) (u : Group) → Runs w steps u
+    → Option (List ℕ) → Option (List ℕ) → Option (List ℕ)
 settled k w [] u r offer cell = cell
-settled k w (x ∷ xs) u r offer cell = settled k r.0 xs u r.2 (offered k x.1 offer) (cond (has_key k (finished w x.0 x.1 r.0 r.1)) offer cell)
+settled k w (x ∷ xs) u r offer cell = settled k r.0 xs u r.2 (offered k x.1 offer)
+    (cond (has_key k (finished w x.0 x.1 r.0 r.1)) offer cell)

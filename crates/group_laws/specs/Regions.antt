@@ -25,4 +25,5 @@ pub record AreSafe (l : Geometry) (w : ℕ → Group) (image : ℕ → ℕ) : Ty
 
 -- the image recovers the key's cell as its group has it, or as the key's pending change leaves it
 abbrev pub ShowsCell : Geometry → (ℕ → Group) → (ℕ → ℕ) → ℕ → Type 0
-ShowsCell l w image k = (recovered l image k ≡ (w (key_group l k)).cell k) ⊎ IsNext (w (key_group l k)) k (recovered l image k)
+ShowsCell l w image k = (recovered l image k ≡ (w (key_group l k)).cell k)
+    ⊎ IsNext (w (key_group l k)) k (recovered l image k)

@@ -31,7 +31,9 @@ with_block k value Tombstone old = old
 
 -- the units of the value's block lie in m's part and are no other block's
 abbrev pub IsClear : Group → ℕ → ℕ → List ℕ → Type 0
-IsClear w m p value = LiesIn w.place m p (units (length value)) × ((q : ℕ) (b : Block) → w.blocks m q ≡ Some b → Apart p (units (length value)) q (units (length b.bytes)))
+IsClear w m p value = LiesIn w.place m p (units (length value))
+    × ((q : ℕ) (b : Block) → w.blocks m q ≡ Some b
+    → Apart p (units (length value)) q (units (length b.bytes)))
 
 -- Post: m offers an entry of one of its keys in an empty slot of its own. The value is what the entry's block holds, where it points to one.
 pub record CanPost (w : Group) (m s : ℕ) (e : Entry) (value : List ℕ) : Type 0 where
@@ -220,7 +222,10 @@ pub record CanDoom (w : Group) (m : ℕ) (ns : List EntryName) : Type 0 where
   pub dead : (k v : ℕ) → has ns k v ≡ true → w.dead m k v ≡ true
 
 abbrev pub dooms : Group → ℕ → List EntryName → Group
-dooms w m ns = record w { doomed = λ h k v. cond (eqb h m && has ns k v) true (w.doomed h k v); looked = put w.looked m [] }
+dooms w m ns = record w {
+  doomed = λ h k v. cond (eqb h m && has ns k v) true (w.doomed h k v);
+  looked = put w.looked m [];
+}
 
 -- Retire: these doomed entries have vanished. The two rules follow.
 pub record CanRetire (w : Group) (m : ℕ) (ns : List EntryName) : Type 0 where
@@ -235,7 +240,8 @@ retires w m ns =
       doomed = λ h k v. cond (eqb h m && has ns k v) false (w.doomed h k v);
       present = λ k v. cond (eqb (owner w.place k) m && has ns k v) None (w.present k v);
       told = λ k v. cond (eqb (owner w.place k) m && has ns k v) false (w.told k v);
-      leaving = λ h k v. cond (eqb h m && (not (eqb (owner w.place k) m) && has ns k v)) true (w.leaving h k v);
+      leaving = λ h k v. cond (eqb h m && (not (eqb (owner w.place k) m) && has ns k v)) true
+          (w.leaving h k v);
       looked = put w.looked m [];
     }
 
@@ -245,7 +251,8 @@ pub record CanSend (w : Group) (m to : ℕ) (n : Notices) : Type 0 where
   pub receiver : IsMember w to
   pub other : to ≢ m
   pub seen : In (SeenMail m to false) (w.looked m)
-  pub dead : (k v : ℕ) → has n.dead k v ≡ true → (owner w.place k ≡ m) × IsDead w k v × (w.present k v ≡ Some to) × (w.told k v ≡ false)
+  pub dead : (k v : ℕ) → has n.dead k v ≡ true → (owner w.place k ≡ m) × IsDead w k v
+      × (w.present k v ≡ Some to) × (w.told k v ≡ false)
   pub gone : (k v : ℕ) → has n.gone k v ≡ true → (w.leaving m k v ≡ true) × (owner w.place k ≡ to)
 
 abbrev pub sends : Group → ℕ → ℕ → Notices → Group

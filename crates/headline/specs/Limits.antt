@@ -4,6 +4,7 @@ use Rattle.std.specs.List.{AllByRecursion}
 use Rattle.fs_model.specs.declared.model.Request.{Request}
 use Rattle.fs_model.specs.declared.model.Request.TheVariants.{Put, Get, Delete}
 use Rattle.fs_model.specs.Cells.{key_of}
+use Rattle.log_entry.specs.declared.entry_limits.TheConstants.{LAST_PUT_VERSION}
 use Rattle.chunk_map.specs.declared.layouts.Geometry.{Geometry}
 use Rattle.chunk_map.specs.Layouts.{layout_of}
 use Rattle.store_image.specs.declared.types.PlacedEntry.{PlacedEntry}
@@ -33,7 +34,8 @@ changes_asked k trace = count_by (may_change k) trace
 
 -- the versions are not used up before any put
 abbrev pub HasVersions : (ℕ → ℕ) → List Request → Type 0
-HasVersions image trace = (front rest : List Request) (k : ℕ) (v : List ℕ) → trace ≡ front ++ Put k v ∷ rest → version_of image k + changes_asked k front < 1048574
+HasVersions image trace = (front rest : List Request) (k : ℕ) (v : List ℕ)
+    → trace ≡ front ++ Put k v ∷ rest → version_of image k + changes_asked k front < LAST_PUT_VERSION
 
 abbrev pub is_too_long : Geometry → Request → Bool
 is_too_long l (Put k v) = nat_lt (l.chunk_bytes / 4 - 8) (length v)

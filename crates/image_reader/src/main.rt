@@ -2,15 +2,15 @@
 //! region from standard input and writes its live pairs, or the first rule of soundness that it breaks.
 #![tactic(auto)]
 
-mod bytes;
 mod ending;
-mod image;
-mod reading;
-mod rules;
+mod image_bytes;
+mod image_reading;
+mod region_reading;
+mod rule_texts;
 
 use ending::Ending;
 use fs_text::{StdSink, StdSource};
-use reading::read_region;
+use region_reading::read_region;
 use std::alloc::Global;
 use std::io;
 use std::process::ExitCode;

@@ -4,7 +4,8 @@ use Rattle.std.specs.Prelude.{◌≡◌, ℕ, ◌+◌, ◌<◌, ◌≤◌, List,
 -- the least number from one on that is in, or none
 abbrev pub LeastFrom : (ℕ → Bool) → ℕ → Option ℕ → Type 0
 LeastFrom has from None = (k : ℕ) → from ≤ k → has k ≡ false
-LeastFrom has from (Some k) = (from ≤ k) × (has k ≡ true) × ((i : ℕ) → from ≤ i → i < k → has i ≡ false)
+LeastFrom has from (Some k) = (from ≤ k) × (has k ≡ true)
+    × ((i : ℕ) → from ≤ i → i < k → has i ≡ false)
 
 abbrev pub link_at : List (Option ℕ) → ℕ → Option ℕ
 link_at links i = slice_index_or links i None

@@ -36,15 +36,25 @@ unfoldable pub is_marked : Geometry → List ℕ → ℕ → Option ℕ → Bool
 is_marked l bits p o = option_map_or (λ c. has_bit bits (bit_of l p c)) o false
 
 unfoldable pub chunks_of : ℕ → ℕ → ℕ → List (Option ℕ) → List Chunk
-chunks_of n free due classes = map (λ j. record { is_free = has free j; class = class_in classes j; is_due = has due j }) (numbers 0 n)
+chunks_of n free due classes = map
+    (λ j. record { is_free = has free j; class = class_in classes j; is_due = has due j })
+    (numbers 0 n)
 
 unfoldable pub used_of : Geometry → ℕ → List (Option ℕ) → List ℕ → List Bool
-used_of l part classes bits = map (λ p. is_marked l bits p (class_of_block l part classes p)) (numbers (16 + part * l.chunks * chunk_units l) (l.chunks * chunk_units l))
+used_of l part classes bits = map (λ p. is_marked l bits p (class_of_block l part classes p))
+    (numbers (16 + part * l.chunks * chunk_units l) (l.chunks * chunk_units l))
 
 abbrev pub sets_of : Geometry → ℕ → ℕ → ℕ → List (Option ℕ) → List ℕ → Sets
-sets_of l part free due classes bits = record { layout = l; part = part; chunks = chunks_of l.chunks free due classes; used = used_of l part classes bits }
+sets_of l part free due classes bits = record {
+  layout = l;
+  part = part;
+  chunks = chunks_of l.chunks
+      free due classes;
+  used = used_of l part classes bits;
+}
 
-pub record IsForm (l : Geometry) (part free due : ℕ) (classes : List (Option ℕ)) (bits : List ℕ) : Type 0 where
+pub record IsForm (l : Geometry) (part free due : ℕ) (classes : List (Option ℕ)) (bits : List ℕ) :
+    Type 0 where
   pub layout : IsLayout l
   pub part_in : part < l.cores
   pub many : length classes ≡ l.chunks
@@ -52,21 +62,26 @@ pub record IsForm (l : Geometry) (part free due : ℕ) (classes : List (Option �
   pub free_in : (j : ℕ) → has free j ≡ true → (j < l.chunks) × (class_in classes j ≡ None)
   pub due_in : (j : ℕ) → has due j ≡ true → is_none (class_in classes j) ≡ false
   pub cut_in : (j c : ℕ) → class_in classes j ≡ Some c → is_class l c ≡ true
-  pub blank : (j : ℕ) → class_in classes j ≡ None → (i : ℕ) → 64 * (j * room_words l) ≤ i → i < 64 * ((j + 1) * room_words l) → has_bit bits i ≡ false
+  pub blank : (j : ℕ) → class_in classes j ≡ None → (i : ℕ) → 64 * (j * room_words l) ≤ i
+      → i < 64 * ((j + 1) * room_words l) → has_bit bits i ≡ false
 
 -- all blocks of a chunk are allocated, if they are of this class
 unfoldable pub is_full : Geometry → List ℕ → ℕ → ℕ → Bool
-is_full l bits j c = list_all (λ b. has_bit bits (64 * (j * room_words l) + b)) (numbers 0 (blocks_in l c))
+is_full l bits j c = list_all (λ b. has_bit bits (64 * (j * room_words l) + b))
+    (numbers 0 (blocks_in l c))
 
 -- a chunk is cut into blocks of this class, and one of them is free
 unfoldable pub is_open : Geometry → List (Option ℕ) → List ℕ → ℕ → ℕ → Bool
-is_open l classes bits c j = option_map_or (λ k. k == c) (class_in classes j) false && not (is_full l bits j c)
+is_open l classes bits c j = option_map_or (λ k. k == c) (class_in classes j) false
+    && not (is_full l bits j c)
 
 -- Beside them it keeps how many blocks of each class are free, and for each class the chain of its chunks that have a free block.
-pub record IsKept (l : Geometry) (part free due : ℕ) (classes : List (Option ℕ)) (bits counts : List ℕ) (firsts nexts : List (Option ℕ)) : Type 0 where
+pub record IsKept (l : Geometry) (part free due : ℕ) (classes : List (Option ℕ))
+    (bits counts : List ℕ) (firsts nexts : List (Option ℕ)) : Type 0 where
   pub form : IsForm l part free due classes bits
   pub counts_many : length counts ≡ 13
-  pub counted : (c : ℕ) → c ≤ 12 → slice_index counts c ≡ free_block_count (sets_of l part free due classes bits) c
+  pub counted : (c : ℕ) → c ≤ 12 → slice_index counts c ≡ free_block_count
+      (sets_of l part free due classes bits) c
   pub firsts_many : length firsts ≡ 13
   pub nexts_many : length nexts ≡ l.chunks
   pub linked : IsLinked firsts nexts (is_open l classes bits)

@@ -33,7 +33,8 @@ part_unit a = 16 + a.part * a.layout.chunks * chunk_units a.layout
 
 -- whether the block with this pointer is allocated
 abbrev pub block_is_used : Sets → ℕ → Bool
-block_is_used a p = nat_le (part_unit a) p && option_map_or (λ u. u) (slice_get a.used (p - part_unit a)) false
+block_is_used a p = nat_le (part_unit a) p && option_map_or (λ u. u)
+    (slice_get a.used (p - part_unit a)) false
 
 abbrev pub start_in : Geometry → ℕ → ℕ → Option ℕ
 start_in l u class = if is_start l class u then Some class else None
@@ -42,10 +43,12 @@ start_in l u class = if is_start l class u then Some class else None
 abbrev pub class_at : Sets → ℕ → Option ℕ
 class_at a p =
     if nat_le 16 p && chunk_at a.layout p / a.layout.chunks == a.part
-    then option_and_then (start_in a.layout (unit_at a.layout p)) (chunk_class a (chunk_at a.layout p % a.layout.chunks)) else None
+    then option_and_then (start_in a.layout (unit_at a.layout p))
+    (chunk_class a (chunk_at a.layout p % a.layout.chunks)) else None
 
 abbrev pub is_free_block : Sets → ℕ → ℕ → Bool
-is_free_block a class p = option_map_or (λ c. c == class) (class_at a p) false && not (block_is_used a p)
+is_free_block a class p = option_map_or (λ c. c == class) (class_at a p) false
+    && not (block_is_used a p)
 
 -- how many chunks are free, and how many blocks of a class
 abbrev pub free_chunk_count : Sets → ℕ
@@ -53,7 +56,8 @@ free_chunk_count a = count_by (chunk_is_free a) (numbers 0 a.layout.chunks)
 
 abbrev pub free_block_count : Sets → ℕ → ℕ
 free_block_count a class =
-    count_by (is_free_block a class) (numbers (part_unit a) (a.layout.chunks * chunk_units a.layout))
+    count_by (is_free_block a class)
+    (numbers (part_unit a) (a.layout.chunks * chunk_units a.layout))
 
 -- the pointer of a chunk's first block
 abbrev pub first_block : Sets → ℕ → ℕ
@@ -66,8 +70,10 @@ chunk_of a p = chunk_at a.layout p % a.layout.chunks
 -- What is true of every allocator: its chunks are of the part, none is both free and cut, each class is one of the layout's, and what is allocated is a block.
 pub record AreSets (a : Sets) : Type 0 where
   pub part_is : a.part < a.layout.cores
-  pub free_in : (j : ℕ) → chunk_is_free a j ≡ true → (j < a.layout.chunks) × (chunk_class a j ≡ None)
-  pub cut_in : (j c : ℕ) → chunk_class a j ≡ Some c → (j < a.layout.chunks) × (is_class a.layout c ≡ true)
+  pub free_in : (j : ℕ) → chunk_is_free a j ≡ true → (j < a.layout.chunks)
+      × (chunk_class a j ≡ None)
+  pub cut_in : (j c : ℕ) → chunk_class a j ≡ Some c → (j < a.layout.chunks)
+      × (is_class a.layout c ≡ true)
   pub due_in : (j : ℕ) → chunk_is_due a j ≡ true → is_none (chunk_class a j) ≡ false
   pub used_in : (p : ℕ) → block_is_used a p ≡ true → is_none (class_at a p) ≡ false
 
@@ -121,8 +127,10 @@ pub record Cuts (old new : Sets) (class j p : ℕ) : Type 0 where
 -- what a take gives
 abbrev pub Takes : Sets → Sets → ℕ → Bool → Option ℕ → Type 0
 Takes old new class may_cut None =
-    ((q : ℕ) → is_free_block old class q ≡ false) × ((may_cut ≡ false) ⊎ ((j : ℕ) → chunk_is_free old j ≡ false)) × (new ≡ old)
-Takes old new class may_cut (Some p) = TakesBlock old new class p ⊎ ((may_cut ≡ true) × (j : ℕ) × Cuts old new class j p)
+    ((q : ℕ) → is_free_block old class q ≡ false)
+    × ((may_cut ≡ false) ⊎ ((j : ℕ) → chunk_is_free old j ≡ false)) × (new ≡ old)
+Takes old new class may_cut (Some p) = TakesBlock old new class p
+    ⊎ ((may_cut ≡ true) × (j : ℕ) × Cuts old new class j p)
 
 -- The lowest free chunk was taken for a log.
 pub record TakesChunk (old new : Sets) (j : ℕ) : Type 0 where
@@ -157,5 +165,7 @@ pub record PutsBack (old new : Sets) (p : ℕ) : Type 0 where
   pub chunks : SameChunks old new
   pub used : Releases old new p
   pub chunk_count : free_chunk_count new ≡ free_chunk_count old
-  pub count : (c : ℕ) → class_at old p ≡ Some c → free_block_count new c ≡ free_block_count old c + 1
-  pub others : (c : ℕ) → (class_at old p ≡ Some c → ⊥) → free_block_count new c ≡ free_block_count old c
+  pub count : (c : ℕ) → class_at old p ≡ Some c → free_block_count new c ≡ free_block_count old c
+      + 1
+  pub others : (c : ℕ) → (class_at old p ≡ Some c → ⊥) → free_block_count new c ≡ free_block_count
+      old c

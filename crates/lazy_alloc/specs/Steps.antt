@@ -15,16 +15,19 @@ pub record CutsChunk (old new : Sets) (j class : ℕ) (is_due : Bool) : Type 0 w
 -- the block of a chunk with the lowest pointer among those of a class that are free, or none
 abbrev pub LowestIn : Sets → ℕ → ℕ → Option ℕ → Type 0
 LowestIn a class j None = (q : ℕ) → chunk_of a q ≡ j → is_free_block a class q ≡ false
-LowestIn a class j (Some p) = (is_free_block a class p ≡ true) × (chunk_of a p ≡ j) × ((q : ℕ) → q < p → chunk_of a q ≡ j → is_free_block a class q ≡ false)
+LowestIn a class j (Some p) = (is_free_block a class p ≡ true) × (chunk_of a p ≡ j)
+    × ((q : ℕ) → q < p → chunk_of a q ≡ j → is_free_block a class q ≡ false)
 
 -- the same of the whole part
 abbrev pub LowestBlock : Sets → ℕ → Option ℕ → Type 0
 LowestBlock a class None = (q : ℕ) → is_free_block a class q ≡ false
-LowestBlock a class (Some p) = (is_free_block a class p ≡ true) × ((q : ℕ) → q < p → is_free_block a class q ≡ false)
+LowestBlock a class (Some p) = (is_free_block a class p ≡ true)
+    × ((q : ℕ) → q < p → is_free_block a class q ≡ false)
 
 -- Where a block of the part begins at the pointer it is allocated.
 abbrev pub UsesBlock : Sets → Sets → ℕ → Type 0
-UsesBlock old new p = (q : ℕ) → block_is_used new q ≡ ((q == p && not (is_none (class_at old p))) || block_is_used old q)
+UsesBlock old new p = (q : ℕ) → block_is_used new q ≡ ((q == p && not (is_none (class_at old p)))
+    || block_is_used old q)
 
 -- The head of the chunk in which a pointer lies is written.
 pub record WritesHead (old new : Sets) (p : ℕ) : Type 0 where

@@ -22,16 +22,20 @@ head_of a p = chunk_first a.layout a.part (chunk_of a p)
 -- a chunk that is due is certainly Free, and another one that is cut is certainly Data of its class
 pub record HasHead (s : State) (a : Sets) (p class : ℕ) : Type 0 where
   pub due : chunk_is_due a (chunk_of a p) ≡ true → IsTelling s → Surely (cell_now s (head_of a p)) 0
-  pub written : chunk_is_due a (chunk_of a p) ≡ false → IsTelling s → Surely (cell_now s (head_of a p)) (2 + 256 * class)
+  pub written : chunk_is_due a (chunk_of a p) ≡ false → IsTelling s
+      → Surely (cell_now s (head_of a p)) (2 + 256 * class)
 
 -- The head of the block's chunk is that of the class; or it is Free, where it is due.
 abbrev pub HeadTurnsTo : Sets → ℕ → ℕ → (ℕ → ℕ) → Type 0
-HeadTurnsTo a p class image = (head_at a.layout image (head_of a p) ≡ Ok (Data class)) ⊎ ((chunk_is_due a (chunk_of a p) ≡ true) × (head_at a.layout image (head_of a p) ≡ Ok Free))
+HeadTurnsTo a p class image = (head_at a.layout image (head_of a p) ≡ Ok (Data class))
+    ⊎ ((chunk_is_due a (chunk_of a p) ≡ true) × (head_at a.layout image (head_of a p) ≡ Ok Free))
 
 -- No word outside the block is stored or flushed, but for the head's first line where the head is due.
 pub record KeepsOthers (a : Sets) (p class : ℕ) (old new : ℕ → Cell) : Type 0 where
-  pub outside : (w : ℕ) → (w < 32 * p) ⊎ (32 * p + 32 * 2 ^ class ≤ w) → (w < head_of a p) ⊎ (head_of a p + 8 ≤ w) → Kept (old w) (new w)
-  pub head : chunk_is_due a (chunk_of a p) ≡ false → (w : ℕ) → (w < 32 * p) ⊎ (32 * p + 32 * 2 ^ class ≤ w) → Kept (old w) (new w)
+  pub outside : (w : ℕ) → (w < 32 * p) ⊎ (32 * p + 32 * 2 ^ class ≤ w) → (w < head_of a p)
+      ⊎ (head_of a p + 8 ≤ w) → Kept (old w) (new w)
+  pub head : chunk_is_due a (chunk_of a p) ≡ false → (w : ℕ) → (w < 32 * p)
+      ⊎ (32 * p + 32 * 2 ^ class ≤ w) → Kept (old w) (new w)
 
 -- the image's block has the length and the bytes of the value
 abbrev pub HoldsValue : ℕ → List ℕ → (ℕ → ℕ) → Type 0
@@ -47,7 +51,8 @@ block_lines value = (1 + words_for (length value) + 7) / 8
 -- The value is certain, and its chunk is certainly Data.
 pub record WroteValue (s : State) (old new : Sets) (p class : ℕ) (value : List ℕ) : Type 0 where
   pub head : IsTelling s → Surely (cell_now s (head_of old p)) (2 + 256 * class)
-  pub holds : IsTelling s → EachIn (32 * p) (32 * p + 32 * 2 ^ class) (HoldsValue p value) (cell_now s)
+  pub holds : IsTelling s → EachIn (32 * p) (32 * p + 32 * 2 ^ class) (HoldsValue p value)
+      (cell_now s)
   pub layout_is : new.layout ≡ old.layout
   pub part_is : new.part ≡ old.part
   pub free : (i : ℕ) → chunk_is_free new i ≡ chunk_is_free old i

@@ -13,13 +13,16 @@ ghost use Rattle.lazy_alloc.specs.Heads.{is_free, class_in, is_free_there, class
 ghost use Rattle.lazy_alloc.specs.Written.{PartLies, HasHead, KeepsOthers, WroteValue, head_of, HeadTurnsTo};
 
 use crate::bits::{clear, first_unset, has, is_set, lowest, set, with, with_if, without};
-use crate::chains::{Chains, no_links};
-use crate::counts::{add_to, count_of, take_from};
-use crate::places::{
+use crate::block_places::{
     bit_of, block_at, blocks_in, chunk_in, first_block, is_full, is_in_part, is_start, room, units,
 };
+use crate::class_chains::{Chains, no_links};
+use crate::counts::{add_to, count_of, take_from};
 use crate::values::value_in;
 use crate::written::write_block;
+use chunk_map::layout_sizes::{
+    CLASS_FACTOR, FIRST_UNIT, GREATEST_CLASS, LEAST_CHUNKS, MOST_CHUNKS, UNIT_LINES, UNIT_WORDS,
+};
 use chunk_map::{Head, Layout, set_head};
 use fs_errors::Memory;
 use fs_model::Value;
@@ -60,7 +63,7 @@ impl Model for Allocator {
 }
 
 // One more than the greatest class.
-const CLASSES: usize = 13;
+const CLASSES: usize = GREATEST_CLASS as usize + 1;
 
 fn no_bits(alloc: Global, words: usize) -> Result<Vec<u64>, Memory>
     ensures { IfOk result (λ v. v.items ≡ replicate words 0) }
@@ -69,7 +72,7 @@ fn no_bits(alloc: Global, words: usize) -> Result<Vec<u64>, Memory>
 }
 
 fn no_counts(alloc: Global) -> Result<Vec<u32>, Memory>
-    ensures { IfOk result (λ v. v.items ≡ replicate 13 0) }
+    ensures { IfOk result (λ v. v.items ≡ replicate CLASSES 0) }
 {
     Ok(vec![in alloc; 0; CLASSES]?)
 }
@@ -90,10 +93,14 @@ impl Allocator {
         ensures sets { IfOk result (λ a. AreSets a) }
         ensures layout { IfOk result (λ a. a.layout ≡ layout) }
         ensures part { IfOk result (λ a. a.part ≡ part) }
-        ensures free { IfOk result (λ a. (j : ℕ) → chunk_is_free a j ≡ is_free_there (slice_get heads.now j)) }
-        ensures class { IfOk result (λ a. (j : ℕ) → chunk_class a j ≡ class_there (slice_get heads.now j)) }
+        ensures free { IfOk result (λ a. (j : ℕ)
+            → chunk_is_free a j ≡ is_free_there (slice_get heads.now j)) }
+        ensures class { IfOk result (λ a. (j : ℕ)
+            → chunk_class a j ≡ class_there (slice_get heads.now j)) }
         ensures due { IfOk result (λ a. (j : ℕ) → chunk_is_due a j ≡ false) }
-        ensures used { IfOk result (λ a. (p : ℕ) → block_is_used a p ≡ (list_any (λ q. q == p) used.now && not (is_none (class_at a p)))) }
+        ensures used { IfOk result (λ a. (p : ℕ)
+            → block_is_used a p ≡ (list_any (λ q. q == p) used.now
+            && not (is_none (class_at a p)))) }
     {
         let mut allocator = Allocator::uncut(alloc, layout, part)?;
         for (chunk, head) in heads.iter().enumerate() {
@@ -232,8 +239,10 @@ impl Allocator {
         ensures sets { AreSets self.new }
         ensures layout { self.new.layout ≡ self.old.layout }
         ensures part { self.new.part ≡ self.old.part }
-        ensures free { (i : ℕ) → chunk_is_free self.new i ≡ (if i == chunk then is_free (Ok head) else chunk_is_free self.old i) }
-        ensures class { (i : ℕ) → chunk_class self.new i ≡ (if i == chunk then class_in (Ok head) else chunk_class self.old i) }
+        ensures free { (i : ℕ) → chunk_is_free self.new i
+            ≡ (if i == chunk then is_free (Ok head) else chunk_is_free self.old i) }
+        ensures class { (i : ℕ) → chunk_class self.new i ≡ (if i == chunk then class_in (Ok head)
+            else chunk_class self.old i) }
         ensures due { (i : ℕ) → chunk_is_due self.new i ≡ chunk_is_due self.old i }
         ensures used { SameBlocks self.old self.new }
     {
@@ -247,8 +256,8 @@ impl Allocator {
     // How many chunks the part has.
     fn chunks(&self) -> u32
         ensures value { result ≡ self.now.layout.chunks }
-        ensures low { 4 ≤ result }
-        ensures high { result ≤ 64 }
+        ensures low { LEAST_CHUNKS ≤ result }
+        ensures high { result ≤ MOST_CHUNKS }
     {
         self.layout.geometry().chunks
     }
@@ -263,8 +272,8 @@ impl Allocator {
     // The class of the block that begins at a pointer.
     fn class_at(&self, pointer: u64) -> Option<u32>
         ensures class { result ≡ class_at self.now pointer }
-        ensures small { IfSome result (λ c. (1 ≤ c) × (c ≤ 12)) }
-        ensures low { IfSome result (λ c. (16 ≤ pointer) × (1 ≤ unit_at self.now.layout pointer)) }
+        ensures small { IfSome result (λ c. (1 ≤ c) × (c ≤ GREATEST_CLASS)) }
+        ensures low { IfSome result (λ c. (FIRST_UNIT ≤ pointer) × (1 ≤ unit_at self.now.layout pointer)) }
         ensures rules { IsLayout self.now.layout }
         ensures sets { AreSets self.now }
     {
@@ -360,26 +369,35 @@ impl Allocator {
         value: &[u8],
     ) -> Result<(), RegionFault>
         requires used { block_is_used self.old pointer ≡ true }
-        requires class { (class : ℕ) → class_at self.old pointer ≡ Some class → (has_class (length value.now) class ≡ true) × HasHead (R.state region.old) self.old pointer class }
+        requires class { (class : ℕ) → class_at self.old pointer ≡ Some class
+            → (has_class (length value.now) class ≡ true)
+            × HasHead (R.state region.old) self.old pointer class }
         requires lies { PartLies (R.state region.old).frame self.old }
         // At every moment no other word is written, and the head is what it was or that of the class.
-        ensures outside { (class : ℕ) → class_at self.old pointer ≡ Some class → During (R.state region.old) (R.state region.new) (KeepsOthers self.old pointer class (cell_now (R.state region.old))) }
-        ensures head { (class : ℕ) → class_at self.old pointer ≡ Some class → During (R.state region.old) (R.state region.new) (EachIn (head_of self.old pointer) (head_of self.old pointer + 2) (HeadTurnsTo self.old pointer class)) }
+        ensures outside { (class : ℕ) → class_at self.old pointer ≡ Some class
+            → During (R.state region.old) (R.state region.new)
+            (KeepsOthers self.old pointer class (cell_now (R.state region.old))) }
+        ensures head { (class : ℕ) → class_at self.old pointer ≡ Some class
+            → During (R.state region.old) (R.state region.new)
+            (EachIn (head_of self.old pointer) (head_of self.old pointer + 2)
+            (HeadTurnsTo self.old pointer class)) }
         ensures sets { AreSets self.new }
-        ensures ok { OnOk result ((class : ℕ) → class_at self.old pointer ≡ Some class → WroteValue (R.state region.new) self.old self.new pointer class value.now) }
+        ensures ok { OnOk result ((class : ℕ) → class_at self.old pointer ≡ Some class
+            → WroteValue (R.state region.new) self.old self.new pointer class value.now) }
         ensures err { OnErr result (self.new ≡ self.old) }
-        ensures cause { OnErr result (Rose (R.state region.old).faults (R.state region.new).faults) }
+        ensures cause { OnErr result
+            (Rose (R.state region.old).faults (R.state region.new).faults) }
     {
         let class = self.class_at(pointer).unwrap();
         self.write_head(region, pointer, class)?;
-        write_block(region, 4 * pointer, value)?;
+        write_block(region, UNIT_LINES * pointer, value)?;
         self.mark_written(pointer);
         Ok(())
     }
 
     // Whether the head of the chunk is still to be written in which a pointer lies.
     fn is_due(&self, pointer: u64) -> bool
-        requires { 16 ≤ pointer }
+        requires { FIRST_UNIT ≤ pointer }
         ensures { result ≡ chunk_is_due self.now (chunk_of self.now pointer) }
     {
         has(self.due, chunk_in(&self.layout, pointer))
@@ -387,7 +405,7 @@ impl Allocator {
 
     // The first word of that head.
     fn head_of(&self, pointer: u64) -> u64
-        requires { 16 ≤ pointer }
+        requires { FIRST_UNIT ≤ pointer }
         ensures { result ≡ head_of self.now pointer }
     {
         self.layout
@@ -396,7 +414,7 @@ impl Allocator {
 
     // The head is written now.
     fn mark_written(&mut self, pointer: u64)
-        requires { 16 ≤ pointer }
+        requires { FIRST_UNIT ≤ pointer }
         ensures sets { AreSets self.new }
         ensures written { WritesHead self.old self.new pointer }
     {
@@ -415,10 +433,15 @@ impl Allocator {
         requires at { class_at self.now pointer ≡ Some class }
         requires head { HasHead (R.state region.old) self.now pointer class }
         requires lies { PartLies (R.state region.old).frame self.now }
-        ensures outside { During (R.state region.old) (R.state region.new) (KeepsOthers self.now pointer class (cell_now (R.state region.old))) }
-        ensures head { During (R.state region.old) (R.state region.new) (EachIn (head_of self.now pointer) (head_of self.now pointer + 2) (HeadTurnsTo self.now pointer class)) }
-        ensures ok { OnOk result (IsTelling (R.state region.new) → Surely (cell_now (R.state region.new) (head_of self.now pointer)) (2 + 256 * class)) }
-        ensures cause { OnErr result (Rose (R.state region.old).faults (R.state region.new).faults) }
+        ensures outside { During (R.state region.old) (R.state region.new)
+            (KeepsOthers self.now pointer class (cell_now (R.state region.old))) }
+        ensures head { During (R.state region.old) (R.state region.new)
+            (EachIn (head_of self.now pointer) (head_of self.now pointer + 2)
+            (HeadTurnsTo self.now pointer class)) }
+        ensures ok { OnOk result (IsTelling (R.state region.new)
+            → Surely (cell_now (R.state region.new) (head_of self.now pointer)) (2 + CLASS_FACTOR * class)) }
+        ensures cause { OnErr result
+            (Rose (R.state region.old).faults (R.state region.new).faults) }
     {
         if self.is_due(pointer) {
             let at = self.head_of(pointer);
@@ -436,8 +459,11 @@ impl Allocator {
         pointer: u64,
     ) -> Result<Value, Memory>
         requires lies { PartLies (R.state region.now).frame self.now }
-        requires holds { IsTelling (R.state region.now) → (class : ℕ) × (class_at self.now pointer ≡ Some class) × (has_class (lasts (R.state region.now) (32 * pointer)) class ≡ true) }
-        ensures { IfOk result (λ v. IsTelling (R.state region.now) → v ≡ block_bytes (lasts (R.state region.now)) pointer) }
+        requires holds { IsTelling (R.state region.now) → (class : ℕ)
+            × (class_at self.now pointer ≡ Some class)
+            × (has_class (lasts (R.state region.now) (UNIT_WORDS * pointer)) class ≡ true) }
+        ensures { IfOk result (λ v. IsTelling (R.state region.now)
+            → v ≡ block_bytes (lasts (R.state region.now)) pointer) }
     {
         // Where the region tells its words there is a block with a value.
         match self.class_at(pointer) {

@@ -2,6 +2,7 @@
 ghost use Rattle.std.specs.Prelude.{◌≡◌, ℕ, ◌+◌, ◌*◌, ◌/◌, ◌%◌, ◌<◌, ◌≤◌, ◌==◌, ◌||◌, ◌&&◌, not, length, true, false, IfSome, MatchOption};
 ghost use Rattle.lazy_alloc.specs.Bits.{has, has_bit};
 
+/// Whether the number is in the set.
 pub fn has(word: u64, at: u32) -> bool
     requires { at < 64 }
     ensures { result ≡ has word at }
@@ -9,6 +10,7 @@ pub fn has(word: u64, at: u32) -> bool
     word >> at & 1 == 1
 }
 
+/// The set with the number in it.
 pub fn with(word: u64, at: u32) -> u64
     requires { at < 64 }
     ensures { (i : ℕ) → has result i ≡ (i == at || has word i) }
@@ -16,7 +18,7 @@ pub fn with(word: u64, at: u32) -> u64
     word | 1 << at
 }
 
-// The same where `on` holds, and the word itself where it doesn't.
+/// The same where `on` holds, and the word itself where it doesn't.
 pub fn with_if(word: u64, at: u32, on: bool) -> u64
     requires { at < 64 }
     ensures { (i : ℕ) → has result i ≡ ((i == at && on) || has word i) }
@@ -24,6 +26,7 @@ pub fn with_if(word: u64, at: u32, on: bool) -> u64
     if on { with(word, at) } else { word }
 }
 
+/// The set without the number.
 pub fn without(word: u64, at: u32) -> u64
     requires { at < 64 }
     ensures { (i : ℕ) → has result i ≡ (has word i && not (i == at)) }
@@ -31,10 +34,11 @@ pub fn without(word: u64, at: u32) -> u64
     word & !(1 << at)
 }
 
-// The lowest bit that is set.
+/// The lowest bit that is set.
 pub fn lowest(word: u64) -> Option<u32>
     ensures small { IfSome result (λ j. j < 64) }
-    ensures lowest { MatchOption result ((i : ℕ) → has word i ≡ false) (λ j. (has word j ≡ true) × ((i : ℕ) → i < j → has word i ≡ false)) }
+    ensures lowest { MatchOption result ((i : ℕ) → has word i ≡ false) (λ j. (has word j ≡ true)
+        × ((i : ℕ) → i < j → has word i ≡ false)) }
 {
     if word == 0 {
         None
@@ -46,7 +50,8 @@ pub fn lowest(word: u64) -> Option<u32>
 // The lowest bit that is not set.
 fn lowest_unset(word: u64) -> Option<u32>
     ensures small { IfSome result (λ j. j < 64) }
-    ensures lowest { MatchOption result ((i : ℕ) → i < 64 → has word i ≡ true) (λ j. (has word j ≡ false) × ((i : ℕ) → i < j → has word i ≡ true)) }
+    ensures lowest { MatchOption result ((i : ℕ) → i < 64 → has word i ≡ true)
+        (λ j. (has word j ≡ false) × ((i : ℕ) → i < j → has word i ≡ true)) }
 {
     if word == u64::MAX {
         None
@@ -55,6 +60,7 @@ fn lowest_unset(word: u64) -> Option<u32>
     }
 }
 
+/// Whether a bit of the list is set.
 pub fn is_set(words: &[u64], at: u64) -> bool
     requires { at < 64 * length words.now }
     ensures { result ≡ has_bit words.now at }
@@ -62,6 +68,7 @@ pub fn is_set(words: &[u64], at: u64) -> bool
     has(words[(at / 64) as usize], (at % 64) as u32)
 }
 
+/// Sets a bit of the list.
 pub fn set(words: &mut Vec<u64>, at: u64)
     requires { at < 64 * length words.old.items }
     ensures long { length words.new.items ≡ length words.old.items }
@@ -71,16 +78,18 @@ pub fn set(words: &mut Vec<u64>, at: u64)
     words[word] = with(words[word], (at % 64) as u32);
 }
 
+/// Clears a bit of the list.
 pub fn clear(words: &mut Vec<u64>, at: u64)
     requires { at < 64 * length words.old.items }
     ensures long { length words.new.items ≡ length words.old.items }
-    ensures each { (i : ℕ) → has_bit words.new.items i ≡ (has_bit words.old.items i && not (i == at)) }
+    ensures each { (i : ℕ) → has_bit words.new.items i
+        ≡ (has_bit words.old.items i && not (i == at)) }
 {
     let word = (at / 64) as usize;
     words[word] = without(words[word], (at % 64) as u32);
 }
 
-// Of so many bits from a word on, the lowest that is not set, counted from that word's first bit.
+/// Of so many bits from a word on, the lowest that is not set, counted from that word's first bit.
 pub fn first_unset(words: &[u64], from: u64, count: u64) -> Option<u64>
     requires { 64 * from + count ≤ 64 * length words.now }
     ensures { MatchOption result ((i : ℕ) → i < count → has_bit words.now (64 * from + i) ≡ true)

@@ -3,10 +3,10 @@
 
 mod allocator;
 mod bits;
-mod chains;
+mod block_places;
+mod class_chains;
 mod classes;
 mod counts;
-mod places;
 #[cfg(test)]
 mod plain;
 #[cfg(test)]

@@ -21,7 +21,7 @@ pub struct Plain {
 }
 
 impl Plain {
-    // The part with no chunk cut.
+    /// The part with no chunk cut.
     pub fn free_part() -> Plain {
         Plain {
             free: [true; CHUNKS],

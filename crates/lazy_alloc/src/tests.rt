@@ -18,7 +18,8 @@ use std::test::Fail;
 // The part with no chunk cut.
 fn free_part(alloc: Global) -> Result<Allocator, Fail>
     ensures sets { IfOk result (λ a. AreSets a) }
-    ensures layout { IfOk result (λ a. a.layout ≡ record { cores = 1; group = 1; chunks = 4; chunk_bytes = 4096 }) }
+    ensures layout { IfOk result
+        (λ a. a.layout ≡ record { cores = 1; group = 1; chunks = 4; chunk_bytes = 4096 }) }
     ensures part { IfOk result (λ a. a.part ≡ 0) }
     ensures uncut { IfOk result (λ a. (j : ℕ) → chunk_class a j ≡ None) }
 {
@@ -31,18 +32,42 @@ fn take(a: &mut Allocator, class: u32, may_cut: bool) -> Option<u64>
     requires low { 1 ≤ class }
     requires high { class ≤ 2 }
     requires sets { AreSets a.old }
-    requires layout { a.old.layout ≡ record { cores = 1; group = 1; chunks = 4; chunk_bytes = 4096 } }
+    requires layout { a.old.layout ≡ record {
+      cores = 1;
+      group = 1;
+      chunks = 4;
+      chunk_bytes =
+          4096;
+    } }
     ensures sets { AreSets a.new }
-    ensures layout { a.new.layout ≡ record { cores = 1; group = 1; chunks = 4; chunk_bytes = 4096 } }
+    ensures layout { a.new.layout ≡ record {
+      cores = 1;
+      group = 1;
+      chunks = 4;
+      chunk_bytes =
+          4096;
+    } }
 {
     a.take(class, may_cut)
 }
 
 fn put_back(a: &mut Allocator, pointer: u64)
     requires sets { AreSets a.old }
-    requires layout { a.old.layout ≡ record { cores = 1; group = 1; chunks = 4; chunk_bytes = 4096 } }
+    requires layout { a.old.layout ≡ record {
+      cores = 1;
+      group = 1;
+      chunks = 4;
+      chunk_bytes =
+          4096;
+    } }
     ensures sets { AreSets a.new }
-    ensures layout { a.new.layout ≡ record { cores = 1; group = 1; chunks = 4; chunk_bytes = 4096 } }
+    ensures layout { a.new.layout ≡ record {
+      cores = 1;
+      group = 1;
+      chunks = 4;
+      chunk_bytes =
+          4096;
+    } }
 {
     if a.is_allocated(pointer) {
         a.put_back(pointer);
@@ -80,9 +105,21 @@ fn take_both(a: &mut Allocator, plain: &mut Plain, class: u32, may_cut: bool) ->
     requires low { 1 ≤ class }
     requires high { class ≤ 2 }
     requires sets { AreSets a.old }
-    requires layout { a.old.layout ≡ record { cores = 1; group = 1; chunks = 4; chunk_bytes = 4096 } }
+    requires layout { a.old.layout ≡ record {
+      cores = 1;
+      group = 1;
+      chunks = 4;
+      chunk_bytes =
+          4096;
+    } }
     ensures sets { AreSets a.new }
-    ensures layout { a.new.layout ≡ record { cores = 1; group = 1; chunks = 4; chunk_bytes = 4096 } }
+    ensures layout { a.new.layout ≡ record {
+      cores = 1;
+      group = 1;
+      chunks = 4;
+      chunk_bytes =
+          4096;
+    } }
 {
     take(a, class, may_cut) == plain.take(class, may_cut)
 }
@@ -90,9 +127,21 @@ fn take_both(a: &mut Allocator, plain: &mut Plain, class: u32, may_cut: bool) ->
 // Whether the block with this pointer is allocated in both forms or in none. It is put back.
 fn put_back_both(a: &mut Allocator, plain: &mut Plain, pointer: u64) -> bool
     requires sets { AreSets a.old }
-    requires layout { a.old.layout ≡ record { cores = 1; group = 1; chunks = 4; chunk_bytes = 4096 } }
+    requires layout { a.old.layout ≡ record {
+      cores = 1;
+      group = 1;
+      chunks = 4;
+      chunk_bytes =
+          4096;
+    } }
     ensures sets { AreSets a.new }
-    ensures layout { a.new.layout ≡ record { cores = 1; group = 1; chunks = 4; chunk_bytes = 4096 } }
+    ensures layout { a.new.layout ≡ record {
+      cores = 1;
+      group = 1;
+      chunks = 4;
+      chunk_bytes =
+          4096;
+    } }
 {
     let same = a.is_allocated(pointer) == plain.is_allocated(pointer);
     put_back(a, pointer);
@@ -103,9 +152,21 @@ fn put_back_both(a: &mut Allocator, plain: &mut Plain, pointer: u64) -> bool
 // Whether the two forms lend the same chunk to the log. It comes back.
 fn lend_both(a: &mut Allocator, plain: &mut Plain) -> bool
     requires sets { AreSets a.old }
-    requires layout { a.old.layout ≡ record { cores = 1; group = 1; chunks = 4; chunk_bytes = 4096 } }
+    requires layout { a.old.layout ≡ record {
+      cores = 1;
+      group = 1;
+      chunks = 4;
+      chunk_bytes =
+          4096;
+    } }
     ensures sets { AreSets a.new }
-    ensures layout { a.new.layout ≡ record { cores = 1; group = 1; chunks = 4; chunk_bytes = 4096 } }
+    ensures layout { a.new.layout ≡ record {
+      cores = 1;
+      group = 1;
+      chunks = 4;
+      chunk_bytes =
+          4096;
+    } }
 {
     let lent = plain.take_chunk();
     let Some(chunk) = a.take_chunk() else {
@@ -120,9 +181,21 @@ fn lend_both(a: &mut Allocator, plain: &mut Plain) -> bool
 // One change of both forms, picked by a random number: whether they answer the same.
 fn change_both(a: &mut Allocator, plain: &mut Plain, random: u64) -> bool
     requires sets { AreSets a.old }
-    requires layout { a.old.layout ≡ record { cores = 1; group = 1; chunks = 4; chunk_bytes = 4096 } }
+    requires layout { a.old.layout ≡ record {
+      cores = 1;
+      group = 1;
+      chunks = 4;
+      chunk_bytes =
+          4096;
+    } }
     ensures sets { AreSets a.new }
-    ensures layout { a.new.layout ≡ record { cores = 1; group = 1; chunks = 4; chunk_bytes = 4096 } }
+    ensures layout { a.new.layout ≡ record {
+      cores = 1;
+      group = 1;
+      chunks = 4;
+      chunk_bytes =
+          4096;
+    } }
 {
     match random % 16 {
         0 => take_both(a, plain, 1, true),
@@ -137,7 +210,13 @@ fn change_both(a: &mut Allocator, plain: &mut Plain, random: u64) -> bool
 
 // Whether all counts are the same in both forms.
 fn same_counts(a: &Allocator, plain: &Plain) -> bool
-    requires layout { a.now.layout ≡ record { cores = 1; group = 1; chunks = 4; chunk_bytes = 4096 } }
+    requires layout { a.now.layout ≡ record {
+      cores = 1;
+      group = 1;
+      chunks = 4;
+      chunk_bytes =
+          4096;
+    } }
 {
     a.free_chunks() == plain.free_chunks()
         && a.free_blocks(1) == plain.free_blocks(1)
@@ -147,9 +226,21 @@ fn same_counts(a: &Allocator, plain: &Plain) -> bool
 // One change of both forms: whether they answer the same and count the same behind it.
 fn step(a: &mut Allocator, plain: &mut Plain, random: u64) -> bool
     requires sets { AreSets a.old }
-    requires layout { a.old.layout ≡ record { cores = 1; group = 1; chunks = 4; chunk_bytes = 4096 } }
+    requires layout { a.old.layout ≡ record {
+      cores = 1;
+      group = 1;
+      chunks = 4;
+      chunk_bytes =
+          4096;
+    } }
     ensures sets { AreSets a.new }
-    ensures layout { a.new.layout ≡ record { cores = 1; group = 1; chunks = 4; chunk_bytes = 4096 } }
+    ensures layout { a.new.layout ≡ record {
+      cores = 1;
+      group = 1;
+      chunks = 4;
+      chunk_bytes =
+          4096;
+    } }
 {
     let same_answer = change_both(a, plain, random);
     same_answer && same_counts(a, plain)
@@ -232,7 +323,8 @@ fn store<R: Region>(
     requires fits { length value.now + 8 ≤ 256 * 2 ^ class }
     requires least { 128 * 2 ^ class < length value.now + 8 }
     requires lies { PartLies (R.state region.old).frame a.old }
-    requires zero { IsTelling (R.state region.old) → (w : ℕ) → InRange (R.state region.old).frame w → cell_now (R.state region.old) w ≡ certain 0 }
+    requires zero { IsTelling (R.state region.old) → (w : ℕ) → InRange (R.state region.old).frame w
+        → cell_now (R.state region.old) w ≡ certain 0 }
 {
     let Some(pointer) = a.take(class, true) else {
         return Ok(None);
@@ -278,7 +370,8 @@ fn a_value(rt: HostRuntime) -> Result<(), Fail> {
 // A part of four chunks of 2 MiB, with no chunk cut.
 fn long_part(alloc: Global) -> Result<Allocator, Fail>
     ensures sets { IfOk result (λ a. AreSets a) }
-    ensures layout { IfOk result (λ a. a.layout ≡ record { cores = 1; group = 1; chunks = 4; chunk_bytes = 2097152 }) }
+    ensures layout { IfOk result
+        (λ a. a.layout ≡ record { cores = 1; group = 1; chunks = 4; chunk_bytes = 2097152 }) }
     ensures part { IfOk result (λ a. a.part ≡ 0) }
     ensures uncut { IfOk result (λ a. (j : ℕ) → chunk_class a j ≡ None) }
 {

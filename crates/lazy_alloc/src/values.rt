@@ -4,6 +4,7 @@ ghost use Rattle.pm_region.specs.State.{IsTelling};
 ghost use Rattle.pm_region.specs.Words.{lasts};
 ghost use Rattle.store_image.specs.Parts.{held_by};
 
+use chunk_map::layout_sizes::{GREATEST_CLASS, UNIT_WORDS};
 use chunk_map::words::load_words;
 use fs_errors::Memory;
 use fs_model::Value;
@@ -20,15 +21,17 @@ pub fn value_in<R: Region>(
     pointer: u64,
     class: u32,
 ) -> Result<Option<Value>, Memory>
-    requires class { class ≤ 12 }
-    requires low { (R.state region.now).frame.first ≤ 32 * pointer }
-    requires high { 32 * pointer + 32 * 2 ^ class ≤ (R.state region.now).frame.first + (R.state region.now).frame.words }
-    ensures { IfOk result (λ v. IsTelling (R.state region.now) → v ≡ held_by (lasts (R.state region.now)) pointer (Some class)) }
+    requires class { class ≤ GREATEST_CLASS }
+    requires low { (R.state region.now).frame.first ≤ UNIT_WORDS * pointer }
+    requires high { UNIT_WORDS * pointer + UNIT_WORDS * 2 ^ class ≤ (R.state region.now).frame.first
+        + (R.state region.now).frame.words }
+    ensures { IfOk result (λ v. IsTelling (R.state region.now)
+        → v ≡ held_by (lasts (R.state region.now)) pointer (Some class)) }
 {
     if pointer >= (1 << 59) - (1 << class) {
         return Err(Memory);
     }
-    let at = 32 * pointer;
+    let at = UNIT_WORDS * pointer;
     let length = region.load(at);
     if !has_class(length, class) {
         return Ok(None);

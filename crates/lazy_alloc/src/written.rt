@@ -8,7 +8,7 @@ ghost use Rattle.lazy_alloc.specs.Written.{block_words, block_lines};
 
 use chunk_map::words::flush_lines;
 use log_entry::packing::{word_at, words_for};
-use pm_region::{Region, RegionFault};
+use pm_region::{LINE_WORDS, Region, RegionFault};
 
 // A word of a block: the length, or eight bytes of the value with zeros past its end.
 fn block_word(value: &[u8], at: u64) -> u64
@@ -26,9 +26,11 @@ fn block_word(value: &[u8], at: u64) -> u64
 fn store_block<R: Region>(region: &mut R, at: u64, value: &[u8], count: u64)
     requires count { count ≡ 1 + words_for (length value.now) }
     requires low { (R.state region.old).frame.first ≤ at }
-    requires high { at + count ≤ (R.state region.old).frame.first + (R.state region.old).frame.words }
+    requires high { at + count ≤ (R.state region.old).frame.first
+        + (R.state region.old).frame.words }
     requires fits { at + count < 2 ^ 64 }
-    ensures run { During (R.state region.old) (R.state region.new) (KeepsOutside (cell_now (R.state region.old)) at (at + count)) }
+    ensures run { During (R.state region.old) (R.state region.new)
+        (KeepsOutside (cell_now (R.state region.old)) at (at + count)) }
     ensures stored { IsTelling (R.state region.new) → (j : ℕ) → j < count
         → (cell_now (R.state region.new) (at + j)).last ≡ slice_index (block_words value.now) j }
 {
@@ -41,15 +43,19 @@ fn store_block<R: Region>(region: &mut R, at: u64, value: &[u8], count: u64)
 /// at line `line`.
 pub fn write_block<R: Region>(region: &mut R, line: u64, value: &[u8]) -> Result<(), RegionFault>
     requires low { (R.state region.old).frame.first ≤ 8 * line }
-    requires high { 8 * (line + block_lines value.now) ≤ (R.state region.old).frame.first + (R.state region.old).frame.words }
+    requires high { 8 * (line + block_lines value.now) ≤ (R.state region.old).frame.first
+        + (R.state region.old).frame.words }
     requires fits { 8 * (line + block_lines value.now) < 2 ^ 64 }
-    ensures run { During (R.state region.old) (R.state region.new) (KeepsOutside (cell_now (R.state region.old)) (8 * line) (8 * (line + block_lines value.now))) }
-    ensures ok { OnOk result (IsTelling (R.state region.new) → (j : ℕ) → j < 1 + words_for (length value.now)
+    ensures run { During (R.state region.old) (R.state region.new)
+        (KeepsOutside (cell_now (R.state region.old)) (8 * line)
+        (8 * (line + block_lines value.now))) }
+    ensures ok { OnOk result (IsTelling (R.state region.new) → (j : ℕ)
+        → j < 1 + words_for (length value.now)
         → cell_now (R.state region.new) (8 * line + j) ≡ certain (slice_index (block_words value.now) j)) }
     ensures cause { OnErr result (Rose (R.state region.old).faults (R.state region.new).faults) }
 {
     let count = 1 + words_for(value.len() as u64);
-    store_block(region, 8 * line, value, count);
-    flush_lines(region, line, (count + 7) / 8);
+    store_block(region, LINE_WORDS * line, value, count);
+    flush_lines(region, line, (count + 7) / LINE_WORDS);
     region.fence()
 }

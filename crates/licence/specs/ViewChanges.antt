@@ -72,5 +72,7 @@ IsQuiet v (Receive from) = Unit {0}
 -- No chunk of the log has an entry of one of these names, and no other chunk of the part has any entry.
 pub record HaveVanished (s : State) (log : LogState) (ns : List EntryName) : Type 0 where
   pub stands : StandsIn s log
-  pub gone : IsTelling s → (j : ℕ) (e : Entry) → is_some (tail_of log.chunks j) ≡ true → In e (entries_of s log j) → has ns e.key e.version ≡ false
-  pub others : IsTelling s → (j : ℕ) → j < log.layout.chunks → tail_of log.chunks j ≡ None → EachInChunk log j (HasNoEntries log j) (cell_now s)
+  pub gone : IsTelling s → (j : ℕ) (e : Entry) → is_some (tail_of log.chunks j) ≡ true
+      → In e (entries_of s log j) → has ns e.key e.version ≡ false
+  pub others : IsTelling s → (j : ℕ) → j < log.layout.chunks → tail_of log.chunks j ≡ None
+      → EachInChunk log j (HasNoEntries log j) (cell_now s)

@@ -32,8 +32,11 @@ pub record IsSpelled (log : LogState) (es : List Entry) (ws : List ℕ) : Type 0
 
 -- words are appended to the open chunk, as one batch
 pub record Appends (s t : State) (log : LogState) (ws : List ℕ) : Type 0 where
-  pub moments : During s t (EachInOpen log (HasOrLacks (open_first log) (open_tail log) (words_now s (open_first log) (open_tail log)) (padded ws)))
-  pub outside : During s t (KeepsOutside (cell_now s) (open_first log) (open_first log + chunk_words log.layout))
+  pub moments : During s t
+      (EachInOpen log (HasOrLacks (open_first log) (open_tail log)
+      (words_now s (open_first log) (open_tail log)) (padded ws)))
+  pub outside : During s t (KeepsOutside (cell_now s) (open_first log)
+      (open_first log + chunk_words log.layout))
 
 -- a Free chunk of the part is opened
 pub record Opens (s t : State) (log : LogState) (j : ℕ) : Type 0 where
@@ -45,20 +48,25 @@ pub record Opens (s t : State) (log : LogState) (j : ℕ) : Type 0 where
 -- a chunk of the log is made Free
 pub record Frees (s t : State) (log : LogState) (j : ℕ) : Type 0 where
   pub has : is_some (tail_of log.chunks j) ≡ true
-  pub moments : During s t (EachInChunk log j (FreeOrLog (first_of log j) (tail_in log j) (words_now s (first_of log j) (tail_in log j))))
+  pub moments : During s t
+      (EachInChunk log j (FreeOrLog (first_of log j) (tail_in log j)
+      (words_now s (first_of log j) (tail_in log j))))
   pub outside : During s t (KeepsOutside (cell_now s) (first_of log j) (first_of log j + 8))
 
 -- the entry stands in another chunk of the log than j
 abbrev pub StandsElsewhere : State → LogState → ℕ → Entry → Type 0
-StandsElsewhere s log j e = (k : ℕ) × (k ≢ j) × (is_some (tail_of log.chunks k) ≡ true) × In e (entries_of s log k)
+StandsElsewhere s log j e = (k : ℕ) × (k ≢ j) × (is_some (tail_of log.chunks k) ≡ true)
+    × In e (entries_of s log k)
 
 -- Nothing is in flight, and each entry of chunk j may vanish or stands in another chunk too.
 pub record MaySpare (s : State) (v : View) (log : LogState) (j : ℕ) : Type 0 where
   pub idle : v.flying ≡ []
-  pub each : IsTelling s → (e : Entry) → In e (entries_of s log j) → (v.doomed e.key e.version ≡ true) ⊎ StandsElsewhere s log j e
+  pub each : IsTelling s → (e : Entry) → In e (entries_of s log j)
+      → (v.doomed e.key e.version ≡ true) ⊎ StandsElsewhere s log j e
 
 -- The allocator is that of member m's part, the block at this pointer has this class, and no value of the view is in it. Of two blocks at different pointers no unit is shared, since those of one chunk have one class.
-pub record IsUnused (s : State) (p : Place) (m : ℕ) (v : View) (a : Sets) (q class : ℕ) : Type 0 where
+pub record IsUnused (s : State) (p : Place) (m : ℕ) (v : View) (a : Sets) (q class : ℕ) :
+    Type 0 where
   pub place : IsPlace p
   pub sets : AreSets a
   pub layout : a.layout ≡ p.layout

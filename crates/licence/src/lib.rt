@@ -2,4 +2,4 @@
 //! blocks are written, and when the view makes its steps. There is no code here but the laws' statements.
 #![tactic(auto)]
 
-pub mod laws;
+pub mod licence_laws;

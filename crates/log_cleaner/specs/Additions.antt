@@ -25,7 +25,9 @@ Lacks xs es = (k v : ℕ) → is_among es k v ≡ true → has_name xs k v ≡ f
 
 -- each of their names was added once, and nothing else changed
 pub record AddsEach (old new : StandingState) (es : List Entry) : Type 0 where
-  pub copies : (k v : ℕ) → copies_at new k v ≡ (if is_among es k v then Some (one_more (copies_at old k v)) else copies_at old k v)
+  pub copies : (k v : ℕ)
+      → copies_at new k v ≡ (if is_among es k v then Some (one_more (copies_at old k v))
+      else copies_at old k v)
   pub settled : new.settled ≡ old.settled
 
 -- the log with a chunk more, which is the open one and empty
@@ -47,12 +49,14 @@ pub record IsApart (s : State) (log : LogState) (es : List Entry) (h : Settled) 
   pub lacks : IsTelling s → Lacks (entries_in s log h.chunk) es
 
 -- Entries are appended to the open chunk as one batch, by the clauses of that call; their names are new in that chunk, and in the one that a cleaning has read.
-pub record AppendsNew (s t : State) (log log' : LogState) (st : StandingState) (es : List Entry) : Type 0 where
+pub record AppendsNew (s t : State) (log log' : LogState) (st : StandingState) (es : List Entry) :
+    Type 0 where
   pub own : IsOwn log
   pub opened : is_some log.opened ≡ true
   pub spelled : IsTelling s → Spelled (words_in s log (open_number log))
   pub batch : IsBatch es
   pub appended : AppendedBatch s t log log' (padded (flat_map words_of es))
-  pub outside : During s t (KeepsOutside (cell_now s) (open_first log) (open_first log + chunk_words log.layout))
+  pub outside : During s t (KeepsOutside (cell_now s) (open_first log)
+      (open_first log + chunk_words log.layout))
   pub fresh : IsTelling s → Lacks (entries_in s log (open_number log)) es
   pub apart : (h : Settled) → st.settled ≡ Some h → IsApart s log es h

@@ -13,10 +13,12 @@ copy_lines v = (v.words + 7) / 8 + (v.entries + 63) / 64
 
 -- The copies are a third of a payload at most, and there is room for them besides what is promised. No cleaning is under way, so what is promised is to own changes.
 abbrev pub fits : Room → Victim → Bool
-fits room v = nat_le (3 * copy_lines v) room.payload_lines && (nat_le (room.pledged_lines + copy_lines v) room.open_lines || nat_le 1 room.free_chunks)
+fits room v = nat_le (3 * copy_lines v) room.payload_lines
+    && (nat_le (room.pledged_lines + copy_lines v) room.open_lines || nat_le 1 room.free_chunks)
 
 -- a chunk of the log that isn't the open one and whose copies fit
-pub record IsEligible (s : State) (log : LogState) (st : StandingState) (room : Room) (j : ℕ) : Type 0 where
+pub record IsEligible (s : State) (log : LogState) (st : StandingState) (room : Room) (j : ℕ) :
+    Type 0 where
   pub has : is_some (tail_of log.chunks j) ≡ true
   pub closed : log.opened ≡ Some j → ⊥
   pub fitting : fits room (to_copy s log st j) ≡ true
@@ -29,7 +31,9 @@ Comes (Some a) j i = ((a < j) × ((j ≤ i) ⊎ (i ≤ a))) ⊎ ((j ≤ a) × (i
 -- the eligible chunk that comes first; none where no chunk is eligible
 abbrev pub IsVictim : State → LogState → StandingState → Option ℕ → Room → Option Victim → Type 0
 IsVictim s log st after room None = (i : ℕ) → IsEligible s log st room i → ⊥
-IsVictim s log st after room (Some v) = (v ≡ to_copy s log st v.chunk) × IsEligible s log st room v.chunk × ((i : ℕ) → IsEligible s log st room i → Comes after v.chunk i)
+IsVictim s log st after room (Some v) = (v ≡ to_copy s log st v.chunk)
+    × IsEligible s log st room v.chunk
+    × ((i : ℕ) → IsEligible s log st room i → Comes after v.chunk i)
 
 -- what is said of one chunk
 abbrev pub IsCandidate : State → LogState → StandingState → Room → ℕ → Option Victim → Type 0
@@ -38,5 +42,8 @@ IsCandidate s log st room j (Some v) = (v ≡ to_copy s log st j) × IsEligible 
 
 -- the first eligible one of some chunk numbers
 abbrev pub IsFirstIn : State → LogState → StandingState → Room → ℕ → ℕ → Option Victim → Type 0
-IsFirstIn s log st room low high None = (i : ℕ) → low ≤ i → i < high → IsEligible s log st room i → ⊥
-IsFirstIn s log st room low high (Some v) = (v ≡ to_copy s log st v.chunk) × IsEligible s log st room v.chunk × ((low ≤ v.chunk) × (v.chunk < high)) × ((i : ℕ) → low ≤ i → i < high → IsEligible s log st room i → v.chunk ≤ i)
+IsFirstIn s log st room low high None = (i : ℕ) → low ≤ i → i < high → IsEligible s log st room i
+    → ⊥
+IsFirstIn s log st room low high (Some v) = (v ≡ to_copy s log st v.chunk)
+    × IsEligible s log st room v.chunk × ((low ≤ v.chunk) × (v.chunk < high))
+    × ((i : ℕ) → low ≤ i → i < high → IsEligible s log st room i → v.chunk ≤ i)

@@ -34,17 +34,20 @@ HasNames ns es = (k v : ℕ) → times_in ns k v ≡ bit (has_name es k v)
 abbrev pub HasDoomed : List EntryName → StandingState → List (ℕ × Entry) → Type 0
 HasDoomed ns st es = (k v : ℕ) → times_in ns k v ≡ bit (has_name es k v && is_doomed st k v)
 
-pub record IsGathered (st : StandingState) (es : List (ℕ × Entry)) (c : ClearingState) : Type 0 where
+pub record IsGathered (st : StandingState) (es : List (ℕ × Entry)) (c : ClearingState) :
+    Type 0 where
   pub names : HasNames c.names es
   pub doomed : HasDoomed c.doomed st es
 
 -- the names of the chunk's entries were noted, and nothing of it is left to be copied
-pub record IsReady (s : State) (log : LogState) (st : StandingState) (c : ClearingState) : Type 0 where
+pub record IsReady (s : State) (log : LogState) (st : StandingState) (c : ClearingState) :
+    Type 0 where
   pub gathered : IsGathered st (entries_in s log c.chunk) c
   pub copied : left_to_copy st (entries_in s log c.chunk) ≡ []
 
 -- The chunk was given up. It is certainly Free, each of its names has one copy less, and the doomed ones stand in the log no more, all others still do.
-pub record HasCleared (s t : State) (log log' : LogState) (old new : StandingState) (c : ClearingState) : Type 0 where
+pub record HasCleared (s t : State) (log log' : LogState) (old new : StandingState)
+    (c : ClearingState) : Type 0 where
   pub retired : RetiredChunk t log log' c.chunk
   pub dropped : Drops old new c.names
   pub standing : IsTelling t → IsUpToDate t log' new
@@ -53,11 +56,13 @@ pub record HasCleared (s t : State) (log log' : LogState) (old new : StandingSta
 -- a name that wasn't noted yet is noted
 pub record NotesNew (st : StandingState) (old new : ClearingState) (n : EntryName) : Type 0 where
   pub names : new.names ≡ old.names ++ n ∷ []
-  pub doomed : new.doomed ≡ (if is_doomed st n.key n.version then old.doomed ++ n ∷ [] else old.doomed)
+  pub doomed : new.doomed ≡ (if is_doomed st n.key n.version then old.doomed ++ n ∷ []
+      else old.doomed)
   pub room : new.room + 1 ≡ old.room
 
 -- What is true of the fields between two calls: the set of names seen is that of the list, which has each once; and there is room.
-pub record IsClearing (noted : StandingState) (names doomed : List EntryName) (names_room doomed_room : ℕ) : Type 0 where
+pub record IsClearing (noted : StandingState) (names doomed : List EntryName)
+    (names_room doomed_room : ℕ) : Type 0 where
   pub names_fit : length names + noted.room ≤ names_room
   pub doomed_fit : length names + noted.room ≤ doomed_room
   pub fewer : length doomed ≤ length names

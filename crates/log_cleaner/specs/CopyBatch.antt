@@ -2,6 +2,7 @@
 use Rattle.std.specs.Prelude.{◌≡◌, ◌≢◌, ℕ, ◌+◌, ◌-◌, ◌≤◌, not, List, [], ◌∷◌, map, length, take, Some, if◌then◌else◌}
 use Rattle.std.specs.List.{filter, flat_map, AllByRecursion}
 use Rattle.pm_region.specs.State.{State, IsTelling}
+use Rattle.log_entry.specs.declared.entry_limits.TheConstants.{MOST_ENTRIES}
 use Rattle.log_entry.specs.declared.entry.Entry.{Entry}
 use Rattle.log_entry.specs.Spelling.{words_of, HasSpelling}
 use Rattle.core_log.specs.Chunk.{lines_for}
@@ -17,9 +18,9 @@ abbrev pub firsts : List (ℕ × Entry) → List (ℕ × Entry)
 firsts [] = []
 firsts (x ∷ xs) = x ∷ filter (λ y. not (is_named x.1.key x.1.version y)) (firsts xs)
 
--- the next entries by place that are still to be copied, equal ones once: 64 of them, or all
+-- the next entries by place that are still to be copied, equal ones once: as many as a batch has, or all
 abbrev pub next_batch : StandingState → List (ℕ × Entry) → List (ℕ × Entry)
-next_batch st es = take 64 (firsts (left_to_copy st es))
+next_batch st es = take MOST_ENTRIES (firsts (left_to_copy st es))
 
 abbrev pub entries_of : List (ℕ × Entry) → List Entry
 entries_of xs = map (λ x. x.1) xs
@@ -32,14 +33,18 @@ abbrev pub copies_in : State → LogState → StandingState → ℕ → List Ent
 copies_in s log st j = entries_of (batch_in s log st j)
 
 abbrev pub CopiesFit : State → LogState → StandingState → ℕ → Type 0
-CopiesFit s log st j = IsTelling s → lines_for (length (flat_map words_of (copies_in s log st j))) ≤ room_of log
+CopiesFit s log st j = IsTelling s → lines_for (length (flat_map words_of (copies_in s log st j)))
+    ≤ room_of log
 
 -- each name of these entries has one copy more
 abbrev pub Adds : StandingState → StandingState → List (ℕ × Entry) → Type 0
-Adds old new xs = (k v : ℕ) → copies_at new k v ≡ (if has_name xs k v then Some (one_more (copies_at old k v)) else copies_at old k v)
+Adds old new xs = (k v : ℕ)
+    → copies_at new k v ≡ (if has_name xs k v then Some (one_more (copies_at old k v))
+    else copies_at old k v)
 
 -- the batch was collected: so many entries, their words, and the names that have a second copy now
-pub record Collected (old new : StandingState) (batch : List (ℕ × Entry)) (count : ℕ) (words : List ℕ) : Type 0 where
+pub record Collected (old new : StandingState) (batch : List (ℕ × Entry)) (count : ℕ)
+    (words : List ℕ) : Type 0 where
   pub count_is : count ≡ length batch
   pub words_are : words ≡ flat_map words_of (entries_of batch)
   pub adds : Adds old new batch
@@ -54,24 +59,30 @@ pub record SameElse (old new : LogState) (j : ℕ) : Type 0 where
 
 -- by the batch, just so many entries and words; and still no two that are left are equal
 pub record IsLessJust (old new : StandingState) (es : List (ℕ × Entry)) : Type 0 where
-  pub entries : length (next_batch old es) + length (left_to_copy new es) ≡ length (left_to_copy old es)
-  pub words : words_sum (next_batch old es) + words_sum (left_to_copy new es) ≡ words_sum (left_to_copy old es)
+  pub entries : length (next_batch old es) + length (left_to_copy new es)
+      ≡ length (left_to_copy old es)
+  pub words : words_sum (next_batch old es) + words_sum (left_to_copy new es)
+      ≡ words_sum (left_to_copy old es)
   pub once : IsEachOnce (left_to_copy new es)
 
 -- What is left to be copied is less by the batch, in entries and in words: by just so much where no two that are left are equal, since equal ones wait together and one is copied.
 pub record IsLess (old new : StandingState) (es : List (ℕ × Entry)) : Type 0 where
-  pub entries : length (next_batch old es) + length (left_to_copy new es) ≤ length (left_to_copy old es)
-  pub words : words_sum (next_batch old es) + words_sum (left_to_copy new es) ≤ words_sum (left_to_copy old es)
+  pub entries : length (next_batch old es) + length (left_to_copy new es)
+      ≤ length (left_to_copy old es)
+  pub words : words_sum (next_batch old es) + words_sum (left_to_copy new es)
+      ≤ words_sum (left_to_copy old es)
   pub just : IsEachOnce (left_to_copy old es) → IsLessJust old new es
 
 -- so many entries were copied, with these words; none only where none is left
-pub record IsBatchOf (s : State) (log : LogState) (st : StandingState) (j n : ℕ) (ws : List ℕ) : Type 0 where
+pub record IsBatchOf (s : State) (log : LogState) (st : StandingState) (j n : ℕ) (ws : List ℕ) :
+    Type 0 where
   pub count : n ≡ length (batch_in s log st j)
   pub words : ws ≡ flat_map words_of (copies_in s log st j)
   pub none : n ≡ 0 → left_to_copy st (entries_in s log j) ≡ []
 
 -- After a batch of copies. No other tail moved than the open chunk's, each name of the batch has one copy more, the entries of the victim's chunk stay, and what is left of them is less.
-pub record HasCopied (s t : State) (log log' : LogState) (old new : StandingState) (j : ℕ) : Type 0 where
+pub record HasCopied (s t : State) (log log' : LogState) (old new : StandingState) (j : ℕ) :
+    Type 0 where
   pub stands : StandsIn t log'
   pub tails : SameElse log log' (open_number log)
   pub adds : IsTelling s → Adds old new (batch_in s log old j)

@@ -39,7 +39,8 @@ begins j place = record { chunk = j; place = place }
 -- A place of a chunk between its entries: before it none is still to be copied.
 pub record IsSettled (s : State) (log : LogState) (st : StandingState) (h : Settled) : Type 0 where
   pub between : IsBetween h.place (entries_in s log h.chunk)
-  pub none : left_to_copy st (entries_in s log h.chunk) ≡ left_to_copy st (behind h.place (entries_in s log h.chunk))
+  pub none : left_to_copy st (entries_in s log h.chunk) ≡ left_to_copy st
+      (behind h.place (entries_in s log h.chunk))
 
 abbrev pub IsSettledIn : State → LogState → StandingState → Type 0
 IsSettledIn s log st = (h : Settled) → st.settled ≡ Some h → IsSettled s log st h

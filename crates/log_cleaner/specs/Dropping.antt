@@ -14,4 +14,5 @@ lowered (Some c) = one_less c
 
 -- each name of a list that has each once was dropped
 abbrev pub Drops : StandingState → StandingState → List EntryName → Type 0
-Drops old new ns = (k v : ℕ) → copies_at new k v ≡ (if times_in ns k v == 0 then copies_at old k v else lowered (copies_at old k v))
+Drops old new ns = (k v : ℕ) → copies_at new k v ≡ (if times_in ns k v == 0 then copies_at old k v
+    else lowered (copies_at old k v))

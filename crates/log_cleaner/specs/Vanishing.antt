@@ -14,4 +14,5 @@ pub record MayGo (v : View) (names : List EntryName) : Type 0 where
 
 -- no chunk of the part besides the log's has an entry
 abbrev pub NoneElse : State → LogState → Type 0
-NoneElse s log = IsTelling s → (j : ℕ) → j < log.layout.chunks → tail_of log.chunks j ≡ None → EachInChunk log j (HasNoEntries log j) (cell_now s)
+NoneElse s log = IsTelling s → (j : ℕ) → j < log.layout.chunks → tail_of log.chunks j ≡ None
+    → EachInChunk log j (HasNoEntries log j) (cell_now s)

@@ -5,17 +5,19 @@ ghost use Rattle.core_log.specs.Log.{StandsIn, tail_of};
 ghost use Rattle.log_cleaner.specs.Copying.{IsUpToDate};
 ghost use Rattle.log_cleaner.specs.Choosing.{copy_lines, fits, IsCandidate, IsFirstIn, IsVictim};
 
-use crate::beginning::tail_of;
 use crate::counting::to_copy;
+use crate::reading_start::tail_of;
 use crate::types::Victim;
+use chunk_map::layout_sizes::MOST_CHUNKS;
 use core_log::{CoreLog, Room};
 use fs_errors::Memory;
+use log_entry::MOST_ENTRIES;
 use log_standing::Standing;
-use pm_region::Region;
+use pm_region::{LINE_WORDS, Region};
 use std::alloc::Global;
 
 // No part has more chunks.
-const CHUNKS: u32 = 64;
+const CHUNKS: u32 = MOST_CHUNKS as u32;
 
 // The lines that the copies take at most.
 fn copy_lines(victim: Victim) -> u64
@@ -23,7 +25,7 @@ fn copy_lines(victim: Victim) -> u64
     requires entries { victim.entries ≤ 2 ^ 32 }
     ensures { result ≡ copy_lines victim }
 {
-    (victim.words + 7) / 8 + (victim.entries + 63) / 64
+    victim.words.div_ceil(LINE_WORDS) + victim.entries.div_ceil(u64::from(MOST_ENTRIES))
 }
 
 // Whether the open chunk has so many lines besides what is promised.
@@ -52,8 +54,10 @@ fn candidate<R: Region>(
     chunk: u32,
 ) -> Option<Victim>
     requires stands { StandsIn (R.state region.now) log.now }
-    requires standing { IsTelling (R.state region.now) → IsUpToDate (R.state region.now) log.now standing.now }
-    ensures { IsTelling (R.state region.now) → IsCandidate (R.state region.now) log.now standing.now room.now chunk result }
+    requires standing { IsTelling (R.state region.now) → IsUpToDate (R.state region.now) log.now
+        standing.now }
+    ensures { IsTelling (R.state region.now) → IsCandidate (R.state region.now) log.now standing.now
+        room.now chunk result }
 {
     if log.opened() == Some(chunk) || tail_of(log, chunk).is_none() {
         return None;
@@ -76,8 +80,10 @@ fn first_in<R: Region>(
     high: u32,
 ) -> Option<Victim>
     requires stands { StandsIn (R.state region.now) log.now }
-    requires standing { IsTelling (R.state region.now) → IsUpToDate (R.state region.now) log.now standing.now }
-    ensures { IsTelling (R.state region.now) → IsFirstIn (R.state region.now) log.now standing.now room.now low high result }
+    requires standing { IsTelling (R.state region.now) → IsUpToDate (R.state region.now) log.now
+        standing.now }
+    ensures { IsTelling (R.state region.now) → IsFirstIn (R.state region.now) log.now standing.now
+        room.now low high result }
 {
     for chunk in low..high {
         if let Some(victim) = candidate(region, log, standing, room, chunk) {
@@ -90,8 +96,8 @@ fn first_in<R: Region>(
 // The chunk number at which the search begins.
 fn begin_at(after: Option<u32>) -> u32
     ensures none { after ≡ None → result ≡ 0 }
-    ensures some { (a : ℕ) → after ≡ Some a → a < 64 → result ≡ a + 1 }
-    ensures past { (a : ℕ) → after ≡ Some a → 64 ≤ a → result ≡ 64 }
+    ensures some { (a : ℕ) → after ≡ Some a → a < MOST_CHUNKS → result ≡ a + 1 }
+    ensures past { (a : ℕ) → after ≡ Some a → MOST_CHUNKS ≤ a → result ≡ MOST_CHUNKS }
 {
     match after {
         None => 0,
@@ -111,8 +117,10 @@ pub fn victim<R: Region>(
     room: &Room,
 ) -> Result<Option<Victim>, Memory>
     requires stands { StandsIn (R.state region.now) log.now }
-    requires standing { IsTelling (R.state region.now) → IsUpToDate (R.state region.now) log.now standing.now }
-    ensures { IfOk result (λ found. IsTelling (R.state region.now) → IsVictim (R.state region.now) log.now standing.now after room.now found) }
+    requires standing { IsTelling (R.state region.now) → IsUpToDate (R.state region.now) log.now
+        standing.now }
+    ensures { IfOk result (λ found. IsTelling (R.state region.now)
+        → IsVictim (R.state region.now) log.now standing.now after room.now found) }
 {
     let _ = alloc;
     let begin = begin_at(after);

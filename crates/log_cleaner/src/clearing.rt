@@ -22,7 +22,8 @@ use std::marker::Model;
 fn entry_count<R: Region>(region: &R, log: &CoreLog, chunk: u32) -> u64
     requires stands { StandsIn (R.state region.now) log.now }
     requires has { is_some (tail_of log.now.chunks chunk) ≡ true }
-    ensures { IsTelling (R.state region.now) → result ≡ length (entries_in (R.state region.now) log.now chunk) }
+    ensures { IsTelling (R.state region.now)
+        → result ≡ length (entries_in (R.state region.now) log.now chunk) }
 {
     let mut count = 0;
     let mut place = 0;
@@ -36,7 +37,8 @@ fn entry_count<R: Region>(region: &R, log: &CoreLog, chunk: u32) -> u64
 // Appends a name to a list that has room, where it is to stand there.
 fn push_if(names: &mut Vec<EntryName>, name: EntryName, yes: bool)
     requires { vec_len names.old < vec_capacity names.old }
-    ensures items { names.new.items ≡ (if yes then names.old.items ++ name ∷ [] else names.old.items) }
+    ensures items { names.new.items ≡ (if yes then names.old.items ++ name ∷ []
+        else names.old.items) }
     ensures capacity { vec_capacity names.old ≤ vec_capacity names.new }
 {
     if yes {
@@ -46,7 +48,8 @@ fn push_if(names: &mut Vec<EntryName>, name: EntryName, yes: bool)
 
 // Takes out a copy of a name, where it stands.
 fn drop_one(standing: &mut Standing, name: EntryName)
-    ensures { Changes standing.old standing.new name.key name.version (lowered (copies_at standing.old name.key name.version)) }
+    ensures { Changes standing.old standing.new name.key name.version
+        (lowered (copies_at standing.old name.key name.version)) }
 {
     if standing.copies(name) > 0 {
         let _ = standing.drop_copy(name);
@@ -97,7 +100,8 @@ impl Clearing {
         requires has { is_some (tail_of log.now.chunks victim.now.chunk) ≡ true }
         ensures chunk { IfOk result (λ c. c.chunk ≡ victim.now.chunk) }
         ensures fresh { IfOk result IsFresh }
-        ensures room { IfOk result (λ c. IsTelling (R.state region.now) → length (entries_in (R.state region.now) log.now victim.now.chunk) ≤ c.room) }
+        ensures room { IfOk result (λ c. IsTelling (R.state region.now)
+            → length (entries_in (R.state region.now) log.now victim.now.chunk) ≤ c.room) }
     {
         let count = entry_count(region, log, victim.chunk);
         let mut seen = Standing::open(alloc, &[])?;
@@ -116,7 +120,8 @@ impl Clearing {
     fn note(&mut self, standing: &Standing, name: EntryName)
         ensures chunk { self.new.chunk ≡ self.old.chunk }
         ensures again { 0 < times_in self.old.names name.key name.version → self.new ≡ self.old }
-        ensures first { times_in self.old.names name.key name.version ≡ 0 → 0 < self.old.room → NotesNew standing.now self.old self.new name }
+        ensures first { times_in self.old.names name.key name.version ≡ 0 → 0 < self.old.room
+            → NotesNew standing.now self.old self.new name }
     {
         if self.seen.copies(name) > 0 || self.seen.room() == 0 {
             return;
@@ -138,8 +143,10 @@ impl Clearing {
         requires stands { StandsIn (R.state region.now) log.now }
         requires has { is_some (tail_of log.now.chunks chunk) ≡ true }
         requires fresh { IsFresh self.old }
-        requires room { IsTelling (R.state region.now) → length (entries_in (R.state region.now) log.now chunk) ≤ self.old.room }
-        ensures gathered { IsTelling (R.state region.now) → IsGathered standing.now (entries_in (R.state region.now) log.now chunk) self.new }
+        requires room { IsTelling (R.state region.now)
+            → length (entries_in (R.state region.now) log.now chunk) ≤ self.old.room }
+        ensures gathered { IsTelling (R.state region.now)
+            → IsGathered standing.now (entries_in (R.state region.now) log.now chunk) self.new }
         ensures chunk { self.new.chunk ≡ self.old.chunk }
     {
         let mut place = 0;
@@ -155,8 +162,11 @@ impl Clearing {
         requires stands { StandsIn (R.state region.now) log.now }
         requires has { is_some (tail_of log.now.chunks self.old.chunk) ≡ true }
         requires fresh { IsFresh self.old }
-        requires room { IsTelling (R.state region.now) → length (entries_in (R.state region.now) log.now self.old.chunk) ≤ self.old.room }
-        ensures gathered { IsTelling (R.state region.now) → IsGathered standing.now (entries_in (R.state region.now) log.now self.old.chunk) self.new }
+        requires room { IsTelling (R.state region.now)
+            → length (entries_in (R.state region.now) log.now self.old.chunk) ≤ self.old.room }
+        ensures gathered { IsTelling (R.state region.now)
+            → IsGathered standing.now (entries_in (R.state region.now) log.now self.old.chunk)
+            self.new }
         ensures chunk { self.new.chunk ≡ self.old.chunk }
     {
         let chunk = self.chunk();
@@ -181,15 +191,20 @@ impl Clearing {
         requires stands { StandsIn (R.state region.old) log.old }
         requires has { is_some (tail_of log.old.chunks self.chunk) ≡ true }
         requires closed { log.old.opened ≢ Some self.chunk }
-        requires ready { IsTelling (R.state region.old) → IsReady (R.state region.old) log.old standing.old self }
-        requires standing { IsTelling (R.state region.old) → IsUpToDate (R.state region.old) log.old standing.old }
+        requires ready { IsTelling (R.state region.old)
+            → IsReady (R.state region.old) log.old standing.old self }
+        requires standing { IsTelling (R.state region.old) → IsUpToDate (R.state region.old) log.old
+            standing.old }
         requires agrees { IsTelling (R.state region.old) → AgreesIn (R.state region.old) log.old }
-        ensures moments { GivesUp (R.state region.old) (R.state region.new) log.old self.chunk self.doomed }
-        ensures ok { OnOk result (HasCleared (R.state region.old) (R.state region.new) log.old log.new
+        ensures moments { GivesUp (R.state region.old) (R.state region.new) log.old self.chunk
+            self.doomed }
+        ensures ok { OnOk result (HasCleared (R.state region.old) (R.state region.new) log.old
+            log.new
             standing.old standing.new self) }
         ensures chunk { IfOk result (λ cleared. cleared.chunk ≡ self.chunk) }
         ensures gone { IfOk result (λ cleared. cleared.gone.items ≡ self.doomed) }
-        ensures cause { OnErr result (Rose (R.state region.old).faults (R.state region.new).faults) }
+        ensures cause { OnErr result
+            (Rose (R.state region.old).faults (R.state region.new).faults) }
     {
         let Clearing {
             chunk,

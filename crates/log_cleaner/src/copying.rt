@@ -7,18 +7,20 @@ ghost use Rattle.log_cleaner.specs.Copying.{IsUpToDate};
 ghost use Rattle.log_cleaner.specs.CopyBatch.{copies_in, CopiesFit, IsBatchOf, HasCopied};
 ghost use Rattle.log_cleaner.specs.ImagesBeside.{MakesCopies};
 
-use crate::collecting::collect;
+use crate::collect_copies::collect;
 use crate::types::Victim;
 use core_log::CoreLog;
-use log_entry::WordBuffer;
+use log_entry::{MOST_BATCH_WORDS, WordBuffer};
 use log_standing::Standing;
 use pm_region::{Region, RegionFault};
 
 // Whether there is a batch, and room for it.
 fn is_ready(log: &CoreLog, buffer: &WordBuffer, taken: u64) -> bool
-    requires { length buffer.now.words ≤ 2176 }
-    ensures ready { result ≡ true → (0 < taken) × (lines_for (length buffer.now.words) ≤ room_of log.now) }
-    ensures unready { result ≡ false → (taken ≡ 0) ⊎ (room_of log.now < lines_for (length buffer.now.words)) }
+    requires { length buffer.now.words ≤ MOST_BATCH_WORDS }
+    ensures ready { result ≡ true → (0 < taken)
+        × (lines_for (length buffer.now.words) ≤ room_of log.now) }
+    ensures unready { result ≡ false → (taken ≡ 0)
+        ⊎ (room_of log.now < lines_for (length buffer.now.words)) }
 {
     taken > 0 && (buffer.words().len() as u64 + 7) / 8 <= log.room()
 }
@@ -37,8 +39,9 @@ pub fn copy_live<R: Region>(
     requires stands { StandsIn (R.state region.old) log.old }
     requires has { is_some (tail_of log.old.chunks victim.now.chunk) ≡ true }
     requires closed { log.old.opened ≢ Some victim.now.chunk }
-    requires standing { IsTelling (R.state region.old) → IsUpToDate (R.state region.old) log.old standing.old }
-    requires buffer { 2176 ≤ buffer.old.room }
+    requires standing { IsTelling (R.state region.old) → IsUpToDate (R.state region.old) log.old
+        standing.old }
+    requires buffer { MOST_BATCH_WORDS ≤ buffer.old.room }
     requires room { CopiesFit (R.state region.old) log.old standing.old victim.now.chunk }
     ensures moments { MakesCopies (R.state region.old) (R.state region.new) log.old
         (copies_in (R.state region.old) log.old standing.old victim.now.chunk) }
@@ -46,7 +49,8 @@ pub fn copy_live<R: Region>(
         → IsBatchOf (R.state region.old) log.old standing.old victim.now.chunk n buffer.new.words) }
     ensures ok { OnOk result (HasCopied (R.state region.old) (R.state region.new) log.old log.new
         standing.old standing.new victim.now.chunk) }
-    ensures nothing { IfOk result (λ n. n ≡ 0 → (R.state region.new ≡ R.state region.old) × (log.new ≡ log.old)) }
+    ensures nothing { IfOk result (λ n. n ≡ 0 → (R.state region.new ≡ R.state region.old)
+        × (log.new ≡ log.old)) }
     ensures buffer { buffer.new.room ≡ buffer.old.room }
     ensures err { OnErr result (log.new ≡ log.old) }
     ensures cause { OnErr result (Rose (R.state region.old).faults (R.state region.new).faults) }

@@ -5,7 +5,7 @@ ghost use Rattle.core_log.specs.Log.{StandsIn, tail_of, tail_in};
 ghost use Rattle.log_standing.specs.NameCounts.{wants};
 ghost use Rattle.log_cleaner.specs.Copying.{IsUpToDate, to_copy};
 
-use crate::beginning::begin_at;
+use crate::reading_start::begin_at;
 use crate::types::Victim;
 use core_log::{CoreLog, Peek};
 use log_standing::Standing;
@@ -16,7 +16,9 @@ fn with_entry(so_far: Victim, standing: &Standing, found: Peek) -> Victim
     requires entries { so_far.entries + 1 < 2 ^ 64 }
     requires words { so_far.words + (found.next - found.place) < 2 ^ 64 }
     requires size { found.place ≤ found.next }
-    ensures { result ≡ (if wants standing.now found.name.key found.name.version then record so_far { entries = so_far.entries + 1; words = so_far.words + (found.next - found.place) } else so_far) }
+    ensures { result ≡ (if wants standing.now found.name.key found.name.version then record so_far
+        { entries = so_far.entries + 1; words = so_far.words + (found.next - found.place) }
+        else so_far) }
 {
     if standing.wants(found.name) {
         return Victim {
@@ -33,8 +35,10 @@ fn with_entry(so_far: Victim, standing: &Standing, found: Peek) -> Victim
 pub fn to_copy<R: Region>(region: &R, log: &CoreLog, standing: &Standing, chunk: u32) -> Victim
     requires stands { StandsIn (R.state region.now) log.now }
     requires has { is_some (tail_of log.now.chunks chunk) ≡ true }
-    requires standing { IsTelling (R.state region.now) → IsUpToDate (R.state region.now) log.now standing.now }
-    ensures told { IsTelling (R.state region.now) → result ≡ to_copy (R.state region.now) log.now standing.now chunk }
+    requires standing { IsTelling (R.state region.now) → IsUpToDate (R.state region.now) log.now
+        standing.now }
+    ensures told { IsTelling (R.state region.now) → result ≡ to_copy (R.state region.now) log.now
+        standing.now chunk }
     ensures chunk { result.chunk ≡ chunk }
     ensures entries { result.entries ≤ tail_in log.now chunk }
     ensures words { result.words ≤ tail_in log.now chunk }

@@ -1,13 +1,13 @@
 //! Cleaning of a core's own log: what of a chunk is still needed is copied, and the chunk is given up.
 #![tactic(auto)]
 
-mod beginning;
 mod choosing;
+pub mod cleaning_laws;
 mod clearing;
-mod collecting;
+mod collect_copies;
 mod copying;
 mod counting;
-pub mod laws;
+mod reading_start;
 #[cfg(test)]
 mod tests;
 mod types;

@@ -4,7 +4,7 @@ ghost use Rattle.std.specs.Prelude.{◌≡◌, ◌≤◌, ◌<◌, true, false, 
 ghost use Rattle.pm_region.specs.Steady.{steady_state};
 ghost use Rattle.core_log.specs.Log.{StandsIn};
 
-use crate::beginning::tail_of;
+use crate::reading_start::tail_of;
 use crate::{Clearing, Standing, Victim, copy_live, to_copy, victim};
 use chunk_map::Layout;
 use core_log::{CoreLog, Room};
@@ -81,10 +81,12 @@ fn name(version: u32) -> EntryName {
 // Appends a version of key 1, the value `a`, as a batch of its own: one line. Versions up to `dead` are told dead.
 fn with_entry(alloc: Global, stage: Stage, version: u32, dead: u32) -> Result<Stage, Fail>
     requires version { (1 ≤ version) × (version < 100) }
-    requires stands { StandsIn (record (steady_state stage.region.region) { told = λ t. false }) stage.log }
+    requires stands { StandsIn (record (steady_state stage.region.region) { told = λ t. false })
+        stage.log }
     requires chunks { stage.log.layout.chunks ≡ 4 }
     requires room { 2176 ≤ stage.buffer.room }
-    ensures stands { IfOk result (λ r. StandsIn (record (steady_state r.region.region) { told = λ t. false }) r.log) }
+    ensures stands { IfOk result
+        (λ r. StandsIn (record (steady_state r.region.region) { told = λ t. false }) r.log) }
     ensures chunks { IfOk result (λ r. r.log.layout.chunks ≡ 4) }
     ensures room { IfOk result (λ r. 2176 ≤ r.buffer.room) }
 {
@@ -123,7 +125,8 @@ fn with_entry(alloc: Global, stage: Stage, version: u32, dead: u32) -> Result<St
 
 // A part with an empty log chunk.
 fn begun(alloc: Global) -> Result<Stage, Fail>
-    ensures stands { IfOk result (λ r. StandsIn (record (steady_state r.region.region) { told = λ t. false }) r.log) }
+    ensures stands { IfOk result
+        (λ r. StandsIn (record (steady_state r.region.region) { told = λ t. false }) r.log) }
     ensures chunks { IfOk result (λ r. r.log.layout.chunks ≡ 4) }
     ensures room { IfOk result (λ r. 2176 ≤ r.buffer.room) }
 {
@@ -145,10 +148,12 @@ fn begun(alloc: Global) -> Result<Stage, Fail>
 
 // Opens the next log chunk.
 fn opened(stage: Stage) -> Result<Stage, Fail>
-    requires stands { StandsIn (record (steady_state stage.region.region) { told = λ t. false }) stage.log }
+    requires stands { StandsIn (record (steady_state stage.region.region) { told = λ t. false })
+        stage.log }
     requires chunks { stage.log.layout.chunks ≡ 4 }
     requires room { 2176 ≤ stage.buffer.room }
-    ensures stands { IfOk result (λ r. StandsIn (record (steady_state r.region.region) { told = λ t. false }) r.log) }
+    ensures stands { IfOk result
+        (λ r. StandsIn (record (steady_state r.region.region) { told = λ t. false }) r.log) }
     ensures chunks { IfOk result (λ r. r.log.layout.chunks ≡ 4) }
     ensures room { IfOk result (λ r. 2176 ≤ r.buffer.room) }
 {
@@ -168,7 +173,8 @@ fn opened(stage: Stage) -> Result<Stage, Fail>
 }
 
 fn prepared(alloc: Global, dead: u32) -> Result<Stage, Fail>
-    ensures stands { IfOk result (λ r. StandsIn (record (steady_state r.region.region) { told = λ t. false }) r.log) }
+    ensures stands { IfOk result
+        (λ r. StandsIn (record (steady_state r.region.region) { told = λ t. false }) r.log) }
     ensures chunks { IfOk result (λ r. r.log.layout.chunks ≡ 4) }
     ensures room { IfOk result (λ r. 2176 ≤ r.buffer.room) }
 {
@@ -188,7 +194,8 @@ const ROOM: Room = Room {
 };
 
 fn found(alloc: Global, stage: &Stage) -> Result<Option<Victim>, Fail>
-    requires { StandsIn (record (steady_state stage.now.region.region) { told = λ t. false }) stage.now.log }
+    requires { StandsIn (record (steady_state stage.now.region.region) { told = λ t. false })
+        stage.now.log }
 {
     let found = victim(
         alloc,
@@ -203,10 +210,12 @@ fn found(alloc: Global, stage: &Stage) -> Result<Option<Victim>, Fail>
 
 // Copies what lives of chunk 0, and gives how many entries were copied.
 fn copied(stage: Stage) -> Result<(Stage, u64), Fail>
-    requires stands { StandsIn (record (steady_state stage.region.region) { told = λ t. false }) stage.log }
+    requires stands { StandsIn (record (steady_state stage.region.region) { told = λ t. false })
+        stage.log }
     requires chunks { stage.log.layout.chunks ≡ 4 }
     requires room { 2176 ≤ stage.buffer.room }
-    ensures stands { IfOk result (λ r. StandsIn (record (steady_state r.0.region.region) { told = λ t. false }) r.0.log) }
+    ensures stands { IfOk result
+        (λ r. StandsIn (record (steady_state r.0.region.region) { told = λ t. false }) r.0.log) }
     ensures chunks { IfOk result (λ r. r.0.log.layout.chunks ≡ 4) }
     ensures room { IfOk result (λ r. 2176 ≤ r.0.buffer.room) }
 {
@@ -233,7 +242,8 @@ fn copied(stage: Stage) -> Result<(Stage, u64), Fail>
 
 // Gives up chunk 0: how many names were doomed, and which are gone.
 fn cleared(alloc: Global, stage: Stage) -> Result<(Stage, usize, Vec<EntryName>), Fail>
-    requires stands { StandsIn (record (steady_state stage.region.region) { told = λ t. false }) stage.log }
+    requires stands { StandsIn (record (steady_state stage.region.region) { told = λ t. false })
+        stage.log }
     requires chunks { stage.log.layout.chunks ≡ 4 }
     requires room { 2176 ≤ stage.buffer.room }
 {

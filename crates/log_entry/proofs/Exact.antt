@@ -9,7 +9,7 @@ use Rattle.log_entry.specs.declared.entry.Entry.{Entry}
 use Rattle.log_entry.specs.declared.entry.Read.TheVariants as reads
 use Rattle.log_entry.specs.Words.{words_for, packed_in, packed, unpacked}
 use Rattle.log_entry.specs.Spelling.{first_word, body_words, words_of, Fits, HasSpelling}
-use Rattle.log_entry.specs.Reading.{op_of, form_of, version_of, high_of, length_of, size_of, keeps_1, keeps_2, keeps_3, keeps_4, keeps_6, entry_rule, body_of, entry_of, read_by, read}
+use Rattle.log_entry.specs.Reading.{op_of, form_of, version_of, high_of, length_of, size_of, has_known_op, has_form_of_op, has_version_of_op, has_no_stray_bits, ends_in_zeros, entry_rule, body_of, entry_of, read_by, read}
 use Rattle.log_entry.proofs.Bytes.{AreWords, packed_in-zeros, packed_in-unpacked, length-unpacked, all_zero_is}
 
 -- a word is its fields put together
@@ -25,21 +25,21 @@ either true b e = inl refl
 either false b e = inr e
 
 pub record Kept (ws : List ℕ) : Type 0 where
-  pub k1 : keeps_1 (get_or ws 0 0) ≡ true
-  pub k2 : keeps_2 (get_or ws 0 0) ≡ true
-  pub k3 : keeps_3 (get_or ws 0 0) ≡ true
-  pub k4 : keeps_4 (get_or ws 0 0) ≡ true
+  pub k1 : has_known_op (get_or ws 0 0) ≡ true
+  pub k2 : has_form_of_op (get_or ws 0 0) ≡ true
+  pub k3 : has_version_of_op (get_or ws 0 0) ≡ true
+  pub k4 : has_no_stray_bits (get_or ws 0 0) ≡ true
   pub size : size_of (get_or ws 0 0) ≤ length ws
-  pub k6 : keeps_6 ws ≡ true
+  pub k6 : ends_in_zeros ws ≡ true
 
 pub rules_kept : (ws : List ℕ) → entry_rule ws ≡ None → Kept ws
 rules_kept ws e =
-    let a = guard (keeps_1 (get_or ws 0 0)) _ 1 e in
-    let b = guard (keeps_2 (get_or ws 0 0)) _ 2 a.1 in
-    let c = guard (keeps_3 (get_or ws 0 0)) _ 3 b.1 in
-    let d = guard (keeps_4 (get_or ws 0 0)) _ 4 c.1 in
+    let a = guard (has_known_op (get_or ws 0 0)) _ 1 e in
+    let b = guard (has_form_of_op (get_or ws 0 0)) _ 2 a.1 in
+    let c = guard (has_version_of_op (get_or ws 0 0)) _ 3 b.1 in
+    let d = guard (has_no_stray_bits (get_or ws 0 0)) _ 4 c.1 in
     let s = guard (leb (size_of (get_or ws 0 0)) (length ws)) _ 5 d.1 in
-    let z = guard (keeps_6 ws) None 6 s.1 in
+    let z = guard (ends_in_zeros ws) None 6 s.1 in
     record { k1 = a.0; k2 = b.0; k3 = c.0; k4 = d.0; size = leb-true (size_of (get_or ws 0 0)) (length ws) s.0; k6 = z.0 }
 
 eight_bytes : (w : ℕ) (rest : List ℕ) → AllByRecursion (λ b. b < 256) rest → AllByRecursion (λ b. b < 256) (to_le_bytes w64 w ++ rest)

@@ -20,14 +20,17 @@ pub record BeginsWithNone (ws : List ℕ) : Type 0 where
 abbrev pub Tells : List ℕ → Read → Type 0
 Tells ws (reads.Entry e n) = BeginsWith ws e n
 Tells ws reads.Padding = slice_index ws 0 ≡ 0
-Tells ws (reads.BadEntry rule) = (slice_index ws 0 ≢ 0) × (entry_rule ws ≡ Some rule) × BeginsWithNone ws
+Tells ws (reads.BadEntry rule) = (slice_index ws 0 ≢ 0) × (entry_rule ws ≡ Some rule)
+    × BeginsWithNone ws
 
 -- The answer is right, and no other would be: what is spelled is read, a zero word is padding, and the rest is bad.
 pub record IsReading (ws : List ℕ) (r : Read) : Type 0 where
-  pub spelled : (e : Entry) → HasSpelling e → (rest : List ℕ) → ws ≡ words_of e ++ rest → r ≡ reads.Entry e (length (words_of e))
+  pub spelled : (e : Entry) → HasSpelling e → (rest : List ℕ) → ws ≡ words_of e ++ rest
+      → r ≡ reads.Entry e (length (words_of e))
   pub padding : slice_index ws 0 ≡ 0 → r ≡ reads.Padding
   pub tells : Tells ws r
 
 -- no other entry's spelling begins with this one's
 pub record IsNoPrefix (e : Entry) : Type 0 where
-  pub alone : (f : Entry) → HasSpelling f → (rest : List ℕ) → words_of f ≡ words_of e ++ rest → f ≡ e
+  pub alone : (f : Entry) → HasSpelling f → (rest : List ℕ) → words_of f ≡ words_of e ++ rest
+      → f ≡ e

@@ -11,7 +11,7 @@ pub fn words_for(bytes: u64) -> u64
     requires { bytes + 7 < 2 ^ 64 }
     ensures { result ≡ words_for bytes }
 {
-    (bytes + 7) / 8
+    bytes.div_ceil(8)
 }
 
 fn byte_at(bytes: &[u8], at: usize) -> u8

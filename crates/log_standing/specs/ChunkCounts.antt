@@ -20,7 +20,9 @@ has_name xs k v = list_any (is_named k v) xs
 
 -- in how many chunks of the log a name stands, by an image and as it is now
 abbrev pub chunks_in : (ℕ → ℕ) → LogState → ℕ → ℕ → ℕ
-chunks_in image log k v = count_by (λ (c : LogChunk). has_name (scan_of (payload image (first_of log c.chunk) (tail_in log c.chunk))).entries k v) log.chunks
+chunks_in image log k v = count_by
+    (λ (c : LogChunk). has_name
+    (scan_of (payload image (first_of log c.chunk) (tail_in log c.chunk))).entries k v) log.chunks
 
 abbrev pub chunks_with : State → LogState → ℕ → ℕ → ℕ
 chunks_with s log k v = chunks_in (lasts s) log k v
@@ -31,7 +33,8 @@ IsStandingOf s log st = (k v : ℕ) → count_of st k v ≡ chunks_with s log k 
 
 -- the words of each of its chunks spell batches
 abbrev pub IsSpelled : State → LogState → Type 0
-IsSpelled s log = IsTelling s → (j : ℕ) → is_some (tail_of log.chunks j) ≡ true → Spelled (words_in s log j)
+IsSpelled s log = IsTelling s → (j : ℕ) → is_some (tail_of log.chunks j) ≡ true
+    → Spelled (words_in s log j)
 
 -- no name was told dead, and no cleaning has read
 pub record IsUntold (st : StandingState) : Type 0 where

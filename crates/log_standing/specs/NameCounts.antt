@@ -64,7 +64,8 @@ times_in ns k v = count_by (λ n. name_eq (n.key, n.version) (k, v)) ns
 
 -- the name has this now, and every other name what it had
 abbrev pub Changes : StandingState → StandingState → ℕ → ℕ → Option Copies → Type 0
-Changes old new k v now = (j w : ℕ) → copies_at new j w ≡ (if name_eq (k, v) (j, w) then now else copies_at old j w)
+Changes old new k v now = (j w : ℕ)
+    → copies_at new j w ≡ (if name_eq (k, v) (j, w) then now else copies_at old j w)
 
 -- every name has what it had
 abbrev pub SameCopies : StandingState → StandingState → Type 0
@@ -75,10 +76,12 @@ pub record IsStanding (entries : List ((ℕ × ℕ) × Copies)) (spare most room
   pub places : room ≤ spare
   pub fits : most + room < 2 ^ 64
   pub two : 2 ≤ most
-  pub each : (k v : ℕ) (c : Copies) → lookup (name_eq (k, v)) entries ≡ Some c → (0 < c.count) × (c.count ≤ most)
+  pub each : (k v : ℕ) (c : Copies) → lookup (name_eq (k, v)) entries ≡ Some c → (0 < c.count)
+      × (c.count ≤ most)
 
 -- where b, the name has one copy more; nothing else changed, and no name was told dead
 pub record Gets (old new : StandingState) (b : Bool) (n : EntryName) : Type 0 where
-  pub counts : (k v : ℕ) → count_of new k v ≡ count_of old k v + bit (b && name_eq (n.key, n.version) (k, v))
+  pub counts : (k v : ℕ) → count_of new k v ≡ count_of old k v + bit
+      (b && name_eq (n.key, n.version) (k, v))
   pub told : (k v : ℕ) → is_told new k v ≡ is_told old k v
   pub settled : new.settled ≡ old.settled

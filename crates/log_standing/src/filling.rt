@@ -6,7 +6,7 @@ ghost use Rattle.core_log.specs.Walking.{LiesIn, entries_in};
 ghost use Rattle.log_standing.specs.NameCounts.{count_of, is_told, Gets};
 ghost use Rattle.log_standing.specs.ChunkCounts.{IsStandingOf, IsSpelled, IsUntold, GetsAll};
 
-use crate::standing::Standing;
+use crate::standing_names::Standing;
 use core_log::CoreLog;
 use fs_errors::Memory;
 use log_entry::EntryName;
@@ -26,8 +26,10 @@ fn add_if(standing: &mut Standing, name: EntryName, new: bool) -> Result<(), Mem
 
 // Notes a name of a chunk, where it was not seen there yet.
 fn note(standing: &mut Standing, seen: &mut Standing, name: EntryName) -> Result<(), Memory>
-    ensures standing { IfOk result (λ _. Gets standing.old standing.new (count_of seen.old name.key name.version == 0) name) }
-    ensures seen { IfOk result (λ _. Gets seen.old seen.new (count_of seen.old name.key name.version == 0) name) }
+    ensures standing { IfOk result
+        (λ _. Gets standing.old standing.new (count_of seen.old name.key name.version == 0) name) }
+    ensures seen { IfOk result
+        (λ _. Gets seen.old seen.new (count_of seen.old name.key name.version == 0) name) }
 {
     let new = seen.copies(name) == 0;
     add_if(seen, name, new)?;
@@ -45,9 +47,11 @@ fn note_chunk<R: Region>(
     requires lies { LiesIn (R.state region.now).frame log.now }
     requires has { is_some (tail_of log.now.chunks chunk) ≡ true }
     requires spelled { IsSpelled (R.state region.now) log.now }
-    ensures told { IfOk result (λ _. (k v : ℕ) → is_told standing.new k v ≡ is_told standing.old k v) }
+    ensures told { IfOk result (λ _. (k v : ℕ) → is_told standing.new k v ≡ is_told standing.old k
+        v) }
     ensures settled { IfOk result (λ _. standing.new.settled ≡ standing.old.settled) }
-    ensures counts { IfOk result (λ _. IsTelling (R.state region.now) → GetsAll standing.old standing.new (entries_in (R.state region.now) log.now chunk)) }
+    ensures counts { IfOk result (λ _. IsTelling (R.state region.now)
+        → GetsAll standing.old standing.new (entries_in (R.state region.now) log.now chunk)) }
 {
     let mut seen = Standing::open(alloc, &[])?;
     let mut place = 0;
@@ -65,7 +69,8 @@ pub fn standing_of<R: Region>(alloc: Global, region: &R, log: &CoreLog) -> Resul
     requires lies { LiesIn (R.state region.now).frame log.now }
     requires spelled { IsSpelled (R.state region.now) log.now }
     ensures untold { IfOk result IsUntold }
-    ensures standing { IfOk result (λ standing. IsTelling (R.state region.now) → IsStandingOf (R.state region.now) log.now standing) }
+    ensures standing { IfOk result (λ standing. IsTelling (R.state region.now)
+        → IsStandingOf (R.state region.now) log.now standing) }
 {
     let mut standing = Standing::open(alloc, &[])?;
     for c in log.chunks() {

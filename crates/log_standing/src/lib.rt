@@ -2,9 +2,9 @@
 #![tactic(auto)]
 
 mod filling;
-mod standing;
+mod standing_names;
 mod types;
 
 pub use filling::standing_of;
-pub use standing::Standing;
+pub use standing_names::Standing;
 pub use types::{Copies, Settled};

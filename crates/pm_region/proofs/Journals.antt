@@ -8,7 +8,7 @@ use Rattle.pm_region.specs.Cell.{Cell, certain, stored, store_at}
 use Rattle.pm_region.specs.State.{Frame, Goes}
 use Rattle.pm_region.specs.Journals.{act, cell_after, journal_told, Records, IsComplete}
 use Rattle.pm_region.specs.Histories.{state_by, Outside}
-use Rattle.pm_region.specs.declared.journal.Journal.{Journal}
+use Rattle.pm_region.specs.declared.region_journal.Journal.{Journal}
 use Rattle.pm_region.specs.declared.step.Step.{Step}
 
 pub after_append : (xs ys : List Step) (w : ℕ) (c : Cell) → cell_after (xs ++ ys) w c ≡ cell_after ys w (cell_after xs w c)

@@ -6,7 +6,7 @@ use Rattle.pm_region.specs.Cell.{Cell, certain, fenced, flushed, HasValue}
 use Rattle.pm_region.specs.Image.{cell_of_data}
 use Rattle.pm_region.specs.CellLists.{cell_in, HasOne, ActsAt, Acts, AllAct, AreOpen}
 use Rattle.pm_region.specs.Journals.{act}
-use Rattle.pm_region.specs.declared.image.CellData.{CellData}
+use Rattle.pm_region.specs.declared.crash_image.CellData.{CellData}
 use Rattle.pm_region.specs.declared.step.Step.{Step}
 use Rattle.pm_region.specs.declared.step.Step.TheVariants.{Store, Flush, Fence}
 use Rattle.pm_region.proofs.Cells.{store_other, flush_other, has_end}

@@ -41,7 +41,8 @@ byte_after before [] byte = before byte
 byte_after before (settled ∷ calls) byte = byte_after before calls byte
 byte_after before (measured n ∷ calls) byte = byte_after before calls byte
 byte_after before (gave at bytes ∷ calls) byte = byte_after before calls byte
-byte_after before (wrote at bytes ∷ calls) byte = if covers at (length bytes) byte then slice_index bytes (byte - at) else byte_after before calls byte
+byte_after before (wrote at bytes ∷ calls) byte = if covers at (length bytes) byte
+    then slice_index bytes (byte - at) else byte_after before calls byte
 byte_after before (emptied ∷ calls) byte = 0
 byte_after before (synced ∷ calls) byte = byte_after before calls byte
 byte_after before (named ∷ calls) byte = byte_after before calls byte

@@ -3,7 +3,7 @@ use Rattle.std.specs.Prelude.{◌≡◌, ◌⊎◌, ℕ, ◌+◌, ◌<◌, List,
 use Rattle.pm_region.specs.Cell.{Cell, certain, HasValue}
 use Rattle.pm_region.specs.Image.{cell_of_data}
 use Rattle.pm_region.specs.Journals.{act}
-use Rattle.pm_region.specs.declared.image.CellData.{CellData}
+use Rattle.pm_region.specs.declared.crash_image.CellData.{CellData}
 use Rattle.pm_region.specs.declared.step.Step.{Step}
 
 abbrev pub cell_in : List CellData → ℕ → Cell
@@ -20,9 +20,11 @@ pub record ActsAt (step : Step) (first : ℕ) (old new : List CellData) (k : ℕ
   pub others : (j : ℕ) → (j ≡ k → ⊥) → cell_in new j ≡ cell_in old j
 
 -- Each cell took the step or stayed. Those at the places of which `Taken` holds took it.
-pub record Acts (step : Step) (first : ℕ) (old new : List CellData) (Taken : ℕ → Type 0) : Type 0 where
+pub record Acts (step : Step) (first : ℕ) (old new : List CellData) (Taken : ℕ → Type 0) :
+    Type 0 where
   pub count : length new ≡ length old
-  pub each : (k : ℕ) → (cell_in new k ≡ cell_in old k) ⊎ (cell_in new k ≡ act step (first + k) (cell_in old k))
+  pub each : (k : ℕ) → (cell_in new k ≡ cell_in old k)
+      ⊎ (cell_in new k ≡ act step (first + k) (cell_in old k))
   pub taken : (k : ℕ) → Taken k → cell_in new k ≡ act step (first + k) (cell_in old k)
 
 -- all cells took the step

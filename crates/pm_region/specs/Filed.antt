@@ -39,15 +39,18 @@ pub record IsKept (old new : FileWords) : Type 0 where
 
 -- the byte of the file is in none of the flushed lines of these words, which begin at the byte `start`
 abbrev pub IsBeside : FileWords → ℕ → ℕ → Type 0
-IsBeside w start byte = (line : ℕ) → flushes w line ≡ true → (byte < start + 64 * line) ⊎ (start + 64 * line + 64 ≤ byte)
+IsBeside w start byte = (line : ℕ) → flushes w line ≡ true → (byte < start + 64 * line)
+    ⊎ (start + 64 * line + 64 ≤ byte)
 
 -- From some calls to others, the flushed lines of these words were written: only writes were made. Each byte of those
 -- lines has its place, and no other byte of the file changed.
 pub record IsWritten (w : FileWords) (start : ℕ) (before after : List Call) : Type 0 where
   pub writes : OnlyWrites before after
   pub lines : (disk : ℕ → ℕ) (line byte : ℕ) → flushes w line ≡ true → byte < 64
-      → byte_after disk after (start + (64 * line + byte)) ≡ slice_index w.bytes.items (64 * line + byte)
-  pub others : (disk : ℕ → ℕ) (byte : ℕ) → IsBeside w start byte → byte_after disk after byte ≡ byte_after disk before byte
+      → byte_after disk after (start + (64 * line + byte)) ≡ slice_index w.bytes.items
+      (64 * line + byte)
+  pub others : (disk : ℕ → ℕ) (byte : ℕ) → IsBeside w start byte → byte_after disk after byte
+      ≡ byte_after disk before byte
 
 -- a fence wrote the flushed lines, synced the file, and nothing is flushed any more
 pub record IsFenced (old new : FileWords) (start : ℕ) (before after : List Call) : Type 0 where
@@ -60,7 +63,8 @@ pub record IsFenced (old new : FileWords) (start : ℕ) (before after : List Cal
 
 -- nothing was flushed and no call made, or a fence was made
 abbrev pub IsSettled : FileWords → FileWords → List Call → List Call → Type 0
-IsSettled old new before after = (((line : ℕ) → flushes old line ≡ false) × (after ≡ before)) ⊎ IsFenced old new 0 before after
+IsSettled old new before after = (((line : ℕ) → flushes old line ≡ false) × (after ≡ before))
+    ⊎ IsFenced old new 0 before after
 
 -- the words from one place to another, with nothing flushed
 pub record IsPart (w : FileWords) (from end : ℕ) (part : FileWords) : Type 0 where
@@ -72,7 +76,8 @@ pub record IsPart (w : FileWords) (from end : ℕ) (part : FileWords) : Type 0 w
 pub record TakesPart (old new part : FileWords) (first : ℕ) : Type 0 where
   pub size : new.size ≡ old.size
   pub inner : (k : ℕ) → k < words_in part.size → word_of new (first + k) ≡ word_of part k
-  pub outer : (k : ℕ) → (k < first) ⊎ (first + words_in part.size ≤ k) → word_of new k ≡ word_of old k
+  pub outer : (k : ℕ) → (k < first) ⊎ (first + words_in part.size ≤ k)
+      → word_of new k ≡ word_of old k
   pub keeps : (line : ℕ) → flushes old line ≡ true → flushes new line ≡ true
   pub takes : (line : ℕ) → flushes part line ≡ true → flushes new (first / 8 + line) ≡ true
 

@@ -3,7 +3,7 @@ use Rattle.std.specs.Prelude.{◌⊎◌, ℕ, ◌+◌, ◌-◌, ◌≤◌, ◌<�
 use Rattle.pm_region.specs.Cell.{certain}
 use Rattle.pm_region.specs.State.{State, Frame}
 use Rattle.pm_region.specs.Journals.{cell_after, journal_told, steps_to}
-use Rattle.pm_region.specs.declared.journal.Journal.{Journal}
+use Rattle.pm_region.specs.declared.region_journal.Journal.{Journal}
 
 -- the state of a region with this journal, that began with these words certain
 abbrev pub state_by : Frame → ℕ → ℕ → List ℕ → Journal → State

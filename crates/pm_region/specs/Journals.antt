@@ -4,7 +4,7 @@ use Rattle.pm_region.specs.State.{counted}
 use Rattle.pm_region.specs.Cell.{Cell, store_at, flush_line, fence_range}
 use Rattle.pm_region.specs.declared.step.Step.{Step}
 use Rattle.pm_region.specs.declared.step.Step.TheVariants.{Store, Flush, Fence, Nothing}
-use Rattle.pm_region.specs.declared.journal.Journal.{Journal}
+use Rattle.pm_region.specs.declared.region_journal.Journal.{Journal}
 
 -- what a step makes of the cell of a word
 abbrev pub act : Step → ℕ → Cell → Cell
@@ -33,7 +33,8 @@ pub record Records (old new : Journal) (step : Step) : Type 0 where
   pub shares : new.shares ≡ old.shares
   pub later : old.stamp ≤ new.stamp
   pub stamp : new.stamp ≡ min (old.stamp + 1) (2 ^ 64 - 1)
-  pub steps : ((new.steps.items ≡ old.steps.items) × (old.limit ≤ old.stamp)) ⊎ ((new.steps.items ≡ old.steps.items ++ step ∷ []) × (old.stamp < old.limit))
+  pub steps : ((new.steps.items ≡ old.steps.items) × (old.limit ≤ old.stamp))
+      ⊎ ((new.steps.items ≡ old.steps.items ++ step ∷ []) × (old.stamp < old.limit))
 
 -- It has every step, and the stamp isn't the last one.
 pub record IsComplete (j : Journal) : Type 0 where
@@ -42,7 +43,8 @@ pub record IsComplete (j : Journal) : Type 0 where
 
 -- these steps make the same of the words from one to another
 abbrev pub SameWithin : ℕ → ℕ → List Step → List Step → Type 0
-SameWithin from end own steps = (w : ℕ) (c : Cell) → from ≤ w → w < end → cell_after own w c ≡ cell_after steps w c
+SameWithin from end own steps = (w : ℕ) (c : Cell) → from ≤ w → w < end
+    → cell_after own w c ≡ cell_after steps w c
 
 -- It begins where the other one stands, for the words from one to another.
 pub record GoesOnFrom (old : Journal) (from end : ℕ) (new : Journal) : Type 0 where
@@ -67,7 +69,8 @@ pub record Appends (old new piece : Journal) (taken : Bool) : Type 0 where
   pub steps : taken ≡ true → new.steps.items ≡ old.steps.items ++ drop piece.base piece.steps.items
   pub complete : taken ≡ true → IsComplete piece
   pub capacity : vec_capacity old.steps ≤ vec_capacity new.steps
-  pub fits : IsComplete piece → length old.steps.items + length (drop piece.base piece.steps.items) ≤ vec_capacity old.steps → taken ≡ true
+  pub fits : IsComplete piece → length old.steps.items + length (drop piece.base piece.steps.items)
+      ≤ vec_capacity old.steps → taken ≡ true
 
 -- A new moment, and the only one that is told, if any.
 pub record Reopens (old new : Journal) (after : ℕ) (complete : Bool) : Type 0 where
@@ -78,7 +81,8 @@ pub record Reopens (old new : Journal) (after : ℕ) (complete : Bool) : Type 0 
   pub later : counted after ≤ new.stamp
   pub told : IsComplete new → complete ≡ true
   pub past : old.limit < counted after → new.stamp ≡ counted after
-  pub next : complete ≡ true → length old.steps.items + (old.limit - counted after) ≤ vec_capacity old.steps → new.stamp ≡ counted after
+  pub next : complete ≡ true → length old.steps.items + (old.limit - counted after)
+      ≤ vec_capacity old.steps → new.stamp ≡ counted after
 
 -- the same steps, whatever the room for more
 pub record SameSteps (old new : Journal) : Type 0 where

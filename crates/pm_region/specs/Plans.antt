@@ -11,7 +11,8 @@ is_one_of n numbers = list_any (λ y. y == n) numbers
 -- the numbers of the fences of one piece
 abbrev pub numbers_in : ℕ → List FenceNumber → List ℕ
 numbers_in piece [] = []
-numbers_in piece (f ∷ fs) = if f.piece == piece then f.number ∷ numbers_in piece fs else numbers_in piece fs
+numbers_in piece (f ∷ fs) = if f.piece == piece then f.number ∷ numbers_in piece fs
+    else numbers_in piece fs
 
 -- Calls of one kind: how many were made, and the numbers of those that are to fail, counted from 1.
 pub record Calls : Type 0 where
@@ -55,4 +56,9 @@ piece_calls p i = record { made = 0; failing = numbers_in (i + 1) p.in_pieces }
 
 -- the plan by which nothing fails
 abbrev pub nothing_fails : Plan
-nothing_fails = record { opens = record { made = 0; failing = [] }; fences = record { made = 0; failing = [] }; in_pieces = [] }
+nothing_fails = record {
+  opens = record { made = 0; failing = [] };
+  fences = record
+      { made = 0; failing = [] };
+  in_pieces = [];
+}

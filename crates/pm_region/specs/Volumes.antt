@@ -25,7 +25,8 @@ frame_of h attached parted cuts bytes o r = record {
 }
 
 abbrev pub state_with : History → Bool → Bool → List ℕ → ℕ → ℕ → ℕ → ℕ → State
-state_with h attached parted cuts bytes o r n = history_state (frame_of h attached parted cuts bytes o r) n h
+state_with h attached parted cuts bytes o r n = history_state
+    (frame_of h attached parted cuts bytes o r) n h
 
 abbrev pub volume_words : Volume → ℕ
 volume_words v = words_open v.history v.attached v.parted
@@ -43,16 +44,27 @@ limit_of v = v.history.journal.limit
 
 -- A piece that isn't parted; its last fields say nothing.
 abbrev pub part_frame : History → Frame
-part_frame h = record { first = h.first; words = length h.words.items; since = h.journal.since; parted = false; cuts = []; bytes = 0; refusals = 0; opens = 0 }
+part_frame h = record {
+  first = h.first;
+  words = length h.words.items;
+  since = h.journal.since;
+  parted = false;
+  cuts = [];
+  bytes = 0;
+  refusals = 0;
+  opens = 0;
+}
 
 abbrev pub part_state : History → ℕ → State
 part_state h n = history_state (part_frame h) n h
 
 abbrev pub VolumeMoves : Volume → Volume → (ℕ → Cell → Cell) → Type 0
-VolumeMoves old new change = (r n n' : ℕ) → n ≤ n' → Goes (volume_state old r n) (volume_state new r n') change
+VolumeMoves old new change = (r n n' : ℕ) → n ≤ n'
+    → Goes (volume_state old r n) (volume_state new r n') change
 
 abbrev pub VolumeAttached : Volume → Volume → ℕ → (ℕ → ℕ) → Type 0
-VolumeAttached old new bytes image = (r n r' n' : ℕ) → Attached (volume_state old r n) (volume_state new r' n') bytes image
+VolumeAttached old new bytes image = (r n r' n' : ℕ)
+    → Attached (volume_state old r n) (volume_state new r' n') bytes image
 
 abbrev pub VolumeStays : Volume → Volume → Type 0
 VolumeStays old new = (r n r' n' : ℕ) → Stays (volume_state old r n) (volume_state new r' n')
@@ -71,4 +83,6 @@ VolumeJoined old new = (r n n' : ℕ) → n ≤ n' → Joined (volume_state old 
 
 -- whatever the counts, those of the pieces too
 abbrev pub ComesAfter : {P : Type 0} → (P → History) → Volume → Volume → List P → Type 0
-ComesAfter {P = P} part old new pieces = (r n r' n' : ℕ) (m : P → ℕ) → ComesNext (λ p. part_state (part p) (m p)) (volume_state old r n) (volume_state new r' n') pieces
+ComesAfter {P = P} part old new pieces = (r n r' n' : ℕ) (m : P → ℕ)
+    → ComesNext (λ p. part_state (part p) (m p)) (volume_state old r n) (volume_state new r' n')
+    pieces

@@ -20,6 +20,7 @@ impl Model for Calls {
 unsafe impl Send for Calls {}
 
 impl Calls {
+    /// No calls.
     pub fn none() -> Calls
         ensures { result.made ≡ [] }
     {

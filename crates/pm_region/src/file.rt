@@ -4,13 +4,14 @@ ghost use Rattle.pm_region.specs.Cell.{MayBe, store_at, flush_line, fence_range,
 ghost use Rattle.pm_region.specs.State.{State, Goes, InRange, LineInRange, IsTelling, cell_now, Rose};
 ghost use Rattle.pm_region.specs.Split.{words_in, AreCuts};
 
-use crate::bytes::word_count;
+use crate::byte_words::word_count;
 use crate::device::Device;
 use crate::file_open::{create_words, fence_file, open_words, write_pending};
 use crate::file_piece::FilePiece;
 use crate::file_pieces::{absorb_all, file_pieces, latest_of, most_faults};
 use crate::file_words::FileWords;
 use crate::region::{Region, RegionFault};
+use crate::region_sizes::MOST_WORDS;
 use crate::split::{AttachError, SplitRegion};
 use std::alloc::Global;
 use std::fs::File;
@@ -41,8 +42,10 @@ impl<R: Files<File = File> + Drop> FileRegion<R> {
 
     /// The region in the file of this name. It touches no file until it is attached or created.
     pub fn at(rt: R, path: String) -> FileRegion<R>
-        ensures closed { ((file_state result).frame.words ≡ 0) × ((file_state result).frame.parted ≡ false) }
-        ensures counts { ((file_state result).faults ≡ 0) × ((file_state result).frame.refusals ≡ 0) × ((file_state result).frame.opens ≡ 0) }
+        ensures closed { ((file_state result).frame.words ≡ 0)
+            × ((file_state result).frame.parted ≡ false) }
+        ensures counts { ((file_state result).faults ≡ 0) × ((file_state result).frame.refusals ≡ 0)
+            × ((file_state result).frame.opens ≡ 0) }
     {
         let alloc = *path.allocator();
         FileRegion {
@@ -81,7 +84,8 @@ impl<R: Files<File = File> + Drop> Region for FileRegion<R> {
 
     fn load(&self, at: u64) -> u64
         requires { InRange (file_state self.now).frame at }
-        ensures told { IsTelling (file_state self.now) → result ≡ (cell_now (file_state self.now) at).last }
+        ensures told { IsTelling (file_state self.now)
+            → result ≡ (cell_now (file_state self.now) at).last }
         ensures word { result ≡ word_of self.now.words at }
     {
         self.words.load(at)
@@ -109,8 +113,10 @@ impl<R: Files<File = File> + Drop> Region for FileRegion<R> {
         ensures ok { OnOk result (Goes (file_state self.old) (file_state self.new)
             (fence_range (file_state self.old).frame.first (file_state self.old).frame.words)) }
         ensures err { OnErr result (Goes (file_state self.old) (file_state self.new) unchanged) }
-        ensures cause { OnErr result (Rose (file_state self.old).faults (file_state self.new).faults) }
-        ensures fenced { OnOk result (IsFenced self.old.words self.new.words 0 (calls_on self.old.device) (calls_on self.new.device)) }
+        ensures cause { OnErr result
+            (Rose (file_state self.old).faults (file_state self.new).faults) }
+        ensures fenced { OnOk result (IsFenced self.old.words self.new.words 0
+            (calls_on self.old.device) (calls_on self.new.device)) }
         ensures kept { OnErr result (IsKept self.old.words self.new.words) }
     {
         self.stamp = self.stamp.saturating_add(1);
@@ -146,11 +152,14 @@ impl<R: Files<File = File> + Drop> SplitRegion for FileRegion<R> {
     }
 
     fn attach(&mut self, alloc: Global) -> Result<(), AttachError>
-        ensures ok { OnOk result (Attached (file_state self.old) (file_state self.new) (file_state self.new).frame.bytes (λ w. 0)) }
-        ensures bytes { OnOk result (IsTelling (file_state self.new) → (file_state self.new).frame.bytes ≡ (file_state self.old).frame.bytes) }
+        ensures ok { OnOk result (Attached (file_state self.old) (file_state self.new)
+            (file_state self.new).frame.bytes (λ w. 0)) }
+        ensures bytes { OnOk result (IsTelling (file_state self.new)
+            → (file_state self.new).frame.bytes ≡ (file_state self.old).frame.bytes) }
         ensures err { OnErr result (Stays (file_state self.old) (file_state self.new)) }
         ensures cause { Refuses (file_state self.old) (file_state self.new) result }
-        ensures finds { (w : ℕ) → IsTelling (file_state self.old) → InRange (file_state self.old).frame w → MayBe (cell_now (file_state self.old) w) 0 }
+        ensures finds { (w : ℕ) → IsTelling (file_state self.old)
+            → InRange (file_state self.old).frame w → MayBe (cell_now (file_state self.old) w) 0 }
         ensures words { OnOk result ((w : ℕ) → InRange (file_state self.new).frame w → 0 < 2 ^ 64) }
         ensures opens { IsOpenedOnceMore (file_state self.old) (file_state self.new) }
         ensures opened { OnOk result (HasOpened self.new.device self.new.words) }
@@ -172,8 +181,9 @@ impl<R: Files<File = File> + Drop> SplitRegion for FileRegion<R> {
     }
 
     fn create(&mut self, alloc: Global, words: u64) -> Result<(), AttachError>
-        requires { words ≤ 33554944 }
-        ensures ok { OnOk result (Attached (file_state self.old) (file_state self.new) (8 * words) (λ w. 0)) }
+        requires { words ≤ MOST_WORDS }
+        ensures ok { OnOk result (Attached (file_state self.old) (file_state self.new) (8 * words)
+            (λ w. 0)) }
         ensures cause { Refuses (file_state self.old) (file_state self.new) result }
         ensures opens { IsOpenedOnceMore (file_state self.old) (file_state self.new) }
         ensures made { OnOk result (HasMade words self.new.device self.new.words) }
@@ -204,9 +214,11 @@ impl<R: Files<File = File> + Drop> SplitRegion for FileRegion<R> {
         ensures err { OnErr result (Stays (file_state self.old) (file_state self.new)) }
         ensures cause { Refuses (file_state self.old) (file_state self.new) result }
         ensures opens { IsNotOpened (file_state self.old) (file_state self.new) }
-        ensures parts { IfOk result (λ pieces. AreFileParts self.old.words cuts.now self.old.stamp self.old.faults pieces.items (length cuts.now - 1)) }
+        ensures parts { IfOk result (λ pieces. AreFileParts self.old.words cuts.now self.old.stamp
+            self.old.faults pieces.items (length cuts.now - 1)) }
         ensures clean { OnOk result ((line : ℕ) → flushes self.new.words line ≡ false) }
-        ensures written { OnOk result (IsSettled self.old.words self.new.words (calls_on self.old.device) (calls_on self.new.device)) }
+        ensures written { OnOk result (IsSettled self.old.words self.new.words
+            (calls_on self.old.device) (calls_on self.new.device)) }
     {
         let kept = cuts.to_vec(alloc)?;
         if write_pending(&mut self.words, &mut self.device).is_err() {
@@ -243,7 +255,8 @@ impl<R: Files<File = File> + Drop> SplitRegion for FileRegion<R> {
         ensures whole { Joined (file_state self.old) (file_state self.new) }
         ensures pieces { (i : ℕ) (p : FilePiece) → i < length pieces.items
             → TakesPiece (file_state self.new) (file_piece_state (slice_index_or pieces.items i p)) }
-        ensures next { ComesNext file_piece_state (file_state self.old) (file_state self.new) pieces.items }
+        ensures next { ComesNext file_piece_state (file_state self.old) (file_state self.new)
+            pieces.items }
         ensures opens { IsNotOpened (file_state self.old) (file_state self.new) }
         ensures taken { HaveTaken self.old.words self.new.words pieces.items (length pieces.items) }
     {
@@ -262,8 +275,10 @@ impl<R: Files<File = File> + Drop> FileRegion<R> {
 
     // Begins with these words.
     fn begin(&mut self, words: FileWords)
-        ensures frame { ((file_state self.new).frame ≡ file_frame words.size false [] 0 self.old.refusals self.old.opens) × ((file_state self.new).stamp ≡ 0) }
-        ensures counts { (self.new.faults ≡ self.old.faults) × (self.new.refusals ≡ self.old.refusals) }
+        ensures frame { ((file_state self.new).frame ≡ file_frame words.size false [] 0
+            self.old.refusals self.old.opens) × ((file_state self.new).stamp ≡ 0) }
+        ensures counts { (self.new.faults ≡ self.old.faults)
+            × (self.new.refusals ≡ self.old.refusals) }
         ensures file { (self.new.device ≡ self.old.device) × (self.new.words ≡ words) }
     {
         self.cuts.clear();
@@ -275,11 +290,15 @@ impl<R: Files<File = File> + Drop> FileRegion<R> {
 
     // Counts a fault.
     fn refuse(&mut self, why: AttachError)
-        ensures frame { (file_state self.new).frame ≡ record (file_state self.old).frame { refusals = self.new.refusals } }
+        ensures frame { (file_state self.new).frame ≡ record (file_state self.old).frame
+            { refusals = self.new.refusals } }
         ensures stamp { self.new.stamp ≡ self.old.stamp }
-        ensures later { (self.old.faults ≤ self.new.faults) × (self.old.refusals ≤ self.new.refusals) }
-        ensures fault { why ≡ AttachError.RegionFault → Rose self.old.faults self.new.faults × Rose self.old.refusals self.new.refusals }
-        ensures memory { why ≡ AttachError.Memory → (self.new.faults ≡ self.old.faults) × (self.new.refusals ≡ self.old.refusals) }
+        ensures later { (self.old.faults ≤ self.new.faults)
+            × (self.old.refusals ≤ self.new.refusals) }
+        ensures fault { why ≡ AttachError.RegionFault → Rose self.old.faults self.new.faults
+            × Rose self.old.refusals self.new.refusals }
+        ensures memory { why ≡ AttachError.Memory → (self.new.faults ≡ self.old.faults)
+            × (self.new.refusals ≡ self.old.refusals) }
     {
         if why == AttachError::RegionFault {
             self.faults = self.faults.saturating_add(1);

@@ -2,10 +2,11 @@
 ghost use Rattle.std.specs.Prelude.{false, ◌≡◌, ℕ, ◌*◌, ◌≤◌, IfOk, OnOk, OnErr};
 ghost use Rattle.pm_region.specs.Filed.{calls_on, IsOpened, IsMade, IsFenced, IsKept, IsSettled, flushes};
 
-use crate::bytes::word_count;
+use crate::byte_words::word_count;
 use crate::device::Device;
 use crate::file_words::FileWords;
 use crate::region::RegionFault;
+use crate::region_sizes::MOST_WORDS;
 use crate::split::AttachError;
 use std::alloc::Global;
 use std::fs::File;
@@ -45,7 +46,7 @@ pub fn create_words<R: Files<File = File>>(
     path: &str,
     count: u64,
 ) -> Result<(Device, FileWords), AttachError>
-    requires { count ≤ 33554944 }
+    requires { count ≤ MOST_WORDS }
     ensures { IfOk result (λ pair. IsMade count pair.0 pair.1) }
 {
     let bytes = vec![in alloc; 0u8; 8 * count as usize]?;
@@ -60,7 +61,8 @@ pub fn create_words<R: Files<File = File>>(
 
 /// A fence of the words of a file. Without a file it is a fault.
 pub fn fence_file(words: &mut FileWords, device: &mut Option<Device>) -> Result<(), RegionFault>
-    ensures ok { OnOk result (IsFenced words.old words.new 0 (calls_on device.old) (calls_on device.new)) }
+    ensures ok { OnOk result (IsFenced words.old words.new 0 (calls_on device.old)
+        (calls_on device.new)) }
     ensures err { OnErr result (IsKept words.old words.new) }
 {
     match device {
@@ -74,7 +76,8 @@ pub fn write_pending(words: &mut FileWords, device: &mut Option<Device>) -> Resu
     ensures size { words.new.size ≡ words.old.size }
     ensures bytes { words.new.bytes ≡ words.old.bytes }
     ensures clean { OnOk result ((line : ℕ) → flushes words.new line ≡ false) }
-    ensures written { OnOk result (IsSettled words.old words.new (calls_on device.old) (calls_on device.new)) }
+    ensures written { OnOk result (IsSettled words.old words.new (calls_on device.old)
+        (calls_on device.new)) }
 {
     if words.is_clean() {
         Ok(())

@@ -1,12 +1,14 @@
 // A piece of a region in a file.
 ghost use Rattle.std.specs.Prelude.{◌≡◌, ℕ, ◌+◌, ◌-◌, ◌*◌, ◌/◌, ◌%◌, ◌≤◌, ◌<◌, OnOk, OnErr};
 ghost use Rattle.pm_region.specs.Cell.{store_at, flush_line, fence_range, unchanged};
+ghost use Rattle.pm_region.specs.declared.region_sizes.TheConstants.{LINE_WORDS, MOST_WORDS};
 ghost use Rattle.pm_region.specs.State.{Goes, InRange, LineInRange, IsTelling, cell_now, Rose};
 
-use crate::bytes::word_count;
+use crate::byte_words::word_count;
 use crate::device::Device;
-use crate::file_words::{FileWords, LINE_WORDS};
+use crate::file_words::FileWords;
 use crate::region::{Region, RegionFault};
+use crate::region_sizes::LINE_WORDS;
 
 /// A piece of a `FileRegion`, which has opened the file for itself. The region has the file's lock.
 #[derive(Drop)]
@@ -17,8 +19,8 @@ pub struct FilePiece {
     pub(crate) since: u64,
     pub(crate) stamp: u64,
     pub(crate) faults: u64,
-    ghost whole: { first % 8 ≡ 0 },
-    ghost low: { first ≤ 33554944 },
+    ghost whole: { first % LINE_WORDS ≡ 0 },
+    ghost low: { first ≤ MOST_WORDS },
 }
 
 impl Region for FilePiece {
@@ -37,7 +39,8 @@ impl Region for FilePiece {
 
     fn load(&self, at: u64) -> u64
         requires { InRange (file_piece_state self.now).frame at }
-        ensures told { IsTelling (file_piece_state self.now) → result ≡ (cell_now (file_piece_state self.now) at).last }
+        ensures told { IsTelling (file_piece_state self.now)
+            → result ≡ (cell_now (file_piece_state self.now) at).last }
         ensures word { result ≡ word_of self.now.words (at - self.now.first) }
     {
         self.words.load(at - self.first)
@@ -45,7 +48,8 @@ impl Region for FilePiece {
 
     fn store(&mut self, at: u64, value: u64)
         requires { InRange (file_piece_state self.old).frame at }
-        ensures goes { Goes (file_piece_state self.old) (file_piece_state self.new) (store_at at value) }
+        ensures goes { Goes (file_piece_state self.old) (file_piece_state self.new)
+            (store_at at value) }
         ensures stored { IsStored self.old.words self.new.words (at - self.old.first) value }
     {
         self.words.store(at - self.first, value);
@@ -54,7 +58,8 @@ impl Region for FilePiece {
 
     fn flush(&mut self, line: u64)
         requires { LineInRange (file_piece_state self.old).frame line }
-        ensures goes { Goes (file_piece_state self.old) (file_piece_state self.new) (flush_line line) }
+        ensures goes { Goes (file_piece_state self.old) (file_piece_state self.new)
+            (flush_line line) }
         ensures flushed { IsFlushed self.old.words self.new.words (line - self.old.first / 8) }
     {
         self.words.flush(line - self.first / LINE_WORDS);
@@ -64,8 +69,10 @@ impl Region for FilePiece {
     fn fence(&mut self) -> Result<(), RegionFault>
         ensures ok { OnOk result (Goes (file_piece_state self.old) (file_piece_state self.new)
             (fence_range (file_piece_state self.old).frame.first (file_piece_state self.old).frame.words)) }
-        ensures err { OnErr result (Goes (file_piece_state self.old) (file_piece_state self.new) unchanged) }
-        ensures cause { OnErr result (Rose (file_piece_state self.old).faults (file_piece_state self.new).faults) }
+        ensures err { OnErr result (Goes (file_piece_state self.old) (file_piece_state self.new)
+            unchanged) }
+        ensures cause { OnErr result (Rose (file_piece_state self.old).faults
+            (file_piece_state self.new).faults) }
         ensures fenced { OnOk result (IsFenced self.old.words self.new.words (8 * self.old.first)
             self.old.device.calls.made self.new.device.calls.made) }
         ensures kept { OnErr result (IsKept self.old.words self.new.words) }

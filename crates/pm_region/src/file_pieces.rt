@@ -23,7 +23,8 @@ pub fn file_pieces<R: Files<File = File>>(
     faults: u64,
 ) -> Result<Vec<FilePiece>, AttachError>
     requires cuts { AreCuts (words_in words.now.size) cuts.now }
-    ensures { IfOk result (λ pieces. AreFileParts words.now cuts.now stamp faults pieces.items (length cuts.now - 1)) }
+    ensures { IfOk result (λ pieces. AreFileParts words.now cuts.now stamp faults pieces.items
+        (length cuts.now - 1)) }
 {
     let Some(device) = device else {
         return Err(AttachError::RegionFault);
@@ -47,7 +48,8 @@ pub fn file_pieces<R: Files<File = File>>(
 /// The latest stamp of the pieces, and of what they were taken from.
 pub fn latest_of(pieces: &[FilePiece], from: u64) -> u64
     ensures low { from ≤ result }
-    ensures pieces { (i : ℕ) (p : FilePiece) → i < length pieces.now → (slice_index_or pieces.now i p).stamp ≤ result }
+    ensures pieces { (i : ℕ) (p : FilePiece) → i < length pieces.now
+        → (slice_index_or pieces.now i p).stamp ≤ result }
 {
     let mut latest = from;
     for piece in pieces {
@@ -61,7 +63,8 @@ pub fn latest_of(pieces: &[FilePiece], from: u64) -> u64
 /// The greatest count of the pieces, and of what they were taken from.
 pub fn most_faults(pieces: &[FilePiece], from: u64) -> u64
     ensures low { from ≤ result }
-    ensures pieces { (i : ℕ) (p : FilePiece) → i < length pieces.now → (slice_index_or pieces.now i p).faults ≤ result }
+    ensures pieces { (i : ℕ) (p : FilePiece) → i < length pieces.now
+        → (slice_index_or pieces.now i p).faults ≤ result }
 {
     let mut most = from;
     for piece in pieces {

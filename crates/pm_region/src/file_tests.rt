@@ -91,9 +91,11 @@ fn runs_of_lines(rt: HostRuntime) -> Result<(), Fail> {
 // Stores a word of a piece and flushes its line, with no fence.
 fn flush_first<P: Region>(piece: &mut P, line: u64, value: u64)
     requires low { (P.state piece.old).frame.first ≤ 8 * line }
-    requires high { 8 * line + 8 ≤ (P.state piece.old).frame.first + (P.state piece.old).frame.words }
+    requires high { 8 * line + 8 ≤ (P.state piece.old).frame.first
+        + (P.state piece.old).frame.words }
     requires fits { 8 * line < 2 ^ 64 }
-    ensures run { During (P.state piece.old) (P.state piece.new) (KeepsOutside (cell_now (P.state piece.old)) (8 * line) (8 * line + 8)) }
+    ensures run { During (P.state piece.old) (P.state piece.new)
+        (KeepsOutside (cell_now (P.state piece.old)) (8 * line) (8 * line + 8)) }
 {
     piece.store(8 * line, value);
     piece.flush(line);

@@ -2,15 +2,13 @@
 ghost use Rattle.std.specs.Prelude.{◌≡◌, ℕ, ◌+◌, ◌-◌, ◌*◌, ◌/◌, ◌%◌, ◌≤◌, ◌<◌, length};
 ghost use Rattle.pm_region.specs.Split.{words_in};
 
-use crate::bytes::{set_word, set_words, word, word_count};
+use crate::byte_words::{set_word, set_words, word, word_count};
 use crate::device::Device;
 use crate::line_runs::write_runs;
 use crate::line_set::LineSet;
 use crate::region::RegionFault;
+use crate::region_sizes::{LINE_WORDS, MOST_BYTES};
 use std::alloc::{AllocError, Global};
-
-/// How many words a line has.
-pub const LINE_WORDS: u64 = 8;
 
 /// Words by their place, as bytes with the lowest of each word first. `size` is how many bytes the file or the
 /// piece has, which need not be whole words. `flushed` are the lines that the next fence writes, by their place: a line
@@ -55,6 +53,7 @@ impl FileWords {
         })
     }
 
+    /// The word at a place.
     pub fn load(&self, place: u64) -> u64
         requires { place < words_in self.now.size }
         ensures { result ≡ word_of self.now place }
@@ -62,6 +61,7 @@ impl FileWords {
         word(&self.bytes, place)
     }
 
+    /// Stores a word at a place, in memory alone.
     pub fn store(&mut self, place: u64, value: u64)
         requires { place < words_in self.old.size }
         ensures { IsStored self.old self.new place value }
@@ -71,7 +71,7 @@ impl FileWords {
 
     /// Remembers a line. It takes no memory.
     pub fn flush(&mut self, line: u64)
-        requires { 8 * line + 8 ≤ words_in self.old.size }
+        requires { LINE_WORDS * line + LINE_WORDS ≤ words_in self.old.size }
         ensures { IsFlushed self.old self.new line }
     {
         self.flushed.insert(line as u32);
@@ -87,8 +87,9 @@ impl FileWords {
     /// Writes the flushed lines to the file, where these words begin at the byte `start`, each run of neighbours at
     /// once, and syncs it. Where that fails they stay flushed.
     pub fn write_flushed(&mut self, device: &mut Device, start: u64) -> Result<(), RegionFault>
-        requires { start ≤ 268439552 }
-        ensures ok { OnOk result (IsFenced self.old self.new start device.old.calls.made device.new.calls.made) }
+        requires { start ≤ MOST_BYTES }
+        ensures ok { OnOk result (IsFenced self.old self.new start device.old.calls.made
+            device.new.calls.made) }
         ensures err { OnErr result (IsKept self.old self.new) }
     {
         self.flushed.sort();

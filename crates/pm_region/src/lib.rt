@@ -1,8 +1,9 @@
 //! A region of persistent memory: what a crash may leave of it, at each moment.
 #![tactic(auto)]
 
-mod bytes;
+mod byte_words;
 mod calls;
+mod crash_image;
 mod device;
 mod file;
 mod file_open;
@@ -10,8 +11,6 @@ mod file_piece;
 mod file_pieces;
 mod file_words;
 mod history;
-mod image;
-mod journal;
 mod line_runs;
 mod line_set;
 mod mem;
@@ -19,18 +18,21 @@ mod part;
 mod pieces;
 mod plan;
 mod region;
+mod region_journal;
+pub mod region_sizes;
 mod split;
 mod steady;
 mod step;
 mod volume;
 mod word_cells;
 
+pub use crash_image::{ImageError, Pick};
 pub use file::FileRegion;
 pub use file_piece::FilePiece;
-pub use image::{ImageError, Pick};
 pub use mem::{MemPiece, MemRegion};
 pub use plan::{Faults, FenceNumber};
 pub use region::{Region, RegionFault};
+pub use region_sizes::{LINE_BYTES, LINE_WORDS, MOST_BYTES, MOST_WORDS, WORD_BYTES};
 pub use split::{AttachError, SplitRegion};
 pub use steady::{SteadyPiece, SteadyRegion};
 

@@ -5,17 +5,17 @@ ghost use Rattle.pm_region.specs.LineRuns.{AreRuns};
 
 use crate::device::Device;
 use crate::region::RegionFault;
-
-/// How many bytes a line has.
-pub const LINE_BYTES: u64 = 64;
+use crate::region_sizes::{LINE_BYTES, MOST_BYTES};
 
 /// Where the run of neighbours ends that begins at a place of this list of lines.
 pub fn run_end(lines: &[u32], from: usize) -> usize
     requires { from < length lines.now }
     ensures after { from < result }
     ensures within { result ≤ length lines.now }
-    ensures neighbours { (j : ℕ) → from + j < result → slice_index lines.now (from + j) ≡ slice_index lines.now from + j }
-    ensures longest { result < length lines.now → slice_index lines.now result ≢ slice_index lines.now from + (result - from) }
+    ensures neighbours { (j : ℕ) → from + j < result → slice_index lines.now (from + j)
+        ≡ slice_index lines.now from + j }
+    ensures longest { result < length lines.now → slice_index lines.now result ≢ slice_index
+        lines.now from + (result - from) }
 {
     let first = u64::from(lines[from]);
     for end in from + 1..lines.len() {
@@ -33,9 +33,11 @@ pub fn write_runs(
     lines: &[u32],
     bytes: &[u8],
 ) -> Result<(), RegionFault>
-    requires start { start ≤ 268439552 }
-    requires within { (j : ℕ) → j < length lines.now → 64 * slice_index lines.now j + 64 ≤ length bytes.now }
-    ensures { OnOk result (AreRuns start lines.now bytes.now (length lines.now) device.old.calls.made device.new.calls.made) }
+    requires start { start ≤ MOST_BYTES }
+    requires within { (j : ℕ) → j < length lines.now → LINE_BYTES * slice_index lines.now j + LINE_BYTES
+        ≤ length bytes.now }
+    ensures { OnOk result (AreRuns start lines.now bytes.now (length lines.now)
+        device.old.calls.made device.new.calls.made) }
 {
     let mut from = 0;
     while from < lines.len() {
@@ -54,9 +56,10 @@ fn write_run(
     count: u64,
     bytes: &[u8],
 ) -> Result<(), RegionFault>
-    requires start { start ≤ 268439552 }
-    requires within { 64 * first + 64 * count ≤ length bytes.now }
-    ensures { OnOk result (device.new.calls.made ≡ wrote (start + 64 * first) (take (64 * count) (drop (64 * first) bytes.now)) ∷ device.old.calls.made) }
+    requires start { start ≤ MOST_BYTES }
+    requires within { LINE_BYTES * first + LINE_BYTES * count ≤ length bytes.now }
+    ensures { OnOk result (device.new.calls.made ≡ wrote (start + 64 * first)
+        (take (64 * count) (drop (64 * first) bytes.now)) ∷ device.old.calls.made) }
 {
     let low = LINE_BYTES * u64::from(first);
     let high = low + LINE_BYTES * count;

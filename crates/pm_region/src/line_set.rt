@@ -37,6 +37,7 @@ impl LineSet {
         Ok(LineSet { marks, lines })
     }
 
+    /// Adds a line. It takes no memory.
     pub fn insert(&mut self, line: u32)
         requires { line < length self.old.marks.items }
         ensures { Adds self.old self.new line }
@@ -78,8 +79,10 @@ impl LineSet {
 fn unmark(marks: &mut Vec<bool>, lines: &[u32])
     requires { (j : ℕ) → j < length lines.now → slice_index lines.now j < length marks.old.items }
     ensures count { length marks.new.items ≡ length marks.old.items }
-    ensures kept { (k : ℕ) → is_marked marks.new.items k ≡ true → is_marked marks.old.items k ≡ true }
-    ensures gone { (j : ℕ) → j < length lines.now → is_marked marks.new.items (slice_index lines.now j) ≡ false }
+    ensures kept { (k : ℕ) → is_marked marks.new.items k ≡ true → is_marked marks.old.items k
+        ≡ true }
+    ensures gone { (j : ℕ) → j < length lines.now
+        → is_marked marks.new.items (slice_index lines.now j) ≡ false }
 {
     for line in lines {
         marks[*line as usize] = false;

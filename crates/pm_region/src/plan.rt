@@ -34,11 +34,16 @@ pub struct Counts {
 impl Counts {
     /// Counts an attach, create or split, which fails by the plan.
     pub fn open(&mut self) -> Result<(), AttachError>
-        ensures fault { OnErr result ((result ≡ Err AttachError.RegionFault) × Rose self.old.faults self.new.faults × Rose self.old.refusals self.new.refusals) }
-        ensures later { (self.old.faults ≤ self.new.faults) × (self.old.refusals ≤ self.new.refusals) }
-        ensures ok { OnOk result ((self.new.faults ≡ self.old.faults) × (self.new.refusals ≡ self.old.refusals)) }
-        ensures plan { IsErr result ↔ (is_one_of (counted self.old.opens) self.old.plan.opens.items ≡ true) }
-        ensures counted { (self.new.opens ≡ counted self.old.opens) × (self.new.plan ≡ self.old.plan) }
+        ensures fault { OnErr result ((result ≡ Err AttachError.RegionFault)
+            × Rose self.old.faults self.new.faults × Rose self.old.refusals self.new.refusals) }
+        ensures later { (self.old.faults ≤ self.new.faults)
+            × (self.old.refusals ≤ self.new.refusals) }
+        ensures ok { OnOk result ((self.new.faults ≡ self.old.faults)
+            × (self.new.refusals ≡ self.old.refusals)) }
+        ensures plan { IsErr result ↔ (is_one_of (counted self.old.opens) self.old.plan.opens.items
+            ≡ true) }
+        ensures counted { (self.new.opens ≡ counted self.old.opens)
+            × (self.new.plan ≡ self.old.plan) }
     {
         self.opens = self.opens.saturating_add(1);
         if self.plan.opens.contains(&self.opens) {

@@ -3,6 +3,7 @@ ghost use Rattle.std.specs.Prelude.{◌≡◌, ℕ, ◌+◌, ◌*◌, ◌/◌, �
 ghost use Rattle.pm_region.specs.Cell.{Cell};
 ghost use Rattle.pm_region.specs.Journals.{act, SameWithin};
 
+use crate::region_sizes::LINE_WORDS;
 use std::alloc::{AllocError, Global};
 
 /// One call of a region. A fence has the range of words that it covers, and one that failed is `Nothing`.
@@ -22,8 +23,8 @@ impl Step {
         match *self {
             Step::Store { at, .. } => from <= at && at < end,
             Step::Flush { line } => {
-                let low = line.saturating_mul(8);
-                low < end && from < low.saturating_add(8)
+                let low = line.saturating_mul(LINE_WORDS);
+                low < end && from < low.saturating_add(LINE_WORDS)
             }
             Step::Fence { first, words } => first < end && from < first.saturating_add(words),
             Step::Nothing => false,

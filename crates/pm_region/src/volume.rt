@@ -5,11 +5,12 @@ ghost use Rattle.pm_region.specs.State.{State, Frame, IsTold, IsTelling, cell_no
 ghost use Rattle.pm_region.specs.Split.{words_in};
 ghost use Rattle.pm_region.specs.Bytes.{word_at};
 
-use crate::bytes::words_of;
+use crate::byte_words::words_of;
+use crate::crash_image::{ImageError, Pick};
 use crate::history::History;
-use crate::image::{ImageError, Pick};
 use crate::part::Part;
 use crate::pieces::{latest_stamp, take_back};
+use crate::region_sizes::MOST_WORDS;
 use std::alloc::{AllocError, Global};
 
 /// Words in memory with their whole history, and how they are attached and split. `bytes` is the length of what an
@@ -34,7 +35,8 @@ impl Volume {
 
     /// A volume whose attach finds these bytes, with room for so many steps.
     pub fn new(alloc: Global, bytes: &[u8], steps: u64) -> Result<Volume, AllocError>
-        ensures found { IfOk result (λ v. (w : ℕ) → w < words_in (length bytes.now) → found_in v w ≡ word_at bytes.now w) }
+        ensures found { IfOk result (λ v. (w : ℕ) → w < words_in (length bytes.now)
+            → found_in v w ≡ word_at bytes.now w) }
         ensures closed { IfOk result (λ v. volume_words v ≡ 0) }
         ensures bytes { IfOk result (λ v. v.bytes ≡ length bytes.now) }
         ensures limit { IfOk result (λ v. limit_of v ≡ steps) }
@@ -53,9 +55,11 @@ impl Volume {
 
     /// A volume, not attached yet, whose attach finds one of the images that a crash at this stamp may have left.
     pub fn image(&self, alloc: Global, stamp: u64, pick: Pick) -> Result<Volume, ImageError>
-        ensures not_told { IsErrOf result ImageError.NotTold → (r n : ℕ) → IsTold (volume_state self.now r n) stamp → ⊥ }
+        ensures not_told { IsErrOf result ImageError.NotTold → (r n : ℕ)
+            → IsTold (volume_state self.now r n) stamp → ⊥ }
         ensures told { OnOk result ((r n : ℕ) → IsTold (volume_state self.now r n) stamp) }
-        ensures image { IfOk result (λ v. (r n w : ℕ) → w < words_in self.now.bytes → found_in v w ≡ picked pick w ((volume_state self.now r n).cells stamp w)) }
+        ensures image { IfOk result (λ v. (r n w : ℕ) → w < words_in self.now.bytes
+            → found_in v w ≡ picked pick w ((volume_state self.now r n).cells stamp w)) }
         ensures closed { IfOk result (λ v. volume_words v ≡ 0) }
         ensures bytes { IfOk result (λ v. v.bytes ≡ self.now.bytes) }
         ensures limit { IfOk result (λ v. limit_of v ≡ limit_of self.now) }
@@ -72,6 +76,7 @@ impl Volume {
         })
     }
 
+    /// How many words there are now: none before an attach, and none while it is split.
     pub fn words(&self) -> u64
         ensures { result ≡ volume_words self.now }
     {
@@ -82,19 +87,23 @@ impl Volume {
         }
     }
 
+    /// The number of this moment.
     pub fn stamp(&self) -> u64
         ensures { (r n : ℕ) → result ≡ (volume_state self.now r n).stamp }
     {
         self.history.journal.stamp
     }
 
+    /// The word at an address, as it was stored last.
     pub fn load(&self, at: u64) -> u64
         requires { at < volume_words self.now }
-        ensures { (r n : ℕ) → IsTelling (volume_state self.now r n) → result ≡ (cell_now (volume_state self.now r n) at).last }
+        ensures { (r n : ℕ) → IsTelling (volume_state self.now r n)
+            → result ≡ (cell_now (volume_state self.now r n) at).last }
     {
         self.history.load(at)
     }
 
+    /// Stores a word, and notes the step.
     pub fn store(&mut self, at: u64, value: u64)
         requires { at < volume_words self.old }
         ensures { VolumeMoves self.old self.new (store_at at value) }
@@ -102,6 +111,7 @@ impl Volume {
         self.history.store(at, value);
     }
 
+    /// Flushes a line, and notes the step.
     pub fn flush(&mut self, line: u64)
         requires { 8 * line + 8 ≤ volume_words self.old }
         ensures { VolumeMoves self.old self.new (flush_line line) }
@@ -109,6 +119,7 @@ impl Volume {
         self.history.flush(line);
     }
 
+    /// A fence of all words, which notes the step.
     pub fn fence(&mut self)
         ensures { VolumeMoves self.old self.new (fence_range 0 (volume_words self.old)) }
     {
@@ -123,9 +134,12 @@ impl Volume {
         self.history.stand();
     }
 
+    /// Begins with the words that it finds, each certain.
     pub fn attach(&mut self, alloc: Global) -> Result<(), AllocError>
-        ensures ok { OnOk result (VolumeAttached self.old self.new self.old.bytes (found_in self.old)) }
-        ensures wide { OnOk result ((w : ℕ) → w < volume_words self.new → found_in self.old w < 2 ^ 64) }
+        ensures ok { OnOk result (VolumeAttached self.old self.new self.old.bytes
+            (found_in self.old)) }
+        ensures wide { OnOk result ((w : ℕ) → w < volume_words self.new
+            → found_in self.old w < 2 ^ 64) }
         ensures err { OnErr result (self.new ≡ self.old) }
         ensures opens { self.new.opens ≡ self.old.opens }
         ensures limit { limit_of self.new ≡ limit_of self.old }
@@ -137,8 +151,9 @@ impl Volume {
         Ok(())
     }
 
+    /// Begins with so many zero words, each certain.
     pub fn create(&mut self, alloc: Global, words: u64) -> Result<(), AllocError>
-        requires { words ≤ 33554944 }
+        requires { words ≤ MOST_WORDS }
         ensures ok { OnOk result (VolumeAttached self.old self.new (8 * words) (λ w. 0)) }
         ensures err { OnErr result (self.new ≡ self.old) }
         ensures opens { self.new.opens ≡ self.old.opens }
@@ -157,7 +172,8 @@ impl Volume {
     pub fn part(&mut self, pieces: u64, cuts: Vec<u64>) -> Result<(), AllocError>
         requires whole { self.old.parted ≡ false }
         requires count { length cuts.items ≤ pieces + 1 }
-        requires within { (i : ℕ) → i < length cuts.items → slice_index cuts.items i ≤ volume_words self.old }
+        requires within { (i : ℕ) → i < length cuts.items → slice_index cuts.items i
+            ≤ volume_words self.old }
         ensures ok { OnOk result (VolumeParted self.old self.new cuts.items) }
         ensures err { OnErr result (VolumeStays self.old self.new) }
         ensures opens { self.new.opens ≡ self.old.opens }
@@ -173,9 +189,11 @@ impl Volume {
     pub fn join<P: Part>(&mut self, pieces: &[P])
         requires parted { self.old.parted ≡ true }
         requires count { length pieces.now ≡ length self.old.cuts.items - 1 }
-        requires pieces { (i : ℕ) (p : P) → i < length pieces.now → CamePart self.old i (P.part (slice_index_or pieces.now i p)) }
+        requires pieces { (i : ℕ) (p : P) → i < length pieces.now
+            → CamePart self.old i (P.part (slice_index_or pieces.now i p)) }
         ensures whole { VolumeJoined self.old self.new }
-        ensures pieces { (i : ℕ) (p : P) → i < length pieces.now → TakesPart self.new (P.part (slice_index_or pieces.now i p)) }
+        ensures pieces { (i : ℕ) (p : P) → i < length pieces.now
+            → TakesPart self.new (P.part (slice_index_or pieces.now i p)) }
         ensures next { ComesAfter P.part self.old self.new pieces.now }
         ensures opens { self.new.opens ≡ self.old.opens }
         ensures limit { limit_of self.new ≡ limit_of self.old }

@@ -6,7 +6,7 @@ ghost use Rattle.pm_region.specs.CellLists.{cell_in, HasOne, ActsAt, Acts, AllAc
 ghost use Rattle.pm_region.specs.Journals.{act, cell_after};
 ghost use Rattle.pm_region.specs.declared.step.Step.TheVariants.{Store, Flush, Fence};
 
-use crate::image::CellData;
+use crate::crash_image::CellData;
 use crate::step::Step;
 use std::alloc::{AllocError, Global};
 
@@ -33,7 +33,8 @@ pub fn cells_after(
 
 fn certain_cells(alloc: Global, start: &[u64]) -> Result<Vec<CellData>, AllocError>
     ensures count { IfOk result (λ cells. length cells.items ≡ length start.now) }
-    ensures each { IfOk result (λ cells. (k : ℕ) → k < length start.now → cell_in cells.items k ≡ certain (slice_index start.now k)) }
+    ensures each { IfOk result (λ cells. (k : ℕ) → k < length start.now → cell_in cells.items k
+        ≡ certain (slice_index start.now k)) }
 {
     let mut cells = Vec::with_capacity(alloc, start.len())?;
     for value in start {

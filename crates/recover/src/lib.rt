@@ -8,23 +8,23 @@
 //! second time for the logs and the allocators, and the logs for the names that stand in them.
 #![tactic(auto)]
 
-mod blocks;
 mod clashes;
-mod gathering;
-mod judging;
-mod listing;
+mod gather_region;
+mod judge_winners;
+mod key_standees;
+mod live_pairs;
 mod logs;
-mod recovery;
+mod own_deaths;
+mod recover_region;
+mod region_blocks;
 mod shares;
-mod standing;
 mod starts;
-mod telling;
 #[cfg(test)]
 mod tests;
 mod types;
 mod winning;
 
-pub use listing::pairs;
-pub use recovery::{first_fault, recover};
+pub use live_pairs::pairs;
+pub use recover_region::{first_fault, recover};
 pub use store_image::Fault;
 pub use types::{CoreStart, RecoverError, Recovered};

@@ -19,8 +19,8 @@ ghost use Rattle.recover.specs.Logs.{IsStart};
 ghost use Rattle.recover.specs.Heads.{Starts, AllStart};
 
 use crate::logs::{heads, log_chunks};
+use crate::own_deaths::tell_own;
 use crate::shares::Share;
-use crate::telling::tell_own;
 use crate::types::CoreStart;
 use chunk_map::Layout;
 use core_index::{CoreIndex, Record};

@@ -40,14 +40,16 @@ pub record Replies (old new : Answers) (reply : Reply) : Type 0 where
 -- the reply to a change that is finished at this stamp
 pub record Finishes (old new : Answers) (reply : Reply) (stamp : ℕ) : Type 0 where
   pub replies : new.replies.items ≡ old.replies.items ++ reply ∷ []
-  pub finishes : new.finishes.items ≡ old.finishes.items ++ record { request = length old.replies.items; stamp = stamp } ∷ []
+  pub finishes : new.finishes.items ≡ old.finishes.items
+      ++ record { request = length old.replies.items; stamp = stamp } ∷ []
   pub refusals : new.refusals.items ≡ old.refusals.items
 
 -- a refusal with its cause
 pub record Refuses (old new : Answers) (why : Shortage) : Type 0 where
   pub replies : new.replies.items ≡ old.replies.items ++ reply_to why ∷ []
   pub finishes : new.finishes.items ≡ old.finishes.items
-  pub refusals : new.refusals.items ≡ old.refusals.items ++ record { request = length old.replies.items; why = why } ∷ []
+  pub refusals : new.refusals.items ≡ old.refusals.items
+      ++ record { request = length old.replies.items; why = why } ∷ []
 
 -- the same answers
 pub record SameAnswers (old new : Answers) : Type 0 where

@@ -11,8 +11,10 @@ use Rattle.serial_engine.specs.declared.run.Run.{Run}
 -- One reply for each request so far, of a kind that it can have. The report fits them. None is `Stopped` until the store has stopped.
 pub record Counts (done : List Request) (e : Run) : Type 0 where
   pub each : AreReplies done e.answers.replies.items
-  pub fits : Fits (finished_in (told_by e.answers)) (told_by e.answers).refusals e.answers.replies.items
-  pub steady : e.stopped ≡ false → AllByRecursion (λ x. is_stopped x ≡ false) e.answers.replies.items
+  pub fits : Fits (finished_in (told_by e.answers)) (told_by e.answers).refusals
+      e.answers.replies.items
+  pub steady : e.stopped ≡ false → AllByRecursion (λ x. is_stopped x ≡ false)
+      e.answers.replies.items
 
 -- whatever requests came before, these are counted now
 abbrev pub CountsList : Run → Run → List Request → Type 0

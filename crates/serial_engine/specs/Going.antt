@@ -17,7 +17,9 @@ use Rattle.serial_engine.specs.declared.run.Run.{Run}
 
 -- each image of each moment from s0 on recovers what the report so far says
 abbrev pub RecoversSoFar : State → State → (ℕ → Option (List ℕ)) → List Request → Told → Type 0
-RecoversSoFar s0 s start done r = Over s0 s (λ t cells. EachImage s0.frame (Recovers s0.frame.bytes start done r (λ k. finished_by k done r.finishes t)) cells)
+RecoversSoFar s0 s start done r = Over s0 s
+    (λ t cells. EachImage s0.frame
+    (Recovers s0.frame.bytes start done r (λ k. finished_by k done r.finishes t)) cells)
 
 -- it may write
 abbrev pub IsReady : State → Run → Type 0
@@ -34,7 +36,8 @@ pub record Origin : Type 0 where
 pub record Serves (o : Origin) (s : State) (done : List Request) (e : Run) : Type 0 where
   pub cells : ℕ → Option (List ℕ)
   pub keeps : Keeps s e.store cells
-  pub answered : Answered (IsTelling s) o.cells done e.answers.replies.items (told_by e.answers) s.stamp cells
+  pub answered : Answered (IsTelling s) o.cells done e.answers.replies.items (told_by e.answers)
+      s.stamp cells
   pub stock : stock_of e.store ≡ stock_after o.layout o.stock done
   pub refusals : e.answers.refusals.items ≡ refusals_from o.layout 0 o.stock done
 
@@ -43,20 +46,24 @@ pub record Going (o : Origin) (s : State) (done : List Request) (e : Run) : Type
   pub layout : e.store.log.layout ≡ o.layout
   pub recorded : Recorded (IsTelling s) o.cells done e.answers.replies.items (told_by e.answers)
   pub images : RecoversSoFar o.at s o.cells done (told_by e.answers)
-  pub refused : (front : List Request) × (rest : List Request) × (done ≡ front ++ rest) × (e.answers.refusals.items ≡ refusals_from o.layout 0 o.stock front)
+  pub refused : (front : List Request) × (rest : List Request) × (done ≡ front ++ rest)
+      × (e.answers.refusals.items ≡ refusals_from o.layout 0 o.stock front)
   pub serves : e.stopped ≡ false → Serves o s done e
 
 -- From one state of the region and the run to another: whatever requests came before, this one is answered now.
 abbrev pub AnswersOne : State → State → Run → Run → Request → Type 0
-AnswersOne old new e e' q = (o : Origin) (done : List Request) → Going o old done e → Going o new (done ++ q ∷ []) e'
+AnswersOne old new e e' q = (o : Origin) (done : List Request) → Going o old done e
+    → Going o new (done ++ q ∷ []) e'
 
 -- or nothing was answered
 abbrev pub AnswersNone : State → State → Run → Run → Type 0
-AnswersNone old new e e' = (o : Origin) (done : List Request) → Going o old done e → Going o new done e'
+AnswersNone old new e e' = (o : Origin) (done : List Request) → Going o old done e
+    → Going o new done e'
 
 -- these requests are answered now
 abbrev pub AnswersList : State → State → Run → Run → List Request → Type 0
-AnswersList old new e e' qs = (o : Origin) (done : List Request) → Going o old done e → Going o new (done ++ qs) e'
+AnswersList old new e e' qs = (o : Origin) (done : List Request) → Going o old done e
+    → Going o new (done ++ qs) e'
 
 -- some of them from the front are
 pub record AnswersSome (old new : State) (e e' : Run) (qs : List Request) : Type 0 where

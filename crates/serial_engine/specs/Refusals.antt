@@ -17,7 +17,8 @@ why l s (Delete k) = if is_some (s.holds k) then why_delete s else None
 abbrev pub after : Geometry → Stock → Request → Stock
 after l s (Put k v) = if is_some (why_put l s k (length v)) then s else after_put l s k (length v)
 after l s (Get k) = s
-after l s (Delete k) = if is_some (s.holds k) then (if is_some (why_delete s) then s else after_delete l s k) else s
+after l s (Delete k) = if is_some (s.holds k)
+    then (if is_some (why_delete s) then s else after_delete l s k) else s
 
 abbrev pub stock_after : Geometry → Stock → List Request → Stock
 stock_after l s [] = s

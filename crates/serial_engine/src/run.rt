@@ -35,8 +35,10 @@ impl Run {
     fn conclude(&mut self, outcome: Result<(), RegionFault>, reply: Reply, stamp: u64)
         requires room { HasRoom self.old.answers }
         requires going { self.old.stopped ≡ false }
-        ensures finished { OnOk outcome (Finishes self.old.answers self.new.answers reply stamp × (self.new.stopped ≡ false)) }
-        ensures failed { OnErr outcome (Replies self.old.answers self.new.answers Stopped × (self.new.stopped ≡ true)) }
+        ensures finished { OnOk outcome (Finishes self.old.answers self.new.answers reply stamp
+            × (self.new.stopped ≡ false)) }
+        ensures failed { OnErr outcome (Replies self.old.answers self.new.answers Stopped
+            × (self.new.stopped ≡ true)) }
         ensures store { self.new.store ≡ self.old.store }
     {
         match outcome {
@@ -52,7 +54,8 @@ impl Run {
         requires room { HasRoom self.old.answers }
         requires going { self.old.stopped ≡ false }
         requires ready { Ready (R.state region.now) self.old.store }
-        ensures ok { OnOk result (AnswersOne (R.state region.now) (R.state region.now) self.old self.new (Get key)) }
+        ensures ok { OnOk result (AnswersOne (R.state region.now) (R.state region.now) self.old
+            self.new (Get key)) }
         ensures err { OnErr result (self.new ≡ self.old) }
         ensures counts { OnOk result (CountsOne self.old self.new (Get key)) }
         ensures store { self.new.store ≡ self.old.store }
@@ -73,15 +76,21 @@ impl Run {
         requires room { HasRoom self.old.answers }
         requires going { self.old.stopped ≡ false }
         requires ready { Ready (R.state region.old) self.old.store }
-        ensures ok { OnOk result (AnswersOne (R.state region.old) (R.state region.new) self.old self.new (Put key value)) }
-        ensures err { OnErr result (AnswersNone (R.state region.old) (R.state region.new) self.old self.new) }
+        ensures ok { OnOk result (AnswersOne (R.state region.old) (R.state region.new) self.old
+            self.new (Put key value)) }
+        ensures err { OnErr result (AnswersNone (R.state region.old) (R.state region.new) self.old
+            self.new) }
         ensures counts { OnOk result (CountsOne self.old self.new (Put key value)) }
         ensures counts_none { OnErr result (CountsNone self.old self.new) }
         // A refusal leaves store and region as they were.
-        ensures refused { (cause : Shortage) → why_put self.old.store.log.layout (stock_of self.old.store) key (length value) ≡ Some cause → (self.new.store ≡ self.old.store) × (R.state region.new ≡ R.state region.old) }
+        ensures refused { (cause : Shortage)
+            → why_put self.old.store.log.layout (stock_of self.old.store) key (length value)
+            ≡ Some cause → (self.new.store ≡ self.old.store)
+            × (R.state region.new ≡ R.state region.old) }
         ensures ready { IsReady (R.state region.new) self.new }
         ensures run { Runs (R.state region.old) (R.state region.new) }
-        ensures cause { self.new.stopped ≡ true → Rose (R.state region.old).faults (R.state region.new).faults }
+        ensures cause { self.new.stopped ≡ true
+            → Rose (R.state region.old).faults (R.state region.new).faults }
     {
         let length = value.bytes().len() as u64;
         if let Some(why) = self.store.put_refusal(key, length) {
@@ -98,16 +107,21 @@ impl Run {
         requires room { HasRoom self.old.answers }
         requires going { self.old.stopped ≡ false }
         requires ready { Ready (R.state region.old) self.old.store }
-        ensures ok { OnOk result (AnswersOne (R.state region.old) (R.state region.new) self.old self.new (Delete key)) }
-        ensures err { OnErr result (AnswersNone (R.state region.old) (R.state region.new) self.old self.new) }
+        ensures ok { OnOk result (AnswersOne (R.state region.old) (R.state region.new) self.old
+            self.new (Delete key)) }
+        ensures err { OnErr result (AnswersNone (R.state region.old) (R.state region.new) self.old
+            self.new) }
         ensures counts { OnOk result (CountsOne self.old self.new (Delete key)) }
         ensures counts_none { OnErr result (CountsNone self.old self.new) }
         // A refusal leaves store and region as they were, and so does the delete of a key without a value.
-        ensures refused { (cause : Shortage) → why_delete (stock_of self.old.store) ≡ Some cause → (self.new.store ≡ self.old.store) × (R.state region.new ≡ R.state region.old) }
-        ensures absent { is_some (class_held self.old.store key) ≡ false → (self.new.store ≡ self.old.store) × (R.state region.new ≡ R.state region.old) }
+        ensures refused { (cause : Shortage) → why_delete (stock_of self.old.store) ≡ Some cause
+            → (self.new.store ≡ self.old.store) × (R.state region.new ≡ R.state region.old) }
+        ensures absent { is_some (class_held self.old.store key) ≡ false
+            → (self.new.store ≡ self.old.store) × (R.state region.new ≡ R.state region.old) }
         ensures ready { IsReady (R.state region.new) self.new }
         ensures run { Runs (R.state region.old) (R.state region.new) }
-        ensures cause { self.new.stopped ≡ true → Rose (R.state region.old).faults (R.state region.new).faults }
+        ensures cause { self.new.stopped ≡ true
+            → Rose (R.state region.old).faults (R.state region.new).faults }
     {
         if !self.store.is_live(key) {
             self.answers.reply(Reply::Absent);
@@ -131,14 +145,17 @@ impl Run {
         request: Request,
     ) -> Result<(), Memory>
         requires ready { IsReady (R.state region.old) self.old }
-        ensures ok { OnOk result (AnswersOne (R.state region.old) (R.state region.new) self.old self.new request) }
-        ensures err { OnErr result (AnswersNone (R.state region.old) (R.state region.new) self.old self.new) }
+        ensures ok { OnOk result (AnswersOne (R.state region.old) (R.state region.new) self.old
+            self.new request) }
+        ensures err { OnErr result (AnswersNone (R.state region.old) (R.state region.new) self.old
+            self.new) }
         // Whatever the region tells.
         ensures counts { OnOk result (CountsOne self.old self.new request) }
         ensures counts_none { OnErr result (CountsNone self.old self.new) }
         ensures ready { IsReady (R.state region.new) self.new }
         ensures run { Runs (R.state region.old) (R.state region.new) }
-        ensures cause { self.old.stopped ≡ false → self.new.stopped ≡ true → Rose (R.state region.old).faults (R.state region.new).faults }
+        ensures cause { self.old.stopped ≡ false → self.new.stopped ≡ true
+            → Rose (R.state region.old).faults (R.state region.new).faults }
         ensures stays { self.old.stopped ≡ true → self.new.stopped ≡ true }
     {
         self.answers.reserve()?;
@@ -161,13 +178,16 @@ impl Run {
         requests: Vec<Request>,
     ) -> Result<(), Memory>
         requires ready { IsReady (R.state region.old) self.old }
-        ensures ok { OnOk result (AnswersList (R.state region.old) (R.state region.new) self.old self.new requests.items) }
-        ensures err { OnErr result (AnswersSome (R.state region.old) (R.state region.new) self.old self.new requests.items) }
+        ensures ok { OnOk result (AnswersList (R.state region.old) (R.state region.new) self.old
+            self.new requests.items) }
+        ensures err { OnErr result (AnswersSome (R.state region.old) (R.state region.new) self.old
+            self.new requests.items) }
         // Whatever the region tells.
         ensures counts { OnOk result (CountsList self.old self.new requests.items) }
         ensures ready { IsReady (R.state region.new) self.new }
         ensures run { Runs (R.state region.old) (R.state region.new) }
-        ensures cause { self.old.stopped ≡ false → self.new.stopped ≡ true → Rose (R.state region.old).faults (R.state region.new).faults }
+        ensures cause { self.old.stopped ≡ false → self.new.stopped ≡ true
+            → Rose (R.state region.old).faults (R.state region.new).faults }
     {
         for request in requests {
             self.answer(alloc, region, request)?;

@@ -8,7 +8,7 @@ ghost use Rattle.store_image.specs.Soundness.{rule_of, chunk_rule};
 ghost use Rattle.store_image.specs.Parts.{payload, scan_at};
 
 use crate::geometry::{chunk_first, is_of_group};
-use crate::heads::head_at;
+use crate::image_heads::head_at;
 use crate::scanning::{AtPlace, Scanned, scan};
 use chunk_map::heads::Head;
 use chunk_map::layouts::Geometry;

@@ -4,9 +4,9 @@ ghost use Rattle.chunk_map.specs.Layouts.{layout_rule, total_bytes};
 ghost use Rattle.store_image.specs.Soundness.{damage, first_fault};
 ghost use Rattle.store_image.specs.Facts.{IsStore};
 
-use crate::gathering::gather;
-use crate::judging::{block_fault, clash_fault};
-use crate::superblock::read_layout;
+use crate::entry_rules::{block_fault, clash_fault};
+use crate::gather_image::gather;
+use crate::image_superblock::read_layout;
 use crate::types::Fault;
 use chunk_map::layouts::Geometry;
 use fs_errors::Memory;

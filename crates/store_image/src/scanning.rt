@@ -5,7 +5,7 @@ ghost use Rattle.store_image.specs.Scanned.{IsScan, IsNext, shown};
 
 use fs_errors::Memory;
 use log_entry::entry::{Entry, Read};
-use log_entry::reading::read_entry;
+use log_entry::entry_reading::read_entry;
 use std::alloc::Global;
 
 /// An entry with its place in the payload.

@@ -1,6 +1,6 @@
 ghost use Rattle.std.specs.Prelude.{◌≡◌, ◌/◌, vec_len, IfOk};
 
-use crate::superblock::read_layout;
+use crate::image_superblock::read_layout;
 use crate::{Fault, first_fault, recovered_cells};
 use fs_errors::Memory;
 use std::alloc::Global;

@@ -3,7 +3,7 @@ use Rattle.std.specs.Prelude.{is_some}
 use Rattle.batch_leader.specs.TakenChanges.{taken_in}
 use Rattle.core_worker.specs.OwnPlaces.{place_at}
 use Rattle.core_worker.specs.Turns.{unpledged_if}
-use Rattle.core_worker.proofs.leading.unpledge.Given as goal
+use Rattle.core_worker.proofs.lead_items.unpledge.Given as goal
 
 -- so it is with the places before this one, and the others are as they were
 abbrev pub invariant-loop-slot : goal.invariant-loop-slot

@@ -1,7 +1,7 @@
 use Rattle.std.proofs.Common.{rules, ◌≡◌, ◌<◌, ◌≤◌, List, length, get_or, Some, sym, ◌∙◌, ap, subst}
 use Rattle.std.proofs.lemmas.List.{get_or_read}
 use Rattle.conflict_queue.specs.declared.types.Held.{Held}
-use Rattle.conflict_queue.specs.declared.chains.Chain.{Chain}
+use Rattle.conflict_queue.specs.declared.key_chains.Chain.{Chain}
 use Rattle.conflict_queue.specs.Waiting.{waiting}
 use Rattle.conflict_queue.specs.Chains.{none, IsPlace}
 use Rattle.conflict_queue.proofs.TableLaws.{lacks_waiting}

@@ -34,8 +34,8 @@ returns-then-shows_back-clause-finds g c =
     let v = g.B.Board.view in
     let i = c.loop-slot.invariant in
     let found = found_below (w c.args.board.now) (w c.loop-slot.board) (w c.look_place-seen.new.board) seat.number c.args.self.now (v c.args.board.now) c.loop-slot.slot c.loop-slot.posted (v c.loop-slot.board) (v c.look_place-seen.new.board) c.requires.nothing i.searched c.look_place-seen.result
-        (sees_by (g.B.Board.seat c.loop-slot.board) seat c.loop-slot.slot (w c.loop-slot.board) (w c.look_place-seen.new.board) (v c.loop-slot.board) (v c.look_place-seen.new.board) (place_at c.args.self.now.places.items c.loop-slot.slot) c.look_place-seen.result i.sits c.look_place-seen.ensures.sees)
-        (sym c.shows_back.ensures ∙ c.if-shows_back.true) in
+    (sees_by (g.B.Board.seat c.loop-slot.board) seat c.loop-slot.slot (w c.loop-slot.board) (w c.look_place-seen.new.board) (v c.loop-slot.board) (v c.look_place-seen.new.board) (place_at c.args.self.now.places.items c.loop-slot.slot) c.look_place-seen.result i.sits c.look_place-seen.ensures.sees)
+    (sym c.shows_back.ensures ∙ c.if-shows_back.true) in
     (c.loop-slot-test.true, found.0, found.1, found.2)
 
 pub returns-then-shows_back-clause-looks : goal.returns-then-shows_back-clause-looks

@@ -1,4 +1,4 @@
-use Rattle.group_board.specs.declared.journal.Act.TheVariants.{Commit}
+use Rattle.group_board.specs.declared.board_journal.Act.TheVariants.{Commit}
 use Rattle.group_board.specs.Journals.{note_of}
 use Rattle.group_board.proofs.local_board.LocalBoard.commit.Given as goal
 

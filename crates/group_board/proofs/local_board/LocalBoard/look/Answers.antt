@@ -3,7 +3,7 @@ use Rattle.group_laws.specs.Places.{members}
 use Rattle.group_laws.specs.State.{shown}
 use Rattle.group_laws.specs.Runs as runs
 use Rattle.group_laws.specs.declared.types.Seen.TheVariants as loads
-use Rattle.group_board.specs.declared.journal.Act.TheVariants.{Found}
+use Rattle.group_board.specs.declared.board_journal.Act.TheVariants.{Found}
 use Rattle.group_board.specs.Journals.{note_of, noted, state}
 use Rattle.group_board.specs.Told.{state_of}
 use Rattle.group_board.proofs.Facts.{read_slot}

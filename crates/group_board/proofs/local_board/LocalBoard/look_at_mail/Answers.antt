@@ -3,7 +3,7 @@ use Rattle.group_laws.specs.Places.{members}
 use Rattle.group_laws.specs.State.{is_full}
 use Rattle.group_laws.specs.Runs as runs
 use Rattle.group_laws.specs.declared.types.Seen.TheVariants as loads
-use Rattle.group_board.specs.declared.journal.Act.TheVariants.{Found}
+use Rattle.group_board.specs.declared.board_journal.Act.TheVariants.{Found}
 use Rattle.group_board.specs.Journals.{state}
 use Rattle.group_board.proofs.Journals.{state_is}
 use Rattle.group_board.proofs.Facts.{full_by, read_mail}

@@ -1,4 +1,4 @@
-use Rattle.group_board.specs.declared.journal.Act.TheVariants.{Found}
+use Rattle.group_board.specs.declared.board_journal.Act.TheVariants.{Found}
 use Rattle.group_laws.specs.declared.types.Seen.TheVariants as loads
 use Rattle.group_board.specs.Journals.{note_of}
 use Rattle.group_board.proofs.local_board.LocalBoard.look_at_mail.Given as goal

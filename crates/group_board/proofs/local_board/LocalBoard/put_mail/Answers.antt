@@ -1,7 +1,7 @@
 use Rattle.std.proofs.Common.{ℕ, ◌<◌, length-set, ◌∙◌, ap, subst, refl}
 use Rattle.group_laws.specs.Places.{members}
 use Rattle.std.specs.Prelude.{Some}
-use Rattle.group_board.specs.declared.journal.Act.TheVariants.{Send}
+use Rattle.group_board.specs.declared.board_journal.Act.TheVariants.{Send}
 use Rattle.group_board.proofs.Journals.{state_is}
 use Rattle.group_board.proofs.Keeping.{mail_at}
 use Rattle.group_board.proofs.Calls.{send_kept}

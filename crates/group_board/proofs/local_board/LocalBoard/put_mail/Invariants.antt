@@ -1,4 +1,4 @@
-use Rattle.group_board.specs.declared.journal.Act.TheVariants.{Send}
+use Rattle.group_board.specs.declared.board_journal.Act.TheVariants.{Send}
 use Rattle.group_board.specs.Journals.{note_of}
 use Rattle.group_board.proofs.local_board.LocalBoard.put_mail.Given as goal
 

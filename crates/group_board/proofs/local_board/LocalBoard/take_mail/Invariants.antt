@@ -1,4 +1,4 @@
-use Rattle.group_board.specs.declared.journal.Act.TheVariants.{Receive}
+use Rattle.group_board.specs.declared.board_journal.Act.TheVariants.{Receive}
 use Rattle.group_board.specs.Journals.{note_of}
 use Rattle.group_board.proofs.local_board.LocalBoard.take_mail.Given as goal
 

@@ -1,4 +1,4 @@
-use Rattle.pm_region.specs.declared.image.ImageError.TheVariants.{NotTold}
+use Rattle.pm_region.specs.declared.crash_image.ImageError.TheVariants.{NotTold}
 use Rattle.std.proofs.Common.{◌∙◌, ap}
 use Rattle.pm_region.specs.Volumes.{found_in}
 use Rattle.pm_region.proofs.Results.{same_err}

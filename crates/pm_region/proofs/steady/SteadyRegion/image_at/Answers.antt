@@ -1,4 +1,4 @@
-use Rattle.pm_region.specs.declared.image.ImageError.TheVariants.{NotTold}
+use Rattle.pm_region.specs.declared.crash_image.ImageError.TheVariants.{NotTold}
 use Rattle.pm_region.proofs.Results.{same_err}
 use Rattle.pm_region.proofs.steady.SteadyRegion.image_at.Goals as goal
 

@@ -1,6 +1,0 @@
-use Rattle.std.proofs.Common.{take}
-use Rattle.conflict_queue.specs.Chains.{Lacks}
-use Rattle.conflict_queue.proofs.chains.place_of.Given as goal
-
-abbrev pub invariant-loop-i : goal.invariant-loop-i
-invariant-loop-i l = Lacks (take l.i l.chains) l.key

@@ -1,0 +1,348 @@
+// Beginning a request: it is refused, answered, or staged as a change.
+ghost use Rattle.std.specs.Prelude.{◌≡◌, ◌≢◌, ◌⊎◌, ℕ, ◌+◌, ◌<◌, ◌≤◌, List, [], ◌∷◌, ◌++◌, length, Option, Some, None, true, false, is_some, IfOk, IfErr, OnOk, OnErr};
+ghost use Rattle.std.specs.VecDeque.{deque_len, deque_capacity};
+ghost use Rattle.pm_region.specs.State.{State, IsTelling};
+ghost use Rattle.fs_model.specs.declared.model.Request.TheVariants as requests;
+ghost use Rattle.fs_model.specs.Cells.{key_of, answer_to};
+ghost use Rattle.log_entry.specs.Spelling.{HasSpelling};
+ghost use Rattle.core_index.specs.Index.{known_at, room_at};
+ghost use Rattle.core_index.specs.Records.{last_of, live_version};
+ghost use Rattle.batch_leader.specs.declared.batch_buffer.BatchBuffer.{BatchBuffer};
+ghost use Rattle.core_worker.specs.declared.types.Place.TheVariants as kinds;
+ghost use Rattle.core_worker.specs.declared.types.Leading.TheVariants as leads;
+ghost use Rattle.core_worker.specs.OwnPlaces.{place_at, is_free, is_busy, IsLowest, Replaces};
+ghost use Rattle.core_worker.specs.Supplies.{supply_of, HasKeptRoom, why, why_put};
+ghost use Rattle.core_room.specs.RoomRule.{lacks_room};
+ghost use Rattle.core_room.specs.Lengths.{lines_needed};
+ghost use Rattle.core_worker.specs.Refusals.{HasAnswerRoom};
+ghost use Rattle.core_worker.specs.Beginning.{answer_with, HasFree, IsAside, StandsAside, KeepsTies, ByEachView, OnlyStages, OnlyBegins, IsStaged, Begins};
+ghost use Rattle.core_worker.specs.Ties.{LeadsNothing};
+ghost use Rattle.core_worker.specs.Serving.{KeepsLine, LeadsNothingYet};
+
+use crate::post_item::place_in;
+use crate::refusing::{key_of, reply_for};
+use crate::types::{Answer, NotAccepted, Place};
+use crate::worker::Worker;
+use core_index::Look;
+use core_room::{Shortage, byte_count};
+use fs_errors::Memory;
+use fs_model::{Key, Reply, Request, Value};
+use lazy_alloc::class_of;
+use log_entry::{Body, Entry};
+use pm_region::Region;
+use std::alloc::Global;
+use std::mem;
+
+// The lowest free place.
+fn free_place(places: &Vec<Place>) -> u32
+    requires eight { length places.now.items ≡ 8 }
+    requires some { HasFree places.now.items }
+    ensures lowest { IsLowest is_free places.now.items result }
+    ensures within { result < 8 }
+{
+    for slot in 0..8 {
+        if let Place::Free = place_in(places, slot) {
+            return slot;
+        }
+    }
+    unreachable!()
+}
+
+// Stages a change in the lowest free place.
+fn stage(places: &mut Vec<Place>, number: u64, entry: Entry, value: Value) -> u32
+    requires eight { length places.old.items ≡ 8 }
+    requires some { HasFree places.old.items }
+    ensures lowest { IsLowest is_free places.old.items result }
+    ensures within { result < 8 }
+    ensures placed { Replaces places.old.items places.new.items result
+        (kinds.Staged number entry value) }
+{
+    let slot = free_place(places);
+    let staged = Place::Staged {
+        number,
+        entry,
+        value,
+    };
+    let at = &mut places[slot as usize];
+    let _free = mem::replace(at, staged);
+    slot
+}
+
+impl Worker {
+    // Fixes an answer.
+    pub(crate) fn answer(&mut self, number: u64, reply: Reply, refusal: Option<Shortage>)
+        requires room { HasAnswerRoom 1 self.old }
+        ensures rest { self.new ≡ record self.old { answers = self.new.answers } }
+        ensures answers { self.new.answers.items
+            ≡ self.old.answers.items ++ answer_with number reply refusal ∷ [] }
+        ensures room { (n : ℕ) → HasAnswerRoom (n + 1) self.old → HasAnswerRoom n self.new }
+    {
+        let answer = Answer {
+            number,
+            reply,
+            refusal,
+        };
+        let _kept = self.answers.push_back(answer);
+    }
+
+    // The answer to a get of a core that runs. A value in a block is read from the region.
+    fn found<R: Region>(&self, alloc: Global, region: &R, key: Key) -> Result<Reply, Memory>
+        requires tied { StandsAside (R.state region.now) self.now key }
+        requires runs { self.now.stopped ≡ false }
+        ensures { IfOk result (λ reply. ByEachView (R.state region.now) self.now key
+            (λ v. reply ≡ answer_to (requests.Get key) (v.cell key))) }
+    {
+        match self.index.look(key) {
+            Look::Unknown => Ok(Reply::Absent),
+            Look::Deleted => Ok(Reply::Absent),
+            Look::Embedded(bytes) => Ok(Reply::Value(Value::of(Vec::from_slice(alloc, bytes)?))),
+            Look::Block(pointer) => {
+                let value = self.allocator.read_value(alloc, region, pointer)?;
+                Ok(Reply::Value(value))
+            }
+        }
+    }
+
+    // Stages a put of a value that stands beside its key.
+    fn stage_beside(&mut self, alloc: Global, number: u64, key: Key, value: Value)
+        requires held { IsAside self.old key }
+        requires runs { self.old.stopped ≡ false }
+        requires nothing { LeadsNothing self.old }
+        requires idle { is_busy self.old.places.items key ≡ false }
+        requires room { 0 < room_at self.old.index key }
+        requires place { HasFree self.old.places.items }
+        requires short { length value < 256 }
+        requires unspent { last_of (known_at self.old.index key) < 1048574 }
+        requires fits { lacks_room (supply_of self.old) (lines_needed (length value)) ≡ false }
+        ensures keeps { KeepsTies self.old self.new key }
+        ensures staged { IsStaged self.old self.new number (requests.Put key value) }
+        ensures rule { HasKeptRoom self.new }
+        ensures rest { OnlyStages self.old self.new }
+    {
+        let _count = byte_count(value.bytes());
+        let version = self.index.next_version(key, false).unwrap();
+        let entry = Entry {
+            key,
+            version,
+            body: Body::Embedded(value),
+        };
+        let _slot = stage(&mut self.places, number, entry, Value::of(Vec::new(alloc)));
+    }
+
+    // Stages a put of a value that gets a block.
+    fn stage_block(&mut self, number: u64, key: Key, value: Value)
+        requires held { IsAside self.old key }
+        requires runs { self.old.stopped ≡ false }
+        requires nothing { LeadsNothing self.old }
+        requires idle { is_busy self.old.places.items key ≡ false }
+        requires room { 0 < room_at self.old.index key }
+        requires place { HasFree self.old.places.items }
+        requires long { 256 ≤ length value }
+        requires unrefused { why_put self.old.layout (supply_of self.old) self.old.allocator
+            (last_of (known_at self.old.index key)) (length value) ≡ None }
+        ensures keeps { KeepsTies self.old self.new key }
+        ensures staged { IsStaged self.old self.new number (requests.Put key value) }
+        ensures rule { HasKeptRoom self.new }
+        ensures rest { OnlyStages self.old self.new }
+    {
+        let class = class_of(byte_count(value.bytes()));
+        let may_cut = self.may_cut(1);
+        let version = self.index.next_version(key, false).unwrap();
+        let pointer = self.allocator.take(class, may_cut).unwrap();
+        let entry = Entry {
+            key,
+            version,
+            body: Body::Pointer(pointer),
+        };
+        let _slot = stage(&mut self.places, number, entry, value);
+    }
+
+    // Stages a delete of a key that has a value.
+    fn stage_delete(&mut self, alloc: Global, number: u64, key: Key)
+        requires held { IsAside self.old key }
+        requires runs { self.old.stopped ≡ false }
+        requires nothing { LeadsNothing self.old }
+        requires idle { is_busy self.old.places.items key ≡ false }
+        requires room { 0 < room_at self.old.index key }
+        requires place { HasFree self.old.places.items }
+        requires live { is_some (live_version (known_at self.old.index key)) ≡ true }
+        requires fits { lacks_room (supply_of self.old) 1 ≡ false }
+        ensures keeps { KeepsTies self.old self.new key }
+        ensures staged { IsStaged self.old self.new number (requests.Delete key) }
+        ensures rule { HasKeptRoom self.new }
+        ensures rest { OnlyStages self.old self.new }
+    {
+        let version = self.index.next_version(key, true).unwrap();
+        let entry = Entry {
+            key,
+            version,
+            body: Body::Tombstone,
+        };
+        let _slot = stage(&mut self.places, number, entry, Value::of(Vec::new(alloc)));
+    }
+}
+
+impl Worker {
+    // Stages a put that is not refused.
+    fn stage_put(&mut self, alloc: Global, number: u64, key: Key, value: Value)
+        requires held { IsAside self.old key }
+        requires runs { self.old.stopped ≡ false }
+        requires nothing { LeadsNothing self.old }
+        requires idle { is_busy self.old.places.items key ≡ false }
+        requires room { 0 < room_at self.old.index key }
+        requires place { HasFree self.old.places.items }
+        requires unrefused { why_put self.old.layout (supply_of self.old) self.old.allocator
+            (last_of (known_at self.old.index key)) (length value) ≡ None }
+        ensures keeps { KeepsTies self.old self.new key }
+        ensures staged { IsStaged self.old self.new number (requests.Put key value) }
+        ensures rule { HasKeptRoom self.new }
+        ensures rest { OnlyStages self.old self.new }
+    {
+        if byte_count(value.bytes()) < 256 {
+            self.stage_beside(alloc, number, key, value);
+        } else {
+            self.stage_block(number, key, value);
+        }
+    }
+
+    // Answers or stages a request of a core that runs, which is not refused. `live` tells whether its key has a value.
+    fn begin_unrefused<R: Region>(
+        &mut self,
+        alloc: Global,
+        region: &R,
+        number: u64,
+        request: Request,
+        live: bool,
+    ) -> Result<(), NotAccepted>
+        requires tied { StandsAside (R.state region.now) self.old (key_of request) }
+        requires runs { self.old.stopped ≡ false }
+        requires nothing { LeadsNothing self.old }
+        requires idle { is_busy self.old.places.items (key_of request) ≡ false }
+        requires room { 0 < room_at self.old.index (key_of request) }
+        requires place { HasFree self.old.places.items }
+        requires answers { HasAnswerRoom 1 self.old }
+        requires why { (cell : Option (List ℕ)) → is_some cell ≡ live
+            → why self.old.layout (supply_of self.old) self.old.allocator
+            (last_of (known_at self.old.index (key_of request))) cell request ≡ None }
+        requires live { is_some (live_version (known_at self.old.index (key_of request))) ≡ live }
+        ensures keeps { OnOk result (KeepsTies self.old self.new (key_of request)) }
+        ensures begins { OnOk result (ByEachView (R.state region.now) self.old (key_of request)
+            (λ v. Begins self.old self.new (v.cell (key_of request)) number request)) }
+        ensures room { OnOk result ((n : ℕ) → HasAnswerRoom (n + 1) self.old
+            → HasAnswerRoom n self.new) }
+        ensures rule { HasKeptRoom self.old → HasKeptRoom self.new }
+        ensures rest { OnlyBegins self.old self.new }
+        ensures places { OnOk result ((self.new.places ≡ self.old.places)
+            ⊎ (is_busy self.new.places.items (key_of request) ≡ true)) }
+        ensures busy { OnOk result ((k : ℕ) → is_busy self.old.places.items k ≡ true
+            → is_busy self.new.places.items k ≡ true) }
+        ensures line { OnOk result (KeepsLine self.old self.new (key_of request)) }
+        ensures given_back { IfErr result (λ back. back.request ≡ request) }
+        ensures unchanged { OnErr result (self.new ≡ self.old) }
+    {
+        match request {
+            Request::Get { key } => match self.found(alloc, region, key) {
+                Ok(reply) => {
+                    self.answer(number, reply, None);
+                    return Ok(());
+                }
+                Err(_) => {
+                    return Err(NotAccepted {
+                        request: Request::Get { key },
+                    });
+                }
+            },
+            Request::Put { key, value } => {
+                self.stage_put(alloc, number, key, value);
+                return Ok(());
+            }
+            Request::Delete { key } => {
+                if live {
+                    self.stage_delete(alloc, number, key);
+                    return Ok(());
+                }
+                self.answer(number, Reply::Absent, None);
+                return Ok(());
+            }
+        }
+    }
+
+    // Begins a request of a core that runs.
+    fn begin_running<R: Region>(
+        &mut self,
+        alloc: Global,
+        region: &R,
+        number: u64,
+        request: Request,
+    ) -> Result<(), NotAccepted>
+        requires tied { StandsAside (R.state region.now) self.old (key_of request) }
+        requires runs { self.old.stopped ≡ false }
+        requires nothing { LeadsNothing self.old }
+        requires idle { is_busy self.old.places.items (key_of request) ≡ false }
+        requires room { 0 < room_at self.old.index (key_of request) }
+        requires place { HasFree self.old.places.items }
+        requires answers { HasAnswerRoom 1 self.old }
+        ensures keeps { OnOk result (KeepsTies self.old self.new (key_of request)) }
+        ensures begins { OnOk result (ByEachView (R.state region.now) self.old (key_of request)
+            (λ v. Begins self.old self.new (v.cell (key_of request)) number request)) }
+        ensures room { OnOk result ((n : ℕ) → HasAnswerRoom (n + 1) self.old
+            → HasAnswerRoom n self.new) }
+        ensures rule { HasKeptRoom self.old → HasKeptRoom self.new }
+        ensures rest { OnlyBegins self.old self.new }
+        ensures places { OnOk result ((self.new.places ≡ self.old.places)
+            ⊎ (is_busy self.new.places.items (key_of request) ≡ true)) }
+        ensures busy { OnOk result ((k : ℕ) → is_busy self.old.places.items k ≡ true
+            → is_busy self.new.places.items k ≡ true) }
+        ensures line { OnOk result (KeepsLine self.old self.new (key_of request)) }
+        ensures given_back { IfErr result (λ back. back.request ≡ request) }
+        ensures unchanged { OnErr result (self.new ≡ self.old) }
+    {
+        let live = self.is_live(key_of(&request));
+        match self.refusal(&request, live) {
+            Some(shortage) => {
+                self.answer(number, reply_for(&shortage), Some(shortage));
+                return Ok(());
+            }
+            None => {
+                return self.begin_unrefused(alloc, region, number, request, live);
+            }
+        }
+    }
+
+    // Begins a request whose key has no change under way. Where there is no memory for the answer to a get, the request
+    // comes back and nothing changed.
+    pub(crate) fn begin<R: Region>(
+        &mut self,
+        alloc: Global,
+        region: &R,
+        number: u64,
+        request: Request,
+    ) -> Result<(), NotAccepted>
+        requires tied { StandsAside (R.state region.now) self.old (key_of request) }
+        requires nothing { LeadsNothingYet self.old }
+        requires idle { is_busy self.old.places.items (key_of request) ≡ false }
+        requires room { 0 < room_at self.old.index (key_of request) }
+        requires place { HasFree self.old.places.items }
+        requires answers { HasAnswerRoom 1 self.old }
+        ensures keeps { OnOk result (KeepsTies self.old self.new (key_of request)) }
+        ensures begins { OnOk result (ByEachView (R.state region.now) self.old (key_of request)
+            (λ v. Begins self.old self.new (v.cell (key_of request)) number request)) }
+        ensures room { OnOk result ((n : ℕ) → HasAnswerRoom (n + 1) self.old
+            → HasAnswerRoom n self.new) }
+        ensures rule { HasKeptRoom self.old → HasKeptRoom self.new }
+        ensures rest { OnlyBegins self.old self.new }
+        ensures places { OnOk result ((self.new.places ≡ self.old.places)
+            ⊎ (is_busy self.new.places.items (key_of request) ≡ true)) }
+        ensures busy { OnOk result ((k : ℕ) → is_busy self.old.places.items k ≡ true
+            → is_busy self.new.places.items k ≡ true) }
+        ensures line { OnOk result (KeepsLine self.old self.new (key_of request)) }
+        ensures given_back { IfErr result (λ back. back.request ≡ request) }
+        ensures unchanged { OnErr result (self.new ≡ self.old) }
+    {
+        if self.stopped {
+            self.answer(number, Reply::Stopped, None);
+            return Ok(());
+        }
+        self.begin_running(alloc, region, number, request)
+    }
+}

@@ -1,5 +1,0 @@
-use Rattle.group_laws.proofs.Runs.{step_keeps}
-use Rattle.group_laws.proofs.laws.every_step.Goals as goal
-
-pub returns : goal.returns
-returns c w m kind u L s = step_keeps w m kind u L s

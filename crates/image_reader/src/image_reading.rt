@@ -1,0 +1,44 @@
+// What the bytes of a region say.
+ghost use Rattle.std.specs.Prelude.{◌≡◌, ◌%◌, ◌/◌, ◌≤◌, length, slice_index, IfOk};
+ghost use Rattle.image_reader.specs.Shown.{ShowsBytes, ShowsWords};
+
+use crate::image_bytes::words_of;
+use chunk_map::layout_sizes::SUPERBLOCK_BYTES;
+use fs_errors::Memory;
+use fs_model::Pair;
+use pm_region::MOST_BYTES;
+use std::alloc::Global;
+use store_image::image_superblock::read_layout;
+use store_image::{Fault, first_fault, recovered_cells};
+
+/// What an image says.
+#[derive(Drop)]
+pub enum Found {
+    /// It is not sound, and this is the first rule that it breaks.
+    Faulty(Fault),
+    /// It is sound, and these are its live pairs by rising key.
+    Sound(Vec<Pair>),
+}
+
+// What an image of these words says, where there are as many as the length asks.
+fn read_words(alloc: Global, words: &[u64], bytes: u64) -> Result<Found, Memory>
+    requires { bytes % 8 ≡ 0 → SUPERBLOCK_BYTES ≤ bytes → bytes ≤ MOST_BYTES → length words.now ≡ bytes / 8 }
+    ensures { IfOk result (λ found. ShowsWords found bytes (λ w. slice_index words.now w)) }
+{
+    match read_layout(words, bytes) {
+        Err(rule) => Ok(Found::Faulty(Fault::NotARegion { rule })),
+        Ok(_) => match first_fault(alloc, words, bytes)? {
+            Some(fault) => Ok(Found::Faulty(fault)),
+            None => Ok(Found::Sound(recovered_cells(alloc, words)?)),
+        },
+    }
+}
+
+/// What the bytes of a region say: the first rule of soundness that they break, or the live pairs.
+pub fn read_image(alloc: Global, bytes: &[u8]) -> Result<Found, Memory>
+    ensures { IfOk result (λ found. ShowsBytes found bytes.now) }
+{
+    let words = words_of(alloc, bytes)?;
+    let found = read_words(alloc, &words, bytes.len() as u64)?;
+    Ok(found)
+}

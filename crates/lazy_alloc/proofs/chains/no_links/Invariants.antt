@@ -1,5 +1,0 @@
-use Rattle.std.proofs.Common.{◌≡◌, replicate, None}
-use Rattle.lazy_alloc.proofs.chains.no_links.Given as goal
-
-abbrev pub invariant-loop : goal.invariant-loop
-invariant-loop l = l.links.items ≡ replicate l.counter None

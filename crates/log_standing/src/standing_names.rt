@@ -1,0 +1,259 @@
+// Which entries stand in the own log.
+ghost use Rattle.std.specs.Prelude.{◌≡◌, ◌⊎◌, ℕ, ◌+◌, ◌-◌, ◌^◌, ◌<◌, ◌≤◌, ◌==◌, nat_eq, true, false, Some, None, option_map, is_some, IsSome, IsOk, OnOk, OnErr, IfOk, if◌then◌else◌};
+ghost use Rattle.std.specs.HashMap.{get, spare};
+ghost use Rattle.log_standing.specs.NameCounts.{name_eq, copies_at, count_of, is_told, wants, living, one_more, killed, times_in, copies_with, Changes, SameCopies};
+
+use crate::types::{Copies, Settled};
+use fs_errors::Memory;
+use fs_model::{Key, Version};
+use log_entry::EntryName;
+use std::alloc::Global;
+use std::collections::HashMap;
+use std::marker::Model;
+
+// What a name has.
+fn copies_in(names: &HashMap<(Key, Version), Copies>, name: EntryName) -> Option<Copies>
+    ensures { result ≡ get name_eq names.now (name.key, name.version) }
+{
+    names.get(&(name.key, name.version)).copied()
+}
+
+// Writes what a name has that stands.
+fn set_in(names: &mut HashMap<(Key, Version), Copies>, name: EntryName, copies: Copies)
+    ensures set { IsSome (get name_eq names.old (name.key, name.version)) → (q : ℕ × ℕ)
+        → get name_eq names.new q ≡ (if name_eq (name.key, name.version) q then Some copies
+        else get name_eq names.old q) }
+    ensures spare { spare names.new ≡ spare names.old }
+{
+    if let Some(place) = names.get_mut(&(name.key, name.version)) {
+        *place = copies;
+    }
+}
+
+// Enters a name. There is a place for it.
+fn put_in(names: &mut HashMap<(Key, Version), Copies>, name: EntryName, copies: Copies)
+    requires { 0 < spare names.old }
+    ensures put { (q : ℕ × ℕ) → get name_eq names.new q ≡ (if name_eq (name.key, name.version) q
+        then Some copies else get name_eq names.old q) }
+    ensures spare { spare names.old ≤ spare names.new + 1 }
+{
+    let put: Result<_, _> = names.insert((name.key, name.version), copies);
+    let _ = put.unwrap();
+}
+
+// Takes a name out.
+fn take_in(names: &mut HashMap<(Key, Version), Copies>, name: EntryName)
+    ensures taken { (q : ℕ × ℕ) → get name_eq names.new q ≡ (if name_eq (name.key, name.version) q
+        then None else get name_eq names.old q) }
+    ensures spare { spare names.old ≤ spare names.new }
+{
+    let _ = names.remove(&(name.key, name.version));
+}
+
+/// Which entries stand in a core's log, by their names: each in how many chunks, and whether it was told dead.
+/// Equal entries in one chunk are one copy. A cleaning asks it what is still needed.
+#[derive(Drop)]
+pub struct Standing {
+    names: HashMap<(Key, Version), Copies>,
+    // No name has more copies.
+    most: u64,
+    // How many places are reserved.
+    room: u64,
+    settled: Option<Settled>,
+}
+
+impl Model for Standing {
+    ghost use Rattle.std.specs.HashMap.{spare};
+    ghost use Rattle.log_standing.specs.NameCounts.{StandingState, IsStanding};
+
+    ghost Value = { StandingState };
+
+    ghost view = { λ a. record { entries = a.names.entries; room = a.room; settled = a.settled } };
+
+    ghost invariant = { λ a. IsStanding a.names.entries (spare a.names) a.most a.room };
+}
+
+impl Standing {
+    /// These names, each in as many copies as it stands in the list. None was told dead, and no place is reserved.
+    pub fn open(alloc: Global, names: &[EntryName]) -> Result<Standing, Memory>
+        ensures names { IfOk result (λ s. (k v : ℕ)
+            → copies_at s k v ≡ living (times_in names.now k v)) }
+        ensures settled { IfOk result (λ s. s.settled ≡ None) }
+    {
+        let mut standing = Standing {
+            names: HashMap::new(alloc),
+            most: 2,
+            room: 0,
+            settled: None,
+        };
+        for name in names {
+            standing.reserve(1)?;
+            standing.add(*name);
+        }
+        Ok(standing)
+    }
+
+    /// Makes the number of reserved places at least this one.
+    pub fn reserve(&mut self, more: u64) -> Result<(), Memory>
+        ensures copies { SameCopies self.old self.new }
+        ensures ok { OnOk result (more ≤ self.new.room) }
+        ensures room { self.old.room ≤ self.new.room }
+        ensures err { OnErr result (self.new.room ≡ self.old.room) }
+        ensures settled { self.new.settled ≡ self.old.settled }
+    {
+        if more <= self.room {
+            return Ok(());
+        }
+        if self.most.checked_add(more).is_none() {
+            return Err(Memory);
+        }
+        self.names.reserve(more as usize)?;
+        self.room = more;
+        Ok(())
+    }
+
+    /// One copy more of a name. It takes a reserved place, and no memory.
+    pub fn add(&mut self, name: EntryName)
+        requires { 0 < self.old.room }
+        ensures added { Changes self.old self.new name.key name.version
+            (Some (one_more (copies_at self.old name.key name.version))) }
+        ensures room { self.new.room + 1 ≡ self.old.room }
+        ensures settled { self.new.settled ≡ self.old.settled }
+    {
+        match copies_in(&self.names, name) {
+            Some(copies) => set_in(
+                &mut self.names,
+                name,
+                Copies {
+                    count: copies.count + 1,
+                    dead: copies.dead,
+                },
+            ),
+            None => put_in(
+                &mut self.names,
+                name,
+                Copies {
+                    count: 1,
+                    dead: false,
+                },
+            ),
+        }
+        self.most += 1;
+        self.room -= 1;
+    }
+
+    /// Notes that a name was told dead. One that does not stand is passed over.
+    pub fn kill(&mut self, name: EntryName)
+        ensures killed { Changes self.old self.new name.key name.version
+            (option_map killed (copies_at self.old name.key name.version)) }
+        ensures room { self.new.room ≡ self.old.room }
+        ensures settled { self.new.settled ≡ self.old.settled }
+    {
+        if let Some(copies) = copies_in(&self.names, name) {
+            set_in(
+                &mut self.names,
+                name,
+                Copies {
+                    count: copies.count,
+                    dead: true,
+                },
+            );
+        }
+    }
+
+    /// Whether a name that stands was told dead.
+    pub fn is_dead(&self, name: EntryName) -> bool
+        ensures { result ≡ is_told self.now name.key name.version }
+    {
+        match copies_in(&self.names, name) {
+            Some(copies) => copies.dead,
+            None => false,
+        }
+    }
+
+    /// In how many copies a name stands.
+    pub fn copies(&self, name: EntryName) -> u64
+        ensures { result ≡ count_of self.now name.key name.version }
+    {
+        match copies_in(&self.names, name) {
+            Some(copies) => copies.count,
+            None => 0,
+        }
+    }
+
+    /// Whether a name was not told dead and stands in one chunk alone: such an entry is to be copied before
+    /// its chunk is cleared.
+    pub fn wants(&self, name: EntryName) -> bool
+        ensures { result ≡ wants self.now name.key name.version }
+    {
+        match copies_in(&self.names, name) {
+            Some(copies) => copies.count == 1 && !copies.dead,
+            None => false,
+        }
+    }
+
+    /// How many places are reserved.
+    pub fn room(&self) -> u64
+        ensures { result ≡ self.now.room }
+    {
+        self.room
+    }
+
+    /// Up to where a cleaning has read a chunk.
+    pub fn settled(&self) -> Option<Settled>
+        ensures { result ≡ self.now.settled }
+    {
+        self.settled
+    }
+
+    /// Notes up to where a cleaning has read a chunk: no entry before that place is still to be copied.
+    pub fn settle(&mut self, settled: Option<Settled>)
+        ensures copies { SameCopies self.old self.new }
+        ensures room { self.new.room ≡ self.old.room }
+        ensures settled { self.new.settled ≡ settled }
+    {
+        self.settled = settled;
+    }
+
+    /// A second copy of a name that has one. It takes no place.
+    pub fn add_second(&mut self, name: EntryName)
+        requires { count_of self.old name.key name.version ≡ 1 }
+        ensures added { Changes self.old self.new name.key name.version
+            (Some (one_more (copies_at self.old name.key name.version))) }
+        ensures room { self.new.room ≡ self.old.room }
+        ensures settled { self.new.settled ≡ self.old.settled }
+    {
+        let dead = self.is_dead(name);
+        set_in(&mut self.names, name, Copies { count: 2, dead });
+    }
+
+    /// Takes out a copy of a name that stands, and says whether it was the last one. What was told of a name goes
+    /// with its last copy. Where another copy is left, it may have to be copied: so no chunk is settled any more.
+    pub fn drop_copy(&mut self, name: EntryName) -> bool
+        requires { 0 < count_of self.old name.key name.version }
+        ensures last { result ≡ (count_of self.old name.key name.version == 1) }
+        ensures one { result ≡ true → Changes self.old self.new name.key name.version None }
+        ensures more { result ≡ false → Changes self.old self.new name.key name.version
+            (Some (copies_with (count_of self.old name.key name.version - 1)
+            (is_told self.old name.key name.version))) }
+        ensures room { self.new.room ≡ self.old.room }
+        ensures settled { self.new.settled ≡ (if result then self.old.settled else None) }
+    {
+        let count = self.copies(name);
+        if count == 1 {
+            take_in(&mut self.names, name);
+            return true;
+        }
+        let dead = self.is_dead(name);
+        set_in(
+            &mut self.names,
+            name,
+            Copies {
+                count: count - 1,
+                dead,
+            },
+        );
+        self.settled = None;
+        false
+    }
+}

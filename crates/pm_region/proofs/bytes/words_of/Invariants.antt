@@ -1,5 +1,0 @@
-use Rattle.pm_region.specs.Bytes.{AreWords}
-use Rattle.pm_region.proofs.bytes.words_of.Given as goal
-
-abbrev pub invariant-loop-k : goal.invariant-loop-k
-invariant-loop-k l = AreWords l.bytes l.words.items l.k

@@ -1,0 +1,13 @@
+use Rattle.std.proofs.Common.{sym, ◌∙◌, arith}
+use Rattle.log_entry.proofs.Whole.{whole_spelled}
+use Rattle.store_image.specs.Scanned.{shown}
+use Rattle.recover.proofs.SpellLaws.{found_spelled}
+use Rattle.recover.proofs.gather_region.scan_log.Goals as goal
+
+pub returns-clause-spelled : goal.returns-clause-spelled
+returns-clause-spelled c = found_spelled c.args.words.now (λ i. (let small = c.type_inv.words i in omega (arith, small))) (shown c.in_ok-scanned.scanned.entries.items) c.in_ok-scanned.ensures.0
+
+pub returns-clause-batches : goal.returns-clause-batches
+returns-clause-batches c = λ whole lines.
+    let bs = whole_spelled c.args.words.now (λ i. (let small = c.type_inv.words i in omega (arith, small))) lines (sym c.in_ok-scanned.ensures.1 ∙ whole) in
+    record { batches = bs.0; spelled = bs.1 }

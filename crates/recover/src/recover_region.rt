@@ -1,0 +1,127 @@
+// Recovery of a region.
+ghost use Rattle.std.specs.Prelude.{◌≡◌, ◌↔◌, ℕ, ◌/◌, ◌<◌, None, IfOk, length, slice_index_or};
+ghost use Rattle.pm_region.specs.State.{IsTelling};
+ghost use Rattle.pm_region.specs.Words.{lasts};
+ghost use Rattle.chunk_map.specs.Layouts.{total_bytes};
+ghost use Rattle.chunk_map.specs.Checked.{IsLength};
+ghost use Rattle.store_image.specs.Soundness.{damage, first_fault};
+ghost use Rattle.store_image.specs.Facts.{KeepsRules, IsStore};
+ghost use Rattle.recover.specs.declared.shares.Share.{Share};
+ghost use Rattle.recover.specs.Regions.{Covers, IsCertain};
+ghost use Rattle.recover.specs.Shares.{IsShared, Shares};
+ghost use Rattle.recover.specs.Recovering.{IsMade, Restores, Recovers, AllStand};
+
+use crate::judge_winners::{agreed_entries, judge};
+use crate::key_standees::standees;
+use crate::shares::{Share, shares};
+use crate::starts::starts;
+use crate::types::{RecoverError, Recovered};
+use chunk_map::{Layout, read_superblock};
+use fs_errors::Memory;
+use pm_region::Region;
+use std::alloc::Global;
+use store_image::Fault;
+
+/// The first of rules 4 to 11 that a region of this layout breaks.
+fn damage<R: Region>(alloc: Global, region: &R, layout: &Layout) -> Result<Option<Fault>, Memory>
+    requires covers { Covers (R.state region.now).frame layout.now }
+    ensures { IfOk result (λ f. IsTelling (R.state region.now) → f ≡ damage layout.now (lasts (R.state region.now))) }
+{
+    match agreed_entries(alloc, region, layout)? {
+        Err(fault) => Ok(Some(fault)),
+        Ok(entries) => {
+            let judged = judge(alloc, region, layout, entries)?;
+            Ok(judged.err())
+        }
+    }
+}
+
+/// The first rule of soundness that a region of so many bytes breaks, or none where it is sound.
+///
+/// Rules 1 to 3, on the superblock, are tested first. Then 4 to 7 by part and chunk, then 8 over all entries
+/// by part, chunk and place, then 9 to 11 by rising key.
+pub fn first_fault<R: Region>(
+    alloc: Global,
+    region: &R,
+    bytes: u64,
+) -> Result<Option<Fault>, Memory>
+    requires first { (R.state region.now).frame.first ≡ 0 }
+    requires words { IsLength bytes → (R.state region.now).frame.words ≡ bytes / 8 }
+    ensures first { IfOk result (λ f. IsTelling (R.state region.now) → f ≡ first_fault bytes (lasts (R.state region.now))) }
+    ensures sound { IfOk result (λ f. IsTelling (R.state region.now) → (f ≡ None) ↔ IsStore bytes (lasts (R.state region.now))) }
+{
+    match read_superblock(region, bytes) {
+        Err(bad) => Ok(Some(Fault::NotARegion { rule: bad.rule })),
+        Ok(layout) => {
+            let fault = damage(alloc, region, &layout)?;
+            Ok(fault)
+        }
+    }
+}
+
+/// What each core gets of the entries of a region, or the first broken one of rules 4 to 11.
+fn judged_shares<R: Region>(
+    alloc: Global,
+    region: &R,
+    layout: &Layout,
+) -> Result<Result<Vec<Share>, Fault>, Memory>
+    requires covers { Covers (R.state region.now).frame layout.now }
+    ensures count { IfOk result (λ r. IfOk r (λ shares. length shares.items ≡ layout.now.cores)) }
+    ensures made { IfOk result (λ r. IfOk r (λ shares. (c : ℕ) (d : Share) → c < layout.now.cores → IsShared layout.now c (slice_index_or shares.items c d))) }
+    ensures told { IfOk result (λ r. IsTelling (R.state region.now) → Shares layout.now (lasts (R.state region.now)) r) }
+{
+    let entries = match agreed_entries(alloc, region, layout)? {
+        Ok(entries) => entries,
+        Err(fault) => return Ok(Err(fault)),
+    };
+    let standing = standees(alloc, &entries)?;
+    match judge(alloc, region, layout, entries)? {
+        Ok(winners) => {
+            let shares = shares(alloc, layout, winners, standing)?;
+            Ok(Ok(shares))
+        }
+        Err(fault) => Ok(Err(fault)),
+    }
+}
+
+/// What a region of this layout recovers, or the first broken one of rules 4 to 11.
+fn recovered<R: Region>(
+    alloc: Global,
+    region: &R,
+    layout: Layout,
+) -> Result<Result<Recovered, Fault>, Memory>
+    requires covers { Covers (R.state region.now).frame layout }
+    ensures made { IfOk result (λ r. IfOk r (IsMade (total_bytes layout))) }
+    ensures told { IfOk result (λ r. IsTelling (R.state region.now) → (damage layout (lasts (R.state region.now)) ≡ None → KeepsRules layout (lasts (R.state region.now))) → Restores layout (lasts (R.state region.now)) r) }
+{
+    let shares = match judged_shares(alloc, region, &layout)? {
+        Ok(shares) => shares,
+        Err(fault) => return Ok(Err(fault)),
+    };
+    match starts(alloc, region, &layout, shares)? {
+        Ok(starts) => Ok(Ok(Recovered { layout, starts })),
+        Err(fault) => Ok(Err(fault)),
+    }
+}
+
+/// What the cores of a region of so many bytes begin with, or the first broken rule: their logs, their
+/// allocators and their indexes. It writes nothing.
+pub fn recover<R: Region>(alloc: Global, region: &R, bytes: u64) -> Result<Recovered, RecoverError>
+    requires first { (R.state region.now).frame.first ≡ 0 }
+    requires words { IsLength bytes → (R.state region.now).frame.words ≡ bytes / 8 }
+    // Whatever the region tells.
+    ensures made { IfOk result (IsMade bytes) }
+    ensures told { IsTelling (R.state region.now) → Recovers bytes (lasts (R.state region.now)) result }
+    // Where each word is certain, each log stands in the region.
+    ensures stands { IsCertain (R.state region.now) → IfOk result (AllStand (R.state region.now)) }
+{
+    let layout = match read_superblock(region, bytes) {
+        Ok(layout) => layout,
+        Err(bad) => return Err(RecoverError::Fault(Fault::NotARegion { rule: bad.rule })),
+    };
+    match recovered(alloc, region, layout) {
+        Ok(Ok(recovered)) => Ok(recovered),
+        Ok(Err(fault)) => Err(RecoverError::Fault(fault)),
+        Err(Memory) => Err(RecoverError::Memory),
+    }
+}

@@ -1,0 +1,65 @@
+// The value blocks of a region.
+ghost use Rattle.std.specs.Prelude.{◌≡◌, ◌+◌, ◌*◌, ◌/◌, ◌^◌, ◌<◌, ◌≤◌, IfOk, IfSome, Some, None};
+ghost use Rattle.pm_region.specs.State.{IsTelling};
+ghost use Rattle.pm_region.specs.Words.{lasts};
+ghost use Rattle.chunk_map.specs.Layouts.{total_bytes};
+ghost use Rattle.store_image.specs.Parts.{block_class, held};
+ghost use Rattle.recover.specs.Regions.{Covers};
+
+use chunk_map::{Head, Layout, read_head};
+use fs_errors::Memory;
+use fs_model::Value;
+use lazy_alloc::value_in;
+use pm_region::Region;
+use std::alloc::Global;
+use store_image::image_blocks::is_start;
+
+/// The class of the block that begins at a pointer, where a block of the part does. A pointer is the number
+/// of the block's first byte in the region divided by 256.
+pub fn block_class<R: Region>(region: &R, layout: &Layout, part: u32, pointer: u64) -> Option<u32>
+    requires covers { Covers (R.state region.now).frame layout.now }
+    requires part { part < layout.now.cores }
+    ensures told { IsTelling (R.state region.now) → result ≡ block_class layout.now (lasts (R.state region.now)) part pointer }
+    ensures small { IfSome result (λ class. class ≤ 12) }
+    ensures within { IfSome result (λ class. 32 * pointer + 32 * 2 ^ class ≤ total_bytes layout.now / 8) }
+{
+    if pointer < 16 {
+        return None;
+    }
+    let geometry = layout.geometry();
+    let units = geometry.chunk_bytes / 256;
+    let chunk = (pointer - 16) / units;
+    if chunk / geometry.chunks as u64 != part as u64 {
+        return None;
+    }
+    let at = 512 + chunk * (geometry.chunk_bytes / 8);
+    match read_head(region, layout, at) {
+        Ok(Head::Data { class }) => {
+            if is_start(&geometry, class, (pointer - 16) % units) {
+                Some(class)
+            } else {
+                None
+            }
+        }
+        _ => None,
+    }
+}
+
+/// What the block of a part at a pointer holds: none where no block of the part begins there, or where its
+/// first word is no length of its class.
+pub fn held<R: Region>(
+    alloc: Global,
+    region: &R,
+    layout: &Layout,
+    part: u32,
+    pointer: u64,
+) -> Result<Option<Value>, Memory>
+    requires covers { Covers (R.state region.now).frame layout.now }
+    requires part { part < layout.now.cores }
+    ensures { IfOk result (λ v. IsTelling (R.state region.now) → v ≡ held layout.now (lasts (R.state region.now)) part pointer) }
+{
+    match block_class(region, layout, part, pointer) {
+        None => Ok(None),
+        Some(class) => value_in(alloc, region, pointer, class),
+    }
+}
