@@ -1,14 +1,15 @@
 -- What a value of some bytes needs: lines of the log, and a block.
 use Rattle.std.specs.Prelude.{ℕ, ◌+◌, ◌/◌, nat_le, find, unwrap_or, if◌then◌else◌}
+use Rattle.chunk_map.specs.declared.layout_sizes.TheConstants.{GREATEST_CLASS, SHORTEST_IN_BLOCK}
 use Rattle.chunk_map.specs.Layouts.{numbers, has_class}
 
 -- the class of the block that a value of this length gets, or 0 where it stands beside its key
 abbrev pub class_for : ℕ → ℕ
-class_for n = unwrap_or (find (has_class n) (numbers 1 12)) 0
+class_for n = unwrap_or (find (has_class n) (numbers 1 GREATEST_CLASS)) 0
 
 -- the lines that the entry of such a value takes
 abbrev pub lines_needed : ℕ → ℕ
-lines_needed n = if nat_le 256 n then 1 else (2 + (n + 7) / 8 + 7) / 8
+lines_needed n = if nat_le SHORTEST_IN_BLOCK n then 1 else (2 + (n + 7) / 8 + 7) / 8
 
 -- the lines that so many entries with so many words take at most, copied 64 to a batch
 abbrev pub lines_to_copy : ℕ → ℕ → ℕ

@@ -5,7 +5,10 @@ ghost use Rattle.chunk_map.specs.Layouts.{IsLayout};
 ghost use Rattle.core_room.specs.Lengths.{lines_needed, class_for, lines_to_copy};
 
 use chunk_map::Layout;
+use chunk_map::layout_sizes::{LONGEST_VALUE, SHORTEST_IN_BLOCK};
 use lazy_alloc::class_of;
+use log_entry::MOST_ENTRIES;
+use pm_region::{LINE_WORDS, WORD_BYTES};
 
 /// The bytes of a value are counted.
 pub fn byte_count(value: &[u8]) -> u64
@@ -19,11 +22,11 @@ pub fn byte_count(value: &[u8]) -> u64
 /// The bytes of the longest value that a block of the layout holds.
 pub fn longest_value(layout: &Layout) -> u64
     ensures value { result ≡ layout.now.chunk_bytes / 4 - 8 }
-    ensures small { result ≤ 1048568 }
+    ensures small { result ≤ LONGEST_VALUE }
     ensures rules { IsLayout layout.now }
 {
     let numbers = layout.geometry();
-    numbers.chunk_bytes / 4 - 8
+    numbers.chunk_bytes / 4 - WORD_BYTES
 }
 
 /// The lines of the log that a put of so many bytes takes.
@@ -31,19 +34,23 @@ pub fn lines_needed(length: u64) -> u64
     requires { length < 2 ^ 63 }
     ensures { result ≡ lines_needed length }
 {
-    if length >= 256 {
+    if length >= SHORTEST_IN_BLOCK {
         1
     } else {
-        (2 + (length + 7) / 8 + 7) / 8
+        (2 + length.div_ceil(WORD_BYTES)).div_ceil(LINE_WORDS)
     }
 }
 
 /// The class of the block that a value of this length gets, or 0 where it stands beside its key.
 pub fn class_or_zero(length: u64) -> u32
-    requires { length ≤ 1048568 }
+    requires { length ≤ LONGEST_VALUE }
     ensures { result ≡ class_for length }
 {
-    if length >= 256 { class_of(length) } else { 0 }
+    if length >= SHORTEST_IN_BLOCK {
+        class_of(length)
+    } else {
+        0
+    }
 }
 
 /// The lines of the log that so many entries with so many words take at most, copied 64 to a batch.
@@ -52,5 +59,5 @@ pub fn lines_to_copy(entries: u64, words: u64) -> u64
     requires words { words < 2 ^ 63 }
     ensures { result ≡ lines_to_copy entries words }
 {
-    (words + 7) / 8 + (entries + 63) / 64
+    words.div_ceil(LINE_WORDS) + entries.div_ceil(u64::from(MOST_ENTRIES))
 }

@@ -2,6 +2,7 @@
 ghost use Rattle.std.specs.Prelude.{◌≡◌, ◌+◌, ◌≤◌, ◌<◌, ◌^◌, ◌/◌, ◌↔◌, IsTrue};
 ghost use Rattle.group_laws.specs.Places.{owner, first_unit, units, LiesIn, Apart};
 
+use chunk_map::layout_sizes::{FIRST_UNIT, UNIT_BYTES};
 use chunk_map::layouts::Layout;
 
 /// The member that owns a key, or the number of members where another group has it.
@@ -26,7 +27,8 @@ fn first_unit(layout: &Layout, group: u32, member: u64) -> u128
 {
     let geometry = layout.geometry();
     let core = group as u128 * geometry.group as u128 + member as u128;
-    16 + core * (geometry.chunks as u128 * (geometry.chunk_bytes / 256) as u128)
+    FIRST_UNIT as u128
+        + core * (geometry.chunks as u128 * (geometry.chunk_bytes / UNIT_BYTES) as u128)
 }
 
 /// Whether a run of units lies in a member's part.

@@ -18,25 +18,27 @@ use crate::copies::copy_entry;
 use crate::member_places::{is_apart, lies_in, owner_of, units_of};
 use crate::state::{CoreView, GroupState};
 use crate::tables::has_member;
+use chunk_map::layout_sizes::{LONGEST_VALUE, SHORTEST_IN_BLOCK};
 use fs_errors::Memory;
 use fs_model::model::Value;
 use group_laws::types::{Block, Pending, Slot};
 use log_entry::entry::{Body, Entry};
+use log_entry::{LAST_DELETE_VERSION, LAST_PUT_VERSION, LONGEST_EMBEDDED};
 use std::alloc::Global;
 use std::collections::BTreeMap;
 
 /// Whether a put may have this version.
 fn is_put_version(version: u32) -> bool
-    ensures { IsTrue result ↔ ((1 ≤ version) × (version ≤ 1048574)) }
+    ensures { IsTrue result ↔ ((1 ≤ version) × (version ≤ LAST_PUT_VERSION)) }
 {
-    version >= 1 && version <= 1_048_574
+    version >= 1 && version <= LAST_PUT_VERSION
 }
 
 /// Whether the bytes of a value stand in its entry.
 fn is_short(bytes: &[u8]) -> bool
-    ensures { IsTrue result ↔ ((length bytes.now ≤ 255) × AllByRecursion (λ b. b < 256) bytes.now) }
+    ensures { IsTrue result ↔ ((length bytes.now ≤ LONGEST_EMBEDDED) × AllByRecursion (λ b. b < 256) bytes.now) }
 {
-    bytes.len() <= 255
+    bytes.len() as u64 <= LONGEST_EMBEDDED
 }
 
 /// Whether the words of a log can spell an entry.
@@ -48,7 +50,7 @@ fn has_spelling(entry: &Entry) -> bool
     match &entry.body {
         Body::Pointer(pointer) => is_put_version(entry.version) && *pointer < 1 << 40,
         Body::Embedded(value) => is_put_version(entry.version) && is_short(value.bytes()),
-        Body::Tombstone => entry.version >= 2 && entry.version <= 1_048_575,
+        Body::Tombstone => entry.version >= 2 && entry.version <= LAST_DELETE_VERSION,
     }
 }
 
@@ -103,7 +105,7 @@ fn is_free_for(state: &GroupState, member: u32, pointer: u64, value: &Value) -> 
         × IsClear (group_of state.now) member pointer value.now) }
 {
     let length = value.bytes().len();
-    if length < 256 || length > 1_048_568 {
+    if (length as u64) < SHORTEST_IN_BLOCK || length as u64 > LONGEST_VALUE {
         return false;
     }
     let count = units_of(length);
