@@ -50,3 +50,4 @@ mod ServedLines
 mod LetGoMoves
 mod FinishMoves
 mod StopMoves
+mod ItemLaws

@@ -1,5 +1,5 @@
 // One turn of a worker.
-ghost use Rattle.std.specs.Prelude.{◌≡◌, ◌<◌, Bool, true, false, Option, List, [], ◌∷◌};
+ghost use Rattle.std.specs.Prelude.{◌≡◌, ◌<◌, Bool, true, false, Option, List, [], ◌∷◌, OnErr};
 ghost use Rattle.pm_region.specs.State.{State};
 ghost use Rattle.group_laws.specs.State.{Group};
 ghost use Rattle.group_laws.specs.MemberViews.{View};
@@ -12,16 +12,19 @@ ghost use Rattle.core_worker.specs.Supplies.{room_for};
 ghost use Rattle.core_worker.specs.Posting.{PostsOrStops};
 ghost use Rattle.core_worker.specs.Ties.{HoldsAt, StandsAt, LeadsNothing};
 ghost use Rattle.core_worker.specs.Turns.{InOrderAt, PassesPost, PersistsOrLoses};
-ghost use Rattle.core_worker.specs.Turning.{HasBatch, KeepsTurn, Did, Turned, Tells, at_entry};
+ghost use Rattle.core_worker.specs.Turning.{HasBatch, KeepsTurn, Did, Turned, TurnedTo, Tells, at_entry};
 
 use crate::choosing::{Choice, staged_block};
 use crate::gate::Gate;
 use crate::posting::place_in;
+use crate::searching::Search;
 use crate::types::{Leading, Turn};
 use crate::worker::Worker;
 use core_log::Room;
+use fs_errors::Memory;
 use group_board::Board;
 use pm_region::Region;
+use std::alloc::Global;
 
 impl Worker {
     // A turn of a core that has a batch to write, or changes to give back.
@@ -35,8 +38,9 @@ impl Worker {
         ensures keeps { KeepsTurn (B.seat board.old) (R.state region.old) (R.state region.new)
             (B.whole board.old) (B.whole board.new) (B.view board.old) (B.view board.new)
             self.old self.new }
-        ensures did { (refused : Bool) → Did refused (B.whole board.old) (B.seat board.old)
-            (at_entry self.old (B.view board.old)) (at_entry self.new (B.view board.new)) }
+        ensures did { (refused : Bool) → Did (R.state region.old) refused (B.whole board.old)
+            (B.seat board.old) (at_entry self.old (B.view board.old))
+            (at_entry self.new (B.view board.new)) }
     {
         match &self.leading {
             Leading::Batch(_) => {
@@ -93,10 +97,10 @@ impl Worker {
         ensures keeps { (s : State) → StandsAt s (B.seat board.old) (B.view board.old) self.old
             → KeepsTurn (B.seat board.old) s s (B.whole board.old) (B.whole board.new)
             (B.view board.old) (B.view board.new) self.old self.new }
-        ensures turned { (refused : Bool) (before : Option Group) (v : View)
+        ensures turned { (s : State) (refused : Bool) (before : Option Group) (v : View)
             → PassesPost refused self.old
             → Tells posted (B.seat board.old).number self.old v (B.view board.old)
-            → Turned result refused before (B.seat board.old) (at_entry self.old v)
+            → Turned result s refused before (B.seat board.old) (at_entry self.old v)
             (at_entry self.new (B.view board.new)) }
     {
         if !posted {
@@ -108,37 +112,83 @@ impl Worker {
         Turn::Idle
     }
 
-    // Posts the lowest staged change, or tries the lock.
+    // Posts the lowest staged change, or tries the lock. A stopped core answers the change instead.
     fn serve_staged<R: Region, B: Board, G: Gate>(
         &mut self,
+        alloc: Global,
         region: &mut R,
         board: &mut B,
         gate: &G,
         posted: bool,
-    ) -> Turn
+    ) -> Result<Turn, Memory>
         requires holds { HoldsAt (B.seat board.old) (B.view board.old) self.old }
         requires stands { StandsAt (R.state region.old) (B.seat board.old)
             (B.view board.old) self.old }
         requires order { InOrderAt (B.seat board.old) (B.view board.old) self.old }
         requires nothing { LeadsNothing self.old }
-        requires runs { self.old.stopped ≡ false }
         ensures seat { B.seat board.new ≡ B.seat board.old }
         ensures keeps { KeepsTurn (B.seat board.old) (R.state region.old) (R.state region.new)
             (B.whole board.old) (B.whole board.new) (B.view board.old) (B.view board.new)
             self.old self.new }
         ensures turned { (before : Option Group) (v : View)
             → Tells posted (B.seat board.old).number self.old v (B.view board.old)
-            → Turned result (G.may_refuse gate.now) before (B.seat board.old) (at_entry self.old v)
-            (at_entry self.new (B.view board.new)) }
+            → TurnedTo result (R.state region.old) (G.may_refuse gate.now) before
+            (B.seat board.old) (at_entry self.old v) (at_entry self.new (B.view board.new)) }
+        ensures memory { OnErr result (self.new.winds_down ≡ true) }
     {
         match self.choose(gate) {
             Choice::Pass => {
-                return self.serve_lock(board, posted);
+                let turn = self.serve_lock(board, posted);
+                return Ok(turn);
             }
-            Choice::Drop(_) => unreachable!(),
+            Choice::Drop(slot) => match self.drop_staged(alloc, &*region, slot) {
+                Ok(()) => {
+                    return Ok(Turn::Moved);
+                }
+                Err(memory) => {
+                    return Err(memory);
+                }
+            },
             Choice::Post(slot) => {
                 self.post(region, board, slot);
-                return Turn::Moved;
+                return Ok(Turn::Moved);
+            }
+        }
+    }
+
+    // A turn of a core that leads nothing: it looks for a change that is given back, and else goes on with its places.
+    fn serve_own<R: Region, B: Board, G: Gate>(
+        &mut self,
+        alloc: Global,
+        region: &mut R,
+        board: &mut B,
+        gate: &G,
+    ) -> Result<Turn, Memory>
+        requires holds { HoldsAt (B.seat board.old) (B.view board.old) self.old }
+        requires stands { StandsAt (R.state region.old) (B.seat board.old)
+            (B.view board.old) self.old }
+        requires order { InOrderAt (B.seat board.old) (B.view board.old) self.old }
+        requires nothing { LeadsNothing self.old }
+        ensures seat { B.seat board.new ≡ B.seat board.old }
+        ensures keeps { KeepsTurn (B.seat board.old) (R.state region.old) (R.state region.new)
+            (B.whole board.old) (B.whole board.new) (B.view board.old) (B.view board.new)
+            self.old self.new }
+        ensures turned { TurnedTo result (R.state region.old) (G.may_refuse gate.now)
+            (B.whole board.old) (B.seat board.old) (at_entry self.old (B.view board.old))
+            (at_entry self.new (B.view board.new)) }
+        ensures memory { OnErr result (self.new.winds_down ≡ true) }
+    {
+        match self.find_back(board) {
+            Search::Back(slot) => match self.take_back(alloc, &*region, board, slot) {
+                Ok(()) => {
+                    return Ok(Turn::Moved);
+                }
+                Err(memory) => {
+                    return Err(memory);
+                }
+            },
+            Search::Out { posted } => {
+                return self.serve_staged(alloc, region, board, gate, posted);
             }
         }
     }
@@ -168,8 +218,9 @@ impl Worker {
         ensures keeps { (s : State) → StandsAt s (B.seat board.old) (B.view board.old) self.old
             → KeepsTurn (B.seat board.old) s s (B.whole board.old) (B.whole board.new)
             (B.view board.old) (B.view board.new) self.old self.new }
-        ensures did { (refused : Bool) → Did refused (B.whole board.old) (B.seat board.old)
-            (at_entry self.old (B.view board.old)) (at_entry self.new (B.view board.new)) }
+        ensures did { (s : State) (refused : Bool) → Did s refused (B.whole board.old)
+            (B.seat board.old) (at_entry self.old (B.view board.old))
+            (at_entry self.new (B.view board.new)) }
     {
         let room = self.room();
         self.go_round(board, &room);
