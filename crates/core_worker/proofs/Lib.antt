@@ -42,6 +42,8 @@ pub mod Served
 pub mod Dropping
 pub mod DropServed
 pub mod Withdrawing
+mod Unlocking
+mod Retracting
 mod Members
 mod Unpledging
 mod BatchRoom
