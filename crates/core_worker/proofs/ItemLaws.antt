@@ -1,5 +1,5 @@
 -- What items 4 and 5 keep where a change is let go.
-use Rattle.std.proofs.Common.{◌≡◌, ◌⊎◌, inl, inr, ℕ, ◌<◌, Bool, true, false, [], Option, refl, sym, ◌∙◌, ap, subst}
+use Rattle.std.proofs.Common.{◌≡◌, ◌⊎◌, inl, inr, ⊎_elim, ℕ, ◌<◌, Bool, true, false, [], Option, refl, sym, ◌∙◌, ap, subst}
 use Rattle.std.specs.Prelude.{IfSome}
 use Rattle.pm_region.specs.State.{State, IsTelling}
 use Rattle.pm_region.proofs.Moments.{started}
@@ -22,12 +22,16 @@ use Rattle.core_worker.specs.declared.types.Leading.TheVariants as leads
 use Rattle.core_worker.specs.declared.worker.Worker.{Worker}
 use Rattle.core_worker.specs.Supplies.{HasKeptRoom}
 use Rattle.core_worker.specs.Ties.{HoldsAt, StandsAt, LeadsAt}
-use Rattle.core_worker.specs.Turns.{InOrderAt, IsBack}
+use Rattle.core_worker.specs.Turns.{InOrderAt, IsBack, Steps}
 use Rattle.core_worker.specs.Finishing.{WasFoundBack, FinishesSlot, StopsByFailed, IsServed}
-use Rattle.core_worker.specs.Stopping.{Drops}
+use Rattle.core_worker.specs.Order.{MayLeadStopped}
+use Rattle.core_worker.specs.Stopping.{Drops, WithdrawsOrUnlocks}
+use Rattle.group_board.specs.Views.{after_unlock}
+use Rattle.core_worker.proofs.QuietItems.{IsLed}
+use Rattle.core_worker.proofs.TurnLaws.{keeps_leading}
 use Rattle.core_worker.specs.Turning.{HasBatch, KeepsTurn}
 use Rattle.core_worker.proofs.FinishMoves.{finish_moves}
-use Rattle.core_worker.proofs.StopMoves.{drop_moves}
+use Rattle.core_worker.proofs.StopMoves.{drop_moves, withdraw_moves}
 
 -- what a load that showed a change given back says
 pub was_back : (m slot : ℕ) (v : View) (word : SlotWord) → IsBack word → In (Slot m slot word) v.looked → WasFoundBack m slot v
@@ -71,3 +75,22 @@ has_batch seat v (leads.Batch b) L n c = tt
 has_batch seat v (leads.Persisted x) L n c = tt
 has_batch seat v (leads.Failed x) L n c = tt
 has_batch seat v leads.Between L n c = L
+
+-- item 1 of a stopped core
+pub keeps_withdraw : (seat : SeatAt) (s : State) (before after : Option Group) (v u : View) (w x : Worker) (all : Bool) → w.stopped ≡ true → HoldsAt seat v w → HoldsAt seat u x → StandsAt s seat v w → StandsAt s seat u x → InOrderAt seat v w → InOrderAt seat u x → (HasKeptRoom w → HasKeptRoom x) → Steps before after seat.number u → WithdrawsOrUnlocks s seat before after v u w x all
+    → KeepsTurn seat s s before after v u w x
+keeps_withdraw seat s before after v u w x all stopped H N S T O P rule made which = ⊎_elim
+    (λ W. record {
+      moments = started s (Licensed seat.place seat.number v) S.licensed;
+      outside = all_kept s (part_at seat.place seat.number) (part_end seat.place seat.number);
+      holds = N;
+      stands = T;
+      order = P;
+      rule = λ runs. rule;
+      moves = λ telling. withdraw_moves seat s before after v u w x all stopped H N S T O made telling W;
+    })
+    (λ U. let un = U.1 in
+    keeps_leading seat s before after v u w x N un.stands S made
+    (record { kept = v.kept; flying = v.flying; taken = v.taken; broken = v.broken; holds = false; looked = []; took = v.took; is = un.view ∙ ap after_unlock un.found.view.1 }) un.same
+    (λ is. subst MayLeadStopped (sym un.leads_now.1) tt) O rule)
+    which

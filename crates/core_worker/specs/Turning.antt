@@ -19,7 +19,7 @@ use Rattle.core_worker.specs.declared.choosing.Choice.{Choice}
 use Rattle.core_worker.specs.declared.choosing.Choice.TheVariants.{Pass, Drop, Post}
 use Rattle.core_worker.specs.OwnPlaces.{is_staged, IsLowest}
 use Rattle.core_worker.specs.Turns.{Moment, InOrderAt, GoesRound, PersistsOrLoses, Marks, Fails, Finishes, Posts, LosesBlock, Locks, Idles, PassesItems, PassesPost, FindsPosted}
-use Rattle.core_worker.specs.Stopping.{Drops}
+use Rattle.core_worker.specs.Stopping.{Drops, WithdrawsOrUnlocks}
 use Rattle.core_worker.specs.WorkerMoves.{Fixed, told, hands_of, WorkerMoves}
 
 -- What a turn fixed is what the worker answers besides, and the turn is a whole move to whoever runs several workers.
@@ -61,6 +61,7 @@ pub record DropsLowest (s : State) (m : ℕ) (a b : Moment) (all : Bool) : Type 
 -- The item of the order of work that a turn did. Where there was no memory for what waited of a key, `all` is false.
 pub data Did (s : State) (refused : Bool) (before : Option Group) (seat : SeatAt) (a b : Moment) : Type 0 where
   goes_round : GoesRound before seat a b → Did s refused before seat a b
+  withdraws : (after : Option Group) (all : Bool) → WithdrawsOrUnlocks s seat before after a.view b.view a.worker b.worker all → Did s refused before seat a b
   writes : PersistsOrLoses b.worker.stopped seat.number a b → Did s refused before seat a b
   marks : Marks a b → Did s refused before seat a b
   fails : Fails a b → Did s refused before seat a b

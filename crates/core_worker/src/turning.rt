@@ -225,4 +225,75 @@ impl Worker {
         let room = self.room();
         self.go_round(board, &room);
     }
+
+    // Goes on with the round, or, as a stopped core, takes an own change back.
+    fn serve_collecting<R: Region, B: Board>(
+        &mut self,
+        alloc: Global,
+        region: &R,
+        board: &mut B,
+    ) -> Result<(), Memory>
+        requires holds { HoldsAt (B.seat board.old) (B.view board.old) self.old }
+        requires stands { StandsAt (R.state region.now) (B.seat board.old)
+            (B.view board.old) self.old }
+        requires order { InOrderAt (B.seat board.old) (B.view board.old) self.old }
+        requires collects { (c : Collecting) × (self.old.leading ≡ leads.Collecting c) }
+        ensures seat { B.seat board.new ≡ B.seat board.old }
+        ensures keeps { KeepsTurn (B.seat board.old) (R.state region.now) (R.state region.now)
+            (B.whole board.old) (B.whole board.new) (B.view board.old) (B.view board.new)
+            self.old self.new }
+        ensures did { (refused : Bool) → Did (R.state region.now) refused (B.whole board.old)
+            (B.seat board.old) (at_entry self.old (B.view board.old))
+            (at_entry self.new (B.view board.new)) }
+        ensures memory { OnErr result (self.new.winds_down ≡ true) }
+    {
+        if self.stopped {
+            return self.withdraw(alloc, region, board);
+        }
+        self.serve_round(board);
+        Ok(())
+    }
+}
+
+impl Worker {
+    /// Makes a turn: it does all of the first item of the order of work that applies, and answers Idle exactly where none
+    /// did. Without memory for the answer to a request that waited, that request is in hand, and it winds down.
+    pub fn turn<R: Region, B: Board, G: Gate>(
+        &mut self,
+        alloc: Global,
+        region: &mut R,
+        board: &mut B,
+        gate: &G,
+    ) -> Result<Turn, Memory>
+        requires holds { HoldsAt (B.seat board.old) (B.view board.old) self.old }
+        requires stands { StandsAt (R.state region.old) (B.seat board.old)
+            (B.view board.old) self.old }
+        requires order { InOrderAt (B.seat board.old) (B.view board.old) self.old }
+        ensures seat { B.seat board.new ≡ B.seat board.old }
+        ensures keeps { KeepsTurn (B.seat board.old) (R.state region.old) (R.state region.new)
+            (B.whole board.old) (B.whole board.new) (B.view board.old) (B.view board.new)
+            self.old self.new }
+        ensures turned { TurnedTo result (R.state region.old) (G.may_refuse gate.now)
+            (B.whole board.old) (B.seat board.old) (at_entry self.old (B.view board.old))
+            (at_entry self.new (B.view board.new)) }
+        ensures memory { OnErr result (self.new.winds_down ≡ true) }
+    {
+        match &self.leading {
+            Leading::Nothing(_) => {
+                return self.serve_own(alloc, region, board, gate);
+            }
+            Leading::Collecting(_) => match self.serve_collecting(alloc, &*region, board) {
+                Ok(()) => {
+                    return Ok(Turn::Moved);
+                }
+                Err(memory) => {
+                    return Err(memory);
+                }
+            },
+            _ => {
+                self.serve_batch(region, board);
+                return Ok(Turn::Moved);
+            }
+        }
+    }
 }
