@@ -106,7 +106,7 @@ module _ (seat : SeatAt) (s : State) (before after : Option Group) (v u : View) 
   view = W.retracts.back.view
 
   kept : (b : Body) → Offers v k b → (q : ℕ) (d : Block) → v.blocks q ≡ Some d → d.key ≢ k → cond (points_at b q) None (v.blocks q) ≡ v.blocks q
-  kept (bodies.Pointer r) o q d has ne = ap (λ t. cond t None (v.blocks q)) (ne_eqb r q (λ at. ne (let both : Some d ≡ Some (record { key = k; bytes = o.0 }) = sym has ∙ ap v.blocks (sym at) ∙ o.1 in ap (key_or k) both)))
+  kept (bodies.Pointer r) o q d has ne = ap (λ t. cond t None (v.blocks q)) (ne_eqb q r (λ at. ne (let both : Some d ≡ Some (record { key = k; bytes = o.0 }) = sym has ∙ ap v.blocks at ∙ o.1 in ap (key_or k) both)))
   kept (bodies.Embedded z) o q d has ne = refl
   kept bodies.Tombstone o q d has ne = refl
 

@@ -1,6 +1,6 @@
 // One turn of a worker.
 ghost use Rattle.std.specs.Prelude.{◌≡◌, ◌<◌, Bool, true, false, Option, List, [], ◌∷◌, OnErr};
-ghost use Rattle.pm_region.specs.State.{State};
+ghost use Rattle.pm_region.specs.State.{State, IsTelling};
 ghost use Rattle.group_laws.specs.State.{Group};
 ghost use Rattle.group_laws.specs.MemberViews.{View};
 ghost use Rattle.batch_leader.specs.declared.states.Batch.{Batch};
@@ -8,11 +8,12 @@ ghost use Rattle.batch_leader.specs.declared.states.Collecting.{Collecting};
 ghost use Rattle.core_worker.specs.declared.types.Leading.TheVariants as leads;
 ghost use Rattle.core_worker.specs.OwnPlaces.{place_at, is_staged, IsLowest};
 ghost use Rattle.core_worker.specs.Refusals.{IsMeasured};
-ghost use Rattle.core_worker.specs.Supplies.{room_for};
+ghost use Rattle.core_worker.specs.Supplies.{room_for, HasKeptRoom};
+ghost use Rattle.batch_leader.specs.Persisting.{StaysLicensed, WritesPart};
 ghost use Rattle.core_worker.specs.Posting.{PostsOrStops};
 ghost use Rattle.core_worker.specs.Ties.{HoldsAt, StandsAt, LeadsNothing};
 ghost use Rattle.core_worker.specs.Turns.{InOrderAt, PassesPost, PersistsOrLoses};
-ghost use Rattle.core_worker.specs.Turning.{HasBatch, KeepsTurn, Did, Turned, TurnedTo, Tells, at_entry};
+ghost use Rattle.core_worker.specs.Turning.{HasBatch, KeepsTurn, TurnMoves, Did, Turned, TurnedTo, Tells, at_entry};
 
 use crate::choosing::{Choice, staged_block};
 use crate::gate::Gate;
@@ -256,9 +257,8 @@ impl Worker {
 }
 
 impl Worker {
-    /// Makes a turn: it does all of the first item of the order of work that applies, and answers Idle exactly where none
-    /// did. Without memory for the answer to a request that waited, that request is in hand, and it winds down.
-    pub fn turn<R: Region, B: Board, G: Gate>(
+    // A turn, by what the core leads.
+    fn serve_first<R: Region, B: Board, G: Gate>(
         &mut self,
         alloc: Global,
         region: &mut R,
@@ -295,5 +295,39 @@ impl Worker {
                 return Ok(Turn::Moved);
             }
         }
+    }
+
+    /// Makes a turn: it does all of the first item of the order of work that applies, and answers Idle where none did.
+    /// Where there is no memory for the answer to a request that waited, that request is in hand, and the worker winds
+    /// down.
+    pub fn turn<R: Region, B: Board, G: Gate>(
+        &mut self,
+        alloc: Global,
+        region: &mut R,
+        board: &mut B,
+        gate: &G,
+    ) -> Result<Turn, Memory>
+        requires holds { HoldsAt (B.seat board.old) (B.view board.old) self.old }
+        requires stands { StandsAt (R.state region.old) (B.seat board.old)
+            (B.view board.old) self.old }
+        requires order { InOrderAt (B.seat board.old) (B.view board.old) self.old }
+        ensures seat { B.seat board.new ≡ B.seat board.old }
+        ensures moments { StaysLicensed (R.state region.old) (R.state region.new)
+            (B.seat board.old) (B.view board.old) }
+        ensures outside { WritesPart (R.state region.old) (R.state region.new) (B.seat board.old) }
+        ensures holds { HoldsAt (B.seat board.old) (B.view board.new) self.new }
+        ensures stands { StandsAt (R.state region.new) (B.seat board.old)
+            (B.view board.new) self.new }
+        ensures order { InOrderAt (B.seat board.old) (B.view board.new) self.new }
+        ensures rule { self.new.stopped ≡ false → HasKeptRoom self.old → HasKeptRoom self.new }
+        ensures moves { IsTelling (R.state region.new) → TurnMoves (B.seat board.old)
+            (R.state region.old) (R.state region.new) (B.whole board.old) (B.whole board.new)
+            (B.view board.old) (B.view board.new) self.old self.new }
+        ensures turned { TurnedTo result (R.state region.old) (G.may_refuse gate.now)
+            (B.whole board.old) (B.seat board.old) (at_entry self.old (B.view board.old))
+            (at_entry self.new (B.view board.new)) }
+        ensures memory { OnErr result (self.new.winds_down ≡ true) }
+    {
+        self.serve_first(alloc, region, board, gate)
     }
 }
