@@ -19,6 +19,7 @@ mod AcceptMoves
 mod QuietItems
 mod PostMoves
 mod SearchLaws
+mod TurnLaws
 mod RefusalLaws
 mod Gains
 mod Pointers
@@ -47,3 +48,7 @@ mod Retracting
 mod Members
 mod Unpledging
 mod BatchRoom
+mod ServedLines
+mod LetGoMoves
+mod FinishMoves
+mod StopMoves

@@ -267,6 +267,7 @@ pub record PostFacts (m : ℕ) (before after : Option Group) (v u : View) (w x :
   pub entry : Entry
   pub value : List ℕ
   pub lines : ℕ
+  pub pledges : lines ≡ lines_for (length (words_of entry))
   pub was : place_at w.places.items slot ≡ Staged number entry value
   pub places : Replaces w.places.items x.places.items slot (Posted number entry.key lines)
   pub same : x ≡ record w { places = x.places; allocator = x.allocator }
@@ -279,6 +280,7 @@ facts_of m before after v u w mid x slot same P = record {
   entry = P.entry;
   value = P.value;
   lines = lines_for (length (words_of P.entry));
+  pledges = refl;
   was = sym (ap (λ (y : Worker). place_at y.places.items slot) same) ∙ P.was;
   places = subst (λ (y : Worker). Replaces y.places.items x.places.items slot (Posted P.number P.entry.key (lines_for (length (words_of P.entry))))) same P.places;
   same = by x.places x.allocator (P.rest ∙ ap (λ (y : Worker). record y { places = x.places }) same) ;
@@ -311,21 +313,21 @@ module _ (p : Place) (m : ℕ) (before after : Option Group) (v u : View) (w x :
       (post_order p m v w H slot F.number F.entry F.value lt F.was runs x made_here F.lines F.places (ap (λ (y : Worker). y.queue) F.same) (ap (λ (y : Worker). y.in_hand) F.same)
       (ap (λ (y : Worker). y.index) F.same) (ap (λ (y : Worker). y.answers) F.same) (ap (λ (y : Worker). y.winds_down) F.same) on O)
 
--- the block could not be written: the core stops, and no step is made
-pub fault_moves : (p : Place) (m : ℕ) (s t : State) (a : Option Group) (v : View) (w x : Worker) → Holds p m v x → x ≡ record w { allocator = x.allocator; stopped = true } → During s t (KeepsOutside (cell_now s) (part_at p m) (part_end p m)) → During s t (Licensed p m v) → (IsTelling t → Licensed p m v (cell_now t)) → Rose s.faults t.faults
+-- what was to be written could not be: the core stops, and no step is made
+pub fault_moves : (p : Place) (m : ℕ) (s t : State) (a : Option Group) (v : View) (w x : Worker) → Holds p m v x → ((k : ℕ) → placed_for v x.places.items k ≡ placed_for v w.places.items k) → ((k : ℕ) → (hands_of v x).waits k ≡ (hands_of v w).waits k) → x.stopped ≡ true → During s t (KeepsOutside (cell_now s) (part_at p m) (part_end p m)) → During s t (Licensed p m v) → (IsTelling t → Licensed p m v (cell_now t)) → Rose s.faults t.faults
     → WorkerMoves p m s t a a v v (hands_of v w) (hands_of v x) [] []
-fault_moves p m s t a v w x N same outside moments exit rose = record {
+fault_moves p m s t a v w x N place waits stopped outside moments exit rose = record {
   outside = outside;
   moments = moments;
   exit = exit;
   steps = [];
   whole = no_steps a m;
   own = λ y i. absurd i;
-  keys = λ k own. kept_key v v (hands_of v w) (hands_of v x) k refl refl (ap (λ (y : Worker). placed_for v y.places.items k) same) (ap (λ (y : Worker). (hands_of v y).waits k) same);
+  keys = λ k own. kept_key v v (hands_of v w) (hands_of v x) k refl refl (place k) (waits k);
   holds = λ k own. holds_key p m v x N k;
   stops = λ is. inr (inl rose);
   breaks = N.broken;
-  stays_stopped = λ is. ap (λ (y : Worker). y.stopped) same;
+  stays_stopped = λ is. stopped;
 }
 
 pub fault_order : (p : Place) (m : ℕ) (v : View) (w x : Worker) → x ≡ record w { allocator = x.allocator; stopped = true } → LeadsNothing w → InOrder p m v w → InOrder p m v x

@@ -65,7 +65,7 @@ led : (v u : View) (kept flying : List Entry) (taken : ℕ → ℕ → Option En
 led v u kept flying taken broken holds looked took e = record { kept = kept; flying = flying; taken = taken; broken = broken; holds = holds; looked = looked; took = took; is = e }
 
 -- what is kept in order speaks of nothing that a leader's step changes
-order_as : (p : Place) (m : ℕ) (v : View) (w : Worker) (kept flying : List Entry) (taken : ℕ → ℕ → Option Entry) (broken holds : Bool) (looked : List Seen) (took : List Entry) (log : LogState) (allocator : Sets) (l : Leading) (stopped : Bool) (ps : Vec places.Place Global)
+pub order_as : (p : Place) (m : ℕ) (v : View) (w : Worker) (kept flying : List Entry) (taken : ℕ → ℕ → Option Entry) (broken holds : Bool) (looked : List Seen) (took : List Entry) (log : LogState) (allocator : Sets) (l : Leading) (stopped : Bool) (ps : Vec places.Place Global)
     → ((k : ℕ) → is_busy ps.items k ≡ is_busy w.places.items k) → count_changes ps.items ≡ count_changes w.places.items → (stopped ≡ true → MayLeadStopped l) → InOrder p m v w
     → InOrder p m (led_as v kept flying taken broken holds looked took) (record w { log = log; allocator = allocator; leading = l; stopped = stopped; places = ps })
 order_as p m v w kept flying taken broken holds looked took log allocator l stopped ps busy count stops O = record {

@@ -33,7 +33,7 @@ in_same v u kinds.Free e f = refl
 in_same v u (kinds.Staged n d x) e f = refl
 in_same v u (kinds.Posted n k l) e f = ap (option_map (λ r. record { number = n; request = r; posted = true })) (request_same v u k (u.pending k) f ∙ ap (λ g. request_pending v k (g k)) e)
 
-for_same : (v u : View) (ps : List Place) (k : ℕ) → u.pending ≡ v.pending → u.blocks ≡ v.blocks → placed_for u ps k ≡ placed_for v ps k
+pub for_same : (v u : View) (ps : List Place) (k : ℕ) → u.pending ≡ v.pending → u.blocks ≡ v.blocks → placed_for u ps k ≡ placed_for v ps k
 for_same v u [] k e f = refl
 for_same v u (y ∷ ys) k e f = (λ i. cond (is_of k (key_in y)) (in_same v u y e f i) (for_same v u ys k e f i))
 

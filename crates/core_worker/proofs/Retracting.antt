@@ -1,5 +1,5 @@
 -- A withdrawn change of a stopped core is put away, and what waits of its key is begun.
-use Rattle.std.proofs.Common.{◌≡◌, inl, ℕ, ◌+◌, Bool, true, false, List, [], ◌∷◌, ◌++◌, Result, Ok, Err, OnOk, Option, Some, refl, sym, ◌∙◌, ap, subst}
+use Rattle.std.proofs.Common.{◌≡◌, inl, ℕ, ◌+◌, Bool, true, false, List, [], ◌∷◌, ◌++◌, Result, Ok, Err, OnOk, OnErr, Option, Some, refl, sym, ◌∙◌, ap, subst}
 use Rattle.std.specs.Prelude.{is_ok, IfSome}
 use Rattle.pm_region.specs.State.{State, IsTelling}
 use Rattle.crash_core.specs.declared.kinds.Change.{Change}
@@ -18,7 +18,7 @@ use Rattle.core_worker.specs.Refusals.{HasAnswerRoom}
 use Rattle.core_worker.specs.Ties.{HoldsAt, StandsAt, Tie, is_lost}
 use Rattle.core_worker.specs.Turns.{InOrderAt, Steps}
 use Rattle.core_worker.specs.Serving.{OnlyServes}
-use Rattle.core_worker.specs.Finishing.{IsFreed, IsToServe, Serves, ServesByEachView}
+use Rattle.core_worker.specs.Finishing.{IsFreed, IsToServe, Serves, ServesByEachView, ServesShort}
 use Rattle.core_worker.specs.Stopping.{PutsAway, PutsAwayKey, Retracts, Withdraws, WithdrawsOrUnlocks}
 use Rattle.core_worker.proofs.Posts.{busy_by}
 use Rattle.core_worker.proofs.LeadTies.{leads_of}
@@ -58,6 +58,6 @@ module _ (seat : SeatAt) (before after : Option Group) (v u : View) (w mid : Wor
     pub retracted_serves : IsToServe s x change.entry.key (record { place = seat.place; number = seat.number; view = u })
     retracted_serves = to_serve s seat.place seat.number 0 change.entry.key v u w x x S (retracted_freed x P)
 
-    pub withdraws_slot : {X Y : Type 0} (r : Result X Y) (y : Worker) → OnlyServes x y → OnOk r (ServesByEachView s x y change.entry.key) → WithdrawsOrUnlocks s seat before after v u w y (is_ok r)
-    withdraws_slot (Ok z) y rest begins = inl (record { change = change; mid = mid; retracts = R; freed = x; puts = P; rest = rest; begins = λ all telling. begins (record { place = seat.place; number = seat.number; view = u }) retracted_serves telling })
-    withdraws_slot (Err z) y rest begins = inl (record { change = change; mid = mid; retracts = R; freed = x; puts = P; rest = rest; begins = λ all. absurd (cc all) })
+    pub withdraws_slot : {X Y : Type 0} (r : Result X Y) (y : Worker) → OnlyServes x y → OnOk r (ServesByEachView s x y change.entry.key) → OnErr r (ServesShort s x y change.entry.key) → WithdrawsOrUnlocks s seat before after v u w y (is_ok r)
+    withdraws_slot (Ok z) y rest begins short = inl (record { change = change; mid = mid; retracts = R; freed = x; puts = P; rest = rest; begins = λ all telling. begins (record { place = seat.place; number = seat.number; view = u }) retracted_serves telling; short = λ none. absurd (cc none) })
+    withdraws_slot (Err z) y rest begins short = inl (record { change = change; mid = mid; retracts = R; freed = x; puts = P; rest = rest; begins = λ all. absurd (cc all); short = λ none telling. short (record { place = seat.place; number = seat.number; view = u }) retracted_serves telling })

@@ -27,7 +27,7 @@ use Rattle.core_worker.specs.Refusals.{HasAnswerRoom}
 use Rattle.core_worker.specs.Supplies.{HasKeptRoom}
 use Rattle.core_worker.specs.Ties.{Stands, Tie, HoldsBy, StandsBy}
 use Rattle.core_worker.specs.Order.{InOrder, InOrderBy}
-use Rattle.core_worker.specs.Beginning.{answers_of, answer_with, HasFree, HoldsAside, BeginsWaiting}
+use Rattle.core_worker.specs.Beginning.{answers_of, answer_with, HasFree, HoldsAside, BeginsShort, BeginsWaiting}
 use Rattle.core_worker.specs.Serving.{LeadsNothingYet, OthersWait, OnlyServes}
 use Rattle.core_worker.specs.Hearing.{HearsAll}
 
@@ -129,6 +129,13 @@ Serves old new cell k = ((old.winds_down ≡ true) × (new ≡ old)) ⊎ ((old.w
 abbrev pub ServesByEachView : State → Worker → Worker → ℕ → Type 0
 ServesByEachView s old new k = (t : Tie) → IsToServe s old k t → IsTelling s → Serves old new (t.view.cell k) k
 
+-- for one of them there was no memory
+abbrev pub ShortOf : Worker → Worker → Option (List ℕ) → ℕ → Type 0
+ShortOf old new cell k = (old.winds_down ≡ false) × BeginsShort (waiting old.queue k) old new cell k
+
+abbrev pub ServesShort : State → Worker → Worker → ℕ → Type 0
+ServesShort s old new k = (t : Tie) → IsToServe s old k t → IsTelling s → ShortOf old new (t.view.cell k) k
+
 -- What a worker with view v that was tied is with view u, once a change of the key is out of its place.
 pub record IsFreed (p : groups.Place) (m : ℕ) (v u : View) (old new : Worker) (k : ℕ) : Type 0 where
   pub holds : HoldsAside p m u new
@@ -144,3 +151,4 @@ pub record FinishesSlot (s : State) (p : groups.Place) (m slot : ℕ) (v u : Vie
   pub takes : TakesBack p m slot v u old freed
   pub rest : OnlyServes freed new
   pub begins : all ≡ true → IsTelling s → Serves freed new (u.cell takes.entry.key) takes.entry.key
+  pub short : all ≡ false → IsTelling s → ShortOf freed new (u.cell takes.entry.key) takes.entry.key

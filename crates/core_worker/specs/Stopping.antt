@@ -21,7 +21,7 @@ use Rattle.core_worker.specs.Ties.{Tie, HoldsAt, HoldsBy, KeepsStanding, LeadsNo
 use Rattle.core_worker.specs.Order.{InOrderBy}
 use Rattle.core_worker.specs.Serving.{OnlyServes}
 use Rattle.core_worker.specs.Turns.{InOrderAt, Steps}
-use Rattle.core_worker.specs.Finishing.{PutsBackIf, LetsGo, IsFreed, IsServed, Serves}
+use Rattle.core_worker.specs.Finishing.{PutsBackIf, LetsGo, IsFreed, IsServed, Serves, ShortOf}
 
 -- the block that a staged change has
 abbrev pub staged_block : Place → Option ℕ
@@ -50,6 +50,7 @@ pub record Drops (s : State) (slot : ℕ) (old new : Worker) (all : Bool) : Type
   pub puts : PutsAway old freed slot (pointer_of entry.body)
   pub rest : OnlyServes freed new
   pub begins : all ≡ true → (t : Tie) → IsServed s old t → IsTelling s → Serves freed new (t.view.cell entry.key) entry.key
+  pub short : all ≡ false → (t : Tie) → IsServed s old t → IsTelling s → ShortOf freed new (t.view.cell entry.key) entry.key
 
 -- the place of a key's change is put away
 abbrev pub PutsAwayKey : Worker → Worker → ℕ → Option ℕ → Type 0
@@ -86,6 +87,7 @@ pub record Withdraws (s : State) (seat : SeatAt) (before after : Option Group) (
   pub puts : PutsAwayKey mid freed change.entry.key (pointer_of change.entry.body)
   pub rest : OnlyServes freed new
   pub begins : all ≡ true → IsTelling s → Serves freed new (u.cell change.entry.key) change.entry.key
+  pub short : all ≡ false → IsTelling s → ShortOf freed new (u.cell change.entry.key) change.entry.key
 
 -- item 1 of a stopped core
 abbrev pub WithdrawsOrUnlocks : State → SeatAt → Option Group → Option Group → View → View → Worker → Worker → Bool → Type 0

@@ -233,22 +233,34 @@ pub record Posts (m : ℕ) (a b : Moment) : Type 0 where
   pub runs : (a.worker.stopped ≡ false) × (a.worker.winds_down ≡ false)
   pub lowest : IsLowest is_staged a.worker.places.items slot
   pub place : place_at a.worker.places.items slot ≡ Staged number entry value
+  pub pledges : lines ≡ lines_for (length (words_of entry))
   pub places : Replaces a.worker.places.items b.worker.places.items slot (Posted number entry.key lines)
   pub view : b.view ≡ after_post slot entry value mid
   pub same : b.worker ≡ record a.worker { places = b.worker.places; allocator = b.worker.allocator }
 
--- Item 7: an own slot was found Posted, and the lock is tried.
-pub record Locks (m : ℕ) (a b : Moment) : Type 0 where
+-- Item 5 at a fault: the block of the lowest staged change couldn't be written. The change stays staged, and the core stops.
+pub record LosesBlock (m : ℕ) (a b : Moment) : Type 0 where
+  pub slot : ℕ
   pub mid : View
   pub before : PassesItems m a 8 mid
-  pub posted : FindsPosted a.worker.places.items before.looked.found 8
-  pub view : b.view ≡ after_lock mid
-  pub leads_now : (c : Collecting) × (b.worker.leading ≡ leads.Collecting c) × (c.at ≡ 0)
-  pub same : SameButLeading a.worker b.worker
+  pub runs : (a.worker.stopped ≡ false) × (a.worker.winds_down ≡ false)
+  pub lowest : IsLowest is_staged a.worker.places.items slot
+  pub view : b.view ≡ mid
+  pub same : b.worker ≡ record a.worker { allocator = b.worker.allocator; stopped = true }
 
 -- Why item 5 is passed: nothing is staged, the gate answered false, or the worker winds down.
 abbrev pub PassesPost : Bool → Worker → Type 0
 PassesPost refused w = HasNone is_staged w.places.items ⊎ ((refused ≡ true) ⊎ (w.winds_down ≡ true))
+
+-- Item 7: an own slot was found Posted, and the lock is tried and had.
+pub record Locks (refused : Bool) (m : ℕ) (a b : Moment) : Type 0 where
+  pub mid : View
+  pub before : PassesItems m a 8 mid
+  pub post : PassesPost refused a.worker
+  pub posted : FindsPosted a.worker.places.items before.looked.found 8
+  pub view : b.view ≡ after_lock mid
+  pub leads_now : (c : Collecting) × (b.worker.leading ≡ leads.Collecting c) × (c.at ≡ 0)
+  pub same : SameButLeading a.worker b.worker
 
 -- Item 8: nothing applied. No own slot was found Posted, or the try found a holder.
 pub record Idles (refused : Bool) (m : ℕ) (a b : Moment) : Type 0 where

@@ -3,6 +3,7 @@
 
 mod accepting;
 mod beginning;
+mod choosing;
 mod finishing;
 mod gate;
 mod hearing;
@@ -14,6 +15,7 @@ mod searching;
 mod status;
 mod stopping;
 mod supply;
+mod turning;
 mod types;
 mod worker;
 

@@ -1,8 +1,9 @@
 use Rattle.core_worker.proofs.RoomKept.{room_again}
-use Rattle.std.proofs.Common.{Bool, not, inl, sym, ◌∙◌, ap, subst}
+use Rattle.std.proofs.Common.{ℕ, Bool, not, inl, sym, ◌∙◌, ap, subst}
 use Rattle.core_worker.specs.declared.worker.Worker.{Worker}
 use Rattle.core_worker.specs.OwnPlaces.{place_at, own}
 use Rattle.core_worker.specs.Posting.{WouldStand}
+use Rattle.core_worker.specs.WorkerMoves.{placed_for, hands_of}
 use Rattle.core_worker.proofs.PostMoves.{facts_of, posted_moves, posted_order, fault_moves, fault_order}
 use Rattle.core_worker.proofs.worker.Worker.post_block.Goals as goal
 
@@ -58,7 +59,8 @@ returns-else-write_staged-clause-moves g c =
     let p = (g.B.Board.seat c.args.board.now).place in
     let m = (g.B.Board.seat c.args.board.now).number in
     let same = c.write_staged.ensures.rest ∙ ap (λ (b : Bool). record c.args.self.now { allocator = c.write_staged.new.self.allocator; stopped = not b }) c.if-write_staged.false in
-    fault_moves p m (g.R.Region.state c.args.region.now) (g.R.Region.state c.write_staged.new.region) (g.B.Board.whole c.args.board.now) (g.B.Board.view c.args.board.now) c.args.self.now c.write_staged.new.self c.write_staged.ensures.holds same
+    fault_moves p m (g.R.Region.state c.args.region.now) (g.R.Region.state c.write_staged.new.region) (g.B.Board.whole c.args.board.now) (g.B.Board.view c.args.board.now) c.args.self.now c.write_staged.new.self c.write_staged.ensures.holds
+    (λ k. ap (λ (y : Worker). placed_for (g.B.Board.view c.args.board.now) y.places.items k) same) (λ k. ap (λ (y : Worker). (hands_of (g.B.Board.view c.args.board.now) y).waits k) same) (ap (λ (y : Worker). y.stopped) same)
     c.write_staged.ensures.outside c.write_staged.ensures.moments (c.write_staged.ensures.stands c.if-write_staged.false).licensed (c.write_staged.ensures.cause c.if-write_staged.false)
 
 pub returns-else-write_staged-clause-order : goal.returns-else-write_staged-clause-order

@@ -2,6 +2,7 @@
 use Rattle.std.proofs.Common.{◌≡◌, true, sym, ◌∙◌, ap}
 use Rattle.core_worker.specs.declared.worker.Worker.{Worker}
 use Rattle.core_worker.proofs.Served.{to_serve, finishes_slot}
+use Rattle.core_worker.proofs.FinishMoves.{finish_moves}
 use Rattle.core_worker.proofs.worker.Worker.take_back.Goals as goal
 
 pub serve-requires-clause-tied : goal.serve-requires-clause-tied
@@ -53,4 +54,4 @@ returns-clause-finishes g c =
     let m = (g.B.Board.seat c.args.board.now).number in
     let v = g.B.Board.view c.args.board.now in
     let u = g.B.Board.view c.take_out-key.new.board in
-    finishes_slot s p m c.args.slot c.take_out-key.result v u c.args.self.now c.take_out-key.new.self c.serve.new.self c.requires.stands c.take_out-key.ensures.freed c.serve.result c.take_out-key.ensures.takes c.serve.ensures.rest c.serve.ensures.begins
+    finishes_slot s p m c.args.slot c.take_out-key.result v u c.args.self.now c.take_out-key.new.self c.serve.new.self c.requires.stands c.take_out-key.ensures.freed c.serve.result c.take_out-key.ensures.takes c.serve.ensures.rest c.serve.ensures.begins c.serve.ensures.short

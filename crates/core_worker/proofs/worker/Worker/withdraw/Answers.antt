@@ -123,7 +123,7 @@ returns-in-Some-clause-withdraws g c =
     let w = c.args.self.now in
     let mid = c.retract.new.self in
     let s = g.R.Region.state c.args.region.now in
-    withdraws_slot here w0 w1 v u w mid c.in-Some.change c.requires.holds c.requires.order c.requires.stopped c.requires.collects c.in-Some.ensures.retracts s c.requires.stands c.put_by.new.self c.put_by.ensures c.serve.result c.serve.new.self c.serve.ensures.rest c.serve.ensures.begins
+    withdraws_slot here w0 w1 v u w mid c.in-Some.change c.requires.holds c.requires.order c.requires.stopped c.requires.collects c.in-Some.ensures.retracts s c.requires.stands c.put_by.new.self c.put_by.ensures c.serve.result c.serve.new.self c.serve.ensures.rest c.serve.ensures.begins c.serve.ensures.short
 
 pub returns-in-Some-clause-made : goal.returns-in-Some-clause-made
 returns-in-Some-clause-made g c =

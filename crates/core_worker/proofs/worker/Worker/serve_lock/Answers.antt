@@ -1,0 +1,72 @@
+-- The lock is tried, or nothing applies.
+use Rattle.std.proofs.Common.{◌≡◌, inl, inr, ℕ, Bool, true, false, [], ◌∷◌, Option, refl, subst}
+use Rattle.group_laws.specs.Runs as runs
+use Rattle.group_laws.specs.State.{Group}
+use Rattle.group_laws.specs.MemberViews.{View}
+use Rattle.batch_leader.specs.TakenChanges.{MatchBool}
+use Rattle.core_worker.specs.Turns.{TriesLock, FindsPosted}
+use Rattle.core_worker.specs.Turning.Did.{locks}
+use Rattle.core_worker.proofs.Made.{one_step}
+use Rattle.core_worker.proofs.QuietItems.{lock_led, lock_same, lock_stops}
+use Rattle.core_worker.proofs.TurnLaws.{keeps_leading, keeps_same}
+use Rattle.core_worker.proofs.worker.Worker.serve_lock.Goals as goal
+
+pub returns-then-not-posted-clause-keeps : goal.returns-then-not-posted-clause-keeps
+returns-then-not-posted-clause-keeps g c s S = keeps_same (g.B.Board.seat c.args.board.now) s (g.B.Board.whole c.args.board.now) (g.B.Board.view c.args.board.now) c.args.self.now c.requires.holds S c.requires.order (g.met.B.Board.agrees c.args.board.now)
+
+pub returns-then-not-posted-clause-turned : goal.returns-then-not-posted-clause-turned
+returns-then-not-posted-clause-turned g c refused before v post tells = record {
+  mid = g.B.Board.view c.args.board.now;
+  before = tells.0;
+  post = post;
+  lock = inl (subst (λ (b : Bool). MatchBool b (FindsPosted c.args.self.now.places.items tells.0.looked.found 8) (FindsPosted c.args.self.now.places.items tells.0.looked.found 8 → ⊥)) c.if-not-posted.true tells.1, refl);
+  free = c.requires.nothing;
+  same = refl;
+}
+
+pub returns-then-try_lead-clause-keeps : goal.returns-then-try_lead-clause-keeps
+returns-then-try_lead-clause-keeps g c s S =
+    let seat = g.B.Board.seat c.args.board.now in
+    let e = c.try_lead.ensures in
+    keeps_leading seat s (g.B.Board.whole c.args.board.now) (g.B.Board.whole c.try_lead.new.board) (g.B.Board.view c.args.board.now) (g.B.Board.view c.try_lead.new.board) c.args.self.now c.try_lead.new.self
+    e.holds e.stands S (runs.Kind.Lock ∷ [], one_step (g.B.Board.whole c.args.board.now) (g.B.Board.whole c.try_lead.new.board) seat.number runs.Kind.Lock (g.B.Board.view c.try_lead.new.board) e.whole)
+    (lock_led c.try_lead.result seat.number (g.B.Board.view c.args.board.now) (g.B.Board.view c.try_lead.new.board) c.args.self.now c.try_lead.new.self e.tried)
+    (lock_same c.try_lead.result seat.number (g.B.Board.view c.args.board.now) (g.B.Board.view c.try_lead.new.board) c.args.self.now c.try_lead.new.self e.tried)
+    (λ stopped. lock_stops c.try_lead.result seat (g.B.Board.view c.args.board.now) (g.B.Board.view c.try_lead.new.board) c.args.self.now c.try_lead.new.self e.holds e.tried) c.requires.order e.rule
+
+pub returns-then-try_lead-clause-turned : goal.returns-then-try_lead-clause-turned
+returns-then-try_lead-clause-turned g c refused before v post tells =
+    let seat = g.B.Board.seat c.args.board.now in
+    let had = subst (λ (b : Bool). TriesLock b seat.number (g.B.Board.view c.args.board.now) (g.B.Board.view c.try_lead.new.board) c.args.self.now c.try_lead.new.self) c.if-try_lead.true c.try_lead.ensures.tried in
+    locks (record {
+      mid = g.B.Board.view c.args.board.now;
+      before = tells.0;
+      post = post;
+      posted = subst (λ (b : Bool). MatchBool b (FindsPosted c.args.self.now.places.items tells.0.looked.found 8) (FindsPosted c.args.self.now.places.items tells.0.looked.found 8 → ⊥)) c.if-not-posted.false tells.1;
+      view = had.0;
+      leads_now = had.1;
+      same = had.2;
+    })
+
+pub returns-clause-keeps : goal.returns-clause-keeps
+returns-clause-keeps g c s S =
+    let seat = g.B.Board.seat c.args.board.now in
+    let e = c.try_lead.ensures in
+    keeps_leading seat s (g.B.Board.whole c.args.board.now) (g.B.Board.whole c.try_lead.new.board) (g.B.Board.view c.args.board.now) (g.B.Board.view c.try_lead.new.board) c.args.self.now c.try_lead.new.self
+    e.holds e.stands S (runs.Kind.Lock ∷ [], one_step (g.B.Board.whole c.args.board.now) (g.B.Board.whole c.try_lead.new.board) seat.number runs.Kind.Lock (g.B.Board.view c.try_lead.new.board) e.whole)
+    (lock_led c.try_lead.result seat.number (g.B.Board.view c.args.board.now) (g.B.Board.view c.try_lead.new.board) c.args.self.now c.try_lead.new.self e.tried)
+    (lock_same c.try_lead.result seat.number (g.B.Board.view c.args.board.now) (g.B.Board.view c.try_lead.new.board) c.args.self.now c.try_lead.new.self e.tried)
+    (λ stopped. lock_stops c.try_lead.result seat (g.B.Board.view c.args.board.now) (g.B.Board.view c.try_lead.new.board) c.args.self.now c.try_lead.new.self e.holds e.tried) c.requires.order e.rule
+
+pub returns-clause-turned : goal.returns-clause-turned
+returns-clause-turned g c refused before v post tells =
+    let seat = g.B.Board.seat c.args.board.now in
+    let had = subst (λ (b : Bool). TriesLock b seat.number (g.B.Board.view c.args.board.now) (g.B.Board.view c.try_lead.new.board) c.args.self.now c.try_lead.new.self) c.if-try_lead.false c.try_lead.ensures.tried in
+    record {
+      mid = g.B.Board.view c.args.board.now;
+      before = tells.0;
+      post = post;
+      lock = inr (subst (λ (b : Bool). MatchBool b (FindsPosted c.args.self.now.places.items tells.0.looked.found 8) (FindsPosted c.args.self.now.places.items tells.0.looked.found 8 → ⊥)) c.if-not-posted.false tells.1, had.0);
+      free = had.1;
+      same = had.2;
+    }

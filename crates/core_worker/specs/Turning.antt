@@ -1,0 +1,75 @@
+-- What every part of a turn keeps, and what a whole turn did.
+use Rattle.std.specs.Prelude.{◌≡◌, ℕ, ◌<◌, Bool, true, false, List, [], ◌++◌, map, Option}
+use Rattle.pm_region.specs.State.{State, IsTelling}
+use Rattle.group_laws.specs.State.{Group}
+use Rattle.group_laws.specs.MemberViews.{View}
+use Rattle.group_board.specs.Seats.{SeatAt}
+use Rattle.batch_leader.specs.Persisting.{StaysLicensed, WritesPart}
+use Rattle.core_worker.specs.declared.types.Leading.{Leading}
+use Rattle.core_worker.specs.declared.types.Leading.TheVariants as leads
+use Rattle.core_worker.specs.declared.worker.Worker.{Worker}
+use Rattle.core_worker.specs.Beginning.{answers_of}
+use Rattle.core_worker.specs.Supplies.{HasKeptRoom}
+use Rattle.core_worker.specs.Ties.{HoldsAt, StandsAt}
+use Rattle.batch_leader.specs.TakenChanges.{MatchBool}
+use Rattle.core_worker.specs.declared.types.Turn.{Turn}
+use Rattle.core_worker.specs.declared.types.Turn.TheVariants.{Moved, Idle}
+use Rattle.core_worker.specs.declared.choosing.Choice.{Choice}
+use Rattle.core_worker.specs.declared.choosing.Choice.TheVariants.{Pass, Drop, Post}
+use Rattle.core_worker.specs.OwnPlaces.{is_staged, IsLowest}
+use Rattle.core_worker.specs.Turns.{Moment, InOrderAt, GoesRound, PersistsOrLoses, Marks, Fails, Posts, LosesBlock, Locks, Idles, PassesItems, PassesPost, FindsPosted}
+use Rattle.core_worker.specs.WorkerMoves.{Fixed, told, hands_of, WorkerMoves}
+
+-- What a turn fixed is what the worker answers besides, and the turn is a whole move to whoever runs several workers.
+pub record TurnMoves (seat : SeatAt) (s t : State) (before after : Option Group) (v u : View) (w x : Worker) : Type 0 where
+  pub fixed : List Fixed
+  pub answers : answers_of x ≡ answers_of w ++ map told fixed
+  pub moves : WorkerMoves seat.place seat.number s t before after v u (hands_of v w) (hands_of u x) [] fixed
+
+-- What a part of a turn keeps, whatever it did.
+pub record KeepsTurn (seat : SeatAt) (s t : State) (before after : Option Group) (v u : View) (w x : Worker) : Type 0 where
+  pub moments : StaysLicensed s t seat v
+  pub outside : WritesPart s t seat
+  pub holds : HoldsAt seat u x
+  pub stands : StandsAt t seat u x
+  pub order : InOrderAt seat u x
+  pub rule : x.stopped ≡ false → HasKeptRoom w → HasKeptRoom x
+  pub moves : IsTelling t → TurnMoves seat s t before after v u w x
+
+-- a batch is in hand, or changes that are to be given back
+abbrev pub HasBatch : Leading → Type 0
+HasBatch (leads.Nothing buffer) = ⊥
+HasBatch (leads.Collecting c) = ⊥
+HasBatch (leads.Batch b) = Unit {0}
+HasBatch (leads.Persisted x) = Unit {0}
+HasBatch (leads.Failed x) = Unit {0}
+HasBatch leads.Between = ⊥
+
+-- The item of the order of work that a turn did.
+pub data Did (refused : Bool) (before : Option Group) (seat : SeatAt) (a b : Moment) : Type 0 where
+  goes_round : GoesRound before seat a b → Did refused before seat a b
+  writes : PersistsOrLoses b.worker.stopped seat.number a b → Did refused before seat a b
+  marks : Marks a b → Did refused before seat a b
+  fails : Fails a b → Did refused before seat a b
+  posts : Posts seat.number a b → Did refused before seat a b
+  loses_block : LosesBlock seat.number a b → Did refused before seat a b
+  locks : Locks refused seat.number a b → Did refused before seat a b
+
+-- By what a turn answers, it did one of these, or nothing applied.
+abbrev pub Turned : Turn → Bool → Option Group → SeatAt → Moment → Moment → Type 0
+Turned Moved refused before seat a b = Did refused before seat a b
+Turned Idle refused before seat a b = Idles refused seat.number a b
+
+-- the core at entry, where some loads of the turn led to a view
+abbrev pub at_entry : Worker → View → Moment
+at_entry w v = record { worker = w; view = v }
+
+-- whether a posted slot was found that nobody had taken
+abbrev pub Tells : Bool → ℕ → Worker → View → View → Type 0
+Tells posted m w v mid = (before : PassesItems m (at_entry w v) 8 mid) × MatchBool posted (FindsPosted w.places.items before.looked.found 8) (FindsPosted w.places.items before.looked.found 8 → ⊥)
+
+-- what there is to do with the staged changes
+abbrev pub Chooses : Choice → Bool → Worker → Type 0
+Chooses Pass refused w = PassesPost refused w
+Chooses (Drop slot) refused w = IsLowest is_staged w.places.items slot × (slot < 8) × (w.stopped ≡ true) × (w.winds_down ≡ false)
+Chooses (Post slot) refused w = IsLowest is_staged w.places.items slot × (slot < 8) × (w.stopped ≡ false) × (w.winds_down ≡ false)
