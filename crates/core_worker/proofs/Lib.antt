@@ -32,7 +32,6 @@ mod Winding
 mod Waiters
 mod Unpledging
 mod BatchRoom
-mod Hearing
 pub mod Serving
 mod Heard
 pub mod Tidied
