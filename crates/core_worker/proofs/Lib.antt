@@ -30,6 +30,8 @@ mod RoomKept
 mod Accepted
 mod Winding
 mod Waiters
+mod Unpledging
+mod BatchRoom
 pub mod Serving
 mod Heard
 pub mod Tidied
@@ -46,10 +48,14 @@ pub mod Withdrawing
 mod Unlocking
 mod Retracting
 mod Members
-mod Unpledging
-mod BatchRoom
 mod ServedLines
 mod LetGoMoves
 mod FinishMoves
 mod StopMoves
 mod ItemLaws
+mod StartKeys
+mod StartBlocks
+mod StartHeads
+mod Starting
+pub mod Clients
+mod Trials

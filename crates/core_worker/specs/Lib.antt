@@ -16,6 +16,8 @@ pub mod WorkerMoves
 pub mod Turning
 pub mod Posting
 pub mod Status
+pub mod Openings
+pub mod Trials
 pub use Rattle.fs_model.specs.Cells
 pub use Rattle.core_log.specs.Chunk
 pub use Rattle.group_board.specs.Conditions
