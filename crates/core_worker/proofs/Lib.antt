@@ -27,6 +27,7 @@ mod Staging
 mod Finding
 mod Beginnings
 mod RoomKept
+mod AcceptedOrder
 mod Accepted
 mod Winding
 mod Waiters
