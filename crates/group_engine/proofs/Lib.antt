@@ -6,3 +6,4 @@ mod Moving
 mod Advancing
 mod Giving
 mod Opened
+mod Reporting

@@ -5,5 +5,6 @@ pub mod engine;
 pub mod opening;
 pub mod passes;
 mod step;
+pub mod report;
 pub mod types;
 pub mod worker;
