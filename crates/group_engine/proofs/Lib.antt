@@ -7,3 +7,4 @@ mod Advancing
 mod Giving
 mod Opened
 mod Reporting
+mod Outcomes

@@ -1,9 +1,7 @@
 -- The report on the answers that an engine keeps is that of the state which it shows.
-use Rattle.std.proofs.Common.{◌≡◌, ℕ, ◌+◌, List, [], ◌∷◌, ◌++◌, length, map, Option, Some, None, refl, sym, ◌∙◌, ap, arith, append_assoc, append-nil}
+use Rattle.std.proofs.Common.{◌≡◌, ℕ, ◌+◌, List, [], ◌∷◌, ◌++◌, length, map, Option, refl, sym, ◌∙◌, ap, arith, append_assoc, append-nil}
 use Rattle.std.proofs.lemmas.List.{map-append}
 use Rattle.group_engine.specs.declared.types.Stamped.{Stamped}
-use Rattle.group_engine.specs.declared.report.Finish.{Finish}
-use Rattle.group_engine.specs.declared.report.Refusal.{Refusal}
 use Rattle.group_engine.specs.declared.report.Report.{Report}
 use Rattle.group_engine.specs.Reports.{reply_in, finish_in, refusal_in, finishes_in, refusals_in, Adds, IsReport}
 

@@ -4,7 +4,12 @@ use Rattle.fs_model.specs.declared.model.Reply.{Reply}
 use Rattle.fs_model.specs.declared.model.Reply.TheVariants.{Stopped}
 use Rattle.fs_model.specs.Lawful.{is_finish}
 use Rattle.core_room.specs.declared.types.Shortage.{Shortage}
-use Rattle.headline.specs.Headline.{Told}
+use Rattle.pm_region.specs.State.{State, IsTelling}
+use Rattle.headline.specs.Headline.{Told, Answers}
+use Rattle.engine_laws.specs.Engine.{Engine}
+use Rattle.engine_laws.specs.Stands.{Origin, start_of}
+use Rattle.engine_laws.specs.Reports.{told_of, AllAnswered}
+use Rattle.engine_laws.specs.Promises.{HasStopped}
 use Rattle.group_engine.specs.declared.types.Stamped.{Stamped}
 use Rattle.group_engine.specs.declared.report.Finish.{Finish}
 use Rattle.group_engine.specs.declared.report.Refusal.{Refusal}
@@ -56,3 +61,8 @@ told_by r = record {
   finishes = map (λ f. (f.request, f.stamp)) r.finishes.items;
   refusals = map (λ x. (x.request, reply_to x.why)) r.refusals.items;
 }
+
+-- The report is that of a state, and its replies are some that the state may give, by what the region tells.
+pub record ReportsOn (s : State) (o : Origin) (e : Engine) (r : Report) : Type 0 where
+  pub told : told_by r ≡ told_of e
+  pub answers : Answers (IsTelling s) (start_of o) e.given (told_of e) (AllAnswered e → HasStopped e) r.replies.items

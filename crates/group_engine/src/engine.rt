@@ -4,6 +4,7 @@ ghost use Rattle.fs_model.specs.Cells.{key_of};
 
 use crate::passes;
 use crate::passes::Cores;
+use crate::report::{Report, report_on};
 use crate::step::{collect, step};
 use crate::types::Stamped;
 use crate::worker::CoreWorker;
@@ -13,6 +14,7 @@ use fs_model::Request;
 use fs_text::Line;
 use group_board::LocalBoard;
 use pm_region::Region;
+use std::alloc::Global;
 use std::collections::VecDeque;
 
 /// One worker for each core, one board for each group, by core the requests that its worker has not accepted yet, and
@@ -147,5 +149,24 @@ impl<W: CoreWorker> Engine<W> {
             × Ran AnyTurn (layout_of o.found).cores lines.items (opening o) f × IsDone o f) }
     {
         passes::replay(self, region, lines)
+    }
+}
+
+impl<W: CoreWorker + Drop> Engine<W> {
+    ghost use Rattle.std.specs.Prelude.{IfOk};
+    ghost use Rattle.pm_region.specs.State.{State};
+    ghost use Rattle.engine_laws.specs.Engine as engines;
+    ghost use Rattle.engine_laws.specs.Stands.{Origin, Stands};
+    ghost use Rattle.group_engine.specs.Reports.{ReportsOn};
+    ghost use Rattle.group_engine.specs.Shows.{Shows};
+
+    /// The replies, and the report on them: those of the state that the engine shows.
+    pub fn into_report(self, alloc: Global) -> Result<Report, Memory>
+        ensures { IfOk result (λ r. (s : State) (o : Origin) (e : engines.Engine) → Stands o e
+            → Shows W.hands W.answers W.stands W.fair W.room W.leads (λ q. q.items) s self.layout
+            self.workers.items self.boards.items self.backlogs.items self.answers.items e
+            → ReportsOn s o e r) }
+    {
+        report_on(alloc, self.answers)
     }
 }

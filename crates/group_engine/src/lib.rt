@@ -4,7 +4,7 @@
 pub mod engine;
 pub mod opening;
 pub mod passes;
-mod step;
 pub mod report;
+mod step;
 pub mod types;
 pub mod worker;

@@ -47,11 +47,7 @@ fn is_finish(reply: &Reply) -> bool
 }
 
 // Notes a finish, where the reply is one.
-fn note_finish(
-    finishes: &mut Vec<Finish>,
-    request: u64,
-    answer: &Stamped,
-) -> Result<(), Memory>
+fn note_finish(finishes: &mut Vec<Finish>, request: u64, answer: &Stamped) -> Result<(), Memory>
     ensures { OnOk result (finishes.new.items
         ≡ finishes.old.items ++ finish_of request answer.now.reply answer.now.stamp) }
 {

@@ -1,4 +1,3 @@
-use Rattle.std.proofs.Common.{◌≡◌}
 use Rattle.group_engine.proofs.Reporting.{report_more}
 use Rattle.group_engine.proofs.report.report_on.Goals as goal
 
