@@ -8,3 +8,4 @@ mod Giving
 mod Opened
 mod Reporting
 mod Outcomes
+mod Stopping
