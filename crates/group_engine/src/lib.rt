@@ -6,5 +6,7 @@ pub mod opening;
 pub mod passes;
 pub mod report;
 mod step;
+#[cfg(test)]
+mod tests;
 pub mod types;
 pub mod worker;
