@@ -42,3 +42,6 @@ pub mod TakingBack
 pub mod Served
 mod Unpledging
 mod BatchRoom
+mod LeftSums
+mod LeftSteps
+mod LeftWorkers

@@ -13,6 +13,7 @@ pub mod Turns
 pub mod Searching
 pub mod WorkerMoves
 pub mod Turning
+pub mod Left
 pub mod Posting
 pub mod Status
 pub use Rattle.fs_model.specs.Cells
