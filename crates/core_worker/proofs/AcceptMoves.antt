@@ -43,14 +43,14 @@ use Rattle.core_worker.proofs.HandPlaces.{held_at, held_beside}
 use Rattle.core_worker.proofs.Pointers.{free_is}
 use Rattle.core_worker.proofs.KeyMoves.{still_key, held_key, answered_key, staged_key, one_request, no_request, one_fixed, no_fixed, key_by, moves_here}
 
-not_stopped : (c : Shortage) → reply_to c ≢ replies.Stopped
+pub not_stopped : (c : Shortage) → reply_to c ≢ replies.Stopped
 not_stopped (causes.Room x) e = absurd (cc e)
 not_stopped (causes.Block x) e = absurd (cc e)
 not_stopped (causes.Versions n) e = absurd (cc e)
 not_stopped (causes.Length n) e = absurd (cc e)
 
 -- a refusal leaves the cell
-left_by_refusal : (r : Request) (cell : Option (List ℕ)) (c : Shortage) → cell_left r (reply_to c) cell ≡ cell
+pub left_by_refusal : (r : Request) (cell : Option (List ℕ)) (c : Shortage) → cell_left r (reply_to c) cell ≡ cell
 left_by_refusal r cell (causes.Room x) = refl
 left_by_refusal r cell (causes.Block x) = refl
 left_by_refusal r cell (causes.Versions n) = refl
@@ -75,7 +75,7 @@ room_alone : (s : Supply) (a : Sets) (need class : ℕ) → IsForRoom (lacks s a
 room_alone s a need class = by_room (lacks_room s need) (lacks_block s need class (free_blocks a class)) (counts_at s need class (free_blocks a class)) (counts_at s need class (free_blocks a class))
 
 -- a refusal for the cause that counts is one that the request may get
-may_refuse_for : (l : Geometry) (s : Supply) (a : Sets) (last : ℕ) (cell : Option (List ℕ)) (r : Request) (c : Shortage) → why l s a last cell r ≡ Some c → MayReply r cell false (reply_to c)
+pub may_refuse_for : (l : Geometry) (s : Supply) (a : Sets) (last : ℕ) (cell : Option (List ℕ)) (r : Request) (c : Shortage) → why l s a last cell r ≡ Some c → MayReply r cell false (reply_to c)
 may_refuse_for l s a last cell (Put k u) c e = put_refused k u cell c
 may_refuse_for l s a last cell (Get k) c e = absurd (cc e)
 may_refuse_for l s a last None (Delete k) c e = absurd (cc e)
@@ -84,14 +84,14 @@ may_refuse_for l s a last (Some u) (Delete k) c e =
     subst (MayReply (Delete k) (Some u) false) (sym full) (inr refl)
 
 -- what is no change is answered by the cell, and leaves it
-still_left : (r : Request) (cell : Option (List ℕ)) → is_change r cell ≡ false → cell_left r (answer_to r cell) cell ≡ cell
+pub still_left : (r : Request) (cell : Option (List ℕ)) → is_change r cell ≡ false → cell_left r (answer_to r cell) cell ≡ cell
 still_left (Put k u) cell e = absurd (cc e)
 still_left (Get k) None e = refl
 still_left (Get k) (Some u) e = refl
 still_left (Delete k) None e = refl
 still_left (Delete k) (Some u) e = absurd (cc e)
 
-still_runs : (r : Request) (cell : Option (List ℕ)) → answer_to r cell ≢ replies.Stopped
+pub still_runs : (r : Request) (cell : Option (List ℕ)) → answer_to r cell ≢ replies.Stopped
 still_runs (Put k u) cell e = absurd (cc e)
 still_runs (Get k) None e = absurd (cc e)
 still_runs (Get k) (Some u) e = absurd (cc e)

@@ -40,8 +40,10 @@ pub mod PuttingBack
 pub mod Settling
 pub mod TakingBack
 pub mod Served
+mod Members
 mod Unpledging
 mod BatchRoom
 mod LeftSums
 mod LeftSteps
 mod LeftWorkers
+mod ServedLines

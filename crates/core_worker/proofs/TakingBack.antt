@@ -1,6 +1,6 @@
 -- A change that its leader gave back is taken out of its place.
-use Rattle.std.proofs.Common.{◌≡◌, ◌≢◌, ◌⊎◌, inl, inr, ⊎_elim, ℕ, ◌+◌, ◌<◌, ◌≤◌, ◌==◌, Bool, true, false, List, [], ◌∷◌, length, Option, Some, None, refl, sym, ◌∙◌, ap, subst, arith}
-use Rattle.std.specs.Prelude.{Vec}
+use Rattle.std.proofs.Common.{◌≡◌, ◌≢◌, ◌⊎◌, inl, inr, ⊎_elim, ℕ, zero, suc, ◌+◌, ◌<◌, ◌≤◌, ◌==◌, Bool, true, false, List, [], ◌∷◌, length, Option, Some, None, refl, sym, ◌∙◌, ap, subst, arith}
+use Rattle.std.specs.Prelude.{Vec, IfSome, MatchOption}
 use Rattle.std.specs.Global.{Global}
 use Rattle.fs_model.specs.declared.model.Reply.{Reply}
 use Rattle.fs_model.specs.declared.model.Reply.TheVariants as replies
@@ -16,6 +16,9 @@ use Rattle.core_room.specs.declared.supply.Supply.{Supply}
 use Rattle.core_room.specs.RoomRule.{KeepsRoom}
 use Rattle.lazy_alloc.specs.Sets.{Sets, free_chunk_count, block_is_used}
 use Rattle.group_laws.specs.declared.types.Pending.{Pending}
+use Rattle.store_image.specs.Facts.{In}
+use Rattle.group_laws.specs.declared.types.Seen.TheVariants as loads
+use Rattle.group_laws.specs.declared.types.SlotWord.TheVariants as words
 use Rattle.group_laws.specs.Places as groups
 use Rattle.group_laws.specs.MemberViews.{View}
 use Rattle.group_board.specs.Views.{after_finish, after_give_up, TidiedIn}
@@ -28,12 +31,12 @@ use Rattle.core_worker.specs.OwnPlaces.{place_at, key_in, is_free, is_busy, line
 use Rattle.core_worker.specs.KeyTies.{IsPlaced, Offers}
 use Rattle.core_worker.specs.Supplies.{supply_of, rest, KeepsRule, HasKeptRoom}
 use Rattle.core_worker.specs.Ties.{Holds, LeadsNothing}
-use Rattle.core_worker.specs.Order.{InOrder, unanswered}
+use Rattle.core_worker.specs.Order.{InOrder, count_changes, unanswered}
 use Rattle.core_worker.specs.Refusals.{HasAnswerRoom}
 use Rattle.core_worker.specs.Beginning.{HoldsAside}
 use Rattle.core_worker.specs.Hearing.{HearsAll}
 use Rattle.core_worker.specs.Serving.{LeadsNothingYet, OthersWait}
-use Rattle.core_worker.specs.Finishing.{number_in, done_reply, reply_back, PutsBackIf, LetsGo, Settles, IsReady, IsFreed}
+use Rattle.core_worker.specs.Finishing.{number_in, done_reply, reply_back, PutsBackIf, LetsGo, Settles, TakesBackKey, IsReady, IsFreed}
 use Rattle.core_worker.proofs.Beginnings.{aside_of}
 use Rattle.core_worker.proofs.Posts.{busy_by}
 use Rattle.core_worker.proofs.RoomKept.{own_with}
@@ -175,3 +178,70 @@ settled_freed p m v u w mid x slot home e r H O N pends T S L =
     subst (λ (z : Worker). IsFreed p m v u w z e.key) (sym same) (subst (λ (z : View). IsFreed p m v z w (record w { index = mid.index; allocator = mid.allocator; places = x.places; answers = x.answers }) e.key) (sym T.4)
     (is_freed p m e.key slot v (record (after_finish e home v) { last = T.0; told = T.1; dead = T.2 }) w (record w { index = mid.index; allocator = mid.allocator; places = x.places; answers = x.answers }) H O st.within (ap key_in st.place) st.own F G refl refl (omega (arith, few, left, stays))
     (put_count w.allocator mid.allocator (block_of (known_at w.index e.key)) S.block) (λ runs. N)))
+
+-- the change counts among the unanswered ones
+count_some : (ps : List Place) (s k : ℕ) → key_in (place_at ps s) ≡ Some k → 1 ≤ count_changes ps
+count_some [] s k e = absurd (cc e)
+count_some (Free ∷ ps) zero k e = absurd (cc e)
+count_some (Staged n d u ∷ ps) zero k e = omega arith
+count_some (Posted n j l ∷ ps) zero k e = omega arith
+count_some (x ∷ ps) (suc s) k e = let more = count_some ps s k e in omega (arith, more)
+
+pub one_room : (p : groups.Place) (m : ℕ) (v : View) (w : Worker) (slot k : ℕ) → InOrder p m v w → key_in (place_at w.places.items slot) ≡ Some k → HasAnswerRoom 1 w
+one_room p m v w slot k O is = let had = O.answers in let one = count_some w.places.items slot k is in omega (arith, had, one)
+
+pub settled_room : (w mid : Worker) (e : Entry) (home : ℕ) → Settles w mid e home → HasAnswerRoom 1 w → HasAnswerRoom 1 mid
+settled_room w mid e home S had = subst (λ (z : Worker). HasAnswerRoom 1 z) (sym S.rest) had
+
+pub taken_place : (p : groups.Place) (m : ℕ) (v : View) (w : Worker) (slot : ℕ) (e : Entry) → Stood p m v w slot e → is_free (place_at w.places.items slot) ≡ false
+taken_place p m v w slot e st = ap is_free st.place
+
+-- what the index and the allocator ask of a settled change
+module _ (p : groups.Place) (m : ℕ) (v : View) (w : Worker) (H : Holds p m v w) (O : InOrder p m v w) (slot : ℕ) (e : Entry) (pends : v.pending e.key ≡ Some (record { entry = e; slot = Some slot })) where
+  st : Stood p m v w slot e
+  st = stood p m v w H slot e pends
+
+  pub settle_room : 0 < room_at w.index e.key
+  settle_room = let few = H.admitted e.key (busy_by w.places.items e.key slot (ap key_in st.place)) in omega (arith, few)
+
+  pub settle_next : e.version ≡ last_of (known_at w.index e.key) + 1
+  settle_next = next_here p m v w (aside_of p m v w H) O slot st.number e.key st.lines st.within st.place e refl st.own pends st.offers
+
+  pub settle_used : IfSome (block_of (known_at w.index e.key)) (λ q. block_is_used w.allocator q ≡ true)
+  settle_used = by (block_of (known_at w.index e.key)) refl where
+    by : (o : Option ℕ) → block_of (known_at w.index e.key) ≡ o → IfSome o (λ q. block_is_used w.allocator q ≡ true)
+    by None is = tt
+    by (Some q) is = replaced_used p m v w (aside_of p m v w H) O slot st.number e.key st.lines st.within st.place e refl st.own pends st.offers q is
+
+-- the two ways in which a change comes back
+module _ (p : groups.Place) (m slot : ℕ) (v u : View) (w : Worker) (e : Entry) (H : Holds p m v w) (O : InOrder p m v w) (N : LeadsNothing w) (pends : v.pending e.key ≡ Some (record { entry = e; slot = Some slot })) (home : Option ℕ)
+    (seen : MatchOption home (In (loads.Slot m slot words.Failed) v.looked) (λ h. In (loads.Slot m slot (words.Done h)) v.looked))
+    (view : MatchOption home (TidiedIn p m (after_give_up e v) u) (λ h. TidiedIn p m (after_finish e h v) u)) where
+  tidied_none : home ≡ None → TidiedIn p m (after_give_up e v) u
+  tidied_none none = subst (λ (o : Option ℕ). MatchOption o (TidiedIn p m (after_give_up e v) u) (λ h. TidiedIn p m (after_finish e h v) u)) none view
+
+  tidied_some : (h : ℕ) → home ≡ Some h → TidiedIn p m (after_finish e h v) u
+  tidied_some h some = subst (λ (o : Option ℕ). MatchOption o (TidiedIn p m (after_give_up e v) u) (λ h. TidiedIn p m (after_finish e h v) u)) some view
+
+  seen_as : (o : Option ℕ) → home ≡ o → MatchOption o (In (loads.Slot m slot words.Failed) v.looked) (λ h. In (loads.Slot m slot (words.Done h)) v.looked)
+  seen_as o same = subst (λ (o : Option ℕ). MatchOption o (In (loads.Slot m slot words.Failed) v.looked) (λ h. In (loads.Slot m slot (words.Done h)) v.looked)) same seen
+
+  pub failed_freed : (x : Worker) → home ≡ None → LetsGo (record w { stopped = true }) x slot replies.Stopped → IsFreed p m v u w x e.key
+  failed_freed x none L = gave_up p m v u w x slot e H O N pends (tidied_none none) L
+
+  pub failed_takes : (x : Worker) → home ≡ None → LetsGo (record w { stopped = true }) x slot replies.Stopped → TakesBackKey p m slot v u w x e.key
+  failed_takes x none L =
+      let here = stood p m v w H slot e pends in
+      (record { number = here.number; lines = here.lines; entry = e; home = None; place = here.place; pending = pends; seen = seen_as None none; view = tidied_none none; mid = record w { stopped = true }; settles = refl; lets = L }, refl)
+
+  module _ (mid x : Worker) (h core : ℕ) (reply : Reply) (some : home ≡ Some h) (core_is : core ≡ groups.core_of p h) (S : Settles w mid e core) (is : reply ≡ done_reply e.body) (L : LetsGo mid x slot reply) where
+    settled_at : Settles w mid e (groups.core_of p h)
+    settled_at = subst (λ (c : ℕ). Settles w mid e c) core_is S
+
+    pub done_freed : IsFreed p m v u w x e.key
+    done_freed = settled_freed p m v u w mid x slot h e reply H O N pends (tidied_some h some) settled_at L
+
+    pub done_takes : TakesBackKey p m slot v u w x e.key
+    done_takes =
+        let here = stood p m v w H slot e pends in
+        (record { number = here.number; lines = here.lines; entry = e; home = Some h; place = here.place; pending = pends; seen = seen_as (Some h) some; view = tidied_some h some; mid = mid; settles = settled_at; lets = subst (λ (r : Reply). LetsGo mid x slot r) is L }, refl)

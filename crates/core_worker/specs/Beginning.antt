@@ -142,8 +142,16 @@ abbrev pub BeginsAll : List Held → Worker → Worker → Option (List ℕ) →
 BeginsAll [] old new cell k = new ≡ old
 BeginsAll (h ∷ hs) old new cell k =
     (next : Worker) × (mid : Worker)
-    × TakesFirst old.queue next.queue k h × SameButQueue old next × Begins next mid cell h.number h.request
+    × TakesFirst old.queue next.queue k h × SameButQueue old next × OnlyBegins next mid × Begins next mid cell h.number h.request
     × (((is_busy mid.places.items k ≡ true) × (new ≡ mid)) ⊎ ((is_busy mid.places.items k ≡ false) × BeginsAll hs mid new cell k))
+
+-- Some of them are begun. For the next one there was no memory: it is in hand, and the core winds down.
+abbrev pub BeginsShort : List Held → Worker → Worker → Option (List ℕ) → ℕ → Type 0
+BeginsShort [] old new cell k = ⊥
+BeginsShort (h ∷ hs) old new cell k =
+    (next : Worker) × TakesFirst old.queue next.queue k h × SameButQueue old next
+    × ((new ≡ record next { in_hand = Some h; winds_down = true })
+    ⊎ ((mid : Worker) × OnlyBegins next mid × Begins next mid cell h.number h.request × (is_busy mid.places.items k ≡ false) × BeginsShort hs mid new cell k))
 
 abbrev pub BeginsWaiting : Worker → Worker → Option (List ℕ) → ℕ → Type 0
 BeginsWaiting old new cell k = BeginsAll (waiting old.queue k) old new cell k

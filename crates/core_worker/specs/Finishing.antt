@@ -1,5 +1,5 @@
 -- Finishing a change: its place is freed, its request answered, and what it replaced is put back.
-use Rattle.std.specs.Prelude.{◌≡◌, ◌≢◌, ◌⊎◌, ℕ, ◌+◌, ◌≤◌, true, false, List, ◌∷◌, [], ◌++◌, length, Option, Some, None, MatchOption}
+use Rattle.std.specs.Prelude.{◌≡◌, ◌≢◌, ◌⊎◌, ℕ, ◌+◌, ◌≤◌, Bool, true, false, List, ◌∷◌, [], ◌++◌, length, Option, Some, None, IfSome, MatchOption}
 use Rattle.pm_region.specs.State.{State, IsTelling}
 use Rattle.fs_model.specs.declared.model.Reply.{Reply}
 use Rattle.fs_model.specs.declared.model.Reply.TheVariants.{Stored, Deleted, Stopped}
@@ -14,6 +14,8 @@ use Rattle.core_index.specs.Slots as slots
 use Rattle.lazy_alloc.specs.Sets.{Sets, AreSets, PutsBack}
 use Rattle.group_laws.specs.declared.types.Seen.TheVariants as loads
 use Rattle.group_laws.specs.declared.types.SlotWord.TheVariants as words
+use Rattle.group_laws.specs.declared.types.Slot.TheVariants.{Failed}
+use Rattle.group_laws.specs.State.{Group}
 use Rattle.group_laws.specs.Places as groups
 use Rattle.group_laws.specs.MemberViews.{View}
 use Rattle.group_board.specs.Views.{after_finish, after_give_up, TidiedIn}
@@ -25,8 +27,8 @@ use Rattle.core_worker.specs.Refusals.{HasAnswerRoom}
 use Rattle.core_worker.specs.Supplies.{HasKeptRoom}
 use Rattle.core_worker.specs.Ties.{Stands, Tie, HoldsBy, StandsBy}
 use Rattle.core_worker.specs.Order.{InOrder, InOrderBy}
-use Rattle.core_worker.specs.Beginning.{answers_of, answer_with, HasFree, HoldsAside, BeginsWaiting}
-use Rattle.core_worker.specs.Serving.{LeadsNothingYet, OthersWait}
+use Rattle.core_worker.specs.Beginning.{answers_of, answer_with, HasFree, HoldsAside, BeginsShort, BeginsWaiting}
+use Rattle.core_worker.specs.Serving.{LeadsNothingYet, OthersWait, OnlyServes}
 use Rattle.core_worker.specs.Hearing.{HearsAll}
 
 -- the number of the request whose change stands in a place
@@ -85,6 +87,18 @@ pub record TakesBack (p : groups.Place) (m slot : ℕ) (v u : View) (old new : W
   pub settles : MatchOption home (mid ≡ record old { stopped = true }) (λ h. Settles old mid entry (groups.core_of p h))
   pub lets : LetsGo mid new slot (reply_back home entry.body)
 
+-- the same, of a change of this key
+abbrev pub TakesBackKey : groups.Place → ℕ → ℕ → View → View → Worker → Worker → ℕ → Type 0
+TakesBackKey p m slot v u old new k = (x : TakesBack p m slot v u old new) × (x.entry.key ≡ k)
+
+-- a load found the own slot Done or Failed
+abbrev pub WasFoundBack : ℕ → ℕ → View → Type 0
+WasFoundBack m slot v = In (loads.Slot m slot words.Failed) v.looked ⊎ ((h : ℕ) × In (loads.Slot m slot (words.Done h)) v.looked)
+
+-- it stops only where an own slot was Failed, where the state is told
+abbrev pub StopsByFailed : Option Group → ℕ → Worker → Worker → Type 0
+StopsByFailed before m old new = new.stopped ≡ true → (old.stopped ≡ true) ⊎ IfSome before (λ a. (n : ℕ) × (d : Entry) × (a.slot m n ≡ Failed d))
+
 -- Nothing of the key stands in a place any more, and what waits of it may be begun.
 pub record IsReady (w : Worker) (k : ℕ) : Type 0 where
   pub nothing : LeadsNothingYet w
@@ -115,6 +129,13 @@ Serves old new cell k = ((old.winds_down ≡ true) × (new ≡ old)) ⊎ ((old.w
 abbrev pub ServesByEachView : State → Worker → Worker → ℕ → Type 0
 ServesByEachView s old new k = (t : Tie) → IsToServe s old k t → IsTelling s → Serves old new (t.view.cell k) k
 
+-- for one of them there was no memory
+abbrev pub ShortOf : Worker → Worker → Option (List ℕ) → ℕ → Type 0
+ShortOf old new cell k = (old.winds_down ≡ false) × BeginsShort (waiting old.queue k) old new cell k
+
+abbrev pub ServesShort : State → Worker → Worker → ℕ → Type 0
+ServesShort s old new k = (t : Tie) → IsToServe s old k t → IsTelling s → ShortOf old new (t.view.cell k) k
+
 -- What a worker with view v that was tied is with view u, once a change of the key is out of its place.
 pub record IsFreed (p : groups.Place) (m : ℕ) (v u : View) (old new : Worker) (k : ℕ) : Type 0 where
   pub holds : HoldsAside p m u new
@@ -123,3 +144,11 @@ pub record IsFreed (p : groups.Place) (m : ℕ) (v u : View) (old new : Worker) 
   pub own : groups.owner p k ≡ m
   pub ready : IsReady new k
   pub rule : HasKeptRoom old → HasKeptRoom new
+
+-- The change is taken back and its place is free, and then the key's waiting requests are begun; `all` where none of them is in hand.
+pub record FinishesSlot (s : State) (p : groups.Place) (m slot : ℕ) (v u : View) (old new : Worker) (all : Bool) : Type 0 where
+  pub freed : Worker
+  pub takes : TakesBack p m slot v u old freed
+  pub rest : OnlyServes freed new
+  pub begins : all ≡ true → IsTelling s → Serves freed new (u.cell takes.entry.key) takes.entry.key
+  pub short : all ≡ false → IsTelling s → ShortOf freed new (u.cell takes.entry.key) takes.entry.key

@@ -1,5 +1,6 @@
 -- One turn of a core as a relation of what it was and what it is: which item it did, what it loaded before, and why it passed the items before that one.
 use Rattle.std.specs.Prelude.{◌≡◌, ◌≢◌, ◌⊎◌, ℕ, ◌+◌, ◌<◌, Bool, true, false, List, [], ◌∷◌, ◌++◌, length, map, Option, Some, None, MatchOption}
+use Rattle.pm_region.specs.State.{State}
 use Rattle.fs_model.specs.declared.model.Reply.{Reply}
 use Rattle.fs_model.specs.declared.model.Reply.TheVariants.{Stored, Deleted, Stopped}
 use Rattle.log_entry.specs.declared.entry.Entry.{Entry}
@@ -43,7 +44,7 @@ use Rattle.core_worker.specs.OwnPlaces.{place_at, is_staged, is_posted, IsLowest
 use Rattle.core_worker.specs.Ties.{LeadsNothing}
 use Rattle.core_worker.specs.Order.{InOrder}
 use Rattle.core_worker.specs.Supplies.{room_for}
-use Rattle.core_worker.specs.Finishing.{TakesBack, Serves}
+use Rattle.core_worker.specs.Finishing.{FinishesSlot}
 
 -- some steps of member m lead from the one told state to the other
 abbrev pub Steps : Option Group → Option Group → ℕ → View → Type 0
@@ -213,15 +214,12 @@ pub record PassesItems (m : ℕ) (a : Moment) (upto : ℕ) (v : View) : Type 0 w
   pub looked : Looked m a upto v
   pub none : (s : ℕ) → s < upto → is_posted (place_at a.worker.places.items s) ≡ true → IsBack (looked.found s) → ⊥
 
--- Item 4: the lowest posted place that is found given back is finished, and then the key's waiting requests are begun.
-pub record Finishes (p : Place) (m : ℕ) (a b : Moment) : Type 0 where
+-- Item 4: the lowest posted place that is found given back is finished, and then the key's waiting requests are begun; `all` where there was memory for it.
+pub record Finishes (s : State) (p : Place) (m : ℕ) (a b : Moment) (all : Bool) : Type 0 where
   pub slot : ℕ
   pub mid : View
   pub before : PassesItems m a slot mid
-  -- after its place is free, and before the waiting ones are begun
-  pub freed : Worker
-  pub takes : TakesBack p m slot mid b.view a.worker freed
-  pub begins : Serves freed b.worker (b.view.cell takes.entry.key) takes.entry.key
+  pub finishes : FinishesSlot s p m slot mid b.view a.worker b.worker all
 
 -- Item 5: the lowest staged place writes its block, where it has one, and posts.
 pub record Posts (m : ℕ) (a b : Moment) : Type 0 where

@@ -1,19 +1,53 @@
 // Taking posted changes back that their leader gave back.
-ghost use Rattle.std.specs.Prelude.{◌≡◌, ℕ, ◌+◌, ◌<◌, true, false, length, IfSome, Some};
+ghost use Rattle.std.specs.Prelude.{◌≡◌, ◌⊎◌, ℕ, ◌+◌, ◌<◌, true, false, length, is_ok, IfSome, Some, OnErr};
+ghost use Rattle.core_worker.specs.Supplies.{HasKeptRoom};
+ghost use Rattle.pm_region.specs.State.{State};
+ghost use Rattle.store_image.specs.Facts.{In};
+ghost use Rattle.group_laws.specs.Places.{Place as PlaceOf, IsPlace, members, core_of};
+ghost use Rattle.group_laws.specs.Runs as runs;
+ghost use Rattle.group_laws.specs.declared.types.Seen.TheVariants as loads;
+ghost use Rattle.group_laws.specs.declared.types.SlotWord.TheVariants as words;
+ghost use Rattle.group_board.specs.Told.{Makes};
+ghost use Rattle.core_worker.specs.Ties.{HoldsAt, LeadsNothing, StandsAt};
+ghost use Rattle.core_worker.specs.Turns.{InOrderAt};
 ghost use Rattle.core_index.specs.Index.{known_at, room_at};
 ghost use Rattle.core_index.specs.Records.{last_of, block_of};
 ghost use Rattle.lazy_alloc.specs.Sets.{AreSets, block_is_used};
 ghost use Rattle.core_worker.specs.OwnPlaces.{place_at, is_free};
 ghost use Rattle.core_worker.specs.Refusals.{HasAnswerRoom};
-ghost use Rattle.core_worker.specs.Finishing.{LetsGo, PutsBackIf, Settles};
+ghost use Rattle.core_worker.specs.Finishing.{done_reply, FinishesSlot, IsFreed, LetsGo, PutsBackIf, Settles, StopsByFailed, TakesBackKey, WasFoundBack};
 
 use crate::hearing::hear_own;
 use crate::posting::swap_place;
 use crate::types::Place;
 use crate::worker::Worker;
-use fs_model::Reply;
+use crash_core::Change;
+use fs_errors::Memory;
+use fs_model::{Key, Reply};
+use group_board::Board;
 use lazy_alloc::Allocator;
-use log_entry::Entry;
+use log_entry::{Body, Entry};
+use pm_region::Region;
+use std::alloc::Global;
+
+// The reply to a request whose change is done.
+fn done_reply(body: &Body) -> Reply
+    ensures { result ≡ done_reply body.now }
+{
+    match body {
+        Body::Pointer(_) => Reply::Stored,
+        Body::Embedded(_) => Reply::Stored,
+        Body::Tombstone => Reply::Deleted,
+    }
+}
+
+// The core that another member is, by that of one.
+fn core_beside(core: u32, member: u32, home: u32) -> u32
+    requires { (p : PlaceOf) × IsPlace p × (core ≡ core_of p member) × (home < members p) }
+    ensures { (p : PlaceOf) → core ≡ core_of p member → result ≡ core_of p home }
+{
+    core - member + home
+}
 
 // Puts a block back, where there is one.
 pub(crate) fn put_back(allocator: &mut Allocator, block: Option<u64>)
@@ -60,5 +94,75 @@ impl Worker {
         let replaced = self.index.settle(entry, home);
         hear_own(&mut self.index, self.core);
         put_back(&mut self.allocator, replaced);
+    }
+
+    // Takes the change of a slot back that was found given back, out of its place: it is settled where it is done, and else
+    // the core stops.
+    fn take_out<B: Board>(&mut self, board: &mut B, slot: u32) -> Key
+        requires holds { HoldsAt (B.seat board.old) (B.view board.old) self.old }
+        requires order { InOrderAt (B.seat board.old) (B.view board.old) self.old }
+        requires nothing { LeadsNothing self.old }
+        requires slot { slot < 8 }
+        requires seen { WasFoundBack (B.seat board.old).number slot (B.view board.old) }
+        ensures seat { B.seat board.new ≡ B.seat board.old }
+        ensures freed { IsFreed (B.seat board.old).place (B.seat board.old).number
+            (B.view board.old) (B.view board.new) self.old self.new result }
+        ensures takes { TakesBackKey (B.seat board.old).place (B.seat board.old).number slot
+            (B.view board.old) (B.view board.new) self.old self.new result }
+        ensures cause { StopsByFailed (B.whole board.old) (B.seat board.old).number
+            self.old self.new }
+        ensures made { Makes (B.whole board.old) (B.seat board.old).number
+            (runs.Kind.Finish slot) (B.whole board.new) (B.view board.new) }
+    {
+        let Change { entry, home } = board.finish(slot);
+        let key = entry.key;
+        match home {
+            None => {
+                self.stopped = true;
+                self.let_go(slot, Reply::Stopped);
+                return key;
+            }
+            Some(home) => {
+                let reply = done_reply(&entry.body);
+                let core = core_beside(self.core, board.member(), home);
+                self.settle(entry, core);
+                self.let_go(slot, reply);
+                return key;
+            }
+        }
+    }
+
+    // Finishes the change of a slot that was found given back, and begins what waits of its key.
+    pub(crate) fn take_back<R: Region, B: Board>(
+        &mut self,
+        alloc: Global,
+        region: &R,
+        board: &mut B,
+        slot: u32,
+    ) -> Result<(), Memory>
+        requires holds { HoldsAt (B.seat board.old) (B.view board.old) self.old }
+        requires stands { StandsAt (R.state region.now) (B.seat board.old)
+            (B.view board.old) self.old }
+        requires order { InOrderAt (B.seat board.old) (B.view board.old) self.old }
+        requires nothing { LeadsNothing self.old }
+        requires slot { slot < 8 }
+        requires seen { WasFoundBack (B.seat board.old).number slot (B.view board.old) }
+        ensures seat { B.seat board.new ≡ B.seat board.old }
+        ensures holds { HoldsAt (B.seat board.old) (B.view board.new) self.new }
+        ensures stands { StandsAt (R.state region.now) (B.seat board.old)
+            (B.view board.new) self.new }
+        ensures order { InOrderAt (B.seat board.old) (B.view board.new) self.new }
+        ensures rule { HasKeptRoom self.old → HasKeptRoom self.new }
+        ensures finishes { FinishesSlot (R.state region.now) (B.seat board.old).place
+            (B.seat board.old).number slot (B.view board.old) (B.view board.new)
+            self.old self.new (is_ok result) }
+        ensures memory { OnErr result (self.new.winds_down ≡ true) }
+        ensures cause { StopsByFailed (B.whole board.old) (B.seat board.old).number
+            self.old self.new }
+        ensures made { Makes (B.whole board.old) (B.seat board.old).number
+            (runs.Kind.Finish slot) (B.whole board.new) (B.view board.new) }
+    {
+        let key = self.take_out(board, slot);
+        self.serve(alloc, region, key)
     }
 }

@@ -8,8 +8,8 @@ ghost use Rattle.core_worker.specs.declared.types.Leading.TheVariants as leads;
 ghost use Rattle.core_worker.specs.OwnPlaces.{is_busy};
 ghost use Rattle.core_worker.specs.Supplies.{HasKeptRoom};
 ghost use Rattle.core_worker.specs.Refusals.{HasAnswerRoom};
-ghost use Rattle.core_worker.specs.Beginning.{HasFree, StandsAside, KeepsTies, ByEachView, BeginsAll};
-ghost use Rattle.core_worker.specs.Finishing.{IsReady, IsServed, IsToServe, ServesByEachView};
+ghost use Rattle.core_worker.specs.Beginning.{HasFree, StandsAside, KeepsTies, ByEachView, BeginsAll, BeginsShort};
+ghost use Rattle.core_worker.specs.Finishing.{IsReady, IsServed, IsToServe, ServesByEachView, ServesShort};
 ghost use Rattle.core_worker.specs.Ties.{Tie};
 ghost use Rattle.core_worker.specs.Serving.{AllWait, KeepsOrders, LeadsNothingYet, OnlyServes, OthersWait};
 
@@ -41,6 +41,8 @@ impl Worker {
         ensures keeps { KeepsTies self.old self.new key }
         ensures begins { OnOk result (ByEachView (R.state region.now) self.old key
             (λ v. BeginsAll (waiting self.old.queue key) self.old self.new (v.cell key) key)) }
+        ensures short { OnErr result (ByEachView (R.state region.now) self.old key
+            (λ v. BeginsShort (waiting self.old.queue key) self.old self.new (v.cell key) key)) }
         ensures rule { HasKeptRoom self.old → HasKeptRoom self.new }
         ensures memory { OnErr result (self.new.winds_down ≡ true) }
         ensures waits { AllWait self.new }
@@ -86,6 +88,7 @@ impl Worker {
             → IsServed s self.new t }
         ensures begins { OnOk result
             (ServesByEachView (R.state region.now) self.old self.new key) }
+        ensures short { OnErr result (ServesShort (R.state region.now) self.old self.new key) }
         ensures rule { HasKeptRoom self.old → HasKeptRoom self.new }
         ensures memory { OnErr result (self.new.winds_down ≡ true) }
         ensures rest { OnlyServes self.old self.new }

@@ -1,5 +1,6 @@
 -- One waiting request is begun, and then the others.
-use Rattle.std.proofs.Common.{◌≡◌, inl, inr, ⊎_elim, ℕ, ◌+◌, ◌<◌, List, length, true, false, Result, Ok, Err, OnOk, refl, sym, ◌∙◌, ap, subst, arith}
+use Rattle.std.specs.Prelude.{Some}
+use Rattle.std.proofs.Common.{◌≡◌, inl, inr, ⊎_elim, ℕ, ◌+◌, ◌<◌, List, length, true, false, Result, Ok, Err, OnOk, OnErr, refl, sym, ◌∙◌, ap, subst, arith}
 use Rattle.std.specs.Prelude.{Vec}
 use Rattle.std.specs.Global.{Global}
 use Rattle.core_worker.specs.declared.types.Place as places
@@ -9,7 +10,7 @@ use Rattle.conflict_queue.specs.Waiting.{waiting}
 use Rattle.core_index.specs.Index.{room_at}
 use Rattle.core_worker.specs.declared.worker.Worker.{Worker}
 use Rattle.core_worker.specs.OwnPlaces.{is_busy}
-use Rattle.core_worker.specs.Beginning.{HasFree, HoldsAside, StandsAside, Begins, BeginsAll}
+use Rattle.core_worker.specs.Beginning.{HasFree, HoldsAside, StandsAside, Begins, BeginsAll, BeginsShort}
 use Rattle.core_worker.specs.Ties.{Stands}
 use Rattle.core_worker.specs.Order.{InOrder}
 use Rattle.core_worker.specs.Serving.{LeadsNothingYet, KeepsLine, OthersWait}
@@ -20,6 +21,10 @@ use Rattle.core_worker.proofs.worker.Worker.+begin_waiting.Goals as goal
 map_ok : {X Y : Type 0} (r : Result X Y) (P Q : Type 0) → (P → Q) → OnOk r P → OnOk r Q
 map_ok (Ok x) P Q f h = f h
 map_ok (Err y) P Q f h = h
+
+map_err : {X Y : Type 0} (r : Result X Y) (P Q : Type 0) → (P → Q) → OnErr r P → OnErr r Q
+map_err (Ok x) P Q f h = h
+map_err (Err y) P Q f h = f h
 
 pub begin-requires-clause-idle : goal.begin-requires-clause-idle
 begin-requires-clause-idle g t c =
@@ -65,7 +70,7 @@ returns-then-is_busy-clause-begins g t c x a S telling =
     let b = c.begin.new.self in
     let u : Worker = record w { queue = q } in
     let begun : Begins u b (v.cell c.args.key) h.number h.request = subst (λ (k : ℕ). Begins u b (v.cell k) h.number h.request) fk (c.in-Ok.ensures.begins x (taken_aside w q c.args.key h T x a) (taken_stands (g.R.Region.state c.args.region.now) x w q S) telling) in
-    subst (λ (hs : List Held). BeginsAll hs w b (v.cell c.args.key) c.args.key) (sym T.key) (u, b, T, refl, begun, inl (sym c.is_busy.ensures ∙ c.if-is_busy.true, refl))
+    subst (λ (hs : List Held). BeginsAll hs w b (v.cell c.args.key) c.args.key) (sym T.key) (u, b, T, refl, c.begin.ensures.rest, begun, inl (sym c.is_busy.ensures ∙ c.if-is_busy.true, refl))
 
 pub begin_waiting-requires : goal.begin_waiting-requires
 begin_waiting-requires g t c κs within =
@@ -144,7 +149,7 @@ returns-in-Ok-clause-begins g t c =
     let K = c.in-Ok.ensures.keeps x a' in
     let begun : Begins u b (v.cell c.args.key) h.number h.request = subst (λ (k : ℕ). Begins u b (v.cell k) h.number h.request) fk (c.in-Ok.ensures.begins x a' S' telling) in
     let more : BeginsAll (waiting q c.args.key) b z (v.cell c.args.key) c.args.key = subst (λ (y : List Held). BeginsAll (waiting y c.args.key) b z (v.cell c.args.key) c.args.key) (ap (λ (y : Worker). y.queue) c.begin.ensures.rest) (rest x (record { holds = K.holds; own = a.own }) (K.stands s S') telling) in
-    subst (λ (hs : List Held). BeginsAll hs w z (v.cell c.args.key) c.args.key) (sym T.key) (u, b, T, refl, begun, inr (sym c.is_busy.ensures ∙ c.if-is_busy.false, more))) c.begin_waiting.ensures.begins
+    subst (λ (hs : List Held). BeginsAll hs w z (v.cell c.args.key) c.args.key) (sym T.key) (u, b, T, refl, c.begin.ensures.rest, begun, inr (sym c.is_busy.ensures ∙ c.if-is_busy.false, more))) c.begin_waiting.ensures.begins
 
 pub returns-in-Err-clause-rule : goal.returns-in-Err-clause-rule
 returns-in-Err-clause-rule g t c h = c.begin.ensures.rule h
@@ -203,3 +208,35 @@ returns-in-Ok-clause-order g t c x a O =
     let line : KeepsLine u b c.args.key = subst (λ (k : ℕ). KeepsLine u b k) fk c.in-Ok.ensures.line in
     let K = c.in-Ok.ensures.keeps x (taken_aside w q c.args.key h T x a) in
     c.begin_waiting.ensures.order x (record { holds = K.holds; own = a.own }) (order_begun x.place x.number x.view w b q c.args.key h T c.requires.hand O a.holds c.begin.ensures.rest line)
+
+pub returns-in-Err-clause-short : goal.returns-in-Err-clause-short
+returns-in-Err-clause-short g t c x a S telling =
+    let w = c.args.self.now in
+    let q = c.release.new.self in
+    let h = c.in-Some.held in
+    let T = c.in-Some.ensures.taken in
+    let u : Worker = record w { queue = q } in
+    let same = c.in-Err.ensures.unchanged in
+    let back = c.in-Err.ensures.given_back in
+    subst (λ (hs : List Held). BeginsShort hs w (record c.begin.new.self { in_hand = Some (record { number = h.number; request = c.in-Err.back.request }); winds_down = true }) (x.view.cell c.args.key) c.args.key) (sym T.key)
+    (u, T, refl, inl (λ i. record (same i) { in_hand = Some (record { number = h.number; request = back i }); winds_down = true }))
+
+pub returns-in-Ok-clause-short : goal.returns-in-Ok-clause-short
+returns-in-Ok-clause-short g t c =
+    let w = c.args.self.now in
+    let q = c.release.new.self in
+    let h = c.in-Some.held in
+    let T = c.in-Some.ensures.taken in
+    let fk = first_key w.queue q c.args.key h T in
+    let b = c.begin.new.self in
+    let u : Worker = record w { queue = q } in
+    let z = c.begin_waiting.new.self in
+    let s = g.R.Region.state c.args.region.now in
+    map_err c.begin_waiting.result _ _ (λ rest x a S telling.
+    let v = x.view in
+    let a' = taken_aside w q c.args.key h T x a in
+    let S' = taken_stands s x w q S in
+    let K = c.in-Ok.ensures.keeps x a' in
+    let begun : Begins u b (v.cell c.args.key) h.number h.request = subst (λ (k : ℕ). Begins u b (v.cell k) h.number h.request) fk (c.in-Ok.ensures.begins x a' S' telling) in
+    let more : BeginsShort (waiting q c.args.key) b z (v.cell c.args.key) c.args.key = subst (λ (y : List Held). BeginsShort (waiting y c.args.key) b z (v.cell c.args.key) c.args.key) (ap (λ (y : Worker). y.queue) c.begin.ensures.rest) (rest x (record { holds = K.holds; own = a.own }) (K.stands s S') telling) in
+    subst (λ (hs : List Held). BeginsShort hs w z (v.cell c.args.key) c.args.key) (sym T.key) (u, T, refl, inr (b, c.begin.ensures.rest, begun, sym c.is_busy.ensures ∙ c.if-is_busy.false, more))) c.begin_waiting.ensures.short

@@ -1,5 +1,5 @@
 -- What waits of a key is begun, but by a core that winds down.
-use Rattle.core_worker.proofs.Served.{held_aside, served_none, served_all, serves_all}
+use Rattle.core_worker.proofs.Served.{held_aside, served_none, served_all, serves_all, serves_short}
 use Rattle.core_worker.proofs.worker.Worker.serve.Goals as goal
 
 pub returns-then-self-clause-ties : goal.returns-then-self-clause-ties
@@ -19,3 +19,6 @@ returns-clause-ties g c s t T = served_all s c.args.self.now c.begin_waiting.new
 
 pub returns-clause-begins : goal.returns-clause-begins
 returns-clause-begins g c = serves_all c.begin_waiting.result (g.R.Region.state c.args.region.now) c.args.self.now c.begin_waiting.new.self c.args.key c.if-self.false c.begin_waiting.ensures.begins
+
+pub returns-clause-short : goal.returns-clause-short
+returns-clause-short g c = serves_short c.begin_waiting.result (g.R.Region.state c.args.region.now) c.args.self.now c.begin_waiting.new.self c.args.key c.if-self.false c.begin_waiting.ensures.short
