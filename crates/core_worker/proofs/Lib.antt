@@ -47,3 +47,4 @@ mod LeftSums
 mod LeftSteps
 mod LeftWorkers
 mod ServedLines
+mod LeftItems
