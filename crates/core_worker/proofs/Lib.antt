@@ -48,3 +48,5 @@ mod LeftSteps
 mod LeftWorkers
 mod ServedLines
 mod LeftItems
+mod LeftOwn
+mod LeftLooks
