@@ -50,3 +50,4 @@ mod ServedLines
 mod LeftItems
 mod LeftOwn
 mod LeftLooks
+mod LeftRounds
