@@ -51,3 +51,4 @@ mod LeftItems
 mod LeftOwn
 mod LeftLooks
 mod LeftRounds
+mod LeftLocks

@@ -71,6 +71,10 @@ abbrev pub any_offers : (ℕ → Slot) → ℕ → Bool
 any_offers slots zero = false
 any_offers slots (suc n) = offers (slots n) || any_offers slots n
 
+-- a member has an own change Posted, where the state is told
+abbrev pub HasOffer : Option Group → ℕ → Type 0
+HasOffer before m = IfSome before (λ w. any_offers (w.slot m) 8 ≡ true)
+
 -- The lock is taken by a member with an own change Posted, and given back when it has taken some, or has none Posted any more. So taking it and giving it back for nothing don't go on for ever.
 abbrev pub lock_left : Option ℕ → (ℕ → ℕ → Slot) → ℕ
 lock_left None slot = 1
