@@ -56,7 +56,7 @@ collects_lower before after m a b C lawful made =
     let now = ap leading_left C.leads_now ∙ ap taken_left C.went.0.taken ∙ taken_more (taken_by C.old) C.went.0.change in
     omega (arith, looked, way, group, same, now))
 
-offered : (x : Slot) → offers x ≡ true → (e : Entry) × (x ≡ slots.Posted e)
+pub offered : (x : Slot) → offers x ≡ true → (e : Entry) × (x ≡ slots.Posted e)
 offered slots.Empty is = absurd (cc is)
 offered (slots.Posted e) is = (e, refl)
 offered slots.Taken is = absurd (cc is)
@@ -64,11 +64,11 @@ offered (slots.Done e h) is = absurd (cc is)
 offered (slots.Failed e) is = absurd (cc is)
 
 -- own slots are the first of the round
-own_member : (m s : ℕ) → s < 8 → member_at m s ≡ m
+pub own_member : (m s : ℕ) → s < 8 → member_at m s ≡ m
 unfolding member_at
 own_member m s lt = grind (arith, nat_tests)
 
-own_slot : (s : ℕ) → s < 8 → slot_at s ≡ s
+pub own_slot : (s : ℕ) → s < 8 → slot_at s ≡ s
 own_slot s lt = omega (arith, lt)
 
 none_some : (ts : List Taken) → ts ≢ [] → taken_left ts ≡ 3

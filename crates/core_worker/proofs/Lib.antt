@@ -52,3 +52,4 @@ mod LeftOwn
 mod LeftLooks
 mod LeftRounds
 mod LeftLocks
+mod LeftBacks
