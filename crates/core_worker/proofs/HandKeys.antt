@@ -21,11 +21,11 @@ use Rattle.core_worker.specs.Ties.{Holds}
 use Rattle.core_worker.specs.WorkerMoves.{Placed, placed_in, placed_for, hands_of, HoldsKey}
 use Rattle.core_worker.proofs.Quiet.{found_at}
 
-abbrev asks : View → ℕ → Body → Request
+abbrev pub asks : View → ℕ → Body → Request
 asks v k b = request_by k (bytes_or (left_in v.blocks b)) b
 
 -- the request of a posted change is one that changes the cell to what the entry leaves
-body_holds : (v : View) (k : ℕ) (b : Body) → Offers v k b → (is_change (asks v k b) (v.cell k) ≡ true) × (left_in v.blocks b ≡ cell_after (asks v k b) (v.cell k))
+pub body_holds : (v : View) (k : ℕ) (b : Body) → Offers v k b → (is_change (asks v k b) (v.cell k) ≡ true) × (left_in v.blocks b ≡ cell_after (asks v k b) (v.cell k))
 body_holds v k (bodies.Pointer q) o = (refl, (let left : left_in v.blocks (bodies.Pointer q) ≡ Some o.0 = ap bytes_of o.1 in left ∙ ap (λ c. Some (bytes_or c)) (sym left)))
 body_holds v k (bodies.Embedded u) o = (refl, refl)
 body_holds v k bodies.Tombstone o = (by_cell (v.cell k) o, refl) where

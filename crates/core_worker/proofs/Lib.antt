@@ -40,6 +40,9 @@ pub mod PuttingBack
 pub mod Settling
 pub mod TakingBack
 pub mod Served
+pub mod Dropping
+pub mod DropServed
+pub mod Withdrawing
 mod Members
 mod Unpledging
 mod BatchRoom
@@ -53,3 +56,6 @@ mod LeftLooks
 mod LeftRounds
 mod LeftLocks
 mod LeftBacks
+mod LetGoMoves
+mod FinishMoves
+mod StopMoves

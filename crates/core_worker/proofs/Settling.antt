@@ -90,12 +90,12 @@ unfolding key_or
 block_key v q k b u x y = ap key_or (sym x ∙ y)
 
 -- which blocks are left of a key once a change of it is finished
-points_is : (b : Body) (q : ℕ) → points_at b q ≡ true → b ≡ bodies.Pointer q
+pub points_is : (b : Body) (q : ℕ) → points_at b q ≡ true → b ≡ bodies.Pointer q
 points_is (bodies.Pointer x) q e = ap bodies.Pointer (sym (eqb-true q x e))
 points_is (bodies.Embedded y) q e = absurd (cc e)
 points_is bodies.Tombstone q e = absurd (cc e)
 
-points_has : (b : Body) (q : ℕ) → b ≡ bodies.Pointer q → points_at b q ≡ true
+pub points_has : (b : Body) (q : ℕ) → b ≡ bodies.Pointer q → points_at b q ≡ true
 points_has b q e = ap (λ (x : Body). points_at x q) e ∙ eq-eqb q q refl
 
 module _ (k : ℕ) (body : Body) (old : ℕ → Option Block) where

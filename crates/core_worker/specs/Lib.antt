@@ -8,6 +8,7 @@ pub mod Beginning
 pub mod Serving
 pub mod Hearing
 pub mod Finishing
+pub mod Stopping
 pub mod Accepting
 pub mod Turns
 pub mod Searching

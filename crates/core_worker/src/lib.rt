@@ -13,6 +13,7 @@ mod refusing;
 mod releasing;
 mod searching;
 mod status;
+mod stopping;
 mod supply;
 mod turning;
 mod types;

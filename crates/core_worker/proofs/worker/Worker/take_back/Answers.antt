@@ -2,7 +2,7 @@
 use Rattle.std.proofs.Common.{◌≡◌, true, sym, ◌∙◌, ap}
 use Rattle.core_worker.specs.declared.worker.Worker.{Worker}
 use Rattle.core_worker.proofs.Served.{to_serve, finishes_slot}
-use Rattle.core_worker.proofs.ServedLines.{lines_all}
+use Rattle.core_worker.proofs.FinishMoves.{finish_moves}
 use Rattle.core_worker.proofs.worker.Worker.take_back.Goals as goal
 
 pub serve-requires-clause-tied : goal.serve-requires-clause-tied

@@ -1,0 +1,188 @@
+-- A change that was given back is finished: a whole move to whoever runs several workers.
+use Rattle.std.proofs.Common.{◌≡◌, ◌≢◌, ◌⊎◌, inl, inr, ⊎_elim, ℕ, ◌<◌, Bool, true, false, cond, ◌&&◌, not, List, [], ◌∷◌, ◌++◌, Option, Some, None, refl, sym, ◌∙◌, ap, subst}
+use Rattle.std.specs.Prelude.{MatchOption, option_map, IfSome}
+use Rattle.std.proofs.lemmas.Bool.{eq-eqb, ne_eqb}
+use Rattle.fs_model.specs.declared.model.Request.{Request}
+use Rattle.fs_model.specs.declared.model.Request.TheVariants.{Delete}
+use Rattle.fs_model.specs.declared.model.Reply.{Reply}
+use Rattle.fs_model.specs.declared.model.Reply.TheVariants as replies
+use Rattle.fs_model.specs.Cells.{key_of, cell_after}
+use Rattle.fs_model.specs.Lawful.{MayReply, cell_left, is_finish}
+use Rattle.pm_region.specs.State.{State, IsTelling}
+use Rattle.log_entry.specs.declared.entry.Entry.{Entry}
+use Rattle.log_entry.specs.declared.entry.Body.{Body}
+use Rattle.log_entry.specs.declared.entry.Body.TheVariants as bodies
+use Rattle.group_laws.specs.declared.types.Block.{Block}
+use Rattle.group_laws.specs.declared.types.Pending.{Pending}
+use Rattle.group_laws.specs.declared.types.Slot.TheVariants.{Failed}
+use Rattle.group_laws.specs.Places.{Place, core_of, owner}
+use Rattle.group_laws.specs.State.{Group}
+use Rattle.group_laws.specs.Runs as runs
+use Rattle.group_laws.specs.Steps.{points_at, is_of, only_own}
+use Rattle.group_laws.specs.MemberViews.{View}
+use Rattle.group_board.specs.Seats.{SeatAt}
+use Rattle.group_board.specs.Told.{Makes}
+use Rattle.group_board.specs.Views.{after_finish, after_give_up, left_in, TidiedIn}
+use Rattle.core_worker.specs.declared.types.Answer.{Answer}
+use Rattle.core_worker.specs.declared.types.Place as places
+use Rattle.core_worker.specs.declared.types.Place.TheVariants.{Free, Staged, Posted}
+use Rattle.core_worker.specs.declared.worker.Worker.{Worker}
+use Rattle.core_worker.specs.OwnPlaces.{place_at, key_in, Replaces, request_by, request_pending, bytes_or}
+use Rattle.core_worker.specs.KeyTies.{IsPlaced, Offers}
+use Rattle.core_worker.specs.Ties.{Holds, HoldsAt, StandsAt}
+use Rattle.core_worker.specs.Turns.{InOrderAt, Steps}
+use Rattle.core_worker.specs.Beginning.{answers_of, answer_with}
+use Rattle.core_worker.specs.Finishing.{number_in, LetsGo, Settles, done_reply, reply_back, Serves, ShortOf, FinishesSlot, StopsByFailed}
+use Rattle.core_worker.specs.Turning.{TurnMoves}
+use Rattle.core_worker.specs.WorkerMoves.{Placed, placed_in}
+use Rattle.core_worker.proofs.HandKeys.{asks, body_holds}
+use Rattle.core_worker.proofs.LetGoMoves.{LetGo, let_go_turn}
+use Rattle.core_worker.proofs.Made.{one_step}
+
+pub asks_key : (k : ℕ) (value : List ℕ) (b : Body) → key_of (request_by k value b) ≡ k
+asks_key k value (bodies.Pointer q) = refl
+asks_key k value (bodies.Embedded u) = refl
+asks_key k value bodies.Tombstone = refl
+
+done_may : (k : ℕ) (value : List ℕ) (b : Body) (c : Option (List ℕ)) → (b ≡ bodies.Tombstone → c ≢ None) → MayReply (request_by k value b) c false (done_reply b)
+done_may k value (bodies.Pointer q) c live = inl refl
+done_may k value (bodies.Embedded u) c live = inl refl
+done_may k value bodies.Tombstone None live = absurd (live refl refl)
+done_may k value bodies.Tombstone (Some u) live = inl refl
+
+done_left : (k : ℕ) (value : List ℕ) (b : Body) (c : Option (List ℕ)) → cell_left (request_by k value b) (done_reply b) c ≡ cell_after (request_by k value b) c
+done_left k value (bodies.Pointer q) c = refl
+done_left k value (bodies.Embedded u) c = refl
+done_left k value bodies.Tombstone c = refl
+
+done_runs : (b : Body) → done_reply b ≢ replies.Stopped
+done_runs (bodies.Pointer q) e = absurd (cc e)
+done_runs (bodies.Embedded u) e = absurd (cc e)
+done_runs bodies.Tombstone e = absurd (cc e)
+
+done_ends : (b : Body) → is_finish (done_reply b) ≡ true
+done_ends (bodies.Pointer q) = refl
+done_ends (bodies.Embedded u) = refl
+done_ends bodies.Tombstone = refl
+
+live_of : (v : View) (k : ℕ) (b : Body) → Offers v k b → b ≡ bodies.Tombstone → v.cell k ≢ None
+live_of v k (bodies.Pointer q) o e = absurd (cc e)
+live_of v k (bodies.Embedded u) o e = absurd (cc e)
+live_of v k bodies.Tombstone o e = o
+
+abbrev pub number_or : ℕ → Option ℕ → ℕ
+number_or d None = d
+number_or d (Some n) = n
+
+abbrev pub entry_or : Entry → Option Pending → Entry
+entry_or d None = d
+entry_or d (Some q) = q.entry
+
+module _ (seat : SeatAt) (s : State) (before after : Option Group) (v u : View) (w f x : Worker) (slot : ℕ) (lt : slot < 8) (H : HoldsAt seat v w) (N : HoldsAt seat u x) (S : StandsAt s seat v w) (T : StandsAt s seat u x) (O : InOrderAt seat v w) (number lines : ℕ) (e : Entry) (place : place_at w.places.items slot ≡ Posted number e.key lines) (pending : v.pending e.key ≡ Some (record { entry = e; slot = Some slot })) (mid : Worker) (made : Steps before after seat.number u) (serves : Serves f x (u.cell e.key) e.key ⊎ ShortOf f x (u.cell e.key) e.key) (stopped : x.stopped ≡ f.stopped) (cause : StopsByFailed before seat.number w x) where
+  abbrev pl : Placed
+  pl = record { number = number; request = asks v e.key e.body; posted = true }
+
+  posted_here : IsPlaced seat.place seat.number v slot (Posted number e.key lines)
+  posted_here = subst (IsPlaced seat.place seat.number v slot) place (H.placed slot lt)
+
+  own : owner seat.place e.key ≡ seat.number
+  own = posted_here.3
+
+  offers : Offers v e.key e.body
+  offers = subst (λ (d : Entry). Offers v e.key d.body) (ap (entry_or e) (sym posted_here.1 ∙ pending)) posted_here.4
+
+  held : placed_in v (place_at w.places.items slot) ≡ Some pl
+  held = ap (placed_in v) place ∙ ap (λ o. option_map (λ r. record { number = number; request = r; posted = true }) (request_pending v e.key o)) pending
+
+  same_number : (n : ℕ) → mid.places ≡ w.places → number_in (place_at mid.places.items slot) ≡ Some n → n ≡ number
+  same_number n same was = ap (number_or n) (sym was ∙ ap (λ ps. number_in (place_at ps.items slot)) same ∙ ap number_in place)
+
+  answered : (reply : Reply) → (G : LetsGo mid f slot reply) → mid.places ≡ w.places → mid.answers ≡ w.answers → answers_of f ≡ answers_of w ++ answer_with number reply None ∷ []
+  answered reply G same also = G.answers ∙ (λ i. (also i).items ++ answer_with (same_number G.number same G.was i) reply None ∷ [])
+
+  freed : (reply : Reply) → (G : LetsGo mid f slot reply) → mid.places ≡ w.places → Replaces w.places.items f.places.items slot Free
+  freed reply G same = subst (λ ps. Replaces ps.items f.places.items slot Free) same G.places
+
+  -- it was not written: it is in doubt, and the core stops
+  failed : TidiedIn seat.place seat.number (after_give_up e v) u → mid ≡ record w { stopped = true } → LetsGo mid f slot replies.Stopped → TurnMoves seat s s before after v u w x
+  failed view same G =
+      let is = view.4 in
+      let_go_turn seat s before after v u w f x e.key slot pl replies.Stopped (record {
+        H = H;
+        N = N;
+        hand_of = O.hand;
+        own = own;
+        key = ap key_in place;
+        held = held;
+        of_key = asks_key e.key (bytes_or (left_in v.blocks e.body)) e.body;
+        R = freed replies.Stopped G (ap (λ (y : Worker). y.places) same);
+        queue = ap (λ (y : Worker). y.queue) G.rest ∙ ap (λ (y : Worker). y.queue) same;
+        hand = ap (λ (y : Worker). y.in_hand) G.rest ∙ ap (λ (y : Worker). y.in_hand) same;
+        winds = ap (λ (y : Worker). y.winds_down) G.rest ∙ ap (λ (y : Worker). y.winds_down) same;
+        answers = answered replies.Stopped G (ap (λ (y : Worker). y.places) same) (ap (λ (y : Worker). y.answers) same);
+        may = inr refl;
+        left = sym (ap (λ (y : View). y.cell e.key) is);
+        halts = λ r. ap (λ (y : Worker). y.stopped) G.rest ∙ ap (λ (y : Worker). y.stopped) same;
+        stays = λ r. ap (λ (y : Worker). y.stopped) G.rest ∙ ap (λ (y : Worker). y.stopped) same;
+        ends = inr refl;
+        doubt = λ d now. inr (slot, refl, refl, in_doubt d (ap (entry_or d) (sym (here is) ∙ now)), ap (λ (y : View). left_in y.blocks d.body) is);
+        cells = λ j ne. ap (λ (y : View). y.cell j) is;
+        pendings = λ j ne. ap (λ (y : View). y.pending j) is ∙ ap (λ b. cond b (Some (record { entry = e; slot = None })) (v.pending j)) (ne_eqb j e.key ne);
+        blocks = λ q b has ne. ap (λ (y : View). y.blocks q) is;
+        serves = serves;
+      }) S T made (λ is. cause (stopped ∙ is))
+    where
+      here : {last : ℕ → ℕ} {told dead : ℕ → ℕ → Bool} → u ≡ record (after_give_up e v) { last = last; told = told; dead = dead } → u.pending e.key ≡ Some (record { entry = e; slot = None })
+      here is = ap (λ (y : View). y.pending e.key) is ∙ ap (λ b. cond b (Some (record { entry = e; slot = None })) (v.pending e.key)) (eq-eqb e.key e.key refl)
+
+      in_doubt : (d : Entry) → e ≡ d → v.pending e.key ≡ Some (record { entry = d; slot = Some slot })
+      in_doubt d same = pending ∙ ap (λ (y : Entry). Some (record { entry = y; slot = Some slot })) same
+
+  -- it is certain in the log of its home
+  done : (home core : ℕ) → TidiedIn seat.place seat.number (after_finish e home v) u → Settles w mid e core → LetsGo mid f slot (done_reply e.body) → TurnMoves seat s s before after v u w x
+  done home core view Z G =
+      let is = view.4 in
+      let same = Z.rest in
+      let_go_turn seat s before after v u w f x e.key slot pl (done_reply e.body) (record {
+        H = H;
+        N = N;
+        hand_of = O.hand;
+        own = own;
+        key = ap key_in place;
+        held = held;
+        of_key = asks_key e.key (bytes_or (left_in v.blocks e.body)) e.body;
+        R = freed (done_reply e.body) G (ap (λ (y : Worker). y.places) same);
+        queue = ap (λ (y : Worker). y.queue) G.rest ∙ ap (λ (y : Worker). y.queue) same;
+        hand = ap (λ (y : Worker). y.in_hand) G.rest ∙ ap (λ (y : Worker). y.in_hand) same;
+        winds = ap (λ (y : Worker). y.winds_down) G.rest ∙ ap (λ (y : Worker). y.winds_down) same;
+        answers = answered (done_reply e.body) G (ap (λ (y : Worker). y.places) same) (ap (λ (y : Worker). y.answers) same);
+        may = done_may e.key (bytes_or (left_in v.blocks e.body)) e.body (v.cell e.key) (live_of v e.key e.body offers);
+        left = done_left e.key (bytes_or (left_in v.blocks e.body)) e.body (v.cell e.key) ∙ sym (body_holds v e.key e.body offers).1 ∙ sym (ap (λ (y : View). y.cell e.key) is ∙ ap (λ b. cond b (left_in v.blocks e.body) (v.cell e.key)) (eq-eqb e.key e.key refl));
+        halts = λ r. absurd (done_runs e.body r);
+        stays = λ r. ap (λ (y : Worker). y.stopped) G.rest ∙ ap (λ (y : Worker). y.stopped) same ∙ r;
+        ends = inl (done_ends e.body);
+        doubt = λ d now. absurd (let both : None ≡ Some (record { entry = d; slot = None }) = sym (ap (λ (y : View). y.pending e.key) is ∙ ap (λ b. cond b None (v.pending e.key)) (eq-eqb e.key e.key refl)) ∙ now in cc both);
+        cells = λ j ne. ap (λ (y : View). y.cell j) is ∙ ap (λ b. cond b (left_in v.blocks e.body) (v.cell j)) (ne_eqb j e.key ne);
+        pendings = λ j ne. ap (λ (y : View). y.pending j) is ∙ ap (λ b. cond b None (v.pending j)) (ne_eqb j e.key ne);
+        blocks = λ q b has ne. ap (λ (y : View). y.blocks q) is ∙ kept q b has ne;
+        serves = serves;
+      }) S T made (λ is. cause (stopped ∙ is))
+    where
+      kept : (q : ℕ) (b : Block) → v.blocks q ≡ Some b → b.key ≢ e.key → only_own e.key e.body v.blocks q ≡ v.blocks q
+      kept q b has ne = ap (λ o. cond (is_of e.key o && not (points_at e.body q)) None (v.blocks q)) has ∙ ap (λ t. cond (t && not (points_at e.body q)) None (v.blocks q)) (ne_eqb b.key e.key ne)
+
+  pub by_home : (home : Option ℕ) → MatchOption home (TidiedIn seat.place seat.number (after_give_up e v) u) (λ h. TidiedIn seat.place seat.number (after_finish e h v) u) → MatchOption home (mid ≡ record w { stopped = true }) (λ h. Settles w mid e (core_of seat.place h)) → LetsGo mid f slot (reply_back home e.body)
+      → TurnMoves seat s s before after v u w x
+  by_home None view same G = failed view same G
+  by_home (Some h) view Z G = done h (core_of seat.place h) view Z G
+
+-- whether or not there was memory for what waited
+pub finish_moves : (seat : SeatAt) (s : State) (before after : Option Group) (v u : View) (w x : Worker) (slot : ℕ) (all : Bool) → slot < 8 → HoldsAt seat v w → HoldsAt seat u x → StandsAt s seat v w → StandsAt s seat u x → InOrderAt seat v w → Makes before seat.number (runs.Kind.Finish slot) after u → StopsByFailed before seat.number w x → IsTelling s
+    → FinishesSlot s seat.place seat.number slot v u w x all → TurnMoves seat s s before after v u w x
+finish_moves seat s before after v u w x slot all lt H N S T O made cause telling F =
+    let t = F.takes in
+    by_home seat s before after v u w F.freed x slot lt H N S T O t.number t.lines t.entry t.place t.pending t.mid (runs.Kind.Finish slot ∷ [], one_step before after seat.number (runs.Kind.Finish slot) u made) (by all refl) (ap (λ (y : Worker). y.stopped) F.rest) cause t.home t.view t.settles t.lets
+  where
+    by : (b : Bool) → all ≡ b → Serves F.freed x (u.cell F.takes.entry.key) F.takes.entry.key ⊎ ShortOf F.freed x (u.cell F.takes.entry.key) F.takes.entry.key
+    by true e = inl (F.begins e telling)
+    by false e = inr (F.short e telling)

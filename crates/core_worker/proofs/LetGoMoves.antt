@@ -1,0 +1,234 @@
+-- A change is let go and what waits of its key is begun: a whole move to whoever runs several workers.
+use Rattle.std.proofs.Common.{◌≡◌, ◌≢◌, ◌⊎◌, inl, inr, ⊎_elim, ℕ, ◌<◌, ◌==◌, ◌||◌, Bool, true, false, cond, List, [], ◌∷◌, ◌++◌, map, length, Option, Some, None, refl, sym, ◌∙◌, ap, subst, arith, append-nil, append_assoc}
+use Rattle.std.specs.Prelude.{option_map, option_to_list, IfSome}
+use Rattle.std.specs.List.{AllByRecursion, filter}
+use Rattle.std.proofs.lemmas.Bool.{cases_eq, eq-eqb, ne_eqb}
+use Rattle.fs_model.specs.declared.model.Request.{Request}
+use Rattle.fs_model.specs.declared.model.Reply.{Reply}
+use Rattle.fs_model.specs.declared.model.Reply.TheVariants as replies
+use Rattle.fs_model.specs.Cells.{key_of}
+use Rattle.fs_model.specs.Lawful.{MayReply, IsLawfulFor, cell_left, cell_of, is_finish, is_stopped}
+use Rattle.pm_region.specs.State.{State, IsTelling, Rose}
+use Rattle.pm_region.proofs.Moments.{started}
+use Rattle.pm_region.proofs.Runs.{all_kept}
+use Rattle.log_entry.specs.declared.entry.Entry.{Entry}
+use Rattle.log_entry.specs.declared.entry.Body.{Body}
+use Rattle.log_entry.specs.declared.entry.Body.TheVariants as bodies
+use Rattle.store_image.specs.Facts.{In}
+use Rattle.conflict_queue.specs.declared.types.Held.{Held}
+use Rattle.conflict_queue.specs.Waiting.{waiting}
+use Rattle.group_laws.specs.declared.types.Block.{Block}
+use Rattle.group_laws.specs.declared.types.Pending.{Pending}
+use Rattle.group_laws.specs.declared.types.Slot.TheVariants.{Failed}
+use Rattle.group_laws.specs.Places.{Place, owner}
+use Rattle.group_laws.specs.State.{Group}
+use Rattle.group_laws.specs.Steps.{bytes_of}
+use Rattle.group_laws.specs.MemberViews.{View}
+use Rattle.group_board.specs.Views.{left_in}
+use Rattle.licence.specs.Licence.{Licensed, part_at, part_end}
+use Rattle.core_worker.specs.declared.types.Answer.{Answer}
+use Rattle.core_worker.specs.declared.types.Place as places
+use Rattle.core_worker.specs.declared.types.Place.TheVariants.{Free, Staged, Posted}
+use Rattle.core_worker.specs.declared.worker.Worker.{Worker}
+use Rattle.core_worker.specs.OwnPlaces.{place_at, key_in, is_busy, AreApart, Replaces, request_by, request_pending, bytes_or}
+use Rattle.core_worker.specs.KeyTies.{IsPlaced, Offers}
+use Rattle.core_worker.specs.Ties.{Holds, Stands}
+use Rattle.core_worker.specs.Turns.{Steps}
+use Rattle.core_worker.specs.Beginning.{answers_of, answer_with}
+use Rattle.core_worker.specs.Finishing.{Serves, ShortOf}
+use Rattle.core_worker.specs.Turning.{TurnMoves}
+use Rattle.group_board.specs.Seats.{SeatAt}
+use Rattle.core_worker.specs.WorkerMoves.{Placed, Hands, Fixed, told, asked, replied, placed, line_in, placed_in, placed_for, asked_by, hands_of, fixed_of, requests_for, AnswersKey, WorkerMoves}
+use Rattle.core_worker.proofs.HandKeys.{none_for, holds_key}
+use Rattle.core_worker.proofs.HandPlaces.{held_at, held_beside}
+use Rattle.core_worker.proofs.Posts.{busy_by, busy_has}
+use Rattle.core_worker.proofs.PostMoves.{kept_key}
+use Rattle.core_worker.proofs.QuietMoves.{runs_in}
+use Rattle.core_worker.proofs.ServedLines.{Line, lawful_before, lines_all, lines_short, line_kept}
+
+-- all are of the key, or none is
+fixed_all : (k : ℕ) (fs : List Fixed) → ((y : Fixed) → In y fs → key_of y.request ≡ k) → fixed_of k fs ≡ fs
+fixed_all k [] keys = refl
+fixed_all k (x ∷ xs) keys = (λ i. cond (eq-eqb (key_of x.request) k (keys x (inl refl)) i) (x ∷ fixed_all k xs (λ y at. keys y (inr at)) i) (fixed_of k xs))
+
+fixed_none : (j k : ℕ) (fs : List Fixed) → j ≢ k → ((y : Fixed) → In y fs → key_of y.request ≡ k) → fixed_of j fs ≡ []
+fixed_none j k [] ne keys = refl
+fixed_none j k (x ∷ xs) ne keys = (λ i. cond (ne_eqb (key_of x.request) j (λ e. ne (sym e ∙ keys x (inl refl))) i) (x ∷ fixed_of j xs) (fixed_of j xs)) ∙ fixed_none j k xs ne (λ y at. keys y (inr at))
+
+-- what another place holds, where its pending change and its block stay
+pub in_kept : (p : Place) (m : ℕ) (v u : View) (s j : ℕ) (y : places.Place) → IsPlaced p m v s y → key_in y ≡ Some j → u.pending j ≡ v.pending j → ((q : ℕ) (b : Block) → v.blocks q ≡ Some b → b.key ≡ j → u.blocks q ≡ v.blocks q) → placed_in u y ≡ placed_in v y
+in_kept p m v u s j Free is has pending blocks = refl
+in_kept p m v u s j (Staged n d z) is has pending blocks = refl
+in_kept p m v u s j (Posted n i l) is has pending blocks =
+    let at : i ≡ j = cc has in
+    let old : request_pending v i (v.pending i) ≡ request_pending v i (Some (record { entry = is.0; slot = Some s })) = ap (request_pending v i) is.1 in
+    let new : request_pending u i (u.pending i) ≡ request_pending u i (Some (record { entry = is.0; slot = Some s })) = ap (request_pending u i) (ap u.pending at ∙ pending ∙ ap v.pending (sym at) ∙ is.1) in
+    ap (option_map (λ r. record { number = n; request = r; posted = true })) (new ∙ ap Some (by is.0.body is.4 at) ∙ sym old)
+  where
+    by : (b : Body) → Offers v i b → i ≡ j → request_by i (bytes_or (left_in u.blocks b)) b ≡ request_by i (bytes_or (left_in v.blocks b)) b
+    by (bodies.Pointer q) o at = ap (λ d. request_by i (bytes_or (bytes_of d)) (bodies.Pointer q)) (blocks q (record { key = i; bytes = o.0 }) o.1 at)
+    by (bodies.Embedded z) o at = refl
+    by bodies.Tombstone o at = refl
+
+module _ (p : Place) (m : ℕ) (v u : View) (w f x : Worker) (k slot : ℕ) (H : Holds p m v w) (N : Holds p m u x) (hand_of : w.winds_down ≡ false → w.in_hand ≡ None) (own : owner p k ≡ m)
+    (pl : Placed) (key : key_in (place_at w.places.items slot) ≡ Some k) (held : placed_in v (place_at w.places.items slot) ≡ Some pl) (of_key : key_of pl.request ≡ k) (R : Replaces w.places.items f.places.items slot Free)
+    (queue : f.queue ≡ w.queue) (hand : f.in_hand ≡ w.in_hand) (winds : f.winds_down ≡ w.winds_down)
+    (reply : Reply) (answers : answers_of f ≡ answers_of w ++ answer_with pl.number reply None ∷ []) (may : MayReply pl.request (v.cell k) false reply) (left : cell_left pl.request reply (v.cell k) ≡ u.cell k)
+    (halts : reply ≡ replies.Stopped → f.stopped ≡ true) (stays : w.stopped ≡ true → f.stopped ≡ true) (ends : (is_finish reply ≡ true) ⊎ (reply ≡ replies.Stopped))
+    (doubt : (d : Entry) → u.pending k ≡ Some (record { entry = d; slot = None }) → (v.pending k ≡ Some (record { entry = d; slot = None })) ⊎ ((s : ℕ) × (pl.posted ≡ true) × (reply ≡ replies.Stopped) × (v.pending k ≡ Some (record { entry = d; slot = Some s })) × (left_in u.blocks d.body ≡ left_in v.blocks d.body)))
+    (cells : (j : ℕ) → j ≢ k → u.cell j ≡ v.cell j) (pendings : (j : ℕ) → j ≢ k → u.pending j ≡ v.pending j) (blocks : (q : ℕ) (b : Block) → v.blocks q ≡ Some b → b.key ≢ k → u.blocks q ≡ v.blocks q)
+    (serves : Serves f x (u.cell k) k ⊎ ShortOf f x (u.cell k) k) where
+
+  idle : is_busy f.places.items k ≡ false
+  idle = by (is_busy f.places.items k) refl where
+    by : (b : Bool) → is_busy f.places.items k ≡ b → is_busy f.places.items k ≡ false
+    by false e = e
+    by true e =
+        let at = busy_has f.places.items k e in
+        let ne : at.0 ≢ slot = λ same. (let both : None ≡ Some k = sym (ap key_in R.here) ∙ ap (λ n. key_in (place_at f.places.items n)) (sym same) ∙ at.2 in cc both) in
+        absurd (ne (H.apart at.0 slot k (ap key_in (sym (R.others at.0 ne)) ∙ at.2) key))
+
+  apart : AreApart f.places.items
+  apart s t j a b =
+      let was : (n : ℕ) → key_in (place_at f.places.items n) ≡ Some j → key_in (place_at w.places.items n) ≡ Some j =
+          λ n e. ap key_in (sym (R.others n (λ same. (let both : None ≡ Some j = sym (ap key_in R.here) ∙ ap (λ i. key_in (place_at f.places.items i)) (sym same) ∙ e in cc both)))) ∙ e in
+      H.apart s t j (was s a) (was t b)
+
+  waits_none : f.in_hand ≡ None → map asked_by (waiting f.queue k) ≡ (hands_of v w).waits k
+  waits_none none = sym ((λ i. map asked_by (filter (λ h. key_of h.request == k) (option_to_list ((sym hand ∙ none) i)) ++ waiting (sym queue i) k)))
+
+  -- the line of the key
+  lines : (hs : List Held) × (fs : List Fixed) × Line u f x k (u.cell k) hs fs × (map asked_by hs ≡ (hands_of v w).waits k)
+  lines = ⊎_elim
+      (λ s. ⊎_elim
+      (λ ends. (
+        filter (λ h. key_of h.request == k) (option_to_list f.in_hand) ++ waiting f.queue k,
+        [],
+        subst (λ (y : Worker). Line u f y k (u.cell k) (filter (λ h. key_of h.request == k) (option_to_list f.in_hand) ++ waiting f.queue k) []) (sym ends.1) (line_kept u k (u.cell k) f idle),
+        (λ i. map asked_by (filter (λ h. key_of h.request == k) (option_to_list (hand i)) ++ waiting (queue i) k)),
+      ))
+      (λ on. let none = hand ∙ hand_of (sym winds ∙ on.0) in let L = lines_all u k (u.cell k) (waiting f.queue k) f x on.1 none idle apart refl in (waiting f.queue k, L.0, L.1, waits_none none)) s)
+      (λ short. let none = hand ∙ hand_of (sym winds ∙ short.0) in let L = lines_short u k (u.cell k) (waiting f.queue k) f x short.1 none idle apart refl in (waiting f.queue k, L.0, L.1, waits_none none))
+      serves
+
+  fs : List Fixed
+  fs = lines.1
+
+  L : Line u f x k (u.cell k) lines.0 fs
+  unfolding fs
+  L = lines.2
+
+  waits_is : map asked_by lines.0 ≡ (hands_of v w).waits k
+  waits_is = lines.3
+
+  abbrev first : Fixed
+  first = record { number = pl.number; request = pl.request; reply = reply; refusal = None }
+
+  place_before : placed_for v w.places.items k ≡ Some pl
+  place_before = held_at v w.places.items slot k H.apart key ∙ held
+
+  keys_of : (y : Fixed) → In y (first ∷ fs) → key_of y.request ≡ k
+  keys_of y (inl same) = ap (λ (z : Fixed). key_of z.request) same ∙ of_key
+  keys_of y (inr more) = L.keys y more
+
+  lawful_after : IsLawfulFor (cell_left pl.request reply (v.cell k)) (false || is_stopped reply) (map replied fs)
+  lawful_after = subst (λ (c : Option (List ℕ)). IsLawfulFor c (is_stopped reply) (map replied fs)) (sym left) (by f.stopped (is_stopped reply) refl refl L.lawful) where
+    stopped_is : (r : Reply) → is_stopped r ≡ true → r ≡ replies.Stopped
+    stopped_is replies.Stored e = absurd (cc e)
+    stopped_is (replies.Value z) e = absurd (cc e)
+    stopped_is replies.Absent e = absurd (cc e)
+    stopped_is replies.Deleted e = absurd (cc e)
+    stopped_is replies.Full e = absurd (cc e)
+    stopped_is replies.VersionsSpent e = absurd (cc e)
+    stopped_is replies.TooLong e = absurd (cc e)
+    stopped_is replies.Stopped e = refl
+
+    by : (b d : Bool) → f.stopped ≡ b → is_stopped reply ≡ d → IsLawfulFor (u.cell k) b (map replied fs) → IsLawfulFor (u.cell k) d (map replied fs)
+    by true true e g h = h
+    by true false e g h = lawful_before (u.cell k) (map replied fs) h
+    by false false e g h = h
+    by false true e g h = absurd (let both : false ≡ true = sym e ∙ halts (stopped_is reply g) in cc both)
+
+  own_key : AnswersKey v u (hands_of v w) (hands_of u x) k [] (first ∷ fs)
+  own_key = record {
+    order = append-nil (line_in (hands_of v w) k) ∙ (λ i. placed (place_before i) ++ sym waits_is i) ∙ ap (λ (xs : List (ℕ × Request)). (pl.number, pl.request) ∷ xs) L.line;
+    lawful = (may, lawful_after);
+    cell = ap (λ (c : Option (List ℕ)). cell_of c (map replied fs)) left ∙ L.cell_now;
+    after_stop = λ stopped none. absurd (let both : Some pl ≡ None = sym place_before ∙ none in cc both);
+    stops = λ y i e. ⊎_elim
+        (λ same. let s = halts (sym (ap (λ (z : Fixed). z.reply) same) ∙ e) in (L.stopped ∙ s, (L.halts s).1))
+        (λ more. L.halted y more e) i;
+    posted = λ y e is. inr (reply, fs, (let same : pl ≡ y = ap (λ (o : Option Placed). or_first o) (sym place_before ∙ e) in (λ i. record { number = (same i).number; request = (same i).request; reply = reply; refusal = None } ∷ fs)), ends);
+    doubt = λ d e. ⊎_elim (λ was. inl was)
+        (λ now. inr (pl, fs, now.0, place_before, now.1, now.3, (λ i. record { number = pl.number; request = pl.request; reply = now.2 i; refusal = None } ∷ fs), now.4)) (doubt d e);
+  } where
+    or_first : Option Placed → Placed
+    or_first None = pl
+    or_first (Some y) = y
+
+  other_key : (j : ℕ) → j ≢ k → AnswersKey v u (hands_of v w) (hands_of u x) j [] []
+  other_key j ne = kept_key v u (hands_of v w) (hands_of u x) j (cells j ne) (pendings j ne)
+      (L.other_places j ne ∙ held_beside v u w.places.items f.places.items slot Free R H.apart apart j
+      (λ e. ne (let both : Some k ≡ Some j = sym key ∙ e in let at : k ≡ j = cc both in sym at)) (λ e. cc e)
+      (λ s low e. in_kept p m v u s j (place_at w.places.items s) (H.placed s (let n = H.eight in omega (arith, low, n))) e (pendings j ne) (λ q b is same. blocks q b is (λ at. ne (sym same ∙ at)))))
+      (ap (map asked_by) (L.other_waits j ne) ∙ (λ i. map asked_by (filter (λ h. key_of h.request == j) (option_to_list (hand i)) ++ waiting (queue i) j)))
+
+  pub let_go_fixed : List Fixed
+  let_go_fixed = first ∷ fs
+
+  pub let_go_answers : answers_of x ≡ answers_of w ++ map told let_go_fixed
+  unfolding let_go_fixed
+  let_go_answers = L.answers ∙ ap (λ (ys : List Answer). ys ++ map told fs) answers ∙ append_assoc (answers_of w) (answer_with pl.number reply None ∷ []) (map told fs)
+
+  pub let_go_moves : (s : State) (before after : Option Group) → Stands s p m v w → Stands s p m u x → Steps before after m u → (f.stopped ≡ true → (w.stopped ≡ true) ⊎ IfSome before (λ a. (n : ℕ) × (d : Entry) × (a.slot m n ≡ Failed d)))
+      → WorkerMoves p m s s before after v u (hands_of v w) (hands_of u x) [] let_go_fixed
+  unfolding let_go_fixed
+  let_go_moves s before after S T made cause = record {
+    outside = all_kept s (part_at p m) (part_end p m);
+    moments = started s (Licensed p m v) S.licensed;
+    exit = T.licensed;
+    steps = made.0;
+    whole = runs_in m made.0 u before after made.1;
+    own = λ y i. ap (owner p) (keys_of y i) ∙ own;
+    keys = λ j is. ⊎_elim
+        (λ same. subst (λ n. AnswersKey v u (hands_of v w) (hands_of u x) n [] (fixed_of n (first ∷ fs))) (sym same) (subst (λ (ys : List Fixed). AnswersKey v u (hands_of v w) (hands_of u x) k [] ys) (sym (fixed_all k (first ∷ fs) keys_of)) own_key))
+        (λ ne. subst (λ (ys : List Fixed). AnswersKey v u (hands_of v w) (hands_of u x) j [] ys) (sym (fixed_none j k (first ∷ fs) ne keys_of)) (other_key j ne))
+        (cases_eq j k);
+    holds = λ j is. holds_key p m u x N j;
+    stops = λ e. ⊎_elim (λ a. inl a) (λ b. inr (inr b)) (cause (sym L.stopped ∙ e));
+    breaks = N.broken;
+    stays_stopped = λ e. L.stopped ∙ stays e;
+  }
+
+-- what makes it so
+pub record LetGo (p : Place) (m : ℕ) (v u : View) (w f x : Worker) (k slot : ℕ) (pl : Placed) (reply : Reply) : Type 0 where
+  pub H : Holds p m v w
+  pub N : Holds p m u x
+  pub hand_of : w.winds_down ≡ false → w.in_hand ≡ None
+  pub own : owner p k ≡ m
+  pub key : key_in (place_at w.places.items slot) ≡ Some k
+  pub held : placed_in v (place_at w.places.items slot) ≡ Some pl
+  pub of_key : key_of pl.request ≡ k
+  pub R : Replaces w.places.items f.places.items slot Free
+  pub queue : f.queue ≡ w.queue
+  pub hand : f.in_hand ≡ w.in_hand
+  pub winds : f.winds_down ≡ w.winds_down
+  pub answers : answers_of f ≡ answers_of w ++ answer_with pl.number reply None ∷ []
+  pub may : MayReply pl.request (v.cell k) false reply
+  pub left : cell_left pl.request reply (v.cell k) ≡ u.cell k
+  pub halts : reply ≡ replies.Stopped → f.stopped ≡ true
+  pub stays : w.stopped ≡ true → f.stopped ≡ true
+  pub ends : (is_finish reply ≡ true) ⊎ (reply ≡ replies.Stopped)
+  pub doubt : (d : Entry) → u.pending k ≡ Some (record { entry = d; slot = None }) → (v.pending k ≡ Some (record { entry = d; slot = None })) ⊎ ((s : ℕ) × (pl.posted ≡ true) × (reply ≡ replies.Stopped) × (v.pending k ≡ Some (record { entry = d; slot = Some s })) × (left_in u.blocks d.body ≡ left_in v.blocks d.body))
+  pub cells : (j : ℕ) → j ≢ k → u.cell j ≡ v.cell j
+  pub pendings : (j : ℕ) → j ≢ k → u.pending j ≡ v.pending j
+  pub blocks : (q : ℕ) (b : Block) → v.blocks q ≡ Some b → b.key ≢ k → u.blocks q ≡ v.blocks q
+  pub serves : Serves f x (u.cell k) k ⊎ ShortOf f x (u.cell k) k
+
+pub let_go_turn : (seat : SeatAt) (s : State) (before after : Option Group) (v u : View) (w f x : Worker) (k slot : ℕ) (pl : Placed) (reply : Reply) → LetGo seat.place seat.number v u w f x k slot pl reply → Stands s seat.place seat.number v w → Stands s seat.place seat.number u x → Steps before after seat.number u
+    → (f.stopped ≡ true → (w.stopped ≡ true) ⊎ IfSome before (λ a. (n : ℕ) × (d : Entry) × (a.slot seat.number n ≡ Failed d))) → TurnMoves seat s s before after v u w x
+let_go_turn seat s before after v u w f x k slot pl reply G S T made cause = record {
+  fixed = let_go_fixed seat.place seat.number v u w f x k slot G.H G.N G.hand_of G.own pl G.key G.held G.of_key G.R G.queue G.hand G.winds reply G.answers G.may G.left G.halts G.stays G.ends G.doubt G.cells G.pendings G.blocks G.serves;
+  answers = let_go_answers seat.place seat.number v u w f x k slot G.H G.N G.hand_of G.own pl G.key G.held G.of_key G.R G.queue G.hand G.winds reply G.answers G.may G.left G.halts G.stays G.ends G.doubt G.cells G.pendings G.blocks G.serves;
+  moves = let_go_moves seat.place seat.number v u w f x k slot G.H G.N G.hand_of G.own pl G.key G.held G.of_key G.R G.queue G.hand G.winds reply G.answers G.may G.left G.halts G.stays G.ends G.doubt G.cells G.pendings G.blocks G.serves s before after S T made cause;
+}
