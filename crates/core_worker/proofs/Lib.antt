@@ -59,3 +59,4 @@ mod LeftBacks
 mod LetGoMoves
 mod FinishMoves
 mod StopMoves
+mod LeftFair

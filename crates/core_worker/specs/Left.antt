@@ -3,7 +3,7 @@ use Rattle.std.specs.Prelude.{◌≡◌, ℕ, zero, suc, ◌+◌, ◌*◌, ◌<�
 use Rattle.group_laws.specs.declared.types.Slot.{Slot}
 use Rattle.group_laws.specs.declared.types.Slot.TheVariants as slots
 use Rattle.group_laws.specs.Places.{members}
-use Rattle.group_laws.specs.State.{Group, Notices}
+use Rattle.group_laws.specs.State.{Group}
 use Rattle.group_laws.specs.Updates.{sum_below}
 use Rattle.batch_leader.specs.declared.states.Collecting.{Collecting}
 use Rattle.batch_leader.specs.declared.taken.Taken.{Taken}
@@ -101,7 +101,3 @@ StartsFirst w = w.stopped ≡ false → (c : Collecting) → w.leading ≡ leads
 -- of any group, and any member of it
 abbrev pub fair : Group → ℕ → Worker → Type 0
 fair a m w = StartsFirst w
-
--- each full mailbox has a name
-abbrev pub HaveNames : Group → Type 0
-HaveNames w = (a b : ℕ) (n : Notices) → w.mail a b ≡ Some n → n.dead ≡ [] → n.gone ≡ [] → ⊥

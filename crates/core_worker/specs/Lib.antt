@@ -15,6 +15,7 @@ pub mod Searching
 pub mod WorkerMoves
 pub mod Turning
 pub mod Left
+pub mod Resting
 pub mod Posting
 pub mod Status
 pub use Rattle.fs_model.specs.Cells
