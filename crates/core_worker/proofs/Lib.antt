@@ -60,3 +60,6 @@ mod LetGoMoves
 mod FinishMoves
 mod StopMoves
 mod LeftFair
+mod RestingLoads
+mod RestingSlots
+mod RestingPlaces

@@ -40,14 +40,14 @@ pub record LoadsOnly (before after : Option Group) (m : ℕ) : Type 0 where
   pub whole : IfSome before (λ a. IsSomeAnd after (λ b. Runs a (map (λ y. (m, y)) steps) b))
 
 -- an own change is in a leader's hands, or waits for the lock that another has
-abbrev pub IsWithOthers : Option Group → ℕ → ℕ → Type 0
-IsWithOthers after m s = IfSome after (λ b. (b.slot m s ≡ Taken) ⊎ ((e : Entry) × (h : ℕ) × (b.slot m s ≡ Posted e) × (b.holder ≡ Some h)))
+abbrev pub IsWithOthers : Option Group → Option Group → ℕ → ℕ → Type 0
+IsWithOthers before after m s = IfSome before (λ a. IfSome after (λ b. (b.slot m s ≡ Taken) ⊎ ((e : Entry) × (h : ℕ) × (b.slot m s ≡ Posted e) × (b.holder ≡ Some h))))
 
 -- It leads nothing. Each of its changes is posted and with others, and requests wait for keys with a change in a place alone.
-pub record Rests (p : Place) (m : ℕ) (after : Option Group) (u : View) (x : Hands) : Type 0 where
+pub record Rests (p : Place) (m : ℕ) (before after : Option Group) (u : View) (x : Hands) : Type 0 where
   pub holds : u.holds ≡ false
   pub taken : (a s : ℕ) → u.taken a s ≡ None
-  pub placed : (k : ℕ) (y : Placed) → owner p k ≡ m → x.place k ≡ Some y → (y.posted ≡ true) × ((d : Pending) (s : ℕ) → u.pending k ≡ Some d → d.slot ≡ Some s → IsWithOthers after m s)
+  pub placed : (k : ℕ) (y : Placed) → owner p k ≡ m → x.place k ≡ Some y → (y.posted ≡ true) × ((d : Pending) (s : ℕ) → u.pending k ≡ Some d → d.slot ≡ Some s → IsWithOthers before after m s)
   pub waits : (k : ℕ) → owner p k ≡ m → x.place k ≡ None → x.waits k ≡ []
 
 -- what it holds is what it held
