@@ -91,7 +91,7 @@ pub not_more_still : (before : Option Group) (w x : Worker) → left x ≤ left 
 not_more_still None w x less = tt
 not_more_still (Some g) w x less = omega (arith, less)
 
-nothing_left : (w : Worker) → LeadsNothing w → leading_left w.leading ≡ 0
+pub nothing_left : (w : Worker) → LeadsNothing w → leading_left w.leading ≡ 0
 nothing_left w free = ap leading_left free.1
 
 -- The lock is had, with an own slot Posted.

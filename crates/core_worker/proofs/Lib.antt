@@ -63,3 +63,4 @@ mod LeftFair
 mod RestingLoads
 mod RestingSlots
 mod RestingPlaces
+mod Rested
