@@ -43,6 +43,8 @@ pub mod Served
 pub mod Dropping
 pub mod DropServed
 pub mod Withdrawing
+mod Unlocking
+mod Retracting
 mod Members
 mod Unpledging
 mod BatchRoom
@@ -64,3 +66,4 @@ mod RestingLoads
 mod RestingSlots
 mod RestingPlaces
 mod Rested
+mod ItemLaws
