@@ -27,12 +27,12 @@ mod Staging
 mod Finding
 mod Beginnings
 mod RoomKept
+mod AcceptedOrder
 mod Accepted
 mod Winding
 mod Waiters
 mod Unpledging
 mod BatchRoom
-mod Hearing
 pub mod Serving
 mod Heard
 pub mod Tidied
@@ -46,11 +46,30 @@ pub mod Served
 pub mod Dropping
 pub mod DropServed
 pub mod Withdrawing
+mod Unlocking
+mod Retracting
 mod Members
+mod Unpledging
+mod BatchRoom
+mod LeftSums
+mod LeftSteps
+mod LeftWorkers
 mod ServedLines
+mod LeftItems
+mod LeftOwn
+mod LeftLooks
+mod LeftRounds
+mod LeftLocks
+mod LeftBacks
 mod LetGoMoves
 mod FinishMoves
 mod StopMoves
+mod LeftFair
+mod RestingLoads
+mod RestingSlots
+mod RestingPlaces
+mod Rested
+mod ItemLaws
 mod StartKeys
 mod StartBlocks
 mod StartHeads

@@ -26,7 +26,7 @@ OfMember m xs = (ks : List Kind) × (xs ≡ map {B = ℕ × Kind} (λ y. (m, y))
 pub and_then : (m : ℕ) (xs : List (ℕ × Kind)) (k : Kind) → OfMember m xs → OfMember m (xs ++ (m, k) ∷ [])
 and_then m xs k is = (is.0 ++ k ∷ [], ap (λ ys. ys ++ (m, k) ∷ []) is.1 ∙ sym (one_more m is.0 k))
 
-looks_of : (m at n : ℕ) → OfMember m (looks_upto m at n)
+pub looks_of : (m at n : ℕ) → OfMember m (looks_upto m at n)
 looks_of m at zero = ([], refl)
 looks_of m at (suc n) = and_then m (looks_upto m at n) (Look (member_at m (at + n)) (slot_at (at + n))) (looks_of m at n)
 

@@ -14,6 +14,8 @@ pub mod Turns
 pub mod Searching
 pub mod WorkerMoves
 pub mod Turning
+pub mod Left
+pub mod Resting
 pub mod Posting
 pub mod Status
 pub mod Openings

@@ -1,5 +1,6 @@
 -- What every part of a turn keeps, and what a whole turn did.
-use Rattle.std.specs.Prelude.{◌≡◌, ℕ, ◌<◌, Bool, true, false, List, [], ◌++◌, map, Option}
+use Rattle.fs_errors.specs.declared.Memory.{Memory}
+use Rattle.std.specs.Prelude.{Result, Ok, Err, ◌≡◌, ℕ, ◌<◌, Bool, true, false, List, [], ◌++◌, map, Option}
 use Rattle.pm_region.specs.State.{State, IsTelling}
 use Rattle.group_laws.specs.State.{Group}
 use Rattle.group_laws.specs.MemberViews.{View}
@@ -17,7 +18,8 @@ use Rattle.core_worker.specs.declared.types.Turn.TheVariants.{Moved, Idle}
 use Rattle.core_worker.specs.declared.choosing.Choice.{Choice}
 use Rattle.core_worker.specs.declared.choosing.Choice.TheVariants.{Pass, Drop, Post}
 use Rattle.core_worker.specs.OwnPlaces.{is_staged, IsLowest}
-use Rattle.core_worker.specs.Turns.{Moment, InOrderAt, GoesRound, PersistsOrLoses, Marks, Fails, Posts, LosesBlock, Locks, Idles, PassesItems, PassesPost, FindsPosted}
+use Rattle.core_worker.specs.Turns.{Moment, InOrderAt, GoesRound, PersistsOrLoses, Marks, Fails, Finishes, Posts, LosesBlock, Locks, Idles, PassesItems, PassesPost, FindsPosted}
+use Rattle.core_worker.specs.Stopping.{Drops, WithdrawsOrUnlocks}
 use Rattle.core_worker.specs.WorkerMoves.{Fixed, told, hands_of, WorkerMoves}
 
 -- What a turn fixed is what the worker answers besides, and the turn is a whole move to whoever runs several workers.
@@ -45,20 +47,39 @@ HasBatch (leads.Persisted x) = Unit {0}
 HasBatch (leads.Failed x) = Unit {0}
 HasBatch leads.Between = ⊥
 
--- The item of the order of work that a turn did.
-pub data Did (refused : Bool) (before : Option Group) (seat : SeatAt) (a b : Moment) : Type 0 where
-  goes_round : GoesRound before seat a b → Did refused before seat a b
-  writes : PersistsOrLoses b.worker.stopped seat.number a b → Did refused before seat a b
-  marks : Marks a b → Did refused before seat a b
-  fails : Fails a b → Did refused before seat a b
-  posts : Posts seat.number a b → Did refused before seat a b
-  loses_block : LosesBlock seat.number a b → Did refused before seat a b
-  locks : Locks refused seat.number a b → Did refused before seat a b
+-- Item 5 of a stopped core: the lowest staged change is answered Stopped; `all` where there was memory for what waited of its key.
+pub record DropsLowest (s : State) (m : ℕ) (a b : Moment) (all : Bool) : Type 0 where
+  pub slot : ℕ
+  pub mid : View
+  pub before : PassesItems m a 8 mid
+  pub stopped : a.worker.stopped ≡ true
+  pub works : a.worker.winds_down ≡ false
+  pub lowest : IsLowest is_staged a.worker.places.items slot
+  pub drops : Drops s slot a.worker b.worker all
+  pub view : b.view ≡ mid
+
+-- The item of the order of work that a turn did. Where there was no memory for what waited of a key, `all` is false.
+pub data Did (s : State) (refused : Bool) (before : Option Group) (seat : SeatAt) (a b : Moment) : Type 0 where
+  goes_round : GoesRound before seat a b → Did s refused before seat a b
+  withdraws : (after : Option Group) (all : Bool) → WithdrawsOrUnlocks s seat before after a.view b.view a.worker b.worker all → Did s refused before seat a b
+  writes : PersistsOrLoses b.worker.stopped seat.number a b → Did s refused before seat a b
+  marks : Marks a b → Did s refused before seat a b
+  fails : Fails a b → Did s refused before seat a b
+  finishes : (all : Bool) → Finishes s seat.place seat.number a b all → Did s refused before seat a b
+  posts : Posts seat.number a b → Did s refused before seat a b
+  loses_block : LosesBlock seat.number a b → Did s refused before seat a b
+  drops : (all : Bool) → DropsLowest s seat.number a b all → Did s refused before seat a b
+  locks : Locks refused seat.number a b → Did s refused before seat a b
 
 -- By what a turn answers, it did one of these, or nothing applied.
-abbrev pub Turned : Turn → Bool → Option Group → SeatAt → Moment → Moment → Type 0
-Turned Moved refused before seat a b = Did refused before seat a b
-Turned Idle refused before seat a b = Idles refused seat.number a b
+abbrev pub Turned : Turn → State → Bool → Option Group → SeatAt → Moment → Moment → Type 0
+Turned Moved s refused before seat a b = Did s refused before seat a b
+Turned Idle s refused before seat a b = Idles refused seat.number a b
+
+-- the same where it may find no memory
+abbrev pub TurnedTo : Result Turn Memory → State → Bool → Option Group → SeatAt → Moment → Moment → Type 0
+TurnedTo (Ok turn) s refused before seat a b = Turned turn s refused before seat a b
+TurnedTo (Err memory) s refused before seat a b = Did s refused before seat a b
 
 -- the core at entry, where some loads of the turn led to a view
 abbrev pub at_entry : Worker → View → Moment

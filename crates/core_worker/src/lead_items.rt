@@ -64,7 +64,7 @@ fn still_lost(lost: FailedBatch) -> Leading
 }
 
 // What is left of a lead that gave the lock back.
-fn led_by(released: Released) -> Leading
+pub(crate) fn led_by(released: Released) -> Leading
     ensures { result ≡ led_by released }
 {
     match released {

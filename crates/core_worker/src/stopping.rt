@@ -1,25 +1,32 @@
 // What a stopped core does with its own changes: it takes back what is posted, and answers what is staged.
-ghost use Rattle.std.specs.Prelude.{◌≡◌, ℕ, ◌<◌, true, false, length, is_ok, IfSome, Option, Some, OnErr};
+ghost use Rattle.std.specs.Prelude.{◌≡◌, ℕ, ◌<◌, true, false, length, is_ok, IfSome, MatchOption, Option, Some, OnErr};
+ghost use Rattle.batch_leader.specs.declared.states.Collecting.{Collecting};
 ghost use Rattle.pm_region.specs.State.{State};
 ghost use Rattle.core_index.specs.Records.{pointer_of};
 ghost use Rattle.lazy_alloc.specs.Sets.{AreSets, block_is_used};
-ghost use Rattle.core_worker.specs.OwnPlaces.{place_at, key_in, is_free, is_staged};
+ghost use Rattle.core_worker.specs.declared.types.Leading.TheVariants as leads;
+ghost use Rattle.core_worker.specs.OwnPlaces.{place_at, key_in, is_busy, is_free, is_of, is_staged};
 ghost use Rattle.core_worker.specs.Refusals.{HasAnswerRoom};
 ghost use Rattle.core_worker.specs.Supplies.{HasKeptRoom};
-ghost use Rattle.core_worker.specs.Ties.{Tie, HoldsBy};
+ghost use Rattle.core_worker.specs.Ties.{HoldsAt, HoldsBy, StandsAt, Tie};
 ghost use Rattle.core_worker.specs.Order.{InOrderBy};
 ghost use Rattle.core_worker.specs.Finishing.{IsServed};
-ghost use Rattle.core_worker.specs.Stopping.{Drops, FreesBySight, PutsAway, staged_block};
+ghost use Rattle.core_worker.specs.Stopping.{Drops, FreesBySight, PutsAway, PutsAwayKey, Retracts, staged_block, Unlocks, WithdrawsOrUnlocks};
+ghost use Rattle.core_worker.specs.Turns.{InOrderAt, Steps};
 
 use crate::finishing::put_back;
-use crate::post_item::place_in;
-use crate::types::Place;
+use crate::leading::led_by;
+use crate::posting::place_in;
+use crate::types::{Leading, Place};
 use crate::worker::Worker;
+use crash_core::Change;
 use fs_errors::Memory;
 use fs_model::{Key, Reply};
-use log_entry::Body;
+use group_board::Board;
+use log_entry::{Body, Entry};
 use pm_region::Region;
 use std::alloc::Global;
+use std::mem;
 
 fn pointer_of(body: &Body) -> Option<u64>
     ensures { result ≡ pointer_of body.now }
@@ -51,6 +58,31 @@ fn key_in(place: &Place) -> Option<Key>
         Place::Staged { entry, .. } => Some(entry.key),
         Place::Posted { key, .. } => Some(*key),
     }
+}
+
+// Whether a change of the key stands in a place.
+fn has_key(place: &Place, key: Key) -> bool
+    ensures { result ≡ is_of key (key_in place.now) }
+{
+    match key_in(place) {
+        None => false,
+        Some(other) => key == other,
+    }
+}
+
+// The place of a key's change.
+fn place_with(places: &Vec<Place>, key: Key) -> u32
+    requires eight { length places.now.items ≡ 8 }
+    requires busy { is_busy places.now.items key ≡ true }
+    ensures place { key_in (place_at places.now.items result) ≡ Some key }
+    ensures within { result < 8 }
+{
+    for slot in 0..8 {
+        if has_key(place_in(places, slot), key) {
+            return slot;
+        }
+    }
+    unreachable!()
 }
 
 impl Worker {
@@ -102,5 +134,87 @@ impl Worker {
     {
         let key = self.drop_out(slot);
         self.serve(alloc, region, key)
+    }
+
+    // Puts a change away that was withdrawn.
+    fn put_by(&mut self, entry: Entry)
+        requires eight { length self.old.places.items ≡ 8 }
+        requires busy { is_busy self.old.places.items entry.key ≡ true }
+        requires room { HasAnswerRoom 1 self.old }
+        requires sets { AreSets self.old.allocator }
+        requires used { IfSome (pointer_of entry.body)
+            (λ q. block_is_used self.old.allocator q ≡ true) }
+        ensures { PutsAwayKey self.old self.new entry.key (pointer_of entry.body) }
+    {
+        let slot = place_with(&self.places, entry.key);
+        let block = pointer_of(&entry.body);
+        self.put_away(slot, block);
+    }
+
+    // Takes the lowest own change back that nobody had taken, or gives the lock back where there is none.
+    fn retract<B: Board>(&mut self, board: &mut B) -> Option<Change>
+        requires holds { HoldsAt (B.seat board.old) (B.view board.old) self.old }
+        requires order { InOrderAt (B.seat board.old) (B.view board.old) self.old }
+        requires collects { (c : Collecting) × (self.old.leading ≡ leads.Collecting c) }
+        requires stopped { self.old.stopped ≡ true }
+        ensures seat { B.seat board.new ≡ B.seat board.old }
+        ensures retracts { MatchOption result
+            (Unlocks (B.seat board.old) (B.whole board.old) (B.whole board.new)
+            (B.view board.old) (B.view board.new) self.old self.new)
+            (Retracts (B.seat board.old) (B.whole board.old) (B.whole board.new)
+            (B.view board.old) (B.view board.new) self.old self.new) }
+    {
+        match mem::replace(&mut self.leading, Leading::Between) {
+            Leading::Collecting(mut collecting) => match collecting.withdraw_own(board) {
+                Some(change) => {
+                    self.leading = Leading::Collecting(collecting);
+                    return Some(change);
+                }
+                None => {
+                    self.leading = led_by(collecting.release(board));
+                    return None;
+                }
+            },
+            _ => unreachable!(),
+        }
+    }
+
+    // Takes the lowest own change back that nobody had taken, answers it and begins what waits of its key. Where there is
+    // none it gives the lock back.
+    pub(crate) fn withdraw<R: Region, B: Board>(
+        &mut self,
+        alloc: Global,
+        region: &R,
+        board: &mut B,
+    ) -> Result<(), Memory>
+        requires holds { HoldsAt (B.seat board.old) (B.view board.old) self.old }
+        requires stands { StandsAt (R.state region.now) (B.seat board.old)
+            (B.view board.old) self.old }
+        requires order { InOrderAt (B.seat board.old) (B.view board.old) self.old }
+        requires collects { (c : Collecting) × (self.old.leading ≡ leads.Collecting c) }
+        requires stopped { self.old.stopped ≡ true }
+        ensures seat { B.seat board.new ≡ B.seat board.old }
+        ensures holds { HoldsAt (B.seat board.old) (B.view board.new) self.new }
+        ensures stands { StandsAt (R.state region.now) (B.seat board.old)
+            (B.view board.new) self.new }
+        ensures order { InOrderAt (B.seat board.old) (B.view board.new) self.new }
+        ensures rule { HasKeptRoom self.old → HasKeptRoom self.new }
+        ensures withdraws { WithdrawsOrUnlocks (R.state region.now) (B.seat board.old)
+            (B.whole board.old) (B.whole board.new) (B.view board.old) (B.view board.new)
+            self.old self.new (is_ok result) }
+        ensures memory { OnErr result (self.new.winds_down ≡ true) }
+        ensures made { Steps (B.whole board.old) (B.whole board.new) (B.seat board.old).number
+            (B.view board.new) }
+    {
+        match self.retract(board) {
+            None => {
+                return Ok(());
+            }
+            Some(change) => {
+                let key = change.entry.key;
+                self.put_by(change.entry);
+                return self.serve(alloc, region, key);
+            }
+        }
     }
 }

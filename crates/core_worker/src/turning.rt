@@ -1,6 +1,6 @@
 // One turn of a worker.
-ghost use Rattle.std.specs.Prelude.{◌≡◌, ◌<◌, Bool, true, false, Option, List, [], ◌∷◌};
-ghost use Rattle.pm_region.specs.State.{State};
+ghost use Rattle.std.specs.Prelude.{◌≡◌, ◌<◌, Bool, true, false, Option, List, [], ◌∷◌, OnErr};
+ghost use Rattle.pm_region.specs.State.{State, IsTelling};
 ghost use Rattle.group_laws.specs.State.{Group};
 ghost use Rattle.group_laws.specs.MemberViews.{View};
 ghost use Rattle.batch_leader.specs.declared.states.Batch.{Batch};
@@ -8,20 +8,24 @@ ghost use Rattle.batch_leader.specs.declared.states.Collecting.{Collecting};
 ghost use Rattle.core_worker.specs.declared.types.Leading.TheVariants as leads;
 ghost use Rattle.core_worker.specs.OwnPlaces.{place_at, is_staged, IsLowest};
 ghost use Rattle.core_worker.specs.Refusals.{IsMeasured};
-ghost use Rattle.core_worker.specs.Supplies.{room_for};
+ghost use Rattle.core_worker.specs.Supplies.{room_for, HasKeptRoom};
+ghost use Rattle.batch_leader.specs.Persisting.{StaysLicensed, WritesPart};
 ghost use Rattle.core_worker.specs.Posting.{PostsOrStops};
 ghost use Rattle.core_worker.specs.Ties.{HoldsAt, StandsAt, LeadsNothing};
 ghost use Rattle.core_worker.specs.Turns.{InOrderAt, PassesPost, PersistsOrLoses};
-ghost use Rattle.core_worker.specs.Turning.{HasBatch, KeepsTurn, Did, Turned, Tells, at_entry};
+ghost use Rattle.core_worker.specs.Turning.{HasBatch, KeepsTurn, TurnMoves, Did, Turned, TurnedTo, Tells, at_entry};
 
 use crate::choosing::{Choice, staged_block};
 use crate::gate::Gate;
-use crate::post_item::place_in;
+use crate::posting::place_in;
+use crate::searching::Search;
 use crate::types::{Leading, Turn};
 use crate::worker::Worker;
 use core_log::Room;
+use fs_errors::Memory;
 use group_board::Board;
 use pm_region::Region;
+use std::alloc::Global;
 
 impl Worker {
     // A turn of a core that has a batch to write, or changes to give back.
@@ -35,8 +39,9 @@ impl Worker {
         ensures keeps { KeepsTurn (B.seat board.old) (R.state region.old) (R.state region.new)
             (B.whole board.old) (B.whole board.new) (B.view board.old) (B.view board.new)
             self.old self.new }
-        ensures did { (refused : Bool) → Did refused (B.whole board.old) (B.seat board.old)
-            (at_entry self.old (B.view board.old)) (at_entry self.new (B.view board.new)) }
+        ensures did { (refused : Bool) → Did (R.state region.old) refused (B.whole board.old)
+            (B.seat board.old) (at_entry self.old (B.view board.old))
+            (at_entry self.new (B.view board.new)) }
     {
         match &self.leading {
             Leading::Batch(_) => {
@@ -93,10 +98,10 @@ impl Worker {
         ensures keeps { (s : State) → StandsAt s (B.seat board.old) (B.view board.old) self.old
             → KeepsTurn (B.seat board.old) s s (B.whole board.old) (B.whole board.new)
             (B.view board.old) (B.view board.new) self.old self.new }
-        ensures turned { (refused : Bool) (before : Option Group) (v : View)
+        ensures turned { (s : State) (refused : Bool) (before : Option Group) (v : View)
             → PassesPost refused self.old
             → Tells posted (B.seat board.old).number self.old v (B.view board.old)
-            → Turned result refused before (B.seat board.old) (at_entry self.old v)
+            → Turned result s refused before (B.seat board.old) (at_entry self.old v)
             (at_entry self.new (B.view board.new)) }
     {
         if !posted {
@@ -108,37 +113,83 @@ impl Worker {
         Turn::Idle
     }
 
-    // Posts the lowest staged change, or tries the lock.
+    // Posts the lowest staged change, or tries the lock. A stopped core answers the change instead.
     fn serve_staged<R: Region, B: Board, G: Gate>(
         &mut self,
+        alloc: Global,
         region: &mut R,
         board: &mut B,
         gate: &G,
         posted: bool,
-    ) -> Turn
+    ) -> Result<Turn, Memory>
         requires holds { HoldsAt (B.seat board.old) (B.view board.old) self.old }
         requires stands { StandsAt (R.state region.old) (B.seat board.old)
             (B.view board.old) self.old }
         requires order { InOrderAt (B.seat board.old) (B.view board.old) self.old }
         requires nothing { LeadsNothing self.old }
-        requires runs { self.old.stopped ≡ false }
         ensures seat { B.seat board.new ≡ B.seat board.old }
         ensures keeps { KeepsTurn (B.seat board.old) (R.state region.old) (R.state region.new)
             (B.whole board.old) (B.whole board.new) (B.view board.old) (B.view board.new)
             self.old self.new }
         ensures turned { (before : Option Group) (v : View)
             → Tells posted (B.seat board.old).number self.old v (B.view board.old)
-            → Turned result (G.may_refuse gate.now) before (B.seat board.old) (at_entry self.old v)
-            (at_entry self.new (B.view board.new)) }
+            → TurnedTo result (R.state region.old) (G.may_refuse gate.now) before
+            (B.seat board.old) (at_entry self.old v) (at_entry self.new (B.view board.new)) }
+        ensures memory { OnErr result (self.new.winds_down ≡ true) }
     {
         match self.choose(gate) {
             Choice::Pass => {
-                return self.serve_lock(board, posted);
+                let turn = self.serve_lock(board, posted);
+                return Ok(turn);
             }
-            Choice::Drop(_) => unreachable!(),
+            Choice::Drop(slot) => match self.drop_staged(alloc, &*region, slot) {
+                Ok(()) => {
+                    return Ok(Turn::Moved);
+                }
+                Err(memory) => {
+                    return Err(memory);
+                }
+            },
             Choice::Post(slot) => {
                 self.post(region, board, slot);
-                return Turn::Moved;
+                return Ok(Turn::Moved);
+            }
+        }
+    }
+
+    // A turn of a core that leads nothing: it looks for a change that is given back, and else goes on with its places.
+    fn serve_own<R: Region, B: Board, G: Gate>(
+        &mut self,
+        alloc: Global,
+        region: &mut R,
+        board: &mut B,
+        gate: &G,
+    ) -> Result<Turn, Memory>
+        requires holds { HoldsAt (B.seat board.old) (B.view board.old) self.old }
+        requires stands { StandsAt (R.state region.old) (B.seat board.old)
+            (B.view board.old) self.old }
+        requires order { InOrderAt (B.seat board.old) (B.view board.old) self.old }
+        requires nothing { LeadsNothing self.old }
+        ensures seat { B.seat board.new ≡ B.seat board.old }
+        ensures keeps { KeepsTurn (B.seat board.old) (R.state region.old) (R.state region.new)
+            (B.whole board.old) (B.whole board.new) (B.view board.old) (B.view board.new)
+            self.old self.new }
+        ensures turned { TurnedTo result (R.state region.old) (G.may_refuse gate.now)
+            (B.whole board.old) (B.seat board.old) (at_entry self.old (B.view board.old))
+            (at_entry self.new (B.view board.new)) }
+        ensures memory { OnErr result (self.new.winds_down ≡ true) }
+    {
+        match self.find_back(board) {
+            Search::Back(slot) => match self.take_back(alloc, &*region, board, slot) {
+                Ok(()) => {
+                    return Ok(Turn::Moved);
+                }
+                Err(memory) => {
+                    return Err(memory);
+                }
+            },
+            Search::Out { posted } => {
+                return self.serve_staged(alloc, region, board, gate, posted);
             }
         }
     }
@@ -168,10 +219,115 @@ impl Worker {
         ensures keeps { (s : State) → StandsAt s (B.seat board.old) (B.view board.old) self.old
             → KeepsTurn (B.seat board.old) s s (B.whole board.old) (B.whole board.new)
             (B.view board.old) (B.view board.new) self.old self.new }
-        ensures did { (refused : Bool) → Did refused (B.whole board.old) (B.seat board.old)
-            (at_entry self.old (B.view board.old)) (at_entry self.new (B.view board.new)) }
+        ensures did { (s : State) (refused : Bool) → Did s refused (B.whole board.old)
+            (B.seat board.old) (at_entry self.old (B.view board.old))
+            (at_entry self.new (B.view board.new)) }
     {
         let room = self.room();
         self.go_round(board, &room);
+    }
+
+    // Goes on with the round, or, as a stopped core, takes an own change back.
+    fn serve_collecting<R: Region, B: Board>(
+        &mut self,
+        alloc: Global,
+        region: &R,
+        board: &mut B,
+    ) -> Result<(), Memory>
+        requires holds { HoldsAt (B.seat board.old) (B.view board.old) self.old }
+        requires stands { StandsAt (R.state region.now) (B.seat board.old)
+            (B.view board.old) self.old }
+        requires order { InOrderAt (B.seat board.old) (B.view board.old) self.old }
+        requires collects { (c : Collecting) × (self.old.leading ≡ leads.Collecting c) }
+        ensures seat { B.seat board.new ≡ B.seat board.old }
+        ensures keeps { KeepsTurn (B.seat board.old) (R.state region.now) (R.state region.now)
+            (B.whole board.old) (B.whole board.new) (B.view board.old) (B.view board.new)
+            self.old self.new }
+        ensures did { (refused : Bool) → Did (R.state region.now) refused (B.whole board.old)
+            (B.seat board.old) (at_entry self.old (B.view board.old))
+            (at_entry self.new (B.view board.new)) }
+        ensures memory { OnErr result (self.new.winds_down ≡ true) }
+    {
+        if self.stopped {
+            return self.withdraw(alloc, region, board);
+        }
+        self.serve_round(board);
+        Ok(())
+    }
+}
+
+impl Worker {
+    // A turn, by what the core leads.
+    fn serve_first<R: Region, B: Board, G: Gate>(
+        &mut self,
+        alloc: Global,
+        region: &mut R,
+        board: &mut B,
+        gate: &G,
+    ) -> Result<Turn, Memory>
+        requires holds { HoldsAt (B.seat board.old) (B.view board.old) self.old }
+        requires stands { StandsAt (R.state region.old) (B.seat board.old)
+            (B.view board.old) self.old }
+        requires order { InOrderAt (B.seat board.old) (B.view board.old) self.old }
+        ensures seat { B.seat board.new ≡ B.seat board.old }
+        ensures keeps { KeepsTurn (B.seat board.old) (R.state region.old) (R.state region.new)
+            (B.whole board.old) (B.whole board.new) (B.view board.old) (B.view board.new)
+            self.old self.new }
+        ensures turned { TurnedTo result (R.state region.old) (G.may_refuse gate.now)
+            (B.whole board.old) (B.seat board.old) (at_entry self.old (B.view board.old))
+            (at_entry self.new (B.view board.new)) }
+        ensures memory { OnErr result (self.new.winds_down ≡ true) }
+    {
+        match &self.leading {
+            Leading::Nothing(_) => {
+                return self.serve_own(alloc, region, board, gate);
+            }
+            Leading::Collecting(_) => match self.serve_collecting(alloc, &*region, board) {
+                Ok(()) => {
+                    return Ok(Turn::Moved);
+                }
+                Err(memory) => {
+                    return Err(memory);
+                }
+            },
+            _ => {
+                self.serve_batch(region, board);
+                return Ok(Turn::Moved);
+            }
+        }
+    }
+
+    /// Makes a turn: it does all of the first item of the order of work that applies, and answers Idle where none did.
+    /// Where there is no memory for the answer to a request that waited, that request is in hand, and the worker winds
+    /// down.
+    pub fn turn<R: Region, B: Board, G: Gate>(
+        &mut self,
+        alloc: Global,
+        region: &mut R,
+        board: &mut B,
+        gate: &G,
+    ) -> Result<Turn, Memory>
+        requires holds { HoldsAt (B.seat board.old) (B.view board.old) self.old }
+        requires stands { StandsAt (R.state region.old) (B.seat board.old)
+            (B.view board.old) self.old }
+        requires order { InOrderAt (B.seat board.old) (B.view board.old) self.old }
+        ensures seat { B.seat board.new ≡ B.seat board.old }
+        ensures moments { StaysLicensed (R.state region.old) (R.state region.new)
+            (B.seat board.old) (B.view board.old) }
+        ensures outside { WritesPart (R.state region.old) (R.state region.new) (B.seat board.old) }
+        ensures holds { HoldsAt (B.seat board.old) (B.view board.new) self.new }
+        ensures stands { StandsAt (R.state region.new) (B.seat board.old)
+            (B.view board.new) self.new }
+        ensures order { InOrderAt (B.seat board.old) (B.view board.new) self.new }
+        ensures rule { self.new.stopped ≡ false → HasKeptRoom self.old → HasKeptRoom self.new }
+        ensures moves { IsTelling (R.state region.new) → TurnMoves (B.seat board.old)
+            (R.state region.old) (R.state region.new) (B.whole board.old) (B.whole board.new)
+            (B.view board.old) (B.view board.new) self.old self.new }
+        ensures turned { TurnedTo result (R.state region.old) (G.may_refuse gate.now)
+            (B.whole board.old) (B.seat board.old) (at_entry self.old (B.view board.old))
+            (at_entry self.new (B.view board.new)) }
+        ensures memory { OnErr result (self.new.winds_down ≡ true) }
+    {
+        self.serve_first(alloc, region, board, gate)
     }
 }

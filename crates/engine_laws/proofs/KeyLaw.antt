@@ -68,7 +68,7 @@ module _ (start : Option (List ℕ)) (v u : KeyView) (place place' : Option Plac
     changes : is_change x.request (cell_of start xs) ≡ true
     changes = ap (is_change x.request) S.cell ∙ (S.holds.posted x at posted).0
 
-    answered : (r : Reply) (more : List Fixed) → fixed ≡ record { number = x.number; request = x.request; reply = r } ∷ more → (is_finish r ≡ true) ⊎ (r ≡ Stopped) → (zs : List Request) × (changes_on start ((xs ++ ys) ++ posted_in place') ≡ changes_on start before ++ zs)
+    answered : (r : Reply) (more : List Fixed) → fixed ≡ record { number = x.number; request = x.request; reply = r; refusal = None } ∷ more → (is_finish r ≡ true) ⊎ (r ≡ Stopped) → (zs : List Request) × (changes_on start ((xs ++ ys) ++ posted_in place') ≡ changes_on start before ++ zs)
     answered r more is how =
         let split : ys ≡ (x.request, r) ∷ map replied more = ap (map replied) is in
         let law : IsLawfulFor (cell_of start xs) (stopped_of false xs) ((x.request, r) ∷ map replied more) = subst (λ l. IsLawfulFor (cell_of start xs) (stopped_of false xs) l) split lawful in
@@ -136,7 +136,7 @@ module _ (start : Option (List ℕ)) (v u : KeyView) (place place' : Option Plac
 
     by_doubt : u.left p.entry.body ≡ v.left p.entry.body → (v.pending ≡ Some (record { entry = p.entry; slot = None }))
         ⊎ ((x : Placed) × (rest : List Fixed) × (s : ℕ) × (place ≡ Some x) × (x.posted ≡ true) × (v.pending ≡ Some (record { entry = p.entry; slot = Some s }))
-        × (fixed ≡ record { number = x.number; request = x.request; reply = Stopped } ∷ rest)) → Next p
+        × (fixed ≡ record { number = x.number; request = x.request; reply = Stopped; refusal = None } ∷ rest)) → Next p
     by_doubt left (inl was) = let so = idle was in next_doubt p None was (all_stop so.0 so.1) left
     by_doubt left (inr new) =
         let split : ys ≡ (new.0.request, Stopped) ∷ map replied new.1 = ap (map replied) new.6 in

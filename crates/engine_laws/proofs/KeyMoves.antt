@@ -249,7 +249,7 @@ module _ (start : ℕ → Option (List ℕ)) (e f : Engine) (c : ℕ) (accepted 
       changes : is_change x.request (cell_of (start k) (pairs S.served)) ≡ true
       changes = ap (is_change x.request) S.cell ∙ (S.holds.posted x at posted).0
 
-      answered : (r : Reply) (more : List Fixed) → fixed_of k fixed ≡ record { number = x.number; request = x.request; reply = r } ∷ more → (is_finish r ≡ true) ⊎ (r ≡ Stopped) → (zs : List Request) × (changes_on (start k) ((pairs S.served ++ ys) ++ posted_in (f.place k)) ≡ changes_on (start k) before ++ zs)
+      answered : (r : Reply) (more : List Fixed) → fixed_of k fixed ≡ record { number = x.number; request = x.request; reply = r; refusal = None } ∷ more → (is_finish r ≡ true) ⊎ (r ≡ Stopped) → (zs : List Request) × (changes_on (start k) ((pairs S.served ++ ys) ++ posted_in (f.place k)) ≡ changes_on (start k) before ++ zs)
       answered r more is how =
           let split : ys ≡ (x.request, r) ∷ map replied more = ap (map replied) is in
           let law : IsLawfulFor (cell_of (start k) (pairs S.served)) (stopped_of false (pairs S.served)) ((x.request, r) ∷ map replied more) = subst (λ l. IsLawfulFor (cell_of (start k) (pairs S.served)) (stopped_of false (pairs S.served)) l) split lawful in
@@ -337,7 +337,7 @@ module _ (start : ℕ → Option (List ℕ)) (e f : Engine) (c : ℕ) (accepted 
 
         by_doubt : ((group_for e k).pending k ≡ Some (record { entry = p.entry; slot = None }))
             ⊎ ((x : Placed) × (rest : List Fixed) × (s : ℕ) × (e.place k ≡ Some x) × (x.posted ≡ true) × ((group_for e k).pending k ≡ Some (record { entry = p.entry; slot = Some s }))
-            × (fixed_of k fixed ≡ record { number = x.number; request = x.request; reply = Stopped } ∷ rest)
+            × (fixed_of k fixed ≡ record { number = x.number; request = x.request; reply = Stopped; refusal = None } ∷ rest)
             × (left_by (group_for f k) (places.owner (group_for f k).place k) p.entry.body ≡ left_by (group_for e k) (places.owner (group_for e k).place k) p.entry.body)) → Next p
         by_doubt (inl was) = let so = idle was in next_doubt p None was (all_stop so.0 so.1) (left_stays p.entry was)
         by_doubt (inr new) =

@@ -28,7 +28,7 @@ module _ (o : Origin) (e : Engine) (S : Stands o e) (c : ℕ) (core : c < e.layo
   f = record e { backlog = put e.backlog c rest; answer = put e.answer n (Some (record { reply = reply; stamp = e.region.stamp })) }
 
   abbrev x : Fixed
-  x = record { number = n; request = Get k; reply = reply }
+  x = record { number = n; request = Get k; reply = reply; refusal = None }
 
   not_stopped : (d : Option (List ℕ)) → answer_to (Get k) d ≡ Stopped → ⊥
   not_stopped None q = cc q

@@ -45,13 +45,13 @@ pub record Does (v u : KeyView) (place place' : Option Placed) (stopped stopped'
   pub stays : stopped ≡ true → stopped' ≡ true
   pub posted : (y : Placed) → place ≡ Some y → y.posted ≡ true
       → ((fixed ≡ []) × (place' ≡ Some y))
-      ⊎ ((r : Reply) × (rest : List Fixed) × (fixed ≡ record { number = y.number; request = y.request; reply = r } ∷ rest) × ((is_finish r ≡ true) ⊎ (r ≡ Stopped)))
+      ⊎ ((r : Reply) × (rest : List Fixed) × (fixed ≡ record { number = y.number; request = y.request; reply = r; refusal = None } ∷ rest) × ((is_finish r ≡ true) ⊎ (r ≡ Stopped)))
   -- A change in doubt was pending before, and leaves what it left. Where it was in a slot then, it has been answered Stopped.
   pub doubt : (d : Entry) → u.pending ≡ Some (record { entry = d; slot = None })
       → (u.left d.body ≡ v.left d.body)
       × ((v.pending ≡ Some (record { entry = d; slot = None }))
       ⊎ ((y : Placed) × (rest : List Fixed) × (s : ℕ) × (place ≡ Some y) × (y.posted ≡ true) × (v.pending ≡ Some (record { entry = d; slot = Some s }))
-      × (fixed ≡ record { number = y.number; request = y.request; reply = Stopped } ∷ rest)))
+      × (fixed ≡ record { number = y.number; request = y.request; reply = Stopped; refusal = None } ∷ rest)))
 
 -- Where the key is, with these answered requests.
 pub record KeyIs (start : Option (List ℕ)) (v : KeyView) (place : Option Placed) (stopped : Bool) (xs : List (Request × Reply)) : Type 0 where

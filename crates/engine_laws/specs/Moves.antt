@@ -41,12 +41,12 @@ pub record KeyMoves (e f : Engine) (k : ℕ) (accepted : List (ℕ × Request)) 
   -- a posted change stays as it is, or is answered: it is finished, or the core has stopped
   pub posted : (x : Placed) → e.place k ≡ Some x → x.posted ≡ true
       → ((fixed ≡ []) × (f.place k ≡ Some x))
-      ⊎ ((r : Reply) × (rest : List Fixed) × (fixed ≡ record { number = x.number; request = x.request; reply = r } ∷ rest) × ((is_finish r ≡ true) ⊎ (r ≡ Stopped)))
+      ⊎ ((r : Reply) × (rest : List Fixed) × (fixed ≡ record { number = x.number; request = x.request; reply = r; refusal = None } ∷ rest) × ((is_finish r ≡ true) ⊎ (r ≡ Stopped)))
   -- a change in doubt was so before, or was posted and has been answered Stopped
   pub doubt : (d : Entry) → (group_for f k).pending k ≡ Some (record { entry = d; slot = None })
       → ((group_for e k).pending k ≡ Some (record { entry = d; slot = None }))
       ⊎ ((x : Placed) × (rest : List Fixed) × (s : ℕ) × (e.place k ≡ Some x) × (x.posted ≡ true) × ((group_for e k).pending k ≡ Some (record { entry = d; slot = Some s }))
-      × (fixed ≡ record { number = x.number; request = x.request; reply = Stopped } ∷ rest)
+      × (fixed ≡ record { number = x.number; request = x.request; reply = Stopped; refusal = None } ∷ rest)
       × (left_by (group_for f k) (places.owner (group_for f k).place k) d.body ≡ left_by (group_for e k) (places.owner (group_for e k).place k) d.body))
 
 -- What the answers become: those that were fixed, with the stamp after the move, and else as before.

@@ -10,6 +10,7 @@ use Rattle.pm_region.specs.State.{State, During, IsTelling, cell_now, Rose}
 use Rattle.pm_region.specs.Words.{KeepsOutside}
 use Rattle.log_entry.specs.declared.entry.Entry.{Entry}
 use Rattle.store_image.specs.Facts.{In}
+use Rattle.core_room.specs.declared.types.Shortage.{Shortage}
 use Rattle.group_laws.specs.declared.types.Pending.{Pending}
 use Rattle.group_laws.specs.declared.types.Slot.TheVariants.{Failed}
 use Rattle.group_laws.specs.Places as places
@@ -38,11 +39,12 @@ placed (Some x) = (x.number, x.request) ∷ []
 abbrev pub line_in : Hands → ℕ → List (ℕ × Request)
 line_in w k = placed (w.place k) ++ w.waits k
 
--- an answer that a call fixed, with its request
+-- an answer that a call fixed, with its request, and with the cause of a refusal
 pub record Fixed : Type 0 where
   pub number : ℕ
   pub request : Request
   pub reply : Reply
+  pub refusal : Option Shortage
 
 abbrev pub asked : Fixed → ℕ × Request
 asked x = (x.number, x.request)
@@ -75,12 +77,12 @@ pub record AnswersKey (v u : View) (w x : Hands) (k : ℕ) (accepted : List (ℕ
   -- a posted change stays as it is, or is the first that is answered
   pub posted : (y : Placed) → w.place k ≡ Some y → y.posted ≡ true
       → ((fixed ≡ []) × (x.place k ≡ Some y))
-      ⊎ ((r : Reply) × (rest : List Fixed) × (fixed ≡ record { number = y.number; request = y.request; reply = r } ∷ rest) × ((is_finish r ≡ true) ⊎ (r ≡ Stopped)))
+      ⊎ ((r : Reply) × (rest : List Fixed) × (fixed ≡ record { number = y.number; request = y.request; reply = r; refusal = None } ∷ rest) × ((is_finish r ≡ true) ⊎ (r ≡ Stopped)))
   -- a change in doubt was so before, or was posted and is answered Stopped
   pub doubt : (d : Entry) → u.pending k ≡ Some (record { entry = d; slot = None })
       → (v.pending k ≡ Some (record { entry = d; slot = None }))
       ⊎ ((y : Placed) × (rest : List Fixed) × (s : ℕ) × (w.place k ≡ Some y) × (y.posted ≡ true) × (v.pending k ≡ Some (record { entry = d; slot = Some s }))
-      × (fixed ≡ record { number = y.number; request = y.request; reply = Stopped } ∷ rest) × (left_in u.blocks d.body ≡ left_in v.blocks d.body))
+      × (fixed ≡ record { number = y.number; request = y.request; reply = Stopped; refusal = None } ∷ rest) × (left_in u.blocks d.body ≡ left_in v.blocks d.body))
 
 -- One call of the worker of member m: of the region from s to t, of the group's state where it is told, of the view from v to u, and of what it holds.
 pub record WorkerMoves (p : places.Place) (m : ℕ) (s t : State) (before after : Option Group) (v u : View) (w x : Hands) (accepted : List (ℕ × Request)) (fixed : List Fixed) : Type 0 where

@@ -6,3 +6,6 @@ mod Moving
 mod Advancing
 mod Giving
 mod Opened
+mod Reporting
+mod Outcomes
+mod Stopping

@@ -1,9 +1,12 @@
 // The engine: what it keeps, and one move of it.
-ghost use Rattle.std.specs.Prelude.{◌≡◌, ℕ, ◌++◌, ◌∷◌, [], List, OnOk, OnErr};
+ghost use Rattle.std.specs.Prelude.{◌≡◌, ℕ, ◌<◌, ◌++◌, ◌∷◌, [], List, length, Some, true, false, OnOk, OnErr};
+ghost use Rattle.std.specs.List.{slice_get};
+ghost use Rattle.group_laws.specs.MemberViews.{View};
 ghost use Rattle.fs_model.specs.Cells.{key_of};
 
 use crate::passes;
 use crate::passes::Cores;
+use crate::report::{Report, report_on};
 use crate::step::{collect, step};
 use crate::types::Stamped;
 use crate::worker::CoreWorker;
@@ -13,6 +16,7 @@ use fs_model::Request;
 use fs_text::Line;
 use group_board::LocalBoard;
 use pm_region::Region;
+use std::alloc::Global;
 use std::collections::VecDeque;
 
 /// One worker for each core, one board for each group, by core the requests that its worker has not accepted yet, and
@@ -46,6 +50,22 @@ fn append(
 {
     backlog.push_back((number, request))?;
     Ok(())
+}
+
+// Whether one of the workers has stopped.
+fn any_stopped<W: CoreWorker>(workers: &Vec<W>) -> bool
+    ensures stopped { result ≡ true → (c : ℕ) × (c < length workers.now.items)
+        × ((w : W) → slice_get workers.now.items c ≡ Some w
+        → (v : View) → (W.hands v w).stopped ≡ true) }
+    ensures going { result ≡ false → (c : ℕ) (w : W) → slice_get workers.now.items c ≡ Some w
+        → (v : View) → (W.hands v w).stopped ≡ false }
+{
+    for core in 0..workers.len() {
+        if workers[core].stopped() {
+            return true;
+        }
+    }
+    false
 }
 
 impl<W: CoreWorker> Cores for Engine<W> {
@@ -94,10 +114,27 @@ impl<W: CoreWorker> Engine<W> {
     ghost use Rattle.chunk_map.specs.Layouts.{layout_of};
     ghost use Rattle.engine_laws.specs.Engine as engines;
     ghost use Rattle.engine_laws.specs.Stands.{Origin, Stands, opening};
-    ghost use Rattle.engine_laws.specs.Promises.{AnyTurn, IsOrigin, IsDone, Promised};
+    ghost use Rattle.engine_laws.specs.Promises.{AnyTurn, IsOrigin, IsDone, Promised, HasStopped};
+    ghost use Rattle.pm_region.specs.State.{State};
     ghost use Rattle.engine_laws.specs.Ran.{Ran};
     ghost use Rattle.group_engine.specs.Passes.{NameCores, Ends, EndsIn, DrainsOut};
     ghost use Rattle.group_engine.specs.Shows.{Shows};
+
+    /// Whether a core has stopped: then a call of the region failed.
+    pub fn has_stopped(&self) -> bool
+        ensures stopped { result ≡ true → (s : State) (o : Origin) (e : engines.Engine) → Stands o e
+            → Shows W.hands W.answers W.stands W.fair W.room W.leads (λ q. q.items) s
+            self.now.layout self.now.workers.items self.now.boards.items
+            self.now.backlogs.items self.now.answers.items e
+            → HasStopped e }
+        ensures going { result ≡ false → (s : State) (o : Origin) (e : engines.Engine) → Stands o e
+            → Shows W.hands W.answers W.stands W.fair W.room W.leads (λ q. q.items) s
+            self.now.layout self.now.workers.items self.now.boards.items
+            self.now.backlogs.items self.now.answers.items e
+            → (c : ℕ) → c < e.layout.cores → e.stopped c ≡ false }
+    {
+        any_stopped(&self.workers)
+    }
 
     /// Makes passes over the cores until nothing moves.
     pub fn drain<R: Region>(&mut self, region: &mut R) -> Result<(), Memory>
@@ -147,5 +184,24 @@ impl<W: CoreWorker> Engine<W> {
             × Ran AnyTurn (layout_of o.found).cores lines.items (opening o) f × IsDone o f) }
     {
         passes::replay(self, region, lines)
+    }
+}
+
+impl<W: CoreWorker + Drop> Engine<W> {
+    ghost use Rattle.std.specs.Prelude.{IfOk};
+    ghost use Rattle.pm_region.specs.State.{State};
+    ghost use Rattle.engine_laws.specs.Engine as engines;
+    ghost use Rattle.engine_laws.specs.Stands.{Origin, Stands};
+    ghost use Rattle.group_engine.specs.Reports.{ReportsOn};
+    ghost use Rattle.group_engine.specs.Shows.{Shows};
+
+    /// The replies, and the report on them: those of the state that the engine shows.
+    pub fn into_report(self, alloc: Global) -> Result<Report, Memory>
+        ensures { IfOk result (λ r. (s : State) (o : Origin) (e : engines.Engine) → Stands o e
+            → Shows W.hands W.answers W.stands W.fair W.room W.leads (λ q. q.items) s self.layout
+            self.workers.items self.boards.items self.backlogs.items self.answers.items e
+            → ReportsOn s o e r) }
+    {
+        report_on(alloc, self.answers)
     }
 }

@@ -4,6 +4,9 @@
 pub mod engine;
 pub mod opening;
 pub mod passes;
+pub mod report;
 mod step;
+#[cfg(test)]
+mod tests;
 pub mod types;
 pub mod worker;

@@ -50,6 +50,10 @@ pub trait CoreWorker {
     fn leading(&self) -> bool
         ensures { result ≡ leads self.now };
 
+    /// Whether it has stopped: it answers `Stopped` from then on.
+    fn stopped(&self) -> bool
+        ensures { (v : View) → result ≡ (hands v self.now).stopped };
+
     /// The next answer, in the order in which they were fixed, and None exactly where all were given.
     fn next_answer(&mut self) -> Option<Answer>
         ensures answer { MatchOption result ((answers self.old ≡ []) × (answers self.new ≡ []))

@@ -15,7 +15,7 @@ pub returns-then-not-posted-clause-keeps : goal.returns-then-not-posted-clause-k
 returns-then-not-posted-clause-keeps g c s S = keeps_same (g.B.Board.seat c.args.board.now) s (g.B.Board.whole c.args.board.now) (g.B.Board.view c.args.board.now) c.args.self.now c.requires.holds S c.requires.order (g.met.B.Board.agrees c.args.board.now)
 
 pub returns-then-not-posted-clause-turned : goal.returns-then-not-posted-clause-turned
-returns-then-not-posted-clause-turned g c refused before v post tells = record {
+returns-then-not-posted-clause-turned g c s refused before v post tells = record {
   mid = g.B.Board.view c.args.board.now;
   before = tells.0;
   post = post;
@@ -35,7 +35,7 @@ returns-then-try_lead-clause-keeps g c s S =
     (λ stopped. lock_stops c.try_lead.result seat (g.B.Board.view c.args.board.now) (g.B.Board.view c.try_lead.new.board) c.args.self.now c.try_lead.new.self e.holds e.tried) c.requires.order e.rule
 
 pub returns-then-try_lead-clause-turned : goal.returns-then-try_lead-clause-turned
-returns-then-try_lead-clause-turned g c refused before v post tells =
+returns-then-try_lead-clause-turned g c s refused before v post tells =
     let seat = g.B.Board.seat c.args.board.now in
     let had = subst (λ (b : Bool). TriesLock b seat.number (g.B.Board.view c.args.board.now) (g.B.Board.view c.try_lead.new.board) c.args.self.now c.try_lead.new.self) c.if-try_lead.true c.try_lead.ensures.tried in
     locks (record {
@@ -59,7 +59,7 @@ returns-clause-keeps g c s S =
     (λ stopped. lock_stops c.try_lead.result seat (g.B.Board.view c.args.board.now) (g.B.Board.view c.try_lead.new.board) c.args.self.now c.try_lead.new.self e.holds e.tried) c.requires.order e.rule
 
 pub returns-clause-turned : goal.returns-clause-turned
-returns-clause-turned g c refused before v post tells =
+returns-clause-turned g c s refused before v post tells =
     let seat = g.B.Board.seat c.args.board.now in
     let had = subst (λ (b : Bool). TriesLock b seat.number (g.B.Board.view c.args.board.now) (g.B.Board.view c.try_lead.new.board) c.args.self.now c.try_lead.new.self) c.if-try_lead.false c.try_lead.ensures.tried in
     record {

@@ -21,4 +21,4 @@ returns-clause-keeps g c s S =
     (λ stopped. absurd (let both : true ≡ false = sym stopped ∙ c.requires.runs in cc both)) c.requires.order e.rule
 
 pub returns-clause-did : goal.returns-clause-did
-returns-clause-did g c refused = goes_round c.go_round.ensures.went
+returns-clause-did g c s refused = goes_round c.go_round.ensures.went

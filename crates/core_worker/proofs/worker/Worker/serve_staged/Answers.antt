@@ -1,19 +1,72 @@
--- The lowest staged change is posted, or the lock is tried.
+-- The lowest staged change is posted, or answered by a stopped core, or the lock is tried.
 use Rattle.std.proofs.Common.{◌≡◌, true, false, sym, ◌∙◌, refl, subst}
-use Rattle.core_worker.specs.declared.choosing.Choice.{Choice}
-use Rattle.core_worker.specs.Turning.{Chooses, at_entry}
-use Rattle.core_worker.proofs.TurnLaws.{posts_did, keeps_looked, looked_holds, looked_stands, looked_order}
+use Rattle.std.specs.Prelude.{is_ok}
+use Rattle.core_worker.specs.Turning.{at_entry}
+use Rattle.core_worker.specs.Turning.Did.{drops}
+use Rattle.core_worker.proofs.TurnLaws.{posts_did}
+use Rattle.core_worker.proofs.ItemLaws.{keeps_drop}
 use Rattle.core_worker.proofs.worker.Worker.serve_staged.Goals as goal
 
 pub returns-in-Pass-clause-keeps : goal.returns-in-Pass-clause-keeps
-returns-in-Pass-clause-keeps g c = c.serve_lock.ensures.keeps (g.R.Region.state c.args.region.now) c.requires.stands
+returns-in-Pass-clause-keeps g c = c.serve_lock-turn.ensures.keeps (g.R.Region.state c.args.region.now) c.requires.stands
 
 pub returns-in-Pass-clause-turned : goal.returns-in-Pass-clause-turned
-returns-in-Pass-clause-turned g c before v tells = c.serve_lock.ensures.turned (g.G.Gate.may_refuse c.args.gate.now) before v c.in-Pass.ensures tells
+returns-in-Pass-clause-turned g c before v tells = c.serve_lock-turn.ensures.turned (g.R.Region.state c.args.region.now) (g.G.Gate.may_refuse c.args.gate.now) before v c.in-Pass.ensures tells
 
 pub returns-in-Post-clause-turned : goal.returns-in-Post-clause-turned
 returns-in-Post-clause-turned g c before v tells =
     let seat = g.B.Board.seat c.args.board.now in
     let chosen = c.in-Post.ensures in
-    posts_did (g.G.Gate.may_refuse c.args.gate.now) seat before (g.B.Board.whole c.args.board.now) (g.B.Board.whole c.post.new.board) v (g.B.Board.view c.args.board.now) (g.B.Board.view c.post.new.board) c.args.self.now c.post.new.self c.in-Post.slot
+    posts_did (g.R.Region.state c.args.region.now) (g.G.Gate.may_refuse c.args.gate.now) seat before (g.B.Board.whole c.args.board.now) (g.B.Board.whole c.post.new.board) v (g.B.Board.view c.args.board.now) (g.B.Board.view c.post.new.board) c.args.self.now c.post.new.self c.in-Post.slot
     tells.0 chosen.0 chosen.2 chosen.3 c.post.ensures.posts
+
+pub drop_staged-requires-clause-tied : goal.drop_staged-requires-clause-tied
+drop_staged-requires-clause-tied g c =
+    let seat = g.B.Board.seat c.args.board.now in
+    (record { place = seat.place; number = seat.number; view = g.B.Board.view c.args.board.now }, record { holds = c.requires.holds; stands = c.requires.stands; order = c.requires.order })
+
+pub returns-in-Ok-clause-keeps : goal.returns-in-Ok-clause-keeps
+returns-in-Ok-clause-keeps g c =
+    let seat = g.B.Board.seat c.args.board.now in
+    let v = g.B.Board.view c.args.board.now in
+    let s = g.R.Region.state c.args.region.now in
+    let chosen = c.in-Drop.ensures in
+    keeps_drop seat s (g.B.Board.whole c.args.board.now) v c.args.self.now c.drop_staged.new.self c.in-Drop.slot (is_ok c.drop_staged.result) chosen.1 chosen.2 c.requires.holds c.requires.stands c.requires.order (g.met.B.Board.agrees c.args.board.now)
+    (c.drop_staged.ensures.ties s (record { place = seat.place; number = seat.number; view = v }) (record { holds = c.requires.holds; stands = c.requires.stands; order = c.requires.order })) c.drop_staged.ensures.rule c.drop_staged.ensures.drops
+
+pub returns-in-Ok-clause-turned : goal.returns-in-Ok-clause-turned
+returns-in-Ok-clause-turned g c before v tells =
+    let chosen = c.in-Drop.ensures in
+    drops (is_ok c.drop_staged.result) (record {
+      slot = c.in-Drop.slot;
+      mid = g.B.Board.view c.args.board.now;
+      before = tells.0;
+      stopped = chosen.2;
+      works = chosen.3;
+      lowest = chosen.0;
+      drops = c.drop_staged.ensures.drops;
+      view = refl;
+    })
+
+pub returns-in-Err-clause-keeps : goal.returns-in-Err-clause-keeps
+returns-in-Err-clause-keeps g c =
+    let seat = g.B.Board.seat c.args.board.now in
+    let v = g.B.Board.view c.args.board.now in
+    let s = g.R.Region.state c.args.region.now in
+    let chosen = c.in-Drop.ensures in
+    keeps_drop seat s (g.B.Board.whole c.args.board.now) v c.args.self.now c.drop_staged.new.self c.in-Drop.slot (is_ok c.drop_staged.result) chosen.1 chosen.2 c.requires.holds c.requires.stands c.requires.order (g.met.B.Board.agrees c.args.board.now)
+    (c.drop_staged.ensures.ties s (record { place = seat.place; number = seat.number; view = v }) (record { holds = c.requires.holds; stands = c.requires.stands; order = c.requires.order })) c.drop_staged.ensures.rule c.drop_staged.ensures.drops
+
+pub returns-in-Err-clause-turned : goal.returns-in-Err-clause-turned
+returns-in-Err-clause-turned g c before v tells =
+    let chosen = c.in-Drop.ensures in
+    drops (is_ok c.drop_staged.result) (record {
+      slot = c.in-Drop.slot;
+      mid = g.B.Board.view c.args.board.now;
+      before = tells.0;
+      stopped = chosen.2;
+      works = chosen.3;
+      lowest = chosen.0;
+      drops = c.drop_staged.ensures.drops;
+      view = refl;
+    })

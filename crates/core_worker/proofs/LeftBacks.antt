@@ -1,0 +1,101 @@
+-- What a stopped core, and one whose change is given back, lower.
+use Rattle.std.proofs.Common.{◌≡◌, ◌≢◌, inl, inr, ⊎_elim, ℕ, zero, suc, ◌+◌, ◌*◌, ◌-◌, ◌<◌, ◌≤◌, Bool, true, false, cond, eqb, List, [], ◌∷◌, ◌++◌, map, length, Option, Some, None, refl, sym, ◌∙◌, ap, subst, arith}
+use Rattle.std.specs.Prelude.{IfSome, IsSomeAnd, MatchOption}
+use Rattle.std.proofs.Math.Bridge.{le_prop}
+use mathlib.Core.Logic.{∥∥₁_elim}
+use Rattle.fs_model.specs.declared.model.Reply.{Reply}
+use Rattle.log_entry.specs.declared.entry.Entry.{Entry}
+use Rattle.group_laws.specs.declared.types.Slot.{Slot}
+use Rattle.group_laws.specs.declared.types.Slot.TheVariants as slots
+use Rattle.group_laws.specs.Places.{Place, core_of}
+use Rattle.group_laws.specs.State.{Group, shown}
+use Rattle.group_laws.specs.Invariant.{Lawful}
+use Rattle.group_laws.specs.MemberViews.{View, view_of}
+use Rattle.group_laws.specs.Runs.{Kind, IsStep, Runs}
+use Rattle.group_board.specs.Told.{Makes, state_of}
+use Rattle.group_board.specs.declared.board.SlotState.TheVariants as states
+use Rattle.batch_leader.specs.Rounds.{slot_at}
+use Rattle.batch_leader.specs.Leading.{MakesAll, looks_upto, NonePosted}
+use Rattle.core_worker.specs.declared.types.Place.TheVariants.{Staged}
+use Rattle.core_worker.specs.declared.worker.Worker.{Worker}
+use Rattle.core_worker.specs.OwnPlaces.{place_at}
+use Rattle.core_worker.specs.Finishing.{LetsGo, Settles, TakesBack, reply_back}
+use Rattle.core_worker.specs.Left.{place_left, left, offers, any_offers, under_way, Lowers}
+use Rattle.core_worker.proofs.LeftSums.{offers_has}
+use Rattle.core_worker.proofs.LeftSteps.{finishes_way, gives_up_way, withdraws_way, unlocks_none}
+use Rattle.core_worker.proofs.LeftWorkers.{lets_go_way, settles_way, stops_way}
+use Rattle.core_worker.proofs.LeftLooks.{last_step, upto_looked, looked_way}
+use Rattle.core_worker.proofs.LeftItems.{IsLawful, lowers_step, lowers_still}
+use Rattle.core_worker.proofs.LeftRounds.{lowers_run, offered, own_member, own_slot}
+
+-- Before its place is let go: the change is settled, or the core stops.
+settled_low : (home : Option ℕ) (p : Place) (w x : Worker) (e : Entry) → MatchOption home (x ≡ record w { stopped = true }) (λ h. Settles w x e (core_of p h)) → left x ≤ left w
+settled_low None p w x e stops = stops_way w x stops
+settled_low (Some h) p w x e settles = let same = settles_way w x e (core_of p h) settles in omega (arith, same)
+
+settled_places : (home : Option ℕ) (p : Place) (w x : Worker) (e : Entry) → MatchOption home (x ≡ record w { stopped = true }) (λ h. Settles w x e (core_of p h)) → length x.places.items ≡ length w.places.items
+settled_places None p w x e stops = ap (λ (y : Worker). length y.places.items) stops
+settled_places (Some h) p w x e settles = ap (λ (y : Worker). length y.places.items) settles.rest
+
+pub takes_back_low : (p : Place) (m slot : ℕ) (v u : View) (w x : Worker) → slot < length w.places.items → TakesBack p m slot v u w x → left x ≤ left w
+takes_back_low p m slot v u w x lt T =
+    let settled = settled_low T.home p w T.mid T.entry T.settles in
+    let count = settled_places T.home p w T.mid T.entry T.settles in
+    let gone = lets_go_way T.mid x slot (reply_back T.home T.entry.body) (omega (arith, lt, count)) T.lets in
+    omega (arith, settled, gone)
+
+-- A change that was given back is finished, and what waits of its key is begun.
+pub finishes_lower : (before after : Option Group) (m slot : ℕ) (u : View) (w x : Worker) → Makes before m (Kind.Finish slot) after u → IsLawful before → left x ≤ left w → Lowers before after w x
+finishes_lower before after m slot u w x made lawful low = lowers_step before after m (Kind.Finish slot) u w x made lawful (λ a b L step. ⊎_elim
+    (λ done. let way = finishes_way a b m slot done.0 done.1 done.2 done.3 in omega (arith, way, low))
+    (λ lost. let way = gives_up_way a b m slot lost.0 lost.1 lost.2 in omega (arith, way, low))
+    step)
+
+-- An own change is taken back that nobody had taken.
+pub withdraws_lower : (before after : Option Group) (m slot n : ℕ) (u : View) (w x : Worker) → MakesAll before (looks_upto m 0 n ++ (m, Kind.Withdraw slot) ∷ []) after m u → IsLawful before → left x ≤ left w → Lowers before after w x
+withdraws_lower before after m slot n u w x made lawful low =
+    lowers_run before after m (looks_upto m 0 n ++ (m, Kind.Withdraw slot) ∷ []) u w x made lawful (λ a b told L run.
+    let last = last_step a b (looks_upto m 0 n) m (Kind.Withdraw slot) run in
+    let looked = looked_way a last.0 (upto_looked a last.0 m 0 n last.1) in
+    let way = withdraws_way last.0 m slot last.2.0 last.2.1 in
+    let group = ap under_way last.2.2 in
+    omega (arith, looked, way, group, low))
+
+-- A stopped core found none of its own slots Posted, and gives the lock back.
+none_posted : (g : Group) (m : ℕ) → NonePosted (Some g) m 8 → any_offers (g.slot m) 8 ≡ false
+none_posted g m none = by (any_offers (g.slot m) 8) refl where
+  by : (b : Bool) → any_offers (g.slot m) 8 ≡ b → b ≡ false
+  by false e = refl
+  by true e = absurd (
+    let at = offers_has (g.slot m) 8 e in
+    let x = offered (g.slot m at.0) at.2 in
+    let found = none at.0 at.1 in
+    found.1 _ (sym found.2 ∙ ap (λ n. state_of (shown (g.slot n (slot_at at.0)))) (own_member m at.0 at.1) ∙ ap (λ n. state_of (shown (g.slot m n))) (own_slot at.0 at.1) ∙ ap (λ (y : Slot). state_of (shown y)) x.1)
+  )
+
+gives_over : (g h : Group) (o : Option Group) (m : ℕ) (v u : View) (w x : Worker) → NonePosted (Some g) m 8 → Runs g (looks_upto m 0 8) h → Makes (Some h) m Kind.Unlock o u → Lawful g → left x ≤ left w → IsSomeAnd o (λ e. left x + under_way e < left w + under_way g)
+gives_over g h None m v u w x none run unlock L low = absurd unlock
+gives_over g h (Some e) m v u w x none run unlock L low =
+    let on = upto_looked g h m 0 8 run in
+    let looked = looked_way g h on in
+    let step = unlock.0 in
+    let holds : g.holds m ≡ true = sym (ap (λ (y : Group). y.holds m) on.1) ∙ step.0.holds in
+    let mine : h.holder ≡ Some m = ap (λ (y : Group). y.holder) on.1 ∙ (L.looks.holds_is m).0 holds in
+    let clear : any_offers (h.slot m) 8 ≡ false = ap (λ (y : Group). any_offers (y.slot m) 8) on.1 ∙ none_posted g m none in
+    let way = unlocks_none h m mine clear in
+    let group = ap under_way step.1 in
+    omega (arith, looked, way, group, low)
+
+pub gives_over_lower : (before mid after : Option Group) (m : ℕ) (v u : View) (w x : Worker) → NonePosted before m 8 → MakesAll before (looks_upto m 0 8) mid m v → Makes mid m Kind.Unlock after u → IsLawful before → left x ≤ left w → Lowers before after w x
+gives_over_lower None mid after m v u w x none made unlock lawful low = tt
+gives_over_lower (Some g) None after m v u w x none made unlock lawful low = absurd made
+gives_over_lower (Some g) (Some h) None m v u w x none made unlock lawful low = absurd unlock
+gives_over_lower (Some g) (Some h) (Some e) m v u w x none made unlock lawful low = ∥∥₁_elim lawful le_prop (λ L. gives_over g h (Some e) m v u w x none made.0 unlock L low)
+
+-- A stopped core lets a staged change go.
+pub drops_lower : (before after : Option Group) (slot number : ℕ) (entry : Entry) (value : List ℕ) (reply : Reply) (w x y : Worker) → after ≡ before → slot < length w.places.items → place_at w.places.items slot ≡ Staged number entry value → LetsGo w x slot reply → left y ≤ left x → Lowers before after w y
+drops_lower before after slot number entry value reply w x y same lt is lets low =
+    lowers_still before after w y same
+    (let gone = lets_go_way w x slot reply lt lets in
+    let was = ap place_left is in
+    omega (arith, gone, was, low))

@@ -1,0 +1,90 @@
+-- What the items of a turn lower, where the board tells the state.
+use Rattle.std.proofs.Common.{◌≡◌, ◌≢◌, inl, inr, ⊎_elim, ℕ, zero, suc, ◌+◌, ◌*◌, ◌-◌, ◌<◌, ◌≤◌, Bool, true, false, cond, List, [], ◌∷◌, ◌++◌, length, Option, Some, None, refl, sym, ◌∙◌, ap, subst, arith}
+use Rattle.std.specs.Prelude.{IfSome, IsSomeAnd}
+use Rattle.std.proofs.Math.Bridge.{le_prop}
+use mathlib.Core.Logic.{∥∥₁_elim}
+use Rattle.group_laws.specs.State.{Group}
+use Rattle.group_laws.specs.Invariant.{Lawful}
+use Rattle.group_laws.specs.MemberViews.{View}
+use Rattle.group_laws.specs.Runs.{Kind, IsStep, Runs}
+use Rattle.group_board.specs.Told.{Makes}
+use Rattle.core_worker.specs.declared.worker.Worker.{Worker}
+use Rattle.core_worker.specs.declared.types.Leading.TheVariants as leads
+use Rattle.core_worker.specs.OwnPlaces.{place_at}
+use Rattle.core_worker.specs.Posting.{PostsPlain, PostsOrStops}
+use Rattle.core_worker.specs.Turns.{Moment, SameButLeading, Marks, Fails, Persists, LosesBatch, PersistsOrLoses, MadeOrStops}
+use Rattle.core_worker.specs.Left.{place_left, places_left, leading_left, left, under_way, Lowers, NotMore}
+use Rattle.core_worker.proofs.LeftSums.{places_with}
+use Rattle.core_worker.proofs.LeftSteps.{posts_way, marks_way, fails_way}
+use Rattle.core_worker.proofs.LeftWorkers.{leading_way, persisted_way, failed_way, unpledges_way}
+
+-- the board's law
+abbrev pub IsLawful : Option Group → Type 0
+IsLawful before = IfSome before (λ w. ∥ Lawful w ∥₁)
+
+-- One step, of a state that is lawful.
+pub lowers_step : (before after : Option Group) (m : ℕ) (kind : Kind) (v : View) (w x : Worker) → Makes before m kind after v → IsLawful before → ((a b : Group) → Lawful a → IsStep a m kind b → left x + under_way b < left w + under_way a) → Lowers before after w x
+lowers_step None after m kind v w x made lawful less = tt
+lowers_step (Some a) None m kind v w x made lawful less = absurd made
+lowers_step (Some a) (Some b) m kind v w x made lawful less = ∥∥₁_elim lawful le_prop (λ L. less a b L made.0)
+
+-- no step, where the worker itself has less to do
+pub lowers_still : (before after : Option Group) (w x : Worker) → after ≡ before → left x < left w → Lowers before after w x
+lowers_still before after w x same less = subst (λ (o : Option Group). Lowers before o w x) (sym same) (by before) where
+  by : (o : Option Group) → Lowers o o w x
+  by None = tt
+  by (Some a) = omega (arith, less)
+
+pub marks_lower : (before after : Option Group) (m : ℕ) (a b : Moment) (M : Marks a b) → IsLawful before → Makes before m (Kind.Mark M.first.member M.first.slot) after b.view → Lowers before after a.worker b.worker
+marks_lower before after m a b M lawful made =
+    lowers_step before after m (Kind.Mark M.first.member M.first.slot) b.view a.worker b.worker made lawful (λ w u L step.
+    let way = marks_way w m M.first.member M.first.slot step.0 L step.1 in
+    let group = ap under_way step.2 in
+    let same = leading_way a.worker b.worker M.same in
+    let now = persisted_way M.rest b.worker.leading M.leads_now in
+    omega (arith, way, group, same, now))
+
+pub fails_lower : (before after : Option Group) (m : ℕ) (a b : Moment) (F : Fails a b) → IsLawful before → Makes before m (Kind.Fail F.first.member F.first.slot) after b.view → Lowers before after a.worker b.worker
+fails_lower before after m a b F lawful made =
+    lowers_step before after m (Kind.Fail F.first.member F.first.slot) b.view a.worker b.worker made lawful (λ w u L step.
+    let way = fails_way w m F.first.member F.first.slot step.0 L step.1 in
+    let group = ap under_way step.2 in
+    let same = leading_way a.worker b.worker F.same in
+    let now = failed_way F.rest b.worker.leading F.leads_now in
+    omega (arith, way, group, same, now))
+
+pub persists_lower : (before after : Option Group) (m : ℕ) (a b : Moment) → length b.worker.places.items ≡ length a.worker.places.items → Persists m a b → IsLawful before → Makes before m Kind.Commit after b.view → Lowers before after a.worker b.worker
+persists_lower before after m a b count P lawful made =
+    lowers_step before after m Kind.Commit b.view a.worker b.worker made lawful (λ w u L step.
+    let group = ap under_way step.1 in
+    let same = ap left P.same in
+    let places = unpledges_way m P.batch.changes.taken.items a.worker b.worker count P.pledged in
+    let was = ap leading_left P.led in
+    let now = ap leading_left P.leads_now in
+    omega (arith, group, same, places, was, now))
+
+pub loses_lower : (before after : Option Group) (a b : Moment) → LosesBatch a b → after ≡ before → Lowers before after a.worker b.worker
+loses_lower before after a b P group =
+    lowers_still before after a.worker b.worker group
+    (let same = ap left P.same in
+    let was = ap leading_left P.led in
+    let now = ap leading_left P.leads_now in
+    omega (arith, same, was, now))
+
+-- A post, after its block where there is one; or the core stops.
+pub plain_lower : (before after : Option Group) (m : ℕ) (v u : View) (w x : Worker) (slot : ℕ) → slot < length w.places.items → PostsPlain m before after v u w x slot → IsLawful before → Lowers before after w x
+plain_lower before after m v u w x slot lt P lawful =
+    lowers_step before after m (Kind.Post slot P.entry P.value) u w x P.whole lawful (λ a b L step.
+    let way = posts_way a m slot P.entry P.value step.0 in
+    let group = ap under_way step.1 in
+    let same = ap left P.rest in
+    let places = places_with w.places.items x.places.items slot _ P.places lt in
+    let was = ap place_left P.was in
+    omega (arith, way, group, same, places, was))
+
+pub posts_lower : (before after : Option Group) (m : ℕ) (v u : View) (w x : Worker) (slot : ℕ) → w.stopped ≡ false → slot < length w.places.items → PostsOrStops m before after v u w x slot → IsLawful before → Lowers before after w x
+posts_lower before after m v u w x slot runs lt which lawful = ⊎_elim
+    (λ done. subst (λ (y : ℕ). IfSome before (λ a. IsSomeAnd after (λ b. left x + under_way b < y + under_way a))) (ap left done.1)
+    (plain_lower before after m v u done.0 x slot (subst (λ (y : Worker). slot < length y.places.items) (sym done.1) lt) done.2 lawful))
+    (λ stops. lowers_still before after w x stops.2 (let same = ap left stops.0 in let was : cond w.stopped 0 1 ≡ 1 = ap {B = ℕ} (λ b. cond b 0 1) runs in omega (arith, same, was)))
+    which

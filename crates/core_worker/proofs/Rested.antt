@@ -1,0 +1,124 @@
+-- An idle turn leaves its core at rest.
+use Rattle.std.proofs.Common.{◌≡◌, ◌≢◌, ◌⊎◌, inl, inr, ⊎_elim, ℕ, ◌+◌, ◌<◌, Bool, true, false, cond, not, ◌&&◌, List, [], ◌∷◌, ◌++◌, length, Option, Some, None, refl, sym, ◌∙◌, ap, subst, arith}
+use Rattle.std.specs.Prelude.{IfSome, IsSomeAnd}
+use Rattle.std.proofs.lemmas.Bool.{and_from}
+use Rattle.log_entry.specs.declared.entry.Entry.{Entry}
+use Rattle.group_laws.specs.declared.types.Pending.{Pending}
+use Rattle.group_laws.specs.declared.types.Block.{Block}
+use Rattle.group_laws.specs.Places.{Place, owner}
+use Rattle.group_laws.specs.State.{Group}
+use Rattle.group_laws.specs.Invariant.{Lawful}
+use Rattle.group_laws.specs.MemberViews.{View, view_of}
+use Rattle.group_laws.specs.Runs.{Kind}
+use Rattle.group_board.specs.Told.{Makes}
+use Rattle.core_worker.specs.declared.types.Leading.{Leading}
+use Rattle.core_worker.specs.declared.worker.Worker.{Worker}
+use Rattle.core_worker.specs.OwnPlaces.{place_at, is_staged, is_posted, HasNone}
+use Rattle.core_worker.specs.Status.{has_room, is_leading}
+use Rattle.core_worker.specs.Ties.{Holds, LeadsAt, LeadsNothing}
+use Rattle.core_worker.specs.Turns.{Moment, FindsPosted, PassesPost, Idles, LooksMade}
+use Rattle.core_worker.specs.WorkerMoves.{Placed, hands_of}
+use Rattle.core_worker.specs.Resting.{IsWithOthers, Rests, HoldsSame, is_open, OpenFor, LoadsOnly}
+use Rattle.group_laws.specs.declared.types.Seen.{Seen}
+use Rattle.group_laws.specs.declared.types.Seen.TheVariants.{Holder}
+use Rattle.core_worker.specs.Left.{NotMore}
+use Rattle.core_worker.proofs.LeftWorkers.{leading_way}
+use Rattle.core_worker.proofs.LeftLocks.{looked_not_more, not_more_still, busy_not_more, nothing_left}
+use Rattle.core_worker.proofs.LeftOwn.{own_view}
+use Rattle.core_worker.proofs.QuietMoves.{for_same}
+use Rattle.core_worker.proofs.RestingLoads.{looks_only, looks_and_try}
+use Rattle.core_worker.proofs.RestingSlots.{busy_slot, with_others}
+use Rattle.core_worker.proofs.RestingPlaces.{posted_of, none_waits, room_for_one}
+
+-- the state is lawful, and place and view are what it has of the member
+abbrev pub Agrees : Place → ℕ → View → Option Group → Type 0
+Agrees p m v told = IfSome told (λ w. (p ≡ w.place) × (v ≡ view_of w m))
+
+-- nothing was left staged
+none_staged : (refused : Bool) (w : Worker) → PassesPost refused w → refused ≡ false → w.winds_down ≡ false → HasNone is_staged w.places.items
+none_staged refused w passes asks works = ⊎_elim (λ none. none)
+    (λ or. absurd (⊎_elim (λ yes. let both : true ≡ false = sym yes ∙ asks in cc both) (λ down. let both : true ≡ false = sym down ∙ works in cc both) or))
+    passes
+
+abbrev slot_or : Option Pending → Option ℕ
+slot_or None = None
+slot_or (Some d) = d.slot
+
+module _ (p : Place) (refused : Bool) (m : ℕ) (a b : Moment) (I : Idles refused m a b) (H : Holds p m b.view b.worker) (asks : refused ≡ false) (works : a.worker.winds_down ≡ false) where
+  none : HasNone is_staged b.worker.places.items
+  none t = ap (λ (w : Worker). is_staged (place_at w.places.items t)) I.same ∙ none_staged refused a.worker I.post asks works t
+
+  works_still : b.worker.winds_down ≡ false
+  works_still = ap (λ (w : Worker). w.winds_down) I.same ∙ works
+
+  pub leads_nothing : (b.view.holds ≡ false) × ((s t : ℕ) → b.view.taken s t ≡ None)
+  leads_nothing = (let led = subst (λ (l : Leading). LeadsAt H.leads.seat b.view l) I.free.1 H.leads.at in (led.0, led.1))
+
+  -- with no change in a place it could have been handed a request
+  pub open_for : OpenFor p m (hands_of b.view b.worker) a.worker
+  open_for all =
+      let room : has_room a.worker ≡ true = sym (ap has_room I.same) ∙ room_for_one p m b.view b.worker H none works_still all in
+      and_from (not (is_leading a.worker.leading)) (has_room a.worker) (ap (λ (l : Leading). not (is_leading l)) I.before.free.1) room
+
+  -- The steps that it made: the loads, and the try of the lock, where an own change was found Posted.
+  module _ (before mid after : Option Group) (looks : LooksMade before mid m I.mid) (tried : ((FindsPosted a.worker.places.items I.before.looked.found 8 → ⊥) × (after ≡ mid)) ⊎ Makes mid m Kind.Lock after b.view) where
+    pub loads : LoadsOnly before after m
+    loads = ⊎_elim (λ no. subst (λ (o : Option Group). LoadsOnly before o m) (sym no.1) (looks_only before mid m I.mid looks)) (λ try. looks_and_try before mid after m I.mid b.view looks try) tried
+
+    module _ (entered : Agrees p m a.view before) (left : Agrees p m b.view after) (lawful : IfSome after (λ w. ∥ Lawful w ∥₁)) where
+      slot_with : (k s : ℕ) (e : Entry) → owner p k ≡ m → b.view.pending k ≡ Some (record { entry = e; slot = Some s }) → s < 8 → is_posted (place_at b.worker.places.items s) ≡ true → IsWithOthers before after m s
+      slot_with k s e own pends lt is = by before mid after looks tried entered left lawful where
+        at : is_posted (place_at a.worker.places.items s) ≡ true
+        at = sym (ap (λ (w : Worker). is_posted (place_at w.places.items s)) I.same) ∙ is
+
+        by : (before mid after : Option Group) → LooksMade before mid m I.mid → ((FindsPosted a.worker.places.items I.before.looked.found 8 → ⊥) × (after ≡ mid)) ⊎ Makes mid m Kind.Lock after b.view → Agrees p m a.view before → Agrees p m b.view after → IfSome after (λ w. ∥ Lawful w ∥₁) → IsWithOthers before after m s
+        by None mid after looks tried entered left lawful = tt
+        by (Some g) mid None looks tried entered left lawful = tt
+        by (Some g) None (Some e') looks tried entered left lawful = absurd looks.1
+        by (Some g) (Some h) (Some e') looks tried entered left lawful =
+            let mine : owner e'.place k ≡ m = ap (λ (q : Place). owner q k) (sym left.0) ∙ own in
+            let named : e'.pending k ≡ Some (record { entry = e; slot = Some s }) = sym (own_view e'.place m k (e'.pending k) None mine) ∙ sym (ap (λ (v : View). v.pending k) left.1) ∙ pends in
+            ⊎_elim
+            (λ no. let same : e' ≡ h = cc no.1 in
+            with_others g h e' m looks.0 looks.1.0 a I.mid I.before entered.1 looks.1.1 (ap (λ (y : Group). y.slot) same) (λ found. absurd (no.0 found)) lawful k s e mine named lt at)
+            (λ try. let busy = busy_slot h e' m try.0 (sym (ap (λ (v : View). v.holds) try.1) ∙ leads_nothing.0) in
+            with_others g h e' m looks.0 looks.1.0 a I.mid I.before entered.1 looks.1.1 busy.0 (λ found. busy.1) lawful k s e mine named lt at)
+            tried
+
+      pub rests : b.worker.in_hand ≡ None → Rests p m before after b.view (hands_of b.view b.worker)
+      rests hand = record {
+        holds = leads_nothing.0;
+        taken = leads_nothing.1;
+        placed = λ k y own is.
+            let x = posted_of p m b.view b.worker H none k y is in
+            let at = x.1 in
+            (x.0, λ d s pends slot.
+            let same : Some s ≡ Some at.0 = sym slot ∙ ap slot_or (sym pends ∙ at.3.1) in
+            let here : s ≡ at.0 = cc same in
+            subst (λ n. IsWithOthers before after m n) (sym here) (slot_with k at.0 at.3.0 own at.3.1 at.1 at.2));
+        waits = λ k own is. none_waits p m b.view b.worker H none works_still hand k is;
+      }
+
+-- What it holds is what it held.
+pub holds_same : (p : Place) (m : ℕ) (v u : View) (w x : Worker) → u.pending ≡ v.pending → u.blocks ≡ v.blocks → x.places ≡ w.places → x.queue ≡ w.queue → x.in_hand ≡ w.in_hand → HoldsSame p m (hands_of v w) (hands_of u x)
+holds_same p m v u w x pending blocks same queue hand k own = (for_same v u x.places.items k pending blocks ∙ ap (λ ps. (hands_of v (record w { places = ps })).place k) same, (λ i. (hands_of u (record x { queue = queue i; in_hand = hand i })).waits k))
+
+idle_view : {X : Type 0} (f : View → X) (refused : Bool) (m : ℕ) (a b : Moment) (I : Idles refused m a b) → ((v : View) (xs : List Seen) → f (record v { looked = xs }) ≡ f v) → f b.view ≡ f a.view
+idle_view f refused m a b I same =
+    ⊎_elim (λ no. ap f no.1) (λ busy. ap f busy.1.2 ∙ same I.mid (I.mid.looked ++ Holder busy.1.0 ∷ [])) I.lock
+    ∙ ap f I.before.looked.view ∙ same a.view (a.view.looked ++ I.before.looked.looks)
+
+pub idle_same : (p : Place) (refused : Bool) (m : ℕ) (a b : Moment) → Idles refused m a b → HoldsSame p m (hands_of a.view a.worker) (hands_of b.view b.worker)
+idle_same p refused m a b I =
+    holds_same p m a.view b.view a.worker b.worker
+    (idle_view (λ (v : View). v.pending) refused m a b I (λ v xs. refl)) (idle_view (λ (v : View). v.blocks) refused m a b I (λ v xs. refl))
+    (ap (λ (w : Worker). w.places) I.same) (ap (λ (w : Worker). w.queue) I.same) (ap (λ (w : Worker). w.in_hand) I.same)
+
+-- There is no more to do than before.
+pub idles_not_more : (refused : Bool) (m : ℕ) (a b : Moment) (I : Idles refused m a b) (before mid after : Option Group) → LooksMade before mid m I.mid → (after ≡ mid) ⊎ Makes mid m Kind.Lock after b.view → b.view.holds ≡ false → NotMore before after a.worker b.worker
+idles_not_more refused m a b I before mid after looks tried free =
+    looked_not_more before mid after m looks.0 I.mid a.worker b.worker looks.1
+    (⊎_elim (λ no. subst (λ (o : Option Group). NotMore mid o a.worker b.worker) (sym no) (not_more_still mid a.worker b.worker
+    (let same = leading_way a.worker b.worker I.same in let was = nothing_left a.worker I.before.free in let now = nothing_left b.worker I.free in omega (arith, same, was, now))))
+    (λ try. busy_not_more mid after m b.view a.worker b.worker try free I.before.free I.free I.same)
+    tried)

@@ -1,0 +1,131 @@
+-- Item 4, and then items 5, 7 and 8.
+use Rattle.std.proofs.Common.{◌≡◌, ◌++◌, true, false, sym, ◌∙◌, refl, subst}
+use Rattle.std.specs.Prelude.{is_ok}
+use Rattle.store_image.specs.Facts.{In}
+use Rattle.group_laws.specs.declared.types.Seen.TheVariants.{Slot}
+use Rattle.group_board.specs.Seats.{SeatAt}
+use Rattle.core_worker.specs.Ties.{HoldsAt, StandsAt}
+use Rattle.core_worker.specs.Turns.{InOrderAt, LooksMade, PassesItems}
+use Rattle.core_worker.specs.Finishing.{FinishesSlot}
+use Rattle.core_worker.specs.Turning.{KeepsTurn, TurnedTo, Tells, at_entry}
+use Rattle.core_worker.specs.Turning.Did.{finishes}
+use Rattle.core_worker.proofs.TurnLaws.{keeps_looked, looked_holds, looked_stands, looked_order}
+use Rattle.core_worker.proofs.ItemLaws.{was_back, keeps_finish}
+use Rattle.core_worker.proofs.worker.Worker.serve_own.Goals as goal
+
+pub take_back-requires-clause-holds : goal.take_back-requires-clause-holds
+take_back-requires-clause-holds g c =
+    let seat = g.B.Board.seat c.args.board.now in
+    let P = c.in-Back.ensures.finds.2 in
+    subst (λ (x : SeatAt). HoldsAt x (g.B.Board.view c.find_back.new.board) c.args.self.now) (sym c.find_back.ensures.seat)
+    (looked_holds seat (g.B.Board.view c.args.board.now) (g.B.Board.view c.find_back.new.board) c.args.self.now ((g.B.Board.view c.args.board.now).looked ++ P.looked.looks) P.looked.view c.requires.nothing c.requires.holds)
+
+pub take_back-requires-clause-stands : goal.take_back-requires-clause-stands
+take_back-requires-clause-stands g c =
+    let seat = g.B.Board.seat c.args.board.now in
+    let P = c.in-Back.ensures.finds.2 in
+    subst (λ (x : SeatAt). StandsAt (g.R.Region.state c.args.region.now) x (g.B.Board.view c.find_back.new.board) c.args.self.now) (sym c.find_back.ensures.seat)
+    (looked_stands (g.R.Region.state c.args.region.now) seat (g.B.Board.view c.args.board.now) (g.B.Board.view c.find_back.new.board) c.args.self.now ((g.B.Board.view c.args.board.now).looked ++ P.looked.looks) P.looked.view c.requires.stands)
+
+pub take_back-requires-clause-order : goal.take_back-requires-clause-order
+take_back-requires-clause-order g c =
+    let seat = g.B.Board.seat c.args.board.now in
+    let P = c.in-Back.ensures.finds.2 in
+    subst (λ (x : SeatAt). InOrderAt x (g.B.Board.view c.find_back.new.board) c.args.self.now) (sym c.find_back.ensures.seat)
+    (looked_order seat (g.B.Board.view c.args.board.now) (g.B.Board.view c.find_back.new.board) c.args.self.now ((g.B.Board.view c.args.board.now).looked ++ P.looked.looks) P.looked.view c.requires.order)
+
+pub take_back-requires-clause-seen : goal.take_back-requires-clause-seen
+take_back-requires-clause-seen g c =
+    let f = c.in-Back.ensures.finds.3 in
+    was_back (g.B.Board.seat c.find_back.new.board).number c.in-Back.slot (g.B.Board.view c.find_back.new.board) f.0 f.1
+    (subst (λ (x : SeatAt). In (Slot x.number c.in-Back.slot f.0) (g.B.Board.view c.find_back.new.board).looked) (sym c.find_back.ensures.seat) f.2)
+
+pub returns-in-Ok-clause-keeps : goal.returns-in-Ok-clause-keeps
+returns-in-Ok-clause-keeps g c =
+    let seat = g.B.Board.seat c.args.board.now in
+    let here = g.B.Board.seat c.find_back.new.board in
+    let v = g.B.Board.view c.args.board.now in
+    let mid = g.B.Board.view c.find_back.new.board in
+    let u = g.B.Board.view c.take_back.new.board in
+    let s = g.R.Region.state c.args.region.now in
+    let P = c.in-Back.ensures.finds.2 in
+    let e = c.take_back.ensures in
+    let K : KeepsTurn here s s (g.B.Board.whole c.find_back.new.board) (g.B.Board.whole c.take_back.new.board) mid u c.args.self.now c.take_back.new.self =
+        keeps_finish here s (g.B.Board.whole c.find_back.new.board) (g.B.Board.whole c.take_back.new.board) mid u c.args.self.now c.take_back.new.self c.in-Back.slot (is_ok c.take_back.result) c.in-Back.ensures.finds.0 (subst (λ (x : SeatAt). HoldsAt x mid c.args.self.now) (sym c.find_back.ensures.seat) (looked_holds seat v mid c.args.self.now (v.looked ++ P.looked.looks) P.looked.view c.requires.nothing c.requires.holds)) e.holds (subst (λ (x : SeatAt). StandsAt s x mid c.args.self.now) (sym c.find_back.ensures.seat) (looked_stands s seat v mid c.args.self.now (v.looked ++ P.looked.looks) P.looked.view c.requires.stands)) e.stands (subst (λ (x : SeatAt). InOrderAt x mid c.args.self.now) (sym c.find_back.ensures.seat) (looked_order seat v mid c.args.self.now (v.looked ++ P.looked.looks) P.looked.view c.requires.order)) e.order e.rule e.made e.cause e.finishes in
+    keeps_looked seat s s (g.B.Board.whole c.args.board.now) (g.B.Board.whole c.find_back.new.board) (g.B.Board.whole c.take_back.new.board) v mid u c.args.self.now c.take_back.new.self (v.looked ++ P.looked.looks) P.looked.view c.find_back.ensures.looks
+    (subst (λ (x : SeatAt). KeepsTurn x s s (g.B.Board.whole c.find_back.new.board) (g.B.Board.whole c.take_back.new.board) mid u c.args.self.now c.take_back.new.self) c.find_back.ensures.seat K)
+
+pub returns-in-Ok-clause-turned : goal.returns-in-Ok-clause-turned
+returns-in-Ok-clause-turned g c =
+    finishes (is_ok c.take_back.result) (record {
+      slot = c.in-Back.slot;
+      mid = g.B.Board.view c.find_back.new.board;
+      before = c.in-Back.ensures.finds.2;
+      finishes = subst (λ (x : SeatAt). FinishesSlot (g.R.Region.state c.args.region.now) x.place x.number c.in-Back.slot (g.B.Board.view c.find_back.new.board) (g.B.Board.view c.take_back.new.board) c.args.self.now c.take_back.new.self (is_ok c.take_back.result)) c.find_back.ensures.seat c.take_back.ensures.finishes;
+    })
+
+pub returns-in-Err-clause-keeps : goal.returns-in-Err-clause-keeps
+returns-in-Err-clause-keeps g c =
+    let seat = g.B.Board.seat c.args.board.now in
+    let here = g.B.Board.seat c.find_back.new.board in
+    let v = g.B.Board.view c.args.board.now in
+    let mid = g.B.Board.view c.find_back.new.board in
+    let u = g.B.Board.view c.take_back.new.board in
+    let s = g.R.Region.state c.args.region.now in
+    let P = c.in-Back.ensures.finds.2 in
+    let e = c.take_back.ensures in
+    let K : KeepsTurn here s s (g.B.Board.whole c.find_back.new.board) (g.B.Board.whole c.take_back.new.board) mid u c.args.self.now c.take_back.new.self =
+        keeps_finish here s (g.B.Board.whole c.find_back.new.board) (g.B.Board.whole c.take_back.new.board) mid u c.args.self.now c.take_back.new.self c.in-Back.slot (is_ok c.take_back.result) c.in-Back.ensures.finds.0 (subst (λ (x : SeatAt). HoldsAt x mid c.args.self.now) (sym c.find_back.ensures.seat) (looked_holds seat v mid c.args.self.now (v.looked ++ P.looked.looks) P.looked.view c.requires.nothing c.requires.holds)) e.holds (subst (λ (x : SeatAt). StandsAt s x mid c.args.self.now) (sym c.find_back.ensures.seat) (looked_stands s seat v mid c.args.self.now (v.looked ++ P.looked.looks) P.looked.view c.requires.stands)) e.stands (subst (λ (x : SeatAt). InOrderAt x mid c.args.self.now) (sym c.find_back.ensures.seat) (looked_order seat v mid c.args.self.now (v.looked ++ P.looked.looks) P.looked.view c.requires.order)) e.order e.rule e.made e.cause e.finishes in
+    keeps_looked seat s s (g.B.Board.whole c.args.board.now) (g.B.Board.whole c.find_back.new.board) (g.B.Board.whole c.take_back.new.board) v mid u c.args.self.now c.take_back.new.self (v.looked ++ P.looked.looks) P.looked.view c.find_back.ensures.looks
+    (subst (λ (x : SeatAt). KeepsTurn x s s (g.B.Board.whole c.find_back.new.board) (g.B.Board.whole c.take_back.new.board) mid u c.args.self.now c.take_back.new.self) c.find_back.ensures.seat K)
+
+pub returns-in-Err-clause-turned : goal.returns-in-Err-clause-turned
+returns-in-Err-clause-turned g c =
+    finishes (is_ok c.take_back.result) (record {
+      slot = c.in-Back.slot;
+      mid = g.B.Board.view c.find_back.new.board;
+      before = c.in-Back.ensures.finds.2;
+      finishes = subst (λ (x : SeatAt). FinishesSlot (g.R.Region.state c.args.region.now) x.place x.number c.in-Back.slot (g.B.Board.view c.find_back.new.board) (g.B.Board.view c.take_back.new.board) c.args.self.now c.take_back.new.self (is_ok c.take_back.result)) c.find_back.ensures.seat c.take_back.ensures.finishes;
+    })
+
+pub serve_staged-requires-clause-holds : goal.serve_staged-requires-clause-holds
+serve_staged-requires-clause-holds g c =
+    let seat = g.B.Board.seat c.args.board.now in
+    let P = c.in-Out.ensures.finds.0 in
+    subst (λ (x : SeatAt). HoldsAt x (g.B.Board.view c.find_back.new.board) c.args.self.now) (sym c.find_back.ensures.seat)
+    (looked_holds seat (g.B.Board.view c.args.board.now) (g.B.Board.view c.find_back.new.board) c.args.self.now ((g.B.Board.view c.args.board.now).looked ++ P.looked.looks) P.looked.view c.requires.nothing c.requires.holds)
+
+pub serve_staged-requires-clause-stands : goal.serve_staged-requires-clause-stands
+serve_staged-requires-clause-stands g c =
+    let seat = g.B.Board.seat c.args.board.now in
+    let P = c.in-Out.ensures.finds.0 in
+    subst (λ (x : SeatAt). StandsAt (g.R.Region.state c.args.region.now) x (g.B.Board.view c.find_back.new.board) c.args.self.now) (sym c.find_back.ensures.seat)
+    (looked_stands (g.R.Region.state c.args.region.now) seat (g.B.Board.view c.args.board.now) (g.B.Board.view c.find_back.new.board) c.args.self.now ((g.B.Board.view c.args.board.now).looked ++ P.looked.looks) P.looked.view c.requires.stands)
+
+pub serve_staged-requires-clause-order : goal.serve_staged-requires-clause-order
+serve_staged-requires-clause-order g c =
+    let seat = g.B.Board.seat c.args.board.now in
+    let P = c.in-Out.ensures.finds.0 in
+    subst (λ (x : SeatAt). InOrderAt x (g.B.Board.view c.find_back.new.board) c.args.self.now) (sym c.find_back.ensures.seat)
+    (looked_order seat (g.B.Board.view c.args.board.now) (g.B.Board.view c.find_back.new.board) c.args.self.now ((g.B.Board.view c.args.board.now).looked ++ P.looked.looks) P.looked.view c.requires.order)
+
+pub returns-in-Out-clause-keeps : goal.returns-in-Out-clause-keeps
+returns-in-Out-clause-keeps g c =
+    let seat = g.B.Board.seat c.args.board.now in
+    let v = g.B.Board.view c.args.board.now in
+    let mid = g.B.Board.view c.find_back.new.board in
+    let u = g.B.Board.view c.serve_staged.new.board in
+    let s = g.R.Region.state c.args.region.now in
+    let t = g.R.Region.state c.serve_staged.new.region in
+    let P = c.in-Out.ensures.finds.0 in
+    keeps_looked seat s t (g.B.Board.whole c.args.board.now) (g.B.Board.whole c.find_back.new.board) (g.B.Board.whole c.serve_staged.new.board) v mid u c.args.self.now c.serve_staged.new.self (v.looked ++ P.looked.looks) P.looked.view c.find_back.ensures.looks
+    (subst (λ (x : SeatAt). KeepsTurn x s t (g.B.Board.whole c.find_back.new.board) (g.B.Board.whole c.serve_staged.new.board) mid u c.args.self.now c.serve_staged.new.self) c.find_back.ensures.seat c.serve_staged.ensures.keeps)
+
+pub returns-in-Out-clause-turned : goal.returns-in-Out-clause-turned
+returns-in-Out-clause-turned g c =
+    let here = g.B.Board.seat c.find_back.new.board in
+    let v = g.B.Board.view c.args.board.now in
+    let mid = g.B.Board.view c.find_back.new.board in
+    let u = g.B.Board.view c.serve_staged.new.board in
+    subst (λ (x : SeatAt). TurnedTo c.serve_staged.result (g.R.Region.state c.args.region.now) (g.G.Gate.may_refuse c.args.gate.now) (g.B.Board.whole c.args.board.now) x (at_entry c.args.self.now v) (at_entry c.serve_staged.new.self u)) c.find_back.ensures.seat
+    (c.serve_staged.ensures.turned (g.B.Board.whole c.args.board.now) v (subst (λ (x : SeatAt). Tells c.in-Out.posted x.number c.args.self.now v mid) (sym c.find_back.ensures.seat) c.in-Out.ensures.finds))

@@ -1,0 +1,103 @@
+-- What is left to do: of a worker, and of what is under way in a group, by what its shared words say. A turn that moves lowers the sum of both.
+use Rattle.std.specs.Prelude.{◌≡◌, ℕ, zero, suc, ◌+◌, ◌*◌, ◌<◌, ◌≤◌, Bool, true, false, ◌||◌, List, [], ◌∷◌, length, Option, Some, None, is_some, IfSome, IsSomeAnd, if◌then◌else◌}
+use Rattle.group_laws.specs.declared.types.Slot.{Slot}
+use Rattle.group_laws.specs.declared.types.Slot.TheVariants as slots
+use Rattle.group_laws.specs.Places.{members}
+use Rattle.group_laws.specs.State.{Group}
+use Rattle.group_laws.specs.Updates.{sum_below}
+use Rattle.batch_leader.specs.declared.states.Collecting.{Collecting}
+use Rattle.batch_leader.specs.declared.taken.Taken.{Taken}
+use Rattle.batch_leader.specs.Leading.{taken_by}
+use Rattle.core_worker.specs.declared.types.Leading.{Leading}
+use Rattle.core_worker.specs.declared.types.Leading.TheVariants as leads
+use Rattle.core_worker.specs.declared.types.Place.{Place}
+use Rattle.core_worker.specs.declared.types.Place.TheVariants.{Free, Staged, Posted}
+use Rattle.core_worker.specs.declared.worker.Worker.{Worker}
+
+-- What one request counts, by how far it is: each step takes 6. What the core that makes the step has to do besides rises by less.
+abbrev pub waits_left : ℕ
+waits_left = 30
+
+abbrev pub staged_left : ℕ
+staged_left = 24
+
+-- a posted one is counted by its slot, and not by its place: it is moved by whoever leads
+abbrev pub slot_left : Slot → ℕ
+slot_left slots.Empty = 0
+slot_left (slots.Posted e) = 18
+slot_left slots.Taken = 12
+slot_left (slots.Done e h) = 6
+slot_left (slots.Failed e) = 6
+
+abbrev pub place_left : Place → ℕ
+place_left Free = 0
+place_left (Staged number entry value) = staged_left
+place_left (Posted number key lines) = 0
+
+abbrev pub places_left : List Place → ℕ
+places_left [] = 0
+places_left (x ∷ xs) = place_left x + places_left xs
+
+-- what it took is to be released, written, and then given back
+abbrev pub taken_left : List Taken → ℕ
+taken_left [] = 0
+taken_left (t ∷ ts) = 3
+
+abbrev pub leading_left : Leading → ℕ
+leading_left (leads.Nothing buffer) = 0
+leading_left (leads.Collecting c) = taken_left c.changes.taken.items
+leading_left (leads.Batch b) = 1
+leading_left (leads.Persisted x) = 0
+leading_left (leads.Failed x) = 0
+leading_left leads.Between = 0
+
+-- a core that runs may still stop
+abbrev pub left : Worker → ℕ
+left w = waits_left * (length w.queue + (if is_some w.in_hand then 1 else 0)) + (places_left w.places.items + (leading_left w.leading + (if w.stopped then 0 else 1)))
+
+-- an accepted request waits, or is staged, or is answered
+abbrev pub most : ℕ
+most = waits_left
+
+abbrev pub offers : Slot → Bool
+offers slots.Empty = false
+offers (slots.Posted e) = true
+offers slots.Taken = false
+offers (slots.Done e h) = false
+offers (slots.Failed e) = false
+
+-- whether one of the slots below a number is Posted
+abbrev pub any_offers : (ℕ → Slot) → ℕ → Bool
+any_offers slots zero = false
+any_offers slots (suc n) = offers (slots n) || any_offers slots n
+
+-- a member has an own change Posted, where the state is told
+abbrev pub HasOffer : Option Group → ℕ → Type 0
+HasOffer before m = IfSome before (λ w. any_offers (w.slot m) 8 ≡ true)
+
+-- The lock is taken by a member with an own change Posted, and given back when it has taken some, or has none Posted any more. So taking it and giving it back for nothing don't go on for ever.
+abbrev pub lock_left : Option ℕ → (ℕ → ℕ → Slot) → ℕ
+lock_left None slot = 1
+lock_left (Some h) slot = if any_offers (slot h) 8 then 0 else 2
+
+abbrev pub slots_left : Group → ℕ
+slots_left w = sum_below (members w.place) (λ a. sum_below 8 (λ s. slot_left (w.slot a s)))
+
+abbrev pub under_way : Group → ℕ
+under_way w = slots_left w + lock_left w.holder w.slot
+
+-- where the state is told, there is less to do now
+abbrev pub Lowers : Option Group → Option Group → Worker → Worker → Type 0
+Lowers before after w x = IfSome before (λ a. IsSomeAnd after (λ b. left x + under_way b < left w + under_way a))
+
+-- there is no more to do than before
+abbrev pub NotMore : Option Group → Option Group → Worker → Worker → Type 0
+NotMore before after w x = IfSome before (λ a. IsSomeAnd after (λ b. left x + under_way b ≤ left w + under_way a))
+
+-- What the measure needs of a worker besides: a core that runs, and has taken nothing in its round so far, is at the round's first slot.
+abbrev pub StartsFirst : Worker → Type 0
+StartsFirst w = w.stopped ≡ false → (c : Collecting) → w.leading ≡ leads.Collecting c → taken_by c ≡ [] → c.at ≡ 0
+
+-- of any group, and any member of it
+abbrev pub fair : Group → ℕ → Worker → Type 0
+fair a m w = StartsFirst w

@@ -1,0 +1,63 @@
+-- What a core is of which a turn found nothing to do.
+use Rattle.std.specs.Prelude.{◌≡◌, ◌⊎◌, ℕ, ◌<◌, Bool, true, false, not, ◌&&◌, List, [], map, Option, Some, None, IfSome, IsSomeAnd}
+use Rattle.std.specs.List.{AllByRecursion}
+use Rattle.log_entry.specs.declared.entry.Entry.{Entry}
+use Rattle.group_laws.specs.declared.types.Pending.{Pending}
+use Rattle.group_laws.specs.declared.types.Slot.TheVariants.{Posted, Taken}
+use Rattle.group_laws.specs.Places.{Place, owner}
+use Rattle.group_laws.specs.State.{Group}
+use Rattle.group_laws.specs.MemberViews.{View}
+use Rattle.group_laws.specs.Runs.{Kind, Runs}
+use Rattle.group_laws.specs.Runs.Kind.{Split, Join, Post, Lock, Look, LookMail, Take, Unlock, Commit, Mark, Finish, Fail, Withdraw, Doom, Retire, Send, Receive}
+use Rattle.core_worker.specs.declared.worker.Worker.{Worker}
+use Rattle.core_worker.specs.Status.{has_room, is_leading}
+use Rattle.core_worker.specs.WorkerMoves.{Placed, Hands}
+
+-- a step that only loads: a look, or a try of the lock
+abbrev pub IsLoading : Kind → Type 0
+IsLoading Split = ⊥
+IsLoading Join = ⊥
+IsLoading (Post s e v) = ⊥
+IsLoading Lock = Unit {0}
+IsLoading (Look a s) = Unit {0}
+IsLoading (LookMail a b) = Unit {0}
+IsLoading (Take a s) = ⊥
+IsLoading Unlock = ⊥
+IsLoading Commit = ⊥
+IsLoading (Mark a s) = ⊥
+IsLoading (Finish s) = ⊥
+IsLoading (Fail a s) = ⊥
+IsLoading (Withdraw s) = ⊥
+IsLoading (Doom ns) = ⊥
+IsLoading (Retire ns) = ⊥
+IsLoading (Send to n) = ⊥
+IsLoading (Receive from) = ⊥
+
+-- member m made loads alone, where the state is told
+pub record LoadsOnly (before after : Option Group) (m : ℕ) : Type 0 where
+  pub steps : List Kind
+  pub loads : AllByRecursion IsLoading steps
+  pub whole : IfSome before (λ a. IsSomeAnd after (λ b. Runs a (map (λ y. (m, y)) steps) b))
+
+-- an own change is in a leader's hands, or waits for the lock that another has
+abbrev pub IsWithOthers : Option Group → Option Group → ℕ → ℕ → Type 0
+IsWithOthers before after m s = IfSome before (λ a. IfSome after (λ b. (b.slot m s ≡ Taken) ⊎ ((e : Entry) × (h : ℕ) × (b.slot m s ≡ Posted e) × (b.holder ≡ Some h))))
+
+-- It leads nothing. Each of its changes is posted and with others, and requests wait for keys with a change in a place alone.
+pub record Rests (p : Place) (m : ℕ) (before after : Option Group) (u : View) (x : Hands) : Type 0 where
+  pub holds : u.holds ≡ false
+  pub taken : (a s : ℕ) → u.taken a s ≡ None
+  pub placed : (k : ℕ) (y : Placed) → owner p k ≡ m → x.place k ≡ Some y → (y.posted ≡ true) × ((d : Pending) (s : ℕ) → u.pending k ≡ Some d → d.slot ≡ Some s → IsWithOthers before after m s)
+  pub waits : (k : ℕ) → owner p k ≡ m → x.place k ≡ None → x.waits k ≡ []
+
+-- what it holds is what it held
+abbrev pub HoldsSame : Place → ℕ → Hands → Hands → Type 0
+HoldsSame p m w x = (k : ℕ) → owner p k ≡ m → (x.place k ≡ w.place k) × (x.waits k ≡ w.waits k)
+
+-- whether it may be handed a request
+abbrev pub is_open : Worker → Bool
+is_open w = not (is_leading w.leading) && has_room w
+
+-- with no change in a place it could have been handed one
+abbrev pub OpenFor : Place → ℕ → Hands → Worker → Type 0
+OpenFor p m x w = ((k : ℕ) → owner p k ≡ m → x.place k ≡ None) → is_open w ≡ true

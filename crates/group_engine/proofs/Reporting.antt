@@ -1,0 +1,29 @@
+-- The report on the answers that an engine keeps is that of the state which it shows.
+use Rattle.std.proofs.Common.{◌≡◌, ℕ, ◌+◌, List, [], ◌∷◌, ◌++◌, length, map, Option, refl, sym, ◌∙◌, ap, arith, append_assoc, append-nil}
+use Rattle.std.proofs.lemmas.List.{map-append}
+use Rattle.group_engine.specs.declared.types.Stamped.{Stamped}
+use Rattle.group_engine.specs.declared.report.Report.{Report}
+use Rattle.group_engine.specs.Reports.{reply_in, finish_in, refusal_in, finishes_in, refusals_in, Adds, IsReport}
+
+-- one answer more, of any list that is made number by number
+module _ {X : Type 0} (one : ℕ → Option Stamped → List X) (all : ℕ → List (Option Stamped) → List X) (none : (n : ℕ) → all n [] ≡ []) (some : (n : ℕ) (x : Option Stamped) (xs : List (Option Stamped)) → all n (x ∷ xs) ≡ one n x ++ all (n + 1) xs) where
+  more : (n : ℕ) (xs : List (Option Stamped)) (x : Option Stamped) → all n (xs ++ x ∷ []) ≡ all n xs ++ one (n + length xs) x
+  more n [] x =
+      let z : n ≡ n + 0 = omega arith in
+      some n x [] ∙ ap (λ ys. one n x ++ ys) (none (n + 1)) ∙ append-nil (one n x) ∙ ap (λ m. one m x) z ∙ sym (ap (λ ys. ys ++ one (n + 0) x) (none n))
+  more n (y ∷ ys) x =
+      let z : n + 1 + length ys ≡ n + length (y ∷ ys) = omega arith in
+      some n y (ys ++ x ∷ []) ∙ ap (λ zs. one n y ++ zs) (more (n + 1) ys x ∙ ap (λ m. all (n + 1) ys ++ one m x) z) ∙ sym (append_assoc (one n y) (all (n + 1) ys) (one (n + length (y ∷ ys)) x)) ∙ ap (λ zs. zs ++ one (n + length (y ∷ ys)) x) (sym (some n y ys))
+
+length_map : {X Y : Type 0} (f : X → Y) (xs : List X) → length (map f xs) ≡ length xs
+length_map f [] = refl
+length_map f (x ∷ xs) = let r = length_map f xs in omega (arith, r)
+
+pub report_more : (xs : List (Option Stamped)) (x : Option Stamped) (old new : Report) → IsReport xs old → Adds old new x → IsReport (xs ++ x ∷ []) new
+report_more xs x old new R A =
+    let count : length old.replies.items ≡ 0 + length xs = ap length R.replies ∙ length_map reply_in xs ∙ omega arith in
+    record {
+      replies = A.replies ∙ ap (λ l. l ++ reply_in x ∷ []) R.replies ∙ sym (map-append reply_in xs (x ∷ []));
+      finishes = A.finishes ∙ (λ i. R.finishes i ++ finish_in (count i) x) ∙ sym (more finish_in finishes_in (λ n. refl) (λ n y ys. refl) 0 xs x);
+      refusals = A.refusals ∙ (λ i. R.refusals i ++ refusal_in (count i) x) ∙ sym (more refusal_in refusals_in (λ n. refl) (λ n y ys. refl) 0 xs x);
+    }
