@@ -46,12 +46,12 @@ starts_still w x led free = starts_other x (ap is_collecting led ∙ ap is_colle
 
 pub collects_starts : (before : Option Group) (m : ℕ) (a b : Moment) → Collects before m a b → StartsFirst b.worker
 collects_starts before m a b C runs c is none = absurd (
-  let same : leads.Collecting C.new ≡ leads.Collecting c = sym C.leads_now ∙ is in
-  let here : C.new ≡ c = cc same in
-  let three : taken_left (taken_by c) ≡ 3 = ap (λ (x : Collecting). taken_left (taken_by x)) (sym here) ∙ ap taken_left C.went.0.taken ∙ taken_more (taken_by C.old) C.went.0.change in
-  let zero_left : taken_left (taken_by c) ≡ 0 = ap taken_left none in
-  omega (arith, three, zero_left)
-)
+    let same : leads.Collecting C.new ≡ leads.Collecting c = sym C.leads_now ∙ is in
+    let here : C.new ≡ c = cc same in
+    let three : taken_left (taken_by c) ≡ 3 = ap (λ (x : Collecting). taken_left (taken_by x)) (sym here) ∙ ap taken_left C.went.0.taken ∙ taken_more (taken_by C.old) C.went.0.change in
+    let zero_left : taken_left (taken_by c) ≡ 0 = ap taken_left none in
+    omega (arith, three, zero_left)
+    )
 
 given_other : (r : Released) → is_collecting (led_by r) ≡ false
 given_other (released.Batch b) = refl

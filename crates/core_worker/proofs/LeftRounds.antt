@@ -82,13 +82,13 @@ module _ (g : Group) (L : Lawful g) (m : ℕ) (w : Worker) (H : Holds g.place m 
       let at = passed s (omega (arith, first)) (omega (arith, lt, whole)) in
       let who = own_member m s lt in
       let shows : states.Posted (length (words_of e)) ≡ at.0 =
-          sym (ap (λ (x : Slot). state_of (shown x)) is) ∙ ap (λ n. state_of (shown (g.slot n s))) (sym who) ∙ ap (λ n. state_of (shown (g.slot (member_at m s) n))) (sym (own_slot s lt)) ∙ at.2 in
+      sym (ap (λ (x : Slot). state_of (shown x)) is) ∙ ap (λ n. state_of (shown (g.slot n s))) (sym who) ∙ ap (λ n. state_of (shown (g.slot (member_at m s) n))) (sym (own_slot s lt)) ∙ at.2 in
       let passes : Passes (room_for w) (own_lines m (taken_by old)) (taken_by old) old.fresh (member_at m s == m) (states.Posted (length (words_of e))) =
-          subst (Passes (room_for w) (own_lines m (taken_by old)) (taken_by old) old.fresh (member_at m s == m)) (sym shows) at.1 in
+      subst (Passes (room_for w) (own_lines m (taken_by old)) (taken_by old) old.fresh (member_at m s == m)) (sym shows) at.1 in
       let mine : (member_at m s == m) ≡ true = eq-eqb (member_at m s) m who in
       let here : fits (room_for w) (own_lines m (taken_by old)) [] old.fresh true (length (words_of e)) ≡ false =
-          subst (λ (ts : List Taken). fits (room_for w) (own_lines m (taken_by old)) ts old.fresh true (length (words_of e)) ≡ false) none
-          (subst (λ (b : Bool). fits (room_for w) (own_lines m (taken_by old)) (taken_by old) old.fresh b (length (words_of e)) ≡ false) mine passes) in
+      subst (λ (ts : List Taken). fits (room_for w) (own_lines m (taken_by old)) ts old.fresh true (length (words_of e)) ≡ false) none
+      (subst (λ (b : Bool). fits (room_for w) (own_lines m (taken_by old)) (taken_by old) old.fresh b (length (words_of e)) ≡ false) mine passes) in
       let both : true ≡ false = sym (own_fits g L m w H s e is rule (own_lines m (taken_by old)) old.fresh) ∙ here in
       cc both
 

@@ -91,11 +91,13 @@ module _ (p : Place) (refused : Bool) (m : ℕ) (a b : Moment) (I : Idles refuse
         taken = leads_nothing.1;
         placed = λ k y own is.
             let x = posted_of p m b.view b.worker H none k y is in
-            let at = x.1 in
-            (x.0, λ d s pends slot.
-            let same : Some s ≡ Some at.0 = sym slot ∙ ap slot_or (sym pends ∙ at.3.1) in
-            let here : s ≡ at.0 = cc same in
-            subst (λ n. IsWithOthers before after m n) (sym here) (slot_with k at.0 at.3.0 own at.3.1 at.1 at.2));
+            let at = x.1 in (
+              x.0,
+              λ d s pends slot.
+                  let same : Some s ≡ Some at.0 = sym slot ∙ ap slot_or (sym pends ∙ at.3.1) in
+                  let here : s ≡ at.0 = cc same in
+                  subst (λ n. IsWithOthers before after m n) (sym here) (slot_with k at.0 at.3.0 own at.3.1 at.1 at.2),
+            );
         waits = λ k own is. none_waits p m b.view b.worker H none works_still hand k is;
       }
 

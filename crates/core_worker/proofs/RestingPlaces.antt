@@ -110,10 +110,10 @@ module _ (p : Place) (m : ℕ) (u : View) (w : Worker) (H : Holds p m u w) (none
     no_queue : (hs : List Held) → ((k : ℕ) → waiting hs k ≡ []) → length hs ≡ 0
     no_queue [] none = refl
     no_queue (h ∷ hs) none = absurd (
-      let first = none (key_of h.request) in
-      let here : h ∷ waiting hs (key_of h.request) ≡ [] = sym (ap (λ b. cond b (h ∷ waiting hs (key_of h.request)) (waiting hs (key_of h.request))) (eq-eqb (key_of h.request) (key_of h.request) refl)) ∙ first in
-      cc here
-    )
+        let first = none (key_of h.request) in
+        let here : h ∷ waiting hs (key_of h.request) ≡ [] = sym (ap (λ b. cond b (h ∷ waiting hs (key_of h.request)) (waiting hs (key_of h.request))) (eq-eqb (key_of h.request) (key_of h.request) refl)) ∙ first in
+        cc here
+        )
 
     pub room_for_one : has_room w ≡ true
     room_for_one =

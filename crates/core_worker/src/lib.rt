@@ -8,7 +8,7 @@ mod finishing;
 mod gate;
 mod hearing;
 mod lead_items;
-mod opening;
+mod open_worker;
 mod post_item;
 mod refusing;
 mod releasing;

@@ -15,8 +15,8 @@ ghost use Rattle.core_worker.specs.Stopping.{Drops, FreesBySight, PutsAway, Puts
 ghost use Rattle.core_worker.specs.Turns.{InOrderAt, Steps};
 
 use crate::finishing::put_back;
-use crate::leading::led_by;
-use crate::posting::place_in;
+use crate::lead_items::led_by;
+use crate::post_item::place_in;
 use crate::types::{Leading, Place};
 use crate::worker::Worker;
 use crash_core::Change;

@@ -17,7 +17,7 @@ ghost use Rattle.core_worker.specs.Turning.{HasBatch, KeepsTurn, TurnMoves, Did,
 
 use crate::choosing::{Choice, staged_block};
 use crate::gate::Gate;
-use crate::posting::place_in;
+use crate::post_item::place_in;
 use crate::searching::Search;
 use crate::types::{Leading, Turn};
 use crate::worker::Worker;

@@ -20,10 +20,10 @@ use Rattle.engine_laws.specs.Promises.{HasStopped}
 use Rattle.engine_laws.specs.Reports.{reply_of, replies_from, named_at, named_from, told_of, AllAnswered}
 use Rattle.engine_laws.proofs.Kept.{promised}
 use Rattle.group_engine.specs.declared.types.Stamped.{Stamped}
-use Rattle.group_engine.specs.declared.report.Finish.{Finish}
-use Rattle.group_engine.specs.declared.report.Refusal.{Refusal}
+use Rattle.group_engine.specs.declared.run_report.Finish.{Finish}
+use Rattle.group_engine.specs.declared.run_report.Refusal.{Refusal}
 use Rattle.group_engine.specs.Answers.{ShowsAnswer, IsCause, reply_to, kept_at, is_read}
-use Rattle.group_engine.specs.declared.report.Report.{Report}
+use Rattle.group_engine.specs.declared.run_report.Report.{Report}
 use Rattle.group_engine.specs.Reports.{reply_in, finish_in, refusal_in, refusal_of, finishes_in, refusals_in, told_by, IsReport, ReportsOn}
 
 -- what a get found is no finish, no refusal and no stop, and a get may be answered so

@@ -2,7 +2,7 @@
 use Rattle.std.proofs.Common.{◌≡◌, ℕ, ◌+◌, List, [], ◌∷◌, ◌++◌, length, map, Option, refl, sym, ◌∙◌, ap, arith, append_assoc, append-nil}
 use Rattle.std.proofs.lemmas.List.{map-append}
 use Rattle.group_engine.specs.declared.types.Stamped.{Stamped}
-use Rattle.group_engine.specs.declared.report.Report.{Report}
+use Rattle.group_engine.specs.declared.run_report.Report.{Report}
 use Rattle.group_engine.specs.Reports.{reply_in, finish_in, refusal_in, finishes_in, refusals_in, Adds, IsReport}
 
 -- one answer more, of any list that is made number by number

@@ -11,9 +11,9 @@ use Rattle.engine_laws.specs.Stands.{Origin, start_of}
 use Rattle.engine_laws.specs.Reports.{told_of, AllAnswered}
 use Rattle.engine_laws.specs.Promises.{HasStopped}
 use Rattle.group_engine.specs.declared.types.Stamped.{Stamped}
-use Rattle.group_engine.specs.declared.report.Finish.{Finish}
-use Rattle.group_engine.specs.declared.report.Refusal.{Refusal}
-use Rattle.group_engine.specs.declared.report.Report.{Report}
+use Rattle.group_engine.specs.declared.run_report.Finish.{Finish}
+use Rattle.group_engine.specs.declared.run_report.Refusal.{Refusal}
+use Rattle.group_engine.specs.declared.run_report.Report.{Report}
 use Rattle.group_engine.specs.Answers.{reply_to}
 
 -- what a request's answer adds

@@ -6,10 +6,10 @@ ghost use Rattle.fs_model.specs.Cells.{key_of};
 
 use crate::passes;
 use crate::passes::Cores;
-use crate::report::{Report, report_on};
+use crate::run_report::{Report, report_on};
 use crate::step::{collect, step};
 use crate::types::Stamped;
-use crate::worker::CoreWorker;
+use crate::worker_calls::CoreWorker;
 use chunk_map::Geometry;
 use fs_errors::Memory;
 use fs_model::Request;

@@ -2,11 +2,11 @@
 #![tactic(auto)]
 
 pub mod engine;
-pub mod opening;
+pub mod open_boards;
 pub mod passes;
-pub mod report;
+pub mod run_report;
 mod step;
 #[cfg(test)]
 mod tests;
 pub mod types;
-pub mod worker;
+pub mod worker_calls;

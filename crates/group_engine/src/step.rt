@@ -11,7 +11,7 @@ ghost use Rattle.group_engine.specs.Answers.{HavePlaces, stored};
 ghost use Rattle.group_engine.specs.Calls.{AreOwn, Accepts, Turns, Steps, is_idle, is_open, next_of};
 
 use crate::types::Stamped;
-use crate::worker::CoreWorker;
+use crate::worker_calls::CoreWorker;
 use fs_errors::Memory;
 use fs_model::Request;
 use group_board::{LocalBoard, LocalSeat};

@@ -1,5 +1,5 @@
 // The report on five requests.
-use crate::report::{Finish, Refusal, report_on};
+use crate::run_report::{Finish, Refusal, report_on};
 use crate::types::Stamped;
 use core_room::Shortage;
 use fs_model::Reply;

@@ -51,7 +51,7 @@ returns-in-Ok-clause-keeps g c =
     let P = c.in-Back.ensures.finds.2 in
     let e = c.take_back.ensures in
     let K : KeepsTurn here s s (g.B.Board.whole c.find_back.new.board) (g.B.Board.whole c.take_back.new.board) mid u c.args.self.now c.take_back.new.self =
-        keeps_finish here s (g.B.Board.whole c.find_back.new.board) (g.B.Board.whole c.take_back.new.board) mid u c.args.self.now c.take_back.new.self c.in-Back.slot (is_ok c.take_back.result) c.in-Back.ensures.finds.0 (subst (λ (x : SeatAt). HoldsAt x mid c.args.self.now) (sym c.find_back.ensures.seat) (looked_holds seat v mid c.args.self.now (v.looked ++ P.looked.looks) P.looked.view c.requires.nothing c.requires.holds)) e.holds (subst (λ (x : SeatAt). StandsAt s x mid c.args.self.now) (sym c.find_back.ensures.seat) (looked_stands s seat v mid c.args.self.now (v.looked ++ P.looked.looks) P.looked.view c.requires.stands)) e.stands (subst (λ (x : SeatAt). InOrderAt x mid c.args.self.now) (sym c.find_back.ensures.seat) (looked_order seat v mid c.args.self.now (v.looked ++ P.looked.looks) P.looked.view c.requires.order)) e.order e.rule e.made e.cause e.finishes in
+    keeps_finish here s (g.B.Board.whole c.find_back.new.board) (g.B.Board.whole c.take_back.new.board) mid u c.args.self.now c.take_back.new.self c.in-Back.slot (is_ok c.take_back.result) c.in-Back.ensures.finds.0 (subst (λ (x : SeatAt). HoldsAt x mid c.args.self.now) (sym c.find_back.ensures.seat) (looked_holds seat v mid c.args.self.now (v.looked ++ P.looked.looks) P.looked.view c.requires.nothing c.requires.holds)) e.holds (subst (λ (x : SeatAt). StandsAt s x mid c.args.self.now) (sym c.find_back.ensures.seat) (looked_stands s seat v mid c.args.self.now (v.looked ++ P.looked.looks) P.looked.view c.requires.stands)) e.stands (subst (λ (x : SeatAt). InOrderAt x mid c.args.self.now) (sym c.find_back.ensures.seat) (looked_order seat v mid c.args.self.now (v.looked ++ P.looked.looks) P.looked.view c.requires.order)) e.order e.rule e.made e.cause e.finishes in
     keeps_looked seat s s (g.B.Board.whole c.args.board.now) (g.B.Board.whole c.find_back.new.board) (g.B.Board.whole c.take_back.new.board) v mid u c.args.self.now c.take_back.new.self (v.looked ++ P.looked.looks) P.looked.view c.find_back.ensures.looks
     (subst (λ (x : SeatAt). KeepsTurn x s s (g.B.Board.whole c.find_back.new.board) (g.B.Board.whole c.take_back.new.board) mid u c.args.self.now c.take_back.new.self) c.find_back.ensures.seat K)
 
@@ -75,7 +75,7 @@ returns-in-Err-clause-keeps g c =
     let P = c.in-Back.ensures.finds.2 in
     let e = c.take_back.ensures in
     let K : KeepsTurn here s s (g.B.Board.whole c.find_back.new.board) (g.B.Board.whole c.take_back.new.board) mid u c.args.self.now c.take_back.new.self =
-        keeps_finish here s (g.B.Board.whole c.find_back.new.board) (g.B.Board.whole c.take_back.new.board) mid u c.args.self.now c.take_back.new.self c.in-Back.slot (is_ok c.take_back.result) c.in-Back.ensures.finds.0 (subst (λ (x : SeatAt). HoldsAt x mid c.args.self.now) (sym c.find_back.ensures.seat) (looked_holds seat v mid c.args.self.now (v.looked ++ P.looked.looks) P.looked.view c.requires.nothing c.requires.holds)) e.holds (subst (λ (x : SeatAt). StandsAt s x mid c.args.self.now) (sym c.find_back.ensures.seat) (looked_stands s seat v mid c.args.self.now (v.looked ++ P.looked.looks) P.looked.view c.requires.stands)) e.stands (subst (λ (x : SeatAt). InOrderAt x mid c.args.self.now) (sym c.find_back.ensures.seat) (looked_order seat v mid c.args.self.now (v.looked ++ P.looked.looks) P.looked.view c.requires.order)) e.order e.rule e.made e.cause e.finishes in
+    keeps_finish here s (g.B.Board.whole c.find_back.new.board) (g.B.Board.whole c.take_back.new.board) mid u c.args.self.now c.take_back.new.self c.in-Back.slot (is_ok c.take_back.result) c.in-Back.ensures.finds.0 (subst (λ (x : SeatAt). HoldsAt x mid c.args.self.now) (sym c.find_back.ensures.seat) (looked_holds seat v mid c.args.self.now (v.looked ++ P.looked.looks) P.looked.view c.requires.nothing c.requires.holds)) e.holds (subst (λ (x : SeatAt). StandsAt s x mid c.args.self.now) (sym c.find_back.ensures.seat) (looked_stands s seat v mid c.args.self.now (v.looked ++ P.looked.looks) P.looked.view c.requires.stands)) e.stands (subst (λ (x : SeatAt). InOrderAt x mid c.args.self.now) (sym c.find_back.ensures.seat) (looked_order seat v mid c.args.self.now (v.looked ++ P.looked.looks) P.looked.view c.requires.order)) e.order e.rule e.made e.cause e.finishes in
     keeps_looked seat s s (g.B.Board.whole c.args.board.now) (g.B.Board.whole c.find_back.new.board) (g.B.Board.whole c.take_back.new.board) v mid u c.args.self.now c.take_back.new.self (v.looked ++ P.looked.looks) P.looked.view c.find_back.ensures.looks
     (subst (λ (x : SeatAt). KeepsTurn x s s (g.B.Board.whole c.find_back.new.board) (g.B.Board.whole c.take_back.new.board) mid u c.args.self.now c.take_back.new.self) c.find_back.ensures.seat K)
 
