@@ -14,8 +14,8 @@ use Rattle.group_board.specs.Views.{after_find}
 use Rattle.batch_leader.specs.Leading.{MakesAll}
 use Rattle.batch_leader.specs.TakenChanges.{MatchBool}
 use Rattle.core_worker.specs.declared.types.Place.{Place}
-use Rattle.core_worker.specs.declared.searching.Search.{Search}
-use Rattle.core_worker.specs.declared.searching.Search.TheVariants.{Back, Out}
+use Rattle.core_worker.specs.declared.search_places.Search.{Search}
+use Rattle.core_worker.specs.declared.search_places.Search.TheVariants.{Back, Out}
 use Rattle.core_worker.specs.OwnPlaces.{place_at, is_posted}
 use Rattle.core_worker.specs.Turns.{Moment, PassesItems, IsBack, FindsPosted, looks_at}
 

@@ -3,8 +3,8 @@
 
 mod accepting;
 mod begin_request;
-mod choosing;
-mod finishing;
+mod choose_item;
+mod finish_item;
 mod gate;
 mod hearing;
 mod lead_items;
@@ -12,12 +12,12 @@ mod open_worker;
 mod post_item;
 mod refusing;
 mod releasing;
-mod searching;
+mod search_places;
 mod status;
-mod stopping;
+mod stopped_items;
 #[cfg(test)]
 mod tests;
-mod turning;
+mod turn_items;
 mod types;
 mod worker;
 mod worker_room;

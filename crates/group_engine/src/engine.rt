@@ -4,10 +4,10 @@ ghost use Rattle.std.specs.List.{slice_get};
 ghost use Rattle.group_laws.specs.MemberViews.{View};
 ghost use Rattle.fs_model.specs.Cells.{key_of};
 
+use crate::engine_step::{collect, step};
 use crate::passes;
 use crate::passes::Cores;
 use crate::run_report::{Report, report_on};
-use crate::step::{collect, step};
 use crate::types::Stamped;
 use crate::worker_calls::CoreWorker;
 use chunk_map::Geometry;

@@ -2,10 +2,10 @@
 #![tactic(auto)]
 
 pub mod engine;
+mod engine_step;
 pub mod open_boards;
 pub mod passes;
 pub mod run_report;
-mod step;
 #[cfg(test)]
 mod tests;
 pub mod types;

@@ -1,7 +1,7 @@
 use Rattle.std.proofs.Common.{rules, ◌∙◌, refl, sym}
 use Rattle.group_board.specs.Journals.{state}
 use Rattle.group_engine.proofs.Stepping.{turned, taken_in, less_taken, none_left}
-use Rattle.group_engine.proofs.step.step.Goals as goal
+use Rattle.group_engine.proofs.engine_step.step.Goals as goal
 
 pub returns-then-not-takes-clause-steps : goal.returns-then-not-takes-clause-steps
 returns-then-not-takes-clause-steps g c =

@@ -15,10 +15,10 @@ ghost use Rattle.core_worker.specs.Ties.{HoldsAt, StandsAt, LeadsNothing};
 ghost use Rattle.core_worker.specs.Turns.{InOrderAt, PassesPost, PersistsOrLoses};
 ghost use Rattle.core_worker.specs.Turning.{HasBatch, KeepsTurn, TurnMoves, Did, Turned, TurnedTo, Tells, at_entry};
 
-use crate::choosing::{Choice, staged_block};
+use crate::choose_item::{Choice, staged_block};
 use crate::gate::Gate;
 use crate::post_item::place_in;
-use crate::searching::Search;
+use crate::search_places::Search;
 use crate::types::{Leading, Turn};
 use crate::worker::Worker;
 use core_log::Room;

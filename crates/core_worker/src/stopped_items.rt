@@ -14,7 +14,7 @@ ghost use Rattle.core_worker.specs.Finishing.{IsServed};
 ghost use Rattle.core_worker.specs.Stopping.{Drops, FreesBySight, PutsAway, PutsAwayKey, Retracts, staged_block, Unlocks, WithdrawsOrUnlocks};
 ghost use Rattle.core_worker.specs.Turns.{InOrderAt, Steps};
 
-use crate::finishing::put_back;
+use crate::finish_item::put_back;
 use crate::lead_items::led_by;
 use crate::post_item::place_in;
 use crate::types::{Leading, Place};

@@ -3,7 +3,7 @@ use Rattle.std.proofs.Common.{◌≡◌, ⊎_elim, ℕ, zero, suc, ◌≤◌, �
 use Rattle.std.proofs.lemmas.Bool.{cases_lt}
 use Rattle.core_worker.specs.declared.types.Place.{Place}
 use Rattle.core_worker.specs.OwnPlaces.{place_at, is_staged}
-use Rattle.core_worker.proofs.choosing.lowest_staged.Goals as goal
+use Rattle.core_worker.proofs.choose_item.lowest_staged.Goals as goal
 
 beyond : (ps : List Place) (t : ℕ) → length ps ≤ t → is_staged (place_at ps t) ≡ false
 beyond [] t le = refl

@@ -1,7 +1,7 @@
 use Rattle.std.proofs.Common.{◌≡◌, ℕ, ◌+◌, ◌-◌, ◌≤◌, ◌<◌, sym, ◌∙◌, ap, arith}
 use Rattle.group_laws.specs.Places.{core_of}
 use Rattle.core_worker.proofs.Members.{core_few, member_low, core_moved}
-use Rattle.core_worker.proofs.finishing.core_beside.Goals as goal
+use Rattle.core_worker.proofs.finish_item.core_beside.Goals as goal
 
 pub overflow_sub-result : goal.overflow_sub-result
 overflow_sub-result c = let p = c.requires.0 in let e = c.requires.2 in let low = member_low p c.args.member in omega (arith, e, low)

@@ -1,6 +1,6 @@
 use Rattle.std.proofs.Common.{◌≡◌, ℕ, ◌<◌, false}
 use Rattle.core_worker.specs.OwnPlaces.{place_at, key_in, is_of}
-use Rattle.core_worker.proofs.stopping.place_with.Given as goal
+use Rattle.core_worker.proofs.stopped_items.place_with.Given as goal
 
 -- no place before this one has a change of the key
 abbrev pub invariant-loop-slot : goal.invariant-loop-slot

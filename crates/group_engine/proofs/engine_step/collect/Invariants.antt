@@ -5,7 +5,7 @@ use Rattle.group_laws.specs.State.{Group}
 use Rattle.group_laws.specs.MemberViews.{View}
 use Rattle.group_engine.specs.Answers.{HavePlaces, stored}
 use Rattle.group_engine.specs.Calls.{is_open}
-use Rattle.group_engine.proofs.step.collect.Given as goal
+use Rattle.group_engine.proofs.engine_step.collect.Given as goal
 
 abbrev pub invariant-loop-answer : goal.invariant-loop-answer
 invariant-loop-answer g l =

@@ -3,7 +3,7 @@ use Rattle.std.proofs.Common.{◌≡◌, ℕ, ⊎_elim, true, false, Option, Som
 use Rattle.std.proofs.lemmas.Bool.{cases_lt, eqb-true, eq-eqb}
 use Rattle.core_worker.specs.OwnPlaces.{place_at, key_in, is_of}
 use Rattle.core_worker.proofs.Posts.{busy_has}
-use Rattle.core_worker.proofs.stopping.place_with.Goals as goal
+use Rattle.core_worker.proofs.stopped_items.place_with.Goals as goal
 
 of_key : (k : ℕ) (o : Option ℕ) → is_of k o ≡ true → o ≡ Some k
 of_key k None t = absurd (cc t)
