@@ -1,6 +1,7 @@
 pub mod Regions
 pub mod Winning
 pub mod Clashes
+pub mod ByName
 pub mod Judging
 pub mod Gathering
 pub mod Starts

@@ -16,6 +16,7 @@ ghost use Rattle.recover.specs.Judging.{rule_beside, fault_beside, winners_fault
 use crate::blocks::block_class;
 use crate::clashes::clash_fault;
 use crate::gathering::gather;
+use crate::sorting::{agree, by_name};
 use crate::winning::winners;
 use chunk_map::Layout;
 use fs_errors::Memory;
@@ -102,8 +103,8 @@ fn block_fault<R: Region>(
     Ok(None)
 }
 
-/// All entries of a region by part, chunk and place, or the first broken one of rules 4 to 8.
-pub fn agreed_entries<R: Region>(
+/// The same, where some entries contradict others: they are read again, and compared in the order of their places.
+fn compared_entries<R: Region>(
     alloc: Global,
     region: &R,
     layout: &Layout,
@@ -118,8 +119,32 @@ pub fn agreed_entries<R: Region>(
     };
     match clash_fault(alloc, &entries)? {
         Some(fault) => Ok(Err(fault)),
-        None => Ok(Ok(entries)),
+        None => {
+            let sorted = by_name(entries)?;
+            Ok(Ok(sorted))
+        }
     }
+}
+
+/// All entries of a region in the order of their names, or the first broken one of rules 4 to 8.
+pub fn agreed_entries<R: Region>(
+    alloc: Global,
+    region: &R,
+    layout: &Layout,
+) -> Result<Result<Vec<PlacedEntry>, Fault>, Memory>
+    requires covers { Covers (R.state region.now).frame layout.now }
+    ensures told { IfOk result (λ r. IsTelling (R.state region.now) → Agrees layout.now (lasts (R.state region.now)) r) }
+    ensures spelled { IfOk result (λ r. IfOk r (λ entries. AreSpelled entries.items)) }
+{
+    let entries = match gather(alloc, region, layout)? {
+        Ok(entries) => entries,
+        Err(fault) => return Ok(Err(fault)),
+    };
+    let sorted = by_name(entries)?;
+    if agree(&sorted) {
+        return Ok(Ok(sorted));
+    }
+    compared_entries(alloc, region, layout)
 }
 
 /// The winners of entries that break none of rules 4 to 8, by rising key, or the first broken one of rules 9

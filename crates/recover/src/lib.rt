@@ -16,6 +16,7 @@ mod listing;
 mod logs;
 mod recovery;
 mod shares;
+mod sorting;
 mod standing;
 mod starts;
 mod telling;
