@@ -1,6 +1,6 @@
 -- What a list of entries keeps when it is put in the order of their names.
-use Rattle.std.proofs.Common.{◌≡◌, ◌⊎◌, inl, inr, ℕ, zero, suc, ◌+◌, ◌-◌, ◌<◌, ◌≤◌, List, [], ◌∷◌, length, get_or, refl, sym, ◌∙◌, ap, subst, arith, ◌==◌, ◌&&◌, not, Bool, true, false, cond, Option, Some, None, ltb}
-use Rattle.std.specs.Prelude.{find, filter, option_map, Vec}
+use Rattle.std.proofs.Common.{◌≡◌, ◌⊎◌, inl, inr, ℕ, zero, suc, ◌+◌, ◌-◌, ◌<◌, ◌≤◌, List, [], ◌∷◌, length, take, get_or, refl, sym, ◌∙◌, ap, subst, arith, ◌==◌, ◌&&◌, not, Bool, true, false, cond, Option, Some, None, ltb}
+use Rattle.std.specs.Prelude.{find, filter, option_map, is_some, Vec}
 use Rattle.std.specs.Global.{Global}
 use Rattle.std.specs.BTreeMap.{BTreeMap}
 use Rattle.std.specs.Option.{option_to_list}
@@ -25,15 +25,17 @@ use Rattle.store_image.proofs.SoundFacts.{winner_is, no_clash_after}
 use Rattle.store_image.proofs.Listings.{rising_keys}
 use Rattle.recover.specs.Clashes.{name_cmp}
 use Rattle.recover.specs.Starts.{named_in}
-use Rattle.recover.specs.ByName.{name_of, is_named, IsInOrder, IsByName}
+use Rattle.recover.specs.ByName.{name_of, is_named, is_first, IsInOrder, IsByName}
 use Rattle.recover.specs.Winning.{winners_of, AreSpelled}
 use Rattle.core_index.specs.declared.types.Standee.{Standee}
 use Rattle.core_index.specs.Records.{standing_with}
 use Rattle.recover.specs.Standing.{HasStandees}
+use Rattle.recover.proofs.ListLaws.{found_in}
 use Rattle.recover.proofs.ClashLaws.{agrees}
+use Rattle.std.proofs.lemmas.List.{length-take-le, get_or-take}
 use Rattle.recover.proofs.WinningLaws.{above_in}
 
-less_of : (a b : ℕ) → a ≤ b → (a ≡ b → ⊥) → a < b
+pub less_of : (a b : ℕ) → a ≤ b → (a ≡ b → ⊥) → a < b
 less_of a b le ne = elim (ltb a b) as (λ c. ltb a b ≡ c → a < b) [
   | true ↦ λ e. ltb-true a b e
   | false ↦ λ e. absurd (ne (let h = ltb-false a b e in omega (arith, le, h)))
@@ -169,7 +171,7 @@ with_in j k (x ∷ xs) h = elim (ltb k x) as (λ b. In j (cond b (k ∷ x ∷ xs
   deeper more (inl e) = inr (inl e)
   deeper more (inr g) = place (more g)
 
-key_won : (k : ℕ) (es : List PlacedEntry) → In k (keys_of es) → (x : PlacedEntry) × In x es × (x.entry.key ≡ k)
+pub key_won : (k : ℕ) (es : List PlacedEntry) → In k (keys_of es) → (x : PlacedEntry) × In x es × (x.entry.key ≡ k)
 key_won k [] h = absurd h
 key_won k (y ∷ ys) h = place (key_won k ys) (with_in k y.entry.key (keys_of ys) h) where
   place : (In k (keys_of ys) → (x : PlacedEntry) × In x ys × (x.entry.key ≡ k)) → (k ≡ y.entry.key) ⊎ In k (keys_of ys) → (x : PlacedEntry) × In x (y ∷ ys) × (x.entry.key ≡ k)
@@ -262,10 +264,28 @@ between ak av bk bv ck cv (inl p) (inr q) k v = let e = q.0 in absurd (omega (ar
 between ak av bk bv ck cv (inr p) (inl q) k v = let e = p.0 in absurd (omega (arith, e, q, k))
 between ak av bk bv ck cv (inr p) (inr q) k v = let a = p.1 in let b = q.1 in (p.0, omega (arith, a, b, v))
 
-in_at : {X : Type 0} (x : X) (xs : List X) → In x xs → (i : ℕ) × (i < length xs) × ((d : X) → get_or xs i d ≡ x)
+pub in_at : {X : Type 0} (x : X) (xs : List X) → In x xs → (i : ℕ) × (i < length xs) × ((d : X) → get_or xs i d ≡ x)
 in_at x [] h = absurd h
 in_at x (y ∷ ys) (inl e) = (zero, omega arith, λ d. sym e)
 in_at x (y ∷ ys) (inr h) = let r = in_at x ys h in let l = r.1 in (suc r.0, omega (arith, l), r.2)
+
+at_in : {X : Type 0} (xs : List X) (i : ℕ) (d : X) → i < length xs → In (get_or xs i d) xs
+at_in [] i d lt = absurd (omega (arith, lt))
+at_in (x ∷ xs) zero d lt = inl refl
+at_in (x ∷ xs) (suc i) d lt = inr (at_in xs i d (omega (arith, lt)))
+
+pub any_default : {X : Type 0} (xs : List X) (i : ℕ) (d e : X) → i < length xs → get_or xs i d ≡ get_or xs i e
+any_default [] i d e lt = absurd (omega (arith, lt))
+any_default (x ∷ xs) zero d e lt = refl
+any_default (x ∷ xs) (suc i) d e lt = any_default xs i d e (omega (arith, lt))
+
+find_some : {X : Type 0} (p : X → Bool) (xs : List X) (x : X) → In x xs → p x ≡ true → is_some (find p xs) ≡ true
+find_some p [] x h is = absurd h
+find_some p (y ∷ ys) x (inl e) is = rw (sym (ap p e) ∙ is) refl
+find_some p (y ∷ ys) x (inr h) is = elim (p y) as (λ b. is_some (cond b (Some y) (find p ys)) ≡ true) [
+  | true ↦ refl
+  | false ↦ find_some p ys x h is
+]
 
 names_total : IsTotalOrder name_cmp
 names_total = then_total (on_total (λ p. p.0) nat_cmp_total) (on_total (λ p. p.1) nat_cmp_total)
@@ -274,13 +294,65 @@ names_total = then_total (on_total (λ p. p.0) nat_cmp_total) (on_total (λ p. p
 abbrev pub NeighboursAgree : List PlacedEntry → ℕ → Type 0
 NeighboursAgree xs n = (j : ℕ) (d : PlacedEntry) → j + 1 < n → contradicts (get_or xs (j + 1) d) (get_or xs j d) ≡ false
 
-module _ (xs : List PlacedEntry) (rising : IsInOrder xs) (near : NeighboursAgree xs (length xs)) where
+module _ (xs : List PlacedEntry) (rising : IsInOrder xs) where
   above : (i j : ℕ) (d : PlacedEntry) → i ≤ j → j < length xs → ((get_or xs i d).entry.key < (get_or xs j d).entry.key) ⊎ (((get_or xs i d).entry.key ≡ (get_or xs j d).entry.key) × ((get_or xs i d).entry.version ≤ (get_or xs j d).entry.version))
   above i j d le lt =
       let a = get_or xs i d in
       let b = get_or xs j d in
       not_above a.entry.key a.entry.version b.entry.key b.entry.version (sorted_far (λ x y. is_lt (name_cmp (name_of x) (name_of y))) (ranks_by names_total name_of) xs rising i j d le lt)
 
+  pub keys_rise : (i j : ℕ) (d : PlacedEntry) → i ≤ j → j < length xs → (get_or xs i d).entry.key ≤ (get_or xs j d).entry.key
+  keys_rise i j d le lt = at_most (above i j d le lt) where
+    at_most : ((get_or xs i d).entry.key < (get_or xs j d).entry.key) ⊎ (((get_or xs i d).entry.key ≡ (get_or xs j d).entry.key) × ((get_or xs i d).entry.version ≤ (get_or xs j d).entry.version)) → (get_or xs i d).entry.key ≤ (get_or xs j d).entry.key
+    at_most (inl less) = omega (arith, less)
+    at_most (inr same) = let e = same.0 in omega (arith, e)
+
+  -- whether an entry of a name stands in front of one, by the neighbour in front
+  module _ (at : ℕ) (d : PlacedEntry) (some : 0 < at) (lt : at < length xs) where
+    abbrev here : PlacedEntry
+    here = get_or xs at d
+
+    abbrev ahead : PlacedEntry
+    ahead = get_or xs (at - 1) d
+
+    abbrev same : Bool
+    same = ahead.entry.key == here.entry.key && ahead.entry.version == here.entry.version
+
+    long : length (take at xs) ≡ at
+    long = length-take-le at xs (omega (arith, lt))
+
+    squeezed : (z : PlacedEntry) → In z (take at xs) → z.entry.key ≡ here.entry.key → z.entry.version ≡ here.entry.version → same ≡ true
+    squeezed z h key version =
+        let place = in_at z (take at xs) h in
+        let low = place.1 in
+        let n = long in
+        let less : place.0 < at = omega (arith, low, n) in
+        let is : get_or xs place.0 d ≡ z = sym (get_or-take at xs place.0 d less) ∙ place.2 d in
+        let w = get_or xs place.0 d in
+        let k : w.entry.key ≡ here.entry.key = (λ t. (is t).entry.key) ∙ key in
+        let v : w.entry.version ≡ here.entry.version = (λ t. (is t).entry.version) ∙ version in
+        let both = between w.entry.key w.entry.version ahead.entry.key ahead.entry.version here.entry.key here.entry.version (above place.0 (at - 1) d (omega (arith, less)) (omega (arith, lt))) (above (at - 1) at d (omega arith) lt) k v in
+        and_from (ahead.entry.key == here.entry.key) (ahead.entry.version == here.entry.version) (eq-eqb ahead.entry.key here.entry.key (sym both.0 ∙ k)) (eq-eqb ahead.entry.version here.entry.version (sym both.1 ∙ v))
+
+    none_ahead : same ≡ false → (o : Option PlacedEntry) → named_in here.entry.key here.entry.version (take at xs) ≡ o → is_some o ≡ false
+    none_ahead other None e = refl
+    none_ahead other (Some z) e =
+        let r = found_in (is_named here.entry.key here.entry.version) (take at xs) z e in
+        let names = and_parts (z.entry.key == here.entry.key) (z.entry.version == here.entry.version) r.1 in
+        absurd (cc (sym (squeezed z r.0 (eqb-true z.entry.key here.entry.key names.0) (eqb-true z.entry.version here.entry.version names.1)) ∙ other))
+
+    one_ahead : same ≡ true → is_some (named_in here.entry.key here.entry.version (take at xs)) ≡ true
+    one_ahead is =
+        let n = long in
+        let there = at_in (take at xs) (at - 1) d (omega (arith, n, some)) in
+        let e = get_or-take at xs (at - 1) d (omega (arith, some)) in
+        find_some (is_named here.entry.key here.entry.version) (take at xs) ahead (subst (λ z. In z (take at xs)) e there) is
+
+    pub first_told : (b : Bool) → b ≡ same → not b ≡ is_first (take at xs) here
+    first_told true e = ap not (sym (one_ahead (sym e)))
+    first_told false e = ap not (sym (none_ahead (sym e) (named_in here.entry.key here.entry.version (take at xs)) refl))
+
+module _ (xs : List PlacedEntry) (rising : IsInOrder xs) (near : NeighboursAgree xs (length xs)) where
   run : (j i : ℕ) (d : PlacedEntry) → i ≤ j → j < length xs → (get_or xs i d).entry.key ≡ (get_or xs j d).entry.key → (get_or xs i d).entry.version ≡ (get_or xs j d).entry.version
       → ((get_or xs i d).entry.body ≡ (get_or xs j d).entry.body) × ((get_or xs i d).core ≡ (get_or xs j d).core)
   run zero i d le lt k v = let z : i ≡ zero = omega (arith, le) in ((λ t. (get_or xs (z t) d).entry.body), (λ t. (get_or xs (z t) d).core))
@@ -290,7 +362,7 @@ module _ (xs : List PlacedEntry) (rising : IsInOrder xs) (near : NeighboursAgree
         let a = get_or xs i d in
         let b = get_or xs j d in
         let c = get_or xs (suc j) d in
-        let same = between a.entry.key a.entry.version b.entry.key b.entry.version c.entry.key c.entry.version (above i j d (omega (arith, l)) (omega (arith, lt))) (above j (suc j) d (omega arith) lt) k v in
+        let same = between a.entry.key a.entry.version b.entry.key b.entry.version c.entry.key c.entry.version (above xs rising i j d (omega (arith, l)) (omega (arith, lt))) (above xs rising j (suc j) d (omega arith) lt) k v in
         let first = run j i d (omega (arith, l)) (omega (arith, lt)) same.0 same.1 in
         let p : j + 1 ≡ suc j = omega arith in
         let no = subst (λ n. contradicts (get_or xs n d) b ≡ false) p (near j d (omega (arith, lt))) in

@@ -10,6 +10,7 @@ ghost use Rattle.store_image.specs.Parts.{all_entries, block_class};
 ghost use Rattle.store_image.specs.Soundness.{block_fault};
 ghost use Rattle.recover.specs.Regions.{Covers};
 ghost use Rattle.recover.specs.Winning.{winners_of, AreSpelled};
+ghost use Rattle.recover.specs.ByName.{IsInOrder};
 ghost use Rattle.recover.specs.Gathering.{AreAgreed, Agrees, Judges};
 ghost use Rattle.recover.specs.Judging.{rule_beside, fault_beside, winners_fault, HasPointers};
 
@@ -111,6 +112,7 @@ fn compared_entries<R: Region>(
 ) -> Result<Result<Vec<PlacedEntry>, Fault>, Memory>
     requires covers { Covers (R.state region.now).frame layout.now }
     ensures told { IfOk result (λ r. IsTelling (R.state region.now) → Agrees layout.now (lasts (R.state region.now)) r) }
+    ensures order { IfOk result (λ r. IfOk r (λ entries. IsInOrder entries.items)) }
     ensures spelled { IfOk result (λ r. IfOk r (λ entries. AreSpelled entries.items)) }
 {
     let entries = match gather(alloc, region, layout)? {
@@ -134,6 +136,7 @@ pub fn agreed_entries<R: Region>(
 ) -> Result<Result<Vec<PlacedEntry>, Fault>, Memory>
     requires covers { Covers (R.state region.now).frame layout.now }
     ensures told { IfOk result (λ r. IsTelling (R.state region.now) → Agrees layout.now (lasts (R.state region.now)) r) }
+    ensures order { IfOk result (λ r. IfOk r (λ entries. IsInOrder entries.items)) }
     ensures spelled { IfOk result (λ r. IfOk r (λ entries. AreSpelled entries.items)) }
 {
     let entries = match gather(alloc, region, layout)? {
@@ -156,6 +159,7 @@ pub fn judge<R: Region>(
     entries: Vec<PlacedEntry>,
 ) -> Result<Result<Vec<PlacedEntry>, Fault>, Memory>
     requires covers { Covers (R.state region.now).frame layout.now }
+    requires order { IsInOrder entries.items }
     ensures told { IfOk result (λ r. IsTelling (R.state region.now) → AreAgreed layout.now (lasts (R.state region.now)) entries.items → Judges layout.now (lasts (R.state region.now)) r) }
     ensures winners { IfOk result (λ r. IfOk r (λ winners. winners.items ≡ winners_of entries.items)) }
 {
