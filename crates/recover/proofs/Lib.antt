@@ -17,5 +17,6 @@ pub mod HeadLaws
 pub mod StartLaws
 pub mod StandLaws
 pub mod PairLaws
+pub mod LiveLaws
 pub mod Clients
 pub mod OwnLaws

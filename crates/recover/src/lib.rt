@@ -13,6 +13,7 @@ mod clashes;
 mod gathering;
 mod judging;
 mod listing;
+mod live;
 mod logs;
 mod recovery;
 mod shares;
@@ -26,6 +27,7 @@ mod types;
 mod winning;
 
 pub use listing::pairs;
+pub use live::live_pairs;
 pub use recovery::{first_fault, recover};
 pub use store_image::Fault;
 pub use types::{CoreStart, RecoverError, Recovered};
