@@ -25,7 +25,7 @@ use Rattle.store_image.proofs.SoundFacts.{winner_is, no_clash_after}
 use Rattle.store_image.proofs.Listings.{rising_keys}
 use Rattle.recover.specs.Clashes.{name_cmp}
 use Rattle.recover.specs.Starts.{named_in}
-use Rattle.recover.specs.ByName.{name_of, is_named, is_first, IsInOrder, IsByName}
+use Rattle.recover.specs.ByName.{name_of, is_named, is_first, HasNoKey, IsInOrder, IsByName}
 use Rattle.recover.specs.Winning.{winners_of, AreSpelled}
 use Rattle.core_index.specs.declared.types.Standee.{Standee}
 use Rattle.core_index.specs.Records.{standing_with}
@@ -351,6 +351,24 @@ module _ (xs : List PlacedEntry) (rising : IsInOrder xs) where
     pub first_told : (b : Bool) → b ≡ same → not b ≡ is_first (take at xs) here
     first_told true e = ap not (sym (one_ahead (sym e)))
     first_told false e = ap not (sym (none_ahead (sym e) (named_in here.entry.key here.entry.version (take at xs)) refl))
+
+    no_key : (ahead.entry.key == here.entry.key) ≡ false → (v : ℕ) (o : Option PlacedEntry) → named_in here.entry.key v (take at xs) ≡ o → o ≡ None
+    no_key other v None e = refl
+    no_key other v (Some z) e =
+        let r = found_in (is_named here.entry.key v) (take at xs) z e in
+        let names = and_parts (z.entry.key == here.entry.key) (z.entry.version == v) r.1 in
+        let place = in_at z (take at xs) r.0 in
+        let low = place.1 in
+        let n = long in
+        let less : place.0 < at = omega (arith, low, n) in
+        let is : get_or xs place.0 d ≡ z = sym (get_or-take at xs place.0 d less) ∙ place.2 d in
+        let k : (get_or xs place.0 d).entry.key ≡ here.entry.key = (λ t. (is t).entry.key) ∙ eqb-true z.entry.key here.entry.key names.0 in
+        let below = keys_rise place.0 (at - 1) d (omega (arith, less)) (omega (arith, lt)) in
+        let above = keys_rise (at - 1) at d (omega arith) lt in
+        absurd (cc (sym (eq-eqb ahead.entry.key here.entry.key (omega (arith, below, above, k))) ∙ other))
+
+    pub key_is_new : (ahead.entry.key == here.entry.key) ≡ false → HasNoKey here.entry.key (take at xs)
+    key_is_new other v = no_key other v (named_in here.entry.key v (take at xs)) refl
 
 module _ (xs : List PlacedEntry) (rising : IsInOrder xs) (near : NeighboursAgree xs (length xs)) where
   run : (j i : ℕ) (d : PlacedEntry) → i ≤ j → j < length xs → (get_or xs i d).entry.key ≡ (get_or xs j d).entry.key → (get_or xs i d).entry.version ≡ (get_or xs j d).entry.version

@@ -12,6 +12,7 @@ use Rattle.core_index.specs.declared.types.Standee.{Standee}
 use Rattle.core_index.specs.declared.types.Standing.{Standing}
 use Rattle.core_index.specs.Records.{standing_at, standing_with, untold}
 use Rattle.recover.specs.Starts.{named_in}
+use Rattle.recover.specs.ByName.{HasNoKey}
 use Rattle.recover.specs.Standing.{standees_at, StandOnce, HasStandees, StandsMore}
 use Rattle.recover.proofs.ListLaws.{or_else, or_none, find_push, found_in}
 
@@ -91,6 +92,14 @@ standees_more m new es x s version home new_name more has = record {
     | true ↦ λ e. once_push (standees_at m k) s (has.once k) (has.each k s.version ∙ ap (shown s.version) (sym (λ i. named_in (eqb-true x.entry.key k e i) (sym version i) es) ∙ none))
     | false ↦ λ e. has.once k
   ] refl
+
+-- of a key that no entry has, nothing stands
+no_standing : (ss : List Standee) → ((v : ℕ) → standing_at (map untold ss) v ≡ None) → ss ≡ []
+no_standing [] none = refl
+no_standing (s ∷ ss) none = absurd (cc (sym (ap (λ b. cond b (Some (untold s)) (standing_at (map untold ss) s.version)) (eq-eqb s.version s.version refl)) ∙ none s.version))
+
+pub none_stands : (m : BTreeMap ℕ (Vec Standee Global)) (es : List PlacedEntry) (k : ℕ) → HasStandees m es → HasNoKey k es → standees_at m k ≡ []
+none_stands m es k has none = no_standing (standees_at m k) (λ v. has.each k v ∙ ap (shown v) (none v))
 
 -- nothing stands yet
 pub no_standees : (m : BTreeMap ℕ (Vec Standee Global)) → ((k : ℕ) → standees_at m k ≡ []) → HasStandees m []

@@ -1,5 +1,5 @@
 -- A list of entries in the order of their names.
-use Rattle.std.specs.Prelude.{◌≡◌, ℕ, ◌==◌, ◌&&◌, not, Bool, List, filter, is_some}
+use Rattle.std.specs.Prelude.{◌≡◌, ℕ, ◌==◌, ◌&&◌, not, Bool, List, filter, is_some, None}
 use Rattle.std.specs.List.Sorted.{IsSortedByKey}
 use Rattle.store_image.specs.declared.types.PlacedEntry.{PlacedEntry}
 use Rattle.recover.specs.Clashes.{name_cmp}
@@ -24,3 +24,7 @@ pub record IsByName (es xs : List PlacedEntry) : Type 0 where
 -- no entry of this name is in front
 abbrev pub is_first : List PlacedEntry → PlacedEntry → Bool
 is_first before x = not (is_some (named_in x.entry.key x.entry.version before))
+
+-- and none of this key
+abbrev pub HasNoKey : ℕ → List PlacedEntry → Type 0
+HasNoKey k before = (v : ℕ) → named_in k v before ≡ None

@@ -1,8 +1,8 @@
 // The entries that stand in the logs, by key.
-ghost use Rattle.std.specs.Prelude.{◌≡◌, ◌<◌, ◌++◌, ◌∷◌, ◌==◌, ◌&&◌, [], List, length, take, slice_index_or, IfOk, OnOk};
+ghost use Rattle.std.specs.Prelude.{◌≡◌, ◌<◌, ◌++◌, ◌∷◌, ◌==◌, ◌&&◌, [], List, length, take, slice_index_or, true, IfOk, OnOk};
 ghost use Rattle.store_image.specs.declared.types.PlacedEntry.{PlacedEntry};
-ghost use Rattle.recover.specs.ByName.{IsInOrder, is_first};
-ghost use Rattle.recover.specs.Standing.{HasStandees, StandsMore};
+ghost use Rattle.recover.specs.ByName.{IsInOrder, is_first, HasNoKey};
+ghost use Rattle.recover.specs.Standing.{standees_at, HasStandees, StandsMore};
 
 use core_index::Standee;
 use fs_errors::Memory;
@@ -33,6 +33,37 @@ fn push_standee(
     Ok(())
 }
 
+/// Enters the first entry of a key that has none.
+fn start_list(
+    alloc: Global,
+    standing: &mut BTreeMap<Key, Vec<Standee>>,
+    key: Key,
+    standee: Standee,
+) -> Result<(), Memory>
+    ensures { OnOk result (standees_at standing.old key ≡ [] → StandsMore standing.old standing.new key standee) }
+{
+    let mut list = Vec::with_capacity(alloc, 1)?;
+    list.push(standee)?;
+    standing.insert(key, list)?;
+    Ok(())
+}
+
+/// Appends an entry to those of its key. A key that has none yet is not looked for.
+fn enter(
+    alloc: Global,
+    standing: &mut BTreeMap<Key, Vec<Standee>>,
+    key: Key,
+    standee: Standee,
+    new_key: bool,
+) -> Result<(), Memory>
+    ensures { OnOk result ((new_key ≡ true → standees_at standing.old key ≡ []) → StandsMore standing.old standing.new key standee) }
+{
+    if new_key {
+        return start_list(alloc, standing, key, standee);
+    }
+    push_standee(alloc, standing, key, standee)
+}
+
 fn same_name(x: &PlacedEntry, y: &PlacedEntry) -> bool
     ensures { result ≡ (x.now.entry.key == y.now.entry.key && x.now.entry.version == y.now.entry.version) }
 {
@@ -51,6 +82,18 @@ fn is_first(sorted: &[PlacedEntry], at: usize) -> bool
     !same_name(&sorted[at - 1], &sorted[at])
 }
 
+/// Whether no entry in front of one has its key. Only its neighbour is looked at.
+fn is_new_key(sorted: &[PlacedEntry], at: usize) -> bool
+    requires order { IsInOrder sorted.now }
+    requires at { at < length sorted.now }
+    ensures { (d : PlacedEntry) → result ≡ true → HasNoKey (slice_index_or sorted.now at d).entry.key (take at sorted.now) }
+{
+    if at == 0 {
+        return true;
+    }
+    sorted[at - 1].entry.key != sorted[at].entry.key
+}
+
 /// Notes that an entry stands, where it is the first of its key and version. After a crash in the midst of
 /// cleaning one may stand twice in its log.
 fn note(
@@ -58,15 +101,16 @@ fn note(
     standing: &mut BTreeMap<Key, Vec<Standee>>,
     x: &PlacedEntry,
     first: bool,
+    new_key: bool,
 ) -> Result<(), Memory>
-    ensures { IfOk result (λ _. (es : List PlacedEntry) → first ≡ is_first es x.now → HasStandees standing.old es → HasStandees standing.new (es ++ x.now ∷ [])) }
+    ensures { IfOk result (λ _. (es : List PlacedEntry) → first ≡ is_first es x.now → (new_key ≡ true → HasNoKey x.now.entry.key es) → HasStandees standing.old es → HasStandees standing.new (es ++ x.now ∷ [])) }
 {
     if first {
         let standee = Standee {
             version: x.entry.version,
             home: x.core,
         };
-        push_standee(alloc, standing, x.entry.key, standee)?;
+        enter(alloc, standing, x.entry.key, standee, new_key)?;
     }
     Ok(())
 }
@@ -83,7 +127,8 @@ pub fn standees(
     let mut standing = BTreeMap::new(alloc);
     for at in 0..sorted.len() {
         let first = is_first(sorted, at);
-        note(alloc, &mut standing, &sorted[at], first)?;
+        let new_key = is_new_key(sorted, at);
+        note(alloc, &mut standing, &sorted[at], first, new_key)?;
     }
     Ok(standing)
 }
