@@ -1,8 +1,8 @@
 -- The winners of entries in the order of their names, taken from the last on.
-use Rattle.std.proofs.Common.{◌≡◌, inl, inr, ℕ, zero, suc, ◌+◌, ◌-◌, ◌<◌, ◌≤◌, List, [], ◌∷◌, ◌++◌, length, take, get_or, reverse, refl, sym, ◌∙◌, ap, subst, arith, ◌==◌, ◌&&◌, Bool, true, false, cond, Option, Some, None, ltb}
+use Rattle.std.proofs.Common.{◌≡◌, inl, inr, ℕ, zero, suc, ◌-◌, ◌<◌, ◌≤◌, List, [], ◌∷◌, ◌++◌, length, take, get_or, reverse, refl, sym, ◌∙◌, ap, subst, arith, ◌==◌, ◌&&◌, Bool, true, false, cond, Option, Some, None, ltb}
 use Rattle.std.specs.Prelude.{slice_get}
 use Rattle.std.specs.Option.{option_to_list}
-use Rattle.std.specs.List.{flat_map, AllByRecursion}
+use Rattle.std.specs.List.{flat_map}
 use Rattle.std.proofs.lemmas.Bool.{eqb-true, eqb-false, eq-eqb, ne_eqb, le-ltb, lt-ltb}
 use Rattle.std.proofs.lemmas.List.{reverse-append, reverse-reverse, length_push}
 use Rattle.store_image.specs.declared.types.PlacedEntry.{PlacedEntry}
@@ -146,10 +146,10 @@ module _ (x : PlacedEntry) (es : List PlacedEntry) (low : (y : PlacedEntry) → 
           ∙ ap (λ l. x ∷ l) (others (k ∷ ks) above ∙ behind)
           ∙ sym (λ i. cond (no i && ltb x.entry.version y.entry.version) (y ∷ of_rest ks) (x ∷ cond (no i) (of_rest ks) (y ∷ of_rest ks)))
           ∙ ap (with_winner x) (sym behind)
-            where
-              in_all : x.entry.key < k → (j : ℕ) → In j (k ∷ ks) → x.entry.key < j
-              in_all less j (inl p) = omega (arith, less, p)
-              in_all less j (inr h) = let l = above_in k j ks rising.0 h in omega (arith, less, l)
+        where
+          in_all : x.entry.key < k → (j : ℕ) → In j (k ∷ ks) → x.entry.key < j
+          in_all less j (inl p) = omega (arith, less, p)
+          in_all less j (inr h) = let l = above_in k j ks rising.0 h in omega (arith, less, l)
 
   one_more_wins : winners_of (x ∷ es) ≡ with_winner x (winners_of es)
   one_more_wins = by_keys (keys_of es) refl

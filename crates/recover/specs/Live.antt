@@ -1,5 +1,5 @@
 -- The live pairs by the winners of all keys.
-use Rattle.std.specs.Prelude.{◌≡◌, ℕ, List, [], ◌∷◌, Option, Some, None, Result, Ok, Err, Vec}
+use Rattle.std.specs.Prelude.{◌≡◌, ℕ, List, [], ◌∷◌, Some, None, Result, Ok, Err, Vec}
 use Rattle.std.specs.Global.{Global}
 use Rattle.fs_model.specs.declared.model.Pair.{Pair}
 use Rattle.chunk_map.specs.declared.layouts.Geometry.{Geometry}

@@ -1,4 +1,4 @@
-use Rattle.std.proofs.Common.{◌≡◌, true, refl, sym, ◌∙◌, ap, subst}
+use Rattle.std.proofs.Common.{subst}
 use Rattle.pm_region.specs.Words.{lasts}
 use Rattle.store_image.specs.Facts.{Agree}
 use Rattle.recover.proofs.JudgeLaws.{by_chunks, gathered, agreed, spelled_of}

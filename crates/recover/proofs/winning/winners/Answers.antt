@@ -1,4 +1,4 @@
-use Rattle.std.proofs.Common.{[], ◌∷◌, ◌++◌, reverse, sym, ◌∙◌, ap, subst, append-nil, arith, refl}
+use Rattle.std.proofs.Common.{[], ◌∷◌, ◌++◌, reverse, sym, ◌∙◌, ap, append-nil, arith}
 use Rattle.std.specs.Prelude.{vec_len}
 use Rattle.std.specs.Option.{option_to_list}
 use Rattle.recover.proofs.WinningLaws.{taken_from, none_left}
