@@ -1,8 +1,8 @@
-use Rattle.std.proofs.Common.{◌≡◌, ◌+◌, ◌-◌, ◌*◌, ◌≤◌, ◌==◌, drop, sym, ◌∙◌, ap, arith}
+use Rattle.std.proofs.Common.{◌≡◌, ◌+◌, ◌-◌, ◌*◌, ◌==◌, drop, ◌∙◌, ap, arith}
 use Rattle.std.specs.Prelude.{slice_index}
 use Rattle.std.specs.List.{list_all}
 use Rattle.std.specs.Int.{w64, to_le_bytes}
-use Rattle.log_entry.specs.Reading.{length_of, size_of}
+use Rattle.log_entry.specs.Reading.{length_of}
 use Rattle.log_entry.proofs.Tails.{fills, last_holds}
 use Rattle.log_entry.proofs.reading.keeps_6.Goals as goal
 
