@@ -14,7 +14,7 @@ use crate::report::{Report, Status};
 use fs_model::Pair;
 use fs_text::{OutError, Sink, write_pairs};
 use pm_region::{AttachError, SplitRegion};
-use recover::{RecoverError, pairs, recover};
+use recover::RecoverError;
 use std::alloc::Global;
 
 /// The live pairs of an attached region, by rising key, or the status where there are none.
@@ -25,13 +25,10 @@ fn live_pairs<R: SplitRegion>(alloc: Global, region: &R) -> Result<Vec<Pair>, St
         → IsSound (R.state region.now).frame.bytes (lasts (R.state region.now)) × ListsCells (cells_of (lasts (R.state region.now))) pairs.items) }
     ensures err { IfErr result (IsUnlisted (R.state region.now) (lasts (R.state region.now))) }
 {
-    match recover(alloc, region, region.bytes()) {
+    match recover::live_pairs(alloc, region, region.bytes()) {
         Err(RecoverError::Memory) => Err(Status::Memory),
         Err(RecoverError::Fault(fault)) => Err(Status::of_fault(fault)),
-        Ok(recovered) => match pairs(alloc, region, &recovered) {
-            Err(_) => Err(Status::Memory),
-            Ok(pairs) => Ok(pairs),
-        },
+        Ok(pairs) => Ok(pairs),
     }
 }
 

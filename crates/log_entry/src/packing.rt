@@ -42,7 +42,7 @@ pub fn word_at(bytes: &[u8], at: usize) -> u64
 pub fn unpack(alloc: Global, words: &[u64]) -> Result<Vec<u8>, Memory>
     ensures { IfOk result (λ v. v.items ≡ unpacked words.now) }
 {
-    let mut bytes = Vec::new(alloc);
+    let mut bytes = Vec::with_capacity(alloc, words.len() * 8)?;
     for word in words {
         bytes.extend_from_slice(&word.to_le_bytes())?;
     }

@@ -33,7 +33,7 @@ contradicts_name x y is =
     let names = and_parts (x.entry.key == y.entry.key) (x.entry.version == y.entry.version) parts.0 in
     record { key = sym (eqb-true x.entry.key y.entry.key names.0); version = sym (eqb-true x.entry.version y.entry.version names.1) }
 
-agrees : (x y : PlacedEntry) → contradicts x y ≡ false → HasName x.entry.key x.entry.version y → (x.entry.body ≡ y.entry.body) × (x.core ≡ y.core)
+pub agrees : (x y : PlacedEntry) → contradicts x y ≡ false → HasName x.entry.key x.entry.version y → (x.entry.body ≡ y.entry.body) × (x.core ≡ y.core)
 agrees x y is name =
     let rest : not (same_body x.entry.body y.entry.body && x.core == y.core) ≡ false = sym (rw (eq-eqb x.entry.key y.entry.key (sym name.key), eq-eqb x.entry.version y.entry.version (sym name.version)) refl) ∙ is in
     let both = and_parts (same_body x.entry.body y.entry.body) (x.core == y.core) (not-false _ rest) in

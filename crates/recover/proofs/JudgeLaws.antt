@@ -21,7 +21,8 @@ use Rattle.store_image.specs.Soundness.{first_some, damaged, points_to, pointer_
 use Rattle.store_image.proofs.SoundFacts.{in_back, winner_is}
 use Rattle.store_image.proofs.Listings.{rising_keys}
 use Rattle.store_image.proofs.Loops.{chunks_decide, clash_decides, blocks_decide}
-use Rattle.recover.specs.Gathering.{Gathers, AllSpell}
+use Rattle.recover.specs.ByName.{IsByName}
+use Rattle.recover.specs.Gathering.{Gathers, AllSpell, AreAgreed}
 use Rattle.recover.specs.Winning.{winners_of, AreSpelled}
 use Rattle.recover.specs.Judging.{is_taken, rule_beside, body_beside, fault_beside, winners_fault}
 use Rattle.recover.proofs.WinningLaws.{above_in}
@@ -121,6 +122,10 @@ module _ (l : Geometry) (image : ℕ → ℕ) where
 
     pub by_winners : (f : Option Fault) (ws : List PlacedEntry) → None ≡ clash_fault es → ws ≡ winners_of es → f ≡ winners_fault l image [] ws → damage l image ≡ f
     by_winners f ws none won found = sym (blocks_decide l image es is f None None (sym whole) refl none refl (found ∙ ap (winners_fault l image []) won ∙ winners_decide es l image))
+
+-- all entries that break none of rules 4 to 8
+pub agreed : (l : Geometry) (image : ℕ → ℕ) (es : List PlacedEntry) → es ≡ all_entries l image → chunk_fault l image ≡ None → AllSpell l image → (xs : List PlacedEntry) → IsByName es xs → clash_fault es ≡ None → AreAgreed l image xs × AllSpell l image
+agreed l image es is whole spells xs sorted none = (record { all = subst (λ (es : List PlacedEntry). IsByName es xs) is sorted; chunks = whole; clash = ap clash_fault (sym is) ∙ none }, spells)
 
 pub spelled_of : (r : Result (Vec PlacedEntry Global) Fault) (v : Vec PlacedEntry Global) → IfOk r (λ es. AreSpelled es.items) → r ≡ Ok v → AreSpelled v.items
 spelled_of r v all is = subst (λ (r : Result (Vec PlacedEntry Global) Fault). IfOk r (λ es. AreSpelled es.items)) is all

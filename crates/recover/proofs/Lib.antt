@@ -1,6 +1,8 @@
 pub mod ListLaws
 pub mod WinningLaws
 pub mod ClashLaws
+pub mod NameLaws
+pub mod TakenLaws
 pub mod RegionLaws
 pub mod GatherLaws
 pub mod BlockLaws
@@ -15,5 +17,6 @@ pub mod HeadLaws
 pub mod StartLaws
 pub mod StandLaws
 pub mod PairLaws
+pub mod LiveLaws
 pub mod Clients
 pub mod OwnLaws

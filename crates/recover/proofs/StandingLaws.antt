@@ -4,7 +4,6 @@ use Rattle.std.specs.Prelude.{option_map, is_some, Vec}
 use Rattle.std.specs.Global.{Global}
 use Rattle.std.specs.List.{AllByRecursion}
 use Rattle.std.specs.BTreeMap.{BTreeMap}
-use Rattle.std.specs.BTreeSet.{BTreeSet, contains, Updates}
 use Rattle.std.proofs.lemmas.Bool.{and_parts, eqb-true, eqb-false, eq-eqb, ne_eqb}
 use Rattle.store_image.specs.declared.types.PlacedEntry.{PlacedEntry}
 use Rattle.store_image.specs.Winners.{winner_in}
@@ -12,10 +11,9 @@ use Rattle.store_image.proofs.Copies.{winner_max}
 use Rattle.core_index.specs.declared.types.Standee.{Standee}
 use Rattle.core_index.specs.declared.types.Standing.{Standing}
 use Rattle.core_index.specs.Records.{standing_at, standing_with, untold}
-use Rattle.recover.specs.Clashes.{name_cmp}
 use Rattle.recover.specs.Starts.{named_in}
-use Rattle.recover.specs.Standing.{standees_at, StandOnce, HasStandees, HasNames, StandsMore}
-use Rattle.recover.proofs.ClashLaws.{same_name}
+use Rattle.recover.specs.ByName.{HasNoKey}
+use Rattle.recover.specs.Standing.{standees_at, StandOnce, HasStandees, StandsMore}
 use Rattle.recover.proofs.ListLaws.{or_else, or_none, find_push, found_in}
 
 standee_push : (ss : List Standee) (s : Standee) (v : ℕ) → standing_at (map untold (ss ++ s ∷ [])) v ≡ or_else (standing_at (map untold ss) v) (cond (s.version == v) (Some (untold s)) None)
@@ -40,18 +38,7 @@ is_named k v x = x.entry.key == k && x.entry.version == v
 named_push : (k v : ℕ) (es : List PlacedEntry) (x : PlacedEntry) → named_in k v (es ++ x ∷ []) ≡ or_else (named_in k v es) (cond (is_named k v x) (Some x) None)
 named_push k v es x = find_push (is_named k v) es x
 
--- the set of names
-some_more : (b : Bool) (o : Option PlacedEntry) (x : PlacedEntry) → cond b true (is_some o) ≡ is_some (or_else o (cond b (Some x) None))
-some_more true None x = refl
-some_more true (Some y) x = refl
-some_more false None x = refl
-some_more false (Some y) x = refl
-
-pub names_more : (names new : BTreeSet (ℕ × ℕ)) (es : List PlacedEntry) (x : PlacedEntry) → Updates name_cmp names new (x.entry.key, x.entry.version) true → HasNames names es → HasNames new (es ++ x ∷ [])
-names_more names new es x updates has k v =
-    updates.0 (k, v) ∙ (λ i. cond (same_name x.entry.key x.entry.version k v i) true (has k v i)) ∙ some_more (is_named k v x) (named_in k v es) x ∙ ap is_some (sym (named_push k v es x))
-
--- an entry whose name was noted changes nothing
+-- an entry whose name stands changes nothing
 some_stays : (o : Option PlacedEntry) (y : Option PlacedEntry) → is_some o ≡ true → or_else o y ≡ o
 some_stays None y some = absurd (cc some)
 some_stays (Some x) y some = refl
@@ -59,8 +46,8 @@ some_stays (Some x) y some = refl
 abbrev shown : ℕ → Option PlacedEntry → Option Standing
 shown v o = option_map (λ (x : PlacedEntry). standing_with v x.core false) o
 
-pub standees_stay : (names : BTreeSet (ℕ × ℕ)) (m : BTreeMap ℕ (Vec Standee Global)) (es : List PlacedEntry) (x : PlacedEntry) → HasNames names es → contains name_cmp names (x.entry.key, x.entry.version) ≡ true → HasStandees m es → HasStandees m (es ++ x ∷ [])
-standees_stay names m es x noted there has = record {
+pub standees_stay : (m : BTreeMap ℕ (Vec Standee Global)) (es : List PlacedEntry) (x : PlacedEntry) → is_some (named_in x.entry.key x.entry.version es) ≡ true → HasStandees m es → HasStandees m (es ++ x ∷ [])
+standees_stay m es x there has = record {
   each = λ k v. has.each k v ∙ ap (shown v) (sym (named_push k v es x ∙ same k v));
   once = has.once;
 } where
@@ -70,14 +57,14 @@ standees_stay names m es x noted there has = record {
         let parts = and_parts (x.entry.key == k) (x.entry.version == v) t in
         let key = eqb-true x.entry.key k parts.0 in
         let version = eqb-true x.entry.version v parts.1 in
-        some_stays (named_in k v es) (Some x) (sym (noted k v) ∙ sym (λ i. contains name_cmp names (key i, version i)) ∙ there)
+        some_stays (named_in k v es) (Some x) (sym (λ i. is_some (named_in (key i) (version i) es)) ∙ there)
     | false ↦ λ t. or_none (named_in k v es)
   ] refl
 
 -- a new one stands from now on
-pub standees_more : (names : BTreeSet (ℕ × ℕ)) (m new : BTreeMap ℕ (Vec Standee Global)) (es : List PlacedEntry) (x : PlacedEntry) (s : Standee) → s.version ≡ x.entry.version → s.home ≡ x.core → HasNames names es → contains name_cmp names (x.entry.key, x.entry.version) ≡ false → StandsMore m new x.entry.key s
+pub standees_more : (m new : BTreeMap ℕ (Vec Standee Global)) (es : List PlacedEntry) (x : PlacedEntry) (s : Standee) → s.version ≡ x.entry.version → s.home ≡ x.core → is_some (named_in x.entry.key x.entry.version es) ≡ false → StandsMore m new x.entry.key s
     → HasStandees m es → HasStandees new (es ++ x ∷ [])
-standees_more names m new es x s version home noted new_name more has = record {
+standees_more m new es x s version home new_name more has = record {
   each = λ k v. ap (λ ss. standing_at (map untold ss) v) (more k) ∙ each k v ∙ ap (shown v) (sym (named_push k v es x));
   once = λ k. subst StandOnce (sym (more k)) (once k);
 } where
@@ -86,7 +73,7 @@ standees_more names m new es x s version home noted new_name more has = record {
   none_of (Some y) e = absurd (cc e)
 
   none : named_in x.entry.key x.entry.version es ≡ None
-  none = none_of (named_in x.entry.key x.entry.version es) (sym (noted x.entry.key x.entry.version) ∙ new_name)
+  none = none_of (named_in x.entry.key x.entry.version es) new_name
 
   both : (b : Bool) (v : ℕ) (o : Option PlacedEntry) → (b ≡ true → s.version ≡ v) → or_else (shown v o) (cond b (Some (untold s)) None) ≡ shown v (or_else o (cond b (Some x) None))
   both true v None same = λ i. Some (standing_with (same refl i) (home i) false)
@@ -106,10 +93,15 @@ standees_more names m new es x s version home noted new_name more has = record {
     | false ↦ λ e. has.once k
   ] refl
 
--- nothing stands yet
-pub no_names : (names : BTreeSet (ℕ × ℕ)) → ((k v : ℕ) → contains name_cmp names (k, v) ≡ false) → HasNames names []
-no_names names empty k v = empty k v
+-- of a key that no entry has, nothing stands
+no_standing : (ss : List Standee) → ((v : ℕ) → standing_at (map untold ss) v ≡ None) → ss ≡ []
+no_standing [] none = refl
+no_standing (s ∷ ss) none = absurd (cc (sym (ap (λ b. cond b (Some (untold s)) (standing_at (map untold ss) s.version)) (eq-eqb s.version s.version refl)) ∙ none s.version))
 
+pub none_stands : (m : BTreeMap ℕ (Vec Standee Global)) (es : List PlacedEntry) (k : ℕ) → HasStandees m es → HasNoKey k es → standees_at m k ≡ []
+none_stands m es k has none = no_standing (standees_at m k) (λ v. has.each k v ∙ ap (shown v) (none v))
+
+-- nothing stands yet
 pub no_standees : (m : BTreeMap ℕ (Vec Standee Global)) → ((k : ℕ) → standees_at m k ≡ []) → HasStandees m []
 no_standees m empty = record {
   each = λ k v. ap (λ ss. standing_at (map untold ss) v) (empty k);

@@ -7,6 +7,7 @@ use Rattle.store_image.specs.declared.types.Fault.{Fault}
 use Rattle.store_image.specs.Parts.{part_entries, all_entries}
 use Rattle.store_image.specs.Soundness.{part_fault, chunk_fault, clash_fault, damage}
 use Rattle.recover.specs.Logs.{SpellsLog}
+use Rattle.recover.specs.ByName.{IsByName}
 
 -- a part's first fault; where there is none, its entries are appended
 pub record GathersPart (l : Geometry) (image : ℕ → ℕ) (c : ℕ) (old new : List PlacedEntry) (fault : Option Fault) : Type 0 where
@@ -23,11 +24,11 @@ abbrev pub Gathers : Geometry → (ℕ → ℕ) → Result (Vec PlacedEntry Glob
 Gathers l image (Ok es) = (chunk_fault l image ≡ None) × (es.items ≡ all_entries l image) × AllSpell l image
 Gathers l image (Err fault) = chunk_fault l image ≡ Some fault
 
--- all entries of an image that keeps rules 4 to 8
+-- all entries of an image that keeps rules 4 to 8, by their names
 pub record AreAgreed (l : Geometry) (image : ℕ → ℕ) (es : List PlacedEntry) : Type 0 where
-  pub all : es ≡ all_entries l image
+  pub all : IsByName (all_entries l image) es
   pub chunks : chunk_fault l image ≡ None
-  pub clash : clash_fault es ≡ None
+  pub clash : clash_fault (all_entries l image) ≡ None
 
 -- those, or the first fault of an image that breaks one
 abbrev pub Agrees : Geometry → (ℕ → ℕ) → Result (Vec PlacedEntry Global) Fault → Type 0

@@ -1,6 +1,7 @@
 pub mod Regions
 pub mod Winning
 pub mod Clashes
+pub mod ByName
 pub mod Judging
 pub mod Gathering
 pub mod Starts
@@ -10,6 +11,7 @@ pub mod Logs
 pub mod Heads
 pub mod Listing
 pub mod Recovering
+pub mod Live
 pub use Rattle.chunk_map.specs.Checked
 pub use Rattle.chunk_map.specs.Layouts
 pub use Rattle.core_index.specs.Index

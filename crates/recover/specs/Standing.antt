@@ -1,13 +1,11 @@
 -- Which entries of a list stand, by key and version.
-use Rattle.std.specs.Prelude.{◌≡◌, ℕ, false, List, [], ◌∷◌, ◌++◌, map, Option, Some, None, option_map, is_some, Vec, if◌then◌else◌, ◌==◌}
+use Rattle.std.specs.Prelude.{◌≡◌, ℕ, false, List, [], ◌∷◌, ◌++◌, map, Option, Some, None, option_map, Vec, if◌then◌else◌, ◌==◌}
 use Rattle.std.specs.Global.{Global}
 use Rattle.std.specs.Ordering.{nat_cmp}
 use Rattle.std.specs.BTreeMap.{BTreeMap, get}
-use Rattle.std.specs.BTreeSet.{BTreeSet, contains}
 use Rattle.store_image.specs.declared.types.PlacedEntry.{PlacedEntry}
 use Rattle.core_index.specs.declared.types.Standee.{Standee}
 use Rattle.core_index.specs.Records.{standing_at, standing_with, untold}
-use Rattle.recover.specs.Clashes.{name_cmp}
 use Rattle.recover.specs.Starts.{named_in}
 
 abbrev pub items_in : Option (Vec Standee Global) → List Standee
@@ -27,10 +25,6 @@ StandOnce (s ∷ ss) = (standing_at (map untold ss) s.version ≡ None) × Stand
 pub record HasStandees (m : BTreeMap ℕ (Vec Standee Global)) (es : List PlacedEntry) : Type 0 where
   pub each : (k v : ℕ) → standing_at (map untold (standees_at m k)) v ≡ option_map (λ x. standing_with v x.core false) (named_in k v es)
   pub once : (k : ℕ) → StandOnce (standees_at m k)
-
--- the set has the names of the entries
-abbrev pub HasNames : BTreeSet (ℕ × ℕ) → List PlacedEntry → Type 0
-HasNames names es = (k v : ℕ) → contains name_cmp names (k, v) ≡ is_some (named_in k v es)
 
 -- one more stands of this key
 abbrev pub StandsMore : BTreeMap ℕ (Vec Standee Global) → BTreeMap ℕ (Vec Standee Global) → ℕ → Standee → Type 0

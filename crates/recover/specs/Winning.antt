@@ -1,9 +1,7 @@
 -- The winners of all keys.
-use Rattle.std.specs.Prelude.{◌≡◌, ℕ, ◌==◌, nat_lt, Bool, false, List, find, Option}
-use Rattle.std.specs.Option.{option_to_list, option_map_or}
+use Rattle.std.specs.Prelude.{ℕ, ◌==◌, ◌&&◌, nat_lt, Bool, false, List, [], ◌∷◌, find, Option, Some, None, if◌then◌else◌}
+use Rattle.std.specs.Option.{option_to_list}
 use Rattle.std.specs.List.{flat_map, AllByRecursion}
-use Rattle.std.specs.Ordering.{nat_cmp}
-use Rattle.std.specs.BTreeMap.{BTreeMap, get, keys}
 use Rattle.log_entry.specs.Spelling.{HasSpelling}
 use Rattle.store_image.specs.declared.types.PlacedEntry.{PlacedEntry}
 use Rattle.store_image.specs.Winners.{winner_in, keys_of}
@@ -20,11 +18,21 @@ won_in k ws = find (λ x. x.entry.key == k) ws
 abbrev pub AreSpelled : List PlacedEntry → Type 0
 AreSpelled es = AllByRecursion (λ x. HasSpelling x.entry) es
 
--- the map has an entry of the same key that is of greater version
-abbrev pub is_older : BTreeMap ℕ PlacedEntry → PlacedEntry → Bool
-is_older best x = option_map_or (λ y. nat_lt x.entry.version y.entry.version) (get nat_cmp best x.entry.key) false
+-- whether the last winner, if any, has the entry's key, and whether it is of greater version
+abbrev pub is_of_key : Option PlacedEntry → PlacedEntry → Bool
+is_of_key None x = false
+is_of_key (Some y) x = y.entry.key == x.entry.key
 
--- the map has the winner of each key
-pub record HasWinners (best : BTreeMap ℕ PlacedEntry) (es : List PlacedEntry) : Type 0 where
-  pub keys_are : keys best ≡ keys_of es
-  pub each : (k : ℕ) → get nat_cmp best k ≡ winner_in k es
+abbrev pub is_older : Option PlacedEntry → PlacedEntry → Bool
+is_older None x = false
+is_older (Some y) x = y.entry.key == x.entry.key && nat_lt x.entry.version y.entry.version
+
+-- winners by rising key, without the first where it has the entry's key
+abbrev pub without : PlacedEntry → List PlacedEntry → List PlacedEntry
+without x [] = []
+without x (y ∷ ws) = if y.entry.key == x.entry.key then ws else y ∷ ws
+
+-- and with the entry in front, unless the first has its key and a greater version
+abbrev pub with_winner : PlacedEntry → List PlacedEntry → List PlacedEntry
+with_winner x [] = x ∷ []
+with_winner x (y ∷ ws) = if is_older (Some y) x then y ∷ ws else x ∷ without x (y ∷ ws)

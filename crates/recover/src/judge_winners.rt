@@ -10,12 +10,13 @@ ghost use Rattle.store_image.specs.Parts.{all_entries, block_class};
 ghost use Rattle.store_image.specs.Soundness.{block_fault};
 ghost use Rattle.recover.specs.Regions.{Covers};
 ghost use Rattle.recover.specs.Winning.{winners_of, AreSpelled};
+ghost use Rattle.recover.specs.ByName.{IsInOrder};
 ghost use Rattle.recover.specs.Gathering.{AreAgreed, Agrees, Judges};
 ghost use Rattle.recover.specs.Judging.{rule_beside, fault_beside, winners_fault, HasPointers};
 
 use crate::clashes::clash_fault;
-use crate::gather_region::gather;
-use crate::region_blocks::block_class;
+use crate::gathering::gather;
+use crate::sorting::{agree, by_name};
 use crate::winning::winners;
 use chunk_map::Layout;
 use fs_errors::Memory;
@@ -102,14 +103,15 @@ fn block_fault<R: Region>(
     Ok(None)
 }
 
-/// All entries of a region by part, chunk and place, or the first broken one of rules 4 to 8.
-pub fn agreed_entries<R: Region>(
+/// The same, where some entries contradict others: they are read again, and compared in the order of their places.
+fn compared_entries<R: Region>(
     alloc: Global,
     region: &R,
     layout: &Layout,
 ) -> Result<Result<Vec<PlacedEntry>, Fault>, Memory>
     requires covers { Covers (R.state region.now).frame layout.now }
     ensures told { IfOk result (λ r. IsTelling (R.state region.now) → Agrees layout.now (lasts (R.state region.now)) r) }
+    ensures order { IfOk result (λ r. IfOk r (λ entries. IsInOrder entries.items)) }
     ensures spelled { IfOk result (λ r. IfOk r (λ entries. AreSpelled entries.items)) }
 {
     let entries = match gather(alloc, region, layout)? {
@@ -118,8 +120,33 @@ pub fn agreed_entries<R: Region>(
     };
     match clash_fault(alloc, &entries)? {
         Some(fault) => Ok(Err(fault)),
-        None => Ok(Ok(entries)),
+        None => {
+            let sorted = by_name(entries)?;
+            Ok(Ok(sorted))
+        }
     }
+}
+
+/// All entries of a region in the order of their names, or the first broken one of rules 4 to 8.
+pub fn agreed_entries<R: Region>(
+    alloc: Global,
+    region: &R,
+    layout: &Layout,
+) -> Result<Result<Vec<PlacedEntry>, Fault>, Memory>
+    requires covers { Covers (R.state region.now).frame layout.now }
+    ensures told { IfOk result (λ r. IsTelling (R.state region.now) → Agrees layout.now (lasts (R.state region.now)) r) }
+    ensures order { IfOk result (λ r. IfOk r (λ entries. IsInOrder entries.items)) }
+    ensures spelled { IfOk result (λ r. IfOk r (λ entries. AreSpelled entries.items)) }
+{
+    let entries = match gather(alloc, region, layout)? {
+        Ok(entries) => entries,
+        Err(fault) => return Ok(Err(fault)),
+    };
+    let sorted = by_name(entries)?;
+    if agree(&sorted) {
+        return Ok(Ok(sorted));
+    }
+    compared_entries(alloc, region, layout)
 }
 
 /// The winners of entries that break none of rules 4 to 8, by rising key, or the first broken one of rules 9
@@ -131,6 +158,7 @@ pub fn judge<R: Region>(
     entries: Vec<PlacedEntry>,
 ) -> Result<Result<Vec<PlacedEntry>, Fault>, Memory>
     requires covers { Covers (R.state region.now).frame layout.now }
+    requires order { IsInOrder entries.items }
     ensures told { IfOk result (λ r. IsTelling (R.state region.now) → AreAgreed layout.now (lasts (R.state region.now)) entries.items → Judges layout.now (lasts (R.state region.now)) r) }
     ensures winners { IfOk result (λ r. IfOk r (λ winners. winners.items ≡ winners_of entries.items)) }
 {

@@ -4,27 +4,30 @@
 //!
 //! The plain and slow program of `store_image` says the same of a list of words; its definitions are the
 //! yardstick here. This one reads the region word by word, chunk by chunk, in time linear in the words up to
-//! the logs' tails, and by ordered maps in the entries. The heads of the chunks, two words each, are read a
+//! the logs' tails, and sorts the entries once by their names. The heads of the chunks, two words each, are read a
 //! second time for the logs and the allocators, and the logs for the names that stand in them.
 #![tactic(auto)]
 
 mod clashes;
-mod gather_region;
-mod judge_winners;
-mod key_standees;
-mod live_pairs;
+mod gathering;
+mod judging;
+mod listing;
+mod live;
 mod logs;
 mod own_deaths;
 mod recover_region;
 mod region_blocks;
 mod shares;
+mod sorting;
+mod standing;
 mod starts;
 #[cfg(test)]
 mod tests;
 mod types;
 mod winning;
 
-pub use live_pairs::pairs;
-pub use recover_region::{first_fault, recover};
+pub use listing::pairs;
+pub use live::live_pairs;
+pub use recovery::{first_fault, recover};
 pub use store_image::Fault;
 pub use types::{CoreStart, RecoverError, Recovered};

@@ -3,7 +3,7 @@ ghost use Rattle.std.specs.Prelude.{◌≡◌, ℕ, ◌<◌, length, slice_index
 ghost use Rattle.chunk_map.specs.Layouts.{IsLayout};
 ghost use Rattle.recover.specs.declared.types.CoreStart.{CoreStart};
 
-use crate::{Fault, RecoverError, Recovered, first_fault, pairs, recover};
+use crate::{Fault, RecoverError, Recovered, first_fault, live_pairs, pairs, recover};
 use core_index::Look;
 use core_log::LogChunk;
 use fs_errors::Memory;
@@ -222,6 +222,22 @@ fn pairs_of_two_cores(rt: HostRuntime) -> Result<(), Fail> {
     assert_eq!(rt; region.words(), 4608);
     let recovered = recover(alloc, &region, 36864)?;
     let pairs = pairs(alloc, &region, &recovered)?;
+    assert_eq!(rt; pairs.len(), 2);
+    assert_eq!(rt; pairs[0].key, 2);
+    assert_eq!(rt; pairs[0].value.bytes().len(), 256);
+    assert!(rt; pairs[0].value.bytes().starts_with(&[7, 0]));
+    assert_eq!(rt; pairs[1].key, 5);
+    assert_eq!(rt; pairs[1].value.bytes(), b"abc".as_slice());
+    Ok(())
+}
+
+#[test]
+fn live_pairs_of_two_cores(rt: HostRuntime) -> Result<(), Fail> {
+    let alloc = rt.alloc();
+    let region = region(alloc, 4608, &TWO_CORES)?;
+    assert_eq!(rt; region.first(), 0);
+    assert_eq!(rt; region.words(), 4608);
+    let pairs = live_pairs(alloc, &region, 36864)?;
     assert_eq!(rt; pairs.len(), 2);
     assert_eq!(rt; pairs[0].key, 2);
     assert_eq!(rt; pairs[0].value.bytes().len(), 256);

@@ -1,24 +1,12 @@
-use Rattle.std.proofs.Common.{◌≡◌, true, false, refl, sym, ◌∙◌}
+use Rattle.std.proofs.Common.{refl, sym, ◌∙◌}
 use Rattle.std.proofs.lemmas.Bool.{not-true, not-false}
-use Rattle.std.specs.BTreeSet.{contains}
-use Rattle.recover.specs.Clashes.{name_cmp}
-use Rattle.recover.proofs.StandingLaws.{names_more, standees_more, standees_stay}
-use Rattle.recover.proofs.key_standees.note.Goals as goal
+use Rattle.recover.proofs.StandingLaws.{none_stands, standees_more, standees_stay}
+use Rattle.recover.proofs.standing.note.Goals as goal
 
-pub returns-in_ok-push_standee-clause-names : goal.returns-in_ok-push_standee-clause-names
-returns-in_ok-push_standee-clause-names c = λ es has. names_more c.args.names.now c.insert.new.self es c.args.x.now c.in_ok-insert.ensures.updates has
-
-pub returns-in_ok-push_standee-clause-standees : goal.returns-in_ok-push_standee-clause-standees
-returns-in_ok-push_standee-clause-standees c = λ es names has.
+pub returns-in_ok-enter : goal.returns-in_ok-enter
+returns-in_ok-enter c = λ es first new has.
     let x = c.args.x.now in
-    let new : contains name_cmp c.args.names.now (x.entry.key, x.entry.version) ≡ false = not-true _ (sym c.in_ok-insert.ensures.added ∙ c.if-branch.true) in
-    standees_more c.args.names.now c.args.standing.now c.push_standee.new.standing es x (record { version = x.entry.version; home = x.core }) refl refl names new c.in_ok-push_standee.ensures has
+    standees_more c.args.standing.now c.enter.new.standing es x (record { version = x.entry.version; home = x.core }) refl refl (not-true _ (sym first ∙ c.if-first.true)) (c.in_ok-enter.ensures (λ e. none_stands c.args.standing.now es x.entry.key has (new e))) has
 
-pub returns-else-branch-clause-names : goal.returns-else-branch-clause-names
-returns-else-branch-clause-names c = λ es has. names_more c.args.names.now c.insert.new.self es c.args.x.now c.in_ok-insert.ensures.updates has
-
-pub returns-else-branch-clause-standees : goal.returns-else-branch-clause-standees
-returns-else-branch-clause-standees c = λ es names has.
-    let x = c.args.x.now in
-    let old : contains name_cmp c.args.names.now (x.entry.key, x.entry.version) ≡ true = not-false _ (sym c.in_ok-insert.ensures.added ∙ c.if-branch.false) in
-    standees_stay c.args.names.now c.args.standing.now es x names old has
+pub returns-else-first : goal.returns-else-first
+returns-else-first c = λ es first new has. standees_stay c.args.standing.now es c.args.x.now (not-false _ (sym first ∙ c.if-first.false)) has

@@ -1,10 +1,7 @@
 use Rattle.std.proofs.Common.{take}
-use Rattle.recover.specs.Standing.{HasNames, HasStandees}
-use Rattle.recover.proofs.key_standees.standees.Given as goal
+use Rattle.recover.specs.Standing.{HasStandees}
+use Rattle.recover.proofs.standing.standees.Given as goal
 
 -- the entries so far are noted
-abbrev pub invariant-loop-x : goal.invariant-loop-x
-invariant-loop-x l = record {
-  names : HasNames l.names (take l.x-index l.entries);
-  standees : HasStandees l.standing (take l.x-index l.entries);
-}
+abbrev pub invariant-loop-at : goal.invariant-loop-at
+invariant-loop-at l = HasStandees l.standing (take l.at l.sorted)

@@ -1,11 +1,16 @@
-use Rattle.std.proofs.Common.{sym, ◌∙◌, ap}
-use Rattle.std.specs.Map.{keys_of}
-use Rattle.recover.proofs.WinningLaws.{put, stays}
+use Rattle.std.proofs.Common.{◌-◌, length, sym, ◌∙◌}
+use Rattle.std.specs.Prelude.{slice_get}
+use Rattle.recover.specs.Winning.{is_older}
+use Rattle.recover.proofs.TakenLaws.{older_stays, newer_wins}
 use Rattle.recover.proofs.winning.take.Goals as goal
 
-pub returns-in_ok-insert : goal.returns-in_ok-insert
-returns-in_ok-insert c = λ es has.
-    put c.args.best.now c.args.x es has c.insert.new.self (ap keys_of c.in_ok-insert.ensures.entries) c.in_ok-insert.ensures.updates (sym c.is_older.ensures ∙ c.if-not-is_older.true)
+pub returns-then-is_older : goal.returns-then-is_older
+returns-then-is_older c = λ ws is.
+    older_stays c.args.winners.now.items c.args.x ws is
+    (sym (λ i. is_older (slice_get (c.deref.ensures.value i) (length (c.deref.ensures.value i) - 1)) c.args.x) ∙ sym c.is_older.ensures ∙ c.if-is_older.true)
 
-pub returns-else-not-is_older : goal.returns-else-not-is_older
-returns-else-not-is_older c = λ es has. stays c.args.best.now c.args.x es has (sym c.is_older.ensures ∙ c.if-not-is_older.false)
+pub returns : goal.returns
+returns c = λ ws is.
+    newer_wins c.args.winners.now.items c.make_way.new.winners.items c.push.new.self.items c.args.x ws is
+    (sym (λ i. is_older (slice_get (c.deref.ensures.value i) (length (c.deref.ensures.value i) - 1)) c.args.x) ∙ sym c.is_older.ensures ∙ c.if-is_older.false)
+    (c.make_way.ensures ws is) c.in_ok-push.ensures.items

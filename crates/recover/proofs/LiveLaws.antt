@@ -1,0 +1,57 @@
+-- The pairs of winners are the live pairs.
+use Rattle.std.proofs.Common.{◌≡◌, ℕ, List, [], ◌∷◌, ◌++◌, refl, sym, ◌∙◌, ap, subst, append_assoc, Option, Some, None}
+use Rattle.std.specs.Prelude.{Result, Ok, Err, Vec}
+use Rattle.std.specs.Global.{Global}
+use Rattle.std.specs.Option.{option_to_list, option_and_then}
+use Rattle.std.specs.List.{flat_map}
+use Rattle.fs_model.specs.declared.model.Pair.{Pair}
+use Rattle.chunk_map.specs.declared.layouts.Geometry.{Geometry}
+use Rattle.chunk_map.specs.Layouts.{owner}
+use Rattle.store_image.specs.declared.types.PlacedEntry.{PlacedEntry}
+use Rattle.store_image.specs.declared.types.Fault.{Fault}
+use Rattle.store_image.specs.Parts.{all_entries, held}
+use Rattle.store_image.specs.Soundness.{damage}
+use Rattle.store_image.specs.Winners.{winner_in, keys_of, cell_by, recovered}
+use Rattle.store_image.specs.Listing.{ListsCells, with_pair}
+use Rattle.store_image.proofs.SoundFacts.{winner_is}
+use Rattle.store_image.proofs.Listings.{pairs_of, lists_pairs}
+use Rattle.recover.specs.Winning.{winners_of}
+use Rattle.recover.specs.Live.{pairs_by, Lists}
+
+module _ (l : Geometry) (image : ℕ → ℕ) where
+  abbrev es : List PlacedEntry
+  es = all_entries l image
+
+  left_at : (ks : List ℕ) → pairs_by l image (flat_map (λ k. option_to_list (winner_in k es)) ks) ≡ pairs_of (recovered l image) ks
+  left_at [] = refl
+  left_at (k ∷ ks) = by_winner (left_at ks) (winner_in k es) refl where
+    by_winner : pairs_by l image (flat_map (λ k. option_to_list (winner_in k es)) ks) ≡ pairs_of (recovered l image) ks → (o : Option PlacedEntry) → winner_in k es ≡ o
+        → pairs_by l image (option_to_list (winner_in k es) ++ flat_map (λ k. option_to_list (winner_in k es)) ks) ≡ with_pair k (option_and_then (λ x. cell_by (held l image (owner l k)) x.entry.body) (winner_in k es)) (pairs_of (recovered l image) ks)
+    by_winner rest None won =
+        ap (λ o. pairs_by l image (option_to_list o ++ flat_map (λ k. option_to_list (winner_in k es)) ks)) won
+        ∙ rest
+        ∙ sym (ap (λ o. with_pair k (option_and_then (λ x. cell_by (held l image (owner l k)) x.entry.body) o) (pairs_of (recovered l image) ks)) won)
+    by_winner rest (Some x) won =
+        let key = (winner_is k es x won).1 in
+        ap (λ o. pairs_by l image (option_to_list o ++ flat_map (λ k. option_to_list (winner_in k es)) ks)) won
+        ∙ (λ i. with_pair (key i) (cell_by (held l image (owner l (key i))) x.entry.body) (rest i))
+        ∙ sym (ap (λ o. with_pair k (option_and_then (λ x. cell_by (held l image (owner l k)) x.entry.body) o) (pairs_of (recovered l image) ks)) won)
+
+  pub winners_list : (ws : List PlacedEntry) (ps : List Pair) → ws ≡ winners_of es → ps ≡ pairs_by l image ws → ListsCells (recovered l image) ps
+  winners_list ws ps won left = subst (ListsCells (recovered l image)) (sym (left ∙ ap (pairs_by l image) won ∙ left_at (keys_of es))) (lists_pairs l image)
+
+  -- one pair more, or none
+  pub left_more : (ps more : List Pair) (x : PlacedEntry) (xs : List PlacedEntry) (v : Option (List ℕ)) → v ≡ cell_by (held l image (owner l x.entry.key)) x.entry.body → more ≡ ps ++ with_pair x.entry.key v []
+      → more ++ pairs_by l image xs ≡ ps ++ pairs_by l image (x ∷ xs)
+  left_more ps more x xs v is push =
+      ap (λ ps. ps ++ pairs_by l image xs) push ∙ append_assoc ps (with_pair x.entry.key v []) (pairs_by l image xs) ∙ ap (λ qs. ps ++ qs) (before v (pairs_by l image xs) ∙ ap (λ o. with_pair x.entry.key o (pairs_by l image xs)) is)
+    where
+      before : (o : Option (List ℕ)) (rest : List Pair) → with_pair x.entry.key o [] ++ rest ≡ with_pair x.entry.key o rest
+      before None rest = refl
+      before (Some v) rest = refl
+
+  pub lists_ok : (r : Result (Vec Pair Global) Fault) (v : Vec Pair Global) → Lists l image r → r ≡ Ok v → (damage l image ≡ None) × ListsCells (recovered l image) v.items
+  lists_ok r v told is = subst (Lists l image) is told
+
+  pub lists_err : (r : Result (Vec Pair Global) Fault) (f : Fault) → Lists l image r → r ≡ Err f → damage l image ≡ Some f
+  lists_err r f told is = subst (Lists l image) is told

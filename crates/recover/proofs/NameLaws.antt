@@ -1,0 +1,406 @@
+-- What a list of entries keeps when it is put in the order of their names.
+use Rattle.std.proofs.Common.{◌≡◌, ◌⊎◌, inl, inr, ℕ, zero, suc, ◌+◌, ◌-◌, ◌<◌, ◌≤◌, List, [], ◌∷◌, length, take, get_or, refl, sym, ◌∙◌, ap, subst, arith, ◌==◌, ◌&&◌, not, Bool, true, false, cond, Option, Some, None, ltb}
+use Rattle.std.specs.Prelude.{find, filter, option_map, is_some, Vec}
+use Rattle.std.specs.Global.{Global}
+use Rattle.std.specs.BTreeMap.{BTreeMap}
+use Rattle.std.specs.Option.{option_to_list}
+use Rattle.std.specs.List.{flat_map, AllByRecursion}
+use Rattle.std.specs.List.Sorted.{IsStableByKey}
+use Rattle.std.specs.Ordering.{nat_cmp, is_lt, ordering_then}
+use Rattle.std.specs.declared.cmp.Ordering.TheVariants.{Less, Equal, Greater}
+use Rattle.std.specs.Cmp.{IsTotalOrder}
+use Rattle.std.proofs.lemmas.Cmp.{nat_cmp_total, on_total, then_total}
+use Rattle.std.proofs.lemmas.List.Sorted.{ranks_by, sorted_far}
+use Rattle.std.proofs.lemmas.Bool.{eqb-true, eqb-false, eq-eqb, ne_eqb, ltb-true, ltb-false, lt-ltb, le-ltb, and_parts, and_from}
+use Rattle.log_entry.specs.declared.entry.Body.TheVariants.{Tombstone}
+use Rattle.log_entry.specs.Spelling.{HasSpelling}
+use Rattle.store_image.specs.declared.types.PlacedEntry.{PlacedEntry}
+use Rattle.store_image.specs.Winners.{better, winner_in, with_key, keys_of}
+use Rattle.store_image.specs.Listing.{IsRising}
+use Rattle.store_image.specs.Soundness.{damaged, contradicts, clash_fault}
+use Rattle.store_image.specs.Facts.{In, Agree}
+use Rattle.store_image.proofs.Copies.{winner_some, winner_max}
+use Rattle.store_image.proofs.SoundLaws.{winner_key}
+use Rattle.store_image.proofs.SoundFacts.{winner_is, no_clash_after}
+use Rattle.store_image.proofs.Listings.{rising_keys}
+use Rattle.recover.specs.Clashes.{name_cmp}
+use Rattle.recover.specs.Starts.{named_in}
+use Rattle.recover.specs.ByName.{name_of, is_named, is_first, HasNoKey, IsInOrder, IsByName}
+use Rattle.recover.specs.Winning.{winners_of, AreSpelled}
+use Rattle.core_index.specs.declared.types.Standee.{Standee}
+use Rattle.core_index.specs.Records.{standing_with}
+use Rattle.recover.specs.Standing.{HasStandees}
+use Rattle.recover.proofs.ListLaws.{found_in}
+use Rattle.recover.proofs.ClashLaws.{agrees}
+use Rattle.std.proofs.lemmas.List.{length-take-le, get_or-take}
+use Rattle.recover.proofs.WinningLaws.{above_in}
+
+pub less_of : (a b : ℕ) → a ≤ b → (a ≡ b → ⊥) → a < b
+less_of a b le ne = elim (ltb a b) as (λ c. ltb a b ≡ c → a < b) [
+  | true ↦ λ e. ltb-true a b e
+  | false ↦ λ e. absurd (ne (let h = ltb-false a b e in omega (arith, le, h)))
+] refl
+
+-- neither number is less
+same_rank : (v u : ℕ) → (not (is_lt (nat_cmp v u)) && not (is_lt (nat_cmp u v))) ≡ (u == v)
+same_rank v u = elim (ltb v u) as (λ b. ltb v u ≡ b → (not (is_lt (cond b Less (cond (v == u) Equal Greater))) && not (is_lt (nat_cmp u v))) ≡ (u == v)) [
+  | true ↦ λ e. sym (ne_eqb u v (λ p. let h = ltb-true v u e in omega (arith, h, p)))
+  | false ↦ λ e. elim (v == u) as (λ b. (v == u) ≡ b → (not (is_lt (cond b Equal Greater)) && not (is_lt (nat_cmp u v))) ≡ (u == v)) [
+    | true ↦ λ s. (let p = eqb-true v u s in rw (le-ltb u v (omega (arith, p)), eq-eqb u v (sym p)) refl)
+    | false ↦ λ s. (let h = ltb-false v u e in
+        let less = less_of u v h (λ p. eqb-false v u s (sym p)) in
+        rw (lt-ltb u v less, ne_eqb u v (λ p. omega (arith, less, p))) refl)
+  ] refl
+] refl
+
+-- and neither name
+same_name_rank : (k v j u : ℕ) → (not (is_lt (name_cmp (k, v) (j, u))) && not (is_lt (name_cmp (j, u) (k, v)))) ≡ (j == k && u == v)
+same_name_rank k v j u = elim (ltb k j) as (λ b. ltb k j ≡ b → (not (is_lt (ordering_then (cond b Less (cond (k == j) Equal Greater)) (nat_cmp v u))) && not (is_lt (name_cmp (j, u) (k, v)))) ≡ (j == k && u == v)) [
+  | true ↦ λ e. (let h = ltb-true k j e in rw (ne_eqb j k (λ p. omega (arith, h, p))) refl)
+  | false ↦ λ e. elim (k == j) as (λ b. (k == j) ≡ b → (not (is_lt (ordering_then (cond b Equal Greater) (nat_cmp v u))) && not (is_lt (name_cmp (j, u) (k, v)))) ≡ (j == k && u == v)) [
+    | true ↦ λ s. (let p = eqb-true k j s in rw (le-ltb j k (omega (arith, p)), eq-eqb j k (sym p)) (same_rank v u))
+    | false ↦ λ s. (let h = ltb-false k j e in
+        let less = less_of j k h (λ p. eqb-false k j s (sym p)) in
+        rw (lt-ltb j k less, ne_eqb j k (λ p. omega (arith, less, p))) refl)
+  ] refl
+] refl
+
+-- an entry of a name
+abbrev entry_named : ℕ → ℕ → PlacedEntry
+entry_named k v = record { core = 0; chunk = 0; place = 0; entry = record { key = k; version = v; body = Tombstone } }
+
+-- what a stable sort by names gives
+pub sorted_by_name : (es xs : List PlacedEntry) → IsStableByKey name_of name_cmp es xs → IsInOrder xs → IsByName es xs
+sorted_by_name es xs stable rising = record {
+  same = λ k v.
+      (λ i. filter (λ y. sym (same_name_rank k v y.entry.key y.entry.version) i) xs)
+      ∙ stable (entry_named k v)
+      ∙ (λ i. filter (λ y. same_name_rank k v y.entry.key y.entry.version i) es);
+  rising = rising;
+}
+
+-- what passes a test is what the filter keeps
+abbrev front : {X : Type 0} → List X → Option X
+front [] = None
+front (x ∷ xs) = Some x
+
+find_front : {X : Type 0} (p : X → Bool) (xs : List X) → find p xs ≡ front (filter p xs)
+find_front p [] = refl
+find_front p (x ∷ xs) = elim (p x) as (λ b. cond b (Some x) (find p xs) ≡ front (cond b (x ∷ filter p xs) (filter p xs))) [
+  | true ↦ refl
+  | false ↦ find_front p xs
+]
+
+in_filter : {X : Type 0} (p : X → Bool) (xs : List X) (x : X) → In x xs → p x ≡ true → In x (filter p xs)
+in_filter p [] x h is = absurd h
+in_filter p (y ∷ ys) x (inl e) is = rw (sym (ap p e) ∙ is) (inl e)
+in_filter p (y ∷ ys) x (inr h) is = elim (p y) as (λ b. In x (cond b (y ∷ filter p ys) (filter p ys))) [
+  | true ↦ inr (in_filter p ys x h is)
+  | false ↦ in_filter p ys x h is
+]
+
+filter_in : {X : Type 0} (p : X → Bool) (xs : List X) (x : X) → In x (filter p xs) → In x xs
+filter_in p [] x h = h
+filter_in p (y ∷ ys) x h = elim (p y) as (λ b. In x (cond b (y ∷ filter p ys) (filter p ys)) → In x (y ∷ ys)) [
+  | true ↦ kept (filter_in p ys x)
+  | false ↦ λ h. inr (filter_in p ys x h)
+] h where
+  kept : (In x (filter p ys) → In x ys) → In x (y ∷ filter p ys) → In x (y ∷ ys)
+  kept more (inl e) = inl e
+  kept more (inr h) = inr (more h)
+
+-- a key's winner is the first entry of its name
+winner_named : (k : ℕ) (es : List PlacedEntry) (x : PlacedEntry) → winner_in k es ≡ Some x → named_in k x.entry.version es ≡ Some x
+winner_named k [] x won = absurd (cc won)
+winner_named k (y ∷ ys) x won = elim (y.entry.key == k) as (λ b. (y.entry.key == k) ≡ b → cond b (Some (better y (winner_in k ys))) (winner_in k ys) ≡ Some x → named_in k x.entry.version (y ∷ ys) ≡ Some x) [
+  | true ↦ λ e q. by_best e (winner_named k ys) (winner_in k ys) refl q
+  | false ↦ λ e q. (λ i. cond (e i && y.entry.version == x.entry.version) (Some y) (named_in k x.entry.version ys)) ∙ winner_named k ys x q
+] refl won where
+  first : (y.entry.key == k) ≡ true → y ≡ x → named_in k x.entry.version (y ∷ ys) ≡ Some x
+  first e same = rw (e, eq-eqb y.entry.version x.entry.version (ap (λ (z : PlacedEntry). z.entry.version) same)) (ap Some same)
+
+  by_best : (y.entry.key == k) ≡ true → ((z : PlacedEntry) → winner_in k ys ≡ Some z → named_in k z.entry.version ys ≡ Some z) → (o : Option PlacedEntry) → winner_in k ys ≡ o → Some (better y o) ≡ Some x → named_in k x.entry.version (y ∷ ys) ≡ Some x
+  by_best e again None is q = first e (cc q)
+  by_best e again (Some z) is q = elim (ltb y.entry.version z.entry.version) as (λ b. ltb y.entry.version z.entry.version ≡ b → Some (cond b z y) ≡ Some x → named_in k x.entry.version (y ∷ ys) ≡ Some x) [
+    | true ↦ λ less r.
+        let same : z ≡ x = cc r in
+        let lt = ltb-true y.entry.version z.entry.version less in
+        let version = ap (λ (w : PlacedEntry). w.entry.version) same in
+        let other : (y.entry.version == x.entry.version) ≡ false = ne_eqb y.entry.version x.entry.version (λ p. omega (arith, lt, version, p)) in
+        rw (e, other) (again x (is ∙ ap Some same))
+    | false ↦ λ less r. first e (cc r)
+  ] refl q
+
+-- rising lists of the same numbers are the same
+first_same : (x y : ℕ) (xs ys : List ℕ) → IsRising (x ∷ xs) → IsRising (y ∷ ys) → In x (y ∷ ys) → In y (x ∷ xs) → x ≡ y
+first_same x y xs ys a b (inl e) q = e
+first_same x y xs ys a b (inr h) (inl e) = sym e
+first_same x y xs ys a b (inr h) (inr g) = absurd (let l = above_in y x ys b.0 h in let m = above_in x y xs a.0 g in omega (arith, l, m))
+
+rest_in : (j x y : ℕ) (xs ys : List ℕ) → x ≡ y → AllByRecursion (λ z. x < z) xs → ((k : ℕ) → In k (x ∷ xs) → In k (y ∷ ys)) → In j xs → In j ys
+rest_in j x y xs ys same all there h = pick (there j (inr h)) where
+  pick : In j (y ∷ ys) → In j ys
+  pick (inl e) = absurd (let l = above_in x j xs all h in omega (arith, l, same, e))
+  pick (inr g) = g
+
+rising_same : (xs ys : List ℕ) → IsRising xs → IsRising ys → ((k : ℕ) → In k xs → In k ys) → ((k : ℕ) → In k ys → In k xs) → xs ≡ ys
+rising_same [] [] a b there back = refl
+rising_same [] (y ∷ ys) a b there back = absurd (back y (inl refl))
+rising_same (x ∷ xs) [] a b there back = absurd (there x (inl refl))
+rising_same (x ∷ xs) (y ∷ ys) a b there back =
+    let same = first_same x y xs ys a b (there x (inl refl)) (back y (inl refl)) in
+    let rest = rising_same xs ys a.1 b.1 (λ k h. rest_in k x y xs ys same a.0 there h) (λ k h. rest_in k y x ys xs (sym same) b.0 back h) in
+    (λ i. same i ∷ rest i)
+
+-- each key is that of an entry
+with_in : (j k : ℕ) (ks : List ℕ) → In j (with_key k ks) → (j ≡ k) ⊎ In j ks
+with_in j k [] (inl e) = inl e
+with_in j k [] (inr h) = absurd h
+with_in j k (x ∷ xs) h = elim (ltb k x) as (λ b. In j (cond b (k ∷ x ∷ xs) (cond (k == x) (x ∷ xs) (x ∷ with_key k xs))) → (j ≡ k) ⊎ In j (x ∷ xs)) [
+  | true ↦ λ h. h
+  | false ↦ elim (k == x) as (λ b. In j (cond b (x ∷ xs) (x ∷ with_key k xs)) → (j ≡ k) ⊎ In j (x ∷ xs)) [
+    | true ↦ λ h. inr h
+    | false ↦ deeper (with_in j k xs)
+  ]
+] h where
+  place : (j ≡ k) ⊎ In j xs → (j ≡ k) ⊎ In j (x ∷ xs)
+  place (inl e) = inl e
+  place (inr h) = inr (inr h)
+
+  deeper : (In j (with_key k xs) → (j ≡ k) ⊎ In j xs) → In j (x ∷ with_key k xs) → (j ≡ k) ⊎ In j (x ∷ xs)
+  deeper more (inl e) = inr (inl e)
+  deeper more (inr g) = place (more g)
+
+pub key_won : (k : ℕ) (es : List PlacedEntry) → In k (keys_of es) → (x : PlacedEntry) × In x es × (x.entry.key ≡ k)
+key_won k [] h = absurd h
+key_won k (y ∷ ys) h = place (key_won k ys) (with_in k y.entry.key (keys_of ys) h) where
+  place : (In k (keys_of ys) → (x : PlacedEntry) × In x ys × (x.entry.key ≡ k)) → (k ≡ y.entry.key) ⊎ In k (keys_of ys) → (x : PlacedEntry) × In x (y ∷ ys) × (x.entry.key ≡ k)
+  place more (inl e) = (y, inl refl, sym e)
+  place more (inr g) = let r = more g in (r.0, inr r.1, r.2)
+
+key_in : (k : ℕ) (es : List PlacedEntry) (x : PlacedEntry) → In x es → x.entry.key ≡ k → In k (keys_of es)
+key_in k es x h key = by_winner (winner_in k es) refl where
+  by_winner : (o : Option PlacedEntry) → winner_in k es ≡ o → In k (keys_of es)
+  by_winner None none = absurd (winner_some k es x h key none)
+  by_winner (Some y) won = winner_key k es y won
+
+all_of : {X : Type 0} (P : X → Type 0) (xs : List X) → ((x : X) → In x xs → P x) → AllByRecursion P xs
+all_of P [] each = tt
+all_of P (x ∷ xs) each = (each x (inl refl), all_of P xs (λ y h. each y (inr h)))
+
+one_of : {X : Type 0} (P : X → Type 0) (xs : List X) (x : X) → AllByRecursion P xs → In x xs → P x
+one_of P [] x all h = absurd h
+one_of P (y ∷ ys) x all (inl e) = subst P (sym e) all.0
+one_of P (y ∷ ys) x all (inr h) = one_of P ys x all.1 h
+
+module _ (es xs : List PlacedEntry) (is : IsByName es xs) where
+  pub named_same : (k v : ℕ) → named_in k v xs ≡ named_in k v es
+  named_same k v = find_front (is_named k v) xs ∙ ap front (is.same k v) ∙ sym (find_front (is_named k v) es)
+
+  own_name : (x : PlacedEntry) → is_named x.entry.key x.entry.version x ≡ true
+  own_name x = rw (eq-eqb x.entry.key x.entry.key refl, eq-eqb x.entry.version x.entry.version refl) refl
+
+  pub in_sorted : (x : PlacedEntry) → In x es → In x xs
+  in_sorted x h = filter_in (is_named x.entry.key x.entry.version) xs x (subst (In x) (sym (is.same x.entry.key x.entry.version)) (in_filter (is_named x.entry.key x.entry.version) es x h (own_name x)))
+
+  pub in_first : (x : PlacedEntry) → In x xs → In x es
+  in_first x h = filter_in (is_named x.entry.key x.entry.version) es x (subst (In x) (is.same x.entry.key x.entry.version) (in_filter (is_named x.entry.key x.entry.version) xs x h (own_name x)))
+
+  pub winner_same : (k : ℕ) → winner_in k xs ≡ winner_in k es
+  winner_same k = by_both (winner_in k xs) (winner_in k es) refl refl where
+    by_both : (a b : Option PlacedEntry) → winner_in k xs ≡ a → winner_in k es ≡ b → winner_in k xs ≡ winner_in k es
+    by_both None None p q = p ∙ sym q
+    by_both None (Some y) p q = let w = winner_is k es y q in absurd (winner_some k xs y (in_sorted y w.0) w.1 p)
+    by_both (Some x) None p q = let w = winner_is k xs x p in absurd (winner_some k es x (in_first x w.0) w.1 q)
+    by_both (Some x) (Some y) p q =
+        let w = winner_is k xs x p in
+        let z = winner_is k es y q in
+        let low = winner_max k es y x q (in_first x w.0) w.1 in
+        let high = winner_max k xs x y p (in_sorted y z.0) z.1 in
+        let version : x.entry.version ≡ y.entry.version = omega (arith, low, high) in
+        p ∙ sym (winner_named k xs x p) ∙ named_same k x.entry.version ∙ ap (λ v. named_in k v es) version ∙ winner_named k es y q ∙ sym q
+
+  pub keys_same : keys_of xs ≡ keys_of es
+  keys_same = rising_same (keys_of xs) (keys_of es) (rising_keys xs) (rising_keys es)
+      (λ k h. let r = key_won k xs h in key_in k es r.0 (in_first r.0 r.1) r.2)
+      (λ k h. let r = key_won k es h in key_in k xs r.0 (in_sorted r.0 r.1) r.2)
+
+  pub winners_same : winners_of xs ≡ winners_of es
+  winners_same = ap (flat_map (λ k. option_to_list (winner_in k xs))) keys_same ∙ (λ i. flat_map (λ k. option_to_list (winner_same k i)) (keys_of es))
+
+  -- where the sorted entries agree, none contradicts one before it
+  pub no_clash : Agree xs → clash_fault es ≡ None
+  no_clash all = ap (option_map (λ (x : PlacedEntry). damaged x.core x.chunk 8)) (no_clash_after [] es (λ x y h g key version. all x y (in_sorted x h) (in_sorted y g) key version))
+
+  pub spelled_sorted : AreSpelled es → AreSpelled xs
+  spelled_sorted all = all_of (λ (x : PlacedEntry). HasSpelling x.entry) xs (λ x h. one_of (λ (x : PlacedEntry). HasSpelling x.entry) es x all (in_first x h))
+
+  -- what stands of the one list stands of the other
+  pub standees_first : (m : BTreeMap ℕ (Vec Standee Global)) → HasStandees m xs → HasStandees m es
+  standees_first m has = record {
+    each = λ k v. has.each k v ∙ ap (option_map (λ (x : PlacedEntry). standing_with v x.core false)) (named_same k v);
+    once = has.once;
+  }
+
+-- a name that isn't above another
+not_above : (k v j u : ℕ) → is_lt (name_cmp (j, u) (k, v)) ≡ false → (k < j) ⊎ ((k ≡ j) × (v ≤ u))
+not_above k v j u e = elim (ltb j k) as (λ b. ltb j k ≡ b → is_lt (ordering_then (cond b Less (cond (j == k) Equal Greater)) (nat_cmp u v)) ≡ false → (k < j) ⊎ ((k ≡ j) × (v ≤ u))) [
+  | true ↦ λ t q. absurd (cc q)
+  | false ↦ λ t. elim (j == k) as (λ b. (j == k) ≡ b → is_lt (ordering_then (cond b Equal Greater) (nat_cmp u v)) ≡ false → (k < j) ⊎ ((k ≡ j) × (v ≤ u))) [
+    | true ↦ λ s q. inr (sym (eqb-true j k s), version q)
+    | false ↦ λ s q. inl (less_of k j (ltb-false j k t) (λ p. eqb-false j k s (sym p)))
+  ] refl
+] refl e where
+  version : is_lt (nat_cmp u v) ≡ false → v ≤ u
+  version q = elim (ltb u v) as (λ b. ltb u v ≡ b → is_lt (cond b Less (cond (u == v) Equal Greater)) ≡ false → v ≤ u) [
+    | true ↦ λ t q. absurd (cc q)
+    | false ↦ λ t q. ltb-false u v t
+  ] refl q
+
+-- what stands between two equal names
+between : (ak av bk bv ck cv : ℕ) → (ak < bk) ⊎ ((ak ≡ bk) × (av ≤ bv)) → (bk < ck) ⊎ ((bk ≡ ck) × (bv ≤ cv)) → ak ≡ ck → av ≡ cv → (ak ≡ bk) × (av ≡ bv)
+between ak av bk bv ck cv (inl p) (inl q) k v = absurd (omega (arith, p, q, k))
+between ak av bk bv ck cv (inl p) (inr q) k v = let e = q.0 in absurd (omega (arith, p, e, k))
+between ak av bk bv ck cv (inr p) (inl q) k v = let e = p.0 in absurd (omega (arith, e, q, k))
+between ak av bk bv ck cv (inr p) (inr q) k v = let a = p.1 in let b = q.1 in (p.0, omega (arith, a, b, v))
+
+pub in_at : {X : Type 0} (x : X) (xs : List X) → In x xs → (i : ℕ) × (i < length xs) × ((d : X) → get_or xs i d ≡ x)
+in_at x [] h = absurd h
+in_at x (y ∷ ys) (inl e) = (zero, omega arith, λ d. sym e)
+in_at x (y ∷ ys) (inr h) = let r = in_at x ys h in let l = r.1 in (suc r.0, omega (arith, l), r.2)
+
+at_in : {X : Type 0} (xs : List X) (i : ℕ) (d : X) → i < length xs → In (get_or xs i d) xs
+at_in [] i d lt = absurd (omega (arith, lt))
+at_in (x ∷ xs) zero d lt = inl refl
+at_in (x ∷ xs) (suc i) d lt = inr (at_in xs i d (omega (arith, lt)))
+
+pub any_default : {X : Type 0} (xs : List X) (i : ℕ) (d e : X) → i < length xs → get_or xs i d ≡ get_or xs i e
+any_default [] i d e lt = absurd (omega (arith, lt))
+any_default (x ∷ xs) zero d e lt = refl
+any_default (x ∷ xs) (suc i) d e lt = any_default xs i d e (omega (arith, lt))
+
+find_some : {X : Type 0} (p : X → Bool) (xs : List X) (x : X) → In x xs → p x ≡ true → is_some (find p xs) ≡ true
+find_some p [] x h is = absurd h
+find_some p (y ∷ ys) x (inl e) is = rw (sym (ap p e) ∙ is) refl
+find_some p (y ∷ ys) x (inr h) is = elim (p y) as (λ b. is_some (cond b (Some y) (find p ys)) ≡ true) [
+  | true ↦ refl
+  | false ↦ find_some p ys x h is
+]
+
+names_total : IsTotalOrder name_cmp
+names_total = then_total (on_total (λ p. p.0) nat_cmp_total) (on_total (λ p. p.1) nat_cmp_total)
+
+-- each entry from the second on agrees with the one before it
+abbrev pub NeighboursAgree : List PlacedEntry → ℕ → Type 0
+NeighboursAgree xs n = (j : ℕ) (d : PlacedEntry) → j + 1 < n → contradicts (get_or xs (j + 1) d) (get_or xs j d) ≡ false
+
+module _ (xs : List PlacedEntry) (rising : IsInOrder xs) where
+  above : (i j : ℕ) (d : PlacedEntry) → i ≤ j → j < length xs → ((get_or xs i d).entry.key < (get_or xs j d).entry.key) ⊎ (((get_or xs i d).entry.key ≡ (get_or xs j d).entry.key) × ((get_or xs i d).entry.version ≤ (get_or xs j d).entry.version))
+  above i j d le lt =
+      let a = get_or xs i d in
+      let b = get_or xs j d in
+      not_above a.entry.key a.entry.version b.entry.key b.entry.version (sorted_far (λ x y. is_lt (name_cmp (name_of x) (name_of y))) (ranks_by names_total name_of) xs rising i j d le lt)
+
+  pub keys_rise : (i j : ℕ) (d : PlacedEntry) → i ≤ j → j < length xs → (get_or xs i d).entry.key ≤ (get_or xs j d).entry.key
+  keys_rise i j d le lt = at_most (above i j d le lt) where
+    at_most : ((get_or xs i d).entry.key < (get_or xs j d).entry.key) ⊎ (((get_or xs i d).entry.key ≡ (get_or xs j d).entry.key) × ((get_or xs i d).entry.version ≤ (get_or xs j d).entry.version)) → (get_or xs i d).entry.key ≤ (get_or xs j d).entry.key
+    at_most (inl less) = omega (arith, less)
+    at_most (inr same) = let e = same.0 in omega (arith, e)
+
+  -- whether an entry of a name stands in front of one, by the neighbour in front
+  module _ (at : ℕ) (d : PlacedEntry) (some : 0 < at) (lt : at < length xs) where
+    abbrev here : PlacedEntry
+    here = get_or xs at d
+
+    abbrev ahead : PlacedEntry
+    ahead = get_or xs (at - 1) d
+
+    abbrev same : Bool
+    same = ahead.entry.key == here.entry.key && ahead.entry.version == here.entry.version
+
+    long : length (take at xs) ≡ at
+    long = length-take-le at xs (omega (arith, lt))
+
+    squeezed : (z : PlacedEntry) → In z (take at xs) → z.entry.key ≡ here.entry.key → z.entry.version ≡ here.entry.version → same ≡ true
+    squeezed z h key version =
+        let place = in_at z (take at xs) h in
+        let low = place.1 in
+        let n = long in
+        let less : place.0 < at = omega (arith, low, n) in
+        let is : get_or xs place.0 d ≡ z = sym (get_or-take at xs place.0 d less) ∙ place.2 d in
+        let w = get_or xs place.0 d in
+        let k : w.entry.key ≡ here.entry.key = (λ t. (is t).entry.key) ∙ key in
+        let v : w.entry.version ≡ here.entry.version = (λ t. (is t).entry.version) ∙ version in
+        let both = between w.entry.key w.entry.version ahead.entry.key ahead.entry.version here.entry.key here.entry.version (above place.0 (at - 1) d (omega (arith, less)) (omega (arith, lt))) (above (at - 1) at d (omega arith) lt) k v in
+        and_from (ahead.entry.key == here.entry.key) (ahead.entry.version == here.entry.version) (eq-eqb ahead.entry.key here.entry.key (sym both.0 ∙ k)) (eq-eqb ahead.entry.version here.entry.version (sym both.1 ∙ v))
+
+    none_ahead : same ≡ false → (o : Option PlacedEntry) → named_in here.entry.key here.entry.version (take at xs) ≡ o → is_some o ≡ false
+    none_ahead other None e = refl
+    none_ahead other (Some z) e =
+        let r = found_in (is_named here.entry.key here.entry.version) (take at xs) z e in
+        let names = and_parts (z.entry.key == here.entry.key) (z.entry.version == here.entry.version) r.1 in
+        absurd (cc (sym (squeezed z r.0 (eqb-true z.entry.key here.entry.key names.0) (eqb-true z.entry.version here.entry.version names.1)) ∙ other))
+
+    one_ahead : same ≡ true → is_some (named_in here.entry.key here.entry.version (take at xs)) ≡ true
+    one_ahead is =
+        let n = long in
+        let there = at_in (take at xs) (at - 1) d (omega (arith, n, some)) in
+        let e = get_or-take at xs (at - 1) d (omega (arith, some)) in
+        find_some (is_named here.entry.key here.entry.version) (take at xs) ahead (subst (λ z. In z (take at xs)) e there) is
+
+    pub first_told : (b : Bool) → b ≡ same → not b ≡ is_first (take at xs) here
+    first_told true e = ap not (sym (one_ahead (sym e)))
+    first_told false e = ap not (sym (none_ahead (sym e) (named_in here.entry.key here.entry.version (take at xs)) refl))
+
+    no_key : (ahead.entry.key == here.entry.key) ≡ false → (v : ℕ) (o : Option PlacedEntry) → named_in here.entry.key v (take at xs) ≡ o → o ≡ None
+    no_key other v None e = refl
+    no_key other v (Some z) e =
+        let r = found_in (is_named here.entry.key v) (take at xs) z e in
+        let names = and_parts (z.entry.key == here.entry.key) (z.entry.version == v) r.1 in
+        let place = in_at z (take at xs) r.0 in
+        let low = place.1 in
+        let n = long in
+        let less : place.0 < at = omega (arith, low, n) in
+        let is : get_or xs place.0 d ≡ z = sym (get_or-take at xs place.0 d less) ∙ place.2 d in
+        let k : (get_or xs place.0 d).entry.key ≡ here.entry.key = (λ t. (is t).entry.key) ∙ eqb-true z.entry.key here.entry.key names.0 in
+        let below = keys_rise place.0 (at - 1) d (omega (arith, less)) (omega (arith, lt)) in
+        let above = keys_rise (at - 1) at d (omega arith) lt in
+        absurd (cc (sym (eq-eqb ahead.entry.key here.entry.key (omega (arith, below, above, k))) ∙ other))
+
+    pub key_is_new : (ahead.entry.key == here.entry.key) ≡ false → HasNoKey here.entry.key (take at xs)
+    key_is_new other v = no_key other v (named_in here.entry.key v (take at xs)) refl
+
+module _ (xs : List PlacedEntry) (rising : IsInOrder xs) (near : NeighboursAgree xs (length xs)) where
+  run : (j i : ℕ) (d : PlacedEntry) → i ≤ j → j < length xs → (get_or xs i d).entry.key ≡ (get_or xs j d).entry.key → (get_or xs i d).entry.version ≡ (get_or xs j d).entry.version
+      → ((get_or xs i d).entry.body ≡ (get_or xs j d).entry.body) × ((get_or xs i d).core ≡ (get_or xs j d).core)
+  run zero i d le lt k v = let z : i ≡ zero = omega (arith, le) in ((λ t. (get_or xs (z t) d).entry.body), (λ t. (get_or xs (z t) d).core))
+  run (suc j) i d le lt k v = elim (ltb i (suc j)) as (λ b. ltb i (suc j) ≡ b → ((get_or xs i d).entry.body ≡ (get_or xs (suc j) d).entry.body) × ((get_or xs i d).core ≡ (get_or xs (suc j) d).core)) [
+    | true ↦ λ e.
+        let l = ltb-true i (suc j) e in
+        let a = get_or xs i d in
+        let b = get_or xs j d in
+        let c = get_or xs (suc j) d in
+        let same = between a.entry.key a.entry.version b.entry.key b.entry.version c.entry.key c.entry.version (above xs rising i j d (omega (arith, l)) (omega (arith, lt))) (above xs rising j (suc j) d (omega arith) lt) k v in
+        let first = run j i d (omega (arith, l)) (omega (arith, lt)) same.0 same.1 in
+        let p : j + 1 ≡ suc j = omega arith in
+        let no = subst (λ n. contradicts (get_or xs n d) b ≡ false) p (near j d (omega (arith, lt))) in
+        let step = agrees c b no (record { key = sym same.0 ∙ k; version = sym same.1 ∙ v }) in
+        (first.0 ∙ sym step.0, first.1 ∙ sym step.1)
+    | false ↦ λ e.
+        let h = ltb-false i (suc j) e in
+        let z : i ≡ suc j = omega (arith, le, h) in
+        ((λ t. (get_or xs (z t) d).entry.body), (λ t. (get_or xs (z t) d).core))
+  ] refl
+
+  pub all_agree : Agree xs
+  all_agree x y h g key version =
+      let a = in_at x xs h in
+      let b = in_at y xs g in
+      elim (ltb a.0 b.0) as (λ t. ltb a.0 b.0 ≡ t → (x.entry.body ≡ y.entry.body) × (x.core ≡ y.core)) [
+        | true ↦ λ e. (let l = ltb-true a.0 b.0 e in
+            let r = run b.0 a.0 x (omega (arith, l)) b.1 ((λ t. (a.2 x t).entry.key) ∙ key ∙ sym (λ t. (b.2 x t).entry.key)) ((λ t. (a.2 x t).entry.version) ∙ version ∙ sym (λ t. (b.2 x t).entry.version)) in
+            (sym (λ t. (a.2 x t).entry.body) ∙ r.0 ∙ (λ t. (b.2 x t).entry.body), sym (λ t. (a.2 x t).core) ∙ r.1 ∙ (λ t. (b.2 x t).core)))
+        | false ↦ λ e. (let l = ltb-false a.0 b.0 e in
+            let r = run a.0 b.0 x l a.1 ((λ t. (b.2 x t).entry.key) ∙ sym key ∙ sym (λ t. (a.2 x t).entry.key)) ((λ t. (b.2 x t).entry.version) ∙ sym version ∙ sym (λ t. (a.2 x t).entry.version)) in
+            (sym (sym (λ t. (b.2 x t).entry.body) ∙ r.0 ∙ (λ t. (a.2 x t).entry.body)), sym (sym (λ t. (b.2 x t).core) ∙ r.1 ∙ (λ t. (a.2 x t).core))))
+      ] refl

@@ -1,0 +1,108 @@
+// The live pairs of a region, without what its cores begin with.
+ghost use Rattle.std.specs.Prelude.{◌≡◌, ◌/◌, ◌<◌, IfOk};
+ghost use Rattle.pm_region.specs.State.{IsTelling};
+ghost use Rattle.pm_region.specs.Words.{lasts};
+ghost use Rattle.chunk_map.specs.Checked.{IsLength};
+ghost use Rattle.store_image.specs.Parts.{held};
+ghost use Rattle.store_image.specs.Winners.{cell_by};
+ghost use Rattle.recover.specs.Regions.{Covers};
+ghost use Rattle.recover.specs.Live.{pairs_by, Lists, ListsLive};
+
+use crate::blocks::held;
+use crate::judging::{agreed_entries, judge};
+use crate::types::RecoverError;
+use chunk_map::{Layout, read_superblock};
+use fs_errors::Memory;
+use fs_model::{Pair, Value};
+use log_entry::Body;
+use pm_region::Region;
+use std::alloc::Global;
+use store_image::geometry::owner;
+use store_image::recovery::push_pair;
+use store_image::{Fault, PlacedEntry};
+
+/// The value that an entry leaves, where it leaves one. A value in a block of the part is read from the region.
+fn value_left<R: Region>(
+    alloc: Global,
+    region: &R,
+    layout: &Layout,
+    part: u32,
+    body: Body,
+) -> Result<Option<Value>, Memory>
+    requires covers { Covers (R.state region.now).frame layout.now }
+    requires part { part < layout.now.cores }
+    ensures { IfOk result (λ v. IsTelling (R.state region.now) → v ≡ cell_by (held layout.now (lasts (R.state region.now)) part) body) }
+{
+    match body {
+        Body::Pointer(pointer) => {
+            let value = held(alloc, region, layout, part, pointer)?;
+            Ok(value)
+        }
+        Body::Embedded(value) => Ok(Some(value)),
+        Body::Tombstone => Ok(None),
+    }
+}
+
+/// The pairs of the winners that leave a value, in their order.
+fn pairs_left<R: Region>(
+    alloc: Global,
+    region: &R,
+    layout: &Layout,
+    winners: Vec<PlacedEntry>,
+) -> Result<Vec<Pair>, Memory>
+    requires covers { Covers (R.state region.now).frame layout.now }
+    ensures { IfOk result (λ pairs. IsTelling (R.state region.now) → pairs.items ≡ pairs_by layout.now (lasts (R.state region.now)) winners.items) }
+{
+    let mut pairs = Vec::new(alloc);
+    for x in winners {
+        let key = x.entry.key;
+        let part = owner(&layout.geometry(), key);
+        let value = value_left(alloc, region, layout, part, x.entry.body)?;
+        push_pair(&mut pairs, key, value)?;
+    }
+    Ok(pairs)
+}
+
+/// The live pairs of a region of this layout, or the first broken one of rules 4 to 11.
+fn judged_pairs<R: Region>(
+    alloc: Global,
+    region: &R,
+    layout: &Layout,
+) -> Result<Result<Vec<Pair>, Fault>, Memory>
+    requires covers { Covers (R.state region.now).frame layout.now }
+    ensures { IfOk result (λ r. IsTelling (R.state region.now) → Lists layout.now (lasts (R.state region.now)) r) }
+{
+    let entries = match agreed_entries(alloc, region, layout)? {
+        Ok(entries) => entries,
+        Err(fault) => return Ok(Err(fault)),
+    };
+    match judge(alloc, region, layout, entries)? {
+        Ok(winners) => {
+            let pairs = pairs_left(alloc, region, layout, winners)?;
+            Ok(Ok(pairs))
+        }
+        Err(fault) => Ok(Err(fault)),
+    }
+}
+
+/// The live pairs of a region of so many bytes by rising key, or the first broken rule: what `recover` and then
+/// `pairs` give, while neither logs nor allocators nor indexes are made. It writes nothing.
+pub fn live_pairs<R: Region>(
+    alloc: Global,
+    region: &R,
+    bytes: u64,
+) -> Result<Vec<Pair>, RecoverError>
+    requires first { (R.state region.now).frame.first ≡ 0 }
+    requires words { IsLength bytes → (R.state region.now).frame.words ≡ bytes / 8 }
+    ensures { IsTelling (R.state region.now) → ListsLive bytes (lasts (R.state region.now)) result }
+{
+    let layout = match read_superblock(region, bytes) {
+        Ok(layout) => layout,
+        Err(bad) => return Err(RecoverError::Fault(Fault::NotARegion { rule: bad.rule })),
+    };
+    match judged_pairs(alloc, region, &layout) {
+        Ok(Ok(pairs)) => Ok(pairs),
+        Ok(Err(fault)) => Err(RecoverError::Fault(fault)),
+        Err(Memory) => Err(RecoverError::Memory),
+    }
+}
