@@ -15,7 +15,7 @@ ghost use Rattle.recover.specs.Gathering.{AreAgreed, Agrees, Judges};
 ghost use Rattle.recover.specs.Judging.{rule_beside, fault_beside, winners_fault, HasPointers};
 
 use crate::clashes::clash_fault;
-use crate::gathering::gather;
+use crate::gather_region::gather;
 use crate::sorting::{agree, by_name};
 use crate::winning::winners;
 use chunk_map::Layout;

@@ -9,25 +9,25 @@
 #![tactic(auto)]
 
 mod clashes;
-mod gathering;
-mod judging;
-mod listing;
+mod gather_region;
+mod judge_winners;
+mod key_standees;
 mod live;
+mod live_pairs;
 mod logs;
 mod own_deaths;
 mod recover_region;
 mod region_blocks;
 mod shares;
 mod sorting;
-mod standing;
 mod starts;
 #[cfg(test)]
 mod tests;
 mod types;
 mod winning;
 
-pub use listing::pairs;
 pub use live::live_pairs;
-pub use recovery::{first_fault, recover};
+pub use live_pairs::pairs;
+pub use recover_region::{first_fault, recover};
 pub use store_image::Fault;
 pub use types::{CoreStart, RecoverError, Recovered};

@@ -8,8 +8,8 @@ ghost use Rattle.store_image.specs.Winners.{cell_by};
 ghost use Rattle.recover.specs.Regions.{Covers};
 ghost use Rattle.recover.specs.Live.{pairs_by, Lists, ListsLive};
 
-use crate::blocks::held;
-use crate::judging::{agreed_entries, judge};
+use crate::judge_winners::{agreed_entries, judge};
+use crate::region_blocks::held;
 use crate::types::RecoverError;
 use chunk_map::{Layout, read_superblock};
 use fs_errors::Memory;
@@ -18,7 +18,7 @@ use log_entry::Body;
 use pm_region::Region;
 use std::alloc::Global;
 use store_image::geometry::owner;
-use store_image::recovery::push_pair;
+use store_image::image_cells::push_pair;
 use store_image::{Fault, PlacedEntry};
 
 /// The value that an entry leaves, where it leaves one. A value in a block of the part is read from the region.

@@ -3,7 +3,7 @@ use Rattle.pm_region.specs.Words.{lasts}
 use Rattle.store_image.specs.Facts.{Agree}
 use Rattle.recover.proofs.JudgeLaws.{by_chunks, gathered, agreed, spelled_of}
 use Rattle.recover.proofs.NameLaws.{no_clash, spelled_sorted}
-use Rattle.recover.proofs.judging.agreed_entries.Goals as goal
+use Rattle.recover.proofs.judge_winners.agreed_entries.Goals as goal
 
 pub returns-in-Err-clause-told : goal.returns-in-Err-clause-told
 returns-in-Err-clause-told g c = λ telling.

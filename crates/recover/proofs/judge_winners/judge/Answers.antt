@@ -3,7 +3,7 @@ use Rattle.pm_region.specs.Words.{lasts}
 use Rattle.store_image.specs.Parts.{all_entries}
 use Rattle.recover.proofs.JudgeLaws.{by_winners}
 use Rattle.recover.proofs.NameLaws.{winners_same}
-use Rattle.recover.proofs.judging.judge.Goals as goal
+use Rattle.recover.proofs.judge_winners.judge.Goals as goal
 
 pub returns-in-Some-clause-told : goal.returns-in-Some-clause-told
 returns-in-Some-clause-told g c = λ telling agreed.

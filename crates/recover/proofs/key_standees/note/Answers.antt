@@ -1,7 +1,7 @@
 use Rattle.std.proofs.Common.{refl, sym, ◌∙◌}
 use Rattle.std.proofs.lemmas.Bool.{not-true, not-false}
 use Rattle.recover.proofs.StandingLaws.{none_stands, standees_more, standees_stay}
-use Rattle.recover.proofs.standing.note.Goals as goal
+use Rattle.recover.proofs.key_standees.note.Goals as goal
 
 pub returns-in_ok-enter : goal.returns-in_ok-enter
 returns-in_ok-enter c = λ es first new has.

@@ -1,6 +1,6 @@
 use Rattle.std.proofs.Common.{take}
 use Rattle.recover.specs.Standing.{HasStandees}
-use Rattle.recover.proofs.standing.standees.Given as goal
+use Rattle.recover.proofs.key_standees.standees.Given as goal
 
 -- the entries so far are noted
 abbrev pub invariant-loop-at : goal.invariant-loop-at

@@ -5,7 +5,7 @@ use Rattle.recover.specs.Winning.{winners_of}
 use Rattle.recover.specs.Standing.{HasStandees}
 use Rattle.recover.proofs.FoundLaws.{agreed_of, judged_ok, ok_of}
 use Rattle.recover.proofs.NameLaws.{winners_same, standees_first}
-use Rattle.recover.proofs.recovery.judged_shares.Goals as goal
+use Rattle.recover.proofs.recover_region.judged_shares.Goals as goal
 
 pub returns-in_ok-shares-in-Ok-2-clause-told : goal.returns-in_ok-shares-in-Ok-2-clause-told
 returns-in_ok-shares-in-Ok-2-clause-told g c = λ telling.

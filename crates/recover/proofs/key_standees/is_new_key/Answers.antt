@@ -1,7 +1,7 @@
 use Rattle.std.proofs.Common.{◌-◌, ◌==◌, sym, ◌∙◌, arith}
 use Rattle.std.proofs.lemmas.Bool.{not-true}
 use Rattle.recover.proofs.NameLaws.{key_is_new, any_default}
-use Rattle.recover.proofs.standing.is_new_key.Goals as goal
+use Rattle.recover.proofs.key_standees.is_new_key.Goals as goal
 
 pub returns : goal.returns
 returns c = λ d new.

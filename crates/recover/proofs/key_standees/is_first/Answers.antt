@@ -1,6 +1,6 @@
 use Rattle.std.proofs.Common.{◌-◌, ◌==◌, ◌&&◌, ◌∙◌, arith}
 use Rattle.recover.proofs.NameLaws.{first_told, any_default}
-use Rattle.recover.proofs.standing.is_first.Goals as goal
+use Rattle.recover.proofs.key_standees.is_first.Goals as goal
 
 pub returns : goal.returns
 returns c = λ d.
