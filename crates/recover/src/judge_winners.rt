@@ -16,6 +16,7 @@ ghost use Rattle.recover.specs.Judging.{rule_beside, fault_beside, winners_fault
 
 use crate::clashes::clash_fault;
 use crate::gather_region::gather;
+use crate::region_blocks::block_class;
 use crate::sorting::{agree, by_name};
 use crate::winning::winners;
 use chunk_map::Layout;

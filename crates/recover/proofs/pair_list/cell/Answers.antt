@@ -9,7 +9,7 @@ use Rattle.core_index.specs.Index.{known_at}
 use Rattle.recover.specs.declared.types.CoreStart.{CoreStart}
 use Rattle.recover.specs.Listing.{cell_known}
 use Rattle.recover.proofs.PairLaws.{has_start, cell_is}
-use Rattle.recover.proofs.live_pairs.cell.Goals as goal
+use Rattle.recover.proofs.pair_list.cell.Goals as goal
 
 pub returns-in-None : goal.returns-in-None
 returns-in-None g c = λ telling is.

@@ -1,6 +1,6 @@
 use Rattle.std.proofs.Common.{arith}
 use Rattle.recover.proofs.PairLaws.{live_added}
-use Rattle.recover.proofs.live_pairs.live_keys.Goals as goal
+use Rattle.recover.proofs.pair_list.live_keys.Goals as goal
 
 pub loop-start-preserved : goal.loop-start-preserved
 loop-start-preserved c =

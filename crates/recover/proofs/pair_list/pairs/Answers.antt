@@ -12,7 +12,7 @@ use Rattle.core_index.specs.Index.{known_at}
 use Rattle.recover.specs.declared.types.CoreStart.{CoreStart}
 use Rattle.recover.specs.Recovering.{IsOf}
 use Rattle.recover.proofs.PairLaws.{pair_more, no_cell, set_rises, set_has}
-use Rattle.recover.proofs.live_pairs.pairs.Goals as goal
+use Rattle.recover.proofs.pair_list.pairs.Goals as goal
 
 pub loop-key-preserved : goal.loop-key-preserved
 loop-key-preserved g c = λ telling.

@@ -5,7 +5,7 @@ use Rattle.std.specs.BTreeSet.{contains}
 use Rattle.core_index.specs.Records.{live_version}
 use Rattle.core_index.specs.Index.{known_at}
 use Rattle.recover.specs.declared.types.CoreStart.{CoreStart}
-use Rattle.recover.proofs.live_pairs.live_keys.Given as goal
+use Rattle.recover.proofs.pair_list.live_keys.Given as goal
 
 -- the live keys of the cores so far
 abbrev pub invariant-loop-start : goal.invariant-loop-start

@@ -3,7 +3,7 @@ use Rattle.std.specs.Prelude.{slice_index_or}
 use Rattle.std.specs.Ordering.{nat_cmp}
 use Rattle.std.specs.BTreeSet.{contains}
 use Rattle.log_entry.specs.declared.entry.EntryName.{EntryName}
-use Rattle.recover.proofs.live_pairs.add_live.Given as goal
+use Rattle.recover.proofs.pair_list.add_live.Given as goal
 
 -- the keys from before, and those of the names so far
 abbrev pub invariant-loop-name : goal.invariant-loop-name

@@ -5,7 +5,7 @@ use Rattle.std.specs.BTreeSet.{contains}
 use Rattle.log_entry.specs.declared.entry.EntryName.{EntryName}
 use Rattle.core_index.specs.Noted.{name_with}
 use Rattle.recover.proofs.PairLaws.{set_kept, names_added}
-use Rattle.recover.proofs.live_pairs.add_live.Goals as goal
+use Rattle.recover.proofs.pair_list.add_live.Goals as goal
 
 pub loop-name-preserved : goal.loop-name-preserved
 loop-name-preserved c =
