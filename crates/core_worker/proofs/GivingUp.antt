@@ -1,21 +1,17 @@
 -- A change that could not be written is given up: its place is free, it is in doubt, and the core has stopped.
-use Rattle.std.proofs.Common.{◌≡◌, ◌≢◌, ◌⊎◌, inl, inr, ⊎_elim, ℕ, ◌+◌, ◌<◌, ◌≤◌, Bool, true, false, cond, List, [], ◌∷◌, length, Option, Some, None, refl, sym, ◌∙◌, ap, subst, arith}
+use Rattle.std.proofs.Common.{◌≡◌, ◌≢◌, ◌⊎◌, inl, inr, ⊎_elim, ℕ, ◌+◌, ◌<◌, Bool, true, false, cond, Option, Some, None, refl, sym, ◌∙◌, ap, subst, arith}
 use Rattle.std.specs.Prelude.{Vec}
 use Rattle.std.specs.Global.{Global}
 use Rattle.std.specs.declared.collections.VecDeque.{VecDeque}
-use Rattle.std.proofs.lemmas.Bool.{cases_eq, eq-eqb, ne_eqb}
-use Rattle.pm_region.specs.State.{State}
+use Rattle.std.proofs.lemmas.Bool.{eq-eqb, ne_eqb}
 use Rattle.log_entry.specs.declared.entry.Entry.{Entry}
 use Rattle.core_index.specs.Index.{known_at}
-use Rattle.core_index.specs.Records.{Awaits, block_of}
+use Rattle.core_index.specs.Records.{block_of}
 use Rattle.log_entry.specs.Spelling.{HasSpelling}
-use Rattle.log_entry.specs.declared.entry.EntryName.{EntryName}
-use Rattle.group_laws.specs.declared.types.Block.{Block}
 use Rattle.group_laws.specs.declared.types.Pending.{Pending}
 use Rattle.group_laws.specs.Places.{Place, core_of, owner}
-use Rattle.group_laws.specs.Updates.{put}
 use Rattle.group_laws.specs.MemberViews.{View}
-use Rattle.group_board.specs.Views.{after_give_up, IsSpentIn, IsTidyIn, TidiedIn}
+use Rattle.group_board.specs.Views.{after_give_up, IsSpentIn, IsTidyIn}
 use Rattle.batch_leader.specs.declared.buffer.BatchBuffer.{BatchBuffer}
 use Rattle.lazy_alloc.specs.Sets.{Sets, SameChunks}
 use Rattle.core_worker.specs.declared.types.Answer.{Answer}
@@ -24,9 +20,9 @@ use Rattle.core_worker.specs.declared.types.Place as places
 use Rattle.core_worker.specs.declared.types.Place.TheVariants.{Free, Staged, Posted}
 use Rattle.core_worker.specs.declared.worker.Worker.{Worker}
 use Rattle.core_worker.specs.OwnPlaces.{place_at, key_in, is_busy, Replaces}
-use Rattle.core_worker.specs.KeyTies.{KnowsKey, LeftIn, IsStagedBlock}
-use Rattle.core_worker.specs.Ties.{Holds, Stands, LeadsAt, HasSpaceFor, is_lost}
-use Rattle.core_worker.specs.Order.{PointsAt, InOrder, MayLeadStopped, unanswered}
+use Rattle.core_worker.specs.KeyTies.{KnowsKey, IsStagedBlock}
+use Rattle.core_worker.specs.Ties.{LeadsAt}
+use Rattle.core_worker.specs.Order.{PointsAt, InOrder, MayLeadStopped}
 use Rattle.core_worker.specs.Refusals.{HasAnswerRoom}
 use Rattle.core_worker.specs.Beginning.{HoldsAside}
 use Rattle.core_worker.specs.Hearing.{HearsAll}
@@ -141,8 +137,10 @@ module _ (p : Place) (m : ℕ) (v : View) (w : Worker) (H : HoldsAside p m v w) 
           (λ points. inr (subst (λ (o : Option Pending). PointsAt o q) (sym (here key refl)) (subst (λ (o : Option Pending). PointsAt o q) (ap v.pending same ∙ pends) points)))
           (O.single q d has);
       distinct = λ q points is. O.distinct key q (subst (λ (o : Option Pending). PointsAt o q) (sym pends) (subst (λ (o : Option Pending). PointsAt o q) (here key refl) points)) is;
-      next = λ q has. (ap (λ (y : Pending). y.entry.version) (pending_of q has) ∙ O.next key _ pends ∙ ap (λ (n : ℕ). n + 1) (sym (⊎_elim (λ x. absurd (let s = x.0.3 in let both : None ≡ Some doubt = sym s ∙ here key refl in cc both)) (λ same. same) (T.keeps key))),
-        subst (λ (y : Pending). HasSpelling y.entry) (sym (pending_of q has)) (O.spelled key _ pends));
+      next = λ q has. (
+        ap (λ (y : Pending). y.entry.version) (pending_of q has) ∙ O.next key _ pends ∙ ap (λ (n : ℕ). n + 1) (sym (⊎_elim (λ x. absurd (let s = x.0.3 in let both : None ≡ Some doubt = sym s ∙ here key refl in cc both)) (λ same. same) (T.keeps key))),
+        subst (λ (y : Pending). HasSpelling y.entry) (sym (pending_of q has)) (O.spelled key _ pends),
+      );
       answers = room_let_go w given slot key key_was (let eight = H.eight in omega (arith, eight, lt)) R refl refl room O.answers;
       hand = O.hand;
       stops = λ s. subst MayLeadStopped (sym nothing) tt;

@@ -20,6 +20,7 @@ mod QuietItems
 mod PostMoves
 mod SearchLaws
 mod TurnLaws
+mod Resting
 mod RefusalLaws
 mod Gains
 mod Pointers

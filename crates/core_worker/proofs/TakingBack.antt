@@ -1,20 +1,19 @@
 -- A change that its leader gave back is taken out of its place.
-use Rattle.std.proofs.Common.{◌≡◌, ◌≢◌, ◌⊎◌, inl, inr, ⊎_elim, ℕ, zero, suc, ◌+◌, ◌<◌, ◌≤◌, ◌==◌, Bool, true, false, List, [], ◌∷◌, length, Option, Some, None, refl, sym, ◌∙◌, ap, subst, arith}
+use Rattle.std.proofs.Common.{◌≡◌, ◌≢◌, inl, inr, ⊎_elim, ℕ, zero, suc, ◌+◌, ◌<◌, ◌≤◌, ◌==◌, Bool, true, false, List, [], ◌∷◌, length, Option, Some, None, refl, sym, ◌∙◌, ap, subst, arith}
 use Rattle.std.specs.Prelude.{Vec, IfSome, MatchOption}
 use Rattle.std.specs.Global.{Global}
 use Rattle.fs_model.specs.declared.model.Reply.{Reply}
 use Rattle.fs_model.specs.declared.model.Reply.TheVariants as replies
 use Rattle.fs_model.specs.Cells.{key_of}
 use Rattle.log_entry.specs.declared.entry.Entry.{Entry}
-use Rattle.log_entry.specs.declared.entry.Body.{Body}
 use Rattle.conflict_queue.specs.declared.types.Held.{Held}
 use Rattle.conflict_queue.specs.Waiting.{waiting}
-use Rattle.core_log.specs.Log.{LogState, room_of}
+use Rattle.core_log.specs.Log.{room_of}
 use Rattle.core_index.specs.Index.{known_at, room_at}
 use Rattle.core_index.specs.Records.{block_of, last_of}
 use Rattle.core_room.specs.declared.supply.Supply.{Supply}
 use Rattle.core_room.specs.RoomRule.{KeepsRoom}
-use Rattle.lazy_alloc.specs.Sets.{Sets, free_chunk_count, block_is_used}
+use Rattle.lazy_alloc.specs.Sets.{free_chunk_count, block_is_used}
 use Rattle.group_laws.specs.declared.types.Pending.{Pending}
 use Rattle.store_image.specs.Facts.{In}
 use Rattle.group_laws.specs.declared.types.Seen.TheVariants as loads
@@ -27,16 +26,16 @@ use Rattle.core_worker.specs.declared.types.Cleaning.TheVariants.{Nothing, Copyi
 use Rattle.core_worker.specs.declared.types.Place.{Place}
 use Rattle.core_worker.specs.declared.types.Place.TheVariants.{Free, Staged, Posted}
 use Rattle.core_worker.specs.declared.worker.Worker.{Worker}
-use Rattle.core_worker.specs.OwnPlaces.{place_at, key_in, is_free, is_busy, lines_in, own, Replaces}
+use Rattle.core_worker.specs.OwnPlaces.{place_at, key_in, is_free, is_busy, own, Replaces}
 use Rattle.core_worker.specs.KeyTies.{IsPlaced, Offers}
 use Rattle.core_worker.specs.Supplies.{supply_of, rest, KeepsRule, HasKeptRoom}
 use Rattle.core_worker.specs.Ties.{Holds, LeadsNothing}
-use Rattle.core_worker.specs.Order.{InOrder, count_changes, unanswered}
+use Rattle.core_worker.specs.Order.{InOrder, count_changes}
 use Rattle.core_worker.specs.Refusals.{HasAnswerRoom}
 use Rattle.core_worker.specs.Beginning.{HoldsAside}
 use Rattle.core_worker.specs.Hearing.{HearsAll}
-use Rattle.core_worker.specs.Serving.{LeadsNothingYet, OthersWait}
-use Rattle.core_worker.specs.Finishing.{number_in, done_reply, reply_back, PutsBackIf, LetsGo, Settles, TakesBackKey, IsReady, IsFreed}
+use Rattle.core_worker.specs.Serving.{LeadsNothingYet}
+use Rattle.core_worker.specs.Finishing.{done_reply, LetsGo, Settles, TakesBackKey, IsReady, IsFreed}
 use Rattle.core_worker.proofs.Beginnings.{aside_of}
 use Rattle.core_worker.proofs.Posts.{busy_by}
 use Rattle.core_worker.proofs.RoomKept.{own_with}
@@ -67,18 +66,18 @@ pub stood : (p : groups.Place) (m : ℕ) (v : View) (w : Worker) → Holds p m v
 unfolding slot_of entry_of
 stood p m v w H slot e pends = ⊎_elim
     (λ y.
-      let is = subst (IsPlaced p m v y.0) y.4 (H.placed y.0 y.3) in
-      let same : Some (record { entry = e; slot = Some slot }) ≡ Some (record { entry = is.0; slot = Some y.0 }) = sym pends ∙ is.1 in
-      let at : slot ≡ y.0 = (let two : Some slot ≡ Some y.0 = ap slot_of same in cc two) in
-      let entry : e ≡ is.0 = ap (entry_of e) same in
-      record {
-        number = y.1;
-        lines = y.2;
-        within = subst (λ (n : ℕ). n < 8) (sym at) y.3;
-        place = ap (place_at w.places.items) at ∙ y.4;
-        own = is.3;
-        offers = subst (λ (d : Entry). Offers v e.key d.body) (sym entry) is.4;
-      })
+    let is = subst (IsPlaced p m v y.0) y.4 (H.placed y.0 y.3) in
+    let same : Some (record { entry = e; slot = Some slot }) ≡ Some (record { entry = is.0; slot = Some y.0 }) = sym pends ∙ is.1 in
+    let at : slot ≡ y.0 = (let two : Some slot ≡ Some y.0 = ap slot_of same in cc two) in
+    let entry : e ≡ is.0 = ap (entry_of e) same in
+    record {
+      number = y.1;
+      lines = y.2;
+      within = subst (λ (n : ℕ). n < 8) (sym at) y.3;
+      place = ap (place_at w.places.items) at ∙ y.4;
+      own = is.3;
+      offers = subst (λ (d : Entry). Offers v e.key d.body) (sym entry) is.4;
+    })
     (λ y. absurd (let none = y.0 in cc none))
     (H.pending e.key _ pends)
 
@@ -168,7 +167,7 @@ settled_freed p m v u w mid x slot home e r H O N pends T S L =
     let old_places : mid.places ≡ w.places = ap (λ (z : Worker). z.places) S.rest in
     let R : Replaces w.places.items x.places.items slot Free = subst (λ (ps : Vec Place Global). Replaces ps.items x.places.items slot Free) old_places L.places in
     let room : (n : ℕ) → HasAnswerRoom (n + 1) w → HasAnswerRoom n (record w { index = mid.index; allocator = mid.allocator; places = x.places; answers = x.answers }) =
-        subst (λ (z : Worker). (n : ℕ) → HasAnswerRoom (n + 1) w → HasAnswerRoom n z) same (λ n had. L.room n (subst (λ (z : Worker). HasAnswerRoom (n + 1) z) (sym S.rest) had)) in
+    subst (λ (z : Worker). (n : ℕ) → HasAnswerRoom (n + 1) w → HasAnswerRoom n z) same (λ n had. L.room n (subst (λ (z : Worker). HasAnswerRoom (n + 1) z) (sym S.rest) had)) in
     let heard = subst (λ (c : ℕ). HearsAll c S.mid mid.index) H.core S.heard in
     let F = settles p m v w A O slot st.number e.key st.lines st.within st.place e refl st.own pends st.offers home T.0 T.1 T.2 T.3 S.mid mid.index mid.allocator S.settled_now S.used S.others heard S.sets S.block N.0 N.1 x.places x.answers R room in
     let G = settles_order p m v w A O slot st.number e.key st.lines st.within st.place e refl st.own pends st.offers home T.0 T.1 T.2 T.3 S.mid mid.index mid.allocator S.settled_now S.used S.others heard S.sets S.block N.0 N.1 x.places x.answers R room in

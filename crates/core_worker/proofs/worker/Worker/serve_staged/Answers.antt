@@ -1,7 +1,6 @@
 -- The lowest staged change is posted, or answered by a stopped core, or the lock is tried.
-use Rattle.std.proofs.Common.{◌≡◌, true, false, sym, ◌∙◌, refl, subst}
+use Rattle.std.proofs.Common.{refl}
 use Rattle.std.specs.Prelude.{is_ok}
-use Rattle.core_worker.specs.Turning.{at_entry}
 use Rattle.core_worker.specs.Turning.Did.{drops}
 use Rattle.core_worker.proofs.TurnLaws.{posts_did}
 use Rattle.core_worker.proofs.ItemLaws.{keeps_drop}
@@ -70,3 +69,6 @@ returns-in-Err-clause-turned g c before v tells =
       drops = c.drop_staged.ensures.drops;
       view = refl;
     })
+
+pub returns-in-Pass-clause-rests : goal.returns-in-Pass-clause-rests
+returns-in-Pass-clause-rests g c start stands looks = c.serve_lock-turn.ensures.rests start stands looks
