@@ -12,8 +12,10 @@ ghost use Rattle.core_worker.specs.Supplies.{room_for, HasKeptRoom};
 ghost use Rattle.batch_leader.specs.Persisting.{StaysLicensed, WritesPart};
 ghost use Rattle.core_worker.specs.Posting.{PostsOrStops};
 ghost use Rattle.core_worker.specs.Ties.{HoldsAt, StandsAt, LeadsNothing};
-ghost use Rattle.core_worker.specs.Turns.{InOrderAt, PassesPost, PersistsOrLoses};
-ghost use Rattle.core_worker.specs.Turning.{HasBatch, KeepsTurn, TurnMoves, Did, Turned, TurnedTo, Tells, at_entry};
+ghost use Rattle.core_worker.specs.declared.searching.Search.TheVariants as founds;
+ghost use Rattle.core_worker.specs.Searching.{FoundStands};
+ghost use Rattle.core_worker.specs.Turns.{InOrderAt, LooksMade, PassesPost, PersistsOrLoses};
+ghost use Rattle.core_worker.specs.Turning.{HasBatch, KeepsTurn, TurnMoves, Did, Turned, TurnedTo, Tells, RestsIf, RestsTo, at_entry};
 
 use crate::choosing::{Choice, staged_block};
 use crate::gate::Gate;
@@ -103,6 +105,11 @@ impl Worker {
             → Tells posted (B.seat board.old).number self.old v (B.view board.old)
             → Turned result s refused before (B.seat board.old) (at_entry self.old v)
             (at_entry self.new (B.view board.new)) }
+        ensures rests { (start : Option Group) → FoundStands (founds.Out posted) start
+            (B.whole board.old) (B.seat board.old).number self.old.places.items
+            → LooksMade start (B.whole board.old) (B.seat board.old).number (B.view board.old)
+            → RestsIf result start (B.whole board.new) (B.seat board.old).number
+            (B.view board.new) self.old.places.items }
     {
         if !posted {
             return Turn::Idle;
@@ -135,6 +142,11 @@ impl Worker {
             → Tells posted (B.seat board.old).number self.old v (B.view board.old)
             → TurnedTo result (R.state region.old) (G.may_refuse gate.now) before
             (B.seat board.old) (at_entry self.old v) (at_entry self.new (B.view board.new)) }
+        ensures rests { (start : Option Group) → FoundStands (founds.Out posted) start
+            (B.whole board.old) (B.seat board.old).number self.old.places.items
+            → LooksMade start (B.whole board.old) (B.seat board.old).number (B.view board.old)
+            → RestsTo result start (B.whole board.new) (B.seat board.old).number
+            (B.view board.new) self.old.places.items }
         ensures memory { OnErr result (self.new.winds_down ≡ true) }
     {
         match self.choose(gate) {
@@ -177,6 +189,8 @@ impl Worker {
         ensures turned { TurnedTo result (R.state region.old) (G.may_refuse gate.now)
             (B.whole board.old) (B.seat board.old) (at_entry self.old (B.view board.old))
             (at_entry self.new (B.view board.new)) }
+        ensures rests { RestsTo result (B.whole board.old) (B.whole board.new)
+            (B.seat board.old).number (B.view board.new) self.old.places.items }
         ensures memory { OnErr result (self.new.winds_down ≡ true) }
     {
         match self.find_back(board) {
@@ -276,6 +290,8 @@ impl Worker {
         ensures turned { TurnedTo result (R.state region.old) (G.may_refuse gate.now)
             (B.whole board.old) (B.seat board.old) (at_entry self.old (B.view board.old))
             (at_entry self.new (B.view board.new)) }
+        ensures rests { RestsTo result (B.whole board.old) (B.whole board.new)
+            (B.seat board.old).number (B.view board.new) self.old.places.items }
         ensures memory { OnErr result (self.new.winds_down ≡ true) }
     {
         match &self.leading {
@@ -326,6 +342,8 @@ impl Worker {
         ensures turned { TurnedTo result (R.state region.old) (G.may_refuse gate.now)
             (B.whole board.old) (B.seat board.old) (at_entry self.old (B.view board.old))
             (at_entry self.new (B.view board.new)) }
+        ensures rests { RestsTo result (B.whole board.old) (B.whole board.new)
+            (B.seat board.old).number (B.view board.new) self.old.places.items }
         ensures memory { OnErr result (self.new.winds_down ≡ true) }
     {
         self.serve_first(alloc, region, board, gate)

@@ -16,5 +16,6 @@ returns-in_default g c = record {
   seat = c.serve_batch.ensures.seat;
   keeps = c.serve_batch.ensures.keeps;
   turned = c.serve_batch.ensures.did (g.G.Gate.may_refuse c.args.gate.now);
+  rests = tt;
   memory = tt;
 }

@@ -7,7 +7,9 @@ use Rattle.group_board.specs.Seats.{SeatAt}
 use Rattle.core_worker.specs.Ties.{HoldsAt, StandsAt}
 use Rattle.core_worker.specs.Turns.{InOrderAt, LooksMade, PassesItems}
 use Rattle.core_worker.specs.Finishing.{FinishesSlot}
-use Rattle.core_worker.specs.Turning.{KeepsTurn, TurnedTo, Tells, at_entry}
+use Rattle.core_worker.specs.declared.searching.Search.TheVariants.{Out}
+use Rattle.core_worker.specs.Searching.{FoundStands}
+use Rattle.core_worker.specs.Turning.{KeepsTurn, RestsTo, TurnedTo, Tells, at_entry}
 use Rattle.core_worker.specs.Turning.Did.{finishes}
 use Rattle.core_worker.proofs.TurnLaws.{keeps_looked, looked_holds, looked_stands, looked_order}
 use Rattle.core_worker.proofs.ItemLaws.{was_back, keeps_finish}
@@ -129,3 +131,13 @@ returns-in-Out-clause-turned g c =
     let u = g.B.Board.view c.serve_staged.new.board in
     subst (λ (x : SeatAt). TurnedTo c.serve_staged.result (g.R.Region.state c.args.region.now) (g.G.Gate.may_refuse c.args.gate.now) (g.B.Board.whole c.args.board.now) x (at_entry c.args.self.now v) (at_entry c.serve_staged.new.self u)) c.find_back.ensures.seat
     (c.serve_staged.ensures.turned (g.B.Board.whole c.args.board.now) v (subst (λ (x : SeatAt). Tells c.in-Out.posted x.number c.args.self.now v mid) (sym c.find_back.ensures.seat) c.in-Out.ensures.finds))
+
+pub returns-in-Out-clause-rests : goal.returns-in-Out-clause-rests
+returns-in-Out-clause-rests g c =
+    let e = c.find_back.ensures.seat in
+    let before = g.B.Board.whole c.args.board.now in
+    let mid = g.B.Board.whole c.find_back.new.board in
+    let v = g.B.Board.view c.find_back.new.board in
+    let ps = c.args.self.now.places.items in
+    subst (λ (x : SeatAt). RestsTo c.serve_staged.result before (g.B.Board.whole c.serve_staged.new.board) x.number (g.B.Board.view c.serve_staged.new.board) ps) e
+    (c.serve_staged.ensures.rests before (subst (λ (x : SeatAt). FoundStands (Out c.in-Out.posted) before mid x.number ps) (sym e) c.in-Out.ensures.stands) (subst (λ (x : SeatAt). LooksMade before mid x.number v) (sym e) c.find_back.ensures.looks))

@@ -70,3 +70,6 @@ returns-in-Err-clause-turned g c before v tells =
       drops = c.drop_staged.ensures.drops;
       view = refl;
     })
+
+pub returns-in-Pass-clause-rests : goal.returns-in-Pass-clause-rests
+returns-in-Pass-clause-rests g c start stands looks = c.serve_lock-turn.ensures.rests start stands looks
