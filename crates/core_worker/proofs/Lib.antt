@@ -71,6 +71,7 @@ mod RestingSlots
 mod RestingPlaces
 mod Rested
 mod ItemLaws
+mod LeftTurns
 mod StartKeys
 mod StartBlocks
 mod StartHeads
