@@ -67,3 +67,4 @@ mod RestingSlots
 mod RestingPlaces
 mod Rested
 mod ItemLaws
+mod LeftTurns

@@ -14,6 +14,7 @@ ghost use Rattle.core_worker.specs.Posting.{PostsOrStops};
 ghost use Rattle.core_worker.specs.Ties.{HoldsAt, StandsAt, LeadsNothing};
 ghost use Rattle.core_worker.specs.Turns.{InOrderAt, PassesPost, PersistsOrLoses};
 ghost use Rattle.core_worker.specs.Turning.{HasBatch, KeepsTurn, TurnMoves, Did, Turned, TurnedTo, Tells, at_entry};
+ghost use Rattle.core_worker.specs.Left.{HasOffer, Lowers, Measures, MeasuresTurn, StartsFirst};
 
 use crate::choosing::{Choice, staged_block};
 use crate::gate::Gate;
@@ -42,6 +43,8 @@ impl Worker {
         ensures did { (refused : Bool) → Did (R.state region.old) refused (B.whole board.old)
             (B.seat board.old) (at_entry self.old (B.view board.old))
             (at_entry self.new (B.view board.new)) }
+        ensures less { Lowers (B.whole board.old) (B.whole board.new) self.old self.new }
+        ensures starts { StartsFirst self.new }
     {
         match &self.leading {
             Leading::Batch(_) => {
@@ -103,6 +106,9 @@ impl Worker {
             → Tells posted (B.seat board.old).number self.old v (B.view board.old)
             → Turned result s refused before (B.seat board.old) (at_entry self.old v)
             (at_entry self.new (B.view board.new)) }
+        ensures less { (posted ≡ true → HasOffer (B.whole board.old) (B.seat board.old).number)
+            → MeasuresTurn result (B.whole board.old) (B.whole board.new) self.old self.new }
+        ensures starts { StartsFirst self.new }
     {
         if !posted {
             return Turn::Idle;
@@ -136,6 +142,9 @@ impl Worker {
             → TurnedTo result (R.state region.old) (G.may_refuse gate.now) before
             (B.seat board.old) (at_entry self.old v) (at_entry self.new (B.view board.new)) }
         ensures memory { OnErr result (self.new.winds_down ≡ true) }
+        ensures less { (posted ≡ true → HasOffer (B.whole board.old) (B.seat board.old).number)
+            → Measures result (B.whole board.old) (B.whole board.new) self.old self.new }
+        ensures starts { StartsFirst self.new }
     {
         match self.choose(gate) {
             Choice::Pass => {
@@ -178,6 +187,9 @@ impl Worker {
             (B.whole board.old) (B.seat board.old) (at_entry self.old (B.view board.old))
             (at_entry self.new (B.view board.new)) }
         ensures memory { OnErr result (self.new.winds_down ≡ true) }
+        ensures less { Measures result (B.whole board.old) (B.whole board.new)
+            self.old self.new }
+        ensures starts { StartsFirst self.new }
     {
         match self.find_back(board) {
             Search::Back(slot) => match self.take_back(alloc, &*region, board, slot) {
@@ -222,6 +234,9 @@ impl Worker {
         ensures did { (s : State) (refused : Bool) → Did s refused (B.whole board.old)
             (B.seat board.old) (at_entry self.old (B.view board.old))
             (at_entry self.new (B.view board.new)) }
+        ensures less { HasKeptRoom self.old → StartsFirst self.old
+            → Lowers (B.whole board.old) (B.whole board.new) self.old self.new }
+        ensures starts { StartsFirst self.new }
     {
         let room = self.room();
         self.go_round(board, &room);
@@ -247,6 +262,9 @@ impl Worker {
             (B.seat board.old) (at_entry self.old (B.view board.old))
             (at_entry self.new (B.view board.new)) }
         ensures memory { OnErr result (self.new.winds_down ≡ true) }
+        ensures less { (self.old.stopped ≡ false → HasKeptRoom self.old) → StartsFirst self.old
+            → Lowers (B.whole board.old) (B.whole board.new) self.old self.new }
+        ensures starts { StartsFirst self.new }
     {
         if self.stopped {
             return self.withdraw(alloc, region, board);
@@ -277,6 +295,9 @@ impl Worker {
             (B.whole board.old) (B.seat board.old) (at_entry self.old (B.view board.old))
             (at_entry self.new (B.view board.new)) }
         ensures memory { OnErr result (self.new.winds_down ≡ true) }
+        ensures less { (self.old.stopped ≡ false → HasKeptRoom self.old) → StartsFirst self.old
+            → Measures result (B.whole board.old) (B.whole board.new) self.old self.new }
+        ensures starts { StartsFirst self.new }
     {
         match &self.leading {
             Leading::Nothing(_) => {
@@ -327,6 +348,9 @@ impl Worker {
             (B.whole board.old) (B.seat board.old) (at_entry self.old (B.view board.old))
             (at_entry self.new (B.view board.new)) }
         ensures memory { OnErr result (self.new.winds_down ≡ true) }
+        ensures less { (self.old.stopped ≡ false → HasKeptRoom self.old) → StartsFirst self.old
+            → Measures result (B.whole board.old) (B.whole board.new) self.old self.new }
+        ensures starts { StartsFirst self.new }
     {
         self.serve_first(alloc, region, board, gate)
     }

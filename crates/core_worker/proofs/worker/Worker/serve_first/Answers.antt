@@ -17,4 +17,6 @@ returns-in_default g c = record {
   keeps = c.serve_batch.ensures.keeps;
   turned = c.serve_batch.ensures.did (g.G.Gate.may_refuse c.args.gate.now);
   memory = tt;
+  less = λ rule starts. c.serve_batch.ensures.less;
+  starts = c.serve_batch.ensures.starts;
 }

@@ -11,6 +11,10 @@ use Rattle.core_worker.specs.Turning.{KeepsTurn, TurnedTo, Tells, at_entry}
 use Rattle.core_worker.specs.Turning.Did.{finishes}
 use Rattle.core_worker.proofs.TurnLaws.{keeps_looked, looked_holds, looked_stands, looked_order}
 use Rattle.core_worker.proofs.ItemLaws.{was_back, keeps_finish}
+use Rattle.core_worker.proofs.LeftTurns.{measures_looked}
+use Rattle.core_worker.proofs.LeftLocks.{lowers_looked}
+use Rattle.core_worker.proofs.LeftTurns.{view_agrees}
+use Rattle.core_worker.specs.Left.{HasOffer}
 use Rattle.core_worker.proofs.worker.Worker.serve_own.Goals as goal
 
 pub take_back-requires-clause-holds : goal.take_back-requires-clause-holds
@@ -129,3 +133,26 @@ returns-in-Out-clause-turned g c =
     let u = g.B.Board.view c.serve_staged.new.board in
     subst (λ (x : SeatAt). TurnedTo c.serve_staged.result (g.R.Region.state c.args.region.now) (g.G.Gate.may_refuse c.args.gate.now) (g.B.Board.whole c.args.board.now) x (at_entry c.args.self.now v) (at_entry c.serve_staged.new.self u)) c.find_back.ensures.seat
     (c.serve_staged.ensures.turned (g.B.Board.whole c.args.board.now) v (subst (λ (x : SeatAt). Tells c.in-Out.posted x.number c.args.self.now v mid) (sym c.find_back.ensures.seat) c.in-Out.ensures.finds))
+
+pub returns-in-Ok-clause-less : goal.returns-in-Ok-clause-less
+returns-in-Ok-clause-less g c =
+    let looks = c.find_back.ensures.looks in
+    lowers_looked (g.B.Board.whole c.args.board.now) (g.B.Board.whole c.find_back.new.board) (g.B.Board.whole c.take_back.new.board) (g.B.Board.seat c.args.board.now).number looks.0 (g.B.Board.view c.find_back.new.board) c.args.self.now c.take_back.new.self looks.1 c.take_back.ensures.less
+
+pub returns-in-Err-clause-less : goal.returns-in-Err-clause-less
+returns-in-Err-clause-less g c =
+    let looks = c.find_back.ensures.looks in
+    lowers_looked (g.B.Board.whole c.args.board.now) (g.B.Board.whole c.find_back.new.board) (g.B.Board.whole c.take_back.new.board) (g.B.Board.seat c.args.board.now).number looks.0 (g.B.Board.view c.find_back.new.board) c.args.self.now c.take_back.new.self looks.1 c.take_back.ensures.less
+
+pub returns-in-Out-clause-less : goal.returns-in-Out-clause-less
+returns-in-Out-clause-less g c =
+    let m = (g.B.Board.seat c.args.board.now).number in
+    let mid = g.B.Board.whole c.find_back.new.board in
+    let looks = c.find_back.ensures.looks in
+    let finds = c.in-Out.ensures.finds in
+    measures_looked c.serve_staged.result (g.B.Board.whole c.args.board.now) mid (g.B.Board.whole c.serve_staged.new.board) m looks.0 (record { worker = c.args.self.now; view = g.B.Board.view c.args.board.now }) (g.B.Board.view c.find_back.new.board) c.serve_staged.new.self c.in-Out.posted looks.1
+    (view_agrees (g.B.Board.whole c.args.board.now) (g.B.Board.seat c.args.board.now) (g.B.Board.view c.args.board.now) (g.met.B.Board.agrees c.args.board.now)) finds.0.looked finds.1
+    (λ offer. c.serve_staged.ensures.less (λ yes. subst (λ (q : SeatAt). HasOffer mid q.number) (sym c.find_back.ensures.seat) (offer yes)))
+
+pub returns-in-Out-clause-starts : goal.returns-in-Out-clause-starts
+returns-in-Out-clause-starts g c = c.serve_staged.ensures.starts
