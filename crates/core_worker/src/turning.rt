@@ -15,6 +15,7 @@ ghost use Rattle.core_worker.specs.Ties.{HoldsAt, StandsAt, LeadsNothing};
 ghost use Rattle.core_worker.specs.Turns.{InOrderAt, PassesPost, PersistsOrLoses};
 ghost use Rattle.core_worker.specs.Turning.{HasBatch, KeepsTurn, TurnMoves, Did, Turned, TurnedTo, Tells, at_entry};
 ghost use Rattle.core_worker.specs.Left.{HasOffer, Lowers, Measures, MeasuresTurn, StartsFirst};
+ghost use Rattle.core_worker.specs.Resting.{AtRest, IfIdle, IfIdleTurn, TriedIf};
 
 use crate::choosing::{Choice, staged_block};
 use crate::gate::Gate;
@@ -109,6 +110,8 @@ impl Worker {
         ensures less { (posted ≡ true → HasOffer (B.whole board.old) (B.seat board.old).number)
             → MeasuresTurn result (B.whole board.old) (B.whole board.new) self.old self.new }
         ensures starts { StartsFirst self.new }
+        ensures tries { IfIdleTurn result (TriedIf posted (B.seat board.old).number
+            (B.whole board.old) (B.whole board.new) (B.view board.new)) }
     {
         if !posted {
             return Turn::Idle;
@@ -145,6 +148,8 @@ impl Worker {
         ensures less { (posted ≡ true → HasOffer (B.whole board.old) (B.seat board.old).number)
             → Measures result (B.whole board.old) (B.whole board.new) self.old self.new }
         ensures starts { StartsFirst self.new }
+        ensures tries { IfIdle result (TriedIf posted (B.seat board.old).number
+            (B.whole board.old) (B.whole board.new) (B.view board.new)) }
     {
         match self.choose(gate) {
             Choice::Pass => {
@@ -190,6 +195,9 @@ impl Worker {
         ensures less { Measures result (B.whole board.old) (B.whole board.new)
             self.old self.new }
         ensures starts { StartsFirst self.new }
+        ensures rests { IfIdle result (G.may_refuse gate.now ≡ false → self.old.winds_down ≡ false
+            → AtRest (B.seat board.old) (B.whole board.old) (B.whole board.new)
+            (B.view board.old) (B.view board.new) self.old self.new) }
     {
         match self.find_back(board) {
             Search::Back(slot) => match self.take_back(alloc, &*region, board, slot) {
@@ -298,6 +306,9 @@ impl Worker {
         ensures less { (self.old.stopped ≡ false → HasKeptRoom self.old) → StartsFirst self.old
             → Measures result (B.whole board.old) (B.whole board.new) self.old self.new }
         ensures starts { StartsFirst self.new }
+        ensures rests { IfIdle result (G.may_refuse gate.now ≡ false → self.old.winds_down ≡ false
+            → AtRest (B.seat board.old) (B.whole board.old) (B.whole board.new)
+            (B.view board.old) (B.view board.new) self.old self.new) }
     {
         match &self.leading {
             Leading::Nothing(_) => {
@@ -351,6 +362,9 @@ impl Worker {
         ensures less { (self.old.stopped ≡ false → HasKeptRoom self.old) → StartsFirst self.old
             → Measures result (B.whole board.old) (B.whole board.new) self.old self.new }
         ensures starts { StartsFirst self.new }
+        ensures rests { IfIdle result (G.may_refuse gate.now ≡ false → self.old.winds_down ≡ false
+            → AtRest (B.seat board.old) (B.whole board.old) (B.whole board.new)
+            (B.view board.old) (B.view board.new) self.old self.new) }
     {
         self.serve_first(alloc, region, board, gate)
     }

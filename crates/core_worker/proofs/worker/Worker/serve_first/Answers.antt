@@ -19,4 +19,5 @@ returns-in_default g c = record {
   memory = tt;
   less = λ rule starts. c.serve_batch.ensures.less;
   starts = c.serve_batch.ensures.starts;
+  rests = tt;
 }

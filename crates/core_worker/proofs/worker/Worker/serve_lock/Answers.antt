@@ -1,5 +1,5 @@
 -- The lock is tried, or nothing applies.
-use Rattle.std.proofs.Common.{◌≡◌, inl, inr, ℕ, Bool, true, false, [], ◌∷◌, Option, refl, subst}
+use Rattle.std.proofs.Common.{sym, ◌≡◌, inl, inr, ℕ, Bool, true, false, [], ◌∷◌, Option, refl, subst}
 use Rattle.group_laws.specs.Runs as runs
 use Rattle.group_laws.specs.State.{Group}
 use Rattle.group_laws.specs.MemberViews.{View}
@@ -11,6 +11,7 @@ use Rattle.core_worker.proofs.QuietItems.{lock_led, lock_same, lock_stops}
 use Rattle.core_worker.proofs.TurnLaws.{keeps_leading, keeps_same}
 use Rattle.core_worker.proofs.LeftTurns.{had_lower, had_starts, found_not_more}
 use Rattle.core_worker.proofs.LeftFair.{starts_nothing}
+use Rattle.core_worker.specs.Resting.{TriedIf}
 use Rattle.core_worker.proofs.worker.Worker.serve_lock.Goals as goal
 
 pub returns-then-not-posted-clause-keeps : goal.returns-then-not-posted-clause-keeps
@@ -107,3 +108,12 @@ returns-clause-starts g c =
     let u = g.B.Board.view c.try_lead.new.board in
     let had = subst (λ (b : Bool). TriesLock b seat.number v u c.args.self.now c.try_lead.new.self) c.if-try_lead.false c.try_lead.ensures.tried in
     starts_nothing c.try_lead.new.self had.1
+
+pub returns-then-not-posted-clause-tries : goal.returns-then-not-posted-clause-tries
+returns-then-not-posted-clause-tries g c =
+    let w = g.B.Board.whole c.args.board.now in
+    subst (λ (b : Bool). TriedIf b (g.B.Board.seat c.args.board.now).number w w (g.B.Board.view c.args.board.now)) (sym c.if-not-posted.true) refl
+
+pub returns-clause-tries : goal.returns-clause-tries
+returns-clause-tries g c =
+    subst (λ (b : Bool). TriedIf b (g.B.Board.seat c.args.board.now).number (g.B.Board.whole c.args.board.now) (g.B.Board.whole c.try_lead.new.board) (g.B.Board.view c.try_lead.new.board)) (sym c.if-not-posted.false) c.try_lead.ensures.whole
