@@ -107,11 +107,11 @@ module _ (before after : Option Group) (seat : SeatAt) (a b : Moment) (R : Relea
   was : leading_left a.worker.leading ≡ taken_left (taken_by R.old)
   was = ap leading_left R.led
 
-  abbrev Step_of : Group → Group → Type 0
-  Step_of g u = Runs g (steps_of false seat.number R.old R.last ++ (seat.number, Kind.Unlock) ∷ []) u
+  abbrev StepsOf : Group → Group → Type 0
+  StepsOf g u = Runs g (steps_of false seat.number R.old R.last ++ (seat.number, Kind.Unlock) ∷ []) u
 
   -- with a batch
-  batch : (g u : Group) → taken_left (taken_by R.old) ≡ 3 → leading_left b.worker.leading ≡ 1 → Step_of g u → left b.worker + under_way u < left a.worker + under_way g
+  batch : (g u : Group) → taken_left (taken_by R.old) ≡ 3 → leading_left b.worker.leading ≡ 1 → StepsOf g u → left b.worker + under_way u < left a.worker + under_way g
   batch g u had now run =
       let last = last_step g u (steps_of false seat.number R.old R.last) seat.number Kind.Unlock run in
       let looked = looked_way g last.0 (upto_looked g last.0 seat.number R.old.at (R.last.at - R.old.at) last.1) in
@@ -128,7 +128,7 @@ module _ (before after : Option Group) (seat : SeatAt) (a b : Moment) (R : Relea
       (λ (full : length (taken_by R.last) ≡ 64). absurd (let zero_long = ap (λ (ts : List Taken). length ts) none in omega (arith, full, zero_long)))
       over
 
-  nothing : (g u : Group) → before ≡ Some g → Lawful g → taken_by R.last ≡ [] → leading_left b.worker.leading ≡ 0 → Step_of g u → left b.worker + under_way u < left a.worker + under_way g
+  nothing : (g u : Group) → before ≡ Some g → Lawful g → taken_by R.last ≡ [] → leading_left b.worker.leading ≡ 0 → StepsOf g u → left b.worker + under_way u < left a.worker + under_way g
   nothing g u told L none now run =
       let last = last_step g u (steps_of false seat.number R.old R.last) seat.number Kind.Unlock run in
       let on = upto_looked g last.0 seat.number R.old.at (R.last.at - R.old.at) last.1 in
@@ -146,7 +146,7 @@ module _ (before after : Option Group) (seat : SeatAt) (a b : Moment) (R : Relea
       let same = leading_way a.worker b.worker R.same in
       omega (arith, looked, way, group, same, now)
 
-  by : (r : Released) → R.given ≡ r → IsReleased seat b.view R.last r → (g u : Group) → before ≡ Some g → Lawful g → Step_of g u → left b.worker + under_way u < left a.worker + under_way g
+  by : (r : Released) → R.given ≡ r → IsReleased seat b.view R.last r → (g u : Group) → before ≡ Some g → Lawful g → StepsOf g u → left b.worker + under_way u < left a.worker + under_way g
   by (released.Batch x) e is g u told L run =
       batch g u (none_some (taken_by R.old) (λ none. x.some (ap (λ (c : Changes). c.taken.items) is.1 ∙ items ∙ none))) (ap leading_left R.leads_now ∙ ap (λ (r : Released). leading_left (led_by r)) e) run
   by (released.Nothing x) e is g u told L run =

@@ -35,12 +35,12 @@ asked_is None n y e = absurd (cc e)
 asked_is (Some r) n y e = (let same : record { number = n; request = r; posted = true } ≡ y = cc e in ap (λ (x : Placed). x.posted) (sym same))
 
 -- the place of a change that is no longer staged
-abbrev Posted_at : List places.Place → ℕ → ℕ → Type 0
-Posted_at ps k t = (number : ℕ) × (lines : ℕ) × (place_at ps t ≡ Posted number k lines)
+abbrev PostedAt : List places.Place → ℕ → ℕ → Type 0
+PostedAt ps k t = (number : ℕ) × (lines : ℕ) × (place_at ps t ≡ Posted number k lines)
 
-posted_place : (ps : List places.Place) (k t : ℕ) → HasNone is_staged ps → key_in (place_at ps t) ≡ Some k → Posted_at ps k t
+posted_place : (ps : List places.Place) (k t : ℕ) → HasNone is_staged ps → key_in (place_at ps t) ≡ Some k → PostedAt ps k t
 posted_place ps k t none is = by (place_at ps t) refl is where
-  by : (x : places.Place) → place_at ps t ≡ x → key_in x ≡ Some k → Posted_at ps k t
+  by : (x : places.Place) → place_at ps t ≡ x → key_in x ≡ Some k → PostedAt ps k t
   by Free e i = absurd (cc i)
   by (Staged number entry value) e i = absurd (let both : true ≡ false = sym (ap is_staged e) ∙ none t in cc both)
   by (Posted number key lines) e i = (number, lines, e ∙ (let same : key ≡ k = cc i in ap (λ n. Posted number n lines) same))
