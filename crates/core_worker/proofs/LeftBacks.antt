@@ -1,19 +1,17 @@
 -- What a stopped core, and one whose change is given back, lower.
-use Rattle.std.proofs.Common.{◌≡◌, ◌≢◌, inl, inr, ⊎_elim, ℕ, zero, suc, ◌+◌, ◌*◌, ◌-◌, ◌<◌, ◌≤◌, Bool, true, false, cond, eqb, List, [], ◌∷◌, ◌++◌, map, length, Option, Some, None, refl, sym, ◌∙◌, ap, subst, arith}
-use Rattle.std.specs.Prelude.{IfSome, IsSomeAnd, MatchOption}
+use Rattle.std.proofs.Common.{◌≡◌, ⊎_elim, ℕ, zero, suc, ◌+◌, ◌<◌, ◌≤◌, Bool, true, false, List, [], ◌∷◌, ◌++◌, length, Option, Some, None, refl, sym, ◌∙◌, ap, arith}
+use Rattle.std.specs.Prelude.{IsSomeAnd, MatchOption}
 use Rattle.std.proofs.Math.Bridge.{le_prop}
 use mathlib.Core.Logic.{∥∥₁_elim}
 use Rattle.fs_model.specs.declared.model.Reply.{Reply}
 use Rattle.log_entry.specs.declared.entry.Entry.{Entry}
 use Rattle.group_laws.specs.declared.types.Slot.{Slot}
-use Rattle.group_laws.specs.declared.types.Slot.TheVariants as slots
 use Rattle.group_laws.specs.Places.{Place, core_of}
 use Rattle.group_laws.specs.State.{Group, shown}
 use Rattle.group_laws.specs.Invariant.{Lawful}
-use Rattle.group_laws.specs.MemberViews.{View, view_of}
-use Rattle.group_laws.specs.Runs.{Kind, IsStep, Runs}
+use Rattle.group_laws.specs.MemberViews.{View}
+use Rattle.group_laws.specs.Runs.{Kind, Runs}
 use Rattle.group_board.specs.Told.{Makes, state_of}
-use Rattle.group_board.specs.declared.board.SlotState.TheVariants as states
 use Rattle.batch_leader.specs.Rounds.{slot_at}
 use Rattle.batch_leader.specs.Leading.{MakesAll, looks_upto, NonePosted}
 use Rattle.fs_model.specs.declared.model.Reply.TheVariants.{Stopped}
@@ -28,7 +26,7 @@ use Rattle.core_worker.specs.declared.types.Place.TheVariants.{Free, Staged, Pos
 use Rattle.core_worker.specs.declared.worker.Worker.{Worker}
 use Rattle.core_worker.specs.OwnPlaces.{place_at, key_in, is_staged}
 use Rattle.core_worker.specs.Finishing.{LetsGo, Settles, TakesBack, reply_back}
-use Rattle.core_worker.specs.Left.{place_left, taken_left, left, offers, any_offers, under_way, Lowers}
+use Rattle.core_worker.specs.Left.{place_left, taken_left, left, any_offers, under_way, Lowers}
 use Rattle.core_worker.proofs.LeftSums.{offers_has}
 use Rattle.core_worker.proofs.LeftSteps.{finishes_way, gives_up_way, withdraws_way, unlocks_none}
 use Rattle.core_worker.proofs.LeftWorkers.{leading_way, lets_go_way, settles_way, stops_way}
@@ -75,11 +73,11 @@ none_posted g m none = by (any_offers (g.slot m) 8) refl where
   by : (b : Bool) → any_offers (g.slot m) 8 ≡ b → b ≡ false
   by false e = refl
   by true e = absurd (
-    let at = offers_has (g.slot m) 8 e in
-    let x = offered (g.slot m at.0) at.2 in
-    let found = none at.0 at.1 in
-    found.1 _ (sym found.2 ∙ ap (λ n. state_of (shown (g.slot n (slot_at at.0)))) (own_member m at.0 at.1) ∙ ap (λ n. state_of (shown (g.slot m n))) (own_slot at.0 at.1) ∙ ap (λ (y : Slot). state_of (shown y)) x.1)
-  )
+      let at = offers_has (g.slot m) 8 e in
+      let x = offered (g.slot m at.0) at.2 in
+      let found = none at.0 at.1 in
+      found.1 _ (sym found.2 ∙ ap (λ n. state_of (shown (g.slot n (slot_at at.0)))) (own_member m at.0 at.1) ∙ ap (λ n. state_of (shown (g.slot m n))) (own_slot at.0 at.1) ∙ ap (λ (y : Slot). state_of (shown y)) x.1)
+      )
 
 gives_over : (g h : Group) (o : Option Group) (m : ℕ) (v u : View) (w x : Worker) → NonePosted (Some g) m 8 → Runs g (looks_upto m 0 8) h → Makes (Some h) m Kind.Unlock o u → Lawful g → left x ≤ left w → IsSomeAnd o (λ e. left x + under_way e < left w + under_way g)
 gives_over g h None m v u w x none run unlock L low = absurd unlock

@@ -1,20 +1,18 @@
 -- What the items of a turn lower, where the board tells the state.
-use Rattle.std.proofs.Common.{◌≡◌, ◌≢◌, inl, inr, ⊎_elim, ℕ, zero, suc, ◌+◌, ◌*◌, ◌-◌, ◌<◌, ◌≤◌, Bool, true, false, cond, List, [], ◌∷◌, ◌++◌, length, Option, Some, None, refl, sym, ◌∙◌, ap, subst, arith}
+use Rattle.std.proofs.Common.{◌≡◌, ⊎_elim, ℕ, ◌+◌, ◌<◌, false, cond, List, length, Option, Some, None, sym, ap, subst, arith}
 use Rattle.std.specs.Prelude.{IfSome, IsSomeAnd}
 use Rattle.std.proofs.Math.Bridge.{le_prop}
 use mathlib.Core.Logic.{∥∥₁_elim}
 use Rattle.group_laws.specs.State.{Group}
 use Rattle.group_laws.specs.Invariant.{Lawful}
 use Rattle.group_laws.specs.MemberViews.{View}
-use Rattle.group_laws.specs.Runs.{Kind, IsStep, Runs}
+use Rattle.group_laws.specs.Runs.{Kind, IsStep}
 use Rattle.group_board.specs.Told.{Makes}
 use Rattle.core_worker.specs.declared.worker.Worker.{Worker}
-use Rattle.core_worker.specs.declared.types.Leading.TheVariants as leads
-use Rattle.core_worker.specs.OwnPlaces.{place_at}
 use Rattle.core_worker.specs.Posting.{PostsPlain, PostsOrStops}
 use Rattle.batch_leader.specs.declared.taken.Taken.{Taken}
-use Rattle.core_worker.specs.Turns.{Moment, SameButLeading, persisted_left, failed_left, Persists, LosesBatch, PersistsOrLoses, MadeOrStops}
-use Rattle.core_worker.specs.Left.{place_left, places_left, leading_left, left, under_way, Lowers, NotMore}
+use Rattle.core_worker.specs.Turns.{Moment, SameButLeading, persisted_left, failed_left, Persists, LosesBatch}
+use Rattle.core_worker.specs.Left.{place_left, leading_left, left, under_way, Lowers}
 use Rattle.core_worker.proofs.LeftSums.{places_with}
 use Rattle.core_worker.proofs.LeftSteps.{posts_way, marks_way, fails_way}
 use Rattle.core_worker.proofs.LeftWorkers.{leading_way, persisted_way, failed_way, unpledges_way}

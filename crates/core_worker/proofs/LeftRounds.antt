@@ -1,6 +1,6 @@
 -- What a round lowers: a take, and giving the lock back.
-use Rattle.std.proofs.Common.{◌≡◌, ◌≢◌, inl, inr, ⊎_elim, ℕ, zero, suc, ◌+◌, ◌*◌, ◌-◌, ◌/◌, ◌%◌, ◌<◌, ◌≤◌, ◌==◌, Bool, true, false, cond, eqb, List, [], ◌∷◌, ◌++◌, length, Option, Some, None, refl, sym, ◌∙◌, ap, subst, arith}
-use Rattle.std.specs.Prelude.{IfSome, IsSomeAnd}
+use Rattle.std.proofs.Common.{◌≡◌, ◌≢◌, ⊎_elim, ℕ, ◌+◌, ◌-◌, ◌<◌, ◌≤◌, ◌==◌, Bool, true, false, List, [], ◌∷◌, ◌++◌, length, Option, Some, None, refl, sym, ◌∙◌, ap, subst, arith}
+use Rattle.std.specs.Prelude.{IfSome}
 use Rattle.std.proofs.Math.Bridge.{le_prop}
 use Rattle.std.proofs.lemmas.Bool.{eq-eqb}
 use Rattle.std.proofs.lemmas.Bool.Decides.{nat_tests}
@@ -13,10 +13,9 @@ use Rattle.group_laws.specs.Places.{Place, members}
 use Rattle.group_laws.specs.State.{Group, shown}
 use Rattle.group_laws.specs.Invariant.{Lawful}
 use Rattle.group_laws.specs.MemberViews.{View, view_of}
-use Rattle.group_laws.specs.Runs.{Kind, IsStep, Runs}
+use Rattle.group_laws.specs.Runs.{Kind, Runs}
 use Rattle.group_board.specs.Seats.{SeatAt}
 use Rattle.group_board.specs.Told.{state_of}
-use Rattle.group_board.specs.declared.board.SlotState.{SlotState}
 use Rattle.group_board.specs.declared.board.SlotState.TheVariants as states
 use Rattle.batch_leader.specs.declared.states.Collecting.{Collecting}
 use Rattle.batch_leader.specs.declared.changes.Changes.{Changes}
@@ -24,9 +23,7 @@ use Rattle.batch_leader.specs.declared.states.Released.{Released}
 use Rattle.batch_leader.specs.declared.states.Released.TheVariants as released
 use Rattle.batch_leader.specs.declared.taken.Taken.{Taken}
 use Rattle.batch_leader.specs.Rounds.{member_at, slot_at, round_end, own_lines, fits, Passes}
-use Rattle.batch_leader.specs.Leading.{MakesAll, looks_upto, steps_of, taken_by, IsReleased, IsOver, Passed, Went}
-use Rattle.core_worker.specs.declared.types.Leading.{Leading}
-use Rattle.core_worker.specs.declared.types.Leading.TheVariants as leads
+use Rattle.batch_leader.specs.Leading.{MakesAll, looks_upto, steps_of, taken_by, IsReleased, IsOver, Passed}
 use Rattle.core_worker.specs.declared.worker.Worker.{Worker}
 use Rattle.core_worker.specs.Supplies.{HasKeptRoom, room_for}
 use Rattle.core_worker.specs.Ties.{Holds}
@@ -82,13 +79,13 @@ module _ (g : Group) (L : Lawful g) (m : ℕ) (w : Worker) (H : Holds g.place m 
       let at = passed s (omega (arith, first)) (omega (arith, lt, whole)) in
       let who = own_member m s lt in
       let shows : states.Posted (length (words_of e)) ≡ at.0 =
-          sym (ap (λ (x : Slot). state_of (shown x)) is) ∙ ap (λ n. state_of (shown (g.slot n s))) (sym who) ∙ ap (λ n. state_of (shown (g.slot (member_at m s) n))) (sym (own_slot s lt)) ∙ at.2 in
+      sym (ap (λ (x : Slot). state_of (shown x)) is) ∙ ap (λ n. state_of (shown (g.slot n s))) (sym who) ∙ ap (λ n. state_of (shown (g.slot (member_at m s) n))) (sym (own_slot s lt)) ∙ at.2 in
       let passes : Passes (room_for w) (own_lines m (taken_by old)) (taken_by old) old.fresh (member_at m s == m) (states.Posted (length (words_of e))) =
-          subst (Passes (room_for w) (own_lines m (taken_by old)) (taken_by old) old.fresh (member_at m s == m)) (sym shows) at.1 in
+      subst (Passes (room_for w) (own_lines m (taken_by old)) (taken_by old) old.fresh (member_at m s == m)) (sym shows) at.1 in
       let mine : (member_at m s == m) ≡ true = eq-eqb (member_at m s) m who in
       let here : fits (room_for w) (own_lines m (taken_by old)) [] old.fresh true (length (words_of e)) ≡ false =
-          subst (λ (ts : List Taken). fits (room_for w) (own_lines m (taken_by old)) ts old.fresh true (length (words_of e)) ≡ false) none
-          (subst (λ (b : Bool). fits (room_for w) (own_lines m (taken_by old)) (taken_by old) old.fresh b (length (words_of e)) ≡ false) mine passes) in
+      subst (λ (ts : List Taken). fits (room_for w) (own_lines m (taken_by old)) ts old.fresh true (length (words_of e)) ≡ false) none
+      (subst (λ (b : Bool). fits (room_for w) (own_lines m (taken_by old)) (taken_by old) old.fresh b (length (words_of e)) ≡ false) mine passes) in
       let both : true ≡ false = sym (own_fits g L m w H s e is rule (own_lines m (taken_by old)) old.fresh) ∙ here in
       cc both
 

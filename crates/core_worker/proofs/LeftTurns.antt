@@ -1,6 +1,6 @@
 -- What the parts of a turn lower, and that a round begun is at its first slot.
-use Rattle.std.proofs.Common.{◌≡◌, ◌≢◌, ◌⊎◌, inl, inr, ⊎_elim, ℕ, ◌+◌, ◌<◌, ◌≤◌, Bool, true, false, cond, List, [], ◌∷◌, length, Option, Some, None, Result, Ok, Err, refl, sym, ◌∙◌, ap, subst, arith}
-use Rattle.std.specs.Prelude.{IfSome, IsSomeAnd}
+use Rattle.std.proofs.Common.{◌≡◌, ⊎_elim, ℕ, Bool, true, false, List, Option, Some, None, Result, Ok, Err, sym, ◌∙◌, ap, subst}
+use Rattle.std.specs.Prelude.{IfSome}
 use Rattle.pm_region.specs.State.{State}
 use Rattle.fs_errors.specs.declared.Memory.{Memory}
 use Rattle.group_laws.specs.State.{Group}
@@ -15,15 +15,14 @@ use Rattle.core_worker.specs.declared.types.Leading.TheVariants as leads
 use Rattle.core_worker.specs.declared.types.Turn.{Turn}
 use Rattle.core_worker.specs.declared.types.Turn.TheVariants.{Moved, Idle}
 use Rattle.core_worker.specs.declared.worker.Worker.{Worker}
-use Rattle.core_worker.specs.Finishing.{FinishesSlot}
 use Rattle.core_worker.specs.Posting.{PostsOrStops}
 use Rattle.core_worker.specs.Stopping.{Drops, WithdrawsOrUnlocks}
-use Rattle.core_worker.specs.Ties.{LeadsNothing, LeadsAt, HoldsAt}
+use Rattle.core_worker.specs.Ties.{LeadsNothing, HoldsAt}
 use Rattle.core_worker.specs.Turns.{Moment, Looked, FindsPosted, TriesLock, looks_at}
-use Rattle.core_worker.specs.Left.{taken_left, leading_left, any_offers, HasOffer, Lowers, NotMore, MeasuresTurn, Measures, StartsFirst}
+use Rattle.core_worker.specs.Left.{taken_left, leading_left, HasOffer, Lowers, NotMore, Measures, StartsFirst}
 use Rattle.core_worker.proofs.LeadTies.{led_here}
 use Rattle.core_worker.proofs.LeftLocks.{found_offers, lowers_looked, looked_not_more, locks_lower, busy_not_more, first_left}
-use Rattle.core_worker.proofs.LeftFair.{starts_same, starts_still, starts_stopped, starts_nothing}
+use Rattle.core_worker.proofs.LeftFair.{starts_still, starts_stopped, starts_nothing}
 
 -- the lock is had
 pub had_lower : (seat : SeatAt) (before after : Option Group) (v u : View) (w x : Worker) → HoldsAt seat u x → LeadsNothing w → TriesLock true seat.number v u w x → Makes before seat.number Kind.Lock after u → HasOffer before seat.number → Lowers before after w x

@@ -1,10 +1,9 @@
 -- An idle turn leaves its core at rest.
-use Rattle.std.proofs.Common.{◌≡◌, ◌≢◌, ◌⊎◌, inl, inr, ⊎_elim, ℕ, ◌+◌, ◌<◌, Bool, true, false, cond, not, ◌&&◌, List, [], ◌∷◌, ◌++◌, length, Option, Some, None, Result, Ok, Err, refl, sym, ◌∙◌, ap, subst, arith}
-use Rattle.std.specs.Prelude.{IfSome, IsSomeAnd}
+use Rattle.std.proofs.Common.{◌≡◌, ◌⊎◌, inl, inr, ⊎_elim, ℕ, ◌<◌, Bool, true, false, not, List, [], ◌∷◌, ◌++◌, Option, Some, None, Result, Ok, Err, refl, sym, ◌∙◌, ap, subst, arith}
+use Rattle.std.specs.Prelude.{IfSome}
 use Rattle.std.proofs.lemmas.Bool.{and_from}
 use Rattle.log_entry.specs.declared.entry.Entry.{Entry}
 use Rattle.group_laws.specs.declared.types.Pending.{Pending}
-use Rattle.group_laws.specs.declared.types.Block.{Block}
 use Rattle.group_laws.specs.Places.{Place, owner}
 use Rattle.group_laws.specs.State.{Group}
 use Rattle.group_laws.specs.Invariant.{Lawful}
@@ -24,8 +23,8 @@ use Rattle.core_worker.specs.OwnPlaces.{place_at, is_staged, is_posted, HasNone}
 use Rattle.core_worker.specs.Status.{has_room, is_leading}
 use Rattle.core_worker.specs.Ties.{Holds, LeadsAt, LeadsNothing}
 use Rattle.core_worker.specs.Turns.{Moment, FindsPosted, PassesItems, PassesPost, SameButLeading, Idles, LooksMade}
-use Rattle.core_worker.specs.WorkerMoves.{Placed, hands_of}
-use Rattle.core_worker.specs.Resting.{IsWithOthers, Rests, HoldsSame, is_open, OpenFor, LoadsOnly, AtRest, IfIdle, TriedIf}
+use Rattle.core_worker.specs.WorkerMoves.{hands_of}
+use Rattle.core_worker.specs.Resting.{IsWithOthers, Rests, HoldsSame, OpenFor, LoadsOnly, AtRest, IfIdle, TriedIf}
 use Rattle.group_laws.specs.declared.types.Seen.{Seen}
 use Rattle.group_laws.specs.declared.types.Seen.TheVariants.{Holder}
 use Rattle.core_worker.specs.Left.{NotMore}
@@ -98,11 +97,13 @@ module _ (p : Place) (refused : Bool) (m : ℕ) (a b : Moment) (seen : View) (P 
         taken = leads_nothing.1;
         placed = λ k y own is.
             let x = posted_of p m b.view b.worker H none k y is in
-            let at = x.1 in
-            (x.0, λ d s pends slot.
-            let same : Some s ≡ Some at.0 = sym slot ∙ ap slot_or (sym pends ∙ at.3.1) in
-            let here : s ≡ at.0 = cc same in
-            subst (λ n. IsWithOthers before after m n) (sym here) (slot_with k at.0 at.3.0 own at.3.1 at.1 at.2));
+            let at = x.1 in (
+              x.0,
+              λ d s pends slot.
+                  let same : Some s ≡ Some at.0 = sym slot ∙ ap slot_or (sym pends ∙ at.3.1) in
+                  let here : s ≡ at.0 = cc same in
+                  subst (λ n. IsWithOthers before after m n) (sym here) (slot_with k at.0 at.3.0 own at.3.1 at.1 at.2),
+            );
         waits = λ k own is. none_waits p m b.view b.worker H none works_still hand k is;
       }
 

@@ -1,31 +1,26 @@
 -- What an idle core holds, by its places.
-use Rattle.std.proofs.Common.{◌≡◌, ◌≢◌, ◌⊎◌, inl, inr, ⊎_elim, ℕ, zero, suc, ◌+◌, ◌<◌, ◌≤◌, ◌&&◌, ◌||◌, ◌==◌, nat_lt, Bool, true, false, cond, not, List, [], ◌∷◌, ◌++◌, map, length, Option, Some, None, refl, sym, ◌∙◌, ap, subst, arith, option_map}
+use Rattle.std.proofs.Common.{◌≡◌, ℕ, ◌<◌, ◌==◌, nat_lt, Bool, true, false, cond, List, [], ◌∷◌, ◌++◌, map, length, Option, Some, None, refl, sym, ◌∙◌, ap, subst, arith, option_map}
 use Rattle.std.specs.Prelude.{option_to_list}
 use Rattle.std.specs.List.{filter}
 use Rattle.std.proofs.lemmas.Bool.{eq-eqb, and_from}
-use Rattle.std.proofs.lemmas.Bool.Decides.{nat_tests}
 use Rattle.fs_model.specs.declared.model.Request.{Request}
 use Rattle.fs_model.specs.Cells.{key_of}
 use Rattle.conflict_queue.specs.declared.types.Held.{Held}
 use Rattle.conflict_queue.specs.Waiting.{waiting}
 use Rattle.log_entry.specs.declared.entry.Entry.{Entry}
-use Rattle.group_laws.specs.declared.types.Pending.{Pending}
 use Rattle.group_laws.specs.Places.{Place, owner}
 use Rattle.group_laws.specs.MemberViews.{View}
-use Rattle.core_worker.specs.declared.types.Leading.{Leading}
 use Rattle.core_worker.specs.declared.types.Place as places
 use Rattle.core_worker.specs.declared.types.Place.TheVariants.{Free, Staged, Posted}
 use Rattle.core_worker.specs.declared.worker.Worker.{Worker}
 use Rattle.core_worker.specs.OwnPlaces.{place_at, key_in, is_free, is_staged, is_posted, is_busy, HasNone, request_pending}
 use Rattle.core_worker.specs.KeyTies.{IsPlaced}
-use Rattle.core_worker.specs.Status.{any_free, has_room, is_leading}
-use Rattle.core_worker.specs.Ties.{Holds, LeadsNothing}
-use Rattle.core_worker.specs.WorkerMoves.{Placed, Hands, placed_in, placed_for, asked_by, hands_of}
-use Rattle.core_worker.specs.Resting.{HoldsSame, is_open, OpenFor}
+use Rattle.core_worker.specs.Status.{any_free, has_room}
+use Rattle.core_worker.specs.Ties.{Holds}
+use Rattle.core_worker.specs.WorkerMoves.{Placed, placed_in, placed_for, asked_by, hands_of}
 use Rattle.core_worker.proofs.HandKeys.{none_for}
 use Rattle.core_worker.proofs.HandPlaces.{held_at}
 use Rattle.core_worker.proofs.Posts.{busy_by, busy_has}
-use Rattle.core_worker.proofs.QuietMoves.{for_same}
 
 abbrev asked_as : ℕ → Request → Placed
 asked_as n r = record { number = n; request = r; posted = true }
@@ -110,10 +105,10 @@ module _ (p : Place) (m : ℕ) (u : View) (w : Worker) (H : Holds p m u w) (none
     no_queue : (hs : List Held) → ((k : ℕ) → waiting hs k ≡ []) → length hs ≡ 0
     no_queue [] none = refl
     no_queue (h ∷ hs) none = absurd (
-      let first = none (key_of h.request) in
-      let here : h ∷ waiting hs (key_of h.request) ≡ [] = sym (ap (λ b. cond b (h ∷ waiting hs (key_of h.request)) (waiting hs (key_of h.request))) (eq-eqb (key_of h.request) (key_of h.request) refl)) ∙ first in
-      cc here
-    )
+        let first = none (key_of h.request) in
+        let here : h ∷ waiting hs (key_of h.request) ≡ [] = sym (ap (λ b. cond b (h ∷ waiting hs (key_of h.request)) (waiting hs (key_of h.request))) (eq-eqb (key_of h.request) (key_of h.request) refl)) ∙ first in
+        cc here
+        )
 
     pub room_for_one : has_room w ≡ true
     room_for_one =
