@@ -1,7 +1,7 @@
 -- What the test of a full batch needs.
-use Rattle.std.proofs.Common.{◌≡◌, ◌≢◌, ◌⊎◌, inl, inr, ⊎_elim, ℕ, ◌+◌, ◌*◌, ◌/◌, ◌%◌, ◌==◌, ◌≤◌, ◌<◌, Bool, true, false, cond, eqb, List, [], ◌∷◌, Option, Some, None, refl, sym, ◌∙◌, ap, subst, arith}
+use Rattle.std.proofs.Common.{◌≡◌, ◌≢◌, ◌⊎◌, inl, inr, ℕ, ◌+◌, ◌/◌, ◌%◌, ◌==◌, ◌≤◌, ◌<◌, Bool, true, false, cond, eqb, [], Option, Some, None, refl, sym, ◌∙◌, ap, subst, arith}
 use Rattle.std.specs.Prelude.{Result, Ok}
-use Rattle.std.proofs.lemmas.Bool.{eqb-true, ne_eqb, cases_eq}
+use Rattle.std.proofs.lemmas.Bool.{ne_eqb, cases_eq}
 use Rattle.std.proofs.Math.ListN.{get_or-eq_default}
 use Rattle.pm_region.specs.Cell.{certain}
 use Rattle.pm_region.specs.State.{State, IsTelling, cell_now, InRange}
@@ -10,7 +10,6 @@ use Rattle.chunk_map.specs.declared.layouts.Geometry.{Geometry}
 use Rattle.chunk_map.specs.declared.layouts.BadLayout.{BadLayout}
 use Rattle.chunk_map.specs.Checked.{checked_layout}
 use Rattle.chunk_map.specs.Layouts.{chunk_first, head_by, part_first, payload_lines}
-use Rattle.log_entry.specs.declared.entry.Entry.{Entry}
 use Rattle.store_image.specs.Soundness.{IsSound, first_fault}
 use Rattle.core_log.specs.Log.{LogState, IsOwn, tail_of, first_of}
 use Rattle.group_laws.specs.Places.{Place, IsPlace, members, owner, core_of}
@@ -26,7 +25,7 @@ use Rattle.group_board.specs.Views.{after_post}
 use Rattle.licence.specs.Licence.{part_at, part_end}
 use Rattle.licence.specs.Writes.{Begins}
 use Rattle.batch_leader.specs.declared.states.Batch.{Batch}
-use Rattle.batch_leader.specs.LeadTrials.{put_of, IsUnwritten, KeepsOthers, MayWrite}
+use Rattle.batch_leader.specs.LeadTrials.{put_of, KeepsOthers, MayWrite}
 use Rattle.batch_leader.specs.EightTrials.{eight_words, eight_place, eight_fresh, key_at, IsNew, IsPosted, HasBatch}
 use Rattle.batch_leader.proofs.Trials.{zero_licensed}
 

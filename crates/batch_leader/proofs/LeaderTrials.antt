@@ -1,13 +1,12 @@
 -- What two leaders need of one another.
-use Rattle.std.proofs.Common.{◌≡◌, ◌≢◌, ◌⊎◌, inl, inr, ℕ, ◌+◌, ◌*◌, ◌≤◌, ◌<◌, [], Option, Some, None, refl, sym, ◌∙◌, ap, subst, arith}
+use Rattle.std.proofs.Common.{◌≡◌, ◌≢◌, inl, inr, ℕ, ◌+◌, ◌*◌, ◌≤◌, ◌<◌, Some, None, refl, sym, ◌∙◌, ap, subst, arith}
 use Rattle.pm_region.specs.Cell.{Cell, certain, fenced}
-use Rattle.pm_region.specs.State.{State, IsTelling, cell_now, InRange, During}
-use Rattle.pm_region.specs.Words.{KeepsOutside, Kept}
+use Rattle.pm_region.specs.State.{State, IsTelling, cell_now}
+use Rattle.pm_region.specs.Words.{Kept}
 use Rattle.pm_region.proofs.Cells.{certain_may_be}
 use Rattle.chunk_map.specs.declared.layouts.Geometry.{Geometry}
 use Rattle.chunk_map.specs.Layouts.{chunk_first, part_first, payload_lines}
-use Rattle.core_log.specs.Chunk.{lines_for}
-use Rattle.core_log.specs.Log.{LogState, IsOwn, first_of}
+use Rattle.core_log.specs.Log.{LogState, first_of}
 use Rattle.group_laws.specs.Places.{Place, members, owner, core_of}
 use Rattle.group_laws.specs.State.{Group}
 use Rattle.group_laws.specs.MemberViews.{View, view_of}
@@ -17,8 +16,6 @@ use Rattle.licence.specs.Licence.{part_at, part_end}
 use Rattle.licence.specs.Writes.{Begins}
 use Rattle.batch_leader.specs.declared.states.Batch.{Batch}
 use Rattle.batch_leader.specs.Leading.{IsBatchAt}
-use Rattle.batch_leader.specs.Persisting.{HasRoom}
-use Rattle.batch_leader.specs.Rounds.{words_in}
 use Rattle.batch_leader.specs.LeadTrials.{put_of, small_place, IsUnwritten, FitsFresh, IsBlankRegion, IsEmptyLog, MayGather, Gathered, MayWrite, Wrote, HaveBatches}
 use Rattle.batch_leader.proofs.Trials.{fresh_post, fresh_unwritten, zero_licensed}
 

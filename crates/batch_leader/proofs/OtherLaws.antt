@@ -1,9 +1,9 @@
 -- Steps of one member leave what the others have.
-use Rattle.std.proofs.Common.{◌≡◌, ◌≢◌, ℕ, zero, suc, ◌+◌, ◌-◌, Bool, true, false, List, [], ◌∷◌, ◌++◌, map, Option, Some, None, refl, ◌∙◌, ap, subst}
+use Rattle.std.proofs.Common.{◌≡◌, ◌≢◌, ℕ, zero, suc, ◌+◌, ◌-◌, Bool, true, false, List, [], ◌∷◌, ◌++◌, Option, Some, None, refl, ◌∙◌, ap, subst}
 use Rattle.std.specs.List.{AllByRecursion}
 use Rattle.group_laws.specs.State.{Group}
 use Rattle.group_laws.specs.Runs.{Kind, Runs, IsStep}
-use Rattle.group_laws.specs.Runs.Kind.{Look, Take, Mark}
+use Rattle.group_laws.specs.Runs.Kind.{Look, Take}
 use Rattle.group_laws.specs.MemberViews.{View, view_of}
 use Rattle.group_laws.proofs.Others.{frame}
 use Rattle.group_board.specs.Seats.{SeatAt}

@@ -1,6 +1,5 @@
 -- What the test of a full batch asks and leaves: each of eight members of an empty group posts eight changes, and one leads.
-use Rattle.std.specs.Prelude.{◌≡◌, ℕ, ◌+◌, ◌*◌, ◌/◌, ◌%◌, ◌≤◌, ◌<◌, false, List, [], ◌∷◌, Option, None}
-use Rattle.log_entry.specs.declared.entry.Entry.{Entry}
+use Rattle.std.specs.Prelude.{◌≡◌, ℕ, ◌+◌, ◌*◌, ◌/◌, ◌%◌, ◌≤◌, false, List, [], ◌∷◌, None}
 use Rattle.chunk_map.specs.Layouts.{magic}
 use Rattle.group_laws.specs.Places.{Place}
 use Rattle.group_laws.specs.State.{Group}

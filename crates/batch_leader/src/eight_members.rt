@@ -1,5 +1,5 @@
-// A full batch: one leader takes eight changes of each of eight members, at the board of one thread. What is expected is
-// what the format says of a batch.
+// A full batch: one leader takes eight changes of each of eight members, at the board of one thread. What is expected
+// is what the format says of a batch.
 ghost use Rattle.std.specs.Prelude.{◌≡◌, ◌*◌, ◌+◌, ◌/◌, ◌%◌, ◌<◌, ◌≤◌, false, true, [], IfOk, IfSome, OnOk};
 ghost use Rattle.group_laws.specs.Places.{members};
 ghost use Rattle.group_laws.specs.MemberViews.{view_of};
@@ -51,7 +51,8 @@ fn post<B: Board>(board: &mut B, slot: u32, change: Change)
         slot change [] }
     ensures seat { B.seat board.new ≡ B.seat board.old }
     ensures view { B.view board.new ≡ after_post slot change.entry [] (B.view board.old) }
-    ensures others { LeavesOthers (B.whole board.old) (B.whole board.new) (B.seat board.old).number }
+    ensures others { LeavesOthers (B.whole board.old) (B.whole board.new)
+        (B.seat board.old).number }
 {
     board.post(slot, change, &[]);
 }
@@ -63,7 +64,8 @@ fn post_at(board: &mut LocalBoard, member: u32, slot: u32, change: Change)
     ensures place { (state board.new.keeper.me.0).place ≡ (state board.old.keeper.me.0).place }
     ensures view { view_of (state board.new.keeper.me.0) member
         ≡ after_post slot change.entry [] (view_of (state board.old.keeper.me.0) member) }
-    ensures others { KeepsOthers (state board.old.keeper.me.0) (state board.new.keeper.me.0) member }
+    ensures others { KeepsOthers (state board.old.keeper.me.0) (state board.new.keeper.me.0)
+        member }
 {
     let mut seat = LocalSeat { board, member };
     post(&mut seat, slot, change);
@@ -90,7 +92,8 @@ fn gather_all<B: Board>(board: &mut B, buffer: BatchBuffer) -> Option<Batch>
     ensures seat { B.seat board.new ≡ B.seat board.old }
     ensures batch { IfSome result (IsBatchOf (B.seat board.old) (B.view board.new)) }
     ensures fits { IfSome result FitsFresh }
-    ensures unwritten { IfSome result (λ _. IsUnwritten (B.view board.old) → IsUnwritten (B.view board.new)) }
+    ensures unwritten { IfSome result
+        (λ _. IsUnwritten (B.view board.old) → IsUnwritten (B.view board.new)) }
 {
     let room = empty_room();
     let Ok(mut leader) = lead(board, buffer) else {
@@ -160,7 +163,10 @@ fn a_batch_of_64_changes_from_eight_members(rt: HostRuntime) -> Result<(), Fail>
     // own slots first, then member after member
     assert_eq!(rt; batch.name_at(0).map(|n| (n.key, n.version)), Some((0, 1)));
     assert_eq!(rt; batch.name_at(8).map(|n| (n.key, n.version)), Some((1, 1)));
-    assert_eq!(rt; batch.name_at(63).map(|n| (n.key, n.version)), Some((63, 1)));
+    assert_eq!(rt;
+        batch.name_at(63).map(|n| (n.key, n.version)),
+        Some((63, 1))
+    );
     assert!(rt; batch.name_at(64).is_none());
     if !write_at(&mut region, &mut log, &mut board, 0, batch) {
         assert!(rt; false);

@@ -130,10 +130,10 @@ module _ (s : State) (w b : Worker) (n : ℕ) (r : Request) (works : w.winds_dow
   none_since e = ap (since r (answers_of w)) (e ∙ sym (append-nil (answers_of w))) ∙ since_is r (answers_of w) []
 
   hand_then : b.in_hand ≡ w.in_hand → b.in_hand ≡ None
-  hand_then e = e ∙ T.hand works
+  hand_then e = e ∙ T.order.hand works
 
   waits_before : (k : ℕ) → (hands_of x.view w).waits k ≡ map asked_by (waiting w.queue k)
-  waits_before k = in_none w.in_hand k (waiting w.queue k) (T.hand works)
+  waits_before k = in_none w.in_hand k (waiting w.queue k) (T.order.hand works)
 
   waits_after : b.in_hand ≡ w.in_hand → (k : ℕ) → (hands_of x.view b).waits k ≡ map asked_by (waiting b.queue k)
   waits_after e k = in_none b.in_hand k (waiting b.queue k) (hand_then e)

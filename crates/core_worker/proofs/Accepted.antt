@@ -19,6 +19,9 @@ use Rattle.core_worker.specs.Supplies.{HasKeptRoom}
 use Rattle.core_worker.specs.Ties.{Tie, LeadsAt, LeadsNothing}
 use Rattle.core_worker.specs.Beginning.{HasFree, IsHeldAside, KeepsTies, ByEachView, OnlyBegins, Begins}
 use Rattle.core_worker.specs.Accepting.{IsAsBefore, Prepared, IsTied, StaysTied, AcceptsByEachView}
+use Rattle.core_worker.specs.Refusals.{HasAnswerRoom}
+use Rattle.core_worker.specs.Serving.{KeepsLine}
+use Rattle.core_worker.proofs.AcceptedOrder.{order_before, order_held, order_begun_now}
 use Rattle.core_worker.proofs.Beginnings.{aside_of, before_holds, held_holds, prepared_stands, begun_holds, begun_accepts}
 
 -- what room says
@@ -52,30 +55,31 @@ leads_nothing s w k x T e = nothing_led x w.leading T.holds.leads.seat T.holds.l
 
 -- after memory was taken for it
 pub prepared_tie : (s : State) (k : ℕ) (w u : Worker) → IsAsBefore w u → StaysTied s w u k
-prepared_tie s k w u B x T = record { holds = before_holds x.place x.number x.view w u B T.holds; stands = prepared_stands s x.place x.number x.view w u B.rest T.stands; own = T.own; hand = λ on. ap (λ (y : Worker). y.in_hand) B.rest ∙ T.hand (sym (ap (λ (y : Worker). y.winds_down) B.rest) ∙ on) }
+prepared_tie s k w u B x T = record { holds = before_holds x.place x.number x.view w u B T.holds; stands = prepared_stands s x.place x.number x.view w u B.rest T.stands; own = T.own; order = order_before x.place x.number x.view w u B T.holds T.order }
 
 pub tied_aside : (s : State) (w : Worker) (k : ℕ) (x : Tie) → IsTied s w k x → IsHeldAside w k x
 tied_aside s w k x T = record { holds = aside_of x.place x.number x.view w T.holds; own = T.own }
 
 -- after it was held
-pub held_tie : (s : State) (w u : Worker) (q : List Held) (n : ℕ) (r : Request) → IsAsBefore w u → room_at u.index (key_of r) ≡ room_at w.index (key_of r) + 1 → is_busy w.places.items (key_of r) ≡ true → AddsLast u.queue q (held_with n r) → StaysTied s w (record u { queue = q }) (key_of r)
-held_tie s w u q n r B more busy adds x T =
+pub held_tie : (s : State) (w u : Worker) (q : List Held) (n : ℕ) (r : Request) → IsAsBefore w u → room_at u.index (key_of r) ≡ room_at w.index (key_of r) + 1 → is_busy w.places.items (key_of r) ≡ true → AddsLast u.queue q (held_with n r) → HasAnswerRoom 73 u → w.winds_down ≡ false → length u.queue < 64 → StaysTied s w (record u { queue = q }) (key_of r)
+held_tie s w u q n r B more busy adds room works few x T =
     let S = prepared_stands s x.place x.number x.view w u B.rest T.stands in
     record {
       holds = held_holds x.place x.number x.view w u q (held_with n r) B more busy adds T.holds;
       stands = record { lies = S.lies; licensed = S.licensed; landed = S.landed; log = S.log; free = S.free; due = S.due; cut = S.cut };
       own = T.own;
-      hand = (prepared_tie s (key_of r) w u B x T).hand;
+      order = order_held x.place x.number x.view w u q B room (T.order.hand works) few adds.together T.holds T.order;
     }
 
 -- after it was begun
-pub begun_tie : {X Y : Type 0} (r : Result X Y) (s : State) (k : ℕ) (w u b : Worker) → IsAsBefore w u → u.winds_down ≡ false → OnlyBegins u b → OnOk r (KeepsTies u b k) → OnErr r (b ≡ u) → OnOk r ((j : ℕ) → is_busy u.places.items j ≡ true → is_busy b.places.items j ≡ true) → StaysTied s w b k
-begun_tie (Ok y) s k w u b B works rest keeps err busy x T =
+pub begun_tie : {X Y : Type 0} (r : Result X Y) (s : State) (k : ℕ) (w u b : Worker) → IsAsBefore w u → u.winds_down ≡ false → OnlyBegins u b → OnOk r (KeepsTies u b k) → OnErr r (b ≡ u) → OnOk r ((j : ℕ) → is_busy u.places.items j ≡ true → is_busy b.places.items j ≡ true) → OnOk r (KeepsLine u b k) → OnOk r ((n : ℕ) → HasAnswerRoom (n + 1) u → HasAnswerRoom n b) → HasAnswerRoom 73 u → length u.queue < 64 → StaysTied s w b k
+begun_tie (Ok y) s k w u b B works rest keeps err busy line less room few x T =
     let U = prepared_tie s k w u B x T in
     let K = keeps x (tied_aside s u k x U) in
     let done : Result (Unit {0}) (Unit {0}) = Ok tt in
-    record { holds = begun_holds done x.place x.number x.view u b U.holds works rest K.holds err busy; stands = K.stands s U.stands; own = T.own; hand = λ on. ap (λ (z : Worker). z.in_hand) rest ∙ U.hand (sym (ap (λ (z : Worker). z.winds_down) rest) ∙ on) }
-begun_tie (Err y) s k w u b B works rest keeps err busy x T = subst (λ (z : Worker). IsTied s z k x) (sym err) (prepared_tie s k w u B x T)
+    let holds = begun_holds done x.place x.number x.view u b U.holds works rest K.holds err busy in
+    record { holds = holds; stands = K.stands s U.stands; own = T.own; order = order_begun_now x.place x.number x.view w u b k B room (T.order.hand (sym (ap (λ (z : Worker). z.winds_down) B.rest) ∙ works)) few rest line less T.holds holds T.order }
+begun_tie (Err y) s k w u b B works rest keeps err busy line less room few x T = subst (λ (z : Worker). IsTied s z k x) (sym err) (prepared_tie s k w u B x T)
 
 pub accepts_begun : {X Y : Type 0} (r : Result X Y) (s : State) (w u b : Worker) (n k : ℕ) (q : Request) → k ≡ key_of q → IsAsBefore w u → Prepared w u k → is_busy u.places.items k ≡ false → OnlyBegins u b → OnOk r (ByEachView s u (key_of q) (λ v. Begins u b (v.cell (key_of q)) n q)) → OnOk r (AcceptsByEachView s w b n q)
 accepts_begun (Ok y) s w u b n k q same B P idle rest begins = λ x T telling.

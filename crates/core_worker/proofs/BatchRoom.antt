@@ -1,8 +1,7 @@
 -- The room rule after a batch is written.
-use Rattle.std.proofs.Common.{◌≡◌, ◌≢◌, ◌⊎◌, inl, inr, ⊎_elim, ℕ, ◌+◌, ◌-◌, ◌*◌, ◌/◌, ◌<◌, ◌≤◌, Bool, true, false, List, [], ◌∷◌, length, Option, Some, None, refl, sym, ◌∙◌, ap, subst, arith}
+use Rattle.std.proofs.Common.{◌≡◌, inl, inr, ⊎_elim, ℕ, ◌+◌, ◌-◌, ◌*◌, ◌/◌, ◌≤◌, Bool, true, false, List, [], ◌∷◌, length, Option, Some, None, refl, sym, ◌∙◌, ap, subst, arith}
 use Rattle.std.specs.Prelude.{is_some, unwrap_or}
 use Rattle.std.specs.List.{AllByRecursion}
-use Rattle.chunk_map.specs.declared.layouts.Geometry.{Geometry}
 use Rattle.chunk_map.specs.Layouts.{IsLayout, payload_lines, numbers}
 use Rattle.chunk_map.proofs.LayoutLaws.{numbers_of}
 use Rattle.log_entry.specs.declared.entry.Body.TheVariants as bodies
@@ -14,17 +13,13 @@ use Rattle.core_log.specs.Chunk.{lines_for, padded}
 use Rattle.core_log.specs.Log.{LogState, with_tail, open_number, open_tail, lines_left, room_of, tail_of}
 use Rattle.core_log.proofs.TailLaws.{tail_set}
 use Rattle.core_log.proofs.Padded.{length-padded}
-use Rattle.core_log.specs.declared.types.Room.{Room}
 use Rattle.lazy_alloc.specs.Sets.{Sets, chunk_is_free, free_chunk_count}
 use Rattle.group_laws.specs.Places as group
 use Rattle.group_laws.specs.MemberViews.{View}
-use Rattle.core_room.specs.declared.supply.Supply.{Supply}
-use Rattle.core_room.specs.RoomRule.{KeepsRoom, pledged}
 use Rattle.batch_leader.specs.Rounds.{space, left_free}
-use Rattle.batch_leader.specs.Leading.{IsKept, LeavesRoom, HasSpace}
+use Rattle.batch_leader.specs.Leading.{IsKept, HasSpace}
 use Rattle.batch_leader.specs.Persisting.{opened_for}
 use Rattle.core_worker.specs.declared.types.Cleaning.{Cleaning}
-use Rattle.core_worker.specs.declared.types.Cleaning.TheVariants.{Nothing}
 use Rattle.core_worker.specs.declared.types.Place.{Place}
 use Rattle.core_worker.specs.declared.types.Place.TheVariants.{Free, Staged, Posted}
 use Rattle.core_worker.specs.declared.worker.Worker.{Worker}
@@ -81,7 +76,7 @@ room_appended log ws j opened =
     let same : unwrap_or (tail_of log.chunks j) 0 ≡ tail = ap (λ (k : ℕ). unwrap_or (tail_of log.chunks k) 0) (sym n) in
     let after : room_of (appended_to log (padded ws)) ≡ payload_lines log.layout - unwrap_or (tail_of (with_tail log.chunks (open_number log) (tail + length (padded ws))) j) 0 / 8 = ap (lines_left (appended_to log (padded ws))) opened in
     let now : unwrap_or (tail_of (with_tail log.chunks (open_number log) (tail + length (padded ws))) j) 0 ≡ tail + length (padded ws) =
-        ap (λ (k : ℕ). unwrap_or (tail_of (with_tail log.chunks (open_number log) (tail + length (padded ws))) k) 0) (sym n) ∙ ap (λ o. unwrap_or o 0) (tail_set log.chunks (open_number log) (tail + length (padded ws))) in
+    ap (λ (k : ℕ). unwrap_or (tail_of (with_tail log.chunks (open_number log) (tail + length (padded ws))) k) 0) (sym n) ∙ ap (λ o. unwrap_or o 0) (tail_set log.chunks (open_number log) (tail + length (padded ws))) in
     let long = length-padded ws in
     omega (arith, before, same, after, now, long)
 

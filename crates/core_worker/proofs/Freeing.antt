@@ -113,12 +113,12 @@ module _ (p : Place) (m key slot : ℕ) (v u : View) (w x : Worker) (H : HoldsAs
   free_here k d has = ⊎_elim
       (λ same. let q = (F.gone (record { entry = d; slot = Some slot }) (ap u.pending (sym same) ∙ has)).0 in cc q)
       (λ ne. let before : v.pending k ≡ Some (record { entry = d; slot = Some slot }) = sym (F.pending k ne) ∙ has in ⊎_elim
-        (λ y. let is = subst (IsPlaced p m v y.0) y.4 (H.placed y.0 y.3) in
-          let two : Some slot ≡ Some y.0 = ap slot_of (sym before ∙ is.1) in
-          let at : slot ≡ y.0 = cc two in
-          ne (let both : Some k ≡ Some key = sym (ap key_in y.4) ∙ ap (λ (n : ℕ). key_in (place_at w.places.items n)) (sym at) ∙ was in cc both))
-        (λ y. let none = y.0 in cc none)
-        (H.pending k (record { entry = d; slot = Some slot }) before))
+      (λ y. let is = subst (IsPlaced p m v y.0) y.4 (H.placed y.0 y.3) in
+      let two : Some slot ≡ Some y.0 = ap slot_of (sym before ∙ is.1) in
+      let at : slot ≡ y.0 = cc two in
+      ne (let both : Some k ≡ Some key = sym (ap key_in y.4) ∙ ap (λ (n : ℕ). key_in (place_at w.places.items n)) (sym at) ∙ was in cc both))
+      (λ y. let none = y.0 in cc none)
+      (H.pending k (record { entry = d; slot = Some slot }) before))
       (cases_eq k key)
 
   offers_still : (k : ℕ) (b : Body) → k ≢ key → Offers v k b → Offers u k b
@@ -172,9 +172,9 @@ module _ (p : Place) (m key slot : ℕ) (v u : View) (w x : Worker) (H : HoldsAs
     pending = λ k q has. ⊎_elim
         (λ same. let g = F.gone q (ap u.pending (sym same) ∙ has) in inr (g.0, ap (is_busy x.places.items) same ∙ idle_now, g.1))
         (λ ne. ⊎_elim
-          (λ y. inl (y.0, y.1, y.2, y.3, F.places.others y.0 (λ at. ne (let both : Some k ≡ Some key = sym (ap key_in y.4) ∙ ap (λ (n : ℕ). key_in (place_at w.places.items n)) at ∙ was in cc both)) ∙ y.4))
-          (λ y. inr (y.0, idle_by k y.1, stopped_still y.2))
-          (H.pending k q (sym (F.pending k ne) ∙ has)))
+        (λ y. inl (y.0, y.1, y.2, y.3, F.places.others y.0 (λ at. ne (let both : Some k ≡ Some key = sym (ap key_in y.4) ∙ ap (λ (n : ℕ). key_in (place_at w.places.items n)) at ∙ was in cc both)) ∙ y.4))
+        (λ y. inr (y.0, idle_by k y.1, stopped_still y.2))
+        (H.pending k q (sym (F.pending k ne) ∙ has)))
         (cases_eq k key);
     admitted = λ k busy. let b = busy_was k busy in let a = H.admitted k b.1 in let r = F.room k b.0 in omega (arith, a, r);
     keys = λ k own which. ⊎_elim

@@ -141,8 +141,10 @@ module _ (p : Place) (m : ℕ) (v : View) (w : Worker) (H : HoldsAside p m v w) 
           (λ points. inr (subst (λ (o : Option Pending). PointsAt o q) (sym (here key refl)) (subst (λ (o : Option Pending). PointsAt o q) (ap v.pending same ∙ pends) points)))
           (O.single q d has);
       distinct = λ q points is. O.distinct key q (subst (λ (o : Option Pending). PointsAt o q) (sym pends) (subst (λ (o : Option Pending). PointsAt o q) (here key refl) points)) is;
-      next = λ q has. (ap (λ (y : Pending). y.entry.version) (pending_of q has) ∙ O.next key _ pends ∙ ap (λ (n : ℕ). n + 1) (sym (⊎_elim (λ x. absurd (let s = x.0.3 in let both : None ≡ Some doubt = sym s ∙ here key refl in cc both)) (λ same. same) (T.keeps key))),
-        subst (λ (y : Pending). HasSpelling y.entry) (sym (pending_of q has)) (O.spelled key _ pends));
+      next = λ q has. (
+        ap (λ (y : Pending). y.entry.version) (pending_of q has) ∙ O.next key _ pends ∙ ap (λ (n : ℕ). n + 1) (sym (⊎_elim (λ x. absurd (let s = x.0.3 in let both : None ≡ Some doubt = sym s ∙ here key refl in cc both)) (λ same. same) (T.keeps key))),
+        subst (λ (y : Pending). HasSpelling y.entry) (sym (pending_of q has)) (O.spelled key _ pends),
+      );
       answers = room_let_go w given slot key key_was (let eight = H.eight in omega (arith, eight, lt)) R refl refl room O.answers;
       hand = O.hand;
       stops = λ s. subst MayLeadStopped (sym nothing) tt;

@@ -15,7 +15,7 @@ pub record Hears (home : ℕ) (old new : List (ℕ × Place)) : Type 0 where
   pub changes : (k : ℕ) → option_map last_change (known_at new k) ≡ option_map last_change (known_at old k)
   pub dead : (k n : ℕ) → is_dead_by (known_at new k) n ≡ is_dead_by (known_at old k) n
   pub each : (k n : ℕ) → (standing_at (standing_of (known_at new k)) n ≡ standing_at (standing_of (known_at old k)) n)
-    ⊎ ((standing_at (standing_of (known_at old k)) n ≡ Some (standing_with n home false)) × (is_dead_by (known_at old k) n ≡ true) × (standing_at (standing_of (known_at new k)) n ≡ Some (standing_with n home true)))
+      ⊎ ((standing_at (standing_of (known_at old k)) n ≡ Some (standing_with n home false)) × (is_dead_by (known_at old k) n ≡ true) × (standing_at (standing_of (known_at new k)) n ≡ Some (standing_with n home true)))
   pub room : SameRoom old new
 
 pub hears_none : (home : ℕ) (es : List (ℕ × Place)) → Hears home es es
@@ -59,22 +59,23 @@ module _ (home : ℕ) (old mid new : List (ℕ × Place)) (name : EntryName) (h 
   was_there : (k n : ℕ) → k ≡ name.key → n ≡ name.version → (standing_at (standing_of (known_at mid k)) n ≡ Some (standing_with n home false)) × (is_dead_by (known_at mid k) n ≡ true)
   was_there k n e f =
       let w = t.waited in
-      let is : known_at mid k ≡ Some w.found = ap (known_at mid) e ∙ w.has in
-      (ap (λ (o : Option KeyRecord). standing_at (standing_of o) n) is ∙ ap (standing_at w.found.standing) f ∙ w.stands ∙ ap (λ (v : ℕ). Some (standing_with v home false)) (sym f),
-        ap (λ (o : Option KeyRecord). is_dead_by o n) is ∙ ap (is_dead w.found) f ∙ w.dead)
+      let is : known_at mid k ≡ Some w.found = ap (known_at mid) e ∙ w.has in (
+        ap (λ (o : Option KeyRecord). standing_at (standing_of o) n) is ∙ ap (standing_at w.found.standing) f ∙ w.stands ∙ ap (λ (v : ℕ). Some (standing_with v home false)) (sym f),
+        ap (λ (o : Option KeyRecord). is_dead_by o n) is ∙ ap (is_dead w.found) f ∙ w.dead,
+      )
 
   now_told : (k n : ℕ) → k ≡ name.key → Now k n (option_map (told_in name.version) (known_at mid k))
   now_told k n e = elim (cases_eq n name.version) [
     | inl f ↦
         let there = was_there k n e f in
         let here : standing_at (standing_of (option_map (told_in name.version) (known_at mid k))) n ≡ Some (standing_with n home true) =
-          ap (λ (ss : List Standing). standing_at ss n) (standing_told (known_at mid k) name.version)
-          ∙ ap (λ (v : ℕ). standing_at (told (standing_of (known_at mid k)) v) n) (sym f)
-          ∙ at_told (standing_of (known_at mid k)) n (standing_with n home false) there.0 in
+        ap (λ (ss : List Standing). standing_at ss n) (standing_told (known_at mid k) name.version)
+        ∙ ap (λ (v : ℕ). standing_at (told (standing_of (known_at mid k)) v) n) (sym f)
+        ∙ at_told (standing_of (known_at mid k)) n (standing_with n home false) there.0 in
         was_told home n (standing_at (standing_of (known_at old k)) n) (standing_at (standing_of (known_at mid k)) n) _ (is_dead_by (known_at old k) n) (h.each k n) there.0 (sym (h.dead k n) ∙ there.1) here
     | inr ne ↦
         let same : standing_at (standing_of (option_map (told_in name.version) (known_at mid k))) n ≡ standing_at (standing_of (known_at mid k)) n =
-          ap (λ (ss : List Standing). standing_at ss n) (standing_told (known_at mid k) name.version) ∙ at_told_other (standing_of (known_at mid k)) name.version n ne in
+        ap (λ (ss : List Standing). standing_at ss n) (standing_told (known_at mid k) name.version) ∙ at_told_other (standing_of (known_at mid k)) name.version n ne in
         subst (Was home (standing_at (standing_of (known_at old k)) n) (is_dead_by (known_at old k) n) n) (sym same) (h.each k n)
   ]
 
@@ -112,7 +113,7 @@ module _ (home : ℕ) (old new : List (ℕ × Place)) (h : Hears home old new) (
           absurd (no_wait k n (known_at new k) refl (now ∙ ap (λ (x : Standing). Some x) whose) (h.dead k n ∙ both.1))
 
   by_old : (k n : ℕ) (o : Option Standing) → standing_at (standing_of (known_at old k)) n ≡ o
-    → Was home o (is_dead_by (known_at old k) n) n (standing_at (standing_of (known_at new k)) n) → standing_at (standing_of (known_at new k)) n ≡ option_map (heard k n) o
+      → Was home o (is_dead_by (known_at old k) n) n (standing_at (standing_of (known_at new k)) n) → standing_at (standing_of (known_at new k)) n ≡ option_map (heard k n) o
   by_old k n None is (inl same) = same
   by_old k n None is (inr other) = absurd (let no = other.0 in cc no)
   by_old k n (Some s) is (inl same) = same ∙ ap (λ (x : Standing). Some x) (kept k n s is same)

@@ -20,6 +20,7 @@ mod QuietItems
 mod PostMoves
 mod SearchLaws
 mod TurnLaws
+mod Resting
 mod RefusalLaws
 mod Gains
 mod Pointers
@@ -27,9 +28,12 @@ mod Staging
 mod Finding
 mod Beginnings
 mod RoomKept
+mod AcceptedOrder
 mod Accepted
 mod Winding
 mod Waiters
+mod Unpledging
+mod BatchRoom
 pub mod Serving
 mod Heard
 pub mod Tidied
@@ -46,8 +50,6 @@ pub mod Withdrawing
 mod Unlocking
 mod Retracting
 mod Members
-mod Unpledging
-mod BatchRoom
 mod LeftSums
 mod LeftSteps
 mod LeftWorkers
@@ -68,3 +70,9 @@ mod RestingPlaces
 mod Rested
 mod ItemLaws
 mod LeftTurns
+mod StartKeys
+mod StartBlocks
+mod StartHeads
+mod Starting
+pub mod Clients
+mod Trials

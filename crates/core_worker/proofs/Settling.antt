@@ -294,7 +294,7 @@ module _ (p : Place) (m : ℕ) (v : View) (w : Worker) (H : HoldsAside p m v w) 
     left_used : (q : ℕ) (d : Block) → mid_view.blocks q ≡ Some d → block_is_used al q ≡ true
     left_used q d is = put_kept w.allocator al (block_of (known_at w.index key)) P q (H.blocks.held q d (blocks_was q d is)).used
         (λ old. let x = value_block v key q (known_at w.index key) (v.cell key) K.cell old in
-          O.distinct key q (pending_points q (blocks_new q d is (block_key v q key d x.0 (blocks_was q d is) x.1))) old)
+        O.distinct key q (pending_points q (blocks_new q d is (block_key v q key d x.0 (blocks_was q d is) x.1))) old)
 
     staged_used : (q : ℕ) (s : IsStagedBlock v w.places.items q) → block_is_used al q ≡ true
     staged_used q s = let y = H.blocks.staged q s in put_kept w.allocator al (block_of (known_at w.index key)) P q y.0.used
@@ -303,9 +303,9 @@ module _ (p : Place) (m : ℕ) (v : View) (w : Worker) (H : HoldsAside p m v w) 
     used_left : (q : ℕ) (d : Block) → v.blocks q ≡ Some d → block_is_used al q ≡ true → mid_view.blocks q ≡ Some d
     used_left q d is on = ⊎_elim
         (λ same. ⊎_elim
-          (λ old. absurd (put_gone w.allocator al (block_of (known_at w.index key)) P q (ap (λ (k : ℕ). block_of (known_at w.index k)) (sym same) ∙ old) on))
-          (λ points. own_pointed e.key e.body v.blocks q d is (points_pending q (subst (λ (k : ℕ). PointsAt (v.pending k) q) same points)))
-          (O.single q d is))
+        (λ old. absurd (put_gone w.allocator al (block_of (known_at w.index key)) P q (ap (λ (k : ℕ). block_of (known_at w.index k)) (sym same) ∙ old) on))
+        (λ points. own_pointed e.key e.body v.blocks q d is (points_pending q (subst (λ (k : ℕ). PointsAt (v.pending k) q) same points)))
+        (O.single q d is))
         (λ ne. blocks_other q d is ne)
         (cases_eq d.key key)
 
@@ -320,7 +320,7 @@ module _ (p : Place) (m : ℕ) (v : View) (w : Worker) (H : HoldsAside p m v w) 
       mid_spelled : (x : KeyRecord) → known_at mid k ≡ Some x → HasSpelling (record { key = k; version = x.version; body = x.body })
       mid_spelled x at = ⊎_elim
           (λ same. let eq : new_record ≡ x = (let both : Some new_record ≡ Some x = sym C.here ∙ ap (known_at mid) (sym same) ∙ at in cc both) in
-            subst (λ (y : KeyRecord). HasSpelling (record { key = k; version = y.version; body = y.body })) eq (subst (λ (i : ℕ). HasSpelling (record { key = i; version = e.version; body = e.body })) (mine ∙ sym same) (O.spelled key _ pends)))
+          subst (λ (y : KeyRecord). HasSpelling (record { key = k; version = y.version; body = y.body })) eq (subst (λ (i : ℕ). HasSpelling (record { key = i; version = e.version; body = e.body })) (mine ∙ sym same) (O.spelled key _ pends)))
           (λ ne. H.spelled k x (sym (C.others k ne) ∙ at))
           (cases_eq k key)
 
@@ -371,9 +371,9 @@ module _ (p : Place) (m : ℕ) (v : View) (w : Worker) (H : HoldsAside p m v w) 
       before : v.present k n ≡ None
       before = ⊎_elim
           (λ same. ⊎_elim
-            (λ at. absurd (let both : None ≡ Some home = sym none ∙ ap (mid_view.present k) at ∙ ap (λ (i : ℕ). mid_view.present i e.version) same ∙ present_here in cc both))
-            (λ off. ap (λ (i : ℕ). v.present i n) same ∙ sym (present_older n off) ∙ ap (λ (i : ℕ). mid_view.present i n) (sym same) ∙ none)
-            (cases_eq n e.version))
+          (λ at. absurd (let both : None ≡ Some home = sym none ∙ ap (mid_view.present k) at ∙ ap (λ (i : ℕ). mid_view.present i e.version) same ∙ present_here in cc both))
+          (λ off. ap (λ (i : ℕ). v.present i n) same ∙ sym (present_older n off) ∙ ap (λ (i : ℕ). mid_view.present i n) (sym same) ∙ none)
+          (cases_eq n e.version))
           (λ ne. sym (present_other k n ne) ∙ none)
           (cases_eq k key)
 
@@ -392,11 +392,11 @@ module _ (p : Place) (m : ℕ) (v : View) (w : Worker) (H : HoldsAside p m v w) 
       mid_low : (x : Standing) → standing_at (standing_of (known_at mid k)) n ≡ Some x → n ≤ last_of (known_at mid k)
       mid_low x at = ⊎_elim
           (λ same. let last_new : last_of (known_at mid k) ≡ e.version = ap (λ (i : ℕ). last_of (known_at mid i)) same ∙ ap last_of C.here in ⊎_elim
-            (λ eq. omega (arith, eq, last_new))
-            (λ off.
-              let there : standing_at (standing_of (known_at w.index key)) n ≡ Some x = sym (stands_old n off) ∙ ap (λ (o : Option KeyRecord). standing_at (standing_of o) n) (sym C.here) ∙ ap (λ (i : ℕ). standing_at (standing_of (known_at mid i)) n) (sym same) ∙ at in
-              let low = O.versions key n x there in let nx = next_here in omega (arith, low, nx, last_new))
-            (cases_eq n e.version))
+          (λ eq. omega (arith, eq, last_new))
+          (λ off.
+          let there : standing_at (standing_of (known_at w.index key)) n ≡ Some x = sym (stands_old n off) ∙ ap (λ (o : Option KeyRecord). standing_at (standing_of o) n) (sym C.here) ∙ ap (λ (i : ℕ). standing_at (standing_of (known_at mid i)) n) (sym same) ∙ at in
+          let low = O.versions key n x there in let nx = next_here in omega (arith, low, nx, last_new))
+          (cases_eq n e.version))
           (λ ne. let low = O.versions k n x (ap (λ (o : Option KeyRecord). standing_at (standing_of o) n) (sym (C.others k ne)) ∙ at) in let eq = ap last_of (C.others k ne) in omega (arith, low, eq))
           (cases_eq k key)
 

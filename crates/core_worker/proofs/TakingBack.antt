@@ -67,18 +67,18 @@ pub stood : (p : groups.Place) (m : ℕ) (v : View) (w : Worker) → Holds p m v
 unfolding slot_of entry_of
 stood p m v w H slot e pends = ⊎_elim
     (λ y.
-      let is = subst (IsPlaced p m v y.0) y.4 (H.placed y.0 y.3) in
-      let same : Some (record { entry = e; slot = Some slot }) ≡ Some (record { entry = is.0; slot = Some y.0 }) = sym pends ∙ is.1 in
-      let at : slot ≡ y.0 = (let two : Some slot ≡ Some y.0 = ap slot_of same in cc two) in
-      let entry : e ≡ is.0 = ap (entry_of e) same in
-      record {
-        number = y.1;
-        lines = y.2;
-        within = subst (λ (n : ℕ). n < 8) (sym at) y.3;
-        place = ap (place_at w.places.items) at ∙ y.4;
-        own = is.3;
-        offers = subst (λ (d : Entry). Offers v e.key d.body) (sym entry) is.4;
-      })
+    let is = subst (IsPlaced p m v y.0) y.4 (H.placed y.0 y.3) in
+    let same : Some (record { entry = e; slot = Some slot }) ≡ Some (record { entry = is.0; slot = Some y.0 }) = sym pends ∙ is.1 in
+    let at : slot ≡ y.0 = (let two : Some slot ≡ Some y.0 = ap slot_of same in cc two) in
+    let entry : e ≡ is.0 = ap (entry_of e) same in
+    record {
+      number = y.1;
+      lines = y.2;
+      within = subst (λ (n : ℕ). n < 8) (sym at) y.3;
+      place = ap (place_at w.places.items) at ∙ y.4;
+      own = is.3;
+      offers = subst (λ (d : Entry). Offers v e.key d.body) (sym entry) is.4;
+    })
     (λ y. absurd (let none = y.0 in cc none))
     (H.pending e.key _ pends)
 
@@ -168,7 +168,7 @@ settled_freed p m v u w mid x slot home e r H O N pends T S L =
     let old_places : mid.places ≡ w.places = ap (λ (z : Worker). z.places) S.rest in
     let R : Replaces w.places.items x.places.items slot Free = subst (λ (ps : Vec Place Global). Replaces ps.items x.places.items slot Free) old_places L.places in
     let room : (n : ℕ) → HasAnswerRoom (n + 1) w → HasAnswerRoom n (record w { index = mid.index; allocator = mid.allocator; places = x.places; answers = x.answers }) =
-        subst (λ (z : Worker). (n : ℕ) → HasAnswerRoom (n + 1) w → HasAnswerRoom n z) same (λ n had. L.room n (subst (λ (z : Worker). HasAnswerRoom (n + 1) z) (sym S.rest) had)) in
+    subst (λ (z : Worker). (n : ℕ) → HasAnswerRoom (n + 1) w → HasAnswerRoom n z) same (λ n had. L.room n (subst (λ (z : Worker). HasAnswerRoom (n + 1) z) (sym S.rest) had)) in
     let heard = subst (λ (c : ℕ). HearsAll c S.mid mid.index) H.core S.heard in
     let F = settles p m v w A O slot st.number e.key st.lines st.within st.place e refl st.own pends st.offers home T.0 T.1 T.2 T.3 S.mid mid.index mid.allocator S.settled_now S.used S.others heard S.sets S.block N.0 N.1 x.places x.answers R room in
     let G = settles_order p m v w A O slot st.number e.key st.lines st.within st.place e refl st.own pends st.offers home T.0 T.1 T.2 T.3 S.mid mid.index mid.allocator S.settled_now S.used S.others heard S.sets S.block N.0 N.1 x.places x.answers R room in

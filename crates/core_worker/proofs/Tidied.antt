@@ -62,9 +62,9 @@ dead_is p v k None K n t = absurd (cc t)
 dead_is p v k (Some r) K n t = ⊎_elim
     (λ lt. inl (let e = ltb-true n r.version lt in let l = K.last in omega (arith, e, l)))
     (λ both.
-      let a = and_parts (n == r.version) (is_tombstone r.body && stands_alone r.standing n) both in
-      let b = and_parts (is_tombstone r.body) (stands_alone r.standing n) a.1 in
-      inr (eqb-true n r.version a.0 ∙ sym K.last, left_none v k r.body b.0 K.cell, λ u h is. ⊎_elim (λ e. e) (λ ne. absurd (let s = present_of p 0 v k (Some r) K u h is in let none = alone_none r.standing n u ne b.1 in let clash : None ≡ Some s.0 = sym none ∙ s.1 in cc clash)) (cases_eq u n)))
+    let a = and_parts (n == r.version) (is_tombstone r.body && stands_alone r.standing n) both in
+    let b = and_parts (is_tombstone r.body) (stands_alone r.standing n) a.1 in
+    inr (eqb-true n r.version a.0 ∙ sym K.last, left_none v k r.body b.0 K.cell, λ u h is. ⊎_elim (λ e. e) (λ ne. absurd (let s = present_of p 0 v k (Some r) K u h is in let none = alone_none r.standing n u ne b.1 in let clash : None ≡ Some s.0 = sym none ∙ s.1 in cc clash)) (cases_eq u n)))
     (or_cases (nat_lt n r.version) ((n == r.version) && (is_tombstone r.body && stands_alone r.standing n)) t)
 
 or_by : (a b : Bool) → (a ≡ true) ⊎ (b ≡ true) → (a || b) ≡ true
@@ -77,8 +77,8 @@ dead_by p v k None K n s is d = absurd (cc is)
 dead_by p v k (Some r) K n s is d = or_by (nat_lt n r.version) ((n == r.version) && (is_tombstone r.body && stands_alone r.standing n)) (⊎_elim
     (λ lt. inl (lt-ltb n r.version (let l = K.last in omega (arith, lt, l))))
     (λ x. inr (and_from (n == r.version) (is_tombstone r.body && stands_alone r.standing n) (eq-eqb n r.version (x.0 ∙ K.last))
-      (and_from (is_tombstone r.body) (stands_alone r.standing n) (left_some v k r.body x.1 K.cell)
-      (alone_is r.standing n (λ u t at. (let h = stands_of p 0 v k (Some r) K u t at in x.2 u h.0 h.1))))))
+    (and_from (is_tombstone r.body) (stands_alone r.standing n) (left_some v k r.body x.1 K.cell)
+    (alone_is r.standing n (λ u t at. (let h = stands_of p 0 v k (Some r) K u t at in x.2 u h.0 h.1))))))
     d)
 
 -- a key whose record isn't to be forgotten isn't spent, but where nothing of it was ever finished
@@ -157,12 +157,12 @@ module _ (p : Place) (m : ℕ) (v : View) (last : ℕ → ℕ) (told dead : ℕ 
     by_test n s is false e = flag (told k n) s.told
         (λ was. tells n (inl (K.told n s is ∙ was)))
         (λ now. ⊎_elim (λ was. sym (K.told n s is) ∙ was)
-          (λ x. absurd (let st = present_of p m v k (known_at old k) K n m x.1 in
-            let same : s ≡ st.0 = (let both : Some s ≡ Some st.0 = sym is ∙ st.1 in cc both) in
-            let home : s.home ≡ core_of p m = ap (λ (y : Standing). y.home) same ∙ st.2 in
-            let yes = and_from (s.home == core_of p m) (is_dead_by (known_at old k) n) (eq-eqb s.home (core_of p m) home) (dead_by p v k (known_at old k) K n s is x.2) in
-            let clash : true ≡ false = sym yes ∙ e in cc clash))
-          ((T.tells k n).0 now))
+        (λ x. absurd (let st = present_of p m v k (known_at old k) K n m x.1 in
+        let same : s ≡ st.0 = (let both : Some s ≡ Some st.0 = sym is ∙ st.1 in cc both) in
+        let home : s.home ≡ core_of p m = ap (λ (y : Standing). y.home) same ∙ st.2 in
+        let yes = and_from (s.home == core_of p m) (is_dead_by (known_at old k) n) (eq-eqb s.home (core_of p m) home) (dead_by p v k (known_at old k) K n s is x.2) in
+        let clash : true ≡ false = sym yes ∙ e in cc clash))
+        ((T.tells k n).0 now))
 
     told_in : Standing → Bool
     told_in s = s.told

@@ -194,11 +194,11 @@ looks_slots : (w u : Group) (m : ℕ) (ss : List ℕ) → Runs w (looks_at m ss)
 looks_slots w u m [] r = ap (λ (x : Group). x.slot) r
 looks_slots w u m (n ∷ ss) r = looks_slots r.0 u m ss r.2 ∙ ap (λ (x : Group). x.slot) r.1.2
 
-abbrev kinds_of : List ℕ → ℕ → List Kind
+abbrev pub kinds_of : List ℕ → ℕ → List Kind
 kinds_of [] m = []
 kinds_of (n ∷ ss) m = Look m n ∷ kinds_of ss m
 
-kinds_made : (m : ℕ) (ss : List ℕ) (ks : List Kind) → looks_at m ss ++ map {B = ℕ × Kind} (λ y. (m, y)) ks ≡ map {B = ℕ × Kind} (λ y. (m, y)) (kinds_of ss m ++ ks)
+pub kinds_made : (m : ℕ) (ss : List ℕ) (ks : List Kind) → looks_at m ss ++ map {B = ℕ × Kind} (λ y. (m, y)) ks ≡ map {B = ℕ × Kind} (λ y. (m, y)) (kinds_of ss m ++ ks)
 kinds_made m [] ks = refl
 kinds_made m (n ∷ ss) ks = ap (λ xs. (m, Look m n) ∷ xs) (kinds_made m ss ks)
 

@@ -1,6 +1,6 @@
 -- The places of own entries that were committed pledge nothing any more: what this leaves of the ties, and what it takes off the lines that are pledged.
-use Rattle.std.proofs.Common.{◌≡◌, ◌≢◌, ◌⊎◌, inl, inr, ⊎_elim, ℕ, zero, suc, ◌+◌, ◌*◌, ◌<◌, ◌≤◌, ◌==◌, ◌&&◌, Bool, true, false, cond, List, [], ◌∷◌, length, Option, Some, None, refl, sym, ◌∙◌, ap, subst, arith}
-use Rattle.std.specs.Prelude.{is_some}
+use Rattle.std.proofs.Common.{◌≡◌, ◌≢◌, ◌⊎◌, inl, inr, ⊎_elim, ℕ, zero, suc, ◌+◌, ◌<◌, ◌≤◌, ◌==◌, ◌&&◌, Bool, true, false, cond, List, [], ◌∷◌, length, Option, Some, None, refl, sym, ◌∙◌, ap, subst, arith}
+use Rattle.std.specs.Prelude.{is_some, if◌then◌else◌}
 use Rattle.std.specs.List.{AllByRecursion}
 use Rattle.std.proofs.lemmas.Bool.{eqb-true, eq-eqb, ne_eqb, cases_eq, cases_lt, and_parts}
 use Rattle.std.specs.declared.vec.Vec.{Vec}
@@ -20,10 +20,12 @@ use Rattle.batch_leader.specs.Leading.{AreUnlogged}
 use Rattle.core_worker.specs.declared.types.Place.{Place}
 use Rattle.core_worker.specs.declared.types.Place.TheVariants.{Free, Staged, Posted}
 use Rattle.core_worker.specs.declared.worker.Worker.{Worker}
-use Rattle.core_worker.specs.OwnPlaces.{place_at, key_in, lines_in, own, is_of, is_busy, Replaces}
+use Rattle.core_worker.specs.OwnPlaces.{place_at, key_in, lines_in, own, is_free, is_of, is_busy, Replaces}
 use Rattle.core_worker.specs.KeyTies.{IsPlaced, IsStagedBlock}
 use Rattle.core_worker.specs.Ties.{Holds, HasSpaceFor, Stands}
-use Rattle.core_worker.specs.Turns.{unpledged, unpledged_if, UnpledgedAt}
+use Rattle.core_worker.specs.Order.{count_changes}
+use Rattle.core_worker.specs.WorkerMoves.{placed_in, placed_for}
+use Rattle.core_worker.specs.Turns.{unpledged, unpledged_if, UnpledgedAt, Unpledges}
 use Rattle.core_worker.proofs.RoomKept.{own_same, own_with}
 
 abbrev lines_of : Entry → ℕ
@@ -245,6 +247,54 @@ busy_same (x ∷ xs) (y ∷ ys) c h k =
     let first = h 0 in
     let rest = busy_same xs ys (omega (arith, c)) (λ t. h (suc t)) k in
     λ i. cond (is_of k (first i)) true (rest i)
+
+-- To others, a place is what it was.
+in_lowered : (v : View) (x y : Place) → IsLowered x y → placed_in v y ≡ placed_in v x
+in_lowered v x y (inl e) = ap (placed_in v) e
+in_lowered v x y (inr z) = ap (placed_in v) z.4 ∙ sym (ap (placed_in v) z.3)
+
+free_lowered : (x y : Place) → IsLowered x y → is_free y ≡ is_free x
+free_lowered x y (inl e) = ap is_free e
+free_lowered x y (inr z) = ap is_free z.4 ∙ sym (ap is_free z.3)
+
+for_lowered : (v : View) (xs ys : List Place) → length ys ≡ length xs → ((s : ℕ) → IsLowered (place_at xs s) (place_at ys s)) → (k : ℕ) → placed_for v ys k ≡ placed_for v xs k
+for_lowered v [] [] c h k = refl
+for_lowered v [] (y ∷ ys) c h k = absurd (cc c)
+for_lowered v (x ∷ xs) [] c h k = absurd (cc c)
+for_lowered v (x ∷ xs) (y ∷ ys) c h k =
+    let key = key_lowered x y (h 0) in
+    let here = in_lowered v x y (h 0) in
+    let rest = for_lowered v xs ys (omega (arith, c)) (λ t. h (suc t)) k in
+    λ i. cond (is_of k (key i)) (here i) (rest i)
+
+count_lowered : (xs ys : List Place) → length ys ≡ length xs → ((s : ℕ) → IsLowered (place_at xs s) (place_at ys s)) → count_changes ys ≡ count_changes xs
+count_lowered [] [] c h = refl
+count_lowered [] (y ∷ ys) c h = absurd (cc c)
+count_lowered (x ∷ xs) [] c h = absurd (cc c)
+count_lowered (x ∷ xs) (y ∷ ys) c h =
+    let free = free_lowered x y (h 0) in
+    let rest = count_lowered xs ys (omega (arith, c)) (λ t. h (suc t)) in
+    λ i. (if free i then 0 else 1) + rest i
+
+at_unpledged : (o : Option Entry) (x y : Place) → UnpledgedAt o x y → IsLowered x y
+at_unpledged None x y is = inl is
+at_unpledged (Some e) x y is = inr (is.0, e.key, lines_of e, is.1, is.2)
+
+module _ (m : ℕ) (ts : List Taken) (old new : Worker) (count : length new.places.items ≡ length old.places.items) (un : Unpledges m ts old new) where
+  each_unpledged : (s : ℕ) → IsLowered (place_at old.places.items s) (place_at new.places.items s)
+  each_unpledged s = at_unpledged (taken_in ts m s) (place_at old.places.items s) (place_at new.places.items s) (un s)
+
+  pub keys_unpledged : (s : ℕ) → key_in (place_at new.places.items s) ≡ key_in (place_at old.places.items s)
+  keys_unpledged s = key_lowered (place_at old.places.items s) (place_at new.places.items s) (each_unpledged s)
+
+  pub busy_unpledged : (k : ℕ) → is_busy new.places.items k ≡ is_busy old.places.items k
+  busy_unpledged k = busy_same old.places.items new.places.items count keys_unpledged k
+
+  pub placed_unpledged : (v : View) (k : ℕ) → placed_for v new.places.items k ≡ placed_for v old.places.items k
+  placed_unpledged v k = for_lowered v old.places.items new.places.items count each_unpledged k
+
+  pub changes_unpledged : count_changes new.places.items ≡ count_changes old.places.items
+  changes_unpledged = count_lowered old.places.items new.places.items count each_unpledged
 
 -- what a place is of a view, with nothing pledged of an entry that is certain
 placed_lowered : (p : group.Place) (m : ℕ) (v : View) (s : ℕ) (x y : Place) → ((e : Entry) (k lines : ℕ) (n : ℕ) → x ≡ Posted n k lines → y ≡ Posted n k 0 → v.pending k ≡ Some (record { entry = e; slot = Some s }) → (lines ≡ 0 → ⊥) → In e v.kept) → IsLowered x y → IsPlaced p m v s x → IsPlaced p m v s y

@@ -13,6 +13,7 @@ use Rattle.core_worker.specs.OwnPlaces.{is_busy}
 use Rattle.core_worker.specs.Refusals.{HasAnswerRoom}
 use Rattle.core_worker.specs.Beginning.{answers_of, OnlyBegins, Begins}
 use Rattle.core_worker.specs.Ties.{Tie, HoldsBy, StandsBy}
+use Rattle.core_worker.specs.Order.{InOrderBy}
 use Rattle.core_worker.specs.WorkerMoves.{Fixed, told, hands_of, WorkerMoves}
 
 -- nothing but the room for records and answers is another one
@@ -21,6 +22,7 @@ pub record IsAsBefore (old new : Worker) : Type 0 where
   pub answers : new.answers.items ≡ old.answers.items
   pub records : (k : ℕ) → known_at new.index k ≡ known_at old.index k
   pub room : (k : ℕ) → room_at old.index k ≤ room_at new.index k
+  pub answer_room : (n : ℕ) → HasAnswerRoom n old → HasAnswerRoom n new
 
 -- there is room for a record of the key more, and for the answers to all requests that can be unanswered
 pub record Prepared (old new : Worker) (k : ℕ) : Type 0 where
@@ -32,8 +34,7 @@ pub record IsTied (s : State) (w : Worker) (k : ℕ) (t : Tie) : Type 0 where
   pub holds : HoldsBy t w
   pub stands : StandsBy s t w
   pub own : owner t.place k ≡ t.number
-  -- nothing is in hand until the core winds down
-  pub hand : w.winds_down ≡ false → w.in_hand ≡ None
+  pub order : InOrderBy t w
 
 -- it is so somewhere
 abbrev pub HasTie : State → Worker → ℕ → Type 0

@@ -18,6 +18,8 @@ pub mod Left
 pub mod Resting
 pub mod Posting
 pub mod Status
+pub mod Openings
+pub mod Trials
 pub use Rattle.fs_model.specs.Cells
 pub use Rattle.core_log.specs.Chunk
 pub use Rattle.group_board.specs.Conditions

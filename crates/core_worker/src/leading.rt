@@ -102,7 +102,8 @@ fn unpledge(places: &mut Vec<Place>, done: &Persisted, own: u32)
     requires eight { length places.old.items ≡ 8 }
     ensures count { length places.new.items ≡ 8 }
     ensures each { (s : ℕ) → s < 8 → place_at places.new.items s
-        ≡ unpledged_if (is_some (taken_in done.now.left.taken.items own s)) (place_at places.old.items s) }
+        ≡ unpledged_if (is_some (taken_in done.now.left.taken.items own s))
+        (place_at places.old.items s) }
 {
     for slot in 0..8 {
         if done.has(own, slot) {

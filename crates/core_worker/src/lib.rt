@@ -8,6 +8,7 @@ mod finishing;
 mod gate;
 mod hearing;
 mod leading;
+mod opening;
 mod posting;
 mod refusing;
 mod releasing;
@@ -15,6 +16,8 @@ mod searching;
 mod status;
 mod stopping;
 mod supply;
+#[cfg(test)]
+mod tests;
 mod turning;
 mod types;
 mod worker;

@@ -12,8 +12,10 @@ ghost use Rattle.core_worker.specs.Supplies.{room_for, HasKeptRoom};
 ghost use Rattle.batch_leader.specs.Persisting.{StaysLicensed, WritesPart};
 ghost use Rattle.core_worker.specs.Posting.{PostsOrStops};
 ghost use Rattle.core_worker.specs.Ties.{HoldsAt, StandsAt, LeadsNothing};
-ghost use Rattle.core_worker.specs.Turns.{InOrderAt, PassesPost, PersistsOrLoses};
-ghost use Rattle.core_worker.specs.Turning.{HasBatch, KeepsTurn, TurnMoves, Did, Turned, TurnedTo, Tells, at_entry};
+ghost use Rattle.core_worker.specs.declared.searching.Search.TheVariants as founds;
+ghost use Rattle.core_worker.specs.Searching.{FoundStands};
+ghost use Rattle.core_worker.specs.Turns.{InOrderAt, LooksMade, PassesPost, PersistsOrLoses};
+ghost use Rattle.core_worker.specs.Turning.{HasBatch, KeepsTurn, TurnMoves, Did, Turned, TurnedTo, Tells, RestsIf, RestsTo, at_entry};
 ghost use Rattle.core_worker.specs.Left.{HasOffer, Lowers, Measures, MeasuresTurn, StartsFirst};
 ghost use Rattle.core_worker.specs.Resting.{AtRest, IfIdle, IfIdleTurn, TriedIf};
 
@@ -107,6 +109,11 @@ impl Worker {
             → Tells posted (B.seat board.old).number self.old v (B.view board.old)
             → Turned result s refused before (B.seat board.old) (at_entry self.old v)
             (at_entry self.new (B.view board.new)) }
+        ensures rests { (start : Option Group) → FoundStands (founds.Out posted) start
+            (B.whole board.old) (B.seat board.old).number self.old.places.items
+            → LooksMade start (B.whole board.old) (B.seat board.old).number (B.view board.old)
+            → RestsIf result start (B.whole board.new) (B.seat board.old).number
+            (B.view board.new) self.old.places.items }
         ensures less { (posted ≡ true → HasOffer (B.whole board.old) (B.seat board.old).number)
             → MeasuresTurn result (B.whole board.old) (B.whole board.new) self.old self.new }
         ensures starts { StartsFirst self.new }
@@ -144,6 +151,11 @@ impl Worker {
             → Tells posted (B.seat board.old).number self.old v (B.view board.old)
             → TurnedTo result (R.state region.old) (G.may_refuse gate.now) before
             (B.seat board.old) (at_entry self.old v) (at_entry self.new (B.view board.new)) }
+        ensures rests { (start : Option Group) → FoundStands (founds.Out posted) start
+            (B.whole board.old) (B.seat board.old).number self.old.places.items
+            → LooksMade start (B.whole board.old) (B.seat board.old).number (B.view board.old)
+            → RestsTo result start (B.whole board.new) (B.seat board.old).number
+            (B.view board.new) self.old.places.items }
         ensures memory { OnErr result (self.new.winds_down ≡ true) }
         ensures less { (posted ≡ true → HasOffer (B.whole board.old) (B.seat board.old).number)
             → Measures result (B.whole board.old) (B.whole board.new) self.old self.new }
@@ -191,11 +203,13 @@ impl Worker {
         ensures turned { TurnedTo result (R.state region.old) (G.may_refuse gate.now)
             (B.whole board.old) (B.seat board.old) (at_entry self.old (B.view board.old))
             (at_entry self.new (B.view board.new)) }
+        ensures rests { RestsTo result (B.whole board.old) (B.whole board.new)
+            (B.seat board.old).number (B.view board.new) self.old.places.items }
         ensures memory { OnErr result (self.new.winds_down ≡ true) }
         ensures less { Measures result (B.whole board.old) (B.whole board.new)
             self.old self.new }
         ensures starts { StartsFirst self.new }
-        ensures rests { IfIdle result (G.may_refuse gate.now ≡ false → self.old.winds_down ≡ false
+        ensures idles { IfIdle result (G.may_refuse gate.now ≡ false → self.old.winds_down ≡ false
             → AtRest (B.seat board.old) (B.whole board.old) (B.whole board.new)
             (B.view board.old) (B.view board.new) self.old self.new) }
     {
@@ -302,11 +316,13 @@ impl Worker {
         ensures turned { TurnedTo result (R.state region.old) (G.may_refuse gate.now)
             (B.whole board.old) (B.seat board.old) (at_entry self.old (B.view board.old))
             (at_entry self.new (B.view board.new)) }
+        ensures rests { RestsTo result (B.whole board.old) (B.whole board.new)
+            (B.seat board.old).number (B.view board.new) self.old.places.items }
         ensures memory { OnErr result (self.new.winds_down ≡ true) }
         ensures less { (self.old.stopped ≡ false → HasKeptRoom self.old) → StartsFirst self.old
             → Measures result (B.whole board.old) (B.whole board.new) self.old self.new }
         ensures starts { StartsFirst self.new }
-        ensures rests { IfIdle result (G.may_refuse gate.now ≡ false → self.old.winds_down ≡ false
+        ensures idles { IfIdle result (G.may_refuse gate.now ≡ false → self.old.winds_down ≡ false
             → AtRest (B.seat board.old) (B.whole board.old) (B.whole board.new)
             (B.view board.old) (B.view board.new) self.old self.new) }
     {
@@ -358,11 +374,13 @@ impl Worker {
         ensures turned { TurnedTo result (R.state region.old) (G.may_refuse gate.now)
             (B.whole board.old) (B.seat board.old) (at_entry self.old (B.view board.old))
             (at_entry self.new (B.view board.new)) }
+        ensures rests { RestsTo result (B.whole board.old) (B.whole board.new)
+            (B.seat board.old).number (B.view board.new) self.old.places.items }
         ensures memory { OnErr result (self.new.winds_down ≡ true) }
         ensures less { (self.old.stopped ≡ false → HasKeptRoom self.old) → StartsFirst self.old
             → Measures result (B.whole board.old) (B.whole board.new) self.old self.new }
         ensures starts { StartsFirst self.new }
-        ensures rests { IfIdle result (G.may_refuse gate.now ≡ false → self.old.winds_down ≡ false
+        ensures idles { IfIdle result (G.may_refuse gate.now ≡ false → self.old.winds_down ≡ false
             → AtRest (B.seat board.old) (B.whole board.old) (B.whole board.new)
             (B.view board.old) (B.view board.new) self.old self.new) }
     {

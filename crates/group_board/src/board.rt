@@ -108,7 +108,8 @@ pub trait Board {
         ensures spelled { HasSpelling result.entry }
         ensures words { (n : ℕ) → In (loads.Slot member slot (words.Posted n)) (view self.old).looked
             → length (words_of result.entry) ≡ n }
-        ensures unlogged { IsUnlogged (seat self.old).number member slot (view self.old) result.entry }
+        ensures unlogged { IsUnlogged (seat self.old).number member slot (view self.old)
+            result.entry }
         ensures view { view self.new ≡ after_take member slot result.entry (view self.old) }
         ensures stood { Stood (whole self.old) member slot (slots.Posted result.entry) }
         ensures whole { Makes (whole self.old) (seat self.old).number

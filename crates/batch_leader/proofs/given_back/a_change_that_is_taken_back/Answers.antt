@@ -1,4 +1,3 @@
-use Rattle.std.proofs.Common.{◌≡◌}
 use Rattle.group_board.specs.Journals.{state}
 use Rattle.batch_leader.proofs.Trials.{may_post}
 use Rattle.batch_leader.proofs.given_back.a_change_that_is_taken_back.Goals as goal

@@ -1,4 +1,4 @@
-use Rattle.std.proofs.Common.{◌≡◌, [], refl, ◌∙◌}
+use Rattle.std.proofs.Common.{[], refl, ◌∙◌}
 use Rattle.group_laws.specs.Runs.Kind.{Post, Lock, Unlock}
 use Rattle.batch_leader.specs.Leading.{took}
 use Rattle.batch_leader.proofs.OtherLaws.{others_one, others_round, others_then, number_of}

@@ -1,4 +1,4 @@
-use Rattle.std.proofs.Common.{◌≡◌, refl, ◌∙◌}
+use Rattle.std.proofs.Common.{refl}
 use Rattle.group_laws.specs.Runs.Kind.{Commit}
 use Rattle.batch_leader.proofs.OtherLaws.{others_one, others_marked, others_then, number_of}
 use Rattle.batch_leader.proofs.tests.write_back.Goals as goal

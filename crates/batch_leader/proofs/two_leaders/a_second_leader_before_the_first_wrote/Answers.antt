@@ -1,4 +1,3 @@
-use Rattle.std.proofs.Common.{◌≡◌, refl, arith}
 use Rattle.batch_leader.proofs.two_leaders.a_second_leader_before_the_first_wrote.Goals as goal
 
 pub both_write-requires-clause-region : goal.both_write-requires-clause-region

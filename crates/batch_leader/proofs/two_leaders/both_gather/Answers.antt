@@ -1,4 +1,4 @@
-use Rattle.std.proofs.Common.{◌≡◌, refl, arith}
+use Rattle.std.proofs.Common.{arith}
 use Rattle.group_board.specs.Journals.{state}
 use Rattle.batch_leader.proofs.LeaderTrials.{owner_0, owner_1, other_than, first_gather, next_gather, have_batches}
 use Rattle.batch_leader.proofs.two_leaders.both_gather.Goals as goal

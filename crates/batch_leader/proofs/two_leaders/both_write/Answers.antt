@@ -1,4 +1,3 @@
-use Rattle.std.proofs.Common.{◌≡◌, refl, arith}
 use Rattle.pm_region.specs.Steady.{steady_state}
 use Rattle.group_board.specs.Journals.{state}
 use Rattle.batch_leader.proofs.LeaderTrials.{one_may_write, zero_may_write, three_members}

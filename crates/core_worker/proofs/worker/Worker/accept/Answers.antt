@@ -19,7 +19,7 @@ returns-in-Ok-clause-ties g c =
     held_tie (g.R.Region.state c.args.region.now) c.args.self.now c.prepare.new.self c.hold.new.self c.args.number c.args.request B
     (subst (λ (k : ℕ). room_at c.prepare.new.self.index k ≡ room_at c.args.self.now.index k + 1) c.key_of-key.ensures P.record_room)
     (ap (λ (y : Worker). is_busy y.places.items (key_of c.args.request)) (sym B.rest) ∙ ap (is_busy c.prepare.new.self.places.items) (sym c.key_of-key.ensures) ∙ sym c.is_busy.ensures ∙ c.if-is_busy.true)
-    c.in-Ok.ensures.added
+    c.in-Ok.ensures.added P.answers c.requires.works (room_node c.args.self.now c.prepare.new.self B c.requires.room)
 
 pub returns-in-Ok-clause-accepts : goal.returns-in-Ok-clause-accepts
 returns-in-Ok-clause-accepts g c x T telling =
@@ -50,6 +50,7 @@ begin-requires-clause-place g c = room_place c.args.self.now c.prepare.new.self 
 pub returns-clause-ties : goal.returns-clause-ties
 returns-clause-ties g c = begun_tie c.begin.result (g.R.Region.state c.args.region.now) (key_of c.args.request) c.args.self.now c.prepare.new.self c.begin.new.self c.prepare.ensures.before
     (ap (λ (x : Worker). x.winds_down) c.prepare.ensures.before.rest ∙ c.requires.works) c.begin.ensures.rest c.begin.ensures.keeps c.begin.ensures.unchanged c.begin.ensures.busy
+    c.begin.ensures.line c.begin.ensures.room (c.prepare.ensures.ready c.if-not-prepare.false).answers (room_node c.args.self.now c.prepare.new.self c.prepare.ensures.before c.requires.room)
 
 pub returns-clause-accepts : goal.returns-clause-accepts
 returns-clause-accepts g c = accepts_begun c.begin.result (g.R.Region.state c.args.region.now) c.args.self.now c.prepare.new.self c.begin.new.self c.args.number c.key_of-key.result c.args.request c.key_of-key.ensures c.prepare.ensures.before (c.prepare.ensures.ready c.if-not-prepare.false) (sym c.is_busy.ensures ∙ c.if-is_busy.false) c.begin.ensures.rest c.begin.ensures.begins

@@ -1,6 +1,5 @@
 -- The change is out of its place, and then what waits of its key is begun.
 use Rattle.core_worker.proofs.DropServed.{sight_serves, drops_slot}
-use Rattle.core_worker.proofs.StopMoves.{drop_moves}
 use Rattle.core_worker.proofs.LeftBacks.{drop_less}
 use Rattle.std.proofs.Common.{arith}
 use Rattle.core_worker.proofs.worker.Worker.drop_staged.Goals as goal

@@ -1,5 +1,5 @@
 -- Where no own slot is Posted, the lock is given back.
-use Rattle.std.proofs.Common.{refl, sym, ◌∙◌, ap, subst}
+use Rattle.std.proofs.Common.{refl, sym, subst}
 use Rattle.group_board.specs.Seats.{SeatAt}
 use Rattle.group_board.specs.Told.{Makes}
 use Rattle.group_laws.specs.Runs as runs

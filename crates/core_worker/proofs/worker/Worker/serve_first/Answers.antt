@@ -16,8 +16,9 @@ returns-in_default g c = record {
   seat = c.serve_batch.ensures.seat;
   keeps = c.serve_batch.ensures.keeps;
   turned = c.serve_batch.ensures.did (g.G.Gate.may_refuse c.args.gate.now);
+  rests = tt;
   memory = tt;
   less = λ rule starts. c.serve_batch.ensures.less;
   starts = c.serve_batch.ensures.starts;
-  rests = tt;
+  idles = tt;
 }

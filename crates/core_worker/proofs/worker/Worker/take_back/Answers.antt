@@ -1,8 +1,7 @@
 -- The change is out of its place, and then what waits of its key is begun.
-use Rattle.std.proofs.Common.{◌≡◌, true, sym, ◌∙◌, ap}
+use Rattle.std.proofs.Common.{sym, ◌∙◌, ap}
 use Rattle.core_worker.specs.declared.worker.Worker.{Worker}
 use Rattle.core_worker.proofs.Served.{to_serve, finishes_slot}
-use Rattle.core_worker.proofs.FinishMoves.{finish_moves}
 use Rattle.core_worker.proofs.LeftBacks.{finishes_lower, takes_back_low}
 use Rattle.std.proofs.Common.{arith}
 use Rattle.core_worker.proofs.worker.Worker.take_back.Goals as goal

@@ -59,9 +59,9 @@ returns-in-Ok-clause-holds g c =
     let takes = subst (λ (f : Bool). TakesFor f w.allocator c.chunk_for-fresh.new.allocator c.chunk_for-fresh.result) c.needs_chunk.ensures c.chunk_for-fresh.ensures.takes in
     let own : c.member-own.result ≡ m = c.member-own.ensures ∙ ap (λ (x : SeatAt). x.number) c.persist.ensures.seat in
     let wrote = holds_wrote p m v u w c.chunk_for-fresh.new.allocator c.persist.new.log (leads.Persisted c.in-Ok.done) w.stopped (v.kept ++ v.flying) [] v.taken v.holds [] v.took view (λ x i. In-append_left x v.kept v.flying i) H
-        (takes_same b.fresh w.allocator c.chunk_for-fresh.new.allocator c.chunk_for-fresh.result takes) c.chunk_for-fresh.ensures.sets c.in-Ok.ensures.log.layout c.in-Ok.ensures.log.part
-        (leads_of seat u (leads.Persisted c.in-Ok.done) (gives.1, ap (λ (x : View). x.holds) view ∙ had.1, (λ whole. ap (λ (x : View). x.flying) view), (λ none. b.some (sym gives.0 ∙ none))))
-        tt (λ broken. absurd (let both : true ≡ false = sym broken ∙ ap (λ (x : View). x.broken) view ∙ had.0.whole in cc both)) (λ lost. absurd (cc lost)) (λ runs. runs) (λ stopped. stopped) in
+    (takes_same b.fresh w.allocator c.chunk_for-fresh.new.allocator c.chunk_for-fresh.result takes) c.chunk_for-fresh.ensures.sets c.in-Ok.ensures.log.layout c.in-Ok.ensures.log.part
+    (leads_of seat u (leads.Persisted c.in-Ok.done) (gives.1, ap (λ (x : View). x.holds) view ∙ had.1, (λ whole. ap (λ (x : View). x.flying) view), (λ none. b.some (sym gives.0 ∙ none))))
+    tt (λ broken. absurd (let both : true ≡ false = sym broken ∙ ap (λ (x : View). x.broken) view ∙ had.0.whole in cc both)) (λ lost. absurd (cc lost)) (λ runs. runs) (λ stopped. stopped) in
     holds_lowered p m u (record w { log = c.persist.new.log; allocator = c.chunk_for-fresh.new.allocator; leading = leads.Persisted c.in-Ok.done; stopped = w.stopped }) wrote c.unpledge.new.places c.unpledge.ensures.count (λ s. is_some (taken_in ts m s))
     (λ s lt. c.unpledge.ensures.each s lt ∙ (λ i. unpledged_if (is_some (taken_in (gives.0 i) (own i) s)) (place_at w.places.items s)))
     (certain_own p m v u w H ts had.0.unlogged (subst (λ (rs : List Taken). AllByRecursion (λ t. In t.change.entry u.kept) rs) gives.0 gives.1.kept) (ap (λ (x : View). x.pending) view)) (λ runs. tt)

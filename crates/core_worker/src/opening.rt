@@ -1,0 +1,90 @@
+// What a worker begins with.
+ghost use Rattle.std.specs.Prelude.{◌≡◌, ℕ, length, IfOk};
+ghost use Rattle.pm_region.specs.State.{State};
+ghost use Rattle.core_worker.specs.declared.types.Place.TheVariants as kinds;
+ghost use Rattle.core_worker.specs.OwnPlaces.{place_at};
+ghost use Rattle.core_worker.specs.Supplies.{HasKeptRoom};
+ghost use Rattle.core_worker.specs.Ties.{Holds, Stands};
+ghost use Rattle.core_worker.specs.Order.{InOrder};
+ghost use Rattle.core_worker.specs.Openings.{IsNew, IsCertainAt, ByEachImage, opened_view};
+
+use crate::hearing::hear_own;
+use crate::types::{Cleaning, Leading, Place};
+use crate::worker::Worker;
+use batch_leader::BatchBuffer;
+use chunk_map::Layout;
+use conflict_queue::ConflictQueue;
+use fs_errors::Memory;
+use recover::CoreStart;
+use std::alloc::Global;
+use std::collections::VecDeque;
+
+// How many places a worker has: one for each slot of its core.
+const PLACES: u32 = 8;
+
+fn free_places(alloc: Global) -> Result<Vec<Place>, Memory>
+    ensures eight { IfOk result (λ places. length places.items ≡ 8) }
+    ensures free { IfOk result (λ places. (s : ℕ) → place_at places.items s ≡ kinds.Free) }
+{
+    let mut places = Vec::new(alloc);
+    for _ in 0..PLACES {
+        places.push(Place::Free)?;
+    }
+    Ok(places)
+}
+
+impl Worker {
+    // A worker that has accepted nothing.
+    fn new(alloc: Global, start: CoreStart, layout: Layout) -> Result<Worker, Memory>
+        ensures { IfOk result (IsNew start layout) }
+    {
+        let CoreStart {
+            core,
+            log,
+            allocator,
+            mut index,
+            ..
+        } = start;
+        hear_own(&mut index, core);
+        let queue = ConflictQueue::open(alloc)?;
+        let places = free_places(alloc)?;
+        let buffer = BatchBuffer::open(alloc)?;
+        Ok(Worker {
+            layout,
+            core,
+            log,
+            allocator,
+            index,
+            queue,
+            in_hand: None,
+            places,
+            leading: Leading::Nothing(buffer),
+            cleaning: Cleaning::Nothing,
+            answers: VecDeque::new(alloc),
+            stopped: false,
+            winds_down: false,
+            accepted: false,
+        })
+    }
+
+    /// The worker of a core that recovery found so, in the region's layout. It has the core's log, free room and keys,
+    /// no request is accepted, and nothing is led. The dead entries of its own keys in its own log are told, as the
+    /// board of its group has them when it is opened; those that stand in other logs are not.
+    pub fn open(alloc: Global, start: CoreStart, layout: Layout) -> Result<Worker, Memory>
+        // Whatever the region tells.
+        ensures new { IfOk result (IsNew start layout) }
+        ensures rule { IfOk result HasKeptRoom }
+        // By the view of the member on whose image the group is opened.
+        ensures holds { IfOk result (λ w. ByEachImage start layout (λ p m image.
+            Holds p m (opened_view p m image) w)) }
+        ensures order { IfOk result (λ w. ByEachImage start layout (λ p m image.
+            InOrder p m (opened_view p m image) w)) }
+        // And by each region whose part has the image's words.
+        ensures stands { IfOk result (λ w. ByEachImage start layout (λ p m image.
+            (s : State) → IsCertainAt s p m image start
+            → Stands s p m (opened_view p m image) w)) }
+    {
+        let worker = Worker::new(alloc, start, layout)?;
+        Ok(worker)
+    }
+}

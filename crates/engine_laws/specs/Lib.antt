@@ -1,0 +1,15 @@
+pub mod Parts
+pub mod WorkerMoves
+pub mod Beginning
+pub mod Engine
+pub mod Moves
+pub mod Keys
+pub mod Stands
+pub mod Reports
+pub mod Ran
+pub mod Idle
+pub mod Promises
+pub mod Workers
+pub mod Advance
+pub mod KeyLaw
+pub mod Exits

@@ -1,0 +1,4 @@
+//! What several cores on one region keep, whatever calls they make and in whatever order.
+#![tactic(auto)]
+
+pub mod laws;

@@ -1,0 +1,83 @@
+-- A turn, or a request taken in, is a step of the engine.
+use Rattle.std.proofs.Common.{rules, ◌≡◌, ℕ, List, [], ◌∷◌, ◌++◌, take, Bool, true, false, not, Some, refl, sym, ap, subst, ◌∙◌, ◌+◌, ◌*◌, ◌<◌, ◌≤◌, length, IfOk, OnErr, OnOk, Result, Ok, Err, arith}
+use Rattle.fs_errors.specs.declared.Memory.{Memory}
+use Rattle.fs_model.specs.declared.model.Request.{Request}
+use Rattle.pm_region.specs.State.{State}
+use Rattle.group_laws.specs.Places.{Place}
+use Rattle.group_laws.specs.State.{Group}
+use Rattle.group_laws.specs.MemberViews.{View}
+use Rattle.engine_laws.specs.WorkerMoves.{Hands}
+use Rattle.group_engine.specs.declared.types.Answer.{Answer}
+use Rattle.group_engine.specs.Calls.{AreOwn, Accepts, Turns, Steps, is_idle, is_open, next_of}
+
+module _ {W : Type 0} (hands : View → W → Hands) (answers : W → List Answer) (stands : Place → ℕ → State → View → W → Type 0) (fair : Group → ℕ → W → Type 0) (room leads : W → Bool) (p : Place) (m : ℕ) where
+  of_turn : (s t : State) (a b : Group) (v u : View) (w x : W) (queue : List (ℕ × Request)) (idle : Bool) → (is_open room leads w ≡ true → queue ≡ [])
+      → Turns hands answers stands fair room leads p m s t (Some a) (Some b) v u w x idle → Steps hands answers stands fair p m s t a b v u w x queue [] queue idle
+  of_turn s t a b v u w x queue idle left T = record {
+    fixed = T.fixed;
+    split = refl;
+    adds = T.adds;
+    moves = T.moves;
+    tied = T.tied;
+    fairly = T.fairly;
+    loads = T.loads;
+    same = T.same;
+    rests = T.rests;
+    empty = λ on. (refl, λ none. left (T.open_for on none));
+  }
+
+  of_accept : (s : State) (a : Group) (v : View) (w x : W) (queue accepted rest : List (ℕ × Request)) → queue ≡ accepted ++ rest → fair a m w → stands p m s v w → AreOwn p m accepted
+      → Accepts hands answers stands fair s w x accepted → Steps hands answers stands fair p m s s a a v v w x queue accepted rest false
+  of_accept s a v w x queue accepted rest split fairly tied own A = record {
+    fixed = A.fixed;
+    split = split;
+    adds = A.adds;
+    moves = A.moves p m v (Some a) tied own;
+    tied = A.tied p m v tied own;
+    fairly = A.fairly a m fairly;
+    loads = λ q. absurd (cc q);
+    same = λ q. absurd (cc q);
+    rests = λ q. absurd (cc q);
+    empty = λ q. absurd (cc q);
+  }
+
+  -- what a step says, by its outcome
+  abbrev Stepped : State → State → Group → Group → View → View → W → W → List (ℕ × Request) → List (ℕ × Request) → Result Bool Memory → Type 0
+  Stepped s t a b v u w x queue now r =
+      (accepted : List (ℕ × Request)) × (rest : List (ℕ × Request)) × Steps hands answers stands fair p m s t a b v u w x queue accepted rest (is_idle r)
+      × OnOk r ((now ≡ rest) × (accepted ≡ next_of (is_open room leads w) queue))
+
+  pub taken_in : (s : State) (a : Group) (v : View) (w x : W) (queue popped : List (ℕ × Request)) (y : ℕ × Request) (r : Result Bool Memory) → queue ≡ y ∷ popped → is_open room leads w ≡ true → fair a m w → stands p m s v w → AreOwn p m queue
+      → IfOk r (λ b. (b ≡ true) × Accepts hands answers stands fair s w x (y ∷ [])) → OnErr r (Accepts hands answers stands fair s w x []) → Stepped s s a a v v w x queue popped r
+  taken_in s a v w x queue popped y (Ok b) split ready fairly tied own ok err = (
+    y ∷ [],
+    popped,
+    subst (λ i. Steps hands answers stands fair p m s s a a v v w x queue (y ∷ []) popped i) (ap not (sym ok.0)) (of_accept s a v w x queue (y ∷ []) popped split fairly tied ((subst (AreOwn p m) split own).0, tt) ok.1),
+    (refl, sym (ap (λ c. next_of c queue) ready ∙ ap (take 1) split)),
+  )
+  taken_in s a v w x queue popped y (Err e) split ready fairly tied own ok err = ([], queue, of_accept s a v w x queue [] queue refl fairly tied tt err, tt)
+
+  pub turned : (s t : State) (a b : Group) (v u : View) (w x : W) (queue now : List (ℕ × Request)) (r : Result Bool Memory) → now ≡ queue → (is_open room leads w ≡ true → queue ≡ [])
+      → Turns hands answers stands fair room leads p m s t (Some a) (Some b) v u w x (is_idle r) → Stepped s t a b v u w x queue now r
+  turned s t a b v u w x queue now (Ok y) same left T = ([], queue, of_turn s t a b v u w x queue (not y) left T, (same, none (is_open room leads w) left)) where
+    none : (c : Bool) → (c ≡ true → queue ≡ []) → [] ≡ next_of c queue
+    none true h = sym (ap (take 1) (h refl))
+    none false h = refl
+  turned s t a b v u w x queue now (Err e) same left T = ([], queue, of_turn s t a b v u w x queue false left T, tt)
+
+-- A request that is taken in counts more in the backlog than in the worker.
+less_in : (queue popped : List (ℕ × Request)) (y : ℕ × Request) (old new under most : ℕ) → queue ≡ y ∷ popped → new ≤ old + most → new + under + (most + 1) * length popped < old + under + (most + 1) * length queue
+less_in queue popped y old new under most split le =
+    let n : length queue ≡ length popped + 1 = ap length split ∙ (omega arith) in
+    let grown : (most + 1) * length queue ≡ (most + 1) * length popped + (most + 1) = ap (λ k. (most + 1) * k) n ∙ (nonlinear (most + 1) (length popped)) in
+    omega (arith, le, grown) where
+      nonlinear : (a b : ℕ) → a * (b + 1) ≡ a * b + a
+      nonlinear a b = search rules
+
+pub less_taken : (queue popped : List (ℕ × Request)) (y : ℕ × Request) (old new under most : ℕ) (r : Result Bool Memory) → queue ≡ y ∷ popped → OnOk r (new ≤ old + most) → IfOk r (λ b. b ≡ true → new + under + (most + 1) * length popped < old + under + (most + 1) * length queue)
+less_taken queue popped y old new under most (Ok b) split le = λ q. less_in queue popped y old new under most split le
+less_taken queue popped y old new under most (Err e) split le = tt
+
+pub none_left : {X : Type 0} (xs : List X) → length xs ≡ 0 → xs ≡ []
+none_left [] e = refl
+none_left (x ∷ xs) e = absurd (omega (arith, e))

@@ -1,0 +1,37 @@
+use Rattle.std.proofs.Common.{rules, ◌≡◌, ◌%◌, ◌<◌, ap, length, arith}
+use Rattle.chunk_map.specs.Layouts.{owner}
+use Rattle.chunk_map.proofs.LayoutLaws.{numbers_of}
+use Rattle.group_engine.proofs.Kept.{ok_then}
+use Rattle.group_engine.proofs.Giving.{layout_is, gave_at}
+use Rattle.group_engine.proofs.engine.EngineCores.give.Goals as goal
+
+pub nonzero_rem-owner : goal.nonzero_rem-owner
+nonzero_rem-owner g c =
+    let W = g.W.CoreWorker in
+    let en = c.args.self.now in
+    let h = c.requires.2 in
+    let n = (numbers_of en.layout (layout_is W.hands W.answers W.stands W.fair W.room W.leads (λ q. q.items) h.0 c.requires.1 h.1 c.requires.0 en.layout en.workers.items en.boards.items en.backlogs.items en.answers.items h.2)).cores_low in
+    omega (arith, n)
+
+pub index_mut-requires : goal.index_mut-requires
+index_mut-requires g c =
+    let W = g.W.CoreWorker in
+    let en = c.args.self.now in
+    let h = c.requires.2 in
+    let n = (numbers_of en.layout (layout_is W.hands W.answers W.stands W.fair W.room W.leads (λ q. q.items) h.0 c.requires.1 h.1 c.requires.0 en.layout en.workers.items en.boards.items en.backlogs.items en.answers.items h.2)).cores_low in
+    let k = h.2.backlog_count in
+    let low : c.key_in.result % en.layout.cores < length en.backlogs.items = omega (arith, n, k) in
+    search rules
+
+pub returns-clause-gave : goal.returns-clause-gave
+returns-clause-gave g c =
+    let W = g.W.CoreWorker in
+    let en = c.args.self.now in
+    let number_is : c.len-number.result ≡ length en.answers.items = (let z = c.len-number.ensures in search rules) in
+    let r = c.requires.2 in
+    let n = (numbers_of en.layout (layout_is W.hands W.answers W.stands W.fair W.room W.leads (λ q. q.items) r.0 c.requires.1 r.1 c.requires.0 en.layout en.workers.items en.boards.items en.backlogs.items en.answers.items r.2)).cores_low in
+    let k = r.2.backlog_count in
+    let low : c.key_in.result % en.layout.cores < length en.backlogs.items = omega (arith, n, k) in
+    ok_then c.append.result (λ back s e h.
+    gave_at W.hands W.answers W.stands W.fair W.room W.leads (λ q. q.items) h.0 e h.1 s en.layout en.workers.items en.boards.items en.backlogs.items en.answers.items h.2 c.args.request c.index_mut.result.now c.append.new.backlog c.len-number.result
+    (c.key_in.result % en.layout.cores) (ap (λ m. owner en.layout m) c.key_in.ensures) low number_is c.index_mut.ensures.value back c.push.new.self.items c.in_ok-push.ensures.items) c.append.ensures

@@ -1,0 +1,88 @@
+-- What a worker says of one call, by whatever it holds, answers and stands on.
+use Rattle.std.specs.Prelude.{◌≡◌, ◌⊎◌, ℕ, ◌≤◌, ◌<◌, List, [], ◌++◌, map, Bool, true, false, not, ◌&&◌, Option, Some, None, IfSome, IsSomeAnd, Result, Ok, Err, take, if◌then◌else◌}
+use Rattle.std.specs.List.{AllByRecursion}
+use Rattle.fs_model.specs.declared.model.Request.{Request}
+use Rattle.fs_model.specs.Cells.{key_of}
+use Rattle.fs_errors.specs.declared.Memory.{Memory}
+use Rattle.pm_region.specs.State.{State, IsTelling}
+use Rattle.pm_region.specs.Cell.{Cell}
+use Rattle.pm_region.specs.Words.{Kept}
+use Rattle.log_entry.specs.declared.entry.Entry.{Entry}
+use Rattle.group_laws.specs.declared.types.Pending.{Pending}
+use Rattle.group_laws.specs.declared.types.Slot.TheVariants.{Posted, Taken}
+use Rattle.group_laws.specs.Places.{Place, owner}
+use Rattle.group_laws.specs.State.{Group}
+use Rattle.group_laws.specs.MemberViews.{View}
+use Rattle.group_laws.specs.Runs.{Kind}
+use Rattle.licence.specs.Licence.{part_at, part_end}
+use Rattle.engine_laws.specs.WorkerMoves.{Placed, Hands, Fixed, WorkerMoves}
+use Rattle.engine_laws.specs.Workers.{IsLoad}
+use Rattle.group_engine.specs.declared.types.Answer.{Answer}
+use Rattle.group_engine.specs.Answers.{AddsAnswers}
+
+-- each of these requests is member m's
+abbrev pub AreOwn : Place → ℕ → List (ℕ × Request) → Type 0
+AreOwn p m xs = AllByRecursion (λ x. owner p (key_of x.1) ≡ m) xs
+
+abbrev pub steps_of : ℕ → List Kind → List (ℕ × Kind)
+steps_of m kinds = map (λ x. (m, x)) kinds
+
+-- each word of the member's part is as it was, or fenced
+abbrev pub KeepsPart : Place → ℕ → (ℕ → Cell) → (ℕ → Cell) → Type 0
+KeepsPart p m old new = (w : ℕ) → part_at p m ≤ w → w < part_end p m → Kept (old w) (new w)
+
+-- nothing moved
+abbrev pub is_idle : Result Bool Memory → Bool
+is_idle (Ok b) = not b
+is_idle (Err e) = false
+
+-- whether a worker is handed a request: it leads nothing, and has room
+abbrev pub is_open : {W : Type 0} → (W → Bool) → (W → Bool) → W → Bool
+is_open room leads w = not (leads w) && room w
+
+-- what it is handed of a backlog
+abbrev pub next_of : Bool → List (ℕ × Request) → List (ℕ × Request)
+next_of takes queue = if takes then take 1 queue else []
+
+-- One call that takes requests in, and makes no step: whatever member it is, and whatever state its group is in.
+pub record Accepts {W : Type 0} (hands : View → W → Hands) (answers : W → List Answer) (stands : Place → ℕ → State → View → W → Type 0) (fair : Group → ℕ → W → Type 0) (s : State) (w x : W) (accepted : List (ℕ × Request)) : Type 0 where
+  pub fixed : List Fixed
+  pub adds : AddsAnswers (IsTelling s) (answers w) (answers x) fixed
+  pub tied : (p : Place) (m : ℕ) (v : View) → stands p m s v w → AreOwn p m accepted → stands p m s v x
+  pub moves : (p : Place) (m : ℕ) (v : View) (a : Option Group) → stands p m s v w → AreOwn p m accepted → WorkerMoves p m s s a a v v (hands v w) (hands v x) accepted fixed
+  pub fairly : (a : Group) (m : ℕ) → fair a m w → fair a m x
+
+-- What is left of member m where nothing moved: as `IsIdle` says it of a state of the engine.
+pub record Rests (p : Place) (m : ℕ) (after : Option Group) (u : View) (x : Hands) : Type 0 where
+  pub holds : u.holds ≡ false
+  pub taken : (a s : ℕ) → u.taken a s ≡ None
+  pub placed : (k : ℕ) (y : Placed) → owner p k ≡ m → x.place k ≡ Some y → (y.posted ≡ true)
+      × ((d : Pending) (s : ℕ) → u.pending k ≡ Some d → d.slot ≡ Some s
+      → IfSome after (λ b. (b.slot m s ≡ Taken) ⊎ ((e : Entry) × (h : ℕ) × (b.slot m s ≡ Posted e) × (b.holder ≡ Some h))))
+  pub waits : (k : ℕ) → owner p k ≡ m → x.place k ≡ None → x.waits k ≡ []
+
+-- One turn of member m, from view v to u.
+pub record Turns {W : Type 0} (hands : View → W → Hands) (answers : W → List Answer) (stands : Place → ℕ → State → View → W → Type 0) (fair : Group → ℕ → W → Type 0) (room leads : W → Bool) (p : Place) (m : ℕ) (s t : State) (before after : Option Group) (v u : View) (w x : W) (idle : Bool) : Type 0 where
+  pub fixed : List Fixed
+  pub adds : AddsAnswers (IsTelling t) (answers w) (answers x) fixed
+  pub moves : WorkerMoves p m s t before after v u (hands v w) (hands u x) [] fixed
+  pub tied : stands p m t u x
+  pub fairly : IfSome before (λ a. IsSomeAnd after (λ b. fair b m x))
+  -- Where nothing moved, it made loads alone, holds what it held, and rests; and if nothing of it is in a place, it could have been handed a request.
+  pub loads : idle ≡ true → AllByRecursion IsLoad moves.steps
+  pub same : idle ≡ true → (k : ℕ) → owner p k ≡ m → ((hands u x).place k ≡ (hands v w).place k) × ((hands u x).waits k ≡ (hands v w).waits k)
+  pub rests : idle ≡ true → Rests p m after u (hands u x)
+  pub open_for : idle ≡ true → ((k : ℕ) → owner p k ≡ m → (hands u x).place k ≡ None) → is_open room leads w ≡ true
+
+-- A step of the engine: member m accepts the next request, or makes a turn. `rest` is what its backlog still has.
+pub record Steps {W : Type 0} (hands : View → W → Hands) (answers : W → List Answer) (stands : Place → ℕ → State → View → W → Type 0) (fair : Group → ℕ → W → Type 0) (p : Place) (m : ℕ) (s t : State) (a b : Group) (v u : View) (w x : W) (queue accepted rest : List (ℕ × Request)) (idle : Bool) : Type 0 where
+  pub fixed : List Fixed
+  pub split : queue ≡ accepted ++ rest
+  pub adds : AddsAnswers (IsTelling t) (answers w) (answers x) fixed
+  pub moves : WorkerMoves p m s t (Some a) (Some b) v u (hands v w) (hands u x) accepted fixed
+  pub tied : stands p m t u x
+  pub fairly : fair b m x
+  pub loads : idle ≡ true → AllByRecursion IsLoad moves.steps
+  pub same : idle ≡ true → (k : ℕ) → owner p k ≡ m → ((hands u x).place k ≡ (hands v w).place k) × ((hands u x).waits k ≡ (hands v w).waits k)
+  pub rests : idle ≡ true → Rests p m (Some b) u (hands u x)
+  pub empty : idle ≡ true → (accepted ≡ []) × (((k : ℕ) → owner p k ≡ m → (hands u x).place k ≡ None) → queue ≡ [])

@@ -1,0 +1,151 @@
+// The engine: what it keeps, and one move of it.
+ghost use Rattle.std.specs.Prelude.{◌≡◌, ℕ, ◌++◌, ◌∷◌, [], List, OnOk, OnErr};
+ghost use Rattle.fs_model.specs.Cells.{key_of};
+
+use crate::passes;
+use crate::passes::Cores;
+use crate::step::{collect, step};
+use crate::types::Stamped;
+use crate::worker::CoreWorker;
+use chunk_map::Geometry;
+use fs_errors::Memory;
+use fs_model::Request;
+use fs_text::Line;
+use group_board::LocalBoard;
+use pm_region::Region;
+use std::collections::VecDeque;
+
+/// One worker for each core, one board for each group, by core the requests that its worker has not accepted yet, and
+/// the answers by number.
+#[derive(Drop)]
+pub struct Engine<W> {
+    pub layout: Geometry,
+    pub workers: Vec<W>,
+    pub boards: Vec<LocalBoard>,
+    pub backlogs: Vec<VecDeque<(u64, Request)>>,
+    pub answers: Vec<Option<Stamped>>,
+}
+
+fn key_in(request: &Request) -> u64
+    ensures { result ≡ key_of request.now }
+{
+    match request {
+        Request::Put { key, .. } => *key,
+        Request::Get { key } => *key,
+        Request::Delete { key } => *key,
+    }
+}
+
+// Puts a request behind those of a backlog.
+fn append(
+    backlog: &mut VecDeque<(u64, Request)>,
+    number: u64,
+    request: Request,
+) -> Result<(), Memory>
+    ensures { OnOk result (backlog.new.items ≡ backlog.old.items ++ (number, request) ∷ []) }
+{
+    backlog.push_back((number, request))?;
+    Ok(())
+}
+
+impl<W: CoreWorker> Cores for Engine<W> {
+    ghost use Rattle.engine_laws.specs.Stands.{Origin, Stands};
+    ghost use Rattle.group_engine.specs.Shows.{Shows, left_of};
+
+    ghost shows = { λ s x e. (o : Origin) × Stands o e
+        × Shows W.hands W.answers W.stands W.fair W.room W.leads (λ q. q.items) s x.layout
+        x.workers.items x.boards.items x.backlogs.items x.answers.items e };
+
+    ghost cores = { λ x. x.layout.cores };
+
+    ghost left = { λ x. left_of W.left W.under_way W.most (λ q. q.items)
+        x.workers.items x.boards.items x.backlogs.items };
+
+    fn count(&self) -> u32 {
+        self.layout.cores
+    }
+
+    fn give(&mut self, request: Request) -> Result<(), Memory> {
+        let number = self.answers.len() as u64;
+        self.answers.push(None)?;
+        let owner = (key_in(&request) % self.layout.cores as u64) as usize;
+        append(&mut self.backlogs[owner], number, request)
+    }
+
+    fn advance<R: Region>(&mut self, region: &mut R, core: u32) -> Result<bool, Memory> {
+        let at = core as usize;
+        let group = (core / self.layout.group) as usize;
+        let member = core % self.layout.group;
+        let result = step(
+            &mut self.workers[at],
+            &mut self.boards[group],
+            &mut self.backlogs[at],
+            region,
+            member,
+        );
+        collect(&mut self.workers[at], &mut self.answers, region.stamp());
+        result
+    }
+
+    ghost placed = { λ s x e h. h.2.region };
+}
+
+impl<W: CoreWorker> Engine<W> {
+    ghost use Rattle.chunk_map.specs.Layouts.{layout_of};
+    ghost use Rattle.engine_laws.specs.Engine as engines;
+    ghost use Rattle.engine_laws.specs.Stands.{Origin, Stands, opening};
+    ghost use Rattle.engine_laws.specs.Promises.{AnyTurn, IsOrigin, IsDone, Promised};
+    ghost use Rattle.engine_laws.specs.Ran.{Ran};
+    ghost use Rattle.group_engine.specs.Passes.{NameCores, Ends, EndsIn, DrainsOut};
+    ghost use Rattle.group_engine.specs.Shows.{Shows};
+
+    /// Makes passes over the cores until nothing moves.
+    pub fn drain<R: Region>(&mut self, region: &mut R) -> Result<(), Memory>
+        requires { (o : Origin) × (e : engines.Engine) × Stands o e
+            × Shows W.hands W.answers W.stands W.fair W.room W.leads (λ q. q.items)
+            (R.state region.old) self.old.layout self.old.workers.items self.old.boards.items
+            self.old.backlogs.items self.old.answers.items e }
+        ensures failed { OnErr result ((o : Origin) (e : engines.Engine) → Stands o e
+            → Shows W.hands W.answers W.stands W.fair W.room W.leads (λ q. q.items)
+            (R.state region.old) self.old.layout self.old.workers.items self.old.boards.items
+            self.old.backlogs.items self.old.answers.items e
+            → (f : engines.Engine) × Ends (R.state region.new) e f) }
+        ensures drained { OnOk result ((o : Origin) (e : engines.Engine) → Stands o e
+            → Shows W.hands W.answers W.stands W.fair W.room W.leads (λ q. q.items)
+            (R.state region.old) self.old.layout self.old.workers.items self.old.boards.items
+            self.old.backlogs.items self.old.answers.items e
+            → (f : engines.Engine)
+            × Shows W.hands W.answers W.stands W.fair W.room W.leads (λ q. q.items)
+            (R.state region.new) self.new.layout self.new.workers.items self.new.boards.items
+            self.new.backlogs.items self.new.answers.items f
+            × DrainsOut self.old.layout.cores e f) }
+    {
+        passes::drain(self, region)
+    }
+
+    /// Handles the lines of an input in order, and then drains. The engine has just been opened.
+    pub fn replay<R: Region>(&mut self, region: &mut R, lines: VecDeque<Line>) -> Result<(), Memory>
+        requires lines { NameCores self.old.layout.cores lines.items }
+        requires opened { (o : Origin) × IsOrigin o
+            × Shows W.hands W.answers W.stands W.fair W.room W.leads (λ q. q.items)
+            (R.state region.old) self.old.layout self.old.workers.items self.old.boards.items
+            self.old.backlogs.items self.old.answers.items (opening o) }
+        ensures failed { OnErr result ((o : Origin) → IsOrigin o
+            → Shows W.hands W.answers W.stands W.fair W.room W.leads (λ q. q.items)
+            (R.state region.old) self.old.layout self.old.workers.items self.old.boards.items
+            self.old.backlogs.items self.old.answers.items (opening o)
+            → (f : engines.Engine) × EndsIn (R.state region.new) lines.items (opening o) f
+            × Promised o f) }
+        ensures ran { OnOk result ((o : Origin) → IsOrigin o
+            → Shows W.hands W.answers W.stands W.fair W.room W.leads (λ q. q.items)
+            (R.state region.old) self.old.layout self.old.workers.items self.old.boards.items
+            self.old.backlogs.items self.old.answers.items (opening o)
+            → (f : engines.Engine)
+            × Shows W.hands W.answers W.stands W.fair W.room W.leads (λ q. q.items)
+            (R.state region.new) self.new.layout self.new.workers.items self.new.boards.items
+            self.new.backlogs.items self.new.answers.items f
+            × Ran AnyTurn (layout_of o.found).cores lines.items (opening o) f × IsDone o f) }
+    {
+        passes::replay(self, region, lines)
+    }
+}

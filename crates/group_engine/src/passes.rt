@@ -1,0 +1,153 @@
+// The passes of a drain, over whatever cores there are.
+ghost use Rattle.std.specs.Prelude.{◌≡◌, ℕ, ◌<◌, ◌≤◌, IfOk, OnOk, OnErr, true, false};
+ghost use Rattle.pm_region.specs.State.{State};
+ghost use Rattle.engine_laws.specs.Engine.{Engine};
+ghost use Rattle.engine_laws.specs.Promises.{AnyTurn};
+ghost use Rattle.engine_laws.specs.Ran.{Goes, Ran};
+ghost use Rattle.engine_laws.specs.Stands.{given_to};
+ghost use Rattle.group_engine.specs.Passes.{Settles, Passes, NameCores, Ends, EndsIn, DrainsOut, Reaches, Leads};
+
+use fs_errors::Memory;
+use fs_model::Request;
+use fs_text::Line;
+use pm_region::Region;
+use std::collections::VecDeque;
+
+/// Cores on one region that can be moved one at a time.
+pub trait Cores {
+    // The states that they may stand at, with a region's state. It has what no code knows, so it is a relation.
+    ghost shows: { State → Self → Engine → Type 0 };
+
+    // How many there are, and what is left to do.
+    ghost cores: { Self → ℕ };
+
+    ghost left: { Self → ℕ };
+
+    /// How many there are.
+    fn count(&self) -> u32
+        ensures { result ≡ cores self.now };
+
+    /// Gives a request to the owner of its key.
+    fn give(&mut self, request: Request) -> Result<(), Memory>
+        requires { (s : State) × (e : Engine) × shows s self.old e }
+        ensures gave { OnOk result ((s : State) (e : Engine) → shows s self.old e
+            → shows s self.new (given_to e request)) }
+        ensures cores { cores self.new ≡ cores self.old };
+
+    /// Moves a core, and answers whether anything moved.
+    fn advance<R: Region>(&mut self, region: &mut R, core: u32) -> Result<bool, Memory>
+        requires core { core < cores self.old }
+        requires shows { (e : Engine) × shows (R.state region.old) self.old e }
+        ensures moved { IfOk result (λ b. Leads (shows (R.state region.old) self.old)
+            (shows (R.state region.new) self.new) (λ e f. AnyTurn e core b f)) }
+        ensures failed { OnErr result (Reaches (shows (R.state region.old) self.old)
+            (Ends (R.state region.new))) }
+        ensures cores { cores self.new ≡ cores self.old }
+        ensures less { IfOk result (λ b. b ≡ true → left self.new < left self.old) }
+        ensures idle { IfOk result (λ b. b ≡ false → left self.new ≤ left self.old) };
+
+    // A state that is shown with a region's state has it.
+    ghost placed: { (s : State) (x : Self) (e : Engine) → shows s x e → e.region ≡ s };
+}
+
+/// Moves a core until it is idle, and answers whether anything moved.
+pub fn settle<C: Cores, R: Region>(cores: &mut C, region: &mut R, core: u32) -> Result<bool, Memory>
+    requires core { core < C.cores cores.old }
+    requires shows { (e : Engine) × C.shows (R.state region.old) cores.old e }
+    ensures failed { OnErr result (Reaches (C.shows (R.state region.old) cores.old)
+        (Ends (R.state region.new))) }
+    ensures settles { IfOk result (λ b. Leads (C.shows (R.state region.old) cores.old)
+        (C.shows (R.state region.new) cores.new) (λ e f. Settles core b e f)) }
+    ensures cores { IfOk result (λ b. C.cores cores.new ≡ C.cores cores.old) }
+    ensures less { IfOk result (λ b. b ≡ true → C.left cores.new < C.left cores.old) }
+    ensures idle { IfOk result (λ b. b ≡ false → C.left cores.new ≤ C.left cores.old) }
+{
+    let mut moved = false;
+    loop {
+        if cores.advance(region, core)? {
+            moved = true;
+        } else {
+            return Ok(moved);
+        }
+    }
+}
+
+/// Moves each core until it is idle, by rising number, and answers whether anything moved.
+pub fn pass<C: Cores, R: Region>(cores: &mut C, region: &mut R) -> Result<bool, Memory>
+    requires { (e : Engine) × C.shows (R.state region.old) cores.old e }
+    ensures failed { OnErr result (Reaches (C.shows (R.state region.old) cores.old)
+        (Ends (R.state region.new))) }
+    ensures passes { IfOk result (λ b. Leads (C.shows (R.state region.old) cores.old)
+        (C.shows (R.state region.new) cores.new) (λ e f. Passes (C.cores cores.old) b e f)) }
+    ensures cores { IfOk result (λ b. C.cores cores.new ≡ C.cores cores.old) }
+    ensures less { IfOk result (λ b. b ≡ true → C.left cores.new < C.left cores.old) }
+    ensures idle { IfOk result (λ b. b ≡ false → C.left cores.new ≤ C.left cores.old) }
+{
+    let mut moved = false;
+    let count = cores.count();
+    for core in 0..count {
+        if settle(cores, region, core)? {
+            moved = true;
+        }
+    }
+    Ok(moved)
+}
+
+/// Makes passes until nothing moves.
+pub fn drain<C: Cores, R: Region>(cores: &mut C, region: &mut R) -> Result<(), Memory>
+    requires { (e : Engine) × C.shows (R.state region.old) cores.old e }
+    ensures failed { OnErr result (Reaches (C.shows (R.state region.old) cores.old)
+        (Ends (R.state region.new))) }
+    ensures drained { OnOk result (Leads (C.shows (R.state region.old) cores.old)
+        (C.shows (R.state region.new) cores.new) (DrainsOut (C.cores cores.old))) }
+{
+    loop {
+        if !pass(cores, region)? {
+            return Ok(());
+        }
+    }
+}
+
+/// Moves a core so many times.
+pub fn go<C: Cores, R: Region>(
+    cores: &mut C,
+    region: &mut R,
+    core: u32,
+    turns: u32,
+) -> Result<(), Memory>
+    requires core { core < C.cores cores.old }
+    requires shows { (e : Engine) × C.shows (R.state region.old) cores.old e }
+    ensures failed { OnErr result (Reaches (C.shows (R.state region.old) cores.old)
+        (Ends (R.state region.new))) }
+    ensures went { OnOk result (Leads (C.shows (R.state region.old) cores.old)
+        (C.shows (R.state region.new) cores.new) (λ e f. Goes AnyTurn core turns e f)) }
+    ensures cores { OnOk result (C.cores cores.new ≡ C.cores cores.old) }
+{
+    for turn in 0..turns {
+        cores.advance(region, core)?;
+    }
+    Ok(())
+}
+
+/// Handles the lines of an input in order, and then drains.
+pub fn replay<C: Cores, R: Region>(
+    cores: &mut C,
+    region: &mut R,
+    mut lines: VecDeque<Line>,
+) -> Result<(), Memory>
+    requires lines { NameCores (C.cores cores.old) lines.items }
+    requires shows { (e : Engine) × C.shows (R.state region.old) cores.old e }
+    ensures failed { OnErr result (Reaches (C.shows (R.state region.old) cores.old)
+        (EndsIn (R.state region.new) lines.items)) }
+    ensures ran { OnOk result (Leads (C.shows (R.state region.old) cores.old)
+        (C.shows (R.state region.new) cores.new)
+        (λ e f. Ran AnyTurn (C.cores cores.old) lines.items e f)) }
+{
+    loop {
+        match lines.pop_front() {
+            Some(Line::Ask(request)) => cores.give(request)?,
+            Some(Line::Go { core, turns }) => go(cores, region, core, turns)?,
+            None => return drain(cores, region),
+        }
+    }
+}
