@@ -50,8 +50,6 @@ pub mod Withdrawing
 mod Unlocking
 mod Retracting
 mod Members
-mod Unpledging
-mod BatchRoom
 mod LeftSums
 mod LeftSteps
 mod LeftWorkers

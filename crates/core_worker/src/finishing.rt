@@ -16,6 +16,7 @@ ghost use Rattle.lazy_alloc.specs.Sets.{AreSets, block_is_used};
 ghost use Rattle.core_worker.specs.OwnPlaces.{place_at, is_free};
 ghost use Rattle.core_worker.specs.Refusals.{HasAnswerRoom};
 ghost use Rattle.core_worker.specs.Finishing.{done_reply, FinishesSlot, IsFreed, LetsGo, PutsBackIf, Settles, StopsByFailed, TakesBackKey, WasFoundBack};
+ghost use Rattle.core_worker.specs.Left.{Lowers};
 
 use crate::hearing::hear_own;
 use crate::posting::swap_place;
@@ -161,6 +162,7 @@ impl Worker {
             self.old self.new }
         ensures made { Makes (B.whole board.old) (B.seat board.old).number
             (runs.Kind.Finish slot) (B.whole board.new) (B.view board.new) }
+        ensures less { Lowers (B.whole board.old) (B.whole board.new) self.old self.new }
     {
         let key = self.take_out(board, slot);
         self.serve(alloc, region, key)

@@ -16,6 +16,8 @@ ghost use Rattle.core_worker.specs.declared.searching.Search.TheVariants as foun
 ghost use Rattle.core_worker.specs.Searching.{FoundStands};
 ghost use Rattle.core_worker.specs.Turns.{InOrderAt, LooksMade, PassesPost, PersistsOrLoses};
 ghost use Rattle.core_worker.specs.Turning.{HasBatch, KeepsTurn, TurnMoves, Did, Turned, TurnedTo, Tells, RestsIf, RestsTo, at_entry};
+ghost use Rattle.core_worker.specs.Left.{HasOffer, Lowers, Measures, MeasuresTurn, StartsFirst};
+ghost use Rattle.core_worker.specs.Resting.{AtRest, IfIdle, IfIdleTurn, TriedIf};
 
 use crate::choosing::{Choice, staged_block};
 use crate::gate::Gate;
@@ -44,6 +46,8 @@ impl Worker {
         ensures did { (refused : Bool) → Did (R.state region.old) refused (B.whole board.old)
             (B.seat board.old) (at_entry self.old (B.view board.old))
             (at_entry self.new (B.view board.new)) }
+        ensures less { Lowers (B.whole board.old) (B.whole board.new) self.old self.new }
+        ensures starts { StartsFirst self.new }
     {
         match &self.leading {
             Leading::Batch(_) => {
@@ -110,6 +114,11 @@ impl Worker {
             → LooksMade start (B.whole board.old) (B.seat board.old).number (B.view board.old)
             → RestsIf result start (B.whole board.new) (B.seat board.old).number
             (B.view board.new) self.old.places.items }
+        ensures less { (posted ≡ true → HasOffer (B.whole board.old) (B.seat board.old).number)
+            → MeasuresTurn result (B.whole board.old) (B.whole board.new) self.old self.new }
+        ensures starts { StartsFirst self.new }
+        ensures tries { IfIdleTurn result (TriedIf posted (B.seat board.old).number
+            (B.whole board.old) (B.whole board.new) (B.view board.new)) }
     {
         if !posted {
             return Turn::Idle;
@@ -148,6 +157,11 @@ impl Worker {
             → RestsTo result start (B.whole board.new) (B.seat board.old).number
             (B.view board.new) self.old.places.items }
         ensures memory { OnErr result (self.new.winds_down ≡ true) }
+        ensures less { (posted ≡ true → HasOffer (B.whole board.old) (B.seat board.old).number)
+            → Measures result (B.whole board.old) (B.whole board.new) self.old self.new }
+        ensures starts { StartsFirst self.new }
+        ensures tries { IfIdle result (TriedIf posted (B.seat board.old).number
+            (B.whole board.old) (B.whole board.new) (B.view board.new)) }
     {
         match self.choose(gate) {
             Choice::Pass => {
@@ -192,6 +206,12 @@ impl Worker {
         ensures rests { RestsTo result (B.whole board.old) (B.whole board.new)
             (B.seat board.old).number (B.view board.new) self.old.places.items }
         ensures memory { OnErr result (self.new.winds_down ≡ true) }
+        ensures less { Measures result (B.whole board.old) (B.whole board.new)
+            self.old self.new }
+        ensures starts { StartsFirst self.new }
+        ensures idles { IfIdle result (G.may_refuse gate.now ≡ false → self.old.winds_down ≡ false
+            → AtRest (B.seat board.old) (B.whole board.old) (B.whole board.new)
+            (B.view board.old) (B.view board.new) self.old self.new) }
     {
         match self.find_back(board) {
             Search::Back(slot) => match self.take_back(alloc, &*region, board, slot) {
@@ -236,6 +256,9 @@ impl Worker {
         ensures did { (s : State) (refused : Bool) → Did s refused (B.whole board.old)
             (B.seat board.old) (at_entry self.old (B.view board.old))
             (at_entry self.new (B.view board.new)) }
+        ensures less { HasKeptRoom self.old → StartsFirst self.old
+            → Lowers (B.whole board.old) (B.whole board.new) self.old self.new }
+        ensures starts { StartsFirst self.new }
     {
         let room = self.room();
         self.go_round(board, &room);
@@ -261,6 +284,9 @@ impl Worker {
             (B.seat board.old) (at_entry self.old (B.view board.old))
             (at_entry self.new (B.view board.new)) }
         ensures memory { OnErr result (self.new.winds_down ≡ true) }
+        ensures less { (self.old.stopped ≡ false → HasKeptRoom self.old) → StartsFirst self.old
+            → Lowers (B.whole board.old) (B.whole board.new) self.old self.new }
+        ensures starts { StartsFirst self.new }
     {
         if self.stopped {
             return self.withdraw(alloc, region, board);
@@ -293,6 +319,12 @@ impl Worker {
         ensures rests { RestsTo result (B.whole board.old) (B.whole board.new)
             (B.seat board.old).number (B.view board.new) self.old.places.items }
         ensures memory { OnErr result (self.new.winds_down ≡ true) }
+        ensures less { (self.old.stopped ≡ false → HasKeptRoom self.old) → StartsFirst self.old
+            → Measures result (B.whole board.old) (B.whole board.new) self.old self.new }
+        ensures starts { StartsFirst self.new }
+        ensures idles { IfIdle result (G.may_refuse gate.now ≡ false → self.old.winds_down ≡ false
+            → AtRest (B.seat board.old) (B.whole board.old) (B.whole board.new)
+            (B.view board.old) (B.view board.new) self.old self.new) }
     {
         match &self.leading {
             Leading::Nothing(_) => {
@@ -345,6 +377,12 @@ impl Worker {
         ensures rests { RestsTo result (B.whole board.old) (B.whole board.new)
             (B.seat board.old).number (B.view board.new) self.old.places.items }
         ensures memory { OnErr result (self.new.winds_down ≡ true) }
+        ensures less { (self.old.stopped ≡ false → HasKeptRoom self.old) → StartsFirst self.old
+            → Measures result (B.whole board.old) (B.whole board.new) self.old self.new }
+        ensures starts { StartsFirst self.new }
+        ensures idles { IfIdle result (G.may_refuse gate.now ≡ false → self.old.winds_down ≡ false
+            → AtRest (B.seat board.old) (B.whole board.old) (B.whole board.new)
+            (B.view board.old) (B.view board.new) self.old self.new) }
     {
         self.serve_first(alloc, region, board, gate)
     }

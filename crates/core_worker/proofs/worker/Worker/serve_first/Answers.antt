@@ -14,4 +14,7 @@ returns-in_default g c = record {
   turned = c.serve_batch.ensures.did (g.G.Gate.may_refuse c.args.gate.now);
   rests = tt;
   memory = tt;
+  less = λ rule starts. c.serve_batch.ensures.less;
+  starts = c.serve_batch.ensures.starts;
+  idles = tt;
 }
