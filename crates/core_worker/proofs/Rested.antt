@@ -24,7 +24,7 @@ use Rattle.core_worker.specs.Status.{has_room, is_leading}
 use Rattle.core_worker.specs.Ties.{Holds, LeadsAt, LeadsNothing}
 use Rattle.core_worker.specs.Turns.{Moment, FindsPosted, PassesItems, PassesPost, SameButLeading, Idles, LooksMade}
 use Rattle.core_worker.specs.WorkerMoves.{hands_of}
-use Rattle.core_worker.specs.Resting.{IsWithOthers, Rests, HoldsSame, OpenFor, LoadsOnly, AtRest, IfIdle, TriedIf}
+use Rattle.core_worker.specs.Resting.{IsWithOthers, IsResting, HoldsSame, OpenFor, LoadsOnly, AtRest, IfIdle, TriedIf}
 use Rattle.group_laws.specs.declared.types.Seen.{Seen}
 use Rattle.group_laws.specs.declared.types.Seen.TheVariants.{Holder}
 use Rattle.core_worker.specs.Left.{NotMore}
@@ -91,7 +91,7 @@ module _ (p : Place) (refused : Bool) (m : ℕ) (a b : Moment) (seen : View) (P 
             with_others g h e' m looks.0 looks.1.0 a seen P entered.1 looks.1.1 busy.0 (λ found. busy.1) lawful k s e mine named lt at)
             tried
 
-      pub rests : b.worker.in_hand ≡ None → Rests p m before after b.view (hands_of b.view b.worker)
+      pub rests : b.worker.in_hand ≡ None → IsResting p m before after b.view (hands_of b.view b.worker)
       rests hand = record {
         holds = leads_nothing.0;
         taken = leads_nothing.1;

@@ -49,7 +49,7 @@ abbrev pub IsWithOthers : Option Group → Option Group → ℕ → ℕ → Type
 IsWithOthers before after m s = IfSome before (λ a. IfSome after (λ b. (b.slot m s ≡ Taken) ⊎ ((e : Entry) × (h : ℕ) × (b.slot m s ≡ Posted e) × (b.holder ≡ Some h))))
 
 -- It leads nothing. Each of its changes is posted and with others, and requests wait for keys with a change in a place alone.
-pub record Rests (p : Place) (m : ℕ) (before after : Option Group) (u : View) (x : Hands) : Type 0 where
+pub record IsResting (p : Place) (m : ℕ) (before after : Option Group) (u : View) (x : Hands) : Type 0 where
   pub holds : u.holds ≡ false
   pub taken : (a s : ℕ) → u.taken a s ≡ None
   pub placed : (k : ℕ) (y : Placed) → owner p k ≡ m → x.place k ≡ Some y → (y.posted ≡ true) × ((d : Pending) (s : ℕ) → u.pending k ≡ Some d → d.slot ≡ Some s → IsWithOthers before after m s)
@@ -71,7 +71,7 @@ OpenFor p m x w = ((k : ℕ) → owner p k ≡ m → x.place k ≡ None) → is_
 pub record AtRest (seat : SeatAt) (before after : Option Group) (v u : View) (w x : Worker) : Type 0 where
   pub loads : LoadsOnly before after seat.number
   pub same : HoldsSame seat.place seat.number (hands_of v w) (hands_of u x)
-  pub rests : Rests seat.place seat.number before after u (hands_of u x)
+  pub rests : IsResting seat.place seat.number before after u (hands_of u x)
   pub open_for : OpenFor seat.place seat.number (hands_of u x) w
 
 -- where a turn found nothing to do

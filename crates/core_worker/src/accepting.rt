@@ -82,6 +82,7 @@ impl Worker {
             (key_of request) []) }
         ensures most { OnOk result (left self.new ≤ left self.old + most) }
         ensures starts { StartsFirst self.old → StartsFirst self.new }
+        ensures works { self.new.winds_down ≡ self.old.winds_down }
     {
         let key = key_of(&request);
         if !self.prepare(alloc, key) {

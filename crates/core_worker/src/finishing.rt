@@ -1,5 +1,5 @@
 // Taking posted changes back that their leader gave back.
-ghost use Rattle.std.specs.Prelude.{◌≡◌, ◌⊎◌, ℕ, ◌+◌, ◌<◌, true, false, length, is_ok, IfSome, Some, OnErr};
+ghost use Rattle.std.specs.Prelude.{◌≡◌, ◌⊎◌, ℕ, ◌+◌, ◌<◌, true, false, length, is_ok, IfSome, Some, OnErr, OnOk};
 ghost use Rattle.core_worker.specs.Supplies.{HasKeptRoom};
 ghost use Rattle.pm_region.specs.State.{State};
 ghost use Rattle.store_image.specs.Facts.{In};
@@ -163,6 +163,7 @@ impl Worker {
         ensures made { Makes (B.whole board.old) (B.seat board.old).number
             (runs.Kind.Finish slot) (B.whole board.new) (B.view board.new) }
         ensures less { Lowers (B.whole board.old) (B.whole board.new) self.old self.new }
+        ensures works { OnOk result (self.new.winds_down ≡ self.old.winds_down) }
     {
         let key = self.take_out(board, slot);
         self.serve(alloc, region, key)

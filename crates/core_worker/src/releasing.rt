@@ -50,6 +50,7 @@ impl Worker {
         ensures order { KeepsOrders self.old self.new key }
         ensures rest { OnlyServes self.old self.new }
         ensures less { left self.new ≤ left self.old }
+        ensures works { OnOk result (self.new.winds_down ≡ self.old.winds_down) }
     {
         match self.queue.release(key) {
             None => {
@@ -95,6 +96,7 @@ impl Worker {
         ensures memory { OnErr result (self.new.winds_down ≡ true) }
         ensures rest { OnlyServes self.old self.new }
         ensures less { left self.new ≤ left self.old }
+        ensures works { OnOk result (self.new.winds_down ≡ self.old.winds_down) }
     {
         if self.winds_down {
             return Ok(());

@@ -1,5 +1,5 @@
 // What a stopped core does with its own changes: it takes back what is posted, and answers what is staged.
-ghost use Rattle.std.specs.Prelude.{◌≡◌, ℕ, ◌<◌, true, false, length, is_ok, IfSome, MatchOption, Option, Some, None, OnErr};
+ghost use Rattle.std.specs.Prelude.{◌≡◌, ℕ, ◌<◌, true, false, length, is_ok, IfSome, MatchOption, Option, Some, None, OnErr, OnOk};
 ghost use Rattle.batch_leader.specs.declared.states.Collecting.{Collecting};
 ghost use Rattle.pm_region.specs.State.{State};
 ghost use Rattle.core_index.specs.Records.{pointer_of};
@@ -133,6 +133,7 @@ impl Worker {
         ensures drops { Drops (R.state region.now) slot self.old self.new (is_ok result) }
         ensures memory { OnErr result (self.new.winds_down ≡ true) }
         ensures less { left self.new < left self.old }
+        ensures works { OnOk result (self.new.winds_down ≡ self.old.winds_down) }
     {
         let key = self.drop_out(slot);
         self.serve(alloc, region, key)
@@ -210,6 +211,7 @@ impl Worker {
         ensures made { Steps (B.whole board.old) (B.whole board.new) (B.seat board.old).number
             (B.view board.new) }
         ensures less { Lowers (B.whole board.old) (B.whole board.new) self.old self.new }
+        ensures works { OnOk result (self.new.winds_down ≡ self.old.winds_down) }
     {
         match self.retract(board) {
             None => {

@@ -1,5 +1,5 @@
 // One turn of a worker.
-ghost use Rattle.std.specs.Prelude.{◌≡◌, ◌<◌, Bool, true, false, Option, List, [], ◌∷◌, OnErr};
+ghost use Rattle.std.specs.Prelude.{◌≡◌, ◌<◌, Bool, true, false, Option, List, [], ◌∷◌, OnErr, OnOk};
 ghost use Rattle.pm_region.specs.State.{State, IsTelling};
 ghost use Rattle.group_laws.specs.State.{Group};
 ghost use Rattle.group_laws.specs.MemberViews.{View};
@@ -48,6 +48,7 @@ impl Worker {
             (at_entry self.new (B.view board.new)) }
         ensures less { Lowers (B.whole board.old) (B.whole board.new) self.old self.new }
         ensures starts { StartsFirst self.new }
+        ensures works { self.new.winds_down ≡ self.old.winds_down }
     {
         match &self.leading {
             Leading::Batch(_) => {
@@ -119,6 +120,7 @@ impl Worker {
         ensures starts { StartsFirst self.new }
         ensures tries { IfIdleTurn result (TriedIf posted (B.seat board.old).number
             (B.whole board.old) (B.whole board.new) (B.view board.new)) }
+        ensures works { self.new.winds_down ≡ self.old.winds_down }
     {
         if !posted {
             return Turn::Idle;
@@ -162,6 +164,7 @@ impl Worker {
         ensures starts { StartsFirst self.new }
         ensures tries { IfIdle result (TriedIf posted (B.seat board.old).number
             (B.whole board.old) (B.whole board.new) (B.view board.new)) }
+        ensures works { OnOk result (self.new.winds_down ≡ self.old.winds_down) }
     {
         match self.choose(gate) {
             Choice::Pass => {
@@ -212,6 +215,7 @@ impl Worker {
         ensures idles { IfIdle result (G.may_refuse gate.now ≡ false → self.old.winds_down ≡ false
             → AtRest (B.seat board.old) (B.whole board.old) (B.whole board.new)
             (B.view board.old) (B.view board.new) self.old self.new) }
+        ensures works { OnOk result (self.new.winds_down ≡ self.old.winds_down) }
     {
         match self.find_back(board) {
             Search::Back(slot) => match self.take_back(alloc, &*region, board, slot) {
@@ -259,6 +263,7 @@ impl Worker {
         ensures less { HasKeptRoom self.old → StartsFirst self.old
             → Lowers (B.whole board.old) (B.whole board.new) self.old self.new }
         ensures starts { StartsFirst self.new }
+        ensures works { self.new.winds_down ≡ self.old.winds_down }
     {
         let room = self.room();
         self.go_round(board, &room);
@@ -287,6 +292,7 @@ impl Worker {
         ensures less { (self.old.stopped ≡ false → HasKeptRoom self.old) → StartsFirst self.old
             → Lowers (B.whole board.old) (B.whole board.new) self.old self.new }
         ensures starts { StartsFirst self.new }
+        ensures works { OnOk result (self.new.winds_down ≡ self.old.winds_down) }
     {
         if self.stopped {
             return self.withdraw(alloc, region, board);
@@ -325,6 +331,7 @@ impl Worker {
         ensures idles { IfIdle result (G.may_refuse gate.now ≡ false → self.old.winds_down ≡ false
             → AtRest (B.seat board.old) (B.whole board.old) (B.whole board.new)
             (B.view board.old) (B.view board.new) self.old self.new) }
+        ensures works { OnOk result (self.new.winds_down ≡ self.old.winds_down) }
     {
         match &self.leading {
             Leading::Nothing(_) => {
@@ -383,6 +390,7 @@ impl Worker {
         ensures idles { IfIdle result (G.may_refuse gate.now ≡ false → self.old.winds_down ≡ false
             → AtRest (B.seat board.old) (B.whole board.old) (B.whole board.new)
             (B.view board.old) (B.view board.new) self.old self.new) }
+        ensures works { OnOk result (self.new.winds_down ≡ self.old.winds_down) }
     {
         self.serve_first(alloc, region, board, gate)
     }

@@ -17,4 +17,5 @@ returns-in_default g c = record {
   less = λ rule starts. c.serve_batch.ensures.less;
   starts = c.serve_batch.ensures.starts;
   idles = tt;
+  works = c.serve_batch.ensures.works;
 }
