@@ -1,18 +1,20 @@
 -- What accepting leaves of what is kept in order.
-use Rattle.std.proofs.Common.{◌≡◌, inl, inr, ⊎_elim, ℕ, zero, suc, ◌+◌, ◌≤◌, ◌<◌, Bool, true, false, cond, List, [], ◌∷◌, length, Option, None, Result, Ok, Err, OnOk, OnErr, refl, sym, ◌∙◌, ap, subst, arith}
+use Rattle.std.proofs.Common.{◌≡◌, inl, inr, ⊎_elim, ℕ, suc, ◌+◌, ◌≤◌, ◌<◌, Bool, true, false, cond, List, [], ◌∷◌, length, Option, None, refl, sym, ◌∙◌, ap, subst, arith}
 use Rattle.std.specs.Prelude.{is_some}
 use Rattle.std.specs.VecDeque.{deque_len, deque_capacity}
+use Rattle.std.specs.declared.collections.VecDeque.{VecDeque}
+use Rattle.std.specs.Global.{Global}
+use Rattle.core_worker.specs.declared.types.Answer.{Answer}
 use Rattle.conflict_queue.specs.declared.types.Held.{Held}
 use Rattle.core_index.specs.Index.{known_at}
 use Rattle.core_index.specs.Records.{Awaits, last_of, standing_of, standing_at, block_of, is_forgettable}
 use Rattle.group_laws.specs.Places.{Place, core_of, owner}
 use Rattle.group_laws.specs.MemberViews.{View}
 use Rattle.core_worker.specs.declared.types.Place as places
-use Rattle.core_worker.specs.declared.types.Place.TheVariants.{Free, Staged, Posted}
 use Rattle.core_worker.specs.declared.worker.Worker.{Worker}
 use Rattle.core_worker.specs.OwnPlaces.{is_free, is_busy}
 use Rattle.core_worker.specs.Refusals.{HasAnswerRoom}
-use Rattle.core_worker.specs.Order.{PointsAt, count_changes, unanswered, MayLeadStopped, InOrder}
+use Rattle.core_worker.specs.Order.{count_changes, unanswered, MayLeadStopped, InOrder}
 use Rattle.core_worker.specs.Ties.{Holds}
 use Rattle.core_worker.specs.Beginning.{OnlyBegins}
 use Rattle.core_worker.specs.Serving.{KeepsLine}
@@ -76,3 +78,11 @@ order_begun_now p m v w u b k B room hand few only line less H N O =
     let queue : length b.queue ≡ length u.queue = ap (λ (y : Worker). length y.queue) only in
     let left : HasAnswerRoom 72 b = less 72 (omega (arith, room)) in
     omega (arith, places, eight, none, few, queue, left)) O
+
+-- an answer was given out
+pub given_order : (p : Place) (m : ℕ) (v : View) (w : Worker) (a : VecDeque Answer Global) → deque_len a ≤ deque_len w.answers → deque_capacity a ≡ deque_capacity w.answers → InOrder p m v w → InOrder p m v (record w { answers = a })
+given_order p m v w a fewer same O = record { owned = O.owned; single = O.single; distinct = O.distinct; heard = O.heard; told = O.told; versions = O.versions; next = O.next; spelled = O.spelled; recalls = O.recalls; answers = (let room = O.answers in omega (arith, room, fewer, same)); hand = O.hand; stops = O.stops }
+
+-- it winds down
+pub wound_order : (p : Place) (m : ℕ) (v : View) (w : Worker) → InOrder p m v w → InOrder p m v (record w { winds_down = true })
+wound_order p m v w O = record { owned = O.owned; single = O.single; distinct = O.distinct; heard = O.heard; told = O.told; versions = O.versions; next = O.next; spelled = O.spelled; recalls = O.recalls; answers = O.answers; hand = λ on. absurd (cc on); stops = O.stops }

@@ -1,29 +1,35 @@
 -- What a stopped core, and one whose change is given back, lower.
-use Rattle.std.proofs.Common.{◌≡◌, ◌≢◌, inl, inr, ⊎_elim, ℕ, zero, suc, ◌+◌, ◌*◌, ◌-◌, ◌<◌, ◌≤◌, Bool, true, false, cond, eqb, List, [], ◌∷◌, ◌++◌, map, length, Option, Some, None, refl, sym, ◌∙◌, ap, subst, arith}
-use Rattle.std.specs.Prelude.{IfSome, IsSomeAnd, MatchOption}
+use Rattle.std.proofs.Common.{◌≡◌, ⊎_elim, ℕ, zero, suc, ◌+◌, ◌<◌, ◌≤◌, Bool, true, false, List, [], ◌∷◌, ◌++◌, length, Option, Some, None, refl, sym, ◌∙◌, ap, arith}
+use Rattle.std.specs.Prelude.{IsSomeAnd, MatchOption}
 use Rattle.std.proofs.Math.Bridge.{le_prop}
 use mathlib.Core.Logic.{∥∥₁_elim}
 use Rattle.fs_model.specs.declared.model.Reply.{Reply}
 use Rattle.log_entry.specs.declared.entry.Entry.{Entry}
 use Rattle.group_laws.specs.declared.types.Slot.{Slot}
-use Rattle.group_laws.specs.declared.types.Slot.TheVariants as slots
 use Rattle.group_laws.specs.Places.{Place, core_of}
 use Rattle.group_laws.specs.State.{Group, shown}
 use Rattle.group_laws.specs.Invariant.{Lawful}
-use Rattle.group_laws.specs.MemberViews.{View, view_of}
-use Rattle.group_laws.specs.Runs.{Kind, IsStep, Runs}
+use Rattle.group_laws.specs.MemberViews.{View}
+use Rattle.group_laws.specs.Runs.{Kind, Runs}
 use Rattle.group_board.specs.Told.{Makes, state_of}
-use Rattle.group_board.specs.declared.board.SlotState.TheVariants as states
 use Rattle.batch_leader.specs.Rounds.{slot_at}
 use Rattle.batch_leader.specs.Leading.{MakesAll, looks_upto, NonePosted}
-use Rattle.core_worker.specs.declared.types.Place.TheVariants.{Staged}
+use Rattle.fs_model.specs.declared.model.Reply.TheVariants.{Stopped}
+use Rattle.batch_leader.specs.declared.states.Collecting.{Collecting}
+use Rattle.batch_leader.specs.Leading.{taken_by}
+use Rattle.core_worker.specs.declared.types.Leading.TheVariants as leads
+use Rattle.core_worker.specs.declared.types.Place.{Place as WorkerPlace}
+use Rattle.core_worker.specs.Stopping.{PutsAway, PutsAwayKey}
+use Rattle.core_worker.specs.Ties.{LeadsNothing}
+use Rattle.core_worker.proofs.LeftLocks.{nothing_left}
+use Rattle.core_worker.specs.declared.types.Place.TheVariants.{Free, Staged, Posted}
 use Rattle.core_worker.specs.declared.worker.Worker.{Worker}
-use Rattle.core_worker.specs.OwnPlaces.{place_at}
+use Rattle.core_worker.specs.OwnPlaces.{place_at, key_in, is_staged}
 use Rattle.core_worker.specs.Finishing.{LetsGo, Settles, TakesBack, reply_back}
-use Rattle.core_worker.specs.Left.{place_left, left, offers, any_offers, under_way, Lowers}
+use Rattle.core_worker.specs.Left.{place_left, taken_left, left, any_offers, under_way, Lowers}
 use Rattle.core_worker.proofs.LeftSums.{offers_has}
 use Rattle.core_worker.proofs.LeftSteps.{finishes_way, gives_up_way, withdraws_way, unlocks_none}
-use Rattle.core_worker.proofs.LeftWorkers.{lets_go_way, settles_way, stops_way}
+use Rattle.core_worker.proofs.LeftWorkers.{leading_way, lets_go_way, settles_way, stops_way}
 use Rattle.core_worker.proofs.LeftLooks.{last_step, upto_looked, looked_way}
 use Rattle.core_worker.proofs.LeftItems.{IsLawful, lowers_step, lowers_still}
 use Rattle.core_worker.proofs.LeftRounds.{lowers_run, offered, own_member, own_slot}
@@ -99,3 +105,38 @@ drops_lower before after slot number entry value reply w x y same lt is lets low
     (let gone = lets_go_way w x slot reply lt lets in
     let was = ap place_left is in
     omega (arith, gone, was, low))
+
+-- A place that has a key is one of the places.
+pub key_within : (ps : List WorkerPlace) (s k : ℕ) → key_in (place_at ps s) ≡ Some k → s < length ps
+key_within [] s k is = absurd (cc is)
+key_within (x ∷ ps) zero k is = omega arith
+key_within (x ∷ ps) (suc s) k is = let rest = key_within ps s k is in omega (arith, rest)
+
+staged_counts : (x : WorkerPlace) → is_staged x ≡ true → place_left x ≡ 24
+staged_counts Free is = absurd (cc is)
+staged_counts (Staged number entry value) is = refl
+staged_counts (Posted number key lines) is = absurd (cc is)
+
+pub puts_away_way : (w x : Worker) (slot : ℕ) (block : Option ℕ) → slot < length w.places.items → PutsAway w x slot block → left x + place_left (place_at w.places.items slot) ≡ left w
+puts_away_way w x slot block lt P = let gone = lets_go_way (record w { allocator = P.mid }) x slot Stopped lt P.lets in omega (arith, gone)
+
+pub drop_less : (w x y : Worker) (slot : ℕ) (block : Option ℕ) → slot < length w.places.items → is_staged (place_at w.places.items slot) ≡ true → PutsAway w x slot block → left y ≤ left x → left y < left w
+drop_less w x y slot block lt is P low =
+    let gone = puts_away_way w x slot block lt P in
+    let was = staged_counts (place_at w.places.items slot) is in
+    omega (arith, gone, was, low)
+
+-- a change that was withdrawn is put away
+pub put_by_low : (w x : Worker) (k : ℕ) (block : Option ℕ) → PutsAwayKey w x k block → left x ≤ left w
+put_by_low w x k block P =
+    let gone = puts_away_way w x P.0 block (key_within w.places.items P.0 k P.1) P.2 in
+    omega (arith, gone)
+
+pub collecting_low : (w x : Worker) (c : Collecting) → x ≡ record w { leading = leads.Collecting c } → taken_by c ≡ [] → left x ≤ left w
+collecting_low w x c now none =
+    let same = ap left now in
+    let nothing = ap taken_left none in
+    omega (arith, same, nothing)
+
+pub nothing_low : (w x : Worker) → x ≡ record w { leading = x.leading } → LeadsNothing x → left x ≤ left w
+nothing_low w x same free = let still = leading_way w x same in let now = nothing_left x free in omega (arith, still, now)

@@ -1,9 +1,8 @@
 -- A core that has taken nothing in its round is at the round's first slot: whatever an item does leaves it so.
-use Rattle.std.proofs.Common.{◌≡◌, ◌≢◌, inl, inr, ⊎_elim, ℕ, ◌+◌, Bool, true, false, List, [], ◌∷◌, ◌++◌, Option, Some, None, refl, sym, ◌∙◌, ap, subst, arith}
+use Rattle.std.proofs.Common.{◌≡◌, ⊎_elim, ℕ, Bool, true, false, Option, Some, None, refl, sym, ◌∙◌, ap, arith}
 use Rattle.std.specs.Prelude.{MatchOption}
 use Rattle.group_laws.specs.Places as groups
 use Rattle.group_laws.specs.State.{Group}
-use Rattle.group_laws.specs.MemberViews.{View}
 use Rattle.pm_region.specs.State.{State}
 use Rattle.log_entry.specs.declared.entry.Entry.{Entry}
 use Rattle.group_board.specs.Seats.{SeatAt}
@@ -15,7 +14,7 @@ use Rattle.core_worker.specs.declared.types.Leading.{Leading}
 use Rattle.core_worker.specs.declared.types.Leading.TheVariants as leads
 use Rattle.core_worker.specs.declared.worker.Worker.{Worker}
 use Rattle.core_worker.specs.Ties.{LeadsNothing}
-use Rattle.core_worker.specs.Finishing.{TakesBack, Settles, FinishesSlot}
+use Rattle.core_worker.specs.Finishing.{Settles}
 use Rattle.core_worker.specs.Turns.{Moment, led_by, Collects, Releases, PersistsOrLoses, Marks, Fails, Posts, LosesBlock, Locks, Idles, Finishes}
 use Rattle.core_worker.specs.Left.{taken_left, StartsFirst, fair}
 use Rattle.core_worker.proofs.LeftWorkers.{taken_more}

@@ -1,19 +1,18 @@
 -- What the items of a turn lower, where the board tells the state.
-use Rattle.std.proofs.Common.{◌≡◌, ◌≢◌, inl, inr, ⊎_elim, ℕ, zero, suc, ◌+◌, ◌*◌, ◌-◌, ◌<◌, ◌≤◌, Bool, true, false, cond, List, [], ◌∷◌, ◌++◌, length, Option, Some, None, refl, sym, ◌∙◌, ap, subst, arith}
+use Rattle.std.proofs.Common.{◌≡◌, ⊎_elim, ℕ, ◌+◌, ◌<◌, false, cond, List, length, Option, Some, None, sym, ap, subst, arith}
 use Rattle.std.specs.Prelude.{IfSome, IsSomeAnd}
 use Rattle.std.proofs.Math.Bridge.{le_prop}
 use mathlib.Core.Logic.{∥∥₁_elim}
 use Rattle.group_laws.specs.State.{Group}
 use Rattle.group_laws.specs.Invariant.{Lawful}
 use Rattle.group_laws.specs.MemberViews.{View}
-use Rattle.group_laws.specs.Runs.{Kind, IsStep, Runs}
+use Rattle.group_laws.specs.Runs.{Kind, IsStep}
 use Rattle.group_board.specs.Told.{Makes}
 use Rattle.core_worker.specs.declared.worker.Worker.{Worker}
-use Rattle.core_worker.specs.declared.types.Leading.TheVariants as leads
-use Rattle.core_worker.specs.OwnPlaces.{place_at}
 use Rattle.core_worker.specs.Posting.{PostsPlain, PostsOrStops}
-use Rattle.core_worker.specs.Turns.{Moment, SameButLeading, Marks, Fails, Persists, LosesBatch, PersistsOrLoses, MadeOrStops}
-use Rattle.core_worker.specs.Left.{place_left, places_left, leading_left, left, under_way, Lowers, NotMore}
+use Rattle.batch_leader.specs.declared.taken.Taken.{Taken}
+use Rattle.core_worker.specs.Turns.{Moment, SameButLeading, persisted_left, failed_left, Persists, LosesBatch}
+use Rattle.core_worker.specs.Left.{place_left, leading_left, left, under_way, Lowers}
 use Rattle.core_worker.proofs.LeftSums.{places_with}
 use Rattle.core_worker.proofs.LeftSteps.{posts_way, marks_way, fails_way}
 use Rattle.core_worker.proofs.LeftWorkers.{leading_way, persisted_way, failed_way, unpledges_way}
@@ -35,23 +34,23 @@ lowers_still before after w x same less = subst (λ (o : Option Group). Lowers b
   by None = tt
   by (Some a) = omega (arith, less)
 
-pub marks_lower : (before after : Option Group) (m : ℕ) (a b : Moment) (M : Marks a b) → IsLawful before → Makes before m (Kind.Mark M.first.member M.first.slot) after b.view → Lowers before after a.worker b.worker
-marks_lower before after m a b M lawful made =
-    lowers_step before after m (Kind.Mark M.first.member M.first.slot) b.view a.worker b.worker made lawful (λ w u L step.
-    let way = marks_way w m M.first.member M.first.slot step.0 L step.1 in
+pub marks_lower : (before after : Option Group) (m : ℕ) (t : Taken) (rest : List Taken) (v : View) (w x : Worker) → persisted_left rest x.leading → SameButLeading w x → IsLawful before → Makes before m (Kind.Mark t.member t.slot) after v → Lowers before after w x
+marks_lower before after m t rest v w x leads same lawful made =
+    lowers_step before after m (Kind.Mark t.member t.slot) v w x made lawful (λ g u L step.
+    let way = marks_way g m t.member t.slot step.0 L step.1 in
     let group = ap under_way step.2 in
-    let same = leading_way a.worker b.worker M.same in
-    let now = persisted_way M.rest b.worker.leading M.leads_now in
-    omega (arith, way, group, same, now))
+    let still = leading_way w x same in
+    let now = persisted_way rest x.leading leads in
+    omega (arith, way, group, still, now))
 
-pub fails_lower : (before after : Option Group) (m : ℕ) (a b : Moment) (F : Fails a b) → IsLawful before → Makes before m (Kind.Fail F.first.member F.first.slot) after b.view → Lowers before after a.worker b.worker
-fails_lower before after m a b F lawful made =
-    lowers_step before after m (Kind.Fail F.first.member F.first.slot) b.view a.worker b.worker made lawful (λ w u L step.
-    let way = fails_way w m F.first.member F.first.slot step.0 L step.1 in
+pub fails_lower : (before after : Option Group) (m : ℕ) (t : Taken) (rest : List Taken) (v : View) (w x : Worker) → failed_left rest x.leading → SameButLeading w x → IsLawful before → Makes before m (Kind.Fail t.member t.slot) after v → Lowers before after w x
+fails_lower before after m t rest v w x leads same lawful made =
+    lowers_step before after m (Kind.Fail t.member t.slot) v w x made lawful (λ g u L step.
+    let way = fails_way g m t.member t.slot step.0 L step.1 in
     let group = ap under_way step.2 in
-    let same = leading_way a.worker b.worker F.same in
-    let now = failed_way F.rest b.worker.leading F.leads_now in
-    omega (arith, way, group, same, now))
+    let still = leading_way w x same in
+    let now = failed_way rest x.leading leads in
+    omega (arith, way, group, still, now))
 
 pub persists_lower : (before after : Option Group) (m : ℕ) (a b : Moment) → length b.worker.places.items ≡ length a.worker.places.items → Persists m a b → IsLawful before → Makes before m Kind.Commit after b.view → Lowers before after a.worker b.worker
 persists_lower before after m a b count P lawful made =

@@ -1,6 +1,6 @@
 -- A try of the lock, after the loads of the own slots.
-use Rattle.std.proofs.Common.{◌≡◌, ◌≢◌, inl, inr, ⊎_elim, ℕ, zero, suc, ◌+◌, ◌*◌, ◌-◌, ◌<◌, ◌≤◌, Bool, true, false, cond, eqb, List, [], ◌∷◌, ◌++◌, map, length, Option, Some, None, refl, sym, ◌∙◌, ap, subst, arith, append_assoc, append-nil}
-use Rattle.std.specs.Prelude.{IfSome, IsSomeAnd}
+use Rattle.std.proofs.Common.{◌≡◌, inl, inr, ⊎_elim, ℕ, ◌≤◌, true, false, cond, List, [], ◌∷◌, ◌++◌, map, Option, Some, None, refl, sym, ◌∙◌, ap, subst, arith, append_assoc, append-nil}
+use Rattle.std.specs.Prelude.{IfSome}
 use Rattle.std.proofs.lemmas.Bool.{eq-eqb}
 use Rattle.std.proofs.lemmas.List.{append_cancel_left}
 use Rattle.store_image.specs.Facts.{In}
@@ -12,13 +12,12 @@ use Rattle.group_laws.specs.declared.types.SlotWord.{SlotWord}
 use Rattle.group_laws.specs.declared.types.SlotWord.TheVariants as words
 use Rattle.group_laws.specs.State.{Group, shown}
 use Rattle.group_laws.specs.MemberViews.{View, view_of}
-use Rattle.group_laws.specs.Runs.{Kind, IsStep, Runs}
+use Rattle.group_laws.specs.Runs.{Kind, Runs}
 use Rattle.group_board.specs.Told.{Makes}
 use Rattle.batch_leader.specs.Leading.{MakesAll, IsFrom, taken_by, CollectsAt}
 use Rattle.batch_leader.specs.declared.states.Collecting.{Collecting}
 use Rattle.batch_leader.specs.declared.taken.Taken.{Taken}
 use Rattle.std.specs.List.{AllByRecursion}
-use Rattle.core_worker.specs.declared.types.Leading.TheVariants as leads
 use Rattle.core_worker.specs.declared.worker.Worker.{Worker}
 use Rattle.core_worker.specs.Ties.{LeadsNothing}
 use Rattle.core_worker.specs.Turns.{Moment, SameButLeading, Looked, FindsPosted, looks_at}

@@ -1,5 +1,5 @@
 -- Loads change nothing but what was looked at.
-use Rattle.std.proofs.Common.{◌≡◌, ◌≢◌, inl, inr, ⊎_elim, ℕ, zero, suc, ◌+◌, ◌*◌, ◌-◌, ◌<◌, ◌≤◌, Bool, true, false, cond, eqb, List, [], ◌∷◌, ◌++◌, map, length, Option, Some, None, refl, sym, ◌∙◌, ap, subst, arith}
+use Rattle.std.proofs.Common.{◌≡◌, ℕ, zero, suc, ◌+◌, List, [], ◌∷◌, ◌++◌, refl, sym, ◌∙◌, ap, subst}
 use Rattle.group_laws.specs.declared.types.Seen.{Seen}
 use Rattle.group_laws.specs.State.{Group}
 use Rattle.group_laws.specs.Runs.{Kind, IsStep, Runs}
@@ -9,10 +9,10 @@ use Rattle.batch_leader.specs.Leading.{looks_upto}
 use Rattle.core_worker.specs.Turns.{looks_at}
 use Rattle.core_worker.specs.Left.{under_way}
 
-abbrev pub Looked_on : Group → Group → Type 0
-Looked_on w u = (f : ℕ → List Seen) × (u ≡ record w { looked = f })
+abbrev pub LookedOn : Group → Group → Type 0
+LookedOn w u = (f : ℕ → List Seen) × (u ≡ record w { looked = f })
 
-on_then : (w mid u : Group) → Looked_on w mid → Looked_on mid u → Looked_on w u
+on_then : (w mid u : Group) → LookedOn w mid → LookedOn mid u → LookedOn w u
 on_then w mid u a b = (b.0, b.1 ∙ ap (λ (g : Group). record g { looked = b.0 }) a.1)
 
 pub runs_split : (w u : Group) (xs ys : List (ℕ × Kind)) → Runs w (xs ++ ys) u → (mid : Group) × Runs w xs mid × Runs mid ys u
@@ -23,15 +23,15 @@ runs_split w u (x ∷ xs) ys r = let rest = runs_split r.0 u xs ys r.2 in (rest.
 pub last_step : (w u : Group) (xs : List (ℕ × Kind)) (m : ℕ) (k : Kind) → Runs w (xs ++ (m, k) ∷ []) u → (mid : Group) × Runs w xs mid × IsStep mid m k u
 last_step w u xs m k r = let parts = runs_split w u xs ((m, k) ∷ []) r in (parts.0, parts.1, subst (λ (g : Group). IsStep parts.0 m k g) (sym parts.2.2) parts.2.1)
 
-pub upto_looked : (w u : Group) (m a n : ℕ) → Runs w (looks_upto m a n) u → Looked_on w u
+pub upto_looked : (w u : Group) (m a n : ℕ) → Runs w (looks_upto m a n) u → LookedOn w u
 upto_looked w u m a zero r = (w.looked, r)
 upto_looked w u m a (suc n) r =
     let last = last_step w u (looks_upto m a n) m (Look (member_at m (a + n)) (slot_at (a + n))) r in
     on_then w last.0 u (upto_looked w last.0 m a n last.1) (_, last.2.2)
 
-pub at_looked : (w u : Group) (m : ℕ) (ss : List ℕ) → Runs w (looks_at m ss) u → Looked_on w u
+pub at_looked : (w u : Group) (m : ℕ) (ss : List ℕ) → Runs w (looks_at m ss) u → LookedOn w u
 at_looked w u m [] r = (w.looked, r)
 at_looked w u m (s ∷ ss) r = on_then w r.0 u (_, r.1.2) (at_looked r.0 u m ss r.2)
 
-pub looked_way : (w u : Group) → Looked_on w u → under_way u ≡ under_way w
+pub looked_way : (w u : Group) → LookedOn w u → under_way u ≡ under_way w
 looked_way w u on = ap under_way on.1

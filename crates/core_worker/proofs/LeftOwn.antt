@@ -1,5 +1,5 @@
 -- An own change that is Posted is one that a round takes first.
-use Rattle.std.proofs.Common.{◌≡◌, ◌≢◌, inl, inr, ⊎_elim, ℕ, zero, suc, ◌+◌, ◌*◌, ◌-◌, ◌<◌, ◌≤◌, ◌&&◌, ◌||◌, nat_le, nat_lt, Bool, true, false, cond, eqb, List, [], ◌∷◌, ◌++◌, length, Option, Some, None, refl, sym, ◌∙◌, ap, subst, arith}
+use Rattle.std.proofs.Common.{◌≡◌, inl, ⊎_elim, ℕ, zero, suc, ◌<◌, ◌≤◌, ◌&&◌, nat_le, nat_lt, Bool, true, false, cond, List, [], ◌∷◌, length, Option, Some, None, refl, sym, ◌∙◌, ap, subst, arith}
 use Rattle.std.proofs.lemmas.Bool.{eq-eqb, and_from}
 use Rattle.std.proofs.lemmas.Bool.Decides.{nat_tests}
 use Rattle.log_entry.specs.declared.entry.Body.TheVariants as bodies
@@ -15,11 +15,11 @@ use Rattle.group_laws.specs.declared.types.Slot.TheVariants as slots
 use Rattle.group_laws.specs.Places.{Place, owner}
 use Rattle.group_laws.specs.State.{Group}
 use Rattle.group_laws.specs.Invariant.{Lawful}
-use Rattle.group_laws.specs.MemberViews.{View, view_of, of_own}
+use Rattle.group_laws.specs.MemberViews.{view_of, of_own}
 use Rattle.batch_leader.specs.Rounds.{fits, stays_in, goes_fresh, has_chunk}
 use Rattle.batch_leader.specs.Leading.{IsKept}
 use Rattle.core_worker.specs.declared.types.Place as places
-use Rattle.core_worker.specs.declared.types.Place.TheVariants.{Free, Staged, Posted}
+use Rattle.core_worker.specs.declared.types.Place.TheVariants.{Posted}
 use Rattle.core_worker.specs.declared.worker.Worker.{Worker}
 use Rattle.core_worker.specs.OwnPlaces.{place_at, lines_in, own}
 use Rattle.core_worker.specs.KeyTies.{IsPlaced}

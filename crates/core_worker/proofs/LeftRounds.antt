@@ -1,6 +1,6 @@
 -- What a round lowers: a take, and giving the lock back.
-use Rattle.std.proofs.Common.{◌≡◌, ◌≢◌, inl, inr, ⊎_elim, ℕ, zero, suc, ◌+◌, ◌*◌, ◌-◌, ◌/◌, ◌%◌, ◌<◌, ◌≤◌, ◌==◌, Bool, true, false, cond, eqb, List, [], ◌∷◌, ◌++◌, length, Option, Some, None, refl, sym, ◌∙◌, ap, subst, arith}
-use Rattle.std.specs.Prelude.{IfSome, IsSomeAnd}
+use Rattle.std.proofs.Common.{◌≡◌, ◌≢◌, ⊎_elim, ℕ, ◌+◌, ◌-◌, ◌<◌, ◌≤◌, ◌==◌, Bool, true, false, List, [], ◌∷◌, ◌++◌, length, Option, Some, None, refl, sym, ◌∙◌, ap, subst, arith}
+use Rattle.std.specs.Prelude.{IfSome}
 use Rattle.std.proofs.Math.Bridge.{le_prop}
 use Rattle.std.proofs.lemmas.Bool.{eq-eqb}
 use Rattle.std.proofs.lemmas.Bool.Decides.{nat_tests}
@@ -13,10 +13,9 @@ use Rattle.group_laws.specs.Places.{Place, members}
 use Rattle.group_laws.specs.State.{Group, shown}
 use Rattle.group_laws.specs.Invariant.{Lawful}
 use Rattle.group_laws.specs.MemberViews.{View, view_of}
-use Rattle.group_laws.specs.Runs.{Kind, IsStep, Runs}
+use Rattle.group_laws.specs.Runs.{Kind, Runs}
 use Rattle.group_board.specs.Seats.{SeatAt}
 use Rattle.group_board.specs.Told.{state_of}
-use Rattle.group_board.specs.declared.board.SlotState.{SlotState}
 use Rattle.group_board.specs.declared.board.SlotState.TheVariants as states
 use Rattle.batch_leader.specs.declared.states.Collecting.{Collecting}
 use Rattle.batch_leader.specs.declared.changes.Changes.{Changes}
@@ -24,9 +23,7 @@ use Rattle.batch_leader.specs.declared.states.Released.{Released}
 use Rattle.batch_leader.specs.declared.states.Released.TheVariants as released
 use Rattle.batch_leader.specs.declared.taken.Taken.{Taken}
 use Rattle.batch_leader.specs.Rounds.{member_at, slot_at, round_end, own_lines, fits, Passes}
-use Rattle.batch_leader.specs.Leading.{MakesAll, looks_upto, steps_of, taken_by, IsReleased, IsOver, Passed, Went}
-use Rattle.core_worker.specs.declared.types.Leading.{Leading}
-use Rattle.core_worker.specs.declared.types.Leading.TheVariants as leads
+use Rattle.batch_leader.specs.Leading.{MakesAll, looks_upto, steps_of, taken_by, IsReleased, IsOver, Passed}
 use Rattle.core_worker.specs.declared.worker.Worker.{Worker}
 use Rattle.core_worker.specs.Supplies.{HasKeptRoom, room_for}
 use Rattle.core_worker.specs.Ties.{Holds}
@@ -107,11 +104,11 @@ module _ (before after : Option Group) (seat : SeatAt) (a b : Moment) (R : Relea
   was : leading_left a.worker.leading ≡ taken_left (taken_by R.old)
   was = ap leading_left R.led
 
-  abbrev Step_of : Group → Group → Type 0
-  Step_of g u = Runs g (steps_of false seat.number R.old R.last ++ (seat.number, Kind.Unlock) ∷ []) u
+  abbrev StepsOf : Group → Group → Type 0
+  StepsOf g u = Runs g (steps_of false seat.number R.old R.last ++ (seat.number, Kind.Unlock) ∷ []) u
 
   -- with a batch
-  batch : (g u : Group) → taken_left (taken_by R.old) ≡ 3 → leading_left b.worker.leading ≡ 1 → Step_of g u → left b.worker + under_way u < left a.worker + under_way g
+  batch : (g u : Group) → taken_left (taken_by R.old) ≡ 3 → leading_left b.worker.leading ≡ 1 → StepsOf g u → left b.worker + under_way u < left a.worker + under_way g
   batch g u had now run =
       let last = last_step g u (steps_of false seat.number R.old R.last) seat.number Kind.Unlock run in
       let looked = looked_way g last.0 (upto_looked g last.0 seat.number R.old.at (R.last.at - R.old.at) last.1) in
@@ -128,7 +125,7 @@ module _ (before after : Option Group) (seat : SeatAt) (a b : Moment) (R : Relea
       (λ (full : length (taken_by R.last) ≡ 64). absurd (let zero_long = ap (λ (ts : List Taken). length ts) none in omega (arith, full, zero_long)))
       over
 
-  nothing : (g u : Group) → before ≡ Some g → Lawful g → taken_by R.last ≡ [] → leading_left b.worker.leading ≡ 0 → Step_of g u → left b.worker + under_way u < left a.worker + under_way g
+  nothing : (g u : Group) → before ≡ Some g → Lawful g → taken_by R.last ≡ [] → leading_left b.worker.leading ≡ 0 → StepsOf g u → left b.worker + under_way u < left a.worker + under_way g
   nothing g u told L none now run =
       let last = last_step g u (steps_of false seat.number R.old R.last) seat.number Kind.Unlock run in
       let on = upto_looked g last.0 seat.number R.old.at (R.last.at - R.old.at) last.1 in
@@ -146,7 +143,7 @@ module _ (before after : Option Group) (seat : SeatAt) (a b : Moment) (R : Relea
       let same = leading_way a.worker b.worker R.same in
       omega (arith, looked, way, group, same, now)
 
-  by : (r : Released) → R.given ≡ r → IsReleased seat b.view R.last r → (g u : Group) → before ≡ Some g → Lawful g → Step_of g u → left b.worker + under_way u < left a.worker + under_way g
+  by : (r : Released) → R.given ≡ r → IsReleased seat b.view R.last r → (g u : Group) → before ≡ Some g → Lawful g → StepsOf g u → left b.worker + under_way u < left a.worker + under_way g
   by (released.Batch x) e is g u told L run =
       batch g u (none_some (taken_by R.old) (λ none. x.some (ap (λ (c : Changes). c.taken.items) is.1 ∙ items ∙ none))) (ap leading_left R.leads_now ∙ ap (λ (r : Released). leading_left (led_by r)) e) run
   by (released.Nothing x) e is g u told L run =

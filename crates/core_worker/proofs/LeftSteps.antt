@@ -1,17 +1,16 @@
 -- What each step of a member makes of what is under way in its group.
-use Rattle.std.proofs.Common.{◌≡◌, inl, inr, ⊎_elim, ℕ, ◌+◌, ◌<◌, ◌≤◌, Bool, true, false, cond, List, Option, Some, None, refl, sym, ◌∙◌, ap, subst, arith}
+use Rattle.std.proofs.Common.{◌≡◌, ℕ, ◌+◌, ◌<◌, ◌≤◌, true, false, cond, List, Some, None, ◌∙◌, ap, arith}
 use Rattle.log_entry.specs.declared.entry.Entry.{Entry}
 use Rattle.group_laws.specs.declared.types.Slot.{Slot}
 use Rattle.group_laws.specs.declared.types.Slot.TheVariants as slots
-use Rattle.group_laws.specs.declared.types.Seen.{Seen}
 use Rattle.group_laws.specs.Places.{members}
 use Rattle.group_laws.specs.State.{Group}
 use Rattle.group_laws.specs.Updates.{put2}
-use Rattle.group_laws.specs.Steps.{posts, CanPost, locks, finds, takes, CanTake, unlocks, CanUnlock, commits, marks, CanMark, fails, CanFail, finishes, CanFinish, gives_up, CanGiveUp, withdraws, CanWithdraw}
+use Rattle.group_laws.specs.Steps.{posts, CanPost, locks, takes, CanTake, unlocks, marks, CanMark, fails, CanFail, finishes, CanFinish, gives_up, CanGiveUp, withdraws, CanWithdraw}
 use Rattle.group_laws.specs.Tidying.{Tidied}
 use Rattle.group_laws.specs.Invariant.{Lawful}
 use Rattle.core_worker.specs.Left.{slot_left, offers, any_offers, lock_left, slots_left, under_way}
-use Rattle.core_worker.proofs.LeftSums.{all_slots, slots_with, lock_two, lock_low, put_offers, offers_by}
+use Rattle.core_worker.proofs.LeftSums.{slots_with, lock_two, lock_low, put_offers, offers_by}
 
 -- One slot is written; who holds the lock stays.
 module _ (w : Group) (m s : ℕ) (x : Slot) (member : m < members w.place) (slot : s < 8) where

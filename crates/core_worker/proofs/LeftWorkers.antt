@@ -1,11 +1,9 @@
 -- What is left to do of a worker, where only some of its fields differ.
-use Rattle.std.proofs.Common.{◌≡◌, inl, inr, ⊎_elim, ℕ, ◌+◌, ◌*◌, ◌<◌, ◌≤◌, Bool, true, false, cond, List, [], ◌∷◌, ◌++◌, length, Option, Some, None, refl, sym, ◌∙◌, ap, subst, arith}
-use Rattle.std.specs.Prelude.{is_some}
+use Rattle.std.proofs.Common.{◌≡◌, ⊎_elim, ℕ, ◌+◌, ◌<◌, ◌≤◌, Bool, true, false, cond, List, [], ◌∷◌, ◌++◌, length, Option, Some, None, refl, sym, ◌∙◌, ap, arith}
 use Rattle.fs_model.specs.declared.model.Request.{Request}
 use Rattle.fs_model.specs.declared.model.Reply.{Reply}
 use Rattle.conflict_queue.specs.declared.types.Held.{Held}
 use Rattle.conflict_queue.specs.Waiting.{TakesFirst, AddsLast}
-use Rattle.group_laws.specs.declared.types.Slot.{Slot}
 use Rattle.log_entry.specs.declared.entry.Entry.{Entry}
 use Rattle.batch_leader.specs.declared.taken.Taken.{Taken}
 use Rattle.batch_leader.specs.TakenChanges.{taken_in}
@@ -13,7 +11,7 @@ use Rattle.core_worker.specs.declared.types.Leading.{Leading}
 use Rattle.core_worker.specs.declared.types.Place.{Place}
 use Rattle.core_worker.specs.declared.types.Place.TheVariants.{Free, Staged, Posted}
 use Rattle.core_worker.specs.declared.worker.Worker.{Worker}
-use Rattle.core_worker.specs.OwnPlaces.{place_at, is_free, Replaces}
+use Rattle.core_worker.specs.OwnPlaces.{place_at, is_free}
 use Rattle.core_worker.specs.Beginning.{OnlyStages, IsStaged}
 use Rattle.core_worker.specs.Accepting.{IsAsBefore}
 use Rattle.core_worker.specs.Finishing.{LetsGo, Settles}

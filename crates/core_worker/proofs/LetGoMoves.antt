@@ -1,14 +1,14 @@
 -- A change is let go and what waits of its key is begun: a whole move to whoever runs several workers.
-use Rattle.std.proofs.Common.{◌≡◌, ◌≢◌, ◌⊎◌, inl, inr, ⊎_elim, ℕ, ◌<◌, ◌==◌, ◌||◌, Bool, true, false, cond, List, [], ◌∷◌, ◌++◌, map, length, Option, Some, None, refl, sym, ◌∙◌, ap, subst, arith, append-nil, append_assoc}
+use Rattle.std.proofs.Common.{◌≡◌, ◌≢◌, ◌⊎◌, inl, inr, ⊎_elim, ℕ, ◌==◌, ◌||◌, Bool, true, false, cond, List, [], ◌∷◌, ◌++◌, map, Option, Some, None, refl, sym, ◌∙◌, ap, subst, arith, append-nil, append_assoc}
 use Rattle.std.specs.Prelude.{option_map, option_to_list, IfSome}
-use Rattle.std.specs.List.{AllByRecursion, filter}
+use Rattle.std.specs.List.{filter}
 use Rattle.std.proofs.lemmas.Bool.{cases_eq, eq-eqb, ne_eqb}
 use Rattle.fs_model.specs.declared.model.Request.{Request}
 use Rattle.fs_model.specs.declared.model.Reply.{Reply}
 use Rattle.fs_model.specs.declared.model.Reply.TheVariants as replies
 use Rattle.fs_model.specs.Cells.{key_of}
 use Rattle.fs_model.specs.Lawful.{MayReply, IsLawfulFor, cell_left, cell_of, is_finish, is_stopped}
-use Rattle.pm_region.specs.State.{State, IsTelling, Rose}
+use Rattle.pm_region.specs.State.{State}
 use Rattle.pm_region.proofs.Moments.{started}
 use Rattle.pm_region.proofs.Runs.{all_kept}
 use Rattle.log_entry.specs.declared.entry.Entry.{Entry}
@@ -18,7 +18,6 @@ use Rattle.store_image.specs.Facts.{In}
 use Rattle.conflict_queue.specs.declared.types.Held.{Held}
 use Rattle.conflict_queue.specs.Waiting.{waiting}
 use Rattle.group_laws.specs.declared.types.Block.{Block}
-use Rattle.group_laws.specs.declared.types.Pending.{Pending}
 use Rattle.group_laws.specs.declared.types.Slot.TheVariants.{Failed}
 use Rattle.group_laws.specs.Places.{Place, owner}
 use Rattle.group_laws.specs.State.{Group}
@@ -38,10 +37,10 @@ use Rattle.core_worker.specs.Beginning.{answers_of, answer_with}
 use Rattle.core_worker.specs.Finishing.{Serves, ShortOf}
 use Rattle.core_worker.specs.Turning.{TurnMoves}
 use Rattle.group_board.specs.Seats.{SeatAt}
-use Rattle.core_worker.specs.WorkerMoves.{Placed, Hands, Fixed, told, asked, replied, placed, line_in, placed_in, placed_for, asked_by, hands_of, fixed_of, requests_for, AnswersKey, WorkerMoves}
-use Rattle.core_worker.proofs.HandKeys.{none_for, holds_key}
+use Rattle.core_worker.specs.WorkerMoves.{Placed, Fixed, told, replied, placed, line_in, placed_in, placed_for, asked_by, hands_of, fixed_of, AnswersKey, WorkerMoves}
+use Rattle.core_worker.proofs.HandKeys.{holds_key}
 use Rattle.core_worker.proofs.HandPlaces.{held_at, held_beside}
-use Rattle.core_worker.proofs.Posts.{busy_by, busy_has}
+use Rattle.core_worker.proofs.Posts.{busy_has}
 use Rattle.core_worker.proofs.PostMoves.{kept_key}
 use Rattle.core_worker.proofs.QuietMoves.{runs_in}
 use Rattle.core_worker.proofs.ServedLines.{Line, lawful_before, lines_all, lines_short, line_kept}

@@ -20,6 +20,7 @@ mod QuietItems
 mod PostMoves
 mod SearchLaws
 mod TurnLaws
+mod Resting
 mod RefusalLaws
 mod Gains
 mod Pointers
@@ -49,8 +50,6 @@ pub mod Withdrawing
 mod Unlocking
 mod Retracting
 mod Members
-mod Unpledging
-mod BatchRoom
 mod LeftSums
 mod LeftSteps
 mod LeftWorkers
@@ -70,6 +69,7 @@ mod RestingSlots
 mod RestingPlaces
 mod Rested
 mod ItemLaws
+mod LeftTurns
 mod StartKeys
 mod StartBlocks
 mod StartHeads

@@ -1,24 +1,30 @@
 -- An idle turn leaves its core at rest.
-use Rattle.std.proofs.Common.{◌≡◌, ◌≢◌, ◌⊎◌, inl, inr, ⊎_elim, ℕ, ◌+◌, ◌<◌, Bool, true, false, cond, not, ◌&&◌, List, [], ◌∷◌, ◌++◌, length, Option, Some, None, refl, sym, ◌∙◌, ap, subst, arith}
-use Rattle.std.specs.Prelude.{IfSome, IsSomeAnd}
+use Rattle.std.proofs.Common.{◌≡◌, ◌⊎◌, inl, inr, ⊎_elim, ℕ, ◌<◌, Bool, true, false, not, List, [], ◌∷◌, ◌++◌, Option, Some, None, Result, Ok, Err, refl, sym, ◌∙◌, ap, subst, arith}
+use Rattle.std.specs.Prelude.{IfSome}
 use Rattle.std.proofs.lemmas.Bool.{and_from}
 use Rattle.log_entry.specs.declared.entry.Entry.{Entry}
 use Rattle.group_laws.specs.declared.types.Pending.{Pending}
-use Rattle.group_laws.specs.declared.types.Block.{Block}
 use Rattle.group_laws.specs.Places.{Place, owner}
 use Rattle.group_laws.specs.State.{Group}
 use Rattle.group_laws.specs.Invariant.{Lawful}
 use Rattle.group_laws.specs.MemberViews.{View, view_of}
 use Rattle.group_laws.specs.Runs.{Kind}
 use Rattle.group_board.specs.Told.{Makes}
+use Rattle.pm_region.specs.State.{State}
+use Rattle.fs_errors.specs.declared.Memory.{Memory}
+use Rattle.group_board.specs.Seats.{SeatAt}
+use Rattle.batch_leader.specs.TakenChanges.{MatchBool}
+use Rattle.core_worker.specs.declared.types.Turn.{Turn}
+use Rattle.core_worker.specs.declared.types.Turn.TheVariants.{Moved, Idle}
+use Rattle.core_worker.specs.Turning.{TurnedTo}
 use Rattle.core_worker.specs.declared.types.Leading.{Leading}
 use Rattle.core_worker.specs.declared.worker.Worker.{Worker}
 use Rattle.core_worker.specs.OwnPlaces.{place_at, is_staged, is_posted, HasNone}
 use Rattle.core_worker.specs.Status.{has_room, is_leading}
 use Rattle.core_worker.specs.Ties.{Holds, LeadsAt, LeadsNothing}
-use Rattle.core_worker.specs.Turns.{Moment, FindsPosted, PassesPost, Idles, LooksMade}
-use Rattle.core_worker.specs.WorkerMoves.{Placed, hands_of}
-use Rattle.core_worker.specs.Resting.{IsWithOthers, Rests, HoldsSame, is_open, OpenFor, LoadsOnly}
+use Rattle.core_worker.specs.Turns.{Moment, FindsPosted, PassesItems, PassesPost, SameButLeading, Idles, LooksMade}
+use Rattle.core_worker.specs.WorkerMoves.{hands_of}
+use Rattle.core_worker.specs.Resting.{IsWithOthers, IsResting, HoldsSame, OpenFor, LoadsOnly, AtRest, IfIdle, TriedIf}
 use Rattle.group_laws.specs.declared.types.Seen.{Seen}
 use Rattle.group_laws.specs.declared.types.Seen.TheVariants.{Holder}
 use Rattle.core_worker.specs.Left.{NotMore}
@@ -44,34 +50,34 @@ abbrev slot_or : Option Pending → Option ℕ
 slot_or None = None
 slot_or (Some d) = d.slot
 
-module _ (p : Place) (refused : Bool) (m : ℕ) (a b : Moment) (I : Idles refused m a b) (H : Holds p m b.view b.worker) (asks : refused ≡ false) (works : a.worker.winds_down ≡ false) where
+module _ (p : Place) (refused : Bool) (m : ℕ) (a b : Moment) (seen : View) (P : PassesItems m a 8 seen) (post : PassesPost refused a.worker) (free : LeadsNothing b.worker) (same_worker : SameButLeading a.worker b.worker) (H : Holds p m b.view b.worker) (asks : refused ≡ false) (works : a.worker.winds_down ≡ false) where
   none : HasNone is_staged b.worker.places.items
-  none t = ap (λ (w : Worker). is_staged (place_at w.places.items t)) I.same ∙ none_staged refused a.worker I.post asks works t
+  none t = ap (λ (w : Worker). is_staged (place_at w.places.items t)) same_worker ∙ none_staged refused a.worker post asks works t
 
   works_still : b.worker.winds_down ≡ false
-  works_still = ap (λ (w : Worker). w.winds_down) I.same ∙ works
+  works_still = ap (λ (w : Worker). w.winds_down) same_worker ∙ works
 
   pub leads_nothing : (b.view.holds ≡ false) × ((s t : ℕ) → b.view.taken s t ≡ None)
-  leads_nothing = (let led = subst (λ (l : Leading). LeadsAt H.leads.seat b.view l) I.free.1 H.leads.at in (led.0, led.1))
+  leads_nothing = (let led = subst (λ (l : Leading). LeadsAt H.leads.seat b.view l) free.1 H.leads.at in (led.0, led.1))
 
   -- with no change in a place it could have been handed a request
   pub open_for : OpenFor p m (hands_of b.view b.worker) a.worker
   open_for all =
-      let room : has_room a.worker ≡ true = sym (ap has_room I.same) ∙ room_for_one p m b.view b.worker H none works_still all in
-      and_from (not (is_leading a.worker.leading)) (has_room a.worker) (ap (λ (l : Leading). not (is_leading l)) I.before.free.1) room
+      let room : has_room a.worker ≡ true = sym (ap has_room same_worker) ∙ room_for_one p m b.view b.worker H none works_still all in
+      and_from (not (is_leading a.worker.leading)) (has_room a.worker) (ap (λ (l : Leading). not (is_leading l)) P.free.1) room
 
   -- The steps that it made: the loads, and the try of the lock, where an own change was found Posted.
-  module _ (before mid after : Option Group) (looks : LooksMade before mid m I.mid) (tried : ((FindsPosted a.worker.places.items I.before.looked.found 8 → ⊥) × (after ≡ mid)) ⊎ Makes mid m Kind.Lock after b.view) where
+  module _ (before mid after : Option Group) (looks : LooksMade before mid m seen) (tried : ((FindsPosted a.worker.places.items P.looked.found 8 → ⊥) × (after ≡ mid)) ⊎ Makes mid m Kind.Lock after b.view) where
     pub loads : LoadsOnly before after m
-    loads = ⊎_elim (λ no. subst (λ (o : Option Group). LoadsOnly before o m) (sym no.1) (looks_only before mid m I.mid looks)) (λ try. looks_and_try before mid after m I.mid b.view looks try) tried
+    loads = ⊎_elim (λ no. subst (λ (o : Option Group). LoadsOnly before o m) (sym no.1) (looks_only before mid m seen looks)) (λ try. looks_and_try before mid after m seen b.view looks try) tried
 
     module _ (entered : Agrees p m a.view before) (left : Agrees p m b.view after) (lawful : IfSome after (λ w. ∥ Lawful w ∥₁)) where
       slot_with : (k s : ℕ) (e : Entry) → owner p k ≡ m → b.view.pending k ≡ Some (record { entry = e; slot = Some s }) → s < 8 → is_posted (place_at b.worker.places.items s) ≡ true → IsWithOthers before after m s
       slot_with k s e own pends lt is = by before mid after looks tried entered left lawful where
         at : is_posted (place_at a.worker.places.items s) ≡ true
-        at = sym (ap (λ (w : Worker). is_posted (place_at w.places.items s)) I.same) ∙ is
+        at = sym (ap (λ (w : Worker). is_posted (place_at w.places.items s)) same_worker) ∙ is
 
-        by : (before mid after : Option Group) → LooksMade before mid m I.mid → ((FindsPosted a.worker.places.items I.before.looked.found 8 → ⊥) × (after ≡ mid)) ⊎ Makes mid m Kind.Lock after b.view → Agrees p m a.view before → Agrees p m b.view after → IfSome after (λ w. ∥ Lawful w ∥₁) → IsWithOthers before after m s
+        by : (before mid after : Option Group) → LooksMade before mid m seen → ((FindsPosted a.worker.places.items P.looked.found 8 → ⊥) × (after ≡ mid)) ⊎ Makes mid m Kind.Lock after b.view → Agrees p m a.view before → Agrees p m b.view after → IfSome after (λ w. ∥ Lawful w ∥₁) → IsWithOthers before after m s
         by None mid after looks tried entered left lawful = tt
         by (Some g) mid None looks tried entered left lawful = tt
         by (Some g) None (Some e') looks tried entered left lawful = absurd looks.1
@@ -80,12 +86,12 @@ module _ (p : Place) (refused : Bool) (m : ℕ) (a b : Moment) (I : Idles refuse
             let named : e'.pending k ≡ Some (record { entry = e; slot = Some s }) = sym (own_view e'.place m k (e'.pending k) None mine) ∙ sym (ap (λ (v : View). v.pending k) left.1) ∙ pends in
             ⊎_elim
             (λ no. let same : e' ≡ h = cc no.1 in
-            with_others g h e' m looks.0 looks.1.0 a I.mid I.before entered.1 looks.1.1 (ap (λ (y : Group). y.slot) same) (λ found. absurd (no.0 found)) lawful k s e mine named lt at)
+            with_others g h e' m looks.0 looks.1.0 a seen P entered.1 looks.1.1 (ap (λ (y : Group). y.slot) same) (λ found. absurd (no.0 found)) lawful k s e mine named lt at)
             (λ try. let busy = busy_slot h e' m try.0 (sym (ap (λ (v : View). v.holds) try.1) ∙ leads_nothing.0) in
-            with_others g h e' m looks.0 looks.1.0 a I.mid I.before entered.1 looks.1.1 busy.0 (λ found. busy.1) lawful k s e mine named lt at)
+            with_others g h e' m looks.0 looks.1.0 a seen P entered.1 looks.1.1 busy.0 (λ found. busy.1) lawful k s e mine named lt at)
             tried
 
-      pub rests : b.worker.in_hand ≡ None → Rests p m before after b.view (hands_of b.view b.worker)
+      pub rests : b.worker.in_hand ≡ None → IsResting p m before after b.view (hands_of b.view b.worker)
       rests hand = record {
         holds = leads_nothing.0;
         taken = leads_nothing.1;
@@ -124,3 +130,29 @@ idles_not_more refused m a b I before mid after looks tried free =
     (let same = leading_way a.worker b.worker I.same in let was = nothing_left a.worker I.before.free in let now = nothing_left b.worker I.free in omega (arith, same, was, now))))
     (λ try. busy_not_more mid after m b.view a.worker b.worker try free I.before.free I.free I.same)
     tried)
+
+-- By what a turn answers.
+at_rest : (refused : Bool) (seat : SeatAt) (a b : Moment) (seen : View) (P : PassesItems seat.number a 8 seen) (posted : Bool) → MatchBool posted (FindsPosted a.worker.places.items P.looked.found 8) (FindsPosted a.worker.places.items P.looked.found 8 → ⊥) → (before mid after : Option Group) → LooksMade before mid seat.number seen → TriedIf posted seat.number mid after b.view
+    → Idles refused seat.number a b → Holds seat.place seat.number b.view b.worker → (b.worker.winds_down ≡ false → b.worker.in_hand ≡ None) → Agrees seat.place seat.number a.view before → Agrees seat.place seat.number b.view after → IfSome after (λ w. ∥ Lawful w ∥₁) → refused ≡ false → a.worker.winds_down ≡ false
+    → AtRest seat before after a.view b.view a.worker b.worker
+at_rest refused seat a b seen P posted found before mid after looks tried I H hand entered left lawful asks works =
+    let p = seat.place in
+    let m = seat.number in
+    let try = tried_as posted found tried in
+    record {
+      loads = loads p refused m a b seen P I.post I.free I.same H asks works before mid after looks try;
+      same = idle_same p refused m a b I;
+      rests = rests p refused m a b seen P I.post I.free I.same H asks works before mid after looks try entered left lawful (hand (ap (λ (w : Worker). w.winds_down) I.same ∙ works));
+      open_for = open_for p refused m a b seen P I.post I.free I.same H asks works;
+    } where
+      tried_as : (x : Bool) → MatchBool x (FindsPosted a.worker.places.items P.looked.found 8) (FindsPosted a.worker.places.items P.looked.found 8 → ⊥) → TriedIf x seat.number mid after b.view
+          → ((FindsPosted a.worker.places.items P.looked.found 8 → ⊥) × (after ≡ mid)) ⊎ Makes mid seat.number Kind.Lock after b.view
+      tried_as true f t = inr t
+      tried_as false f t = inl (f, t)
+
+pub rests_by : (r : Result Turn Memory) (s : State) (refused : Bool) (seat : SeatAt) (a b : Moment) (seen : View) (P : PassesItems seat.number a 8 seen) (posted : Bool) → MatchBool posted (FindsPosted a.worker.places.items P.looked.found 8) (FindsPosted a.worker.places.items P.looked.found 8 → ⊥) → (before mid after : Option Group) → LooksMade before mid seat.number seen → IfIdle r (TriedIf posted seat.number mid after b.view)
+    → TurnedTo r s refused before seat a b → Holds seat.place seat.number b.view b.worker → (b.worker.winds_down ≡ false → b.worker.in_hand ≡ None) → Agrees seat.place seat.number a.view before → Agrees seat.place seat.number b.view after → IfSome after (λ w. ∥ Lawful w ∥₁)
+    → IfIdle r (refused ≡ false → a.worker.winds_down ≡ false → AtRest seat before after a.view b.view a.worker b.worker)
+rests_by (Ok Moved) s refused seat a b seen P posted found before mid after looks tried turned H hand entered left lawful = tt
+rests_by (Err memory) s refused seat a b seen P posted found before mid after looks tried turned H hand entered left lawful = tt
+rests_by (Ok Idle) s refused seat a b seen P posted found before mid after looks tried turned H hand entered left lawful = at_rest refused seat a b seen P posted found before mid after looks tried turned H hand entered left lawful

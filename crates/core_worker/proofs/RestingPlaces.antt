@@ -1,31 +1,26 @@
 -- What an idle core holds, by its places.
-use Rattle.std.proofs.Common.{◌≡◌, ◌≢◌, ◌⊎◌, inl, inr, ⊎_elim, ℕ, zero, suc, ◌+◌, ◌<◌, ◌≤◌, ◌&&◌, ◌||◌, ◌==◌, nat_lt, Bool, true, false, cond, not, List, [], ◌∷◌, ◌++◌, map, length, Option, Some, None, refl, sym, ◌∙◌, ap, subst, arith, option_map}
+use Rattle.std.proofs.Common.{◌≡◌, ℕ, ◌<◌, ◌==◌, nat_lt, Bool, true, false, cond, List, [], ◌∷◌, ◌++◌, map, length, Option, Some, None, refl, sym, ◌∙◌, ap, subst, arith, option_map}
 use Rattle.std.specs.Prelude.{option_to_list}
 use Rattle.std.specs.List.{filter}
 use Rattle.std.proofs.lemmas.Bool.{eq-eqb, and_from}
-use Rattle.std.proofs.lemmas.Bool.Decides.{nat_tests}
 use Rattle.fs_model.specs.declared.model.Request.{Request}
 use Rattle.fs_model.specs.Cells.{key_of}
 use Rattle.conflict_queue.specs.declared.types.Held.{Held}
 use Rattle.conflict_queue.specs.Waiting.{waiting}
 use Rattle.log_entry.specs.declared.entry.Entry.{Entry}
-use Rattle.group_laws.specs.declared.types.Pending.{Pending}
 use Rattle.group_laws.specs.Places.{Place, owner}
 use Rattle.group_laws.specs.MemberViews.{View}
-use Rattle.core_worker.specs.declared.types.Leading.{Leading}
 use Rattle.core_worker.specs.declared.types.Place as places
 use Rattle.core_worker.specs.declared.types.Place.TheVariants.{Free, Staged, Posted}
 use Rattle.core_worker.specs.declared.worker.Worker.{Worker}
 use Rattle.core_worker.specs.OwnPlaces.{place_at, key_in, is_free, is_staged, is_posted, is_busy, HasNone, request_pending}
 use Rattle.core_worker.specs.KeyTies.{IsPlaced}
-use Rattle.core_worker.specs.Status.{any_free, has_room, is_leading}
-use Rattle.core_worker.specs.Ties.{Holds, LeadsNothing}
-use Rattle.core_worker.specs.WorkerMoves.{Placed, Hands, placed_in, placed_for, asked_by, hands_of}
-use Rattle.core_worker.specs.Resting.{HoldsSame, is_open, OpenFor}
+use Rattle.core_worker.specs.Status.{any_free, has_room}
+use Rattle.core_worker.specs.Ties.{Holds}
+use Rattle.core_worker.specs.WorkerMoves.{Placed, placed_in, placed_for, asked_by, hands_of}
 use Rattle.core_worker.proofs.HandKeys.{none_for}
 use Rattle.core_worker.proofs.HandPlaces.{held_at}
 use Rattle.core_worker.proofs.Posts.{busy_by, busy_has}
-use Rattle.core_worker.proofs.QuietMoves.{for_same}
 
 abbrev asked_as : ℕ → Request → Placed
 asked_as n r = record { number = n; request = r; posted = true }
@@ -35,12 +30,12 @@ asked_is None n y e = absurd (cc e)
 asked_is (Some r) n y e = (let same : record { number = n; request = r; posted = true } ≡ y = cc e in ap (λ (x : Placed). x.posted) (sym same))
 
 -- the place of a change that is no longer staged
-abbrev Posted_at : List places.Place → ℕ → ℕ → Type 0
-Posted_at ps k t = (number : ℕ) × (lines : ℕ) × (place_at ps t ≡ Posted number k lines)
+abbrev PostedAt : List places.Place → ℕ → ℕ → Type 0
+PostedAt ps k t = (number : ℕ) × (lines : ℕ) × (place_at ps t ≡ Posted number k lines)
 
-posted_place : (ps : List places.Place) (k t : ℕ) → HasNone is_staged ps → key_in (place_at ps t) ≡ Some k → Posted_at ps k t
+posted_place : (ps : List places.Place) (k t : ℕ) → HasNone is_staged ps → key_in (place_at ps t) ≡ Some k → PostedAt ps k t
 posted_place ps k t none is = by (place_at ps t) refl is where
-  by : (x : places.Place) → place_at ps t ≡ x → key_in x ≡ Some k → Posted_at ps k t
+  by : (x : places.Place) → place_at ps t ≡ x → key_in x ≡ Some k → PostedAt ps k t
   by Free e i = absurd (cc i)
   by (Staged number entry value) e i = absurd (let both : true ≡ false = sym (ap is_staged e) ∙ none t in cc both)
   by (Posted number key lines) e i = (number, lines, e ∙ (let same : key ≡ k = cc i in ap (λ n. Posted number n lines) same))

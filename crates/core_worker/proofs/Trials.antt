@@ -17,6 +17,7 @@ use Rattle.group_laws.specs.Regions.{place_at}
 use Rattle.group_laws.proofs.GroupEntries as entries
 use Rattle.core_worker.specs.declared.worker.Worker.{Worker}
 use Rattle.core_worker.specs.Accepting.{HasTie}
+use Rattle.core_worker.specs.Order.{InOrder}
 use Rattle.core_worker.specs.Ties.{Holds, Stands}
 use Rattle.core_worker.specs.Openings.{IsNew, IsStartAt, IsCertainAt, ByEachImage, opened_view}
 use Rattle.core_worker.specs.Trials.{MayAccept}
@@ -50,22 +51,23 @@ module _ (s : State) (r : Recovered) (core : ℕ) (d start : CoreStart) (w : Wor
   here : IsCertainAt s p m (lasts s) start
   here = certain_at s p m (lasts s) start at (subst (λ (x : CoreStart). StandsIn s x.log) (sym is) (stand core d within)) (omega (arith, first, words)) (λ telling. certain telling)
 
-  tied : Holds p m (opened_view p m (lasts s)) w → Stands s p m (opened_view p m (lasts s)) w → (k : ℕ) → k % 8 ≡ core → HasTie s w k
-  tied holds stands k own = (
+  tied : Holds p m (opened_view p m (lasts s)) w → Stands s p m (opened_view p m (lasts s)) w → InOrder p m (opened_view p m (lasts s)) w → (k : ℕ) → k % 8 ≡ core → HasTie s w k
+  tied holds stands order k own = (
     record { place = p; number = m; view = opened_view p m (lasts s) },
     record {
       holds = holds;
       stands = stands;
       own = own_of p m k (entries.some_group p (lasts s) at.place at.rules) at.member (ap (λ (n : ℕ). k % n) eight ∙ own ∙ sym (core_is l core));
-      hand = λ works. N.hand;
+      order = order;
     },
   )
 
   pub may_accept : ByEachImage start r.layout (λ p m image. Holds p m (opened_view p m image) w)
       → ByEachImage start r.layout (λ p m image. (t : State) → IsCertainAt t p m image start → Stands t p m (opened_view p m image) w)
+      → ByEachImage start r.layout (λ p m image. InOrder p m (opened_view p m image) w)
       → MayAccept s core w
-  may_accept holds stands = record {
-    tied = tied (holds p m (lasts s) (λ i. l) at) (stands p m (lasts s) (λ i. l) at s here);
+  may_accept holds stands order = record {
+    tied = tied (holds p m (lasts s) (λ i. l) at) (stands p m (lasts s) (λ i. l) at s here) (order p m (lasts s) (λ i. l) at);
     room = new_room start l w N;
     free = new_idle start l w N;
     works = N.works;

@@ -1,5 +1,6 @@
 -- What is left to do: of a worker, and of what is under way in a group, by what its shared words say. A turn that moves lowers the sum of both.
-use Rattle.std.specs.Prelude.{◌≡◌, ℕ, zero, suc, ◌+◌, ◌*◌, ◌<◌, ◌≤◌, Bool, true, false, ◌||◌, List, [], ◌∷◌, length, Option, Some, None, is_some, IfSome, IsSomeAnd, if◌then◌else◌}
+use Rattle.std.specs.Prelude.{◌≡◌, ℕ, zero, suc, ◌+◌, ◌*◌, ◌<◌, ◌≤◌, Bool, true, false, ◌||◌, List, [], ◌∷◌, length, Option, Some, None, is_some, IfSome, IsSomeAnd, Result, Ok, Err, if◌then◌else◌}
+use Rattle.fs_errors.specs.declared.Memory.{Memory}
 use Rattle.group_laws.specs.declared.types.Slot.{Slot}
 use Rattle.group_laws.specs.declared.types.Slot.TheVariants as slots
 use Rattle.group_laws.specs.Places.{members}
@@ -12,6 +13,8 @@ use Rattle.core_worker.specs.declared.types.Leading.{Leading}
 use Rattle.core_worker.specs.declared.types.Leading.TheVariants as leads
 use Rattle.core_worker.specs.declared.types.Place.{Place}
 use Rattle.core_worker.specs.declared.types.Place.TheVariants.{Free, Staged, Posted}
+use Rattle.core_worker.specs.declared.types.Turn.{Turn}
+use Rattle.core_worker.specs.declared.types.Turn.TheVariants.{Moved, Idle}
 use Rattle.core_worker.specs.declared.worker.Worker.{Worker}
 
 -- What one request counts, by how far it is: each step takes 6. What the core that makes the step has to do besides rises by less.
@@ -93,6 +96,15 @@ Lowers before after w x = IfSome before (λ a. IsSomeAnd after (λ b. left x + u
 -- there is no more to do than before
 abbrev pub NotMore : Option Group → Option Group → Worker → Worker → Type 0
 NotMore before after w x = IfSome before (λ a. IsSomeAnd after (λ b. left x + under_way b ≤ left w + under_way a))
+
+-- by what a turn answers: where it moved, or had no memory for all of it, there is less to do, and else no more
+abbrev pub MeasuresTurn : Turn → Option Group → Option Group → Worker → Worker → Type 0
+MeasuresTurn Moved before after w x = Lowers before after w x
+MeasuresTurn Idle before after w x = NotMore before after w x
+
+abbrev pub Measures : Result Turn Memory → Option Group → Option Group → Worker → Worker → Type 0
+Measures (Ok turn) before after w x = MeasuresTurn turn before after w x
+Measures (Err memory) before after w x = Lowers before after w x
 
 -- What the measure needs of a worker besides: a core that runs, and has taken nothing in its round so far, is at the round's first slot.
 abbrev pub StartsFirst : Worker → Type 0

@@ -1,5 +1,5 @@
 -- What a core is of which a turn found nothing to do.
-use Rattle.std.specs.Prelude.{◌≡◌, ◌⊎◌, ℕ, ◌<◌, Bool, true, false, not, ◌&&◌, List, [], map, Option, Some, None, IfSome, IsSomeAnd}
+use Rattle.std.specs.Prelude.{◌≡◌, ◌⊎◌, ℕ, Bool, true, false, not, ◌&&◌, List, [], map, Option, Some, None, IfSome, IsSomeAnd, Result, Ok, Err}
 use Rattle.std.specs.List.{AllByRecursion}
 use Rattle.log_entry.specs.declared.entry.Entry.{Entry}
 use Rattle.group_laws.specs.declared.types.Pending.{Pending}
@@ -9,9 +9,14 @@ use Rattle.group_laws.specs.State.{Group}
 use Rattle.group_laws.specs.MemberViews.{View}
 use Rattle.group_laws.specs.Runs.{Kind, Runs}
 use Rattle.group_laws.specs.Runs.Kind.{Split, Join, Post, Lock, Look, LookMail, Take, Unlock, Commit, Mark, Finish, Fail, Withdraw, Doom, Retire, Send, Receive}
+use Rattle.fs_errors.specs.declared.Memory.{Memory}
+use Rattle.group_board.specs.Seats.{SeatAt}
+use Rattle.group_board.specs.Told.{Makes}
+use Rattle.core_worker.specs.declared.types.Turn.{Turn}
+use Rattle.core_worker.specs.declared.types.Turn.TheVariants.{Moved, Idle}
 use Rattle.core_worker.specs.declared.worker.Worker.{Worker}
 use Rattle.core_worker.specs.Status.{has_room, is_leading}
-use Rattle.core_worker.specs.WorkerMoves.{Placed, Hands}
+use Rattle.core_worker.specs.WorkerMoves.{Placed, Hands, hands_of}
 
 -- a step that only loads: a look, or a try of the lock
 abbrev pub IsLoading : Kind → Type 0
@@ -44,7 +49,7 @@ abbrev pub IsWithOthers : Option Group → Option Group → ℕ → ℕ → Type
 IsWithOthers before after m s = IfSome before (λ a. IfSome after (λ b. (b.slot m s ≡ Taken) ⊎ ((e : Entry) × (h : ℕ) × (b.slot m s ≡ Posted e) × (b.holder ≡ Some h))))
 
 -- It leads nothing. Each of its changes is posted and with others, and requests wait for keys with a change in a place alone.
-pub record Rests (p : Place) (m : ℕ) (before after : Option Group) (u : View) (x : Hands) : Type 0 where
+pub record IsResting (p : Place) (m : ℕ) (before after : Option Group) (u : View) (x : Hands) : Type 0 where
   pub holds : u.holds ≡ false
   pub taken : (a s : ℕ) → u.taken a s ≡ None
   pub placed : (k : ℕ) (y : Placed) → owner p k ≡ m → x.place k ≡ Some y → (y.posted ≡ true) × ((d : Pending) (s : ℕ) → u.pending k ≡ Some d → d.slot ≡ Some s → IsWithOthers before after m s)
@@ -61,3 +66,24 @@ is_open w = not (is_leading w.leading) && has_room w
 -- with no change in a place it could have been handed one
 abbrev pub OpenFor : Place → ℕ → Hands → Worker → Type 0
 OpenFor p m x w = ((k : ℕ) → owner p k ≡ m → x.place k ≡ None) → is_open w ≡ true
+
+-- What a turn that found nothing to do leaves.
+pub record AtRest (seat : SeatAt) (before after : Option Group) (v u : View) (w x : Worker) : Type 0 where
+  pub loads : LoadsOnly before after seat.number
+  pub same : HoldsSame seat.place seat.number (hands_of v w) (hands_of u x)
+  pub rests : IsResting seat.place seat.number before after u (hands_of u x)
+  pub open_for : OpenFor seat.place seat.number (hands_of u x) w
+
+-- where a turn found nothing to do
+abbrev pub IfIdleTurn : Turn → Type 0 → Type 0
+IfIdleTurn Moved X = Unit {0}
+IfIdleTurn Idle X = X
+
+abbrev pub IfIdle : Result Turn Memory → Type 0 → Type 0
+IfIdle (Ok turn) X = IfIdleTurn turn X
+IfIdle (Err memory) X = Unit {0}
+
+-- the lock was tried, or no step was made
+abbrev pub TriedIf : Bool → ℕ → Option Group → Option Group → View → Type 0
+TriedIf true m before after u = Makes before m Lock after u
+TriedIf false m before after u = after ≡ before

@@ -11,6 +11,7 @@ ghost use Rattle.core_worker.specs.Supplies.{HasKeptRoom};
 ghost use Rattle.core_worker.specs.Refusals.{HasAnswerRoom};
 ghost use Rattle.core_worker.specs.Accepting.{Prepared, HasTie, StaysTied, AcceptsByEachView, AcceptMoves, IsAsBefore};
 ghost use Rattle.core_worker.specs.Status.{has_room, is_leading};
+ghost use Rattle.core_worker.specs.Left.{left, most, StartsFirst};
 
 use crate::refusing::key_of;
 use crate::types::{NotAccepted, Place};
@@ -79,6 +80,9 @@ impl Worker {
             (key_of request) ((number, request) ∷ [])) }
         ensures stays { OnErr result (AcceptMoves (R.state region.now) self.old self.new
             (key_of request) []) }
+        ensures most { OnOk result (left self.new ≤ left self.old + most) }
+        ensures starts { StartsFirst self.old → StartsFirst self.new }
+        ensures works { self.new.winds_down ≡ self.old.winds_down }
     {
         let key = key_of(&request);
         if !self.prepare(alloc, key) {

@@ -18,6 +18,7 @@ ghost use Rattle.core_worker.specs.Refusals.{HasAnswerRoom};
 ghost use Rattle.core_worker.specs.Beginning.{answer_with, HasFree, IsAside, StandsAside, KeepsTies, ByEachView, OnlyStages, OnlyBegins, IsStaged, Begins};
 ghost use Rattle.core_worker.specs.Ties.{LeadsNothing};
 ghost use Rattle.core_worker.specs.Serving.{KeepsLine, LeadsNothingYet};
+ghost use Rattle.core_worker.specs.Left.{left, staged_left};
 
 use crate::post_item::place_in;
 use crate::refusing::{key_of, reply_for};
@@ -237,6 +238,7 @@ impl Worker {
         ensures busy { OnOk result ((k : ℕ) → is_busy self.old.places.items k ≡ true
             → is_busy self.new.places.items k ≡ true) }
         ensures line { OnOk result (KeepsLine self.old self.new (key_of request)) }
+        ensures most { OnOk result (left self.new ≤ left self.old + staged_left) }
         ensures given_back { IfErr result (λ back. back.request ≡ request) }
         ensures unchanged { OnErr result (self.new ≡ self.old) }
     {
@@ -294,6 +296,7 @@ impl Worker {
         ensures busy { OnOk result ((k : ℕ) → is_busy self.old.places.items k ≡ true
             → is_busy self.new.places.items k ≡ true) }
         ensures line { OnOk result (KeepsLine self.old self.new (key_of request)) }
+        ensures most { OnOk result (left self.new ≤ left self.old + staged_left) }
         ensures given_back { IfErr result (λ back. back.request ≡ request) }
         ensures unchanged { OnErr result (self.new ≡ self.old) }
     {
@@ -336,6 +339,7 @@ impl Worker {
         ensures busy { OnOk result ((k : ℕ) → is_busy self.old.places.items k ≡ true
             → is_busy self.new.places.items k ≡ true) }
         ensures line { OnOk result (KeepsLine self.old self.new (key_of request)) }
+        ensures most { OnOk result (left self.new ≤ left self.old + staged_left) }
         ensures given_back { IfErr result (λ back. back.request ≡ request) }
         ensures unchanged { OnErr result (self.new ≡ self.old) }
     {

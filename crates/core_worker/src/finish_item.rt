@@ -1,5 +1,5 @@
 // Taking posted changes back that their leader gave back.
-ghost use Rattle.std.specs.Prelude.{◌≡◌, ◌⊎◌, ℕ, ◌+◌, ◌<◌, true, false, length, is_ok, IfSome, Some, OnErr};
+ghost use Rattle.std.specs.Prelude.{◌≡◌, ◌⊎◌, ℕ, ◌+◌, ◌<◌, true, false, length, is_ok, IfSome, Some, OnErr, OnOk};
 ghost use Rattle.core_worker.specs.Supplies.{HasKeptRoom};
 ghost use Rattle.pm_region.specs.State.{State};
 ghost use Rattle.store_image.specs.Facts.{In};
@@ -16,6 +16,7 @@ ghost use Rattle.lazy_alloc.specs.Sets.{AreSets, block_is_used};
 ghost use Rattle.core_worker.specs.OwnPlaces.{place_at, is_free};
 ghost use Rattle.core_worker.specs.Refusals.{HasAnswerRoom};
 ghost use Rattle.core_worker.specs.Finishing.{done_reply, FinishesSlot, IsFreed, LetsGo, PutsBackIf, Settles, StopsByFailed, TakesBackKey, WasFoundBack};
+ghost use Rattle.core_worker.specs.Left.{Lowers};
 
 use crate::hearing::hear_own;
 use crate::post_item::swap_place;
@@ -96,8 +97,8 @@ impl Worker {
         put_back(&mut self.allocator, replaced);
     }
 
-    // Takes the change of a slot back that was found given back, out of its place: it is settled where it is done, and else
-    // the core stops.
+    // Takes the change of a slot that was found given back out of its place: it is settled where it is done, and else the
+    // core stops.
     fn take_out<B: Board>(&mut self, board: &mut B, slot: u32) -> Key
         requires holds { HoldsAt (B.seat board.old) (B.view board.old) self.old }
         requires order { InOrderAt (B.seat board.old) (B.view board.old) self.old }
@@ -161,6 +162,8 @@ impl Worker {
             self.old self.new }
         ensures made { Makes (B.whole board.old) (B.seat board.old).number
             (runs.Kind.Finish slot) (B.whole board.new) (B.view board.new) }
+        ensures less { Lowers (B.whole board.old) (B.whole board.new) self.old self.new }
+        ensures works { OnOk result (self.new.winds_down ≡ self.old.winds_down) }
     {
         let key = self.take_out(board, slot);
         self.serve(alloc, region, key)

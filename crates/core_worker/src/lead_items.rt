@@ -21,6 +21,7 @@ ghost use Rattle.lazy_alloc.specs.Sets.{AreSets};
 ghost use Rattle.licence.specs.Licence.{Licensed, part_at, part_end};
 ghost use Rattle.batch_leader.specs.declared.states.Batch.{Batch};
 ghost use Rattle.core_worker.specs.Supplies.{room_for, HasKeptRoom};
+ghost use Rattle.core_worker.specs.Left.{Lowers, StartsFirst};
 
 use crate::post_item::swap_place;
 use crate::types::{Leading, Place};
@@ -154,6 +155,7 @@ impl Worker {
         ensures rule { HasKeptRoom self.old → HasKeptRoom self.new }
         ensures marks { Marks (record { worker = self.old; view = B.view board.old })
             (record { worker = self.new; view = B.view board.new }) }
+        ensures less { Lowers (B.whole board.old) (B.whole board.new) self.old self.new }
     {
         match mem::replace(&mut self.leading, Leading::Between) {
             Leading::Persisted(mut done) => {
@@ -177,6 +179,7 @@ impl Worker {
         ensures rule { HasKeptRoom self.old → HasKeptRoom self.new }
         ensures fails { Fails (record { worker = self.old; view = B.view board.old })
             (record { worker = self.new; view = B.view board.new }) }
+        ensures less { Lowers (B.whole board.old) (B.whole board.new) self.old self.new }
     {
         match mem::replace(&mut self.leading, Leading::Between) {
             Leading::Failed(mut lost) => {
@@ -203,6 +206,8 @@ impl Worker {
         ensures went { GoesRound (B.whole board.old) (B.seat board.old)
             (record { worker = self.old; view = B.view board.old })
             (record { worker = self.new; view = B.view board.new }) }
+        ensures less { HasKeptRoom self.old → StartsFirst self.old
+            → Lowers (B.whole board.old) (B.whole board.new) self.old self.new }
     {
         match mem::replace(&mut self.leading, Leading::Between) {
             Leading::Collecting(mut collecting) => match collecting.collect(board, room) {
@@ -240,6 +245,7 @@ impl Worker {
         ensures persists { PersistsOrLoses self.new.stopped (B.seat board.old).number
             (record { worker = self.old; view = B.view board.old })
             (record { worker = self.new; view = B.view board.new }) }
+        ensures less { Lowers (B.whole board.old) (B.whole board.new) self.old self.new }
     {
         match mem::replace(&mut self.leading, Leading::Between) {
             Leading::Batch(batch) => {

@@ -12,6 +12,7 @@ ghost use Rattle.core_worker.specs.Beginning.{HasFree, StandsAside, KeepsTies, B
 ghost use Rattle.core_worker.specs.Finishing.{IsReady, IsServed, IsToServe, ServesByEachView, ServesShort};
 ghost use Rattle.core_worker.specs.Ties.{Tie};
 ghost use Rattle.core_worker.specs.Serving.{AllWait, KeepsOrders, LeadsNothingYet, OnlyServes, OthersWait};
+ghost use Rattle.core_worker.specs.Left.{left};
 
 use crate::accepting::is_busy;
 use crate::worker::Worker;
@@ -48,6 +49,8 @@ impl Worker {
         ensures waits { AllWait self.new }
         ensures order { KeepsOrders self.old self.new key }
         ensures rest { OnlyServes self.old self.new }
+        ensures less { left self.new ≤ left self.old }
+        ensures works { OnOk result (self.new.winds_down ≡ self.old.winds_down) }
     {
         match self.queue.release(key) {
             None => {
@@ -92,6 +95,8 @@ impl Worker {
         ensures rule { HasKeptRoom self.old → HasKeptRoom self.new }
         ensures memory { OnErr result (self.new.winds_down ≡ true) }
         ensures rest { OnlyServes self.old self.new }
+        ensures less { left self.new ≤ left self.old }
+        ensures works { OnOk result (self.new.winds_down ≡ self.old.winds_down) }
     {
         if self.winds_down {
             return Ok(());

@@ -4,6 +4,8 @@ ghost use Rattle.pm_region.specs.State.{State};
 ghost use Rattle.group_laws.specs.Places.{Place as PlaceOf};
 ghost use Rattle.group_laws.specs.MemberViews.{View};
 ghost use Rattle.core_worker.specs.Ties.{Holds, Stands};
+ghost use Rattle.core_worker.specs.Order.{InOrder};
+ghost use Rattle.core_worker.specs.WorkerMoves.{hands_of};
 ghost use Rattle.core_worker.specs.Beginning.{answers_of};
 ghost use Rattle.core_worker.specs.Status.{any_free, all_free, has_room, is_leading, is_pending};
 
@@ -93,6 +95,9 @@ impl Worker {
             → Holds p m v self.old → Holds p m v self.new }
         ensures stands { (s : State) (p : PlaceOf) (m : ℕ) (v : View)
             → Stands s p m v self.old → Stands s p m v self.new }
+        ensures order { (p : PlaceOf) (m : ℕ) (v : View)
+            → InOrder p m v self.old → InOrder p m v self.new }
+        ensures hands { (v : View) → hands_of v self.new ≡ hands_of v self.old }
     {
         self.answers.pop_front()
     }
@@ -104,6 +109,8 @@ impl Worker {
             → Holds p m v self.old → Holds p m v self.new }
         ensures stands { (s : State) (p : PlaceOf) (m : ℕ) (v : View)
             → Stands s p m v self.old → Stands s p m v self.new }
+        ensures order { (p : PlaceOf) (m : ℕ) (v : View)
+            → InOrder p m v self.old → InOrder p m v self.new }
     {
         self.winds_down = true;
     }

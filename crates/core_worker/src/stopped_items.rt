@@ -1,5 +1,5 @@
 // What a stopped core does with its own changes: it takes back what is posted, and answers what is staged.
-ghost use Rattle.std.specs.Prelude.{◌≡◌, ℕ, ◌<◌, true, false, length, is_ok, IfSome, MatchOption, Option, Some, OnErr};
+ghost use Rattle.std.specs.Prelude.{◌≡◌, ℕ, ◌<◌, true, false, length, is_ok, IfSome, MatchOption, Option, Some, None, OnErr, OnOk};
 ghost use Rattle.batch_leader.specs.declared.states.Collecting.{Collecting};
 ghost use Rattle.pm_region.specs.State.{State};
 ghost use Rattle.core_index.specs.Records.{pointer_of};
@@ -13,6 +13,7 @@ ghost use Rattle.core_worker.specs.Order.{InOrderBy};
 ghost use Rattle.core_worker.specs.Finishing.{IsServed};
 ghost use Rattle.core_worker.specs.Stopping.{Drops, FreesBySight, PutsAway, PutsAwayKey, Retracts, staged_block, Unlocks, WithdrawsOrUnlocks};
 ghost use Rattle.core_worker.specs.Turns.{InOrderAt, Steps};
+ghost use Rattle.core_worker.specs.Left.{left, Lowers};
 
 use crate::finish_item::put_back;
 use crate::lead_items::led_by;
@@ -131,6 +132,8 @@ impl Worker {
         ensures rule { HasKeptRoom self.old → HasKeptRoom self.new }
         ensures drops { Drops (R.state region.now) slot self.old self.new (is_ok result) }
         ensures memory { OnErr result (self.new.winds_down ≡ true) }
+        ensures less { left self.new < left self.old }
+        ensures works { OnOk result (self.new.winds_down ≡ self.old.winds_down) }
     {
         let key = self.drop_out(slot);
         self.serve(alloc, region, key)
@@ -163,6 +166,8 @@ impl Worker {
             (B.view board.old) (B.view board.new) self.old self.new)
             (Retracts (B.seat board.old) (B.whole board.old) (B.whole board.new)
             (B.view board.old) (B.view board.new) self.old self.new) }
+        ensures less { result ≡ None
+            → Lowers (B.whole board.old) (B.whole board.new) self.old self.new }
     {
         match mem::replace(&mut self.leading, Leading::Between) {
             Leading::Collecting(mut collecting) => match collecting.withdraw_own(board) {
@@ -205,6 +210,8 @@ impl Worker {
         ensures memory { OnErr result (self.new.winds_down ≡ true) }
         ensures made { Steps (B.whole board.old) (B.whole board.new) (B.seat board.old).number
             (B.view board.new) }
+        ensures less { Lowers (B.whole board.old) (B.whole board.new) self.old self.new }
+        ensures works { OnOk result (self.new.winds_down ≡ self.old.winds_down) }
     {
         match self.retract(board) {
             None => {

@@ -1,5 +1,5 @@
 // One turn of a worker.
-ghost use Rattle.std.specs.Prelude.{◌≡◌, ◌<◌, Bool, true, false, Option, List, [], ◌∷◌, OnErr};
+ghost use Rattle.std.specs.Prelude.{◌≡◌, ◌<◌, Bool, true, false, Option, List, [], ◌∷◌, OnErr, OnOk};
 ghost use Rattle.pm_region.specs.State.{State, IsTelling};
 ghost use Rattle.group_laws.specs.State.{Group};
 ghost use Rattle.group_laws.specs.MemberViews.{View};
@@ -12,8 +12,12 @@ ghost use Rattle.core_worker.specs.Supplies.{room_for, HasKeptRoom};
 ghost use Rattle.batch_leader.specs.Persisting.{StaysLicensed, WritesPart};
 ghost use Rattle.core_worker.specs.Posting.{PostsOrStops};
 ghost use Rattle.core_worker.specs.Ties.{HoldsAt, StandsAt, LeadsNothing};
-ghost use Rattle.core_worker.specs.Turns.{InOrderAt, PassesPost, PersistsOrLoses};
-ghost use Rattle.core_worker.specs.Turning.{HasBatch, KeepsTurn, TurnMoves, Did, Turned, TurnedTo, Tells, at_entry};
+ghost use Rattle.core_worker.specs.declared.searching.Search.TheVariants as founds;
+ghost use Rattle.core_worker.specs.Searching.{FoundStands};
+ghost use Rattle.core_worker.specs.Turns.{InOrderAt, LooksMade, PassesPost, PersistsOrLoses};
+ghost use Rattle.core_worker.specs.Turning.{HasBatch, KeepsTurn, TurnMoves, Did, Turned, TurnedTo, Tells, RestsIf, RestsTo, at_entry};
+ghost use Rattle.core_worker.specs.Left.{HasOffer, Lowers, Measures, MeasuresTurn, StartsFirst};
+ghost use Rattle.core_worker.specs.Resting.{AtRest, IfIdle, IfIdleTurn, TriedIf};
 
 use crate::choose_item::{Choice, staged_block};
 use crate::gate::Gate;
@@ -42,6 +46,9 @@ impl Worker {
         ensures did { (refused : Bool) → Did (R.state region.old) refused (B.whole board.old)
             (B.seat board.old) (at_entry self.old (B.view board.old))
             (at_entry self.new (B.view board.new)) }
+        ensures less { Lowers (B.whole board.old) (B.whole board.new) self.old self.new }
+        ensures starts { StartsFirst self.new }
+        ensures works { self.new.winds_down ≡ self.old.winds_down }
     {
         match &self.leading {
             Leading::Batch(_) => {
@@ -103,6 +110,17 @@ impl Worker {
             → Tells posted (B.seat board.old).number self.old v (B.view board.old)
             → Turned result s refused before (B.seat board.old) (at_entry self.old v)
             (at_entry self.new (B.view board.new)) }
+        ensures rests { (start : Option Group) → FoundStands (founds.Out posted) start
+            (B.whole board.old) (B.seat board.old).number self.old.places.items
+            → LooksMade start (B.whole board.old) (B.seat board.old).number (B.view board.old)
+            → RestsIf result start (B.whole board.new) (B.seat board.old).number
+            (B.view board.new) self.old.places.items }
+        ensures less { (posted ≡ true → HasOffer (B.whole board.old) (B.seat board.old).number)
+            → MeasuresTurn result (B.whole board.old) (B.whole board.new) self.old self.new }
+        ensures starts { StartsFirst self.new }
+        ensures tries { IfIdleTurn result (TriedIf posted (B.seat board.old).number
+            (B.whole board.old) (B.whole board.new) (B.view board.new)) }
+        ensures works { self.new.winds_down ≡ self.old.winds_down }
     {
         if !posted {
             return Turn::Idle;
@@ -135,7 +153,18 @@ impl Worker {
             → Tells posted (B.seat board.old).number self.old v (B.view board.old)
             → TurnedTo result (R.state region.old) (G.may_refuse gate.now) before
             (B.seat board.old) (at_entry self.old v) (at_entry self.new (B.view board.new)) }
+        ensures rests { (start : Option Group) → FoundStands (founds.Out posted) start
+            (B.whole board.old) (B.seat board.old).number self.old.places.items
+            → LooksMade start (B.whole board.old) (B.seat board.old).number (B.view board.old)
+            → RestsTo result start (B.whole board.new) (B.seat board.old).number
+            (B.view board.new) self.old.places.items }
         ensures memory { OnErr result (self.new.winds_down ≡ true) }
+        ensures less { (posted ≡ true → HasOffer (B.whole board.old) (B.seat board.old).number)
+            → Measures result (B.whole board.old) (B.whole board.new) self.old self.new }
+        ensures starts { StartsFirst self.new }
+        ensures tries { IfIdle result (TriedIf posted (B.seat board.old).number
+            (B.whole board.old) (B.whole board.new) (B.view board.new)) }
+        ensures works { OnOk result (self.new.winds_down ≡ self.old.winds_down) }
     {
         match self.choose(gate) {
             Choice::Pass => {
@@ -177,7 +206,16 @@ impl Worker {
         ensures turned { TurnedTo result (R.state region.old) (G.may_refuse gate.now)
             (B.whole board.old) (B.seat board.old) (at_entry self.old (B.view board.old))
             (at_entry self.new (B.view board.new)) }
+        ensures rests { RestsTo result (B.whole board.old) (B.whole board.new)
+            (B.seat board.old).number (B.view board.new) self.old.places.items }
         ensures memory { OnErr result (self.new.winds_down ≡ true) }
+        ensures less { Measures result (B.whole board.old) (B.whole board.new)
+            self.old self.new }
+        ensures starts { StartsFirst self.new }
+        ensures idles { IfIdle result (G.may_refuse gate.now ≡ false → self.old.winds_down ≡ false
+            → AtRest (B.seat board.old) (B.whole board.old) (B.whole board.new)
+            (B.view board.old) (B.view board.new) self.old self.new) }
+        ensures works { OnOk result (self.new.winds_down ≡ self.old.winds_down) }
     {
         match self.find_back(board) {
             Search::Back(slot) => match self.take_back(alloc, &*region, board, slot) {
@@ -222,6 +260,10 @@ impl Worker {
         ensures did { (s : State) (refused : Bool) → Did s refused (B.whole board.old)
             (B.seat board.old) (at_entry self.old (B.view board.old))
             (at_entry self.new (B.view board.new)) }
+        ensures less { HasKeptRoom self.old → StartsFirst self.old
+            → Lowers (B.whole board.old) (B.whole board.new) self.old self.new }
+        ensures starts { StartsFirst self.new }
+        ensures works { self.new.winds_down ≡ self.old.winds_down }
     {
         let room = self.room();
         self.go_round(board, &room);
@@ -247,6 +289,10 @@ impl Worker {
             (B.seat board.old) (at_entry self.old (B.view board.old))
             (at_entry self.new (B.view board.new)) }
         ensures memory { OnErr result (self.new.winds_down ≡ true) }
+        ensures less { (self.old.stopped ≡ false → HasKeptRoom self.old) → StartsFirst self.old
+            → Lowers (B.whole board.old) (B.whole board.new) self.old self.new }
+        ensures starts { StartsFirst self.new }
+        ensures works { OnOk result (self.new.winds_down ≡ self.old.winds_down) }
     {
         if self.stopped {
             return self.withdraw(alloc, region, board);
@@ -276,7 +322,16 @@ impl Worker {
         ensures turned { TurnedTo result (R.state region.old) (G.may_refuse gate.now)
             (B.whole board.old) (B.seat board.old) (at_entry self.old (B.view board.old))
             (at_entry self.new (B.view board.new)) }
+        ensures rests { RestsTo result (B.whole board.old) (B.whole board.new)
+            (B.seat board.old).number (B.view board.new) self.old.places.items }
         ensures memory { OnErr result (self.new.winds_down ≡ true) }
+        ensures less { (self.old.stopped ≡ false → HasKeptRoom self.old) → StartsFirst self.old
+            → Measures result (B.whole board.old) (B.whole board.new) self.old self.new }
+        ensures starts { StartsFirst self.new }
+        ensures idles { IfIdle result (G.may_refuse gate.now ≡ false → self.old.winds_down ≡ false
+            → AtRest (B.seat board.old) (B.whole board.old) (B.whole board.new)
+            (B.view board.old) (B.view board.new) self.old self.new) }
+        ensures works { OnOk result (self.new.winds_down ≡ self.old.winds_down) }
     {
         match &self.leading {
             Leading::Nothing(_) => {
@@ -326,7 +381,16 @@ impl Worker {
         ensures turned { TurnedTo result (R.state region.old) (G.may_refuse gate.now)
             (B.whole board.old) (B.seat board.old) (at_entry self.old (B.view board.old))
             (at_entry self.new (B.view board.new)) }
+        ensures rests { RestsTo result (B.whole board.old) (B.whole board.new)
+            (B.seat board.old).number (B.view board.new) self.old.places.items }
         ensures memory { OnErr result (self.new.winds_down ≡ true) }
+        ensures less { (self.old.stopped ≡ false → HasKeptRoom self.old) → StartsFirst self.old
+            → Measures result (B.whole board.old) (B.whole board.new) self.old self.new }
+        ensures starts { StartsFirst self.new }
+        ensures idles { IfIdle result (G.may_refuse gate.now ≡ false → self.old.winds_down ≡ false
+            → AtRest (B.seat board.old) (B.whole board.old) (B.whole board.new)
+            (B.view board.old) (B.view board.new) self.old self.new) }
+        ensures works { OnOk result (self.new.winds_down ≡ self.old.winds_down) }
     {
         self.serve_first(alloc, region, board, gate)
     }

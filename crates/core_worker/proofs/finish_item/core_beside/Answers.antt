@@ -1,5 +1,4 @@
-use Rattle.std.proofs.Common.{◌≡◌, ℕ, ◌+◌, ◌-◌, ◌≤◌, ◌<◌, sym, ◌∙◌, ap, arith}
-use Rattle.group_laws.specs.Places.{core_of}
+use Rattle.std.proofs.Common.{◌+◌, ◌-◌, ◌∙◌, ap, arith}
 use Rattle.core_worker.proofs.Members.{core_few, member_low, core_moved}
 use Rattle.core_worker.proofs.finish_item.core_beside.Goals as goal
 

@@ -1,5 +1,4 @@
-use Rattle.std.proofs.Common.{◌≡◌, ℕ, List, sym, ◌∙◌, subst}
-use Rattle.core_index.specs.Slots.{Place}
+use Rattle.std.proofs.Common.{sym, ◌∙◌, subst}
 use Rattle.core_worker.specs.Hearing.{HearsAll}
 use Rattle.core_worker.proofs.Heard.{hears_more, hears_all, found_one, found_none}
 use Rattle.core_worker.proofs.hearing.hear_own.Goals as goal

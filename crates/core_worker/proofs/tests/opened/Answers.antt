@@ -9,4 +9,4 @@ returns c =
     c.requires.first (sym c.words.ensures ∙ c.if-words-ne16896.false) c.requires.certain
     c.in_ok-found.ensures.made (c.in_ok-found.ensures.told c.requires.tells) (c.in_ok-found.ensures.stands c.requires.certain)
     (sym c.cores.ensures ∙ c.if-cores-ne8.false) (let low = c.if-core-ge8.false in omega (arith, low)) c.swap_remove-start.ensures.value
-    c.in_ok-worker.ensures.new c.in_ok-worker.ensures.holds c.in_ok-worker.ensures.stands
+    c.in_ok-worker.ensures.new c.in_ok-worker.ensures.holds c.in_ok-worker.ensures.stands c.in_ok-worker.ensures.order

@@ -12,7 +12,6 @@ use Rattle.core_worker.specs.declared.worker.Worker.{Worker}
 use Rattle.core_worker.specs.OwnPlaces.{is_busy}
 use Rattle.core_worker.specs.Beginning.{HasFree, HoldsAside, StandsAside, Begins, BeginsAll, BeginsShort}
 use Rattle.core_worker.specs.Ties.{Stands}
-use Rattle.core_worker.specs.Order.{InOrder}
 use Rattle.core_worker.specs.Serving.{LeadsNothingYet, KeepsLine, OthersWait}
 use Rattle.core_worker.proofs.Serving.{order_begun, order_in_hand, others_begun, all_wait}
 use Rattle.core_worker.proofs.Waiters.{first_key, aside_other, stands_other, taken_aside, taken_stands}

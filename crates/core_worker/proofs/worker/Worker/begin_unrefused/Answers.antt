@@ -15,6 +15,7 @@ use Rattle.fs_model.specs.Cells.{key_of, is_change}
 use Rattle.fs_model.specs.declared.model.Request.TheVariants as requests
 use Rattle.core_worker.proofs.Beginnings.{begins_staged, answered_holds, answered_stands, staged_busy, staged_keeps, answered_busy}
 use Rattle.core_worker.proofs.Serving.{line_answered, line_staged}
+use Rattle.core_worker.proofs.LeftWorkers.{staged_way}
 use Rattle.core_worker.proofs.worker.Worker.begin_unrefused.Goals as goal
 
 pub returns-in-Ok-clause-keeps : goal.returns-in-Ok-clause-keeps
@@ -102,3 +103,9 @@ returns-in-Put-clause-line g c = line_staged c.args.self.now c.stage_put.new.sel
 
 pub returns-then-live-clause-line : goal.returns-then-live-clause-line
 returns-then-live-clause-line g c = line_staged c.args.self.now c.stage_delete.new.self c.args.number (key_of c.args.request) (requests.Delete c.in-Delete.key) c.requires.runs c.stage_delete.ensures.rest (ap key_of (sym c.in-Delete.is)) c.stage_delete.ensures.staged
+
+pub returns-in-Put-clause-most : goal.returns-in-Put-clause-most
+returns-in-Put-clause-most g c = staged_way c.args.self.now c.stage_put.new.self c.args.number (requests.Put c.in-Put.key c.in-Put.value) c.stage_put.ensures.rest c.stage_put.ensures.staged
+
+pub returns-then-live-clause-most : goal.returns-then-live-clause-most
+returns-then-live-clause-most g c = staged_way c.args.self.now c.stage_delete.new.self c.args.number (requests.Delete c.in-Delete.key) c.stage_delete.ensures.rest c.stage_delete.ensures.staged

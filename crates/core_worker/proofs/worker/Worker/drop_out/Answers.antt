@@ -5,7 +5,7 @@ use Rattle.lazy_alloc.specs.Sets.{block_is_used}
 use Rattle.core_worker.specs.Stopping.{PutsAway, staged_block}
 use Rattle.core_worker.specs.OwnPlaces.{key_in}
 use Rattle.core_worker.proofs.TakingBack.{one_room}
-use Rattle.core_worker.proofs.Dropping.{drops_by_sight, drop_used, staged_at, staged_taken}
+use Rattle.core_worker.proofs.Dropping.{drops_by_sight, drop_used, staged_at}
 use Rattle.core_worker.proofs.worker.Worker.drop_out.Goals as goal
 
 pub put_away-requires-clause-room : goal.put_away-requires-clause-room

@@ -15,6 +15,8 @@ use Rattle.group_board.specs.Told.{Makes}
 use Rattle.batch_leader.specs.Leading.{steps_of}
 use Rattle.batch_leader.proofs.Steps.{makes_then}
 use Rattle.core_worker.proofs.Made.{one_step, and_then, round_of, steps_made}
+use Rattle.core_worker.specs.Turns.{Collects, Releases}
+use Rattle.core_worker.proofs.LeftRounds.{collects_lower, releases_lower}
 use Rattle.core_worker.proofs.worker.Worker.go_round.Goals as goal
 
 pub returns-in-Took-clause-holds : goal.returns-in-Took-clause-holds
@@ -116,3 +118,51 @@ pub returns-in-Took-clause-made : goal.returns-in-Took-clause-made
 returns-in-Took-clause-made g c =
     let m = (g.B.Board.seat c.args.board.now).number in
     steps_made (g.B.Board.whole c.args.board.now) (g.B.Board.whole c.collect.new.board) m (g.B.Board.view c.collect.new.board) (steps_of true m c.in-Collecting.collecting c.collect.new.self) (round_of true m c.in-Collecting.collecting c.collect.new.self) c.in-Took.ensures.made
+
+pub returns-in-Took-clause-less : goal.returns-in-Took-clause-less
+returns-in-Took-clause-less g c rule starts =
+    let m = (g.B.Board.seat c.args.board.now).number in
+    let w = c.args.self.now in
+    let new = record w { leading = leads.Collecting c.collect.new.self } in
+    let v = g.B.Board.view c.args.board.now in
+    let u = g.B.Board.view c.collect.new.board in
+    let C : Collects (g.B.Board.whole c.args.board.now) m (record { worker = w; view = v }) (record { worker = new; view = u }) = record {
+      old = c.in-Collecting.collecting;
+      new = c.collect.new.self;
+      led = sym c.in-Collecting.ensures.value;
+      leads_now = refl;
+      runs = c.requires.runs;
+      went = subst (λ (r : Room). Went true (g.B.Board.whole c.args.board.now) r m v u c.in-Collecting.collecting c.collect.new.self) c.requires.room c.in-Took.ensures.went;
+      same = refl;
+    } in
+    collects_lower (g.B.Board.whole c.args.board.now) (g.B.Board.whole c.collect.new.board) m (record { worker = w; view = v }) (record { worker = new; view = u }) C (g.met.B.Board.lawful c.args.board.now) c.in-Took.ensures.made
+
+pub returns-in-RoundOver-clause-less : goal.returns-in-RoundOver-clause-less
+returns-in-RoundOver-clause-less g c rule starts =
+    let here = g.B.Board.seat c.args.board.now in
+    let m = here.number in
+    let w0 = g.B.Board.whole c.args.board.now in
+    let w1 = g.B.Board.whole c.collect.new.board in
+    let w2 = g.B.Board.whole c.release.new.board in
+    let v = g.B.Board.view c.args.board.now in
+    let mid = g.B.Board.view c.collect.new.board in
+    let u = g.B.Board.view c.release.new.board in
+    let w = c.args.self.now in
+    let new = record w { leading = c.led_by.result } in
+    let xs = steps_of false m c.in-Collecting.collecting c.collect.new.self in
+    let R : Releases w0 here (record { worker = w; view = v }) (record { worker = new; view = u }) = record {
+      old = c.in-Collecting.collecting;
+      last = c.collect.new.self;
+      mid = mid;
+      given = c.release.result;
+      led = sym c.in-Collecting.ensures.value;
+      leads_now = c.led_by.ensures;
+      runs = c.requires.runs;
+      went = subst (λ (r : Room). Went false w0 r m v mid c.in-Collecting.collecting c.collect.new.self) c.requires.room c.in-RoundOver.ensures.went;
+      over = (c.in-RoundOver.ensures.over refl).0;
+      released = subst (λ (q : SeatAt). IsReleased q u c.collect.new.self c.release.result) c.collect.ensures.seat c.release.ensures.released;
+      view = c.release.ensures.view;
+      same = refl;
+    } in
+    releases_lower w0 w2 here (record { worker = w; view = v }) (record { worker = new; view = u }) R c.requires.holds rule starts (c.in-RoundOver.ensures.over refl).1 c.requires.holds.member (g.met.B.Board.agrees c.args.board.now) (g.met.B.Board.lawful c.args.board.now)
+    (makes_then w0 w1 w2 xs ((m, runs.Kind.Unlock) ∷ []) m mid u c.in-RoundOver.ensures.made (one_step w1 w2 m runs.Kind.Unlock u (subst (λ (q : SeatAt). Makes w1 q.number runs.Kind.Unlock w2 u) c.collect.ensures.seat c.release.ensures.whole)))

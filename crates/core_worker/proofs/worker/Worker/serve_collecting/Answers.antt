@@ -1,8 +1,8 @@
 -- Item 1.
-use Rattle.std.proofs.Common.{◌≡◌, true, false, sym, refl}
 use Rattle.std.specs.Prelude.{is_ok}
 use Rattle.core_worker.specs.Turning.Did.{withdraws}
 use Rattle.core_worker.proofs.ItemLaws.{keeps_withdraw}
+use Rattle.core_worker.proofs.LeftTurns.{withdrawn_starts}
 use Rattle.core_worker.proofs.worker.Worker.serve_collecting.Goals as goal
 
 pub returns-then-self-clause-keeps : goal.returns-then-self-clause-keeps
@@ -19,3 +19,6 @@ returns-clause-keeps g c = c.serve_round.ensures.keeps (g.R.Region.state c.args.
 
 pub returns-clause-did : goal.returns-clause-did
 returns-clause-did g c refused = c.serve_round.ensures.did (g.R.Region.state c.args.region.now) refused
+
+pub returns-then-self-clause-starts : goal.returns-then-self-clause-starts
+returns-then-self-clause-starts g c = withdrawn_starts _ _ _ _ _ _ c.args.self.now c.withdraw.new.self _ c.if-self.true c.withdraw.ensures.withdraws

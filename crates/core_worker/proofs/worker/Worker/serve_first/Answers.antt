@@ -1,8 +1,4 @@
 -- By what is led.
-use Rattle.std.proofs.Common.{◌≡◌, sym, subst}
-use Rattle.core_worker.specs.Ties.{LeadsAt}
-use Rattle.core_worker.proofs.LeadTies.{led_here}
-use Rattle.core_worker.proofs.ItemLaws.{has_batch}
 use Rattle.core_worker.proofs.worker.Worker.serve_first.Goals as goal
 
 pub returns-in-Ok-clause-turned : goal.returns-in-Ok-clause-turned
@@ -16,5 +12,10 @@ returns-in_default g c = record {
   seat = c.serve_batch.ensures.seat;
   keeps = c.serve_batch.ensures.keeps;
   turned = c.serve_batch.ensures.did (g.G.Gate.may_refuse c.args.gate.now);
+  rests = tt;
   memory = tt;
+  less = λ rule starts. c.serve_batch.ensures.less;
+  starts = c.serve_batch.ensures.starts;
+  idles = tt;
+  works = c.serve_batch.ensures.works;
 }

@@ -1,14 +1,22 @@
 -- The lock is tried, or nothing applies.
-use Rattle.std.proofs.Common.{◌≡◌, inl, inr, ℕ, Bool, true, false, [], ◌∷◌, Option, refl, subst}
+use Rattle.std.proofs.Common.{◌≡◌, inl, inr, ℕ, Bool, true, false, [], ◌∷◌, Option, refl, sym, ◌∙◌, ap, subst}
 use Rattle.group_laws.specs.Runs as runs
 use Rattle.group_laws.specs.State.{Group}
 use Rattle.group_laws.specs.MemberViews.{View}
 use Rattle.batch_leader.specs.TakenChanges.{MatchBool}
 use Rattle.core_worker.specs.Turns.{TriesLock, FindsPosted}
 use Rattle.core_worker.specs.Turning.Did.{locks}
+use Rattle.core_worker.specs.declared.types.Leading.TheVariants as leads
+use Rattle.core_worker.specs.declared.searching.Search.TheVariants.{Out}
+use Rattle.core_worker.specs.Searching.{FoundStands}
+use Rattle.core_worker.proofs.LeadTies.{led_here}
+use Rattle.core_worker.proofs.Resting.{rests_same, rests_tried}
 use Rattle.core_worker.proofs.Made.{one_step}
 use Rattle.core_worker.proofs.QuietItems.{lock_led, lock_same, lock_stops}
 use Rattle.core_worker.proofs.TurnLaws.{keeps_leading, keeps_same}
+use Rattle.core_worker.proofs.LeftTurns.{had_lower, had_starts, found_not_more}
+use Rattle.core_worker.proofs.LeftFair.{starts_nothing}
+use Rattle.core_worker.specs.Resting.{TriedIf}
 use Rattle.core_worker.proofs.worker.Worker.serve_lock.Goals as goal
 
 pub returns-then-not-posted-clause-keeps : goal.returns-then-not-posted-clause-keeps
@@ -70,3 +78,61 @@ returns-clause-turned g c s refused before v post tells =
       free = had.1;
       same = had.2;
     }
+
+pub returns-then-not-posted-clause-starts : goal.returns-then-not-posted-clause-starts
+returns-then-not-posted-clause-starts g c = starts_nothing c.args.self.now c.requires.nothing
+
+pub returns-then-try_lead-clause-less : goal.returns-then-try_lead-clause-less
+returns-then-try_lead-clause-less g c offer =
+    let seat = g.B.Board.seat c.args.board.now in
+    let v = g.B.Board.view c.args.board.now in
+    let u = g.B.Board.view c.try_lead.new.board in
+    let had = subst (λ (b : Bool). TriesLock b seat.number v u c.args.self.now c.try_lead.new.self) c.if-try_lead.true c.try_lead.ensures.tried in
+    had_lower seat (g.B.Board.whole c.args.board.now) (g.B.Board.whole c.try_lead.new.board) v u c.args.self.now c.try_lead.new.self c.try_lead.ensures.holds c.requires.nothing had c.try_lead.ensures.whole (offer c.if-not-posted.false)
+
+pub returns-then-try_lead-clause-starts : goal.returns-then-try_lead-clause-starts
+returns-then-try_lead-clause-starts g c =
+    let seat = g.B.Board.seat c.args.board.now in
+    let v = g.B.Board.view c.args.board.now in
+    let u = g.B.Board.view c.try_lead.new.board in
+    let had = subst (λ (b : Bool). TriesLock b seat.number v u c.args.self.now c.try_lead.new.self) c.if-try_lead.true c.try_lead.ensures.tried in
+    had_starts seat.number v u c.args.self.now c.try_lead.new.self had
+
+pub returns-clause-less : goal.returns-clause-less
+returns-clause-less g c offer =
+    let seat = g.B.Board.seat c.args.board.now in
+    let v = g.B.Board.view c.args.board.now in
+    let u = g.B.Board.view c.try_lead.new.board in
+    let had = subst (λ (b : Bool). TriesLock b seat.number v u c.args.self.now c.try_lead.new.self) c.if-try_lead.false c.try_lead.ensures.tried in
+    found_not_more seat (g.B.Board.whole c.args.board.now) (g.B.Board.whole c.try_lead.new.board) v u c.args.self.now c.try_lead.new.self c.requires.holds c.requires.nothing had c.try_lead.ensures.whole
+
+pub returns-clause-starts : goal.returns-clause-starts
+returns-clause-starts g c =
+    let seat = g.B.Board.seat c.args.board.now in
+    let v = g.B.Board.view c.args.board.now in
+    let u = g.B.Board.view c.try_lead.new.board in
+    let had = subst (λ (b : Bool). TriesLock b seat.number v u c.args.self.now c.try_lead.new.self) c.if-try_lead.false c.try_lead.ensures.tried in
+    starts_nothing c.try_lead.new.self had.1
+
+pub returns-then-not-posted-clause-tries : goal.returns-then-not-posted-clause-tries
+returns-then-not-posted-clause-tries g c =
+    let w = g.B.Board.whole c.args.board.now in
+    subst (λ (b : Bool). TriedIf b (g.B.Board.seat c.args.board.now).number w w (g.B.Board.view c.args.board.now)) (sym c.if-not-posted.true) refl
+
+pub returns-clause-tries : goal.returns-clause-tries
+returns-clause-tries g c =
+    subst (λ (b : Bool). TriedIf b (g.B.Board.seat c.args.board.now).number (g.B.Board.whole c.args.board.now) (g.B.Board.whole c.try_lead.new.board) (g.B.Board.view c.try_lead.new.board)) (sym c.if-not-posted.false) c.try_lead.ensures.whole
+
+pub returns-then-not-posted-clause-rests : goal.returns-then-not-posted-clause-rests
+returns-then-not-posted-clause-rests g c start stands looks =
+    rests_same start (g.B.Board.whole c.args.board.now) (g.B.Board.seat c.args.board.now).number (g.B.Board.view c.args.board.now) c.args.self.now.places.items
+    (subst (λ (b : Bool). FoundStands (Out b) start (g.B.Board.whole c.args.board.now) (g.B.Board.seat c.args.board.now).number c.args.self.now.places.items) c.if-not-posted.true stands) looks
+
+pub returns-clause-rests : goal.returns-clause-rests
+returns-clause-rests g c start stands looks =
+    let seat = g.B.Board.seat c.args.board.now in
+    let v = g.B.Board.view c.args.board.now in
+    let had = subst (λ (b : Bool). TriesLock b seat.number v (g.B.Board.view c.try_lead.new.board) c.args.self.now c.try_lead.new.self) c.if-try_lead.false c.try_lead.ensures.tried in
+    let L = led_here seat v c.args.self.now.leading (leads.Nothing c.requires.nothing.0) c.requires.holds.leads c.requires.nothing.1 in
+    rests_tried start (g.B.Board.whole c.args.board.now) (g.B.Board.whole c.try_lead.new.board) seat.number v (g.B.Board.view c.try_lead.new.board) c.args.self.now.places.items c.args.posted stands looks c.try_lead.ensures.whole
+    (ap (λ (y : View). y.holds) had.0.2 ∙ L.0)

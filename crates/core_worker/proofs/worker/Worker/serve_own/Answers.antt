@@ -1,16 +1,25 @@
 -- Item 4, and then items 5, 7 and 8.
-use Rattle.std.proofs.Common.{◌≡◌, ◌++◌, true, false, sym, ◌∙◌, refl, subst}
+use Rattle.std.proofs.Common.{◌∙◌, ◌++◌, sym, subst}
 use Rattle.std.specs.Prelude.{is_ok}
 use Rattle.store_image.specs.Facts.{In}
 use Rattle.group_laws.specs.declared.types.Seen.TheVariants.{Slot}
 use Rattle.group_board.specs.Seats.{SeatAt}
 use Rattle.core_worker.specs.Ties.{HoldsAt, StandsAt}
-use Rattle.core_worker.specs.Turns.{InOrderAt, LooksMade, PassesItems}
+use Rattle.core_worker.specs.Turns.{InOrderAt, LooksMade}
 use Rattle.core_worker.specs.Finishing.{FinishesSlot}
-use Rattle.core_worker.specs.Turning.{KeepsTurn, TurnedTo, Tells, at_entry}
+use Rattle.core_worker.specs.declared.searching.Search.TheVariants.{Out}
+use Rattle.core_worker.specs.Searching.{FoundStands}
+use Rattle.core_worker.specs.Turning.{KeepsTurn, RestsTo, TurnedTo, Tells, at_entry}
 use Rattle.core_worker.specs.Turning.Did.{finishes}
 use Rattle.core_worker.proofs.TurnLaws.{keeps_looked, looked_holds, looked_stands, looked_order}
 use Rattle.core_worker.proofs.ItemLaws.{was_back, keeps_finish}
+use Rattle.core_worker.proofs.LeftTurns.{measures_looked}
+use Rattle.core_worker.proofs.LeftLocks.{lowers_looked}
+use Rattle.core_worker.proofs.LeftTurns.{view_agrees}
+use Rattle.core_worker.specs.Left.{HasOffer}
+use Rattle.core_worker.specs.Resting.{IfIdle, TriedIf}
+use Rattle.core_worker.proofs.Rested.{Agrees, rests_by}
+use Rattle.group_laws.specs.MemberViews.{View}
 use Rattle.core_worker.proofs.worker.Worker.serve_own.Goals as goal
 
 pub take_back-requires-clause-holds : goal.take_back-requires-clause-holds
@@ -129,3 +138,51 @@ returns-in-Out-clause-turned g c =
     let u = g.B.Board.view c.serve_staged.new.board in
     subst (λ (x : SeatAt). TurnedTo c.serve_staged.result (g.R.Region.state c.args.region.now) (g.G.Gate.may_refuse c.args.gate.now) (g.B.Board.whole c.args.board.now) x (at_entry c.args.self.now v) (at_entry c.serve_staged.new.self u)) c.find_back.ensures.seat
     (c.serve_staged.ensures.turned (g.B.Board.whole c.args.board.now) v (subst (λ (x : SeatAt). Tells c.in-Out.posted x.number c.args.self.now v mid) (sym c.find_back.ensures.seat) c.in-Out.ensures.finds))
+
+pub returns-in-Ok-clause-less : goal.returns-in-Ok-clause-less
+returns-in-Ok-clause-less g c =
+    let looks = c.find_back.ensures.looks in
+    lowers_looked (g.B.Board.whole c.args.board.now) (g.B.Board.whole c.find_back.new.board) (g.B.Board.whole c.take_back.new.board) (g.B.Board.seat c.args.board.now).number looks.0 (g.B.Board.view c.find_back.new.board) c.args.self.now c.take_back.new.self looks.1 c.take_back.ensures.less
+
+pub returns-in-Err-clause-less : goal.returns-in-Err-clause-less
+returns-in-Err-clause-less g c =
+    let looks = c.find_back.ensures.looks in
+    lowers_looked (g.B.Board.whole c.args.board.now) (g.B.Board.whole c.find_back.new.board) (g.B.Board.whole c.take_back.new.board) (g.B.Board.seat c.args.board.now).number looks.0 (g.B.Board.view c.find_back.new.board) c.args.self.now c.take_back.new.self looks.1 c.take_back.ensures.less
+
+pub returns-in-Out-clause-less : goal.returns-in-Out-clause-less
+returns-in-Out-clause-less g c =
+    let m = (g.B.Board.seat c.args.board.now).number in
+    let mid = g.B.Board.whole c.find_back.new.board in
+    let looks = c.find_back.ensures.looks in
+    let finds = c.in-Out.ensures.finds in
+    measures_looked c.serve_staged.result (g.B.Board.whole c.args.board.now) mid (g.B.Board.whole c.serve_staged.new.board) m looks.0 (record { worker = c.args.self.now; view = g.B.Board.view c.args.board.now }) (g.B.Board.view c.find_back.new.board) c.serve_staged.new.self c.in-Out.posted looks.1
+    (view_agrees (g.B.Board.whole c.args.board.now) (g.B.Board.seat c.args.board.now) (g.B.Board.view c.args.board.now) (g.met.B.Board.agrees c.args.board.now)) finds.0.looked finds.1
+    (λ offer. c.serve_staged.ensures.less (λ yes. subst (λ (q : SeatAt). HasOffer mid q.number) (sym c.find_back.ensures.seat) (offer yes)))
+
+pub returns-in-Out-clause-starts : goal.returns-in-Out-clause-starts
+returns-in-Out-clause-starts g c = c.serve_staged.ensures.starts
+
+pub returns-in-Out-clause-idles : goal.returns-in-Out-clause-idles
+returns-in-Out-clause-idles g c =
+    let here = g.B.Board.seat c.args.board.now in
+    let w0 = g.B.Board.whole c.args.board.now in
+    let w1 = g.B.Board.whole c.find_back.new.board in
+    let w2 = g.B.Board.whole c.serve_staged.new.board in
+    let v = g.B.Board.view c.args.board.now in
+    let u = g.B.Board.view c.serve_staged.new.board in
+    let finds = c.in-Out.ensures.finds in
+    let K = returns-in-Out-clause-keeps g c in
+    rests_by c.serve_staged.result (g.R.Region.state c.args.region.now) (g.G.Gate.may_refuse c.args.gate.now) here (record { worker = c.args.self.now; view = v }) (record { worker = c.serve_staged.new.self; view = u }) (g.B.Board.view c.find_back.new.board) finds.0 c.in-Out.posted finds.1 w0 w1 w2 c.find_back.ensures.looks
+    (subst (λ (q : SeatAt). IfIdle c.serve_staged.result (TriedIf c.in-Out.posted q.number w1 w2 u)) c.find_back.ensures.seat c.serve_staged.ensures.tries)
+    (returns-in-Out-clause-turned g c) K.holds K.order.hand (g.met.B.Board.agrees c.args.board.now)
+    (subst (λ (q : SeatAt). Agrees q.place q.number u w2) (c.serve_staged.ensures.seat ∙ c.find_back.ensures.seat) (g.met.B.Board.agrees c.serve_staged.new.board)) (g.met.B.Board.lawful c.serve_staged.new.board)
+
+pub returns-in-Out-clause-rests : goal.returns-in-Out-clause-rests
+returns-in-Out-clause-rests g c =
+    let e = c.find_back.ensures.seat in
+    let before = g.B.Board.whole c.args.board.now in
+    let mid = g.B.Board.whole c.find_back.new.board in
+    let v = g.B.Board.view c.find_back.new.board in
+    let ps = c.args.self.now.places.items in
+    subst (λ (x : SeatAt). RestsTo c.serve_staged.result before (g.B.Board.whole c.serve_staged.new.board) x.number (g.B.Board.view c.serve_staged.new.board) ps) e
+    (c.serve_staged.ensures.rests before (subst (λ (x : SeatAt). FoundStands (Out c.in-Out.posted) before mid x.number ps) (sym e) c.in-Out.ensures.stands) (subst (λ (x : SeatAt). LooksMade before mid x.number v) (sym e) c.find_back.ensures.looks))

@@ -1,10 +1,12 @@
 -- The lowest staged change is posted, or answered by a stopped core, or the lock is tried.
-use Rattle.std.proofs.Common.{◌≡◌, true, false, sym, ◌∙◌, refl, subst}
+use Rattle.std.proofs.Common.{refl}
 use Rattle.std.specs.Prelude.{is_ok}
-use Rattle.core_worker.specs.Turning.{at_entry}
 use Rattle.core_worker.specs.Turning.Did.{drops}
 use Rattle.core_worker.proofs.TurnLaws.{posts_did}
 use Rattle.core_worker.proofs.ItemLaws.{keeps_drop}
+use Rattle.core_worker.proofs.LeftTurns.{dropped_starts, posted_starts}
+use Rattle.core_worker.proofs.LeftItems.{posts_lower, lowers_still}
+use Rattle.std.proofs.Common.{arith}
 use Rattle.core_worker.proofs.worker.Worker.serve_staged.Goals as goal
 
 pub returns-in-Pass-clause-keeps : goal.returns-in-Pass-clause-keeps
@@ -70,3 +72,14 @@ returns-in-Err-clause-turned g c before v tells =
       drops = c.drop_staged.ensures.drops;
       view = refl;
     })
+
+pub returns-in-Post-clause-less : goal.returns-in-Post-clause-less
+returns-in-Post-clause-less g c offer =
+    let chosen = c.in-Post.ensures in
+    posts_lower (g.B.Board.whole c.args.board.now) (g.B.Board.whole c.post.new.board) (g.B.Board.seat c.args.board.now).number (g.B.Board.view c.args.board.now) (g.B.Board.view c.post.new.board) c.args.self.now c.post.new.self c.in-Post.slot chosen.2 (let lt = chosen.1 in let eight = c.requires.holds.eight in omega (arith, lt, eight)) c.post.ensures.posts (g.met.B.Board.lawful c.args.board.now)
+
+pub returns-in-Post-clause-starts : goal.returns-in-Post-clause-starts
+returns-in-Post-clause-starts g c = posted_starts _ _ _ _ _ c.args.self.now c.post.new.self c.in-Post.slot c.requires.nothing c.post.ensures.posts
+
+pub returns-in-Pass-clause-rests : goal.returns-in-Pass-clause-rests
+returns-in-Pass-clause-rests g c start stands looks = c.serve_lock-turn.ensures.rests start stands looks

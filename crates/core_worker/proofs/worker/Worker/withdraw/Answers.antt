@@ -1,5 +1,7 @@
 -- A change is withdrawn and put away, and what waits of its key is begun; or the lock is given back.
 use Rattle.core_worker.proofs.Retracting.{retracted_busy, retracted_room, retracted_used, retracted_freed, retracted_made, retracted_serves, withdraws_slot}
+use Rattle.core_worker.proofs.LeftBacks.{withdraws_lower, put_by_low, collecting_low}
+use Rattle.std.proofs.Common.{◌+◌, arith}
 use Rattle.core_worker.proofs.worker.Worker.withdraw.Goals as goal
 
 pub returns-in-None-clause-stands : goal.returns-in-None-clause-stands
@@ -136,3 +138,13 @@ returns-in-Some-clause-made g c =
     let mid = c.retract.new.self in
     let s = g.R.Region.state c.args.region.now in
     retracted_made here w0 w1 v u w mid c.in-Some.change c.requires.holds c.requires.order c.requires.stopped c.requires.collects c.in-Some.ensures.retracts
+
+pub returns-in-Some-clause-less : goal.returns-in-Some-clause-less
+returns-in-Some-clause-less g c =
+    let here = g.B.Board.seat c.args.board.now in
+    let R = c.in-Some.ensures.retracts in
+    withdraws_lower (g.B.Board.whole c.args.board.now) (g.B.Board.whole c.retract.new.board) here.number R.back.slot (R.back.slot + 1) (g.B.Board.view c.retract.new.board) c.args.self.now c.serve.new.self R.back.made (g.met.B.Board.lawful c.args.board.now)
+    (let one = collecting_low c.args.self.now c.retract.new.self R.collecting R.leads_now R.idle in
+    let two = put_by_low c.retract.new.self c.put_by.new.self _ _ c.put_by.ensures in
+    let three = c.serve.ensures.less in
+    omega (arith, one, two, three))

@@ -28,6 +28,7 @@ use Rattle.core_worker.proofs.Made.{one_step}
 use Rattle.core_worker.proofs.Writing.{opened_layout, room_ready, takes_same, holds_wrote, stands_wrote}
 use Rattle.core_worker.proofs.Unpledging.{pledged_by, less_own, each_place, certain_own, unpledged_at, holds_lowered, stands_lowered}
 use Rattle.core_worker.proofs.BatchRoom.{room_wrote}
+use Rattle.core_worker.proofs.LeftItems.{persists_lower, loses_lower}
 use Rattle.core_worker.proofs.worker.Worker.write_batch.Goals as goal
 
 pub persist-requires-clause-room : goal.persist-requires-clause-room
@@ -186,3 +187,20 @@ returns-in-Err-clause-persists g c = record {
   view = c.in-Err.ensures.view;
   same = refl;
 }
+
+pub returns-in-Ok-clause-less : goal.returns-in-Ok-clause-less
+returns-in-Ok-clause-less g c =
+    let m = (g.B.Board.seat c.args.board.now).number in
+    let v = g.B.Board.view c.args.board.now in
+    let u = g.B.Board.view c.persist.new.board in
+    let w = c.args.self.now in
+    let new = record w { log = c.persist.new.log; allocator = c.chunk_for-fresh.new.allocator; places = c.unpledge.new.places; leading = leads.Persisted c.in-Ok.done } in
+    persists_lower (g.B.Board.whole c.args.board.now) (g.B.Board.whole c.persist.new.board) m (record { worker = w; view = v }) (record { worker = new; view = u }) (c.unpledge.ensures.count ∙ sym c.requires.holds.eight)
+    (subst (λ (x : Bool). PersistsOrLoses x m (record { worker = w; view = v }) (record { worker = new; view = u })) c.requires.runs (returns-in-Ok-clause-persists g c))
+    (g.met.B.Board.lawful c.args.board.now) c.in-Ok.ensures.made
+
+pub returns-in-Err-clause-less : goal.returns-in-Err-clause-less
+returns-in-Err-clause-less g c =
+    let w = c.args.self.now in
+    let new = record w { log = c.persist.new.log; allocator = c.chunk_for-fresh.new.allocator; leading = leads.Failed c.in-Err.lost; stopped = true } in
+    loses_lower (g.B.Board.whole c.args.board.now) (g.B.Board.whole c.persist.new.board) (record { worker = w; view = g.B.Board.view c.args.board.now }) (record { worker = new; view = g.B.Board.view c.persist.new.board }) (returns-in-Err-clause-persists g c) c.in-Err.ensures.made
