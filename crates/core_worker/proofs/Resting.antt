@@ -12,7 +12,7 @@ use Rattle.group_board.specs.Told.{Makes, state_of}
 use Rattle.batch_leader.specs.Leading.{MakesAll}
 use Rattle.batch_leader.proofs.Steps.{makes_then, one_step}
 use Rattle.core_worker.specs.declared.types.Place.{Place}
-use Rattle.core_worker.specs.declared.searching.Search.TheVariants.{Out}
+use Rattle.core_worker.specs.declared.search_places.Search.TheVariants.{Out}
 use Rattle.core_worker.specs.OwnPlaces.{place_at, is_posted}
 use Rattle.core_worker.specs.Searching.{is_given_back, FoundStands}
 use Rattle.core_worker.specs.Turns.{looks_at, LooksMade}

@@ -28,7 +28,7 @@ use Rattle.core_worker.specs.OwnPlaces.{place_at, is_posted}
 use Rattle.core_worker.specs.Ties.{LeadsNothing}
 use Rattle.core_worker.specs.Turns.{PassesItems, IsBack, FindsPosted, looks_at, LooksMade}
 use Rattle.core_worker.specs.Searching.{Sees, is_given_back, is_out, shows_back, shows_out, IsStanding, Searched, Finds, FoundStands}
-use Rattle.core_worker.specs.declared.searching.Search.TheVariants.{Out}
+use Rattle.core_worker.specs.declared.search_places.Search.TheVariants.{Out}
 
 pub searched_none : (before : Option Group) (m : ℕ) (p : at.Place) (ps : List Place) (v : View) → IfSome before (λ u. (p ≡ u.place) × (v ≡ view_of u m)) → Searched before before m ps v 0 false v
 searched_none before m p ps v agrees = record {

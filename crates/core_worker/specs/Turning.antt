@@ -22,8 +22,8 @@ use Rattle.core_worker.specs.Ties.{HoldsAt, StandsAt}
 use Rattle.batch_leader.specs.TakenChanges.{MatchBool}
 use Rattle.core_worker.specs.declared.types.Turn.{Turn}
 use Rattle.core_worker.specs.declared.types.Turn.TheVariants.{Moved, Idle}
-use Rattle.core_worker.specs.declared.choosing.Choice.{Choice}
-use Rattle.core_worker.specs.declared.choosing.Choice.TheVariants.{Pass, Drop, Post}
+use Rattle.core_worker.specs.declared.choose_item.Choice.{Choice}
+use Rattle.core_worker.specs.declared.choose_item.Choice.TheVariants.{Pass, Drop, Post}
 use Rattle.core_worker.specs.OwnPlaces.{place_at, is_staged, is_posted, IsLowest}
 use Rattle.core_worker.specs.Turns.{Moment, InOrderAt, GoesRound, PersistsOrLoses, Marks, Fails, Finishes, Posts, LosesBlock, Locks, Idles, PassesItems, PassesPost, FindsPosted}
 use Rattle.core_worker.specs.Stopping.{Drops, WithdrawsOrUnlocks}

@@ -12,7 +12,7 @@ ghost use Rattle.core_worker.specs.Supplies.{room_for, HasKeptRoom};
 ghost use Rattle.batch_leader.specs.Persisting.{StaysLicensed, WritesPart};
 ghost use Rattle.core_worker.specs.Posting.{PostsOrStops};
 ghost use Rattle.core_worker.specs.Ties.{HoldsAt, StandsAt, LeadsNothing};
-ghost use Rattle.core_worker.specs.declared.searching.Search.TheVariants as founds;
+ghost use Rattle.core_worker.specs.declared.search_places.Search.TheVariants as founds;
 ghost use Rattle.core_worker.specs.Searching.{FoundStands};
 ghost use Rattle.core_worker.specs.Turns.{InOrderAt, LooksMade, PassesPost, PersistsOrLoses};
 ghost use Rattle.core_worker.specs.Turning.{HasBatch, KeepsTurn, TurnMoves, Did, Turned, TurnedTo, Tells, RestsIf, RestsTo, at_entry};

@@ -67,7 +67,7 @@ fn take_in<W: CoreWorker, R: Region>(
     requires room { deque_len backlog.old < deque_capacity backlog.old }
     ensures moved { IfOk result (λ b. (b ≡ true)
         × Accepts W.hands W.answers W.stands W.fair (R.state region.now) worker.old worker.new
-            ((number, request) ∷ [])) }
+        ((number, request) ∷ [])) }
     ensures failed { OnErr result (Accepts W.hands W.answers W.stands W.fair
         (R.state region.now) worker.old worker.new []) }
     ensures taken { OnOk result (backlog.new.items ≡ backlog.old.items) }

@@ -7,7 +7,7 @@ use Rattle.batch_leader.specs.TakenChanges.{MatchBool}
 use Rattle.core_worker.specs.Turns.{TriesLock, FindsPosted}
 use Rattle.core_worker.specs.Turning.Did.{locks}
 use Rattle.core_worker.specs.declared.types.Leading.TheVariants as leads
-use Rattle.core_worker.specs.declared.searching.Search.TheVariants.{Out}
+use Rattle.core_worker.specs.declared.search_places.Search.TheVariants.{Out}
 use Rattle.core_worker.specs.Searching.{FoundStands}
 use Rattle.core_worker.proofs.LeadTies.{led_here}
 use Rattle.core_worker.proofs.Resting.{rests_same, rests_tried}

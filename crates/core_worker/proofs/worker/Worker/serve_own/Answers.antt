@@ -7,7 +7,7 @@ use Rattle.group_board.specs.Seats.{SeatAt}
 use Rattle.core_worker.specs.Ties.{HoldsAt, StandsAt}
 use Rattle.core_worker.specs.Turns.{InOrderAt, LooksMade}
 use Rattle.core_worker.specs.Finishing.{FinishesSlot}
-use Rattle.core_worker.specs.declared.searching.Search.TheVariants.{Out}
+use Rattle.core_worker.specs.declared.search_places.Search.TheVariants.{Out}
 use Rattle.core_worker.specs.Searching.{FoundStands}
 use Rattle.core_worker.specs.Turning.{KeepsTurn, RestsTo, TurnedTo, Tells, at_entry}
 use Rattle.core_worker.specs.Turning.Did.{finishes}
