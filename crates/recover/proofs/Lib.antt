@@ -15,5 +15,6 @@ pub mod HeadLaws
 pub mod StartLaws
 pub mod StandLaws
 pub mod PairLaws
+pub mod ReadLaws
 pub mod Clients
 pub mod OwnLaws

@@ -9,6 +9,7 @@ pub mod Shares
 pub mod Logs
 pub mod Heads
 pub mod Listing
+pub mod Reading
 pub mod Recovering
 pub use Rattle.chunk_map.specs.Checked
 pub use Rattle.chunk_map.specs.Layouts

@@ -15,6 +15,7 @@ mod key_standees;
 mod live_pairs;
 mod logs;
 mod own_deaths;
+mod recover_read;
 mod recover_region;
 mod region_blocks;
 mod shares;
@@ -25,6 +26,7 @@ mod types;
 mod winning;
 
 pub use live_pairs::pairs;
+pub use recover_read::recover_read;
 pub use recover_region::{first_fault, recover};
 pub use store_image::Fault;
 pub use types::{CoreStart, RecoverError, Recovered};
