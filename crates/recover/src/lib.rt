@@ -15,8 +15,8 @@ mod key_standees;
 mod live_pairs;
 mod logs;
 mod own_deaths;
-mod recover_read;
 mod recover_region;
+mod recover_snapshot;
 mod region_blocks;
 mod shares;
 mod starts;
@@ -26,7 +26,7 @@ mod types;
 mod winning;
 
 pub use live_pairs::pairs;
-pub use recover_read::recover_read;
 pub use recover_region::{first_fault, recover};
+pub use recover_snapshot::recover_read;
 pub use store_image::Fault;
 pub use types::{CoreStart, RecoverError, Recovered};
