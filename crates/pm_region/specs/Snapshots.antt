@@ -1,5 +1,5 @@
 -- What is read of a region at one moment.
-use Rattle.std.specs.Prelude.{◌≡◌, ℕ, ◌==◌, List}
+use Rattle.std.specs.Prelude.{◌≡◌, ℕ, ◌==◌}
 use Rattle.pm_region.specs.Cell.{certain}
 use Rattle.pm_region.specs.State.{State, Frame, IsTelling, cell_now}
 use Rattle.pm_region.specs.Words.{Surely, lasts}
