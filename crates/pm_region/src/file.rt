@@ -10,6 +10,7 @@ use crate::file_open::{create_words, fence_file, open_words, write_pending};
 use crate::file_piece::FilePiece;
 use crate::file_pieces::{absorb_all, file_pieces, latest_of, most_faults};
 use crate::file_words::FileWords;
+use crate::read_region::ReadRegion;
 use crate::region::{Region, RegionFault};
 use crate::region_sizes::MOST_WORDS;
 use crate::split::{AttachError, SplitRegion};
@@ -135,6 +136,20 @@ impl<R: Files<File = File> + Drop> Region for FileRegion<R> {
 
     fn faults(&self) -> u64 {
         self.faults
+    }
+}
+
+impl<R: Files<File = File> + Drop> ReadRegion for FileRegion<R> {
+    ghost use Rattle.std.proofs.Common.{rules};
+    ghost use Rattle.pm_region.specs.Filed.{word_of};
+
+    ghost word = { λ r. word_of r.words };
+
+    // It tells nothing.
+    ghost tells = { λ r w telling. Prim.search rules };
+
+    fn word(&self, at: u64) -> u64 {
+        self.words.load(at)
     }
 }
 

@@ -7,6 +7,7 @@ ghost use Rattle.pm_region.specs.State.{Goes, InRange, LineInRange, IsTelling, c
 use crate::byte_words::word_count;
 use crate::device::Device;
 use crate::file_words::FileWords;
+use crate::read_region::ReadRegion;
 use crate::region::{Region, RegionFault};
 use crate::region_sizes::LINE_WORDS;
 
@@ -93,5 +94,19 @@ impl Region for FilePiece {
 
     fn faults(&self) -> u64 {
         self.faults
+    }
+}
+
+impl ReadRegion for FilePiece {
+    ghost use Rattle.std.proofs.Common.{rules};
+    ghost use Rattle.pm_region.specs.Filed.{word_of};
+
+    ghost word = { λ p w. word_of p.words (w - p.first) };
+
+    // It tells nothing.
+    ghost tells = { λ p w telling. Prim.search rules };
+
+    fn word(&self, at: u64) -> u64 {
+        self.words.load(at - self.first)
     }
 }

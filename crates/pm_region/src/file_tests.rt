@@ -4,7 +4,7 @@ ghost use Rattle.pm_region.specs.State.{During, cell_now};
 ghost use Rattle.pm_region.specs.Words.{KeepsOutside};
 
 use crate::tests::{get, put, write_first, write_part};
-use crate::{AttachError, FileRegion, Region, RegionFault, SplitRegion};
+use crate::{AttachError, FileRegion, Region, RegionFault, Snapshot, SplitRegion};
 use std::alloc::Global;
 use std::fs;
 use std::test::Fail;
@@ -201,6 +201,21 @@ fn a_held_region(rt: HostRuntime) -> Result<(), Fail> {
     drop(holder);
     assert_eq!(rt; second.attach(alloc), Ok(()));
     assert_eq!(rt; get(&second, 0), 5);
+    fs::remove_file(&rt, name)?;
+    Ok(())
+}
+
+#[test]
+fn snapshot_of_a_file(rt: HostRuntime) -> Result<(), Fail> {
+    let alloc = rt.alloc();
+    let name = "pm_region_snapshot_of_a_file";
+    let mut region = FileRegion::at(rt.clone()?, String::from_str(alloc, name)?);
+    assert_eq!(rt; region.create(alloc, 16), Ok(()));
+    put(&mut region, 9, 13);
+    let snapshot = Snapshot::of(&region);
+    assert_eq!(rt; snapshot.words(), 16);
+    assert_eq!(rt; get(&snapshot, 9), 13);
+    assert_eq!(rt; get(&snapshot, 8), 0);
     fs::remove_file(&rt, name)?;
     Ok(())
 }

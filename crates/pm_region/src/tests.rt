@@ -4,7 +4,7 @@ ghost use Rattle.pm_region.specs.State.{During, cell_now};
 ghost use Rattle.pm_region.specs.Words.{KeepsOutside};
 
 use crate::{
-    AttachError, Faults, FenceNumber, ImageError, MemRegion, Pick, Region, RegionFault,
+    AttachError, Faults, FenceNumber, ImageError, MemRegion, Pick, Region, RegionFault, Snapshot,
     SplitRegion, SteadyRegion,
 };
 use std::alloc::Global;
@@ -204,5 +204,28 @@ fn faults_of_a_piece(rt: HostRuntime) -> Result<(), Fail> {
     assert_eq!(rt; region.create(alloc, 8), Ok(()));
     assert_eq!(rt; region.bytes(), 64);
     assert_eq!(rt; get(&region, 0), 0);
+    Ok(())
+}
+
+// What is stored in a snapshot is not kept, and the region is as it was.
+#[test]
+fn words_of_a_snapshot(rt: HostRuntime) -> Result<(), Fail> {
+    let alloc = rt.alloc();
+    let mut region = SteadyRegion::new(alloc, Vec::new(alloc), 4)?;
+    region.create(alloc, 16)?;
+    put(&mut region, 3, 9);
+    let mut snapshot = Snapshot::of(&region);
+    assert_eq!(rt; snapshot.words(), 16);
+    assert_eq!(rt; snapshot.stamp(), 0);
+    assert_eq!(rt; get(&snapshot, 3), 9);
+    assert_eq!(rt; get(&snapshot, 4), 0);
+    put(&mut snapshot, 4, 10);
+    flush_first(&mut snapshot);
+    assert_eq!(rt; snapshot.fence(), Ok(()));
+    assert_eq!(rt; snapshot.stamp(), 3);
+    assert_eq!(rt; get(&snapshot, 4), 0);
+    assert_eq!(rt; get(&region, 3), 9);
+    assert_eq!(rt; get(&region, 4), 0);
+    assert_eq!(rt; region.stamp(), 1);
     Ok(())
 }

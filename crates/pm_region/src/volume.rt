@@ -208,3 +208,16 @@ impl Volume {
         self.cuts.clear();
     }
 }
+
+impl Volume {
+    ghost use Rattle.pm_region.specs.Volumes.{volume_words};
+    ghost use Rattle.pm_region.specs.Reads.{word_in};
+
+    /// The word at an address, whether it tells or not.
+    pub fn word(&self, at: u64) -> u64
+        requires { at < volume_words self.now }
+        ensures { result ≡ word_in self.now.history at }
+    {
+        self.history.word(at)
+    }
+}

@@ -18,5 +18,6 @@ pub mod StartLaws
 pub mod StandLaws
 pub mod PairLaws
 pub mod LiveLaws
+pub mod ReadLaws
 pub mod Clients
 pub mod OwnLaws

@@ -10,6 +10,7 @@ pub mod Shares
 pub mod Logs
 pub mod Heads
 pub mod Listing
+pub mod Reading
 pub mod Recovering
 pub mod Live
 pub use Rattle.chunk_map.specs.Checked

@@ -3,7 +3,7 @@ ghost use Rattle.std.specs.Prelude.{◌≡◌, ℕ, ◌<◌, length, slice_index
 ghost use Rattle.chunk_map.specs.Layouts.{IsLayout};
 ghost use Rattle.recover.specs.declared.types.CoreStart.{CoreStart};
 
-use crate::{Fault, RecoverError, Recovered, first_fault, live_pairs, pairs, recover};
+use crate::{Fault, RecoverError, Recovered, first_fault, live_pairs, pairs, recover, recover_read};
 use core_index::Look;
 use core_log::LogChunk;
 use fs_errors::Memory;
@@ -458,5 +458,19 @@ fn the_plain_program(rt: HostRuntime) -> Result<(), Fail> {
             assert!(rt; found(alloc, &region, 20480)? == plain);
         }
     }
+    Ok(())
+}
+
+#[test]
+fn reading_a_region(rt: HostRuntime) -> Result<(), Fail> {
+    let alloc = rt.alloc();
+    let region = region(alloc, 4608, &TWO_CORES)?;
+    assert_eq!(rt; region.first(), 0);
+    assert_eq!(rt; region.words(), 4608);
+    let recovered = recover_read(alloc, &region, 36864)?;
+    assert_eq!(rt; recovered.starts.len(), 2);
+    assert!(rt; matches!(look_at(&recovered, 0, 2), Look::Block(17)));
+    assert!(rt; matches!(look_at(&recovered, 1, 1), Look::Deleted));
+    assert_eq!(rt; stands_at(&recovered, 0, name(1, 1)), (1, false));
     Ok(())
 }
