@@ -1,5 +1,5 @@
 -- Accepting a request is a whole move to whoever runs several workers.
-use Rattle.std.proofs.Common.{◌≡◌, ◌≢◌, ◌⊎◌, inl, inr, ⊎_elim, ℕ, ◌==◌, Bool, true, false, cond, List, [], ◌∷◌, ◌++◌, map, Option, Some, None, Result, Ok, Err, OnOk, OnErr, refl, sym, ◌∙◌, ap, subst, append-nil}
+use Rattle.std.proofs.Common.{◌≡◌, ◌≢◌, inl, inr, ⊎_elim, ℕ, ◌==◌, Bool, true, false, cond, List, [], ◌∷◌, ◌++◌, map, Option, Some, None, Result, Ok, Err, OnOk, OnErr, refl, sym, ◌∙◌, ap, subst, append-nil}
 use Rattle.std.specs.Prelude.{Vec, option_to_list}
 use Rattle.std.specs.Global.{Global}
 use Rattle.std.specs.List.{filter}
@@ -9,7 +9,7 @@ use Rattle.fs_model.specs.declared.model.Request.{Request}
 use Rattle.fs_model.specs.declared.model.Request.TheVariants.{Put, Get, Delete}
 use Rattle.fs_model.specs.declared.model.Reply.{Reply}
 use Rattle.fs_model.specs.declared.model.Reply.TheVariants as replies
-use Rattle.fs_model.specs.Cells.{key_of, answer_to, cell_after, is_change}
+use Rattle.fs_model.specs.Cells.{key_of, answer_to, is_change}
 use Rattle.fs_model.specs.Lawful.{MayReply, cell_left}
 use Rattle.pm_region.specs.State.{State, IsTelling}
 use Rattle.chunk_map.specs.declared.layouts.Geometry.{Geometry}
@@ -25,19 +25,18 @@ use Rattle.core_index.specs.Index.{known_at}
 use Rattle.core_index.specs.Records.{last_of}
 use Rattle.group_laws.specs.Places.{owner}
 use Rattle.group_laws.specs.State.{Group}
-use Rattle.group_laws.specs.MemberViews.{View}
 use Rattle.store_image.specs.Facts.{In}
 use Rattle.core_worker.specs.declared.types.Answer.{Answer}
 use Rattle.core_worker.specs.declared.types.Place as places
 use Rattle.core_worker.specs.declared.worker.Worker.{Worker}
-use Rattle.core_worker.specs.declared.types.Place.TheVariants.{Free, Staged, Posted}
+use Rattle.core_worker.specs.declared.types.Place.TheVariants.{Free, Staged}
 use Rattle.core_worker.specs.OwnPlaces.{place_at, key_in, is_busy, Replaces}
-use Rattle.core_worker.specs.Supplies.{supply_of, lacks, why, why_put, why_delete, free_blocks}
+use Rattle.core_worker.specs.Supplies.{supply_of, lacks, why, free_blocks}
 use Rattle.core_worker.specs.Refusals.{reply_to}
 use Rattle.core_worker.specs.Beginning.{answers_of, answer_with, OnlyBegins, IsAnswered, IsStaged, GoesOn, BeginsBy, BeginsAs, Begins}
-use Rattle.core_worker.specs.Ties.{Tie, Holds}
+use Rattle.core_worker.specs.Ties.{Tie}
 use Rattle.core_worker.specs.Accepting.{IsAsBefore, IsTied, HasTie, StaysTied, Accepts, AcceptsByEachView, AcceptMoves}
-use Rattle.core_worker.specs.WorkerMoves.{Placed, Fixed, told, placed_in, placed_for, asked_by, hands_of, requests_for, fixed_of, AnswersKey, WorkerMoves}
+use Rattle.core_worker.specs.WorkerMoves.{Fixed, told, placed_in, placed_for, asked_by, hands_of, requests_for, fixed_of, AnswersKey, WorkerMoves}
 use Rattle.core_worker.proofs.HandKeys.{none_for}
 use Rattle.core_worker.proofs.HandPlaces.{held_at, held_beside}
 use Rattle.core_worker.proofs.Pointers.{free_is}
@@ -255,9 +254,11 @@ module _ (s : State) (w b : Worker) (n : ℕ) (r : Request) (works : w.winds_dow
 
   fixes : Accepts x.view w b n r → (fs : List Fixed) × Fixes fs
   fixes A = ⊎_elim
-      (λ held. let e = held.2 in
-      ([], fixes_held (ap (λ (y : Worker). answers_of y) e ∙ A.1.answers) (ap (λ (y : Worker). y.stopped) e ∙ ap (λ (y : Worker). y.stopped) A.1.rest) (ap (λ (y : Worker). y.places) e ∙ ap (λ (y : Worker). y.places) A.1.rest) (ap (λ (y : Worker). y.in_hand) e ∙ ap (λ (y : Worker). y.in_hand) A.1.rest)
-      (subst (λ (q : List Held). AddsLast q b.queue (held_with n r)) (ap (λ (y : Worker). y.queue) A.1.rest) held.1)))
+      (λ held. let e = held.2 in (
+        [],
+        fixes_held (ap (λ (y : Worker). answers_of y) e ∙ A.1.answers) (ap (λ (y : Worker). y.stopped) e ∙ ap (λ (y : Worker). y.stopped) A.1.rest) (ap (λ (y : Worker). y.places) e ∙ ap (λ (y : Worker). y.places) A.1.rest) (ap (λ (y : Worker). y.in_hand) e ∙ ap (λ (y : Worker). y.in_hand) A.1.rest)
+            (subst (λ (q : List Held). AddsLast q b.queue (held_with n r)) (ap (λ (y : Worker). y.queue) A.1.rest) held.1),
+      ))
       (λ begun. fixes_begun A.0 A.1 begun.0 begun.1 begun.2)
       A.3
 

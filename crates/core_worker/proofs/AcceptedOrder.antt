@@ -1,5 +1,5 @@
 -- What accepting leaves of what is kept in order.
-use Rattle.std.proofs.Common.{◌≡◌, inl, inr, ⊎_elim, ℕ, zero, suc, ◌+◌, ◌≤◌, ◌<◌, Bool, true, false, cond, List, [], ◌∷◌, length, Option, None, Result, Ok, Err, OnOk, OnErr, refl, sym, ◌∙◌, ap, subst, arith}
+use Rattle.std.proofs.Common.{◌≡◌, inl, inr, ⊎_elim, ℕ, suc, ◌+◌, ◌≤◌, ◌<◌, Bool, true, false, cond, List, [], ◌∷◌, length, Option, None, refl, sym, ◌∙◌, ap, subst, arith}
 use Rattle.std.specs.Prelude.{is_some}
 use Rattle.std.specs.VecDeque.{deque_len, deque_capacity}
 use Rattle.std.specs.declared.collections.VecDeque.{VecDeque}
@@ -11,11 +11,10 @@ use Rattle.core_index.specs.Records.{Awaits, last_of, standing_of, standing_at, 
 use Rattle.group_laws.specs.Places.{Place, core_of, owner}
 use Rattle.group_laws.specs.MemberViews.{View}
 use Rattle.core_worker.specs.declared.types.Place as places
-use Rattle.core_worker.specs.declared.types.Place.TheVariants.{Free, Staged, Posted}
 use Rattle.core_worker.specs.declared.worker.Worker.{Worker}
 use Rattle.core_worker.specs.OwnPlaces.{is_free, is_busy}
 use Rattle.core_worker.specs.Refusals.{HasAnswerRoom}
-use Rattle.core_worker.specs.Order.{PointsAt, count_changes, unanswered, MayLeadStopped, InOrder}
+use Rattle.core_worker.specs.Order.{count_changes, unanswered, MayLeadStopped, InOrder}
 use Rattle.core_worker.specs.Ties.{Holds}
 use Rattle.core_worker.specs.Beginning.{OnlyBegins}
 use Rattle.core_worker.specs.Serving.{KeepsLine}

@@ -1,32 +1,26 @@
 -- A staged change of a stopped core is taken out of its place.
-use Rattle.std.proofs.Common.{◌≡◌, ◌≢◌, ◌⊎◌, inl, inr, ⊎_elim, ℕ, ◌+◌, ◌<◌, ◌≤◌, Bool, true, false, List, [], ◌∷◌, length, Option, Some, None, refl, sym, ◌∙◌, ap, subst, arith}
-use Rattle.std.specs.Prelude.{Vec, IfSome}
-use Rattle.std.specs.Global.{Global}
+use Rattle.std.proofs.Common.{◌≡◌, ◌⊎◌, ℕ, ◌+◌, ◌<◌, true, false, List, Option, Some, None, refl, sym, ◌∙◌, ap, subst, arith}
+use Rattle.std.specs.Prelude.{IfSome}
 use Rattle.log_entry.specs.declared.entry.Entry.{Entry}
 use Rattle.log_entry.specs.declared.entry.Body.{Body}
 use Rattle.log_entry.specs.declared.entry.Body.TheVariants as bodies
-use Rattle.conflict_queue.specs.Waiting.{waiting}
-use Rattle.core_index.specs.Index.{known_at, room_at}
+use Rattle.core_index.specs.Index.{known_at}
 use Rattle.core_index.specs.Records.{block_of, pointer_of}
 use Rattle.lazy_alloc.specs.Sets.{Sets, AreSets, block_is_used}
 use Rattle.group_laws.specs.declared.types.Block.{Block}
-use Rattle.group_laws.specs.declared.types.Pending.{Pending}
 use Rattle.group_laws.specs.Places as groups
 use Rattle.group_laws.specs.MemberViews.{View}
-use Rattle.core_worker.specs.declared.types.Leading.{Leading}
-use Rattle.core_worker.specs.declared.types.Leading.TheVariants as leads
 use Rattle.core_worker.specs.declared.types.Place.{Place}
 use Rattle.core_worker.specs.declared.types.Place.TheVariants.{Free, Staged, Posted}
 use Rattle.core_worker.specs.declared.worker.Worker.{Worker}
 use Rattle.core_worker.specs.OwnPlaces.{place_at, key_in, is_free, is_staged, Replaces}
 use Rattle.core_worker.specs.KeyTies.{IsPlaced, IsStagedBlock}
 use Rattle.core_worker.specs.Refusals.{HasAnswerRoom}
-use Rattle.core_worker.specs.Ties.{Holds, HasSpaceFor, is_lost}
+use Rattle.core_worker.specs.Ties.{Holds}
 use Rattle.core_worker.specs.Order.{InOrder, PointsAt}
-use Rattle.core_worker.specs.Finishing.{PutsBackIf, LetsGo, IsFreed}
+use Rattle.core_worker.specs.Finishing.{PutsBackIf, IsFreed}
 use Rattle.core_worker.specs.Stopping.{staged_block, PutsAway}
 use Rattle.core_worker.proofs.Posts.{busy_by}
-use Rattle.core_worker.proofs.Beginnings.{aside_of}
 use Rattle.core_worker.proofs.PuttingBack.{put_chunks, put_count, put_less, put_gone, put_kept}
 use Rattle.core_worker.proofs.Freeing.{Frees}
 use Rattle.core_worker.proofs.FreedOrder.{FreesInOrder, room_let_go}

@@ -1,9 +1,7 @@
 -- A change that was given back is finished: a whole move to whoever runs several workers.
-use Rattle.std.proofs.Common.{◌≡◌, ◌≢◌, ◌⊎◌, inl, inr, ⊎_elim, ℕ, ◌<◌, Bool, true, false, cond, ◌&&◌, not, List, [], ◌∷◌, ◌++◌, Option, Some, None, refl, sym, ◌∙◌, ap, subst}
-use Rattle.std.specs.Prelude.{MatchOption, option_map, IfSome}
+use Rattle.std.proofs.Common.{◌≡◌, ◌≢◌, ◌⊎◌, inl, inr, ℕ, ◌<◌, Bool, true, false, cond, ◌&&◌, not, List, [], ◌∷◌, ◌++◌, Option, Some, None, refl, sym, ◌∙◌, ap, subst}
+use Rattle.std.specs.Prelude.{MatchOption, option_map}
 use Rattle.std.proofs.lemmas.Bool.{eq-eqb, ne_eqb}
-use Rattle.fs_model.specs.declared.model.Request.{Request}
-use Rattle.fs_model.specs.declared.model.Request.TheVariants.{Delete}
 use Rattle.fs_model.specs.declared.model.Reply.{Reply}
 use Rattle.fs_model.specs.declared.model.Reply.TheVariants as replies
 use Rattle.fs_model.specs.Cells.{key_of, cell_after}
@@ -14,8 +12,7 @@ use Rattle.log_entry.specs.declared.entry.Body.{Body}
 use Rattle.log_entry.specs.declared.entry.Body.TheVariants as bodies
 use Rattle.group_laws.specs.declared.types.Block.{Block}
 use Rattle.group_laws.specs.declared.types.Pending.{Pending}
-use Rattle.group_laws.specs.declared.types.Slot.TheVariants.{Failed}
-use Rattle.group_laws.specs.Places.{Place, core_of, owner}
+use Rattle.group_laws.specs.Places.{core_of, owner}
 use Rattle.group_laws.specs.State.{Group}
 use Rattle.group_laws.specs.Runs as runs
 use Rattle.group_laws.specs.Steps.{points_at, is_of, only_own}
@@ -23,20 +20,18 @@ use Rattle.group_laws.specs.MemberViews.{View}
 use Rattle.group_board.specs.Seats.{SeatAt}
 use Rattle.group_board.specs.Told.{Makes}
 use Rattle.group_board.specs.Views.{after_finish, after_give_up, left_in, TidiedIn}
-use Rattle.core_worker.specs.declared.types.Answer.{Answer}
-use Rattle.core_worker.specs.declared.types.Place as places
-use Rattle.core_worker.specs.declared.types.Place.TheVariants.{Free, Staged, Posted}
+use Rattle.core_worker.specs.declared.types.Place.TheVariants.{Free, Posted}
 use Rattle.core_worker.specs.declared.worker.Worker.{Worker}
 use Rattle.core_worker.specs.OwnPlaces.{place_at, key_in, Replaces, request_by, request_pending, bytes_or}
 use Rattle.core_worker.specs.KeyTies.{IsPlaced, Offers}
-use Rattle.core_worker.specs.Ties.{Holds, HoldsAt, StandsAt}
+use Rattle.core_worker.specs.Ties.{HoldsAt, StandsAt}
 use Rattle.core_worker.specs.Turns.{InOrderAt, Steps}
 use Rattle.core_worker.specs.Beginning.{answers_of, answer_with}
 use Rattle.core_worker.specs.Finishing.{number_in, LetsGo, Settles, done_reply, reply_back, Serves, ShortOf, FinishesSlot, StopsByFailed}
 use Rattle.core_worker.specs.Turning.{TurnMoves}
 use Rattle.core_worker.specs.WorkerMoves.{Placed, placed_in}
 use Rattle.core_worker.proofs.HandKeys.{asks, body_holds}
-use Rattle.core_worker.proofs.LetGoMoves.{LetGo, let_go_turn}
+use Rattle.core_worker.proofs.LetGoMoves.{let_go_turn}
 use Rattle.core_worker.proofs.Made.{one_step}
 
 pub asks_key : (k : ℕ) (value : List ℕ) (b : Body) → key_of (request_by k value b) ≡ k

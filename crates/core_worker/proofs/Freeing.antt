@@ -1,39 +1,34 @@
 -- A place is freed, whatever became of its change: what is left of the ties.
-use Rattle.std.proofs.Common.{◌≡◌, ◌≢◌, ◌⊎◌, inl, inr, ⊎_elim, ℕ, ◌+◌, ◌*◌, ◌<◌, ◌≤◌, Bool, true, false, List, [], ◌∷◌, length, Option, Some, None, option_map, refl, sym, ◌∙◌, ap, subst, arith}
+use Rattle.std.proofs.Common.{◌≡◌, ◌≢◌, ◌⊎◌, inl, inr, ⊎_elim, ℕ, ◌+◌, ◌*◌, ◌<◌, ◌≤◌, Bool, true, false, [], length, Option, Some, None, refl, sym, ◌∙◌, ap, subst, arith}
 use Rattle.std.proofs.lemmas.Bool.{cases_eq}
 use Rattle.pm_region.specs.Words.{Surely}
-use Rattle.core_worker.specs.Supplies.{IsSmall}
-use Rattle.core_worker.specs.declared.types.Cleaning.{Cleaning}
-use Rattle.pm_region.specs.State.{State, IsTelling, cell_now}
-use Rattle.log_entry.specs.declared.entry.Entry.{Entry}
+use Rattle.pm_region.specs.State.{State, cell_now}
 use Rattle.log_entry.specs.declared.entry.Body.{Body}
 use Rattle.log_entry.specs.declared.entry.Body.TheVariants as bodies
 use Rattle.chunk_map.specs.Layouts.{part_first}
 use Rattle.core_log.specs.Log.{LogState, StandsIn, tail_of, first_of}
 use Rattle.core_index.specs.Index.{known_at, room_at}
-use Rattle.core_index.specs.Records.{KeyRecord, is_forgettable, standing_at, standing_of}
-use Rattle.core_index.specs.declared.types.Standing.{Standing}
+use Rattle.core_index.specs.Records.{is_forgettable}
 use Rattle.recover.specs.Starts.{IsSpelledIndex}
-use Rattle.lazy_alloc.specs.Sets.{Sets, AreSets, SameChunks, block_is_used, class_at}
+use Rattle.lazy_alloc.specs.Sets.{AreSets, SameChunks, block_is_used}
 use Rattle.lazy_alloc.proofs.SetLaws.{same_part, class_same}
 use Rattle.store_image.specs.Facts.{In}
 use Rattle.group_laws.specs.declared.types.Block.{Block}
 use Rattle.group_laws.specs.declared.types.Pending.{Pending}
-use Rattle.group_laws.specs.Places.{Place, core_of, owner}
+use Rattle.group_laws.specs.Places.{Place, owner}
 use Rattle.group_laws.specs.MemberViews.{View}
 use Rattle.group_board.specs.Conditions.{IsFree}
-use Rattle.licence.specs.Licence.{Licensed, grounded}
+use Rattle.licence.specs.Licence.{grounded}
 use Rattle.licence.specs.ViewChanges.{AllowsAll}
 use Rattle.licence.proofs.Quiet.{allowed}
 use Rattle.core_worker.specs.declared.types.Place as places
 use Rattle.core_worker.specs.declared.types.Place.TheVariants.{Free, Staged, Posted}
 use Rattle.core_worker.specs.declared.worker.Worker.{Worker}
 use Rattle.core_worker.specs.OwnPlaces.{place_at, key_in, is_busy, Replaces}
-use Rattle.core_worker.specs.KeyTies.{IsPlaced, Offers, Left, LeftIn, KnowsKey, IsStagedBlock, IsBlockFor}
-use Rattle.core_worker.specs.Ties.{Holds, Stands, Leads, HasSpaceFor, is_lost}
+use Rattle.core_worker.specs.KeyTies.{IsPlaced, Offers, KnowsKey, IsStagedBlock, IsBlockFor}
+use Rattle.core_worker.specs.Ties.{Stands, Leads, HasSpaceFor, is_lost}
 use Rattle.core_worker.specs.Beginning.{HoldsAside}
 use Rattle.core_worker.proofs.Posts.{busy_by, busy_has}
-use Rattle.core_worker.proofs.Tidied.{stands_of}
 
 -- What a worker w with view v and a worker x with view u have in common, where the place of a change of this key was freed.
 pub record Frees (p : Place) (m key slot : ℕ) (v u : View) (w x : Worker) : Type 0 where

@@ -1,21 +1,17 @@
 -- A change that could not be written is given up: its place is free, it is in doubt, and the core has stopped.
-use Rattle.std.proofs.Common.{◌≡◌, ◌≢◌, ◌⊎◌, inl, inr, ⊎_elim, ℕ, ◌+◌, ◌<◌, ◌≤◌, Bool, true, false, cond, List, [], ◌∷◌, length, Option, Some, None, refl, sym, ◌∙◌, ap, subst, arith}
+use Rattle.std.proofs.Common.{◌≡◌, ◌≢◌, ◌⊎◌, inl, inr, ⊎_elim, ℕ, ◌+◌, ◌<◌, Bool, true, false, cond, Option, Some, None, refl, sym, ◌∙◌, ap, subst, arith}
 use Rattle.std.specs.Prelude.{Vec}
 use Rattle.std.specs.Global.{Global}
 use Rattle.std.specs.declared.collections.VecDeque.{VecDeque}
-use Rattle.std.proofs.lemmas.Bool.{cases_eq, eq-eqb, ne_eqb}
-use Rattle.pm_region.specs.State.{State}
+use Rattle.std.proofs.lemmas.Bool.{eq-eqb, ne_eqb}
 use Rattle.log_entry.specs.declared.entry.Entry.{Entry}
 use Rattle.core_index.specs.Index.{known_at}
-use Rattle.core_index.specs.Records.{Awaits, block_of}
+use Rattle.core_index.specs.Records.{block_of}
 use Rattle.log_entry.specs.Spelling.{HasSpelling}
-use Rattle.log_entry.specs.declared.entry.EntryName.{EntryName}
-use Rattle.group_laws.specs.declared.types.Block.{Block}
 use Rattle.group_laws.specs.declared.types.Pending.{Pending}
 use Rattle.group_laws.specs.Places.{Place, core_of, owner}
-use Rattle.group_laws.specs.Updates.{put}
 use Rattle.group_laws.specs.MemberViews.{View}
-use Rattle.group_board.specs.Views.{after_give_up, IsSpentIn, IsTidyIn, TidiedIn}
+use Rattle.group_board.specs.Views.{after_give_up, IsSpentIn, IsTidyIn}
 use Rattle.batch_leader.specs.declared.buffer.BatchBuffer.{BatchBuffer}
 use Rattle.lazy_alloc.specs.Sets.{Sets, SameChunks}
 use Rattle.core_worker.specs.declared.types.Answer.{Answer}
@@ -24,9 +20,9 @@ use Rattle.core_worker.specs.declared.types.Place as places
 use Rattle.core_worker.specs.declared.types.Place.TheVariants.{Free, Staged, Posted}
 use Rattle.core_worker.specs.declared.worker.Worker.{Worker}
 use Rattle.core_worker.specs.OwnPlaces.{place_at, key_in, is_busy, Replaces}
-use Rattle.core_worker.specs.KeyTies.{KnowsKey, LeftIn, IsStagedBlock}
-use Rattle.core_worker.specs.Ties.{Holds, Stands, LeadsAt, HasSpaceFor, is_lost}
-use Rattle.core_worker.specs.Order.{PointsAt, InOrder, MayLeadStopped, unanswered}
+use Rattle.core_worker.specs.KeyTies.{KnowsKey, IsStagedBlock}
+use Rattle.core_worker.specs.Ties.{LeadsAt}
+use Rattle.core_worker.specs.Order.{PointsAt, InOrder, MayLeadStopped}
 use Rattle.core_worker.specs.Refusals.{HasAnswerRoom}
 use Rattle.core_worker.specs.Beginning.{HoldsAside}
 use Rattle.core_worker.specs.Hearing.{HearsAll}

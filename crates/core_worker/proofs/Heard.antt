@@ -1,11 +1,11 @@
 -- Dead entries of a core's own log are told one after another, until none is left.
-use Rattle.std.proofs.Common.{◌≡◌, ◌≢◌, ◌⊎◌, inl, inr, ℕ, ◌==◌, ◌&&◌, ◌||◌, nat_lt, Bool, true, false, cond, List, Option, Some, None, option_map, refl, sym, ◌∙◌, ap, subst}
+use Rattle.std.proofs.Common.{◌≡◌, ◌⊎◌, inl, inr, ℕ, ◌==◌, ◌&&◌, ◌||◌, nat_lt, Bool, true, false, cond, List, Option, Some, None, option_map, refl, sym, ◌∙◌, ap, subst}
 use Rattle.std.specs.Prelude.{is_some, IfSome, IfNone}
 use Rattle.std.proofs.lemmas.Bool.{eqb-true, eq-eqb, and_parts, and_from, cases_eq}
 use Rattle.log_entry.specs.declared.entry.EntryName.{EntryName}
 use Rattle.core_index.specs.declared.types.Standing.{Standing}
-use Rattle.core_index.specs.Index.{known_at, room_at, SameRoom, Tells}
-use Rattle.core_index.specs.Records.{KeyRecord, Awaits, is_tombstone, stands_alone, is_dead, standing_at, standing_of, standing_with, told, told_in}
+use Rattle.core_index.specs.Index.{known_at, SameRoom, Tells}
+use Rattle.core_index.specs.Records.{KeyRecord, Awaits, is_tombstone, is_dead, standing_at, standing_of, standing_with, told, told_in}
 use Rattle.core_index.specs.Slots.{Place}
 use Rattle.core_index.proofs.Clients.{found_version, at_told, at_told_other, alone_told}
 use Rattle.core_worker.specs.Hearing.{is_dead_by, heard_at, last_change, HearsAll}

@@ -1,7 +1,7 @@
 -- What items 4 and 5 keep where a change is let go.
-use Rattle.std.proofs.Common.{◌≡◌, ◌⊎◌, inl, inr, ⊎_elim, ℕ, ◌<◌, Bool, true, false, [], Option, refl, sym, ◌∙◌, ap, subst}
+use Rattle.std.proofs.Common.{◌≡◌, inl, inr, ⊎_elim, ℕ, ◌<◌, Bool, true, false, [], Option, refl, sym, ◌∙◌, ap, subst}
 use Rattle.std.specs.Prelude.{IfSome}
-use Rattle.pm_region.specs.State.{State, IsTelling}
+use Rattle.pm_region.specs.State.{State}
 use Rattle.pm_region.proofs.Moments.{started}
 use Rattle.pm_region.proofs.Runs.{all_kept}
 use Rattle.store_image.specs.Facts.{In}
@@ -27,7 +27,6 @@ use Rattle.core_worker.specs.Finishing.{WasFoundBack, FinishesSlot, StopsByFaile
 use Rattle.core_worker.specs.Order.{MayLeadStopped}
 use Rattle.core_worker.specs.Stopping.{Drops, WithdrawsOrUnlocks}
 use Rattle.group_board.specs.Views.{after_unlock}
-use Rattle.core_worker.proofs.QuietItems.{IsLed}
 use Rattle.core_worker.proofs.TurnLaws.{keeps_leading}
 use Rattle.core_worker.specs.Turning.{HasBatch, KeepsTurn}
 use Rattle.core_worker.proofs.FinishMoves.{finish_moves}

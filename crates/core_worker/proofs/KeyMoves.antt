@@ -1,7 +1,6 @@
 -- What one call does for one key: nothing, a request held, answered or staged.
-use Rattle.std.proofs.Common.{◌≡◌, ◌≢◌, ◌⊎◌, inl, inr, ℕ, ◌==◌, Bool, true, false, cond, List, [], ◌∷◌, ◌++◌, map, Option, Some, None, refl, sym, ◌∙◌, ap, subst, append-nil, append_assoc}
+use Rattle.std.proofs.Common.{◌≡◌, ◌≢◌, inl, inr, ℕ, true, false, cond, List, [], ◌∷◌, ◌++◌, map, Option, Some, None, refl, sym, ◌∙◌, ap, subst, append-nil, append_assoc}
 use Rattle.std.specs.Prelude.{IfSome, IsSomeAnd}
-use Rattle.std.specs.List.{filter}
 use Rattle.std.proofs.lemmas.Bool.{eq-eqb, ne_eqb}
 use Rattle.fs_model.specs.declared.model.Request.{Request}
 use Rattle.fs_model.specs.declared.model.Reply.{Reply}
@@ -20,7 +19,7 @@ use Rattle.group_laws.specs.Places as places
 use Rattle.licence.specs.Licence.{Licensed, part_at, part_end}
 use Rattle.core_worker.specs.declared.worker.Worker.{Worker}
 use Rattle.core_worker.specs.Ties.{Holds}
-use Rattle.core_worker.specs.WorkerMoves.{Placed, Hands, Fixed, placed, line_in, asked, replied, fixed_of, requests_for, hands_of, AnswersKey, WorkerMoves}
+use Rattle.core_worker.specs.WorkerMoves.{Hands, Fixed, placed, line_in, fixed_of, requests_for, hands_of, AnswersKey, WorkerMoves}
 use Rattle.core_worker.proofs.HandKeys.{holds_key}
 
 -- what is held of the key is the same

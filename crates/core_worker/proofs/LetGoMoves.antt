@@ -1,14 +1,14 @@
 -- A change is let go and what waits of its key is begun: a whole move to whoever runs several workers.
-use Rattle.std.proofs.Common.{◌≡◌, ◌≢◌, ◌⊎◌, inl, inr, ⊎_elim, ℕ, ◌<◌, ◌==◌, ◌||◌, Bool, true, false, cond, List, [], ◌∷◌, ◌++◌, map, length, Option, Some, None, refl, sym, ◌∙◌, ap, subst, arith, append-nil, append_assoc}
+use Rattle.std.proofs.Common.{◌≡◌, ◌≢◌, ◌⊎◌, inl, inr, ⊎_elim, ℕ, ◌==◌, ◌||◌, Bool, true, false, cond, List, [], ◌∷◌, ◌++◌, map, Option, Some, None, refl, sym, ◌∙◌, ap, subst, arith, append-nil, append_assoc}
 use Rattle.std.specs.Prelude.{option_map, option_to_list, IfSome}
-use Rattle.std.specs.List.{AllByRecursion, filter}
+use Rattle.std.specs.List.{filter}
 use Rattle.std.proofs.lemmas.Bool.{cases_eq, eq-eqb, ne_eqb}
 use Rattle.fs_model.specs.declared.model.Request.{Request}
 use Rattle.fs_model.specs.declared.model.Reply.{Reply}
 use Rattle.fs_model.specs.declared.model.Reply.TheVariants as replies
 use Rattle.fs_model.specs.Cells.{key_of}
 use Rattle.fs_model.specs.Lawful.{MayReply, IsLawfulFor, cell_left, cell_of, is_finish, is_stopped}
-use Rattle.pm_region.specs.State.{State, IsTelling, Rose}
+use Rattle.pm_region.specs.State.{State}
 use Rattle.pm_region.proofs.Moments.{started}
 use Rattle.pm_region.proofs.Runs.{all_kept}
 use Rattle.log_entry.specs.declared.entry.Entry.{Entry}
@@ -18,7 +18,6 @@ use Rattle.store_image.specs.Facts.{In}
 use Rattle.conflict_queue.specs.declared.types.Held.{Held}
 use Rattle.conflict_queue.specs.Waiting.{waiting}
 use Rattle.group_laws.specs.declared.types.Block.{Block}
-use Rattle.group_laws.specs.declared.types.Pending.{Pending}
 use Rattle.group_laws.specs.declared.types.Slot.TheVariants.{Failed}
 use Rattle.group_laws.specs.Places.{Place, owner}
 use Rattle.group_laws.specs.State.{Group}
@@ -38,10 +37,10 @@ use Rattle.core_worker.specs.Beginning.{answers_of, answer_with}
 use Rattle.core_worker.specs.Finishing.{Serves, ShortOf}
 use Rattle.core_worker.specs.Turning.{TurnMoves}
 use Rattle.group_board.specs.Seats.{SeatAt}
-use Rattle.core_worker.specs.WorkerMoves.{Placed, Hands, Fixed, told, asked, replied, placed, line_in, placed_in, placed_for, asked_by, hands_of, fixed_of, requests_for, AnswersKey, WorkerMoves}
-use Rattle.core_worker.proofs.HandKeys.{none_for, holds_key}
+use Rattle.core_worker.specs.WorkerMoves.{Placed, Fixed, told, replied, placed, line_in, placed_in, placed_for, asked_by, hands_of, fixed_of, AnswersKey, WorkerMoves}
+use Rattle.core_worker.proofs.HandKeys.{holds_key}
 use Rattle.core_worker.proofs.HandPlaces.{held_at, held_beside}
-use Rattle.core_worker.proofs.Posts.{busy_by, busy_has}
+use Rattle.core_worker.proofs.Posts.{busy_has}
 use Rattle.core_worker.proofs.PostMoves.{kept_key}
 use Rattle.core_worker.proofs.QuietMoves.{runs_in}
 use Rattle.core_worker.proofs.ServedLines.{Line, lawful_before, lines_all, lines_short, line_kept}
@@ -78,7 +77,6 @@ module _ (p : Place) (m : ℕ) (v u : View) (w f x : Worker) (k slot : ℕ) (H :
     (doubt : (d : Entry) → u.pending k ≡ Some (record { entry = d; slot = None }) → (v.pending k ≡ Some (record { entry = d; slot = None })) ⊎ ((s : ℕ) × (pl.posted ≡ true) × (reply ≡ replies.Stopped) × (v.pending k ≡ Some (record { entry = d; slot = Some s })) × (left_in u.blocks d.body ≡ left_in v.blocks d.body)))
     (cells : (j : ℕ) → j ≢ k → u.cell j ≡ v.cell j) (pendings : (j : ℕ) → j ≢ k → u.pending j ≡ v.pending j) (blocks : (q : ℕ) (b : Block) → v.blocks q ≡ Some b → b.key ≢ k → u.blocks q ≡ v.blocks q)
     (serves : Serves f x (u.cell k) k ⊎ ShortOf f x (u.cell k) k) where
-
   idle : is_busy f.places.items k ≡ false
   idle = by (is_busy f.places.items k) refl where
     by : (b : Bool) → is_busy f.places.items k ≡ b → is_busy f.places.items k ≡ false
@@ -91,7 +89,7 @@ module _ (p : Place) (m : ℕ) (v u : View) (w f x : Worker) (k slot : ℕ) (H :
   apart : AreApart f.places.items
   apart s t j a b =
       let was : (n : ℕ) → key_in (place_at f.places.items n) ≡ Some j → key_in (place_at w.places.items n) ≡ Some j =
-          λ n e. ap key_in (sym (R.others n (λ same. (let both : None ≡ Some j = sym (ap key_in R.here) ∙ ap (λ i. key_in (place_at f.places.items i)) (sym same) ∙ e in cc both)))) ∙ e in
+      λ n e. ap key_in (sym (R.others n (λ same. (let both : None ≡ Some j = sym (ap key_in R.here) ∙ ap (λ i. key_in (place_at f.places.items i)) (sym same) ∙ e in cc both)))) ∙ e in
       H.apart s t j (was s a) (was t b)
 
   waits_none : f.in_hand ≡ None → map asked_by (waiting f.queue k) ≡ (hands_of v w).waits k

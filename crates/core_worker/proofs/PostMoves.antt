@@ -20,12 +20,10 @@ use Rattle.core_index.specs.Records.{KeyRecord, Awaits, pointer_of, block_of, la
 use Rattle.lazy_alloc.specs.Sets.{Sets}
 use Rattle.group_laws.specs.declared.types.Block.{Block}
 use Rattle.group_laws.specs.declared.types.Pending.{Pending}
-use Rattle.group_laws.specs.declared.types.Slot.TheVariants.{Failed}
 use Rattle.group_laws.specs.Places.{Place, core_of, owner}
 use Rattle.group_laws.specs.State.{Group}
 use Rattle.group_laws.specs.Runs as runs
 use Rattle.group_laws.specs.Steps.{with_block, bytes_of}
-use Rattle.group_laws.specs.Updates.{put}
 use Rattle.group_laws.specs.MemberViews.{View}
 use Rattle.group_board.specs.Conditions.{IsFree}
 use Rattle.group_board.specs.Views.{after_post, left_in}
@@ -35,7 +33,7 @@ use Rattle.core_worker.specs.declared.types.Place as places
 use Rattle.core_worker.specs.declared.types.Place.TheVariants.{Free, Staged, Posted}
 use Rattle.core_worker.specs.declared.worker.Worker.{Worker}
 use Rattle.core_worker.specs.OwnPlaces.{place_at, key_in, is_free, is_busy, Replaces, request_by, request_pending, bytes_or}
-use Rattle.core_worker.specs.KeyTies.{IsPlaced, Offers, Left, LeftIn, IsStagedBlock}
+use Rattle.core_worker.specs.KeyTies.{IsPlaced, Offers, Left, LeftIn}
 use Rattle.core_worker.specs.Order.{PointsAt, count_changes, unanswered, MayLeadStopped, InOrder}
 use Rattle.core_worker.specs.Posting.{PostsPlain}
 use Rattle.core_worker.specs.Ties.{Holds, Stands, LeadsNothing}
@@ -283,7 +281,7 @@ facts_of m before after v u w mid x slot same P = record {
   pledges = refl;
   was = sym (ap (λ (y : Worker). place_at y.places.items slot) same) ∙ P.was;
   places = subst (λ (y : Worker). Replaces y.places.items x.places.items slot (Posted P.number P.entry.key (lines_for (length (words_of P.entry))))) same P.places;
-  same = by x.places x.allocator (P.rest ∙ ap (λ (y : Worker). record y { places = x.places }) same) ;
+  same = by x.places x.allocator (P.rest ∙ ap (λ (y : Worker). record y { places = x.places }) same);
   view = P.view;
   made = (runs.Kind.Post slot P.entry P.value ∷ [], one_step before after m (runs.Kind.Post slot P.entry P.value) u P.whole);
 } where

@@ -1,5 +1,5 @@
 -- A block is put back, where there is one.
-use Rattle.std.proofs.Common.{◌≡◌, ◌≢◌, ℕ, ◌==◌, ◌&&◌, not, Bool, true, false, Option, Some, None, refl, sym, ◌∙◌, ap, subst}
+use Rattle.std.proofs.Common.{◌≡◌, ℕ, ◌==◌, not, true, false, Option, Some, None, refl, sym, ◌∙◌, ap, subst}
 use Rattle.std.proofs.lemmas.Bool.{and_parts, and_from, eq-eqb, ne_eqb}
 use Rattle.lazy_alloc.specs.Sets.{Sets, SameChunks, block_is_used, free_chunk_count}
 use Rattle.core_worker.specs.Finishing.{PutsBackIf}

@@ -1,5 +1,5 @@
 -- What a leader does leaves the keys, what is kept between two calls, and what is held.
-use Rattle.std.proofs.Common.{◌≡◌, ◌⊎◌, inl, inr, ⊎_elim, ℕ, ◌+◌, ◌<◌, Bool, true, false, List, [], ◌∷◌, ◌++◌, map, length, Option, Some, None, refl, sym, ◌∙◌, ap, subst, arith}
+use Rattle.std.proofs.Common.{◌≡◌, inl, ⊎_elim, ℕ, Bool, true, false, List, [], ◌∷◌, ◌++◌, Option, Some, None, refl, sym, ◌∙◌, ap, subst, arith}
 use Rattle.std.specs.Prelude.{Vec}
 use Rattle.std.specs.Global.{Global}
 use Rattle.std.specs.List.{AllByRecursion}
@@ -12,15 +12,12 @@ use Rattle.lazy_alloc.specs.Sets.{Sets}
 use Rattle.group_laws.specs.declared.types.Seen.{Seen}
 use Rattle.group_laws.specs.Places.{Place}
 use Rattle.group_laws.specs.State.{Group}
-use Rattle.group_laws.specs.Runs.{Kind}
 use Rattle.group_laws.specs.MemberViews.{View}
 use Rattle.group_laws.specs.Updates.{put2}
 use Rattle.group_board.specs.Views.{after_unlock}
 use Rattle.group_board.specs.Seats.{SeatAt}
-use Rattle.group_board.specs.Told.{Makes}
 use Rattle.licence.specs.Licence.{Licensed, part_at, part_end}
-use Rattle.batch_leader.specs.Leading.{IsFrom, taken_by, CollectsAt}
-use Rattle.batch_leader.specs.declared.states.Collecting.{Collecting}
+use Rattle.batch_leader.specs.Leading.{IsFrom, taken_by}
 use Rattle.batch_leader.specs.declared.taken.Taken.{Taken}
 use Rattle.core_worker.specs.declared.types.Place as places
 use Rattle.core_worker.specs.declared.types.Leading.{Leading}
@@ -28,8 +25,8 @@ use Rattle.core_worker.specs.declared.types.Leading.TheVariants as leads
 use Rattle.core_worker.specs.declared.worker.Worker.{Worker}
 use Rattle.core_worker.specs.OwnPlaces.{is_busy}
 use Rattle.core_worker.specs.Order.{count_changes, MayLeadStopped, InOrder}
-use Rattle.core_worker.specs.Ties.{LeadsAt, Holds, HoldsAt, StandsAt}
-use Rattle.core_worker.specs.Turns.{Moment, SameButLeading, Steps, TriesLock, GoesRound, Collects, Releases, Marks, Fails, persisted_left, failed_left}
+use Rattle.core_worker.specs.Ties.{HoldsAt, StandsAt}
+use Rattle.core_worker.specs.Turns.{Moment, SameButLeading, Steps, TriesLock, GoesRound, Collects, Releases, Marks, Fails}
 use Rattle.core_worker.specs.WorkerMoves.{placed_for, hands_of, WorkerMoves}
 use Rattle.core_worker.proofs.LeadTies.{led_here}
 use Rattle.core_worker.proofs.QuietMoves.{quiet_moves}

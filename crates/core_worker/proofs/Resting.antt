@@ -1,5 +1,5 @@
 -- After a turn in which nothing applied.
-use Rattle.std.proofs.Common.{◌≡◌, inl, inr, ⊎_elim, ℕ, ◌<◌, Bool, true, false, cond, List, [], ◌∷◌, ◌++◌, map, Option, Some, None, refl, sym, ◌∙◌, ap, subst, append-nil}
+use Rattle.std.proofs.Common.{◌≡◌, ⊎_elim, ℕ, ◌<◌, Bool, true, false, cond, List, [], ◌∷◌, ◌++◌, Option, Some, None, refl, sym, ◌∙◌, ap, subst, append-nil}
 use Rattle.std.specs.Prelude.{IfSome, IsSomeAnd}
 use Rattle.std.specs.List.{AllByRecursion}
 use Rattle.std.proofs.lemmas.Bool.{eq-eqb}
@@ -14,7 +14,7 @@ use Rattle.batch_leader.proofs.Steps.{makes_then, one_step}
 use Rattle.core_worker.specs.declared.types.Place.{Place}
 use Rattle.core_worker.specs.declared.searching.Search.TheVariants.{Out}
 use Rattle.core_worker.specs.OwnPlaces.{place_at, is_posted}
-use Rattle.core_worker.specs.Searching.{is_given_back, IsStanding, FoundStands}
+use Rattle.core_worker.specs.Searching.{is_given_back, FoundStands}
 use Rattle.core_worker.specs.Turns.{looks_at, LooksMade}
 use Rattle.core_worker.specs.Turning.{IsLoad, IsUnderWay, Rests}
 use Rattle.core_worker.proofs.TurnLaws.{kinds_of, kinds_made}

@@ -1,7 +1,7 @@
 -- A withdrawn change of a stopped core is put away, and what waits of its key is begun.
-use Rattle.std.proofs.Common.{◌≡◌, inl, ℕ, ◌+◌, Bool, true, false, List, [], ◌∷◌, ◌++◌, Result, Ok, Err, OnOk, OnErr, Option, Some, refl, sym, ◌∙◌, ap, subst}
+use Rattle.std.proofs.Common.{◌≡◌, inl, ◌+◌, true, [], ◌∷◌, ◌++◌, Result, Ok, Err, OnOk, OnErr, Option, Some, refl, sym, ◌∙◌, ap, subst}
 use Rattle.std.specs.Prelude.{is_ok, IfSome}
-use Rattle.pm_region.specs.State.{State, IsTelling}
+use Rattle.pm_region.specs.State.{State}
 use Rattle.crash_core.specs.declared.kinds.Change.{Change}
 use Rattle.core_index.specs.Records.{pointer_of}
 use Rattle.lazy_alloc.specs.Sets.{block_is_used}
@@ -18,8 +18,8 @@ use Rattle.core_worker.specs.Refusals.{HasAnswerRoom}
 use Rattle.core_worker.specs.Ties.{HoldsAt, StandsAt, Tie, is_lost}
 use Rattle.core_worker.specs.Turns.{InOrderAt, Steps}
 use Rattle.core_worker.specs.Serving.{OnlyServes}
-use Rattle.core_worker.specs.Finishing.{IsFreed, IsToServe, Serves, ServesByEachView, ServesShort}
-use Rattle.core_worker.specs.Stopping.{PutsAway, PutsAwayKey, Retracts, Withdraws, WithdrawsOrUnlocks}
+use Rattle.core_worker.specs.Finishing.{IsFreed, IsToServe, ServesByEachView, ServesShort}
+use Rattle.core_worker.specs.Stopping.{PutsAwayKey, Retracts, WithdrawsOrUnlocks}
 use Rattle.core_worker.proofs.Posts.{busy_by}
 use Rattle.core_worker.proofs.LeadTies.{leads_of}
 use Rattle.core_worker.proofs.Made.{and_then, looks_of, steps_made}

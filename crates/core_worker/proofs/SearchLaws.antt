@@ -1,7 +1,7 @@
 -- A load more of an own slot, where none was found given back so far.
-use Rattle.std.proofs.Common.{◌≡◌, ◌≢◌, inl, inr, ⊎_elim, ℕ, ◌+◌, ◌<◌, ◌≤◌, Bool, true, false, cond, ◌||◌, List, [], ◌∷◌, ◌++◌, map, Option, Some, None, refl, sym, ◌∙◌, ap, subst, arith, append-nil, append_assoc}
+use Rattle.std.proofs.Common.{◌≡◌, ◌≢◌, inl, ⊎_elim, ℕ, ◌+◌, ◌<◌, Bool, true, false, cond, ◌||◌, List, [], ◌∷◌, ◌++◌, Option, Some, None, refl, sym, ◌∙◌, ap, subst, arith, append-nil, append_assoc}
 use Rattle.std.specs.Prelude.{IfSome, IsSomeAnd}
-use Rattle.std.proofs.lemmas.Bool.{cases_eq, cases_lt, eq-eqb, ne_eqb}
+use Rattle.std.proofs.lemmas.Bool.{cases_lt, eq-eqb, ne_eqb}
 use Rattle.std.proofs.lemmas.List.{map-append}
 use Rattle.store_image.specs.Facts.{In}
 use Rattle.group_laws.specs.declared.types.Seen.{Seen}
@@ -17,7 +17,6 @@ use Rattle.group_laws.specs.Runs.Kind.{Look}
 use Rattle.group_laws.specs.MemberViews.{View, view_of}
 use Rattle.group_laws.proofs.Puts.{In-append_left, In-append_right}
 use Rattle.group_board.specs.declared.board.SlotState.{SlotState}
-use Rattle.group_board.specs.declared.board.SlotState.TheVariants as slots
 use Rattle.group_board.specs.Told.{Makes, state_of}
 use Rattle.group_board.specs.Views.{after_find}
 use Rattle.batch_leader.specs.Leading.{MakesAll}
@@ -27,7 +26,7 @@ use Rattle.core_worker.specs.declared.types.Place.{Place}
 use Rattle.core_worker.specs.declared.worker.Worker.{Worker}
 use Rattle.core_worker.specs.OwnPlaces.{place_at, is_posted}
 use Rattle.core_worker.specs.Ties.{LeadsNothing}
-use Rattle.core_worker.specs.Turns.{Moment, Looked, PassesItems, IsBack, FindsPosted, looks_at, LooksMade}
+use Rattle.core_worker.specs.Turns.{PassesItems, IsBack, FindsPosted, looks_at, LooksMade}
 use Rattle.core_worker.specs.Searching.{Sees, is_given_back, is_out, shows_back, shows_out, IsStanding, Searched, Finds, FoundStands}
 use Rattle.core_worker.specs.declared.searching.Search.TheVariants.{Out}
 
@@ -194,9 +193,9 @@ searched_on before mid after m ps v slot posted u t S None sees back =
 searched_on before mid after m ps v slot posted u t S (Some state) sees back =
     subst (λ (y : SlotState). Searched before after m ps v (slot + 1) (posted || is_out y) t) sees.1.1
     (loaded before mid after m ps v slot posted u t S sees.1.0 sees.0 sees.1.2 sees.2 (stood_word mid sees.3) (ap is_given_back sees.1.1 ∙ back)) where
-  stood_word : (a : Option Group) → IfSome a (λ w. state_of (shown (w.slot m slot)) ≡ state) → IfSome a (λ w. state_of (shown (w.slot m slot)) ≡ state_of sees.1.0)
-  stood_word None h = tt
-  stood_word (Some w) h = h ∙ sym sees.1.1
+      stood_word : (a : Option Group) → IfSome a (λ w. state_of (shown (w.slot m slot)) ≡ state) → IfSome a (λ w. state_of (shown (w.slot m slot)) ≡ state_of sees.1.0)
+      stood_word None h = tt
+      stood_word (Some w) h = h ∙ sym sees.1.1
 
 -- one was found given back, and none below it
 pub found_below : (before mid after : Option Group) (m : ℕ) (w : Worker) (v : View) (slot : ℕ) (posted : Bool) (u t : View) → LeadsNothing w → Searched before mid m w.places.items v slot posted u → (x : Option SlotState) → Sees m slot mid after u t (place_at w.places.items slot) x → shows_back x ≡ true

@@ -1,16 +1,14 @@
 -- What waits of a key is begun: the worker is tied again.
-use Rattle.std.proofs.Common.{◌≡◌, ◌≢◌, inl, inr, ℕ, ◌+◌, ◌<◌, Bool, true, false, length, Result, Ok, Err, OnOk, OnErr, refl, sym, ◌∙◌, ap, subst}
+use Rattle.std.proofs.Common.{◌≡◌, inr, ℕ, true, false, Result, Ok, Err, OnOk, OnErr, sym, ◌∙◌, subst}
 use Rattle.std.specs.Prelude.{is_ok}
-use Rattle.pm_region.specs.State.{State, IsTelling}
+use Rattle.pm_region.specs.State.{State}
 use Rattle.group_laws.specs.Places.{Place}
 use Rattle.group_laws.specs.MemberViews.{View}
 use Rattle.conflict_queue.specs.Waiting.{waiting}
-use Rattle.core_index.specs.Index.{room_at}
 use Rattle.core_worker.specs.declared.worker.Worker.{Worker}
-use Rattle.core_worker.specs.OwnPlaces.{is_busy}
 use Rattle.core_worker.specs.Ties.{Tie, StandsBy}
 use Rattle.core_worker.specs.Beginning.{IsHeldAside, KeepsTies, ByEachView, BeginsAll, BeginsShort}
-use Rattle.core_worker.specs.Serving.{AllWait, KeepsOrders, OthersWait, OnlyServes}
+use Rattle.core_worker.specs.Serving.{AllWait, KeepsOrders, OnlyServes}
 use Rattle.core_worker.specs.Finishing.{IsReady, IsFreed, IsToServe, IsServed, Serves, ServesByEachView, ServesShort, ShortOf, TakesBackKey, FinishesSlot}
 use Rattle.core_worker.proofs.Beginnings.{of_aside}
 use Rattle.core_worker.proofs.Serving.{all_wait}

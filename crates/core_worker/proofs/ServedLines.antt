@@ -1,7 +1,6 @@
 -- What beginning the waiting requests of a key does to its line.
 use Rattle.std.proofs.Common.{◌≡◌, ◌≢◌, ◌⊎◌, inl, inr, ⊎_elim, ℕ, ◌==◌, ◌||◌, Bool, true, false, cond, List, [], ◌∷◌, ◌++◌, map, Option, Some, None, refl, sym, ◌∙◌, ap, subst, append-nil, append_assoc}
-use Rattle.std.specs.Prelude.{Vec, option_to_list}
-use Rattle.std.specs.Global.{Global}
+use Rattle.std.specs.Prelude.{option_to_list}
 use Rattle.std.specs.List.{AllByRecursion, filter}
 use Rattle.std.proofs.lemmas.Bool.{cases_eq, eq-eqb, ne_eqb}
 use Rattle.fs_model.specs.declared.model.Request.{Request}
@@ -18,18 +17,18 @@ use Rattle.core_index.specs.Records.{last_of}
 use Rattle.group_laws.specs.MemberViews.{View}
 use Rattle.core_worker.specs.declared.types.Answer.{Answer}
 use Rattle.core_worker.specs.declared.types.Place as places
-use Rattle.core_worker.specs.declared.types.Place.TheVariants.{Free, Staged, Posted}
+use Rattle.core_worker.specs.declared.types.Place.TheVariants.{Free, Staged}
 use Rattle.core_worker.specs.declared.worker.Worker.{Worker}
 use Rattle.core_worker.specs.OwnPlaces.{place_at, key_in, is_busy, AreApart, Replaces}
 use Rattle.core_worker.specs.Supplies.{supply_of, why}
 use Rattle.core_worker.specs.Refusals.{reply_to}
 use Rattle.core_worker.specs.Beginning.{answers_of, answer_with, OnlyBegins, IsAnswered, IsStaged, GoesOn, BeginsBy, BeginsAs, Begins, BeginsAll, BeginsShort}
-use Rattle.core_worker.specs.WorkerMoves.{Placed, Fixed, told, asked, replied, placed, placed_in, placed_for, asked_by, hands_of}
+use Rattle.core_worker.specs.WorkerMoves.{Placed, Fixed, told, asked, replied, placed, placed_in, placed_for, asked_by}
 use Rattle.core_worker.proofs.AcceptMoves.{not_stopped, left_by_refusal, may_refuse_for, still_left, still_runs}
 use Rattle.core_worker.proofs.HandKeys.{none_for}
 use Rattle.core_worker.proofs.HandPlaces.{held_at, held_beside}
 use Rattle.core_worker.proofs.Pointers.{free_is}
-use Rattle.core_worker.proofs.Posts.{busy_by, busy_has}
+use Rattle.core_worker.proofs.Posts.{busy_by}
 use Rattle.core_worker.proofs.Waiters.{first_key}
 
 -- after a stop all replies are Stopped, and so they would be lawful before

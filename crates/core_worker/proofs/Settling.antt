@@ -1,24 +1,23 @@
 -- A change that is certain in the log of its home is settled, and its place is free.
-use Rattle.std.proofs.Common.{◌≡◌, ◌≢◌, ◌⊎◌, inl, inr, ⊎_elim, ℕ, ◌+◌, ◌<◌, ◌≤◌, ◌==◌, ◌&&◌, not, eqb, Bool, true, false, cond, List, [], ◌∷◌, ◌++◌, length, Option, Some, None, option_map, refl, sym, ◌∙◌, ap, subst, arith}
+use Rattle.std.proofs.Common.{◌≡◌, ◌≢◌, ◌⊎◌, inl, inr, ⊎_elim, ℕ, ◌+◌, ◌<◌, ◌≤◌, ◌==◌, ◌&&◌, not, eqb, Bool, true, false, cond, List, [], ◌∷◌, ◌++◌, Option, Some, None, option_map, refl, sym, ◌∙◌, ap, subst, arith}
 use Rattle.std.specs.Prelude.{Vec}
 use Rattle.std.specs.Global.{Global}
 use Rattle.std.specs.declared.collections.VecDeque.{VecDeque}
-use Rattle.std.proofs.lemmas.Bool.{cases_eq, eqb-true, eq-eqb, ne_eqb, and_parts, and_from}
+use Rattle.std.proofs.lemmas.Bool.{cases_eq, eqb-true, eq-eqb, ne_eqb, and_from}
 use Rattle.log_entry.specs.declared.entry.Entry.{Entry}
 use Rattle.log_entry.specs.declared.entry.Body.{Body}
 use Rattle.log_entry.specs.declared.entry.Body.TheVariants as bodies
 use Rattle.log_entry.specs.Spelling.{HasSpelling}
 use Rattle.core_index.specs.Index.{known_at, room_at, Changes}
-use Rattle.core_index.specs.Records.{KeyRecord, Awaits, block_of, pointer_of, settled, last_of, standing_of, standing_at, standing_with, is_tombstone, is_empty, is_forgettable}
+use Rattle.core_index.specs.Records.{KeyRecord, block_of, pointer_of, settled, last_of, standing_of, standing_at, standing_with, is_tombstone, is_empty, is_forgettable}
 use Rattle.core_index.specs.Slots as slots
 use Rattle.core_index.specs.declared.types.Standing.{Standing}
-use Rattle.core_index.proofs.Clients.{at_more, at_added, found_version}
+use Rattle.core_index.proofs.Clients.{at_more, at_added}
 use Rattle.recover.specs.Starts.{IsSpelledIndex}
 use Rattle.group_laws.specs.declared.types.Block.{Block}
 use Rattle.group_laws.specs.declared.types.Pending.{Pending}
 use Rattle.group_laws.specs.Places.{Place, core_of, owner}
 use Rattle.group_laws.specs.Steps.{points_at, is_of, only_own, bytes_of}
-use Rattle.group_laws.specs.Updates.{put, put2}
 use Rattle.group_laws.specs.MemberViews.{View}
 use Rattle.group_board.specs.Views.{after_finish, left_in, IsSpentIn, IsTidyIn}
 use Rattle.batch_leader.specs.declared.buffer.BatchBuffer.{BatchBuffer}

@@ -1,16 +1,12 @@
 -- What a stopped core does with its own changes is a whole move to whoever runs several workers.
-use Rattle.std.proofs.Common.{◌≡◌, ◌≢◌, ◌⊎◌, inl, inr, ⊎_elim, ℕ, ◌<◌, Bool, true, false, cond, List, [], ◌∷◌, ◌++◌, Option, Some, None, refl, sym, ◌∙◌, ap, subst}
-use Rattle.std.specs.Prelude.{option_map, IfSome}
+use Rattle.std.proofs.Common.{◌≡◌, ◌≢◌, ◌⊎◌, inl, inr, ℕ, ◌<◌, Bool, true, false, cond, [], ◌∷◌, ◌++◌, Option, Some, None, refl, sym, ◌∙◌, ap, subst}
+use Rattle.std.specs.Prelude.{option_map}
 use Rattle.fs_model.specs.declared.model.Reply.TheVariants as replies
-use Rattle.fs_model.specs.Cells.{key_of}
 use Rattle.pm_region.specs.State.{State, IsTelling}
 use Rattle.log_entry.specs.declared.entry.Entry.{Entry}
 use Rattle.log_entry.specs.declared.entry.Body.{Body}
 use Rattle.log_entry.specs.declared.entry.Body.TheVariants as bodies
-use Rattle.core_index.specs.Records.{pointer_of}
 use Rattle.group_laws.specs.declared.types.Block.{Block}
-use Rattle.group_laws.specs.declared.types.Pending.{Pending}
-use Rattle.group_laws.specs.Places.{Place, owner}
 use Rattle.group_laws.specs.State.{Group}
 use Rattle.group_laws.specs.MemberViews.{View}
 use Rattle.group_board.specs.Seats.{SeatAt}
@@ -18,22 +14,21 @@ use Rattle.group_board.specs.Views.{after_withdraw, left_in}
 use Rattle.group_laws.specs.Steps.{points_at}
 use Rattle.std.proofs.lemmas.Bool.{eq-eqb, ne_eqb}
 use Rattle.core_worker.specs.declared.types.Leading.TheVariants as leads
-use Rattle.core_worker.specs.declared.types.Place as places
-use Rattle.core_worker.specs.declared.types.Place.TheVariants.{Free, Staged, Posted}
+use Rattle.core_worker.specs.declared.types.Place.TheVariants.{Free}
 use Rattle.core_worker.specs.declared.worker.Worker.{Worker}
 use Rattle.core_worker.specs.OwnPlaces.{place_at, key_in, Replaces, request_by, request_pending, bytes_or}
 use Rattle.core_worker.specs.KeyTies.{IsPlaced, Offers}
-use Rattle.core_worker.specs.Ties.{Tie, HoldsAt, StandsAt}
+use Rattle.core_worker.specs.Ties.{HoldsAt, StandsAt}
 use Rattle.core_worker.specs.Turns.{InOrderAt, Steps}
 use Rattle.core_worker.specs.Beginning.{answers_of, answer_with}
-use Rattle.core_worker.specs.Finishing.{number_in, LetsGo, Serves, ShortOf, IsServed}
-use Rattle.core_worker.specs.Stopping.{PutsAway, Drops, Withdraws}
+use Rattle.core_worker.specs.Finishing.{number_in, Serves, ShortOf, IsServed}
+use Rattle.core_worker.specs.Stopping.{Drops, Withdraws}
 use Rattle.core_worker.specs.Turning.{TurnMoves}
-use Rattle.core_worker.specs.WorkerMoves.{Placed, placed_in}
+use Rattle.core_worker.specs.WorkerMoves.{placed_in}
 use Rattle.core_worker.proofs.HandKeys.{asks}
 use Rattle.core_worker.proofs.TakingBack.{Stood, stood}
 use Rattle.core_worker.proofs.FinishMoves.{asks_key, number_or}
-use Rattle.core_worker.proofs.LetGoMoves.{LetGo, let_go_turn}
+use Rattle.core_worker.proofs.LetGoMoves.{let_go_turn}
 
 abbrev key_or : ℕ → Option Block → ℕ
 key_or d None = d

@@ -1,20 +1,19 @@
 -- A change that its leader gave back is taken out of its place.
-use Rattle.std.proofs.Common.{◌≡◌, ◌≢◌, ◌⊎◌, inl, inr, ⊎_elim, ℕ, zero, suc, ◌+◌, ◌<◌, ◌≤◌, ◌==◌, Bool, true, false, List, [], ◌∷◌, length, Option, Some, None, refl, sym, ◌∙◌, ap, subst, arith}
+use Rattle.std.proofs.Common.{◌≡◌, ◌≢◌, inl, inr, ⊎_elim, ℕ, zero, suc, ◌+◌, ◌<◌, ◌≤◌, ◌==◌, Bool, true, false, List, [], ◌∷◌, length, Option, Some, None, refl, sym, ◌∙◌, ap, subst, arith}
 use Rattle.std.specs.Prelude.{Vec, IfSome, MatchOption}
 use Rattle.std.specs.Global.{Global}
 use Rattle.fs_model.specs.declared.model.Reply.{Reply}
 use Rattle.fs_model.specs.declared.model.Reply.TheVariants as replies
 use Rattle.fs_model.specs.Cells.{key_of}
 use Rattle.log_entry.specs.declared.entry.Entry.{Entry}
-use Rattle.log_entry.specs.declared.entry.Body.{Body}
 use Rattle.conflict_queue.specs.declared.types.Held.{Held}
 use Rattle.conflict_queue.specs.Waiting.{waiting}
-use Rattle.core_log.specs.Log.{LogState, room_of}
+use Rattle.core_log.specs.Log.{room_of}
 use Rattle.core_index.specs.Index.{known_at, room_at}
 use Rattle.core_index.specs.Records.{block_of, last_of}
 use Rattle.core_room.specs.declared.supply.Supply.{Supply}
 use Rattle.core_room.specs.RoomRule.{KeepsRoom}
-use Rattle.lazy_alloc.specs.Sets.{Sets, free_chunk_count, block_is_used}
+use Rattle.lazy_alloc.specs.Sets.{free_chunk_count, block_is_used}
 use Rattle.group_laws.specs.declared.types.Pending.{Pending}
 use Rattle.store_image.specs.Facts.{In}
 use Rattle.group_laws.specs.declared.types.Seen.TheVariants as loads
@@ -27,16 +26,16 @@ use Rattle.core_worker.specs.declared.types.Cleaning.TheVariants.{Nothing, Copyi
 use Rattle.core_worker.specs.declared.types.Place.{Place}
 use Rattle.core_worker.specs.declared.types.Place.TheVariants.{Free, Staged, Posted}
 use Rattle.core_worker.specs.declared.worker.Worker.{Worker}
-use Rattle.core_worker.specs.OwnPlaces.{place_at, key_in, is_free, is_busy, lines_in, own, Replaces}
+use Rattle.core_worker.specs.OwnPlaces.{place_at, key_in, is_free, is_busy, own, Replaces}
 use Rattle.core_worker.specs.KeyTies.{IsPlaced, Offers}
 use Rattle.core_worker.specs.Supplies.{supply_of, rest, KeepsRule, HasKeptRoom}
 use Rattle.core_worker.specs.Ties.{Holds, LeadsNothing}
-use Rattle.core_worker.specs.Order.{InOrder, count_changes, unanswered}
+use Rattle.core_worker.specs.Order.{InOrder, count_changes}
 use Rattle.core_worker.specs.Refusals.{HasAnswerRoom}
 use Rattle.core_worker.specs.Beginning.{HoldsAside}
 use Rattle.core_worker.specs.Hearing.{HearsAll}
-use Rattle.core_worker.specs.Serving.{LeadsNothingYet, OthersWait}
-use Rattle.core_worker.specs.Finishing.{number_in, done_reply, reply_back, PutsBackIf, LetsGo, Settles, TakesBackKey, IsReady, IsFreed}
+use Rattle.core_worker.specs.Serving.{LeadsNothingYet}
+use Rattle.core_worker.specs.Finishing.{done_reply, LetsGo, Settles, TakesBackKey, IsReady, IsFreed}
 use Rattle.core_worker.proofs.Beginnings.{aside_of}
 use Rattle.core_worker.proofs.Posts.{busy_by}
 use Rattle.core_worker.proofs.RoomKept.{own_with}

@@ -1,12 +1,11 @@
 -- What the two rules on a core's own keys leave of what its index knows.
-use Rattle.std.proofs.Common.{◌≡◌, ◌≢◌, ◌⊎◌, inl, inr, ⊎_elim, ℕ, ◌+◌, ◌*◌, ◌<◌, ◌==◌, ◌&&◌, ◌||◌, nat_lt, Bool, true, false, cond, List, [], ◌∷◌, Option, Some, None, option_map, refl, sym, ◌∙◌, ap, subst, arith}
-use Rattle.std.specs.List.{list_all}
+use Rattle.std.proofs.Common.{◌≡◌, ◌⊎◌, inl, inr, ⊎_elim, ℕ, ◌+◌, ◌*◌, ◌==◌, ◌&&◌, ◌||◌, nat_lt, Bool, true, false, cond, List, [], ◌∷◌, Option, Some, None, option_map, refl, sym, ◌∙◌, ap, subst, arith}
 use Rattle.std.proofs.lemmas.Bool.{cases_eq, eqb-true, eq-eqb, ne_eqb, and_parts, and_from, or_cases, ltb-true, lt-ltb, cond-true, cond-false}
 use Rattle.log_entry.specs.declared.entry.Body.{Body}
 use Rattle.log_entry.specs.declared.entry.Body.TheVariants as bodies
 use Rattle.core_index.specs.declared.types.Standing.{Standing}
 use Rattle.core_index.specs.Index.{known_at}
-use Rattle.core_index.specs.Records.{KeyRecord, is_tombstone, stands_alone, is_dead, is_empty, is_forgettable, last_of, standing_at, standing_of, standing_with}
+use Rattle.core_index.specs.Records.{KeyRecord, is_tombstone, stands_alone, is_empty, is_forgettable, last_of, standing_at, standing_of, standing_with}
 use Rattle.core_index.specs.Slots as slots
 use Rattle.core_index.proofs.Clients.{alone_none}
 use Rattle.group_laws.specs.Places.{Place, core_of, owner}

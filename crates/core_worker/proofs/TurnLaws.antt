@@ -1,11 +1,8 @@
 -- What each item of a turn keeps.
-use Rattle.std.proofs.Common.{◌≡◌, ◌⊎◌, inl, inr, ⊎_elim, ℕ, zero, suc, ◌+◌, ◌<◌, Bool, true, false, cond, List, [], ◌∷◌, ◌++◌, map, length, Option, Some, None, refl, sym, ◌∙◌, ap, subst, arith, append-nil}
+use Rattle.std.proofs.Common.{◌≡◌, inl, inr, ⊎_elim, ℕ, zero, suc, Bool, true, false, cond, List, [], ◌∷◌, ◌++◌, map, length, Option, Some, None, refl, sym, ◌∙◌, ap, subst, arith, append-nil}
 use Rattle.std.specs.Prelude.{IfSome, IsSomeAnd}
-use Rattle.std.proofs.lemmas.List.{map-append}
-use Rattle.pm_region.specs.Cell.{Cell}
-use Rattle.pm_region.specs.State.{State, During, IsTelling, cell_now, Rose}
-use Rattle.pm_region.specs.Words.{KeepsOutside}
-use Rattle.pm_region.proofs.Moments.{started, weaken, at_exit}
+use Rattle.pm_region.specs.State.{State, cell_now, Rose}
+use Rattle.pm_region.proofs.Moments.{started, weaken}
 use Rattle.pm_region.proofs.Runs.{all_kept}
 use Rattle.log_entry.specs.declared.entry.Entry.{Entry}
 use Rattle.group_laws.specs.declared.types.Seen.{Seen}
@@ -23,7 +20,6 @@ use Rattle.batch_leader.specs.TakenChanges.{taken_in}
 use Rattle.batch_leader.specs.Persisting.{StaysLicensed, WritesPart}
 use Rattle.batch_leader.proofs.Steps.{runs_then, no_steps}
 use Rattle.core_worker.specs.declared.types.Place as places
-use Rattle.core_worker.specs.declared.types.Place.TheVariants.{Free, Staged, Posted}
 use Rattle.core_worker.specs.declared.types.Leading.{Leading}
 use Rattle.core_worker.specs.declared.types.Leading.TheVariants as leads
 use Rattle.batch_leader.specs.declared.buffer.BatchBuffer.{BatchBuffer}
@@ -31,18 +27,18 @@ use Rattle.fs_model.specs.declared.model.Request.{Request}
 use Rattle.batch_leader.specs.Leading.{MakesAll}
 use Rattle.core_worker.specs.declared.worker.Worker.{Worker}
 use Rattle.core_worker.specs.OwnPlaces.{place_at, key_in, is_free, is_staged, is_busy, is_of, IsLowest}
-use Rattle.core_worker.specs.Order.{count_changes, MayLeadStopped, InOrder}
+use Rattle.core_worker.specs.Order.{MayLeadStopped, InOrder}
 use Rattle.core_worker.specs.Supplies.{HasKeptRoom}
 use Rattle.core_worker.specs.Ties.{Leads, LeadsAt, LeadsNothing, HoldsAt, StandsAt, KeepsStanding}
 use Rattle.core_worker.proofs.LeadTies.{led_here, leads_of}
-use Rattle.core_worker.specs.Turns.{Moment, InOrderAt, SameButLeading, Steps, MadeOrStops, UnpledgedAt, Persists, LosesBatch, PersistsOrLoses, PassesItems, looks_at, LooksMade}
+use Rattle.core_worker.specs.Turns.{InOrderAt, SameButLeading, Steps, MadeOrStops, UnpledgedAt, Persists, LosesBatch, PersistsOrLoses, PassesItems, looks_at, LooksMade}
 use Rattle.core_worker.specs.Posting.{PostsOrStops}
 use Rattle.core_worker.specs.Turning.{TurnMoves, KeepsTurn, Did, at_entry}
 use Rattle.core_worker.specs.Turning.Did.{posts, loses_block}
 use Rattle.core_worker.specs.WorkerMoves.{Hands, Fixed, placed_in, placed_for, hands_of, fixed_of, requests_for, AnswersKey, WorkerMoves}
 use Rattle.core_worker.proofs.Led.{holds_by, stands_by}
 use Rattle.core_worker.proofs.QuietMoves.{quiet_moves, for_same}
-use Rattle.core_worker.proofs.QuietItems.{IsLed, led_keys, order_as, order_leading, leading_moves}
+use Rattle.core_worker.proofs.QuietItems.{IsLed, order_as, order_leading, leading_moves}
 use Rattle.core_worker.proofs.PostMoves.{count_same, facts_of, fault_moves}
 
 nothing_fixed : (seat : SeatAt) (s t : State) (before after : Option Group) (v u : View) (w x : Worker) → x.answers ≡ w.answers → WorkerMoves seat.place seat.number s t before after v u (hands_of v w) (hands_of u x) [] [] → TurnMoves seat s t before after v u w x

@@ -1,11 +1,9 @@
 -- The leader of a stopped core gives the lock back: it leads nothing.
-use Rattle.std.proofs.Common.{◌≡◌, ℕ, Bool, true, false, List, [], ◌∷◌, ◌++◌, Option, None, refl, sym, ◌∙◌, ap, subst}
+use Rattle.std.proofs.Common.{◌≡◌, ℕ, true, false, [], ◌∷◌, ◌++◌, Option, None, refl, sym, ◌∙◌, ap, subst}
 use Rattle.group_laws.specs.State.{Group}
 use Rattle.group_laws.specs.Runs as runs
 use Rattle.group_laws.specs.Places.{Place}
 use Rattle.group_laws.specs.MemberViews.{View}
-use Rattle.group_laws.specs.declared.types.Seen.{Seen}
-use Rattle.log_entry.specs.declared.entry.Entry.{Entry}
 use Rattle.group_board.specs.Seats.{SeatAt}
 use Rattle.group_board.specs.Views.{after_unlock}
 use Rattle.group_board.specs.Told.{Makes}

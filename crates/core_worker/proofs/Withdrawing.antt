@@ -1,12 +1,11 @@
 -- A posted change of a stopped core that nobody had taken is withdrawn: its place is free.
-use Rattle.std.proofs.Common.{◌≡◌, ◌≢◌, ◌⊎◌, inl, inr, ⊎_elim, ℕ, ◌+◌, ◌<◌, ◌≤◌, Bool, true, false, cond, List, [], ◌∷◌, length, Option, Some, None, refl, sym, ◌∙◌, ap, subst, arith}
-use Rattle.std.specs.Prelude.{Vec, IfSome}
-use Rattle.std.proofs.lemmas.Bool.{cases_eq, eq-eqb, ne_eqb}
+use Rattle.std.proofs.Common.{◌≡◌, ◌≢◌, ◌⊎◌, inl, ⊎_elim, ℕ, ◌+◌, Bool, true, false, cond, List, Option, Some, None, refl, sym, ◌∙◌, ap, subst, arith}
+use Rattle.std.specs.Prelude.{IfSome}
+use Rattle.std.proofs.lemmas.Bool.{eq-eqb, ne_eqb}
 use Rattle.log_entry.specs.declared.entry.Entry.{Entry}
 use Rattle.log_entry.specs.declared.entry.Body.{Body}
 use Rattle.log_entry.specs.declared.entry.Body.TheVariants as bodies
-use Rattle.conflict_queue.specs.Waiting.{waiting}
-use Rattle.core_index.specs.Index.{known_at, room_at}
+use Rattle.core_index.specs.Index.{known_at}
 use Rattle.core_index.specs.Records.{KeyRecord, block_of, pointer_of}
 use Rattle.lazy_alloc.specs.Sets.{Sets, AreSets, block_is_used}
 use Rattle.group_laws.specs.declared.types.Block.{Block}
@@ -16,7 +15,6 @@ use Rattle.group_laws.specs.Steps.{points_at}
 use Rattle.group_laws.specs.MemberViews.{View}
 use Rattle.group_board.specs.Views.{after_withdraw}
 use Rattle.core_worker.specs.declared.types.Leading.{Leading}
-use Rattle.core_worker.specs.declared.types.Place.{Place}
 use Rattle.core_worker.specs.declared.types.Place.TheVariants.{Free, Staged, Posted}
 use Rattle.core_worker.specs.declared.worker.Worker.{Worker}
 use Rattle.core_worker.specs.OwnPlaces.{place_at, key_in, is_busy, Replaces}
@@ -24,10 +22,9 @@ use Rattle.core_worker.specs.KeyTies.{KnowsKey, Left, LeftIn, Offers, IsStagedBl
 use Rattle.core_worker.specs.Refusals.{HasAnswerRoom}
 use Rattle.core_worker.specs.Ties.{Holds, Leads, is_lost}
 use Rattle.core_worker.specs.Order.{InOrder, PointsAt, MayLeadStopped}
-use Rattle.core_worker.specs.Finishing.{PutsBackIf, LetsGo, IsFreed}
+use Rattle.core_worker.specs.Finishing.{PutsBackIf, IsFreed}
 use Rattle.core_worker.specs.Stopping.{PutsAway}
 use Rattle.core_worker.proofs.Posts.{busy_by}
-use Rattle.core_worker.proofs.Beginnings.{aside_of}
 use Rattle.core_worker.proofs.PuttingBack.{put_chunks, put_count, put_less, put_gone, put_kept}
 use Rattle.core_worker.proofs.Settling.{block_key, points_is, points_has}
 use Rattle.core_worker.proofs.Dropping.{pointed, pointer_is}

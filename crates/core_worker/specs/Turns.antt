@@ -1,31 +1,25 @@
 -- One turn of a core as a relation of what it was and what it is: which item it did, what it loaded before, and why it passed the items before that one.
-use Rattle.std.specs.Prelude.{◌≡◌, ◌≢◌, ◌⊎◌, ℕ, ◌+◌, ◌<◌, Bool, true, false, List, [], ◌∷◌, ◌++◌, length, map, Option, Some, None, MatchOption}
+use Rattle.std.specs.Prelude.{◌≡◌, ◌≢◌, ◌⊎◌, ℕ, ◌+◌, ◌<◌, Bool, true, false, List, [], ◌∷◌, ◌++◌, length, map, Option, Some, None}
 use Rattle.pm_region.specs.State.{State}
-use Rattle.fs_model.specs.declared.model.Reply.{Reply}
-use Rattle.fs_model.specs.declared.model.Reply.TheVariants.{Stored, Deleted, Stopped}
 use Rattle.log_entry.specs.declared.entry.Entry.{Entry}
-use Rattle.log_entry.specs.declared.entry.Body.{Body}
-use Rattle.log_entry.specs.declared.entry.Body.TheVariants as bodies
 use Rattle.store_image.specs.Facts.{In}
 use Rattle.group_laws.specs.declared.types.Seen.{Seen}
 use Rattle.group_laws.specs.declared.types.Seen.TheVariants.{Slot, Holder}
 use Rattle.group_laws.specs.declared.types.SlotWord.{SlotWord}
 use Rattle.group_laws.specs.declared.types.SlotWord.TheVariants as words
-use Rattle.group_laws.specs.Places.{Place, core_of}
+use Rattle.group_laws.specs.Places.{Place}
 use Rattle.group_laws.specs.State.{Group}
 use Rattle.group_laws.specs.Runs.{Kind}
 use Rattle.group_laws.specs.Runs.Kind.{Look}
 use Rattle.log_entry.specs.Spelling.{words_of}
 use Rattle.core_log.specs.Chunk.{lines_for, padded}
 use Rattle.core_log.specs.Log.{LogState, with_tail, open_number, open_tail}
-use Rattle.core_index.specs.Index.{known_at}
-use Rattle.core_index.specs.Records.{settled, block_of, is_forgettable}
-use Rattle.lazy_alloc.specs.Sets.{TakesChunkOrNone, PutsBack, Sets}
+use Rattle.lazy_alloc.specs.Sets.{TakesChunkOrNone, Sets}
 use Rattle.group_laws.specs.MemberViews.{View}
-use Rattle.group_board.specs.Views.{after_post, after_lock, after_find, after_unlock, after_commit, after_mark, after_fail, after_finish, after_give_up, TidiedIn}
+use Rattle.group_board.specs.Views.{after_post, after_lock, after_find, after_unlock, after_commit, after_mark, after_fail}
 use Rattle.group_board.specs.Seats.{SeatAt}
 use Rattle.batch_leader.specs.TakenChanges.{spelled, taken_in}
-use Rattle.batch_leader.specs.Leading.{MakesAll, Went, HasLooked, IsReleased}
+use Rattle.batch_leader.specs.Leading.{MakesAll, Went, IsReleased}
 use Rattle.batch_leader.specs.Persisting.{opened_for}
 use Rattle.batch_leader.specs.declared.states.Collecting.{Collecting}
 use Rattle.batch_leader.specs.declared.states.Released.{Released}

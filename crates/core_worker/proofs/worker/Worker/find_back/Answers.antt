@@ -1,15 +1,13 @@
 -- The search goes on place by place.
-use Rattle.std.proofs.Common.{◌≡◌, ℕ, ◌+◌, ◌<◌, ◌||◌, Bool, true, false, Option, Some, None, refl, sym, ◌∙◌, ap, subst, arith}
-use Rattle.group_laws.specs.declared.types.SlotWord.{SlotWord}
+use Rattle.std.proofs.Common.{◌≡◌, ℕ, ◌+◌, ◌<◌, ◌||◌, Option, refl, sym, ◌∙◌, ap, subst, arith}
 use Rattle.group_laws.specs.State.{Group}
 use Rattle.group_laws.specs.Places.{members}
 use Rattle.group_laws.specs.MemberViews.{View}
 use Rattle.group_board.specs.Seats.{SeatAt}
 use Rattle.group_board.specs.declared.board.SlotState.{SlotState}
 use Rattle.core_worker.specs.declared.types.Place.{Place}
-use Rattle.core_worker.specs.declared.worker.Worker.{Worker}
 use Rattle.core_worker.specs.OwnPlaces.{place_at}
-use Rattle.core_worker.specs.Searching.{Sees, shows_back, Searched}
+use Rattle.core_worker.specs.Searching.{Sees, Searched}
 use Rattle.core_worker.proofs.SearchLaws.{searched_none, searched_on, searched_all, searched_stands, found_below, found_made}
 use Rattle.core_worker.proofs.worker.Worker.find_back.Goals as goal
 
@@ -34,8 +32,8 @@ returns-then-shows_back-clause-finds g c =
     let v = g.B.Board.view in
     let i = c.loop-slot.invariant in
     let found = found_below (w c.args.board.now) (w c.loop-slot.board) (w c.look_place-seen.new.board) seat.number c.args.self.now (v c.args.board.now) c.loop-slot.slot c.loop-slot.posted (v c.loop-slot.board) (v c.look_place-seen.new.board) c.requires.nothing i.searched c.look_place-seen.result
-        (sees_by (g.B.Board.seat c.loop-slot.board) seat c.loop-slot.slot (w c.loop-slot.board) (w c.look_place-seen.new.board) (v c.loop-slot.board) (v c.look_place-seen.new.board) (place_at c.args.self.now.places.items c.loop-slot.slot) c.look_place-seen.result i.sits c.look_place-seen.ensures.sees)
-        (sym c.shows_back.ensures ∙ c.if-shows_back.true) in
+    (sees_by (g.B.Board.seat c.loop-slot.board) seat c.loop-slot.slot (w c.loop-slot.board) (w c.look_place-seen.new.board) (v c.loop-slot.board) (v c.look_place-seen.new.board) (place_at c.args.self.now.places.items c.loop-slot.slot) c.look_place-seen.result i.sits c.look_place-seen.ensures.sees)
+    (sym c.shows_back.ensures ∙ c.if-shows_back.true) in
     (c.loop-slot-test.true, found.0, found.1, found.2)
 
 pub returns-then-shows_back-clause-looks : goal.returns-then-shows_back-clause-looks

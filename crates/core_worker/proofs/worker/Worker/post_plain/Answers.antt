@@ -7,7 +7,7 @@ use Rattle.core_worker.specs.OwnPlaces.{Replaces}
 use Rattle.core_worker.specs.Posting.{PostsPlain, PointsNowhere, HasNoBlock}
 use Rattle.core_worker.specs.Ties.{Holds}
 use Rattle.core_worker.proofs.Posts.{holds_posted, stands_posted, view_is}
-use Rattle.core_worker.proofs.PostMoves.{facts_of, posted_moves, posted_order, here_moves}
+use Rattle.core_worker.proofs.PostMoves.{facts_of, posted_order, here_moves}
 use Rattle.core_worker.proofs.worker.Worker.post_plain.Goals as goal
 
 -- two changes of one place

@@ -1,8 +1,4 @@
 -- By what is led.
-use Rattle.std.proofs.Common.{◌≡◌, sym, subst}
-use Rattle.core_worker.specs.Ties.{LeadsAt}
-use Rattle.core_worker.proofs.LeadTies.{led_here}
-use Rattle.core_worker.proofs.ItemLaws.{has_batch}
 use Rattle.core_worker.proofs.worker.Worker.serve_first.Goals as goal
 
 pub returns-in-Ok-clause-turned : goal.returns-in-Ok-clause-turned

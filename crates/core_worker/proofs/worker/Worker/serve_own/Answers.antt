@@ -1,11 +1,11 @@
 -- Item 4, and then items 5, 7 and 8.
-use Rattle.std.proofs.Common.{◌≡◌, ◌++◌, true, false, sym, ◌∙◌, refl, subst}
+use Rattle.std.proofs.Common.{◌++◌, sym, ◌∙◌, subst}
 use Rattle.std.specs.Prelude.{is_ok}
 use Rattle.store_image.specs.Facts.{In}
 use Rattle.group_laws.specs.declared.types.Seen.TheVariants.{Slot}
 use Rattle.group_board.specs.Seats.{SeatAt}
 use Rattle.core_worker.specs.Ties.{HoldsAt, StandsAt}
-use Rattle.core_worker.specs.Turns.{InOrderAt, LooksMade, PassesItems}
+use Rattle.core_worker.specs.Turns.{InOrderAt, LooksMade}
 use Rattle.core_worker.specs.Finishing.{FinishesSlot}
 use Rattle.core_worker.specs.declared.searching.Search.TheVariants.{Out}
 use Rattle.core_worker.specs.Searching.{FoundStands}
@@ -60,7 +60,7 @@ returns-in-Ok-clause-keeps g c =
     let P = c.in-Back.ensures.finds.2 in
     let e = c.take_back.ensures in
     let K : KeepsTurn here s s (g.B.Board.whole c.find_back.new.board) (g.B.Board.whole c.take_back.new.board) mid u c.args.self.now c.take_back.new.self =
-        keeps_finish here s (g.B.Board.whole c.find_back.new.board) (g.B.Board.whole c.take_back.new.board) mid u c.args.self.now c.take_back.new.self c.in-Back.slot (is_ok c.take_back.result) c.in-Back.ensures.finds.0 (subst (λ (x : SeatAt). HoldsAt x mid c.args.self.now) (sym c.find_back.ensures.seat) (looked_holds seat v mid c.args.self.now (v.looked ++ P.looked.looks) P.looked.view c.requires.nothing c.requires.holds)) e.holds (subst (λ (x : SeatAt). StandsAt s x mid c.args.self.now) (sym c.find_back.ensures.seat) (looked_stands s seat v mid c.args.self.now (v.looked ++ P.looked.looks) P.looked.view c.requires.stands)) e.stands (subst (λ (x : SeatAt). InOrderAt x mid c.args.self.now) (sym c.find_back.ensures.seat) (looked_order seat v mid c.args.self.now (v.looked ++ P.looked.looks) P.looked.view c.requires.order)) e.order e.rule e.made e.cause e.finishes in
+    keeps_finish here s (g.B.Board.whole c.find_back.new.board) (g.B.Board.whole c.take_back.new.board) mid u c.args.self.now c.take_back.new.self c.in-Back.slot (is_ok c.take_back.result) c.in-Back.ensures.finds.0 (subst (λ (x : SeatAt). HoldsAt x mid c.args.self.now) (sym c.find_back.ensures.seat) (looked_holds seat v mid c.args.self.now (v.looked ++ P.looked.looks) P.looked.view c.requires.nothing c.requires.holds)) e.holds (subst (λ (x : SeatAt). StandsAt s x mid c.args.self.now) (sym c.find_back.ensures.seat) (looked_stands s seat v mid c.args.self.now (v.looked ++ P.looked.looks) P.looked.view c.requires.stands)) e.stands (subst (λ (x : SeatAt). InOrderAt x mid c.args.self.now) (sym c.find_back.ensures.seat) (looked_order seat v mid c.args.self.now (v.looked ++ P.looked.looks) P.looked.view c.requires.order)) e.order e.rule e.made e.cause e.finishes in
     keeps_looked seat s s (g.B.Board.whole c.args.board.now) (g.B.Board.whole c.find_back.new.board) (g.B.Board.whole c.take_back.new.board) v mid u c.args.self.now c.take_back.new.self (v.looked ++ P.looked.looks) P.looked.view c.find_back.ensures.looks
     (subst (λ (x : SeatAt). KeepsTurn x s s (g.B.Board.whole c.find_back.new.board) (g.B.Board.whole c.take_back.new.board) mid u c.args.self.now c.take_back.new.self) c.find_back.ensures.seat K)
 
@@ -84,7 +84,7 @@ returns-in-Err-clause-keeps g c =
     let P = c.in-Back.ensures.finds.2 in
     let e = c.take_back.ensures in
     let K : KeepsTurn here s s (g.B.Board.whole c.find_back.new.board) (g.B.Board.whole c.take_back.new.board) mid u c.args.self.now c.take_back.new.self =
-        keeps_finish here s (g.B.Board.whole c.find_back.new.board) (g.B.Board.whole c.take_back.new.board) mid u c.args.self.now c.take_back.new.self c.in-Back.slot (is_ok c.take_back.result) c.in-Back.ensures.finds.0 (subst (λ (x : SeatAt). HoldsAt x mid c.args.self.now) (sym c.find_back.ensures.seat) (looked_holds seat v mid c.args.self.now (v.looked ++ P.looked.looks) P.looked.view c.requires.nothing c.requires.holds)) e.holds (subst (λ (x : SeatAt). StandsAt s x mid c.args.self.now) (sym c.find_back.ensures.seat) (looked_stands s seat v mid c.args.self.now (v.looked ++ P.looked.looks) P.looked.view c.requires.stands)) e.stands (subst (λ (x : SeatAt). InOrderAt x mid c.args.self.now) (sym c.find_back.ensures.seat) (looked_order seat v mid c.args.self.now (v.looked ++ P.looked.looks) P.looked.view c.requires.order)) e.order e.rule e.made e.cause e.finishes in
+    keeps_finish here s (g.B.Board.whole c.find_back.new.board) (g.B.Board.whole c.take_back.new.board) mid u c.args.self.now c.take_back.new.self c.in-Back.slot (is_ok c.take_back.result) c.in-Back.ensures.finds.0 (subst (λ (x : SeatAt). HoldsAt x mid c.args.self.now) (sym c.find_back.ensures.seat) (looked_holds seat v mid c.args.self.now (v.looked ++ P.looked.looks) P.looked.view c.requires.nothing c.requires.holds)) e.holds (subst (λ (x : SeatAt). StandsAt s x mid c.args.self.now) (sym c.find_back.ensures.seat) (looked_stands s seat v mid c.args.self.now (v.looked ++ P.looked.looks) P.looked.view c.requires.stands)) e.stands (subst (λ (x : SeatAt). InOrderAt x mid c.args.self.now) (sym c.find_back.ensures.seat) (looked_order seat v mid c.args.self.now (v.looked ++ P.looked.looks) P.looked.view c.requires.order)) e.order e.rule e.made e.cause e.finishes in
     keeps_looked seat s s (g.B.Board.whole c.args.board.now) (g.B.Board.whole c.find_back.new.board) (g.B.Board.whole c.take_back.new.board) v mid u c.args.self.now c.take_back.new.self (v.looked ++ P.looked.looks) P.looked.view c.find_back.ensures.looks
     (subst (λ (x : SeatAt). KeepsTurn x s s (g.B.Board.whole c.find_back.new.board) (g.B.Board.whole c.take_back.new.board) mid u c.args.self.now c.take_back.new.self) c.find_back.ensures.seat K)
 

@@ -1,7 +1,6 @@
 -- The lowest staged change is posted, or answered by a stopped core, or the lock is tried.
-use Rattle.std.proofs.Common.{◌≡◌, true, false, sym, ◌∙◌, refl, subst}
+use Rattle.std.proofs.Common.{refl}
 use Rattle.std.specs.Prelude.{is_ok}
-use Rattle.core_worker.specs.Turning.{at_entry}
 use Rattle.core_worker.specs.Turning.Did.{drops}
 use Rattle.core_worker.proofs.TurnLaws.{posts_did}
 use Rattle.core_worker.proofs.ItemLaws.{keeps_drop}
