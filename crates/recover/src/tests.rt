@@ -3,7 +3,9 @@ ghost use Rattle.std.specs.Prelude.{◌≡◌, ℕ, ◌<◌, length, slice_index
 ghost use Rattle.chunk_map.specs.Layouts.{IsLayout};
 ghost use Rattle.recover.specs.declared.types.CoreStart.{CoreStart};
 
-use crate::{Fault, RecoverError, Recovered, first_fault, live_pairs, pairs, recover, recover_read};
+use crate::{
+    Fault, RecoverError, Recovered, first_fault, live_pairs, pairs, recover, recover_read,
+};
 use core_index::Look;
 use core_log::LogChunk;
 use fs_errors::Memory;
