@@ -1,5 +1,5 @@
 -- What is recovered by the words that a region reads.
-use Rattle.std.proofs.Common.{◌≡◌, ℕ, ◌+◌, ◌/◌, ◌<◌, ◌≤◌, refl, sym, subst, arith}
+use Rattle.std.proofs.Common.{◌≡◌, ℕ, ◌+◌, ◌/◌, ◌<◌, sym, subst, arith}
 use Rattle.std.specs.Prelude.{Result, Ok, Err, IfOk, slice_index_or}
 use Rattle.pm_region.specs.State.{State, Frame, IsTelling}
 use Rattle.pm_region.specs.Words.{lasts}
@@ -11,7 +11,6 @@ use Rattle.chunk_map.proofs.LayoutLaws.{part_within}
 use Rattle.store_image.proofs.Places.{layout_numbers}
 use Rattle.lazy_alloc.specs.Sets.{Sets}
 use Rattle.lazy_alloc.specs.Written.{PartLies}
-use Rattle.recover.specs.declared.types.CoreStart.{CoreStart}
 use Rattle.recover.specs.declared.types.Recovered.{Recovered}
 use Rattle.recover.specs.declared.types.RecoverError.{RecoverError}
 use Rattle.recover.specs.Regions.{Covers, IsCertain}
