@@ -187,21 +187,23 @@ module _ {W Q : Type 0} (hands : View → W → Hands) (answers : W → List Ans
       Stepped r =
           (accepted : List (ℕ × Request)) × (rest : List (ℕ × Request))
           × Steps hands answers stands fair (state b0.keeper.me.0).place (member_of l c) s t (state b0.keeper.me.0) (state b1.keeper.me.0) (view_of (state b0.keeper.me.0) (member_of l c)) (view_of (state b1.keeper.me.0) (member_of l c)) w x (queue q) accepted rest (is_idle r)
-          × OnOk r ((queue q1 ≡ rest) × (accepted ≡ next_of (is_open room leads w) (queue q)))
+          × (queue q1 ≡ rest) × OnOk r (accepted ≡ next_of (is_open room leads w) (queue q))
 
       pub advanced : (r : Result Bool Memory) → Stepped r
           → IfOk r (λ n. (f : Engine) × ((o : Origin) × Stands o f × Shows hands answers stands fair room leads queue t l (slice_set (slice_set ws c x) c y) (slice_set bs (c / l.group) b1) (slice_set qs c q1) ks1 f) × AnyTurn e c n f)
       advanced (Ok n) T = (
         after t b1 x T.0 T.1 (not n) T.2,
-        (o, stands_after t b1 x T.0 T.1 (not n) T.2, shown t b1 x T.0 T.1 (not n) T.2 kept beside y u u_is same keeps even ready none q1 T.3.0 ks1 ks_is),
-        turns t b1 x T.0 T.1 (not n) T.2 n (λ z. ap not z) T.3.1,
+        (o, stands_after t b1 x T.0 T.1 (not n) T.2, shown t b1 x T.0 T.1 (not n) T.2 kept beside y u u_is same keeps even ready none q1 T.3 ks1 ks_is),
+        turns t b1 x T.0 T.1 (not n) T.2 n (λ z. ap not z) T.4,
       )
       advanced (Err z) T = tt
 
-      pub failed : (r : Result Bool Memory) → Stepped r → OnErr r ((f : Engine) × Ends t e f)
+      pub failed : (r : Result Bool Memory) → Stepped r
+          → OnErr r ((f : Engine) × ((o : Origin) × Stands o f × Shows hands answers stands fair room leads queue t l (slice_set (slice_set ws c x) c y) (slice_set bs (c / l.group) b1) (slice_set qs c q1) ks1 f) × Ends t e f)
       failed (Ok n) T = tt
       failed (Err z) T = (
         after t b1 x T.0 T.1 false T.2,
+        (o, stands_after t b1 x T.0 T.1 false T.2, shown t b1 x T.0 T.1 false T.2 kept beside y u u_is same keeps even ready none q1 T.3 ks1 ks_is),
         record { region = refl; keeps = keeps_any e (after t b1 x T.0 T.1 false T.2) c true (moving.any_move hands answers stands fair room leads o e S c low_e t (state b1.keeper.me.0) w x Y T.0 T.1 false (own_e t b1 x T.0 T.1 false T.2) (here t b1 x T.0 T.1 false T.2) true) },
       )
 

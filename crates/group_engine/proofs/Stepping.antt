@@ -45,25 +45,26 @@ module _ {W : Type 0} (hands : View → W → Hands) (answers : W → List Answe
   abbrev Stepped : State → State → Group → Group → View → View → W → W → List (ℕ × Request) → List (ℕ × Request) → Result Bool Memory → Type 0
   Stepped s t a b v u w x queue now r =
       (accepted : List (ℕ × Request)) × (rest : List (ℕ × Request)) × Steps hands answers stands fair p m s t a b v u w x queue accepted rest (is_idle r)
-      × OnOk r ((now ≡ rest) × (accepted ≡ next_of (is_open room leads w) queue))
+      × (now ≡ rest) × OnOk r (accepted ≡ next_of (is_open room leads w) queue)
 
-  pub taken_in : (s : State) (a : Group) (v : View) (w x : W) (queue popped : List (ℕ × Request)) (y : ℕ × Request) (r : Result Bool Memory) → queue ≡ y ∷ popped → is_open room leads w ≡ true → fair a m w → stands p m s v w → AreOwn p m queue
-      → IfOk r (λ b. (b ≡ true) × Accepts hands answers stands fair s w x (y ∷ [])) → OnErr r (Accepts hands answers stands fair s w x []) → Stepped s s a a v v w x queue popped r
-  taken_in s a v w x queue popped y (Ok b) split ready fairly tied own ok err = (
+  pub taken_in : (s : State) (a : Group) (v : View) (w x : W) (queue popped now : List (ℕ × Request)) (y : ℕ × Request) (r : Result Bool Memory) → queue ≡ y ∷ popped → is_open room leads w ≡ true → fair a m w → stands p m s v w → AreOwn p m queue
+      → IfOk r (λ b. (b ≡ true) × Accepts hands answers stands fair s w x (y ∷ [])) → OnErr r (Accepts hands answers stands fair s w x []) → OnOk r (now ≡ popped) → OnErr r (now ≡ y ∷ popped) → Stepped s s a a v v w x queue now r
+  taken_in s a v w x queue popped now y (Ok b) split ready fairly tied own ok err taken back = (
     y ∷ [],
     popped,
     subst (λ i. Steps hands answers stands fair p m s s a a v v w x queue (y ∷ []) popped i) (ap not (sym ok.0)) (of_accept s a v w x queue (y ∷ []) popped split fairly tied ((subst (AreOwn p m) split own).0, tt) ok.1),
-    (refl, sym (ap (λ c. next_of c queue) ready ∙ ap (take 1) split)),
+    taken,
+    sym (ap (λ c. next_of c queue) ready ∙ ap (take 1) split),
   )
-  taken_in s a v w x queue popped y (Err e) split ready fairly tied own ok err = ([], queue, of_accept s a v w x queue [] queue refl fairly tied tt err, tt)
+  taken_in s a v w x queue popped now y (Err e) split ready fairly tied own ok err taken back = ([], queue, of_accept s a v w x queue [] queue refl fairly tied tt err, back ∙ sym split, tt)
 
   pub turned : (s t : State) (a b : Group) (v u : View) (w x : W) (queue now : List (ℕ × Request)) (r : Result Bool Memory) → now ≡ queue → (is_open room leads w ≡ true → queue ≡ [])
       → Turns hands answers stands fair room leads p m s t (Some a) (Some b) v u w x (is_idle r) → Stepped s t a b v u w x queue now r
-  turned s t a b v u w x queue now (Ok y) same left T = ([], queue, of_turn s t a b v u w x queue (not y) left T, (same, none (is_open room leads w) left)) where
+  turned s t a b v u w x queue now (Ok y) same left T = ([], queue, of_turn s t a b v u w x queue (not y) left T, same, none (is_open room leads w) left) where
     none : (c : Bool) → (c ≡ true → queue ≡ []) → [] ≡ next_of c queue
     none true h = sym (ap (take 1) (h refl))
     none false h = refl
-  turned s t a b v u w x queue now (Err e) same left T = ([], queue, of_turn s t a b v u w x queue false left T, tt)
+  turned s t a b v u w x queue now (Err e) same left T = ([], queue, of_turn s t a b v u w x queue false left T, same, tt)
 
 -- A request that is taken in counts more in the backlog than in the worker.
 less_in : (queue popped : List (ℕ × Request)) (y : ℕ × Request) (old new under most : ℕ) → queue ≡ y ∷ popped → new ≤ old + most → new + under + (most + 1) * length popped < old + under + (most + 1) * length queue
@@ -74,9 +75,9 @@ less_in queue popped y old new under most split le =
       nonlinear : (a b : ℕ) → a * (b + 1) ≡ a * b + a
       nonlinear a b = search rules
 
-pub less_taken : (queue popped : List (ℕ × Request)) (y : ℕ × Request) (old new under most : ℕ) (r : Result Bool Memory) → queue ≡ y ∷ popped → OnOk r (new ≤ old + most) → IfOk r (λ b. b ≡ true → new + under + (most + 1) * length popped < old + under + (most + 1) * length queue)
-less_taken queue popped y old new under most (Ok b) split le = λ q. less_in queue popped y old new under most split le
-less_taken queue popped y old new under most (Err e) split le = tt
+pub less_taken : (queue popped now : List (ℕ × Request)) (y : ℕ × Request) (old new under most : ℕ) (r : Result Bool Memory) → queue ≡ y ∷ popped → OnOk r (now ≡ popped) → OnOk r (new ≤ old + most) → IfOk r (λ b. b ≡ true → new + under + (most + 1) * length now < old + under + (most + 1) * length queue)
+less_taken queue popped now y old new under most (Ok b) split taken le = λ q. less_in queue now y old new under most (split ∙ ap (λ ys. y ∷ ys) (sym taken)) le
+less_taken queue popped now y old new under most (Err e) split taken le = tt
 
 pub none_left : {X : Type 0} (xs : List X) → length xs ≡ 0 → xs ≡ []
 none_left [] e = refl

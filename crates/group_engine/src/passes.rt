@@ -5,7 +5,7 @@ ghost use Rattle.engine_laws.specs.Engine.{Engine};
 ghost use Rattle.engine_laws.specs.Promises.{AnyTurn};
 ghost use Rattle.engine_laws.specs.Ran.{Goes, Ran};
 ghost use Rattle.engine_laws.specs.Stands.{given_to};
-ghost use Rattle.group_engine.specs.Passes.{Settles, Passes, NameCores, Ends, EndsIn, DrainsOut, Reaches, Leads};
+ghost use Rattle.group_engine.specs.Passes.{Settles, Passes, NameCores, Ends, EndsIn, DrainsOut, Leads};
 
 use fs_errors::Memory;
 use fs_model::Request;
@@ -32,6 +32,8 @@ pub trait Cores {
         requires { (s : State) × (e : Engine) × shows s self.old e }
         ensures gave { OnOk result ((s : State) (e : Engine) → shows s self.old e
             → shows s self.new (given_to e request)) }
+        ensures kept { OnErr result ((s : State) (e : Engine) → shows s self.old e
+            → shows s self.new e) }
         ensures cores { cores self.new ≡ cores self.old };
 
     /// Moves a core, and answers whether anything moved.
@@ -40,8 +42,8 @@ pub trait Cores {
         requires shows { (e : Engine) × shows (R.state region.old) self.old e }
         ensures moved { IfOk result (λ b. Leads (shows (R.state region.old) self.old)
             (shows (R.state region.new) self.new) (λ e f. AnyTurn e core b f)) }
-        ensures failed { OnErr result (Reaches (shows (R.state region.old) self.old)
-            (Ends (R.state region.new))) }
+        ensures failed { OnErr result (Leads (shows (R.state region.old) self.old)
+            (shows (R.state region.new) self.new) (Ends (R.state region.new))) }
         ensures cores { cores self.new ≡ cores self.old }
         ensures less { IfOk result (λ b. b ≡ true → left self.new < left self.old) }
         ensures idle { IfOk result (λ b. b ≡ false → left self.new ≤ left self.old) };
@@ -54,8 +56,8 @@ pub trait Cores {
 pub fn settle<C: Cores, R: Region>(cores: &mut C, region: &mut R, core: u32) -> Result<bool, Memory>
     requires core { core < C.cores cores.old }
     requires shows { (e : Engine) × C.shows (R.state region.old) cores.old e }
-    ensures failed { OnErr result (Reaches (C.shows (R.state region.old) cores.old)
-        (Ends (R.state region.new))) }
+    ensures failed { OnErr result (Leads (C.shows (R.state region.old) cores.old)
+        (C.shows (R.state region.new) cores.new) (Ends (R.state region.new))) }
     ensures settles { IfOk result (λ b. Leads (C.shows (R.state region.old) cores.old)
         (C.shows (R.state region.new) cores.new) (λ e f. Settles core b e f)) }
     ensures cores { IfOk result (λ b. C.cores cores.new ≡ C.cores cores.old) }
@@ -75,8 +77,8 @@ pub fn settle<C: Cores, R: Region>(cores: &mut C, region: &mut R, core: u32) -> 
 /// Moves each core until it is idle, by rising number, and answers whether anything moved.
 pub fn pass<C: Cores, R: Region>(cores: &mut C, region: &mut R) -> Result<bool, Memory>
     requires { (e : Engine) × C.shows (R.state region.old) cores.old e }
-    ensures failed { OnErr result (Reaches (C.shows (R.state region.old) cores.old)
-        (Ends (R.state region.new))) }
+    ensures failed { OnErr result (Leads (C.shows (R.state region.old) cores.old)
+        (C.shows (R.state region.new) cores.new) (Ends (R.state region.new))) }
     ensures passes { IfOk result (λ b. Leads (C.shows (R.state region.old) cores.old)
         (C.shows (R.state region.new) cores.new) (λ e f. Passes (C.cores cores.old) b e f)) }
     ensures cores { IfOk result (λ b. C.cores cores.new ≡ C.cores cores.old) }
@@ -96,8 +98,8 @@ pub fn pass<C: Cores, R: Region>(cores: &mut C, region: &mut R) -> Result<bool, 
 /// Makes passes until nothing moves.
 pub fn drain<C: Cores, R: Region>(cores: &mut C, region: &mut R) -> Result<(), Memory>
     requires { (e : Engine) × C.shows (R.state region.old) cores.old e }
-    ensures failed { OnErr result (Reaches (C.shows (R.state region.old) cores.old)
-        (Ends (R.state region.new))) }
+    ensures failed { OnErr result (Leads (C.shows (R.state region.old) cores.old)
+        (C.shows (R.state region.new) cores.new) (Ends (R.state region.new))) }
     ensures drained { OnOk result (Leads (C.shows (R.state region.old) cores.old)
         (C.shows (R.state region.new) cores.new) (DrainsOut (C.cores cores.old))) }
 {
@@ -117,8 +119,8 @@ pub fn go<C: Cores, R: Region>(
 ) -> Result<(), Memory>
     requires core { core < C.cores cores.old }
     requires shows { (e : Engine) × C.shows (R.state region.old) cores.old e }
-    ensures failed { OnErr result (Reaches (C.shows (R.state region.old) cores.old)
-        (Ends (R.state region.new))) }
+    ensures failed { OnErr result (Leads (C.shows (R.state region.old) cores.old)
+        (C.shows (R.state region.new) cores.new) (Ends (R.state region.new))) }
     ensures went { OnOk result (Leads (C.shows (R.state region.old) cores.old)
         (C.shows (R.state region.new) cores.new) (λ e f. Goes AnyTurn core turns e f)) }
     ensures cores { OnOk result (C.cores cores.new ≡ C.cores cores.old) }
@@ -137,8 +139,8 @@ pub fn replay<C: Cores, R: Region>(
 ) -> Result<(), Memory>
     requires lines { NameCores (C.cores cores.old) lines.items }
     requires shows { (e : Engine) × C.shows (R.state region.old) cores.old e }
-    ensures failed { OnErr result (Reaches (C.shows (R.state region.old) cores.old)
-        (EndsIn (R.state region.new) lines.items)) }
+    ensures failed { OnErr result (Leads (C.shows (R.state region.old) cores.old)
+        (C.shows (R.state region.new) cores.new) (EndsIn (R.state region.new) lines.items)) }
     ensures ran { OnOk result (Leads (C.shows (R.state region.old) cores.old)
         (C.shows (R.state region.new) cores.new)
         (λ e f. Ran AnyTurn (C.cores cores.old) lines.items e f)) }

@@ -1,5 +1,6 @@
 // One step of one core: its worker is handed a request, or makes a turn; and its answers are taken.
 ghost use Rattle.std.specs.Prelude.{◌≡◌, ℕ, ◌+◌, ◌*◌, ◌<◌, ◌≤◌, List, [], ◌∷◌, length, Bool, true, false, Some, IfOk, OnOk, OnErr};
+ghost use Rattle.std.specs.VecDeque.{deque_len, deque_capacity};
 ghost use Rattle.fs_model.specs.declared.model.Request as requests;
 ghost use Rattle.fs_model.specs.Cells.{key_of};
 ghost use Rattle.pm_region.specs.State.{State};
@@ -51,9 +52,11 @@ fn takes<W: CoreWorker>(worker: &W) -> bool
     !worker.leading() && worker.has_room()
 }
 
-// Hands a worker a request. Where there is no memory for it, the request is lost.
+// Hands a worker a request. Where there is no memory for it, the request goes back to the front of the backlog that it
+// came from.
 fn take_in<W: CoreWorker, R: Region>(
     worker: &mut W,
+    backlog: &mut VecDeque<(u64, Request)>,
     region: &R,
     number: u64,
     request: Request,
@@ -61,16 +64,22 @@ fn take_in<W: CoreWorker, R: Region>(
     requires open { is_open W.room W.leads worker.old ≡ true }
     requires stands { (p : Place) × (m : ℕ) × (v : View)
         × W.stands p m (R.state region.now) v worker.old × (owner p (key_of request) ≡ m) }
+    requires room { deque_len backlog.old < deque_capacity backlog.old }
     ensures moved { IfOk result (λ b. (b ≡ true)
         × Accepts W.hands W.answers W.stands W.fair (R.state region.now) worker.old worker.new
         ((number, request) ∷ [])) }
     ensures failed { OnErr result (Accepts W.hands W.answers W.stands W.fair
         (R.state region.now) worker.old worker.new []) }
+    ensures taken { OnOk result (backlog.new.items ≡ backlog.old.items) }
+    ensures back { OnErr result (backlog.new.items ≡ (number, request) ∷ backlog.old.items) }
     ensures less { OnOk result (W.left worker.new ≤ W.left worker.old + W.most) }
 {
     match worker.accept(region, number, request) {
         Ok(()) => Ok(true),
-        Err(_) => Err(Memory),
+        Err(refused) => {
+            backlog.push_front((number, refused.request)).unwrap();
+            Err(Memory)
+        }
     }
 }
 
@@ -93,8 +102,8 @@ pub(crate) fn step<W: CoreWorker, R: Region>(
         (view_of (state board.old.keeper.me.0) member)
         (view_of (state board.new.keeper.me.0) member)
         worker.old worker.new backlog.old.items accepted rest (is_idle result)
-        × OnOk result ((backlog.new.items ≡ rest)
-        × (accepted ≡ next_of (is_open W.room W.leads worker.old) backlog.old.items)) }
+        × (backlog.new.items ≡ rest) × OnOk result (accepted
+        ≡ next_of (is_open W.room W.leads worker.old) backlog.old.items) }
     ensures less { IfOk result (λ b. b ≡ true
         → W.left worker.new + W.under_way (state board.new.keeper.me.0)
         + (W.most + 1) * length backlog.new.items
@@ -110,7 +119,7 @@ pub(crate) fn step<W: CoreWorker, R: Region>(
         return turn_at(worker, board, region, member);
     }
     match backlog.pop_front() {
-        Some((number, request)) => take_in(worker, region, number, request),
+        Some((number, request)) => take_in(worker, backlog, region, number, request),
         None => turn_at(worker, board, region, member),
     }
 }

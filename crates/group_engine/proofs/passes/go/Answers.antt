@@ -28,4 +28,4 @@ returns-clause-went g c = λ e h.
     (r.0, r.1, gone c.args.core c.loop-turn.turn c.args.turns e r.0 r.2 (let f = c.loop-turn-test.false in let w = I.within in omega (arith, f, w)))
 
 pub returns-in_err-advance-clause-failed : goal.returns-in_err-advance-clause-failed
-returns-in_err-advance-clause-failed g c = on_err c.from_residual.result (λ e h. let r = c.loop-turn.invariant.shown e h in let f = c.in_err-advance.ensures.failed r.0 r.1 in (f.0, ends_on _ e r.0 f.0 r.3 f.1))
+returns-in_err-advance-clause-failed g c = on_err c.from_residual.result (λ e h. let r = c.loop-turn.invariant.shown e h in let f = c.in_err-advance.ensures.failed r.0 r.1 in (f.0, f.1, ends_on _ e r.0 f.0 r.3 f.2))

@@ -59,4 +59,4 @@ returns-clause-passes g c = λ e h.
     (r.0, r.1, passed (g.C.Cores.cores c.args.cores.now) c.loop-core.core c.loop-core.moved e r.0 r.2 (let f = c.loop-core-test.false in let w = I.within in let n = I.count_is in omega (arith, f, w, n)))
 
 pub returns-in_err-settle-clause-failed : goal.returns-in_err-settle-clause-failed
-returns-in_err-settle-clause-failed g c = on_err c.from_residual.result (λ e h. let r = c.loop-core.invariant.shown e h in let f = c.in_err-settle.ensures.failed r.0 r.1 in (f.0, ends_on _ e r.0 f.0 r.3 f.1))
+returns-in_err-settle-clause-failed g c = on_err c.from_residual.result (λ e h. let r = c.loop-core.invariant.shown e h in let f = c.in_err-settle.ensures.failed r.0 r.1 in (f.0, f.1, ends_on _ e r.0 f.0 r.3 f.2))

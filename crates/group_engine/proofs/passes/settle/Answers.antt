@@ -41,4 +41,4 @@ returns-else-branch-clause-settles g c = λ e h.
     (n.0, n.1, settled c.args.core c.loop-moved.moved e r.0 n.0 r.2 (subst (λ b. AnyTurn r.0 c.args.core b n.0) c.if-branch.false n.2))
 
 pub returns-in_err-advance-clause-failed : goal.returns-in_err-advance-clause-failed
-returns-in_err-advance-clause-failed g c = on_err c.from_residual.result (λ e h. let r = c.loop-moved.invariant.shown e h in let f = c.in_err-advance.ensures.failed r.0 r.1 in (f.0, ends_on _ e r.0 f.0 r.3 f.1))
+returns-in_err-advance-clause-failed g c = on_err c.from_residual.result (λ e h. let r = c.loop-moved.invariant.shown e h in let f = c.in_err-advance.ensures.failed r.0 r.1 in (f.0, f.1, ends_on _ e r.0 f.0 r.3 f.2))

@@ -12,8 +12,8 @@ returns-then-not-takes-clause-steps g c =
 pub returns-in-Some-clause-steps : goal.returns-in-Some-clause-steps
 returns-in-Some-clause-steps g c =
     let W = g.W.CoreWorker in
-    taken_in W.hands W.answers W.stands W.fair W.room W.leads _ c.args.member _ _ _ _ _ c.args.backlog.now.items c.pop_front.new.self.items (c.in-Some.number, c.in-Some.request) c.take_in.result c.in-Some.ensures.items
-    (let n = c.if-not-takes.false in let e = c.takes.ensures in sym e ∙ n) c.requires.fair c.requires.stands c.requires.own c.take_in.ensures.moved c.take_in.ensures.failed
+    taken_in W.hands W.answers W.stands W.fair W.room W.leads _ c.args.member _ _ _ _ _ c.args.backlog.now.items c.pop_front.new.self.items c.take_in.new.backlog.items (c.in-Some.number, c.in-Some.request) c.take_in.result c.in-Some.ensures.items
+    (let n = c.if-not-takes.false in let e = c.takes.ensures in sym e ∙ n) c.requires.fair c.requires.stands c.requires.own c.take_in.ensures.moved c.take_in.ensures.failed c.take_in.ensures.taken c.take_in.ensures.back
 
 pub returns-in-None-clause-steps : goal.returns-in-None-clause-steps
 returns-in-None-clause-steps g c =
@@ -23,4 +23,4 @@ returns-in-None-clause-steps g c =
 pub returns-in-Some-clause-less : goal.returns-in-Some-clause-less
 returns-in-Some-clause-less g c =
     let W = g.W.CoreWorker in
-    less_taken c.args.backlog.now.items c.pop_front.new.self.items (c.in-Some.number, c.in-Some.request) (W.left c.args.worker.now) (W.left c.take_in.new.worker) (W.under_way (state c.args.board.now.keeper.me.0)) W.most c.take_in.result c.in-Some.ensures.items c.take_in.ensures.less
+    less_taken c.args.backlog.now.items c.pop_front.new.self.items c.take_in.new.backlog.items (c.in-Some.number, c.in-Some.request) (W.left c.args.worker.now) (W.left c.take_in.new.worker) (W.under_way (state c.args.board.now.keeper.me.0)) W.most c.take_in.result c.in-Some.ensures.items c.take_in.ensures.taken c.take_in.ensures.less

@@ -105,7 +105,7 @@ returns-clause-failed g c =
     let s = g.R.Region.state c.args.region.now in
     let t = g.R.Region.state c.step-result.new.region in
     let seen : Engine → Type 0 = (λ e. (o : Origin) × Stands o e × Shows W.hands W.answers W.stands W.fair W.room W.leads (λ q. q.items) s en.layout en.workers.items en.boards.items en.backlogs.items en.answers.items e) in
-    advancing.err_each c.step-result.result seen (λ e. (f : Engine) × Ends t e f) (λ e k.
+    advancing.err_each c.step-result.result seen (λ e. (f : Engine) × ((o : Origin) × Stands o f × Shows W.hands W.answers W.stands W.fair W.room W.leads (λ q. q.items) t en.layout (slice_set (slice_set en.workers.items c.args.core c.step-result.new.worker) c.args.core c.collect.new.worker) (slice_set en.boards.items (c.args.core / en.layout.group) c.step-result.new.board) (slice_set en.backlogs.items c.args.core c.step-result.new.backlog) c.collect.new.kept.items f) × Ends t e f) (λ e k.
     let board = advancing.board_there W.hands W.answers W.stands W.fair W.room W.leads (λ q. q.items) k.0 e k.1 s en.layout en.workers.items en.boards.items en.backlogs.items en.answers.items k.2 c.args.core c.requires.core c.index_mut-2.result.now ∙ ap (λ b. state b.keeper.me.0) (sym c.index_mut-2.ensures.value) in
     let seat = subst (λ u. Seat W.hands W.answers W.stands W.fair W.room W.leads e c.args.core u) (sym c.index_mut.ensures.value) (advancing.worker_there W.hands W.answers W.stands W.fair W.room W.leads (λ q. q.items) k.0 e k.1 s en.layout en.workers.items en.boards.items en.backlogs.items en.answers.items k.2 c.args.core c.requires.core c.index_mut.result.now) in
     let waits = advancing.queue_there W.hands W.answers W.stands W.fair W.room W.leads (λ q. q.items) k.0 e k.1 s en.layout en.workers.items en.boards.items en.backlogs.items en.answers.items k.2 c.args.core c.requires.core c.index_mut-3.result.now ∙ ap (λ q. q.items) (sym c.index_mut-3.ensures.value) in
