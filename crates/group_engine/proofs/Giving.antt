@@ -123,3 +123,24 @@ module _ {W Q : Type 0} (hands : View → W → Hands) (answers : W → List Ans
         (subst (λ n. Shows hands answers stands fair room leads queue s l ws bs (slice_set qs n q1) (ks ++ None ∷ []) (given_to e r)) (sym at_is)
         (gave r q0 q1 number (subst (λ n. n < length qs) at_is low) number_is (subst (λ n. q0 ≡ slice_index_or qs n q0) at_is q_is) back)),
   )
+
+  -- and where it could not be given
+  pub still_at : (q0 q1 : Q) (at : ℕ) → q0 ≡ slice_index_or qs at q0 → queue q1 ≡ queue q0 → at < length qs → Shows hands answers stands fair room leads queue s l ws bs (slice_set qs at q1) ks e
+  still_at q0 q1 at q_is same low = record {
+    layout = H.layout;
+    region = H.region;
+    worker_count = H.worker_count;
+    board_count = H.board_count;
+    backlog_count = set_length qs at q1 ∙ H.backlog_count;
+    seats = H.seats;
+    groups = H.groups;
+    waits = λ d z here. wait d z here (cases_eq d at);
+    own = H.own;
+    count = H.count;
+    answered = H.answered;
+  } where
+    wait : (d : ℕ) (z : Q) → slice_get (slice_set qs at q1) d ≡ Some z → (d ≡ at) ⊎ (d ≢ at) → e.backlog d ≡ queue z
+    wait d z here (inl is) =
+        let z_is : z ≡ q1 = set_same qs at q1 z (sym (ap (λ n. slice_get (slice_set qs at q1) n) is) ∙ here) in
+        ap e.backlog is ∙ H.waits at q0 (get_there qs at q0 low ∙ ap Some (sym q_is)) ∙ sym same ∙ ap queue (sym z_is)
+    wait d z here (inr ne) = H.waits d z (sym (set_other qs at d q1 ne) ∙ here)

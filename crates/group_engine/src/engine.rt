@@ -46,7 +46,9 @@ fn append(
     number: u64,
     request: Request,
 ) -> Result<(), Memory>
-    ensures { OnOk result (backlog.new.items ≡ backlog.old.items ++ (number, request) ∷ []) }
+    ensures appended { OnOk result
+        (backlog.new.items ≡ backlog.old.items ++ (number, request) ∷ []) }
+    ensures kept { OnErr result (backlog.new.items ≡ backlog.old.items) }
 {
     backlog.push_back((number, request))?;
     Ok(())
@@ -87,9 +89,11 @@ impl<W: CoreWorker> Cores for Engine<W> {
 
     fn give(&mut self, request: Request) -> Result<(), Memory> {
         let number = self.answers.len() as u64;
-        self.answers.push(None)?;
+        self.answers.reserve(1)?;
         let owner = (key_in(&request) % self.layout.cores as u64) as usize;
-        append(&mut self.backlogs[owner], number, request)
+        append(&mut self.backlogs[owner], number, request)?;
+        self.answers.push(None)?;
+        Ok(())
     }
 
     fn advance<R: Region>(&mut self, region: &mut R, core: u32) -> Result<bool, Memory> {
@@ -146,7 +150,11 @@ impl<W: CoreWorker> Engine<W> {
             → Shows W.hands W.answers W.stands W.fair W.room W.leads (λ q. q.items)
             (R.state region.old) self.old.layout self.old.workers.items self.old.boards.items
             self.old.backlogs.items self.old.answers.items e
-            → (f : engines.Engine) × Ends (R.state region.new) e f) }
+            → (f : engines.Engine)
+            × Shows W.hands W.answers W.stands W.fair W.room W.leads (λ q. q.items)
+            (R.state region.new) self.new.layout self.new.workers.items self.new.boards.items
+            self.new.backlogs.items self.new.answers.items f
+            × Ends (R.state region.new) e f) }
         ensures drained { OnOk result ((o : Origin) (e : engines.Engine) → Stands o e
             → Shows W.hands W.answers W.stands W.fair W.room W.leads (λ q. q.items)
             (R.state region.old) self.old.layout self.old.workers.items self.old.boards.items
@@ -171,8 +179,11 @@ impl<W: CoreWorker> Engine<W> {
             → Shows W.hands W.answers W.stands W.fair W.room W.leads (λ q. q.items)
             (R.state region.old) self.old.layout self.old.workers.items self.old.boards.items
             self.old.backlogs.items self.old.answers.items (opening o)
-            → (f : engines.Engine) × EndsIn (R.state region.new) lines.items (opening o) f
-            × Promised o f) }
+            → (f : engines.Engine)
+            × Shows W.hands W.answers W.stands W.fair W.room W.leads (λ q. q.items)
+            (R.state region.new) self.new.layout self.new.workers.items self.new.boards.items
+            self.new.backlogs.items self.new.answers.items f
+            × EndsIn (R.state region.new) lines.items (opening o) f × Promised o f) }
         ensures ran { OnOk result ((o : Origin) → IsOrigin o
             → Shows W.hands W.answers W.stands W.fair W.room W.leads (λ q. q.items)
             (R.state region.old) self.old.layout self.old.workers.items self.old.boards.items

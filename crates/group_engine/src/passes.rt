@@ -5,7 +5,7 @@ ghost use Rattle.engine_laws.specs.Engine.{Engine};
 ghost use Rattle.engine_laws.specs.Promises.{AnyTurn};
 ghost use Rattle.engine_laws.specs.Ran.{Goes, Ran};
 ghost use Rattle.engine_laws.specs.Stands.{given_to};
-ghost use Rattle.group_engine.specs.Passes.{Settles, Passes, NameCores, Ends, EndsIn, DrainsOut, Reaches, Leads};
+ghost use Rattle.group_engine.specs.Passes.{Settles, Passes, NameCores, Ends, EndsIn, DrainsOut, Leads};
 
 use fs_errors::Memory;
 use fs_model::Request;
@@ -32,6 +32,8 @@ pub trait Cores {
         requires { (s : State) × (e : Engine) × shows s self.old e }
         ensures gave { OnOk result ((s : State) (e : Engine) → shows s self.old e
             → shows s self.new (given_to e request)) }
+        ensures kept { OnErr result ((s : State) (e : Engine) → shows s self.old e
+            → shows s self.new e) }
         ensures cores { cores self.new ≡ cores self.old };
 
     /// Moves a core, and answers whether anything moved.
@@ -137,8 +139,8 @@ pub fn replay<C: Cores, R: Region>(
 ) -> Result<(), Memory>
     requires lines { NameCores (C.cores cores.old) lines.items }
     requires shows { (e : Engine) × C.shows (R.state region.old) cores.old e }
-    ensures failed { OnErr result (Reaches (C.shows (R.state region.old) cores.old)
-        (EndsIn (R.state region.new) lines.items)) }
+    ensures failed { OnErr result (Leads (C.shows (R.state region.old) cores.old)
+        (C.shows (R.state region.new) cores.new) (EndsIn (R.state region.new) lines.items)) }
     ensures ran { OnOk result (Leads (C.shows (R.state region.old) cores.old)
         (C.shows (R.state region.new) cores.new)
         (λ e f. Ran AnyTurn (C.cores cores.old) lines.items e f)) }

@@ -26,7 +26,7 @@ returns-in-None g c =
     let zero : length c.loop-request.lines.items ≡ 0 = (let z = c.in-None.ensures.cases in search rules) in
     let empty : c.loop-request.lines.items ≡ [] = none_left c.loop-request.lines.items zero in
     record {
-      failed = err_then c.drain.result (λ D e h. let r = I.shown e h in let f = D r.0 r.1 in (f.0, ends_in _ c.args.lines.items c.loop-request.lines.items e r.0 f.0 r.3 f.1)) c.drain.ensures.failed;
+      failed = err_then c.drain.result (λ D e h. let r = I.shown e h in let f = D r.0 r.1 in (f.0, f.1, ends_in _ c.args.lines.items c.loop-request.lines.items e r.0 f.0 r.3 f.2)) c.drain.ensures.failed;
       ran = ok_then c.drain.result (λ D e h.
           let r = I.shown e h in
           let n = D r.0 r.1 in
@@ -58,4 +58,4 @@ loop-request-preserved g c =
     }
 
 pub returns-in_err-go-in-Some-Go-clause-failed : goal.returns-in_err-go-in-Some-Go-clause-failed
-returns-in_err-go-in-Some-Go-clause-failed g c = on_err c.from_residual-in_err-go-in-Some-Go.result (λ e h. let r = c.loop-request.invariant.shown e h in let f = c.in_err-go-in-Some-Go.ensures.failed r.0 r.1 in (f.0, ends_in _ c.args.lines.items c.loop-request.lines.items e r.0 f.0 r.3 f.1))
+returns-in_err-go-in-Some-Go-clause-failed g c = on_err c.from_residual-in_err-go-in-Some-Go.result (λ e h. let r = c.loop-request.invariant.shown e h in let f = c.in_err-go-in-Some-Go.ensures.failed r.0 r.1 in (f.0, f.1, ends_in _ c.args.lines.items c.loop-request.lines.items e r.0 f.0 r.3 f.2))

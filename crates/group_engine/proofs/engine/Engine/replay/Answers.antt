@@ -14,7 +14,7 @@ replay-requires-clause-shows g c = let o = c.requires.opened.0 in let is = c.req
 
 pub returns : goal.returns
 returns g c = record {
-  failed = err_then c.replay.result (λ h o is k. let S = opens o is.sound is.first is.words is.certain in let r = h (opening o) (o, S, k) in (r.0, r.1, promised o r.0 (r.1.stands o S))) c.replay.ensures.failed;
+  failed = err_then c.replay.result (λ h o is k. let S = opens o is.sound is.first is.words is.certain in let r = h (opening o) (o, S, k) in (r.0, r.1.2, r.2, promised o r.0 (r.2.stands o S))) c.replay.ensures.failed;
   ran = ok_then c.replay.result (λ h o is k.
       let r = h (opening o) (o, opens o is.sound is.first is.words is.certain, k) in
       let run : Ran AnyTurn (layout_of o.found).cores c.args.lines.items (opening o) r.0 = subst (λ (l : Geometry). Ran AnyTurn l.cores c.args.lines.items (opening o) r.0) (sym k.layout) r.2 in

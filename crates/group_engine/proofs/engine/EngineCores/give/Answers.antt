@@ -1,8 +1,9 @@
-use Rattle.std.proofs.Common.{rules, ◌≡◌, ◌%◌, ◌<◌, ap, length, arith}
+use Rattle.std.proofs.Common.{rules, ◌≡◌, ℕ, ◌+◌, ◌%◌, ◌<◌, List, [], ◌∷◌, ◌++◌, None, refl, sym, ◌∙◌, ap, subst, length, slice_set, arith}
 use Rattle.chunk_map.specs.Layouts.{owner}
 use Rattle.chunk_map.proofs.LayoutLaws.{numbers_of}
-use Rattle.group_engine.proofs.Kept.{ok_then}
-use Rattle.group_engine.proofs.Giving.{layout_is, gave_at}
+use Rattle.group_engine.specs.Shows.{Shows}
+use Rattle.group_engine.proofs.Ending.{on_err}
+use Rattle.group_engine.proofs.Giving.{layout_is, gave_at, still_at}
 use Rattle.group_engine.proofs.engine.EngineCores.give.Goals as goal
 
 pub nonzero_rem-owner : goal.nonzero_rem-owner
@@ -24,7 +25,7 @@ index_mut-requires g c =
     search rules
 
 pub returns-clause-gave : goal.returns-clause-gave
-returns-clause-gave g c =
+returns-clause-gave g c = λ s e h.
     let W = g.W.CoreWorker in
     let en = c.args.self.now in
     let number_is : c.len-number.result ≡ length en.answers.items = (let z = c.len-number.ensures in search rules) in
@@ -32,6 +33,20 @@ returns-clause-gave g c =
     let n = (numbers_of en.layout (layout_is W.hands W.answers W.stands W.fair W.room W.leads (λ q. q.items) r.0 c.requires.1 r.1 c.requires.0 en.layout en.workers.items en.boards.items en.backlogs.items en.answers.items r.2)).cores_low in
     let k = r.2.backlog_count in
     let low : c.key_in.result % en.layout.cores < length en.backlogs.items = omega (arith, n, k) in
-    ok_then c.append.result (λ back s e h.
-    gave_at W.hands W.answers W.stands W.fair W.room W.leads (λ q. q.items) h.0 e h.1 s en.layout en.workers.items en.boards.items en.backlogs.items en.answers.items h.2 c.args.request c.index_mut.result.now c.append.new.backlog c.len-number.result
-    (c.key_in.result % en.layout.cores) (ap (λ m. owner en.layout m) c.key_in.ensures) low number_is c.index_mut.ensures.value back c.push.new.self.items c.in_ok-push.ensures.items) c.append.ensures
+    gave_at W.hands W.answers W.stands W.fair W.room W.leads (λ q. q.items) h.0 e h.1 s en.layout en.workers.items en.boards.items en.backlogs.items en.answers.items h.2 c.args.request c.index_mut.result.now c.append.new.backlog c.len-number.result (c.key_in.result % en.layout.cores)
+    (ap (λ m. owner en.layout m) c.key_in.ensures) low number_is c.index_mut.ensures.value c.in_ok-append.ensures.appended c.push.new.self.items (c.in_ok-push.ensures.items ∙ ap (λ xs. xs ++ None ∷ []) c.in_ok-reserve.ensures.items)
+
+pub returns-in_err-append-clause-kept : goal.returns-in_err-append-clause-kept
+returns-in_err-append-clause-kept g c =
+    let W = g.W.CoreWorker in
+    let en = c.args.self.now in
+    let r = c.requires.2 in
+    let n = (numbers_of en.layout (layout_is W.hands W.answers W.stands W.fair W.room W.leads (λ q. q.items) r.0 c.requires.1 r.1 c.requires.0 en.layout en.workers.items en.boards.items en.backlogs.items en.answers.items r.2)).cores_low in
+    let k = r.2.backlog_count in
+    let low : c.key_in.result % en.layout.cores < length en.backlogs.items = omega (arith, n, k) in
+    on_err c.from_residual-in_err-append.result (λ s e h. (
+      h.0,
+      h.1,
+      subst (λ ks. Shows W.hands W.answers W.stands W.fair W.room W.leads (λ q. q.items) s en.layout en.workers.items en.boards.items (slice_set en.backlogs.items (c.key_in.result % en.layout.cores) c.append.new.backlog) ks e) (sym c.in_ok-reserve.ensures.items)
+          (still_at W.hands W.answers W.stands W.fair W.room W.leads (λ q. q.items) h.0 e h.1 s en.layout en.workers.items en.boards.items en.backlogs.items en.answers.items h.2 c.index_mut.result.now c.append.new.backlog (c.key_in.result % en.layout.cores) c.index_mut.ensures.value c.in_err-append.ensures.kept low),
+    ))
