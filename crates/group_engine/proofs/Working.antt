@@ -1,20 +1,18 @@
 -- The worker of one core keeps the clauses that the engine asks for.
-use Rattle.std.proofs.Common.{◌≡◌, ℕ, ◌<◌, ◌≤◌, Bool, true, false, not, ◌&&◌, List, [], ◌∷◌, map, Option, Some, None, Result, Ok, Err, OnOk, OnErr, IfOk, refl, sym, ◌∙◌, ap, subst, arith}
+use Rattle.std.proofs.Common.{◌≡◌, ℕ, ◌<◌, Bool, true, false, not, ◌&&◌, List, [], ◌∷◌, map, Option, Some, None, Result, Ok, Err, OnOk, OnErr, refl, sym, ◌∙◌, ap, subst, arith}
 use Rattle.std.specs.Prelude.{IfSome, IsSomeAnd, IfErr}
 use Rattle.std.proofs.lemmas.Bool.{and_parts}
-use Rattle.fs_errors.specs.declared.Memory.{Memory}
 use Rattle.fs_model.specs.declared.model.Request.{Request}
 use Rattle.fs_model.specs.Cells.{key_of}
 use Rattle.pm_region.specs.State.{State, IsTelling}
 use Rattle.chunk_map.specs.declared.layouts.Geometry.{Geometry}
 use Rattle.chunk_map.specs.Layouts as layouts
-use Rattle.group_laws.specs.Places.{Place, members, core_of, owner}
+use Rattle.group_laws.specs.Places.{Place, core_of, owner}
 use Rattle.group_laws.specs.State.{Group}
 use Rattle.group_laws.specs.Runs.{Kind, Runs}
 use Rattle.group_laws.specs.MemberViews.{View}
 use Rattle.group_laws.proofs.GroupEntries.{own_core}
 use Rattle.group_board.specs.Seats.{SeatAt}
-use Rattle.engine_laws.specs.WorkerMoves.{WorkerMoves}
 use Rattle.core_worker.specs.declared.worker.Worker.{Worker}
 use Rattle.core_worker.specs.declared.types.NotAccepted.{NotAccepted}
 use Rattle.core_worker.specs.declared.types.Turn.{Turn}
@@ -26,7 +24,7 @@ use Rattle.core_worker.specs.Order.{InOrder}
 use Rattle.core_worker.specs.Resting.{AtRest, IfIdleTurn}
 use Rattle.core_worker.specs.Status.{has_room, is_leading}
 use Rattle.core_worker.specs.Supplies.{HasKeptRoom}
-use Rattle.core_worker.specs.Ties.{Tie, Holds, Stands}
+use Rattle.core_worker.specs.Ties.{Holds, Stands}
 use Rattle.core_worker.specs.Turning.{TurnMoves}
 use Rattle.core_worker.specs.WorkerMoves.{hands_of}
 use Rattle.core_worker.proofs.Given.{adds_none}

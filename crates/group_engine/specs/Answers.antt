@@ -1,13 +1,6 @@
 -- How the answers that go out agree with those that were fixed.
-use Rattle.std.specs.Prelude.{◌≡◌, ◌⊎◌, ℕ, zero, suc, ◌<◌, List, [], ◌∷◌, ◌++◌, Bool, true, false, ◌&&◌, Option, Some, None, slice_set}
+use Rattle.std.specs.Prelude.{◌≡◌, ◌⊎◌, ℕ, zero, suc, ◌<◌, List, [], ◌∷◌, true, Option, Some, None, slice_set}
 use Rattle.fs_model.specs.declared.model.Request.{Request}
-use Rattle.fs_model.specs.declared.model.Request.TheVariants.{Put, Get, Delete}
-use Rattle.fs_model.specs.declared.model.Reply.{Reply}
-use Rattle.fs_model.specs.declared.model.Reply.TheVariants.{Stored, Value, Absent, Deleted, Full, VersionsSpent, TooLong, Stopped}
-use Rattle.fs_model.specs.Lawful.{is_told}
-use Rattle.core_room.specs.declared.types.Shortage.{Shortage}
-use Rattle.core_room.specs.declared.types.Shortage.TheVariants as causes
-use Rattle.engine_laws.specs.WorkerMoves.{Fixed}
 pub use Rattle.core_worker.specs.Refusals.{reply_to}
 pub use Rattle.core_worker.specs.Answering.{IsCause, is_get, is_found, is_read, IsGiven, AreGiven, AddsAnswers}
 use Rattle.engine_laws.specs.Engine as engines

@@ -76,10 +76,10 @@ impl CoreWorker for Worker {
     }
 
     ghost apart = { λ p m s t v w aside tied. record {
-        holds = tied.holds;
-        stands = stands_aside s t p m v w tied.holds tied.stands aside;
-        order = tied.order;
-        rule = tied.rule;
+      holds = tied.holds;
+      stands = stands_aside s t p m v w tied.holds tied.stands aside;
+      order = tied.order;
+      rule = tied.rule;
     } };
 
     ghost beside = { λ a e m n kinds w lawful runs other starts. starts };
