@@ -33,9 +33,11 @@ use Rattle.core_worker.specs.declared.types.Place.TheVariants.{Free, Staged}
 use Rattle.core_worker.specs.OwnPlaces.{place_at, key_in, is_busy, Replaces}
 use Rattle.core_worker.specs.Supplies.{supply_of, lacks, why, free_blocks}
 use Rattle.core_worker.specs.Refusals.{reply_to}
+use Rattle.core_worker.specs.Answering.{IsCause, IsSaid, AddsAnswers}
+use Rattle.core_worker.proofs.Given.{said_same, given_by, adds_none, adds_one, answer_untold}
 use Rattle.core_worker.specs.Beginning.{answers_of, answer_with, OnlyBegins, IsAnswered, IsStaged, GoesOn, BeginsBy, BeginsAs, Begins}
 use Rattle.core_worker.specs.Ties.{Tie}
-use Rattle.core_worker.specs.Accepting.{IsAsBefore, IsTied, HasTie, StaysTied, Accepts, AcceptsByEachView, AcceptMoves}
+use Rattle.core_worker.specs.Accepting.{IsAsBefore, IsTied, StaysTied, Accepts, AcceptsByEachView, AcceptsAs, AcceptMoves}
 use Rattle.core_worker.specs.WorkerMoves.{Fixed, told, placed_in, placed_for, asked_by, hands_of, requests_for, fixed_of, AnswersKey, WorkerMoves}
 use Rattle.core_worker.proofs.HandKeys.{none_for}
 use Rattle.core_worker.proofs.HandPlaces.{held_at, held_beside}
@@ -97,21 +99,8 @@ still_runs (Get k) (Some u) e = absurd (cc e)
 still_runs (Delete k) None e = absurd (cc e)
 still_runs (Delete k) (Some u) e = absurd (cc e)
 
--- the answers after the first ones, as those to a request
-abbrev fixed_by : Request → Answer → Fixed
-fixed_by r a = record { number = a.number; request = r; reply = a.reply; refusal = a.refusal }
-
 abbrev fixed_to : ℕ → Request → Reply → Option Shortage → Fixed
 fixed_to n r a cause = record { number = n; request = r; reply = a; refusal = cause }
-
-abbrev since : Request → List Answer → List Answer → List Fixed
-since r [] ys = map (fixed_by r) ys
-since r (x ∷ xs) [] = []
-since r (x ∷ xs) (y ∷ ys) = since r xs ys
-
-since_is : (r : Request) (xs ys : List Answer) → since r xs (xs ++ ys) ≡ map (fixed_by r) ys
-since_is r [] ys = refl
-since_is r (x ∷ xs) ys = since_is r xs ys
 
 in_none : (s : Option Held) (k : ℕ) (hs : List Held) → s ≡ None → map asked_by (filter (λ h. key_of h.request == k) (option_to_list s) ++ hs) ≡ map asked_by hs
 in_none s k hs e = ap (λ (o : Option Held). map asked_by (filter (λ h. key_of h.request == k) (option_to_list o) ++ hs)) e
@@ -119,14 +108,10 @@ in_none s k hs e = ap (λ (o : Option Held). map asked_by (filter (λ h. key_of 
 module _ (s : State) (w b : Worker) (n : ℕ) (r : Request) (works : w.winds_down ≡ false) (x : Tie) (T : IsTied s w (key_of r) x) (N : IsTied s b (key_of r) x) where
   -- what is fixed is these answers, and each key's line goes on so
   record Fixes (fs : List Fixed) : Type 0 where
-    is : since r (answers_of w) (answers_of b) ≡ fs
-    answers : answers_of b ≡ answers_of w ++ map told fs
+    answers : AddsAnswers (IsTelling s) (answers_of w) (answers_of b) fs
     stopped : b.stopped ≡ w.stopped
     keys : (k : ℕ) → owner x.place k ≡ x.number → AnswersKey x.view x.view (hands_of x.view w) (hands_of x.view b) k (requests_for k ((n, r) ∷ [])) (fixed_of k fs)
     own : (y : Fixed) → In y fs → owner x.place (key_of y.request) ≡ x.number
-
-  none_since : answers_of b ≡ answers_of w → since r (answers_of w) (answers_of b) ≡ []
-  none_since e = ap (since r (answers_of w)) (e ∙ sym (append-nil (answers_of w))) ∙ since_is r (answers_of w) []
 
   hand_then : b.in_hand ≡ w.in_hand → b.in_hand ≡ None
   hand_then e = e ∙ T.order.hand works
@@ -143,8 +128,7 @@ module _ (s : State) (w b : Worker) (n : ℕ) (r : Request) (works : w.winds_dow
   -- it is held behind those of its key
   fixes_held : answers_of b ≡ answers_of w → b.stopped ≡ w.stopped → b.places ≡ w.places → b.in_hand ≡ w.in_hand → AddsLast w.queue b.queue (held_with n r) → Fixes []
   fixes_held answers stopped places hand adds = record {
-    is = none_since answers;
-    answers = answers ∙ sym (append-nil (answers_of w));
+    answers = adds_none (IsTelling s) (answers_of w) (answers_of b) answers;
     stopped = stopped;
     keys = λ k own. ⊎_elim
         (λ same. key_by x.view x.view (hands_of x.view w) (hands_of x.view b) k ((n, r) ∷ []) (requests_for k ((n, r) ∷ [])) [] [] (one_request n r k (sym same)) refl
@@ -166,11 +150,10 @@ module _ (s : State) (w b : Worker) (n : ℕ) (r : Request) (works : w.winds_dow
     none_waits = waits_before (key_of r) ∙ ap (map asked_by) (T.holds.waits works (key_of r) idle)
 
     -- it is answered
-    fixes_answered : (a : Reply) (cause : Option Shortage) → answers_of b ≡ answers_of w ++ answer_with n a cause ∷ [] → b.stopped ≡ w.stopped → b.places.items ≡ w.places.items → MayReply r (x.view.cell (key_of r)) false a → cell_left r a (x.view.cell (key_of r)) ≡ x.view.cell (key_of r)
+    fixes_answered : (a given : Reply) (cause : Option Shortage) → IsSaid (IsTelling s) r a given → IsCause a cause → answers_of b ≡ answers_of w ++ answer_with n given cause ∷ [] → b.stopped ≡ w.stopped → b.places.items ≡ w.places.items → MayReply r (x.view.cell (key_of r)) false a → cell_left r a (x.view.cell (key_of r)) ≡ x.view.cell (key_of r)
         → (w.stopped ≡ true → a ≡ replies.Stopped) → (a ≡ replies.Stopped → w.stopped ≡ true) → Fixes (record { number = n; request = r; reply = a; refusal = cause } ∷ [])
-    fixes_answered a cause answers stopped places may left by_stop stops = record {
-      is = ap (since r (answers_of w)) answers ∙ since_is r (answers_of w) (answer_with n a cause ∷ []);
-      answers = answers;
+    fixes_answered a given cause said because answers stopped places may left by_stop stops = record {
+      answers = adds_one (IsTelling s) (answers_of w) (answers_of b) (fixed_to n r a cause) (answer_with n given cause) answers (given_by (IsTelling s) n r a given cause said because);
       stopped = stopped;
       keys = λ k own. ⊎_elim
           (λ same. subst (λ j. AnswersKey x.view x.view (hands_of x.view w) (hands_of x.view b) j (requests_for j ((n, r) ∷ [])) (fixed_of j (fixed_to n r a cause ∷ []))) (sym same)
@@ -191,8 +174,7 @@ module _ (s : State) (w b : Worker) (n : ℕ) (r : Request) (works : w.winds_dow
     -- it is staged
     fixes_staged : answers_of b ≡ answers_of w → b.stopped ≡ w.stopped → w.stopped ≡ false → (mid : Worker) → mid.places ≡ w.places → IsStaged mid b n r → Fixes []
     fixes_staged answers stopped runs mid same_places S = record {
-      is = none_since answers;
-      answers = answers ∙ sym (append-nil (answers_of w));
+      answers = adds_none (IsTelling s) (answers_of w) (answers_of b) answers;
       stopped = stopped;
       keys = λ k own. ⊎_elim
           (λ same. subst (λ j. AnswersKey x.view x.view (hands_of x.view w) (hands_of x.view b) j (requests_for j ((n, r) ∷ [])) []) (sym same)
@@ -217,7 +199,7 @@ module _ (s : State) (w b : Worker) (n : ℕ) (r : Request) (works : w.winds_dow
   abbrev cell : Option (List ℕ)
   cell = x.view.cell (key_of r)
 
-  fixes_begun : (u : Worker) → IsAsBefore w u → is_busy w.places.items (key_of r) ≡ false → OnlyBegins u b → Begins u b (x.view.cell (key_of r)) n r → (fs : List Fixed) × Fixes fs
+  fixes_begun : (u : Worker) → IsAsBefore w u → is_busy w.places.items (key_of r) ≡ false → OnlyBegins u b → Begins (IsTelling s) u b (x.view.cell (key_of r)) n r → (fs : List Fixed) × Fixes fs
   fixes_begun u B idle only begins = by_stop u.stopped refl begins where
     in_hand : b.in_hand ≡ w.in_hand
     in_hand = ap (λ (y : Worker). y.in_hand) only ∙ ap (λ (y : Worker). y.in_hand) B.rest
@@ -231,28 +213,28 @@ module _ (s : State) (w b : Worker) (n : ℕ) (r : Request) (works : w.winds_dow
     stopped_before : w.stopped ≡ u.stopped
     stopped_before = sym (ap (λ (y : Worker). y.stopped) B.rest)
 
-    answered : (a : Reply) (cause : Option Shortage) → IsAnswered u b (answer_with n a cause) → MayReply r cell false a → cell_left r a cell ≡ cell → (w.stopped ≡ true → a ≡ replies.Stopped) → (a ≡ replies.Stopped → w.stopped ≡ true) → (fs : List Fixed) × Fixes fs
-    answered a cause is may left by_stop stops = (
+    answered : (a given : Reply) (cause : Option Shortage) → IsSaid (IsTelling s) r a given → IsCause a cause → IsAnswered u b (answer_with n given cause) → MayReply r cell false a → cell_left r a cell ≡ cell → (w.stopped ≡ true → a ≡ replies.Stopped) → (a ≡ replies.Stopped → w.stopped ≡ true) → (fs : List Fixed) × Fixes fs
+    answered a given cause said because is may left by_stop stops = (
       record { number = n; request = r; reply = a; refusal = cause } ∷ [],
-      fixes_answered idle in_hand queue a cause (is.answers ∙ ap (λ (xs : List Answer). xs ++ answer_with n a cause ∷ []) B.answers) halted (is.places ∙ ap (λ (y : Worker). y.places.items) B.rest) may left by_stop stops,
+      fixes_answered idle in_hand queue a given cause said because (is.answers ∙ ap (λ (xs : List Answer). xs ++ answer_with n given cause ∷ []) B.answers) halted (is.places ∙ ap (λ (y : Worker). y.places.items) B.rest) may left by_stop stops,
     )
 
     runs_false : (d : Bool) → u.stopped ≡ d → d ≡ false → (a : Reply) → w.stopped ≡ true → a ≡ replies.Stopped
     runs_false d e f a stopped = absurd (let both : true ≡ false = sym stopped ∙ stopped_before ∙ e ∙ f in cc both)
 
-    goes_on : (c : Bool) → u.stopped ≡ false → is_change r cell ≡ c → GoesOn c u b cell n r → (fs : List Fixed) × Fixes fs
-    goes_on false runs e is = answered (answer_to r cell) None is (inl refl) (still_left r cell e) (runs_false false runs refl (answer_to r cell)) (λ same. absurd (still_runs r cell same))
+    goes_on : (c : Bool) → u.stopped ≡ false → is_change r cell ≡ c → GoesOn (IsTelling s) c u b cell n r → (fs : List Fixed) × Fixes fs
+    goes_on false runs e is = answered (answer_to r cell) is.0 None is.1 (answer_untold r cell e) is.2 (inl refl) (still_left r cell e) (runs_false false runs refl (answer_to r cell)) (λ same. absurd (still_runs r cell same))
     goes_on true runs e is = ([], fixes_staged idle in_hand queue (is.answers ∙ B.answers) halted (stopped_before ∙ runs) u (ap (λ (y : Worker). y.places) B.rest) is)
 
-    by_cause : (o : Option Shortage) → u.stopped ≡ false → why u.layout (supply_of u) u.allocator (last_of (known_at u.index (key_of r))) cell r ≡ o → BeginsBy o u b cell n r → (fs : List Fixed) × Fixes fs
+    by_cause : (o : Option Shortage) → u.stopped ≡ false → why u.layout (supply_of u) u.allocator (last_of (known_at u.index (key_of r))) cell r ≡ o → BeginsBy (IsTelling s) o u b cell n r → (fs : List Fixed) × Fixes fs
     by_cause None runs e is = goes_on (is_change r cell) runs refl is
-    by_cause (Some c) runs e is = answered (reply_to c) (Some c) is (may_refuse_for u.layout (supply_of u) u.allocator (last_of (known_at u.index (key_of r))) cell r c e) (left_by_refusal r cell c) (runs_false false runs refl (reply_to c)) (λ same. absurd (not_stopped c same))
+    by_cause (Some c) runs e is = answered (reply_to c) (reply_to c) (Some c) (said_same (IsTelling s) r (reply_to c)) refl is (may_refuse_for u.layout (supply_of u) u.allocator (last_of (known_at u.index (key_of r))) cell r c e) (left_by_refusal r cell c) (runs_false false runs refl (reply_to c)) (λ same. absurd (not_stopped c same))
 
-    by_stop : (d : Bool) → u.stopped ≡ d → BeginsAs d u b cell n r → (fs : List Fixed) × Fixes fs
-    by_stop true e is = answered replies.Stopped None is (inr refl) refl (λ s. refl) (λ s. stopped_before ∙ e)
+    by_stop : (d : Bool) → u.stopped ≡ d → BeginsAs (IsTelling s) d u b cell n r → (fs : List Fixed) × Fixes fs
+    by_stop true e is = answered replies.Stopped replies.Stopped None (said_same (IsTelling s) r replies.Stopped) refl is (inr refl) refl (λ s. refl) (λ s. stopped_before ∙ e)
     by_stop false e is = by_cause (why u.layout (supply_of u) u.allocator (last_of (known_at u.index (key_of r))) cell r) e refl is
 
-  fixes : Accepts x.view w b n r → (fs : List Fixed) × Fixes fs
+  fixes : Accepts (IsTelling s) x.view w b n r → (fs : List Fixed) × Fixes fs
   fixes A = ⊎_elim
       (λ held. let e = held.2 in (
         [],
@@ -262,37 +244,31 @@ module _ (s : State) (w b : Worker) (n : ℕ) (r : Request) (works : w.winds_dow
       (λ begun. fixes_begun A.0 A.1 begun.0 begun.1 begun.2)
       A.3
 
-  pub accept_fixed : Accepts x.view w b n r → answers_of b ≡ answers_of w ++ map told (since r (answers_of w) (answers_of b))
-  accept_fixed A = let F = fixes A in subst (λ (fs : List Fixed). answers_of b ≡ answers_of w ++ map told fs) (sym F.1.is) F.1.answers
-
-  pub accept_move : IsTelling s → Accepts x.view w b n r → (a : Option Group) → WorkerMoves x.place x.number s s a a x.view x.view (hands_of x.view w) (hands_of x.view b) ((n, r) ∷ []) (since r (answers_of w) (answers_of b))
-  accept_move telling A a =
-      let F = fixes A in
-      subst (λ (fs : List Fixed). WorkerMoves x.place x.number s s a a x.view x.view (hands_of x.view w) (hands_of x.view b) ((n, r) ∷ []) fs) (sym F.1.is)
-      (moves_here x.place x.number s a x.view w b ((n, r) ∷ []) F.0 N.holds N.stands.licensed F.1.stopped F.1.own F.1.keys)
+  pub accepts_as : Accepts (IsTelling s) x.view w b n r → AcceptsAs s w b x ((n, r) ∷ [])
+  accepts_as A = let F = fixes A in record {
+    fixed = F.0;
+    answers = F.1.answers;
+    moves = λ a. moves_here x.place x.number s a x.view w b ((n, r) ∷ []) F.0 N.holds N.stands.licensed F.1.stopped F.1.own F.1.keys;
+  }
 
 -- a request was accepted
-pub accept_moves : (s : State) (w b : Worker) (n : ℕ) (r : Request) → w.winds_down ≡ false → HasTie s w (key_of r) → StaysTied s w b (key_of r) → AcceptsByEachView s w b n r → AcceptMoves s w b (key_of r) ((n, r) ∷ [])
-accept_moves s w b n r works tied stays accepts = record {
-  fixed = since r (answers_of w) (answers_of b);
-  answers = λ telling. accept_fixed s w b n r works tied.0 tied.1 (stays tied.0 tied.1) (accepts tied.0 tied.1 telling);
-  moves = λ x T telling a. accept_move s w b n r works x T (stays x T) telling (accepts x T telling) a;
-}
+pub accept_moves : (s : State) (w b : Worker) (n : ℕ) (r : Request) → w.winds_down ≡ false → StaysTied s w b (key_of r) → AcceptsByEachView s w b n r → AcceptMoves s w b (key_of r) ((n, r) ∷ [])
+accept_moves s w b n r works stays accepts = λ x T. accepts_as s w b n r works x T (stays x T) (accepts x T)
 
 -- it was given back
 pub back_moves : (s : State) (w b : Worker) (k : ℕ) → IsAsBefore w b → StaysTied s w b k → AcceptMoves s w b k []
-back_moves s w b k B stays = record {
+back_moves s w b k B stays = λ x T. record {
   fixed = [];
-  answers = λ telling. B.answers ∙ sym (append-nil (answers_of w));
-  moves = λ x T telling a. let N = stays x T in
+  answers = adds_none (IsTelling s) (answers_of w) (answers_of b) B.answers;
+  moves = λ a. let N = stays x T in
       moves_here x.place x.number s a x.view w b [] [] N.holds N.stands.licensed (ap (λ (y : Worker). y.stopped) B.rest) (λ y i. absurd i)
       (λ j own. still_key x.view (hands_of x.view w) (hands_of x.view b) j (ap (λ (y : Worker). placed_for x.view y.places.items j) B.rest)
       (ap (λ (y : Worker). map asked_by (filter (λ h. key_of h.request == j) (option_to_list y.in_hand) ++ waiting y.queue j)) B.rest));
 }
 
-pub ok_accepts : {X Y : Type 0} (o : Result X Y) (s : State) (w b : Worker) (n : ℕ) (r : Request) → w.winds_down ≡ false → HasTie s w (key_of r) → StaysTied s w b (key_of r) → OnOk o (AcceptsByEachView s w b n r) → OnOk o (AcceptMoves s w b (key_of r) ((n, r) ∷ []))
-ok_accepts (Ok y) s w b n r works tied stays accepts = accept_moves s w b n r works tied stays accepts
-ok_accepts (Err y) s w b n r works tied stays accepts = accepts
+pub ok_accepts : {X Y : Type 0} (o : Result X Y) (s : State) (w b : Worker) (n : ℕ) (r : Request) → w.winds_down ≡ false → StaysTied s w b (key_of r) → OnOk o (AcceptsByEachView s w b n r) → OnOk o (AcceptMoves s w b (key_of r) ((n, r) ∷ []))
+ok_accepts (Ok y) s w b n r works stays accepts = accept_moves s w b n r works stays accepts
+ok_accepts (Err y) s w b n r works stays accepts = accepts
 
 pub err_accepts : {X Y : Type 0} (o : Result X Y) (s : State) (w u b : Worker) (k : ℕ) → StaysTied s w b k → IsAsBefore w u → OnErr o (b ≡ u) → OnErr o (AcceptMoves s w b k [])
 err_accepts (Ok y) s w u b k stays before same = same

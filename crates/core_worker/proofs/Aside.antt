@@ -1,7 +1,8 @@
--- Another part's writes keep the ties to the region.
+-- What leaves the words of the own part keeps the ties to the region.
 use Rattle.std.proofs.Common.{◌≡◌, ◌⊎◌, inl, inr, ⊎_elim, ℕ, ◌+◌, ◌*◌, ◌^◌, ◌≤◌, ◌<◌, false, Some, sym, ◌∙◌, subst, arith}
 use Rattle.pm_region.specs.State.{State, Frame, IsTelling, cell_now, During}
-use Rattle.pm_region.specs.Words.{Kept, KeepsOutside, Surely}
+use Rattle.pm_region.specs.Words.{Kept, Surely}
+use Rattle.pm_region.specs.Cell.{Cell}
 use Rattle.pm_region.proofs.Moments.{at_exit, told_at_entry}
 use Rattle.pm_region.proofs.Narrow.{kept_narrows, surely_kept}
 use Rattle.chunk_map.specs.declared.layouts.Geometry.{Geometry}
@@ -17,12 +18,16 @@ use Rattle.core_worker.specs.declared.worker.Worker.{Worker}
 use Rattle.core_worker.specs.Ties.{Holds, Stands}
 use Rattle.core_worker.proofs.Writing.{in_chunks}
 
-module _ (s t : State) (p : Place) (m : ℕ) (v : View) (w : Worker) (H : Holds p m v w) (S : Stands s p m v w) (from end : ℕ) (apart : (end ≤ part_at p m) ⊎ (part_end p m ≤ from)) (aside : During s t (KeepsOutside (cell_now s) from end)) where
+-- each word of the member's part is as it was, or fenced
+abbrev pub KeepsPart : Place → ℕ → (ℕ → Cell) → (ℕ → Cell) → Type 0
+KeepsPart p m old new = (w : ℕ) → part_at p m ≤ w → w < part_end p m → Kept (old w) (new w)
+
+module _ (s t : State) (p : Place) (m : ℕ) (v : View) (w : Worker) (H : Holds p m v w) (S : Stands s p m v w) (aside : During s t (KeepsPart p m (cell_now s))) where
   before : IsTelling t → IsTelling s
-  before telling = told_at_entry s t (KeepsOutside (cell_now s) from end) aside telling
+  before telling = told_at_entry s t (KeepsPart p m (cell_now s)) aside telling
 
   kept : IsTelling t → (x : ℕ) → part_at p m ≤ x → x < part_end p m → Kept (cell_now s x) (cell_now t x)
-  kept telling x lo hi = at_exit s t (KeepsOutside (cell_now s) from end) aside telling x (⊎_elim (λ a. inr (omega (arith, a, lo))) (λ b. inl (omega (arith, b, hi))) apart)
+  kept telling x lo hi = at_exit s t (KeepsPart p m (cell_now s)) aside telling x lo hi
 
   still : (u : View) → (IsTelling s → Licensed p m u (cell_now s)) → IsTelling t → Licensed p m u (cell_now t)
   still u was telling image may = was (before telling) image (λ x lo hi. kept_narrows (cell_now s x) (cell_now t x) (kept telling x lo hi) (image x) (may x lo hi))

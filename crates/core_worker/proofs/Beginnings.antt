@@ -3,6 +3,7 @@ use Rattle.std.proofs.Common.{◌≡◌, ℕ, ◌+◌, ◌<◌, ◌≤◌, arith
 use Rattle.std.specs.declared.collections.VecDeque.{VecDeque}
 use Rattle.std.specs.Global.{Global}
 use Rattle.fs_model.specs.declared.model.Request.{Request}
+use Rattle.fs_model.specs.declared.model.Reply.{Reply}
 use Rattle.fs_model.specs.declared.model.Reply.TheVariants as replies
 use Rattle.fs_model.specs.Cells.{key_of, answer_to, is_change}
 use Rattle.core_index.specs.Index.{known_at}
@@ -29,26 +30,27 @@ use Rattle.core_worker.specs.declared.types.Leading.TheVariants as leads
 use Rattle.core_worker.specs.Ties.{Holds, Stands, HasSpaceFor}
 use Rattle.core_worker.specs.Supplies.{supply_of, why}
 use Rattle.core_worker.specs.Refusals.{reply_to}
+use Rattle.core_worker.specs.Answering.{IsSaid}
 use Rattle.core_worker.specs.Beginning.{answer_with, IsAnswered, IsStaged, BeginsBy, BeginsAs, GoesOn, OnlyBegins, Begins, HoldsAside}
 
-pub begins_stopped : (w u : Worker) (cell : Option (List ℕ)) (n : ℕ) (r : Request) → w.stopped ≡ true → IsAnswered w u (answer_with n replies.Stopped None) → Begins w u cell n r
-begins_stopped w u cell n r stopped a = subst (λ (b : Bool). BeginsAs b w u cell n r) (sym stopped) a
+pub begins_stopped : (Known : Type 0) (w u : Worker) (cell : Option (List ℕ)) (n : ℕ) (r : Request) → w.stopped ≡ true → IsAnswered w u (answer_with n replies.Stopped None) → Begins Known w u cell n r
+begins_stopped Known w u cell n r stopped a = subst (λ (b : Bool). BeginsAs Known b w u cell n r) (sym stopped) a
 
-module _ (w u : Worker) (cell : Option (List ℕ)) (n : ℕ) (r : Request) (runs : w.stopped ≡ false) where
+module _ (Known : Type 0) (w u : Worker) (cell : Option (List ℕ)) (n : ℕ) (r : Request) (runs : w.stopped ≡ false) where
   abbrev cause : Option Shortage
   cause = why w.layout (supply_of w) w.allocator (last_of (known_at w.index (key_of r))) cell r
 
-  by_why : (x : Option Shortage) → cause ≡ x → BeginsBy x w u cell n r → Begins w u cell n r
-  by_why x is done = subst (λ (s : Bool). BeginsAs s w u cell n r) (sym runs) (subst (λ (y : Option Shortage). BeginsBy y w u cell n r) (sym is) done)
+  by_why : (x : Option Shortage) → cause ≡ x → BeginsBy Known x w u cell n r → Begins Known w u cell n r
+  by_why x is done = subst (λ (s : Bool). BeginsAs Known s w u cell n r) (sym runs) (subst (λ (y : Option Shortage). BeginsBy Known y w u cell n r) (sym is) done)
 
-  pub begins_refused : (o : Option Shortage) (s : Shortage) → o ≡ Some s → o ≡ cause → IsAnswered w u (answer_with n (reply_to s) (Some s)) → Begins w u cell n r
+  pub begins_refused : (o : Option Shortage) (s : Shortage) → o ≡ Some s → o ≡ cause → IsAnswered w u (answer_with n (reply_to s) (Some s)) → Begins Known w u cell n r
   begins_refused o s is why a = by_why (Some s) (sym why ∙ is) a
 
-  pub begins_answered : (o : Option Shortage) → o ≡ None → o ≡ cause → is_change r cell ≡ false → IsAnswered w u (answer_with n (answer_to r cell) None) → Begins w u cell n r
-  begins_answered o is why change a = by_why None (sym why ∙ is) (subst (λ (c : Bool). GoesOn c w u cell n r) (sym change) a)
+  pub begins_answered : (o : Option Shortage) → o ≡ None → o ≡ cause → is_change r cell ≡ false → (a : Reply) → IsSaid Known r (answer_to r cell) a → IsAnswered w u (answer_with n a None) → Begins Known w u cell n r
+  begins_answered o is why change reply said a = by_why None (sym why ∙ is) (subst (λ (c : Bool). GoesOn Known c w u cell n r) (sym change) (reply, said, a))
 
-  pub begins_staged : (o : Option Shortage) → o ≡ None → o ≡ cause → is_change r cell ≡ true → IsStaged w u n r → Begins w u cell n r
-  begins_staged o is why change s = by_why None (sym why ∙ is) (subst (λ (c : Bool). GoesOn c w u cell n r) (sym change) s)
+  pub begins_staged : (o : Option Shortage) → o ≡ None → o ≡ cause → is_change r cell ≡ true → IsStaged w u n r → Begins Known w u cell n r
+  begins_staged o is why change s = by_why None (sym why ∙ is) (subst (λ (c : Bool). GoesOn Known c w u cell n r) (sym change) s)
 
 -- an answer more changes none of the ties
 abbrev pub with_answers : Worker → VecDeque Answer Global → Worker
@@ -268,6 +270,6 @@ begun_holds r p m v u b H works rest ok err keeps =
     was_idle k true e idle = absurd (let both : true ≡ false = sym (begun_busy r u b keeps err k e) ∙ idle in cc both)
     was_idle k false e idle = e
 
-pub begun_accepts : {X Y : Type 0} (r : Result X Y) (t : Type 0) (v : View) (w u b : Worker) (n k : ℕ) (q : Request) → k ≡ key_of q → IsAsBefore w u → Prepared w u k → is_busy u.places.items k ≡ false → OnlyBegins u b → OnOk r (t → Begins u b (v.cell (key_of q)) n q) → OnOk r (t → Accepts v w b n q)
-begun_accepts (Ok x) t v w u b n k q same B P idle rest begins = λ telling. (u, B, subst (Prepared w u) same P, inr (ap (λ (y : Worker). is_busy y.places.items (key_of q)) (sym B.rest) ∙ ap (is_busy u.places.items) (sym same) ∙ idle, rest, begins telling))
+pub begun_accepts : {X Y : Type 0} (r : Result X Y) (t : Type 0) (v : View) (w u b : Worker) (n k : ℕ) (q : Request) → k ≡ key_of q → IsAsBefore w u → Prepared w u k → is_busy u.places.items k ≡ false → OnlyBegins u b → OnOk r (Begins t u b (v.cell (key_of q)) n q) → OnOk r (Accepts t v w b n q)
+begun_accepts (Ok x) t v w u b n k q same B P idle rest begins = (u, B, subst (Prepared w u) same P, inr (ap (λ (y : Worker). is_busy y.places.items (key_of q)) (sym B.rest) ∙ ap (is_busy u.places.items) (sym same) ∙ idle, rest, begins))
 begun_accepts (Err y) t v w u b n k q same B P idle rest begins = begins

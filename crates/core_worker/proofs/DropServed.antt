@@ -33,10 +33,10 @@ module _ (s : State) (w x y : Worker) (k : ℕ) (F : FreesBySight w x k) (slot :
     same : st.entry.key ≡ k
     same = let both : Some st.entry.key ≡ Some k = sym (ap key_in st.place) ∙ key in cc both
 
-    by : {X Y : Type 0} (r : Result X Y) → OnOk r (ServesByEachView s x y k) → is_ok r ≡ true → (t : Tie) → IsServed s w t → IsTelling s → Serves x y (t.view.cell st.entry.key) st.entry.key
-    by (Ok z) all e t T telling = subst (λ (n : ℕ). Serves x y (t.view.cell n) n) (sym same) (all t (sight_serves s w x k F t T) telling)
-    by (Err z) all e t T telling = absurd (cc e)
+    by : {X Y : Type 0} (r : Result X Y) → OnOk r (ServesByEachView s x y k) → is_ok r ≡ true → (t : Tie) → IsServed s w t → Serves (IsTelling s) x y (t.view.cell st.entry.key) st.entry.key
+    by (Ok z) all e t T = subst (λ (n : ℕ). Serves (IsTelling s) x y (t.view.cell n) n) (sym same) (all t (sight_serves s w x k F t T))
+    by (Err z) all e t T = absurd (cc e)
 
-    by_short : {X Y : Type 0} (r : Result X Y) → OnErr r (ServesShort s x y k) → is_ok r ≡ false → (t : Tie) → IsServed s w t → IsTelling s → ShortOf x y (t.view.cell st.entry.key) st.entry.key
-    by_short (Ok z) short e t T telling = absurd (cc e)
-    by_short (Err z) short e t T telling = subst (λ (n : ℕ). ShortOf x y (t.view.cell n) n) (sym same) (short t (sight_serves s w x k F t T) telling)
+    by_short : {X Y : Type 0} (r : Result X Y) → OnErr r (ServesShort s x y k) → is_ok r ≡ false → (t : Tie) → IsServed s w t → ShortOf (IsTelling s) x y (t.view.cell st.entry.key) st.entry.key
+    by_short (Ok z) short e t T = absurd (cc e)
+    by_short (Err z) short e t T = subst (λ (n : ℕ). ShortOf (IsTelling s) x y (t.view.cell n) n) (sym same) (short t (sight_serves s w x k F t T))

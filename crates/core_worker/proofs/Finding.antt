@@ -1,8 +1,9 @@
 -- What a get finds is what the view has of the key.
 use Rattle.std.proofs.Common.{◌≡◌, ◌≢◌, inl, ℕ, ◌+◌, ◌*◌, List, [], length, length-take, Option, Some, None, Bool, true, false, cond, refl, sym, ◌∙◌, ap, subst, arith}
 use Rattle.std.specs.Prelude.{is_some}
-use Rattle.fs_model.specs.declared.model.Request.TheVariants.{Delete}
-use Rattle.fs_model.specs.Cells.{is_change}
+use Rattle.fs_model.specs.declared.model.Request.TheVariants.{Get, Delete}
+use Rattle.fs_model.specs.Cells.{answer_to, is_change}
+use Rattle.core_worker.specs.Answering.{is_read}
 use Rattle.pm_region.specs.State.{State, IsTelling, cell_now}
 use Rattle.pm_region.specs.Words.{lasts, MayLeaveIn}
 use Rattle.pm_region.proofs.Cells.{may_be_last}
@@ -74,6 +75,10 @@ module _ (s : State) (p : Place) (m : ℕ) (v : View) (w : Worker) (H : HoldsAsi
 
   pub cell_found : IsTelling s → v.cell k ≡ Some (block_bytes (lasts s) q)
   cell_found telling = left.1 ∙ ap Some (sym (bytes_are telling))
+
+  -- whatever the region tells, the key has a value
+  pub read_block : is_read (Get k) (answer_to (Get k) (v.cell k)) ≡ true
+  read_block = ap (λ (o : Option (List ℕ)). is_read (Get k) (answer_to (Get k) o)) left.1
 
 -- a key has a value where its record says so
 live_body : (v : View) (k : ℕ) (o : Option KeyRecord) (cell : Option (List ℕ)) → LeftIn v k o cell → is_some cell ≡ is_some (live_version o)

@@ -73,7 +73,7 @@ abbrev pub entry_or : Entry → Option Pending → Entry
 entry_or d None = d
 entry_or d (Some q) = q.entry
 
-module _ (seat : SeatAt) (s : State) (before after : Option Group) (v u : View) (w f x : Worker) (slot : ℕ) (lt : slot < 8) (H : HoldsAt seat v w) (N : HoldsAt seat u x) (S : StandsAt s seat v w) (T : StandsAt s seat u x) (O : InOrderAt seat v w) (number lines : ℕ) (e : Entry) (place : place_at w.places.items slot ≡ Posted number e.key lines) (pending : v.pending e.key ≡ Some (record { entry = e; slot = Some slot })) (mid : Worker) (made : Steps before after seat.number u) (serves : Serves f x (u.cell e.key) e.key ⊎ ShortOf f x (u.cell e.key) e.key) (stopped : x.stopped ≡ f.stopped) (cause : StopsByFailed before seat.number w x) where
+module _ (seat : SeatAt) (s : State) (before after : Option Group) (v u : View) (w f x : Worker) (slot : ℕ) (lt : slot < 8) (H : HoldsAt seat v w) (N : HoldsAt seat u x) (S : StandsAt s seat v w) (T : StandsAt s seat u x) (O : InOrderAt seat v w) (number lines : ℕ) (e : Entry) (place : place_at w.places.items slot ≡ Posted number e.key lines) (pending : v.pending e.key ≡ Some (record { entry = e; slot = Some slot })) (mid : Worker) (made : Steps before after seat.number u) (serves : Serves (IsTelling s) f x (u.cell e.key) e.key ⊎ ShortOf (IsTelling s) f x (u.cell e.key) e.key) (stopped : x.stopped ≡ f.stopped) (cause : StopsByFailed before seat.number w x) where
   abbrev pl : Placed
   pl = record { number = number; request = asks v e.key e.body; posted = true }
 
@@ -172,12 +172,12 @@ module _ (seat : SeatAt) (s : State) (before after : Option Group) (v u : View) 
   by_home (Some h) view Z G = done h (core_of seat.place h) view Z G
 
 -- whether or not there was memory for what waited
-pub finish_moves : (seat : SeatAt) (s : State) (before after : Option Group) (v u : View) (w x : Worker) (slot : ℕ) (all : Bool) → slot < 8 → HoldsAt seat v w → HoldsAt seat u x → StandsAt s seat v w → StandsAt s seat u x → InOrderAt seat v w → Makes before seat.number (runs.Kind.Finish slot) after u → StopsByFailed before seat.number w x → IsTelling s
+pub finish_moves : (seat : SeatAt) (s : State) (before after : Option Group) (v u : View) (w x : Worker) (slot : ℕ) (all : Bool) → slot < 8 → HoldsAt seat v w → HoldsAt seat u x → StandsAt s seat v w → StandsAt s seat u x → InOrderAt seat v w → Makes before seat.number (runs.Kind.Finish slot) after u → StopsByFailed before seat.number w x
     → FinishesSlot s seat.place seat.number slot v u w x all → TurnMoves seat s s before after v u w x
-finish_moves seat s before after v u w x slot all lt H N S T O made cause telling F =
+finish_moves seat s before after v u w x slot all lt H N S T O made cause F =
     let t = F.takes in
     by_home seat s before after v u w F.freed x slot lt H N S T O t.number t.lines t.entry t.place t.pending t.mid (runs.Kind.Finish slot ∷ [], one_step before after seat.number (runs.Kind.Finish slot) u made) (by all refl) (ap (λ (y : Worker). y.stopped) F.rest) cause t.home t.view t.settles t.lets
   where
-    by : (b : Bool) → all ≡ b → Serves F.freed x (u.cell F.takes.entry.key) F.takes.entry.key ⊎ ShortOf F.freed x (u.cell F.takes.entry.key) F.takes.entry.key
-    by true e = inl (F.begins e telling)
-    by false e = inr (F.short e telling)
+    by : (b : Bool) → all ≡ b → Serves (IsTelling s) F.freed x (u.cell F.takes.entry.key) F.takes.entry.key ⊎ ShortOf (IsTelling s) F.freed x (u.cell F.takes.entry.key) F.takes.entry.key
+    by true e = inl (F.begins e)
+    by false e = inr (F.short e)

@@ -50,7 +50,7 @@ keeps_finish seat s before after v u w x slot all lt H N S T O P rule made cause
   stands = T;
   order = P;
   rule = λ runs. rule;
-  moves = λ telling. finish_moves seat s before after v u w x slot all lt H N S T O made cause telling F;
+  moves = finish_moves seat s before after v u w x slot all lt H N S T O made cause F;
 }
 
 -- item 5 of a stopped core
@@ -63,7 +63,7 @@ keeps_drop seat s a v w x slot all lt stopped H S O agrees N rule D = record {
   stands = N.stands;
   order = N.order;
   rule = λ runs. rule;
-  moves = λ telling. drop_moves seat s a v w x slot all lt stopped H N.holds S N.stands O ([], no_steps a seat.number seat.place v agrees) telling D;
+  moves = drop_moves seat s a v w x slot all lt stopped H N.holds S N.stands O ([], no_steps a seat.number seat.place v agrees) D;
 }
 
 -- neither nothing nor a round is led
@@ -86,7 +86,7 @@ keeps_withdraw seat s before after v u w x all stopped H N S T O P rule made whi
       stands = T;
       order = P;
       rule = λ runs. rule;
-      moves = λ telling. withdraw_moves seat s before after v u w x all stopped H N S T O made telling W;
+      moves = withdraw_moves seat s before after v u w x all stopped H N S T O made W;
     })
     (λ U. let un = U.1 in
     keeps_leading seat s before after v u w x N un.stands S made

@@ -8,7 +8,7 @@ use Rattle.fs_model.specs.declared.model.Reply.{Reply}
 use Rattle.fs_model.specs.declared.model.Reply.TheVariants as replies
 use Rattle.fs_model.specs.Cells.{key_of}
 use Rattle.fs_model.specs.Lawful.{MayReply, IsLawfulFor, cell_left, cell_of, is_finish, is_stopped}
-use Rattle.pm_region.specs.State.{State}
+use Rattle.pm_region.specs.State.{State, IsTelling}
 use Rattle.pm_region.proofs.Moments.{started}
 use Rattle.pm_region.proofs.Runs.{all_kept}
 use Rattle.log_entry.specs.declared.entry.Entry.{Entry}
@@ -34,6 +34,8 @@ use Rattle.core_worker.specs.KeyTies.{IsPlaced, Offers}
 use Rattle.core_worker.specs.Ties.{Holds, Stands}
 use Rattle.core_worker.specs.Turns.{Steps}
 use Rattle.core_worker.specs.Beginning.{answers_of, answer_with}
+use Rattle.core_worker.specs.Answering.{AddsAnswers}
+use Rattle.core_worker.proofs.Given.{said_same, given_by, adds_then, ends_untold}
 use Rattle.core_worker.specs.Finishing.{Serves, ShortOf}
 use Rattle.core_worker.specs.Turning.{TurnMoves}
 use Rattle.group_board.specs.Seats.{SeatAt}
@@ -69,14 +71,14 @@ in_kept p m v u s j (Posted n i l) is has pending blocks =
     by (bodies.Embedded z) o at = refl
     by bodies.Tombstone o at = refl
 
-module _ (p : Place) (m : ℕ) (v u : View) (w f x : Worker) (k slot : ℕ) (H : Holds p m v w) (N : Holds p m u x) (hand_of : w.winds_down ≡ false → w.in_hand ≡ None) (own : owner p k ≡ m)
+module _ (Known : Type 0) (p : Place) (m : ℕ) (v u : View) (w f x : Worker) (k slot : ℕ) (H : Holds p m v w) (N : Holds p m u x) (hand_of : w.winds_down ≡ false → w.in_hand ≡ None) (own : owner p k ≡ m)
     (pl : Placed) (key : key_in (place_at w.places.items slot) ≡ Some k) (held : placed_in v (place_at w.places.items slot) ≡ Some pl) (of_key : key_of pl.request ≡ k) (R : Replaces w.places.items f.places.items slot Free)
     (queue : f.queue ≡ w.queue) (hand : f.in_hand ≡ w.in_hand) (winds : f.winds_down ≡ w.winds_down)
     (reply : Reply) (answers : answers_of f ≡ answers_of w ++ answer_with pl.number reply None ∷ []) (may : MayReply pl.request (v.cell k) false reply) (left : cell_left pl.request reply (v.cell k) ≡ u.cell k)
     (halts : reply ≡ replies.Stopped → f.stopped ≡ true) (stays : w.stopped ≡ true → f.stopped ≡ true) (ends : (is_finish reply ≡ true) ⊎ (reply ≡ replies.Stopped))
     (doubt : (d : Entry) → u.pending k ≡ Some (record { entry = d; slot = None }) → (v.pending k ≡ Some (record { entry = d; slot = None })) ⊎ ((s : ℕ) × (pl.posted ≡ true) × (reply ≡ replies.Stopped) × (v.pending k ≡ Some (record { entry = d; slot = Some s })) × (left_in u.blocks d.body ≡ left_in v.blocks d.body)))
     (cells : (j : ℕ) → j ≢ k → u.cell j ≡ v.cell j) (pendings : (j : ℕ) → j ≢ k → u.pending j ≡ v.pending j) (blocks : (q : ℕ) (b : Block) → v.blocks q ≡ Some b → b.key ≢ k → u.blocks q ≡ v.blocks q)
-    (serves : Serves f x (u.cell k) k ⊎ ShortOf f x (u.cell k) k) where
+    (serves : Serves Known f x (u.cell k) k ⊎ ShortOf Known f x (u.cell k) k) where
   idle : is_busy f.places.items k ≡ false
   idle = by (is_busy f.places.items k) refl where
     by : (b : Bool) → is_busy f.places.items k ≡ b → is_busy f.places.items k ≡ false
@@ -96,23 +98,23 @@ module _ (p : Place) (m : ℕ) (v u : View) (w f x : Worker) (k slot : ℕ) (H :
   waits_none none = sym ((λ i. map asked_by (filter (λ h. key_of h.request == k) (option_to_list ((sym hand ∙ none) i)) ++ waiting (sym queue i) k)))
 
   -- the line of the key
-  lines : (hs : List Held) × (fs : List Fixed) × Line u f x k (u.cell k) hs fs × (map asked_by hs ≡ (hands_of v w).waits k)
+  lines : (hs : List Held) × (fs : List Fixed) × Line Known u f x k (u.cell k) hs fs × (map asked_by hs ≡ (hands_of v w).waits k)
   lines = ⊎_elim
       (λ s. ⊎_elim
       (λ ends. (
         filter (λ h. key_of h.request == k) (option_to_list f.in_hand) ++ waiting f.queue k,
         [],
-        subst (λ (y : Worker). Line u f y k (u.cell k) (filter (λ h. key_of h.request == k) (option_to_list f.in_hand) ++ waiting f.queue k) []) (sym ends.1) (line_kept u k (u.cell k) f idle),
+        subst (λ (y : Worker). Line Known u f y k (u.cell k) (filter (λ h. key_of h.request == k) (option_to_list f.in_hand) ++ waiting f.queue k) []) (sym ends.1) (line_kept Known u k (u.cell k) f idle),
         (λ i. map asked_by (filter (λ h. key_of h.request == k) (option_to_list (hand i)) ++ waiting (queue i) k)),
       ))
-      (λ on. let none = hand ∙ hand_of (sym winds ∙ on.0) in let L = lines_all u k (u.cell k) (waiting f.queue k) f x on.1 none idle apart refl in (waiting f.queue k, L.0, L.1, waits_none none)) s)
-      (λ short. let none = hand ∙ hand_of (sym winds ∙ short.0) in let L = lines_short u k (u.cell k) (waiting f.queue k) f x short.1 none idle apart refl in (waiting f.queue k, L.0, L.1, waits_none none))
+      (λ on. let none = hand ∙ hand_of (sym winds ∙ on.0) in let L = lines_all Known u k (u.cell k) (waiting f.queue k) f x on.1 none idle apart refl in (waiting f.queue k, L.0, L.1, waits_none none)) s)
+      (λ short. let none = hand ∙ hand_of (sym winds ∙ short.0) in let L = lines_short Known u k (u.cell k) (waiting f.queue k) f x short.1 none idle apart refl in (waiting f.queue k, L.0, L.1, waits_none none))
       serves
 
   fs : List Fixed
   fs = lines.1
 
-  L : Line u f x k (u.cell k) lines.0 fs
+  L : Line Known u f x k (u.cell k) lines.0 fs
   unfolding fs
   L = lines.2
 
@@ -174,9 +176,9 @@ module _ (p : Place) (m : ℕ) (v u : View) (w f x : Worker) (k slot : ℕ) (H :
   pub let_go_fixed : List Fixed
   let_go_fixed = first ∷ fs
 
-  pub let_go_answers : answers_of x ≡ answers_of w ++ map told let_go_fixed
+  pub let_go_answers : AddsAnswers Known (answers_of w) (answers_of x) let_go_fixed
   unfolding let_go_fixed
-  let_go_answers = L.answers ∙ ap (λ (ys : List Answer). ys ++ map told fs) answers ∙ append_assoc (answers_of w) (answer_with pl.number reply None ∷ []) (map told fs)
+  let_go_answers = adds_then Known (answers_of w) (answers_of f) (answers_of x) first (answer_with pl.number reply None) fs answers (given_by Known pl.number pl.request reply reply None (said_same Known pl.request reply) (ends_untold reply ends)) L.answers
 
   pub let_go_moves : (s : State) (before after : Option Group) → Stands s p m v w → Stands s p m u x → Steps before after m u → (f.stopped ≡ true → (w.stopped ≡ true) ⊎ IfSome before (λ a. (n : ℕ) × (d : Entry) × (a.slot m n ≡ Failed d)))
       → WorkerMoves p m s s before after v u (hands_of v w) (hands_of u x) [] let_go_fixed
@@ -199,7 +201,7 @@ module _ (p : Place) (m : ℕ) (v u : View) (w f x : Worker) (k slot : ℕ) (H :
   }
 
 -- what makes it so
-pub record LetGo (p : Place) (m : ℕ) (v u : View) (w f x : Worker) (k slot : ℕ) (pl : Placed) (reply : Reply) : Type 0 where
+pub record LetGo (Known : Type 0) (p : Place) (m : ℕ) (v u : View) (w f x : Worker) (k slot : ℕ) (pl : Placed) (reply : Reply) : Type 0 where
   pub H : Holds p m v w
   pub N : Holds p m u x
   pub hand_of : w.winds_down ≡ false → w.in_hand ≡ None
@@ -221,12 +223,12 @@ pub record LetGo (p : Place) (m : ℕ) (v u : View) (w f x : Worker) (k slot : �
   pub cells : (j : ℕ) → j ≢ k → u.cell j ≡ v.cell j
   pub pendings : (j : ℕ) → j ≢ k → u.pending j ≡ v.pending j
   pub blocks : (q : ℕ) (b : Block) → v.blocks q ≡ Some b → b.key ≢ k → u.blocks q ≡ v.blocks q
-  pub serves : Serves f x (u.cell k) k ⊎ ShortOf f x (u.cell k) k
+  pub serves : Serves Known f x (u.cell k) k ⊎ ShortOf Known f x (u.cell k) k
 
-pub let_go_turn : (seat : SeatAt) (s : State) (before after : Option Group) (v u : View) (w f x : Worker) (k slot : ℕ) (pl : Placed) (reply : Reply) → LetGo seat.place seat.number v u w f x k slot pl reply → Stands s seat.place seat.number v w → Stands s seat.place seat.number u x → Steps before after seat.number u
+pub let_go_turn : (seat : SeatAt) (s : State) (before after : Option Group) (v u : View) (w f x : Worker) (k slot : ℕ) (pl : Placed) (reply : Reply) → LetGo (IsTelling s) seat.place seat.number v u w f x k slot pl reply → Stands s seat.place seat.number v w → Stands s seat.place seat.number u x → Steps before after seat.number u
     → (f.stopped ≡ true → (w.stopped ≡ true) ⊎ IfSome before (λ a. (n : ℕ) × (d : Entry) × (a.slot seat.number n ≡ Failed d))) → TurnMoves seat s s before after v u w x
 let_go_turn seat s before after v u w f x k slot pl reply G S T made cause = record {
-  fixed = let_go_fixed seat.place seat.number v u w f x k slot G.H G.N G.hand_of G.own pl G.key G.held G.of_key G.R G.queue G.hand G.winds reply G.answers G.may G.left G.halts G.stays G.ends G.doubt G.cells G.pendings G.blocks G.serves;
-  answers = let_go_answers seat.place seat.number v u w f x k slot G.H G.N G.hand_of G.own pl G.key G.held G.of_key G.R G.queue G.hand G.winds reply G.answers G.may G.left G.halts G.stays G.ends G.doubt G.cells G.pendings G.blocks G.serves;
-  moves = let_go_moves seat.place seat.number v u w f x k slot G.H G.N G.hand_of G.own pl G.key G.held G.of_key G.R G.queue G.hand G.winds reply G.answers G.may G.left G.halts G.stays G.ends G.doubt G.cells G.pendings G.blocks G.serves s before after S T made cause;
+  fixed = let_go_fixed (IsTelling s) seat.place seat.number v u w f x k slot G.H G.N G.hand_of G.own pl G.key G.held G.of_key G.R G.queue G.hand G.winds reply G.answers G.may G.left G.halts G.stays G.ends G.doubt G.cells G.pendings G.blocks G.serves;
+  answers = let_go_answers (IsTelling s) seat.place seat.number v u w f x k slot G.H G.N G.hand_of G.own pl G.key G.held G.of_key G.R G.queue G.hand G.winds reply G.answers G.may G.left G.halts G.stays G.ends G.doubt G.cells G.pendings G.blocks G.serves;
+  moves = let_go_moves (IsTelling s) seat.place seat.number v u w f x k slot G.H G.N G.hand_of G.own pl G.key G.held G.of_key G.R G.queue G.hand G.winds reply G.answers G.may G.left G.halts G.stays G.ends G.doubt G.cells G.pendings G.blocks G.serves s before after S T made cause;
 }

@@ -11,10 +11,11 @@ mod BlockStands
 mod BlockPosts
 mod BlockClear
 mod HandKeys
-mod Aside
+pub mod Aside
 mod QuietMoves
-mod KeyMoves
+pub mod KeyMoves
 mod HandPlaces
+pub mod Given
 mod AcceptMoves
 mod QuietItems
 mod PostMoves
@@ -71,7 +72,7 @@ mod Rested
 mod ItemLaws
 mod LeftTurns
 mod StartKeys
-mod StartBlocks
+pub mod StartBlocks
 mod StartHeads
 mod Starting
 pub mod Clients

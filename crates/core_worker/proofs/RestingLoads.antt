@@ -10,14 +10,15 @@ use Rattle.group_board.specs.Told.{Makes}
 use Rattle.batch_leader.specs.Leading.{MakesAll}
 use Rattle.batch_leader.proofs.Steps.{makes_then}
 use Rattle.core_worker.specs.Turns.{looks_at, LooksMade}
-use Rattle.core_worker.specs.Resting.{IsLoading, LoadsOnly}
+use Rattle.core_worker.specs.Resting.{LoadsOnly}
+use Rattle.engine_laws.specs.Workers.{IsLoad}
 use Rattle.core_worker.proofs.Made.{one_step}
 
 abbrev look_kinds : ℕ → List ℕ → List Kind → List Kind
 look_kinds m [] ks = ks
 look_kinds m (s ∷ ss) ks = Look m s ∷ look_kinds m ss ks
 
-look_loads : (m : ℕ) (ss : List ℕ) (ks : List Kind) → AllByRecursion IsLoading ks → AllByRecursion IsLoading (look_kinds m ss ks)
+look_loads : (m : ℕ) (ss : List ℕ) (ks : List Kind) → AllByRecursion IsLoad ks → AllByRecursion IsLoad (look_kinds m ss ks)
 look_loads m [] ks each = each
 look_loads m (s ∷ ss) ks each = (tt, look_loads m ss ks each)
 
@@ -30,7 +31,7 @@ runs_told None after m v xs made = tt
 runs_told (Some a) None m v xs made = absurd made
 runs_told (Some a) (Some b) m v xs made = made.0
 
-loads_by : (before after : Option Group) (m : ℕ) (v : View) (ss : List ℕ) (ks : List Kind) → AllByRecursion IsLoading ks → MakesAll before (looks_at m ss ++ map {B = ℕ × Kind} (λ y. (m, y)) ks) after m v → LoadsOnly before after m
+loads_by : (before after : Option Group) (m : ℕ) (v : View) (ss : List ℕ) (ks : List Kind) → AllByRecursion IsLoad ks → MakesAll before (looks_at m ss ++ map {B = ℕ × Kind} (λ y. (m, y)) ks) after m v → LoadsOnly before after m
 loads_by before after m v ss ks each made = record {
   steps = look_kinds m ss ks;
   loads = look_loads m ss ks each;

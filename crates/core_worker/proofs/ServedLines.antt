@@ -22,6 +22,8 @@ use Rattle.core_worker.specs.declared.worker.Worker.{Worker}
 use Rattle.core_worker.specs.OwnPlaces.{place_at, key_in, is_busy, AreApart, Replaces}
 use Rattle.core_worker.specs.Supplies.{supply_of, why}
 use Rattle.core_worker.specs.Refusals.{reply_to}
+use Rattle.core_worker.specs.Answering.{IsCause, IsSaid, AddsAnswers}
+use Rattle.core_worker.proofs.Given.{said_same, given_by, adds_none, adds_then, answer_untold}
 use Rattle.core_worker.specs.Beginning.{answers_of, answer_with, OnlyBegins, IsAnswered, IsStaged, GoesOn, BeginsBy, BeginsAs, Begins, BeginsAll, BeginsShort}
 use Rattle.core_worker.specs.WorkerMoves.{Placed, Fixed, told, asked, replied, placed, placed_in, placed_for, asked_by}
 use Rattle.core_worker.proofs.AcceptMoves.{not_stopped, left_by_refusal, may_refuse_for, still_left, still_runs}
@@ -41,19 +43,25 @@ lawful_before c (x ∷ xs) h =
     )
 
 -- a request is begun: it is answered, or a core that runs stages it
-pub record Answers (w u : Worker) (cell : Option (List ℕ)) (n : ℕ) (r : Request) : Type 0 where
+pub record Answers (Known : Type 0) (w u : Worker) (cell : Option (List ℕ)) (n : ℕ) (r : Request) : Type 0 where
   pub reply : Reply
+  pub given : Reply
   pub cause : Option Shortage
-  pub is : IsAnswered w u (answer_with n reply cause)
+  pub said : IsSaid Known r reply given
+  pub by_cause : IsCause reply cause
+  pub is : IsAnswered w u (answer_with n given cause)
   pub may : MayReply r cell w.stopped reply
   pub left : cell_left r reply cell ≡ cell
   pub halts : w.stopped ≡ true → reply ≡ replies.Stopped
   pub halted : reply ≡ replies.Stopped → w.stopped ≡ true
 
-module _ (w u : Worker) (cell : Option (List ℕ)) (n : ℕ) (r : Request) where
-  running : (a : Reply) (why : Option Shortage) → w.stopped ≡ false → IsAnswered w u (answer_with n a why) → MayReply r cell false a → cell_left r a cell ≡ cell → (a ≢ replies.Stopped) → Answers w u cell n r
-  running a why runs is may left other = record {
+module _ (Known : Type 0) (w u : Worker) (cell : Option (List ℕ)) (n : ℕ) (r : Request) where
+  running : (a given : Reply) (why : Option Shortage) → w.stopped ≡ false → IsSaid Known r a given → IsCause a why → IsAnswered w u (answer_with n given why) → MayReply r cell false a → cell_left r a cell ≡ cell → (a ≢ replies.Stopped) → Answers Known w u cell n r
+  running a given why runs said because is may left other = record {
     reply = a;
+    given = given;
+    said = said;
+    by_cause = because;
     cause = why;
     is = is;
     may = subst (λ b. MayReply r cell b a) (sym runs) may;
@@ -62,24 +70,24 @@ module _ (w u : Worker) (cell : Option (List ℕ)) (n : ℕ) (r : Request) where
     halted = λ same. absurd (other same);
   }
 
-  goes_on : (c : Bool) → w.stopped ≡ false → is_change r cell ≡ c → GoesOn c w u cell n r → Answers w u cell n r ⊎ ((w.stopped ≡ false) × IsStaged w u n r)
-  goes_on false runs e is = inl (running (answer_to r cell) None runs is (inl refl) (still_left r cell e) (still_runs r cell))
+  goes_on : (c : Bool) → w.stopped ≡ false → is_change r cell ≡ c → GoesOn Known c w u cell n r → Answers Known w u cell n r ⊎ ((w.stopped ≡ false) × IsStaged w u n r)
+  goes_on false runs e is = inl (running (answer_to r cell) is.0 None runs is.1 (answer_untold r cell e) is.2 (inl refl) (still_left r cell e) (still_runs r cell))
   goes_on true runs e is = inr (runs, is)
 
-  by_cause : (o : Option Shortage) → w.stopped ≡ false → why w.layout (supply_of w) w.allocator (last_of (known_at w.index (key_of r))) cell r ≡ o → BeginsBy o w u cell n r → Answers w u cell n r ⊎ ((w.stopped ≡ false) × IsStaged w u n r)
+  by_cause : (o : Option Shortage) → w.stopped ≡ false → why w.layout (supply_of w) w.allocator (last_of (known_at w.index (key_of r))) cell r ≡ o → BeginsBy Known o w u cell n r → Answers Known w u cell n r ⊎ ((w.stopped ≡ false) × IsStaged w u n r)
   by_cause None runs e is = goes_on (is_change r cell) runs refl is
-  by_cause (Some c) runs e is = inl (running (reply_to c) (Some c) runs is (may_refuse_for w.layout (supply_of w) w.allocator (last_of (known_at w.index (key_of r))) cell r c e) (left_by_refusal r cell c) (not_stopped c))
+  by_cause (Some c) runs e is = inl (running (reply_to c) (reply_to c) (Some c) runs (said_same Known r (reply_to c)) refl is (may_refuse_for w.layout (supply_of w) w.allocator (last_of (known_at w.index (key_of r))) cell r c e) (left_by_refusal r cell c) (not_stopped c))
 
-  by_stop : (d : Bool) → w.stopped ≡ d → BeginsAs d w u cell n r → Answers w u cell n r ⊎ ((w.stopped ≡ false) × IsStaged w u n r)
-  by_stop true e is = inl (record { reply = replies.Stopped; cause = None; is = is; may = subst (λ b. MayReply r cell b replies.Stopped) (sym e) refl; left = refl; halts = λ s. refl; halted = λ s. e })
+  by_stop : (d : Bool) → w.stopped ≡ d → BeginsAs Known d w u cell n r → Answers Known w u cell n r ⊎ ((w.stopped ≡ false) × IsStaged w u n r)
+  by_stop true e is = inl (record { reply = replies.Stopped; given = replies.Stopped; cause = None; said = said_same Known r replies.Stopped; by_cause = refl; is = is; may = subst (λ b. MayReply r cell b replies.Stopped) (sym e) refl; left = refl; halts = λ s. refl; halted = λ s. e })
   by_stop false e is = by_cause (why w.layout (supply_of w) w.allocator (last_of (known_at w.index (key_of r))) cell r) e refl is
 
-  pub begins_one : Begins w u cell n r → Answers w u cell n r ⊎ ((w.stopped ≡ false) × IsStaged w u n r)
+  pub begins_one : Begins Known w u cell n r → Answers Known w u cell n r ⊎ ((w.stopped ≡ false) × IsStaged w u n r)
   begins_one is = by_stop w.stopped refl is
 
 -- what is held of the key of a worker that has none in a place, and of the others
-pub record Line (v : View) (w x : Worker) (k : ℕ) (cell : Option (List ℕ)) (hs : List Held) (fs : List Fixed) : Type 0 where
-  pub answers : answers_of x ≡ answers_of w ++ map told fs
+pub record Line (Known : Type 0) (v : View) (w x : Worker) (k : ℕ) (cell : Option (List ℕ)) (hs : List Held) (fs : List Fixed) : Type 0 where
+  pub answers : AddsAnswers Known (answers_of w) (answers_of x) fs
   pub keys : (y : Fixed) → In y fs → key_of y.request ≡ k
   pub line : map asked_by hs ≡ map asked fs ++ (placed (placed_for v x.places.items k) ++ map asked_by (filter (λ h. key_of h.request == k) (option_to_list x.in_hand) ++ waiting x.queue k))
   pub lawful : IsLawfulFor cell w.stopped (map replied fs)
@@ -128,11 +136,11 @@ hand_none o k hs e = ap (λ (y : Option Held). filter (λ h. key_of h.request ==
 abbrev next_of : Worker → List Held → Worker
 next_of w q = record w { queue = q }
 
-module _ (v : View) (k : ℕ) (cell : Option (List ℕ)) where
+module _ (Known : Type 0) (v : View) (k : ℕ) (cell : Option (List ℕ)) where
   -- none waits
-  line_none : (w x : Worker) → x ≡ w → w.in_hand ≡ None → is_busy w.places.items k ≡ false → waiting w.queue k ≡ [] → Line v w x k cell [] []
+  line_none : (w x : Worker) → x ≡ w → w.in_hand ≡ None → is_busy w.places.items k ≡ false → waiting w.queue k ≡ [] → Line Known v w x k cell [] []
   line_none w x same hand idle none = record {
-    answers = ap (λ (y : Worker). answers_of y) same ∙ sym (append-nil (answers_of w));
+    answers = adds_none Known (answers_of w) (answers_of x) (ap (λ (y : Worker). answers_of y) same);
     keys = λ y i. absurd i;
     line = sym (ap (λ (y : Worker). placed (placed_for v y.places.items k) ++ map asked_by (filter (λ h. key_of h.request == k) (option_to_list y.in_hand) ++ waiting y.queue k)) same
         ∙ (λ i. placed (none_for v k w.places.items idle i) ++ map asked_by (hand_none w.in_hand k (waiting w.queue k) hand i)) ∙ ap (map asked_by) none);
@@ -165,9 +173,9 @@ module _ (v : View) (k : ℕ) (cell : Option (List ℕ)) where
       rest_of (y ∷ ys) = ys
 
     -- one is answered, and then the others
-    line_answered : (fs : List Fixed) → (A : Answers next mid cell h.number h.request) → Line v mid x k cell hs fs → Line v w x k cell (h ∷ hs) (record { number = h.number; request = h.request; reply = A.reply; refusal = A.cause } ∷ fs)
+    line_answered : (fs : List Fixed) → (A : Answers Known next mid cell h.number h.request) → Line Known v mid x k cell hs fs → Line Known v w x k cell (h ∷ hs) (record { number = h.number; request = h.request; reply = A.reply; refusal = A.cause } ∷ fs)
     line_answered fs A L = record {
-      answers = L.answers ∙ ap (λ (ys : List Answer). ys ++ map told fs) (A.is.answers ∙ ap (λ (y : Worker). answers_of y ++ answer_with h.number A.reply A.cause ∷ []) same) ∙ append_assoc (answers_of w) (answer_with h.number A.reply A.cause ∷ []) (map told fs);
+      answers = adds_then Known (answers_of w) (answers_of mid) (answers_of x) (record { number = h.number; request = h.request; reply = A.reply; refusal = A.cause }) (answer_with h.number A.given A.cause) fs (A.is.answers ∙ ap (λ (y : Worker). answers_of y ++ answer_with h.number A.given A.cause ∷ []) same) (given_by Known h.number h.request A.reply A.given A.cause A.said A.by_cause) L.answers;
       keys = λ y i. ⊎_elim (λ at. ap (λ (z : Fixed). key_of z.request) at ∙ first_key w.queue next.queue k h T) (λ more. L.keys y more) i;
       line = ap (λ (xs : List (ℕ × Request)). (h.number, h.request) ∷ xs) L.line;
       lawful = (
@@ -187,9 +195,9 @@ module _ (v : View) (k : ℕ) (cell : Option (List ℕ)) where
       next_stops = ap (λ (y : Worker). y.stopped) same
 
     -- one is staged
-    line_staged : (S : IsStaged next mid h.number h.request) → next.stopped ≡ false → x ≡ mid → w.in_hand ≡ None → is_busy w.places.items k ≡ false → AreApart w.places.items → waiting w.queue k ≡ h ∷ hs → Line v w x k cell (h ∷ hs) []
+    line_staged : (S : IsStaged next mid h.number h.request) → next.stopped ≡ false → x ≡ mid → w.in_hand ≡ None → is_busy w.places.items k ≡ false → AreApart w.places.items → waiting w.queue k ≡ h ∷ hs → Line Known v w x k cell (h ∷ hs) []
     line_staged S runs is hand idle apart waits = record {
-      answers = ap (λ (y : Worker). answers_of y) is ∙ S.answers ∙ ap (λ (y : Worker). answers_of y) same ∙ sym (append-nil (answers_of w));
+      answers = adds_none Known (answers_of w) (answers_of x) (ap (λ (y : Worker). answers_of y) is ∙ S.answers ∙ ap (λ (y : Worker). answers_of y) same);
       keys = λ y i. absurd i;
       line = sym (ap (λ (y : Worker). placed (placed_for v y.places.items k) ++ map asked_by (filter (λ h. key_of h.request == k) (option_to_list y.in_hand) ++ waiting y.queue k)) is
           ∙ (λ i. placed (has i) ++ map asked_by (hand_none mid.in_hand k (waiting mid.queue k) (hand_mid ∙ hand) i)) ∙ ap (λ (ys : List Held). (h.number, h.request) ∷ map asked_by ys) (rest_is waits));
@@ -220,13 +228,13 @@ module _ (v : View) (k : ℕ) (cell : Option (List ℕ)) where
     staged_then : IsStaged next mid h.number h.request → is_busy mid.places.items k ≡ true
     staged_then S = busy_by mid.places.items k S.slot (ap key_in S.placed.here ∙ ap Some (S.key ∙ first_key w.queue next.queue k h T))
 
-    answered_then : (A : Answers next mid cell h.number h.request) → is_busy w.places.items k ≡ false → is_busy mid.places.items k ≡ false
+    answered_then : (A : Answers Known next mid cell h.number h.request) → is_busy w.places.items k ≡ false → is_busy mid.places.items k ≡ false
     answered_then A idle = ap (λ (ps : List places.Place). is_busy ps k) (A.is.places ∙ ap (λ (y : Worker). y.places.items) same) ∙ idle
 
-    apart_then : (A : Answers next mid cell h.number h.request) → AreApart w.places.items → AreApart mid.places.items
+    apart_then : (A : Answers Known next mid cell h.number h.request) → AreApart w.places.items → AreApart mid.places.items
     apart_then A apart = subst AreApart (sym (A.is.places ∙ ap (λ (y : Worker). y.places.items) same)) apart
 
-  pub lines_all : (hs : List Held) (w x : Worker) → BeginsAll hs w x cell k → w.in_hand ≡ None → is_busy w.places.items k ≡ false → AreApart w.places.items → waiting w.queue k ≡ hs → (fs : List Fixed) × Line v w x k cell hs fs
+  pub lines_all : (hs : List Held) (w x : Worker) → BeginsAll Known hs w x cell k → w.in_hand ≡ None → is_busy w.places.items k ≡ false → AreApart w.places.items → waiting w.queue k ≡ hs → (fs : List Fixed) × Line Known v w x k cell hs fs
   lines_all [] w x begins hand idle apart waits = ([], line_none w x begins hand idle waits)
   lines_all (h ∷ hs) w x begins hand idle apart waits =
       let next = begins.0 in
@@ -244,12 +252,12 @@ module _ (v : View) (k : ℕ) (cell : Option (List ℕ)) where
       (λ over. ([], line_staged w next mid x h hs T same only S.1 S.0 over.1 hand idle apart waits))
       (λ more. absurd (let both : true ≡ false = sym (staged_then w next mid x h hs T same only S.1) ∙ more.0 in cc both))
       begins.6)
-      (begins_one next mid cell h.number h.request begins.5)
+      (begins_one Known next mid cell h.number h.request begins.5)
 
   -- for one there was no memory, and it is in hand
-  line_short : (w next x : Worker) (h : Held) (hs : List Held) → TakesFirst w.queue next.queue k h → next ≡ record w { queue = next.queue } → x ≡ record next { in_hand = Some h; winds_down = true } → w.in_hand ≡ None → is_busy w.places.items k ≡ false → waiting w.queue k ≡ h ∷ hs → Line v w x k cell (h ∷ hs) []
+  line_short : (w next x : Worker) (h : Held) (hs : List Held) → TakesFirst w.queue next.queue k h → next ≡ record w { queue = next.queue } → x ≡ record next { in_hand = Some h; winds_down = true } → w.in_hand ≡ None → is_busy w.places.items k ≡ false → waiting w.queue k ≡ h ∷ hs → Line Known v w x k cell (h ∷ hs) []
   line_short w next x h hs T same is hand idle waits = record {
-    answers = ap (λ (y : Worker). answers_of y) whole ∙ sym (append-nil (answers_of w));
+    answers = adds_none Known (answers_of w) (answers_of x) (ap (λ (y : Worker). answers_of y) whole);
     keys = λ y i. absurd i;
     line = ap (map asked_by) (sym waits ∙ T.key) ∙ sym (ap (λ (y : Worker). placed (placed_for v y.places.items k) ++ map asked_by (filter (λ h. key_of h.request == k) (option_to_list y.in_hand) ++ waiting y.queue k)) is
         ∙ (λ i. placed (none i) ++ map asked_by (cond (eq-eqb (key_of h.request) k (first_key w.queue next.queue k h T) i) (h ∷ []) [] ++ waiting next.queue k)));
@@ -268,7 +276,7 @@ module _ (v : View) (k : ℕ) (cell : Option (List ℕ)) where
     none : placed_for v next.places.items k ≡ None
     none = ap (λ (y : Worker). placed_for v y.places.items k) same ∙ none_for v k w.places.items idle
 
-  pub lines_short : (hs : List Held) (w x : Worker) → BeginsShort hs w x cell k → w.in_hand ≡ None → is_busy w.places.items k ≡ false → AreApart w.places.items → waiting w.queue k ≡ hs → (fs : List Fixed) × Line v w x k cell hs fs
+  pub lines_short : (hs : List Held) (w x : Worker) → BeginsShort Known hs w x cell k → w.in_hand ≡ None → is_busy w.places.items k ≡ false → AreApart w.places.items → waiting w.queue k ≡ hs → (fs : List Fixed) × Line Known v w x k cell hs fs
   lines_short [] w x begins hand idle apart waits = absurd begins
   lines_short (h ∷ hs) w x begins hand idle apart waits =
       let next = begins.0 in
@@ -283,13 +291,13 @@ module _ (v : View) (k : ℕ) (cell : Option (List ℕ)) where
       (λ A. let L = lines_short hs mid x more.4 (hand_mid w next mid x h hs T same only ∙ hand) (answered_then w next mid x h hs T same only A idle) (apart_then w next mid x h hs T same only A apart) (rest_is w next mid x h hs T same only waits) in
       (record { number = h.number; request = h.request; reply = A.reply; refusal = A.cause } ∷ L.0, line_answered w next mid x h hs T same only L.0 A L.1))
       (λ S. absurd (let both : true ≡ false = sym (staged_then w next mid x h hs T same only S.1) ∙ more.3 in cc both))
-      (begins_one next mid cell h.number h.request more.2))
+      (begins_one Known next mid cell h.number h.request more.2))
       begins.3
 
   -- a core that winds down begins none
-  pub line_kept : (w : Worker) → is_busy w.places.items k ≡ false → Line v w w k cell (filter (λ h. key_of h.request == k) (option_to_list w.in_hand) ++ waiting w.queue k) []
+  pub line_kept : (w : Worker) → is_busy w.places.items k ≡ false → Line Known v w w k cell (filter (λ h. key_of h.request == k) (option_to_list w.in_hand) ++ waiting w.queue k) []
   line_kept w idle = record {
-    answers = sym (append-nil (answers_of w));
+    answers = adds_none Known (answers_of w) (answers_of w) refl;
     keys = λ y i. absurd i;
     line = sym (ap (λ (o : Option Placed). placed o ++ map asked_by (filter (λ h. key_of h.request == k) (option_to_list w.in_hand) ++ waiting w.queue k)) (none_for v k w.places.items idle));
     lawful = tt;

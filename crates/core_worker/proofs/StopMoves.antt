@@ -35,8 +35,8 @@ key_or d None = d
 key_or d (Some b) = b.key
 
 -- a staged change is answered Stopped
-pub drop_moves : (seat : SeatAt) (s : State) (a : Option Group) (v : View) (w x : Worker) (slot : ℕ) (all : Bool) → slot < 8 → w.stopped ≡ true → HoldsAt seat v w → HoldsAt seat v x → StandsAt s seat v w → StandsAt s seat v x → InOrderAt seat v w → Steps a a seat.number v → IsTelling s → Drops s slot w x all → TurnMoves seat s s a a v v w x
-drop_moves seat s a v w x slot all lt stopped H N S T O made telling D =
+pub drop_moves : (seat : SeatAt) (s : State) (a : Option Group) (v : View) (w x : Worker) (slot : ℕ) (all : Bool) → slot < 8 → w.stopped ≡ true → HoldsAt seat v w → HoldsAt seat v x → StandsAt s seat v w → StandsAt s seat v x → InOrderAt seat v w → Steps a a seat.number v → Drops s slot w x all → TurnMoves seat s s a a v v w x
+drop_moves seat s a v w x slot all lt stopped H N S T O made D =
     let G = D.puts.lets in
     let facts = subst (IsPlaced seat.place seat.number v slot) D.place (H.placed slot lt) in
     let halted : D.freed.stopped ≡ true = ap (λ (y : Worker). y.stopped) G.rest ∙ stopped in
@@ -68,11 +68,11 @@ drop_moves seat s a v w x slot all lt stopped H N S T O made telling D =
     served : IsServed s w (record { place = seat.place; number = seat.number; view = v })
     served = record { holds = H; stands = S; order = O }
 
-    by : (b : Bool) → all ≡ b → Serves D.freed x (v.cell D.entry.key) D.entry.key ⊎ ShortOf D.freed x (v.cell D.entry.key) D.entry.key
-    by true e = inl (D.begins e (record { place = seat.place; number = seat.number; view = v }) served telling)
-    by false e = inr (D.short e (record { place = seat.place; number = seat.number; view = v }) served telling)
+    by : (b : Bool) → all ≡ b → Serves (IsTelling s) D.freed x (v.cell D.entry.key) D.entry.key ⊎ ShortOf (IsTelling s) D.freed x (v.cell D.entry.key) D.entry.key
+    by true e = inl (D.begins e (record { place = seat.place; number = seat.number; view = v }) served)
+    by false e = inr (D.short e (record { place = seat.place; number = seat.number; view = v }) served)
 
-module _ (seat : SeatAt) (s : State) (before after : Option Group) (v u : View) (w x : Worker) (all : Bool) (stopped : w.stopped ≡ true) (H : HoldsAt seat v w) (N : HoldsAt seat u x) (S : StandsAt s seat v w) (T : StandsAt s seat u x) (O : InOrderAt seat v w) (made : Steps before after seat.number u) (telling : IsTelling s) (W : Withdraws s seat before after v u w x all) where
+module _ (seat : SeatAt) (s : State) (before after : Option Group) (v u : View) (w x : Worker) (all : Bool) (stopped : w.stopped ≡ true) (H : HoldsAt seat v w) (N : HoldsAt seat u x) (S : StandsAt s seat v w) (T : StandsAt s seat u x) (O : InOrderAt seat v w) (made : Steps before after seat.number u) (W : Withdraws s seat before after v u w x all) where
   abbrev e : Entry
   e = W.change.entry
 
@@ -105,9 +105,9 @@ module _ (seat : SeatAt) (s : State) (before after : Option Group) (v u : View) 
   kept (bodies.Embedded z) o q d has ne = refl
   kept bodies.Tombstone o q d has ne = refl
 
-  by : (b : Bool) → all ≡ b → Serves W.freed x (u.cell k) k ⊎ ShortOf W.freed x (u.cell k) k
-  by true is = inl (W.begins is telling)
-  by false is = inr (W.short is telling)
+  by : (b : Bool) → all ≡ b → Serves (IsTelling s) W.freed x (u.cell k) k ⊎ ShortOf (IsTelling s) W.freed x (u.cell k) k
+  by true is = inl (W.begins is)
+  by false is = inr (W.short is)
 
   -- a posted change that nobody had taken is answered Stopped
   pub withdraw_moves : TurnMoves seat s s before after v u w x

@@ -1,7 +1,7 @@
 -- What each item of a turn keeps.
 use Rattle.std.proofs.Common.{◌≡◌, inl, inr, ⊎_elim, ℕ, zero, suc, Bool, true, false, cond, List, [], ◌∷◌, ◌++◌, map, length, Option, Some, None, refl, sym, ◌∙◌, ap, subst, arith, append-nil}
 use Rattle.std.specs.Prelude.{IfSome, IsSomeAnd}
-use Rattle.pm_region.specs.State.{State, cell_now, Rose}
+use Rattle.pm_region.specs.State.{State, IsTelling, cell_now, Rose}
 use Rattle.pm_region.proofs.Moments.{started, weaken}
 use Rattle.pm_region.proofs.Runs.{all_kept}
 use Rattle.log_entry.specs.declared.entry.Entry.{Entry}
@@ -33,6 +33,7 @@ use Rattle.core_worker.specs.Ties.{Leads, LeadsAt, LeadsNothing, HoldsAt, Stands
 use Rattle.core_worker.proofs.LeadTies.{led_here, leads_of}
 use Rattle.core_worker.specs.Turns.{InOrderAt, SameButLeading, Steps, MadeOrStops, UnpledgedAt, Persists, LosesBatch, PersistsOrLoses, PassesItems, looks_at, LooksMade}
 use Rattle.core_worker.specs.Posting.{PostsOrStops}
+use Rattle.core_worker.proofs.Given.{adds_none}
 use Rattle.core_worker.specs.Turning.{TurnMoves, KeepsTurn, Did, at_entry}
 use Rattle.core_worker.specs.Turning.Did.{posts, loses_block}
 use Rattle.core_worker.specs.WorkerMoves.{Hands, Fixed, placed_in, placed_for, hands_of, fixed_of, requests_for, AnswersKey, WorkerMoves}
@@ -44,7 +45,7 @@ use Rattle.core_worker.proofs.PostMoves.{count_same, facts_of, fault_moves}
 nothing_fixed : (seat : SeatAt) (s t : State) (before after : Option Group) (v u : View) (w x : Worker) → x.answers ≡ w.answers → WorkerMoves seat.place seat.number s t before after v u (hands_of v w) (hands_of u x) [] [] → TurnMoves seat s t before after v u w x
 nothing_fixed seat s t before after v u w x same moves = record {
   fixed = [];
-  answers = ap (λ a. a.items) same ∙ sym (append-nil w.answers.items);
+  answers = adds_none (IsTelling t) w.answers.items x.answers.items (ap (λ a. a.items) same);
   moves = moves;
 }
 
@@ -58,7 +59,7 @@ keeps_leading seat s before after v u w x H keeps S made L same stops O rule = r
   stands = keeps s S;
   order = order_leading seat.place seat.number v u w x L same stops O;
   rule = λ runs. rule;
-  moves = λ telling. nothing_fixed seat s s before after v u w x (ap (λ (y : Worker). y.answers) same) (leading_moves seat s before after v u w x H S (keeps s S) made L same);
+  moves = nothing_fixed seat s s before after v u w x (ap (λ (y : Worker). y.answers) same) (leading_moves seat s before after v u w x H S (keeps s S) made L same);
 }
 
 -- the same change stands in a place, whatever it pledges
@@ -95,7 +96,7 @@ module _ (seat : SeatAt) (s t : State) (before after : Option Group) (v u : View
         (order_as seat.place seat.number v w (v.kept ++ v.flying) [] v.taken v.broken v.holds [] v.took x.log x.allocator x.leading w.stopped x.places
         (busy_now w.places.items x.places.items count same) (count_same w.places.items x.places.items count (λ i. (same i).free)) (λ stopped. absurd (let both : true ≡ false = sym stopped ∙ runs in cc both)) O));
     rule = rule;
-    moves = λ telling. nothing_fixed seat s t before after v u w x (ap (λ (y : Worker). y.answers) P.same)
+    moves = nothing_fixed seat s t before after v u w x (ap (λ (y : Worker). y.answers) P.same)
         (quiet_moves seat.place seat.number s t before after v u w x N outside moments T.licensed made (ap (λ (y : View). y.cell) P.view) (ap (λ (y : View). y.pending) P.view) (ap (λ (y : View). y.blocks) P.view)
         (held_same v w.places.items x.places.items count same) (ap (λ (y : Worker). y.queue) P.same) (ap (λ (y : Worker). y.in_hand) P.same)
         (λ e. inl (sym (ap (λ (y : Worker). y.stopped) P.same) ∙ e)) (λ e. ap (λ (y : Worker). y.stopped) P.same ∙ e));
@@ -115,7 +116,7 @@ module _ (seat : SeatAt) (s t : State) (before after : Option Group) (v u : View
     order = subst (λ (y : View). InOrder seat.place seat.number y x) (sym P.view) (subst (λ (y : Worker). InOrder seat.place seat.number v y) (sym P.same)
         (order_as seat.place seat.number v w v.kept v.flying v.taken v.broken v.holds v.looked v.took x.log x.allocator x.leading true w.places (λ k. refl) refl (λ stopped. subst MayLeadStopped (sym P.leads_now) tt) O));
     rule = rule;
-    moves = λ telling. nothing_fixed seat s t before after v u w x (ap (λ (y : Worker). y.answers) P.same)
+    moves = nothing_fixed seat s t before after v u w x (ap (λ (y : Worker). y.answers) P.same)
         (subst (λ (a : Option Group). WorkerMoves seat.place seat.number s t before a v u (hands_of v w) (hands_of u x) [] []) (sym group)
         (subst (λ (y : View). WorkerMoves seat.place seat.number s t before before v y (hands_of v w) (hands_of y x) [] []) (sym P.view)
         (fault_moves seat.place seat.number s t before v w x (subst (λ (y : View). HoldsAt seat y x) P.view N) (λ k. ap (λ (y : Worker). placed_for v y.places.items k) P.same) (λ k. ap (λ (y : Worker). (hands_of v y).waits k) P.same) P.stopped outside moments
@@ -144,7 +145,7 @@ keeps_posts seat s t before after v u w x slot moments outside H S order O rule 
   stands = S;
   order = order O;
   rule = λ runs. rule;
-  moves = λ telling. nothing_fixed seat s t before after v u w x (posts_answers seat.number before after v u w x slot which) moves;
+  moves = nothing_fixed seat s t before after v u w x (posts_answers seat.number before after v u w x slot which) moves;
 }
 
 -- nothing was done
@@ -249,7 +250,7 @@ module _ (seat : SeatAt) (s t : State) (before mid after : Option Group) (v : Vi
     stands = K.stands;
     order = K.order;
     rule = K.rule;
-    moves = λ telling. let M = K.moves telling in record { fixed = M.fixed; answers = M.answers; moves = moves_seen M.fixed M.moves };
+    moves = let M = K.moves in record { fixed = M.fixed; answers = M.answers; moves = moves_seen M.fixed M.moves };
   }
 
 pub keeps_looked : (seat : SeatAt) (s t : State) (before mid after : Option Group) (v v' u : View) (w x : Worker) (xs : List Seen) → v' ≡ record v { looked = xs } → LooksMade before mid seat.number v' → KeepsTurn seat s t mid after v' u w x → KeepsTurn seat s t before after v u w x

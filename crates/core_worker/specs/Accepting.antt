@@ -11,10 +11,11 @@ use Rattle.group_laws.specs.MemberViews.{View}
 use Rattle.core_worker.specs.declared.worker.Worker.{Worker}
 use Rattle.core_worker.specs.OwnPlaces.{is_busy}
 use Rattle.core_worker.specs.Refusals.{HasAnswerRoom}
+use Rattle.core_worker.specs.Answering.{AddsAnswers}
 use Rattle.core_worker.specs.Beginning.{answers_of, OnlyBegins, Begins}
 use Rattle.core_worker.specs.Ties.{Tie, HoldsBy, StandsBy}
 use Rattle.core_worker.specs.Order.{InOrderBy}
-use Rattle.core_worker.specs.WorkerMoves.{Fixed, told, hands_of, WorkerMoves}
+use Rattle.core_worker.specs.WorkerMoves.{Fixed, hands_of, WorkerMoves}
 
 -- nothing but the room for records and answers is another one
 pub record IsAsBefore (old new : Worker) : Type 0 where
@@ -44,17 +45,21 @@ HasTie s w k = (t : Tie) × IsTied s w k t
 abbrev pub StaysTied : State → Worker → Worker → ℕ → Type 0
 StaysTied s old new k = (t : Tie) → IsTied s old k t → IsTied s new k t
 
-abbrev pub Accepts : View → Worker → Worker → ℕ → Request → Type 0
-Accepts v old new n r = (mid : Worker) × IsAsBefore old mid × Prepared old mid (key_of r)
+abbrev pub Accepts : Type 0 → View → Worker → Worker → ℕ → Request → Type 0
+Accepts Known v old new n r = (mid : Worker) × IsAsBefore old mid × Prepared old mid (key_of r)
     × (((is_busy old.places.items (key_of r) ≡ true) × AddsLast mid.queue new.queue (held_with n r) × (new ≡ record mid { queue = new.queue }))
-    ⊎ ((is_busy old.places.items (key_of r) ≡ false) × OnlyBegins mid new × Begins mid new (v.cell (key_of r)) n r))
+    ⊎ ((is_busy old.places.items (key_of r) ≡ false) × OnlyBegins mid new × Begins Known mid new (v.cell (key_of r)) n r))
 
--- by each view that the worker may be tied to, where the region tells
+-- by each view that the worker may be tied to
 abbrev pub AcceptsByEachView : State → Worker → Worker → ℕ → Request → Type 0
-AcceptsByEachView s old new n r = (t : Tie) → IsTied s old (key_of r) t → IsTelling s → Accepts t.view old new n r
+AcceptsByEachView s old new n r = (t : Tie) → IsTied s old (key_of r) t → Accepts (IsTelling s) t.view old new n r
 
--- These requests were accepted, and what was fixed with them is what the worker answers besides, wherever it is tied and whatever the state of its group: a call that makes no step.
-pub record AcceptMoves (s : State) (old new : Worker) (k : ℕ) (accepted : List (ℕ × Request)) : Type 0 where
+-- These requests were accepted where the worker is tied so, and what was fixed with them is what it answers besides, whatever the state of its group: a call that makes no step.
+pub record AcceptsAs (s : State) (old new : Worker) (t : Tie) (accepted : List (ℕ × Request)) : Type 0 where
   pub fixed : List Fixed
-  pub answers : IsTelling s → answers_of new ≡ answers_of old ++ map told fixed
-  pub moves : (t : Tie) → IsTied s old k t → IsTelling s → (a : Option Group) → WorkerMoves t.place t.number s s a a t.view t.view (hands_of t.view old) (hands_of t.view new) accepted fixed
+  pub answers : AddsAnswers (IsTelling s) (answers_of old) (answers_of new) fixed
+  pub moves : (a : Option Group) → WorkerMoves t.place t.number s s a a t.view t.view (hands_of t.view old) (hands_of t.view new) accepted fixed
+
+-- wherever it is tied
+abbrev pub AcceptMoves : State → Worker → Worker → ℕ → List (ℕ × Request) → Type 0
+AcceptMoves s old new k accepted = (t : Tie) → IsTied s old k t → AcceptsAs s old new t accepted

@@ -1,10 +1,11 @@
 -- What beginning a request does: it is answered, or a change is staged.
 use Rattle.std.specs.Prelude.{◌≡◌, ◌⊎◌, ℕ, ◌+◌, ◌<◌, Bool, true, false, List, [], ◌∷◌, ◌++◌, length, Option, Some, None}
-use Rattle.pm_region.specs.State.{State, IsTelling}
+use Rattle.pm_region.specs.State.{State}
 use Rattle.fs_model.specs.declared.model.Request.{Request}
 use Rattle.fs_model.specs.declared.model.Reply.{Reply}
 use Rattle.fs_model.specs.declared.model.Reply.TheVariants.{Stopped}
 use Rattle.core_worker.specs.Refusals.{reply_to}
+use Rattle.core_worker.specs.Answering.{IsSaid}
 use Rattle.fs_model.specs.Cells.{key_of, answer_to, is_change}
 use Rattle.log_entry.specs.declared.entry.Entry.{Entry}
 use Rattle.log_entry.specs.declared.entry.Body.{Body}
@@ -60,9 +61,9 @@ pub record KeepsTie (old new : Worker) (t : Tie) : Type 0 where
 abbrev pub KeepsTies : Worker → Worker → ℕ → Type 0
 KeepsTies old new k = (t : Tie) → IsHeldAside old k t → KeepsTie old new t
 
--- what is true by each view that it may be tied to, where the region tells
+-- what is true by each view that it may be tied to
 abbrev pub ByEachView : State → Worker → ℕ → (View → Type 0) → Type 0
-ByEachView s w k says = (t : Tie) → IsHeldAside w k t → StandsBy s t w → IsTelling s → says t.view
+ByEachView s w k says = (t : Tie) → IsHeldAside w k t → StandsBy s t w → says t.view
 
 -- one of the eight places is free
 abbrev pub HasFree : List Place → Type 0
@@ -115,43 +116,43 @@ pub record IsStaged (old new : Worker) (number : ℕ) (r : Request) : Type 0 whe
   pub block : TakesFor old new (length value) entry.body
   pub records : (k : ℕ) → known_at new.index k ≡ known_at old.index k
 
--- The request was answered by its cell, or staged where it changes something.
-abbrev pub GoesOn : Bool → Worker → Worker → Option (List ℕ) → ℕ → Request → Type 0
-GoesOn false old new cell n r = IsAnswered old new (answer_with n (answer_to r cell) None)
-GoesOn true old new cell n r = IsStaged old new n r
+-- The request was answered by its cell, as far as what the region has is known, or staged where it changes something.
+abbrev pub GoesOn : Type 0 → Bool → Worker → Worker → Option (List ℕ) → ℕ → Request → Type 0
+GoesOn Known false old new cell n r = (reply : Reply) × IsSaid Known r (answer_to r cell) reply × IsAnswered old new (answer_with n reply None)
+GoesOn Known true old new cell n r = IsStaged old new n r
 
 -- Where it is refused, that is its answer, with the first cause.
-abbrev pub BeginsBy : Option Shortage → Worker → Worker → Option (List ℕ) → ℕ → Request → Type 0
-BeginsBy (Some cause) old new cell n r = IsAnswered old new (answer_with n (reply_to cause) (Some cause))
-BeginsBy None old new cell n r = GoesOn (is_change r cell) old new cell n r
+abbrev pub BeginsBy : Type 0 → Option Shortage → Worker → Worker → Option (List ℕ) → ℕ → Request → Type 0
+BeginsBy Known (Some cause) old new cell n r = IsAnswered old new (answer_with n (reply_to cause) (Some cause))
+BeginsBy Known None old new cell n r = GoesOn Known (is_change r cell) old new cell n r
 
 -- To begin a request of a key with this cell: a core that has stopped answers so.
-abbrev pub BeginsAs : Bool → Worker → Worker → Option (List ℕ) → ℕ → Request → Type 0
-BeginsAs true old new cell n r = IsAnswered old new (answer_with n Stopped None)
-BeginsAs false old new cell n r = BeginsBy (why old.layout (supply_of old) old.allocator (last_of (known_at old.index (key_of r))) cell r) old new cell n r
+abbrev pub BeginsAs : Type 0 → Bool → Worker → Worker → Option (List ℕ) → ℕ → Request → Type 0
+BeginsAs Known true old new cell n r = IsAnswered old new (answer_with n Stopped None)
+BeginsAs Known false old new cell n r = BeginsBy Known (why old.layout (supply_of old) old.allocator (last_of (known_at old.index (key_of r))) cell r) old new cell n r
 
-abbrev pub Begins : Worker → Worker → Option (List ℕ) → ℕ → Request → Type 0
-Begins old new cell n r = BeginsAs old.stopped old new cell n r
+abbrev pub Begins : Type 0 → Worker → Worker → Option (List ℕ) → ℕ → Request → Type 0
+Begins Known old new cell n r = BeginsAs Known old.stopped old new cell n r
 
 -- nothing but the queue differs
 abbrev pub SameButQueue : Worker → Worker → Type 0
 SameButQueue old new = new ≡ record old { queue = new.queue }
 
 -- The waiting requests of a key are begun in order, until one is staged or none waits. Whoever winds down begins none.
-abbrev pub BeginsAll : List Held → Worker → Worker → Option (List ℕ) → ℕ → Type 0
-BeginsAll [] old new cell k = new ≡ old
-BeginsAll (h ∷ hs) old new cell k =
+abbrev pub BeginsAll : Type 0 → List Held → Worker → Worker → Option (List ℕ) → ℕ → Type 0
+BeginsAll Known [] old new cell k = new ≡ old
+BeginsAll Known (h ∷ hs) old new cell k =
     (next : Worker) × (mid : Worker)
-    × TakesFirst old.queue next.queue k h × SameButQueue old next × OnlyBegins next mid × Begins next mid cell h.number h.request
-    × (((is_busy mid.places.items k ≡ true) × (new ≡ mid)) ⊎ ((is_busy mid.places.items k ≡ false) × BeginsAll hs mid new cell k))
+    × TakesFirst old.queue next.queue k h × SameButQueue old next × OnlyBegins next mid × Begins Known next mid cell h.number h.request
+    × (((is_busy mid.places.items k ≡ true) × (new ≡ mid)) ⊎ ((is_busy mid.places.items k ≡ false) × BeginsAll Known hs mid new cell k))
 
 -- Some of them are begun. For the next one there was no memory: it is in hand, and the core winds down.
-abbrev pub BeginsShort : List Held → Worker → Worker → Option (List ℕ) → ℕ → Type 0
-BeginsShort [] old new cell k = ⊥
-BeginsShort (h ∷ hs) old new cell k =
+abbrev pub BeginsShort : Type 0 → List Held → Worker → Worker → Option (List ℕ) → ℕ → Type 0
+BeginsShort Known [] old new cell k = ⊥
+BeginsShort Known (h ∷ hs) old new cell k =
     (next : Worker) × TakesFirst old.queue next.queue k h × SameButQueue old next
     × ((new ≡ record next { in_hand = Some h; winds_down = true })
-    ⊎ ((mid : Worker) × OnlyBegins next mid × Begins next mid cell h.number h.request × (is_busy mid.places.items k ≡ false) × BeginsShort hs mid new cell k))
+    ⊎ ((mid : Worker) × OnlyBegins next mid × Begins Known next mid cell h.number h.request × (is_busy mid.places.items k ≡ false) × BeginsShort Known hs mid new cell k))
 
-abbrev pub BeginsWaiting : Worker → Worker → Option (List ℕ) → ℕ → Type 0
-BeginsWaiting old new cell k = BeginsAll (waiting old.queue k) old new cell k
+abbrev pub BeginsWaiting : Type 0 → Worker → Worker → Option (List ℕ) → ℕ → Type 0
+BeginsWaiting Known old new cell k = BeginsAll Known (waiting old.queue k) old new cell k

@@ -122,19 +122,19 @@ pub record IsServed (s : State) (w : Worker) (t : Tie) : Type 0 where
   pub order : InOrderBy t w
 
 -- the key's waiting requests are begun, but by a core that winds down
-abbrev pub Serves : Worker → Worker → Option (List ℕ) → ℕ → Type 0
-Serves old new cell k = ((old.winds_down ≡ true) × (new ≡ old)) ⊎ ((old.winds_down ≡ false) × BeginsWaiting old new cell k)
+abbrev pub Serves : Type 0 → Worker → Worker → Option (List ℕ) → ℕ → Type 0
+Serves Known old new cell k = ((old.winds_down ≡ true) × (new ≡ old)) ⊎ ((old.winds_down ≡ false) × BeginsWaiting Known old new cell k)
 
--- by each view that it may be tied to, where the region tells
+-- by each view that it may be tied to
 abbrev pub ServesByEachView : State → Worker → Worker → ℕ → Type 0
-ServesByEachView s old new k = (t : Tie) → IsToServe s old k t → IsTelling s → Serves old new (t.view.cell k) k
+ServesByEachView s old new k = (t : Tie) → IsToServe s old k t → Serves (IsTelling s) old new (t.view.cell k) k
 
 -- for one of them there was no memory
-abbrev pub ShortOf : Worker → Worker → Option (List ℕ) → ℕ → Type 0
-ShortOf old new cell k = (old.winds_down ≡ false) × BeginsShort (waiting old.queue k) old new cell k
+abbrev pub ShortOf : Type 0 → Worker → Worker → Option (List ℕ) → ℕ → Type 0
+ShortOf Known old new cell k = (old.winds_down ≡ false) × BeginsShort Known (waiting old.queue k) old new cell k
 
 abbrev pub ServesShort : State → Worker → Worker → ℕ → Type 0
-ServesShort s old new k = (t : Tie) → IsToServe s old k t → IsTelling s → ShortOf old new (t.view.cell k) k
+ServesShort s old new k = (t : Tie) → IsToServe s old k t → ShortOf (IsTelling s) old new (t.view.cell k) k
 
 -- What a worker with view v that was tied is with view u, once a change of the key is out of its place.
 pub record IsFreed (p : groups.Place) (m : ℕ) (v u : View) (old new : Worker) (k : ℕ) : Type 0 where
@@ -150,5 +150,5 @@ pub record FinishesSlot (s : State) (p : groups.Place) (m slot : ℕ) (v u : Vie
   pub freed : Worker
   pub takes : TakesBack p m slot v u old freed
   pub rest : OnlyServes freed new
-  pub begins : all ≡ true → IsTelling s → Serves freed new (u.cell takes.entry.key) takes.entry.key
-  pub short : all ≡ false → IsTelling s → ShortOf freed new (u.cell takes.entry.key) takes.entry.key
+  pub begins : all ≡ true → Serves (IsTelling s) freed new (u.cell takes.entry.key) takes.entry.key
+  pub short : all ≡ false → ShortOf (IsTelling s) freed new (u.cell takes.entry.key) takes.entry.key

@@ -4,6 +4,7 @@ pub mod KeyTies
 pub mod Ties
 pub mod Order
 pub mod Refusals
+pub mod Answering
 pub mod Beginning
 pub mod Serving
 pub mod Hearing

@@ -8,40 +8,21 @@ use Rattle.group_laws.specs.Places.{Place, owner}
 use Rattle.group_laws.specs.State.{Group}
 use Rattle.group_laws.specs.MemberViews.{View}
 use Rattle.group_laws.specs.Runs.{Kind, Runs}
-use Rattle.group_laws.specs.Runs.Kind.{Split, Join, Post, Lock, Look, LookMail, Take, Unlock, Commit, Mark, Finish, Fail, Withdraw, Doom, Retire, Send, Receive}
+use Rattle.group_laws.specs.Runs.Kind.{Lock}
 use Rattle.fs_errors.specs.declared.Memory.{Memory}
 use Rattle.group_board.specs.Seats.{SeatAt}
 use Rattle.group_board.specs.Told.{Makes}
 use Rattle.core_worker.specs.declared.types.Turn.{Turn}
 use Rattle.core_worker.specs.declared.types.Turn.TheVariants.{Moved, Idle}
+use Rattle.engine_laws.specs.Workers.{IsLoad}
 use Rattle.core_worker.specs.declared.worker.Worker.{Worker}
 use Rattle.core_worker.specs.Status.{has_room, is_leading}
 use Rattle.core_worker.specs.WorkerMoves.{Placed, Hands, hands_of}
 
--- a step that only loads: a look, or a try of the lock
-abbrev pub IsLoading : Kind → Type 0
-IsLoading Split = ⊥
-IsLoading Join = ⊥
-IsLoading (Post s e v) = ⊥
-IsLoading Lock = Unit {0}
-IsLoading (Look a s) = Unit {0}
-IsLoading (LookMail a b) = Unit {0}
-IsLoading (Take a s) = ⊥
-IsLoading Unlock = ⊥
-IsLoading Commit = ⊥
-IsLoading (Mark a s) = ⊥
-IsLoading (Finish s) = ⊥
-IsLoading (Fail a s) = ⊥
-IsLoading (Withdraw s) = ⊥
-IsLoading (Doom ns) = ⊥
-IsLoading (Retire ns) = ⊥
-IsLoading (Send to n) = ⊥
-IsLoading (Receive from) = ⊥
-
 -- member m made loads alone, where the state is told
 pub record LoadsOnly (before after : Option Group) (m : ℕ) : Type 0 where
   pub steps : List Kind
-  pub loads : AllByRecursion IsLoading steps
+  pub loads : AllByRecursion IsLoad steps
   pub whole : IfSome before (λ a. IsSomeAnd after (λ b. Runs a (map (λ y. (m, y)) steps) b))
 
 -- an own change is in a leader's hands, or waits for the lock that another has

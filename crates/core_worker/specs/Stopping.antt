@@ -49,8 +49,8 @@ pub record Drops (s : State) (slot : ℕ) (old new : Worker) (all : Bool) : Type
   pub freed : Worker
   pub puts : PutsAway old freed slot (pointer_of entry.body)
   pub rest : OnlyServes freed new
-  pub begins : all ≡ true → (t : Tie) → IsServed s old t → IsTelling s → Serves freed new (t.view.cell entry.key) entry.key
-  pub short : all ≡ false → (t : Tie) → IsServed s old t → IsTelling s → ShortOf freed new (t.view.cell entry.key) entry.key
+  pub begins : all ≡ true → (t : Tie) → IsServed s old t → Serves (IsTelling s) freed new (t.view.cell entry.key) entry.key
+  pub short : all ≡ false → (t : Tie) → IsServed s old t → ShortOf (IsTelling s) freed new (t.view.cell entry.key) entry.key
 
 -- the place of a key's change is put away
 abbrev pub PutsAwayKey : Worker → Worker → ℕ → Option ℕ → Type 0
@@ -86,8 +86,8 @@ pub record Withdraws (s : State) (seat : SeatAt) (before after : Option Group) (
   pub freed : Worker
   pub puts : PutsAwayKey mid freed change.entry.key (pointer_of change.entry.body)
   pub rest : OnlyServes freed new
-  pub begins : all ≡ true → IsTelling s → Serves freed new (u.cell change.entry.key) change.entry.key
-  pub short : all ≡ false → IsTelling s → ShortOf freed new (u.cell change.entry.key) change.entry.key
+  pub begins : all ≡ true → Serves (IsTelling s) freed new (u.cell change.entry.key) change.entry.key
+  pub short : all ≡ false → ShortOf (IsTelling s) freed new (u.cell change.entry.key) change.entry.key
 
 -- item 1 of a stopped core
 abbrev pub WithdrawsOrUnlocks : State → SeatAt → Option Group → Option Group → View → View → Worker → Worker → Bool → Type 0

@@ -16,6 +16,7 @@ use Rattle.batch_leader.specs.Persisting.{StaysLicensed, WritesPart}
 use Rattle.core_worker.specs.declared.types.Leading.{Leading}
 use Rattle.core_worker.specs.declared.types.Leading.TheVariants as leads
 use Rattle.core_worker.specs.declared.worker.Worker.{Worker}
+use Rattle.core_worker.specs.Answering.{AddsAnswers}
 use Rattle.core_worker.specs.Beginning.{answers_of}
 use Rattle.core_worker.specs.Supplies.{HasKeptRoom}
 use Rattle.core_worker.specs.Ties.{HoldsAt, StandsAt}
@@ -27,12 +28,12 @@ use Rattle.core_worker.specs.declared.choose_item.Choice.TheVariants.{Pass, Drop
 use Rattle.core_worker.specs.OwnPlaces.{place_at, is_staged, is_posted, IsLowest}
 use Rattle.core_worker.specs.Turns.{Moment, InOrderAt, GoesRound, PersistsOrLoses, Marks, Fails, Finishes, Posts, LosesBlock, Locks, Idles, PassesItems, PassesPost, FindsPosted}
 use Rattle.core_worker.specs.Stopping.{Drops, WithdrawsOrUnlocks}
-use Rattle.core_worker.specs.WorkerMoves.{Fixed, told, hands_of, WorkerMoves}
+use Rattle.core_worker.specs.WorkerMoves.{Fixed, hands_of, WorkerMoves}
 
 -- What a turn fixed is what the worker answers besides, and the turn is a whole move to whoever runs several workers.
 pub record TurnMoves (seat : SeatAt) (s t : State) (before after : Option Group) (v u : View) (w x : Worker) : Type 0 where
   pub fixed : List Fixed
-  pub answers : answers_of x ≡ answers_of w ++ map told fixed
+  pub answers : AddsAnswers (IsTelling t) (answers_of w) (answers_of x) fixed
   pub moves : WorkerMoves seat.place seat.number s t before after v u (hands_of v w) (hands_of u x) [] fixed
 
 -- What a part of a turn keeps, whatever it did.
@@ -43,7 +44,7 @@ pub record KeepsTurn (seat : SeatAt) (s t : State) (before after : Option Group)
   pub stands : StandsAt t seat u x
   pub order : InOrderAt seat u x
   pub rule : x.stopped ≡ false → HasKeptRoom w → HasKeptRoom x
-  pub moves : IsTelling t → TurnMoves seat s t before after v u w x
+  pub moves : TurnMoves seat s t before after v u w x
 
 -- a batch is in hand, or changes that are to be given back
 abbrev pub HasBatch : Leading → Type 0

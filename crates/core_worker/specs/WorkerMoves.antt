@@ -1,4 +1,4 @@
--- What one call of a worker says to whoever runs several: of its own keys, of its part, and of the group's state.
+-- What a worker holds in the words of its calls: by key, what stands in a place and what waits. What one call says of it is `WorkerMoves` of `engine_laws`.
 use Rattle.std.specs.Prelude.{◌≡◌, ◌⊎◌, ℕ, ◌==◌, List, [], ◌∷◌, ◌++◌, map, Bool, true, false, Option, Some, None, option_map, option_to_list, IfSome, IsSomeAnd, if◌then◌else◌}
 use Rattle.std.specs.List.{AllByRecursion, filter}
 use Rattle.fs_model.specs.declared.model.Request.{Request}
@@ -27,18 +27,7 @@ use Rattle.core_worker.specs.declared.types.Place.TheVariants as kinds
 use Rattle.core_worker.specs.declared.worker.Worker.{Worker}
 use Rattle.core_worker.specs.OwnPlaces.{key_in, is_of, request_by, request_pending}
 use Rattle.core_worker.specs.Beginning.{answer_with}
-
--- a change in a place
-pub record Placed : Type 0 where
-  pub number : ℕ
-  pub request : Request
-  pub posted : Bool
-
--- what a worker holds, by key, and whether it has stopped
-pub record Hands : Type 0 where
-  pub place : ℕ → Option Placed
-  pub waits : ℕ → List (ℕ × Request)
-  pub stopped : Bool
+pub use Rattle.engine_laws.specs.WorkerMoves.{Placed, Hands, placed, line_in, Fixed, asked, replied, fixed_of, requests_for, HoldsKey, AnswersKey, WorkerMoves}
 
 abbrev pub placed_in : View → Place → Option Placed
 placed_in v kinds.Free = None
@@ -60,72 +49,7 @@ hands_of v w = record {
   stopped = w.stopped;
 }
 
-abbrev pub placed : Option Placed → List (ℕ × Request)
-placed None = []
-placed (Some x) = (x.number, x.request) ∷ []
-
-abbrev pub line_in : Hands → ℕ → List (ℕ × Request)
-line_in w k = placed (w.place k) ++ w.waits k
-
--- an answer that a call fixed, with its request, and with the cause of a refusal
-pub record Fixed : Type 0 where
-  pub number : ℕ
-  pub request : Request
-  pub reply : Reply
-  pub refusal : Option Shortage
-
 -- the answer that is given out
 abbrev pub told : Fixed → Answer
 told x = answer_with x.number x.reply x.refusal
 
-abbrev pub asked : Fixed → ℕ × Request
-asked x = (x.number, x.request)
-
-abbrev pub replied : Fixed → Request × Reply
-replied x = (x.request, x.reply)
-
-abbrev pub fixed_of : ℕ → List Fixed → List Fixed
-fixed_of k xs = filter (λ x. key_of x.request == k) xs
-
-abbrev pub requests_for : ℕ → List (ℕ × Request) → List (ℕ × Request)
-requests_for k xs = filter (λ x. key_of x.1 == k) xs
-
--- What a worker keeps of an own key between calls.
-pub record HoldsKey (v : View) (w : Hands) (k : ℕ) : Type 0 where
-  pub posted : (x : Placed) → w.place k ≡ Some x → x.posted ≡ true
-      → (is_change x.request (v.cell k) ≡ true) × ((p : Pending) × (s : ℕ) × (v.pending k ≡ Some p) × (p.slot ≡ Some s) × (left_in v.blocks p.entry.body ≡ cell_after x.request (v.cell k)))
-  pub pending : (p : Pending) → v.pending k ≡ Some p → ((x : Placed) × (w.place k ≡ Some x) × (x.posted ≡ true)) ⊎ ((p.slot ≡ None) × (w.place k ≡ None) × (w.stopped ≡ true))
-
--- What a call does for an own key.
-pub record AnswersKey (v u : View) (w x : Hands) (k : ℕ) (accepted : List (ℕ × Request)) (fixed : List Fixed) : Type 0 where
-  -- first come, first answered
-  pub order : line_in w k ++ accepted ≡ map asked fixed ++ line_in x k
-  -- the replies are those of the cell
-  pub lawful : IsLawfulFor (v.cell k) false (map replied fixed)
-  pub cell : cell_of (v.cell k) (map replied fixed) ≡ u.cell k
-  -- a core that has stopped, and has nothing of the key in a place, answers it Stopped
-  pub after_stop : w.stopped ≡ true → w.place k ≡ None → AllByRecursion (λ y. y.reply ≡ Stopped) fixed × (x.place k ≡ None)
-  pub stops : (y : Fixed) → In y fixed → y.reply ≡ Stopped → (x.stopped ≡ true) × (x.place k ≡ None)
-  -- a posted change stays as it is, or is the first that is answered
-  pub posted : (y : Placed) → w.place k ≡ Some y → y.posted ≡ true
-      → ((fixed ≡ []) × (x.place k ≡ Some y))
-      ⊎ ((r : Reply) × (rest : List Fixed) × (fixed ≡ record { number = y.number; request = y.request; reply = r; refusal = None } ∷ rest) × ((is_finish r ≡ true) ⊎ (r ≡ Stopped)))
-  -- a change in doubt was so before, or was posted and is answered Stopped
-  pub doubt : (d : Entry) → u.pending k ≡ Some (record { entry = d; slot = None })
-      → (v.pending k ≡ Some (record { entry = d; slot = None }))
-      ⊎ ((y : Placed) × (rest : List Fixed) × (s : ℕ) × (w.place k ≡ Some y) × (y.posted ≡ true) × (v.pending k ≡ Some (record { entry = d; slot = Some s }))
-      × (fixed ≡ record { number = y.number; request = y.request; reply = Stopped; refusal = None } ∷ rest) × (left_in u.blocks d.body ≡ left_in v.blocks d.body))
-
--- One call of the worker of member m: of the region from s to t, of the group's state where it is told, of the view from v to u, and of what it holds.
-pub record WorkerMoves (p : places.Place) (m : ℕ) (s t : State) (before after : Option Group) (v u : View) (w x : Hands) (accepted : List (ℕ × Request)) (fixed : List Fixed) : Type 0 where
-  pub outside : During s t (KeepsOutside (cell_now s) (part_at p m) (part_end p m))
-  pub moments : During s t (Licensed p m v)
-  pub exit : IsTelling t → Licensed p m u (cell_now t)
-  pub steps : List Kind
-  pub whole : IfSome before (λ a. IsSomeAnd after (λ b. Runs a (map (λ y. (m, y)) steps) b))
-  pub own : (y : Fixed) → In y fixed → places.owner p (key_of y.request) ≡ m
-  pub keys : (k : ℕ) → places.owner p k ≡ m → AnswersKey v u w x k (requests_for k accepted) (fixed_of k fixed)
-  pub holds : (k : ℕ) → places.owner p k ≡ m → HoldsKey u x k
-  pub stops : x.stopped ≡ true → (w.stopped ≡ true) ⊎ (Rose s.faults t.faults ⊎ IfSome before (λ a. (n : ℕ) × (d : Entry) × (a.slot m n ≡ Failed d)))
-  pub breaks : u.broken ≡ true → x.stopped ≡ true
-  pub stays_stopped : w.stopped ≡ true → x.stopped ≡ true

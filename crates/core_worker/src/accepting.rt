@@ -83,6 +83,7 @@ impl Worker {
         ensures most { OnOk result (left self.new ≤ left self.old + most) }
         ensures starts { StartsFirst self.old → StartsFirst self.new }
         ensures works { self.new.winds_down ≡ self.old.winds_down }
+        ensures runs { self.new.stopped ≡ self.old.stopped }
     {
         let key = key_of(&request);
         if !self.prepare(alloc, key) {

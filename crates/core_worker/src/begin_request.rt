@@ -15,6 +15,7 @@ ghost use Rattle.core_worker.specs.Supplies.{supply_of, HasKeptRoom, why, why_pu
 ghost use Rattle.core_room.specs.RoomRule.{lacks_room};
 ghost use Rattle.core_room.specs.Lengths.{lines_needed};
 ghost use Rattle.core_worker.specs.Refusals.{HasAnswerRoom};
+ghost use Rattle.core_worker.specs.Answering.{IsSaid};
 ghost use Rattle.core_worker.specs.Beginning.{answer_with, HasFree, IsAside, StandsAside, KeepsTies, ByEachView, OnlyStages, OnlyBegins, IsStaged, Begins};
 ghost use Rattle.core_worker.specs.Ties.{LeadsNothing};
 ghost use Rattle.core_worker.specs.Serving.{KeepsLine, LeadsNothingYet};
@@ -91,7 +92,8 @@ impl Worker {
         requires tied { StandsAside (R.state region.now) self.now key }
         requires runs { self.now.stopped ≡ false }
         ensures { IfOk result (λ reply. ByEachView (R.state region.now) self.now key
-            (λ v. reply ≡ answer_to (requests.Get key) (v.cell key))) }
+            (λ v. IsSaid (IsTelling (R.state region.now)) (requests.Get key)
+            (answer_to (requests.Get key) (v.cell key)) reply)) }
     {
         match self.index.look(key) {
             Look::Unknown => Ok(Reply::Absent),
@@ -228,7 +230,8 @@ impl Worker {
         requires live { is_some (live_version (known_at self.old.index (key_of request))) ≡ live }
         ensures keeps { OnOk result (KeepsTies self.old self.new (key_of request)) }
         ensures begins { OnOk result (ByEachView (R.state region.now) self.old (key_of request)
-            (λ v. Begins self.old self.new (v.cell (key_of request)) number request)) }
+            (λ v. Begins (IsTelling (R.state region.now)) self.old self.new
+            (v.cell (key_of request)) number request)) }
         ensures room { OnOk result ((n : ℕ) → HasAnswerRoom (n + 1) self.old
             → HasAnswerRoom n self.new) }
         ensures rule { HasKeptRoom self.old → HasKeptRoom self.new }
@@ -286,7 +289,8 @@ impl Worker {
         requires answers { HasAnswerRoom 1 self.old }
         ensures keeps { OnOk result (KeepsTies self.old self.new (key_of request)) }
         ensures begins { OnOk result (ByEachView (R.state region.now) self.old (key_of request)
-            (λ v. Begins self.old self.new (v.cell (key_of request)) number request)) }
+            (λ v. Begins (IsTelling (R.state region.now)) self.old self.new
+            (v.cell (key_of request)) number request)) }
         ensures room { OnOk result ((n : ℕ) → HasAnswerRoom (n + 1) self.old
             → HasAnswerRoom n self.new) }
         ensures rule { HasKeptRoom self.old → HasKeptRoom self.new }
@@ -329,7 +333,8 @@ impl Worker {
         requires answers { HasAnswerRoom 1 self.old }
         ensures keeps { OnOk result (KeepsTies self.old self.new (key_of request)) }
         ensures begins { OnOk result (ByEachView (R.state region.now) self.old (key_of request)
-            (λ v. Begins self.old self.new (v.cell (key_of request)) number request)) }
+            (λ v. Begins (IsTelling (R.state region.now)) self.old self.new
+            (v.cell (key_of request)) number request)) }
         ensures room { OnOk result ((n : ℕ) → HasAnswerRoom (n + 1) self.old
             → HasAnswerRoom n self.new) }
         ensures rule { HasKeptRoom self.old → HasKeptRoom self.new }

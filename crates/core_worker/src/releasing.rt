@@ -41,9 +41,11 @@ impl Worker {
         requires hand { self.old.in_hand ≡ None }
         ensures keeps { KeepsTies self.old self.new key }
         ensures begins { OnOk result (ByEachView (R.state region.now) self.old key
-            (λ v. BeginsAll (waiting self.old.queue key) self.old self.new (v.cell key) key)) }
+            (λ v. BeginsAll (IsTelling (R.state region.now)) (waiting self.old.queue key)
+            self.old self.new (v.cell key) key)) }
         ensures short { OnErr result (ByEachView (R.state region.now) self.old key
-            (λ v. BeginsShort (waiting self.old.queue key) self.old self.new (v.cell key) key)) }
+            (λ v. BeginsShort (IsTelling (R.state region.now)) (waiting self.old.queue key)
+            self.old self.new (v.cell key) key)) }
         ensures rule { HasKeptRoom self.old → HasKeptRoom self.new }
         ensures memory { OnErr result (self.new.winds_down ≡ true) }
         ensures waits { AllWait self.new }

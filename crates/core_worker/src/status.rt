@@ -77,6 +77,13 @@ impl Worker {
         self.stopped
     }
 
+    /// Whether it was told to wind down, or began to for want of memory: it accepts, begins and posts nothing more.
+    pub fn winding_down(&self) -> bool
+        ensures { result ≡ self.now.winds_down }
+    {
+        self.winds_down
+    }
+
     /// Whether a request that it accepted has no answer yet: its change stands in a place, or it waits. Answers that
     /// were fixed and not given out don't count.
     pub fn pending(&self) -> bool

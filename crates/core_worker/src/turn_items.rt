@@ -375,7 +375,7 @@ impl Worker {
             (B.view board.new) self.new }
         ensures order { InOrderAt (B.seat board.old) (B.view board.new) self.new }
         ensures rule { self.new.stopped ≡ false → HasKeptRoom self.old → HasKeptRoom self.new }
-        ensures moves { IsTelling (R.state region.new) → TurnMoves (B.seat board.old)
+        ensures moves { TurnMoves (B.seat board.old)
             (R.state region.old) (R.state region.new) (B.whole board.old) (B.whole board.new)
             (B.view board.old) (B.view board.new) self.old self.new }
         ensures turned { TurnedTo result (R.state region.old) (G.may_refuse gate.now)

@@ -24,7 +24,7 @@ use Rattle.engine_laws.specs.Engine.{Engine}
 use Rattle.engine_laws.specs.Stands.{Origin, Stands}
 use Rattle.engine_laws.specs.Promises.{AnyTurn}
 use Rattle.engine_laws.proofs.Cores.{group_low}
-use Rattle.group_engine.specs.declared.types.Answer.{Answer}
+use Rattle.core_worker.specs.declared.types.Answer.{Answer}
 use Rattle.group_engine.specs.declared.types.Stamped.{Stamped}
 use Rattle.group_engine.specs.Answers.{HavePlaces, ShowsAnswer, kept_at, stored}
 use Rattle.group_engine.specs.Calls.{AreOwn, KeepsPart, Steps, steps_of, is_idle, is_open, next_of}

@@ -19,7 +19,7 @@ use Rattle.engine_laws.specs.Engine.{Engine}
 use Rattle.engine_laws.specs.Stands.{Origin, Stands, given_to}
 use Rattle.engine_laws.proofs.Cores.{of_member}
 use Rattle.engine_laws.proofs.Begins.{gives}
-use Rattle.group_engine.specs.declared.types.Answer.{Answer}
+use Rattle.core_worker.specs.declared.types.Answer.{Answer}
 use Rattle.group_engine.specs.declared.types.Stamped.{Stamped}
 use Rattle.group_engine.specs.Answers.{ShowsAnswer, kept_at}
 use Rattle.group_engine.specs.Calls.{AreOwn}

@@ -7,7 +7,7 @@ use Rattle.store_image.specs.Facts.{In}
 use Rattle.engine_laws.specs.WorkerMoves.{Fixed}
 use Rattle.engine_laws.specs.Engine as engines
 use Rattle.engine_laws.specs.Advance.{answered}
-use Rattle.group_engine.specs.declared.types.Answer.{Answer}
+use Rattle.core_worker.specs.declared.types.Answer.{Answer}
 use Rattle.group_engine.specs.declared.types.Stamped.{Stamped}
 use Rattle.group_engine.specs.Answers.{AreGiven, IsShown, ShowsAnswer, HavePlaces, kept_at, stored}
 use Rattle.group_engine.specs.Shows.{total}

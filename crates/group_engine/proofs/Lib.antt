@@ -1,6 +1,7 @@
 mod Passing
 mod Ending
 mod Stepping
+mod Working
 mod Kept
 mod Moving
 mod Advancing

@@ -36,7 +36,7 @@ use Rattle.engine_laws.proofs.Licences.{outside_part}
 use Rattle.engine_laws.proofs.Sits.{loads_only}
 use Rattle.engine_laws.proofs.Numbers.{all_in}
 use Rattle.engine_laws.proofs.Calls.{call_stands, call_sits, call_others, call_move, call_once, call_given, call_asked}
-use Rattle.group_engine.specs.declared.types.Answer.{Answer}
+use Rattle.core_worker.specs.declared.types.Answer.{Answer}
 use Rattle.group_engine.specs.Calls.{AreOwn, Rests, KeepsPart, Steps, steps_of, is_open, next_of}
 use Rattle.group_engine.specs.Shows.{Seat}
 
@@ -139,7 +139,7 @@ module _ {W : Type 0} (hands : View → W → Hands) (answers : W → List Answe
 
   -- Where nothing moved, the core is idle.
   module _ (still : idle ≡ true) where
-    abbrev R : Rests p m (Some b) (view_of b m) (hands (view_of b m) x)
+    abbrev R : Rests p m (Some a) (Some b) (view_of b m) (hands (view_of b m) x)
     R = T.rests still
 
     mine : (k : ℕ) → owner e.layout k ≡ c → (after.place k ≡ (hands (view_of b m) x).place k) × (after.waits k ≡ (hands (view_of b m) x).waits k)

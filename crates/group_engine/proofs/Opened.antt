@@ -13,7 +13,7 @@ use Rattle.group_board.specs.Journals.{image_of, place_in, state}
 use Rattle.group_board.specs.declared.local_board.LocalBoard.{LocalBoard}
 use Rattle.engine_laws.specs.WorkerMoves.{Hands}
 use Rattle.engine_laws.specs.Stands.{Origin, opening}
-use Rattle.group_engine.specs.declared.types.Answer.{Answer}
+use Rattle.core_worker.specs.declared.types.Answer.{Answer}
 use Rattle.group_engine.specs.Shows.{Shows, AreSeated, AreOpened, AreEmpty}
 use Rattle.group_engine.proofs.Kept.{get_more}
 

@@ -7,7 +7,7 @@ use Rattle.group_laws.specs.Places.{Place}
 use Rattle.group_laws.specs.State.{Group}
 use Rattle.group_laws.specs.MemberViews.{View}
 use Rattle.engine_laws.specs.WorkerMoves.{Hands}
-use Rattle.group_engine.specs.declared.types.Answer.{Answer}
+use Rattle.core_worker.specs.declared.types.Answer.{Answer}
 use Rattle.group_engine.specs.Calls.{AreOwn, Accepts, Turns, Steps, is_idle, is_open, next_of}
 
 module _ {W : Type 0} (hands : View → W → Hands) (answers : W → List Answer) (stands : Place → ℕ → State → View → W → Type 0) (fair : Group → ℕ → W → Type 0) (room leads : W → Bool) (p : Place) (m : ℕ) where
@@ -29,10 +29,10 @@ module _ {W : Type 0} (hands : View → W → Hands) (answers : W → List Answe
   of_accept : (s : State) (a : Group) (v : View) (w x : W) (queue accepted rest : List (ℕ × Request)) → queue ≡ accepted ++ rest → fair a m w → stands p m s v w → AreOwn p m accepted
       → Accepts hands answers stands fair s w x accepted → Steps hands answers stands fair p m s s a a v v w x queue accepted rest false
   of_accept s a v w x queue accepted rest split fairly tied own A = record {
-    fixed = A.fixed;
+    fixed = (A.moves p m v tied own).fixed;
     split = split;
-    adds = A.adds;
-    moves = A.moves p m v (Some a) tied own;
+    adds = (A.moves p m v tied own).adds;
+    moves = (A.moves p m v tied own).moves (Some a);
     tied = A.tied p m v tied own;
     fairly = A.fairly a m fairly;
     loads = λ q. absurd (cc q);

@@ -17,7 +17,7 @@ use Rattle.group_laws.specs.Runs.{Kind}
 use Rattle.licence.specs.Licence.{part_at, part_end}
 use Rattle.engine_laws.specs.WorkerMoves.{Placed, Hands, Fixed, WorkerMoves}
 use Rattle.engine_laws.specs.Workers.{IsLoad}
-use Rattle.group_engine.specs.declared.types.Answer.{Answer}
+use Rattle.core_worker.specs.declared.types.Answer.{Answer}
 use Rattle.group_engine.specs.Answers.{AddsAnswers}
 
 -- each of these requests is member m's
@@ -44,21 +44,25 @@ is_open room leads w = not (leads w) && room w
 abbrev pub next_of : Bool → List (ℕ × Request) → List (ℕ × Request)
 next_of takes queue = if takes then take 1 queue else []
 
--- One call that takes requests in, and makes no step: whatever member it is, and whatever state its group is in.
-pub record Accepts {W : Type 0} (hands : View → W → Hands) (answers : W → List Answer) (stands : Place → ℕ → State → View → W → Type 0) (fair : Group → ℕ → W → Type 0) (s : State) (w x : W) (accepted : List (ℕ × Request)) : Type 0 where
+-- One call of member m with this view that takes requests in, and makes no step, whatever state its group is in.
+pub record AcceptsAs {W : Type 0} (hands : View → W → Hands) (answers : W → List Answer) (p : Place) (m : ℕ) (s : State) (v : View) (w x : W) (accepted : List (ℕ × Request)) : Type 0 where
   pub fixed : List Fixed
   pub adds : AddsAnswers (IsTelling s) (answers w) (answers x) fixed
+  pub moves : (a : Option Group) → WorkerMoves p m s s a a v v (hands v w) (hands v x) accepted fixed
+
+-- The same whatever member it is.
+pub record Accepts {W : Type 0} (hands : View → W → Hands) (answers : W → List Answer) (stands : Place → ℕ → State → View → W → Type 0) (fair : Group → ℕ → W → Type 0) (s : State) (w x : W) (accepted : List (ℕ × Request)) : Type 0 where
   pub tied : (p : Place) (m : ℕ) (v : View) → stands p m s v w → AreOwn p m accepted → stands p m s v x
-  pub moves : (p : Place) (m : ℕ) (v : View) (a : Option Group) → stands p m s v w → AreOwn p m accepted → WorkerMoves p m s s a a v v (hands v w) (hands v x) accepted fixed
+  pub moves : (p : Place) (m : ℕ) (v : View) → stands p m s v w → AreOwn p m accepted → AcceptsAs hands answers p m s v w x accepted
   pub fairly : (a : Group) (m : ℕ) → fair a m w → fair a m x
 
 -- What is left of member m where nothing moved: as `IsIdle` says it of a state of the engine.
-pub record Rests (p : Place) (m : ℕ) (after : Option Group) (u : View) (x : Hands) : Type 0 where
+pub record Rests (p : Place) (m : ℕ) (before after : Option Group) (u : View) (x : Hands) : Type 0 where
   pub holds : u.holds ≡ false
   pub taken : (a s : ℕ) → u.taken a s ≡ None
   pub placed : (k : ℕ) (y : Placed) → owner p k ≡ m → x.place k ≡ Some y → (y.posted ≡ true)
       × ((d : Pending) (s : ℕ) → u.pending k ≡ Some d → d.slot ≡ Some s
-      → IfSome after (λ b. (b.slot m s ≡ Taken) ⊎ ((e : Entry) × (h : ℕ) × (b.slot m s ≡ Posted e) × (b.holder ≡ Some h))))
+      → IfSome before (λ a. IfSome after (λ b. (b.slot m s ≡ Taken) ⊎ ((e : Entry) × (h : ℕ) × (b.slot m s ≡ Posted e) × (b.holder ≡ Some h)))))
   pub waits : (k : ℕ) → owner p k ≡ m → x.place k ≡ None → x.waits k ≡ []
 
 -- One turn of member m, from view v to u.
@@ -71,7 +75,7 @@ pub record Turns {W : Type 0} (hands : View → W → Hands) (answers : W → Li
   -- Where nothing moved, it made loads alone, holds what it held, and rests; and if nothing of it is in a place, it could have been handed a request.
   pub loads : idle ≡ true → AllByRecursion IsLoad moves.steps
   pub same : idle ≡ true → (k : ℕ) → owner p k ≡ m → ((hands u x).place k ≡ (hands v w).place k) × ((hands u x).waits k ≡ (hands v w).waits k)
-  pub rests : idle ≡ true → Rests p m after u (hands u x)
+  pub rests : idle ≡ true → Rests p m before after u (hands u x)
   pub open_for : idle ≡ true → ((k : ℕ) → owner p k ≡ m → (hands u x).place k ≡ None) → is_open room leads w ≡ true
 
 -- A step of the engine: member m accepts the next request, or makes a turn. `rest` is what its backlog still has.
@@ -84,5 +88,5 @@ pub record Steps {W : Type 0} (hands : View → W → Hands) (answers : W → Li
   pub fairly : fair b m x
   pub loads : idle ≡ true → AllByRecursion IsLoad moves.steps
   pub same : idle ≡ true → (k : ℕ) → owner p k ≡ m → ((hands u x).place k ≡ (hands v w).place k) × ((hands u x).waits k ≡ (hands v w).waits k)
-  pub rests : idle ≡ true → Rests p m (Some b) u (hands u x)
+  pub rests : idle ≡ true → Rests p m (Some a) (Some b) u (hands u x)
   pub empty : idle ≡ true → (accepted ≡ []) × (((k : ℕ) → owner p k ≡ m → (hands u x).place k ≡ None) → queue ≡ [])

@@ -1,5 +1,6 @@
 pub mod Answers
 pub mod Calls
+pub mod Working
 pub mod Shows
 pub mod Passes
 pub mod Reports

@@ -96,7 +96,12 @@ impl<W: CoreWorker> Cores for Engine<W> {
         Ok(())
     }
 
-    fn advance<R: Region>(&mut self, region: &mut R, core: u32) -> Result<bool, Memory> {
+    fn advance<R: Region>(
+        &mut self,
+        alloc: Global,
+        region: &mut R,
+        core: u32,
+    ) -> Result<bool, Memory> {
         let at = core as usize;
         let group = (core / self.layout.group) as usize;
         let member = core % self.layout.group;
@@ -104,6 +109,7 @@ impl<W: CoreWorker> Cores for Engine<W> {
             &mut self.workers[at],
             &mut self.boards[group],
             &mut self.backlogs[at],
+            alloc,
             region,
             member,
         );
@@ -141,7 +147,7 @@ impl<W: CoreWorker> Engine<W> {
     }
 
     /// Makes passes over the cores until nothing moves.
-    pub fn drain<R: Region>(&mut self, region: &mut R) -> Result<(), Memory>
+    pub fn drain<R: Region>(&mut self, alloc: Global, region: &mut R) -> Result<(), Memory>
         requires { (o : Origin) × (e : engines.Engine) × Stands o e
             × Shows W.hands W.answers W.stands W.fair W.room W.leads (λ q. q.items)
             (R.state region.old) self.old.layout self.old.workers.items self.old.boards.items
@@ -165,11 +171,16 @@ impl<W: CoreWorker> Engine<W> {
             self.new.backlogs.items self.new.answers.items f
             × DrainsOut self.old.layout.cores e f) }
     {
-        passes::drain(self, region)
+        passes::drain(self, alloc, region)
     }
 
     /// Handles the lines of an input in order, and then drains. The engine has just been opened.
-    pub fn replay<R: Region>(&mut self, region: &mut R, lines: VecDeque<Line>) -> Result<(), Memory>
+    pub fn replay<R: Region>(
+        &mut self,
+        alloc: Global,
+        region: &mut R,
+        lines: VecDeque<Line>,
+    ) -> Result<(), Memory>
         requires lines { NameCores self.old.layout.cores lines.items }
         requires opened { (o : Origin) × IsOrigin o
             × Shows W.hands W.answers W.stands W.fair W.room W.leads (λ q. q.items)
@@ -194,7 +205,7 @@ impl<W: CoreWorker> Engine<W> {
             self.new.backlogs.items self.new.answers.items f
             × Ran AnyTurn (layout_of o.found).cores lines.items (opening o) f × IsDone o f) }
     {
-        passes::replay(self, region, lines)
+        passes::replay(self, alloc, region, lines)
     }
 }
 

@@ -17,12 +17,14 @@ use fs_errors::Memory;
 use fs_model::Request;
 use group_board::{LocalBoard, LocalSeat};
 use pm_region::Region;
+use std::alloc::Global;
 use std::collections::VecDeque;
 
 // A turn of a worker at its board.
 fn turn_at<W: CoreWorker, R: Region>(
     worker: &mut W,
     board: &mut LocalBoard,
+    alloc: Global,
     region: &mut R,
     member: u32,
 ) -> Result<bool, Memory>
@@ -42,7 +44,7 @@ fn turn_at<W: CoreWorker, R: Region>(
         ≤ W.left worker.old + W.under_way (state board.old.keeper.me.0)) }
 {
     let mut seat = LocalSeat { board, member };
-    worker.turn(region, &mut seat)
+    worker.turn(alloc, region, &mut seat)
 }
 
 // Whether a worker is handed a request.
@@ -57,6 +59,7 @@ fn takes<W: CoreWorker>(worker: &W) -> bool
 fn take_in<W: CoreWorker, R: Region>(
     worker: &mut W,
     backlog: &mut VecDeque<(u64, Request)>,
+    alloc: Global,
     region: &R,
     number: u64,
     request: Request,
@@ -74,7 +77,7 @@ fn take_in<W: CoreWorker, R: Region>(
     ensures back { OnErr result (backlog.new.items ≡ (number, request) ∷ backlog.old.items) }
     ensures less { OnOk result (W.left worker.new ≤ W.left worker.old + W.most) }
 {
-    match worker.accept(region, number, request) {
+    match worker.accept(alloc, region, number, request) {
         Ok(()) => Ok(true),
         Err(refused) => {
             backlog.push_front((number, refused.request)).unwrap();
@@ -88,6 +91,7 @@ pub(crate) fn step<W: CoreWorker, R: Region>(
     worker: &mut W,
     board: &mut LocalBoard,
     backlog: &mut VecDeque<(u64, Request)>,
+    alloc: Global,
     region: &mut R,
     member: u32,
 ) -> Result<bool, Memory>
@@ -116,11 +120,11 @@ pub(crate) fn step<W: CoreWorker, R: Region>(
         + (W.most + 1) * length backlog.old.items) }
 {
     if !takes(worker) {
-        return turn_at(worker, board, region, member);
+        return turn_at(worker, board, alloc, region, member);
     }
     match backlog.pop_front() {
-        Some((number, request)) => take_in(worker, backlog, region, number, request),
-        None => turn_at(worker, board, region, member),
+        Some((number, request)) => take_in(worker, backlog, alloc, region, number, request),
+        None => turn_at(worker, board, alloc, region, member),
     }
 }
 

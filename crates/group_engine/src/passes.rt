@@ -11,6 +11,7 @@ use fs_errors::Memory;
 use fs_model::Request;
 use fs_text::Line;
 use pm_region::Region;
+use std::alloc::Global;
 use std::collections::VecDeque;
 
 /// Cores on one region that can be moved one at a time.
@@ -37,7 +38,12 @@ pub trait Cores {
         ensures cores { cores self.new ≡ cores self.old };
 
     /// Moves a core, and answers whether anything moved.
-    fn advance<R: Region>(&mut self, region: &mut R, core: u32) -> Result<bool, Memory>
+    fn advance<R: Region>(
+        &mut self,
+        alloc: Global,
+        region: &mut R,
+        core: u32,
+    ) -> Result<bool, Memory>
         requires core { core < cores self.old }
         requires shows { (e : Engine) × shows (R.state region.old) self.old e }
         ensures moved { IfOk result (λ b. Leads (shows (R.state region.old) self.old)
@@ -53,7 +59,12 @@ pub trait Cores {
 }
 
 /// Moves a core until it is idle, and answers whether anything moved.
-pub fn settle<C: Cores, R: Region>(cores: &mut C, region: &mut R, core: u32) -> Result<bool, Memory>
+pub fn settle<C: Cores, R: Region>(
+    cores: &mut C,
+    alloc: Global,
+    region: &mut R,
+    core: u32,
+) -> Result<bool, Memory>
     requires core { core < C.cores cores.old }
     requires shows { (e : Engine) × C.shows (R.state region.old) cores.old e }
     ensures failed { OnErr result (Leads (C.shows (R.state region.old) cores.old)
@@ -66,7 +77,7 @@ pub fn settle<C: Cores, R: Region>(cores: &mut C, region: &mut R, core: u32) -> 
 {
     let mut moved = false;
     loop {
-        if cores.advance(region, core)? {
+        if cores.advance(alloc, region, core)? {
             moved = true;
         } else {
             return Ok(moved);
@@ -75,7 +86,11 @@ pub fn settle<C: Cores, R: Region>(cores: &mut C, region: &mut R, core: u32) -> 
 }
 
 /// Moves each core until it is idle, by rising number, and answers whether anything moved.
-pub fn pass<C: Cores, R: Region>(cores: &mut C, region: &mut R) -> Result<bool, Memory>
+pub fn pass<C: Cores, R: Region>(
+    cores: &mut C,
+    alloc: Global,
+    region: &mut R,
+) -> Result<bool, Memory>
     requires { (e : Engine) × C.shows (R.state region.old) cores.old e }
     ensures failed { OnErr result (Leads (C.shows (R.state region.old) cores.old)
         (C.shows (R.state region.new) cores.new) (Ends (R.state region.new))) }
@@ -88,7 +103,7 @@ pub fn pass<C: Cores, R: Region>(cores: &mut C, region: &mut R) -> Result<bool, 
     let mut moved = false;
     let count = cores.count();
     for core in 0..count {
-        if settle(cores, region, core)? {
+        if settle(cores, alloc, region, core)? {
             moved = true;
         }
     }
@@ -96,7 +111,11 @@ pub fn pass<C: Cores, R: Region>(cores: &mut C, region: &mut R) -> Result<bool, 
 }
 
 /// Makes passes until nothing moves.
-pub fn drain<C: Cores, R: Region>(cores: &mut C, region: &mut R) -> Result<(), Memory>
+pub fn drain<C: Cores, R: Region>(
+    cores: &mut C,
+    alloc: Global,
+    region: &mut R,
+) -> Result<(), Memory>
     requires { (e : Engine) × C.shows (R.state region.old) cores.old e }
     ensures failed { OnErr result (Leads (C.shows (R.state region.old) cores.old)
         (C.shows (R.state region.new) cores.new) (Ends (R.state region.new))) }
@@ -104,7 +123,7 @@ pub fn drain<C: Cores, R: Region>(cores: &mut C, region: &mut R) -> Result<(), M
         (C.shows (R.state region.new) cores.new) (DrainsOut (C.cores cores.old))) }
 {
     loop {
-        if !pass(cores, region)? {
+        if !pass(cores, alloc, region)? {
             return Ok(());
         }
     }
@@ -113,6 +132,7 @@ pub fn drain<C: Cores, R: Region>(cores: &mut C, region: &mut R) -> Result<(), M
 /// Moves a core so many times.
 pub fn go<C: Cores, R: Region>(
     cores: &mut C,
+    alloc: Global,
     region: &mut R,
     core: u32,
     turns: u32,
@@ -126,7 +146,7 @@ pub fn go<C: Cores, R: Region>(
     ensures cores { OnOk result (C.cores cores.new ≡ C.cores cores.old) }
 {
     for turn in 0..turns {
-        cores.advance(region, core)?;
+        cores.advance(alloc, region, core)?;
     }
     Ok(())
 }
@@ -134,6 +154,7 @@ pub fn go<C: Cores, R: Region>(
 /// Handles the lines of an input in order, and then drains.
 pub fn replay<C: Cores, R: Region>(
     cores: &mut C,
+    alloc: Global,
     region: &mut R,
     mut lines: VecDeque<Line>,
 ) -> Result<(), Memory>
@@ -148,8 +169,8 @@ pub fn replay<C: Cores, R: Region>(
     loop {
         match lines.pop_front() {
             Some(Line::Ask(request)) => cores.give(request)?,
-            Some(Line::Go { core, turns }) => go(cores, region, core, turns)?,
-            None => return drain(cores, region),
+            Some(Line::Go { core, turns }) => go(cores, alloc, region, core, turns)?,
+            None => return drain(cores, alloc, region),
         }
     }
 }

@@ -8,14 +8,15 @@ ghost use Rattle.group_laws.specs.MemberViews.{View};
 ghost use Rattle.group_laws.specs.Invariant.{Lawful};
 ghost use Rattle.group_laws.specs.Runs.{Kind, Runs};
 ghost use Rattle.engine_laws.specs.WorkerMoves.{Hands};
-ghost use Rattle.group_engine.specs.declared.types.Answer as answers;
+ghost use Rattle.core_worker.specs.declared.types.Answer as answers;
 ghost use Rattle.group_engine.specs.Calls.{Accepts, Turns, KeepsPart, is_open, is_idle, steps_of};
 
-use crate::types::{Answer, NotAccepted};
+use core_worker::{Answer, NotAccepted};
 use fs_errors::Memory;
 use fs_model::Request;
 use group_board::Board;
 use pm_region::Region;
+use std::alloc::Global;
 
 /// The worker of one core. It serves a member of a group, whose place and number its seat at the board has.
 pub trait CoreWorker {
@@ -69,6 +70,7 @@ pub trait CoreWorker {
     /// memory for it the request comes back.
     fn accept<R: Region>(
         &mut self,
+        alloc: Global,
         region: &R,
         number: u64,
         request: Request,
@@ -83,7 +85,12 @@ pub trait CoreWorker {
         ensures less { OnOk result (left self.new ≤ left self.old + most) };
 
     /// Makes a turn, and answers whether anything moved.
-    fn turn<R: Region, B: Board>(&mut self, region: &mut R, board: &mut B) -> Result<bool, Memory>
+    fn turn<R: Region, B: Board>(
+        &mut self,
+        alloc: Global,
+        region: &mut R,
+        board: &mut B,
+    ) -> Result<bool, Memory>
         requires stands { stands (B.seat board.old).place (B.seat board.old).number
             (R.state region.old) (B.view board.old) self.old }
         requires fair { IfSome (B.whole board.old)

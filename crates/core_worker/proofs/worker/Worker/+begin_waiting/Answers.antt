@@ -8,6 +8,7 @@ use Rattle.core_worker.specs.Refusals.{HasAnswerRoom}
 use Rattle.conflict_queue.specs.declared.types.Held.{Held}
 use Rattle.conflict_queue.specs.Waiting.{waiting}
 use Rattle.core_index.specs.Index.{room_at}
+use Rattle.pm_region.specs.State.{IsTelling}
 use Rattle.core_worker.specs.declared.worker.Worker.{Worker}
 use Rattle.core_worker.specs.OwnPlaces.{is_busy}
 use Rattle.core_worker.specs.Beginning.{HasFree, HoldsAside, StandsAside, Begins, BeginsAll, BeginsShort}
@@ -59,7 +60,7 @@ returns-in-Err-clause-keeps g t c x a =
     }
 
 pub returns-then-is_busy-clause-begins : goal.returns-then-is_busy-clause-begins
-returns-then-is_busy-clause-begins g t c x a S telling =
+returns-then-is_busy-clause-begins g t c x a S =
     let v = x.view in
     let w = c.args.self.now in
     let q = c.release.new.self in
@@ -68,8 +69,8 @@ returns-then-is_busy-clause-begins g t c x a S telling =
     let fk = first_key w.queue q c.args.key h T in
     let b = c.begin.new.self in
     let u : Worker = record w { queue = q } in
-    let begun : Begins u b (v.cell c.args.key) h.number h.request = subst (λ (k : ℕ). Begins u b (v.cell k) h.number h.request) fk (c.in-Ok.ensures.begins x (taken_aside w q c.args.key h T x a) (taken_stands (g.R.Region.state c.args.region.now) x w q S) telling) in
-    subst (λ (hs : List Held). BeginsAll hs w b (v.cell c.args.key) c.args.key) (sym T.key) (u, b, T, refl, c.begin.ensures.rest, begun, inl (sym c.is_busy.ensures ∙ c.if-is_busy.true, refl))
+    let begun : Begins (IsTelling (g.R.Region.state c.args.region.now)) u b (v.cell c.args.key) h.number h.request = subst (λ (k : ℕ). Begins (IsTelling (g.R.Region.state c.args.region.now)) u b (v.cell k) h.number h.request) fk (c.in-Ok.ensures.begins x (taken_aside w q c.args.key h T x a) (taken_stands (g.R.Region.state c.args.region.now) x w q S)) in
+    subst (λ (hs : List Held). BeginsAll (IsTelling (g.R.Region.state c.args.region.now)) hs w b (v.cell c.args.key) c.args.key) (sym T.key) (u, b, T, refl, c.begin.ensures.rest, begun, inl (sym c.is_busy.ensures ∙ c.if-is_busy.true, refl))
 
 pub begin_waiting-requires : goal.begin_waiting-requires
 begin_waiting-requires g t c κs within =
@@ -141,14 +142,14 @@ returns-in-Ok-clause-begins g t c =
     let u : Worker = record w { queue = q } in
     let z = c.begin_waiting.new.self in
     let s = g.R.Region.state c.args.region.now in
-    map_ok c.begin_waiting.result _ _ (λ rest x a S telling.
+    map_ok c.begin_waiting.result _ _ (λ rest x a S.
     let v = x.view in
     let a' = taken_aside w q c.args.key h T x a in
     let S' = taken_stands s x w q S in
     let K = c.in-Ok.ensures.keeps x a' in
-    let begun : Begins u b (v.cell c.args.key) h.number h.request = subst (λ (k : ℕ). Begins u b (v.cell k) h.number h.request) fk (c.in-Ok.ensures.begins x a' S' telling) in
-    let more : BeginsAll (waiting q c.args.key) b z (v.cell c.args.key) c.args.key = subst (λ (y : List Held). BeginsAll (waiting y c.args.key) b z (v.cell c.args.key) c.args.key) (ap (λ (y : Worker). y.queue) c.begin.ensures.rest) (rest x (record { holds = K.holds; own = a.own }) (K.stands s S') telling) in
-    subst (λ (hs : List Held). BeginsAll hs w z (v.cell c.args.key) c.args.key) (sym T.key) (u, b, T, refl, c.begin.ensures.rest, begun, inr (sym c.is_busy.ensures ∙ c.if-is_busy.false, more))) c.begin_waiting.ensures.begins
+    let begun : Begins (IsTelling (g.R.Region.state c.args.region.now)) u b (v.cell c.args.key) h.number h.request = subst (λ (k : ℕ). Begins (IsTelling (g.R.Region.state c.args.region.now)) u b (v.cell k) h.number h.request) fk (c.in-Ok.ensures.begins x a' S') in
+    let more : BeginsAll (IsTelling (g.R.Region.state c.args.region.now)) (waiting q c.args.key) b z (v.cell c.args.key) c.args.key = subst (λ (y : List Held). BeginsAll (IsTelling (g.R.Region.state c.args.region.now)) (waiting y c.args.key) b z (v.cell c.args.key) c.args.key) (ap (λ (y : Worker). y.queue) c.begin.ensures.rest) (rest x (record { holds = K.holds; own = a.own }) (K.stands s S')) in
+    subst (λ (hs : List Held). BeginsAll (IsTelling (g.R.Region.state c.args.region.now)) hs w z (v.cell c.args.key) c.args.key) (sym T.key) (u, b, T, refl, c.begin.ensures.rest, begun, inr (sym c.is_busy.ensures ∙ c.if-is_busy.false, more))) c.begin_waiting.ensures.begins
 
 pub returns-in-Err-clause-rule : goal.returns-in-Err-clause-rule
 returns-in-Err-clause-rule g t c h = c.begin.ensures.rule h
@@ -209,7 +210,7 @@ returns-in-Ok-clause-order g t c x a O =
     c.begin_waiting.ensures.order x (record { holds = K.holds; own = a.own }) (order_begun x.place x.number x.view w b q c.args.key h T c.requires.hand O a.holds c.begin.ensures.rest line)
 
 pub returns-in-Err-clause-short : goal.returns-in-Err-clause-short
-returns-in-Err-clause-short g t c x a S telling =
+returns-in-Err-clause-short g t c x a S =
     let w = c.args.self.now in
     let q = c.release.new.self in
     let h = c.in-Some.held in
@@ -217,7 +218,7 @@ returns-in-Err-clause-short g t c x a S telling =
     let u : Worker = record w { queue = q } in
     let same = c.in-Err.ensures.unchanged in
     let back = c.in-Err.ensures.given_back in
-    subst (λ (hs : List Held). BeginsShort hs w (record c.begin.new.self { in_hand = Some (record { number = h.number; request = c.in-Err.back.request }); winds_down = true }) (x.view.cell c.args.key) c.args.key) (sym T.key)
+    subst (λ (hs : List Held). BeginsShort (IsTelling (g.R.Region.state c.args.region.now)) hs w (record c.begin.new.self { in_hand = Some (record { number = h.number; request = c.in-Err.back.request }); winds_down = true }) (x.view.cell c.args.key) c.args.key) (sym T.key)
     (u, T, refl, inl (λ i. record (same i) { in_hand = Some (record { number = h.number; request = back i }); winds_down = true }))
 
 pub returns-in-Ok-clause-short : goal.returns-in-Ok-clause-short
@@ -231,11 +232,11 @@ returns-in-Ok-clause-short g t c =
     let u : Worker = record w { queue = q } in
     let z = c.begin_waiting.new.self in
     let s = g.R.Region.state c.args.region.now in
-    map_err c.begin_waiting.result _ _ (λ rest x a S telling.
+    map_err c.begin_waiting.result _ _ (λ rest x a S.
     let v = x.view in
     let a' = taken_aside w q c.args.key h T x a in
     let S' = taken_stands s x w q S in
     let K = c.in-Ok.ensures.keeps x a' in
-    let begun : Begins u b (v.cell c.args.key) h.number h.request = subst (λ (k : ℕ). Begins u b (v.cell k) h.number h.request) fk (c.in-Ok.ensures.begins x a' S' telling) in
-    let more : BeginsShort (waiting q c.args.key) b z (v.cell c.args.key) c.args.key = subst (λ (y : List Held). BeginsShort (waiting y c.args.key) b z (v.cell c.args.key) c.args.key) (ap (λ (y : Worker). y.queue) c.begin.ensures.rest) (rest x (record { holds = K.holds; own = a.own }) (K.stands s S') telling) in
-    subst (λ (hs : List Held). BeginsShort hs w z (v.cell c.args.key) c.args.key) (sym T.key) (u, T, refl, inr (b, c.begin.ensures.rest, begun, sym c.is_busy.ensures ∙ c.if-is_busy.false, more))) c.begin_waiting.ensures.short
+    let begun : Begins (IsTelling (g.R.Region.state c.args.region.now)) u b (v.cell c.args.key) h.number h.request = subst (λ (k : ℕ). Begins (IsTelling (g.R.Region.state c.args.region.now)) u b (v.cell k) h.number h.request) fk (c.in-Ok.ensures.begins x a' S') in
+    let more : BeginsShort (IsTelling (g.R.Region.state c.args.region.now)) (waiting q c.args.key) b z (v.cell c.args.key) c.args.key = subst (λ (y : List Held). BeginsShort (IsTelling (g.R.Region.state c.args.region.now)) (waiting y c.args.key) b z (v.cell c.args.key) c.args.key) (ap (λ (y : Worker). y.queue) c.begin.ensures.rest) (rest x (record { holds = K.holds; own = a.own }) (K.stands s S')) in
+    subst (λ (hs : List Held). BeginsShort (IsTelling (g.R.Region.state c.args.region.now)) hs w z (v.cell c.args.key) c.args.key) (sym T.key) (u, T, refl, inr (b, c.begin.ensures.rest, begun, sym c.is_busy.ensures ∙ c.if-is_busy.false, more))) c.begin_waiting.ensures.short

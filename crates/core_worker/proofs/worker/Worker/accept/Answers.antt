@@ -22,7 +22,7 @@ returns-in-Ok-clause-ties g c =
     c.in-Ok.ensures.added P.answers c.requires.works (room_node c.args.self.now c.prepare.new.self B c.requires.room)
 
 pub returns-in-Ok-clause-accepts : goal.returns-in-Ok-clause-accepts
-returns-in-Ok-clause-accepts g c x T telling =
+returns-in-Ok-clause-accepts g c x T =
     let P = c.prepare.ensures.ready c.if-not-prepare.false in
     let B = c.prepare.ensures.before in (
       c.prepare.new.self,
@@ -74,7 +74,7 @@ pub returns-then-not-prepare-clause-stays : goal.returns-then-not-prepare-clause
 returns-then-not-prepare-clause-stays g c = back_moves (g.R.Region.state c.args.region.now) c.args.self.now c.prepare.new.self (key_of c.args.request) c.prepare.ensures.before (returns-then-not-prepare-clause-ties g c)
 
 pub returns-in-Ok-clause-moves : goal.returns-in-Ok-clause-moves
-returns-in-Ok-clause-moves g c = accept_moves (g.R.Region.state c.args.region.now) c.args.self.now (record c.prepare.new.self { queue = c.hold.new.self }) c.args.number c.args.request c.requires.works c.requires.tied (returns-in-Ok-clause-ties g c) (returns-in-Ok-clause-accepts g c)
+returns-in-Ok-clause-moves g c = accept_moves (g.R.Region.state c.args.region.now) c.args.self.now (record c.prepare.new.self { queue = c.hold.new.self }) c.args.number c.args.request c.requires.works (returns-in-Ok-clause-ties g c) (returns-in-Ok-clause-accepts g c)
 
 pub returns-in-Err-clause-stays : goal.returns-in-Err-clause-stays
 returns-in-Err-clause-stays g c =
@@ -83,7 +83,7 @@ returns-in-Err-clause-stays g c =
     absurd (omega (arith, full, few))
 
 pub returns-clause-moves : goal.returns-clause-moves
-returns-clause-moves g c = ok_accepts c.begin.result (g.R.Region.state c.args.region.now) c.args.self.now c.begin.new.self c.args.number c.args.request c.requires.works c.requires.tied (returns-clause-ties g c) (returns-clause-accepts g c)
+returns-clause-moves g c = ok_accepts c.begin.result (g.R.Region.state c.args.region.now) c.args.self.now c.begin.new.self c.args.number c.args.request c.requires.works (returns-clause-ties g c) (returns-clause-accepts g c)
 
 pub returns-clause-stays : goal.returns-clause-stays
 returns-clause-stays g c = err_accepts c.begin.result (g.R.Region.state c.args.region.now) c.args.self.now c.prepare.new.self c.begin.new.self (key_of c.args.request) (returns-clause-ties g c) c.prepare.ensures.before c.begin.ensures.unchanged

@@ -16,6 +16,7 @@ use Rattle.fs_model.specs.declared.model.Request.TheVariants as requests
 use Rattle.core_worker.proofs.Beginnings.{begins_staged, answered_holds, answered_stands, staged_busy, staged_keeps, answered_busy}
 use Rattle.core_worker.proofs.Serving.{line_answered, line_staged}
 use Rattle.core_worker.proofs.LeftWorkers.{staged_way}
+use Rattle.pm_region.specs.State.{IsTelling}
 use Rattle.core_worker.proofs.worker.Worker.begin_unrefused.Goals as goal
 
 pub returns-in-Ok-clause-keeps : goal.returns-in-Ok-clause-keeps
@@ -67,23 +68,23 @@ pub returns-then-live-clause-keeps : goal.returns-then-live-clause-keeps
 returns-then-live-clause-keeps g c t h = c.stage_delete.ensures.keeps t (record { holds = h.holds; own = ap (owner t.place) (ap key_of (sym c.in-Delete.is)) ∙ h.own })
 
 pub returns-in-Put-clause-begins : goal.returns-in-Put-clause-begins
-returns-in-Put-clause-begins g c t h S telling =
+returns-in-Put-clause-begins g c t h S =
     let w = c.args.self.now in
     let u = c.stage_put.new.self in
     let r = c.args.request in
     let cell = t.view.cell (key_of r) in
     let live = live_is t.place t.number t.view w h.holds c.requires.runs (key_of r) h.own ∙ c.requires.live in
-    begins_staged w u cell c.args.number r c.requires.runs _ (c.requires.why cell live) refl (ap (λ (q : Request). is_change q cell) c.in-Put.is)
+    begins_staged (IsTelling (g.R.Region.state c.args.region.now)) w u cell c.args.number r c.requires.runs _ (c.requires.why cell live) refl (ap (λ (q : Request). is_change q cell) c.in-Put.is)
     (subst (λ (q : Request). IsStaged w u c.args.number q) (sym c.in-Put.is) c.stage_put.ensures.staged)
 
 pub returns-then-live-clause-begins : goal.returns-then-live-clause-begins
-returns-then-live-clause-begins g c t h S telling =
+returns-then-live-clause-begins g c t h S =
     let w = c.args.self.now in
     let u = c.stage_delete.new.self in
     let r = c.args.request in
     let cell = t.view.cell (key_of r) in
     let live = live_is t.place t.number t.view w h.holds c.requires.runs (key_of r) h.own ∙ c.requires.live in
-    begins_staged w u cell c.args.number r c.requires.runs _ (c.requires.why cell live) refl (ap (λ (q : Request). is_change q cell) c.in-Delete.is ∙ deletes c.in-Delete.key cell (live ∙ c.if-live.true))
+    begins_staged (IsTelling (g.R.Region.state c.args.region.now)) w u cell c.args.number r c.requires.runs _ (c.requires.why cell live) refl (ap (λ (q : Request). is_change q cell) c.in-Delete.is ∙ deletes c.in-Delete.key cell (live ∙ c.if-live.true))
     (subst (λ (q : Request). IsStaged w u c.args.number q) (sym c.in-Delete.is) c.stage_delete.ensures.staged)
 
 pub returns-in-Ok-clause-rule : goal.returns-in-Ok-clause-rule

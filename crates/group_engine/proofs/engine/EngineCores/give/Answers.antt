@@ -1,4 +1,4 @@
-use Rattle.std.proofs.Common.{rules, ◌≡◌, ℕ, ◌+◌, ◌%◌, ◌<◌, List, [], ◌∷◌, ◌++◌, None, refl, sym, ◌∙◌, ap, subst, length, slice_set, arith}
+use Rattle.std.proofs.Common.{rules, ◌≡◌, ◌%◌, ◌<◌, [], ◌∷◌, ◌++◌, None, sym, ◌∙◌, ap, subst, length, slice_set, arith}
 use Rattle.chunk_map.specs.Layouts.{owner}
 use Rattle.chunk_map.proofs.LayoutLaws.{numbers_of}
 use Rattle.group_engine.specs.Shows.{Shows}

@@ -1,0 +1,48 @@
+-- A turn as the engine reads it.
+use Rattle.std.proofs.Common.{◌<◌, ◌≤◌, ◌+◌, refl, sym, ◌∙◌}
+use Rattle.std.specs.Prelude.{IsSomeAnd}
+use Rattle.core_worker.specs.Left.{left, under_way, StartsFirst}
+use Rattle.group_engine.proofs.Working.{no_turn, moved, idled, if_fair, idle_is, lowers_is, not_more_is}
+use Rattle.group_engine.proofs.worker.WorkerCoreWorker.turn.Goals as goal
+
+pub returns-then-winding_down-clause-turns : goal.returns-then-winding_down-clause-turns
+returns-then-winding_down-clause-turns g c =
+    let b = c.args.board.now in
+    no_turn (g.B.Board.seat b).place (g.B.Board.seat b).number (g.R.Region.state c.args.region.now) (g.B.Board.whole b) (g.B.Board.view b) c.args.self.now c.requires.stands c.requires.fair
+
+pub returns-in-Ok-Moved-clause-turns : goal.returns-in-Ok-Moved-clause-turns
+returns-in-Ok-Moved-clause-turns g c =
+    let b = c.args.board.now in
+    let d = c.turn.new.board in
+    let e = c.turn.ensures in
+    moved (g.B.Board.seat b) (g.R.Region.state c.args.region.now) (g.R.Region.state c.turn.new.region) (g.B.Board.whole b) (g.B.Board.whole d) (g.B.Board.view b) (g.B.Board.view d) c.args.self.now c.turn.new.self
+    c.requires.stands e.holds e.stands e.order e.rule e.moves e.starts
+
+pub returns-in-Err-clause-turns : goal.returns-in-Err-clause-turns
+returns-in-Err-clause-turns g c =
+    let b = c.args.board.now in
+    let d = c.turn.new.board in
+    let e = c.turn.ensures in
+    moved (g.B.Board.seat b) (g.R.Region.state c.args.region.now) (g.R.Region.state c.turn.new.region) (g.B.Board.whole b) (g.B.Board.whole d) (g.B.Board.view b) (g.B.Board.view d) c.args.self.now c.turn.new.self
+    c.requires.stands e.holds e.stands e.order e.rule e.moves e.starts
+
+pub returns-in-Ok-Idle-clause-turns : goal.returns-in-Ok-Idle-clause-turns
+returns-in-Ok-Idle-clause-turns g c =
+    let b = c.args.board.now in
+    let d = c.turn.new.board in
+    let e = c.turn.ensures in
+    let works = sym c.winding_down.ensures ∙ c.if-winding_down.false in
+    idled (g.B.Board.seat b) (g.R.Region.state c.args.region.now) (g.R.Region.state c.turn.new.region) (g.B.Board.whole b) (g.B.Board.whole d) (g.B.Board.view b) (g.B.Board.view d) c.args.self.now c.turn.new.self
+    c.requires.stands e.holds e.stands e.order e.rule e.moves e.starts works (idle_is c.in-Ok-Idle.field-0 _ c.in-Ok-Idle.field-0-is c.in-Ok-Idle.ensures.idles refl works)
+
+pub returns-in-Ok-Moved-clause-less : goal.returns-in-Ok-Moved-clause-less
+returns-in-Ok-Moved-clause-less g c on =
+    let b = c.args.board.now in
+    let d = c.turn.new.board in
+    if_fair (g.B.Board.whole b) (StartsFirst c.args.self.now) (λ a. IsSomeAnd (g.B.Board.whole d) (λ e. left c.turn.new.self + under_way e < left c.args.self.now + under_way a)) c.requires.fair (λ starts. lowers_is (g.B.Board.whole b) (g.B.Board.whole d) c.args.self.now c.turn.new.self c.in-Ok-Moved.field-0 c.in-Ok-Moved.field-0-is (c.in-Ok-Moved.ensures.less c.requires.stands.rule starts))
+
+pub returns-in-Ok-Idle-clause-idle : goal.returns-in-Ok-Idle-clause-idle
+returns-in-Ok-Idle-clause-idle g c off =
+    let b = c.args.board.now in
+    let d = c.turn.new.board in
+    if_fair (g.B.Board.whole b) (StartsFirst c.args.self.now) (λ a. IsSomeAnd (g.B.Board.whole d) (λ e. left c.turn.new.self + under_way e ≤ left c.args.self.now + under_way a)) c.requires.fair (λ starts. not_more_is (g.B.Board.whole b) (g.B.Board.whole d) c.args.self.now c.turn.new.self c.in-Ok-Idle.field-0 c.in-Ok-Idle.field-0-is (c.in-Ok-Idle.ensures.less c.requires.stands.rule starts))

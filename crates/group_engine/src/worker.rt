@@ -1,0 +1,86 @@
+// The worker of one core, as the engine asks for it.
+use crate::worker_calls::CoreWorker;
+use core_worker::{Answer, NotAccepted, OpenGate, Turn, Worker};
+use fs_errors::Memory;
+use fs_model::Request;
+use group_board::Board;
+use pm_region::Region;
+use std::alloc::Global;
+
+// In a replay nothing holds a worker back. One that winds down is moved no more: what it was to do found no memory.
+impl CoreWorker for Worker {
+    ghost use Rattle.core_worker.specs.Beginning.{answers_of};
+    ghost use Rattle.core_worker.specs.WorkerMoves.{hands_of};
+    ghost use Rattle.core_worker.specs.Left as measure;
+    ghost use Rattle.group_engine.specs.Working as working;
+    ghost use Rattle.core_worker.proofs.Aside.{stands_aside};
+
+    ghost hands = { hands_of };
+
+    ghost answers = { answers_of };
+
+    ghost stands = { working.IsMember };
+
+    ghost fair = { measure.fair };
+
+    ghost room = { working.may_take };
+
+    ghost leads = { working.leads };
+
+    ghost left = { measure.left };
+
+    ghost under_way = { measure.under_way };
+
+    ghost most = { measure.most };
+
+    fn has_room(&self) -> bool {
+        !self.winding_down() && Worker::has_room(self)
+    }
+
+    fn leading(&self) -> bool {
+        Worker::leading(self)
+    }
+
+    fn stopped(&self) -> bool {
+        Worker::stopped(self)
+    }
+
+    fn next_answer(&mut self) -> Option<Answer> {
+        Worker::next_answer(self)
+    }
+
+    fn accept<R: Region>(
+        &mut self,
+        alloc: Global,
+        region: &R,
+        number: u64,
+        request: Request,
+    ) -> Result<(), NotAccepted> {
+        Worker::accept(self, alloc, region, number, request)
+    }
+
+    fn turn<R: Region, B: Board>(
+        &mut self,
+        alloc: Global,
+        region: &mut R,
+        board: &mut B,
+    ) -> Result<bool, Memory> {
+        if self.winding_down() {
+            return Err(Memory);
+        }
+        match Worker::turn(self, alloc, region, board, &OpenGate) {
+            Ok(Turn::Moved) => Ok(true),
+            Ok(Turn::Idle) => Ok(false),
+            Err(memory) => Err(memory),
+        }
+    }
+
+    ghost apart = { λ p m s t v w aside tied. record {
+      holds = tied.holds;
+      stands = stands_aside s t p m v w tied.holds tied.stands aside;
+      order = tied.order;
+      rule = tied.rule;
+    } };
+
+    ghost beside = { λ a e m n kinds w lawful runs other starts. starts };
+}
