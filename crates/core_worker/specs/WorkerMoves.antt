@@ -52,4 +52,3 @@ hands_of v w = record {
 -- the answer that is given out
 abbrev pub told : Fixed → Answer
 told x = answer_with x.number x.reply x.refusal
-

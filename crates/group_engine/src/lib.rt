@@ -5,9 +5,9 @@ pub mod engine;
 mod engine_step;
 pub mod open_boards;
 pub mod passes;
+mod real_worker;
 pub mod run_report;
 #[cfg(test)]
 mod tests;
 pub mod types;
-mod worker;
 pub mod worker_calls;

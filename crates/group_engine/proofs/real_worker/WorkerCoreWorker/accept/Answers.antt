@@ -2,7 +2,7 @@
 use Rattle.fs_model.specs.Cells.{key_of}
 use Rattle.std.proofs.Common.{refl}
 use Rattle.group_engine.proofs.Working.{open_parts, has_tie, ok_takes, err_takes}
-use Rattle.group_engine.proofs.worker.WorkerCoreWorker.accept.Goals as goal
+use Rattle.group_engine.proofs.real_worker.WorkerCoreWorker.accept.Goals as goal
 
 pub accept-requires-clause-tied : goal.accept-requires-clause-tied
 accept-requires-clause-tied g c = has_tie (g.R.Region.state c.args.region.now) c.args.self.now (key_of c.args.request) c.requires.stands

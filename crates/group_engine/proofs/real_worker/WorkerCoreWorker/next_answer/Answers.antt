@@ -5,7 +5,7 @@ use Rattle.core_worker.specs.WorkerMoves.{hands_of}
 use Rattle.group_engine.specs.Calls.{is_open}
 use Rattle.group_engine.specs.Working.{may_take, leads}
 use Rattle.group_engine.proofs.Working.{given_member}
-use Rattle.group_engine.proofs.worker.WorkerCoreWorker.next_answer.Goals as goal
+use Rattle.group_engine.proofs.real_worker.WorkerCoreWorker.next_answer.Goals as goal
 
 pub returns-clause-hands : goal.returns-clause-hands
 returns-clause-hands c v = ap (hands_of v) c.next_answer.ensures.rest

@@ -3,7 +3,7 @@ use Rattle.std.proofs.Common.{◌<◌, ◌≤◌, ◌+◌, refl, sym, ◌∙◌}
 use Rattle.std.specs.Prelude.{IsSomeAnd}
 use Rattle.core_worker.specs.Left.{left, under_way, StartsFirst}
 use Rattle.group_engine.proofs.Working.{no_turn, moved, idled, if_fair, idle_is, lowers_is, not_more_is}
-use Rattle.group_engine.proofs.worker.WorkerCoreWorker.turn.Goals as goal
+use Rattle.group_engine.proofs.real_worker.WorkerCoreWorker.turn.Goals as goal
 
 pub returns-then-winding_down-clause-turns : goal.returns-then-winding_down-clause-turns
 returns-then-winding_down-clause-turns g c =
