@@ -9,5 +9,5 @@ pub mod run_report;
 #[cfg(test)]
 mod tests;
 pub mod types;
-mod worker;
+pub mod worker;
 pub mod worker_calls;
