@@ -1,33 +1,26 @@
 -- A worker that is opened on what recovery found is seated in the first state of a run.
-use Rattle.std.proofs.Common.{◌≡◌, ℕ, ◌==◌, Bool, true, false, not, ◌&&◌, List, [], ◌∷◌, ◌++◌, map, Option, Some, None, Result, Ok, Err, IfOk, refl, sym, ◌∙◌, ap, subst}
+use Rattle.std.proofs.Common.{◌==◌, not, ◌&&◌, ◌++◌, map, Result, Ok, Err, IfOk, refl, sym}
 use Rattle.std.specs.Prelude.{option_to_list}
 use Rattle.std.specs.List.{filter}
 use Rattle.fs_model.specs.Cells.{key_of}
 use Rattle.pm_region.specs.State.{State}
 use Rattle.chunk_map.specs.declared.layouts.Geometry.{Geometry}
-use Rattle.chunk_map.specs.Layouts.{layout_of, owner}
-use Rattle.conflict_queue.specs.declared.types.Held.{Held}
+use Rattle.chunk_map.specs.Layouts.{layout_of}
 use Rattle.conflict_queue.specs.Waiting.{waiting}
 use Rattle.recover.specs.declared.types.CoreStart.{CoreStart}
-use Rattle.group_laws.specs.Places.{Place}
-use Rattle.group_laws.specs.MemberViews.{View}
 use Rattle.group_laws.specs.Regions.{place_at}
 use Rattle.engine_laws.specs.Parts.{group_of, member_of}
-use Rattle.engine_laws.specs.Stands.{Origin, opening}
 use Rattle.core_worker.specs.declared.worker.Worker.{Worker}
-use Rattle.core_worker.specs.Beginning.{answers_of}
-use Rattle.core_worker.specs.Left.{fair}
-use Rattle.core_worker.specs.Openings.{IsNew, IsStartAt, IsCertainAt, ByEachImage, opened_view}
+use Rattle.core_worker.specs.Openings.{IsNew, IsCertainAt, ByEachImage, opened_view}
 use Rattle.core_worker.specs.Order.{InOrder}
 use Rattle.core_worker.specs.Supplies.{HasKeptRoom}
 use Rattle.core_worker.specs.Ties.{Holds, Stands}
-use Rattle.core_worker.specs.WorkerMoves.{asked_by, hands_of}
+use Rattle.core_worker.specs.WorkerMoves.{asked_by}
 use Rattle.core_worker.proofs.Clients.{new_room, new_idle}
 use Rattle.core_worker.proofs.HandKeys.{none_for}
 use Rattle.core_worker.proofs.LeftFair.{starts_nothing}
 use Rattle.core_worker.proofs.Starting.{free_busy}
-use Rattle.group_engine.specs.Shows.{Seat}
-use Rattle.group_engine.specs.Working.{IsMember, may_take, leads, SeatsFirst}
+use Rattle.group_engine.specs.Working.{SeatsFirst}
 
 pub seats_first : (start : CoreStart) (layout : Geometry) (w : Worker) → IsNew start layout w → HasKeptRoom w
     → ByEachImage start layout (λ p m image. Holds p m (opened_view p m image) w)
