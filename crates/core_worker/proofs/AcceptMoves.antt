@@ -1,5 +1,5 @@
 -- Accepting a request is a whole move to whoever runs several workers.
-use Rattle.std.proofs.Common.{◌≡◌, ◌≢◌, inl, inr, ⊎_elim, ℕ, ◌==◌, Bool, true, false, cond, List, [], ◌∷◌, ◌++◌, map, Option, Some, None, Result, Ok, Err, OnOk, OnErr, refl, sym, ◌∙◌, ap, subst, append-nil}
+use Rattle.std.proofs.Common.{◌≡◌, ◌≢◌, inl, inr, ⊎_elim, ℕ, ◌==◌, Bool, true, false, cond, List, [], ◌∷◌, ◌++◌, map, Option, Some, None, Result, Ok, Err, OnOk, OnErr, refl, sym, ◌∙◌, ap, subst}
 use Rattle.std.specs.Prelude.{Vec, option_to_list}
 use Rattle.std.specs.Global.{Global}
 use Rattle.std.specs.List.{filter}
@@ -24,7 +24,6 @@ use Rattle.conflict_queue.specs.Waiting.{waiting, AddsLast, held_with}
 use Rattle.core_index.specs.Index.{known_at}
 use Rattle.core_index.specs.Records.{last_of}
 use Rattle.group_laws.specs.Places.{owner}
-use Rattle.group_laws.specs.State.{Group}
 use Rattle.store_image.specs.Facts.{In}
 use Rattle.core_worker.specs.declared.types.Answer.{Answer}
 use Rattle.core_worker.specs.declared.types.Place as places
@@ -38,7 +37,7 @@ use Rattle.core_worker.proofs.Given.{said_same, given_by, adds_none, adds_one, a
 use Rattle.core_worker.specs.Beginning.{answers_of, answer_with, OnlyBegins, IsAnswered, IsStaged, GoesOn, BeginsBy, BeginsAs, Begins}
 use Rattle.core_worker.specs.Ties.{Tie}
 use Rattle.core_worker.specs.Accepting.{IsAsBefore, IsTied, StaysTied, Accepts, AcceptsByEachView, AcceptsAs, AcceptMoves}
-use Rattle.core_worker.specs.WorkerMoves.{Fixed, told, placed_in, placed_for, asked_by, hands_of, requests_for, fixed_of, AnswersKey, WorkerMoves}
+use Rattle.core_worker.specs.WorkerMoves.{Fixed, placed_in, placed_for, asked_by, hands_of, requests_for, fixed_of, AnswersKey}
 use Rattle.core_worker.proofs.HandKeys.{none_for}
 use Rattle.core_worker.proofs.HandPlaces.{held_at, held_beside}
 use Rattle.core_worker.proofs.Pointers.{free_is}

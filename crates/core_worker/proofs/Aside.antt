@@ -1,5 +1,5 @@
 -- What leaves the words of the own part keeps the ties to the region.
-use Rattle.std.proofs.Common.{◌≡◌, ◌⊎◌, inl, inr, ⊎_elim, ℕ, ◌+◌, ◌*◌, ◌^◌, ◌≤◌, ◌<◌, false, Some, sym, ◌∙◌, subst, arith}
+use Rattle.std.proofs.Common.{◌≡◌, ℕ, ◌+◌, ◌*◌, ◌^◌, ◌≤◌, ◌<◌, false, Some, sym, ◌∙◌, subst, arith}
 use Rattle.pm_region.specs.State.{State, Frame, IsTelling, cell_now, During}
 use Rattle.pm_region.specs.Words.{Kept, Surely}
 use Rattle.pm_region.specs.Cell.{Cell}

@@ -1,5 +1,5 @@
 -- Answers that go out, and those that were fixed.
-use Rattle.std.proofs.Common.{◌≡◌, ◌≢◌, ◌⊎◌, inl, inr, ⊎_elim, ℕ, List, [], ◌∷◌, ◌++◌, Bool, true, false, Option, Some, None, refl, sym, ◌∙◌, ap, subst, append-nil, append_assoc}
+use Rattle.std.proofs.Common.{◌≡◌, ◌⊎◌, inl, ⊎_elim, ℕ, List, [], ◌∷◌, ◌++◌, true, false, Option, Some, None, refl, sym, ◌∙◌, ap, append-nil, append_assoc}
 use Rattle.fs_model.specs.declared.model.Request.{Request}
 use Rattle.fs_model.specs.declared.model.Request.TheVariants.{Put, Get, Delete}
 use Rattle.fs_model.specs.declared.model.Reply.{Reply}
@@ -8,8 +8,7 @@ use Rattle.fs_model.specs.Cells.{answer_to, is_change}
 use Rattle.fs_model.specs.Lawful.{is_finish, is_told}
 use Rattle.core_room.specs.declared.types.Shortage.{Shortage}
 use Rattle.core_worker.specs.declared.types.Answer.{Answer}
-use Rattle.core_worker.specs.Refusals.{reply_to}
-use Rattle.core_worker.specs.Answering.{IsCause, IsSaid, IsGiven, AreGiven, AddsAnswers}
+use Rattle.core_worker.specs.Answering.{IsCause, IsSaid, IsGiven, AddsAnswers}
 use Rattle.core_worker.specs.Beginning.{answer_with}
 use Rattle.core_worker.specs.WorkerMoves.{Fixed}
 

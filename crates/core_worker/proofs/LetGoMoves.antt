@@ -1,5 +1,5 @@
 -- A change is let go and what waits of its key is begun: a whole move to whoever runs several workers.
-use Rattle.std.proofs.Common.{◌≡◌, ◌≢◌, ◌⊎◌, inl, inr, ⊎_elim, ℕ, ◌==◌, ◌||◌, Bool, true, false, cond, List, [], ◌∷◌, ◌++◌, map, Option, Some, None, refl, sym, ◌∙◌, ap, subst, arith, append-nil, append_assoc}
+use Rattle.std.proofs.Common.{◌≡◌, ◌≢◌, ◌⊎◌, inl, inr, ⊎_elim, ℕ, ◌==◌, ◌||◌, Bool, true, false, cond, List, [], ◌∷◌, ◌++◌, map, Option, Some, None, refl, sym, ◌∙◌, ap, subst, arith, append-nil}
 use Rattle.std.specs.Prelude.{option_map, option_to_list, IfSome}
 use Rattle.std.specs.List.{filter}
 use Rattle.std.proofs.lemmas.Bool.{cases_eq, eq-eqb, ne_eqb}
@@ -25,7 +25,6 @@ use Rattle.group_laws.specs.Steps.{bytes_of}
 use Rattle.group_laws.specs.MemberViews.{View}
 use Rattle.group_board.specs.Views.{left_in}
 use Rattle.licence.specs.Licence.{Licensed, part_at, part_end}
-use Rattle.core_worker.specs.declared.types.Answer.{Answer}
 use Rattle.core_worker.specs.declared.types.Place as places
 use Rattle.core_worker.specs.declared.types.Place.TheVariants.{Free, Staged, Posted}
 use Rattle.core_worker.specs.declared.worker.Worker.{Worker}
@@ -39,7 +38,7 @@ use Rattle.core_worker.proofs.Given.{said_same, given_by, adds_then, ends_untold
 use Rattle.core_worker.specs.Finishing.{Serves, ShortOf}
 use Rattle.core_worker.specs.Turning.{TurnMoves}
 use Rattle.group_board.specs.Seats.{SeatAt}
-use Rattle.core_worker.specs.WorkerMoves.{Placed, Fixed, told, replied, placed, line_in, placed_in, placed_for, asked_by, hands_of, fixed_of, AnswersKey, WorkerMoves}
+use Rattle.core_worker.specs.WorkerMoves.{Placed, Fixed, replied, placed, line_in, placed_in, placed_for, asked_by, hands_of, fixed_of, AnswersKey, WorkerMoves}
 use Rattle.core_worker.proofs.HandKeys.{holds_key}
 use Rattle.core_worker.proofs.HandPlaces.{held_at, held_beside}
 use Rattle.core_worker.proofs.Posts.{busy_has}

@@ -10,7 +10,7 @@ mod PostedBlocks
 mod BlockStands
 mod BlockPosts
 mod BlockClear
-mod HandKeys
+pub mod HandKeys
 pub mod Aside
 mod QuietMoves
 pub mod KeyMoves
@@ -64,7 +64,7 @@ mod LeftBacks
 mod LetGoMoves
 mod FinishMoves
 mod StopMoves
-mod LeftFair
+pub mod LeftFair
 mod RestingLoads
 mod RestingSlots
 mod RestingPlaces
@@ -74,6 +74,6 @@ mod LeftTurns
 mod StartKeys
 pub mod StartBlocks
 mod StartHeads
-mod Starting
+pub mod Starting
 pub mod Clients
 mod Trials

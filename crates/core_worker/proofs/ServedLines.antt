@@ -1,5 +1,5 @@
 -- What beginning the waiting requests of a key does to its line.
-use Rattle.std.proofs.Common.{◌≡◌, ◌≢◌, ◌⊎◌, inl, inr, ⊎_elim, ℕ, ◌==◌, ◌||◌, Bool, true, false, cond, List, [], ◌∷◌, ◌++◌, map, Option, Some, None, refl, sym, ◌∙◌, ap, subst, append-nil, append_assoc}
+use Rattle.std.proofs.Common.{◌≡◌, ◌≢◌, ◌⊎◌, inl, inr, ⊎_elim, ℕ, ◌==◌, ◌||◌, Bool, true, false, cond, List, [], ◌∷◌, ◌++◌, map, Option, Some, None, refl, sym, ◌∙◌, ap, subst}
 use Rattle.std.specs.Prelude.{option_to_list}
 use Rattle.std.specs.List.{AllByRecursion, filter}
 use Rattle.std.proofs.lemmas.Bool.{cases_eq, eq-eqb, ne_eqb}
@@ -15,7 +15,6 @@ use Rattle.conflict_queue.specs.Waiting.{waiting, TakesFirst}
 use Rattle.core_index.specs.Index.{known_at}
 use Rattle.core_index.specs.Records.{last_of}
 use Rattle.group_laws.specs.MemberViews.{View}
-use Rattle.core_worker.specs.declared.types.Answer.{Answer}
 use Rattle.core_worker.specs.declared.types.Place as places
 use Rattle.core_worker.specs.declared.types.Place.TheVariants.{Free, Staged}
 use Rattle.core_worker.specs.declared.worker.Worker.{Worker}
@@ -25,7 +24,7 @@ use Rattle.core_worker.specs.Refusals.{reply_to}
 use Rattle.core_worker.specs.Answering.{IsCause, IsSaid, AddsAnswers}
 use Rattle.core_worker.proofs.Given.{said_same, given_by, adds_none, adds_then, answer_untold}
 use Rattle.core_worker.specs.Beginning.{answers_of, answer_with, OnlyBegins, IsAnswered, IsStaged, GoesOn, BeginsBy, BeginsAs, Begins, BeginsAll, BeginsShort}
-use Rattle.core_worker.specs.WorkerMoves.{Placed, Fixed, told, asked, replied, placed, placed_in, placed_for, asked_by}
+use Rattle.core_worker.specs.WorkerMoves.{Placed, Fixed, asked, replied, placed, placed_in, placed_for, asked_by}
 use Rattle.core_worker.proofs.AcceptMoves.{not_stopped, left_by_refusal, may_refuse_for, still_left, still_runs}
 use Rattle.core_worker.proofs.HandKeys.{none_for}
 use Rattle.core_worker.proofs.HandPlaces.{held_at, held_beside}

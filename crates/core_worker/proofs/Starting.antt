@@ -56,7 +56,7 @@ free_lines : (ps : List places.Place) → ((s : ℕ) → place_at ps s ≡ Free)
 free_lines [] free = refl
 free_lines (p ∷ ps) free = (let first = ap lines_in (free 0) in let rest = free_lines ps (λ s. free (suc s)) in omega (arith, first, rest))
 
-free_busy : (ps : List places.Place) → ((s : ℕ) → place_at ps s ≡ Free) → (k : ℕ) → is_busy ps k ≡ false
+pub free_busy : (ps : List places.Place) → ((s : ℕ) → place_at ps s ≡ Free) → (k : ℕ) → is_busy ps k ≡ false
 free_busy [] free k = refl
 free_busy (p ∷ ps) free k = subst (λ (x : places.Place). is_busy (x ∷ ps) k ≡ false) (sym (free 0)) (free_busy ps (λ s. free (suc s)) k)
 

@@ -1,6 +1,6 @@
 -- What every part of a turn keeps, and what a whole turn did.
 use Rattle.fs_errors.specs.declared.Memory.{Memory}
-use Rattle.std.specs.Prelude.{Result, Ok, Err, ◌≡◌, ℕ, ◌<◌, Bool, true, false, List, [], ◌++◌, map, Option, Some, IfSome, IsSomeAnd}
+use Rattle.std.specs.Prelude.{Result, Ok, Err, ◌≡◌, ℕ, ◌<◌, Bool, true, false, List, [], map, Option, Some, IfSome, IsSomeAnd}
 use Rattle.pm_region.specs.State.{State, IsTelling}
 use Rattle.group_laws.specs.State.{Group, shown}
 use Rattle.group_laws.specs.Runs.{Kind}

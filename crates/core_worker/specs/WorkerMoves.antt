@@ -1,26 +1,11 @@
 -- What a worker holds in the words of its calls: by key, what stands in a place and what waits. What one call says of it is `WorkerMoves` of `engine_laws`.
-use Rattle.std.specs.Prelude.{◌≡◌, ◌⊎◌, ℕ, ◌==◌, List, [], ◌∷◌, ◌++◌, map, Bool, true, false, Option, Some, None, option_map, option_to_list, IfSome, IsSomeAnd, if◌then◌else◌}
-use Rattle.std.specs.List.{AllByRecursion, filter}
+use Rattle.std.specs.Prelude.{ℕ, ◌==◌, List, [], ◌∷◌, ◌++◌, map, true, false, Option, Some, None, option_map, option_to_list, if◌then◌else◌}
+use Rattle.std.specs.List.{filter}
 use Rattle.fs_model.specs.declared.model.Request.{Request}
-use Rattle.fs_model.specs.declared.model.Reply.{Reply}
-use Rattle.fs_model.specs.declared.model.Reply.TheVariants.{Stopped}
-use Rattle.fs_model.specs.Cells.{key_of, cell_after, is_change}
-use Rattle.fs_model.specs.Lawful.{IsLawfulFor, cell_of, is_finish}
-use Rattle.pm_region.specs.State.{State, During, IsTelling, cell_now, Rose}
-use Rattle.pm_region.specs.Words.{KeepsOutside}
-use Rattle.log_entry.specs.declared.entry.Entry.{Entry}
-use Rattle.store_image.specs.Facts.{In}
+use Rattle.fs_model.specs.Cells.{key_of}
 use Rattle.conflict_queue.specs.declared.types.Held.{Held}
 use Rattle.conflict_queue.specs.Waiting.{waiting}
-use Rattle.group_laws.specs.declared.types.Pending.{Pending}
-use Rattle.group_laws.specs.declared.types.Slot.TheVariants.{Failed}
-use Rattle.group_laws.specs.Places as places
-use Rattle.group_laws.specs.State.{Group}
-use Rattle.group_laws.specs.Runs.{Kind, Runs}
 use Rattle.group_laws.specs.MemberViews.{View}
-use Rattle.group_board.specs.Views.{left_in}
-use Rattle.licence.specs.Licence.{Licensed, part_at, part_end}
-use Rattle.core_room.specs.declared.types.Shortage.{Shortage}
 use Rattle.core_worker.specs.declared.types.Answer.{Answer}
 use Rattle.core_worker.specs.declared.types.Place.{Place}
 use Rattle.core_worker.specs.declared.types.Place.TheVariants as kinds

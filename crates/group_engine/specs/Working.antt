@@ -3,7 +3,18 @@ use Rattle.std.specs.Prelude.{◌≡◌, ℕ, Bool, false, not, ◌&&◌}
 use Rattle.pm_region.specs.State.{State}
 use Rattle.group_laws.specs.Places.{Place}
 use Rattle.group_laws.specs.MemberViews.{View}
+use Rattle.chunk_map.specs.declared.layouts.Geometry.{Geometry}
+use Rattle.chunk_map.specs.Layouts.{layout_of}
+use Rattle.recover.specs.declared.types.CoreStart.{CoreStart}
+use Rattle.group_laws.specs.Regions.{place_at}
+use Rattle.engine_laws.specs.Parts.{group_of, member_of}
+use Rattle.engine_laws.specs.Stands.{Origin, opening}
 use Rattle.core_worker.specs.declared.worker.Worker.{Worker}
+use Rattle.core_worker.specs.Beginning.{answers_of}
+use Rattle.core_worker.specs.Left.{fair}
+use Rattle.core_worker.specs.Openings.{IsStartAt, IsCertainAt}
+use Rattle.core_worker.specs.WorkerMoves.{hands_of}
+use Rattle.group_engine.specs.Shows.{Seat}
 use Rattle.core_worker.specs.Status.{has_room, is_leading}
 use Rattle.core_worker.specs.Supplies.{HasKeptRoom}
 use Rattle.core_worker.specs.Ties.{Holds, Stands}
@@ -22,3 +33,10 @@ may_take w = not w.winds_down && has_room w
 
 abbrev pub leads : Worker → Bool
 leads w = is_leading w.leading
+
+-- On each words found of which the start is that of a core, in a region that certainly has them in the core's part, the worker is seated in the first state of a run.
+abbrev pub SeatsFirst : CoreStart → Geometry → Worker → Type 0
+SeatsFirst start layout w = (o : Origin) (c : ℕ) → layout ≡ layout_of o.found
+    → IsStartAt (place_at (layout_of o.found) (group_of (layout_of o.found) c)) (member_of (layout_of o.found) c) o.found start
+    → IsCertainAt o.region (place_at (layout_of o.found) (group_of (layout_of o.found) c)) (member_of (layout_of o.found) c) o.found start
+    → Seat hands_of answers_of IsMember fair may_take leads (opening o) c w

@@ -5,7 +5,7 @@ pub mod engine;
 mod engine_step;
 pub mod open_boards;
 pub mod passes;
-mod real_worker;
+pub mod real_worker;
 pub mod run_report;
 #[cfg(test)]
 mod tests;

@@ -1,10 +1,16 @@
 // The worker of one core, as the engine asks for it.
+ghost use Rattle.std.specs.Prelude.{IfOk};
+ghost use Rattle.core_worker.specs.Openings.{IsNew};
+ghost use Rattle.group_engine.specs.Working.{SeatsFirst};
+
 use crate::worker_calls::CoreWorker;
+use chunk_map::Layout;
 use core_worker::{Answer, NotAccepted, OpenGate, Turn, Worker};
 use fs_errors::Memory;
 use fs_model::Request;
 use group_board::Board;
 use pm_region::Region;
+use recover::CoreStart;
 use std::alloc::Global;
 
 // In a replay nothing holds a worker back. One that winds down is moved no more: what it was to do found no memory.
@@ -83,4 +89,13 @@ impl CoreWorker for Worker {
     } };
 
     ghost beside = { λ a e m n kinds w lawful runs other starts. starts };
+}
+
+/// The worker of a core that recovery found so, in the region's layout: it is seated in the first state of a run on what
+/// was found.
+pub fn open_worker(alloc: Global, start: CoreStart, layout: Layout) -> Result<Worker, Memory>
+    ensures new { IfOk result (IsNew start layout) }
+    ensures seated { IfOk result (SeatsFirst start layout) }
+{
+    Worker::open(alloc, start, layout)
 }

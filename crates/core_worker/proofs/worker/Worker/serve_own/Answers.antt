@@ -19,7 +19,6 @@ use Rattle.core_worker.proofs.LeftTurns.{view_agrees}
 use Rattle.core_worker.specs.Left.{HasOffer}
 use Rattle.core_worker.specs.Resting.{IfIdle, TriedIf}
 use Rattle.core_worker.proofs.Rested.{Agrees, rests_by}
-use Rattle.group_laws.specs.MemberViews.{View}
 use Rattle.core_worker.proofs.worker.Worker.serve_own.Goals as goal
 
 pub take_back-requires-clause-holds : goal.take_back-requires-clause-holds

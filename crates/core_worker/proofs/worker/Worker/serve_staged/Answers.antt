@@ -4,8 +4,8 @@ use Rattle.std.specs.Prelude.{is_ok}
 use Rattle.core_worker.specs.Turning.Did.{drops}
 use Rattle.core_worker.proofs.TurnLaws.{posts_did}
 use Rattle.core_worker.proofs.ItemLaws.{keeps_drop}
-use Rattle.core_worker.proofs.LeftTurns.{dropped_starts, posted_starts}
-use Rattle.core_worker.proofs.LeftItems.{posts_lower, lowers_still}
+use Rattle.core_worker.proofs.LeftTurns.{posted_starts}
+use Rattle.core_worker.proofs.LeftItems.{posts_lower}
 use Rattle.std.proofs.Common.{arith}
 use Rattle.core_worker.proofs.worker.Worker.serve_staged.Goals as goal
 
