@@ -21,7 +21,6 @@ mod QuietItems
 mod PostMoves
 mod SearchLaws
 mod TurnLaws
-mod Resting
 mod RefusalLaws
 mod Gains
 mod Pointers

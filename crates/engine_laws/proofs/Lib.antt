@@ -15,6 +15,7 @@ mod Workers
 mod Advance
 pub mod Sits
 pub mod Calls
+pub mod Ceasing
 mod Drained
 pub mod Kept
 pub mod Beginning

@@ -8,6 +8,7 @@ pub mod Stands
 pub mod Reports
 pub mod Ran
 pub mod Idle
+pub mod Ceasing
 pub mod Promises
 pub mod Workers
 pub mod Advance

@@ -24,6 +24,7 @@ ghost use Rattle.engine_laws.specs.Stands.{Origin, Stands, given_to, opening};
 ghost use Rattle.engine_laws.specs.Reports.{replies_from};
 ghost use Rattle.engine_laws.specs.Promises.{IsOrigin, Promised, IsDone, AnyMove, AnyTurn};
 ghost use Rattle.engine_laws.specs.Ran.{Ran, asked_in};
+ghost use Rattle.engine_laws.specs.Ceasing.{IsResting, Halts, AllRest, HasCeased};
 ghost use Rattle.engine_laws.specs.Workers.{Sits, IsLoad};
 ghost use Rattle.engine_laws.specs.Advance.{Calls, moved_to};
 ghost use Rattle.engine_laws.specs.KeyLaw.{KeyView, Holds, Does, KeyIs};
@@ -105,6 +106,15 @@ pub fn every_replay()
 pub fn every_drain()
     ensures { (o : Origin) (lines : List Line) (e : Engine) → IsOrigin o
         → Ran AnyTurn (layout_of o.found).cores lines (opening o) e → IsDone o e }
+{}
+
+/// A core that rests does so while a turn of another one makes loads alone; where each does, all that was posted or
+/// taken is finished. Whether a core accepts the next request is no part of what stands.
+pub fn every_rest()
+    ensures stays { (e f : Engine) (c d : ℕ) → Halts e f c → IsResting e d → IsResting f d }
+    ensures ceased { (o : Origin) (e : Engine) → Stands o e → AllRest e → HasCeased e }
+    ensures takes { (o : Origin) (e : Engine) (t : ℕ → Bool) → Stands o e
+        → Stands o (record e { takes = t }) }
 {}
 
 /// Of one key by itself: what a call does for it keeps where the key is.

@@ -11,3 +11,4 @@ mod Opened
 mod Reporting
 mod Outcomes
 mod Stopping
+mod Winding

@@ -13,13 +13,14 @@ use pm_region::Region;
 use recover::CoreStart;
 use std::alloc::Global;
 
-// In a replay nothing holds a worker back. One that winds down is moved no more: what it was to do found no memory.
+// In a replay nothing holds a worker back.
 impl CoreWorker for Worker {
     ghost use Rattle.core_worker.specs.Beginning.{answers_of};
     ghost use Rattle.core_worker.specs.WorkerMoves.{hands_of};
     ghost use Rattle.core_worker.specs.Left as measure;
     ghost use Rattle.group_engine.specs.Working as working;
     ghost use Rattle.core_worker.proofs.Aside.{stands_aside};
+    ghost use Rattle.group_engine.proofs.Working.{open_parts};
 
     ghost hands = { hands_of };
 
@@ -32,6 +33,8 @@ impl CoreWorker for Worker {
     ghost room = { working.may_take };
 
     ghost leads = { working.leads };
+
+    ghost winds = { λ w. w.winds_down };
 
     ghost left = { measure.left };
 
@@ -65,15 +68,16 @@ impl CoreWorker for Worker {
         Worker::accept(self, alloc, region, number, request)
     }
 
+    fn wind_down(&mut self) {
+        Worker::wind_down(self);
+    }
+
     fn turn<R: Region, B: Board>(
         &mut self,
         alloc: Global,
         region: &mut R,
         board: &mut B,
     ) -> Result<bool, Memory> {
-        if self.winding_down() {
-            return Err(Memory);
-        }
         match Worker::turn(self, alloc, region, board, &OpenGate) {
             Ok(Turn::Moved) => Ok(true),
             Ok(Turn::Idle) => Ok(false),
@@ -87,6 +91,8 @@ impl CoreWorker for Worker {
       order = tied.order;
       rule = tied.rule;
     } };
+
+    ghost wakes = { λ w e. (open_parts w e).1.0 };
 
     ghost beside = { λ a e m n kinds w lawful runs other starts. starts };
 }
