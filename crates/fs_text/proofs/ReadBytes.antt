@@ -1,5 +1,5 @@
 -- What is said of the bytes that were read is said of all that a source told.
-use Rattle.std.proofs.Common.{◌≡◌, ℕ, ◌<◌, ◌⊎◌, inl, inr, List, [], ◌++◌, length, Option, Some, None, Result, Ok, Err, sym, ap, ◌∙◌, subst, arith, append-nil, true}
+use Rattle.std.proofs.Common.{◌≡◌, ℕ, ◌<◌, ◌⊎◌, inl, inr, List, [], ◌++◌, length, Option, Some, None, Result, Ok, Err, sym, ap, ◌∙◌, subst, arith, append-nil}
 use Rattle.std.specs.Prelude.{IfSome, OnOk}
 use Rattle.fs_text.specs.declared.line.Line.{Line}
 use Rattle.fs_text.specs.declared.input.InputError.{InputError}

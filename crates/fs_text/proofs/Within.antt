@@ -1,5 +1,5 @@
 -- The lines of an input are within the rules.
-use Rattle.std.proofs.Common.{◌≡◌, ℕ, suc, ◌+◌, ◌-◌, ◌≤◌, ◌⊎◌, inl, inr, Bool, true, false, List, [], ◌∷◌, length, Option, Some, None, Result, Ok, Err, refl, sym, ap, ◌∙◌, cond, subst, arith}
+use Rattle.std.proofs.Common.{◌≡◌, ℕ, suc, ◌+◌, ◌-◌, ◌≤◌, ◌⊎◌, inl, inr, Bool, true, false, List, [], ◌∷◌, length, Option, Some, None, Result, Ok, Err, refl, sym, ◌∙◌, cond, subst, arith}
 use Rattle.std.specs.Prelude.{IfSome, IfOk, nat_le, ◌==◌, ◌&&◌, bytes_eq, codes}
 use Rattle.std.specs.List.{AllByRecursion, filter_map, sum_by}
 use Rattle.std.proofs.lemmas.List.Sums.{sum_by-cons}
