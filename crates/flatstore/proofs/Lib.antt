@@ -11,4 +11,6 @@ pub mod Openings
 pub mod Forms
 pub mod Emptiness
 pub mod Listed
+pub mod Shown
+pub mod Spelled
 pub mod Stocks
