@@ -63,7 +63,7 @@ slot_of p m u w H k y is posted = by (is_busy w.places.items k) refl where
       here (Posted number key lines) e =
           let own : key ≡ k = key_is (sym (ap key_in e) ∙ b.2) in
           let placed : IsPlaced p m u b.0 (Posted number key lines) = subst (IsPlaced p m u b.0) e (H.placed b.0 lt) in
-          (b.0, lt, ap is_posted e, placed.0, subst (λ n. u.pending n ≡ Some (record { entry = placed.0; slot = Some b.0 })) own placed.1) where
+          (b.0, lt, ap is_posted e, (placed.0, subst (λ n. u.pending n ≡ Some (record { entry = placed.0; slot = Some b.0 })) own placed.1)) where
             key_is : Some key ≡ Some k → key ≡ k
             key_is q = cc q
 
