@@ -1,5 +1,5 @@
 -- Which workers wind down, and what that leaves of the state that is shown.
-use Rattle.std.proofs.Common.{◌≡◌, ◌≢◌, ℕ, zero, suc, ◌+◌, ◌<◌, ◌≤◌, List, Option, [], ◌∷◌, length, Bool, true, false, Some, slice_set, slice_index_or, refl, sym, ◌∙◌, ap, subst, arith, Result, Ok, Err, OnOk, OnErr, ⊎_elim}
+use Rattle.std.proofs.Common.{◌≡◌, ◌≢◌, inl, inr, ℕ, zero, suc, ◌+◌, ◌<◌, ◌≤◌, List, Option, [], ◌∷◌, length, Bool, true, false, Some, slice_set, slice_index_or, refl, sym, ◌∙◌, ap, subst, arith, Result, Ok, Err, OnOk, OnErr, ⊎_elim}
 use Rattle.std.specs.List.{slice_get}
 use Rattle.std.proofs.lemmas.Bool.{cases_eq, cases_lt}
 use Rattle.fs_errors.specs.declared.Memory.{Memory}
@@ -48,7 +48,7 @@ module _ {W : Type 0} (winds : W → Bool) where
   sure_of ws c w w_is (Ok b) awake = tt
   sure_of ws c w w_is (Err e) awake = λ u at. ap winds (sym (at_is ws c w u at w_is)) ∙ awake
 
-module _ {W Q : Type 0} (hands : View → W → Hands) (answers : W → List Answer) (stands : Place → ℕ → State → View → W → Type 0) (fair : Group → ℕ → W → Type 0) (room leads winds : W → Bool) (queue : Q → List (ℕ × Request)) where
+module _ {W : Type 0} (hands : View → W → Hands) (answers : W → List Answer) (stands : Place → ℕ → State → View → W → Type 0) (fair : Group → ℕ → W → Type 0) (room leads winds : W → Bool) where
   -- all workers wind down
   pub all_wind : (old new : List W) → length new ≡ length old → EachWinds hands answers stands fair room leads winds (length old) old new → AllWind winds new
   all_wind old new count E c x at = (E.below c x (there new c x at count) at).2.is where
@@ -61,7 +61,7 @@ module _ {W Q : Type 0} (hands : View → W → Hands) (answers : W → List Ans
     there new c x at count = (let r = within new c x at in omega (arith, r, count))
 
   -- and they show the state in which none accepts a request
-  module _ (o : Origin) (e : Engine) (S : Stands o e) (s : State) (l : Geometry) (old new : List W) (bs : List LocalBoard) (qs : List Q) (ks : List (Option Stamped)) (H : Shows hands answers stands fair room leads queue s l old bs qs ks e)
+  module _ {Q : Type 0} (queue : Q → List (ℕ × Request)) (o : Origin) (e : Engine) (S : Stands o e) (s : State) (l : Geometry) (old new : List W) (bs : List LocalBoard) (qs : List Q) (ks : List (Option Stamped)) (H : Shows hands answers stands fair room leads queue s l old bs qs ks e)
       (count : length new ≡ length old) (E : EachWinds hands answers stands fair room leads winds (length old) old new) where
     abbrev f : Engine
     f = record e { takes = λ c. false }
@@ -111,11 +111,11 @@ module _ {W Q : Type 0} (hands : View → W → Hands) (answers : W → List Ans
   none_yet ws = record { below = λ c x low. absurd (omega (arith, low)); above = λ c high. refl }
 
   pub one_more : (c : ℕ) (old now : List W) (w x : W) → c < length now → EachWinds hands answers stands fair room leads winds c old now → w ≡ slice_index_or now c w → WindsDown hands answers stands fair room leads winds w x → EachWinds hands answers stands fair room leads winds (c + 1) old (slice_set now c x)
-  one_more c old now w x there E w_is D = record {
+  one_more c old now w x within E w_is D = record {
     below = λ d z low at. elim (cases_eq d c) [
       | inl same ↦
           let z_is : z ≡ x = set_same now c x z (sym (ap (λ n. slice_get (slice_set now c x) n) same) ∙ at) in
-          let was : slice_get old d ≡ Some w = ap (slice_get old) same ∙ sym (E.above c (omega arith)) ∙ get_there now c w there ∙ ap Some (sym w_is) in
+          let was : slice_get old d ≡ Some w = ap (slice_get old) same ∙ sym (E.above c (omega arith)) ∙ get_there now c w within ∙ ap Some (sym w_is) in
           (w, was, subst (WindsDown hands answers stands fair room leads winds w) (sym z_is) D)
       | inr other ↦ E.below d z (omega (arith, low, other)) (sym (set_other now c d x other) ∙ at)
     ];

@@ -246,8 +246,8 @@ pub fn cease_pass<C: Cores, R: Region>(cores: &mut C, alloc: Global, region: &mu
     ensures idle { result ≡ false → C.left cores.new ≤ C.left cores.old }
 {
     let mut moved = false;
-    let count = cores.count();
-    for core in 0..count {
+    let all = cores.count();
+    for core in 0..all {
         if cease_core(cores, alloc, region, core) {
             moved = true;
         }

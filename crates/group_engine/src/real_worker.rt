@@ -18,9 +18,11 @@ impl CoreWorker for Worker {
     ghost use Rattle.core_worker.specs.Beginning.{answers_of};
     ghost use Rattle.core_worker.specs.WorkerMoves.{hands_of};
     ghost use Rattle.core_worker.specs.Left as measure;
+    ghost use Rattle.core_worker.specs.Status as status;
     ghost use Rattle.group_engine.specs.Working as working;
     ghost use Rattle.core_worker.proofs.Aside.{stands_aside};
-    ghost use Rattle.group_engine.proofs.Working.{open_parts};
+    ghost use Rattle.std.specs.Prelude.{not};
+    ghost use Rattle.std.proofs.lemmas.Bool.{and_parts, not-true};
 
     ghost hands = { hands_of };
 
@@ -92,7 +94,8 @@ impl CoreWorker for Worker {
       rule = tied.rule;
     } };
 
-    ghost wakes = { λ w e. (open_parts w e).1.0 };
+    ghost wakes = { λ w e. not-true w.winds_down
+        (and_parts (not w.winds_down) (status.has_room w) (and_parts (not (working.leads w)) (working.may_take w) e).1).0 };
 
     ghost beside = { λ a e m n kinds w lawful runs other starts. starts };
 }

@@ -8,5 +8,5 @@ pub loop-core-init : goal.loop-core-init
 loop-core-init g c = let W = g.W.CoreWorker in record {
   count = refl;
   within = omega arith;
-  each = none_yet W.hands W.answers W.stands W.fair W.room W.leads W.winds (λ q. q) c.args.workers.now.items;
+  each = none_yet W.hands W.answers W.stands W.fair W.room W.leads W.winds c.args.workers.now.items;
 }

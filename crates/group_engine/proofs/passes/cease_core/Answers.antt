@@ -37,4 +37,4 @@ pub returns-else-cease-clause-ceases : goal.returns-else-cease-clause-ceases
 returns-else-cease-clause-ceases g c = λ e h.
     let r = c.loop-moved.invariant.shown e h in
     let n = c.cease.ensures.ceases r.0 r.1 in
-    (n.0, n.1, ceases_last _ _ c.loop-moved.moved c.args.core e r.0 n.0 r.2 (subst (λ b. Ceases _ b c.args.core r.0 n.0) c.if-cease.false n.2))
+    (n.0, n.1, ceases_last (g.R.Region.state c.loop-moved.region) (g.R.Region.state c.cease.new.region) c.loop-moved.moved c.args.core e r.0 n.0 r.2 (subst (λ b. Ceases (g.R.Region.state c.cease.new.region) b c.args.core r.0 n.0) c.if-cease.false n.2))

@@ -2,7 +2,7 @@ use Rattle.std.proofs.Common.{◌≡◌, ◌∙◌, ℕ, ◌<◌, Bool, true, co
 use Rattle.group_engine.specs.Passes.{CeasePasses}
 use Rattle.group_engine.proofs.Passing.{no_higher}
 use Rattle.group_engine.proofs.Ending.{cease_none, cease_one}
-use Rattle.group_engine.proofs.passes.cease_pass.Goals.{then-branch, else-branch}
+use Rattle.group_engine.proofs.passes.cease_pass.Goals.{then-cease_core, else-cease_core}
 use Rattle.group_engine.proofs.passes.cease_pass.Goals as goal
 
 pub loop-core-init : goal.loop-core-init
@@ -10,7 +10,7 @@ loop-core-init g c = record {
   shown = λ e h. (e, h, cease_none (g.R.Region.state c.args.region.now) e (g.met.C.Cores.placed (g.R.Region.state c.args.region.now) c.args.cores.now e h));
   winds = c.requires.winds;
   cores = refl;
-  count_is = c.count-count.ensures;
+  count_is = c.count-all.ensures;
   within = omega arith;
   less = λ q. absurd (cc q);
   idle = λ q. omega arith;
@@ -29,7 +29,7 @@ loop-core-preserved g c =
     let high = no_higher c.loop-core.moved (left c.loop-core.cores) (left c.args.cores.now) I.less I.idle in
     let ends = c.cease_core.ensures in
     elim c.if-cease_core.branch [
-      | then-branch w ↦ record {
+      | then-cease_core w ↦ record {
         shown = λ e h. (let r = I.shown e h in let n = ends.ceases r.0 r.1 in (n.0, n.1, cease_one _ _ c.loop-core.core c.loop-core.moved c.cease_core.result c.if-cease_core.moved e r.0 n.0 r.2 n.2 (ap (λ b. cond b true c.loop-core.moved) w.if-cease_core.true ∙ sym w.moved-is)));
         winds = ends.winds;
         cores = ends.cores ∙ I.cores;
@@ -38,7 +38,7 @@ loop-core-preserved g c =
         less = λ q. (let lt = ends.less w.if-cease_core.true in omega (arith, high, lt));
         idle = λ q. absurd (let is = w.moved-is in cc (q, is));
       }
-      | else-branch w ↦ record {
+      | else-cease_core w ↦ record {
         shown = λ e h. (let r = I.shown e h in let n = ends.ceases r.0 r.1 in (n.0, n.1, cease_one _ _ c.loop-core.core c.loop-core.moved c.cease_core.result c.if-cease_core.moved e r.0 n.0 r.2 n.2 (ap (λ b. cond b true c.loop-core.moved) w.if-cease_core.false ∙ sym w.moved-is)));
         winds = ends.winds;
         cores = ends.cores ∙ I.cores;
@@ -54,4 +54,4 @@ returns-clause-passes g c = λ e h.
     let I = c.loop-core.invariant in
     let r = I.shown e h in
     let end : c.loop-core.core ≡ g.C.Cores.cores c.args.cores.now = (let f = c.loop-core-test.false in let w = I.within in let n = I.count_is in omega (arith, f, w, n)) in
-    (r.0, r.1, subst (λ k. CeasePasses _ k c.loop-core.moved e r.0) end r.2)
+    (r.0, r.1, subst (λ k. CeasePasses (g.R.Region.state c.loop-core.region) k c.loop-core.moved e r.0) end r.2)

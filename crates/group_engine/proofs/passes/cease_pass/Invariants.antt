@@ -11,8 +11,8 @@ invariant-loop-core g l =
       shown : (e : Engine) → C.stays (s l.fn.region) l.fn.cores e → (now : Engine) × C.stays (s l.region) l.cores now × CeasePasses (s l.region) l.core l.moved e now;
       winds : C.winds l.cores;
       cores : C.cores l.cores ≡ C.cores l.fn.cores;
-      count_is : l.count ≡ C.cores l.fn.cores;
-      within : l.core ≤ l.count;
+      count_is : l.all ≡ C.cores l.fn.cores;
+      within : l.core ≤ l.all;
       less : l.moved ≡ true → C.left l.cores < C.left l.fn.cores;
       idle : l.moved ≡ false → C.left l.cores ≤ C.left l.fn.cores;
     }

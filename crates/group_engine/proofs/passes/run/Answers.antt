@@ -5,7 +5,7 @@ use Rattle.group_engine.specs.Passes.{NameCores}
 use Rattle.engine_laws.specs.Stands.{given_to}
 use Rattle.engine_laws.specs.Promises.{AnyTurn}
 use Rattle.engine_laws.specs.Ran.{Ran, Drains}
-use Rattle.group_engine.proofs.Ending.{ends_in, begun_ask, begun_go, ran_ask, ran_go, on_err}
+use Rattle.group_engine.proofs.Ending.{ends_in, ends_here, begun_ask, begun_go, ran_ask, ran_go, on_err}
 use Rattle.group_engine.proofs.passes.run.Goals as goal
 
 ok_then : {T E A B : Type 0} (r : Result T E) → (A → B) → OnOk r A → OnOk r B
@@ -26,6 +26,7 @@ returns-in-None g c =
     let zero : length c.loop-request.lines.items ≡ 0 = (let z = c.in-None.ensures.cases in search rules) in
     let empty : c.loop-request.lines.items ≡ [] = none_left c.loop-request.lines.items zero in
     record {
+      cores = c.drain.ensures.cores ∙ I.cores;
       failed = err_then c.drain.result (λ D e h. let r = I.shown e h in let f = D r.0 r.1 in (f.0, f.1, ends_in _ c.args.lines.items c.loop-request.lines.items e r.0 f.0 r.3 f.2)) c.drain.ensures.failed;
       ran = ok_then c.drain.result (λ D e h.
           let r = I.shown e h in
@@ -59,3 +60,10 @@ loop-request-preserved g c =
 
 pub returns-in_err-go-in-Some-Go-clause-failed : goal.returns-in_err-go-in-Some-Go-clause-failed
 returns-in_err-go-in-Some-Go-clause-failed g c = on_err c.from_residual-in_err-go-in-Some-Go.result (λ e h. let r = c.loop-request.invariant.shown e h in let f = c.in_err-go-in-Some-Go.ensures.failed r.0 r.1 in (f.0, f.1, ends_in _ c.args.lines.items c.loop-request.lines.items e r.0 f.0 r.3 f.2))
+
+pub returns-in_err-give-in-Some-Ask-clause-failed : goal.returns-in_err-give-in-Some-Ask-clause-failed
+returns-in_err-give-in-Some-Ask-clause-failed g c = on_err c.from_residual.result (λ e h.
+    let s = g.R.Region.state c.loop-request.region in
+    let r = c.loop-request.invariant.shown e h in
+    let k = g.met.C.Cores.awake s c.give.new.self r.0 (c.in_err-give-in-Some-Ask.ensures.kept s r.0 r.1) in
+    (r.0, k, ends_here s c.args.lines.items c.loop-request.lines.items e r.0 r.3 (g.met.C.Cores.placed s c.give.new.self r.0 k)))

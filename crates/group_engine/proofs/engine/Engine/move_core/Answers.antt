@@ -1,4 +1,4 @@
-use Rattle.std.proofs.Common.{rules, ◌/◌, ◌<◌, sym, ◌∙◌, ap, subst, length, arith, slice_set}
+use Rattle.std.proofs.Common.{rules, ◌≡◌, ◌/◌, ◌<◌, sym, ◌∙◌, ap, subst, length, arith, slice_set}
 use Rattle.group_board.specs.Journals.{state}
 use Rattle.engine_laws.specs.Engine.{Engine}
 use Rattle.engine_laws.specs.Stands.{Origin, Stands}
@@ -16,22 +16,19 @@ pub nonzero_div-group : goal.nonzero_div-group
 nonzero_div-group g c =
     let W = g.W.CoreWorker in
     let en = c.args.self.now in
-    let h = (c.requires.stays.1, c.requires.stays.2, c.requires.stays.3) in
-    some_group en.layout (advancing.is_layout W.hands W.answers W.stands W.fair W.room W.leads (λ q. q.items) h.0 c.requires.stays.0 h.1 (g.R.Region.state c.args.region.now) en.layout en.workers.items en.boards.items en.backlogs.items en.answers.items h.2 c.args.core c.requires.core)
+    some_group en.layout (advancing.is_layout W.hands W.answers W.stands W.fair W.room W.leads (λ q. q.items) c.requires.stays.1 c.requires.stays.0 c.requires.stays.2 (g.R.Region.state c.args.region.now) en.layout en.workers.items en.boards.items en.backlogs.items en.answers.items c.requires.stays.3 c.args.core c.requires.core)
 
 pub nonzero_rem-member : goal.nonzero_rem-member
 nonzero_rem-member g c =
     let W = g.W.CoreWorker in
     let en = c.args.self.now in
-    let h = (c.requires.stays.1, c.requires.stays.2, c.requires.stays.3) in
-    some_group en.layout (advancing.is_layout W.hands W.answers W.stands W.fair W.room W.leads (λ q. q.items) h.0 c.requires.stays.0 h.1 (g.R.Region.state c.args.region.now) en.layout en.workers.items en.boards.items en.backlogs.items en.answers.items h.2 c.args.core c.requires.core)
+    some_group en.layout (advancing.is_layout W.hands W.answers W.stands W.fair W.room W.leads (λ q. q.items) c.requires.stays.1 c.requires.stays.0 c.requires.stays.2 (g.R.Region.state c.args.region.now) en.layout en.workers.items en.boards.items en.backlogs.items en.answers.items c.requires.stays.3 c.args.core c.requires.core)
 
 pub index_mut-requires-2 : goal.index_mut-requires-2
 index_mut-requires-2 g c =
     let W = g.W.CoreWorker in
     let en = c.args.self.now in
-    let h = (c.requires.stays.1, c.requires.stays.2, c.requires.stays.3) in
-    let low : c.args.core / en.layout.group < length en.boards.items = (let n = h.2.board_count in let k = advancing.group_there W.hands W.answers W.stands W.fair W.room W.leads (λ q. q.items) h.0 c.requires.stays.0 h.1 (g.R.Region.state c.args.region.now) en.layout en.workers.items en.boards.items en.backlogs.items en.answers.items h.2 c.args.core c.requires.core in omega (arith, n, k)) in
+    let low : c.args.core / en.layout.group < length en.boards.items = (let n = c.requires.stays.3.board_count in let k = advancing.group_there W.hands W.answers W.stands W.fair W.room W.leads (λ q. q.items) c.requires.stays.1 c.requires.stays.0 c.requires.stays.2 (g.R.Region.state c.args.region.now) en.layout en.workers.items en.boards.items en.backlogs.items en.answers.items c.requires.stays.3 c.args.core c.requires.core in omega (arith, n, k)) in
     search rules
 
 pub step-result-requires-clause-stands : goal.step-result-requires-clause-stands
@@ -40,11 +37,10 @@ step-result-requires-clause-stands g c =
     let en = c.args.self.now in
     let s = g.R.Region.state c.args.region.now in
     let e = c.requires.stays.0 in
-    let k = (c.requires.stays.1, c.requires.stays.2, c.requires.stays.3) in
-    let board = advancing.board_there W.hands W.answers W.stands W.fair W.room W.leads (λ q. q.items) k.0 e k.1 s en.layout en.workers.items en.boards.items en.backlogs.items en.answers.items k.2 c.args.core c.requires.core c.index_mut-2.result.now ∙ ap (λ b. state b.keeper.me.0) (sym c.index_mut-2.ensures.value) in
-    let seat = subst (λ u. Seat W.hands W.answers W.stands W.fair W.room W.leads e c.args.core u) (sym c.index_mut.ensures.value) (advancing.worker_there W.hands W.answers W.stands W.fair W.room W.leads (λ q. q.items) k.0 e k.1 s en.layout en.workers.items en.boards.items en.backlogs.items en.answers.items k.2 c.args.core c.requires.core c.index_mut.result.now) in
-    let waits = advancing.queue_there W.hands W.answers W.stands W.fair W.room W.leads (λ q. q.items) k.0 e k.1 s en.layout en.workers.items en.boards.items en.backlogs.items en.answers.items k.2 c.args.core c.requires.core c.index_mut-3.result.now ∙ ap (λ q. q.items) (sym c.index_mut-3.ensures.value) in
-    advancing.asks_stands W.hands W.answers W.stands W.fair W.room W.leads (λ q. q.items) k.0 e k.1 s en.layout en.workers.items en.boards.items en.backlogs.items en.answers.items k.2 c.args.core c.requires.core c.index_mut-2.result.now c.index_mut.result.now c.index_mut-3.result.now board seat waits
+    let board = advancing.board_there W.hands W.answers W.stands W.fair W.room W.leads (λ q. q.items) c.requires.stays.1 e c.requires.stays.2 s en.layout en.workers.items en.boards.items en.backlogs.items en.answers.items c.requires.stays.3 c.args.core c.requires.core c.index_mut-2.result.now ∙ ap (λ b. state b.keeper.me.0) (sym c.index_mut-2.ensures.value) in
+    let seat = subst (λ u. Seat W.hands W.answers W.stands W.fair W.room W.leads e c.args.core u) (sym c.index_mut.ensures.value) (advancing.worker_there W.hands W.answers W.stands W.fair W.room W.leads (λ q. q.items) c.requires.stays.1 e c.requires.stays.2 s en.layout en.workers.items en.boards.items en.backlogs.items en.answers.items c.requires.stays.3 c.args.core c.requires.core c.index_mut.result.now) in
+    let waits = advancing.queue_there W.hands W.answers W.stands W.fair W.room W.leads (λ q. q.items) c.requires.stays.1 e c.requires.stays.2 s en.layout en.workers.items en.boards.items en.backlogs.items en.answers.items c.requires.stays.3 c.args.core c.requires.core c.index_mut-3.result.now ∙ ap (λ q. q.items) (sym c.index_mut-3.ensures.value) in
+    advancing.asks_stands W.hands W.answers W.stands W.fair W.room W.leads (λ q. q.items) c.requires.stays.1 e c.requires.stays.2 s en.layout en.workers.items en.boards.items en.backlogs.items en.answers.items c.requires.stays.3 c.args.core c.requires.core c.index_mut-2.result.now c.index_mut.result.now c.index_mut-3.result.now board seat waits
 
 pub step-result-requires-clause-own : goal.step-result-requires-clause-own
 step-result-requires-clause-own g c =
@@ -52,11 +48,10 @@ step-result-requires-clause-own g c =
     let en = c.args.self.now in
     let s = g.R.Region.state c.args.region.now in
     let e = c.requires.stays.0 in
-    let k = (c.requires.stays.1, c.requires.stays.2, c.requires.stays.3) in
-    let board = advancing.board_there W.hands W.answers W.stands W.fair W.room W.leads (λ q. q.items) k.0 e k.1 s en.layout en.workers.items en.boards.items en.backlogs.items en.answers.items k.2 c.args.core c.requires.core c.index_mut-2.result.now ∙ ap (λ b. state b.keeper.me.0) (sym c.index_mut-2.ensures.value) in
-    let seat = subst (λ u. Seat W.hands W.answers W.stands W.fair W.room W.leads e c.args.core u) (sym c.index_mut.ensures.value) (advancing.worker_there W.hands W.answers W.stands W.fair W.room W.leads (λ q. q.items) k.0 e k.1 s en.layout en.workers.items en.boards.items en.backlogs.items en.answers.items k.2 c.args.core c.requires.core c.index_mut.result.now) in
-    let waits = advancing.queue_there W.hands W.answers W.stands W.fair W.room W.leads (λ q. q.items) k.0 e k.1 s en.layout en.workers.items en.boards.items en.backlogs.items en.answers.items k.2 c.args.core c.requires.core c.index_mut-3.result.now ∙ ap (λ q. q.items) (sym c.index_mut-3.ensures.value) in
-    advancing.asks_own W.hands W.answers W.stands W.fair W.room W.leads (λ q. q.items) k.0 e k.1 s en.layout en.workers.items en.boards.items en.backlogs.items en.answers.items k.2 c.args.core c.requires.core c.index_mut-2.result.now c.index_mut.result.now c.index_mut-3.result.now board seat waits
+    let board = advancing.board_there W.hands W.answers W.stands W.fair W.room W.leads (λ q. q.items) c.requires.stays.1 e c.requires.stays.2 s en.layout en.workers.items en.boards.items en.backlogs.items en.answers.items c.requires.stays.3 c.args.core c.requires.core c.index_mut-2.result.now ∙ ap (λ b. state b.keeper.me.0) (sym c.index_mut-2.ensures.value) in
+    let seat = subst (λ u. Seat W.hands W.answers W.stands W.fair W.room W.leads e c.args.core u) (sym c.index_mut.ensures.value) (advancing.worker_there W.hands W.answers W.stands W.fair W.room W.leads (λ q. q.items) c.requires.stays.1 e c.requires.stays.2 s en.layout en.workers.items en.boards.items en.backlogs.items en.answers.items c.requires.stays.3 c.args.core c.requires.core c.index_mut.result.now) in
+    let waits = advancing.queue_there W.hands W.answers W.stands W.fair W.room W.leads (λ q. q.items) c.requires.stays.1 e c.requires.stays.2 s en.layout en.workers.items en.boards.items en.backlogs.items en.answers.items c.requires.stays.3 c.args.core c.requires.core c.index_mut-3.result.now ∙ ap (λ q. q.items) (sym c.index_mut-3.ensures.value) in
+    advancing.asks_own W.hands W.answers W.stands W.fair W.room W.leads (λ q. q.items) c.requires.stays.1 e c.requires.stays.2 s en.layout en.workers.items en.boards.items en.backlogs.items en.answers.items c.requires.stays.3 c.args.core c.requires.core c.index_mut-2.result.now c.index_mut.result.now c.index_mut-3.result.now board seat waits
 
 pub step-result-requires-clause-fair : goal.step-result-requires-clause-fair
 step-result-requires-clause-fair g c =
@@ -64,11 +59,10 @@ step-result-requires-clause-fair g c =
     let en = c.args.self.now in
     let s = g.R.Region.state c.args.region.now in
     let e = c.requires.stays.0 in
-    let k = (c.requires.stays.1, c.requires.stays.2, c.requires.stays.3) in
-    let board = advancing.board_there W.hands W.answers W.stands W.fair W.room W.leads (λ q. q.items) k.0 e k.1 s en.layout en.workers.items en.boards.items en.backlogs.items en.answers.items k.2 c.args.core c.requires.core c.index_mut-2.result.now ∙ ap (λ b. state b.keeper.me.0) (sym c.index_mut-2.ensures.value) in
-    let seat = subst (λ u. Seat W.hands W.answers W.stands W.fair W.room W.leads e c.args.core u) (sym c.index_mut.ensures.value) (advancing.worker_there W.hands W.answers W.stands W.fair W.room W.leads (λ q. q.items) k.0 e k.1 s en.layout en.workers.items en.boards.items en.backlogs.items en.answers.items k.2 c.args.core c.requires.core c.index_mut.result.now) in
-    let waits = advancing.queue_there W.hands W.answers W.stands W.fair W.room W.leads (λ q. q.items) k.0 e k.1 s en.layout en.workers.items en.boards.items en.backlogs.items en.answers.items k.2 c.args.core c.requires.core c.index_mut-3.result.now ∙ ap (λ q. q.items) (sym c.index_mut-3.ensures.value) in
-    advancing.asks_fair W.hands W.answers W.stands W.fair W.room W.leads (λ q. q.items) k.0 e k.1 s en.layout en.workers.items en.boards.items en.backlogs.items en.answers.items k.2 c.args.core c.requires.core c.index_mut-2.result.now c.index_mut.result.now c.index_mut-3.result.now board seat waits
+    let board = advancing.board_there W.hands W.answers W.stands W.fair W.room W.leads (λ q. q.items) c.requires.stays.1 e c.requires.stays.2 s en.layout en.workers.items en.boards.items en.backlogs.items en.answers.items c.requires.stays.3 c.args.core c.requires.core c.index_mut-2.result.now ∙ ap (λ b. state b.keeper.me.0) (sym c.index_mut-2.ensures.value) in
+    let seat = subst (λ u. Seat W.hands W.answers W.stands W.fair W.room W.leads e c.args.core u) (sym c.index_mut.ensures.value) (advancing.worker_there W.hands W.answers W.stands W.fair W.room W.leads (λ q. q.items) c.requires.stays.1 e c.requires.stays.2 s en.layout en.workers.items en.boards.items en.backlogs.items en.answers.items c.requires.stays.3 c.args.core c.requires.core c.index_mut.result.now) in
+    let waits = advancing.queue_there W.hands W.answers W.stands W.fair W.room W.leads (λ q. q.items) c.requires.stays.1 e c.requires.stays.2 s en.layout en.workers.items en.boards.items en.backlogs.items en.answers.items c.requires.stays.3 c.args.core c.requires.core c.index_mut-3.result.now ∙ ap (λ q. q.items) (sym c.index_mut-3.ensures.value) in
+    advancing.asks_fair W.hands W.answers W.stands W.fair W.room W.leads (λ q. q.items) c.requires.stays.1 e c.requires.stays.2 s en.layout en.workers.items en.boards.items en.backlogs.items en.answers.items c.requires.stays.3 c.args.core c.requires.core c.index_mut-2.result.now c.index_mut.result.now c.index_mut-3.result.now board seat waits
 
 pub collect-requires : goal.collect-requires
 collect-requires g c =
@@ -77,13 +71,12 @@ collect-requires g c =
     let s = g.R.Region.state c.args.region.now in
     let t = g.R.Region.state c.step-result.new.region in
     let e = c.requires.stays.0 in
-    let k = (c.requires.stays.1, c.requires.stays.2, c.requires.stays.3) in
-    let board = advancing.board_there W.hands W.answers W.stands W.fair W.room W.leads (λ q. q.items) k.0 e k.1 s en.layout en.workers.items en.boards.items en.backlogs.items en.answers.items k.2 c.args.core c.requires.core c.index_mut-2.result.now ∙ ap (λ b. state b.keeper.me.0) (sym c.index_mut-2.ensures.value) in
-    let seat = subst (λ u. Seat W.hands W.answers W.stands W.fair W.room W.leads e c.args.core u) (sym c.index_mut.ensures.value) (advancing.worker_there W.hands W.answers W.stands W.fair W.room W.leads (λ q. q.items) k.0 e k.1 s en.layout en.workers.items en.boards.items en.backlogs.items en.answers.items k.2 c.args.core c.requires.core c.index_mut.result.now) in
-    let waits = advancing.queue_there W.hands W.answers W.stands W.fair W.room W.leads (λ q. q.items) k.0 e k.1 s en.layout en.workers.items en.boards.items en.backlogs.items en.answers.items k.2 c.args.core c.requires.core c.index_mut-3.result.now ∙ ap (λ q. q.items) (sym c.index_mut-3.ensures.value) in
-    let u_is = c.index_mut-4.ensures.value ∙ index_set en.workers.items c.args.core c.step-result.new.worker c.index_mut-4.result.now (let n = k.2.worker_count in let l = c.requires.core in omega (arith, n, l)) in
+    let board = advancing.board_there W.hands W.answers W.stands W.fair W.room W.leads (λ q. q.items) c.requires.stays.1 e c.requires.stays.2 s en.layout en.workers.items en.boards.items en.backlogs.items en.answers.items c.requires.stays.3 c.args.core c.requires.core c.index_mut-2.result.now ∙ ap (λ b. state b.keeper.me.0) (sym c.index_mut-2.ensures.value) in
+    let seat = subst (λ u. Seat W.hands W.answers W.stands W.fair W.room W.leads e c.args.core u) (sym c.index_mut.ensures.value) (advancing.worker_there W.hands W.answers W.stands W.fair W.room W.leads (λ q. q.items) c.requires.stays.1 e c.requires.stays.2 s en.layout en.workers.items en.boards.items en.backlogs.items en.answers.items c.requires.stays.3 c.args.core c.requires.core c.index_mut.result.now) in
+    let waits = advancing.queue_there W.hands W.answers W.stands W.fair W.room W.leads (λ q. q.items) c.requires.stays.1 e c.requires.stays.2 s en.layout en.workers.items en.boards.items en.backlogs.items en.answers.items c.requires.stays.3 c.args.core c.requires.core c.index_mut-3.result.now ∙ ap (λ q. q.items) (sym c.index_mut-3.ensures.value) in
+    let u_is = c.index_mut-4.ensures.value ∙ index_set en.workers.items c.args.core c.step-result.new.worker c.index_mut-4.result.now (let n = c.requires.stays.3.worker_count in let l = c.requires.core in omega (arith, n, l)) in
     let T = c.step-result.ensures.steps in
-    subst (λ u. HavePlaces (length en.answers.items) (W.answers u)) (sym u_is) (advancing.have_places W.hands W.answers W.stands W.fair W.room W.leads (λ q. q.items) k.0 e k.1 s en.layout en.workers.items en.boards.items en.backlogs.items en.answers.items k.2 c.args.core c.requires.core c.index_mut-2.result.now c.index_mut.result.now c.index_mut-3.result.now board seat waits t c.step-result.new.board c.step-result.new.worker T.0 T.1 _ _ T.2)
+    subst (λ u. HavePlaces (length en.answers.items) (W.answers u)) (sym u_is) (advancing.have_places W.hands W.answers W.stands W.fair W.room W.leads (λ q. q.items) c.requires.stays.1 e c.requires.stays.2 s en.layout en.workers.items en.boards.items en.backlogs.items en.answers.items c.requires.stays.3 c.args.core c.requires.core c.index_mut-2.result.now c.index_mut.result.now c.index_mut-3.result.now board seat waits t c.step-result.new.board c.step-result.new.worker T.0 T.1 _ _ T.2)
 
 pub returns-clause-advances : goal.returns-clause-advances
 returns-clause-advances g c = λ w w_is o e S H.
@@ -106,12 +99,11 @@ returns-clause-less g c =
     let en = c.args.self.now in
     let s = g.R.Region.state c.args.region.now in
     let e = c.requires.stays.0 in
-    let k = (c.requires.stays.1, c.requires.stays.2, c.requires.stays.3) in
     let cores = c.requires.core in
-    let group = advancing.group_there W.hands W.answers W.stands W.fair W.room W.leads (λ q. q.items) k.0 e k.1 s en.layout en.workers.items en.boards.items en.backlogs.items en.answers.items k.2 c.args.core c.requires.core in
-    let u_is = c.index_mut-4.ensures.value ∙ index_set en.workers.items c.args.core c.step-result.new.worker c.index_mut-4.result.now (let n = k.2.worker_count in let l = c.requires.core in omega (arith, n, l)) in
+    let group = advancing.group_there W.hands W.answers W.stands W.fair W.room W.leads (λ q. q.items) c.requires.stays.1 e c.requires.stays.2 s en.layout en.workers.items en.boards.items en.backlogs.items en.answers.items c.requires.stays.3 c.args.core c.requires.core in
+    let u_is = c.index_mut-4.ensures.value ∙ index_set en.workers.items c.args.core c.step-result.new.worker c.index_mut-4.result.now (let n = c.requires.stays.3.worker_count in let l = c.requires.core in omega (arith, n, l)) in
     advancing.falls W.left W.under_way W.most (λ q. q.items) en.workers.items en.boards.items en.backlogs.items c.args.core (c.args.core / en.layout.group) c.index_mut.result.now c.step-result.new.worker c.collect.new.worker c.index_mut-2.result.now c.step-result.new.board c.index_mut-3.result.now c.step-result.new.backlog
-    (let n = k.2.worker_count in omega (arith, n, cores)) (let n = k.2.board_count in omega (arith, n, group)) (let n = k.2.backlog_count in omega (arith, n, cores)) c.index_mut.ensures.value c.index_mut-2.ensures.value c.index_mut-3.ensures.value (c.collect.ensures.left ∙ ap W.left u_is) c.step-result.result c.step-result.ensures.less
+    (let n = c.requires.stays.3.worker_count in omega (arith, n, cores)) (let n = c.requires.stays.3.board_count in omega (arith, n, group)) (let n = c.requires.stays.3.backlog_count in omega (arith, n, cores)) c.index_mut.ensures.value c.index_mut-2.ensures.value c.index_mut-3.ensures.value (c.collect.ensures.left ∙ ap W.left u_is) c.step-result.result c.step-result.ensures.less
 
 pub returns-clause-idle : goal.returns-clause-idle
 returns-clause-idle g c =
@@ -119,12 +111,11 @@ returns-clause-idle g c =
     let en = c.args.self.now in
     let s = g.R.Region.state c.args.region.now in
     let e = c.requires.stays.0 in
-    let k = (c.requires.stays.1, c.requires.stays.2, c.requires.stays.3) in
     let cores = c.requires.core in
-    let group = advancing.group_there W.hands W.answers W.stands W.fair W.room W.leads (λ q. q.items) k.0 e k.1 s en.layout en.workers.items en.boards.items en.backlogs.items en.answers.items k.2 c.args.core c.requires.core in
-    let u_is = c.index_mut-4.ensures.value ∙ index_set en.workers.items c.args.core c.step-result.new.worker c.index_mut-4.result.now (let n = k.2.worker_count in let l = c.requires.core in omega (arith, n, l)) in
+    let group = advancing.group_there W.hands W.answers W.stands W.fair W.room W.leads (λ q. q.items) c.requires.stays.1 e c.requires.stays.2 s en.layout en.workers.items en.boards.items en.backlogs.items en.answers.items c.requires.stays.3 c.args.core c.requires.core in
+    let u_is = c.index_mut-4.ensures.value ∙ index_set en.workers.items c.args.core c.step-result.new.worker c.index_mut-4.result.now (let n = c.requires.stays.3.worker_count in let l = c.requires.core in omega (arith, n, l)) in
     advancing.stays W.left W.under_way W.most (λ q. q.items) en.workers.items en.boards.items en.backlogs.items c.args.core (c.args.core / en.layout.group) c.index_mut.result.now c.step-result.new.worker c.collect.new.worker c.index_mut-2.result.now c.step-result.new.board c.index_mut-3.result.now c.step-result.new.backlog
-    (let n = k.2.worker_count in omega (arith, n, cores)) (let n = k.2.board_count in omega (arith, n, group)) (let n = k.2.backlog_count in omega (arith, n, cores)) c.index_mut.ensures.value c.index_mut-2.ensures.value c.index_mut-3.ensures.value (c.collect.ensures.left ∙ ap W.left u_is) c.step-result.result c.step-result.ensures.idle
+    (let n = c.requires.stays.3.worker_count in omega (arith, n, cores)) (let n = c.requires.stays.3.board_count in omega (arith, n, group)) (let n = c.requires.stays.3.backlog_count in omega (arith, n, cores)) c.index_mut.ensures.value c.index_mut-2.ensures.value c.index_mut-3.ensures.value (c.collect.ensures.left ∙ ap W.left u_is) c.step-result.result c.step-result.ensures.idle
 
 pub returns-clause-goes : goal.returns-clause-goes
 returns-clause-goes g c = λ none.

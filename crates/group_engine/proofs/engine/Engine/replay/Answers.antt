@@ -1,4 +1,4 @@
-use Rattle.std.proofs.Common.{sym, subst}
+use Rattle.std.proofs.Common.{◌<◌, ◌∙◌, sym, subst}
 use Rattle.chunk_map.specs.declared.layouts.Geometry.{Geometry}
 use Rattle.chunk_map.specs.Layouts.{layout_of}
 use Rattle.engine_laws.specs.Stands.{opening}
@@ -19,7 +19,7 @@ returns g c = record {
       let S = opens o is.sound is.first is.words is.certain in
       let r = h (opening o) (o, S, k, λ d w at. g.met.W.CoreWorker.wakes w (sym (k.seats d w at).takes)) in
       let T = r.2.ends.stands o S in
-      (r.0, r.1.2, r.2.ends, promised o r.0 T, ceased o r.0 T (λ d low. r.2.rest d (subst (λ (l : Geometry). d < l.cores) r.1.2.layout low)))) c.replay.ensures.failed;
+      (r.0, r.1.2, r.2.ends, promised o r.0 T, ceased o r.0 T (λ d low. r.2.rest d (subst (λ (l : Geometry). d < l.cores) (T.layout ∙ k.layout) low)))) c.replay.ensures.failed;
   ran = ok_then c.replay.result (λ h o is k.
       let r = h (opening o) (o, opens o is.sound is.first is.words is.certain, k, λ d w at. g.met.W.CoreWorker.wakes w (sym (k.seats d w at).takes)) in
       let run : Ran AnyTurn (layout_of o.found).cores c.args.lines.items (opening o) r.0 = subst (λ (l : Geometry). Ran AnyTurn l.cores c.args.lines.items (opening o) r.0) (sym k.layout) r.2 in

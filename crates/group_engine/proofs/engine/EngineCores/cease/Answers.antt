@@ -14,16 +14,16 @@ unreachable-requires g c =
     let both : true ≡ false = sym (c.requires.winds c.args.core at.0 at.1) ∙ c.in-Err.ensures.sure at.0 at.1 in
     cc both
 
-pub returns-in-Ok-clause-ceases : goal.returns-in-Ok-clause-ceases
-returns-in-Ok-clause-ceases g c = λ e h.
+pub returns-clause-ceases : goal.returns-clause-ceases
+returns-clause-ceases g c = λ e h.
     let en = c.args.self.now in
     let there : c.args.core < length en.workers.items = (let low = c.requires.core in let n = c.requires.stays.1.2.worker_count in omega (arith, low, n)) in
     let at = some_there en.workers.items c.args.core there in
     let a = c.in-Ok.ensures.advances at.0 at.1 h.0 e h.1 h.2 in
     (a.0, (a.1, a.2, a.3), record { ends = a.4.ends; halts = a.4.halts })
 
-pub returns-in-Ok-clause-winds : goal.returns-in-Ok-clause-winds
-returns-in-Ok-clause-winds g c = c.move_core.ensures.winds c.requires.winds
+pub returns-clause-winds : goal.returns-clause-winds
+returns-clause-winds g c = c.move_core.ensures.winds c.requires.winds
 
-pub returns-in-Ok-clause-cores : goal.returns-in-Ok-clause-cores
-returns-in-Ok-clause-cores g c = ap (λ (l : Geometry). l.cores) c.move_core.ensures.layout
+pub returns-clause-cores : goal.returns-clause-cores
+returns-clause-cores g c = ap (λ (l : Geometry). l.cores) c.move_core.ensures.layout

@@ -4,7 +4,7 @@ use Rattle.group_engine.proofs.engine.EngineCores.wind_down.Goals as goal
 pub returns-clause-winds : goal.returns-clause-winds
 returns-clause-winds g c =
     let W = g.W.CoreWorker in
-    all_wind W.hands W.answers W.stands W.fair W.room W.leads W.winds (λ q. q.items) c.args.self.now.workers.items c.wind_all.new.workers.items c.wind_all.ensures.count c.wind_all.ensures.each
+    all_wind W.hands W.answers W.stands W.fair W.room W.leads W.winds c.args.self.now.workers.items c.wind_all.new.workers.items c.wind_all.ensures.count c.wind_all.ensures.each
 
 pub returns-clause-stays : goal.returns-clause-stays
 returns-clause-stays g c = λ s e h.
