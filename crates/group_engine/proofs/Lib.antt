@@ -3,6 +3,8 @@ mod Ending
 mod Stepping
 mod Working
 mod Seating
+mod Ranged
+mod Opens
 mod Kept
 mod Moving
 mod Advancing
@@ -12,3 +14,4 @@ mod Reporting
 mod Outcomes
 mod Stopping
 mod Winding
+mod Ended

@@ -7,7 +7,8 @@ use Rattle.engine_laws.proofs.Cores.{some_group}
 use Rattle.group_engine.specs.Answers.{HavePlaces, stored}
 use Rattle.group_engine.specs.Passes.{Advances}
 use Rattle.group_engine.specs.Shows.{Seat, Shows}
-use Rattle.group_engine.proofs.Kept.{index_set, at_is}
+use Rattle.group_engine.specs.Reports.{HasRoomFor}
+use Rattle.group_engine.proofs.Kept.{index_set, at_is, stored_length}
 use Rattle.group_engine.proofs.Winding.{goes_on, winds_on, sure_of}
 use Rattle.group_engine.proofs.Advancing as advancing
 use Rattle.group_engine.proofs.engine.Engine.move_core.Goals as goal
@@ -141,3 +142,10 @@ pub returns-clause-sure : goal.returns-clause-sure
 returns-clause-sure g c =
     let W = g.W.CoreWorker in
     sure_of W.winds c.args.self.now.workers.items c.args.core c.index_mut.result.now c.index_mut.ensures.value c.step-result.result c.step-result.ensures.awake
+
+-- the answers are as many as before
+pub invariant_of-self : goal.invariant_of-self
+invariant_of-self g c =
+    let en = c.args.self.now in
+    let same : length c.collect.new.kept.items ≡ length en.answers.items = ap length c.collect.ensures.kept ∙ stored_length (g.W.CoreWorker.answers c.index_mut-4.result.now) c.stamp.result en.answers.items in
+    record { blank = en.blank; room = subst (λ n. HasRoomFor n en.report) (sym same) en.room }
