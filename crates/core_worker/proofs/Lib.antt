@@ -12,6 +12,7 @@ mod BlockPosts
 mod BlockClear
 pub mod HandKeys
 pub mod Aside
+mod CauseFacts
 mod QuietMoves
 pub mod KeyMoves
 mod HandPlaces

@@ -2,6 +2,7 @@ mod Passing
 mod Ending
 mod Stepping
 mod Working
+mod FreeFound
 mod Seating
 mod Ranged
 mod Opens

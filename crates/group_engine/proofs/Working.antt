@@ -148,6 +148,7 @@ module _ (seat : SeatAt) (s t : State) (before after : Option Group) (v u : View
       own = T.moves.own;
       keys = T.moves.keys;
       holds = T.moves.holds;
+      refuses = T.moves.refuses;
       stops = T.moves.stops;
       breaks = T.moves.breaks;
       stays_stopped = T.moves.stays_stopped;
