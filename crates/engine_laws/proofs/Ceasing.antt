@@ -162,6 +162,7 @@ module _ (o : Origin) (e : Engine) (t : ℕ → Bool) (S : Stands o e) where
   takes_crash n told from image may = let is = S.crash n told from image may in record { sound = is.sound; layout = is.layout; cells = is.cells }
 
   pub takes_stands : Stands o f
+  unfolding takes_key
   takes_stands = record {
     sound = S.sound;
     first = S.first;
@@ -176,4 +177,6 @@ module _ (o : Origin) (e : Engine) (t : ℕ → Bool) (S : Stands o e) where
     crash = takes_crash;
     stopped = S.stopped;
     broken = S.broken;
+    causes = S.causes;
+    versions = S.versions;
   }
