@@ -1,14 +1,14 @@
 pub mod Inputs
+pub mod Texts
 pub mod Answering
 pub mod Attached
+pub mod Numbering
+pub mod Causing
 pub mod Replaying
 pub mod Refused
 pub mod Opened
 pub mod Reading
-pub mod Roomy
 pub mod Agreeing
-pub mod Openings
 pub mod Forms
 pub mod Emptiness
 pub mod Listed
-pub mod Stocks

@@ -25,6 +25,7 @@ mod parser;
 mod playing;
 mod replay;
 mod report;
+mod run_outcome;
 #[cfg(test)]
 mod tests;
 mod top;
