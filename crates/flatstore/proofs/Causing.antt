@@ -83,8 +83,10 @@ module _ (image : ℕ → ℕ) (trace : List Request) (ans : ℕ → Option Answ
   Is x = IsNamed is_told (λ (a : Answer). a.reply) ans 0 count (x.request, reply_to x.why)
 
   each : AllByRecursion Is refusals
-  each = all_mapped (λ (x : Refusal). (x.request, reply_to x.why)) (IsNamed is_told (λ (a : Answer). a.reply) ans 0 count) refusals
-      (subst (AllByRecursion (IsNamed is_told (λ (a : Answer). a.reply) ans 0 count)) (sym told) (all_named is_told (λ (a : Answer). a.reply) ans 0 count))
+  each =
+      let all : AllByRecursion (IsNamed is_told (λ (a : Answer). a.reply) ans 0 count) (named_from is_told (λ a. a.reply) ans 0 count) =
+      subst (λ m. AllByRecursion (IsNamed is_told (λ (a : Answer). a.reply) ans 0 m) (named_from is_told (λ a. a.reply) ans 0 count)) (let z : 0 + count ≡ count = omega arith in z) (all_named is_told (λ (a : Answer). a.reply) ans 0 count) in
+      all_mapped (λ (x : Refusal). (x.request, reply_to x.why)) (IsNamed is_told (λ (a : Answer). a.reply) ans 0 count) refusals (subst (AllByRecursion (IsNamed is_told (λ (a : Answer). a.reply) ans 0 count)) (sym told) all)
 
   pub full_of : AllByRecursion (λ (x : Refusal). reply_to x.why ≡ Full → (k : ℕ) → IsAsked trace x.request k → IsAmpleFor l image trace (owner l k) → ⊥) refusals
   full_of = all_map Is (λ (x : Refusal). reply_to x.why ≡ Full → (k : ℕ) → IsAsked trace x.request k → IsAmpleFor l image trace (owner l k) → ⊥)
@@ -110,7 +112,7 @@ module _ (image : ℕ → ℕ) (trace : List Request) (ans : ℕ → Option Answ
         let high = h.high in
         let q = get_some trace x.request (omega (arith, high, within)) in
         let reply : reply_of (ans x.request) ≡ VersionsSpent = ap reply_of h.is ∙ (h.what_is ∙ is) in
-        let put = put_of q.0 (subst (λ r. is_reply_to q.0 r ≡ true) reply (kind_at ans trace 0 x.request q.0 C.kinds q.1)) in
+        let put = put_of q.0 (subst (λ r. is_reply_to q.0 r ≡ true) reply (subst (λ m. is_reply_to q.0 (reply_of (ans m)) ≡ true) (let z : 0 + x.request ≡ x.request = omega arith in z) (kind_at ans trace 0 x.request q.0 C.kinds q.1))) in
         let found : slice_get trace x.request ≡ Some (Put put.0 put.1) = q.1 ∙ ap (λ p. Some p) put.2 in
         let more = C.spent x.request h.answer h.is (h.what_is ∙ is) put.0 (ap (option_map key_of) found) in
         let s = split_at trace x.request (Put put.0 put.1) found in

@@ -6,6 +6,7 @@ pub mod Numbering
 pub mod Causing
 pub mod Replaying
 pub mod Refused
+pub mod Standing
 pub mod Opened
 pub mod Reading
 pub mod Agreeing

@@ -25,7 +25,7 @@ use Rattle.headline.specs.Run.{Recorded}
 use Rattle.headline.proofs.Run.{recorded}
 use Rattle.group_engine.specs.declared.run_report.Refusal.{Refusal}
 use Rattle.group_engine.specs.Answers.{reply_to}
-use Rattle.flatstore.specs.Tolds.{told}
+use Rattle.group_engine.specs.Reports.{told}
 use Rattle.flatstore.specs.LastStates.{told_in, AreRising}
 use Rattle.flatstore.specs.Ordering.{KeepsOrder, IsServed, due, IsDue, IsFault, status_of, is_broken, is_of_region, is_of_line, is_of_run, is_whole}
 use Rattle.flatstore.specs.Promise.{WritesFront, IsInput, Replays, asked_in}

@@ -31,18 +31,18 @@ use Rattle.engine_laws.specs.Promises.{IsOrigin, Promised, IsDone, HasStopped, A
 use Rattle.engine_laws.specs.Ran.{Ran}
 use Rattle.engine_laws.specs.Ran as runs
 use Rattle.engine_laws.specs.Reports.{told_of, replies_of, replies_from, AllAnswered}
-use Rattle.flatstore.specs.declared.run_outcome.End.{End}
-use Rattle.flatstore.specs.declared.run_outcome.End.TheVariants as ends
-use Rattle.flatstore.specs.declared.run_outcome.Outcome.{Outcome}
-use Rattle.flatstore.specs.Replayed.{report_in}
-use Rattle.group_engine.specs.Reports.{ReportsOn, told_by}
+use Rattle.group_engine.specs.declared.run_outcome.End.{End}
+use Rattle.group_engine.specs.declared.run_outcome.End.TheVariants as ends
+use Rattle.group_engine.specs.declared.run_outcome.Outcome.{Outcome}
+use Rattle.group_engine.specs.Replayed.{report_in}
+use Rattle.flatstore.specs.Tolds.{ReportsOn, told, told_by}
 use Rattle.group_engine.specs.Answers.{reply_to}
 use Rattle.group_engine.specs.declared.run_report.Refusal.{Refusal}
 use Rattle.engine_laws.proofs.Ran.{ran_given}
 use Rattle.flatstore.specs.Attaching.{GoesOnFrom, Runs}
 use Rattle.flatstore.specs.LastStates.{told_in, AreRising, RanTo}
 use Rattle.flatstore.specs.Ordering.{KeepsOrder, IsServed, due, IsDue, IsFault, status_of, is_broken, is_quiet, is_of_line, is_whole}
-use Rattle.flatstore.specs.Promise.{WritesAll, WritesFront, Replays, IsAllOut, asked_in}
+use Rattle.flatstore.specs.Promise.{IsInput, WritesAll, WritesFront, Replays, IsAllOut, asked_in}
 use Rattle.flatstore.specs.Played.{Played, HasWritten, is_ended}
 use Rattle.flatstore.specs.declared.report.Status.{Status}
 use Rattle.flatstore.specs.declared.report.Status.TheVariants as statuses
@@ -70,7 +70,6 @@ pub record Known (old : State) (found : ℕ → ℕ) (coming left : Option (List
   pub given : runs.asked_in lines ≡ f.given ++ more
   pub all_given : x.end ≢ ends.Memory → more ≡ []
   pub reports : ReportsOn f.region o f (report_in x)
-  pub shown : IsTelling f.region → x.replies.items ≡ replies_of f
   pub ran : x.end ≢ ends.Memory → Ran AnyTurn cores lines (opening o) f
   pub done : x.end ≢ ends.Memory → IsDone o f
   pub fault : x.end ≡ ends.RegionFault → HasStopped f
@@ -124,7 +123,7 @@ module _ (old : State) (found : ℕ → ℕ) (coming left : Option (List ℕ)) (
   trace_is = read_trace cores input K.lines K.good ∙ K.given
 
   told_is : told_in r ≡ told_of f
-  told_is = report_told ∙ K.reports.told
+  told_is = report_told ∙ K.reports.told_is
 
   -- Replies of the state are replies to the input, by the cells found.
   said_of : (MayStop May : Type 0) (replies : List Reply) → Answers (IsTelling t) (start_of o) (f.given ++ K.more) (told_of f) May replies → (May → MayStop) → Answers (IsTelling t) (cells_of found) trace (told_in r) MayStop replies
@@ -169,10 +168,10 @@ module _ (old : State) (found : ℕ → ℕ) (coming left : Option (List ℕ)) (
     front_of MayStop to = front_text (IsTelling t) (cells_of found) trace (told_in r) MayStop x.replies.items (said_whole MayStop to) before now
 
     shown_front : IsTelling t → TakesPrefix before now (replies_text x.replies.items) → TakesPrefix before now (replies_text (replies_of f))
-    shown_front telling takes = subst (λ rs. TakesPrefix before now (replies_text rs)) (K.shown telling) takes
+    shown_front telling takes = subst (λ rs. TakesPrefix before now (replies_text rs)) (K.reports.known telling) takes
 
     shown_all : IsTelling t → Takes before now (replies_text x.replies.items) → Takes before now (replies_text (replies_of f))
-    shown_all telling takes = subst (λ rs. Takes before now (replies_text rs)) (K.shown telling) takes
+    shown_all telling takes = subst (λ rs. Takes before now (replies_text rs)) (K.reports.known telling) takes
 
   abbrev Front : Type 0
   Front = WritesFront (IsTelling t) (cells_of found) trace (told_in r) FrontMayStop before now
@@ -408,14 +407,25 @@ module _ (old s t : State) (found word : ℕ → ℕ) (A : Attached old s s.fram
   abbrev f : Engine
   f = P.ran.last
 
-  abbrev began : o.region ≡ s
+  began : o.region ≡ s
   began = P.ran.begins.region
 
   given_whole : x.end ≢ ends.Memory → P.ran.given.0 ≡ []
   given_whole not_cut = none_behind f.given P.ran.given.0 (ran_given AnyTurn (λ e g c b m. m.0) (layout_of o.found).cores P.lines (opening o) f (P.ran.ran not_cut) ∙ P.ran.given.1)
 
-  pub known : (IsTelling f.region → x.replies.items ≡ replies_of f) → HasCauses o.found (f.given ++ P.ran.given.0) f.answer → Known old found coming left P.cores P.read.input o f x
-  known shown causes =
+  causes : HasCauses o.found (f.given ++ P.ran.given.0) f.answer
+  causes =
+      let more = P.ran.given.0 in
+      let C = P.ran.causes in
+      record {
+        full = λ n k a is why asked. C.full more n k a is why asked;
+        spent = λ n a is why k asked. C.spent more n k a is why asked;
+        kinds = (P.ran.promised.replies more).each;
+        long = λ n a is why q asked. C.long more n q a is why asked;
+      }
+
+  pub known : Known old found coming left P.cores P.read.input o f x
+  known =
       let on : Runs s f.region = subst (λ z. Runs z f.region) began P.ran.stands.run in
       record {
         origin = P.ran.begins.is;
@@ -432,10 +442,20 @@ module _ (old s t : State) (found word : ℕ → ℕ) (A : Attached old s s.fram
         given = P.ran.given.1;
         all_given = given_whole;
         reports = subst (λ z. ReportsOn z o f (report_in x)) (sym P.ran.region) P.ran.reports;
-        shown = shown;
         ran = λ not_cut. subst (λ n. Ran AnyTurn n P.lines (opening o) f) P.count (P.ran.ran not_cut);
         done = P.ran.done;
         fault = P.ran.fault;
         whole = P.ran.complete;
         causes = causes;
       }
+
+  pub promise : (before now : Option (List ℕ)) (flushed : Bool) (faults faults' : ℕ) (r : Report) → HasWritten x before now flushed faults faults' r.status
+      → r.finishes.items ≡ x.finishes.items → r.refusals.items ≡ x.refusals.items → r.began ≡ true → r.complete ≡ is_ended x.end → (source source' : ℕ)
+      → (input : List ℕ) × (cores : ℕ) × IsInput coming input × Replays old t found coming left source source' cores input before now flushed faults faults' r
+  promise before now flushed faults faults' r W finishes refusals began complete source source' = (
+    P.read.input,
+    P.cores,
+    P.read.is_input,
+    subst (λ z. Replays old z found coming left source source' P.cores P.read.input before now flushed faults faults' r) P.ran.region
+        (played_replays old found coming left P.cores P.read.input o f x known P.read.whole before now flushed faults faults' r.status W r refl (λ i. told (finishes i) (refusals i)) began complete source source'),
+  )

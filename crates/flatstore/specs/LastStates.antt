@@ -14,7 +14,7 @@ use Rattle.engine_laws.specs.Promises.{IsOrigin, AnyTurn}
 use Rattle.engine_laws.specs.Ran.{Ran}
 use Rattle.engine_laws.specs.Idle.{IsDrained}
 use Rattle.engine_laws.specs.Reports.{told_of, replies_of, AllAnswered}
-use Rattle.flatstore.specs.Tolds.{told}
+use Rattle.group_engine.specs.Reports.{told}
 use Rattle.headline.specs.Headline.{Told}
 use Rattle.flatstore.specs.Attaching.{GoesOnFrom}
 use Rattle.flatstore.specs.declared.report.Report.{Report}

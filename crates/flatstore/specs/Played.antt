@@ -8,10 +8,10 @@ use Rattle.store_image.specs.Soundness.{first_fault}
 use Rattle.fs_text.specs.declared.line.Line.{Line}
 use Rattle.fs_text.specs.Streams.{Takes, TakesPrefix}
 use Rattle.fs_text.specs.Output.{replies_text}
-use Rattle.flatstore.specs.declared.run_outcome.End.{End}
-use Rattle.flatstore.specs.declared.run_outcome.End.TheVariants as ends
-use Rattle.flatstore.specs.declared.run_outcome.Outcome.{Outcome}
-use Rattle.flatstore.specs.Replayed.{Replayed}
+use Rattle.group_engine.specs.declared.run_outcome.End.{End}
+use Rattle.group_engine.specs.declared.run_outcome.End.TheVariants as ends
+use Rattle.group_engine.specs.declared.run_outcome.Outcome.{Outcome}
+use Rattle.group_engine.specs.Replayed.{Replayed}
 use Rattle.flatstore.specs.Reads.{IsRead, IsUnread}
 use Rattle.flatstore.specs.Statuses.{fault_status}
 use Rattle.flatstore.specs.declared.report.Status.{Status}

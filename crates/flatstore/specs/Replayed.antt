@@ -13,9 +13,9 @@ use Rattle.engine_laws.specs.Stands.{Origin, Stands, opening}
 use Rattle.engine_laws.specs.Promises.{IsOrigin, HasStopped, Promised, AnyTurn, IsDone}
 use Rattle.engine_laws.specs.Ran.{Ran, asked_in}
 use Rattle.group_engine.specs.declared.run_report.Report.{Report}
-use Rattle.flatstore.specs.declared.run_outcome.End.TheVariants as ends
-use Rattle.flatstore.specs.declared.run_outcome.Outcome.{Outcome}
-use Rattle.group_engine.specs.Reports.{ReportsOn}
+use Rattle.group_engine.specs.declared.run_outcome.End.TheVariants as ends
+use Rattle.group_engine.specs.declared.run_outcome.Outcome.{Outcome}
+use Rattle.flatstore.specs.Tolds.{ReportsOn, Causes}
 
 -- A whole region stands with each word certain, and this is what recovery gave of the words that it reads.
 pub record StandsAsFound (s : State) (word : ℕ → ℕ) (r : Recovered) : Type 0 where
@@ -45,6 +45,7 @@ pub record Replayed (s : State) (word : ℕ → ℕ) (lines : List Line) (t : St
   pub region : last.region ≡ t
   pub stands : Stands origin last
   pub promised : Promised origin last
+  pub causes : Causes origin last
   pub given : (more : List Request) × (asked_in lines ≡ last.given ++ more)
   pub reports : ReportsOn t origin last (report_in x)
   -- With memory all lines ran, everything is answered and nothing is under way.

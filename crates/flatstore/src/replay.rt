@@ -4,7 +4,7 @@ ghost use Rattle.pm_region.specs.Cell.{certain};
 ghost use Rattle.pm_region.specs.State.{State, IsTelling, InRange, cell_now, Rose};
 ghost use Rattle.pm_region.specs.Words.{lasts};
 ghost use Rattle.pm_region.specs.Split.{words_in};
-ghost use Rattle.flatstore.specs.Replayed.{StandsAsFound};
+ghost use Rattle.group_engine.specs.Replayed.{StandsAsFound};
 ghost use Rattle.fs_text.specs.Bounds.{IsWithin};
 ghost use Rattle.flatstore.specs.Reads.{IsRead, IsUnread, unread_as};
 ghost use Rattle.flatstore.specs.Played.{Played, IsUnserved, IsRefused, HasWritten, is_ended, ended_as};

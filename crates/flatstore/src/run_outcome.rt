@@ -1,6 +1,6 @@
 // A replay of an input on a region, and its outcome.
 ghost use Rattle.group_engine.specs.Passes.{NameCores};
-ghost use Rattle.flatstore.specs.Replayed.{StandsAsFound, Replayed};
+ghost use Rattle.group_engine.specs.Replayed.{StandsAsFound, Replayed};
 
 use group_engine::run_report::{Finish, Refusal};
 use fs_model::Reply;

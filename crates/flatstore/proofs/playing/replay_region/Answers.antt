@@ -2,9 +2,9 @@
 use Rattle.std.proofs.Common.{List, ℕ, refl, sym, ◌∙◌, ap, subst}
 use Rattle.flatstore.specs.Promise.{IsInput, Replays}
 use Rattle.flatstore.proofs.Opened.{granted_by}
-use Rattle.flatstore.proofs.Replaying.{known, played_replays}
+use Rattle.flatstore.proofs.Replaying.{promise}
 use Rattle.flatstore.proofs.Refused.{refused_replays}
-use Rattle.flatstore.specs.Tolds.{told}
+use Rattle.group_engine.specs.Reports.{told}
 use Rattle.flatstore.proofs.playing.replay_region.Goals as goal
 
 pub returns-in-Err-clause-replay : goal.returns-in-Err-clause-replay
@@ -21,3 +21,12 @@ returns-in-Err-clause-replay g c = λ attached.
     subst (λ s. (input : List ℕ) × (cores : ℕ) × IsInput coming input × Replays old s found coming left count count' cores input text text flushed sink sink c.of-in-Err.result) (ap g.R.Region.state (sym c.in-Err.ensures.untouched))
     (refused_replays old (g.R.Region.state c.attach.new.self) found c.in-Ok.ensures.ok coming left count count' c.in-Err.status c.in-Err.ensures.refused
     c.of-in-Err.result c.of-in-Err.ensures.status c.of-in-Err.ensures.finishes c.of-in-Err.ensures.refusals c.of-in-Err.ensures.began c.of-in-Err.ensures.complete text flushed sink)
+
+pub returns-in-Ok-replay-clause-replay : goal.returns-in-Ok-replay-clause-replay
+returns-in-Ok-replay-clause-replay g c = λ attached.
+    promise (g.R.Region.state c.args.region.now) (g.R.Region.state c.attach.new.self) (g.R.Region.state c.replay.new.region) (g.R.SplitRegion.found c.args.region.now) (g.R.ReadRegion.word c.attach.new.self) c.in-Ok.ensures.ok
+    c.attach.ensures.opens (granted_by (g.R.Region.state c.args.region.now) (g.R.Region.state c.attach.new.self) c.attach.result _ c.in-Ok.is c.attach.ensures.cause) c.attach.ensures.cause.later
+    (g.S.Source.coming c.args.source.now) (g.S.Source.coming c.replay.new.source) c.in-Ok-replay.outcome c.in-Ok-replay.ensures.played
+    (g.O.Sink.taken c.args.sink.now) (g.O.Sink.taken c.write_outcome.new.sink) (g.O.Sink.flushed c.write_outcome.new.sink) (g.O.Sink.fault_count c.args.sink.now) (g.O.Sink.fault_count c.write_outcome.new.sink)
+    c.write_outcome.result c.write_outcome.ensures.written c.write_outcome.ensures.finishes c.write_outcome.ensures.refusals c.write_outcome.ensures.began c.write_outcome.ensures.complete
+    (g.S.Source.fault_count c.args.source.now) (g.S.Source.fault_count c.replay.new.source)
