@@ -13,3 +13,5 @@ pub mod Agreeing
 pub mod Forms
 pub mod Emptiness
 pub mod Listed
+pub mod Shown
+pub mod Spelled

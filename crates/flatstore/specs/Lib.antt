@@ -9,6 +9,8 @@ pub mod Ordering
 pub mod Promise
 pub mod Formats
 pub mod Dumps
+pub mod Shows
+pub mod Logs
 pub mod Reads
 pub mod Played
 pub use Rattle.chunk_map.specs.Checked

@@ -21,6 +21,9 @@ mod dumping;
 #[cfg(test)]
 mod format_tests;
 mod formatting;
+#[cfg(test)]
+mod log_tests;
+mod logging;
 mod parser;
 mod playing;
 mod replay;

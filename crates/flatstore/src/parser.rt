@@ -60,5 +60,6 @@ pub fn program<'a>(alloc: Global) -> Result<Command<'a>, AllocError>
     bare_program(alloc)
         .subcommand(format_command(alloc)?)?
         .subcommand(region_command(alloc, "replay")?)?
-        .subcommand(region_command(alloc, "dump")?)
+        .subcommand(region_command(alloc, "dump")?)?
+        .subcommand(region_command(alloc, "log")?)
 }
