@@ -28,6 +28,8 @@ mod parser;
 mod playing;
 mod replay;
 mod report;
+#[cfg(test)]
+mod row_tests;
 mod run_outcome;
 #[cfg(test)]
 mod tests;
