@@ -30,7 +30,7 @@ pub use Rattle.fs_text.specs.Input
 pub use Rattle.fs_text.specs.Output
 pub use Rattle.fs_text.specs.Streams
 pub use Rattle.group_engine.specs.Answers
-pub use Rattle.group_engine.specs.Reports
+pub use Rattle.group_engine.specs.Reports as RunReports
 pub use Rattle.headline.specs.Ample
 pub use Rattle.headline.specs.Headline
 pub use Rattle.headline.specs.Kinds
