@@ -35,7 +35,7 @@ use Rattle.group_engine.specs.declared.run_outcome.End.{End}
 use Rattle.group_engine.specs.declared.run_outcome.End.TheVariants as ends
 use Rattle.group_engine.specs.declared.run_outcome.Outcome.{Outcome}
 use Rattle.group_engine.specs.Replayed.{report_in}
-use Rattle.flatstore.specs.Tolds.{ReportsOn, told, told_by}
+use Rattle.group_engine.specs.Reports.{ReportsOn, told, told_by}
 use Rattle.group_engine.specs.Answers.{reply_to}
 use Rattle.group_engine.specs.declared.run_report.Refusal.{Refusal}
 use Rattle.engine_laws.proofs.Ran.{ran_given}
@@ -416,7 +416,7 @@ module _ (old s t : State) (found word : ℕ → ℕ) (A : Attached old s s.fram
   causes : HasCauses o.found (f.given ++ P.ran.given.0) f.answer
   causes =
       let more = P.ran.given.0 in
-      let C = P.ran.causes in
+      let C = P.ran.promised.causes in
       record {
         full = λ n k a is why asked. C.full more n k a is why asked;
         spent = λ n a is why k asked. C.spent more n k a is why asked;

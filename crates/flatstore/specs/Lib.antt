@@ -3,8 +3,6 @@ pub mod Asked
 pub mod Statuses
 pub mod Attaching
 pub mod LastStates
-pub mod Tolds
-pub mod Replayed
 pub mod Ordering
 pub mod Promise
 pub mod Formats
@@ -30,6 +28,7 @@ pub use Rattle.fs_text.specs.Input
 pub use Rattle.fs_text.specs.Output
 pub use Rattle.fs_text.specs.Streams
 pub use Rattle.group_engine.specs.Answers
+pub use Rattle.group_engine.specs.Replayed
 pub use Rattle.group_engine.specs.Reports as RunReports
 pub use Rattle.headline.specs.Ample
 pub use Rattle.headline.specs.Headline

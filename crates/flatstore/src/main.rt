@@ -30,7 +30,6 @@ mod replay;
 mod report;
 #[cfg(test)]
 mod row_tests;
-mod run_outcome;
 #[cfg(test)]
 mod tests;
 mod top;

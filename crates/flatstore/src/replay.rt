@@ -12,8 +12,7 @@ ghost use Rattle.flatstore.specs.Ordering.{is_of_region};
 
 use crate::report::{Report, Status};
 use fs_text::{Input, InputError, OutError, Sink, Source, read_input, write_replies};
-use crate::run_outcome;
-use crate::run_outcome::{End, Outcome};
+use group_engine::run_outcome::{self, End, Outcome};
 use pm_region::{ReadRegion, SplitRegion};
 use recover::{RecoverError, Recovered, recover_read};
 use std::alloc::Global;

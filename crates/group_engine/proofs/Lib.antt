@@ -3,6 +3,8 @@ mod Ending
 mod Stepping
 mod Working
 mod Seating
+mod Ranged
+mod Opens
 mod Kept
 mod Moving
 mod Advancing
@@ -11,3 +13,4 @@ mod Opened
 mod Reporting
 mod Outcomes
 mod Stopping
+mod Ended

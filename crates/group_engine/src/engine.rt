@@ -3,6 +3,7 @@ ghost use Rattle.std.specs.Prelude.{◌≡◌, ℕ, ◌<◌, ◌++◌, ◌∷◌
 ghost use Rattle.std.specs.List.{slice_get};
 ghost use Rattle.group_laws.specs.MemberViews.{View};
 ghost use Rattle.fs_model.specs.Cells.{key_of};
+ghost use Rattle.group_engine.specs.Reports.{IsBlank, HasRoomFor};
 
 use crate::engine_step::{collect, step};
 use crate::passes;
@@ -20,7 +21,8 @@ use std::alloc::Global;
 use std::collections::VecDeque;
 
 /// One worker for each core, one board for each group, by core the requests that its worker has not accepted yet, and
-/// the answers by number.
+/// the answers by number. What their report takes is there from the moment that a request is given, so it can be made
+/// where there is no memory any more.
 #[derive(Drop)]
 pub struct Engine<W> {
     pub layout: Geometry,
@@ -28,6 +30,10 @@ pub struct Engine<W> {
     pub boards: Vec<LocalBoard>,
     pub backlogs: Vec<VecDeque<(u64, Request)>>,
     pub answers: Vec<Option<Stamped>>,
+    /// Nothing yet, with room for all answers.
+    pub report: Report,
+    ghost blank: { IsBlank report },
+    ghost room: { HasRoomFor (length answers.items) report },
 }
 
 fn key_in(request: &Request) -> u64
@@ -88,8 +94,10 @@ impl<W: CoreWorker> Cores for Engine<W> {
     }
 
     fn give(&mut self, request: Request) -> Result<(), Memory> {
-        let number = self.answers.len() as u64;
+        let count = self.answers.len();
+        self.report.reserve(count + 1)?;
         self.answers.reserve(1)?;
+        let number = count as u64;
         let owner = (key_in(&request) % self.layout.cores as u64) as usize;
         append(&mut self.backlogs[owner], number, request)?;
         self.answers.push(None)?;
@@ -210,20 +218,19 @@ impl<W: CoreWorker> Engine<W> {
 }
 
 impl<W: CoreWorker + Drop> Engine<W> {
-    ghost use Rattle.std.specs.Prelude.{IfOk};
     ghost use Rattle.pm_region.specs.State.{State};
     ghost use Rattle.engine_laws.specs.Engine as engines;
     ghost use Rattle.engine_laws.specs.Stands.{Origin, Stands};
     ghost use Rattle.group_engine.specs.Reports.{ReportsOn};
     ghost use Rattle.group_engine.specs.Shows.{Shows};
 
-    /// The replies, and the report on them: those of the state that the engine shows.
-    pub fn into_report(self, alloc: Global) -> Result<Report, Memory>
-        ensures { IfOk result (λ r. (s : State) (o : Origin) (e : engines.Engine) → Stands o e
+    /// The replies, and the report on them: those of the state that the engine shows. It takes no memory.
+    pub fn into_report(self) -> Report
+        ensures { (s : State) (o : Origin) (e : engines.Engine) → Stands o e
             → Shows W.hands W.answers W.stands W.fair W.room W.leads (λ q. q.items) s self.layout
             self.workers.items self.boards.items self.backlogs.items self.answers.items e
-            → ReportsOn s o e r) }
+            → ReportsOn s o e result }
     {
-        report_on(alloc, self.answers)
+        report_on(self.answers, self.report)
     }
 }

@@ -1,4 +1,4 @@
-use Rattle.std.proofs.Common.{rules, ◌/◌, ◌<◌, sym, ◌∙◌, ap, subst, length, arith, slice_set}
+use Rattle.std.proofs.Common.{rules, ◌≡◌, ◌/◌, ◌<◌, sym, ◌∙◌, ap, subst, length, arith, slice_set}
 use Rattle.group_board.specs.Journals.{state}
 use Rattle.engine_laws.specs.Engine.{Engine}
 use Rattle.engine_laws.specs.Stands.{Origin, Stands}
@@ -7,7 +7,8 @@ use Rattle.engine_laws.proofs.Cores.{some_group}
 use Rattle.group_engine.specs.Answers.{HavePlaces, stored}
 use Rattle.group_engine.specs.Passes.{Ends}
 use Rattle.group_engine.specs.Shows.{Seat, Shows}
-use Rattle.group_engine.proofs.Kept.{index_set}
+use Rattle.group_engine.specs.Reports.{HasRoomFor}
+use Rattle.group_engine.proofs.Kept.{index_set, stored_length}
 use Rattle.group_engine.proofs.Advancing as advancing
 use Rattle.group_engine.proofs.engine.EngineCores.advance.Goals as goal
 
@@ -137,3 +138,10 @@ returns-clause-idle g c =
     let u_is = c.index_mut-4.ensures.value ∙ index_set en.workers.items c.args.core c.step-result.new.worker c.index_mut-4.result.now (let n = k.2.worker_count in let l = c.requires.core in omega (arith, n, l)) in
     advancing.stays W.left W.under_way W.most (λ q. q.items) en.workers.items en.boards.items en.backlogs.items c.args.core (c.args.core / en.layout.group) c.index_mut.result.now c.step-result.new.worker c.collect.new.worker c.index_mut-2.result.now c.step-result.new.board c.index_mut-3.result.now c.step-result.new.backlog
     (let n = k.2.worker_count in omega (arith, n, cores)) (let n = k.2.board_count in omega (arith, n, group)) (let n = k.2.backlog_count in omega (arith, n, cores)) c.index_mut.ensures.value c.index_mut-2.ensures.value c.index_mut-3.ensures.value (c.collect.ensures.left ∙ ap W.left u_is) c.step-result.result c.step-result.ensures.idle
+
+-- the answers are as many as before
+pub invariant_of-self : goal.invariant_of-self
+invariant_of-self g c =
+    let en = c.args.self.now in
+    let same : length c.collect.new.kept.items ≡ length en.answers.items = ap length c.collect.ensures.kept ∙ stored_length (g.W.CoreWorker.answers c.index_mut-4.result.now) c.stamp.result en.answers.items in
+    record { blank = en.blank; room = subst (λ n. HasRoomFor n en.report) (sym same) en.room }

@@ -1,5 +1,6 @@
 -- What a replay of lines on a region comes to, whatever the region tells.
-use Rattle.std.specs.Prelude.{◌≡◌, ◌≢◌, ℕ, ◌/◌, ◌<◌, List, ◌++◌, false}
+use Rattle.std.specs.Prelude.{◌≡◌, ◌≢◌, ℕ, ◌/◌, ◌<◌, List, ◌++◌, Bool, false, Result, Ok, Err, if◌then◌else◌}
+use Rattle.fs_errors.specs.declared.Memory.{Memory}
 use Rattle.fs_model.specs.declared.model.Request.{Request}
 use Rattle.fs_text.specs.declared.line.Line.{Line}
 use Rattle.pm_region.specs.State.{State, IsTelling}
@@ -13,9 +14,10 @@ use Rattle.engine_laws.specs.Stands.{Origin, Stands, opening}
 use Rattle.engine_laws.specs.Promises.{IsOrigin, HasStopped, Promised, AnyTurn, IsDone}
 use Rattle.engine_laws.specs.Ran.{Ran, asked_in}
 use Rattle.group_engine.specs.declared.run_report.Report.{Report}
+use Rattle.group_engine.specs.declared.run_outcome.End.{End}
 use Rattle.group_engine.specs.declared.run_outcome.End.TheVariants as ends
 use Rattle.group_engine.specs.declared.run_outcome.Outcome.{Outcome}
-use Rattle.flatstore.specs.Tolds.{ReportsOn, Causes}
+use Rattle.group_engine.specs.Reports.{ReportsOn}
 
 -- A whole region stands with each word certain, and this is what recovery gave of the words that it reads.
 pub record StandsAsFound (s : State) (word : ℕ → ℕ) (r : Recovered) : Type 0 where
@@ -33,6 +35,14 @@ pub record BeginsAt (s : State) (word : ℕ → ℕ) (o : Origin) : Type 0 where
   pub reads : (w : ℕ) → w < s.frame.bytes / 8 → o.found w ≡ word w
   pub tells : IsTelling s → (w : ℕ) → w < s.frame.bytes / 8 → o.found w ≡ lasts s w
 
+-- how a run ended, by whether a core has stopped and by what it answered
+abbrev pub end_by : Bool → Result (Unit {0}) Memory → End
+end_by stopped (Ok x) = if stopped then ends.RegionFault else ends.Complete
+end_by stopped (Err e) = ends.Memory
+
+abbrev pub outcome_by : Report → End → Outcome
+outcome_by r end = record { replies = r.replies; finishes = r.finishes; refusals = r.refusals; end = end }
+
 abbrev pub report_in : Outcome → Report
 report_in x = record { replies = x.replies; finishes = x.finishes; refusals = x.refusals }
 
@@ -45,7 +55,6 @@ pub record Replayed (s : State) (word : ℕ → ℕ) (lines : List Line) (t : St
   pub region : last.region ≡ t
   pub stands : Stands origin last
   pub promised : Promised origin last
-  pub causes : Causes origin last
   pub given : (more : List Request) × (asked_in lines ≡ last.given ++ more)
   pub reports : ReportsOn t origin last (report_in x)
   -- With memory all lines ran, everything is answered and nothing is under way.
