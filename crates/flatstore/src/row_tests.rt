@@ -102,6 +102,7 @@ fn sixteen_cores(rt: HostRuntime) -> Result<(), Fail> {
 }
 
 // A key, the requests that change it, and its cells before the first change and after each one; none is empty.
+#[derive(Clone, Copy)]
 struct Changed {
     key: u64,
     requests: &'static [u64],
