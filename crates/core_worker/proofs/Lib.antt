@@ -12,6 +12,7 @@ mod BlockPosts
 mod BlockClear
 pub mod HandKeys
 pub mod Aside
+mod CauseFacts
 mod QuietMoves
 pub mod KeyMoves
 mod HandPlaces
@@ -21,7 +22,6 @@ mod QuietItems
 mod PostMoves
 mod SearchLaws
 mod TurnLaws
-mod Resting
 mod RefusalLaws
 mod Gains
 mod Pointers

@@ -38,10 +38,11 @@ use Rattle.core_worker.specs.Order.{PointsAt, count_changes, unanswered, MayLead
 use Rattle.core_worker.specs.Posting.{PostsPlain}
 use Rattle.core_worker.specs.Ties.{Holds, Stands, LeadsNothing}
 use Rattle.core_worker.specs.Turns.{Steps}
-use Rattle.core_worker.specs.WorkerMoves.{Placed, Hands, placed, line_in, placed_in, placed_for, hands_of, AnswersKey, WorkerMoves}
+use Rattle.core_worker.specs.WorkerMoves.{Placed, Hands, placed, line_in, placed_in, placed_for, stock_of, hands_of, AnswersKey, WorkerMoves}
 use Rattle.core_worker.proofs.HandKeys.{holds_key}
 use Rattle.core_worker.proofs.HandPlaces.{held_at, held_beside}
 use Rattle.core_worker.proofs.QuietMoves.{runs_in}
+use Rattle.engine_laws.proofs.CauseLaws.{quiet_refuses}
 use Rattle.core_worker.proofs.KeyMoves.{no_steps}
 use Rattle.core_worker.proofs.Made.{one_step}
 use Rattle.core_worker.proofs.Posts.{same_keys, busy_same}
@@ -171,6 +172,7 @@ module _ (p : Place) (m : ℕ) (v : View) (w : Worker) (H : Holds p m v w) (slot
       own = λ y i. absurd i;
       keys = λ k own. post_keys k;
       holds = λ k own. holds_key p m u x N k;
+      refuses = λ k own. quiet_refuses p.layout (stock_of w) (v.last k) (v.last k) (omega arith);
       stops = λ is. absurd (let both : true ≡ false = sym is ∙ on in cc both);
       breaks = N.broken;
       stays_stopped = λ is. absurd (let both : true ≡ false = sym is ∙ runs in cc both);
@@ -323,6 +325,7 @@ fault_moves p m s t a v w x N place waits stopped outside moments exit rose = re
   own = λ y i. absurd i;
   keys = λ k own. kept_key v v (hands_of v w) (hands_of v x) k refl refl (place k) (waits k);
   holds = λ k own. holds_key p m v x N k;
+  refuses = λ k own. quiet_refuses p.layout (stock_of w) (v.last k) (v.last k) (omega arith);
   stops = λ is. inr (inl rose);
   breaks = N.broken;
   stays_stopped = λ is. stopped;

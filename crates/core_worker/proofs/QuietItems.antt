@@ -96,7 +96,7 @@ pub leading_moves : (seat : SeatAt) (s : State) (before after : Option Group) (v
     → WorkerMoves seat.place seat.number s s before after v u (hands_of v w) (hands_of u x) [] []
 leading_moves seat s before after v u w x H S N made L same =
     let K = led_keys v u L in
-    quiet_moves seat.place seat.number s s before after v u w x H (all_kept s (part_at seat.place seat.number) (part_end seat.place seat.number)) (started s (Licensed seat.place seat.number v) S.licensed) N.licensed made K.cell K.pending K.blocks
+    quiet_moves seat.place seat.number s s before after v u w x H (all_kept s (part_at seat.place seat.number) (part_end seat.place seat.number)) (started s (Licensed seat.place seat.number v) S.licensed) N.licensed made K.cell K.pending K.blocks (ap (λ (y : View). y.last) L.is)
     (λ k. ap (λ (y : Worker). placed_for v y.places.items k) same) (ap (λ (y : Worker). y.queue) same) (ap (λ (y : Worker). y.in_hand) same)
     (λ e. inl (sym (ap (λ (y : Worker). y.stopped) same) ∙ e)) (λ e. ap (λ (y : Worker). y.stopped) same ∙ e)
 

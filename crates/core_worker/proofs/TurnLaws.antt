@@ -36,7 +36,7 @@ use Rattle.core_worker.specs.Posting.{PostsOrStops}
 use Rattle.core_worker.proofs.Given.{adds_none}
 use Rattle.core_worker.specs.Turning.{TurnMoves, KeepsTurn, Did, at_entry}
 use Rattle.core_worker.specs.Turning.Did.{posts, loses_block}
-use Rattle.core_worker.specs.WorkerMoves.{Hands, Fixed, placed_in, placed_for, hands_of, fixed_of, requests_for, AnswersKey, WorkerMoves}
+use Rattle.core_worker.specs.WorkerMoves.{Hands, Fixed, placed_in, placed_for, stock_of, hands_of, fixed_of, requests_for, AnswersKey, WorkerMoves}
 use Rattle.core_worker.proofs.Led.{holds_by, stands_by}
 use Rattle.core_worker.proofs.QuietMoves.{quiet_moves, for_same}
 use Rattle.core_worker.proofs.QuietItems.{IsLed, order_as, order_leading, leading_moves}
@@ -97,7 +97,7 @@ module _ (seat : SeatAt) (s t : State) (before after : Option Group) (v u : View
         (busy_now w.places.items x.places.items count same) (count_same w.places.items x.places.items count (λ i. (same i).free)) (λ stopped. absurd (let both : true ≡ false = sym stopped ∙ runs in cc both)) O));
     rule = rule;
     moves = nothing_fixed seat s t before after v u w x (ap (λ (y : Worker). y.answers) P.same)
-        (quiet_moves seat.place seat.number s t before after v u w x N outside moments T.licensed made (ap (λ (y : View). y.cell) P.view) (ap (λ (y : View). y.pending) P.view) (ap (λ (y : View). y.blocks) P.view)
+        (quiet_moves seat.place seat.number s t before after v u w x N outside moments T.licensed made (ap (λ (y : View). y.cell) P.view) (ap (λ (y : View). y.pending) P.view) (ap (λ (y : View). y.blocks) P.view) (ap (λ (y : View). y.last) P.view)
         (held_same v w.places.items x.places.items count same) (ap (λ (y : Worker). y.queue) P.same) (ap (λ (y : Worker). y.in_hand) P.same)
         (λ e. inl (sym (ap (λ (y : Worker). y.stopped) P.same) ∙ e)) (λ e. ap (λ (y : Worker). y.stopped) P.same ∙ e));
   } where
@@ -214,7 +214,7 @@ abbrev seen_view : View → List Seen → View
 seen_view v xs = record v { looked = xs }
 
 hands_seen : (v : View) (xs : List Seen) (w : Worker) → hands_of (seen_view v xs) w ≡ hands_of v w
-hands_seen v xs w = (λ i. record { place = λ k. for_same v (seen_view v xs) w.places.items k refl refl i; waits = (hands_of v w).waits; stopped = w.stopped })
+hands_seen v xs w = (λ i. record { place = λ k. for_same v (seen_view v xs) w.places.items k refl refl i; waits = (hands_of v w).waits; stopped = w.stopped; stock = stock_of w })
 
 key_seen : (v u : View) (xs : List Seen) (w x : Hands) (k : ℕ) (accepted : List (ℕ × Request)) (fixed : List Fixed) → AnswersKey (seen_view v xs) u w x k accepted fixed → AnswersKey v u w x k accepted fixed
 key_seen v u xs w x k accepted fixed A = record { order = A.order; lawful = A.lawful; cell = A.cell; after_stop = A.after_stop; stops = A.stops; posted = A.posted; doubt = A.doubt }
@@ -237,6 +237,7 @@ module _ (seat : SeatAt) (s t : State) (before mid after : Option Group) (v : Vi
         own = N.own;
         keys = λ k own. key_seen v u xs (hands_of v w) (hands_of u x) k (requests_for k []) (fixed_of k fixed) (N.keys k own);
         holds = N.holds;
+        refuses = N.refuses;
         stops = λ e. ⊎_elim (λ a. inl a) (λ b. inr (⊎_elim (λ rose. inl rose) (λ stood. inr (stood_before before mid seat.number ss (seen_view v xs) made stood)) b)) (N.stops e);
         breaks = N.breaks;
         stays_stopped = N.stays_stopped;

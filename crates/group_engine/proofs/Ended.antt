@@ -1,14 +1,14 @@
 -- What a run on an engine comes to, by what it answered.
-use Rattle.std.proofs.Common.{◌≡◌, ◌≢◌, ℕ, ◌<◌, List, [], ◌++◌, Bool, true, false, Result, Ok, Err, OnOk, OnErr, refl, sym, ◌∙◌, ap, subst, append-nil}
+use Rattle.std.proofs.Common.{◌≡◌, ℕ, ◌<◌, List, [], Bool, true, false, Result, Ok, Err, OnOk, OnErr, refl, sym, ◌∙◌, subst, append-nil}
 use Rattle.fs_errors.specs.declared.Memory.{Memory}
-use Rattle.fs_model.specs.declared.model.Request.{Request}
 use Rattle.fs_text.specs.declared.line.Line.{Line}
-use Rattle.pm_region.specs.State.{State, IsTelling}
+use Rattle.pm_region.specs.State.{State}
 use Rattle.chunk_map.specs.Layouts.{layout_of}
 use Rattle.engine_laws.specs.Engine.{Engine}
 use Rattle.engine_laws.specs.Stands.{Origin, Stands, opening}
 use Rattle.engine_laws.specs.Promises.{IsOrigin, HasStopped, Promised, AnyTurn, IsDone}
 use Rattle.engine_laws.specs.Ran.{Ran, asked_in}
+use Rattle.engine_laws.specs.Ceasing.{HasCeased}
 use Rattle.engine_laws.proofs.Begins.{opens}
 use Rattle.engine_laws.proofs.Kept.{promised}
 use Rattle.engine_laws.proofs.Ran.{Delivers, ran_stands, ran_given}
@@ -47,9 +47,14 @@ module _ (s t : State) (word : ℕ → ℕ) (lines : List Line) (o : Origin) (B 
     reports = R;
     ran = λ e. run;
     done = λ e. D;
+    ceased = λ e. absurd (not_memory stopped e);
     fault = fault stopped halts;
     complete = complete stopped goes;
   } where
+    not_memory : (b : Bool) → end_by b (Ok tt) ≡ ends.Memory → ⊥
+    not_memory true e = cc e
+    not_memory false e = cc e
+
     fault : (b : Bool) → (b ≡ true → HasStopped f) → end_by b (Ok tt) ≡ ends.RegionFault → HasStopped f
     fault true h e = h refl
     fault false h e = absurd (cc e)
@@ -59,8 +64,8 @@ module _ (s t : State) (word : ℕ → ℕ) (lines : List Line) (o : Origin) (B 
     complete false h e = h refl
 
   -- and one without
-  gave_up : EndsIn t lines (opening o) f → Promised o f → ReportsOn t o f r → Replayed s word lines t (outcome_by r ends.Memory)
-  gave_up E D R = record {
+  gave_up : EndsIn t lines (opening o) f → Promised o f → HasCeased f → ReportsOn t o f r → Replayed s word lines t (outcome_by r ends.Memory)
+  gave_up E D C R = record {
     origin = o;
     last = f;
     begins = B;
@@ -71,12 +76,13 @@ module _ (s t : State) (word : ℕ → ℕ) (lines : List Line) (o : Origin) (B 
     reports = R;
     ran = λ ne. absurd (ne refl);
     done = λ ne. absurd (ne refl);
+    ceased = λ e. C;
     fault = λ e. absurd (cc e);
     complete = λ e. absurd (cc e);
   }
 
 pub replayed : (Shown : Engine → Type 0) (s t : State) (word : ℕ → ℕ) (lines : List Line) (o : Origin) → BeginsAt s word o → (run : Result (Unit {0}) Memory)
-    → OnErr run ((f : Engine) × Shown f × EndsIn t lines (opening o) f × Promised o f)
+    → OnErr run ((f : Engine) × Shown f × EndsIn t lines (opening o) f × Promised o f × HasCeased f)
     → OnOk run ((f : Engine) × Shown f × Ran AnyTurn (layout_of o.found).cores lines (opening o) f × IsDone o f)
     → ((f : Engine) → Shown f → f.region ≡ t) → (stopped : Bool)
     → (stopped ≡ true → (f : Engine) → Stands o f → Shown f → HasStopped f)
@@ -90,7 +96,15 @@ replayed Shown s t word lines o B (Ok u) failed ran placed stopped halts goes r 
 replayed Shown s t word lines o B (Err m) failed ran placed stopped halts goes r reports x is =
     let f = failed.0 in
     let S = failed.2.stands o (first_stands o B.is) in
-    subst (λ y. Replayed s word lines t y) (sym is) (gave_up s t word lines o B f (placed f failed.1) r failed.2 failed.3 (reports f S failed.1))
+    subst (λ y. Replayed s word lines t y) (sym is) (gave_up s t word lines o B f (placed f failed.1) r failed.2 failed.3 failed.4 (reports f S failed.1))
+
+-- in the first state nothing is under way
+nothing_under_way : (o : Origin) → HasCeased (opening o)
+nothing_under_way o = record {
+  posted = λ k x e. absurd (cc e);
+  slots = λ g m s low own. refl;
+  leads = λ g h low e. cc e;
+}
 
 -- where no engine could be opened
 pub not_opened : (s : State) (word : ℕ → ℕ) (lines : List Line) (o : Origin) → BeginsAt s word o → (r : Report) → IsBlank r → (x : Outcome) → x ≡ outcome_by r ends.Memory → Replayed s word lines s x
@@ -99,4 +113,5 @@ not_opened s word lines o B r N x is =
     subst (λ y. Replayed s word lines s y) (sym is) (gave_up s s word lines o B (opening o) B.region r
     (record { region = B.region; stands = λ p S. S; given = (asked_in lines, refl) })
     (promised o (opening o) S)
+    (nothing_under_way o)
     (reports_on s o (opening o) [] r S refl (λ n. tt) B.region (blank_report r N)))

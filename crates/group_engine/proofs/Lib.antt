@@ -2,6 +2,7 @@ mod Passing
 mod Ending
 mod Stepping
 mod Working
+mod FreeFound
 mod Seating
 mod Ranged
 mod Opens
@@ -13,4 +14,5 @@ mod Opened
 mod Reporting
 mod Outcomes
 mod Stopping
+mod Winding
 mod Ended

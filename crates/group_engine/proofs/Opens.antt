@@ -1,5 +1,5 @@
 -- Where a region stands as recovery found it, a run may begin there, and the workers of the starts are seated in its first state.
-use Rattle.std.proofs.Common.{◌≡◌, ◌⊎◌, inl, inr, ℕ, zero, suc, ◌+◌, ◌*◌, ◌/◌, ◌%◌, ◌^◌, ◌<◌, List, [], ◌∷◌, ◌++◌, length, Option, Some, refl, sym, ◌∙◌, ap, subst, arith}
+use Rattle.std.proofs.Common.{◌≡◌, inl, inr, ℕ, zero, suc, ◌+◌, ◌/◌, ◌^◌, ◌<◌, List, [], ◌∷◌, ◌++◌, length, Some, refl, sym, ◌∙◌, subst, arith}
 use Rattle.std.specs.Prelude.{slice_index_or}
 use Rattle.std.specs.List.{slice_get}
 use Rattle.pm_region.specs.State.{State, IsTelling, InRange, cell_now}
@@ -121,8 +121,8 @@ module _ (s : State) (word : ℕ → ℕ) (tells : (w : ℕ) → IsTelling s →
       let first = all c w start at from.1 in
       let both = seated c w start low same first in
       first o c layout_is
-          (subst (λ (l : Geometry). IsStartAt (place_at l (group_of l c)) (member_of l c) o.found start) layout_is both.0)
-          (subst (λ (l : Geometry). IsCertainAt s (place_at l (group_of l c)) (member_of l c) o.found start) layout_is both.1)
+      (subst (λ (l : Geometry). IsStartAt (place_at l (group_of l c)) (member_of l c) o.found start) layout_is both.0)
+      (subst (λ (l : Geometry). IsCertainAt s (place_at l (group_of l c)) (member_of l c) o.found start) layout_is both.1)
 
 pub no_seats : (starts : List CoreStart) (l : Geometry) (ws : List Worker) → ws ≡ [] → SeatFirst starts l ws
 no_seats starts l ws blank c w start at from = let no : slice_get {X = Worker} [] c ≡ Some w = subst (λ (xs : List Worker). slice_get xs c ≡ Some w) blank at in absurd (cc no)

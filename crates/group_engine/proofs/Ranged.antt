@@ -1,18 +1,15 @@
 -- What recovery finds in a region's words depends on those in its range alone, so a list of them says the same.
-use Rattle.std.proofs.Common.{◌≡◌, ℕ, zero, suc, ◌+◌, ◌*◌, ◌/◌, ◌<◌, ◌≤◌, ◌==◌, List, [], ◌∷◌, map, length, Bool, true, false, cond, Option, Some, None, Result, Ok, Err, refl, sym, ◌∙◌, ap, subst, arith}
+use Rattle.std.proofs.Common.{◌≡◌, ℕ, zero, suc, ◌+◌, ◌*◌, ◌/◌, ◌<◌, ◌≤◌, ◌==◌, List, [], ◌∷◌, map, Bool, true, false, cond, Some, None, Ok, refl, sym, ◌∙◌, ap, subst, arith}
 use Rattle.std.specs.Prelude.{get_or, option_map, unwrap_or, slice_index_or, nat_lt, fold}
 use Rattle.std.specs.List.{AllByRecursion, count_by}
 use Rattle.std.proofs.lemmas.Bool.{ltb-true}
 use Rattle.chunk_map.specs.declared.layouts.Geometry.{Geometry}
-use Rattle.chunk_map.specs.declared.heads.Head.{Head}
 use Rattle.chunk_map.specs.declared.heads.Head.TheVariants.{Log}
-use Rattle.chunk_map.specs.Layouts.{numbers, layout_of, total_bytes, chunk_words, payload_words, chunk_first, head_at, owner}
+use Rattle.chunk_map.specs.Layouts.{numbers, layout_of, total_bytes, chunk_words, payload_words, chunk_first, head_at}
 use Rattle.log_entry.specs.Batches.{scan_of}
 use Rattle.log_entry.proofs.Images.{words_same}
-use Rattle.store_image.specs.declared.types.PlacedEntry.{PlacedEntry}
-use Rattle.store_image.specs.Facts.{IsStore}
 use Rattle.store_image.specs.Parts.{payload, all_entries}
-use Rattle.store_image.specs.Winners.{winner, winner_in}
+use Rattle.store_image.specs.Winners.{winner_in}
 use Rattle.store_image.specs.Soundness.{IsSound}
 use Rattle.store_image.proofs.Agree.{entries_agree, fault_agrees}
 use Rattle.store_image.proofs.Local.{head_same, tail_within}
@@ -25,13 +22,12 @@ use Rattle.core_index.specs.Index.{known_at}
 use Rattle.lazy_alloc.specs.Heads.{is_free, class_in}
 use Rattle.lazy_alloc.specs.Sets.{Sets}
 use Rattle.log_standing.specs.NameCounts.{StandingState}
-use Rattle.log_standing.specs.ChunkCounts.{has_name, chunks_in}
+use Rattle.log_standing.specs.ChunkCounts.{has_name}
 use Rattle.recover.specs.declared.types.CoreStart.{CoreStart}
 use Rattle.recover.specs.declared.types.Recovered.{Recovered}
-use Rattle.recover.specs.Gathering.{AllSpell}
 use Rattle.recover.specs.Logs.{HasLogsOf, IsStart, tail_behind, SpellsLog}
 use Rattle.recover.specs.Recovering.{IsMade, IsOf, IsFound}
-use Rattle.recover.specs.Starts.{IsWon, IsAllocatorOf, IsIndexOf, HasCopiesOf, KnownAs, named_in}
+use Rattle.recover.specs.Starts.{IsWon, IsAllocatorOf, HasCopiesOf, KnownAs, named_in}
 use Rattle.group_board.specs.Journals.{image_of}
 
 -- the first n words
@@ -120,7 +116,7 @@ module _ (l : Geometry) (is : Numbers l) (i j : ℕ → ℕ) (same : (w : ℕ) �
           let less : x.chunk < l.chunks = subst (λ (g : Geometry). x.chunk < g.chunks) layout C.within in
           let fits : tail_in log x.chunk ≤ payload_words l = subst (λ (g : Geometry). tail_in log x.chunk ≤ payload_words g) layout (tail_low log.layout log.chunks x.chunk each) in
           let words : payload i (first_of log x.chunk) (tail_in log x.chunk) ≡ payload j (first_of log x.chunk) (tail_in log x.chunk)
-            = ap (λ n. payload i n (tail_in log x.chunk)) at ∙ payloads c x.chunk low less (tail_in log x.chunk) fits ∙ sym (ap (λ n. payload j n (tail_in log x.chunk)) at) in
+          = ap (λ n. payload i n (tail_in log x.chunk)) at ∙ payloads c x.chunk low less (tail_in log x.chunk) fits ∙ sym (ap (λ n. payload j n (tail_in log x.chunk)) at) in
           ap (λ ws. has_name (scan_of ws).entries k v) words
 
   -- what is found in the one is found in the other

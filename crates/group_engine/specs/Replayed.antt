@@ -13,6 +13,7 @@ use Rattle.engine_laws.specs.Engine.{Engine}
 use Rattle.engine_laws.specs.Stands.{Origin, Stands, opening}
 use Rattle.engine_laws.specs.Promises.{IsOrigin, HasStopped, Promised, AnyTurn, IsDone}
 use Rattle.engine_laws.specs.Ran.{Ran, asked_in}
+use Rattle.engine_laws.specs.Ceasing.{HasCeased}
 use Rattle.group_engine.specs.declared.run_report.Report.{Report}
 use Rattle.group_engine.specs.declared.run_outcome.End.{End}
 use Rattle.group_engine.specs.declared.run_outcome.End.TheVariants as ends
@@ -60,6 +61,8 @@ pub record Replayed (s : State) (word : ℕ → ℕ) (lines : List Line) (t : St
   -- With memory all lines ran, everything is answered and nothing is under way.
   pub ran : x.end ≢ ends.Memory → Ran AnyTurn (layout_of origin.found).cores lines (opening origin) last
   pub done : x.end ≢ ends.Memory → IsDone origin last
+  -- Without it all cores were wound down: what was posted or taken is finished.
+  pub ceased : x.end ≡ ends.Memory → HasCeased last
   -- A fault is told exactly where a core has stopped.
   pub fault : x.end ≡ ends.RegionFault → HasStopped last
   pub complete : x.end ≡ ends.Complete → (c : ℕ) → c < last.layout.cores → last.stopped c ≡ false

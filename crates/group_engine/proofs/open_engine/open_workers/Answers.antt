@@ -1,4 +1,4 @@
-use Rattle.std.proofs.Common.{◌≡◌, ◌+◌, ◌∷◌, ◌++◌, [], length, length-append, sym, ◌∙◌, ap, subst, append_assoc, append-nil}
+use Rattle.std.proofs.Common.{◌+◌, ◌∷◌, ◌++◌, [], length, length-append, sym, ◌∙◌, ap, subst, append_assoc, append-nil}
 use Rattle.std.proofs.lemmas.List.{nil_from_length}
 use Rattle.group_engine.specs.Working.{SeatFirst}
 use Rattle.group_engine.proofs.Opens.{no_seats, seat_more}

@@ -1,4 +1,4 @@
-use Rattle.std.proofs.Common.{◌≡◌, ◌<◌, ◌+◌, ◌∷◌, [], ◌++◌, length, length-append, sym, ◌∙◌, ap, append_assoc, arith}
+use Rattle.std.proofs.Common.{◌∷◌, [], ◌++◌, length, length-append, sym, ◌∙◌, ap, append_assoc, arith}
 use Rattle.group_engine.proofs.Reporting.{report_more, room_more, has_room, blank_report, blank_within}
 use Rattle.group_engine.proofs.run_report.report_on.Goals as goal
 

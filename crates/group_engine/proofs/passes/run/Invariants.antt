@@ -1,7 +1,7 @@
 use Rattle.std.proofs.Common.{◌≡◌, length}
 use Rattle.engine_laws.specs.Engine.{Engine}
 use Rattle.group_engine.specs.Passes.{RanSoFar, NameCores, Begun}
-use Rattle.group_engine.proofs.passes.replay.Given as goal
+use Rattle.group_engine.proofs.passes.run.Given as goal
 
 abbrev pub invariant-loop-request : goal.invariant-loop-request
 invariant-loop-request g l =
