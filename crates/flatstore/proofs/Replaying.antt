@@ -1,6 +1,5 @@
 -- From the last state of a run to what the program promises.
 use Rattle.std.proofs.Common.{◌≡◌, ◌≢◌, ◌⊎◌, inl, inr, ℕ, ◌/◌, ◌<◌, ◌≤◌, List, [], ◌∷◌, ◌++◌, length, refl, sym, ◌∙◌, ap, subst, arith, true, false, Bool, Option, Some, None, append-nil, map, take, ◌+◌, ◌%◌, length-append, Ok}
-
 use Rattle.std.specs.List.{AllByRecursion}
 use Rattle.pm_region.specs.State.{State, Frame, IsTold, IsTelling, MayLeave, Rose, cell_now}
 use Rattle.pm_region.specs.Split.{Attached, IsOpenedOnceMore}

@@ -50,6 +50,5 @@ some_cores s word r S = let n = (numbers_of r.layout S.made.layout).cores_low in
 pub origin_cores : (s : State) (word : ℕ → ℕ) (r : Recovered) → StandsAsFound s word r → (o : Origin) → ((w : ℕ) → w < s.frame.bytes / 8 → o.found w ≡ word w) → (layout_of o.found).cores ≡ r.layout.cores
 origin_cores s word r S o reads =
     let total = S.made.total in
-
     let high : 2 < s.frame.bytes / 8 = omega (arith, total) in
     reads 2 high ∙ sym (ap (λ (l : Geometry). l.cores) S.found.is_of.layout_is)

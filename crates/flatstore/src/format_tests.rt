@@ -22,7 +22,11 @@ fn words(alloc: Global, line: &str) -> Result<Vec<String>, AllocError> {
 }
 
 // A call of the program, with no input.
-fn call<R: SplitRegion + ReadRegion>(alloc: Global, line: &str, region: &mut R) -> Result<Report, Fail> {
+fn call<R: SplitRegion + ReadRegion>(
+    alloc: Global,
+    line: &str,
+    region: &mut R,
+) -> Result<Report, Fail> {
     let mut source = SteadySource::new(Vec::new(alloc), 1);
     let mut sink = SteadySink::new(alloc, 10, 10)?;
     let words = words(alloc, line)?;

@@ -77,11 +77,17 @@ fn eight_groups(alloc: Global) -> Result<(String, String), Fail> {
     for group in 0..8u64 {
         let first = 2 * group;
         let second = first + 1;
-        let lines = format!(in alloc; "put {first} a\nput {second} b\ngo {second} 2\ngo {first} 20\n")?;
+        let lines = format!(in alloc;
+            "put {first} a\nput {second} b\ngo {second} 2\ngo {first} 20\n"
+        )?;
         input.push_str(lines.as_str())?;
-        let entry = format!(in alloc; "core {first} chunk 0 place 0 key {first} version 1 embedded 1\n")?;
+        let entry = format!(in alloc;
+            "core {first} chunk 0 place 0 key {first} version 1 embedded 1\n"
+        )?;
         log.push_str(entry.as_str())?;
-        let entry = format!(in alloc; "core {first} chunk 0 place 3 key {second} version 1 embedded 1\n")?;
+        let entry = format!(in alloc;
+            "core {first} chunk 0 place 3 key {second} version 1 embedded 1\n"
+        )?;
         log.push_str(entry.as_str())?;
     }
     Ok((input, log))
@@ -175,7 +181,12 @@ fn region_of(alloc: Global, cores: u8, fails: &[u64]) -> Result<MemRegion, Fail>
 }
 
 // Whether each image of each stamp since the attach has them.
-fn has_all(alloc: Global, region: &MemRegion, report: &Report, changes: &[Changed]) -> Result<bool, Fail> {
+fn has_all(
+    alloc: Global,
+    region: &MemRegion,
+    report: &Report,
+    changes: &[Changed],
+) -> Result<bool, Fail> {
     for stamp in 0..region.stamp() {
         if !has_prefixes(alloc, region, report, changes, stamp)? {
             return Ok(false);
@@ -188,9 +199,21 @@ fn has_all(alloc: Global, region: &MemRegion, report: &Report, changes: &[Change
 fn images_of_a_batch(rt: HostRuntime) -> Result<(), Fail> {
     let alloc = rt.alloc();
     let changes = [
-        Changed { key: 0, requests: &[0], cells: &["", "a"] },
-        Changed { key: 1, requests: &[1], cells: &["", "b"] },
-        Changed { key: 2, requests: &[2], cells: &["", "c"] },
+        Changed {
+            key: 0,
+            requests: &[0],
+            cells: &["", "a"],
+        },
+        Changed {
+            key: 1,
+            requests: &[1],
+            cells: &["", "b"],
+        },
+        Changed {
+            key: 2,
+            requests: &[2],
+            cells: &["", "c"],
+        },
     ];
     let mut region = region_of(alloc, 4, &[])?;
     let (report, _) = replay(alloc, &mut region, ONE_BATCH)?;
@@ -203,8 +226,16 @@ fn images_of_a_batch(rt: HostRuntime) -> Result<(), Fail> {
 fn images_of_a_stolen_change(rt: HostRuntime) -> Result<(), Fail> {
     let alloc = rt.alloc();
     let changes = [
-        Changed { key: 4, requests: &[0, 3], cells: &["", "a", "b"] },
-        Changed { key: 1, requests: &[1], cells: &["", "x"] },
+        Changed {
+            key: 4,
+            requests: &[0, 3],
+            cells: &["", "a", "b"],
+        },
+        Changed {
+            key: 1,
+            requests: &[1],
+            cells: &["", "x"],
+        },
     ];
     let mut region = region_of(alloc, 4, &[])?;
     let (report, _) = replay(alloc, &mut region, STOLEN)?;
@@ -217,8 +248,16 @@ fn images_of_a_stolen_change(rt: HostRuntime) -> Result<(), Fail> {
 fn a_core_that_stops(rt: HostRuntime) -> Result<(), Fail> {
     let alloc = rt.alloc();
     let changes = [
-        Changed { key: 0, requests: &[0], cells: &["", "a"] },
-        Changed { key: 1, requests: &[1], cells: &["", "b"] },
+        Changed {
+            key: 0,
+            requests: &[0],
+            cells: &["", "a"],
+        },
+        Changed {
+            key: 1,
+            requests: &[1],
+            cells: &["", "b"],
+        },
     ];
     let table = [
         ("", "stopped\nstored\nstopped\nvalue b\n"),

@@ -157,7 +157,11 @@ fn replies(rt: HostRuntime) -> Result<(), Fail> {
             "",
         ),
         ("go 1 1\n", Status::BadInput { line: 1, rule: 6 }, ""),
-        ("get 1\ngo 0 1\nput 1 a\ngo 0\n", Status::Done, "absent\nstored\n"),
+        (
+            "get 1\ngo 0 1\nput 1 a\ngo 0\n",
+            Status::Done,
+            "absent\nstored\n",
+        ),
     ];
     for (input, status, text) in table {
         let (report, written) = row(alloc, input)?;
