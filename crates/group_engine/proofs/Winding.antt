@@ -69,7 +69,7 @@ module _ {W : Type 0} (hands : View → W → Hands) (answers : W → List Answe
     seat : (c : ℕ) (w x : W) → Seat hands answers stands fair room leads e c w → WindsDown hands answers stands fair room leads winds w x → Seat hands answers stands fair room leads f c x
     seat c w x Y D = record {
       view = Y.view;
-      sits = (let sits : Sits e c Y.view (hands Y.view x) = subst (λ (h : Hands). Sits e c Y.view h) (sym (D.held Y.view)) Y.sits in record { view = sits.view; place = sits.place; waits = sits.waits; stopped = sits.stopped });
+      sits = (let sits : Sits e c Y.view (hands Y.view x) = subst (λ (h : Hands). Sits e c Y.view h) (sym (D.held Y.view)) Y.sits in record { view = sits.view; place = sits.place; waits = sits.waits; stopped = sits.stopped; stock = sits.stock });
       tied = D.tied _ _ e.region Y.view Y.tied;
       fairly = D.fairly _ _ Y.fairly;
       takes = sym D.closed;
