@@ -38,11 +38,13 @@ format_command =
 abbrev pub bare_program : App
 bare_program = on_top (λ s. record s { subcommand_required = true }) (new_app (codes "flatstore"))
 
+-- with what makes a region and what changes one
+abbrev pub writing_program : App
+writing_program = with_subcommand (with_subcommand bare_program format_command.top) (region_command (codes "replay")).top
+
 -- the command of the program
 abbrev pub program : App
-program =
-    with_subcommand (with_subcommand (with_subcommand (with_subcommand bare_program format_command.top)
-    (region_command (codes "replay")).top) (region_command (codes "dump")).top) (region_command (codes "log")).top
+program = with_subcommand (with_subcommand writing_program (region_command (codes "dump")).top) (region_command (codes "log")).top
 
 -- no kind of error comes
 abbrev pub is_good : Kinds → Bool

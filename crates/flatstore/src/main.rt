@@ -29,6 +29,8 @@ mod playing;
 mod replay;
 mod report;
 #[cfg(test)]
+mod row_tests;
+#[cfg(test)]
 mod tests;
 mod top;
 

@@ -20,14 +20,14 @@ use crate::logging::log_region;
 use crate::playing::replay_region;
 use crate::report::{Report, Status};
 use fs_text::{Sink, Source};
-use pm_region::SplitRegion;
+use pm_region::{ReadRegion, SplitRegion};
 use std::alloc::Global;
 
 /// Does what the words of a command line ask. The first word is the program's name. For `format` the region is created
-/// and its superblock written. For `replay` the region is attached, the input is read, its requests are answered in
-/// order, and the replies are written once all are answered. For `dump` the region is attached, and its live pairs are
-/// written, and for `log` the entries of its logs.
-pub fn flatstore<S: Source, O: Sink, R: SplitRegion>(
+/// and its superblock written. For `replay` the region is attached, the input is read, its lines are run in order, each
+/// core's moves by its `go` lines, and the replies are written once all are answered. For `dump` the region is attached,
+/// and its live pairs are written, and for `log` the entries of its logs.
+pub fn flatstore<S: Source, O: Sink, R: SplitRegion + ReadRegion>(
     alloc: Global,
     words: &Vec<String>,
     source: &mut S,
@@ -58,9 +58,9 @@ pub fn flatstore<S: Source, O: Sink, R: SplitRegion>(
     ensures attaches { (path : List ℕ) → form_of (words_of words.now.items) ≡ Some (Replay path)
         → Attaches (R.state region.old) (R.state region.new) (R.found region.old) result }
     ensures replay { (path : List ℕ) → form_of (words_of words.now.items) ≡ Some (Replay path) → result.attached ≡ true
-        → (input : List ℕ) × IsInput (S.coming source.old) input
+        → (input : List ℕ) × (cores : ℕ) × IsInput (S.coming source.old) input
         × Replays (R.state region.old) (R.state region.new) (R.found region.old)
-        (S.coming source.old) (S.coming source.new) (S.fault_count source.old) (S.fault_count source.new) input
+        (S.coming source.old) (S.coming source.new) (S.fault_count source.old) (S.fault_count source.new) cores input
         (O.taken sink.old) (O.taken sink.new) (O.flushed sink.new) (O.fault_count sink.old) (O.fault_count sink.new) result }
 
     // A fault comes only where its count rose.

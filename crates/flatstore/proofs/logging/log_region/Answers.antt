@@ -1,5 +1,5 @@
 -- What was read stands in the region as it was found.
-use Rattle.std.proofs.Common.{ℕ, List, refl, ◌∙◌, ap, subst}
+use Rattle.std.proofs.Common.{List, refl, ◌∙◌, subst}
 use Rattle.pm_region.specs.State.{IsTelling}
 use Rattle.store_image.specs.declared.types.PlacedEntry.{PlacedEntry}
 use Rattle.fs_text.specs.Output.{entries_text}
