@@ -1,5 +1,5 @@
 -- After a batch each chunk is still free, Data or the log's.
-use Rattle.std.proofs.Common.{◌≡◌, ◌⊎◌, inl, inr, ⊎_elim, ℕ, ◌+◌, ◌==◌, not, Bool, true, false, List, length, Option, Some, None, refl, sym, ◌∙◌, ap, subst}
+use Rattle.std.proofs.Common.{◌≡◌, ◌⊎◌, inl, inr, ⊎_elim, ℕ, ◌+◌, ◌==◌, not, Bool, true, false, List, length, Option, Some, None, sym, ◌∙◌, ap, subst}
 use Rattle.std.specs.Prelude.{is_some}
 use Rattle.std.proofs.lemmas.Bool.{cases_eq, ne_eqb, and_from}
 use Rattle.core_log.specs.declared.types.LogChunk.{LogChunk}
@@ -7,7 +7,7 @@ use Rattle.core_log.specs.Log.{LogState, tail_of, with_tail, open_number, open_t
 use Rattle.core_log.proofs.TailLaws.{tail_set, tail_other}
 use Rattle.lazy_alloc.specs.Sets.{Sets, chunk_is_free}
 use Rattle.batch_leader.specs.Persisting.{opened_for}
-use Rattle.core_worker.specs.OwnChunks.{IsFreeOrData, HasChunk, AreChunks}
+use Rattle.core_worker.specs.OwnChunks.{IsFreeOrData, AreChunks}
 use Rattle.core_worker.specs.Turns.{TakesFor}
 
 -- a chunk of the log stays one

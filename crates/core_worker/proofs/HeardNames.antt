@@ -1,10 +1,10 @@
 -- The names of the own log are told dead while the core hears of its own dead entries.
-use Rattle.std.proofs.Common.{◌≡◌, ◌⊎◌, inl, inr, ⊎_elim, ℕ, ◌<◌, ◌≤◌, Bool, true, false, cond, List, Option, Some, None, option_map, refl, sym, ◌∙◌, ap, subst, arith}
+use Rattle.std.proofs.Common.{◌≡◌, ◌⊎◌, inl, inr, ⊎_elim, ℕ, ◌<◌, Bool, true, false, cond, List, Option, Some, None, option_map, refl, sym, ◌∙◌, ap, subst, arith}
 use Rattle.std.proofs.lemmas.Bool.{cases_eq}
 use Rattle.log_entry.specs.declared.entry.EntryName.{EntryName}
 use Rattle.core_index.specs.declared.types.Standing.{Standing}
 use Rattle.core_index.specs.Index.{known_at, Tells}
-use Rattle.core_index.specs.Records.{KeyRecord, Awaits, is_dead, standing_at, standing_of, standing_with, told, told_in}
+use Rattle.core_index.specs.Records.{KeyRecord, Awaits, standing_at, standing_of, standing_with, told, told_in}
 use Rattle.core_index.specs.Slots.{Place}
 use Rattle.core_index.proofs.Clients.{at_told, at_told_other}
 use Rattle.log_standing.specs.declared.types.Copies.{Copies}

@@ -1,6 +1,5 @@
 -- The names of a batch are added one after another.
-use Rattle.std.proofs.Common.{◌≡◌, ℕ, zero, suc, ◌+◌, ◌≤◌, ◌<◌, Bool, true, false, cond, List, [], ◌∷◌, length, take, Option, Some, None, option_map, refl, sym, ◌∙◌, ap, subst, arith}
-use Rattle.std.specs.Prelude.{slice_get, count_by}
+use Rattle.std.proofs.Common.{◌≡◌, ℕ, zero, suc, ◌+◌, ◌≤◌, Bool, true, false, cond, List, [], ◌∷◌, length, take, Option, Some, None, refl, ◌∙◌, ap, arith}
 use Rattle.std.proofs.lemmas.List.Sums.{sum_by-cons}
 use Rattle.log_entry.specs.declared.entry.Entry.{Entry}
 use Rattle.log_entry.specs.declared.entry.EntryName.{EntryName}
@@ -9,7 +8,7 @@ use Rattle.log_standing.specs.NameCounts.{StandingState, name_eq, copies_at, cou
 use Rattle.log_standing.specs.NameCounts as counts
 use Rattle.log_standing.proofs.StandingLaws.{same_name}
 use Rattle.batch_leader.specs.declared.taken.Taken.{Taken}
-use Rattle.batch_leader.specs.TakenChanges.{entry_in, entries_in, name_of, name_in}
+use Rattle.batch_leader.specs.TakenChanges.{entries_in, name_in}
 use Rattle.core_worker.specs.StandingTies.{named_in, most_names, AddsNames}
 
 -- 1 where a name is this one

@@ -1,11 +1,9 @@
 -- What is known of the names in the own log, after each change of them.
-use Rattle.std.proofs.Common.{◌≡◌, ◌⊎◌, inl, inr, ⊎_elim, ℕ, zero, suc, ◌+◌, ◌≤◌, ◌<◌, Bool, true, false, List, [], ◌∷◌, ◌++◌, Option, Some, None, refl, sym, ◌∙◌, ap, subst, arith}
+use Rattle.std.proofs.Common.{◌≡◌, ◌⊎◌, inl, inr, ⊎_elim, ℕ, zero, suc, ◌<◌, Bool, true, false, List, [], ◌∷◌, ◌++◌, Option, refl, sym, ◌∙◌, ap, arith}
 use Rattle.std.specs.Prelude.{is_some}
 use Rattle.log_entry.specs.declared.entry.Entry.{Entry}
 use Rattle.core_index.specs.Slots as slots
-use Rattle.store_image.specs.Facts.{In}
 use Rattle.group_laws.proofs.Puts.{In-append_left, In-append_right, In-append}
-use Rattle.log_standing.specs.declared.types.Copies.{Copies}
 use Rattle.log_standing.specs.NameCounts.{StandingState, name_eq, count_in, count_of}
 use Rattle.log_standing.specs.NameCounts as counts
 use Rattle.log_standing.proofs.StandingLaws.{same_name, name_same}

@@ -1,8 +1,5 @@
 -- A worker of which nothing is pending has what its view has, and no more.
-use Rattle.std.proofs.Common.{◌≡◌, inl, inr, ⊎_elim, ℕ, zero, suc, not, ◌||◌, nat_lt, Bool, true, false, List, [], ◌∷◌, length, Some, is_some, refl, sym, ◌∙◌, ap}
-use Rattle.recover.specs.declared.types.CoreStart.{CoreStart}
-use Rattle.lazy_alloc.specs.Sets.{block_is_used}
-use Rattle.group_laws.specs.declared.types.Block.{Block}
+use Rattle.std.proofs.Common.{◌≡◌, inl, ⊎_elim, ℕ, zero, suc, not, ◌||◌, nat_lt, Bool, true, false, List, [], ◌∷◌, length, is_some, refl, sym, ◌∙◌, ap}
 use Rattle.group_laws.specs.Places.{Place}
 use Rattle.group_laws.specs.MemberViews.{View}
 use Rattle.core_worker.specs.declared.types.Place as places

@@ -1,8 +1,8 @@
 -- What stands in a core's log when it is opened is what its view has there.
-use Rattle.std.proofs.Common.{◌≡◌, ◌⊎◌, inl, inr, ⊎_elim, ℕ, zero, suc, ◌+◌, ◌-◌, ◌*◌, ◌<◌, ◌==◌, ◌&&◌, ◌||◌, eqb, nat_lt, Bool, true, false, cond, List, [], ◌∷◌, map, Option, Some, None, option_map, Result, Ok, Err, is_some, refl, sym, ◌∙◌, ap, subst, arith}
+use Rattle.std.proofs.Common.{◌≡◌, inl, inr, ⊎_elim, ℕ, ◌+◌, ◌<◌, ◌==◌, ◌||◌, nat_lt, Bool, true, false, cond, List, [], ◌∷◌, map, Some, None, Result, Ok, Err, is_some, refl, sym, ◌∙◌, ap, subst, arith}
 use Rattle.std.specs.Prelude.{unwrap_or}
 use Rattle.std.specs.List.{list_any, count_by}
-use Rattle.std.proofs.lemmas.Bool.{cases_eq, and_parts, and_from, eqb-true, eq-eqb, lt-ltb, ltb-true, or_cases}
+use Rattle.std.proofs.lemmas.Bool.{eqb-true, eq-eqb, lt-ltb, ltb-true, or_cases}
 use Rattle.std.proofs.lemmas.List.Sums.{sum_by-cons}
 use Rattle.log_entry.specs.declared.entry.Entry.{Entry}
 use Rattle.log_entry.specs.Batches.{scan_of}
@@ -12,13 +12,13 @@ use Rattle.chunk_map.specs.declared.heads.Head.TheVariants.{Free, Log, Data}
 use Rattle.chunk_map.specs.Layouts.{numbers, chunk_first, head_at}
 use Rattle.store_image.specs.declared.types.PlacedEntry.{PlacedEntry}
 use Rattle.store_image.specs.Facts.{In}
-use Rattle.store_image.specs.Parts.{payload, scan_at, scan_behind, placed, chunk_entries, part_entries}
+use Rattle.store_image.specs.Parts.{payload, scan_at, scan_behind, chunk_entries}
 use Rattle.store_image.proofs.SoundFacts.{number_in}
 use Rattle.store_image.proofs.SoundLaws.{in_numbers}
 use Rattle.core_log.specs.declared.types.LogChunk.{LogChunk}
-use Rattle.core_log.specs.Log.{LogState, tail_of, tail_in, first_of}
-use Rattle.log_standing.specs.NameCounts.{StandingState, name_eq, count_of}
-use Rattle.log_standing.specs.ChunkCounts.{is_named, has_name, chunks_in}
+use Rattle.core_log.specs.Log.{tail_of, tail_in, first_of}
+use Rattle.log_standing.specs.NameCounts.{name_eq, count_of}
+use Rattle.log_standing.specs.ChunkCounts.{is_named, has_name}
 use Rattle.log_standing.proofs.StandingLaws.{same_name, name_same}
 use Rattle.recover.specs.declared.types.CoreStart.{CoreStart}
 use Rattle.recover.specs.Logs.{tail_behind}

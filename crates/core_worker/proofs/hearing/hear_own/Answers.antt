@@ -1,6 +1,5 @@
 use Rattle.std.proofs.Common.{sym, subst}
 use Rattle.core_worker.specs.Hearing.{HearsAll}
-use Rattle.core_worker.specs.StandingTies.{HearsOwn}
 use Rattle.core_worker.proofs.Heard.{hears_all}
 use Rattle.core_worker.proofs.HeardNames.{tells_none, tells_more, tells_all}
 use Rattle.core_worker.proofs.hearing.hear_own.Goals as goal

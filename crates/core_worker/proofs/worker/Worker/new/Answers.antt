@@ -1,4 +1,4 @@
-use Rattle.std.proofs.Common.{◌≤◌, refl, arith}
+use Rattle.std.proofs.Common.{refl, arith}
 use Rattle.core_worker.specs.StandingTies.{SameNames}
 use Rattle.core_worker.proofs.NamesKnown.{heard_later, copies_before}
 use Rattle.core_worker.proofs.worker.Worker.new.Goals as goal
