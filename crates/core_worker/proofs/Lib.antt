@@ -13,6 +13,7 @@ mod BlockClear
 pub mod HandKeys
 pub mod Aside
 mod CauseFacts
+pub mod StockFacts
 mod QuietMoves
 pub mod KeyMoves
 mod HandPlaces
@@ -36,6 +37,7 @@ mod Winding
 mod Waiters
 mod Unpledging
 mod BatchRoom
+mod BatchSpends
 pub mod Serving
 mod Heard
 pub mod Tidied

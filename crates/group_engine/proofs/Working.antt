@@ -29,6 +29,7 @@ use Rattle.core_worker.specs.Turning.{TurnMoves}
 use Rattle.core_worker.specs.WorkerMoves.{stock_of, hands_of}
 use Rattle.core_worker.proofs.Given.{adds_none}
 use Rattle.engine_laws.proofs.CauseLaws.{quiet_refuses}
+use Rattle.core_worker.proofs.StockFacts.{still_in}
 use Rattle.core_worker.proofs.KeyMoves.{moves_here, still_key}
 use Rattle.core_worker.proofs.StartBlocks.{own_of}
 use Rattle.group_engine.specs.Calls.{AreOwn, Accepts, Turns, is_open}
@@ -91,7 +92,7 @@ pub no_turn : (p : Place) (m : ℕ) (s : State) (a : Option Group) (v : View) (w
 no_turn p m s a v w M even = record {
   fixed = [];
   adds = adds_none (IsTelling s) (answers_of w) (answers_of w) refl;
-  moves = moves_here p m s a v w w [] [] M.holds M.stands.licensed refl (λ y i. absurd i) (λ k own. still_key v (hands_of v w) (hands_of v w) k refl refl) (λ k own. quiet_refuses p.layout (stock_of w) (v.last k) (v.last k) (omega arith));
+  moves = moves_here p m s a v w w [] [] M.holds M.stands.licensed refl (λ y i. absurd i) (λ k own. still_key v (hands_of v w) (hands_of v w) k refl refl) (λ k own. quiet_refuses p.layout (stock_of w) (v.last k) (v.last k) (omega arith)) (still_in p m v w w [] M.holds (λ k. refl) refl);
   tied = M;
   fairly = by a even;
   loads = λ e. absurd (cc e);
@@ -148,6 +149,7 @@ module _ (seat : SeatAt) (s t : State) (before after : Option Group) (v u : View
       keys = T.moves.keys;
       holds = T.moves.holds;
       refuses = T.moves.refuses;
+      spends = T.moves.spends;
       stops = T.moves.stops;
       breaks = T.moves.breaks;
       stays_stopped = T.moves.stays_stopped;
