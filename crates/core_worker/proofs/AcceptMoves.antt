@@ -13,7 +13,7 @@ use Rattle.fs_model.specs.Cells.{key_of, answer_to, is_change}
 use Rattle.fs_model.specs.Lawful.{MayReply, cell_left}
 use Rattle.pm_region.specs.State.{State, IsTelling}
 use Rattle.chunk_map.specs.declared.layouts.Geometry.{Geometry}
-use Rattle.lazy_alloc.specs.Sets.{Sets}
+use Rattle.lazy_alloc.specs.Sets.{Sets, AreSets}
 use Rattle.core_room.specs.declared.supply.Supply.{Supply}
 use Rattle.core_room.specs.declared.types.Shortage.{Shortage}
 use Rattle.core_room.specs.declared.types.Shortage.TheVariants as causes
@@ -37,11 +37,14 @@ use Rattle.core_worker.proofs.Given.{said_same, given_by, adds_none, adds_one, a
 use Rattle.core_worker.specs.Beginning.{answers_of, answer_with, OnlyBegins, IsAnswered, IsStaged, GoesOn, BeginsBy, BeginsAs, Begins}
 use Rattle.core_worker.specs.Ties.{Tie}
 use Rattle.core_worker.specs.Accepting.{IsAsBefore, IsTied, StaysTied, Accepts, AcceptsByEachView, AcceptsAs, AcceptMoves}
-use Rattle.core_worker.specs.WorkerMoves.{Fixed, replied, placed_in, placed_for, asked_by, stock_of, hands_of, requests_for, fixed_of, AnswersKey}
+use Rattle.core_worker.specs.WorkerMoves.{asked, BeginsIn, SpendsIn, Fixed, replied, placed_in, placed_for, asked_by, stock_of, hands_of, requests_for, fixed_of, AnswersKey}
 use Rattle.engine_laws.specs.FreeStock.{Stock, LacksRoom}
 use Rattle.engine_laws.specs.RefusalCauses.{HasCause, Refuses}
-use Rattle.engine_laws.proofs.CauseLaws.{raised_low, quiet_refuses}
-use Rattle.core_worker.proofs.CauseFacts.{stopped_causeless, answer_causeless, answer_not_full, why_cause, why_full, stock_same}
+use Rattle.engine_laws.specs.RefusalCauses.{is_too_long}
+use Rattle.engine_laws.proofs.CauseLaws.{raised_low, quiet_refuses, at_least_same}
+use Rattle.store_image.proofs.SoundFacts.{in_back}
+use Rattle.core_worker.proofs.StockFacts.{Stages, still_in, still_stock, stages_spend, staged_stock, stock_small, why_short}
+use Rattle.core_worker.proofs.CauseFacts.{lacks_as_stock, stopped_causeless, answer_causeless, answer_not_full, why_cause, why_full, stock_same}
 use Rattle.core_worker.proofs.HandKeys.{none_for}
 use Rattle.core_worker.proofs.HandPlaces.{held_at, held_beside}
 use Rattle.core_worker.proofs.Pointers.{free_is}
@@ -116,6 +119,7 @@ module _ (s : State) (w b : Worker) (n : ℕ) (r : Request) (works : w.winds_dow
     keys : (k : ℕ) → owner x.place k ≡ x.number → AnswersKey x.view x.view (hands_of x.view w) (hands_of x.view b) k (requests_for k ((n, r) ∷ [])) (fixed_of k fs)
     own : (y : Fixed) → In y fs → owner x.place (key_of y.request) ≡ x.number
     refuses : (k : ℕ) → owner x.place k ≡ x.number → Refuses x.place.layout (stock_of w) (x.view.last k) (x.view.last k) (map replied (fixed_of k fs))
+    spends : SpendsIn x.place x.number x.view x.view (hands_of x.view w) (hands_of x.view b) ((n, r) ∷ []) fs
 
   hand_then : b.in_hand ≡ w.in_hand → b.in_hand ≡ None
   hand_then e = e ∙ T.order.hand works
@@ -130,8 +134,8 @@ module _ (s : State) (w b : Worker) (n : ℕ) (r : Request) (works : w.winds_dow
   waits_same hand queue k = waits_after hand k ∙ ap (λ (q : List Held). map asked_by (waiting q k)) queue ∙ sym (waits_before k)
 
   -- it is held behind those of its key
-  fixes_held : answers_of b ≡ answers_of w → b.stopped ≡ w.stopped → b.places ≡ w.places → b.in_hand ≡ w.in_hand → AddsLast w.queue b.queue (held_with n r) → Fixes []
-  fixes_held answers stopped places hand adds = record {
+  fixes_held : answers_of b ≡ answers_of w → b.stopped ≡ w.stopped → b.places ≡ w.places → b.in_hand ≡ w.in_hand → AddsLast w.queue b.queue (held_with n r) → stock_of b ≡ stock_of w → Fixes []
+  fixes_held answers stopped places hand adds stock = record {
     answers = adds_none (IsTelling s) (answers_of w) (answers_of b) answers;
     stopped = stopped;
     keys = λ k own. ⊎_elim
@@ -143,6 +147,7 @@ module _ (s : State) (w b : Worker) (n : ℕ) (r : Request) (works : w.winds_dow
         (cases_eq k (key_of r));
     own = λ y i. absurd i;
     refuses = λ k own. quiet_refuses x.place.layout (stock_of w) (x.view.last k) (x.view.last k) (omega arith);
+    spends = still_in x.place x.number x.view w b ((n, r) ∷ []) N.holds (λ k. ap (λ ps. placed_for x.view ps.items k) places) stock;
   } where
     place_same : (k : ℕ) → placed_for x.view b.places.items k ≡ placed_for x.view w.places.items k
     place_same k = ap (λ ps. placed_for x.view ps.items k) places
@@ -157,8 +162,8 @@ module _ (s : State) (w b : Worker) (n : ℕ) (r : Request) (works : w.winds_dow
     -- it is answered
     fixes_answered : (a given : Reply) (cause : Option Shortage) → IsSaid (IsTelling s) r a given → IsCause a cause → answers_of b ≡ answers_of w ++ answer_with n given cause ∷ [] → b.stopped ≡ w.stopped → b.places.items ≡ w.places.items → MayReply r (x.view.cell (key_of r)) false a → cell_left r a (x.view.cell (key_of r)) ≡ x.view.cell (key_of r)
         → (w.stopped ≡ true → a ≡ replies.Stopped) → (a ≡ replies.Stopped → w.stopped ≡ true)
-        → HasCause x.place.layout (x.view.last (key_of r)) r a → (a ≡ replies.Full → LacksRoom x.place.layout (stock_of w) r) → Fixes (record { number = n; request = r; reply = a; refusal = cause } ∷ [])
-    fixes_answered a given cause said because answers stopped places may left by_stop stops has full = record {
+        → HasCause x.place.layout (x.view.last (key_of r)) r a → (a ≡ replies.Full → LacksRoom x.place.layout (stock_of w) r) → stock_of b ≡ stock_of w → Fixes (record { number = n; request = r; reply = a; refusal = cause } ∷ [])
+    fixes_answered a given cause said because answers stopped places may left by_stop stops has full stock = record {
       answers = adds_one (IsTelling s) (answers_of w) (answers_of b) (fixed_to n r a cause) (answer_with n given cause) answers (given_by (IsTelling s) n r a given cause said because);
       stopped = stopped;
       keys = λ k own. ⊎_elim
@@ -169,6 +174,14 @@ module _ (s : State) (w b : Worker) (n : ℕ) (r : Request) (works : w.winds_dow
           (still_key x.view (hands_of x.view w) (hands_of x.view b) k (place_same k) (waits_same hand queue k)))
           (cases_eq k (key_of r));
       own = own_by;
+      spends = record {
+        runs = λ y i is. ⊎_elim (λ same. (running w.stopped refl (sym (ap (λ (z : Fixed). z.reply) same) ∙ is), subst (λ (z : Fixed). In (asked z) ((hands_of x.view w).waits (key_of z.request) ++ requests_for (key_of z.request) ((n, r) ∷ []))) (sym same) (last_in ((hands_of x.view w).waits (key_of r))))) (λ none. absurd none) i;
+        stays = λ k y own at none. (y, place_same k ∙ at, refl, λ t. t);
+        begun = None;
+        begins = λ y is. absurd (cc is);
+        posts = inl refl;
+        spends = λ on. still_stock x.place x.number x.view w b N.holds stock;
+      };
       refuses = λ k own. ⊎_elim
           (λ same. subst (λ j. Refuses x.place.layout (stock_of w) (x.view.last j) (x.view.last j) (map replied (fixed_of j (fixed_to n r a cause ∷ [])))) (sym same)
           (subst (λ (fs : List Fixed). Refuses x.place.layout (stock_of w) (x.view.last (key_of r)) (x.view.last (key_of r)) (map replied fs)) (sym (one_fixed (fixed_to n r a cause) (key_of r) refl))
@@ -179,13 +192,20 @@ module _ (s : State) (w b : Worker) (n : ℕ) (r : Request) (works : w.winds_dow
       place_same : (k : ℕ) → placed_for x.view b.places.items k ≡ placed_for x.view w.places.items k
       place_same k = ap (λ ps. placed_for x.view ps k) places
 
+      running : (d : Bool) → w.stopped ≡ d → a ≡ replies.Full → w.stopped ≡ false
+      running false e is = e
+      running true e is = absurd (let both = sym is ∙ by_stop e in cc both)
+
+      last_in : (ws : List (ℕ × Request)) → In (n, r) (ws ++ requests_for (key_of r) ((n, r) ∷ []))
+      last_in ws = in_back (n, r) ws (requests_for (key_of r) ((n, r) ∷ [])) (subst (λ (ys : List (ℕ × Request)). In (n, r) ys) (sym (one_request n r (key_of r) refl)) (inl refl))
+
       own_by : (y : Fixed) → In y (record { number = n; request = r; reply = a; refusal = cause } ∷ []) → owner x.place (key_of y.request) ≡ x.number
       own_by y (inl same) = ap (λ (z : Fixed). owner x.place (key_of z.request)) same ∙ T.own
       own_by y (inr none) = absurd none
 
     -- it is staged
-    fixes_staged : answers_of b ≡ answers_of w → b.stopped ≡ w.stopped → w.stopped ≡ false → (mid : Worker) → mid.places ≡ w.places → IsStaged mid b n r → Fixes []
-    fixes_staged answers stopped runs mid same_places S = record {
+    fixes_staged : answers_of b ≡ answers_of w → b.stopped ≡ w.stopped → w.stopped ≡ false → (mid : Worker) → mid.places ≡ w.places → IsStaged mid b n r → Stages x.place.layout (stock_of w) (stock_of b) (Some (n, r)) → Fixes []
+    fixes_staged answers stopped runs mid same_places S took = record {
       answers = adds_none (IsTelling s) (answers_of w) (answers_of b) answers;
       stopped = stopped;
       keys = λ k own. ⊎_elim
@@ -202,12 +222,32 @@ module _ (s : State) (w b : Worker) (n : ℕ) (r : Request) (works : w.winds_dow
           (cases_eq k (key_of r));
       own = λ y i. absurd i;
       refuses = λ k own. quiet_refuses x.place.layout (stock_of w) (x.view.last k) (x.view.last k) (omega arith);
+      spends = record {
+        runs = λ y i is. absurd i;
+        stays = λ k y own at none. ⊎_elim
+            (λ same. absurd (let both : Some y ≡ None = sym at ∙ ap (placed_for x.view w.places.items) same ∙ none_before in cc both))
+            (λ ne. (y, kept_at k ne ∙ at, refl, λ t. t)) (cases_eq k (key_of r));
+        begun = Some (n, r);
+        begins = λ y is. subst (λ (z : ℕ × Request). BeginsIn x.place x.number (hands_of x.view w) (hands_of x.view b) ((n, r) ∷ []) z) (let same : (n, r) ≡ y = cc is in same) (record { own = T.own; waits = last_in ((hands_of x.view w).waits (key_of r)); place = stands_there });
+        posts = inl refl;
+        spends = λ on. stages_spend x.place.layout x.view.took x.view.flying x.view.took x.view.flying (stock_of w) (stock_of w) (stock_of b) (Some (n, r)) (at_least_same (stock_of w)) took (stock_small x.place x.number x.view b N.holds) refl refl;
+      };
     } where
+      last_in : (ws : List (ℕ × Request)) → In (n, r) (ws ++ requests_for (key_of r) ((n, r) ∷ []))
+      last_in ws = in_back (n, r) ws (requests_for (key_of r) ((n, r) ∷ [])) (subst (λ (ys : List (ℕ × Request)). In (n, r) ys) (sym (one_request n r (key_of r) refl)) (inl refl))
+
       here : Replaces w.places.items b.places.items S.slot (Staged n S.entry S.value)
       here = subst (λ (ps : Vec places.Place Global). Replaces ps.items b.places.items S.slot (Staged n S.entry S.value)) same_places S.placed
 
       was : place_at w.places.items S.slot ≡ Free
       was = ap (λ (ps : Vec places.Place Global). place_at ps.items S.slot) (sym same_places) ∙ free_is (place_at mid.places.items S.slot) S.lowest.0
+
+      stands_there : placed_for x.view b.places.items (key_of r) ≡ Some (record { number = n; request = r; posted = false })
+      stands_there = held_at x.view b.places.items S.slot (key_of r) N.holds.apart (ap key_in S.placed.here ∙ ap Some S.key) ∙ ap (placed_in x.view) S.placed.here ∙ ap (λ q. Some (record { number = n; request = q; posted = false })) S.asks
+
+      kept_at : (k : ℕ) → k ≢ key_of r → placed_for x.view b.places.items k ≡ placed_for x.view w.places.items k
+      kept_at k ne = held_beside x.view x.view w.places.items b.places.items S.slot (Staged n S.entry S.value) here T.holds.apart N.holds.apart k
+          (λ e. (let both : None ≡ Some k = sym (ap key_in was) ∙ e in cc both)) (λ e. ne (let both : Some S.entry.key ≡ Some k = e in let at : S.entry.key ≡ k = cc both in sym at ∙ S.key)) (λ t low e. refl)
 
   abbrev cell : Option (List ℕ)
   cell = x.view.cell (key_of r)
@@ -228,7 +268,7 @@ module _ (s : State) (w b : Worker) (n : ℕ) (r : Request) (works : w.winds_dow
 
     -- as much is free, and the record of the key has its last version
     stock_is : stock_of u ≡ stock_of w
-    stock_is = stock_same w u (ap (λ (y : Worker). y.log) B.rest) (ap (λ (y : Worker). y.allocator) B.rest)
+    stock_is = stock_same w u (ap (λ (y : Worker). y.log) B.rest) (ap (λ (y : Worker). y.allocator) B.rest) (ap (λ (y : Worker). y.leading) B.rest)
 
     layout_is : u.layout ≡ x.place.layout
     layout_is = ap (λ (y : Worker). y.layout) B.rest ∙ T.holds.layout
@@ -240,21 +280,23 @@ module _ (s : State) (w b : Worker) (n : ℕ) (r : Request) (works : w.winds_dow
         → HasCause x.place.layout (x.view.last (key_of r)) r a → (a ≡ replies.Full → LacksRoom x.place.layout (stock_of w) r) → (fs : List Fixed) × Fixes fs
     answered a given cause said because is may left by_stop stops has full = (
       record { number = n; request = r; reply = a; refusal = cause } ∷ [],
-      fixes_answered idle in_hand queue a given cause said because (is.answers ∙ ap (λ (xs : List Answer). xs ++ answer_with n given cause ∷ []) B.answers) halted (is.places ∙ ap (λ (y : Worker). y.places.items) B.rest) may left by_stop stops has full,
+      fixes_answered idle in_hand queue a given cause said because (is.answers ∙ ap (λ (xs : List Answer). xs ++ answer_with n given cause ∷ []) B.answers) halted (is.places ∙ ap (λ (y : Worker). y.places.items) B.rest) may left by_stop stops has full (stock_same u b is.same.log is.allocator is.same.leading ∙ stock_is),
     )
 
     runs_false : (d : Bool) → u.stopped ≡ d → d ≡ false → (a : Reply) → w.stopped ≡ true → a ≡ replies.Stopped
     runs_false d e f a stopped = absurd (let both : true ≡ false = sym stopped ∙ stopped_before ∙ e ∙ f in cc both)
 
-    goes_on : (c : Bool) → u.stopped ≡ false → is_change r cell ≡ c → GoesOn (IsTelling s) c u b cell n r → (fs : List Fixed) × Fixes fs
-    goes_on false runs e is = answered (answer_to r cell) is.0 None is.1 (answer_untold r cell e) is.2 (inl refl) (still_left r cell e) (runs_false false runs refl (answer_to r cell)) (λ same. absurd (still_runs r cell same)) (answer_causeless x.place.layout (x.view.last (key_of r)) r cell e) (λ full. absurd (answer_not_full r cell e full))
-    goes_on true runs e is = ([], fixes_staged idle in_hand queue (is.answers ∙ B.answers) halted (stopped_before ∙ runs) u (ap (λ (y : Worker). y.places) B.rest) is)
+    goes_on : (c : Bool) → is_too_long u.layout r ≡ false → u.stopped ≡ false → is_change r cell ≡ c → GoesOn (IsTelling s) c u b cell n r → (fs : List Fixed) × Fixes fs
+    goes_on false short runs e is = answered (answer_to r cell) is.0 None is.1 (answer_untold r cell e) is.2 (inl refl) (still_left r cell e) (runs_false false runs refl (answer_to r cell)) (λ same. absurd (still_runs r cell same)) (answer_causeless x.place.layout (x.view.last (key_of r)) r cell e) (λ full. absurd (answer_not_full r cell e full))
+    goes_on true short runs e is = ([], fixes_staged idle in_hand queue (is.answers ∙ B.answers) halted (stopped_before ∙ runs) u (ap (λ (y : Worker). y.places) B.rest) is
+        (subst (λ (t : Stock). Stages x.place.layout t (stock_of b) (Some (n, r))) stock_is
+        (staged_stock x.place.layout u b n r is (subst AreSets (sym (ap (λ (y : Worker). y.allocator) B.rest)) T.holds.sets) N.holds.sets (ap (λ (y : Worker). y.allocator.layout) B.rest ∙ T.holds.allocator_layout) (subst (λ (l : Geometry). is_too_long l r ≡ false) layout_is short))))
 
     by_cause : (o : Option Shortage) → u.stopped ≡ false → why u.layout (supply_of u) u.allocator (last_of (known_at u.index (key_of r))) cell r ≡ o → BeginsBy (IsTelling s) o u b cell n r → (fs : List Fixed) × Fixes fs
-    by_cause None runs e is = goes_on (is_change r cell) runs refl is
+    by_cause None runs e is = goes_on (is_change r cell) (why_short u.layout (supply_of u) u.allocator (last_of (known_at u.index (key_of r))) cell r e) runs refl is
     by_cause (Some c) runs e is = answered (reply_to c) (reply_to c) (Some c) (said_same (IsTelling s) r (reply_to c)) refl is (may_refuse_for u.layout (supply_of u) u.allocator (last_of (known_at u.index (key_of r))) cell r c e) (left_by_refusal r cell c) (runs_false false runs refl (reply_to c)) (λ same. absurd (not_stopped c same))
         (subst (λ (l : Geometry). HasCause l (x.view.last (key_of r)) r (reply_to c)) layout_is (subst (λ n. HasCause u.layout n r (reply_to c)) (last_is runs) (why_cause u.layout (supply_of u) u.allocator (last_of (known_at u.index (key_of r))) cell r c e)))
-        (λ full. subst (λ (t : Stock). LacksRoom x.place.layout t r) stock_is (subst (λ (l : Geometry). LacksRoom l (stock_of u) r) layout_is (why_full u.layout (supply_of u) u.allocator (last_of (known_at u.index (key_of r))) cell r c e full)))
+        (λ full. subst (λ (t : Stock). LacksRoom x.place.layout t r) stock_is (subst (λ (l : Geometry). LacksRoom l (stock_of u) r) layout_is (lacks_as_stock u.layout u r (why_full u.layout (supply_of u) u.allocator (last_of (known_at u.index (key_of r))) cell r c e full))))
 
     by_stop : (d : Bool) → u.stopped ≡ d → BeginsAs (IsTelling s) d u b cell n r → (fs : List Fixed) × Fixes fs
     by_stop true e is = answered replies.Stopped replies.Stopped None (said_same (IsTelling s) r replies.Stopped) refl is (inr refl) refl (λ s. refl) (λ s. stopped_before ∙ e) (stopped_causeless x.place.layout (x.view.last (key_of r)) r replies.Stopped refl) (λ full. absurd (cc full))
@@ -265,7 +307,8 @@ module _ (s : State) (w b : Worker) (n : ℕ) (r : Request) (works : w.winds_dow
       (λ held. let e = held.2 in (
         [],
         fixes_held (ap (λ (y : Worker). answers_of y) e ∙ A.1.answers) (ap (λ (y : Worker). y.stopped) e ∙ ap (λ (y : Worker). y.stopped) A.1.rest) (ap (λ (y : Worker). y.places) e ∙ ap (λ (y : Worker). y.places) A.1.rest) (ap (λ (y : Worker). y.in_hand) e ∙ ap (λ (y : Worker). y.in_hand) A.1.rest)
-            (subst (λ (q : List Held). AddsLast q b.queue (held_with n r)) (ap (λ (y : Worker). y.queue) A.1.rest) held.1),
+            (subst (λ (q : List Held). AddsLast q b.queue (held_with n r)) (ap (λ (y : Worker). y.queue) A.1.rest) held.1)
+            (stock_same w b (ap (λ (y : Worker). y.log) e ∙ ap (λ (y : Worker). y.log) A.1.rest) (ap (λ (y : Worker). y.allocator) e ∙ ap (λ (y : Worker). y.allocator) A.1.rest) (ap (λ (y : Worker). y.leading) e ∙ ap (λ (y : Worker). y.leading) A.1.rest)),
       ))
       (λ begun. fixes_begun A.0 A.1 begun.0 begun.1 begun.2)
       A.3
@@ -274,7 +317,7 @@ module _ (s : State) (w b : Worker) (n : ℕ) (r : Request) (works : w.winds_dow
   accepts_as A = let F = fixes A in record {
     fixed = F.0;
     answers = F.1.answers;
-    moves = λ a. moves_here x.place x.number s a x.view w b ((n, r) ∷ []) F.0 N.holds N.stands.licensed F.1.stopped F.1.own F.1.keys F.1.refuses;
+    moves = λ a. moves_here x.place x.number s a x.view w b ((n, r) ∷ []) F.0 N.holds N.stands.licensed F.1.stopped F.1.own F.1.keys F.1.refuses F.1.spends;
   }
 
 -- a request was accepted
@@ -290,7 +333,8 @@ back_moves s w b k B stays = λ x T. record {
       moves_here x.place x.number s a x.view w b [] [] N.holds N.stands.licensed (ap (λ (y : Worker). y.stopped) B.rest) (λ y i. absurd i)
       (λ j own. still_key x.view (hands_of x.view w) (hands_of x.view b) j (ap (λ (y : Worker). placed_for x.view y.places.items j) B.rest)
       (ap (λ (y : Worker). map asked_by (filter (λ h. key_of h.request == j) (option_to_list y.in_hand) ++ waiting y.queue j)) B.rest))
-      (λ j own. quiet_refuses x.place.layout (stock_of w) (x.view.last j) (x.view.last j) (omega arith));
+      (λ j own. quiet_refuses x.place.layout (stock_of w) (x.view.last j) (x.view.last j) (omega arith))
+      (still_in x.place x.number x.view w b [] N.holds (λ j. ap (λ (y : Worker). placed_for x.view y.places.items j) B.rest) (stock_same w b (ap (λ (y : Worker). y.log) B.rest) (ap (λ (y : Worker). y.allocator) B.rest) (ap (λ (y : Worker). y.leading) B.rest)));
 }
 
 pub ok_accepts : {X Y : Type 0} (o : Result X Y) (s : State) (w b : Worker) (n : ℕ) (r : Request) → w.winds_down ≡ false → StaysTied s w b (key_of r) → OnOk o (AcceptsByEachView s w b n r) → OnOk o (AcceptMoves s w b (key_of r) ((n, r) ∷ []))

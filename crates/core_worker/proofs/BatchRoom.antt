@@ -68,7 +68,7 @@ module _ (p : group.Place) (m : ℕ) (v : View) (w : Worker) (H : Holds p m v w)
   }
 
 -- The free lines of the open chunk after a batch.
-room_appended : (log : LogState) (ws : List ℕ) (j : ℕ) → log.opened ≡ Some j → room_of (appended_to log (padded ws)) ≡ room_of log - lines_for (length ws)
+pub room_appended : (log : LogState) (ws : List ℕ) (j : ℕ) → log.opened ≡ Some j → room_of (appended_to log (padded ws)) ≡ room_of log - lines_for (length ws)
 room_appended log ws j opened =
     let n : open_number log ≡ j = ap (λ o. unwrap_or o 0) opened in
     let tail = open_tail log in
@@ -84,12 +84,12 @@ some_number : (o : Option ℕ) → is_some o ≡ true → (j : ℕ) × (o ≡ So
 some_number None some = absurd (cc some)
 some_number (Some j) some = (j, refl)
 
-opened_some : (log : LogState) (o : Option ℕ) → (o ≡ None → is_some log.opened ≡ true) → (j : ℕ) × ((opened_for log o).opened ≡ Some j)
+pub opened_some : (log : LogState) (o : Option ℕ) → (o ≡ None → is_some log.opened ≡ true) → (j : ℕ) × ((opened_for log o).opened ≡ Some j)
 opened_some log None some = some_number log.opened (some refl)
 opened_some log (Some j) some = (j, refl)
 
 -- where the batch goes, as the leader was told of it
-space_is : (w : Worker) (a : Sets) (f : Bool) (o : Option ℕ) (lines n : ℕ) → HasSpace (room_for w) f lines n → TakesFor f w.allocator a o
+pub space_is : (w : Worker) (a : Sets) (f : Bool) (o : Option ℕ) (lines n : ℕ) → HasSpace (room_for w) f lines n → TakesFor f w.allocator a o
     → (space (room_for w) f ≡ room_of (opened_for w.log o)) × (2 ≤ left_free (room_for w) f → 2 ≤ free_chunk_count a)
 space_is w a true None lines n had takes = absurd (let some = had.1 refl in let none = none_counted (chunk_is_free w.allocator) (numbers 0 w.allocator.layout.chunks) takes.0 in omega (arith, some, none))
 space_is w a true (Some j) lines n had takes =

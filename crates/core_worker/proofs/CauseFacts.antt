@@ -24,10 +24,10 @@ use Rattle.core_room.specs.declared.types.Shortage.TheVariants as causes
 use Rattle.engine_laws.specs.FreeStock.{Stock, IsAtLeast, LacksBlock, LacksRoom}
 use Rattle.engine_laws.specs.RefusalCauses.{raised, HasCause, HaveCauses}
 use Rattle.core_worker.specs.declared.worker.Worker.{Worker}
-use Rattle.core_worker.specs.Supplies.{lacks, why, free_blocks}
+use Rattle.core_worker.specs.Supplies.{supply_of, lacks, why, free_blocks}
 use Rattle.core_worker.specs.Refusals.{reply_to}
 use Rattle.core_worker.specs.Finishing.{PutsBackIf}
-use Rattle.core_worker.specs.WorkerMoves.{stock_of}
+use Rattle.core_worker.specs.WorkerMoves.{awaits_chunk, lines_free, stock_of}
 
 -- no cause is asked of other replies
 pub causeless : (l : Geometry) (last : ℕ) (q : Request) (r : Reply) → r ≢ replies.VersionsSpent → r ≢ replies.TooLong → HasCause l last q r
@@ -61,7 +61,7 @@ finish_causeless l last q r (inl f) = (causeless l last q r (λ is. not_one (ap 
   not_one e = cc e
 
 -- what a supply and an allocator have free
-abbrev stock_by : Supply → Sets → Stock
+abbrev pub stock_by : Supply → Sets → Stock
 stock_by s a = record { chunks = s.free_chunks; lines = s.open_lines; blocks = free_block_count a }
 
 -- the class of a value that needs a block
@@ -77,7 +77,7 @@ within from zero x i = absurd i
 within from (suc n) x (inl e) = (omega (arith, e), omega (arith, e))
 within from (suc n) x (inr i) = let r = within (suc from) n x i in let low = r.0 in let high = r.1 in (omega (arith, low), omega (arith, high))
 
-class_is : (n : ℕ) → class_for n ≢ 0 → (has_class n (class_for n) ≡ true) × (1 ≤ class_for n) × (class_for n ≤ GREATEST_CLASS)
+pub class_is : (n : ℕ) → class_for n ≢ 0 → (has_class n (class_for n) ≡ true) × (1 ≤ class_for n) × (class_for n ≤ GREATEST_CLASS)
 class_is n some = by (find (has_class n) (numbers 1 GREATEST_CLASS)) refl where
   by : (o : Option ℕ) → find (has_class n) (numbers 1 GREATEST_CLASS) ≡ o → (has_class n (class_for n) ≡ true) × (1 ≤ class_for n) × (class_for n ≤ GREATEST_CLASS)
   by None e = absurd (some (ap (λ (o : Option ℕ). unwrap_or o 0) e))
@@ -187,9 +187,29 @@ why_full l s a last cell (Put k v) c e full = by (ltb (l.chunk_bytes / 4 - 8) (l
   by false true p q is = let same : causes.Versions last ≡ c = cc is in absurd (let both = ap reply_to same ∙ full in cc both)
   by false false p q is = room p (lacks_as s a (lines_needed (length v)) (class_for (length v)) c is).few
 
--- a worker has as much free where its log and allocator are the same
-pub stock_same : (w x : Worker) → x.log ≡ w.log → x.allocator ≡ w.allocator → stock_of x ≡ stock_of w
-stock_same w x log allocator = (λ i. record { chunks = free_chunk_count (allocator i); lines = room_of (log i); blocks = free_block_count (allocator i) })
+-- how many lines of the open chunk count
+pub lines_low : (w : Worker) → lines_free w ≤ room_of w.log
+lines_low w = by (awaits_chunk w.leading) (ltb 4 (room_of w.log)) refl where
+  by : (a b : Bool) → ltb 4 (room_of w.log) ≡ b → cond {A = ℕ} (a && b) 4 (room_of w.log) ≤ room_of w.log
+  by true true e = let more = ltb-true 4 (room_of w.log) e in omega (arith, more)
+  by true false e = omega arith
+  by false b e = omega arith
+
+pub lines_open : (w : Worker) → awaits_chunk w.leading ≡ false → lines_free w ≡ room_of w.log
+lines_open w e = ap (λ b. cond {A = ℕ} (b && ltb 4 (room_of w.log)) 4 (room_of w.log)) e
+
+pub lines_few : (w : Worker) → awaits_chunk w.leading ≡ true → lines_free w ≤ 4
+lines_few w e = let is = ap (λ b. cond {A = ℕ} (b && ltb 4 (room_of w.log)) 4 (room_of w.log)) e in let few = by (ltb 4 (room_of w.log)) refl in omega (arith, is, few) where
+  by : (b : Bool) → ltb 4 (room_of w.log) ≡ b → cond {A = ℕ} b 4 (room_of w.log) ≤ 4
+  by true e = omega arith
+  by false e = ltb-false 4 (room_of w.log) e
+
+pub lines_same : (w x : Worker) → x.log ≡ w.log → awaits_chunk x.leading ≡ awaits_chunk w.leading → lines_free x ≡ lines_free w
+lines_same w x log awaits = (λ i. cond {A = ℕ} (awaits i && ltb 4 (room_of (log i))) 4 (room_of (log i)))
+
+-- a worker has as much free where its log, allocator and what it leads are the same
+pub stock_same : (w x : Worker) → x.log ≡ w.log → x.allocator ≡ w.allocator → x.leading ≡ w.leading → stock_of x ≡ stock_of w
+stock_same w x log allocator leading = (λ i. record { chunks = free_chunk_count (allocator i); lines = lines_same w x log (ap awaits_chunk leading) i; blocks = free_block_count (allocator i) })
 
 -- and no less where a block is put back
 put_blocks : (a b : Sets) (q : ℕ) → PutsBack a b q → (c : ℕ) → free_block_count a c ≤ free_block_count b c
@@ -200,6 +220,11 @@ put_blocks a b q P c = by (class_at a q) refl where
       (λ at. let more = P.count c (e ∙ ap Some at) in omega (arith, more))
       (λ ne. let same = P.others c (λ is. ne (let both : Some d ≡ Some c = sym e ∙ is in cc both)) in omega (arith, same)) (cases_eq d c)
 
-pub stock_put : (w x : Worker) (o : Option ℕ) → x.log ≡ w.log → PutsBackIf w.allocator x.allocator o → IsAtLeast (stock_of w) (stock_of x)
-stock_put w x None log same = let at = stock_same w x log same in record { chunks = (let e = ap (λ (s : Stock). s.chunks) at in omega (arith, e)); lines = (let e = ap (λ (s : Stock). s.lines) at in omega (arith, e)); blocks = λ c. (let e = ap (λ (s : Stock). s.blocks c) at in omega (arith, e)) }
-stock_put w x (Some q) log P = record { chunks = (let e = P.chunk_count in omega (arith, e)); lines = (let e = ap room_of log in omega (arith, e)); blocks = λ c. put_blocks w.allocator x.allocator q P c }
+pub stock_put : (w x : Worker) (o : Option ℕ) → lines_free w ≤ lines_free x → PutsBackIf w.allocator x.allocator o → IsAtLeast (stock_of w) (stock_of x)
+stock_put w x None lines same = record { chunks = (let e = ap free_chunk_count same in omega (arith, e)); lines = lines; blocks = λ c. (let e = ap (λ a. free_block_count a c) same in omega (arith, e)) }
+stock_put w x (Some q) lines P = record { chunks = (let e = P.chunk_count in omega (arith, e)); lines = lines; blocks = λ c. put_blocks w.allocator x.allocator q P c }
+
+-- for want of room only chunks and blocks count
+pub lacks_as_stock : (l : Geometry) (w : Worker) (q : Request) → LacksRoom l (stock_by (supply_of w) w.allocator) q → LacksRoom l (stock_of w) q
+lacks_as_stock l w q (inl few) = inl few
+lacks_as_stock l w q (inr none) = inr (none.0, record { class = none.1.class; needs = none.1.needs; none = none.1.none })

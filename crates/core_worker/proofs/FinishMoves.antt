@@ -29,12 +29,13 @@ use Rattle.core_worker.specs.Turns.{InOrderAt, Steps}
 use Rattle.core_worker.specs.Beginning.{answers_of, answer_with}
 use Rattle.core_worker.specs.Finishing.{number_in, PutsBackIf, LetsGo, Settles, done_reply, reply_back, Serves, ShortOf, FinishesSlot, StopsByFailed}
 use Rattle.core_worker.specs.Turning.{TurnMoves}
-use Rattle.core_worker.specs.WorkerMoves.{Placed, placed_in}
+use Rattle.core_worker.specs.WorkerMoves.{Placed, placed_in, awaits_chunk}
 use Rattle.core_index.specs.Index.{known_at}
 use Rattle.core_index.specs.Records.{last_of, block_of}
-use Rattle.lazy_alloc.specs.Sets.{Sets}
+use Rattle.lazy_alloc.specs.Sets.{Sets, AreSets}
+use Rattle.core_worker.proofs.PuttingBack.{put_chunks}
 use Rattle.engine_laws.specs.RefusalCauses.{raised}
-use Rattle.core_worker.proofs.CauseFacts.{stock_put}
+use Rattle.core_worker.proofs.CauseFacts.{stock_put, lines_same}
 use Rattle.core_worker.proofs.Tidied.{change_last}
 use Rattle.core_worker.proofs.HandKeys.{asks, body_holds}
 use Rattle.core_worker.proofs.LetGoMoves.{let_go_turn}
@@ -134,7 +135,10 @@ module _ (seat : SeatAt) (s : State) (before after : Option Group) (v u : View) 
         lasts = λ j ne. kept_last j;
         known = λ runs. absurd (let both : true ≡ false = sym (ap (λ (y : Worker). y.stopped) G.rest ∙ ap (λ (y : Worker). y.stopped) same) ∙ runs in cc both);
         layout = ap (λ (y : Worker). y.layout) G.rest ∙ ap (λ (y : Worker). y.layout) same ∙ H.layout;
-        stock = stock_put w f None (ap (λ (y : Worker). y.log) G.rest ∙ ap (λ (y : Worker). y.log) same) (ap (λ (y : Worker). y.allocator) G.rest ∙ ap (λ (y : Worker). y.allocator) same);
+        stock = stock_put w f None (let e = lines_same w f (ap (λ (y : Worker). y.log) G.rest ∙ ap (λ (y : Worker). y.log) same) (ap (λ (y : Worker). awaits_chunk y.leading) G.rest ∙ ap (λ (y : Worker). awaits_chunk y.leading) same) in omega (arith, e)) (ap (λ (y : Worker). y.allocator) G.rest ∙ ap (λ (y : Worker). y.allocator) same);
+        lists = (ap (λ (y : View). y.posted) is, ap (λ (y : View). y.took) is, ap (λ (y : View). y.flying) is);
+        sets = subst AreSets (sym (ap (λ (y : Worker). y.allocator) G.rest ∙ ap (λ (y : Worker). y.allocator) same)) H.sets;
+        sets_layout = ap (λ (y : Worker). y.allocator.layout) G.rest ∙ ap (λ (y : Worker). y.allocator.layout) same ∙ H.allocator_layout;
         serves = serves;
       }) S T made (λ is. cause (stopped ∙ is))
     where
@@ -178,7 +182,10 @@ module _ (seat : SeatAt) (s : State) (before after : Option Group) (v u : View) 
         lasts = λ j ne. (let at = last_at j in let old = ap (λ b. cond b e.version (v.last j)) (ne_eqb j e.key ne) in omega (arith, at, old));
         known = λ runs. (let at = known_now in let up = finished_up in omega (arith, at, up));
         layout = ap (λ (y : Worker). y.layout) G.rest ∙ ap (λ (y : Worker). y.layout) same ∙ H.layout;
-        stock = stock_put w f (block_of (known_at w.index e.key)) (ap (λ (y : Worker). y.log) G.rest ∙ ap (λ (y : Worker). y.log) same) (subst (λ (a : Sets). PutsBackIf w.allocator a (block_of (known_at w.index e.key))) (sym (ap (λ (y : Worker). y.allocator) G.rest)) Z.block);
+        stock = stock_put w f (block_of (known_at w.index e.key)) (let g = lines_same w f (ap (λ (y : Worker). y.log) G.rest ∙ ap (λ (y : Worker). y.log) same) (ap (λ (y : Worker). awaits_chunk y.leading) G.rest ∙ ap (λ (y : Worker). awaits_chunk y.leading) same) in omega (arith, g)) (subst (λ (a : Sets). PutsBackIf w.allocator a (block_of (known_at w.index e.key))) (sym (ap (λ (y : Worker). y.allocator) G.rest)) Z.block);
+        lists = (ap (λ (y : View). y.posted) is, ap (λ (y : View). y.took) is, ap (λ (y : View). y.flying) is);
+        sets = subst AreSets (sym (ap (λ (y : Worker). y.allocator) G.rest)) Z.sets;
+        sets_layout = ap (λ (y : Worker). y.allocator.layout) G.rest ∙ (put_chunks w.allocator mid.allocator (block_of (known_at w.index e.key)) Z.block).layout_is ∙ H.allocator_layout;
         serves = serves;
       }) S T made (λ is. cause (stopped ∙ is))
     where

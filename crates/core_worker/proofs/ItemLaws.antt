@@ -17,6 +17,8 @@ use Rattle.licence.specs.Licence.{Licensed, part_at, part_end}
 use Rattle.batch_leader.proofs.Steps.{no_steps}
 use Rattle.batch_leader.specs.declared.batch_buffer.BatchBuffer.{BatchBuffer}
 use Rattle.batch_leader.specs.declared.states.Collecting.{Collecting}
+use Rattle.core_worker.specs.WorkerMoves.{awaits_chunk}
+use Rattle.core_worker.proofs.QuietItems.{open_filled}
 use Rattle.core_worker.specs.declared.types.Leading.{Leading}
 use Rattle.core_worker.specs.declared.types.Leading.TheVariants as leads
 use Rattle.core_worker.specs.declared.worker.Worker.{Worker}
@@ -91,5 +93,6 @@ keeps_withdraw seat s before after v u w x all stopped H N S T O P rule made whi
     (λ U. let un = U.1 in
     keeps_leading seat s before after v u w x N un.stands S made
     (record { flying = v.flying; taken = v.taken; broken = v.broken; holds = false; looked = []; took = v.took; is = un.view ∙ ap after_unlock un.found.view.1 }) un.same
-    (λ is. subst MayLeadStopped (sym un.leads_now.1) tt) O rule)
+    (λ is. subst MayLeadStopped (sym un.leads_now.1) tt) O rule
+    (let view = un.view ∙ ap after_unlock un.found.view.1 in open_filled v u w x un.same (ap awaits_chunk un.leads_now.1) (ap (λ (y : View). y.took) view) (ap (λ (y : View). y.flying) view)))
     which

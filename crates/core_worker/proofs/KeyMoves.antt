@@ -20,7 +20,7 @@ use Rattle.licence.specs.Licence.{Licensed, part_at, part_end}
 use Rattle.engine_laws.specs.RefusalCauses.{Refuses}
 use Rattle.core_worker.specs.declared.worker.Worker.{Worker}
 use Rattle.core_worker.specs.Ties.{Holds}
-use Rattle.core_worker.specs.WorkerMoves.{Hands, Fixed, replied, placed, line_in, fixed_of, requests_for, stock_of, hands_of, AnswersKey, WorkerMoves}
+use Rattle.core_worker.specs.WorkerMoves.{Hands, Fixed, replied, placed, line_in, fixed_of, requests_for, stock_of, hands_of, AnswersKey, SpendsIn, WorkerMoves}
 use Rattle.core_worker.proofs.HandKeys.{holds_key}
 
 -- what is held of the key is the same
@@ -105,8 +105,9 @@ pub moves_here : (p : places.Place) (m : ℕ) (s : State) (a : Option Group) (v 
     → ((y : Fixed) → In y fixed → places.owner p (key_of y.request) ≡ m)
     → ((k : ℕ) → places.owner p k ≡ m → AnswersKey v v (hands_of v w) (hands_of v x) k (requests_for k accepted) (fixed_of k fixed))
     → ((k : ℕ) → places.owner p k ≡ m → Refuses p.layout (stock_of w) (v.last k) (v.last k) (map replied (fixed_of k fixed)))
+    → SpendsIn p m v v (hands_of v w) (hands_of v x) accepted fixed
     → WorkerMoves p m s s a a v v (hands_of v w) (hands_of v x) accepted fixed
-moves_here p m s a v w x accepted fixed H licensed same own keys refuses = record {
+moves_here p m s a v w x accepted fixed H licensed same own keys refuses spends = record {
   outside = all_kept s (part_at p m) (part_end p m);
   moments = started s (Licensed p m v) licensed;
   exit = licensed;
@@ -116,6 +117,7 @@ moves_here p m s a v w x accepted fixed H licensed same own keys refuses = recor
   keys = keys;
   holds = λ k is. holds_key p m v x H k;
   refuses = refuses;
+  spends = spends;
   stops = λ e. inl (sym same ∙ e);
   breaks = H.broken;
   stays_stopped = λ e. same ∙ e;

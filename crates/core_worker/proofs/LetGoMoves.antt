@@ -38,7 +38,7 @@ use Rattle.core_worker.proofs.Given.{said_same, given_by, adds_then, ends_untold
 use Rattle.core_worker.specs.Finishing.{Serves, ShortOf}
 use Rattle.core_worker.specs.Turning.{TurnMoves}
 use Rattle.group_board.specs.Seats.{SeatAt}
-use Rattle.core_worker.specs.WorkerMoves.{Placed, Fixed, replied, placed, line_in, placed_in, placed_for, asked_by, hands_of, fixed_of, stock_of, AnswersKey, WorkerMoves}
+use Rattle.core_worker.specs.WorkerMoves.{asked, SpendsIn, Placed, Fixed, replied, placed, line_in, placed_in, placed_for, asked_by, hands_of, fixed_of, stock_of, AnswersKey, WorkerMoves}
 use Rattle.std.specs.List.{AllByRecursion}
 use Rattle.chunk_map.specs.declared.layouts.Geometry.{Geometry}
 use Rattle.core_index.specs.Index.{known_at}
@@ -46,6 +46,10 @@ use Rattle.core_index.specs.Records.{last_of}
 use Rattle.engine_laws.specs.FreeStock.{IsAtLeast, LacksRoom}
 use Rattle.engine_laws.specs.RefusalCauses.{raised, HaveCauses, Refuses}
 use Rattle.engine_laws.proofs.CauseLaws.{raised_by_low, causes_up, full_less, quiet_refuses}
+use Rattle.lazy_alloc.specs.Sets.{AreSets}
+use Rattle.store_image.proofs.SoundFacts.{in_front}
+use Rattle.group_laws.proofs.Images.{in_map}
+use Rattle.core_worker.proofs.StockFacts.{stages_spend, stock_small}
 use Rattle.core_worker.proofs.CauseFacts.{finish_causeless, all_stopped}
 use Rattle.core_worker.proofs.HandKeys.{holds_key}
 use Rattle.core_worker.proofs.HandPlaces.{held_at, held_beside}
@@ -86,6 +90,7 @@ module _ (Known : Type 0) (p : Place) (m : ℕ) (v u : View) (w f x : Worker) (k
     (doubt : (d : Entry) → u.pending k ≡ Some (record { entry = d; slot = None }) → (v.pending k ≡ Some (record { entry = d; slot = None })) ⊎ ((s : ℕ) × (pl.posted ≡ true) × (reply ≡ replies.Stopped) × (v.pending k ≡ Some (record { entry = d; slot = Some s })) × (left_in u.blocks d.body ≡ left_in v.blocks d.body)))
     (cells : (j : ℕ) → j ≢ k → u.cell j ≡ v.cell j) (pendings : (j : ℕ) → j ≢ k → u.pending j ≡ v.pending j) (blocks : (q : ℕ) (b : Block) → v.blocks q ≡ Some b → b.key ≢ k → u.blocks q ≡ v.blocks q)
     (last_here : u.last k ≤ raised (v.last k) reply) (lasts : (j : ℕ) → j ≢ k → u.last j ≤ v.last j) (known : f.stopped ≡ false → last_of (known_at f.index k) ≤ raised (v.last k) reply) (layout : f.layout ≡ p.layout) (stock : IsAtLeast (stock_of w) (stock_of f))
+    (lists : (u.posted ≡ v.posted) × (u.took ≡ v.took) × (u.flying ≡ v.flying)) (sets : AreSets f.allocator) (sets_layout : f.allocator.layout ≡ p.layout)
     (serves : Serves Known f x (u.cell k) k ⊎ ShortOf Known f x (u.cell k) k) where
   idle : is_busy f.places.items k ≡ false
   idle = by (is_busy f.places.items k) refl where
@@ -198,6 +203,37 @@ module _ (Known : Type 0) (p : Place) (m : ℕ) (v u : View) (w f x : Worker) (k
       (λ s low e. in_kept p m v u s j (place_at w.places.items s) (H.placed s (let n = H.eight in omega (arith, low, n))) e (pendings j ne) (λ q b is same. blocks q b is (λ at. ne (sym same ∙ at)))))
       (ap (map asked_by) (L.other_waits j ne) ∙ (λ i. map asked_by (filter (λ h. key_of h.request == j) (option_to_list (hand i)) ++ waiting (queue i) j)))
 
+  other_place : (j : ℕ) → j ≢ k → (hands_of u x).place j ≡ (hands_of v w).place j
+  other_place j ne = L.other_places j ne ∙ held_beside v u w.places.items f.places.items slot Free R H.apart apart j
+      (λ e. ne (let both : Some k ≡ Some j = sym key ∙ e in let at : k ≡ j = cc both in sym at)) (λ e. cc e)
+      (λ s low e. in_kept p m v u s j (place_at w.places.items s) (H.placed s (let n = H.eight in omega (arith, low, n))) e (pendings j ne) (λ q b is same. blocks q b is (λ at. ne (sym same ∙ at))))
+
+  -- what was begun waited
+  waited : (y : ℕ × Request) → In y (map asked_by lines.0) → key_of y.1 ≡ k → In y ((hands_of v w).waits (key_of y.1) ++ [])
+  waited y i at = in_front y ((hands_of v w).waits (key_of y.1)) [] (subst (λ (n : ℕ). In y ((hands_of v w).waits n)) (sym at) (subst (λ (ys : List (ℕ × Request)). In y ys) waits_is i))
+
+  let_go_spends : SpendsIn p m v u (hands_of v w) (hands_of u x) [] (first ∷ fs)
+  let_go_spends = record {
+    runs = λ y i is. ⊎_elim
+        (λ same. absurd ((finish_causeless p.layout (v.last k) pl.request reply ends).1 (sym (ap (λ (z : Fixed). z.reply) same) ∙ is)))
+        (λ more. (running y more is w.stopped refl, waited (asked y) (subst (λ (ys : List (ℕ × Request)). In (asked y) ys) (sym L.line) (in_front (asked y) (map asked fs) _ (in_map asked y fs more))) (L.keys y more))) i;
+    stays = λ j y own at none. ⊎_elim
+        (λ same. absurd (let both : first ∷ fs ≡ [] = sym (fixed_all k (first ∷ fs) keys_of) ∙ ap (λ n. fixed_of n (first ∷ fs)) (sym same) ∙ none in cc both))
+        (λ ne. (y, other_place j ne ∙ at, refl, λ t. t)) (cases_eq j k);
+    begun = L.begun;
+    begins = λ y is. (let b = L.begins y is in record { own = ap (owner p) b.0 ∙ own; waits = waited y b.1 b.0; place = ap (placed_for u x.places.items) b.0 ∙ b.2 });
+    posts = inl lists.0;
+    spends = λ on. stages_spend p.layout v.took v.flying u.took u.flying (stock_of w) (stock_of f) (stock_of x) L.begun stock (L.stages p.layout layout sets_layout sets N.sets) (stock_small p m u x N) lists.1 lists.2;
+  } where
+    all_so : (ys : List Fixed) (y : Fixed) → In y ys → AllByRecursion (λ (z : Fixed). z.reply ≡ replies.Stopped) ys → y.reply ≡ replies.Stopped
+    all_so [] y i h = absurd i
+    all_so (z ∷ zs) y (inl e) h = ap (λ (a : Fixed). a.reply) e ∙ h.0
+    all_so (z ∷ zs) y (inr i) h = all_so zs y i h.1
+
+    running : (y : Fixed) → In y fs → y.reply ≡ replies.Full → (b : Bool) → w.stopped ≡ b → w.stopped ≡ false
+    running y i is false e = e
+    running y i is true e = absurd (let both = sym is ∙ all_so fs y i (L.halts (stays e)).0 in cc both)
+
   pub let_go_fixed : List Fixed
   let_go_fixed = first ∷ fs
 
@@ -224,6 +260,7 @@ module _ (Known : Type 0) (p : Place) (m : ℕ) (v u : View) (w f x : Worker) (k
         (λ same. subst (λ n. Refuses p.layout (stock_of w) (v.last n) (u.last n) (map replied (fixed_of n (first ∷ fs)))) (sym same) (subst (λ (ys : List Fixed). Refuses p.layout (stock_of w) (v.last k) (u.last k) (map replied ys)) (sym (fixed_all k (first ∷ fs) keys_of)) own_refuses))
         (λ ne. subst (λ (ys : List Fixed). Refuses p.layout (stock_of w) (v.last j) (u.last j) (map replied ys)) (sym (fixed_none j k (first ∷ fs) ne keys_of)) (quiet_refuses p.layout (stock_of w) (v.last j) (u.last j) (lasts j ne)))
         (cases_eq j k);
+    spends = let_go_spends;
     stops = λ e. ⊎_elim (λ a. inl a) (λ b. inr (inr b)) (cause (sym L.stopped ∙ e));
     breaks = N.broken;
     stays_stopped = λ e. L.stopped ∙ stays e;
@@ -258,12 +295,15 @@ pub record LetGo (Known : Type 0) (p : Place) (m : ℕ) (v u : View) (w f x : Wo
   pub known : f.stopped ≡ false → last_of (known_at f.index k) ≤ raised (v.last k) reply
   pub layout : f.layout ≡ p.layout
   pub stock : IsAtLeast (stock_of w) (stock_of f)
+  pub lists : (u.posted ≡ v.posted) × (u.took ≡ v.took) × (u.flying ≡ v.flying)
+  pub sets : AreSets f.allocator
+  pub sets_layout : f.allocator.layout ≡ p.layout
   pub serves : Serves Known f x (u.cell k) k ⊎ ShortOf Known f x (u.cell k) k
 
 pub let_go_turn : (seat : SeatAt) (s : State) (before after : Option Group) (v u : View) (w f x : Worker) (k slot : ℕ) (pl : Placed) (reply : Reply) → LetGo (IsTelling s) seat.place seat.number v u w f x k slot pl reply → Stands s seat.place seat.number v w → Stands s seat.place seat.number u x → Steps before after seat.number u
     → (f.stopped ≡ true → (w.stopped ≡ true) ⊎ IfSome before (λ a. (n : ℕ) × (d : Entry) × (a.slot seat.number n ≡ Failed d))) → TurnMoves seat s s before after v u w x
 let_go_turn seat s before after v u w f x k slot pl reply G S T made cause = record {
-  fixed = let_go_fixed (IsTelling s) seat.place seat.number v u w f x k slot G.H G.N G.hand_of G.own pl G.key G.held G.of_key G.R G.queue G.hand G.winds reply G.answers G.may G.left G.halts G.stays G.ends G.doubt G.cells G.pendings G.blocks G.last_here G.lasts G.known G.layout G.stock G.serves;
-  answers = let_go_answers (IsTelling s) seat.place seat.number v u w f x k slot G.H G.N G.hand_of G.own pl G.key G.held G.of_key G.R G.queue G.hand G.winds reply G.answers G.may G.left G.halts G.stays G.ends G.doubt G.cells G.pendings G.blocks G.last_here G.lasts G.known G.layout G.stock G.serves;
-  moves = let_go_moves (IsTelling s) seat.place seat.number v u w f x k slot G.H G.N G.hand_of G.own pl G.key G.held G.of_key G.R G.queue G.hand G.winds reply G.answers G.may G.left G.halts G.stays G.ends G.doubt G.cells G.pendings G.blocks G.last_here G.lasts G.known G.layout G.stock G.serves s before after S T made cause;
+  fixed = let_go_fixed (IsTelling s) seat.place seat.number v u w f x k slot G.H G.N G.hand_of G.own pl G.key G.held G.of_key G.R G.queue G.hand G.winds reply G.answers G.may G.left G.halts G.stays G.ends G.doubt G.cells G.pendings G.blocks G.last_here G.lasts G.known G.layout G.stock G.lists G.sets G.sets_layout G.serves;
+  answers = let_go_answers (IsTelling s) seat.place seat.number v u w f x k slot G.H G.N G.hand_of G.own pl G.key G.held G.of_key G.R G.queue G.hand G.winds reply G.answers G.may G.left G.halts G.stays G.ends G.doubt G.cells G.pendings G.blocks G.last_here G.lasts G.known G.layout G.stock G.lists G.sets G.sets_layout G.serves;
+  moves = let_go_moves (IsTelling s) seat.place seat.number v u w f x k slot G.H G.N G.hand_of G.own pl G.key G.held G.of_key G.R G.queue G.hand G.winds reply G.answers G.may G.left G.halts G.stays G.ends G.doubt G.cells G.pendings G.blocks G.last_here G.lasts G.known G.layout G.stock G.lists G.sets G.sets_layout G.serves s before after S T made cause;
 }

@@ -14,6 +14,7 @@ mod BlockClear
 pub mod HandKeys
 pub mod Aside
 mod CauseFacts
+pub mod StockFacts
 mod QuietMoves
 pub mod KeyMoves
 mod HandPlaces
@@ -36,6 +37,7 @@ mod Winding
 mod Waiters
 mod Unpledging
 mod BatchRoom
+mod BatchSpends
 pub mod Serving
 mod Heard
 mod HeardNames

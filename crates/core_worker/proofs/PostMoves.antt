@@ -1,11 +1,12 @@
 -- Posting a change is a whole move to whoever runs several workers, and keeps what is kept in order.
-use Rattle.std.proofs.Common.{◌≡◌, ◌≢◌, ◌⊎◌, inl, inr, ⊎_elim, ℕ, zero, suc, ◌+◌, ◌<◌, ◌≤◌, Bool, true, false, cond, List, [], ◌∷◌, ◌++◌, length, Option, Some, None, refl, sym, ◌∙◌, ap, subst, arith, append-nil}
+use Rattle.std.proofs.Common.{◌/◌, ◌-◌, ◌≡◌, ◌≢◌, ◌⊎◌, inl, inr, ⊎_elim, ℕ, zero, suc, ◌+◌, ◌<◌, ◌≤◌, Bool, true, false, cond, List, [], ◌∷◌, ◌++◌, length, Option, Some, None, refl, sym, ◌∙◌, ap, subst, arith, append-nil}
 use Rattle.std.specs.Prelude.{Vec, option_map, is_some}
 use Rattle.std.specs.VecDeque.{deque_len, deque_capacity}
 use Rattle.std.specs.declared.collections.VecDeque.{VecDeque}
 use Rattle.std.specs.Global.{Global}
 use Rattle.std.proofs.lemmas.Bool.{cases_eq, eq-eqb, ne_eqb}
 use Rattle.fs_model.specs.declared.model.Request.{Request}
+use Rattle.fs_model.specs.Cells.{key_of}
 use Rattle.pm_region.specs.State.{State, During, IsTelling, cell_now, Rose}
 use Rattle.pm_region.specs.Words.{KeepsOutside}
 use Rattle.pm_region.proofs.Moments.{started}
@@ -44,7 +45,11 @@ use Rattle.core_worker.specs.WorkerMoves.{Placed, Hands, placed, line_in, placed
 use Rattle.core_worker.proofs.HandKeys.{holds_key}
 use Rattle.core_worker.proofs.HandPlaces.{held_at, held_beside}
 use Rattle.core_worker.proofs.QuietMoves.{runs_in}
-use Rattle.engine_laws.proofs.CauseLaws.{quiet_refuses}
+use Rattle.engine_laws.specs.FreeStock.{Stock, IsAtLeast}
+use Rattle.engine_laws.proofs.Ampleness.{chunk_big}
+use Rattle.engine_laws.proofs.CauseLaws.{quiet_refuses, at_least_same}
+use Rattle.core_worker.proofs.CauseFacts.{stock_same}
+use Rattle.core_worker.proofs.StockFacts.{quiet_in, stages_none, stages_spend, stock_small, entry_needs, class_short}
 use Rattle.core_worker.proofs.KeyMoves.{no_steps}
 use Rattle.core_worker.proofs.Made.{one_step}
 use Rattle.core_worker.proofs.Posts.{same_keys, busy_same}
@@ -163,9 +168,9 @@ module _ (p : Place) (m : ℕ) (v : View) (w : Worker) (H : Holds p m v w) (slot
         (cases_eq k e.key)
 
     -- the change is posted, by one step
-    pub post_moves : (s t : State) (before after : Option Group) → During s t (KeepsOutside (cell_now s) (part_at p m) (part_end p m)) → During s t (Licensed p m v) → (IsTelling t → Licensed p m u (cell_now t)) → Steps before after m u → x.stopped ≡ false
+    pub post_moves : (s t : State) (before after : Option Group) → During s t (KeepsOutside (cell_now s) (part_at p m) (part_end p m)) → During s t (Licensed p m v) → (IsTelling t → Licensed p m u (cell_now t)) → Steps before after m u → x.stopped ≡ false → IsAtLeast (stock_of w) (stock_of x)
         → WorkerMoves p m s t before after v u (hands_of v w) (hands_of u x) [] []
-    post_moves s t before after outside moments exit made on = record {
+    post_moves s t before after outside moments exit made on stock = record {
       outside = outside;
       moments = moments;
       exit = exit;
@@ -175,10 +180,44 @@ module _ (p : Place) (m : ℕ) (v : View) (w : Worker) (H : Holds p m v w) (slot
       keys = λ k own. post_keys k;
       holds = λ k own. holds_key p m u x N k;
       refuses = λ k own. quiet_refuses p.layout (stock_of w) (v.last k) (v.last k) (omega arith);
+      spends = record {
+        runs = λ y i full. absurd i;
+        stays = λ k y own at none. ⊎_elim
+            (λ same. let was_is : Some (record { number = number; request = asks; posted = false }) ≡ Some y = sym place_before ∙ ap (placed_for v w.places.items) (sym same) ∙ at in (record { number = number; request = asks; posted = true }, ap (placed_for u x.places.items) same ∙ place_after, ap (number_or number) was_is, λ t. refl))
+            (λ ne. (y, beside k ne ∙ at, refl, λ t. t))
+            (cases_eq k e.key);
+        begun = None;
+        begins = λ y is. absurd (cc is);
+        posts = inr (record {
+          change = record { number = number; request = asks; posted = false };
+          own = ap (owner p) asks_own ∙ facts.1;
+          was = ap (placed_for v w.places.items) asks_own ∙ place_before;
+          staged = refl;
+          now = ap (placed_for u x.places.items) asks_own ∙ place_after;
+          entry = e;
+          more = refl;
+          few = entry_needs p.layout e value (chunk_big p.layout H.place.layout) facts.3 points_well;
+        });
+        spends = λ runs. stages_spend p.layout v.took v.flying v.took v.flying (stock_of w) (stock_of x) (stock_of x) None stock (stages_none p.layout (stock_of x) (stock_of x) None (at_least_same (stock_of x))) (stock_small p m u x N) refl refl;
+      };
       stops = λ is. absurd (let both : true ≡ false = sym is ∙ on in cc both);
       breaks = N.broken;
       stays_stopped = λ is. absurd (let both : true ≡ false = sym is ∙ runs in cc both);
-    }
+    } where
+      number_or : ℕ → Option Placed → ℕ
+      number_or n None = n
+      number_or n (Some y) = y.number
+
+      asks_own : key_of asks ≡ e.key
+      asks_own = by e.body where
+        by : (b : Body) → key_of (request_by e.key value b) ≡ e.key
+        by (bodies.Pointer q) = refl
+        by (bodies.Embedded z) = refl
+        by bodies.Tombstone = refl
+
+      -- the value of a block is of a class of the layout
+      points_well : (q : ℕ) → e.body ≡ bodies.Pointer q → (256 ≤ length value) × (length value ≤ p.layout.chunk_bytes / 4 - 8)
+      points_well q points = let B = (H.blocks.staged q (record { slot = slot; number = number; entry = e; value = value; place = was; points = points })).0 in class_short p.layout w.allocator q (length value) B.class H.sets H.allocator_layout B.class_is B.fits
 
     -- what is kept in order
     pub post_order : x.index ≡ w.index → x.answers ≡ w.answers → x.winds_down ≡ w.winds_down → x.standing ≡ w.standing → x.stopped ≡ false → InOrder p m v w → InOrder p m u x
@@ -278,6 +317,10 @@ pub record PostFacts (m : ℕ) (before after : Option Group) (v u : View) (w x :
   pub view : u ≡ after_post slot entry value v
   pub made : Steps before after m u
 
+-- as much is free as once the block was written
+pub posted_least : (m : ℕ) (before after : Option Group) (v u : View) (w mid x : Worker) (slot : ℕ) → PostsPlain m before after v u mid x slot → IsAtLeast (stock_of w) (stock_of mid) → IsAtLeast (stock_of w) (stock_of x)
+posted_least m before after v u w mid x slot P stock = subst (λ (t : Stock). IsAtLeast (stock_of w) t) (sym (stock_same mid x (ap (λ (y : Worker). y.log) P.rest) (ap (λ (y : Worker). y.allocator) P.rest) (ap (λ (y : Worker). y.leading) P.rest))) stock
+
 pub facts_of : (m : ℕ) (before after : Option Group) (v u : View) (w mid x : Worker) (slot : ℕ) → mid ≡ record w { allocator = mid.allocator } → PostsPlain m before after v u mid x slot → PostFacts m before after v u w x slot
 facts_of m before after v u w mid x slot same P = record {
   number = P.number;
@@ -301,15 +344,15 @@ module _ (p : Place) (m : ℕ) (before after : Option Group) (v u : View) (w x :
   on : x.stopped ≡ false
   on = ap (λ (y : Worker). y.stopped) F.same ∙ runs
 
-  pub posted_moves : (s t : State) → During s t (KeepsOutside (cell_now s) (part_at p m) (part_end p m)) → During s t (Licensed p m v) → (IsTelling t → Licensed p m u (cell_now t)) → WorkerMoves p m s t before after v u (hands_of v w) (hands_of u x) [] []
-  posted_moves s t outside moments exit =
+  pub posted_moves : IsAtLeast (stock_of w) (stock_of x) → (s t : State) → During s t (KeepsOutside (cell_now s) (part_at p m) (part_end p m)) → During s t (Licensed p m v) → (IsTelling t → Licensed p m u (cell_now t)) → WorkerMoves p m s t before after v u (hands_of v w) (hands_of u x) [] []
+  posted_moves stock s t outside moments exit =
       subst (λ (y : View). WorkerMoves p m s t before after v y (hands_of v w) (hands_of y x) [] []) (sym F.view)
       (post_moves p m v w H slot F.number F.entry F.value lt F.was runs x made_here F.lines F.places (ap (λ (y : Worker). y.queue) F.same) (ap (λ (y : Worker). y.in_hand) F.same) s t before after outside moments
-      (λ telling. subst (λ (y : View). Licensed p m y (cell_now t)) F.view (exit telling)) (subst (λ (y : View). Steps before after m y) F.view F.made) on)
+      (λ telling. subst (λ (y : View). Licensed p m y (cell_now t)) F.view (exit telling)) (subst (λ (y : View). Steps before after m y) F.view F.made) on stock)
 
   -- nothing is written
-  pub here_moves : (s : State) → Stands s p m v w → Stands s p m u x → WorkerMoves p m s s before after v u (hands_of v w) (hands_of u x) [] []
-  here_moves s S T = posted_moves s s (all_kept s (part_at p m) (part_end p m)) (started s (Licensed p m v) S.licensed) T.licensed
+  pub here_moves : IsAtLeast (stock_of w) (stock_of x) → (s : State) → Stands s p m v w → Stands s p m u x → WorkerMoves p m s s before after v u (hands_of v w) (hands_of u x) [] []
+  here_moves stock s S T = posted_moves stock s s (all_kept s (part_at p m) (part_end p m)) (started s (Licensed p m v) S.licensed) T.licensed
 
   pub posted_order : InOrder p m v w → InOrder p m u x
   posted_order O =
@@ -330,6 +373,7 @@ fault_moves p m s t a v w x N place waits stopped outside moments exit rose = re
   keys = λ k own. kept_key v v (hands_of v w) (hands_of v x) k refl refl (place k) (waits k);
   holds = λ k own. holds_key p m v x N k;
   refuses = λ k own. quiet_refuses p.layout (stock_of w) (v.last k) (v.last k) (omega arith);
+  spends = quiet_in p m v v (hands_of v w) (hands_of v x) [] place refl (λ runs. absurd (let both : true ≡ false = sym stopped ∙ runs in cc both));
   stops = λ is. inr (inl rose);
   breaks = N.broken;
   stays_stopped = λ is. stopped;

@@ -28,8 +28,11 @@ use Rattle.core_worker.specs.WorkerMoves.{Placed, Fixed, asked, replied, placed,
 use Rattle.chunk_map.specs.declared.layouts.Geometry.{Geometry}
 use Rattle.engine_laws.specs.FreeStock.{Stock, LacksRoom}
 use Rattle.engine_laws.specs.RefusalCauses.{raised, HasCause, HaveCauses}
-use Rattle.engine_laws.proofs.CauseLaws.{raised_low, causes_up}
-use Rattle.core_worker.proofs.CauseFacts.{stopped_causeless, answer_causeless, answer_not_full, why_cause, why_full, stock_same}
+use Rattle.lazy_alloc.specs.Sets.{Sets, AreSets}
+use Rattle.engine_laws.specs.RefusalCauses.{is_too_long}
+use Rattle.engine_laws.proofs.CauseLaws.{raised_low, causes_up, at_least_same}
+use Rattle.core_worker.proofs.StockFacts.{Stages, stages_none, staged_stock, why_short}
+use Rattle.core_worker.proofs.CauseFacts.{lacks_as_stock, stopped_causeless, answer_causeless, answer_not_full, why_cause, why_full, stock_same}
 use Rattle.core_worker.proofs.AcceptMoves.{not_stopped, left_by_refusal, may_refuse_for, still_left, still_runs}
 use Rattle.core_worker.proofs.HandKeys.{none_for}
 use Rattle.core_worker.proofs.HandPlaces.{held_at, held_beside}
@@ -78,19 +81,19 @@ module _ (Known : Type 0) (w u : Worker) (cell : Option (List ℕ)) (n : ℕ) (r
     full = full;
   }
 
-  goes_on : (c : Bool) → w.stopped ≡ false → is_change r cell ≡ c → GoesOn Known c w u cell n r → Answers Known w u cell n r ⊎ ((w.stopped ≡ false) × IsStaged w u n r)
-  goes_on false runs e is = inl (running (answer_to r cell) is.0 None runs is.1 (answer_untold r cell e) is.2 (inl refl) (still_left r cell e) (still_runs r cell) (answer_causeless w.layout (last_of (known_at w.index (key_of r))) r cell e) (λ full. absurd (answer_not_full r cell e full)))
-  goes_on true runs e is = inr (runs, is)
+  goes_on : (c : Bool) → is_too_long w.layout r ≡ false → w.stopped ≡ false → is_change r cell ≡ c → GoesOn Known c w u cell n r → Answers Known w u cell n r ⊎ ((w.stopped ≡ false) × IsStaged w u n r × (is_too_long w.layout r ≡ false))
+  goes_on false short runs e is = inl (running (answer_to r cell) is.0 None runs is.1 (answer_untold r cell e) is.2 (inl refl) (still_left r cell e) (still_runs r cell) (answer_causeless w.layout (last_of (known_at w.index (key_of r))) r cell e) (λ full. absurd (answer_not_full r cell e full)))
+  goes_on true short runs e is = inr (runs, is, short)
 
-  by_cause : (o : Option Shortage) → w.stopped ≡ false → why w.layout (supply_of w) w.allocator (last_of (known_at w.index (key_of r))) cell r ≡ o → BeginsBy Known o w u cell n r → Answers Known w u cell n r ⊎ ((w.stopped ≡ false) × IsStaged w u n r)
-  by_cause None runs e is = goes_on (is_change r cell) runs refl is
-  by_cause (Some c) runs e is = inl (running (reply_to c) (reply_to c) (Some c) runs (said_same Known r (reply_to c)) refl is (may_refuse_for w.layout (supply_of w) w.allocator (last_of (known_at w.index (key_of r))) cell r c e) (left_by_refusal r cell c) (not_stopped c) (why_cause w.layout (supply_of w) w.allocator (last_of (known_at w.index (key_of r))) cell r c e) (why_full w.layout (supply_of w) w.allocator (last_of (known_at w.index (key_of r))) cell r c e))
+  by_cause : (o : Option Shortage) → w.stopped ≡ false → why w.layout (supply_of w) w.allocator (last_of (known_at w.index (key_of r))) cell r ≡ o → BeginsBy Known o w u cell n r → Answers Known w u cell n r ⊎ ((w.stopped ≡ false) × IsStaged w u n r × (is_too_long w.layout r ≡ false))
+  by_cause None runs e is = goes_on (is_change r cell) (why_short w.layout (supply_of w) w.allocator (last_of (known_at w.index (key_of r))) cell r e) runs refl is
+  by_cause (Some c) runs e is = inl (running (reply_to c) (reply_to c) (Some c) runs (said_same Known r (reply_to c)) refl is (may_refuse_for w.layout (supply_of w) w.allocator (last_of (known_at w.index (key_of r))) cell r c e) (left_by_refusal r cell c) (not_stopped c) (why_cause w.layout (supply_of w) w.allocator (last_of (known_at w.index (key_of r))) cell r c e) (λ full. lacks_as_stock w.layout w r (why_full w.layout (supply_of w) w.allocator (last_of (known_at w.index (key_of r))) cell r c e full)))
 
-  by_stop : (d : Bool) → w.stopped ≡ d → BeginsAs Known d w u cell n r → Answers Known w u cell n r ⊎ ((w.stopped ≡ false) × IsStaged w u n r)
+  by_stop : (d : Bool) → w.stopped ≡ d → BeginsAs Known d w u cell n r → Answers Known w u cell n r ⊎ ((w.stopped ≡ false) × IsStaged w u n r × (is_too_long w.layout r ≡ false))
   by_stop true e is = inl (record { reply = replies.Stopped; given = replies.Stopped; cause = None; said = said_same Known r replies.Stopped; by_cause = refl; is = is; may = subst (λ b. MayReply r cell b replies.Stopped) (sym e) refl; left = refl; halts = λ s. refl; halted = λ s. e; has_cause = stopped_causeless w.layout (last_of (known_at w.index (key_of r))) r replies.Stopped refl; full = λ full. absurd (cc full) })
   by_stop false e is = by_cause (why w.layout (supply_of w) w.allocator (last_of (known_at w.index (key_of r))) cell r) e refl is
 
-  pub begins_one : Begins Known w u cell n r → Answers Known w u cell n r ⊎ ((w.stopped ≡ false) × IsStaged w u n r)
+  pub begins_one : Begins Known w u cell n r → Answers Known w u cell n r ⊎ ((w.stopped ≡ false) × IsStaged w u n r × (is_too_long w.layout r ≡ false))
   begins_one is = by_stop w.stopped refl is
 
 -- what is held of the key of a worker that has none in a place, and of the others
@@ -105,6 +108,10 @@ pub record Line (Known : Type 0) (v : View) (w x : Worker) (k : ℕ) (cell : Opt
   pub stopped : x.stopped ≡ w.stopped
   pub causes : HaveCauses w.layout (last_of (known_at w.index k)) (map replied fs)
   pub full : AllByRecursion (λ (y : Request × Reply). y.1 ≡ replies.Full → LacksRoom w.layout (stock_of w) y.0) (map replied fs)
+  -- the change that was begun, and what it took
+  pub begun : Option (ℕ × Request)
+  pub begins : (y : ℕ × Request) → begun ≡ Some y → (key_of y.1 ≡ k) × In y (map asked_by hs) × (placed_for v x.places.items k ≡ Some (record { number = y.0; request = y.1; posted = false }))
+  pub stages : (l : Geometry) → w.layout ≡ l → w.allocator.layout ≡ l → AreSets w.allocator → AreSets x.allocator → Stages l (stock_of w) (stock_of x) begun
   pub other_places : (j : ℕ) → j ≢ k → placed_for v x.places.items j ≡ placed_for v w.places.items j
   pub other_waits : (j : ℕ) → j ≢ k → filter (λ h. key_of h.request == j) (option_to_list x.in_hand) ++ waiting x.queue j ≡ filter (λ h. key_of h.request == j) (option_to_list w.in_hand) ++ waiting w.queue j
 
@@ -161,6 +168,9 @@ module _ (Known : Type 0) (v : View) (k : ℕ) (cell : Option (List ℕ)) where
     stopped = ap (λ (y : Worker). y.stopped) same;
     causes = tt;
     full = tt;
+    begun = None;
+    begins = λ y is. absurd (cc is);
+    stages = λ l a b c d. subst (λ (t : Stock). Stages l (stock_of w) t None) (sym (ap (λ (y : Worker). stock_of y) same)) (stages_none l (stock_of w) (stock_of w) None (at_least_same (stock_of w)));
     other_places = λ j ne. ap (λ (y : Worker). placed_for v y.places.items j) same;
     other_waits = λ j ne. ap (λ (y : Worker). filter (λ h. key_of h.request == j) (option_to_list y.in_hand) ++ waiting y.queue j) same;
   }
@@ -205,9 +215,14 @@ module _ (Known : Type 0) (v : View) (k : ℕ) (cell : Option (List ℕ)) where
         subst (λ (l : Geometry). HaveCauses l (raised (last_of (known_at w.index k)) A.reply) (map replied fs)) (A.is.same.layout ∙ layout_next)
         (causes_up mid.layout (last_of (known_at mid.index k)) (raised (last_of (known_at w.index k)) A.reply) (map replied fs) (let low = raised_low A.reply (last_of (known_at w.index k)) in let at = last_mid in omega (arith, low, at)) L.causes),
       );
+      begun = L.begun;
+      begins = λ y is. (let b = L.begins y is in (b.0, inr b.1, b.2));
+      stages = λ l layout sets_layout sets after.
+          subst (λ (t : Stock). Stages l t (stock_of x) L.begun) stock_mid
+          (L.stages l (A.is.same.layout ∙ layout_next ∙ layout) (ap (λ (a : Sets). a.layout) (A.is.allocator ∙ allocator_next) ∙ sets_layout) (subst AreSets (sym (A.is.allocator ∙ allocator_next)) sets) after);
       full = (
         λ is. subst (λ (t : Stock). LacksRoom w.layout t h.request) stock_next (subst (λ (l : Geometry). LacksRoom l (stock_of next) h.request) layout_next (A.full is)),
-        subst (λ (t : Stock). AllByRecursion (λ (y : Request × Reply). y.1 ≡ replies.Full → LacksRoom w.layout t y.0) (map replied fs)) (stock_same next mid A.is.same.log A.is.allocator ∙ stock_next)
+        subst (λ (t : Stock). AllByRecursion (λ (y : Request × Reply). y.1 ≡ replies.Full → LacksRoom w.layout t y.0) (map replied fs)) stock_mid
         (subst (λ (l : Geometry). AllByRecursion (λ (y : Request × Reply). y.1 ≡ replies.Full → LacksRoom l (stock_of mid) y.0) (map replied fs)) (A.is.same.layout ∙ layout_next) L.full),
       );
       other_places = λ j ne. L.other_places j ne ∙ ap (λ (ps : List places.Place). placed_for v ps j) (A.is.places ∙ ap (λ (y : Worker). y.places.items) same);
@@ -220,7 +235,13 @@ module _ (Known : Type 0) (v : View) (k : ℕ) (cell : Option (List ℕ)) where
       layout_next = ap (λ (y : Worker). y.layout) same
 
       stock_next : stock_of next ≡ stock_of w
-      stock_next = stock_same w next (ap (λ (y : Worker). y.log) same) (ap (λ (y : Worker). y.allocator) same)
+      stock_next = stock_same w next (ap (λ (y : Worker). y.log) same) (ap (λ (y : Worker). y.allocator) same) (ap (λ (y : Worker). y.leading) same)
+
+      allocator_next : next.allocator ≡ w.allocator
+      allocator_next = ap (λ (y : Worker). y.allocator) same
+
+      stock_mid : stock_of mid ≡ stock_of w
+      stock_mid = stock_same next mid A.is.same.log A.is.allocator A.is.same.leading ∙ stock_next
 
       last_next : last_of (known_at next.index (key_of h.request)) ≡ last_of (known_at w.index k)
       last_next = ap (λ (y : Worker). last_of (known_at y.index (key_of h.request))) same ∙ ap (λ j. last_of (known_at w.index j)) (first_key w.queue next.queue k h T)
@@ -229,8 +250,8 @@ module _ (Known : Type 0) (v : View) (k : ℕ) (cell : Option (List ℕ)) where
       last_mid = ap last_of (A.is.records k) ∙ ap (λ (y : Worker). last_of (known_at y.index k)) same
 
     -- one is staged
-    line_staged : (S : IsStaged next mid h.number h.request) → next.stopped ≡ false → x ≡ mid → w.in_hand ≡ None → is_busy w.places.items k ≡ false → AreApart w.places.items → waiting w.queue k ≡ h ∷ hs → Line Known v w x k cell (h ∷ hs) []
-    line_staged S runs is hand idle apart waits = record {
+    line_staged : (S : IsStaged next mid h.number h.request) → is_too_long next.layout h.request ≡ false → next.stopped ≡ false → x ≡ mid → w.in_hand ≡ None → is_busy w.places.items k ≡ false → AreApart w.places.items → waiting w.queue k ≡ h ∷ hs → Line Known v w x k cell (h ∷ hs) []
+    line_staged S short runs is hand idle apart waits = record {
       answers = adds_none Known (answers_of w) (answers_of x) (ap (λ (y : Worker). answers_of y) is ∙ S.answers ∙ ap (λ (y : Worker). answers_of y) same);
       keys = λ y i. absurd i;
       line = sym (ap (λ (y : Worker). placed (placed_for v y.places.items k) ++ map asked_by (filter (λ h. key_of h.request == k) (option_to_list y.in_hand) ++ waiting y.queue k)) is
@@ -242,10 +263,23 @@ module _ (Known : Type 0) (v : View) (k : ℕ) (cell : Option (List ℕ)) where
       stopped = ap (λ (y : Worker). y.stopped) is ∙ stopped_next;
       causes = tt;
       full = tt;
+      begun = Some (h.number, h.request);
+      begins = λ y at. subst (λ (z : ℕ × Request). (key_of z.1 ≡ k) × In z (map asked_by (h ∷ hs)) × (placed_for v x.places.items k ≡ Some (record { number = z.0; request = z.1; posted = false }))) (let same_y : (h.number, h.request) ≡ y = cc at in same_y)
+          (first_key w.queue next.queue k h T, inl refl, ap (λ (y : Worker). placed_for v y.places.items k) is ∙ has);
+      stages = λ l layout sets_layout sets after.
+          subst (λ (t : Stock). Stages l t (stock_of x) (Some (h.number, h.request))) stock_next
+          (subst (λ (y : Worker). Stages l (stock_of next) (stock_of y) (Some (h.number, h.request))) (sym is)
+          (staged_stock l next mid h.number h.request S (subst AreSets (sym allocator_next) sets) (subst (λ (y : Worker). AreSets y.allocator) is after) (ap (λ (a : Sets). a.layout) allocator_next ∙ sets_layout) (subst (λ (m : Geometry). is_too_long m h.request ≡ false) (ap (λ (y : Worker). y.layout) same ∙ layout) short)));
       other_places = λ j ne. ap (λ (y : Worker). placed_for v y.places.items j) is ∙ held_beside v v w.places.items mid.places.items S.slot (Staged h.number S.entry S.value) here apart apart_now j
           (λ e. (let both : None ≡ Some j = sym (ap key_in was) ∙ e in cc both)) (λ e. ne (let both : Some S.entry.key ≡ Some j = e in let at : S.entry.key ≡ j = cc both in sym at ∙ key)) (λ t low e. refl);
       other_waits = λ j ne. ap (λ (y : Worker). filter (λ h. key_of h.request == j) (option_to_list y.in_hand) ++ waiting y.queue j) is ∙ (λ i. filter (λ h. key_of h.request == j) (option_to_list (hand_mid i)) ++ waits_mid j ne i);
     } where
+      stock_next : stock_of next ≡ stock_of w
+      stock_next = stock_same w next (ap (λ (y : Worker). y.log) same) (ap (λ (y : Worker). y.allocator) same) (ap (λ (y : Worker). y.leading) same)
+
+      allocator_next : next.allocator ≡ w.allocator
+      allocator_next = ap (λ (y : Worker). y.allocator) same
+
       key : S.entry.key ≡ k
       key = S.key ∙ first_key w.queue next.queue k h T
 
@@ -285,7 +319,7 @@ module _ (Known : Type 0) (v : View) (k : ℕ) (cell : Option (List ℕ)) where
       (record { number = h.number; request = h.request; reply = A.reply; refusal = A.cause } ∷ L.0, line_answered w next mid x h hs T same only L.0 A L.1))
       begins.6)
       (λ S. ⊎_elim
-      (λ over. ([], line_staged w next mid x h hs T same only S.1 S.0 over.1 hand idle apart waits))
+      (λ over. ([], line_staged w next mid x h hs T same only S.1 S.2 S.0 over.1 hand idle apart waits))
       (λ more. absurd (let both : true ≡ false = sym (staged_then w next mid x h hs T same only S.1) ∙ more.0 in cc both))
       begins.6)
       (begins_one Known next mid cell h.number h.request begins.5)
@@ -304,6 +338,9 @@ module _ (Known : Type 0) (v : View) (k : ℕ) (cell : Option (List ℕ)) where
     stopped = ap (λ (y : Worker). y.stopped) is ∙ ap (λ (y : Worker). y.stopped) same;
     causes = tt;
     full = tt;
+    begun = None;
+    begins = λ y is. absurd (cc is);
+    stages = λ l a b c d. subst (λ (t : Stock). Stages l (stock_of w) t None) (sym (ap (λ (y : Worker). stock_of y) whole)) (stages_none l (stock_of w) (stock_of w) None (at_least_same (stock_of w)));
     other_places = λ j ne. ap (λ (y : Worker). placed_for v y.places.items j) is ∙ ap (λ (y : Worker). placed_for v y.places.items j) same;
     other_waits = λ j ne. ap (λ (y : Worker). filter (λ h. key_of h.request == j) (option_to_list y.in_hand) ++ waiting y.queue j) is
         ∙ (λ i. cond (ne_eqb (key_of h.request) j (λ e. ne (sym e ∙ first_key w.queue next.queue k h T)) i) (h ∷ []) [] ++ waiting next.queue j) ∙ T.others j ne ∙ sym (hand_none w.in_hand j (waiting w.queue j) hand);
@@ -345,6 +382,9 @@ module _ (Known : Type 0) (v : View) (k : ℕ) (cell : Option (List ℕ)) where
     stopped = refl;
     causes = tt;
     full = tt;
+    begun = None;
+    begins = λ y is. absurd (cc is);
+    stages = λ l a b c d. subst (λ (t : Stock). Stages l (stock_of w) t None) (sym (λ i. stock_of w)) (stages_none l (stock_of w) (stock_of w) None (at_least_same (stock_of w)));
     other_places = λ j ne. refl;
     other_waits = λ j ne. refl;
   }

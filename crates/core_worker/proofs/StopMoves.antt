@@ -1,5 +1,5 @@
 -- What a stopped core does with its own changes is a whole move to whoever runs several workers.
-use Rattle.std.proofs.Common.{◌≡◌, ◌≢◌, ◌⊎◌, inl, inr, ℕ, ◌<◌, Bool, true, false, cond, [], ◌∷◌, ◌++◌, Option, Some, None, refl, sym, ◌∙◌, ap, subst, arith}
+use Rattle.std.proofs.Common.{not, ◌&&◌, List, ◌≡◌, ◌≢◌, ◌⊎◌, inl, inr, ℕ, ◌<◌, Bool, true, false, cond, [], ◌∷◌, ◌++◌, Option, Some, None, refl, sym, ◌∙◌, ap, subst, arith}
 use Rattle.std.specs.Prelude.{option_map}
 use Rattle.fs_model.specs.declared.model.Reply.TheVariants as replies
 use Rattle.pm_region.specs.State.{State, IsTelling}
@@ -24,10 +24,14 @@ use Rattle.core_worker.specs.Beginning.{answers_of, answer_with}
 use Rattle.core_worker.specs.Finishing.{number_in, PutsBackIf, Serves, ShortOf, IsServed}
 use Rattle.core_worker.specs.Stopping.{Drops, Withdraws}
 use Rattle.core_worker.specs.Turning.{TurnMoves}
-use Rattle.core_worker.specs.WorkerMoves.{placed_in}
+use Rattle.core_worker.specs.WorkerMoves.{placed_in, awaits_chunk}
 use Rattle.core_index.specs.Records.{pointer_of}
-use Rattle.lazy_alloc.specs.Sets.{Sets}
-use Rattle.core_worker.proofs.CauseFacts.{stock_put}
+use Rattle.lazy_alloc.specs.Sets.{Sets, AreSets}
+use Rattle.core_log.specs.Log.{room_of}
+use Rattle.batch_leader.specs.declared.taken.Taken.{Taken}
+use Rattle.batch_leader.specs.Rounds.{is_first}
+use Rattle.core_worker.proofs.PuttingBack.{put_chunks}
+use Rattle.core_worker.proofs.CauseFacts.{stock_put, lines_same, lines_low, lines_open}
 use Rattle.core_worker.proofs.HandKeys.{asks}
 use Rattle.core_worker.proofs.TakingBack.{Stood, stood}
 use Rattle.core_worker.proofs.FinishMoves.{asks_key, number_or}
@@ -69,7 +73,10 @@ drop_moves seat s a v w x slot all lt stopped H N S T O made D =
       lasts = λ j ne. omega arith;
       known = λ runs. absurd (let both : true ≡ false = sym halted ∙ runs in cc both);
       layout = ap (λ (y : Worker). y.layout) G.rest ∙ H.layout;
-      stock = stock_put w D.freed (pointer_of D.entry.body) (ap (λ (y : Worker). y.log) G.rest) (subst (λ (a : Sets). PutsBackIf w.allocator a (pointer_of D.entry.body)) (sym (ap (λ (y : Worker). y.allocator) G.rest)) D.puts.puts);
+      stock = stock_put w D.freed (pointer_of D.entry.body) (let g = lines_same w D.freed (ap (λ (y : Worker). y.log) G.rest) (ap (λ (y : Worker). awaits_chunk y.leading) G.rest) in omega (arith, g)) (subst (λ (a : Sets). PutsBackIf w.allocator a (pointer_of D.entry.body)) (sym (ap (λ (y : Worker). y.allocator) G.rest)) D.puts.puts);
+      lists = (refl, refl, refl);
+      sets = subst AreSets (sym (ap (λ (y : Worker). y.allocator) G.rest)) D.puts.sets;
+      sets_layout = ap (λ (y : Worker). y.allocator.layout) G.rest ∙ (put_chunks w.allocator D.puts.mid (pointer_of D.entry.body) D.puts.puts).layout_is ∙ H.allocator_layout;
       serves = by all refl;
     }) S T made (λ is. inl stopped)
   where
@@ -117,6 +124,9 @@ module _ (seat : SeatAt) (s : State) (before after : Option Group) (v u : View) 
   by true is = inl (W.begins is)
   by false is = inr (W.short is)
 
+  puts_there : PutsBackIf w.allocator W.puts.2.mid (pointer_of e.body)
+  puts_there = subst (λ (y : Worker). PutsBackIf y.allocator W.puts.2.mid (pointer_of e.body)) led W.puts.2.puts
+
   -- a posted change that nobody had taken is answered Stopped
   pub withdraw_moves : TurnMoves seat s s before after v u w x
   withdraw_moves =
@@ -147,7 +157,10 @@ module _ (seat : SeatAt) (s : State) (before after : Option Group) (v u : View) 
         lasts = λ j ne. (let same = ap (λ (y : View). y.last j) view in omega (arith, same));
         known = λ runs. absurd (let both : true ≡ false = sym halted ∙ runs in cc both);
         layout = ap (λ (y : Worker). y.layout) G.rest ∙ ap (λ (y : Worker). y.layout) led ∙ H.layout;
-        stock = stock_put w W.freed (pointer_of e.body) (ap (λ (y : Worker). y.log) G.rest ∙ ap (λ (y : Worker). y.log) led)
-            (subst (λ (a : Sets). PutsBackIf w.allocator a (pointer_of e.body)) (sym (ap (λ (y : Worker). y.allocator) G.rest)) (subst (λ (y : Worker). PutsBackIf y.allocator W.puts.2.mid (pointer_of e.body)) led W.puts.2.puts));
+        stock = stock_put w W.freed (pointer_of e.body) (let low = lines_low w in let room = ap (λ (y : Worker). room_of y.log) G.rest ∙ ap (λ (y : Worker). room_of y.log) led in let now = lines_open W.freed (ap (λ (y : Worker). awaits_chunk y.leading) G.rest ∙ ap (λ (y : Worker). awaits_chunk y.leading) led ∙ ap (λ (ts : List Taken). not (is_first ts) && W.retracts.collecting.fresh) W.retracts.idle) in omega (arith, low, room, now))
+            (subst (λ (a : Sets). PutsBackIf w.allocator a (pointer_of e.body)) (sym (ap (λ (y : Worker). y.allocator) G.rest)) puts_there);
+        lists = (ap (λ (y : View). y.posted) view, ap (λ (y : View). y.took) view, ap (λ (y : View). y.flying) view);
+        sets = subst AreSets (sym (ap (λ (y : Worker). y.allocator) G.rest)) W.puts.2.sets;
+        sets_layout = ap (λ (y : Worker). y.allocator.layout) G.rest ∙ (put_chunks w.allocator W.puts.2.mid (pointer_of e.body) puts_there).layout_is ∙ H.allocator_layout;
         serves = by all refl;
       }) S T made (λ is. inl stopped)

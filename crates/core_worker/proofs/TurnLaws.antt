@@ -1,5 +1,5 @@
 -- What each item of a turn keeps.
-use Rattle.std.proofs.Common.{◌≡◌, inl, inr, ⊎_elim, ℕ, zero, suc, ◌≤◌, Bool, true, false, cond, List, [], ◌∷◌, ◌++◌, map, length, Option, Some, None, refl, sym, ◌∙◌, ap, subst, arith}
+use Rattle.std.proofs.Common.{◌+◌, ◌≤◌, ◌≢◌, ◌≡◌, inl, inr, ⊎_elim, ℕ, zero, suc, Bool, true, false, cond, List, [], ◌∷◌, ◌++◌, map, length, Option, Some, None, refl, sym, ◌∙◌, ap, subst, arith}
 use Rattle.std.specs.Prelude.{IfSome, IsSomeAnd}
 use Rattle.pm_region.specs.State.{State, IsTelling, cell_now, Rose}
 use Rattle.pm_region.proofs.Moments.{started, weaken}
@@ -32,13 +32,20 @@ use Rattle.core_worker.specs.Supplies.{HasKeptRoom}
 use Rattle.core_worker.specs.StandingTies.{KnowsLog, most_names}
 use Rattle.core_worker.proofs.NamesKnown.{knows_added}
 use Rattle.core_worker.specs.Ties.{Leads, LeadsAt, LeadsNothing, HoldsAt, StandsAt, KeepsStanding}
+use Rattle.batch_leader.specs.declared.taken.Taken.{Taken}
+use Rattle.batch_leader.specs.TakenChanges.{entries_in}
+use Rattle.batch_leader.specs.Rounds.{is_first, words_in}
+use Rattle.batch_leader.specs.Leading.{HasSpace}
+use Rattle.core_worker.specs.Ties.{HasSpaceFor}
+use Rattle.core_worker.specs.Supplies.{room_for}
+use Rattle.core_worker.proofs.BatchSpends.{batch_spends}
 use Rattle.core_worker.proofs.LeadTies.{led_here, leads_of}
 use Rattle.core_worker.specs.Turns.{InOrderAt, SameButLeading, Steps, MadeOrStops, UnpledgedAt, Persists, LosesBatch, PersistsOrLoses, PassesItems, looks_at, LooksMade}
 use Rattle.core_worker.specs.Posting.{PostsOrStops}
 use Rattle.core_worker.proofs.Given.{adds_none}
 use Rattle.core_worker.specs.Turning.{TurnMoves, KeepsTurn, Did, at_entry}
 use Rattle.core_worker.specs.Turning.Did.{posts, loses_block}
-use Rattle.core_worker.specs.WorkerMoves.{Hands, Fixed, placed_in, placed_for, stock_of, hands_of, fixed_of, requests_for, AnswersKey, WorkerMoves}
+use Rattle.core_worker.specs.WorkerMoves.{Spends, SpendsIn, lines_in, lines_free, Hands, Fixed, placed_in, placed_for, stock_of, hands_of, fixed_of, requests_for, AnswersKey, WorkerMoves}
 use Rattle.core_worker.proofs.Led.{holds_by, stands_by}
 use Rattle.core_worker.proofs.QuietMoves.{quiet_moves, for_same}
 use Rattle.core_worker.proofs.QuietItems.{IsLed, order_as, order_leading, leading_moves}
@@ -52,16 +59,16 @@ nothing_fixed seat s t before after v u w x same moves = record {
 }
 
 -- an item in which nothing but what is led changes
-pub keeps_leading : (seat : SeatAt) (s : State) (before after : Option Group) (v u : View) (w x : Worker) → HoldsAt seat u x → KeepsStanding seat v u w x → StandsAt s seat v w → Steps before after seat.number u → IsLed v u → SameButLeading w x → (w.stopped ≡ true → MayLeadStopped x.leading) → InOrderAt seat v w → (HasKeptRoom w → HasKeptRoom x)
+pub keeps_leading : (seat : SeatAt) (s : State) (before after : Option Group) (v u : View) (w x : Worker) → HoldsAt seat u x → KeepsStanding seat v u w x → StandsAt s seat v w → Steps before after seat.number u → IsLed v u → SameButLeading w x → (w.stopped ≡ true → MayLeadStopped x.leading) → InOrderAt seat v w → (HasKeptRoom w → HasKeptRoom x) → lines_free w + (lines_in v.took + lines_in u.flying) ≤ lines_free x + (lines_in u.took + lines_in v.flying)
     → KeepsTurn seat s s before after v u w x
-keeps_leading seat s before after v u w x H keeps S made L same stops O rule = record {
+keeps_leading seat s before after v u w x H keeps S made L same stops O rule filled = record {
   moments = started s (Licensed seat.place seat.number v) S.licensed;
   outside = all_kept s (part_at seat.place seat.number) (part_end seat.place seat.number);
   holds = H;
   stands = keeps s S;
   order = order_leading seat.place seat.number v u w x L same stops O;
   rule = λ runs. rule;
-  moves = nothing_fixed seat s s before after v u w x (ap (λ (y : Worker). y.answers) same) (leading_moves seat s before after v u w x H S (keeps s S) made L same);
+  moves = nothing_fixed seat s s before after v u w x (ap (λ (y : Worker). y.answers) same) (leading_moves seat s before after v u w x H S (keeps s S) made L same filled);
 }
 
 -- the same change stands in a place, whatever it pledges
@@ -100,7 +107,7 @@ module _ (seat : SeatAt) (s t : State) (before after : Option Group) (v u : View
         works (λ r on. known (works on)) (λ r. names (ap (λ (y : Worker). y.stopped) P.same ∙ r)) O));
     rule = rule;
     moves = nothing_fixed seat s t before after v u w x (ap (λ (y : Worker). y.answers) P.same)
-        (quiet_moves seat.place seat.number s t before after v u w x N outside moments T.licensed made (ap (λ (y : View). y.cell) P.view) (ap (λ (y : View). y.pending) P.view) (ap (λ (y : View). y.blocks) P.view) (ap (λ (y : View). y.last) P.view)
+        (quiet_moves seat.place seat.number s t before after v u w x N outside moments T.licensed made (ap (λ (y : View). y.cell) P.view) (ap (λ (y : View). y.pending) P.view) (ap (λ (y : View). y.blocks) P.view) (ap (λ (y : View). y.last) P.view) (ap (λ (y : View). y.posted) P.view) (λ runs. wrote)
         (held_same v w.places.items x.places.items count same) (ap (λ (y : Worker). y.queue) P.same) (ap (λ (y : Worker). y.in_hand) P.same)
         (λ e. inl (sym (ap (λ (y : Worker). y.stopped) P.same) ∙ e)) (λ e. ap (λ (y : Worker). y.stopped) P.same ∙ e));
   } where
@@ -115,6 +122,25 @@ module _ (seat : SeatAt) (s t : State) (before after : Option Group) (v u : View
         let had = led_here seat v w.leading (leads.Batch P.batch) H.leads P.led in
         subst (λ (es : List Entry). KnowsLog seat.number (v.kept ++ es) v.present v.told v.dead x.standing) (sym had.0.flying)
         (knows_added seat.number v.kept (entries_in P.batch.changes.taken.items) v.present v.told v.dead w.standing x.standing (P.names on) (O.log runs on))
+
+    taken : List Taken
+    taken = P.batch.changes.taken.items
+
+    -- what was in flight
+    flying : v.flying ≡ entries_in taken
+    flying = (led_here seat v w.leading (leads.Batch P.batch) H.leads P.led).0.flying
+
+    some_taken : is_first taken ≡ false
+    some_taken = by taken (λ none. (led_here seat u x.leading (leads.Persisted P.done) N.leads P.leads_now).3 (P.gives ∙ none)) where
+      by : (ts : List Taken) → (ts ≢ []) → is_first ts ≡ false
+      by [] some = absurd (some refl)
+      by (t ∷ ts) some = refl
+
+    space_had : HasSpace (room_for w) P.batch.fresh P.batch.own_lines (words_in taken)
+    space_had = subst (HasSpaceFor w) P.led (H.space runs)
+
+    wrote : Spends seat.place.layout v.took v.flying u.took u.flying (stock_of w) (stock_of x) None
+    wrote = batch_spends seat.place seat.number v u w x H N P flying some_taken space_had
 
     count : length x.places.items ≡ length w.places.items
     count = N.eight ∙ sym H.eight
@@ -167,7 +193,7 @@ keeps_posts seat s t before after v u w x slot moments outside H S order O rule 
 pub keeps_same : (seat : SeatAt) (s : State) (a : Option Group) (v : View) (w : Worker) → HoldsAt seat v w → StandsAt s seat v w → InOrderAt seat v w → IfSome a (λ u. (seat.place ≡ u.place) × (v ≡ view_of u seat.number)) → KeepsTurn seat s s a a v v w w
 keeps_same seat s a v w H S O agrees =
     keeps_leading seat s a a v v w w H (λ t T. T) S ([], no_steps a seat.number seat.place v agrees)
-    (record { flying = v.flying; taken = v.taken; broken = v.broken; holds = v.holds; looked = v.looked; took = v.took; is = refl }) refl O.stops O (λ r. r)
+    (record { flying = v.flying; taken = v.taken; broken = v.broken; holds = v.holds; looked = v.looked; took = v.took; is = refl }) refl O.stops O (λ r. r) (omega arith)
 
 -- the lowest staged change was posted, or its block could not be written
 pub posts_did : (s : State) (refused : Bool) (seat : SeatAt) (start before after : Option Group) (v mid u : View) (w x : Worker) (slot : ℕ) → PassesItems seat.number (at_entry w v) 8 mid → IsLowest is_staged w.places.items slot → w.stopped ≡ false → w.winds_down ≡ false → PostsOrStops seat.number before after mid u w x slot
@@ -234,6 +260,9 @@ hands_seen v xs w = (λ i. record { place = λ k. for_same v (seen_view v xs) w.
 key_seen : (v u : View) (xs : List Seen) (w x : Hands) (k : ℕ) (accepted : List (ℕ × Request)) (fixed : List Fixed) → AnswersKey (seen_view v xs) u w x k accepted fixed → AnswersKey v u w x k accepted fixed
 key_seen v u xs w x k accepted fixed A = record { order = A.order; lawful = A.lawful; cell = A.cell; after_stop = A.after_stop; stops = A.stops; posted = A.posted; doubt = A.doubt }
 
+spends_seen : {p : _} {m : ℕ} (v u : View) (xs : List Seen) (w x : Hands) (fixed : List Fixed) → SpendsIn p m (seen_view v xs) u w x [] fixed → SpendsIn p m v u w x [] fixed
+spends_seen v u xs w x fixed S = record { runs = S.runs; stays = S.stays; begun = S.begun; begins = S.begins; posts = ⊎_elim (λ same. inl same) (λ Q. inr (record { change = Q.change; own = Q.own; was = Q.was; staged = Q.staged; now = Q.now; entry = Q.entry; more = Q.more; few = Q.few })) S.posts; spends = S.spends }
+
 -- what comes after loads is the whole turn's
 module _ (seat : SeatAt) (s t : State) (before mid after : Option Group) (v : View) (xs : List Seen) (u : View) (w x : Worker) (ss : List ℕ) (made : MakesAll before (looks_at seat.number ss) mid seat.number (seen_view v xs)) where
   moments_seen : StaysLicensed s t seat (seen_view v xs) → StaysLicensed s t seat v
@@ -253,6 +282,7 @@ module _ (seat : SeatAt) (s t : State) (before mid after : Option Group) (v : Vi
         keys = λ k own. key_seen v u xs (hands_of v w) (hands_of u x) k (requests_for k []) (fixed_of k fixed) (N.keys k own);
         holds = N.holds;
         refuses = N.refuses;
+        spends = spends_seen v u xs (hands_of v w) (hands_of u x) fixed N.spends;
         stops = λ e. ⊎_elim (λ a. inl a) (λ b. inr (⊎_elim (λ rose. inl rose) (λ stood. inr (stood_before before mid seat.number ss (seen_view v xs) made stood)) b)) (N.stops e);
         breaks = N.breaks;
         stays_stopped = N.stays_stopped;

@@ -1,5 +1,5 @@
 -- What a worker holds in the words of its calls: by key, what stands in a place and what waits. What one call says of it is `WorkerMoves` of `engine_laws`.
-use Rattle.std.specs.Prelude.{ℕ, ◌==◌, List, [], ◌∷◌, ◌++◌, map, true, false, Option, Some, None, option_map, option_to_list, if◌then◌else◌}
+use Rattle.std.specs.Prelude.{ℕ, ◌==◌, List, [], ◌∷◌, ◌++◌, map, true, false, Option, Some, None, option_map, option_to_list, if◌then◌else◌, ◌&&◌, not, nat_lt, Bool}
 use Rattle.std.specs.List.{filter}
 use Rattle.fs_model.specs.declared.model.Request.{Request}
 use Rattle.fs_model.specs.Cells.{key_of}
@@ -7,6 +7,10 @@ use Rattle.conflict_queue.specs.declared.types.Held.{Held}
 use Rattle.conflict_queue.specs.Waiting.{waiting}
 use Rattle.group_laws.specs.MemberViews.{View}
 use Rattle.core_worker.specs.declared.types.Answer.{Answer}
+use Rattle.batch_leader.specs.Leading.{taken_by}
+use Rattle.batch_leader.specs.Rounds.{is_first}
+use Rattle.core_worker.specs.declared.types.Leading.{Leading}
+use Rattle.core_worker.specs.declared.types.Leading.TheVariants as leads
 use Rattle.core_worker.specs.declared.types.Place.{Place}
 use Rattle.core_worker.specs.declared.types.Place.TheVariants as kinds
 use Rattle.core_worker.specs.declared.worker.Worker.{Worker}
@@ -15,7 +19,8 @@ use Rattle.core_worker.specs.Beginning.{answer_with}
 use Rattle.core_log.specs.Log.{room_of}
 use Rattle.lazy_alloc.specs.Sets.{free_chunk_count, free_block_count}
 use Rattle.engine_laws.specs.FreeStock.{Stock}
-pub use Rattle.engine_laws.specs.WorkerMoves.{Placed, Hands, placed, line_in, Fixed, asked, replied, fixed_of, requests_for, HoldsKey, AnswersKey, WorkerMoves}
+pub use Rattle.engine_laws.specs.StockChanges.{lines_in, Spends}
+pub use Rattle.engine_laws.specs.WorkerMoves.{BeginsIn, PostsIn, SpendsIn, Placed, Hands, placed, line_in, Fixed, asked, replied, fixed_of, requests_for, HoldsKey, AnswersKey, WorkerMoves}
 
 abbrev pub placed_in : View → Place → Option Placed
 placed_in v kinds.Free = None
@@ -29,9 +34,22 @@ placed_for v (x ∷ xs) k = if is_of k (key_in x) then placed_in v x else placed
 abbrev pub asked_by : Held → ℕ × Request
 asked_by h = (h.number, h.request)
 
+-- what it has taken goes into a fresh chunk
+abbrev pub awaits_chunk : Leading → Bool
+awaits_chunk (leads.Nothing buffer) = false
+awaits_chunk (leads.Collecting c) = not (is_first (taken_by c)) && c.fresh
+awaits_chunk (leads.Batch b) = not (is_first b.changes.taken.items) && b.fresh
+awaits_chunk (leads.Persisted x) = false
+awaits_chunk (leads.Failed x) = false
+awaits_chunk leads.Between = false
+
+-- The free lines of the open chunk. Where a batch in hand goes into a fresh one, four of them count at most.
+abbrev pub lines_free : Worker → ℕ
+lines_free w = if awaits_chunk w.leading && nat_lt 4 (room_of w.log) then 4 else room_of w.log
+
 -- what a worker has free
 abbrev pub stock_of : Worker → Stock
-stock_of w = record { chunks = free_chunk_count w.allocator; lines = room_of w.log; blocks = free_block_count w.allocator }
+stock_of w = record { chunks = free_chunk_count w.allocator; lines = lines_free w; blocks = free_block_count w.allocator }
 
 -- of a worker with this view: a request in hand comes before those that wait
 abbrev pub hands_of : View → Worker → Hands

@@ -5,7 +5,7 @@ ghost use Rattle.pm_region.specs.Words.{KeepsOutside, EachIn};
 ghost use Rattle.log_entry.specs.declared.entry.Entry.{Entry};
 ghost use Rattle.log_entry.specs.declared.entry.Body.TheVariants as bodies;
 ghost use Rattle.chunk_map.specs.Layouts.{has_class};
-ghost use Rattle.lazy_alloc.specs.Sets.{AreSets, free_chunk_count, class_at, block_is_used};
+ghost use Rattle.lazy_alloc.specs.Sets.{AreSets, free_chunk_count, free_block_count, class_at, block_is_used};
 ghost use Rattle.lazy_alloc.specs.Written.{PartLies, HasHead, WroteValue, KeepsOthers, HeadTurnsTo, head_of};
 ghost use Rattle.group_laws.specs.Places.{IsPlace, core_of};
 ghost use Rattle.licence.specs.Licence.{Licensed, part_at, part_end};
@@ -124,6 +124,8 @@ impl Worker {
             ≡ record self.old { allocator = self.new.allocator; stopped = not result } }
         ensures chunks { free_chunk_count self.new.allocator
             ≡ free_chunk_count self.old.allocator }
+        ensures blocks { (class : ℕ) → free_block_count self.new.allocator class
+            ≡ free_block_count self.old.allocator class }
         ensures cause { result ≡ false → Rose (R.state region.old).faults
             (R.state region.new).faults }
     {

@@ -126,5 +126,5 @@ module _ (start : ℕ → Option (List ℕ)) (e : Engine) (c : ℕ) (t : State) 
   }
 
   pub advances : Moves e f c accepted fixed
-  advances = worker_moves e f c accepted fixed v u w x layout at (ap (λ (g : Group). g.place) group_now ∙ at') S sits_on around
+  advances = worker_moves e f c accepted fixed v u w x layout at (ap (λ (g : Group). g.place) group_now ∙ at') S sits_on around (ap (λ q. cond q x.stock (e.stock c)) (eq-eqb c c refl))
       (subst (λ (g : Group). WorkerMoves (place_at e.layout (group_of e.layout c)) (member_of e.layout c) e.region t (Some (e.group (group_of e.layout c))) (Some g) v u w x accepted fixed) (sym group_now) W)

@@ -20,6 +20,7 @@ use Rattle.engine_laws.specs.Engine.{Engine, group_for, line}
 use Rattle.engine_laws.specs.WorkerMoves.{requests_for}
 use Rattle.engine_laws.specs.Keys.{Served, pairs, KeyStands}
 use Rattle.engine_laws.specs.Stands.{Origin, start_of, ShowsPrefix, Stands, given_to, opening}
+use Rattle.engine_laws.proofs.RoomsKept.{rooms_opened, rooms_given}
 use Rattle.engine_laws.proofs.Numbers.{all_append}
 use Rattle.engine_laws.proofs.Histories.{nothing}
 use Rattle.engine_laws.proofs.Opens.{opens_lawful, opens_licensed, opens_superblock, opens_cells, opens_idle, opens_own, opens_last}
@@ -80,6 +81,7 @@ module _ (o : Origin) (sound : IsSound o.region.frame.bytes o.found) (first : o.
     crash = opens_crash;
     causes = opens_causes;
     versions = opens_versions;
+    rooms = rooms_opened o;
     stopped = λ c low stop. absurd (cc stop);
     broken = λ c low b. b;
   }
@@ -158,6 +160,7 @@ module _ (o : Origin) (e : Engine) (q : Request) (S : Stands o e) where
     crash = given_crash;
     causes = given_causes;
     versions = given_versions;
+    rooms = rooms_given o e q S S.rooms;
     stopped = S.stopped;
     broken = S.broken;
   }

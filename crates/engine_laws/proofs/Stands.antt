@@ -41,6 +41,7 @@ use Rattle.engine_laws.proofs.Histories.{finished-append}
 use Rattle.engine_laws.specs.Moves.{Moves}
 use Rattle.engine_laws.specs.Keys.{finished, open_change, changes_on, changes_at, Served, pairs, posted_in, is_finish_by, finished_until, KeyStands, KeyGoes}
 use Rattle.engine_laws.specs.Stands.{Origin, start_of, ShowsPrefix, Stands}
+use Rattle.engine_laws.proofs.RoomsKept.{rooms_on}
 use Rattle.engine_laws.proofs.Cores.{group_low, member_core}
 use Rattle.engine_laws.proofs.Others.{other_view}
 use Rattle.engine_laws.proofs.Licences.{all_licensed, superblock_kept, shows_groups}
@@ -347,6 +348,7 @@ module _ (o : Origin) (e f : Engine) (c : ℕ) (accepted : List (ℕ × Request)
     crash = crash_there;
     causes = λ k. (both k).1.0;
     versions = λ k. (both k).1.1;
+    rooms = rooms_on o e f c accepted fixed S M M.spends S.rooms;
     stopped = λ d low. stopped_there d (subst (λ (m : Geometry). d < m.cores) M.layout low);
     broken = λ d low b. broken_there d (subst (λ (m : Geometry). d < m.cores) M.layout low) (subst (λ (m : Geometry). (f.group (group_of m d)).broken (member_of m d) ≡ true) M.layout b);
   }

@@ -1,5 +1,5 @@
 -- Moves that there are: one that does nothing, and the accept of a get of a key that is not busy.
-use Rattle.std.proofs.Common.{◌≡◌, ℕ, ◌+◌, ◌<◌, List, [], ◌∷◌, ◌++◌, map, true, false, cond, Option, Some, None, inl, inr, refl, sym, ap, ◌∙◌, subst, arith, append-nil}
+use Rattle.std.proofs.Common.{◌≡◌, ℕ, ◌+◌, ◌<◌, ◌≤◌, List, [], ◌∷◌, ◌++◌, map, true, false, cond, Option, Some, None, inl, inr, refl, sym, ap, ◌∙◌, subst, arith, append-nil}
 use Rattle.std.proofs.lemmas.Bool.{cases_eq, eq-eqb, ne_eqb}
 use Rattle.fs_model.specs.declared.model.Request.{Request}
 use Rattle.fs_model.specs.declared.model.Request.TheVariants.{Get}
@@ -10,7 +10,8 @@ use Rattle.fs_model.specs.Lawful.{cell_of}
 use Rattle.pm_region.specs.State.{cell_now}
 use Rattle.pm_region.specs.Words.{KeepsOutside}
 use Rattle.pm_region.proofs.Moments.{started}
-use Rattle.chunk_map.specs.Layouts.{part_first, owner}
+use Rattle.chunk_map.specs.declared.layouts.Geometry.{Geometry}
+use Rattle.chunk_map.specs.Layouts.{part_first, owner, payload_lines}
 use Rattle.group_laws.specs.Updates.{put}
 use Rattle.store_image.specs.Facts.{In}
 use Rattle.engine_laws.specs.Parts.{group_of, LicensedPart}
@@ -106,6 +107,25 @@ module _ (o : Origin) (e : Engine) (S : Stands o e) (c : ℕ) (core : c < e.layo
           (record { causes = (record { spent = λ q. absurd (not_spent (cell_at e k) q); long = λ q. absurd (not_long (cell_at e k) q) }, tt); full = (λ q. absurd (not_full (cell_at e k) q), tt); last_now = raised_by_low (replied x ∷ []) ((group_for e j).last j) })
       | inr ne ↦ subst (λ b. Refuses e.layout (e.stock c) ((group_for e j).last j) ((group_for e j).last j) (map replied (cond b (x ∷ []) []))) (sym (ne_eqb k j ne)) (quiet_refuses e.layout (e.stock c) ((group_for e j).last j) ((group_for e j).last j) (omega arith))
     ];
+    spends = record {
+      runs = λ y i full. absurd (full_none y i full);
+      stays = λ j y mine at none. (y, at, refl, λ p. p);
+      begun = None;
+      begins = λ y q. absurd (cc q);
+      posts = inl refl;
+      spends = λ runs. record {
+        opened = false;
+        cut = None;
+        chunks = omega arith;
+        lines = omega arith;
+        late = λ q. absurd (cc q);
+        small = small;
+        blocks = λ d. omega arith;
+        none = λ d q. absurd (cc q);
+        puts = λ d q. absurd (cc q);
+        class = λ d q. absurd (cc q);
+      };
+    };
     own_answers = λ y i. answered y i;
     answers = record {
       new = λ y i. here y i;
@@ -118,6 +138,13 @@ module _ (o : Origin) (e : Engine) (S : Stands o e) (c : ℕ) (core : c < e.layo
     other_takes = λ d ne. refl;
     other_stocks = λ d ne. refl;
   } where
+    full_none : (y : Fixed) → In y (x ∷ []) → y.reply ≡ Full → ⊥
+    full_none y (inl q) full = not_full (cell_at e k) (ap (λ (z : Fixed). z.reply) (sym q) ∙ full)
+    full_none y (inr i) full = i
+
+    small : (e.stock c).lines ≤ payload_lines e.layout
+    small = subst (λ (l : Geometry). (e.stock c).lines ≤ payload_lines l) (sym S.layout) (S.rooms.room c (subst (λ (l : Geometry). c < l.cores) S.layout core) going).small
+
     only : (y : ℕ × Request) → In y ((n, Get k) ∷ []) → owner e.layout (key_of y.1) ≡ c
     only y (inl q) = ap (λ (z : ℕ × Request). owner e.layout (key_of z.1)) q ∙ own
     only y (inr i) = absurd i

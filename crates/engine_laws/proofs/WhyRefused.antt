@@ -1,8 +1,8 @@
 -- Why requests were refused follows from where a state stands.
-use Rattle.std.proofs.Common.{◌≡◌, inl, inr, ℕ, suc, ◌+◌, ◌≤◌, ◌==◌, ◌||◌, List, [], ◌∷◌, ◌++◌, map, take, length, refl, sym, ◌∙◌, ap, subst, arith, true, false, Bool, cond, Option, Some, None, append_assoc}
+use Rattle.std.proofs.Common.{◌≡◌, inl, inr, ℕ, zero, suc, ◌+◌, ◌<◌, ◌≤◌, ◌==◌, ◌||◌, List, [], ◌∷◌, ◌++◌, map, take, length, refl, sym, ◌∙◌, ap, subst, arith, true, false, Bool, cond, Option, Some, None, append_assoc}
 use Rattle.std.specs.Prelude.{option_map}
 use Rattle.std.specs.List.{AllByRecursion, count_by, slice_get}
-use Rattle.std.proofs.lemmas.Bool.{eq-eqb}
+use Rattle.std.proofs.lemmas.Bool.{eq-eqb, cases_lt}
 use Rattle.std.proofs.lemmas.List.{map-append}
 use Rattle.std.proofs.lemmas.List.Sums.{sum_by-cons}
 use Rattle.fs_model.specs.declared.model.Request.{Request}
@@ -18,7 +18,7 @@ use Rattle.chunk_map.specs.Layouts.{layout_of, owner}
 use Rattle.store_image.specs.Facts.{In}
 use Rattle.store_image.proofs.SoundFacts.{in_either, in_front}
 use Rattle.group_laws.proofs.Images.{in_map, of_map}
-use Rattle.headline.specs.Limits.{may_change, version_of, changes_asked, is_too_long}
+use Rattle.headline.specs.Limits.{IsAsked, may_change, version_of, changes_asked, is_too_long}
 use Rattle.engine_laws.specs.RefusalCauses.{raised, raised_by, HasCause, HaveCauses}
 use Rattle.engine_laws.specs.WorkerMoves.{requests_for}
 use Rattle.engine_laws.specs.Engine.{Engine, Answer, line}
@@ -186,8 +186,21 @@ module _ (o : Origin) (e : Engine) (S : Stands o e) (more : List Request) (n : �
         own : (x : Served) → In x served → key_of x.request ≡ k
         own x i = (in_requests k (e.given ++ more) (asked_in x) (subst (λ (l : List (ℕ × Request)). In (asked_in x) l) (sym (requests_are o e S more k)) (in_front (asked_in x) (map asked_in served) _ (in_map asked_in x served i)))).1
 
+-- who was answered was given
+given_front : (xs more : List Request) (i : ℕ) → i < length xs → slice_get (xs ++ more) i ≡ slice_get xs i
+given_front [] more i lt = absurd (omega (arith, lt))
+given_front (x ∷ xs) more zero lt = refl
+given_front (x ∷ xs) more (suc i) lt = given_front xs more i (omega (arith, lt))
+
+asked_given : (o : Origin) (e : Engine) (S : Stands o e) (more : List Request) (n k : ℕ) (a : Answer) → e.answer n ≡ Some a → IsAsked (e.given ++ more) n k → IsAsked e.given n k
+asked_given o e S more n k a ans asked = elim (cases_lt n (length e.given)) [
+  | inl lt ↦ ap (option_map key_of) (sym (given_front e.given more n lt)) ∙ asked
+  | inr ge ↦ absurd (let none = S.unasked n ge in cc (none, ans))
+]
+
 pub causes : (o : Origin) (e : Engine) → Stands o e → Causes o e
 causes o e S = record {
+  full = λ more n k a ans reply asked ample. S.rooms.full n k a ans reply (asked_given o e S more n k a ans asked) more ample;
   spent = λ more n k a ans reply asked.
       let q = asked_is (slice_get (e.given ++ more) n) k asked in
       subst (λ (j : ℕ). LAST_PUT_VERSION ≤ version_of o.found j + changes_asked j (take n (e.given ++ more))) q.2 ((cause_of o e S more n q.0 a q.1 ans).spent reply);

@@ -23,6 +23,7 @@ use Rattle.engine_laws.specs.Engine.{Engine, group_for, cell_at, line}
 use Rattle.engine_laws.specs.Moves.{Moves, KeyMoves, KeyHolds}
 use Rattle.engine_laws.specs.Workers.{Sits, Around}
 use Rattle.engine_laws.proofs.CauseLaws.{refuses_less}
+use Rattle.engine_laws.proofs.SpendingMoves.{spends_room}
 use Rattle.engine_laws.proofs.Cores.{core_is, of_member, of_core}
 use Rattle.engine_laws.proofs.Others.{cell_in, last_in, pending_in, left_from}
 
@@ -68,7 +69,7 @@ module _ (e : Engine) (c : ℕ) (layout : IsLayout e.layout) (at : (e.group (gro
 
 module _ (e f : Engine) (c : ℕ) (accepted : List (ℕ × Request)) (fixed : List Fixed) (v u : View) (w x : Hands) (layout : IsLayout e.layout)
     (at : (e.group (group_of e.layout c)).place ≡ place_at e.layout (group_of e.layout c)) (at' : (f.group (group_of e.layout c)).place ≡ place_at e.layout (group_of e.layout c))
-    (S : Sits e c v w) (T : Sits f c u x) (A : Around e f c accepted fixed)
+    (S : Sits e c v w) (T : Sits f c u x) (A : Around e f c accepted fixed) (now : f.stock c ≡ x.stock)
     (W : WorkerMoves (place_at e.layout (group_of e.layout c)) (member_of e.layout c) e.region f.region (Some (e.group (group_of e.layout c))) (Some (f.group (group_of e.layout c))) v u w x accepted fixed) where
   abbrev l : Geometry
   l = e.layout
@@ -134,6 +135,7 @@ module _ (e f : Engine) (c : ℕ) (accepted : List (ℕ × Request)) (fixed : Li
         let R = refuses_less l (e.stock c) w.stock (v.last k) (u.last k) (map replied (fixed_of k fixed)) S.stock (W.refuses k (of_member l layout c k own)) in
         subst (λ (n : ℕ). Refuses l (e.stock c) n ((group_for f k).last k) (map replied (fixed_of k fixed))) (last_is e c layout at v w S k own)
         (subst (λ (n : ℕ). Refuses l (e.stock c) (v.last k) n (map replied (fixed_of k fixed))) (last_is f c layout' at_f u x T k (own_f k own)) R);
+    spends = spends_room e f c accepted fixed v u w x layout S T A now (λ y i. of_core l layout c (key_of y.request) (W.own y i)) W.spends;
     own_answers = λ y i. of_core l layout c (key_of y.request) (W.own y i);
     answers = record { new = A.new_answers; old = A.old_answers };
     stops = λ is. elim (W.stops (T.stopped ∙ is)) [

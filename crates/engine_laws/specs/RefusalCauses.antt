@@ -7,7 +7,7 @@ use Rattle.fs_model.specs.declared.model.Reply.TheVariants.{Full, VersionsSpent,
 use Rattle.fs_model.specs.Lawful.{is_finish}
 use Rattle.log_entry.specs.declared.entry_limits.TheConstants.{LAST_PUT_VERSION}
 use Rattle.chunk_map.specs.declared.layouts.Geometry.{Geometry}
-use Rattle.headline.specs.Limits.{is_too_long}
+pub use Rattle.headline.specs.Limits.{is_too_long}
 use Rattle.engine_laws.specs.FreeStock.{Stock, LacksRoom}
 
 -- the last version after a reply: a finish takes one

@@ -16,7 +16,7 @@ use Rattle.group_laws.specs.Regions.{groups_in, key_group}
 use Rattle.engine_laws.specs.Parts.{group_of, member_of}
 use Rattle.engine_laws.specs.WorkerMoves.{Placed}
 use Rattle.engine_laws.specs.Engine.{Engine, Answer}
-use Rattle.engine_laws.specs.Stands.{Origin, stock_found}
+use Rattle.engine_laws.specs.Origins.{Origin, stock_found}
 use Rattle.engine_laws.specs.Spending.{lines_in}
 
 -- the change in a place has this number; and it is posted

@@ -10,42 +10,13 @@ use Rattle.chunk_map.specs.Layouts.{owner}
 use Rattle.core_log.specs.Chunk.{lines_for}
 use Rattle.store_image.specs.Facts.{In}
 use Rattle.headline.specs.Ample.{lines_of}
-use Rattle.group_laws.specs.Places as places
-use Rattle.group_laws.specs.MemberViews.{View}
 use Rattle.engine_laws.specs.Parts.{group_of, member_of}
-use Rattle.engine_laws.specs.WorkerMoves.{Placed, Hands, Fixed, asked, fixed_of, requests_for}
+use Rattle.engine_laws.specs.WorkerMoves.{Placed, Fixed, asked, fixed_of, requests_for}
 use Rattle.engine_laws.specs.Engine.{Engine}
+pub use Rattle.engine_laws.specs.WorkerMoves.{BeginsIn, PostsIn, SpendsIn}
 pub use Rattle.engine_laws.specs.StockChanges.{lines_in, one_if, is_cut_for, puts_in, Spends}
 
--- The same of what a worker holds: the change y, which waited or was accepted, stands in a place now.
-pub record BeginsIn (p : places.Place) (m : ℕ) (w x : Hands) (accepted : List (ℕ × Request)) (y : ℕ × Request) : Type 0 where
-  pub own : places.owner p (key_of y.1) ≡ m
-  pub waits : In y (w.waits (key_of y.1) ++ requests_for (key_of y.1) accepted)
-  pub place : x.place (key_of y.1) ≡ Some (record { number = y.0; request = y.1; posted = false })
-
--- A change of a place was posted, by an entry of no more lines than it needs alone.
-pub record PostsIn (p : places.Place) (m : ℕ) (v u : View) (w x : Hands) : Type 0 where
-  pub change : Placed
-  pub own : places.owner p (key_of change.request) ≡ m
-  pub was : w.place (key_of change.request) ≡ Some change
-  pub staged : change.posted ≡ false
-  pub now : x.place (key_of change.request) ≡ Some (record { number = change.number; request = change.request; posted = true })
-  pub entry : Entry
-  pub more : u.posted ≡ v.posted ++ entry ∷ []
-  pub few : lines_for (length (words_of entry)) ≤ lines_of p.layout change.request
-
--- One call of the worker of member m, of its view from v to u, and of what it holds.
-pub record SpendsIn (p : places.Place) (m : ℕ) (v u : View) (w x : Hands) (accepted : List (ℕ × Request)) (fixed : List Fixed) : Type 0 where
-  -- only a core that runs answers Full, to a request that waited or was accepted
-  pub runs : (y : Fixed) → In y fixed → y.reply ≡ Full → (w.stopped ≡ false) × In (asked y) (w.waits (key_of y.request) ++ requests_for (key_of y.request) accepted)
-  -- a change stays in its place until it is answered, and posted once it is
-  pub stays : (k : ℕ) (y : Placed) → places.owner p k ≡ m → w.place k ≡ Some y → fixed_of k fixed ≡ [] → (z : Placed) × (x.place k ≡ Some z) × (z.number ≡ y.number) × (y.posted ≡ true → z.posted ≡ true)
-  pub begun : Option (ℕ × Request)
-  pub begins : (y : ℕ × Request) → begun ≡ Some y → BeginsIn p m w x accepted y
-  pub posts : (u.posted ≡ v.posted) ⊎ PostsIn p m v u w x
-  pub spends : x.stopped ≡ false → Spends p.layout v.took v.flying u.took u.flying w.stock x.stock begun
-
--- The same of a move of core c.
+-- The change y, which waited or was accepted, stands in a place now.
 pub record Begins (l : Geometry) (e f : Engine) (c : ℕ) (accepted : List (ℕ × Request)) (y : ℕ × Request) : Type 0 where
   pub own : owner l (key_of y.1) ≡ c
   pub waits : In y (e.waits (key_of y.1) ++ requests_for (key_of y.1) accepted)

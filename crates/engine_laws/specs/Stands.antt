@@ -1,9 +1,9 @@
 -- Where a replay stands: what holds between any two moves.
-use Rattle.std.specs.Prelude.{◌≡◌, ℕ, ◌/◌, ◌≤◌, ◌<◌, List, [], ◌∷◌, ◌++◌, length, true, false, Option, None}
+use Rattle.std.specs.Prelude.{◌≡◌, ℕ, ◌/◌, ◌≤◌, ◌<◌, [], ◌∷◌, ◌++◌, length, true, false, None}
 use Rattle.fs_model.specs.declared.model.Request.{Request}
 use Rattle.fs_model.specs.Cells.{key_of}
 use Rattle.fs_model.specs.Changes.{IsPrefixCell}
-use Rattle.pm_region.specs.State.{State, During, IsTold, IsTelling, MayLeave, cell_now, Rose}
+use Rattle.pm_region.specs.State.{During, IsTold, IsTelling, MayLeave, cell_now, Rose}
 use Rattle.chunk_map.specs.Layouts.{layout_of, owner}
 use Rattle.store_image.specs.Soundness.{IsSound}
 use Rattle.store_image.specs.Winners.{recovered}
@@ -11,21 +11,12 @@ use Rattle.group_laws.specs.OpeningImages.{opened}
 use Rattle.group_laws.specs.Updates.{change}
 use Rattle.group_laws.specs.Regions.{place_at}
 use Rattle.engine_laws.specs.Parts.{Groups, AllLicensed, HasSuperblock, group_of, member_of}
-use Rattle.headline.specs.Ample.{free_chunks}
 use Rattle.headline.specs.Limits.{version_of}
-use Rattle.engine_laws.specs.FreeStock.{Stock}
+pub use Rattle.engine_laws.specs.Origins.{Origin, start_of, stock_found}
+use Rattle.engine_laws.specs.Rooms.{Rooms}
 use Rattle.engine_laws.specs.RefusalCauses.{HaveCauses, raised_by}
 use Rattle.engine_laws.specs.Engine.{Engine, group_for}
 use Rattle.engine_laws.specs.Keys.{KeyStands, changes_at, finished_until, pairs}
-
--- where it began: the region, and its words, each of which was certain
-pub record Origin : Type 0 where
-  pub region : State
-  pub found : ℕ → ℕ
-
--- what the words found recover
-abbrev pub start_of : Origin → ℕ → Option (List ℕ)
-start_of o k = recovered (layout_of o.found) o.found k
 
 -- An image of the stamp t: it is sound, and recovers for each key the cell after the changes that were finished by then, or after one more.
 pub record ShowsPrefix (o : Origin) (e : Engine) (keys : (k : ℕ) → KeyStands (start_of o k) e k) (t : ℕ) (image : ℕ → ℕ) : Type 0 where
@@ -51,6 +42,7 @@ pub record Stands (o : Origin) (e : Engine) : Type 0 where
   -- why requests were refused, and how far the versions are
   pub causes : (k : ℕ) → HaveCauses (layout_of o.found) (version_of o.found k) (pairs (keys k).served)
   pub versions : (k : ℕ) → (group_for e k).last k ≤ raised_by (version_of o.found k) (pairs (keys k).served)
+  pub rooms : Rooms o e
   -- who has stopped has a cause
   pub stopped : (c : ℕ) → c < e.layout.cores → e.stopped c ≡ true → Rose o.region.faults e.region.faults
   pub broken : (c : ℕ) → c < e.layout.cores → (e.group (group_of e.layout c)).broken (member_of e.layout c) ≡ true → e.stopped c ≡ true
@@ -58,10 +50,6 @@ pub record Stands (o : Origin) (e : Engine) : Type 0 where
 -- A request is given to its owner.
 abbrev pub given_to : Engine → Request → Engine
 given_to e q = record e { given = e.given ++ q ∷ []; backlog = change e.backlog (owner e.layout (key_of q)) (λ xs. xs ++ (length e.given, q) ∷ []) }
-
--- what a core has free at first: the chunks that the words found say are free
-abbrev pub stock_found : Origin → ℕ → Stock
-stock_found o c = record { chunks = free_chunks (layout_of o.found) o.found c; lines = 0; blocks = λ class. 0 }
 
 -- the first state: the groups open on what was found
 abbrev pub opening : Origin → Engine

@@ -7,6 +7,7 @@ use Rattle.chunk_map.specs.declared.layouts.Geometry.{Geometry}
 use Rattle.chunk_map.specs.Chunks.{blocks_in}
 use Rattle.chunk_map.specs.Layouts.{payload_lines, is_class}
 use Rattle.core_log.specs.Chunk.{lines_for}
+pub use Rattle.headline.specs.Ample.{lines_of, parts_of}
 use Rattle.engine_laws.specs.FreeStock.{Stock, is_put_in}
 
 -- the lines that entries take, each by itself

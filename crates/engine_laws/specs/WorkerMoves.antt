@@ -1,9 +1,9 @@
 -- What one call of a worker says to whoever runs several: of its own keys, of its part, and of the group's state.
-use Rattle.std.specs.Prelude.{◌≡◌, ◌⊎◌, ℕ, ◌==◌, List, [], ◌∷◌, ◌++◌, map, Bool, true, false, Option, Some, None, IfSome, IsSomeAnd}
+use Rattle.std.specs.Prelude.{◌≡◌, ◌⊎◌, ℕ, ◌≤◌, ◌==◌, length, List, [], ◌∷◌, ◌++◌, map, Bool, true, false, Option, Some, None, IfSome, IsSomeAnd}
 use Rattle.std.specs.List.{AllByRecursion, filter}
 use Rattle.fs_model.specs.declared.model.Request.{Request}
 use Rattle.fs_model.specs.declared.model.Reply.{Reply}
-use Rattle.fs_model.specs.declared.model.Reply.TheVariants.{Stopped}
+use Rattle.fs_model.specs.declared.model.Reply.TheVariants.{Full, Stopped}
 use Rattle.fs_model.specs.Cells.{key_of, cell_after, is_change}
 use Rattle.fs_model.specs.Lawful.{IsLawfulFor, cell_of, is_finish}
 use Rattle.pm_region.specs.State.{State, During, IsTelling, cell_now, Rose}
@@ -20,7 +20,11 @@ use Rattle.group_laws.specs.MemberViews.{View}
 use Rattle.group_board.specs.Views.{left_in}
 use Rattle.licence.specs.Licence.{Licensed, part_at, part_end}
 use Rattle.engine_laws.specs.FreeStock.{Stock}
+use Rattle.log_entry.specs.Spelling.{words_of}
+use Rattle.core_log.specs.Chunk.{lines_for}
+use Rattle.headline.specs.Ample.{lines_of}
 use Rattle.engine_laws.specs.RefusalCauses.{Refuses}
+use Rattle.engine_laws.specs.StockChanges.{Spends}
 
 -- a change in a place
 pub record Placed : Type 0 where
@@ -87,6 +91,34 @@ pub record AnswersKey (v u : View) (w x : Hands) (k : ℕ) (accepted : List (ℕ
       ⊎ ((y : Placed) × (rest : List Fixed) × (s : ℕ) × (w.place k ≡ Some y) × (y.posted ≡ true) × (v.pending k ≡ Some (record { entry = d; slot = Some s }))
       × (fixed ≡ record { number = y.number; request = y.request; reply = Stopped; refusal = None } ∷ rest) × (left_in u.blocks d.body ≡ left_in v.blocks d.body))
 
+-- The change y, which waited or was accepted, stands in a place now.
+pub record BeginsIn (p : places.Place) (m : ℕ) (w x : Hands) (accepted : List (ℕ × Request)) (y : ℕ × Request) : Type 0 where
+  pub own : places.owner p (key_of y.1) ≡ m
+  pub waits : In y (w.waits (key_of y.1) ++ requests_for (key_of y.1) accepted)
+  pub place : x.place (key_of y.1) ≡ Some (record { number = y.0; request = y.1; posted = false })
+
+-- A change of a place was posted, by an entry of no more lines than it needs alone.
+pub record PostsIn (p : places.Place) (m : ℕ) (v u : View) (w x : Hands) : Type 0 where
+  pub change : Placed
+  pub own : places.owner p (key_of change.request) ≡ m
+  pub was : w.place (key_of change.request) ≡ Some change
+  pub staged : change.posted ≡ false
+  pub now : x.place (key_of change.request) ≡ Some (record { number = change.number; request = change.request; posted = true })
+  pub entry : Entry
+  pub more : u.posted ≡ v.posted ++ entry ∷ []
+  pub few : lines_for (length (words_of entry)) ≤ lines_of p.layout change.request
+
+-- What one call spends of the core's room, of the view from v to u, and of what the worker holds.
+pub record SpendsIn (p : places.Place) (m : ℕ) (v u : View) (w x : Hands) (accepted : List (ℕ × Request)) (fixed : List Fixed) : Type 0 where
+  -- only a core that runs answers Full, to a request that waited or was accepted
+  pub runs : (y : Fixed) → In y fixed → y.reply ≡ Full → (w.stopped ≡ false) × In (asked y) (w.waits (key_of y.request) ++ requests_for (key_of y.request) accepted)
+  -- a change stays in its place until it is answered, and posted once it is
+  pub stays : (k : ℕ) (y : Placed) → places.owner p k ≡ m → w.place k ≡ Some y → fixed_of k fixed ≡ [] → (z : Placed) × (x.place k ≡ Some z) × (z.number ≡ y.number) × (y.posted ≡ true → z.posted ≡ true)
+  pub begun : Option (ℕ × Request)
+  pub begins : (y : ℕ × Request) → begun ≡ Some y → BeginsIn p m w x accepted y
+  pub posts : (u.posted ≡ v.posted) ⊎ PostsIn p m v u w x
+  pub spends : x.stopped ≡ false → Spends p.layout v.took v.flying u.took u.flying w.stock x.stock begun
+
 -- One call of the worker of member m: of the region from s to t, of the group's state where it is told, of the view from v to u, and of what it holds.
 pub record WorkerMoves (p : places.Place) (m : ℕ) (s t : State) (before after : Option Group) (v u : View) (w x : Hands) (accepted : List (ℕ × Request)) (fixed : List Fixed) : Type 0 where
   pub outside : During s t (KeepsOutside (cell_now s) (part_at p m) (part_end p m))
@@ -98,6 +130,7 @@ pub record WorkerMoves (p : places.Place) (m : ℕ) (s t : State) (before after 
   pub keys : (k : ℕ) → places.owner p k ≡ m → AnswersKey v u w x k (requests_for k accepted) (fixed_of k fixed)
   pub holds : (k : ℕ) → places.owner p k ≡ m → HoldsKey u x k
   pub refuses : (k : ℕ) → places.owner p k ≡ m → Refuses p.layout w.stock (v.last k) (u.last k) (map replied (fixed_of k fixed))
+  pub spends : SpendsIn p m v u w x accepted fixed
   pub stops : x.stopped ≡ true → (w.stopped ≡ true) ⊎ (Rose s.faults t.faults ⊎ IfSome before (λ a. (n : ℕ) × (d : Entry) × (a.slot m n ≡ Failed d)))
   pub breaks : u.broken ≡ true → x.stopped ≡ true
   pub stays_stopped : w.stopped ≡ true → x.stopped ≡ true

@@ -149,6 +149,7 @@ module _ (seat : SeatAt) (s t : State) (before after : Option Group) (v u : View
       keys = T.moves.keys;
       holds = T.moves.holds;
       refuses = T.moves.refuses;
+      spends = T.moves.spends;
       stops = T.moves.stops;
       breaks = T.moves.breaks;
       stays_stopped = T.moves.stays_stopped;

@@ -1,10 +1,11 @@
+use Rattle.core_worker.proofs.StockFacts.{wrote_least}
 use Rattle.core_worker.proofs.RoomKept.{room_again}
 use Rattle.std.proofs.Common.{Bool, not, inl, sym, ◌∙◌, ap, subst}
 use Rattle.core_worker.specs.declared.worker.Worker.{Worker}
 use Rattle.core_worker.specs.OwnPlaces.{place_at, own}
 use Rattle.core_worker.specs.Posting.{WouldStand}
 use Rattle.core_worker.specs.WorkerMoves.{placed_for, hands_of}
-use Rattle.core_worker.proofs.PostMoves.{facts_of, posted_moves, posted_order, fault_moves, fault_order}
+use Rattle.core_worker.proofs.PostMoves.{posted_least, facts_of, posted_moves, posted_order, fault_moves, fault_order}
 use Rattle.core_worker.proofs.worker.Worker.post_block.Goals as goal
 
 pub post_written-requires-clause-nothing : goal.post_written-requires-clause-nothing
@@ -42,6 +43,7 @@ returns-then-write_staged-clause-moves g c =
     let same = c.write_staged.ensures.rest ∙ ap (λ (b : Bool). record c.args.self.now { allocator = c.write_staged.new.self.allocator; stopped = b }) (ap not c.if-write_staged.true ∙ sym c.requires.runs) in
     let F = facts_of m (g.B.Board.whole c.args.board.now) (g.B.Board.whole c.post_written.new.board) v u c.args.self.now c.write_staged.new.self c.post_written.new.self c.args.slot same c.post_written.ensures.posts in
     posted_moves p m (g.B.Board.whole c.args.board.now) (g.B.Board.whole c.post_written.new.board) v u c.args.self.now c.post_written.new.self c.args.slot c.requires.slot c.requires.holds c.post_written.ensures.holds c.requires.runs F
+    (posted_least m (g.B.Board.whole c.args.board.now) (g.B.Board.whole c.post_written.new.board) v u c.args.self.now c.write_staged.new.self c.post_written.new.self c.args.slot c.post_written.ensures.posts (wrote_least c.args.self.now c.write_staged.new.self same c.write_staged.ensures.chunks c.write_staged.ensures.blocks))
     (g.R.Region.state c.args.region.now) (g.R.Region.state c.write_staged.new.region) c.write_staged.ensures.outside c.write_staged.ensures.moments (returns-then-write_staged-clause-stands g c).licensed
 
 pub returns-then-write_staged-clause-order : goal.returns-then-write_staged-clause-order

@@ -1,3 +1,5 @@
+use Rattle.engine_laws.proofs.CauseLaws.{at_least_same}
+use Rattle.core_worker.specs.WorkerMoves.{stock_of}
 use Rattle.core_worker.proofs.RoomKept.{room_posted}
 use Rattle.std.proofs.Common.{ℕ, List, refl, sym, ◌∙◌, ap, subst}
 use Rattle.group_laws.specs.MemberViews.{View}
@@ -7,7 +9,7 @@ use Rattle.core_worker.specs.OwnPlaces.{Replaces}
 use Rattle.core_worker.specs.Posting.{PostsPlain, PointsNowhere, HasNoBlock}
 use Rattle.core_worker.specs.Ties.{Holds}
 use Rattle.core_worker.proofs.Posts.{holds_posted, stands_posted, view_is}
-use Rattle.core_worker.proofs.PostMoves.{facts_of, posted_order, here_moves}
+use Rattle.core_worker.proofs.PostMoves.{posted_least, facts_of, posted_order, here_moves}
 use Rattle.core_worker.proofs.worker.Worker.post_plain.Goals as goal
 
 -- two changes of one place
@@ -67,6 +69,7 @@ returns-clause-moves g c s S =
     let u = g.B.Board.view c.post.new.self in
     here_moves p m (g.B.Board.whole c.args.board.now) (g.B.Board.whole c.post.new.self) v u c.args.self.now (record c.args.self.now { places = c.swap_place-free.new.places }) c.args.slot c.requires.slot c.requires.holds (returns-clause-holds g c) c.requires.runs
     (facts_of m (g.B.Board.whole c.args.board.now) (g.B.Board.whole c.post.new.self) v u c.args.self.now c.args.self.now (record c.args.self.now { places = c.swap_place-free.new.places }) c.args.slot refl (returns-clause-posts g c))
+    (posted_least m (g.B.Board.whole c.args.board.now) (g.B.Board.whole c.post.new.self) v u c.args.self.now c.args.self.now (record c.args.self.now { places = c.swap_place-free.new.places }) c.args.slot (returns-clause-posts g c) (at_least_same (stock_of c.args.self.now)))
     s S (returns-clause-stands g c s S)
 
 pub returns-clause-order : goal.returns-clause-order

@@ -5,7 +5,7 @@ use Rattle.batch_leader.specs.TakenChanges.{MatchBool}
 use Rattle.core_worker.specs.Turns.{TriesLock, FindsPosted}
 use Rattle.core_worker.specs.Turning.Did.{locks}
 use Rattle.core_worker.proofs.Made.{one_step}
-use Rattle.core_worker.proofs.QuietItems.{lock_led, lock_same, lock_stops}
+use Rattle.core_worker.proofs.QuietItems.{lock_filled, lock_led, lock_same, lock_stops}
 use Rattle.core_worker.proofs.TurnLaws.{keeps_leading, keeps_same}
 use Rattle.core_worker.proofs.LeftTurns.{had_lower, had_starts, found_not_more}
 use Rattle.core_worker.proofs.LeftFair.{starts_nothing}
@@ -34,6 +34,7 @@ returns-then-try_lead-clause-keeps g c s S =
     (lock_led c.try_lead.result seat.number (g.B.Board.view c.args.board.now) (g.B.Board.view c.try_lead.new.board) c.args.self.now c.try_lead.new.self e.tried)
     (lock_same c.try_lead.result seat.number (g.B.Board.view c.args.board.now) (g.B.Board.view c.try_lead.new.board) c.args.self.now c.try_lead.new.self e.tried)
     (λ stopped. lock_stops c.try_lead.result seat (g.B.Board.view c.args.board.now) (g.B.Board.view c.try_lead.new.board) c.args.self.now c.try_lead.new.self e.holds e.tried) c.requires.order e.rule
+    (lock_filled c.try_lead.result seat (g.B.Board.view c.args.board.now) (g.B.Board.view c.try_lead.new.board) c.args.self.now c.try_lead.new.self e.holds e.tried)
 
 pub returns-then-try_lead-clause-turned : goal.returns-then-try_lead-clause-turned
 returns-then-try_lead-clause-turned g c s refused before v post tells =
@@ -58,6 +59,7 @@ returns-clause-keeps g c s S =
     (lock_led c.try_lead.result seat.number (g.B.Board.view c.args.board.now) (g.B.Board.view c.try_lead.new.board) c.args.self.now c.try_lead.new.self e.tried)
     (lock_same c.try_lead.result seat.number (g.B.Board.view c.args.board.now) (g.B.Board.view c.try_lead.new.board) c.args.self.now c.try_lead.new.self e.tried)
     (λ stopped. lock_stops c.try_lead.result seat (g.B.Board.view c.args.board.now) (g.B.Board.view c.try_lead.new.board) c.args.self.now c.try_lead.new.self e.holds e.tried) c.requires.order e.rule
+    (lock_filled c.try_lead.result seat (g.B.Board.view c.args.board.now) (g.B.Board.view c.try_lead.new.board) c.args.self.now c.try_lead.new.self e.holds e.tried)
 
 pub returns-clause-turned : goal.returns-clause-turned
 returns-clause-turned g c s refused before v post tells =

@@ -3,7 +3,7 @@ use Rattle.std.proofs.Common.{◌≡◌, true, false, sym, ◌∙◌}
 use Rattle.core_worker.specs.Turning.Did.{goes_round}
 use Rattle.core_worker.proofs.Beginnings.{aside_of}
 use Rattle.core_worker.proofs.Pointers.{measured}
-use Rattle.core_worker.proofs.QuietItems.{round_led, round_same}
+use Rattle.core_worker.proofs.QuietItems.{round_filled, round_led, round_same}
 use Rattle.core_worker.proofs.TurnLaws.{keeps_leading}
 use Rattle.core_worker.proofs.worker.Worker.serve_round.Goals as goal
 
@@ -18,7 +18,7 @@ returns-clause-keeps g c s S =
     let e = c.go_round.ensures in
     keeps_leading seat s (g.B.Board.whole c.args.board.now) (g.B.Board.whole c.go_round.new.board) (g.B.Board.view c.args.board.now) (g.B.Board.view c.go_round.new.board) c.args.self.now c.go_round.new.self
     e.holds e.stands S e.made (round_led _ seat _ _ e.went) (round_same _ seat _ _ e.went)
-    (λ stopped. absurd (let both : true ≡ false = sym stopped ∙ c.requires.runs in cc both)) c.requires.order e.rule
+    (λ stopped. absurd (let both : true ≡ false = sym stopped ∙ c.requires.runs in cc both)) c.requires.order e.rule (round_filled _ seat _ _ e.went)
 
 pub returns-clause-did : goal.returns-clause-did
 returns-clause-did g c s refused = goes_round c.go_round.ensures.went

@@ -1,7 +1,8 @@
 use Rattle.core_worker.proofs.RoomKept.{wrote_chunks}
 use Rattle.std.proofs.Common.{ℕ, List, length, true, sym, ◌∙◌, ap, subst}
 use Rattle.chunk_map.specs.Layouts.{has_class}
-use Rattle.lazy_alloc.specs.Sets.{Sets, free_chunk_count}
+use Rattle.lazy_alloc.specs.Sets.{Sets, free_chunk_count, free_block_count}
+use Rattle.core_worker.proofs.StockFacts.{wrote_blocks}
 use Rattle.lazy_alloc.specs.Written.{WroteValue}
 use Rattle.core_worker.specs.Posting.{IsStagedWith, WouldStand}
 use Rattle.core_worker.specs.Ties.{Holds, Stands}
@@ -75,3 +76,14 @@ returns-in-Ok-clause-chunks g c =
 
 pub returns-in-Err-clause-chunks : goal.returns-in-Err-clause-chunks
 returns-in-Err-clause-chunks g c = ap free_chunk_count c.in-Err.ensures.err
+
+pub returns-in-Ok-clause-blocks : goal.returns-in-Ok-clause-blocks
+returns-in-Ok-clause-blocks g c class =
+    let p = (g.B.Board.seat c.args.board.now).place in
+    let m = (g.B.Board.seat c.args.board.now).number in
+    let v = g.B.Board.view c.args.board.now in
+    let is = staged_block p m v c.args.self.now c.requires.holds c.args.slot c.in-Staged.number c.args.pointer c.in-Staged.entry c.in-Staged.value (sym c.place_in.ensures ∙ c.in-Staged.is) c.requires.staged in
+    wrote_blocks (g.R.Region.state c.write_for.new.region) c.args.self.now.allocator c.write_for.new.allocator c.args.pointer is.0.class c.bytes.result.now (c.in-Ok.ensures.ok is.0.class is.0.class_is) class
+
+pub returns-in-Err-clause-blocks : goal.returns-in-Err-clause-blocks
+returns-in-Err-clause-blocks g c class = ap (λ (a : Sets). free_block_count a class) c.in-Err.ensures.err
