@@ -21,6 +21,7 @@ use Rattle.engine_laws.specs.WorkerMoves.{Placed}
 use Rattle.engine_laws.specs.Engine.{Engine, group_for}
 use Rattle.engine_laws.specs.Keys.{KeyStands}
 use Rattle.engine_laws.specs.Stands.{Origin, Stands, ShowsPrefix, start_of}
+use Rattle.engine_laws.specs.Rooms.{Rooms}
 use Rattle.engine_laws.specs.Ceasing.{IsResting, Halts, AllRest, HasCeased}
 use Rattle.engine_laws.proofs.Cores.{group_low, some_group, owner_low, member_core}
 
@@ -148,6 +149,25 @@ module _ (o : Origin) (e : Engine) (t : ℕ → Bool) (S : Stands o e) where
   unfolding takes_key
   takes_crash n told from image may = let is = S.crash n told from image may in record { sound = is.sound; layout = is.layout; cells = is.cells }
 
+  takes_rooms : Rooms o f
+  takes_rooms =
+      let R = S.rooms in
+      record {
+        room = λ c low on. (let T = R.room c low on in record {
+          opened = T.opened;
+          cuts = T.cuts;
+          chunks = T.chunks;
+          lines = T.lines;
+          small = T.small;
+          blocks = T.blocks;
+          last = T.last;
+          class = T.class;
+        });
+        posted = R.posted;
+        strangers = R.strangers;
+        full = R.full;
+      }
+
   pub takes_stands : Stands o f
   unfolding takes_key
   takes_stands = record {
@@ -166,4 +186,5 @@ module _ (o : Origin) (e : Engine) (t : ℕ → Bool) (S : Stands o e) where
     broken = S.broken;
     causes = S.causes;
     versions = S.versions;
+    rooms = takes_rooms;
   }
