@@ -288,9 +288,12 @@ module _ (s : State) (w b : Worker) (n : ℕ) (r : Request) (works : w.winds_dow
 
     goes_on : (c : Bool) → is_too_long u.layout r ≡ false → u.stopped ≡ false → is_change r cell ≡ c → GoesOn (IsTelling s) c u b cell n r → (fs : List Fixed) × Fixes fs
     goes_on false short runs e is = answered (answer_to r cell) is.0 None is.1 (answer_untold r cell e) is.2 (inl refl) (still_left r cell e) (runs_false false runs refl (answer_to r cell)) (λ same. absurd (still_runs r cell same)) (answer_causeless x.place.layout (x.view.last (key_of r)) r cell e) (λ full. absurd (answer_not_full r cell e full))
-    goes_on true short runs e is = ([], fixes_staged idle in_hand queue (is.answers ∙ B.answers) halted (stopped_before ∙ runs) u (ap (λ (y : Worker). y.places) B.rest) is
-        (subst (λ (t : Stock). Stages x.place.layout t (stock_of b) (Some (n, r))) stock_is
-        (staged_stock x.place.layout u b n r is (subst AreSets (sym (ap (λ (y : Worker). y.allocator) B.rest)) T.holds.sets) N.holds.sets (ap (λ (y : Worker). y.allocator.layout) B.rest ∙ T.holds.allocator_layout) (subst (λ (l : Geometry). is_too_long l r ≡ false) layout_is short))))
+    goes_on true short runs e is = (
+      [],
+      fixes_staged idle in_hand queue (is.answers ∙ B.answers) halted (stopped_before ∙ runs) u (ap (λ (y : Worker). y.places) B.rest) is
+          (subst (λ (t : Stock). Stages x.place.layout t (stock_of b) (Some (n, r))) stock_is
+          (staged_stock x.place.layout u b n r is (subst AreSets (sym (ap (λ (y : Worker). y.allocator) B.rest)) T.holds.sets) N.holds.sets (ap (λ (y : Worker). y.allocator.layout) B.rest ∙ T.holds.allocator_layout) (subst (λ (l : Geometry). is_too_long l r ≡ false) layout_is short))),
+    )
 
     by_cause : (o : Option Shortage) → u.stopped ≡ false → why u.layout (supply_of u) u.allocator (last_of (known_at u.index (key_of r))) cell r ≡ o → BeginsBy (IsTelling s) o u b cell n r → (fs : List Fixed) × Fixes fs
     by_cause None runs e is = goes_on (is_change r cell) (why_short u.layout (supply_of u) u.allocator (last_of (known_at u.index (key_of r))) cell r e) runs refl is

@@ -175,11 +175,14 @@ why_full l s a last cell (Put k v) c e full = by (ltb (l.chunk_bytes / 4 - 8) (l
   room short (inl few) = inl few
   room short (inr none) =
       let is = class_is (length v) none.1 in
-      inr (none.0, record {
-        class = class_for (length v);
-        needs = record { put = and_from (has_class (length v) (class_for (length v))) (leb (length v) (l.chunk_bytes / 4 - 8)) is.0 (le-leb (length v) (l.chunk_bytes / 4 - 8) (ltb-false (l.chunk_bytes / 4 - 8) (length v) short)); some = is.1; most = is.2 };
-        none = none.2;
-      })
+      inr (
+        none.0,
+        record {
+          class = class_for (length v);
+          needs = record { put = and_from (has_class (length v) (class_for (length v))) (leb (length v) (l.chunk_bytes / 4 - 8)) is.0 (le-leb (length v) (l.chunk_bytes / 4 - 8) (ltb-false (l.chunk_bytes / 4 - 8) (length v) short)); some = is.1; most = is.2 };
+          none = none.2;
+        },
+      )
 
   by : (b d : Bool) → ltb (l.chunk_bytes / 4 - 8) (length v) ≡ b → leb 1048574 last ≡ d
       → cond b (Some (causes.Length (length v))) (cond d (Some (causes.Versions last)) (lacks s a (lines_needed (length v)) (class_for (length v)))) ≡ Some c → LacksRoom l (stock_by s a) (Put k v)

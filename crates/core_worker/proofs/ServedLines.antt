@@ -213,7 +213,7 @@ module _ (Known : Type 0) (v : View) (k : ℕ) (cell : Option (List ℕ)) where
       causes = (
         subst (λ (l : Geometry). HasCause l (last_of (known_at w.index k)) h.request A.reply) layout_next (subst (λ (i : ℕ). HasCause next.layout i h.request A.reply) last_next A.has_cause),
         subst (λ (l : Geometry). HaveCauses l (raised (last_of (known_at w.index k)) A.reply) (map replied fs)) (A.is.same.layout ∙ layout_next)
-        (causes_up mid.layout (last_of (known_at mid.index k)) (raised (last_of (known_at w.index k)) A.reply) (map replied fs) (let low = raised_low A.reply (last_of (known_at w.index k)) in let at = last_mid in omega (arith, low, at)) L.causes),
+            (causes_up mid.layout (last_of (known_at mid.index k)) (raised (last_of (known_at w.index k)) A.reply) (map replied fs) (let low = raised_low A.reply (last_of (known_at w.index k)) in let at = last_mid in omega (arith, low, at)) L.causes),
       );
       begun = L.begun;
       begins = λ y is. (let b = L.begins y is in (b.0, inr b.1, b.2));
@@ -223,7 +223,7 @@ module _ (Known : Type 0) (v : View) (k : ℕ) (cell : Option (List ℕ)) where
       full = (
         λ is. subst (λ (t : Stock). LacksRoom w.layout t h.request) stock_next (subst (λ (l : Geometry). LacksRoom l (stock_of next) h.request) layout_next (A.full is)),
         subst (λ (t : Stock). AllByRecursion (λ (y : Request × Reply). y.1 ≡ replies.Full → LacksRoom w.layout t y.0) (map replied fs)) stock_mid
-        (subst (λ (l : Geometry). AllByRecursion (λ (y : Request × Reply). y.1 ≡ replies.Full → LacksRoom l (stock_of mid) y.0) (map replied fs)) (A.is.same.layout ∙ layout_next) L.full),
+            (subst (λ (l : Geometry). AllByRecursion (λ (y : Request × Reply). y.1 ≡ replies.Full → LacksRoom l (stock_of mid) y.0) (map replied fs)) (A.is.same.layout ∙ layout_next) L.full),
       );
       other_places = λ j ne. L.other_places j ne ∙ ap (λ (ps : List places.Place). placed_for v ps j) (A.is.places ∙ ap (λ (y : Worker). y.places.items) same);
       other_waits = λ j ne. L.other_waits j ne ∙ (λ i. filter (λ h. key_of h.request == j) (option_to_list (hand_mid i)) ++ waits_mid j ne i);
