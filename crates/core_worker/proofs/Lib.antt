@@ -3,6 +3,7 @@ mod Led
 mod Giving
 mod Rounds
 mod Writing
+mod ChunksKept
 mod Made
 mod Quiet
 mod Posts
@@ -37,6 +38,11 @@ mod Unpledging
 mod BatchRoom
 pub mod Serving
 mod Heard
+mod HeardNames
+mod NamesAdded
+mod NamesKnown
+mod Renewing
+mod StartNames
 pub mod Tidied
 pub mod Freeing
 pub mod FreedOrder
@@ -75,5 +81,6 @@ mod StartKeys
 pub mod StartBlocks
 mod StartHeads
 pub mod Starting
+mod PartsGiven
 pub mod Clients
 mod Trials

@@ -34,6 +34,8 @@ use Rattle.core_worker.specs.declared.types.Place.TheVariants.{Free, Staged, Pos
 use Rattle.core_worker.specs.declared.worker.Worker.{Worker}
 use Rattle.core_worker.specs.OwnPlaces.{place_at, key_in, is_free, is_busy, Replaces, request_by, request_pending, bytes_or}
 use Rattle.core_worker.specs.KeyTies.{IsPlaced, Offers, Left, LeftIn}
+use Rattle.log_standing.specs.NameCounts.{StandingState}
+use Rattle.core_worker.specs.StandingTies.{KnowsLog, most_names}
 use Rattle.core_worker.specs.Order.{PointsAt, count_changes, unanswered, MayLeadStopped, InOrder}
 use Rattle.core_worker.specs.Posting.{PostsPlain}
 use Rattle.core_worker.specs.Ties.{Holds, Stands, LeadsNothing}
@@ -179,8 +181,8 @@ module _ (p : Place) (m : ℕ) (v : View) (w : Worker) (H : Holds p m v w) (slot
     }
 
     -- what is kept in order
-    pub post_order : x.index ≡ w.index → x.answers ≡ w.answers → x.winds_down ≡ w.winds_down → x.stopped ≡ false → InOrder p m v w → InOrder p m u x
-    post_order index answers winds on O = record {
+    pub post_order : x.index ≡ w.index → x.answers ≡ w.answers → x.winds_down ≡ w.winds_down → x.standing ≡ w.standing → x.stopped ≡ false → InOrder p m v w → InOrder p m u x
+    post_order index answers winds standing on O = record {
       owned = λ q b is. owned_by q b (cases_block q b is);
       single = λ q b is. single_by q b (cases_block q b is);
       distinct = λ k q points is. distinct_by k q (ap (λ i. block_of (known_at i k)) (sym index) ∙ is) points (cases_eq k e.key);
@@ -195,6 +197,8 @@ module _ (p : Place) (m : ℕ) (v : View) (w : Worker) (H : Holds p m v w) (slot
       answers = subst (λ (a : VecDeque Answer Global). deque_len a + unanswered x ≤ deque_capacity a) (sym answers) (let room = O.answers in let n = unanswered_same in omega (arith, room, n));
       hand = λ working. hand ∙ O.hand (sym winds ∙ working);
       stops = λ is. absurd (let both : true ≡ false = sym is ∙ on in cc both);
+      log = λ r working. subst (KnowsLog m v.kept v.present v.told v.dead) (sym standing) (O.log runs (sym winds ∙ working));
+      names = λ r working. subst (λ (st : StandingState). most_names ≤ st.room) (sym standing) (O.names runs (sym winds ∙ working));
     } where
       keys_same : (s : ℕ) → key_in (place_at x.places.items s) ≡ key_in (place_at w.places.items s)
       keys_same = same_keys w.places.items x.places.items slot (Posted number e.key lines) R (ap key_in (sym was))
@@ -311,7 +315,7 @@ module _ (p : Place) (m : ℕ) (before after : Option Group) (v u : View) (w x :
   posted_order O =
       subst (λ (y : View). InOrder p m y x) (sym F.view)
       (post_order p m v w H slot F.number F.entry F.value lt F.was runs x made_here F.lines F.places (ap (λ (y : Worker). y.queue) F.same) (ap (λ (y : Worker). y.in_hand) F.same)
-      (ap (λ (y : Worker). y.index) F.same) (ap (λ (y : Worker). y.answers) F.same) (ap (λ (y : Worker). y.winds_down) F.same) on O)
+      (ap (λ (y : Worker). y.index) F.same) (ap (λ (y : Worker). y.answers) F.same) (ap (λ (y : Worker). y.winds_down) F.same) (ap (λ (y : Worker). y.standing) F.same) on O)
 
 -- what was to be written could not be: the core stops, and no step is made
 pub fault_moves : (p : Place) (m : ℕ) (s t : State) (a : Option Group) (v : View) (w x : Worker) → Holds p m v x → ((k : ℕ) → placed_for v x.places.items k ≡ placed_for v w.places.items k) → ((k : ℕ) → (hands_of v x).waits k ≡ (hands_of v w).waits k) → x.stopped ≡ true → During s t (KeepsOutside (cell_now s) (part_at p m) (part_end p m)) → During s t (Licensed p m v) → (IsTelling t → Licensed p m v (cell_now t)) → Rose s.faults t.faults
@@ -345,4 +349,6 @@ fault_order p m v w x same nothing O = subst (λ (y : Worker). InOrder p m v y) 
   answers = O.answers;
   hand = O.hand;
   stops = λ is. subst MayLeadStopped (sym nothing.1) tt;
+  log = λ r. absurd (cc r);
+  names = λ r. absurd (cc r);
 })

@@ -1,6 +1,6 @@
 -- A load more of an own slot, where none was found given back so far.
 use Rattle.std.proofs.Common.{◌≡◌, ◌≢◌, inl, ⊎_elim, ℕ, ◌+◌, ◌<◌, Bool, true, false, cond, ◌||◌, List, [], ◌∷◌, ◌++◌, Option, Some, None, refl, sym, ◌∙◌, ap, subst, arith, append-nil, append_assoc}
-use Rattle.std.specs.Prelude.{IfSome, IsSomeAnd}
+use Rattle.std.specs.Prelude.{IfSome}
 use Rattle.std.proofs.lemmas.Bool.{cases_lt, eq-eqb, ne_eqb}
 use Rattle.std.proofs.lemmas.List.{map-append}
 use Rattle.store_image.specs.Facts.{In}
@@ -9,8 +9,7 @@ use Rattle.group_laws.specs.declared.types.Seen.TheVariants.{Slot}
 use Rattle.group_laws.specs.declared.types.SlotWord.{SlotWord}
 use Rattle.group_laws.specs.declared.types.SlotWord.TheVariants as words
 use Rattle.group_laws.specs.Places as at
-use Rattle.group_laws.specs.State.{Group, shown}
-use Rattle.group_laws.specs.declared.types.Slot.{Slot as Slots}
+use Rattle.group_laws.specs.State.{Group}
 use Rattle.group_laws.specs.Updates.{put}
 use Rattle.group_laws.specs.Runs.{Kind}
 use Rattle.group_laws.specs.Runs.Kind.{Look}

@@ -1,15 +1,8 @@
 -- What every part of a turn keeps, and what a whole turn did.
 use Rattle.fs_errors.specs.declared.Memory.{Memory}
-use Rattle.std.specs.Prelude.{Result, Ok, Err, ◌≡◌, ℕ, ◌<◌, Bool, true, false, List, [], map, Option, Some, IfSome, IsSomeAnd}
+use Rattle.std.specs.Prelude.{Result, Ok, Err, ◌≡◌, ℕ, ◌<◌, Bool, true, false, List, [], Option}
 use Rattle.pm_region.specs.State.{State, IsTelling}
-use Rattle.group_laws.specs.State.{Group, shown}
-use Rattle.group_laws.specs.Runs.{Kind}
-use Rattle.group_laws.specs.Runs.Kind.{Split, Join, Post as PostStep, Lock, Look, LookMail, Take, Unlock, Commit, Mark, Finish, Fail, Withdraw, Doom, Retire, Send, Receive}
-use Rattle.group_board.specs.Told.{state_of}
-use Rattle.batch_leader.specs.Leading.{MakesAll}
-use Rattle.std.specs.List.{AllByRecursion}
-use Rattle.core_worker.specs.declared.types.Place.{Place}
-use Rattle.core_worker.specs.Searching.{is_given_back, is_out}
+use Rattle.group_laws.specs.State.{Group}
 use Rattle.group_laws.specs.MemberViews.{View}
 use Rattle.group_board.specs.Seats.{SeatAt}
 use Rattle.batch_leader.specs.Persisting.{StaysLicensed, WritesPart}
@@ -25,7 +18,7 @@ use Rattle.core_worker.specs.declared.types.Turn.{Turn}
 use Rattle.core_worker.specs.declared.types.Turn.TheVariants.{Moved, Idle}
 use Rattle.core_worker.specs.declared.choose_item.Choice.{Choice}
 use Rattle.core_worker.specs.declared.choose_item.Choice.TheVariants.{Pass, Drop, Post}
-use Rattle.core_worker.specs.OwnPlaces.{place_at, is_staged, is_posted, IsLowest}
+use Rattle.core_worker.specs.OwnPlaces.{is_staged, IsLowest}
 use Rattle.core_worker.specs.Turns.{Moment, InOrderAt, GoesRound, PersistsOrLoses, Marks, Fails, Finishes, Posts, LosesBlock, Locks, Idles, PassesItems, PassesPost, FindsPosted}
 use Rattle.core_worker.specs.Stopping.{Drops, WithdrawsOrUnlocks}
 use Rattle.core_worker.specs.WorkerMoves.{Fixed, hands_of, WorkerMoves}

@@ -93,7 +93,7 @@ impl Worker {
         ensures { Settles self.old self.new entry home }
     {
         let replaced = self.index.settle(entry, home);
-        hear_own(&mut self.index, self.core);
+        hear_own(&mut self.index, &mut self.standing, self.core);
         put_back(&mut self.allocator, replaced);
     }
 

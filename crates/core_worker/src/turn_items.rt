@@ -31,7 +31,11 @@ use std::alloc::Global;
 
 impl Worker {
     // A turn of a core that has a batch to write, or changes to give back.
-    fn serve_batch<R: Region, B: Board>(&mut self, region: &mut R, board: &mut B)
+    fn serve_batch<R: Region, B: Board>(
+        &mut self,
+        region: &mut R,
+        board: &mut B,
+    ) -> Result<(), Memory>
         requires holds { HoldsAt (B.seat board.old) (B.view board.old) self.old }
         requires stands { StandsAt (R.state region.old) (B.seat board.old)
             (B.view board.old) self.old }
@@ -44,22 +48,24 @@ impl Worker {
         ensures did { (refused : Bool) → Did (R.state region.old) refused (B.whole board.old)
             (B.seat board.old) (at_entry self.old (B.view board.old))
             (at_entry self.new (B.view board.new)) }
+        ensures memory { OnErr result (self.new.winds_down ≡ true) }
+        ensures awake { OnErr result (self.old.winds_down ≡ false) }
         ensures less { Lowers (B.whole board.old) (B.whole board.new) self.old self.new }
         ensures starts { StartsFirst self.new }
-        ensures works { self.new.winds_down ≡ self.old.winds_down }
+        ensures works { OnOk result (self.new.winds_down ≡ self.old.winds_down) }
     {
         match &self.leading {
             Leading::Batch(_) => {
                 self.write_batch(region, board);
-                return;
+                return self.renew_names();
             }
             Leading::Persisted(_) => {
                 self.mark_next(board);
-                return;
+                return Ok(());
             }
             Leading::Failed(_) => {
                 self.fail_next(board);
-                return;
+                return Ok(());
             }
             _ => unreachable!(),
         }
@@ -333,10 +339,14 @@ impl Worker {
                     return Err(memory);
                 }
             },
-            _ => {
-                self.serve_batch(region, board);
-                return Ok(Turn::Moved);
-            }
+            _ => match self.serve_batch(region, board) {
+                Ok(()) => {
+                    return Ok(Turn::Moved);
+                }
+                Err(memory) => {
+                    return Err(memory);
+                }
+            },
         }
     }
 

@@ -1,17 +1,10 @@
 -- Where every core that winds down found nothing to do, nothing is posted or taken any more.
-use Rattle.std.proofs.Common.{◌≤◌, true, ◌≡◌, inl, inr, ℕ, zero, suc, ◌+◌, ◌*◌, ◌/◌, ◌%◌, ◌<◌, List, [], ◌∷◌, ◌++◌, map, length, Bool, false, Option, Some, None, refl, sym, ◌∙◌, ap, subst, arith}
-use Rattle.std.specs.List.{slice_get}
-use Rattle.std.proofs.lemmas.Bool.{cases_eq}
+use Rattle.std.proofs.Common.{◌≤◌, true, ◌≡◌, inl, inr, ℕ, ◌+◌, ◌*◌, ◌/◌, ◌%◌, ◌<◌, List, Bool, false, Some, None, refl, sym, ◌∙◌, ap, subst}
 use Rattle.std.proofs.lemmas.Nat.{div-mul-add, mod-mul-add}
 use Rattle.pm_region.specs.State.{IsTold, MayLeave}
-use Rattle.fs_model.specs.declared.model.Request.{Request}
-use Rattle.fs_model.specs.Cells.{key_of}
-use Rattle.fs_model.specs.Changes.{requests_of}
 use Rattle.log_entry.specs.declared.entry.Entry.{Entry}
 use Rattle.chunk_map.specs.declared.layouts.Geometry.{Geometry}
 use Rattle.chunk_map.specs.Layouts.{owner, IsLayout}
-use Rattle.store_image.specs.Facts.{In}
-use Rattle.store_image.proofs.SoundFacts.{in_either}
 use Rattle.store_image.proofs.SoundLaws.{has_layout}
 use Rattle.store_image.proofs.Places.{superblock_facts}
 use Rattle.group_laws.specs.declared.types.Slot.{Slot}
@@ -22,20 +15,14 @@ use Rattle.group_laws.specs.Places as places
 use Rattle.group_laws.specs.State.{Group}
 use Rattle.group_laws.specs.Invariant.{PendsAt}
 use Rattle.group_laws.specs.Regions.{groups_in, place_at, key_group}
-use Rattle.group_laws.proofs.Images.{of_map}
 use Rattle.group_laws.proofs.GroupEntries.{own_core}
 use Rattle.engine_laws.specs.Parts.{group_of, member_of}
-use Rattle.engine_laws.specs.WorkerMoves.{Placed, placed, requests_for}
-use Rattle.engine_laws.specs.Engine.{Engine, Answer, group_for, line}
+use Rattle.engine_laws.specs.WorkerMoves.{Placed}
+use Rattle.engine_laws.specs.Engine.{Engine, group_for}
 use Rattle.engine_laws.specs.Keys.{KeyStands}
-use Rattle.engine_laws.specs.Reports.{AllAnswered}
 use Rattle.engine_laws.specs.Stands.{Origin, Stands, ShowsPrefix, start_of}
 use Rattle.engine_laws.specs.Ceasing.{IsResting, Halts, AllRest, HasCeased}
-use Rattle.engine_laws.specs.Ran.{Pass, Until}
-use Rattle.engine_laws.proofs.Numbers.{all_in}
 use Rattle.engine_laws.proofs.Cores.{group_low, some_group, owner_low, member_core}
-use Rattle.engine_laws.proofs.Promises.{in_from}
-
 
 -- A core that rested does so while another finds nothing to do.
 module _ (e f : Engine) (c d : ℕ) (I : Halts e f c) (J : IsResting e d) where

@@ -1,28 +1,20 @@
 -- A pass in which nothing moved leaves nothing under way.
-use Rattle.std.proofs.Common.{◌≡◌, inl, inr, ℕ, zero, suc, ◌+◌, ◌*◌, ◌/◌, ◌%◌, ◌<◌, List, [], ◌∷◌, ◌++◌, map, length, Bool, false, Option, Some, None, refl, sym, ◌∙◌, ap, subst, arith}
+use Rattle.std.proofs.Common.{◌≡◌, inl, inr, ℕ, zero, suc, ◌+◌, ◌<◌, List, [], ◌∷◌, ◌++◌, map, length, Bool, false, Option, Some, None, refl, sym, ◌∙◌, ap, subst, arith}
 use Rattle.std.specs.List.{slice_get}
 use Rattle.std.proofs.lemmas.Bool.{cases_eq}
-use Rattle.std.proofs.lemmas.Nat.{div-mul-add, mod-mul-add}
 use Rattle.fs_model.specs.declared.model.Request.{Request}
 use Rattle.fs_model.specs.Cells.{key_of}
 use Rattle.fs_model.specs.Changes.{requests_of}
-use Rattle.log_entry.specs.declared.entry.Entry.{Entry}
 use Rattle.chunk_map.specs.declared.layouts.Geometry.{Geometry}
 use Rattle.chunk_map.specs.Layouts.{owner, IsLayout}
 use Rattle.store_image.specs.Facts.{In}
 use Rattle.store_image.proofs.SoundFacts.{in_either}
 use Rattle.store_image.proofs.SoundLaws.{has_layout}
 use Rattle.store_image.proofs.Places.{superblock_facts}
-use Rattle.group_laws.specs.declared.types.Slot.{Slot}
 use Rattle.group_laws.specs.declared.types.Seen.{Seen}
-use Rattle.group_laws.specs.declared.types.Slot.TheVariants.{Empty, Posted, Taken, Done, Failed}
-use Rattle.group_laws.specs.Places.{Place, members}
-use Rattle.group_laws.specs.Places as places
 use Rattle.group_laws.specs.State.{Group}
-use Rattle.group_laws.specs.Invariant.{PendsAt}
-use Rattle.group_laws.specs.Regions.{groups_in, place_at, key_group}
+use Rattle.group_laws.specs.Regions.{key_group}
 use Rattle.group_laws.proofs.Images.{of_map}
-use Rattle.group_laws.proofs.GroupEntries.{own_core}
 use Rattle.engine_laws.specs.Parts.{group_of, member_of}
 use Rattle.engine_laws.specs.WorkerMoves.{Placed, placed, requests_for}
 use Rattle.engine_laws.specs.Engine.{Engine, Answer, group_for, line}
@@ -34,7 +26,7 @@ use Rattle.engine_laws.specs.Ceasing.{IsResting, HasCeased}
 use Rattle.engine_laws.proofs.Ceasing.{ceased}
 use Rattle.engine_laws.specs.Ran.{Pass, Until}
 use Rattle.engine_laws.proofs.Numbers.{all_in}
-use Rattle.engine_laws.proofs.Cores.{group_low, some_group, owner_low, member_core}
+use Rattle.engine_laws.proofs.Cores.{owner_low}
 use Rattle.engine_laws.proofs.Promises.{in_from}
 
 -- A core that was idle stays so while others are idle too.

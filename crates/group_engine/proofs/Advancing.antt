@@ -1,5 +1,5 @@
 -- What is shown after a step of a core.
-use Rattle.std.proofs.Common.{◌≡◌, ◌≢◌, ◌⊎◌, inl, inr, ℕ, ◌+◌, ◌*◌, ◌/◌, ◌<◌, ◌≤◌, List, [], ◌∷◌, ◌++◌, length, Bool, true, false, not, cond, Option, Some, slice_set, slice_index_or, refl, sym, ◌∙◌, ap, subst, arith, Result, Ok, Err, IfOk, OnOk, OnErr}
+use Rattle.std.proofs.Common.{◌≡◌, ◌≢◌, ◌⊎◌, inl, inr, ℕ, ◌+◌, ◌*◌, ◌/◌, ◌<◌, ◌≤◌, List, [], ◌∷◌, ◌++◌, length, Bool, true, false, not, cond, Option, Some, slice_set, slice_index_or, refl, sym, ◌∙◌, ap, subst, arith, Result, Ok, Err, IfOk, OnOk}
 use Rattle.std.specs.List.{slice_get}
 use Rattle.std.proofs.lemmas.Bool.{cases_eq, eq-eqb, ne_eqb}
 use Rattle.fs_errors.specs.declared.Memory.{Memory}
@@ -29,7 +29,7 @@ use Rattle.group_engine.specs.declared.types.Stamped.{Stamped}
 use Rattle.group_engine.specs.Answers.{HavePlaces, ShowsAnswer, kept_at, stored}
 use Rattle.group_engine.specs.Calls.{AreOwn, KeepsPart, Steps, steps_of, is_idle, is_open, next_of}
 use Rattle.engine_laws.specs.Ceasing.{Halts}
-use Rattle.group_engine.specs.Passes.{Ends, Advances}
+use Rattle.group_engine.specs.Passes.{Advances}
 use Rattle.group_engine.specs.Shows.{Seat, Shows, total, left_of}
 use Rattle.group_engine.proofs.Ending.{keeps_any}
 use Rattle.group_engine.proofs.Kept.{get_there, set_length, set_same, set_other, set_twice, total_set, stored_shows, stored_length, shows_less, places_of}

@@ -1,7 +1,7 @@
 -- Which workers wind down, and what that leaves of the state that is shown.
-use Rattle.std.proofs.Common.{◌≡◌, ◌≢◌, inl, inr, ℕ, zero, suc, ◌+◌, ◌<◌, ◌≤◌, List, Option, [], ◌∷◌, length, Bool, true, false, Some, slice_set, slice_index_or, refl, sym, ◌∙◌, ap, subst, arith, Result, Ok, Err, OnOk, OnErr, ⊎_elim}
+use Rattle.std.proofs.Common.{◌≡◌, inl, inr, ℕ, zero, suc, ◌+◌, ◌<◌, List, Option, [], ◌∷◌, length, Bool, true, false, Some, slice_set, slice_index_or, refl, sym, ◌∙◌, ap, subst, arith, Result, Ok, Err, OnOk, OnErr}
 use Rattle.std.specs.List.{slice_get}
-use Rattle.std.proofs.lemmas.Bool.{cases_eq, cases_lt}
+use Rattle.std.proofs.lemmas.Bool.{cases_eq}
 use Rattle.fs_errors.specs.declared.Memory.{Memory}
 use Rattle.fs_model.specs.declared.model.Request.{Request}
 use Rattle.pm_region.specs.State.{State}
@@ -17,7 +17,7 @@ use Rattle.engine_laws.specs.Stands.{Origin, Stands}
 use Rattle.engine_laws.proofs.Ceasing.{takes_stands}
 use Rattle.core_worker.specs.declared.types.Answer.{Answer}
 use Rattle.group_engine.specs.declared.types.Stamped.{Stamped}
-use Rattle.group_engine.specs.Calls.{AllWind, NoneWinds, EachWinds, WindsDown, is_open}
+use Rattle.group_engine.specs.Calls.{AllWind, NoneWinds, EachWinds, WindsDown}
 use Rattle.group_engine.specs.Passes.{Ends}
 use Rattle.group_engine.specs.Shows.{Seat, Shows}
 use Rattle.group_engine.proofs.Kept.{at_is, get_there, set_same, set_other, set_twice}

@@ -1,7 +1,5 @@
-use Rattle.std.proofs.Common.{◌≡◌, ◌<◌, length, refl, subst, arith, ◌∙◌}
-use Rattle.group_engine.specs.Calls.{EachWinds}
-use Rattle.group_engine.proofs.Kept.{set_length}
-use Rattle.group_engine.proofs.Winding.{none_yet, one_more}
+use Rattle.std.proofs.Common.{refl, arith}
+use Rattle.group_engine.proofs.Winding.{none_yet}
 use Rattle.group_engine.proofs.engine.wind_all.Goals as goal
 
 pub loop-core-init : goal.loop-core-init

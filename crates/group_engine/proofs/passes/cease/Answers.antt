@@ -23,8 +23,10 @@ loop-alloc-preserved g c =
     }
 
 pub returns-then-not-cease_pass : goal.returns-then-not-cease_pass
-returns-then-not-cease_pass g c = record { ceased = λ e h.
-    let I = c.loop-alloc.invariant in
-    let r = I.shown e h in
-    let n = c.cease_pass.ensures.passes r.0 r.1 in
-    (n.0, n.1, ceased_out (g.R.Region.state c.loop-alloc.region) (g.R.Region.state c.cease_pass.new.region) (g.C.Cores.cores c.args.cores.now) e r.0 n.0 r.2 (subst (λ k. CeasePasses (g.R.Region.state c.cease_pass.new.region) k false r.0 n.0) I.cores (subst (λ b. CeasePasses (g.R.Region.state c.cease_pass.new.region) (g.C.Cores.cores c.loop-alloc.cores) b r.0 n.0) c.if-not-cease_pass.true n.2))) }
+returns-then-not-cease_pass g c = record {
+  ceased = λ e h.
+      let I = c.loop-alloc.invariant in
+      let r = I.shown e h in
+      let n = c.cease_pass.ensures.passes r.0 r.1 in
+      (n.0, n.1, ceased_out (g.R.Region.state c.loop-alloc.region) (g.R.Region.state c.cease_pass.new.region) (g.C.Cores.cores c.args.cores.now) e r.0 n.0 r.2 (subst (λ k. CeasePasses (g.R.Region.state c.cease_pass.new.region) k false r.0 n.0) I.cores (subst (λ b. CeasePasses (g.R.Region.state c.cease_pass.new.region) (g.C.Cores.cores c.loop-alloc.cores) b r.0 n.0) c.if-not-cease_pass.true n.2)));
+}

@@ -1,4 +1,4 @@
-use Rattle.std.proofs.Common.{◌≡◌, ◌∙◌, ℕ, ◌<◌, Bool, true, cond, refl, sym, ap, subst, arith}
+use Rattle.std.proofs.Common.{◌≡◌, ◌∙◌, true, cond, refl, sym, ap, subst, arith}
 use Rattle.group_engine.specs.Passes.{CeasePasses}
 use Rattle.group_engine.proofs.Passing.{no_higher}
 use Rattle.group_engine.proofs.Ending.{cease_none, cease_one}

@@ -1,7 +1,6 @@
 -- The lock is tried, or nothing applies.
-use Rattle.std.proofs.Common.{inl, inr, Bool, [], ◌∷◌, refl, sym, ◌∙◌, ap, subst}
+use Rattle.std.proofs.Common.{inl, inr, Bool, [], ◌∷◌, refl, sym, subst}
 use Rattle.group_laws.specs.Runs as runs
-use Rattle.group_laws.specs.MemberViews.{View}
 use Rattle.batch_leader.specs.TakenChanges.{MatchBool}
 use Rattle.core_worker.specs.Turns.{TriesLock, FindsPosted}
 use Rattle.core_worker.specs.Turning.Did.{locks}

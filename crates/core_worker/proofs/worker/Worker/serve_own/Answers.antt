@@ -5,7 +5,7 @@ use Rattle.store_image.specs.Facts.{In}
 use Rattle.group_laws.specs.declared.types.Seen.TheVariants.{Slot}
 use Rattle.group_board.specs.Seats.{SeatAt}
 use Rattle.core_worker.specs.Ties.{HoldsAt, StandsAt}
-use Rattle.core_worker.specs.Turns.{InOrderAt, LooksMade}
+use Rattle.core_worker.specs.Turns.{InOrderAt}
 use Rattle.core_worker.specs.Finishing.{FinishesSlot}
 use Rattle.core_worker.specs.Turning.{KeepsTurn, TurnedTo, Tells, at_entry}
 use Rattle.core_worker.specs.Turning.Did.{finishes}

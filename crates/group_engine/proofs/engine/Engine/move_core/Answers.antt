@@ -1,12 +1,9 @@
-use Rattle.std.proofs.Common.{rules, ◌≡◌, ◌/◌, ◌<◌, sym, ◌∙◌, ap, subst, length, arith, slice_set}
+use Rattle.std.proofs.Common.{rules, ◌≡◌, ◌/◌, ◌<◌, sym, ◌∙◌, ap, subst, length, arith}
 use Rattle.group_board.specs.Journals.{state}
-use Rattle.engine_laws.specs.Engine.{Engine}
-use Rattle.engine_laws.specs.Stands.{Origin, Stands}
-use Rattle.engine_laws.specs.Promises.{AnyTurn}
 use Rattle.engine_laws.proofs.Cores.{some_group}
 use Rattle.group_engine.specs.Answers.{HavePlaces, stored}
 use Rattle.group_engine.specs.Passes.{Advances}
-use Rattle.group_engine.specs.Shows.{Seat, Shows}
+use Rattle.group_engine.specs.Shows.{Seat}
 use Rattle.group_engine.specs.Reports.{HasRoomFor}
 use Rattle.group_engine.proofs.Kept.{index_set, at_is, stored_length}
 use Rattle.group_engine.proofs.Winding.{goes_on, winds_on, sure_of}

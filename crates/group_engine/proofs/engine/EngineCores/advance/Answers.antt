@@ -18,8 +18,8 @@ returns-clause-moved g c =
     let there : c.args.core < length en.workers.items = (let low = c.requires.core in let n = c.requires.shows.1.2.worker_count in omega (arith, low, n)) in
     let at = some_there en.workers.items c.args.core there in
     ok_of c.move_core.result _ (λ b is e h.
-        let a = c.move_core.ensures.advances at.0 at.1 h.0 e h.1 h.2 in
-        (a.0, (a.1, a.2, a.3, subst (λ (z : Result _ Memory). OnOk z (NoneWinds W.winds c.move_core.new.self.workers.items)) is (c.move_core.ensures.goes h.3)), subst (λ (z : Result _ Memory). IfOk z (λ d. AnyTurn e c.args.core d a.0)) is (a.4.turn (h.3 c.args.core at.0 at.1))))
+    let a = c.move_core.ensures.advances at.0 at.1 h.0 e h.1 h.2 in
+    (a.0, (a.1, a.2, a.3, subst (λ (z : Result _ Memory). OnOk z (NoneWinds W.winds c.move_core.new.self.workers.items)) is (c.move_core.ensures.goes h.3)), subst (λ (z : Result _ Memory). IfOk z (λ d. AnyTurn e c.args.core d a.0)) is (a.4.turn (h.3 c.args.core at.0 at.1))))
 
 pub returns-clause-failed : goal.returns-clause-failed
 returns-clause-failed g c =

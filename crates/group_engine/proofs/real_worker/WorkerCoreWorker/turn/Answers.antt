@@ -1,5 +1,5 @@
 -- A turn as the engine reads it.
-use Rattle.std.proofs.Common.{◌<◌, ◌≤◌, ◌+◌, refl, sym, ◌∙◌}
+use Rattle.std.proofs.Common.{◌<◌, ◌≤◌, ◌+◌, refl}
 use Rattle.std.specs.Prelude.{IsSomeAnd}
 use Rattle.core_worker.specs.Left.{left, under_way, StartsFirst}
 use Rattle.group_engine.proofs.Working.{moved, idled, if_fair, idle_is, lowers_is, not_more_is}
