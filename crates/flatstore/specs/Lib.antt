@@ -40,6 +40,6 @@ pub use Rattle.pm_region.specs.State
 pub use Rattle.pm_region.specs.Words
 pub use Rattle.recover.specs.Recovering
 pub use Rattle.store_image.specs.Listing
-pub use Rattle.store_image.specs.Parts
+pub use Rattle.store_image.specs.Parts as ImageParts
 pub use Rattle.store_image.specs.Soundness
 pub use Rattle.store_image.specs.Winners
