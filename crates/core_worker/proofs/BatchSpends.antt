@@ -1,14 +1,13 @@
 -- What a batch that is written spends of the core's room.
-use Rattle.std.proofs.Common.{◌≡◌, ◌≢◌, inl, inr, ⊎_elim, ℕ, ◌+◌, ◌-◌, ◌≤◌, ◌<◌, ◌&&◌, not, Bool, true, false, cond, List, [], ◌∷◌, ◌++◌, length, Option, Some, None, refl, sym, ◌∙◌, ap, subst, arith, length-append}
+use Rattle.std.proofs.Common.{◌≡◌, ℕ, ◌+◌, ◌-◌, ◌≤◌, ◌&&◌, not, Bool, true, false, cond, List, [], ◌∷◌, length, Option, Some, None, refl, ◌∙◌, ap, arith, length-append}
 use Rattle.std.specs.Prelude.{is_some}
 use Rattle.log_entry.specs.declared.entry.Entry.{Entry}
 use Rattle.log_entry.specs.declared.entry.Body.{Body}
 use Rattle.log_entry.specs.declared.entry.Body.TheVariants as bodies
 use Rattle.log_entry.specs.Spelling.{words_of}
-use Rattle.chunk_map.specs.declared.layouts.Geometry.{Geometry}
 use Rattle.chunk_map.specs.Layouts.{payload_lines}
 use Rattle.core_log.specs.Chunk.{lines_for}
-use Rattle.core_log.specs.Log.{LogState, room_of, lines_left}
+use Rattle.core_log.specs.Log.{room_of, lines_left}
 use Rattle.chunk_map.specs.Layouts.{numbers}
 use Rattle.core_worker.proofs.Writing.{none_counted}
 use Rattle.lazy_alloc.specs.Sets.{Sets, chunk_is_free, free_chunk_count, free_block_count}

@@ -1,5 +1,5 @@
 -- The cause of a refusal, as whoever runs several workers is told it.
-use Rattle.std.proofs.Common.{◌≡◌, ◌≢◌, ◌⊎◌, inl, inr, ⊎_elim, ℕ, zero, suc, ◌+◌, ◌-◌, ◌/◌, ◌<◌, ◌≤◌, ◌==◌, ◌&&◌, ◌||◌, not, leb, ltb, Bool, true, false, cond, List, [], ◌∷◌, length, map, Option, Some, None, refl, sym, ◌∙◌, ap, subst, arith}
+use Rattle.std.proofs.Common.{◌≡◌, ◌≢◌, ◌⊎◌, inl, inr, ⊎_elim, ℕ, zero, suc, ◌+◌, ◌-◌, ◌/◌, ◌<◌, ◌≤◌, ◌==◌, ◌&&◌, ◌||◌, not, leb, ltb, Bool, true, false, cond, List, [], ◌∷◌, length, Option, Some, None, refl, sym, ◌∙◌, ap, arith}
 use Rattle.std.specs.Prelude.{find, unwrap_or}
 use Rattle.std.specs.List.{AllByRecursion}
 use Rattle.std.proofs.lemmas.Bool.{ltb-true, ltb-false, leb-true, le-leb, and_parts, and_from, eqb-true, cases_eq, cases_lt}
@@ -18,10 +18,9 @@ use Rattle.core_log.specs.Log.{room_of}
 use Rattle.core_room.specs.Lengths.{lines_needed, class_for}
 use Rattle.core_room.specs.RoomRule.{pledged, lacks_room, lacks_block, counts_at}
 use Rattle.core_room.specs.declared.supply.Supply.{Supply}
-use Rattle.core_room.specs.declared.types.Counts.{Counts}
 use Rattle.core_room.specs.declared.types.Shortage.{Shortage}
 use Rattle.core_room.specs.declared.types.Shortage.TheVariants as causes
-use Rattle.engine_laws.specs.FreeStock.{Stock, IsAtLeast, LacksBlock, LacksRoom}
+use Rattle.engine_laws.specs.FreeStock.{Stock, IsAtLeast, LacksRoom}
 use Rattle.engine_laws.specs.RefusalCauses.{raised, HasCause, HaveCauses}
 use Rattle.core_worker.specs.declared.worker.Worker.{Worker}
 use Rattle.core_worker.specs.Supplies.{supply_of, lacks, why, free_blocks}

@@ -41,7 +41,7 @@ use Rattle.core_worker.specs.Supplies.{room_for}
 use Rattle.core_worker.specs.WorkerMoves.{lines_in, lines_free, awaits_chunk, stock_of, placed_for, hands_of, WorkerMoves}
 use Rattle.core_worker.proofs.LeadTies.{led_here}
 use Rattle.lazy_alloc.specs.Sets.{free_chunk_count, free_block_count}
-use Rattle.core_worker.proofs.CauseFacts.{lines_low, lines_open, lines_few, lines_same}
+use Rattle.core_worker.proofs.CauseFacts.{lines_low, lines_open, lines_same}
 use Rattle.core_worker.proofs.StockFacts.{still_spend, stock_small}
 use Rattle.core_worker.proofs.QuietMoves.{quiet_moves}
 

@@ -1,7 +1,7 @@
 -- What the parts of a call do to what a worker has free.
-use Rattle.std.proofs.Common.{◌≡◌, ◌≢◌, ◌⊎◌, inl, inr, ⊎_elim, ℕ, ◌+◌, ◌-◌, ◌*◌, ◌/◌, ◌^◌, ◌<◌, ◌≤◌, ◌==◌, ◌&&◌, leb, ltb, Bool, true, false, cond, List, [], ◌∷◌, ◌++◌, length, Option, Some, None, refl, sym, ◌∙◌, ap, subst, arith, length-append}
+use Rattle.std.proofs.Common.{◌≡◌, inl, ⊎_elim, ℕ, ◌+◌, ◌-◌, ◌*◌, ◌/◌, ◌^◌, ◌<◌, ◌≤◌, ◌&&◌, leb, ltb, Bool, true, false, cond, List, [], ◌∷◌, length, Option, Some, None, refl, sym, ◌∙◌, ap, subst, arith, length-append}
 use Rattle.std.specs.Prelude.{is_some}
-use Rattle.std.proofs.lemmas.Bool.{ltb-false, leb-true, le-leb, lt-leb, le-ltb, and_parts, and_from, eqb-true, eq-eqb, ne_eqb, cases_eq, cases_lt}
+use Rattle.std.proofs.lemmas.Bool.{ltb-false, leb-true, le-leb, lt-leb, le-ltb, and_parts, and_from, eq-eqb, ne_eqb, cases_eq}
 use Rattle.std.proofs.lemmas.List.Sums.{sum_by-append}
 use Rattle.fs_model.specs.declared.model.Request.{Request}
 use Rattle.fs_model.specs.declared.model.Request.TheVariants.{Put, Get, Delete}
@@ -12,7 +12,7 @@ use Rattle.log_entry.specs.declared.entry.Body.TheVariants as bodies
 use Rattle.log_entry.specs.Spelling.{HasSpelling, words_of}
 use Rattle.chunk_map.specs.declared.layout_sizes.TheConstants.{GREATEST_CLASS}
 use Rattle.chunk_map.specs.declared.layouts.Geometry.{Geometry}
-use Rattle.chunk_map.specs.Layouts.{has_class, is_class, numbers, payload_lines}
+use Rattle.chunk_map.specs.Layouts.{has_class, is_class, payload_lines}
 use Rattle.core_log.specs.Chunk.{lines_for}
 use Rattle.core_room.specs.Lengths.{class_for, lines_needed}
 use Rattle.lazy_alloc.specs.Sets.{Sets, AreSets, Takes, TakesBlock, Cuts, class_at, chunk_class, part_unit, free_chunk_count, free_block_count, is_free_block, blocks_in}
@@ -23,7 +23,7 @@ use Rattle.store_image.specs.Parts.{chunk_units}
 use Rattle.batch_leader.specs.declared.taken.Taken.{Taken}
 use Rattle.batch_leader.specs.TakenChanges.{entries_in, spelled}
 use Rattle.batch_leader.specs.Rounds.{words_in}
-use Rattle.engine_laws.specs.FreeStock.{Stock, IsAtLeast, is_put_in}
+use Rattle.engine_laws.specs.FreeStock.{Stock, IsAtLeast}
 use Rattle.engine_laws.specs.StockChanges.{lines_in, one_if, is_cut_for, puts_in, Spends, lines_of, parts_of}
 use Rattle.core_log.specs.Log.{LogState, lines_left, room_of}
 use Rattle.core_room.specs.declared.supply.Supply.{Supply}
