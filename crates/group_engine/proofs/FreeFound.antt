@@ -1,5 +1,5 @@
 -- A worker that is opened on what recovery found has the chunks free that the words found say are free.
-use Rattle.std.proofs.Common.{◌≡◌, ℕ, zero, suc, ◌+◌, ◌<◌, ◌≤◌, List, [], ◌∷◌, Bool, cond, refl, sym, ◌∙◌, ap, subst, arith}
+use Rattle.std.proofs.Common.{◌≡◌, ℕ, zero, suc, ◌+◌, ◌<◌, Bool, cond, refl, ◌∙◌, ap, arith}
 use Rattle.std.specs.List.{count_by}
 use Rattle.std.proofs.lemmas.List.Sums.{sum_by-cons}
 use Rattle.chunk_map.specs.declared.layouts.Geometry.{Geometry}
@@ -10,7 +10,7 @@ use Rattle.recover.specs.declared.types.CoreStart.{CoreStart}
 use Rattle.recover.specs.Starts.{IsAllocatorOf}
 use Rattle.group_laws.specs.Places.{Place, core_of}
 use Rattle.headline.specs.Ample.{free_chunks}
-use Rattle.engine_laws.specs.FreeStock.{Stock, IsAtLeast}
+use Rattle.engine_laws.specs.FreeStock.{IsAtLeast}
 use Rattle.core_worker.specs.declared.worker.Worker.{Worker}
 use Rattle.core_worker.specs.Openings.{IsNew, IsStartAt}
 use Rattle.core_worker.specs.WorkerMoves.{stock_of}
