@@ -1,1 +1,3 @@
 mod WorkMoves
+mod Doubts
+mod WorkChains

@@ -1,1 +1,2 @@
 pub mod WorkStates
+pub mod WorkLaws

@@ -3,5 +3,6 @@
 
 pub mod core_job;
 pub mod crew;
+pub mod work_rules;
 #[cfg(test)]
 mod tests;
