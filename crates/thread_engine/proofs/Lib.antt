@@ -1,3 +1,4 @@
 mod WorkMoves
 mod Doubts
 mod WorkChains
+mod Rested

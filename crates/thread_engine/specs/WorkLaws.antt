@@ -1,9 +1,9 @@
 -- What a chain of a core's moves says of its requests, its answers and its keys.
-use Rattle.std.specs.Prelude.{◌≡◌, ℕ, List, [], ◌∷◌, ◌++◌, map, true, Option, Some, None}
+use Rattle.std.specs.Prelude.{◌≡◌, ℕ, List, [], ◌∷◌, ◌++◌, map, true, false, Option, Some, None}
 use Rattle.fs_model.specs.declared.model.Request.{Request}
 use Rattle.fs_model.specs.declared.model.Reply.{Reply}
 use Rattle.fs_model.specs.Cells.{key_of}
-use Rattle.pm_region.specs.State.{IsTelling}
+use Rattle.pm_region.specs.State.{IsTelling, cell_now}
 use Rattle.log_entry.specs.declared.entry.Body.{Body}
 use Rattle.log_entry.specs.declared.entry.Body.TheVariants as bodies
 use Rattle.log_entry.specs.declared.entry.Entry.{Entry}
@@ -13,6 +13,7 @@ use Rattle.group_laws.specs.Places.{owner}
 use Rattle.group_laws.specs.MemberViews.{View}
 use Rattle.group_board.specs.Seats.{SeatAt}
 use Rattle.engine_laws.specs.WorkerMoves.{Hands, Fixed, asked, replied, fixed_of, requests_for, line_in}
+use Rattle.licence.specs.Licence.{Licensed}
 use Rattle.engine_laws.specs.KeyLaw.{KeyIs, key_view}
 use Rattle.core_worker.specs.Answering.{AddsAnswers}
 use Rattle.core_worker.specs.Beginning.{answers_of}
@@ -49,3 +50,15 @@ pub record WorksOff (seat : SeatAt) (a b : WorkState) : Type 0 where
       → KeyIs start (key_view a.view k) ((hands_at a).place k) a.worker.stopped xs
       → KeyIs start (key_view b.view k) ((hands_at b).place k) b.worker.stopped (xs ++ map replied (fixed_of k fixed))
   pub told : IsTelling b.region → IsTelling a.region
+
+-- A core that has ended leads nothing and has taken nothing, and nothing is in flight but after a fault. Each image of its part is licensed by its view. Until it winds down nothing of an own key is under way.
+pub record HasRested (seat : SeatAt) (x : WorkState) : Type 0 where
+  pub holds : x.view.holds ≡ false
+  pub taken : (a s : ℕ) → x.view.taken a s ≡ None
+  pub flying : x.view.broken ≡ false → x.view.flying ≡ []
+  pub licensed : IsTelling x.region → Licensed seat.place seat.number x.view (cell_now x.region)
+  pub broken : x.view.broken ≡ true → x.worker.stopped ≡ true
+  pub slots : (k s : ℕ) (e : Entry) → x.view.pending k ≡ Some (record { entry = e; slot = Some s }) → ⊥
+  pub places : x.worker.winds_down ≡ false → (k : ℕ) → (hands_at x).place k ≡ None
+  pub waits : x.worker.winds_down ≡ false → (k : ℕ) → (hands_at x).waits k ≡ []
+  pub queue : x.worker.winds_down ≡ false → x.queue ≡ []

@@ -1,8 +1,8 @@
 // The laws of a core's work.
 ghost use Rattle.std.specs.Prelude.{Bool};
 ghost use Rattle.group_board.specs.Seats.{SeatAt};
-ghost use Rattle.thread_engine.specs.WorkStates.{WorkState, IsAtWork, Works};
-ghost use Rattle.thread_engine.specs.WorkLaws.{KeepsDoubts, WorksOff};
+ghost use Rattle.thread_engine.specs.WorkStates.{WorkState, IsAtWork, Works, HasEnded};
+ghost use Rattle.thread_engine.specs.WorkLaws.{KeepsDoubts, WorksOff, HasRested};
 
 use engine_laws::engine_rules;
 
@@ -15,3 +15,9 @@ pub fn every_chain()
 {
     engine_rules::every_key();
 }
+
+/// A core that has ended leads nothing, has nothing posted and nothing taken, and its part is licensed by its view. Unless
+/// there was no memory, each request that it was given is answered.
+pub fn every_end()
+    ensures { (seat : SeatAt) (x : WorkState) → IsAtWork seat x → HasEnded x → HasRested seat x }
+{}
