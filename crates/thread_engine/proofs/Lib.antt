@@ -2,3 +2,4 @@ mod WorkMoves
 mod Doubts
 mod WorkChains
 mod Rested
+mod PieceStands

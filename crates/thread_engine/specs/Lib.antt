@@ -1,2 +1,3 @@
 pub mod WorkStates
 pub mod WorkLaws
+pub mod Pieces
