@@ -3,3 +3,4 @@ mod Doubts
 mod WorkChains
 mod Rested
 mod PieceStands
+mod KeyViews

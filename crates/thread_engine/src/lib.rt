@@ -3,6 +3,7 @@
 
 pub mod core_job;
 pub mod crew;
-pub mod work_rules;
+pub mod table_end;
 #[cfg(test)]
 mod tests;
+pub mod work_rules;
