@@ -1,4 +1,4 @@
-"""Reads a region as docs/FORMAT.md describes it: its first broken rule, or its live pairs.
+"""Reads a region as docs/FORMAT.md describes it: its first broken rule, or its live pairs and its entries.
 
 It shares no code with the program, and goes the plain way: each rule by itself, over all entries. `tests/hostile-bytes`
 compares the program with it.
@@ -55,8 +55,9 @@ class Layout:
 
 
 class Entry:
-    def __init__(self, part, chunk, key, version, body):
-        self.part, self.chunk, self.key, self.version, self.body = part, chunk, key, version, body
+    def __init__(self, part, chunk, place, key, version, body):
+        self.part, self.chunk, self.place = part, chunk, place
+        self.key, self.version, self.body = key, version, body
 
     def contradicts(self, other):
         same_name = (self.key, self.version) == (other.key, other.version)
@@ -91,7 +92,7 @@ def entry_in(words):
 
 
 def payload_entries(payload):
-    """The entries of a payload one after another, and at last none where a place breaks the rules of batches."""
+    """The entries of a payload with their places, and at last none where a place breaks the rules of batches."""
     place = 0
     while place < len(payload):
         if payload[place] == 0:
@@ -105,7 +106,7 @@ def payload_entries(payload):
         if found is None:
             yield None
             return
-        yield found[:3]
+        yield place, *found[:3]
         place += found[3]
 
 
@@ -142,7 +143,7 @@ class Region:
         for found in payload_entries(payload):
             if found is None:
                 raise Broken(6, part, chunk)
-            if self.layout.owner(found[0]) // self.layout.group != part // self.layout.group:
+            if self.layout.owner(found[1]) // self.layout.group != part // self.layout.group:
                 raise Broken(7, part, chunk)
             yield Entry(part, chunk, *found)
 
@@ -198,8 +199,9 @@ def judge_blocks(region, winners):
         taken.add(unit)
 
 
-def pairs_of(data):
-    """The live pairs of a region by rising key. Raises `Broken` where it breaks a rule."""
+def read(data):
+    """The live pairs of a region by rising key, and its entries by part, chunk and place. Raises `Broken` where it breaks
+    a rule."""
     region = Region(data)
     entries = region.entries()
     for at, entry in enumerate(entries):
@@ -208,8 +210,23 @@ def pairs_of(data):
     winners = winners_of(entries)
     judge_blocks(region, winners)
     values = {"bytes": lambda value: value, "block": region.value_at}
-    return [(winner.key, values[winner.body[0]](winner.body[1])) for winner in winners if winner.body[0] != "none"]
+    pairs = [(winner.key, values[winner.body[0]](winner.body[1])) for winner in winners if winner.body[0] != "none"]
+    return pairs, entries
 
 
-def text_of(pairs):
+def dump_of(pairs):
     return b"".join(b"%d %s\n" % pair for pair in pairs)
+
+
+def body_of(body):
+    if body[0] == "bytes":
+        return f"embedded {len(body[1])}"
+    return f"block {body[1]}" if body[0] == "block" else "delete"
+
+
+def log_of(entries):
+    lines = (
+        f"core {entry.part} chunk {entry.chunk} place {entry.place} key {entry.key} version {entry.version} {body_of(entry.body)}\n"
+        for entry in entries
+    )
+    return "".join(lines).encode()

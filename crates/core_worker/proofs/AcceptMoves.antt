@@ -1,5 +1,5 @@
 -- Accepting a request is a whole move to whoever runs several workers.
-use Rattle.std.proofs.Common.{◌≡◌, ◌≢◌, inl, inr, ⊎_elim, ℕ, ◌==◌, Bool, true, false, cond, List, [], ◌∷◌, ◌++◌, map, Option, Some, None, Result, Ok, Err, OnOk, OnErr, refl, sym, ◌∙◌, ap, subst}
+use Rattle.std.proofs.Common.{◌≡◌, ◌≢◌, inl, inr, ⊎_elim, ℕ, ◌==◌, Bool, true, false, cond, List, [], ◌∷◌, ◌++◌, map, Option, Some, None, Result, Ok, Err, OnOk, OnErr, refl, sym, ◌∙◌, ap, subst, arith}
 use Rattle.std.specs.Prelude.{Vec, option_to_list}
 use Rattle.std.specs.Global.{Global}
 use Rattle.std.specs.List.{filter}
@@ -37,7 +37,11 @@ use Rattle.core_worker.proofs.Given.{said_same, given_by, adds_none, adds_one, a
 use Rattle.core_worker.specs.Beginning.{answers_of, answer_with, OnlyBegins, IsAnswered, IsStaged, GoesOn, BeginsBy, BeginsAs, Begins}
 use Rattle.core_worker.specs.Ties.{Tie}
 use Rattle.core_worker.specs.Accepting.{IsAsBefore, IsTied, StaysTied, Accepts, AcceptsByEachView, AcceptsAs, AcceptMoves}
-use Rattle.core_worker.specs.WorkerMoves.{Fixed, placed_in, placed_for, asked_by, hands_of, requests_for, fixed_of, AnswersKey}
+use Rattle.core_worker.specs.WorkerMoves.{Fixed, replied, placed_in, placed_for, asked_by, stock_of, hands_of, requests_for, fixed_of, AnswersKey}
+use Rattle.engine_laws.specs.FreeStock.{Stock, LacksRoom}
+use Rattle.engine_laws.specs.RefusalCauses.{HasCause, Refuses}
+use Rattle.engine_laws.proofs.CauseLaws.{raised_low, quiet_refuses}
+use Rattle.core_worker.proofs.CauseFacts.{stopped_causeless, answer_causeless, answer_not_full, why_cause, why_full, stock_same}
 use Rattle.core_worker.proofs.HandKeys.{none_for}
 use Rattle.core_worker.proofs.HandPlaces.{held_at, held_beside}
 use Rattle.core_worker.proofs.Pointers.{free_is}
@@ -111,6 +115,7 @@ module _ (s : State) (w b : Worker) (n : ℕ) (r : Request) (works : w.winds_dow
     stopped : b.stopped ≡ w.stopped
     keys : (k : ℕ) → owner x.place k ≡ x.number → AnswersKey x.view x.view (hands_of x.view w) (hands_of x.view b) k (requests_for k ((n, r) ∷ [])) (fixed_of k fs)
     own : (y : Fixed) → In y fs → owner x.place (key_of y.request) ≡ x.number
+    refuses : (k : ℕ) → owner x.place k ≡ x.number → Refuses x.place.layout (stock_of w) (x.view.last k) (x.view.last k) (map replied (fixed_of k fs))
 
   hand_then : b.in_hand ≡ w.in_hand → b.in_hand ≡ None
   hand_then e = e ∙ T.order.hand works
@@ -137,6 +142,7 @@ module _ (s : State) (w b : Worker) (n : ℕ) (r : Request) (works : w.winds_dow
         (still_key x.view (hands_of x.view w) (hands_of x.view b) k (place_same k) (waits_after hand k ∙ ap (map asked_by) (adds.others k ne) ∙ sym (waits_before k))))
         (cases_eq k (key_of r));
     own = λ y i. absurd i;
+    refuses = λ k own. quiet_refuses x.place.layout (stock_of w) (x.view.last k) (x.view.last k) (omega arith);
   } where
     place_same : (k : ℕ) → placed_for x.view b.places.items k ≡ placed_for x.view w.places.items k
     place_same k = ap (λ ps. placed_for x.view ps.items k) places
@@ -150,8 +156,9 @@ module _ (s : State) (w b : Worker) (n : ℕ) (r : Request) (works : w.winds_dow
 
     -- it is answered
     fixes_answered : (a given : Reply) (cause : Option Shortage) → IsSaid (IsTelling s) r a given → IsCause a cause → answers_of b ≡ answers_of w ++ answer_with n given cause ∷ [] → b.stopped ≡ w.stopped → b.places.items ≡ w.places.items → MayReply r (x.view.cell (key_of r)) false a → cell_left r a (x.view.cell (key_of r)) ≡ x.view.cell (key_of r)
-        → (w.stopped ≡ true → a ≡ replies.Stopped) → (a ≡ replies.Stopped → w.stopped ≡ true) → Fixes (record { number = n; request = r; reply = a; refusal = cause } ∷ [])
-    fixes_answered a given cause said because answers stopped places may left by_stop stops = record {
+        → (w.stopped ≡ true → a ≡ replies.Stopped) → (a ≡ replies.Stopped → w.stopped ≡ true)
+        → HasCause x.place.layout (x.view.last (key_of r)) r a → (a ≡ replies.Full → LacksRoom x.place.layout (stock_of w) r) → Fixes (record { number = n; request = r; reply = a; refusal = cause } ∷ [])
+    fixes_answered a given cause said because answers stopped places may left by_stop stops has full = record {
       answers = adds_one (IsTelling s) (answers_of w) (answers_of b) (fixed_to n r a cause) (answer_with n given cause) answers (given_by (IsTelling s) n r a given cause said because);
       stopped = stopped;
       keys = λ k own. ⊎_elim
@@ -162,6 +169,12 @@ module _ (s : State) (w b : Worker) (n : ℕ) (r : Request) (works : w.winds_dow
           (still_key x.view (hands_of x.view w) (hands_of x.view b) k (place_same k) (waits_same hand queue k)))
           (cases_eq k (key_of r));
       own = own_by;
+      refuses = λ k own. ⊎_elim
+          (λ same. subst (λ j. Refuses x.place.layout (stock_of w) (x.view.last j) (x.view.last j) (map replied (fixed_of j (fixed_to n r a cause ∷ [])))) (sym same)
+          (subst (λ (fs : List Fixed). Refuses x.place.layout (stock_of w) (x.view.last (key_of r)) (x.view.last (key_of r)) (map replied fs)) (sym (one_fixed (fixed_to n r a cause) (key_of r) refl))
+          (record { causes = (has, tt); full = (full, tt); last_now = raised_low a (x.view.last (key_of r)) })))
+          (λ ne. subst (λ (fs : List Fixed). Refuses x.place.layout (stock_of w) (x.view.last k) (x.view.last k) (map replied fs)) (sym (no_fixed (fixed_to n r a cause) k (λ e. ne (sym e)))) (quiet_refuses x.place.layout (stock_of w) (x.view.last k) (x.view.last k) (omega arith)))
+          (cases_eq k (key_of r));
     } where
       place_same : (k : ℕ) → placed_for x.view b.places.items k ≡ placed_for x.view w.places.items k
       place_same k = ap (λ ps. placed_for x.view ps k) places
@@ -188,6 +201,7 @@ module _ (s : State) (w b : Worker) (n : ℕ) (r : Request) (works : w.winds_dow
           (waits_same hand queue k)))
           (cases_eq k (key_of r));
       own = λ y i. absurd i;
+      refuses = λ k own. quiet_refuses x.place.layout (stock_of w) (x.view.last k) (x.view.last k) (omega arith);
     } where
       here : Replaces w.places.items b.places.items S.slot (Staged n S.entry S.value)
       here = subst (λ (ps : Vec places.Place Global). Replaces ps.items b.places.items S.slot (Staged n S.entry S.value)) same_places S.placed
@@ -212,25 +226,38 @@ module _ (s : State) (w b : Worker) (n : ℕ) (r : Request) (works : w.winds_dow
     stopped_before : w.stopped ≡ u.stopped
     stopped_before = sym (ap (λ (y : Worker). y.stopped) B.rest)
 
-    answered : (a given : Reply) (cause : Option Shortage) → IsSaid (IsTelling s) r a given → IsCause a cause → IsAnswered u b (answer_with n given cause) → MayReply r cell false a → cell_left r a cell ≡ cell → (w.stopped ≡ true → a ≡ replies.Stopped) → (a ≡ replies.Stopped → w.stopped ≡ true) → (fs : List Fixed) × Fixes fs
-    answered a given cause said because is may left by_stop stops = (
+    -- as much is free, and the record of the key has its last version
+    stock_is : stock_of u ≡ stock_of w
+    stock_is = stock_same w u (ap (λ (y : Worker). y.log) B.rest) (ap (λ (y : Worker). y.allocator) B.rest)
+
+    layout_is : u.layout ≡ x.place.layout
+    layout_is = ap (λ (y : Worker). y.layout) B.rest ∙ T.holds.layout
+
+    last_is : u.stopped ≡ false → last_of (known_at u.index (key_of r)) ≡ x.view.last (key_of r)
+    last_is runs = ap last_of (B.records (key_of r)) ∙ sym (T.holds.keys (key_of r) T.own (inl (stopped_before ∙ runs))).last
+
+    answered : (a given : Reply) (cause : Option Shortage) → IsSaid (IsTelling s) r a given → IsCause a cause → IsAnswered u b (answer_with n given cause) → MayReply r cell false a → cell_left r a cell ≡ cell → (w.stopped ≡ true → a ≡ replies.Stopped) → (a ≡ replies.Stopped → w.stopped ≡ true)
+        → HasCause x.place.layout (x.view.last (key_of r)) r a → (a ≡ replies.Full → LacksRoom x.place.layout (stock_of w) r) → (fs : List Fixed) × Fixes fs
+    answered a given cause said because is may left by_stop stops has full = (
       record { number = n; request = r; reply = a; refusal = cause } ∷ [],
-      fixes_answered idle in_hand queue a given cause said because (is.answers ∙ ap (λ (xs : List Answer). xs ++ answer_with n given cause ∷ []) B.answers) halted (is.places ∙ ap (λ (y : Worker). y.places.items) B.rest) may left by_stop stops,
+      fixes_answered idle in_hand queue a given cause said because (is.answers ∙ ap (λ (xs : List Answer). xs ++ answer_with n given cause ∷ []) B.answers) halted (is.places ∙ ap (λ (y : Worker). y.places.items) B.rest) may left by_stop stops has full,
     )
 
     runs_false : (d : Bool) → u.stopped ≡ d → d ≡ false → (a : Reply) → w.stopped ≡ true → a ≡ replies.Stopped
     runs_false d e f a stopped = absurd (let both : true ≡ false = sym stopped ∙ stopped_before ∙ e ∙ f in cc both)
 
     goes_on : (c : Bool) → u.stopped ≡ false → is_change r cell ≡ c → GoesOn (IsTelling s) c u b cell n r → (fs : List Fixed) × Fixes fs
-    goes_on false runs e is = answered (answer_to r cell) is.0 None is.1 (answer_untold r cell e) is.2 (inl refl) (still_left r cell e) (runs_false false runs refl (answer_to r cell)) (λ same. absurd (still_runs r cell same))
+    goes_on false runs e is = answered (answer_to r cell) is.0 None is.1 (answer_untold r cell e) is.2 (inl refl) (still_left r cell e) (runs_false false runs refl (answer_to r cell)) (λ same. absurd (still_runs r cell same)) (answer_causeless x.place.layout (x.view.last (key_of r)) r cell e) (λ full. absurd (answer_not_full r cell e full))
     goes_on true runs e is = ([], fixes_staged idle in_hand queue (is.answers ∙ B.answers) halted (stopped_before ∙ runs) u (ap (λ (y : Worker). y.places) B.rest) is)
 
     by_cause : (o : Option Shortage) → u.stopped ≡ false → why u.layout (supply_of u) u.allocator (last_of (known_at u.index (key_of r))) cell r ≡ o → BeginsBy (IsTelling s) o u b cell n r → (fs : List Fixed) × Fixes fs
     by_cause None runs e is = goes_on (is_change r cell) runs refl is
     by_cause (Some c) runs e is = answered (reply_to c) (reply_to c) (Some c) (said_same (IsTelling s) r (reply_to c)) refl is (may_refuse_for u.layout (supply_of u) u.allocator (last_of (known_at u.index (key_of r))) cell r c e) (left_by_refusal r cell c) (runs_false false runs refl (reply_to c)) (λ same. absurd (not_stopped c same))
+        (subst (λ (l : Geometry). HasCause l (x.view.last (key_of r)) r (reply_to c)) layout_is (subst (λ n. HasCause u.layout n r (reply_to c)) (last_is runs) (why_cause u.layout (supply_of u) u.allocator (last_of (known_at u.index (key_of r))) cell r c e)))
+        (λ full. subst (λ (t : Stock). LacksRoom x.place.layout t r) stock_is (subst (λ (l : Geometry). LacksRoom l (stock_of u) r) layout_is (why_full u.layout (supply_of u) u.allocator (last_of (known_at u.index (key_of r))) cell r c e full)))
 
     by_stop : (d : Bool) → u.stopped ≡ d → BeginsAs (IsTelling s) d u b cell n r → (fs : List Fixed) × Fixes fs
-    by_stop true e is = answered replies.Stopped replies.Stopped None (said_same (IsTelling s) r replies.Stopped) refl is (inr refl) refl (λ s. refl) (λ s. stopped_before ∙ e)
+    by_stop true e is = answered replies.Stopped replies.Stopped None (said_same (IsTelling s) r replies.Stopped) refl is (inr refl) refl (λ s. refl) (λ s. stopped_before ∙ e) (stopped_causeless x.place.layout (x.view.last (key_of r)) r replies.Stopped refl) (λ full. absurd (cc full))
     by_stop false e is = by_cause (why u.layout (supply_of u) u.allocator (last_of (known_at u.index (key_of r))) cell r) e refl is
 
   fixes : Accepts (IsTelling s) x.view w b n r → (fs : List Fixed) × Fixes fs
@@ -247,7 +274,7 @@ module _ (s : State) (w b : Worker) (n : ℕ) (r : Request) (works : w.winds_dow
   accepts_as A = let F = fixes A in record {
     fixed = F.0;
     answers = F.1.answers;
-    moves = λ a. moves_here x.place x.number s a x.view w b ((n, r) ∷ []) F.0 N.holds N.stands.licensed F.1.stopped F.1.own F.1.keys;
+    moves = λ a. moves_here x.place x.number s a x.view w b ((n, r) ∷ []) F.0 N.holds N.stands.licensed F.1.stopped F.1.own F.1.keys F.1.refuses;
   }
 
 -- a request was accepted
@@ -262,7 +289,8 @@ back_moves s w b k B stays = λ x T. record {
   moves = λ a. let N = stays x T in
       moves_here x.place x.number s a x.view w b [] [] N.holds N.stands.licensed (ap (λ (y : Worker). y.stopped) B.rest) (λ y i. absurd i)
       (λ j own. still_key x.view (hands_of x.view w) (hands_of x.view b) j (ap (λ (y : Worker). placed_for x.view y.places.items j) B.rest)
-      (ap (λ (y : Worker). map asked_by (filter (λ h. key_of h.request == j) (option_to_list y.in_hand) ++ waiting y.queue j)) B.rest));
+      (ap (λ (y : Worker). map asked_by (filter (λ h. key_of h.request == j) (option_to_list y.in_hand) ++ waiting y.queue j)) B.rest))
+      (λ j own. quiet_refuses x.place.layout (stock_of w) (x.view.last j) (x.view.last j) (omega arith));
 }
 
 pub ok_accepts : {X Y : Type 0} (o : Result X Y) (s : State) (w b : Worker) (n : ℕ) (r : Request) → w.winds_down ≡ false → StaysTied s w b (key_of r) → OnOk o (AcceptsByEachView s w b n r) → OnOk o (AcceptMoves s w b (key_of r) ((n, r) ∷ []))

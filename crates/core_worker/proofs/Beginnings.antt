@@ -82,6 +82,7 @@ answered_holds p m v w u e H = subst (λ (x : Worker). HoldsAside p m v x) (sym 
   lost = H.lost;
   cleaning = H.cleaning;
   remembers = H.remembers;
+  chunks = H.chunks;
 }) where
   by : (l : Leading) → HasSpaceFor (record w { queue = [] }) l → HasSpaceFor (record w { queue = []; answers = u.answers }) l
   by (leads.Nothing b) h = tt
@@ -141,6 +142,7 @@ aside_of p m v w H = record {
   lost = H.lost;
   cleaning = H.cleaning;
   remembers = H.remembers;
+  chunks = H.chunks;
 }
 
 pub of_aside : (p : Place) (m : ℕ) (v : View) (w : Worker) → HoldsAside p m v w → ((k : ℕ) → is_busy w.places.items k ≡ true → length (waiting w.queue k) < room_at w.index k) → (w.winds_down ≡ false → (k : ℕ) → is_busy w.places.items k ≡ false → waiting w.queue k ≡ []) → Holds p m v w
@@ -169,10 +171,11 @@ of_aside p m v w H admitted waits = record {
   lost = H.lost;
   cleaning = H.cleaning;
   remembers = H.remembers;
+  chunks = H.chunks;
 }
 
 -- more room for records and answers
-pub prepared_holds : (p : Place) (m : ℕ) (v : View) (w u : Worker) → u ≡ record w { answers = u.answers; index = u.index } → ((k : ℕ) → known_at u.index k ≡ known_at w.index k) → ((k : ℕ) → room_at w.index k ≤ room_at u.index k) → HoldsAside p m v w → HoldsAside p m v u
+pub prepared_holds : (p : Place) (m : ℕ) (v : View) (w u : Worker) → u ≡ record w { answers = u.answers; index = u.index; standing = u.standing } → ((k : ℕ) → known_at u.index k ≡ known_at w.index k) → ((k : ℕ) → room_at w.index k ≤ room_at u.index k) → HoldsAside p m v w → HoldsAside p m v u
 prepared_holds p m v w u e same more H = subst (λ (x : Worker). HoldsAside p m v x) (sym e) (record {
   place = H.place;
   member = H.member;
@@ -198,8 +201,9 @@ prepared_holds p m v w u e same more H = subst (λ (x : Worker). HoldsAside p m 
   lost = H.lost;
   cleaning = H.cleaning;
   remembers = λ r k own idle. ap is_forgettable (same k) ∙ H.remembers r k own idle;
+  chunks = H.chunks;
 }) where
-  by : (l : Leading) → HasSpaceFor (record w { queue = [] }) l → HasSpaceFor (record w { queue = []; answers = u.answers; index = u.index }) l
+  by : (l : Leading) → HasSpaceFor (record w { queue = [] }) l → HasSpaceFor (record w { queue = []; answers = u.answers; index = u.index; standing = u.standing }) l
   by (leads.Nothing b) h = tt
   by (leads.Collecting c) h = h
   by (leads.Batch b) h = h
@@ -207,7 +211,7 @@ prepared_holds p m v w u e same more H = subst (λ (x : Worker). HoldsAside p m 
   by (leads.Failed x) h = tt
   by leads.Between h = tt
 
-pub prepared_stands : (s : State) (p : Place) (m : ℕ) (v : View) (w u : Worker) → u ≡ record w { answers = u.answers; index = u.index } → Stands s p m v w → Stands s p m v u
+pub prepared_stands : (s : State) (p : Place) (m : ℕ) (v : View) (w u : Worker) → u ≡ record w { answers = u.answers; index = u.index; standing = u.standing } → Stands s p m v w → Stands s p m v u
 prepared_stands s p m v w u e S = subst (λ (x : Worker). Stands s p m v x) (sym e) (record { lies = S.lies; licensed = S.licensed; landed = S.landed; log = S.log; free = S.free; due = S.due; cut = S.cut })
 
 pub staged_keeps : (w u : Worker) (n : ℕ) (r : Request) → IsStaged w u n r → (k : ℕ) → is_busy w.places.items k ≡ true → is_busy u.places.items k ≡ true
@@ -222,16 +226,16 @@ answered_busy w u e k busy = ap (λ (x : Worker). is_busy x.places.items k) e �
 -- the ties after memory was taken for a request
 pub before_holds : (p : Place) (m : ℕ) (v : View) (w u : Worker) → IsAsBefore w u → Holds p m v w → Holds p m v u
 before_holds p m v w u B H =
-    let x = record w { answers = u.answers; index = u.index } in
-    subst (λ (y : Worker). Holds p m v y) (sym B.rest) (of_aside p m v (record w { answers = u.answers; index = u.index }) (prepared_holds p m v w (record w { answers = u.answers; index = u.index }) refl B.records B.room (aside_of p m v w H))
+    let x = record w { answers = u.answers; index = u.index; standing = u.standing } in
+    subst (λ (y : Worker). Holds p m v y) (sym B.rest) (of_aside p m v (record w { answers = u.answers; index = u.index; standing = u.standing }) (prepared_holds p m v w (record w { answers = u.answers; index = u.index; standing = u.standing }) refl B.records B.room (aside_of p m v w H))
     (λ k busy. (let a = H.admitted k busy in let b = B.room k in omega (arith, a, b))) H.waits)
 
 -- after a request is held
 pub held_holds : (p : Place) (m : ℕ) (v : View) (w u : Worker) (q : List Held) (h : Held) → IsAsBefore w u → room_at u.index (key_of h.request) ≡ room_at w.index (key_of h.request) + 1 → is_busy w.places.items (key_of h.request) ≡ true → AddsLast u.queue q h → Holds p m v w → Holds p m v (record u { queue = q })
 held_holds p m v w u q h B more busy adds H =
-    let x = record w { answers = u.answers; index = u.index } in
+    let x = record w { answers = u.answers; index = u.index; standing = u.standing } in
     let A : AddsLast w.queue q h = subst (λ (y : Worker). AddsLast y.queue q h) B.rest adds in
-    subst (λ (y : Worker). Holds p m v (record y { queue = q })) (sym B.rest) (of_aside p m v (record w { answers = u.answers; index = u.index; queue = q }) (prepared_holds p m v w (record w { answers = u.answers; index = u.index }) refl B.records B.room (aside_of p m v w H))
+    subst (λ (y : Worker). Holds p m v (record y { queue = q })) (sym B.rest) (of_aside p m v (record w { answers = u.answers; index = u.index; standing = u.standing; queue = q }) (prepared_holds p m v w (record w { answers = u.answers; index = u.index; standing = u.standing }) refl B.records B.room (aside_of p m v w H))
     (λ k is. ⊎_elim
     (λ same. (let a = H.admitted k is in let r = more in let key = A.key in
     let grown : length (waiting q k) ≡ length (waiting w.queue k) + 1 = ap (λ n. length (waiting q n)) same ∙ ap length key ∙ length-append (waiting w.queue (key_of h.request)) (h ∷ []) ∙ ap (λ n. length (waiting w.queue n) + 1) (sym same) in

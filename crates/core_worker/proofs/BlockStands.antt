@@ -7,6 +7,7 @@ use Rattle.pm_region.proofs.Moments.{at_exit, told_at_entry}
 use Rattle.pm_region.proofs.Narrow.{surely_kept}
 use Rattle.log_entry.specs.declared.entry.Entry.{Entry}
 use Rattle.log_entry.specs.declared.entry.Body.TheVariants as bodies
+use Rattle.std.specs.Prelude.{is_some}
 use Rattle.chunk_map.specs.declared.layouts.Geometry.{Geometry}
 use Rattle.chunk_map.specs.Layouts.{chunk_words, chunk_first, part_first, has_class}
 use Rattle.store_image.proofs.Places.{layout_numbers}
@@ -79,6 +80,7 @@ holds_written t p m v w b a q class value H nothing sets wrote = record {
   broken = H.broken;
   cleaning = H.cleaning;
   remembers = H.remembers;
+  chunks = λ r j lt. ⊎_elim (λ x. inl (⊎_elim (λ e. inl (wrote.free j ∙ e)) (λ e. inr (ap is_some (wrote.classes j) ∙ e)) x)) (λ e. inr e) (H.chunks r j lt);
   lost = H.lost;
 }
   where
@@ -116,6 +118,7 @@ holds_stopped p m v w H runs = record {
   broken = λ b. refl;
   cleaning = H.cleaning;
   remembers = λ r. absurd (cc r);
+  chunks = λ r. absurd (cc r);
   lost = λ l. refl;
 }
 

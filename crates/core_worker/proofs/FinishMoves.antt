@@ -1,5 +1,5 @@
 -- A change that was given back is finished: a whole move to whoever runs several workers.
-use Rattle.std.proofs.Common.{◌≡◌, ◌≢◌, ◌⊎◌, inl, inr, ℕ, ◌<◌, Bool, true, false, cond, ◌&&◌, not, List, [], ◌∷◌, ◌++◌, Option, Some, None, refl, sym, ◌∙◌, ap, subst}
+use Rattle.std.proofs.Common.{◌≡◌, ◌≢◌, ◌⊎◌, inl, inr, ⊎_elim, ℕ, ◌+◌, ◌<◌, ◌≤◌, ◌==◌, Bool, true, false, cond, ◌&&◌, not, List, [], ◌∷◌, ◌++◌, Option, Some, None, refl, sym, ◌∙◌, ap, subst, arith}
 use Rattle.std.specs.Prelude.{MatchOption, option_map}
 use Rattle.std.proofs.lemmas.Bool.{eq-eqb, ne_eqb}
 use Rattle.fs_model.specs.declared.model.Reply.{Reply}
@@ -27,9 +27,15 @@ use Rattle.core_worker.specs.KeyTies.{IsPlaced, Offers}
 use Rattle.core_worker.specs.Ties.{HoldsAt, StandsAt}
 use Rattle.core_worker.specs.Turns.{InOrderAt, Steps}
 use Rattle.core_worker.specs.Beginning.{answers_of, answer_with}
-use Rattle.core_worker.specs.Finishing.{number_in, LetsGo, Settles, done_reply, reply_back, Serves, ShortOf, FinishesSlot, StopsByFailed}
+use Rattle.core_worker.specs.Finishing.{number_in, PutsBackIf, LetsGo, Settles, done_reply, reply_back, Serves, ShortOf, FinishesSlot, StopsByFailed}
 use Rattle.core_worker.specs.Turning.{TurnMoves}
 use Rattle.core_worker.specs.WorkerMoves.{Placed, placed_in}
+use Rattle.core_index.specs.Index.{known_at}
+use Rattle.core_index.specs.Records.{last_of, block_of}
+use Rattle.lazy_alloc.specs.Sets.{Sets}
+use Rattle.engine_laws.specs.RefusalCauses.{raised}
+use Rattle.core_worker.proofs.CauseFacts.{stock_put}
+use Rattle.core_worker.proofs.Tidied.{change_last}
 use Rattle.core_worker.proofs.HandKeys.{asks, body_holds}
 use Rattle.core_worker.proofs.LetGoMoves.{let_go_turn}
 use Rattle.core_worker.proofs.Made.{one_step}
@@ -124,9 +130,17 @@ module _ (seat : SeatAt) (s : State) (before after : Option Group) (v u : View) 
         cells = λ j ne. ap (λ (y : View). y.cell j) is;
         pendings = λ j ne. ap (λ (y : View). y.pending j) is ∙ ap (λ b. cond b (Some (record { entry = e; slot = None })) (v.pending j)) (ne_eqb j e.key ne);
         blocks = λ q b has ne. ap (λ (y : View). y.blocks q) is;
+        last_here = kept_last e.key;
+        lasts = λ j ne. kept_last j;
+        known = λ runs. absurd (let both : true ≡ false = sym (ap (λ (y : Worker). y.stopped) G.rest ∙ ap (λ (y : Worker). y.stopped) same) ∙ runs in cc both);
+        layout = ap (λ (y : Worker). y.layout) G.rest ∙ ap (λ (y : Worker). y.layout) same ∙ H.layout;
+        stock = stock_put w f None (ap (λ (y : Worker). y.log) G.rest ∙ ap (λ (y : Worker). y.log) same) (ap (λ (y : Worker). y.allocator) G.rest ∙ ap (λ (y : Worker). y.allocator) same);
         serves = serves;
       }) S T made (λ is. cause (stopped ∙ is))
     where
+      kept_last : (j : ℕ) → u.last j ≤ v.last j
+      kept_last j = let now = ap (λ (y : View). y.last j) view.4 in ⊎_elim (λ gone. let zero = gone.1 in omega (arith, now, zero)) (λ same. omega (arith, now, same)) (view.3.keeps j)
+
       here : {last : ℕ → ℕ} {told dead : ℕ → ℕ → Bool} → u ≡ record (after_give_up e v) { last = last; told = told; dead = dead } → u.pending e.key ≡ Some (record { entry = e; slot = None })
       here is = ap (λ (y : View). y.pending e.key) is ∙ ap (λ b. cond b (Some (record { entry = e; slot = None })) (v.pending e.key)) (eq-eqb e.key e.key refl)
 
@@ -160,9 +174,24 @@ module _ (seat : SeatAt) (s : State) (before after : Option Group) (v u : View) 
         cells = λ j ne. ap (λ (y : View). y.cell j) is ∙ ap (λ b. cond b (left_in v.blocks e.body) (v.cell j)) (ne_eqb j e.key ne);
         pendings = λ j ne. ap (λ (y : View). y.pending j) is ∙ ap (λ b. cond b None (v.pending j)) (ne_eqb j e.key ne);
         blocks = λ q b has ne. ap (λ (y : View). y.blocks q) is ∙ kept q b has ne;
+        last_here = (let at = last_at e.key in let new = ap (λ b. cond b e.version (v.last e.key)) (eq-eqb e.key e.key refl) in let up = finished_up in omega (arith, at, new, up));
+        lasts = λ j ne. (let at = last_at j in let old = ap (λ b. cond b e.version (v.last j)) (ne_eqb j e.key ne) in omega (arith, at, old));
+        known = λ runs. (let at = known_now in let up = finished_up in omega (arith, at, up));
+        layout = ap (λ (y : Worker). y.layout) G.rest ∙ ap (λ (y : Worker). y.layout) same ∙ H.layout;
+        stock = stock_put w f (block_of (known_at w.index e.key)) (ap (λ (y : Worker). y.log) G.rest ∙ ap (λ (y : Worker). y.log) same) (subst (λ (a : Sets). PutsBackIf w.allocator a (block_of (known_at w.index e.key))) (sym (ap (λ (y : Worker). y.allocator) G.rest)) Z.block);
         serves = serves;
       }) S T made (λ is. cause (stopped ∙ is))
     where
+      last_at : (j : ℕ) → u.last j ≤ cond (j == e.key) e.version (v.last j)
+      last_at j = let now = ap (λ (y : View). y.last j) view.4 in ⊎_elim (λ gone. let zero = gone.1 in omega (arith, now, zero)) (λ same. omega (arith, now, same)) (view.3.keeps j)
+
+      -- the next version is the one that the finish takes
+      finished_up : raised (v.last e.key) (done_reply e.body) ≡ e.version
+      finished_up = ap (λ b. cond b (v.last e.key + 1) (v.last e.key)) (done_ends e.body) ∙ sym (O.next e.key (record { entry = e; slot = Some slot }) pending)
+
+      known_now : last_of (known_at f.index e.key) ≡ e.version
+      known_now = ap (λ (y : Worker). last_of (known_at y.index e.key)) G.rest ∙ change_last (known_at Z.mid e.key) (known_at mid.index e.key) (Z.heard.changes e.key) ∙ ap last_of Z.settled_now.here
+
       kept : (q : ℕ) (b : Block) → v.blocks q ≡ Some b → b.key ≢ e.key → only_own e.key e.body v.blocks q ≡ v.blocks q
       kept q b has ne = ap (λ o. cond (is_of e.key o && not (points_at e.body q)) None (v.blocks q)) has ∙ ap (λ t. cond (t && not (points_at e.body q)) None (v.blocks q)) (ne_eqb b.key e.key ne)
 

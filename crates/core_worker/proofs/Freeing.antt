@@ -1,5 +1,6 @@
 -- A place is freed, whatever became of its change: what is left of the ties.
 use Rattle.std.proofs.Common.{◌≡◌, ◌≢◌, ◌⊎◌, inl, inr, ⊎_elim, ℕ, ◌+◌, ◌*◌, ◌<◌, ◌≤◌, Bool, true, false, [], length, Option, Some, None, refl, sym, ◌∙◌, ap, subst, arith}
+use Rattle.std.specs.Prelude.{is_some}
 use Rattle.std.proofs.lemmas.Bool.{cases_eq}
 use Rattle.pm_region.specs.Words.{Surely}
 use Rattle.pm_region.specs.State.{State, cell_now}
@@ -192,6 +193,10 @@ module _ (p : Place) (m key slot : ℕ) (v u : View) (w x : Worker) (H : HoldsAs
     lost = F.lost;
     cleaning = F.cleaning ∙ H.cleaning;
     remembers = F.remembers;
+    chunks = λ r j low. ⊎_elim
+        (λ y. inl (⊎_elim (λ e. inl (F.chunks.free j ∙ e)) (λ e. inr (ap is_some (F.chunks.classes j) ∙ e)) y))
+        (λ e. inr (ap (λ (l : LogState). is_some (tail_of l.chunks j)) F.log ∙ e))
+        (H.chunks (F.runs r) j low);
   } where
     idle_by : (k : ℕ) → is_busy w.places.items k ≡ false → is_busy x.places.items k ≡ false
     idle_by k idle = by (is_busy x.places.items k) refl where

@@ -1,8 +1,9 @@
 -- What a block that was taken changes of an allocator.
 use Rattle.std.proofs.Common.{◌≡◌, ◌⊎◌, inl, inr, ⊎_elim, ℕ, ◌+◌, ◌%◌, ◌^◌, ◌==◌, ◌||◌, not, Bool, true, false, cond, Some, None, refl, sym, ◌∙◌, ap, subst, arith}
+use Rattle.std.specs.Prelude.{is_some}
 use Rattle.std.specs.Option.{option_and_then}
 use Rattle.std.proofs.lemmas.Nat.{pow_pos}
-use Rattle.std.proofs.lemmas.Bool.{and_parts, and_from, le-leb, eq-eqb, eqb-true, eqb-false, or_cases}
+use Rattle.std.proofs.lemmas.Bool.{and_parts, and_from, le-leb, eq-eqb, ne_eqb, eqb-true, eqb-false, or_cases, cases_eq}
 use Rattle.log_entry.specs.declared.entry.Body.{Body}
 use Rattle.log_entry.specs.declared.entry.Body.TheVariants as bodies
 use Rattle.chunk_map.specs.Layouts.{is_class, has_class}
@@ -13,6 +14,7 @@ use Rattle.lazy_alloc.proofs.SetLaws.{SamePart, same_part, class_same, free_bloc
 use Rattle.lazy_alloc.proofs.CutLaws.{class_point, class_fits}
 use Rattle.lazy_alloc.proofs.PlaceLaws.{placed_class}
 use Rattle.core_worker.specs.KeyTies.{IsBlockFor}
+use Rattle.core_worker.specs.OwnChunks.{IsFreeOrData}
 use Rattle.core_worker.specs.Posting.{PointsNowhere}
 
 -- The allocator has the block of a body more, of the class of a value of this length, where the body points to one.
@@ -26,6 +28,7 @@ pub record Allots (old new : Sets) (b : Body) (n : ℕ) : Type 0 where
   pub free : (j : ℕ) → chunk_is_free new j ≡ true → chunk_is_free old j ≡ true
   pub due : (j : ℕ) → chunk_is_due new j ≡ true → (chunk_is_due old j ≡ true) ⊎ (chunk_is_free old j ≡ true)
   pub cut : (j c : ℕ) → chunk_class new j ≡ Some c → chunk_is_due new j ≡ false → (chunk_class old j ≡ Some c) × (chunk_is_due old j ≡ false)
+  pub chunk : (j : ℕ) → IsFreeOrData old j → IsFreeOrData new j
 
 pub allots_none : (a : Sets) (b : Body) (n : ℕ) → AreSets a → PointsNowhere b → Allots a a b n
 allots_none a b n sets none = record {
@@ -38,6 +41,7 @@ allots_none a b n sets none = record {
   free = λ j e. e;
   due = λ j e. inl e;
   cut = λ j c e d. (e, d);
+  chunk = λ j e. e;
 }
 
 or_false : (x y : Bool) → (x || y) ≡ false → (x ≡ false) × (y ≡ false)
@@ -80,6 +84,7 @@ module _ (old new : Sets) (sets : AreSets old) (sets' : AreSets new) (class q n 
         free = λ j e. sym (t.chunks.free j) ∙ e;
         due = λ j e. inl (sym (t.chunks.due j) ∙ e);
         cut = λ j c e d. (sym (t.chunks.classes j) ∙ e, sym (t.chunks.due j) ∙ d);
+        chunk = λ j. ⊎_elim (λ e. inl (t.chunks.free j ∙ e)) (λ e. inr (ap is_some (t.chunks.classes j) ∙ e));
       }
 
   first_start : is_start old.layout class 1 ≡ true
@@ -108,6 +113,10 @@ module _ (old new : Sets) (sets : AreSets old) (sets' : AreSets new) (class q n 
         cut = λ i c e d.
             let off = or_false (i == j) (chunk_is_due old i) (sym (t.due i) ∙ d) in
             (sym (t.classes i (eqb-false i j off.0)) ∙ e, off.1);
+        chunk = λ i had. ⊎_elim
+            (λ same. inr (ap is_some (ap (chunk_class new) same ∙ t.cut)))
+            (λ ne. ⊎_elim (λ e. inl (t.free i ∙ and_from (chunk_is_free old i) (not (i == j)) e (ap not (ne_eqb i j ne)))) (λ e. inr (ap is_some (t.classes i ne) ∙ e)) had)
+            (cases_eq i j);
       }
 
   pub allots : (may : Bool) → Takes old new class may (Some q) → Allots old new (bodies.Pointer q) n

@@ -144,6 +144,8 @@ module _ (p : Place) (m : ℕ) (v : View) (w : Worker) (H : HoldsAside p m v w) 
       answers = room_let_go w given slot key key_was (let eight = H.eight in omega (arith, eight, lt)) R refl refl room O.answers;
       hand = O.hand;
       stops = λ s. subst MayLeadStopped (sym nothing) tt;
+      log = λ r. absurd (cc r);
+      names = λ r. absurd (cc r);
     } where
       kept : (k : ℕ) → last k ≡ v.last k → last k ≡ v.last k
       kept k same = same

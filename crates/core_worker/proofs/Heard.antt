@@ -21,7 +21,7 @@ pub record Hears (home : ℕ) (old new : List (ℕ × Place)) : Type 0 where
 pub hears_none : (home : ℕ) (es : List (ℕ × Place)) → Hears home es es
 hears_none home es = record { changes = λ k. refl; dead = λ k n. refl; each = λ k n. inl refl; room = λ k. refl }
 
-dead_told : (o : Option KeyRecord) (v n : ℕ) → is_dead_by (option_map (told_in v) o) n ≡ is_dead_by o n
+pub dead_told : (o : Option KeyRecord) (v n : ℕ) → is_dead_by (option_map (told_in v) o) n ≡ is_dead_by o n
 dead_told None v n = refl
 dead_told (Some r) v n = ap (λ (b : Bool). nat_lt n r.version || ((n == r.version) && (is_tombstone r.body && b))) (alone_told r.standing v n)
 
@@ -29,7 +29,7 @@ changes_told : (o : Option KeyRecord) (v : ℕ) → option_map last_change (opti
 changes_told None v = refl
 changes_told (Some r) v = refl
 
-standing_told : (o : Option KeyRecord) (v : ℕ) → standing_of (option_map (told_in v) o) ≡ told (standing_of o) v
+pub standing_told : (o : Option KeyRecord) (v : ℕ) → standing_of (option_map (told_in v) o) ≡ told (standing_of o) v
 standing_told None v = refl
 standing_told (Some r) v = refl
 

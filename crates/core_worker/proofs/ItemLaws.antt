@@ -90,6 +90,6 @@ keeps_withdraw seat s before after v u w x all stopped H N S T O P rule made whi
     })
     (λ U. let un = U.1 in
     keeps_leading seat s before after v u w x N un.stands S made
-    (record { kept = v.kept; flying = v.flying; taken = v.taken; broken = v.broken; holds = false; looked = []; took = v.took; is = un.view ∙ ap after_unlock un.found.view.1 }) un.same
+    (record { flying = v.flying; taken = v.taken; broken = v.broken; holds = false; looked = []; took = v.took; is = un.view ∙ ap after_unlock un.found.view.1 }) un.same
     (λ is. subst MayLeadStopped (sym un.leads_now.1) tt) O rule)
     which

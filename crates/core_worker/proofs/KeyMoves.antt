@@ -17,9 +17,10 @@ use Rattle.pm_region.proofs.Runs.{all_kept}
 use Rattle.store_image.specs.Facts.{In}
 use Rattle.group_laws.specs.Places as places
 use Rattle.licence.specs.Licence.{Licensed, part_at, part_end}
+use Rattle.engine_laws.specs.RefusalCauses.{Refuses}
 use Rattle.core_worker.specs.declared.worker.Worker.{Worker}
 use Rattle.core_worker.specs.Ties.{Holds}
-use Rattle.core_worker.specs.WorkerMoves.{Hands, Fixed, placed, line_in, fixed_of, requests_for, hands_of, AnswersKey, WorkerMoves}
+use Rattle.core_worker.specs.WorkerMoves.{Hands, Fixed, replied, placed, line_in, fixed_of, requests_for, stock_of, hands_of, AnswersKey, WorkerMoves}
 use Rattle.core_worker.proofs.HandKeys.{holds_key}
 
 -- what is held of the key is the same
@@ -103,8 +104,9 @@ no_steps (Some a) m = refl
 pub moves_here : (p : places.Place) (m : ℕ) (s : State) (a : Option Group) (v : View) (w x : Worker) (accepted : List (ℕ × Request)) (fixed : List Fixed) → Holds p m v x → (IsTelling s → Licensed p m v (cell_now s)) → x.stopped ≡ w.stopped
     → ((y : Fixed) → In y fixed → places.owner p (key_of y.request) ≡ m)
     → ((k : ℕ) → places.owner p k ≡ m → AnswersKey v v (hands_of v w) (hands_of v x) k (requests_for k accepted) (fixed_of k fixed))
+    → ((k : ℕ) → places.owner p k ≡ m → Refuses p.layout (stock_of w) (v.last k) (v.last k) (map replied (fixed_of k fixed)))
     → WorkerMoves p m s s a a v v (hands_of v w) (hands_of v x) accepted fixed
-moves_here p m s a v w x accepted fixed H licensed same own keys = record {
+moves_here p m s a v w x accepted fixed H licensed same own keys refuses = record {
   outside = all_kept s (part_at p m) (part_end p m);
   moments = started s (Licensed p m v) licensed;
   exit = licensed;
@@ -113,6 +115,7 @@ moves_here p m s a v w x accepted fixed H licensed same own keys = record {
   own = own;
   keys = keys;
   holds = λ k is. holds_key p m v x H k;
+  refuses = refuses;
   stops = λ e. inl (sym same ∙ e);
   breaks = H.broken;
   stays_stopped = λ e. same ∙ e;

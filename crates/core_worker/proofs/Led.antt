@@ -47,6 +47,7 @@ holds_led p m v w flying taken holds looked took l H leads space lost = record {
   broken = H.broken;
   cleaning = H.cleaning;
   remembers = H.remembers;
+  chunks = H.chunks;
   lost = lost;
 }
 
@@ -132,6 +133,7 @@ failed_by p m v u w taken l e H leads space stopped = subst (λ (x : View). Hold
   broken = λ b. stopped;
   cleaning = H.cleaning;
   remembers = H.remembers;
+  chunks = H.chunks;
   lost = λ b. stopped;
 })
 

@@ -1,5 +1,5 @@
 -- A change is let go and what waits of its key is begun: a whole move to whoever runs several workers.
-use Rattle.std.proofs.Common.{◌≡◌, ◌≢◌, ◌⊎◌, inl, inr, ⊎_elim, ℕ, ◌==◌, ◌||◌, Bool, true, false, cond, List, [], ◌∷◌, ◌++◌, map, Option, Some, None, refl, sym, ◌∙◌, ap, subst, arith, append-nil}
+use Rattle.std.proofs.Common.{◌≡◌, ◌≢◌, ◌⊎◌, inl, inr, ⊎_elim, ℕ, ◌≤◌, ◌==◌, ◌||◌, Bool, true, false, cond, List, [], ◌∷◌, ◌++◌, map, Option, Some, None, refl, sym, ◌∙◌, ap, subst, arith, append-nil}
 use Rattle.std.specs.Prelude.{option_map, option_to_list, IfSome}
 use Rattle.std.specs.List.{filter}
 use Rattle.std.proofs.lemmas.Bool.{cases_eq, eq-eqb, ne_eqb}
@@ -38,7 +38,15 @@ use Rattle.core_worker.proofs.Given.{said_same, given_by, adds_then, ends_untold
 use Rattle.core_worker.specs.Finishing.{Serves, ShortOf}
 use Rattle.core_worker.specs.Turning.{TurnMoves}
 use Rattle.group_board.specs.Seats.{SeatAt}
-use Rattle.core_worker.specs.WorkerMoves.{Placed, Fixed, replied, placed, line_in, placed_in, placed_for, asked_by, hands_of, fixed_of, AnswersKey, WorkerMoves}
+use Rattle.core_worker.specs.WorkerMoves.{Placed, Fixed, replied, placed, line_in, placed_in, placed_for, asked_by, hands_of, fixed_of, stock_of, AnswersKey, WorkerMoves}
+use Rattle.std.specs.List.{AllByRecursion}
+use Rattle.chunk_map.specs.declared.layouts.Geometry.{Geometry}
+use Rattle.core_index.specs.Index.{known_at}
+use Rattle.core_index.specs.Records.{last_of}
+use Rattle.engine_laws.specs.FreeStock.{IsAtLeast, LacksRoom}
+use Rattle.engine_laws.specs.RefusalCauses.{raised, HaveCauses, Refuses}
+use Rattle.engine_laws.proofs.CauseLaws.{raised_by_low, causes_up, full_less, quiet_refuses}
+use Rattle.core_worker.proofs.CauseFacts.{finish_causeless, all_stopped}
 use Rattle.core_worker.proofs.HandKeys.{holds_key}
 use Rattle.core_worker.proofs.HandPlaces.{held_at, held_beside}
 use Rattle.core_worker.proofs.Posts.{busy_has}
@@ -77,6 +85,7 @@ module _ (Known : Type 0) (p : Place) (m : ℕ) (v u : View) (w f x : Worker) (k
     (halts : reply ≡ replies.Stopped → f.stopped ≡ true) (stays : w.stopped ≡ true → f.stopped ≡ true) (ends : (is_finish reply ≡ true) ⊎ (reply ≡ replies.Stopped))
     (doubt : (d : Entry) → u.pending k ≡ Some (record { entry = d; slot = None }) → (v.pending k ≡ Some (record { entry = d; slot = None })) ⊎ ((s : ℕ) × (pl.posted ≡ true) × (reply ≡ replies.Stopped) × (v.pending k ≡ Some (record { entry = d; slot = Some s })) × (left_in u.blocks d.body ≡ left_in v.blocks d.body)))
     (cells : (j : ℕ) → j ≢ k → u.cell j ≡ v.cell j) (pendings : (j : ℕ) → j ≢ k → u.pending j ≡ v.pending j) (blocks : (q : ℕ) (b : Block) → v.blocks q ≡ Some b → b.key ≢ k → u.blocks q ≡ v.blocks q)
+    (last_here : u.last k ≤ raised (v.last k) reply) (lasts : (j : ℕ) → j ≢ k → u.last j ≤ v.last j) (known : f.stopped ≡ false → last_of (known_at f.index k) ≤ raised (v.last k) reply) (layout : f.layout ≡ p.layout) (stock : IsAtLeast (stock_of w) (stock_of f))
     (serves : Serves Known f x (u.cell k) k ⊎ ShortOf Known f x (u.cell k) k) where
   idle : is_busy f.places.items k ≡ false
   idle = by (is_busy f.places.items k) refl where
@@ -165,6 +174,23 @@ module _ (Known : Type 0) (p : Place) (m : ℕ) (v u : View) (w f x : Worker) (k
     or_first None = pl
     or_first (Some y) = y
 
+  -- the causes of the key's refusals
+  own_refuses : Refuses p.layout (stock_of w) (v.last k) (u.last k) (map replied (first ∷ fs))
+  own_refuses =
+      let F = finish_causeless p.layout (v.last k) pl.request reply ends in
+      record {
+        causes = (F.0, later f.stopped refl);
+        full = (λ is. absurd (F.1 is), full_less p.layout (stock_of w) (stock_of f) (map replied fs) stock (subst (λ (l : Geometry). AllByRecursion (λ (y : Request × Reply). y.1 ≡ replies.Full → LacksRoom l (stock_of f) y.0) (map replied fs)) layout L.full));
+        last_now = (let more = raised_by_low (map replied fs) (raised (v.last k) reply) in omega (arith, last_here, more));
+      } where
+        stopped_all : (ys : List Fixed) → AllByRecursion (λ (y : Fixed). y.reply ≡ replies.Stopped) ys → AllByRecursion (λ (y : Request × Reply). y.1 ≡ replies.Stopped) (map replied ys)
+        stopped_all [] h = tt
+        stopped_all (y ∷ ys) h = (h.0, stopped_all ys h.1)
+
+        later : (b : Bool) → f.stopped ≡ b → HaveCauses p.layout (raised (v.last k) reply) (map replied fs)
+        later true e = all_stopped p.layout (raised (v.last k) reply) (map replied fs) (stopped_all fs (L.halts e).0)
+        later false e = subst (λ (l : Geometry). HaveCauses l (raised (v.last k) reply) (map replied fs)) layout (causes_up f.layout (last_of (known_at f.index k)) (raised (v.last k) reply) (map replied fs) (known e) L.causes)
+
   other_key : (j : ℕ) → j ≢ k → AnswersKey v u (hands_of v w) (hands_of u x) j [] []
   other_key j ne = kept_key v u (hands_of v w) (hands_of u x) j (cells j ne) (pendings j ne)
       (L.other_places j ne ∙ held_beside v u w.places.items f.places.items slot Free R H.apart apart j
@@ -194,6 +220,10 @@ module _ (Known : Type 0) (p : Place) (m : ℕ) (v u : View) (w f x : Worker) (k
         (λ ne. subst (λ (ys : List Fixed). AnswersKey v u (hands_of v w) (hands_of u x) j [] ys) (sym (fixed_none j k (first ∷ fs) ne keys_of)) (other_key j ne))
         (cases_eq j k);
     holds = λ j is. holds_key p m u x N j;
+    refuses = λ j is. ⊎_elim
+        (λ same. subst (λ n. Refuses p.layout (stock_of w) (v.last n) (u.last n) (map replied (fixed_of n (first ∷ fs)))) (sym same) (subst (λ (ys : List Fixed). Refuses p.layout (stock_of w) (v.last k) (u.last k) (map replied ys)) (sym (fixed_all k (first ∷ fs) keys_of)) own_refuses))
+        (λ ne. subst (λ (ys : List Fixed). Refuses p.layout (stock_of w) (v.last j) (u.last j) (map replied ys)) (sym (fixed_none j k (first ∷ fs) ne keys_of)) (quiet_refuses p.layout (stock_of w) (v.last j) (u.last j) (lasts j ne)))
+        (cases_eq j k);
     stops = λ e. ⊎_elim (λ a. inl a) (λ b. inr (inr b)) (cause (sym L.stopped ∙ e));
     breaks = N.broken;
     stays_stopped = λ e. L.stopped ∙ stays e;
@@ -222,12 +252,18 @@ pub record LetGo (Known : Type 0) (p : Place) (m : ℕ) (v u : View) (w f x : Wo
   pub cells : (j : ℕ) → j ≢ k → u.cell j ≡ v.cell j
   pub pendings : (j : ℕ) → j ≢ k → u.pending j ≡ v.pending j
   pub blocks : (q : ℕ) (b : Block) → v.blocks q ≡ Some b → b.key ≢ k → u.blocks q ≡ v.blocks q
+  -- the last versions, what the index has of the key's, and what is free
+  pub last_here : u.last k ≤ raised (v.last k) reply
+  pub lasts : (j : ℕ) → j ≢ k → u.last j ≤ v.last j
+  pub known : f.stopped ≡ false → last_of (known_at f.index k) ≤ raised (v.last k) reply
+  pub layout : f.layout ≡ p.layout
+  pub stock : IsAtLeast (stock_of w) (stock_of f)
   pub serves : Serves Known f x (u.cell k) k ⊎ ShortOf Known f x (u.cell k) k
 
 pub let_go_turn : (seat : SeatAt) (s : State) (before after : Option Group) (v u : View) (w f x : Worker) (k slot : ℕ) (pl : Placed) (reply : Reply) → LetGo (IsTelling s) seat.place seat.number v u w f x k slot pl reply → Stands s seat.place seat.number v w → Stands s seat.place seat.number u x → Steps before after seat.number u
     → (f.stopped ≡ true → (w.stopped ≡ true) ⊎ IfSome before (λ a. (n : ℕ) × (d : Entry) × (a.slot seat.number n ≡ Failed d))) → TurnMoves seat s s before after v u w x
 let_go_turn seat s before after v u w f x k slot pl reply G S T made cause = record {
-  fixed = let_go_fixed (IsTelling s) seat.place seat.number v u w f x k slot G.H G.N G.hand_of G.own pl G.key G.held G.of_key G.R G.queue G.hand G.winds reply G.answers G.may G.left G.halts G.stays G.ends G.doubt G.cells G.pendings G.blocks G.serves;
-  answers = let_go_answers (IsTelling s) seat.place seat.number v u w f x k slot G.H G.N G.hand_of G.own pl G.key G.held G.of_key G.R G.queue G.hand G.winds reply G.answers G.may G.left G.halts G.stays G.ends G.doubt G.cells G.pendings G.blocks G.serves;
-  moves = let_go_moves (IsTelling s) seat.place seat.number v u w f x k slot G.H G.N G.hand_of G.own pl G.key G.held G.of_key G.R G.queue G.hand G.winds reply G.answers G.may G.left G.halts G.stays G.ends G.doubt G.cells G.pendings G.blocks G.serves s before after S T made cause;
+  fixed = let_go_fixed (IsTelling s) seat.place seat.number v u w f x k slot G.H G.N G.hand_of G.own pl G.key G.held G.of_key G.R G.queue G.hand G.winds reply G.answers G.may G.left G.halts G.stays G.ends G.doubt G.cells G.pendings G.blocks G.last_here G.lasts G.known G.layout G.stock G.serves;
+  answers = let_go_answers (IsTelling s) seat.place seat.number v u w f x k slot G.H G.N G.hand_of G.own pl G.key G.held G.of_key G.R G.queue G.hand G.winds reply G.answers G.may G.left G.halts G.stays G.ends G.doubt G.cells G.pendings G.blocks G.last_here G.lasts G.known G.layout G.stock G.serves;
+  moves = let_go_moves (IsTelling s) seat.place seat.number v u w f x k slot G.H G.N G.hand_of G.own pl G.key G.held G.of_key G.R G.queue G.hand G.winds reply G.answers G.may G.left G.halts G.stays G.ends G.doubt G.cells G.pendings G.blocks G.last_here G.lasts G.known G.layout G.stock G.serves s before after S T made cause;
 }

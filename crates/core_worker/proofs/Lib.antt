@@ -3,6 +3,7 @@ mod Led
 mod Giving
 mod Rounds
 mod Writing
+mod ChunksKept
 mod Made
 mod Quiet
 mod Posts
@@ -12,6 +13,7 @@ mod BlockPosts
 mod BlockClear
 pub mod HandKeys
 pub mod Aside
+mod CauseFacts
 mod QuietMoves
 pub mod KeyMoves
 mod HandPlaces
@@ -21,7 +23,6 @@ mod QuietItems
 mod PostMoves
 mod SearchLaws
 mod TurnLaws
-mod Resting
 mod RefusalLaws
 mod Gains
 mod Pointers
@@ -37,6 +38,11 @@ mod Unpledging
 mod BatchRoom
 pub mod Serving
 mod Heard
+mod HeardNames
+mod NamesAdded
+mod NamesKnown
+mod Renewing
+mod StartNames
 pub mod Tidied
 pub mod Freeing
 pub mod FreedOrder
@@ -75,5 +81,6 @@ mod StartKeys
 pub mod StartBlocks
 mod StartHeads
 pub mod Starting
+mod PartsGiven
 pub mod Clients
 mod Trials

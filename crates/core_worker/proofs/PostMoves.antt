@@ -34,14 +34,17 @@ use Rattle.core_worker.specs.declared.types.Place.TheVariants.{Free, Staged, Pos
 use Rattle.core_worker.specs.declared.worker.Worker.{Worker}
 use Rattle.core_worker.specs.OwnPlaces.{place_at, key_in, is_free, is_busy, Replaces, request_by, request_pending, bytes_or}
 use Rattle.core_worker.specs.KeyTies.{IsPlaced, Offers, Left, LeftIn}
+use Rattle.log_standing.specs.NameCounts.{StandingState}
+use Rattle.core_worker.specs.StandingTies.{KnowsLog, most_names}
 use Rattle.core_worker.specs.Order.{PointsAt, count_changes, unanswered, MayLeadStopped, InOrder}
 use Rattle.core_worker.specs.Posting.{PostsPlain}
 use Rattle.core_worker.specs.Ties.{Holds, Stands, LeadsNothing}
 use Rattle.core_worker.specs.Turns.{Steps}
-use Rattle.core_worker.specs.WorkerMoves.{Placed, Hands, placed, line_in, placed_in, placed_for, hands_of, AnswersKey, WorkerMoves}
+use Rattle.core_worker.specs.WorkerMoves.{Placed, Hands, placed, line_in, placed_in, placed_for, stock_of, hands_of, AnswersKey, WorkerMoves}
 use Rattle.core_worker.proofs.HandKeys.{holds_key}
 use Rattle.core_worker.proofs.HandPlaces.{held_at, held_beside}
 use Rattle.core_worker.proofs.QuietMoves.{runs_in}
+use Rattle.engine_laws.proofs.CauseLaws.{quiet_refuses}
 use Rattle.core_worker.proofs.KeyMoves.{no_steps}
 use Rattle.core_worker.proofs.Made.{one_step}
 use Rattle.core_worker.proofs.Posts.{same_keys, busy_same}
@@ -171,14 +174,15 @@ module _ (p : Place) (m : ℕ) (v : View) (w : Worker) (H : Holds p m v w) (slot
       own = λ y i. absurd i;
       keys = λ k own. post_keys k;
       holds = λ k own. holds_key p m u x N k;
+      refuses = λ k own. quiet_refuses p.layout (stock_of w) (v.last k) (v.last k) (omega arith);
       stops = λ is. absurd (let both : true ≡ false = sym is ∙ on in cc both);
       breaks = N.broken;
       stays_stopped = λ is. absurd (let both : true ≡ false = sym is ∙ runs in cc both);
     }
 
     -- what is kept in order
-    pub post_order : x.index ≡ w.index → x.answers ≡ w.answers → x.winds_down ≡ w.winds_down → x.stopped ≡ false → InOrder p m v w → InOrder p m u x
-    post_order index answers winds on O = record {
+    pub post_order : x.index ≡ w.index → x.answers ≡ w.answers → x.winds_down ≡ w.winds_down → x.standing ≡ w.standing → x.stopped ≡ false → InOrder p m v w → InOrder p m u x
+    post_order index answers winds standing on O = record {
       owned = λ q b is. owned_by q b (cases_block q b is);
       single = λ q b is. single_by q b (cases_block q b is);
       distinct = λ k q points is. distinct_by k q (ap (λ i. block_of (known_at i k)) (sym index) ∙ is) points (cases_eq k e.key);
@@ -193,6 +197,8 @@ module _ (p : Place) (m : ℕ) (v : View) (w : Worker) (H : Holds p m v w) (slot
       answers = subst (λ (a : VecDeque Answer Global). deque_len a + unanswered x ≤ deque_capacity a) (sym answers) (let room = O.answers in let n = unanswered_same in omega (arith, room, n));
       hand = λ working. hand ∙ O.hand (sym winds ∙ working);
       stops = λ is. absurd (let both : true ≡ false = sym is ∙ on in cc both);
+      log = λ r working. subst (KnowsLog m v.kept v.present v.told v.dead) (sym standing) (O.log runs (sym winds ∙ working));
+      names = λ r working. subst (λ (st : StandingState). most_names ≤ st.room) (sym standing) (O.names runs (sym winds ∙ working));
     } where
       keys_same : (s : ℕ) → key_in (place_at x.places.items s) ≡ key_in (place_at w.places.items s)
       keys_same = same_keys w.places.items x.places.items slot (Posted number e.key lines) R (ap key_in (sym was))
@@ -309,7 +315,7 @@ module _ (p : Place) (m : ℕ) (before after : Option Group) (v u : View) (w x :
   posted_order O =
       subst (λ (y : View). InOrder p m y x) (sym F.view)
       (post_order p m v w H slot F.number F.entry F.value lt F.was runs x made_here F.lines F.places (ap (λ (y : Worker). y.queue) F.same) (ap (λ (y : Worker). y.in_hand) F.same)
-      (ap (λ (y : Worker). y.index) F.same) (ap (λ (y : Worker). y.answers) F.same) (ap (λ (y : Worker). y.winds_down) F.same) on O)
+      (ap (λ (y : Worker). y.index) F.same) (ap (λ (y : Worker). y.answers) F.same) (ap (λ (y : Worker). y.winds_down) F.same) (ap (λ (y : Worker). y.standing) F.same) on O)
 
 -- what was to be written could not be: the core stops, and no step is made
 pub fault_moves : (p : Place) (m : ℕ) (s t : State) (a : Option Group) (v : View) (w x : Worker) → Holds p m v x → ((k : ℕ) → placed_for v x.places.items k ≡ placed_for v w.places.items k) → ((k : ℕ) → (hands_of v x).waits k ≡ (hands_of v w).waits k) → x.stopped ≡ true → During s t (KeepsOutside (cell_now s) (part_at p m) (part_end p m)) → During s t (Licensed p m v) → (IsTelling t → Licensed p m v (cell_now t)) → Rose s.faults t.faults
@@ -323,6 +329,7 @@ fault_moves p m s t a v w x N place waits stopped outside moments exit rose = re
   own = λ y i. absurd i;
   keys = λ k own. kept_key v v (hands_of v w) (hands_of v x) k refl refl (place k) (waits k);
   holds = λ k own. holds_key p m v x N k;
+  refuses = λ k own. quiet_refuses p.layout (stock_of w) (v.last k) (v.last k) (omega arith);
   stops = λ is. inr (inl rose);
   breaks = N.broken;
   stays_stopped = λ is. stopped;
@@ -342,4 +349,6 @@ fault_order p m v w x same nothing O = subst (λ (y : Worker). InOrder p m v y) 
   answers = O.answers;
   hand = O.hand;
   stops = λ is. subst MayLeadStopped (sym nothing.1) tt;
+  log = λ r. absurd (cc r);
+  names = λ r. absurd (cc r);
 })

@@ -1,5 +1,5 @@
 -- A leader's item is a whole move to whoever runs several workers.
-use Rattle.std.proofs.Common.{◌≡◌, ◌⊎◌, inl, ℕ, true, cond, List, [], ◌∷◌, ◌++◌, ◌==◌, map, Option, Some, None, refl, sym, ◌∙◌, ap, append-nil}
+use Rattle.std.proofs.Common.{◌≡◌, ◌⊎◌, inl, ℕ, true, cond, List, [], ◌∷◌, ◌++◌, ◌==◌, map, Option, Some, None, refl, sym, ◌∙◌, ap, append-nil, arith}
 use Rattle.std.specs.Prelude.{option_map, option_to_list, IfSome, IsSomeAnd}
 use Rattle.std.specs.List.{filter}
 use Rattle.fs_model.specs.Cells.{key_of}
@@ -21,7 +21,8 @@ use Rattle.core_worker.specs.declared.worker.Worker.{Worker}
 use Rattle.core_worker.specs.OwnPlaces.{key_in, is_of, request_pending}
 use Rattle.core_worker.specs.Ties.{Holds}
 use Rattle.core_worker.specs.Turns.{Steps}
-use Rattle.core_worker.specs.WorkerMoves.{placed_in, placed_for, placed, hands_of, line_in, WorkerMoves, asked_by}
+use Rattle.core_worker.specs.WorkerMoves.{placed_in, placed_for, placed, stock_of, hands_of, line_in, WorkerMoves, asked_by}
+use Rattle.engine_laws.proofs.CauseLaws.{quiet_refuses}
 use Rattle.core_worker.proofs.HandKeys.{holds_key}
 
 pub request_same : (v u : View) (k : ℕ) (o : Option Pending) → u.blocks ≡ v.blocks → request_pending u k o ≡ request_pending v k o
@@ -44,10 +45,10 @@ runs_in m ks v (Some a) (Some b) h = h.0
 
 pub quiet_moves : (p : places.Place) (m : ℕ) (s t : State) (before after : Option Group) (v u : View) (w x : Worker) → Holds p m u x
     → During s t (KeepsOutside (cell_now s) (part_at p m) (part_end p m)) → During s t (Licensed p m v) → (IsTelling t → Licensed p m u (cell_now t)) → Steps before after m u
-    → u.cell ≡ v.cell → u.pending ≡ v.pending → u.blocks ≡ v.blocks → ((k : ℕ) → placed_for v x.places.items k ≡ placed_for v w.places.items k) → x.queue ≡ w.queue → x.in_hand ≡ w.in_hand
+    → u.cell ≡ v.cell → u.pending ≡ v.pending → u.blocks ≡ v.blocks → u.last ≡ v.last → ((k : ℕ) → placed_for v x.places.items k ≡ placed_for v w.places.items k) → x.queue ≡ w.queue → x.in_hand ≡ w.in_hand
     → (x.stopped ≡ true → (w.stopped ≡ true) ⊎ (Rose s.faults t.faults ⊎ IfSome before (λ a. (n : ℕ) × (d : Entry) × (a.slot m n ≡ Failed d)))) → (w.stopped ≡ true → x.stopped ≡ true)
     → WorkerMoves p m s t before after v u (hands_of v w) (hands_of u x) [] []
-quiet_moves p m s t before after v u w x H outside moments exit made cell pending blocks places queue hand stops stays = record {
+quiet_moves p m s t before after v u w x H outside moments exit made cell pending blocks last places queue hand stops stays = record {
   outside = outside;
   moments = moments;
   exit = exit;
@@ -64,6 +65,7 @@ quiet_moves p m s t before after v u w x H outside moments exit made cell pendin
     doubt = λ d e. inl ((λ i. sym pending i k) ∙ e);
   };
   holds = λ k own. holds_key p m u x H k;
+  refuses = λ k own. quiet_refuses p.layout (stock_of w) (v.last k) (u.last k) (let same = ap (λ (f : ℕ → ℕ). f k) last in omega (arith, same));
   stops = stops;
   breaks = H.broken;
   stays_stopped = stays;

@@ -24,7 +24,7 @@ use Rattle.core_worker.specs.Status.{has_room, is_leading}
 use Rattle.core_worker.specs.Ties.{Holds, LeadsAt, LeadsNothing}
 use Rattle.core_worker.specs.Turns.{Moment, FindsPosted, PassesItems, PassesPost, SameButLeading, Idles, LooksMade}
 use Rattle.core_worker.specs.WorkerMoves.{hands_of}
-use Rattle.core_worker.specs.Resting.{IsWithOthers, IsResting, HoldsSame, OpenFor, LoadsOnly, AtRest, IfIdle, TriedIf}
+use Rattle.core_worker.specs.Resting.{IsWithOthers, IsResting, HoldsSame, HasNoMore, OpenFor, LoadsOnly, AtRest, IfIdle, TriedIf}
 use Rattle.group_laws.specs.declared.types.Seen.{Seen}
 use Rattle.group_laws.specs.declared.types.Seen.TheVariants.{Holder}
 use Rattle.core_worker.specs.Left.{NotMore}
@@ -34,7 +34,7 @@ use Rattle.core_worker.proofs.LeftOwn.{own_view}
 use Rattle.core_worker.proofs.QuietMoves.{for_same}
 use Rattle.core_worker.proofs.RestingLoads.{looks_only, looks_and_try}
 use Rattle.core_worker.proofs.RestingSlots.{busy_slot, with_others}
-use Rattle.core_worker.proofs.RestingPlaces.{posted_of, none_waits, room_for_one}
+use Rattle.core_worker.proofs.RestingPlaces.{slot_of, posted_of, none_waits, room_for_one}
 
 -- the state is lawful, and place and view are what it has of the member
 abbrev pub Agrees : Place → ℕ → View → Option Group → Type 0
@@ -50,21 +50,29 @@ abbrev slot_or : Option Pending → Option ℕ
 slot_or None = None
 slot_or (Some d) = d.slot
 
-module _ (p : Place) (refused : Bool) (m : ℕ) (a b : Moment) (seen : View) (P : PassesItems m a 8 seen) (post : PassesPost refused a.worker) (free : LeadsNothing b.worker) (same_worker : SameButLeading a.worker b.worker) (H : Holds p m b.view b.worker) (asks : refused ≡ false) (works : a.worker.winds_down ≡ false) where
-  none : HasNone is_staged b.worker.places.items
-  none t = ap (λ (w : Worker). is_staged (place_at w.places.items t)) same_worker ∙ none_staged refused a.worker post asks works t
-
-  works_still : b.worker.winds_down ≡ false
-  works_still = ap (λ (w : Worker). w.winds_down) same_worker ∙ works
-
+module _ (p : Place) (refused : Bool) (m : ℕ) (a b : Moment) (seen : View) (P : PassesItems m a 8 seen) (post : PassesPost refused a.worker) (free : LeadsNothing b.worker) (same_worker : SameButLeading a.worker b.worker) (H : Holds p m b.view b.worker) where
   pub leads_nothing : (b.view.holds ≡ false) × ((s t : ℕ) → b.view.taken s t ≡ None)
   leads_nothing = (let led = subst (λ (l : Leading). LeadsAt H.leads.seat b.view l) free.1 H.leads.at in (led.0, led.1))
 
-  -- with no change in a place it could have been handed a request
-  pub open_for : OpenFor p m (hands_of b.view b.worker) a.worker
-  open_for all =
-      let room : has_room a.worker ≡ true = sym (ap has_room same_worker) ∙ room_for_one p m b.view b.worker H none works_still all in
-      and_from (not (is_leading a.worker.leading)) (has_room a.worker) (ap (λ (l : Leading). not (is_leading l)) P.free.1) room
+  -- one that goes on, and isn't held back, has nothing to begin
+  module _ (asks : refused ≡ false) (works : a.worker.winds_down ≡ false) where
+    none : HasNone is_staged b.worker.places.items
+    none t = ap (λ (w : Worker). is_staged (place_at w.places.items t)) same_worker ∙ none_staged refused a.worker post asks works t
+
+    works_still : b.worker.winds_down ≡ false
+    works_still = ap (λ (w : Worker). w.winds_down) same_worker ∙ works
+
+    open_for : OpenFor p m (hands_of b.view b.worker) a.worker
+    open_for all =
+        let room : has_room a.worker ≡ true = sym (ap has_room same_worker) ∙ room_for_one p m b.view b.worker H none works_still all in
+        and_from (not (is_leading a.worker.leading)) (has_room a.worker) (ap (λ (l : Leading). not (is_leading l)) P.free.1) room
+
+    pub no_more : b.worker.in_hand ≡ None → HasNoMore p m (hands_of b.view b.worker) a.worker
+    no_more hand = record {
+      placed = λ k y own is. (posted_of p m b.view b.worker H none k y is).0;
+      waits = λ k own is. none_waits p m b.view b.worker H none works_still hand k is;
+      open_for = open_for;
+    }
 
   -- The steps that it made: the loads, and the try of the lock, where an own change was found Posted.
   module _ (before mid after : Option Group) (looks : LooksMade before mid m seen) (tried : ((FindsPosted a.worker.places.items P.looked.found 8 → ⊥) × (after ≡ mid)) ⊎ Makes mid m Kind.Lock after b.view) where
@@ -91,20 +99,15 @@ module _ (p : Place) (refused : Bool) (m : ℕ) (a b : Moment) (seen : View) (P 
             with_others g h e' m looks.0 looks.1.0 a seen P entered.1 looks.1.1 busy.0 (λ found. busy.1) lawful k s e mine named lt at)
             tried
 
-      pub rests : b.worker.in_hand ≡ None → IsResting p m before after b.view (hands_of b.view b.worker)
-      rests hand = record {
+      pub rests : IsResting p m before after b.view (hands_of b.view b.worker)
+      rests = record {
         holds = leads_nothing.0;
         taken = leads_nothing.1;
-        placed = λ k y own is.
-            let x = posted_of p m b.view b.worker H none k y is in
-            let at = x.1 in (
-              x.0,
-              λ d s pends slot.
-                  let same : Some s ≡ Some at.0 = sym slot ∙ ap slot_or (sym pends ∙ at.3.1) in
-                  let here : s ≡ at.0 = cc same in
-                  subst (λ n. IsWithOthers before after m n) (sym here) (slot_with k at.0 at.3.0 own at.3.1 at.1 at.2),
-            );
-        waits = λ k own is. none_waits p m b.view b.worker H none works_still hand k is;
+        posted = λ k y own is posted d s pends slot.
+            let at = slot_of p m b.view b.worker H k y is posted in
+            let same : Some s ≡ Some at.0 = sym slot ∙ ap slot_or (sym pends ∙ at.3.1) in
+            let here : s ≡ at.0 = cc same in
+            subst (λ n. IsWithOthers before after m n) (sym here) (slot_with k at.0 at.3.0 own at.3.1 at.1 at.2);
       }
 
 -- What it holds is what it held.
@@ -133,17 +136,17 @@ idles_not_more refused m a b I before mid after looks tried free =
 
 -- By what a turn answers.
 at_rest : (refused : Bool) (seat : SeatAt) (a b : Moment) (seen : View) (P : PassesItems seat.number a 8 seen) (posted : Bool) → MatchBool posted (FindsPosted a.worker.places.items P.looked.found 8) (FindsPosted a.worker.places.items P.looked.found 8 → ⊥) → (before mid after : Option Group) → LooksMade before mid seat.number seen → TriedIf posted seat.number mid after b.view
-    → Idles refused seat.number a b → Holds seat.place seat.number b.view b.worker → (b.worker.winds_down ≡ false → b.worker.in_hand ≡ None) → Agrees seat.place seat.number a.view before → Agrees seat.place seat.number b.view after → IfSome after (λ w. ∥ Lawful w ∥₁) → refused ≡ false → a.worker.winds_down ≡ false
-    → AtRest seat before after a.view b.view a.worker b.worker
-at_rest refused seat a b seen P posted found before mid after looks tried I H hand entered left lawful asks works =
+    → Idles refused seat.number a b → Holds seat.place seat.number b.view b.worker → (b.worker.winds_down ≡ false → b.worker.in_hand ≡ None) → Agrees seat.place seat.number a.view before → Agrees seat.place seat.number b.view after → IfSome after (λ w. ∥ Lawful w ∥₁)
+    → AtRest refused seat before after a.view b.view a.worker b.worker
+at_rest refused seat a b seen P posted found before mid after looks tried I H hand entered left lawful =
     let p = seat.place in
     let m = seat.number in
     let try = tried_as posted found tried in
     record {
-      loads = loads p refused m a b seen P I.post I.free I.same H asks works before mid after looks try;
+      loads = loads p refused m a b seen P I.post I.free I.same H before mid after looks try;
       same = idle_same p refused m a b I;
-      rests = rests p refused m a b seen P I.post I.free I.same H asks works before mid after looks try entered left lawful (hand (ap (λ (w : Worker). w.winds_down) I.same ∙ works));
-      open_for = open_for p refused m a b seen P I.post I.free I.same H asks works;
+      rests = rests p refused m a b seen P I.post I.free I.same H before mid after looks try entered left lawful;
+      no_more = λ asks works. no_more p refused m a b seen P I.post I.free I.same H asks works (hand (ap (λ (w : Worker). w.winds_down) I.same ∙ works));
     } where
       tried_as : (x : Bool) → MatchBool x (FindsPosted a.worker.places.items P.looked.found 8) (FindsPosted a.worker.places.items P.looked.found 8 → ⊥) → TriedIf x seat.number mid after b.view
           → ((FindsPosted a.worker.places.items P.looked.found 8 → ⊥) × (after ≡ mid)) ⊎ Makes mid seat.number Kind.Lock after b.view
@@ -152,7 +155,7 @@ at_rest refused seat a b seen P posted found before mid after looks tried I H ha
 
 pub rests_by : (r : Result Turn Memory) (s : State) (refused : Bool) (seat : SeatAt) (a b : Moment) (seen : View) (P : PassesItems seat.number a 8 seen) (posted : Bool) → MatchBool posted (FindsPosted a.worker.places.items P.looked.found 8) (FindsPosted a.worker.places.items P.looked.found 8 → ⊥) → (before mid after : Option Group) → LooksMade before mid seat.number seen → IfIdle r (TriedIf posted seat.number mid after b.view)
     → TurnedTo r s refused before seat a b → Holds seat.place seat.number b.view b.worker → (b.worker.winds_down ≡ false → b.worker.in_hand ≡ None) → Agrees seat.place seat.number a.view before → Agrees seat.place seat.number b.view after → IfSome after (λ w. ∥ Lawful w ∥₁)
-    → IfIdle r (refused ≡ false → a.worker.winds_down ≡ false → AtRest seat before after a.view b.view a.worker b.worker)
+    → IfIdle r (AtRest refused seat before after a.view b.view a.worker b.worker)
 rests_by (Ok Moved) s refused seat a b seen P posted found before mid after looks tried turned H hand entered left lawful = tt
 rests_by (Err memory) s refused seat a b seen P posted found before mid after looks tried turned H hand entered left lawful = tt
 rests_by (Ok Idle) s refused seat a b seen P posted found before mid after looks tried turned H hand entered left lawful = at_rest refused seat a b seen P posted found before mid after looks tried turned H hand entered left lawful

@@ -40,6 +40,33 @@ posted_place ps k t none is = by (place_at ps t) refl is where
   by (Staged number entry value) e i = absurd (let both : true ≡ false = sym (ap is_staged e) ∙ none t in cc both)
   by (Posted number key lines) e i = (number, lines, e ∙ (let same : key ≡ k = cc i in ap (λ n. Posted number n lines) same))
 
+-- A posted change that it holds stands in the slot of its place.
+pub slot_of : (p : Place) (m : ℕ) (u : View) (w : Worker) → Holds p m u w → (k : ℕ) (y : Placed) → placed_for u w.places.items k ≡ Some y → y.posted ≡ true
+    → (t : ℕ) × (t < 8) × (is_posted (place_at w.places.items t) ≡ true) × ((e : Entry) × (u.pending k ≡ Some (record { entry = e; slot = Some t })))
+slot_of p m u w H k y is posted = by (is_busy w.places.items k) refl where
+  by : (b : Bool) → is_busy w.places.items k ≡ b → (t : ℕ) × (t < 8) × (is_posted (place_at w.places.items t) ≡ true) × ((e : Entry) × (u.pending k ≡ Some (record { entry = e; slot = Some t })))
+  by false free = absurd (let gone : Some y ≡ None = sym is ∙ none_for u k w.places.items free in cc gone)
+  by true busy = at (busy_has w.places.items k busy) where
+    at : (b : (t : ℕ) × (t < length w.places.items) × (key_in (place_at w.places.items t) ≡ Some k)) → (t : ℕ) × (t < 8) × (is_posted (place_at w.places.items t) ≡ true) × ((e : Entry) × (u.pending k ≡ Some (record { entry = e; slot = Some t })))
+    at b = here (place_at w.places.items b.0) refl where
+      lt : b.0 < 8
+      lt = (let low = b.1 in let eight = H.eight in omega (arith, low, eight))
+
+      held : placed_in u (place_at w.places.items b.0) ≡ Some y
+      held = sym (held_at u w.places.items b.0 k H.apart b.2) ∙ is
+
+      here : (x : places.Place) → place_at w.places.items b.0 ≡ x → (t : ℕ) × (t < 8) × (is_posted (place_at w.places.items t) ≡ true) × ((e : Entry) × (u.pending k ≡ Some (record { entry = e; slot = Some t })))
+      here Free e = absurd (let gone : None ≡ Some y = sym (ap (placed_in u) e) ∙ held in cc gone)
+      here (Staged number entry value) e = absurd (let some = sym (ap (placed_in u) e) ∙ held in let off : false ≡ true = not_posted some ∙ posted in cc off) where
+        not_posted : placed_in u (Staged number entry value) ≡ Some y → false ≡ y.posted
+        not_posted q = cc q
+      here (Posted number key lines) e =
+          let own : key ≡ k = key_is (sym (ap key_in e) ∙ b.2) in
+          let placed : IsPlaced p m u b.0 (Posted number key lines) = subst (IsPlaced p m u b.0) e (H.placed b.0 lt) in
+          (b.0, lt, ap is_posted e, (placed.0, subst (λ n. u.pending n ≡ Some (record { entry = placed.0; slot = Some b.0 })) own placed.1)) where
+            key_is : Some key ≡ Some k → key ≡ k
+            key_is q = cc q
+
 module _ (p : Place) (m : ℕ) (u : View) (w : Worker) (H : Holds p m u w) (none : HasNone is_staged w.places.items) where
   -- the change of a key that it holds is posted, in the slot of its place
   pub posted_of : (k : ℕ) (y : Placed) → placed_for u w.places.items k ≡ Some y → (y.posted ≡ true) × ((t : ℕ) × (t < 8) × (is_posted (place_at w.places.items t) ≡ true) × ((e : Entry) × (u.pending k ≡ Some (record { entry = e; slot = Some t }))))

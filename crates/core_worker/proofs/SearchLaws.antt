@@ -1,6 +1,6 @@
 -- A load more of an own slot, where none was found given back so far.
 use Rattle.std.proofs.Common.{◌≡◌, ◌≢◌, inl, ⊎_elim, ℕ, ◌+◌, ◌<◌, Bool, true, false, cond, ◌||◌, List, [], ◌∷◌, ◌++◌, Option, Some, None, refl, sym, ◌∙◌, ap, subst, arith, append-nil, append_assoc}
-use Rattle.std.specs.Prelude.{IfSome, IsSomeAnd}
+use Rattle.std.specs.Prelude.{IfSome}
 use Rattle.std.proofs.lemmas.Bool.{cases_lt, eq-eqb, ne_eqb}
 use Rattle.std.proofs.lemmas.List.{map-append}
 use Rattle.store_image.specs.Facts.{In}
@@ -9,8 +9,7 @@ use Rattle.group_laws.specs.declared.types.Seen.TheVariants.{Slot}
 use Rattle.group_laws.specs.declared.types.SlotWord.{SlotWord}
 use Rattle.group_laws.specs.declared.types.SlotWord.TheVariants as words
 use Rattle.group_laws.specs.Places as at
-use Rattle.group_laws.specs.State.{Group, shown}
-use Rattle.group_laws.specs.declared.types.Slot.{Slot as Slots}
+use Rattle.group_laws.specs.State.{Group}
 use Rattle.group_laws.specs.Updates.{put}
 use Rattle.group_laws.specs.Runs.{Kind}
 use Rattle.group_laws.specs.Runs.Kind.{Look}
@@ -27,7 +26,7 @@ use Rattle.core_worker.specs.declared.worker.Worker.{Worker}
 use Rattle.core_worker.specs.OwnPlaces.{place_at, is_posted}
 use Rattle.core_worker.specs.Ties.{LeadsNothing}
 use Rattle.core_worker.specs.Turns.{PassesItems, IsBack, FindsPosted, looks_at, LooksMade}
-use Rattle.core_worker.specs.Searching.{Sees, is_given_back, is_out, shows_back, shows_out, IsStanding, Searched, Finds, FoundStands}
+use Rattle.core_worker.specs.Searching.{Sees, is_given_back, is_out, shows_back, shows_out, Searched, Finds}
 use Rattle.core_worker.specs.declared.search_places.Search.TheVariants.{Out}
 
 pub searched_none : (before : Option Group) (m : ℕ) (p : at.Place) (ps : List Place) (v : View) → IfSome before (λ u. (p ≡ u.place) × (v ≡ view_of u m)) → Searched before before m ps v 0 false v
@@ -40,15 +39,7 @@ searched_none before m p ps v agrees = record {
   flag = λ f. absurd (let lt = f.2 in omega (arith, lt));
   slots = [];
   made = no_steps before m p v agrees;
-  stood = none before;
-} where
-  none : (a : Option Group) → IfSome a (λ x. IsSomeAnd a (λ w. (s : ℕ) → s < 0 → is_posted (place_at ps s) ≡ true → IsStanding false (state_of (shown (w.slot m s)))))
-  none None = tt
-  none (Some w) = λ s lt. absurd (omega (arith, lt))
-
-or_true : (b d : Bool) → d ≡ true → (b || d) ≡ true
-or_true true d e = refl
-or_true false d e = e
+}
 
 or_false : (b : Bool) → (b || false) ≡ b
 or_false true = refl
@@ -95,17 +86,11 @@ module _ (before mid after : Option Group) (m : ℕ) (ps : List Place) (v : View
     flag = by posted S.flag;
     slots = S.slots;
     made = subst (λ (g : Option Group). MakesAll before (looks_at m S.slots) g m t) (sym group) (subst (λ (x : View). MakesAll before (looks_at m S.slots) mid m x) (sym same) S.made);
-    stood = subst (λ (g : Option Group). IfSome before (λ a. IsSomeAnd g (λ w. (s : ℕ) → s < slot + 1 → is_posted (place_at ps s) ≡ true → IsStanding posted (state_of (shown (w.slot m s)))))) (sym group) (more before mid S.stood);
   } where
     below : (s : ℕ) → s < slot + 1 → is_posted (place_at ps s) ≡ true → s < slot
     below s lt is = ⊎_elim (λ low. low)
         (λ high. absurd (let here : s ≡ slot = omega (arith, lt, high) in let both : true ≡ false = sym is ∙ ap (λ n. is_posted (place_at ps n)) here ∙ free in cc both))
         (cases_lt s slot)
-
-    more : (z a : Option Group) → IfSome z (λ y. IsSomeAnd a (λ w. (s : ℕ) → s < slot → is_posted (place_at ps s) ≡ true → IsStanding posted (state_of (shown (w.slot m s))))) → IfSome z (λ y. IsSomeAnd a (λ w. (s : ℕ) → s < slot + 1 → is_posted (place_at ps s) ≡ true → IsStanding posted (state_of (shown (w.slot m s)))))
-    more None a h = tt
-    more (Some y) None h = h
-    more (Some y) (Some w) h = λ s lt is. h s (below s lt is) is
 
     by : (b : Bool) → MatchBool b (FindsPosted ps S.found slot) (FindsPosted ps S.found slot → ⊥) → MatchBool b (FindsPosted ps S.found (slot + 1)) (FindsPosted ps S.found (slot + 1) → ⊥)
     by true f = (f.0, f.1, (let lt = f.2 in omega (arith, lt)), f.3, f.4)
@@ -147,21 +132,8 @@ module _ (before mid after : Option Group) (m : ℕ) (ps : List Place) (v : View
       none = λ s lt p. S.none s lt (ap (λ qs. is_posted (place_at qs s)) (sym same) ∙ p);
     }
 
-    standing_more : (d : Bool) (x : SlotState) → IsStanding posted x → IsStanding (posted || d) x
-    standing_more d x h = record { back = h.back; out = λ is. ap (λ b. b || d) (h.out is) }
-
-    stood_on : (z a b : Option Group) → Makes a m (Look m slot) b t → IfSome a (λ w. state_of (shown (w.slot m slot)) ≡ state_of word) → is_given_back (state_of word) ≡ false → IfSome z (λ y. IsSomeAnd a (λ w. (s : ℕ) → s < slot → is_posted (place_at ps s) ≡ true → IsStanding posted (state_of (shown (w.slot m s)))))
-        → IfSome z (λ y. IsSomeAnd b (λ w. (s : ℕ) → s < slot + 1 → is_posted (place_at ps s) ≡ true → IsStanding (posted || is_out (state_of word)) (state_of (shown (w.slot m s)))))
-    stood_on None a b step here back h = tt
-    stood_on (Some y) None b step here back h = absurd h
-    stood_on (Some y) (Some a) None step here back h = absurd step
-    stood_on (Some y) (Some a) (Some b) step here back h = λ s lt p. subst (λ (f : ℕ → ℕ → Slots). IsStanding (posted || is_out (state_of word)) (state_of (shown (f m s)))) (sym (ap (λ (g : Group). g.slot) step.0.2))
-        (⊎_elim (λ l. standing_more (is_out (state_of word)) (state_of (shown (a.slot m s))) (h s l p))
-        (λ high. let e : s ≡ slot = omega (arith, lt, high) in subst (λ n. IsStanding (posted || is_out (state_of word)) (state_of (shown (a.slot m n)))) (sym e) (subst (IsStanding (posted || is_out (state_of word))) (sym here) (record { back = back; out = λ is. or_true posted (is_out (state_of word)) is })))
-        (cases_lt s slot))
-
-    loaded : IfSome mid (λ w. state_of (shown (w.slot m slot)) ≡ state_of word) → is_given_back (state_of word) ≡ false → Searched before after m ps v (slot + 1) (posted || is_out (state_of word)) t
-    loaded here_stood back = record {
+    loaded : is_given_back (state_of word) ≡ false → Searched before after m ps v (slot + 1) (posted || is_out (state_of word)) t
+    loaded back = record {
       found = now;
       looks = S.looks ++ Slot m slot word ∷ [];
       view = look_is;
@@ -175,7 +147,6 @@ module _ (before mid after : Option Group) (m : ℕ) (ps : List Place) (v : View
       flag = by posted (is_out (state_of word)) refl S.flag;
       slots = S.slots ++ slot ∷ [];
       made = made_more before mid after m slot S.slots u t S.made step;
-      stood = stood_on before mid after step here_stood back S.stood;
     } where
       by : (b d : Bool) → is_out (state_of word) ≡ d → MatchBool b (FindsPosted ps S.found slot) (FindsPosted ps S.found slot → ⊥) → MatchBool (b || d) (FindsPosted ps now (slot + 1)) (FindsPosted ps now (slot + 1) → ⊥)
       by true d e f = (f.0, f.1, (let lt = f.2 in omega (arith, lt)), f.3, low f.0 f.2 ∙ f.4)
@@ -192,10 +163,7 @@ searched_on before mid after m ps v slot posted u t S None sees back =
     subst (λ b. Searched before after m ps v (slot + 1) b t) (sym (or_false posted)) (beside before mid after m ps v slot posted u t S sees.0 sees.1 sees.2)
 searched_on before mid after m ps v slot posted u t S (Some state) sees back =
     subst (λ (y : SlotState). Searched before after m ps v (slot + 1) (posted || is_out y) t) sees.1.1
-    (loaded before mid after m ps v slot posted u t S sees.1.0 sees.0 sees.1.2 sees.2 (stood_word mid sees.3) (ap is_given_back sees.1.1 ∙ back)) where
-      stood_word : (a : Option Group) → IfSome a (λ w. state_of (shown (w.slot m slot)) ≡ state) → IfSome a (λ w. state_of (shown (w.slot m slot)) ≡ state_of sees.1.0)
-      stood_word None h = tt
-      stood_word (Some w) h = h ∙ sym sees.1.1
+    (loaded before mid after m ps v slot posted u t S sees.1.0 sees.0 sees.1.2 sees.2 (ap is_given_back sees.1.1 ∙ back))
 
 -- one was found given back, and none below it
 pub found_below : (before mid after : Option Group) (m : ℕ) (w : Worker) (v : View) (slot : ℕ) (posted : Bool) (u t : View) → LeadsNothing w → Searched before mid m w.places.items v slot posted u → (x : Option SlotState) → Sees m slot mid after u t (place_at w.places.items slot) x → shows_back x ≡ true
@@ -221,7 +189,3 @@ searched_all before after m w v posted u nothing S = (
   },
   S.flag,
 )
-
--- and so the own slots stand
-pub searched_stands : (before after : Option Group) (m : ℕ) (w : Worker) (v : View) (posted : Bool) (u : View) → Searched before after m w.places.items v 8 posted u → FoundStands (Out posted) before after m w.places.items
-searched_stands before after m w v posted u S = S.stood

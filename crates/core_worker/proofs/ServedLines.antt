@@ -1,5 +1,5 @@
 -- What beginning the waiting requests of a key does to its line.
-use Rattle.std.proofs.Common.{◌≡◌, ◌≢◌, ◌⊎◌, inl, inr, ⊎_elim, ℕ, ◌==◌, ◌||◌, Bool, true, false, cond, List, [], ◌∷◌, ◌++◌, map, Option, Some, None, refl, sym, ◌∙◌, ap, subst}
+use Rattle.std.proofs.Common.{◌≡◌, ◌≢◌, ◌⊎◌, inl, inr, ⊎_elim, ℕ, ◌==◌, ◌||◌, Bool, true, false, cond, List, [], ◌∷◌, ◌++◌, map, Option, Some, None, refl, sym, ◌∙◌, ap, subst, arith}
 use Rattle.std.specs.Prelude.{option_to_list}
 use Rattle.std.specs.List.{AllByRecursion, filter}
 use Rattle.std.proofs.lemmas.Bool.{cases_eq, eq-eqb, ne_eqb}
@@ -24,7 +24,12 @@ use Rattle.core_worker.specs.Refusals.{reply_to}
 use Rattle.core_worker.specs.Answering.{IsCause, IsSaid, AddsAnswers}
 use Rattle.core_worker.proofs.Given.{said_same, given_by, adds_none, adds_then, answer_untold}
 use Rattle.core_worker.specs.Beginning.{answers_of, answer_with, OnlyBegins, IsAnswered, IsStaged, GoesOn, BeginsBy, BeginsAs, Begins, BeginsAll, BeginsShort}
-use Rattle.core_worker.specs.WorkerMoves.{Placed, Fixed, asked, replied, placed, placed_in, placed_for, asked_by}
+use Rattle.core_worker.specs.WorkerMoves.{Placed, Fixed, asked, replied, placed, placed_in, placed_for, asked_by, stock_of}
+use Rattle.chunk_map.specs.declared.layouts.Geometry.{Geometry}
+use Rattle.engine_laws.specs.FreeStock.{Stock, LacksRoom}
+use Rattle.engine_laws.specs.RefusalCauses.{raised, HasCause, HaveCauses}
+use Rattle.engine_laws.proofs.CauseLaws.{raised_low, causes_up}
+use Rattle.core_worker.proofs.CauseFacts.{stopped_causeless, answer_causeless, answer_not_full, why_cause, why_full, stock_same}
 use Rattle.core_worker.proofs.AcceptMoves.{not_stopped, left_by_refusal, may_refuse_for, still_left, still_runs}
 use Rattle.core_worker.proofs.HandKeys.{none_for}
 use Rattle.core_worker.proofs.HandPlaces.{held_at, held_beside}
@@ -53,10 +58,12 @@ pub record Answers (Known : Type 0) (w u : Worker) (cell : Option (List ℕ)) (n
   pub left : cell_left r reply cell ≡ cell
   pub halts : w.stopped ≡ true → reply ≡ replies.Stopped
   pub halted : reply ≡ replies.Stopped → w.stopped ≡ true
+  pub has_cause : HasCause w.layout (last_of (known_at w.index (key_of r))) r reply
+  pub full : reply ≡ replies.Full → LacksRoom w.layout (stock_of w) r
 
 module _ (Known : Type 0) (w u : Worker) (cell : Option (List ℕ)) (n : ℕ) (r : Request) where
-  running : (a given : Reply) (why : Option Shortage) → w.stopped ≡ false → IsSaid Known r a given → IsCause a why → IsAnswered w u (answer_with n given why) → MayReply r cell false a → cell_left r a cell ≡ cell → (a ≢ replies.Stopped) → Answers Known w u cell n r
-  running a given why runs said because is may left other = record {
+  running : (a given : Reply) (why : Option Shortage) → w.stopped ≡ false → IsSaid Known r a given → IsCause a why → IsAnswered w u (answer_with n given why) → MayReply r cell false a → cell_left r a cell ≡ cell → (a ≢ replies.Stopped) → HasCause w.layout (last_of (known_at w.index (key_of r))) r a → (a ≡ replies.Full → LacksRoom w.layout (stock_of w) r) → Answers Known w u cell n r
+  running a given why runs said because is may left other has full = record {
     reply = a;
     given = given;
     said = said;
@@ -67,18 +74,20 @@ module _ (Known : Type 0) (w u : Worker) (cell : Option (List ℕ)) (n : ℕ) (r
     left = left;
     halts = λ stopped. absurd (let both : true ≡ false = sym stopped ∙ runs in cc both);
     halted = λ same. absurd (other same);
+    has_cause = has;
+    full = full;
   }
 
   goes_on : (c : Bool) → w.stopped ≡ false → is_change r cell ≡ c → GoesOn Known c w u cell n r → Answers Known w u cell n r ⊎ ((w.stopped ≡ false) × IsStaged w u n r)
-  goes_on false runs e is = inl (running (answer_to r cell) is.0 None runs is.1 (answer_untold r cell e) is.2 (inl refl) (still_left r cell e) (still_runs r cell))
+  goes_on false runs e is = inl (running (answer_to r cell) is.0 None runs is.1 (answer_untold r cell e) is.2 (inl refl) (still_left r cell e) (still_runs r cell) (answer_causeless w.layout (last_of (known_at w.index (key_of r))) r cell e) (λ full. absurd (answer_not_full r cell e full)))
   goes_on true runs e is = inr (runs, is)
 
   by_cause : (o : Option Shortage) → w.stopped ≡ false → why w.layout (supply_of w) w.allocator (last_of (known_at w.index (key_of r))) cell r ≡ o → BeginsBy Known o w u cell n r → Answers Known w u cell n r ⊎ ((w.stopped ≡ false) × IsStaged w u n r)
   by_cause None runs e is = goes_on (is_change r cell) runs refl is
-  by_cause (Some c) runs e is = inl (running (reply_to c) (reply_to c) (Some c) runs (said_same Known r (reply_to c)) refl is (may_refuse_for w.layout (supply_of w) w.allocator (last_of (known_at w.index (key_of r))) cell r c e) (left_by_refusal r cell c) (not_stopped c))
+  by_cause (Some c) runs e is = inl (running (reply_to c) (reply_to c) (Some c) runs (said_same Known r (reply_to c)) refl is (may_refuse_for w.layout (supply_of w) w.allocator (last_of (known_at w.index (key_of r))) cell r c e) (left_by_refusal r cell c) (not_stopped c) (why_cause w.layout (supply_of w) w.allocator (last_of (known_at w.index (key_of r))) cell r c e) (why_full w.layout (supply_of w) w.allocator (last_of (known_at w.index (key_of r))) cell r c e))
 
   by_stop : (d : Bool) → w.stopped ≡ d → BeginsAs Known d w u cell n r → Answers Known w u cell n r ⊎ ((w.stopped ≡ false) × IsStaged w u n r)
-  by_stop true e is = inl (record { reply = replies.Stopped; given = replies.Stopped; cause = None; said = said_same Known r replies.Stopped; by_cause = refl; is = is; may = subst (λ b. MayReply r cell b replies.Stopped) (sym e) refl; left = refl; halts = λ s. refl; halted = λ s. e })
+  by_stop true e is = inl (record { reply = replies.Stopped; given = replies.Stopped; cause = None; said = said_same Known r replies.Stopped; by_cause = refl; is = is; may = subst (λ b. MayReply r cell b replies.Stopped) (sym e) refl; left = refl; halts = λ s. refl; halted = λ s. e; has_cause = stopped_causeless w.layout (last_of (known_at w.index (key_of r))) r replies.Stopped refl; full = λ full. absurd (cc full) })
   by_stop false e is = by_cause (why w.layout (supply_of w) w.allocator (last_of (known_at w.index (key_of r))) cell r) e refl is
 
   pub begins_one : Begins Known w u cell n r → Answers Known w u cell n r ⊎ ((w.stopped ≡ false) × IsStaged w u n r)
@@ -94,6 +103,8 @@ pub record Line (Known : Type 0) (v : View) (w x : Worker) (k : ℕ) (cell : Opt
   pub halts : w.stopped ≡ true → AllByRecursion (λ y. y.reply ≡ replies.Stopped) fs × (placed_for v x.places.items k ≡ None)
   pub halted : (y : Fixed) → In y fs → y.reply ≡ replies.Stopped → (x.stopped ≡ true) × (placed_for v x.places.items k ≡ None)
   pub stopped : x.stopped ≡ w.stopped
+  pub causes : HaveCauses w.layout (last_of (known_at w.index k)) (map replied fs)
+  pub full : AllByRecursion (λ (y : Request × Reply). y.1 ≡ replies.Full → LacksRoom w.layout (stock_of w) y.0) (map replied fs)
   pub other_places : (j : ℕ) → j ≢ k → placed_for v x.places.items j ≡ placed_for v w.places.items j
   pub other_waits : (j : ℕ) → j ≢ k → filter (λ h. key_of h.request == j) (option_to_list x.in_hand) ++ waiting x.queue j ≡ filter (λ h. key_of h.request == j) (option_to_list w.in_hand) ++ waiting w.queue j
 
@@ -148,6 +159,8 @@ module _ (Known : Type 0) (v : View) (k : ℕ) (cell : Option (List ℕ)) where
     halts = λ stopped. (tt, ap (λ (y : Worker). placed_for v y.places.items k) same ∙ none_for v k w.places.items idle);
     halted = λ y i. absurd i;
     stopped = ap (λ (y : Worker). y.stopped) same;
+    causes = tt;
+    full = tt;
     other_places = λ j ne. ap (λ (y : Worker). placed_for v y.places.items j) same;
     other_waits = λ j ne. ap (λ (y : Worker). filter (λ h. key_of h.request == j) (option_to_list y.in_hand) ++ waiting y.queue j) same;
   }
@@ -187,11 +200,33 @@ module _ (Known : Type 0) (v : View) (k : ℕ) (cell : Option (List ℕ)) where
           (λ at. let s = sym next_stops ∙ A.halted (ap (λ (z : Fixed). z.reply) (sym at) ∙ e) in (L.stopped ∙ stopped_next ∙ s, (L.halts (stopped_next ∙ s)).1))
           (λ more. L.halted y more e) i;
       stopped = L.stopped ∙ stopped_next;
+      causes = (
+        subst (λ (l : Geometry). HasCause l (last_of (known_at w.index k)) h.request A.reply) layout_next (subst (λ (i : ℕ). HasCause next.layout i h.request A.reply) last_next A.has_cause),
+        subst (λ (l : Geometry). HaveCauses l (raised (last_of (known_at w.index k)) A.reply) (map replied fs)) (A.is.same.layout ∙ layout_next)
+        (causes_up mid.layout (last_of (known_at mid.index k)) (raised (last_of (known_at w.index k)) A.reply) (map replied fs) (let low = raised_low A.reply (last_of (known_at w.index k)) in let at = last_mid in omega (arith, low, at)) L.causes),
+      );
+      full = (
+        λ is. subst (λ (t : Stock). LacksRoom w.layout t h.request) stock_next (subst (λ (l : Geometry). LacksRoom l (stock_of next) h.request) layout_next (A.full is)),
+        subst (λ (t : Stock). AllByRecursion (λ (y : Request × Reply). y.1 ≡ replies.Full → LacksRoom w.layout t y.0) (map replied fs)) (stock_same next mid A.is.same.log A.is.allocator ∙ stock_next)
+        (subst (λ (l : Geometry). AllByRecursion (λ (y : Request × Reply). y.1 ≡ replies.Full → LacksRoom l (stock_of mid) y.0) (map replied fs)) (A.is.same.layout ∙ layout_next) L.full),
+      );
       other_places = λ j ne. L.other_places j ne ∙ ap (λ (ps : List places.Place). placed_for v ps j) (A.is.places ∙ ap (λ (y : Worker). y.places.items) same);
       other_waits = λ j ne. L.other_waits j ne ∙ (λ i. filter (λ h. key_of h.request == j) (option_to_list (hand_mid i)) ++ waits_mid j ne i);
     } where
       next_stops : next.stopped ≡ w.stopped
       next_stops = ap (λ (y : Worker). y.stopped) same
+
+      layout_next : next.layout ≡ w.layout
+      layout_next = ap (λ (y : Worker). y.layout) same
+
+      stock_next : stock_of next ≡ stock_of w
+      stock_next = stock_same w next (ap (λ (y : Worker). y.log) same) (ap (λ (y : Worker). y.allocator) same)
+
+      last_next : last_of (known_at next.index (key_of h.request)) ≡ last_of (known_at w.index k)
+      last_next = ap (λ (y : Worker). last_of (known_at y.index (key_of h.request))) same ∙ ap (λ j. last_of (known_at w.index j)) (first_key w.queue next.queue k h T)
+
+      last_mid : last_of (known_at mid.index k) ≡ last_of (known_at w.index k)
+      last_mid = ap last_of (A.is.records k) ∙ ap (λ (y : Worker). last_of (known_at y.index k)) same
 
     -- one is staged
     line_staged : (S : IsStaged next mid h.number h.request) → next.stopped ≡ false → x ≡ mid → w.in_hand ≡ None → is_busy w.places.items k ≡ false → AreApart w.places.items → waiting w.queue k ≡ h ∷ hs → Line Known v w x k cell (h ∷ hs) []
@@ -205,6 +240,8 @@ module _ (Known : Type 0) (v : View) (k : ℕ) (cell : Option (List ℕ)) where
       halts = λ stopped. absurd (let both : true ≡ false = sym stopped ∙ sym (ap (λ (y : Worker). y.stopped) same) ∙ runs in cc both);
       halted = λ y i. absurd i;
       stopped = ap (λ (y : Worker). y.stopped) is ∙ stopped_next;
+      causes = tt;
+      full = tt;
       other_places = λ j ne. ap (λ (y : Worker). placed_for v y.places.items j) is ∙ held_beside v v w.places.items mid.places.items S.slot (Staged h.number S.entry S.value) here apart apart_now j
           (λ e. (let both : None ≡ Some j = sym (ap key_in was) ∙ e in cc both)) (λ e. ne (let both : Some S.entry.key ≡ Some j = e in let at : S.entry.key ≡ j = cc both in sym at ∙ key)) (λ t low e. refl);
       other_waits = λ j ne. ap (λ (y : Worker). filter (λ h. key_of h.request == j) (option_to_list y.in_hand) ++ waiting y.queue j) is ∙ (λ i. filter (λ h. key_of h.request == j) (option_to_list (hand_mid i)) ++ waits_mid j ne i);
@@ -265,6 +302,8 @@ module _ (Known : Type 0) (v : View) (k : ℕ) (cell : Option (List ℕ)) where
     halts = λ stopped. (tt, ap (λ (y : Worker). placed_for v y.places.items k) is ∙ none);
     halted = λ y i. absurd i;
     stopped = ap (λ (y : Worker). y.stopped) is ∙ ap (λ (y : Worker). y.stopped) same;
+    causes = tt;
+    full = tt;
     other_places = λ j ne. ap (λ (y : Worker). placed_for v y.places.items j) is ∙ ap (λ (y : Worker). placed_for v y.places.items j) same;
     other_waits = λ j ne. ap (λ (y : Worker). filter (λ h. key_of h.request == j) (option_to_list y.in_hand) ++ waiting y.queue j) is
         ∙ (λ i. cond (ne_eqb (key_of h.request) j (λ e. ne (sym e ∙ first_key w.queue next.queue k h T)) i) (h ∷ []) [] ++ waiting next.queue j) ∙ T.others j ne ∙ sym (hand_none w.in_hand j (waiting w.queue j) hand);
@@ -304,6 +343,8 @@ module _ (Known : Type 0) (v : View) (k : ℕ) (cell : Option (List ℕ)) where
     halts = λ stopped. (tt, none_for v k w.places.items idle);
     halted = λ y i. absurd i;
     stopped = refl;
+    causes = tt;
+    full = tt;
     other_places = λ j ne. refl;
     other_waits = λ j ne. refl;
   }

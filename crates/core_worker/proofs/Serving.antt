@@ -19,6 +19,8 @@ use Rattle.core_worker.specs.declared.worker.Worker.{Worker}
 use Rattle.core_worker.specs.OwnPlaces.{place_at, is_free, is_busy, key_in, Replaces}
 use Rattle.core_worker.specs.Refusals.{HasAnswerRoom}
 use Rattle.core_worker.specs.Beginning.{HoldsAside, IsStaged}
+use Rattle.log_standing.specs.NameCounts.{StandingState}
+use Rattle.core_worker.specs.StandingTies.{KnowsLog, most_names}
 use Rattle.core_worker.specs.Order.{PointsAt, count_changes, unanswered, MayLeadStopped, InOrder}
 use Rattle.core_worker.specs.Serving.{KeepsLine, OthersWait, AllWait}
 use Rattle.core_worker.proofs.Posts.{busy_by, busy_has}
@@ -78,10 +80,10 @@ line_staged w u n k r runs e key S = record {
 }
 
 -- what is in order but for the answers, what is in hand and the staged changes
-pub order_kept : (p : groups.Place) (m : ℕ) (v : View) (w u : Worker) → u.index ≡ w.index → u.leading ≡ w.leading → u.stopped ≡ w.stopped
+pub order_kept : (p : groups.Place) (m : ℕ) (v : View) (w u : Worker) → u.index ≡ w.index → u.leading ≡ w.leading → u.stopped ≡ w.stopped → u.standing ≡ w.standing → (u.winds_down ≡ false → w.winds_down ≡ false)
     → ((k : ℕ) → groups.owner p k ≡ m → is_busy u.places.items k ≡ true → v.pending k ≡ None → is_forgettable (known_at u.index k) ≡ false)
     → HasAnswerRoom (unanswered u) u → (u.winds_down ≡ false → u.in_hand ≡ None) → InOrder p m v w → InOrder p m v u
-order_kept p m v w u index leading stopped recalls answers hand O = record {
+order_kept p m v w u index leading stopped standing works recalls answers hand O = record {
   owned = O.owned;
   single = λ q b h. subst (λ (es : List (ℕ × slots.Place)). (block_of (known_at es b.key) ≡ Some q) ⊎ PointsAt (v.pending b.key) q) (sym index) (O.single q b h);
   distinct = λ k q points is. O.distinct k q points (ap (λ (es : List (ℕ × slots.Place)). block_of (known_at es k)) (sym index) ∙ is);
@@ -94,6 +96,8 @@ order_kept p m v w u index leading stopped recalls answers hand O = record {
   answers = answers;
   hand = hand;
   stops = λ s. subst MayLeadStopped (sym leading) (O.stops (sym stopped ∙ s));
+  log = λ r on. subst (KnowsLog m v.kept v.present v.told v.dead) (sym standing) (O.log (sym stopped ∙ r) (works on));
+  names = λ r on. subst (λ (st : StandingState). most_names ≤ st.room) (sym standing) (O.names (sym stopped ∙ r) (works on));
 }
 
 abbrev pub hands : Option Held → ℕ
@@ -102,7 +106,7 @@ hands o = cond (is_some o) 1 0
 -- one of the waiting requests of a key is taken out and begun
 module _ (p : groups.Place) (m : ℕ) (v : View) (w u : Worker) (q : List Held) (k : ℕ) (h : Held) (T : TakesFirst w.queue q k h) (hand : w.in_hand ≡ None) (O : InOrder p m v w) where
   pub order_begun : HoldsAside p m v w → u ≡ record w { queue = q; allocator = u.allocator; places = u.places; answers = u.answers } → KeepsLine (record w { queue = q }) u k → InOrder p m v u
-  order_begun H rest L = order_kept p m v w u (ap (λ (x : Worker). x.index) rest) (ap (λ (x : Worker). x.leading) rest) (ap (λ (x : Worker). x.stopped) rest) recalls answers
+  order_begun H rest L = order_kept p m v w u (ap (λ (x : Worker). x.index) rest) (ap (λ (x : Worker). x.leading) rest) (ap (λ (x : Worker). x.stopped) rest) (ap (λ (x : Worker). x.standing) rest) (λ on. sym (ap (λ (x : Worker). x.winds_down) rest) ∙ on) recalls answers
       (λ on. ap (λ (x : Worker). x.in_hand) rest ∙ hand) O
     where
       recalls : (j : ℕ) → groups.owner p j ≡ m → is_busy u.places.items j ≡ true → v.pending j ≡ None → is_forgettable (known_at u.index j) ≡ false
@@ -123,7 +127,7 @@ module _ (p : groups.Place) (m : ℕ) (v : View) (w u : Worker) (q : List Held) 
           omega (arith, left, queue, after)
 
   in_hand : (x : Held) → InOrder p m v (record w { queue = q; in_hand = Some x; winds_down = true })
-  in_hand x = order_kept p m v w (record w { queue = q; in_hand = Some x; winds_down = true }) refl refl refl O.recalls
+  in_hand x = order_kept p m v w (record w { queue = q; in_hand = Some x; winds_down = true }) refl refl refl refl (λ on. absurd (cc on)) O.recalls
       (let had = O.answers in
       let all = T.together in
       let before : hands w.in_hand ≡ 0 = ap hands hand in

@@ -9,17 +9,19 @@ use Rattle.log_entry.specs.declared.entry.Body.{Body}
 use Rattle.log_entry.specs.declared.entry.Body.TheVariants as bodies
 use Rattle.log_entry.specs.Spelling.{HasSpelling}
 use Rattle.core_index.specs.Index.{known_at, room_at, Changes}
-use Rattle.core_index.specs.Records.{KeyRecord, block_of, pointer_of, settled, last_of, standing_of, standing_at, standing_with, is_tombstone, is_empty, is_forgettable}
+use Rattle.core_index.specs.Records.{KeyRecord, Awaits, block_of, pointer_of, settled, last_of, standing_of, standing_at, standing_with, is_tombstone, is_empty, is_forgettable}
 use Rattle.core_index.specs.Slots as slots
 use Rattle.core_index.specs.declared.types.Standing.{Standing}
-use Rattle.core_index.proofs.Clients.{at_more, at_added}
+use Rattle.core_index.proofs.Clients.{at_more, at_added, found_version}
+use Rattle.store_image.specs.Facts.{In}
+use Rattle.log_standing.specs.NameCounts.{StandingState, count_of, is_told}
 use Rattle.recover.specs.Starts.{IsSpelledIndex}
 use Rattle.group_laws.specs.declared.types.Block.{Block}
 use Rattle.group_laws.specs.declared.types.Pending.{Pending}
 use Rattle.group_laws.specs.Places.{Place, core_of, owner}
 use Rattle.group_laws.specs.Steps.{points_at, is_of, only_own, bytes_of}
 use Rattle.group_laws.specs.MemberViews.{View}
-use Rattle.group_board.specs.Views.{after_finish, left_in, IsSpentIn, IsTidyIn}
+use Rattle.group_board.specs.Views.{after_finish, left_in, IsSpentIn, TellsItselfIn, IsTidyIn}
 use Rattle.batch_leader.specs.declared.batch_buffer.BatchBuffer.{BatchBuffer}
 use Rattle.lazy_alloc.specs.Sets.{Sets, AreSets, block_is_used}
 use Rattle.core_worker.specs.declared.types.Answer.{Answer}
@@ -34,9 +36,11 @@ use Rattle.core_worker.specs.Order.{PointsAt, InOrder, MayLeadStopped}
 use Rattle.core_worker.specs.Refusals.{HasAnswerRoom}
 use Rattle.core_worker.specs.Beginning.{HoldsAside}
 use Rattle.core_worker.specs.Hearing.{heard_at, last_change, HearsAll}
+use Rattle.core_worker.specs.StandingTies.{IsNamedIn, KnowsLog, HearsOwn}
 use Rattle.core_worker.specs.Finishing.{PutsBackIf}
 use Rattle.core_worker.proofs.Posts.{busy_by}
-use Rattle.core_worker.proofs.Tidied.{tidied_knows, spent_last, change_last}
+use Rattle.core_worker.proofs.HeardNames.{stands_by, dies_by, awaits_by}
+use Rattle.core_worker.proofs.Tidied.{member_of, present_of, stands_of, dead_is, dead_by, tidied_knows, spent_last, change_last}
 use Rattle.core_worker.proofs.PuttingBack.{put_chunks, put_less, put_gone, put_kept}
 use Rattle.core_worker.proofs.Freeing.{Frees}
 use Rattle.core_worker.proofs.FreedOrder.{FreesInOrder, room_let_go}
@@ -123,6 +127,12 @@ module _ (k : ℕ) (body : Body) (old : ℕ → Option Block) where
     by true = ap (λ (d : Bool). cond (not d) None (old q)) (points_has body q points)
     by false = refl
 
+pub same_flag : (x y : Bool) → (x ≡ true → y ≡ true) → (y ≡ true → x ≡ true) → x ≡ y
+same_flag true true f g = refl
+same_flag false false f g = refl
+same_flag true false f g = sym (f refl)
+same_flag false true f g = g refl
+
 -- a record with a standing entry is kept
 not_empty : (ss : List Standing) (s : Standing) → is_empty (ss ++ s ∷ []) ≡ false
 not_empty [] s = refl
@@ -154,9 +164,9 @@ module _ (p : Place) (m : ℕ) (v : View) (w : Worker) (H : HoldsAside p m v w) 
 
   module _ (home : ℕ) (last : ℕ → ℕ) (told dead : ℕ → ℕ → Bool) (T : IsTidyIn p m (after_finish e home v) last told dead)
       (mid ix : List (ℕ × slots.Place)) (al : Sets) (C : Changes w.index mid key (Some (settled (known_at w.index key) e.version e.body (core_of p home)))) (used : room_at mid key + 1 ≡ room_at w.index key) (rooms : (k : ℕ) → k ≢ key → room_at mid k ≡ room_at w.index k)
-      (A : HearsAll (core_of p m) mid ix) (sets : AreSets al) (P : PutsBackIf w.allocator al (block_of (known_at w.index key)))
+      (A : HearsAll (core_of p m) mid ix) (st : StandingState) (tells : HearsOwn (core_of p m) mid w.standing st) (kept_home : home ≡ m → In e v.kept) (sets : AreSets al) (P : PutsBackIf w.allocator al (block_of (known_at w.index key)))
       (b : BatchBuffer) (nothing : w.leading ≡ leads.Nothing b) (ps : Vec places.Place Global) (given_out : VecDeque Answer Global) (R : Replaces w.places.items ps.items slot Free)
-      (room : (n : ℕ) → HasAnswerRoom (n + 1) w → HasAnswerRoom n (record w { index = ix; allocator = al; places = ps; answers = given_out })) where
+      (room : (n : ℕ) → HasAnswerRoom (n + 1) w → HasAnswerRoom n (record w { index = ix; allocator = al; standing = st; places = ps; answers = given_out })) where
     abbrev mid_view : View
     mid_view = after_finish e home v
 
@@ -164,7 +174,7 @@ module _ (p : Place) (m : ℕ) (v : View) (w : Worker) (H : HoldsAside p m v w) 
     view = record mid_view { last = last; told = told; dead = dead }
 
     abbrev done : Worker
-    done = record w { index = ix; allocator = al; places = ps; answers = given_out }
+    done = record w { index = ix; allocator = al; standing = st; places = ps; answers = given_out }
 
     gone_here : (k : ℕ) → k ≡ key → mid_view.pending k ≡ None
     gone_here k same = ap (λ c. cond c None (v.pending k)) (eq-eqb k e.key (same ∙ sym mine))
@@ -403,6 +413,99 @@ module _ (p : Place) (m : ℕ) (v : View) (w : Worker) (H : HoldsAside p m v w) 
       by None at = absurd (let eq = A.standing k n in let both : Some s ≡ None = sym is ∙ eq ∙ ap (option_map (heard_at (core_of p m) (known_at mid k) n)) at in cc both)
       by (Some x) at = (let low = mid_low x at in let eq = last_is in omega (arith, low, eq))
 
+    -- a name of the view after the change is the change's own, or was there
+    was_there : (k n h : ℕ) → mid_view.present k n ≡ Some h → ((k ≡ key) × (n ≡ e.version) × (home ≡ h)) ⊎ (v.present k n ≡ Some h)
+    was_there k n h is = ⊎_elim
+        (λ same. ⊎_elim
+        (λ at. inl (same, at, (let both : Some home ≡ Some h = sym present_here ∙ ap (λ (i : ℕ). mid_view.present i e.version) (sym same) ∙ ap (mid_view.present k) (sym at) ∙ is in cc both)))
+        (λ off. inr (ap (λ (i : ℕ). v.present i n) same ∙ sym (present_older n off) ∙ ap (λ (i : ℕ). mid_view.present i n) (sym same) ∙ is))
+        (cases_eq n e.version))
+        (λ ne. inr (sym (present_other k n ne) ∙ is))
+        (cases_eq k key)
+
+    -- what stands in the own log
+    module _ (runs : w.stopped ≡ false) (L : KnowsLog m v.kept v.present v.told v.dead w.standing) where
+      own_now : (k n : ℕ) → mid_view.present k n ≡ Some m → IsNamedIn v.kept k n
+      own_now k n is = ⊎_elim
+          (λ x. (e, kept_home x.2, mine ∙ sym x.0, sym x.1))
+          (λ before. L.own k n before)
+          (was_there k n m is)
+
+      learns : (k n : ℕ) → (v.dead k n ≡ true) ⊎ TellsItselfIn p m mid_view k n → dead k n ≡ true
+      learns k n which = (T.learns k n).1 which
+
+      heard_now : (k n : ℕ) → mid_view.present k n ≡ Some m → told k n ≡ true → dead k n ≡ true
+      heard_now k n is t = ⊎_elim
+          (λ before. ⊎_elim
+          (λ x. absurd (let off = O.told key e.version none_present in let both : true ≡ false = sym before ∙ (λ i. v.told (x.0 i) (x.1 i)) ∙ off in cc both))
+          (λ was. learns k n (inl (L.heard k n was before)))
+          (was_there k n m is))
+          (λ x. learns k n (inr x))
+          ((T.tells k n).0 t)
+
+      -- who awaited is dead
+      told_dies : (k n : ℕ) → is_told st k n ≡ true → dead k n ≡ true
+      told_dies k n t = ⊎_elim
+          (λ before. learns k n (inl (sym (L.deaths k n) ∙ before)))
+          (λ a. ⊎_elim
+          (λ same. learns k n (inr (subst (λ (i : ℕ). TellsItselfIn p m mid_view i n) (sym same) (awaited n (subst (λ (i : ℕ). Awaits (known_at mid i) (core_of p m) n) same a)))))
+          (λ ne. absurd (O.heard k n (subst (λ (o : Option KeyRecord). Awaits o (core_of p m) n) (C.others k ne) a)))
+          (cases_eq k key))
+          (tells.told k n t)
+        where
+          awaited : (n : ℕ) → Awaits (known_at mid key) (core_of p m) n → TellsItselfIn p m mid_view key n
+          awaited n a =
+              let at = stands_by (known_at mid key) (core_of p m) n a in
+              let h = stands_of p m mid_view key (known_at mid key) knows_mid n (standing_with n (core_of p m) false) at in
+              let here = member_of p h.0 m h.2 in
+              (own_key, h.1 ∙ ap Some here, dead_is p mid_view key (known_at mid key) knows_mid n (dies_by (known_at mid key) (core_of p m) n a))
+
+      counted : (k n : ℕ) → IsNamedIn v.kept k n → 0 < count_of w.standing k n
+      counted k n is = L.all k n is
+
+      -- and the other way round
+      dies_told : (k n : ℕ) → dead k n ≡ true → is_told st k n ≡ true
+      dies_told k n dies = ⊎_elim
+          (λ before. tells.all k n (counted k n (L.buried k n before)) (inl (L.deaths k n ∙ before)))
+          (λ x. tells.all k n (counted k n (own_now k n x.1)) (by_itself k n x))
+          ((T.learns k n).0 dies)
+        where
+          mid_knows : (k : ℕ) → owner p k ≡ m → KnowsKey p mid_view k (known_at mid k)
+          mid_knows k own = ⊎_elim
+              (λ same. subst (λ (i : ℕ). KnowsKey p mid_view i (known_at mid i)) (sym same) knows_mid)
+              (λ ne. knows_other k own ne (inl runs))
+              (cases_eq k key)
+
+          by_itself : (k n : ℕ) → TellsItselfIn p m mid_view k n → (is_told w.standing k n ≡ true) ⊎ Awaits (known_at mid k) (core_of p m) n
+          by_itself k n x = by (present_of p m mid_view k (known_at mid k) (mid_knows k x.0) n m x.1).0.told refl where
+            by : (b : Bool) → (present_of p m mid_view k (known_at mid k) (mid_knows k x.0) n m x.1).0.told ≡ b → (is_told w.standing k n ≡ true) ⊎ Awaits (known_at mid k) (core_of p m) n
+            by true t =
+                let K = mid_knows k x.0 in
+                let s = present_of p m mid_view k (known_at mid k) K n m x.1 in
+                let before : v.told k n ≡ true = K.told n s.0 s.1 ∙ t in
+                ⊎_elim
+                (λ y. absurd (let off = O.told key e.version none_present in let both : true ≡ false = sym before ∙ (λ i. v.told (y.0 i) (y.1 i)) ∙ off in cc both))
+                (λ was. inl (L.deaths k n ∙ L.heard k n was before))
+                (was_there k n m x.1)
+            by false t =
+                let K = mid_knows k x.0 in
+                let s = present_of p m mid_view k (known_at mid k) K n m x.1 in
+                let dies = dead_by p mid_view k (known_at mid k) K n s.0 s.1 x.2 in
+                let version = found_version (standing_of (known_at mid k)) n s.0 s.1 in
+                let same : s.0 ≡ standing_with n (core_of p m) false = (λ i. standing_with (version i) (s.2 i) (t i)) in
+                inr (awaits_by (known_at mid k) (core_of p m) n (s.1 ∙ ap (λ (y : Standing). Some y) same) dies)
+
+      knows_log : KnowsLog m v.kept mid_view.present told dead st
+      knows_log = record {
+        stands = λ k n some. L.stands k n (let c = tells.counts k n in omega (arith, c, some));
+        all = λ k n is. (let c = tells.counts k n in let some = L.all k n is in omega (arith, c, some));
+        deaths = λ k n. same_flag (is_told st k n) (dead k n) (told_dies k n) (dies_told k n);
+        buried = λ k n dies. ⊎_elim (λ before. L.buried k n before) (λ x. own_now k n x.1) ((T.learns k n).0 dies);
+        own = own_now;
+        heard = heard_now;
+        settled = tells.settled ∙ L.settled;
+      }
+
     pub settles_order : FreesInOrder p m key v view w done
     settles_order = record {
       block = block_now;
@@ -417,4 +520,6 @@ module _ (p : Place) (m : ℕ) (v : View) (w : Worker) (H : HoldsAside p m v w) 
       answers = room_let_go w done slot key key_was (let eight = H.eight in omega (arith, eight, lt)) R refl refl room O.answers;
       hand = O.hand;
       stops = λ s. subst MayLeadStopped (sym nothing) tt;
+      log = λ r on. knows_log r (O.log r on);
+      names = λ r on. (let had = O.names r on in let more = tells.room in omega (arith, had, more));
     }

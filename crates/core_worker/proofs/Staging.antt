@@ -133,6 +133,7 @@ module _ (p : Place) (m : ℕ) (v : View) (w : Worker) (H : HoldsAside p m v w) 
       lost = H.lost;
       cleaning = H.cleaning;
       remembers = H.remembers;
+      chunks = λ r j low. ⊎_elim (λ x. inl (A.chunk j x)) (λ e. inr e) (H.chunks r j low);
     }
 
     pub stands_staged : (s : State) → Stands s p m v w → Stands s p m v staged

@@ -1,6 +1,7 @@
 -- What the heads of a part say at the start, and that each image of the part is licensed by the opened view.
-use Rattle.std.proofs.Common.{◌≡◌, ℕ, ◌+◌, ◌*◌, ◌/◌, ◌%◌, ◌<◌, ◌==◌, ◌&&◌, nat_le, nat_lt, Bool, true, false, cond, Option, Some, None, Result, Ok, Err, refl, sym, ◌∙◌, ap, subst, arith}
-use Rattle.std.proofs.lemmas.Bool.{eqb-true, and_parts}
+use Rattle.std.proofs.Common.{◌≡◌, inl, inr, ℕ, ◌+◌, ◌*◌, ◌/◌, ◌%◌, ◌<◌, ◌==◌, ◌&&◌, nat_le, nat_lt, Bool, true, false, cond, Option, Some, None, Result, Ok, Err, refl, sym, ◌∙◌, ap, subst, arith}
+use Rattle.std.specs.Prelude.{is_some}
+use Rattle.std.proofs.lemmas.Bool.{eqb-true, and_parts, lt-ltb}
 use Rattle.pm_region.specs.State.{State, IsTelling, cell_now}
 use Rattle.pm_region.specs.Words.{Surely}
 use Rattle.chunk_map.specs.declared.layouts.Geometry.{Geometry}
@@ -8,6 +9,7 @@ use Rattle.chunk_map.specs.declared.heads.Head.{Head}
 use Rattle.chunk_map.specs.declared.heads.Head.TheVariants.{Free, Log, Data}
 use Rattle.chunk_map.specs.Layouts.{chunk_first, head_at, head_by, payload_words, is_class}
 use Rattle.chunk_map.proofs.LayoutLaws.{chunk_in_part}
+use Rattle.store_image.specs.Parts.{head_reads, scan_at}
 use Rattle.store_image.proofs.Places.{layout_numbers}
 use Rattle.core_log.specs.Log.{tail_of, first_of}
 use Rattle.lazy_alloc.specs.Heads.{is_free, class_in}
@@ -15,9 +17,11 @@ use Rattle.lazy_alloc.specs.Sets.{chunk_is_free, chunk_class, chunk_is_due}
 use Rattle.recover.specs.declared.types.CoreStart.{CoreStart}
 use Rattle.recover.specs.Logs.{tail_behind}
 use Rattle.group_laws.specs.Places.{Place, core_of}
+use Rattle.group_laws.proofs.GroupEntries.{core_low}
 use Rattle.group_laws.proofs.PartWords.{licensed_words}
 use Rattle.group_laws.proofs.OpeningTidied as opens
 use Rattle.licence.specs.Licence.{Licensed}
+use Rattle.core_worker.specs.OwnChunks.{HasChunk, AreChunks}
 use Rattle.core_worker.specs.Openings.{IsStartAt, IsCertainAt, opened_view}
 
 -- A head tells its kind word.
@@ -85,6 +89,15 @@ module _ (p : Place) (m : ℕ) (image : ℕ → ℕ) (start : CoreStart) (at : I
 
   pub never_due : (j : ℕ) → chunk_is_due start.allocator j ≡ true → ⊥
   never_due j due = let bad : true ≡ false = sym due ∙ at.found.allocator.due j in cc bad
+
+  -- each head is one, and so each chunk is free, Data or the log's
+  pub chunks_now : AreChunks l.chunks start.allocator start.log.chunks
+  chunks_now j low = by (head_at l image (chunk_first l c j)) refl where
+    by : (h : Result Head ℕ) → head_at l image (chunk_first l c j) ≡ h → HasChunk start.allocator start.log.chunks j
+    by (Ok Free) e = inl (inl (at.found.allocator.free j low ∙ ap is_free e))
+    by (Ok (Log tail)) e = inr (ap is_some (at.found.logs j ∙ ap (λ b. cond b (tail_behind (head_at l image (chunk_first l c j))) None) (lt-ltb j l.chunks low) ∙ ap tail_behind e))
+    by (Ok (Data class)) e = inl (inr (ap is_some (at.found.allocator.class j low ∙ ap class_in e)))
+    by (Err rule) e = absurd (let reads = at.rules.reads c j (core_low p at.place m at.member) low in let both : false ≡ true = sym (ap (λ h. head_reads h (scan_at l image (chunk_first l c j))) e) ∙ reads in cc both)
 
   module _ (s : State) (here : IsCertainAt s p m image start) where
     sure_at : IsTelling s → (j k : ℕ) → j < l.chunks → image (chunk_first l c j) ≡ k → Surely (cell_now s (first_of start.log j)) k

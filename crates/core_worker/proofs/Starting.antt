@@ -1,6 +1,6 @@
 -- A worker that has accepted nothing is tied to the view that its group is opened with.
-use Rattle.std.proofs.Common.{◌≡◌, inl, inr, ℕ, zero, suc, ◌+◌, ◌*◌, ◌&&◌, eqb, Bool, true, false, cond, List, [], ◌∷◌, ◌++◌, length, Option, Some, None, option_map, is_some, refl, sym, ◌∙◌, ap, subst, arith}
-use Rattle.std.proofs.lemmas.Bool.{cases_eq}
+use Rattle.std.proofs.Common.{◌≡◌, inl, inr, ⊎_elim, ◌⊎◌, ℕ, zero, suc, ◌+◌, ◌*◌, ◌<◌, ◌==◌, ◌&&◌, eqb, Bool, true, false, cond, List, [], ◌∷◌, ◌++◌, length, Option, Some, None, option_map, is_some, refl, sym, ◌∙◌, ap, subst, arith}
+use Rattle.std.proofs.lemmas.Bool.{cases_eq, and_parts, and_from, eqb-true, eq-eqb}
 use Rattle.pm_region.specs.State.{State, cell_now}
 use Rattle.pm_region.specs.Words.{Surely}
 use Rattle.log_entry.specs.declared.entry.Body.{Body}
@@ -13,17 +13,24 @@ use Rattle.conflict_queue.specs.Waiting.{waiting}
 use Rattle.conflict_queue.specs.declared.types.Held.{Held}
 use Rattle.core_index.specs.declared.types.Standing.{Standing}
 use Rattle.core_index.specs.Index.{known_at}
-use Rattle.core_index.specs.Records.{KeyRecord, Awaits, block_of, pointer_of, standing_of, standing_at}
+use Rattle.core_index.specs.Records.{KeyRecord, Awaits, block_of, pointer_of, standing_of, standing_at, standing_with}
+use Rattle.core_index.specs.Records.{is_dead as dead_in_record}
+use Rattle.core_index.proofs.Clients.{found_version}
+use Rattle.log_standing.specs.NameCounts.{copies_at, count_of, is_told}
 use Rattle.core_log.specs.Log.{LogState, StandsIn, tail_of, first_of}
 use Rattle.lazy_alloc.specs.Sets.{Sets, AreSets, chunk_is_free, chunk_is_due, chunk_class}
 use Rattle.lazy_alloc.specs.Written.{PartLies}
-use Rattle.recover.specs.Starts.{KnownAs, IsSpelledIndex}
+use Rattle.recover.specs.Starts.{KnownAs, IsSpelledIndex, named_in}
+use Rattle.recover.specs.OwnDead.{is_dead_in}
+use Rattle.store_image.specs.Parts.{all_entries}
 use Rattle.recover.specs.declared.types.CoreStart.{CoreStart}
 use Rattle.group_laws.specs.declared.types.Block.{Block}
 use Rattle.group_laws.specs.declared.types.Pending.{Pending}
-use Rattle.group_laws.specs.Places.{Place, core_of, owner}
-use Rattle.group_laws.specs.MemberViews.{View}
-use Rattle.group_laws.specs.OpeningImages.{home_of, is_at, is_dead}
+use Rattle.group_laws.specs.Places.{Place, members, core_of, owner}
+use Rattle.group_laws.specs.MemberViews.{View, of_own}
+use Rattle.group_laws.proofs.Images.{part_core}
+use Rattle.group_laws.proofs.OpeningFound as founds
+use Rattle.group_laws.specs.OpeningImages.{home_of, is_at, is_dead, is_own_dead}
 use Rattle.group_laws.proofs.GroupEntries.{own_core}
 use Rattle.group_laws.proofs.GroupEntries as entries
 use Rattle.group_board.specs.Seats.{SeatAt}
@@ -33,10 +40,16 @@ use Rattle.core_worker.specs.declared.types.Place.TheVariants.{Free, Staged}
 use Rattle.core_worker.specs.declared.worker.Worker.{Worker}
 use Rattle.core_worker.specs.OwnPlaces.{place_at, key_in, lines_in, own, is_busy}
 use Rattle.core_worker.specs.Supplies.{rest, KeepsRule, HasKeptRoom, supply_of}
-use Rattle.core_worker.specs.KeyTies.{IsPlaced, IsStagedBlock, AreBlocks}
+use Rattle.core_worker.specs.KeyTies.{KnowsKey, IsPlaced, IsStagedBlock, AreBlocks}
+use Rattle.core_worker.specs.StandingTies.{KnowsLog}
+use Rattle.core_worker.specs.OwnChunks.{AreChunks}
 use Rattle.core_worker.specs.Ties.{Holds, Stands, Leads, LeadsAt, HasSpaceFor, is_lost}
 use Rattle.core_worker.specs.Order.{InOrder, PointsAt, count_changes}
-use Rattle.core_worker.specs.Hearing.{last_change}
+use Rattle.core_worker.specs.Hearing.{is_dead_by, heard_at, last_change}
+use Rattle.core_worker.proofs.HeardNames.{stands_by, dies_by, awaits_by}
+use Rattle.core_worker.proofs.Tidied.{present_of}
+use Rattle.core_worker.proofs.Settling.{same_flag}
+use Rattle.core_worker.proofs.StartNames.{Logged, counted_logged, logged_counted, logged_named, named_logged}
 use Rattle.core_worker.specs.Openings.{IsNew, IsStartAt, IsCertainAt, opened_view}
 use Rattle.core_worker.proofs.StartKeys as start_keys
 use Rattle.core_worker.proofs.StartKeys.{changed, same_block}
@@ -155,6 +168,7 @@ module _ (p : Place) (m : ℕ) (image : ℕ → ℕ) (start : CoreStart) (layout
     lost = λ t. absurd (let two : false ≡ true = sym (ap is_lost N.leading.1) ∙ t in cc two);
     cleaning = N.cleaning;
     remembers = λ runs k own idle. start_keys.remembers p image at.place at.rules m at.member start.index at.found.index k own w.index start.core core_is N.index;
+    chunks = λ runs. subst (λ (a : Sets). AreChunks p.layout.chunks a w.log.chunks) (sym N.allocator) (subst (λ (g : LogState). AreChunks p.layout.chunks start.allocator g.chunks) (sym N.log) (start_heads.chunks_now p m image start at));
   }
 
   -- who has no record has no entry that stands
@@ -175,6 +189,156 @@ module _ (p : Place) (m : ℕ) (image : ℕ → ℕ) (start : CoreStart) (layout
         by : (x : PlacedEntry) (o : Option KeyRecord) → KnownAs (Some x) o → x.entry.body ≡ Pointer q → block_of o ≡ Some q
         by x None ties body = absurd ties
         by x (Some r) ties body = ap pointer_of (ties.1 ∙ body)
+
+  -- what stands in the log is what the view has there
+  logged : (k n : ℕ) → 0 < count_of w.standing k n → Logged p m image start at k n
+  logged k n some = counted_logged p m image start at k n (let c = N.standing.counts k n in omega (arith, c, some))
+
+  counted : (k n : ℕ) → Logged p m image start at k n → 0 < count_of w.standing k n
+  counted k n g = (let some = logged_counted p m image start at k n g in let c = N.standing.counts k n in omega (arith, c, some))
+
+  -- a name that has this member as its home stands in its log, and the other way round
+  own_logged : (k n : ℕ) → home_of p image k n ≡ Some m → Logged p m image start at k n
+  own_logged k n is = let y = founds.home_has p image at.place at.rules k n m is in record { y = y.0; log = y.2; key = y.5; version = y.6 }
+
+  logged_own : (k n : ℕ) → Logged p m image start at k n → (home_of p image k n ≡ Some m) × (owner p k < members p)
+  logged_own k n g =
+      let b = entries.back p image at.place at.rules m g.y at.member g.log in
+      let core = part_core p image m g.y g.log in
+      ((λ i. home_of p image (sym g.key i) (sym g.version i)) ∙ founds.has_home p image at.place at.rules g.y b.0 m at.member core b.1, subst (λ (j : ℕ). owner p j < members p) g.key b.1)
+
+  mine_of : {X : Type 0} (k : ℕ) (x d y : X) → of_own p m k x d ≡ y → (d ≡ y → ⊥) → (owner p k ≡ m) × (x ≡ y)
+  mine_of {X} k x d y is off = by (eqb (owner p k) m) refl is where
+    by : (b : Bool) → eqb (owner p k) m ≡ b → cond b x d ≡ y → (owner p k ≡ m) × (x ≡ y)
+    by true e is = (eqb-true (owner p k) m e, is)
+    by false e is = absurd (off is)
+
+  mine_is : {X : Type 0} (k : ℕ) (x d : X) → owner p k ≡ m → of_own p m k x d ≡ x
+  mine_is k x d own = ap (λ (b : Bool). cond b x d) (eq-eqb (owner p k) m own)
+
+  own_home : (k n : ℕ) → v.present k n ≡ Some m → (owner p k ≡ m) × (home_of p image k n ≡ Some m)
+  own_home k n is = mine_of k (home_of p image k n) None (Some m) is (λ none. (let e : None ≡ Some m = none in cc e))
+
+  -- a dead name of the view is one of an own key, which stands in the own log, and is dead
+  dead_parts : (k n : ℕ) → v.dead k n ≡ true → (owner p k ≡ m) × (home_of p image k n ≡ Some m) × (is_dead p image k n ≡ true)
+  dead_parts k n dies =
+      let both = and_parts (m == owner p k) (is_own_dead p image k n) dies in
+      let own : owner p k ≡ m = sym (eqb-true m (owner p k) both.0) in
+      let parts = and_parts (is_at (owner p k) (home_of p image k n)) (is_dead p image k n) both.1 in
+      (own, at_home (home_of p image k n) (owner p k) parts.0 ∙ ap Some own, parts.1)
+    where
+      at_home : (o : Option ℕ) (h : ℕ) → is_at h o ≡ true → o ≡ Some h
+      at_home None h t = absurd (cc t)
+      at_home (Some i) h t = ap Some (eqb-true i h t)
+
+  dead_told : (k n : ℕ) → owner p k ≡ m → v.dead k n ≡ v.told k n
+  dead_told k n own = ap (λ (b : Bool). b && is_own_dead p image k n) (eq-eqb m (owner p k) (sym own)) ∙ sym (mine_is k (is_own_dead p image k n) false own)
+
+  knows_own : (k : ℕ) → owner p k ≡ m → KnowsKey p v k (known_at w.index k)
+  knows_own k own = start_keys.knows p image at.place at.rules m at.member start.index at.found.index k own w.index start.core core_is N.index
+
+  -- what the index has of an own name at the start, and now
+  stood_now : (k n : ℕ) (s : Standing) → standing_at (standing_of (known_at start.index k)) n ≡ Some s → standing_at (standing_of (known_at w.index k)) n ≡ Some (heard_at start.core (known_at start.index k) n s)
+  stood_now k n s is = N.index.standing k n ∙ ap (option_map (heard_at start.core (known_at start.index k) n)) is
+
+  -- a name of the own log with an own key that is dead by the index is told
+  told_of : (k n : ℕ) (s : Standing) → owner p k ≡ m → standing_at (standing_of (known_at start.index k)) n ≡ Some s → s.home ≡ c → is_dead_by (known_at start.index k) n ≡ true → v.told k n ≡ true
+  told_of k n s own is home dies =
+      let test : (s.home == start.core && is_dead_by (known_at start.index k) n) ≡ true = and_from (s.home == start.core) (is_dead_by (known_at start.index k) n) (eq-eqb s.home start.core (home ∙ sym core_is)) dies in
+      (knows_own k own).told n (heard_at start.core (known_at start.index k) n s) (stood_now k n s is)
+      ∙ ap (λ (b : Bool). (cond b (standing_with s.version s.home true) s).told) test
+
+  dead_rec : (o : Option KeyRecord) (n : ℕ) → is_dead_in o n ≡ true → (s : Standing) × (standing_at (standing_of o) n ≡ Some s) × (is_dead_by o n ≡ true)
+  dead_rec None n t = absurd (cc t)
+  dead_rec (Some r) n t =
+      let both = and_parts (is_some (standing_at r.standing n)) (dead_in_record r n) t in
+      by (standing_at r.standing n) refl both.0 both.1 where
+        by : (o : Option Standing) → standing_at r.standing n ≡ o → is_some o ≡ true → dead_in_record r n ≡ true → (s : Standing) × (standing_at r.standing n ≡ Some s) × (dead_in_record r n ≡ true)
+        by None e some dies = absurd (cc some)
+        by (Some s) e some dies = (s, e, dies)
+
+  told_dies : (k n : ℕ) → is_told w.standing k n ≡ true → v.dead k n ≡ true
+  told_dies k n t = ⊎_elim
+      (λ before.
+      let parts = and_parts (is_some (copies_at start.standing k n)) (is_dead_in (known_at start.index k) n) (sym (at.made.told k n) ∙ before) in
+      let g = counted_logged p m image start at k n (N.copies k n parts.0) in
+      by_record k n (dead_rec (known_at start.index k) n parts.1) g)
+      (λ a.
+      let s = stands_by (known_at start.index k) start.core n a in
+      by_home k n (standing_with n start.core false) s core_is (dies_by (known_at start.index k) start.core n a))
+      (N.standing.told k n t)
+    where
+      home_kept : (b : Bool) (s : Standing) → (cond b (standing_with s.version s.home true) s).home ≡ s.home
+      home_kept true s = refl
+      home_kept false s = refl
+
+      own_key : (k n : ℕ) (s : Standing) → standing_at (standing_of (known_at start.index k)) n ≡ Some s → owner p k ≡ m
+      own_key k n s is = ⊎_elim
+          (λ mine. own_of p m k (entries.some_group p image at.place at.rules) at.member mine)
+          (λ other. absurd (others k n (heard_at start.core (known_at start.index k) n s) other (stood_now k n s is)))
+          (cases_eq (layouts.owner p.layout k) c)
+
+      by_home : (k n : ℕ) (s : Standing) → standing_at (standing_of (known_at start.index k)) n ≡ Some s → s.home ≡ c → is_dead_by (known_at start.index k) n ≡ true → v.dead k n ≡ true
+      by_home k n s is home dies = let own = own_key k n s is in dead_told k n own ∙ told_of k n s own is home dies
+
+      by_record : (k n : ℕ) → ((s : Standing) × (standing_at (standing_of (known_at start.index k)) n ≡ Some s) × (is_dead_by (known_at start.index k) n ≡ true)) → Logged p m image start at k n → v.dead k n ≡ true
+      by_record k n x g =
+          let own = own_key k n x.0 x.1 in
+          let here : v.present k n ≡ Some m = mine_is k (home_of p image k n) None own ∙ (logged_own k n g).0 in
+          let now = stood_now k n x.0 x.1 in
+          let there = present_of p m v k (known_at w.index k) (knows_own k own) n m here in
+          let same : heard_at start.core (known_at start.index k) n x.0 ≡ there.0 = (let both : Some (heard_at start.core (known_at start.index k) n x.0) ≡ Some there.0 = sym now ∙ there.1 in cc both) in
+          let home : x.0.home ≡ c = sym (home_kept (x.0.home == start.core && is_dead_by (known_at start.index k) n) x.0) ∙ ap (λ (s : Standing). s.home) same ∙ there.2 in
+          by_home k n x.0 x.1 home x.2
+
+  start_untold : (k n : ℕ) (x : Standing) → standing_at (standing_of (known_at start.index k)) n ≡ Some x → x.told ≡ false
+  start_untold k n x is = ⊎_elim
+      (λ mine. by_named (named_in k n (all_entries p.layout image)) (sym (at.found.index.standing k n mine) ∙ is))
+      (λ other. absurd (others k n (heard_at start.core (known_at start.index k) n x) other (stood_now k n x is)))
+      (cases_eq (layouts.owner p.layout k) c)
+    where
+      by_named : (o : Option PlacedEntry) → option_map (λ (y : PlacedEntry). standing_with n y.core false) o ≡ Some x → x.told ≡ false
+      by_named None e = absurd (cc e)
+      by_named (Some y) e = let same : standing_with n y.core false ≡ x = cc e in ap (λ (s : Standing). s.told) (sym same)
+
+  dies_told : (k n : ℕ) → v.dead k n ≡ true → is_told w.standing k n ≡ true
+  dies_told k n dies =
+      let parts = dead_parts k n dies in
+      let own = parts.0 in
+      let here : v.present k n ≡ Some m = mine_is k (home_of p image k n) None own ∙ parts.1 in
+      let K = knows_own k own in
+      let s = present_of p m v k (known_at w.index k) K n m here in
+      let told : s.0.told ≡ true = sym (K.told n s.0 s.1) ∙ sym (dead_told k n own) ∙ dies in
+      N.standing.all k n (logged_counted p m image start at k n (own_logged k n parts.1))
+      (by k n s.0 s.1 told (standing_at (standing_of (known_at start.index k)) n) refl)
+    where
+      by : (k n : ℕ) (s : Standing) → standing_at (standing_of (known_at w.index k)) n ≡ Some s → s.told ≡ true → (o : Option Standing) → standing_at (standing_of (known_at start.index k)) n ≡ o → (is_told start.standing k n ≡ true) ⊎ Awaits (known_at start.index k) start.core n
+      by k n s now told None is = absurd (let both : Some s ≡ None = sym now ∙ N.index.standing k n ∙ ap (option_map (heard_at start.core (known_at start.index k) n)) is in cc both)
+      by k n s now told (Some x) is =
+          let same : heard_at start.core (known_at start.index k) n x ≡ s = (let both : Some (heard_at start.core (known_at start.index k) n x) ≡ Some s = sym (stood_now k n x is) ∙ now in cc both) in
+          by_test (x.home == start.core && is_dead_by (known_at start.index k) n) refl (ap (λ (y : Standing). y.told) same ∙ told)
+        where
+          untold : x.told ≡ false
+          untold = start_untold k n x is
+
+          by_test : (b : Bool) → (x.home == start.core && is_dead_by (known_at start.index k) n) ≡ b → (cond b (standing_with x.version x.home true) x).told ≡ true → (is_told start.standing k n ≡ true) ⊎ Awaits (known_at start.index k) start.core n
+          by_test true e t =
+              let both = and_parts (x.home == start.core) (is_dead_by (known_at start.index k) n) e in
+              let version = found_version (standing_of (known_at start.index k)) n x is in
+              let whole : x ≡ standing_with n start.core false = (λ i. standing_with (version i) (eqb-true x.home start.core both.0 i) (untold i)) in
+              inr (awaits_by (known_at start.index k) start.core n (is ∙ ap (λ (y : Standing). Some y) whole) both.1)
+          by_test false e t = absurd (let both : true ≡ false = sym t ∙ untold in cc both)
+
+  knows_log : KnowsLog m v.kept v.present v.told v.dead w.standing
+  knows_log = record {
+    stands = λ k n some. logged_named p m image start at k n (logged k n some);
+    all = λ k n is. counted k n (named_logged p m image start at k n is);
+    deaths = λ k n. same_flag (is_told w.standing k n) (v.dead k n) (told_dies k n) (dies_told k n);
+    buried = λ k n dies. logged_named p m image start at k n (own_logged k n (dead_parts k n dies).1);
+    own = λ k n is. logged_named p m image start at k n (own_logged k n (own_home k n is).1);
+    heard = λ k n is told. dead_told k n (own_home k n is).0 ∙ told;
+    settled = N.standing.settled ∙ at.made.settled;
+  }
 
   pub order_now : InOrder p m v w
   order_now = record {
@@ -198,6 +362,8 @@ module _ (p : Place) (m : ℕ) (image : ℕ → ℕ) (start : CoreStart) (layout
         let hand : cond {A = ℕ} (is_some w.in_hand) 1 0 ≡ 0 = ap (λ (o : Option Held). cond {A = ℕ} (is_some o) 1 0) N.hand in
         omega (arith, none, places, queue, hand);
     stops = λ stopped. absurd (let two : false ≡ true = sym N.runs ∙ stopped in cc two);
+    log = λ runs on. knows_log;
+    names = λ runs on. N.names;
   }
 
   module _ (s : State) (here : IsCertainAt s p m image start) where

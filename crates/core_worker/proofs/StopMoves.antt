@@ -1,5 +1,5 @@
 -- What a stopped core does with its own changes is a whole move to whoever runs several workers.
-use Rattle.std.proofs.Common.{◌≡◌, ◌≢◌, ◌⊎◌, inl, inr, ℕ, ◌<◌, Bool, true, false, cond, [], ◌∷◌, ◌++◌, Option, Some, None, refl, sym, ◌∙◌, ap, subst}
+use Rattle.std.proofs.Common.{◌≡◌, ◌≢◌, ◌⊎◌, inl, inr, ℕ, ◌<◌, Bool, true, false, cond, [], ◌∷◌, ◌++◌, Option, Some, None, refl, sym, ◌∙◌, ap, subst, arith}
 use Rattle.std.specs.Prelude.{option_map}
 use Rattle.fs_model.specs.declared.model.Reply.TheVariants as replies
 use Rattle.pm_region.specs.State.{State, IsTelling}
@@ -21,10 +21,13 @@ use Rattle.core_worker.specs.KeyTies.{IsPlaced, Offers}
 use Rattle.core_worker.specs.Ties.{HoldsAt, StandsAt}
 use Rattle.core_worker.specs.Turns.{InOrderAt, Steps}
 use Rattle.core_worker.specs.Beginning.{answers_of, answer_with}
-use Rattle.core_worker.specs.Finishing.{number_in, Serves, ShortOf, IsServed}
+use Rattle.core_worker.specs.Finishing.{number_in, PutsBackIf, Serves, ShortOf, IsServed}
 use Rattle.core_worker.specs.Stopping.{Drops, Withdraws}
 use Rattle.core_worker.specs.Turning.{TurnMoves}
 use Rattle.core_worker.specs.WorkerMoves.{placed_in}
+use Rattle.core_index.specs.Records.{pointer_of}
+use Rattle.lazy_alloc.specs.Sets.{Sets}
+use Rattle.core_worker.proofs.CauseFacts.{stock_put}
 use Rattle.core_worker.proofs.HandKeys.{asks}
 use Rattle.core_worker.proofs.TakingBack.{Stood, stood}
 use Rattle.core_worker.proofs.FinishMoves.{asks_key, number_or}
@@ -62,6 +65,11 @@ drop_moves seat s a v w x slot all lt stopped H N S T O made D =
       cells = λ j ne. refl;
       pendings = λ j ne. refl;
       blocks = λ q b has ne. refl;
+      last_here = omega arith;
+      lasts = λ j ne. omega arith;
+      known = λ runs. absurd (let both : true ≡ false = sym halted ∙ runs in cc both);
+      layout = ap (λ (y : Worker). y.layout) G.rest ∙ H.layout;
+      stock = stock_put w D.freed (pointer_of D.entry.body) (ap (λ (y : Worker). y.log) G.rest) (subst (λ (a : Sets). PutsBackIf w.allocator a (pointer_of D.entry.body)) (sym (ap (λ (y : Worker). y.allocator) G.rest)) D.puts.puts);
       serves = by all refl;
     }) S T made (λ is. inl stopped)
   where
@@ -135,5 +143,11 @@ module _ (seat : SeatAt) (s : State) (before after : Option Group) (v u : View) 
         cells = λ j ne. ap (λ (y : View). y.cell j) view;
         pendings = λ j ne. ap (λ (y : View). y.pending j) view ∙ ap (λ b. cond b None (v.pending j)) (ne_eqb j k ne);
         blocks = λ q b has ne. ap (λ (y : View). y.blocks q) view ∙ kept e.body here.offers q b has ne;
+        last_here = (let same = ap (λ (y : View). y.last k) view in omega (arith, same));
+        lasts = λ j ne. (let same = ap (λ (y : View). y.last j) view in omega (arith, same));
+        known = λ runs. absurd (let both : true ≡ false = sym halted ∙ runs in cc both);
+        layout = ap (λ (y : Worker). y.layout) G.rest ∙ ap (λ (y : Worker). y.layout) led ∙ H.layout;
+        stock = stock_put w W.freed (pointer_of e.body) (ap (λ (y : Worker). y.log) G.rest ∙ ap (λ (y : Worker). y.log) led)
+            (subst (λ (a : Sets). PutsBackIf w.allocator a (pointer_of e.body)) (sym (ap (λ (y : Worker). y.allocator) G.rest)) (subst (λ (y : Worker). PutsBackIf y.allocator W.puts.2.mid (pointer_of e.body)) led W.puts.2.puts));
         serves = by all refl;
       }) S T made (λ is. inl stopped)

@@ -20,6 +20,7 @@ use Rattle.group_laws.specs.declared.types.Seen.TheVariants as loads
 use Rattle.group_laws.specs.declared.types.SlotWord.TheVariants as words
 use Rattle.group_laws.specs.Places as groups
 use Rattle.group_laws.specs.MemberViews.{View}
+use Rattle.group_board.specs.Assurances.{IsHome}
 use Rattle.group_board.specs.Views.{after_finish, after_give_up, TidiedIn}
 use Rattle.core_worker.specs.declared.types.Cleaning.{Cleaning}
 use Rattle.core_worker.specs.declared.types.Cleaning.TheVariants.{Nothing, Copying, Doomed}
@@ -34,6 +35,7 @@ use Rattle.core_worker.specs.Order.{InOrder, count_changes}
 use Rattle.core_worker.specs.Refusals.{HasAnswerRoom}
 use Rattle.core_worker.specs.Beginning.{HoldsAside}
 use Rattle.core_worker.specs.Hearing.{HearsAll}
+use Rattle.core_worker.specs.StandingTies.{HearsOwn}
 use Rattle.core_worker.specs.Serving.{LeadsNothingYet}
 use Rattle.core_worker.specs.Finishing.{done_reply, LetsGo, Settles, TakesBackKey, IsReady, IsFreed}
 use Rattle.core_worker.proofs.Beginnings.{aside_of}
@@ -159,23 +161,24 @@ gave_up p m v u w x slot e H O N pends T L =
 
 -- a change that is certain in the log of its home
 pub settled_freed : (p : groups.Place) (m : ℕ) (v u : View) (w mid x : Worker) (slot home : ℕ) (e : Entry) (r : Reply) → Holds p m v w → InOrder p m v w → LeadsNothing w → v.pending e.key ≡ Some (record { entry = e; slot = Some slot }) → TidiedIn p m (after_finish e home v) u
-    → Settles w mid e (groups.core_of p home) → LetsGo mid x slot r → IsFreed p m v u w x e.key
-settled_freed p m v u w mid x slot home e r H O N pends T S L =
+    → Settles w mid e (groups.core_of p home) → (home ≡ m → In e v.kept) → LetsGo mid x slot r → IsFreed p m v u w x e.key
+settled_freed p m v u w mid x slot home e r H O N pends T S kept L =
     let st = stood p m v w H slot e pends in
     let A = aside_of p m v w H in
-    let same : x ≡ record w { index = mid.index; allocator = mid.allocator; places = x.places; answers = x.answers } = subst (λ (z : Worker). x ≡ record z { places = x.places; answers = x.answers }) S.rest L.rest in
+    let same : x ≡ record w { index = mid.index; allocator = mid.allocator; standing = mid.standing; places = x.places; answers = x.answers } = subst (λ (z : Worker). x ≡ record z { places = x.places; answers = x.answers }) S.rest L.rest in
     let old_places : mid.places ≡ w.places = ap (λ (z : Worker). z.places) S.rest in
     let R : Replaces w.places.items x.places.items slot Free = subst (λ (ps : Vec Place Global). Replaces ps.items x.places.items slot Free) old_places L.places in
-    let room : (n : ℕ) → HasAnswerRoom (n + 1) w → HasAnswerRoom n (record w { index = mid.index; allocator = mid.allocator; places = x.places; answers = x.answers }) =
+    let room : (n : ℕ) → HasAnswerRoom (n + 1) w → HasAnswerRoom n (record w { index = mid.index; allocator = mid.allocator; standing = mid.standing; places = x.places; answers = x.answers }) =
     subst (λ (z : Worker). (n : ℕ) → HasAnswerRoom (n + 1) w → HasAnswerRoom n z) same (λ n had. L.room n (subst (λ (z : Worker). HasAnswerRoom (n + 1) z) (sym S.rest) had)) in
     let heard = subst (λ (c : ℕ). HearsAll c S.mid mid.index) H.core S.heard in
-    let F = settles p m v w A O slot st.number e.key st.lines st.within st.place e refl st.own pends st.offers home T.0 T.1 T.2 T.3 S.mid mid.index mid.allocator S.settled_now S.used S.others heard S.sets S.block N.0 N.1 x.places x.answers R room in
-    let G = settles_order p m v w A O slot st.number e.key st.lines st.within st.place e refl st.own pends st.offers home T.0 T.1 T.2 T.3 S.mid mid.index mid.allocator S.settled_now S.used S.others heard S.sets S.block N.0 N.1 x.places x.answers R room in
+    let tells = subst (λ (c : ℕ). HearsOwn c S.mid w.standing mid.standing) H.core S.told in
+    let F = settles p m v w A O slot st.number e.key st.lines st.within st.place e refl st.own pends st.offers home T.0 T.1 T.2 T.3 S.mid mid.index mid.allocator S.settled_now S.used S.others heard mid.standing tells kept S.sets S.block N.0 N.1 x.places x.answers R room in
+    let G = settles_order p m v w A O slot st.number e.key st.lines st.within st.place e refl st.own pends st.offers home T.0 T.1 T.2 T.3 S.mid mid.index mid.allocator S.settled_now S.used S.others heard mid.standing tells kept S.sets S.block N.0 N.1 x.places x.answers R room in
     let few = H.admitted e.key (busy_by w.places.items e.key slot (ap key_in st.place)) in
     let left = S.used in
     let stays = heard.room e.key in
-    subst (λ (z : Worker). IsFreed p m v u w z e.key) (sym same) (subst (λ (z : View). IsFreed p m v z w (record w { index = mid.index; allocator = mid.allocator; places = x.places; answers = x.answers }) e.key) (sym T.4)
-    (is_freed p m e.key slot v (record (after_finish e home v) { last = T.0; told = T.1; dead = T.2 }) w (record w { index = mid.index; allocator = mid.allocator; places = x.places; answers = x.answers }) H O st.within (ap key_in st.place) st.own F G refl refl (omega (arith, few, left, stays))
+    subst (λ (z : Worker). IsFreed p m v u w z e.key) (sym same) (subst (λ (z : View). IsFreed p m v z w (record w { index = mid.index; allocator = mid.allocator; standing = mid.standing; places = x.places; answers = x.answers }) e.key) (sym T.4)
+    (is_freed p m e.key slot v (record (after_finish e home v) { last = T.0; told = T.1; dead = T.2 }) w (record w { index = mid.index; allocator = mid.allocator; standing = mid.standing; places = x.places; answers = x.answers }) H O st.within (ap key_in st.place) st.own F G refl refl (omega (arith, few, left, stays))
     (put_count w.allocator mid.allocator (block_of (known_at w.index e.key)) S.block) (λ runs. N)))
 
 -- the change counts among the unanswered ones
@@ -233,12 +236,12 @@ module _ (p : groups.Place) (m slot : ℕ) (v u : View) (w : Worker) (e : Entry)
       let here = stood p m v w H slot e pends in
       (record { number = here.number; lines = here.lines; entry = e; home = None; place = here.place; pending = pends; seen = seen_as None none; view = tidied_none none; mid = record w { stopped = true }; settles = refl; lets = L }, refl)
 
-  module _ (mid x : Worker) (h core : ℕ) (reply : Reply) (some : home ≡ Some h) (core_is : core ≡ groups.core_of p h) (S : Settles w mid e core) (is : reply ≡ done_reply e.body) (L : LetsGo mid x slot reply) where
+  module _ (mid x : Worker) (h core : ℕ) (reply : Reply) (some : home ≡ Some h) (core_is : core ≡ groups.core_of p h) (S : Settles w mid e core) (at_home : IfSome home (IsHome p m v e)) (is : reply ≡ done_reply e.body) (L : LetsGo mid x slot reply) where
     settled_at : Settles w mid e (groups.core_of p h)
     settled_at = subst (λ (c : ℕ). Settles w mid e c) core_is S
 
     pub done_freed : IsFreed p m v u w x e.key
-    done_freed = settled_freed p m v u w mid x slot h e reply H O N pends (tidied_some h some) settled_at L
+    done_freed = settled_freed p m v u w mid x slot h e reply H O N pends (tidied_some h some) settled_at (subst (λ (o : Option ℕ). IfSome o (IsHome p m v e)) some at_home).kept L
 
     pub done_takes : TakesBackKey p m slot v u w x e.key
     done_takes =

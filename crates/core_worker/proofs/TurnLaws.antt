@@ -1,5 +1,5 @@
 -- What each item of a turn keeps.
-use Rattle.std.proofs.Common.{◌≡◌, inl, inr, ⊎_elim, ℕ, zero, suc, Bool, true, false, cond, List, [], ◌∷◌, ◌++◌, map, length, Option, Some, None, refl, sym, ◌∙◌, ap, subst, arith}
+use Rattle.std.proofs.Common.{◌≡◌, inl, inr, ⊎_elim, ℕ, zero, suc, ◌≤◌, Bool, true, false, cond, List, [], ◌∷◌, ◌++◌, map, length, Option, Some, None, refl, sym, ◌∙◌, ap, subst, arith}
 use Rattle.std.specs.Prelude.{IfSome, IsSomeAnd}
 use Rattle.pm_region.specs.State.{State, IsTelling, cell_now, Rose}
 use Rattle.pm_region.proofs.Moments.{started, weaken}
@@ -16,7 +16,7 @@ use Rattle.group_board.specs.Seats.{SeatAt}
 use Rattle.group_board.specs.Views.{after_commit}
 use Rattle.licence.specs.Licence.{Licensed, part_at, part_end}
 use Rattle.licence.proofs.Quiet.{allowed}
-use Rattle.batch_leader.specs.TakenChanges.{taken_in}
+use Rattle.batch_leader.specs.TakenChanges.{entries_in, taken_in}
 use Rattle.batch_leader.specs.Persisting.{StaysLicensed, WritesPart}
 use Rattle.batch_leader.proofs.Steps.{runs_then, no_steps}
 use Rattle.core_worker.specs.declared.types.Place as places
@@ -29,6 +29,8 @@ use Rattle.core_worker.specs.declared.worker.Worker.{Worker}
 use Rattle.core_worker.specs.OwnPlaces.{place_at, key_in, is_free, is_staged, is_busy, is_of, IsLowest}
 use Rattle.core_worker.specs.Order.{MayLeadStopped, InOrder}
 use Rattle.core_worker.specs.Supplies.{HasKeptRoom}
+use Rattle.core_worker.specs.StandingTies.{KnowsLog, most_names}
+use Rattle.core_worker.proofs.NamesKnown.{knows_added}
 use Rattle.core_worker.specs.Ties.{Leads, LeadsAt, LeadsNothing, HoldsAt, StandsAt, KeepsStanding}
 use Rattle.core_worker.proofs.LeadTies.{led_here, leads_of}
 use Rattle.core_worker.specs.Turns.{InOrderAt, SameButLeading, Steps, MadeOrStops, UnpledgedAt, Persists, LosesBatch, PersistsOrLoses, PassesItems, looks_at, LooksMade}
@@ -36,7 +38,7 @@ use Rattle.core_worker.specs.Posting.{PostsOrStops}
 use Rattle.core_worker.proofs.Given.{adds_none}
 use Rattle.core_worker.specs.Turning.{TurnMoves, KeepsTurn, Did, at_entry}
 use Rattle.core_worker.specs.Turning.Did.{posts, loses_block}
-use Rattle.core_worker.specs.WorkerMoves.{Hands, Fixed, placed_in, placed_for, hands_of, fixed_of, requests_for, AnswersKey, WorkerMoves}
+use Rattle.core_worker.specs.WorkerMoves.{Hands, Fixed, placed_in, placed_for, stock_of, hands_of, fixed_of, requests_for, AnswersKey, WorkerMoves}
 use Rattle.core_worker.proofs.Led.{holds_by, stands_by}
 use Rattle.core_worker.proofs.QuietMoves.{quiet_moves, for_same}
 use Rattle.core_worker.proofs.QuietItems.{IsLed, order_as, order_leading, leading_moves}
@@ -85,7 +87,7 @@ busy_now (x ∷ xs) [] e same k = absurd (omega (arith, e))
 busy_now (x ∷ xs) (y ∷ ys) e same k = (λ i. cond (is_of k ((same zero).key i)) true (busy_now xs ys (omega (arith, e)) (λ s. same (suc s)) k i))
 
 -- the batch is written, or lost
-module _ (seat : SeatAt) (s t : State) (before after : Option Group) (v u : View) (w x : Worker) (H : HoldsAt seat v w) (N : HoldsAt seat u x) (T : StandsAt t seat u x) (O : InOrderAt seat v w) (runs : w.stopped ≡ false) (moments : StaysLicensed s t seat v) (outside : WritesPart s t seat) where
+module _ (seat : SeatAt) (s t : State) (before after : Option Group) (v u : View) (w x : Worker) (H : HoldsAt seat v w) (N : HoldsAt seat u x) (T : StandsAt t seat u x) (O : InOrderAt seat v w) (runs : w.stopped ≡ false) (names : x.stopped ≡ false → x.winds_down ≡ false → most_names ≤ x.standing.room) (moments : StaysLicensed s t seat v) (outside : WritesPart s t seat) where
   written : Persists seat.number (record { worker = w; view = v }) (record { worker = x; view = u }) → Steps before after seat.number u → (x.stopped ≡ false → HasKeptRoom w → HasKeptRoom x) → KeepsTurn seat s t before after v u w x
   written P made rule = record {
     moments = moments;
@@ -93,14 +95,27 @@ module _ (seat : SeatAt) (s t : State) (before after : Option Group) (v u : View
     holds = N;
     stands = T;
     order = subst (λ (y : View). InOrder seat.place seat.number y x) (sym P.view) (subst (λ (y : Worker). InOrder seat.place seat.number (after_commit v) y) (sym P.same)
-        (order_as seat.place seat.number v w (v.kept ++ v.flying) [] v.taken v.broken v.holds [] v.took x.log x.allocator x.leading w.stopped x.places
-        (busy_now w.places.items x.places.items count same) (count_same w.places.items x.places.items count (λ i. (same i).free)) (λ stopped. absurd (let both : true ≡ false = sym stopped ∙ runs in cc both)) O));
+        (order_as seat.place seat.number v w (v.kept ++ v.flying) [] v.taken v.broken v.holds [] v.took x.log x.allocator x.leading x.standing w.stopped x.winds_down x.places
+        (busy_now w.places.items x.places.items count same) (count_same w.places.items x.places.items count (λ i. (same i).free)) (λ stopped. absurd (let both : true ≡ false = sym stopped ∙ runs in cc both))
+        works (λ r on. known (works on)) (λ r. names (ap (λ (y : Worker). y.stopped) P.same ∙ r)) O));
     rule = rule;
     moves = nothing_fixed seat s t before after v u w x (ap (λ (y : Worker). y.answers) P.same)
-        (quiet_moves seat.place seat.number s t before after v u w x N outside moments T.licensed made (ap (λ (y : View). y.cell) P.view) (ap (λ (y : View). y.pending) P.view) (ap (λ (y : View). y.blocks) P.view)
+        (quiet_moves seat.place seat.number s t before after v u w x N outside moments T.licensed made (ap (λ (y : View). y.cell) P.view) (ap (λ (y : View). y.pending) P.view) (ap (λ (y : View). y.blocks) P.view) (ap (λ (y : View). y.last) P.view)
         (held_same v w.places.items x.places.items count same) (ap (λ (y : Worker). y.queue) P.same) (ap (λ (y : Worker). y.in_hand) P.same)
         (λ e. inl (sym (ap (λ (y : Worker). y.stopped) P.same) ∙ e)) (λ e. ap (λ (y : Worker). y.stopped) P.same ∙ e));
   } where
+    works : x.winds_down ≡ false → w.winds_down ≡ false
+    works on = by w.winds_down refl where
+      by : (b : Bool) → w.winds_down ≡ b → w.winds_down ≡ false
+      by false e = e
+      by true e = absurd (let both : true ≡ false = sym (P.winds e) ∙ on in cc both)
+
+    known : w.winds_down ≡ false → KnowsLog seat.number (v.kept ++ v.flying) v.present v.told v.dead x.standing
+    known on =
+        let had = led_here seat v w.leading (leads.Batch P.batch) H.leads P.led in
+        subst (λ (es : List Entry). KnowsLog seat.number (v.kept ++ es) v.present v.told v.dead x.standing) (sym had.0.flying)
+        (knows_added seat.number v.kept (entries_in P.batch.changes.taken.items) v.present v.told v.dead w.standing x.standing (P.names on) (O.log runs on))
+
     count : length x.places.items ≡ length w.places.items
     count = N.eight ∙ sym H.eight
 
@@ -114,7 +129,7 @@ module _ (seat : SeatAt) (s t : State) (before after : Option Group) (v u : View
     holds = N;
     stands = T;
     order = subst (λ (y : View). InOrder seat.place seat.number y x) (sym P.view) (subst (λ (y : Worker). InOrder seat.place seat.number v y) (sym P.same)
-        (order_as seat.place seat.number v w v.kept v.flying v.taken v.broken v.holds v.looked v.took x.log x.allocator x.leading true w.places (λ k. refl) refl (λ stopped. subst MayLeadStopped (sym P.leads_now) tt) O));
+        (order_as seat.place seat.number v w v.kept v.flying v.taken v.broken v.holds v.looked v.took x.log x.allocator x.leading x.standing true w.winds_down w.places (λ k. refl) refl (λ stopped. subst MayLeadStopped (sym P.leads_now) tt) (λ on. on) (λ r. absurd (cc r)) (λ r. absurd (cc r)) O));
     rule = rule;
     moves = nothing_fixed seat s t before after v u w x (ap (λ (y : Worker). y.answers) P.same)
         (subst (λ (a : Option Group). WorkerMoves seat.place seat.number s t before a v u (hands_of v w) (hands_of u x) [] []) (sym group)
@@ -152,7 +167,7 @@ keeps_posts seat s t before after v u w x slot moments outside H S order O rule 
 pub keeps_same : (seat : SeatAt) (s : State) (a : Option Group) (v : View) (w : Worker) → HoldsAt seat v w → StandsAt s seat v w → InOrderAt seat v w → IfSome a (λ u. (seat.place ≡ u.place) × (v ≡ view_of u seat.number)) → KeepsTurn seat s s a a v v w w
 keeps_same seat s a v w H S O agrees =
     keeps_leading seat s a a v v w w H (λ t T. T) S ([], no_steps a seat.number seat.place v agrees)
-    (record { kept = v.kept; flying = v.flying; taken = v.taken; broken = v.broken; holds = v.holds; looked = v.looked; took = v.took; is = refl }) refl O.stops O (λ r. r)
+    (record { flying = v.flying; taken = v.taken; broken = v.broken; holds = v.holds; looked = v.looked; took = v.took; is = refl }) refl O.stops O (λ r. r)
 
 -- the lowest staged change was posted, or its block could not be written
 pub posts_did : (s : State) (refused : Bool) (seat : SeatAt) (start before after : Option Group) (v mid u : View) (w x : Worker) (slot : ℕ) → PassesItems seat.number (at_entry w v) 8 mid → IsLowest is_staged w.places.items slot → w.stopped ≡ false → w.winds_down ≡ false → PostsOrStops seat.number before after mid u w x slot
@@ -214,7 +229,7 @@ abbrev seen_view : View → List Seen → View
 seen_view v xs = record v { looked = xs }
 
 hands_seen : (v : View) (xs : List Seen) (w : Worker) → hands_of (seen_view v xs) w ≡ hands_of v w
-hands_seen v xs w = (λ i. record { place = λ k. for_same v (seen_view v xs) w.places.items k refl refl i; waits = (hands_of v w).waits; stopped = w.stopped })
+hands_seen v xs w = (λ i. record { place = λ k. for_same v (seen_view v xs) w.places.items k refl refl i; waits = (hands_of v w).waits; stopped = w.stopped; stock = stock_of w })
 
 key_seen : (v u : View) (xs : List Seen) (w x : Hands) (k : ℕ) (accepted : List (ℕ × Request)) (fixed : List Fixed) → AnswersKey (seen_view v xs) u w x k accepted fixed → AnswersKey v u w x k accepted fixed
 key_seen v u xs w x k accepted fixed A = record { order = A.order; lawful = A.lawful; cell = A.cell; after_stop = A.after_stop; stops = A.stops; posted = A.posted; doubt = A.doubt }
@@ -237,6 +252,7 @@ module _ (seat : SeatAt) (s t : State) (before mid after : Option Group) (v : Vi
         own = N.own;
         keys = λ k own. key_seen v u xs (hands_of v w) (hands_of u x) k (requests_for k []) (fixed_of k fixed) (N.keys k own);
         holds = N.holds;
+        refuses = N.refuses;
         stops = λ e. ⊎_elim (λ a. inl a) (λ b. inr (⊎_elim (λ rose. inl rose) (λ stood. inr (stood_before before mid seat.number ss (seen_view v xs) made stood)) b)) (N.stops e);
         breaks = N.breaks;
         stays_stopped = N.stays_stopped;
@@ -273,4 +289,4 @@ pub looked_stands : (s : State) (seat : SeatAt) (v v' : View) (w : Worker) (xs :
 looked_stands s seat v v' w xs is S = stands_by s seat.place seat.number v v' w v.taken v.holds xs v.took w.leading is (λ e. e) S
 
 pub looked_order : (seat : SeatAt) (v v' : View) (w : Worker) (xs : List Seen) → v' ≡ record v { looked = xs } → InOrderAt seat v w → InOrderAt seat v' w
-looked_order seat v v' w xs is O = order_leading seat.place seat.number v v' w w (record { kept = v.kept; flying = v.flying; taken = v.taken; broken = v.broken; holds = v.holds; looked = xs; took = v.took; is = is }) refl O.stops O
+looked_order seat v v' w xs is O = order_leading seat.place seat.number v v' w w (record { flying = v.flying; taken = v.taken; broken = v.broken; holds = v.holds; looked = xs; took = v.took; is = is }) refl O.stops O

@@ -378,6 +378,7 @@ module _ (p : group.Place) (m : ℕ) (v : View) (w : Worker) (H : Holds p m v w)
     lost = H.lost;
     cleaning = H.cleaning;
     remembers = H.remembers;
+    chunks = H.chunks;
   }
 
 -- the ties to the region say nothing of places

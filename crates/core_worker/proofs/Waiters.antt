@@ -52,6 +52,7 @@ aside_other p m v w q h b H = record {
   lost = H.lost;
   cleaning = H.cleaning;
   remembers = H.remembers;
+  chunks = H.chunks;
 } where
   by : (l : Leading) → HasSpaceFor (record w { queue = [] }) l → HasSpaceFor (record w { queue = []; in_hand = h; winds_down = b }) l
   by (leads.Nothing x) h = tt

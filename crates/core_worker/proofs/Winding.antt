@@ -52,6 +52,7 @@ wound_holds p m v w H = record {
   lost = H.lost;
   cleaning = H.cleaning;
   remembers = H.remembers;
+  chunks = H.chunks;
 }
 
 pub wound_stands : (s : State) (p : Place) (m : ℕ) (v : View) (w : Worker) → Stands s p m v w → Stands s p m v (record w { winds_down = true })

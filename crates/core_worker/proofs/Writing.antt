@@ -35,6 +35,7 @@ use Rattle.core_worker.specs.declared.types.Place as places
 use Rattle.core_worker.specs.declared.types.Place.TheVariants.{Free, Staged, Posted}
 use Rattle.core_worker.specs.OwnPlaces.{place_at}
 use Rattle.core_worker.specs.KeyTies.{IsBlockFor, AreBlocks, IsPlaced}
+use Rattle.core_worker.specs.OwnChunks.{AreChunks}
 use Rattle.core_worker.specs.Ties.{Leads, HasSpaceFor, is_lost, Holds, Stands}
 use Rattle.core_worker.specs.Turns.{TakesFor}
 use Rattle.core_worker.proofs.Led.{led_view}
@@ -113,9 +114,9 @@ placed_led p m v s kept flying taken holds looked took more (Posted n k lines) i
 -- the ties of a worker with another log and allocator
 pub holds_wrote : (p : Place) (m : ℕ) (v u : View) (w : Worker) (a : Sets) (log : LogState) (l : Leading) (stopped : Bool) (kept flying : List Entry) (taken : ℕ → ℕ → Option Entry) (holds : Bool) (looked : List Seen) (took : List Entry)
     → u ≡ led_view v kept flying taken holds looked took → ((x : Entry) → In x v.kept → In x kept) → Holds p m v w → Same w.allocator a → AreSets a → log.layout ≡ p.layout → log.part ≡ core_of p m
-    → Leads p m u l → HasSpaceFor (record w { log = log; allocator = a; leading = l; stopped = stopped }) l → (u.broken ≡ true → stopped ≡ true) → (is_lost l ≡ true → stopped ≡ true) → (stopped ≡ false → w.stopped ≡ false) → (w.stopped ≡ true → stopped ≡ true)
+    → Leads p m u l → HasSpaceFor (record w { log = log; allocator = a; leading = l; stopped = stopped }) l → (u.broken ≡ true → stopped ≡ true) → (is_lost l ≡ true → stopped ≡ true) → (stopped ≡ false → w.stopped ≡ false) → (w.stopped ≡ true → stopped ≡ true) → (stopped ≡ false → AreChunks p.layout.chunks a log.chunks)
     → Holds p m u (record w { log = log; allocator = a; leading = l; stopped = stopped })
-holds_wrote p m v u w a log l stopped kept flying taken holds looked took e more H same sets layout part leads space broken lost running stays =
+holds_wrote p m v u w a log l stopped kept flying taken holds looked took e more H same sets layout part leads space broken lost running stays chunks =
     subst (λ (x : View). Holds p m x (record w { log = log; allocator = a; leading = l; stopped = stopped })) (sym e) (record {
       place = H.place;
       member = H.member;
@@ -145,6 +146,7 @@ holds_wrote p m v u w a log l stopped kept flying taken holds looked took e more
       broken = λ b. broken (ap (λ (x : View). x.broken) e ∙ b);
       cleaning = H.cleaning;
       remembers = λ r. H.remembers (running r);
+      chunks = chunks;
       lost = lost;
     })
 

@@ -15,11 +15,13 @@ use Rattle.core_worker.specs.Answering.{AddsAnswers}
 use Rattle.core_worker.specs.Beginning.{answers_of, OnlyBegins, Begins}
 use Rattle.core_worker.specs.Ties.{Tie, HoldsBy, StandsBy}
 use Rattle.core_worker.specs.Order.{InOrderBy}
+use Rattle.core_worker.specs.StandingTies.{SameNames}
 use Rattle.core_worker.specs.WorkerMoves.{Fixed, hands_of, WorkerMoves}
 
--- nothing but the room for records and answers is another one
+-- nothing but the room for records, answers and names is another one
 pub record IsAsBefore (old new : Worker) : Type 0 where
-  pub rest : new ≡ record old { answers = new.answers; index = new.index }
+  pub rest : new ≡ record old { answers = new.answers; index = new.index; standing = new.standing }
+  pub names : SameNames old.standing new.standing
   pub answers : new.answers.items ≡ old.answers.items
   pub records : (k : ℕ) → known_at new.index k ≡ known_at old.index k
   pub room : (k : ℕ) → room_at old.index k ≤ room_at new.index k

@@ -30,6 +30,7 @@ use Rattle.core_worker.specs.Order.{InOrder, InOrderBy}
 use Rattle.core_worker.specs.Beginning.{answers_of, answer_with, HasFree, HoldsAside, BeginsShort, BeginsWaiting}
 use Rattle.core_worker.specs.Serving.{LeadsNothingYet, OthersWait, OnlyServes}
 use Rattle.core_worker.specs.Hearing.{HearsAll}
+use Rattle.core_worker.specs.StandingTies.{HearsOwn}
 
 -- the number of the request whose change stands in a place
 abbrev pub number_in : Place → Option ℕ
@@ -58,9 +59,10 @@ pub record Settles (old new : Worker) (e : Entry) (home : ℕ) : Type 0 where
   pub used : room_at mid e.key + 1 ≡ room_at old.index e.key
   pub others : (k : ℕ) → k ≢ e.key → room_at mid k ≡ room_at old.index k
   pub heard : HearsAll old.core mid new.index
+  pub told : HearsOwn old.core mid old.standing new.standing
   pub sets : AreSets new.allocator
   pub block : PutsBackIf old.allocator new.allocator (block_of (known_at old.index e.key))
-  pub rest : new ≡ record old { index = new.index; allocator = new.allocator }
+  pub rest : new ≡ record old { index = new.index; allocator = new.allocator; standing = new.standing }
 
 -- the reply of a change that is done, by what its entry leaves
 abbrev pub done_reply : Body → Reply

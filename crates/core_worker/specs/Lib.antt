@@ -1,6 +1,8 @@
 pub mod OwnPlaces
 pub mod Supplies
 pub mod KeyTies
+pub mod OwnChunks
+pub mod StandingTies
 pub mod Ties
 pub mod Order
 pub mod Refusals
@@ -20,6 +22,7 @@ pub mod Resting
 pub mod Posting
 pub mod Status
 pub mod Openings
+pub mod GivenBack
 pub mod Trials
 pub use Rattle.fs_model.specs.Cells
 pub use Rattle.core_log.specs.Chunk

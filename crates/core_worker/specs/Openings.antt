@@ -19,6 +19,7 @@ use Rattle.core_worker.specs.declared.types.Place.TheVariants.{Free}
 use Rattle.core_worker.specs.declared.worker.Worker.{Worker}
 use Rattle.core_worker.specs.OwnPlaces.{place_at}
 use Rattle.core_worker.specs.Hearing.{HearsAll}
+use Rattle.core_worker.specs.StandingTies.{HasCopies, HearsOwn, most_names}
 use Rattle.core_worker.specs.Ties.{LeadsNothing}
 
 -- Whatever the region tells: the parts of the start are the worker's, the dead names of its own log were told, no request was accepted and nothing is led.
@@ -28,6 +29,9 @@ pub record IsNew (start : CoreStart) (layout : Geometry) (w : Worker) : Type 0 w
   pub log : w.log ≡ start.log
   pub allocator : w.allocator ≡ start.allocator
   pub index : HearsAll start.core start.index w.index
+  pub standing : HearsOwn start.core start.index start.standing w.standing
+  pub copies : HasCopies start.standing
+  pub names : most_names ≤ w.standing.room
   pub eight : length w.places.items ≡ 8
   pub free : (s : ℕ) → place_at w.places.items s ≡ Free
   pub queue : w.queue ≡ []

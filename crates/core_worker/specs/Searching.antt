@@ -1,5 +1,5 @@
 -- How a worker looks for a change of its own that is given back.
-use Rattle.std.specs.Prelude.{◌≡◌, ℕ, ◌<◌, ◌++◌, Bool, true, false, List, Option, Some, None, IfSome, IsSomeAnd}
+use Rattle.std.specs.Prelude.{◌≡◌, ℕ, ◌<◌, ◌++◌, Bool, true, false, List, Option, Some, None, IfSome}
 use Rattle.store_image.specs.Facts.{In}
 use Rattle.group_laws.specs.declared.types.Seen.{Seen}
 use Rattle.group_laws.specs.declared.types.Seen.TheVariants.{Slot}
@@ -46,11 +46,6 @@ abbrev pub shows_out : Option SlotState → Bool
 shows_out None = false
 shows_out (Some x) = is_out x
 
--- a slot is not given back, and where nobody has taken its change, that was found
-pub record IsStanding (posted : Bool) (x : SlotState) : Type 0 where
-  pub back : is_given_back x ≡ false
-  pub out : is_out x ≡ true → posted ≡ true
-
 -- The slots of the posted places below one were loaded, and none was found given back.
 pub record Searched (before after : Option Group) (m : ℕ) (ps : List Place) (v : View) (upto : ℕ) (posted : Bool) (u : View) : Type 0 where
   pub found : ℕ → SlotWord
@@ -61,14 +56,8 @@ pub record Searched (before after : Option Group) (m : ℕ) (ps : List Place) (v
   pub flag : MatchBool posted (FindsPosted ps found upto) (FindsPosted ps found upto → ⊥)
   pub slots : List ℕ
   pub made : MakesAll before (looks_at m slots) after m u
-  pub stood : IfSome before (λ a. IsSomeAnd after (λ w. (s : ℕ) → s < upto → is_posted (place_at ps s) ≡ true → IsStanding posted (state_of (shown (w.slot m s)))))
 
 -- The lowest posted place that is given back, or none is; then also whether a change was found that nobody had taken.
 abbrev pub Finds : Search → ℕ → Moment → View → Type 0
 Finds (Back slot) m a u = (slot < 8) × (is_posted (place_at a.worker.places.items slot) ≡ true) × PassesItems m a slot u × ((word : SlotWord) × IsBack word × In (Slot m slot word) u.looked)
 Finds (Out posted) m a u = (before : PassesItems m a 8 u) × MatchBool posted (FindsPosted a.worker.places.items before.looked.found 8) (FindsPosted a.worker.places.items before.looked.found 8 → ⊥)
-
--- Where the state is told, so the own slots stand where none was found given back.
-abbrev pub FoundStands : Search → Option Group → Option Group → ℕ → List Place → Type 0
-FoundStands (Back slot) before after m ps = Unit {0}
-FoundStands (Out posted) before after m ps = IfSome before (λ a. IsSomeAnd after (λ w. (s : ℕ) → s < 8 → is_posted (place_at ps s) ≡ true → IsStanding posted (state_of (shown (w.slot m s)))))

@@ -25,6 +25,7 @@ use Rattle.core_worker.specs.OwnPlaces.{place_at, is_busy, AreApart}
 use Rattle.core_worker.specs.declared.types.Cleaning.TheVariants.{Nothing}
 use Rattle.core_worker.specs.Supplies.{room_for}
 use Rattle.core_worker.specs.KeyTies.{KnowsKey, IsPlaced, AreBlocks}
+use Rattle.core_worker.specs.OwnChunks.{AreChunks}
 
 -- What the core leads. Only a collecting one has the lock; who leads nothing gave all back, and has nothing in flight but after a fault.
 abbrev pub LeadsAt : SeatAt → View → Leading → Type 0
@@ -93,6 +94,8 @@ pub record Holds (p : Place) (m : ℕ) (v : View) (w : Worker) : Type 0 where
   pub cleaning : w.cleaning ≡ Nothing
   -- until the core stops, no key has a record that is to be forgotten, but while a change of it is out
   pub remembers : w.stopped ≡ false → (k : ℕ) → owner p k ≡ m → v.pending k ≡ None → is_forgettable (known_at w.index k) ≡ false
+  -- until the core stops, each chunk of its part is free in the allocator, Data there, or one of the log's
+  pub chunks : w.stopped ≡ false → AreChunks p.layout.chunks w.allocator w.log.chunks
 
 -- Each image of the part is licensed; until a batch fails, no image has an entry that isn't certain. Until the core stops, its log stands, and each chunk is certainly what allocator and log have it as.
 pub record Stands (s : State) (p : Place) (m : ℕ) (v : View) (w : Worker) : Type 0 where

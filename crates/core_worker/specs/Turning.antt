@@ -1,15 +1,8 @@
 -- What every part of a turn keeps, and what a whole turn did.
 use Rattle.fs_errors.specs.declared.Memory.{Memory}
-use Rattle.std.specs.Prelude.{Result, Ok, Err, ◌≡◌, ℕ, ◌<◌, Bool, true, false, List, [], map, Option, Some, IfSome, IsSomeAnd}
+use Rattle.std.specs.Prelude.{Result, Ok, Err, ◌≡◌, ℕ, ◌<◌, Bool, true, false, List, [], Option}
 use Rattle.pm_region.specs.State.{State, IsTelling}
-use Rattle.group_laws.specs.State.{Group, shown}
-use Rattle.group_laws.specs.Runs.{Kind}
-use Rattle.group_laws.specs.Runs.Kind.{Split, Join, Post as PostStep, Lock, Look, LookMail, Take, Unlock, Commit, Mark, Finish, Fail, Withdraw, Doom, Retire, Send, Receive}
-use Rattle.group_board.specs.Told.{state_of}
-use Rattle.batch_leader.specs.Leading.{MakesAll}
-use Rattle.std.specs.List.{AllByRecursion}
-use Rattle.core_worker.specs.declared.types.Place.{Place}
-use Rattle.core_worker.specs.Searching.{is_given_back, is_out}
+use Rattle.group_laws.specs.State.{Group}
 use Rattle.group_laws.specs.MemberViews.{View}
 use Rattle.group_board.specs.Seats.{SeatAt}
 use Rattle.batch_leader.specs.Persisting.{StaysLicensed, WritesPart}
@@ -25,7 +18,7 @@ use Rattle.core_worker.specs.declared.types.Turn.{Turn}
 use Rattle.core_worker.specs.declared.types.Turn.TheVariants.{Moved, Idle}
 use Rattle.core_worker.specs.declared.choose_item.Choice.{Choice}
 use Rattle.core_worker.specs.declared.choose_item.Choice.TheVariants.{Pass, Drop, Post}
-use Rattle.core_worker.specs.OwnPlaces.{place_at, is_staged, is_posted, IsLowest}
+use Rattle.core_worker.specs.OwnPlaces.{is_staged, IsLowest}
 use Rattle.core_worker.specs.Turns.{Moment, InOrderAt, GoesRound, PersistsOrLoses, Marks, Fails, Finishes, Posts, LosesBlock, Locks, Idles, PassesItems, PassesPost, FindsPosted}
 use Rattle.core_worker.specs.Stopping.{Drops, WithdrawsOrUnlocks}
 use Rattle.core_worker.specs.WorkerMoves.{Fixed, hands_of, WorkerMoves}
@@ -102,43 +95,3 @@ abbrev pub Chooses : Choice → Bool → Worker → Type 0
 Chooses Pass refused w = PassesPost refused w
 Chooses (Drop slot) refused w = IsLowest is_staged w.places.items slot × (slot < 8) × (w.stopped ≡ true) × (w.winds_down ≡ false)
 Chooses (Post slot) refused w = IsLowest is_staged w.places.items slot × (slot < 8) × (w.stopped ≡ false) × (w.winds_down ≡ false)
-
--- a step that only loads; a try of the lock that finds a holder does
-abbrev pub IsLoad : Kind → Type 0
-IsLoad Split = ⊥
-IsLoad Join = ⊥
-IsLoad (PostStep s e v) = ⊥
-IsLoad Lock = Unit {0}
-IsLoad (Look a s) = Unit {0}
-IsLoad (LookMail a b) = Unit {0}
-IsLoad (Take a s) = ⊥
-IsLoad Unlock = ⊥
-IsLoad Commit = ⊥
-IsLoad (Mark a s) = ⊥
-IsLoad (Finish s) = ⊥
-IsLoad (Fail a s) = ⊥
-IsLoad (Withdraw s) = ⊥
-IsLoad (Doom ns) = ⊥
-IsLoad (Retire ns) = ⊥
-IsLoad (Send to n) = ⊥
-IsLoad (Receive from) = ⊥
-
--- a change that is out is not given back, and where nobody has taken it there is a holder of the lock
-pub record IsUnderWay (w : Group) (m s : ℕ) : Type 0 where
-  pub back : is_given_back (state_of (shown (w.slot m s))) ≡ false
-  pub out : is_out (state_of (shown (w.slot m s))) ≡ true → (h : ℕ) × (w.holder ≡ Some h)
-
--- Where the state is told, a turn in which nothing applied made loads alone, and so stand the own slots of the posted places.
-pub record Rests (before after : Option Group) (m : ℕ) (u : View) (ps : List Place) : Type 0 where
-  pub loads : List Kind
-  pub each : AllByRecursion IsLoad loads
-  pub made : MakesAll before (map (λ k. (m, k)) loads) after m u
-  pub slots : IfSome before (λ a. IsSomeAnd after (λ w. (s : ℕ) → s < 8 → is_posted (place_at ps s) ≡ true → IsUnderWay w m s))
-
-abbrev pub RestsIf : Turn → Option Group → Option Group → ℕ → View → List Place → Type 0
-RestsIf Moved before after m u ps = Unit {0}
-RestsIf Idle before after m u ps = Rests before after m u ps
-
-abbrev pub RestsTo : Result Turn Memory → Option Group → Option Group → ℕ → View → List Place → Type 0
-RestsTo (Ok turn) before after m u ps = RestsIf turn before after m u ps
-RestsTo (Err memory) before after m u ps = Unit {0}

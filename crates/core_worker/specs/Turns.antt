@@ -18,7 +18,7 @@ use Rattle.lazy_alloc.specs.Sets.{TakesChunkOrNone, Sets}
 use Rattle.group_laws.specs.MemberViews.{View}
 use Rattle.group_board.specs.Views.{after_post, after_lock, after_find, after_unlock, after_commit, after_mark, after_fail}
 use Rattle.group_board.specs.Seats.{SeatAt}
-use Rattle.batch_leader.specs.TakenChanges.{spelled, taken_in}
+use Rattle.batch_leader.specs.TakenChanges.{entries_in, spelled, taken_in}
 use Rattle.batch_leader.specs.Leading.{MakesAll, Went, IsReleased}
 use Rattle.batch_leader.specs.Persisting.{opened_for}
 use Rattle.batch_leader.specs.declared.states.Collecting.{Collecting}
@@ -36,6 +36,7 @@ use Rattle.core_worker.specs.declared.types.Place.TheVariants.{Free, Staged, Pos
 use Rattle.core_worker.specs.declared.worker.Worker.{Worker}
 use Rattle.core_worker.specs.OwnPlaces.{place_at, is_staged, is_posted, IsLowest, HasNone, Replaces}
 use Rattle.core_worker.specs.Ties.{LeadsNothing}
+use Rattle.core_worker.specs.StandingTies.{AddsNames}
 use Rattle.core_worker.specs.Order.{InOrder}
 use Rattle.core_worker.specs.Supplies.{room_for}
 use Rattle.core_worker.specs.Finishing.{FinishesSlot}
@@ -142,7 +143,10 @@ pub record Persists (m : ℕ) (a b : Moment) : Type 0 where
   pub log : b.worker.log ≡ appended_to (opened_for a.worker.log fresh) (padded (spelled batch.changes.taken.items))
   pub pledged : Unpledges m batch.changes.taken.items a.worker b.worker
   pub view : b.view ≡ after_commit a.view
-  pub same : b.worker ≡ record a.worker { log = b.worker.log; allocator = b.worker.allocator; places = b.worker.places; leading = b.worker.leading }
+  -- the names stand in the log now; for the next batch there may be no memory
+  pub names : a.worker.winds_down ≡ false → AddsNames a.worker.standing b.worker.standing (entries_in batch.changes.taken.items)
+  pub winds : a.worker.winds_down ≡ true → b.worker.winds_down ≡ true
+  pub same : b.worker ≡ record a.worker { log = b.worker.log; allocator = b.worker.allocator; places = b.worker.places; leading = b.worker.leading; standing = b.worker.standing; winds_down = b.worker.winds_down }
 
 -- Item 2 at a fault: no event is made, and the core stops.
 pub record LosesBatch (a b : Moment) : Type 0 where
@@ -153,7 +157,7 @@ pub record LosesBatch (a b : Moment) : Type 0 where
   pub gives : lost.left.taken.items ≡ batch.changes.taken.items
   pub stopped : b.worker.stopped ≡ true
   pub view : b.view ≡ a.view
-  pub same : b.worker ≡ record a.worker { log = b.worker.log; allocator = b.worker.allocator; leading = b.worker.leading; stopped = true }
+  pub same : b.worker ≡ record a.worker { log = b.worker.log; allocator = b.worker.allocator; leading = b.worker.leading; standing = b.worker.standing; stopped = true }
 
 -- Item 3: the next change is given back. With the last one the core leads no more.
 pub record Marks (a b : Moment) : Type 0 where

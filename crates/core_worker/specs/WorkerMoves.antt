@@ -12,6 +12,9 @@ use Rattle.core_worker.specs.declared.types.Place.TheVariants as kinds
 use Rattle.core_worker.specs.declared.worker.Worker.{Worker}
 use Rattle.core_worker.specs.OwnPlaces.{key_in, is_of, request_by, request_pending}
 use Rattle.core_worker.specs.Beginning.{answer_with}
+use Rattle.core_log.specs.Log.{room_of}
+use Rattle.lazy_alloc.specs.Sets.{free_chunk_count, free_block_count}
+use Rattle.engine_laws.specs.FreeStock.{Stock}
 pub use Rattle.engine_laws.specs.WorkerMoves.{Placed, Hands, placed, line_in, Fixed, asked, replied, fixed_of, requests_for, HoldsKey, AnswersKey, WorkerMoves}
 
 abbrev pub placed_in : View → Place → Option Placed
@@ -26,12 +29,17 @@ placed_for v (x ∷ xs) k = if is_of k (key_in x) then placed_in v x else placed
 abbrev pub asked_by : Held → ℕ × Request
 asked_by h = (h.number, h.request)
 
+-- what a worker has free
+abbrev pub stock_of : Worker → Stock
+stock_of w = record { chunks = free_chunk_count w.allocator; lines = room_of w.log; blocks = free_block_count w.allocator }
+
 -- of a worker with this view: a request in hand comes before those that wait
 abbrev pub hands_of : View → Worker → Hands
 hands_of v w = record {
   place = placed_for v w.places.items;
   waits = λ k. map asked_by (filter (λ h. key_of h.request == k) (option_to_list w.in_hand) ++ waiting w.queue k);
   stopped = w.stopped;
+  stock = stock_of w;
 }
 
 -- the answer that is given out

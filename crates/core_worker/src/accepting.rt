@@ -22,6 +22,8 @@ use std::alloc::Global;
 
 // As many answers as there can be unanswered requests: those in the places and those that wait, and one more.
 const UNANSWERED: usize = 73;
+// As many names of entries as these may lead to: a lead for each, with a full batch.
+const NAMES: u64 = 4672;
 
 // Whether a change of the key stands in a place.
 pub(crate) fn is_busy(places: &Vec<Place>, key: Key) -> bool
@@ -52,6 +54,9 @@ impl Worker {
         ensures ready { result ≡ true → Prepared self.old self.new key }
     {
         if self.answers.reserve(UNANSWERED).is_err() {
+            return false;
+        }
+        if self.standing.reserve(NAMES).is_err() {
             return false;
         }
         self.index.admit(alloc, key).is_ok()

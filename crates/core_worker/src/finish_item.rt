@@ -93,7 +93,7 @@ impl Worker {
         ensures { Settles self.old self.new entry home }
     {
         let replaced = self.index.settle(entry, home);
-        hear_own(&mut self.index, self.core);
+        hear_own(&mut self.index, &mut self.standing, self.core);
         put_back(&mut self.allocator, replaced);
     }
 
@@ -158,6 +158,7 @@ impl Worker {
             (B.seat board.old).number slot (B.view board.old) (B.view board.new)
             self.old self.new (is_ok result) }
         ensures memory { OnErr result (self.new.winds_down ≡ true) }
+        ensures awake { OnErr result (self.old.winds_down ≡ false) }
         ensures cause { StopsByFailed (B.whole board.old) (B.seat board.old).number
             self.old self.new }
         ensures made { Makes (B.whole board.old) (B.seat board.old).number

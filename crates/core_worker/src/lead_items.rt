@@ -21,8 +21,10 @@ ghost use Rattle.lazy_alloc.specs.Sets.{AreSets};
 ghost use Rattle.licence.specs.Licence.{Licensed, part_at, part_end};
 ghost use Rattle.batch_leader.specs.declared.states.Batch.{Batch};
 ghost use Rattle.core_worker.specs.Supplies.{room_for, HasKeptRoom};
+ghost use Rattle.core_worker.specs.StandingTies.{most_names};
 ghost use Rattle.core_worker.specs.Left.{Lowers, StartsFirst};
 
+use crate::batch_names::note_names;
 use crate::post_item::swap_place;
 use crate::types::{Leading, Place};
 use crate::worker::Worker;
@@ -229,7 +231,9 @@ impl Worker {
             (B.view board.old) self.old }
         requires batch { (b : Batch) × (self.old.leading ≡ leads.Batch b) }
         requires runs { self.old.stopped ≡ false }
+        requires names { self.old.winds_down ≡ false → most_names ≤ self.old.standing.room }
         ensures seat { B.seat board.new ≡ B.seat board.old }
+        ensures works { self.new.winds_down ≡ self.old.winds_down }
         ensures moments { StaysLicensed (R.state region.old) (R.state region.new)
             (B.seat board.old) (B.view board.old) }
         ensures outside { WritesPart (R.state region.old) (R.state region.new) (B.seat board.old) }
@@ -250,6 +254,7 @@ impl Worker {
         match mem::replace(&mut self.leading, Leading::Between) {
             Leading::Batch(batch) => {
                 let fresh = chunk_for(&mut self.allocator, batch.needs_chunk());
+                note_names(&mut self.standing, &batch, !self.winds_down);
                 match batch.persist(region, &mut self.log, board, fresh) {
                     Ok(done) => {
                         let own = board.member();

@@ -2,6 +2,7 @@
 #![tactic(auto)]
 
 mod accepting;
+mod batch_names;
 mod begin_request;
 mod choose_item;
 mod finish_item;
@@ -15,6 +16,7 @@ mod refusing;
 mod releasing;
 mod search_places;
 mod status;
+mod stop_worker;
 mod stopped_items;
 #[cfg(test)]
 mod tests;

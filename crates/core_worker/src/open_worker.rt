@@ -8,6 +8,7 @@ ghost use Rattle.core_worker.specs.Ties.{Holds, Stands};
 ghost use Rattle.core_worker.specs.Order.{InOrder};
 ghost use Rattle.core_worker.specs.Openings.{IsNew, IsCertainAt, ByEachImage, opened_view};
 
+use crate::batch_names::MOST_NAMES;
 use crate::hearing::hear_own;
 use crate::types::{Cleaning, Leading, Place};
 use crate::worker::Worker;
@@ -43,9 +44,10 @@ impl Worker {
             log,
             allocator,
             mut index,
-            ..
+            mut standing,
         } = start;
-        hear_own(&mut index, core);
+        standing.reserve(MOST_NAMES)?;
+        hear_own(&mut index, &mut standing, core);
         let queue = ConflictQueue::open(alloc)?;
         let places = free_places(alloc)?;
         let buffer = BatchBuffer::open(alloc)?;
@@ -55,6 +57,7 @@ impl Worker {
             log,
             allocator,
             index,
+            standing,
             queue,
             in_hand: None,
             places,

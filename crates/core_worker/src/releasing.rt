@@ -96,6 +96,7 @@ impl Worker {
         ensures short { OnErr result (ServesShort (R.state region.now) self.old self.new key) }
         ensures rule { HasKeptRoom self.old → HasKeptRoom self.new }
         ensures memory { OnErr result (self.new.winds_down ≡ true) }
+        ensures awake { OnErr result (self.old.winds_down ≡ false) }
         ensures rest { OnlyServes self.old self.new }
         ensures less { left self.new ≤ left self.old }
         ensures works { OnOk result (self.new.winds_down ≡ self.old.winds_down) }

@@ -4,7 +4,7 @@ ghost use Rattle.group_laws.specs.Places.{members};
 ghost use Rattle.core_worker.specs.OwnPlaces.{place_at};
 ghost use Rattle.core_worker.specs.Ties.{HoldsAt, LeadsNothing};
 ghost use Rattle.core_worker.specs.Turns.{LooksMade};
-ghost use Rattle.core_worker.specs.Searching.{Sees, shows_back, shows_out, Finds, FoundStands};
+ghost use Rattle.core_worker.specs.Searching.{Sees, shows_back, shows_out, Finds};
 
 use crate::post_item::place_in;
 use crate::types::Place;
@@ -74,8 +74,6 @@ impl Worker {
             (record { worker = self.now; view = B.view board.old }) (B.view board.new) }
         ensures looks { LooksMade (B.whole board.old) (B.whole board.new)
             (B.seat board.old).number (B.view board.new) }
-        ensures stands { FoundStands result (B.whole board.old) (B.whole board.new)
-            (B.seat board.old).number self.now.places.items }
     {
         let mut posted = false;
         for slot in 0..8 {

@@ -132,6 +132,7 @@ impl Worker {
         ensures rule { HasKeptRoom self.old → HasKeptRoom self.new }
         ensures drops { Drops (R.state region.now) slot self.old self.new (is_ok result) }
         ensures memory { OnErr result (self.new.winds_down ≡ true) }
+        ensures awake { OnErr result (self.old.winds_down ≡ false) }
         ensures less { left self.new < left self.old }
         ensures works { OnOk result (self.new.winds_down ≡ self.old.winds_down) }
     {
@@ -208,6 +209,7 @@ impl Worker {
             (B.whole board.old) (B.whole board.new) (B.view board.old) (B.view board.new)
             self.old self.new (is_ok result) }
         ensures memory { OnErr result (self.new.winds_down ≡ true) }
+        ensures awake { OnErr result (self.old.winds_down ≡ false) }
         ensures made { Steps (B.whole board.old) (B.whole board.new) (B.seat board.old).number
             (B.view board.new) }
         ensures less { Lowers (B.whole board.old) (B.whole board.new) self.old self.new }

@@ -149,3 +149,33 @@ fn the_second_group(rt: HostRuntime) -> Result<(), Fail> {
     }
     Ok(())
 }
+
+#[test]
+fn what_stands_in_the_log(rt: HostRuntime) -> Result<(), Fail> {
+    let alloc = rt.alloc();
+    let region = attached(alloc)?;
+    let Some(worker) = opened(alloc, &region, 5)? else {
+        assert!(rt; false);
+        return Ok(());
+    };
+    if worker.pending() || worker.leading() {
+        assert!(rt; false);
+        return Ok(());
+    }
+    // the newest value of key 21, and the old one of key 13, which is dead
+    let newest = EntryName {
+        key: 21,
+        version: 2,
+    };
+    let old = EntryName {
+        key: 13,
+        version: 1,
+    };
+    let start = worker.stop();
+    assert_eq!(rt; start.standing.copies(newest), 1);
+    assert!(rt; !start.standing.is_dead(newest));
+    assert_eq!(rt; start.standing.copies(old), 1);
+    assert!(rt; start.standing.is_dead(old));
+    assert_eq!(rt; start.standing.settled(), None);
+    Ok(())
+}

@@ -12,10 +12,8 @@ ghost use Rattle.core_worker.specs.Supplies.{room_for, HasKeptRoom};
 ghost use Rattle.batch_leader.specs.Persisting.{StaysLicensed, WritesPart};
 ghost use Rattle.core_worker.specs.Posting.{PostsOrStops};
 ghost use Rattle.core_worker.specs.Ties.{HoldsAt, StandsAt, LeadsNothing};
-ghost use Rattle.core_worker.specs.declared.search_places.Search.TheVariants as founds;
-ghost use Rattle.core_worker.specs.Searching.{FoundStands};
-ghost use Rattle.core_worker.specs.Turns.{InOrderAt, LooksMade, PassesPost, PersistsOrLoses};
-ghost use Rattle.core_worker.specs.Turning.{HasBatch, KeepsTurn, TurnMoves, Did, Turned, TurnedTo, Tells, RestsIf, RestsTo, at_entry};
+ghost use Rattle.core_worker.specs.Turns.{InOrderAt, PassesPost, PersistsOrLoses};
+ghost use Rattle.core_worker.specs.Turning.{HasBatch, KeepsTurn, TurnMoves, Did, Turned, TurnedTo, Tells, at_entry};
 ghost use Rattle.core_worker.specs.Left.{HasOffer, Lowers, Measures, MeasuresTurn, StartsFirst};
 ghost use Rattle.core_worker.specs.Resting.{AtRest, IfIdle, IfIdleTurn, TriedIf};
 
@@ -33,7 +31,11 @@ use std::alloc::Global;
 
 impl Worker {
     // A turn of a core that has a batch to write, or changes to give back.
-    fn serve_batch<R: Region, B: Board>(&mut self, region: &mut R, board: &mut B)
+    fn serve_batch<R: Region, B: Board>(
+        &mut self,
+        region: &mut R,
+        board: &mut B,
+    ) -> Result<(), Memory>
         requires holds { HoldsAt (B.seat board.old) (B.view board.old) self.old }
         requires stands { StandsAt (R.state region.old) (B.seat board.old)
             (B.view board.old) self.old }
@@ -46,22 +48,24 @@ impl Worker {
         ensures did { (refused : Bool) → Did (R.state region.old) refused (B.whole board.old)
             (B.seat board.old) (at_entry self.old (B.view board.old))
             (at_entry self.new (B.view board.new)) }
+        ensures memory { OnErr result (self.new.winds_down ≡ true) }
+        ensures awake { OnErr result (self.old.winds_down ≡ false) }
         ensures less { Lowers (B.whole board.old) (B.whole board.new) self.old self.new }
         ensures starts { StartsFirst self.new }
-        ensures works { self.new.winds_down ≡ self.old.winds_down }
+        ensures works { OnOk result (self.new.winds_down ≡ self.old.winds_down) }
     {
         match &self.leading {
             Leading::Batch(_) => {
                 self.write_batch(region, board);
-                return;
+                return self.renew_names();
             }
             Leading::Persisted(_) => {
                 self.mark_next(board);
-                return;
+                return Ok(());
             }
             Leading::Failed(_) => {
                 self.fail_next(board);
-                return;
+                return Ok(());
             }
             _ => unreachable!(),
         }
@@ -110,11 +114,6 @@ impl Worker {
             → Tells posted (B.seat board.old).number self.old v (B.view board.old)
             → Turned result s refused before (B.seat board.old) (at_entry self.old v)
             (at_entry self.new (B.view board.new)) }
-        ensures rests { (start : Option Group) → FoundStands (founds.Out posted) start
-            (B.whole board.old) (B.seat board.old).number self.old.places.items
-            → LooksMade start (B.whole board.old) (B.seat board.old).number (B.view board.old)
-            → RestsIf result start (B.whole board.new) (B.seat board.old).number
-            (B.view board.new) self.old.places.items }
         ensures less { (posted ≡ true → HasOffer (B.whole board.old) (B.seat board.old).number)
             → MeasuresTurn result (B.whole board.old) (B.whole board.new) self.old self.new }
         ensures starts { StartsFirst self.new }
@@ -153,12 +152,8 @@ impl Worker {
             → Tells posted (B.seat board.old).number self.old v (B.view board.old)
             → TurnedTo result (R.state region.old) (G.may_refuse gate.now) before
             (B.seat board.old) (at_entry self.old v) (at_entry self.new (B.view board.new)) }
-        ensures rests { (start : Option Group) → FoundStands (founds.Out posted) start
-            (B.whole board.old) (B.seat board.old).number self.old.places.items
-            → LooksMade start (B.whole board.old) (B.seat board.old).number (B.view board.old)
-            → RestsTo result start (B.whole board.new) (B.seat board.old).number
-            (B.view board.new) self.old.places.items }
         ensures memory { OnErr result (self.new.winds_down ≡ true) }
+        ensures awake { OnErr result (self.old.winds_down ≡ false) }
         ensures less { (posted ≡ true → HasOffer (B.whole board.old) (B.seat board.old).number)
             → Measures result (B.whole board.old) (B.whole board.new) self.old self.new }
         ensures starts { StartsFirst self.new }
@@ -206,15 +201,14 @@ impl Worker {
         ensures turned { TurnedTo result (R.state region.old) (G.may_refuse gate.now)
             (B.whole board.old) (B.seat board.old) (at_entry self.old (B.view board.old))
             (at_entry self.new (B.view board.new)) }
-        ensures rests { RestsTo result (B.whole board.old) (B.whole board.new)
-            (B.seat board.old).number (B.view board.new) self.old.places.items }
         ensures memory { OnErr result (self.new.winds_down ≡ true) }
+        ensures awake { OnErr result (self.old.winds_down ≡ false) }
         ensures less { Measures result (B.whole board.old) (B.whole board.new)
             self.old self.new }
         ensures starts { StartsFirst self.new }
-        ensures idles { IfIdle result (G.may_refuse gate.now ≡ false → self.old.winds_down ≡ false
-            → AtRest (B.seat board.old) (B.whole board.old) (B.whole board.new)
-            (B.view board.old) (B.view board.new) self.old self.new) }
+        ensures idles { IfIdle result (AtRest (G.may_refuse gate.now) (B.seat board.old)
+            (B.whole board.old) (B.whole board.new) (B.view board.old) (B.view board.new)
+            self.old self.new) }
         ensures works { OnOk result (self.new.winds_down ≡ self.old.winds_down) }
     {
         match self.find_back(board) {
@@ -289,6 +283,7 @@ impl Worker {
             (B.seat board.old) (at_entry self.old (B.view board.old))
             (at_entry self.new (B.view board.new)) }
         ensures memory { OnErr result (self.new.winds_down ≡ true) }
+        ensures awake { OnErr result (self.old.winds_down ≡ false) }
         ensures less { (self.old.stopped ≡ false → HasKeptRoom self.old) → StartsFirst self.old
             → Lowers (B.whole board.old) (B.whole board.new) self.old self.new }
         ensures starts { StartsFirst self.new }
@@ -322,15 +317,14 @@ impl Worker {
         ensures turned { TurnedTo result (R.state region.old) (G.may_refuse gate.now)
             (B.whole board.old) (B.seat board.old) (at_entry self.old (B.view board.old))
             (at_entry self.new (B.view board.new)) }
-        ensures rests { RestsTo result (B.whole board.old) (B.whole board.new)
-            (B.seat board.old).number (B.view board.new) self.old.places.items }
         ensures memory { OnErr result (self.new.winds_down ≡ true) }
+        ensures awake { OnErr result (self.old.winds_down ≡ false) }
         ensures less { (self.old.stopped ≡ false → HasKeptRoom self.old) → StartsFirst self.old
             → Measures result (B.whole board.old) (B.whole board.new) self.old self.new }
         ensures starts { StartsFirst self.new }
-        ensures idles { IfIdle result (G.may_refuse gate.now ≡ false → self.old.winds_down ≡ false
-            → AtRest (B.seat board.old) (B.whole board.old) (B.whole board.new)
-            (B.view board.old) (B.view board.new) self.old self.new) }
+        ensures idles { IfIdle result (AtRest (G.may_refuse gate.now) (B.seat board.old)
+            (B.whole board.old) (B.whole board.new) (B.view board.old) (B.view board.new)
+            self.old self.new) }
         ensures works { OnOk result (self.new.winds_down ≡ self.old.winds_down) }
     {
         match &self.leading {
@@ -345,10 +339,14 @@ impl Worker {
                     return Err(memory);
                 }
             },
-            _ => {
-                self.serve_batch(region, board);
-                return Ok(Turn::Moved);
-            }
+            _ => match self.serve_batch(region, board) {
+                Ok(()) => {
+                    return Ok(Turn::Moved);
+                }
+                Err(memory) => {
+                    return Err(memory);
+                }
+            },
         }
     }
 
@@ -381,15 +379,14 @@ impl Worker {
         ensures turned { TurnedTo result (R.state region.old) (G.may_refuse gate.now)
             (B.whole board.old) (B.seat board.old) (at_entry self.old (B.view board.old))
             (at_entry self.new (B.view board.new)) }
-        ensures rests { RestsTo result (B.whole board.old) (B.whole board.new)
-            (B.seat board.old).number (B.view board.new) self.old.places.items }
         ensures memory { OnErr result (self.new.winds_down ≡ true) }
+        ensures awake { OnErr result (self.old.winds_down ≡ false) }
         ensures less { (self.old.stopped ≡ false → HasKeptRoom self.old) → StartsFirst self.old
             → Measures result (B.whole board.old) (B.whole board.new) self.old self.new }
         ensures starts { StartsFirst self.new }
-        ensures idles { IfIdle result (G.may_refuse gate.now ≡ false → self.old.winds_down ≡ false
-            → AtRest (B.seat board.old) (B.whole board.old) (B.whole board.new)
-            (B.view board.old) (B.view board.new) self.old self.new) }
+        ensures idles { IfIdle result (AtRest (G.may_refuse gate.now) (B.seat board.old)
+            (B.whole board.old) (B.whole board.new) (B.view board.old) (B.view board.new)
+            self.old self.new) }
         ensures works { OnOk result (self.new.winds_down ≡ self.old.winds_down) }
     {
         self.serve_first(alloc, region, board, gate)

@@ -15,6 +15,7 @@ use Rattle.group_laws.proofs.Images.{in_map}
 use Rattle.group_laws.specs.MemberViews.{View, view_of}
 use Rattle.group_laws.specs.Regions.{place_at}
 use Rattle.engine_laws.specs.Parts.{group_of, member_of}
+use Rattle.engine_laws.specs.FreeStock.{Stock, IsAtLeast}
 use Rattle.engine_laws.specs.WorkerMoves.{Hands, Fixed, line_in, asked, fixed_of, requests_for, WorkerMoves}
 use Rattle.engine_laws.specs.Engine.{Engine, Answer, line}
 use Rattle.engine_laws.specs.Moves.{Moves}
@@ -22,6 +23,7 @@ use Rattle.engine_laws.specs.Keys.{Served, KeyStands}
 use Rattle.engine_laws.specs.Workers.{Sits, Around}
 use Rattle.engine_laws.specs.Advance.{answered, moved_to}
 use Rattle.engine_laws.proofs.Numbers.{IsUp, up, up_tail, all_in, one_key, filter_in}
+use Rattle.engine_laws.proofs.CauseLaws.{at_least_same}
 use Rattle.engine_laws.proofs.Cores.{of_member, of_core}
 use Rattle.engine_laws.proofs.Workers.{line_is, worker_moves}
 
@@ -103,9 +105,10 @@ module _ (start : ℕ → Option (List ℕ)) (e : Engine) (c : ℕ) (t : State) 
     place = λ k own. sym (here k (x.place k) (e.place k) own);
     waits = λ k own. sym (here k (x.waits k) (e.waits k) own);
     stopped = sym (ap (λ q. cond q x.stopped (e.stopped c)) (eq-eqb c c refl));
+    stock = subst (λ (s : Stock). IsAtLeast s x.stock) (sym (ap (λ q. cond q x.stock (e.stock c)) (eq-eqb c c refl))) (at_least_same x.stock);
   }
 
-  around : Around e f c accepted fixed
+  pub around : Around e f c accepted fixed
   around = record {
     core = low;
     layout = refl;
@@ -117,6 +120,7 @@ module _ (start : ℕ → Option (List ℕ)) (e : Engine) (c : ℕ) (t : State) 
     other_keys = λ k other. (there k (x.place k) (e.place k) other, there k (x.waits k) (e.waits k) other);
     other_stops = λ d ne. ap (λ q. cond q x.stopped (e.stopped d)) (ne_eqb d c ne);
     other_takes = λ d ne. ap (λ q. cond q takes (e.takes d)) (ne_eqb d c ne);
+    other_stocks = λ d ne. ap (λ q. cond q x.stock (e.stock d)) (ne_eqb d c ne);
     new_answers = λ y i. answered_new fixed t.stamp (e.answer y.number) y (λ z j q. once z y j i q) i;
     old_answers = λ n none. answered_old fixed t.stamp n (e.answer n) none;
   }

@@ -10,17 +10,19 @@ use Rattle.pm_region.specs.State.{IsTold, IsTelling, MayLeave, cell_now}
 use Rattle.pm_region.specs.Cell.{Cell}
 use Rattle.pm_region.specs.Words.{Surely}
 use Rattle.pm_region.proofs.Moments.{started}
-use Rattle.chunk_map.specs.Layouts.{owner}
+use Rattle.chunk_map.specs.Layouts.{layout_of, owner}
 use Rattle.store_image.specs.Soundness.{IsSound}
 use Rattle.store_image.proofs.SoundLaws.{has_layout}
 use Rattle.headline.proofs.Run.{requests-append}
-use Rattle.engine_laws.specs.Engine.{Engine, line}
+use Rattle.headline.specs.Limits.{version_of}
+use Rattle.engine_laws.specs.RefusalCauses.{HaveCauses, raised_by}
+use Rattle.engine_laws.specs.Engine.{Engine, group_for, line}
 use Rattle.engine_laws.specs.WorkerMoves.{requests_for}
-use Rattle.engine_laws.specs.Keys.{Served, KeyStands}
+use Rattle.engine_laws.specs.Keys.{Served, pairs, KeyStands}
 use Rattle.engine_laws.specs.Stands.{Origin, start_of, ShowsPrefix, Stands, given_to, opening}
 use Rattle.engine_laws.proofs.Numbers.{all_append}
 use Rattle.engine_laws.proofs.Histories.{nothing}
-use Rattle.engine_laws.proofs.Opens.{opens_lawful, opens_licensed, opens_superblock, opens_cells, opens_idle}
+use Rattle.engine_laws.proofs.Opens.{opens_lawful, opens_licensed, opens_superblock, opens_cells, opens_idle, opens_own, opens_last}
 use Rattle.engine_laws.proofs.Licences.{shows_groups}
 use Rattle.engine_laws.proofs.Stands.{shows_key}
 
@@ -55,6 +57,14 @@ module _ (o : Origin) (sound : IsSound o.region.frame.bytes o.found) (first : o.
         none_late : (k : ℕ) → AllByRecursion (λ (x : Served). x.answer.stamp ≤ t) (opens_key k).served
         none_late k = tt
 
+  opens_causes : (k : ℕ) → HaveCauses (layout_of o.found) (version_of o.found k) (pairs (opens_key k).served)
+  unfolding opens_key
+  opens_causes k = tt
+
+  opens_versions : (k : ℕ) → (group_for e k).last k ≤ raised_by (version_of o.found k) (pairs (opens_key k).served)
+  unfolding opens_key
+  opens_versions k = let same = opens_last o.found k (opens_own o.region.frame.bytes o.found sound k) in omega (arith, same)
+
   pub opens : Stands o e
   opens = record {
     sound = sound;
@@ -68,6 +78,8 @@ module _ (o : Origin) (sound : IsSound o.region.frame.bytes o.found) (first : o.
     keys = opens_key;
     unasked = λ n past. refl;
     crash = opens_crash;
+    causes = opens_causes;
+    versions = opens_versions;
     stopped = λ c low stop. absurd (cc stop);
     broken = λ c low b. b;
   }
@@ -123,6 +135,14 @@ module _ (o : Origin) (e : Engine) (q : Request) (S : Stands o e) where
   unfolding given_key
   given_crash t told from image may = let is = S.crash t told from image may in record { sound = is.sound; layout = is.layout; cells = is.cells }
 
+  given_causes : (k : ℕ) → HaveCauses (layout_of o.found) (version_of o.found k) (pairs (given_key k).served)
+  unfolding given_key
+  given_causes k = S.causes k
+
+  given_versions : (k : ℕ) → (group_for f k).last k ≤ raised_by (version_of o.found k) (pairs (given_key k).served)
+  unfolding given_key
+  given_versions k = S.versions k
+
   pub gives : Stands o f
   gives = record {
     sound = S.sound;
@@ -136,6 +156,8 @@ module _ (o : Origin) (e : Engine) (q : Request) (S : Stands o e) where
     keys = given_key;
     unasked = λ m past. S.unasked m (let long = length-append e.given (q ∷ []) in omega (arith, long, past));
     crash = given_crash;
+    causes = given_causes;
+    versions = given_versions;
     stopped = S.stopped;
     broken = S.broken;
   }

@@ -1,6 +1,7 @@
 -- A call of a worker in a state that stands.
-use Rattle.std.proofs.Common.{◌≡◌, ◌≢◌, ℕ, zero, suc, ◌<◌, List, [], ◌∷◌, length, Bool, Some, ◌∙◌, subst, sym, arith}
+use Rattle.std.proofs.Common.{◌≡◌, ◌≢◌, ℕ, zero, suc, ◌<◌, List, [], ◌∷◌, length, Bool, cond, Some, refl, ◌∙◌, ap, subst, sym, arith}
 use Rattle.std.specs.List.{slice_get}
+use Rattle.std.proofs.lemmas.Bool.{eq-eqb}
 use Rattle.store_image.specs.Facts.{In}
 use Rattle.fs_model.specs.Cells.{key_of}
 use Rattle.fs_model.specs.declared.model.Request.{Request}
@@ -12,16 +13,20 @@ use Rattle.group_laws.specs.State.{Group}
 use Rattle.group_laws.specs.MemberViews.{View}
 use Rattle.group_laws.specs.Regions.{place_at}
 use Rattle.group_laws.proofs.Others.{run_place}
-use Rattle.engine_laws.specs.Parts.{group_of}
+use Rattle.engine_laws.specs.Parts.{group_of, member_of}
 use Rattle.engine_laws.specs.WorkerMoves.{Hands, Fixed}
 use Rattle.engine_laws.specs.Engine.{Engine}
 use Rattle.engine_laws.specs.Moves.{Moves}
 use Rattle.engine_laws.specs.Stands.{Origin, start_of, Stands}
 use Rattle.engine_laws.specs.Workers.{Sits}
 use Rattle.engine_laws.specs.Advance.{Calls, moved_to}
+use Rattle.engine_laws.specs.Spending.{SpendsIn, SpendsRoom}
+use Rattle.engine_laws.specs.Rooms.{Rooms}
+use Rattle.engine_laws.proofs.RoomsKept.{rooms_on}
+use Rattle.engine_laws.proofs.SpendingMoves.{spends_room}
 use Rattle.engine_laws.proofs.Cores.{group_low, of_core}
 use Rattle.engine_laws.proofs.Stands.{stands_on}
-use Rattle.engine_laws.proofs.Advance.{advances, sits_on, once, given, own_list}
+use Rattle.engine_laws.proofs.Advance.{advances, sits_on, around, once, given, own_list}
 use Rattle.engine_laws.proofs.Numbers.{in_requests}
 use Rattle.engine_laws.proofs.Sits.{others_sit}
 
@@ -49,6 +54,12 @@ module _ (o : Origin) (e : Engine) (c : ℕ) (t : State) (b : Group) (v u : View
   pub call_sits : Sits (moved_to e c t b x takes rest fixed) c u x
   call_sits = sits_on (start_of o) e c t b v u w x takes accepted rest fixed is_layout C.core at at' C.view C.sits C.backlog C.own S.keys C.moves
 
+  -- what it spends
+  pub call_spends : SpendsIn (place_at e.layout (group_of e.layout c)) (member_of e.layout c) v u w x accepted fixed → SpendsRoom e.layout e (moved_to e c t b x takes rest fixed) c accepted fixed
+  call_spends P =
+      spends_room e (moved_to e c t b x takes rest fixed) c accepted fixed v u w x is_layout C.sits call_sits (around (start_of o) e c t b v u w x takes accepted rest fixed is_layout C.core at at' C.view C.sits C.backlog C.own S.keys C.moves) (ap (λ q. cond q x.stock (e.stock c)) (eq-eqb c c refl))
+      (λ y i. of_core e.layout is_layout c (key_of y.request) (C.moves.own y i)) P
+
   pub call_others : (d : ℕ) (v' : View) (w' : Hands) → d ≢ c → Sits e d v' w' → Sits (moved_to e c t b x takes rest fixed) d v' w'
   call_others d v' w' ne T = others_sit e (moved_to e c t b x takes rest fixed) c d accepted fixed v' w' call_move ne T
 
@@ -63,3 +74,7 @@ module _ (o : Origin) (e : Engine) (c : ℕ) (t : State) (b : Group) (v u : View
 
   pub call_given : (y : Fixed) → In y fixed → y.number < length e.given
   call_given y i = get_low e.given y.number y.request (call_asked y i)
+
+  -- what the cores have spent of their rooms
+  pub call_rooms : SpendsIn (place_at e.layout (group_of e.layout c)) (member_of e.layout c) v u w x accepted fixed → Rooms o e → Rooms o (moved_to e c t b x takes rest fixed)
+  call_rooms P R = rooms_on o e (moved_to e c t b x takes rest fixed) c accepted fixed S call_move (call_spends P) R

@@ -1,28 +1,20 @@
 -- A pass in which nothing moved leaves nothing under way.
-use Rattle.std.proofs.Common.{◌≡◌, inl, inr, ℕ, zero, suc, ◌+◌, ◌*◌, ◌/◌, ◌%◌, ◌<◌, List, [], ◌∷◌, ◌++◌, map, length, Bool, false, Option, Some, None, refl, sym, ◌∙◌, ap, subst, arith}
+use Rattle.std.proofs.Common.{◌≡◌, inl, inr, ℕ, zero, suc, ◌+◌, ◌<◌, List, [], ◌∷◌, ◌++◌, map, length, Bool, false, Option, Some, None, refl, sym, ◌∙◌, ap, subst, arith}
 use Rattle.std.specs.List.{slice_get}
 use Rattle.std.proofs.lemmas.Bool.{cases_eq}
-use Rattle.std.proofs.lemmas.Nat.{div-mul-add, mod-mul-add}
 use Rattle.fs_model.specs.declared.model.Request.{Request}
 use Rattle.fs_model.specs.Cells.{key_of}
 use Rattle.fs_model.specs.Changes.{requests_of}
-use Rattle.log_entry.specs.declared.entry.Entry.{Entry}
 use Rattle.chunk_map.specs.declared.layouts.Geometry.{Geometry}
 use Rattle.chunk_map.specs.Layouts.{owner, IsLayout}
 use Rattle.store_image.specs.Facts.{In}
 use Rattle.store_image.proofs.SoundFacts.{in_either}
 use Rattle.store_image.proofs.SoundLaws.{has_layout}
 use Rattle.store_image.proofs.Places.{superblock_facts}
-use Rattle.group_laws.specs.declared.types.Slot.{Slot}
 use Rattle.group_laws.specs.declared.types.Seen.{Seen}
-use Rattle.group_laws.specs.declared.types.Slot.TheVariants.{Empty, Posted, Taken, Done, Failed}
-use Rattle.group_laws.specs.Places.{Place, members}
-use Rattle.group_laws.specs.Places as places
 use Rattle.group_laws.specs.State.{Group}
-use Rattle.group_laws.specs.Invariant.{PendsAt}
-use Rattle.group_laws.specs.Regions.{groups_in, place_at, key_group}
+use Rattle.group_laws.specs.Regions.{key_group}
 use Rattle.group_laws.proofs.Images.{of_map}
-use Rattle.group_laws.proofs.GroupEntries.{own_core}
 use Rattle.engine_laws.specs.Parts.{group_of, member_of}
 use Rattle.engine_laws.specs.WorkerMoves.{Placed, placed, requests_for}
 use Rattle.engine_laws.specs.Engine.{Engine, Answer, group_for, line}
@@ -30,9 +22,11 @@ use Rattle.engine_laws.specs.Keys.{Served}
 use Rattle.engine_laws.specs.Reports.{AllAnswered}
 use Rattle.engine_laws.specs.Stands.{Origin, Stands}
 use Rattle.engine_laws.specs.Idle.{IsIdle, Idles, IsDrained}
+use Rattle.engine_laws.specs.Ceasing.{IsResting, HasCeased}
+use Rattle.engine_laws.proofs.Ceasing.{ceased}
 use Rattle.engine_laws.specs.Ran.{Pass, Until}
 use Rattle.engine_laws.proofs.Numbers.{all_in}
-use Rattle.engine_laws.proofs.Cores.{group_low, some_group, owner_low, member_core}
+use Rattle.engine_laws.proofs.Cores.{owner_low}
 use Rattle.engine_laws.proofs.Promises.{in_from}
 
 -- A core that was idle stays so while others are idle too.
@@ -87,76 +81,33 @@ still_pass Move idles c (suc cores) e f before r d lt = still_pass Move idles (c
     | inr other ↦ stays_idle e mid c d (idles e mid c move) (before d (omega (arith, lt, other)))
   ]
 
+-- An idle core rests.
+resting : (e : Engine) (c : ℕ) → IsIdle e c → IsResting e c
+resting e c I = record { holds = I.holds; taken = I.taken; posted = λ k x own at posted. (I.placed k x own at).1 }
+
 -- Where each core is idle, nothing is under way.
 module _ (o : Origin) (e : Engine) (S : Stands o e) (idle : (c : ℕ) → c < e.layout.cores → IsIdle e c) where
   is_layout : IsLayout e.layout
   is_layout = subst IsLayout (sym S.layout) (superblock_facts o.region.frame.bytes o.found (has_layout o.region.frame.bytes o.found S.sound)).1
 
-  -- member h of group g, as a core
-  idle_member : (g h : ℕ) → g < groups_in e.layout → h < e.layout.group → ((e.group g).holds h ≡ false) × ((a s : ℕ) → (e.group g).taken h a s ≡ None)
-  idle_member g h low member =
-      let l = e.layout in
-      let core : g * l.group + h < l.cores = member_core l is_layout g h low member in
-      let I = idle (g * l.group + h) core in
-      let at : (g * l.group + h) / l.group ≡ g = div-mul-add g l.group h member in
-      let is : (g * l.group + h) % l.group ≡ h = mod-mul-add g l.group h member in
-      (sym (λ i. (e.group (at i)).holds (is i)) ∙ I.holds, λ a s. sym (λ i. (e.group (at i)).taken (is i) a s) ∙ I.taken a s)
-
-  no_holder : (g h : ℕ) → g < groups_in e.layout → (e.group g).holder ≡ Some h → ⊥
-  no_holder g h low is =
-      let member : h < e.layout.group = subst (λ (p : Place). h < members p) (S.groups.place g low) ((S.groups.lawful g low).looks.holder_member h is) in
-      let holds = ((S.groups.lawful g low).looks.holds_is h).1 is in
-      let off = (idle_member g h low member).0 in
-      cc (holds, off)
-
-  no_taken : (g m s : ℕ) → g < groups_in e.layout → (e.group g).slot m s ≡ Taken → ⊥
-  no_taken g m s low is =
-      let by = (S.groups.lawful g low).slots.taken_by m s is in
-      let member : by.0 < e.layout.group = subst (λ (p : Place). by.0 < members p) (S.groups.place g low) ((S.groups.lawful g low).slots.taken_member by.0 m s by.1 by.2) in
-      let none = (idle_member g by.0 low member).1 m s in
-      let some = by.2 in
-      cc (none, some)
+  has_ceased : HasCeased e
+  has_ceased = ceased o e S (λ c low. resting e c (idle c low))
 
   no_place : (k : ℕ) → e.place k ≡ None
   no_place k = by (e.place k) refl where
     by : (x : Option Placed) → e.place k ≡ x → x ≡ None
     by None q = refl
     by (Some x) q = absurd (
-        let c = owner e.layout k in
-        let I = (idle c (owner_low e.layout is_layout k)).placed k x refl q in
-        let h = ((S.keys k).holds.posted x q I.0).1 in
-        elim (I.1 h.0 h.1 h.2 h.3) [
-          | inl taken ↦ no_taken (group_of e.layout c) (member_of e.layout c) h.1 (group_low e.layout is_layout c (owner_low e.layout is_layout k)) taken
-          | inr posted ↦ no_holder (group_of e.layout c) posted.1 (group_low e.layout is_layout c (owner_low e.layout is_layout k)) posted.3
-        ])
-
-  -- a change that stands in a slot is in a place
-  no_named : (g m s : ℕ) (d : Entry) → g < groups_in e.layout → m < e.layout.group → PendsAt (e.group g) d (Some s) → places.owner (e.group g).place d.key ≡ m → ⊥
-  no_named g m s d low member pend own =
-      let l = e.layout in
-      let own' : places.owner (place_at l g) d.key ≡ m = sym (ap (λ (p : Place). places.owner p d.key) (S.groups.place g low)) ∙ own in
-      let group : key_group l d.key ≡ g = (own_core (place_at l g) d.key (some_group l is_layout) (subst (λ (n : ℕ). n < l.group) (sym own') member)).1 in
-      let there : (group_for e d.key).pending d.key ≡ Some (record { entry = d; slot = Some s }) = ap (λ (n : ℕ). (e.group n).pending d.key) group ∙ pend in
-      elim ((S.keys d.key).holds.pending (record { entry = d; slot = Some s }) there) [
-        | inl held ↦ (let none = no_place d.key in let some = held.1 in cc (none, some))
-        | inr doubt ↦ (let none = doubt.0 in cc none)
-      ]
-
-  no_slot : (g m s : ℕ) → g < groups_in e.layout → m < e.layout.group → (e.group g).slot m s ≡ Empty
-  no_slot g m s low member = by ((e.group g).slot m s) refl where
-    by : (x : Slot) → (e.group g).slot m s ≡ x → x ≡ Empty
-    by Empty q = refl
-    by (Posted d) q = absurd (let n = (S.groups.lawful g low).slots.posted_named m s d q in no_named g m s d low member n.0 n.1)
-    by Taken q = absurd (no_taken g m s low q)
-    by (Done d h) q = absurd (let n = (S.groups.lawful g low).slots.done_named m s h d q in no_named g m s d low member n.0 n.1)
-    by (Failed d) q = absurd (let n = (S.groups.lawful g low).slots.failed_named m s d q in no_named g m s d low member n.0 n.1)
+        let on = ((idle (owner e.layout k) (owner_low e.layout is_layout k)).placed k x refl q).0 in
+        let off = has_ceased.posted k x q in
+        cc (on, off))
 
   pub drained : IsDrained e
   drained = record {
     place = no_place;
     waits = λ k. (idle (owner e.layout k) (owner_low e.layout is_layout k)).waits k refl (no_place k);
     backlog = λ c low. (idle c low).backlog (λ k own. no_place k);
-    slots = no_slot;
+    slots = has_ceased.slots;
   }
 
 -- Then every request that was given is answered.

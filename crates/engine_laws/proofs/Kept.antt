@@ -14,6 +14,7 @@ use Rattle.engine_laws.proofs.Stands.{stands_on}
 use Rattle.engine_laws.proofs.Begins.{opens, gives}
 use Rattle.engine_laws.proofs.Drained.{still_pass, drained, drained_answered}
 use Rattle.engine_laws.proofs.Promises.{crashes, blocks, cause, answers, recovers_all}
+use Rattle.engine_laws.proofs.WhyRefused.{causes}
 use Rattle.engine_laws.proofs.Ran.{Delivers, goes, pass, ran}
 
 pub promised : (o : Origin) (e : Engine) → Stands o e → Promised o e
@@ -21,6 +22,7 @@ promised o e S = record {
   crash = λ more t told from image may. crashes o e S more t told from image may;
   blocks = λ t told from image may. blocks o e S t told from image may;
   replies = λ more. answers o e S more;
+  causes = causes o e S;
   cause = λ h. cause o e S h;
   last = λ all going telling image may k. recovers_all o e S all going telling image may k;
 }

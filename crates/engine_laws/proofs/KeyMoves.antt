@@ -25,7 +25,7 @@ use Rattle.group_laws.proofs.Others.{run_place}
 use Rattle.group_board.specs.Views.{left_in}
 use Rattle.engine_laws.specs.Parts.{group_of, member_of, Groups}
 use Rattle.engine_laws.proofs.Cores.{of_member, key_group_low}
-use Rattle.engine_laws.proofs.Others.{cell_in, pending_in, left_from, other_view}
+use Rattle.engine_laws.proofs.Others.{cell_in, last_in, pending_in, left_from, other_view}
 use Rattle.chunk_map.specs.Layouts.{IsLayout}
 use Rattle.group_laws.specs.Places.{Place, core_of}
 use Rattle.log_entry.specs.declared.entry.Body.{Body}
@@ -375,6 +375,11 @@ module _ (start : ℕ → Option (List ℕ)) (e f : Engine) (c : ℕ) (accepted 
         grows = (grow.0, ap (λ l. changes_on (start k) (l ++ posted_in (f.place k))) pairs_are ∙ grow.1);
       }
 
+      -- what was answered since
+      pub own_pairs : pairs own_goes.new.served ≡ pairs (keys k).served ++ map replied (fixed_of k fixed)
+      unfolding own_goes stands'
+      own_pairs = map-append served_as (keys k).served (map (stamped t) (fixed_of k fixed)) ∙ ap (λ l. pairs (keys k).served ++ l) (pairs_stamped t (fixed_of k fixed))
+
   -- A key of another core.
   module _ (k : ℕ) (other : owner e.layout k ≢ c) (G : Groups e.layout e.group) (layout : IsLayout e.layout) where
     abbrev T : KeyStands (start k) e k
@@ -383,6 +388,7 @@ module _ (start : ℕ → Option (List ℕ)) (e f : Engine) (c : ℕ) (accepted 
     -- what its group has of it is as it was
     pub record SameThere : Type 0 where
       pub cell : cell_at f k ≡ cell_at e k
+      pub last : (group_for f k).last k ≡ (group_for e k).last k
       pub pending : (group_for f k).pending k ≡ (group_for e k).pending k
       pub left : (b : Body) → left_by (group_for f k) (places.owner (group_for f k).place k) b ≡ left_by (group_for e k) (places.owner (group_for e k).place k) b
 
@@ -414,6 +420,7 @@ module _ (start : ℕ → Option (List ℕ)) (e f : Engine) (c : ℕ) (accepted 
     same_there : SameThere
     same_there = let m = member_of e.layout own_core in record {
       cell = ap (λ (w : Group). w.cell k) in_group ∙ sym (cell_in (f.group at) m k own_f) ∙ ap (λ (v : View). v.cell k) same_view ∙ cell_in (e.group at) m k own_e;
+      last = ap (λ (w : Group). w.last k) in_group ∙ sym (last_in (f.group at) m k own_f) ∙ ap (λ (v : View). v.last k) same_view ∙ last_in (e.group at) m k own_e;
       pending = ap (λ (w : Group). w.pending k) in_group ∙ sym (pending_in (f.group at) m k own_f) ∙ ap (λ (v : View). v.pending k) same_view ∙ pending_in (e.group at) m k own_e;
       left = λ b. ap (λ (w : Group). left_by w (places.owner w.place k) b) in_group ∙ sym (left_from (f.group at) m k own_f b) ∙ ap (λ (v : View). left_in v.blocks b) same_view ∙ left_from (e.group at) m k own_e b;
     }
@@ -461,3 +468,10 @@ module _ (start : ℕ → Option (List ℕ)) (e f : Engine) (c : ℕ) (accepted 
       stamps = tt;
       grows = ([], ap (λ o. changes_on (start k) (pairs T.served ++ posted_in o)) place_same ∙ sym (append-nil _));
     }
+
+    pub other_pairs : pairs other_goes.new.served ≡ pairs (keys k).served
+    unfolding other_goes stays
+    other_pairs = refl
+
+    pub other_last : (group_for f k).last k ≡ (group_for e k).last k
+    other_last = same_there.last

@@ -1,4 +1,5 @@
 pub mod Cores
+pub mod CauseLaws
 pub mod Others
 pub mod Licences
 mod Opens
@@ -10,11 +11,19 @@ pub mod Stands
 pub mod Begins
 mod Reports
 mod Promises
+mod WhyRefused
 pub mod Ran
 mod Workers
 mod Advance
 pub mod Sits
+mod SpendingMoves
 pub mod Calls
+pub mod Ceasing
+pub mod RoomSums
+pub mod Ampleness
+pub mod RoomMoves
+pub mod RoomNeeds
+pub mod RoomsKept
 mod Drained
 pub mod Kept
 pub mod Beginning

@@ -1,6 +1,9 @@
 -- The groups of a region whose words are certain and sound.
-use Rattle.std.proofs.Common.{◌≡◌, ℕ, ◌+◌, ◌/◌, ◌<◌, ◌≤◌, cond, Bool, None, arith, refl, ap, subst}
+use Rattle.std.proofs.Common.{◌≡◌, ℕ, ◌+◌, ◌/◌, ◌<◌, ◌≤◌, cond, Bool, true, Option, Some, None, arith, refl, ◌∙◌, ap, subst}
+use Rattle.std.specs.Prelude.{option_map, unwrap_or}
 use Rattle.std.proofs.lemmas.Bool.{lt-ltb}
+use Rattle.headline.specs.Limits.{version_in, version_of}
+use Rattle.store_image.specs.declared.types.PlacedEntry.{PlacedEntry}
 use Rattle.pm_region.specs.Cell.{Cell}
 use Rattle.pm_region.specs.Words.{Surely}
 use Rattle.chunk_map.specs.declared.layouts.Geometry.{Geometry}
@@ -14,7 +17,7 @@ use Rattle.store_image.proofs.Places.{superblock_facts}
 use Rattle.group_laws.specs.Places.{Place, core_of, members}
 use Rattle.group_laws.specs.Places as places
 use Rattle.group_laws.specs.State.{Group}
-use Rattle.group_laws.specs.OpeningImages.{opened}
+use Rattle.group_laws.specs.OpeningImages.{opened, is_own}
 use Rattle.group_laws.proofs.OpeningTidied as laws
 use Rattle.group_laws.specs.MemberViews.{view_of}
 use Rattle.group_laws.specs.Regions.{place_at, key_group}
@@ -62,3 +65,15 @@ module _ (bytes : ℕ) (found : ℕ → ℕ) (sound : IsSound bytes found) where
 
   pub opens_idle : (k : ℕ) → (opened_groups found (key_group l k)).pending k ≡ None
   opens_idle k = refl
+
+  -- each key is one of its group's
+  pub opens_own : (k : ℕ) → is_own (place_at l (key_group l k)) k ≡ true
+  opens_own k = lt-ltb (places.owner (place_at l (key_group l k)) k) l.group (owner_member l is_layout k)
+
+-- and its last version is that of its winner
+version_is : (o : Option PlacedEntry) → unwrap_or (option_map (λ (x : PlacedEntry). x.entry.version) o) 0 ≡ version_in o
+version_is None = refl
+version_is (Some x) = refl
+
+pub opens_last : (found : ℕ → ℕ) (k : ℕ) → is_own (place_at (layout_of found) (key_group (layout_of found) k)) k ≡ true → (opened_groups found (key_group (layout_of found) k)).last k ≡ version_of found k
+opens_last found k own = ap (λ (b : Bool). unwrap_or (option_map (λ (x : PlacedEntry). x.entry.version) (cond b (winners.winner (layout_of found) found k) None)) 0) own ∙ version_is (winners.winner (layout_of found) found k)

@@ -27,6 +27,9 @@ module _ (w : Group) (m k : ℕ) (own : owner w.place k ≡ m) where
   pub cell_in : (view_of w m).cell k ≡ w.cell k
   cell_in = in_view (w.cell k) None
 
+  pub last_in : (view_of w m).last k ≡ w.last k
+  last_in = in_view (w.last k) 0
+
   pub pending_in : (view_of w m).pending k ≡ w.pending k
   pending_in = in_view (w.pending k) None
 

@@ -126,13 +126,13 @@ module _ (o : Origin) (e : Engine) (S : Stands o e) where
     abbrev stopped : List (Request × Reply)
     stopped = map (with_reply e.answer) waits
 
-    requests_are : requests_of k (e.given ++ more) ≡ map asked_in K.served ++ waits
+    pub requests_are : requests_of k (e.given ++ more) ≡ map asked_in K.served ++ waits
     requests_are = requests-append k e.given more ∙ ap (λ l. l ++ numbered k n more) K.split ∙ append_assoc (map asked_in K.served) hand (numbered k n more)
 
     view : map (with_reply e.answer) (requests_of k (e.given ++ more)) ≡ pairs K.served ++ stopped
     view = ap (map (with_reply e.answer)) requests_are ∙ map-append (with_reply e.answer) (map asked_in K.served) waits ∙ ap (λ l. l ++ stopped) (served_are e.answer K.served K.answers)
 
-    waits_none : AllByRecursion (λ (x : ℕ × Request). e.answer x.0 ≡ None) waits
+    pub waits_none : AllByRecursion (λ (x : ℕ × Request). e.answer x.0 ≡ None) waits
     waits_none = all_append (λ (x : ℕ × Request). e.answer x.0 ≡ None) hand (numbered k n more) K.waiting
         (in_all (λ (x : ℕ × Request). e.answer x.0 ≡ None) (numbered k n more) (λ x i. (let at = in_numbered k n more x i in S.unasked x.0 (let p = at.1 in omega (arith, p)))))
 

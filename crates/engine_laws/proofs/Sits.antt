@@ -1,5 +1,5 @@
 -- What a move of one core leaves to the other workers, and what an idle turn's loads leave.
-use Rattle.std.proofs.Common.{◌≡◌, ◌≢◌, ℕ, true, false, cond, List, [], ◌∷◌, map, inl, inr, refl, sym, ap, ◌∙◌}
+use Rattle.std.proofs.Common.{◌≡◌, ◌≢◌, ℕ, true, false, cond, List, [], ◌∷◌, map, inl, inr, refl, sym, ap, ◌∙◌, subst}
 use Rattle.std.specs.List.{AllByRecursion}
 use Rattle.std.proofs.lemmas.Bool.{eq-eqb}
 use Rattle.fs_model.specs.declared.model.Request.{Request}
@@ -12,6 +12,7 @@ use Rattle.group_laws.specs.Runs.Kind.{Split, Join, Post, Lock, Look, LookMail, 
 use Rattle.group_laws.specs.MemberViews.{View, view_of}
 use Rattle.engine_laws.specs.Parts.{group_of, member_of}
 use Rattle.engine_laws.specs.Engine.{Engine}
+use Rattle.engine_laws.specs.FreeStock.{Stock, IsAtLeast}
 use Rattle.engine_laws.specs.WorkerMoves.{Hands, Fixed}
 use Rattle.engine_laws.specs.Moves.{Moves}
 use Rattle.engine_laws.specs.Workers.{Sits, IsLoad}
@@ -24,6 +25,7 @@ others_sit e f c d accepted fixed v w M ne S = record {
   place = λ k own. (let own' = back k own in S.place k own' ∙ sym (M.other_keys k (λ q. ne (sym own' ∙ q))).0);
   waits = λ k own. (let own' = back k own in S.waits k own' ∙ sym (M.other_keys k (λ q. ne (sym own' ∙ q))).1);
   stopped = S.stopped ∙ sym (M.other_stops d ne);
+  stock = subst (λ (s : Stock). IsAtLeast s w.stock) (sym (M.other_stocks d ne)) S.stock;
 } where
   back : (k : ℕ) → owner f.layout k ≡ d → owner e.layout k ≡ d
   back k own = sym (ap (λ (l : Geometry). owner l k) M.layout) ∙ own

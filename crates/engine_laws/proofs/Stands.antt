@@ -1,5 +1,5 @@
 -- Each move of each core keeps what holds between moves.
-use Rattle.std.proofs.Common.{◌≡◌, inl, inr, ◌⊎◌, ℕ, ◌+◌, ◌*◌, ◌<◌, ◌≤◌, ◌&&◌, leb, List, [], ◌∷◌, ◌++◌, map, filter, length, take, refl, sym, ◌∙◌, ap, subst, arith, true, false, Bool, cond, Option, Some, None, append_assoc, append-nil, length-append}
+use Rattle.std.proofs.Common.{◌≡◌, ◌≢◌, inl, inr, ◌⊎◌, ℕ, ◌+◌, ◌*◌, ◌<◌, ◌≤◌, ◌&&◌, leb, List, [], ◌∷◌, ◌++◌, map, filter, length, take, refl, sym, ◌∙◌, ap, subst, arith, true, false, Bool, cond, Option, Some, None, append_assoc, append-nil, length-append}
 use Rattle.std.specs.List.{AllByRecursion, count_by}
 use Rattle.std.proofs.lemmas.Bool.{cases_lt, cases_eq, le-leb, leb-true}
 use Rattle.std.proofs.lemmas.Nat.{div-mul-add, mod-mul-add}
@@ -34,7 +34,7 @@ use Rattle.group_laws.specs.MemberViews.{View}
 use Rattle.group_laws.specs.Regions.{groups_in, place_at}
 use Rattle.group_laws.proofs.Others.{run_place}
 use Rattle.engine_laws.specs.Parts.{group_of, member_of, Groups, AllLicensed, HasSuperblock, ShowsGroups}
-use Rattle.engine_laws.specs.WorkerMoves.{Placed, Fixed}
+use Rattle.engine_laws.specs.WorkerMoves.{Placed, Fixed, replied, fixed_of}
 use Rattle.engine_laws.specs.Engine.{Engine, group_for, cell_at}
 use Rattle.fs_model.specs.declared.model.Reply.TheVariants.{Stopped}
 use Rattle.engine_laws.proofs.Histories.{finished-append}
@@ -44,7 +44,10 @@ use Rattle.engine_laws.specs.Stands.{Origin, start_of, ShowsPrefix, Stands}
 use Rattle.engine_laws.proofs.Cores.{group_low, member_core}
 use Rattle.engine_laws.proofs.Others.{other_view}
 use Rattle.engine_laws.proofs.Licences.{all_licensed, superblock_kept, shows_groups}
-use Rattle.engine_laws.proofs.KeyMoves.{own_goes, other_goes, given, in_own}
+use Rattle.engine_laws.proofs.KeyMoves.{own_goes, own_pairs, other_goes, other_pairs, other_last, given, in_own}
+use Rattle.headline.specs.Limits.{version_of}
+use Rattle.engine_laws.specs.RefusalCauses.{raised_by, HaveCauses}
+use Rattle.engine_laws.proofs.CauseLaws.{raised_by_up, raised_append, causes_up, causes_append}
 use Rattle.engine_laws.proofs.Numbers.{in_requests}
 use Rattle.std.proofs.lemmas.Option.{slice_get_within}
 
@@ -165,11 +168,39 @@ module _ (o : Origin) (e f : Engine) (c : ℕ) (accepted : List (ℕ × Request)
   lawful : Lawful (e.group g)
   lawful = S.groups.lawful g group_is
 
-  goes : (k : ℕ) → KeyGoes (start_of o k) e f k (S.keys k)
-  goes k = elim (cases_eq (owner l k) c) [
-    | inl own ↦ own_goes (start_of o) e f c accepted fixed M S.keys k own lawful
-    | inr other ↦ other_goes (start_of o) e f c accepted fixed M S.keys k other S.groups is_layout
+  -- the causes of the key's refusals, and its last version
+  abbrev Caused : (k : ℕ) → KeyGoes (start_of o k) e f k (S.keys k) → Type 0
+  Caused k G = HaveCauses (layout_of o.found) (version_of o.found k) (pairs G.new.served) × ((group_for f k).last k ≤ raised_by (version_of o.found k) (pairs G.new.served))
+
+  own_caused : (k : ℕ) (own : owner l k ≡ c) → Caused k (own_goes (start_of o) e f c accepted fixed M S.keys k own lawful)
+  own_caused k own =
+      let start = version_of o.found k in
+      let old = pairs (S.keys k).served in
+      let more = map replied (fixed_of k fixed) in
+      let same = own_pairs (start_of o) e f c accepted fixed M S.keys k own lawful in
+      let R = M.refuses k own in
+      let up = raised_by_up more ((group_for e k).last k) (raised_by start old) (S.versions k) in
+      let now = R.last_now in
+      let whole = raised_append start old more in
+      subst (λ (xs : List (Request × Reply)). HaveCauses (layout_of o.found) start xs × ((group_for f k).last k ≤ raised_by start xs)) (sym same) (
+        causes_append (layout_of o.found) start old more (S.causes k) (causes_up (layout_of o.found) ((group_for e k).last k) (raised_by start old) more (S.versions k) (subst (λ (m : Geometry). HaveCauses m ((group_for e k).last k) more) S.layout R.causes)),
+        omega (arith, up, now, whole),
+      )
+
+  other_caused : (k : ℕ) (other : owner l k ≢ c) → Caused k (other_goes (start_of o) e f c accepted fixed M S.keys k other S.groups is_layout)
+  other_caused k other =
+      let same = other_pairs (start_of o) e f c accepted fixed M S.keys k other S.groups is_layout in
+      subst (λ (xs : List (Request × Reply)). HaveCauses (layout_of o.found) (version_of o.found k) xs × ((group_for f k).last k ≤ raised_by (version_of o.found k) xs)) (sym same)
+      (S.causes k, subst (λ (n : ℕ). n ≤ raised_by (version_of o.found k) (pairs (S.keys k).served)) (sym (other_last (start_of o) e f c accepted fixed M S.keys k other S.groups is_layout)) (S.versions k))
+
+  both : (k : ℕ) → (G : KeyGoes (start_of o k) e f k (S.keys k)) × Caused k G
+  both k = elim (cases_eq (owner l k) c) [
+    | inl own ↦ (own_goes (start_of o) e f c accepted fixed M S.keys k own lawful, own_caused k own)
+    | inr other ↦ (other_goes (start_of o) e f c accepted fixed M S.keys k other S.groups is_layout, other_caused k other)
   ]
+
+  abbrev goes : (k : ℕ) → KeyGoes (start_of o k) e f k (S.keys k)
+  goes k = (both k).0
 
   -- by e's layout
   groups_there : Groups l f.group
@@ -314,6 +345,8 @@ module _ (o : Origin) (e f : Engine) (c : ℕ) (accepted : List (ℕ × Request)
     keys = λ k. (goes k).new;
     unasked = unasked_there;
     crash = crash_there;
+    causes = λ k. (both k).1.0;
+    versions = λ k. (both k).1.1;
     stopped = λ d low. stopped_there d (subst (λ (m : Geometry). d < m.cores) M.layout low);
     broken = λ d low b. broken_there d (subst (λ (m : Geometry). d < m.cores) M.layout low) (subst (λ (m : Geometry). (f.group (group_of m d)).broken (member_of m d) ≡ true) M.layout b);
   }

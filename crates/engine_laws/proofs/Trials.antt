@@ -1,10 +1,10 @@
 -- Moves that there are: one that does nothing, and the accept of a get of a key that is not busy.
-use Rattle.std.proofs.Common.{◌≡◌, ℕ, ◌+◌, ◌<◌, List, [], ◌∷◌, ◌++◌, true, false, cond, Option, Some, None, inl, inr, refl, sym, ap, ◌∙◌, subst, append-nil}
+use Rattle.std.proofs.Common.{◌≡◌, ℕ, ◌+◌, ◌<◌, List, [], ◌∷◌, ◌++◌, map, true, false, cond, Option, Some, None, inl, inr, refl, sym, ap, ◌∙◌, subst, arith, append-nil}
 use Rattle.std.proofs.lemmas.Bool.{cases_eq, eq-eqb, ne_eqb}
 use Rattle.fs_model.specs.declared.model.Request.{Request}
 use Rattle.fs_model.specs.declared.model.Request.TheVariants.{Get}
 use Rattle.fs_model.specs.declared.model.Reply.{Reply}
-use Rattle.fs_model.specs.declared.model.Reply.TheVariants.{Stopped}
+use Rattle.fs_model.specs.declared.model.Reply.TheVariants.{Full, VersionsSpent, TooLong, Stopped}
 use Rattle.fs_model.specs.Cells.{key_of, answer_to}
 use Rattle.fs_model.specs.Lawful.{cell_of}
 use Rattle.pm_region.specs.State.{cell_now}
@@ -14,9 +14,11 @@ use Rattle.chunk_map.specs.Layouts.{part_first, owner}
 use Rattle.group_laws.specs.Updates.{put}
 use Rattle.store_image.specs.Facts.{In}
 use Rattle.engine_laws.specs.Parts.{group_of, LicensedPart}
-use Rattle.engine_laws.specs.WorkerMoves.{Fixed, placed, fixed_of, requests_for}
-use Rattle.engine_laws.specs.Engine.{Engine, cell_at, line}
+use Rattle.engine_laws.specs.WorkerMoves.{Fixed, placed, replied, fixed_of, requests_for}
+use Rattle.engine_laws.specs.Engine.{Engine, group_for, cell_at, line}
 use Rattle.engine_laws.specs.Moves.{Moves, KeyMoves}
+use Rattle.engine_laws.specs.RefusalCauses.{Refuses}
+use Rattle.engine_laws.proofs.CauseLaws.{raised_by_low, quiet_refuses}
 use Rattle.engine_laws.specs.Stands.{Origin, Stands}
 
 module _ (o : Origin) (e : Engine) (S : Stands o e) (c : ℕ) (core : c < e.layout.cores) (n k : ℕ) (rest : List (ℕ × Request))
@@ -33,6 +35,18 @@ module _ (o : Origin) (e : Engine) (S : Stands o e) (c : ℕ) (core : c < e.layo
   not_stopped : (d : Option (List ℕ)) → answer_to (Get k) d ≡ Stopped → ⊥
   not_stopped None q = cc q
   not_stopped (Some v) q = cc q
+
+  not_spent : (d : Option (List ℕ)) → answer_to (Get k) d ≡ VersionsSpent → ⊥
+  not_spent None q = cc q
+  not_spent (Some v) q = cc q
+
+  not_long : (d : Option (List ℕ)) → answer_to (Get k) d ≡ TooLong → ⊥
+  not_long None q = cc q
+  not_long (Some v) q = cc q
+
+  not_full : (d : Option (List ℕ)) → answer_to (Get k) d ≡ Full → ⊥
+  not_full None q = cc q
+  not_full (Some v) q = cc q
 
   same_cell : (d : Option (List ℕ)) → cell_of d ((Get k, answer_to (Get k) d) ∷ []) ≡ d
   same_cell None = refl
@@ -87,6 +101,11 @@ module _ (o : Origin) (e : Engine) (S : Stands o e) (c : ℕ) (core : c < e.layo
     ];
     holds = λ j mine. (let H = (S.keys j).holds in record { posted = H.posted; pending = H.pending });
     other_keys = λ j ne. (refl, refl);
+    refuses = λ j mine. elim (cases_eq k j) [
+      | inl same ↦ subst (λ b. Refuses e.layout (e.stock c) ((group_for e j).last j) ((group_for e j).last j) (map replied (cond b (x ∷ []) []))) (sym (eq-eqb k j same))
+          (record { causes = (record { spent = λ q. absurd (not_spent (cell_at e k) q); long = λ q. absurd (not_long (cell_at e k) q) }, tt); full = (λ q. absurd (not_full (cell_at e k) q), tt); last_now = raised_by_low (replied x ∷ []) ((group_for e j).last j) })
+      | inr ne ↦ subst (λ b. Refuses e.layout (e.stock c) ((group_for e j).last j) ((group_for e j).last j) (map replied (cond b (x ∷ []) []))) (sym (ne_eqb k j ne)) (quiet_refuses e.layout (e.stock c) ((group_for e j).last j) ((group_for e j).last j) (omega arith))
+    ];
     own_answers = λ y i. answered y i;
     answers = record {
       new = λ y i. here y i;
@@ -97,6 +116,7 @@ module _ (o : Origin) (e : Engine) (S : Stands o e) (c : ℕ) (core : c < e.layo
     stays_stopped = λ q. q;
     other_stops = λ d ne. refl;
     other_takes = λ d ne. refl;
+    other_stocks = λ d ne. refl;
   } where
     only : (y : ℕ × Request) → In y ((n, Get k) ∷ []) → owner e.layout (key_of y.1) ≡ c
     only y (inl q) = ap (λ (z : ℕ × Request). owner e.layout (key_of z.1)) q ∙ own

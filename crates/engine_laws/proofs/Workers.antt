@@ -18,11 +18,13 @@ use Rattle.group_board.specs.Views.{left_in}
 use Rattle.licence.specs.Licence.{Licensed}
 use Rattle.engine_laws.specs.Parts.{group_of, member_of}
 use Rattle.engine_laws.specs.WorkerMoves.{Hands, Fixed, placed, line_in, asked, replied, fixed_of, requests_for, HoldsKey, WorkerMoves}
+use Rattle.engine_laws.specs.RefusalCauses.{Refuses}
 use Rattle.engine_laws.specs.Engine.{Engine, group_for, cell_at, line}
 use Rattle.engine_laws.specs.Moves.{Moves, KeyMoves, KeyHolds}
 use Rattle.engine_laws.specs.Workers.{Sits, Around}
+use Rattle.engine_laws.proofs.CauseLaws.{refuses_less}
 use Rattle.engine_laws.proofs.Cores.{core_is, of_member, of_core}
-use Rattle.engine_laws.proofs.Others.{cell_in, pending_in, left_from}
+use Rattle.engine_laws.proofs.Others.{cell_in, last_in, pending_in, left_from}
 
 -- a key of the core, in the view of its member
 module _ (e : Engine) (c : ℕ) (layout : IsLayout e.layout) (at : (e.group (group_of e.layout c)).place ≡ place_at e.layout (group_of e.layout c)) (v : View) (w : Hands) (S : Sits e c v w) (k : ℕ) (own : owner e.layout k ≡ c) where
@@ -40,6 +42,9 @@ module _ (e : Engine) (c : ℕ) (layout : IsLayout e.layout) (at : (e.group (gro
 
   cell_is : v.cell k ≡ cell_at e k
   cell_is = ap (λ (y : View). y.cell k) S.view ∙ cell_in g m k owner_is ∙ sym (ap (λ (y : Group). y.cell k) group_is)
+
+  last_is : v.last k ≡ (group_for e k).last k
+  last_is = ap (λ (y : View). y.last k) S.view ∙ last_in g m k owner_is ∙ sym (ap (λ (y : Group). y.last k) group_is)
 
   pending_is : v.pending k ≡ (group_for e k).pending k
   pending_is = ap (λ (y : View). y.pending k) S.view ∙ pending_in g m k owner_is ∙ sym (ap (λ (y : Group). y.pending k) group_is)
@@ -125,6 +130,10 @@ module _ (e f : Engine) (c : ℕ) (accepted : List (ℕ × Request)) (fixed : Li
     keys = key_moves;
     holds = λ k own. key_holds f c layout' at_f u x T k (own_f k own) (W.holds k (of_member l layout c k own));
     other_keys = A.other_keys;
+    refuses = λ k own.
+        let R = refuses_less l (e.stock c) w.stock (v.last k) (u.last k) (map replied (fixed_of k fixed)) S.stock (W.refuses k (of_member l layout c k own)) in
+        subst (λ (n : ℕ). Refuses l (e.stock c) n ((group_for f k).last k) (map replied (fixed_of k fixed))) (last_is e c layout at v w S k own)
+        (subst (λ (n : ℕ). Refuses l (e.stock c) (v.last k) n (map replied (fixed_of k fixed))) (last_is f c layout' at_f u x T k (own_f k own)) R);
     own_answers = λ y i. of_core l layout c (key_of y.request) (W.own y i);
     answers = record { new = A.new_answers; old = A.old_answers };
     stops = λ is. elim (W.stops (T.stopped ∙ is)) [
@@ -136,4 +145,5 @@ module _ (e f : Engine) (c : ℕ) (accepted : List (ℕ × Request)) (fixed : Li
     stays_stopped = λ is. sym T.stopped ∙ W.stays_stopped (S.stopped ∙ is);
     other_stops = A.other_stops;
     other_takes = A.other_takes;
+    other_stocks = A.other_stocks;
   }

@@ -29,6 +29,7 @@ moved_to e c t b x takes rest fixed = record {
   backlog = put e.backlog c rest;
   takes = put e.takes c takes;
   stopped = put e.stopped c x.stopped;
+  stock = put e.stock c x.stock;
   place = λ k. if owner e.layout k == c then x.place k else e.place k;
   waits = λ k. if owner e.layout k == c then x.waits k else e.waits k;
   answer = λ n. answered fixed t.stamp n (e.answer n);

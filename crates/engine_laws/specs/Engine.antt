@@ -6,6 +6,7 @@ use Rattle.pm_region.specs.State.{State}
 use Rattle.chunk_map.specs.declared.layouts.Geometry.{Geometry}
 use Rattle.group_laws.specs.State.{Group}
 use Rattle.group_laws.specs.Regions.{key_group}
+use Rattle.engine_laws.specs.FreeStock.{Stock}
 use Rattle.engine_laws.specs.WorkerMoves.{Placed, placed}
 
 -- the answer to a request, and the region's stamp after the move that fixed it
@@ -25,6 +26,8 @@ pub record Engine : Type 0 where
   pub backlog : ℕ → List (ℕ × Request)
   pub takes : ℕ → Bool
   pub stopped : ℕ → Bool
+  -- by core: what its worker has free, at least
+  pub stock : ℕ → Stock
   -- by key: its change in a place of its owner's worker, and the accepted requests that wait for it, in order of arrival
   pub place : ℕ → Option Placed
   pub waits : ℕ → List (ℕ × Request)

@@ -1,4 +1,7 @@
 pub mod Parts
+pub mod FreeStock
+pub mod RefusalCauses
+pub mod StockChanges
 pub mod WorkerMoves
 pub mod Beginning
 pub mod Engine
@@ -8,6 +11,10 @@ pub mod Stands
 pub mod Reports
 pub mod Ran
 pub mod Idle
+pub mod Ceasing
+pub mod Causes
+pub mod Spending
+pub mod Rooms
 pub mod Promises
 pub mod Workers
 pub mod Advance

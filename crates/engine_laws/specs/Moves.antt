@@ -17,6 +17,7 @@ use Rattle.group_laws.specs.Places as places
 use Rattle.group_laws.specs.Steps.{left_by}
 use Rattle.group_laws.specs.Runs.{Kind, Runs}
 use Rattle.engine_laws.specs.Parts.{group_of, member_of, LicensedPart}
+use Rattle.engine_laws.specs.RefusalCauses.{Refuses}
 use Rattle.engine_laws.specs.WorkerMoves.{Placed, Fixed, asked, replied, fixed_of, requests_for}
 use Rattle.engine_laws.specs.Engine.{Engine, group_for, cell_at, line}
 
@@ -75,6 +76,8 @@ pub record Moves (e f : Engine) (c : ℕ) (accepted : List (ℕ × Request)) (fi
   pub keys : (k : ℕ) → owner e.layout k ≡ c → KeyMoves e f k (requests_for k accepted) (fixed_of k fixed)
   pub holds : (k : ℕ) → owner e.layout k ≡ c → KeyHolds f k
   pub other_keys : (k : ℕ) → owner e.layout k ≢ c → (f.place k ≡ e.place k) × (f.waits k ≡ e.waits k)
+  -- why its requests are refused
+  pub refuses : (k : ℕ) → owner e.layout k ≡ c → Refuses e.layout (e.stock c) ((group_for e k).last k) ((group_for f k).last k) (map replied (fixed_of k fixed))
   pub own_answers : (x : Fixed) → In x fixed → owner e.layout (key_of x.request) ≡ c
   pub answers : Answers e f fixed
   -- Who stops has a cause: a call of the region that failed in this move, or an own slot that was Failed.
@@ -83,3 +86,4 @@ pub record Moves (e f : Engine) (c : ℕ) (accepted : List (ℕ × Request)) (fi
   pub stays_stopped : e.stopped c ≡ true → f.stopped c ≡ true
   pub other_stops : (d : ℕ) → d ≢ c → f.stopped d ≡ e.stopped d
   pub other_takes : (d : ℕ) → d ≢ c → f.takes d ≡ e.takes d
+  pub other_stocks : (d : ℕ) → d ≢ c → f.stock d ≡ e.stock d

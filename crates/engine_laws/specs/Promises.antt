@@ -11,6 +11,7 @@ use Rattle.engine_laws.specs.WorkerMoves.{Fixed}
 use Rattle.engine_laws.specs.Moves.{Moves}
 use Rattle.engine_laws.specs.Reports.{told_of, replies_from, AllAnswered}
 use Rattle.engine_laws.specs.Stands.{Origin, start_of}
+use Rattle.engine_laws.specs.Causes.{Causes}
 use Rattle.engine_laws.specs.Idle.{Idles, IsDrained}
 
 -- a region that is sound, with each word certain
@@ -30,6 +31,8 @@ pub record Promised (o : Origin) (e : Engine) : Type 0 where
   pub blocks : (t : ℕ) → IsTold e.region t → o.region.stamp ≤ t → (image : ℕ → ℕ) → MayLeave o.region.frame (e.region.cells t) image → HasOwnBlocks image
   -- Replies that the report fits; a request without an answer counts as one that is stopped. Where all is answered, one is `Stopped` only if a core has stopped, and a core stops only if a call of the region failed.
   pub replies : (more : List Request) → Answers (IsTelling e.region) (start_of o) (e.given ++ more) (told_of e) (AllAnswered e → more ≡ [] → HasStopped e) (replies_from e.answer 0 (length (e.given ++ more)))
+  -- why requests were refused
+  pub causes : Causes o e
   pub cause : HasStopped e → Rose o.region.faults e.region.faults
   pub last : AllAnswered e → ((c : ℕ) → c < e.layout.cores → e.stopped c ≡ false) → IsTelling e.region → (image : ℕ → ℕ) → MayLeave o.region.frame (cell_now e.region) image
       → (k : ℕ) → cells_of image k ≡ cell_after_all (changes_in (start_of o) e.given (told_of e) k) (start_of o k)

@@ -11,8 +11,12 @@ use Rattle.group_laws.specs.OpeningImages.{opened}
 use Rattle.group_laws.specs.Updates.{change}
 use Rattle.group_laws.specs.Regions.{place_at}
 use Rattle.engine_laws.specs.Parts.{Groups, AllLicensed, HasSuperblock, group_of, member_of}
-use Rattle.engine_laws.specs.Engine.{Engine}
-use Rattle.engine_laws.specs.Keys.{KeyStands, changes_at, finished_until}
+use Rattle.headline.specs.Ample.{free_chunks}
+use Rattle.headline.specs.Limits.{version_of}
+use Rattle.engine_laws.specs.FreeStock.{Stock}
+use Rattle.engine_laws.specs.RefusalCauses.{HaveCauses, raised_by}
+use Rattle.engine_laws.specs.Engine.{Engine, group_for}
+use Rattle.engine_laws.specs.Keys.{KeyStands, changes_at, finished_until, pairs}
 
 -- where it began: the region, and its words, each of which was certain
 pub record Origin : Type 0 where
@@ -44,6 +48,9 @@ pub record Stands (o : Origin) (e : Engine) : Type 0 where
   pub unasked : (n : ℕ) → length e.given ≤ n → e.answer n ≡ None
   -- what a crash may have left at each told moment so far
   pub crash : (t : ℕ) → IsTold e.region t → o.region.stamp ≤ t → (image : ℕ → ℕ) → MayLeave o.region.frame (e.region.cells t) image → ShowsPrefix o e keys t image
+  -- why requests were refused, and how far the versions are
+  pub causes : (k : ℕ) → HaveCauses (layout_of o.found) (version_of o.found k) (pairs (keys k).served)
+  pub versions : (k : ℕ) → (group_for e k).last k ≤ raised_by (version_of o.found k) (pairs (keys k).served)
   -- who has stopped has a cause
   pub stopped : (c : ℕ) → c < e.layout.cores → e.stopped c ≡ true → Rose o.region.faults e.region.faults
   pub broken : (c : ℕ) → c < e.layout.cores → (e.group (group_of e.layout c)).broken (member_of e.layout c) ≡ true → e.stopped c ≡ true
@@ -51,6 +58,10 @@ pub record Stands (o : Origin) (e : Engine) : Type 0 where
 -- A request is given to its owner.
 abbrev pub given_to : Engine → Request → Engine
 given_to e q = record e { given = e.given ++ q ∷ []; backlog = change e.backlog (owner e.layout (key_of q)) (λ xs. xs ++ (length e.given, q) ∷ []) }
+
+-- what a core has free at first: the chunks that the words found say are free
+abbrev pub stock_found : Origin → ℕ → Stock
+stock_found o c = record { chunks = free_chunks (layout_of o.found) o.found c; lines = 0; blocks = λ class. 0 }
 
 -- the first state: the groups open on what was found
 abbrev pub opening : Origin → Engine
@@ -62,6 +73,7 @@ opening o = record {
   backlog = λ c. [];
   takes = λ c. true;
   stopped = λ c. false;
+  stock = stock_found o;
   place = λ k. None;
   waits = λ k. [];
   answer = λ n. None;

@@ -19,6 +19,8 @@ use Rattle.group_laws.specs.Runs.{Kind, Runs}
 use Rattle.group_laws.specs.MemberViews.{View}
 use Rattle.group_board.specs.Views.{left_in}
 use Rattle.licence.specs.Licence.{Licensed, part_at, part_end}
+use Rattle.engine_laws.specs.FreeStock.{Stock}
+use Rattle.engine_laws.specs.RefusalCauses.{Refuses}
 
 -- a change in a place
 pub record Placed : Type 0 where
@@ -26,11 +28,12 @@ pub record Placed : Type 0 where
   pub request : Request
   pub posted : Bool
 
--- what a worker holds, by key, and whether it has stopped
+-- what a worker holds, by key, whether it has stopped, and what it has free
 pub record Hands : Type 0 where
   pub place : ℕ → Option Placed
   pub waits : ℕ → List (ℕ × Request)
   pub stopped : Bool
+  pub stock : Stock
 
 abbrev pub placed : Option Placed → List (ℕ × Request)
 placed None = []
@@ -94,6 +97,7 @@ pub record WorkerMoves (p : places.Place) (m : ℕ) (s t : State) (before after 
   pub own : (y : Fixed) → In y fixed → places.owner p (key_of y.request) ≡ m
   pub keys : (k : ℕ) → places.owner p k ≡ m → AnswersKey v u w x k (requests_for k accepted) (fixed_of k fixed)
   pub holds : (k : ℕ) → places.owner p k ≡ m → HoldsKey u x k
+  pub refuses : (k : ℕ) → places.owner p k ≡ m → Refuses p.layout w.stock (v.last k) (u.last k) (map replied (fixed_of k fixed))
   pub stops : x.stopped ≡ true → (w.stopped ≡ true) ⊎ (Rose s.faults t.faults ⊎ IfSome before (λ a. (n : ℕ) × (d : Entry) × (a.slot m n ≡ Failed d)))
   pub breaks : u.broken ≡ true → x.stopped ≡ true
   pub stays_stopped : w.stopped ≡ true → x.stopped ≡ true

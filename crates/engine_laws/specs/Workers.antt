@@ -8,6 +8,7 @@ use Rattle.group_laws.specs.MemberViews.{View, view_of}
 use Rattle.group_laws.specs.Runs.{Kind}
 use Rattle.group_laws.specs.Runs.Kind.{Split, Join, Post, Lock, Look, LookMail, Take, Unlock, Commit, Mark, Finish, Fail, Withdraw, Doom, Retire, Send, Receive}
 use Rattle.engine_laws.specs.Parts.{group_of, member_of}
+use Rattle.engine_laws.specs.FreeStock.{IsAtLeast}
 use Rattle.engine_laws.specs.WorkerMoves.{Hands, Fixed}
 use Rattle.engine_laws.specs.Engine.{Engine}
 
@@ -17,6 +18,7 @@ pub record Sits (e : Engine) (c : ℕ) (v : View) (w : Hands) : Type 0 where
   pub place : (k : ℕ) → owner e.layout k ≡ c → w.place k ≡ e.place k
   pub waits : (k : ℕ) → owner e.layout k ≡ c → w.waits k ≡ e.waits k
   pub stopped : w.stopped ≡ e.stopped c
+  pub stock : IsAtLeast (e.stock c) w.stock
 
 -- What the engine itself sees to: the requests, the answers, and that it touches no other core.
 pub record Around (e f : Engine) (c : ℕ) (accepted : List (ℕ × Request)) (fixed : List Fixed) : Type 0 where
@@ -30,6 +32,7 @@ pub record Around (e f : Engine) (c : ℕ) (accepted : List (ℕ × Request)) (f
   pub other_keys : (k : ℕ) → owner e.layout k ≢ c → (f.place k ≡ e.place k) × (f.waits k ≡ e.waits k)
   pub other_stops : (d : ℕ) → d ≢ c → f.stopped d ≡ e.stopped d
   pub other_takes : (d : ℕ) → d ≢ c → f.takes d ≡ e.takes d
+  pub other_stocks : (d : ℕ) → d ≢ c → f.stock d ≡ e.stock d
   pub new_answers : (x : Fixed) → In x fixed → f.answer x.number ≡ Some (record { reply = x.reply; stamp = f.region.stamp })
   pub old_answers : (n : ℕ) → ((x : Fixed) → In x fixed → x.number ≢ n) → f.answer n ≡ e.answer n
 

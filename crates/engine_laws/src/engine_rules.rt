@@ -15,7 +15,7 @@ ghost use Rattle.group_laws.specs.State.{Group};
 ghost use Rattle.group_laws.specs.MemberViews.{View};
 ghost use Rattle.group_laws.specs.Runs.{Kind, Runs};
 ghost use Rattle.headline.specs.Headline.{Recovers, changes_in, cells_of, finished_in};
-ghost use Rattle.engine_laws.specs.Parts.{Groups, HasSuperblock, AllLicensed, ShowsGroups};
+ghost use Rattle.engine_laws.specs.Parts.{Groups, HasSuperblock, AllLicensed, ShowsGroups, group_of, member_of};
 ghost use Rattle.engine_laws.specs.WorkerMoves.{Placed, Hands, Fixed, replied, AnswersKey, HoldsKey};
 ghost use Rattle.engine_laws.specs.Beginning.{BeginsKey};
 ghost use Rattle.engine_laws.specs.Engine.{Engine, Answer};
@@ -24,6 +24,10 @@ ghost use Rattle.engine_laws.specs.Stands.{Origin, Stands, given_to, opening};
 ghost use Rattle.engine_laws.specs.Reports.{replies_from};
 ghost use Rattle.engine_laws.specs.Promises.{IsOrigin, Promised, IsDone, AnyMove, AnyTurn};
 ghost use Rattle.engine_laws.specs.Ran.{Ran, asked_in};
+ghost use Rattle.engine_laws.specs.Ceasing.{IsResting, Halts, AllRest, HasCeased};
+ghost use Rattle.group_laws.specs.Regions.{place_at};
+ghost use Rattle.engine_laws.specs.Spending.{SpendsIn};
+ghost use Rattle.engine_laws.specs.Rooms.{Rooms};
 ghost use Rattle.engine_laws.specs.Workers.{Sits, IsLoad};
 ghost use Rattle.engine_laws.specs.Advance.{Calls, moved_to};
 ghost use Rattle.engine_laws.specs.KeyLaw.{KeyView, Holds, Does, KeyIs};
@@ -69,6 +73,21 @@ pub fn every_call()
         → Sits (moved_to e c t b x takes rest fixed) d v' w' }
 {}
 
+/// Whatever the calls spend of the cores' rooms, a change was refused for want of room only where the input is not ample
+/// for the part of its key's owner: so it is of the first state, and so it stays when a request is given, and in each
+/// call of a worker that says what it spends.
+pub fn every_spending()
+    ensures opens { (o : Origin) → Rooms o (opening o) }
+    ensures given { (o : Origin) (e : Engine) (q : Request) → Stands o e → Rooms o e
+        → Rooms o (given_to e q) }
+    ensures called { (o : Origin) (e : Engine) (c : ℕ) (t : State) (b : Group) (v u : View)
+        (w x : Hands) (takes : Bool) (accepted rest : List (ℕ × Request))
+        (fixed : List Fixed)
+        → Stands o e → Calls e c t b v u w x accepted rest fixed
+        → SpendsIn (place_at e.layout (group_of e.layout c)) (member_of e.layout c) v u w x
+        accepted fixed → Rooms o e → Rooms o (moved_to e c t b x takes rest fixed) }
+{}
+
 /// What a call does for a key, and then begins the requests that waited for it, is done for the key by the one call.
 pub fn every_beginning()
     ensures answers { (v u : View) (w y x : Hands) (k : ℕ) (accepted : List (ℕ × Request))
@@ -105,6 +124,15 @@ pub fn every_replay()
 pub fn every_drain()
     ensures { (o : Origin) (lines : List Line) (e : Engine) → IsOrigin o
         → Ran AnyTurn (layout_of o.found).cores lines (opening o) e → IsDone o e }
+{}
+
+/// A core that rests does so while a turn of another one makes loads alone; where each does, all that was posted or
+/// taken is finished. Whether a core accepts the next request is no part of what stands.
+pub fn every_rest()
+    ensures stays { (e f : Engine) (c d : ℕ) → Halts e f c → IsResting e d → IsResting f d }
+    ensures ceased { (o : Origin) (e : Engine) → Stands o e → AllRest e → HasCeased e }
+    ensures takes { (o : Origin) (e : Engine) (t : ℕ → Bool) → Stands o e
+        → Stands o (record e { takes = t }) }
 {}
 
 /// Of one key by itself: what a call does for it keeps where the key is.

@@ -19,18 +19,22 @@ use Rattle.chunk_map.proofs.SuperLaws.{keeps_rules}
 use Rattle.store_image.specs.declared.types.PlacedEntry.{PlacedEntry}
 use Rattle.store_image.specs.declared.types.Fault.TheVariants.{NotARegion}
 use Rattle.store_image.specs.Facts.{In, KeepsRules}
-use Rattle.store_image.specs.Parts.{all_entries, part_entries, chunk_entries, held}
+use Rattle.store_image.specs.Parts.{all_entries, part_entries, chunk_entries, chunk_reads, scan_behind, head_reads, placed, held}
 use Rattle.store_image.specs.Winners.{winner_in, cell_by}
 use Rattle.store_image.specs.Soundness.{first_fault, fault_by}
 use Rattle.store_image.proofs.SoundFacts.{store_sound}
-use Rattle.serial_engine.specs.Going.{Runs}
 use Rattle.pm_region.proofs.Moments.{over_weaken}
-use Rattle.core_store.specs.Moments.{EachImage}
-use Rattle.core_store.proofs.LogChunks.{free_entries, free_reads}
 use Rattle.flatstore.specs.declared.report.Status.TheVariants as statuses
 use Rattle.flatstore.specs.declared.report.Report.{Report}
-use Rattle.flatstore.specs.Attaching.{Creates}
-use Rattle.flatstore.specs.Formats.{Formats, IsEmptyStore, IsRefusedOrEmpty}
+use Rattle.flatstore.specs.Attaching.{Runs, Creates}
+use Rattle.flatstore.specs.Formats.{Formats, EachImage, IsEmptyStore, IsRefusedOrEmpty}
+
+-- a Free chunk reads, and has no entries
+free_reads : (l : Geometry) (image : ℕ → ℕ) (at : ℕ) → image at ≡ 0 → chunk_reads l image at ≡ true
+free_reads l image at is = (λ i. head_reads (head_by l (is i) (image (at + 1))) (scan_behind image at (head_by l (is i) (image (at + 1)))))
+
+free_entries : (l : Geometry) (image : ℕ → ℕ) (c j : ℕ) → image (chunk_first l c j) ≡ 0 → chunk_entries l image c j ≡ []
+free_entries l image c j is = (λ i. placed c j (scan_behind image (chunk_first l c j) (head_by l (is i) (image (chunk_first l c j + 1)))).entries)
 
 none_in_all : {X : Type 0} (f : ℕ → List X) (from n : ℕ) → ((k : ℕ) → from ≤ k → k < from + n → f k ≡ []) → flat_map f (numbers from n) ≡ []
 none_in_all f from zero h = refl

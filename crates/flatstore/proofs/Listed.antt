@@ -51,7 +51,6 @@ is_none statuses.RegionFault = false
 is_none (statuses.Damaged part chunk rule) = true
 is_none (statuses.NotARegion rule) = true
 is_none statuses.Memory = true
-is_none (statuses.NotBuilt line) = false
 
 not_written : (status : Status) → is_none status ≡ true → is_of_writing status ≡ true → ⊥
 not_written statuses.Done n w = cc n
@@ -63,7 +62,6 @@ not_written statuses.RegionFault n w = cc n
 not_written (statuses.Damaged part chunk rule) n w = cc w
 not_written (statuses.NotARegion rule) n w = cc w
 not_written statuses.Memory n w = cc w
-not_written (statuses.NotBuilt line) n w = cc n
 
 module _ (old s : State) (found : ℕ → ℕ) (A : Attached old s s.frame.bytes found) where
   at_words : IsTelling s → nat_le s.frame.bytes 268439552 ≡ true → (w : ℕ) → w < s.frame.bytes / 8 → lasts s w ≡ found w

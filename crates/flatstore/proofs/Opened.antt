@@ -7,8 +7,7 @@ use Rattle.pm_region.specs.declared.split.AttachError.TheVariants.{RegionFault}
 use Rattle.pm_region.proofs.Moments.{over_started}
 use Rattle.chunk_map.specs.declared.layouts.Geometry.{Geometry}
 use Rattle.chunk_map.specs.Layouts.{total_bytes}
-use Rattle.serial_engine.specs.Going.{Runs}
-use Rattle.flatstore.specs.Attaching.{GoesOnFrom, Attaches, Creates}
+use Rattle.flatstore.specs.Attaching.{Runs, GoesOnFrom, Attaches, Creates}
 use Rattle.flatstore.specs.declared.report.Report.{Report}
 
 both : (b : Bool) {P : Type 0} → b ≡ true → b ≡ false → P
@@ -18,7 +17,7 @@ pub no_more : (s : State) → Runs s s
 no_more s = over_started s _ (λ telling. tt)
 
 -- an attach that was answered
-granted_by : {T : Type 0} (old new : State) (r : Result T AttachError) (x : T) → r ≡ Ok x → Refuses old new r → new.frame.refusals ≡ old.frame.refusals
+pub granted_by : {T : Type 0} (old new : State) (r : Result T AttachError) (x : T) → r ≡ Ok x → Refuses old new r → new.frame.refusals ≡ old.frame.refusals
 granted_by old new r x is R = R.else_same (λ err. no_fault (sym is ∙ err)) where
   no_fault : Ok x ≡ Err RegionFault → ⊥
   no_fault e = cc e

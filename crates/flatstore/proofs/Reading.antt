@@ -1,25 +1,35 @@
 -- Why an input was not read.
-use Rattle.std.proofs.Common.{◌≡◌, inl, inr, ℕ, List, refl, sym, ap, subst, Option, Some, None, Result, Err, IfSome, true}
+use Rattle.std.proofs.Common.{◌≡◌, inl, inr, ℕ, List, refl, sym, ap, subst, Option, Some, None, Result, Ok, Err, IfSome, true}
 use Rattle.pm_region.specs.State.{Rose}
 use Rattle.fs_text.specs.declared.line.Line.{Line}
-use Rattle.fs_text.specs.declared.stages.Stop.{Stop}
-use Rattle.fs_text.specs.declared.stages.UntilError.{UntilError}
-use Rattle.fs_text.specs.declared.stages.UntilError.TheVariants as until
-use Rattle.fs_text.specs.Stages.{input_or_stop, StopsAs, is_said}
+use Rattle.fs_text.specs.declared.input.InputError.{InputError}
+use Rattle.fs_text.specs.declared.input.InputError.TheVariants as inputs
+use Rattle.fs_text.specs.Input.{input_of}
+use Rattle.fs_text.specs.Reading.{Answers, is_said}
 use Rattle.fs_text.specs.Streams.{IsReadOut}
-use Rattle.flatstore.specs.Ordering.{built_now, status_of, is_stop}
+use Rattle.flatstore.specs.Ordering.{status_of, is_broken}
 use Rattle.flatstore.specs.Promise.{IsInput}
-use Rattle.flatstore.specs.Reads.{IsUnread, unread_as}
+use Rattle.flatstore.specs.Reads.{IsRead, IsUnread, unread_as}
 
-stopped_at : (coming : Option (List ℕ)) (r : Result (List Line) UntilError) (stop : Stop) → r ≡ Err (until.Stop stop) → IfSome coming (λ bytes. StopsAs r (input_or_stop built_now 1 bytes))
-    → (bytes : List ℕ) × StopsAs r (input_or_stop built_now 1 bytes) → (input : List ℕ) × IsInput coming input × (input_or_stop built_now 1 input ≡ Err stop)
-stopped_at None r stop is exact some = (some.0, tt, subst (λ q. StopsAs q (input_or_stop built_now 1 some.0)) is some.1)
-stopped_at (Some bytes) r stop is exact some = (bytes, refl, subst (λ q. StopsAs q (input_or_stop built_now 1 bytes)) is exact)
+-- the input, where something is said of it
+module _ (cores : ℕ) (coming left : Option (List ℕ)) (r : Result (List Line) InputError) (exact : IfSome coming (λ bytes. Answers r (input_of cores bytes))) (some : (bytes : List ℕ) × Answers r (input_of cores bytes)) (whole : is_said r ≡ true → IsReadOut coming left) where
+  read_as : (input : List ℕ) × IsInput coming input × Answers r (input_of cores input)
+  read_as = by coming exact where
+    by : (o : Option (List ℕ)) → IfSome o (λ bytes. Answers r (input_of cores bytes)) → (input : List ℕ) × IsInput o input × Answers r (input_of cores input)
+    by None e = (some.0, tt, some.1)
+    by (Some bytes) e = (bytes, refl, e)
 
-pub is_unread : (coming left : Option (List ℕ)) (faults faults' : ℕ) (r : Result (List Line) UntilError) (e : UntilError) → r ≡ Err e → IfSome coming (λ bytes. StopsAs r (input_or_stop built_now 1 bytes))
-    → (bytes : List ℕ) × StopsAs r (input_or_stop built_now 1 bytes) → (r ≡ Err until.SourceFault → Rose faults faults') → (is_said r ≡ true → IsReadOut coming left) → IsUnread coming left faults faults' (unread_as e)
-is_unread coming left faults faults' r (until.Stop stop) is exact some cause whole =
-    let at = stopped_at coming r stop is exact some in
-    inl (whole (ap is_said is), at.0, at.1, ap is_stop at.2, ap status_of (sym at.2))
-is_unread coming left faults faults' r until.SourceFault is exact some cause whole = inr (inl (refl, cause is))
-is_unread coming left faults faults' r until.Memory is exact some cause whole = inr (inr refl)
+  pub is_read : (lines : List Line) → r ≡ Ok lines → IsRead coming left cores lines
+  is_read lines is = record {
+    whole = whole (ap is_said is);
+    input = read_as.0;
+    is_input = read_as.1;
+    good = subst (λ q. Answers q (input_of cores read_as.0)) is read_as.2;
+  }
+
+  pub is_unread : (faults faults' : ℕ) (e : InputError) → r ≡ Err e → (r ≡ Err inputs.SourceFault → Rose faults faults') → IsUnread coming left cores faults faults' (unread_as e)
+  is_unread faults faults' (inputs.BadInput line rule) is cause =
+      let at : input_of cores read_as.0 ≡ Err (line, rule) = subst (λ q. Answers q (input_of cores read_as.0)) is read_as.2 in
+      inl (whole (ap is_said is), read_as.0, read_as.1, ap is_broken at, ap status_of (sym at))
+  is_unread faults faults' inputs.SourceFault is cause = inr (inl (refl, cause is))
+  is_unread faults faults' inputs.Memory is cause = inr (inr refl)

@@ -1,205 +1,204 @@
--- From what a replay did to what the program promises.
-use Rattle.std.proofs.Common.{◌≡◌, ◌⊎◌, inl, inr, ℕ, ◌/◌, ◌<◌, ◌≤◌, cond, List, [], ◌∷◌, ◌++◌, refl, sym, ◌∙◌, ap, subst, arith, true, false, Bool, Option, Some, None, append-nil, take, ◌+◌}
+-- From the last state of a run to what the program promises.
+use Rattle.std.proofs.Common.{◌≡◌, ◌≢◌, ◌⊎◌, inl, inr, ℕ, ◌/◌, ◌<◌, ◌≤◌, List, [], ◌∷◌, ◌++◌, length, refl, sym, ◌∙◌, ap, subst, arith, true, false, Bool, Option, Some, None, append-nil, map, take, ◌+◌, ◌%◌, length-append, Ok}
 use Rattle.std.specs.List.{AllByRecursion}
-use Rattle.pm_region.specs.State.{State, Frame, IsTelling, MayLeave, Rose}
-use Rattle.pm_region.specs.Split.{Attached}
+use Rattle.pm_region.specs.State.{State, Frame, IsTold, IsTelling, MayLeave, Rose, cell_now}
+use Rattle.pm_region.specs.Split.{Attached, IsOpenedOnceMore}
+use Rattle.pm_region.specs.Words.{lasts}
 use Rattle.fs_model.specs.declared.model.Request.{Request}
 use Rattle.fs_model.specs.declared.model.Reply.{Reply}
 use Rattle.fs_model.specs.Changes.{cell_after_all, finished_by}
-use Rattle.fs_text.specs.Stages.{input_or_stop}
-use Rattle.fs_text.specs.Streams.{Takes, TakesPrefix}
+use Rattle.fs_model.specs.declared.model.Reply.TheVariants.{Full}
+use Rattle.fs_model.specs.Lawful.{IsLawful, Fits, is_finish, is_told, is_stopped}
+use Rattle.fs_text.specs.declared.line.Line.{Line}
+use Rattle.fs_text.specs.Input.{input_of}
+use Rattle.fs_text.specs.Streams.{IsReadOut, Takes, TakesPrefix}
 use Rattle.fs_text.specs.Output.{replies_text}
-use Rattle.fs_model.specs.Lawful.{IsLawful, Fits, is_stopped}
-use Rattle.pm_region.specs.Words.{lasts}
-use Rattle.chunk_map.specs.Layouts.{IsLayout, layout_of, superblock_rule, owner}
+use Rattle.chunk_map.specs.declared.layouts.Geometry.{Geometry}
+use Rattle.chunk_map.specs.Layouts.{layout_of, superblock_rule, owner}
 use Rattle.store_image.specs.Soundness.{IsSound, first_fault}
-use Rattle.store_image.proofs.Agree.{cells_agree}
+use Rattle.store_image.proofs.Agree.{cells_agree, fault_agrees}
 use Rattle.store_image.proofs.Places.{superblock_facts}
 use Rattle.store_image.proofs.SoundLaws.{has_layout}
-use Rattle.std.proofs.lemmas.Bool.{eq-eqb}
-use Rattle.headline.specs.Ample.{IsAmpleFor}
-use Rattle.headline.specs.Limits.{IsAsked, version_of, changes_asked}
-use Rattle.headline.specs.Headline.{Answers, Told, finished_in, cells_of, Recovers, RecoversThroughout, changes_in}
+use Rattle.headline.specs.Headline.{Answers, Told, finished_in, refused_in, cells_of, Recovers, RecoversThroughout, RecoversAll, changes_in}
 use Rattle.headline.specs.Kinds.{AreReplies}
-use Rattle.serial_engine.specs.Answers.{told_by}
-use Rattle.serial_engine.specs.Refusals.{refusals_from, is_full}
+use Rattle.headline.specs.Ample.{IsAmpleFor}
+use Rattle.headline.specs.Limits.{IsAsked, version_of, changes_asked, is_too_long, IsWithinLimits}
 use Rattle.core_room.specs.declared.types.Shortage.TheVariants.{Versions}
-use Rattle.serial_engine.specs.declared.answers.Refusal.{Refusal}
-use Rattle.flatstore.specs.Found.{stock_found}
-use Rattle.flatstore.specs.Ordering.{KeepsOrder, IsServed, due, IsDue, IsFault, built_now, status_of, is_stop, is_quiet, is_of_line, is_whole}
-use Rattle.flatstore.specs.Promise.{WritesAll, WritesFront, Replays, asked_in, told_in}
-use Rattle.flatstore.specs.Played.{HasAnswered, Played, HasWritten}
-use Rattle.flatstore.specs.declared.replay.Ended.{Ended}
+use Rattle.engine_laws.specs.Engine.{Engine}
+use Rattle.engine_laws.specs.Stands.{Origin, Stands, start_of, opening}
+use Rattle.engine_laws.specs.Promises.{IsOrigin, Promised, IsDone, HasStopped, AnyTurn}
+use Rattle.engine_laws.specs.Ran.{Ran}
+use Rattle.engine_laws.specs.Ran as runs
+use Rattle.engine_laws.specs.Reports.{told_of, replies_of, replies_from, AllAnswered}
+use Rattle.group_engine.specs.declared.run_outcome.End.{End}
+use Rattle.group_engine.specs.declared.run_outcome.End.TheVariants as ends
+use Rattle.group_engine.specs.declared.run_outcome.Outcome.{Outcome}
+use Rattle.group_engine.specs.Replayed.{report_in}
+use Rattle.group_engine.specs.Reports.{ReportsOn, told, told_by}
+use Rattle.group_engine.specs.Answers.{reply_to}
+use Rattle.group_engine.specs.declared.run_report.Refusal.{Refusal}
+use Rattle.engine_laws.proofs.Ran.{ran_given}
+use Rattle.flatstore.specs.Attaching.{GoesOnFrom, Runs}
+use Rattle.flatstore.specs.LastStates.{told_in, AreRising, RanTo}
+use Rattle.flatstore.specs.Ordering.{KeepsOrder, IsServed, due, IsDue, IsFault, status_of, is_broken, is_quiet, is_of_line, is_whole}
+use Rattle.flatstore.specs.Promise.{IsInput, WritesAll, WritesFront, Replays, IsAllOut, asked_in}
+use Rattle.flatstore.specs.Played.{Played, HasWritten, is_ended}
 use Rattle.flatstore.specs.declared.report.Status.{Status}
 use Rattle.flatstore.specs.declared.report.Status.TheVariants as statuses
 use Rattle.flatstore.specs.declared.report.Report.{Report}
 use Rattle.flatstore.proofs.Inputs.{read_trace}
-use Rattle.flatstore.proofs.Attached.{found_words, found_fault, sound_small}
-use Rattle.flatstore.proofs.Agreeing.{layout_agrees, stock_agrees}
-use Rattle.flatstore.proofs.Roomy.{full_of, spent_of, unrefused_of}
+use Rattle.flatstore.proofs.Attached.{found_words}
+use Rattle.flatstore.proofs.Agreeing as agreeing
+use Rattle.flatstore.proofs.Numbering.{all_map, rising}
+use Rattle.flatstore.proofs.Causing.{HasCauses, full_of, spent_of, unrefused_of}
+use Rattle.flatstore.proofs.Texts.{both, takes_front, all_text, front_text, no_text, small_sound}
 
-takes_nothing : (x : Option (List ℕ)) → Takes x x []
-takes_nothing None = tt
-takes_nothing (Some b) = sym (append-nil b)
+-- What is known of the run: from the region as it was attached, by the lines of an input.
+pub record Known (old : State) (found : ℕ → ℕ) (coming left : Option (List ℕ)) (cores : ℕ) (input : List ℕ) (o : Origin) (f : Engine) (x : Outcome) : Type 0 where
+  pub origin : IsOrigin o
+  pub from : GoesOnFrom old f.region f.region.frame.bytes found
+  pub at_origin : o.region ≡ from.at
+  pub low : old.faults ≤ o.region.faults
+  pub words : IsTelling o.region → (w : ℕ) → w < o.region.frame.bytes / 8 → o.found w ≡ lasts o.region w
+  pub count : (layout_of o.found).cores ≡ cores
+  pub lines : List Line
+  pub good : input_of cores input ≡ Ok lines
+  pub stands : Stands o f
+  pub promised : Promised o f
+  pub more : List Request
+  pub given : runs.asked_in lines ≡ f.given ++ more
+  pub all_given : x.end ≢ ends.Memory → more ≡ []
+  pub reports : ReportsOn f.region o f (report_in x)
+  pub ran : x.end ≢ ends.Memory → Ran AnyTurn cores lines (opening o) f
+  pub done : x.end ≢ ends.Memory → IsDone o f
+  pub fault : x.end ≡ ends.RegionFault → HasStopped f
+  pub whole : x.end ≡ ends.Complete → (c : ℕ) → c < f.layout.cores → f.stopped c ≡ false
+  pub causes : HasCauses o.found (f.given ++ more) f.answer
 
--- A cause for each `Stopped`: none is, or it stands for all.
-pub never_stopped : (MayStop : Type 0) (replies : List Reply) → AllByRecursion (λ x. is_stopped x ≡ false) replies → AllByRecursion (λ x. is_stopped x ≡ true → MayStop) replies
-never_stopped MayStop [] h = tt
-never_stopped MayStop (x ∷ xs) h = ((λ stopped. absurd (both (is_stopped x) stopped h.0)), never_stopped MayStop xs h.1) where
-  both : (b : Bool) → b ≡ true → b ≡ false → ⊥
-  both b p q = cc (sym p ∙ q)
+module _ (old : State) (found : ℕ → ℕ) (coming left : Option (List ℕ)) (cores : ℕ) (input : List ℕ) (o : Origin) (f : Engine) (x : Outcome) (K : Known old found coming left cores input o f x) (read_out : IsReadOut coming left)
+    (before now : Option (List ℕ)) (flushed : Bool) (faults faults' : ℕ) (status : Status) (W : HasWritten x before now flushed faults faults' status)
+    (r : Report) (report_status : r.status ≡ status) (report_told : told_in r ≡ told_by (report_in x)) (report_began : r.began ≡ true) (report_complete : r.complete ≡ is_ended x.end) where
+  abbrev s : State
+  s = o.region
 
-pub may_all : (MayStop : Type 0) (replies : List Reply) → MayStop → AllByRecursion (λ x. is_stopped x ≡ true → MayStop) replies
-may_all MayStop [] may = tt
-may_all MayStop (x ∷ xs) may = ((λ stopped. may), may_all MayStop xs may)
+  abbrev t : State
+  t = f.region
 
--- The texts of replies.
-module _ (Known : Type 0) (start : ℕ → Option (List ℕ)) (trace : List Request) (r : Told) (MayStop : Type 0) (replies : List Reply)
-    (each : AreReplies trace replies) (fits : Fits (finished_in r) r.refusals replies) (lawful : Known → IsLawful start trace replies) (S : AllByRecursion (λ x. is_stopped x ≡ true → MayStop) replies) (before now : Option (List ℕ)) where
-  said : Answers Known start trace r MayStop replies
-  said = record { each = each; lawful = lawful; fits = fits; stops = S }
+  abbrev bytes : ℕ
+  bytes = s.frame.bytes
 
-  all_text : Takes before now (replies_text replies) → WritesAll Known start trace r MayStop before now
-  all_text took = (replies_text replies, took, (replies, said, refl))
+  attached : Attached old s bytes found
+  attached = subst (λ (z : State). Attached old z z.frame.bytes found) (sym K.at_origin) (subst (λ (fr : Frame). Attached old K.from.at fr.bytes found) K.from.on.frame K.from.attached)
 
-  front_text : TakesPrefix before now (replies_text replies) → WritesFront Known start trace r MayStop before now
-  front_text took = (took.1.0, took.1.2, (took.0, (replies, said, sym took.1.1)))
+  telling_then : IsTelling t → IsTelling s
+  telling_then telling = K.stands.run.was t.stamp telling K.stands.run.later
 
-  whole_front : Takes before now (replies_text replies) → WritesFront Known start trace r MayStop before now
-  whole_front took = (replies_text replies, took, ([], (replies, said, append-nil (replies_text replies))))
+  -- The words that were read are those found, where the region tells.
+  words_found : IsTelling s → (w : ℕ) → w < bytes / 8 → o.found w ≡ found w
+  words_found telling w lt = K.words telling w lt ∙ found_words old s found attached (small_sound bytes o.found K.origin.sound) telling w lt
 
-  pub no_text : now ≡ before → WritesFront Known start trace r MayStop before now
-  no_text same = ([], subst (λ x. Takes before x []) (sym same) (takes_nothing before), (replies_text replies, (replies, said, refl)))
+  rule : superblock_rule bytes o.found ≡ None
+  rule = has_layout bytes o.found K.origin.sound
 
-both : (b : Bool) {P : Type 0} → b ≡ true → b ≡ false → P
-both b t f = cc (sym t ∙ f)
+  start_is : IsTelling s → cells_of found ≡ start_of o
+  start_is telling = (λ i k. cells_agree bytes found o.found (λ w lt. sym (words_found telling w lt)) rule k i)
 
--- A replay that answered its requests, and what was written of it.
-module _ (old s t : State) (found : ℕ → ℕ) (A : Attached old s s.frame.bytes found) (coming left before now : Option (List ℕ)) (flushed : Bool) (faults faults' : ℕ) (e : Ended) (status : Status)
-    (P : Played s t coming left e) (W : HasWritten e before now flushed faults faults' status) (r : Report) (report_status : r.status ≡ status) (report_told : told_in r ≡ told_by e.answers) (report_refused : r.refusals.items ≡ e.answers.refusals.items)
-    (report_began : r.began ≡ true) (report_complete : r.complete ≡ e.complete) (low : old.faults ≤ s.faults) where
-  abbrev telling_then : IsTelling t → IsTelling s
-  telling_then telling = P.run.was t.stamp telling P.run.later
+  sound_found : IsTelling s → IsSound bytes found
+  sound_found telling = fault_agrees bytes found o.found (λ w lt. sym (words_found telling w lt)) ∙ K.origin.sound
 
-  abbrev H : IsTelling s → HasAnswered s t (cells_of (lasts s)) (layout_of (lasts s)) (stock_found (lasts s)) P.trace P.more e
-  H telling = P.answered telling
+  layout_is : IsTelling s → layout_of found ≡ layout_of o.found
+  layout_is telling = agreeing.layout_agrees bytes found o.found (λ w lt. sym (words_found telling w lt)) rule
 
-  sound_found : IsTelling s → IsSound s.frame.bytes found
-  sound_found telling = sym (found_fault old s found A telling) ∙ P.sound telling
-
-  words_found : IsTelling s → (w : ℕ) → w < s.frame.bytes / 8 → lasts s w ≡ found w
-  words_found telling = found_words old s found A (sound_small old s found A (sound_found telling)) telling
-
-  rule_found : IsTelling s → superblock_rule s.frame.bytes found ≡ None
-  rule_found telling = has_layout s.frame.bytes found (sound_found telling)
-
-  one_found : IsTelling s → found 2 ≡ 1
-  one_found telling = let low = (superblock_facts s.frame.bytes found (rule_found telling)).0 in sym (words_found telling 2 (omega (arith, low))) ∙ P.one telling
+  cores_found : IsTelling s → cores ≡ found 2
+  cores_found telling = sym K.count ∙ sym (ap (λ (l : Geometry). l.cores) (layout_is telling))
 
   served : IsServed t found
-  served telling = (subst (λ (f : Frame). IsSound f.bytes found) (sym P.run.frame) (sound_found (telling_then telling)), one_found (telling_then telling))
-
-  start_is : IsTelling s → cells_of (lasts s) ≡ cells_of found
-  start_is telling = (λ i k. cells_agree s.frame.bytes (lasts s) found (words_found telling) (rule_found telling) k i)
-
-  layout_is : IsTelling s → layout_of (lasts s) ≡ layout_of found
-  layout_is telling = layout_agrees s.frame.bytes (lasts s) found (words_found telling) (rule_found telling)
-
-  stock_is : IsTelling s → stock_found (lasts s) ≡ stock_found found
-  stock_is telling = stock_agrees s.frame.bytes (lasts s) found (words_found telling) (rule_found telling)
+  served telling = subst (λ (fr : Frame). IsSound fr.bytes found) (sym K.stands.run.frame) (sound_found (telling_then telling))
 
   abbrev trace : List Request
-  trace = asked_in P.read.input
+  trace = asked_in cores input
 
-  trace_is : P.trace ≡ trace
-  trace_is = P.read.asked ∙ sym (read_trace 1 P.read.input P.read.lines P.read.good)
+  trace_is : trace ≡ f.given ++ K.more
+  trace_is = read_trace cores input K.lines K.good ∙ K.given
 
-  -- in the words of what was found
-  as_found : (Q : (ℕ → Option (List ℕ)) → List Request → Told → Type 0) → IsTelling s → Q (cells_of (lasts s)) P.trace (told_by e.answers) → Q (cells_of found) trace (told_in r)
-  as_found Q telling h = subst (Q (cells_of found) trace) (sym report_told) (subst (λ xs. Q (cells_of found) xs (told_by e.answers)) trace_is (subst (λ f. Q f P.trace (told_by e.answers)) (start_is telling) h))
+  told_is : told_in r ≡ told_of f
+  told_is = report_told ∙ K.reports.told_is
 
-  -- the refusals, by what was found
-  refused_is : IsTelling s → (front : List Request) → e.answers.refusals.items ≡ refusals_from (layout_of (lasts s)) 0 (stock_found (lasts s)) front → r.refusals.items ≡ refusals_from (layout_of found) 0 (stock_found found) front
-  refused_is telling front is = report_refused ∙ is ∙ (λ i. refusals_from (layout_is telling i) 0 (stock_is telling i) front)
+  -- Replies of the state are replies to the input, by the cells found.
+  said_of : (MayStop May : Type 0) (replies : List Reply) → Answers (IsTelling t) (start_of o) (f.given ++ K.more) (told_of f) May replies → (May → MayStop) → Answers (IsTelling t) (cells_of found) trace (told_in r) MayStop replies
+  said_of MayStop May replies a to = record {
+    each = subst (λ q. AreReplies q replies) (sym trace_is) a.each;
+    lawful = λ telling. subst (λ q. IsLawful (cells_of found) q replies) (sym trace_is) (subst (λ c. IsLawful c (f.given ++ K.more) replies) (sym (start_is (telling_then telling))) (a.lawful telling));
+    fits = subst (λ (z : Told). Fits (finished_in z) z.refusals replies) (sym told_is) a.fits;
+    stops = all_map (λ y. is_stopped y ≡ true → May) (λ y. is_stopped y ≡ true → MayStop) (λ y h stopped. to (h stopped)) replies a.stops;
+  }
 
-  abbrev replies : List Reply
-  replies = e.answers.replies.items
-
-  risen : e.stopped ≡ true → Rose old.faults t.faults
-  risen stopped = let c = P.cause stopped in omega (arith, c, low)
+  risen : HasStopped f → Rose old.faults t.faults
+  risen h = let c = K.promised.cause h in let low = K.low in omega (arith, c, low)
 
   abbrev FrontMayStop : Type 0
   FrontMayStop = r.complete ≡ true → Rose old.faults t.faults
 
-  cut_may : e.complete ≡ false → FrontMayStop
-  cut_may cut complete = both e.complete (sym report_complete ∙ complete) cut
+  ended : is_ended x.end ≡ true → x.end ≢ ends.Memory
+  ended is m = both (is_ended x.end) is (ap is_ended m)
 
-  -- one reply for each request, with those that are missing where it was cut off
-  each_of : AreReplies trace (replies ++ P.more)
-  each_of = subst (λ xs. AreReplies xs (replies ++ P.more)) trace_is P.counted.each
+  completed : x.end ≡ ends.Complete → x.end ≢ ends.Memory
+  completed e m = cc (sym e ∙ m)
 
-  fits_of : Fits (finished_in (told_in r)) (told_in r).refusals (replies ++ P.more)
-  fits_of = subst (λ (x : Told). Fits (finished_in x) x.refusals (replies ++ P.more)) (sym report_told) P.counted.fits
+  faulted : x.end ≡ ends.RegionFault → x.end ≢ ends.Memory
+  faulted e m = cc (sym e ∙ m)
 
-  lawful_of : IsTelling t → IsLawful (cells_of found) trace (replies ++ P.more)
-  lawful_of telling = subst (λ xs. IsLawful (cells_of found) xs (replies ++ P.more)) trace_is
-      (subst (λ f. IsLawful f P.trace (replies ++ P.more)) (start_is (telling_then telling)) ((H (telling_then telling)).lawful.lawful telling))
+  never : x.end ≡ ends.Complete → HasStopped f → ⊥
+  never e h = both (f.stopped h.0) h.2 (K.whole e h.0 h.1)
 
-  -- of a run that came to its end none is missing
-  module _ (done : e.complete ≡ true) where
-    none_more : replies ++ P.more ≡ replies
-    none_more = ap (λ m. replies ++ m) (P.counted.none_missing done) ∙ append-nil replies
+  -- of a run that came to its end
+  module _ (not_cut : x.end ≢ ends.Memory) where
+    given_all : f.given ++ K.more ≡ f.given
+    given_all = ap (λ m. f.given ++ m) (K.all_given not_cut) ∙ append-nil f.given
 
-    each_whole : AreReplies trace replies
-    each_whole = subst (AreReplies trace) none_more each_of
+    said_whole : (MayStop : Type 0) → (HasStopped f → MayStop) → Answers (IsTelling t) (cells_of found) trace (told_in r) MayStop x.replies.items
+    said_whole MayStop to = said_of MayStop (AllAnswered f → HasStopped f) x.replies.items
+        (subst (λ q. Answers (IsTelling t) (start_of o) q (told_of f) (AllAnswered f → HasStopped f) x.replies.items) (sym given_all) K.reports.answers) (λ h. to (h (K.done not_cut).answered))
 
-    fits_whole : Fits (finished_in (told_in r)) (told_in r).refusals replies
-    fits_whole = subst (Fits (finished_in (told_in r)) (told_in r).refusals) none_more fits_of
+    text_of : (MayStop : Type 0) → (HasStopped f → MayStop) → Takes before now (replies_text x.replies.items) → WritesAll (IsTelling t) (cells_of found) trace (told_in r) MayStop before now
+    text_of MayStop to = all_text (IsTelling t) (cells_of found) trace (told_in r) MayStop x.replies.items (said_whole MayStop to) before now
 
-    lawful_whole : IsTelling t → IsLawful (cells_of found) trace replies
-    lawful_whole telling = subst (IsLawful (cells_of found) trace) none_more (lawful_of telling)
+    front_of : (MayStop : Type 0) → (HasStopped f → MayStop) → TakesPrefix before now (replies_text x.replies.items) → WritesFront (IsTelling t) (cells_of found) trace (told_in r) MayStop before now
+    front_of MayStop to = front_text (IsTelling t) (cells_of found) trace (told_in r) MayStop x.replies.items (said_whole MayStop to) before now
 
-    module _ (MayStop : Type 0) (stops : AllByRecursion (λ x. is_stopped x ≡ true → MayStop) replies) where
-      text_of : Takes before now (replies_text replies) → WritesAll (IsTelling t) (cells_of found) trace (told_in r) MayStop before now
-      text_of = all_text (IsTelling t) (cells_of found) trace (told_in r) MayStop replies each_whole fits_whole lawful_whole stops before now
+    shown_front : IsTelling t → TakesPrefix before now (replies_text x.replies.items) → TakesPrefix before now (replies_text (replies_of f))
+    shown_front telling takes = subst (λ rs. TakesPrefix before now (replies_text rs)) (K.reports.known telling) takes
 
-      front_of : TakesPrefix before now (replies_text replies) → WritesFront (IsTelling t) (cells_of found) trace (told_in r) MayStop before now
-      front_of = front_text (IsTelling t) (cells_of found) trace (told_in r) MayStop replies each_whole fits_whole lawful_whole stops before now
-
-      whole_of : Takes before now (replies_text replies) → WritesFront (IsTelling t) (cells_of found) trace (told_in r) MayStop before now
-      whole_of = whole_front (IsTelling t) (cells_of found) trace (told_in r) MayStop replies each_whole fits_whole lawful_whole stops before now
-
-      nothing_of : now ≡ before → WritesFront (IsTelling t) (cells_of found) trace (told_in r) MayStop before now
-      nothing_of = no_text (IsTelling t) (cells_of found) trace (told_in r) MayStop replies each_whole fits_whole lawful_whole stops before now
-
-    never : e.stopped ≡ false → AllByRecursion (λ x. is_stopped x ≡ true → ⊥) replies
-    never going = never_stopped ⊥ replies (P.counted.steady done going)
-
-    whole_may : AllByRecursion (λ x. is_stopped x ≡ true → FrontMayStop) replies
-    whole_may = by_end e.stopped refl where
-      by_end : (b : Bool) → e.stopped ≡ b → AllByRecursion (λ x. is_stopped x ≡ true → FrontMayStop) replies
-      by_end true stopped = may_all FrontMayStop replies (λ complete. risen stopped)
-      by_end false going = never_stopped FrontMayStop replies (P.counted.steady done going)
+    shown_all : IsTelling t → Takes before now (replies_text x.replies.items) → Takes before now (replies_text (replies_of f))
+    shown_all telling takes = subst (λ rs. Takes before now (replies_text rs)) (K.reports.known telling) takes
 
   abbrev Front : Type 0
   Front = WritesFront (IsTelling t) (cells_of found) trace (told_in r) FrontMayStop before now
 
-  none_of : now ≡ before → Front
-  none_of same = by_end e.complete refl where
-    by_end : (b : Bool) → e.complete ≡ b → Front
-    by_end true done = nothing_of done FrontMayStop (whole_may done) same
-    by_end false cut = no_text (IsTelling t) (cells_of found) trace (told_in r) FrontMayStop (replies ++ P.more) each_of fits_of lawful_of (may_all FrontMayStop (replies ++ P.more) (cut_may cut)) before now same
+  abbrev Prefix : Type 0
+  Prefix = TakesPrefix before now (replies_text x.replies.items)
 
-  begun : HasWritten e before now flushed faults faults' status → Front
-  begun (inl w) = whole_of w.1 FrontMayStop (whole_may w.1) w.3
-  begun (inr (inl w)) = elim w.3 [ inl all ↦ whole_of w.1 FrontMayStop (whole_may w.1) all.0 | inr some ↦ front_of w.1 FrontMayStop (whole_may w.1) some.1 ]
-  begun (inr (inr (inl w))) = front_of w.1 FrontMayStop (whole_may w.1) w.4
-  begun (inr (inr (inr w))) = elim w.1 [ inl some ↦ front_of some.0 FrontMayStop (whole_may some.0) some.1 | inr same ↦ none_of same ]
+  -- of a run that didn't, each request without an answer counts as one that is stopped
+  cut_front : is_ended x.end ≡ false → now ≡ before → Front
+  cut_front cut same = no_text (IsTelling t) (cells_of found) trace (told_in r) FrontMayStop (replies_from f.answer 0 (length (f.given ++ K.more)))
+      (said_of FrontMayStop (AllAnswered f → K.more ≡ [] → HasStopped f) (replies_from f.answer 0 (length (f.given ++ K.more))) (K.promised.replies K.more) (λ any complete. both r.complete complete (report_complete ∙ cut))) before now same
+
+  begun : HasWritten x before now flushed faults faults' status → Front
+  begun (inl w) = front_of (completed w.1) FrontMayStop (λ h complete. risen h) (takes_front before now (replies_text x.replies.items) w.2)
+  begun (inr (inl w)) = elim w.2 [
+    | inl all ↦ front_of (faulted w.1) FrontMayStop (λ h complete. risen h) (takes_front before now (replies_text x.replies.items) all.0)
+    | inr some ↦ front_of (faulted w.1) FrontMayStop (λ h complete. risen h) some.1
+  ]
+  begun (inr (inr (inl w))) = front_of (completed w.1) FrontMayStop (λ h complete. risen h) w.3
+  begun (inr (inr (inr w))) = elim w.1 [
+    | inl some ↦ front_of (ended some.0) FrontMayStop (λ h complete. risen h) some.1
+    | inr cut ↦ cut_front cut.0 cut.1
+  ]
 
   -- the statuses that it cannot have
   no_status : (Q : Status → Bool) → Q statuses.Done ≡ false → Q statuses.RegionFault ≡ false → Q statuses.SinkFault ≡ false → Q statuses.Memory ≡ false → Q r.status ≡ true → ⊥
   no_status Q done failed sunk memory is = by W where
-    by : HasWritten e before now flushed faults faults' status → ⊥
+    by : HasWritten x before now flushed faults faults' status → ⊥
     by (inl w) = both (Q r.status) is (ap Q (report_status ∙ w.0) ∙ done)
     by (inr (inl w)) = both (Q r.status) is (ap Q (report_status ∙ w.0) ∙ failed)
     by (inr (inr (inl w))) = both (Q r.status) is (ap Q (report_status ∙ w.0) ∙ sunk)
@@ -207,18 +206,18 @@ module _ (old s t : State) (found : ℕ → ℕ) (A : Attached old s s.frame.byt
 
   written : r.status ≡ statuses.Done → WritesAll (IsTelling t) (cells_of found) trace (told_in r) ⊥ before now × (flushed ≡ true)
   written done = by W where
-    by : HasWritten e before now flushed faults faults' status → WritesAll (IsTelling t) (cells_of found) trace (told_in r) ⊥ before now × (flushed ≡ true)
-    by (inl w) = (text_of w.1 ⊥ (never w.1 w.2) w.3, w.4)
+    by : HasWritten x before now flushed faults faults' status → WritesAll (IsTelling t) (cells_of found) trace (told_in r) ⊥ before now × (flushed ≡ true)
+    by (inl w) = (text_of (completed w.1) ⊥ (never w.1) w.2, w.3)
     by (inr (inl w)) = cc (sym done ∙ report_status ∙ w.0)
     by (inr (inr (inl w))) = cc (sym done ∙ report_status ∙ w.0)
     by (inr (inr (inr w))) = cc (sym done ∙ report_status ∙ w.0)
 
   written_failed : r.status ≡ statuses.RegionFault → (Rose faults faults' → ⊥) → WritesAll (IsTelling t) (cells_of found) trace (told_in r) (Rose old.faults t.faults) before now × (flushed ≡ true)
   written_failed failed steady = by W where
-    by : HasWritten e before now flushed faults faults' status → WritesAll (IsTelling t) (cells_of found) trace (told_in r) (Rose old.faults t.faults) before now × (flushed ≡ true)
+    by : HasWritten x before now flushed faults faults' status → WritesAll (IsTelling t) (cells_of found) trace (told_in r) (Rose old.faults t.faults) before now × (flushed ≡ true)
     by (inl w) = cc (sym failed ∙ report_status ∙ w.0)
-    by (inr (inl w)) = elim w.3 [
-      | inl all ↦ (text_of w.1 (Rose old.faults t.faults) (may_all (Rose old.faults t.faults) replies (risen w.2)) all.0, all.1)
+    by (inr (inl w)) = elim w.2 [
+      | inl all ↦ (text_of (faulted w.1) (Rose old.faults t.faults) risen all.0, all.1)
       | inr some ↦ absurd (steady some.0)
     ]
     by (inr (inr (inl w))) = cc (sym failed ∙ report_status ∙ w.0)
@@ -226,76 +225,159 @@ module _ (old s t : State) (found : ℕ → ℕ) (A : Attached old s s.frame.byt
 
   written_sunk : r.status ≡ statuses.SinkFault → WritesFront (IsTelling t) (cells_of found) trace (told_in r) ⊥ before now
   written_sunk sunk = by W where
-    by : HasWritten e before now flushed faults faults' status → WritesFront (IsTelling t) (cells_of found) trace (told_in r) ⊥ before now
+    by : HasWritten x before now flushed faults faults' status → WritesFront (IsTelling t) (cells_of found) trace (told_in r) ⊥ before now
     by (inl w) = cc (sym sunk ∙ report_status ∙ w.0)
     by (inr (inl w)) = cc (sym sunk ∙ report_status ∙ w.0)
-    by (inr (inr (inl w))) = front_of w.1 ⊥ (never w.1 w.2) w.4
+    by (inr (inr (inl w))) = front_of (completed w.1) ⊥ (never w.1) w.3
     by (inr (inr (inr w))) = cc (sym sunk ∙ report_status ∙ w.0)
 
-  whole_ends : is_whole r.status ≡ true → (e.complete ≡ true) × (e.stopped ≡ false)
+  whole_ends : is_whole r.status ≡ true → x.end ≡ ends.Complete
   whole_ends whole = by W where
-    by : HasWritten e before now flushed faults faults' status → (e.complete ≡ true) × (e.stopped ≡ false)
-    by (inl w) = (w.1, w.2)
+    by : HasWritten x before now flushed faults faults' status → x.end ≡ ends.Complete
+    by (inl w) = w.1
     by (inr (inl w)) = both (is_whole r.status) whole (ap is_whole (report_status ∙ w.0))
-    by (inr (inr (inl w))) = (w.1, w.2)
+    by (inr (inr (inl w))) = w.1
     by (inr (inr (inr w))) = both (is_whole r.status) whole (ap is_whole (report_status ∙ w.0))
 
   crash_then : RecoversThroughout t (cells_of found) trace (told_in r)
   crash_then n told image may =
-      let stamp = A.stamp in
-      let telling : IsTelling s = P.run.was n told (omega (arith, stamp)) in
-      let images = (H telling).images in
-      let here : MayLeave s.frame (t.cells n) image = subst (λ f. MayLeave f (t.cells n) image) P.run.frame may in
-      as_found (λ start trace x. Recovers t.frame.bytes start trace x (λ k. finished_by k trace x.finishes n) image) telling
-      (subst (λ (f : Frame). Recovers f.bytes (cells_of (lasts s)) P.trace (told_by e.answers) (λ k. finished_by k P.trace (told_by e.answers).finishes n) image) (sym P.run.frame) (images.each n told (omega (arith, stamp)) image here))
+      let stamp = attached.stamp in
+      let telling : IsTelling s = K.stands.run.was n told (omega (arith, stamp)) in
+      let here : MayLeave s.frame (t.cells n) image = subst (λ fr. MayLeave fr (t.cells n) image) K.stands.run.frame may in
+      let shown = K.promised.crash K.more n told (omega (arith, stamp)) image here in
+      subst (λ z. Recovers t.frame.bytes (cells_of found) trace z (λ k. finished_by k trace z.finishes n) image) (sym told_is)
+      (subst (λ q. Recovers t.frame.bytes (cells_of found) q (told_of f) (λ k. finished_by k q (told_of f).finishes n) image) (sym trace_is)
+      (subst (λ c. Recovers t.frame.bytes c (f.given ++ K.more) (told_of f) (λ k. finished_by k (f.given ++ K.more) (told_of f).finishes n) image) (sym (start_is telling))
+      (subst (λ (fr : Frame). Recovers fr.bytes (start_of o) (f.given ++ K.more) (told_of f) (λ k. finished_by k (f.given ++ K.more) (told_of f).finishes n) image) (sym K.stands.run.frame) shown)))
 
-  judged_all : e.complete ≡ true → e.stopped ≡ false → IsTelling t → r.refusals.items ≡ refusals_from (layout_of found) 0 (stock_found found) trace
-  judged_all done going telling = refused_is (telling_then telling) P.trace ((H (telling_then telling)).refused_all done going) ∙ ap (λ xs. refusals_from (layout_of found) 0 (stock_found found) xs) trace_is
+  recovers_all : is_whole r.status ≡ true → RecoversAll t (cells_of found) trace (told_in r)
+  recovers_all whole telling image may k small =
+      let e = whole_ends whole in
+      let here : MayLeave s.frame (cell_now t) image = subst (λ fr. MayLeave fr (cell_now t) image) K.stands.run.frame may in
+      let start : start_of o ≡ cells_of found = sym (start_is (telling_then telling)) in
+      let qs : f.given ≡ trace = sym (given_all (completed e)) ∙ sym trace_is in
+      let told : told_of f ≡ told_in r = sym told_is in
+      K.promised.last (K.done (completed e)).answered (K.whole e) telling image here k ∙ (λ i. cell_after_all (changes_in (start i) (qs i) (told i) k) (start i k))
 
-  layout_kept : IsTelling t → IsLayout (layout_of found)
-  layout_kept telling = (superblock_facts s.frame.bytes found (rule_found (telling_then telling))).1
+  ran_to : r.complete ≡ true → RanTo old t found cores input before now (IsAllOut r.status faults faults') r
+  ran_to complete =
+      let not_cut = ended (sym report_complete ∙ complete) in
+      record {
+        from = K.from;
+        o = o;
+        origin = K.origin;
+        region = K.at_origin;
+        words = subst (λ (z : State). IsTelling z → (w : ℕ) → w < z.frame.bytes / 8 → o.found w ≡ found w) K.at_origin words_found;
+        count = K.count;
+        lines = K.lines;
+        good = K.good;
+        f = f;
+        ran = K.ran not_cut;
+        ends = refl;
+        answered = (K.done not_cut).answered;
+        drained = (K.done not_cut).drained;
+        told_is = told_is;
+        begins = λ telling. shown_front not_cut telling (front_by W);
+        writes = λ out telling. shown_all not_cut telling (all_by W out);
+        licensed = K.stands.licensed;
+      }
+    where
+      front_by : HasWritten x before now flushed faults faults' status → Prefix
+      front_by (inl w) = takes_front before now (replies_text x.replies.items) w.2
+      front_by (inr (inl w)) = elim w.2 [
+        | inl all ↦ takes_front before now (replies_text x.replies.items) all.0
+        | inr some ↦ some.1
+      ]
+      front_by (inr (inr (inl w))) = w.3
+      front_by (inr (inr (inr w))) = elim w.1 [
+        | inl some ↦ some.1
+        | inr cut ↦ both r.complete complete (report_complete ∙ cut.0)
+      ]
 
-  abbrev front : IsTelling t → List Request
-  front telling = (H (telling_then telling)).refused.0
+      out_of : (other : Status) → status ≡ other → other ≢ statuses.Done → other ≢ statuses.RegionFault → IsAllOut r.status faults faults' → ⊥
+      out_of other e done failed (inl is) = done (sym e ∙ sym report_status ∙ is)
+      out_of other e done failed (inr is) = failed (sym e ∙ sym report_status ∙ is.0)
 
-  abbrev rest : IsTelling t → List Request
-  rest telling = (H (telling_then telling)).refused.1
+      all_by : HasWritten x before now flushed faults faults' status → IsAllOut r.status faults faults' → Takes before now (replies_text x.replies.items)
+      all_by (inl w) out = w.2
+      all_by (inr (inl w)) out = elim w.2 [
+        | inl all ↦ all.0
+        | inr some ↦ absurd (no_rise w.0 out some.0)
+      ] where
+        no_rise : status ≡ statuses.RegionFault → IsAllOut r.status faults faults' → Rose faults faults' → ⊥
+        no_rise e (inl is) rose = cc (sym e ∙ sym report_status ∙ is)
+        no_rise e (inr is) rose = is.1 rose
+      all_by (inr (inr (inl w))) out = absurd (out_of statuses.SinkFault w.0 (λ q. cc q) (λ q. cc q) out)
+      all_by (inr (inr (inr w))) out = absurd (out_of statuses.Memory w.0 (λ q. cc q) (λ q. cc q) out)
 
-  front_of_trace : (telling : IsTelling t) → trace ≡ front telling ++ rest telling
-  front_of_trace telling = sym trace_is ∙ (H (telling_then telling)).refused.2
-
-  front_refused : (telling : IsTelling t) → r.refusals.items ≡ refusals_from (layout_of found) 0 (stock_found found) (front telling)
-  front_refused telling = refused_is (telling_then telling) (front telling) (H (telling_then telling)).refused.3
-
-  good_input : is_stop (input_or_stop built_now 1 P.read.input) ≡ false
-  good_input = ap is_stop P.read.good
-
-  order : KeepsOrder old t found coming left P.read.input r
+  order : KeepsOrder old t found coming left cores input r
   order = record {
     untouched = λ no. both r.began report_began no;
     source = λ is. absurd (no_status is_quiet refl refl refl refl (ap is_quiet is));
     line = λ is. absurd (no_status is_of_line refl refl refl refl is);
-    began = λ yes. (served, P.read.whole, good_input);
+    began = λ yes. (served, read_out, ap is_broken K.good);
     unbegun = λ quiet. absurd (no_status is_quiet refl refl refl refl quiet);
     run = λ is. report_began;
     written = λ complete. report_began;
-    whole = λ whole. report_complete ∙ (whole_ends whole).0;
+    whole = λ whole. report_complete ∙ ap is_ended (whole_ends whole);
   }
 
   -- the status that is due
-  due_of : (source source' : ℕ) → IsTelling t → IsDue t.frame.bytes found P.read.input r.status ⊎ IsFault old t source source' faults faults' r.status
+  due_of : (source source' : ℕ) → IsTelling t → IsDue t.frame.bytes found input r.status ⊎ IsFault old t source source' faults faults' r.status
   due_of source source' telling = by W where
-    by : HasWritten e before now flushed faults faults' status → IsDue t.frame.bytes found P.read.input r.status ⊎ IsFault old t source source' faults faults' r.status
+    by : HasWritten x before now flushed faults faults' status → IsDue t.frame.bytes found input r.status ⊎ IsFault old t source source' faults faults' r.status
     by (inl w) =
-        let sound : first_fault t.frame.bytes found ≡ None = (served telling).0 in
-        let core = eq-eqb (found 2) 1 (one_found (telling_then telling)) in
-        inl (report_status ∙ w.0 ∙ sym (ap (due found P.read.input) sound ∙ ap (λ b. cond b (status_of (input_or_stop built_now 1 P.read.input)) (statuses.NotBuilt 0)) core ∙ ap status_of P.read.good))
-    by (inr (inl w)) = inr (inr (inr (inr (report_status ∙ w.0, risen w.2))))
-    by (inr (inr (inl w))) = inr (inr (inr (inl (report_status ∙ w.0, w.3))))
+        let sound : first_fault t.frame.bytes found ≡ None = served telling in
+        inl (report_status ∙ w.0 ∙ sym (ap (due found input) sound ∙ ap (λ c. status_of (input_of c input)) (sym (cores_found (telling_then telling))) ∙ ap status_of K.good))
+    by (inr (inl w)) = inr (inr (inr (inr (report_status ∙ w.0, risen (K.fault w.1)))))
+    by (inr (inr (inl w))) = inr (inr (inr (inl (report_status ∙ w.0, w.2))))
     by (inr (inr (inr w))) = inr (inl (report_status ∙ w.0))
 
-  pub played_replays : (source source' : ℕ) → Replays old t found coming left source source' P.read.input before now flushed faults faults' r
+  -- The causes of refusals, by the words found.
+  module _ (telling : IsTelling t) where
+    abbrev l : Geometry
+    l = layout_of found
+
+    rule_found : superblock_rule bytes found ≡ None
+    rule_found = has_layout bytes found (sound_found (telling_then telling))
+
+    some_cores : 1 ≤ l.cores
+    some_cores = (agreeing.is bytes found found (λ w lt. refl) rule_found).cores
+
+    causes_found : HasCauses found trace f.answer
+    causes_found =
+        let C = subst (λ q. HasCauses o.found q f.answer) (sym trace_is) K.causes in
+        let same = words_found (telling_then telling) in
+        let layout = layout_is (telling_then telling) in
+        record {
+          full = λ n k a is why asked ample. C.full n k a is why asked
+              (subst (λ c. IsAmpleFor (layout_of o.found) o.found trace c) (ap (λ m. owner m k) layout) (agreeing.ample_agrees bytes o.found found same rule_found trace (owner l k) (below k) ample));
+          spent = λ n a is why k asked. let more = C.spent n a is why k asked in let version = agreeing.version_agrees bytes o.found found same rule_found k in omega (arith, more, version);
+          kinds = C.kinds;
+          long = λ n a is why q asked. ap (λ m. is_too_long m q) layout ∙ C.long n a is why q asked;
+        }
+      where
+        below : (k : ℕ) → k % l.cores < l.cores
+        below k = let c = some_cores in omega (arith, c)
+
+    abbrev told_refused : map (λ (y : Refusal). (y.request, reply_to y.why)) r.refusals.items ≡ (told_of f).refusals
+    told_refused = ap (λ (z : Told). z.refusals) told_is
+
+    within : length f.given ≤ length trace
+    within = let sum = length-append f.given K.more in let all = ap length trace_is in omega (arith, sum, all)
+
+    pub full_then : AllByRecursion (λ (y : Refusal). reply_to y.why ≡ Full → (k : ℕ) → IsAsked trace y.request k → IsAmpleFor l found trace (owner l k) → ⊥) r.refusals.items
+    full_then = full_of found trace f.answer causes_found (length f.given) within r.refusals.items told_refused some_cores
+
+    pub spent_then : AllByRecursion (λ (y : Refusal). (last : ℕ) → y.why ≡ Versions last → (k : ℕ) → IsAsked trace y.request k → 1048574 ≤ version_of found k + changes_asked k (take y.request trace)) r.refusals.items
+    spent_then = spent_of found trace f.answer causes_found (length f.given) within r.refusals.items told_refused some_cores
+
+    pub unrefused_then : IsWithinLimits found trace → r.refusals.items ≡ []
+    unrefused_then = unrefused_of found trace f.answer causes_found (length f.given) within r.refusals.items told_refused some_cores
+
+  pub played_replays : (source source' : ℕ) → Replays old t found coming left source source' cores input before now flushed faults faults' r
   played_replays source source' = record {
+    cores_are = λ n told. let stamp = attached.stamp in cores_found (K.stands.run.was n told (omega (arith, stamp)));
     order = order;
     due = due_of source source';
     done = written;
@@ -303,18 +385,76 @@ module _ (old s t : State) (found : ℕ → ℕ) (A : Attached old s s.frame.byt
     sunk = written_sunk;
     begins = begun W;
     crash = λ sound. crash_then;
-    last = λ whole telling image may k small.
-        let c = whole_ends whole in
-        as_found (λ start trace x. cells_of image k ≡ cell_after_all (changes_in start trace x k) (start k)) (telling_then telling) ((H (telling_then telling)).all c.0 c.1 telling image may k);
-    refused = λ telling. (front telling, rest telling, front_of_trace telling, front_refused telling);
-    refused_all = λ whole telling. let c = whole_ends whole in judged_all c.0 c.1 telling;
-    ended = λ complete telling. by_end complete telling e.stopped refl;
-    full = λ telling. subst (λ xs. AllByRecursion (λ (x : Refusal). is_full x.why ≡ true → (k : ℕ) → IsAsked trace x.request k → IsAmpleFor (layout_of found) found trace (owner (layout_of found) k) → ⊥) xs)
-        (sym (front_refused telling)) (full_of found (layout_kept telling) (one_found (telling_then telling)) trace (front telling) (rest telling) (front_of_trace telling));
-    spent = λ telling. subst (λ xs. AllByRecursion (λ (x : Refusal). (last : ℕ) → x.why ≡ Versions last → (k : ℕ) → IsAsked trace x.request k → 1048574 ≤ version_of found k + changes_asked k (take x.request trace)) xs)
-        (sym (front_refused telling)) (spent_of found (layout_kept telling) (one_found (telling_then telling)) trace (front telling) (rest telling) (front_of_trace telling));
-    unrefused = λ telling within. front_refused telling ∙ unrefused_of found (layout_kept telling) (one_found (telling_then telling)) trace (front telling) (rest telling) (front_of_trace telling) within;
-  } where
-    by_end : r.complete ≡ true → IsTelling t → (b : Bool) → e.stopped ≡ b → (r.refusals.items ≡ refusals_from (layout_of found) 0 (stock_found found) trace) ⊎ Rose old.faults t.faults
-    by_end complete telling true stopped = inr (risen stopped)
-    by_end complete telling false going = inl (judged_all (sym report_complete ∙ complete) going telling)
+    last = recovers_all;
+    run = ran_to;
+    rising = subst (λ (z : Told). AreRising (finished_in z) × AreRising (refused_in z)) (sym told_is) (rising is_finish (λ a. a.stamp) f.answer 0 (length f.given), rising is_told (λ a. a.reply) f.answer 0 (length f.given));
+    full = full_then;
+    spent = spent_then;
+    unrefused = unrefused_then;
+  }
+
+none_behind : {X : Type 0} (xs ys : List X) → xs ≡ xs ++ ys → ys ≡ []
+none_behind xs [] e = refl
+none_behind xs (y ∷ ys) e = absurd (let n = ap length e in let sum = length-append xs (y ∷ ys) in omega (arith, n, sum))
+
+-- The promise, with the input and the number of cores.
+module _ (old s t : State) (found word : ℕ → ℕ) (A : Attached old s s.frame.bytes found) (once : IsOpenedOnceMore old s) (granted : s.frame.refusals ≡ old.frame.refusals) (low : old.faults ≤ s.faults) (coming left : Option (List ℕ)) (x : Outcome)
+    (P : Played s word t coming left x) where
+  abbrev o : Origin
+  o = P.ran.origin
+
+  abbrev f : Engine
+  f = P.ran.last
+
+  began : o.region ≡ s
+  began = P.ran.begins.region
+
+  given_whole : x.end ≢ ends.Memory → P.ran.given.0 ≡ []
+  given_whole not_cut = none_behind f.given P.ran.given.0 (ran_given AnyTurn (λ e g c b m. m.0) (layout_of o.found).cores P.lines (opening o) f (P.ran.ran not_cut) ∙ P.ran.given.1)
+
+  causes : HasCauses o.found (f.given ++ P.ran.given.0) f.answer
+  causes =
+      let more = P.ran.given.0 in
+      let C = P.ran.promised.causes in
+      record {
+        full = λ n k a is why asked. C.full more n k a is why asked;
+        spent = λ n a is why k asked. C.spent more n k a is why asked;
+        kinds = (P.ran.promised.replies more).each;
+        long = λ n a is why q asked. C.long more n q a is why asked;
+      }
+
+  pub known : Known old found coming left P.cores P.read.input o f x
+  known =
+      let on : Runs s f.region = subst (λ z. Runs z f.region) began P.ran.stands.run in
+      record {
+        origin = P.ran.begins.is;
+        from = record { at = s; attached = subst (λ (fr : Frame). Attached old s fr.bytes found) (sym on.frame) A; once = once; granted = granted; on = on };
+        at_origin = began;
+        low = let same = ap (λ (z : State). z.faults) began in omega (arith, low, same);
+        words = subst (λ z. IsTelling z → (w : ℕ) → w < z.frame.bytes / 8 → o.found w ≡ lasts z w) (sym began) P.ran.begins.tells;
+        count = P.count;
+        lines = P.lines;
+        good = P.read.good;
+        stands = P.ran.stands;
+        promised = P.ran.promised;
+        more = P.ran.given.0;
+        given = P.ran.given.1;
+        all_given = given_whole;
+        reports = subst (λ z. ReportsOn z o f (report_in x)) (sym P.ran.region) P.ran.reports;
+        ran = λ not_cut. subst (λ n. Ran AnyTurn n P.lines (opening o) f) P.count (P.ran.ran not_cut);
+        done = P.ran.done;
+        fault = P.ran.fault;
+        whole = P.ran.complete;
+        causes = causes;
+      }
+
+  pub promise : (before now : Option (List ℕ)) (flushed : Bool) (faults faults' : ℕ) (r : Report) → HasWritten x before now flushed faults faults' r.status
+      → r.finishes.items ≡ x.finishes.items → r.refusals.items ≡ x.refusals.items → r.began ≡ true → r.complete ≡ is_ended x.end → (source source' : ℕ)
+      → (input : List ℕ) × (cores : ℕ) × IsInput coming input × Replays old t found coming left source source' cores input before now flushed faults faults' r
+  promise before now flushed faults faults' r W finishes refusals began complete source source' = (
+    P.read.input,
+    P.cores,
+    P.read.is_input,
+    subst (λ z. Replays old z found coming left source source' P.cores P.read.input before now flushed faults faults' r) P.ran.region
+        (played_replays old found coming left P.cores P.read.input o f x known P.read.whole before now flushed faults faults' r.status W r refl (λ i. told (finishes i) (refusals i)) began complete source source'),
+  )

@@ -1,13 +1,16 @@
 -- How often a call opens its region, and what it leaves of one that it doesn't open.
 use Rattle.std.specs.Prelude.{◌≡◌, ◌⊎◌, ℕ, true, false}
-use Rattle.pm_region.specs.State.{State, Rose}
+use Rattle.pm_region.specs.State.{State, Over, Rose}
 use Rattle.pm_region.specs.Split.{Attached, Stays, IsOpenedOnceMore, IsNotOpened}
 use Rattle.chunk_map.specs.declared.layouts.Geometry.{Geometry}
 use Rattle.chunk_map.specs.Layouts.{total_bytes}
-use Rattle.serial_engine.specs.Going.{Runs}
 use Rattle.flatstore.specs.declared.report.Status.{Status}
 use Rattle.flatstore.specs.declared.report.Status.TheVariants as statuses
 use Rattle.flatstore.specs.declared.report.Report.{Report}
+
+-- calls of the region went from the one state to the other
+abbrev pub Runs : State → State → Type 0
+Runs old new = Over old new (λ t cells. Unit {0})
 
 -- It was opened once, with these words, and all that was done to it was done from that moment on.
 pub record GoesOnFrom (old new : State) (bytes : ℕ) (image : ℕ → ℕ) : Type 0 where

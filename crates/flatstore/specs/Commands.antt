@@ -38,11 +38,13 @@ format_command =
 abbrev pub bare_program : App
 bare_program = on_top (λ s. record s { subcommand_required = true }) (new_app (codes "flatstore"))
 
+-- with what makes a region and what changes one
+abbrev pub writing_program : App
+writing_program = with_subcommand (with_subcommand bare_program format_command.top) (region_command (codes "replay")).top
+
 -- the command of the program
 abbrev pub program : App
-program =
-    with_subcommand (with_subcommand (with_subcommand bare_program format_command.top)
-    (region_command (codes "replay")).top) (region_command (codes "dump")).top
+program = with_subcommand (with_subcommand writing_program (region_command (codes "dump")).top) (region_command (codes "log")).top
 
 -- no kind of error comes
 abbrev pub is_good : Kinds → Bool
@@ -58,6 +60,7 @@ pub data Form : Type 0 where
   Format : Text → Geometry → Form
   Replay : Text → Form
   Dump : Text → Form
+  Log : Text → Form
 
 -- the number that the reader makes of a text
 abbrev pub number_of : Text → Option ℕ
@@ -77,7 +80,8 @@ abbrev pub form_named : Text → List Row → Text → Option Form
 form_named name rows path =
     if bytes_eq name (codes "format") then option_map (λ l. Format path l) (layout_in rows)
     else (if bytes_eq name (codes "replay") then Some (Replay path)
-    else (if bytes_eq name (codes "dump") then Some (Dump path) else None))
+    else (if bytes_eq name (codes "dump") then Some (Dump path)
+    else (if bytes_eq name (codes "log") then Some (Log path) else None)))
 
 abbrev pub form_in : Option (Text × List Row) → Option Form
 form_in subcommand = option_and_then (λ s. option_and_then (form_named s.0 s.1) (first_of (codes "region") s.1)) subcommand

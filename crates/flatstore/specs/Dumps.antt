@@ -38,7 +38,6 @@ is_of_writing statuses.RegionFault = false
 is_of_writing (statuses.Damaged part chunk rule) = false
 is_of_writing (statuses.NotARegion rule) = false
 is_of_writing statuses.Memory = false
-is_of_writing (statuses.NotBuilt line) = false
 
 -- Of a region before and after the call, the words that an attach finds, what the sink had taken before and has taken now, whether that was flushed, its counts, and the report.
 pub record Dumps (old new : State) (found : ℕ → ℕ) (before now : Option (List ℕ)) (flushed : Bool) (sink_faults sink_faults' : ℕ) (r : Report) : Type 0 where

@@ -1,6 +1,7 @@
 -- What a call with the words of `format` promises.
 use Rattle.std.specs.Prelude.{◌≡◌, ◌⊎◌, ℕ, ◌/◌, ◌≤◌, ◌<◌, true, Some, None, Ok}
-use Rattle.pm_region.specs.State.{State, IsTold, IsTelling, cell_now, Rose}
+use Rattle.pm_region.specs.Cell.{Cell}
+use Rattle.pm_region.specs.State.{State, Frame, IsTold, IsTelling, MayLeave, cell_now, Rose}
 use Rattle.chunk_map.specs.declared.layouts.Geometry.{Geometry}
 use Rattle.chunk_map.specs.declared.heads.Head.TheVariants.{Free}
 use Rattle.chunk_map.specs.Layouts.{chunk_first, head_at, total_bytes}
@@ -8,7 +9,6 @@ use Rattle.chunk_map.specs.Superblock.{IsSuperblock}
 use Rattle.store_image.specs.declared.types.Fault.TheVariants.{NotARegion}
 use Rattle.store_image.specs.Soundness.{IsSound, first_fault}
 use Rattle.headline.specs.Headline.{cells_of}
-use Rattle.core_store.specs.Moments.{EachImage}
 use Rattle.flatstore.specs.Attaching.{Creates}
 use Rattle.flatstore.specs.declared.report.Status.TheVariants as statuses
 use Rattle.flatstore.specs.declared.report.Report.{Report}
@@ -24,6 +24,10 @@ pub record IsEmptyStore (l : Geometry) (image : ℕ → ℕ) : Type 0 where
 -- an image of so many bytes is refused by rule 2, or is the empty region
 abbrev pub IsRefusedOrEmpty : Geometry → (ℕ → ℕ) → Type 0
 IsRefusedOrEmpty l image = (first_fault (total_bytes l) image ≡ Some (NotARegion 2)) ⊎ IsEmptyStore l image
+
+-- each image that a crash may leave of these cells has P
+abbrev pub EachImage : Frame → ((ℕ → ℕ) → Type 0) → (ℕ → Cell) → Type 0
+EachImage f P cells = (image : ℕ → ℕ) → MayLeave f cells image → P image
 
 -- of a region before and after the call, the layout that was asked for, and the report
 pub record Formats (old new : State) (l : Geometry) (r : Report) : Type 0 where

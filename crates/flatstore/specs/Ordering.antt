@@ -1,12 +1,9 @@
 -- The order of a replay's work: attaching, the region's rules, reading the source to its end, the input's rules, the run, the writing.
-use Rattle.std.specs.Prelude.{◌≡◌, ◌⊎◌, ℕ, List, ◌==◌, not, Bool, true, false, Option, Some, None, Result, Ok, Err, if◌then◌else◌}
+use Rattle.std.specs.Prelude.{◌≡◌, ◌⊎◌, ℕ, List, Bool, true, false, Option, Some, None, Result, Ok, Err}
 use Rattle.pm_region.specs.State.{State, IsTelling, Rose}
 use Rattle.pm_region.specs.Split.{Attached}
 use Rattle.fs_text.specs.declared.line.Line.{Line}
-use Rattle.fs_text.specs.declared.stages.Built.{Built}
-use Rattle.fs_text.specs.declared.stages.Stop.{Stop}
-use Rattle.fs_text.specs.declared.stages.Stop.TheVariants as stops
-use Rattle.fs_text.specs.Stages.{input_or_stop}
+use Rattle.fs_text.specs.Input.{input_of}
 use Rattle.fs_text.specs.Streams.{IsReadOut}
 use Rattle.store_image.specs.declared.types.Fault.{Fault}
 use Rattle.store_image.specs.Soundness.{IsSound, first_fault}
@@ -15,19 +12,14 @@ use Rattle.flatstore.specs.declared.report.Status.{Status}
 use Rattle.flatstore.specs.declared.report.Status.TheVariants as statuses
 use Rattle.flatstore.specs.declared.report.Report.{Report}
 
--- what is built: all but `go` lines
-abbrev pub built_now : Built
-built_now = record { delete = true; go = false; blocks = true }
-
-abbrev pub status_of : Result (List Line) Stop → Status
+abbrev pub status_of : Result (List Line) (ℕ × ℕ) → Status
 status_of (Ok lines) = statuses.Done
-status_of (Err (stops.Bad line rule)) = statuses.BadInput line rule
-status_of (Err (stops.NotBuilt line)) = statuses.NotBuilt line
+status_of (Err (line, rule)) = statuses.BadInput line rule
 
--- the status that the words found and the input alone decide: several cores are not served yet
+-- the status that the words found and the input alone decide; word 2 is the number of cores
 abbrev pub due : (ℕ → ℕ) → List ℕ → Option Fault → Status
 due found input (Some fault) = fault_status fault
-due found input None = if found 2 == 1 then status_of (input_or_stop built_now 1 input) else statuses.NotBuilt 0
+due found input None = status_of (input_of (found 2) input)
 
 abbrev pub IsDue : ℕ → (ℕ → ℕ) → List ℕ → Status → Type 0
 IsDue bytes found input status = status ≡ due found input (first_fault bytes found)
@@ -48,14 +40,13 @@ is_quiet statuses.RegionFault = false
 is_quiet (statuses.Damaged part chunk rule) = true
 is_quiet (statuses.NotARegion rule) = true
 is_quiet statuses.Memory = false
-is_quiet (statuses.NotBuilt line) = true
 
--- a line stops the reading
-abbrev pub is_stop : Result (List Line) Stop → Bool
-is_stop (Ok lines) = false
-is_stop (Err stop) = true
+-- a line breaks a rule
+abbrev pub is_broken : Result (List Line) (ℕ × ℕ) → Bool
+is_broken (Ok lines) = false
+is_broken (Err at) = true
 
--- a status that a broken rule of the region decides, or its cores: nothing is read then
+-- a status that a broken rule of the region decides: nothing is read then
 abbrev pub is_of_region : Status → Bool
 is_of_region statuses.Done = false
 is_of_region statuses.Usage = false
@@ -66,7 +57,6 @@ is_of_region statuses.RegionFault = false
 is_of_region (statuses.Damaged part chunk rule) = true
 is_of_region (statuses.NotARegion rule) = true
 is_of_region statuses.Memory = false
-is_of_region (statuses.NotBuilt line) = line == 0
 
 -- a status that a line of the input decides
 abbrev pub is_of_line : Status → Bool
@@ -79,7 +69,6 @@ is_of_line statuses.RegionFault = false
 is_of_line (statuses.Damaged part chunk rule) = false
 is_of_line (statuses.NotARegion rule) = false
 is_of_line statuses.Memory = false
-is_of_line (statuses.NotBuilt line) = not (line == 0)
 
 -- a status of a run that came to its end, without a failed call of the region
 abbrev pub is_whole : Status → Bool
@@ -92,7 +81,6 @@ is_whole statuses.RegionFault = false
 is_whole (statuses.Damaged part chunk rule) = false
 is_whole (statuses.NotARegion rule) = false
 is_whole statuses.Memory = false
-is_whole (statuses.NotBuilt line) = false
 
 -- a status of the run or of the writing, where it didn't lack memory
 abbrev pub is_of_run : Status → Bool
@@ -105,21 +93,20 @@ is_of_run statuses.RegionFault = true
 is_of_run (statuses.Damaged part chunk rule) = false
 is_of_run (statuses.NotARegion rule) = false
 is_of_run statuses.Memory = false
-is_of_run (statuses.NotBuilt line) = false
 
--- the region keeps its rules, where it tells, and has one core
+-- the region keeps its rules, where it tells
 abbrev pub IsServed : State → (ℕ → ℕ) → Type 0
-IsServed s found = IsTelling s → IsSound s.frame.bytes found × (found 2 ≡ 1)
+IsServed s found = IsTelling s → IsSound s.frame.bytes found
 
--- What an end says of the work before it. Before the run begins no word of the region changes.
-pub record KeepsOrder (old new : State) (found : ℕ → ℕ) (coming left : Option (List ℕ)) (input : List ℕ) (r : Report) : Type 0 where
+-- What an end says of the work before it, by the number of cores. Before the run begins no word of the region changes.
+pub record KeepsOrder (old new : State) (found : ℕ → ℕ) (coming left : Option (List ℕ)) (cores : ℕ) (input : List ℕ) (r : Report) : Type 0 where
   pub untouched : r.began ≡ false → Attached old new new.frame.bytes found
   -- The rules of the region go before the source,
   pub source : r.status ≡ statuses.SourceFault → IsServed new found
   -- and both before the rules of the input, which are those of all of it.
-  pub line : is_of_line r.status ≡ true → IsServed new found × IsReadOut coming left × (r.status ≡ status_of (input_or_stop built_now 1 input))
+  pub line : is_of_line r.status ≡ true → IsServed new found × IsReadOut coming left × (r.status ≡ status_of (input_of cores input))
   -- All of these go before the run,
-  pub began : r.began ≡ true → IsServed new found × IsReadOut coming left × (is_stop (input_or_stop built_now 1 input) ≡ false)
+  pub began : r.began ≡ true → IsServed new found × IsReadOut coming left × (is_broken (input_of cores input) ≡ false)
   pub unbegun : is_quiet r.status ≡ true → r.began ≡ false
   -- and the whole run before the writing.
   pub run : is_of_run r.status ≡ true → r.began ≡ true

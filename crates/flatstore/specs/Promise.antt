@@ -2,19 +2,20 @@
 use Rattle.std.specs.Prelude.{◌≡◌, ◌⊎◌, ℕ, ◌+◌, ◌≤◌, List, [], ◌++◌, take, Bool, true, Option, Some, None}
 use Rattle.std.specs.List.{AllByRecursion}
 use Rattle.fs_model.specs.declared.model.Request.{Request}
-use Rattle.pm_region.specs.State.{State, IsTelling, Rose}
+use Rattle.fs_model.specs.declared.model.Reply.TheVariants.{Full}
+use Rattle.pm_region.specs.State.{State, IsTold, IsTelling, Rose}
 use Rattle.fs_text.specs.Input.{trace_of}
 use Rattle.fs_text.specs.Streams.{Takes}
-use Rattle.headline.specs.Headline.{Told, cells_of, WritesReplies, BeginsReplies, RecoversThroughout, RecoversAll}
+use Rattle.headline.specs.Headline.{Told, cells_of, finished_in, refused_in, WritesReplies, BeginsReplies, RecoversThroughout, RecoversAll}
 use Rattle.headline.specs.Ample.{IsAmpleFor}
 use Rattle.headline.specs.Limits.{IsAsked, version_of, changes_asked, IsWithinLimits}
 use Rattle.chunk_map.specs.Layouts.{layout_of, owner}
 use Rattle.store_image.specs.Soundness.{IsSound}
-use Rattle.serial_engine.specs.Answers.{told}
-use Rattle.serial_engine.specs.Refusals.{refusals_from, is_full}
 use Rattle.core_room.specs.declared.types.Shortage.TheVariants.{Versions}
-use Rattle.flatstore.specs.Found.{stock_found}
+use Rattle.group_engine.specs.Answers.{reply_to}
+use Rattle.flatstore.specs.LastStates.{told_in, AreRising, RanTo}
 use Rattle.flatstore.specs.Ordering.{KeepsOrder, IsDue, IsFault, is_whole}
+use Rattle.flatstore.specs.declared.report.Status.{Status}
 use Rattle.flatstore.specs.declared.report.Status.TheVariants as statuses
 use Rattle.flatstore.specs.declared.report.Report.{Report}
 
@@ -23,13 +24,9 @@ abbrev pub IsInput : Option (List ℕ) → List ℕ → Type 0
 IsInput None input = Unit {0}
 IsInput (Some coming) input = coming ≡ input
 
--- what a report says of the requests
-abbrev pub told_in : Report → Told
-told_in r = told r.finishes.items r.refusals.items
-
--- the requests of an input: those to a region of one core, since no other is served
-abbrev pub asked_in : List ℕ → List Request
-asked_in input = trace_of 1 input
+-- the requests of an input to a region of so many cores, none where it breaks a rule
+abbrev pub asked_in : ℕ → List ℕ → List Request
+asked_in cores input = trace_of cores input
 
 -- The sink took the whole text of replies that fit the report, or the beginning of such a text. They are lawful where the cells are known. One is `stopped` only for a cause.
 abbrev pub WritesAll : Type 0 → (ℕ → Option (List ℕ)) → List Request → Told → Type 0 → Option (List ℕ) → Option (List ℕ) → Type 0
@@ -38,33 +35,38 @@ WritesAll Known start trace r MayStop before now = (written : List ℕ) × Takes
 abbrev pub WritesFront : Type 0 → (ℕ → Option (List ℕ)) → List Request → Told → Type 0 → Option (List ℕ) → Option (List ℕ) → Type 0
 WritesFront Known start trace r MayStop before now = (written : List ℕ) × Takes before now written × BeginsReplies Known start trace r MayStop written
 
+-- every reply was written: the end was one of the run, and no write failed
+abbrev pub IsAllOut : Status → ℕ → ℕ → Type 0
+IsAllOut status sink_faults sink_faults' =
+    (status ≡ statuses.Done) ⊎ ((status ≡ statuses.RegionFault) × (Rose sink_faults sink_faults' → ⊥))
+
 -- The headline, of a replay of this input on a region that was attached with these words. Of the source: what it had and has left, and its counts.
--- Of the sink: what it had and has taken, whether that was flushed, and its counts.
-pub record Replays (old new : State) (found : ℕ → ℕ) (coming left : Option (List ℕ)) (source_faults source_faults' : ℕ) (input : List ℕ) (before now : Option (List ℕ)) (flushed : Bool) (sink_faults sink_faults' : ℕ) (r : Report) : Type 0 where
-  pub order : KeepsOrder old new found coming left input r
+-- Of the sink: what it had and has taken, whether that was flushed, and its counts. Of the region: its cores by the words read, which are those found, where it tells.
+pub record Replays (old new : State) (found : ℕ → ℕ) (coming left : Option (List ℕ)) (source_faults source_faults' : ℕ) (cores : ℕ) (input : List ℕ) (before now : Option (List ℕ)) (flushed : Bool) (sink_faults sink_faults' : ℕ) (r : Report) : Type 0 where
+  pub cores_are : (t : ℕ) → IsTold new t → cores ≡ found 2
+  pub order : KeepsOrder old new found coming left cores input r
   -- The words found and the input decide on the status, but for faults that were counted and want of memory.
   pub due : IsTelling new → IsDue new.frame.bytes found input r.status ⊎ IsFault old new source_faults source_faults' sink_faults sink_faults' r.status
   -- At the end the whole text was written and flushed, without a `stopped`; also where a call of the region failed, and no write did.
-  pub done : r.status ≡ statuses.Done → WritesAll (IsTelling new) (cells_of found) (asked_in input) (told_in r) ⊥ before now × (flushed ≡ true)
+  pub done : r.status ≡ statuses.Done → WritesAll (IsTelling new) (cells_of found) (asked_in cores input) (told_in r) ⊥ before now × (flushed ≡ true)
   pub failed : r.status ≡ statuses.RegionFault → (Rose sink_faults sink_faults' → ⊥)
-      → WritesAll (IsTelling new) (cells_of found) (asked_in input) (told_in r) (Rose old.faults new.faults) before now × (flushed ≡ true)
+      → WritesAll (IsTelling new) (cells_of found) (asked_in cores input) (told_in r) (Rose old.faults new.faults) before now × (flushed ≡ true)
   -- Where a write failed and no call of the region did, the beginning of such a text, without a `stopped`.
-  pub sunk : r.status ≡ statuses.SinkFault → WritesFront (IsTelling new) (cells_of found) (asked_in input) (told_in r) ⊥ before now
+  pub sunk : r.status ≡ statuses.SinkFault → WritesFront (IsTelling new) (cells_of found) (asked_in cores input) (told_in r) ⊥ before now
   -- Always the beginning of such a text, where a request is `stopped` only if a call of the region failed, or the run did not come to its end.
-  pub begins : WritesFront (IsTelling new) (cells_of found) (asked_in input) (told_in r) (r.complete ≡ true → Rose old.faults new.faults) before now
+  pub begins : WritesFront (IsTelling new) (cells_of found) (asked_in cores input) (told_in r) (r.complete ≡ true → Rose old.faults new.faults) before now
   -- Whatever a crash leaves at any told moment since the attach is sound, and recovers for each key its finished changes, or one more.
-  pub crash : IsSound new.frame.bytes found → RecoversThroughout new (cells_of found) (asked_in input) (told_in r)
+  pub crash : IsSound new.frame.bytes found → RecoversThroughout new (cells_of found) (asked_in cores input) (told_in r)
   -- At the end it recovers all, also where a write failed.
-  pub last : is_whole r.status ≡ true → RecoversAll new (cells_of found) (asked_in input) (told_in r)
-  -- The requests alone say which were refused, with which counts: all of them at the end, and else those before the first that was not answered.
-  pub refused : IsTelling new → (front : List Request) × (rest : List Request) × (asked_in input ≡ front ++ rest) × (r.refusals.items ≡ refusals_from (layout_of found) 0 (stock_found found) front)
-  -- A report that says so did come to the end: then those are all refusals, unless a call of the region failed.
-  pub ended : r.complete ≡ true → IsTelling new → (r.refusals.items ≡ refusals_from (layout_of found) 0 (stock_found found) (asked_in input)) ⊎ Rose old.faults new.faults
-  pub refused_all : is_whole r.status ≡ true → IsTelling new → r.refusals.items ≡ refusals_from (layout_of found) 0 (stock_found found) (asked_in input)
+  pub last : is_whole r.status ≡ true → RecoversAll new (cells_of found) (asked_in cores input) (told_in r)
+  -- A report that says so did come to the end: then its answers and finishes are those of the last state of a run of the engine over the input's lines.
+  pub run : r.complete ≡ true → RanTo old new found cores input before now (IsAllOut r.status sink_faults sink_faults') r
+  -- Finishes and refusals stand in the order of the requests.
+  pub rising : AreRising (finished_in (told_in r)) × AreRising (refused_in (told_in r))
   -- A change is refused for want of room only where the input is not ample for the part of its key's owner,
   -- a put for its version only where its key has so many versions, or the requests before it may use them up, and nothing is refused within all limits.
-  pub full : IsTelling new → AllByRecursion (λ x. is_full x.why ≡ true → (k : ℕ) → IsAsked (asked_in input) x.request k
-      → IsAmpleFor (layout_of found) found (asked_in input) (owner (layout_of found) k) → ⊥) r.refusals.items
-  pub spent : IsTelling new → AllByRecursion (λ x. (last : ℕ) → x.why ≡ Versions last → (k : ℕ) → IsAsked (asked_in input) x.request k
-      → 1048574 ≤ version_of found k + changes_asked k (take x.request (asked_in input))) r.refusals.items
-  pub unrefused : IsTelling new → IsWithinLimits found (asked_in input) → r.refusals.items ≡ []
+  pub full : IsTelling new → AllByRecursion (λ x. reply_to x.why ≡ Full → (k : ℕ) → IsAsked (asked_in cores input) x.request k
+      → IsAmpleFor (layout_of found) found (asked_in cores input) (owner (layout_of found) k) → ⊥) r.refusals.items
+  pub spent : IsTelling new → AllByRecursion (λ x. (last : ℕ) → x.why ≡ Versions last → (k : ℕ) → IsAsked (asked_in cores input) x.request k
+      → 1048574 ≤ version_of found k + changes_asked k (take x.request (asked_in cores input))) r.refusals.items
+  pub unrefused : IsTelling new → IsWithinLimits found (asked_in cores input) → r.refusals.items ≡ []

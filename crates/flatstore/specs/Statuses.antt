@@ -3,7 +3,7 @@ use Rattle.std.specs.Prelude.{ℕ, List, [], ◌++◌, codes, decimal}
 use Rattle.store_image.specs.declared.types.Fault.{Fault}
 use Rattle.store_image.specs.declared.types.Fault.TheVariants as faults
 use Rattle.flatstore.specs.declared.report.Status.{Status}
-use Rattle.flatstore.specs.declared.report.Status.TheVariants.{Done, Usage, BadInput, SourceFault, SinkFault, RegionFault, Damaged, NotARegion, Memory, NotBuilt}
+use Rattle.flatstore.specs.declared.report.Status.TheVariants.{Done, Usage, BadInput, SourceFault, SinkFault, RegionFault, Damaged, NotARegion, Memory}
 
 -- a region that breaks a rule
 abbrev pub fault_status : Fault → Status
@@ -20,7 +20,6 @@ exit_code RegionFault = 5
 exit_code (Damaged part chunk rule) = 6
 exit_code (NotARegion rule) = 7
 exit_code Memory = 8
-exit_code (NotBuilt line) = 20
 
 abbrev pub damage_line : ℕ → ℕ → ℕ → List ℕ
 damage_line part chunk rule = codes "flatstore: damaged region: part " ++ (decimal part ++ (codes " chunk " ++ (decimal chunk ++ (codes " rule " ++ decimal rule))))
@@ -35,4 +34,3 @@ fault_line RegionFault = codes "flatstore: the region failed"
 fault_line (Damaged part chunk rule) = damage_line part chunk rule
 fault_line (NotARegion rule) = codes "flatstore: not a region: rule " ++ decimal rule
 fault_line Memory = codes "flatstore: out of memory"
-fault_line (NotBuilt line) = codes "flatstore: not built yet: line " ++ decimal line

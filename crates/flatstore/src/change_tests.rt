@@ -1,9 +1,9 @@
 // The worked rows of deletes and of values in blocks, on the top call.
 use crate::report::Status;
 use crate::tests::{replay, row, spent, with};
-use core_store::{Counts, Shortage};
+use core_room::{Counts, Shortage};
+use group_engine::run_report::Refusal;
 use pm_region::SteadyRegion;
-use serial_engine::answers::Refusal;
 use std::alloc::Global;
 use std::test::Fail;
 
@@ -54,14 +54,17 @@ pub fn put(alloc: Global, key: u64, byte: u8, length: usize) -> Result<String, F
     Ok(format!(in alloc; "put {key} {value}\n")?)
 }
 
-// Puts of 1,000 bytes to keys 1 to 7 and 1, of one byte to key 1, and of 1,000 bytes to key 8.
+// Puts of 1,000 bytes to keys 1 to 7 and 1, of one byte to key 1, and of 1,000 bytes to key 8, each with turns enough to
+// end it.
 fn seven(alloc: Global) -> Result<String, Fail> {
     let mut input = String::new(alloc);
     for key in [1u64, 2, 3, 4, 5, 6, 7, 1] {
         input.push_str(put(alloc, key, b'v', 1000)?.as_str())?;
+        input.push_str("go 0 50\n")?;
     }
-    input.push_str("put 1 a\n")?;
+    input.push_str("put 1 a\ngo 0 50\n")?;
     input.push_str(put(alloc, 8, b'v', 1000)?.as_str())?;
+    input.push_str("go 0 50\n")?;
     Ok(input)
 }
 
@@ -117,5 +120,37 @@ fn a_block_of_an_earlier_run(rt: HostRuntime) -> Result<(), Fail> {
     text.resize(262, b'c')?;
     text.push(b'\n')?;
     assert_eq!(rt; written.as_slice(), text.as_slice());
+    Ok(())
+}
+
+// Puts of 1,000 bytes to keys 1 to 7, turns, a delete of key 1, turns, and a put of 1,000 bytes to key 8.
+fn given_back(alloc: Global) -> Result<String, Fail> {
+    let mut input = String::new(alloc);
+    for key in 1..8u64 {
+        input.push_str(put(alloc, key, b'v', 1000)?.as_str())?;
+    }
+    input.push_str("go 0 200\ndelete 1\ngo 0 20\n")?;
+    input.push_str(put(alloc, 8, b'v', 1000)?.as_str())?;
+    Ok(input)
+}
+
+#[test]
+fn a_block_that_is_given_back(rt: HostRuntime) -> Result<(), Fail> {
+    let alloc = rt.alloc();
+    let (report, written) = row(alloc, given_back(alloc)?.as_str())?;
+    let text = b"stored\nstored\nstored\nstored\nstored\nstored\nfull\ndeleted\nstored\n";
+    assert_eq!(rt; written.as_slice(), text.as_slice());
+    let why = Shortage::Block(Counts {
+        free_chunks: 2,
+        open_lines: 0,
+        pledged_lines: 6,
+        need_lines: 1,
+        class: 2,
+        free_blocks: 0,
+    });
+    assert_eq!(rt;
+        report.refusals.as_slice(),
+        [Refusal { request: 6, why }].as_slice()
+    );
     Ok(())
 }

@@ -22,6 +22,8 @@ pub enum Command<'a> {
     Replay { path: &'a str },
     /// The live pairs, by rising key.
     Dump { path: &'a str },
+    /// The entries of the logs, by core, chunk and place.
+    Log { path: &'a str },
 }
 
 fn number_in(matches: &ArgMatches, name: &str) -> Option<u64>
@@ -64,6 +66,9 @@ fn command_named<'a>(name: &str, matches: &ArgMatches, path: &'a str) -> Option<
     if name == "dump" {
         return Some(Command::Dump { path });
     }
+    if name == "log" {
+        return Some(Command::Log { path });
+    }
     None
 }
 
@@ -104,6 +109,7 @@ impl<'a> Command<'a> {
             Command::Format { path, .. } => path,
             Command::Replay { path } => path,
             Command::Dump { path } => path,
+            Command::Log { path } => path,
         }
     }
 }

@@ -2,7 +2,7 @@
 use crate::report::{Report, Status};
 use crate::tests::{call, replay, with};
 use fs_text::{MemSink, Sink, SteadySink, SteadySource};
-use pm_region::{Region, SplitRegion, SteadyRegion};
+use pm_region::{ReadRegion, Region, SplitRegion, SteadyRegion};
 use std::alloc::Global;
 use std::test::Fail;
 
@@ -13,7 +13,7 @@ fn region(alloc: Global, others: &[(usize, u8)]) -> Result<SteadyRegion, Fail> {
     Ok(SteadyRegion::new(alloc, with(alloc, others)?, 5000)?)
 }
 
-fn dump<O: Sink, R: SplitRegion>(
+fn dump<O: Sink, R: SplitRegion + ReadRegion>(
     alloc: Global,
     sink: &mut O,
     region: &mut R,

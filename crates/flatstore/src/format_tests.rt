@@ -4,7 +4,7 @@ use crate::report::{Report, Status};
 use crate::tests::{PICKS, words_of};
 use crate::top::flatstore;
 use fs_text::{SteadySink, SteadySource};
-use pm_region::{Faults, FenceNumber, MemRegion, Region, SplitRegion, SteadyRegion};
+use pm_region::{Faults, FenceNumber, MemRegion, ReadRegion, Region, SplitRegion, SteadyRegion};
 use std::alloc::{AllocError, Global};
 use std::test::Fail;
 use store_image::{Fault, first_fault};
@@ -22,7 +22,11 @@ fn words(alloc: Global, line: &str) -> Result<Vec<String>, AllocError> {
 }
 
 // A call of the program, with no input.
-fn call<R: SplitRegion>(alloc: Global, line: &str, region: &mut R) -> Result<Report, Fail> {
+fn call<R: SplitRegion + ReadRegion>(
+    alloc: Global,
+    line: &str,
+    region: &mut R,
+) -> Result<Report, Fail> {
     let mut source = SteadySource::new(Vec::new(alloc), 1);
     let mut sink = SteadySink::new(alloc, 10, 10)?;
     let words = words(alloc, line)?;

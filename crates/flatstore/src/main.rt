@@ -21,10 +21,15 @@ mod dumping;
 #[cfg(test)]
 mod format_tests;
 mod formatting;
+#[cfg(test)]
+mod log_tests;
+mod logging;
 mod parser;
 mod playing;
 mod replay;
 mod report;
+#[cfg(test)]
+mod row_tests;
 #[cfg(test)]
 mod tests;
 mod top;

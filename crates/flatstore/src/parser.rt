@@ -2,7 +2,7 @@
 ghost use Rattle.std.specs.Prelude.{◌≡◌, IfOk, false};
 ghost use Rattle.clap.specs.Words.{app_of, rule_of};
 ghost use Rattle.clap.specs.declared.builder.command.Command.TheViews.{out-Command};
-ghost use Rattle.flatstore.specs.Commands.{number_rule, word_rule, region_command, format_command, bare_program, program};
+ghost use Rattle.flatstore.specs.Commands.{number_rule, word_rule, region_command, format_command, bare_program, writing_program, program};
 
 use clap::{Arg, Command, value_parser};
 use std::alloc::{AllocError, Global};
@@ -53,12 +53,20 @@ fn bare_program<'a>(alloc: Global) -> Command<'a>
     Command::new(alloc, "flatstore").subcommand_required(true)
 }
 
+/// The command with the subcommands that make a region and change one.
+fn writing_program<'a>(alloc: Global) -> Result<Command<'a>, AllocError>
+    ensures app { IfOk result (λ c. app_of c ≡ writing_program) }
+{
+    bare_program(alloc)
+        .subcommand(format_command(alloc)?)?
+        .subcommand(region_command(alloc, "replay")?)
+}
+
 /// The command of the program.
 pub fn program<'a>(alloc: Global) -> Result<Command<'a>, AllocError>
     ensures app { IfOk result (λ c. app_of c ≡ program) }
 {
-    bare_program(alloc)
-        .subcommand(format_command(alloc)?)?
-        .subcommand(region_command(alloc, "replay")?)?
-        .subcommand(region_command(alloc, "dump")?)
+    writing_program(alloc)?
+        .subcommand(region_command(alloc, "dump")?)?
+        .subcommand(region_command(alloc, "log")?)
 }

@@ -1,4 +1,4 @@
-// The requests of the input are answered on the region.
+// The lines of the input are run on the region.
 ghost use Rattle.std.specs.Prelude.{◌≡◌, ◌⊎◌, ℕ, ◌≤◌, List, Some, None, true, false, OnOk, OnErr, IfOk};
 ghost use Rattle.pm_region.specs.State.{State, IsTelling, Rose};
 ghost use Rattle.pm_region.specs.Split.{Attached};
@@ -7,14 +7,15 @@ ghost use Rattle.flatstore.specs.Ordering.{is_of_region, is_quiet};
 ghost use Rattle.flatstore.specs.Promise.{IsInput, Replays};
 ghost use Rattle.flatstore.specs.declared.report.Status.TheVariants as statuses;
 
-use crate::replay::replay;
+use crate::replay::{replay, write_outcome};
 use crate::report::{Report, Status};
 use fs_text::{Sink, Source};
-use pm_region::{AttachError, SplitRegion};
+use pm_region::{AttachError, ReadRegion, SplitRegion};
 use std::alloc::Global;
 
-/// Attaches the region, reads the input, answers its requests in order, and writes the replies once all are answered.
-pub fn replay_region<S: Source, O: Sink, R: SplitRegion>(
+/// Attaches the region, reads the input, runs its lines, and writes the replies in the order of the requests once all are
+/// answered.
+pub fn replay_region<S: Source, O: Sink, R: SplitRegion + ReadRegion>(
     alloc: Global,
     source: &mut S,
     sink: &mut O,
@@ -23,9 +24,9 @@ pub fn replay_region<S: Source, O: Sink, R: SplitRegion>(
     ensures attaches { Attaches (R.state region.old) (R.state region.new) (R.found region.old) result }
 
     // The headline.
-    ensures replay { result.attached ≡ true → (input : List ℕ) × IsInput (S.coming source.old) input
+    ensures replay { result.attached ≡ true → (input : List ℕ) × (cores : ℕ) × IsInput (S.coming source.old) input
         × Replays (R.state region.old) (R.state region.new) (R.found region.old)
-        (S.coming source.old) (S.coming source.new) (S.fault_count source.old) (S.fault_count source.new) input
+        (S.coming source.old) (S.coming source.new) (S.fault_count source.old) (S.fault_count source.new) cores input
         (O.taken sink.old) (O.taken sink.new) (O.flushed sink.new) (O.fault_count sink.old) (O.fault_count sink.new) result }
     ensures source_fault { result.status ≡ statuses.SourceFault → Rose (S.fault_count source.old) (S.fault_count source.new) }
     ensures sink_fault { result.status ≡ statuses.SinkFault → Rose (O.fault_count sink.old) (O.fault_count sink.new) }
@@ -48,7 +49,7 @@ pub fn replay_region<S: Source, O: Sink, R: SplitRegion>(
         Err(AttachError::Memory) => Report::of(alloc, Status::Memory, false),
         Ok(()) => match replay(alloc, source, region) {
             Err(status) => Report::of(alloc, status, true),
-            Ok(ended) => ended.write(alloc, sink),
+            Ok(outcome) => write_outcome(alloc, sink, outcome),
         },
     }
 }

@@ -3,7 +3,7 @@ ghost use Rattle.std.specs.Prelude.{◌≡◌, ℕ, ◌<◌, [], false, IfOk, st
 ghost use Rattle.flatstore.specs.Statuses.{exit_code, damage_line, fault_line, fault_status};
 
 use fs_errors::Memory;
-use serial_engine::answers::{Finish, Refusal};
+use group_engine::run_report::{Finish, Refusal};
 use std::alloc::Global;
 use store_image::Fault;
 
@@ -29,8 +29,6 @@ pub enum Status {
     NotARegion { rule: u32 },
     /// No memory was to be had.
     Memory,
-    /// What is asked isn't built yet: by this line of the input, counted from 1, or by the region where it is 0.
-    NotBuilt { line: u64 },
 }
 
 /// How a call ended, and what it reports of the requests. Requests are numbered from 0 in the order of the input.
@@ -105,7 +103,6 @@ impl Status {
             Status::Damaged { .. } => 6,
             Status::NotARegion { .. } => 7,
             Status::Memory => 8,
-            Status::NotBuilt { .. } => 20,
         }
     }
 
@@ -129,9 +126,6 @@ impl Status {
                 "flatstore: not a region: rule {rule}"
             )?,
             Status::Memory => format!(in alloc; "flatstore: out of memory")?,
-            Status::NotBuilt { line } => format!(in alloc;
-                "flatstore: not built yet: line {line}"
-            )?,
         };
         Ok(text)
     }

@@ -3,14 +3,14 @@ use crate::change_tests::put;
 use crate::command_line;
 use crate::report::{Report, Status};
 use crate::top::flatstore;
-use core_store::{Counts, Shortage};
+use core_room::{Counts, Shortage};
 use fs_errors::Memory;
 use fs_model::Value;
 use fs_text::{MemSink, MemSource, Sink, Source, SteadySink, SteadySource};
+use group_engine::run_report::Refusal;
 use pm_region::{
-    Faults, FenceNumber, FileRegion, MemRegion, Pick, Region, SplitRegion, SteadyRegion,
+    Faults, FenceNumber, FileRegion, MemRegion, Pick, ReadRegion, Region, SplitRegion, SteadyRegion,
 };
-use serial_engine::answers::Refusal;
 use std::alloc::{Alloc, AllocError, Global};
 use std::env::{Env, FillError};
 use std::fs;
@@ -60,7 +60,7 @@ pub fn command(alloc: Global, words: &[&str]) -> Result<Vec<String>, AllocError>
 }
 
 // One call of the program, of which only the report counts.
-pub fn call<S: Source, O: Sink, R: SplitRegion>(
+pub fn call<S: Source, O: Sink, R: SplitRegion + ReadRegion>(
     alloc: Global,
     words: &[&str],
     source: &mut S,
@@ -72,7 +72,7 @@ pub fn call<S: Source, O: Sink, R: SplitRegion>(
 }
 
 // Replays an input on a region, into a sink that takes everything.
-pub fn replay<R: SplitRegion>(
+pub fn replay<R: SplitRegion + ReadRegion>(
     alloc: Global,
     region: &mut R,
     input: &str,
@@ -106,13 +106,9 @@ pub fn words_of<R: Region>(alloc: Global, region: &R) -> Result<Vec<u64>, AllocE
 }
 
 // A key's cell in an image, once the yardstick has found it sound.
-fn cell(alloc: Global, words: &[u64], key: u64) -> Result<Option<Value>, Fail> {
-    if words.len() * 8 != BYTES {
-        return Ok(Some(Value::of(Vec::from_slice(alloc, b"another length")?)));
-    }
-    if first_fault(alloc, words, BYTES as u64)?.is_some()
-        || read_layout(words, BYTES as u64).is_err()
-    {
+pub fn cell(alloc: Global, words: &[u64], key: u64) -> Result<Option<Value>, Fail> {
+    let bytes = words.len() as u64 * 8;
+    if first_fault(alloc, words, bytes)?.is_some() || read_layout(words, bytes).is_err() {
         return Ok(Some(Value::of(Vec::from_slice(alloc, b"not sound")?)));
     }
     for pair in recovered_cells(alloc, words)? {
@@ -160,8 +156,12 @@ fn replies(rt: HostRuntime) -> Result<(), Fail> {
             Status::BadInput { line: 2, rule: 3 },
             "",
         ),
-        ("get 1\ngo 0 1\n", Status::NotBuilt { line: 2 }, ""),
-        ("go 0 1\n", Status::NotBuilt { line: 1 }, ""),
+        ("go 1 1\n", Status::BadInput { line: 1, rule: 6 }, ""),
+        (
+            "get 1\ngo 0 1\nput 1 a\ngo 0\n",
+            Status::Done,
+            "absent\nstored\n",
+        ),
     ];
     for (input, status, text) in table {
         let (report, written) = row(alloc, input)?;
@@ -321,17 +321,6 @@ fn damaged_regions(rt: HostRuntime) -> Result<(), Fail> {
 }
 
 #[test]
-fn several_cores(rt: HostRuntime) -> Result<(), Fail> {
-    let alloc = rt.alloc();
-    let mut bytes = with(alloc, &[(16, 2)])?;
-    bytes.resize(36864, 0)?;
-    let (said, written) = three_on(alloc, bytes)?;
-    assert_eq!(rt; said, Status::NotBuilt { line: 0 });
-    assert!(rt; written.is_empty());
-    Ok(())
-}
-
-#[test]
 fn a_region_with_puts(rt: HostRuntime) -> Result<(), Fail> {
     let alloc = rt.alloc();
     let mut region = steady(alloc)?;
@@ -375,13 +364,14 @@ fn versions_spent(rt: HostRuntime) -> Result<(), Fail> {
     Ok(())
 }
 
-// 37 puts of values with 255 bytes, and the replies to them: a chunk of 60 lines has 12 entries of 5 lines.
+// 37 puts of values with 255 bytes, each with turns enough to end it, and the replies to them: a chunk of 60 lines has 12
+// entries of 5 lines.
 fn many(alloc: Global) -> Result<(String, String), Fail> {
     let value = String::from_utf8(vec![in alloc; b'v'; 255]?)?;
     let mut input = String::new(alloc);
     let mut text = String::new(alloc);
     for key in 1..38u64 {
-        input.push_str(format!(in alloc; "put {key} {value}\n")?.as_str())?;
+        input.push_str(format!(in alloc; "put {key} {value}\ngo 0 50\n")?.as_str())?;
         text.push_str(if key < 37 { "stored\n" } else { "full\n" })?;
     }
     Ok((input, text))

@@ -4,9 +4,10 @@ ghost use Rattle.pm_region.specs.State.{State, IsTelling, Rose};
 ghost use Rattle.pm_region.specs.Split.{Attached};
 ghost use Rattle.chunk_map.specs.declared.layouts.Geometry.{Geometry};
 ghost use Rattle.flatstore.specs.Commands.{form_of, words_of};
-ghost use Rattle.flatstore.specs.Commands.Form.{Format, Replay, Dump};
+ghost use Rattle.flatstore.specs.Commands.Form.{Format, Replay, Dump, Log};
 ghost use Rattle.flatstore.specs.Dumps.{Dumps};
 ghost use Rattle.flatstore.specs.Formats.{Formats};
+ghost use Rattle.flatstore.specs.Logs.{Logs};
 ghost use Rattle.flatstore.specs.Attaching.{Attaches};
 ghost use Rattle.flatstore.specs.Ordering.{is_of_region, is_quiet};
 ghost use Rattle.flatstore.specs.Promise.{IsInput, Replays};
@@ -15,17 +16,18 @@ ghost use Rattle.flatstore.specs.declared.report.Status.TheVariants as statuses;
 use crate::command::{Command, parse_command};
 use crate::dumping::dump_region;
 use crate::formatting::format_region;
+use crate::logging::log_region;
 use crate::playing::replay_region;
 use crate::report::{Report, Status};
 use fs_text::{Sink, Source};
-use pm_region::SplitRegion;
+use pm_region::{ReadRegion, SplitRegion};
 use std::alloc::Global;
 
 /// Does what the words of a command line ask. The first word is the program's name. For `format` the region is created
-/// and its superblock written. For `replay` the region is attached, the input is read, its requests are answered in
-/// order, and the replies are written once all are answered. For `dump` the region is attached, and its live pairs are
-/// written.
-pub fn flatstore<S: Source, O: Sink, R: SplitRegion>(
+/// and its superblock written. For `replay` the region is attached, the input is read, its lines are run in order, each
+/// core's moves by its `go` lines, and the replies are written once all are answered. For `dump` the region is attached,
+/// and its live pairs are written, and for `log` the entries of its logs.
+pub fn flatstore<S: Source, O: Sink, R: SplitRegion + ReadRegion>(
     alloc: Global,
     words: &Vec<String>,
     source: &mut S,
@@ -46,13 +48,19 @@ pub fn flatstore<S: Source, O: Sink, R: SplitRegion>(
         (O.taken sink.old) (O.taken sink.new) (O.flushed sink.new) (O.fault_count sink.old) (O.fault_count sink.new) result
         × (source.new ≡ source.old) }
 
+    // What is logged are the entries that the words of the region spell.
+    ensures log { (path : List ℕ) → form_of (words_of words.now.items) ≡ Some (Log path)
+        → Logs (R.state region.old) (R.state region.new) (R.found region.old)
+        (O.taken sink.old) (O.taken sink.new) (O.flushed sink.new) (O.fault_count sink.old) (O.fault_count sink.new) result
+        × (source.new ≡ source.old) }
+
     // The headline.
     ensures attaches { (path : List ℕ) → form_of (words_of words.now.items) ≡ Some (Replay path)
         → Attaches (R.state region.old) (R.state region.new) (R.found region.old) result }
     ensures replay { (path : List ℕ) → form_of (words_of words.now.items) ≡ Some (Replay path) → result.attached ≡ true
-        → (input : List ℕ) × IsInput (S.coming source.old) input
+        → (input : List ℕ) × (cores : ℕ) × IsInput (S.coming source.old) input
         × Replays (R.state region.old) (R.state region.new) (R.found region.old)
-        (S.coming source.old) (S.coming source.new) (S.fault_count source.old) (S.fault_count source.new) input
+        (S.coming source.old) (S.coming source.new) (S.fault_count source.old) (S.fault_count source.new) cores input
         (O.taken sink.old) (O.taken sink.new) (O.flushed sink.new) (O.fault_count sink.old) (O.fault_count sink.new) result }
 
     // A fault comes only where its count rose.
@@ -83,5 +91,6 @@ pub fn flatstore<S: Source, O: Sink, R: SplitRegion>(
         Command::Format { layout, .. } => format_region(alloc, region, layout),
         Command::Replay { .. } => replay_region(alloc, source, sink, region),
         Command::Dump { .. } => dump_region(alloc, sink, region),
+        Command::Log { .. } => log_region(alloc, sink, region),
     }
 }

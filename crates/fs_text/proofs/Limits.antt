@@ -1,16 +1,12 @@
 -- Past the bytes that an input may have nothing matters.
 use Rattle.std.proofs.Common.{◌≡◌, ℕ, zero, suc, ◌+◌, ◌-◌, ◌<◌, ◌≤◌, ◌⊎◌, inl, inr, Bool, true, false, List, [], ◌∷◌, ◌++◌, length, take, drop, Result, Ok, Err, refl, ap, ◌∙◌, cond, arith}
-use Rattle.std.specs.Prelude.{nat_le, nat_lt, ◌==◌, ◌&&◌, ◌||◌, not}
+use Rattle.std.specs.Prelude.{nat_le, ◌==◌}
 use Rattle.std.proofs.lemmas.Bool.{cond-false}
 use Rattle.std.proofs.lemmas.Grind.{common_steps}
 use Rattle.std.proofs.lemmas.List.{length-drop, length-take-le}
 use Rattle.fs_text.specs.declared.line.Line.{Line}
 use Rattle.fs_text.specs.declared.line.Line.TheVariants.{Ask, Go}
-use Rattle.fs_text.specs.declared.stages.Built.{Built}
-use Rattle.fs_text.specs.declared.stages.Stop.{Stop}
-use Rattle.fs_text.specs.declared.stages.Stop.TheVariants.{Bad, NotBuilt}
-use Rattle.fs_text.specs.Input.{Before, lines_of, on_front, size_with, line_at, line_by, count_line, counted, with_line, cut}
-use Rattle.fs_text.specs.Stages.{line_or_stop, lines_or_stop, input_or_stop, staged, is_closed, puts_block, behind}
+use Rattle.fs_text.specs.Input.{Before, lines_of, on_front, size_with, line_at, line_by, count_line, counted, with_line, with_front, lines_from, input_of, cut}
 use Rattle.fs_text.proofs.FirstBytes.{IsFirstAt, IsMissing, lines_at, lines_missing}
 
 pub guarded : {A : Type 0} (b : Bool) (r : Result A ℕ) (e : ℕ) (y : A) → cond b r (Err e) ≡ Ok y → (b ≡ true) × (r ≡ Ok y)
@@ -46,36 +42,20 @@ line_at_ok cores b x y h =
     let two = guarded (nat_le (length x.0) 1048640) (count_line b (size_with x) said) 2 y one.1 in
     (count_line_ok b (size_with x) said y two.1, le_true (b.bytes + size_with x) 67108864 one.0)
 
-open_ok : (c : Bool) (e : Stop) (x y : Line × Before) → cond {A = Result (Line × Before) Stop} c (Err e) (Ok x) ≡ Ok y → x ≡ y
-open_ok true e x y h = cc
-open_ok false e x y h = cc
-
-shut_ok : (c : Bool) (e f : Stop) (y : Line × Before) → cond {A = Result (Line × Before) Stop} c (Err e) (Err f) ≡ Ok y → ⊥
-shut_ok true e f y h = cc
-shut_ok false e f y h = cc
-
-pub staged_ok : (number : ℕ) (closed blocks : Bool) (r : Result (Line × Before) ℕ) (y : Line × Before) → staged number closed blocks r ≡ Ok y → r ≡ Ok y
-staged_ok number closed blocks (Ok x) y h = ap Ok (open_ok (closed || (not blocks && puts_block x.0)) (NotBuilt number) x y h)
-staged_ok number closed blocks (Err rule) y h = absurd (shut_ok (closed && nat_lt 3 rule) (NotBuilt number) (Bad number rule) y h)
-
 -- a line past the limit breaks the first rule
-pub breaks_first : (built : Built) (cores number : ℕ) (b : Before) (x : List ℕ × Bool) → 67108864 < b.bytes + size_with x
-    → line_or_stop built cores number b x ≡ Err (Bad number 1)
-breaks_first built cores number b x h =
-    let e : line_at cores b x ≡ Err 1 = cond-false (nat_le (b.bytes + size_with x) 67108864) _ (Err 1) (gt_false (b.bytes + size_with x) 67108864 h) in
-    ap (λ r. staged number (is_closed built (cut x.0).0) built.blocks r) e ∙ first_rule (is_closed built (cut x.0).0)
-  where
-    first_rule : (closed : Bool) → staged number closed built.blocks (Err 1) ≡ Err (Bad number 1)
-    first_rule true = refl
-    first_rule false = refl
+pub breaks_first : (cores : ℕ) (b : Before) (x : List ℕ × Bool) → 67108864 < b.bytes + size_with x → line_at cores b x ≡ Err 1
+breaks_first cores b x h = cond-false (nat_le (b.bytes + size_with x) 67108864) _ (Err 1) (gt_false (b.bytes + size_with x) 67108864 h)
 
-pub goes_on_by : (built : Built) (cores number : ℕ) (b : Before) (x : List ℕ × Bool) (xs : List (List ℕ × Bool)) (y : Line × Before)
-    → line_or_stop built cores number b x ≡ Ok y → lines_or_stop built cores number b (x ∷ xs) ≡ behind y.0 (lines_or_stop built cores (number + 1) y.1 xs)
-goes_on_by built cores number b x xs y e = rw (lines_or_stop, e) refl
+pub goes_on : (cores number : ℕ) (b : Before) (x : List ℕ × Bool) (xs : List (List ℕ × Bool)) (y : Line × Before)
+    → line_at cores b x ≡ Ok y → lines_from cores number b (x ∷ xs) ≡ with_front y.0 (lines_from cores (number + 1) y.1 xs)
+goes_on cores number b x xs y e = rw (lines_from, e) refl
 
-pub stops_by : (built : Built) (cores number : ℕ) (b : Before) (x : List ℕ × Bool) (xs : List (List ℕ × Bool)) (stop : Stop)
-    → line_or_stop built cores number b x ≡ Err stop → lines_or_stop built cores number b (x ∷ xs) ≡ Err stop
-stops_by built cores number b x xs stop e = rw (lines_or_stop, e) refl
+pub breaks : (cores number : ℕ) (b : Before) (x : List ℕ × Bool) (xs : List (List ℕ × Bool)) (rule : ℕ)
+    → line_at cores b x ≡ Err rule → lines_from cores number b (x ∷ xs) ≡ Err (number, rule)
+breaks cores number b x xs rule e = rw (lines_from, e) refl
+
+pub ok_no_error : {A B : Type 0} (x : A) (y : B) → Ok x ≡ Err y → ⊥
+ok_no_error x y h = cc
 
 -- the first line of a text whose front has no newline is no shorter than that
 long_line : (b : ℕ) (p rest : List ℕ) → IsMissing 10 p
@@ -116,70 +96,69 @@ first_append a (x ∷ xs) rest (suc k) h =
     ((h.0, first), ap (λ ys. x ∷ ys) front, back)
 
 -- With more behind it the text stops the reading in the same way.
-abbrev BothStop : Built → ℕ → ℕ → Before → List ℕ → List ℕ → Type 0
-BothStop built cores number b p rest = (e : Stop)
-    × (lines_or_stop built cores number b (lines_of (p ++ rest)) ≡ Err e) × (lines_or_stop built cores number b (lines_of p) ≡ Err e)
+abbrev BothStop : ℕ → ℕ → Before → List ℕ → List ℕ → Type 0
+BothStop cores number b p rest = (e : ℕ × ℕ)
+    × (lines_from cores number b (lines_of (p ++ rest)) ≡ Err e) × (lines_from cores number b (lines_of p) ≡ Err e)
 
-in_long_line : (built : Built) (cores number : ℕ) (b : Before) (p rest : List ℕ) → 0 < length p → IsMissing 10 p → 67108864 < b.bytes + length p
-    → BothStop built cores number b p rest
-in_long_line built cores number b [] rest some h big = absurd (omega arith)
-in_long_line built cores number b (c ∷ p) rest some h big =
+in_long_line : (cores number : ℕ) (b : Before) (p rest : List ℕ) → 0 < length p → IsMissing 10 p → 67108864 < b.bytes + length p
+    → BothStop cores number b p rest
+in_long_line cores number b [] rest some h big = absurd (omega arith)
+in_long_line cores number b (c ∷ p) rest some h big =
     let (x, xs, e, size) = long_line c p rest h.1 in
     let all : lines_of ((c ∷ p) ++ rest) ≡ x ∷ xs = rw h.0 e in
     let over : 67108864 < b.bytes + size_with x = omega arith in
     let alone : 67108864 < b.bytes + size_with (c ∷ p, false) = omega arith in (
-      Bad number 1,
-      ap (λ ls. lines_or_stop built cores number b ls) all ∙ stops_by built cores number b x xs (Bad number 1) (breaks_first built cores number b x over),
-      ap (λ ls. lines_or_stop built cores number b ls) (lines_missing c p h)
-          ∙ stops_by built cores number b (c ∷ p, false) [] (Bad number 1) (breaks_first built cores number b (c ∷ p, false) alone),
+      (number, 1),
+      ap (λ ls. lines_from cores number b ls) all ∙ breaks cores number b x xs 1 (breaks_first cores b x over),
+      ap (λ ls. lines_from cores number b ls) (lines_missing c p h) ∙ breaks cores number b (c ∷ p, false) [] 1 (breaks_first cores b (c ∷ p, false) alone),
     )
 
-behind_first_line : (built : Built) (cores number : ℕ) (b : Before) (p rest : List ℕ) (k : ℕ) → IsFirstAt 10 p k → 67108864 < b.bytes + length p
-    → ((c : Before) → c.bytes ≤ 67108864 → 67108864 < c.bytes + length (drop (suc k) p) → BothStop built cores (number + 1) c (drop (suc k) p) rest)
-    → BothStop built cores number b p rest
-behind_first_line built cores number b p rest k h big again =
-    elim (line_or_stop built cores number b x) as (λ r. line_or_stop built cores number b x ≡ r → BothStop built cores number b p rest) [
+behind_first_line : (cores number : ℕ) (b : Before) (p rest : List ℕ) (k : ℕ) → IsFirstAt 10 p k → 67108864 < b.bytes + length p
+    → ((c : Before) → c.bytes ≤ 67108864 → 67108864 < c.bytes + length (drop (suc k) p) → BothStop cores (number + 1) c (drop (suc k) p) rest)
+    → BothStop cores number b p rest
+behind_first_line cores number b p rest k h big again =
+    elim (line_at cores b x) as (λ r. line_at cores b x ≡ r → BothStop cores number b p rest) [
       | Ok y ↦ λ e. good y e
-      | Err stop ↦ λ e. (stop, longer ∙ stops_by built cores number b x (lines_of (drop (suc k) p ++ rest)) stop e, alone ∙ stops_by built cores number b x (lines_of (drop (suc k) p)) stop e)
+      | Err rule ↦ λ e. ((number, rule), longer ∙ breaks cores number b x (lines_of (drop (suc k) p ++ rest)) rule e, alone ∙ breaks cores number b x (lines_of (drop (suc k) p)) rule e)
     ] refl
   where
     x : List ℕ × Bool
     x = (take k p, true)
 
-    longer : lines_or_stop built cores number b (lines_of (p ++ rest)) ≡ lines_or_stop built cores number b (x ∷ lines_of (drop (suc k) p ++ rest))
+    longer : lines_from cores number b (lines_of (p ++ rest)) ≡ lines_from cores number b (x ∷ lines_of (drop (suc k) p ++ rest))
     longer =
         let (first, front, back) = first_append 10 p rest k h in
         let parts : lines_of (p ++ rest) ≡ x ∷ lines_of (drop (suc k) p ++ rest) = lines_at (p ++ rest) k first ∙ (rw (front, back) refl) in
-        ap (λ ls. lines_or_stop built cores number b ls) parts
+        ap (λ ls. lines_from cores number b ls) parts
 
-    alone : lines_or_stop built cores number b (lines_of p) ≡ lines_or_stop built cores number b (x ∷ lines_of (drop (suc k) p))
-    alone = ap (λ ls. lines_or_stop built cores number b ls) (lines_at p k h)
+    alone : lines_from cores number b (lines_of p) ≡ lines_from cores number b (x ∷ lines_of (drop (suc k) p))
+    alone = ap (λ ls. lines_from cores number b ls) (lines_at p k h)
 
-    good : (y : Line × Before) → line_or_stop built cores number b x ≡ Ok y → BothStop built cores number b p rest
+    good : (y : Line × Before) → line_at cores b x ≡ Ok y → BothStop cores number b p rest
     good y e =
-        let sizes = line_at_ok cores b x y (staged_ok number (is_closed built (cut x.0).0) built.blocks (line_at cores b x) y e) in
+        let sizes = line_at_ok cores b x y e in
         let below = first_below 10 p k h in
         let size : length (take k p) ≡ k = length-take-le k p (omega arith) in
         let left : length (drop (suc k) p) ≡ length p - suc k = length-drop (suc k) p in
         let (stop, long, short) = again y.1 (omega arith) (omega arith) in (
           stop,
-          longer ∙ goes_on_by built cores number b x (lines_of (drop (suc k) p ++ rest)) y e ∙ ap (λ r. behind y.0 r) long,
-          alone ∙ goes_on_by built cores number b x (lines_of (drop (suc k) p)) y e ∙ ap (λ r. behind y.0 r) short,
+          longer ∙ goes_on cores number b x (lines_of (drop (suc k) p ++ rest)) y e ∙ ap (λ r. with_front y.0 r) long,
+          alone ∙ goes_on cores number b x (lines_of (drop (suc k) p)) y e ∙ ap (λ r. with_front y.0 r) short,
         )
 
-over_in : (n : ℕ) (built : Built) (cores number : ℕ) (b : Before) (p rest : List ℕ) → length p ≤ n → b.bytes ≤ 67108864 → 67108864 < b.bytes + length p
-    → BothStop built cores number b p rest
-over_in zero built cores number b p rest small within big = absurd (omega arith)
-over_in (suc n) built cores number b p rest small within big =
+over_in : (n : ℕ) (cores number : ℕ) (b : Before) (p rest : List ℕ) → length p ≤ n → b.bytes ≤ 67108864 → 67108864 < b.bytes + length p
+    → BothStop cores number b p rest
+over_in zero cores number b p rest small within big = absurd (omega arith)
+over_in (suc n) cores number b p rest small within big =
     elim (first_or_missing 10 p) [
-      | inl (k, h) ↦ behind_first_line built cores number b p rest k h big
-          (λ c cw cb. over_in n built cores (number + 1) c (drop (suc k) p) rest (omega (arith, length-drop (suc k) p, first_below 10 p k h)) cw cb)
-      | inr h ↦ in_long_line built cores number b p rest (omega arith) h big
+      | inl (k, h) ↦ behind_first_line cores number b p rest k h big
+          (λ c cw cb. over_in n cores (number + 1) c (drop (suc k) p) rest (omega (arith, length-drop (suc k) p, first_below 10 p k h)) cw cb)
+      | inr h ↦ in_long_line cores number b p rest (omega arith) h big
     ]
 
--- A text that is too long stops the reading, and what follows it doesn't matter.
-pub over : (built : Built) (cores : ℕ) (p rest : List ℕ) → 67108864 < length p
-    → (e : Stop) × (input_or_stop built cores (p ++ rest) ≡ Err e) × (input_or_stop built cores p ≡ Err e)
-unfolding input_or_stop
-over built cores p rest big =
-    over_in (length p) built cores 1 (record { bytes = 0; requests = 0; turns = 0 }) p rest (omega arith) (omega arith) (omega arith)
+-- A text that is too long breaks a rule, and what follows it doesn't matter.
+pub over : (cores : ℕ) (p rest : List ℕ) → 67108864 < length p
+    → (e : ℕ × ℕ) × (input_of cores (p ++ rest) ≡ Err e) × (input_of cores p ≡ Err e)
+unfolding input_of
+over cores p rest big =
+    over_in (length p) cores 1 (record { bytes = 0; requests = 0; turns = 0 }) p rest (omega arith) (omega arith) (omega arith)

@@ -1,18 +1,12 @@
 -- What is said of the bytes that were read is said of all that a source told.
-use Rattle.std.proofs.Common.{◌≡◌, ℕ, ◌<◌, ◌⊎◌, inl, inr, List, [], ◌++◌, length, Option, Some, None, Result, Ok, Err, sym, ap, ◌∙◌, subst, arith, append-nil, true}
+use Rattle.std.proofs.Common.{◌≡◌, ℕ, ◌<◌, ◌⊎◌, inl, inr, List, [], ◌++◌, length, Option, Some, None, Result, Ok, Err, sym, ap, ◌∙◌, subst, arith, append-nil}
 use Rattle.std.specs.Prelude.{IfSome, OnOk}
 use Rattle.fs_text.specs.declared.line.Line.{Line}
 use Rattle.fs_text.specs.declared.input.InputError.{InputError}
-use Rattle.fs_text.specs.declared.stages.Built.{Built}
-use Rattle.fs_text.specs.declared.stages.UntilError.{UntilError}
-use Rattle.fs_text.specs.declared.read_source.ReadError.{ReadError}
-use Rattle.fs_text.specs.declared.read_source.ReadError.TheVariants as reads
 use Rattle.fs_text.specs.Input.{input_of}
 use Rattle.fs_text.specs.Reading.{Answers}
-use Rattle.fs_text.specs.Stages.{input_or_stop, StopsAs, is_said, as_until_error}
 use Rattle.fs_text.specs.Streams.{Gives, IsAtEnd, IsReadOut}
-use Rattle.fs_text.proofs.Limits.{over}
-use Rattle.fs_text.proofs.Whole.{over_input}
+use Rattle.fs_text.proofs.Limits.{over, ok_no_error}
 
 short_or_long : (n : ℕ) → (n < 67108865) ⊎ (67108864 < n)
 short_or_long n = grind arith
@@ -28,16 +22,6 @@ read_same f xs ys v e end long = at_size (short_or_long (length v))
     at_size (inl h) = ap f (sym (append-nil v) ∙ ap (λ zs. v ++ zs) (sym (end h)) ∙ sym e)
     at_size (inr h) = long h ∙ ap f (sym e)
 
-pub told_until : (coming left : Option (List ℕ)) (v : List ℕ) (built : Built) (cores : ℕ) (r : Result (List Line) UntilError)
-    → Gives coming left v → (length v < 67108865 → IsAtEnd left) → StopsAs r (input_or_stop built cores v)
-    → IfSome coming (λ bytes. StopsAs r (input_or_stop built cores bytes))
-told_until None left v built cores r h end said = tt
-told_until (Some xs) None v built cores r h end said = absurd h
-told_until (Some xs) (Some ys) v built cores r h end said =
-    let same : input_or_stop built cores v ≡ input_or_stop built cores xs =
-    read_same (λ zs. input_or_stop built cores zs) xs ys v h end (λ long. let (e, whole, front) = over built cores v ys long in front ∙ sym whole) in
-    subst (λ s. StopsAs r s) same said
-
 -- A reading that says something of the input came to its end, or past what an input may have.
 pub read_out : (coming left : Option (List ℕ)) (v : List ℕ) → Gives coming left v → (length v < 67108865 → IsAtEnd left) → IsReadOut coming left
 read_out coming left v gives end = at_size (short_or_long (length v))
@@ -46,18 +30,6 @@ read_out coming left v gives end = at_size (short_or_long (length v))
     at_size (inl h) = (v, gives, inr (end h))
     at_size (inr h) = (v, gives, inl h)
 
-pub ended_until : (left : Option (List ℕ)) (v : List ℕ) (built : Built) (cores : ℕ) (r : Result (List Line) UntilError)
-    → (length v < 67108865 → IsAtEnd left) → StopsAs r (input_or_stop built cores v) → OnOk r (IsAtEnd left)
-ended_until left v built cores (Err e) end said = tt
-ended_until left v built cores (Ok lines) end said = at_size (short_or_long (length v))
-  where
-    at_size : (length v < 67108865) ⊎ (67108864 < length v) → IsAtEnd left
-    at_size (inl h) = end h
-    at_size (inr h) = let (e, whole, front) = over built cores v [] h in absurd (differ (sym said ∙ front))
-      where
-        differ : {A B : Type 0} {x : A} {y : B} → Ok x ≡ Err y → ⊥
-        differ h = cc
-
 pub told_input : (coming left : Option (List ℕ)) (v : List ℕ) (cores : ℕ) (r : Result (List Line) InputError)
     → Gives coming left v → (length v < 67108865 → IsAtEnd left) → Answers r (input_of cores v)
     → IfSome coming (λ bytes. Answers r (input_of cores bytes))
@@ -65,7 +37,7 @@ told_input None left v cores r h end said = tt
 told_input (Some xs) None v cores r h end said = absurd h
 told_input (Some xs) (Some ys) v cores r h end said =
     let same : input_of cores v ≡ input_of cores xs =
-    read_same (λ zs. input_of cores zs) xs ys v h end (λ long. let (e, whole, front) = over_input cores v ys long in front ∙ sym whole) in
+    read_same (λ zs. input_of cores zs) xs ys v h end (λ long. let (e, whole, front) = over cores v ys long in front ∙ sym whole) in
     subst (λ s. Answers r s) same said
 
 pub ended_input : (left : Option (List ℕ)) (v : List ℕ) (cores : ℕ) (r : Result (List Line) InputError)
@@ -75,7 +47,4 @@ ended_input left v cores (Ok lines) end said = at_size (short_or_long (length v)
   where
     at_size : (length v < 67108865) ⊎ (67108864 < length v) → IsAtEnd left
     at_size (inl h) = end h
-    at_size (inr h) = let (e, whole, front) = over_input cores v [] h in absurd (differ (sym said ∙ front))
-      where
-        differ : {A B : Type 0} {x : A} {y : B} → Ok x ≡ Err y → ⊥
-        differ h = cc
+    at_size (inr h) = let (e, whole, front) = over cores v [] h in absurd (ok_no_error lines e (sym said ∙ front))

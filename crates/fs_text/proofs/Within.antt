@@ -1,5 +1,5 @@
 -- The lines of an input are within the rules.
-use Rattle.std.proofs.Common.{◌≡◌, ℕ, suc, ◌+◌, ◌-◌, ◌≤◌, ◌⊎◌, inl, inr, Bool, true, false, List, [], ◌∷◌, length, Option, Some, None, Result, Ok, Err, refl, sym, ap, ◌∙◌, cond, subst, arith}
+use Rattle.std.proofs.Common.{◌≡◌, ℕ, suc, ◌+◌, ◌-◌, ◌≤◌, ◌⊎◌, inl, inr, Bool, true, false, List, [], ◌∷◌, length, Option, Some, None, Result, Ok, Err, refl, sym, ◌∙◌, cond, subst, arith}
 use Rattle.std.specs.Prelude.{IfSome, IfOk, nat_le, ◌==◌, ◌&&◌, bytes_eq, codes}
 use Rattle.std.specs.List.{AllByRecursion, filter_map, sum_by}
 use Rattle.std.proofs.lemmas.List.Sums.{sum_by-cons}
@@ -7,16 +7,11 @@ use Rattle.fs_model.specs.declared.model.Request.{Request}
 use Rattle.fs_model.specs.declared.model.Request.TheVariants.{Put, Get, Delete}
 use Rattle.fs_text.specs.declared.line.Line.{Line}
 use Rattle.fs_text.specs.declared.line.Line.TheVariants.{Ask, Go}
-use Rattle.fs_text.specs.declared.stages.Built.{Built}
-use Rattle.fs_text.specs.declared.stages.Stop.{Stop}
-use Rattle.fs_text.specs.declared.stages.UntilError.{UntilError}
 use Rattle.fs_text.specs.declared.input.InputError.{InputError}
 use Rattle.fs_text.specs.Reading.{Answers}
 use Rattle.fs_text.specs.Bounds.{IsShort, IsLine, IsWithin, turns_in}
 use Rattle.fs_text.specs.Input.{Before, cut, push_front, within, map_ok, key_at, lone_key, key_line, lone_field, put_fields, put_line, go_core, core_at, number_of, go_rest, go_fields, go_line, line_by, with_line, counted, count_line, size_with, line_at, with_front, lines_of, lines_from, input_of, request_in}
-use Rattle.fs_text.specs.Stages.{line_or_stop, lines_or_stop, input_or_stop, is_closed, behind, StopsAs}
-use Rattle.fs_text.proofs.Limits.{guarded, counted_ok, le_true, staged_ok, goes_on_by, stops_by}
-use Rattle.fs_text.proofs.Whole.{goes_on, breaks, ok_no_error}
+use Rattle.fs_text.proofs.Limits.{guarded, counted_ok, le_true, goes_on, breaks, ok_no_error}
 
 either : {A : Type 0} (b : Bool) (x y z : A) → cond b x y ≡ z → (x ≡ z) ⊎ (y ≡ z)
 either true x y z h = inl h
@@ -200,34 +195,6 @@ input_within cores bytes lines h =
     let room = lines_within cores 1 (record { bytes = 0; requests = 0; turns = 0 }) (lines_of bytes) lines (omega arith) (omega arith) h in
     record { each = room.each; requests = omega arith; turns = omega arith }
 
--- What is read where some forms aren't built is the whole input.
-behind_ok : (x : Line) (r : Result (List Line) Stop) (lines : List Line) → behind x r ≡ Ok lines → (tail : List Line) × (r ≡ Ok tail) × (x ∷ tail ≡ lines)
-behind_ok x (Ok tail) lines h = (tail, refl, cc)
-behind_ok x (Err e) lines h = absurd (ok_no_error lines e (sym h))
-
-lines_until : (built : Built) (cores number : ℕ) (b : Before) (xs : List (List ℕ × Bool)) (lines : List Line)
-    → lines_or_stop built cores number b xs ≡ Ok lines → lines_from cores number b xs ≡ Ok lines
-lines_until built cores number b [] lines h = cc h
-lines_until built cores number b (x ∷ xs) lines h =
-    by_line (λ c tail e. lines_until built cores (number + 1) c xs tail e) (line_or_stop built cores number b x) refl
-  where
-    by_line : ((c : Before) (tail : List Line) → lines_or_stop built cores (number + 1) c xs ≡ Ok tail → lines_from cores (number + 1) c xs ≡ Ok tail)
-        → (r : Result (Line × Before) Stop) → line_or_stop built cores number b x ≡ r → lines_from cores number b (x ∷ xs) ≡ Ok lines
-    by_line again (Err stop) e = absurd (ok_no_error lines stop (sym h ∙ stops_by built cores number b x xs stop e))
-    by_line again (Ok y) e =
-        let (tail, rest, same) = behind_ok y.0 (lines_or_stop built cores (number + 1) y.1 xs) lines (sym (goes_on_by built cores number b x xs y e) ∙ h) in
-        let line = staged_ok number (is_closed built (cut x.0).0) built.blocks (line_at cores b x) y e in
-        goes_on cores number b x xs y line ∙ ap (λ r. with_front y.0 r) (again y.1 tail rest) ∙ ap Ok same
-
-pub read_whole : (built : Built) (cores : ℕ) (bytes : List ℕ) (lines : List Line) → input_or_stop built cores bytes ≡ Ok lines → input_of cores bytes ≡ Ok lines
-unfolding input_of input_or_stop
-read_whole built cores bytes lines h = lines_until built cores 1 (record { bytes = 0; requests = 0; turns = 0 }) (lines_of bytes) lines h
-
 pub answer_within : (cores : ℕ) (bytes : List ℕ) (r : Result (List Line) InputError) → Answers r (input_of cores bytes) → IfOk r (λ lines. IsWithin cores lines)
 answer_within cores bytes (Ok lines) h = input_within cores bytes lines h
 answer_within cores bytes (Err e) h = tt
-
-pub until_within : (built : Built) (cores : ℕ) (bytes : List ℕ) (r : Result (List Line) UntilError) → StopsAs r (input_or_stop built cores bytes)
-    → IfOk r (λ lines. IsWithin cores lines)
-until_within built cores bytes (Ok lines) h = input_within cores bytes lines (read_whole built cores bytes lines h)
-until_within built cores bytes (Err e) h = tt

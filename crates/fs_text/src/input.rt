@@ -2,19 +2,18 @@
 ghost use Rattle.std.specs.Prelude.{◌≡◌, ℕ, ◌≤◌, List, true, OnOk, IfOk, IfSome, IsErrOf, Ok};
 ghost use Rattle.fs_errors.specs.Counts.{Rose};
 ghost use Rattle.fs_text.specs.Bounds.{IsWithin};
-ghost use Rattle.fs_text.specs.Input.{input_of};
-ghost use Rattle.fs_text.specs.Reading.{Answers};
-ghost use Rattle.fs_text.specs.Stages.{input_or_stop, StopsAs, is_said};
+ghost use Rattle.fs_text.specs.Input.{line_at, input_of};
+ghost use Rattle.fs_text.specs.Reading.{Answers, is_said, numbered};
 ghost use Rattle.fs_text.specs.Streams.{IsAtEnd, IsReadOut};
 
-use crate::fields::first_line;
+use crate::fields::{FirstLine, first_line};
 use crate::input_limits::MOST_READ;
 use crate::line::Line;
+use crate::parsing::{LineError, judge};
 use crate::read_source::{ReadError, read_all};
 use crate::source::Source;
-use crate::stages::{Built, Stop, UntilError, judge_at_stage};
 use crate::totals::Totals;
-use std::alloc::Global;
+use std::alloc::{AllocFailed, Global};
 use std::marker::Model;
 use thiserror::Error;
 
@@ -70,6 +69,16 @@ pub enum InputError {
     Memory,
 }
 
+impl<T: Drop> From<AllocFailed<T>> for InputError {
+    ghost use Rattle.fs_text.specs.declared.input.InputError.TheVariants.{Memory};
+
+    ghost from_gives = { λ _ e. e ≡ Memory };
+
+    fn from(_: AllocFailed<T>) -> InputError {
+        InputError::Memory
+    }
+}
+
 impl From<ReadError> for InputError {
     ghost use Rattle.fs_text.specs.Reading.{as_input_error};
 
@@ -83,29 +92,23 @@ impl From<ReadError> for InputError {
     }
 }
 
-/// The lines of an input, or the first one that isn't good by what is built.
-pub fn parse_until(
+// The line with this number, and what stands before the next one.
+fn line_numbered(
     alloc: Global,
-    bytes: &[u8],
     cores: u32,
-    built: Built,
-) -> Result<Input, UntilError>
-    ensures exact { StopsAs result (input_or_stop built cores bytes.now) }
-    ensures no_fault { IsErrOf result UntilError.SourceFault → ⊥ }
+    number: u64,
+    before: &Totals,
+    first: &FirstLine<'_>,
+) -> Result<(Line, Totals), InputError>
+    ensures exact { Answers result (numbered number (line_at cores before.now
+        (first.now.text.now, first.now.ended))) }
+    ensures no_fault { IsErrOf result InputError.SourceFault → ⊥ }
 {
-    let mut lines = Vec::new(alloc);
-    let mut totals = Totals::none();
-    let mut number = 1u64;
-    let mut rest = bytes;
-    while !rest.is_empty() {
-        let first = first_line(rest);
-        let (line, next) = judge_at_stage(alloc, built, cores, number, &totals, &first)?;
-        lines.push(line)?;
-        totals = next;
-        number += 1;
-        rest = first.rest;
+    match judge(alloc, cores, before, first.text, first.ended) {
+        Ok(read) => Ok(read),
+        Err(LineError::Broken { rule }) => Err(InputError::BadInput { line: number, rule }),
+        Err(LineError::Memory) => Err(InputError::Memory),
     }
-    Ok(Input::of(lines))
 }
 
 /// The lines of an input, or the first one that breaks a rule.
@@ -113,35 +116,19 @@ pub fn parse_input(alloc: Global, bytes: &[u8], cores: u32) -> Result<Input, Inp
     ensures exact { Answers result (input_of cores bytes.now) }
     ensures no_fault { IsErrOf result InputError.SourceFault → ⊥ }
 {
-    match parse_until(alloc, bytes, cores, Built::all()) {
-        Ok(input) => Ok(input),
-        Err(UntilError::Stop(Stop::Bad { line, rule })) => Err(InputError::BadInput { line, rule }),
-        Err(UntilError::Memory) => Err(InputError::Memory),
-        Err(UntilError::Stop(Stop::NotBuilt { .. })) => unreachable!(),
-        Err(UntilError::SourceFault) => unreachable!(),
+    let mut lines = Vec::new(alloc);
+    let mut totals = Totals::none();
+    let mut number = 1u64;
+    let mut rest = bytes;
+    while !rest.is_empty() {
+        let first = first_line(rest);
+        let (line, next) = line_numbered(alloc, cores, number, &totals, &first)?;
+        lines.push(line)?;
+        totals = next;
+        number += 1;
+        rest = first.rest;
     }
-}
-
-/// Reads a source to its end, and gives its lines, or the first one that isn't good by what is built. A source of more
-/// bytes than an input may have is read up to one byte past them.
-pub fn read_until<S: Source>(
-    alloc: Global,
-    source: &mut S,
-    cores: u32,
-    built: Built,
-) -> Result<Input, UntilError>
-    ensures exact { IfSome (S.coming source.old)
-        (λ bytes. StopsAs result (input_or_stop built cores bytes)) }
-    ensures some { (bytes : List ℕ) × StopsAs result (input_or_stop built cores bytes) }
-    ensures within { IfOk result (λ input. IsWithin cores input) }
-    ensures end { OnOk result (IsAtEnd (S.coming source.new)) }
-    ensures whole { is_said result ≡ true → IsReadOut (S.coming source.old) (S.coming source.new) }
-    ensures cause { IsErrOf result UntilError.SourceFault
-        → Rose (S.fault_count source.old) (S.fault_count source.new) }
-    ensures count { S.fault_count source.old ≤ S.fault_count source.new }
-{
-    let bytes = read_all(alloc, source, MOST_READ)?;
-    parse_until(alloc, &bytes, cores, built)
+    Ok(Input::of(lines))
 }
 
 /// Reads a source to its end, and gives its lines, or the first one that breaks a rule. A source of more bytes than an
@@ -151,6 +138,7 @@ pub fn read_input<S: Source>(alloc: Global, source: &mut S, cores: u32) -> Resul
     ensures some { (bytes : List ℕ) × Answers result (input_of cores bytes) }
     ensures within { IfOk result (λ input. IsWithin cores input) }
     ensures end { OnOk result (IsAtEnd (S.coming source.new)) }
+    ensures whole { is_said result ≡ true → IsReadOut (S.coming source.old) (S.coming source.new) }
     ensures cause { IsErrOf result InputError.SourceFault
         → Rose (S.fault_count source.old) (S.fault_count source.new) }
     ensures count { S.fault_count source.old ≤ S.fault_count source.new }

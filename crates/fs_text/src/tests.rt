@@ -1,8 +1,8 @@
 // The worked rows of input and output, and each public call once.
 use crate::{
-    Built, Input, InputError, Line, MemSink, MemSource, OutError, Pair, PlacedEntry, Sink, Source,
-    StdSink, StdSource, SteadySink, SteadySource, Stop, Tally, UntilError, parse_input,
-    parse_until, read_input, read_until, write_entries, write_pairs, write_replies, write_tally,
+    Input, InputError, Line, MemSink, MemSource, OutError, Pair, PlacedEntry, Sink, Source,
+    StdSink, StdSource, SteadySink, SteadySource, Tally, parse_input, read_input, write_entries,
+    write_pairs, write_replies, write_tally,
 };
 use fs_model::{Reply, Request, Value};
 use log_entry::entry::{Body, Entry};
@@ -20,13 +20,6 @@ fn bytes(alloc: Global, text: &str) -> Result<Vec<u8>, AllocError> {
 }
 
 fn fault(outcome: Result<Input, InputError>) -> Option<InputError> {
-    match outcome {
-        Ok(_) => None,
-        Err(error) => Some(error),
-    }
-}
-
-fn until(outcome: Result<Input, UntilError>) -> Option<UntilError> {
     match outcome {
         Ok(_) => None,
         Err(error) => Some(error),
@@ -109,71 +102,6 @@ fn bad_inputs(rt: HostRuntime) -> Result<(), Fail> {
         let outcome = parse_input(alloc, text.as_bytes(), cores);
         assert_eq!(rt; fault(outcome), Some(InputError::BadInput { line, rule }));
     }
-    Ok(())
-}
-
-#[test]
-fn stages(rt: HostRuntime) -> Result<(), Fail> {
-    let alloc = rt.alloc();
-    let none = Built {
-        delete: false,
-        go: false,
-        blocks: false,
-    };
-    let deletes = Built {
-        delete: true,
-        go: false,
-        blocks: false,
-    };
-    let table = [
-        (
-            "get 1\ndelete 1\n",
-            none,
-            Some(UntilError::Stop(Stop::NotBuilt { line: 2 })),
-        ),
-        (
-            "get 1\ndelete\n",
-            none,
-            Some(UntilError::Stop(Stop::NotBuilt { line: 2 })),
-        ),
-        (
-            "go 7\nget x\n",
-            none,
-            Some(UntilError::Stop(Stop::NotBuilt { line: 1 })),
-        ),
-        (
-            "get x\ngo 7\n",
-            none,
-            Some(UntilError::Stop(Stop::Bad { line: 1, rule: 5 })),
-        ),
-        (
-            "delete 1\ngo 0\n",
-            deletes,
-            Some(UntilError::Stop(Stop::NotBuilt { line: 2 })),
-        ),
-        (
-            "delete x\ngo 0\n",
-            deletes,
-            Some(UntilError::Stop(Stop::Bad { line: 1, rule: 5 })),
-        ),
-        (
-            "deleted 1\n",
-            none,
-            Some(UntilError::Stop(Stop::Bad { line: 1, rule: 3 })),
-        ),
-        ("put 1 a\nget 1\n", none, None),
-    ];
-    for (text, built, error) in table {
-        let mut source = SteadySource::new(bytes(alloc, text)?, 100);
-        assert_eq!(rt; until(read_until(alloc, &mut source, 1, built)), error);
-    }
-    let mut text = bytes(alloc, "put 1 ")?;
-    text.resize(261, b'b')?;
-    assert_eq!(rt; until(parse_until(alloc, &text, 1, none)), None);
-    text.push(b'b')?;
-    let stop = Some(UntilError::Stop(Stop::NotBuilt { line: 1 }));
-    assert_eq!(rt; until(parse_until(alloc, &text, 1, none)), stop);
-    assert_eq!(rt; until(parse_until(alloc, &text, 1, Built::all())), None);
     Ok(())
 }
 

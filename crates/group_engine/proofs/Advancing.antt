@@ -1,5 +1,5 @@
 -- What is shown after a step of a core.
-use Rattle.std.proofs.Common.{◌≡◌, ◌≢◌, ◌⊎◌, inl, inr, ℕ, ◌+◌, ◌*◌, ◌/◌, ◌<◌, ◌≤◌, List, [], ◌∷◌, ◌++◌, length, Bool, true, false, not, cond, Option, Some, slice_set, slice_index_or, refl, sym, ◌∙◌, ap, subst, arith, Result, Ok, Err, IfOk, OnOk, OnErr}
+use Rattle.std.proofs.Common.{◌≡◌, ◌≢◌, ◌⊎◌, inl, inr, ℕ, ◌+◌, ◌*◌, ◌/◌, ◌<◌, ◌≤◌, List, [], ◌∷◌, ◌++◌, length, Bool, true, false, not, cond, Option, Some, slice_set, slice_index_or, refl, sym, ◌∙◌, ap, subst, arith, Result, Ok, Err, IfOk, OnOk}
 use Rattle.std.specs.List.{slice_get}
 use Rattle.std.proofs.lemmas.Bool.{cases_eq, eq-eqb, ne_eqb}
 use Rattle.fs_errors.specs.declared.Memory.{Memory}
@@ -28,7 +28,8 @@ use Rattle.core_worker.specs.declared.types.Answer.{Answer}
 use Rattle.group_engine.specs.declared.types.Stamped.{Stamped}
 use Rattle.group_engine.specs.Answers.{HavePlaces, ShowsAnswer, kept_at, stored}
 use Rattle.group_engine.specs.Calls.{AreOwn, KeepsPart, Steps, steps_of, is_idle, is_open, next_of}
-use Rattle.group_engine.specs.Passes.{Ends}
+use Rattle.engine_laws.specs.Ceasing.{Halts}
+use Rattle.group_engine.specs.Passes.{Advances}
 use Rattle.group_engine.specs.Shows.{Seat, Shows, total, left_of}
 use Rattle.group_engine.proofs.Ending.{keeps_any}
 use Rattle.group_engine.proofs.Kept.{get_there, set_length, set_same, set_other, set_twice, total_set, stored_shows, stored_length, shows_less, places_of}
@@ -75,8 +76,8 @@ module _ {W Q : Type 0} (hands : View → W → Hands) (answers : W → List Ans
     asks_own = subst (λ (p : Place). AreOwn p (member_of l c) (queue q)) (sym place_is) (subst (AreOwn (place_at l (group_of l c)) (member_of l c)) waits (H.own c low))
 
     -- after a step
-    module _ (t : State) (b1 : LocalBoard) (x : W) (accepted rest : List (ℕ × Request)) (idle : Bool)
-        (T : Steps hands answers stands fair (state b0.keeper.me.0).place (member_of l c) s t (state b0.keeper.me.0) (state b1.keeper.me.0) (view_of (state b0.keeper.me.0) (member_of l c)) (view_of (state b1.keeper.me.0) (member_of l c)) w x (queue q) accepted rest idle) where
+    module _ (t : State) (b1 : LocalBoard) (x : W) (accepted rest : List (ℕ × Request)) (idle down : Bool)
+        (T : Steps hands answers stands fair (state b0.keeper.me.0).place (member_of l c) s t (state b0.keeper.me.0) (state b1.keeper.me.0) (view_of (state b0.keeper.me.0) (member_of l c)) (view_of (state b1.keeper.me.0) (member_of l c)) w x (queue q) accepted rest idle down) where
       own_e : AreOwn (place_at e.layout (group_of e.layout c)) (member_of e.layout c) (e.backlog c)
       own_e = subst (λ (n : Geometry). AreOwn (place_at n (group_of n c)) (member_of n c) (e.backlog c)) (sym H.layout) (H.own c low)
 
@@ -84,7 +85,7 @@ module _ {W Q : Type 0} (hands : View → W → Hands) (answers : W → List Ans
       board_e = (λ i. e.group (group_of (H.layout i) c)) ∙ board
 
       abbrev Here : Geometry → Place → State → Group → List (ℕ × Request) → Type 0
-      Here n p r a ys = Steps hands answers stands fair p (member_of n c) r t a (state b1.keeper.me.0) (view_of a (member_of n c)) (view_of (state b1.keeper.me.0) (member_of n c)) w x ys accepted rest idle
+      Here n p r a ys = Steps hands answers stands fair p (member_of n c) r t a (state b1.keeper.me.0) (view_of a (member_of n c)) (view_of (state b1.keeper.me.0) (member_of n c)) w x ys accepted rest idle down
 
       here : Here e.layout (place_at e.layout (group_of e.layout c)) e.region (e.group (group_of e.layout c)) (e.backlog c)
       here =
@@ -95,13 +96,16 @@ module _ {W Q : Type 0} (hands : View → W → Hands) (answers : W → List Ans
           (subst (λ (p : Place). Here l p s (state b0.keeper.me.0) (queue q)) place_is T))))
 
       abbrev after : Engine
-      after = moving.after hands answers stands fair room leads o e S c low_e t (state b1.keeper.me.0) w x Y accepted rest idle own_e here
+      after = moving.after hands answers stands fair room leads o e S c low_e t (state b1.keeper.me.0) w x Y accepted rest idle down own_e here
 
       stands_after : Stands o after
-      stands_after = moving.after_stands hands answers stands fair room leads o e S c low_e t (state b1.keeper.me.0) w x Y accepted rest idle own_e here
+      stands_after = moving.after_stands hands answers stands fair room leads o e S c low_e t (state b1.keeper.me.0) w x Y accepted rest idle down own_e here
 
-      turns : (r : Bool) → (r ≡ false → idle ≡ true) → accepted ≡ next_of (is_open room leads w) (queue q) → AnyTurn e c r after
-      turns r still chosen = moving.any_turn hands answers stands fair room leads o e S c low_e t (state b1.keeper.me.0) w x Y accepted rest idle own_e here r still (chosen ∙ ap (next_of (is_open room leads w)) (sym waits))
+      halted : idle ≡ true → Halts e after c
+      halted still = moving.halts hands answers stands fair room leads o e S c low_e t (state b1.keeper.me.0) w x Y accepted rest idle down own_e here still
+
+      turns : (r : Bool) → (r ≡ false → idle ≡ true) → down ≡ false → accepted ≡ next_of (is_open room leads w) (queue q) → AnyTurn e c r after
+      turns r still goes chosen = moving.any_turn hands answers stands fair room leads o e S c low_e t (state b1.keeper.me.0) w x Y accepted rest idle down own_e here r still goes (chosen ∙ ap (next_of (is_open room leads w)) (sym waits))
 
       -- what goes out
       more_is : answers x ≡ here.adds.more
@@ -109,7 +113,7 @@ module _ {W Q : Type 0} (hands : View → W → Hands) (answers : W → List Ans
 
       pub have_places : HavePlaces (length ks) (answers x)
       have_places = subst (HavePlaces (length ks)) (sym more_is) (subst (λ n. HavePlaces n here.adds.more) (sym H.count) (places_of (IsTelling t) (length e.given) here.fixed here.adds.more here.adds.given
-          (λ y i. moving.given hands answers stands fair room leads o e S c low_e t (state b1.keeper.me.0) w x Y accepted rest idle own_e here y i)))
+          (λ y i. moving.given hands answers stands fair room leads o e S c low_e t (state b1.keeper.me.0) w x Y accepted rest idle down own_e here y i)))
 
       told_before : IsTelling t → IsTelling e.region
       told_before told = told_at_entry e.region t (KeepsOutside (cell_now e.region) (part_at (place_at e.layout (group_of e.layout c)) (member_of e.layout c)) (part_end (place_at e.layout (group_of e.layout c)) (member_of e.layout c))) here.moves.outside told
@@ -117,7 +121,7 @@ module _ {W Q : Type 0} (hands : View → W → Hands) (answers : W → List Ans
       answers_there : (n : ℕ) → ShowsAnswer (IsTelling t) (slice_get e.given n) (after.answer n) (kept_at (stored (answers x) t.stamp ks) n)
       answers_there n = subst (λ ys. ShowsAnswer (IsTelling t) (slice_get e.given n) (after.answer n) (kept_at (stored ys t.stamp ks) n)) (sym more_is)
           (stored_shows (IsTelling t) (slice_get e.given) t.stamp here.fixed here.adds.more e.answer ks here.adds.given (subst (HavePlaces (length ks)) more_is have_places)
-          (moving.once hands answers stands fair room leads o e S c low_e t (state b1.keeper.me.0) w x Y accepted rest idle own_e here) (moving.asked hands answers stands fair room leads o e S c low_e t (state b1.keeper.me.0) w x Y accepted rest idle own_e here)
+          (moving.once hands answers stands fair room leads o e S c low_e t (state b1.keeper.me.0) w x Y accepted rest idle down own_e here) (moving.asked hands answers stands fair room leads o e S c low_e t (state b1.keeper.me.0) w x Y accepted rest idle down own_e here)
           (λ k. shows_less (IsTelling s) (IsTelling t) (slice_get e.given k) (e.answer k) (kept_at ks k) (λ told. subst IsTelling H.region (told_before told)) (H.answered k)) n)
 
       -- The lists after it show the state after it.
@@ -129,14 +133,14 @@ module _ {W Q : Type 0} (hands : View → W → Hands) (answers : W → List Ans
         ws1 = slice_set (slice_set ws c x) c y
 
         own_seat : Seat hands answers stands fair room leads after c y
-        own_seat = moving.same_seat hands answers stands fair room leads o e S c low_e t (state b1.keeper.me.0) w x Y accepted rest idle own_e here y
+        own_seat = moving.same_seat hands answers stands fair room leads o e S c low_e t (state b1.keeper.me.0) w x Y accepted rest idle down own_e here y
             (λ v. same v ∙ ap (hands v) u_is) (λ p n r v h. keeps p n r v (subst (stands p n r v) (sym u_is) h)) (λ a n h. even a n (subst (fair a n) (sym u_is) h)) (ready ∙ ap (is_open room leads) u_is) none
 
         seat : (d : ℕ) (z : W) → slice_get (slice_set ws c y) d ≡ Some z → (d ≡ c) ⊎ (d ≢ c) → Seat hands answers stands fair room leads after d z
         seat d z at (inl is) =
             let z_is : z ≡ y = set_same ws c y z (sym (ap (λ n. slice_get (slice_set ws c y) n) is) ∙ at) in
             subst (λ n. Seat hands answers stands fair room leads after n z) (sym is) (subst (λ u. Seat hands answers stands fair room leads after c u) (sym z_is) own_seat)
-        seat d z at (inr ne) = moving.other_seat hands answers stands fair room leads o e S c low_e t (state b1.keeper.me.0) w x Y accepted rest idle own_e here kept beside d z ne (H.seats d z (sym (set_other ws c d y ne) ∙ at))
+        seat d z at (inr ne) = moving.other_seat hands answers stands fair room leads o e S c low_e t (state b1.keeper.me.0) w x Y accepted rest idle down own_e here kept beside d z ne (H.seats d z (sym (set_other ws c d y ne) ∙ at))
 
         group_e : group_of e.layout c ≡ c / l.group
         group_e = ap (λ (n : Geometry). group_of n c) H.layout
@@ -183,41 +187,35 @@ module _ {W Q : Type 0} (hands : View → W → Hands) (answers : W → List Ans
         (beside : (a e : Group) (m n : ℕ) (kinds : List Kind) (w : W) → Lawful a → Runs a (steps_of m kinds) e → n ≢ m → fair a n w → fair e n w)
         (y u : W) (u_is : u ≡ x) (same : (v : View) → hands v y ≡ hands v u) (keeps : (p : Place) (n : ℕ) (s : State) (v : View) → stands p n s v u → stands p n s v y) (even : (a : Group) (n : ℕ) → fair a n u → fair a n y) (ready : is_open room leads y ≡ is_open room leads u) (none : answers y ≡ [])
         (q1 : Q) (ks1 : List (Option Stamped)) (ks_is : ks1 ≡ stored (answers u) t.stamp ks) where
-      abbrev pub Stepped : Result Bool Memory → Type 0
-      Stepped r =
+      abbrev pub Stepped : Bool → Result Bool Memory → Type 0
+      Stepped down r =
           (accepted : List (ℕ × Request)) × (rest : List (ℕ × Request))
-          × Steps hands answers stands fair (state b0.keeper.me.0).place (member_of l c) s t (state b0.keeper.me.0) (state b1.keeper.me.0) (view_of (state b0.keeper.me.0) (member_of l c)) (view_of (state b1.keeper.me.0) (member_of l c)) w x (queue q) accepted rest (is_idle r)
+          × Steps hands answers stands fair (state b0.keeper.me.0).place (member_of l c) s t (state b0.keeper.me.0) (state b1.keeper.me.0) (view_of (state b0.keeper.me.0) (member_of l c)) (view_of (state b1.keeper.me.0) (member_of l c)) w x (queue q) accepted rest (is_idle r) down
           × (queue q1 ≡ rest) × OnOk r (accepted ≡ next_of (is_open room leads w) (queue q))
 
-      pub advanced : (r : Result Bool Memory) → Stepped r
-          → IfOk r (λ n. (f : Engine) × ((o : Origin) × Stands o f × Shows hands answers stands fair room leads queue t l (slice_set (slice_set ws c x) c y) (slice_set bs (c / l.group) b1) (slice_set qs c q1) ks1 f) × AnyTurn e c n f)
-      advanced (Ok n) T = (
-        after t b1 x T.0 T.1 (not n) T.2,
-        (o, stands_after t b1 x T.0 T.1 (not n) T.2, shown t b1 x T.0 T.1 (not n) T.2 kept beside y u u_is same keeps even ready none q1 T.3 ks1 ks_is),
-        turns t b1 x T.0 T.1 (not n) T.2 n (λ z. ap not z) T.4,
-      )
-      advanced (Err z) T = tt
+      abbrev Now : Engine → Type 0
+      Now f = (o : Origin) × Stands o f × Shows hands answers stands fair room leads queue t l (slice_set (slice_set ws c x) c y) (slice_set bs (c / l.group) b1) (slice_set qs c q1) ks1 f
 
-      pub failed : (r : Result Bool Memory) → Stepped r
-          → OnErr r ((f : Engine) × ((o : Origin) × Stands o f × Shows hands answers stands fair room leads queue t l (slice_set (slice_set ws c x) c y) (slice_set bs (c / l.group) b1) (slice_set qs c q1) ks1 f) × Ends t e f)
-      failed (Ok n) T = tt
-      failed (Err z) T = (
-        after t b1 x T.0 T.1 false T.2,
-        (o, stands_after t b1 x T.0 T.1 false T.2, shown t b1 x T.0 T.1 false T.2 kept beside y u u_is same keeps even ready none q1 T.3 ks1 ks_is),
-        record { region = refl; keeps = keeps_any e (after t b1 x T.0 T.1 false T.2) c true (moving.any_move hands answers stands fair room leads o e S c low_e t (state b1.keeper.me.0) w x Y T.0 T.1 false (own_e t b1 x T.0 T.1 false T.2) (here t b1 x T.0 T.1 false T.2) true) },
-      )
+      pub advanced : (down : Bool) (r : Result Bool Memory) → Stepped down r → (f : Engine) × Now f × Advances t down r c e f
+      advanced down r T = (
+        after t b1 x T.0 T.1 (is_idle r) down T.2,
+        (o, stands_after t b1 x T.0 T.1 (is_idle r) down T.2, shown t b1 x T.0 T.1 (is_idle r) down T.2 kept beside y u u_is same keeps even ready none q1 T.3 ks1 ks_is),
+        record {
+          ends = record { region = refl; keeps = keeps_any e (after t b1 x T.0 T.1 (is_idle r) down T.2) c true (moving.any_move hands answers stands fair room leads o e S c low_e t (state b1.keeper.me.0) w x Y T.0 T.1 (is_idle r) down (own_e t b1 x T.0 T.1 (is_idle r) down T.2) (here t b1 x T.0 T.1 (is_idle r) down T.2) true) };
+          turn = λ goes. turned r refl goes;
+          halts = halted_by r refl;
+        },
+      ) where
+        turned : (z : Result Bool Memory) → r ≡ z → down ≡ false → IfOk z (λ b. AnyTurn e c b (after t b1 x T.0 T.1 (is_idle r) down T.2))
+        turned (Ok n) is goes = turns t b1 x T.0 T.1 (is_idle r) down T.2 n (λ off. ap is_idle is ∙ ap not off) goes (subst (λ (z : Result Bool Memory). OnOk z (T.0 ≡ next_of (is_open room leads w) (queue q))) is T.4)
+        turned (Err z) is goes = tt
 
-      pub places : (r : Result Bool Memory) → Stepped r → HavePlaces (length ks) (answers x)
-      places r T = have_places t b1 x T.0 T.1 (is_idle r) T.2
+        halted_by : (z : Result Bool Memory) → r ≡ z → IfOk z (λ b. b ≡ false → Halts e (after t b1 x T.0 T.1 (is_idle r) down T.2) c)
+        halted_by (Ok n) is = λ off. halted t b1 x T.0 T.1 (is_idle r) down T.2 (ap is_idle is ∙ ap not off)
+        halted_by (Err z) is = tt
 
--- for each state that was shown
-pub ok_each : (r : Result Bool Memory) (P : Engine → Type 0) (F : Bool → Engine → Type 0) → ((e : Engine) → P e → IfOk r (λ b. F b e)) → IfOk r (λ b. (e : Engine) → P e → F b e)
-ok_each (Ok b) P F h = h
-ok_each (Err n) P F h = tt
-
-pub err_each : (r : Result Bool Memory) (P : Engine → Type 0) (F : Engine → Type 0) → ((e : Engine) → P e → OnErr r (F e)) → OnErr r ((e : Engine) → P e → F e)
-err_each (Ok b) P F h = tt
-err_each (Err n) P F h = h
+      pub places : (down : Bool) (r : Result Bool Memory) → Stepped down r → HavePlaces (length ks) (answers x)
+      places down r T = have_places t b1 x T.0 T.1 (is_idle r) down T.2
 
 module _ {W Q : Type 0} (left : W → ℕ) (under : Group → ℕ) (most : ℕ) (queue : Q → List (ℕ × Request)) (ws : List W) (bs : List LocalBoard) (qs : List Q) (c g : ℕ) (w x y : W) (b0 b1 : LocalBoard) (q0 q1 : Q)
     (cw : c < length ws) (gb : g < length bs) (cq : c < length qs) (w_is : w ≡ slice_index_or ws c w) (b_is : b0 ≡ slice_index_or bs g b0) (q_is : q0 ≡ slice_index_or qs c q0) (same : left y ≡ left x) where

@@ -1,11 +1,14 @@
 -- What moves keep, also where they end for want of memory.
-use Rattle.std.proofs.Common.{◌≡◌, ◌∙◌, sym, ap, subst, append_assoc, ℕ, List, [], ◌∷◌, ◌++◌, Bool, refl, Result, Ok, Err, OnErr}
+use Rattle.std.proofs.Common.{◌+◌, ◌<◌, true, false, cond, ⊎_elim, arith, ◌≡◌, ◌∙◌, sym, ap, subst, append_assoc, ℕ, List, [], ◌∷◌, ◌++◌, Bool, refl, Result, Ok, Err, OnErr}
 use Rattle.pm_region.specs.State.{State}
 use Rattle.engine_laws.specs.Engine.{Engine}
 use Rattle.engine_laws.specs.Ran.{Goes, Ran, asked_in}
 use Rattle.engine_laws.specs.Stands.{given_to}
 use Rattle.engine_laws.specs.Promises.{AnyMove, AnyTurn}
-use Rattle.group_engine.specs.Passes.{Settles, Passes, Keeps, Ends, Begun, EndsIn, RanSoFar}
+use Rattle.group_engine.specs.Passes.{Settles, Passes, Keeps, Ends, Begun, EndsIn, RanSoFar, Ceases, CeasesSoFar, CeasePasses, CeasesOut, CeasesIn}
+use Rattle.std.proofs.lemmas.Bool.{cases_lt}
+use Rattle.engine_laws.specs.Ceasing.{IsResting, Halts}
+use Rattle.engine_laws.proofs.Ceasing.{stays_resting}
 use Rattle.engine_laws.proofs.Stands.{stands_on}
 use Rattle.engine_laws.proofs.Ran.{until, pass, goes}
 use Rattle.engine_laws.proofs.Begins.{gives}
@@ -67,3 +70,49 @@ ran_ask cores ls rest more q e now is S = λ f r. S f (subst (λ (zs : List Line
 
 pub ran_go : (cores : ℕ) (ls rest more : List Line) (c turns : ℕ) (e now next : Engine) → rest ≡ Go c turns ∷ more → RanSoFar cores ls rest e now → Goes AnyTurn c turns now next → RanSoFar cores ls more e next
 ran_go cores ls rest more c turns e now next is S G = λ f r. S f (subst (λ (zs : List Line). Ran AnyTurn cores zs now f) (sym is) (next, G, r))
+
+-- while all wind down
+pub ends_first : (t : State) (e : Engine) → e.region ≡ t → Ends t e e
+ends_first t e at = record { region = at; keeps = keeps_all e }
+
+pub ends_then : (s t : State) (e now next : Engine) → Ends s e now → Ends t now next → Ends t e next
+ends_then s t e now next E F = record { region = F.region; keeps = keeps_on e now next E.keeps F.keeps }
+
+pub ceases_first : (t : State) (e : Engine) → e.region ≡ t → CeasesSoFar t false e e
+ceases_first t e at = record { ends = ends_first t e at; same = λ q. refl }
+
+pub ceases_more : (s t : State) (b d : Bool) (c : ℕ) (e now next : Engine) → CeasesSoFar s b e now → Ceases t d c now next → CeasesSoFar t true e next
+ceases_more s t b d c e now next S N = record { ends = ends_then s t e now next S.ends N.ends; same = λ q. absurd (cc q) }
+
+pub ceases_last : (s t : State) (b : Bool) (c : ℕ) (e now next : Engine) → CeasesSoFar s b e now → Ceases t false c now next → Ceases t b c e next
+ceases_last s t b c e now next S N = record { ends = ends_then s t e now next S.ends N.ends; halts = λ off. subst (λ (x : Engine). Halts x next c) (S.same off) (N.halts refl) }
+
+pub cease_none : (t : State) (e : Engine) → e.region ≡ t → CeasePasses t 0 false e e
+cease_none t e at = record { ends = ends_first t e at; rest = λ off c low. absurd (omega (arith, low)) }
+
+pub cease_one : (s t : State) (at : ℕ) (a b m : Bool) (e now next : Engine) → CeasePasses s at a e now → Ceases t b at now next → cond b true a ≡ m → CeasePasses t (at + 1) m e next
+cease_one s t at a b m e now next S N is = record {
+  ends = ends_then s t e now next S.ends N.ends;
+  rest = λ off c low. by b refl a refl off c low;
+} where
+  by : (d : Bool) → b ≡ d → (z : Bool) → a ≡ z → m ≡ false → (c : ℕ) → c < at + 1 → IsResting next c
+  by true q z r off c low = absurd (let on : true ≡ m = sym (ap (λ x. cond x true a) q) ∙ is in let both : true ≡ false = on ∙ off in cc both)
+  by false q true r off c low = absurd (let on : true ≡ m = sym (ap (λ x. cond x true a) q ∙ r) ∙ is in let both : true ≡ false = on ∙ off in cc both)
+  by false q false r off c low = ⊎_elim
+      (λ below. stays_resting now next at c (N.halts q) (S.rest r c below))
+      (λ above. let same : at ≡ c = omega (arith, low, above) in subst (IsResting next) same (N.halts q).rests)
+      (cases_lt c at)
+
+pub ceased_out : (s t : State) (cores : ℕ) (e now next : Engine) → Ends s e now → CeasePasses t cores false now next → CeasesOut t cores e next
+ceased_out s t cores e now next E P = record { ends = ends_then s t e now next E P.ends; rest = P.rest refl }
+
+-- a run that found no memory, and then ceased
+pub ceases_in : (s t : State) (cores : ℕ) (ls : List Line) (e now mid next : Engine) → EndsIn s ls e now → Ends s now mid → CeasesOut t cores mid next → CeasesIn t cores ls e next
+ceases_in s t cores ls e now mid next E W C = record {
+  ends = record {
+    region = C.ends.region;
+    stands = λ o S. C.ends.keeps.stands o (W.keeps.stands o (E.stands o S));
+    given = (E.given.0, E.given.1 ∙ ap (λ xs. xs ++ E.given.0) (sym (C.ends.keeps.given ∙ W.keeps.given)));
+  };
+  rest = C.rest;
+}

@@ -62,7 +62,7 @@ module _ {W Q : Type 0} (hands : View → W → Hands) (answers : W → List Ans
     seat_on : (d : ℕ) (w : W) → Seat hands answers stands fair room leads e d w → Seat hands answers stands fair room leads (given_to e r) d w
     seat_on d w Y = record {
       view = Y.view;
-      sits = record { view = Y.sits.view; place = Y.sits.place; waits = Y.sits.waits; stopped = Y.sits.stopped };
+      sits = record { view = Y.sits.view; place = Y.sits.place; waits = Y.sits.waits; stopped = Y.sits.stopped; stock = Y.sits.stock };
       tied = Y.tied;
       fairly = Y.fairly;
       takes = Y.takes;

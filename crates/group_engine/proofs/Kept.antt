@@ -1,5 +1,5 @@
 -- Lists with an item set, and the answers kept by number.
-use Rattle.std.proofs.Common.{◌≡◌, ◌≢◌, ◌⊎◌, inl, inr, ℕ, zero, suc, ◌+◌, ◌<◌, ◌==◌, List, [], ◌∷◌, ◌++◌, length, Bool, true, false, cond, Option, Some, None, slice_set, slice_index_or, refl, sym, ◌∙◌, ap, subst, arith, Result, Ok, Err, OnOk, OnErr}
+use Rattle.std.proofs.Common.{◌≡◌, ◌≢◌, ◌⊎◌, inl, inr, ℕ, zero, suc, ◌+◌, ◌<◌, ◌==◌, List, [], ◌∷◌, ◌++◌, length, Bool, true, false, cond, Option, Some, None, slice_set, slice_index_or, refl, sym, ◌∙◌, ap, subst, arith, Result, Ok, Err, OnOk, IfOk, OnErr}
 use Rattle.std.specs.List.{slice_get}
 use Rattle.std.proofs.lemmas.Bool.{eq-eqb, ne_eqb, eqb-true, eqb-false}
 use Rattle.fs_model.specs.declared.model.Request.{Request}
@@ -63,10 +63,20 @@ pub one_more : {X : Type 0} (xs : List X) (x : X) → length (xs ++ x ∷ []) �
 one_more [] x = omega arith
 one_more (y ∷ ys) x = let r = one_more ys x in omega (arith, r)
 
+-- what is read at a place is what stands there
+pub at_is : {X : Type 0} (xs : List X) (n : ℕ) (y z : X) → slice_get xs n ≡ Some z → y ≡ slice_index_or xs n y → y ≡ z
+at_is [] n y z e same = absurd (cc e)
+at_is (x ∷ xs) zero y z e same = same ∙ cc e
+at_is (x ∷ xs) (suc n) y z e same = at_is xs n y z e same
+
 -- outcomes
 pub ok_then : {T E A B : Type 0} (r : Result T E) → (A → B) → OnOk r A → OnOk r B
 ok_then (Ok x) f a = f a
 ok_then (Err x) f a = tt
+
+pub ok_of : {T E : Type 0} (r : Result T E) (P : T → Type 0) → ((b : T) → r ≡ Ok b → P b) → IfOk r P
+ok_of (Ok x) P f = f x refl
+ok_of (Err x) P f = tt
 
 pub err_then : {T E A B : Type 0} (r : Result T E) → (A → B) → OnErr r A → OnErr r B
 err_then (Ok x) f a = tt

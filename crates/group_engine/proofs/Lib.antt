@@ -2,7 +2,10 @@ mod Passing
 mod Ending
 mod Stepping
 mod Working
+mod FreeFound
 mod Seating
+mod Ranged
+mod Opens
 mod Kept
 mod Moving
 mod Advancing
@@ -11,3 +14,5 @@ mod Opened
 mod Reporting
 mod Outcomes
 mod Stopping
+mod Winding
+mod Ended

@@ -37,7 +37,8 @@ use Rattle.engine_laws.proofs.Sits.{loads_only}
 use Rattle.engine_laws.proofs.Numbers.{all_in}
 use Rattle.engine_laws.proofs.Calls.{call_stands, call_sits, call_others, call_move, call_once, call_given, call_asked}
 use Rattle.core_worker.specs.declared.types.Answer.{Answer}
-use Rattle.group_engine.specs.Calls.{AreOwn, Rests, KeepsPart, Steps, steps_of, is_open, next_of}
+use Rattle.engine_laws.specs.Ceasing.{IsResting, Halts}
+use Rattle.group_engine.specs.Calls.{HasNoMore, AreOwn, Rests, KeepsPart, Steps, steps_of, is_open, next_of}
 use Rattle.group_engine.specs.Shows.{Seat}
 
 pub layout_of_stands : (o : Origin) (e : Engine) → Stands o e → IsLayout e.layout
@@ -50,8 +51,8 @@ other_part l is c d s t ne D = weaken s t (KeepsOutside (cell_now s) (part_first
 
 module _ {W : Type 0} (hands : View → W → Hands) (answers : W → List Answer) (stands : Place → ℕ → State → View → W → Type 0) (fair : Group → ℕ → W → Type 0) (room leads : W → Bool)
     (o : Origin) (e : Engine) (S : Stands o e) (c : ℕ) (low : c < e.layout.cores) (t : State) (b : Group) (w x : W) (seat : Seat hands answers stands fair room leads e c w)
-    (accepted rest : List (ℕ × Request)) (idle : Bool) (own : AreOwn (place_at e.layout (group_of e.layout c)) (member_of e.layout c) (e.backlog c))
-    (T : Steps hands answers stands fair (place_at e.layout (group_of e.layout c)) (member_of e.layout c) e.region t (e.group (group_of e.layout c)) b (view_of (e.group (group_of e.layout c)) (member_of e.layout c)) (view_of b (member_of e.layout c)) w x (e.backlog c) accepted rest idle) where
+    (accepted rest : List (ℕ × Request)) (idle down : Bool) (own : AreOwn (place_at e.layout (group_of e.layout c)) (member_of e.layout c) (e.backlog c))
+    (T : Steps hands answers stands fair (place_at e.layout (group_of e.layout c)) (member_of e.layout c) e.region t (e.group (group_of e.layout c)) b (view_of (e.group (group_of e.layout c)) (member_of e.layout c)) (view_of b (member_of e.layout c)) w x (e.backlog c) accepted rest idle down) where
   abbrev g : ℕ
   g = group_of e.layout c
 
@@ -158,7 +159,7 @@ module _ {W : Type 0} (hands : View → W → Hands) (answers : W → List Answe
     ]
 
     rest_is : rest ≡ e.backlog c
-    rest_is = ap (λ xs. xs ++ rest) (sym (T.empty still).0) ∙ sym T.split
+    rest_is = ap (λ xs. xs ++ rest) (sym (T.none still)) ∙ sym T.split
 
     backlog_same : (d : ℕ) → after.backlog d ≡ e.backlog d
     backlog_same d = elim (cases_eq d c) [
@@ -181,33 +182,44 @@ module _ {W : Type 0} (hands : View → W → Hands) (answers : W → List Answe
     owner_b : (k : ℕ) → owner e.layout k ≡ c → places.owner b.place k ≡ m
     owner_b k is = ap (λ (q : Place). places.owner q k) place_b ∙ of_member e.layout is_layout c k is
 
-    idle_now : IsIdle after c
-    idle_now = record {
+    rests_now : IsResting after c
+    rests_now = record {
       holds = ap (λ (n : Group). n.holds m) group_now ∙ R.holds;
       taken = λ h s. ap (λ (n : Group). n.taken m h s) group_now ∙ R.taken h s;
-      placed = λ k y is at.
-          let r = R.placed k y (of_member e.layout is_layout c k is) (sym (mine k is).0 ∙ at) in (
-            r.0,
-            λ d s pending slot.
-                let q : (view_of b m).pending k ≡ Some d = pending_in b m k (owner_b k is) ∙ sym (ap (λ (n : Group). n.pending k) (group_for_is k is)) ∙ pending in
-                elim (r.1 d s q slot) [
-                  | inl taken ↦ inl (ap (λ (n : Group). n.slot m s) group_now ∙ taken)
-                  | inr posted ↦ inr (posted.0, posted.1, ap (λ (n : Group). n.slot m s) group_now ∙ posted.2, ap (λ (n : Group). n.holder) group_now ∙ posted.3)
-                ],
-          );
-      waits = λ k is none. (mine k is).1 ∙ R.waits k (of_member e.layout is_layout c k is) (sym (mine k is).0 ∙ none);
-      backlog = λ none. backlog_same c ∙ (T.empty still).1 (λ k is. (let core = of_core e.layout is_layout c k is in sym (mine k core).0 ∙ none k core));
+      posted = λ k y is at posted d s pending slot.
+          let q : (view_of b m).pending k ≡ Some d = pending_in b m k (owner_b k is) ∙ sym (ap (λ (n : Group). n.pending k) (group_for_is k is)) ∙ pending in
+          elim (R.posted k y (of_member e.layout is_layout c k is) (sym (mine k is).0 ∙ at) posted d s q slot) [
+            | inl taken ↦ inl (ap (λ (n : Group). n.slot m s) group_now ∙ taken)
+            | inr out ↦ inr (out.0, out.1, ap (λ (n : Group). n.slot m s) group_now ∙ out.2, ap (λ (n : Group). n.holder) group_now ∙ out.3)
+          ];
     }
 
-    pub idles : Idles e after c
-    idles = record {
-      layout = refl;
-      place = (λ i k. place_same k i);
-      waits = (λ i k. waits_same k i);
-      backlog = (λ i d. backlog_same d i);
-      groups = groups_same;
-      idle = idle_now;
-    }
+    pub halts : Halts e after c
+    halts = record { layout = refl; place = (λ i k. place_same k i); groups = groups_same; rests = rests_now }
 
-  pub any_turn : (r : Bool) → (r ≡ false → idle ≡ true) → accepted ≡ next_of (is_open room leads w) (e.backlog c) → AnyTurn e c r after
-  any_turn r still is = ((accepted, T.fixed, after_move), is ∙ ap (λ q. next_of q (e.backlog c)) (sym seat.takes), λ z. idles (still z))
+    -- and one that goes on has nothing to begin
+    module _ (goes : down ≡ false) where
+      abbrev N : HasNoMore p m (hands (view_of b m) x)
+      N = T.no_more still goes
+
+      idle_now : IsIdle after c
+      idle_now = record {
+        holds = rests_now.holds;
+        taken = rests_now.taken;
+        placed = λ k y is at. (let on = N.placed k y (of_member e.layout is_layout c k is) (sym (mine k is).0 ∙ at) in (on, rests_now.posted k y is at on));
+        waits = λ k is none. (mine k is).1 ∙ N.waits k (of_member e.layout is_layout c k is) (sym (mine k is).0 ∙ none);
+        backlog = λ none. backlog_same c ∙ T.empty still goes (λ k is. (let core = of_core e.layout is_layout c k is in sym (mine k core).0 ∙ none k core));
+      }
+
+      pub idles : Idles e after c
+      idles = record {
+        layout = refl;
+        place = (λ i k. place_same k i);
+        waits = (λ i k. waits_same k i);
+        backlog = (λ i d. backlog_same d i);
+        groups = groups_same;
+        idle = idle_now;
+      }
+
+  pub any_turn : (r : Bool) → (r ≡ false → idle ≡ true) → down ≡ false → accepted ≡ next_of (is_open room leads w) (e.backlog c) → AnyTurn e c r after
+  any_turn r still goes is = ((accepted, T.fixed, after_move), is ∙ ap (λ q. next_of q (e.backlog c)) (sym seat.takes), λ z. idles (still z) goes)

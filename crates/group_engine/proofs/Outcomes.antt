@@ -212,6 +212,10 @@ module _ (K : Type 0) where
     is_refusal n (suc count) j y e = front n (ans n) (named_from is_told (λ a. a.reply) ans (n + 1) count) y (λ i z. is_refusal (n + 1) count i y z) j e
 
     module _ (qs : List Request) (ks : List (Option Stamped)) (count : ℕ) (l : Alike qs ks count) (h : Shown 0 qs ks) where
+      -- Where the region tells, the replies that are kept are those of the state.
+      pub kept_replies : K → map reply_in ks ≡ replies_from ans 0 count
+      kept_replies k = exact k 0 count qs ks l h
+
       -- The answers that are kept are some that the state may give.
       pub kept_answers : (start : ℕ → Option (List ℕ)) (r : Told) (M N : Type 0) → (M → N) → r.refusals ≡ named_from is_told (λ a. a.reply) ans 0 count → Answers K start qs r M (replies_from ans 0 count) → Answers K start qs r N (map reply_in ks)
       kept_answers start r M N f refs A = record {
@@ -231,7 +235,8 @@ MayStop e more = AllAnswered e → more ≡ [] → HasStopped e
 -- A report on the answers that an engine keeps is one on the state that it shows.
 pub reports_on : (s : State) (o : Origin) (e : Engine) (ks : List (Option Stamped)) (r : Report) → Stands o e → length ks ≡ length e.given → ((n : ℕ) → ShowsAnswer (IsTelling s) (slice_get e.given n) (e.answer n) (kept_at ks n)) → e.region ≡ s → IsReport ks r → ReportsOn s o e r
 reports_on s o e ks r S count shown region R = record {
-  told = told;
+  told_is = told;
+  known = λ telling. R.replies ∙ kept_replies (IsTelling s) e.answer e.given ks (length e.given) (refl, sym count) from telling;
   answers = subst (λ rs. Answers (IsTelling s) (start_of o) e.given (told_of e) (AllAnswered e → HasStopped e) rs) (sym R.replies)
       (kept_answers (IsTelling s) e.answer e.given ks (length e.given) (refl, sym count) from (start_of o) (told_of e) (MayStop e []) (AllAnswered e → HasStopped e) (λ f all. f all refl) refl state);
 } where

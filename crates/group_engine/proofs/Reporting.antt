@@ -1,9 +1,11 @@
 -- The report on the answers that an engine keeps is that of the state which it shows.
-use Rattle.std.proofs.Common.{◌≡◌, ℕ, ◌+◌, List, [], ◌∷◌, ◌++◌, length, map, Option, refl, sym, ◌∙◌, ap, arith, append_assoc, append-nil}
+use Rattle.std.proofs.Common.{rules, ◌≡◌, ℕ, ◌+◌, ◌<◌, ◌≤◌, List, [], ◌∷◌, ◌++◌, length, map, Option, refl, sym, ◌∙◌, ap, arith, append_assoc, append-nil, length-append}
+use Rattle.std.specs.Prelude.{Vec, vec_len}
+use Rattle.std.specs.Global.{Global}
 use Rattle.std.proofs.lemmas.List.{map-append}
 use Rattle.group_engine.specs.declared.types.Stamped.{Stamped}
 use Rattle.group_engine.specs.declared.run_report.Report.{Report}
-use Rattle.group_engine.specs.Reports.{reply_in, finish_in, refusal_in, finishes_in, refusals_in, Adds, IsReport}
+use Rattle.group_engine.specs.Reports.{reply_in, finish_in, refusal_in, finishes_in, refusals_in, Adds, IsReport, IsBlank, HasRoomFor, HasRoom, FillsAll, IsWithin}
 
 -- one answer more, of any list that is made number by number
 module _ {X : Type 0} (one : ℕ → Option Stamped → List X) (all : ℕ → List (Option Stamped) → List X) (none : (n : ℕ) → all n [] ≡ []) (some : (n : ℕ) (x : Option Stamped) (xs : List (Option Stamped)) → all n (x ∷ xs) ≡ one n x ++ all (n + 1) xs) where
@@ -27,3 +29,36 @@ report_more xs x old new R A =
       finishes = A.finishes ∙ (λ i. R.finishes i ++ finish_in (count i) x) ∙ sym (more finish_in finishes_in (λ n. refl) (λ n y ys. refl) 0 xs x);
       refusals = A.refusals ∙ (λ i. R.refusals i ++ refusal_in (count i) x) ∙ sym (more refusal_in refusals_in (λ n. refl) (λ n y ys. refl) 0 xs x);
     }
+
+-- a report on nothing
+pub blank_report : (r : Report) → IsBlank r → IsReport [] r
+blank_report r B = record { replies = B.replies; finishes = B.finishes; refusals = B.refusals }
+
+none_in : {X : Type 0} (v : Vec X Global) (n : ℕ) → v.items ≡ [] → vec_len v ≤ n
+none_in v n e = let len : vec_len v ≡ length v.items = search rules in let z : length v.items ≡ 0 = ap length e in omega (arith, len, z)
+
+pub blank_within : (r : Report) → IsBlank r → IsWithin 0 r
+blank_within r B = record { replies = none_in r.replies 0 B.replies; finishes = none_in r.finishes 0 B.finishes; refusals = none_in r.refusals 0 B.refusals }
+
+pub has_room : (used all : ℕ) (r : Report) → used < all → IsWithin used r → HasRoomFor all r → HasRoom r
+has_room used all r lt W H = record {
+  replies = (let a = W.replies in let b = H.replies in omega (arith, lt, a, b));
+  finishes = (let a = W.finishes in let b = H.finishes in omega (arith, lt, a, b));
+  refusals = (let a = W.refusals in let b = H.refusals in omega (arith, lt, a, b));
+}
+
+-- the room and the count after one more
+pub room_more : {X : Type 0} (xs : List X) (x : X) (all : ℕ) (old new : Report) → IsWithin (length xs) old → HasRoomFor all old → FillsAll old new → HasRoomFor all new × IsWithin (length (xs ++ x ∷ [])) new
+room_more xs x all old new W H F =
+    let more : length (xs ++ x ∷ []) ≡ length xs + 1 = length-append xs (x ∷ []) in (
+      record {
+        replies = (let a = F.replies.1 in let b = H.replies in omega (arith, a, b));
+        finishes = (let a = F.finishes.1 in let b = H.finishes in omega (arith, a, b));
+        refusals = (let a = F.refusals.1 in let b = H.refusals in omega (arith, a, b));
+      },
+      record {
+        replies = (let a = F.replies.0 in let b = W.replies in omega (arith, a, b, more));
+        finishes = (let a = F.finishes.0 in let b = W.finishes in omega (arith, a, b, more));
+        refusals = (let a = F.refusals.0 in let b = W.refusals in omega (arith, a, b, more));
+      },
+    )

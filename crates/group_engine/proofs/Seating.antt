@@ -20,6 +20,8 @@ use Rattle.core_worker.proofs.Clients.{new_room, new_idle}
 use Rattle.core_worker.proofs.HandKeys.{none_for}
 use Rattle.core_worker.proofs.LeftFair.{starts_nothing}
 use Rattle.core_worker.proofs.Starting.{free_busy}
+use Rattle.engine_laws.proofs.Cores.{core_is}
+use Rattle.group_engine.proofs.FreeFound.{found_free}
 use Rattle.group_engine.specs.Working.{SeatsFirst}
 
 pub seats_first : (start : CoreStart) (layout : Geometry) (w : Worker) → IsNew start layout w → HasKeptRoom w
@@ -39,6 +41,7 @@ seats_first start layout w N rule holds order stands o c same at certain =
         place = λ k own. none_for v k w.places.items (free_busy w.places.items N.free k);
         waits = λ k own. (λ i. map asked_by (filter (λ h. key_of h.request == k) (option_to_list (N.hand i)) ++ waiting (N.queue i) k));
         stopped = N.runs;
+        stock = found_free p m c o.found start layout w N at (core_is l at.place.layout c);
       };
       tied = record { holds = holds p m o.found same at; stands = stands p m o.found same at o.region certain; order = order p m o.found same at; rule = λ runs. rule };
       fairly = starts_nothing w N.leading;

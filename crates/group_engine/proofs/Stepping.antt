@@ -11,9 +11,9 @@ use Rattle.core_worker.specs.declared.types.Answer.{Answer}
 use Rattle.group_engine.specs.Calls.{AreOwn, Accepts, Turns, Steps, is_idle, is_open, next_of}
 
 module _ {W : Type 0} (hands : View → W → Hands) (answers : W → List Answer) (stands : Place → ℕ → State → View → W → Type 0) (fair : Group → ℕ → W → Type 0) (room leads : W → Bool) (p : Place) (m : ℕ) where
-  of_turn : (s t : State) (a b : Group) (v u : View) (w x : W) (queue : List (ℕ × Request)) (idle : Bool) → (is_open room leads w ≡ true → queue ≡ [])
-      → Turns hands answers stands fair room leads p m s t (Some a) (Some b) v u w x idle → Steps hands answers stands fair p m s t a b v u w x queue [] queue idle
-  of_turn s t a b v u w x queue idle left T = record {
+  of_turn : (s t : State) (a b : Group) (v u : View) (w x : W) (queue : List (ℕ × Request)) (idle down : Bool) → (is_open room leads w ≡ true → queue ≡ [])
+      → Turns hands answers stands fair room leads p m s t (Some a) (Some b) v u w x idle down → Steps hands answers stands fair p m s t a b v u w x queue [] queue idle down
+  of_turn s t a b v u w x queue idle down left T = record {
     fixed = T.fixed;
     split = refl;
     adds = T.adds;
@@ -23,12 +23,14 @@ module _ {W : Type 0} (hands : View → W → Hands) (answers : W → List Answe
     loads = T.loads;
     same = T.same;
     rests = T.rests;
-    empty = λ on. (refl, λ none. left (T.open_for on none));
+    no_more = T.no_more;
+    none = λ on. refl;
+    empty = λ on goes none. left (T.open_for on goes none);
   }
 
-  of_accept : (s : State) (a : Group) (v : View) (w x : W) (queue accepted rest : List (ℕ × Request)) → queue ≡ accepted ++ rest → fair a m w → stands p m s v w → AreOwn p m accepted
-      → Accepts hands answers stands fair s w x accepted → Steps hands answers stands fair p m s s a a v v w x queue accepted rest false
-  of_accept s a v w x queue accepted rest split fairly tied own A = record {
+  of_accept : (s : State) (a : Group) (v : View) (w x : W) (queue accepted rest : List (ℕ × Request)) (down : Bool) → queue ≡ accepted ++ rest → fair a m w → stands p m s v w → AreOwn p m accepted
+      → Accepts hands answers stands fair s w x accepted → Steps hands answers stands fair p m s s a a v v w x queue accepted rest false down
+  of_accept s a v w x queue accepted rest down split fairly tied own A = record {
     fixed = (A.moves p m v tied own).fixed;
     split = split;
     adds = (A.moves p m v tied own).adds;
@@ -38,33 +40,35 @@ module _ {W : Type 0} (hands : View → W → Hands) (answers : W → List Answe
     loads = λ q. absurd (cc q);
     same = λ q. absurd (cc q);
     rests = λ q. absurd (cc q);
+    no_more = λ q. absurd (cc q);
+    none = λ q. absurd (cc q);
     empty = λ q. absurd (cc q);
   }
 
   -- what a step says, by its outcome
-  abbrev Stepped : State → State → Group → Group → View → View → W → W → List (ℕ × Request) → List (ℕ × Request) → Result Bool Memory → Type 0
-  Stepped s t a b v u w x queue now r =
-      (accepted : List (ℕ × Request)) × (rest : List (ℕ × Request)) × Steps hands answers stands fair p m s t a b v u w x queue accepted rest (is_idle r)
+  abbrev Stepped : State → State → Group → Group → View → View → W → W → List (ℕ × Request) → List (ℕ × Request) → Bool → Result Bool Memory → Type 0
+  Stepped s t a b v u w x queue now down r =
+      (accepted : List (ℕ × Request)) × (rest : List (ℕ × Request)) × Steps hands answers stands fair p m s t a b v u w x queue accepted rest (is_idle r) down
       × (now ≡ rest) × OnOk r (accepted ≡ next_of (is_open room leads w) queue)
 
-  pub taken_in : (s : State) (a : Group) (v : View) (w x : W) (queue popped now : List (ℕ × Request)) (y : ℕ × Request) (r : Result Bool Memory) → queue ≡ y ∷ popped → is_open room leads w ≡ true → fair a m w → stands p m s v w → AreOwn p m queue
-      → IfOk r (λ b. (b ≡ true) × Accepts hands answers stands fair s w x (y ∷ [])) → OnErr r (Accepts hands answers stands fair s w x []) → OnOk r (now ≡ popped) → OnErr r (now ≡ y ∷ popped) → Stepped s s a a v v w x queue now r
-  taken_in s a v w x queue popped now y (Ok b) split ready fairly tied own ok err taken back = (
+  pub taken_in : (s : State) (a : Group) (v : View) (w x : W) (queue popped now : List (ℕ × Request)) (y : ℕ × Request) (down : Bool) (r : Result Bool Memory) → queue ≡ y ∷ popped → is_open room leads w ≡ true → fair a m w → stands p m s v w → AreOwn p m queue
+      → IfOk r (λ b. (b ≡ true) × Accepts hands answers stands fair s w x (y ∷ [])) → OnErr r (Accepts hands answers stands fair s w x []) → OnOk r (now ≡ popped) → OnErr r (now ≡ y ∷ popped) → Stepped s s a a v v w x queue now down r
+  taken_in s a v w x queue popped now y down (Ok b) split ready fairly tied own ok err taken back = (
     y ∷ [],
     popped,
-    subst (λ i. Steps hands answers stands fair p m s s a a v v w x queue (y ∷ []) popped i) (ap not (sym ok.0)) (of_accept s a v w x queue (y ∷ []) popped split fairly tied ((subst (AreOwn p m) split own).0, tt) ok.1),
+    subst (λ i. Steps hands answers stands fair p m s s a a v v w x queue (y ∷ []) popped i down) (ap not (sym ok.0)) (of_accept s a v w x queue (y ∷ []) popped down split fairly tied ((subst (AreOwn p m) split own).0, tt) ok.1),
     taken,
     sym (ap (λ c. next_of c queue) ready ∙ ap (take 1) split),
   )
-  taken_in s a v w x queue popped now y (Err e) split ready fairly tied own ok err taken back = ([], queue, of_accept s a v w x queue [] queue refl fairly tied tt err, back ∙ sym split, tt)
+  taken_in s a v w x queue popped now y down (Err e) split ready fairly tied own ok err taken back = ([], queue, of_accept s a v w x queue [] queue down refl fairly tied tt err, back ∙ sym split, tt)
 
-  pub turned : (s t : State) (a b : Group) (v u : View) (w x : W) (queue now : List (ℕ × Request)) (r : Result Bool Memory) → now ≡ queue → (is_open room leads w ≡ true → queue ≡ [])
-      → Turns hands answers stands fair room leads p m s t (Some a) (Some b) v u w x (is_idle r) → Stepped s t a b v u w x queue now r
-  turned s t a b v u w x queue now (Ok y) same left T = ([], queue, of_turn s t a b v u w x queue (not y) left T, same, none (is_open room leads w) left) where
+  pub turned : (s t : State) (a b : Group) (v u : View) (w x : W) (queue now : List (ℕ × Request)) (down : Bool) (r : Result Bool Memory) → now ≡ queue → (is_open room leads w ≡ true → queue ≡ [])
+      → Turns hands answers stands fair room leads p m s t (Some a) (Some b) v u w x (is_idle r) down → Stepped s t a b v u w x queue now down r
+  turned s t a b v u w x queue now down (Ok y) same left T = ([], queue, of_turn s t a b v u w x queue (not y) down left T, same, none (is_open room leads w) left) where
     none : (c : Bool) → (c ≡ true → queue ≡ []) → [] ≡ next_of c queue
     none true h = sym (ap (take 1) (h refl))
     none false h = refl
-  turned s t a b v u w x queue now (Err e) same left T = ([], queue, of_turn s t a b v u w x queue false left T, same, tt)
+  turned s t a b v u w x queue now down (Err e) same left T = ([], queue, of_turn s t a b v u w x queue false down left T, same, tt)
 
 -- A request that is taken in counts more in the backlog than in the worker.
 less_in : (queue popped : List (ℕ × Request)) (y : ℕ × Request) (old new under most : ℕ) → queue ≡ y ∷ popped → new ≤ old + most → new + under + (most + 1) * length popped < old + under + (most + 1) * length queue

@@ -15,7 +15,7 @@ use Rattle.core_worker.specs.declared.types.Answer.{Answer}
 use Rattle.group_engine.specs.declared.types.Stamped.{Stamped}
 use Rattle.group_engine.specs.Shows.{Shows}
 
-some_there : {X : Type 0} (xs : List X) (n : ℕ) → n < length xs → (x : X) × (slice_get xs n ≡ Some x)
+pub some_there : {X : Type 0} (xs : List X) (n : ℕ) → n < length xs → (x : X) × (slice_get xs n ≡ Some x)
 some_there [] n low = absurd (omega (arith, low))
 some_there (x ∷ xs) zero low = (x, λ i. Some x)
 some_there (x ∷ xs) (suc n) low = some_there xs n (omega (arith, low))

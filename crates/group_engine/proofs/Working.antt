@@ -4,7 +4,7 @@ use Rattle.std.specs.Prelude.{IfSome, IsSomeAnd, IfErr}
 use Rattle.std.proofs.lemmas.Bool.{and_parts}
 use Rattle.fs_model.specs.declared.model.Request.{Request}
 use Rattle.fs_model.specs.Cells.{key_of}
-use Rattle.pm_region.specs.State.{State, IsTelling}
+use Rattle.pm_region.specs.State.{State}
 use Rattle.chunk_map.specs.declared.layouts.Geometry.{Geometry}
 use Rattle.chunk_map.specs.Layouts as layouts
 use Rattle.group_laws.specs.Places.{Place, core_of, owner}
@@ -27,10 +27,8 @@ use Rattle.core_worker.specs.Supplies.{HasKeptRoom}
 use Rattle.core_worker.specs.Ties.{Holds, Stands}
 use Rattle.core_worker.specs.Turning.{TurnMoves}
 use Rattle.core_worker.specs.WorkerMoves.{hands_of}
-use Rattle.core_worker.proofs.Given.{adds_none}
-use Rattle.core_worker.proofs.KeyMoves.{moves_here, still_key}
 use Rattle.core_worker.proofs.StartBlocks.{own_of}
-use Rattle.group_engine.specs.Calls.{AreOwn, Accepts, Turns, is_open}
+use Rattle.group_engine.specs.Calls.{AreOwn, Accepts, Turns, WindsDown, is_open}
 use Rattle.group_engine.specs.Working.{IsMember, may_take, leads}
 
 -- the answers alone are other ones
@@ -85,22 +83,25 @@ module _ (s : State) (w x : Worker) (k : ℕ) (stays_tied : StaysTied s w x k) (
   err_takes (Ok y) q tied back moves = tt
   err_takes (Err y) q tied back moves = (back, takes [] (λ p m v M own. own_too tied.0.place p tied.0.number m tied.0.view v w k tied.1.holds tied.1.own M.holds) moves)
 
--- A worker that winds down isn't moved.
-pub no_turn : (p : Place) (m : ℕ) (s : State) (a : Option Group) (v : View) (w : Worker) → IsMember p m s v w → IfSome a (λ g. fair g m w) → Turns hands_of answers_of IsMember fair may_take leads p m s s a a v v w w false
-no_turn p m s a v w M even = record {
-  fixed = [];
-  adds = adds_none (IsTelling s) (answers_of w) (answers_of w) refl;
-  moves = moves_here p m s a v w w [] [] M.holds M.stands.licensed refl (λ y i. absurd i) (λ k own. still_key v (hands_of v w) (hands_of v w) k refl refl);
-  tied = M;
-  fairly = by a even;
-  loads = λ e. absurd (cc e);
-  same = λ e. absurd (cc e);
-  rests = λ e. absurd (cc e);
-  open_for = λ e. absurd (cc e);
+-- it winds down: nothing else differs
+pub wound : (w x : Worker) → x ≡ record w { winds_down = true } → ((p : Place) (m : ℕ) (v : View) → Holds p m v w → Holds p m v x) → ((s : State) (p : Place) (m : ℕ) (v : View) → Stands s p m v w → Stands s p m v x) → ((p : Place) (m : ℕ) (v : View) → InOrder p m v w → InOrder p m v x)
+    → WindsDown hands_of answers_of IsMember fair may_take leads (λ (y : Worker). y.winds_down) w x
+wound w x same holds stands order = record {
+  is = ap (λ (y : Worker). y.winds_down) same;
+  closed = ap (is_open may_take leads) same ∙ shut (leads w);
+  given = ap answers_of same;
+  held = λ v. ap (hands_of v) same;
+  tied = λ p m s v M. record {
+    holds = holds p m v M.holds;
+    stands = stands s p m v M.stands;
+    order = order p m v M.order;
+    rule = λ runs. subst HasKeptRoom (sym same) (M.rule (sym (ap (λ (y : Worker). y.stopped) same) ∙ runs));
+  };
+  fairly = λ a m starts. subst StartsFirst (sym same) starts;
 } where
-  by : (o : Option Group) → IfSome o (λ g. fair g m w) → IfSome o (λ g. IsSomeAnd o (λ h. fair h m w))
-  by None h = tt
-  by (Some g) h = h
+  shut : (b : Bool) → (not b && false) ≡ false
+  shut true = refl
+  shut false = refl
 
 some_after : (before after : Option Group) (P : Group → Group → Type 0) (Q : Type 0) → IfSome before (λ a. IsSomeAnd after (λ b. P a b)) → Q → IfSome before (λ a. IsSomeAnd after (λ b. Q))
 some_after None after P Q h q = tt
@@ -119,7 +120,7 @@ module _ (seat : SeatAt) (s t : State) (before after : Option Group) (v u : View
   even_now = some_after before after (λ a b. Runs a (map {B = ℕ × Kind} (λ y. (seat.number, y)) T.moves.steps) b) (StartsFirst x) T.moves.whole starts
 
   -- it moved, or found no memory for all of it
-  pub moved : Turns hands_of answers_of IsMember fair may_take leads seat.place seat.number s t before after v u w x false
+  pub moved : Turns hands_of answers_of IsMember fair may_take leads seat.place seat.number s t before after v u w x false w.winds_down
   moved = record {
     fixed = T.fixed;
     adds = T.answers;
@@ -129,12 +130,13 @@ module _ (seat : SeatAt) (s t : State) (before after : Option Group) (v u : View
     loads = λ e. absurd (cc e);
     same = λ e. absurd (cc e);
     rests = λ e. absurd (cc e);
+    no_more = λ e. absurd (cc e);
     open_for = λ e. absurd (cc e);
   }
 
   -- it found nothing to do
-  pub idled : w.winds_down ≡ false → AtRest seat before after v u w x → Turns hands_of answers_of IsMember fair may_take leads seat.place seat.number s t before after v u w x true
-  idled works R = record {
+  pub idled : (refused : Bool) → refused ≡ false → AtRest refused seat before after v u w x → Turns hands_of answers_of IsMember fair may_take leads seat.place seat.number s t before after v u w x true w.winds_down
+  idled refused asks R = record {
     fixed = T.fixed;
     adds = T.answers;
     moves = record {
@@ -146,6 +148,7 @@ module _ (seat : SeatAt) (s t : State) (before after : Option Group) (v u : View
       own = T.moves.own;
       keys = T.moves.keys;
       holds = T.moves.holds;
+      refuses = T.moves.refuses;
       stops = T.moves.stops;
       breaks = T.moves.breaks;
       stays_stopped = T.moves.stays_stopped;
@@ -154,8 +157,9 @@ module _ (seat : SeatAt) (s t : State) (before after : Option Group) (v u : View
     fairly = even_now;
     loads = λ e. R.loads.loads;
     same = λ e k own. R.same k own;
-    rests = λ e. record { holds = R.rests.holds; taken = R.rests.taken; placed = R.rests.placed; waits = R.rests.waits };
-    open_for = λ e none. ap (λ b. not (leads w) && (not b && has_room w)) works ∙ R.open_for none;
+    rests = λ e. record { holds = R.rests.holds; taken = R.rests.taken; posted = R.rests.posted };
+    no_more = λ e works. (let N = R.no_more asks works in record { placed = N.placed; waits = N.waits });
+    open_for = λ e works none. ap (λ b. not (leads w) && (not b && has_room w)) works ∙ (R.no_more asks works).open_for none;
   }
 
 -- where the state is told, it is fair

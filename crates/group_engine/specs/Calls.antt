@@ -1,6 +1,6 @@
 -- What a worker says of one call, by whatever it holds, answers and stands on.
 use Rattle.std.specs.Prelude.{◌≡◌, ◌⊎◌, ℕ, ◌≤◌, ◌<◌, List, [], ◌++◌, map, Bool, true, false, not, ◌&&◌, Option, Some, None, IfSome, IsSomeAnd, Result, Ok, Err, take, if◌then◌else◌}
-use Rattle.std.specs.List.{AllByRecursion}
+use Rattle.std.specs.List.{AllByRecursion, slice_get}
 use Rattle.fs_model.specs.declared.model.Request.{Request}
 use Rattle.fs_model.specs.Cells.{key_of}
 use Rattle.fs_errors.specs.declared.Memory.{Memory}
@@ -56,30 +56,34 @@ pub record Accepts {W : Type 0} (hands : View → W → Hands) (answers : W → 
   pub moves : (p : Place) (m : ℕ) (v : View) → stands p m s v w → AreOwn p m accepted → AcceptsAs hands answers p m s v w x accepted
   pub fairly : (a : Group) (m : ℕ) → fair a m w → fair a m x
 
--- What is left of member m where nothing moved: as `IsIdle` says it of a state of the engine.
+-- Where nothing moved member m leads nothing, and each of its posted changes is in a leader's hands, or waits for the lock that another has.
 pub record Rests (p : Place) (m : ℕ) (before after : Option Group) (u : View) (x : Hands) : Type 0 where
   pub holds : u.holds ≡ false
   pub taken : (a s : ℕ) → u.taken a s ≡ None
-  pub placed : (k : ℕ) (y : Placed) → owner p k ≡ m → x.place k ≡ Some y → (y.posted ≡ true)
-      × ((d : Pending) (s : ℕ) → u.pending k ≡ Some d → d.slot ≡ Some s
-      → IfSome before (λ a. IfSome after (λ b. (b.slot m s ≡ Taken) ⊎ ((e : Entry) × (h : ℕ) × (b.slot m s ≡ Posted e) × (b.holder ≡ Some h)))))
+  pub posted : (k : ℕ) (y : Placed) → owner p k ≡ m → x.place k ≡ Some y → y.posted ≡ true → (d : Pending) (s : ℕ) → u.pending k ≡ Some d → d.slot ≡ Some s
+      → IfSome before (λ a. IfSome after (λ b. (b.slot m s ≡ Taken) ⊎ ((e : Entry) × (h : ℕ) × (b.slot m s ≡ Posted e) × (b.holder ≡ Some h))))
+
+-- And it has nothing to begin, as `IsIdle` says it of a state of the engine.
+pub record HasNoMore (p : Place) (m : ℕ) (x : Hands) : Type 0 where
+  pub placed : (k : ℕ) (y : Placed) → owner p k ≡ m → x.place k ≡ Some y → y.posted ≡ true
   pub waits : (k : ℕ) → owner p k ≡ m → x.place k ≡ None → x.waits k ≡ []
 
--- One turn of member m, from view v to u.
-pub record Turns {W : Type 0} (hands : View → W → Hands) (answers : W → List Answer) (stands : Place → ℕ → State → View → W → Type 0) (fair : Group → ℕ → W → Type 0) (room leads : W → Bool) (p : Place) (m : ℕ) (s t : State) (before after : Option Group) (v u : View) (w x : W) (idle : Bool) : Type 0 where
+-- One turn of member m, from view v to u; `down` where its worker winds down.
+pub record Turns {W : Type 0} (hands : View → W → Hands) (answers : W → List Answer) (stands : Place → ℕ → State → View → W → Type 0) (fair : Group → ℕ → W → Type 0) (room leads : W → Bool) (p : Place) (m : ℕ) (s t : State) (before after : Option Group) (v u : View) (w x : W) (idle down : Bool) : Type 0 where
   pub fixed : List Fixed
   pub adds : AddsAnswers (IsTelling t) (answers w) (answers x) fixed
   pub moves : WorkerMoves p m s t before after v u (hands v w) (hands u x) [] fixed
   pub tied : stands p m t u x
   pub fairly : IfSome before (λ a. IsSomeAnd after (λ b. fair b m x))
-  -- Where nothing moved, it made loads alone, holds what it held, and rests; and if nothing of it is in a place, it could have been handed a request.
+  -- Where nothing moved, it made loads alone, holds what it held, and rests; one that goes on has nothing to begin, and if nothing of it is in a place, it could have been handed a request.
   pub loads : idle ≡ true → AllByRecursion IsLoad moves.steps
   pub same : idle ≡ true → (k : ℕ) → owner p k ≡ m → ((hands u x).place k ≡ (hands v w).place k) × ((hands u x).waits k ≡ (hands v w).waits k)
   pub rests : idle ≡ true → Rests p m before after u (hands u x)
-  pub open_for : idle ≡ true → ((k : ℕ) → owner p k ≡ m → (hands u x).place k ≡ None) → is_open room leads w ≡ true
+  pub no_more : idle ≡ true → down ≡ false → HasNoMore p m (hands u x)
+  pub open_for : idle ≡ true → down ≡ false → ((k : ℕ) → owner p k ≡ m → (hands u x).place k ≡ None) → is_open room leads w ≡ true
 
 -- A step of the engine: member m accepts the next request, or makes a turn. `rest` is what its backlog still has.
-pub record Steps {W : Type 0} (hands : View → W → Hands) (answers : W → List Answer) (stands : Place → ℕ → State → View → W → Type 0) (fair : Group → ℕ → W → Type 0) (p : Place) (m : ℕ) (s t : State) (a b : Group) (v u : View) (w x : W) (queue accepted rest : List (ℕ × Request)) (idle : Bool) : Type 0 where
+pub record Steps {W : Type 0} (hands : View → W → Hands) (answers : W → List Answer) (stands : Place → ℕ → State → View → W → Type 0) (fair : Group → ℕ → W → Type 0) (p : Place) (m : ℕ) (s t : State) (a b : Group) (v u : View) (w x : W) (queue accepted rest : List (ℕ × Request)) (idle down : Bool) : Type 0 where
   pub fixed : List Fixed
   pub split : queue ≡ accepted ++ rest
   pub adds : AddsAnswers (IsTelling t) (answers w) (answers x) fixed
@@ -89,4 +93,27 @@ pub record Steps {W : Type 0} (hands : View → W → Hands) (answers : W → Li
   pub loads : idle ≡ true → AllByRecursion IsLoad moves.steps
   pub same : idle ≡ true → (k : ℕ) → owner p k ≡ m → ((hands u x).place k ≡ (hands v w).place k) × ((hands u x).waits k ≡ (hands v w).waits k)
   pub rests : idle ≡ true → Rests p m (Some a) (Some b) u (hands u x)
-  pub empty : idle ≡ true → (accepted ≡ []) × (((k : ℕ) → owner p k ≡ m → (hands u x).place k ≡ None) → queue ≡ [])
+  pub no_more : idle ≡ true → down ≡ false → HasNoMore p m (hands u x)
+  pub none : idle ≡ true → accepted ≡ []
+  pub empty : idle ≡ true → down ≡ false → ((k : ℕ) → owner p k ≡ m → (hands u x).place k ≡ None) → queue ≡ []
+
+-- It winds down: it accepts nothing more, and holds, answers and stands on what it did.
+pub record WindsDown {W : Type 0} (hands : View → W → Hands) (answers : W → List Answer) (stands : Place → ℕ → State → View → W → Type 0) (fair : Group → ℕ → W → Type 0) (room leads winds : W → Bool) (w x : W) : Type 0 where
+  pub is : winds x ≡ true
+  pub closed : is_open room leads x ≡ false
+  pub given : answers x ≡ answers w
+  pub held : (v : View) → hands v x ≡ hands v w
+  pub tied : (p : Place) (m : ℕ) (s : State) (v : View) → stands p m s v w → stands p m s v x
+  pub fairly : (a : Group) (m : ℕ) → fair a m w → fair a m x
+
+-- each worker winds down, or none does
+abbrev pub AllWind : {W : Type 0} → (W → Bool) → List W → Type 0
+AllWind {W} winds ws = (c : ℕ) (w : W) → slice_get ws c ≡ Some w → winds w ≡ true
+
+abbrev pub NoneWinds : {W : Type 0} → (W → Bool) → List W → Type 0
+NoneWinds {W} winds ws = (c : ℕ) (w : W) → slice_get ws c ≡ Some w → winds w ≡ false
+
+-- The workers below a number wind down, each as above, and the others are as they were.
+pub record EachWinds {W : Type 0} (hands : View → W → Hands) (answers : W → List Answer) (stands : Place → ℕ → State → View → W → Type 0) (fair : Group → ℕ → W → Type 0) (room leads winds : W → Bool) (upto : ℕ) (old new : List W) : Type 0 where
+  pub below : (c : ℕ) (x : W) → c < upto → slice_get new c ≡ Some x → (w : W) × (slice_get old c ≡ Some w) × WindsDown hands answers stands fair room leads winds w x
+  pub above : (c : ℕ) → upto ≤ c → slice_get new c ≡ slice_get old c

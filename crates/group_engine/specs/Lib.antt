@@ -4,3 +4,4 @@ pub mod Working
 pub mod Shows
 pub mod Passes
 pub mod Reports
+pub mod Replayed

@@ -1,5 +1,6 @@
 -- The replies and the report that are made of the answers kept by number.
-use Rattle.std.specs.Prelude.{◌≡◌, ℕ, ◌+◌, List, [], ◌∷◌, ◌++◌, length, map, Option, Some, None, if◌then◌else◌}
+use Rattle.std.specs.Prelude.{◌≡◌, ℕ, ◌+◌, ◌≤◌, ◌<◌, List, [], ◌∷◌, ◌++◌, length, map, Option, Some, None, Vec, vec_len, vec_capacity, if◌then◌else◌}
+use Rattle.std.specs.Global.{Global}
 use Rattle.fs_model.specs.declared.model.Reply.{Reply}
 use Rattle.fs_model.specs.declared.model.Reply.TheVariants.{Stopped}
 use Rattle.fs_model.specs.Lawful.{is_finish}
@@ -8,7 +9,7 @@ use Rattle.pm_region.specs.State.{State, IsTelling}
 use Rattle.headline.specs.Headline.{Told, Answers}
 use Rattle.engine_laws.specs.Engine.{Engine}
 use Rattle.engine_laws.specs.Stands.{Origin, start_of}
-use Rattle.engine_laws.specs.Reports.{told_of, AllAnswered}
+use Rattle.engine_laws.specs.Reports.{told_of, replies_of, AllAnswered}
 use Rattle.engine_laws.specs.Promises.{HasStopped}
 use Rattle.group_engine.specs.declared.types.Stamped.{Stamped}
 use Rattle.group_engine.specs.declared.run_report.Finish.{Finish}
@@ -55,14 +56,51 @@ pub record IsReport (answers : List (Option Stamped)) (r : Report) : Type 0 wher
   pub finishes : r.finishes.items ≡ finishes_in 0 answers
   pub refusals : r.refusals.items ≡ refusals_in 0 answers
 
--- in the words of the headline
-abbrev pub told_by : Report → Told
-told_by r = record {
-  finishes = map (λ f. (f.request, f.stamp)) r.finishes.items;
-  refusals = map (λ x. (x.request, reply_to x.why)) r.refusals.items;
+-- nothing is in it
+pub record IsBlank (r : Report) : Type 0 where
+  pub replies : r.replies.items ≡ []
+  pub finishes : r.finishes.items ≡ []
+  pub refusals : r.refusals.items ≡ []
+
+-- Each list has room for so many items in all.
+pub record HasRoomFor (n : ℕ) (r : Report) : Type 0 where
+  pub replies : n ≤ vec_capacity r.replies
+  pub finishes : n ≤ vec_capacity r.finishes
+  pub refusals : n ≤ vec_capacity r.refusals
+
+-- each list has room for an item more
+pub record HasRoom (r : Report) : Type 0 where
+  pub replies : vec_len r.replies < vec_capacity r.replies
+  pub finishes : vec_len r.finishes < vec_capacity r.finishes
+  pub refusals : vec_len r.refusals < vec_capacity r.refusals
+
+-- a list has at most one item more, and as much room in all
+abbrev pub Fills : {X : Type 0} → Vec X Global → Vec X Global → Type 0
+Fills old new = (vec_len new ≤ vec_len old + 1) × (vec_capacity new ≡ vec_capacity old)
+
+pub record FillsAll (old new : Report) : Type 0 where
+  pub replies : Fills old.replies new.replies
+  pub finishes : Fills old.finishes new.finishes
+  pub refusals : Fills old.refusals new.refusals
+
+-- each list has at most so many items
+pub record IsWithin (n : ℕ) (r : Report) : Type 0 where
+  pub replies : vec_len r.replies ≤ n
+  pub finishes : vec_len r.finishes ≤ n
+  pub refusals : vec_len r.refusals ≤ n
+
+-- finishes and refusals in the words of the headline
+abbrev pub told : List Finish → List Refusal → Told
+told finishes refusals = record {
+  finishes = map (λ f. (f.request, f.stamp)) finishes;
+  refusals = map (λ x. (x.request, reply_to x.why)) refusals;
 }
 
--- The report is that of a state, and its replies are some that the state may give, by what the region tells.
+abbrev pub told_by : Report → Told
+told_by r = told r.finishes.items r.refusals.items
+
+-- The report is that of a state, and its replies are some that the state may give: those that it has, where the region tells.
 pub record ReportsOn (s : State) (o : Origin) (e : Engine) (r : Report) : Type 0 where
-  pub told : told_by r ≡ told_of e
+  pub told_is : told_by r ≡ told_of e
+  pub known : IsTelling s → r.replies.items ≡ replies_of e
   pub answers : Answers (IsTelling s) (start_of o) e.given (told_of e) (AllAnswered e → HasStopped e) r.replies.items

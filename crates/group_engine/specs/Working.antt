@@ -1,5 +1,6 @@
 -- The worker of one core as the engine sees it.
-use Rattle.std.specs.Prelude.{◌≡◌, ℕ, Bool, false, not, ◌&&◌}
+use Rattle.std.specs.Prelude.{◌≡◌, ℕ, Bool, false, not, ◌&&◌, List, Some}
+use Rattle.std.specs.List.{slice_get}
 use Rattle.pm_region.specs.State.{State}
 use Rattle.group_laws.specs.Places.{Place}
 use Rattle.group_laws.specs.MemberViews.{View}
@@ -40,3 +41,7 @@ SeatsFirst start layout w = (o : Origin) (c : ℕ) → layout ≡ layout_of o.fo
     → IsStartAt (place_at (layout_of o.found) (group_of (layout_of o.found) c)) (member_of (layout_of o.found) c) o.found start
     → IsCertainAt o.region (place_at (layout_of o.found) (group_of (layout_of o.found) c)) (member_of (layout_of o.found) c) o.found start
     → Seat hands_of answers_of IsMember fair may_take leads (opening o) c w
+
+-- each worker is so by the start of its core
+abbrev pub SeatFirst : List CoreStart → Geometry → List Worker → Type 0
+SeatFirst starts layout ws = (c : ℕ) (w : Worker) (start : CoreStart) → slice_get ws c ≡ Some w → slice_get starts c ≡ Some start → SeatsFirst start layout w

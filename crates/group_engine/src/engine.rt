@@ -3,6 +3,8 @@ ghost use Rattle.std.specs.Prelude.{◌≡◌, ℕ, ◌<◌, ◌++◌, ◌∷◌
 ghost use Rattle.std.specs.List.{slice_get};
 ghost use Rattle.group_laws.specs.MemberViews.{View};
 ghost use Rattle.fs_model.specs.Cells.{key_of};
+ghost use Rattle.group_engine.specs.Calls.{AllWind, NoneWinds, EachWinds};
+ghost use Rattle.group_engine.specs.Reports.{IsBlank, HasRoomFor};
 
 use crate::engine_step::{collect, step};
 use crate::passes;
@@ -20,7 +22,8 @@ use std::alloc::Global;
 use std::collections::VecDeque;
 
 /// One worker for each core, one board for each group, by core the requests that its worker has not accepted yet, and
-/// the answers by number.
+/// the answers by number. What their report takes is there from the moment that a request is given, so it can be made
+/// where there is no memory any more.
 #[derive(Drop)]
 pub struct Engine<W> {
     pub layout: Geometry,
@@ -28,6 +31,10 @@ pub struct Engine<W> {
     pub boards: Vec<LocalBoard>,
     pub backlogs: Vec<VecDeque<(u64, Request)>>,
     pub answers: Vec<Option<Stamped>>,
+    /// Nothing yet, with room for all answers.
+    pub report: Report,
+    ghost blank: { IsBlank report },
+    ghost room: { HasRoomFor (length answers.items) report },
 }
 
 fn key_in(request: &Request) -> u64
@@ -70,13 +77,31 @@ fn any_stopped<W: CoreWorker>(workers: &Vec<W>) -> bool
     false
 }
 
+// Lets each worker wind down.
+fn wind_all<W: CoreWorker>(workers: &mut Vec<W>)
+    ensures count { length workers.new.items ≡ length workers.old.items }
+    ensures each { EachWinds W.hands W.answers W.stands W.fair W.room W.leads W.winds
+        (length workers.old.items) workers.old.items workers.new.items }
+{
+    for core in 0..workers.len() {
+        workers[core].wind_down();
+    }
+}
+
 impl<W: CoreWorker> Cores for Engine<W> {
     ghost use Rattle.engine_laws.specs.Stands.{Origin, Stands};
     ghost use Rattle.group_engine.specs.Shows.{Shows, left_of};
 
     ghost shows = { λ s x e. (o : Origin) × Stands o e
         × Shows W.hands W.answers W.stands W.fair W.room W.leads (λ q. q.items) s x.layout
+        x.workers.items x.boards.items x.backlogs.items x.answers.items e
+        × NoneWinds W.winds x.workers.items };
+
+    ghost stays = { λ s x e. (o : Origin) × Stands o e
+        × Shows W.hands W.answers W.stands W.fair W.room W.leads (λ q. q.items) s x.layout
         x.workers.items x.boards.items x.backlogs.items x.answers.items e };
+
+    ghost winds = { λ x. AllWind W.winds x.workers.items };
 
     ghost cores = { λ x. x.layout.cores };
 
@@ -88,8 +113,10 @@ impl<W: CoreWorker> Cores for Engine<W> {
     }
 
     fn give(&mut self, request: Request) -> Result<(), Memory> {
-        let number = self.answers.len() as u64;
+        let count = self.answers.len();
+        self.report.reserve(count + 1)?;
         self.answers.reserve(1)?;
+        let number = count as u64;
         let owner = (key_in(&request) % self.layout.cores as u64) as usize;
         append(&mut self.backlogs[owner], number, request)?;
         self.answers.push(None)?;
@@ -102,6 +129,72 @@ impl<W: CoreWorker> Cores for Engine<W> {
         region: &mut R,
         core: u32,
     ) -> Result<bool, Memory> {
+        self.move_core(alloc, region, core)
+    }
+
+    fn wind_down(&mut self) {
+        wind_all(&mut self.workers);
+    }
+
+    fn cease<R: Region>(&mut self, alloc: Global, region: &mut R, core: u32) -> bool {
+        match self.move_core(alloc, region, core) {
+            Ok(moved) => moved,
+            Err(_) => unreachable!(),
+        }
+    }
+
+    ghost placed = { λ s x e h. h.2.region };
+
+    ghost awake = { λ s x e h. (h.0, h.1, h.2) };
+}
+
+impl<W: CoreWorker> Engine<W> {
+    ghost use Rattle.std.specs.Prelude.{◌≤◌, IfOk};
+    ghost use Rattle.engine_laws.specs.Engine as engines;
+    ghost use Rattle.engine_laws.specs.Stands.{Origin, Stands};
+    ghost use Rattle.group_engine.specs.Passes.{Advances};
+    ghost use Rattle.group_engine.specs.Shows.{Shows, left_of};
+
+    // Moves a core: its worker is handed the next request of its backlog, or makes a turn, and its answers are kept.
+    fn move_core<R: Region>(
+        &mut self,
+        alloc: Global,
+        region: &mut R,
+        core: u32,
+    ) -> Result<bool, Memory>
+        requires core { core < self.old.layout.cores }
+        requires stays { (e : engines.Engine) × (o : Origin) × Stands o e
+            × Shows W.hands W.answers W.stands W.fair W.room W.leads (λ q. q.items)
+            (R.state region.old) self.old.layout self.old.workers.items self.old.boards.items
+            self.old.backlogs.items self.old.answers.items e }
+        ensures layout { self.new.layout ≡ self.old.layout }
+        ensures advances { (w : W) → slice_get self.old.workers.items core ≡ Some w
+            → (o : Origin) (e : engines.Engine) → Stands o e
+            → Shows W.hands W.answers W.stands W.fair W.room W.leads (λ q. q.items)
+            (R.state region.old) self.old.layout self.old.workers.items self.old.boards.items
+            self.old.backlogs.items self.old.answers.items e
+            → (f : engines.Engine) × (p : Origin) × Stands p f
+            × Shows W.hands W.answers W.stands W.fair W.room W.leads (λ q. q.items)
+            (R.state region.new) self.new.layout self.new.workers.items self.new.boards.items
+            self.new.backlogs.items self.new.answers.items f
+            × Advances (R.state region.new) (W.winds w) result core e f }
+        ensures goes { NoneWinds W.winds self.old.workers.items
+            → OnOk result (NoneWinds W.winds self.new.workers.items) }
+        ensures winds { AllWind W.winds self.old.workers.items
+            → AllWind W.winds self.new.workers.items }
+        ensures sure { OnErr result ((w : W) → slice_get self.old.workers.items core ≡ Some w
+            → W.winds w ≡ false) }
+        ensures less { IfOk result (λ b. b ≡ true
+            → left_of W.left W.under_way W.most (λ q. q.items) self.new.workers.items
+            self.new.boards.items self.new.backlogs.items
+            < left_of W.left W.under_way W.most (λ q. q.items) self.old.workers.items
+            self.old.boards.items self.old.backlogs.items) }
+        ensures idle { IfOk result (λ b. b ≡ false
+            → left_of W.left W.under_way W.most (λ q. q.items) self.new.workers.items
+            self.new.boards.items self.new.backlogs.items
+            ≤ left_of W.left W.under_way W.most (λ q. q.items) self.old.workers.items
+            self.old.boards.items self.old.backlogs.items) }
+    {
         let at = core as usize;
         let group = (core / self.layout.group) as usize;
         let member = core % self.layout.group;
@@ -116,8 +209,6 @@ impl<W: CoreWorker> Cores for Engine<W> {
         collect(&mut self.workers[at], &mut self.answers, region.stamp());
         result
     }
-
-    ghost placed = { λ s x e h. h.2.region };
 }
 
 impl<W: CoreWorker> Engine<W> {
@@ -125,6 +216,7 @@ impl<W: CoreWorker> Engine<W> {
     ghost use Rattle.engine_laws.specs.Engine as engines;
     ghost use Rattle.engine_laws.specs.Stands.{Origin, Stands, opening};
     ghost use Rattle.engine_laws.specs.Promises.{AnyTurn, IsOrigin, IsDone, Promised, HasStopped};
+    ghost use Rattle.engine_laws.specs.Ceasing.{HasCeased};
     ghost use Rattle.pm_region.specs.State.{State};
     ghost use Rattle.engine_laws.specs.Ran.{Ran};
     ghost use Rattle.group_engine.specs.Passes.{NameCores, Ends, EndsIn, DrainsOut};
@@ -148,10 +240,11 @@ impl<W: CoreWorker> Engine<W> {
 
     /// Makes passes over the cores until nothing moves.
     pub fn drain<R: Region>(&mut self, alloc: Global, region: &mut R) -> Result<(), Memory>
-        requires { (o : Origin) × (e : engines.Engine) × Stands o e
+        requires stands { (o : Origin) × (e : engines.Engine) × Stands o e
             × Shows W.hands W.answers W.stands W.fair W.room W.leads (λ q. q.items)
             (R.state region.old) self.old.layout self.old.workers.items self.old.boards.items
             self.old.backlogs.items self.old.answers.items e }
+        requires awake { NoneWinds W.winds self.old.workers.items }
         ensures failed { OnErr result ((o : Origin) (e : engines.Engine) → Stands o e
             → Shows W.hands W.answers W.stands W.fair W.room W.leads (λ q. q.items)
             (R.state region.old) self.old.layout self.old.workers.items self.old.boards.items
@@ -170,11 +263,13 @@ impl<W: CoreWorker> Engine<W> {
             (R.state region.new) self.new.layout self.new.workers.items self.new.boards.items
             self.new.backlogs.items self.new.answers.items f
             × DrainsOut self.old.layout.cores e f) }
+        ensures awake { OnOk result (NoneWinds W.winds self.new.workers.items) }
     {
         passes::drain(self, alloc, region)
     }
 
-    /// Handles the lines of an input in order, and then drains. The engine has just been opened.
+    /// Handles the lines of an input in order, and then drains. The engine has just been opened. Where a worker finds no
+    /// memory, all wind down: they finish what is posted or taken, and then rest.
     pub fn replay<R: Region>(
         &mut self,
         alloc: Global,
@@ -194,7 +289,8 @@ impl<W: CoreWorker> Engine<W> {
             × Shows W.hands W.answers W.stands W.fair W.room W.leads (λ q. q.items)
             (R.state region.new) self.new.layout self.new.workers.items self.new.boards.items
             self.new.backlogs.items self.new.answers.items f
-            × EndsIn (R.state region.new) lines.items (opening o) f × Promised o f) }
+            × EndsIn (R.state region.new) lines.items (opening o) f × Promised o f
+            × HasCeased f) }
         ensures ran { OnOk result ((o : Origin) → IsOrigin o
             → Shows W.hands W.answers W.stands W.fair W.room W.leads (λ q. q.items)
             (R.state region.old) self.old.layout self.old.workers.items self.old.boards.items
@@ -210,20 +306,19 @@ impl<W: CoreWorker> Engine<W> {
 }
 
 impl<W: CoreWorker + Drop> Engine<W> {
-    ghost use Rattle.std.specs.Prelude.{IfOk};
     ghost use Rattle.pm_region.specs.State.{State};
     ghost use Rattle.engine_laws.specs.Engine as engines;
     ghost use Rattle.engine_laws.specs.Stands.{Origin, Stands};
     ghost use Rattle.group_engine.specs.Reports.{ReportsOn};
     ghost use Rattle.group_engine.specs.Shows.{Shows};
 
-    /// The replies, and the report on them: those of the state that the engine shows.
-    pub fn into_report(self, alloc: Global) -> Result<Report, Memory>
-        ensures { IfOk result (λ r. (s : State) (o : Origin) (e : engines.Engine) → Stands o e
+    /// The replies, and the report on them: those of the state that the engine shows. It takes no memory.
+    pub fn into_report(self) -> Report
+        ensures { (s : State) (o : Origin) (e : engines.Engine) → Stands o e
             → Shows W.hands W.answers W.stands W.fair W.room W.leads (λ q. q.items) s self.layout
             self.workers.items self.boards.items self.backlogs.items self.answers.items e
-            → ReportsOn s o e r) }
+            → ReportsOn s o e result }
     {
-        report_on(alloc, self.answers)
+        report_on(self.answers, self.report)
     }
 }

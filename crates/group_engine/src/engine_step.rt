@@ -35,7 +35,10 @@ fn turn_at<W: CoreWorker, R: Region>(
         (state board.old.keeper.me.0).place member (R.state region.old) (R.state region.new)
         (Some (state board.old.keeper.me.0)) (Some (state board.new.keeper.me.0))
         (view_of (state board.old.keeper.me.0) member)
-        (view_of (state board.new.keeper.me.0) member) worker.old worker.new (is_idle result) }
+        (view_of (state board.new.keeper.me.0) member) worker.old worker.new (is_idle result)
+        (W.winds worker.old) }
+    ensures winds { OnOk result (W.winds worker.new ≡ W.winds worker.old) }
+    ensures awake { OnErr result (W.winds worker.old ≡ false) }
     ensures less { IfOk result (λ b. b ≡ true
         → W.left worker.new + W.under_way (state board.new.keeper.me.0)
         < W.left worker.old + W.under_way (state board.old.keeper.me.0)) }
@@ -75,6 +78,7 @@ fn take_in<W: CoreWorker, R: Region>(
         (R.state region.now) worker.old worker.new []) }
     ensures taken { OnOk result (backlog.new.items ≡ backlog.old.items) }
     ensures back { OnErr result (backlog.new.items ≡ (number, request) ∷ backlog.old.items) }
+    ensures winds { OnOk result (W.winds worker.new ≡ W.winds worker.old) }
     ensures less { OnOk result (W.left worker.new ≤ W.left worker.old + W.most) }
 {
     match worker.accept(alloc, region, number, request) {
@@ -106,8 +110,10 @@ pub(crate) fn step<W: CoreWorker, R: Region>(
         (view_of (state board.old.keeper.me.0) member)
         (view_of (state board.new.keeper.me.0) member)
         worker.old worker.new backlog.old.items accepted rest (is_idle result)
-        × (backlog.new.items ≡ rest) × OnOk result (accepted
+        (W.winds worker.old) × (backlog.new.items ≡ rest) × OnOk result (accepted
         ≡ next_of (is_open W.room W.leads worker.old) backlog.old.items) }
+    ensures winds { OnOk result (W.winds worker.new ≡ W.winds worker.old) }
+    ensures awake { OnErr result (W.winds worker.old ≡ false) }
     ensures less { IfOk result (λ b. b ≡ true
         → W.left worker.new + W.under_way (state board.new.keeper.me.0)
         + (W.most + 1) * length backlog.new.items
@@ -138,6 +144,7 @@ pub(crate) fn collect<W: CoreWorker>(worker: &mut W, kept: &mut Vec<Option<Stamp
         → W.stands p m s v worker.old → W.stands p m s v worker.new }
     ensures fair { (a : Group) (m : ℕ) → W.fair a m worker.old → W.fair a m worker.new }
     ensures open { is_open W.room W.leads worker.new ≡ is_open W.room W.leads worker.old }
+    ensures winds { W.winds worker.new ≡ W.winds worker.old }
     ensures left { W.left worker.new ≡ W.left worker.old }
 {
     loop {

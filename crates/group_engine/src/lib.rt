@@ -4,8 +4,10 @@
 pub mod engine;
 mod engine_step;
 pub mod open_boards;
+pub mod open_engine;
 pub mod passes;
 pub mod real_worker;
+pub mod run_outcome;
 pub mod run_report;
 #[cfg(test)]
 mod tests;

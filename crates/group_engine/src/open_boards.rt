@@ -8,6 +8,7 @@ ghost use Rattle.engine_laws.specs.Stands.{Origin, opening};
 ghost use Rattle.group_engine.specs.Shows.{Shows, AreSeated, AreOpened, AreEmpty};
 
 use crate::engine::Engine;
+use crate::run_report::Report;
 use crate::worker_calls::CoreWorker;
 use chunk_map::Geometry;
 use fs_errors::Memory;
@@ -96,6 +97,7 @@ pub fn open<O: Opening, W: CoreWorker + Drop>(
     requires layout { layout_of (image_of O.words) ≡ layout }
     requires group { 0 < layout.group }
     requires workers { length workers.items ≡ layout.cores }
+    ensures layout { IfOk result (λ x. x.layout ≡ layout) }
     ensures opened { IfOk result (λ x. (o : Origin) → o.found ≡ image_of O.words
         → AreSeated W.hands W.answers W.stands W.fair W.room W.leads workers.items (opening o)
         → Shows W.hands W.answers W.stands W.fair W.room W.leads (λ q. q.items) o.region x.layout
@@ -109,5 +111,6 @@ pub fn open<O: Opening, W: CoreWorker + Drop>(
         boards,
         backlogs,
         answers: Vec::new(alloc),
+        report: Report::new(alloc),
     })
 }

@@ -5,7 +5,7 @@ ghost use Rattle.engine_laws.specs.Engine.{Engine};
 ghost use Rattle.engine_laws.specs.Promises.{AnyTurn};
 ghost use Rattle.engine_laws.specs.Ran.{Goes, Ran};
 ghost use Rattle.engine_laws.specs.Stands.{given_to};
-ghost use Rattle.group_engine.specs.Passes.{Settles, Passes, NameCores, Ends, EndsIn, DrainsOut, Leads};
+ghost use Rattle.group_engine.specs.Passes.{Settles, Passes, NameCores, Ends, EndsIn, DrainsOut, Leads, Ceases, CeasePasses, CeasesOut, CeasesIn};
 
 use fs_errors::Memory;
 use fs_model::Request;
@@ -16,8 +16,15 @@ use std::collections::VecDeque;
 
 /// Cores on one region that can be moved one at a time.
 pub trait Cores {
-    // The states that they may stand at, with a region's state. It has what no code knows, so it is a relation.
+    // The states that they may stand at, with a region's state, while none of them winds down. It has what no code knows,
+    // so it is a relation.
     ghost shows: { State → Self → Engine → Type 0 };
+
+    // The same, whether or not some wind down.
+    ghost stays: { State → Self → Engine → Type 0 };
+
+    // All of them wind down.
+    ghost winds: { Self → Type 0 };
 
     // How many there are, and what is left to do.
     ghost cores: { Self → ℕ };
@@ -49,13 +56,34 @@ pub trait Cores {
         ensures moved { IfOk result (λ b. Leads (shows (R.state region.old) self.old)
             (shows (R.state region.new) self.new) (λ e f. AnyTurn e core b f)) }
         ensures failed { OnErr result (Leads (shows (R.state region.old) self.old)
-            (shows (R.state region.new) self.new) (Ends (R.state region.new))) }
+            (stays (R.state region.new) self.new) (Ends (R.state region.new))) }
         ensures cores { cores self.new ≡ cores self.old }
         ensures less { IfOk result (λ b. b ≡ true → left self.new < left self.old) }
         ensures idle { IfOk result (λ b. b ≡ false → left self.new ≤ left self.old) };
 
+    /// Lets each finish what is posted or taken, and begin nothing more. It needs no memory for this.
+    fn wind_down(&mut self)
+        ensures winds { winds self.new }
+        ensures stays { (s : State) → Leads (stays s self.old) (stays s self.new) (Ends s) }
+        ensures cores { cores self.new ≡ cores self.old };
+
+    /// Moves a core while all wind down, and answers whether anything moved. It finds memory for all that it does.
+    fn cease<R: Region>(&mut self, alloc: Global, region: &mut R, core: u32) -> bool
+        requires core { core < cores self.old }
+        requires winds { winds self.old }
+        requires stays { (e : Engine) × stays (R.state region.old) self.old e }
+        ensures ceases { Leads (stays (R.state region.old) self.old)
+            (stays (R.state region.new) self.new)
+            (Ceases (R.state region.new) result core) }
+        ensures winds { winds self.new }
+        ensures cores { cores self.new ≡ cores self.old }
+        ensures less { result ≡ true → left self.new < left self.old }
+        ensures idle { result ≡ false → left self.new ≤ left self.old };
+
     // A state that is shown with a region's state has it.
-    ghost placed: { (s : State) (x : Self) (e : Engine) → shows s x e → e.region ≡ s };
+    ghost placed: { (s : State) (x : Self) (e : Engine) → stays s x e → e.region ≡ s };
+
+    ghost awake: { (s : State) (x : Self) (e : Engine) → shows s x e → stays s x e };
 }
 
 /// Moves a core until it is idle, and answers whether anything moved.
@@ -68,10 +96,10 @@ pub fn settle<C: Cores, R: Region>(
     requires core { core < C.cores cores.old }
     requires shows { (e : Engine) × C.shows (R.state region.old) cores.old e }
     ensures failed { OnErr result (Leads (C.shows (R.state region.old) cores.old)
-        (C.shows (R.state region.new) cores.new) (Ends (R.state region.new))) }
+        (C.stays (R.state region.new) cores.new) (Ends (R.state region.new))) }
     ensures settles { IfOk result (λ b. Leads (C.shows (R.state region.old) cores.old)
         (C.shows (R.state region.new) cores.new) (λ e f. Settles core b e f)) }
-    ensures cores { IfOk result (λ b. C.cores cores.new ≡ C.cores cores.old) }
+    ensures cores { C.cores cores.new ≡ C.cores cores.old }
     ensures less { IfOk result (λ b. b ≡ true → C.left cores.new < C.left cores.old) }
     ensures idle { IfOk result (λ b. b ≡ false → C.left cores.new ≤ C.left cores.old) }
 {
@@ -93,10 +121,10 @@ pub fn pass<C: Cores, R: Region>(
 ) -> Result<bool, Memory>
     requires { (e : Engine) × C.shows (R.state region.old) cores.old e }
     ensures failed { OnErr result (Leads (C.shows (R.state region.old) cores.old)
-        (C.shows (R.state region.new) cores.new) (Ends (R.state region.new))) }
+        (C.stays (R.state region.new) cores.new) (Ends (R.state region.new))) }
     ensures passes { IfOk result (λ b. Leads (C.shows (R.state region.old) cores.old)
         (C.shows (R.state region.new) cores.new) (λ e f. Passes (C.cores cores.old) b e f)) }
-    ensures cores { IfOk result (λ b. C.cores cores.new ≡ C.cores cores.old) }
+    ensures cores { C.cores cores.new ≡ C.cores cores.old }
     ensures less { IfOk result (λ b. b ≡ true → C.left cores.new < C.left cores.old) }
     ensures idle { IfOk result (λ b. b ≡ false → C.left cores.new ≤ C.left cores.old) }
 {
@@ -118,9 +146,10 @@ pub fn drain<C: Cores, R: Region>(
 ) -> Result<(), Memory>
     requires { (e : Engine) × C.shows (R.state region.old) cores.old e }
     ensures failed { OnErr result (Leads (C.shows (R.state region.old) cores.old)
-        (C.shows (R.state region.new) cores.new) (Ends (R.state region.new))) }
+        (C.stays (R.state region.new) cores.new) (Ends (R.state region.new))) }
     ensures drained { OnOk result (Leads (C.shows (R.state region.old) cores.old)
         (C.shows (R.state region.new) cores.new) (DrainsOut (C.cores cores.old))) }
+    ensures cores { C.cores cores.new ≡ C.cores cores.old }
 {
     loop {
         if !pass(cores, alloc, region)? {
@@ -140,10 +169,10 @@ pub fn go<C: Cores, R: Region>(
     requires core { core < C.cores cores.old }
     requires shows { (e : Engine) × C.shows (R.state region.old) cores.old e }
     ensures failed { OnErr result (Leads (C.shows (R.state region.old) cores.old)
-        (C.shows (R.state region.new) cores.new) (Ends (R.state region.new))) }
+        (C.stays (R.state region.new) cores.new) (Ends (R.state region.new))) }
     ensures went { OnOk result (Leads (C.shows (R.state region.old) cores.old)
         (C.shows (R.state region.new) cores.new) (λ e f. Goes AnyTurn core turns e f)) }
-    ensures cores { OnOk result (C.cores cores.new ≡ C.cores cores.old) }
+    ensures cores { C.cores cores.new ≡ C.cores cores.old }
 {
     for turn in 0..turns {
         cores.advance(alloc, region, core)?;
@@ -151,8 +180,8 @@ pub fn go<C: Cores, R: Region>(
     Ok(())
 }
 
-/// Handles the lines of an input in order, and then drains.
-pub fn replay<C: Cores, R: Region>(
+// Handles the lines of an input in order, and then drains.
+fn run<C: Cores, R: Region>(
     cores: &mut C,
     alloc: Global,
     region: &mut R,
@@ -161,7 +190,8 @@ pub fn replay<C: Cores, R: Region>(
     requires lines { NameCores (C.cores cores.old) lines.items }
     requires shows { (e : Engine) × C.shows (R.state region.old) cores.old e }
     ensures failed { OnErr result (Leads (C.shows (R.state region.old) cores.old)
-        (C.shows (R.state region.new) cores.new) (EndsIn (R.state region.new) lines.items)) }
+        (C.stays (R.state region.new) cores.new) (EndsIn (R.state region.new) lines.items)) }
+    ensures cores { C.cores cores.new ≡ C.cores cores.old }
     ensures ran { OnOk result (Leads (C.shows (R.state region.old) cores.old)
         (C.shows (R.state region.new) cores.new)
         (λ e f. Ran AnyTurn (C.cores cores.old) lines.items e f)) }
@@ -171,6 +201,100 @@ pub fn replay<C: Cores, R: Region>(
             Some(Line::Ask(request)) => cores.give(request)?,
             Some(Line::Go { core, turns }) => go(cores, alloc, region, core, turns)?,
             None => return drain(cores, alloc, region),
+        }
+    }
+}
+
+/// Moves a core until nothing of it moves, while all wind down, and answers whether anything moved.
+pub fn cease_core<C: Cores, R: Region>(
+    cores: &mut C,
+    alloc: Global,
+    region: &mut R,
+    core: u32,
+) -> bool
+    requires core { core < C.cores cores.old }
+    requires winds { C.winds cores.old }
+    requires stays { (e : Engine) × C.stays (R.state region.old) cores.old e }
+    ensures ceases { Leads (C.stays (R.state region.old) cores.old)
+        (C.stays (R.state region.new) cores.new)
+        (Ceases (R.state region.new) result core) }
+    ensures winds { C.winds cores.new }
+    ensures cores { C.cores cores.new ≡ C.cores cores.old }
+    ensures less { result ≡ true → C.left cores.new < C.left cores.old }
+    ensures idle { result ≡ false → C.left cores.new ≤ C.left cores.old }
+{
+    let mut moved = false;
+    loop {
+        if cores.cease(alloc, region, core) {
+            moved = true;
+        } else {
+            return moved;
+        }
+    }
+}
+
+/// Moves each core until nothing of it moves, by rising number, while all wind down, and answers whether anything moved.
+pub fn cease_pass<C: Cores, R: Region>(cores: &mut C, alloc: Global, region: &mut R) -> bool
+    requires winds { C.winds cores.old }
+    requires stays { (e : Engine) × C.stays (R.state region.old) cores.old e }
+    ensures passes { Leads (C.stays (R.state region.old) cores.old)
+        (C.stays (R.state region.new) cores.new)
+        (CeasePasses (R.state region.new) (C.cores cores.old) result) }
+    ensures winds { C.winds cores.new }
+    ensures cores { C.cores cores.new ≡ C.cores cores.old }
+    ensures less { result ≡ true → C.left cores.new < C.left cores.old }
+    ensures idle { result ≡ false → C.left cores.new ≤ C.left cores.old }
+{
+    let mut moved = false;
+    let all = cores.count();
+    for core in 0..all {
+        if cease_core(cores, alloc, region, core) {
+            moved = true;
+        }
+    }
+    moved
+}
+
+/// Makes passes until nothing moves, while all wind down: what is posted or taken is finished, and then all rest.
+pub fn cease<C: Cores, R: Region>(cores: &mut C, alloc: Global, region: &mut R)
+    requires winds { C.winds cores.old }
+    requires stays { (e : Engine) × C.stays (R.state region.old) cores.old e }
+    ensures ceased { Leads (C.stays (R.state region.old) cores.old)
+        (C.stays (R.state region.new) cores.new)
+        (CeasesOut (R.state region.new) (C.cores cores.old)) }
+{
+    loop {
+        if !cease_pass(cores, alloc, region) {
+            return;
+        }
+    }
+}
+
+/// Handles the lines of an input in order, and then drains. Where there is no memory, all wind down, and finish what is
+/// posted or taken.
+pub fn replay<C: Cores, R: Region>(
+    cores: &mut C,
+    alloc: Global,
+    region: &mut R,
+    lines: VecDeque<Line>,
+) -> Result<(), Memory>
+    requires lines { NameCores (C.cores cores.old) lines.items }
+    requires shows { (e : Engine) × C.shows (R.state region.old) cores.old e }
+    ensures failed { OnErr result (Leads (C.shows (R.state region.old) cores.old)
+        (C.stays (R.state region.new) cores.new)
+        (CeasesIn (R.state region.new) (C.cores cores.old) lines.items)) }
+    ensures ran { OnOk result (Leads (C.shows (R.state region.old) cores.old)
+        (C.shows (R.state region.new) cores.new)
+        (λ e f. Ran AnyTurn (C.cores cores.old) lines.items e f)) }
+{
+    match run(cores, alloc, region, lines) {
+        Ok(()) => {
+            return Ok(());
+        }
+        Err(memory) => {
+            cores.wind_down();
+            cease(cores, alloc, region);
+            return Err(memory);
         }
     }
 }

@@ -13,13 +13,16 @@ use pm_region::Region;
 use recover::CoreStart;
 use std::alloc::Global;
 
-// In a replay nothing holds a worker back. One that winds down is moved no more: what it was to do found no memory.
+// In a replay nothing holds a worker back.
 impl CoreWorker for Worker {
     ghost use Rattle.core_worker.specs.Beginning.{answers_of};
     ghost use Rattle.core_worker.specs.WorkerMoves.{hands_of};
     ghost use Rattle.core_worker.specs.Left as measure;
+    ghost use Rattle.core_worker.specs.Status as status;
     ghost use Rattle.group_engine.specs.Working as working;
     ghost use Rattle.core_worker.proofs.Aside.{stands_aside};
+    ghost use Rattle.std.specs.Prelude.{not};
+    ghost use Rattle.std.proofs.lemmas.Bool.{and_parts, not-true};
 
     ghost hands = { hands_of };
 
@@ -32,6 +35,8 @@ impl CoreWorker for Worker {
     ghost room = { working.may_take };
 
     ghost leads = { working.leads };
+
+    ghost winds = { λ w. w.winds_down };
 
     ghost left = { measure.left };
 
@@ -65,15 +70,16 @@ impl CoreWorker for Worker {
         Worker::accept(self, alloc, region, number, request)
     }
 
+    fn wind_down(&mut self) {
+        Worker::wind_down(self);
+    }
+
     fn turn<R: Region, B: Board>(
         &mut self,
         alloc: Global,
         region: &mut R,
         board: &mut B,
     ) -> Result<bool, Memory> {
-        if self.winding_down() {
-            return Err(Memory);
-        }
         match Worker::turn(self, alloc, region, board, &OpenGate) {
             Ok(Turn::Moved) => Ok(true),
             Ok(Turn::Idle) => Ok(false),
@@ -87,6 +93,9 @@ impl CoreWorker for Worker {
       order = tied.order;
       rule = tied.rule;
     } };
+
+    ghost wakes = { λ w e. not-true w.winds_down
+        (and_parts (not w.winds_down) (status.has_room w) (and_parts (not (working.leads w)) (working.may_take w) e).1).0 };
 
     ghost beside = { λ a e m n kinds w lawful runs other starts. starts };
 }

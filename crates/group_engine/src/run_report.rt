@@ -1,8 +1,8 @@
 // The replies of a replay and the report on them, made of the answers by number.
-ghost use Rattle.std.specs.Prelude.{◌≡◌, ℕ, [], ◌∷◌, ◌++◌, length, IfOk, OnOk};
+ghost use Rattle.std.specs.Prelude.{◌≡◌, ℕ, ◌+◌, ◌<◌, ◌≤◌, [], ◌∷◌, ◌++◌, length, vec_len, vec_capacity, IfOk, OnOk};
 ghost use Rattle.fs_model.specs.declared.model.Reply.TheVariants as replies;
 ghost use Rattle.fs_model.specs.Lawful.{is_finish};
-ghost use Rattle.group_engine.specs.Reports.{IsReport, Adds, finish_of, refusal_of};
+ghost use Rattle.group_engine.specs.Reports.{IsReport, Adds, IsBlank, HasRoomFor, HasRoom, Fills, FillsAll, finish_of, refusal_of};
 
 use crate::types::Stamped;
 use core_room::Shortage;
@@ -47,65 +47,82 @@ fn is_finish(reply: &Reply) -> bool
 }
 
 // Notes a finish, where the reply is one.
-fn note_finish(finishes: &mut Vec<Finish>, request: u64, answer: &Stamped) -> Result<(), Memory>
-    ensures { OnOk result (finishes.new.items
-        ≡ finishes.old.items ++ finish_of request answer.now.reply answer.now.stamp) }
+fn note_finish(finishes: &mut Vec<Finish>, request: u64, answer: &Stamped)
+    requires room { vec_len finishes.old < vec_capacity finishes.old }
+    ensures notes { finishes.new.items
+        ≡ finishes.old.items ++ finish_of request answer.now.reply answer.now.stamp }
+    ensures fills { Fills finishes.old finishes.new }
 {
     if is_finish(&answer.reply) {
-        finishes.push(Finish {
+        finishes.push_reserved(Finish {
             request,
             stamp: answer.stamp,
-        })?;
+        });
     }
-    Ok(())
 }
 
 // Notes a refusal, where there is a cause.
-fn note_refusal(
-    refusals: &mut Vec<Refusal>,
-    request: u64,
-    cause: Option<Shortage>,
-) -> Result<(), Memory>
-    ensures { OnOk result (refusals.new.items ≡ refusals.old.items ++ refusal_of request cause) }
+fn note_refusal(refusals: &mut Vec<Refusal>, request: u64, cause: Option<Shortage>)
+    requires room { vec_len refusals.old < vec_capacity refusals.old }
+    ensures notes { refusals.new.items ≡ refusals.old.items ++ refusal_of request cause }
+    ensures fills { Fills refusals.old refusals.new }
 {
     if let Some(why) = cause {
-        refusals.push(Refusal { request, why })?;
+        refusals.push_reserved(Refusal { request, why });
     }
-    Ok(())
 }
 
 impl Report {
+    /// A report on nothing. It takes no memory.
+    pub fn new(alloc: Global) -> Report
+        ensures { IsBlank result }
+    {
+        Report {
+            replies: Vec::new(alloc),
+            finishes: Vec::new(alloc),
+            refusals: Vec::new(alloc),
+        }
+    }
+
+    /// Makes room for so many answers in a report on nothing. What room there is stays.
+    pub fn reserve(&mut self, count: usize) -> Result<(), Memory>
+        requires blank { IsBlank self.old }
+        ensures blank { IsBlank self.new }
+        ensures room { OnOk result (HasRoomFor count self.new) }
+        ensures kept { (n : ℕ) → HasRoomFor n self.old → HasRoomFor n self.new }
+    {
+        self.replies.reserve(count)?;
+        self.finishes.reserve(count)?;
+        self.refusals.reserve(count)?;
+        Ok(())
+    }
+
     // The next request's answer.
-    fn add(&mut self, answer: Option<Stamped>) -> Result<(), Memory>
-        ensures { OnOk result (Adds self.old self.new answer) }
+    fn add(&mut self, answer: Option<Stamped>)
+        requires room { HasRoom self.old }
+        ensures adds { Adds self.old self.new answer }
+        ensures fills { FillsAll self.old self.new }
     {
         match answer {
-            None => {
-                self.replies.push(Reply::Stopped)?;
-                Ok(())
-            }
+            None => self.replies.push_reserved(Reply::Stopped),
             Some(answer) => {
                 let request = self.replies.len() as u64;
-                note_finish(&mut self.finishes, request, &answer)?;
-                note_refusal(&mut self.refusals, request, answer.refusal)?;
-                self.replies.push(answer.reply)?;
-                Ok(())
+                note_finish(&mut self.finishes, request, &answer);
+                note_refusal(&mut self.refusals, request, answer.refusal);
+                self.replies.push_reserved(answer.reply);
             }
         }
     }
 }
 
-/// The report on answers that are kept by number.
-pub fn report_on(alloc: Global, answers: Vec<Option<Stamped>>) -> Result<Report, Memory>
-    ensures { IfOk result (IsReport answers.items) }
+/// The report on answers that are kept by number, for which there is room. It takes no memory.
+pub fn report_on(answers: Vec<Option<Stamped>>, mut report: Report) -> Report
+    requires blank { IsBlank report }
+    requires room { HasRoomFor (length answers.items) report }
+    ensures { IsReport answers.items result }
 {
-    let mut report = Report {
-        replies: Vec::new(alloc),
-        finishes: Vec::new(alloc),
-        refusals: Vec::new(alloc),
-    };
     for answer in answers {
-        report.add(answer)?;
+        report.add(answer);
     }
-    Ok(report)
+    report
 }

@@ -1,5 +1,5 @@
 // The report on five requests.
-use crate::run_report::{Finish, Refusal, report_on};
+use crate::run_report::{Finish, Refusal, Report, report_on};
 use crate::types::Stamped;
 use core_room::Shortage;
 use fs_model::Reply;
@@ -26,7 +26,9 @@ fn a_report_names_finishes_and_refusals(rt: HostRuntime) -> Result<(), Fail> {
     answers.push(None)?;
     answers.push(answer(Reply::Absent, 8))?;
     answers.push(answer(Reply::Deleted, 12))?;
-    let report = report_on(alloc, answers)?;
+    let mut blank = Report::new(alloc);
+    blank.reserve(5)?;
+    let report = report_on(answers, blank);
     assert_eq!(rt; report.replies.len(), 5);
     assert!(rt; matches!(report.replies.first(), Some(Reply::Stored)));
     assert!(rt; matches!(report.replies.last(), Some(Reply::Deleted)));

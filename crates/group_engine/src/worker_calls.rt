@@ -1,5 +1,5 @@
 // What the engine asks of the worker of one core.
-ghost use Rattle.std.specs.Prelude.{◌≡◌, ◌≢◌, ℕ, ◌+◌, ◌<◌, ◌≤◌, List, [], ◌∷◌, Bool, true, false, Option, OnOk, IfOk, IfErr, IfSome, IsSomeAnd, MatchOption};
+ghost use Rattle.std.specs.Prelude.{◌≡◌, ◌≢◌, ℕ, ◌+◌, ◌<◌, ◌≤◌, List, [], ◌∷◌, Bool, true, false, Option, OnOk, OnErr, IfOk, IfErr, IfSome, IsSomeAnd, MatchOption};
 ghost use Rattle.fs_model.specs.Cells.{key_of};
 ghost use Rattle.pm_region.specs.State.{State, During, cell_now};
 ghost use Rattle.group_laws.specs.Places.{Place, owner};
@@ -9,7 +9,7 @@ ghost use Rattle.group_laws.specs.Invariant.{Lawful};
 ghost use Rattle.group_laws.specs.Runs.{Kind, Runs};
 ghost use Rattle.engine_laws.specs.WorkerMoves.{Hands};
 ghost use Rattle.core_worker.specs.declared.types.Answer as answers;
-ghost use Rattle.group_engine.specs.Calls.{Accepts, Turns, KeepsPart, is_open, is_idle, steps_of};
+ghost use Rattle.group_engine.specs.Calls.{Accepts, Turns, KeepsPart, WindsDown, is_open, is_idle, steps_of};
 
 use core_worker::{Answer, NotAccepted};
 use fs_errors::Memory;
@@ -35,6 +35,9 @@ pub trait CoreWorker {
     ghost room: { Self → Bool };
 
     ghost leads: { Self → Bool };
+
+    // Whether it winds down.
+    ghost winds: { Self → Bool };
 
     // What it has still to do, what is under way in a group, and what an accepted request adds at most.
     ghost left: { Self → ℕ };
@@ -64,6 +67,7 @@ pub trait CoreWorker {
             → stands p m s v self.old → stands p m s v self.new }
         ensures fair { (a : Group) (m : ℕ) → fair a m self.old → fair a m self.new }
         ensures open { is_open room leads self.new ≡ is_open room leads self.old }
+        ensures winds { winds self.new ≡ winds self.old }
         ensures left { left self.new ≡ left self.old };
 
     /// Accepts a request of one of its keys, and begins it where nothing of its key is under way. Where there is no
@@ -82,9 +86,14 @@ pub trait CoreWorker {
             self.old self.new ((number, request) ∷ [])) }
         ensures refused { IfErr result (λ back. (back.request ≡ request)
             × Accepts hands answers stands fair (R.state region.now) self.old self.new []) }
+        ensures winds { OnOk result (winds self.new ≡ winds self.old) }
         ensures less { OnOk result (left self.new ≤ left self.old + most) };
 
-    /// Makes a turn, and answers whether anything moved.
+    /// Lets it finish what is posted or taken, and begin, post and accept nothing more. It needs no memory for this.
+    fn wind_down(&mut self)
+        ensures { WindsDown hands answers stands fair room leads winds self.old self.new };
+
+    /// Makes a turn, and answers whether anything moved. One that winds down finds memory for all that it does.
     fn turn<R: Region, B: Board>(
         &mut self,
         alloc: Global,
@@ -99,13 +108,19 @@ pub trait CoreWorker {
         ensures turns { Turns hands answers stands fair room leads
             (B.seat board.old).place (B.seat board.old).number
             (R.state region.old) (R.state region.new) (B.whole board.old) (B.whole board.new)
-            (B.view board.old) (B.view board.new) self.old self.new (is_idle result) }
+            (B.view board.old) (B.view board.new) self.old self.new (is_idle result)
+            (winds self.old) }
+        ensures winds { OnOk result (winds self.new ≡ winds self.old) }
+        ensures awake { OnErr result (winds self.old ≡ false) }
         ensures less { IfOk result (λ b. b ≡ true → IfSome (B.whole board.old) (λ a.
             IsSomeAnd (B.whole board.new) (λ e.
             left self.new + under_way e < left self.old + under_way a))) }
         ensures idle { IfOk result (λ b. b ≡ false → IfSome (B.whole board.old) (λ a.
             IsSomeAnd (B.whole board.new) (λ e.
             left self.new + under_way e ≤ left self.old + under_way a))) };
+
+    // One that winds down may not be handed a request.
+    ghost wakes: { (w : Self) → is_open room leads w ≡ true → winds w ≡ false };
 
     // What another member does leaves it as it is: to words outside the own part,
     ghost apart: { (p : Place) (m : ℕ) (s t : State) (v : View) (w : Self)

@@ -93,9 +93,11 @@ impl Standing {
         Ok(standing)
     }
 
-    /// Makes the number of reserved places at least this one.
+    /// Makes the number of reserved places at least this one. Each name that stands has a copy.
     pub fn reserve(&mut self, more: u64) -> Result<(), Memory>
         ensures copies { SameCopies self.old self.new }
+        ensures standing { (k v : ℕ) → is_some (copies_at self.new k v) ≡ true
+            → 0 < count_of self.new k v }
         ensures ok { OnOk result (more ≤ self.new.room) }
         ensures room { self.old.room ≤ self.new.room }
         ensures err { OnErr result (self.new.room ≡ self.old.room) }

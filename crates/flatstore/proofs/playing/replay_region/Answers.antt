@@ -1,9 +1,10 @@
--- The promise, where requests were answered and where none was.
-use Rattle.std.proofs.Common.{List, ℕ, refl, sym, ap, subst}
-use Rattle.serial_engine.specs.Answers.{told}
+-- The promise, where the lines were run and where nothing was read.
+use Rattle.std.proofs.Common.{List, ℕ, refl, sym, ◌∙◌, ap, subst}
 use Rattle.flatstore.specs.Promise.{IsInput, Replays}
-use Rattle.flatstore.proofs.Replaying.{played_replays}
+use Rattle.flatstore.proofs.Opened.{granted_by}
+use Rattle.flatstore.proofs.Replaying.{promise}
 use Rattle.flatstore.proofs.Refused.{refused_replays}
+use Rattle.group_engine.specs.Reports.{told}
 use Rattle.flatstore.proofs.playing.replay_region.Goals as goal
 
 pub returns-in-Err-clause-replay : goal.returns-in-Err-clause-replay
@@ -17,18 +18,15 @@ returns-in-Err-clause-replay g c = λ attached.
     let text = g.O.Sink.taken c.args.sink.now in
     let flushed = g.O.Sink.flushed c.args.sink.now in
     let sink = g.O.Sink.fault_count c.args.sink.now in
-    subst (λ s. (input : List ℕ) × IsInput coming input × Replays old s found coming left count count' input text text flushed sink sink c.of-in-Err.result) (ap g.R.Region.state (sym c.in-Err.ensures.untouched))
+    subst (λ s. (input : List ℕ) × (cores : ℕ) × IsInput coming input × Replays old s found coming left count count' cores input text text flushed sink sink c.of-in-Err.result) (ap g.R.Region.state (sym c.in-Err.ensures.untouched))
     (refused_replays old (g.R.Region.state c.attach.new.self) found c.in-Ok.ensures.ok coming left count count' c.in-Err.status c.in-Err.ensures.refused
     c.of-in-Err.result c.of-in-Err.ensures.status c.of-in-Err.ensures.finishes c.of-in-Err.ensures.refusals c.of-in-Err.ensures.began c.of-in-Err.ensures.complete text flushed sink)
 
 pub returns-in-Ok-replay-clause-replay : goal.returns-in-Ok-replay-clause-replay
 returns-in-Ok-replay-clause-replay g c = λ attached.
-    let P = c.in-Ok-replay.ensures.played in (
-      P.read.input,
-      P.read.is_input,
-      played_replays (g.R.Region.state c.args.region.now) (g.R.Region.state c.attach.new.self) (g.R.Region.state c.replay.new.region) (g.R.SplitRegion.found c.args.region.now) c.in-Ok.ensures.ok
-          (g.S.Source.coming c.args.source.now) (g.S.Source.coming c.replay.new.source) (g.O.Sink.taken c.args.sink.now) (g.O.Sink.taken c.write.new.sink) (g.O.Sink.flushed c.write.new.sink)
-          (g.O.Sink.fault_count c.args.sink.now) (g.O.Sink.fault_count c.write.new.sink) c.in-Ok-replay.ended c.write.result.status
-          P c.write.ensures.written c.write.result refl (λ i. told (c.write.ensures.finishes i) (c.write.ensures.refusals i)) c.write.ensures.refusals c.write.ensures.began c.write.ensures.complete c.attach.ensures.cause.later
-          (g.S.Source.fault_count c.args.source.now) (g.S.Source.fault_count c.replay.new.source),
-    )
+    promise (g.R.Region.state c.args.region.now) (g.R.Region.state c.attach.new.self) (g.R.Region.state c.replay.new.region) (g.R.SplitRegion.found c.args.region.now) (g.R.ReadRegion.word c.attach.new.self) c.in-Ok.ensures.ok
+    c.attach.ensures.opens (granted_by (g.R.Region.state c.args.region.now) (g.R.Region.state c.attach.new.self) c.attach.result _ c.in-Ok.is c.attach.ensures.cause) c.attach.ensures.cause.later
+    (g.S.Source.coming c.args.source.now) (g.S.Source.coming c.replay.new.source) c.in-Ok-replay.outcome c.in-Ok-replay.ensures.played
+    (g.O.Sink.taken c.args.sink.now) (g.O.Sink.taken c.write_outcome.new.sink) (g.O.Sink.flushed c.write_outcome.new.sink) (g.O.Sink.fault_count c.args.sink.now) (g.O.Sink.fault_count c.write_outcome.new.sink)
+    c.write_outcome.result c.write_outcome.ensures.written c.write_outcome.ensures.finishes c.write_outcome.ensures.refusals c.write_outcome.ensures.began c.write_outcome.ensures.complete
+    (g.S.Source.fault_count c.args.source.now) (g.S.Source.fault_count c.replay.new.source)

@@ -1,17 +1,24 @@
-use Rattle.fs_text.proofs.Whole.{whole_lines, whole_rule, whole_built}
+use Rattle.std.proofs.Common.{arith, sym, ap, ◌∙◌}
+use Rattle.fs_text.specs.Input.{lines_of, lines_from, input_of}
+use Rattle.fs_text.proofs.Stopping.{with_lines, with_none, goes_on_behind}
 use Rattle.fs_text.proofs.input.parse_input.Goals as goal
 
-pub unreachable-requires : goal.unreachable-requires
-unreachable-requires c =
-    let h = rw (c.in-Err-Stop-NotBuilt.field-0-is, c.in-Err-Stop-NotBuilt.field-0-0-is, c.all.ensures) at c.in-Err-Stop-NotBuilt.ensures.exact in
-    whole_built c.args.cores c.args.bytes.now c.in-Err-Stop-NotBuilt.field-0-0-0 h
+pub loop-rest-init : goal.loop-rest-init
+unfolding input_of
+loop-rest-init c = record {
+  few = omega arith;
+  said = rw (c.new-lines.ensures.items, c.none-totals.ensures) (with_none (lines_from c.args.cores 1 (record { bytes = 0; requests = 0; turns = 0 }) (lines_of c.args.bytes.now)));
+}
 
-pub returns-in-Ok-clause-exact : goal.returns-in-Ok-clause-exact
-returns-in-Ok-clause-exact c =
-    let h = rw c.all.ensures at c.in-Ok.ensures.exact in
-    whole_lines c.args.cores c.args.bytes.now c.in-Ok.input h
-
-pub returns-in-Err-Stop-Bad-clause-exact : goal.returns-in-Err-Stop-Bad-clause-exact
-returns-in-Err-Stop-Bad-clause-exact c =
-    let h = rw (c.in-Err-Stop-Bad.field-0-is, c.in-Err-Stop-Bad.field-0-0-is, c.all.ensures) at c.in-Err-Stop-Bad.ensures.exact in
-    whole_rule c.args.cores c.args.bytes.now c.in-Err-Stop-Bad.line c.in-Err-Stop-Bad.rule h
+pub loop-rest-preserved : goal.loop-rest-preserved
+loop-rest-preserved c =
+    let front = c.loop-rest.lines.items in
+    let first = c.first_line-first.result in
+    let step = goes_on_behind front c.args.cores c.loop-rest.number c.loop-rest.totals (first.text.now, first.ended) (lines_of first.rest.now)
+    (c.in_ok-line.line, c.in_ok-line.next) c.in_ok-line.ensures.exact in
+    record {
+      few = omega arith;
+      said = rw c.in_ok-push.ensures.items (sym step
+          ∙ ap (λ xs. with_lines front (lines_from c.args.cores c.loop-rest.number c.loop-rest.totals xs)) (sym c.first_line-first.ensures.lines)
+          ∙ c.loop-rest.invariant.said);
+    }

@@ -17,6 +17,7 @@ invariant-loop-answer g l =
       stands : (p : Place) (m : ℕ) (s : State) (v : View) → W.stands p m s v l.fn.worker → W.stands p m s v l.worker;
       fair : (a : Group) (m : ℕ) → W.fair a m l.fn.worker → W.fair a m l.worker;
       ready : is_open W.room W.leads l.worker ≡ is_open W.room W.leads l.fn.worker;
+      winds : W.winds l.worker ≡ W.winds l.fn.worker;
       left : W.left l.worker ≡ W.left l.fn.worker;
     }
 

@@ -1,26 +1,31 @@
 use Rattle.std.proofs.Common.{rules, ◌∙◌, refl, sym}
 use Rattle.group_board.specs.Journals.{state}
 use Rattle.group_engine.proofs.Stepping.{turned, taken_in, less_taken, none_left}
+use Rattle.group_engine.proofs.Ending.{on_err}
 use Rattle.group_engine.proofs.engine_step.step.Goals as goal
 
 pub returns-then-not-takes-clause-steps : goal.returns-then-not-takes-clause-steps
 returns-then-not-takes-clause-steps g c =
     let W = g.W.CoreWorker in
-    turned W.hands W.answers W.stands W.fair W.room W.leads _ c.args.member _ _ _ _ _ _ _ _ c.args.backlog.now.items c.args.backlog.now.items c.turn_at.result refl
+    turned W.hands W.answers W.stands W.fair W.room W.leads _ c.args.member _ _ _ _ _ _ _ _ c.args.backlog.now.items c.args.backlog.now.items _ c.turn_at.result refl
     (λ q. absurd (let n = c.if-not-takes.true in let e = c.takes.ensures in cc (q, n, e))) c.turn_at.ensures.turns
 
 pub returns-in-Some-clause-steps : goal.returns-in-Some-clause-steps
 returns-in-Some-clause-steps g c =
     let W = g.W.CoreWorker in
-    taken_in W.hands W.answers W.stands W.fair W.room W.leads _ c.args.member _ _ _ _ _ c.args.backlog.now.items c.pop_front.new.self.items c.take_in.new.backlog.items (c.in-Some.number, c.in-Some.request) c.take_in.result c.in-Some.ensures.items
+    taken_in W.hands W.answers W.stands W.fair W.room W.leads _ c.args.member _ _ _ _ _ c.args.backlog.now.items c.pop_front.new.self.items c.take_in.new.backlog.items (c.in-Some.number, c.in-Some.request) _ c.take_in.result c.in-Some.ensures.items
     (let n = c.if-not-takes.false in let e = c.takes.ensures in sym e ∙ n) c.requires.fair c.requires.stands c.requires.own c.take_in.ensures.moved c.take_in.ensures.failed c.take_in.ensures.taken c.take_in.ensures.back
 
 pub returns-in-None-clause-steps : goal.returns-in-None-clause-steps
 returns-in-None-clause-steps g c =
     let W = g.W.CoreWorker in
-    turned W.hands W.answers W.stands W.fair W.room W.leads _ c.args.member _ _ _ _ _ _ _ _ c.args.backlog.now.items c.pop_front.new.self.items c.turn_at-in-None.result (sym c.in-None.ensures.items) (λ q. none_left c.args.backlog.now.items (let z = c.in-None.ensures.cases in search rules)) c.turn_at-in-None.ensures.turns
+    turned W.hands W.answers W.stands W.fair W.room W.leads _ c.args.member _ _ _ _ _ _ _ _ c.args.backlog.now.items c.pop_front.new.self.items _ c.turn_at-in-None.result (sym c.in-None.ensures.items) (λ q. none_left c.args.backlog.now.items (let z = c.in-None.ensures.cases in search rules)) c.turn_at-in-None.ensures.turns
 
 pub returns-in-Some-clause-less : goal.returns-in-Some-clause-less
 returns-in-Some-clause-less g c =
     let W = g.W.CoreWorker in
     less_taken c.args.backlog.now.items c.pop_front.new.self.items c.take_in.new.backlog.items (c.in-Some.number, c.in-Some.request) (W.left c.args.worker.now) (W.left c.take_in.new.worker) (W.under_way (state c.args.board.now.keeper.me.0)) W.most c.take_in.result c.in-Some.ensures.items c.take_in.ensures.taken c.take_in.ensures.less
+
+pub returns-in-Some-clause-awake : goal.returns-in-Some-clause-awake
+returns-in-Some-clause-awake g c =
+    on_err c.take_in.result (g.met.W.CoreWorker.wakes c.args.worker.now (let n = c.if-not-takes.false in let e = c.takes.ensures in sym e ∙ n))

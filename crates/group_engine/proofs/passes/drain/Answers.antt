@@ -20,7 +20,7 @@ pub returns-then-not-branch : goal.returns-then-not-branch
 returns-then-not-branch g c =
     let cores : ℕ = g.C.Cores.cores c.args.cores.now in
     let I = c.loop.invariant in
-    record { failed = tt; drained = λ e h. (let r = I.0 e h in let n = c.in_ok-pass.ensures.passes r.0 r.1 in (n.0, n.1, drained cores e r.0 n.0 r.2 (subst (λ k. Passes k false r.0 n.0) I.1 (subst (λ b. Passes (g.C.Cores.cores c.loop.cores) b r.0 n.0) c.if-not-branch.true n.2)))) }
+    record { failed = tt; cores = c.in_ok-pass.ensures.cores ∙ I.1; drained = λ e h. (let r = I.0 e h in let n = c.in_ok-pass.ensures.passes r.0 r.1 in (n.0, n.1, drained cores e r.0 n.0 r.2 (subst (λ k. Passes k false r.0 n.0) I.1 (subst (λ b. Passes (g.C.Cores.cores c.loop.cores) b r.0 n.0) c.if-not-branch.true n.2)))) }
 
 pub returns-in_err-pass-clause-failed : goal.returns-in_err-pass-clause-failed
 returns-in_err-pass-clause-failed g c = on_err c.from_residual.result (λ e h. let r = c.loop.invariant.0 e h in let f = c.in_err-pass.ensures.failed r.0 r.1 in (f.0, f.1, ends_on _ e r.0 f.0 r.3 f.2))

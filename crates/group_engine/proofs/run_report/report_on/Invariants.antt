@@ -1,5 +1,11 @@
-use Rattle.group_engine.specs.Reports.{IsReport}
+use Rattle.std.proofs.Common.{◌≡◌, ◌++◌, length}
+use Rattle.group_engine.specs.Reports.{IsReport, HasRoomFor, IsWithin}
 use Rattle.group_engine.proofs.run_report.report_on.Given as goal
 
 abbrev pub invariant-loop-answer : goal.invariant-loop-answer
-invariant-loop-answer l = IsReport l.yielded l.report
+invariant-loop-answer l = record {
+  made : IsReport l.yielded l.report;
+  split : l.fn.answers.items ≡ l.yielded ++ l.answer-iterator.rest.items;
+  room : HasRoomFor (length l.fn.answers.items) l.report;
+  within : IsWithin (length l.yielded) l.report;
+}

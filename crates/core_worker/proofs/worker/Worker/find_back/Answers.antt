@@ -8,7 +8,7 @@ use Rattle.group_board.specs.declared.board.SlotState.{SlotState}
 use Rattle.core_worker.specs.declared.types.Place.{Place}
 use Rattle.core_worker.specs.OwnPlaces.{place_at}
 use Rattle.core_worker.specs.Searching.{Sees, Searched}
-use Rattle.core_worker.proofs.SearchLaws.{searched_none, searched_on, searched_all, searched_stands, found_below, found_made}
+use Rattle.core_worker.proofs.SearchLaws.{searched_none, searched_on, searched_all, found_below, found_made}
 use Rattle.core_worker.proofs.worker.Worker.find_back.Goals as goal
 
 pub loop-slot-init : goal.loop-slot-init
@@ -68,12 +68,3 @@ returns-clause-finds g c =
     let end : c.loop-slot.slot ≡ 8 = omega (arith, over, c.loop-slot.auto.slot-end) in
     let S = subst (λ n. Searched (g.B.Board.whole c.args.board.now) (g.B.Board.whole c.loop-slot.board) seat.number c.args.self.now.places.items (g.B.Board.view c.args.board.now) n c.loop-slot.posted (g.B.Board.view c.loop-slot.board)) end i.searched in
     searched_all (g.B.Board.whole c.args.board.now) (g.B.Board.whole c.loop-slot.board) seat.number c.args.self.now (g.B.Board.view c.args.board.now) c.loop-slot.posted (g.B.Board.view c.loop-slot.board) c.requires.nothing S
-
-pub returns-clause-stands : goal.returns-clause-stands
-returns-clause-stands g c =
-    let seat = g.B.Board.seat c.args.board.now in
-    let i = c.loop-slot.invariant in
-    let over = c.loop-slot-test.false in
-    let end : c.loop-slot.slot ≡ 8 = omega (arith, over, c.loop-slot.auto.slot-end) in
-    let S = subst (λ n. Searched (g.B.Board.whole c.args.board.now) (g.B.Board.whole c.loop-slot.board) seat.number c.args.self.now.places.items (g.B.Board.view c.args.board.now) n c.loop-slot.posted (g.B.Board.view c.loop-slot.board)) end i.searched in
-    searched_stands (g.B.Board.whole c.args.board.now) (g.B.Board.whole c.loop-slot.board) seat.number c.args.self.now (g.B.Board.view c.args.board.now) c.loop-slot.posted (g.B.Board.view c.loop-slot.board) S

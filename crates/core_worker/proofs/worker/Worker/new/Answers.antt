@@ -1,21 +1,29 @@
-use Rattle.std.proofs.Common.{refl}
+use Rattle.std.proofs.Common.{◌≤◌, refl, arith}
+use Rattle.core_worker.specs.StandingTies.{SameNames}
+use Rattle.core_worker.proofs.NamesKnown.{heard_later, copies_before}
 use Rattle.core_worker.proofs.worker.Worker.new.Goals as goal
 
 pub returns : goal.returns
-returns c = record {
-  core = refl;
-  layout_is = refl;
-  log = refl;
-  allocator = refl;
-  index = c.hear_own.ensures;
-  eight = c.in_ok-places.ensures.eight;
-  free = c.in_ok-places.ensures.free;
-  queue = c.in_ok-queue.ensures;
-  hand = refl;
-  leading = (c.in_ok-buffer.buffer, refl);
-  cleaning = refl;
-  answers = (c.new.ensures.items, c.new.ensures.len);
-  runs = refl;
-  works = refl;
-  fresh = refl;
-}
+returns c =
+    let r = c.in_ok-reserve.ensures in
+    let same : SameNames c.args.start.standing c.reserve.new.self = record { copies = r.copies; settled = r.settled; room = r.room } in
+    record {
+      core = refl;
+      layout_is = refl;
+      log = refl;
+      allocator = refl;
+      index = c.hear_own.ensures.hears;
+      standing = heard_later c.args.start.core c.args.start.index c.args.start.standing c.reserve.new.self c.hear_own.new.standing same c.hear_own.ensures.own;
+      copies = copies_before c.args.start.standing c.reserve.new.self same r.standing;
+      names = (let ok = r.ok in let more = c.hear_own.ensures.own.room in omega (arith, ok, more));
+      eight = c.in_ok-places.ensures.eight;
+      free = c.in_ok-places.ensures.free;
+      queue = c.in_ok-queue.ensures;
+      hand = refl;
+      leading = (c.in_ok-buffer.buffer, refl);
+      cleaning = refl;
+      answers = (c.new.ensures.items, c.new.ensures.len);
+      runs = refl;
+      works = refl;
+      fresh = refl;
+    }

@@ -7,15 +7,32 @@ returns-in-Ok-clause-turned g c = c.serve_collecting.ensures.did (g.G.Gate.may_r
 pub returns-in-Err-clause-turned : goal.returns-in-Err-clause-turned
 returns-in-Err-clause-turned g c = c.serve_collecting.ensures.did (g.G.Gate.may_refuse c.args.gate.now)
 
-pub returns-in_default : goal.returns-in_default
-returns-in_default g c = record {
-  seat = c.serve_batch.ensures.seat;
-  keeps = c.serve_batch.ensures.keeps;
-  turned = c.serve_batch.ensures.did (g.G.Gate.may_refuse c.args.gate.now);
-  rests = tt;
-  memory = tt;
-  less = λ rule starts. c.serve_batch.ensures.less;
-  starts = c.serve_batch.ensures.starts;
-  idles = tt;
-  works = c.serve_batch.ensures.works;
-}
+pub returns-in-Ok-serve_batch : goal.returns-in-Ok-serve_batch
+returns-in-Ok-serve_batch g c =
+    let e = c.in-Ok-serve_batch.ensures in
+    record {
+      seat = e.seat;
+      keeps = e.keeps;
+      turned = e.did (g.G.Gate.may_refuse c.args.gate.now);
+      memory = tt;
+      awake = tt;
+      less = λ rule starts. e.less;
+      starts = e.starts;
+      idles = tt;
+      works = e.works;
+    }
+
+pub returns-in-Err-serve_batch : goal.returns-in-Err-serve_batch
+returns-in-Err-serve_batch g c =
+    let e = c.in-Err-serve_batch.ensures in
+    record {
+      seat = e.seat;
+      keeps = e.keeps;
+      turned = e.did (g.G.Gate.may_refuse c.args.gate.now);
+      memory = e.memory;
+      awake = e.awake;
+      less = λ rule starts. e.less;
+      starts = e.starts;
+      idles = tt;
+      works = tt;
+    }

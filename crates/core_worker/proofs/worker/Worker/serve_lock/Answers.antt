@@ -1,15 +1,9 @@
 -- The lock is tried, or nothing applies.
-use Rattle.std.proofs.Common.{inl, inr, Bool, [], ◌∷◌, refl, sym, ◌∙◌, ap, subst}
+use Rattle.std.proofs.Common.{inl, inr, Bool, [], ◌∷◌, refl, sym, subst}
 use Rattle.group_laws.specs.Runs as runs
-use Rattle.group_laws.specs.MemberViews.{View}
 use Rattle.batch_leader.specs.TakenChanges.{MatchBool}
 use Rattle.core_worker.specs.Turns.{TriesLock, FindsPosted}
 use Rattle.core_worker.specs.Turning.Did.{locks}
-use Rattle.core_worker.specs.declared.types.Leading.TheVariants as leads
-use Rattle.core_worker.specs.declared.search_places.Search.TheVariants.{Out}
-use Rattle.core_worker.specs.Searching.{FoundStands}
-use Rattle.core_worker.proofs.LeadTies.{led_here}
-use Rattle.core_worker.proofs.Resting.{rests_same, rests_tried}
 use Rattle.core_worker.proofs.Made.{one_step}
 use Rattle.core_worker.proofs.QuietItems.{lock_led, lock_same, lock_stops}
 use Rattle.core_worker.proofs.TurnLaws.{keeps_leading, keeps_same}
@@ -121,17 +115,3 @@ returns-then-not-posted-clause-tries g c =
 pub returns-clause-tries : goal.returns-clause-tries
 returns-clause-tries g c =
     subst (λ (b : Bool). TriedIf b (g.B.Board.seat c.args.board.now).number (g.B.Board.whole c.args.board.now) (g.B.Board.whole c.try_lead.new.board) (g.B.Board.view c.try_lead.new.board)) (sym c.if-not-posted.false) c.try_lead.ensures.whole
-
-pub returns-then-not-posted-clause-rests : goal.returns-then-not-posted-clause-rests
-returns-then-not-posted-clause-rests g c start stands looks =
-    rests_same start (g.B.Board.whole c.args.board.now) (g.B.Board.seat c.args.board.now).number (g.B.Board.view c.args.board.now) c.args.self.now.places.items
-    (subst (λ (b : Bool). FoundStands (Out b) start (g.B.Board.whole c.args.board.now) (g.B.Board.seat c.args.board.now).number c.args.self.now.places.items) c.if-not-posted.true stands) looks
-
-pub returns-clause-rests : goal.returns-clause-rests
-returns-clause-rests g c start stands looks =
-    let seat = g.B.Board.seat c.args.board.now in
-    let v = g.B.Board.view c.args.board.now in
-    let had = subst (λ (b : Bool). TriesLock b seat.number v (g.B.Board.view c.try_lead.new.board) c.args.self.now c.try_lead.new.self) c.if-try_lead.false c.try_lead.ensures.tried in
-    let L = led_here seat v c.args.self.now.leading (leads.Nothing c.requires.nothing.0) c.requires.holds.leads c.requires.nothing.1 in
-    rests_tried start (g.B.Board.whole c.args.board.now) (g.B.Board.whole c.try_lead.new.board) seat.number v (g.B.Board.view c.try_lead.new.board) c.args.self.now.places.items c.args.posted stands looks c.try_lead.ensures.whole
-    (ap (λ (y : View). y.holds) had.0.2 ∙ L.0)

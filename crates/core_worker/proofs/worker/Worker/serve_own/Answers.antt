@@ -5,11 +5,9 @@ use Rattle.store_image.specs.Facts.{In}
 use Rattle.group_laws.specs.declared.types.Seen.TheVariants.{Slot}
 use Rattle.group_board.specs.Seats.{SeatAt}
 use Rattle.core_worker.specs.Ties.{HoldsAt, StandsAt}
-use Rattle.core_worker.specs.Turns.{InOrderAt, LooksMade}
+use Rattle.core_worker.specs.Turns.{InOrderAt}
 use Rattle.core_worker.specs.Finishing.{FinishesSlot}
-use Rattle.core_worker.specs.declared.search_places.Search.TheVariants.{Out}
-use Rattle.core_worker.specs.Searching.{FoundStands}
-use Rattle.core_worker.specs.Turning.{KeepsTurn, RestsTo, TurnedTo, Tells, at_entry}
+use Rattle.core_worker.specs.Turning.{KeepsTurn, TurnedTo, Tells, at_entry}
 use Rattle.core_worker.specs.Turning.Did.{finishes}
 use Rattle.core_worker.proofs.TurnLaws.{keeps_looked, looked_holds, looked_stands, looked_order}
 use Rattle.core_worker.proofs.ItemLaws.{was_back, keeps_finish}
@@ -175,13 +173,3 @@ returns-in-Out-clause-idles g c =
     (subst (λ (q : SeatAt). IfIdle c.serve_staged.result (TriedIf c.in-Out.posted q.number w1 w2 u)) c.find_back.ensures.seat c.serve_staged.ensures.tries)
     (returns-in-Out-clause-turned g c) K.holds K.order.hand (g.met.B.Board.agrees c.args.board.now)
     (subst (λ (q : SeatAt). Agrees q.place q.number u w2) (c.serve_staged.ensures.seat ∙ c.find_back.ensures.seat) (g.met.B.Board.agrees c.serve_staged.new.board)) (g.met.B.Board.lawful c.serve_staged.new.board)
-
-pub returns-in-Out-clause-rests : goal.returns-in-Out-clause-rests
-returns-in-Out-clause-rests g c =
-    let e = c.find_back.ensures.seat in
-    let before = g.B.Board.whole c.args.board.now in
-    let mid = g.B.Board.whole c.find_back.new.board in
-    let v = g.B.Board.view c.find_back.new.board in
-    let ps = c.args.self.now.places.items in
-    subst (λ (x : SeatAt). RestsTo c.serve_staged.result before (g.B.Board.whole c.serve_staged.new.board) x.number (g.B.Board.view c.serve_staged.new.board) ps) e
-    (c.serve_staged.ensures.rests before (subst (λ (x : SeatAt). FoundStands (Out c.in-Out.posted) before mid x.number ps) (sym e) c.in-Out.ensures.stands) (subst (λ (x : SeatAt). LooksMade before mid x.number v) (sym e) c.find_back.ensures.looks))

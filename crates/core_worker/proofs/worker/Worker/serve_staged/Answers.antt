@@ -80,6 +80,3 @@ returns-in-Post-clause-less g c offer =
 
 pub returns-in-Post-clause-starts : goal.returns-in-Post-clause-starts
 returns-in-Post-clause-starts g c = posted_starts _ _ _ _ _ c.args.self.now c.post.new.self c.in-Post.slot c.requires.nothing c.post.ensures.posts
-
-pub returns-in-Pass-clause-rests : goal.returns-in-Pass-clause-rests
-returns-in-Pass-clause-rests g c start stands looks = c.serve_lock-turn.ensures.rests start stands looks

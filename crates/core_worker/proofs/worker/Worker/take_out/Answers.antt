@@ -54,11 +54,11 @@ returns-in-Some-clause-freed g c =
     let f = c.finish-entry.ensures in
     let p = (g.B.Board.seat c.args.board.now).place in
     done_freed p (g.B.Board.seat c.args.board.now).number c.args.slot (g.B.Board.view c.args.board.now) (g.B.Board.view c.finish-entry.new.self) c.args.self.now c.finish-entry.result.entry c.requires.holds c.requires.order c.requires.nothing f.pending
-    c.finish-entry.result.home f.seen f.view c.settle.new.self c.let_go-in-Some.new.self c.in-Some.home c.core_beside-core.result c.done_reply-reply.result c.in-Some.is (c.core_beside-core.ensures p (c.requires.holds.core ∙ ap (core_of p) (sym (c.member.ensures ∙ ap (λ (s : SeatAt). s.number) f.seat)))) c.settle.ensures c.done_reply-reply.ensures c.let_go-in-Some.ensures.frees
+    c.finish-entry.result.home f.seen f.view c.settle.new.self c.let_go-in-Some.new.self c.in-Some.home c.core_beside-core.result c.done_reply-reply.result c.in-Some.is (c.core_beside-core.ensures p (c.requires.holds.core ∙ ap (core_of p) (sym (c.member.ensures ∙ ap (λ (s : SeatAt). s.number) f.seat)))) c.settle.ensures f.home c.done_reply-reply.ensures c.let_go-in-Some.ensures.frees
 
 pub returns-in-Some-clause-takes : goal.returns-in-Some-clause-takes
 returns-in-Some-clause-takes g c =
     let f = c.finish-entry.ensures in
     let p = (g.B.Board.seat c.args.board.now).place in
     done_takes p (g.B.Board.seat c.args.board.now).number c.args.slot (g.B.Board.view c.args.board.now) (g.B.Board.view c.finish-entry.new.self) c.args.self.now c.finish-entry.result.entry c.requires.holds c.requires.order c.requires.nothing f.pending
-    c.finish-entry.result.home f.seen f.view c.settle.new.self c.let_go-in-Some.new.self c.in-Some.home c.core_beside-core.result c.done_reply-reply.result c.in-Some.is (c.core_beside-core.ensures p (c.requires.holds.core ∙ ap (core_of p) (sym (c.member.ensures ∙ ap (λ (s : SeatAt). s.number) f.seat)))) c.settle.ensures c.done_reply-reply.ensures c.let_go-in-Some.ensures.frees
+    c.finish-entry.result.home f.seen f.view c.settle.new.self c.let_go-in-Some.new.self c.in-Some.home c.core_beside-core.result c.done_reply-reply.result c.in-Some.is (c.core_beside-core.ensures p (c.requires.holds.core ∙ ap (core_of p) (sym (c.member.ensures ∙ ap (λ (s : SeatAt). s.number) f.seat)))) c.settle.ensures f.home c.done_reply-reply.ensures c.let_go-in-Some.ensures.frees

@@ -1,4 +1,4 @@
-use Rattle.std.proofs.Common.{◌≡◌, ℕ, Bool, true, false, [], ◌∷◌, ◌++◌, Option, refl, sym, ◌∙◌, ap, subst}
+use Rattle.std.proofs.Common.{◌≡◌, ℕ, not, Bool, true, false, [], ◌∷◌, ◌++◌, Option, refl, sym, ◌∙◌, ap, subst}
 use Rattle.std.specs.Prelude.{◌+◌, ◌<◌, List, is_some}
 use Rattle.std.specs.List.{AllByRecursion}
 use Rattle.store_image.specs.Facts.{In}
@@ -9,6 +9,7 @@ use Rattle.pm_region.specs.State.{During, cell_now}
 use Rattle.pm_region.specs.Words.{KeepsOutside}
 use Rattle.chunk_map.specs.declared.layouts.Geometry.{Geometry}
 use Rattle.chunk_map.specs.Layouts.{chunk_words}
+use Rattle.core_log.specs.Chunk.{padded}
 use Rattle.core_log.specs.Log.{open_first}
 use Rattle.batch_leader.specs.Persisting.{opened_for}
 use Rattle.core_log.specs.Log.{HoldsEntries}
@@ -25,6 +26,8 @@ use Rattle.core_worker.specs.OwnPlaces.{place_at, own as own_lines_of}
 use Rattle.group_laws.specs.Runs as runs
 use Rattle.core_worker.proofs.LeadTies.{led_here, leads_of}
 use Rattle.core_worker.proofs.Made.{one_step}
+use Rattle.core_worker.proofs.ChunksKept.{chunks_wrote}
+use Rattle.core_worker.proofs.Renewing.{holds_renewed, stands_renewed}
 use Rattle.core_worker.proofs.Writing.{opened_layout, room_ready, takes_same, holds_wrote, stands_wrote}
 use Rattle.core_worker.proofs.Unpledging.{pledged_by, less_own, each_place, certain_own, unpledged_at, holds_lowered, stands_lowered}
 use Rattle.core_worker.proofs.BatchRoom.{room_wrote}
@@ -61,10 +64,12 @@ returns-in-Ok-clause-holds g c =
     let wrote = holds_wrote p m v u w c.chunk_for-fresh.new.allocator c.persist.new.log (leads.Persisted c.in-Ok.done) w.stopped (v.kept ++ v.flying) [] v.taken v.holds [] v.took view (λ x i. In-append_left x v.kept v.flying i) H
     (takes_same b.fresh w.allocator c.chunk_for-fresh.new.allocator c.chunk_for-fresh.result takes) c.chunk_for-fresh.ensures.sets c.in-Ok.ensures.log.layout c.in-Ok.ensures.log.part
     (leads_of seat u (leads.Persisted c.in-Ok.done) (gives.1, ap (λ (x : View). x.holds) view ∙ had.1, (λ whole. ap (λ (x : View). x.flying) view), (λ none. b.some (sym gives.0 ∙ none))))
-    tt (λ broken. absurd (let both : true ≡ false = sym broken ∙ ap (λ (x : View). x.broken) view ∙ had.0.whole in cc both)) (λ lost. absurd (cc lost)) (λ runs. runs) (λ stopped. stopped) in
-    holds_lowered p m u (record w { log = c.persist.new.log; allocator = c.chunk_for-fresh.new.allocator; leading = leads.Persisted c.in-Ok.done; stopped = w.stopped }) wrote c.unpledge.new.places c.unpledge.ensures.count (λ s. is_some (taken_in ts m s))
+    tt (λ broken. absurd (let both : true ≡ false = sym broken ∙ ap (λ (x : View). x.broken) view ∙ had.0.whole in cc both)) (λ lost. absurd (cc lost)) (λ runs. runs) (λ stopped. stopped)
+    (λ runs. chunks_wrote p.layout.chunks b.fresh w.allocator c.chunk_for-fresh.new.allocator c.chunk_for-fresh.result w.log c.persist.new.log (padded (spelled ts)) takes c.in-Ok.ensures.wrote.log_is (H.chunks c.requires.runs)) in
+    holds_renewed p m u (record w { log = c.persist.new.log; allocator = c.chunk_for-fresh.new.allocator; leading = leads.Persisted c.in-Ok.done; places = c.unpledge.new.places }) c.note_names.new.standing w.winds_down (λ on. on)
+    (holds_lowered p m u (record w { log = c.persist.new.log; allocator = c.chunk_for-fresh.new.allocator; leading = leads.Persisted c.in-Ok.done; stopped = w.stopped }) wrote c.unpledge.new.places c.unpledge.ensures.count (λ s. is_some (taken_in ts m s))
     (λ s lt. c.unpledge.ensures.each s lt ∙ (λ i. unpledged_if (is_some (taken_in (gives.0 i) (own i) s)) (place_at w.places.items s)))
-    (certain_own p m v u w H ts had.0.unlogged (subst (λ (rs : List Taken). AllByRecursion (λ t. In t.change.entry u.kept) rs) gives.0 gives.1.kept) (ap (λ (x : View). x.pending) view)) (λ runs. tt)
+    (certain_own p m v u w H ts had.0.unlogged (subst (λ (rs : List Taken). AllByRecursion (λ t. In t.change.entry u.kept) rs) gives.0 gives.1.kept) (ap (λ (x : View). x.pending) view)) (λ runs. tt))
 
 pub returns-in-Ok-clause-stands : goal.returns-in-Ok-clause-stands
 returns-in-Ok-clause-stands g c =
@@ -83,10 +88,11 @@ returns-in-Ok-clause-stands g c =
     let takes = subst (λ (f : Bool). TakesFor f w.allocator a o) c.needs_chunk.ensures c.chunk_for-fresh.ensures.takes in
     let room = room_ready s p m v w c.requires.stands H.sets (H.allocator_layout ∙ sym H.log_layout) c.requires.runs b.fresh b.own_lines (words_in b.changes.taken.items) a o (subst (HasSpaceFor w) (sym c.in-Batch.ensures.value) (H.space c.requires.runs)) takes in
     let entries : HoldsEntries (spelled b.changes.taken.items) = record { entries = entries_in b.changes.taken.items; words = refl; batch = batch_of p b.changes.taken.items had.0.out.each b.some } in
-    stands_lowered (g.R.Region.state c.persist.new.region) p m u (record w { log = c.persist.new.log; allocator = a; leading = leads.Persisted c.in-Ok.done }) c.unpledge.new.places
+    stands_renewed (g.R.Region.state c.persist.new.region) p m u (record w { log = c.persist.new.log; allocator = a; leading = leads.Persisted c.in-Ok.done; places = c.unpledge.new.places }) c.note_names.new.standing w.winds_down
+    (stands_lowered (g.R.Region.state c.persist.new.region) p m u (record w { log = c.persist.new.log; allocator = a; leading = leads.Persisted c.in-Ok.done }) c.unpledge.new.places
     (stands_wrote s (g.R.Region.state c.persist.new.region) p m v w a c.persist.new.log b.fresh o (spelled b.changes.taken.items) H c.requires.stands c.requires.runs takes (subst (λ (l : Geometry). During s (g.R.Region.state c.persist.new.region) (KeepsOutside (cell_now s) (open_first (opened_for w.log o)) (open_first (opened_for w.log o) + chunk_words l))) (opened_layout w.log o) c.persist.ensures.chunk) c.in-Ok.ensures.wrote
     (λ none. room_opens w.log (spelled b.changes.taken.items) entries (subst (λ (x : Option ℕ). HasRoom s w.log (words_in b.changes.taken.items) x) none room))
-    u c.in-Ok.done c.in-Ok.ensures.view c.persist.ensures.exit)
+    u c.in-Ok.done c.in-Ok.ensures.view c.persist.ensures.exit))
 
 pub returns-in-Err-clause-holds : goal.returns-in-Err-clause-holds
 returns-in-Err-clause-holds g c =
@@ -102,10 +108,11 @@ returns-in-Err-clause-holds g c =
     let view = c.in-Err.ensures.view in
     let gives = c.in-Err.ensures.gives in
     let takes = subst (λ (f : Bool). TakesFor f w.allocator c.chunk_for-fresh.new.allocator c.chunk_for-fresh.result) c.needs_chunk.ensures c.chunk_for-fresh.ensures.takes in
-    holds_wrote p m v u w c.chunk_for-fresh.new.allocator c.persist.new.log (leads.Failed c.in-Err.lost) true v.kept v.flying v.taken v.holds v.looked v.took view (λ x i. i) H
+    holds_renewed p m u (record w { log = c.persist.new.log; allocator = c.chunk_for-fresh.new.allocator; leading = leads.Failed c.in-Err.lost; stopped = true }) c.note_names.new.standing w.winds_down (λ on. on)
+    (holds_wrote p m v u w c.chunk_for-fresh.new.allocator c.persist.new.log (leads.Failed c.in-Err.lost) true v.kept v.flying v.taken v.holds v.looked v.took view (λ x i. i) H
     (takes_same b.fresh w.allocator c.chunk_for-fresh.new.allocator c.chunk_for-fresh.result takes) c.chunk_for-fresh.ensures.sets c.in-Err.ensures.log.layout c.in-Err.ensures.log.part
     (leads_of seat u (leads.Failed c.in-Err.lost) (gives.1, ap (λ (x : View). x.holds) view ∙ had.1, (λ none. b.some (sym gives.0 ∙ none))))
-    tt (λ broken. refl) (λ lost. refl) (λ runs. absurd (cc runs)) (λ stopped. refl)
+    tt (λ broken. refl) (λ lost. refl) (λ runs. absurd (cc runs)) (λ stopped. refl) (λ runs. absurd (cc runs)))
 
 pub returns-in-Ok-clause-made : goal.returns-in-Ok-clause-made
 returns-in-Ok-clause-made g c =
@@ -160,7 +167,7 @@ returns-in-Ok-clause-persists g c =
     let own : c.member-own.result ≡ m = c.member-own.ensures ∙ ap (λ (x : SeatAt). x.number) c.persist.ensures.seat in
     let each : (s : ℕ) → s < 8 → place_at c.unpledge.new.places.items s ≡ unpledged_if (is_some (taken_in ts m s)) (place_at w.places.items s) = λ s lt. c.unpledge.ensures.each s lt ∙ (λ i. unpledged_if (is_some (taken_in (gives.0 i) (own i) s)) (place_at w.places.items s)) in
     let all = each_place ts m w.places.items c.unpledge.new.places.items H.eight c.unpledge.ensures.count each in
-    let new = record w { log = c.persist.new.log; allocator = a; places = c.unpledge.new.places; leading = leads.Persisted c.in-Ok.done } in
+    let new = record w { log = c.persist.new.log; allocator = a; places = c.unpledge.new.places; leading = leads.Persisted c.in-Ok.done; standing = c.note_names.new.standing } in
     subst (λ (x : Bool). PersistsOrLoses x m (record { worker = w; view = v }) (record { worker = new; view = u })) (sym c.requires.runs)
     (record {
       batch = b;
@@ -173,6 +180,8 @@ returns-in-Ok-clause-persists g c =
       log = c.in-Ok.ensures.wrote.log_is;
       pledged = λ s. unpledged_at ts m w.places.items (place_at c.unpledge.new.places.items s) s (pledged_by p m v w H ts had.0.unlogged s) (all s);
       view = c.in-Ok.ensures.view;
+      names = λ on. c.note_names.ensures (ap not on);
+      winds = λ on. on;
       same = refl;
     })
 
@@ -194,7 +203,7 @@ returns-in-Ok-clause-less g c =
     let v = g.B.Board.view c.args.board.now in
     let u = g.B.Board.view c.persist.new.board in
     let w = c.args.self.now in
-    let new = record w { log = c.persist.new.log; allocator = c.chunk_for-fresh.new.allocator; places = c.unpledge.new.places; leading = leads.Persisted c.in-Ok.done } in
+    let new = record w { log = c.persist.new.log; allocator = c.chunk_for-fresh.new.allocator; places = c.unpledge.new.places; leading = leads.Persisted c.in-Ok.done; standing = c.note_names.new.standing } in
     persists_lower (g.B.Board.whole c.args.board.now) (g.B.Board.whole c.persist.new.board) m (record { worker = w; view = v }) (record { worker = new; view = u }) (c.unpledge.ensures.count ∙ sym c.requires.holds.eight)
     (subst (λ (x : Bool). PersistsOrLoses x m (record { worker = w; view = v }) (record { worker = new; view = u })) c.requires.runs (returns-in-Ok-clause-persists g c))
     (g.met.B.Board.lawful c.args.board.now) c.in-Ok.ensures.made
@@ -202,5 +211,5 @@ returns-in-Ok-clause-less g c =
 pub returns-in-Err-clause-less : goal.returns-in-Err-clause-less
 returns-in-Err-clause-less g c =
     let w = c.args.self.now in
-    let new = record w { log = c.persist.new.log; allocator = c.chunk_for-fresh.new.allocator; leading = leads.Failed c.in-Err.lost; stopped = true } in
+    let new = record w { log = c.persist.new.log; allocator = c.chunk_for-fresh.new.allocator; leading = leads.Failed c.in-Err.lost; standing = c.note_names.new.standing; stopped = true } in
     loses_lower (g.B.Board.whole c.args.board.now) (g.B.Board.whole c.persist.new.board) (record { worker = w; view = g.B.Board.view c.args.board.now }) (record { worker = new; view = g.B.Board.view c.persist.new.board }) (returns-in-Err-clause-persists g c) c.in-Err.ensures.made

@@ -1,14 +1,9 @@
 -- A turn as the engine reads it.
-use Rattle.std.proofs.Common.{◌<◌, ◌≤◌, ◌+◌, refl, sym, ◌∙◌}
+use Rattle.std.proofs.Common.{◌<◌, ◌≤◌, ◌+◌, refl}
 use Rattle.std.specs.Prelude.{IsSomeAnd}
 use Rattle.core_worker.specs.Left.{left, under_way, StartsFirst}
-use Rattle.group_engine.proofs.Working.{no_turn, moved, idled, if_fair, idle_is, lowers_is, not_more_is}
+use Rattle.group_engine.proofs.Working.{moved, idled, if_fair, idle_is, lowers_is, not_more_is}
 use Rattle.group_engine.proofs.real_worker.WorkerCoreWorker.turn.Goals as goal
-
-pub returns-then-winding_down-clause-turns : goal.returns-then-winding_down-clause-turns
-returns-then-winding_down-clause-turns g c =
-    let b = c.args.board.now in
-    no_turn (g.B.Board.seat b).place (g.B.Board.seat b).number (g.R.Region.state c.args.region.now) (g.B.Board.whole b) (g.B.Board.view b) c.args.self.now c.requires.stands c.requires.fair
 
 pub returns-in-Ok-Moved-clause-turns : goal.returns-in-Ok-Moved-clause-turns
 returns-in-Ok-Moved-clause-turns g c =
@@ -31,9 +26,8 @@ returns-in-Ok-Idle-clause-turns g c =
     let b = c.args.board.now in
     let d = c.turn.new.board in
     let e = c.turn.ensures in
-    let works = sym c.winding_down.ensures ∙ c.if-winding_down.false in
     idled (g.B.Board.seat b) (g.R.Region.state c.args.region.now) (g.R.Region.state c.turn.new.region) (g.B.Board.whole b) (g.B.Board.whole d) (g.B.Board.view b) (g.B.Board.view d) c.args.self.now c.turn.new.self
-    c.requires.stands e.holds e.stands e.order e.rule e.moves e.starts works (idle_is c.in-Ok-Idle.field-0 _ c.in-Ok-Idle.field-0-is c.in-Ok-Idle.ensures.idles refl works)
+    c.requires.stands e.holds e.stands e.order e.rule e.moves e.starts _ refl (idle_is c.in-Ok-Idle.field-0 _ c.in-Ok-Idle.field-0-is c.in-Ok-Idle.ensures.idles)
 
 pub returns-in-Ok-Moved-clause-less : goal.returns-in-Ok-Moved-clause-less
 returns-in-Ok-Moved-clause-less g c on =

@@ -1,0 +1,56 @@
+-- What the standing of a worker has: the names of the entries of its own log, and which of them were told dead.
+use Rattle.std.specs.Prelude.{◌≡◌, ◌⊎◌, ℕ, ◌+◌, ◌≤◌, ◌<◌, Bool, true, List, Option, Some, None, is_some}
+use Rattle.std.specs.List.{count_by}
+use Rattle.log_entry.specs.declared.entry.Entry.{Entry}
+use Rattle.store_image.specs.Facts.{In}
+use Rattle.core_index.specs.Index.{known_at}
+use Rattle.core_index.specs.Records.{Awaits}
+use Rattle.core_index.specs.Slots as slots
+use Rattle.log_standing.specs.NameCounts.{StandingState, SameCopies, name_eq, copies_at, count_of, is_told}
+
+-- as many names as a batch may have
+abbrev pub most_names : ℕ
+most_names = 64
+
+-- one of the entries has this name
+abbrev pub IsNamedIn : List Entry → ℕ → ℕ → Type 0
+IsNamedIn es k n = (e : Entry) × In e es × (e.key ≡ k) × (e.version ≡ n)
+
+-- how many of the entries have this name
+abbrev pub named_in : List Entry → ℕ → ℕ → ℕ
+named_in es k n = count_by (λ (e : Entry). name_eq (e.key, e.version) (k, n)) es
+
+-- What stands in the log of member m, by what it has: exactly the names of the entries that are certain there, and exactly its dead names were told dead, each of which stands there. What it believes to stand there does, and such a name is dead once it was told.
+pub record KnowsLog (m : ℕ) (kept : List Entry) (present : ℕ → ℕ → Option ℕ) (told dead : ℕ → ℕ → Bool) (st : StandingState) : Type 0 where
+  pub stands : (k n : ℕ) → 0 < count_of st k n → IsNamedIn kept k n
+  pub all : (k n : ℕ) → IsNamedIn kept k n → 0 < count_of st k n
+  pub deaths : (k n : ℕ) → is_told st k n ≡ dead k n
+  pub buried : (k n : ℕ) → dead k n ≡ true → IsNamedIn kept k n
+  pub own : (k n : ℕ) → present k n ≡ Some m → IsNamedIn kept k n
+  pub heard : (k n : ℕ) → present k n ≡ Some m → told k n ≡ true → dead k n ≡ true
+  -- no cleaning has read
+  pub settled : st.settled ≡ None
+
+-- nothing but the number of reserved places differs, and it is no less
+pub record SameNames (old new : StandingState) : Type 0 where
+  pub copies : SameCopies old new
+  pub settled : new.settled ≡ old.settled
+  pub room : old.room ≤ new.room
+
+-- of each name that stands there is a copy
+abbrev pub HasCopies : StandingState → Type 0
+HasCopies st = (k n : ℕ) → is_some (copies_at st k n) ≡ true → 0 < count_of st k n
+
+-- the name of each of the entries has one copy more, and none was told dead
+pub record AddsNames (old new : StandingState) (es : List Entry) : Type 0 where
+  pub counts : (k n : ℕ) → count_of new k n ≡ count_of old k n + named_in es k n
+  pub told : (k n : ℕ) → is_told new k n ≡ is_told old k n
+  pub settled : new.settled ≡ old.settled
+
+-- Of the names that stand exactly those were told dead besides that by the index awaited to be told to this home; and no other name was.
+pub record HearsOwn (home : ℕ) (es : List (ℕ × slots.Place)) (old new : StandingState) : Type 0 where
+  pub counts : (k n : ℕ) → count_of new k n ≡ count_of old k n
+  pub told : (k n : ℕ) → is_told new k n ≡ true → (is_told old k n ≡ true) ⊎ Awaits (known_at es k) home n
+  pub all : (k n : ℕ) → 0 < count_of old k n → (is_told old k n ≡ true) ⊎ Awaits (known_at es k) home n → is_told new k n ≡ true
+  pub settled : new.settled ≡ old.settled
+  pub room : old.room ≤ new.room

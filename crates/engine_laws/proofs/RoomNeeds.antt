@@ -1,0 +1,161 @@
+-- A core has room for what an ample input asks of it.
+use Rattle.std.proofs.Common.{◌≡◌, ◌⊎◌, inl, inr, ⊎_elim, ℕ, zero, suc, ◌+◌, ◌-◌, ◌*◌, ◌/◌, ◌<◌, ◌≤◌, ◌==◌, ◌&&◌, nat_le, List, [], ◌++◌, length, refl, sym, ◌∙◌, ap, subst, arith, true, false, Bool, cond}
+use Rattle.std.specs.List.{count_by, sum_by, enumerate_from}
+use Rattle.std.proofs.lemmas.Bool.{cases_eq, cases_lt, eq-eqb}
+use Rattle.std.proofs.lemmas.List.Sums.{sum_by-append}
+use Rattle.fs_model.specs.declared.model.Request.{Request}
+use Rattle.fs_model.specs.declared.model.Request.TheVariants.{Put, Get, Delete}
+use Rattle.fs_model.specs.Cells.{key_of}
+use Rattle.log_entry.specs.declared.entry.Entry.{Entry}
+use Rattle.chunk_map.specs.declared.layout_sizes.TheConstants.{GREATEST_CLASS}
+use Rattle.chunk_map.specs.declared.layouts.Geometry.{Geometry}
+use Rattle.chunk_map.specs.Chunks.{blocks_in}
+use Rattle.chunk_map.specs.Layouts.{layout_of, owner, numbers, is_of_group, has_class, IsLayout}
+use Rattle.store_image.specs.Facts.{In}
+use Rattle.store_image.proofs.SoundLaws.{has_layout}
+use Rattle.store_image.proofs.Places.{superblock_facts}
+use Rattle.group_laws.specs.Places.{Place, members}
+use Rattle.group_laws.specs.Places as places
+use Rattle.group_laws.specs.State.{Group}
+use Rattle.group_laws.specs.Updates.{times, sum_below}
+use Rattle.group_laws.specs.Invariant.{Lawful}
+use Rattle.group_laws.specs.Regions.{groups_in, key_group, place_at}
+use Rattle.headline.specs.Ample.{lines_of, is_put_of, log_bytes, parts_of, data_chunks, IsAmpleFor}
+use Rattle.engine_laws.specs.Parts.{group_of, member_of}
+use Rattle.engine_laws.specs.FreeStock.{is_put_in, NeedsBlock, LacksRoom}
+use Rattle.engine_laws.specs.Engine.{Engine}
+use Rattle.engine_laws.specs.Stands.{Origin, Stands}
+use Rattle.engine_laws.specs.Spending.{lines_in}
+use Rattle.engine_laws.specs.Rooms.{is_begun, is_out, begun_puts, out_lines, posted_lines, HasRoom, Rooms}
+use Rattle.engine_laws.proofs.Cores.{group_low, member_low}
+use Rattle.engine_laws.proofs.RoomSums.{sum_up, sum_more_at, sum_numbered, sum_times, numbers_one, lines_among}
+use Rattle.engine_laws.proofs.Ampleness.{parts_least, block_some, few_opened, chunk_big, needed_some}
+
+-- A core that runs has room for a request that it didn't begin, where the input is ample for its part.
+module _ (o : Origin) (e : Engine) (S : Stands o e) (R : Rooms o e) (c : ℕ) (low : c < (layout_of o.found).cores) (H : HasRoom (layout_of o.found) o e c) (q : Request) (n : ℕ) (own : owner (layout_of o.found) (key_of q) ≡ c)
+    (given : In (n, q) (enumerate_from 0 e.given)) (unbegun : is_begun e (n, q) ≡ false) (lacks : LacksRoom (layout_of o.found) (e.stock c) q) (more : List Request) where
+  abbrev L : Geometry
+  L = layout_of o.found
+
+  abbrev trace : List Request
+  trace = e.given ++ more
+
+  abbrev puts : ℕ → ℕ
+  puts class = count_by (is_put_of L c class) trace
+
+  layout_is : IsLayout L
+  layout_is = (superblock_facts o.region.frame.bytes o.found (has_layout o.region.frame.bytes o.found S.sound)).1
+
+  large : 4096 ≤ L.chunk_bytes
+  large = chunk_big L layout_is
+
+  -- what was begun is of the trace, and this request besides
+  given_puts : (class : ℕ) → count_by (is_put_of L c class) e.given ≤ puts class
+  given_puts class = let split = sum_by-append (λ x. cond {A = ℕ} (is_put_of L c class x) 1 0) e.given more in omega (arith, split)
+
+  drop : (a b : Bool) → cond {A = ℕ} (a && b) 1 0 ≤ cond {A = ℕ} a 1 0
+  drop true true = omega arith
+  drop true false = omega arith
+  drop false b = omega arith
+
+  begun_few : (class : ℕ) → begun_puts L e c class ≤ puts class
+  begun_few class =
+      let le = sum_up (λ (x : ℕ × Request). cond {A = ℕ} (is_put_of L c class x.1 && is_begun e x) 1 0) (λ (x : ℕ × Request). cond {A = ℕ} (is_put_of L c class x.1) 1 0) (enumerate_from 0 e.given) (λ x i. drop (is_put_of L c class x.1) (is_begun e x)) in
+      let all = sum_numbered (λ x. cond {A = ℕ} (is_put_of L c class x) 1 0) 0 e.given in
+      let up = given_puts class in
+      omega (arith, le, all, up)
+
+  begun_fewer : (class : ℕ) → is_put_of L c class q ≡ true → begun_puts L e c class + 1 ≤ puts class
+  begun_fewer class is =
+      let old : cond {A = ℕ} (is_put_of L c class q && is_begun e (n, q)) 1 0 ≡ 0 = (λ i. cond {A = ℕ} (is i && unbegun i) 1 0) in
+      let new = ap (λ b. cond {A = ℕ} b 1 0) is in
+      let le = sum_more_at (λ (x : ℕ × Request). cond {A = ℕ} (is_put_of L c class x.1 && is_begun e x) 1 0) (λ (x : ℕ × Request). cond {A = ℕ} (is_put_of L c class x.1) 1 0) (enumerate_from 0 e.given) (n, q) 1 given (λ x i. drop (is_put_of L c class x.1) (is_begun e x)) (omega (arith, old, new)) in
+      let all = sum_numbered (λ x. cond {A = ℕ} (is_put_of L c class x) 1 0) 0 e.given in
+      let up = given_puts class in
+      omega (arith, le, all, up)
+
+  -- so few chunks were cut for a class
+  cut_few : (class : ℕ) → H.cuts class ≤ parts_of (puts class) (blocks_in L class)
+  cut_few class = ⊎_elim
+      (λ none. omega (arith, none))
+      (λ some. parts_least (H.cuts class) (puts class) (blocks_in L class) (block_some L class (H.class class some)) (let last = H.last class some in let few = begun_few class in omega (arith, last, few)))
+      (cases_eq (H.cuts class) 0)
+
+  all_few : sum_by H.cuts (numbers 1 GREATEST_CLASS) ≤ data_chunks L c trace
+  all_few = sum_up H.cuts (λ class. parts_of (puts class) (blocks_in L class)) (numbers 1 GREATEST_CLASS) (λ class i. cut_few class)
+
+  one_fewer : (class : ℕ) → NeedsBlock L class q → (e.stock c).blocks class ≡ 0 → sum_by H.cuts (numbers 1 GREATEST_CLASS) + 1 ≤ data_chunks L c trace
+  one_fewer class N none =
+      let is = own_put_of class q own ∙ N.put in
+      let some = needed_some L large class q N in
+      let few = begun_fewer class is in
+      let all = H.blocks class in
+      let split : (H.cuts class + 1) * blocks_in L class ≡ H.cuts class * blocks_in L class + blocks_in L class = omega arith in
+      let here = parts_least (H.cuts class + 1) (puts class) (blocks_in L class) some (omega (arith, split, all, none, few)) in
+      let high = N.most in
+      numbers_one 1 GREATEST_CLASS class H.cuts (λ k. parts_of (puts k) (blocks_in L k)) N.some (omega (arith, high)) cut_few here where
+        own_put_of : (class : ℕ) (x : Request) → owner L (key_of x) ≡ c → is_put_of L c class x ≡ is_put_in L class x
+        own_put_of class (Put k v) is = ap (λ b. b && has_class (length v) class && nat_le (length v) (L.chunk_bytes / 4 - 8)) (eq-eqb (owner L k) c is)
+        own_put_of class (Get k) is = refl
+        own_put_of class (Delete k) is = refl
+
+  -- what its log took is of the trace
+  group_is : group_of L c < groups_in L
+  group_is = group_low L layout_is c low
+
+  abbrev w : Group
+  w = e.group (group_of L c)
+
+  taken_lines : lines_in (w.took (member_of L c)) ≤ posted_lines L w
+  taken_lines = lines_among L.group (w.took (member_of L c)) w.posted (λ d. (places.owner w.place d.key, among d, cases d)) where
+    lawful : Lawful w
+    lawful = subst (λ (m : Geometry). Lawful (e.group (group_of m c))) S.layout (S.groups.lawful (group_of e.layout c) (subst (λ (m : Geometry). group_of m c < groups_in m) (sym S.layout) group_is))
+
+    place : w.place ≡ place_at L (group_of L c)
+    place = subst (λ (m : Geometry). (e.group (group_of m c)).place ≡ place_at m (group_of m c)) S.layout (S.groups.place (group_of e.layout c) (subst (λ (m : Geometry). group_of m c < groups_in m) (sym S.layout) group_is))
+
+    term_below : (k m : ℕ) (g : ℕ → ℕ) → m < k → g m ≤ sum_below k g
+    term_below zero m g lt = absurd (omega (arith, lt))
+    term_below (suc k) m g lt = ⊎_elim (λ at. let is = ap g at in omega (arith, is)) (λ ne. let rest = term_below k m g (omega (arith, lt, ne)) in omega (arith, rest)) (cases_eq m k)
+
+    among : (d : Entry) → times d (w.took (member_of L c)) ≤ times d (w.posted (places.owner w.place d.key))
+    among d =
+        let all = lawful.counts.taken d in
+        let one = term_below (members w.place) (member_of L c) (λ h. times d (w.took h)) (subst (λ (p : Place). member_of L c < members p) (sym place) (member_low L layout_is c)) in
+        omega (arith, all, one)
+
+    cases : (d : Entry) → (places.owner w.place d.key < L.group) ⊎ (w.posted (places.owner w.place d.key) ≡ [])
+    cases d = ⊎_elim (λ lt. inl lt) (λ ge. inr (R.strangers (group_of L c) (places.owner w.place d.key) ge)) (cases_lt (places.owner w.place d.key) L.group)
+
+  abbrev of_group : Request → ℕ
+  of_group x = cond {A = ℕ} (is_of_group L c (key_of x)) (lines_of L x) 0
+
+  trace_lines : 64 * out_lines L e (group_of L c) ≤ log_bytes L c trace
+  trace_lines =
+      let le = sum_up (λ (x : ℕ × Request). cond {A = ℕ} (key_group L (key_of x.1) == group_of L c && is_out e x) (lines_of L x.1) 0) (λ (x : ℕ × Request). of_group x.1) (enumerate_from 0 e.given) (λ x i. fewer (key_group L (key_of x.1) == group_of L c) (is_out e x) (lines_of L x.1)) in
+      let all = sum_numbered of_group 0 e.given in
+      let sixty = sum_times 64 of_group e.given in
+      let same = sum_same (λ x. 64 * of_group x) (λ x. cond {A = ℕ} (is_of_group L c (key_of x)) (64 * lines_of L x) 0) e.given (λ x. factor (is_of_group L c (key_of x)) (lines_of L x)) in
+      let split = sum_by-append (λ x. cond {A = ℕ} (is_of_group L c (key_of x)) (64 * lines_of L x) 0) e.given more in
+      omega (arith, le, all, sixty, same, split) where
+        fewer : (a b : Bool) (m : ℕ) → cond {A = ℕ} (a && b) m 0 ≤ cond {A = ℕ} a m 0
+        fewer true true m = omega arith
+        fewer true false m = omega arith
+        fewer false b m = omega arith
+
+        factor : (b : Bool) (m : ℕ) → 64 * cond {A = ℕ} b m 0 ≡ cond {A = ℕ} b (64 * m) 0
+        factor true m = refl
+        factor false m = omega arith
+
+        sum_same : (g h : Request → ℕ) (xs : List Request) → ((x : Request) → g x ≡ h x) → sum_by g xs ≡ sum_by h xs
+        sum_same g h xs is = (λ i. sum_by (λ x. is x i) xs)
+
+  pub not_ample : IsAmpleFor L o.found trace c → ⊥
+  not_ample ample =
+      let taken = taken_lines in
+      let posted = R.posted (group_of L c) group_is in
+      let bytes = trace_lines in
+      few_opened L H.opened (lines_in (w.took (member_of L c))) (e.stock c).lines (log_bytes L c trace) large (let filled = H.lines in omega (arith, filled)) H.small (omega (arith, taken, posted, bytes)) (opened_many ample lacks) where
+        opened_many : IsAmpleFor L o.found trace c → LacksRoom L (e.stock c) q → parts_of (log_bytes L c trace) (L.chunk_bytes - 576) + 2 ≤ H.opened
+        opened_many ample (inl few) = let chunks = H.chunks in let cuts = all_few in omega (arith, ample, few, chunks, cuts)
+        opened_many ample (inr none) = let chunks = H.chunks in let few = none.0 in let cuts = one_fewer none.1.class none.1.needs none.1.none in omega (arith, ample, few, chunks, cuts)

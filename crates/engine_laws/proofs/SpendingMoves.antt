@@ -1,0 +1,85 @@
+-- What a worker says that it spends is spent by the move.
+use Rattle.std.proofs.Common.{◌≡◌, inl, inr, ⊎_elim, ℕ, ◌+◌, ◌≤◌, List, [], ◌∷◌, ◌++◌, Bool, true, false, cond, Option, sym, ◌∙◌, ap, subst, arith}
+use Rattle.fs_model.specs.declared.model.Request.{Request}
+use Rattle.fs_model.specs.Cells.{key_of}
+use Rattle.log_entry.specs.declared.entry.Entry.{Entry}
+use Rattle.chunk_map.specs.declared.layouts.Geometry.{Geometry}
+use Rattle.chunk_map.specs.Layouts.{owner, payload_lines, IsLayout}
+use Rattle.store_image.specs.Facts.{In}
+use Rattle.group_laws.specs.MemberViews.{View, view_of}
+use Rattle.group_laws.specs.Regions.{place_at}
+use Rattle.engine_laws.specs.Parts.{group_of, member_of}
+use Rattle.engine_laws.specs.FreeStock.{Stock, IsAtLeast}
+use Rattle.engine_laws.specs.WorkerMoves.{Hands, Fixed, asked, requests_for}
+use Rattle.engine_laws.specs.Engine.{Engine}
+use Rattle.engine_laws.specs.Workers.{Sits, Around}
+use Rattle.engine_laws.specs.Spending.{lines_in, Spends, BeginsIn, PostsIn, SpendsIn, Begins, PostsOne, SpendsRoom}
+use Rattle.engine_laws.proofs.Cores.{of_member, of_core}
+
+-- who counts less as free spends no more
+pub spends_less : (l : Geometry) (took flying took' flying' : List Entry) (r s t : Stock) (begun : Option (ℕ × Request)) → IsAtLeast r s → Spends l took flying took' flying' s t begun → Spends l took flying took' flying' r t begun
+spends_less l took flying took' flying' r s t begun A P = record {
+  opened = P.opened;
+  cut = P.cut;
+  chunks = (let less = A.chunks in let now = P.chunks in omega (arith, less, now));
+  lines = by P.opened P.lines;
+  late = λ is. (let less = A.lines in let few = P.late is in omega (arith, less, few));
+  small = P.small;
+  blocks = λ c. (let less = A.blocks c in let now = P.blocks c in omega (arith, less, now));
+  none = λ c is. (let less = A.blocks c in let none = P.none c is in omega (arith, less, none));
+  puts = P.puts;
+  class = P.class;
+} where
+  by : (b : Bool) → cond {A = ℕ} b (payload_lines l) s.lines + (lines_in took + lines_in flying') ≤ t.lines + (lines_in took' + lines_in flying) → cond {A = ℕ} b (payload_lines l) r.lines + (lines_in took + lines_in flying') ≤ t.lines + (lines_in took' + lines_in flying)
+  by true le = le
+  by false le = let less = A.lines in omega (arith, less, le)
+
+module _ (e f : Engine) (c : ℕ) (accepted : List (ℕ × Request)) (fixed : List Fixed) (v u : View) (w x : Hands) (layout : IsLayout e.layout) (S : Sits e c v w) (T : Sits f c u x) (A : Around e f c accepted fixed) (now : f.stock c ≡ x.stock)
+    (mine : (y : Fixed) → In y fixed → owner e.layout (key_of y.request) ≡ c) (P : SpendsIn (place_at e.layout (group_of e.layout c)) (member_of e.layout c) v u w x accepted fixed) where
+  abbrev l : Geometry
+  l = e.layout
+
+  own_f : (k : ℕ) → owner l k ≡ c → owner f.layout k ≡ c
+  own_f k own = ap (λ (n : Geometry). owner n k) A.layout ∙ own
+
+  view' : u ≡ view_of (f.group (group_of l c)) (member_of l c)
+  view' = T.view ∙ (λ i. view_of (f.group (group_of (A.layout i) c)) (member_of (A.layout i) c))
+
+  posts_one : PostsIn (place_at l (group_of l c)) (member_of l c) v u w x → PostsOne l e f c
+  posts_one Q =
+      let own = of_core l layout c (key_of Q.change.request) Q.own in
+      record {
+        change = Q.change;
+        own = own;
+        was = sym (S.place (key_of Q.change.request) own) ∙ Q.was;
+        staged = Q.staged;
+        now = sym (T.place (key_of Q.change.request) (own_f (key_of Q.change.request) own)) ∙ Q.now;
+        entry = Q.entry;
+        more = sym (ap (λ (y : View). y.posted) view') ∙ Q.more ∙ ap (λ (y : View). y.posted ++ Q.entry ∷ []) S.view;
+        few = Q.few;
+      }
+
+  begins_one : (y : ℕ × Request) → BeginsIn (place_at l (group_of l c)) (member_of l c) w x accepted y → Begins l e f c accepted y
+  begins_one y B =
+      let own = of_core l layout c (key_of y.1) B.own in
+      record {
+        own = own;
+        waits = subst (λ (ws : List (ℕ × Request)). In y (ws ++ requests_for (key_of y.1) accepted)) (S.waits (key_of y.1) own) B.waits;
+        place = sym (T.place (key_of y.1) (own_f (key_of y.1) own)) ∙ B.place;
+      }
+
+  pub spends_room : SpendsRoom l e f c accepted fixed
+  spends_room = record {
+    runs = λ y i full.
+        let r = P.runs y i full in
+        (sym S.stopped ∙ r.0, subst (λ (ws : List (ℕ × Request)). In (asked y) (ws ++ requests_for (key_of y.request) accepted)) (S.waits (key_of y.request) (mine y i)) r.1);
+    stays = λ k y own at none. (let z = P.stays k y (of_member l layout c k own) (S.place k own ∙ at) none in (z.0, sym (T.place k (own_f k own)) ∙ z.1, z.2, z.3));
+    begun = P.begun;
+    begins = λ y is. begins_one y (P.begins y is);
+    posts = ⊎_elim (λ same. inl (sym (ap (λ (y : View). y.posted) view') ∙ same ∙ ap (λ (y : View). y.posted) S.view)) (λ (Q : PostsIn (place_at l (group_of l c)) (member_of l c) v u w x). inr (posts_one Q)) P.posts;
+    spends = λ runs.
+        spends_less l ((e.group (group_of l c)).took (member_of l c)) ((e.group (group_of l c)).flying (member_of l c)) ((f.group (group_of l c)).took (member_of l c)) ((f.group (group_of l c)).flying (member_of l c)) (e.stock c) w.stock (f.stock c) P.begun S.stock
+        (subst (λ (t : Stock). Spends l ((e.group (group_of l c)).took (member_of l c)) ((e.group (group_of l c)).flying (member_of l c)) ((f.group (group_of l c)).took (member_of l c)) ((f.group (group_of l c)).flying (member_of l c)) w.stock t P.begun) (sym now)
+        (subst (λ (y : View). Spends l ((e.group (group_of l c)).took (member_of l c)) ((e.group (group_of l c)).flying (member_of l c)) y.took y.flying w.stock x.stock P.begun) view'
+        (subst (λ (y : View). Spends l y.took y.flying u.took u.flying w.stock x.stock P.begun) S.view (P.spends (T.stopped ∙ runs)))));
+  }

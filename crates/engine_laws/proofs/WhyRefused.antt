@@ -1,0 +1,195 @@
+-- Why requests were refused follows from where a state stands.
+use Rattle.std.proofs.Common.{◌≡◌, inl, inr, ℕ, suc, ◌+◌, ◌≤◌, ◌==◌, ◌||◌, List, [], ◌∷◌, ◌++◌, map, take, length, refl, sym, ◌∙◌, ap, subst, arith, true, false, Bool, cond, Option, Some, None, append_assoc}
+use Rattle.std.specs.Prelude.{option_map}
+use Rattle.std.specs.List.{AllByRecursion, count_by, slice_get}
+use Rattle.std.proofs.lemmas.Bool.{eq-eqb}
+use Rattle.std.proofs.lemmas.List.{map-append}
+use Rattle.std.proofs.lemmas.List.Sums.{sum_by-cons}
+use Rattle.fs_model.specs.declared.model.Request.{Request}
+use Rattle.fs_model.specs.declared.model.Request.TheVariants.{Put, Get, Delete}
+use Rattle.fs_model.specs.declared.model.Reply.{Reply}
+use Rattle.fs_model.specs.declared.model.Reply.TheVariants as replies
+use Rattle.fs_model.specs.Cells.{key_of}
+use Rattle.fs_model.specs.Lawful.{MayReply, IsLawfulFor, cell_left, is_finish, is_stopped}
+use Rattle.fs_model.specs.Changes.{requests_of}
+use Rattle.log_entry.specs.declared.entry_limits.TheConstants.{LAST_PUT_VERSION}
+use Rattle.chunk_map.specs.declared.layouts.Geometry.{Geometry}
+use Rattle.chunk_map.specs.Layouts.{layout_of, owner}
+use Rattle.store_image.specs.Facts.{In}
+use Rattle.store_image.proofs.SoundFacts.{in_either, in_front}
+use Rattle.group_laws.proofs.Images.{in_map, of_map}
+use Rattle.headline.specs.Limits.{may_change, version_of, changes_asked, is_too_long}
+use Rattle.engine_laws.specs.RefusalCauses.{raised, raised_by, HasCause, HaveCauses}
+use Rattle.engine_laws.specs.WorkerMoves.{requests_for}
+use Rattle.engine_laws.specs.Engine.{Engine, Answer, line}
+use Rattle.engine_laws.specs.Keys.{Served, pairs}
+use Rattle.engine_laws.specs.Stands.{Origin, start_of, Stands}
+use Rattle.engine_laws.specs.Causes.{Causes}
+use Rattle.engine_laws.proofs.Numbers.{numbered, all_in, in_all, in_requests}
+use Rattle.engine_laws.proofs.Promises.{requests_are, waits_none, in_from}
+
+count_cons : {X : Type 0} (p : X → Bool) (x : X) (xs : List X) → count_by p (x ∷ xs) ≡ cond (p x) 1 0 + count_by p xs
+count_cons p x xs = sum_by-cons (λ y. cond (p y) 1 0) x xs
+
+abbrev asked_in : Served → ℕ × Request
+asked_in x = (x.number, x.request)
+
+-- only a change is finished
+finish_changes : (q : Request) (c : Option (List ℕ)) (s : Bool) (r : Reply) → MayReply q c s r → is_finish r ≡ true → may_change (key_of q) q ≡ true
+finish_changes q c true r m f = absurd (let it : is_finish replies.Stopped ≡ true = ap is_finish (sym m) ∙ f in cc it)
+finish_changes (Put k v) c false r m f = eq-eqb k k refl
+finish_changes (Delete k) c false r m f = eq-eqb k k refl
+finish_changes (Get k) None false r (inl is) f = absurd (let it : is_finish replies.Absent ≡ true = ap is_finish (sym is) ∙ f in cc it)
+finish_changes (Get k) (Some v) false r (inl is) f = absurd (let it : is_finish (replies.Value v) ≡ true = ap is_finish (sym is) ∙ f in cc it)
+finish_changes (Get k) c false replies.Stored (inr bad) f = absurd (cc bad)
+finish_changes (Get k) c false (replies.Value v) (inr bad) f = absurd (cc f)
+finish_changes (Get k) c false replies.Absent (inr bad) f = absurd (cc f)
+finish_changes (Get k) c false replies.Deleted (inr bad) f = absurd (cc bad)
+finish_changes (Get k) c false replies.Full (inr bad) f = absurd (cc f)
+finish_changes (Get k) c false replies.VersionsSpent (inr bad) f = absurd (cc f)
+finish_changes (Get k) c false replies.TooLong (inr bad) f = absurd (cc f)
+finish_changes (Get k) c false replies.Stopped (inr bad) f = absurd (cc f)
+
+-- the last version rises by the changes at most
+rises_one : (k : ℕ) (x : Served) (c : Option (List ℕ)) (s : Bool) (a : ℕ) → MayReply x.request c s x.answer.reply → key_of x.request ≡ k → raised a x.answer.reply ≤ a + cond {A = ℕ} (may_change k x.request) 1 0
+rises_one k x c s a m key = by (is_finish x.answer.reply) refl where
+  by : (b : Bool) → is_finish x.answer.reply ≡ b → cond {A = ℕ} b (a + 1) a ≤ a + cond {A = ℕ} (may_change k x.request) 1 0
+  by true f = let one = ap (λ t. cond {A = ℕ} t 1 0) (ap (λ j. may_change j x.request) (sym key) ∙ finish_changes x.request c s x.answer.reply m f) in omega (arith, one)
+  by false f = omega arith
+
+rises : (k : ℕ) (xs : List Served) (c : Option (List ℕ)) (s : Bool) (a : ℕ) → IsLawfulFor c s (pairs xs) → AllByRecursion (λ (x : Served). key_of x.request ≡ k) xs → raised_by a (pairs xs) ≤ a + count_by (λ (y : ℕ × Request). may_change k y.1) (map asked_in xs)
+rises k [] c s a lawful keys = omega arith
+rises k (x ∷ xs) c s a lawful keys =
+    let rest = rises k xs (cell_left x.request x.answer.reply c) (s || is_stopped x.answer.reply) (raised a x.answer.reply) lawful.1 keys.1 in
+    let count = count_cons (λ (y : ℕ × Request). may_change k y.1) (asked_in x) (map asked_in xs) in
+    let one = rises_one k x c s a lawful.0 keys.0 in
+    omega (arith, rest, count, one)
+
+lawful_front : (xs ys : List Served) (c : Option (List ℕ)) (s : Bool) → IsLawfulFor c s (pairs (xs ++ ys)) → IsLawfulFor c s (pairs xs)
+lawful_front [] ys c s h = tt
+lawful_front (x ∷ xs) ys c s h = (h.0, lawful_front xs ys (cell_left x.request x.answer.reply c) (s || is_stopped x.answer.reply) h.1)
+
+all_front : {X : Type 0} (P : X → Type 0) (xs ys : List X) → AllByRecursion P (xs ++ ys) → AllByRecursion P xs
+all_front P [] ys h = tt
+all_front P (x ∷ xs) ys h = (h.0, all_front P xs ys h.1)
+
+cause_at : (l : Geometry) (a : ℕ) (front rest : List Served) (x : Served) → HaveCauses l a (pairs (front ++ x ∷ rest)) → HasCause l (raised_by a (pairs front)) x.request x.answer.reply
+cause_at l a [] rest x h = h.0
+cause_at l a (y ∷ ys) rest x h = cause_at l (raised a y.answer.reply) ys rest x h.1
+
+split_at : {X : Type 0} (x : X) (xs : List X) → In x xs → (front : List X) × (rest : List X) × (xs ≡ front ++ x ∷ rest)
+split_at x [] i = absurd i
+split_at x (y ∷ ys) (inl e) = ([], ys, ap (λ z. z ∷ ys) (sym e))
+split_at x (y ∷ ys) (inr i) = let r = split_at x ys i in (y ∷ r.0, r.1, ap (λ zs. y ∷ zs) r.2)
+
+-- the changes of a key before one of its requests are among the requests before it
+before : (k m : ℕ) (xs : List Request) (front rest : List (ℕ × Request)) (n : ℕ) (q : Request) → numbered k m xs ≡ front ++ (n, q) ∷ rest → (i : ℕ) × (n ≡ m + i) × (count_by (λ (y : ℕ × Request). may_change k y.1) front ≤ count_by (may_change k) (take i xs))
+before k m [] [] rest n q e = absurd (cc e)
+before k m [] (y ∷ ys) rest n q e = absurd (cc e)
+before k m (x ∷ xs) front rest n q e = by (key_of x == k) front e (λ ys t. before k (m + 1) xs ys rest n q t) where
+  Found : List (ℕ × Request) → List Request → ℕ → Type 0
+  Found ys zs from = (i : ℕ) × (n ≡ from + i) × (count_by (λ (y : ℕ × Request). may_change k y.1) ys ≤ count_by (may_change k) (take i zs))
+
+  by : (b : Bool) (ys : List (ℕ × Request)) → cond b ((m, x) ∷ numbered k (m + 1) xs) (numbered k (m + 1) xs) ≡ ys ++ (n, q) ∷ rest → ((zs : List (ℕ × Request)) → numbered k (m + 1) xs ≡ zs ++ (n, q) ∷ rest → (i : ℕ) × (n ≡ m + 1 + i) × (count_by (λ (y : ℕ × Request). may_change k y.1) zs ≤ count_by (may_change k) (take i xs)))
+      → (i : ℕ) × (n ≡ m + i) × (count_by (λ (y : ℕ × Request). may_change k y.1) ys ≤ count_by (may_change k) (take i (x ∷ xs)))
+  by true [] e again = (0, (let at : (m, x) ≡ (n, q) = cc e in let same = ap (λ (z : ℕ × Request). z.0) at in omega (arith, same)), omega arith)
+  by true (y ∷ ys) e again =
+      let tail : numbered k (m + 1) xs ≡ ys ++ (n, q) ∷ rest = cc e in
+      let head : (m, x) ≡ y = cc e in
+      let r = again ys tail in
+      let at = r.1 in
+      let more = r.2 in
+      let front = count_cons (λ (z : ℕ × Request). may_change k z.1) y ys in
+      let all = count_cons (may_change k) x (take r.0 xs) in
+      let same = ap (λ (z : ℕ × Request). cond {A = ℕ} (may_change k z.1) 1 0) head in
+      (suc r.0, omega (arith, at), omega (arith, more, front, all, same))
+  by false ys e again =
+      let r = again ys e in
+      let at = r.1 in
+      let more = r.2 in
+      let all = count_cons (may_change k) x (take r.0 xs) in
+      (suc r.0, omega (arith, at), omega (arith, more, all))
+
+asked_is : (o : Option Request) (k : ℕ) → option_map key_of o ≡ Some k → (q : Request) × (o ≡ Some q) × (key_of q ≡ k)
+asked_is None k e = absurd (cc e)
+asked_is (Some q) k e = (q, refl, cc e)
+
+-- An answered request, with what was answered of its key before it.
+pub record Asked (o : Origin) (e : Engine) (S : Stands o e) (more : List Request) (n : ℕ) (q : Request) (a : Answer) : Type 0 where
+  pub front : List Served
+  pub rest : List Served
+  pub at : Served
+  pub served : (S.keys (key_of q)).served ≡ front ++ at ∷ rest
+  pub number : at.number ≡ n
+  pub request : at.request ≡ q
+  pub answer : at.answer ≡ a
+  pub changes : count_by (λ (y : ℕ × Request). may_change (key_of q) y.1) (map asked_in front) ≤ changes_asked (key_of q) (take n (e.given ++ more))
+
+module _ (o : Origin) (e : Engine) (S : Stands o e) (more : List Request) (n : ℕ) (q : Request) (a : Answer) (is : slice_get (e.given ++ more) n ≡ Some q) (ans : e.answer n ≡ Some a) where
+  abbrev k : ℕ
+  k = key_of q
+
+  abbrev served : List Served
+  served = (S.keys k).served
+
+  -- those of the key without an answer
+  abbrev waits : List (ℕ × Request)
+  waits = (line e k ++ requests_for k (e.backlog (owner e.layout k))) ++ numbered k (length e.given) more
+
+  asked_there : In (n, q) (requests_of k (e.given ++ more))
+  asked_there = subst (λ (m : ℕ). In (m, q) (requests_of k (e.given ++ more))) (let z : 0 + n ≡ n = omega arith in z) (in_from 0 (e.given ++ more) n q is)
+
+  in_served : In (n, q) (map asked_in served)
+  in_served = elim (in_either (n, q) (map asked_in served) _ (subst (λ (l : List (ℕ × Request)). In (n, q) l) (requests_are o e S more k) asked_there)) [
+    | inl i ↦ i
+    | inr j ↦ absurd (let none = all_in (λ (x : ℕ × Request). e.answer x.0 ≡ None) _ (n, q) (waits_none o e S more k) j in cc (none, ans))
+  ]
+
+  found : (x : Served) × In x served × (asked_in x ≡ (n, q))
+  found = let r = of_map asked_in (n, q) served in_served in (r.0, r.1, sym r.2)
+
+  pub asked_at : Asked o e S more n q a
+  asked_at =
+      let x = found in
+      let s = split_at x.0 served x.1 in
+      let number : x.0.number ≡ n = ap (λ (y : ℕ × Request). y.0) x.2 in
+      let request : x.0.request ≡ q = ap (λ (y : ℕ × Request). y.1) x.2 in
+      let whole : requests_of k (e.given ++ more) ≡ map asked_in s.0 ++ (n, q) ∷ (map asked_in s.1 ++ waits) =
+      requests_are o e S more k ∙ ap (λ l. map asked_in l ++ waits) s.2 ∙ ap (λ l. l ++ waits) (map-append asked_in s.0 (x.0 ∷ s.1) ∙ ap (λ y. map asked_in s.0 ++ y ∷ map asked_in s.1) x.2) ∙ append_assoc (map asked_in s.0) ((n, q) ∷ map asked_in s.1) waits in
+      let b = before k 0 (e.given ++ more) (map asked_in s.0) (map asked_in s.1 ++ waits) n q whole in
+      record {
+        front = s.0;
+        rest = s.1;
+        at = x.0;
+        served = s.2;
+        number = number;
+        request = request;
+        answer = (let here = all_in (λ (y : Served). e.answer y.number ≡ Some y.answer) served x.0 (S.keys k).answers x.1 in let both : Some x.0.answer ≡ Some a = sym here ∙ ap e.answer number ∙ ans in cc both);
+        changes = subst (λ (m : ℕ). count_by (λ (y : ℕ × Request). may_change k y.1) (map asked_in s.0) ≤ changes_asked k (take m (e.given ++ more))) (let i = b.1 in omega (arith, i)) b.2;
+      }
+
+  -- its cause
+  pub cause_of : HasCause (layout_of o.found) (version_of o.found k + changes_asked k (take n (e.given ++ more))) q a.reply
+  cause_of =
+      let A = asked_at in
+      let start = version_of o.found k in
+      let C = cause_at (layout_of o.found) start A.front A.rest A.at (subst (λ (xs : List Served). HaveCauses (layout_of o.found) start (pairs xs)) A.served (S.causes k)) in
+      let lawful = lawful_front A.front (A.at ∷ A.rest) (start_of o k) false (subst (λ (xs : List Served). IsLawfulFor (start_of o k) false (pairs xs)) A.served (S.keys k).history.lawful) in
+      let keys = all_front (λ (x : Served). key_of x.request ≡ k) A.front (A.at ∷ A.rest) (subst (λ (xs : List Served). AllByRecursion (λ (x : Served). key_of x.request ≡ k) xs) A.served (in_all (λ (x : Served). key_of x.request ≡ k) served (λ x i. own x i))) in
+      let up = rises k A.front (start_of o k) false start lawful keys in
+      let few = A.changes in
+      let reply : A.at.answer.reply ≡ a.reply = ap (λ (y : Answer). y.reply) A.answer in
+      record {
+        spent = λ r. (let most = C.spent (reply ∙ r) in omega (arith, up, few, most));
+        long = λ r. subst (λ (x : Request). is_too_long (layout_of o.found) x ≡ true) A.request (C.long (reply ∙ r));
+      } where
+        own : (x : Served) → In x served → key_of x.request ≡ k
+        own x i = (in_requests k (e.given ++ more) (asked_in x) (subst (λ (l : List (ℕ × Request)). In (asked_in x) l) (sym (requests_are o e S more k)) (in_front (asked_in x) (map asked_in served) _ (in_map asked_in x served i)))).1
+
+pub causes : (o : Origin) (e : Engine) → Stands o e → Causes o e
+causes o e S = record {
+  spent = λ more n k a ans reply asked.
+      let q = asked_is (slice_get (e.given ++ more) n) k asked in
+      subst (λ (j : ℕ). LAST_PUT_VERSION ≤ version_of o.found j + changes_asked j (take n (e.given ++ more))) q.2 ((cause_of o e S more n q.0 a q.1 ans).spent reply);
+  long = λ more n q a ans reply is. (cause_of o e S more n q a is ans).long reply;
+}

@@ -1,0 +1,99 @@
+-- What is written of what the words of a region that was just attached say.
+use Rattle.std.proofs.Common.{◌≡◌, ◌⊎◌, inl, inr, ℕ, List, [], append-nil, sym, ◌∙◌, ap, Bool, true, false, Option}
+use Rattle.pm_region.specs.State.{State, IsTelling, Rose}
+use Rattle.pm_region.specs.Words.{lasts}
+use Rattle.pm_region.specs.Split.{Attached}
+use Rattle.store_image.specs.declared.types.Fault.TheVariants as faults
+use Rattle.store_image.specs.Soundness.{IsSound, first_fault}
+use Rattle.fs_text.specs.Streams.{Takes, TakesPrefix}
+use Rattle.flatstore.specs.declared.report.Status.{Status}
+use Rattle.flatstore.specs.declared.report.Status.TheVariants as statuses
+use Rattle.flatstore.specs.declared.report.Report.{Report}
+use Rattle.flatstore.specs.Attaching.{Attaches}
+use Rattle.flatstore.specs.Dumps.{IsUnlisted, status_by, is_of_writing}
+use Rattle.flatstore.specs.Shows.{Shows, HasShown, WritesText}
+use Rattle.flatstore.proofs.Listed.{same_fault}
+
+both : (b : Bool) {P : Type 0} → b ≡ true → b ≡ false → P
+both b t f = cc (sym t ∙ f)
+
+begun_whole : (before now : Option (List ℕ)) (text : List ℕ) → Takes before now text → TakesPrefix before now text
+begun_whole before now text takes = ([], (text, sym (append-nil text), takes))
+
+-- a broken rule and want of memory are none of the writing's statuses
+module _ (s : State) (image : ℕ → ℕ) (status : Status) where
+  not_done : IsUnlisted s image status → status ≡ statuses.Done → ⊥
+  not_done (inl memory) e = cc (sym memory ∙ e)
+  not_done (inr (faults.NotARegion rule, is, told)) e = cc (sym is ∙ e)
+  not_done (inr (faults.Damaged part chunk rule, is, told)) e = cc (sym is ∙ e)
+
+  not_failed : IsUnlisted s image status → status ≡ statuses.RegionFault → ⊥
+  not_failed (inl memory) e = cc (sym memory ∙ e)
+  not_failed (inr (faults.NotARegion rule, is, told)) e = cc (sym is ∙ e)
+  not_failed (inr (faults.Damaged part chunk rule, is, told)) e = cc (sym is ∙ e)
+
+  not_written : IsUnlisted s image status → is_of_writing status ≡ true → ⊥
+  not_written (inl memory) w = both (is_of_writing status) w (ap is_of_writing memory)
+  not_written (inr (faults.NotARegion rule, is, told)) w = both (is_of_writing status) w (ap is_of_writing is)
+  not_written (inr (faults.Damaged part chunk rule, is, told)) w = both (is_of_writing status) w (ap is_of_writing is)
+
+module _ (IsText : List ℕ → Type 0) (old s : State) (found : ℕ → ℕ) (A : Attached old s s.frame.bytes found) (before : Option (List ℕ)) where
+  sound_found : IsTelling s → IsSound s.frame.bytes (lasts s) → IsSound s.frame.bytes found
+  sound_found telling sound = sym (same_fault old s found A telling) ∙ sound
+
+  -- a rule is broken, or there was no memory for what is to be written
+  pub shows_none : (flushed : Bool) (count : ℕ) (status : Status) → IsUnlisted s (lasts s) status → (r : Report) → r.status ≡ status → r.complete ≡ false → Attaches old s found r
+      → Shows IsText old s found before before flushed count count r
+  shows_none flushed count status why r is incomplete attaches = record {
+    attaches = attaches;
+    due = λ attached telling. by_cause why telling;
+    no_fault = λ attached failed. absurd (not_failed s (lasts s) status why (sym is ∙ failed));
+    done = λ done. absurd (not_done s (lasts s) status why (sym is ∙ done));
+    begins = λ complete. both r.complete complete incomplete;
+    sound = λ complete. both r.complete complete incomplete;
+    written = λ written. absurd (not_written s (lasts s) status why (ap is_of_writing (sym is) ∙ written));
+    untouched = λ attached. A;
+  } where
+    by_cause : IsUnlisted s (lasts s) status → IsTelling s → (r.status ≡ status_by (first_fault s.frame.bytes found)) ⊎ ((r.status ≡ statuses.Memory) ⊎ ((r.status ≡ statuses.SinkFault) × Rose count count × IsSound s.frame.bytes found))
+    by_cause (inl memory) telling = inr (inl (is ∙ memory))
+    by_cause (inr broken) telling = inl (is ∙ broken.1 ∙ ap status_by (sym (broken.2 telling) ∙ same_fault old s found A telling))
+
+  -- the text was written, or the beginning of it
+  pub shows_text : (text : List ℕ) → IsText text → (IsTelling s → IsSound s.frame.bytes (lasts s))
+      → (now : Option (List ℕ)) (flushed : Bool) (count count' : ℕ) (r : Report) → HasShown text before now flushed count count' r.status → r.complete ≡ true → Attaches old s found r
+      → Shows IsText old s found before now flushed count count' r
+  shows_text text kind sound now flushed count count' r W complete attaches = record {
+    attaches = attaches;
+    due = λ attached telling. due_of W telling;
+    no_fault = λ attached failed. absurd (none_failed W failed);
+    done = λ done. whole W done;
+    begins = λ complete. (text, kind, begun W);
+    sound = λ complete telling. sound_found telling (sound telling);
+    written = λ written. complete;
+    untouched = λ attached. A;
+  } where
+    due_of : HasShown text before now flushed count count' r.status → IsTelling s → (r.status ≡ status_by (first_fault s.frame.bytes found)) ⊎ ((r.status ≡ statuses.Memory) ⊎ ((r.status ≡ statuses.SinkFault) × Rose count count' × IsSound s.frame.bytes found))
+    due_of (inl w) telling = inl (w.0 ∙ ap status_by (sym (sound_found telling (sound telling))))
+    due_of (inr (inl w)) telling = inr (inr (w.0, w.1, sound_found telling (sound telling)))
+    due_of (inr (inr w)) telling = inr (inl w.0)
+
+    none_failed : HasShown text before now flushed count count' r.status → r.status ≡ statuses.RegionFault → ⊥
+    none_failed (inl w) failed = cc (sym w.0 ∙ failed)
+    none_failed (inr (inl w)) failed = cc (sym w.0 ∙ failed)
+    none_failed (inr (inr w)) failed = cc (sym w.0 ∙ failed)
+
+    sink_done : statuses.SinkFault ≡ statuses.Done → ⊥
+    sink_done e = cc e
+
+    memory_done : statuses.Memory ≡ statuses.Done → ⊥
+    memory_done e = cc e
+
+    whole : HasShown text before now flushed count count' r.status → r.status ≡ statuses.Done → WritesText IsText before now × (flushed ≡ true)
+    whole (inl w) done = ((text, kind, w.1), w.2)
+    whole (inr (inl w)) done = absurd (sink_done (sym w.0 ∙ done))
+    whole (inr (inr w)) done = absurd (memory_done (sym w.0 ∙ done))
+
+    begun : HasShown text before now flushed count count' r.status → TakesPrefix before now text
+    begun (inl w) = begun_whole before now text w.1
+    begun (inr (inl w)) = w.2
+    begun (inr (inr w)) = w.1

@@ -1,0 +1,290 @@
+// The worked rows of several cores and groups, on the top call.
+use crate::report::{Report, Status};
+use crate::tests::{PICKS, call, cell, replay, with, words_of};
+use fs_text::{Sink, SteadySink, SteadySource};
+use pm_region::{Faults, FenceNumber, MemRegion, ReadRegion, Region, SplitRegion, SteadyRegion};
+use std::alloc::{AllocError, Global};
+use std::test::Fail;
+
+const ONE_BATCH: &str = "put 0 a\nput 1 b\nput 2 c\ngo 1 2\ngo 2 2\ngo 0 20\n";
+
+const STOLEN: &str = "put 4 a\ngo 0 2\nput 1 x\ngo 1 5\nget 4\nput 4 b\ngo 0 5\nget 4\n";
+
+const UNSTOLEN: &str = "put 4 a\nput 1 x\nget 4\nput 4 b\nget 4\n";
+
+const FAILS_THIRD: &str = "put 0 a\nput 1 b\nget 0\nget 1\n";
+
+// The bytes of a fresh region: so many cores in groups, each with 4 chunks of 4,096 bytes.
+fn fresh_of(alloc: Global, cores: u8, group: u8) -> Result<Vec<u8>, AllocError> {
+    let mut bytes = with(alloc, &[(16, cores), (24, group)])?;
+    bytes.resize(4096 + 16384 * cores as usize, 0)?;
+    Ok(bytes)
+}
+
+// What `log` writes of a region.
+fn log_of<R: SplitRegion + ReadRegion>(alloc: Global, region: &mut R) -> Result<Vec<u8>, Fail> {
+    let mut source = SteadySource::new(Vec::new(alloc), 1);
+    let mut sink = SteadySink::new(alloc, 100_000, 1000)?;
+    let words = ["flatstore", "log", "region"];
+    let _ = call(alloc, &words, &mut source, &mut sink, region)?;
+    Ok(Vec::from_slice(alloc, sink.text().unwrap_or(b"not kept"))?)
+}
+
+#[test]
+fn interleavings(rt: HostRuntime) -> Result<(), Fail> {
+    let alloc = rt.alloc();
+    let table = [
+        (
+            4,
+            ONE_BATCH,
+            "stored\nstored\nstored\n",
+            "core 0 chunk 0 place 0 key 0 version 1 embedded 1\ncore 0 chunk 0 place 3 key 1 version 1 embedded 1\ncore 0 chunk 0 place 6 key 2 version 1 embedded 1\n",
+        ),
+        (
+            4,
+            STOLEN,
+            "stored\nstored\nvalue a\nstored\nvalue b\n",
+            "core 0 chunk 0 place 0 key 4 version 2 embedded 1\ncore 1 chunk 0 place 0 key 1 version 1 embedded 1\ncore 1 chunk 0 place 3 key 4 version 1 embedded 1\n",
+        ),
+        (
+            4,
+            UNSTOLEN,
+            "stored\nstored\nvalue a\nstored\nvalue b\n",
+            "core 0 chunk 0 place 0 key 4 version 1 embedded 1\ncore 0 chunk 0 place 8 key 4 version 2 embedded 1\ncore 1 chunk 0 place 0 key 1 version 1 embedded 1\n",
+        ),
+        (
+            2,
+            ONE_BATCH,
+            "stored\nstored\nstored\n",
+            "core 0 chunk 0 place 0 key 0 version 1 embedded 1\ncore 0 chunk 0 place 3 key 1 version 1 embedded 1\ncore 2 chunk 0 place 0 key 2 version 1 embedded 1\n",
+        ),
+    ];
+    for (group, input, text, log) in table {
+        let mut region = SteadyRegion::new(alloc, fresh_of(alloc, 4, group)?, 5000)?;
+        let (report, written) = replay(alloc, &mut region, input)?;
+        assert_eq!(rt; report.status, Status::Done);
+        assert_eq!(rt; written.as_slice(), text.as_bytes());
+        let entries = log_of(alloc, &mut region)?;
+        assert_eq!(rt; entries.as_slice(), log.as_bytes());
+    }
+    Ok(())
+}
+
+// For each of eight groups of two cores: both put, the second posts, and the first leads for both. The lines, and the log.
+fn eight_groups(alloc: Global) -> Result<(String, String), Fail> {
+    let mut input = String::new(alloc);
+    let mut log = String::new(alloc);
+    for group in 0..8u64 {
+        let first = 2 * group;
+        let second = first + 1;
+        let lines = format!(in alloc;
+            "put {first} a\nput {second} b\ngo {second} 2\ngo {first} 20\n"
+        )?;
+        input.push_str(lines.as_str())?;
+        let entry = format!(in alloc;
+            "core {first} chunk 0 place 0 key {first} version 1 embedded 1\n"
+        )?;
+        log.push_str(entry.as_str())?;
+        let entry = format!(in alloc;
+            "core {first} chunk 0 place 3 key {second} version 1 embedded 1\n"
+        )?;
+        log.push_str(entry.as_str())?;
+    }
+    Ok((input, log))
+}
+
+#[test]
+fn sixteen_cores(rt: HostRuntime) -> Result<(), Fail> {
+    let alloc = rt.alloc();
+    let (input, log) = eight_groups(alloc)?;
+    let mut region = SteadyRegion::new(alloc, fresh_of(alloc, 16, 2)?, 5000)?;
+    let (report, written) = replay(alloc, &mut region, input.as_str())?;
+    assert_eq!(rt; report.status, Status::Done);
+    assert_eq!(rt; written.len(), 16 * 7);
+    assert_eq!(rt; report.finishes.len(), 16);
+    let entries = log_of(alloc, &mut region)?;
+    assert_eq!(rt; entries.as_slice(), log.as_bytes());
+    Ok(())
+}
+
+// A key, the requests that change it, and its cells before the first change and after each one; none is empty.
+#[derive(Clone, Copy)]
+struct Changed {
+    key: u64,
+    requests: &'static [u64],
+    cells: &'static [&'static str],
+}
+
+// How many of these requests were finished by a stamp.
+fn finished_by(report: &Report, requests: &[u64], stamp: u64) -> usize {
+    let mut count = 0usize;
+    for finish in report.finishes.as_slice() {
+        if finish.stamp <= stamp && requests.contains(&finish.request) {
+            count = count.saturating_add(1);
+        }
+    }
+    count
+}
+
+// Whether the words recover for the key the cell after so many changes, or after one more.
+fn has_prefix(alloc: Global, words: &[u64], changed: &Changed, count: usize) -> Result<bool, Fail> {
+    let bytes = match cell(alloc, words, changed.key)? {
+        None => Vec::new(alloc),
+        Some(value) => Vec::from_slice(alloc, value.bytes())?,
+    };
+    for at in [count, count.saturating_add(1)] {
+        if let Some(cell) = changed.cells.get(at) {
+            if bytes.as_slice() == cell.as_bytes() {
+                return Ok(true);
+            }
+        }
+    }
+    Ok(false)
+}
+
+// Whether each image of a stamp has such a prefix of each key's changes.
+fn has_prefixes(
+    alloc: Global,
+    region: &MemRegion,
+    report: &Report,
+    changes: &[Changed],
+    stamp: u64,
+) -> Result<bool, Fail> {
+    for pick in PICKS {
+        let mut image = region.image_at(alloc, stamp, pick)?;
+        image.attach(alloc)?;
+        let words = words_of(alloc, &image)?;
+        for changed in changes {
+            let count = finished_by(report, changed.requests, stamp);
+            if !has_prefix(alloc, &words, changed, count)? {
+                return Ok(false);
+            }
+        }
+    }
+    Ok(true)
+}
+
+// A region of so many cores in one group, whose fences with these numbers fail.
+fn region_of(alloc: Global, cores: u8, fails: &[u64]) -> Result<MemRegion, Fail> {
+    let mut fences = Vec::new(alloc);
+    for number in fails {
+        fences.push(FenceNumber {
+            piece: 0,
+            number: *number,
+        })?;
+    }
+    let plan = Faults {
+        opens: Vec::new(alloc),
+        fences,
+    };
+    Ok(MemRegion::new(alloc, fresh_of(alloc, cores, cores)?, 5000, plan)?)
+}
+
+// Whether each image of each stamp since the attach has them.
+fn has_all(
+    alloc: Global,
+    region: &MemRegion,
+    report: &Report,
+    changes: &[Changed],
+) -> Result<bool, Fail> {
+    for stamp in 0..region.stamp() {
+        if !has_prefixes(alloc, region, report, changes, stamp)? {
+            return Ok(false);
+        }
+    }
+    has_prefixes(alloc, region, report, changes, region.stamp())
+}
+
+#[test]
+fn images_of_a_batch(rt: HostRuntime) -> Result<(), Fail> {
+    let alloc = rt.alloc();
+    let changes = [
+        Changed {
+            key: 0,
+            requests: &[0],
+            cells: &["", "a"],
+        },
+        Changed {
+            key: 1,
+            requests: &[1],
+            cells: &["", "b"],
+        },
+        Changed {
+            key: 2,
+            requests: &[2],
+            cells: &["", "c"],
+        },
+    ];
+    let mut region = region_of(alloc, 4, &[])?;
+    let (report, _) = replay(alloc, &mut region, ONE_BATCH)?;
+    assert_eq!(rt; report.status, Status::Done);
+    assert!(rt; has_all(alloc, &region, &report, &changes)?);
+    Ok(())
+}
+
+#[test]
+fn images_of_a_stolen_change(rt: HostRuntime) -> Result<(), Fail> {
+    let alloc = rt.alloc();
+    let changes = [
+        Changed {
+            key: 4,
+            requests: &[0, 3],
+            cells: &["", "a", "b"],
+        },
+        Changed {
+            key: 1,
+            requests: &[1],
+            cells: &["", "x"],
+        },
+    ];
+    let mut region = region_of(alloc, 4, &[])?;
+    let (report, _) = replay(alloc, &mut region, STOLEN)?;
+    assert_eq!(rt; report.status, Status::Done);
+    assert!(rt; has_all(alloc, &region, &report, &changes)?);
+    Ok(())
+}
+
+#[test]
+fn a_core_that_stops(rt: HostRuntime) -> Result<(), Fail> {
+    let alloc = rt.alloc();
+    let changes = [
+        Changed {
+            key: 0,
+            requests: &[0],
+            cells: &["", "a"],
+        },
+        Changed {
+            key: 1,
+            requests: &[1],
+            cells: &["", "b"],
+        },
+    ];
+    let table = [
+        ("", "stopped\nstored\nstopped\nvalue b\n"),
+        ("go 1 3\n", "stopped\nstopped\nstopped\nstopped\n"),
+    ];
+    for (turns, text) in table {
+        let input = format!(in alloc; "{FAILS_THIRD}{turns}")?;
+        let mut region = region_of(alloc, 2, &[3])?;
+        let (report, written) = replay(alloc, &mut region, input.as_str())?;
+        assert_eq!(rt; report.status, Status::RegionFault);
+        assert_eq!(rt; written.as_slice(), text.as_bytes());
+        assert!(rt; has_all(alloc, &region, &report, &changes)?);
+    }
+    Ok(())
+}
+
+#[test]
+fn an_attach_that_fails(rt: HostRuntime) -> Result<(), Fail> {
+    let alloc = rt.alloc();
+    let plan = Faults {
+        opens: vec![in alloc; 1]?,
+        fences: Vec::new(alloc),
+    };
+    let mut region = MemRegion::new(alloc, fresh_of(alloc, 1, 1)?, 5000, plan)?;
+    let (report, written) = replay(alloc, &mut region, "put 5 abc\nget 5\ndelete 5\nget 5\n")?;
+    assert_eq!(rt; report.status, Status::RegionFault);
+    assert_eq!(rt; report.attached, false);
+    assert!(rt; written.is_empty());
+    Ok(())
+}
