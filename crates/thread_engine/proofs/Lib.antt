@@ -4,3 +4,4 @@ mod WorkChains
 mod Rested
 mod PieceStands
 mod KeyViews
+mod FirstKeys

@@ -3,6 +3,7 @@
 
 pub mod core_job;
 pub mod crew;
+pub mod opening_rules;
 pub mod table_end;
 #[cfg(test)]
 mod tests;
