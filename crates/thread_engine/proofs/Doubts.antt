@@ -1,5 +1,5 @@
 -- A change in doubt keeps its block, whatever a turn does.
-use Rattle.std.proofs.Common.{◌≡◌, ◌≢◌, ◌⊎◌, inl, inr, ℕ, ◌<◌, Bool, true, false, cond, not, ◌&&◌, List, Option, Some, None, Result, Ok, Err, refl, sym, ◌∙◌, ap, subst}
+use Rattle.std.proofs.Common.{◌≡◌, ◌≢◌, inl, inr, ℕ, ◌<◌, Bool, true, false, cond, not, ◌&&◌, List, Option, Some, None, Result, Ok, Err, refl, sym, ◌∙◌, ap, subst}
 use Rattle.std.proofs.lemmas.Bool.{eqb-true, eq-eqb}
 use Rattle.std.specs.Prelude.{eqb, MatchOption}
 use Rattle.fs_errors.specs.declared.Memory.{Memory}
@@ -15,7 +15,7 @@ use Rattle.group_laws.specs.State.{Group}
 use Rattle.group_laws.specs.Steps.{only_own, is_of, points_at}
 use Rattle.group_laws.specs.MemberViews.{View}
 use Rattle.group_board.specs.Seats.{SeatAt}
-use Rattle.group_board.specs.Views.{after_post, after_finish, after_give_up, after_withdraw, TidiedIn}
+use Rattle.group_board.specs.Views.{after_finish, after_give_up, TidiedIn}
 use Rattle.core_worker.specs.declared.types.Turn.{Turn}
 use Rattle.core_worker.specs.declared.types.Turn.TheVariants.{Moved, Idle}
 use Rattle.core_worker.specs.declared.types.Place.TheVariants.{Posted}
@@ -23,10 +23,9 @@ use Rattle.core_worker.specs.declared.worker.Worker.{Worker}
 use Rattle.core_worker.specs.OwnPlaces.{place_at}
 use Rattle.core_worker.specs.KeyTies.{IsPlaced, Offers}
 use Rattle.core_worker.specs.Ties.{Holds}
-use Rattle.core_worker.specs.Finishing.{TakesBack}
-use Rattle.core_worker.specs.Turning.{Did, Turned, TurnedTo, at_entry}
+use Rattle.core_worker.specs.Turning.{Did, TurnedTo, at_entry}
 use Rattle.core_worker.specs.Turning.Did.{goes_round, withdraws, writes, marks, fails, finishes, posts, loses_block, drops, locks}
-use Rattle.core_worker.specs.Turns.{Moment, PersistsOrLoses}
+use Rattle.core_worker.specs.Turns.{PersistsOrLoses}
 use Rattle.thread_engine.specs.WorkLaws.{in_doubt}
 
 -- what equal options say

@@ -1,18 +1,16 @@
 -- Where a key is when its group opens.
-use Rattle.std.proofs.Common.{◌≡◌, ◌⊎◌, inl, inr, ℕ, Bool, true, false, cond, List, [], ◌∷◌, ◌++◌, map, Option, Some, None, refl, sym, ◌∙◌, ap, subst}
-use Rattle.fs_model.specs.declared.model.Request.{Request}
+use Rattle.std.proofs.Common.{◌≡◌, ℕ, Bool, true, false, cond, List, [], ◌∷◌, ◌++◌, map, Some, None, refl, sym, subst}
 use Rattle.chunk_map.specs.Layouts.{layout_of}
 use Rattle.group_laws.specs.declared.types.Pending.{Pending}
-use Rattle.group_laws.specs.Places.{Place, owner}
+use Rattle.group_laws.specs.Places.{owner}
 use Rattle.group_laws.specs.State.{Group}
 use Rattle.group_laws.specs.OpeningImages.{opened}
 use Rattle.group_laws.specs.Regions.{key_group, place_at}
-use Rattle.group_laws.specs.MemberViews.{View, view_of}
+use Rattle.group_laws.specs.MemberViews.{view_of}
 use Rattle.group_board.specs.Seats.{SeatAt}
-use Rattle.engine_laws.specs.Engine.{Engine}
 use Rattle.engine_laws.specs.Keys.{Served, KeyStands, History, pairs}
 use Rattle.fs_model.specs.Lawful.{cell_of}
-use Rattle.engine_laws.specs.KeyLaw.{KeyView, KeyIs, key_view, key_in}
+use Rattle.engine_laws.specs.KeyLaw.{KeyView, KeyIs, key_view}
 use Rattle.engine_laws.specs.Stands.{Origin, Stands, start_of, opening}
 use Rattle.thread_engine.specs.WorkLaws.{KeepsDoubts, in_doubt}
 use Rattle.thread_engine.proofs.Doubts.{none_some}

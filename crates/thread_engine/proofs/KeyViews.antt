@@ -1,5 +1,5 @@
 -- A key in its owner's view, and in the state of the group.
-use Rattle.std.proofs.Common.{◌≡◌, ℕ, ◌==◌, Bool, true, false, cond, List, [], ◌∷◌, ◌++◌, map, Option, Some, None, refl, sym, ◌∙◌, ap, subst}
+use Rattle.std.proofs.Common.{◌≡◌, ℕ, Bool, cond, List, Option, None, refl, sym, ◌∙◌, ap, subst}
 use Rattle.std.proofs.lemmas.Bool.{eq-eqb}
 use mathlib.Core.Option.{some}
 use lib.ListN.{get_elem?}
@@ -8,7 +8,7 @@ use Rattle.fs_model.specs.declared.model.Reply.{Reply}
 use Rattle.pm_region.specs.Cell.{Cell}
 use Rattle.log_entry.specs.declared.entry.Body.{Body}
 use Rattle.log_entry.specs.declared.entry.Body.TheVariants as bodies
-use Rattle.group_laws.specs.Places.{Place, owner}
+use Rattle.group_laws.specs.Places.{owner}
 use Rattle.group_laws.specs.State.{Group}
 use Rattle.group_laws.specs.Steps.{left_by}
 use Rattle.group_laws.specs.MemberViews.{View, view_of}

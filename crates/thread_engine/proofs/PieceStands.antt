@@ -1,7 +1,7 @@
 -- What ties a worker to a region ties it to its piece, and what the piece licensed the joined region does.
 use Rattle.std.specs.Prelude.{is_none}
-use Rattle.std.proofs.Common.{◌≡◌, inl, ℕ, Option, None, ◌+◌, ◌*◌, ◌^◌, ◌≤◌, ◌<◌, false, Some, refl, sym, ◌∙◌, ap, subst, arith}
-use Rattle.pm_region.specs.State.{State, Frame, InRange, IsTelling, cell_now}
+use Rattle.std.proofs.Common.{◌≡◌, inl, ℕ, Option, None, ◌+◌, ◌*◌, ◌≤◌, ◌<◌, false, Some, refl, sym, ◌∙◌, subst, arith}
+use Rattle.pm_region.specs.State.{State, IsTelling, cell_now}
 use Rattle.pm_region.specs.Split.{TakesPiece}
 use Rattle.pm_region.specs.Words.{Kept, Surely}
 use Rattle.pm_region.specs.Cell.{Cell, MayBe}

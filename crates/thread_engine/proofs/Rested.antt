@@ -1,27 +1,23 @@
 -- A core that has ended is at rest.
-use Rattle.std.proofs.Common.{◌≡◌, ◌⊎◌, inl, inr, ℕ, zero, suc, ◌<◌, ◌==◌, ◌||◌, Bool, true, false, not, cond, List, [], ◌∷◌, ◌++◌, map, length, Option, Some, None, refl, sym, ◌∙◌, ap, subst, arith}
+use Rattle.std.proofs.Common.{◌≡◌, inl, inr, ℕ, zero, suc, ◌==◌, ◌||◌, Bool, true, false, not, List, [], ◌∷◌, ◌++◌, map, length, Option, Some, None, refl, arith}
 use Rattle.std.specs.Prelude.{is_some, option_to_list, nat_lt}
 use Rattle.std.proofs.lemmas.Bool.{lt-ltb}
 use Rattle.std.specs.List.{filter}
-use Rattle.fs_model.specs.declared.model.Request.{Request}
 use Rattle.fs_model.specs.Cells.{key_of}
-use Rattle.conflict_queue.specs.declared.types.Held.{Held}
 use Rattle.conflict_queue.specs.Waiting.{waiting}
-use Rattle.log_entry.specs.declared.entry.Entry.{Entry}
 use Rattle.group_laws.specs.MemberViews.{View}
 use Rattle.group_board.specs.Seats.{SeatAt}
-use Rattle.engine_laws.specs.WorkerMoves.{Placed}
 use Rattle.core_worker.specs.declared.types.Leading.{Leading}
 use Rattle.core_worker.specs.declared.types.Leading.TheVariants as leads
 use Rattle.core_worker.specs.declared.types.Place.{Place}
 use Rattle.core_worker.specs.declared.types.Place.TheVariants.{Free, Staged, Posted}
-use Rattle.core_worker.specs.OwnPlaces.{place_at, is_posted}
+use Rattle.core_worker.specs.OwnPlaces.{place_at}
 use Rattle.core_worker.specs.PostedPlaces.{any_posted}
-use Rattle.core_worker.specs.Status.{all_free, is_leading, is_pending}
+use Rattle.core_worker.specs.Status.{all_free, is_leading}
 use Rattle.core_worker.specs.Ties.{LeadsAt}
 use Rattle.core_worker.specs.WorkerMoves.{placed_for, asked_by}
 use Rattle.thread_engine.specs.WorkStates.{WorkState, IsAtWork, HasEnded}
-use Rattle.thread_engine.specs.WorkLaws.{HasRested, hands_at}
+use Rattle.thread_engine.specs.WorkLaws.{HasRested}
 use Rattle.thread_engine.proofs.Doubts.{none_some, clash}
 
 -- who leads nothing

@@ -1,6 +1,5 @@
 -- What a chain of a core's moves says, move by move.
-use Rattle.std.proofs.Common.{◌≡◌, ◌⊎◌, inl, inr, ℕ, ◌==◌, Bool, true, false, List, [], ◌∷◌, ◌++◌, map, Option, Some, None, refl, sym, ◌∙◌, ap, subst, append-nil, append_assoc}
-use Rattle.std.specs.List.{filter}
+use Rattle.std.proofs.Common.{◌≡◌, inl, inr, ℕ, ◌==◌, Bool, List, [], ◌∷◌, ◌++◌, map, Option, Some, None, refl, sym, ◌∙◌, ap, subst, append-nil, append_assoc}
 use Rattle.std.proofs.lemmas.List.{map-append}
 use Rattle.std.proofs.lemmas.List.Elements.{filter-append}
 use Rattle.fs_model.specs.declared.model.Request.{Request}
@@ -13,9 +12,7 @@ use Rattle.pm_region.proofs.Moments.{told_at_entry}
 use Rattle.log_entry.specs.declared.entry.Body.{Body}
 use Rattle.log_entry.specs.declared.entry.Body.TheVariants as bodies
 use Rattle.log_entry.specs.declared.entry.Entry.{Entry}
-use Rattle.store_image.specs.Facts.{In}
 use Rattle.store_image.proofs.SoundFacts.{in_either}
-use Rattle.group_laws.specs.declared.types.Block.{Block}
 use Rattle.group_laws.specs.Places.{owner}
 use Rattle.group_laws.specs.Steps.{bytes_of}
 use Rattle.group_laws.specs.State.{Group}
@@ -23,17 +20,17 @@ use Rattle.group_laws.specs.MemberViews.{View}
 use Rattle.group_board.specs.Seats.{SeatAt}
 use Rattle.group_board.specs.Views.{left_in}
 use Rattle.licence.specs.Licence.{part_at, part_end}
-use Rattle.engine_laws.specs.WorkerMoves.{Hands, Placed, Fixed, asked, replied, fixed_of, requests_for, line_in, WorkerMoves, AnswersKey}
+use Rattle.engine_laws.specs.WorkerMoves.{Placed, Fixed, asked, replied, fixed_of, requests_for, line_in, WorkerMoves}
 use Rattle.engine_laws.specs.KeyLaw as law
 use Rattle.engine_laws.specs.KeyLaw.{KeyView, KeyIs, key_view}
 use Rattle.core_worker.specs.declared.types.Answer.{Answer}
 use Rattle.core_worker.specs.declared.worker.Worker.{Worker}
-use Rattle.core_worker.specs.Answering.{IsGiven, AreGiven, AddsAnswers}
+use Rattle.core_worker.specs.Answering.{AreGiven, AddsAnswers}
 use Rattle.core_worker.specs.Beginning.{answers_of}
 use Rattle.core_worker.specs.KeyTies.{Offers}
 use Rattle.core_worker.specs.WorkerMoves.{hands_of}
 use Rattle.core_worker.proofs.Given.{adds_none}
-use Rattle.thread_engine.specs.WorkStates.{WorkState, IsAtWork, Accepts, MakesTurn, Move, wound_down, Leads, Works}
+use Rattle.thread_engine.specs.WorkStates.{WorkState, IsAtWork, Accepts, MakesTurn, Move, wound_down, Leads}
 use Rattle.thread_engine.specs.WorkStates.Move.{accepts, turns, winds_down}
 use Rattle.thread_engine.specs.WorkLaws.{in_doubt, HasBlock, KeepsDoubts, hands_at, WorksOff}
 use Rattle.thread_engine.proofs.Doubts.{posted_offers, turn_keeps}

@@ -1,5 +1,5 @@
 -- What a chain of a core's moves says of its requests, its answers and its keys.
-use Rattle.std.specs.Prelude.{◌≡◌, ℕ, List, [], ◌∷◌, ◌++◌, map, true, false, Option, Some, None}
+use Rattle.std.specs.Prelude.{◌≡◌, ℕ, List, [], ◌++◌, map, true, false, Option, Some, None}
 use Rattle.fs_model.specs.declared.model.Request.{Request}
 use Rattle.fs_model.specs.declared.model.Reply.{Reply}
 use Rattle.fs_model.specs.Cells.{key_of}
