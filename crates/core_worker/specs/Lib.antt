@@ -52,3 +52,4 @@ pub use Rattle.group_board.specs.Views
 pub use Rattle.conflict_queue.specs.Waiting
 pub use Rattle.pm_region.specs.Words
 pub use Rattle.lazy_alloc.specs.Written
+pub mod PostedPlaces

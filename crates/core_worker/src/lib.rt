@@ -11,6 +11,7 @@ mod hearing;
 mod lead_items;
 mod open_worker;
 mod post_item;
+mod posted_places;
 mod refusing;
 mod releasing;
 mod search_places;

@@ -1,0 +1,7 @@
+mod WorkMoves
+mod Doubts
+mod WorkChains
+mod Rested
+mod PieceStands
+mod KeyViews
+mod FirstKeys

@@ -1,0 +1,199 @@
+-- What a chain of a core's moves says, move by move.
+use Rattle.std.proofs.Common.{◌≡◌, inl, inr, ℕ, ◌==◌, Bool, List, [], ◌∷◌, ◌++◌, map, Option, Some, None, refl, sym, ◌∙◌, ap, subst, append-nil, append_assoc}
+use Rattle.std.proofs.lemmas.List.{map-append}
+use Rattle.std.proofs.lemmas.List.Elements.{filter-append}
+use Rattle.fs_model.specs.declared.model.Request.{Request}
+use Rattle.fs_model.specs.declared.model.Reply.{Reply}
+use Rattle.fs_model.specs.Cells.{key_of}
+use Rattle.pm_region.specs.State.{State, IsTelling}
+use Rattle.pm_region.specs.Words.{KeepsOutside}
+use Rattle.pm_region.specs.State.{cell_now}
+use Rattle.pm_region.proofs.Moments.{told_at_entry}
+use Rattle.log_entry.specs.declared.entry.Body.{Body}
+use Rattle.log_entry.specs.declared.entry.Body.TheVariants as bodies
+use Rattle.log_entry.specs.declared.entry.Entry.{Entry}
+use Rattle.store_image.proofs.SoundFacts.{in_either}
+use Rattle.group_laws.specs.Places.{owner}
+use Rattle.group_laws.specs.Steps.{bytes_of}
+use Rattle.group_laws.specs.State.{Group}
+use Rattle.group_laws.specs.MemberViews.{View}
+use Rattle.group_board.specs.Seats.{SeatAt}
+use Rattle.group_board.specs.Views.{left_in}
+use Rattle.licence.specs.Licence.{part_at, part_end}
+use Rattle.engine_laws.specs.WorkerMoves.{Placed, Fixed, asked, replied, fixed_of, requests_for, line_in, WorkerMoves}
+use Rattle.engine_laws.specs.KeyLaw as law
+use Rattle.engine_laws.specs.KeyLaw.{KeyView, KeyIs, key_view}
+use Rattle.core_worker.specs.declared.types.Answer.{Answer}
+use Rattle.core_worker.specs.declared.worker.Worker.{Worker}
+use Rattle.core_worker.specs.Answering.{AreGiven, AddsAnswers}
+use Rattle.core_worker.specs.Beginning.{answers_of}
+use Rattle.core_worker.specs.KeyTies.{Offers}
+use Rattle.core_worker.specs.WorkerMoves.{hands_of}
+use Rattle.core_worker.proofs.Given.{adds_none}
+use Rattle.thread_engine.specs.WorkStates.{WorkState, IsAtWork, Accepts, MakesTurn, Move, wound_down, Leads}
+use Rattle.thread_engine.specs.WorkStates.Move.{accepts, turns, winds_down}
+use Rattle.thread_engine.specs.WorkLaws.{in_doubt, HasBlock, KeepsDoubts, hands_at, WorksOff}
+use Rattle.thread_engine.proofs.Doubts.{posted_offers, turn_keeps}
+
+-- answers one list after another, under what is known in the end
+given_more : (K L M : Type 0) → (M → K) → (M → L) → (xs ys : List Fixed) (out more : List Answer) → AreGiven K xs out → AreGiven L ys more → AreGiven M (xs ++ ys) (out ++ more)
+given_more K L M f g [] [] [] [] a b = tt
+given_more K L M f g [] [] [] (y ∷ more) a b = absurd b
+given_more K L M f g [] (y ∷ ys) [] [] a b = absurd b
+given_more K L M f g [] (y ∷ ys) [] (z ∷ more) a b = (record { number = b.0.number; reply = b.0.reply; known = λ k. b.0.known (g k); cause = b.0.cause }, given_more K L M f g [] ys [] more tt b.1)
+given_more K L M f g [] ys (x ∷ out) more a b = absurd a
+given_more K L M f g (x ∷ xs) ys [] more a b = absurd a
+given_more K L M f g (x ∷ xs) ys (z ∷ out) more a b = (record { number = a.0.number; reply = a.0.reply; known = λ k. a.0.known (f k); cause = a.0.cause }, given_more K L M f g xs ys out more a.1 b)
+
+adds_more : (K L M : Type 0) → (M → K) → (M → L) → (xs ys zs : List Answer) (fs gs : List Fixed) → AddsAnswers K xs ys fs → AddsAnswers L ys zs gs → AddsAnswers M xs zs (fs ++ gs)
+adds_more K L M f g xs ys zs fs gs A B = record {
+  more = A.more ++ B.more;
+  added = B.added ∙ ap (λ l. l ++ B.more) A.added ∙ append_assoc xs A.more B.more;
+  given = given_more K L M f g fs gs A.more B.more A.given B.given;
+}
+
+-- the law of one key
+abbrev pub KeyGoes : Type 0
+KeyGoes = (start : Option (List ℕ)) (v u : KeyView) (place place' : Option Placed) (stopped stopped' : Bool) (xs : List (Request × Reply)) (fixed : List Fixed)
+    → KeyIs start v place stopped xs → law.Does v u place place' stopped stopped' fixed → law.Holds u place' stopped' → KeyIs start u place' stopped' (xs ++ map replied fixed)
+
+module _ (key_goes : KeyGoes) (seat : SeatAt) where
+  pub works_off_none : (a : WorkState) → WorksOff seat a a
+  works_off_none a = record {
+    accepted = [];
+    fixed = [];
+    split = refl;
+    answers = adds_none (IsTelling a.region) (answers_of a.worker) (answers_of a.worker) refl;
+    own = λ y i. absurd i;
+    order = λ k own. append-nil (line_in (hands_at a) k);
+    keys = λ start k xs own S. subst (KeyIs start (key_view a.view k) ((hands_at a).place k) a.worker.stopped) (sym (append-nil xs)) S;
+    told = λ t. t;
+  }
+
+  pub works_off_more : (a b c : WorkState) → WorksOff seat a b → WorksOff seat b c → WorksOff seat a c
+  works_off_more a b c A B = record {
+    accepted = A.accepted ++ B.accepted;
+    fixed = A.fixed ++ B.fixed;
+    split = A.split ∙ ap (λ l. A.accepted ++ l) B.split ∙ sym (append_assoc A.accepted B.accepted c.queue);
+    answers = adds_more (IsTelling b.region) (IsTelling c.region) (IsTelling c.region) B.told (λ t. t) (answers_of a.worker) (answers_of b.worker) (answers_of c.worker) A.fixed B.fixed A.answers B.answers;
+    own = λ y i. elim (in_either y A.fixed B.fixed i) [ inl l ↦ A.own y l | inr r ↦ B.own y r ];
+    order = λ k own. order k own;
+    keys = λ start k xs own S. subst (KeyIs start (key_view c.view k) ((hands_at c).place k) c.worker.stopped) (path k xs) (B.keys start k (xs ++ map replied (fixed_of k A.fixed)) own (A.keys start k xs own S));
+    told = λ t. A.told (B.told t);
+  } where
+    fixed_is : (k : ℕ) → fixed_of k (A.fixed ++ B.fixed) ≡ fixed_of k A.fixed ++ fixed_of k B.fixed
+    fixed_is k = filter-append (λ (x : Fixed). key_of x.request == k) A.fixed B.fixed
+
+    path : (k : ℕ) (xs : List (Request × Reply)) → (xs ++ map replied (fixed_of k A.fixed)) ++ map replied (fixed_of k B.fixed) ≡ xs ++ map replied (fixed_of k (A.fixed ++ B.fixed))
+    path k xs = append_assoc xs (map replied (fixed_of k A.fixed)) (map replied (fixed_of k B.fixed)) ∙ ap (λ l. xs ++ l) (sym (ap (map replied) (fixed_is k) ∙ map-append replied (fixed_of k A.fixed) (fixed_of k B.fixed)))
+
+    order : (k : ℕ) → owner seat.place k ≡ seat.number → line_in (hands_at a) k ++ requests_for k (A.accepted ++ B.accepted) ≡ map asked (fixed_of k (A.fixed ++ B.fixed)) ++ line_in (hands_at c) k
+    order k own =
+        ap (λ l. line_in (hands_at a) k ++ l) (filter-append (λ (x : ℕ × Request). key_of x.1 == k) A.accepted B.accepted)
+        ∙ sym (append_assoc (line_in (hands_at a) k) (requests_for k A.accepted) (requests_for k B.accepted))
+        ∙ ap (λ l. l ++ requests_for k B.accepted) (A.order k own)
+        ∙ append_assoc (map asked (fixed_of k A.fixed)) (line_in (hands_at b) k) (requests_for k B.accepted)
+        ∙ ap (λ l. map asked (fixed_of k A.fixed) ++ l) (B.order k own)
+        ∙ sym (append_assoc (map asked (fixed_of k A.fixed)) (map asked (fixed_of k B.fixed)) (line_in (hands_at c) k))
+        ∙ ap (λ l. l ++ line_in (hands_at c) k) (sym (ap (map asked) (fixed_is k) ∙ map-append asked (fixed_of k A.fixed) (fixed_of k B.fixed)))
+
+  -- one call of the worker, after which each own change in doubt leaves what it left
+  module _ (s t : State) (v u : View) (w x : Worker) (queue rest : List (ℕ × Request)) (before after : Option Group) (accepted : List (ℕ × Request)) (fixed : List Fixed)
+      (split : queue ≡ accepted ++ rest) (adds : AddsAnswers (IsTelling t) (answers_of w) (answers_of x) fixed)
+      (M : WorkerMoves seat.place seat.number s t before after v u (hands_of v w) (hands_of u x) accepted fixed)
+      (still : (k : ℕ) (d : Entry) → owner seat.place k ≡ seat.number → v.pending k ≡ Some (in_doubt d) → u.pending k ≡ Some (in_doubt d) → left_in u.blocks d.body ≡ left_in v.blocks d.body) where
+    does : (k : ℕ) → owner seat.place k ≡ seat.number → law.Does (key_view v k) (key_view u k) ((hands_of v w).place k) ((hands_of u x).place k) w.stopped x.stopped (fixed_of k fixed)
+    does k own = let A = M.keys k own in record {
+      lawful = A.lawful;
+      cell = A.cell;
+      after_stop = A.after_stop;
+      stops = A.stops;
+      stays = M.stays_stopped;
+      posted = A.posted;
+      doubt = λ d now. elim (A.doubt d now) [
+        | inl was ↦ (still k d own was now, inl was)
+        | inr new ↦ (new.7, inr (new.0, new.1, new.2, new.3, new.4, new.5, new.6))
+      ];
+    }
+
+    pub call_works_off : WorksOff seat (record { region = s; view = v; worker = w; queue = queue }) (record { region = t; view = u; worker = x; queue = rest })
+    call_works_off = record {
+      accepted = accepted;
+      fixed = fixed;
+      split = split;
+      answers = adds;
+      own = M.own;
+      order = λ k own. (M.keys k own).order;
+      keys = λ start k xs own S. key_goes start (key_view v k) (key_view u k) ((hands_of v w).place k) ((hands_of u x).place k) w.stopped x.stopped xs (fixed_of k fixed) S (does k own)
+          (let H = M.holds k own in record { posted = H.posted; pending = H.pending });
+      told = told_at_entry s t (KeepsOutside (cell_now s) (part_at seat.place seat.number) (part_end seat.place seat.number)) M.outside;
+    }
+
+  -- what a place offers, it has
+  offers_block : (v : View) (k : ℕ) (body : Body) → Offers v k body → HasBlock v k body
+  offers_block v k (bodies.Pointer q) h = h
+  offers_block v k (bodies.Embedded y) h = tt
+  offers_block v k bodies.Tombstone h = tt
+
+  -- a turn keeps the blocks of changes in doubt
+  module _ (refused : Bool) (a b : WorkState) (at : IsAtWork seat a) (D : KeepsDoubts seat a.view) (T : MakesTurn seat refused a b) where
+    keeps : (k q : ℕ) (d : Entry) (bytes : List ℕ) → b.view.pending k ≡ Some (in_doubt d) → a.view.blocks q ≡ Some (record { key = k; bytes = bytes }) → b.view.blocks q ≡ a.view.blocks q
+    keeps k q d bytes now there = turn_keeps seat.place seat.number a.region refused T.before seat refl refl a.view b.view a.worker b.worker at.member.holds k q d bytes now there T.result T.turned
+
+    carry : (k : ℕ) (d : Entry) → b.view.pending k ≡ Some (in_doubt d) → (body : Body) → HasBlock a.view k body → HasBlock b.view k body × (left_in b.view.blocks body ≡ left_in a.view.blocks body)
+    carry k d now (bodies.Pointer q) h = let same = keeps k q d h.0 now h.1 in ((h.0, same ∙ h.1), ap bytes_of same)
+    carry k d now (bodies.Embedded y) h = (tt, refl)
+    carry k d now bodies.Tombstone h = (tt, refl)
+
+    turn_doubts : KeepsDoubts seat b.view
+    turn_doubts k d own now = elim ((T.moves.moves.keys k own).doubt d now) [
+      | inl was ↦ (carry k d now d.body (D k d own was)).0
+      | inr new ↦ (carry k d now d.body (offers_block a.view k d.body (posted_offers seat.place seat.number a.view a.worker at.member.holds k d new.2 new.5).0)).0
+    ]
+
+    turn_works_off : WorksOff seat a b × KeepsDoubts seat b.view
+    turn_works_off = (
+      call_works_off a.region b.region a.view b.view a.worker b.worker a.queue b.queue T.before T.after [] T.moves.fixed (sym T.queue) T.moves.answers T.moves.moves (λ k d own was now. (carry k d now d.body (D k d own was)).1),
+      turn_doubts,
+    )
+
+  accept_works_off : (a b : WorkState) → KeepsDoubts seat a.view → Accepts seat a b → WorksOff seat a b × KeepsDoubts seat b.view
+  accept_works_off a b D A = (
+    subst (WorksOff seat a) here (call_works_off a.region a.region a.view a.view a.worker b.worker a.queue b.queue None None A.accepted A.call.fixed split A.call.adds (A.call.moves None) (λ k d own was now. refl)),
+    subst (KeepsDoubts seat) (sym A.view) D,
+  ) where
+    mid : WorkState
+    mid = record { region = a.region; view = a.view; worker = b.worker; queue = b.queue }
+
+    here : mid ≡ b
+    here i = record { region = sym A.region i; view = sym A.view i; worker = b.worker; queue = b.queue }
+
+    split : a.queue ≡ A.accepted ++ b.queue
+    split = elim A.either [
+      | inl one ↦ A.waits ∙ (λ i. sym one.0 i ++ sym one.1 i)
+      | inr none ↦ (λ i. sym none.0 i ++ sym none.1 i)
+    ]
+
+  winds_works_off : (a : WorkState) → WorksOff seat a (wound_down a)
+  winds_works_off a = record {
+    accepted = [];
+    fixed = [];
+    split = refl;
+    answers = adds_none (IsTelling a.region) (answers_of a.worker) (answers_of a.worker) refl;
+    own = λ y i. absurd i;
+    order = λ k own. append-nil (line_in (hands_at a) k);
+    keys = λ start k xs own S. subst (KeyIs start (key_view a.view k) ((hands_at a).place k) a.worker.stopped) (sym (append-nil xs)) S;
+    told = λ t. t;
+  }
+
+  move_works_off : (refused : Bool) (a b : WorkState) → IsAtWork seat a → KeepsDoubts seat a.view → Move seat refused a b → WorksOff seat a b × KeepsDoubts seat b.view
+  move_works_off refused a b at D (accepts A) = accept_works_off a b D A
+  move_works_off refused a b at D (turns T) = turn_works_off refused a b at D T
+  move_works_off refused a b at D (winds_down e) = (subst (WorksOff seat a) (sym e) (winds_works_off a), subst (λ (z : WorkState). KeepsDoubts seat z.view) (sym e) D)
+
+  pub chain_works_off : (refused : Bool) (a : WorkState) (xs : List WorkState) (b : WorkState) → IsAtWork seat a → KeepsDoubts seat a.view → Leads seat refused a xs b → WorksOff seat a b × KeepsDoubts seat b.view
+  chain_works_off refused a [] b at D e = (subst (WorksOff seat a) (sym e) (works_off_none a), subst (λ (z : WorkState). KeepsDoubts seat z.view) (sym e) D)
+  chain_works_off refused a (x ∷ xs) b at D l =
+      let one = move_works_off refused a x at D l.0 in
+      let rest = chain_works_off refused x xs b l.1 one.1 l.2 in
+      (works_off_more a x b one.0 rest.0, rest.1)

@@ -1,0 +1,3 @@
+pub mod WorkStates
+pub mod WorkLaws
+pub mod Pieces

@@ -1,0 +1,97 @@
+-- One core at work in a thread of its own: where it stands between two calls of its worker, and what leads it on.
+use Rattle.std.specs.Prelude.{Result, ◌≡◌, ◌⊎◌, ℕ, Bool, true, false, List, [], ◌∷◌, Option}
+use Rattle.fs_errors.specs.declared.Memory.{Memory}
+use Rattle.fs_model.specs.declared.model.Request.{Request}
+use Rattle.pm_region.specs.State.{State}
+use Rattle.group_laws.specs.State.{Group}
+use Rattle.group_laws.specs.MemberViews.{View}
+use Rattle.group_board.specs.Seats.{SeatAt}
+use Rattle.core_worker.specs.declared.types.Turn.{Turn}
+use Rattle.core_worker.specs.declared.worker.Worker.{Worker}
+use Rattle.core_worker.specs.Beginning.{answers_of}
+use Rattle.core_worker.specs.PostedPlaces.{any_posted}
+use Rattle.core_worker.specs.Status.{is_leading, is_pending}
+use Rattle.core_worker.specs.Turning.{TurnMoves, TurnedTo, at_entry}
+use Rattle.core_worker.specs.WorkerMoves.{hands_of}
+use Rattle.group_engine.specs.Calls.{AreOwn, AcceptsAs, is_open}
+use Rattle.group_engine.specs.Working.{IsMember, may_take, leads}
+use Rattle.thread_engine.specs.declared.core_job.CoreJob.{CoreJob}
+
+-- Its piece of the region, its view, its worker, and the requests that the worker has not accepted yet.
+pub record WorkState : Type 0 where
+  pub region : State
+  pub view : View
+  pub worker : Worker
+  pub queue : List (ℕ × Request)
+
+-- where a core's job stands
+abbrev pub stands_at : {B P : Type 0} → (B → View) → (P → State) → CoreJob B P → WorkState
+stands_at view state x = record { region = state x.piece; view = view x.seat; worker = x.worker; queue = x.queue.items }
+
+-- with one more request, before those that wait
+abbrev pub with_next : ℕ × Request → WorkState → WorkState
+with_next x a = record a { queue = x ∷ a.queue }
+
+-- The worker is that member's, and the requests are for its keys.
+pub record IsAtWork (seat : SeatAt) (x : WorkState) : Type 0 where
+  pub member : IsMember seat.place seat.number x.region x.view x.worker
+  pub own : AreOwn seat.place seat.number x.queue
+
+-- whether the worker is handed a request
+abbrev pub takes : Worker → Bool
+takes w = is_open may_take leads w
+
+-- The worker is handed the next request, and accepts it or gives it back for want of memory. It makes no step.
+pub record Accepts (seat : SeatAt) (a b : WorkState) : Type 0 where
+  pub next : ℕ × Request
+  pub rest : List (ℕ × Request)
+  pub accepted : List (ℕ × Request)
+  pub ready : takes a.worker ≡ true
+  pub waits : a.queue ≡ next ∷ rest
+  pub either : ((accepted ≡ next ∷ []) × (b.queue ≡ rest)) ⊎ ((accepted ≡ []) × (b.queue ≡ a.queue))
+  pub region : b.region ≡ a.region
+  pub view : b.view ≡ a.view
+  pub call : AcceptsAs hands_of answers_of seat.place seat.number a.region a.view a.worker b.worker accepted
+
+-- The worker makes a turn, since it may not be handed a request, or none waits.
+pub record MakesTurn (seat : SeatAt) (refused : Bool) (a b : WorkState) : Type 0 where
+  pub none : takes a.worker ≡ true → a.queue ≡ []
+  pub queue : b.queue ≡ a.queue
+  pub before : Option Group
+  pub after : Option Group
+  pub result : Result Turn Memory
+  pub moves : TurnMoves seat a.region b.region before after a.view b.view a.worker b.worker
+  pub turned : TurnedTo result a.region refused before seat (at_entry a.worker a.view) (at_entry b.worker b.view)
+
+-- it is told to wind down
+abbrev pub wound_down : WorkState → WorkState
+wound_down a = record a { worker = record a.worker { winds_down = true } }
+
+-- One move of the core. `refused` says whether its gate may hold it back.
+pub data Move (seat : SeatAt) (refused : Bool) (a b : WorkState) : Type 0 where
+  accepts : Accepts seat a b → Move seat refused a b
+  turns : MakesTurn seat refused a b → Move seat refused a b
+  winds_down : b ≡ wound_down a → Move seat refused a b
+
+-- Moves lead from a state over these to another, and the core is at work in each of them.
+abbrev pub Leads : SeatAt → Bool → WorkState → List WorkState → WorkState → Type 0
+Leads seat refused a [] b = b ≡ a
+Leads seat refused a (x ∷ xs) b = Move seat refused a x × IsAtWork seat x × Leads seat refused x xs b
+
+-- a chain of moves
+pub record Works (seat : SeatAt) (refused : Bool) (a b : WorkState) : Type 0 where
+  pub path : List WorkState
+  pub leads : Leads seat refused a path b
+
+-- It leads nothing, and nothing of it is posted. Until it winds down each request that it was given is answered.
+pub record HasEnded (x : WorkState) : Type 0 where
+  pub leads : is_leading x.worker.leading ≡ false
+  pub posted : any_posted x.worker.places.items ≡ false
+  pub pending : x.worker.winds_down ≡ false → is_pending x.worker ≡ false
+  pub queue : x.worker.winds_down ≡ false → x.queue ≡ []
+
+-- A job so far: its seat is where it was, its core is at work, and a chain of moves led it here.
+pub record GoesOn {B P : Type 0} (seat : B → SeatAt) (view : B → View) (state : P → State) (refused : Bool) (old new : CoreJob B P) : Type 0 where
+  pub seat_is : seat new.seat ≡ seat old.seat
+  pub work : IsAtWork (seat old.seat) (stands_at view state new)
+  pub works : Works (seat old.seat) refused (stands_at view state old) (stands_at view state new)

@@ -1,0 +1,179 @@
+// One core's work, which a thread does.
+ghost use Rattle.std.specs.Prelude.{◌≡◌, ◌<◌, ◌∷◌, Bool, true, []};
+ghost use Rattle.std.specs.VecDeque.{deque_len, deque_capacity};
+ghost use Rattle.fs_model.specs.Cells.{key_of};
+ghost use Rattle.group_laws.specs.Places.{owner};
+ghost use Rattle.thread_engine.specs.declared.core_job.CoreJob as data_of;
+ghost use Rattle.thread_engine.specs.WorkStates.{IsAtWork, Accepts, MakesTurn, Move, Works, GoesOn, HasEnded, takes, stands_at, with_next};
+
+use core_worker::{Gate, Turn, Worker};
+use fs_errors::Memory;
+use fs_model::Request;
+use group_board::Board;
+use group_engine::worker_calls::CoreWorker;
+use pm_region::Region;
+use std::alloc::Global;
+use std::collections::VecDeque;
+use std::sync::Wait;
+use std::sync::atomic::{AtomicBool, Ordering};
+use std::thread;
+
+/// A core with its seat at the group's board, its piece of the region, its worker, and the requests that the worker has
+/// not accepted yet, with their numbers.
+#[derive(Drop)]
+pub struct CoreJob<B, P> {
+    pub seat: B,
+    pub piece: P,
+    pub worker: Worker,
+    pub queue: VecDeque<(u64, Request)>,
+}
+
+// Whether a worker is handed a request.
+fn is_open(worker: &Worker) -> bool
+    ensures { result ≡ takes worker.now }
+{
+    !CoreWorker::leading(worker) && CoreWorker::has_room(worker)
+}
+
+// Puts a request back to the front of the queue that it came from.
+fn put_back(queue: &mut VecDeque<(u64, Request)>, number: u64, request: Request)
+    requires { deque_len queue.old < deque_capacity queue.old }
+    ensures { queue.new.items ≡ (number, request) ∷ queue.old.items }
+{
+    queue.push_front((number, request)).unwrap();
+}
+
+impl<B: Board, P: Region> CoreJob<B, P> {
+    // Hands the worker a request. Where there is no memory for it, the request goes back to the front of the queue.
+    fn accept(&mut self, alloc: Global, number: u64, request: Request) -> Result<Turn, Memory>
+        requires work { IsAtWork (B.seat self.old.seat) (stands_at B.view P.state self.old) }
+        requires own { owner (B.seat self.old.seat).place (key_of request)
+            ≡ (B.seat self.old.seat).number }
+        requires open { takes self.old.worker ≡ true }
+        requires room { deque_len self.old.queue < deque_capacity self.old.queue }
+        ensures seat { B.seat self.new.seat ≡ B.seat self.old.seat }
+        ensures work { IsAtWork (B.seat self.old.seat) (stands_at B.view P.state self.new) }
+        ensures accepts { Accepts (B.seat self.old.seat)
+            (with_next (number, request) (stands_at B.view P.state self.old))
+            (stands_at B.view P.state self.new) }
+    {
+        match CoreWorker::accept(&mut self.worker, alloc, &self.piece, number, request) {
+            Ok(()) => Ok(Turn::Moved),
+            Err(refused) => {
+                put_back(&mut self.queue, number, refused.request);
+                Err(Memory)
+            }
+        }
+    }
+
+    // Gives the worker a turn.
+    fn turn<G: Gate>(&mut self, alloc: Global, gate: &G) -> Result<Turn, Memory>
+        requires { IsAtWork (B.seat self.old.seat) (stands_at B.view P.state self.old) }
+        ensures seat { B.seat self.new.seat ≡ B.seat self.old.seat }
+        ensures work { IsAtWork (B.seat self.old.seat) (stands_at B.view P.state self.new) }
+        ensures queue { self.new.queue ≡ self.old.queue }
+        ensures turns { (takes self.old.worker ≡ true → self.old.queue.items ≡ [])
+            → MakesTurn (B.seat self.old.seat) (G.may_refuse gate.now)
+            (stands_at B.view P.state self.old) (stands_at B.view P.state self.new) }
+    {
+        self.worker
+            .turn(alloc, &mut self.piece, &mut self.seat, gate)
+    }
+
+    // Hands the worker the next request, where it leads nothing and has room, and else gives it a turn.
+    fn step<G: Gate>(&mut self, alloc: Global, gate: &G) -> Result<Turn, Memory>
+        requires { IsAtWork (B.seat self.old.seat) (stands_at B.view P.state self.old) }
+        ensures seat { B.seat self.new.seat ≡ B.seat self.old.seat }
+        ensures work { IsAtWork (B.seat self.old.seat) (stands_at B.view P.state self.new) }
+        ensures moves { Move (B.seat self.old.seat) (G.may_refuse gate.now)
+            (stands_at B.view P.state self.old) (stands_at B.view P.state self.new) }
+    {
+        if !is_open(&self.worker) {
+            return self.turn(alloc, gate);
+        }
+        match self.queue.pop_front() {
+            Some((number, request)) => self.accept(alloc, number, request),
+            None => self.turn(alloc, gate),
+        }
+    }
+
+    // Lets the worker wind down.
+    fn wind_down(&mut self)
+        requires { IsAtWork (B.seat self.old.seat) (stands_at B.view P.state self.old) }
+        ensures seat { self.new.seat ≡ self.old.seat }
+        ensures work { IsAtWork (B.seat self.old.seat) (stands_at B.view P.state self.new) }
+        ensures works { (refused : Bool) → Works (B.seat self.old.seat) refused
+            (stands_at B.view P.state self.old) (stands_at B.view P.state self.new) }
+    {
+        self.worker.wind_down();
+    }
+
+    // Lets the worker wind down where another core's found no memory.
+    fn heed(&mut self, short: &AtomicBool)
+        requires { IsAtWork (B.seat self.old.seat) (stands_at B.view P.state self.old) }
+        ensures seat { self.new.seat ≡ self.old.seat }
+        ensures work { IsAtWork (B.seat self.old.seat) (stands_at B.view P.state self.new) }
+        ensures works { (refused : Bool) → Works (B.seat self.old.seat) refused
+            (stands_at B.view P.state self.old) (stands_at B.view P.state self.new) }
+    {
+        if !self.worker.winding_down() && short.load(Ordering::SeqCst) {
+            self.wind_down();
+        }
+    }
+
+    // Makes a move. Where the worker finds no memory, it winds down, and the other cores are told to.
+    fn go_on<G: Gate>(&mut self, alloc: Global, gate: &G, short: &AtomicBool)
+        requires { IsAtWork (B.seat self.old.seat) (stands_at B.view P.state self.old) }
+        ensures seat { B.seat self.new.seat ≡ B.seat self.old.seat }
+        ensures work { IsAtWork (B.seat self.old.seat) (stands_at B.view P.state self.new) }
+        ensures works { Works (B.seat self.old.seat) (G.may_refuse gate.now)
+            (stands_at B.view P.state self.old) (stands_at B.view P.state self.new) }
+    {
+        match self.step(alloc, gate) {
+            Ok(Turn::Moved) => {}
+            Ok(Turn::Idle) => thread::yield_now(),
+            Err(Memory) => {
+                short.store(true, Ordering::SeqCst);
+                self.wind_down();
+            }
+        }
+    }
+
+    // One round: what the other cores say is heeded, and a move is made.
+    fn round<G: Gate>(&mut self, alloc: Global, gate: &G, short: &AtomicBool)
+        requires { IsAtWork (B.seat self.old.seat) (stands_at B.view P.state self.old) }
+        ensures { (first : data_of.CoreJob B P)
+            → GoesOn B.seat B.view P.state (G.may_refuse gate.now) first self.old
+            → GoesOn B.seat B.view P.state (G.may_refuse gate.now) first self.new }
+    {
+        self.heed(short);
+        self.go_on(alloc, gate, short);
+    }
+
+    // Whether nothing is left to do.
+    fn has_ended(&self) -> bool
+        ensures { result ≡ true → HasEnded (stands_at B.view P.state self.now) }
+    {
+        !Worker::leading(&self.worker)
+            && !self.worker.has_posted()
+            && (self.worker.winding_down() || (!self.worker.pending() && self.queue.is_empty()))
+    }
+
+    /// Works the requests off, until all are answered and the worker leads nothing. It waits for nobody: where there is
+    /// nothing to do it asks again. A worker that finds no memory says so to the others, and all of them finish what is
+    /// posted or taken and begin nothing more.
+    #[tactic(auto, using(crate::proofs::WorkMoves::none_yet))]
+    pub fn work<G: Gate>(&mut self, rt: &impl Wait, alloc: Global, gate: &G, short: &AtomicBool)
+        requires { IsAtWork (B.seat self.old.seat) (stands_at B.view P.state self.old) }
+        ensures worked { GoesOn B.seat B.view P.state (G.may_refuse gate.now) self.old self.new }
+        ensures ended { HasEnded (stands_at B.view P.state self.new) }
+    {
+        for _ in rt.forever() {
+            self.round(alloc, gate, short);
+            if self.has_ended() {
+                return;
+            }
+        }
+        unreachable!()
+    }
+}

@@ -1,0 +1,44 @@
+// All cores at work, each in a thread of its own.
+ghost use Rattle.std.specs.Prelude.{◌≡◌, ℕ, ◌<◌, length, slice_index_or};
+ghost use Rattle.thread_engine.specs.declared.core_job.CoreJob as data_of;
+ghost use Rattle.thread_engine.specs.WorkStates.{IsAtWork, GoesOn, HasEnded, stands_at};
+
+use crate::core_job::CoreJob;
+use core_worker::Gate;
+use group_board::Board;
+use pm_region::Region;
+use std::alloc::Global;
+use std::sync::Wait;
+use std::sync::atomic::AtomicBool;
+use std::thread;
+use std::thread::Threads;
+
+/// Does the work of all cores, each in a thread of its own, and returns when all have ended. Where a thread can't be
+/// started, its core's work is done by another one, before or after its own. It takes no memory.
+pub fn work_all<R: Threads + Wait + Sync, B: Board + Send, P: Region + Send, G: Gate + Sync>(
+    rt: &R,
+    alloc: Global,
+    jobs: &mut [CoreJob<B, P>],
+    gate: &G,
+)
+    requires { (c : ℕ) (d : data_of.CoreJob B P) → c < length jobs.old
+        → IsAtWork (B.seat (slice_index_or jobs.old c d).seat)
+        (stands_at B.view P.state (slice_index_or jobs.old c d)) }
+    ensures worked { (c : ℕ) (d : data_of.CoreJob B P) → c < length jobs.old
+        → GoesOn B.seat B.view P.state (G.may_refuse gate.now)
+        (slice_index_or jobs.old c d) (slice_index_or jobs.new c d) }
+    ensures ended { (c : ℕ) (d : data_of.CoreJob B P) → c < length jobs.old
+        → HasEnded (stands_at B.view P.state (slice_index_or jobs.new c d)) }
+{
+    if jobs.is_empty() {
+        return;
+    }
+    let short = AtomicBool::new(false);
+    let threads = jobs.len();
+    thread::for_each_mut(
+        rt,
+        jobs,
+        threads,
+        &|_, job| job.work(rt, alloc, gate, &short),
+    );
+}

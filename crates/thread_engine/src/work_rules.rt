@@ -1,0 +1,44 @@
+// The laws of a core's work.
+ghost use Rattle.std.specs.Prelude.{ℕ, Bool};
+ghost use Rattle.pm_region.specs.State.{State, IsTelling, cell_now};
+ghost use Rattle.pm_region.specs.Split.{TakesPiece};
+ghost use Rattle.group_laws.specs.Places.{Place};
+ghost use Rattle.group_laws.specs.MemberViews.{View};
+ghost use Rattle.licence.specs.Licence.{Licensed};
+ghost use Rattle.core_worker.specs.declared.worker.Worker.{Worker};
+ghost use Rattle.group_engine.specs.Working.{IsMember};
+ghost use Rattle.thread_engine.specs.Pieces.{IsPieceOf, HasPart};
+ghost use Rattle.group_board.specs.Seats.{SeatAt};
+ghost use Rattle.thread_engine.specs.WorkStates.{WorkState, IsAtWork, Works, HasEnded};
+ghost use Rattle.thread_engine.specs.WorkLaws.{KeepsDoubts, WorksOff, HasRested};
+
+use engine_laws::engine_rules;
+
+/// A chain of a core's moves, whatever the other cores of its group did between them: its requests are accepted in their
+/// order, each key's are answered in the order of their arrival, and each key is where its answers led it.
+pub fn every_chain()
+    ensures { (seat : SeatAt) (refused : Bool) (a b : WorkState)
+        → IsAtWork seat a → KeepsDoubts seat a.view → Works seat refused a b
+        → WorksOff seat a b × KeepsDoubts seat b.view }
+{
+    engine_rules::every_key();
+}
+
+/// A core that has ended leads nothing, has nothing posted and nothing taken, and its part is licensed by its view. Unless
+/// there was no memory, each request that it was given is answered.
+pub fn every_end()
+    ensures { (seat : SeatAt) (x : WorkState) → IsAtWork seat x → HasEnded x → HasRested seat x }
+{}
+
+/// A worker that is tied to a region is so to its piece.
+pub fn every_piece()
+    ensures { (s t : State) (p : Place) (m : ℕ) (v : View) (w : Worker)
+        → IsMember p m s v w → IsPieceOf p m s t → IsMember p m t v w }
+{}
+
+/// What a piece licensed at its end, the joined region does.
+pub fn every_join()
+    ensures { (t new : State) (p : Place) (m : ℕ) (v : View) → HasPart p m t → TakesPiece new t
+        → (IsTelling t → Licensed p m v (cell_now t))
+        → IsTelling new → Licensed p m v (cell_now new) }
+{}
