@@ -1,21 +1,20 @@
 -- Why what a report refuses was refused.
-use Rattle.std.proofs.Common.{◌≡◌, ◌⊎◌, inl, inr, ℕ, zero, suc, ◌+◌, ◌%◌, ◌<◌, ◌≤◌, List, [], ◌∷◌, ◌++◌, map, length, take, refl, sym, ◌∙◌, ap, subst, arith, true, false, Bool, Option, Some, None}
+use Rattle.std.proofs.Common.{◌≡◌, ℕ, zero, suc, ◌+◌, ◌%◌, ◌<◌, ◌≤◌, List, [], ◌∷◌, ◌++◌, map, length, take, refl, sym, ◌∙◌, ap, subst, arith, true, false, Bool, Option, Some, None}
 use Rattle.std.specs.Prelude.{slice_get, option_map}
 use Rattle.std.specs.List.{AllByRecursion}
 use Rattle.fs_model.specs.declared.model.Request.{Request}
 use Rattle.fs_model.specs.declared.model.Request.TheVariants.{Put, Get, Delete}
-use Rattle.fs_model.specs.declared.model.Reply.{Reply}
 use Rattle.fs_model.specs.declared.model.Reply.TheVariants.{Full, VersionsSpent, TooLong}
 use Rattle.fs_model.specs.Cells.{key_of}
 use Rattle.fs_model.specs.Lawful.{is_told}
 use Rattle.log_entry.specs.declared.entry_limits.TheConstants.{LAST_PUT_VERSION}
 use Rattle.chunk_map.specs.declared.layouts.Geometry.{Geometry}
-use Rattle.chunk_map.specs.Layouts.{layout_of, owner, superblock_rule}
+use Rattle.chunk_map.specs.Layouts.{layout_of, owner}
 use Rattle.core_room.specs.declared.types.Shortage.{Shortage}
 use Rattle.core_room.specs.declared.types.Shortage.TheVariants as causes
 use Rattle.headline.specs.Ample.{IsAmpleFor}
-use Rattle.headline.specs.Limits.{IsAsked, version_of, changes_asked, is_too_long, HasVersions, IsWithinLimits}
-use Rattle.engine_laws.specs.Engine.{Engine, Answer}
+use Rattle.headline.specs.Limits.{IsAsked, version_of, changes_asked, is_too_long, IsWithinLimits}
+use Rattle.engine_laws.specs.Engine.{Answer}
 use Rattle.headline.specs.Kinds.{AreReplies, is_reply_to}
 use Rattle.engine_laws.specs.Reports.{named_from, reply_of, replies_from}
 use Rattle.group_engine.specs.declared.run_report.Refusal.{Refusal}

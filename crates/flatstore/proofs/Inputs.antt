@@ -1,5 +1,5 @@
 -- The lines of an input, and what its requests are.
-use Rattle.std.proofs.Common.{◌≡◌, ℕ, ◌+◌, ◌-◌, ◌≤◌, ◌<◌, arith, List, [], ◌∷◌, refl, ◌∙◌, ap, Ok}
+use Rattle.std.proofs.Common.{◌≡◌, ℕ, ◌≤◌, arith, List, [], ◌∷◌, refl, ◌∙◌, ap, Ok}
 use Rattle.std.specs.List.{AllByRecursion, filter_map}
 use Rattle.fs_text.specs.declared.line.Line.{Line}
 use Rattle.fs_text.specs.declared.line.Line.TheVariants.{Ask, Go}

@@ -1,5 +1,5 @@
 -- What a report names stands in the order of the requests, and is an answer.
-use Rattle.std.proofs.Common.{◌≡◌, ℕ, zero, suc, ◌+◌, ◌<◌, ◌≤◌, List, [], ◌∷◌, ◌++◌, map, length, refl, sym, ◌∙◌, ap, subst, arith, true, false, Bool, cond, Option, Some, None}
+use Rattle.std.proofs.Common.{◌≡◌, ℕ, zero, suc, ◌+◌, ◌<◌, ◌≤◌, List, [], ◌∷◌, ◌++◌, map, refl, arith, true, false, Bool, cond, Option, Some, None}
 use Rattle.std.specs.List.{AllByRecursion}
 use Rattle.fs_model.specs.declared.model.Reply.{Reply}
 use Rattle.engine_laws.specs.Engine.{Answer}

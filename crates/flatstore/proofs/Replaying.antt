@@ -1,7 +1,7 @@
 -- From the last state of a run to what the program promises.
-use Rattle.std.proofs.Common.{◌≡◌, ◌≢◌, ◌⊎◌, inl, inr, ℕ, ◌/◌, ◌<◌, ◌≤◌, List, [], ◌∷◌, ◌++◌, length, refl, sym, ◌∙◌, ap, subst, arith, true, false, Bool, Option, Some, None, append-nil, map, take, ◌+◌, ◌%◌, length-append, Ok}
+use Rattle.std.proofs.Common.{◌≡◌, ◌≢◌, ◌⊎◌, inl, inr, ℕ, ◌/◌, ◌<◌, ◌≤◌, List, [], ◌∷◌, ◌++◌, length, refl, sym, ◌∙◌, ap, subst, arith, true, false, Bool, Option, None, append-nil, map, take, ◌+◌, ◌%◌, length-append, Ok}
 use Rattle.std.specs.List.{AllByRecursion}
-use Rattle.pm_region.specs.State.{State, Frame, IsTold, IsTelling, MayLeave, Rose, cell_now}
+use Rattle.pm_region.specs.State.{State, Frame, IsTelling, MayLeave, Rose, cell_now}
 use Rattle.pm_region.specs.Split.{Attached, IsOpenedOnceMore}
 use Rattle.pm_region.specs.Words.{lasts}
 use Rattle.fs_model.specs.declared.model.Request.{Request}
@@ -17,7 +17,6 @@ use Rattle.chunk_map.specs.declared.layouts.Geometry.{Geometry}
 use Rattle.chunk_map.specs.Layouts.{layout_of, superblock_rule, owner}
 use Rattle.store_image.specs.Soundness.{IsSound, first_fault}
 use Rattle.store_image.proofs.Agree.{cells_agree, fault_agrees}
-use Rattle.store_image.proofs.Places.{superblock_facts}
 use Rattle.store_image.proofs.SoundLaws.{has_layout}
 use Rattle.headline.specs.Headline.{Answers, Told, finished_in, refused_in, cells_of, Recovers, RecoversThroughout, RecoversAll, changes_in}
 use Rattle.headline.specs.Kinds.{AreReplies}
@@ -30,7 +29,6 @@ use Rattle.engine_laws.specs.Promises.{IsOrigin, Promised, IsDone, HasStopped, A
 use Rattle.engine_laws.specs.Ran.{Ran}
 use Rattle.engine_laws.specs.Ran as runs
 use Rattle.engine_laws.specs.Reports.{told_of, replies_of, replies_from, AllAnswered}
-use Rattle.group_engine.specs.declared.run_outcome.End.{End}
 use Rattle.group_engine.specs.declared.run_outcome.End.TheVariants as ends
 use Rattle.group_engine.specs.declared.run_outcome.Outcome.{Outcome}
 use Rattle.group_engine.specs.Replayed.{report_in}

@@ -1,12 +1,12 @@
 -- What was recovered of a region that was just attached, and how many cores it has.
-use Rattle.std.proofs.Common.{◌≡◌, ℕ, ◌/◌, ◌≤◌, ◌<◌, refl, sym, ◌∙◌, ap, subst, arith, cond, None, List}
+use Rattle.std.proofs.Common.{◌≡◌, ℕ, ◌/◌, ◌≤◌, ◌<◌, sym, ◌∙◌, ap, subst, arith, cond}
 use Rattle.std.proofs.lemmas.Bool.{le-leb}
 use Rattle.pm_region.specs.Cell.{certain, MayBe}
 use Rattle.pm_region.specs.State.{State, IsTelling, InRange, cell_now}
 use Rattle.pm_region.specs.Words.{lasts}
 use Rattle.pm_region.specs.Split.{words_in}
 use Rattle.chunk_map.specs.declared.layouts.Geometry.{Geometry}
-use Rattle.chunk_map.specs.Layouts.{layout_of, total_bytes}
+use Rattle.chunk_map.specs.Layouts.{layout_of}
 use Rattle.chunk_map.proofs.LayoutLaws.{numbers_of}
 use Rattle.store_image.specs.Soundness.{first_fault}
 use Rattle.store_image.proofs.SoundFacts.{store_sound}

@@ -1,5 +1,5 @@
 -- Texts of replies, whole and in part.
-use Rattle.std.proofs.Common.{◌≡◌, ℕ, ◌≤◌, ◌/◌, List, [], ◌++◌, refl, sym, ◌∙◌, subst, arith, true, false, Bool, Option, Some, None, append-nil}
+use Rattle.std.proofs.Common.{◌≡◌, ℕ, ◌≤◌, List, [], refl, sym, ◌∙◌, subst, arith, true, false, Bool, Option, Some, None, append-nil}
 use Rattle.fs_model.specs.declared.model.Request.{Request}
 use Rattle.fs_model.specs.declared.model.Reply.{Reply}
 use Rattle.fs_text.specs.Streams.{Takes, TakesPrefix}

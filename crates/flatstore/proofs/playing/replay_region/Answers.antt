@@ -1,10 +1,9 @@
 -- The promise, where the lines were run and where nothing was read.
-use Rattle.std.proofs.Common.{List, ℕ, refl, sym, ◌∙◌, ap, subst}
+use Rattle.std.proofs.Common.{List, ℕ, sym, ap, subst}
 use Rattle.flatstore.specs.Promise.{IsInput, Replays}
 use Rattle.flatstore.proofs.Opened.{granted_by}
 use Rattle.flatstore.proofs.Replaying.{promise}
 use Rattle.flatstore.proofs.Refused.{refused_replays}
-use Rattle.group_engine.specs.Reports.{told}
 use Rattle.flatstore.proofs.playing.replay_region.Goals as goal
 
 pub returns-in-Err-clause-replay : goal.returns-in-Err-clause-replay

@@ -1,8 +1,6 @@
 -- A region that is recovered, and lines that were read for so many cores.
-use Rattle.std.proofs.Common.{◌≡◌, Bool, true, false, inr, sym, ◌∙◌, ap, subst}
-use Rattle.chunk_map.specs.declared.layouts.Geometry.{Geometry}
+use Rattle.std.proofs.Common.{◌≡◌, Bool, true, false, inr, sym, ◌∙◌, subst}
 use Rattle.fs_text.specs.Bounds.{IsWithin}
-use Rattle.group_engine.specs.Replayed.{Replayed}
 use Rattle.flatstore.specs.Ordering.{is_of_region}
 use Rattle.flatstore.proofs.Inputs.{names_cores}
 use Rattle.flatstore.proofs.Refused.{unread_apart}
