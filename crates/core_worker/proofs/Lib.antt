@@ -86,3 +86,5 @@ pub mod Starting
 mod PartsGiven
 pub mod Clients
 mod Trials
+mod ReachedWords
+mod GateTrials

@@ -12,7 +12,7 @@ use Rattle.recover.specs.declared.types.CoreStart.{CoreStart}
 use Rattle.recover.specs.declared.types.Recovered.{Recovered}
 use Rattle.recover.specs.Regions.{IsCertain}
 use Rattle.recover.specs.Recovering.{IsMade, IsFound, AllStand}
-use Rattle.group_laws.specs.Places.{Place}
+use Rattle.group_laws.specs.Places.{Place, owner}
 use Rattle.group_laws.specs.Regions.{place_at}
 use Rattle.group_laws.proofs.GroupEntries as entries
 use Rattle.core_worker.specs.declared.worker.Worker.{Worker}
@@ -20,7 +20,7 @@ use Rattle.core_worker.specs.Accepting.{HasTie}
 use Rattle.core_worker.specs.Order.{InOrder}
 use Rattle.core_worker.specs.Ties.{Holds, Stands}
 use Rattle.core_worker.specs.Openings.{IsNew, IsStartAt, IsCertainAt, ByEachImage, opened_view}
-use Rattle.core_worker.specs.Trials.{MayAccept}
+use Rattle.core_worker.specs.Trials.{MayAccept, IsSeated}
 use Rattle.core_worker.proofs.Clients.{start_at, certain_at, new_room, new_idle, core_is}
 use Rattle.core_worker.proofs.StartBlocks.{own_of}
 
@@ -51,16 +51,25 @@ module _ (s : State) (r : Recovered) (core : ℕ) (d start : CoreStart) (w : Wor
   here : IsCertainAt s p m (lasts s) start
   here = certain_at s p m (lasts s) start at (subst (λ (x : CoreStart). StandsIn s x.log) (sym is) (stand core d within)) (omega (arith, first, words)) (λ telling. certain telling)
 
+  pub own : (k : ℕ) → k % 8 ≡ core → owner p k ≡ m
+  own k is = own_of p m k (entries.some_group p (lasts s) at.place at.rules) at.member (ap (λ (n : ℕ). k % n) eight ∙ is ∙ sym (core_is l core))
+
   tied : Holds p m (opened_view p m (lasts s)) w → Stands s p m (opened_view p m (lasts s)) w → InOrder p m (opened_view p m (lasts s)) w → (k : ℕ) → k % 8 ≡ core → HasTie s w k
-  tied holds stands order k own = (
+  tied holds stands order k is = (
     record { place = p; number = m; view = opened_view p m (lasts s) },
-    record {
-      holds = holds;
-      stands = stands;
-      own = own_of p m k (entries.some_group p (lasts s) at.place at.rules) at.member (ap (λ (n : ℕ). k % n) eight ∙ own ∙ sym (core_is l core));
-      order = order;
-    },
+    record { holds = holds; stands = stands; own = own k is; order = order },
   )
+
+  -- it is seated as its member
+  pub seated : ByEachImage start r.layout (λ p m image. Holds p m (opened_view p m image) w)
+      → ByEachImage start r.layout (λ p m image. (t : State) → IsCertainAt t p m image start → Stands t p m (opened_view p m image) w)
+      → ByEachImage start r.layout (λ p m image. InOrder p m (opened_view p m image) w)
+      → IsSeated s p m (opened_view p m (lasts s)) w
+  seated holds stands order = record {
+    holds = holds p m (lasts s) (λ i. l) at;
+    stands = stands p m (lasts s) (λ i. l) at s here;
+    order = order p m (lasts s) (λ i. l) at;
+  }
 
   pub may_accept : ByEachImage start r.layout (λ p m image. Holds p m (opened_view p m image) w)
       → ByEachImage start r.layout (λ p m image. (t : State) → IsCertainAt t p m image start → Stands t p m (opened_view p m image) w)

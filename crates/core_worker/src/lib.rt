@@ -7,6 +7,8 @@ mod begin_request;
 mod choose_item;
 mod finish_item;
 mod gate;
+#[cfg(test)]
+mod gate_tests;
 mod hearing;
 mod lead_items;
 mod open_worker;

@@ -63,7 +63,7 @@ fn bytes_of(alloc: Global, writes: &[(usize, u64)]) -> Result<Vec<u8>, Memory> {
 }
 
 /// A region with these words, attached.
-fn attached(alloc: Global) -> Result<SteadyRegion, Fail>
+pub(crate) fn attached(alloc: Global) -> Result<SteadyRegion, Fail>
     ensures first { IfOk result (λ r. (steady_state r).frame.first ≡ 0) }
     ensures tells { IfOk result (λ r. IsTelling (steady_state r)) }
     ensures certain { IfOk result (λ r. IsCertain (steady_state r)) }
