@@ -14,6 +14,10 @@ const UNSTOLEN: &str = "put 4 a\nput 1 x\nget 4\nput 4 b\nget 4\n";
 
 const FAILS_THIRD: &str = "put 0 a\nput 1 b\nget 0\nget 1\n";
 
+// Core 1 takes the change of key 0, and its batch fails, while that of key 2 stands posted: its core stops, and takes it
+// back.
+const WITHDRAWN: &str = "put 0 a\ngo 0 2\nput 1 x\ngo 1 6\nput 2 b\ngo 0 2\ngo 1 3\n";
+
 // The bytes of a fresh region: so many cores in groups, each with 4 chunks of 4,096 bytes.
 fn fresh_of(alloc: Global, cores: u8, group: u8) -> Result<Vec<u8>, AllocError> {
     let mut bytes = with(alloc, &[(16, cores), (24, group)])?;
@@ -271,6 +275,21 @@ fn a_core_that_stops(rt: HostRuntime) -> Result<(), Fail> {
         assert_eq!(rt; written.as_slice(), text.as_bytes());
         assert!(rt; has_all(alloc, &region, &report, &changes)?);
     }
+    Ok(())
+}
+
+#[test]
+fn a_change_that_is_taken_back(rt: HostRuntime) -> Result<(), Fail> {
+    let alloc = rt.alloc();
+    let mut region = region_of(alloc, 2, &[1])?;
+    let (report, written) = replay(alloc, &mut region, WITHDRAWN)?;
+    assert_eq!(rt; report.status, Status::RegionFault);
+    assert_eq!(rt;
+        written.as_slice(),
+        b"stopped\nstopped\nstopped\n".as_slice()
+    );
+    assert!(rt; report.finishes.is_empty());
+    assert!(rt; log_of(alloc, &mut region)?.is_empty());
     Ok(())
 }
 
