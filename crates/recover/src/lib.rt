@@ -9,6 +9,7 @@
 #![tactic(auto)]
 
 mod clashes;
+mod entry_list;
 mod gather_region;
 mod judge_winners;
 mod key_standees;
@@ -27,6 +28,7 @@ mod tests;
 mod types;
 mod winning;
 
+pub use entry_list::log_entries;
 pub use live::live_pairs;
 pub use pair_list::pairs;
 pub use recover_region::{first_fault, recover};
