@@ -6,10 +6,11 @@ use crate::image_bytes::words_of;
 use chunk_map::layout_sizes::SUPERBLOCK_BYTES;
 use fs_errors::Memory;
 use fs_model::Pair;
+use image_yardstick::image_superblock::read_layout;
+use image_yardstick::{first_fault, recovered_cells};
 use pm_region::MOST_BYTES;
 use std::alloc::Global;
-use store_image::image_superblock::read_layout;
-use store_image::{Fault, first_fault, recovered_cells};
+use store_image::Fault;
 
 /// What an image says.
 #[derive(Drop)]

@@ -10,7 +10,7 @@ use fs_errors::Memory;
 use fs_model::{Key, Version};
 use std::alloc::Global;
 use std::collections::BTreeMap;
-use store_image::entry_rules::contradicts;
+use store_image::contradictions::contradicts;
 use store_image::{Fault, PlacedEntry};
 
 /// Whether an entry contradicts one before it. The map has the first entry of each key and version.

@@ -20,8 +20,8 @@ use chunk_map::{Head, Layout, read_head};
 use fs_errors::Memory;
 use pm_region::Region;
 use std::alloc::Global;
-use store_image::chunks::log_rule;
-use store_image::gather_image::place_entries;
+use store_image::log_rules::log_rule;
+use store_image::placing::place_entries;
 use store_image::scanning::{Scanned, scan};
 use store_image::{Fault, PlacedEntry};
 

@@ -18,7 +18,7 @@ use log_entry::Body;
 use pm_region::Region;
 use std::alloc::Global;
 use store_image::geometry::owner;
-use store_image::image_cells::push_pair;
+use store_image::live_pair::push_pair;
 use store_image::{Fault, PlacedEntry};
 
 /// The value that an entry leaves, where it leaves one. A value in a block of the part is read from the region.

@@ -25,7 +25,7 @@ use pm_region::Region;
 use std::alloc::Global;
 use std::collections::BTreeSet;
 use store_image::geometry::owner;
-use store_image::image_cells::push_pair;
+use store_image::live_pair::push_pair;
 
 /// Puts a core's live keys in.
 fn add_live(alloc: Global, index: &CoreIndex, keys: &mut BTreeSet<Key>) -> Result<(), Memory>

@@ -13,7 +13,7 @@ use fs_model::Value;
 use lazy_alloc::value_in;
 use pm_region::{Region, WORD_BYTES};
 use std::alloc::Global;
-use store_image::image_blocks::is_start;
+use store_image::block_starts::is_start;
 
 /// The class of the block that begins at a pointer, where a block of the part does. A pointer is the number
 /// of the block's first byte in the region divided by 256.
