@@ -85,8 +85,11 @@ alike p v = group_of p None (λ a s. Empty) (λ a b. None) (λ h. v)
 
 -- the view after the two rules on the keys of m; the names are all that may stand of them
 abbrev pub tidied_in : List EntryName → Place → ℕ → View → View
-tidied_in ns p m v = record v { last = (tidied (alike p v) ns m).last;
-    told = (tidied (alike p v) ns m).told; dead = (tidied (alike p v) ns m).dead m }
+tidied_in ns p m v = record v {
+  last = (tidied (alike p v) ns m).last;
+  told = (tidied (alike p v) ns m).told;
+  dead = (tidied (alike p v) ns m).dead m;
+}
 
 -- the list has each name that stands by the view
 abbrev pub CoversIn : List EntryName → View → Type 0

@@ -178,8 +178,10 @@ over e (Some h) = Finish e h
 abbrev pub tells_finish : Tells
 tells_finish st m r n = (t : ℕ) → t < 8 → st.word ≡ pool_word (size (origin_in m.0))
     (number_in m.0) t
-    → (e : Entry) × (home : Option ℕ) × (n ≡ (did (over e home) m.0,
-    (pool_place (number_in m.0) t, lies e home) ∷ m.1))
+    → (e : Entry) × (home : Option ℕ) × (n ≡ (
+      did (over e home) m.0,
+      (pool_place (number_in m.0) t, lies e home) ∷ m.1,
+    ))
     × Stands (place_of (origin_in m.0)) (number_in m.0) (view_in m.0) t e
     × MatchOption home (In (loads.Slot (number_in m.0) t words.Failed) (view_in m.0).looked)
     (λ h. In (loads.Slot (number_in m.0) t (words.Done h)) (view_in m.0).looked)
@@ -217,9 +219,11 @@ gripping g Spent = Spent
 -- a load of an outgoing mailbox: where it is empty, its slot is taken in hand
 abbrev pub tells_try_send : Tells
 tells_try_send st m r n = (to : ℕ) → st.word ≡ mail_word (size (origin_in m.0)) (number_in m.0) to
-    → ((r ≡ 0) × (n ≡ (gripping (grip_at (pool_place (number_in m.0) to) [] [])
-    (did (Found (loads.Mail (number_in m.0) to false)) m.0),
-    (mail_place (size (origin_in m.0)) (number_in m.0) to, None) ∷ m.1)))
+    → ((r ≡ 0) × (n ≡ (
+      gripping (grip_at (pool_place (number_in m.0) to) [] [])
+          (did (Found (loads.Mail (number_in m.0) to false)) m.0),
+      (mail_place (size (origin_in m.0)) (number_in m.0) to, None) ∷ m.1,
+    )))
     ⊎ ((r ≢ 0) × (n ≡ (did (Found (loads.Mail (number_in m.0) to true)) m.0, m.1)))
 
 abbrev pub tells_send : Tells
@@ -231,10 +235,12 @@ tells_send st m r n = (to : ℕ) (q : Notices) → st.word
 
 -- the seat has the slot of an incoming mailbox in hand, and what lies there
 abbrev pub Fetched : SeatState → SeatState → ℕ → Type 0
-Fetched m n from = (q : Notices) × (n ≡ (gripping (grip_at
-    (pool_place from (number_in m.0)) q.dead.names q.gone.names)
-    (did (Found (loads.Mail from (number_in m.0) true)) m.0),
-    (mail_place (size (origin_in m.0)) from (number_in m.0), Some (parcels.Notices q)) ∷ m.1))
+Fetched m n from = (q : Notices) × (n ≡ (
+  gripping (grip_at
+      (pool_place from (number_in m.0)) q.dead.names q.gone.names)
+      (did (Found (loads.Mail from (number_in m.0) true)) m.0),
+  (mail_place (size (origin_in m.0)) from (number_in m.0), Some (parcels.Notices q)) ∷ m.1,
+))
     × IsHeard (place_of (origin_in m.0)) (number_in m.0) from (view_in m.0) (notices_of q)
 
 -- a load of an incoming mailbox: where it is full, its slot is taken in hand
@@ -245,8 +251,11 @@ tells_try_receive st m r n = (from : ℕ) → from < size (origin_in m.0)
     ⊎ ((r ≡ 0) × (n ≡ (did (Found (loads.Mail from (number_in m.0) false)) m.0, m.1)))
 
 abbrev pub tells_receive : Tells
-tells_receive st m r n = (n ≡ (gripping None (did (Receive (gripped (hand_in m.0)).dead
-    (gripped (hand_in m.0)).gone) m.0), rest m.1))
+tells_receive st m r n = (n ≡ (
+  gripping None (did (Receive (gripped (hand_in m.0)).dead
+      (gripped (hand_in m.0)).gone) m.0),
+  rest m.1,
+))
     × TidiedIn (place_of (origin_in m.0)) (number_in m.0)
     (after_receive (place_of (origin_in m.0)) (number_in m.0) (gripped (hand_in m.0)) (view_in m.0))
     (view_in n.0)

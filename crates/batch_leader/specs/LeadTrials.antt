@@ -23,8 +23,10 @@ use Rattle.batch_leader.specs.Rounds.{words_in}
 
 -- a put of the byte 97 under a key
 abbrev pub put_of : ℕ → Change
-put_of k = record { entry = record { key = k; version = 1; body = Embedded (97 ∷ []) };
-    home = None }
+put_of k = record {
+  entry = record { key = k; version = 1; body = Embedded (97 ∷ []) };
+  home = None;
+}
 
 -- an empty part of 4 chunks
 abbrev pub empty_room : Room

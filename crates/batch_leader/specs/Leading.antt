@@ -80,8 +80,11 @@ Suits room c = taken_by c ≢ [] → HasSpace room c.fresh c.own_lines (words_in
 -- looks of member m at n slots of its round, from a position on
 abbrev pub looks_upto : ℕ → ℕ → ℕ → List (ℕ × Kind)
 looks_upto m at zero = []
-looks_upto m at (suc n) = looks_upto m at n ++ (m, Look (member_at m (at + n))
-    (slot_at (at + n))) ∷ []
+looks_upto m at (suc n) = looks_upto m at n ++ (
+  m,
+  Look (member_at m (at + n))
+      (slot_at (at + n)),
+) ∷ []
 
 -- These steps lead from the one told state to the other, where member m's view is v.
 abbrev pub MakesAll : Option Group → List (ℕ × Kind) → Option Group → ℕ → View → Type 0
@@ -191,8 +194,10 @@ pub record TakesBack (before after : Option Group) (m : ℕ) (v v' : View)
   pub within : slot < 8
   pub lower : NonePosted before m slot
   pub home : change.home ≡ None
-  pub pending : v.pending change.entry.key ≡ Some (record { entry = change.entry;
-      slot = Some slot })
+  pub pending : v.pending change.entry.key ≡ Some (record {
+    entry = change.entry;
+    slot = Some slot;
+  })
   pub view : v' ≡ after_withdraw change.entry v
   pub made : MakesAll before (looks_upto m 0 (slot + 1) ++ (m, Withdraw slot) ∷ []) after m v'
 

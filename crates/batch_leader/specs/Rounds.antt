@@ -65,8 +65,8 @@ leaves_room room own ts fresh n = nat_le (room.pledged_lines - own)
 unfoldable pub fits : Room → ℕ → List Taken → Bool → Bool → ℕ → Bool
 fits room own ts fresh mine n =
     nat_le n 34 && (stays_in room ts (goes_fresh room ts fresh n) n &&
-        (has_chunk room (goes_fresh room ts fresh n) &&
-        (mine || leaves_room room own ts (goes_fresh room ts fresh n) n)))
+    (has_chunk room (goes_fresh room ts fresh n) &&
+    (mine || leaves_room room own ts (goes_fresh room ts fresh n) n)))
 
 -- what a look found makes the round pass the slot: it isn't Posted, or its entry doesn't fit
 abbrev pub Passes : Room → ℕ → List Taken → Bool → Bool → SlotState → Type 0

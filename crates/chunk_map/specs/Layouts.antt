@@ -95,7 +95,7 @@ head_by l kind tail =
     else (if kind == 1 then (if tail % 8 == 0 && nat_le tail (payload_words l) then Ok (Log tail)
     else Err 5)
     else (if kind % CLASS_FACTOR == 2 && is_class l (kind / CLASS_FACTOR) then Ok
-        (Data (kind / CLASS_FACTOR)) else Err 4))
+    (Data (kind / CLASS_FACTOR)) else Err 4))
 
 abbrev pub head_at : Geometry → (ℕ → ℕ) → ℕ → Result Head ℕ
 head_at l image at = head_by l (image at) (image (at + 1))

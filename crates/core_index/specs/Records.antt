@@ -67,8 +67,11 @@ block_of (Some r) = pointer_of r.body
 
 -- the record after a finished change whose entry stands at this home
 abbrev pub settled : Option KeyRecord → ℕ → Body → ℕ → KeyRecord
-settled o v body home = record { version = v; body = body;
-    standing = standing_of o ++ standing_with v home false ∷ [] }
+settled o v body home = record {
+  version = v;
+  body = body;
+  standing = standing_of o ++ standing_with v home false ∷ [];
+}
 
 abbrev pub told : List Standing → ℕ → List Standing
 told [] v = []

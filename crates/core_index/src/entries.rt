@@ -30,8 +30,11 @@ impl Model for Entries {
 
     ghost Value = { Marks };
 
-    ghost view = { λ a. record { items = kept a.marks.items;
-        room = vec_capacity a.marks - length a.marks.items; top = a.top } };
+    ghost view = { λ a. record {
+      items = kept a.marks.items;
+      room = vec_capacity a.marks - length a.marks.items;
+      top = a.top;
+    } };
 
     ghost invariant = { λ a. AreMarks a.marks.items a.left a.top };
 }

@@ -23,8 +23,10 @@ pub fn settle_at(
     requires room { 0 < room_at slots.old.entries key }
     requires next { version ≡ last_of (known_at slots.old.entries key) + 1 }
     ensures step { Step slots.old.entries slots.new.entries key
-        (Some (record { known = Some (settled (known_at slots.old.entries key) version body home);
-        room = room_at slots.old.entries key - 1 })) }
+        (Some (record {
+          known = Some (settled (known_at slots.old.entries key) version body home);
+          room = room_at slots.old.entries key - 1;
+        })) }
     ensures replaced { result.replaced ≡ block_of (known_at slots.old.entries key) }
     ensures dead { OnlyDead (known_at slots.old.entries key)
         (known_at slots.new.entries key) result.dead }
@@ -43,8 +45,10 @@ pub fn settle_at(
 // Makes room for one more change of a key.
 pub fn reserve_at(alloc: Global, slots: &mut BTreeMap<Key, Slot>, key: Key) -> Result<(), Memory>
     ensures ok { OnOk result (Step slots.old.entries slots.new.entries key
-        (Some (record { known = known_at slots.old.entries key;
-        room = room_at slots.old.entries key + 1 }))) }
+        (Some (record {
+          known = known_at slots.old.entries key;
+          room = room_at slots.old.entries key + 1;
+        }))) }
     ensures err { OnErr result (slots.new.entries ≡ slots.old.entries) }
 {
     match slots.get_mut(&key) {

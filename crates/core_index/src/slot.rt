@@ -74,8 +74,10 @@ impl Slot {
 
     // Makes room for one more change.
     pub fn reserve(&mut self) -> Result<(), Memory>
-        ensures ok { OnOk result (self.new ≡ record { known = self.old.known;
-            room = self.old.room + 1 }) }
+        ensures ok { OnOk result (self.new ≡ record {
+          known = self.old.known;
+          room = self.old.room + 1;
+        }) }
         ensures err { OnErr result (self.new ≡ self.old) }
     {
         let room = self.room.checked_add(1).ok_or(Memory)?;
@@ -113,8 +115,11 @@ impl Slot {
     pub fn settle(&mut self, version: Version, body: Body, home: u32) -> Settled
         requires room { 0 < self.old.room }
         requires next { version ≡ last_of self.old.known + 1 }
-        ensures settled { self.new ≡ record { known = Some
-            (settled self.old.known version body home); room = self.old.room - 1 } }
+        ensures settled { self.new ≡ record {
+          known = Some
+              (settled self.old.known version body home);
+          room = self.old.room - 1;
+        } }
         ensures replaced { result.replaced ≡ block_of self.old.known }
         ensures dead { OnlyDead self.old.known self.new.known result.dead }
         ensures mortal { mortal self.new + count_dead result.dead ≤ mortal self.old }
@@ -159,8 +164,10 @@ impl Slot {
 
     // Takes an entry out of those that stand. Gives the entry that died by it.
     pub fn gone(&mut self, version: Version) -> Option<Standee>
-        ensures gone { self.new ≡ record { known = option_map (without version) self.old.known;
-            room = self.old.room } }
+        ensures gone { self.new ≡ record {
+          known = option_map (without version) self.old.known;
+          room = self.old.room;
+        } }
         ensures dead { OnlyDead self.old.known self.new.known result }
         ensures mortal { mortal self.new + count_dead result ≤ mortal self.old }
     {

@@ -44,11 +44,19 @@ impl Model for CoreLog {
 
     ghost Value = { LogState };
 
-    ghost view = { λ a. record { layout = a.layout; part = a.part; chunks = a.chunks.items;
-        opened = a.opened } };
+    ghost view = { λ a. record {
+      layout = a.layout;
+      part = a.part;
+      chunks = a.chunks.items;
+      opened = a.opened;
+    } };
 
-    ghost invariant = { λ a. IsOwn (record { layout = a.layout; part = a.part;
-        chunks = a.chunks.items; opened = a.opened }) × (a.layout.chunks < vec_capacity a.chunks) };
+    ghost invariant = { λ a. IsOwn (record {
+      layout = a.layout;
+      part = a.part;
+      chunks = a.chunks.items;
+      opened = a.opened;
+    }) × (a.layout.chunks < vec_capacity a.chunks) };
 }
 
 impl CoreLog {

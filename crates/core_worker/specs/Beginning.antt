@@ -75,8 +75,11 @@ OnlyStages old new = new ≡ record old { allocator = new.allocator; places = ne
 
 -- nothing but allocator, places and answers differs
 abbrev pub OnlyBegins : Worker → Worker → Type 0
-OnlyBegins old new = new ≡ record old { allocator = new.allocator; places = new.places;
-    answers = new.answers }
+OnlyBegins old new = new ≡ record old {
+  allocator = new.allocator;
+  places = new.places;
+  answers = new.answers;
+}
 
 -- nothing but queue, places, answers, allocator, index and the request in hand differs
 pub record SameCore (old new : Worker) : Type 0 where

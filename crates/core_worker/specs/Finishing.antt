@@ -63,8 +63,11 @@ pub record Settles (old new : Worker) (e : Entry) (home : ℕ) : Type 0 where
   pub told : HearsOwn old.core mid old.standing new.standing
   pub sets : AreSets new.allocator
   pub block : PutsBackIf old.allocator new.allocator (block_of (known_at old.index e.key))
-  pub rest : new ≡ record old { index = new.index; allocator = new.allocator;
-      standing = new.standing }
+  pub rest : new ≡ record old {
+    index = new.index;
+    allocator = new.allocator;
+    standing = new.standing;
+  }
 
 -- the reply of a change that is done, by what its entry leaves
 abbrev pub done_reply : Body → Reply

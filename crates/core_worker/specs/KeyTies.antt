@@ -49,7 +49,7 @@ abbrev pub IsPlaced : Place → ℕ → View → ℕ → places.Place → Type 0
 IsPlaced p m v s Free = IsFree v s
 IsPlaced p m v s (Staged number entry value) =
     IsFree v s × (owner p entry.key ≡ m) × (v.pending entry.key ≡ None) × HasSpelling entry
-        × (entry.version ≡ v.last entry.key + 1)
+    × (entry.version ≡ v.last entry.key + 1)
     × (entry.body ≡ bodies.Tombstone → v.cell entry.key ≢ None)
 IsPlaced p m v s (Posted number key lines) =
     (e : Entry) × (v.pending key ≡ Some (record { entry = e; slot = Some s })) × (e.key ≡ key)

@@ -41,5 +41,11 @@ KeepsOrders old new k = (t : Tie) → IsHeldAside old k t → InOrderBy t old �
 
 -- nothing but this differs
 abbrev pub OnlyServes : Worker → Worker → Type 0
-OnlyServes old new = new ≡ record old { allocator = new.allocator; places = new.places;
-    answers = new.answers; queue = new.queue; in_hand = new.in_hand; winds_down = new.winds_down }
+OnlyServes old new = new ≡ record old {
+  allocator = new.allocator;
+  places = new.places;
+  answers = new.answers;
+  queue = new.queue;
+  in_hand = new.in_hand;
+  winds_down = new.winds_down;
+}

@@ -31,8 +31,12 @@ IsSmall (Copying victim first) = (victim.words < 2 ^ 32) × (victim.entries < 2 
 IsSmall (Doomed chunk) = Unit {0}
 
 abbrev pub supply_of : Worker → Supply
-supply_of w = record { free_chunks = free_chunk_count w.allocator; open_lines = room_of w.log;
-    own_lines = own w.places.items; rest_lines = rest w.cleaning }
+supply_of w = record {
+  free_chunks = free_chunk_count w.allocator;
+  open_lines = room_of w.log;
+  own_lines = own w.places.items;
+  rest_lines = rest w.cleaning;
+}
 
 -- The room rule of a worker. It is the weaker one from the beginning of a cleaning to its first copy.
 abbrev pub KeepsRule : Cleaning → Supply → Type 0
@@ -46,8 +50,12 @@ HasKeptRoom w = KeepsRule w.cleaning (supply_of w)
 
 -- What a leader is told of the room.
 abbrev pub room_for : Worker → Room
-room_for w = record { open_lines = room_of w.log; free_chunks = free_chunk_count w.allocator;
-    pledged_lines = pledged (supply_of w); payload_lines = payload_lines w.log.layout }
+room_for w = record {
+  open_lines = room_of w.log;
+  free_chunks = free_chunk_count w.allocator;
+  pledged_lines = pledged (supply_of w);
+  payload_lines = payload_lines w.log.layout;
+}
 
 -- the free blocks of a class, 0 where no block is asked
 abbrev pub free_blocks : Sets → ℕ → ℕ

@@ -128,8 +128,10 @@ Unpledges m ts old new = (s : ℕ) → UnpledgedAt (taken_in ts m s) (place_at o
 
 -- the log whose open chunk has the batch more
 abbrev pub appended_to : LogState → List ℕ → LogState
-appended_to log batch = record log { chunks = with_tail log.chunks (open_number log)
-    (open_tail log + length batch) }
+appended_to log batch = record log {
+  chunks = with_tail log.chunks (open_number log)
+      (open_tail log + length batch);
+}
 
 -- the lowest free chunk is taken, where one is needed
 abbrev pub TakesFor : Bool → Sets → Sets → Option ℕ → Type 0
@@ -153,9 +155,14 @@ pub record Persists (m : ℕ) (a b : Moment) : Type 0 where
   pub names : a.worker.winds_down ≡ false → AddsNames a.worker.standing b.worker.standing
       (entries_in batch.changes.taken.items)
   pub winds : a.worker.winds_down ≡ true → b.worker.winds_down ≡ true
-  pub same : b.worker ≡ record a.worker { log = b.worker.log; allocator = b.worker.allocator;
-      places = b.worker.places; leading = b.worker.leading; standing = b.worker.standing;
-      winds_down = b.worker.winds_down }
+  pub same : b.worker ≡ record a.worker {
+    log = b.worker.log;
+    allocator = b.worker.allocator;
+    places = b.worker.places;
+    leading = b.worker.leading;
+    standing = b.worker.standing;
+    winds_down = b.worker.winds_down;
+  }
 
 -- Item 2 at a fault: no event is made, and the core stops.
 pub record LosesBatch (a b : Moment) : Type 0 where
@@ -166,8 +173,13 @@ pub record LosesBatch (a b : Moment) : Type 0 where
   pub gives : lost.left.taken.items ≡ batch.changes.taken.items
   pub stopped : b.worker.stopped ≡ true
   pub view : b.view ≡ a.view
-  pub same : b.worker ≡ record a.worker { log = b.worker.log; allocator = b.worker.allocator;
-      leading = b.worker.leading; standing = b.worker.standing; stopped = true }
+  pub same : b.worker ≡ record a.worker {
+    log = b.worker.log;
+    allocator = b.worker.allocator;
+    leading = b.worker.leading;
+    standing = b.worker.standing;
+    stopped = true;
+  }
 
 -- Item 3: the next change is given back. With the last one the core leads no more.
 pub record Marks (a b : Moment) : Type 0 where

@@ -32,8 +32,12 @@ after_find x v = record v { looked = v.looked ++ x ∷ [] }
 
 -- m took a change out of a slot of member a
 abbrev pub after_take : ℕ → ℕ → Entry → View → View
-after_take a s e v = record v { taken = put2 v.taken a s (Some e); flying = v.flying ++ e ∷ [];
-    took = v.took ++ e ∷ []; looked = [] }
+after_take a s e v = record v {
+  taken = put2 v.taken a s (Some e);
+  flying = v.flying ++ e ∷ [];
+  took = v.took ++ e ∷ [];
+  looked = [];
+}
 
 abbrev pub after_unlock : View → View
 after_unlock v = record v { holds = false; looked = [] }
@@ -70,13 +74,20 @@ after_finish e home v =
 
 -- m got an own change back that could not be written, so it is in doubt; the two rules follow
 abbrev pub after_give_up : Entry → View → View
-after_give_up e v = record v { broken = true; pending = put v.pending e.key
-    (Some (record { entry = e; slot = None })); looked = [] }
+after_give_up e v = record v {
+  broken = true;
+  pending = put v.pending e.key
+      (Some (record { entry = e; slot = None }));
+  looked = [];
+}
 
 -- m took an own change back that nobody had taken
 abbrev pub after_withdraw : Entry → View → View
-after_withdraw e v = record v { pending = put v.pending e.key None;
-    blocks = λ p. cond (points_at e.body p) None (v.blocks p); looked = [] }
+after_withdraw e v = record v {
+  pending = put v.pending e.key None;
+  blocks = λ p. cond (points_at e.body p) None (v.blocks p);
+  looked = [];
+}
 
 -- these names of m's log may vanish
 abbrev pub after_doom : List EntryName → View → View

@@ -27,7 +27,7 @@ now_cell : (f : Frame) (n : ℕ) (h : History) (w : ℕ)
 now_cell f n h w =
     let j = h.journal in
     ap (λ (l : List Step). cell_after l w (certain (slice_index h.start.items (w - h.first))))
-        (take_all (j.base + (j.stamp - j.since)) j.steps.items (omega (arith, j.kept, j.ordered)))
+    (take_all (j.base + (j.stamp - j.since)) j.steps.items (omega (arith, j.kept, j.ordered)))
 
 -- where it tells, that is what a load gives
 pub history_tells : (f : Frame) (n : ℕ) (h : History) (w : ℕ) → IsTelling (history_state f n h)
@@ -35,12 +35,14 @@ pub history_tells : (f : Frame) (n : ℕ) (h : History) (w : ℕ) → IsTelling 
 history_tells f n h w telling =
     ap (λ (c : Cell). c.last) (now_cell f n h w)
     ∙ cond_both (nat_le h.first w && nat_lt w (h.first + length h.words.items))
-        (slice_index h.words.items (w - h.first)) (cell_of h w).last
-        (λ x. (cell_of h w).last ≡ x) inside (λ no. refl)
+    (slice_index h.words.items (w - h.first)) (cell_of h w).last
+    (λ x. (cell_of h w).last ≡ x) inside (λ no. refl)
   where
     complete : IsComplete h.journal
-    complete = record { kept = told_kept h.journal h.journal.stamp telling.says;
-        below = telling.below }
+    complete = record {
+      kept = told_kept h.journal h.journal.stamp telling.says;
+      below = telling.below;
+    }
 
     inside : (nat_le h.first w && nat_lt w (h.first + length h.words.items)) ≡ true
         → (cell_of h w).last ≡ slice_index h.words.items (w - h.first)
@@ -52,8 +54,8 @@ history_tells f n h w telling =
         let lt : w - h.first < length h.words.items = omega (arith, low, high) in
         let at : h.first + (w - h.first) ≡ w = omega (arith, low) in
         sym (h.matches complete (w - h.first) lt ∙ ap
-            (λ (x : ℕ). (cell_after h.journal.steps.items x
-            (certain (slice_index h.start.items (w - h.first)))).last) at)
+        (λ (x : ℕ). (cell_after h.journal.steps.items x
+        (certain (slice_index h.start.items (w - h.first)))).last) at)
 
 -- in the range it is the word itself
 pub word_inside : (h : History) (w : ℕ) → h.first ≤ w → w < h.first + length h.words.items
