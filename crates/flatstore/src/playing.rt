@@ -28,9 +28,12 @@ pub fn replay_region<S: Source, O: Sink, R: SplitRegion + ReadRegion>(
         × Replays (R.state region.old) (R.state region.new) (R.found region.old)
         (S.coming source.old) (S.coming source.new) (S.fault_count source.old) (S.fault_count source.new) cores input
         (O.taken sink.old) (O.taken sink.new) (O.flushed sink.new) (O.fault_count sink.old) (O.fault_count sink.new) result }
-    ensures source_fault { result.status ≡ statuses.SourceFault → Rose (S.fault_count source.old) (S.fault_count source.new) }
-    ensures sink_fault { result.status ≡ statuses.SinkFault → Rose (O.fault_count sink.old) (O.fault_count sink.new) }
-    ensures region_fault { result.status ≡ statuses.RegionFault → Rose (R.state region.old).faults (R.state region.new).faults }
+    ensures source_fault { result.status ≡ statuses.SourceFault
+        → Rose (S.fault_count source.old) (S.fault_count source.new) }
+    ensures sink_fault { result.status ≡ statuses.SinkFault
+        → Rose (O.fault_count sink.old) (O.fault_count sink.new) }
+    ensures region_fault { result.status ≡ statuses.RegionFault
+        → Rose (R.state region.old).faults (R.state region.new).faults }
     ensures no_usage { result.status ≡ statuses.Usage → ⊥ }
 
     // Nothing is written where the run didn't come to its end.
