@@ -23,7 +23,8 @@ pub enum Found {
 
 // What an image of these words says, where there are as many as the length asks.
 fn read_words(alloc: Global, words: &[u64], bytes: u64) -> Result<Found, Memory>
-    requires { bytes % 8 ≡ 0 → SUPERBLOCK_BYTES ≤ bytes → bytes ≤ MOST_BYTES → length words.now ≡ bytes / 8 }
+    requires { bytes % 8 ≡ 0 → SUPERBLOCK_BYTES ≤ bytes → bytes ≤ MOST_BYTES
+        → length words.now ≡ bytes / 8 }
     ensures { IfOk result (λ found. ShowsWords found bytes (λ w. slice_index words.now w)) }
 {
     match read_layout(words, bytes) {
