@@ -1,5 +1,5 @@
 -- The entries that are listed.
-use Rattle.std.proofs.Common.{◌≡◌, ℕ, None, Option, Some, sym, ◌∙◌, absurd, subst}
+use Rattle.std.proofs.Common.{◌≡◌, ℕ, None, Some, subst}
 use Rattle.std.specs.Prelude.{Result, Ok, Err, Vec}
 use Rattle.std.specs.Global.{Global}
 use Rattle.chunk_map.specs.declared.layouts.Geometry.{Geometry}
@@ -14,7 +14,7 @@ use Rattle.recover.proofs.JudgeLaws.{by_chunks}
 module _ (l : Geometry) (image : ℕ → ℕ) where
   -- what was gathered of an image that breaks no rule
   pub logs_gathered : damage l image ≡ None → (r : Result (Vec PlacedEntry Global) Fault) → Gathers l image r → Logs l image r
-  logs_gathered none (Ok es) gathers = (none, gathers.1.0)
+  logs_gathered none (Ok es) gathers = (none, gathers.1)
   logs_gathered none (Err fault) gathers = by_chunks l image (Err fault) fault gathers (λ i. Err fault)
 
   pub logs_ok : (r : Result (Vec PlacedEntry Global) Fault) (v : Vec PlacedEntry Global) → Logs l image r → r ≡ Ok v
