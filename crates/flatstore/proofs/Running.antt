@@ -24,7 +24,7 @@ use Rattle.group_engine.specs.Replayed.{StandsAsFound, Replayed}
 use Rattle.group_engine.specs.Reports.{told, reply_in}
 use Rattle.group_engine.specs.Runs.{RunState, CoreMoves, first_state, with_request}
 use Rattle.flatstore.specs.Attaching.{GoesOnFrom, Runs}
-use Rattle.flatstore.specs.LastStates.{Opens, Reports, RanTo}
+use Rattle.flatstore.specs.LastStates.{Opens, ReportsAnswers, RanTo}
 use Rattle.flatstore.specs.Promise.{IsAllOut}
 use Rattle.flatstore.specs.Played.{HasWritten, is_ended}
 use Rattle.flatstore.specs.declared.report.Status.{Status}
@@ -106,7 +106,7 @@ module _ (old s t : State) (found word : ℕ → ℕ) (A : Attached old s s.fram
     all_by (inr (inr (inl w))) out = absurd (out_of statuses.SinkFault w.0 (λ q. cc q) (λ q. cc q) out)
     all_by (inr (inr (inr w))) out = absurd (out_of statuses.Memory w.0 (λ q. cc q) (λ q. cc q) out)
 
-    reports : Reports t before now AllOut last r
+    reports : ReportsAnswers t before now AllOut last r
     reports = record {
       finishes = finishes ∙ P.kept.finishes;
       refusals = refusals ∙ P.kept.refusals;

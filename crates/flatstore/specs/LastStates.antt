@@ -31,8 +31,8 @@ abbrev pub AreRising : List ℕ → Type 0
 AreRising [] = Unit {0}
 AreRising (n ∷ ns) = AllByRecursion (λ m. n < m) ns × AreRising ns
 
--- How a run begins in a region that was just attached: every group opens on its words, and every worker is made of what
--- recovery gave its core of them.
+-- How a run begins in a region that was just attached: every group opens on its words, and every
+-- worker is made of what recovery gave its core of them.
 pub record Opens (at : State) (found : ℕ → ℕ) (cores : ℕ) : Type 0 where
   -- the words that the region reads, and what recovery gave of them
   pub word : ℕ → ℕ
@@ -48,41 +48,44 @@ pub record Opens (at : State) (found : ℕ → ℕ) (cores : ℕ) : Type 0 where
   pub new : AreNew recovered.starts.items recovered.layout workers
 
 -- the state in which it begins: no request was given, and no answer
-abbrev pub first_of : {at : State} {found : ℕ → ℕ} {cores : ℕ} → Opens at found cores → RunState Worker
+abbrev pub first_of : {at : State} {found : ℕ → ℕ} {cores : ℕ} → Opens at found cores
+    → RunState Worker
 first_of x = first_state x.origin x.workers
 
--- A report, and what the sink took, are made of the answers that are kept in a state of the run: the finishes with their
--- stamps, the refusals with what was counted, and the replies. `AllOut` holds where no write failed.
-pub record Reports (new : State) (before now : Option (List ℕ)) (AllOut : Type 0) (last : RunState Worker) (r : Report)
-    : Type 0 where
+-- A report, and what the sink took, are made of the answers that are kept in a state of the run:
+-- the finishes with their stamps, the refusals with what was counted, and the replies. `AllOut`
+-- holds where no write failed.
+pub record ReportsAnswers (new : State) (before now : Option (List ℕ)) (AllOut : Type 0)
+    (last : RunState Worker) (r : Report) : Type 0 where
   pub finishes : r.finishes.items ≡ finishes_in 0 last.answers
   pub refusals : r.refusals.items ≡ refusals_in 0 last.answers
   pub begins : TakesPrefix before now (replies_text (map reply_in last.answers))
   pub writes : AllOut → Takes before now (replies_text (map reply_in last.answers))
-  -- Those are the answers of the state, each with its stamp and the cause of its refusal; where the region doesn't tell,
-  -- a get may have found another value.
+  -- Those are the answers of the state, each with its stamp and the cause of its refusal; where the
+  -- region doesn't tell, a get may have found another value.
   pub count : length last.answers ≡ length last.engine.given
-  pub shown : (n : ℕ) → ShowsAnswer (IsTelling new) (slice_get last.engine.given n) (last.engine.answer n)
-      (kept_at last.answers n)
+  pub shown : (n : ℕ) → ShowsAnswer (IsTelling new) (slice_get last.engine.given n)
+      (last.engine.answer n) (kept_at last.answers n)
   pub told_is : told_in r ≡ told_of last.engine
   pub replies : IsTelling new → map reply_in last.answers ≡ replies_of last.engine
 
--- The lines of the input led the engine from the region, as it was attached with these words, to a last state, and this
--- is a report on it.
-pub record RanTo (old new : State) (found : ℕ → ℕ) (cores : ℕ) (input : List ℕ) (before now : Option (List ℕ))
-    (AllOut : Type 0) (r : Report) : Type 0 where
+-- The lines of the input led the engine from the region, as it was attached with these words, to a
+-- last state, and this is a report on it.
+pub record RanTo (old new : State) (found : ℕ → ℕ) (cores : ℕ) (input : List ℕ)
+    (before now : Option (List ℕ)) (AllOut : Type 0) (r : Report) : Type 0 where
   pub from : GoesOnFrom old new new.frame.bytes found
   pub first : Opens from.at found cores
-  -- The lines are those of the input: a request joins its owner's backlog, a `go` line is so many moves of its core's
-  -- worker, and after the last come passes over all cores until nothing moves.
+  -- The lines are those of the input: a request joins its owner's backlog, a `go` line is so many
+  -- moves of its core's worker, and after the last come passes over all cores until nothing moves.
   pub lines : List Line
   pub good : input_of cores input ≡ Ok lines
   pub last : RunState Worker
   pub ran : Ran CoreMoves with_request cores lines (first_of first) last
-  -- The region is as it is in the last state. Everything is answered there, every slot is empty and nothing waits.
+  -- The region is as it is in the last state. Everything is answered there, every slot is empty and
+  -- nothing waits.
   pub ends : last.engine.region ≡ new
   pub answered : AllAnswered last.engine
   pub drained : IsDrained last.engine
-  pub reports : Reports new before now AllOut last r
+  pub reports : ReportsAnswers new before now AllOut last r
   -- Whatever a crash leaves of a part now is licensed by its core's view in that state.
   pub licensed : IsTelling new → AllLicensed last.engine.layout last.engine.group (cell_now new)
