@@ -4,6 +4,7 @@ pub mod Answering
 pub mod Attached
 pub mod Numbering
 pub mod Causing
+pub mod Running
 pub mod Replaying
 pub mod Refused
 pub mod Standing

@@ -24,7 +24,7 @@ use Rattle.headline.specs.Ample.{IsAmpleFor}
 use Rattle.headline.specs.Limits.{IsAsked, version_of, changes_asked, is_too_long, IsWithinLimits}
 use Rattle.core_room.specs.declared.types.Shortage.TheVariants.{Versions}
 use Rattle.engine_laws.specs.Engine.{Engine}
-use Rattle.engine_laws.specs.Stands.{Origin, Stands, start_of, opening}
+use Rattle.engine_laws.specs.Stands.{Origin, Stands, start_of, opening, given_to}
 use Rattle.engine_laws.specs.Promises.{IsOrigin, Promised, IsDone, HasStopped, AnyTurn}
 use Rattle.engine_laws.specs.Ran.{Ran}
 use Rattle.engine_laws.specs.Ran as runs
@@ -47,6 +47,7 @@ use Rattle.flatstore.specs.declared.report.Report.{Report}
 use Rattle.flatstore.proofs.Inputs.{read_trace}
 use Rattle.flatstore.proofs.Attached.{found_words}
 use Rattle.flatstore.proofs.Agreeing as agreeing
+use Rattle.flatstore.proofs.Running as running
 use Rattle.flatstore.proofs.Numbering.{all_map, rising}
 use Rattle.flatstore.proofs.Causing.{HasCauses, full_of, spent_of, unrefused_of}
 use Rattle.flatstore.proofs.Texts.{both, takes_front, all_text, front_text, no_text, small_sound}
@@ -67,7 +68,6 @@ pub record Known (old : State) (found : ℕ → ℕ) (coming left : Option (List
   pub given : runs.asked_in lines ≡ f.given ++ more
   pub all_given : x.end ≢ ends.Memory → more ≡ []
   pub reports : ReportsOn f.region o f (report_in x)
-  pub ran : x.end ≢ ends.Memory → Ran AnyTurn cores lines (opening o) f
   pub done : x.end ≢ ends.Memory → IsDone o f
   pub fault : x.end ≡ ends.RegionFault → HasStopped f
   pub whole : x.end ≡ ends.Complete → (c : ℕ) → c < f.layout.cores → f.stopped c ≡ false
@@ -164,12 +164,6 @@ module _ (old : State) (found : ℕ → ℕ) (coming left : Option (List ℕ)) (
     front_of : (MayStop : Type 0) → (HasStopped f → MayStop) → TakesPrefix before now (replies_text x.replies.items) → WritesFront (IsTelling t) (cells_of found) trace (told_in r) MayStop before now
     front_of MayStop to = front_text (IsTelling t) (cells_of found) trace (told_in r) MayStop x.replies.items (said_whole MayStop to) before now
 
-    shown_front : IsTelling t → TakesPrefix before now (replies_text x.replies.items) → TakesPrefix before now (replies_text (replies_of f))
-    shown_front telling takes = subst (λ rs. TakesPrefix before now (replies_text rs)) (K.reports.known telling) takes
-
-    shown_all : IsTelling t → Takes before now (replies_text x.replies.items) → Takes before now (replies_text (replies_of f))
-    shown_all telling takes = subst (λ rs. Takes before now (replies_text rs)) (K.reports.known telling) takes
-
   abbrev Front : Type 0
   Front = WritesFront (IsTelling t) (cells_of found) trace (told_in r) FrontMayStop before now
 
@@ -257,57 +251,6 @@ module _ (old : State) (found : ℕ → ℕ) (coming left : Option (List ℕ)) (
       let told : told_of f ≡ told_in r = sym told_is in
       K.promised.last (K.done (completed e)).answered (K.whole e) telling image here k ∙ (λ i. cell_after_all (changes_in (start i) (qs i) (told i) k) (start i k))
 
-  ran_to : r.complete ≡ true → RanTo old t found cores input before now (IsAllOut r.status faults faults') r
-  ran_to complete =
-      let not_cut = ended (sym report_complete ∙ complete) in
-      record {
-        from = K.from;
-        o = o;
-        origin = K.origin;
-        region = K.at_origin;
-        words = subst (λ (z : State). IsTelling z → (w : ℕ) → w < z.frame.bytes / 8 → o.found w ≡ found w) K.at_origin words_found;
-        count = K.count;
-        lines = K.lines;
-        good = K.good;
-        f = f;
-        ran = K.ran not_cut;
-        ends = refl;
-        answered = (K.done not_cut).answered;
-        drained = (K.done not_cut).drained;
-        told_is = told_is;
-        begins = λ telling. shown_front not_cut telling (front_by W);
-        writes = λ out telling. shown_all not_cut telling (all_by W out);
-        licensed = K.stands.licensed;
-      }
-    where
-      front_by : HasWritten x before now flushed faults faults' status → Prefix
-      front_by (inl w) = takes_front before now (replies_text x.replies.items) w.2
-      front_by (inr (inl w)) = elim w.2 [
-        | inl all ↦ takes_front before now (replies_text x.replies.items) all.0
-        | inr some ↦ some.1
-      ]
-      front_by (inr (inr (inl w))) = w.3
-      front_by (inr (inr (inr w))) = elim w.1 [
-        | inl some ↦ some.1
-        | inr cut ↦ both r.complete complete (report_complete ∙ cut.0)
-      ]
-
-      out_of : (other : Status) → status ≡ other → other ≢ statuses.Done → other ≢ statuses.RegionFault → IsAllOut r.status faults faults' → ⊥
-      out_of other e done failed (inl is) = done (sym e ∙ sym report_status ∙ is)
-      out_of other e done failed (inr is) = failed (sym e ∙ sym report_status ∙ is.0)
-
-      all_by : HasWritten x before now flushed faults faults' status → IsAllOut r.status faults faults' → Takes before now (replies_text x.replies.items)
-      all_by (inl w) out = w.2
-      all_by (inr (inl w)) out = elim w.2 [
-        | inl all ↦ all.0
-        | inr some ↦ absurd (no_rise w.0 out some.0)
-      ] where
-        no_rise : status ≡ statuses.RegionFault → IsAllOut r.status faults faults' → Rose faults faults' → ⊥
-        no_rise e (inl is) rose = cc (sym e ∙ sym report_status ∙ is)
-        no_rise e (inr is) rose = is.1 rose
-      all_by (inr (inr (inl w))) out = absurd (out_of statuses.SinkFault w.0 (λ q. cc q) (λ q. cc q) out)
-      all_by (inr (inr (inr w))) out = absurd (out_of statuses.Memory w.0 (λ q. cc q) (λ q. cc q) out)
-
   order : KeepsOrder old t found coming left cores input r
   order = record {
     untouched = λ no. both r.began report_began no;
@@ -373,8 +316,8 @@ module _ (old : State) (found : ℕ → ℕ) (coming left : Option (List ℕ)) (
     pub unrefused_then : IsWithinLimits found trace → r.refusals.items ≡ []
     unrefused_then = unrefused_of found trace f.answer causes_found (length f.given) within r.refusals.items told_refused some_cores
 
-  pub played_replays : (source source' : ℕ) → Replays old t found coming left source source' cores input before now flushed faults faults' r
-  played_replays source source' = record {
+  pub played_replays : (r.complete ≡ true → RanTo old t found cores input before now (IsAllOut r.status faults faults') r) → (source source' : ℕ) → Replays old t found coming left source source' cores input before now flushed faults faults' r
+  played_replays ran_to source source' = record {
     cores_are = λ n told. let stamp = attached.stamp in cores_found (K.stands.run.was n told (omega (arith, stamp)));
     order = order;
     due = due_of source source';
@@ -402,13 +345,16 @@ module _ (old s t : State) (found word : ℕ → ℕ) (A : Attached old s s.fram
   o = P.ran.origin
 
   abbrev f : Engine
-  f = P.ran.last
+  f = P.ran.last.engine
 
   began : o.region ≡ s
   began = P.ran.begins.region
 
+  engine_ran : x.end ≢ ends.Memory → Ran AnyTurn given_to P.cores P.lines (opening o) f
+  engine_ran = running.engine_ran old s t found word A once granted P.recovered P.stands P.cores P.read.input P.lines P.read.good x P.ran P.count
+
   given_whole : x.end ≢ ends.Memory → P.ran.given.0 ≡ []
-  given_whole not_cut = none_behind f.given P.ran.given.0 (ran_given AnyTurn (λ e g c b m. m.0) (layout_of o.found).cores P.lines (opening o) f (P.ran.ran not_cut) ∙ P.ran.given.1)
+  given_whole not_cut = none_behind f.given P.ran.given.0 (ran_given AnyTurn (λ e g c b m. m.0) P.cores P.lines (opening o) f (engine_ran not_cut) ∙ P.ran.given.1)
 
   causes : HasCauses o.found (f.given ++ P.ran.given.0) f.answer
   causes =
@@ -439,7 +385,6 @@ module _ (old s t : State) (found word : ℕ → ℕ) (A : Attached old s s.fram
         given = P.ran.given.1;
         all_given = given_whole;
         reports = subst (λ z. ReportsOn z o f (report_in x)) (sym P.ran.region) P.ran.reports;
-        ran = λ not_cut. subst (λ n. Ran AnyTurn n P.lines (opening o) f) P.count (P.ran.ran not_cut);
         done = P.ran.done;
         fault = P.ran.fault;
         whole = P.ran.complete;
@@ -454,5 +399,8 @@ module _ (old s t : State) (found word : ℕ → ℕ) (A : Attached old s s.fram
     P.cores,
     P.read.is_input,
     subst (λ z. Replays old z found coming left source source' P.cores P.read.input before now flushed faults faults' r) P.ran.region
-        (played_replays old found coming left P.cores P.read.input o f x known P.read.whole before now flushed faults faults' r.status W r refl (λ i. told (finishes i) (refusals i)) began complete source source'),
+        (played_replays old found coming left P.cores P.read.input o f x known P.read.whole before now flushed faults faults' r.status W r refl (λ i. told (finishes i) (refusals i)) began complete
+        (λ whole. subst (λ z. RanTo old z found P.cores P.read.input before now (IsAllOut r.status faults faults') r) (sym P.ran.region)
+        (running.ran_to old s t found word A once granted P.recovered P.stands P.cores P.read.input P.lines P.read.good x P.ran P.count before now flushed faults faults' r W finishes refusals complete whole))
+        source source'),
   )

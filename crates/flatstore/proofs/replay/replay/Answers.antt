@@ -25,6 +25,8 @@ returns-in-Ok-read-clause-played g c =
     let s = g.R.Region.state c.args.region.now in
     let word = g.R.ReadRegion.word c.args.region.now in
     record {
+      recovered = c.in-Ok.recovered;
+      stands = c.in-Ok.ensures.ok;
       cores = c.cores.result;
       lines = c.in-Ok-read.input;
       read = c.in-Ok-read.ensures.ok;
