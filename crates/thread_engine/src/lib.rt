@@ -12,5 +12,7 @@ pub mod opening_rules;
 pub mod run_apart;
 pub mod table_end;
 #[cfg(test)]
+mod run_tests;
+#[cfg(test)]
 mod tests;
 pub mod work_rules;
