@@ -16,7 +16,8 @@ use Rattle.atomic_board.specs.declared.seat_data.Deed.{Deed}
 use Rattle.atomic_board.specs.declared.seat_data.Deed.TheVariants.{Post, Lock, Found, Take, Unlock, Commit, Mark, Fail, Finish, GiveUp, Withdraw, Doom, Retire, Send, Receive}
 
 -- The group whose members have these views. What a view has by key counts where the key is the member's own.
-abbrev pub group_of : Place → Option ℕ → (ℕ → ℕ → Slot) → (ℕ → ℕ → Option Notices) → (ℕ → View) → Group
+abbrev pub group_of : Place → Option ℕ → (ℕ → ℕ → Slot) → (ℕ → ℕ → Option Notices) → (ℕ → View)
+    → Group
 group_of p holder slot mail view =
     record {
       place = p;
@@ -84,7 +85,11 @@ alike p v = group_of p None (λ a s. Empty) (λ a b. None) (λ h. v)
 
 -- the view after the two rules on the keys of m; the names are all that may stand of them
 abbrev pub tidied_in : List EntryName → Place → ℕ → View → View
-tidied_in ns p m v = record v { last = (tidied (alike p v) ns m).last; told = (tidied (alike p v) ns m).told; dead = (tidied (alike p v) ns m).dead m }
+tidied_in ns p m v = record v {
+  last = (tidied (alike p v) ns m).last;
+  told = (tidied (alike p v) ns m).told;
+  dead = (tidied (alike p v) ns m).dead m;
+}
 
 -- the list has each name that stands by the view
 abbrev pub CoversIn : List EntryName → View → Type 0
@@ -106,7 +111,8 @@ after_deed ns p m (Withdraw e) v = after_withdraw e v
 after_deed ns p m (Doom xs) v = after_doom xs v
 after_deed ns p m (Retire xs) v = tidied_in ns p m (after_retire p m xs v)
 after_deed ns p m (Send to dead gone) v = after_send to (record { dead = dead; gone = gone }) v
-after_deed ns p m (Receive dead gone) v = tidied_in ns p m (after_receive p m (record { dead = dead; gone = gone }) v)
+after_deed ns p m (Receive dead gone) v = tidied_in ns p m
+    (after_receive p m (record { dead = dead; gone = gone }) v)
 
 -- the view of m after these deeds, of which the newest stands first
 abbrev pub view_by : Origin → ℕ → List Deed → View

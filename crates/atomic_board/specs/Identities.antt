@@ -11,6 +11,7 @@ TableId-set = Coded-set table_id_coded
 pub SeatData-set : (a b : SeatData) → IsProp (a ≡ b)
 SeatData-set = Coded-set the_row.coded
 
-pub if_some_prop : {X : Type 0} (o : Option X) (P : X → Type 0) → ((x : X) → IsProp (P x)) → IsProp (IfSome o P)
+pub if_some_prop : {X : Type 0} (o : Option X) (P : X → Type 0) → ((x : X) → IsProp (P x))
+    → IsProp (IfSome o P)
 if_some_prop None P props x y i = tt
 if_some_prop (Some v) P props x y i = props v x y i

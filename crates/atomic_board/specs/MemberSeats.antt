@@ -25,4 +25,5 @@ seat_of t = record { number = t.member; place = place_at t; table = t.seat.table
 
 -- A step moves no seat: it stays that member's, at that table.
 abbrev pub Stays : MemberSeat → MemberSeat → Type 0
-Stays t u = (u.seat.table_id ≡ t.seat.table_id) × (u.member ≡ t.member) × (u.members ≡ t.members) × (origin_at u ≡ origin_at t)
+Stays t u = (u.seat.table_id ≡ t.seat.table_id) × (u.member ≡ t.member) × (u.members ≡ t.members)
+    × (origin_at u ≡ origin_at t)

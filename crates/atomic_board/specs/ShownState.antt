@@ -99,13 +99,16 @@ gripped (Some g) = record { dead = g.dead; gone = g.gone }
 -- a mailbox's word and what lies in its slot, with the hands of its sender and its receiver
 abbrev pub IsBox : ℕ → Home → ℕ → Option MailHold → Option MailHold → Option Notices → Type 0
 IsBox x h k s r None = (x ≡ 0) × (grips r k ≡ false) × (grips s k ≡ false → h ≡ some (some None))
-IsBox x h k s r (Some n) = (x ≡ 1) × (grips r k ≡ false → (q : Parceled) × (h ≡ some (some (Some (parcels.Notices q)))) × (notices_of q ≡ n)) × (grips r k ≡ true → n ≡ gripped r)
+IsBox x h k s r (Some n) = (x ≡ 1) × (grips r k ≡ false → (q : Parceled)
+    × (h ≡ some (some (Some (parcels.Notices q)))) × (notices_of q ≡ n))
+    × (grips r k ≡ true → n ≡ gripped r)
 
 -- a slot's word and what lies in it
 abbrev pub IsSlot : ℕ → Home → Bool → Slot → Type 0
 IsSlot x h settled y = (x ≡ word_number (shown y)) × IsHome h settled y
 
-pub record Fits (b : Origin) (holder : Option ℕ) (slot : ℕ → ℕ → Slot) (mail : ℕ → ℕ → Option Notices) (s : TableState) : Type 0 where
+pub record Fits (b : Origin) (holder : Option ℕ) (slot : ℕ → ℕ → Slot)
+    (mail : ℕ → ℕ → Option Notices) (s : TableState) : Type 0 where
   pub few : size b ≤ 8
   pub begun : Covers (names_of b) (began b)
   pub wide : length s.words ≡ word_count (size b)
@@ -118,10 +121,14 @@ pub record Fits (b : Origin) (holder : Option ℕ) (slot : ℕ → ℕ → Slot)
   pub store : get_elem? s.views 0 ≡ some (Store given b back)
   pub long : length s.views ≡ suc given
   pub gone : (m : ℕ) → is_back back m ≡ true → get_elem? s.views (suc m) ≡ some Spent
-  pub own : (j : ℕ) (d : SeatData) → get_elem? s.views (suc j) ≡ some d → ((q : Holding) × (ds : List Deed) × (d ≡ Own j q b ds)) ⊎ (d ≡ Spent)
-  pub pool : (a t : ℕ) → a < size b → t < 8 → IsSlot (slice_index s.words (pool_word (size b) a t)) (get_elem? s.homes (pool_place a t)) (pose_at s.views a).settled (slot a t)
+  pub own : (j : ℕ) (d : SeatData) → get_elem? s.views (suc j) ≡ some d
+      → ((q : Holding) × (ds : List Deed) × (d ≡ Own j q b ds)) ⊎ (d ≡ Spent)
+  pub pool : (a t : ℕ) → a < size b → t < 8 → IsSlot (slice_index s.words (pool_word (size b) a t))
+      (get_elem? s.homes (pool_place a t)) (pose_at s.views a).settled (slot a t)
   pub outside : (a t : ℕ) → (size b ≤ a) ⊎ (8 ≤ t) → slot a t ≡ Empty
-  pub box : (a c : ℕ) → a < size b → c < size b → IsBox (slice_index s.words (mail_word (size b) a c)) (get_elem? s.homes (mail_place (size b) a c)) (pool_place a c) (pose_at s.views a).hand (pose_at s.views c).hand (mail a c)
+  pub box : (a c : ℕ) → a < size b → c < size b → IsBox
+      (slice_index s.words (mail_word (size b) a c)) (get_elem? s.homes (mail_place (size b) a c))
+      (pool_place a c) (pose_at s.views a).hand (pose_at s.views c).hand (mail a c)
   pub no_box : (a c : ℕ) → (size b ≤ a) ⊎ (size b ≤ c) → mail a c ≡ None
 
 -- steps of the machine lead to this state from the one on which the group opened, so it is lawful

@@ -40,11 +40,15 @@ IsFreeBy pending t = (k : ℕ) (e : Entry) → pending k ≢ Some (record { entr
 
 -- an own key has a change in slot t
 abbrev pub IsNamedBy : Place → ℕ → (ℕ → Option Pending) → ℕ → Type 0
-IsNamedBy p m pending t = (k : ℕ) × (e : Entry) × (owner p k ≡ m) × (pending k ≡ Some (record { entry = e; slot = Some t }))
+IsNamedBy p m pending t = (k : ℕ) × (e : Entry) × (owner p k ≡ m)
+    × (pending k ≡ Some (record { entry = e; slot = Some t }))
 
 -- A seat has out the own slots that no change stands in, and those of the changes that its member has in its hands. It has no other slot out.
-pub record Holds (p : Place) (m n : ℕ) (pending : ℕ → Option Pending) (taken : ℕ → ℕ → Option Entry) (held : List ℕ) : Type 0 where
+pub record Holds (p : Place) (m n : ℕ) (pending : ℕ → Option Pending) (taken : ℕ → ℕ → Option Entry)
+    (held : List ℕ) : Type 0 where
   pub mine : (t : ℕ) → t < 8 → IsFreeBy pending t → has (pool_place m t) held ≡ true
-  pub hands : (a t : ℕ) (e : Entry) → a < n → t < 8 → taken a t ≡ Some e → has (pool_place a t) held ≡ true
-  pub others : (a t : ℕ) → a < n → t < 8 → (a ≡ m → IsNamedBy p m pending t) → taken a t ≡ None → has (pool_place a t) held ≡ false
+  pub hands : (a t : ℕ) (e : Entry) → a < n → t < 8 → taken a t ≡ Some e
+      → has (pool_place a t) held ≡ true
+  pub others : (a t : ℕ) → a < n → t < 8 → (a ≡ m → IsNamedBy p m pending t) → taken a t ≡ None
+      → has (pool_place a t) held ≡ false
   pub below : (k : ℕ) → has k held ≡ true → k < 8 * n

@@ -97,10 +97,14 @@ abbrev pub tells_unlock : Tells
 tells_unlock st m r n = n ≡ (did Unlock m.0, m.1)
 
 abbrev pub tells_lock : Tells
-tells_lock st m r n = (r ≤ size (origin_in m.0)) × (r ≢ number_in m.0 + 1) × (r ≡ 0 → n ≡ (did Lock m.0, m.1)) × ((h : ℕ) → r ≡ h + 1 → n ≡ (did (Found (loads.Holder h)) m.0, m.1))
+tells_lock st m r n = (r ≤ size (origin_in m.0)) × (r ≢ number_in m.0 + 1)
+    × (r ≡ 0 → n ≡ (did Lock m.0, m.1)) × ((h : ℕ) → r ≡ h + 1
+    → n ≡ (did (Found (loads.Holder h)) m.0, m.1))
 
 abbrev pub tells_look : Tells
-tells_look st m r n = (a t : ℕ) → t < 8 → st.word ≡ pool_word (size (origin_in m.0)) a t → (w : SlotWord) × (r ≡ word_number w) × IsClearWord w × (n ≡ (did (Found (loads.Slot a t w)) m.0, m.1))
+tells_look st m r n = (a t : ℕ) → t < 8 → st.word ≡ pool_word (size (origin_in m.0)) a t
+    → (w : SlotWord) × (r ≡ word_number w) × IsClearWord w
+    × (n ≡ (did (Found (loads.Slot a t w)) m.0, m.1))
 
 abbrev pub tells_settle : Tells
 tells_settle st m r n = n ≡ (settled_in m.0, row_out (pool_place (number_in m.0) 0) 8 m.1)
@@ -114,13 +118,19 @@ IsNotOut p m v a t = (a ≡ m → IsNamed p m v t) × (v.taken a t ≡ None)
 
 abbrev pub tells_take : Tells
 tells_take st m r n = (a t : ℕ) → t < 8 → st.word ≡ pool_word (size (origin_in m.0)) a t
-    → (e : Entry) × (n ≡ (did (Take a t e) m.0, (pool_place a t, lies e None) ∷ m.1)) × IsNotOut (place_of (origin_in m.0)) (number_in m.0) (view_in m.0) a t
-    × ((c : ℕ) → In (loads.Slot a t (words.Posted c)) (view_in m.0).looked → length (words_of e) ≡ c)
+    → (e : Entry) × (n ≡ (did (Take a t e) m.0, (pool_place a t, lies e None) ∷ m.1))
+    × IsNotOut (place_of (origin_in m.0)) (number_in m.0) (view_in m.0) a t
+    × ((c : ℕ) → In (loads.Slot a t (words.Posted c)) (view_in m.0).looked
+    → length (words_of e) ≡ c)
     × HasSpelling e
     × IsUnlogged (number_in m.0) a t (view_in m.0) e
 
 abbrev pub tells_post : List ℕ → Tells
-tells_post value st m r n = (t : ℕ) (c : Change) → st.word ≡ pool_word (size (origin_in m.0)) (number_in m.0) t → m.1 ≡ (pool_place (number_in m.0) t, Some (parcels.Change c)) ∷ rest m.1 → (n ≡ (did (Post t c.entry value) m.0, rest m.1)) × ((view_in m.0).taken (number_in m.0) t ≡ None)
+tells_post value st m r n = (t : ℕ) (c : Change) → st.word
+    ≡ pool_word (size (origin_in m.0)) (number_in m.0) t
+    → m.1 ≡ (pool_place (number_in m.0) t, Some (parcels.Change c)) ∷ rest m.1
+    → (n ≡ (did (Post t c.entry value) m.0, rest m.1))
+    × ((view_in m.0).taken (number_in m.0) t ≡ None)
 
 -- all slots are given back; the group opened on this
 abbrev pub tells_return : Origin → Tells
@@ -147,13 +157,17 @@ joined Spent e = Spent
 
 -- a change is given back, done or failed
 abbrev pub tells_give : (ℕ → ℕ → Deed) → Tells
-tells_give d st m r n = (a t : ℕ) (c : Change) → t < 8 → st.word ≡ pool_word (size (origin_in m.0)) a t → m.1 ≡ (pool_place a t, Some (parcels.Change c)) ∷ rest m.1
-    → (n ≡ (did (d a t) m.0, rest m.1)) × (a ≡ number_in m.0 → IsNamed (place_of (origin_in m.0)) (number_in m.0) (view_in m.0) t)
+tells_give d st m r n = (a t : ℕ) (c : Change) → t < 8
+    → st.word ≡ pool_word (size (origin_in m.0)) a t
+    → m.1 ≡ (pool_place a t, Some (parcels.Change c)) ∷ rest m.1
+    → (n ≡ (did (d a t) m.0, rest m.1)) × (a ≡ number_in m.0
+    → IsNamed (place_of (origin_in m.0)) (number_in m.0) (view_in m.0) t)
 
 -- the one change that stands in an own slot, which its member doesn't have out
 pub record Stands (p : Place) (m : ℕ) (v : View) (t : ℕ) (e : Entry) : Type 0 where
   pub pends : v.pending e.key ≡ Some (record { entry = e; slot = Some t })
-  pub alone : (k : ℕ) (x : Entry) → owner p k ≡ m → v.pending k ≡ Some (record { entry = x; slot = Some t }) → k ≡ e.key
+  pub alone : (k : ℕ) (x : Entry) → owner p k ≡ m → v.pending k
+      ≡ Some (record { entry = x; slot = Some t }) → k ≡ e.key
   pub not_out : IsNotOut p m v m t
 
 -- what an owner does with its change that a leader gave back with this home
@@ -162,21 +176,34 @@ over e None = GiveUp e
 over e (Some h) = Finish e h
 
 abbrev pub tells_finish : Tells
-tells_finish st m r n = (t : ℕ) → t < 8 → st.word ≡ pool_word (size (origin_in m.0)) (number_in m.0) t
-    → (e : Entry) × (home : Option ℕ) × (n ≡ (did (over e home) m.0, (pool_place (number_in m.0) t, lies e home) ∷ m.1)) × Stands (place_of (origin_in m.0)) (number_in m.0) (view_in m.0) t e
-    × MatchOption home (In (loads.Slot (number_in m.0) t words.Failed) (view_in m.0).looked) (λ h. In (loads.Slot (number_in m.0) t (words.Done h)) (view_in m.0).looked)
-    × MatchOption home (TidiedIn (place_of (origin_in m.0)) (number_in m.0) (after_give_up e (view_in m.0)) (view_in n.0)) (λ h. TidiedIn (place_of (origin_in m.0)) (number_in m.0) (after_finish e h (view_in m.0)) (view_in n.0))
+tells_finish st m r n = (t : ℕ) → t < 8 → st.word ≡ pool_word (size (origin_in m.0))
+    (number_in m.0) t
+    → (e : Entry) × (home : Option ℕ) × (n ≡ (
+      did (over e home) m.0,
+      (pool_place (number_in m.0) t, lies e home) ∷ m.1,
+    ))
+    × Stands (place_of (origin_in m.0)) (number_in m.0) (view_in m.0) t e
+    × MatchOption home (In (loads.Slot (number_in m.0) t words.Failed) (view_in m.0).looked)
+    (λ h. In (loads.Slot (number_in m.0) t (words.Done h)) (view_in m.0).looked)
+    × MatchOption home (TidiedIn (place_of (origin_in m.0)) (number_in m.0)
+    (after_give_up e (view_in m.0)) (view_in n.0))
+    (λ h. TidiedIn (place_of (origin_in m.0)) (number_in m.0) (after_finish e h (view_in m.0))
+    (view_in n.0))
     × IfSome home (IsHome (place_of (origin_in m.0)) (number_in m.0) (view_in m.0) e)
 
 abbrev pub tells_withdraw : Tells
-tells_withdraw st m r n = (t : ℕ) → t < 8 → st.word ≡ pool_word (size (origin_in m.0)) (number_in m.0) t
-    → (e : Entry) × (n ≡ (did (Withdraw e) m.0, (pool_place (number_in m.0) t, lies e None) ∷ m.1)) × Stands (place_of (origin_in m.0)) (number_in m.0) (view_in m.0) t e
+tells_withdraw st m r n = (t : ℕ) → t < 8 → st.word
+    ≡ pool_word (size (origin_in m.0)) (number_in m.0) t
+    → (e : Entry) × (n ≡ (did (Withdraw e) m.0, (pool_place (number_in m.0) t, lies e None) ∷ m.1))
+    × Stands (place_of (origin_in m.0)) (number_in m.0) (view_in m.0) t e
 
 abbrev pub tells_doom : List EntryName → Tells
 tells_doom ns st m r n = n ≡ (did (Doom ns) m.0, m.1)
 
 abbrev pub tells_retire : List EntryName → Tells
-tells_retire ns st m r n = (n ≡ (did (Retire ns) m.0, m.1)) × TidiedIn (place_of (origin_in m.0)) (number_in m.0) (after_retire (place_of (origin_in m.0)) (number_in m.0) ns (view_in m.0)) (view_in n.0)
+tells_retire ns st m r n = (n ≡ (did (Retire ns) m.0, m.1))
+    × TidiedIn (place_of (origin_in m.0)) (number_in m.0)
+    (after_retire (place_of (origin_in m.0)) (number_in m.0) ns (view_in m.0)) (view_in n.0)
 
 abbrev pub hand_in : SeatData → Option MailHold
 hand_in (Store k b back) = None
@@ -192,23 +219,43 @@ gripping g Spent = Spent
 -- a load of an outgoing mailbox: where it is empty, its slot is taken in hand
 abbrev pub tells_try_send : Tells
 tells_try_send st m r n = (to : ℕ) → st.word ≡ mail_word (size (origin_in m.0)) (number_in m.0) to
-    → ((r ≡ 0) × (n ≡ (gripping (grip_at (pool_place (number_in m.0) to) [] []) (did (Found (loads.Mail (number_in m.0) to false)) m.0), (mail_place (size (origin_in m.0)) (number_in m.0) to, None) ∷ m.1)))
+    → ((r ≡ 0) × (n ≡ (
+      gripping (grip_at (pool_place (number_in m.0) to) [] [])
+          (did (Found (loads.Mail (number_in m.0) to false)) m.0),
+      (mail_place (size (origin_in m.0)) (number_in m.0) to, None) ∷ m.1,
+    )))
     ⊎ ((r ≢ 0) × (n ≡ (did (Found (loads.Mail (number_in m.0) to true)) m.0, m.1)))
 
 abbrev pub tells_send : Tells
-tells_send st m r n = (to : ℕ) (q : Notices) → st.word ≡ mail_word (size (origin_in m.0)) (number_in m.0) to → m.1 ≡ (mail_place (size (origin_in m.0)) (number_in m.0) to, Some (parcels.Notices q)) ∷ rest m.1
+tells_send st m r n = (to : ℕ) (q : Notices) → st.word
+    ≡ mail_word (size (origin_in m.0)) (number_in m.0) to
+    → m.1 ≡ (mail_place (size (origin_in m.0)) (number_in m.0) to, Some (parcels.Notices q)) ∷ rest
+    m.1
     → n ≡ (gripping None (did (Send to q.dead.names q.gone.names) m.0), rest m.1)
 
 -- the seat has the slot of an incoming mailbox in hand, and what lies there
 abbrev pub Fetched : SeatState → SeatState → ℕ → Type 0
-Fetched m n from = (q : Notices) × (n ≡ (gripping (grip_at (pool_place from (number_in m.0)) q.dead.names q.gone.names) (did (Found (loads.Mail from (number_in m.0) true)) m.0), (mail_place (size (origin_in m.0)) from (number_in m.0), Some (parcels.Notices q)) ∷ m.1)) × IsHeard (place_of (origin_in m.0)) (number_in m.0) from (view_in m.0) (notices_of q)
+Fetched m n from = (q : Notices) × (n ≡ (
+  gripping (grip_at
+      (pool_place from (number_in m.0)) q.dead.names q.gone.names)
+      (did (Found (loads.Mail from (number_in m.0) true)) m.0),
+  (mail_place (size (origin_in m.0)) from (number_in m.0), Some (parcels.Notices q)) ∷ m.1,
+))
+    × IsHeard (place_of (origin_in m.0)) (number_in m.0) from (view_in m.0) (notices_of q)
 
 -- a load of an incoming mailbox: where it is full, its slot is taken in hand
 abbrev pub tells_try_receive : Tells
-tells_try_receive st m r n = (from : ℕ) → from < size (origin_in m.0) → st.word ≡ mail_word (size (origin_in m.0)) from (number_in m.0)
+tells_try_receive st m r n = (from : ℕ) → from < size (origin_in m.0)
+    → st.word ≡ mail_word (size (origin_in m.0)) from (number_in m.0)
     → ((r ≢ 0) × Fetched m n from)
     ⊎ ((r ≡ 0) × (n ≡ (did (Found (loads.Mail from (number_in m.0) false)) m.0, m.1)))
 
 abbrev pub tells_receive : Tells
-tells_receive st m r n = (n ≡ (gripping None (did (Receive (gripped (hand_in m.0)).dead (gripped (hand_in m.0)).gone) m.0), rest m.1))
-    × TidiedIn (place_of (origin_in m.0)) (number_in m.0) (after_receive (place_of (origin_in m.0)) (number_in m.0) (gripped (hand_in m.0)) (view_in m.0)) (view_in n.0)
+tells_receive st m r n = (n ≡ (
+  gripping None (did (Receive (gripped (hand_in m.0)).dead
+      (gripped (hand_in m.0)).gone) m.0),
+  rest m.1,
+))
+    × TidiedIn (place_of (origin_in m.0)) (number_in m.0)
+    (after_receive (place_of (origin_in m.0)) (number_in m.0) (gripped (hand_in m.0)) (view_in m.0))
+    (view_in n.0)

@@ -53,4 +53,5 @@ pub record Waits (s : SeatAt) (n : ℕ) (leads : Bool) (v : View) : Type 0 where
 
 -- member k's token, at a table of a group that just opened on these words
 abbrev pub IsStart : List ℕ → TableId → ℕ → SeatToken → Type 0
-IsStart ws z k t = (seat_of t.own ≡ member_at z (place_in 0 ws) k) × (view_at t.own ≡ view_of (began_on ws) k)
+IsStart ws z k t = (seat_of t.own ≡ member_at z (place_in 0 ws) k)
+    × (view_at t.own ≡ view_of (began_on ws) k)

@@ -23,25 +23,30 @@ member_at z p k = record { number = k; place = p; table = z; handle = 0 }
 
 -- tokens of the seats of a table, by rising member
 abbrev pub AreTokens : TableId → Place → List SeatToken → Type 0
-AreTokens z p ts = (k : ℕ) (t : SeatToken) → get_elem? ts k ≡ some t → seat_of t.own ≡ member_at z p k
+AreTokens z p ts = (k : ℕ) (t : SeatToken) → get_elem? ts k ≡ some t
+    → seat_of t.own ≡ member_at z p k
 
 -- each member has the view with which the group opened
 abbrev pub AreFresh : Origin → List SeatToken → Type 0
-AreFresh b ts = (k : ℕ) (t : SeatToken) → get_elem? ts k ≡ some t → view_at t.own ≡ view_of (began b) k
+AreFresh b ts = (k : ℕ) (t : SeatToken) → get_elem? ts k ≡ some t
+    → view_at t.own ≡ view_of (began b) k
 
 -- The words show a lawful state that the machine's steps lead to, in which each member has the view of its token.
 pub record Ended (b : Origin) (ts : List SeatToken) (ws : List ℕ) : Type 0 where
   pub table : TableState
   pub shows : ShowsLawful b table
   pub words : table.words ≡ ws
-  pub views : (k : ℕ) (t : SeatToken) → get_elem? ts k ≡ some t → views_of b table.views k ≡ view_at t.own
+  pub views : (k : ℕ) (t : SeatToken) → get_elem? ts k ≡ some t
+      → views_of b table.views k ≡ view_at t.own
 
 -- nothing in them, and room for 64 numbers
 abbrev pub AreEmptyHands : {A : Type 0} → List (VecDeque ℕ A) → Type 0
-AreEmptyHands hs = (k : ℕ) (h : VecDeque ℕ _) → get_elem? hs k ≡ some h → (h.items ≡ []) × (64 ≤ deque_capacity h)
+AreEmptyHands hs = (k : ℕ) (h : VecDeque ℕ _) → get_elem? hs k ≡ some h → (h.items ≡ [])
+    × (64 ≤ deque_capacity h)
 
 -- the store has the deeds of the tokens from the j-th on
 abbrev pub HasFrom : Origin → List SeatToken → ℕ → SeatData → Type 0
 HasFrom b ts j d =
     (c : Origin) × (n : ℕ) × (back : List (ℕ × List Deed)) × (d ≡ Store n c back)
-    × ((k : ℕ) (t : SeatToken) → j ≤ k → get_elem? ts k ≡ some t → (is_back back k ≡ true) × (view_by b k (deeds_in back k) ≡ view_at t.own))
+    × ((k : ℕ) (t : SeatToken) → j ≤ k → get_elem? ts k ≡ some t → (is_back back k ≡ true)
+    × (view_by b k (deeds_in back k) ≡ view_at t.own))

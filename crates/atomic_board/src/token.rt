@@ -15,8 +15,10 @@ pub struct SeatToken {
     /// a table that threads share.
     pub(crate) spare: Option<CoreView>,
     ghost rides: { own.member + 1 ≡ own.members → is_some spare ≡ true },
-    ghost here: { IfSome spare (λ s. s.table_id ≡ own.seat.table_id) } by { if_some_prop _ _ (λ s. TableId-set _ _) },
-    ghost store: { IfSome spare (λ s. (length s.me.1 ≡ 0) × (is_store s.me.0 ≡ true)) } by { Prim.hlevel props },
+    ghost here: { IfSome spare (λ s. s.table_id ≡ own.seat.table_id) } by { if_some_prop _ _
+        (λ s. TableId-set _ _) },
+    ghost store: { IfSome spare (λ s. (length s.me.1 ≡ 0)
+        × (is_store s.me.0 ≡ true)) } by { Prim.hlevel props },
 }
 
 /// A member's seat at its table, by which it makes the calls of `Board`.
@@ -28,8 +30,10 @@ pub struct CoreSeat<'a> {
     pub(crate) spare: Option<CoreView>,
     ghost of_table: { own.seat.table_id ≡ shared.now.table_id } by { TableId-set _ _ },
     ghost rides: { own.member + 1 ≡ own.members → is_some spare ≡ true },
-    ghost here: { IfSome spare (λ s. s.table_id ≡ own.seat.table_id) } by { if_some_prop _ _ (λ s. TableId-set _ _) },
-    ghost store: { IfSome spare (λ s. (length s.me.1 ≡ 0) × (is_store s.me.0 ≡ true)) } by { Prim.hlevel props },
+    ghost here: { IfSome spare (λ s. s.table_id ≡ own.seat.table_id) } by { if_some_prop _ _
+        (λ s. TableId-set _ _) },
+    ghost store: { IfSome spare (λ s. (length s.me.1 ≡ 0)
+        × (is_store s.me.0 ≡ true)) } by { Prim.hlevel props },
 }
 
 impl<'a> CoreSeat<'a> {

@@ -15,16 +15,20 @@ abbrev pub failed : Taken → View → View
 failed t v = after_fail t.member t.slot v
 
 -- The first change was given back, by one step of this kind.
-pub record GivesFirst (gives : Taken → View → View) (kind : ℕ → ℕ → Kind) (m : ℕ) (before after : Option Group) (v v' : View) (old new : List Taken) : Type 0 where
+pub record GivesFirst (gives : Taken → View → View) (kind : ℕ → ℕ → Kind) (m : ℕ)
+    (before after : Option Group) (v v' : View) (old new : List Taken) : Type 0 where
   pub first : Taken
   pub rest : old ≡ first ∷ new
   pub view : v' ≡ gives first v
   pub whole : Makes before m (kind first.member first.slot) after v'
 
 -- the same, or there was none left
-abbrev pub GivesBack : Bool → (Taken → View → View) → (ℕ → ℕ → Kind) → ℕ → Option Group → Option Group → View → View → List Taken → List Taken → Type 0
-GivesBack true gives kind m before after v v' old new = GivesFirst gives kind m before after v v' old new
-GivesBack false gives kind m before after v v' old new = (old ≡ []) × (new ≡ []) × (v' ≡ v) × (after ≡ before)
+abbrev pub GivesBack : Bool → (Taken → View → View) → (ℕ → ℕ → Kind) → ℕ → Option Group
+    → Option Group → View → View → List Taken → List Taken → Type 0
+GivesBack true gives kind m before after v v' old new = GivesFirst gives kind m before after v v'
+    old new
+GivesBack false gives kind m before after v v' old new = (old ≡ []) × (new ≡ []) × (v' ≡ v)
+    × (after ≡ before)
 
 -- the view after these are marked, one after another, and the steps of that
 abbrev pub marked_all : List Taken → View → View

@@ -23,7 +23,10 @@ use Rattle.batch_leader.specs.Rounds.{words_in}
 
 -- a put of the byte 97 under a key
 abbrev pub put_of : ℕ → Change
-put_of k = record { entry = record { key = k; version = 1; body = Embedded (97 ∷ []) }; home = None }
+put_of k = record {
+  entry = record { key = k; version = 1; body = Embedded (97 ∷ []) };
+  home = None;
+}
 
 -- an empty part of 4 chunks
 abbrev pub empty_room : Room
@@ -79,7 +82,8 @@ pub record Gathered (w u : Group) (m : ℕ) (b : Batch) : Type 0 where
   pub unwritten : IsUnwritten (view_of w m) → IsUnwritten (view_of u m)
 
 -- It may write the batch into chunk 2 of its part.
-pub record MayWrite (p : Place) (m : ℕ) (v : View) (s : State) (log : LogState) (b : Batch) : Type 0 where
+pub record MayWrite (p : Place) (m : ℕ) (v : View) (s : State) (log : LogState)
+    (b : Batch) : Type 0 where
   pub batch : IsBatchAt p m v b
   pub begins : Begins s p m v log
   pub room : HasRoom s log (words_in b.changes.taken.items) (Some 2)

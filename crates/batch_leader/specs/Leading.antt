@@ -65,11 +65,13 @@ pub record IsKept (room : Room) : Type 0 where
 
 -- Once a batch of so many words is written, with own entries of so many lines, what is pledged to others than these fits in its chunk, or two chunks are free.
 abbrev pub LeavesRoom : Room → Bool → ℕ → ℕ → Type 0
-LeavesRoom room fresh own n = (room.pledged_lines - own ≤ space room fresh - lines_for n) ⊎ (2 ≤ left_free room fresh)
+LeavesRoom room fresh own n = (room.pledged_lines - own ≤ space room fresh - lines_for n)
+    ⊎ (2 ≤ left_free room fresh)
 
 -- There is a chunk with room for so many words; and where the room rule is kept, writing them leaves it so.
 abbrev pub HasSpace : Room → Bool → ℕ → ℕ → Type 0
-HasSpace room fresh own n = (lines_for n ≤ space room fresh) × (fresh ≡ true → 0 < room.free_chunks) × (IsKept room → LeavesRoom room fresh own n)
+HasSpace room fresh own n = (lines_for n ≤ space room fresh) × (fresh ≡ true → 0 < room.free_chunks)
+    × (IsKept room → LeavesRoom room fresh own n)
 
 -- The entries have room in the batch's chunk, as this room tells it.
 abbrev pub Suits : Room → Collecting → Type 0
@@ -78,11 +80,16 @@ Suits room c = taken_by c ≢ [] → HasSpace room c.fresh c.own_lines (words_in
 -- looks of member m at n slots of its round, from a position on
 abbrev pub looks_upto : ℕ → ℕ → ℕ → List (ℕ × Kind)
 looks_upto m at zero = []
-looks_upto m at (suc n) = looks_upto m at n ++ (m, Look (member_at m (at + n)) (slot_at (at + n))) ∷ []
+looks_upto m at (suc n) = looks_upto m at n ++ (
+  m,
+  Look (member_at m (at + n))
+      (slot_at (at + n)),
+) ∷ []
 
 -- These steps lead from the one told state to the other, where member m's view is v.
 abbrev pub MakesAll : Option Group → List (ℕ × Kind) → Option Group → ℕ → View → Type 0
-MakesAll before steps after m v = IfSome before (λ w. IsSomeAnd after (λ u. Runs w steps u × (v ≡ view_of u m)))
+MakesAll before steps after m v = IfSome before (λ w. IsSomeAnd after
+    (λ u. Runs w steps u × (v ≡ view_of u m)))
 
 -- nothing but what was looked at differs
 abbrev pub HasLooked : View → View → Type 0
@@ -94,7 +101,8 @@ Found before m i x = IfSome before (λ w. shown_at w m i ≡ x)
 
 -- a load of the slot at a position of m's round is among these, and showed this
 abbrev pub IsFoundIn : List Seen → ℕ → ℕ → SlotState → Type 0
-IsFoundIn looks m i x = (word : SlotWord) × (state_of word ≡ x) × In (Slot (member_at m i) (slot_at i) word) looks
+IsFoundIn looks m i x = (word : SlotWord) × (state_of word ≡ x)
+    × In (Slot (member_at m i) (slot_at i) word) looks
 
 -- What m's view has of its round besides what it had: a load of each slot from one position to before another, and what each showed is as P says.
 pub record Saw (old new : View) (m first end : ℕ) (P : ℕ → SlotState → Type 0) : Type 0 where
@@ -103,7 +111,8 @@ pub record Saw (old new : View) (m first end : ℕ) (P : ℕ → SlotState → T
   pub found : (i : ℕ) → first ≤ i → i < end → (x : SlotState) × P i x × IsFoundIn looks m i x
 
 -- the entry that a look found fits, and has so many words
-pub record Fits (room : Room) (lines : ℕ) (ts : List Taken) (fresh mine : Bool) (x : SlotState) (n : ℕ) : Type 0 where
+pub record Fits (room : Room) (lines : ℕ) (ts : List Taken) (fresh mine : Bool) (x : SlotState)
+    (n : ℕ) : Type 0 where
   pub posted : x ≡ slots.Posted n
   pub short : n ≤ 34
   pub fits : fits room lines ts fresh mine n ≡ true
@@ -116,8 +125,10 @@ pub record Takes (room : Room) (m : ℕ) (v v' : View) (old new : Collecting) : 
   pub member : change.member ≡ member_at m (new.at - 1)
   pub slot : change.slot ≡ slot_at (new.at - 1)
   pub home : change.change.home ≡ None
-  pub fits : fits room (own_lines m (taken_by old)) (taken_by old) old.fresh (change.member == m) (length (words_of change.change.entry)) ≡ true
-  pub fresh : new.fresh ≡ goes_fresh room (taken_by old) old.fresh (length (words_of change.change.entry))
+  pub fits : fits room (own_lines m (taken_by old)) (taken_by old) old.fresh (change.member == m)
+      (length (words_of change.change.entry)) ≡ true
+  pub fresh : new.fresh ≡ goes_fresh room (taken_by old) old.fresh
+      (length (words_of change.change.entry))
   pub over : new.over ≡ false
   pub view : v' ≡ after_take change.member change.slot change.change.entry v
 
@@ -132,11 +143,14 @@ pub record Keeps (v v' : View) (old new : Collecting) : Type 0 where
 -- Each slot that it passed it found not Posted, or with an entry that doesn't fit.
 abbrev pub Passed : Option Group → Room → ℕ → Collecting → ℕ → Type 0
 Passed before room m old end =
-    (i : ℕ) → old.at ≤ i → i < end → (x : SlotState) × Passes room (own_lines m (taken_by old)) (taken_by old) old.fresh (member_at m i == m) x × Found before m i x
+    (i : ℕ) → old.at ≤ i → i < end → (x : SlotState)
+    × Passes room (own_lines m (taken_by old)) (taken_by old) old.fresh (member_at m i == m) x
+    × Found before m i x
 
 -- what a look shows at a position makes this leader pass the slot
 abbrev pub PassesAt : Room → ℕ → Collecting → ℕ → SlotState → Type 0
-PassesAt room m old i x = Passes room (own_lines m (taken_by old)) (taken_by old) old.fresh (member_at m i == m) x
+PassesAt room m old i x = Passes room (own_lines m (taken_by old)) (taken_by old) old.fresh
+    (member_at m i == m) x
 
 -- what it saw of the slots that it passed, where it took nothing
 abbrev pub SawPassed : Room → ℕ → View → View → Collecting → Collecting → Type 0
@@ -144,12 +158,14 @@ SawPassed room m v v' old new = Saw v v' m old.at new.at (PassesAt room m old)
 
 -- Of the slots of its round it passed some, and took the change of the next one where `took` says so.
 abbrev pub Went : Bool → Option Group → Room → ℕ → View → View → Collecting → Collecting → Type 0
-Went true before room m v v' old new = Takes room m v v' old new × Passed before room m old (new.at - 1)
+Went true before room m v v' old new = Takes room m v v' old new
+    × Passed before room m old (new.at - 1)
 Went false before room m v v' old new = Keeps v v' old new × Passed before room m old new.at
 
 -- the steps of this: looks, and one take
 abbrev pub steps_of : Bool → ℕ → Collecting → Collecting → List (ℕ × Kind)
-steps_of true m old new = looks_upto m old.at (new.at - old.at) ++ (m, Take (member_at m (new.at - 1)) (slot_at (new.at - 1))) ∷ []
+steps_of true m old new = looks_upto m old.at (new.at - old.at)
+    ++ (m, Take (member_at m (new.at - 1)) (slot_at (new.at - 1))) ∷ []
 steps_of false m old new = looks_upto m old.at (new.at - old.at)
 
 abbrev pub took : Collected → Bool
@@ -172,12 +188,16 @@ abbrev pub SawNonePosted : ℕ → View → View → ℕ → Type 0
 SawNonePosted m v v' end = Saw v v' m 0 end (λ i x. IsNotPosted x)
 
 -- The own change of a slot was taken back, which was the lowest one found Posted.
-pub record TakesBack (before after : Option Group) (m : ℕ) (v v' : View) (change : Change) : Type 0 where
+pub record TakesBack (before after : Option Group) (m : ℕ) (v v' : View)
+    (change : Change) : Type 0 where
   pub slot : ℕ
   pub within : slot < 8
   pub lower : NonePosted before m slot
   pub home : change.home ≡ None
-  pub pending : v.pending change.entry.key ≡ Some (record { entry = change.entry; slot = Some slot })
+  pub pending : v.pending change.entry.key ≡ Some (record {
+    entry = change.entry;
+    slot = Some slot;
+  })
   pub view : v' ≡ after_withdraw change.entry v
   pub made : MakesAll before (looks_upto m 0 (slot + 1) ++ (m, Withdraw slot) ∷ []) after m v'
 
@@ -218,5 +238,7 @@ IsLost seat v ts = IsLostAt seat.place seat.number v ts
 
 -- What is left of a leader that gave the lock back: a batch of all that it took, or its room where it took nothing.
 abbrev pub IsReleased : SeatAt → View → Collecting → Released → Type 0
-IsReleased seat v c (released.Batch b) = IsBatchOf seat v b × (b.changes ≡ c.changes) × (b.fresh ≡ c.fresh) × (b.own_lines ≡ c.own_lines)
-IsReleased seat v c (released.Nothing b) = (taken_by c ≡ []) × (v.broken ≡ false → v.flying ≡ []) × ((a s : ℕ) → v.taken a s ≡ None)
+IsReleased seat v c (released.Batch b) = IsBatchOf seat v b × (b.changes ≡ c.changes)
+    × (b.fresh ≡ c.fresh) × (b.own_lines ≡ c.own_lines)
+IsReleased seat v c (released.Nothing b) = (taken_by c ≡ []) × (v.broken ≡ false → v.flying ≡ [])
+    × ((a s : ℕ) → v.taken a s ≡ None)

@@ -13,7 +13,8 @@ use Rattle.licence.specs.Licence.{Licensed, part_at, part_end}
 abbrev pub HasRoom : State → LogState → ℕ → Option ℕ → Type 0
 HasRoom s log words None = lines_for words ≤ room_of log
 HasRoom s log words (Some j) =
-    (lines_for words ≤ payload_lines log.layout) × (j < log.layout.chunks) × (IsTelling s → Surely (cell_now s (first_of log j)) 0)
+    (lines_for words ≤ payload_lines log.layout) × (j < log.layout.chunks)
+    × (IsTelling s → Surely (cell_now s (first_of log j)) 0)
 
 -- the log with the fresh chunk as the open one, with nothing in it
 abbrev pub opened_for : LogState → Option ℕ → LogState
@@ -30,8 +31,10 @@ IsLicensedNow s seat v = IsTelling s → Licensed seat.place seat.number v (cell
 
 -- no word outside the member's part is stored or flushed
 abbrev pub WritesPart : State → State → SeatAt → Type 0
-WritesPart s t seat = During s t (KeepsOutside (cell_now s) (part_at seat.place seat.number) (part_end seat.place seat.number))
+WritesPart s t seat = During s t (KeepsOutside (cell_now s) (part_at seat.place seat.number)
+    (part_end seat.place seat.number))
 
 -- no word outside the open chunk of the log is stored or flushed
 abbrev pub WritesOpenChunk : State → State → LogState → Type 0
-WritesOpenChunk s t log = During s t (KeepsOutside (cell_now s) (open_first log) (open_first log + chunk_words log.layout))
+WritesOpenChunk s t log = During s t (KeepsOutside (cell_now s) (open_first log)
+    (open_first log + chunk_words log.layout))

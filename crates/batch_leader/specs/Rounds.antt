@@ -27,7 +27,8 @@ words_in ts = length (spelled ts)
 
 unfoldable pub own_lines : ℕ → List Taken → ℕ
 own_lines m [] = 0
-own_lines m (t ∷ ts) = (if t.member == m then lines_for (length (words_of t.change.entry)) else 0) + own_lines m ts
+own_lines m (t ∷ ts) = (if t.member == m then lines_for (length (words_of t.change.entry)) else 0)
+    + own_lines m ts
 
 abbrev pub is_first : List Taken → Bool
 is_first [] = true
@@ -57,12 +58,15 @@ has_chunk room fresh = not fresh || nat_lt 0 room.free_chunks
 
 -- The batch leaves the room rule kept for what is pledged to others than its own entries.
 unfoldable pub leaves_room : Room → ℕ → List Taken → Bool → ℕ → Bool
-leaves_room room own ts fresh n = nat_le (room.pledged_lines - own) (left_open room ts fresh n) || nat_le 2 (left_free room fresh)
+leaves_room room own ts fresh n = nat_le (room.pledged_lines - own)
+    (left_open room ts fresh n) || nat_le 2 (left_free room fresh)
 
 -- An entry of so many words (no entry has more than 34) fits into a batch whose own entries take `own` lines: an own one where it is the first or the chunk has room; another's where that holds and room is left. That there is a chunk for the batch is asked of an own one too; where the room rule is kept, there is.
 unfoldable pub fits : Room → ℕ → List Taken → Bool → Bool → ℕ → Bool
 fits room own ts fresh mine n =
-    nat_le n 34 && (stays_in room ts (goes_fresh room ts fresh n) n && (has_chunk room (goes_fresh room ts fresh n) && (mine || leaves_room room own ts (goes_fresh room ts fresh n) n)))
+    nat_le n 34 && (stays_in room ts (goes_fresh room ts fresh n) n &&
+    (has_chunk room (goes_fresh room ts fresh n) &&
+    (mine || leaves_room room own ts (goes_fresh room ts fresh n) n)))
 
 -- what a look found makes the round pass the slot: it isn't Posted, or its entry doesn't fit
 abbrev pub Passes : Room → ℕ → List Taken → Bool → Bool → SlotState → Type 0

@@ -24,7 +24,8 @@ name_in ts i = option_map name_of (slice_get ts i)
 -- what was taken out of a slot of a member
 abbrev pub taken_in : List Taken → ℕ → ℕ → Option Entry
 taken_in [] a s = None
-taken_in (t ∷ ts) a s = if t.member == a && t.slot == s then Some t.change.entry else taken_in ts a s
+taken_in (t ∷ ts) a s = if t.member == a && t.slot == s then Some t.change.entry else taken_in ts a
+    s
 
 -- no slot stands twice
 abbrev pub AreApart : List Taken → Type 0

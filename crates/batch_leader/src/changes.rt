@@ -62,7 +62,11 @@ impl Changes {
         requires few { length self.old.taken.items < 64 }
         requires spelled { HasSpelling change.entry }
         ensures { self.new.taken.items
-            ≡ self.old.taken.items ++ (record { member = member; slot = slot; change = change }) ∷ [] }
+            ≡ self.old.taken.items ++ (record {
+              member = member;
+              slot = slot;
+              change = change;
+            }) ∷ [] }
     {
         let _words = entry_words(&change.entry);
         write_entry(&change.entry, &mut self.words);

@@ -48,7 +48,8 @@ impl Collecting {
         ensures collects { Collects (B.seat board.old) (B.view board.new) self.new }
         ensures suits { Suits room.now self.new }
         ensures at { self.new.at ≡ self.old.at + 1 }
-        ensures takes { Takes room.now (B.seat board.old).number (B.view board.old) (B.view board.new)
+        ensures takes { Takes room.now (B.seat board.old).number (B.view board.old)
+            (B.view board.new)
             self.old self.new }
         ensures whole { Makes (B.whole board.old) (B.seat board.old).number
             (runs.Kind.Take member slot) (B.whole board.new) (B.view board.new) }
@@ -80,7 +81,8 @@ impl Collecting {
             (B.view board.old) (B.view board.new) self.old self.new }
         ensures seen { result ≡ false → SawPassed room.now (B.seat board.old).number
             (B.view board.old) (B.view board.new) self.old self.new }
-        ensures made { MakesAll (B.whole board.old) (steps_of result (B.seat board.old).number self.old self.new)
+        ensures made { MakesAll (B.whole board.old)
+            (steps_of result (B.seat board.old).number self.old self.new)
             (B.whole board.new) (B.seat board.old).number (B.view board.new) }
     {
         let own = board.member();

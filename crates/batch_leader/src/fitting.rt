@@ -93,7 +93,8 @@ impl Collecting {
     #[tactic(auto, unfolding(crate::specs::Rounds::fits))]
     fn fits(&self, mine: bool, words: u64, room: &Room) -> bool
         requires { words ≤ 34 }
-        ensures { result ≡ fits room.now self.now.own_lines (taken_by self.now) self.now.fresh mine words }
+        ensures { result ≡ fits room.now self.now.own_lines
+            (taken_by self.now) self.now.fresh mine words }
     {
         let fresh = self.goes_fresh(words, room);
         self.stays_in(fresh, words, room)
@@ -106,7 +107,8 @@ impl Collecting {
     pub(crate) fn wanted(&self, found: SlotState, mine: bool, room: &Room) -> Option<u64>
         ensures { MatchOption result
             (Passes room.now self.now.own_lines (taken_by self.now) self.now.fresh mine found)
-            (λ n. Fits room.now self.now.own_lines (taken_by self.now) self.now.fresh mine found n) }
+            (λ n. Fits room.now self.now.own_lines
+            (taken_by self.now) self.now.fresh mine found n) }
     {
         match found {
             SlotState::Posted { words } => {

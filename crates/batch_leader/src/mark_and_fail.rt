@@ -14,7 +14,8 @@ impl Persisted {
     pub fn mark_one<B: Board>(&mut self, board: &mut B) -> bool
         requires { IsCertain (B.seat board.old) (B.view board.old) self.old.left.taken.items }
         ensures seat { B.seat board.new ≡ B.seat board.old }
-        ensures certain { IsCertain (B.seat board.old) (B.view board.new) self.new.left.taken.items }
+        ensures certain { IsCertain (B.seat board.old)
+            (B.view board.new) self.new.left.taken.items }
         ensures gave { GivesBack result marked (λ a s. runs.Kind.Mark a s) (B.seat board.old).number
             (B.whole board.old) (B.whole board.new) (B.view board.old) (B.view board.new)
             self.old.left.taken.items self.new.left.taken.items }
@@ -33,7 +34,8 @@ impl Persisted {
         requires { IsCertain (B.seat board.old) (B.view board.old) self.old.left.taken.items }
         ensures seat { B.seat board.new ≡ B.seat board.old }
         ensures none { self.new.left.taken.items ≡ [] }
-        ensures certain { IsCertain (B.seat board.old) (B.view board.new) self.new.left.taken.items }
+        ensures certain { IsCertain (B.seat board.old)
+            (B.view board.new) self.new.left.taken.items }
         ensures view { B.view board.new ≡ marked_all self.old.left.taken.items (B.view board.old) }
         ensures made { MakesAll (B.whole board.old)
             (marks_of (B.seat board.old).number self.old.left.taken.items)
@@ -44,7 +46,8 @@ impl Persisted {
 
     /// Whether all are given back.
     pub fn is_done(&self) -> bool
-        ensures { MatchBool result (self.now.left.taken.items ≡ []) (self.now.left.taken.items ≢ []) }
+        ensures { MatchBool result (self.now.left.taken.items ≡ [])
+            (self.now.left.taken.items ≢ []) }
     {
         self.left.is_empty()
     }
@@ -85,7 +88,8 @@ impl FailedBatch {
 
     /// Whether all are given back.
     pub fn is_done(&self) -> bool
-        ensures { MatchBool result (self.now.left.taken.items ≡ []) (self.now.left.taken.items ≢ []) }
+        ensures { MatchBool result (self.now.left.taken.items ≡ [])
+            (self.now.left.taken.items ≢ []) }
     {
         self.left.is_empty()
     }

@@ -71,7 +71,8 @@ impl Batch {
         board: &mut B,
     ) -> Result<Persisted, FailedBatch>
         requires batch { IsBatchOf (B.seat board.old) (B.view board.old) self }
-        requires begins { Begins (R.state region.old) (B.seat board.old).place (B.seat board.old).number
+        requires begins { Begins (R.state region.old) (B.seat board.old).place
+            (B.seat board.old).number
             (B.view board.old) log.old }
         requires room { HasRoom (R.state region.old) log.old
             (words_in self.changes.taken.items) Option.None }
@@ -96,7 +97,8 @@ impl Batch {
             (λ _. Makes (B.whole board.old) (B.seat board.old).number
             runs.Kind.Commit (B.whole board.new) (B.view board.new))
             (λ _. B.whole board.new ≡ B.whole board.old) }
-        ensures cause { OnErr result (Rose (R.state region.old).faults (R.state region.new).faults) }
+        ensures cause { OnErr result (Rose (R.state region.old).faults
+            (R.state region.new).faults) }
     {
         match log.append_batch(region, &self.changes.words) {
             Ok(_) => {
@@ -119,9 +121,11 @@ impl Batch {
         fresh: Option<u32>,
     ) -> Result<Persisted, FailedBatch>
         requires batch { IsBatchOf (B.seat board.old) (B.view board.old) self }
-        requires begins { Begins (R.state region.old) (B.seat board.old).place (B.seat board.old).number
+        requires begins { Begins (R.state region.old) (B.seat board.old).place
+            (B.seat board.old).number
             (B.view board.old) log.old }
-        requires room { HasRoom (R.state region.old) log.old (words_in self.changes.taken.items) fresh }
+        requires room { HasRoom (R.state region.old) log.old
+            (words_in self.changes.taken.items) fresh }
         ensures seat { B.seat board.new ≡ B.seat board.old }
         ensures moments { StaysLicensed (R.state region.old) (R.state region.new)
             (B.seat board.old) (B.view board.old) }
@@ -147,7 +151,8 @@ impl Batch {
             (λ _. Makes (B.whole board.old) (B.seat board.old).number
             runs.Kind.Commit (B.whole board.new) (B.view board.new))
             (λ _. B.whole board.new ≡ B.whole board.old) }
-        ensures cause { OnErr result (Rose (R.state region.old).faults (R.state region.new).faults) }
+        ensures cause { OnErr result (Rose (R.state region.old).faults
+            (R.state region.new).faults) }
     {
         match fresh {
             None => self.append(region, log, board),

@@ -79,7 +79,8 @@ pub(crate) fn gather<B: Board>(board: &mut B, change: Change, buffer: BatchBuffe
     ensures fits { IfSome result FitsFresh }
     ensures others { IfSome result (λ _. LeavesOthers (B.whole board.old) (B.whole board.new)
         (B.seat board.old).number) }
-    ensures unwritten { IfSome result (λ _. IsUnwritten (B.view board.old) → IsUnwritten (B.view board.new)) }
+    ensures unwritten { IfSome result (λ _. IsUnwritten (B.view board.old)
+        → IsUnwritten (B.view board.new)) }
 {
     let room = empty_room();
     board.post(0, change, &[]);
@@ -110,7 +111,8 @@ pub(crate) fn write_back<B: Board>(
     requires room { HasRoom (steady_state region.old) log.old
         (words_in batch.changes.taken.items) (Option.Some chunk) }
     ensures seat { B.seat board.new ≡ B.seat board.old }
-    ensures outside { WritesPart (steady_state region.old) (steady_state region.new) (B.seat board.old) }
+    ensures outside { WritesPart (steady_state region.old) (steady_state region.new)
+        (B.seat board.old) }
     ensures others { result ≡ true → LeavesOthers (B.whole board.old) (B.whole board.new)
         (B.seat board.old).number }
 {

@@ -26,7 +26,8 @@ fn gather_at(
 ) -> Option<Batch>
     requires { MayGather (state board.old.keeper.me.0).place member
         (view_of (state board.old.keeper.me.0) member) change }
-    ensures { IfSome result (Gathered (state board.old.keeper.me.0) (state board.new.keeper.me.0) member) }
+    ensures { IfSome result (Gathered (state board.old.keeper.me.0)
+        (state board.new.keeper.me.0) member) }
 {
     let mut seat = LocalSeat { board, member };
     gather(&mut seat, change, buffer)
@@ -42,7 +43,8 @@ pub(crate) fn write_at(
 ) -> bool
     requires { MayWrite (state board.old.keeper.me.0).place member
         (view_of (state board.old.keeper.me.0) member) (steady_state region.old) log.old batch }
-    ensures { result ≡ true → Wrote (state board.old.keeper.me.0) (state board.new.keeper.me.0) member
+    ensures { result ≡ true → Wrote (state board.old.keeper.me.0)
+        (state board.new.keeper.me.0) member
         (steady_state region.old) (steady_state region.new) }
 {
     let mut seat = LocalSeat { board, member };

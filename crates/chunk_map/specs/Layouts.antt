@@ -44,7 +44,8 @@ layout_rule l =
     (if nat_le 1 l.group && nat_le l.group MOST_GROUP && l.cores % l.group == 0 then
     (if nat_le LEAST_CHUNKS l.chunks && nat_le l.chunks MOST_CHUNKS then
     (if is_chunk_size l.chunk_bytes then
-    (if nat_le (l.cores * l.chunks * l.chunk_bytes) MOST_PART_BYTES then None else Some 5) else Some 4)
+    (if nat_le (l.cores * l.chunks * l.chunk_bytes) MOST_PART_BYTES then None else Some 5) else Some
+    4)
     else Some 3) else Some 2) else Some 1
 
 abbrev pub IsLayout : Geometry → Type 0
@@ -78,11 +79,13 @@ is_of_group l c key = owner l key / l.group == c / l.group
 
 -- A class of the layout. No layout has one past the greatest.
 abbrev pub is_class : Geometry → ℕ → Bool
-is_class l class = nat_le 1 class && nat_le class GREATEST_CLASS && nat_le (4 * UNIT_BYTES * 2 ^ class) l.chunk_bytes
+is_class l class = nat_le 1 class && nat_le class GREATEST_CLASS && nat_le
+    (4 * UNIT_BYTES * 2 ^ class) l.chunk_bytes
 
 -- whether a value of this length gets a block, and one of this class: the least that has room for a word more
 abbrev pub has_class : ℕ → ℕ → Bool
-has_class length class = nat_le SHORTEST_IN_BLOCK length && nat_le (length + 8) (UNIT_BYTES * 2 ^ class)
+has_class length class = nat_le SHORTEST_IN_BLOCK length && nat_le (length + 8)
+    (UNIT_BYTES * 2 ^ class)
     && (class == 1 || nat_lt (128 * 2 ^ class) (length + 8))
 
 -- the head that two words are, or the rule that they break
@@ -91,7 +94,8 @@ head_by l kind tail =
     if kind == 0 then Ok Free
     else (if kind == 1 then (if tail % 8 == 0 && nat_le tail (payload_words l) then Ok (Log tail)
     else Err 5)
-    else (if kind % CLASS_FACTOR == 2 && is_class l (kind / CLASS_FACTOR) then Ok (Data (kind / CLASS_FACTOR)) else Err 4))
+    else (if kind % CLASS_FACTOR == 2 && is_class l (kind / CLASS_FACTOR) then Ok
+    (Data (kind / CLASS_FACTOR)) else Err 4))
 
 abbrev pub head_at : Geometry → (ℕ → ℕ) → ℕ → Result Head ℕ
 head_at l image at = head_by l (image at) (image (at + 1))

@@ -90,11 +90,26 @@ impl Model for Layout {
 
     ghost Value = { Geometry };
 
-    ghost view = { λ l. record { cores = l.cores; group = l.group; chunks = l.chunks; chunk_bytes = l.chunk_bytes } };
+    ghost view = { λ l. record {
+      cores = l.cores;
+      group = l.group;
+      chunks = l.chunks;
+      chunk_bytes = l.chunk_bytes;
+    } };
 
-    ghost inverse = { λ g. record { cores = g.cores; group = g.group; chunks = g.chunks; chunk_bytes = g.chunk_bytes } };
+    ghost inverse = { λ g. record {
+      cores = g.cores;
+      group = g.group;
+      chunks = g.chunks;
+      chunk_bytes = g.chunk_bytes;
+    } };
 
-    ghost invariant = { λ l. IsLayout (record { cores = l.cores; group = l.group; chunks = l.chunks; chunk_bytes = l.chunk_bytes }) };
+    ghost invariant = { λ l. IsLayout (record {
+      cores = l.cores;
+      group = l.group;
+      chunks = l.chunks;
+      chunk_bytes = l.chunk_bytes;
+    }) };
 }
 
 impl Layout {

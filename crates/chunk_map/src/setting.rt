@@ -53,7 +53,8 @@ pub fn set_head<R: Region>(region: &mut R, at: u64, head: Head) -> Result<(), Re
     ensures heads { (l : Geometry) (before : Result Head ℕ) → FitsHead l head
         → (IsTelling (R.state region.old) → EachIn at (at + 2) (HasHead l at before)
         (cell_now (R.state region.old)))
-        → During (R.state region.old) (R.state region.new) (EachIn at (at + 2) (HasEitherHead l at before head)) }
+        → During (R.state region.old) (R.state region.new)
+        (EachIn at (at + 2) (HasEitherHead l at before head)) }
     // No word outside the head's first line is stored or flushed.
     ensures outside { During (R.state region.old) (R.state region.new)
         (KeepsOutside (cell_now (R.state region.old)) at (at + 8)) }

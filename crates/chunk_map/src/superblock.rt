@@ -53,7 +53,8 @@ pub fn write_superblock<R: Region>(region: &mut R, layout: &Layout) -> Result<()
         (NarrowsOutside (cell_now (R.state region.old)) 0 6) }
     // Over a zero magic word each image is refused by rule 2 or has the whole superblock.
     ensures fresh { (IsTelling (R.state region.old) → Surely (cell_now (R.state region.old) 0) 0)
-        → During (R.state region.old) (R.state region.new) (EachIn 0 6 (IsRefusedOrWhole layout.now (total_bytes layout.now))) }
+        → During (R.state region.old) (R.state region.new)
+        (EachIn 0 6 (IsRefusedOrWhole layout.now (total_bytes layout.now))) }
     ensures ok { OnOk result (IsTelling (R.state region.new)
         → EachIn 0 6 (IsSuperblock layout.now) (cell_now (R.state region.new))) }
     ensures cause { OnErr result (Rose (R.state region.old).faults (R.state region.new).faults) }

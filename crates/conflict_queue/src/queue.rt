@@ -32,7 +32,8 @@ impl Model for ConflictQueue {
 
     ghost view = { λ a. all_held a.nodes.items a.chains.items };
 
-    ghost invariant = { λ a. IsQueue a.nodes.items a.chains.items a.free a.free_nodes (vec_capacity a.chains) };
+    ghost invariant = { λ a. IsQueue a.nodes.items a.chains.items a.free a.free_nodes
+        (vec_capacity a.chains) };
 }
 
 impl ConflictQueue {

@@ -67,7 +67,8 @@ pub record Tells (old new : List (ℕ × Place)) (home : ℕ) (n : EntryName) : 
 -- the same, with which entries wait afterwards, and how many may still die or be told
 pub record ToldAt (old new : List (ℕ × Place)) (home : ℕ) (n : EntryName) : Type 0 where
   pub tells : Tells old new home n
-  pub waits : (w h : ℕ) → Awaits (known_at new n.key) h w → (w ≢ n.version) × Awaits (known_at old n.key) h w
+  pub waits : (w h : ℕ) → Awaits (known_at new n.key) h w → (w ≢ n.version)
+      × Awaits (known_at old n.key) h w
   pub count : all_mortal new ≤ all_mortal old
   pub fewer : all_untold new + 1 ≡ all_untold old
 

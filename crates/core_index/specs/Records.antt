@@ -36,7 +36,8 @@ stands_alone ss v = list_all (λ s. s.version == v) ss
 
 -- A version is dead where a later one is finished. A delete that is the last version is dead once no other version stands.
 abbrev pub is_dead : KeyRecord → ℕ → Bool
-is_dead r v = nat_lt v r.version || (v == r.version && (is_tombstone r.body && stands_alone r.standing v))
+is_dead r v = nat_lt v r.version || (v == r.version &&
+    (is_tombstone r.body && stands_alone r.standing v))
 
 -- The version stands at this home, is dead, and was not told.
 pub record Awaits (o : Option KeyRecord) (home v : ℕ) : Type 0 where
@@ -66,11 +67,16 @@ block_of (Some r) = pointer_of r.body
 
 -- the record after a finished change whose entry stands at this home
 abbrev pub settled : Option KeyRecord → ℕ → Body → ℕ → KeyRecord
-settled o v body home = record { version = v; body = body; standing = standing_of o ++ standing_with v home false ∷ [] }
+settled o v body home = record {
+  version = v;
+  body = body;
+  standing = standing_of o ++ standing_with v home false ∷ [];
+}
 
 abbrev pub told : List Standing → ℕ → List Standing
 told [] v = []
-told (s ∷ ss) v = if s.version == v then (standing_with s.version s.home true) ∷ ss else s ∷ told ss v
+told (s ∷ ss) v = if s.version == v then (standing_with s.version s.home true) ∷ ss else s ∷ told ss
+    v
 
 -- how many entries were not told
 abbrev pub count_untold : List Standing → ℕ

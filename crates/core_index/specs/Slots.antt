@@ -77,4 +77,5 @@ pub record TellsOne (old new : Place) (home v : ℕ) : Type 0 where
 
 -- Which entries wait to be told: none that did not, but for the one that died.
 abbrev pub OnlyDead : Option KeyRecord → Option KeyRecord → Option Standee → Type 0
-OnlyDead old new dead = (v home : ℕ) → Awaits new home v → Awaits old home v ⊎ (dead ≡ Some (standee_with v home))
+OnlyDead old new dead = (v home : ℕ) → Awaits new home v → Awaits old home v
+    ⊎ (dead ≡ Some (standee_with v home))

@@ -26,7 +26,8 @@ pub fn is_dead(head: &Head, standing: &Entries, version: Version) -> bool
 
 // Whether a version stands at this home, is dead, and was not told.
 pub fn awaits(head: &Head, standing: &Entries, version: Version, home: u32) -> bool
-    ensures { Decides result (Awaits (Some (record_with head.now standing.now.items)) home version) }
+    ensures { Decides result (Awaits (Some (record_with head.now standing.now.items)) home
+        version) }
 {
     match standing.find(version) {
         None => false,

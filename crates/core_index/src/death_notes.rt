@@ -17,7 +17,8 @@ use std::collections::BTreeMap;
 // Notes an entry that died, where one did.
 pub fn note_dead(notices: &mut Notices, key: Key, dead: Option<Standee>)
     requires { count_dead dead ≤ notices.old.spare }
-    ensures added { (v h : ℕ) → dead ≡ Some (standee_with v h) → Noted notices.new h (name_with key v) }
+    ensures added { (v h : ℕ) → dead ≡ Some (standee_with v h)
+        → Noted notices.new h (name_with key v) }
     ensures kept { (h : ℕ) (n : EntryName) → Noted notices.old h n → Noted notices.new h n }
     ensures spare { notices.new.spare + count_dead dead ≡ notices.old.spare }
 {
@@ -39,8 +40,10 @@ pub fn next_dead(
     requires { IsIndex slots.old.entries notices.old }
     ensures index { IsIndex slots.new.entries notices.new }
     ensures told { IfSome result (λ name. Tells slots.old.entries slots.new.entries home name) }
-    ensures fewer { IfSome result (λ _. all_untold slots.new.entries + 1 ≡ all_untold slots.old.entries) }
-    ensures none { IfNone result ((name : EntryName) → ¬ Awaits (known_at slots.old.entries name.key) home name.version) }
+    ensures fewer { IfSome result (λ _. all_untold slots.new.entries + 1
+        ≡ all_untold slots.old.entries) }
+    ensures none { IfNone result ((name : EntryName)
+        → ¬ Awaits (known_at slots.old.entries name.key) home name.version) }
     ensures unchanged { IfNone result (slots.new.entries ≡ slots.old.entries) }
 {
     while let Some(name) = notices.take(home) {

@@ -30,7 +30,11 @@ impl Model for Entries {
 
     ghost Value = { Marks };
 
-    ghost view = { λ a. record { items = kept a.marks.items; room = vec_capacity a.marks - length a.marks.items; top = a.top } };
+    ghost view = { λ a. record {
+      items = kept a.marks.items;
+      room = vec_capacity a.marks - length a.marks.items;
+      top = a.top;
+    } };
 
     ghost invariant = { λ a. AreMarks a.marks.items a.left a.top };
 }
@@ -104,7 +108,8 @@ fn close_up(marks: &mut Vec<Marked>, left: u64)
 impl Entries {
     // No entries, and room for one.
     pub fn with_room(alloc: Global) -> Result<Entries, Memory>
-        ensures { IfOk result (λ entries. (entries.items ≡ []) × (1 ≤ entries.room) × (entries.top ≡ 0)) }
+        ensures { IfOk result (λ entries. (entries.items ≡ []) × (1 ≤ entries.room)
+            × (entries.top ≡ 0)) }
     {
         Ok(Entries {
             marks: Vec::with_capacity(alloc, 1)?,

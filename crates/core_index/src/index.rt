@@ -15,13 +15,10 @@ use crate::slot::Slot;
 use crate::types::{Look, Record, Spent};
 use fs_errors::Memory;
 use fs_model::{Key, Version};
-use log_entry::{Entry, EntryName};
+use log_entry::{Entry, EntryName, LAST_PUT_VERSION};
 use std::alloc::Global;
 use std::collections::BTreeMap;
 use std::marker::Model;
-
-// The greatest last version from which a put still finds a number: the one behind it is left for a delete.
-const SPENT: Version = 1_048_574;
 
 /// The keys of one core: for each its last version, the value or block that this left, and the entries that
 /// stand in a log. A key without a record has last version 0.
@@ -49,7 +46,8 @@ impl CoreIndex {
     /// in a record, a version stands twice, the first one counts.
     pub fn open(alloc: Global, records: Vec<Record>) -> Result<CoreIndex, Memory>
         requires { AllByRecursion HasNoneAbove records.items }
-        ensures records { IfOk result (λ index. (k : ℕ) → known_at index k ≡ opened_in records.items k) }
+        ensures records { IfOk result (λ index. (k : ℕ)
+            → known_at index k ≡ opened_in records.items k) }
         ensures room { IfOk result (λ index. (k : ℕ) → room_at index k ≡ 0) }
     {
         let mut index = CoreIndex {
@@ -120,12 +118,14 @@ impl CoreIndex {
     pub fn next_version(&self, key: Key, delete: bool) -> Result<Version, Spent>
         requires { delete ≡ true → last_of (known_at self.now key) + 1 < 2 ^ 32 }
         ensures next { IfOk result (λ version. version ≡ last_of (known_at self.now key) + 1) }
-        ensures left { OnOk result ((delete ≡ true) ⊎ (last_of (known_at self.now key) < 1048574)) }
+        ensures left { OnOk result ((delete ≡ true)
+            ⊎ (last_of (known_at self.now key) < LAST_PUT_VERSION)) }
         ensures last { IfErr result (λ spent. spent.last ≡ last_of (known_at self.now key)) }
-        ensures spent { OnErr result ((delete ≡ false) × (1048574 ≤ last_of (known_at self.now key))) }
+        ensures spent { OnErr result ((delete ≡ false)
+            × (LAST_PUT_VERSION ≤ last_of (known_at self.now key))) }
     {
         let last = self.last(key);
-        if !delete && last >= SPENT {
+        if !delete && last >= LAST_PUT_VERSION {
             return Err(Spent { last });
         }
         Ok(last + 1)
@@ -136,7 +136,8 @@ impl CoreIndex {
     pub fn settle(&mut self, entry: Entry, home: u32) -> Option<u64>
         requires room { 0 < room_at self.old entry.key }
         requires next { entry.version ≡ last_of (known_at self.old entry.key) + 1 }
-        ensures settled { Changes self.old self.new entry.key (Some (settled (known_at self.old entry.key) entry.version entry.body home)) }
+        ensures settled { Changes self.old self.new entry.key
+            (Some (settled (known_at self.old entry.key) entry.version entry.body home)) }
         ensures replaced { result ≡ block_of (known_at self.old entry.key) }
         ensures room { room_at self.new entry.key + 1 ≡ room_at self.old entry.key }
         ensures others { (j : ℕ) → j ≢ entry.key → room_at self.new j ≡ room_at self.old j }
@@ -151,7 +152,8 @@ impl CoreIndex {
     pub fn next_notice(&mut self, home: u32) -> Option<EntryName>
         ensures told { IfSome result (λ name. Tells self.old self.new home name) }
         ensures fewer { IfSome result (λ _. all_untold self.new + 1 ≡ all_untold self.old) }
-        ensures none { IfNone result ((name : EntryName) → ¬ Awaits (known_at self.old name.key) home name.version) }
+        ensures none { IfNone result ((name : EntryName)
+            → ¬ Awaits (known_at self.old name.key) home name.version) }
         ensures unchanged { IfNone result (self.new ≡ self.old) }
     {
         next_dead(&mut self.slots, &mut self.notices, home)
@@ -159,7 +161,8 @@ impl CoreIndex {
 
     /// Takes an entry out of those that stand: it is in no log any more.
     pub fn gone(&mut self, name: EntryName)
-        ensures gone { Changes self.old self.new name.key (option_map (without name.version) (known_at self.old name.key)) }
+        ensures gone { Changes self.old self.new name.key
+            (option_map (without name.version) (known_at self.old name.key)) }
         ensures room { SameRoom self.old self.new }
     {
         let dead = gone_at(&mut self.slots, name);
@@ -187,8 +190,10 @@ impl CoreIndex {
 
     /// The live keys with their versions, by rising key.
     pub fn live(&self, alloc: Global) -> Result<Vec<EntryName>, Memory>
-        ensures rising { IfOk result (λ names. IsStrictlyIncreasing (map (λ n. n.key) names.items)) }
-        ensures each { IfOk result (λ names. (k v : ℕ) → Contains names.items (name_with k v) ↔ (live_version (known_at self.now k) ≡ Some v)) }
+        ensures rising { IfOk result (λ names. IsStrictlyIncreasing
+            (map (λ n. n.key) names.items)) }
+        ensures each { IfOk result (λ names. (k v : ℕ) → Contains names.items (name_with k v)
+            ↔ (live_version (known_at self.now k) ≡ Some v)) }
     {
         live_in(alloc, &self.slots)
     }

@@ -22,10 +22,16 @@ pub fn settle_at(
 ) -> Settled
     requires room { 0 < room_at slots.old.entries key }
     requires next { version ≡ last_of (known_at slots.old.entries key) + 1 }
-    ensures step { Step slots.old.entries slots.new.entries key (Some (record { known = Some (settled (known_at slots.old.entries key) version body home); room = room_at slots.old.entries key - 1 })) }
+    ensures step { Step slots.old.entries slots.new.entries key
+        (Some (record {
+          known = Some (settled (known_at slots.old.entries key) version body home);
+          room = room_at slots.old.entries key - 1;
+        })) }
     ensures replaced { result.replaced ≡ block_of (known_at slots.old.entries key) }
-    ensures dead { OnlyDead (known_at slots.old.entries key) (known_at slots.new.entries key) result.dead }
-    ensures mortal { mortal_in (place_at slots.new.entries key) + count_dead result.dead ≤ mortal_in (place_at slots.old.entries key) }
+    ensures dead { OnlyDead (known_at slots.old.entries key)
+        (known_at slots.new.entries key) result.dead }
+    ensures mortal { mortal_in (place_at slots.new.entries key) + count_dead result.dead
+        ≤ mortal_in (place_at slots.old.entries key) }
 {
     match slots.get_mut(&key) {
         Some(slot) => slot.settle(version, body, home),
@@ -38,7 +44,11 @@ pub fn settle_at(
 
 // Makes room for one more change of a key.
 pub fn reserve_at(alloc: Global, slots: &mut BTreeMap<Key, Slot>, key: Key) -> Result<(), Memory>
-    ensures ok { OnOk result (Step slots.old.entries slots.new.entries key (Some (record { known = known_at slots.old.entries key; room = room_at slots.old.entries key + 1 }))) }
+    ensures ok { OnOk result (Step slots.old.entries slots.new.entries key
+        (Some (record {
+          known = known_at slots.old.entries key;
+          room = room_at slots.old.entries key + 1;
+        }))) }
     ensures err { OnErr result (slots.new.entries ≡ slots.old.entries) }
 {
     match slots.get_mut(&key) {
@@ -59,7 +69,8 @@ pub fn enter_at(slots: &mut BTreeMap<Key, Slot>, key: Key, slot: Slot) -> Result
 // Tells a home of a dead entry, where it waits to be told.
 pub fn tell_at(slots: &mut BTreeMap<Key, Slot>, name: EntryName, home: u32) -> bool
     ensures told { result ≡ true → ToldAt slots.old.entries slots.new.entries home name }
-    ensures none { result ≡ false → ¬ Awaits (known_at slots.old.entries name.key) home name.version }
+    ensures none { result ≡ false → ¬ Awaits (known_at slots.old.entries name.key) home
+        name.version }
     ensures unchanged { result ≡ false → slots.new.entries ≡ slots.old.entries }
 {
     match slots.get_mut(&name.key) {
@@ -70,9 +81,12 @@ pub fn tell_at(slots: &mut BTreeMap<Key, Slot>, name: EntryName, home: u32) -> b
 
 // Takes an entry out of those that stand. Gives the entry that died by it.
 pub fn gone_at(slots: &mut BTreeMap<Key, Slot>, name: EntryName) -> Option<Standee>
-    ensures step { Step slots.old.entries slots.new.entries name.key (option_map (gone_place name.version) (place_at slots.old.entries name.key)) }
-    ensures dead { OnlyDead (known_at slots.old.entries name.key) (known_at slots.new.entries name.key) result }
-    ensures mortal { mortal_in (place_at slots.new.entries name.key) + count_dead result ≤ mortal_in (place_at slots.old.entries name.key) }
+    ensures step { Step slots.old.entries slots.new.entries name.key
+        (option_map (gone_place name.version) (place_at slots.old.entries name.key)) }
+    ensures dead { OnlyDead (known_at slots.old.entries name.key)
+        (known_at slots.new.entries name.key) result }
+    ensures mortal { mortal_in (place_at slots.new.entries name.key) + count_dead result
+        ≤ mortal_in (place_at slots.old.entries name.key) }
 {
     match slots.get_mut(&name.key) {
         Some(slot) => slot.gone(name.version),
@@ -83,7 +97,8 @@ pub fn gone_at(slots: &mut BTreeMap<Key, Slot>, name: EntryName) -> Option<Stand
 // Takes a record out, and gives the room that stays.
 fn clear_at(slots: &mut BTreeMap<Key, Slot>, key: Key) -> u64
     requires { IsTrue (is_forgettable (known_at slots.old.entries key)) }
-    ensures step { Step slots.old.entries slots.new.entries key (Some (record { known = None; room = room_at slots.old.entries key })) }
+    ensures step { Step slots.old.entries slots.new.entries key
+        (Some (record { known = None; room = room_at slots.old.entries key })) }
     ensures room { result ≡ room_at slots.old.entries key }
 {
     match slots.get_mut(&key) {

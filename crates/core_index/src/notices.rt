@@ -104,7 +104,9 @@ fn move_first(
     requires other { chain_of home ≢ from }
     requires first { (d : Option ℕ) → slice_index_or heads.old.items from d ≡ Some first }
     ensures chains { AreChains nodes.new.items heads.new.items }
-    ensures nodes { (d : Option ℕ) → nodes.new.items ≡ slice_set nodes.old.items first (node_with name home (slice_index_or heads.old.items (chain_of home) d)) }
+    ensures nodes { (d : Option ℕ) → nodes.new.items
+        ≡ slice_set nodes.old.items first (node_with name home
+        (slice_index_or heads.old.items (chain_of home) d)) }
 {
     let to = chain_of(home);
     let next = nodes[first as usize].next;
@@ -122,7 +124,10 @@ fn write_over(nodes: &mut Vec<Node>, place: usize, first: u32) -> EntryName
     requires place { place < vec_len nodes.old }
     requires first { first < vec_len nodes.old }
     ensures name { result ≡ (slice_index_or nodes.old.items place bare).name }
-    ensures nodes { nodes.new.items ≡ slice_set nodes.old.items place (node_with (slice_index_or nodes.old.items first bare).name (slice_index_or nodes.old.items first bare).home (slice_index_or nodes.old.items place bare).next) }
+    ensures nodes { nodes.new.items ≡ slice_set nodes.old.items place
+        (node_with (slice_index_or nodes.old.items first bare).name
+        (slice_index_or nodes.old.items first bare).home
+        (slice_index_or nodes.old.items place bare).next) }
 {
     let Node { name, home, .. } = nodes[first as usize];
     let over = nodes[place];
@@ -169,7 +174,8 @@ fn grow_by(nodes: &mut Vec<Node>, heads: &mut Vec<Option<u32>>, more: u64) -> Re
 }
 
 fn no_heads(alloc: Global) -> Result<Vec<Option<u32>>, Memory>
-    ensures { IfOk result (λ heads. (length heads.items ≡ 9) × AllByRecursion (λ h. h ≡ None) heads.items) }
+    ensures { IfOk result (λ heads. (length heads.items ≡ 9)
+        × AllByRecursion (λ h. h ≡ None) heads.items) }
 {
     let mut heads = Vec::with_capacity(alloc, FREE + 1)?;
     for _ in 0..FREE + 1 {
@@ -228,7 +234,8 @@ impl Notices {
     pub fn take(&mut self, home: u32) -> Option<EntryName>
         ensures none { IfNone result ((name : EntryName) → ¬ Noted self.old home name) }
         ensures unchanged { IfNone result (self.new ≡ self.old) }
-        ensures others { IfSome result (λ name. (h : ℕ) (n : EntryName) → Noted self.old h n → ((h ≡ home) × (n ≡ name)) ⊎ Noted self.new h n) }
+        ensures others { IfSome result (λ name. (h : ℕ) (n : EntryName) → Noted self.old h n
+            → ((h ≡ home) × (n ≡ name)) ⊎ Noted self.new h n) }
         ensures less { IfSome result (λ name. self.old.used ≡ self.new.used + 1) }
         ensures spare { self.new.spare ≡ self.old.spare }
     {

@@ -74,7 +74,10 @@ impl Slot {
 
     // Makes room for one more change.
     pub fn reserve(&mut self) -> Result<(), Memory>
-        ensures ok { OnOk result (self.new ≡ record { known = self.old.known; room = self.old.room + 1 }) }
+        ensures ok { OnOk result (self.new ≡ record {
+          known = self.old.known;
+          room = self.old.room + 1;
+        }) }
         ensures err { OnErr result (self.new ≡ self.old) }
     {
         let room = self.room.checked_add(1).ok_or(Memory)?;
@@ -112,7 +115,11 @@ impl Slot {
     pub fn settle(&mut self, version: Version, body: Body, home: u32) -> Settled
         requires room { 0 < self.old.room }
         requires next { version ≡ last_of self.old.known + 1 }
-        ensures settled { self.new ≡ record { known = Some (settled self.old.known version body home); room = self.old.room - 1 } }
+        ensures settled { self.new ≡ record {
+          known = Some
+              (settled self.old.known version body home);
+          room = self.old.room - 1;
+        } }
         ensures replaced { result.replaced ≡ block_of self.old.known }
         ensures dead { OnlyDead self.old.known self.new.known result.dead }
         ensures mortal { mortal self.new + count_dead result.dead ≤ mortal self.old }
@@ -157,7 +164,10 @@ impl Slot {
 
     // Takes an entry out of those that stand. Gives the entry that died by it.
     pub fn gone(&mut self, version: Version) -> Option<Standee>
-        ensures gone { self.new ≡ record { known = option_map (without version) self.old.known; room = self.old.room } }
+        ensures gone { self.new ≡ record {
+          known = option_map (without version) self.old.known;
+          room = self.old.room;
+        } }
         ensures dead { OnlyDead self.old.known self.new.known result }
         ensures mortal { mortal self.new + count_dead result ≤ mortal self.old }
     {
@@ -171,9 +181,11 @@ impl Slot {
     // Notes each entry that is dead and was not told.
     pub fn note_dead(&self, key: Key, notices: &mut Notices)
         requires { length (standing_of self.now.known) ≤ notices.old.spare }
-        ensures noted { (v h : ℕ) → Awaits self.now.known h v → Noted notices.new h (name_with key v) }
+        ensures noted { (v h : ℕ) → Awaits self.now.known h v
+            → Noted notices.new h (name_with key v) }
         ensures kept { (h : ℕ) (n : EntryName) → Noted notices.old h n → Noted notices.new h n }
-        ensures spare { notices.old.spare + count_of (alive_at self.now.known) ≤ notices.new.spare + length (standing_of self.now.known) }
+        ensures spare { notices.old.spare + count_of (alive_at self.now.known) ≤ notices.new.spare
+            + length (standing_of self.now.known) }
     {
         if let Some(head) = &self.head {
             note_all(head, &self.standing, self.standing.marks(), key, notices);
@@ -262,9 +274,11 @@ fn died(version: Version, last: Version, before: Option<u32>, after: Option<u32>
 // Notes an entry, where it stands and is dead.
 fn note_mark(head: &Head, standing: &Entries, mark: Marked, key: Key, notices: &mut Notices)
     requires { length (kept (mark ∷ [])) ≤ notices.old.spare }
-    ensures noted { AllByRecursion (NotedIfDead notices.new key (record_with head.now standing.now.items)) (kept (mark ∷ [])) }
+    ensures noted { AllByRecursion (NotedIfDead notices.new key
+        (record_with head.now standing.now.items)) (kept (mark ∷ [])) }
     ensures kept { (h : ℕ) (n : EntryName) → Noted notices.old h n → Noted notices.new h n }
-    ensures spare { notices.old.spare + count_lively (record_with head.now standing.now.items) (kept (mark ∷ [])) ≤ notices.new.spare + length (kept (mark ∷ [])) }
+    ensures spare { notices.old.spare + count_lively (record_with head.now standing.now.items)
+        (kept (mark ∷ [])) ≤ notices.new.spare + length (kept (mark ∷ [])) }
 {
     let Marked { entry, gone } = mark;
     if gone {
@@ -282,9 +296,11 @@ fn note_mark(head: &Head, standing: &Entries, mark: Marked, key: Key, notices: &
 // Notes each of these entries that is dead.
 fn note_all(head: &Head, standing: &Entries, marks: &[Marked], key: Key, notices: &mut Notices)
     requires { length (kept marks.now) ≤ notices.old.spare }
-    ensures noted { AllByRecursion (NotedIfDead notices.new key (record_with head.now standing.now.items)) (kept marks.now) }
+    ensures noted { AllByRecursion (NotedIfDead notices.new key
+        (record_with head.now standing.now.items)) (kept marks.now) }
     ensures kept { (h : ℕ) (n : EntryName) → Noted notices.old h n → Noted notices.new h n }
-    ensures spare { notices.old.spare + count_lively (record_with head.now standing.now.items) (kept marks.now) ≤ notices.new.spare + length (kept marks.now) }
+    ensures spare { notices.old.spare + count_lively (record_with head.now standing.now.items)
+        (kept marks.now) ≤ notices.new.spare + length (kept marks.now) }
 {
     for mark in marks {
         note_mark(head, standing, *mark, key, notices);
@@ -293,7 +309,8 @@ fn note_all(head: &Head, standing: &Entries, marks: &[Marked], key: Key, notices
 
 // The home of the last version's entry, which is the last of these and stands there, where it is not dead.
 fn alive_at_end(head: &Head, standing: &Entries, home: u32) -> Option<u32>
-    ensures { result ≡ (if is_dead (record_with head.now standing.now.items) head.now.version then None else Some home) }
+    ensures { result ≡ (if is_dead (record_with head.now standing.now.items) head.now.version then
+        None else Some home) }
 {
     if is_dead(head, standing, head.version) {
         None

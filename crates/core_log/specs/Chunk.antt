@@ -49,7 +49,8 @@ pub record ChunkLies (f : Frame) (at words tail : ℕ) : Type 0 where
 pub record IsLog (cells : ℕ → Cell) (at tail : ℕ) : Type 0 where
   pub kind : Surely (cells at) 1
   pub tail_is : Surely (cells (at + 1)) tail
-  pub words : (k : ℕ) → k < tail → Surely (cells (at + HEAD_WORDS + k)) (cells (at + HEAD_WORDS + k)).last
+  pub words : (k : ℕ) → k < tail → Surely (cells (at + HEAD_WORDS + k))
+      (cells (at + HEAD_WORDS + k)).last
 
 -- after a batch
 pub record Appended (old new : State) (at tail : ℕ) (batch : List ℕ) : Type 0 where

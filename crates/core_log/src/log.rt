@@ -44,9 +44,19 @@ impl Model for CoreLog {
 
     ghost Value = { LogState };
 
-    ghost view = { λ a. record { layout = a.layout; part = a.part; chunks = a.chunks.items; opened = a.opened } };
+    ghost view = { λ a. record {
+      layout = a.layout;
+      part = a.part;
+      chunks = a.chunks.items;
+      opened = a.opened;
+    } };
 
-    ghost invariant = { λ a. IsOwn (record { layout = a.layout; part = a.part; chunks = a.chunks.items; opened = a.opened }) × (a.layout.chunks < vec_capacity a.chunks) };
+    ghost invariant = { λ a. IsOwn (record {
+      layout = a.layout;
+      part = a.part;
+      chunks = a.chunks.items;
+      opened = a.opened;
+    }) × (a.layout.chunks < vec_capacity a.chunks) };
 }
 
 impl CoreLog {
@@ -168,7 +178,9 @@ impl CoreLog {
             (words_now (R.state region.old) (open_first self.old) (open_tail self.old)) (padded batch.now.words))) }
         // The same of the entries that images show.
         ensures entries { (es : List Entry) → batch.now.words ≡ flat_map words_of es → IsBatch es
-            → During (R.state region.old) (R.state region.new) (EachInOpen self.old (HasEntriesOrLacks self.old (open_entries self.old (lasts (R.state region.old))) es)) }
+            → During (R.state region.old) (R.state region.new)
+            (EachInOpen self.old (HasEntriesOrLacks self.old
+            (open_entries self.old (lasts (R.state region.old))) es)) }
         // No word outside the open chunk is stored or flushed.
         ensures outside { During (R.state region.old) (R.state region.new)
             (KeepsOutside (cell_now (R.state region.old)) (open_first self.old) (open_first self.old + chunk_words self.old.layout)) }
@@ -176,7 +188,9 @@ impl CoreLog {
             self.new (padded batch.now.words)) }
         ensures ok_entries { OnOk result ((es : List Entry) → batch.now.words ≡ flat_map words_of es
             → IsBatch es → IsTelling (R.state region.new)
-            → EachInOpen self.old (HasEntries self.old (open_entries self.old (lasts (R.state region.old))) es) (cell_now (R.state region.new))) }
+            → EachInOpen self.old (HasEntries self.old
+            (open_entries self.old (lasts (R.state region.old))) es)
+            (cell_now (R.state region.new))) }
         ensures placed { IfOk result (λ p. (self.old.opened ≡ Some p.chunk)
             × (p.place ≡ open_tail self.old)) }
         ensures err { OnErr result (self.new ≡ self.old) }

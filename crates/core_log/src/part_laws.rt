@@ -19,14 +19,17 @@ pub fn every_append()
     ensures throughout { (s t : State) (log : LogState) (es : List Entry) (ws : List ℕ)
         → StandsIn s log
         → ws ≡ flat_map words_of es → IsBatch es → lines_for (length ws) ≤ room_of log
-        → During s t (KeepsOutside (cell_now s) (open_first log) (open_first log + chunk_words log.layout))
+        → During s t (KeepsOutside (cell_now s) (open_first log)
+        (open_first log + chunk_words log.layout))
         → During s t (EachInOpen log (HasOrLacks (open_first log) (open_tail log)
         (words_now s (open_first log) (open_tail log)) (padded ws)))
-        → During s t (EachInPart log (λ image. GainsSince s log [] image ⊎ GainsSince s log es image)) }
+        → During s t (EachInPart log (λ image. GainsSince s log [] image
+        ⊎ GainsSince s log es image)) }
     ensures after { (s t : State) (log after : LogState) (es : List Entry) (ws : List ℕ)
         → StandsIn s log
         → ws ≡ flat_map words_of es → IsBatch es → lines_for (length ws) ≤ room_of log
-        → During s t (KeepsOutside (cell_now s) (open_first log) (open_first log + chunk_words log.layout))
+        → During s t (KeepsOutside (cell_now s) (open_first log)
+        (open_first log + chunk_words log.layout))
         → AppendedBatch s t log after (padded ws)
         → IsTelling t → EachInPart log (GainsSince s log es) (cell_now t) }
 {}
@@ -49,13 +52,15 @@ pub fn every_freeing()
         → During s t (KeepsOutside (cell_now s) (first_of log chunk) (first_of log chunk + 8))
         → During s t (EachInChunk log chunk (FreeOrLog (first_of log chunk) (tail_in log chunk)
         (words_now s (first_of log chunk) (tail_in log chunk))))
-        → During s t (EachInPart log (λ image. GainsSince s log [] image ⊎ LosesSince s log chunk image)) }
+        → During s t (EachInPart log (λ image. GainsSince s log [] image
+        ⊎ LosesSince s log chunk image)) }
 {}
 
 /// A log stands while a chunk of the part is written that it doesn't have.
 pub fn every_other_chunk()
     ensures { (s t : State) (log : LogState) (chunk : ℕ)
         → (IsTelling s → tail_of log.chunks chunk ≡ None)
-        → During s t (KeepsOutside (cell_now s) (first_of log chunk) (first_of log chunk + chunk_words log.layout))
+        → During s t (KeepsOutside (cell_now s) (first_of log chunk)
+        (first_of log chunk + chunk_words log.layout))
         → StandsIn s log → StandsIn t log }
 {}

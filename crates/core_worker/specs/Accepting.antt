@@ -49,18 +49,23 @@ StaysTied s old new k = (t : Tie) → IsTied s old k t → IsTied s new k t
 
 abbrev pub Accepts : Type 0 → View → Worker → Worker → ℕ → Request → Type 0
 Accepts Known v old new n r = (mid : Worker) × IsAsBefore old mid × Prepared old mid (key_of r)
-    × (((is_busy old.places.items (key_of r) ≡ true) × AddsLast mid.queue new.queue (held_with n r) × (new ≡ record mid { queue = new.queue }))
-    ⊎ ((is_busy old.places.items (key_of r) ≡ false) × OnlyBegins mid new × Begins Known mid new (v.cell (key_of r)) n r))
+    × (((is_busy old.places.items (key_of r) ≡ true) × AddsLast mid.queue new.queue (held_with n r)
+    × (new ≡ record mid { queue = new.queue }))
+    ⊎ ((is_busy old.places.items (key_of r) ≡ false) × OnlyBegins mid new
+    × Begins Known mid new (v.cell (key_of r)) n r))
 
 -- by each view that the worker may be tied to
 abbrev pub AcceptsByEachView : State → Worker → Worker → ℕ → Request → Type 0
-AcceptsByEachView s old new n r = (t : Tie) → IsTied s old (key_of r) t → Accepts (IsTelling s) t.view old new n r
+AcceptsByEachView s old new n r = (t : Tie) → IsTied s old (key_of r) t
+    → Accepts (IsTelling s) t.view old new n r
 
 -- These requests were accepted where the worker is tied so, and what was fixed with them is what it answers besides, whatever the state of its group: a call that makes no step.
-pub record AcceptsAs (s : State) (old new : Worker) (t : Tie) (accepted : List (ℕ × Request)) : Type 0 where
+pub record AcceptsAs (s : State) (old new : Worker) (t : Tie)
+    (accepted : List (ℕ × Request)) : Type 0 where
   pub fixed : List Fixed
   pub answers : AddsAnswers (IsTelling s) (answers_of old) (answers_of new) fixed
-  pub moves : (a : Option Group) → WorkerMoves t.place t.number s s a a t.view t.view (hands_of t.view old) (hands_of t.view new) accepted fixed
+  pub moves : (a : Option Group) → WorkerMoves t.place t.number s s a a t.view t.view
+      (hands_of t.view old) (hands_of t.view new) accepted fixed
 
 -- wherever it is tied
 abbrev pub AcceptMoves : State → Worker → Worker → ℕ → List (ℕ × Request) → Type 0

@@ -42,7 +42,8 @@ pub record IsSaid (Known : Type 0) (q : Request) (fixed given : Reply) : Type 0 
 -- the same of an answer
 pub record IsGiven (Known : Type 0) (x : Fixed) (a : Answer) : Type 0 where
   pub number : a.number ≡ x.number
-  pub reply : (a.reply ≡ x.reply) ⊎ ((is_read x.request x.reply ≡ true) × (is_read x.request a.reply ≡ true))
+  pub reply : (a.reply ≡ x.reply) ⊎ ((is_read x.request x.reply ≡ true)
+      × (is_read x.request a.reply ≡ true))
   pub known : Known → a.reply ≡ x.reply
   pub cause : IsCause x.reply a.refusal
 

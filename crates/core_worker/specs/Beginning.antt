@@ -75,7 +75,11 @@ OnlyStages old new = new ≡ record old { allocator = new.allocator; places = ne
 
 -- nothing but allocator, places and answers differs
 abbrev pub OnlyBegins : Worker → Worker → Type 0
-OnlyBegins old new = new ≡ record old { allocator = new.allocator; places = new.places; answers = new.answers }
+OnlyBegins old new = new ≡ record old {
+  allocator = new.allocator;
+  places = new.places;
+  answers = new.answers;
+}
 
 -- nothing but queue, places, answers, allocator, index and the request in hand differs
 pub record SameCore (old new : Worker) : Type 0 where
@@ -97,7 +101,8 @@ pub record IsAnswered (old new : Worker) (a : Answer) : Type 0 where
 
 -- The pointer is that of a block which was taken for the value, where it needs one.
 abbrev pub TakesFor : Worker → Worker → ℕ → Body → Type 0
-TakesFor old new n (bodies.Pointer q) = Takes old.allocator new.allocator (class_for n) (may_cut (supply_of old) (lines_needed n)) (Some q)
+TakesFor old new n (bodies.Pointer q) = Takes old.allocator new.allocator (class_for n)
+    (may_cut (supply_of old) (lines_needed n)) (Some q)
 TakesFor old new n (bodies.Embedded u) = new.allocator ≡ old.allocator
 TakesFor old new n bodies.Tombstone = new.allocator ≡ old.allocator
 
@@ -118,18 +123,23 @@ pub record IsStaged (old new : Worker) (number : ℕ) (r : Request) : Type 0 whe
 
 -- The request was answered by its cell, as far as what the region has is known, or staged where it changes something.
 abbrev pub GoesOn : Type 0 → Bool → Worker → Worker → Option (List ℕ) → ℕ → Request → Type 0
-GoesOn Known false old new cell n r = (reply : Reply) × IsSaid Known r (answer_to r cell) reply × IsAnswered old new (answer_with n reply None)
+GoesOn Known false old new cell n r = (reply : Reply) × IsSaid Known r (answer_to r cell) reply
+    × IsAnswered old new (answer_with n reply None)
 GoesOn Known true old new cell n r = IsStaged old new n r
 
 -- Where it is refused, that is its answer, with the first cause.
-abbrev pub BeginsBy : Type 0 → Option Shortage → Worker → Worker → Option (List ℕ) → ℕ → Request → Type 0
-BeginsBy Known (Some cause) old new cell n r = IsAnswered old new (answer_with n (reply_to cause) (Some cause))
+abbrev pub BeginsBy : Type 0 → Option Shortage → Worker → Worker → Option (List ℕ) → ℕ → Request
+    → Type 0
+BeginsBy Known (Some cause) old new cell n r = IsAnswered old new
+    (answer_with n (reply_to cause) (Some cause))
 BeginsBy Known None old new cell n r = GoesOn Known (is_change r cell) old new cell n r
 
 -- To begin a request of a key with this cell: a core that has stopped answers so.
 abbrev pub BeginsAs : Type 0 → Bool → Worker → Worker → Option (List ℕ) → ℕ → Request → Type 0
 BeginsAs Known true old new cell n r = IsAnswered old new (answer_with n Stopped None)
-BeginsAs Known false old new cell n r = BeginsBy Known (why old.layout (supply_of old) old.allocator (last_of (known_at old.index (key_of r))) cell r) old new cell n r
+BeginsAs Known false old new cell n r = BeginsBy Known
+    (why old.layout (supply_of old) old.allocator (last_of
+    (known_at old.index (key_of r))) cell r) old new cell n r
 
 abbrev pub Begins : Type 0 → Worker → Worker → Option (List ℕ) → ℕ → Request → Type 0
 Begins Known old new cell n r = BeginsAs Known old.stopped old new cell n r
@@ -143,8 +153,10 @@ abbrev pub BeginsAll : Type 0 → List Held → Worker → Worker → Option (Li
 BeginsAll Known [] old new cell k = new ≡ old
 BeginsAll Known (h ∷ hs) old new cell k =
     (next : Worker) × (mid : Worker)
-    × TakesFirst old.queue next.queue k h × SameButQueue old next × OnlyBegins next mid × Begins Known next mid cell h.number h.request
-    × (((is_busy mid.places.items k ≡ true) × (new ≡ mid)) ⊎ ((is_busy mid.places.items k ≡ false) × BeginsAll Known hs mid new cell k))
+    × TakesFirst old.queue next.queue k h × SameButQueue old next × OnlyBegins next mid
+    × Begins Known next mid cell h.number h.request
+    × (((is_busy mid.places.items k ≡ true) × (new ≡ mid))
+    ⊎ ((is_busy mid.places.items k ≡ false) × BeginsAll Known hs mid new cell k))
 
 -- Some of them are begun. For the next one there was no memory: it is in hand, and the core winds down.
 abbrev pub BeginsShort : Type 0 → List Held → Worker → Worker → Option (List ℕ) → ℕ → Type 0
@@ -152,7 +164,8 @@ BeginsShort Known [] old new cell k = ⊥
 BeginsShort Known (h ∷ hs) old new cell k =
     (next : Worker) × TakesFirst old.queue next.queue k h × SameButQueue old next
     × ((new ≡ record next { in_hand = Some h; winds_down = true })
-    ⊎ ((mid : Worker) × OnlyBegins next mid × Begins Known next mid cell h.number h.request × (is_busy mid.places.items k ≡ false) × BeginsShort Known hs mid new cell k))
+    ⊎ ((mid : Worker) × OnlyBegins next mid × Begins Known next mid cell h.number h.request
+    × (is_busy mid.places.items k ≡ false) × BeginsShort Known hs mid new cell k))
 
 abbrev pub BeginsWaiting : Type 0 → Worker → Worker → Option (List ℕ) → ℕ → Type 0
 BeginsWaiting Known old new cell k = BeginsAll Known (waiting old.queue k) old new cell k

@@ -55,14 +55,19 @@ PutsBackIf old new (Some q) = PutsBack old new q
 -- The index has the change, whose entry stands in the log of this core. Then the own dead names are told, and the block that it replaced is put back.
 pub record Settles (old new : Worker) (e : Entry) (home : ℕ) : Type 0 where
   pub mid : List (ℕ × slots.Place)
-  pub settled_now : Changes old.index mid e.key (Some (settled (known_at old.index e.key) e.version e.body home))
+  pub settled_now : Changes old.index mid e.key (Some (settled
+      (known_at old.index e.key) e.version e.body home))
   pub used : room_at mid e.key + 1 ≡ room_at old.index e.key
   pub others : (k : ℕ) → k ≢ e.key → room_at mid k ≡ room_at old.index k
   pub heard : HearsAll old.core mid new.index
   pub told : HearsOwn old.core mid old.standing new.standing
   pub sets : AreSets new.allocator
   pub block : PutsBackIf old.allocator new.allocator (block_of (known_at old.index e.key))
-  pub rest : new ≡ record old { index = new.index; allocator = new.allocator; standing = new.standing }
+  pub rest : new ≡ record old {
+    index = new.index;
+    allocator = new.allocator;
+    standing = new.standing;
+  }
 
 -- the reply of a change that is done, by what its entry leaves
 abbrev pub done_reply : Body → Reply
@@ -83,10 +88,13 @@ pub record TakesBack (p : groups.Place) (m slot : ℕ) (v u : View) (old new : W
   pub home : Option ℕ
   pub place : place_at old.places.items slot ≡ Posted number entry.key lines
   pub pending : v.pending entry.key ≡ Some (record { entry = entry; slot = Some slot })
-  pub seen : MatchOption home (In (loads.Slot m slot words.Failed) v.looked) (λ h. In (loads.Slot m slot (words.Done h)) v.looked)
-  pub view : MatchOption home (TidiedIn p m (after_give_up entry v) u) (λ h. TidiedIn p m (after_finish entry h v) u)
+  pub seen : MatchOption home (In (loads.Slot m slot words.Failed) v.looked)
+      (λ h. In (loads.Slot m slot (words.Done h)) v.looked)
+  pub view : MatchOption home (TidiedIn p m (after_give_up entry v) u)
+      (λ h. TidiedIn p m (after_finish entry h v) u)
   pub mid : Worker
-  pub settles : MatchOption home (mid ≡ record old { stopped = true }) (λ h. Settles old mid entry (groups.core_of p h))
+  pub settles : MatchOption home (mid ≡ record old { stopped = true })
+      (λ h. Settles old mid entry (groups.core_of p h))
   pub lets : LetsGo mid new slot (reply_back home entry.body)
 
 -- the same, of a change of this key
@@ -95,11 +103,13 @@ TakesBackKey p m slot v u old new k = (x : TakesBack p m slot v u old new) × (x
 
 -- a load found the own slot Done or Failed
 abbrev pub WasFoundBack : ℕ → ℕ → View → Type 0
-WasFoundBack m slot v = In (loads.Slot m slot words.Failed) v.looked ⊎ ((h : ℕ) × In (loads.Slot m slot (words.Done h)) v.looked)
+WasFoundBack m slot v = In (loads.Slot m slot words.Failed) v.looked
+    ⊎ ((h : ℕ) × In (loads.Slot m slot (words.Done h)) v.looked)
 
 -- it stops only where an own slot was Failed, where the state is told
 abbrev pub StopsByFailed : Option Group → ℕ → Worker → Worker → Type 0
-StopsByFailed before m old new = new.stopped ≡ true → (old.stopped ≡ true) ⊎ IfSome before (λ a. (n : ℕ) × (d : Entry) × (a.slot m n ≡ Failed d))
+StopsByFailed before m old new = new.stopped ≡ true → (old.stopped ≡ true)
+    ⊎ IfSome before (λ a. (n : ℕ) × (d : Entry) × (a.slot m n ≡ Failed d))
 
 -- Nothing of the key stands in a place any more, and what waits of it may be begun.
 pub record IsReady (w : Worker) (k : ℕ) : Type 0 where
@@ -125,18 +135,22 @@ pub record IsServed (s : State) (w : Worker) (t : Tie) : Type 0 where
 
 -- the key's waiting requests are begun, but by a core that winds down
 abbrev pub Serves : Type 0 → Worker → Worker → Option (List ℕ) → ℕ → Type 0
-Serves Known old new cell k = ((old.winds_down ≡ true) × (new ≡ old)) ⊎ ((old.winds_down ≡ false) × BeginsWaiting Known old new cell k)
+Serves Known old new cell k = ((old.winds_down ≡ true) × (new ≡ old))
+    ⊎ ((old.winds_down ≡ false) × BeginsWaiting Known old new cell k)
 
 -- by each view that it may be tied to
 abbrev pub ServesByEachView : State → Worker → Worker → ℕ → Type 0
-ServesByEachView s old new k = (t : Tie) → IsToServe s old k t → Serves (IsTelling s) old new (t.view.cell k) k
+ServesByEachView s old new k = (t : Tie) → IsToServe s old k t
+    → Serves (IsTelling s) old new (t.view.cell k) k
 
 -- for one of them there was no memory
 abbrev pub ShortOf : Type 0 → Worker → Worker → Option (List ℕ) → ℕ → Type 0
-ShortOf Known old new cell k = (old.winds_down ≡ false) × BeginsShort Known (waiting old.queue k) old new cell k
+ShortOf Known old new cell k = (old.winds_down ≡ false)
+    × BeginsShort Known (waiting old.queue k) old new cell k
 
 abbrev pub ServesShort : State → Worker → Worker → ℕ → Type 0
-ServesShort s old new k = (t : Tie) → IsToServe s old k t → ShortOf (IsTelling s) old new (t.view.cell k) k
+ServesShort s old new k = (t : Tie) → IsToServe s old k t
+    → ShortOf (IsTelling s) old new (t.view.cell k) k
 
 -- What a worker with view v that was tied is with view u, once a change of the key is out of its place.
 pub record IsFreed (p : groups.Place) (m : ℕ) (v u : View) (old new : Worker) (k : ℕ) : Type 0 where
@@ -148,7 +162,8 @@ pub record IsFreed (p : groups.Place) (m : ℕ) (v u : View) (old new : Worker) 
   pub rule : HasKeptRoom old → HasKeptRoom new
 
 -- The change is taken back and its place is free, and then the key's waiting requests are begun; `all` where none of them is in hand.
-pub record FinishesSlot (s : State) (p : groups.Place) (m slot : ℕ) (v u : View) (old new : Worker) (all : Bool) : Type 0 where
+pub record FinishesSlot (s : State) (p : groups.Place) (m slot : ℕ) (v u : View) (old new : Worker)
+    (all : Bool) : Type 0 where
   pub freed : Worker
   pub takes : TakesBack p m slot v u old freed
   pub rest : OnlyServes freed new

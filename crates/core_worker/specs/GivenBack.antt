@@ -30,7 +30,8 @@ pub record IsGivenBack (p : Place) (m : ℕ) (v : View) (start : CoreStart) : Ty
   pub allocator_layout : start.allocator.layout ≡ p.layout
   pub allocator_part : start.allocator.part ≡ core_of p m
   pub spelled : IsSpelledIndex start.index
-  pub held : (q : ℕ) (b : Block) → v.blocks q ≡ Some b → IsBlockFor start.allocator q (length b.bytes)
+  pub held : (q : ℕ) (b : Block) → v.blocks q ≡ Some b
+      → IsBlockFor start.allocator q (length b.bytes)
   pub only : (q : ℕ) → block_is_used start.allocator q ≡ true → (b : Block) × (v.blocks q ≡ Some b)
   pub chunks : AreChunks p.layout.chunks start.allocator start.log.chunks
   pub keys : (k : ℕ) → owner p k ≡ m → KnowsKey p v k (known_at start.index k)

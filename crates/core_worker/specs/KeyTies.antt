@@ -20,7 +20,8 @@ use Rattle.core_worker.specs.OwnPlaces.{place_at}
 
 -- what the last change of a key left is the view's cell; a value in a block is what that block must hold
 abbrev pub Left : View → ℕ → Body → Option (List ℕ) → Type 0
-Left v k (bodies.Pointer q) cell = (u : List ℕ) × (cell ≡ Some u) × (v.blocks q ≡ Some (record { key = k; bytes = u }))
+Left v k (bodies.Pointer q) cell = (u : List ℕ) × (cell ≡ Some u)
+    × (v.blocks q ≡ Some (record { key = k; bytes = u }))
 Left v k (bodies.Embedded u) cell = cell ≡ Some u
 Left v k bodies.Tombstone cell = cell ≡ None
 
@@ -32,8 +33,10 @@ LeftIn v k (Some r) cell = Left v k r.body cell
 pub record KnowsKey (p : Place) (v : View) (k : ℕ) (known : Option KeyRecord) : Type 0 where
   pub last : v.last k ≡ last_of known
   pub cell : LeftIn v k known (v.cell k)
-  pub present : (n : ℕ) → option_map (core_of p) (v.present k n) ≡ option_map (λ s. s.home) (standing_at (standing_of known) n)
-  pub told : (n : ℕ) (s : Standing) → standing_at (standing_of known) n ≡ Some s → v.told k n ≡ s.told
+  pub present : (n : ℕ) → option_map (core_of p) (v.present k n)
+      ≡ option_map (λ s. s.home) (standing_at (standing_of known) n)
+  pub told : (n : ℕ) (s : Standing) → standing_at (standing_of known) n ≡ Some s
+      → v.told k n ≡ s.told
 
 -- the entry leaves something: its block must hold a value of the key, and a delete takes one away
 abbrev pub Offers : View → ℕ → Body → Type 0
@@ -45,10 +48,13 @@ Offers v k bodies.Tombstone = v.cell k ≢ None
 abbrev pub IsPlaced : Place → ℕ → View → ℕ → places.Place → Type 0
 IsPlaced p m v s Free = IsFree v s
 IsPlaced p m v s (Staged number entry value) =
-    IsFree v s × (owner p entry.key ≡ m) × (v.pending entry.key ≡ None) × HasSpelling entry × (entry.version ≡ v.last entry.key + 1)
+    IsFree v s × (owner p entry.key ≡ m) × (v.pending entry.key ≡ None) × HasSpelling entry
+    × (entry.version ≡ v.last entry.key + 1)
     × (entry.body ≡ bodies.Tombstone → v.cell entry.key ≢ None)
 IsPlaced p m v s (Posted number key lines) =
-    (e : Entry) × (v.pending key ≡ Some (record { entry = e; slot = Some s })) × (e.key ≡ key) × (owner p key ≡ m) × Offers v key e.body × ((lines ≡ lines_for (length (words_of e))) ⊎ ((lines ≡ 0) × In e v.kept)) × (lines ≤ 5)
+    (e : Entry) × (v.pending key ≡ Some (record { entry = e; slot = Some s })) × (e.key ≡ key)
+    × (owner p key ≡ m) × Offers v key e.body × ((lines ≡ lines_for (length (words_of e)))
+    ⊎ ((lines ≡ 0) × In e v.kept)) × (lines ≤ 5)
 
 -- the block of a staged change, of the class of the value that it is to hold
 pub record IsStagedBlock (v : View) (ps : List places.Place) (q : ℕ) : Type 0 where
@@ -69,6 +75,8 @@ pub record IsBlockFor (a : Sets) (q n : ℕ) : Type 0 where
 -- Exactly the view's blocks and those of staged changes are allocated, and no block is both, or of two staged changes.
 pub record AreBlocks (v : View) (a : Sets) (ps : List places.Place) : Type 0 where
   pub held : (q : ℕ) (b : Block) → v.blocks q ≡ Some b → IsBlockFor a q (length b.bytes)
-  pub staged : (q : ℕ) (x : IsStagedBlock v ps q) → IsBlockFor a q (length x.value) × (v.blocks q ≡ None)
+  pub staged : (q : ℕ) (x : IsStagedBlock v ps q) → IsBlockFor a q (length x.value)
+      × (v.blocks q ≡ None)
   pub once : (q : ℕ) (x y : IsStagedBlock v ps q) → x.slot ≡ y.slot
-  pub only : (q : ℕ) → block_is_used a q ≡ true → ((b : Block) × (v.blocks q ≡ Some b)) ⊎ IsStagedBlock v ps q
+  pub only : (q : ℕ) → block_is_used a q ≡ true → ((b : Block) × (v.blocks q ≡ Some b))
+      ⊎ IsStagedBlock v ps q

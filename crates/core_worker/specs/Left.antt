@@ -56,7 +56,8 @@ leading_left leads.Between = 0
 
 -- a core that runs may still stop
 abbrev pub left : Worker → ℕ
-left w = waits_left * (length w.queue + (if is_some w.in_hand then 1 else 0)) + (places_left w.places.items + (leading_left w.leading + (if w.stopped then 0 else 1)))
+left w = waits_left * (length w.queue + (if is_some w.in_hand then 1 else 0))
+    + (places_left w.places.items + (leading_left w.leading + (if w.stopped then 0 else 1)))
 
 -- an accepted request waits, or is staged, or is answered
 abbrev pub most : ℕ
@@ -91,11 +92,13 @@ under_way w = slots_left w + lock_left w.holder w.slot
 
 -- where the state is told, there is less to do now
 abbrev pub Lowers : Option Group → Option Group → Worker → Worker → Type 0
-Lowers before after w x = IfSome before (λ a. IsSomeAnd after (λ b. left x + under_way b < left w + under_way a))
+Lowers before after w x = IfSome before (λ a. IsSomeAnd after
+    (λ b. left x + under_way b < left w + under_way a))
 
 -- there is no more to do than before
 abbrev pub NotMore : Option Group → Option Group → Worker → Worker → Type 0
-NotMore before after w x = IfSome before (λ a. IsSomeAnd after (λ b. left x + under_way b ≤ left w + under_way a))
+NotMore before after w x = IfSome before (λ a. IsSomeAnd after
+    (λ b. left x + under_way b ≤ left w + under_way a))
 
 -- by what a turn answers: where it moved, or had no memory for all of it, there is less to do, and else no more
 abbrev pub MeasuresTurn : Turn → Option Group → Option Group → Worker → Worker → Type 0
@@ -108,7 +111,8 @@ Measures (Err memory) before after w x = Lowers before after w x
 
 -- What the measure needs of a worker besides: a core that runs, and has taken nothing in its round so far, is at the round's first slot.
 abbrev pub StartsFirst : Worker → Type 0
-StartsFirst w = w.stopped ≡ false → (c : Collecting) → w.leading ≡ leads.Collecting c → taken_by c ≡ [] → c.at ≡ 0
+StartsFirst w = w.stopped ≡ false → (c : Collecting) → w.leading ≡ leads.Collecting c
+    → taken_by c ≡ [] → c.at ≡ 0
 
 -- of any group, and any member of it
 abbrev pub fair : Group → ℕ → Worker → Type 0

@@ -57,10 +57,13 @@ pub record IsStartAt (p : Place) (m : ℕ) (image : ℕ → ℕ) (start : CoreSt
 
 -- by each image of which it is that, of this layout
 abbrev pub ByEachImage : CoreStart → Geometry → (Place → ℕ → (ℕ → ℕ) → Type 0) → Type 0
-ByEachImage start layout P = (p : Place) (m : ℕ) (image : ℕ → ℕ) → layout ≡ p.layout → IsStartAt p m image start → P p m image
+ByEachImage start layout P = (p : Place) (m : ℕ) (image : ℕ → ℕ) → layout ≡ p.layout
+    → IsStartAt p m image start → P p m image
 
 -- The member's part lies in the region and has the image's words, each of them certain, and the log stands there.
-pub record IsCertainAt (s : State) (p : Place) (m : ℕ) (image : ℕ → ℕ) (start : CoreStart) : Type 0 where
+pub record IsCertainAt (s : State) (p : Place) (m : ℕ) (image : ℕ → ℕ)
+    (start : CoreStart) : Type 0 where
   pub lies : PartLies s.frame start.allocator
-  pub words : IsTelling s → (w : ℕ) → part_at p m ≤ w → w < part_end p m → Surely (cell_now s w) (image w)
+  pub words : IsTelling s → (w : ℕ) → part_at p m ≤ w → w < part_end p m
+      → Surely (cell_now s w) (image w)
   pub log : StandsIn s start.log

@@ -29,7 +29,8 @@ count_changes (x ∷ xs) = (if is_free x then 0 else 1) + count_changes xs
 
 -- how many accepted requests have no answer yet
 abbrev pub unanswered : Worker → ℕ
-unanswered w = count_changes w.places.items + (length w.queue + (if is_some w.in_hand then 1 else 0))
+unanswered w = count_changes w.places.items + (length w.queue
+    + (if is_some w.in_hand then 1 else 0))
 
 -- A stopped core leads only to withdraw: it holds no batch, and has taken nothing.
 abbrev pub MayLeadStopped : Leading → Type 0
@@ -44,26 +45,30 @@ pub record InOrder (p : Place) (m : ℕ) (v : View) (w : Worker) : Type 0 where
   -- each block is one of an own key
   pub owned : (q : ℕ) (b : Block) → v.blocks q ≡ Some b → owner p b.key ≡ m
   -- of a key the view has no block but that of its value and that of its change under way, and these are two
-  pub single : (q : ℕ) (b : Block) → v.blocks q ≡ Some b → (block_of (known_at w.index b.key) ≡ Some q) ⊎ PointsAt (v.pending b.key) q
+  pub single : (q : ℕ) (b : Block) → v.blocks q ≡ Some b
+      → (block_of (known_at w.index b.key) ≡ Some q) ⊎ PointsAt (v.pending b.key) q
   pub distinct : (k q : ℕ) → PointsAt (v.pending k) q → block_of (known_at w.index k) ≡ Some q → ⊥
   -- no dead name that stands in the own log waits to be told
   pub heard : (k n : ℕ) → Awaits (known_at w.index k) (core_of p m) n → ⊥
   -- no name is told that doesn't stand
   pub told : (k n : ℕ) → v.present k n ≡ None → v.told k n ≡ false
   -- no entry stands above the last version of its key
-  pub versions : (k n : ℕ) (s : Standing) → standing_at (standing_of (known_at w.index k)) n ≡ Some s → n ≤ last_of (known_at w.index k)
+  pub versions : (k n : ℕ) (s : Standing) → standing_at (standing_of (known_at w.index k)) n
+      ≡ Some s → n ≤ last_of (known_at w.index k)
   -- a change under way is the next one of its key, and words can spell it
   pub next : (k : ℕ) (q : Pending) → v.pending k ≡ Some q → q.entry.version ≡ v.last k + 1
   pub spelled : (k : ℕ) (q : Pending) → v.pending k ≡ Some q → HasSpelling q.entry
   -- no key with a staged change has a record that is to be forgotten
-  pub recalls : (k : ℕ) → owner p k ≡ m → is_busy w.places.items k ≡ true → v.pending k ≡ None → is_forgettable (known_at w.index k) ≡ false
+  pub recalls : (k : ℕ) → owner p k ≡ m → is_busy w.places.items k ≡ true → v.pending k ≡ None
+      → is_forgettable (known_at w.index k) ≡ false
   -- each accepted request has room for its answer
   pub answers : HasAnswerRoom (unanswered w) w
   -- nothing is in hand until the core winds down
   pub hand : w.winds_down ≡ false → w.in_hand ≡ None
   pub stops : w.stopped ≡ true → MayLeadStopped w.leading
   -- until the core stops or winds down, what stands in its log is what the view has there, and there are places for the names of a batch
-  pub log : w.stopped ≡ false → w.winds_down ≡ false → KnowsLog m v.kept v.present v.told v.dead w.standing
+  pub log : w.stopped ≡ false → w.winds_down ≡ false
+      → KnowsLog m v.kept v.present v.told v.dead w.standing
   pub names : w.stopped ≡ false → w.winds_down ≡ false → most_names ≤ w.standing.room
 
 -- the same where the worker is tied

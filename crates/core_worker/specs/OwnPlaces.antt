@@ -62,11 +62,13 @@ is_busy (x ∷ xs) k = if is_of k (key_in x) then true else is_busy xs k
 
 -- no place has two changes of one key
 abbrev pub AreApart : List Place → Type 0
-AreApart ps = (s t k : ℕ) → key_in (place_at ps s) ≡ Some k → key_in (place_at ps t) ≡ Some k → s ≡ t
+AreApart ps = (s t k : ℕ) → key_in (place_at ps s) ≡ Some k → key_in (place_at ps t) ≡ Some k
+    → s ≡ t
 
 -- the lowest place with this, or none
 abbrev pub IsLowest : (Place → Bool) → List Place → ℕ → Type 0
-IsLowest has ps s = (has (place_at ps s) ≡ true) × (s < length ps) × ((t : ℕ) → t < s → has (place_at ps t) ≡ false)
+IsLowest has ps s = (has (place_at ps s) ≡ true) × (s < length ps)
+    × ((t : ℕ) → t < s → has (place_at ps t) ≡ false)
 
 abbrev pub HasNone : (Place → Bool) → List Place → Type 0
 HasNone has ps = (t : ℕ) → has (place_at ps t) ≡ false
@@ -90,7 +92,8 @@ bytes_or (Some v) = v
 -- The request of a change that a view has pending: with a pointer, the value is what the block must hold.
 abbrev pub request_pending : View → ℕ → Option Pending → Option Request
 request_pending v k None = None
-request_pending v k (Some p) = Some (request_by k (bytes_or (left_in v.blocks p.entry.body)) p.entry.body)
+request_pending v k (Some p) = Some (request_by k (bytes_or
+    (left_in v.blocks p.entry.body)) p.entry.body)
 
 -- the request of the change in a place
 abbrev pub request_in : View → Place → Option Request

@@ -38,21 +38,27 @@ IsStagedWith (Posted number key lines) q = ⊥
 -- once the change of a place is posted, the worker is tied to the region
 abbrev pub WouldStand : State → places.Place → ℕ → View → Worker → ℕ → Place → Type 0
 WouldStand s p m v w slot Free = ⊥
-WouldStand s p m v w slot (Staged number entry value) = Stands s p m (after_post slot entry value v) w
+WouldStand s p m v w slot (Staged number entry value) = Stands s p m
+    (after_post slot entry value v) w
 WouldStand s p m v w slot (Posted number key lines) = ⊥
 
-pub record PostsPlain (m : ℕ) (before after : Option Group) (v u : View) (old new : Worker) (slot : ℕ) : Type 0 where
+pub record PostsPlain (m : ℕ) (before after : Option Group) (v u : View) (old new : Worker)
+    (slot : ℕ) : Type 0 where
   pub number : ℕ
   pub entry : Entry
   pub value : List ℕ
   pub was : place_at old.places.items slot ≡ Staged number entry value
-  pub places : Replaces old.places.items new.places.items slot (Posted number entry.key (lines_for (length (words_of entry))))
+  pub places : Replaces old.places.items new.places.items slot
+      (Posted number entry.key (lines_for (length (words_of entry))))
   pub rest : new ≡ record old { places = new.places }
   pub view : u ≡ after_post slot entry value v
   pub whole : Makes before m (runs.Kind.Post slot entry value) after u
 
 -- The change is posted after its block was written; or the core has stopped, and no event was made.
-abbrev pub PostsOrStops : ℕ → Option Group → Option Group → View → View → Worker → Worker → ℕ → Type 0
+abbrev pub PostsOrStops : ℕ → Option Group → Option Group → View → View → Worker → Worker → ℕ
+    → Type 0
 PostsOrStops m before after v u old new slot =
-    ((mid : Worker) × (mid ≡ record old { allocator = mid.allocator }) × PostsPlain m before after v u mid new slot)
-    ⊎ ((new ≡ record old { allocator = new.allocator; stopped = true }) × (u ≡ v) × (after ≡ before))
+    ((mid : Worker) × (mid ≡ record old { allocator = mid.allocator })
+    × PostsPlain m before after v u mid new slot)
+    ⊎ ((new ≡ record old { allocator = new.allocator; stopped = true }) × (u ≡ v)
+    × (after ≡ before))

@@ -27,13 +27,18 @@ pub record LoadsOnly (before after : Option Group) (m : ℕ) : Type 0 where
 
 -- an own change is in a leader's hands, or waits for the lock that another has
 abbrev pub IsWithOthers : Option Group → Option Group → ℕ → ℕ → Type 0
-IsWithOthers before after m s = IfSome before (λ a. IfSome after (λ b. (b.slot m s ≡ Taken) ⊎ ((e : Entry) × (h : ℕ) × (b.slot m s ≡ Posted e) × (b.holder ≡ Some h))))
+IsWithOthers before after m s = IfSome before (λ a. IfSome after
+    (λ b. (b.slot m s ≡ Taken) ⊎ ((e : Entry) × (h : ℕ) × (b.slot m s ≡ Posted e)
+    × (b.holder ≡ Some h))))
 
 -- It leads nothing, and each of its posted changes is with others.
-pub record IsResting (p : Place) (m : ℕ) (before after : Option Group) (u : View) (x : Hands) : Type 0 where
+pub record IsResting (p : Place) (m : ℕ) (before after : Option Group) (u : View)
+    (x : Hands) : Type 0 where
   pub holds : u.holds ≡ false
   pub taken : (a s : ℕ) → u.taken a s ≡ None
-  pub posted : (k : ℕ) (y : Placed) → owner p k ≡ m → x.place k ≡ Some y → y.posted ≡ true → (d : Pending) (s : ℕ) → u.pending k ≡ Some d → d.slot ≡ Some s → IsWithOthers before after m s
+  pub posted : (k : ℕ) (y : Placed) → owner p k ≡ m → x.place k ≡ Some y → y.posted ≡ true
+      → (d : Pending) (s : ℕ) → u.pending k ≡ Some d → d.slot ≡ Some s
+      → IsWithOthers before after m s
 
 -- what it holds is what it held
 abbrev pub HoldsSame : Place → ℕ → Hands → Hands → Type 0
@@ -54,11 +59,13 @@ pub record HasNoMore (p : Place) (m : ℕ) (x : Hands) (w : Worker) : Type 0 whe
   pub open_for : OpenFor p m x w
 
 -- What a turn that found nothing to do leaves, also of a worker that winds down. One that goes on, and isn't held back, has nothing to begin.
-pub record AtRest (refused : Bool) (seat : SeatAt) (before after : Option Group) (v u : View) (w x : Worker) : Type 0 where
+pub record AtRest (refused : Bool) (seat : SeatAt) (before after : Option Group) (v u : View)
+    (w x : Worker) : Type 0 where
   pub loads : LoadsOnly before after seat.number
   pub same : HoldsSame seat.place seat.number (hands_of v w) (hands_of u x)
   pub rests : IsResting seat.place seat.number before after u (hands_of u x)
-  pub no_more : refused ≡ false → w.winds_down ≡ false → HasNoMore seat.place seat.number (hands_of u x) w
+  pub no_more : refused ≡ false → w.winds_down ≡ false
+      → HasNoMore seat.place seat.number (hands_of u x) w
 
 -- where a turn found nothing to do
 abbrev pub IfIdleTurn : Turn → Type 0 → Type 0

@@ -20,9 +20,13 @@ use Rattle.core_worker.specs.OwnPlaces.{place_at, is_posted}
 use Rattle.core_worker.specs.Turns.{Moment, PassesItems, IsBack, FindsPosted, looks_at}
 
 -- the slot of a place is loaded where the place is posted
-abbrev pub Sees : ℕ → ℕ → Option Group → Option Group → View → View → Place → Option SlotState → Type 0
+abbrev pub Sees : ℕ → ℕ → Option Group → Option Group → View → View → Place → Option SlotState
+    → Type 0
 Sees m slot before after v u x None = (is_posted x ≡ false) × (u ≡ v) × (after ≡ before)
-Sees m slot before after v u x (Some state) = (is_posted x ≡ true) × ((word : SlotWord) × (state_of word ≡ state) × (u ≡ after_find (Slot m slot word) v)) × Makes before m (Look m slot) after u × IfSome before (λ w. state_of (shown (w.slot m slot)) ≡ state)
+Sees m slot before after v u x (Some state) = (is_posted x ≡ true)
+    × ((word : SlotWord) × (state_of word ≡ state) × (u ≡ after_find (Slot m slot word) v))
+    × Makes before m (Look m slot) after u × IfSome before
+    (λ w. state_of (shown (w.slot m slot)) ≡ state)
 
 abbrev pub is_given_back : SlotState → Bool
 is_given_back slots.Empty = false
@@ -47,7 +51,8 @@ shows_out None = false
 shows_out (Some x) = is_out x
 
 -- The slots of the posted places below one were loaded, and none was found given back.
-pub record Searched (before after : Option Group) (m : ℕ) (ps : List Place) (v : View) (upto : ℕ) (posted : Bool) (u : View) : Type 0 where
+pub record Searched (before after : Option Group) (m : ℕ) (ps : List Place) (v : View) (upto : ℕ)
+    (posted : Bool) (u : View) : Type 0 where
   pub found : ℕ → SlotWord
   pub looks : List Seen
   pub view : u ≡ record v { looked = v.looked ++ looks }
@@ -59,5 +64,8 @@ pub record Searched (before after : Option Group) (m : ℕ) (ps : List Place) (v
 
 -- The lowest posted place that is given back, or none is; then also whether a change was found that nobody had taken.
 abbrev pub Finds : Search → ℕ → Moment → View → Type 0
-Finds (Back slot) m a u = (slot < 8) × (is_posted (place_at a.worker.places.items slot) ≡ true) × PassesItems m a slot u × ((word : SlotWord) × IsBack word × In (Slot m slot word) u.looked)
-Finds (Out posted) m a u = (before : PassesItems m a 8 u) × MatchBool posted (FindsPosted a.worker.places.items before.looked.found 8) (FindsPosted a.worker.places.items before.looked.found 8 → ⊥)
+Finds (Back slot) m a u = (slot < 8) × (is_posted (place_at a.worker.places.items slot) ≡ true)
+    × PassesItems m a slot u × ((word : SlotWord) × IsBack word × In (Slot m slot word) u.looked)
+Finds (Out posted) m a u = (before : PassesItems m a 8 u)
+    × MatchBool posted (FindsPosted a.worker.places.items before.looked.found 8)
+    (FindsPosted a.worker.places.items before.looked.found 8 → ⊥)

@@ -21,7 +21,8 @@ abbrev pub named_in : List Entry → ℕ → ℕ → ℕ
 named_in es k n = count_by (λ (e : Entry). name_eq (e.key, e.version) (k, n)) es
 
 -- What stands in the log of member m, by what it has: exactly the names of the entries that are certain there, and exactly its dead names were told dead, each of which stands there. What it believes to stand there does, and such a name is dead once it was told.
-pub record KnowsLog (m : ℕ) (kept : List Entry) (present : ℕ → ℕ → Option ℕ) (told dead : ℕ → ℕ → Bool) (st : StandingState) : Type 0 where
+pub record KnowsLog (m : ℕ) (kept : List Entry) (present : ℕ → ℕ → Option ℕ)
+    (told dead : ℕ → ℕ → Bool) (st : StandingState) : Type 0 where
   pub stands : (k n : ℕ) → 0 < count_of st k n → IsNamedIn kept k n
   pub all : (k n : ℕ) → IsNamedIn kept k n → 0 < count_of st k n
   pub deaths : (k n : ℕ) → is_told st k n ≡ dead k n
@@ -48,9 +49,12 @@ pub record AddsNames (old new : StandingState) (es : List Entry) : Type 0 where
   pub settled : new.settled ≡ old.settled
 
 -- Of the names that stand exactly those were told dead besides that by the index awaited to be told to this home; and no other name was.
-pub record HearsOwn (home : ℕ) (es : List (ℕ × slots.Place)) (old new : StandingState) : Type 0 where
+pub record HearsOwn (home : ℕ) (es : List (ℕ × slots.Place))
+    (old new : StandingState) : Type 0 where
   pub counts : (k n : ℕ) → count_of new k n ≡ count_of old k n
-  pub told : (k n : ℕ) → is_told new k n ≡ true → (is_told old k n ≡ true) ⊎ Awaits (known_at es k) home n
-  pub all : (k n : ℕ) → 0 < count_of old k n → (is_told old k n ≡ true) ⊎ Awaits (known_at es k) home n → is_told new k n ≡ true
+  pub told : (k n : ℕ) → is_told new k n ≡ true → (is_told old k n ≡ true)
+      ⊎ Awaits (known_at es k) home n
+  pub all : (k n : ℕ) → 0 < count_of old k n → (is_told old k n ≡ true)
+      ⊎ Awaits (known_at es k) home n → is_told new k n ≡ true
   pub settled : new.settled ≡ old.settled
   pub room : old.room ≤ new.room

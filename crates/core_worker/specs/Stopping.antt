@@ -38,7 +38,8 @@ pub record PutsAway (old new : Worker) (slot : ℕ) (block : Option ℕ) : Type 
 
 -- wherever it was tied, it is tied but for what waits of the key
 abbrev pub FreesBySight : Worker → Worker → ℕ → Type 0
-FreesBySight old new k = (t : Tie) → HoldsBy t old → InOrderBy t old → IsFreed t.place t.number t.view t.view old new k
+FreesBySight old new k = (t : Tie) → HoldsBy t old → InOrderBy t old
+    → IsFreed t.place t.number t.view t.view old new k
 
 -- Item 5 of a stopped core: the staged change of a place is answered Stopped, its block put back, and then the key's waiting requests are begun; `all` where there was memory for it.
 pub record Drops (s : State) (slot : ℕ) (old new : Worker) (all : Bool) : Type 0 where
@@ -49,15 +50,19 @@ pub record Drops (s : State) (slot : ℕ) (old new : Worker) (all : Bool) : Type
   pub freed : Worker
   pub puts : PutsAway old freed slot (pointer_of entry.body)
   pub rest : OnlyServes freed new
-  pub begins : all ≡ true → (t : Tie) → IsServed s old t → Serves (IsTelling s) freed new (t.view.cell entry.key) entry.key
-  pub short : all ≡ false → (t : Tie) → IsServed s old t → ShortOf (IsTelling s) freed new (t.view.cell entry.key) entry.key
+  pub begins : all ≡ true → (t : Tie) → IsServed s old t
+      → Serves (IsTelling s) freed new (t.view.cell entry.key) entry.key
+  pub short : all ≡ false → (t : Tie) → IsServed s old t
+      → ShortOf (IsTelling s) freed new (t.view.cell entry.key) entry.key
 
 -- the place of a key's change is put away
 abbrev pub PutsAwayKey : Worker → Worker → ℕ → Option ℕ → Type 0
-PutsAwayKey old new k block = (slot : ℕ) × (key_in (place_at old.places.items slot) ≡ Some k) × PutsAway old new slot block
+PutsAwayKey old new k block = (slot : ℕ) × (key_in (place_at old.places.items slot) ≡ Some k)
+    × PutsAway old new slot block
 
 -- The leader of a stopped core found no own slot Posted, and gave the lock back.
-pub record Unlocks (seat : SeatAt) (before after : Option Group) (v u : View) (old new : Worker) : Type 0 where
+pub record Unlocks (seat : SeatAt) (before after : Option Group) (v u : View)
+    (old new : Worker) : Type 0 where
   pub holds : HoldsAt seat u new
   pub stands : KeepsStanding seat v u old new
   pub order : InOrderAt seat u new
@@ -71,7 +76,8 @@ pub record Unlocks (seat : SeatAt) (before after : Option Group) (v u : View) (o
   pub same : new ≡ record old { leading = new.leading }
 
 -- It took the lowest own change back that it found Posted, and goes on leading.
-pub record Retracts (seat : SeatAt) (before after : Option Group) (v u : View) (old new : Worker) (change : Change) : Type 0 where
+pub record Retracts (seat : SeatAt) (before after : Option Group) (v u : View) (old new : Worker)
+    (change : Change) : Type 0 where
   pub collecting : Collecting
   pub leads_now : new ≡ record old { leading = leads.Collecting collecting }
   pub collects : Collects seat u collecting
@@ -79,16 +85,21 @@ pub record Retracts (seat : SeatAt) (before after : Option Group) (v u : View) (
   pub back : TakesBack before after seat.number v u change
 
 -- Item 1 of a stopped core, the withdrawal: the change is answered Stopped, its block put back, and then the key's waiting requests are begun; `all` where there was memory for it.
-pub record Withdraws (s : State) (seat : SeatAt) (before after : Option Group) (v u : View) (old new : Worker) (all : Bool) : Type 0 where
+pub record Withdraws (s : State) (seat : SeatAt) (before after : Option Group) (v u : View)
+    (old new : Worker) (all : Bool) : Type 0 where
   pub change : Change
   pub mid : Worker
   pub retracts : Retracts seat before after v u old mid change
   pub freed : Worker
   pub puts : PutsAwayKey mid freed change.entry.key (pointer_of change.entry.body)
   pub rest : OnlyServes freed new
-  pub begins : all ≡ true → Serves (IsTelling s) freed new (u.cell change.entry.key) change.entry.key
-  pub short : all ≡ false → ShortOf (IsTelling s) freed new (u.cell change.entry.key) change.entry.key
+  pub begins : all ≡ true → Serves (IsTelling s) freed new
+      (u.cell change.entry.key) change.entry.key
+  pub short : all ≡ false → ShortOf (IsTelling s) freed new
+      (u.cell change.entry.key) change.entry.key
 
 -- item 1 of a stopped core
-abbrev pub WithdrawsOrUnlocks : State → SeatAt → Option Group → Option Group → View → View → Worker → Worker → Bool → Type 0
-WithdrawsOrUnlocks s seat before after v u old new all = Withdraws s seat before after v u old new all ⊎ ((all ≡ true) × Unlocks seat before after v u old new)
+abbrev pub WithdrawsOrUnlocks : State → SeatAt → Option Group → Option Group → View → View → Worker
+    → Worker → Bool → Type 0
+WithdrawsOrUnlocks s seat before after v u old new all = Withdraws s seat before after v u old new
+    all ⊎ ((all ≡ true) × Unlocks seat before after v u old new)

@@ -7,6 +7,7 @@ use Rattle.core_log.specs.declared.types.Room.{Room}
 use Rattle.lazy_alloc.specs.Sets.{Sets, free_chunk_count, free_block_count}
 use Rattle.fs_model.specs.declared.model.Request.{Request}
 use Rattle.fs_model.specs.declared.model.Request.TheVariants.{Put, Get, Delete}
+use Rattle.log_entry.specs.declared.entry_limits.TheConstants.{LAST_PUT_VERSION}
 use Rattle.core_room.specs.declared.supply.Supply.{Supply}
 use Rattle.core_room.specs.declared.types.Shortage.{Shortage}
 use Rattle.core_room.specs.declared.types.Shortage.TheVariants as causes
@@ -30,7 +31,12 @@ IsSmall (Copying victim first) = (victim.words < 2 ^ 32) × (victim.entries < 2 
 IsSmall (Doomed chunk) = Unit {0}
 
 abbrev pub supply_of : Worker → Supply
-supply_of w = record { free_chunks = free_chunk_count w.allocator; open_lines = room_of w.log; own_lines = own w.places.items; rest_lines = rest w.cleaning }
+supply_of w = record {
+  free_chunks = free_chunk_count w.allocator;
+  open_lines = room_of w.log;
+  own_lines = own w.places.items;
+  rest_lines = rest w.cleaning;
+}
 
 -- The room rule of a worker. It is the weaker one from the beginning of a cleaning to its first copy.
 abbrev pub KeepsRule : Cleaning → Supply → Type 0
@@ -44,7 +50,12 @@ HasKeptRoom w = KeepsRule w.cleaning (supply_of w)
 
 -- What a leader is told of the room.
 abbrev pub room_for : Worker → Room
-room_for w = record { open_lines = room_of w.log; free_chunks = free_chunk_count w.allocator; pledged_lines = pledged (supply_of w); payload_lines = payload_lines w.log.layout }
+room_for w = record {
+  open_lines = room_of w.log;
+  free_chunks = free_chunk_count w.allocator;
+  pledged_lines = pledged (supply_of w);
+  payload_lines = payload_lines w.log.layout;
+}
 
 -- the free blocks of a class, 0 where no block is asked
 abbrev pub free_blocks : Sets → ℕ → ℕ
@@ -58,7 +69,7 @@ lacks s a need class = shortage_at s need class (free_blocks a class)
 abbrev pub why_put : Geometry → Supply → Sets → ℕ → ℕ → Option Shortage
 why_put l s a last n =
     if nat_lt (l.chunk_bytes / 4 - 8) n then Some (causes.Length n)
-    else (if nat_le 1048574 last then Some (causes.Versions last)
+    else (if nat_le LAST_PUT_VERSION last then Some (causes.Versions last)
     else lacks s a (lines_needed n) (class_for n))
 
 -- a delete is refused for want of room alone, and only of a key that has a value

@@ -29,11 +29,14 @@ use Rattle.core_worker.specs.OwnChunks.{AreChunks}
 
 -- What the core leads. Only a collecting one has the lock; who leads nothing gave all back, and has nothing in flight but after a fault.
 abbrev pub LeadsAt : SeatAt → View → Leading → Type 0
-LeadsAt seat v (leads.Nothing buffer) = (v.holds ≡ false) × ((a s : ℕ) → v.taken a s ≡ None) × (v.broken ≡ false → v.flying ≡ [])
+LeadsAt seat v (leads.Nothing buffer) = (v.holds ≡ false) × ((a s : ℕ) → v.taken a s ≡ None)
+    × (v.broken ≡ false → v.flying ≡ [])
 LeadsAt seat v (leads.Collecting c) = Collects seat v c
 LeadsAt seat v (leads.Batch b) = IsBatchOf seat v b × (v.holds ≡ false)
-LeadsAt seat v (leads.Persisted x) = IsCertain seat v x.left.taken.items × (v.holds ≡ false) × (v.broken ≡ false → v.flying ≡ []) × (x.left.taken.items ≢ [])
-LeadsAt seat v (leads.Failed x) = IsLost seat v x.left.taken.items × (v.holds ≡ false) × (x.left.taken.items ≢ [])
+LeadsAt seat v (leads.Persisted x) = IsCertain seat v x.left.taken.items × (v.holds ≡ false)
+    × (v.broken ≡ false → v.flying ≡ []) × (x.left.taken.items ≢ [])
+LeadsAt seat v (leads.Failed x) = IsLost seat v x.left.taken.items × (v.holds ≡ false)
+    × (x.left.taken.items ≢ [])
 LeadsAt seat v leads.Between = ⊥
 
 -- The same of member m, at some seat of it: which board's it is doesn't matter.
@@ -47,7 +50,8 @@ pub record Leads (p : Place) (m : ℕ) (v : View) (l : Leading) : Type 0 where
 abbrev pub HasSpaceFor : Worker → Leading → Type 0
 HasSpaceFor w (leads.Nothing buffer) = Unit {0}
 HasSpaceFor w (leads.Collecting c) = Suits (room_for w) c
-HasSpaceFor w (leads.Batch b) = HasSpace (room_for w) b.fresh b.own_lines (words_in b.changes.taken.items)
+HasSpaceFor w (leads.Batch b) = HasSpace (room_for w) b.fresh b.own_lines
+    (words_in b.changes.taken.items)
 HasSpaceFor w (leads.Persisted x) = Unit {0}
 HasSpaceFor w (leads.Failed x) = Unit {0}
 HasSpaceFor w leads.Between = Unit {0}
@@ -77,14 +81,19 @@ pub record Holds (p : Place) (m : ℕ) (v : View) (w : Worker) : Type 0 where
   pub placed : (s : ℕ) → s < 8 → IsPlaced p m v s (place_at w.places.items s)
   pub apart : AreApart w.places.items
   -- a change that the view has pending stands in a place, or is in doubt
-  pub pending : (k : ℕ) (q : Pending) → v.pending k ≡ Some q → ((s number lines : ℕ) × (s < 8) × (place_at w.places.items s ≡ Posted number k lines)) ⊎ ((q.slot ≡ None) × (is_busy w.places.items k ≡ false) × (w.stopped ≡ true))
+  pub pending : (k : ℕ) (q : Pending) → v.pending k ≡ Some q
+      → ((s number lines : ℕ) × (s < 8) × (place_at w.places.items s ≡ Posted number k lines))
+      ⊎ ((q.slot ≡ None) × (is_busy w.places.items k ≡ false) × (w.stopped ≡ true))
   -- each request that may still become a change has room for its record
-  pub admitted : (k : ℕ) → is_busy w.places.items k ≡ true → length (waiting w.queue k) < room_at w.index k
+  pub admitted : (k : ℕ) → is_busy w.places.items k ≡ true
+      → length (waiting w.queue k) < room_at w.index k
   -- no record is asked of a stopped core but of keys with a change in a place
-  pub keys : (k : ℕ) → owner p k ≡ m → (w.stopped ≡ false) ⊎ (is_busy w.places.items k ≡ true) → KnowsKey p v k (known_at w.index k)
+  pub keys : (k : ℕ) → owner p k ≡ m → (w.stopped ≡ false) ⊎ (is_busy w.places.items k ≡ true)
+      → KnowsKey p v k (known_at w.index k)
   pub blocks : AreBlocks v w.allocator w.places.items
   -- only requests for busy keys wait, until the core winds down
-  pub waits : w.winds_down ≡ false → (k : ℕ) → is_busy w.places.items k ≡ false → waiting w.queue k ≡ []
+  pub waits : w.winds_down ≡ false → (k : ℕ) → is_busy w.places.items k ≡ false
+      → waiting w.queue k ≡ []
   pub leads : Leads p m v w.leading
   pub space : w.stopped ≡ false → HasSpaceFor w w.leading
   -- a core that failed an entry, took one back as failed or could not write a batch has stopped
@@ -93,7 +102,8 @@ pub record Holds (p : Place) (m : ℕ) (v : View) (w : Worker) : Type 0 where
   -- no cleaning is under way
   pub cleaning : w.cleaning ≡ Nothing
   -- until the core stops, no key has a record that is to be forgotten, but while a change of it is out
-  pub remembers : w.stopped ≡ false → (k : ℕ) → owner p k ≡ m → v.pending k ≡ None → is_forgettable (known_at w.index k) ≡ false
+  pub remembers : w.stopped ≡ false → (k : ℕ) → owner p k ≡ m → v.pending k ≡ None
+      → is_forgettable (known_at w.index k) ≡ false
   -- until the core stops, each chunk of its part is free in the allocator, Data there, or one of the log's
   pub chunks : w.stopped ≡ false → AreChunks p.layout.chunks w.allocator w.log.chunks
 
@@ -101,11 +111,16 @@ pub record Holds (p : Place) (m : ℕ) (v : View) (w : Worker) : Type 0 where
 pub record Stands (s : State) (p : Place) (m : ℕ) (v : View) (w : Worker) : Type 0 where
   pub lies : PartLies s.frame w.allocator
   pub licensed : IsTelling s → Licensed p m v (cell_now s)
-  pub landed : v.broken ≡ false → is_lost w.leading ≡ false → IsTelling s → Licensed p m (grounded v) (cell_now s)
+  pub landed : v.broken ≡ false → is_lost w.leading ≡ false → IsTelling s
+      → Licensed p m (grounded v) (cell_now s)
   pub log : w.stopped ≡ false → StandsIn s w.log
-  pub free : w.stopped ≡ false → (j : ℕ) → chunk_is_free w.allocator j ≡ true → IsTelling s → (tail_of w.log.chunks j ≡ None) × Surely (cell_now s (first_of w.log j)) 0
-  pub due : w.stopped ≡ false → (j : ℕ) → chunk_is_due w.allocator j ≡ true → IsTelling s → (tail_of w.log.chunks j ≡ None) × Surely (cell_now s (first_of w.log j)) 0
-  pub cut : w.stopped ≡ false → (j c : ℕ) → chunk_class w.allocator j ≡ Some c → chunk_is_due w.allocator j ≡ false → IsTelling s → (tail_of w.log.chunks j ≡ None) × Surely (cell_now s (first_of w.log j)) (2 + 256 * c)
+  pub free : w.stopped ≡ false → (j : ℕ) → chunk_is_free w.allocator j ≡ true → IsTelling s
+      → (tail_of w.log.chunks j ≡ None) × Surely (cell_now s (first_of w.log j)) 0
+  pub due : w.stopped ≡ false → (j : ℕ) → chunk_is_due w.allocator j ≡ true → IsTelling s
+      → (tail_of w.log.chunks j ≡ None) × Surely (cell_now s (first_of w.log j)) 0
+  pub cut : w.stopped ≡ false → (j c : ℕ) → chunk_class w.allocator j ≡ Some c
+      → chunk_is_due w.allocator j ≡ false → IsTelling s → (tail_of w.log.chunks j ≡ None)
+      × Surely (cell_now s (first_of w.log j)) (2 + 256 * c)
 
 -- the same at a seat
 abbrev pub HoldsAt : SeatAt → View → Worker → Type 0

@@ -24,13 +24,16 @@ use Rattle.core_worker.specs.Stopping.{Drops, WithdrawsOrUnlocks}
 use Rattle.core_worker.specs.WorkerMoves.{Fixed, hands_of, WorkerMoves}
 
 -- What a turn fixed is what the worker answers besides, and the turn is a whole move to whoever runs several workers.
-pub record TurnMoves (seat : SeatAt) (s t : State) (before after : Option Group) (v u : View) (w x : Worker) : Type 0 where
+pub record TurnMoves (seat : SeatAt) (s t : State) (before after : Option Group) (v u : View)
+    (w x : Worker) : Type 0 where
   pub fixed : List Fixed
   pub answers : AddsAnswers (IsTelling t) (answers_of w) (answers_of x) fixed
-  pub moves : WorkerMoves seat.place seat.number s t before after v u (hands_of v w) (hands_of u x) [] fixed
+  pub moves : WorkerMoves seat.place seat.number s t before after v u (hands_of v w)
+      (hands_of u x) [] fixed
 
 -- What a part of a turn keeps, whatever it did.
-pub record KeepsTurn (seat : SeatAt) (s t : State) (before after : Option Group) (v u : View) (w x : Worker) : Type 0 where
+pub record KeepsTurn (seat : SeatAt) (s t : State) (before after : Option Group) (v u : View)
+    (w x : Worker) : Type 0 where
   pub moments : StaysLicensed s t seat v
   pub outside : WritesPart s t seat
   pub holds : HoldsAt seat u x
@@ -60,13 +63,16 @@ pub record DropsLowest (s : State) (m : ℕ) (a b : Moment) (all : Bool) : Type 
   pub view : b.view ≡ mid
 
 -- The item of the order of work that a turn did. Where there was no memory for what waited of a key, `all` is false.
-pub data Did (s : State) (refused : Bool) (before : Option Group) (seat : SeatAt) (a b : Moment) : Type 0 where
+pub data Did (s : State) (refused : Bool) (before : Option Group) (seat : SeatAt)
+    (a b : Moment) : Type 0 where
   goes_round : GoesRound before seat a b → Did s refused before seat a b
-  withdraws : (after : Option Group) (all : Bool) → WithdrawsOrUnlocks s seat before after a.view b.view a.worker b.worker all → Did s refused before seat a b
+  withdraws : (after : Option Group) (all : Bool) → WithdrawsOrUnlocks s seat before after a.view
+      b.view a.worker b.worker all → Did s refused before seat a b
   writes : PersistsOrLoses b.worker.stopped seat.number a b → Did s refused before seat a b
   marks : Marks a b → Did s refused before seat a b
   fails : Fails a b → Did s refused before seat a b
-  finishes : (all : Bool) → Finishes s seat.place seat.number a b all → Did s refused before seat a b
+  finishes : (all : Bool) → Finishes s seat.place seat.number a b all
+      → Did s refused before seat a b
   posts : Posts seat.number a b → Did s refused before seat a b
   loses_block : LosesBlock seat.number a b → Did s refused before seat a b
   drops : (all : Bool) → DropsLowest s seat.number a b all → Did s refused before seat a b
@@ -78,7 +84,8 @@ Turned Moved s refused before seat a b = Did s refused before seat a b
 Turned Idle s refused before seat a b = Idles refused seat.number a b
 
 -- the same where it may find no memory
-abbrev pub TurnedTo : Result Turn Memory → State → Bool → Option Group → SeatAt → Moment → Moment → Type 0
+abbrev pub TurnedTo : Result Turn Memory → State → Bool → Option Group → SeatAt → Moment → Moment
+    → Type 0
 TurnedTo (Ok turn) s refused before seat a b = Turned turn s refused before seat a b
 TurnedTo (Err memory) s refused before seat a b = Did s refused before seat a b
 
@@ -88,10 +95,14 @@ at_entry w v = record { worker = w; view = v }
 
 -- whether a posted slot was found that nobody had taken
 abbrev pub Tells : Bool → ℕ → Worker → View → View → Type 0
-Tells posted m w v mid = (before : PassesItems m (at_entry w v) 8 mid) × MatchBool posted (FindsPosted w.places.items before.looked.found 8) (FindsPosted w.places.items before.looked.found 8 → ⊥)
+Tells posted m w v mid = (before : PassesItems m (at_entry w v) 8 mid)
+    × MatchBool posted (FindsPosted w.places.items before.looked.found 8)
+    (FindsPosted w.places.items before.looked.found 8 → ⊥)
 
 -- what there is to do with the staged changes
 abbrev pub Chooses : Choice → Bool → Worker → Type 0
 Chooses Pass refused w = PassesPost refused w
-Chooses (Drop slot) refused w = IsLowest is_staged w.places.items slot × (slot < 8) × (w.stopped ≡ true) × (w.winds_down ≡ false)
-Chooses (Post slot) refused w = IsLowest is_staged w.places.items slot × (slot < 8) × (w.stopped ≡ false) × (w.winds_down ≡ false)
+Chooses (Drop slot) refused w = IsLowest is_staged w.places.items slot × (slot < 8)
+    × (w.stopped ≡ true) × (w.winds_down ≡ false)
+Chooses (Post slot) refused w = IsLowest is_staged w.places.items slot × (slot < 8)
+    × (w.stopped ≡ false) × (w.winds_down ≡ false)

@@ -73,10 +73,12 @@ first_is all t rest = all ≡ t ∷ rest
 
 -- what leads on: a state with these changes left, or nothing once the last is given back
 abbrev pub persisted_left : List Taken → Leading → Type 0
-persisted_left ts new = ((ts ≢ []) × ((x : Persisted) × (x.left.taken.items ≡ ts) × (new ≡ leads.Persisted x))) ⊎ ((ts ≡ []) × ((d : BatchBuffer) × (new ≡ leads.Nothing d)))
+persisted_left ts new = ((ts ≢ []) × ((x : Persisted) × (x.left.taken.items ≡ ts)
+    × (new ≡ leads.Persisted x))) ⊎ ((ts ≡ []) × ((d : BatchBuffer) × (new ≡ leads.Nothing d)))
 
 abbrev pub failed_left : List Taken → Leading → Type 0
-failed_left ts new = ((ts ≢ []) × ((x : FailedBatch) × (x.left.taken.items ≡ ts) × (new ≡ leads.Failed x))) ⊎ ((ts ≡ []) × ((d : BatchBuffer) × (new ≡ leads.Nothing d)))
+failed_left ts new = ((ts ≢ []) × ((x : FailedBatch) × (x.left.taken.items ≡ ts)
+    × (new ≡ leads.Failed x))) ⊎ ((ts ≡ []) × ((d : BatchBuffer) × (new ≡ leads.Nothing d)))
 
 -- Item 1, the take: the round goes on to the next slot that fits.
 pub record Collects (before : Option Group) (m : ℕ) (a b : Moment) : Type 0 where
@@ -116,15 +118,20 @@ unpledged_if false x = x
 -- The place of an own entry that was committed pledges nothing any more; what was taken pledged its lines until then.
 abbrev pub UnpledgedAt : Option Entry → WorkerPlace → WorkerPlace → Type 0
 UnpledgedAt None old new = new ≡ old
-UnpledgedAt (Some e) old new = (number : ℕ) × (old ≡ Posted number e.key (lines_for (length (words_of e)))) × (new ≡ Posted number e.key 0)
+UnpledgedAt (Some e) old new = (number : ℕ) × (old
+    ≡ Posted number e.key (lines_for (length (words_of e)))) × (new ≡ Posted number e.key 0)
 
 -- so it is with each place of m, of which these were committed
 abbrev pub Unpledges : ℕ → List Taken → Worker → Worker → Type 0
-Unpledges m ts old new = (s : ℕ) → UnpledgedAt (taken_in ts m s) (place_at old.places.items s) (place_at new.places.items s)
+Unpledges m ts old new = (s : ℕ) → UnpledgedAt (taken_in ts m s) (place_at old.places.items s)
+    (place_at new.places.items s)
 
 -- the log whose open chunk has the batch more
 abbrev pub appended_to : LogState → List ℕ → LogState
-appended_to log batch = record log { chunks = with_tail log.chunks (open_number log) (open_tail log + length batch) }
+appended_to log batch = record log {
+  chunks = with_tail log.chunks (open_number log)
+      (open_tail log + length batch);
+}
 
 -- the lowest free chunk is taken, where one is needed
 abbrev pub TakesFor : Bool → Sets → Sets → Option ℕ → Type 0
@@ -140,13 +147,22 @@ pub record Persists (m : ℕ) (a b : Moment) : Type 0 where
   pub gives : done.left.taken.items ≡ batch.changes.taken.items
   pub fresh : Option ℕ
   pub chunk : TakesFor batch.fresh a.worker.allocator b.worker.allocator fresh
-  pub log : b.worker.log ≡ appended_to (opened_for a.worker.log fresh) (padded (spelled batch.changes.taken.items))
+  pub log : b.worker.log ≡ appended_to (opened_for a.worker.log fresh)
+      (padded (spelled batch.changes.taken.items))
   pub pledged : Unpledges m batch.changes.taken.items a.worker b.worker
   pub view : b.view ≡ after_commit a.view
   -- the names stand in the log now; for the next batch there may be no memory
-  pub names : a.worker.winds_down ≡ false → AddsNames a.worker.standing b.worker.standing (entries_in batch.changes.taken.items)
+  pub names : a.worker.winds_down ≡ false → AddsNames a.worker.standing b.worker.standing
+      (entries_in batch.changes.taken.items)
   pub winds : a.worker.winds_down ≡ true → b.worker.winds_down ≡ true
-  pub same : b.worker ≡ record a.worker { log = b.worker.log; allocator = b.worker.allocator; places = b.worker.places; leading = b.worker.leading; standing = b.worker.standing; winds_down = b.worker.winds_down }
+  pub same : b.worker ≡ record a.worker {
+    log = b.worker.log;
+    allocator = b.worker.allocator;
+    places = b.worker.places;
+    leading = b.worker.leading;
+    standing = b.worker.standing;
+    winds_down = b.worker.winds_down;
+  }
 
 -- Item 2 at a fault: no event is made, and the core stops.
 pub record LosesBatch (a b : Moment) : Type 0 where
@@ -157,7 +173,13 @@ pub record LosesBatch (a b : Moment) : Type 0 where
   pub gives : lost.left.taken.items ≡ batch.changes.taken.items
   pub stopped : b.worker.stopped ≡ true
   pub view : b.view ≡ a.view
-  pub same : b.worker ≡ record a.worker { log = b.worker.log; allocator = b.worker.allocator; leading = b.worker.leading; standing = b.worker.standing; stopped = true }
+  pub same : b.worker ≡ record a.worker {
+    log = b.worker.log;
+    allocator = b.worker.allocator;
+    leading = b.worker.leading;
+    standing = b.worker.standing;
+    stopped = true;
+  }
 
 -- Item 3: the next change is given back. With the last one the core leads no more.
 pub record Marks (a b : Moment) : Type 0 where
@@ -185,11 +207,13 @@ pub record Looked (m : ℕ) (a : Moment) (upto : ℕ) (v : View) : Type 0 where
   pub found : ℕ → SlotWord
   pub looks : List Seen
   pub view : v ≡ record a.view { looked = a.view.looked ++ looks }
-  pub seen : (s : ℕ) → s < upto → is_posted (place_at a.worker.places.items s) ≡ true → In (Slot m s (found s)) looks
+  pub seen : (s : ℕ) → s < upto → is_posted (place_at a.worker.places.items s) ≡ true
+      → In (Slot m s (found s)) looks
 
 -- below a place a posted one was found that nobody had taken
 abbrev pub FindsPosted : List WorkerPlace → (ℕ → SlotWord) → ℕ → Type 0
-FindsPosted ps found upto = (s n : ℕ) × (s < upto) × (is_posted (place_at ps s) ≡ true) × (found s ≡ words.Posted n)
+FindsPosted ps found upto = (s n : ℕ) × (s < upto) × (is_posted (place_at ps s) ≡ true)
+    × (found s ≡ words.Posted n)
 
 -- loads of own slots
 abbrev pub looks_at : ℕ → List ℕ → List (ℕ × Kind)
@@ -210,7 +234,8 @@ IsBack words.Failed = Unit {0}
 pub record PassesItems (m : ℕ) (a : Moment) (upto : ℕ) (v : View) : Type 0 where
   pub free : LeadsNothing a.worker
   pub looked : Looked m a upto v
-  pub none : (s : ℕ) → s < upto → is_posted (place_at a.worker.places.items s) ≡ true → IsBack (looked.found s) → ⊥
+  pub none : (s : ℕ) → s < upto → is_posted (place_at a.worker.places.items s) ≡ true
+      → IsBack (looked.found s) → ⊥
 
 -- Item 4: the lowest posted place that is found given back is finished, and then the key's waiting requests are begun; `all` where there was memory for it.
 pub record Finishes (s : State) (p : Place) (m : ℕ) (a b : Moment) (all : Bool) : Type 0 where
@@ -232,7 +257,8 @@ pub record Posts (m : ℕ) (a b : Moment) : Type 0 where
   pub lowest : IsLowest is_staged a.worker.places.items slot
   pub place : place_at a.worker.places.items slot ≡ Staged number entry value
   pub pledges : lines ≡ lines_for (length (words_of entry))
-  pub places : Replaces a.worker.places.items b.worker.places.items slot (Posted number entry.key lines)
+  pub places : Replaces a.worker.places.items b.worker.places.items slot
+      (Posted number entry.key lines)
   pub view : b.view ≡ after_post slot entry value mid
   pub same : b.worker ≡ record a.worker { places = b.worker.places; allocator = b.worker.allocator }
 
@@ -265,7 +291,9 @@ pub record Idles (refused : Bool) (m : ℕ) (a b : Moment) : Type 0 where
   pub mid : View
   pub before : PassesItems m a 8 mid
   pub post : PassesPost refused a.worker
-  pub lock : ((FindsPosted a.worker.places.items before.looked.found 8 → ⊥) × (b.view ≡ mid)) ⊎ (FindsPosted a.worker.places.items before.looked.found 8 × ((h : ℕ) × (h ≢ m) × (b.view ≡ after_find (Holder h) mid)))
+  pub lock : ((FindsPosted a.worker.places.items before.looked.found 8 → ⊥) × (b.view ≡ mid))
+      ⊎ (FindsPosted a.worker.places.items before.looked.found 8
+      × ((h : ℕ) × (h ≢ m) × (b.view ≡ after_find (Holder h) mid)))
   pub free : LeadsNothing b.worker
   pub same : SameButLeading a.worker b.worker
 
@@ -276,8 +304,10 @@ PersistsOrLoses true m a b = LosesBatch a b
 
 -- a try of the lock: it is had, or a holder was found
 abbrev pub TriesLock : Bool → ℕ → View → View → Worker → Worker → Type 0
-TriesLock true m v u old new = (u ≡ after_lock v) × ((c : Collecting) × (new.leading ≡ leads.Collecting c) × (c.at ≡ 0)) × SameButLeading old new
-TriesLock false m v u old new = ((h : ℕ) × (h ≢ m) × (u ≡ after_find (Holder h) v)) × LeadsNothing new × SameButLeading old new
+TriesLock true m v u old new = (u ≡ after_lock v) × ((c : Collecting)
+    × (new.leading ≡ leads.Collecting c) × (c.at ≡ 0)) × SameButLeading old new
+TriesLock false m v u old new = ((h : ℕ) × (h ≢ m) × (u ≡ after_find (Holder h) v))
+    × LeadsNothing new × SameButLeading old new
 
 -- item 1 of a core that hasn't stopped
 abbrev pub GoesRound : Option Group → SeatAt → Moment → Moment → Type 0

@@ -24,8 +24,16 @@ pub use Rattle.engine_laws.specs.WorkerMoves.{BeginsIn, PostsIn, SpendsIn, Place
 
 abbrev pub placed_in : View → Place → Option Placed
 placed_in v kinds.Free = None
-placed_in v (kinds.Staged n e value) = Some (record { number = n; request = request_by e.key value e.body; posted = false })
-placed_in v (kinds.Posted n key lines) = option_map (λ r. record { number = n; request = r; posted = true }) (request_pending v key (v.pending key))
+placed_in v (kinds.Staged n e value) = Some (record {
+  number = n;
+  request = request_by e.key value e.body;
+  posted = false;
+})
+placed_in v (kinds.Posted n key lines) = option_map (λ r. record {
+  number = n;
+  request = r;
+  posted = true;
+}) (request_pending v key (v.pending key))
 
 abbrev pub placed_for : View → List Place → ℕ → Option Placed
 placed_for v [] k = None
@@ -49,13 +57,18 @@ lines_free w = if awaits_chunk w.leading && nat_lt 4 (room_of w.log) then 4 else
 
 -- what a worker has free
 abbrev pub stock_of : Worker → Stock
-stock_of w = record { chunks = free_chunk_count w.allocator; lines = lines_free w; blocks = free_block_count w.allocator }
+stock_of w = record {
+  chunks = free_chunk_count w.allocator;
+  lines = lines_free w;
+  blocks = free_block_count w.allocator;
+}
 
 -- of a worker with this view: a request in hand comes before those that wait
 abbrev pub hands_of : View → Worker → Hands
 hands_of v w = record {
   place = placed_for v w.places.items;
-  waits = λ k. map asked_by (filter (λ h. key_of h.request == k) (option_to_list w.in_hand) ++ waiting w.queue k);
+  waits = λ k. map asked_by (filter (λ h. key_of h.request == k) (option_to_list w.in_hand)
+      ++ waiting w.queue k);
   stopped = w.stopped;
   stock = stock_of w;
 }

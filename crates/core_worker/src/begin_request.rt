@@ -25,12 +25,13 @@ use crate::post_item::place_in;
 use crate::refusing::{key_of, reply_for};
 use crate::types::{Answer, NotAccepted, Place};
 use crate::worker::Worker;
+use chunk_map::layout_sizes::SHORTEST_IN_BLOCK;
 use core_index::Look;
 use core_room::{Shortage, byte_count};
 use fs_errors::Memory;
 use fs_model::{Key, Reply, Request, Value};
 use lazy_alloc::class_of;
-use log_entry::{Body, Entry};
+use log_entry::{Body, Entry, LAST_PUT_VERSION};
 use pm_region::Region;
 use std::alloc::Global;
 use std::mem;
@@ -114,8 +115,8 @@ impl Worker {
         requires idle { is_busy self.old.places.items key ≡ false }
         requires room { 0 < room_at self.old.index key }
         requires place { HasFree self.old.places.items }
-        requires short { length value < 256 }
-        requires unspent { last_of (known_at self.old.index key) < 1048574 }
+        requires short { length value < SHORTEST_IN_BLOCK }
+        requires unspent { last_of (known_at self.old.index key) < LAST_PUT_VERSION }
         requires fits { lacks_room (supply_of self.old) (lines_needed (length value)) ≡ false }
         ensures keeps { KeepsTies self.old self.new key }
         ensures staged { IsStaged self.old self.new number (requests.Put key value) }
@@ -140,7 +141,7 @@ impl Worker {
         requires idle { is_busy self.old.places.items key ≡ false }
         requires room { 0 < room_at self.old.index key }
         requires place { HasFree self.old.places.items }
-        requires long { 256 ≤ length value }
+        requires long { SHORTEST_IN_BLOCK ≤ length value }
         requires unrefused { why_put self.old.layout (supply_of self.old) self.old.allocator
             (last_of (known_at self.old.index key)) (length value) ≡ None }
         ensures keeps { KeepsTies self.old self.new key }
@@ -201,7 +202,7 @@ impl Worker {
         ensures rule { HasKeptRoom self.new }
         ensures rest { OnlyStages self.old self.new }
     {
-        if byte_count(value.bytes()) < 256 {
+        if byte_count(value.bytes()) < SHORTEST_IN_BLOCK {
             self.stage_beside(alloc, number, key, value);
         } else {
             self.stage_block(number, key, value);

@@ -44,7 +44,8 @@ fn lowest_staged(places: &Vec<Place>) -> Option<u32>
 // The block of a staged change.
 pub(crate) fn staged_block(place: &Place) -> Option<u64>
     requires { is_staged place.now ≡ true }
-    ensures { MatchOption result (HasNoBlock place.now) (λ pointer. IsStagedWith place.now pointer) }
+    ensures { MatchOption result (HasNoBlock place.now)
+        (λ pointer. IsStagedWith place.now pointer) }
 {
     match place {
         Place::Staged { entry, .. } => match &entry.body {

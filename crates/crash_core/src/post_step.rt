@@ -36,7 +36,8 @@ fn is_put_version(version: u32) -> bool
 
 /// Whether the bytes of a value stand in its entry.
 fn is_short(bytes: &[u8]) -> bool
-    ensures { IsTrue result ↔ ((length bytes.now ≤ LONGEST_EMBEDDED) × AllByRecursion (λ b. b < 256) bytes.now) }
+    ensures { IsTrue result ↔ ((length bytes.now ≤ LONGEST_EMBEDDED)
+        × AllByRecursion (λ b. b < 256) bytes.now) }
 {
     bytes.len() as u64 <= LONGEST_EMBEDDED
 }

@@ -4,10 +4,11 @@ use crate::report::{Report, Status};
 use crate::tests::{PICKS, words_of};
 use crate::top::flatstore;
 use fs_text::{SteadySink, SteadySource};
+use image_yardstick::first_fault;
 use pm_region::{Faults, FenceNumber, MemRegion, ReadRegion, Region, SplitRegion, SteadyRegion};
 use std::alloc::{AllocError, Global};
 use std::test::Fail;
-use store_image::{Fault, first_fault};
+use store_image::Fault;
 
 // The bytes of a region of two cores with four chunks of 4,096 bytes.
 const BYTES: usize = 36_864;

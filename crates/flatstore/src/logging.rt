@@ -18,11 +18,11 @@ use chunk_map::words::load_words;
 use chunk_map::{Layout, read_superblock};
 use fs_errors::Memory;
 use fs_text::{OutError, Sink, write_entries};
+use image_yardstick::gather_image::gather;
 use pm_region::{AttachError, SplitRegion};
 use recover::first_fault;
 use std::alloc::Global;
 use store_image::PlacedEntry;
-use store_image::gather_image::gather;
 
 /// The layout of an attached region that is sound, or the status where it isn't.
 fn sound_layout<R: SplitRegion>(alloc: Global, region: &R) -> Result<Layout, Status>

@@ -8,6 +8,8 @@ use fs_errors::Memory;
 use fs_model::Value;
 use fs_text::{MemSink, MemSource, Sink, Source, SteadySink, SteadySource};
 use group_engine::run_report::Refusal;
+use image_yardstick::image_superblock::read_layout;
+use image_yardstick::{first_fault, recovered_cells};
 use pm_region::{
     Faults, FenceNumber, FileRegion, MemRegion, Pick, ReadRegion, Region, SplitRegion, SteadyRegion,
 };
@@ -15,8 +17,6 @@ use std::alloc::{Alloc, AllocError, Global};
 use std::env::{Env, FillError};
 use std::fs;
 use std::test::Fail;
-use store_image::image_superblock::read_layout;
-use store_image::{first_fault, recovered_cells};
 
 const BYTES: usize = 20480;
 

@@ -128,7 +128,8 @@ with_line b size (Go core turns) = record {
 
 -- rules 8 and 9, of what stands up to and with the line
 abbrev pub counted : Before → Line → Result (Line × Before) ℕ
-counted b line = if nat_le b.requests MOST_REQUESTS then (if nat_le b.turns MOST_TURNS then Ok (line, b)
+counted b line = if nat_le b.requests MOST_REQUESTS then
+    (if nat_le b.turns MOST_TURNS then Ok (line, b)
     else Err 9) else Err 8
 
 abbrev pub count_line : Before → ℕ → Result Line ℕ → Result (Line × Before) ℕ

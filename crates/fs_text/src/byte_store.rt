@@ -21,9 +21,13 @@ impl Model for Store {
 
     ghost Value = { Kept };
 
-    ghost view = { λ s. record { bytes = if s.over then None else Some s.kept.items; room = s.room } };
+    ghost view = { λ s. record {
+      bytes = if s.over then None else Some s.kept.items;
+      room = s.room;
+    } };
 
-    ghost invariant = { λ s. (length s.kept.items ≤ s.room) × (s.room ≤ vec_capacity s.kept) × (0 < s.most) };
+    ghost invariant = { λ s. (length s.kept.items ≤ s.room) × (s.room ≤ vec_capacity s.kept)
+        × (0 < s.most) };
 }
 
 impl Store {

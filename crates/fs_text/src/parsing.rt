@@ -67,7 +67,8 @@ fn put_line(alloc: Global, rest: Option<&[u8]>) -> Result<Line, LineError>
 
 // The core and the turns, with rule 6 before rule 7.
 fn go_turns(cores: u32, core: &[u8], turns: &[u8]) -> Result<Line, u32>
-    ensures { result ≡ go_core (core_at cores core.now) (within 1 MOST_LINE_TURNS 7 (number_of turns.now)) }
+    ensures { result ≡ go_core (core_at cores core.now)
+        (within 1 MOST_LINE_TURNS 7 (number_of turns.now)) }
 {
     let core = core_at(cores, core)?;
     let turns = turns_at(turns)?;

@@ -23,7 +23,8 @@ impl Model for Totals {
 
     ghost view = { λ t. record { bytes = t.bytes; requests = t.requests; turns = t.turns } };
 
-    ghost invariant = { λ t. (t.bytes ≤ MOST_INPUT_BYTES) × (t.requests ≤ MOST_REQUESTS) × (t.turns ≤ MOST_TURNS) };
+    ghost invariant = { λ t. (t.bytes ≤ MOST_INPUT_BYTES) × (t.requests ≤ MOST_REQUESTS)
+        × (t.turns ≤ MOST_TURNS) };
 }
 
 impl Totals {

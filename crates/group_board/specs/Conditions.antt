@@ -21,10 +21,13 @@ IsFree v s = (k : ℕ) (e : Entry) → v.pending k ≢ Some (record { entry = e;
 
 -- the units of the value's block lie in m's part and are no other block's
 abbrev pub IsClearIn : Place → ℕ → View → ℕ → List ℕ → Type 0
-IsClearIn p m v at value = LiesIn p m at (units (length value)) × ((q : ℕ) (b : Block) → v.blocks q ≡ Some b → Apart at (units (length value)) q (units (length b.bytes)))
+IsClearIn p m v at value = LiesIn p m at (units (length value))
+    × ((q : ℕ) (b : Block) → v.blocks q ≡ Some b → Apart at (units (length value)) q
+    (units (length b.bytes)))
 
 -- The change is the next one of an own key without one under way, and it has no home yet. A delete needs a live cell. The value is what the entry's block holds, where it points to one.
-pub record MayPost (p : Place) (m : ℕ) (v : View) (s : ℕ) (c : Change) (value : List ℕ) : Type 0 where
+pub record MayPost (p : Place) (m : ℕ) (v : View) (s : ℕ) (c : Change)
+    (value : List ℕ) : Type 0 where
   pub member : m < members p
   pub slot : s < 8
   pub free : IsFree v s
@@ -35,7 +38,8 @@ pub record MayPost (p : Place) (m : ℕ) (v : View) (s : ℕ) (c : Change) (valu
   pub whole : v.broken ≡ false
   pub next : c.entry.version ≡ v.last c.entry.key + 1
   pub live : c.entry.body ≡ Tombstone → v.cell c.entry.key ≢ None
-  pub block : (at : ℕ) → c.entry.body ≡ Pointer at → GetsBlock (length value) × IsClearIn p m v at value
+  pub block : (at : ℕ) → c.entry.body ≡ Pointer at → GetsBlock (length value)
+      × IsClearIn p m v at value
 
 -- m isn't the leader, and gave back all that it took
 pub record MayLock (p : Place) (m : ℕ) (v : View) : Type 0 where
@@ -86,7 +90,8 @@ pub record MayFail (p : Place) (m : ℕ) (v : View) (a s : ℕ) (e : Entry) : Ty
 pub record MayFinish (p : Place) (m : ℕ) (v : View) (s : ℕ) : Type 0 where
   pub member : m < members p
   pub slot : s < 8
-  pub seen : In (SeenSlot m s ShowsFailed) v.looked ⊎ ((h : ℕ) × In (SeenSlot m s (ShowsDone h)) v.looked)
+  pub seen : In (SeenSlot m s ShowsFailed) v.looked
+      ⊎ ((h : ℕ) × In (SeenSlot m s (ShowsDone h)) v.looked)
 
 -- m is the leader, and a look found the own slot Posted
 pub record MayWithdraw (p : Place) (m : ℕ) (v : View) (s : ℕ) : Type 0 where
@@ -109,7 +114,8 @@ pub record MaySend (p : Place) (m : ℕ) (v : View) (to : ℕ) (n : Notices) : T
   pub member : m < members p
   pub receiver : to < members p
   pub other : to ≢ m
-  pub dead : (k i : ℕ) → has n.dead k i ≡ true → (owner p k ≡ m) × IsDeadIn v k i × (v.present k i ≡ Some to) × (v.told k i ≡ false)
+  pub dead : (k i : ℕ) → has n.dead k i ≡ true → (owner p k ≡ m) × IsDeadIn v k i
+      × (v.present k i ≡ Some to) × (v.told k i ≡ false)
   pub gone : (k i : ℕ) → has n.gone k i ≡ true → (v.leaving k i ≡ true) × (owner p k ≡ to)
 
 pub record MayReceive (p : Place) (m from : ℕ) : Type 0 where

@@ -70,7 +70,8 @@ effect ns w m (Withdraw s e) = withdraws w m s e
 effect ns w m (Doom xs) = dooms w m xs
 effect ns w m (Retire xs) = tidied (retires w m xs) ns m
 effect ns w m (Send to dead gone) = sends w m to (record { dead = dead; gone = gone })
-effect ns w m (Receive from dead gone) = tidied (receives w m from (record { dead = dead; gone = gone })) ns m
+effect ns w m (Receive from dead gone) = tidied (receives w m from
+    (record { dead = dead; gone = gone })) ns m
 
 abbrev pub names_after : List EntryName → List Note → List EntryName
 names_after ns [] = ns
@@ -90,7 +91,8 @@ names j = names_after (names_in j.group j.words) j.notes
 
 -- the state of the group after the steps of the journal
 unfoldable pub state : Journal → Group
-state j = state_after (names_in j.group j.words) (opened (place_in j.group j.words) (image_of j.words)) j.notes
+state j = state_after (names_in j.group j.words) (opened (place_in j.group j.words)
+    (image_of j.words)) j.notes
 
 -- a try of the lock where it has this holder
 abbrev pub lock_act : Option ℕ → Act

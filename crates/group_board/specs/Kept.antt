@@ -14,11 +14,13 @@ use Rattle.group_board.specs.Journals.{names, state}
 use Rattle.group_board.specs.Tidies.{Covers}
 
 -- Slots stand in rows of 8, one for each owner, and mailboxes in rows of 8, one for each sender.
-pub record IsKept (n : ℕ) (holder : Option ℕ) (slots : List Slot) (mail : List (Option Notices)) (j : Journal) : Type 0 where
+pub record IsKept (n : ℕ) (holder : Option ℕ) (slots : List Slot) (mail : List (Option Notices))
+    (j : Journal) : Type 0 where
   pub size : members (state j).place ≡ n
   pub holder_is : (state j).holder ≡ holder
   pub slots_are : (a s : ℕ) → a < n → s < 8 → (state j).slot a s ≡ get_or slots (8 * a + s) Empty
-  pub mail_is : (a b : ℕ) → a < n → b < n → (state j).mail a b ≡ option_map notices_of (get_or mail (8 * a + b) None)
+  pub mail_is : (a b : ℕ) → a < n → b < n → (state j).mail a b
+      ≡ option_map notices_of (get_or mail (8 * a + b) None)
   pub covers : Covers (names j) (state j)
   pub lawful : Lawful (state j)
 
@@ -27,5 +29,6 @@ pub TableId-set : (a b : TableId) → IsProp (a ≡ b)
 TableId-set = Coded-set table_id_coded
 
 -- the state that a board tells is lawful
-pub kept_lawful : (n : ℕ) (holder : Option ℕ) (slots : List Slot) (mail : List (Option Notices)) (j : Journal) → ∥ IsKept n holder slots mail j ∥₁ → ∥ Lawful (state j) ∥₁
+pub kept_lawful : (n : ℕ) (holder : Option ℕ) (slots : List Slot) (mail : List (Option Notices))
+    (j : Journal) → ∥ IsKept n holder slots mail j ∥₁ → ∥ Lawful (state j) ∥₁
 kept_lawful n holder slots mail j k = ∥∥₁_map k (λ o. o.lawful)

@@ -14,14 +14,18 @@ Covers ns w = (k v h : ℕ) → w.present k v ≡ Some h → has ns k v ≡ true
 
 -- m's key is deleted, nothing of it stands, and no change of it is under way
 abbrev pub is_spent : Group → List EntryName → ℕ → ℕ → Bool
-is_spent w ns m k = owner w.place k == m && (is_none (w.cell k) && (list_all (λ n. not (n.key == k) || is_none (w.present k n.version)) ns && is_none (w.pending k)))
+is_spent w ns m k = owner w.place k == m && (is_none (w.cell k) &&
+    (list_all (λ n. not (n.key == k) || is_none (w.present k n.version)) ns && is_none
+    (w.pending k)))
 
 -- no other name of the key stands
 abbrev pub stands_alone : Group → List EntryName → ℕ → ℕ → Bool
-stands_alone w ns k v = list_all (λ n. not (n.key == k) || (n.version == v || is_none (w.present k n.version))) ns
+stands_alone w ns k v = list_all (λ n. not (n.key == k) ||
+    (n.version == v || is_none (w.present k n.version))) ns
 
 abbrev pub is_dead : Group → List EntryName → ℕ → ℕ → Bool
-is_dead w ns k v = nat_lt v (w.last k) || (v == w.last k && (is_none (w.cell k) && stands_alone w ns k v))
+is_dead w ns k v = nat_lt v (w.last k) || (v == w.last k &&
+    (is_none (w.cell k) && stands_alone w ns k v))
 
 -- a dead entry of m's key stands in m's own log
 abbrev pub tells_itself : Group → List EntryName → ℕ → ℕ → ℕ → Bool

@@ -18,14 +18,17 @@ use Rattle.group_board.specs.declared.board.SlotState.TheVariants.{Empty, Posted
 
 -- The state is told after, too. Member m's step of this kind leads to it, its view there is v, and a lawful state stays lawful.
 abbrev pub Makes : Option Group → ℕ → Kind → Option Group → View → Type 0
-Makes before m kind after v = IfSome before (λ w. IsSomeAnd after (λ u. IsStep w m kind u × (v ≡ view_of u m) × (Lawful w → Lawful u)))
+Makes before m kind after v = IfSome before (λ w. IsSomeAnd after
+    (λ u. IsStep w m kind u × (v ≡ view_of u m) × (Lawful w → Lawful u)))
 
 -- two steps of member m, the one right after the other
 abbrev pub AreSteps : Group → ℕ → Kind → Kind → Group → Type 0
 AreSteps w m first second u = (mid : Group) × IsStep w m first mid × IsStep mid m second u
 
 abbrev pub MakesBoth : Option Group → ℕ → Kind → Kind → Option Group → View → Type 0
-MakesBoth before m first second after v = IfSome before (λ w. IsSomeAnd after (λ u. AreSteps w m first second u × (v ≡ view_of u m) × (Lawful w → Lawful u)))
+MakesBoth before m first second after v = IfSome before
+    (λ w. IsSomeAnd after (λ u. AreSteps w m first second u × (v ≡ view_of u m)
+    × (Lawful w → Lawful u)))
 
 -- the slot of member a that a call found, where the state is told
 abbrev pub Stood : Option Group → ℕ → ℕ → Slot → Type 0
@@ -50,4 +53,5 @@ stood_as e (Some h) = slots.Done e h
 
 -- the board's place stays, member m's step of this kind leads from the one journal to the other, and a lawful state stays lawful
 abbrev pub Leads : Journal → ℕ → Kind → Journal → Type 0
-Leads j m kind i = ((state i).place ≡ (state j).place) × IsStep (state j) m kind (state i) × (Lawful (state j) → Lawful (state i))
+Leads j m kind i = ((state i).place ≡ (state j).place) × IsStep (state j) m kind (state i)
+    × (Lawful (state j) → Lawful (state i))

@@ -34,7 +34,10 @@ pub record Has (p : Place) (m : ℕ) (v : View) (e : Entry) : Type 0 where
 
 -- a put of the byte 97 under key 1, which is member 1's
 abbrev pub first_put : Change
-first_put = record { entry = record { key = 1; version = 1; body = Embedded (97 ∷ []) }; home = None }
+first_put = record {
+  entry = record { key = 1; version = 1; body = Embedded (97 ∷ []) };
+  home = None;
+}
 
 -- a put of a value with a block under key 1, in the second chunk of member 1's part
 abbrev pub long_put : Change

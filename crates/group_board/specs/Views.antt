@@ -32,7 +32,12 @@ after_find x v = record v { looked = v.looked ++ x ∷ [] }
 
 -- m took a change out of a slot of member a
 abbrev pub after_take : ℕ → ℕ → Entry → View → View
-after_take a s e v = record v { taken = put2 v.taken a s (Some e); flying = v.flying ++ e ∷ []; took = v.took ++ e ∷ []; looked = [] }
+after_take a s e v = record v {
+  taken = put2 v.taken a s (Some e);
+  flying = v.flying ++ e ∷ [];
+  took = v.took ++ e ∷ [];
+  looked = [];
+}
 
 abbrev pub after_unlock : View → View
 after_unlock v = record v { holds = false; looked = [] }
@@ -69,11 +74,20 @@ after_finish e home v =
 
 -- m got an own change back that could not be written, so it is in doubt; the two rules follow
 abbrev pub after_give_up : Entry → View → View
-after_give_up e v = record v { broken = true; pending = put v.pending e.key (Some (record { entry = e; slot = None })); looked = [] }
+after_give_up e v = record v {
+  broken = true;
+  pending = put v.pending e.key
+      (Some (record { entry = e; slot = None }));
+  looked = [];
+}
 
 -- m took an own change back that nobody had taken
 abbrev pub after_withdraw : Entry → View → View
-after_withdraw e v = record v { pending = put v.pending e.key None; blocks = λ p. cond (points_at e.body p) None (v.blocks p); looked = [] }
+after_withdraw e v = record v {
+  pending = put v.pending e.key None;
+  blocks = λ p. cond (points_at e.body p) None (v.blocks p);
+  looked = [];
+}
 
 -- these names of m's log may vanish
 abbrev pub after_doom : List EntryName → View → View
@@ -114,18 +128,21 @@ after_receive p m n v =
 
 -- The name is dead: a later change is finished, or it is the tombstone of a deleted key and no other entry of the key stands.
 abbrev pub IsDeadIn : View → ℕ → ℕ → Type 0
-IsDeadIn v k n = (n < v.last k) ⊎ ((n ≡ v.last k) × (v.cell k ≡ None) × ((u h : ℕ) → v.present k u ≡ Some h → u ≡ n))
+IsDeadIn v k n = (n < v.last k) ⊎ ((n ≡ v.last k) × (v.cell k ≡ None)
+    × ((u h : ℕ) → v.present k u ≡ Some h → u ≡ n))
 
 -- the key is deleted, nothing of it stands in a log, and no change of it is under way
 abbrev pub IsSpentIn : Place → ℕ → View → ℕ → Type 0
-IsSpentIn p m v k = (owner p k ≡ m) × (v.cell k ≡ None) × ((n : ℕ) → v.present k n ≡ None) × (v.pending k ≡ None)
+IsSpentIn p m v k = (owner p k ≡ m) × (v.cell k ≡ None) × ((n : ℕ) → v.present k n ≡ None)
+    × (v.pending k ≡ None)
 
 -- a dead entry of an own key stands in the own log
 abbrev pub TellsItselfIn : Place → ℕ → View → ℕ → ℕ → Type 0
 TellsItselfIn p m v k n = (owner p k ≡ m) × (v.present k n ≡ Some m) × IsDeadIn v k n
 
 -- what the two rules make of the last versions, the names told and the names dead
-pub record IsTidyIn (p : Place) (m : ℕ) (v : View) (last : ℕ → ℕ) (told dead : ℕ → ℕ → Bool) : Type 0 where
+pub record IsTidyIn (p : Place) (m : ℕ) (v : View) (last : ℕ → ℕ)
+    (told dead : ℕ → ℕ → Bool) : Type 0 where
   pub forgets : (k : ℕ) → IsSpentIn p m v k → last k ≡ 0
   pub keeps : (k : ℕ) → (IsSpentIn p m v k × (last k ≡ 0)) ⊎ (last k ≡ v.last k)
   pub tells : (k n : ℕ) → (told k n ≡ true) ↔ ((v.told k n ≡ true) ⊎ TellsItselfIn p m v k n)
@@ -133,4 +150,5 @@ pub record IsTidyIn (p : Place) (m : ℕ) (v : View) (last : ℕ → ℕ) (told 
 
 -- u is v after the two rules on the keys of m: a key of which nothing stands is forgotten, and a dead entry in the own log needs no mail
 abbrev pub TidiedIn : Place → ℕ → View → View → Type 0
-TidiedIn p m v u = (last : ℕ → ℕ) × (told : ℕ → ℕ → Bool) × (dead : ℕ → ℕ → Bool) × IsTidyIn p m v last told dead × (u ≡ record v { last = last; told = told; dead = dead })
+TidiedIn p m v u = (last : ℕ → ℕ) × (told : ℕ → ℕ → Bool) × (dead : ℕ → ℕ → Bool)
+    × IsTidyIn p m v last told dead × (u ≡ record v { last = last; told = told; dead = dead })

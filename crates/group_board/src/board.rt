@@ -95,18 +95,21 @@ pub trait Board {
         ensures seat { seat self.new ≡ seat self.old }
         ensures view { (word : SlotWord) × (state_of word ≡ result)
             × (view self.new ≡ after_find (loads.Slot member slot word) (view self.old)) }
-        ensures stood { IfSome (whole self.old) (λ w. state_of (shown (w.slot member slot)) ≡ result) }
+        ensures stood { IfSome (whole self.old) (λ w. state_of (shown (w.slot member slot))
+            ≡ result) }
         ensures whole { Makes (whole self.old) (seat self.old).number
             (runs.Kind.Look member slot) (whole self.new) (view self.new) };
 
     /// As the leader, takes the change of a slot that a look found Posted. Its entry has a spelling, of as many
     /// words as the look found, and isn't in the own log yet; out of an own slot it is the change pending there.
     fn take(&mut self, member: u32, slot: u32) -> Change
-        requires { MayTake (seat self.old).place (seat self.old).number (view self.old) member slot }
+        requires { MayTake (seat self.old).place (seat self.old).number
+            (view self.old) member slot }
         ensures seat { seat self.new ≡ seat self.old }
         ensures change { result.home ≡ Option.None }
         ensures spelled { HasSpelling result.entry }
-        ensures words { (n : ℕ) → In (loads.Slot member slot (words.Posted n)) (view self.old).looked
+        ensures words { (n : ℕ) → In (loads.Slot member slot (words.Posted n))
+            (view self.old).looked
             → length (words_of result.entry) ≡ n }
         ensures unlogged { IsUnlogged (seat self.old).number member slot (view self.old)
             result.entry }
@@ -156,7 +159,8 @@ pub trait Board {
         ensures seat { seat self.new ≡ seat self.old }
         ensures seen { MatchOption result.home
             (In (loads.Slot (seat self.old).number slot words.Failed) (view self.old).looked)
-            (λ home. In (loads.Slot (seat self.old).number slot (words.Done home)) (view self.old).looked) }
+            (λ home. In (loads.Slot (seat self.old).number slot (words.Done home))
+            (view self.old).looked) }
         ensures home { IfSome result.home
             (IsHome (seat self.old).place (seat self.old).number (view self.old) result.entry) }
         ensures pending { (view self.old).pending result.entry.key
@@ -179,7 +183,8 @@ pub trait Board {
         ensures pending { (view self.old).pending result.entry.key
             ≡ Option.Some (record { entry = result.entry; slot = Option.Some slot }) }
         ensures view { view self.new ≡ after_withdraw result.entry (view self.old) }
-        ensures stood { Stood (whole self.old) (seat self.old).number slot (slots.Posted result.entry) }
+        ensures stood { Stood (whole self.old) (seat self.old).number slot
+            (slots.Posted result.entry) }
         ensures whole { Makes (whole self.old) (seat self.old).number
             (runs.Kind.Withdraw slot) (whole self.new) (view self.new) };
 
@@ -193,7 +198,8 @@ pub trait Board {
 
     /// Records that doomed entries of the own log have vanished.
     fn retire(&mut self, names: &[EntryName])
-        requires { MayRetire (seat self.old).place (seat self.old).number (view self.old) names.now }
+        requires { MayRetire (seat self.old).place (seat self.old).number
+            (view self.old) names.now }
         ensures seat { seat self.new ≡ seat self.old }
         ensures view { TidiedIn (seat self.old).place (seat self.old).number
             (after_retire (seat self.old).place (seat self.old).number names.now (view self.old))
@@ -226,10 +232,12 @@ pub trait Board {
     fn receive(&mut self, from: u32) -> Option<Notices>
         requires { MayReceive (seat self.old).place (seat self.old).number from }
         ensures seat { seat self.new ≡ seat self.old }
-        ensures heard { IfSome result (λ notices. IsHeard (seat self.old).place (seat self.old).number
+        ensures heard { IfSome result (λ notices. IsHeard (seat self.old).place
+            (seat self.old).number
             from (view self.old) (notices_of notices)) }
         ensures view { MatchOption result
-            (view self.new ≡ after_find (loads.Mail from (seat self.old).number false) (view self.old))
+            (view self.new ≡ after_find (loads.Mail from (seat self.old).number false)
+            (view self.old))
             (λ notices. TidiedIn (seat self.old).place (seat self.old).number
             (after_receive (seat self.old).place (seat self.old).number
             (notices_of notices) (view self.old)) (view self.new)) }

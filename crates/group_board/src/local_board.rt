@@ -52,7 +52,9 @@ pub struct LocalBoard {
     pub(crate) table: Table<u8, Journal, (), Asks, Global>,
     /// The seat whose view is the journal.
     pub(crate) keeper: Keeper,
-    ghost sized: { (table.shared.table_id.words ≡ 1) × (member_count ≤ 8) × (length slots.items ≡ 8 * member_count) × (length mail.items ≡ 8 * member_count) × (places.members (state keeper.me.0).place ≡ member_count) },
+    ghost sized: { (table.shared.table_id.words ≡ 1) × (member_count ≤ 8)
+        × (length slots.items ≡ 8 * member_count) × (length mail.items ≡ 8 * member_count)
+        × (places.members (state keeper.me.0).place ≡ member_count) },
     ghost here: { keeper.table_id ≡ table.shared.table_id } by { TableId-set _ _ },
     ghost kept: { ∥ IsKept member_count holder slots.items mail.items keeper.me.0 ∥₁ },
 }
@@ -60,7 +62,8 @@ pub struct LocalBoard {
 /// Empty slots, 8 for each member.
 fn empty_slots(alloc: Global, members: u32) -> Result<Vec<Slot>, Memory>
     requires { members ≤ 8 }
-    ensures { IfOk result (λ slots. (length slots.items ≡ 8 * members) × ((i : ℕ) → get_or slots.items i slot_states.Empty ≡ slot_states.Empty)) }
+    ensures { IfOk result (λ slots. (length slots.items ≡ 8 * members)
+        × ((i : ℕ) → get_or slots.items i slot_states.Empty ≡ slot_states.Empty)) }
 {
     let mut slots = Vec::new(alloc);
     for _ in 0..8 * members {
@@ -72,7 +75,8 @@ fn empty_slots(alloc: Global, members: u32) -> Result<Vec<Slot>, Memory>
 /// Empty mailboxes, 8 for each member.
 fn empty_mail(alloc: Global, members: u32) -> Result<Vec<Option<Notices>>, Memory>
     requires { members ≤ 8 }
-    ensures { IfOk result (λ mail. (length mail.items ≡ 8 * members) × ((i : ℕ) → option_map notices_of (get_or mail.items i None) ≡ None)) }
+    ensures { IfOk result (λ mail. (length mail.items ≡ 8 * members)
+        × ((i : ℕ) → option_map notices_of (get_or mail.items i None) ≡ None)) }
 {
     let mut mail = Vec::new(alloc);
     for _ in 0..8 * members {
@@ -86,10 +90,12 @@ impl LocalBoard {
     /// change, and no mailbox is full.
     pub fn open<O: Opening>(alloc: Global, members: u32) -> Result<LocalBoard, Memory>
         requires sound { images.IsSound O.bytes (image_of O.words) }
-        requires group { O.group < (layout_of (image_of O.words)).cores / (layout_of (image_of O.words)).group }
+        requires group { O.group < (layout_of (image_of O.words)).cores /
+            (layout_of (image_of O.words)).group }
         requires members { (layout_of (image_of O.words)).group ≡ members }
         ensures members { IfOk result (λ b. places.members (state b.keeper.me.0).place ≡ members) }
-        ensures opened { IfOk result (λ b. state b.keeper.me.0 ≡ opened (place_in O.group O.words) (image_of O.words)) }
+        ensures opened { IfOk result (λ b. state b.keeper.me.0
+            ≡ opened (place_in O.group O.words) (image_of O.words)) }
         ensures lawful { IfOk result (λ b. Lawful (state b.keeper.me.0)) }
     {
         let (table, mut keeper) = Table::<u8, Journal, (), Asks, Global>::of_words(
@@ -111,10 +117,13 @@ impl LocalBoard {
     }
 
     pub(crate) fn post(&mut self, member: u32, slot: u32, change: Change, value: &[u8])
-        requires { MayPost (state self.old.keeper.me.0).place member (view_of (state self.old.keeper.me.0) member) slot change value.now }
+        requires { MayPost (state self.old.keeper.me.0).place member
+            (view_of (state self.old.keeper.me.0) member) slot change value.now }
         ensures table { self.new.table.shared.table_id ≡ self.old.table.shared.table_id }
-        ensures step { Leads self.old.keeper.me.0 member (runs.Kind.Post slot change.entry value.now) self.new.keeper.me.0 }
-        ensures view { view_of (state self.new.keeper.me.0) member ≡ after_post slot change.entry value.now (view_of (state self.old.keeper.me.0) member) }
+        ensures step { Leads self.old.keeper.me.0 member
+            (runs.Kind.Post slot change.entry value.now) self.new.keeper.me.0 }
+        ensures view { view_of (state self.new.keeper.me.0) member
+            ≡ after_post slot change.entry value.now (view_of (state self.old.keeper.me.0) member) }
     {
         let place = place_of(member, slot);
         let table = &self.table;
@@ -127,13 +136,19 @@ impl LocalBoard {
     }
 
     pub(crate) fn try_lock(&mut self, member: u32) -> Result<(), Busy>
-        requires { MayLock (state self.old.keeper.me.0).place member (view_of (state self.old.keeper.me.0) member) }
+        requires { MayLock (state self.old.keeper.me.0).place member
+            (view_of (state self.old.keeper.me.0) member) }
         ensures table { self.new.table.shared.table_id ≡ self.old.table.shared.table_id }
         ensures step { Leads self.old.keeper.me.0 member runs.Kind.Lock self.new.keeper.me.0 }
         ensures other { IfErr result (λ busy. busy.holder ≢ member) }
-        ensures holder { IfErr result (λ busy. busy.holder < places.members (state self.old.keeper.me.0).place) }
-        ensures found { MatchResult result (λ _. (state self.old.keeper.me.0).holder ≡ None) (λ busy. (state self.old.keeper.me.0).holder ≡ Some busy.holder) }
-        ensures view { MatchResult result (λ _. view_of (state self.new.keeper.me.0) member ≡ after_lock (view_of (state self.old.keeper.me.0) member)) (λ busy. view_of (state self.new.keeper.me.0) member ≡ after_find (loads.Holder busy.holder) (view_of (state self.old.keeper.me.0) member)) }
+        ensures holder { IfErr result (λ busy. busy.holder
+            < places.members (state self.old.keeper.me.0).place) }
+        ensures found { MatchResult result (λ _. (state self.old.keeper.me.0).holder ≡ None)
+            (λ busy. (state self.old.keeper.me.0).holder ≡ Some busy.holder) }
+        ensures view { MatchResult result (λ _. view_of (state self.new.keeper.me.0) member
+            ≡ after_lock (view_of (state self.old.keeper.me.0) member))
+            (λ busy. view_of (state self.new.keeper.me.0) member
+            ≡ after_find (loads.Holder busy.holder) (view_of (state self.old.keeper.me.0) member)) }
     {
         let found = self.holder;
         let table = &self.table;
@@ -151,8 +166,12 @@ impl LocalBoard {
         requires { MayLook (state self.old.keeper.me.0).place member owner slot }
         ensures table { self.new.table.shared.table_id ≡ self.old.table.shared.table_id }
         ensures stood { state_of (shown ((state self.old.keeper.me.0).slot owner slot)) ≡ result }
-        ensures step { Leads self.old.keeper.me.0 member (runs.Kind.Look owner slot) self.new.keeper.me.0 }
-        ensures view { (word : SlotWord) × (state_of word ≡ result) × (view_of (state self.new.keeper.me.0) member ≡ after_find (loads.Slot owner slot word) (view_of (state self.old.keeper.me.0) member)) }
+        ensures step { Leads self.old.keeper.me.0 member
+            (runs.Kind.Look owner slot) self.new.keeper.me.0 }
+        ensures view { (word : SlotWord) × (state_of word ≡ result)
+            × (view_of (state self.new.keeper.me.0) member
+            ≡ after_find (loads.Slot owner slot word)
+            (view_of (state self.old.keeper.me.0) member)) }
     {
         let place = place_of(owner, slot);
         let word = word_of(&self.slots[place]);
@@ -166,15 +185,21 @@ impl LocalBoard {
     }
 
     pub(crate) fn take(&mut self, member: u32, owner: u32, slot: u32) -> Change
-        requires { MayTake (state self.old.keeper.me.0).place member (view_of (state self.old.keeper.me.0) member) owner slot }
+        requires { MayTake (state self.old.keeper.me.0).place member
+            (view_of (state self.old.keeper.me.0) member) owner slot }
         ensures table { self.new.table.shared.table_id ≡ self.old.table.shared.table_id }
         ensures change { result.home ≡ None }
         ensures spelled { HasSpelling result.entry }
-        ensures words { (n : ℕ) → In (loads.Slot owner slot (words.Posted n)) ((state self.old.keeper.me.0).looked member) → length (words_of result.entry) ≡ n }
-        ensures unlogged { IsUnlogged member owner slot (view_of (state self.old.keeper.me.0) member) result.entry }
-        ensures stood { (state self.old.keeper.me.0).slot owner slot ≡ slot_states.Posted result.entry }
-        ensures step { Leads self.old.keeper.me.0 member (runs.Kind.Take owner slot) self.new.keeper.me.0 }
-        ensures view { view_of (state self.new.keeper.me.0) member ≡ after_take owner slot result.entry (view_of (state self.old.keeper.me.0) member) }
+        ensures words { (n : ℕ) → In (loads.Slot owner slot (words.Posted n))
+            ((state self.old.keeper.me.0).looked member) → length (words_of result.entry) ≡ n }
+        ensures unlogged { IsUnlogged member owner slot
+            (view_of (state self.old.keeper.me.0) member) result.entry }
+        ensures stood { (state self.old.keeper.me.0).slot owner slot
+            ≡ slot_states.Posted result.entry }
+        ensures step { Leads self.old.keeper.me.0 member
+            (runs.Kind.Take owner slot) self.new.keeper.me.0 }
+        ensures view { view_of (state self.new.keeper.me.0) member
+            ≡ after_take owner slot result.entry (view_of (state self.old.keeper.me.0) member) }
     {
         let place = place_of(owner, slot);
         let stood = mem::replace(&mut self.slots[place], Slot::Taken);
@@ -189,10 +214,12 @@ impl LocalBoard {
     }
 
     pub(crate) fn unlock(&mut self, member: u32)
-        requires { MayUnlock (state self.old.keeper.me.0).place member (view_of (state self.old.keeper.me.0) member) }
+        requires { MayUnlock (state self.old.keeper.me.0).place member
+            (view_of (state self.old.keeper.me.0) member) }
         ensures table { self.new.table.shared.table_id ≡ self.old.table.shared.table_id }
         ensures step { Leads self.old.keeper.me.0 member runs.Kind.Unlock self.new.keeper.me.0 }
-        ensures view { view_of (state self.new.keeper.me.0) member ≡ after_unlock (view_of (state self.old.keeper.me.0) member) }
+        ensures view { view_of (state self.new.keeper.me.0) member
+            ≡ after_unlock (view_of (state self.old.keeper.me.0) member) }
     {
         let table = &self.table;
         note::<Brand, _>(&table.shared, &mut self.keeper, &member);
@@ -200,20 +227,25 @@ impl LocalBoard {
     }
 
     pub(crate) fn commit(&mut self, member: u32)
-        requires { MayCommit (state self.old.keeper.me.0).place member (view_of (state self.old.keeper.me.0) member) }
+        requires { MayCommit (state self.old.keeper.me.0).place member
+            (view_of (state self.old.keeper.me.0) member) }
         ensures table { self.new.table.shared.table_id ≡ self.old.table.shared.table_id }
         ensures step { Leads self.old.keeper.me.0 member runs.Kind.Commit self.new.keeper.me.0 }
-        ensures view { view_of (state self.new.keeper.me.0) member ≡ after_commit (view_of (state self.old.keeper.me.0) member) }
+        ensures view { view_of (state self.new.keeper.me.0) member
+            ≡ after_commit (view_of (state self.old.keeper.me.0) member) }
     {
         let table = &self.table;
         note::<Brand, _>(&table.shared, &mut self.keeper, &member);
     }
 
     pub(crate) fn mark(&mut self, member: u32, owner: u32, slot: u32, change: Change)
-        requires { MayMark (state self.old.keeper.me.0).place member (view_of (state self.old.keeper.me.0) member) owner slot change.entry }
+        requires { MayMark (state self.old.keeper.me.0).place member
+            (view_of (state self.old.keeper.me.0) member) owner slot change.entry }
         ensures table { self.new.table.shared.table_id ≡ self.old.table.shared.table_id }
-        ensures step { Leads self.old.keeper.me.0 member (runs.Kind.Mark owner slot) self.new.keeper.me.0 }
-        ensures view { view_of (state self.new.keeper.me.0) member ≡ after_mark owner slot (view_of (state self.old.keeper.me.0) member) }
+        ensures step { Leads self.old.keeper.me.0 member
+            (runs.Kind.Mark owner slot) self.new.keeper.me.0 }
+        ensures view { view_of (state self.new.keeper.me.0) member
+            ≡ after_mark owner slot (view_of (state self.old.keeper.me.0) member) }
     {
         let place = place_of(owner, slot);
         let table = &self.table;
@@ -226,10 +258,13 @@ impl LocalBoard {
     }
 
     pub(crate) fn fail(&mut self, member: u32, owner: u32, slot: u32, change: Change)
-        requires { MayFail (state self.old.keeper.me.0).place member (view_of (state self.old.keeper.me.0) member) owner slot change.entry }
+        requires { MayFail (state self.old.keeper.me.0).place member
+            (view_of (state self.old.keeper.me.0) member) owner slot change.entry }
         ensures table { self.new.table.shared.table_id ≡ self.old.table.shared.table_id }
-        ensures step { Leads self.old.keeper.me.0 member (runs.Kind.Fail owner slot) self.new.keeper.me.0 }
-        ensures view { view_of (state self.new.keeper.me.0) member ≡ after_fail owner slot (view_of (state self.old.keeper.me.0) member) }
+        ensures step { Leads self.old.keeper.me.0 member
+            (runs.Kind.Fail owner slot) self.new.keeper.me.0 }
+        ensures view { view_of (state self.new.keeper.me.0) member
+            ≡ after_fail owner slot (view_of (state self.old.keeper.me.0) member) }
     {
         let place = place_of(owner, slot);
         let table = &self.table;
@@ -242,14 +277,27 @@ impl LocalBoard {
     }
 
     pub(crate) fn finish(&mut self, member: u32, slot: u32) -> Change
-        requires { MayFinish (state self.old.keeper.me.0).place member (view_of (state self.old.keeper.me.0) member) slot }
+        requires { MayFinish (state self.old.keeper.me.0).place member
+            (view_of (state self.old.keeper.me.0) member) slot }
         ensures table { self.new.table.shared.table_id ≡ self.old.table.shared.table_id }
-        ensures seen { MatchOption result.home (In (loads.Slot member slot words.Failed) ((state self.old.keeper.me.0).looked member)) (λ home. In (loads.Slot member slot (words.Done home)) ((state self.old.keeper.me.0).looked member)) }
-        ensures home { IfSome result.home (IsHome (state self.old.keeper.me.0).place member (view_of (state self.old.keeper.me.0) member) result.entry) }
-        ensures pending { (view_of (state self.old.keeper.me.0) member).pending result.entry.key ≡ Some (record { entry = result.entry; slot = Some slot }) }
-        ensures stood { (state self.old.keeper.me.0).slot member slot ≡ stood_as result.entry result.home }
-        ensures step { Leads self.old.keeper.me.0 member (runs.Kind.Finish slot) self.new.keeper.me.0 }
-        ensures view { MatchOption result.home (TidiedIn (state self.old.keeper.me.0).place member (after_give_up result.entry (view_of (state self.old.keeper.me.0) member)) (view_of (state self.new.keeper.me.0) member)) (λ home. TidiedIn (state self.old.keeper.me.0).place member (after_finish result.entry home (view_of (state self.old.keeper.me.0) member)) (view_of (state self.new.keeper.me.0) member)) }
+        ensures seen { MatchOption result.home (In (loads.Slot member slot words.Failed)
+            ((state self.old.keeper.me.0).looked member))
+            (λ home. In (loads.Slot member slot (words.Done home))
+            ((state self.old.keeper.me.0).looked member)) }
+        ensures home { IfSome result.home (IsHome (state self.old.keeper.me.0).place member
+            (view_of (state self.old.keeper.me.0) member) result.entry) }
+        ensures pending { (view_of (state self.old.keeper.me.0) member).pending result.entry.key
+            ≡ Some (record { entry = result.entry; slot = Some slot }) }
+        ensures stood { (state self.old.keeper.me.0).slot member slot
+            ≡ stood_as result.entry result.home }
+        ensures step { Leads self.old.keeper.me.0 member
+            (runs.Kind.Finish slot) self.new.keeper.me.0 }
+        ensures view { MatchOption result.home (TidiedIn (state self.old.keeper.me.0).place member
+            (after_give_up result.entry (view_of (state self.old.keeper.me.0) member))
+            (view_of (state self.new.keeper.me.0) member))
+            (λ home. TidiedIn (state self.old.keeper.me.0).place member
+            (after_finish result.entry home (view_of (state self.old.keeper.me.0) member))
+            (view_of (state self.new.keeper.me.0) member)) }
     {
         let place = place_of(member, slot);
         let stood = mem::replace(&mut self.slots[place], Slot::Empty);
@@ -260,13 +308,18 @@ impl LocalBoard {
     }
 
     pub(crate) fn withdraw(&mut self, member: u32, slot: u32) -> Change
-        requires { MayWithdraw (state self.old.keeper.me.0).place member (view_of (state self.old.keeper.me.0) member) slot }
+        requires { MayWithdraw (state self.old.keeper.me.0).place member
+            (view_of (state self.old.keeper.me.0) member) slot }
         ensures table { self.new.table.shared.table_id ≡ self.old.table.shared.table_id }
         ensures change { result.home ≡ None }
-        ensures pending { (view_of (state self.old.keeper.me.0) member).pending result.entry.key ≡ Some (record { entry = result.entry; slot = Some slot }) }
-        ensures stood { (state self.old.keeper.me.0).slot member slot ≡ slot_states.Posted result.entry }
-        ensures step { Leads self.old.keeper.me.0 member (runs.Kind.Withdraw slot) self.new.keeper.me.0 }
-        ensures view { view_of (state self.new.keeper.me.0) member ≡ after_withdraw result.entry (view_of (state self.old.keeper.me.0) member) }
+        ensures pending { (view_of (state self.old.keeper.me.0) member).pending result.entry.key
+            ≡ Some (record { entry = result.entry; slot = Some slot }) }
+        ensures stood { (state self.old.keeper.me.0).slot member slot
+            ≡ slot_states.Posted result.entry }
+        ensures step { Leads self.old.keeper.me.0 member
+            (runs.Kind.Withdraw slot) self.new.keeper.me.0 }
+        ensures view { view_of (state self.new.keeper.me.0) member
+            ≡ after_withdraw result.entry (view_of (state self.old.keeper.me.0) member) }
     {
         let place = place_of(member, slot);
         let posted = mem::replace(&mut self.slots[place], Slot::Empty);
@@ -281,20 +334,28 @@ impl LocalBoard {
     }
 
     pub(crate) fn doom(&mut self, member: u32, names: &[EntryName])
-        requires { MayDoom (state self.old.keeper.me.0).place member (view_of (state self.old.keeper.me.0) member) names.now }
+        requires { MayDoom (state self.old.keeper.me.0).place member
+            (view_of (state self.old.keeper.me.0) member) names.now }
         ensures table { self.new.table.shared.table_id ≡ self.old.table.shared.table_id }
-        ensures step { Leads self.old.keeper.me.0 member (runs.Kind.Doom names.now) self.new.keeper.me.0 }
-        ensures view { view_of (state self.new.keeper.me.0) member ≡ after_doom names.now (view_of (state self.old.keeper.me.0) member) }
+        ensures step { Leads self.old.keeper.me.0 member
+            (runs.Kind.Doom names.now) self.new.keeper.me.0 }
+        ensures view { view_of (state self.new.keeper.me.0) member
+            ≡ after_doom names.now (view_of (state self.old.keeper.me.0) member) }
     {
         let table = &self.table;
         note::<Brand, _>(&table.shared, &mut self.keeper, &(member, names));
     }
 
     pub(crate) fn retire(&mut self, member: u32, names: &[EntryName])
-        requires { MayRetire (state self.old.keeper.me.0).place member (view_of (state self.old.keeper.me.0) member) names.now }
+        requires { MayRetire (state self.old.keeper.me.0).place member
+            (view_of (state self.old.keeper.me.0) member) names.now }
         ensures table { self.new.table.shared.table_id ≡ self.old.table.shared.table_id }
-        ensures step { Leads self.old.keeper.me.0 member (runs.Kind.Retire names.now) self.new.keeper.me.0 }
-        ensures view { TidiedIn (state self.old.keeper.me.0).place member (after_retire (state self.old.keeper.me.0).place member names.now (view_of (state self.old.keeper.me.0) member)) (view_of (state self.new.keeper.me.0) member) }
+        ensures step { Leads self.old.keeper.me.0 member
+            (runs.Kind.Retire names.now) self.new.keeper.me.0 }
+        ensures view { TidiedIn (state self.old.keeper.me.0).place member
+            (after_retire (state self.old.keeper.me.0).place member names.now
+            (view_of (state self.old.keeper.me.0) member))
+            (view_of (state self.new.keeper.me.0) member) }
     {
         let table = &self.table;
         note::<Brand, _>(&table.shared, &mut self.keeper, &(member, names));
@@ -302,10 +363,13 @@ impl LocalBoard {
 
     /// Loads the word of a mailbox, and says whether it is full.
     fn look_at_mail(&mut self, member: u32, from: u32, to: u32) -> bool
-        requires { (member < places.members (state self.old.keeper.me.0).place) × (from < places.members (state self.old.keeper.me.0).place) × (to < places.members (state self.old.keeper.me.0).place) }
+        requires { (member < places.members (state self.old.keeper.me.0).place)
+            × (from < places.members (state self.old.keeper.me.0).place)
+            × (to < places.members (state self.old.keeper.me.0).place) }
         ensures table { self.new.table.shared.table_id ≡ self.old.table.shared.table_id }
         ensures found { result ≡ is_full ((state self.old.keeper.me.0).mail from to) }
-        ensures state { state self.new.keeper.me.0 ≡ finds (state self.old.keeper.me.0) member (loads.Mail from to result) }
+        ensures state { state self.new.keeper.me.0
+            ≡ finds (state self.old.keeper.me.0) member (loads.Mail from to result) }
     {
         let place = place_of(from, to);
         let full = self.mail[place].is_some();
@@ -318,7 +382,8 @@ impl LocalBoard {
     fn put_mail(&mut self, member: u32, to: u32, notices: Notices)
         requires { CanSend (state self.old.keeper.me.0) member to (notices_of notices) }
         ensures table { self.new.table.shared.table_id ≡ self.old.table.shared.table_id }
-        ensures state { state self.new.keeper.me.0 ≡ sends (state self.old.keeper.me.0) member to (notices_of notices) }
+        ensures state { state self.new.keeper.me.0
+            ≡ sends (state self.old.keeper.me.0) member to (notices_of notices) }
     {
         let place = place_of(member, to);
         let table = &self.table;
@@ -328,12 +393,16 @@ impl LocalBoard {
 
     /// Takes the notices out of a full mailbox.
     fn take_mail(&mut self, member: u32, from: u32) -> Notices
-        requires members { (member < places.members (state self.old.keeper.me.0).place) × (from < places.members (state self.old.keeper.me.0).place) }
-        requires seen { In (loads.Mail from member true) ((state self.old.keeper.me.0).looked member) }
+        requires members { (member < places.members (state self.old.keeper.me.0).place)
+            × (from < places.members (state self.old.keeper.me.0).place) }
+        requires seen { In (loads.Mail from member true)
+            ((state self.old.keeper.me.0).looked member) }
         ensures table { self.new.table.shared.table_id ≡ self.old.table.shared.table_id }
         ensures stood { (state self.old.keeper.me.0).mail from member ≡ Some (notices_of result) }
-        ensures heard { IsHeard (state self.old.keeper.me.0).place member from (view_of (state self.old.keeper.me.0) member) (notices_of result) }
-        ensures state { Tidied (receives (state self.old.keeper.me.0) member from (notices_of result)) member (state self.new.keeper.me.0) }
+        ensures heard { IsHeard (state self.old.keeper.me.0).place member from
+            (view_of (state self.old.keeper.me.0) member) (notices_of result) }
+        ensures state { Tidied (receives (state self.old.keeper.me.0) member from
+            (notices_of result)) member (state self.new.keeper.me.0) }
     {
         let place = place_of(from, member);
         let stood = mem::replace(&mut self.mail[place], None);
@@ -344,14 +413,22 @@ impl LocalBoard {
     }
 
     pub(crate) fn send(&mut self, member: u32, to: u32, notices: Notices) -> Result<(), MailFull>
-        requires { MaySend (state self.old.keeper.me.0).place member (view_of (state self.old.keeper.me.0) member) to (notices_of notices) }
+        requires { MaySend (state self.old.keeper.me.0).place member
+            (view_of (state self.old.keeper.me.0) member) to (notices_of notices) }
         ensures table { self.new.table.shared.table_id ≡ self.old.table.shared.table_id }
         ensures place { (state self.new.keeper.me.0).place ≡ (state self.old.keeper.me.0).place }
         ensures back { IfErr result (λ full. full.notices ≡ notices) }
         ensures found { is_full ((state self.old.keeper.me.0).mail member to) ≡ is_err result }
         ensures lawful { Lawful (state self.old.keeper.me.0) → Lawful (state self.new.keeper.me.0) }
-        ensures step { MatchResult result (λ _. AreSteps (state self.old.keeper.me.0) member (runs.Kind.LookMail member to) (runs.Kind.Send to (notices_of notices)) (state self.new.keeper.me.0)) (λ full. IsStep (state self.old.keeper.me.0) member (runs.Kind.LookMail member to) (state self.new.keeper.me.0)) }
-        ensures view { MatchResult result (λ _. view_of (state self.new.keeper.me.0) member ≡ after_send to (notices_of notices) (view_of (state self.old.keeper.me.0) member)) (λ full. view_of (state self.new.keeper.me.0) member ≡ after_find (loads.Mail member to true) (view_of (state self.old.keeper.me.0) member)) }
+        ensures step { MatchResult result (λ _. AreSteps (state self.old.keeper.me.0) member
+            (runs.Kind.LookMail member to) (runs.Kind.Send to (notices_of notices))
+            (state self.new.keeper.me.0)) (λ full. IsStep (state self.old.keeper.me.0) member
+            (runs.Kind.LookMail member to) (state self.new.keeper.me.0)) }
+        ensures view { MatchResult result (λ _. view_of (state self.new.keeper.me.0) member
+            ≡ after_send to (notices_of notices) (view_of (state self.old.keeper.me.0) member))
+            (λ full. view_of (state self.new.keeper.me.0) member
+            ≡ after_find (loads.Mail member to true)
+            (view_of (state self.old.keeper.me.0) member)) }
     {
         if self.look_at_mail(member, member, to) {
             return Err(MailFull { notices });
@@ -364,11 +441,24 @@ impl LocalBoard {
         requires { MayReceive (state self.old.keeper.me.0).place member from }
         ensures table { self.new.table.shared.table_id ≡ self.old.table.shared.table_id }
         ensures place { (state self.new.keeper.me.0).place ≡ (state self.old.keeper.me.0).place }
-        ensures stood { (state self.old.keeper.me.0).mail from member ≡ option_map notices_of result }
-        ensures heard { IfSome result (λ notices. IsHeard (state self.old.keeper.me.0).place member from (view_of (state self.old.keeper.me.0) member) (notices_of notices)) }
+        ensures stood { (state self.old.keeper.me.0).mail from member
+            ≡ option_map notices_of result }
+        ensures heard { IfSome result (λ notices. IsHeard
+            (state self.old.keeper.me.0).place member from
+            (view_of (state self.old.keeper.me.0) member) (notices_of notices)) }
         ensures lawful { Lawful (state self.old.keeper.me.0) → Lawful (state self.new.keeper.me.0) }
-        ensures step { MatchOption result (IsStep (state self.old.keeper.me.0) member (runs.Kind.LookMail from member) (state self.new.keeper.me.0)) (λ notices. AreSteps (state self.old.keeper.me.0) member (runs.Kind.LookMail from member) (runs.Kind.Receive from) (state self.new.keeper.me.0)) }
-        ensures view { MatchOption result (view_of (state self.new.keeper.me.0) member ≡ after_find (loads.Mail from member false) (view_of (state self.old.keeper.me.0) member)) (λ notices. TidiedIn (state self.old.keeper.me.0).place member (after_receive (state self.old.keeper.me.0).place member (notices_of notices) (view_of (state self.old.keeper.me.0) member)) (view_of (state self.new.keeper.me.0) member)) }
+        ensures step { MatchOption result (IsStep (state self.old.keeper.me.0) member
+            (runs.Kind.LookMail from member) (state self.new.keeper.me.0))
+            (λ notices. AreSteps (state self.old.keeper.me.0) member
+            (runs.Kind.LookMail from member) (runs.Kind.Receive from)
+            (state self.new.keeper.me.0)) }
+        ensures view { MatchOption result (view_of (state self.new.keeper.me.0) member
+            ≡ after_find (loads.Mail from member false)
+            (view_of (state self.old.keeper.me.0) member))
+            (λ notices. TidiedIn (state self.old.keeper.me.0).place member
+            (after_receive (state self.old.keeper.me.0).place member (notices_of notices)
+            (view_of (state self.old.keeper.me.0) member))
+            (view_of (state self.new.keeper.me.0) member)) }
     {
         if self.look_at_mail(member, from, member) {
             Some(self.take_mail(member, from))

@@ -53,7 +53,8 @@ pub type Keeper = Seat<u8, Journal>;
 /// Writes a note. What it is about is passed, since a pick sees the call's arguments alone.
 pub fn note<W: Wish, T>(table: &Steps, seat: &mut Keeper, _about: &T)
     requires { (seat.old.table_id ≡ table.now.table_id) × (0 < table.now.table_id.words) }
-    ensures { (seat.new.table_id ≡ seat.old.table_id) × (seat.new.me.0 ≡ noted W.wish seat.old.me.0) }
+    ensures { (seat.new.table_id ≡ seat.old.table_id)
+        × (seat.new.me.0 ≡ noted W.wish seat.old.me.0) }
 {
     table.load::<Writes<W>>(seat, 0);
 }

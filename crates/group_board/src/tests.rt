@@ -32,9 +32,11 @@ fn open_small(rt: &HostRuntime) -> Result<LocalBoard, Fail>
 
 /// Posts a change in slot 0, with the bytes behind its pointer, and tries to become the leader.
 fn offer<B: Board>(board: &mut B, change: Change, value: &[u8]) -> Result<(), Busy>
-    requires post { MayPost (B.seat board.old).place (B.seat board.old).number (B.view board.old) 0 change value.now }
+    requires post { MayPost (B.seat board.old).place (B.seat board.old).number
+        (B.view board.old) 0 change value.now }
     requires lock { MayLock (B.seat board.old).place (B.seat board.old).number (B.view board.old) }
-    ensures { IfOk result (λ _. Leads (B.seat board.new).place (B.seat board.new).number (B.view board.new)) }
+    ensures { IfOk result (λ _. Leads (B.seat board.new).place (B.seat board.new).number
+        (B.view board.new)) }
 {
     board.post(0, change, value);
     board.try_lock()
@@ -43,7 +45,8 @@ fn offer<B: Board>(board: &mut B, change: Change, value: &[u8]) -> Result<(), Bu
 /// Takes what the leader itself offers in slot 0.
 fn collect<B: Board>(board: &mut B) -> Option<Change>
     requires { Leads (B.seat board.old).place (B.seat board.old).number (B.view board.old) }
-    ensures { IfSome result (λ c. Has (B.seat board.new).place (B.seat board.new).number (B.view board.new) c.entry) }
+    ensures { IfSome result (λ c. Has (B.seat board.new).place (B.seat board.new).number
+        (B.view board.new) c.entry) }
 {
     let member = board.member();
     match board.look(member, 0) {
@@ -54,7 +57,8 @@ fn collect<B: Board>(board: &mut B) -> Option<Change>
 
 /// Gives the lock and the own change back, as certain.
 fn give_back<B: Board>(board: &mut B, change: Change)
-    requires { Has (B.seat board.old).place (B.seat board.old).number (B.view board.old) change.entry }
+    requires { Has (B.seat board.old).place (B.seat board.old).number
+        (B.view board.old) change.entry }
     ensures { (B.seat board.new).number < places.members (B.seat board.new).place }
 {
     let member = board.member();
@@ -65,7 +69,8 @@ fn give_back<B: Board>(board: &mut B, change: Change)
 
 /// Gives the lock and the own change back, as one that could not be written.
 fn give_up<B: Board>(board: &mut B, change: Change)
-    requires { Has (B.seat board.old).place (B.seat board.old).number (B.view board.old) change.entry }
+    requires { Has (B.seat board.old).place (B.seat board.old).number
+        (B.view board.old) change.entry }
     ensures { (B.seat board.new).number < places.members (B.seat board.new).place }
 {
     let member = board.member();
@@ -207,8 +212,11 @@ fn a_change_that_is_taken_back(rt: HostRuntime) -> Result<(), Fail> {
 
 /// Tries the lock, and gives the holder that it found.
 fn lock(board: &mut LocalBoard, member: u32) -> Option<u32>
-    requires { MayLock (state board.old.keeper.me.0).place member (view_of (state board.old.keeper.me.0) member) }
-    ensures { (m : ℕ) → m ≢ member → MayLock (state board.old.keeper.me.0).place m (view_of (state board.old.keeper.me.0) m) → MayLock (state board.new.keeper.me.0).place m (view_of (state board.new.keeper.me.0) m) }
+    requires { MayLock (state board.old.keeper.me.0).place member
+        (view_of (state board.old.keeper.me.0) member) }
+    ensures { (m : ℕ) → m ≢ member → MayLock (state board.old.keeper.me.0).place m
+        (view_of (state board.old.keeper.me.0) m) → MayLock (state board.new.keeper.me.0).place m
+        (view_of (state board.new.keeper.me.0) m) }
 {
     let mut seat = LocalSeat { board, member };
     match seat.try_lock() {

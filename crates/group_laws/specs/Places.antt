@@ -30,11 +30,13 @@ owner p k = if layouts.owner p.layout k / p.layout.group == p.group then layouts
 
 -- The first unit of a member's part, and of the number of members the one behind the last part. Pointers count units from the region's start.
 unfoldable pub first_unit : Place → ℕ → ℕ
-first_unit p m = FIRST_UNIT + (p.group * p.layout.group + m) * (p.layout.chunks * chunk_units p.layout)
+first_unit p m = FIRST_UNIT + (p.group * p.layout.group + m) *
+    (p.layout.chunks * chunk_units p.layout)
 
 -- the units of a value's block: those of the least class that has room for the length word and the bytes
 unfoldable pub units : ℕ → ℕ
-units n = 2 ^ unwrap_or (find (λ class. nat_le (n + 8) (UNIT_BYTES * 2 ^ class)) (numbers 1 GREATEST_CLASS)) 13
+units n = 2 ^ unwrap_or (find (λ class. nat_le (n + 8) (UNIT_BYTES * 2 ^ class))
+    (numbers 1 GREATEST_CLASS)) 13
 
 -- a run of units lies in a member's part
 abbrev pub LiesIn : Place → ℕ → ℕ → ℕ → Type 0

@@ -35,7 +35,8 @@ changes_asked k trace = count_by (may_change k) trace
 -- the versions are not used up before any put
 abbrev pub HasVersions : (ℕ → ℕ) → List Request → Type 0
 HasVersions image trace = (front rest : List Request) (k : ℕ) (v : List ℕ)
-    → trace ≡ front ++ Put k v ∷ rest → version_of image k + changes_asked k front < LAST_PUT_VERSION
+    → trace ≡ front ++ Put k v ∷ rest → version_of image k + changes_asked k front
+    < LAST_PUT_VERSION
 
 abbrev pub is_too_long : Geometry → Request → Bool
 is_too_long l (Put k v) = nat_lt (l.chunk_bytes / 4 - 8) (length v)

@@ -6,10 +6,11 @@ use crate::image_bytes::words_of;
 use chunk_map::layout_sizes::SUPERBLOCK_BYTES;
 use fs_errors::Memory;
 use fs_model::Pair;
+use image_yardstick::image_superblock::read_layout;
+use image_yardstick::{first_fault, recovered_cells};
 use pm_region::MOST_BYTES;
 use std::alloc::Global;
-use store_image::image_superblock::read_layout;
-use store_image::{Fault, first_fault, recovered_cells};
+use store_image::Fault;
 
 /// What an image says.
 #[derive(Drop)]
@@ -22,7 +23,8 @@ pub enum Found {
 
 // What an image of these words says, where there are as many as the length asks.
 fn read_words(alloc: Global, words: &[u64], bytes: u64) -> Result<Found, Memory>
-    requires { bytes % 8 ≡ 0 → SUPERBLOCK_BYTES ≤ bytes → bytes ≤ MOST_BYTES → length words.now ≡ bytes / 8 }
+    requires { bytes % 8 ≡ 0 → SUPERBLOCK_BYTES ≤ bytes → bytes ≤ MOST_BYTES
+        → length words.now ≡ bytes / 8 }
     ensures { IfOk result (λ found. ShowsWords found bytes (λ w. slice_index words.now w)) }
 {
     match read_layout(words, bytes) {

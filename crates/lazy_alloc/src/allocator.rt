@@ -59,7 +59,8 @@ impl Model for Allocator {
 
     ghost view = { λ a. sets_of a.layout a.part a.free a.due a.classes.items a.bits.items };
 
-    ghost invariant = { λ a. IsKept a.layout a.part a.free a.due a.classes.items a.bits.items a.counts.items a.chains.firsts.items a.chains.nexts.items };
+    ghost invariant = { λ a. IsKept a.layout a.part a.free a.due a.classes.items a.bits.items
+        a.counts.items a.chains.firsts.items a.chains.nexts.items };
 }
 
 // One more than the greatest class.
@@ -273,7 +274,8 @@ impl Allocator {
     fn class_at(&self, pointer: u64) -> Option<u32>
         ensures class { result ≡ class_at self.now pointer }
         ensures small { IfSome result (λ c. (1 ≤ c) × (c ≤ GREATEST_CLASS)) }
-        ensures low { IfSome result (λ c. (FIRST_UNIT ≤ pointer) × (1 ≤ unit_at self.now.layout pointer)) }
+        ensures low { IfSome result (λ c. (FIRST_UNIT ≤ pointer)
+            × (1 ≤ unit_at self.now.layout pointer)) }
         ensures rules { IsLayout self.now.layout }
         ensures sets { AreSets self.now }
     {
@@ -439,7 +441,8 @@ impl Allocator {
             (EachIn (head_of self.now pointer) (head_of self.now pointer + 2)
             (HeadTurnsTo self.now pointer class)) }
         ensures ok { OnOk result (IsTelling (R.state region.new)
-            → Surely (cell_now (R.state region.new) (head_of self.now pointer)) (2 + CLASS_FACTOR * class)) }
+            → Surely (cell_now (R.state region.new) (head_of self.now pointer))
+            (2 + CLASS_FACTOR * class)) }
         ensures cause { OnErr result
             (Rose (R.state region.old).faults (R.state region.new).faults) }
     {

@@ -93,7 +93,8 @@ pub fn clear(words: &mut Vec<u64>, at: u64)
 pub fn first_unset(words: &[u64], from: u64, count: u64) -> Option<u64>
     requires { 64 * from + count ≤ 64 * length words.now }
     ensures { MatchOption result ((i : ℕ) → i < count → has_bit words.now (64 * from + i) ≡ true)
-        (λ b. (b < count) × ((has_bit words.now (64 * from + b) ≡ false) × ((i : ℕ) → i < b → has_bit words.now (64 * from + i) ≡ true))) }
+        (λ b. (b < count) × ((has_bit words.now (64 * from + b) ≡ false)
+        × ((i : ℕ) → i < b → has_bit words.now (64 * from + i) ≡ true))) }
 {
     for i in 0..count.div_ceil(64) {
         if let Some(bit) = lowest_unset(words[(from + i) as usize]) {

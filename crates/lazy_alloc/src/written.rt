@@ -51,7 +51,8 @@ pub fn write_block<R: Region>(region: &mut R, line: u64, value: &[u8]) -> Result
         (8 * (line + block_lines value.now))) }
     ensures ok { OnOk result (IsTelling (R.state region.new) → (j : ℕ)
         → j < 1 + words_for (length value.now)
-        → cell_now (R.state region.new) (8 * line + j) ≡ certain (slice_index (block_words value.now) j)) }
+        → cell_now (R.state region.new) (8 * line + j)
+        ≡ certain (slice_index (block_words value.now) j)) }
     ensures cause { OnErr result (Rose (R.state region.old).faults (R.state region.new).faults) }
 {
     let count = 1 + words_for(value.len() as u64);

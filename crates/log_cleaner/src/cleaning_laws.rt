@@ -42,11 +42,13 @@ pub fn every_copying()
 pub fn every_clearing()
     ensures throughout { (s t : State) (p : Place) (m : ℕ) (v : View) (log : LogState) (chunk : ℕ)
         (names : List EntryName)
-        → Begins s p m v log → MayGo v names → GivesUp s t log chunk names → During s t (Licensed p m v) }
+        → Begins s p m v log → MayGo v names → GivesUp s t log chunk names
+        → During s t (Licensed p m v) }
     ensures after { (s t : State) (p : Place) (m : ℕ) (v u : View) (log new : LogState) (chunk : ℕ)
         (names : List EntryName)
         → Begins s p m v log → MayGo v names → NoneElse s log → GivesUp s t log chunk names
-        → RetiredChunk t log new chunk → (IsTelling t → Vanish s t log new names) → Forgets names v u
+        → RetiredChunk t log new chunk → (IsTelling t → Vanish s t log new names)
+        → Forgets names v u
         → IsTelling t → Licensed p m u (cell_now t) }
     ensures none { (s t : State) (p : Place) (m : ℕ) (v : View) (log new : LogState) (chunk : ℕ)
         (names : List EntryName)
@@ -54,7 +56,8 @@ pub fn every_clearing()
         → RetiredChunk t log new chunk → NoneElse t new }
     ensures outside { (s t : State) (p : Place) (m : ℕ) (v : View) (log : LogState) (chunk : ℕ)
         (names : List EntryName)
-        → Begins s p m v log → is_some (tail_of log.chunks chunk) ≡ true → GivesUp s t log chunk names
+        → Begins s p m v log → is_some (tail_of log.chunks chunk) ≡ true
+        → GivesUp s t log chunk names
         → During s t (KeepsOutside (cell_now s) (part_at p m) (part_end p m)) }
 {}
 
@@ -132,9 +135,11 @@ pub fn every_tally()
         → IsBatchOf s log old chunk n ws → IsLess old new (entries_in s log chunk)
         → IsEachOnce (left_to_copy old (entries_in s log chunk))
         → kept ≡ tally_of chunk (left_to_copy old (entries_in s log chunk))
-        → lowered_by kept n (length ws) ≡ tally_of chunk (left_to_copy new (entries_in s log chunk)) }
+        → lowered_by kept n (length ws) ≡ tally_of chunk
+        (left_to_copy new (entries_in s log chunk)) }
     ensures none { (kept : Victim) (st : StandingState) (xs : List (ℕ × Entry))
         → Bounds kept st xs → kept.entries ≡ 0 → left_to_copy st xs ≡ [] }
     ensures killed { (old new : StandingState) (k v : ℕ) (kept : Victim) (xs : List (ℕ × Entry))
-        → Changes old new k v (option_map killed (copies_at old k v)) → Bounds kept old xs → Bounds kept new xs }
+        → Changes old new k v (option_map killed (copies_at old k v)) → Bounds kept old xs
+        → Bounds kept new xs }
 {}

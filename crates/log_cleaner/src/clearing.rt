@@ -82,9 +82,15 @@ impl Model for Clearing {
 
     ghost Value = { ClearingState };
 
-    ghost view = { λ a. record { chunk = a.chunk; names = a.names.items; doomed = a.doomed.items; room = a.seen.room } };
+    ghost view = { λ a. record {
+      chunk = a.chunk;
+      names = a.names.items;
+      doomed = a.doomed.items;
+      room = a.seen.room;
+    } };
 
-    ghost invariant = { λ a. IsClearing a.seen a.names.items a.doomed.items (vec_capacity a.names) (vec_capacity a.doomed) };
+    ghost invariant = { λ a. IsClearing a.seen a.names.items a.doomed.items (vec_capacity a.names)
+        (vec_capacity a.doomed) };
 }
 
 impl Clearing {

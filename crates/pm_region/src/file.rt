@@ -224,7 +224,8 @@ impl<R: Files<File = File> + Drop> SplitRegion for FileRegion<R> {
         requires cuts { AreCuts (file_state self.old).frame.words cuts.now }
         ensures count { IfOk result (λ pieces. length pieces.items ≡ length cuts.now - 1) }
         ensures pieces { IfOk result (λ pieces. (i : ℕ) (p : FilePiece) → i < length pieces.items
-            → IsPiece (file_state self.old) cuts.now i (file_piece_state (slice_index_or pieces.items i p))) }
+            → IsPiece (file_state self.old) cuts.now i
+            (file_piece_state (slice_index_or pieces.items i p))) }
         ensures ok { OnOk result (Parted (file_state self.old) (file_state self.new) cuts.now) }
         ensures err { OnErr result (Stays (file_state self.old) (file_state self.new)) }
         ensures cause { Refuses (file_state self.old) (file_state self.new) result }
@@ -266,10 +267,12 @@ impl<R: Files<File = File> + Drop> SplitRegion for FileRegion<R> {
         requires parted { (file_state self.old).frame.parted ≡ true }
         requires count { length pieces.items ≡ length (file_state self.old).frame.cuts - 1 }
         requires pieces { (i : ℕ) (p : FilePiece) → i < length pieces.items
-            → CameFrom (file_state self.old) i (file_piece_state (slice_index_or pieces.items i p)) }
+            → CameFrom (file_state self.old) i (file_piece_state
+            (slice_index_or pieces.items i p)) }
         ensures whole { Joined (file_state self.old) (file_state self.new) }
         ensures pieces { (i : ℕ) (p : FilePiece) → i < length pieces.items
-            → TakesPiece (file_state self.new) (file_piece_state (slice_index_or pieces.items i p)) }
+            → TakesPiece (file_state self.new) (file_piece_state
+            (slice_index_or pieces.items i p)) }
         ensures next { ComesNext file_piece_state (file_state self.old) (file_state self.new)
             pieces.items }
         ensures opens { IsNotOpened (file_state self.old) (file_state self.new) }

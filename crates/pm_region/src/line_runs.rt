@@ -34,7 +34,8 @@ pub fn write_runs(
     bytes: &[u8],
 ) -> Result<(), RegionFault>
     requires start { start ≤ MOST_BYTES }
-    requires within { (j : ℕ) → j < length lines.now → LINE_BYTES * slice_index lines.now j + LINE_BYTES
+    requires within { (j : ℕ) → j < length lines.now
+        → LINE_BYTES * slice_index lines.now j + LINE_BYTES
         ≤ length bytes.now }
     ensures { OnOk result (AreRuns start lines.now bytes.now (length lines.now)
         device.old.calls.made device.new.calls.made) }

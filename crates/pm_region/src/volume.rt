@@ -26,7 +26,8 @@ pub struct Volume {
     ghost at_zero: { history.first ≡ 0 },
     ghost long: { length history.words.items ≡ words_in bytes },
     ghost shared: { parted ≡ true → length cuts.items ≤ history.journal.shares },
-    ghost within: { (i : ℕ) → i < length cuts.items → slice_index cuts.items i ≤ length history.words.items },
+    ghost within: { (i : ℕ) → i < length cuts.items
+        → slice_index cuts.items i ≤ length history.words.items },
 }
 
 impl Volume {

@@ -21,7 +21,8 @@ pub fn cells_after(
     requires fits { first + length start.now < 2 ^ 64 }
     ensures count { IfOk result (λ cells. length cells.items ≡ length start.now) }
     ensures each { IfOk result (λ cells. (k : ℕ) → k < length start.now
-        → cell_in cells.items k ≡ cell_after steps.now (first + k) (certain (slice_index start.now k))) }
+        → cell_in cells.items k ≡ cell_after steps.now (first + k)
+        (certain (slice_index start.now k))) }
 {
     let mut cells = certain_cells(alloc, start)?;
     let mut open_places = Vec::new(alloc);

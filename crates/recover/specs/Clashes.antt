@@ -17,6 +17,10 @@ pub record HasName (k v : ℕ) (x : PlacedEntry) : Type 0 where
 
 -- Of each name that an entry of the list has, the map has one such entry, and all of that name have its body and part.
 pub record Notes (seen : BTreeMap (ℕ × ℕ) (Bor PlacedEntry)) (es : List PlacedEntry) : Type 0 where
-  pub none : (k v : ℕ) → get name_cmp seen (k, v) ≡ None → (x : PlacedEntry) → In x es → HasName k v x → ⊥
-  pub some : (k v : ℕ) (y : Bor PlacedEntry) → get name_cmp seen (k, v) ≡ Some y → In y.now es × HasName k v y.now
-  pub agree : (k v : ℕ) (y : Bor PlacedEntry) → get name_cmp seen (k, v) ≡ Some y → (x : PlacedEntry) → In x es → HasName k v x → (x.entry.body ≡ y.now.entry.body) × (x.core ≡ y.now.core)
+  pub none : (k v : ℕ) → get name_cmp seen (k, v) ≡ None → (x : PlacedEntry) → In x es
+      → HasName k v x → ⊥
+  pub some : (k v : ℕ) (y : Bor PlacedEntry) → get name_cmp seen (k, v) ≡ Some y → In y.now es
+      × HasName k v y.now
+  pub agree : (k v : ℕ) (y : Bor PlacedEntry) → get name_cmp seen (k, v) ≡ Some y
+      → (x : PlacedEntry) → In x es → HasName k v x → (x.entry.body ≡ y.now.entry.body)
+      × (x.core ≡ y.now.core)

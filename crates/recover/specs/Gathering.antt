@@ -10,7 +10,8 @@ use Rattle.recover.specs.Logs.{SpellsLog}
 use Rattle.recover.specs.ByName.{IsByName}
 
 -- a part's first fault; where there is none, its entries are appended
-pub record GathersPart (l : Geometry) (image : ℕ → ℕ) (c : ℕ) (old new : List PlacedEntry) (fault : Option Fault) : Type 0 where
+pub record GathersPart (l : Geometry) (image : ℕ → ℕ) (c : ℕ) (old new : List PlacedEntry)
+    (fault : Option Fault) : Type 0 where
   pub fault_is : fault ≡ part_fault l image c
   pub entries : fault ≡ None → new ≡ old ++ part_entries l image c
   pub spells : fault ≡ None → (j : ℕ) → j < l.chunks → SpellsLog l image c j
@@ -21,7 +22,8 @@ AllSpell l image = (c j : ℕ) → c < l.cores → j < l.chunks → SpellsLog l 
 
 -- all entries, or the fault of the first damaged chunk
 abbrev pub Gathers : Geometry → (ℕ → ℕ) → Result (Vec PlacedEntry Global) Fault → Type 0
-Gathers l image (Ok es) = (chunk_fault l image ≡ None) × (es.items ≡ all_entries l image) × AllSpell l image
+Gathers l image (Ok es) = (chunk_fault l image ≡ None) × (es.items ≡ all_entries l image)
+    × AllSpell l image
 Gathers l image (Err fault) = chunk_fault l image ≡ Some fault
 
 -- all entries of an image that keeps rules 4 to 8, by their names

@@ -19,7 +19,8 @@ pub record IsBadHead (l : Geometry) (image : ℕ → ℕ) (c : ℕ) (fault : Fau
   pub is : fault ≡ damaged c chunk rule
 
 abbrev pub AreHeads : Geometry → (ℕ → ℕ) → ℕ → List Head → Type 0
-AreHeads l image c heads = (j : ℕ) (d : Head) → j < l.chunks → head_at l image (chunk_first l c j) ≡ Ok (slice_index_or heads j d)
+AreHeads l image c heads = (j : ℕ) (d : Head) → j < l.chunks
+    → head_at l image (chunk_first l c j) ≡ Ok (slice_index_or heads j d)
 
 -- the heads of the part's chunks, or a chunk that has none
 abbrev pub HasHeads : Geometry → (ℕ → ℕ) → ℕ → Result (Vec Head Global) Fault → Type 0
@@ -44,5 +45,6 @@ Starts l image c (Ok start) = IsStartOf l image c start
 Starts l image c (Err fault) = ⊥
 
 abbrev pub AllStart : Geometry → (ℕ → ℕ) → Result (Vec CoreStart Global) Fault → Type 0
-AllStart l image (Ok starts) = (c : ℕ) (d : CoreStart) → c < l.cores → IsStartOf l image c (slice_index_or starts.items c d)
+AllStart l image (Ok starts) = (c : ℕ) (d : CoreStart) → c < l.cores
+    → IsStartOf l image c (slice_index_or starts.items c d)
 AllStart l image (Err fault) = ⊥

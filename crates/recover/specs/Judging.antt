@@ -20,20 +20,24 @@ is_taken p ws = list_any (λ x. same_body (Pointer p) x.entry.body) ws
 -- the first rule of 9 to 11 that a pointer breaks beside those of smaller keys, by the class of the block there
 abbrev pub rule_beside : (ℕ → ℕ) → List PlacedEntry → ℕ → Option ℕ → Option ℕ
 rule_beside image before p None = Some 9
-rule_beside image before p (Some class) = if has_class (image (32 * p)) class then (if is_taken p before then Some 11 else None) else Some 10
+rule_beside image before p (Some class) = if has_class (image (32 * p)) class then
+    (if is_taken p before then Some 11 else None) else Some 10
 
 abbrev pub body_beside : Geometry → (ℕ → ℕ) → List PlacedEntry → ℕ → Body → Option ℕ
-body_beside l image before k (Pointer p) = rule_beside image before p (block_class l image (owner l k) p)
+body_beside l image before k (Pointer p) = rule_beside image before p
+    (block_class l image (owner l k) p)
 body_beside l image before k (Embedded v) = None
 body_beside l image before k Tombstone = None
 
 abbrev pub fault_beside : Geometry → (ℕ → ℕ) → List PlacedEntry → PlacedEntry → Option Fault
-fault_beside l image before x = option_map (damaged x.core x.chunk) (body_beside l image before x.entry.key x.entry.body)
+fault_beside l image before x = option_map (damaged x.core x.chunk)
+    (body_beside l image before x.entry.key x.entry.body)
 
 -- the first winner that breaks one of the rules, behind those before
 abbrev pub winners_fault : Geometry → (ℕ → ℕ) → List PlacedEntry → List PlacedEntry → Option Fault
 winners_fault l image before [] = None
-winners_fault l image before (x ∷ xs) = option_or (fault_beside l image before x) (winners_fault l image (before ++ x ∷ []) xs)
+winners_fault l image before (x ∷ xs) = option_or (fault_beside l image before x)
+    (winners_fault l image (before ++ x ∷ []) xs)
 
 -- the set has exactly the pointers of these entries
 abbrev pub HasPointers : BTreeSet ℕ → List PlacedEntry → Type 0

@@ -18,7 +18,8 @@ use Rattle.recover.specs.Recovering.{cells_found}
 -- the pairs of the winners that leave a value
 abbrev pub pairs_by : Geometry → (ℕ → ℕ) → List PlacedEntry → List Pair
 pairs_by l image [] = []
-pairs_by l image (x ∷ xs) = with_pair x.entry.key (cell_by (held l image (owner l x.entry.key)) x.entry.body) (pairs_by l image xs)
+pairs_by l image (x ∷ xs) = with_pair x.entry.key (cell_by
+    (held l image (owner l x.entry.key)) x.entry.body) (pairs_by l image xs)
 
 -- the pairs of an image that keeps rules 4 to 11, or the first that it breaks
 abbrev pub Lists : Geometry → (ℕ → ℕ) → Result (Vec Pair Global) Fault → Type 0

@@ -21,7 +21,8 @@ tail_behind (Err rule) = None
 
 -- the tail of chunk j of a part, where the part has that chunk and it is a log
 abbrev pub log_tail : Geometry → (ℕ → ℕ) → ℕ → ℕ → Option ℕ
-log_tail l image c j = if nat_lt j l.chunks then tail_behind (head_at l image (chunk_first l c j)) else None
+log_tail l image c j = if nat_lt j l.chunks then tail_behind
+    (head_at l image (chunk_first l c j)) else None
 
 -- the chunk with its tail, where it has one
 abbrev pub with_log : ℕ → Option ℕ → List LogChunk
@@ -30,7 +31,8 @@ with_log j (Some tail) = chunk_with j tail ∷ []
 
 -- where the chunk is a log, its words up to the tail are a list of batches
 abbrev pub SpellsLog : Geometry → (ℕ → ℕ) → ℕ → ℕ → Type 0
-SpellsLog l image c j = (tail : ℕ) → head_at l image (chunk_first l c j) ≡ Ok (Log tail) → Spelled (payload image (chunk_first l c j) tail)
+SpellsLog l image c j = (tail : ℕ) → head_at l image (chunk_first l c j) ≡ Ok (Log tail)
+    → Spelled (payload image (chunk_first l c j) tail)
 
 -- the log has exactly the part's Log chunks, with their tails
 abbrev pub HasLogsOf : Geometry → (ℕ → ℕ) → ℕ → LogState → Type 0

@@ -7,4 +7,5 @@ use Rattle.recover.specs.declared.types.Recovered.{Recovered}
 
 -- the part of each core's allocator lies in the region's range
 abbrev pub AllLie : Frame → Recovered → Type 0
-AllLie f r = (c : ℕ) (d : CoreStart) → c < r.layout.cores → PartLies f (slice_index_or r.starts.items c d).allocator
+AllLie f r = (c : ℕ) (d : CoreStart) → c < r.layout.cores
+    → PartLies f (slice_index_or r.starts.items c d).allocator

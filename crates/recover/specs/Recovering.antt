@@ -21,16 +21,22 @@ pub record IsMade (bytes : ℕ) (r : Recovered) : Type 0 where
   pub layout : IsLayout r.layout
   pub total : total_bytes r.layout ≡ bytes
   pub count : length r.starts.items ≡ r.layout.cores
-  pub starts : (c : ℕ) (d : CoreStart) → c < r.layout.cores → IsStart r.layout c (slice_index_or r.starts.items c d)
+  pub starts : (c : ℕ) (d : CoreStart) → c < r.layout.cores
+      → IsStart r.layout c (slice_index_or r.starts.items c d)
 
 -- the logs, the allocators and the indexes of an image with this layout
 pub record IsOf (l : Geometry) (image : ℕ → ℕ) (r : Recovered) : Type 0 where
   pub layout_is : r.layout ≡ l
-  pub logs : (c : ℕ) (d : CoreStart) → c < l.cores → HasLogsOf l image c (slice_index_or r.starts.items c d).log
+  pub logs : (c : ℕ) (d : CoreStart) → c < l.cores
+      → HasLogsOf l image c (slice_index_or r.starts.items c d).log
   pub spells : AllSpell l image
-  pub allocators : (c : ℕ) (d : CoreStart) → c < l.cores → IsAllocatorOf l image c (slice_index_or r.starts.items c d).allocator
-  pub indexes : (c : ℕ) (d : CoreStart) → c < l.cores → IsIndexOf l image c (slice_index_or r.starts.items c d).index
-  pub standings : (c : ℕ) (d : CoreStart) → c < l.cores → HasCopiesOf image (slice_index_or r.starts.items c d).log (slice_index_or r.starts.items c d).standing
+  pub allocators : (c : ℕ) (d : CoreStart) → c < l.cores
+      → IsAllocatorOf l image c (slice_index_or r.starts.items c d).allocator
+  pub indexes : (c : ℕ) (d : CoreStart) → c < l.cores
+      → IsIndexOf l image c (slice_index_or r.starts.items c d).index
+  pub standings : (c : ℕ) (d : CoreStart) → c < l.cores
+      → HasCopiesOf image (slice_index_or r.starts.items c d).log
+      (slice_index_or r.starts.items c d).standing
 
 -- those of an image that keeps rules 4 to 11, or the first that it breaks
 abbrev pub Restores : Geometry → (ℕ → ℕ) → Result Recovered Fault → Type 0
@@ -50,7 +56,8 @@ Recovers bytes image (Err errors.Memory) = Unit {0}
 
 -- each core's log stands in the region
 abbrev pub AllStand : State → Recovered → Type 0
-AllStand s r = (c : ℕ) (d : CoreStart) → c < r.layout.cores → StandsIn s (slice_index_or r.starts.items c d).log
+AllStand s r = (c : ℕ) (d : CoreStart) → c < r.layout.cores
+    → StandsIn s (slice_index_or r.starts.items c d).log
 
 -- the cells that an image recovers, by the layout in it
 abbrev pub cells_found : (ℕ → ℕ) → ℕ → Option (List ℕ)

@@ -38,7 +38,9 @@ IsBareOrKnown rs r = (r.standing.items ≡ []) ⊎ (opened_in rs r.key ≡ Some 
 pub record IsShare (l : Geometry) (es : List PlacedEntry) (c : ℕ) (share : Share) : Type 0 where
   pub others : (k : ℕ) → (owner l k ≡ c → ⊥) → opened_in share.records.items k ≡ None
   pub known : (k : ℕ) → owner l k ≡ c → KnownAs (winner_in k es) (opened_in share.records.items k)
-  pub standing : (k v : ℕ) → owner l k ≡ c → standing_at (standing_of (opened_in share.records.items k)) v ≡ option_map (λ x. standing_with v x.core false) (named_in k v es)
+  pub standing : (k v : ℕ) → owner l k ≡ c → standing_at
+      (standing_of (opened_in share.records.items k)) v
+      ≡ option_map (λ x. standing_with v x.core false) (named_in k v es)
   pub below : AllByRecursion HasNoneAbove share.records.items
   pub bare : AllByRecursion (IsBareOrKnown share.records.items) share.records.items
   pub points : (p : ℕ) → list_any (λ q. q == p) share.pointers.items ≡ true → PointsFor l es c p
@@ -46,7 +48,8 @@ pub record IsShare (l : Geometry) (es : List PlacedEntry) (c : ℕ) (share : Sha
 
 -- one for each core, in their order
 abbrev pub AreShares : Geometry → List PlacedEntry → List Share → Type 0
-AreShares l es shares = (c : ℕ) (d : Share) → c < l.cores → IsShare l es c (slice_index_or shares c d)
+AreShares l es shares = (c : ℕ) (d : Share) → c < l.cores
+    → IsShare l es c (slice_index_or shares c d)
 
 -- the share of some entries that words can spell
 pub record IsShared (l : Geometry) (c : ℕ) (share : Share) : Type 0 where
@@ -56,7 +59,8 @@ pub record IsShared (l : Geometry) (c : ℕ) (share : Share) : Type 0 where
 
 -- the shares of an image that keeps rules 4 to 11, or the first that it breaks
 abbrev pub Shares : Geometry → (ℕ → ℕ) → Result (Vec Share Global) Fault → Type 0
-Shares l image (Ok shares) = (damage l image ≡ None) × AllSpell l image × AreShares l (all_entries l image) shares.items
+Shares l image (Ok shares) = (damage l image ≡ None) × AllSpell l image
+    × AreShares l (all_entries l image) shares.items
 Shares l image (Err fault) = damage l image ≡ Some fault
 
 -- the map has no list of this key any more
@@ -72,12 +76,15 @@ pub record Appends (old new : Share) (r : Record) : Type 0 where
   pub pointers : new.pointers.items ≡ old.pointers.items ++ option_to_list (pointer_of r.body)
 
 -- The core that owns the winner's key got its record, with the entries of the key, which left the map.
-pub record Gives (l : Geometry) (old new : List Share) (left rest : BTreeMap ℕ (Vec Standee Global)) (x : PlacedEntry) : Type 0 where
+pub record Gives (l : Geometry) (old new : List Share) (left rest : BTreeMap ℕ (Vec Standee Global))
+    (x : PlacedEntry) : Type 0 where
   pub given : Record
   pub key : given.key ≡ x.entry.key
   pub version : given.version ≡ x.entry.version
   pub body : given.body ≡ x.entry.body
   pub standing : given.standing.items ≡ standees_at left x.entry.key
-  pub owner_gets : (d : Share) → Appends (slice_index_or old (owner l x.entry.key) d) (slice_index_or new (owner l x.entry.key) d) given
-  pub others : (c : ℕ) (d : Share) → c ≢ owner l x.entry.key → slice_index_or new c d ≡ slice_index_or old c d
+  pub owner_gets : (d : Share) → Appends (slice_index_or old (owner l x.entry.key) d)
+      (slice_index_or new (owner l x.entry.key) d) given
+  pub others : (c : ℕ) (d : Share) → c ≢ owner l x.entry.key
+      → slice_index_or new c d ≡ slice_index_or old c d
   pub taken : TakesOut left rest x.entry.key

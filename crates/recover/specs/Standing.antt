@@ -23,9 +23,12 @@ StandOnce (s ∷ ss) = (standing_at (map untold ss) s.version ≡ None) × Stand
 
 -- The map has each version of each key that the entries have, once, with the core in whose part it first stands.
 pub record HasStandees (m : BTreeMap ℕ (Vec Standee Global)) (es : List PlacedEntry) : Type 0 where
-  pub each : (k v : ℕ) → standing_at (map untold (standees_at m k)) v ≡ option_map (λ x. standing_with v x.core false) (named_in k v es)
+  pub each : (k v : ℕ) → standing_at (map untold (standees_at m k)) v
+      ≡ option_map (λ x. standing_with v x.core false) (named_in k v es)
   pub once : (k : ℕ) → StandOnce (standees_at m k)
 
 -- one more stands of this key
-abbrev pub StandsMore : BTreeMap ℕ (Vec Standee Global) → BTreeMap ℕ (Vec Standee Global) → ℕ → Standee → Type 0
-StandsMore old new k s = (j : ℕ) → standees_at new j ≡ (if k == j then standees_at old j ++ s ∷ [] else standees_at old j)
+abbrev pub StandsMore : BTreeMap ℕ (Vec Standee Global) → BTreeMap ℕ (Vec Standee Global) → ℕ
+    → Standee → Type 0
+StandsMore old new k s = (j : ℕ) → standees_at new j
+    ≡ (if k == j then standees_at old j ++ s ∷ [] else standees_at old j)

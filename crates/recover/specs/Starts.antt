@@ -18,7 +18,8 @@ use Rattle.lazy_alloc.specs.Sets.{Sets, chunk_is_free, chunk_class, chunk_is_due
 
 -- Whatever the region tells: each record of the index has a version and a body that words can spell.
 abbrev pub IsSpelledIndex : List (ℕ × Place) → Type 0
-IsSpelledIndex es = (k : ℕ) (r : KeyRecord) → known_at es k ≡ Some r → HasSpelling (record { key = k; version = r.version; body = r.body })
+IsSpelledIndex es = (k : ℕ) (r : KeyRecord) → known_at es k ≡ Some r
+    → HasSpelling (record { key = k; version = r.version; body = r.body })
 
 -- a key of the part's core whose winner points there
 pub record IsWon (l : Geometry) (image : ℕ → ℕ) (c p : ℕ) : Type 0 where
@@ -30,8 +31,10 @@ pub record IsWon (l : Geometry) (image : ℕ → ℕ) (c p : ℕ) : Type 0 where
 
 -- The allocator of part c: the heads say what is free and what is cut, and exactly the blocks of winners are allocated.
 pub record IsAllocatorOf (l : Geometry) (image : ℕ → ℕ) (c : ℕ) (a : Sets) : Type 0 where
-  pub free : (j : ℕ) → j < l.chunks → chunk_is_free a j ≡ is_free (head_at l image (chunk_first l c j))
-  pub class : (j : ℕ) → j < l.chunks → chunk_class a j ≡ class_in (head_at l image (chunk_first l c j))
+  pub free : (j : ℕ) → j < l.chunks → chunk_is_free a j
+      ≡ is_free (head_at l image (chunk_first l c j))
+  pub class : (j : ℕ) → j < l.chunks → chunk_class a j
+      ≡ class_in (head_at l image (chunk_first l c j))
   pub due : (j : ℕ) → chunk_is_due a j ≡ false
   pub won : (p : ℕ) → block_is_used a p ≡ true → IsWon l image c p
   pub all : (p : ℕ) → IsWon l image c p → block_is_used a p ≡ true
@@ -50,7 +53,8 @@ named_in k v es = find (λ x. x.entry.key == k && x.entry.version == v) es
 pub record IsIndexOf (l : Geometry) (image : ℕ → ℕ) (c : ℕ) (es : List (ℕ × Place)) : Type 0 where
   pub others : (k : ℕ) → (owner l k ≡ c → ⊥) → known_at es k ≡ None
   pub known : (k : ℕ) → owner l k ≡ c → KnownAs (winner l image k) (known_at es k)
-  pub standing : (k v : ℕ) → owner l k ≡ c → standing_at (standing_of (known_at es k)) v ≡ option_map (λ x. standing_with v x.core false) (named_in k v (all_entries l image))
+  pub standing : (k v : ℕ) → owner l k ≡ c → standing_at (standing_of (known_at es k)) v
+      ≡ option_map (λ x. standing_with v x.core false) (named_in k v (all_entries l image))
   pub room : (k : ℕ) → room_at es k ≡ 0
 
 -- The names that stand are those of the log's entries, each in as many copies as chunks have it.

@@ -10,7 +10,7 @@ use fs_errors::Memory;
 use fs_model::{Key, Version};
 use std::alloc::Global;
 use std::collections::BTreeMap;
-use store_image::entry_rules::contradicts;
+use store_image::contradictions::contradicts;
 use store_image::{Fault, PlacedEntry};
 
 /// Whether an entry contradicts one before it. The map has the first entry of each key and version.
@@ -18,8 +18,10 @@ fn is_clash<'a>(
     seen: &mut BTreeMap<(Key, Version), &'a PlacedEntry>,
     x: &'a PlacedEntry,
 ) -> Result<bool, Memory>
-    ensures clash { IfOk result (λ b. (before : List PlacedEntry) → Notes seen.old before → b ≡ list_any (contradicts x.now) before) }
-    ensures noted { IfOk result (λ b. (before : List PlacedEntry) → Notes seen.old before → b ≡ false → Notes seen.new (before ++ x.now ∷ [])) }
+    ensures clash { IfOk result (λ b. (before : List PlacedEntry) → Notes seen.old before
+        → b ≡ list_any (contradicts x.now) before) }
+    ensures noted { IfOk result (λ b. (before : List PlacedEntry) → Notes seen.old before
+        → b ≡ false → Notes seen.new (before ++ x.now ∷ [])) }
 {
     let name = (x.entry.key, x.entry.version);
     match seen.get(&name) {

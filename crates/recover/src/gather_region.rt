@@ -20,16 +20,18 @@ use chunk_map::{Head, Layout, read_head};
 use fs_errors::Memory;
 use pm_region::Region;
 use std::alloc::Global;
-use store_image::chunks::log_rule;
-use store_image::gather_image::place_entries;
+use store_image::log_rules::log_rule;
+use store_image::placing::place_entries;
 use store_image::scanning::{Scanned, scan};
 use store_image::{Fault, PlacedEntry};
 
 /// What stands in the words of a log. Each entry is one that words can spell.
 fn scan_log(alloc: Global, words: &[u64]) -> Result<Scanned, Memory>
     ensures scan { IfOk result (λ s. IsScan s (scan_of words.now)) }
-    ensures spelled { IfOk result (λ s. AllByRecursion (λ x. HasSpelling x.1) (shown s.entries.items)) }
-    ensures batches { IfOk result (λ s. s.whole ≡ true → length words.now % 8 ≡ 0 → Spelled words.now) }
+    ensures spelled { IfOk result (λ s. AllByRecursion (λ x. HasSpelling x.1)
+        (shown s.entries.items)) }
+    ensures batches { IfOk result (λ s. s.whole ≡ true → length words.now % 8 ≡ 0
+        → Spelled words.now) }
 {
     let scanned = scan(alloc, words)?;
     Ok(scanned)
@@ -47,10 +49,14 @@ fn read_chunk<R: Region>(
     requires covers { Covers (R.state region.now).frame layout.now }
     requires part { part < layout.now.cores }
     requires chunk { chunk < layout.now.chunks }
-    ensures told { IfOk result (λ r. IsTelling (R.state region.now) → (r.0 ≡ chunk_rule layout.now (lasts (R.state region.now)) part chunk)
-        × IsScan r.1 (scan_at layout.now (lasts (R.state region.now)) (chunk_first layout.now part chunk))) }
-    ensures spelled { IfOk result (λ r. AllByRecursion (λ x. HasSpelling x.1) (shown r.1.entries.items)) }
-    ensures batches { IfOk result (λ r. IsTelling (R.state region.now) → r.0 ≡ None → SpellsLog layout.now (lasts (R.state region.now)) part chunk) }
+    ensures told { IfOk result (λ r. IsTelling (R.state region.now)
+        → (r.0 ≡ chunk_rule layout.now (lasts (R.state region.now)) part chunk)
+        × IsScan r.1 (scan_at layout.now (lasts (R.state region.now))
+        (chunk_first layout.now part chunk))) }
+    ensures spelled { IfOk result (λ r. AllByRecursion (λ x. HasSpelling x.1)
+        (shown r.1.entries.items)) }
+    ensures batches { IfOk result (λ r. IsTelling (R.state region.now) → r.0 ≡ None
+        → SpellsLog layout.now (lasts (R.state region.now)) part chunk) }
 {
     let at = layout.chunk_first(part, chunk);
     match read_head(region, layout, at) {
@@ -77,10 +83,16 @@ fn gather_chunk<R: Region>(
     requires covers { Covers (R.state region.now).frame layout.now }
     requires part { part < layout.now.cores }
     requires chunk { chunk < layout.now.chunks }
-    ensures fault { IfOk result (λ f. IsTelling (R.state region.now) → f ≡ option_map (damaged part chunk) (chunk_rule layout.now (lasts (R.state region.now)) part chunk)) }
-    ensures entries { IfOk result (λ _. IsTelling (R.state region.now) → entries.new.items ≡ entries.old.items ++ chunk_entries layout.now (lasts (R.state region.now)) part chunk) }
-    ensures spelled { IfOk result (λ _. AreSpelled entries.old.items → AreSpelled entries.new.items) }
-    ensures batches { IfOk result (λ f. IsTelling (R.state region.now) → f ≡ None → SpellsLog layout.now (lasts (R.state region.now)) part chunk) }
+    ensures fault { IfOk result (λ f. IsTelling (R.state region.now)
+        → f ≡ option_map (damaged part chunk) (chunk_rule layout.now
+        (lasts (R.state region.now)) part chunk)) }
+    ensures entries { IfOk result (λ _. IsTelling (R.state region.now)
+        → entries.new.items ≡ entries.old.items ++ chunk_entries layout.now
+        (lasts (R.state region.now)) part chunk) }
+    ensures spelled { IfOk result (λ _. AreSpelled entries.old.items
+        → AreSpelled entries.new.items) }
+    ensures batches { IfOk result (λ f. IsTelling (R.state region.now) → f ≡ None
+        → SpellsLog layout.now (lasts (R.state region.now)) part chunk) }
 {
     let (rule, scanned) = read_chunk(alloc, region, layout, part, chunk)?;
     place_entries(part, chunk, scanned.entries, entries)?;
@@ -100,8 +112,11 @@ fn gather_part<R: Region>(
 ) -> Result<Option<Fault>, Memory>
     requires covers { Covers (R.state region.now).frame layout.now }
     requires part { part < layout.now.cores }
-    ensures told { IfOk result (λ f. IsTelling (R.state region.now) → GathersPart layout.now (lasts (R.state region.now)) part entries.old.items entries.new.items f) }
-    ensures spelled { IfOk result (λ _. AreSpelled entries.old.items → AreSpelled entries.new.items) }
+    ensures told { IfOk result (λ f. IsTelling (R.state region.now)
+        → GathersPart layout.now (lasts (R.state region.now)) part entries.old.items
+        entries.new.items f) }
+    ensures spelled { IfOk result (λ _. AreSpelled entries.old.items
+        → AreSpelled entries.new.items) }
 {
     for chunk in 0..layout.chunks() {
         let fault = gather_chunk(alloc, region, layout, part, chunk, entries)?;
@@ -120,7 +135,8 @@ pub fn gather<R: Region>(
     layout: &Layout,
 ) -> Result<Result<Vec<PlacedEntry>, Fault>, Memory>
     requires covers { Covers (R.state region.now).frame layout.now }
-    ensures told { IfOk result (λ r. IsTelling (R.state region.now) → Gathers layout.now (lasts (R.state region.now)) r) }
+    ensures told { IfOk result (λ r. IsTelling (R.state region.now)
+        → Gathers layout.now (lasts (R.state region.now)) r) }
     ensures spelled { IfOk result (λ r. IfOk r (λ entries. AreSpelled entries.items)) }
 {
     let mut entries = Vec::new(alloc);

@@ -42,8 +42,10 @@ fn pointer_rule<R: Region>(
     pointer: u64,
 ) -> Option<u32>
     requires covers { Covers (R.state region.now).frame layout.now }
-    ensures { (before : List PlacedEntry) → HasPointers taken.now before → IsTelling (R.state region.now)
-        → result ≡ rule_beside (lasts (R.state region.now)) before pointer (block_class layout.now (lasts (R.state region.now)) (owner layout.now key) pointer) }
+    ensures { (before : List PlacedEntry) → HasPointers taken.now before
+        → IsTelling (R.state region.now)
+        → result ≡ rule_beside (lasts (R.state region.now)) before pointer
+        (block_class layout.now (lasts (R.state region.now)) (owner layout.now key) pointer) }
 {
     match block_class(region, layout, owner(&layout.geometry(), key), pointer) {
         None => Some(9),
@@ -67,9 +69,11 @@ fn winner_fault<R: Region>(
     winner: &PlacedEntry,
 ) -> Result<Option<Fault>, Memory>
     requires covers { Covers (R.state region.now).frame layout.now }
-    ensures fault { IfOk result (λ f. (before : List PlacedEntry) → HasPointers taken.old before → IsTelling (R.state region.now)
+    ensures fault { IfOk result (λ f. (before : List PlacedEntry) → HasPointers taken.old before
+        → IsTelling (R.state region.now)
         → f ≡ fault_beside layout.now (lasts (R.state region.now)) before winner.now) }
-    ensures taken { IfOk result (λ f. (before : List PlacedEntry) → HasPointers taken.old before → f ≡ None → HasPointers taken.new (before ++ winner.now ∷ [])) }
+    ensures taken { IfOk result (λ f. (before : List PlacedEntry) → HasPointers taken.old before
+        → f ≡ None → HasPointers taken.new (before ++ winner.now ∷ [])) }
 {
     if let Body::Pointer(pointer) = &winner.entry.body {
         if let Some(rule) = pointer_rule(region, layout, taken, winner.entry.key, *pointer) {
@@ -92,7 +96,8 @@ fn block_fault<R: Region>(
     winners: &[PlacedEntry],
 ) -> Result<Option<Fault>, Memory>
     requires covers { Covers (R.state region.now).frame layout.now }
-    ensures { IfOk result (λ f. IsTelling (R.state region.now) → f ≡ winners_fault layout.now (lasts (R.state region.now)) [] winners.now) }
+    ensures { IfOk result (λ f. IsTelling (R.state region.now)
+        → f ≡ winners_fault layout.now (lasts (R.state region.now)) [] winners.now) }
 {
     let mut taken = BTreeSet::new(alloc);
     for winner in winners {
@@ -111,7 +116,8 @@ fn compared_entries<R: Region>(
     layout: &Layout,
 ) -> Result<Result<Vec<PlacedEntry>, Fault>, Memory>
     requires covers { Covers (R.state region.now).frame layout.now }
-    ensures told { IfOk result (λ r. IsTelling (R.state region.now) → Agrees layout.now (lasts (R.state region.now)) r) }
+    ensures told { IfOk result (λ r. IsTelling (R.state region.now)
+        → Agrees layout.now (lasts (R.state region.now)) r) }
     ensures order { IfOk result (λ r. IfOk r (λ entries. IsInOrder entries.items)) }
     ensures spelled { IfOk result (λ r. IfOk r (λ entries. AreSpelled entries.items)) }
 {
@@ -135,7 +141,8 @@ pub fn agreed_entries<R: Region>(
     layout: &Layout,
 ) -> Result<Result<Vec<PlacedEntry>, Fault>, Memory>
     requires covers { Covers (R.state region.now).frame layout.now }
-    ensures told { IfOk result (λ r. IsTelling (R.state region.now) → Agrees layout.now (lasts (R.state region.now)) r) }
+    ensures told { IfOk result (λ r. IsTelling (R.state region.now)
+        → Agrees layout.now (lasts (R.state region.now)) r) }
     ensures order { IfOk result (λ r. IfOk r (λ entries. IsInOrder entries.items)) }
     ensures spelled { IfOk result (λ r. IfOk r (λ entries. AreSpelled entries.items)) }
 {
@@ -160,8 +167,11 @@ pub fn judge<R: Region>(
 ) -> Result<Result<Vec<PlacedEntry>, Fault>, Memory>
     requires covers { Covers (R.state region.now).frame layout.now }
     requires order { IsInOrder entries.items }
-    ensures told { IfOk result (λ r. IsTelling (R.state region.now) → AreAgreed layout.now (lasts (R.state region.now)) entries.items → Judges layout.now (lasts (R.state region.now)) r) }
-    ensures winners { IfOk result (λ r. IfOk r (λ winners. winners.items ≡ winners_of entries.items)) }
+    ensures told { IfOk result (λ r. IsTelling (R.state region.now)
+        → AreAgreed layout.now (lasts (R.state region.now)) entries.items
+        → Judges layout.now (lasts (R.state region.now)) r) }
+    ensures winners { IfOk result (λ r. IfOk r (λ winners. winners.items
+        ≡ winners_of entries.items)) }
 {
     let winners = winners(alloc, entries)?;
     match block_fault(alloc, region, layout, &winners)? {

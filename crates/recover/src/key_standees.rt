@@ -40,7 +40,8 @@ fn start_list(
     key: Key,
     standee: Standee,
 ) -> Result<(), Memory>
-    ensures { OnOk result (standees_at standing.old key ≡ [] → StandsMore standing.old standing.new key standee) }
+    ensures { OnOk result (standees_at standing.old key ≡ []
+        → StandsMore standing.old standing.new key standee) }
 {
     let mut list = Vec::with_capacity(alloc, 1)?;
     list.push(standee)?;
@@ -56,7 +57,8 @@ fn enter(
     standee: Standee,
     new_key: bool,
 ) -> Result<(), Memory>
-    ensures { OnOk result ((new_key ≡ true → standees_at standing.old key ≡ []) → StandsMore standing.old standing.new key standee) }
+    ensures { OnOk result ((new_key ≡ true → standees_at standing.old key ≡ [])
+        → StandsMore standing.old standing.new key standee) }
 {
     if new_key {
         return start_list(alloc, standing, key, standee);
@@ -65,7 +67,8 @@ fn enter(
 }
 
 fn same_name(x: &PlacedEntry, y: &PlacedEntry) -> bool
-    ensures { result ≡ (x.now.entry.key == y.now.entry.key && x.now.entry.version == y.now.entry.version) }
+    ensures { result ≡ (x.now.entry.key == y.now.entry.key && x.now.entry.version ==
+        y.now.entry.version) }
 {
     x.entry.key == y.entry.key && x.entry.version == y.entry.version
 }
@@ -74,7 +77,8 @@ fn same_name(x: &PlacedEntry, y: &PlacedEntry) -> bool
 fn is_first(sorted: &[PlacedEntry], at: usize) -> bool
     requires order { IsInOrder sorted.now }
     requires at { at < length sorted.now }
-    ensures { (d : PlacedEntry) → result ≡ is_first (take at sorted.now) (slice_index_or sorted.now at d) }
+    ensures { (d : PlacedEntry) → result ≡ is_first (take at sorted.now)
+        (slice_index_or sorted.now at d) }
 {
     if at == 0 {
         return true;
@@ -86,7 +90,8 @@ fn is_first(sorted: &[PlacedEntry], at: usize) -> bool
 fn is_new_key(sorted: &[PlacedEntry], at: usize) -> bool
     requires order { IsInOrder sorted.now }
     requires at { at < length sorted.now }
-    ensures { (d : PlacedEntry) → result ≡ true → HasNoKey (slice_index_or sorted.now at d).entry.key (take at sorted.now) }
+    ensures { (d : PlacedEntry) → result ≡ true → HasNoKey
+        (slice_index_or sorted.now at d).entry.key (take at sorted.now) }
 {
     if at == 0 {
         return true;
@@ -103,7 +108,9 @@ fn note(
     first: bool,
     new_key: bool,
 ) -> Result<(), Memory>
-    ensures { IfOk result (λ _. (es : List PlacedEntry) → first ≡ is_first es x.now → (new_key ≡ true → HasNoKey x.now.entry.key es) → HasStandees standing.old es → HasStandees standing.new (es ++ x.now ∷ [])) }
+    ensures { IfOk result (λ _. (es : List PlacedEntry) → first ≡ is_first es x.now
+        → (new_key ≡ true → HasNoKey x.now.entry.key es) → HasStandees standing.old es
+        → HasStandees standing.new (es ++ x.now ∷ [])) }
 {
     if first {
         let standee = Standee {

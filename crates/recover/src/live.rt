@@ -18,7 +18,7 @@ use log_entry::Body;
 use pm_region::Region;
 use std::alloc::Global;
 use store_image::geometry::owner;
-use store_image::image_cells::push_pair;
+use store_image::live_pair::push_pair;
 use store_image::{Fault, PlacedEntry};
 
 /// The value that an entry leaves, where it leaves one. A value in a block of the part is read from the region.
@@ -31,7 +31,8 @@ fn value_left<R: Region>(
 ) -> Result<Option<Value>, Memory>
     requires covers { Covers (R.state region.now).frame layout.now }
     requires part { part < layout.now.cores }
-    ensures { IfOk result (λ v. IsTelling (R.state region.now) → v ≡ cell_by (held layout.now (lasts (R.state region.now)) part) body) }
+    ensures { IfOk result (λ v. IsTelling (R.state region.now)
+        → v ≡ cell_by (held layout.now (lasts (R.state region.now)) part) body) }
 {
     match body {
         Body::Pointer(pointer) => {
@@ -51,7 +52,8 @@ fn pairs_left<R: Region>(
     winners: Vec<PlacedEntry>,
 ) -> Result<Vec<Pair>, Memory>
     requires covers { Covers (R.state region.now).frame layout.now }
-    ensures { IfOk result (λ pairs. IsTelling (R.state region.now) → pairs.items ≡ pairs_by layout.now (lasts (R.state region.now)) winners.items) }
+    ensures { IfOk result (λ pairs. IsTelling (R.state region.now)
+        → pairs.items ≡ pairs_by layout.now (lasts (R.state region.now)) winners.items) }
 {
     let mut pairs = Vec::new(alloc);
     for x in winners {
@@ -70,7 +72,8 @@ fn judged_pairs<R: Region>(
     layout: &Layout,
 ) -> Result<Result<Vec<Pair>, Fault>, Memory>
     requires covers { Covers (R.state region.now).frame layout.now }
-    ensures { IfOk result (λ r. IsTelling (R.state region.now) → Lists layout.now (lasts (R.state region.now)) r) }
+    ensures { IfOk result (λ r. IsTelling (R.state region.now)
+        → Lists layout.now (lasts (R.state region.now)) r) }
 {
     let entries = match agreed_entries(alloc, region, layout)? {
         Ok(entries) => entries,

@@ -27,8 +27,10 @@ pub fn heads<R: Region>(
     requires covers { Covers (R.state region.now).frame layout.now }
     requires part { part < layout.now.cores }
     ensures count { IfOk result (λ r. IfOk r (λ heads. length heads.items ≡ layout.now.chunks)) }
-    ensures fits { IfOk result (λ r. IfOk r (λ heads. AllByRecursion (FitsHead layout.now) heads.items)) }
-    ensures told { IfOk result (λ r. IsTelling (R.state region.now) → HasHeads layout.now (lasts (R.state region.now)) part r) }
+    ensures fits { IfOk result (λ r. IfOk r (λ heads. AllByRecursion
+        (FitsHead layout.now) heads.items)) }
+    ensures told { IfOk result (λ r. IsTelling (R.state region.now)
+        → HasHeads layout.now (lasts (R.state region.now)) part r) }
 {
     let mut heads = Vec::with_capacity(alloc, layout.chunks() as usize)?;
     for chunk in 0..layout.chunks() {
@@ -72,7 +74,8 @@ pub fn log_chunks(alloc: Global, layout: &Layout, heads: &[Head]) -> Result<Vec<
     requires fits { AllByRecursion (FitsHead layout.now) heads.now }
     ensures each { IfOk result (λ logs. AllByRecursion (IsChunkOf layout.now) logs.items) }
     ensures once { IfOk result (λ logs. HasEachOnce logs.items) }
-    ensures tails { IfOk result (λ logs. (j : ℕ) → tail_of logs.items j ≡ tail_there (slice_get heads.now j)) }
+    ensures tails { IfOk result (λ logs. (j : ℕ) → tail_of logs.items j
+        ≡ tail_there (slice_get heads.now j)) }
 {
     let mut logs = Vec::new(alloc);
     for chunk in 0..layout.chunks() {

@@ -47,7 +47,8 @@ fn is_dead(known: &Record, version: Version) -> bool
 
 // Tells a name dead, where it is.
 fn kill_if(standing: &mut Standing, name: EntryName, dead: bool)
-    ensures { Tells standing.old standing.new (λ k v. dead && name_eq (name.key, name.version) (k, v)) }
+    ensures { Tells standing.old standing.new (λ k v. dead && name_eq (name.key, name.version)
+        (k, v)) }
 {
     if dead {
         standing.kill(name);
@@ -56,7 +57,8 @@ fn kill_if(standing: &mut Standing, name: EntryName, dead: bool)
 
 // Tells the dead ones of a key's entries dead.
 fn tell_key(standing: &mut Standing, known: &Record)
-    ensures { Tells standing.old standing.new (λ k v. known.now.key == k && has_dead known.now known.now.standing.items v) }
+    ensures { Tells standing.old standing.new (λ k v. known.now.key == k && has_dead known.now
+        known.now.standing.items v) }
 {
     for s in &known.standing {
         let name = EntryName {

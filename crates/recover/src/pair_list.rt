@@ -25,12 +25,14 @@ use pm_region::Region;
 use std::alloc::Global;
 use std::collections::BTreeSet;
 use store_image::geometry::owner;
-use store_image::image_cells::push_pair;
+use store_image::live_pair::push_pair;
 
 /// Puts a core's live keys in.
 fn add_live(alloc: Global, index: &CoreIndex, keys: &mut BTreeSet<Key>) -> Result<(), Memory>
-    ensures kept { IfOk result (λ _. (k : ℕ) → contains nat_cmp keys.old k ≡ true → contains nat_cmp keys.new k ≡ true) }
-    ensures live { IfOk result (λ _. (k v : ℕ) → live_version (known_at index.now k) ≡ Some v → contains nat_cmp keys.new k ≡ true) }
+    ensures kept { IfOk result (λ _. (k : ℕ) → contains nat_cmp keys.old k ≡ true
+        → contains nat_cmp keys.new k ≡ true) }
+    ensures live { IfOk result (λ _. (k v : ℕ) → live_version (known_at index.now k) ≡ Some v
+        → contains nat_cmp keys.new k ≡ true) }
 {
     let names = index.live(alloc)?;
     for name in &names {
@@ -41,7 +43,9 @@ fn add_live(alloc: Global, index: &CoreIndex, keys: &mut BTreeSet<Key>) -> Resul
 
 /// The live keys of all cores.
 fn live_keys(alloc: Global, starts: &[CoreStart]) -> Result<BTreeSet<Key>, Memory>
-    ensures { IfOk result (λ keys. (c k v : ℕ) (d : CoreStart) → c < length starts.now → live_version (known_at (slice_index_or starts.now c d).index k) ≡ Some v → contains nat_cmp keys k ≡ true) }
+    ensures { IfOk result (λ keys. (c k v : ℕ) (d : CoreStart) → c < length starts.now
+        → live_version (known_at (slice_index_or starts.now c d).index k) ≡ Some v
+        → contains nat_cmp keys k ≡ true) }
 {
     let mut keys = BTreeSet::new(alloc);
     for start in starts {
@@ -60,7 +64,9 @@ fn known_cell<R: Region>(
     key: Key,
 ) -> Result<Option<Value>, Memory>
     requires covers { Covers (R.state region.now).frame layout.now }
-    ensures { IfOk result (λ v. IsTelling (R.state region.now) → v ≡ cell_known (held layout.now (lasts (R.state region.now)) (owner layout.now key)) (known_at index.now key)) }
+    ensures { IfOk result (λ v. IsTelling (R.state region.now)
+        → v ≡ cell_known (held layout.now (lasts (R.state region.now)) (owner layout.now key))
+        (known_at index.now key)) }
 {
     match index.look(key) {
         Look::Block(pointer) => {
@@ -81,7 +87,9 @@ fn cell<R: Region>(
     key: Key,
 ) -> Result<Option<Value>, Memory>
     requires covers { Covers (R.state region.now).frame found.now.layout }
-    ensures { IfOk result (λ v. IsTelling (R.state region.now) → IsOf found.now.layout (lasts (R.state region.now)) found.now → v ≡ recovered found.now.layout (lasts (R.state region.now)) key) }
+    ensures { IfOk result (λ v. IsTelling (R.state region.now)
+        → IsOf found.now.layout (lasts (R.state region.now)) found.now
+        → v ≡ recovered found.now.layout (lasts (R.state region.now)) key) }
 {
     let owner = owner(&found.layout.geometry(), key);
     match found.starts.get(owner as usize) {
@@ -100,8 +108,10 @@ pub fn pairs<R: Region>(
     recovered: &Recovered,
 ) -> Result<Vec<Pair>, Memory>
     requires covers { Covers (R.state region.now).frame recovered.now.layout }
-    requires found { IsTelling (R.state region.now) → IsFound (total_bytes recovered.now.layout) (lasts (R.state region.now)) recovered.now }
-    ensures { IfOk result (λ pairs. IsTelling (R.state region.now) → ListsCells (cells_found (lasts (R.state region.now))) pairs.items) }
+    requires found { IsTelling (R.state region.now)
+        → IsFound (total_bytes recovered.now.layout) (lasts (R.state region.now)) recovered.now }
+    ensures { IfOk result (λ pairs. IsTelling (R.state region.now)
+        → ListsCells (cells_found (lasts (R.state region.now))) pairs.items) }
 {
     let keys = live_keys(alloc, &recovered.starts)?;
     let mut pairs = Vec::new(alloc);

@@ -25,7 +25,8 @@ use store_image::Fault;
 /// The first of rules 4 to 11 that a region of this layout breaks.
 fn damage<R: Region>(alloc: Global, region: &R, layout: &Layout) -> Result<Option<Fault>, Memory>
     requires covers { Covers (R.state region.now).frame layout.now }
-    ensures { IfOk result (λ f. IsTelling (R.state region.now) → f ≡ damage layout.now (lasts (R.state region.now))) }
+    ensures { IfOk result (λ f. IsTelling (R.state region.now)
+        → f ≡ damage layout.now (lasts (R.state region.now))) }
 {
     match agreed_entries(alloc, region, layout)? {
         Err(fault) => Ok(Some(fault)),
@@ -47,8 +48,10 @@ pub fn first_fault<R: Region>(
 ) -> Result<Option<Fault>, Memory>
     requires first { (R.state region.now).frame.first ≡ 0 }
     requires words { IsLength bytes → (R.state region.now).frame.words ≡ bytes / 8 }
-    ensures first { IfOk result (λ f. IsTelling (R.state region.now) → f ≡ first_fault bytes (lasts (R.state region.now))) }
-    ensures sound { IfOk result (λ f. IsTelling (R.state region.now) → (f ≡ None) ↔ IsStore bytes (lasts (R.state region.now))) }
+    ensures first { IfOk result (λ f. IsTelling (R.state region.now)
+        → f ≡ first_fault bytes (lasts (R.state region.now))) }
+    ensures sound { IfOk result (λ f. IsTelling (R.state region.now) → (f ≡ None)
+        ↔ IsStore bytes (lasts (R.state region.now))) }
 {
     match read_superblock(region, bytes) {
         Err(bad) => Ok(Some(Fault::NotARegion { rule: bad.rule })),
@@ -67,8 +70,10 @@ fn judged_shares<R: Region>(
 ) -> Result<Result<Vec<Share>, Fault>, Memory>
     requires covers { Covers (R.state region.now).frame layout.now }
     ensures count { IfOk result (λ r. IfOk r (λ shares. length shares.items ≡ layout.now.cores)) }
-    ensures made { IfOk result (λ r. IfOk r (λ shares. (c : ℕ) (d : Share) → c < layout.now.cores → IsShared layout.now c (slice_index_or shares.items c d))) }
-    ensures told { IfOk result (λ r. IsTelling (R.state region.now) → Shares layout.now (lasts (R.state region.now)) r) }
+    ensures made { IfOk result (λ r. IfOk r (λ shares. (c : ℕ) (d : Share) → c < layout.now.cores
+        → IsShared layout.now c (slice_index_or shares.items c d))) }
+    ensures told { IfOk result (λ r. IsTelling (R.state region.now)
+        → Shares layout.now (lasts (R.state region.now)) r) }
 {
     let entries = match agreed_entries(alloc, region, layout)? {
         Ok(entries) => entries,
@@ -92,7 +97,10 @@ fn recovered<R: Region>(
 ) -> Result<Result<Recovered, Fault>, Memory>
     requires covers { Covers (R.state region.now).frame layout }
     ensures made { IfOk result (λ r. IfOk r (IsMade (total_bytes layout))) }
-    ensures told { IfOk result (λ r. IsTelling (R.state region.now) → (damage layout (lasts (R.state region.now)) ≡ None → KeepsRules layout (lasts (R.state region.now))) → Restores layout (lasts (R.state region.now)) r) }
+    ensures told { IfOk result (λ r. IsTelling (R.state region.now)
+        → (damage layout (lasts (R.state region.now)) ≡ None
+        → KeepsRules layout (lasts (R.state region.now)))
+        → Restores layout (lasts (R.state region.now)) r) }
 {
     let shares = match judged_shares(alloc, region, &layout)? {
         Ok(shares) => shares,
@@ -111,7 +119,8 @@ pub fn recover<R: Region>(alloc: Global, region: &R, bytes: u64) -> Result<Recov
     requires words { IsLength bytes → (R.state region.now).frame.words ≡ bytes / 8 }
     // Whatever the region tells.
     ensures made { IfOk result (IsMade bytes) }
-    ensures told { IsTelling (R.state region.now) → Recovers bytes (lasts (R.state region.now)) result }
+    ensures told { IsTelling (R.state region.now) → Recovers bytes
+        (lasts (R.state region.now)) result }
     // Where each word is certain, each log stands in the region.
     ensures stands { IsCertain (R.state region.now) → IfOk result (AllStand (R.state region.now)) }
 {

@@ -6,36 +6,39 @@ ghost use Rattle.chunk_map.specs.Layouts.{total_bytes};
 ghost use Rattle.store_image.specs.Parts.{block_class, held};
 ghost use Rattle.recover.specs.Regions.{Covers};
 
+use chunk_map::layout_sizes::{FIRST_UNIT, SUPERBLOCK_WORDS, UNIT_BYTES};
 use chunk_map::{Head, Layout, read_head};
 use fs_errors::Memory;
 use fs_model::Value;
 use lazy_alloc::value_in;
-use pm_region::Region;
+use pm_region::{Region, WORD_BYTES};
 use std::alloc::Global;
-use store_image::image_blocks::is_start;
+use store_image::block_starts::is_start;
 
 /// The class of the block that begins at a pointer, where a block of the part does. A pointer is the number
 /// of the block's first byte in the region divided by 256.
 pub fn block_class<R: Region>(region: &R, layout: &Layout, part: u32, pointer: u64) -> Option<u32>
     requires covers { Covers (R.state region.now).frame layout.now }
     requires part { part < layout.now.cores }
-    ensures told { IsTelling (R.state region.now) → result ≡ block_class layout.now (lasts (R.state region.now)) part pointer }
+    ensures told { IsTelling (R.state region.now) → result
+        ≡ block_class layout.now (lasts (R.state region.now)) part pointer }
     ensures small { IfSome result (λ class. class ≤ 12) }
-    ensures within { IfSome result (λ class. 32 * pointer + 32 * 2 ^ class ≤ total_bytes layout.now / 8) }
+    ensures within { IfSome result (λ class. 32 * pointer + 32 * 2 ^ class
+        ≤ total_bytes layout.now / 8) }
 {
-    if pointer < 16 {
+    if pointer < FIRST_UNIT {
         return None;
     }
     let geometry = layout.geometry();
-    let units = geometry.chunk_bytes / 256;
-    let chunk = (pointer - 16) / units;
+    let units = geometry.chunk_bytes / UNIT_BYTES;
+    let chunk = (pointer - FIRST_UNIT) / units;
     if chunk / geometry.chunks as u64 != part as u64 {
         return None;
     }
-    let at = 512 + chunk * (geometry.chunk_bytes / 8);
+    let at = SUPERBLOCK_WORDS + chunk * (geometry.chunk_bytes / WORD_BYTES);
     match read_head(region, layout, at) {
         Ok(Head::Data { class }) => {
-            if is_start(&geometry, class, (pointer - 16) % units) {
+            if is_start(&geometry, class, (pointer - FIRST_UNIT) % units) {
                 Some(class)
             } else {
                 None
@@ -56,7 +59,8 @@ pub fn held<R: Region>(
 ) -> Result<Option<Value>, Memory>
     requires covers { Covers (R.state region.now).frame layout.now }
     requires part { part < layout.now.cores }
-    ensures { IfOk result (λ v. IsTelling (R.state region.now) → v ≡ held layout.now (lasts (R.state region.now)) part pointer) }
+    ensures { IfOk result (λ v. IsTelling (R.state region.now)
+        → v ≡ held layout.now (lasts (R.state region.now)) part pointer) }
 {
     match block_class(region, layout, part, pointer) {
         None => Ok(None),

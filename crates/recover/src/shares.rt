@@ -49,8 +49,10 @@ fn record_of(alloc: Global, standing: &mut BTreeMap<Key, Vec<Standee>>, winner: 
 
 /// Appends a record, and its pointer where it has one.
 fn add(share: &mut Share, known: Record) -> Result<(), Memory>
-    ensures records { OnOk result (share.new.records.items ≡ share.old.records.items ++ known ∷ []) }
-    ensures pointers { OnOk result (share.new.pointers.items ≡ share.old.pointers.items ++ option_to_list (pointer_of known.body)) }
+    ensures records { OnOk result (share.new.records.items ≡ share.old.records.items
+        ++ known ∷ []) }
+    ensures pointers { OnOk result (share.new.pointers.items ≡ share.old.pointers.items
+        ++ option_to_list (pointer_of known.body)) }
 {
     if let Body::Pointer(pointer) = &known.body {
         share.pointers.push(*pointer)?;
@@ -70,7 +72,8 @@ fn give(
     requires layout { IsLayout layout.now }
     requires count { length shares.old.items ≡ layout.now.cores }
     ensures count { length shares.new.items ≡ layout.now.cores }
-    ensures gives { OnOk result (Gives layout.now shares.old.items shares.new.items standing.old standing.new winner) }
+    ensures gives { OnOk result (Gives layout.now shares.old.items shares.new.items standing.old
+        standing.new winner) }
 {
     let owner = owner(&layout.geometry(), winner.entry.key) as usize;
     let record = record_of(alloc, standing, winner.entry);
@@ -101,7 +104,8 @@ pub fn shares(
 ) -> Result<Vec<Share>, Memory>
     requires { IsLayout layout.now }
     ensures count { IfOk result (λ shares. length shares.items ≡ layout.now.cores) }
-    ensures shares { IfOk result (λ shares. (es : List PlacedEntry) → winners.items ≡ winners_of es → HasStandees standing es → AreShares layout.now es shares.items) }
+    ensures shares { IfOk result (λ shares. (es : List PlacedEntry) → winners.items ≡ winners_of es
+        → HasStandees standing es → AreShares layout.now es shares.items) }
 {
     let mut shares = no_shares(alloc, layout)?;
     let mut standing = standing;

@@ -5,7 +5,7 @@ ghost use Rattle.recover.specs.ByName.{IsInOrder, IsByName};
 
 use fs_errors::Memory;
 use store_image::PlacedEntry;
-use store_image::entry_rules::contradicts;
+use store_image::contradictions::contradicts;
 
 /// The entries by rising key, and those of a key by rising version. Entries of one key and version keep their order.
 pub fn by_name(entries: Vec<PlacedEntry>) -> Result<Vec<PlacedEntry>, Memory>

@@ -42,9 +42,11 @@ fn own_standing<R: Region>(
     requires lies { LiesIn (R.state region.now).frame log.now }
     requires spelled { IsSpelled (R.state region.now) log.now }
     requires records { AllByRecursion (IsBareOrKnown records.now) records.now }
-    ensures told { IfOk result (λ standing. (es : List (ℕ × Place)) → ((k : ℕ) → known_at es k ≡ opened_in records.now k) → TellsOwn standing es) }
+    ensures told { IfOk result (λ standing. (es : List (ℕ × Place))
+        → ((k : ℕ) → known_at es k ≡ opened_in records.now k) → TellsOwn standing es) }
     ensures settled { IfOk result (λ standing. standing.settled ≡ None) }
-    ensures counts { IfOk result (λ standing. IsTelling (R.state region.now) → IsStandingOf (R.state region.now) log.now standing) }
+    ensures counts { IfOk result (λ standing. IsTelling (R.state region.now)
+        → IsStandingOf (R.state region.now) log.now standing) }
 {
     let mut standing = standing_of(alloc, region, log)?;
     tell_own(&mut standing, records);
@@ -62,10 +64,13 @@ fn start<R: Region>(
     requires covers { Covers (R.state region.now).frame layout.now }
     requires core { core < layout.now.cores }
     requires share { IsShared layout.now core share }
-    requires spelled { IsTelling (R.state region.now) → AllSpell layout.now (lasts (R.state region.now)) }
+    requires spelled { IsTelling (R.state region.now)
+        → AllSpell layout.now (lasts (R.state region.now)) }
     ensures made { IfOk result (λ r. IfOk r (IsStart layout.now core)) }
-    ensures told { IfOk result (λ r. IsTelling (R.state region.now) → KeepsRules layout.now (lasts (R.state region.now))
-        → IsShare layout.now (all_entries layout.now (lasts (R.state region.now))) core share → Starts layout.now (lasts (R.state region.now)) core r) }
+    ensures told { IfOk result (λ r. IsTelling (R.state region.now)
+        → KeepsRules layout.now (lasts (R.state region.now))
+        → IsShare layout.now (all_entries layout.now (lasts (R.state region.now))) core share
+        → Starts layout.now (lasts (R.state region.now)) core r) }
 {
     let heads = match heads(alloc, region, layout, core)? {
         Ok(heads) => heads,
@@ -94,12 +99,17 @@ pub fn starts<R: Region>(
 ) -> Result<Result<Vec<CoreStart>, Fault>, Memory>
     requires covers { Covers (R.state region.now).frame layout.now }
     requires count { length shares.items ≡ layout.now.cores }
-    requires shares { (c : ℕ) (d : Share) → c < layout.now.cores → IsShared layout.now c (slice_index_or shares.items c d) }
-    requires spelled { IsTelling (R.state region.now) → AllSpell layout.now (lasts (R.state region.now)) }
+    requires shares { (c : ℕ) (d : Share) → c < layout.now.cores
+        → IsShared layout.now c (slice_index_or shares.items c d) }
+    requires spelled { IsTelling (R.state region.now)
+        → AllSpell layout.now (lasts (R.state region.now)) }
     ensures count { IfOk result (λ r. IfOk r (λ starts. length starts.items ≡ layout.now.cores)) }
-    ensures made { IfOk result (λ r. IfOk r (λ starts. (c : ℕ) (d : CoreStart) → c < layout.now.cores → IsStart layout.now c (slice_index_or starts.items c d))) }
-    ensures told { IfOk result (λ r. IsTelling (R.state region.now) → KeepsRules layout.now (lasts (R.state region.now))
-        → AreShares layout.now (all_entries layout.now (lasts (R.state region.now))) shares.items → AllStart layout.now (lasts (R.state region.now)) r) }
+    ensures made { IfOk result (λ r. IfOk r (λ starts. (c : ℕ) (d : CoreStart)
+        → c < layout.now.cores → IsStart layout.now c (slice_index_or starts.items c d))) }
+    ensures told { IfOk result (λ r. IsTelling (R.state region.now)
+        → KeepsRules layout.now (lasts (R.state region.now))
+        → AreShares layout.now (all_entries layout.now (lasts (R.state region.now))) shares.items
+        → AllStart layout.now (lasts (R.state region.now)) r) }
 {
     let mut starts = Vec::with_capacity(alloc, shares.len())?;
     let mut core = 0;

@@ -59,7 +59,8 @@ fn judged(alloc: Global, writes: &[(u64, u64)]) -> Result<Option<Fault>, Fail> {
 
 /// How many blocks of 512 bytes are free in a core's part. Each layout has that class.
 fn free_small_blocks(recovered: &Recovered, core: usize) -> Option<u32>
-    requires { (c : ℕ) (d : CoreStart) → c < length recovered.now.starts.items → IsLayout (slice_index_or recovered.now.starts.items c d).allocator.layout }
+    requires { (c : ℕ) (d : CoreStart) → c < length recovered.now.starts.items
+        → IsLayout (slice_index_or recovered.now.starts.items c d).allocator.layout }
 {
     match recovered.starts.get(core) {
         Some(start) => Some(start.allocator.free_blocks(1)),

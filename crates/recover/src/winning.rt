@@ -30,7 +30,8 @@ fn is_older(winners: &[PlacedEntry], x: &PlacedEntry) -> bool
 
 /// Takes the last winner out, where it has the entry's key.
 fn make_way(winners: &mut Vec<PlacedEntry>, x: &PlacedEntry)
-    ensures { (ws : List PlacedEntry) → winners.old.items ≡ reverse ws → winners.new.items ≡ reverse (without x.now ws) }
+    ensures { (ws : List PlacedEntry) → winners.old.items ≡ reverse ws
+        → winners.new.items ≡ reverse (without x.now ws) }
 {
     if is_of_key(winners, x) {
         let _ = winners.pop();
@@ -40,7 +41,8 @@ fn make_way(winners: &mut Vec<PlacedEntry>, x: &PlacedEntry)
 /// Puts an entry in front of those that were taken before, whose winners stand with the first key last. It wins its
 /// key, but against a greater version.
 fn take(winners: &mut Vec<PlacedEntry>, x: PlacedEntry) -> Result<(), Memory>
-    ensures { IfOk result (λ _. (ws : List PlacedEntry) → winners.old.items ≡ reverse ws → winners.new.items ≡ reverse (with_winner x ws)) }
+    ensures { IfOk result (λ _. (ws : List PlacedEntry) → winners.old.items ≡ reverse ws
+        → winners.new.items ≡ reverse (with_winner x ws)) }
 {
     if is_older(winners, &x) {
         return Ok(());

@@ -1,14 +1,11 @@
 -- One step of a scan, at a place of a list.
-use Rattle.std.proofs.Common.{◌≡◌, ◌≢◌, ℕ, zero, suc, ◌+◌, ◌-◌, ◌%◌, ◌<◌, ◌≤◌, List, ◌∷◌, length, take, drop, get_or, refl, sym, ◌∙◌, ap, arith, ◌==◌, ◌&&◌, not, true, false, Bool}
-use Rattle.std.proofs.lemmas.List.{drop_more, take_more}
-use Rattle.std.proofs.lemmas.Bool.{ne_eqb, eq-eqb, cond-false}
-use Rattle.std.specs.List.{list_any}
+use Rattle.std.proofs.Common.{◌≡◌, ◌≢◌, ℕ, zero, suc, ◌+◌, ◌-◌, ◌%◌, ◌<◌, ◌≤◌, List, ◌∷◌, length, drop, get_or, refl, sym, ◌∙◌, ap, arith, ◌==◌, ◌&&◌, not, true, false, Bool}
+use Rattle.std.proofs.lemmas.List.{drop_more}
+use Rattle.std.proofs.lemmas.Bool.{ne_eqb, eq-eqb}
 use Rattle.log_entry.specs.declared.entry.Entry.{Entry}
 use Rattle.log_entry.specs.declared.entry.Read.TheVariants as reads
 use Rattle.log_entry.specs.Reading.{read}
 use Rattle.log_entry.specs.Batches.{broken, with_entry, scan}
-use Rattle.store_image.specs.declared.types.PlacedEntry.{PlacedEntry}
-use Rattle.store_image.specs.Soundness.{contradicts, clash_after}
 
 module _ (ws : List ℕ) (p : ℕ) (within : p < length ws) where
   more : drop p ws ≡ get_or ws p 0 ∷ drop (p + 1) ws
@@ -51,8 +48,3 @@ module _ (ws : List ℕ) (p left : ℕ) (padded : Bool) (within : p < length ws)
 
   pub pads : reads.Padding ≡ read (drop p ws) → p % 8 ≢ 0 → scan p left padded (drop p ws) ≡ scan (p + 1) 0 true (drop (p + 1) ws)
   pads is line = ap (λ k. scan p k padded (drop p ws)) is_zero ∙ pad_at ws p within padded outside (sym is) line
-
--- no entry up to place i contradicts one before it, nor does the next
-pub clash_step : (es : List PlacedEntry) (i : ℕ) (x : PlacedEntry) → i < length es → list_any (contradicts (get_or es i x)) (take i es) ≡ false → clash_after (take i es) (drop i es) ≡ clash_after (take (i + 1) es) (drop (i + 1) es)
-clash_step es i x within none =
-    ap (clash_after (take i es)) (drop_more es i x within) ∙ cond-false _ _ _ none ∙ ap (λ before. clash_after before (drop (i + 1) es)) (sym (take_more es i x within))

@@ -13,19 +13,25 @@ In x (y ∷ ys) = (x ≡ y) ⊎ In x ys
 
 -- two entries of one key and version have one body and stand in one part
 abbrev pub Agree : List PlacedEntry → Type 0
-Agree es = (x y : PlacedEntry) → In x es → In y es → x.entry.key ≡ y.entry.key → x.entry.version ≡ y.entry.version → (x.entry.body ≡ y.entry.body) × (x.core ≡ y.core)
+Agree es = (x y : PlacedEntry) → In x es → In y es → x.entry.key ≡ y.entry.key
+    → x.entry.version ≡ y.entry.version → (x.entry.body ≡ y.entry.body) × (x.core ≡ y.core)
 
 -- rules 4 to 11 of an image with this layout
 pub record KeepsRules (l : Geometry) (image : ℕ → ℕ) : Type 0 where
   -- each head is one, and the words up to a log's tail spell batches
-  pub reads : (c j : ℕ) → c < l.cores → j < l.chunks → chunk_reads l image (chunk_first l c j) ≡ true
+  pub reads : (c j : ℕ) → c < l.cores → j < l.chunks
+      → chunk_reads l image (chunk_first l c j) ≡ true
   -- each key is owned by a core of the part's group
-  pub grouped : (c j : ℕ) (x : PlacedEntry) → c < l.cores → j < l.chunks → In x (chunk_entries l image c j) → is_of_group l c x.entry.key ≡ true
+  pub grouped : (c j : ℕ) (x : PlacedEntry) → c < l.cores → j < l.chunks
+      → In x (chunk_entries l image c j) → is_of_group l c x.entry.key ≡ true
   pub agree : Agree (all_entries l image)
-  -- the pointer of a key's winner is that of a block of the owner's part, with a length of its class
-  pub holds : (k p : ℕ) (x : PlacedEntry) → winner_in k (all_entries l image) ≡ Some x → x.entry.body ≡ Pointer p → held l image (owner l k) p ≡ Some (block_bytes image p)
+  -- a winner's pointer is that of a block of the owner's part, with a length of its class
+  pub holds : (k p : ℕ) (x : PlacedEntry) → winner_in k (all_entries l image) ≡ Some x
+      → x.entry.body ≡ Pointer p → held l image (owner l k) p ≡ Some (block_bytes image p)
   -- and no other key's winner has it
-  pub own : (j k p : ℕ) (x y : PlacedEntry) → winner_in j (all_entries l image) ≡ Some x → winner_in k (all_entries l image) ≡ Some y → x.entry.body ≡ Pointer p → y.entry.body ≡ Pointer p → j ≡ k
+  pub own : (j k p : ℕ) (x y : PlacedEntry) → winner_in j (all_entries l image) ≡ Some x
+      → winner_in k (all_entries l image) ≡ Some y → x.entry.body ≡ Pointer p
+      → y.entry.body ≡ Pointer p → j ≡ k
 
 -- all eleven
 pub record IsStore (bytes : ℕ) (image : ℕ → ℕ) : Type 0 where

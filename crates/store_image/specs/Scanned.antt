@@ -16,5 +16,7 @@ IsScan s found = (shown s.entries.items ≡ found.entries) × (s.whole ≡ found
 -- what was said of place p is what a scan finds there
 abbrev pub IsNext : List ℕ → ℕ → ℕ → Bool → Next → Type 0
 IsNext ws p left padded Stop = scan p left padded (drop p ws) ≡ broken
-IsNext ws p left padded (On left' padded') = scan p left padded (drop p ws) ≡ scan (p + 1) left' padded' (drop (p + 1) ws)
-IsNext ws p left padded (Found e left') = scan p left padded (drop p ws) ≡ with_entry p e (scan (p + 1) left' false (drop (p + 1) ws))
+IsNext ws p left padded (On left' padded') =
+    scan p left padded (drop p ws) ≡ scan (p + 1) left' padded' (drop (p + 1) ws)
+IsNext ws p left padded (Found e left') = scan p left padded (drop p ws)
+    ≡ with_entry p e (scan (p + 1) left' false (drop (p + 1) ws))

@@ -28,12 +28,14 @@ cell_by blocks (Embedded v) = Some v
 cell_by blocks Tombstone = None
 
 abbrev pub recovered : Geometry → (ℕ → ℕ) → ℕ → Option (List ℕ)
-recovered l image k = option_and_then (λ x. cell_by (held l image (owner l k)) x.entry.body) (winner l image k)
+recovered l image k =
+    option_and_then (λ x. cell_by (held l image (owner l k)) x.entry.body) (winner l image k)
 
 -- a rising list of keys with one more
 abbrev pub with_key : ℕ → List ℕ → List ℕ
 with_key k [] = k ∷ []
-with_key k (x ∷ xs) = if nat_lt k x then k ∷ x ∷ xs else (if k == x then x ∷ xs else x ∷ with_key k xs)
+with_key k (x ∷ xs) =
+    if nat_lt k x then k ∷ x ∷ xs else (if k == x then x ∷ xs else x ∷ with_key k xs)
 
 -- the keys of entries, rising
 abbrev pub keys_of : List PlacedEntry → List ℕ

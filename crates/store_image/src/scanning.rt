@@ -6,19 +6,24 @@ ghost use Rattle.store_image.specs.Scanned.{IsScan, IsNext, shown};
 use fs_errors::Memory;
 use log_entry::entry::{Entry, Read};
 use log_entry::entry_reading::read_entry;
+use pm_region::LINE_WORDS;
 use std::alloc::Global;
 
 /// An entry with its place in the payload.
 #[derive(Drop)]
 pub struct AtPlace {
+    /// The entry's first word, counted from the payload's first.
     pub place: u64,
+    /// What stands there.
     pub entry: Entry,
 }
 
 /// The entries up to the end, or up to the first place where none may stand.
 #[derive(Drop)]
 pub struct Scanned {
+    /// The entries by rising place.
     pub entries: Vec<AtPlace>,
+    /// Whether the end was reached.
     pub whole: bool,
 }
 
@@ -45,7 +50,7 @@ enum Next {
 fn is_inside(place: usize, padded: bool) -> bool
     ensures { result ≡ (padded && not (place % 8 == 0)) }
 {
-    padded && place % 8 != 0
+    padded && place as u64 % LINE_WORDS != 0
 }
 
 fn what_follows(
@@ -81,7 +86,7 @@ fn what_follows(
             })
         }
         Read::Padding => {
-            if place % 8 == 0 {
+            if place as u64 % LINE_WORDS == 0 {
                 Ok(Next::Stop)
             } else {
                 Ok(Next::On {

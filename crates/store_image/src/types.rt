@@ -10,6 +10,7 @@ pub struct PlacedEntry {
     pub chunk: u32,
     /// The entry's first word, counted from the payload's first.
     pub place: u64,
+    /// What stands there.
     pub entry: Entry,
 }
 

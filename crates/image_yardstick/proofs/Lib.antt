@@ -1,0 +1,2 @@
+mod BlockReads
+mod ClashSteps
