@@ -10,6 +10,7 @@ use Rattle.group_laws.specs.State.{Group}
 use Rattle.group_laws.specs.MemberViews.{View, view_of}
 use Rattle.group_laws.specs.Regions.{place_at}
 use Rattle.group_board.specs.Seats.{SeatAt}
+use Rattle.group_board.specs.declared.local_board.LocalBoard.{LocalBoard}
 use Rattle.engine_laws.specs.Parts.{group_of, member_of}
 use Rattle.engine_laws.specs.WorkerMoves.{Hands}
 use Rattle.engine_laws.specs.Engine.{Engine}
@@ -23,7 +24,7 @@ use Rattle.core_worker.specs.Openings.{IsNew}
 use Rattle.core_worker.specs.WorkerMoves.{hands_of}
 use Rattle.group_engine.specs.declared.types.Stamped.{Stamped}
 use Rattle.group_engine.specs.Answers.{stored}
-use Rattle.group_engine.specs.Shows.{Seat}
+use Rattle.group_engine.specs.Shows.{Seat, Shows}
 use Rattle.group_engine.specs.Working.{IsMember, may_take, leads, BeginsRequest, MakesTurn, SameButAnswers}
 
 -- Where a run stands: the engine's state, the workers by core, and what is kept of the answers by number: each with its stamp, and with the cause of a refusal.
@@ -44,14 +45,14 @@ abbrev pub with_request : {W : Type 0} → RunState W → Request → RunState W
 with_request e q = run_state (given_to e.engine q) e.workers (e.answers ++ None ∷ [])
 
 -- The worker of member m accepts a request that it is handed: it makes no step, and the region is as it was.
-pub record Begins {W : Type 0} (begins : State → View → W → W → ℕ → Request → Type 0) (m : ℕ) (s t : State) (a b : Group) (w x : W) (y : ℕ × Request) (moved : Bool) : Type 0 where
+pub record TakesIn {W : Type 0} (begins : State → View → W → W → ℕ → Request → Type 0) (m : ℕ) (s t : State) (a b : Group) (w x : W) (y : ℕ × Request) (moved : Bool) : Type 0 where
   pub begun : begins s (view_of a m) w x y.0 y.1
   pub moves : moved ≡ true
   pub region : t ≡ s
   pub group : b ≡ a
 
 -- It makes a turn, at a seat of that member.
-pub record Turns {W : Type 0} (turned : Bool → State → Option Group → SeatAt → View → View → W → W → Type 0) (p : Place) (m : ℕ) (s : State) (a b : Group) (w x : W) (moved : Bool) : Type 0 where
+pub record TakesTurn {W : Type 0} (turned : Bool → State → Option Group → SeatAt → View → View → W → W → Type 0) (p : Place) (m : ℕ) (s : State) (a b : Group) (w x : W) (moved : Bool) : Type 0 where
   pub seat : SeatAt
   pub place : seat.place ≡ p
   pub number : seat.number ≡ m
@@ -59,8 +60,8 @@ pub record Turns {W : Type 0} (turned : Bool → State → Option Group → Seat
 
 -- what a worker does in a move, by the requests that it is handed: one, or none
 abbrev pub Does : {W : Type 0} → (State → View → W → W → ℕ → Request → Type 0) → (Bool → State → Option Group → SeatAt → View → View → W → W → Type 0) → Place → ℕ → State → State → Group → Group → W → W → List (ℕ × Request) → Bool → Type 0
-Does begins turned p m s t a b w x [] moved = Turns turned p m s a b w x moved
-Does begins turned p m s t a b w x (y ∷ ys) moved = Begins begins m s t a b w x y moved
+Does begins turned p m s t a b w x [] moved = TakesTurn turned p m s a b w x moved
+Does begins turned p m s t a b w x (y ∷ ys) moved = TakesIn begins m s t a b w x y moved
 
 -- A move of core c: its worker accepts the first request of its backlog, where it may take one and one waits, and else makes a turn. Then all its answers are given out, and kept with the region's stamp.
 pub record RunMoves {W : Type 0} (hands : View → W → Hands) (answers : W → List Answer) (stands : Place → ℕ → State → View → W → Type 0) (fair : Group → ℕ → W → Type 0) (room leads : W → Bool) (begins : State → View → W → W → ℕ → Request → Type 0) (turned : Bool → State → Option Group → SeatAt → View → View → W → W → Type 0) (alike : W → W → Type 0) (e : RunState W) (c : ℕ) (moved : Bool) (f : RunState W) : Type 0 where
@@ -80,6 +81,12 @@ pub record RunMoves {W : Type 0} (hands : View → W → Hands) (answers : W →
 -- a move of a core of the program
 abbrev pub CoreMoves : RunState Worker → ℕ → Bool → RunState Worker → Type 0
 CoreMoves e c moved f = RunMoves hands_of answers_of IsMember fair may_take leads BeginsRequest MakesTurn SameButAnswers e c moved f
+
+-- The lists of an engine show such a state: its workers and its kept answers are these.
+pub record ShowsRun {W Q : Type 0} (hands : View → W → Hands) (answers : W → List Answer) (stands : Place → ℕ → State → View → W → Type 0) (fair : Group → ℕ → W → Type 0) (room leads : W → Bool) (queue : Q → List (ℕ × Request)) (s : State) (l : Geometry) (workers : List W) (boards : List LocalBoard) (backlogs : List Q) (kept : List (Option Stamped)) (e : RunState W) : Type 0 where
+  pub shows : Shows hands answers stands fair room leads queue s l workers boards backlogs kept e.engine
+  pub workers_are : e.workers ≡ workers
+  pub answers_are : e.answers ≡ kept
 
 -- Each worker is as it is made of the start of its core.
 pub record AreNew (starts : List CoreStart) (layout : Geometry) (ws : List Worker) : Type 0 where
