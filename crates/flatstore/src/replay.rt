@@ -30,7 +30,8 @@ fn unread(error: InputError) -> Status
 
 /// Reads the input to its end, and gives its lines, to a region of so many cores.
 fn read<S: Source>(alloc: Global, source: &mut S, cores: u32) -> Result<Input, Status>
-    ensures ok { IfOk result (λ input. IsRead (S.coming source.old) (S.coming source.new) cores input) }
+    ensures ok { IfOk result (λ input.
+        IsRead (S.coming source.old) (S.coming source.new) cores input) }
     ensures within { IfOk result (λ input. IsWithin cores input) }
     ensures err { IfErr result (IsUnread (S.coming source.old) (S.coming source.new) cores
         (S.fault_count source.old) (S.fault_count source.new)) }
@@ -45,7 +46,8 @@ fn read<S: Source>(alloc: Global, source: &mut S, cores: u32) -> Result<Input, S
 fn recovered<R: SplitRegion + ReadRegion>(alloc: Global, region: &R) -> Result<Recovered, Status>
     requires first { (R.state region.now).frame.first ≡ 0 }
     requires words { (R.state region.now).frame.words ≡ words_in (R.state region.now).frame.bytes }
-    requires certain { IsTelling (R.state region.now) → (w : ℕ) → InRange (R.state region.now).frame w
+    requires certain { IsTelling (R.state region.now)
+        → (w : ℕ) → InRange (R.state region.now).frame w
         → cell_now (R.state region.now) w ≡ certain (lasts (R.state region.now) w) }
     ensures ok { IfOk result (StandsAsFound (R.state region.now) (R.word region.now)) }
     ensures err { IfErr result (IsUnserved (R.state region.now)) }
@@ -66,12 +68,14 @@ pub fn replay<S: Source, R: SplitRegion + ReadRegion>(
 ) -> Result<Outcome, Status>
     requires first { (R.state region.old).frame.first ≡ 0 }
     requires words { (R.state region.old).frame.words ≡ words_in (R.state region.old).frame.bytes }
-    requires certain { IsTelling (R.state region.old) → (w : ℕ) → InRange (R.state region.old).frame w
+    requires certain { IsTelling (R.state region.old)
+        → (w : ℕ) → InRange (R.state region.old).frame w
         → cell_now (R.state region.old) w ≡ certain (lasts (R.state region.old) w) }
-    ensures played { IfOk result (Played (R.state region.old) (R.word region.old) (R.state region.new)
-        (S.coming source.old) (S.coming source.new)) }
+    ensures played { IfOk result (Played (R.state region.old) (R.word region.old)
+        (R.state region.new) (S.coming source.old) (S.coming source.new)) }
     ensures refused { IfErr result (IsRefused (R.state region.old)
-        (S.coming source.old) (S.coming source.new) (S.fault_count source.old) (S.fault_count source.new)) }
+        (S.coming source.old) (S.coming source.new)
+        (S.fault_count source.old) (S.fault_count source.new)) }
     ensures untouched { OnErr result (region.new ≡ region.old) }
     // A region that breaks a rule goes before the source.
     ensures unread { IfErr result (λ status. is_of_region status ≡ true → source.new ≡ source.old) }
