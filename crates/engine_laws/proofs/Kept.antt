@@ -49,7 +49,7 @@ pub done : (o : Origin) (ls : List Line) (e : Engine) → IsOrigin o → Ran Any
 done o ls e is r =
     let cores : ℕ = (layout_of o.found).cores in
     let first : Stands o (opening o) = opens o is.sound is.first is.words is.certain in
-    let end = ran AnyTurn (Stands o) (turn_stands o) (gives o) cores ls (opening o) e first r in
+    let end = ran AnyTurn (Stands o) (turn_stands o) given_to (gives o) cores ls (opening o) e first r in
     let last = last_pass AnyTurn (Stands o) (turn_stands o) (gives o) cores ls (opening o) e first r in
     let idle : (c : ℕ) → c < e.layout.cores → IsIdle e c = (λ c low.
     still_pass AnyTurn (λ x y d m. m.2 refl) 0 cores last.0 e (λ d none. absurd (omega (arith, none))) last.2 c (let same : e.layout.cores ≡ cores = ap (λ (l : Geometry). l.cores) end.layout in omega (arith, low, same))) in

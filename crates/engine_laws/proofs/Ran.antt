@@ -28,10 +28,10 @@ module _ {S : Type 0} (Move : S → ℕ → Bool → S → Type 0) (P : S → Ty
   drains cores zero e f p r = pass 0 cores 0 e f p r
   drains cores (suc passes) e f p r = drains cores passes r.2 f (pass 0 cores r.0 e r.2 p r.3) r.4
 
-  pub ran : (gives : S → Request → S) → ((e : S) (q : Request) → P e → P (gives e q)) → (cores : ℕ) (ls : List Line) (e f : S) → P e → Ran Move gives cores ls e f → P f
-  ran gives asks cores [] e f p r = drains cores r.0 e f p r.1
-  ran gives asks cores (Ask q ∷ ls) e f p r = ran gives asks cores ls (gives e q) f (asks e q p) r
-  ran gives asks cores (Go c turns ∷ ls) e f p r = ran gives asks cores ls r.0 f (goes c turns e r.0 p r.1) r.2
+  pub ran : (give : S → Request → S) → ((e : S) (q : Request) → P e → P (give e q)) → (cores : ℕ) (ls : List Line) (e f : S) → P e → Ran Move give cores ls e f → P f
+  ran give asks cores [] e f p r = drains cores r.0 e f p r.1
+  ran give asks cores (Ask q ∷ ls) e f p r = ran give asks cores ls (give e q) f (asks e q p) r
+  ran give asks cores (Go c turns ∷ ls) e f p r = ran give asks cores ls r.0 f (goes c turns e r.0 p r.1) r.2
 
 -- A run whose states say more is one of what they say less: along a view of its states, whose moves and requests are those of the other run.
 module _ {S T : Type 0} (view : S → T) (Move : S → ℕ → Bool → S → Type 0) (Seen : T → ℕ → Bool → T → Type 0) (shows : (e : S) (c : ℕ) (b : Bool) (f : S) → Move e c b f → Seen (view e) c b (view f)) where
@@ -51,10 +51,10 @@ module _ {S T : Type 0} (view : S → T) (Move : S → ℕ → Bool → S → Ty
   drains_seen cores zero e f r = pass_seen 0 cores 0 e f r
   drains_seen cores (suc passes) e f r = (r.0, r.1, view r.2, pass_seen 0 cores r.0 e r.2 r.3, drains_seen cores passes r.2 f r.4)
 
-  pub ran_seen : (gives : S → Request → S) (gives_seen : T → Request → T) → ((e : S) (q : Request) → view (gives e q) ≡ gives_seen (view e) q) → (cores : ℕ) (ls : List Line) (e f : S) → Ran Move gives cores ls e f → Ran Seen gives_seen cores ls (view e) (view f)
-  ran_seen gives gives_seen same cores [] e f r = (r.0, drains_seen cores r.0 e f r.1)
-  ran_seen gives gives_seen same cores (Ask q ∷ ls) e f r = subst (λ x. Ran Seen gives_seen cores ls x (view f)) (same e q) (ran_seen gives gives_seen same cores ls (gives e q) f r)
-  ran_seen gives gives_seen same cores (Go c turns ∷ ls) e f r = (view r.0, goes_seen c turns e r.0 r.1, ran_seen gives gives_seen same cores ls r.0 f r.2)
+  pub ran_seen : (give : S → Request → S) (give_seen : T → Request → T) → ((e : S) (q : Request) → view (give e q) ≡ give_seen (view e) q) → (cores : ℕ) (ls : List Line) (e f : S) → Ran Move give cores ls e f → Ran Seen give_seen cores ls (view e) (view f)
+  ran_seen give give_seen same cores [] e f r = (r.0, drains_seen cores r.0 e f r.1)
+  ran_seen give give_seen same cores (Ask q ∷ ls) e f r = subst (λ x. Ran Seen give_seen cores ls x (view f)) (same e q) (ran_seen give give_seen same cores ls (give e q) f r)
+  ran_seen give give_seen same cores (Go c turns ∷ ls) e f r = (view r.0, goes_seen c turns e r.0 r.1, ran_seen give give_seen same cores ls r.0 f r.2)
 
 -- A relation whose moves deliver their facts.
 abbrev pub Delivers : (Engine → ℕ → Bool → Engine → Type 0) → Type 0
