@@ -38,9 +38,11 @@ format_command =
 abbrev pub bare_program : App
 bare_program = on_top (λ s. record s { subcommand_required = true }) (new_app (codes "flatstore"))
 
--- with what makes a region and what changes one
+-- with what makes a region and what change one
 abbrev pub writing_program : App
-writing_program = with_subcommand (with_subcommand bare_program format_command.top) (region_command (codes "replay")).top
+writing_program =
+    with_subcommand (with_subcommand (with_subcommand bare_program format_command.top)
+    (region_command (codes "replay")).top) (region_command (codes "run")).top
 
 -- the command of the program
 abbrev pub program : App
@@ -59,6 +61,7 @@ is_taken words = is_good (fault_of program words)
 pub data Form : Type 0 where
   Format : Text → Geometry → Form
   Replay : Text → Form
+  Run : Text → Form
   Dump : Text → Form
   Log : Text → Form
 
@@ -80,8 +83,9 @@ abbrev pub form_named : Text → List Row → Text → Option Form
 form_named name rows path =
     if bytes_eq name (codes "format") then option_map (λ l. Format path l) (layout_in rows)
     else (if bytes_eq name (codes "replay") then Some (Replay path)
+    else (if bytes_eq name (codes "run") then Some (Run path)
     else (if bytes_eq name (codes "dump") then Some (Dump path)
-    else (if bytes_eq name (codes "log") then Some (Log path) else None)))
+    else (if bytes_eq name (codes "log") then Some (Log path) else None))))
 
 abbrev pub form_in : Option (Text × List Row) → Option Form
 form_in subcommand = option_and_then (λ s. option_and_then (form_named s.0 s.1) (first_of (codes "region") s.1)) subcommand
@@ -89,3 +93,16 @@ form_in subcommand = option_and_then (λ s. option_and_then (form_named s.0 s.1)
 -- What the words ask for: none where the command doesn't take them, or where the numbers of a layout break a rule of it.
 abbrev pub form_of : List Text → Option Form
 form_of words = if is_taken words then form_in (subcommand_of program words) else None
+
+-- the words are those of `run`
+abbrev pub needs_threads : Option Form → Bool
+needs_threads None = false
+needs_threads (Some (Format path l)) = false
+needs_threads (Some (Replay path)) = false
+needs_threads (Some (Run path)) = true
+needs_threads (Some (Dump path)) = false
+needs_threads (Some (Log path)) = false
+
+-- What the words ask of a call that starts no thread: those of `run` count as no form.
+abbrev pub alone_form_of : List Text → Option Form
+alone_form_of words = if needs_threads (form_of words) then None else form_of words

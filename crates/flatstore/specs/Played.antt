@@ -1,6 +1,8 @@
 -- What a replay did between attaching and writing.
 use Rattle.std.specs.Prelude.{◌≡◌, ◌⊎◌, ℕ, List, Bool, true, false, Option, Some, None, if◌then◌else◌}
-use Rattle.pm_region.specs.State.{State, IsTelling, Rose}
+use Rattle.pm_region.specs.Cell.{certain}
+use Rattle.pm_region.specs.State.{State, IsTelling, InRange, cell_now, Rose}
+use Rattle.pm_region.specs.Split.{words_in}
 use Rattle.pm_region.specs.Words.{lasts}
 use Rattle.chunk_map.specs.Layouts.{layout_of}
 use Rattle.store_image.specs.declared.types.Fault.{Fault}
@@ -11,11 +13,27 @@ use Rattle.fs_text.specs.Output.{replies_text}
 use Rattle.group_engine.specs.declared.run_outcome.End.{End}
 use Rattle.group_engine.specs.declared.run_outcome.End.TheVariants as ends
 use Rattle.group_engine.specs.declared.run_outcome.Outcome.{Outcome}
-use Rattle.group_engine.specs.Replayed.{Replayed}
+use Rattle.group_engine.specs.Replayed.{Replayed, StandsAsFound}
+use Rattle.recover.specs.declared.types.Recovered.{Recovered}
+use Rattle.fs_text.specs.Bounds.{IsWithin}
 use Rattle.flatstore.specs.Reads.{IsRead, IsUnread}
 use Rattle.flatstore.specs.Statuses.{fault_status}
 use Rattle.flatstore.specs.declared.report.Status.{Status}
 use Rattle.flatstore.specs.declared.report.Status.TheVariants as statuses
+
+-- A whole region, from word 0 on, of which each word is certain: as an attach leaves it.
+pub record StandsWhole (s : State) : Type 0 where
+  pub first : s.frame.first ≡ 0
+  pub words : s.frame.words ≡ words_in s.frame.bytes
+  pub parted : s.frame.parted ≡ false
+  pub certain : IsTelling s → (w : ℕ) → InRange s.frame w → cell_now s w ≡ certain (lasts s w)
+
+-- What recovery gave of the region, and the lines of the input for its cores.
+pub record IsReady (s : State) (word : ℕ → ℕ) (coming left : Option (List ℕ)) (r : Recovered) (lines : List Line)
+    : Type 0 where
+  pub stands : StandsAsFound s word r
+  pub read : IsRead coming left r.layout.cores lines
+  pub within : IsWithin r.layout.cores lines
 
 -- The input was read, and the engine ran over its lines, from the region's state s to t and to this outcome.
 pub record Played (s : State) (word : ℕ → ℕ) (t : State) (coming left : Option (List ℕ)) (x : Outcome) : Type 0 where

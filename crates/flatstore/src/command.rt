@@ -2,7 +2,7 @@
 ghost use Rattle.std.specs.Prelude.{◌≡◌, IfOk, option_map, string_bytes};
 ghost use Rattle.clap.specs.Words.{found_of, rows_of, subcommand_rows_of};
 ghost use Rattle.chunk_map.specs.Checked.{layout_by_rule};
-ghost use Rattle.flatstore.specs.Commands.{form_of, form_in, form_named, layout_in, number_in, words_of};
+ghost use Rattle.flatstore.specs.Commands.{form_of, form_in, form_named, layout_in, needs_threads, number_in, words_of};
 ghost use Rattle.flatstore.specs.Asked.{asked, path_of};
 
 use crate::parser::program;
@@ -20,6 +20,8 @@ pub enum Command<'a> {
     Format { path: &'a str, layout: Layout },
     /// Answers to the requests of the input, in order.
     Replay { path: &'a str },
+    /// The same answers, with one worker for each core, each in a thread of its own.
+    Run { path: &'a str },
     /// The live pairs, by rising key.
     Dump { path: &'a str },
     /// The entries of the logs, by core, chunk and place.
@@ -62,6 +64,9 @@ fn command_named<'a>(name: &str, matches: &ArgMatches, path: &'a str) -> Option<
     }
     if name == "replay" {
         return Some(Command::Replay { path });
+    }
+    if name == "run" {
+        return Some(Command::Run { path });
     }
     if name == "dump" {
         return Some(Command::Dump { path });
@@ -108,6 +113,7 @@ impl<'a> Command<'a> {
         match self {
             Command::Format { path, .. } => path,
             Command::Replay { path } => path,
+            Command::Run { path } => path,
             Command::Dump { path } => path,
             Command::Log { path } => path,
         }
@@ -122,5 +128,16 @@ pub fn region_path(alloc: Global, words: &Vec<String>) -> Result<Option<String>,
         Err(error) => Err(error),
         Ok(None) => Ok(None),
         Ok(Some(command)) => Ok(Some(String::from_str(alloc, command.path())?)),
+    }
+}
+
+/// Whether the words are those of `run`.
+pub fn asks_for_threads(alloc: Global, words: &Vec<String>) -> Result<bool, Memory>
+    ensures { IfOk result (λ b. b ≡ needs_threads (form_of (words_of words.now.items))) }
+{
+    match parse_command(alloc, words.as_slice()) {
+        Err(error) => Err(error),
+        Ok(Some(Command::Run { .. })) => Ok(true),
+        Ok(_) => Ok(false),
     }
 }

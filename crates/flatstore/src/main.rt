@@ -1,6 +1,7 @@
 //! The program `flatstore`: a key-value store in a region file.
 #![tactic(auto)]
 
+use core_worker::OpenGate;
 use fs_errors::Memory;
 use fs_text::{StdSink, StdSource};
 use pm_region::FileRegion;
@@ -12,6 +13,7 @@ use std::process::ExitCode;
 use std::{env, io};
 use top::flatstore;
 
+mod alone;
 #[cfg(test)]
 mod change_tests;
 mod command;
@@ -30,8 +32,11 @@ mod replay;
 mod report;
 #[cfg(test)]
 mod row_tests;
+mod running;
 #[cfg(test)]
 mod tests;
+#[cfg(test)]
+mod thread_tests;
 mod top;
 
 /// The words of the command line, the program's name first. Words that aren't UTF-8 are no words of the program, and
@@ -59,7 +64,15 @@ fn run(rt: &HostRuntime, alloc: Global) -> Result<Status, Memory> {
     let mut region = FileRegion::at(own, path);
     let mut source = StdSource::over(rt.reader());
     let mut sink = StdSink::over(io::writer(rt));
-    let report = flatstore(alloc, &words, &mut source, &mut sink, &mut region);
+    let report = flatstore(
+        rt,
+        alloc,
+        &words,
+        &mut source,
+        &mut sink,
+        &mut region,
+        &OpenGate,
+    );
     Ok(report.status)
 }
 
