@@ -11,8 +11,8 @@ use Rattle.pm_region.specs.declared.split.AttachError.{AttachError}
 use Rattle.pm_region.specs.declared.split.AttachError.TheVariants as attach
 use Rattle.flatstore.specs.declared.report.Status.{Status}
 use Rattle.flatstore.specs.declared.report.Status.TheVariants as statuses
-use Rattle.flatstore.specs.declared.running.NotRun.{NotRun}
-use Rattle.flatstore.specs.declared.running.NotRun.TheVariants.{Refused, Unsplit}
+use Rattle.flatstore.specs.declared.run_threads.NotRun.{NotRun}
+use Rattle.flatstore.specs.declared.run_threads.NotRun.TheVariants.{Refused, Unsplit}
 
 -- The input was read, and the cores ran over its requests, from the region's state s to t and to this outcome.
 pub record PlayedApart (s : State) (word : ℕ → ℕ) (refused : Bool) (t : State) (coming left : Option (List ℕ)) (x : Outcome)

@@ -32,7 +32,7 @@ mod replay;
 mod report;
 #[cfg(test)]
 mod row_tests;
-mod running;
+mod run_threads;
 #[cfg(test)]
 mod tests;
 #[cfg(test)]

@@ -17,7 +17,7 @@ ghost use Rattle.flatstore.specs.declared.report.Status.TheVariants as statuses;
 use crate::alone::flatstore_alone;
 use crate::command::asks_for_threads;
 use crate::report::{Report, Status};
-use crate::running::run_region;
+use crate::run_threads::run_region;
 use core_worker::Gate;
 use fs_errors::Memory;
 use fs_text::{Sink, Source};

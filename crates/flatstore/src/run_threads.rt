@@ -9,7 +9,7 @@ ghost use Rattle.flatstore.specs.Promise.{IsInput};
 ghost use Rattle.flatstore.specs.ThreadPlays.{PlayedApart, IsNotRun, why_of, status_for, has_begun};
 ghost use Rattle.flatstore.specs.ThreadRuns.{RunsOnThreads};
 ghost use Rattle.flatstore.specs.declared.report.Status.TheVariants as statuses;
-ghost use Rattle.flatstore.specs.declared.running.NotRun.TheVariants as not_run;
+ghost use Rattle.flatstore.specs.declared.run_threads.NotRun.TheVariants as not_run;
 
 use crate::replay::{prepared, write_outcome};
 use crate::report::{Report, Status};
