@@ -10,6 +10,7 @@ use Rattle.headline.specs.Headline.{Told, cells_of, finished_in, refused_in, Wri
 use Rattle.headline.specs.Ample.{IsAmpleFor}
 use Rattle.headline.specs.Limits.{IsAsked, version_of, changes_asked, IsWithinLimits}
 use Rattle.chunk_map.specs.Layouts.{layout_of, owner}
+use Rattle.log_entry.specs.declared.entry_limits.TheConstants.{LAST_PUT_VERSION}
 use Rattle.store_image.specs.Soundness.{IsSound}
 use Rattle.core_room.specs.declared.types.Shortage.TheVariants.{Versions}
 use Rattle.group_engine.specs.Answers.{reply_to}
@@ -70,7 +71,7 @@ pub record Serves (old new : State) (found : ℕ → ℕ) (coming left : Option 
   pub full : IsTelling new → AllByRecursion (λ x. reply_to x.why ≡ Full → (k : ℕ) → IsAsked (asked_in cores input) x.request k
       → IsAmpleFor (layout_of found) found (asked_in cores input) (owner (layout_of found) k) → ⊥) r.refusals.items
   pub spent : IsTelling new → AllByRecursion (λ x. (last : ℕ) → x.why ≡ Versions last → (k : ℕ) → IsAsked (asked_in cores input) x.request k
-      → 1048574 ≤ version_of found k + changes_asked k (take x.request (asked_in cores input))) r.refusals.items
+      → LAST_PUT_VERSION ≤ version_of found k + changes_asked k (take x.request (asked_in cores input))) r.refusals.items
   pub unrefused : IsTelling new → IsWithinLimits found (asked_in cores input) → r.refusals.items ≡ []
 
 -- The headline, of a replay: one thread makes the moves of all cores, by the lines of the input.
