@@ -60,7 +60,7 @@ pub fn is_start(layout: &Layout, class: u32, pointer: u64) -> bool
     requires class { class ≤ GREATEST_CLASS }
     ensures { result ≡ is_start layout.now class (unit_at layout.now pointer) }
 {
-    store_image::image_blocks::is_start(
+    store_image::block_starts::is_start(
         &layout.geometry(),
         class,
         (pointer - FIRST_UNIT) % units(layout),
