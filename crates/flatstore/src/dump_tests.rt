@@ -3,8 +3,9 @@ use crate::report::{Report, Status};
 use crate::tests::{call, replay, with};
 use fs_text::{MemSink, Sink, SteadySink, SteadySource};
 use pm_region::{ReadRegion, Region, SplitRegion, SteadyRegion};
-use std::alloc::Global;
+use std::alloc::{AllocGlobal, Global};
 use std::test::Fail;
+use std::thread::Threads;
 
 const DUMP: [&str; 3] = ["flatstore", "dump", "region"];
 
@@ -14,7 +15,7 @@ fn region(alloc: Global, others: &[(usize, u8)]) -> Result<SteadyRegion, Fail> {
 }
 
 fn dump<O: Sink, R: SplitRegion + ReadRegion>(
-    rt: &HostRuntime,
+    rt: &(impl Threads + AllocGlobal),
     sink: &mut O,
     region: &mut R,
 ) -> Result<Report, Fail> {

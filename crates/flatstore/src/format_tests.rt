@@ -6,8 +6,9 @@ use crate::alone::flatstore_alone;
 use fs_text::{SteadySink, SteadySource};
 use image_yardstick::first_fault;
 use pm_region::{Faults, FenceNumber, MemRegion, ReadRegion, Region, SplitRegion, SteadyRegion};
-use std::alloc::{AllocError, Global};
+use std::alloc::{AllocError, AllocGlobal, Global};
 use std::test::Fail;
+use std::thread::Threads;
 use store_image::Fault;
 
 // The bytes of a region of two cores with four chunks of 4,096 bytes.
@@ -24,7 +25,7 @@ fn words(alloc: Global, line: &str) -> Result<Vec<String>, AllocError> {
 
 // A call of the program, with no input.
 fn call<R: SplitRegion + ReadRegion>(
-    rt: &HostRuntime,
+    rt: &(impl Threads + AllocGlobal),
     line: &str,
     region: &mut R,
 ) -> Result<Report, Fail> {

@@ -3,8 +3,9 @@ use crate::report::{Report, Status};
 use crate::tests::{call, with};
 use fs_text::{MemSink, Sink, SteadySink, SteadySource};
 use pm_region::{Region, SteadyRegion};
-use std::alloc::{AllocError, Global};
+use std::alloc::{AllocError, AllocGlobal, Global};
 use std::test::Fail;
+use std::thread::Threads;
 
 const LOG: [&str; 3] = ["flatstore", "log", "region"];
 
@@ -55,7 +56,7 @@ const BLOCK: [(usize, u8); 11] = [
 ];
 
 fn log<O: Sink>(
-    rt: &HostRuntime,
+    rt: &(impl Threads + AllocGlobal),
     sink: &mut O,
     region: &mut SteadyRegion,
 ) -> Result<Report, Fail> {

@@ -10,6 +10,8 @@ use std::alloc::{AllocGlobal, Global};
 use std::env::Env;
 use std::io::ErrorKind;
 use std::process::ExitCode;
+use std::sync::Wait;
+use std::thread::Threads;
 use std::{env, io};
 use top::flatstore;
 
@@ -49,8 +51,13 @@ fn command_line<R: Env + AllocGlobal>(rt: &R, alloc: Global) -> Result<Vec<Strin
     }
 }
 
-/// Does what the command line asks, with the region in its file, standard input and standard output.
-fn run(rt: &HostRuntime, alloc: Global) -> Result<Status, Memory> {
+/// Does what the command line asks, with the region in its file, standard input and standard output. The
+/// runtime is handed in twice, as what it is and as the leave to start threads and to wait for them.
+fn run(
+    rt: &HostRuntime,
+    threads: &(impl Threads + Wait + Sync),
+    alloc: Global,
+) -> Result<Status, Memory> {
     let words = command_line(rt, alloc)?;
     let path = match command::region_path(alloc, &words)? {
         Some(path) => path,
@@ -65,7 +72,7 @@ fn run(rt: &HostRuntime, alloc: Global) -> Result<Status, Memory> {
     let mut source = StdSource::over(rt.reader());
     let mut sink = StdSink::over(io::writer(rt));
     let report = flatstore(
-        rt,
+        threads,
         alloc,
         &words,
         &mut source,
@@ -93,7 +100,7 @@ fn complain(rt: &HostRuntime, alloc: Global, status: Status) {
 
 fn main(rt: HostRuntime) -> ExitCode {
     let alloc = rt.alloc();
-    let status = match run(&rt, alloc) {
+    let status = match run(&rt, &rt, alloc) {
         Ok(status) => status,
         Err(_) => Status::Memory,
     };

@@ -3,8 +3,9 @@ use crate::report::{Report, Status};
 use crate::tests::{PICKS, call, cell, replay, with, words_of};
 use fs_text::{Sink, SteadySink, SteadySource};
 use pm_region::{Faults, FenceNumber, MemRegion, ReadRegion, Region, SplitRegion, SteadyRegion};
-use std::alloc::{AllocError, Global};
+use std::alloc::{AllocError, AllocGlobal, Global};
 use std::test::Fail;
+use std::thread::Threads;
 
 const ONE_BATCH: &str = "put 0 a\nput 1 b\nput 2 c\ngo 1 2\ngo 2 2\ngo 0 20\n";
 
@@ -27,7 +28,7 @@ pub fn fresh_of(alloc: Global, cores: u8, group: u8) -> Result<Vec<u8>, AllocErr
 
 // What `log` writes of a region.
 pub fn log_of<R: SplitRegion + ReadRegion>(
-    rt: &HostRuntime,
+    rt: &(impl Threads + AllocGlobal),
     region: &mut R,
 ) -> Result<Vec<u8>, Fail> {
     let alloc = rt.alloc();

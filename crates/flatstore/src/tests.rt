@@ -13,10 +13,11 @@ use image_yardstick::{first_fault, recovered_cells};
 use pm_region::{
     Faults, FenceNumber, FileRegion, MemRegion, Pick, ReadRegion, Region, SplitRegion, SteadyRegion,
 };
-use std::alloc::{Alloc, AllocError, Global};
+use std::alloc::{Alloc, AllocError, AllocGlobal, Global};
 use std::env::{Env, FillError};
 use std::fs;
 use std::test::Fail;
+use std::thread::Threads;
 
 const BYTES: usize = 20480;
 
@@ -61,7 +62,7 @@ pub fn command(alloc: Global, words: &[&str]) -> Result<Vec<String>, AllocError>
 
 // One call of the program, of which only the report counts.
 pub fn call<S: Source, O: Sink, R: SplitRegion + ReadRegion>(
-    rt: &HostRuntime,
+    rt: &(impl Threads + AllocGlobal),
     words: &[&str],
     source: &mut S,
     sink: &mut O,
@@ -74,7 +75,7 @@ pub fn call<S: Source, O: Sink, R: SplitRegion + ReadRegion>(
 
 // Replays an input on a region, into a sink that takes everything.
 pub fn replay<R: SplitRegion + ReadRegion>(
-    rt: &HostRuntime,
+    rt: &(impl Threads + AllocGlobal),
     region: &mut R,
     input: &str,
 ) -> Result<(Report, Vec<u8>), Fail> {
@@ -91,7 +92,7 @@ fn steady(alloc: Global) -> Result<SteadyRegion, Memory> {
 }
 
 // Replays an input on a region in memory that is fresh.
-pub fn row(rt: &HostRuntime, input: &str) -> Result<(Report, Vec<u8>), Fail> {
+pub fn row(rt: &(impl Threads + AllocGlobal), input: &str) -> Result<(Report, Vec<u8>), Fail> {
     let mut region = steady(rt.alloc())?;
     replay(rt, &mut region, input)
 }
@@ -174,7 +175,7 @@ fn replies(rt: HostRuntime) -> Result<(), Fail> {
 }
 
 // What a call with these words says, on a fresh region.
-fn said(rt: &HostRuntime, words: &[&str]) -> Result<(Status, bool), Fail> {
+fn said(rt: &(impl Threads + AllocGlobal), words: &[&str]) -> Result<(Status, bool), Fail> {
     let alloc = rt.alloc();
     let mut region = steady(alloc)?;
     let mut source = SteadySource::new(Vec::new(alloc), 1);
@@ -255,7 +256,7 @@ pub fn with(alloc: Global, places: &[(usize, u8)]) -> Result<Vec<u8>, AllocError
 }
 
 // Replays the three lines on a region with these bytes.
-fn three_on(rt: &HostRuntime, bytes: Vec<u8>) -> Result<(Status, Vec<u8>), Fail> {
+fn three_on(rt: &(impl Threads + AllocGlobal), bytes: Vec<u8>) -> Result<(Status, Vec<u8>), Fail> {
     let alloc = rt.alloc();
     let mut region = SteadyRegion::new(alloc, bytes, 5000)?;
     let (report, written) = replay(rt, &mut region, THREE)?;
@@ -516,10 +517,15 @@ fn a_failing_sink(rt: HostRuntime) -> Result<(), Fail> {
 }
 
 // Replays an input on the region in a file.
-fn replay_file(rt: &HostRuntime, name: &str, input: &str) -> Result<(Report, Vec<u8>), Fail> {
+fn replay_file(
+    rt: &HostRuntime,
+    threads: &(impl Threads + AllocGlobal),
+    name: &str,
+    input: &str,
+) -> Result<(Report, Vec<u8>), Fail> {
     let alloc = rt.alloc();
     let mut region = FileRegion::at(rt.clone()?, String::from_str(alloc, name)?);
-    replay(rt, &mut region, input)
+    replay(threads, &mut region, input)
 }
 
 fn words_of_file(rt: &HostRuntime, name: &str) -> Result<Vec<u64>, Fail> {
@@ -533,7 +539,7 @@ fn words_of_file(rt: &HostRuntime, name: &str) -> Result<Vec<u64>, Fail> {
 fn a_region_in_a_file(rt: HostRuntime) -> Result<(), Fail> {
     let name = "flatstore_a_region_in_a_file";
     fs::write(&rt, name, fresh(rt.alloc())?.as_slice())?;
-    let (report, written) = replay_file(&rt, name, THREE)?;
+    let (report, written) = replay_file(&rt, &rt, name, THREE)?;
     assert_eq!(rt; report.status, Status::Done);
     assert_eq!(rt;
         written.as_slice(),
@@ -550,7 +556,7 @@ fn a_region_in_a_file(rt: HostRuntime) -> Result<(), Fail> {
         assert_eq!(rt; words.get(place), Some(&word));
     }
     fs::remove_file(&rt, name)?;
-    let (report, written) = replay_file(&rt, name, THREE)?;
+    let (report, written) = replay_file(&rt, &rt, name, THREE)?;
     assert_eq!(rt; report.status, Status::RegionFault);
     assert!(rt; written.is_empty());
     Ok(())

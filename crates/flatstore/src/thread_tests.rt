@@ -6,15 +6,17 @@ use crate::top::flatstore;
 use core_worker::{Gate, OpenGate, Point};
 use fs_text::{Sink, SteadySink, SteadySource};
 use pm_region::{Faults, FenceNumber, MemRegion, ReadRegion, SplitRegion, SteadyRegion};
-use std::alloc::{AllocError, Global};
+use std::alloc::{AllocError, AllocGlobal, Global};
+use std::sync::Wait;
 use std::sync::atomic::{AtomicBool, AtomicU64, Ordering};
 use std::test::Fail;
+use std::thread::Threads;
 
 const RUN: [&str; 3] = ["flatstore", "run", "region"];
 
 // One call with these words and a gate, into a sink that takes everything.
 fn threads<R: SplitRegion + ReadRegion, G: Gate + Sync>(
-    rt: &HostRuntime,
+    rt: &(impl Threads + Wait + Sync + AllocGlobal),
     words: &[&str],
     region: &mut R,
     input: &str,
@@ -31,7 +33,7 @@ fn threads<R: SplitRegion + ReadRegion, G: Gate + Sync>(
 
 // Runs an input on a region.
 fn run<R: SplitRegion + ReadRegion>(
-    rt: &HostRuntime,
+    rt: &(impl Threads + Wait + Sync + AllocGlobal),
     region: &mut R,
     input: &str,
 ) -> Result<(Report, Vec<u8>), Fail> {
@@ -69,7 +71,7 @@ fn one_core(rt: HostRuntime) -> Result<(), Fail> {
 }
 
 // What `dump` writes of a region.
-fn dump_of(rt: &HostRuntime, region: &mut SteadyRegion) -> Result<Vec<u8>, Fail> {
+fn dump_of(rt: &(impl Threads + Wait + Sync + AllocGlobal), region: &mut SteadyRegion) -> Result<Vec<u8>, Fail> {
     let alloc = rt.alloc();
     let mut source = SteadySource::new(Vec::new(alloc), 1);
     let mut sink = SteadySink::new(alloc, 100_000, 1000)?;
@@ -141,6 +143,7 @@ fn as_a_replay(rt: HostRuntime) -> Result<(), Fail> {
 const LOADS: u64 = 500_000_000;
 
 // Counts how often each of two cores asks. Core 0's first ask waits for core 1's second, and that one for core 0's second.
+#[derive(Drop)]
 struct Meeting {
     asked: [AtomicU64; 2],
     missed: AtomicBool,
