@@ -1,5 +1,5 @@
 -- What a run on threads did between attaching and writing.
-use Rattle.std.specs.Prelude.{ℕ, ◌≤◌, List, Bool, true, false, Option}
+use Rattle.std.specs.Prelude.{◌≡◌, ◌⊎◌, ℕ, ◌≤◌, List, Bool, true, false, Option}
 use Rattle.pm_region.specs.State.{State, Rose}
 use Rattle.pm_region.specs.Split.{Stays}
 use Rattle.recover.specs.declared.types.Recovered.{Recovered}
@@ -45,9 +45,10 @@ abbrev pub has_begun : NotRun → Bool
 has_begun (Refused status) = false
 has_begun Unsplit = true
 
--- why no core ran
+-- Why no core ran: the work before the run was refused, there was no memory for the run, or the split failed.
 abbrev pub WhyNotRun : State → (ℕ → ℕ) → State → Option (List ℕ) → Option (List ℕ) → ℕ → ℕ → NotRun → Type 0
-WhyNotRun s word t coming left source source' (Refused status) = IsRefused s coming left source source' status
+WhyNotRun s word t coming left source source' (Refused status) =
+    ((t ≡ s) × IsRefused s coming left source source' status) ⊎ (status ≡ statuses.Memory)
 WhyNotRun s word t coming left source source' Unsplit = HasNotSplit s word t coming left
 
 -- No core ran, and the region is as it was, but for its counts.
