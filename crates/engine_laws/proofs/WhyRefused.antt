@@ -114,16 +114,28 @@ asked_is : (o : Option Request) (k : ℕ) → option_map key_of o ≡ Some k →
 asked_is None k e = absurd (cc e)
 asked_is (Some q) k e = (q, refl, cc e)
 
--- An answered request, with what was answered of its key before it.
-pub record Asked (o : Origin) (e : Engine) (S : Stands o e) (more : List Request) (n : ℕ) (q : Request) (a : Answer) : Type 0 where
-  pub front : List Served
-  pub rest : List Served
-  pub at : Served
-  pub served : (S.keys (key_of q)).served ≡ front ++ at ∷ rest
-  pub number : at.number ≡ n
-  pub request : at.request ≡ q
-  pub answer : at.answer ≡ a
-  pub changes : count_by (λ (y : ℕ × Request). may_change (key_of q) y.1) (map asked_in front) ≤ changes_asked (key_of q) (take n (e.given ++ more))
+-- The answers of one key, from its cell and its last version on: they are for the first of its requests in a trace. Each refusal has its cause by the changes that the trace has of the key before it.
+module _ (l : Geometry) (start : ℕ) (cell : Option (List ℕ)) (k : ℕ) (trace : List Request) (served : List Served) (waits : List (ℕ × Request)) (split : requests_of k trace ≡ map asked_in served ++ waits)
+    (lawful : IsLawfulFor cell false (pairs served)) (caused : HaveCauses l start (pairs served)) (x : Served) (there : In x served) where
+  own : (y : Served) → In y served → key_of y.request ≡ k
+  own y i = (in_requests k trace (asked_in y) (subst (λ (ys : List (ℕ × Request)). In (asked_in y) ys) (sym split) (in_front (asked_in y) (map asked_in served) waits (in_map asked_in y served i)))).1
+
+  pub cause_served : HasCause l (start + changes_asked k (take x.number trace)) x.request x.answer.reply
+  cause_served =
+      let s = split_at x served there in
+      let whole : requests_of k trace ≡ map asked_in s.0 ++ asked_in x ∷ (map asked_in s.1 ++ waits) =
+      split ∙ ap (λ ys. map asked_in ys ++ waits) s.2 ∙ ap (λ ys. ys ++ waits) (map-append asked_in s.0 (x ∷ s.1)) ∙ append_assoc (map asked_in s.0) (asked_in x ∷ map asked_in s.1) waits in
+      let b = before k 0 trace (map asked_in s.0) (map asked_in s.1 ++ waits) x.number x.request whole in
+      let at : b.0 ≡ x.number = (let i = b.1 in omega (arith, i)) in
+      let few = subst (λ (m : ℕ). count_by (λ (y : ℕ × Request). may_change k y.1) (map asked_in s.0) ≤ changes_asked k (take m trace)) at b.2 in
+      let C = cause_at l start s.0 s.1 x (subst (λ (ys : List Served). HaveCauses l start (pairs ys)) s.2 caused) in
+      let front = lawful_front s.0 (x ∷ s.1) cell false (subst (λ (ys : List Served). IsLawfulFor cell false (pairs ys)) s.2 lawful) in
+      let keys = all_front (λ (y : Served). key_of y.request ≡ k) s.0 (x ∷ s.1) (subst (λ (ys : List Served). AllByRecursion (λ (y : Served). key_of y.request ≡ k) ys) s.2 (in_all (λ (y : Served). key_of y.request ≡ k) served own)) in
+      let up = rises k s.0 cell false start front keys in
+      record {
+        spent = λ r. (let most = C.spent r in omega (arith, up, few, most));
+        long = C.long;
+      }
 
 module _ (o : Origin) (e : Engine) (S : Stands o e) (more : List Request) (n : ℕ) (q : Request) (a : Answer) (is : slice_get (e.given ++ more) n ≡ Some q) (ans : e.answer n ≡ Some a) where
   abbrev k : ℕ
@@ -145,46 +157,19 @@ module _ (o : Origin) (e : Engine) (S : Stands o e) (more : List Request) (n : �
     | inr j ↦ absurd (let none = all_in (λ (x : ℕ × Request). e.answer x.0 ≡ None) _ (n, q) (waits_none o e S more k) j in cc (none, ans))
   ]
 
-  found : (x : Served) × In x served × (asked_in x ≡ (n, q))
-  found = let r = of_map asked_in (n, q) served in_served in (r.0, r.1, sym r.2)
-
-  pub asked_at : Asked o e S more n q a
-  asked_at =
-      let x = found in
-      let s = split_at x.0 served x.1 in
-      let number : x.0.number ≡ n = ap (λ (y : ℕ × Request). y.0) x.2 in
-      let request : x.0.request ≡ q = ap (λ (y : ℕ × Request). y.1) x.2 in
-      let whole : requests_of k (e.given ++ more) ≡ map asked_in s.0 ++ (n, q) ∷ (map asked_in s.1 ++ waits) =
-      requests_are o e S more k ∙ ap (λ l. map asked_in l ++ waits) s.2 ∙ ap (λ l. l ++ waits) (map-append asked_in s.0 (x.0 ∷ s.1) ∙ ap (λ y. map asked_in s.0 ++ y ∷ map asked_in s.1) x.2) ∙ append_assoc (map asked_in s.0) ((n, q) ∷ map asked_in s.1) waits in
-      let b = before k 0 (e.given ++ more) (map asked_in s.0) (map asked_in s.1 ++ waits) n q whole in
-      record {
-        front = s.0;
-        rest = s.1;
-        at = x.0;
-        served = s.2;
-        number = number;
-        request = request;
-        answer = (let here = all_in (λ (y : Served). e.answer y.number ≡ Some y.answer) served x.0 (S.keys k).answers x.1 in let both : Some x.0.answer ≡ Some a = sym here ∙ ap e.answer number ∙ ans in cc both);
-        changes = subst (λ (m : ℕ). count_by (λ (y : ℕ × Request). may_change k y.1) (map asked_in s.0) ≤ changes_asked k (take m (e.given ++ more))) (let i = b.1 in omega (arith, i)) b.2;
-      }
-
   -- its cause
   pub cause_of : HasCause (layout_of o.found) (version_of o.found k + changes_asked k (take n (e.given ++ more))) q a.reply
   cause_of =
-      let A = asked_at in
-      let start = version_of o.found k in
-      let C = cause_at (layout_of o.found) start A.front A.rest A.at (subst (λ (xs : List Served). HaveCauses (layout_of o.found) start (pairs xs)) A.served (S.causes k)) in
-      let lawful = lawful_front A.front (A.at ∷ A.rest) (start_of o k) false (subst (λ (xs : List Served). IsLawfulFor (start_of o k) false (pairs xs)) A.served (S.keys k).history.lawful) in
-      let keys = all_front (λ (x : Served). key_of x.request ≡ k) A.front (A.at ∷ A.rest) (subst (λ (xs : List Served). AllByRecursion (λ (x : Served). key_of x.request ≡ k) xs) A.served (in_all (λ (x : Served). key_of x.request ≡ k) served (λ x i. own x i))) in
-      let up = rises k A.front (start_of o k) false start lawful keys in
-      let few = A.changes in
-      let reply : A.at.answer.reply ≡ a.reply = ap (λ (y : Answer). y.reply) A.answer in
-      record {
-        spent = λ r. (let most = C.spent (reply ∙ r) in omega (arith, up, few, most));
-        long = λ r. subst (λ (x : Request). is_too_long (layout_of o.found) x ≡ true) A.request (C.long (reply ∙ r));
-      } where
-        own : (x : Served) → In x served → key_of x.request ≡ k
-        own x i = (in_requests k (e.given ++ more) (asked_in x) (subst (λ (l : List (ℕ × Request)). In (asked_in x) l) (sym (requests_are o e S more k)) (in_front (asked_in x) (map asked_in served) _ (in_map asked_in x served i)))).1
+      let x = of_map asked_in (n, q) served in_served in
+      let number : x.0.number ≡ n = sym (ap (λ (y : ℕ × Request). y.0) x.2) in
+      let request : x.0.request ≡ q = sym (ap (λ (y : ℕ × Request). y.1) x.2) in
+      let here = all_in (λ (y : Served). e.answer y.number ≡ Some y.answer) served x.0 (S.keys k).answers x.1 in
+      let both : Some x.0.answer ≡ Some a = sym here ∙ ap e.answer number ∙ ans in
+      let answer : x.0.answer ≡ a = cc both in
+      let C = cause_served (layout_of o.found) (version_of o.found k) (start_of o k) k (e.given ++ more) served waits (requests_are o e S more k) (S.keys k).history.lawful (S.causes k) x.0 x.1 in
+      subst (λ (b : Answer). HasCause (layout_of o.found) (version_of o.found k + changes_asked k (take n (e.given ++ more))) q b.reply) answer
+      (subst (λ (y : Request). HasCause (layout_of o.found) (version_of o.found k + changes_asked k (take n (e.given ++ more))) y x.0.answer.reply) request
+      (subst (λ (m : ℕ). HasCause (layout_of o.found) (version_of o.found k + changes_asked k (take m (e.given ++ more))) x.0.request x.0.answer.reply) number C))
 
 -- who was answered was given
 given_front : (xs more : List Request) (i : ℕ) → i < length xs → slice_get (xs ++ more) i ≡ slice_get xs i

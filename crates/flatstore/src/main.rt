@@ -26,6 +26,8 @@ mod dumping;
 mod format_tests;
 mod formatting;
 #[cfg(test)]
+mod judging_tests;
+#[cfg(test)]
 mod log_tests;
 mod logging;
 mod parser;

@@ -30,7 +30,8 @@ fn unread(error: InputError) -> Status
 
 /// Reads the input to its end, and gives its lines, to a region of so many cores.
 fn read<S: Source>(alloc: Global, source: &mut S, cores: u32) -> Result<Input, Status>
-    ensures ok { IfOk result (λ input. IsRead (S.coming source.old) (S.coming source.new) cores input) }
+    ensures ok { IfOk result (λ input.
+        IsRead (S.coming source.old) (S.coming source.new) cores input) }
     ensures within { IfOk result (λ input. IsWithin cores input) }
     ensures err { IfErr result (IsUnread (S.coming source.old) (S.coming source.new) cores
         (S.fault_count source.old) (S.fault_count source.new)) }

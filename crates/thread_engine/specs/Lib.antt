@@ -3,3 +3,8 @@ pub mod WorkLaws
 pub mod Pieces
 pub mod CoreRuns
 pub mod RanApart
+pub mod Manned
+pub mod Dealt
+pub mod Returns
+pub mod Collected
+pub mod Supplied
