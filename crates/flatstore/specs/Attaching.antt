@@ -14,7 +14,8 @@ abbrev pub Runs : State → State → Type 0
 Runs old new = Over old new (λ t cells. Unit {0})
 
 -- It was opened once, with these words, and from that moment on this was done to it.
-pub record GoesOnBy (Done : State → State → Type 0) (old new : State) (bytes : ℕ) (image : ℕ → ℕ) : Type 0 where
+pub record GoesOnBy (Done : State → State → Type 0) (old new : State) (bytes : ℕ)
+    (image : ℕ → ℕ) : Type 0 where
   pub at : State
   pub attached : Attached old at bytes image
   pub once : IsOpenedOnceMore old at
@@ -33,10 +34,12 @@ pub record IsUnopened (old new : State) : Type 0 where
 -- There was no memory, or the opening itself failed.
 abbrev pub HasNotOpened : State → State → Status → Type 0
 HasNotOpened old new status =
-    (status ≡ statuses.Memory) ⊎ ((status ≡ statuses.RegionFault) × IsOpenedOnceMore old new × Rose old.frame.refusals new.frame.refusals)
+    (status ≡ statuses.Memory) ⊎ ((status ≡ statuses.RegionFault) × IsOpenedOnceMore old new
+    × Rose old.frame.refusals new.frame.refusals)
 
 -- A call that attaches the region does so once, and then does this to it, or it leaves it as it was.
-pub record AttachesBy (Done : State → State → Type 0) (old new : State) (found : ℕ → ℕ) (r : Report) : Type 0 where
+pub record AttachesBy (Done : State → State → Type 0) (old new : State) (found : ℕ → ℕ)
+    (r : Report) : Type 0 where
   pub attached : r.attached ≡ true → GoesOnBy Done old new new.frame.bytes found
   pub unattached : r.attached ≡ false → IsUnopened old new
   pub cause : r.attached ≡ false → HasNotOpened old new r.status

@@ -24,7 +24,11 @@ word_rule name = record (new_rule name) { required = true }
 
 -- a required option with a number of 64 bits
 abbrev pub number_rule : Text → Rule
-number_rule name = record (new_rule name) { long = Some name; parser = Some u64_reader; required = true }
+number_rule name = record (new_rule name) {
+  long = Some name;
+  parser = Some u64_reader;
+  required = true;
+}
 
 -- a subcommand with the path of a region
 abbrev pub region_command : Text → App
@@ -67,7 +71,8 @@ pub data Form : Type 0 where
 
 -- the number that the reader makes of a text
 abbrev pub number_of : Text → Option ℕ
-number_of text = if accepts false u64_reader text then Some (digits_value 10 (without_leading_plus text)) else None
+number_of text = if accepts false u64_reader text then Some (digits_value 10
+    (without_leading_plus text)) else None
 
 abbrev pub number_in : Text → List Row → Option ℕ
 number_in name rows = option_and_then number_of (one_of name rows)
@@ -75,8 +80,14 @@ number_in name rows = option_and_then number_of (one_of name rows)
 -- the layout with the four numbers, where they keep its rules
 abbrev pub layout_in : List Row → Option Geometry
 layout_in rows =
-    option_and_then (λ cores. option_and_then (λ group. option_and_then (λ chunks. option_and_then (λ chunk_bytes.
-    layout_by_rule (record { cores = cores; group = group; chunks = chunks; chunk_bytes = chunk_bytes }))
+    option_and_then (λ cores. option_and_then (λ group. option_and_then
+    (λ chunks. option_and_then (λ chunk_bytes.
+    layout_by_rule (record {
+      cores = cores;
+      group = group;
+      chunks = chunks;
+      chunk_bytes = chunk_bytes;
+    }))
     (number_in (codes "chunk-bytes") rows)) (number_in (codes "chunks") rows)) (number_in (codes "group") rows)) (number_in (codes "cores") rows)
 
 abbrev pub form_named : Text → List Row → Text → Option Form

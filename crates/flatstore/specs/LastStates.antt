@@ -30,7 +30,8 @@ AreRising (n ∷ ns) = AllByRecursion (λ m. n < m) ns × AreRising ns
 
 -- The lines of the input led the engine from the region, as it was attached with these words, to a last state, and this is a report on it.
 -- `AllOut` holds where no write failed.
-pub record RanTo (old new : State) (found : ℕ → ℕ) (cores : ℕ) (input : List ℕ) (before now : Option (List ℕ)) (AllOut : Type 0) (r : Report) : Type 0 where
+pub record RanTo (old new : State) (found : ℕ → ℕ) (cores : ℕ) (input : List ℕ)
+    (before now : Option (List ℕ)) (AllOut : Type 0) (r : Report) : Type 0 where
   -- It begins at the region as it was attached: every group opened on its words, with no request and no answer. Where the region tells, the words are those that were found.
   pub from : GoesOnFrom old new new.frame.bytes found
   pub o : Origin

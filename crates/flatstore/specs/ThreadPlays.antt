@@ -15,7 +15,8 @@ use Rattle.flatstore.specs.declared.run_threads.NotRun.{NotRun}
 use Rattle.flatstore.specs.declared.run_threads.NotRun.TheVariants.{Refused, Unsplit}
 
 -- The input was read, and the cores ran over its requests, from the region's state s to t and to this outcome.
-pub record PlayedApart (s : State) (word : ℕ → ℕ) (refused : Bool) (t : State) (coming left : Option (List ℕ)) (x : Outcome)
+pub record PlayedApart (s : State) (word : ℕ → ℕ) (refused : Bool) (t : State)
+    (coming left : Option (List ℕ)) (x : Outcome)
     : Type 0 where
   pub recovered : Recovered
   pub lines : List Line
@@ -23,7 +24,8 @@ pub record PlayedApart (s : State) (word : ℕ → ℕ) (refused : Bool) (t : St
   pub ran : RanApart s word refused recovered lines t x
 
 -- The region was ready for the run, and a split of it failed.
-pub record HasNotSplit (s : State) (word : ℕ → ℕ) (t : State) (coming left : Option (List ℕ)) : Type 0 where
+pub record HasNotSplit (s : State) (word : ℕ → ℕ) (t : State)
+    (coming left : Option (List ℕ)) : Type 0 where
   pub recovered : Recovered
   pub lines : List Line
   pub ready : IsReady s word coming left recovered lines
@@ -46,13 +48,15 @@ has_begun (Refused status) = false
 has_begun Unsplit = true
 
 -- Why no core ran: the work before the run was refused, there was no memory for the run, or the split failed.
-abbrev pub WhyNotRun : State → (ℕ → ℕ) → State → Option (List ℕ) → Option (List ℕ) → ℕ → ℕ → NotRun → Type 0
+abbrev pub WhyNotRun : State → (ℕ → ℕ) → State → Option (List ℕ) → Option (List ℕ) → ℕ → ℕ → NotRun
+    → Type 0
 WhyNotRun s word t coming left source source' (Refused status) =
     ((t ≡ s) × IsRefused s coming left source source' status) ⊎ (status ≡ statuses.Memory)
 WhyNotRun s word t coming left source source' Unsplit = HasNotSplit s word t coming left
 
 -- No core ran, and the region is as it was, but for its counts.
-pub record IsNotRun (s : State) (word : ℕ → ℕ) (t : State) (coming left : Option (List ℕ)) (source source' : ℕ) (why : NotRun)
+pub record IsNotRun (s : State) (word : ℕ → ℕ) (t : State) (coming left : Option (List ℕ))
+    (source source' : ℕ) (why : NotRun)
     : Type 0 where
   pub stays : Stays s t
   pub later : s.faults ≤ t.faults

@@ -30,7 +30,8 @@ use Rattle.flatstore.specs.declared.report.Report.{Report}
 -- Each core worked off the requests of its keys, from the region as it was attached with these words to an end, and this is
 -- a report on the answers that the cores' workers gave. `refused` says whether the gate may hold a post back, and `AllOut`
 -- holds where no write failed.
-pub record RanOnThreads (old new : State) (found : ℕ → ℕ) (refused : Bool) (cores : ℕ) (input : List ℕ)
+pub record RanOnThreads (old new : State) (found : ℕ → ℕ) (refused : Bool) (cores : ℕ)
+    (input : List ℕ)
     (before now : Option (List ℕ)) (AllOut : Type 0) (r : Report) : Type 0 where
   -- The region was attached, and then split and joined. Where it tells, the words are those that were found.
   pub from : GoesOnBy Rejoined old new new.frame.bytes found
@@ -66,7 +67,8 @@ pub record RanOnThreads (old new : State) (found : ℕ → ℕ) (refused : Bool)
 -- The headline, of a run: each core has a worker in a thread of its own.
 pub record RunsOnThreads (old new : State) (found : ℕ → ℕ) (coming left : Option (List ℕ))
     (source_faults source_faults' : ℕ) (refused : Bool) (cores : ℕ) (input : List ℕ)
-    (before now : Option (List ℕ)) (flushed : Bool) (sink_faults sink_faults' : ℕ) (r : Report) : Type 0 where
+    (before now : Option (List ℕ)) (flushed : Bool) (sink_faults sink_faults' : ℕ)
+    (r : Report) : Type 0 where
   pub serves : Serves old new found coming left source_faults source_faults' cores input before now
       flushed sink_faults sink_faults' r
   -- A call of the region that failed kept it from its end only where that was the split: then it is as it was attached.

@@ -36,7 +36,12 @@ fn number_in(matches: &ArgMatches, name: &str) -> Option<u64>
 
 /// The layout with these numbers, where they keep its rules.
 fn layout_of(cores: u64, group: u64, chunks: u64, chunk_bytes: u64) -> Option<Layout>
-    ensures { result ≡ layout_by_rule (record { cores = cores; group = group; chunks = chunks; chunk_bytes = chunk_bytes }) }
+    ensures { result ≡ layout_by_rule (record {
+      cores = cores;
+      group = group;
+      chunks = chunks;
+      chunk_bytes = chunk_bytes;
+    }) }
 {
     if layout_rule(cores, group, chunks, chunk_bytes).is_some() {
         return None;
@@ -56,7 +61,8 @@ fn layout_in(matches: &ArgMatches) -> Option<Layout>
 
 /// The command of a subcommand's name, its matches and its path.
 fn command_named<'a>(name: &str, matches: &ArgMatches, path: &'a str) -> Option<Command<'a>>
-    ensures { option_map asked result ≡ form_named name.now (rows_of (found_of matches.now)) path.entry.now }
+    ensures { option_map asked result ≡ form_named name.now
+        (rows_of (found_of matches.now)) path.entry.now }
 {
     if name == "format" {
         let layout = layout_in(matches)?;
@@ -122,7 +128,8 @@ impl<'a> Command<'a> {
 
 /// The path of the region, or `None` exactly where the words are no form.
 pub fn region_path(alloc: Global, words: &Vec<String>) -> Result<Option<String>, Memory>
-    ensures { IfOk result (λ path. option_map string_bytes path ≡ option_map path_of (form_of (words_of words.now.items))) }
+    ensures { IfOk result (λ path. option_map string_bytes path
+        ≡ option_map path_of (form_of (words_of words.now.items))) }
 {
     match parse_command(alloc, words.as_slice()) {
         Err(error) => Err(error),

@@ -1,8 +1,8 @@
 // The worked rows of making a region, on the top call.
+use crate::alone::flatstore_alone;
 use crate::command::region_path;
 use crate::report::{Report, Status};
 use crate::tests::{PICKS, words_of};
-use crate::alone::flatstore_alone;
 use fs_text::{SteadySink, SteadySource};
 use image_yardstick::first_fault;
 use pm_region::{Faults, FenceNumber, MemRegion, ReadRegion, Region, SplitRegion, SteadyRegion};
@@ -33,14 +33,7 @@ fn call<R: SplitRegion + ReadRegion>(
     let mut source = SteadySource::new(Vec::new(alloc), 1);
     let mut sink = SteadySink::new(alloc, 10, 10)?;
     let words = words(alloc, line)?;
-    Ok(flatstore_alone(
-        rt,
-        alloc,
-        &words,
-        &mut source,
-        &mut sink,
-        region,
-    ))
+    Ok(flatstore_alone(rt, alloc, &words, &mut source, &mut sink, region))
 }
 
 const FORMAT: &str = "format r --cores 2 --group 2 --chunks 4 --chunk-bytes 4096";

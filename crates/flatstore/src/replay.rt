@@ -88,7 +88,8 @@ pub fn replay<S: Source, R: SplitRegion + ReadRegion>(
     region: &mut R,
 ) -> Result<Outcome, Status>
     requires whole { StandsWhole (R.state region.old) }
-    ensures played { IfOk result (Played (R.state region.old) (R.word region.old) (R.state region.new)
+    ensures played { IfOk result (Played (R.state region.old) (R.word region.old)
+        (R.state region.new)
         (S.coming source.old) (S.coming source.new)) }
     ensures refused { IfErr result (IsRefused (R.state region.old)
         (S.coming source.old) (S.coming source.new) (S.fault_count source.old) (S.fault_count source.new)) }

@@ -72,12 +72,7 @@ impl NotRun {
 
 /// Reads the input and runs the cores over its requests, on a region that was attached. Where it answers an `Err`, the
 /// region is as it was, but for its counts.
-fn run_cores<
-    T: Threads + Wait + Sync,
-    S: Source,
-    R: SplitRegion + ReadRegion,
-    G: Gate + Sync,
->(
+fn run_cores<T: Threads + Wait + Sync, S: Source, R: SplitRegion + ReadRegion, G: Gate + Sync>(
     rt: &T,
     alloc: Global,
     source: &mut S,
@@ -85,13 +80,16 @@ fn run_cores<
     gate: &G,
 ) -> Result<Outcome, NotRun>
     requires whole { StandsWhole (R.state region.old) }
-    ensures played { IfOk result (PlayedApart (R.state region.old) (R.word region.old) (G.may_refuse gate.now)
+    ensures played { IfOk result (PlayedApart (R.state region.old) (R.word region.old)
+        (G.may_refuse gate.now)
         (R.state region.new) (S.coming source.old) (S.coming source.new)) }
-    ensures refused { IfErr result (IsNotRun (R.state region.old) (R.word region.old) (R.state region.new)
+    ensures refused { IfErr result (IsNotRun (R.state region.old) (R.word region.old)
+        (R.state region.new)
         (S.coming source.old) (S.coming source.new) (S.fault_count source.old) (S.fault_count source.new)) }
     ensures opens { IsNotOpened (R.state region.old) (R.state region.new) }
     // A region that breaks a rule goes before the source.
-    ensures unread { IfErr result (λ why. is_of_region (status_for why) ≡ true → source.new ≡ source.old) }
+    ensures unread { IfErr result (λ why. is_of_region (status_for why) ≡ true
+        → source.new ≡ source.old) }
 {
     let (recovered, input) = prepared(alloc, source, region)?;
     Ok(run_apart::run(rt, alloc, region, recovered, input, gate)?)
@@ -105,25 +103,23 @@ pub fn run_region<
     O: Sink,
     R: SplitRegion + ReadRegion,
     G: Gate + Sync,
->(
-    rt: &T,
-    alloc: Global,
-    source: &mut S,
-    sink: &mut O,
-    region: &mut R,
-    gate: &G,
-) -> Report
-    ensures attaches { AttachesToSplit (R.state region.old) (R.state region.new) (R.found region.old) result }
+>(rt: &T, alloc: Global, source: &mut S, sink: &mut O, region: &mut R, gate: &G) -> Report
+    ensures attaches { AttachesToSplit (R.state region.old) (R.state region.new)
+        (R.found region.old) result }
 
     // The headline.
-    ensures run { result.attached ≡ true → (input : List ℕ) × (cores : ℕ) × IsInput (S.coming source.old) input
+    ensures run { result.attached ≡ true → (input : List ℕ) × (cores : ℕ)
+        × IsInput (S.coming source.old) input
         × RunsOnThreads (R.state region.old) (R.state region.new) (R.found region.old)
         (S.coming source.old) (S.coming source.new) (S.fault_count source.old) (S.fault_count source.new)
         (G.may_refuse gate.now) cores input
         (O.taken sink.old) (O.taken sink.new) (O.flushed sink.new) (O.fault_count sink.old) (O.fault_count sink.new) result }
-    ensures source_fault { result.status ≡ statuses.SourceFault → Rose (S.fault_count source.old) (S.fault_count source.new) }
-    ensures sink_fault { result.status ≡ statuses.SinkFault → Rose (O.fault_count sink.old) (O.fault_count sink.new) }
-    ensures region_fault { result.status ≡ statuses.RegionFault → Rose (R.state region.old).faults (R.state region.new).faults }
+    ensures source_fault { result.status ≡ statuses.SourceFault
+        → Rose (S.fault_count source.old) (S.fault_count source.new) }
+    ensures sink_fault { result.status ≡ statuses.SinkFault
+        → Rose (O.fault_count sink.old) (O.fault_count sink.new) }
+    ensures region_fault { result.status ≡ statuses.RegionFault
+        → Rose (R.state region.old).faults (R.state region.new).faults }
     ensures no_usage { result.status ≡ statuses.Usage → ⊥ }
 
     // Nothing is written where the run didn't come to its end.
@@ -135,7 +131,8 @@ pub fn run_region<
     ensures unattached_unread { result.attached ≡ false → source.new ≡ source.old }
     ensures sink_untouched { is_quiet result.status ≡ true → sink.new ≡ sink.old }
     ensures region_untouched { is_quiet result.status ≡ true → result.attached ≡ true
-        → Attached (R.state region.old) (R.state region.new) (R.state region.new).frame.bytes (R.found region.old) }
+        → Attached (R.state region.old) (R.state region.new) (R.state region.new).frame.bytes
+        (R.found region.old) }
 {
     match region.attach(alloc) {
         Err(AttachError::RegionFault) => Report::of(alloc, Status::RegionFault, false),

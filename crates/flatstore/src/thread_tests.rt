@@ -71,11 +71,20 @@ fn one_core(rt: HostRuntime) -> Result<(), Fail> {
 }
 
 // What `dump` writes of a region.
-fn dump_of(rt: &(impl Threads + Wait + Sync + AllocGlobal), region: &mut SteadyRegion) -> Result<Vec<u8>, Fail> {
+fn dump_of(
+    rt: &(impl Threads + Wait + Sync + AllocGlobal),
+    region: &mut SteadyRegion,
+) -> Result<Vec<u8>, Fail> {
     let alloc = rt.alloc();
     let mut source = SteadySource::new(Vec::new(alloc), 1);
     let mut sink = SteadySink::new(alloc, 100_000, 1000)?;
-    let _ = call(rt, &["flatstore", "dump", "r"], &mut source, &mut sink, region)?;
+    let _ = call(
+        rt,
+        &["flatstore", "dump", "r"],
+        &mut source,
+        &mut sink,
+        region,
+    )?;
     Ok(Vec::from_slice(alloc, sink.text().unwrap_or(b"not kept"))?)
 }
 
@@ -201,11 +210,15 @@ fn two_cores_meet(rt: HostRuntime) -> Result<(), Fail> {
     let input = "put 0 a\nput 0 b\nput 1 c\nput 3 d\n";
     let (report, written) = threads(&rt, &RUN, &mut region, input, &gate)?;
     assert_eq!(rt; report.status, Status::Done);
-    assert_eq!(rt; written.as_slice(), b"stored\nstored\nstored\nstored\n".as_slice());
+    assert_eq!(rt;
+        written.as_slice(),
+        b"stored\nstored\nstored\nstored\n".as_slice()
+    );
     assert!(rt; !gate.missed.load(Ordering::SeqCst));
     assert_eq!(rt; (gate.asks_of(0), gate.asks_of(1)), (2, 2));
     let log = log_of(&rt, &mut region)?;
-    let first = "core 0 chunk 0 place 0 key 0 version 1 embedded 1\ncore 0 chunk 0 place 3 key 1 version 1 embedded 1\n";
+    let first =
+        "core 0 chunk 0 place 0 key 0 version 1 embedded 1\ncore 0 chunk 0 place 3 key 1 version 1 embedded 1\n";
     assert!(rt; log.as_slice().starts_with(first.as_bytes()));
     Ok(())
 }
@@ -232,7 +245,10 @@ fn a_split_that_fails(rt: HostRuntime) -> Result<(), Fail> {
         },
     )?;
     fresh.attach(alloc)?;
-    assert_eq!(rt; words_of(alloc, &region)?.as_slice(), words_of(alloc, &fresh)?.as_slice());
+    assert_eq!(rt;
+        words_of(alloc, &region)?.as_slice(),
+        words_of(alloc, &fresh)?.as_slice()
+    );
     Ok(())
 }
 
@@ -241,12 +257,20 @@ fn a_piece_that_fails(rt: HostRuntime) -> Result<(), Fail> {
     let alloc = rt.alloc();
     let plan = Faults {
         opens: Vec::new(alloc),
-        fences: vec![in alloc; FenceNumber { piece: 2, number: 1 }]?,
+        fences: vec![in alloc;
+            FenceNumber {
+                piece: 2,
+                number: 1
+            },
+        ]?,
     };
     let mut region = MemRegion::new(alloc, fresh_of(alloc, 2, 1)?, 5000, plan)?;
     let (report, written) = run(&rt, &mut region, "put 0 a\nput 1 b\nget 0\nget 1\n")?;
     assert_eq!(rt; report.status, Status::RegionFault);
     assert_eq!(rt; (report.complete, report.finishes.len()), (true, 1));
-    assert_eq!(rt; written.as_slice(), b"stored\nstopped\nvalue a\nstopped\n".as_slice());
+    assert_eq!(rt;
+        written.as_slice(),
+        b"stored\nstopped\nvalue a\nstopped\n".as_slice()
+    );
     Ok(())
 }

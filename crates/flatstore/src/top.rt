@@ -47,11 +47,14 @@ pub fn flatstore<
 ) -> Report
     // The words alone decide on Usage, but for want of memory.
     ensures usage { result.status ≡ statuses.Usage → form_of (words_of words.now.items) ≡ None }
-    ensures no_form { form_of (words_of words.now.items) ≡ None → (result.status ≡ statuses.Usage) ⊎ (result.status ≡ statuses.Memory) }
+    ensures no_form { form_of (words_of words.now.items) ≡ None → (result.status ≡ statuses.Usage)
+        ⊎ (result.status ≡ statuses.Memory) }
 
     // A region that is made is the empty one, and until then it is refused.
-    ensures format { (path : List ℕ) (l : Geometry) → form_of (words_of words.now.items) ≡ Some (Format path l)
-        → Formats (R.state region.old) (R.state region.new) l result × (source.new ≡ source.old) × (sink.new ≡ sink.old) }
+    ensures format { (path : List ℕ) (l : Geometry)
+        → form_of (words_of words.now.items) ≡ Some (Format path l)
+        → Formats (R.state region.old) (R.state region.new) l result × (source.new ≡ source.old)
+        × (sink.new ≡ sink.old) }
 
     // What is dumped are the cells that the words of the region recover.
     ensures dump { (path : List ℕ) → form_of (words_of words.now.items) ≡ Some (Dump path)
@@ -68,7 +71,8 @@ pub fn flatstore<
     // The headline.
     ensures attaches { (path : List ℕ) → form_of (words_of words.now.items) ≡ Some (Replay path)
         → Attaches (R.state region.old) (R.state region.new) (R.found region.old) result }
-    ensures replay { (path : List ℕ) → form_of (words_of words.now.items) ≡ Some (Replay path) → result.attached ≡ true
+    ensures replay { (path : List ℕ) → form_of (words_of words.now.items) ≡ Some (Replay path)
+        → result.attached ≡ true
         → (input : List ℕ) × (cores : ℕ) × IsInput (S.coming source.old) input
         × Replays (R.state region.old) (R.state region.new) (R.found region.old)
         (S.coming source.old) (S.coming source.new) (S.fault_count source.old) (S.fault_count source.new) cores input
@@ -77,7 +81,8 @@ pub fn flatstore<
     // The same of a run on threads, whatever the gate.
     ensures attaches_run { (path : List ℕ) → form_of (words_of words.now.items) ≡ Some (Run path)
         → AttachesToSplit (R.state region.old) (R.state region.new) (R.found region.old) result }
-    ensures run { (path : List ℕ) → form_of (words_of words.now.items) ≡ Some (Run path) → result.attached ≡ true
+    ensures run { (path : List ℕ) → form_of (words_of words.now.items) ≡ Some (Run path)
+        → result.attached ≡ true
         → (input : List ℕ) × (cores : ℕ) × IsInput (S.coming source.old) input
         × RunsOnThreads (R.state region.old) (R.state region.new) (R.found region.old)
         (S.coming source.old) (S.coming source.new) (S.fault_count source.old) (S.fault_count source.new)
@@ -85,9 +90,12 @@ pub fn flatstore<
         (O.taken sink.old) (O.taken sink.new) (O.flushed sink.new) (O.fault_count sink.old) (O.fault_count sink.new) result }
 
     // A fault comes only where its count rose.
-    ensures source_fault { result.status ≡ statuses.SourceFault → Rose (S.fault_count source.old) (S.fault_count source.new) }
-    ensures sink_fault { result.status ≡ statuses.SinkFault → Rose (O.fault_count sink.old) (O.fault_count sink.new) }
-    ensures region_fault { result.status ≡ statuses.RegionFault → Rose (R.state region.old).faults (R.state region.new).faults }
+    ensures source_fault { result.status ≡ statuses.SourceFault
+        → Rose (S.fault_count source.old) (S.fault_count source.new) }
+    ensures sink_fault { result.status ≡ statuses.SinkFault
+        → Rose (O.fault_count sink.old) (O.fault_count sink.new) }
+    ensures region_fault { result.status ≡ statuses.RegionFault
+        → Rose (R.state region.old).faults (R.state region.new).faults }
 
     // Nothing is written where the run didn't come to its end.
     ensures incomplete { result.complete ≡ false → sink.new ≡ sink.old }
@@ -99,9 +107,11 @@ pub fn flatstore<
 
     // Nothing is lost or changed by a refusal.
     ensures sink_untouched { is_quiet result.status ≡ true → sink.new ≡ sink.old }
-    ensures no_form_untouched { form_of (words_of words.now.items) ≡ None → (region.new ≡ region.old) × (source.new ≡ source.old) }
+    ensures no_form_untouched { form_of (words_of words.now.items) ≡ None
+        → (region.new ≡ region.old) × (source.new ≡ source.old) }
     ensures region_untouched { is_quiet result.status ≡ true → result.attached ≡ true
-        → Attached (R.state region.old) (R.state region.new) (R.state region.new).frame.bytes (R.found region.old) }
+        → Attached (R.state region.old) (R.state region.new) (R.state region.new).frame.bytes
+        (R.found region.old) }
 {
     match asks_for_threads(alloc, words) {
         Err(Memory) => Report::of(alloc, Status::Memory, false),
