@@ -2,7 +2,7 @@
 use Rattle.std.proofs.Common.{◌≡◌, ◌≢◌, ◌⊎◌, inl, inr, ℕ, ◌/◌, ◌<◌, ◌≤◌, List, [], ◌++◌, map, refl, sym, ◌∙◌, ap, subst, arith, true, false, Bool, Option, None, append-nil}
 use Rattle.std.specs.Prelude.{IsTrue}
 use Rattle.pm_region.specs.Cell.{Cell}
-use Rattle.pm_region.specs.State.{State, InRange, IsTold, IsTelling, MayLeave, Rose, cell_now}
+use Rattle.pm_region.specs.State.{State, InRange, IsTold, IsTelling, MayLeave, Rose, cell_now, counted}
 use Rattle.pm_region.specs.Split.{Attached, Stays, IsOpenedOnceMore, IsNotOpened, words_in}
 use Rattle.pm_region.specs.Words.{lasts}
 use Rattle.fs_text.specs.Output.{replies_text}
@@ -299,7 +299,7 @@ module _ (old s t : State) (found word : ℕ → ℕ) (A : Attached old s s.fram
         let end : is_ended x.end ≡ true = sym complete_is ∙ complete in
         let not_cut : x.end ≢ ends.Memory = ended end in
         record {
-          from = subst (λ z. GoesOnBy Rejoined old z z.frame.bytes found) (sym P.ran.region) from;
+          from = from;
           o = o;
           origin = P.ran.begins.is;
           region = began;
@@ -314,6 +314,7 @@ module _ (old s t : State) (found word : ℕ → ℕ) (A : Attached old s s.fram
           given = P.ran.given;
           ran = P.ran.ran;
           ends = refl;
+          next = λ telling told latest low each. subst (λ (z : State). z.stamp ≤ counted latest) (sym P.ran.region) (P.ran.next telling told latest low each);
           answered = (P.ran.done not_cut).answered;
           drained = (P.ran.done not_cut).drained;
           kept = P.ran.kept;
@@ -329,8 +330,11 @@ module _ (old s t : State) (found word : ℕ → ℕ) (A : Attached old s s.fram
         ended : is_ended x.end ≡ true → x.end ≢ ends.Memory
         ended is m = both (is_ended x.end) is (ap is_ended m)
 
-        from : GoesOnBy Rejoined old t t.frame.bytes found
-        from = record { at = s; attached = subst (λ n. Attached old s n found) (sym P.ran.rejoined.bytes) A; once = once; granted = granted; on = P.ran.rejoined }
+        bytes : f.region.frame.bytes ≡ s.frame.bytes
+        bytes = ap (λ (z : State). z.frame.bytes) P.ran.region ∙ P.ran.rejoined.bytes
+
+        from : GoesOnBy Rejoined old f.region f.region.frame.bytes found
+        from = record { at = s; attached = subst (λ n. Attached old s n found) (sym bytes) A; once = once; granted = granted; on = subst (λ z. Rejoined s z) (sym P.ran.region) P.ran.rejoined }
 
     pub ran_on : (source source' : ℕ) → (input : List ℕ) × (cores : ℕ) × IsInput coming input × RunsOnThreads old t found coming left source source' refused cores input before now flushed faults faults' r
     ran_on source source' = (

@@ -1,7 +1,7 @@
 -- What a call with the words of `run` promises.
-use Rattle.std.specs.Prelude.{◌≡◌, ℕ, ◌/◌, ◌<◌, List, map, Bool, true, false, Option, Ok}
-use Rattle.pm_region.specs.State.{State, IsTelling, cell_now, Rose}
-use Rattle.pm_region.specs.Split.{Attached}
+use Rattle.std.specs.Prelude.{◌≡◌, ℕ, ◌/◌, ◌<◌, ◌≤◌, List, map, Bool, true, false, Option, Ok}
+use Rattle.pm_region.specs.State.{State, IsTelling, cell_now, Rose, counted}
+use Rattle.pm_region.specs.Split.{Attached, TellsFrom}
 use Rattle.chunk_map.specs.Layouts.{layout_of}
 use Rattle.recover.specs.declared.types.Recovered.{Recovered}
 use Rattle.recover.specs.Recovering.{IsMade}
@@ -49,8 +49,14 @@ pub record RanOnThreads (old new : State) (found : ℕ → ℕ) (refused : Bool)
   pub f : Engine
   pub given : f.given ≡ asked_in lines
   pub ran : AllRan o recovered refused f
-  -- The region is as it is in the last state. Everything is answered there, every slot is empty and nothing waits.
+  -- The region is as it is in the last state, and goes on telling by the stamp after the latest of its pieces' stamps,
+  -- where each piece told to its end. Everything is answered there, every slot is empty and nothing waits.
   pub ends : f.region ≡ new
+  pub next : IsTelling from.at
+      → ((c : ℕ) (low : c < f.layout.cores) → TellsFrom from.at (ran.cores c low).last.region)
+      → (latest : ℕ) → from.at.stamp ≤ latest
+      → ((c : ℕ) (low : c < f.layout.cores) → (ran.cores c low).last.region.stamp ≤ latest)
+      → new.stamp ≤ counted latest
   pub answered : AllAnswered f
   pub drained : IsDrained f
   -- The report's finishes and refusals and the text are those of what the workers answered, at the joined region's stamp.
