@@ -55,10 +55,11 @@ module _ (old s t : State) (found word : ℕ → ℕ) (A : Attached old s s.fram
         long = λ n a is why q asked. C.long more n q a is why asked;
       }
 
-  from : GoesOnFrom old f.region f.region.frame.bytes found
-  from =
-      let on : Runs s f.region = subst (λ z. Runs z f.region) began P.ran.stands.run in
-      record { at = s; attached = subst (λ (fr : Frame). Attached old s fr.bytes found) (sym on.frame) A; once = once; granted = granted; on = on }
+  on : Runs s f.region
+  on = subst (λ z. Runs z f.region) began P.ran.stands.run
+
+  abbrev from : GoesOnFrom old f.region f.region.frame.bytes found
+  from = record { at = s; attached = subst (λ (fr : Frame). Attached old s fr.bytes found) (sym on.frame) A; once = once; granted = granted; on = on }
 
   low_stamp : (n : ℕ) → o.region.stamp ≤ n
   low_stamp n = let same = ap (λ (z : State). z.stamp) began in let stamp = A.stamp in omega (arith, same, stamp)

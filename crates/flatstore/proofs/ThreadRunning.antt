@@ -282,6 +282,12 @@ module _ (old s t : State) (found word : ℕ → ℕ) (A : Attached old s s.fram
     causes = causes;
   }
 
+  bytes : f.region.frame.bytes ≡ s.frame.bytes
+  bytes = ap (λ (z : State). z.frame.bytes) P.ran.region ∙ P.ran.rejoined.bytes
+
+  abbrev from : GoesOnBy Rejoined old f.region f.region.frame.bytes found
+  from = record { at = s; attached = subst (λ n. Attached old s n found) (sym bytes) A; once = once; granted = granted; on = subst (λ z. Rejoined s z) (sym P.ran.region) P.ran.rejoined }
+
   -- The report is on the last state of the cores.
   module _ (before now : Option (List ℕ)) (flushed : Bool) (faults faults' : ℕ) (r : Report) (W : HasWritten x before now flushed faults faults' r.status)
       (finishes : r.finishes.items ≡ x.finishes.items) (refusals : r.refusals.items ≡ x.refusals.items) (begun : r.began ≡ true) (complete_is : r.complete ≡ is_ended x.end) where
@@ -329,12 +335,6 @@ module _ (old s t : State) (found word : ℕ → ℕ) (A : Attached old s s.fram
       where
         ended : is_ended x.end ≡ true → x.end ≢ ends.Memory
         ended is m = both (is_ended x.end) is (ap is_ended m)
-
-        bytes : f.region.frame.bytes ≡ s.frame.bytes
-        bytes = ap (λ (z : State). z.frame.bytes) P.ran.region ∙ P.ran.rejoined.bytes
-
-        from : GoesOnBy Rejoined old f.region f.region.frame.bytes found
-        from = record { at = s; attached = subst (λ n. Attached old s n found) (sym bytes) A; once = once; granted = granted; on = subst (λ z. Rejoined s z) (sym P.ran.region) P.ran.rejoined }
 
     pub ran_on : (source source' : ℕ) → (input : List ℕ) × (cores : ℕ) × IsInput coming input × RunsOnThreads old t found coming left source source' refused cores input before now flushed faults faults' r
     ran_on source source' = (
