@@ -1,8 +1,7 @@
 -- The run that a report is of.
-use Rattle.std.proofs.Common.{◌≡◌, ◌≢◌, inl, inr, ℕ, ◌/◌, ◌<◌, List, [], refl, sym, ◌∙◌, ap, subst, true, false, map, Option, Ok}
-use Rattle.pm_region.specs.State.{State, Frame, IsTelling, Rose, cell_now}
+use Rattle.std.proofs.Common.{◌≡◌, ◌≢◌, ℕ, List, refl, sym, ◌∙◌, ap, subst, true, Option, Ok}
+use Rattle.pm_region.specs.State.{State, Frame, IsTelling, cell_now}
 use Rattle.pm_region.specs.Split.{Attached, IsOpenedOnceMore}
-use Rattle.fs_model.specs.declared.model.Reply.{Reply}
 use Rattle.fs_text.specs.declared.line.Line.{Line}
 use Rattle.fs_text.specs.Input.{input_of}
 use Rattle.fs_text.specs.Streams.{Takes, TakesPrefix}
@@ -10,12 +9,10 @@ use Rattle.fs_text.specs.Output.{replies_text}
 use Rattle.chunk_map.specs.Layouts.{layout_of}
 use Rattle.store_image.specs.Soundness.{IsSound}
 use Rattle.recover.specs.declared.types.Recovered.{Recovered}
-use Rattle.engine_laws.specs.Engine.{Engine}
 use Rattle.engine_laws.specs.Stands.{Origin, opening, given_to}
 use Rattle.engine_laws.specs.Promises.{AnyTurn}
 use Rattle.engine_laws.specs.Parts.{AllLicensed}
 use Rattle.engine_laws.specs.Ran.{Ran}
-use Rattle.engine_laws.specs.Reports.{told_of, replies_of}
 use Rattle.engine_laws.proofs.Ran.{ran_seen}
 use Rattle.core_worker.specs.declared.worker.Worker.{Worker}
 use Rattle.group_engine.specs.declared.run_outcome.End.TheVariants as ends
@@ -27,11 +24,10 @@ use Rattle.flatstore.specs.Attaching.{GoesOnFrom, Runs}
 use Rattle.flatstore.specs.LastStates.{Opens, ReportsAnswers, RanTo}
 use Rattle.flatstore.specs.Promise.{IsAllOut}
 use Rattle.flatstore.specs.Played.{HasWritten, is_ended}
-use Rattle.flatstore.specs.declared.report.Status.{Status}
-use Rattle.flatstore.specs.declared.report.Status.TheVariants as statuses
 use Rattle.flatstore.specs.declared.report.Report.{Report}
 use Rattle.flatstore.proofs.Attached.{found_words}
-use Rattle.flatstore.proofs.Texts.{both, takes_front, small_sound}
+use Rattle.flatstore.proofs.Texts.{both, small_sound}
+use Rattle.flatstore.proofs.Written.{front_written, all_written}
 
 module _ (old s t : State) (found word : ℕ → ℕ) (A : Attached old s s.frame.bytes found) (once : IsOpenedOnceMore old s) (granted : s.frame.refusals ≡ old.frame.refusals)
     (recovered : Recovered) (S : StandsAsFound s word recovered) (cores : ℕ) (input : List ℕ) (lines : List Line) (good : input_of cores input ≡ Ok lines)
@@ -78,40 +74,12 @@ module _ (old s t : State) (found word : ℕ → ℕ) (A : Attached old s s.fram
     abbrev AllOut : Type 0
     AllOut = IsAllOut r.status faults faults'
 
-    front_by : HasWritten x before now flushed faults faults' r.status → TakesPrefix before now (replies_text x.replies.items)
-    front_by (inl w) = takes_front before now (replies_text x.replies.items) w.2
-    front_by (inr (inl w)) = elim w.2 [
-      | inl all ↦ takes_front before now (replies_text x.replies.items) all.0
-      | inr some ↦ some.1
-    ]
-    front_by (inr (inr (inl w))) = w.3
-    front_by (inr (inr (inr w))) = elim w.1 [
-      | inl some ↦ some.1
-      | inr cut ↦ both r.complete complete (report_complete ∙ cut.0)
-    ]
-
-    out_of : (other : Status) → r.status ≡ other → other ≢ statuses.Done → other ≢ statuses.RegionFault → AllOut → ⊥
-    out_of other e done failed (inl is) = done (sym e ∙ is)
-    out_of other e done failed (inr is) = failed (sym e ∙ is.0)
-
-    all_by : HasWritten x before now flushed faults faults' r.status → AllOut → Takes before now (replies_text x.replies.items)
-    all_by (inl w) out = w.2
-    all_by (inr (inl w)) out = elim w.2 [
-      | inl all ↦ all.0
-      | inr some ↦ absurd (no_rise w.0 out some.0)
-    ] where
-      no_rise : r.status ≡ statuses.RegionFault → AllOut → Rose faults faults' → ⊥
-      no_rise e (inl is) rose = cc (sym e ∙ is)
-      no_rise e (inr is) rose = is.1 rose
-    all_by (inr (inr (inl w))) out = absurd (out_of statuses.SinkFault w.0 (λ q. cc q) (λ q. cc q) out)
-    all_by (inr (inr (inr w))) out = absurd (out_of statuses.Memory w.0 (λ q. cc q) (λ q. cc q) out)
-
     reports : ReportsAnswers t before now AllOut last r
     reports = record {
       finishes = finishes ∙ P.kept.finishes;
       refusals = refusals ∙ P.kept.refusals;
-      begins = subst (λ rs. TakesPrefix before now (replies_text rs)) P.kept.replies (front_by W);
-      writes = λ out. subst (λ rs. Takes before now (replies_text rs)) P.kept.replies (all_by W out);
+      begins = subst (λ rs. TakesPrefix before now (replies_text rs)) P.kept.replies (front_written x before now flushed faults faults' r.status W (sym report_complete ∙ complete));
+      writes = λ out. subst (λ rs. Takes before now (replies_text rs)) P.kept.replies (all_written x before now flushed faults faults' r.status W out);
       count = P.count;
       shown = P.shown;
       told_is = (λ i. told (finishes i) (refusals i)) ∙ P.reports.told_is;

@@ -11,6 +11,8 @@ pub mod Shows
 pub mod Logs
 pub mod Reads
 pub mod Played
+pub mod ThreadPlays
+pub mod ThreadRuns
 pub use Rattle.chunk_map.specs.Checked
 pub use Rattle.chunk_map.specs.Layouts
 pub use Rattle.chunk_map.specs.Superblock
