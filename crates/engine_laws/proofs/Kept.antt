@@ -41,7 +41,7 @@ module _ (Move : Engine → ℕ → Bool → Engine → Type 0) (P : Engine → 
   last_drain zero e f p r = (e, p, r)
   last_drain (suc passes) e f p r = last_drain passes r.2 f (pass Move P moves 0 cores r.0 e r.2 p r.3) r.4
 
-  pub last_pass : (ls : List Line) (e f : Engine) → P e → Ran Move cores ls e f → (mid : Engine) × P mid × Pass Move 0 cores 0 mid f
+  pub last_pass : (ls : List Line) (e f : Engine) → P e → Ran Move given_to cores ls e f → (mid : Engine) × P mid × Pass Move 0 cores 0 mid f
   last_pass [] e f p r = last_drain r.0 e f p r.1
   last_pass (Ask q ∷ ls) e f p r = last_pass ls (given_to e q) f (asks e q p) r
   last_pass (Go c turns ∷ ls) e f p r = last_pass ls r.0 f (goes Move P moves c turns e r.0 p r.1) r.2
@@ -50,11 +50,11 @@ turn_stands : (o : Origin) (e : Engine) (c : ℕ) (b : Bool) (f : Engine) → St
 turn_stands o e c b f S m = stands_on o e f c m.0.0 m.0.1 S m.0.2
 
 -- A run whose idle turns are idle ends with everything answered.
-pub done : (o : Origin) (ls : List Line) (e : Engine) → IsOrigin o → Ran AnyTurn (layout_of o.found).cores ls (opening o) e → IsDone o e
+pub done : (o : Origin) (ls : List Line) (e : Engine) → IsOrigin o → Ran AnyTurn given_to (layout_of o.found).cores ls (opening o) e → IsDone o e
 done o ls e is r =
     let cores : ℕ = (layout_of o.found).cores in
     let first : Stands o (opening o) = opens o is.sound is.first is.words is.certain in
-    let end = ran AnyTurn (Stands o) (turn_stands o) (gives o) cores ls (opening o) e first r in
+    let end = ran AnyTurn (Stands o) (turn_stands o) given_to (gives o) cores ls (opening o) e first r in
     let last = last_pass AnyTurn (Stands o) (turn_stands o) (gives o) cores ls (opening o) e first r in
     let idle : (c : ℕ) → c < e.layout.cores → IsIdle e c = (λ c low.
     still_pass AnyTurn (λ x y d m. m.2 refl) 0 cores last.0 e (λ d none. absurd (omega (arith, none))) last.2 c (let same : e.layout.cores ≡ cores = ap (λ (l : Geometry). l.cores) end.layout in omega (arith, low, same))) in

@@ -103,16 +103,16 @@ pub fn every_moment()
 /// Whatever the lines and the moves: the promises hold, and the requests of the lines were given.
 pub fn every_replay()
     ensures promised { (o : Origin) (cores : ℕ) (lines : List Line) (e : Engine)
-        → IsOrigin o → Ran AnyMove cores lines (opening o) e → Promised o e }
+        → IsOrigin o → Ran AnyMove given_to cores lines (opening o) e → Promised o e }
     ensures given { (o : Origin) (cores : ℕ) (lines : List Line) (e : Engine)
-        → Ran AnyMove cores lines (opening o) e → e.given ≡ asked_in lines }
+        → Ran AnyMove given_to cores lines (opening o) e → e.given ≡ asked_in lines }
 {}
 
 /// Where a turn answers that nothing moved only when its core is idle, the last pass leaves every request answered,
 /// every slot empty and nothing waiting.
 pub fn every_drain()
     ensures { (o : Origin) (lines : List Line) (e : Engine) → IsOrigin o
-        → Ran AnyTurn (layout_of o.found).cores lines (opening o) e → IsDone o e }
+        → Ran AnyTurn given_to (layout_of o.found).cores lines (opening o) e → IsDone o e }
 {}
 
 /// A core that rests does so while a turn of another one makes loads alone; where each does, all that was posted or
