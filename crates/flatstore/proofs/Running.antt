@@ -1,5 +1,5 @@
 -- The run that a report is of.
-use Rattle.std.proofs.Common.{◌≡◌, ◌≢◌, ℕ, List, refl, sym, ◌∙◌, ap, subst, true, Option, Ok}
+use Rattle.std.proofs.Common.{◌≡◌, ◌≢◌, ℕ, List, refl, sym, ◌∙◌, ap, subst, Bool, true, Option, Ok}
 use Rattle.pm_region.specs.State.{State, Frame, IsTelling, cell_now}
 use Rattle.pm_region.specs.Split.{Attached, IsOpenedOnceMore}
 use Rattle.fs_text.specs.declared.line.Line.{Line}
@@ -42,11 +42,11 @@ module _ (old s t : State) (found word : ℕ → ℕ) (A : Attached old s s.fram
   pub on : Runs s t
   on = subst (λ z. Runs s z) P.region (subst (λ z. Runs z last.engine.region) P.begins.region P.stands.run)
 
-  pub from : GoesOnFrom old t t.frame.bytes found
+  abbrev pub from : GoesOnFrom old t t.frame.bytes found
   from = record { at = s; attached = subst (λ (fr : Frame). Attached old s fr.bytes found) (sym on.frame) A; once = once; granted = granted; on = on }
 
   module _ (not_cut : x.end ≢ ends.Memory) where
-    pub first : Opens s found cores
+    abbrev pub first : Opens s found cores
     first =
         let sound : IsSound s.frame.bytes o.found = subst (λ (z : State). IsSound z.frame.bytes o.found) P.begins.region P.begins.is.sound in
         record {
