@@ -6,6 +6,7 @@ pub mod Numbering
 pub mod Causing
 pub mod Written
 pub mod Serving
+pub mod Running
 pub mod Replaying
 pub mod Refused
 pub mod ThreadRunning

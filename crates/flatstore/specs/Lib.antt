@@ -31,6 +31,7 @@ pub use Rattle.fs_text.specs.Output
 pub use Rattle.fs_text.specs.Streams
 pub use Rattle.group_engine.specs.Answers
 pub use Rattle.group_engine.specs.Replayed
+pub use Rattle.group_engine.specs.Runs
 pub use Rattle.group_engine.specs.Reports as RunReports
 pub use Rattle.headline.specs.Ample
 pub use Rattle.headline.specs.Headline

@@ -4,7 +4,6 @@ use Rattle.pm_region.specs.Cell.{certain}
 use Rattle.pm_region.specs.State.{State, IsTelling, InRange, cell_now, Rose}
 use Rattle.pm_region.specs.Split.{words_in}
 use Rattle.pm_region.specs.Words.{lasts}
-use Rattle.chunk_map.specs.Layouts.{layout_of}
 use Rattle.store_image.specs.declared.types.Fault.{Fault}
 use Rattle.store_image.specs.Soundness.{first_fault}
 use Rattle.fs_text.specs.declared.line.Line.{Line}
@@ -30,8 +29,7 @@ pub record StandsWhole (s : State) : Type 0 where
 
 -- What recovery gave of the region, and the lines of the input for its cores.
 pub record IsReady (s : State) (word : ℕ → ℕ) (coming left : Option (List ℕ)) (r : Recovered)
-    (lines : List Line)
-    : Type 0 where
+    (lines : List Line) : Type 0 where
   pub stands : StandsAsFound s word r
   pub read : IsRead coming left r.layout.cores lines
   pub within : IsWithin r.layout.cores lines
@@ -39,11 +37,10 @@ pub record IsReady (s : State) (word : ℕ → ℕ) (coming left : Option (List 
 -- The input was read, and the engine ran over its lines, from the region's state s to t and to this outcome.
 pub record Played (s : State) (word : ℕ → ℕ) (t : State) (coming left : Option (List ℕ))
     (x : Outcome) : Type 0 where
-  pub cores : ℕ
+  pub recovered : Recovered
   pub lines : List Line
-  pub read : IsRead coming left cores lines
-  pub ran : Replayed s word lines t x
-  pub count : (layout_of ran.origin.found).cores ≡ cores
+  pub ready : IsReady s word coming left recovered lines
+  pub ran : Replayed s word recovered lines t x
 
 -- Why a region is not served: it breaks a rule, or there was no memory.
 abbrev pub IsUnserved : State → Status → Type 0

@@ -1,6 +1,6 @@
 -- The lines name cores of the region, and the engine ran over them.
 use Rattle.flatstore.proofs.Inputs.{names_cores}
-use Rattle.flatstore.proofs.Standing.{some_cores, origin_cores}
+use Rattle.flatstore.proofs.Standing.{some_cores}
 use Rattle.flatstore.proofs.replay.replay.Goals as goal
 
 pub replay-requires-clause-lines : goal.replay-requires-clause-lines
@@ -14,9 +14,8 @@ returns-in-Ok-clause-played g c =
     let s = g.R.Region.state c.args.region.now in
     let word = g.R.ReadRegion.word c.args.region.now in
     record {
-      cores = c.in-Ok.recovered.layout.cores;
+      recovered = c.in-Ok.recovered;
       lines = c.in-Ok.input;
-      read = c.in-Ok.ensures.ready.read;
+      ready = c.in-Ok.ensures.ready;
       ran = c.replay.ensures;
-      count = origin_cores s word c.in-Ok.recovered c.in-Ok.ensures.ready.stands c.replay.ensures.origin c.replay.ensures.begins.reads;
     }
