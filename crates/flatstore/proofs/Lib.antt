@@ -5,8 +5,8 @@ pub mod Attached
 pub mod Numbering
 pub mod Causing
 pub mod Written
-pub mod Running
 pub mod Serving
+pub mod Running
 pub mod Replaying
 pub mod Refused
 pub mod ThreadRunning

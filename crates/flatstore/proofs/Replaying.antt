@@ -3,11 +3,9 @@ use Rattle.std.proofs.Common.{◌≡◌, ◌≢◌, ℕ, ◌/◌, ◌<◌, ◌�
 use Rattle.pm_region.specs.State.{State, Frame, IsTelling, MayLeave}
 use Rattle.pm_region.specs.Split.{Attached, IsOpenedOnceMore}
 use Rattle.pm_region.specs.Words.{lasts}
-use Rattle.fs_text.specs.Streams.{Takes, TakesPrefix}
-use Rattle.fs_text.specs.Output.{replies_text}
 use Rattle.chunk_map.specs.Layouts.{layout_of}
 use Rattle.engine_laws.specs.Engine.{Engine}
-use Rattle.engine_laws.specs.Stands.{Origin, opening}
+use Rattle.engine_laws.specs.Stands.{Origin, opening, given_to}
 use Rattle.engine_laws.specs.Promises.{AnyTurn}
 use Rattle.engine_laws.specs.Ran.{Ran}
 use Rattle.group_engine.specs.declared.run_outcome.End.TheVariants as ends
@@ -15,7 +13,6 @@ use Rattle.group_engine.specs.declared.run_outcome.Outcome.{Outcome}
 use Rattle.group_engine.specs.Replayed.{report_in}
 use Rattle.group_engine.specs.Reports.{ReportsOn, told, told_by}
 use Rattle.engine_laws.proofs.Ran.{ran_given}
-use Rattle.flatstore.specs.Attaching.{GoesOnFrom, Runs}
 use Rattle.flatstore.specs.LastStates.{told_in, RanTo}
 use Rattle.flatstore.specs.Promise.{IsInput, Replays, IsAllOut}
 use Rattle.flatstore.specs.Played.{Played, HasWritten, is_ended}
@@ -44,15 +41,17 @@ module _ (old s t : State) (found word : ℕ → ℕ) (A : Attached old s s.fram
   abbrev input : List ℕ
   input = P.ready.read.input
 
-  count : (layout_of o.found).cores ≡ cores
-  count = origin_cores s word P.recovered P.ready.stands o P.ran.begins.reads
-
   began : o.region ≡ s
   began = P.ran.begins.region
 
+  count : (layout_of o.found).cores ≡ cores
+  count = origin_cores s word P.recovered P.ready.stands o P.ran.begins.reads
+
+  engine_ran : x.end ≢ ends.Memory → Ran AnyTurn given_to cores P.lines (opening o) f
+  engine_ran = running.engine_ran old s t found word A once granted P.recovered P.ready.stands cores input P.lines P.ready.read.good x P.ran count
+
   given_whole : x.end ≢ ends.Memory → P.ran.given.0 ≡ []
-  given_whole not_cut = none_behind f.given P.ran.given.0 (ran_given AnyTurn (λ e g c b m. m.0) cores P.lines (opening o) f
-      (running.engine_ran old s t found word A once granted P.recovered P.ready.stands cores input P.lines P.ready.read.good x P.ran count not_cut) ∙ P.ran.given.1)
+  given_whole not_cut = none_behind f.given P.ran.given.0 (ran_given AnyTurn (λ e g c b m. m.0) cores P.lines (opening o) f (engine_ran not_cut) ∙ P.ran.given.1)
 
   causes : HasCauses o.found (f.given ++ P.ran.given.0) f.answer
   causes =
@@ -69,53 +68,46 @@ module _ (old s t : State) (found word : ℕ → ℕ) (A : Attached old s s.fram
   low_stamp n = let same = ap (λ (z : State). z.stamp) began in let stamp = A.stamp in omega (arith, same, stamp)
 
   pub known : Known old found coming left cores input o f x
-  known =
-      record {
-        attached = subst (λ (z : State). Attached old z z.frame.bytes found) (sym began) A;
-        origin = P.ran.begins.is;
-        was = λ n told. P.ran.stands.run.was n told (low_stamp n);
-        bytes = ap (λ (fr : Frame). fr.bytes) P.ran.stands.run.frame;
-        leaves = λ cells image may. subst (λ fr. MayLeave fr cells image) P.ran.stands.run.frame may;
-        low = let same = ap (λ (z : State). z.faults) began in omega (arith, low, same);
-        words = subst (λ z. IsTelling z → (w : ℕ) → w < z.frame.bytes / 8 → o.found w ≡ lasts z w) (sym began) P.ran.begins.tells;
-        count = count;
-        lines = P.lines;
-        good = P.ready.read.good;
-        promised = P.ran.promised;
-        more = P.ran.given.0;
-        given = P.ran.given.1;
-        all_given = given_whole;
-        reports = subst (λ z. ReportsOn z o f (report_in x)) (sym P.ran.region) P.ran.reports;
-        done = P.ran.done;
-        fault = P.ran.fault;
-        whole = P.ran.complete;
-        causes = causes;
-      }
+  known = record {
+    attached = subst (λ (z : State). Attached old z z.frame.bytes found) (sym began) A;
+    origin = P.ran.begins.is;
+    was = λ n told. P.ran.stands.run.was n told (low_stamp n);
+    bytes = ap (λ (fr : Frame). fr.bytes) P.ran.stands.run.frame;
+    leaves = λ cells image may. subst (λ fr. MayLeave fr cells image) P.ran.stands.run.frame may;
+    low = let same = ap (λ (z : State). z.faults) began in omega (arith, low, same);
+    words = subst (λ z. IsTelling z → (w : ℕ) → w < z.frame.bytes / 8 → o.found w ≡ lasts z w) (sym began) P.ran.begins.tells;
+    count = count;
+    lines = P.lines;
+    good = P.ready.read.good;
+    promised = P.ran.promised;
+    more = P.ran.given.0;
+    given = P.ran.given.1;
+    all_given = given_whole;
+    reports = subst (λ z. ReportsOn z o f (report_in x)) (sym P.ran.region) P.ran.reports;
+    done = P.ran.done;
+    fault = P.ran.fault;
+    whole = P.ran.complete;
+    causes = causes;
+  }
 
   -- The report is on the last state of the run.
   module _ (before now : Option (List ℕ)) (flushed : Bool) (faults faults' : ℕ) (r : Report) (W : HasWritten x before now flushed faults faults' r.status)
-      (finishes : r.finishes.items ≡ x.finishes.items) (refusals : r.refusals.items ≡ x.refusals.items) (began_then : r.began ≡ true) (complete_is : r.complete ≡ is_ended x.end) where
+      (finishes : r.finishes.items ≡ x.finishes.items) (refusals : r.refusals.items ≡ x.refusals.items) (begun : r.began ≡ true) (complete_is : r.complete ≡ is_ended x.end) where
     report_told : told_in r ≡ told_by (report_in x)
-    report_told = (λ i. told (finishes i) (refusals i))
-
-    ran_to : r.complete ≡ true → RanTo old f.region found cores input before now (IsAllOut r.status faults faults') r
-    ran_to complete = subst (λ z. RanTo old z found cores input before now (IsAllOut r.status faults faults') r) (sym P.ran.region)
-        (running.ran_to old s t found word A once granted P.recovered P.ready.stands cores input P.lines P.ready.read.good x P.ran count before now flushed faults faults' r W finishes refusals complete_is complete)
+    report_told i = told (finishes i) (refusals i)
 
     replays : (source source' : ℕ) → Replays old f.region found coming left source source' cores input before now flushed faults faults' r
     replays source source' = record {
-      serves = serves old found coming left cores input o f x known P.ready.read.whole before now flushed faults faults' r.status W r refl report_told began_then complete_is source source';
-      ends = ends_then old found coming left cores input o f x known P.ready.read.whole before now flushed faults faults' r.status W r refl report_told began_then complete_is;
-      run = ran_to;
+      serves = serves old found coming left cores input o f x known P.ready.read.whole before now flushed faults faults' r.status W r refl report_told begun complete_is source source';
+      ends = ends_then old found coming left cores input o f x known P.ready.read.whole before now flushed faults faults' r.status W r refl report_told begun complete_is;
+      run = λ whole. subst (λ z. RanTo old z found cores input before now (IsAllOut r.status faults faults') r) (sym P.ran.region)
+          (running.ran_to old s t found word A once granted P.recovered P.ready.stands cores input P.lines P.ready.read.good x P.ran count before now flushed faults faults' r W finishes refusals complete_is whole);
     }
 
-  pub promise : (before now : Option (List ℕ)) (flushed : Bool) (faults faults' : ℕ) (r : Report) → HasWritten x before now flushed faults faults' r.status
-      → r.finishes.items ≡ x.finishes.items → r.refusals.items ≡ x.refusals.items → r.began ≡ true → r.complete ≡ is_ended x.end → (source source' : ℕ)
-      → (input : List ℕ) × (cores : ℕ) × IsInput coming input × Replays old t found coming left source source' cores input before now flushed faults faults' r
-  promise before now flushed faults faults' r W finishes refusals began complete source source' = (
-    input,
-    cores,
-    P.ready.read.is_input,
-    subst (λ z. Replays old z found coming left source source' cores input before now flushed faults faults' r) P.ran.region
-        (replays before now flushed faults faults' r W finishes refusals began complete source source'),
-  )
+    pub promise : (source source' : ℕ) → (input : List ℕ) × (cores : ℕ) × IsInput coming input × Replays old t found coming left source source' cores input before now flushed faults faults' r
+    promise source source' = (
+      input,
+      cores,
+      P.ready.read.is_input,
+      subst (λ z. Replays old z found coming left source source' cores input before now flushed faults faults' r) P.ran.region (replays source source'),
+    )

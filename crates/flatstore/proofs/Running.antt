@@ -18,7 +18,7 @@ use Rattle.core_worker.specs.declared.worker.Worker.{Worker}
 use Rattle.group_engine.specs.declared.run_outcome.End.TheVariants as ends
 use Rattle.group_engine.specs.declared.run_outcome.Outcome.{Outcome}
 use Rattle.group_engine.specs.Replayed.{StandsAsFound, Replayed}
-use Rattle.group_engine.specs.Reports.{told, reply_in}
+use Rattle.group_engine.specs.Reports.{told}
 use Rattle.group_engine.specs.Runs.{RunState, CoreMoves, first_state, with_request}
 use Rattle.flatstore.specs.Attaching.{GoesOnFrom, Runs}
 use Rattle.flatstore.specs.LastStates.{Opens, ReportsAnswers, RanTo}
@@ -50,13 +50,15 @@ module _ (old s t : State) (found word : ℕ → ℕ) (A : Attached old s s.fram
     first =
         let sound : IsSound s.frame.bytes o.found = subst (λ (z : State). IsSound z.frame.bytes o.found) P.begins.region P.begins.is.sound in
         record {
-          word = word;
-          recovered = recovered;
-          stands = S;
-          origin = o;
-          begins = P.begins;
-          words = λ telling w lt. P.begins.tells telling w lt ∙ found_words old s found A (small_sound s.frame.bytes o.found sound) telling w lt;
-          count = count;
+          start = record {
+            word = word;
+            recovered = recovered;
+            stands = S;
+            origin = o;
+            begins = P.begins;
+            words = λ telling w lt. P.begins.tells telling w lt ∙ found_words old s found A (small_sound s.frame.bytes o.found sound) telling w lt;
+            count = count;
+          };
           workers = P.workers;
           new = P.opened not_cut;
         }

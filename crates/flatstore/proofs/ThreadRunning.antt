@@ -306,16 +306,18 @@ module _ (old s t : State) (found word : ℕ → ℕ) (A : Attached old s s.fram
         let not_cut : x.end ≢ ends.Memory = ended end in
         record {
           from = from;
-          o = o;
-          origin = P.ran.begins.is;
-          region = began;
-          words = subst (λ (z : State). IsTelling z → (w : ℕ) → w < z.frame.bytes / 8 → o.found w ≡ found w) began
-              (words_found old found coming left cores input o f x known);
-          count = count;
+          start = record {
+            word = word;
+            recovered = P.recovered;
+            stands = P.ready.stands;
+            origin = o;
+            begins = P.ran.begins;
+            words = subst (λ (z : State). IsTelling z → (w : ℕ) → w < z.frame.bytes / 8 → o.found w ≡ found w) began
+                (words_found old found coming left cores input o f x known);
+            count = count;
+          };
           lines = P.lines;
           good = P.ready.read.good;
-          recovered = P.recovered;
-          made = P.ready.stands.made;
           f = f;
           given = P.ran.given;
           ran = P.ran.ran;

@@ -31,9 +31,14 @@ abbrev pub AreRising : List ℕ → Type 0
 AreRising [] = Unit {0}
 AreRising (n ∷ ns) = AllByRecursion (λ m. n < m) ns × AreRising ns
 
+<<<<<<< HEAD
 -- How a run begins in a region that was just attached: every group opens on its words, and every
 -- worker is made of what recovery gave its core of them.
 pub record Opens (at : State) (found : ℕ → ℕ) (cores : ℕ) : Type 0 where
+=======
+-- The words that a run begins with in a region that was just attached, and what recovery gave of them.
+pub record Starts (at : State) (found : ℕ → ℕ) (cores : ℕ) : Type 0 where
+>>>>>>> 97dca44644ffdee07cef1de904dfbe75c9670d29
   -- the words that the region reads, and what recovery gave of them
   pub word : ℕ → ℕ
   pub recovered : Recovered
@@ -43,14 +48,19 @@ pub record Opens (at : State) (found : ℕ → ℕ) (cores : ℕ) : Type 0 where
   pub begins : BeginsAt at word origin
   pub words : IsTelling at → (w : ℕ) → w < at.frame.bytes / 8 → origin.found w ≡ found w
   pub count : (layout_of origin.found).cores ≡ cores
+
+-- How it begins: every group opens on these words, and every worker is made of what recovery gave its
+-- core of them.
+pub record Opens (at : State) (found : ℕ → ℕ) (cores : ℕ) : Type 0 where
+  pub start : Starts at found cores
   -- the workers, by core
   pub workers : List Worker
-  pub new : AreNew recovered.starts.items recovered.layout workers
+  pub new : AreNew start.recovered.starts.items start.recovered.layout workers
 
 -- the state in which it begins: no request was given, and no answer
 abbrev pub first_of : {at : State} {found : ℕ → ℕ} {cores : ℕ} → Opens at found cores
     → RunState Worker
-first_of x = first_state x.origin x.workers
+first_of x = first_state x.start.origin x.workers
 
 -- A report, and what the sink took, are made of the answers that are kept in a state of the run:
 -- the finishes with their stamps, the refusals with what was counted, and the replies. `AllOut`

@@ -1,10 +1,7 @@
 -- What a call with the words of `run` promises.
-use Rattle.std.specs.Prelude.{◌≡◌, ℕ, ◌/◌, ◌<◌, ◌≤◌, List, map, Bool, true, false, Option, Ok}
+use Rattle.std.specs.Prelude.{◌≡◌, ℕ, ◌<◌, ◌≤◌, List, map, Bool, true, false, Option, Ok}
 use Rattle.pm_region.specs.State.{State, IsTelling, cell_now, Rose, counted}
 use Rattle.pm_region.specs.Split.{Attached, TellsFrom}
-use Rattle.chunk_map.specs.Layouts.{layout_of}
-use Rattle.recover.specs.declared.types.Recovered.{Recovered}
-use Rattle.recover.specs.Recovering.{IsMade}
 use Rattle.fs_text.specs.declared.line.Line.{Line}
 use Rattle.fs_text.specs.Input.{input_of}
 use Rattle.fs_text.specs.Output.{replies_text}
@@ -12,16 +9,14 @@ use Rattle.fs_text.specs.Streams.{Takes, TakesPrefix}
 use Rattle.engine_laws.specs.Engine.{Engine}
 use Rattle.engine_laws.specs.Idle.{IsDrained}
 use Rattle.engine_laws.specs.Parts.{AllLicensed}
-use Rattle.engine_laws.specs.Promises.{IsOrigin}
 use Rattle.engine_laws.specs.Ran.{asked_in}
 use Rattle.engine_laws.specs.Reports.{told_of, AllAnswered}
-use Rattle.engine_laws.specs.Stands.{Origin}
 use Rattle.group_engine.specs.declared.types.Stamped.{Stamped}
 use Rattle.group_engine.specs.Reports.{reply_in, finishes_in, refusals_in}
 use Rattle.thread_engine.specs.CoreRuns.{AllRan}
 use Rattle.thread_engine.specs.RanApart.{Rejoined, KeepsAnswers}
 use Rattle.flatstore.specs.Attaching.{GoesOnBy}
-use Rattle.flatstore.specs.LastStates.{told_in}
+use Rattle.flatstore.specs.LastStates.{told_in, Starts}
 use Rattle.flatstore.specs.Promise.{Serves, IsAllOut}
 use Rattle.flatstore.specs.declared.report.Status.{Status}
 use Rattle.flatstore.specs.declared.report.Status.TheVariants as statuses
@@ -33,22 +28,16 @@ use Rattle.flatstore.specs.declared.report.Report.{Report}
 pub record RanOnThreads (old new : State) (found : ℕ → ℕ) (refused : Bool) (cores : ℕ)
     (input : List ℕ)
     (before now : Option (List ℕ)) (AllOut : Type 0) (r : Report) : Type 0 where
-  -- The region was attached, and then split and joined. Where it tells, the words are those that were found.
+  -- The region was attached, and then split and joined.
   pub from : GoesOnBy Rejoined old new new.frame.bytes found
-  pub o : Origin
-  pub origin : IsOrigin o
-  pub region : o.region ≡ from.at
-  pub words : IsTelling from.at → (w : ℕ) → w < from.at.frame.bytes / 8 → o.found w ≡ found w
-  pub count : (layout_of o.found).cores ≡ cores
+  pub start : Starts from.at found cores
   -- The requests are those of the input, each given to the owner of its key. Each core has a chain of its worker's moves,
-  -- from the worker that opens on what recovery gives of these words to an end; the groups' states are lawful.
+  -- from the worker that opens on what recovery gave for it to an end; the groups' states are lawful.
   pub lines : List Line
   pub good : input_of cores input ≡ Ok lines
-  pub recovered : Recovered
-  pub made : IsMade from.at.frame.bytes recovered
   pub f : Engine
   pub given : f.given ≡ asked_in lines
-  pub ran : AllRan o recovered refused f
+  pub ran : AllRan start.origin start.recovered refused f
   -- The region is as it is in the last state, and goes on telling by the stamp after the latest of its pieces' stamps,
   -- where each piece told to its end. Everything is answered there, every slot is empty and nothing waits.
   pub ends : f.region ≡ new
@@ -61,7 +50,7 @@ pub record RanOnThreads (old new : State) (found : ℕ → ℕ) (refused : Bool)
   pub drained : IsDrained f
   -- The report's finishes and refusals and the text are those of what the workers answered, at the joined region's stamp.
   pub kept : List (Option Stamped)
-  pub keeps : KeepsAnswers o recovered refused f ran.cores kept
+  pub keeps : KeepsAnswers start.origin start.recovered refused f ran.cores kept
   pub finishes : r.finishes.items ≡ finishes_in 0 kept
   pub refusals : r.refusals.items ≡ refusals_in 0 kept
   pub told_is : told_in r ≡ told_of f

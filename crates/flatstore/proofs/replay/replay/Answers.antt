@@ -10,9 +10,12 @@ replay-requires-clause-lines g c =
     names_cores c.in-Ok.recovered.layout.cores (some_cores s word c.in-Ok.recovered c.in-Ok.ensures.ready.stands) c.in-Ok.input c.in-Ok.ensures.ready.within.each
 
 pub returns-in-Ok-clause-played : goal.returns-in-Ok-clause-played
-returns-in-Ok-clause-played g c = record {
-  recovered = c.in-Ok.recovered;
-  lines = c.in-Ok.input;
-  ready = c.in-Ok.ensures.ready;
-  ran = c.replay.ensures;
-}
+returns-in-Ok-clause-played g c =
+    let s = g.R.Region.state c.args.region.now in
+    let word = g.R.ReadRegion.word c.args.region.now in
+    record {
+      recovered = c.in-Ok.recovered;
+      lines = c.in-Ok.input;
+      ready = c.in-Ok.ensures.ready;
+      ran = c.replay.ensures;
+    }
