@@ -31,14 +31,8 @@ abbrev pub AreRising : List ℕ → Type 0
 AreRising [] = Unit {0}
 AreRising (n ∷ ns) = AllByRecursion (λ m. n < m) ns × AreRising ns
 
-<<<<<<< HEAD
--- How a run begins in a region that was just attached: every group opens on its words, and every
--- worker is made of what recovery gave its core of them.
-pub record Opens (at : State) (found : ℕ → ℕ) (cores : ℕ) : Type 0 where
-=======
 -- The words that a run begins with in a region that was just attached, and what recovery gave of them.
 pub record Starts (at : State) (found : ℕ → ℕ) (cores : ℕ) : Type 0 where
->>>>>>> 97dca44644ffdee07cef1de904dfbe75c9670d29
   -- the words that the region reads, and what recovery gave of them
   pub word : ℕ → ℕ
   pub recovered : Recovered
