@@ -2,30 +2,35 @@
 use Rattle.std.proofs.Common.{◌≡◌, ℕ, zero, suc, ◌<◌, List, [], ◌∷◌, Bool, refl, ap, arith}
 use Rattle.fs_model.specs.declared.model.Request.{Request}
 use Rattle.fs_text.specs.declared.line.Line.{Line}
+use Rattle.pm_region.specs.State.{Rose}
 use Rattle.fs_text.specs.declared.line.Line.TheVariants.{Ask, Go}
 use Rattle.chunk_map.specs.declared.layouts.Geometry.{Geometry}
 use Rattle.chunk_map.specs.Layouts.{layout_of}
 use Rattle.engine_laws.specs.Engine.{Engine}
 use Rattle.engine_laws.specs.Idle.{IsIdle}
 use Rattle.engine_laws.specs.Ran.{Pass, Drains, Ran}
-use Rattle.engine_laws.specs.Stands.{Origin, Stands, given_to, opening}
-use Rattle.engine_laws.specs.Promises.{IsOrigin, Promised, IsDone, AnyMove, AnyTurn}
+use Rattle.engine_laws.specs.Stands.{Origin, Stands, StandsNow, given_to, opening}
+use Rattle.engine_laws.specs.Causes.{Causes}
+use Rattle.engine_laws.specs.Promises.{IsOrigin, HasStopped, Promised, IsDone, AnyMove, AnyTurn}
 use Rattle.engine_laws.proofs.Stands.{stands_on}
 use Rattle.engine_laws.proofs.Begins.{opens, gives}
 use Rattle.engine_laws.proofs.Drained.{still_pass, drained, drained_answered}
-use Rattle.engine_laws.proofs.Promises.{crashes, blocks, cause, answers, recovers_all}
+use Rattle.engine_laws.proofs.Promises.{stands_now, crashes, blocks, answers, recovers_all}
 use Rattle.engine_laws.proofs.WhyRefused.{causes}
 use Rattle.engine_laws.proofs.Ran.{Delivers, goes, pass, ran}
 
-pub promised : (o : Origin) (e : Engine) → Stands o e → Promised o e
-promised o e S = record {
+pub promised_now : (o : Origin) (e : Engine) → StandsNow o e → Causes o e → (HasStopped e → Rose o.region.faults e.region.faults) → Promised o e
+promised_now o e S why cause = record {
   crash = λ more t told from image may. crashes o e S more t told from image may;
   blocks = λ t told from image may. blocks o e S t told from image may;
   replies = λ more. answers o e S more;
-  causes = causes o e S;
-  cause = λ h. cause o e S h;
+  causes = why;
+  cause = cause;
   last = λ all going telling image may k. recovers_all o e S all going telling image may k;
 }
+
+pub promised : (o : Origin) (e : Engine) → Stands o e → Promised o e
+promised o e S = promised_now o e (stands_now o e S) (causes o e S) (λ h. S.stopped h.0 h.1 h.2)
 
 pub any_delivers : Delivers AnyMove
 any_delivers e f c b m = m
