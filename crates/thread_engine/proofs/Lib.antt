@@ -5,3 +5,7 @@ mod Rested
 mod PieceStands
 mod KeyViews
 mod FirstKeys
+mod TookGrows
+mod CarriedLines
+mod Reckoning
+mod RunCauses
