@@ -19,7 +19,7 @@ use Rattle.store_image.proofs.Places.{superblock_facts}
 use Rattle.recover.specs.declared.types.Recovered.{Recovered}
 use Rattle.group_laws.specs.Places.{Place, members}
 use Rattle.group_laws.specs.Places as places
-use Rattle.group_laws.specs.MemberViews.{View, view_of}
+use Rattle.group_laws.specs.MemberViews.{View}
 use Rattle.group_laws.specs.OpeningImages.{opened}
 use Rattle.group_laws.specs.Regions.{groups_in, key_group, place_at}
 use Rattle.group_laws.proofs.Images.{in_map, of_map}
@@ -37,6 +37,7 @@ use Rattle.engine_laws.specs.Causes.{Causes}
 use Rattle.engine_laws.specs.Promises.{IsOrigin}
 use Rattle.engine_laws.specs.Spending.{lines_in}
 use Rattle.engine_laws.specs.Workers.{Sits}
+use Rattle.engine_laws.specs.Advance.{answered}
 use Rattle.engine_laws.proofs.Cores.{of_member, group_low}
 use Rattle.engine_laws.proofs.GroupLines.{own_lines, out_within, taken_within}
 use Rattle.engine_laws.proofs.Numbers.{numbered, in_all, filter_in, in_requests}
@@ -54,15 +55,12 @@ use Rattle.thread_engine.proofs.TookGrows.{run_posted}
 -- a key's requests are among those of its owner
 requests_among : (l : Geometry) (c k : ℕ) → owner l k ≡ c → (xs : List (ℕ × Request)) → requests_for k (filter (λ x. owner l (key_of x.1) == c) xs) ≡ requests_for k xs
 requests_among l c k own [] = refl
-requests_among l c k own (x ∷ xs) = by (key_of x.1 == k) refl (owner l (key_of x.1) == c) refl where
-  rest : requests_for k (filter (λ x. owner l (key_of x.1) == c) xs) ≡ requests_for k xs
-  rest = requests_among l c k own xs
-
-  by : (a : Bool) → (key_of x.1 == k) ≡ a → (b : Bool) → (owner l (key_of x.1) == c) ≡ b → requests_for k (cond b (x ∷ filter (λ x. owner l (key_of x.1) == c) xs) (filter (λ x. owner l (key_of x.1) == c) xs)) ≡ cond a (x ∷ requests_for k xs) (requests_for k xs)
-  by true here true mine = ap (λ t. cond t (x ∷ requests_for k (filter (λ x. owner l (key_of x.1) == c) xs)) (requests_for k (filter (λ x. owner l (key_of x.1) == c) xs))) here ∙ ap (λ ys. x ∷ ys) rest
-  by false here true mine = ap (λ t. cond t (x ∷ requests_for k (filter (λ x. owner l (key_of x.1) == c) xs)) (requests_for k (filter (λ x. owner l (key_of x.1) == c) xs))) here ∙ rest
-  by false here false other = rest
-  by true here false other = absurd (let key = eqb-true (key_of x.1) k here in let is = eq-eqb (owner l (key_of x.1)) c (ap (owner l) key ∙ own) in let both : true ≡ false = sym is ∙ other in cc both)
+requests_among l c k own (x ∷ xs) = by (filter (λ y. owner l (key_of y.1) == c) xs) (key_of x.1 == k) refl (owner l (key_of x.1) == c) refl (requests_among l c k own xs) where
+  by : (ys : List (ℕ × Request)) (a : Bool) → (key_of x.1 == k) ≡ a → (b : Bool) → (owner l (key_of x.1) == c) ≡ b → requests_for k ys ≡ requests_for k xs → requests_for k (cond b (x ∷ ys) ys) ≡ cond a (x ∷ requests_for k xs) (requests_for k xs)
+  by ys true here true own_key rest = ap (λ t. cond t (x ∷ requests_for k ys) (requests_for k ys)) here ∙ ap (λ zs. x ∷ zs) rest
+  by ys false here true own_key rest = ap (λ t. cond t (x ∷ requests_for k ys) (requests_for k ys)) here ∙ rest
+  by ys false here false other rest = rest
+  by ys true here false other rest = absurd (let key = eqb-true (key_of x.1) k here in let is = eq-eqb (owner l (key_of x.1)) c (ap (owner l) key ∙ own) in let both : true ≡ false = sym is ∙ other in cc both)
 
 none_cut : (xs : List ℕ) → sum_by (λ (k : ℕ). 0) xs ≡ 0
 none_cut [] = refl
@@ -94,7 +92,7 @@ module _ (o : Origin) (is : IsOrigin o) (given : List Request) (c : ℕ) (x : Wo
     least = S.stock;
     own = λ y i. absurd i;
     order = first_order;
-    waiting = λ k own. in_all (λ (y : ℕ × Request). None {A = Answer} ≡ None) (line_in (hands_at x) k ++ requests_for k x.queue) (λ y i. refl);
+    waiting = λ k own. in_all (λ (y : ℕ × Request). answered [] 0 y.0 None ≡ None) (line_in (hands_at x) k ++ requests_for k x.queue) (λ y i. refl);
     changes = λ k own. tt;
     causes = λ k own. tt;
     versions = λ k own. (let same = version_is k own in omega (arith, same));
@@ -153,8 +151,11 @@ module _ (o : Origin) (is : IsOrigin o) (r : Recovered) (refused : Bool) (e : En
   low_there : (c : ℕ) → c < L.cores → c < e.layout.cores
   low_there c low = subst (λ (l : Geometry). c < l.cores) (sym A.layout) low
 
-  view_is : (c : ℕ) (low : c < e.layout.cores) → (run c low).last.view ≡ view_of (e.group (group_of L c)) (member_of L c)
-  view_is c low = (run c low).ends.view ∙ (λ i. view_of (e.group (group_of (A.layout i) c)) (member_of (A.layout i) c))
+  posted_is : (c : ℕ) (low : c < e.layout.cores) → (e.group (group_of L c)).posted (member_of L c) ≡ (run c low).last.view.posted
+  posted_is c low = (λ i. (e.group (group_of (sym A.layout i) c)).posted (member_of (sym A.layout i) c)) ∙ (run c low).shown.posted
+
+  took_is : (c : ℕ) (low : c < e.layout.cores) → (e.group (group_of L c)).took (member_of L c) ≡ (run c low).last.view.took
+  took_is c low = (λ i. (e.group (group_of (sym A.layout i) c)).took (member_of (sym A.layout i) c)) ∙ (run c low).shown.took
 
   strangers : (g m : ℕ) → g < groups_in L → L.group ≤ m → (e.group g).posted m ≡ []
   strangers g m low high =
@@ -165,7 +166,7 @@ module _ (o : Origin) (is : IsOrigin o) (r : Recovered) (refused : Bool) (e : En
   posted_within more d low =
       let there = low_there d low in
       let R = reckons d there in
-      let same = ap (λ (v : View). lines_in v.posted) (view_is d there) in
+      let same = ap lines_in (posted_is d there) in
       let out = R.posted in
       let all = out_within L (alone o e.given R.stock (run d there).last (fixed_at (run d there))) d more in
       omega (arith, same, out, all)
@@ -173,7 +174,7 @@ module _ (o : Origin) (is : IsOrigin o) (r : Recovered) (refused : Bool) (e : En
   took_few : (c : ℕ) (low : c < e.layout.cores) (more : List Request) → 64 * lines_in (run c low).last.view.took ≤ log_bytes L c (e.given ++ more)
   took_few c low more =
       let few = taken_within L layout_is e.group (subst (λ (l : Geometry). Groups l e.group) A.layout A.groups) strangers (e.given ++ more) (posted_within more) c (subst (λ (l : Geometry). c < l.cores) A.layout low) in
-      let same = ap (λ (v : View). lines_in v.took) (view_is c low) in
+      let same = ap lines_in (took_is c low) in
       omega (arith, few, same)
 
   -- a request that was answered is one of its core's

@@ -10,7 +10,9 @@ use Rattle.store_image.specs.Facts.{In}
 use Rattle.recover.specs.declared.types.CoreStart.{CoreStart}
 use Rattle.recover.specs.declared.types.Recovered.{Recovered}
 use Rattle.group_laws.specs.Regions.{groups_in, place_at}
-use Rattle.group_laws.specs.MemberViews.{view_of}
+use Rattle.group_laws.specs.Places as places
+use Rattle.group_laws.specs.State.{Group}
+use Rattle.group_laws.specs.MemberViews.{View}
 use Rattle.group_laws.specs.OpeningImages.{opened}
 use Rattle.group_laws.specs.Runs.{Kind, Runs}
 use Rattle.group_board.specs.Seats.{SeatAt}
@@ -23,7 +25,7 @@ use Rattle.engine_laws.specs.Workers.{Sits}
 use Rattle.core_worker.specs.Openings.{IsNew, IsStartAt}
 use Rattle.thread_engine.specs.Pieces.{IsPieceOf}
 use Rattle.thread_engine.specs.WorkStates.{WorkState, IsAtWork, Move, Leads, Works, HasEnded}
-use Rattle.thread_engine.specs.WorkStates.Move as moves
+use Rattle.thread_engine.specs.WorkStates.Move.{accepts, turns, winds_down}
 use Rattle.thread_engine.specs.WorkLaws.{hands_at}
 
 -- the requests of a core's keys, in the order of the trace, with their numbers in it
@@ -32,9 +34,9 @@ requests_to l c trace = filter (λ x. owner l (key_of x.1) == c) (enumerate_from
 
 -- what one move fixed
 abbrev pub fixed_by : {seat : SeatAt} {refused : Bool} {a b : WorkState} → Move seat refused a b → List Fixed
-fixed_by (moves.accepts A) = A.call.fixed
-fixed_by (moves.turns T) = T.moves.fixed
-fixed_by (moves.winds_down e) = []
+fixed_by (accepts A) = A.call.fixed
+fixed_by (turns T) = T.moves.fixed
+fixed_by (winds_down e) = []
 
 -- what the moves of a chain fixed, in order
 abbrev pub fixed_along : (seat : SeatAt) (refused : Bool) (a : WorkState) (path : List WorkState) (b : WorkState) → Leads seat refused a path b → List Fixed
@@ -43,6 +45,21 @@ fixed_along seat refused a (x ∷ xs) b l = fixed_by l.0 ++ fixed_along seat ref
 
 abbrev pub fixed_in : (seat : SeatAt) (refused : Bool) (a b : WorkState) → Works seat refused a b → List Fixed
 fixed_in seat refused a b w = fixed_along seat refused a w.path b w.leads
+
+-- The state of a group has what member m has by this view, of its own keys and of its log and blocks.
+pub record HasView (w : Group) (m : ℕ) (v : View) : Type 0 where
+  pub kept : w.kept m ≡ v.kept
+  pub flying : w.flying m ≡ v.flying
+  pub taken : w.taken m ≡ v.taken
+  pub doomed : w.doomed m ≡ v.doomed
+  pub broken : w.broken m ≡ v.broken
+  pub holds : w.holds m ≡ v.holds
+  pub posted : w.posted m ≡ v.posted
+  pub took : w.took m ≡ v.took
+  pub blocks : w.blocks m ≡ v.blocks
+  pub last : (k : ℕ) → places.owner w.place k ≡ m → w.last k ≡ v.last k
+  pub cell : (k : ℕ) → places.owner w.place k ≡ m → w.cell k ≡ v.cell k
+  pub pending : (k : ℕ) → places.owner w.place k ≡ m → w.pending k ≡ v.pending k
 
 -- Core c's run: its worker is the one that opens on what recovery gave for it, in the core's piece of the region, with all requests of its keys before it; a chain of the worker's moves leads to its end; and the run's last state has what the core has then.
 pub record CoreRun (o : Origin) (r : Recovered) (refused : Bool) (e : Engine) (c : ℕ) : Type 0 where
@@ -64,7 +81,11 @@ pub record CoreRun (o : Origin) (r : Recovered) (refused : Bool) (e : Engine) (c
   pub works : Works seat refused first last
   pub ended : HasEnded last
   -- the last state
-  pub ends : Sits e c last.view (hands_at last)
+  pub shown : HasView (e.group (group_of e.layout c)) (member_of e.layout c) last.view
+  pub places : (k : ℕ) → owner e.layout k ≡ c → e.place k ≡ (hands_at last).place k
+  pub waits : (k : ℕ) → owner e.layout k ≡ c → e.waits k ≡ (hands_at last).waits k
+  pub stopped : e.stopped c ≡ last.worker.stopped
+  pub stock : e.stock c ≡ (hands_at last).stock
   pub backlog : e.backlog c ≡ last.queue
   pub joined : TakesPiece e.region last.region
   pub answers : (y : Fixed) → In y (fixed_in seat refused first last works) → e.answer y.number ≡ Some (record { reply = y.reply; stamp = e.region.stamp })
