@@ -2,7 +2,7 @@
 use Rattle.std.proofs.Common.{◌≡◌, ◌≢◌, ⊎_elim, inl, inr, ℕ, ◌+◌, ◌*◌, ◌≤◌, ◌==◌, Bool, true, false, cond, List, [], ◌∷◌, ◌++◌, map, Option, Some, None, refl, sym, ◌∙◌, ap, subst, arith, append-nil, append_assoc}
 use Rattle.std.specs.Prelude.{is_some}
 use Rattle.std.specs.List.{AllByRecursion}
-use Rattle.std.proofs.lemmas.Bool.{eq-eqb, ne_eqb, cases_eq}
+use Rattle.std.proofs.lemmas.Bool.{eq-eqb, ne_eqb}
 use Rattle.std.proofs.lemmas.List.{map-append}
 use Rattle.std.proofs.lemmas.List.Elements.{filter-append}
 use Rattle.fs_model.specs.declared.model.Request.{Request}
@@ -10,14 +10,12 @@ use Rattle.fs_model.specs.declared.model.Reply.{Reply}
 use Rattle.fs_model.specs.declared.model.Reply.TheVariants.{Full}
 use Rattle.fs_model.specs.Cells.{key_of}
 use Rattle.fs_model.specs.Changes.{requests_of}
-use Rattle.pm_region.specs.State.{State}
 use Rattle.chunk_map.specs.declared.layouts.Geometry.{Geometry}
 use Rattle.chunk_map.specs.Layouts.{layout_of, owner, IsLayout}
 use Rattle.store_image.specs.Facts.{In}
 use Rattle.store_image.proofs.SoundFacts.{in_either}
 use Rattle.group_laws.specs.Places.{Place}
 use Rattle.group_laws.specs.State.{Group}
-use Rattle.group_laws.specs.MemberViews.{View}
 use Rattle.group_laws.specs.OpeningImages.{opened}
 use Rattle.group_laws.specs.Regions.{place_at}
 use Rattle.group_laws.proofs.Images.{in_map}
@@ -36,11 +34,11 @@ use Rattle.engine_laws.specs.Rooms.{out_lines, HasRoom}
 use Rattle.engine_laws.proofs.CauseLaws.{raised_by_up, raised_append, causes_up, causes_append, lacks_less, at_least_same}
 use Rattle.engine_laws.proofs.Cores.{of_member, of_core}
 use Rattle.engine_laws.proofs.Numbers.{all_in, all_append, filter_in}
-use Rattle.engine_laws.proofs.RoomMoves.{OwnLines, OwnMoves, Fresh, fresh, own_room, own_posted}
+use Rattle.engine_laws.proofs.RoomMoves.{OwnLines, OwnMoves, fresh, own_room, own_posted}
 use Rattle.engine_laws.proofs.RoomNeeds.{not_ample}
-use Rattle.engine_laws.proofs.SpendingMoves.{HasOf, core_spends}
+use Rattle.engine_laws.proofs.SpendingMoves.{core_spends}
 use Rattle.engine_laws.proofs.WhyRefused.{Changes, lawful_changes}
-use Rattle.thread_engine.specs.WorkStates.{WorkState, Accepts, MakesTurn, Move, wound_down, Leads}
+use Rattle.thread_engine.specs.WorkStates.{WorkState, Accepts, Move, wound_down, Leads}
 use Rattle.thread_engine.specs.WorkStates.Move.{accepts, turns, winds_down}
 use Rattle.thread_engine.specs.WorkLaws.{hands_at}
 use Rattle.thread_engine.specs.CoreRuns.{fixed_by, fixed_along}

@@ -1,12 +1,10 @@
 -- Why the requests of a run on threads were refused.
-use Rattle.std.proofs.Common.{◌≡◌, ◌≢◌, inl, inr, ℕ, ◌+◌, ◌*◌, ◌/◌, ◌<◌, ◌≤◌, ◌==◌, Bool, true, false, cond, List, [], ◌∷◌, ◌++◌, map, take, length, Option, Some, None, refl, sym, ◌∙◌, ap, subst, arith, append_assoc}
+use Rattle.std.proofs.Common.{◌≡◌, inl, inr, ℕ, ◌+◌, ◌*◌, ◌/◌, ◌<◌, ◌≤◌, ◌==◌, Bool, true, false, cond, List, [], ◌∷◌, ◌++◌, map, take, length, Some, None, refl, sym, ◌∙◌, ap, subst, arith, append_assoc}
 use Rattle.std.specs.Prelude.{option_map}
 use Rattle.std.specs.List.{AllByRecursion, filter, enumerate_from, slice_get, sum_by}
 use Rattle.std.proofs.lemmas.Bool.{eq-eqb, eqb-true}
 use Rattle.std.proofs.lemmas.Option.{slice_get_within}
 use Rattle.fs_model.specs.declared.model.Request.{Request}
-use Rattle.fs_model.specs.declared.model.Reply.{Reply}
-use Rattle.fs_model.specs.declared.model.Reply.TheVariants.{Full}
 use Rattle.fs_model.specs.Cells.{key_of}
 use Rattle.fs_model.specs.Changes.{requests_of}
 use Rattle.chunk_map.specs.declared.layout_sizes.TheConstants.{GREATEST_CLASS}
@@ -17,12 +15,10 @@ use Rattle.store_image.proofs.SoundFacts.{in_front}
 use Rattle.store_image.proofs.SoundLaws.{has_layout}
 use Rattle.store_image.proofs.Places.{superblock_facts}
 use Rattle.recover.specs.declared.types.Recovered.{Recovered}
-use Rattle.group_laws.specs.Places.{Place, members}
-use Rattle.group_laws.specs.Places as places
 use Rattle.group_laws.specs.MemberViews.{View}
 use Rattle.group_laws.specs.OpeningImages.{opened}
-use Rattle.group_laws.specs.Regions.{groups_in, key_group, place_at}
-use Rattle.group_laws.proofs.Images.{in_map, of_map}
+use Rattle.group_laws.specs.Regions.{groups_in, place_at}
+use Rattle.group_laws.proofs.Images.{in_map}
 use Rattle.headline.specs.Ample.{log_bytes, IsAmpleFor}
 use Rattle.headline.specs.Limits.{IsAsked, version_of, changes_asked, is_too_long}
 use Rattle.log_entry.specs.declared.entry_limits.TheConstants.{LAST_PUT_VERSION}
@@ -30,25 +26,24 @@ use Rattle.headline.proofs.Run.{requests-append}
 use Rattle.engine_laws.specs.Parts.{Groups, group_of, member_of}
 use Rattle.engine_laws.specs.RefusalCauses.{HasCause, HaveCauses}
 use Rattle.engine_laws.specs.WorkerMoves.{Fixed, asked, replied, fixed_of, requests_for, placed, line_in}
-use Rattle.engine_laws.specs.Engine.{Engine, Answer}
+use Rattle.engine_laws.specs.Engine.{Engine}
 use Rattle.engine_laws.specs.Keys.{Served, pairs}
 use Rattle.engine_laws.specs.Stands.{Origin, opening}
 use Rattle.engine_laws.specs.Causes.{Causes}
 use Rattle.engine_laws.specs.Promises.{IsOrigin}
-use Rattle.engine_laws.specs.Spending.{lines_in}
+use Rattle.engine_laws.specs.Spending.{lines_in, posted_by, took_by}
 use Rattle.engine_laws.specs.Workers.{Sits}
 use Rattle.engine_laws.specs.Advance.{answered}
-use Rattle.engine_laws.proofs.Cores.{of_member, group_low}
+use Rattle.engine_laws.proofs.Cores.{of_member}
 use Rattle.engine_laws.proofs.GroupLines.{own_lines, out_within, taken_within}
 use Rattle.engine_laws.proofs.Numbers.{numbered, in_all, filter_in, in_requests}
 use Rattle.engine_laws.proofs.Opens.{opens_last, opens_own}
 use Rattle.engine_laws.proofs.Others.{last_in}
 use Rattle.engine_laws.proofs.RoomSums.{sum_cons}
 use Rattle.engine_laws.proofs.WhyRefused.{Changes, asked_in, cause_served, given_front}
-use Rattle.core_worker.specs.declared.worker.Worker.{Worker}
 use Rattle.thread_engine.specs.WorkStates.{WorkState}
 use Rattle.thread_engine.specs.WorkLaws.{hands_at}
-use Rattle.thread_engine.specs.CoreRuns.{requests_to, fixed_along, fixed_in, fixed_at, CoreRun, AllRan}
+use Rattle.thread_engine.specs.CoreRuns.{requests_to, fixed_at, CoreRun, AllRan}
 use Rattle.thread_engine.proofs.Reckoning.{alone, Reckons, reckons_chain}
 use Rattle.thread_engine.proofs.TookGrows.{run_posted}
 
@@ -151,18 +146,18 @@ module _ (o : Origin) (is : IsOrigin o) (r : Recovered) (refused : Bool) (e : En
   low_there : (c : ℕ) → c < L.cores → c < e.layout.cores
   low_there c low = subst (λ (l : Geometry). c < l.cores) (sym A.layout) low
 
-  posted_is : (c : ℕ) (low : c < e.layout.cores) → (e.group (group_of L c)).posted (member_of L c) ≡ (run c low).last.view.posted
-  posted_is c low = (λ i. (e.group (group_of (sym A.layout i) c)).posted (member_of (sym A.layout i) c)) ∙ (run c low).shown.posted
+  posted_is : (c : ℕ) (low : c < e.layout.cores) → posted_by L e c ≡ (run c low).last.view.posted
+  posted_is c low = ap (λ (l : Geometry). posted_by l e c) (sym A.layout) ∙ (run c low).shown.posted
 
-  took_is : (c : ℕ) (low : c < e.layout.cores) → (e.group (group_of L c)).took (member_of L c) ≡ (run c low).last.view.took
-  took_is c low = (λ i. (e.group (group_of (sym A.layout i) c)).took (member_of (sym A.layout i) c)) ∙ (run c low).shown.took
+  took_is : (c : ℕ) (low : c < e.layout.cores) → took_by L e c ≡ (run c low).last.view.took
+  took_is c low = ap (λ (l : Geometry). took_by l e c) (sym A.layout) ∙ (run c low).shown.took
 
   strangers : (g m : ℕ) → g < groups_in L → L.group ≤ m → (e.group g).posted m ≡ []
   strangers g m low high =
       let steps = A.reached g (subst (λ (l : Geometry). g < groups_in l) (sym A.layout) low) in
       run_posted (opened (place_at e.layout g) o.found) steps.0 (e.group g) m (subst (λ (l : Geometry). l.group ≤ m) (sym A.layout) high) steps.1
 
-  posted_within : (more : List Request) (d : ℕ) → d < L.cores → lines_in ((e.group (group_of L d)).posted (member_of L d)) ≤ own_lines L d (e.given ++ more)
+  posted_within : (more : List Request) (d : ℕ) → d < L.cores → lines_in (posted_by L e d) ≤ own_lines L d (e.given ++ more)
   posted_within more d low =
       let there = low_there d low in
       let R = reckons d there in
