@@ -26,7 +26,7 @@ use Rattle.engine_laws.specs.Keys.{Served, served_as, pairs}
 use Rattle.engine_laws.specs.Stands.{Origin, start_of, Stands}
 use Rattle.engine_laws.specs.Causes.{Causes}
 use Rattle.engine_laws.proofs.Numbers.{numbered, all_in, in_all, in_requests}
-use Rattle.engine_laws.proofs.Promises.{requests_are, waits_none, in_from}
+use Rattle.engine_laws.proofs.Promises.{stands_now, requests_are, waits_none, in_from}
 
 count_cons : {X : Type 0} (p : X → Bool) (x : X) (xs : List X) → count_by p (x ∷ xs) ≡ cond (p x) 1 0 + count_by p xs
 count_cons p x xs = sum_by-cons (λ y. cond (p y) 1 0) x xs
@@ -158,9 +158,9 @@ module _ (o : Origin) (e : Engine) (S : Stands o e) (more : List Request) (n : �
   asked_there = subst (λ (m : ℕ). In (m, q) (requests_of k (e.given ++ more))) (let z : 0 + n ≡ n = omega arith in z) (in_from 0 (e.given ++ more) n q is)
 
   in_served : In (n, q) (map asked_in served)
-  in_served = elim (in_either (n, q) (map asked_in served) _ (subst (λ (l : List (ℕ × Request)). In (n, q) l) (requests_are o e S more k) asked_there)) [
+  in_served = elim (in_either (n, q) (map asked_in served) _ (subst (λ (l : List (ℕ × Request)). In (n, q) l) (requests_are o e (stands_now o e S) more k) asked_there)) [
     | inl i ↦ i
-    | inr j ↦ absurd (let none = all_in (λ (x : ℕ × Request). e.answer x.0 ≡ None) _ (n, q) (waits_none o e S more k) j in cc (none, ans))
+    | inr j ↦ absurd (let none = all_in (λ (x : ℕ × Request). e.answer x.0 ≡ None) _ (n, q) (waits_none o e (stands_now o e S) more k) j in cc (none, ans))
   ]
 
   -- its cause
@@ -172,7 +172,7 @@ module _ (o : Origin) (e : Engine) (S : Stands o e) (more : List Request) (n : �
       let here = all_in (λ (y : Served). e.answer y.number ≡ Some y.answer) served x.0 (S.keys k).answers x.1 in
       let both : Some x.0.answer ≡ Some a = sym here ∙ ap e.answer number ∙ ans in
       let answer : x.0.answer ≡ a = cc both in
-      let C = cause_served (layout_of o.found) (version_of o.found k) k (e.given ++ more) served waits (requests_are o e S more k) (lawful_changes (start_of o k) false (pairs served) (S.keys k).history.lawful) (S.causes k) x.0 x.1 in
+      let C = cause_served (layout_of o.found) (version_of o.found k) k (e.given ++ more) served waits (requests_are o e (stands_now o e S) more k) (lawful_changes (start_of o k) false (pairs served) (S.keys k).history.lawful) (S.causes k) x.0 x.1 in
       subst (λ (b : Answer). HasCause (layout_of o.found) (version_of o.found k + changes_asked k (take n (e.given ++ more))) q b.reply) answer
       (subst (λ (y : Request). HasCause (layout_of o.found) (version_of o.found k + changes_asked k (take n (e.given ++ more))) y x.0.answer.reply) request
       (subst (λ (m : ℕ). HasCause (layout_of o.found) (version_of o.found k + changes_asked k (take m (e.given ++ more))) x.0.request x.0.answer.reply) number C))

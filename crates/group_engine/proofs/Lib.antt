@@ -1,5 +1,6 @@
 mod Passing
 mod Ending
+mod Running
 mod Stepping
 mod Working
 mod FreeFound

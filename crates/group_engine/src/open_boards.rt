@@ -98,6 +98,7 @@ pub fn open<O: Opening, W: CoreWorker + Drop>(
     requires group { 0 < layout.group }
     requires workers { length workers.items ≡ layout.cores }
     ensures layout { IfOk result (λ x. x.layout ≡ layout) }
+    ensures workers { IfOk result (λ x. x.workers.items ≡ workers.items) }
     ensures opened { IfOk result (λ x. (o : Origin) → o.found ≡ image_of O.words
         → AreSeated W.hands W.answers W.stands W.fair W.room W.leads workers.items (opening o)
         → Shows W.hands W.answers W.stands W.fair W.room W.leads (λ q. q.items) o.region x.layout
