@@ -5,3 +5,6 @@ mod Rested
 mod PieceStands
 mod KeyViews
 mod FirstKeys
+mod Stops
+mod ByNumber
+mod LastState
