@@ -128,12 +128,12 @@ group_took l w m lawful layout low strangers = lines_among l.group (w.took m) w.
   cases d = ⊎_elim (λ lt. inl lt) (λ ge. inr (strangers (places.owner w.place d.key) ge)) (cases_lt (places.owner w.place d.key) l.group)
 
 -- Where each core posted no more than its requests of the trace need, no log took more than those of its group.
-module _ (l : Geometry) (is : IsLayout l) (w : ℕ → Group) (G : Groups l w) (strangers : (g m : ℕ) → l.group ≤ m → (w g).posted m ≡ []) (trace : List Request)
+module _ (l : Geometry) (is : IsLayout l) (w : ℕ → Group) (G : Groups l w) (strangers : (g m : ℕ) → g < groups_in l → l.group ≤ m → (w g).posted m ≡ []) (trace : List Request)
     (posted : (d : ℕ) → d < l.cores → lines_in ((w (group_of l d)).posted (member_of l d)) ≤ own_lines l d trace) where
   pub taken_within : (c : ℕ) → c < l.cores → 64 * lines_in ((w (group_of l c)).took (member_of l c)) ≤ log_bytes l c trace
   taken_within c low =
       let g : ℕ = group_of l c in
-      let took = group_took l (w g) (member_of l c) (G.lawful g group_is) (ap (λ (p : Place). p.layout) (G.place g group_is)) (member_low l is c) (strangers g) in
+      let took = group_took l (w g) (member_of l c) (G.lawful g group_is) (ap (λ (p : Place). p.layout) (G.place g group_is)) (member_low l is c) (λ m high. strangers g m group_is high) in
       let each = below_le l.group (λ m. lines_in ((w g).posted m)) (λ m. own_lines l (g * l.group + m) trace) (one g group_is) in
       let all = members_lines l g trace in
       let bytes = log_is l c trace in

@@ -2,7 +2,7 @@ pub mod Cores
 pub mod CauseLaws
 pub mod Others
 pub mod Licences
-mod Opens
+pub mod Opens
 pub mod Numbers
 mod Histories
 mod ReplyKinds

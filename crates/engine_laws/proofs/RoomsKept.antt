@@ -49,7 +49,7 @@ module _ (o : Origin) (e f : Engine) (c : ℕ) (accepted : List (ℕ × Request)
   groups = subst (λ (m : Geometry). Groups m e.group) S.layout S.groups
 
   took_few : (more : List Request) → 64 * lines_in ((e.group (group_of L c)).took (member_of L c)) ≤ log_bytes L c (e.given ++ more)
-  took_few more = taken_within L layout_is e.group groups R.strangers (e.given ++ more) (λ d there. (let is = R.posted d there in let all = out_within L e d more in omega (arith, is, all))) c low
+  took_few more = taken_within L layout_is e.group groups (λ g m there high. R.strangers g m high) (e.given ++ more) (λ d there. (let is = R.posted d there in let all = out_within L e d more in omega (arith, is, all))) c low
 
   full_now : (x : Fixed) → In x fixed → x.reply ≡ Full → (more : List Request) → IsAmpleFor L o.found (e.given ++ more) c → ⊥
   full_now x i is more =

@@ -22,7 +22,7 @@ use Rattle.headline.specs.Limits.{IsAsked, may_change, version_of, changes_asked
 use Rattle.engine_laws.specs.RefusalCauses.{raised, raised_by, HasCause, HaveCauses}
 use Rattle.engine_laws.specs.WorkerMoves.{requests_for}
 use Rattle.engine_laws.specs.Engine.{Engine, Answer, line}
-use Rattle.engine_laws.specs.Keys.{Served, pairs}
+use Rattle.engine_laws.specs.Keys.{Served, served_as, pairs}
 use Rattle.engine_laws.specs.Stands.{Origin, start_of, Stands}
 use Rattle.engine_laws.specs.Causes.{Causes}
 use Rattle.engine_laws.proofs.Numbers.{numbered, all_in, in_all, in_requests}
@@ -31,7 +31,7 @@ use Rattle.engine_laws.proofs.Promises.{stands_now, requests_are, waits_none, in
 count_cons : {X : Type 0} (p : X → Bool) (x : X) (xs : List X) → count_by p (x ∷ xs) ≡ cond (p x) 1 0 + count_by p xs
 count_cons p x xs = sum_by-cons (λ y. cond (p y) 1 0) x xs
 
-abbrev asked_in : Served → ℕ × Request
+abbrev pub asked_in : Served → ℕ × Request
 asked_in x = (x.number, x.request)
 
 -- only a change is finished
@@ -50,24 +50,30 @@ finish_changes (Get k) c false replies.VersionsSpent (inr bad) f = absurd (cc f)
 finish_changes (Get k) c false replies.TooLong (inr bad) f = absurd (cc f)
 finish_changes (Get k) c false replies.Stopped (inr bad) f = absurd (cc f)
 
+-- only changes are finished
+pub Changes : Request × Reply → Type 0
+Changes x = is_finish x.1 ≡ true → may_change (key_of x.0) x.0 ≡ true
+
+pub lawful_changes : (c : Option (List ℕ)) (s : Bool) (xs : List (Request × Reply)) → IsLawfulFor c s xs → AllByRecursion Changes xs
+unfolding Changes
+lawful_changes c s [] h = tt
+lawful_changes c s (x ∷ xs) h = (λ f. finish_changes x.0 c s x.1 h.0 f, lawful_changes (cell_left x.0 x.1 c) (s || is_stopped x.1) xs h.1)
+
 -- the last version rises by the changes at most
-rises_one : (k : ℕ) (x : Served) (c : Option (List ℕ)) (s : Bool) (a : ℕ) → MayReply x.request c s x.answer.reply → key_of x.request ≡ k → raised a x.answer.reply ≤ a + cond {A = ℕ} (may_change k x.request) 1 0
-rises_one k x c s a m key = by (is_finish x.answer.reply) refl where
+rises_one : (k : ℕ) (x : Served) (a : ℕ) → (is_finish x.answer.reply ≡ true → may_change (key_of x.request) x.request ≡ true) → key_of x.request ≡ k → raised a x.answer.reply ≤ a + cond {A = ℕ} (may_change k x.request) 1 0
+rises_one k x a m key = by (is_finish x.answer.reply) refl where
   by : (b : Bool) → is_finish x.answer.reply ≡ b → cond {A = ℕ} b (a + 1) a ≤ a + cond {A = ℕ} (may_change k x.request) 1 0
-  by true f = let one = ap (λ t. cond {A = ℕ} t 1 0) (ap (λ j. may_change j x.request) (sym key) ∙ finish_changes x.request c s x.answer.reply m f) in omega (arith, one)
+  by true f = let one = ap (λ t. cond {A = ℕ} t 1 0) (ap (λ j. may_change j x.request) (sym key) ∙ m f) in omega (arith, one)
   by false f = omega arith
 
-rises : (k : ℕ) (xs : List Served) (c : Option (List ℕ)) (s : Bool) (a : ℕ) → IsLawfulFor c s (pairs xs) → AllByRecursion (λ (x : Served). key_of x.request ≡ k) xs → raised_by a (pairs xs) ≤ a + count_by (λ (y : ℕ × Request). may_change k y.1) (map asked_in xs)
-rises k [] c s a lawful keys = omega arith
-rises k (x ∷ xs) c s a lawful keys =
-    let rest = rises k xs (cell_left x.request x.answer.reply c) (s || is_stopped x.answer.reply) (raised a x.answer.reply) lawful.1 keys.1 in
+rises : (k : ℕ) (xs : List Served) (a : ℕ) → AllByRecursion Changes (pairs xs) → AllByRecursion (λ (x : Served). key_of x.request ≡ k) xs → raised_by a (pairs xs) ≤ a + count_by (λ (y : ℕ × Request). may_change k y.1) (map asked_in xs)
+unfolding Changes
+rises k [] a changes keys = omega arith
+rises k (x ∷ xs) a changes keys =
+    let rest = rises k xs (raised a x.answer.reply) changes.1 keys.1 in
     let count = count_cons (λ (y : ℕ × Request). may_change k y.1) (asked_in x) (map asked_in xs) in
-    let one = rises_one k x c s a lawful.0 keys.0 in
+    let one = rises_one k x a changes.0 keys.0 in
     omega (arith, rest, count, one)
-
-lawful_front : (xs ys : List Served) (c : Option (List ℕ)) (s : Bool) → IsLawfulFor c s (pairs (xs ++ ys)) → IsLawfulFor c s (pairs xs)
-lawful_front [] ys c s h = tt
-lawful_front (x ∷ xs) ys c s h = (h.0, lawful_front xs ys (cell_left x.request x.answer.reply c) (s || is_stopped x.answer.reply) h.1)
 
 all_front : {X : Type 0} (P : X → Type 0) (xs ys : List X) → AllByRecursion P (xs ++ ys) → AllByRecursion P xs
 all_front P [] ys h = tt
@@ -110,13 +116,13 @@ before k m (x ∷ xs) front rest n q e = by (key_of x == k) front e (λ ys t. be
       let all = count_cons (may_change k) x (take r.0 xs) in
       (suc r.0, omega (arith, at), omega (arith, more, all))
 
-asked_is : (o : Option Request) (k : ℕ) → option_map key_of o ≡ Some k → (q : Request) × (o ≡ Some q) × (key_of q ≡ k)
+pub asked_is : (o : Option Request) (k : ℕ) → option_map key_of o ≡ Some k → (q : Request) × (o ≡ Some q) × (key_of q ≡ k)
 asked_is None k e = absurd (cc e)
 asked_is (Some q) k e = (q, refl, cc e)
 
--- The answers of one key, from its cell and its last version on: they are for the first of its requests in a trace. Each refusal has its cause by the changes that the trace has of the key before it.
-module _ (l : Geometry) (start : ℕ) (cell : Option (List ℕ)) (k : ℕ) (trace : List Request) (served : List Served) (waits : List (ℕ × Request)) (split : requests_of k trace ≡ map asked_in served ++ waits)
-    (lawful : IsLawfulFor cell false (pairs served)) (caused : HaveCauses l start (pairs served)) (x : Served) (there : In x served) where
+-- The answers of one key, from its last version on: they are for the first of its requests in a trace. Each refusal has its cause by the changes that the trace has of the key before it.
+module _ (l : Geometry) (start : ℕ) (k : ℕ) (trace : List Request) (served : List Served) (waits : List (ℕ × Request)) (split : requests_of k trace ≡ map asked_in served ++ waits)
+    (changes : AllByRecursion Changes (pairs served)) (caused : HaveCauses l start (pairs served)) (x : Served) (there : In x served) where
   own : (y : Served) → In y served → key_of y.request ≡ k
   own y i = (in_requests k trace (asked_in y) (subst (λ (ys : List (ℕ × Request)). In (asked_in y) ys) (sym split) (in_front (asked_in y) (map asked_in served) waits (in_map asked_in y served i)))).1
 
@@ -129,9 +135,9 @@ module _ (l : Geometry) (start : ℕ) (cell : Option (List ℕ)) (k : ℕ) (trac
       let at : b.0 ≡ x.number = (let i = b.1 in omega (arith, i)) in
       let few = subst (λ (m : ℕ). count_by (λ (y : ℕ × Request). may_change k y.1) (map asked_in s.0) ≤ changes_asked k (take m trace)) at b.2 in
       let C = cause_at l start s.0 s.1 x (subst (λ (ys : List Served). HaveCauses l start (pairs ys)) s.2 caused) in
-      let front = lawful_front s.0 (x ∷ s.1) cell false (subst (λ (ys : List Served). IsLawfulFor cell false (pairs ys)) s.2 lawful) in
+      let front = all_front Changes (pairs s.0) (pairs (x ∷ s.1)) (subst (AllByRecursion Changes) (ap pairs s.2 ∙ map-append served_as s.0 (x ∷ s.1)) changes) in
       let keys = all_front (λ (y : Served). key_of y.request ≡ k) s.0 (x ∷ s.1) (subst (λ (ys : List Served). AllByRecursion (λ (y : Served). key_of y.request ≡ k) ys) s.2 (in_all (λ (y : Served). key_of y.request ≡ k) served own)) in
-      let up = rises k s.0 cell false start front keys in
+      let up = rises k s.0 start front keys in
       record {
         spent = λ r. (let most = C.spent r in omega (arith, up, few, most));
         long = C.long;
@@ -166,13 +172,13 @@ module _ (o : Origin) (e : Engine) (S : Stands o e) (more : List Request) (n : �
       let here = all_in (λ (y : Served). e.answer y.number ≡ Some y.answer) served x.0 (S.keys k).answers x.1 in
       let both : Some x.0.answer ≡ Some a = sym here ∙ ap e.answer number ∙ ans in
       let answer : x.0.answer ≡ a = cc both in
-      let C = cause_served (layout_of o.found) (version_of o.found k) (start_of o k) k (e.given ++ more) served waits (requests_are o e (stands_now o e S) more k) (S.keys k).history.lawful (S.causes k) x.0 x.1 in
+      let C = cause_served (layout_of o.found) (version_of o.found k) k (e.given ++ more) served waits (requests_are o e (stands_now o e S) more k) (lawful_changes (start_of o k) false (pairs served) (S.keys k).history.lawful) (S.causes k) x.0 x.1 in
       subst (λ (b : Answer). HasCause (layout_of o.found) (version_of o.found k + changes_asked k (take n (e.given ++ more))) q b.reply) answer
       (subst (λ (y : Request). HasCause (layout_of o.found) (version_of o.found k + changes_asked k (take n (e.given ++ more))) y x.0.answer.reply) request
       (subst (λ (m : ℕ). HasCause (layout_of o.found) (version_of o.found k + changes_asked k (take m (e.given ++ more))) x.0.request x.0.answer.reply) number C))
 
 -- who was answered was given
-given_front : (xs more : List Request) (i : ℕ) → i < length xs → slice_get (xs ++ more) i ≡ slice_get xs i
+pub given_front : (xs more : List Request) (i : ℕ) → i < length xs → slice_get (xs ++ more) i ≡ slice_get xs i
 given_front [] more i lt = absurd (omega (arith, lt))
 given_front (x ∷ xs) more zero lt = refl
 given_front (x ∷ xs) more (suc i) lt = given_front xs more i (omega (arith, lt))
