@@ -1,6 +1,6 @@
 -- The requests of a core by key, and its answers by number.
-use Rattle.std.proofs.Common.{◌≡◌, ◌≢◌, inl, inr, ℕ, ◌+◌, ◌<◌, ◌==◌, Bool, true, false, cond, List, [], ◌∷◌, ◌++◌, map, filter, Option, Some, None, refl, sym, ◌∙◌, ap, subst, arith}
-use Rattle.std.specs.List.{AllByRecursion, enumerate_from, find}
+use Rattle.std.proofs.Common.{◌≡◌, ◌≢◌, inl, inr, ℕ, zero, suc, ◌+◌, ◌<◌, ◌==◌, Bool, true, false, cond, List, [], ◌∷◌, ◌++◌, map, filter, Option, Some, None, refl, sym, ◌∙◌, ap, subst, arith}
+use Rattle.std.specs.List.{AllByRecursion, enumerate_from, find, slice_get}
 use Rattle.std.proofs.lemmas.Bool.{eqb-true, eq-eqb}
 use Rattle.fs_model.specs.declared.model.Request.{Request}
 use Rattle.fs_model.specs.declared.model.Reply.{Reply}
@@ -72,3 +72,9 @@ served_pairs t (y ∷ ys) = ap (λ l. replied y ∷ l) (served_pairs t ys)
 pub served_all : (t : ℕ) (P : Served → Type 0) (fs : List Fixed) → ((y : Fixed) → In y fs → P (served_at t y)) → AllByRecursion P (map (served_at t) fs)
 served_all t P [] h = tt
 served_all t P (y ∷ ys) h = (h y (inl refl), served_all t P ys (λ z i. h z (inr i)))
+
+-- a request with its number
+pub in_enumerated : (n : ℕ) (xs : List Request) (i : ℕ) (q : Request) → slice_get xs i ≡ Some q → In (n + i, q) (enumerate_from n xs)
+in_enumerated n [] i q e = absurd (cc e)
+in_enumerated n (x ∷ xs) zero q e = (let same : x ≡ q = cc e in let z : n ≡ n + 0 = omega arith in inl (λ t. (sym z t, sym same t)))
+in_enumerated n (x ∷ xs) (suc i) q e = (let shift : n + 1 + i ≡ n + suc i = omega arith in inr (subst (λ (m : ℕ). In (m, q) (enumerate_from (n + 1) xs)) shift (in_enumerated (n + 1) xs i q e)))

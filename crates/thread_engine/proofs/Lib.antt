@@ -8,3 +8,4 @@ mod FirstKeys
 mod Stops
 mod ByNumber
 mod LastState
+mod KeptAnswers

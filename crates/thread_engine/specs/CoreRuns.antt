@@ -51,6 +51,7 @@ pub record HasView (w : Group) (m : ℕ) (v : View) : Type 0 where
   pub kept : w.kept m ≡ v.kept
   pub flying : w.flying m ≡ v.flying
   pub taken : w.taken m ≡ v.taken
+  pub doomed : w.doomed m ≡ v.doomed
   pub broken : w.broken m ≡ v.broken
   pub holds : w.holds m ≡ v.holds
   pub posted : w.posted m ≡ v.posted
