@@ -9,3 +9,7 @@ mod TookGrows
 mod CarriedLines
 mod Reckoning
 mod RunCauses
+mod Stops
+mod ByNumber
+mod LastState
+mod KeptAnswers
