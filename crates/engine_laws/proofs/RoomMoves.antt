@@ -31,7 +31,7 @@ use Rattle.engine_laws.specs.Engine.{Engine, line}
 use Rattle.engine_laws.specs.Moves.{Moves}
 use Rattle.engine_laws.specs.Keys.{Served}
 use Rattle.engine_laws.specs.Stands.{Origin, Stands}
-use Rattle.engine_laws.specs.Spending.{lines_in, one_if, is_cut_for, puts_in, Spends, PostsOne, SpendsRoom, posted_by, took_by, flying_by}
+use Rattle.engine_laws.specs.Spending.{lines_in, one_if, is_cut_for, puts_in, Spends, PostsOne, SpendsRoom}
 use Rattle.engine_laws.specs.Rooms.{is_numbered, is_posted_as, is_begun, is_out, begun_puts, out_lines, HasRoom, Rooms}
 use Rattle.engine_laws.proofs.Numbers.{IsUp, up, up_tail, all_in, in_filter}
 use Rattle.engine_laws.proofs.Cores.{member_low}
@@ -261,11 +261,11 @@ module _ (l : Geometry) (e f : Engine) (c : ℕ) (accepted : List (ℕ × Reques
         and_none false = refl
 
   -- the lines of the entries that it posted
-  pub own_posted : lines_in (posted_by l e c) ≤ out_lines l e c → lines_in (posted_by l f c) ≤ out_lines l f c
+  pub own_posted : lines_in ((e.group (group_of l c)).posted (member_of l c)) ≤ out_lines l e c → lines_in ((f.group (group_of l c)).posted (member_of l c)) ≤ out_lines l f c
   own_posted before = ⊎_elim
       (λ stays. let at = ap lines_in stays in let grows = out_up l e f c M.given answered_stays own_goes in omega (arith, at, grows, before))
       (λ (Q : PostsOne l e f c).
-      let one : lines_in (posted_by l f c) ≡ lines_in (posted_by l e c) + lines_in (Q.entry ∷ []) = ap lines_in Q.more ∙ sum_by-append _ (posted_by l e c) (Q.entry ∷ []) in
+      let one : lines_in ((f.group (group_of l c)).posted (member_of l c)) ≡ lines_in ((e.group (group_of l c)).posted (member_of l c)) + lines_in (Q.entry ∷ []) = ap lines_in Q.more ∙ sum_by-append _ ((e.group (group_of l c)).posted (member_of l c)) (Q.entry ∷ []) in
       let few = single Q.entry (lines_of l Q.change.request) Q.few in
       let grows = out_more Q in
       omega (arith, one, few, grows, before))
@@ -283,7 +283,7 @@ module _ (l : Geometry) (e f : Engine) (c : ℕ) (accepted : List (ℕ × Reques
 
     pub own_room : (e.stopped c ≡ false → HasRoom l o e c) → f.stopped c ≡ false → HasRoom l o f c
     own_room before runs = own_room_by (before (ran runs)) (P.spends runs) where
-      own_room_by : HasRoom l o e c → Spends l (took_by l e c) (flying_by l e c) (took_by l f c) (flying_by l f c) (e.stock c) (f.stock c) P.begun → HasRoom l o f c
+      own_room_by : HasRoom l o e c → Spends l ((e.group (group_of l c)).took (member_of l c)) ((e.group (group_of l c)).flying (member_of l c)) ((f.group (group_of l c)).took (member_of l c)) ((f.group (group_of l c)).flying (member_of l c)) (e.stock c) (f.stock c) P.begun → HasRoom l o f c
       own_room_by H Q = record {
         opened = H.opened + one_if Q.opened;
         cuts = λ k. H.cuts k + one_if (is_cut_for Q.cut k);
@@ -308,8 +308,8 @@ module _ (l : Geometry) (e f : Engine) (c : ℕ) (accepted : List (ℕ × Reques
             let le = numbers_one 1 GREATEST_CLASS k H.cuts (λ j. H.cuts j + one_if (is_cut_for Q.cut j)) low (omega (arith, high)) (λ j. omega arith) (omega (arith, here)) in
             omega (arith, one, le)
 
-        filled : (b : Bool) → Q.opened ≡ b → cond Q.opened (payload_lines l) (e.stock c).lines + (lines_in (took_by l e c) + lines_in (flying_by l f c)) ≤ (f.stock c).lines + (lines_in (took_by l f c) + lines_in (flying_by l e c))
-            → (H.opened + one_if Q.opened) * (payload_lines l - 4) + lines_in (flying_by l f c) ≤ lines_in (took_by l f c) + (f.stock c).lines
+        filled : (b : Bool) → Q.opened ≡ b → cond Q.opened (payload_lines l) (e.stock c).lines + (lines_in ((e.group (group_of l c)).took (member_of l c)) + lines_in ((f.group (group_of l c)).flying (member_of l c))) ≤ (f.stock c).lines + (lines_in ((f.group (group_of l c)).took (member_of l c)) + lines_in ((e.group (group_of l c)).flying (member_of l c)))
+            → (H.opened + one_if Q.opened) * (payload_lines l - 4) + lines_in ((f.group (group_of l c)).flying (member_of l c)) ≤ lines_in ((f.group (group_of l c)).took (member_of l c)) + (f.stock c).lines
         filled false is le =
             let now = ap (λ b. cond {A = ℕ} b (payload_lines l) (e.stock c).lines) is in
             let times = ap (λ b. (H.opened + one_if b) * (payload_lines l - 4)) is ∙ ap (λ n. n * (payload_lines l - 4)) (let z : H.opened + 0 ≡ H.opened = omega arith in z) in
@@ -396,10 +396,10 @@ module _ (o : Origin) (e f : Engine) (c : ℕ) (accepted : List (ℕ × Request)
   view_stays : (d : ℕ) → d ≢ c → view_of (f.group (group_of L d)) (member_of L d) ≡ view_of (e.group (group_of L d)) (member_of L d)
   view_stays d ne = subst (λ (m : Geometry). view_of (f.group (group_of m d)) (member_of m d) ≡ view_of (e.group (group_of m d)) (member_of m d)) S.layout (other_view e.layout c e.group f.group M.steps M.other_groups M.runs d ne)
 
-  pub posted_there : (d : ℕ) → d < L.cores → lines_in (posted_by L f d) ≤ out_lines L f d
+  pub posted_there : (d : ℕ) → d < L.cores → lines_in ((f.group (group_of L d)).posted (member_of L d)) ≤ out_lines L f d
   posted_there d low = ⊎_elim
-      (λ mine. subst (λ (b : ℕ). lines_in (posted_by L f b) ≤ out_lines L f b) (sym mine)
-      (own_posted L e f c accepted fixed own_lines own_moves spends (subst (λ (b : ℕ). lines_in (posted_by L e b) ≤ out_lines L e b) mine (R.posted d low))))
+      (λ mine. subst (λ (b : ℕ). lines_in ((f.group (group_of L b)).posted (member_of L b)) ≤ out_lines L f b) (sym mine)
+      (own_posted L e f c accepted fixed own_lines own_moves spends (subst (λ (b : ℕ). lines_in ((e.group (group_of L b)).posted (member_of L b)) ≤ out_lines L e b) mine (R.posted d low))))
       (λ ne. let was = R.posted d low in let at = ap (λ (v : View). lines_in v.posted) (view_stays d ne) in let grows = out_up L e f d M.given answered (stays d ne) in omega (arith, was, at, grows))
       (cases_eq d c)
 

@@ -12,10 +12,11 @@ use Rattle.chunk_map.specs.Chunks.{blocks_in}
 use Rattle.chunk_map.specs.Layouts.{layout_of, owner, numbers, has_class, IsLayout}
 use Rattle.store_image.specs.Facts.{In}
 use Rattle.headline.specs.Ample.{is_put_of, log_bytes, parts_of, data_chunks, IsAmpleFor}
+use Rattle.engine_laws.specs.Parts.{group_of, member_of}
 use Rattle.engine_laws.specs.FreeStock.{is_put_in, NeedsBlock, LacksRoom}
 use Rattle.engine_laws.specs.Engine.{Engine}
 use Rattle.engine_laws.specs.Stands.{Origin}
-use Rattle.engine_laws.specs.Spending.{lines_in, took_by}
+use Rattle.engine_laws.specs.Spending.{lines_in}
 use Rattle.engine_laws.specs.Rooms.{is_begun, begun_puts, HasRoom}
 use Rattle.engine_laws.proofs.RoomSums.{sum_up, sum_more_at, sum_numbered, numbers_one}
 use Rattle.engine_laws.proofs.Ampleness.{parts_least, block_some, few_opened, chunk_big, needed_some}
@@ -85,9 +86,9 @@ module _ (o : Origin) (e : Engine) (layout_is : IsLayout (layout_of o.found)) (c
         own_put_of class (Get k) is = refl
         own_put_of class (Delete k) is = refl
 
-  pub not_ample : 64 * lines_in (took_by L e c) ≤ log_bytes L c trace → IsAmpleFor L o.found trace c → ⊥
+  pub not_ample : 64 * lines_in ((e.group (group_of L c)).took (member_of L c)) ≤ log_bytes L c trace → IsAmpleFor L o.found trace c → ⊥
   not_ample within ample =
-      few_opened L H.opened (lines_in (took_by L e c)) (e.stock c).lines (log_bytes L c trace) large (let filled = H.lines in omega (arith, filled)) H.small within (opened_many ample lacks) where
+      few_opened L H.opened (lines_in ((e.group (group_of L c)).took (member_of L c))) (e.stock c).lines (log_bytes L c trace) large (let filled = H.lines in omega (arith, filled)) H.small within (opened_many ample lacks) where
         opened_many : IsAmpleFor L o.found trace c → LacksRoom L (e.stock c) q → parts_of (log_bytes L c trace) (L.chunk_bytes - 576) + 2 ≤ H.opened
         opened_many ample (inl few) = let chunks = H.chunks in let cuts = all_few in omega (arith, ample, few, chunks, cuts)
         opened_many ample (inr none) = let chunks = H.chunks in let few = none.0 in let cuts = one_fewer none.1.class none.1.needs none.1.none in omega (arith, ample, few, chunks, cuts)

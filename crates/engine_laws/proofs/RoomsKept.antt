@@ -17,13 +17,13 @@ use Rattle.store_image.proofs.Places.{superblock_facts}
 use Rattle.group_laws.proofs.Images.{in_map}
 use Rattle.headline.specs.Ample.{lines_of, log_bytes, is_put_of, IsAmpleFor}
 use Rattle.headline.specs.Limits.{IsAsked}
-use Rattle.engine_laws.specs.Parts.{Groups}
+use Rattle.engine_laws.specs.Parts.{Groups, group_of, member_of}
 use Rattle.engine_laws.specs.FreeStock.{LacksRoom}
 use Rattle.engine_laws.specs.WorkerMoves.{Fixed, asked, replied, fixed_of, requests_for}
 use Rattle.engine_laws.specs.Engine.{Engine, Answer}
 use Rattle.engine_laws.specs.Moves.{Moves}
 use Rattle.engine_laws.specs.Stands.{Origin, Stands, given_to, opening}
-use Rattle.engine_laws.specs.Spending.{lines_in, SpendsRoom, took_by}
+use Rattle.engine_laws.specs.Spending.{lines_in, SpendsRoom}
 use Rattle.engine_laws.specs.Rooms.{is_begun, is_out, begun_puts, out_lines, HasRoom, Rooms}
 use Rattle.engine_laws.proofs.Numbers.{all_in, filter_in}
 use Rattle.engine_laws.proofs.RoomSums.{sum_cons, in_enumerated}
@@ -48,7 +48,7 @@ module _ (o : Origin) (e f : Engine) (c : ℕ) (accepted : List (ℕ × Request)
   groups : Groups L e.group
   groups = subst (λ (m : Geometry). Groups m e.group) S.layout S.groups
 
-  took_few : (more : List Request) → 64 * lines_in (took_by L e c) ≤ log_bytes L c (e.given ++ more)
+  took_few : (more : List Request) → 64 * lines_in ((e.group (group_of L c)).took (member_of L c)) ≤ log_bytes L c (e.given ++ more)
   took_few more = taken_within L layout_is e.group groups (λ g m there high. R.strangers g m high) (e.given ++ more) (λ d there. (let is = R.posted d there in let all = out_within L e d more in omega (arith, is, all))) c low
 
   full_now : (x : Fixed) → In x fixed → x.reply ≡ Full → (more : List Request) → IsAmpleFor L o.found (e.given ++ more) c → ⊥

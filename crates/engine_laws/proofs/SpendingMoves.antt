@@ -13,7 +13,7 @@ use Rattle.engine_laws.specs.FreeStock.{Stock, IsAtLeast}
 use Rattle.engine_laws.specs.WorkerMoves.{Hands, Fixed, asked, requests_for}
 use Rattle.engine_laws.specs.Engine.{Engine}
 use Rattle.engine_laws.specs.Workers.{Sits, Around}
-use Rattle.engine_laws.specs.Spending.{lines_in, Spends, BeginsIn, PostsIn, SpendsIn, Begins, PostsOne, SpendsRoom, posted_by, took_by, flying_by}
+use Rattle.engine_laws.specs.Spending.{lines_in, Spends, BeginsIn, PostsIn, SpendsIn, Begins, PostsOne, SpendsRoom}
 use Rattle.engine_laws.proofs.Cores.{of_member, of_core}
 
 -- who counts less as free spends no more
@@ -40,9 +40,9 @@ pub record HasOf (l : Geometry) (e : Engine) (c : ℕ) (v : View) (w : Hands) : 
   pub waits : (k : ℕ) → owner l k ≡ c → w.waits k ≡ e.waits k
   pub stopped : w.stopped ≡ e.stopped c
   pub stock : IsAtLeast (e.stock c) w.stock
-  pub posted : v.posted ≡ posted_by l e c
-  pub took : v.took ≡ took_by l e c
-  pub flying : v.flying ≡ flying_by l e c
+  pub posted : v.posted ≡ (e.group (group_of l c)).posted (member_of l c)
+  pub took : v.took ≡ (e.group (group_of l c)).took (member_of l c)
+  pub flying : v.flying ≡ (e.group (group_of l c)).flying (member_of l c)
 
 module _ (l : Geometry) (layout : IsLayout l) (e f : Engine) (c : ℕ) (accepted : List (ℕ × Request)) (fixed : List Fixed) (v u : View) (w x : Hands) (S : HasOf l e c v w) (T : HasOf l f c u x) (now : f.stock c ≡ x.stock)
     (mine : (y : Fixed) → In y fixed → owner l (key_of y.request) ≡ c) (P : SpendsIn (place_at l (group_of l c)) (member_of l c) v u w x accepted fixed) where
@@ -79,11 +79,11 @@ module _ (l : Geometry) (layout : IsLayout l) (e f : Engine) (c : ℕ) (accepted
     begins = λ y is. begins_one y (P.begins y is);
     posts = ⊎_elim (λ same. inl (sym T.posted ∙ same ∙ S.posted)) (λ (Q : PostsIn (place_at l (group_of l c)) (member_of l c) v u w x). inr (posts_one Q)) P.posts;
     spends = λ runs.
-        spends_less l (took_by l e c) (flying_by l e c) (took_by l f c) (flying_by l f c) (e.stock c) w.stock (f.stock c) P.begun S.stock
-        (subst (λ (t : Stock). Spends l (took_by l e c) (flying_by l e c) (took_by l f c) (flying_by l f c) w.stock t P.begun) (sym now)
-        (subst (λ (es : List Entry). Spends l (took_by l e c) (flying_by l e c) es (flying_by l f c) w.stock x.stock P.begun) T.took
-        (subst (λ (es : List Entry). Spends l (took_by l e c) (flying_by l e c) u.took es w.stock x.stock P.begun) T.flying
-        (subst (λ (es : List Entry). Spends l es (flying_by l e c) u.took u.flying w.stock x.stock P.begun) S.took
+        spends_less l ((e.group (group_of l c)).took (member_of l c)) ((e.group (group_of l c)).flying (member_of l c)) ((f.group (group_of l c)).took (member_of l c)) ((f.group (group_of l c)).flying (member_of l c)) (e.stock c) w.stock (f.stock c) P.begun S.stock
+        (subst (λ (t : Stock). Spends l ((e.group (group_of l c)).took (member_of l c)) ((e.group (group_of l c)).flying (member_of l c)) ((f.group (group_of l c)).took (member_of l c)) ((f.group (group_of l c)).flying (member_of l c)) w.stock t P.begun) (sym now)
+        (subst (λ (es : List Entry). Spends l ((e.group (group_of l c)).took (member_of l c)) ((e.group (group_of l c)).flying (member_of l c)) es ((f.group (group_of l c)).flying (member_of l c)) w.stock x.stock P.begun) T.took
+        (subst (λ (es : List Entry). Spends l ((e.group (group_of l c)).took (member_of l c)) ((e.group (group_of l c)).flying (member_of l c)) u.took es w.stock x.stock P.begun) T.flying
+        (subst (λ (es : List Entry). Spends l es ((e.group (group_of l c)).flying (member_of l c)) u.took u.flying w.stock x.stock P.begun) S.took
         (subst (λ (es : List Entry). Spends l v.took es u.took u.flying w.stock x.stock P.begun) S.flying (P.spends (T.stopped ∙ runs)))))));
   }
 

@@ -31,7 +31,7 @@ use Rattle.engine_laws.specs.Keys.{Served, pairs}
 use Rattle.engine_laws.specs.Stands.{Origin, opening}
 use Rattle.engine_laws.specs.Causes.{Causes}
 use Rattle.engine_laws.specs.Promises.{IsOrigin}
-use Rattle.engine_laws.specs.Spending.{lines_in, posted_by, took_by}
+use Rattle.engine_laws.specs.Spending.{lines_in}
 use Rattle.engine_laws.specs.Workers.{Sits}
 use Rattle.engine_laws.specs.Advance.{answered}
 use Rattle.engine_laws.proofs.Cores.{of_member}
@@ -146,18 +146,18 @@ module _ (o : Origin) (is : IsOrigin o) (r : Recovered) (refused : Bool) (e : En
   low_there : (c : ℕ) → c < L.cores → c < e.layout.cores
   low_there c low = subst (λ (l : Geometry). c < l.cores) (sym A.layout) low
 
-  posted_is : (c : ℕ) (low : c < e.layout.cores) → posted_by L e c ≡ (run c low).last.view.posted
-  posted_is c low = ap (λ (l : Geometry). posted_by l e c) (sym A.layout) ∙ (run c low).shown.posted
+  posted_is : (c : ℕ) (low : c < e.layout.cores) → (e.group (group_of L c)).posted (member_of L c) ≡ (run c low).last.view.posted
+  posted_is c low = ap (λ (l : Geometry). (e.group (group_of l c)).posted (member_of l c)) (sym A.layout) ∙ (run c low).shown.posted
 
-  took_is : (c : ℕ) (low : c < e.layout.cores) → took_by L e c ≡ (run c low).last.view.took
-  took_is c low = ap (λ (l : Geometry). took_by l e c) (sym A.layout) ∙ (run c low).shown.took
+  took_is : (c : ℕ) (low : c < e.layout.cores) → (e.group (group_of L c)).took (member_of L c) ≡ (run c low).last.view.took
+  took_is c low = ap (λ (l : Geometry). (e.group (group_of l c)).took (member_of l c)) (sym A.layout) ∙ (run c low).shown.took
 
   strangers : (g m : ℕ) → g < groups_in L → L.group ≤ m → (e.group g).posted m ≡ []
   strangers g m low high =
       let steps = A.reached g (subst (λ (l : Geometry). g < groups_in l) (sym A.layout) low) in
       run_posted (opened (place_at e.layout g) o.found) steps.0 (e.group g) m (subst (λ (l : Geometry). l.group ≤ m) (sym A.layout) high) steps.1
 
-  posted_within : (more : List Request) (d : ℕ) → d < L.cores → lines_in (posted_by L e d) ≤ own_lines L d (e.given ++ more)
+  posted_within : (more : List Request) (d : ℕ) → d < L.cores → lines_in ((e.group (group_of L d)).posted (member_of L d)) ≤ own_lines L d (e.given ++ more)
   posted_within more d low =
       let there = low_there d low in
       let R = reckons d there in
