@@ -52,6 +52,14 @@ module _ (s t : State) (S : Stays s t) where
         below = omega (arith, stamp, below);
       }
 
+  there : (w : ℕ) → InRange t.frame w → InRange s.frame w
+  there w inside =
+      let first = S.first in
+      let words = S.words in
+      let low = inside.low in
+      let high = inside.high in
+      record { low = omega (arith, first, low); high = omega (arith, first, words, high) }
+
   pub attached_still : (old : State) (found : ℕ → ℕ) → Attached old s s.frame.bytes found → Attached old t t.frame.bytes found
   attached_still old found A = record {
     first = S.first ∙ A.first;
@@ -62,14 +70,6 @@ module _ (s t : State) (S : Stays s t) where
     since = S.since ∙ A.since;
     certainly = λ w inside now. S.cells t.stamp w ∙ ap (λ n. s.cells n w) S.stamp ∙ A.certainly w (there w inside) (tells_still now);
   }
-  where
-    there : (w : ℕ) → InRange t.frame w → InRange s.frame w
-    there w inside =
-        let first = S.first in
-        let words = S.words in
-        let low = inside.low in
-        let high = inside.high in
-        record { low = omega (arith, first, low); high = omega (arith, first, words, high) }
 
 -- what was done to a region that was attached
 pub attaches_then : (old s t : State) (found : ℕ → ℕ) → Attached old s s.frame.bytes found → IsOpenedOnceMore old s → s.frame.refusals ≡ old.frame.refusals → t.frame.bytes ≡ s.frame.bytes → MayRejoin s t
