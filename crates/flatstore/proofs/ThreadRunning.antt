@@ -1,10 +1,14 @@
 -- From what the cores did in a run on threads, or why none ran, to what the program promises.
-use Rattle.std.proofs.Common.{◌≡◌, ◌≢◌, ◌⊎◌, inl, inr, ℕ, ◌/◌, ◌<◌, ◌≤◌, List, [], ◌++◌, map, refl, sym, ◌∙◌, ap, subst, arith, true, false, Bool, Option, None, append-nil}
-use Rattle.std.specs.Prelude.{IsTrue}
+use Rattle.std.proofs.Common.{◌≡◌, ◌≢◌, ◌⊎◌, inl, inr, ℕ, ◌/◌, ◌<◌, ◌≤◌, List, [], ◌++◌, map, refl, sym, ◌∙◌, ap, subst, arith, true, false, Bool, Option, None, Result, Ok, Err, append-nil}
+use Rattle.std.specs.Prelude.{IsTrue, IfErr}
+use Rattle.std.specs.Result.{IsErrAnd}
 use Rattle.pm_region.specs.Cell.{Cell}
 use Rattle.pm_region.specs.State.{State, InRange, IsTold, IsTelling, MayLeave, Rose, cell_now, counted}
-use Rattle.pm_region.specs.Split.{Attached, Stays, IsOpenedOnceMore, IsNotOpened, words_in}
+use Rattle.pm_region.specs.Split.{Attached, Stays, Refuses, IsOpenedOnceMore, words_in}
+use Rattle.pm_region.specs.declared.split.AttachError.{AttachError}
+use Rattle.pm_region.specs.declared.split.AttachError.TheVariants as attach
 use Rattle.pm_region.specs.Words.{lasts}
+use Rattle.fs_text.specs.declared.line.Line.{Line}
 use Rattle.fs_text.specs.Output.{replies_text}
 use Rattle.fs_text.specs.Streams.{Takes, TakesPrefix}
 use Rattle.chunk_map.specs.Layouts.{layout_of}
@@ -22,8 +26,8 @@ use Rattle.flatstore.specs.Attaching.{GoesOnBy, AttachesToSplit, MayRejoin}
 use Rattle.flatstore.specs.LastStates.{told_in}
 use Rattle.flatstore.specs.Ordering.{KeepsOrder, IsServed, is_broken, is_of_line, is_quiet, is_whole}
 use Rattle.flatstore.specs.Promise.{IsInput, Serves, IsAllOut}
-use Rattle.flatstore.specs.Played.{IsRefused, HasWritten, is_ended}
-use Rattle.flatstore.specs.ThreadPlays.{PlayedApart, HasNotSplit, IsNotRun, WhyNotRun, status_for, has_begun}
+use Rattle.flatstore.specs.Played.{IsReady, IsRefused, HasWritten, is_ended}
+use Rattle.flatstore.specs.ThreadPlays.{PlayedApart, HasNotSplit, IsNotRun, WhyNotRun, why_of, status_for, has_begun}
 use Rattle.flatstore.specs.ThreadRuns.{RanOnThreads, RunsOnThreads}
 use Rattle.flatstore.specs.declared.report.Status.{Status}
 use Rattle.flatstore.specs.declared.report.Status.TheVariants as statuses
@@ -52,8 +56,8 @@ module _ (s t : State) (S : Stays s t) where
         below = omega (arith, stamp, below);
       }
 
-  there : (w : ℕ) → InRange t.frame w → InRange s.frame w
-  there w inside =
+  in_range : (w : ℕ) → InRange t.frame w → InRange s.frame w
+  in_range w inside =
       let first = S.first in
       let words = S.words in
       let low = inside.low in
@@ -68,7 +72,7 @@ module _ (s t : State) (S : Stays s t) where
     parted = S.parted ∙ A.parted;
     stamp = S.stamp ∙ A.stamp;
     since = S.since ∙ A.since;
-    certainly = λ w inside now. S.cells t.stamp w ∙ ap (λ n. s.cells n w) S.stamp ∙ A.certainly w (there w inside) (tells_still now);
+    certainly = λ w inside now. S.cells t.stamp w ∙ ap (λ n. s.cells n w) S.stamp ∙ A.certainly w (in_range w inside) (tells_still now);
   }
 
 -- what was done to a region that was attached
@@ -79,6 +83,16 @@ attaches_then old s t found A once granted bytes done r opened = record {
   unattached = λ isnt. both r.attached opened isnt;
   cause = λ isnt. both r.attached opened isnt;
 }
+
+-- A split that was refused, or for which there was no memory.
+module _ (s t : State) (word : ℕ → ℕ) (S : Stays s t) (coming left : Option (List ℕ)) (source source' : ℕ) (r : Result Outcome AttachError) (R : Refuses s t r) (recovered : Recovered) (lines : List Line) (ready : IsReady s word coming left recovered lines) where
+  why_split : (error : AttachError) → r ≡ Err error → WhyNotRun s word t coming left source source' (why_of error)
+  why_split attach.RegionFault is = let rose = R.fault is in record { recovered = recovered; lines = lines; ready = ready; fault = rose.0; refused = rose.1 }
+  why_split attach.Memory is = inr refl
+
+  pub split_refused : (error : AttachError) → r ≡ Err error → {T : Type 0} (x : Result T NotRun) → IsErrAnd x (λ e. e ≡ why_of error) → IfErr x (IsNotRun s word t coming left source source')
+  split_refused error is (Ok x) e = tt
+  split_refused error is (Err x) e = subst (IsNotRun s word t coming left source source') (sym e) (record { stays = S; later = R.later; cause = why_split error is })
 
 -- No core ran.
 module _ (old s t : State) (found word : ℕ → ℕ) (A : Attached old s s.frame.bytes found) (tells : (w : ℕ) → IsTelling s → lasts s w ≡ word w) (low : old.faults ≤ s.faults) (granted : s.frame.refusals ≡ old.frame.refusals) (coming left : Option (List ℕ)) (source source' : ℕ) (why : NotRun)
@@ -152,19 +166,19 @@ module _ (old s t : State) (found word : ℕ → ℕ) (A : Attached old s s.fram
 
     -- the region could not be split
     module _ (h : HasNotSplit s word t coming left) (is : r.status ≡ statuses.RegionFault) (begun : r.began ≡ true) where
-      abbrev cores : ℕ
-      cores = h.recovered.layout.cores
+      abbrev own_cores : ℕ
+      own_cores = h.recovered.layout.cores
 
-      abbrev input : List ℕ
-      input = h.ready.read.input
+      abbrev own_input : List ℕ
+      own_input = h.ready.read.input
 
-      served_then : IsTelling t → IsSound s.frame.bytes found × (cores ≡ found 2)
-      served_then telling = served_by old s found A cores (counted_by s word tells h.recovered h.ready.stands cores refl) (tells_still s t N.stays telling)
+      served_then : IsTelling t → IsSound s.frame.bytes found × (own_cores ≡ found 2)
+      served_then telling = served_by old s found A own_cores (counted_by s word tells h.recovered h.ready.stands own_cores refl) (tells_still s t N.stays telling)
 
       served : IsServed t found
       served telling = subst (λ n. IsSound n found) (sym N.stays.bytes) (served_then telling).0
 
-      order : KeepsOrder old t found coming left cores input r
+      order : KeepsOrder old t found coming left own_cores own_input r
       order = record {
         untouched = λ no. still;
         source = λ e. cc (sym is ∙ e);
@@ -176,27 +190,27 @@ module _ (old s t : State) (found word : ℕ → ℕ) (A : Attached old s s.fram
         whole = λ whole. both (is_whole r.status) whole (ap is_whole is);
       }
 
-      split_serves : Serves old t found coming left source source' cores input text text flushed sink sink r
+      split_serves : Serves old t found coming left source source' own_cores own_input text text flushed sink sink r
       split_serves = record {
-        cores_are = λ n told. (served_then (told_now old t found still r fin ref cut cores input n told)).1;
+        cores_are = λ n told. (served_then (told_now old t found still r fin ref cut own_cores own_input n told)).1;
         order = order;
         due = λ telling. inr (inr (inr (inr (is, risen h))));
         done = λ done. cc (sym is ∙ done);
         failed = λ failed complete steady. both r.complete complete cut;
         sunk = λ sunk. cc (sym is ∙ sunk);
-        begins = none_begins old t found still r fin ref cut cores input text;
-        crash = none_lost old t found still r fin ref cut cores input;
+        begins = none_begins old t found still r fin ref cut own_cores own_input text;
+        crash = none_lost old t found still r fin ref cut own_cores own_input;
         last = λ whole telling image may k small. both (is_whole r.status) whole (ap is_whole is);
-        rising = none_rising old t found still r fin ref cut cores input;
-        full = λ telling. none_full old t found still r fin ref cut cores input;
-        spent = λ telling. none_spent old t found still r fin ref cut cores input;
+        rising = none_rising old t found still r fin ref cut own_cores own_input;
+        full = λ telling. none_full old t found still r fin ref cut own_cores own_input;
+        spent = λ telling. none_spent old t found still r fin ref cut own_cores own_input;
         unrefused = λ telling within. ref;
       }
 
       unsplit : Promised
       unsplit = (
-        input,
-        cores,
+        own_input,
+        own_cores,
         h.ready.read.is_input,
         record { serves = split_serves; unsplit = λ failed no. (still, subst (λ n. Rose n t.frame.refusals) granted h.refused); run = λ complete. both r.complete complete cut },
       )
