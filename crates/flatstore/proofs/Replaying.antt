@@ -13,6 +13,7 @@ use Rattle.group_engine.specs.declared.run_outcome.Outcome.{Outcome}
 use Rattle.group_engine.specs.Replayed.{report_in}
 use Rattle.group_engine.specs.Reports.{ReportsOn, told, told_by}
 use Rattle.engine_laws.proofs.Ran.{ran_given}
+use Rattle.flatstore.specs.Attaching.{Runs}
 use Rattle.flatstore.specs.LastStates.{told_in, RanTo}
 use Rattle.flatstore.specs.Promise.{IsInput, Replays, IsAllOut}
 use Rattle.flatstore.specs.Played.{Played, HasWritten, is_ended}
@@ -46,6 +47,10 @@ module _ (old s t : State) (found word : ℕ → ℕ) (A : Attached old s s.fram
 
   count : (layout_of o.found).cores ≡ cores
   count = origin_cores s word P.recovered P.ready.stands o P.ran.begins.reads
+
+  -- Calls of the region led there from where it was attached.
+  pub onward : Runs s t
+  onward = running.on old s t found word A once granted P.recovered P.ready.stands cores input P.lines P.ready.read.good x P.ran count
 
   engine_ran : x.end ≢ ends.Memory → Ran AnyTurn given_to cores P.lines (opening o) f
   engine_ran = running.engine_ran old s t found word A once granted P.recovered P.ready.stands cores input P.lines P.ready.read.good x P.ran count
