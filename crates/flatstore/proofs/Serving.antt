@@ -1,5 +1,5 @@
 -- From the last state of a run to what the program promises of it, whoever made the moves of its cores.
-use Rattle.std.proofs.Common.{◌≡◌, ◌≢◌, ◌⊎◌, inl, inr, ℕ, ◌/◌, ◌<◌, ◌≤◌, List, [], ◌∷◌, ◌++◌, length, refl, sym, ◌∙◌, ap, subst, arith, true, false, Bool, Option, None, append-nil, map, take, ◌+◌, ◌%◌, length-append, Ok}
+use Rattle.std.proofs.Common.{◌≡◌, ◌≢◌, ◌⊎◌, inl, inr, ℕ, ◌/◌, ◌<◌, ◌≤◌, List, [], ◌++◌, length, refl, sym, ◌∙◌, ap, subst, arith, true, false, Bool, Option, None, append-nil, map, take, ◌+◌, ◌%◌, length-append, Ok}
 use Rattle.std.specs.List.{AllByRecursion}
 use Rattle.pm_region.specs.Cell.{Cell}
 use Rattle.pm_region.specs.State.{State, IsTold, IsTelling, MayLeave, Rose, cell_now}
@@ -29,7 +29,7 @@ use Rattle.engine_laws.specs.Engine.{Engine}
 use Rattle.engine_laws.specs.Stands.{Origin, start_of}
 use Rattle.engine_laws.specs.Promises.{IsOrigin, Promised, IsDone, HasStopped}
 use Rattle.engine_laws.specs.Ran as runs
-use Rattle.engine_laws.specs.Reports.{told_of, replies_of, replies_from, AllAnswered}
+use Rattle.engine_laws.specs.Reports.{told_of, replies_from, AllAnswered}
 use Rattle.group_engine.specs.declared.run_outcome.End.TheVariants as ends
 use Rattle.group_engine.specs.declared.run_outcome.Outcome.{Outcome}
 use Rattle.group_engine.specs.Replayed.{report_in}

@@ -1,6 +1,6 @@
 -- What is written of what the words of a region that was just attached say.
 use Rattle.std.proofs.Common.{◌≡◌, inl, inr, ℕ, List, [], append-nil, sym, ◌∙◌, ap, Bool, true, false, Option}
-use Rattle.pm_region.specs.State.{State, IsTelling, Rose}
+use Rattle.pm_region.specs.State.{State, IsTelling}
 use Rattle.pm_region.specs.Words.{lasts}
 use Rattle.pm_region.specs.Split.{Attached}
 use Rattle.store_image.specs.declared.types.Fault.TheVariants as faults
