@@ -5,3 +5,7 @@ mod Rested
 mod PieceStands
 mod KeyViews
 mod FirstKeys
+mod Stops
+mod ByNumber
+mod LastState
+mod KeptAnswers

@@ -25,7 +25,7 @@ use Rattle.engine_laws.specs.Workers.{Sits}
 use Rattle.core_worker.specs.Openings.{IsNew, IsStartAt}
 use Rattle.thread_engine.specs.Pieces.{IsPieceOf}
 use Rattle.thread_engine.specs.WorkStates.{WorkState, IsAtWork, Move, Leads, Works, HasEnded}
-use Rattle.thread_engine.specs.WorkStates.Move as moves
+use Rattle.thread_engine.specs.WorkStates.Move.{accepts, turns, winds_down}
 use Rattle.thread_engine.specs.WorkLaws.{hands_at}
 
 -- the requests of a core's keys, in the order of the trace, with their numbers in it
@@ -34,9 +34,9 @@ requests_to l c trace = filter (λ x. owner l (key_of x.1) == c) (enumerate_from
 
 -- what one move fixed
 abbrev pub fixed_by : {seat : SeatAt} {refused : Bool} {a b : WorkState} → Move seat refused a b → List Fixed
-fixed_by (moves.accepts A) = A.call.fixed
-fixed_by (moves.turns T) = T.moves.fixed
-fixed_by (moves.winds_down e) = []
+fixed_by (accepts A) = A.call.fixed
+fixed_by (turns T) = T.moves.fixed
+fixed_by (winds_down e) = []
 
 -- what the moves of a chain fixed, in order
 abbrev pub fixed_along : (seat : SeatAt) (refused : Bool) (a : WorkState) (path : List WorkState) (b : WorkState) → Leads seat refused a path b → List Fixed
@@ -51,6 +51,7 @@ pub record HasView (w : Group) (m : ℕ) (v : View) : Type 0 where
   pub kept : w.kept m ≡ v.kept
   pub flying : w.flying m ≡ v.flying
   pub taken : w.taken m ≡ v.taken
+  pub doomed : w.doomed m ≡ v.doomed
   pub broken : w.broken m ≡ v.broken
   pub holds : w.holds m ≡ v.holds
   pub posted : w.posted m ≡ v.posted
