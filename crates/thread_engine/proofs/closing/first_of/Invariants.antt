@@ -1,4 +1,4 @@
-use Rattle.std.proofs.Common.{◌≡◌, ◌++◌, ◌≤◌, length, vec_len, vec_capacity}
+use Rattle.std.proofs.Common.{◌≡◌, ◌++◌, ◌≤◌, vec_len, vec_capacity}
 use Rattle.thread_engine.proofs.closing.first_of.Given as goal
 
 abbrev pub invariant-loop : goal.invariant-loop
