@@ -118,15 +118,7 @@ fn run_supplied<T: Threads + Wait + Sync, R: SplitRegion + ReadRegion, G: Gate +
     };
     let pieces = region.split(alloc, &cuts)?;
     let back = work_apart(
-        rt,
-        alloc,
-        &tables,
-        layout.group,
-        pieces,
-        crew,
-        jobs,
-        room,
-        gate,
+        rt, alloc, &tables, layout.group, pieces, crew, jobs, room, gate,
     );
     close_tables(tables, layout.group, back.tokens, hands);
     region.join(back.pieces);
