@@ -106,25 +106,26 @@ module _ {W Q : Type 0} (hands : View → W → Hands) (answers : W → List Ans
       halted : idle ≡ true → Halts e after c
       halted still = moving.halts hands answers stands fair room leads o e S c low_e t (state b1.keeper.me.0) w x Y accepted rest idle down own_e here still
 
+      -- what was handed out
+      abbrev handed : List (ℕ × Request)
+      handed = next_of (is_open room leads w) (queue q)
+
       -- what was done, as the state has it
-      pub did : (begins : State → View → W → W → ℕ → Request → Type 0) (turned : Bool → State → Option Group → SeatAt → View → View → W → W → Type 0) (moved : Bool) → Does begins turned (state b0.keeper.me.0).place (member_of l c) s t (state b0.keeper.me.0) (state b1.keeper.me.0) w x (next_of (is_open room leads w) (queue q)) moved
+      did : (begins : State → View → W → W → ℕ → Request → Type 0) (turned : Bool → State → Option Group → SeatAt → View → View → W → W → Type 0) (moved : Bool) → Does begins turned (state b0.keeper.me.0).place (member_of l c) s t (state b0.keeper.me.0) (state b1.keeper.me.0) w x (next_of (is_open room leads w) (queue q)) moved
           → Does begins turned (place_at e.layout (group_of e.layout c)) (member_of e.layout c) e.region t (e.group (group_of e.layout c)) (after.group (group_of e.layout c)) w x (next_in e c) moved
       did begins turned moved h =
-          subst (λ (ys : List (ℕ × Request)). Does begins turned (place_at e.layout (group_of e.layout c)) (member_of e.layout c) e.region t (e.group (group_of e.layout c)) (after.group (group_of e.layout c)) w x ys moved) (sym ((λ i. next_of (Y.takes i) (waits i))))
-          (subst (λ (z : Group). Does begins turned (place_at e.layout (group_of e.layout c)) (member_of e.layout c) e.region t (e.group (group_of e.layout c)) z w x ys moved) (sym now) (there e.layout H.layout))
+          subst (λ (ys : List (ℕ × Request)). Does begins turned (place_at e.layout (group_of e.layout c)) (member_of e.layout c) e.region t (e.group (group_of e.layout c)) (after.group (group_of e.layout c)) w x ys moved) (sym (λ i. next_of (Y.takes i) (waits i)))
+          (subst (λ (z : Group). Does begins turned (place_at e.layout (group_of e.layout c)) (member_of e.layout c) e.region t (e.group (group_of e.layout c)) z w x handed moved) (sym now) (there e.layout H.layout))
         where
-          abbrev ys : List (ℕ × Request)
-          ys = next_of (is_open room leads w) (queue q)
-
           now : after.group (group_of e.layout c) ≡ state b1.keeper.me.0
           now = moving.group_now hands answers stands fair room leads o e S c low_e t (state b1.keeper.me.0) w x Y accepted rest idle down own_e here
 
-          there : (n : Geometry) → n ≡ l → Does begins turned (place_at n (group_of n c)) (member_of n c) e.region t (e.group (group_of e.layout c)) (state b1.keeper.me.0) w x ys moved
+          there : (n : Geometry) → n ≡ l → Does begins turned (place_at n (group_of n c)) (member_of n c) e.region t (e.group (group_of e.layout c)) (state b1.keeper.me.0) w x handed moved
           there n is =
-              subst (λ (n : Geometry). Does begins turned (place_at n (group_of n c)) (member_of n c) e.region t (e.group (group_of e.layout c)) (state b1.keeper.me.0) w x ys moved) (sym is)
-              (subst (λ (r : State). Does begins turned (place_at l (group_of l c)) (member_of l c) r t (e.group (group_of e.layout c)) (state b1.keeper.me.0) w x ys moved) (sym H.region)
-              (subst (λ (z : Group). Does begins turned (place_at l (group_of l c)) (member_of l c) s t z (state b1.keeper.me.0) w x ys moved) (sym board_e)
-              (subst (λ (p : Place). Does begins turned p (member_of l c) s t (state b0.keeper.me.0) (state b1.keeper.me.0) w x ys moved) place_is h)))
+              subst (λ (n : Geometry). Does begins turned (place_at n (group_of n c)) (member_of n c) e.region t (e.group (group_of e.layout c)) (state b1.keeper.me.0) w x handed moved) (sym is)
+              (subst (λ (r : State). Does begins turned (place_at l (group_of l c)) (member_of l c) r t (e.group (group_of e.layout c)) (state b1.keeper.me.0) w x handed moved) (sym H.region)
+              (subst (λ (z : Group). Does begins turned (place_at l (group_of l c)) (member_of l c) s t z (state b1.keeper.me.0) w x handed moved) (sym board_e)
+              (subst (λ (p : Place). Does begins turned p (member_of l c) s t (state b0.keeper.me.0) (state b1.keeper.me.0) w x handed moved) place_is h)))
 
       turns : (r : Bool) → (r ≡ false → idle ≡ true) → down ≡ false → accepted ≡ next_of (is_open room leads w) (queue q) → AnyTurn e c r after
       turns r still goes chosen = moving.any_turn hands answers stands fair room leads o e S c low_e t (state b1.keeper.me.0) w x Y accepted rest idle down own_e here r still goes (chosen ∙ ap (next_of (is_open room leads w)) (sym waits))
@@ -154,7 +155,7 @@ module _ {W Q : Type 0} (hands : View → W → Hands) (answers : W → List Ans
         abbrev ws1 : List W
         ws1 = slice_set (slice_set ws c x) c y
 
-        pub own_seat : Seat hands answers stands fair room leads after c y
+        own_seat : Seat hands answers stands fair room leads after c y
         own_seat = moving.same_seat hands answers stands fair room leads o e S c low_e t (state b1.keeper.me.0) w x Y accepted rest idle down own_e here y
             (λ v. same v ∙ ap (hands v) u_is) (λ p n r v h. keeps p n r v (subst (stands p n r v) (sym u_is) h)) (λ a n h. even a n (subst (fair a n) (sym u_is) h)) (ready ∙ ap (is_open room leads) u_is) none
 

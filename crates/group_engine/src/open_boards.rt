@@ -62,7 +62,8 @@ fn open_boards<O: Opening>(
     groups: u32,
 ) -> Result<Vec<LocalBoard>, Memory>
     requires sound { images.IsSound O.bytes (image_of O.words) }
-    requires groups { (layout_of (image_of O.words)).cores / (layout_of (image_of O.words)).group ≡ groups }
+    requires groups { (layout_of (image_of O.words)).cores
+        / (layout_of (image_of O.words)).group ≡ groups }
     requires members { (layout_of (image_of O.words)).group ≡ members }
     ensures length { IfOk result (λ v. length v.items ≡ groups) }
     ensures opened { IfOk result (λ v. AreOpened O.words v.items) }

@@ -134,7 +134,8 @@ pub fn pass<C: Cores, R: Region>(
     ensures failed { OnErr result (Leads (C.shows (R.state region.old) cores.old)
         (C.stays (R.state region.new) cores.new) (λ e f. Ends (R.state region.new) e.engine f)) }
     ensures passes { IfOk result (λ b. Leads (C.shows (R.state region.old) cores.old)
-        (C.shows (R.state region.new) cores.new) (λ e f. Passes C.moves (C.cores cores.old) b e f)) }
+        (C.shows (R.state region.new) cores.new)
+        (λ e f. Passes C.moves (C.cores cores.old) b e f)) }
     ensures cores { C.cores cores.new ≡ C.cores cores.old }
     ensures less { IfOk result (λ b. b ≡ true → C.left cores.new < C.left cores.old) }
     ensures idle { IfOk result (λ b. b ≡ false → C.left cores.new ≤ C.left cores.old) }

@@ -5,6 +5,10 @@ mod Rested
 mod PieceStands
 mod KeyViews
 mod FirstKeys
+mod TookGrows
+mod CarriedLines
+mod Reckoning
+mod RunCauses
 mod Stops
 mod ByNumber
 mod LastState

@@ -65,4 +65,4 @@ returns-in_err-give-in-Some-Ask-clause-failed g c = on_err c.from_residual.resul
     let s = g.R.Region.state c.loop-request.region in
     let r = c.loop-request.invariant.shown e h in
     let k = g.met.C.Cores.awake s c.give.new.self r.0 (c.in_err-give-in-Some-Ask.ensures.kept s r.0 r.1) in
-    (r.0, k, ends_here s c.args.lines.items c.loop-request.lines.items e.engine r.0.engine r.3 (g.met.C.Cores.placed s c.give.new.self r.0.engine k)))
+    (r.0.engine, k, ends_here s c.args.lines.items c.loop-request.lines.items e.engine r.0.engine r.3 (g.met.C.Cores.placed s c.give.new.self r.0.engine k)))

@@ -20,8 +20,7 @@ replay-requires-clause-shows g c =
     let en = c.args.self.now in
     let o = c.requires.opened.0 in
     let is = c.requires.opened.1 in
-    let k = c.requires.opened.2 in
-    (
+    let k = c.requires.opened.2 in (
       first_state o en.workers.items,
       (
         o,
