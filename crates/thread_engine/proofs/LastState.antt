@@ -88,6 +88,10 @@ pub record CoreEnd (refused : Bool) : Type 0 where
 abbrev pub no_hands : Hands
 no_hands = record { place = λ k. None; waits = λ k. []; stopped = false; stock = record { chunks = 0; lines = 0; blocks = λ class. 0 } }
 
+abbrev pub answered : ℕ → Option Fixed → Option engines.Answer
+answered t None = None
+answered t (Some y) = Some (record { reply = y.reply; stamp = t })
+
 module _ {refused : Bool} where
   abbrev pub fixed_of_end : CoreEnd refused → List Fixed
   fixed_of_end x = fixed_in x.seat refused x.first x.last x.works
@@ -103,10 +107,6 @@ module _ {refused : Bool} where
   abbrev pub fixed_in_end : Option (CoreEnd refused) → List Fixed
   fixed_in_end None = []
   fixed_in_end (Some x) = fixed_of_end x
-
-  abbrev pub answered : ℕ → Option Fixed → Option engines.Answer
-  answered t None = None
-  answered t (Some y) = Some (record { reply = y.reply; stamp = t })
 
   abbrev pub answer_by : Geometry → ℕ → (ℕ → Option (CoreEnd refused)) → ℕ → Option Request → Option engines.Answer
   answer_by l t ends n None = None
@@ -179,15 +179,26 @@ none_up : (xs : List (ℕ × Request)) → ((x : ℕ × Request) → In x xs →
 none_up [] no_ = tt
 none_up (x ∷ xs) no_ = absurd (no_ x (inl refl))
 
+-- a place within a list is not empty, and one past it is
+slice_some : (xs : List Request) (i : ℕ) → i < length xs → slice_get xs i ≡ None → ⊥
+slice_some [] i lt e = absurd (omega (arith, lt))
+slice_some (y ∷ ys) zero lt e = none_some y e
+slice_some (y ∷ ys) (suc i) lt e = slice_some ys i (omega (arith, lt)) e
+
+none_past : (xs : List Request) (n : ℕ) → length xs ≤ n → slice_get xs n ≡ None
+none_past [] n past = refl
+none_past (y ∷ ys) zero past = absurd (omega (arith, past))
+none_past (y ∷ ys) (suc n) past = none_past ys n (omega (arith, past))
+
 -- where a worker is, and that numbers have places
 in_at : (ws : List Worker) (w : Worker) → In w ws → (c : ℕ) × (slice_get ws c ≡ Some w)
 in_at [] w i = absurd i
 in_at (v ∷ vs) w (inl e) = (0, ap Some (sym e))
 in_at (v ∷ vs) w (inr i) = (let r = in_at vs w i in (suc r.0, r.1))
 
-places_in : (n : ℕ) (as : List Answer) → ((a : Answer) → In a as → a.number < n) → HavePlaces n as
+places_in : (n : ℕ) (outs : List Answer) → ((a : Answer) → In a outs → a.number < n) → HavePlaces n outs
 places_in n [] h = tt
-places_in n (a ∷ as) h = (h a (inl refl), places_in n as (λ b i. h b (inr i)))
+places_in n (a ∷ outs) h = (h a (inl refl), places_in n outs (λ b i. h b (inr i)))
 
 module _ (chain : ChainLaw) (keys_open : OpeningKeys) (doubts_open : OpeningDoubts) (o : Origin) (is : IsOrigin o) (is_layout : IsLayout (layout_of o.found)) (r : Recovered) (refused : Bool) (t : State) (group : ℕ → Group) (given : List Request)
     (groups : Groups (layout_of o.found) group) (ends : ℕ → Option (CoreEnd refused)) (all : (c : ℕ) → c < (layout_of o.found).cores → (x : CoreEnd refused) × (ends c ≡ Some x) × IsEnd o r refused t group given c x) where
@@ -390,6 +401,7 @@ module _ (chain : ChainLaw) (keys_open : OpeningKeys) (doubts_open : OpeningDoub
           (owner l k, low', y, (in_filter (λ (f : Fixed). key_of f.request == k) (fixed_of_end (x (owner l k) low')) y F.0).0, F.1, ap (λ (b : engines.Answer). b.reply) same)
 
   pub all_ran : ((g : ℕ) → g < groups_in l → (steps : List (ℕ × Kind)) × Runs (opened (place_at l g) o.found) steps (group g)) → AllRan o r refused e
+  unfolding core_run
   all_ran reached = record { layout = refl; groups = groups; reached = reached; cores = core_run; fixed = fixed_is }
 
   -- each part is licensed by its core's view
@@ -431,6 +443,7 @@ module _ (chain : ChainLaw) (keys_open : OpeningKeys) (doubts_open : OpeningDoub
 
   -- What holds at its one moment.
   pub last_stands : t.frame.since ≡ t.stamp → (IsTelling t → HasSuperblock o.found (cell_now t)) → StandsNow o e
+  unfolding key_stands
   last_stands since superblock = record {
     sound = is.sound;
     first = is.first;
@@ -450,35 +463,28 @@ module _ (chain : ChainLaw) (keys_open : OpeningKeys) (doubts_open : OpeningDoub
           layout = shown.layout;
           cells = λ k. shows_key (start_of o k) e k s o.region.frame.bytes image (key_stands k) (served_all t.stamp (λ (z : Served). z.answer.stamp ≤ s) (fs k) (λ z i. omega (arith, now))) shown;
         };
-  } where
-    none_past : (xs : List Request) (n : ℕ) → length xs ≤ n → slice_get xs n ≡ None
-    none_past [] n past = refl
-    none_past (y ∷ ys) zero past = absurd (omega (arith, past))
-    none_past (y ∷ ys) (suc n) past = none_past ys n (omega (arith, past))
+  }
 
   -- a slot that isn't empty has a change of its owner
   slot_empty : (g m s : ℕ) → g < groups_in l → m < l.group → (group g).slot m s ≡ Empty
   slot_empty g m s low member = by ((group g).slot m s) refl where
-    abbrev L : Lawful (group g)
+    L : Lawful (group g)
     L = groups.lawful g low
 
-    abbrev c : ℕ
-    c = g * l.group + m
-
-    c_low : c < l.cores
+    c_low : g * l.group + m < l.cores
     c_low = member_core l is_layout g m low member
 
-    g_is : group_of l c ≡ g
+    g_is : group_of l (g * l.group + m) ≡ g
     g_is = div-mul-add g l.group m member
 
-    m_is : member_of l c ≡ m
+    m_is : member_of l (g * l.group + m) ≡ m
     m_is = mod-mul-add g l.group m member
 
-    view_is : HasView (group g) m (x c c_low).last.view
-    view_is = subst (λ (i : ℕ). HasView (group g) i (x c c_low).last.view) m_is (subst (λ (j : ℕ). HasView (group j) (member_of l c) (x c c_low).last.view) g_is (X c c_low).shown)
+    view_is : HasView (group g) m (x (g * l.group + m) c_low).last.view
+    view_is = subst (λ (i : ℕ). HasView (group g) i (x (g * l.group + m) c_low).last.view) m_is (subst (λ (j : ℕ). HasView (group j) (member_of l (g * l.group + m)) (x (g * l.group + m) c_low).last.view) g_is (X (g * l.group + m) c_low).shown)
 
     none : (d : Entry) → PendsAt (group g) d (Some s) → places.owner (group g).place d.key ≡ m → ⊥
-    none d pends own = (rested c c_low).slots d.key s d (sym (view_is.pending d.key own) ∙ pends)
+    none d pends own = (rested (g * l.group + m) c_low).slots d.key s d (sym (view_is.pending d.key own) ∙ pends)
 
     by : (z : Slot) → (group g).slot m s ≡ z → (group g).slot m s ≡ Empty
     by Empty at_z = at_z
@@ -523,11 +529,7 @@ module _ (chain : ChainLaw) (keys_open : OpeningKeys) (doubts_open : OpeningDoub
     all_answered : AllAnswered e
     all_answered n lt = by (slice_get given n) refl where
       by : (q : Option Request) → slice_get given n ≡ q → (a : engines.Answer) × (e.answer n ≡ Some a)
-      by None none = absurd (slice_some given n lt none) where
-        slice_some : (xs : List Request) (i : ℕ) → i < length xs → slice_get xs i ≡ None → ⊥
-        slice_some [] i lt e = omega (arith, lt)
-        slice_some (y ∷ ys) zero lt e = none_some y (sym e)
-        slice_some (y ∷ ys) (suc i) lt e = slice_some ys i (omega (arith, lt)) e
+      by None none = absurd (slice_some given n lt none)
       by (Some q) there =
           let k = key_of q in
           let z : 0 + n ≡ n = omega arith in
@@ -559,17 +561,14 @@ module _ (chain : ChainLaw) (keys_open : OpeningKeys) (doubts_open : OpeningDoub
       | inr R ↦ inr R
     ]
 
-    abbrev c0 : ℕ
-    c0 = stop.0
-
-    from : HasDoubt (x c0 stop.1).seat.place (x c0 stop.1).seat.number (x c0 stop.1).last.view → Rose o.region.faults t.faults
+    from : HasDoubt (x stop.0 stop.1).seat.place (x stop.0 stop.1).seat.number (x stop.0 stop.1).last.view → Rose o.region.faults t.faults
     from D =
-        let g = group_of l c0 in
-        let low = group_low l is_layout c0 stop.1 in
+        let g = group_of l stop.0 in
+        let low = group_low l is_layout stop.0 stop.1 in
         let L = groups.lawful g low in
         let place = groups.place g low in
-        let own : places.owner (group g).place D.0 ≡ member_of l c0 = (λ i. places.owner ((place ∙ sym (X c0 stop.1).place) i) D.0) ∙ D.2 ∙ (X c0 stop.1).number in
-        let doubt : (group g).pending D.0 ≡ Some (record { entry = D.1; slot = None }) = (X c0 stop.1).shown.pending D.0 own ∙ D.3 in
+        let own : places.owner (group g).place D.0 ≡ member_of l stop.0 = (λ i. places.owner ((place ∙ sym (X stop.0 stop.1).place) i) D.0) ∙ D.2 ∙ (X stop.0 stop.1).number in
+        let doubt : (group g).pending D.0 ≡ Some (record { entry = D.1; slot = None }) = (X stop.0 stop.1).shown.pending D.0 own ∙ D.3 in
         let lost = L.slots.in_doubt D.0 D.1 doubt in
         let member : lost.0 < l.group = subst (λ (p : places.Place). lost.0 < places.members p) place (L.logs.group lost.0 D.1 (inr lost.2)).0 in
         let low' = member_core l is_layout g lost.0 low member in
@@ -584,8 +583,8 @@ module _ (chain : ChainLaw) (keys_open : OpeningKeys) (doubts_open : OpeningDoub
   gave c low =
       let A = (W c low).answers in
       let none : answers_of (x c low).first.worker ≡ [] = (X c low).new.answers.0 in
-      let same : A.more ≡ answers_of (x c low).last.worker = sym (A.added ∙ ap (λ as. as ++ A.more) none) in
-      subst (λ as. AreGiven (IsTelling (x c low).last.region) (fixed_of_end (x c low)) as) same (subst (λ ys. AreGiven (IsTelling (x c low).last.region) ys A.more) (off c low).1 A.given)
+      let same : A.more ≡ answers_of (x c low).last.worker = sym (A.added ∙ ap (λ outs. outs ++ A.more) none) in
+      subst (λ outs. AreGiven (IsTelling (x c low).last.region) (fixed_of_end (x c low)) outs) same (subst (λ ys. AreGiven (IsTelling (x c low).last.region) ys A.more) (off c low).1 A.given)
 
   -- those of one core are apart
   core_apart : (c : ℕ) (low : c < l.cores) → Apart (fixed_of_end (x c low))
@@ -659,4 +658,5 @@ module _ (chain : ChainLaw) (keys_open : OpeningKeys) (doubts_open : OpeningDoub
           }))))
 
     pub keeps : KeepsAnswers o r refused e core_run kept
+    unfolding core_run
     keeps = record { count = all_long workers t.stamp blanks ∙ places_are; all = keeps_all; only = keeps_only }

@@ -233,7 +233,7 @@ module _ (seat : SeatAt) (refused : Bool) where
     | inl rose ↦ inl rose
     | inr R ↦ inr (by b.worker.stopped refl R, λ stop. (R stop).0)
   ] where
-    abbrev X : HasRested seat b
+    X : HasRested seat b
     X = has_rested seat b bt E
 
     by : (c : Bool) → b.worker.stopped ≡ c → Rested b → b.view.flying ≡ []
