@@ -13,3 +13,6 @@ mod Stops
 mod ByNumber
 mod LastState
 mod KeptAnswers
+mod Places
+mod Manning
+mod Mustering
