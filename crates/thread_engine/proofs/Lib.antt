@@ -13,3 +13,4 @@ mod Stops
 mod ByNumber
 mod LastState
 mod KeptAnswers
+mod DealLaws
