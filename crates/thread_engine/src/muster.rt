@@ -95,7 +95,7 @@ fn dismiss<P: Region + Drop>(
     mut room: Returned<P>,
 ) -> Returned<P>
     requires { HasRoomOf (length jobs.items) room }
-    ensures { Gave jobs.items result }
+    ensures { Gave jobs.entry.items result }
 {
     for job in jobs {
         let CoreJob {
