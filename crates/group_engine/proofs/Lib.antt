@@ -5,7 +5,7 @@ mod Stepping
 mod Working
 mod FreeFound
 mod Seating
-mod Ranged
+pub mod Ranged
 mod Opens
 mod Kept
 mod Moving

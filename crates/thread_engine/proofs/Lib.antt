@@ -14,3 +14,4 @@ mod ByNumber
 mod LastState
 mod KeptAnswers
 mod DealLaws
+mod Supplying

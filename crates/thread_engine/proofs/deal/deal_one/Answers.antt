@@ -1,7 +1,5 @@
-use Rattle.std.proofs.Common.{◌≡◌, ◌%◌, ◌<◌, length, Some, slice_set, sym, ◌∙◌, ap, subst, arith, refl}
+use Rattle.std.proofs.Common.{◌≡◌, ◌%◌, Some, slice_set, ◌∙◌, ap, subst, arith}
 use Rattle.std.specs.List.{slice_get}
-use Rattle.fs_model.specs.Cells.{key_of}
-use Rattle.thread_engine.specs.Dealt.{AreDealt}
 use Rattle.thread_engine.proofs.DealLaws.{get_at, dealt_more}
 use Rattle.thread_engine.proofs.deal.deal_one.Goals as goal
 
