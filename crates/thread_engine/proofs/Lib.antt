@@ -16,3 +16,5 @@ mod KeptAnswers
 mod Places
 mod Manning
 mod Mustering
+mod DealLaws
+mod Supplying
