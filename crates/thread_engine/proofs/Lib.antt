@@ -18,3 +18,4 @@ mod Manning
 mod Mustering
 mod DealLaws
 mod Supplying
+mod Went
