@@ -15,3 +15,5 @@ mod LastState
 mod KeptAnswers
 mod DealLaws
 mod Supplying
+mod Places
+mod RunEnds
