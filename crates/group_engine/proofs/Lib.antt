@@ -6,14 +6,14 @@ mod Working
 mod FreeFound
 mod Seating
 pub mod Ranged
-mod Opens
+pub mod Opens
 mod Kept
 mod Moving
 mod Advancing
 mod Giving
 mod Opened
 mod Reporting
-mod Outcomes
+pub mod Outcomes
 mod Stopping
 mod Winding
 mod Ended

@@ -13,6 +13,9 @@ mod Stops
 mod ByNumber
 mod LastState
 mod KeptAnswers
+mod Places
+mod Manning
+mod Mustering
 mod DealLaws
 mod Supplying
 mod Places
