@@ -19,3 +19,4 @@ mod Mustering
 mod DealLaws
 mod Supplying
 mod Went
+mod RunEnds
