@@ -1,5 +1,5 @@
 -- A core has room for what an ample input asks of it.
-use Rattle.std.proofs.Common.{◌≡◌, inl, inr, ⊎_elim, ℕ, ◌+◌, ◌-◌, ◌*◌, ◌/◌, ◌≤◌, ◌==◌, ◌&&◌, nat_le, List, ◌++◌, length, refl, ◌∙◌, ap, arith, true, false, Bool, cond}
+use Rattle.std.proofs.Common.{◌≡◌, inl, inr, ⊎_elim, ℕ, ◌+◌, ◌-◌, ◌*◌, ◌/◌, ◌≤◌, ◌&&◌, nat_le, List, ◌++◌, length, refl, ◌∙◌, ap, arith, true, false, Bool, cond}
 use Rattle.std.specs.List.{count_by, sum_by, enumerate_from}
 use Rattle.std.proofs.lemmas.Bool.{cases_eq, eq-eqb}
 use Rattle.std.proofs.lemmas.List.Sums.{sum_by-append}

@@ -9,6 +9,7 @@ pub mod deal;
 pub mod group_tables;
 pub mod muster;
 pub mod opening_rules;
+pub mod refusal_rules;
 pub mod run_apart;
 pub mod table_end;
 #[cfg(test)]
