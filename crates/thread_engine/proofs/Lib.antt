@@ -20,3 +20,4 @@ mod DealLaws
 mod Supplying
 mod Places
 mod RunEnds
+mod Rejoining
