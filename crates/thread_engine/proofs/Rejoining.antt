@@ -1,19 +1,24 @@
 -- A region that was split at the parts and joined again.
-use Rattle.std.proofs.Common.{◌≡◌, inl, inr, ℕ, ◌+◌, ◌*◌, ◌/◌, ◌%◌, ◌<◌, ◌≤◌, List, length, false, true, cond, IsTrue, refl, sym, ◌∙◌, ap, subst, arith}
-use Rattle.std.specs.List.{slice_index, slice_index_or}
+use Rattle.std.proofs.Common.{◌≡◌, inl, inr, ℕ, ◌+◌, ◌*◌, ◌/◌, ◌%◌, ◌<◌, ◌≤◌, List, length, Some, false, true, cond, IsTrue, refl, sym, ◌∙◌, ap, subst, arith}
+use Rattle.std.specs.List.{slice_get, slice_index, slice_index_or}
 use Rattle.std.proofs.lemmas.Bool.{le-leb}
 use Rattle.pm_region.specs.Cell.{Cell}
-use Rattle.pm_region.specs.State.{State, IsTelling, InRange, cell_now, Rose}
+use Rattle.pm_region.specs.State.{State, IsTelling, InRange, cell_now, counted, Rose}
 use Rattle.pm_region.specs.Words.{Surely}
-use Rattle.pm_region.specs.Split.{AreCuts, Parted, Joined, words_in}
+use Rattle.pm_region.specs.Split.{AreCuts, Parted, Joined, ComesNext, TellsFrom, words_in}
 use Rattle.pm_region.specs.declared.region_sizes.TheConstants.{MOST_BYTES}
 use Rattle.chunk_map.specs.declared.layouts.Geometry.{Geometry}
-use Rattle.chunk_map.specs.Layouts.{part_first, chunk_words, total_bytes, IsLayout}
+use Rattle.chunk_map.specs.Layouts.{layout_of, part_first, chunk_words, total_bytes, IsLayout}
 use Rattle.chunk_map.proofs.LayoutLaws.{numbers_of, chunk_words_whole, part_below, parts_end}
 use Rattle.store_image.proofs.Places.{layout_numbers}
+use Rattle.recover.specs.declared.types.Recovered.{Recovered}
 use Rattle.engine_laws.specs.Parts.{HasSuperblock}
+use Rattle.engine_laws.specs.Origins.{Origin}
+use Rattle.group_engine.specs.Replayed.{StandsAsFound, BeginsAt}
 use Rattle.thread_engine.specs.RanApart.{Rejoined}
 use Rattle.thread_engine.specs.Supplied.{ArePartCuts}
+use Rattle.thread_engine.proofs.Places.{get_there}
+use Rattle.thread_engine.proofs.Supplying.{layout_found, surely_found}
 
 -- the parts begin at whole lines, one behind the other
 pub part_lines : (l : Geometry) → IsLayout l → (c : ℕ) → part_first l c % 8 ≡ 0
@@ -96,3 +101,50 @@ module _ (s mid t : State) (cuts : List ℕ) (P : Parted s mid cuts) (J : Joined
 
         kept : cell_now t w ≡ cell_now mid w
         kept = J.others w (λ i lt. inl (before i lt)) telling
+
+  -- what the pieces told, the region tells at the next stamp
+  pub next_joined : {Q : Type 0} (said : Q → State) (qs : List Q) (cores : ℕ) (last : (c : ℕ) → c < cores → State) → ComesNext said mid t qs → length qs ≡ cores → ((c : ℕ) (low : c < cores) (q : Q) → slice_get qs c ≡ Some q → said q ≡ last c low)
+      → IsTelling s → ((c : ℕ) (low : c < cores) → TellsFrom s (last c low)) → (latest : ℕ) → s.stamp ≤ latest → ((c : ℕ) (low : c < cores) → (last c low).stamp ≤ latest) → t.stamp ≤ counted latest
+  next_joined {Q} said qs cores last N count is telling tell latest low few = N told_mid (λ i p lt. each i p lt) latest (let same = P.stamp in omega (arith, same, low)) (λ i p lt. below i p lt) where
+    told_mid : IsTelling mid
+    told_mid =
+        let stamp = P.stamp in
+        let since = P.since in
+        let from = telling.since in
+        let small = telling.below in
+        record {
+          says = subst IsTrue (sym (P.told mid.stamp)) (subst (λ n. IsTrue (s.told n)) (sym stamp) telling.says);
+          since = omega (arith, stamp, since, from);
+          seen = omega arith;
+          below = omega (arith, stamp, small);
+        }
+
+    within : (i : ℕ) → i < length qs → i < cores
+    within i lt = let many = count in omega (arith, lt, many)
+
+    at : (i : ℕ) (p : Q) (lt : i < length qs) → said (slice_index_or qs i p) ≡ last i (within i lt)
+    at i p lt = is i (within i lt) (slice_index_or qs i p) (get_there qs i p lt)
+
+    each : (i : ℕ) (p : Q) → i < length qs → TellsFrom mid (said (slice_index_or qs i p))
+    each i p lt = (let from = tell i (within i lt) in subst (λ (x : State). TellsFrom mid x) (sym (at i p lt)) (from.0, from.1 ∙ sym P.stamp))
+
+    below : (i : ℕ) (p : Q) → i < length qs → (said (slice_index_or qs i p)).stamp ≤ latest
+    below i p lt = (let few_there = few i (within i lt) in let same = ap (λ (x : State). x.stamp) (at i p lt) in omega (arith, few_there, same))
+
+-- The same of a region that stands as recovery found it.
+module _ (s : State) (word : ℕ → ℕ) (r : Recovered) (o : Origin) (F : StandsAsFound s word r) (B : BeginsAt s word o) (cuts : List ℕ) (C : ArePartCuts (layout_of o.found) cuts) where
+  layout_is : IsLayout (layout_of o.found)
+  layout_is = subst IsLayout (layout_found s word r o F B) F.made.layout
+
+  total_is : total_bytes (layout_of o.found) ≡ s.frame.bytes
+  total_is = ap total_bytes (sym (layout_found s word r o F B)) ∙ F.made.total
+
+  pub region_cuts : AreCuts s.frame.words cuts
+  region_cuts = part_cuts (layout_of o.found) s.frame.words cuts layout_is (let words = F.words in let total = total_is in let end = parts_end (layout_of o.found) (numbers_of (layout_of o.found) layout_is).size in omega (arith, words, total, end)) C
+
+  module _ (mid t : State) (P : Parted s mid cuts) (J : Joined mid t) where
+    pub region_rejoined : s.frame.parted ≡ false → mid.frame.opens ≡ s.frame.opens → mid.frame.refusals ≡ s.frame.refusals → t.frame.opens ≡ mid.frame.opens → Rejoined s t
+    region_rejoined whole opens refusals opens' = rejoined s mid t cuts P J F.first (F.words ∙ sym (words_of_layout (layout_of o.found) s.frame.bytes layout_is total_is)) whole opens refusals opens'
+
+    pub region_superblock : IsTelling t → HasSuperblock o.found (cell_now t)
+    region_superblock = superblock_joined s mid t cuts P J (layout_of o.found) o.found C F.first (let words = F.words in let total = total_is in let end = parts_end (layout_of o.found) (numbers_of (layout_of o.found) layout_is).size in omega (arith, words, total, end)) (surely_found s word r o F B)
