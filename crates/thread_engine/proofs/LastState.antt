@@ -11,8 +11,9 @@ use Rattle.fs_model.specs.Cells.{key_of}
 use Rattle.fs_model.specs.Lawful.{cell_of, stopped_of}
 use Rattle.fs_model.specs.Changes.{requests_of}
 use Rattle.pm_region.specs.Cell.{Cell}
-use Rattle.pm_region.specs.State.{State, Frame, IsTold, IsTelling, MayLeave, cell_now, Rose}
-use Rattle.pm_region.specs.Split.{TakesPiece}
+use Rattle.fs_text.specs.declared.line.Line.{Line}
+use Rattle.pm_region.specs.State.{State, Frame, IsTold, IsTelling, MayLeave, cell_now, counted, Rose}
+use Rattle.pm_region.specs.Split.{TakesPiece, TellsFrom}
 use Rattle.log_entry.specs.declared.entry.Entry.{Entry}
 use Rattle.log_entry.specs.declared.entry.Body.{Body}
 use Rattle.log_entry.specs.declared.entry.Body.TheVariants as bodies
@@ -43,6 +44,8 @@ use Rattle.licence.specs.Licence.{Licensed}
 use Rattle.engine_laws.specs.Parts.{Groups, AllLicensed, HasSuperblock, group_of, member_of}
 use Rattle.engine_laws.specs.Idle.{IsDrained}
 use Rattle.engine_laws.specs.Ceasing.{HasCeased}
+use Rattle.engine_laws.specs.Causes.{Causes}
+use Rattle.engine_laws.specs.Ran.{asked_in}
 use Rattle.engine_laws.specs.Reports.{AllAnswered}
 use Rattle.engine_laws.specs.WorkerMoves.{Placed, placed, Hands, Fixed, asked, replied, fixed_of, requests_for, line_in, HasDoubt}
 use Rattle.engine_laws.specs.Engine as engines
@@ -63,10 +66,16 @@ use Rattle.core_worker.specs.Answering.{IsGiven, AreGiven}
 use Rattle.core_worker.specs.Beginning.{answers_of}
 use Rattle.core_worker.specs.Openings.{IsNew, IsStartAt}
 use Rattle.group_engine.specs.declared.types.Stamped.{Stamped}
+use Rattle.group_engine.specs.declared.run_outcome.End.TheVariants as closings
+use Rattle.group_engine.specs.declared.run_outcome.Outcome.{Outcome}
 use Rattle.group_engine.specs.Answers.{ShowsAnswer, kept_at, HavePlaces}
-use Rattle.thread_engine.specs.Collected.{stored_all, HaveAllPlaces}
+use Rattle.group_engine.specs.Replayed.{BeginsAt, report_in}
+use Rattle.group_engine.specs.Reports.{IsReport}
+use Rattle.group_engine.proofs.Outcomes.{reports_by}
+use Rattle.thread_engine.specs.Collected.{stored_all, HaveAllPlaces, any_short, any_stopped, end_by}
 use Rattle.thread_engine.specs.Dealt.{AreBlank}
-use Rattle.thread_engine.specs.RanApart.{stamped, KeepsAnswers}
+use Rattle.thread_engine.specs.RanApart.{stamped, KeepsAnswers, Rejoined, RanApart}
+use Rattle.thread_engine.proofs.Places.{any_at, any_in}
 use Rattle.thread_engine.proofs.KeptAnswers.{Lacks, Apart, given_for, fixed_for, there_kept, from_all, blank_none, apart_by_keys, all_long}
 use Rattle.thread_engine.specs.Pieces.{IsPieceOf, HasPart}
 use Rattle.thread_engine.specs.WorkStates.{WorkState, IsAtWork, Works, HasEnded}
@@ -156,6 +165,24 @@ OpeningKeys = (o : Origin) → IsOrigin o → (m k : ℕ) → places.owner (plac
 
 abbrev pub OpeningDoubts : Type 0
 OpeningDoubts = (seat : SeatAt) (image : ℕ → ℕ) → KeepsDoubts seat (view_of (opened seat.place image) seat.number)
+
+-- why requests are refused, and what a moment promises
+abbrev pub RefusalLaw : Type 0
+RefusalLaw = (o : Origin) (r : Recovered) (refused : Bool) (e : Engine) → IsOrigin o → AllRan o r refused e → Causes o e
+
+abbrev pub MomentLaw : Type 0
+MomentLaw = (o : Origin) (e : Engine) → StandsNow o e → Causes o e → (HasStopped e → Rose o.region.faults e.region.faults) → Promised o e
+
+-- what the end says of the workers
+faulted : (a b : Bool) → end_by a b ≡ closings.RegionFault → b ≡ true
+faulted true b e = absurd (cc e)
+faulted false true e = refl
+faulted false false e = absurd (cc e)
+
+completed : (a b : Bool) → end_by a b ≡ closings.Complete → b ≡ false
+completed true b e = absurd (cc e)
+completed false true e = absurd (cc e)
+completed false false e = refl
 
 -- an own key by its owner's view, and in the state of the group
 by_blocks : (w : Group) (m : ℕ) (v : View) → w.blocks m ≡ v.blocks → (body : Body) → left_in v.blocks body ≡ left_by w m body
@@ -660,3 +687,53 @@ module _ (chain : ChainLaw) (keys_open : OpeningKeys) (doubts_open : OpeningDoub
     pub keeps : KeepsAnswers o r refused e core_run kept
     unfolding core_run
     keeps = record { count = all_long workers t.stamp blanks ∙ places_are; all = keeps_all; only = keeps_only }
+
+    -- What the run comes to.
+    module _ (s : State) (word : ℕ → ℕ) (lines : List Line) (given_are : given ≡ asked_in lines) (out : Outcome) (begins : BeginsAt s word o) (rejoined : Rejoined s t) (reached : (g : ℕ) → g < groups_in l → (steps : List (ℕ × Kind)) × Runs (opened (place_at l g) o.found) steps (group g))
+        (superblock : IsTelling t → HasSuperblock o.found (cell_now t)) (first_faults : (c : ℕ) (low : c < l.cores) → (x c low).first.region.faults ≡ o.region.faults)
+        (next : IsTelling s → ((c : ℕ) (low : c < l.cores) → TellsFrom s (x c low).last.region) → (latest : ℕ) → s.stamp ≤ latest → ((c : ℕ) (low : c < l.cores) → (x c low).last.region.stamp ≤ latest) → t.stamp ≤ counted latest)
+        (report : IsReport kept (report_in out)) (end : out.end ≡ end_by (any_short workers) (any_stopped workers)) (refusal : RefusalLaw) (moment : MomentLaw) where
+      promised : Promised o e
+      promised = moment o e (last_stands rejoined.since superblock) (refusal o r refused e is (all_ran reached)) (stop_cause first_faults)
+
+      works : out.end ≢ closings.Memory → (c : ℕ) (low : c < l.cores) → (x c low).last.worker.winds_down ≡ false
+      works not_memory c low = by (x c low).last.worker.winds_down refl where
+        by : (b : Bool) → (x c low).last.worker.winds_down ≡ b → (x c low).last.worker.winds_down ≡ false
+        by false at_b = at_b
+        by true at_b = absurd (not_memory (end ∙ ap (λ b. end_by b (any_stopped workers)) (any_at (λ (w : Worker). w.winds_down) workers c (x c low).last.worker (workers_are c low) at_b)))
+
+      has_stopped : out.end ≡ closings.RegionFault → HasStopped e
+      has_stopped is_fault =
+          let there = any_in (λ (w : Worker). w.stopped) workers (faulted (any_short workers) (any_stopped workers) (sym end ∙ is_fault)) in
+          let low = few there.0 there.1 there.2 in
+          (there.0, low, ap (λ d. (hands_in d).stopped) (at there.0 low) ∙ ap (λ (w : Worker). w.stopped) (sym (worker_is there.0 there.1 there.2)) ∙ there.3)
+
+      goes_on : out.end ≡ closings.Complete → (c : ℕ) → c < l.cores → e.stopped c ≡ false
+      goes_on is_complete c low = by (e.stopped c) refl where
+        by : (b : Bool) → e.stopped c ≡ b → e.stopped c ≡ false
+        by false at_b = at_b
+        by true at_b = absurd (clash (any_stopped workers) (any_at (λ (w : Worker). w.stopped) workers c (x c low).last.worker (workers_are c low) (sym (ap (λ d. (hands_in d).stopped) (at c low)) ∙ at_b)) (completed (any_short workers) (any_stopped workers) (sym end ∙ is_complete)))
+
+      pub ran : RanApart s word refused r lines t out
+      unfolding all_ran core_run
+      ran = record {
+        origin = o;
+        last = e;
+        begins = begins;
+        rejoined = rejoined;
+        region = refl;
+        given = given_are;
+        ran = all_ran reached;
+        next = next;
+        licensed = licensed;
+        superblock = superblock;
+        kept = kept;
+        keeps = keeps;
+        report = report;
+        reports = reports_by t o e kept (report_in out) promised (all_long workers t.stamp blanks ∙ places_are) shows refl report;
+        promised = promised;
+        done = λ not_memory. is_done (works not_memory) promised;
+        ceased = λ memory. ceased;
+        fault = has_stopped;
+        complete = goes_on;
+      }

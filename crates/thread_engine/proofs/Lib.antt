@@ -18,6 +18,6 @@ mod Manning
 mod Mustering
 mod DealLaws
 mod Supplying
-mod Places
+mod Went
 mod RunEnds
 mod Rejoining

@@ -1,6 +1,6 @@
 -- Items of lists by their places, and blocks of items one after another.
-use Rattle.std.proofs.Common.{◌≡◌, ◌⊎◌, inl, inr, ℕ, zero, suc, ◌+◌, ◌*◌, ◌<◌, ◌≤◌, List, [], ◌∷◌, ◌++◌, map, length, Option, Some, None, refl, sym, ◌∙◌, ap, subst, arith, slice_index_or}
-use Rattle.std.specs.List.{slice_get}
+use Rattle.std.proofs.Common.{◌≡◌, ◌⊎◌, inl, inr, ℕ, zero, suc, ◌+◌, ◌*◌, ◌<◌, ◌≤◌, ◌||◌, Bool, true, false, List, [], ◌∷◌, ◌++◌, map, length, Option, Some, None, refl, sym, ◌∙◌, ap, subst, arith, slice_index_or}
+use Rattle.std.specs.List.{slice_get, list_any}
 use Rattle.std.proofs.Math.Nat.{mul-le-mul}
 use mathlib.Core.Option.{some}
 use lib.ListN.{get_elem?}
@@ -74,3 +74,19 @@ in_block g m n k low less =
     let up : (g + 1) * n ≤ k * n = mul-le-mul {n₁ = g + 1} {m₁ = n} {n₂ = k} {m₂ = n} (omega (arith, low)) (omega arith) in
     let one : (g + 1) * n ≡ g * n + n = omega arith in
     omega (arith, up, one, less)
+
+-- whether a test holds somewhere
+pub any_at : {X : Type 0} (p : X → Bool) (xs : List X) (n : ℕ) (x : X) → slice_get xs n ≡ Some x → p x ≡ true → list_any p xs ≡ true
+any_at p [] n x at e = absurd (cc at)
+any_at p (y ∷ ys) zero x at e = (let same : y ≡ x = cc at in ap (λ b. b || list_any p ys) (ap p same ∙ e))
+any_at p (y ∷ ys) (suc n) x at e = by (p y) (any_at p ys n x at e) where
+  by : (b : Bool) → list_any p ys ≡ true → (b || list_any p ys) ≡ true
+  by true h = refl
+  by false h = h
+
+pub any_in : {X : Type 0} (p : X → Bool) (xs : List X) → list_any p xs ≡ true → (n : ℕ) × (x : X) × (slice_get xs n ≡ Some x) × (p x ≡ true)
+any_in p [] e = absurd (cc e)
+any_in {X} p (y ∷ ys) e = by (p y) refl e (any_in p ys) where
+  by : (b : Bool) → p y ≡ b → (b || list_any p ys) ≡ true → (list_any p ys ≡ true → (n : ℕ) × (x : X) × (slice_get ys n ≡ Some x) × (p x ≡ true)) → (n : ℕ) × (x : X) × (slice_get (y ∷ ys) n ≡ Some x) × (p x ≡ true)
+  by true t h again = (0, y, refl, t)
+  by false t h again = (let r = again h in (suc r.0, r.1, r.2, r.3))
