@@ -21,3 +21,4 @@ mod DealLaws
 mod Supplying
 mod Went
 mod RunEnds
+mod Rejoining
