@@ -20,3 +20,5 @@ mod DealLaws
 mod Supplying
 mod Went
 mod RunEnds
+mod Blocks
+mod Assembly
