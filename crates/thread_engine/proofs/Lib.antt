@@ -22,3 +22,5 @@ mod Supplying
 mod Went
 mod RunEnds
 mod Rejoining
+mod Blocks
+mod Assembly
