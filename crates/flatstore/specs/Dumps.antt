@@ -15,7 +15,8 @@ IsDumpText Known found text =
 
 -- Of a region before and after the call, the words that an attach finds, what the sink had taken before and has taken
 -- now, whether that was flushed, its counts, and the report.
-abbrev pub Dumps : State → State → (ℕ → ℕ) → Option (List ℕ) → Option (List ℕ) → Bool → ℕ → ℕ → Report
+abbrev pub Dumps : State → State → (ℕ → ℕ) → Option (List ℕ) → Option (List ℕ) → Bool → ℕ → ℕ
+    → Report
     → Type 0
 Dumps old new found before now flushed faults faults' r =
     Shows (IsDumpText (IsTelling new) found) old new found before now flushed faults faults' r

@@ -34,7 +34,8 @@ EachImage f P cells = (image : ℕ → ℕ) → MayLeave f cells image → P ima
 pub record Formats (old new : State) (l : Geometry) (r : Report) : Type 0 where
   -- It ends well, but for a fault that was counted and want of memory.
   pub ends : (r.status ≡ statuses.Done)
-      ⊎ ((r.status ≡ statuses.Memory) ⊎ ((r.status ≡ statuses.RegionFault) × Rose old.faults new.faults))
+      ⊎ ((r.status ≡ statuses.Memory) ⊎ ((r.status ≡ statuses.RegionFault)
+      × Rose old.faults new.faults))
   -- The region was created once, unless the device refused that or there was no memory.
   pub creates : Creates old new l r
   pub size : r.attached ≡ true → new.frame.bytes ≡ total_bytes l

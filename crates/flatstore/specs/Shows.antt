@@ -43,7 +43,8 @@ IsDueOf bytes found faults faults' status =
 
 -- Of the kind of its texts, a region before and after the call, the words that an attach finds, what the sink had taken
 -- before and has taken now, whether that was flushed, its counts, and the report.
-pub record Shows (IsText : List ℕ → Type 0) (old new : State) (found : ℕ → ℕ) (before now : Option (List ℕ))
+pub record Shows (IsText : List ℕ → Type 0) (old new : State) (found : ℕ → ℕ)
+    (before now : Option (List ℕ))
     (flushed : Bool) (sink_faults sink_faults' : ℕ) (r : Report) : Type 0 where
   pub attaches : Attaches old new found r
   -- The words found decide on the status, but for want of memory and, of a sound region, a write that failed.
