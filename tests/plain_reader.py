@@ -1,8 +1,9 @@
 """Reads a region as docs/FORMAT.md describes it: its first broken rule, or its live pairs and its entries.
 
 It shares no code with the program, and goes the plain way: each rule by itself, over all entries. `tests/hostile-bytes`
-compares the program with it.
+and `tests/run-traces` compare the program with it.
 """
+import struct
 
 MAGIC = b"FLATST01"
 LEAST_BYTES, MOST_BYTES = 4096, 268_439_552
@@ -114,7 +115,7 @@ class Region:
     def __init__(self, data):
         if len(data) % 8 != 0 or not LEAST_BYTES <= len(data) <= MOST_BYTES:
             raise Broken(1)
-        self.words = [int.from_bytes(data[at : at + 8], "little") for at in range(0, len(data), 8)]
+        self.words = struct.unpack(f"<{len(data) // 8}Q", data)
         if data[:8] != MAGIC or self.words[1] != 1:
             raise Broken(2)
         self.layout = Layout(*self.words[2:6])

@@ -1,4 +1,6 @@
 // The worked rows of a run on threads, on the top call.
+ghost use Rattle.std.specs.Prelude.{false};
+
 use crate::report::{Report, Status};
 use crate::row_tests::{fresh_of, log_of};
 use crate::tests::{call, command, replay, with, words_of};

@@ -20,11 +20,11 @@ use Rattle.thread_engine.proofs.Doubts.{clash, neq}
 -- a filter within another one
 filter_within : {X : Type 0} (p q : X → Bool) → ((x : X) → p x ≡ true → q x ≡ true) → (xs : List X) → filter p (filter q xs) ≡ filter p xs
 filter_within p q h [] = refl
-filter_within p q h (y ∷ ys) = by (q y) refl (p y) refl where
-  by : (b : Bool) → q y ≡ b → (a : Bool) → p y ≡ a → filter p (cond (q y) (y ∷ filter q ys) (filter q ys)) ≡ cond (p y) (y ∷ filter p ys) (filter p ys)
-  by true e a f = ap (λ b. filter p (cond b (y ∷ filter q ys) (filter q ys))) e ∙ ap (λ l. cond (p y) (y ∷ l) l) (filter_within p q h ys)
-  by false e true f = absurd (clash (q y) (h y f) e)
-  by false e false f = ap (λ b. filter p (cond b (y ∷ filter q ys) (filter q ys))) e ∙ filter_within p q h ys ∙ sym (ap (λ a. cond a (y ∷ filter p ys) (filter p ys)) f)
+filter_within p q h (y ∷ ys) = by (q y) refl (p y) refl (filter_within p q h ys) where
+  by : (b : Bool) → q y ≡ b → (a : Bool) → p y ≡ a → filter p (filter q ys) ≡ filter p ys → filter p (cond (q y) (y ∷ filter q ys) (filter q ys)) ≡ cond (p y) (y ∷ filter p ys) (filter p ys)
+  by true e a f again = ap (λ b. filter p (cond b (y ∷ filter q ys) (filter q ys))) e ∙ ap (λ l. cond (p y) (y ∷ l) l) again
+  by false e true f again = absurd (clash (q y) (h y f) e)
+  by false e false f again = ap (λ b. filter p (cond b (y ∷ filter q ys) (filter q ys))) e ∙ again ∙ sym (ap (λ a. cond a (y ∷ filter p ys) (filter p ys)) f)
 
 -- of an own key they are all requests of the key
 pub requests_are : (l : Geometry) (c k : ℕ) (trace : List Request) → owner l k ≡ c → requests_for k (requests_to l c trace) ≡ requests_of k trace
@@ -52,10 +52,10 @@ found_nowhere (z ∷ zs) rest U x i =
 -- what is found is there
 pub found_in : (n : ℕ) (fs : List Fixed) (y : Fixed) → with_number n fs ≡ Some y → In y fs × (y.number ≡ n)
 found_in n [] y e = absurd (cc e)
-found_in n (z ∷ zs) y e = by (z.number == n) refl e where
-  by : (b : Bool) → (z.number == n) ≡ b → cond b (Some z) (with_number n zs) ≡ Some y → In y (z ∷ zs) × (y.number ≡ n)
-  by true t q = (let same : z ≡ y = cc q in (inl (sym same), ap (λ (f : Fixed). f.number) (sym same) ∙ eqb-true z.number n t))
-  by false t q = (let r = found_in n zs y q in (inr r.0, r.1))
+found_in n (z ∷ zs) y e = by (z.number == n) refl e (found_in n zs y) where
+  by : (b : Bool) → (z.number == n) ≡ b → cond b (Some z) (with_number n zs) ≡ Some y → (with_number n zs ≡ Some y → In y zs × (y.number ≡ n)) → In y (z ∷ zs) × (y.number ≡ n)
+  by true t q again = (let same : z ≡ y = cc q in (inl (sym same), ap (λ (f : Fixed). f.number) (sym same) ∙ eqb-true z.number n t))
+  by false t q again = (let r = again q in (inr r.0, r.1))
 
 -- answered requests, with the stamp of the end
 abbrev pub served_at : ℕ → Fixed → Served

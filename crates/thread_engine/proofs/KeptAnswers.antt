@@ -38,9 +38,9 @@ set_long [] i x = refl
 set_long (y ∷ ys) zero x = refl
 set_long (y ∷ ys) (suc i) x = (let r = set_long ys i x in omega (arith, r))
 
-pub stored_long : (as : List Answer) (t : ℕ) (ys : List (Option Stamped)) → length (stored as t ys) ≡ length ys
+pub stored_long : (outs : List Answer) (t : ℕ) (ys : List (Option Stamped)) → length (stored outs t ys) ≡ length ys
 stored_long [] t ys = refl
-stored_long (a ∷ as) t ys = stored_long as t (slice_set ys a.number (Some (stamped t a))) ∙ set_long ys a.number (Some (stamped t a))
+stored_long (a ∷ outs) t ys = stored_long outs t (slice_set ys a.number (Some (stamped t a))) ∙ set_long ys a.number (Some (stamped t a))
 
 pub all_long : (ws : List Worker) (t : ℕ) (ys : List (Option Stamped)) → length (stored_all ws t ys) ≡ length ys
 all_long [] t ys = refl
@@ -48,11 +48,11 @@ all_long (w ∷ ws) t ys = all_long ws t (stored (answers_of w) t ys) ∙ stored
 
 -- none of these has the number
 abbrev pub Lacks : ℕ → List Answer → Type 0
-Lacks n as = (a : Answer) → In a as → a.number ≢ n
+Lacks n outs = (a : Answer) → In a outs → a.number ≢ n
 
-not_there : (as : List Answer) (t n : ℕ) (ys : List (Option Stamped)) → Lacks n as → kept_at (stored as t ys) n ≡ kept_at ys n
+not_there : (outs : List Answer) (t n : ℕ) (ys : List (Option Stamped)) → Lacks n outs → kept_at (stored outs t ys) n ≡ kept_at ys n
 not_there [] t n ys h = refl
-not_there (a ∷ as) t n ys h = not_there as t n (slice_set ys a.number (Some (stamped t a))) (λ b i. h b (inr i)) ∙ set_other ys a.number n (Some (stamped t a)) (h a (inl refl))
+not_there (a ∷ outs) t n ys h = not_there outs t n (slice_set ys a.number (Some (stamped t a))) (λ b i. h b (inr i)) ∙ set_other ys a.number n (Some (stamped t a)) (h a (inl refl))
 
 none_there : (ws : List Worker) (t n : ℕ) (ys : List (Option Stamped)) → ((d : ℕ) (w : Worker) → slice_get ws d ≡ Some w → Lacks n (answers_of w)) → kept_at (stored_all ws t ys) n ≡ kept_at ys n
 none_there [] t n ys h = refl
@@ -64,13 +64,13 @@ Apart [] = Unit {0}
 Apart (y ∷ ys) = ((z : Fixed) → In z ys → y.number ≢ z.number) × Apart ys
 
 -- an answer that was given, with what was fixed, and the other way round
-pub given_for : (K : Type 0) (fs : List Fixed) (as : List Answer) → AreGiven K fs as → (y : Fixed) → In y fs → (a : Answer) × In a as × IsGiven K y a
-given_for K [] as g y i = absurd i
+pub given_for : (K : Type 0) (fs : List Fixed) (outs : List Answer) → AreGiven K fs outs → (y : Fixed) → In y fs → (a : Answer) × In a outs × IsGiven K y a
+given_for K [] outs g y i = absurd i
 given_for K (x ∷ xs) [] g y i = absurd g
-given_for K (x ∷ xs) (a ∷ as) g y (inl e) = (a, inl refl, subst (λ (z : Fixed). IsGiven K z a) (sym e) g.0)
-given_for K (x ∷ xs) (a ∷ as) g y (inr i) = (let r = given_for K xs as g.1 y i in (r.0, inr r.1, r.2))
+given_for K (x ∷ xs) (a ∷ outs) g y (inl e) = (a, inl refl, subst (λ (z : Fixed). IsGiven K z a) (sym e) g.0)
+given_for K (x ∷ xs) (a ∷ outs) g y (inr i) = (let r = given_for K xs outs g.1 y i in (r.0, inr r.1, r.2))
 
-pub fixed_for : (K : Type 0) (fs : List Fixed) (as : List Answer) → AreGiven K fs as → (a : Answer) → In a as → (y : Fixed) × In y fs × IsGiven K y a
+pub fixed_for : (K : Type 0) (fs : List Fixed) (outs : List Answer) → AreGiven K fs outs → (a : Answer) → In a outs → (y : Fixed) × In y fs × IsGiven K y a
 fixed_for K [] [] g a i = absurd i
 fixed_for K [] (b ∷ bs) g a i = absurd g
 fixed_for K (x ∷ xs) [] g a i = absurd i
@@ -78,7 +78,7 @@ fixed_for K (x ∷ xs) (b ∷ bs) g a (inl e) = (x, inl refl, subst (λ (z : Ans
 fixed_for K (x ∷ xs) (b ∷ bs) g a (inr i) = (let r = fixed_for K xs bs g.1 a i in (r.0, inr r.1, r.2))
 
 -- an answer of a worker is kept under its number
-here_kept : (K : Type 0) (fs : List Fixed) (as : List Answer) → AreGiven K fs as → Apart fs → (t : ℕ) (ys : List (Option Stamped)) → HavePlaces (length ys) as → (a : Answer) → In a as → kept_at (stored as t ys) a.number ≡ Some (stamped t a)
+here_kept : (K : Type 0) (fs : List Fixed) (outs : List Answer) → AreGiven K fs outs → Apart fs → (t : ℕ) (ys : List (Option Stamped)) → HavePlaces (length ys) outs → (a : Answer) → In a outs → kept_at (stored outs t ys) a.number ≡ Some (stamped t a)
 here_kept K [] [] g apart t ys low a i = absurd i
 here_kept K [] (b ∷ bs) g apart t ys low a i = absurd g
 here_kept K (x ∷ xs) [] g apart t ys low a i = absurd i
@@ -100,9 +100,9 @@ there_kept K (x ∷ xs) t ys low (suc c) w at fs g apart a i others =
     there_kept K xs t (stored (answers_of x) t ys) (subst (λ n. HaveAllPlaces n xs) (sym (stored_long (answers_of x) t ys)) low.1) c w at fs g apart a i (λ d v ne e. others (suc d) v (λ q. ne (let r = q in omega (arith, r))) e)
 
 -- what is kept was answered, or was there
-from_one : (as : List Answer) (t n : ℕ) (ys : List (Option Stamped)) (y : Stamped) → kept_at (stored as t ys) n ≡ Some y → ((a : Answer) × In a as × (a.number ≡ n)) ⊎ (kept_at ys n ≡ Some y)
+from_one : (outs : List Answer) (t n : ℕ) (ys : List (Option Stamped)) (y : Stamped) → kept_at (stored outs t ys) n ≡ Some y → ((a : Answer) × In a outs × (a.number ≡ n)) ⊎ (kept_at ys n ≡ Some y)
 from_one [] t n ys y e = inr e
-from_one (a ∷ as) t n ys y e = elim (from_one as t n (slice_set ys a.number (Some (stamped t a))) y e) [
+from_one (a ∷ outs) t n ys y e = elim (from_one outs t n (slice_set ys a.number (Some (stamped t a))) y e) [
   | inl there ↦ inl (there.0, inr there.1, there.2)
   | inr before ↦ elim (cases_eq a.number n) [
     | inl same ↦ inl (a, inl refl, same)

@@ -11,8 +11,9 @@ use Rattle.fs_model.specs.Cells.{key_of}
 use Rattle.fs_model.specs.Lawful.{cell_of, stopped_of}
 use Rattle.fs_model.specs.Changes.{requests_of}
 use Rattle.pm_region.specs.Cell.{Cell}
-use Rattle.pm_region.specs.State.{State, Frame, IsTold, IsTelling, MayLeave, cell_now, Rose}
-use Rattle.pm_region.specs.Split.{TakesPiece}
+use Rattle.fs_text.specs.declared.line.Line.{Line}
+use Rattle.pm_region.specs.State.{State, Frame, IsTold, IsTelling, MayLeave, cell_now, counted, Rose}
+use Rattle.pm_region.specs.Split.{TakesPiece, TellsFrom}
 use Rattle.log_entry.specs.declared.entry.Entry.{Entry}
 use Rattle.log_entry.specs.declared.entry.Body.{Body}
 use Rattle.log_entry.specs.declared.entry.Body.TheVariants as bodies
@@ -43,6 +44,8 @@ use Rattle.licence.specs.Licence.{Licensed}
 use Rattle.engine_laws.specs.Parts.{Groups, AllLicensed, HasSuperblock, group_of, member_of}
 use Rattle.engine_laws.specs.Idle.{IsDrained}
 use Rattle.engine_laws.specs.Ceasing.{HasCeased}
+use Rattle.engine_laws.specs.Causes.{Causes}
+use Rattle.engine_laws.specs.Ran.{asked_in}
 use Rattle.engine_laws.specs.Reports.{AllAnswered}
 use Rattle.engine_laws.specs.WorkerMoves.{Placed, placed, Hands, Fixed, asked, replied, fixed_of, requests_for, line_in, HasDoubt}
 use Rattle.engine_laws.specs.Engine as engines
@@ -63,10 +66,16 @@ use Rattle.core_worker.specs.Answering.{IsGiven, AreGiven}
 use Rattle.core_worker.specs.Beginning.{answers_of}
 use Rattle.core_worker.specs.Openings.{IsNew, IsStartAt}
 use Rattle.group_engine.specs.declared.types.Stamped.{Stamped}
+use Rattle.group_engine.specs.declared.run_outcome.End.TheVariants as closings
+use Rattle.group_engine.specs.declared.run_outcome.Outcome.{Outcome}
 use Rattle.group_engine.specs.Answers.{ShowsAnswer, kept_at, HavePlaces}
-use Rattle.thread_engine.specs.Collected.{stored_all, HaveAllPlaces}
+use Rattle.group_engine.specs.Replayed.{BeginsAt, report_in}
+use Rattle.group_engine.specs.Reports.{IsReport}
+use Rattle.group_engine.proofs.Outcomes.{reports_by}
+use Rattle.thread_engine.specs.Collected.{stored_all, HaveAllPlaces, any_short, any_stopped, end_by}
 use Rattle.thread_engine.specs.Dealt.{AreBlank}
-use Rattle.thread_engine.specs.RanApart.{stamped, KeepsAnswers}
+use Rattle.thread_engine.specs.RanApart.{stamped, KeepsAnswers, Rejoined, RanApart}
+use Rattle.thread_engine.proofs.Places.{any_at, any_in}
 use Rattle.thread_engine.proofs.KeptAnswers.{Lacks, Apart, given_for, fixed_for, there_kept, from_all, blank_none, apart_by_keys, all_long}
 use Rattle.thread_engine.specs.Pieces.{IsPieceOf, HasPart}
 use Rattle.thread_engine.specs.WorkStates.{WorkState, IsAtWork, Works, HasEnded}
@@ -88,6 +97,10 @@ pub record CoreEnd (refused : Bool) : Type 0 where
 abbrev pub no_hands : Hands
 no_hands = record { place = λ k. None; waits = λ k. []; stopped = false; stock = record { chunks = 0; lines = 0; blocks = λ class. 0 } }
 
+abbrev pub answered : ℕ → Option Fixed → Option engines.Answer
+answered t None = None
+answered t (Some y) = Some (record { reply = y.reply; stamp = t })
+
 module _ {refused : Bool} where
   abbrev pub fixed_of_end : CoreEnd refused → List Fixed
   fixed_of_end x = fixed_in x.seat refused x.first x.last x.works
@@ -103,10 +116,6 @@ module _ {refused : Bool} where
   abbrev pub fixed_in_end : Option (CoreEnd refused) → List Fixed
   fixed_in_end None = []
   fixed_in_end (Some x) = fixed_of_end x
-
-  abbrev pub answered : ℕ → Option Fixed → Option engines.Answer
-  answered t None = None
-  answered t (Some y) = Some (record { reply = y.reply; stamp = t })
 
   abbrev pub answer_by : Geometry → ℕ → (ℕ → Option (CoreEnd refused)) → ℕ → Option Request → Option engines.Answer
   answer_by l t ends n None = None
@@ -157,6 +166,24 @@ OpeningKeys = (o : Origin) → IsOrigin o → (m k : ℕ) → places.owner (plac
 abbrev pub OpeningDoubts : Type 0
 OpeningDoubts = (seat : SeatAt) (image : ℕ → ℕ) → KeepsDoubts seat (view_of (opened seat.place image) seat.number)
 
+-- why requests are refused, and what a moment promises
+abbrev pub RefusalLaw : Type 0
+RefusalLaw = (o : Origin) (r : Recovered) (refused : Bool) (e : Engine) → IsOrigin o → AllRan o r refused e → Causes o e
+
+abbrev pub MomentLaw : Type 0
+MomentLaw = (o : Origin) (e : Engine) → StandsNow o e → Causes o e → (HasStopped e → Rose o.region.faults e.region.faults) → Promised o e
+
+-- what the end says of the workers
+faulted : (a b : Bool) → end_by a b ≡ closings.RegionFault → b ≡ true
+faulted true b e = absurd (cc e)
+faulted false true e = refl
+faulted false false e = absurd (cc e)
+
+completed : (a b : Bool) → end_by a b ≡ closings.Complete → b ≡ false
+completed true b e = absurd (cc e)
+completed false true e = absurd (cc e)
+completed false false e = refl
+
 -- an own key by its owner's view, and in the state of the group
 by_blocks : (w : Group) (m : ℕ) (v : View) → w.blocks m ≡ v.blocks → (body : Body) → left_in v.blocks body ≡ left_by w m body
 by_blocks w m v same (bodies.Pointer q) = ap (λ f. left_in f (bodies.Pointer q)) (sym same)
@@ -179,15 +206,26 @@ none_up : (xs : List (ℕ × Request)) → ((x : ℕ × Request) → In x xs →
 none_up [] no_ = tt
 none_up (x ∷ xs) no_ = absurd (no_ x (inl refl))
 
+-- a place within a list is not empty, and one past it is
+slice_some : (xs : List Request) (i : ℕ) → i < length xs → slice_get xs i ≡ None → ⊥
+slice_some [] i lt e = absurd (omega (arith, lt))
+slice_some (y ∷ ys) zero lt e = none_some y e
+slice_some (y ∷ ys) (suc i) lt e = slice_some ys i (omega (arith, lt)) e
+
+none_past : (xs : List Request) (n : ℕ) → length xs ≤ n → slice_get xs n ≡ None
+none_past [] n past = refl
+none_past (y ∷ ys) zero past = absurd (omega (arith, past))
+none_past (y ∷ ys) (suc n) past = none_past ys n (omega (arith, past))
+
 -- where a worker is, and that numbers have places
 in_at : (ws : List Worker) (w : Worker) → In w ws → (c : ℕ) × (slice_get ws c ≡ Some w)
 in_at [] w i = absurd i
 in_at (v ∷ vs) w (inl e) = (0, ap Some (sym e))
 in_at (v ∷ vs) w (inr i) = (let r = in_at vs w i in (suc r.0, r.1))
 
-places_in : (n : ℕ) (as : List Answer) → ((a : Answer) → In a as → a.number < n) → HavePlaces n as
+places_in : (n : ℕ) (outs : List Answer) → ((a : Answer) → In a outs → a.number < n) → HavePlaces n outs
 places_in n [] h = tt
-places_in n (a ∷ as) h = (h a (inl refl), places_in n as (λ b i. h b (inr i)))
+places_in n (a ∷ outs) h = (h a (inl refl), places_in n outs (λ b i. h b (inr i)))
 
 module _ (chain : ChainLaw) (keys_open : OpeningKeys) (doubts_open : OpeningDoubts) (o : Origin) (is : IsOrigin o) (is_layout : IsLayout (layout_of o.found)) (r : Recovered) (refused : Bool) (t : State) (group : ℕ → Group) (given : List Request)
     (groups : Groups (layout_of o.found) group) (ends : ℕ → Option (CoreEnd refused)) (all : (c : ℕ) → c < (layout_of o.found).cores → (x : CoreEnd refused) × (ends c ≡ Some x) × IsEnd o r refused t group given c x) where
@@ -390,6 +428,7 @@ module _ (chain : ChainLaw) (keys_open : OpeningKeys) (doubts_open : OpeningDoub
           (owner l k, low', y, (in_filter (λ (f : Fixed). key_of f.request == k) (fixed_of_end (x (owner l k) low')) y F.0).0, F.1, ap (λ (b : engines.Answer). b.reply) same)
 
   pub all_ran : ((g : ℕ) → g < groups_in l → (steps : List (ℕ × Kind)) × Runs (opened (place_at l g) o.found) steps (group g)) → AllRan o r refused e
+  unfolding core_run
   all_ran reached = record { layout = refl; groups = groups; reached = reached; cores = core_run; fixed = fixed_is }
 
   -- each part is licensed by its core's view
@@ -431,6 +470,7 @@ module _ (chain : ChainLaw) (keys_open : OpeningKeys) (doubts_open : OpeningDoub
 
   -- What holds at its one moment.
   pub last_stands : t.frame.since ≡ t.stamp → (IsTelling t → HasSuperblock o.found (cell_now t)) → StandsNow o e
+  unfolding key_stands
   last_stands since superblock = record {
     sound = is.sound;
     first = is.first;
@@ -450,35 +490,28 @@ module _ (chain : ChainLaw) (keys_open : OpeningKeys) (doubts_open : OpeningDoub
           layout = shown.layout;
           cells = λ k. shows_key (start_of o k) e k s o.region.frame.bytes image (key_stands k) (served_all t.stamp (λ (z : Served). z.answer.stamp ≤ s) (fs k) (λ z i. omega (arith, now))) shown;
         };
-  } where
-    none_past : (xs : List Request) (n : ℕ) → length xs ≤ n → slice_get xs n ≡ None
-    none_past [] n past = refl
-    none_past (y ∷ ys) zero past = absurd (omega (arith, past))
-    none_past (y ∷ ys) (suc n) past = none_past ys n (omega (arith, past))
+  }
 
   -- a slot that isn't empty has a change of its owner
   slot_empty : (g m s : ℕ) → g < groups_in l → m < l.group → (group g).slot m s ≡ Empty
   slot_empty g m s low member = by ((group g).slot m s) refl where
-    abbrev L : Lawful (group g)
+    L : Lawful (group g)
     L = groups.lawful g low
 
-    abbrev c : ℕ
-    c = g * l.group + m
-
-    c_low : c < l.cores
+    c_low : g * l.group + m < l.cores
     c_low = member_core l is_layout g m low member
 
-    g_is : group_of l c ≡ g
+    g_is : group_of l (g * l.group + m) ≡ g
     g_is = div-mul-add g l.group m member
 
-    m_is : member_of l c ≡ m
+    m_is : member_of l (g * l.group + m) ≡ m
     m_is = mod-mul-add g l.group m member
 
-    view_is : HasView (group g) m (x c c_low).last.view
-    view_is = subst (λ (i : ℕ). HasView (group g) i (x c c_low).last.view) m_is (subst (λ (j : ℕ). HasView (group j) (member_of l c) (x c c_low).last.view) g_is (X c c_low).shown)
+    view_is : HasView (group g) m (x (g * l.group + m) c_low).last.view
+    view_is = subst (λ (i : ℕ). HasView (group g) i (x (g * l.group + m) c_low).last.view) m_is (subst (λ (j : ℕ). HasView (group j) (member_of l (g * l.group + m)) (x (g * l.group + m) c_low).last.view) g_is (X (g * l.group + m) c_low).shown)
 
     none : (d : Entry) → PendsAt (group g) d (Some s) → places.owner (group g).place d.key ≡ m → ⊥
-    none d pends own = (rested c c_low).slots d.key s d (sym (view_is.pending d.key own) ∙ pends)
+    none d pends own = (rested (g * l.group + m) c_low).slots d.key s d (sym (view_is.pending d.key own) ∙ pends)
 
     by : (z : Slot) → (group g).slot m s ≡ z → (group g).slot m s ≡ Empty
     by Empty at_z = at_z
@@ -523,11 +556,7 @@ module _ (chain : ChainLaw) (keys_open : OpeningKeys) (doubts_open : OpeningDoub
     all_answered : AllAnswered e
     all_answered n lt = by (slice_get given n) refl where
       by : (q : Option Request) → slice_get given n ≡ q → (a : engines.Answer) × (e.answer n ≡ Some a)
-      by None none = absurd (slice_some given n lt none) where
-        slice_some : (xs : List Request) (i : ℕ) → i < length xs → slice_get xs i ≡ None → ⊥
-        slice_some [] i lt e = omega (arith, lt)
-        slice_some (y ∷ ys) zero lt e = none_some y (sym e)
-        slice_some (y ∷ ys) (suc i) lt e = slice_some ys i (omega (arith, lt)) e
+      by None none = absurd (slice_some given n lt none)
       by (Some q) there =
           let k = key_of q in
           let z : 0 + n ≡ n = omega arith in
@@ -559,17 +588,14 @@ module _ (chain : ChainLaw) (keys_open : OpeningKeys) (doubts_open : OpeningDoub
       | inr R ↦ inr R
     ]
 
-    abbrev c0 : ℕ
-    c0 = stop.0
-
-    from : HasDoubt (x c0 stop.1).seat.place (x c0 stop.1).seat.number (x c0 stop.1).last.view → Rose o.region.faults t.faults
+    from : HasDoubt (x stop.0 stop.1).seat.place (x stop.0 stop.1).seat.number (x stop.0 stop.1).last.view → Rose o.region.faults t.faults
     from D =
-        let g = group_of l c0 in
-        let low = group_low l is_layout c0 stop.1 in
+        let g = group_of l stop.0 in
+        let low = group_low l is_layout stop.0 stop.1 in
         let L = groups.lawful g low in
         let place = groups.place g low in
-        let own : places.owner (group g).place D.0 ≡ member_of l c0 = (λ i. places.owner ((place ∙ sym (X c0 stop.1).place) i) D.0) ∙ D.2 ∙ (X c0 stop.1).number in
-        let doubt : (group g).pending D.0 ≡ Some (record { entry = D.1; slot = None }) = (X c0 stop.1).shown.pending D.0 own ∙ D.3 in
+        let own : places.owner (group g).place D.0 ≡ member_of l stop.0 = (λ i. places.owner ((place ∙ sym (X stop.0 stop.1).place) i) D.0) ∙ D.2 ∙ (X stop.0 stop.1).number in
+        let doubt : (group g).pending D.0 ≡ Some (record { entry = D.1; slot = None }) = (X stop.0 stop.1).shown.pending D.0 own ∙ D.3 in
         let lost = L.slots.in_doubt D.0 D.1 doubt in
         let member : lost.0 < l.group = subst (λ (p : places.Place). lost.0 < places.members p) place (L.logs.group lost.0 D.1 (inr lost.2)).0 in
         let low' = member_core l is_layout g lost.0 low member in
@@ -584,8 +610,8 @@ module _ (chain : ChainLaw) (keys_open : OpeningKeys) (doubts_open : OpeningDoub
   gave c low =
       let A = (W c low).answers in
       let none : answers_of (x c low).first.worker ≡ [] = (X c low).new.answers.0 in
-      let same : A.more ≡ answers_of (x c low).last.worker = sym (A.added ∙ ap (λ as. as ++ A.more) none) in
-      subst (λ as. AreGiven (IsTelling (x c low).last.region) (fixed_of_end (x c low)) as) same (subst (λ ys. AreGiven (IsTelling (x c low).last.region) ys A.more) (off c low).1 A.given)
+      let same : A.more ≡ answers_of (x c low).last.worker = sym (A.added ∙ ap (λ outs. outs ++ A.more) none) in
+      subst (λ outs. AreGiven (IsTelling (x c low).last.region) (fixed_of_end (x c low)) outs) same (subst (λ ys. AreGiven (IsTelling (x c low).last.region) ys A.more) (off c low).1 A.given)
 
   -- those of one core are apart
   core_apart : (c : ℕ) (low : c < l.cores) → Apart (fixed_of_end (x c low))
@@ -659,4 +685,55 @@ module _ (chain : ChainLaw) (keys_open : OpeningKeys) (doubts_open : OpeningDoub
           }))))
 
     pub keeps : KeepsAnswers o r refused e core_run kept
+    unfolding core_run
     keeps = record { count = all_long workers t.stamp blanks ∙ places_are; all = keeps_all; only = keeps_only }
+
+    -- What the run comes to.
+    module _ (s : State) (word : ℕ → ℕ) (lines : List Line) (given_are : given ≡ asked_in lines) (out : Outcome) (begins : BeginsAt s word o) (rejoined : Rejoined s t) (reached : (g : ℕ) → g < groups_in l → (steps : List (ℕ × Kind)) × Runs (opened (place_at l g) o.found) steps (group g))
+        (superblock : IsTelling t → HasSuperblock o.found (cell_now t)) (first_faults : (c : ℕ) (low : c < l.cores) → (x c low).first.region.faults ≡ o.region.faults)
+        (next : IsTelling s → ((c : ℕ) (low : c < l.cores) → TellsFrom s (x c low).last.region) → (latest : ℕ) → s.stamp ≤ latest → ((c : ℕ) (low : c < l.cores) → (x c low).last.region.stamp ≤ latest) → t.stamp ≤ counted latest)
+        (report : IsReport kept (report_in out)) (end : out.end ≡ end_by (any_short workers) (any_stopped workers)) (refusal : RefusalLaw) (moment : MomentLaw) where
+      promised : Promised o e
+      promised = moment o e (last_stands rejoined.since superblock) (refusal o r refused e is (all_ran reached)) (stop_cause first_faults)
+
+      works : out.end ≢ closings.Memory → (c : ℕ) (low : c < l.cores) → (x c low).last.worker.winds_down ≡ false
+      works not_memory c low = by (x c low).last.worker.winds_down refl where
+        by : (b : Bool) → (x c low).last.worker.winds_down ≡ b → (x c low).last.worker.winds_down ≡ false
+        by false at_b = at_b
+        by true at_b = absurd (not_memory (end ∙ ap (λ b. end_by b (any_stopped workers)) (any_at (λ (w : Worker). w.winds_down) workers c (x c low).last.worker (workers_are c low) at_b)))
+
+      has_stopped : out.end ≡ closings.RegionFault → HasStopped e
+      has_stopped is_fault =
+          let there = any_in (λ (w : Worker). w.stopped) workers (faulted (any_short workers) (any_stopped workers) (sym end ∙ is_fault)) in
+          let low = few there.0 there.1 there.2 in
+          (there.0, low, ap (λ d. (hands_in d).stopped) (at there.0 low) ∙ ap (λ (w : Worker). w.stopped) (sym (worker_is there.0 there.1 there.2)) ∙ there.3)
+
+      goes_on : out.end ≡ closings.Complete → (c : ℕ) → c < l.cores → e.stopped c ≡ false
+      goes_on is_complete c low = by (e.stopped c) refl where
+        by : (b : Bool) → e.stopped c ≡ b → e.stopped c ≡ false
+        by false at_b = at_b
+        by true at_b = absurd (clash (any_stopped workers) (any_at (λ (w : Worker). w.stopped) workers c (x c low).last.worker (workers_are c low) (sym (ap (λ d. (hands_in d).stopped) (at c low)) ∙ at_b)) (completed (any_short workers) (any_stopped workers) (sym end ∙ is_complete)))
+
+      pub ran : RanApart s word refused r lines t out
+      unfolding all_ran core_run
+      ran = record {
+        origin = o;
+        last = e;
+        begins = begins;
+        rejoined = rejoined;
+        region = refl;
+        given = given_are;
+        ran = all_ran reached;
+        next = next;
+        licensed = licensed;
+        superblock = superblock;
+        kept = kept;
+        keeps = keeps;
+        report = report;
+        reports = reports_by t o e kept (report_in out) promised (all_long workers t.stamp blanks ∙ places_are) shows refl report;
+        promised = promised;
+        done = λ not_memory. is_done (works not_memory) promised;
+        ceased = λ memory. ceased;
+        fault = has_stopped;
+        complete = goes_on;
+      }

@@ -1,4 +1,5 @@
 mod WorkMoves
+mod OwnTokens
 mod Doubts
 mod WorkChains
 mod Rested
@@ -13,3 +14,13 @@ mod Stops
 mod ByNumber
 mod LastState
 mod KeptAnswers
+mod Places
+mod Manning
+mod Mustering
+mod DealLaws
+mod Supplying
+mod Went
+mod RunEnds
+mod Rejoining
+mod Blocks
+mod Assembly

@@ -1,9 +1,10 @@
 -- Why a core has stopped: a call of its piece failed, or an own change is in doubt and it has nothing in flight.
 use Rattle.std.proofs.Common.{◌≡◌, ◌≢◌, ◌⊎◌, inl, inr, ℕ, ◌≤◌, ◌<◌, Bool, true, false, cond, List, [], ◌∷◌, Option, Some, None, Result, Ok, Err, refl, sym, ◌∙◌, ap, subst, arith}
 use Rattle.std.specs.Prelude.{eqb, MatchOption, IfSome}
-use Rattle.std.proofs.lemmas.Bool.{eqb-true, eq-eqb}
+use Rattle.std.proofs.lemmas.Bool.{cases_lt, eqb-true, eq-eqb}
 use Rattle.fs_errors.specs.declared.Memory.{Memory}
-use Rattle.pm_region.specs.State.{State, Rose}
+use Rattle.pm_region.specs.Cell.{Cell}
+use Rattle.pm_region.specs.State.{State, Frame, IsTold, During, Rose}
 use Rattle.log_entry.specs.declared.entry.Entry.{Entry}
 use Rattle.group_laws.specs.declared.types.Pending.{Pending}
 use Rattle.group_laws.specs.Places.{Place, owner}
@@ -233,7 +234,7 @@ module _ (seat : SeatAt) (refused : Bool) where
     | inl rose ↦ inl rose
     | inr R ↦ inr (by b.worker.stopped refl R, λ stop. (R stop).0)
   ] where
-    abbrev X : HasRested seat b
+    X : HasRested seat b
     X = has_rested seat b bt E
 
     by : (c : Bool) → b.worker.stopped ≡ c → Rested b → b.view.flying ≡ []
@@ -242,3 +243,36 @@ module _ (seat : SeatAt) (refused : Bool) where
       broken : (c : Bool) → b.view.broken ≡ c → b.view.broken ≡ false
       broken false e = e
       broken true e = absurd (clash b.worker.stopped (X.broken e) going)
+
+-- what a chain's last state tells of its first moment is what it had then
+module _ (seat : SeatAt) (refused : Bool) where
+  abbrev Tells : State → State → Type 0
+  Tells a b = a.stamp ≤ b.stamp × ((t : ℕ) → t ≤ a.stamp → IsTold b t → a.frame.since ≤ t → IsTold a t × ((w : ℕ) → b.cells t w ≡ a.cells t w))
+
+  during_tells : (a b : State) (Q : (ℕ → Cell) → Type 0) → During a b Q → Tells a b
+  during_tells a b Q D = (D.later, λ t low told since. by t low told (cases_lt t a.stamp)) where
+    by : (t : ℕ) → t ≤ a.stamp → IsTold b t → (t < a.stamp) ⊎ (a.stamp ≤ t) → IsTold a t × ((w : ℕ) → b.cells t w ≡ a.cells t w)
+    by t low told (inl less) = (let was = D.only t told less in (was, λ w. D.same t w was))
+    by t low told (inr more) =
+        let is : a.stamp ≡ t = omega (arith, low, more) in
+        let was : IsTold a t = subst (IsTold a) is (D.was t told more) in
+        (was, λ w. D.same t w was)
+
+  same_tells : (a b : State) → b ≡ a → Tells a b
+  same_tells a b e = subst (Tells a) (sym e) (omega arith, λ t low told since. (told, λ w. refl))
+
+  move_tells : (a b : WorkState) → Move seat refused a b → Tells a.region b.region
+  move_tells a b (accepts A) = same_tells a.region b.region A.region
+  move_tells a b (turns T) = during_tells a.region b.region _ T.moves.moves.outside
+  move_tells a b (winds_down e) = same_tells a.region b.region (ap (λ (z : WorkState). z.region) e)
+
+  pub chain_tells : (a : WorkState) (xs : List WorkState) (b : WorkState) → Leads seat refused a xs b → Tells a.region b.region
+  chain_tells a [] b e = same_tells a.region b.region (ap (λ (z : WorkState). z.region) e)
+  chain_tells a (x ∷ xs) b l =
+      let one = move_tells a x l.0 in
+      let rest = chain_tells x xs b l.2 in
+      let first = one.0 in
+      let second = rest.0 in (
+        omega (arith, first, second),
+        λ t low told since. (let frame = ap (λ (f : Frame). f.since) (move_frame seat refused a x l.0) in let mid = rest.1 t (omega (arith, low, first)) told (omega (arith, since, frame)) in let old = one.1 t low mid.0 since in (old.0, λ w. mid.1 w ∙ old.1 w)),
+      )

@@ -1,5 +1,5 @@
 -- The requests of a trace by core, and the places for their answers.
-use Rattle.std.specs.Prelude.{◌≡◌, ℕ, ◌<◌, ◌%◌, ◌==◌, List, length, filter, Option, Some, None}
+use Rattle.std.specs.Prelude.{◌≡◌, ℕ, ◌%◌, ◌==◌, List, length, filter, Option, Some, None}
 use Rattle.std.specs.List.{slice_get, enumerate_from, AllByRecursion}
 use Rattle.std.specs.declared.collections.VecDeque.{VecDeque}
 use Rattle.std.specs.Global.{Global}

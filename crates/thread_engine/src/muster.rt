@@ -48,13 +48,13 @@ impl<P: Drop> Returned<P> {
 
 // A job for each core, at its group's table.
 fn make_jobs<'a, P: Region + Drop>(
-    tables: &'a [GroupTable],
+    tables: &'a Vec<GroupTable>,
     group: u32,
     pieces: Vec<P>,
     crew: Crew,
     mut jobs: Vec<CoreJob<CoreSeat<'a>, P>>,
 ) -> Vec<CoreJob<CoreSeat<'a>, P>>
-    requires crew { IsCrew tables.now group (length pieces.items) crew }
+    requires crew { IsCrew tables.now.items group (length pieces.items) crew }
     requires room { (jobs.items ≡ []) × (length pieces.items ≤ vec_capacity jobs) }
     ensures { AreMade pieces.items crew result.items }
 {
@@ -66,8 +66,8 @@ fn make_jobs<'a, P: Region + Drop>(
     let mut tokens = VecDeque::from_vec(tokens);
     let mut workers = VecDeque::from_vec(workers);
     let mut queues = VecDeque::from_vec(queues);
-    let mut core = 0;
     for piece in pieces {
+        let core = jobs.len();
         let Some(token) = tokens.pop_front() else {
             unreachable!()
         };
@@ -84,7 +84,6 @@ fn make_jobs<'a, P: Region + Drop>(
             worker,
             queue,
         });
-        core += 1;
     }
     jobs
 }
@@ -95,7 +94,7 @@ fn dismiss<P: Region + Drop>(
     mut room: Returned<P>,
 ) -> Returned<P>
     requires { HasRoomOf (length jobs.items) room }
-    ensures { Gave jobs.items result }
+    ensures { Gave jobs.entry.items result }
 {
     for job in jobs {
         let CoreJob {
@@ -116,7 +115,7 @@ fn dismiss<P: Region + Drop>(
 pub fn work_apart<'a, T: Threads + Wait + Sync, P: Region + Drop + Send, G: Gate + Sync>(
     rt: &T,
     alloc: Global,
-    tables: &'a [GroupTable],
+    tables: &'a Vec<GroupTable>,
     group: u32,
     pieces: Vec<P>,
     crew: Crew,
@@ -124,7 +123,7 @@ pub fn work_apart<'a, T: Threads + Wait + Sync, P: Region + Drop + Send, G: Gate
     room: Returned<P>,
     gate: &G,
 ) -> Returned<P>
-    requires crew { IsCrew tables.now group (length pieces.items) crew }
+    requires crew { IsCrew tables.now.items group (length pieces.items) crew }
     requires work { AllAtWork P.state pieces.items crew }
     requires room { (jobs.items ≡ []) × (length pieces.items ≤ vec_capacity jobs)
         × HasRoomOf (length pieces.items) room }
