@@ -50,8 +50,8 @@ impl<F: Found> Opening for On<F> {
     ghost group = { 0 };
 }
 
-// One worker for each core, in their order.
-fn open_workers(
+/// One worker for each core, in their order, as it is opened of what recovery gave of the core.
+pub fn open_workers(
     alloc: Global,
     layout: Layout,
     starts: Vec<CoreStart>,

@@ -1,4 +1,5 @@
 mod WorkMoves
+mod OwnTokens
 mod Doubts
 mod WorkChains
 mod Rested

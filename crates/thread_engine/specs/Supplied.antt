@@ -7,22 +7,16 @@ use Rattle.fs_model.specs.declared.model.Request.{Request}
 use Rattle.fs_text.specs.declared.line.Line.{Line}
 use Rattle.chunk_map.specs.declared.layouts.Geometry.{Geometry}
 use Rattle.chunk_map.specs.Layouts.{layout_of, part_first}
-use Rattle.recover.specs.declared.types.CoreStart.{CoreStart}
 use Rattle.recover.specs.declared.types.Recovered.{Recovered}
-use Rattle.core_worker.specs.declared.worker.Worker.{Worker}
-use Rattle.core_worker.specs.Openings.{IsNew}
 use Rattle.engine_laws.specs.Origins.{Origin}
 use Rattle.engine_laws.specs.Ran.{asked_in}
 use Rattle.group_engine.specs.Reports.{IsBlank, HasRoomFor}
+use Rattle.group_engine.specs.Runs.{AreNew}
 use Rattle.group_engine.specs.Working.{SeatFirst}
 use Rattle.thread_engine.specs.declared.run_apart.Supplies.{Supplies}
 use Rattle.thread_engine.specs.CoreRuns.{requests_to}
 use Rattle.thread_engine.specs.Dealt.{AreBlank}
 use Rattle.thread_engine.specs.Manned.{AreManned, AreHands}
-
--- each worker is the one that opens on its core's start
-abbrev pub AreNew : List CoreStart → Geometry → List Worker → Type 0
-AreNew starts l ws = (c : ℕ) (w : Worker) (start : CoreStart) → slice_get ws c ≡ Some w → slice_get starts c ≡ Some start → IsNew start l w
 
 -- where each part begins, and where the last one ends
 pub record ArePartCuts (l : Geometry) (cuts : List ℕ) : Type 0 where

@@ -45,7 +45,11 @@ pub fn close_tables(
 }
 
 /// Room for the tokens of each table.
-pub fn empty_hands(alloc: Global, members: u32, groups: usize) -> Result<Vec<Vec<SeatToken>>, Memory>
+pub fn empty_hands(
+    alloc: Global,
+    members: u32,
+    groups: usize,
+) -> Result<Vec<Vec<SeatToken>>, Memory>
     ensures { IfOk result (λ hands. AreHands members groups hands.items) }
 {
     let mut hands = Vec::with_capacity(alloc, groups)?;

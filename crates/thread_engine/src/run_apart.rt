@@ -4,9 +4,8 @@ ghost use Rattle.chunk_map.specs.Layouts.{part_first};
 ghost use Rattle.pm_region.specs.Split.{Stays, Refuses, IsNotOpened};
 ghost use Rattle.engine_laws.specs.Origins.{Origin};
 ghost use Rattle.group_engine.specs.Replayed.{StandsAsFound, BeginsAt};
-ghost use Rattle.group_engine.specs.Working.{SeatFirst};
 ghost use Rattle.thread_engine.specs.RanApart.{RanApart};
-ghost use Rattle.thread_engine.specs.Supplied.{IsSupplied, AreNew, ArePartCuts};
+ghost use Rattle.thread_engine.specs.Supplied.{IsSupplied, ArePartCuts};
 
 use crate::closing::{close_tables, empty_hands};
 use crate::collecting::outcome_of;
@@ -15,15 +14,15 @@ use crate::group_tables::open_tables;
 use crate::muster::{Crew, Returned, work_apart};
 use atomic_board::{GroupTable, SeatToken};
 use chunk_map::{Geometry, Layout};
-use core_worker::{Gate, Worker};
+use core_worker::Gate;
 use fs_errors::Memory;
 use fs_text::Input;
-use group_engine::real_worker::open_worker;
+use group_engine::open_engine::open_workers;
 use group_engine::run_outcome::Outcome;
 use group_engine::run_report::Report;
 use group_engine::types::Stamped;
 use pm_region::{AttachError, ReadRegion, SplitRegion};
-use recover::{CoreStart, Recovered};
+use recover::Recovered;
 use std::alloc::Global;
 use std::sync::Wait;
 use std::thread::Threads;
@@ -44,26 +43,13 @@ pub struct Supplies {
     pub cuts: Vec<u64>,
 }
 
-// One worker for each core, in their order.
-fn open_workers(alloc: Global, layout: Layout, starts: Vec<CoreStart>) -> Result<Vec<Worker>, Memory>
-    ensures count { IfOk result (λ workers. length workers.items ≡ length starts.items) }
-    ensures new { IfOk result (λ workers. AreNew starts.items layout workers.items) }
-    ensures seat { IfOk result (λ workers. SeatFirst starts.items layout workers.items) }
-{
-    let mut workers = Vec::new(alloc);
-    for start in starts {
-        let worker = open_worker(alloc, start, layout)?;
-        workers.push(worker)?;
-    }
-    Ok(workers)
-}
-
 // Where the parts begin, and where the last one ends.
 fn part_cuts(alloc: Global, layout: &Layout) -> Result<Vec<u64>, Memory>
     ensures { IfOk result (λ cuts. ArePartCuts layout.now cuts.items) }
 {
+    let cores = layout.geometry().cores;
     let mut cuts = Vec::new(alloc);
-    for part in 0..layout.cores() + 1 {
+    for part in 0..cores + 1 {
         cuts.push(layout.part_first(part))?;
     }
     Ok(cuts)

@@ -7,7 +7,9 @@ use core_worker::OpenGate;
 use fs_model::{Reply, Request, Value};
 use fs_text::{Input, Line};
 use group_engine::run_outcome::{End, Outcome};
-use pm_region::{AttachError, FenceNumber, Faults, MemRegion, ReadRegion, Region, SplitRegion, SteadyRegion};
+use pm_region::{
+    AttachError, Faults, FenceNumber, MemRegion, ReadRegion, Region, SplitRegion, SteadyRegion,
+};
 use recover::{RecoverError, Recovered, recover_read};
 use std::alloc::{AllocError, Global};
 use std::sync::Wait;
@@ -15,7 +17,9 @@ use std::test::Fail;
 use std::thread::Threads;
 
 const MAGIC: u64 = 0x3130_5453_5441_4c46;
+
 const CHUNK_BYTES: u64 = 4096;
+
 const CHUNKS: u64 = 8;
 
 /// The bytes of a region that is all zero but for its superblock.
@@ -71,7 +75,14 @@ fn two_cores_in_two_groups(rt: HostRuntime) -> Result<(), Fail> {
     let alloc = rt.alloc();
     let mut region = SteadyRegion::new(alloc, region_bytes(alloc, 2, 1)?, 1000)?;
     region.attach(alloc)?;
-    let lines = vec![in alloc; put(alloc, 3, "a")?, get(3), delete(3), get(2), Line::Go { core: 0, turns: 9 }, delete(3)]?;
+    let lines = vec![in alloc;
+        put(alloc, 3, "a")?,
+        get(3),
+        delete(3),
+        get(2),
+        Line::Go { core: 0, turns: 9 },
+        delete(3),
+    ]?;
     let outcome = ran(&rt, alloc, &mut region, lines)?;
     let Ok(outcome) = outcome else {
         assert!(rt; false);
@@ -118,10 +129,18 @@ fn four_cores_in_one_group(rt: HostRuntime) -> Result<(), Fail> {
 #[test]
 fn a_split_that_fails(rt: HostRuntime) -> Result<(), Fail> {
     let alloc = rt.alloc();
-    let plan = Faults { opens: vec![in alloc; 2]?, fences: Vec::new(alloc) };
+    let plan = Faults {
+        opens: vec![in alloc; 2]?,
+        fences: Vec::new(alloc),
+    };
     let mut region = MemRegion::new(alloc, region_bytes(alloc, 2, 2)?, 100, plan)?;
     region.attach(alloc)?;
-    let outcome = ran(&rt, alloc, &mut region, vec![in alloc; put(alloc, 0, "a")?]?)?;
+    let outcome = ran(
+        &rt,
+        alloc,
+        &mut region,
+        vec![in alloc; put(alloc, 0, "a")?]?,
+    )?;
     assert!(rt; matches!(outcome, Err(AttachError::RegionFault)));
     assert_eq!(rt; region.words(), (4096 + 2 * CHUNKS * CHUNK_BYTES) / 8);
     assert_eq!(rt; region.faults(), 1);
@@ -133,7 +152,12 @@ fn a_piece_that_fails(rt: HostRuntime) -> Result<(), Fail> {
     let alloc = rt.alloc();
     let plan = Faults {
         opens: Vec::new(alloc),
-        fences: vec![in alloc; FenceNumber { piece: 2, number: 1 }]?,
+        fences: vec![in alloc;
+            FenceNumber {
+                piece: 2,
+                number: 1
+            },
+        ]?,
     };
     let mut region = MemRegion::new(alloc, region_bytes(alloc, 2, 1)?, 100, plan)?;
     region.attach(alloc)?;
