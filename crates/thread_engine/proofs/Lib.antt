@@ -23,3 +23,4 @@ mod Went
 mod RunEnds
 mod Blocks
 mod Assembly
+mod Rejoining
