@@ -8,7 +8,7 @@ use Rattle.std.specs.declared.collections.VecDeque.{VecDeque}
 use Rattle.fs_model.specs.declared.model.Request.{Request}
 use Rattle.fs_text.specs.declared.line.Line.{Line}
 use Rattle.pm_region.specs.State.{State, Frame, IsTold, InRange, cell_now}
-use Rattle.pm_region.specs.Split.{IsPiece, Parted, Joined, TakesPiece, CameFrom, IsBetween}
+use Rattle.pm_region.specs.Split.{IsPiece, Parted, Joined, TakesPiece, CameFrom, IsBetween, ComesNext}
 use Rattle.chunk_map.specs.declared.layouts.Geometry.{Geometry}
 use Rattle.chunk_map.specs.Layouts.{layout_of, IsLayout}
 use Rattle.chunk_map.proofs.LayoutLaws.{numbers_of}
@@ -29,16 +29,21 @@ use Rattle.engine_laws.specs.Origins.{Origin}
 use Rattle.engine_laws.specs.Parts.{Groups, group_of, member_of}
 use Rattle.engine_laws.specs.Ran.{asked_in}
 use Rattle.engine_laws.proofs.Cores.{group_low, member_low, member_core}
-use Rattle.group_engine.specs.Replayed.{StandsAsFound, BeginsAt}
+use Rattle.group_engine.specs.declared.run_outcome.Outcome.{Outcome}
+use Rattle.group_engine.specs.Replayed.{StandsAsFound, BeginsAt, report_in}
+use Rattle.group_engine.specs.Reports.{IsReport}
 use Rattle.thread_engine.specs.declared.muster.Returned.{Returned}
 use Rattle.thread_engine.specs.declared.run_apart.Supplies.{Supplies}
 use Rattle.thread_engine.specs.CoreRuns.{requests_to, HasView}
+use Rattle.thread_engine.specs.Collected.{stored_all, HaveAllPlaces, any_short, any_stopped, end_by}
+use Rattle.thread_engine.specs.RanApart.{RanApart}
 use Rattle.thread_engine.specs.Manned.{AreManned, AreTokensOf, AllEnded}
 use Rattle.thread_engine.specs.Returns.{IsCrew, AllAtWork, AllWent, Went, core_stands}
 use Rattle.thread_engine.specs.Supplied.{IsSupplied, ArePartCuts}
 use Rattle.thread_engine.proofs.Blocks.{tokens_of}
 use Rattle.thread_engine.proofs.Doubts.{one_of}
-use Rattle.thread_engine.proofs.LastState.{CoreEnd, IsEnd}
+use Rattle.thread_engine.proofs.LastState.{CoreEnd, IsEnd, ChainLaw, OpeningKeys, OpeningDoubts, RefusalLaw, MomentLaw, have_places, ran}
+use Rattle.thread_engine.proofs.Rejoining.{region_rejoined, region_superblock, next_joined}
 use Rattle.thread_engine.proofs.Places.{get_low, get_at, get_index, get_there}
 use Rattle.thread_engine.proofs.RunEnds.{shown_groups, shown_reached, shown_view, first_works, core_end}
 use Rattle.thread_engine.proofs.Stops.{chain_frame, chain_tells}
@@ -104,7 +109,7 @@ module _ {P : Type 0} (state : P → State) (refused : Bool) (s : State) (word :
 
     pub all_work : AllAtWork state pieces x.crew
     all_work c p t w q at_p at_t at_w at_q =
-        first_works state refused o r is_layout given tables x.crew pieces x.cuts.items S.manned table_count S.workers (seat_there s word r o F B x.crew.workers.items S.seated worker_count) (start_there s word r o F B) queues_are piece_at cuts_are
+        first_works state refused o r is_layout given tables x.crew pieces x.cuts.items S.manned table_count S.workers.each (seat_there s word r o F B x.crew.workers.items S.seated worker_count) (start_there s word r o F B) queues_are piece_at cuts_are
         c (core_low c p at_p) p t w q at_p at_t at_w at_q
 
     -- what they gave back
@@ -179,7 +184,11 @@ module _ {P : Type 0} (state : P → State) (refused : Bool) (s : State) (word :
         pub groups : Groups l shown
         groups = record { place = λ g low. (at_group g low).0; lawful = λ g low. (at_group g low).1 }
 
-        ended : (c : ℕ) → c < l.cores → (y : CoreEnd refused) × IsEnd o r refused t shown given c y
+        -- core c's end, its worker and its piece
+        abbrev Full : ℕ → CoreEnd refused → Type 0
+        Full c y = IsEnd o r refused t shown given c y × (slice_get back.workers.items c ≡ Some y.last.worker) × ((q : P) × (slice_get back.pieces.items c ≡ Some q) × (state q ≡ y.last.region))
+
+        ended : (c : ℕ) → c < l.cores → (y : CoreEnd refused) × Full c y
         ended c low =
             let O = one c low in
             let g_low = group_low l is_layout c low in
@@ -187,8 +196,9 @@ module _ {P : Type 0} (state : P → State) (refused : Bool) (s : State) (word :
             let at_u : slice_get back.tokens.items (group_of l c * l.group + member_of l c) ≡ Some O.5 = ap (slice_get back.tokens.items) (div-add-mod' c l.group) ∙ O.12 in
             let view : HasView (shown (group_of l c)) (member_of l c) (view_at O.5.own) = shown_view l.group tables back.tokens.items E (opened (place_at l 0) o.found) (λ g y at. S.manned.sizes g y at) (group_of l c) (member_of l c) b.0 O.5 b.1 (member_low l is_layout c) at_u in
             let taken : TakesPiece t (state O.4) = subst (λ (y : P). TakesPiece t (state y)) (get_index back.pieces.items c O.4 O.4 O.11) (takes c O.4 (get_low back.pieces.items c O.4 O.11)) in
-            core_end state refused o r is_layout given tables x.crew pieces x.cuts.items S.manned table_count S.workers (seat_there s word r o F B x.crew.workers.items S.seated worker_count) (start_there s word r o F B) queues_are piece_at cuts_are
-            c low O.0 O.1 O.2 O.3 O.7 O.8 O.9 O.10 t shown O.4 O.5 O.6 O.14 taken view
+            let end = core_end state refused o r is_layout given tables x.crew pieces x.cuts.items S.manned table_count S.workers.each (seat_there s word r o F B x.crew.workers.items S.seated worker_count) (start_there s word r o F B) queues_are piece_at cuts_are
+            c low O.0 O.1 O.2 O.3 O.7 O.8 O.9 O.10 t shown O.4 O.5 O.6 O.14 taken view in
+            (end.0, end.1, O.13, O.4, O.11, refl)
 
         chosen_by : (c : ℕ) (b : Bool) → nat_lt c l.cores ≡ b → Option (CoreEnd refused)
         chosen_by c true e = Some (ended c (ltb-true c l.cores e)).0
@@ -197,9 +207,30 @@ module _ {P : Type 0} (state : P → State) (refused : Bool) (s : State) (word :
         pub ends : ℕ → Option (CoreEnd refused)
         ends c = chosen_by c (nat_lt c l.cores) refl
 
-        pub all : (c : ℕ) → c < l.cores → (y : CoreEnd refused) × (ends c ≡ Some y) × IsEnd o r refused t shown given c y
+        full : (c : ℕ) → c < l.cores → (y : CoreEnd refused) × (ends c ≡ Some y) × Full c y
         unfolding ends chosen_by
-        all c low = by (nat_lt c l.cores) refl (lt-ltb c l.cores low) where
-          by : (b : Bool) (e : nat_lt c l.cores ≡ b) → b ≡ true → (y : CoreEnd refused) × (chosen_by c b e ≡ Some y) × IsEnd o r refused t shown given c y
+        full c low = by (nat_lt c l.cores) refl (lt-ltb c l.cores low) where
+          by : (b : Bool) (e : nat_lt c l.cores ≡ b) → b ≡ true → (y : CoreEnd refused) × (chosen_by c b e ≡ Some y) × Full c y
           by true e yes_ = (let y = ended c (ltb-true c l.cores e) in (y.0, refl, y.1))
           by false e yes_ = absurd (cc yes_)
+
+        abbrev pub all : (c : ℕ) → c < l.cores → (y : CoreEnd refused) × (ends c ≡ Some y) × IsEnd o r refused t shown given c y
+        all c low = ((full c low).0, (full c low).1, (full c low).2.0)
+
+        few : (c : ℕ) (w : Worker) → slice_get back.workers.items c ≡ Some w → c < l.cores
+        few c w at = (let low = get_low back.workers.items c w at in let n = piece_count in let m = A.workers_count in omega (arith, low, n, m))
+
+        module _ (chain : ChainLaw) (keys_open : OpeningKeys) (doubts_open : OpeningDoubts) where
+          pub places : HaveAllPlaces (length x.answers.items) back.workers.items
+          places = have_places chain keys_open doubts_open o B.is is_layout r refused t shown given groups ends all back.workers.items x.answers.items (λ c low. (full c low).2.1) few S.places S.blank
+
+          -- what it comes to
+          pub run_ran : (mid : State) → Parted s mid x.cuts.items → Joined mid t → ComesNext state mid t back.pieces.items → s.frame.parted ≡ false → mid.frame.opens ≡ s.frame.opens → mid.frame.refusals ≡ s.frame.refusals → t.frame.opens ≡ mid.frame.opens
+              → RefusalLaw → MomentLaw → (out : Outcome) → IsReport (stored_all back.workers.items t.stamp x.answers.items) (report_in out) → out.end ≡ end_by (any_short back.workers.items) (any_stopped back.workers.items) → RanApart s word refused r lines t out
+          run_ran mid D J N whole_is opens refusals opens' refusal moment out report end =
+              ran chain keys_open doubts_open o B.is is_layout r refused t shown given groups ends all back.workers.items x.answers.items (λ c low. (full c low).2.1) few S.places S.blank
+              s word lines refl out B (region_rejoined s word r o F B x.cuts.items cuts_are mid t D J whole_is opens refusals opens') (λ g low. (at_group g low).2)
+              (region_superblock s word r o F B x.cuts.items cuts_are mid t D J) (λ c low. (full c low).2.0.piece.piece.faults)
+              (next_joined s mid t x.cuts.items D J state back.pieces.items l.cores (λ c low. (full c low).0.last.region) N (A.pieces_count ∙ piece_count)
+              (λ c low q at. (let f = (full c low).2.2 in ap state (one_of q f.0 (sym at ∙ f.1)) ∙ f.2)))
+              report end refusal moment

@@ -172,7 +172,7 @@ module _ {P : Type 0} (state : P → State) (refused : Bool) (o : Origin) (r : R
 
     -- and at the end
     module _ (s : State) (group : ℕ → Group) (b : P) (u : SeatToken) (y : Worker) (G : Went state refused p t w q.items b u y) (joined : TakesPiece s (state b)) (shown : HasView (group (group_of l c)) (member_of l c) (view_at u.own)) where
-      pub core_end : (x : CoreEnd refused) × IsEnd o r refused s group given c x
+      abbrev pub core_end : (x : CoreEnd refused) × IsEnd o r refused s group given c x
       core_end = (
         record { seat = seat_of t.own; first = core_stands state p t w q.items; last = core_stands state b u y G.left; works = G.works },
         record {

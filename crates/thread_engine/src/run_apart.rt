@@ -1,7 +1,8 @@
 // A run of an input on threads, and its outcome.
-ghost use Rattle.std.specs.Prelude.{◌≡◌, ℕ, ◌+◌, ◌≤◌, false, length, slice_index, IfOk, OnErr};
-ghost use Rattle.chunk_map.specs.Layouts.{part_first};
+ghost use Rattle.std.specs.Prelude.{◌≡◌, List, false, IfOk, OnErr};
 ghost use Rattle.pm_region.specs.Split.{Stays, Refuses, IsNotOpened};
+ghost use Rattle.fs_text.specs.declared.line.Line.{Line};
+ghost use Rattle.recover.specs.declared.types.Recovered.{Recovered};
 ghost use Rattle.engine_laws.specs.Origins.{Origin};
 ghost use Rattle.group_engine.specs.Replayed.{StandsAsFound, BeginsAt};
 ghost use Rattle.thread_engine.specs.RanApart.{RanApart};
@@ -12,9 +13,13 @@ use crate::collecting::outcome_of;
 use crate::deal::deal;
 use crate::group_tables::open_tables;
 use crate::muster::{Crew, Returned, work_apart};
+use crate::opening_rules;
+use crate::refusal_rules;
+use crate::work_rules;
 use atomic_board::{GroupTable, SeatToken};
 use chunk_map::{Geometry, Layout};
 use core_worker::Gate;
+use engine_laws::engine_rules;
 use fs_errors::Memory;
 use fs_text::Input;
 use group_engine::open_engine::open_workers;
@@ -98,10 +103,22 @@ fn run_supplied<T: Threads + Wait + Sync, R: SplitRegion + ReadRegion, G: Gate +
     gate: &G,
 ) -> Result<Outcome, AttachError>
     requires whole { (R.state region.old).frame.parted ≡ false }
+    requires supplied { (o : Origin) × (r : Recovered) × (lines : List Line)
+        × StandsAsFound (R.state region.old) (R.word region.old) r
+        × BeginsAt (R.state region.old) (R.word region.old) o × IsSupplied o r lines supplies }
+    ensures ran { IfOk result (λ x. (o : Origin) (r : Recovered) (lines : List Line)
+        → StandsAsFound (R.state region.old) (R.word region.old) r
+        → BeginsAt (R.state region.old) (R.word region.old) o → IsSupplied o r lines supplies
+        → RanApart (R.state region.old) (R.word region.old) (G.may_refuse gate.now) r lines
+        (R.state region.new) x) }
     ensures stays { OnErr result (Stays (R.state region.old) (R.state region.new)) }
     ensures cause { Refuses (R.state region.old) (R.state region.new) result }
     ensures opens { IsNotOpened (R.state region.old) (R.state region.new) }
 {
+    opening_rules::every_opening();
+    work_rules::every_chain();
+    refusal_rules::every_refusal();
+    engine_rules::every_moment();
     let Supplies {
         layout,
         tables,
