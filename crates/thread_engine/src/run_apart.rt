@@ -133,7 +133,10 @@ fn run_supplied<T: Threads + Wait + Sync, R: SplitRegion + ReadRegion, G: Gate +
     let Ok(room) = Returned::with_room(alloc, cores) else {
         return Err(AttachError::Memory);
     };
-    let pieces = region.split(alloc, &cuts)?;
+    let pieces = match region.split(alloc, &cuts) {
+        Ok(pieces) => pieces,
+        Err(error) => return Err(error),
+    };
     let back = work_apart(
         rt, alloc, &tables, layout.group, pieces, crew, jobs, room, gate,
     );
