@@ -1,7 +1,4 @@
 // Runs on threads, on regions in memory.
-ghost use Rattle.std.specs.Prelude.{◌≡◌, false, IfOk};
-ghost use Rattle.group_engine.specs.Replayed.{StandsAsFound};
-
 use crate::run_apart::run;
 use core_worker::OpenGate;
 use fs_model::{Reply, Request, Value};
@@ -10,7 +7,7 @@ use group_engine::run_outcome::{End, Outcome};
 use pm_region::{
     AttachError, Faults, FenceNumber, MemRegion, ReadRegion, Region, SplitRegion, SteadyRegion,
 };
-use recover::{RecoverError, Recovered, recover_read};
+use recover::recover_read;
 use std::alloc::{AllocError, Global};
 use std::sync::Wait;
 use std::test::Fail;
@@ -59,13 +56,14 @@ fn reads(reply: Option<&Reply>, text: &str) -> bool {
     }
 }
 
-/// Recovers an attached region, and runs the lines on it.
+/// Attaches and recovers a region, and runs the lines on it.
 fn ran<T: Threads + Wait + Sync, R: SplitRegion + ReadRegion>(
     rt: &T,
     alloc: Global,
     region: &mut R,
     lines: Vec<Line>,
 ) -> Result<Result<Outcome, AttachError>, Fail> {
+    region.attach(alloc)?;
     let found = recover_read(alloc, region, region.bytes())?;
     Ok(run(rt, alloc, region, found, Input::of(lines), &OpenGate))
 }
@@ -74,7 +72,6 @@ fn ran<T: Threads + Wait + Sync, R: SplitRegion + ReadRegion>(
 fn two_cores_in_two_groups(rt: HostRuntime) -> Result<(), Fail> {
     let alloc = rt.alloc();
     let mut region = SteadyRegion::new(alloc, region_bytes(alloc, 2, 1)?, 1000)?;
-    region.attach(alloc)?;
     let lines = vec![in alloc;
         put(alloc, 3, "a")?,
         get(3),
@@ -102,7 +99,6 @@ fn two_cores_in_two_groups(rt: HostRuntime) -> Result<(), Fail> {
 fn four_cores_in_one_group(rt: HostRuntime) -> Result<(), Fail> {
     let alloc = rt.alloc();
     let mut region = SteadyRegion::new(alloc, region_bytes(alloc, 4, 4)?, 1000)?;
-    region.attach(alloc)?;
     let mut lines = Vec::new(alloc);
     for key in 0..20 {
         lines.push(put(alloc, key, "old")?)?;
@@ -134,7 +130,6 @@ fn a_split_that_fails(rt: HostRuntime) -> Result<(), Fail> {
         fences: Vec::new(alloc),
     };
     let mut region = MemRegion::new(alloc, region_bytes(alloc, 2, 2)?, 100, plan)?;
-    region.attach(alloc)?;
     let outcome = ran(
         &rt,
         alloc,
@@ -160,7 +155,6 @@ fn a_piece_that_fails(rt: HostRuntime) -> Result<(), Fail> {
         ]?,
     };
     let mut region = MemRegion::new(alloc, region_bytes(alloc, 2, 1)?, 100, plan)?;
-    region.attach(alloc)?;
     let lines = vec![in alloc; put(alloc, 1, "a")?, put(alloc, 0, "b")?, get(1), get(0)]?;
     let outcome = ran(&rt, alloc, &mut region, lines)?;
     let Ok(outcome) = outcome else {
