@@ -12,7 +12,6 @@ pub mod opening_rules;
 pub mod refusal_rules;
 pub mod run_apart;
 #[cfg(test)]
-mod run_tests;
 pub mod table_end;
 #[cfg(test)]
 mod tests;
