@@ -11,7 +11,6 @@ pub mod muster;
 pub mod opening_rules;
 pub mod refusal_rules;
 pub mod run_apart;
-#[cfg(test)]
 pub mod table_end;
 #[cfg(test)]
 mod tests;
