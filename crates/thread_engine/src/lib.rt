@@ -11,8 +11,6 @@ pub mod muster;
 pub mod opening_rules;
 pub mod refusal_rules;
 pub mod run_apart;
-#[cfg(test)]
-mod run_tests;
 pub mod table_end;
 #[cfg(test)]
 mod tests;
