@@ -140,7 +140,7 @@ module _ (seat : SeatAt) (s : State) (before after : Option Group) (v u : View) 
         sets = subst AreSets (sym (ap (λ (y : Worker). y.allocator) G.rest ∙ ap (λ (y : Worker). y.allocator) same)) H.sets;
         sets_layout = ap (λ (y : Worker). y.allocator.layout) G.rest ∙ ap (λ (y : Worker). y.allocator.layout) same ∙ H.allocator_layout;
         serves = serves;
-      }) S T made (λ is. cause (stopped ∙ is))
+      }) S T made (λ is. ⊎_elim (λ was. inl was) (λ found. inr ((e.key, e, own, here view.4), found)) (cause (stopped ∙ is)))
     where
       kept_last : (j : ℕ) → u.last j ≤ v.last j
       kept_last j = let now = ap (λ (y : View). y.last j) view.4 in ⊎_elim (λ gone. let zero = gone.1 in omega (arith, now, zero)) (λ same. omega (arith, now, same)) (view.3.keeps j)
@@ -187,7 +187,7 @@ module _ (seat : SeatAt) (s : State) (before after : Option Group) (v u : View) 
         sets = subst AreSets (sym (ap (λ (y : Worker). y.allocator) G.rest)) Z.sets;
         sets_layout = ap (λ (y : Worker). y.allocator.layout) G.rest ∙ (put_chunks w.allocator mid.allocator (block_of (known_at w.index e.key)) Z.block).layout_is ∙ H.allocator_layout;
         serves = serves;
-      }) S T made (λ is. cause (stopped ∙ is))
+      }) S T made (λ is. inl (sym (ap (λ (y : Worker). y.stopped) G.rest ∙ ap (λ (y : Worker). y.stopped) same) ∙ is))
     where
       last_at : (j : ℕ) → u.last j ≤ cond (j == e.key) e.version (v.last j)
       last_at j = let now = ap (λ (y : View). y.last j) view.4 in ⊎_elim (λ gone. let zero = gone.1 in omega (arith, now, zero)) (λ same. omega (arith, now, same)) (view.3.keeps j)

@@ -1,4 +1,5 @@
 -- A change is let go and what waits of its key is begun: a whole move to whoever runs several workers.
+use Rattle.engine_laws.specs.WorkerMoves.{HasDoubt}
 use Rattle.std.proofs.Common.{◌≡◌, ◌≢◌, ◌⊎◌, inl, inr, ⊎_elim, ℕ, ◌≤◌, ◌==◌, ◌||◌, Bool, true, false, cond, List, [], ◌∷◌, ◌++◌, map, Option, Some, None, refl, sym, ◌∙◌, ap, subst, arith, append-nil}
 use Rattle.std.specs.Prelude.{option_map, option_to_list, IfSome}
 use Rattle.std.specs.List.{filter}
@@ -241,7 +242,7 @@ module _ (Known : Type 0) (p : Place) (m : ℕ) (v u : View) (w f x : Worker) (k
   unfolding let_go_fixed
   let_go_answers = adds_then Known (answers_of w) (answers_of f) (answers_of x) first (answer_with pl.number reply None) fs answers (given_by Known pl.number pl.request reply reply None (said_same Known pl.request reply) (ends_untold reply ends)) L.answers
 
-  pub let_go_moves : (s : State) (before after : Option Group) → Stands s p m v w → Stands s p m u x → Steps before after m u → (f.stopped ≡ true → (w.stopped ≡ true) ⊎ IfSome before (λ a. (n : ℕ) × (d : Entry) × (a.slot m n ≡ Failed d)))
+  pub let_go_moves : (s : State) (before after : Option Group) → Stands s p m v w → Stands s p m u x → Steps before after m u → (f.stopped ≡ true → (w.stopped ≡ true) ⊎ (HasDoubt p m u × IfSome before (λ a. (n : ℕ) × (d : Entry) × (a.slot m n ≡ Failed d))))
       → WorkerMoves p m s s before after v u (hands_of v w) (hands_of u x) [] let_go_fixed
   unfolding let_go_fixed
   let_go_moves s before after S T made cause = record {
@@ -301,7 +302,7 @@ pub record LetGo (Known : Type 0) (p : Place) (m : ℕ) (v u : View) (w f x : Wo
   pub serves : Serves Known f x (u.cell k) k ⊎ ShortOf Known f x (u.cell k) k
 
 pub let_go_turn : (seat : SeatAt) (s : State) (before after : Option Group) (v u : View) (w f x : Worker) (k slot : ℕ) (pl : Placed) (reply : Reply) → LetGo (IsTelling s) seat.place seat.number v u w f x k slot pl reply → Stands s seat.place seat.number v w → Stands s seat.place seat.number u x → Steps before after seat.number u
-    → (f.stopped ≡ true → (w.stopped ≡ true) ⊎ IfSome before (λ a. (n : ℕ) × (d : Entry) × (a.slot seat.number n ≡ Failed d))) → TurnMoves seat s s before after v u w x
+    → (f.stopped ≡ true → (w.stopped ≡ true) ⊎ (HasDoubt seat.place seat.number u × IfSome before (λ a. (n : ℕ) × (d : Entry) × (a.slot seat.number n ≡ Failed d)))) → TurnMoves seat s s before after v u w x
 let_go_turn seat s before after v u w f x k slot pl reply G S T made cause = record {
   fixed = let_go_fixed (IsTelling s) seat.place seat.number v u w f x k slot G.H G.N G.hand_of G.own pl G.key G.held G.of_key G.R G.queue G.hand G.winds reply G.answers G.may G.left G.halts G.stays G.ends G.doubt G.cells G.pendings G.blocks G.last_here G.lasts G.known G.layout G.stock G.lists G.sets G.sets_layout G.serves;
   answers = let_go_answers (IsTelling s) seat.place seat.number v u w f x k slot G.H G.N G.hand_of G.own pl G.key G.held G.of_key G.R G.queue G.hand G.winds reply G.answers G.may G.left G.halts G.stays G.ends G.doubt G.cells G.pendings G.blocks G.last_here G.lasts G.known G.layout G.stock G.lists G.sets G.sets_layout G.serves;

@@ -1,4 +1,5 @@
 -- A leader's item is a whole move to whoever runs several workers.
+use Rattle.engine_laws.specs.WorkerMoves.{HasDoubt}
 use Rattle.std.proofs.Common.{false, ◌≡◌, ◌⊎◌, inl, ℕ, true, cond, List, [], ◌∷◌, ◌++◌, ◌==◌, map, Option, Some, None, refl, sym, ◌∙◌, ap, append-nil, arith}
 use Rattle.std.specs.Prelude.{option_map, option_to_list, IfSome, IsSomeAnd}
 use Rattle.std.specs.List.{filter}
@@ -47,7 +48,7 @@ runs_in m ks v (Some a) (Some b) h = h.0
 pub quiet_moves : (p : places.Place) (m : ℕ) (s t : State) (before after : Option Group) (v u : View) (w x : Worker) → Holds p m u x
     → During s t (KeepsOutside (cell_now s) (part_at p m) (part_end p m)) → During s t (Licensed p m v) → (IsTelling t → Licensed p m u (cell_now t)) → Steps before after m u
     → u.cell ≡ v.cell → u.pending ≡ v.pending → u.blocks ≡ v.blocks → u.last ≡ v.last → u.posted ≡ v.posted → (x.stopped ≡ false → Spends p.layout v.took v.flying u.took u.flying (stock_of w) (stock_of x) None) → ((k : ℕ) → placed_for v x.places.items k ≡ placed_for v w.places.items k) → x.queue ≡ w.queue → x.in_hand ≡ w.in_hand
-    → (x.stopped ≡ true → (w.stopped ≡ true) ⊎ (Rose s.faults t.faults ⊎ IfSome before (λ a. (n : ℕ) × (d : Entry) × (a.slot m n ≡ Failed d)))) → (w.stopped ≡ true → x.stopped ≡ true)
+    → (x.stopped ≡ true → (w.stopped ≡ true) ⊎ (Rose s.faults t.faults ⊎ (HasDoubt p m u × IfSome before (λ a. (n : ℕ) × (d : Entry) × (a.slot m n ≡ Failed d))))) → (w.stopped ≡ true → x.stopped ≡ true)
     → WorkerMoves p m s t before after v u (hands_of v w) (hands_of u x) [] []
 quiet_moves p m s t before after v u w x H outside moments exit made cell pending blocks last posted spends places queue hand stops stays = record {
   outside = outside;

@@ -283,7 +283,7 @@ module _ (seat : SeatAt) (s t : State) (before mid after : Option Group) (v : Vi
         holds = N.holds;
         refuses = N.refuses;
         spends = spends_seen v u xs (hands_of v w) (hands_of u x) fixed N.spends;
-        stops = λ e. ⊎_elim (λ a. inl a) (λ b. inr (⊎_elim (λ rose. inl rose) (λ stood. inr (stood_before before mid seat.number ss (seen_view v xs) made stood)) b)) (N.stops e);
+        stops = λ e. ⊎_elim (λ a. inl a) (λ b. inr (⊎_elim (λ rose. inl rose) (λ stood. inr (stood.0, stood_before before mid seat.number ss (seen_view v xs) made stood.1)) b)) (N.stops e);
         breaks = N.breaks;
         stays_stopped = N.stays_stopped;
       }

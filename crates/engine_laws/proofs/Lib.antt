@@ -2,7 +2,7 @@ pub mod Cores
 pub mod CauseLaws
 pub mod Others
 pub mod Licences
-mod Opens
+pub mod Opens
 pub mod Numbers
 mod Histories
 mod ReplyKinds
@@ -11,15 +11,16 @@ pub mod Stands
 pub mod Begins
 mod Reports
 mod Promises
-mod WhyRefused
+pub mod WhyRefused
 pub mod Ran
 mod Workers
 mod Advance
 pub mod Sits
-mod SpendingMoves
+pub mod SpendingMoves
 pub mod Calls
 pub mod Ceasing
 pub mod RoomSums
+pub mod GroupLines
 pub mod Ampleness
 pub mod RoomMoves
 pub mod RoomNeeds

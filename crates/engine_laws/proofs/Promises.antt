@@ -13,7 +13,7 @@ use Rattle.fs_model.specs.Cells.{key_of}
 use Rattle.fs_model.specs.Lawful.{IsLawful, Fits, IsLawfulFor, is_finish, is_told, is_stopped, stopped_of, asked}
 use Rattle.fs_model.specs.Changes.{requests_of, names, finished_by, cell_after_all, IsPrefixCell}
 use Rattle.fs_model.proofs.Answered.{lawful-append}
-use Rattle.pm_region.specs.State.{IsTold, IsTelling, MayLeave, cell_now, Rose}
+use Rattle.pm_region.specs.State.{IsTold, IsTelling, MayLeave, cell_now}
 use Rattle.chunk_map.specs.declared.layouts.Geometry.{Geometry}
 use Rattle.chunk_map.specs.Layouts.{layout_of, owner, IsLayout}
 use Rattle.store_image.specs.Facts.{In}
@@ -31,7 +31,7 @@ use Rattle.engine_laws.specs.WorkerMoves.{Placed, placed, requests_for}
 use Rattle.engine_laws.specs.Engine.{Engine, Answer, group_for, line}
 use Rattle.engine_laws.specs.Keys.{finished, open_in, changes_on, changes_at, Served, served_as, pairs, posted_in, is_finish_by, finished_until, KeyStands}
 use Rattle.engine_laws.specs.Reports.{reply_of, replies_from, named_from, told_of, AllAnswered}
-use Rattle.engine_laws.specs.Stands.{Origin, start_of, Stands}
+use Rattle.engine_laws.specs.Stands.{Origin, start_of, Stands, StandsNow}
 use Rattle.engine_laws.proofs.Numbers.{numbered, all_in, in_all, all_append, in_requests, in_numbered}
 use Rattle.engine_laws.proofs.Histories.{many, stopped_lawful}
 use Rattle.engine_laws.proofs.Reports.{names_within, names_outside, named_more, with_reply, changes_are, finished_by_are, finished_at, asked_are, fits, length_replies}
@@ -90,7 +90,11 @@ stops_where s (x ∷ xs) y (inl q) e = ap (λ b. stopped_of b xs) (ap (λ r. s |
   stays (x ∷ xs) = stays xs
 stops_where s (x ∷ xs) y (inr i) e = stops_where (s || is_stopped x.1) xs y i e
 
-module _ (o : Origin) (e : Engine) (S : Stands o e) where
+-- where a replay stands, at that moment
+abbrev pub stands_now : (o : Origin) (e : Engine) → Stands o e → StandsNow o e
+stands_now o e S = record { sound = S.sound; first = S.first; words = S.words; layout = S.layout; groups = S.groups; superblock = S.superblock; licensed = S.licensed; keys = S.keys; unasked = S.unasked; crash = S.crash }
+
+module _ (o : Origin) (e : Engine) (S : StandsNow o e) where
   abbrev r : Told
   r = told_of e
 
@@ -215,9 +219,6 @@ module _ (o : Origin) (e : Engine) (S : Stands o e) where
 
   abbrev MayStop : Type 0
   MayStop = (c : ℕ) × (c < e.layout.cores) × (e.stopped c ≡ true)
-
-  pub cause : MayStop → Rose o.region.faults e.region.faults
-  cause h = S.stopped h.0 h.1 h.2
 
   is_layout : IsLayout e.layout
   is_layout = subst IsLayout (sym S.layout) (superblock_facts o.region.frame.bytes o.found (has_layout o.region.frame.bytes o.found S.sound)).1

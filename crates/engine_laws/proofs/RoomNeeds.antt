@@ -1,38 +1,28 @@
 -- A core has room for what an ample input asks of it.
-use Rattle.std.proofs.Common.{◌≡◌, ◌⊎◌, inl, inr, ⊎_elim, ℕ, zero, suc, ◌+◌, ◌-◌, ◌*◌, ◌/◌, ◌<◌, ◌≤◌, ◌==◌, ◌&&◌, nat_le, List, [], ◌++◌, length, refl, sym, ◌∙◌, ap, subst, arith, true, false, Bool, cond}
+use Rattle.std.proofs.Common.{◌≡◌, inl, inr, ⊎_elim, ℕ, ◌+◌, ◌-◌, ◌*◌, ◌/◌, ◌≤◌, ◌&&◌, nat_le, List, ◌++◌, length, refl, ◌∙◌, ap, arith, true, false, Bool, cond}
 use Rattle.std.specs.List.{count_by, sum_by, enumerate_from}
-use Rattle.std.proofs.lemmas.Bool.{cases_eq, cases_lt, eq-eqb}
+use Rattle.std.proofs.lemmas.Bool.{cases_eq, eq-eqb}
 use Rattle.std.proofs.lemmas.List.Sums.{sum_by-append}
 use Rattle.fs_model.specs.declared.model.Request.{Request}
 use Rattle.fs_model.specs.declared.model.Request.TheVariants.{Put, Get, Delete}
 use Rattle.fs_model.specs.Cells.{key_of}
-use Rattle.log_entry.specs.declared.entry.Entry.{Entry}
 use Rattle.chunk_map.specs.declared.layout_sizes.TheConstants.{GREATEST_CLASS}
 use Rattle.chunk_map.specs.declared.layouts.Geometry.{Geometry}
 use Rattle.chunk_map.specs.Chunks.{blocks_in}
-use Rattle.chunk_map.specs.Layouts.{layout_of, owner, numbers, is_of_group, has_class, IsLayout}
+use Rattle.chunk_map.specs.Layouts.{layout_of, owner, numbers, has_class, IsLayout}
 use Rattle.store_image.specs.Facts.{In}
-use Rattle.store_image.proofs.SoundLaws.{has_layout}
-use Rattle.store_image.proofs.Places.{superblock_facts}
-use Rattle.group_laws.specs.Places.{Place, members}
-use Rattle.group_laws.specs.Places as places
-use Rattle.group_laws.specs.State.{Group}
-use Rattle.group_laws.specs.Updates.{times, sum_below}
-use Rattle.group_laws.specs.Invariant.{Lawful}
-use Rattle.group_laws.specs.Regions.{groups_in, key_group, place_at}
-use Rattle.headline.specs.Ample.{lines_of, is_put_of, log_bytes, parts_of, data_chunks, IsAmpleFor}
+use Rattle.headline.specs.Ample.{is_put_of, log_bytes, parts_of, data_chunks, IsAmpleFor}
 use Rattle.engine_laws.specs.Parts.{group_of, member_of}
 use Rattle.engine_laws.specs.FreeStock.{is_put_in, NeedsBlock, LacksRoom}
 use Rattle.engine_laws.specs.Engine.{Engine}
-use Rattle.engine_laws.specs.Stands.{Origin, Stands}
+use Rattle.engine_laws.specs.Stands.{Origin}
 use Rattle.engine_laws.specs.Spending.{lines_in}
-use Rattle.engine_laws.specs.Rooms.{is_begun, is_out, begun_puts, out_lines, posted_lines, HasRoom, Rooms}
-use Rattle.engine_laws.proofs.Cores.{group_low, member_low}
-use Rattle.engine_laws.proofs.RoomSums.{sum_up, sum_more_at, sum_numbered, sum_times, numbers_one, lines_among}
+use Rattle.engine_laws.specs.Rooms.{is_begun, begun_puts, HasRoom}
+use Rattle.engine_laws.proofs.RoomSums.{sum_up, sum_more_at, sum_numbered, numbers_one}
 use Rattle.engine_laws.proofs.Ampleness.{parts_least, block_some, few_opened, chunk_big, needed_some}
 
--- A core that runs has room for a request that it didn't begin, where the input is ample for its part.
-module _ (o : Origin) (e : Engine) (S : Stands o e) (R : Rooms o e) (c : ℕ) (low : c < (layout_of o.found).cores) (H : HasRoom (layout_of o.found) o e c) (q : Request) (n : ℕ) (own : owner (layout_of o.found) (key_of q) ≡ c)
+-- A core has room for a request that it didn't begin, where the input is ample for its part, and its log took no more than the input needs.
+module _ (o : Origin) (e : Engine) (layout_is : IsLayout (layout_of o.found)) (c : ℕ) (H : HasRoom (layout_of o.found) o e c) (q : Request) (n : ℕ) (own : owner (layout_of o.found) (key_of q) ≡ c)
     (given : In (n, q) (enumerate_from 0 e.given)) (unbegun : is_begun e (n, q) ≡ false) (lacks : LacksRoom (layout_of o.found) (e.stock c) q) (more : List Request) where
   abbrev L : Geometry
   L = layout_of o.found
@@ -42,9 +32,6 @@ module _ (o : Origin) (e : Engine) (S : Stands o e) (R : Rooms o e) (c : ℕ) (l
 
   abbrev puts : ℕ → ℕ
   puts class = count_by (is_put_of L c class) trace
-
-  layout_is : IsLayout L
-  layout_is = (superblock_facts o.region.frame.bytes o.found (has_layout o.region.frame.bytes o.found S.sound)).1
 
   large : 4096 ≤ L.chunk_bytes
   large = chunk_big L layout_is
@@ -99,63 +86,9 @@ module _ (o : Origin) (e : Engine) (S : Stands o e) (R : Rooms o e) (c : ℕ) (l
         own_put_of class (Get k) is = refl
         own_put_of class (Delete k) is = refl
 
-  -- what its log took is of the trace
-  group_is : group_of L c < groups_in L
-  group_is = group_low L layout_is c low
-
-  abbrev w : Group
-  w = e.group (group_of L c)
-
-  taken_lines : lines_in (w.took (member_of L c)) ≤ posted_lines L w
-  taken_lines = lines_among L.group (w.took (member_of L c)) w.posted (λ d. (places.owner w.place d.key, among d, cases d)) where
-    lawful : Lawful w
-    lawful = subst (λ (m : Geometry). Lawful (e.group (group_of m c))) S.layout (S.groups.lawful (group_of e.layout c) (subst (λ (m : Geometry). group_of m c < groups_in m) (sym S.layout) group_is))
-
-    place : w.place ≡ place_at L (group_of L c)
-    place = subst (λ (m : Geometry). (e.group (group_of m c)).place ≡ place_at m (group_of m c)) S.layout (S.groups.place (group_of e.layout c) (subst (λ (m : Geometry). group_of m c < groups_in m) (sym S.layout) group_is))
-
-    term_below : (k m : ℕ) (g : ℕ → ℕ) → m < k → g m ≤ sum_below k g
-    term_below zero m g lt = absurd (omega (arith, lt))
-    term_below (suc k) m g lt = ⊎_elim (λ at. let is = ap g at in omega (arith, is)) (λ ne. let rest = term_below k m g (omega (arith, lt, ne)) in omega (arith, rest)) (cases_eq m k)
-
-    among : (d : Entry) → times d (w.took (member_of L c)) ≤ times d (w.posted (places.owner w.place d.key))
-    among d =
-        let all = lawful.counts.taken d in
-        let one = term_below (members w.place) (member_of L c) (λ h. times d (w.took h)) (subst (λ (p : Place). member_of L c < members p) (sym place) (member_low L layout_is c)) in
-        omega (arith, all, one)
-
-    cases : (d : Entry) → (places.owner w.place d.key < L.group) ⊎ (w.posted (places.owner w.place d.key) ≡ [])
-    cases d = ⊎_elim (λ lt. inl lt) (λ ge. inr (R.strangers (group_of L c) (places.owner w.place d.key) ge)) (cases_lt (places.owner w.place d.key) L.group)
-
-  abbrev of_group : Request → ℕ
-  of_group x = cond {A = ℕ} (is_of_group L c (key_of x)) (lines_of L x) 0
-
-  trace_lines : 64 * out_lines L e (group_of L c) ≤ log_bytes L c trace
-  trace_lines =
-      let le = sum_up (λ (x : ℕ × Request). cond {A = ℕ} (key_group L (key_of x.1) == group_of L c && is_out e x) (lines_of L x.1) 0) (λ (x : ℕ × Request). of_group x.1) (enumerate_from 0 e.given) (λ x i. fewer (key_group L (key_of x.1) == group_of L c) (is_out e x) (lines_of L x.1)) in
-      let all = sum_numbered of_group 0 e.given in
-      let sixty = sum_times 64 of_group e.given in
-      let same = sum_same (λ x. 64 * of_group x) (λ x. cond {A = ℕ} (is_of_group L c (key_of x)) (64 * lines_of L x) 0) e.given (λ x. factor (is_of_group L c (key_of x)) (lines_of L x)) in
-      let split = sum_by-append (λ x. cond {A = ℕ} (is_of_group L c (key_of x)) (64 * lines_of L x) 0) e.given more in
-      omega (arith, le, all, sixty, same, split) where
-        fewer : (a b : Bool) (m : ℕ) → cond {A = ℕ} (a && b) m 0 ≤ cond {A = ℕ} a m 0
-        fewer true true m = omega arith
-        fewer true false m = omega arith
-        fewer false b m = omega arith
-
-        factor : (b : Bool) (m : ℕ) → 64 * cond {A = ℕ} b m 0 ≡ cond {A = ℕ} b (64 * m) 0
-        factor true m = refl
-        factor false m = omega arith
-
-        sum_same : (g h : Request → ℕ) (xs : List Request) → ((x : Request) → g x ≡ h x) → sum_by g xs ≡ sum_by h xs
-        sum_same g h xs is = (λ i. sum_by (λ x. is x i) xs)
-
-  pub not_ample : IsAmpleFor L o.found trace c → ⊥
-  not_ample ample =
-      let taken = taken_lines in
-      let posted = R.posted (group_of L c) group_is in
-      let bytes = trace_lines in
-      few_opened L H.opened (lines_in (w.took (member_of L c))) (e.stock c).lines (log_bytes L c trace) large (let filled = H.lines in omega (arith, filled)) H.small (omega (arith, taken, posted, bytes)) (opened_many ample lacks) where
+  pub not_ample : 64 * lines_in ((e.group (group_of L c)).took (member_of L c)) ≤ log_bytes L c trace → IsAmpleFor L o.found trace c → ⊥
+  not_ample within ample =
+      few_opened L H.opened (lines_in ((e.group (group_of L c)).took (member_of L c))) (e.stock c).lines (log_bytes L c trace) large (let filled = H.lines in omega (arith, filled)) H.small within (opened_many ample lacks) where
         opened_many : IsAmpleFor L o.found trace c → LacksRoom L (e.stock c) q → parts_of (log_bytes L c trace) (L.chunk_bytes - 576) + 2 ≤ H.opened
         opened_many ample (inl few) = let chunks = H.chunks in let cuts = all_few in omega (arith, ample, few, chunks, cuts)
         opened_many ample (inr none) = let chunks = H.chunks in let few = none.0 in let cuts = one_fewer none.1.class none.1.needs none.1.none in omega (arith, ample, few, chunks, cuts)

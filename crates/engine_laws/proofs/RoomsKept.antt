@@ -1,5 +1,5 @@
 -- The rooms after a move, at first, and after a request is given.
-use Rattle.std.proofs.Common.{◌≡◌, ⊎_elim, ℕ, zero, suc, ◌+◌, ◌<◌, ◌≤◌, ◌==◌, ◌&&◌, List, [], ◌∷◌, ◌++◌, map, length, refl, sym, ◌∙◌, ap, subst, arith, cond, Some, append_assoc}
+use Rattle.std.proofs.Common.{◌≡◌, ⊎_elim, ℕ, zero, suc, ◌+◌, ◌*◌, ◌<◌, ◌≤◌, ◌==◌, ◌&&◌, List, [], ◌∷◌, ◌++◌, map, length, refl, sym, ◌∙◌, ap, subst, arith, cond, Some, append_assoc}
 use Rattle.std.specs.Prelude.{option_map}
 use Rattle.std.specs.List.{count_by, sum_by, slice_get, enumerate_from}
 use Rattle.std.proofs.lemmas.Bool.{cases_eq, cases_lt, eq-eqb}
@@ -10,23 +10,25 @@ use Rattle.fs_model.specs.declared.model.Reply.TheVariants.{Full}
 use Rattle.fs_model.specs.Cells.{key_of}
 use Rattle.chunk_map.specs.declared.layout_sizes.TheConstants.{GREATEST_CLASS}
 use Rattle.chunk_map.specs.declared.layouts.Geometry.{Geometry}
-use Rattle.chunk_map.specs.Layouts.{layout_of, owner, numbers}
+use Rattle.chunk_map.specs.Layouts.{layout_of, owner, numbers, IsLayout}
 use Rattle.store_image.specs.Facts.{In}
-use Rattle.group_laws.specs.Updates.{sum_below}
-use Rattle.group_laws.specs.Regions.{key_group}
+use Rattle.store_image.proofs.SoundLaws.{has_layout}
+use Rattle.store_image.proofs.Places.{superblock_facts}
 use Rattle.group_laws.proofs.Images.{in_map}
-use Rattle.headline.specs.Ample.{lines_of, is_put_of, IsAmpleFor}
+use Rattle.headline.specs.Ample.{lines_of, log_bytes, is_put_of, IsAmpleFor}
 use Rattle.headline.specs.Limits.{IsAsked}
+use Rattle.engine_laws.specs.Parts.{Groups, group_of, member_of}
 use Rattle.engine_laws.specs.FreeStock.{LacksRoom}
-use Rattle.engine_laws.specs.WorkerMoves.{Fixed, asked, replied, fixed_of}
+use Rattle.engine_laws.specs.WorkerMoves.{Fixed, asked, replied, fixed_of, requests_for}
 use Rattle.engine_laws.specs.Engine.{Engine, Answer}
 use Rattle.engine_laws.specs.Moves.{Moves}
 use Rattle.engine_laws.specs.Stands.{Origin, Stands, given_to, opening}
-use Rattle.engine_laws.specs.Spending.{SpendsRoom}
+use Rattle.engine_laws.specs.Spending.{lines_in, SpendsRoom}
 use Rattle.engine_laws.specs.Rooms.{is_begun, is_out, begun_puts, out_lines, HasRoom, Rooms}
 use Rattle.engine_laws.proofs.Numbers.{all_in, filter_in}
 use Rattle.engine_laws.proofs.RoomSums.{sum_cons, in_enumerated}
-use Rattle.engine_laws.proofs.RoomMoves.{fixed_there, fresh, own_room, other_room, posted_there, strangers_there}
+use Rattle.engine_laws.proofs.GroupLines.{out_within, taken_within}
+use Rattle.engine_laws.proofs.RoomMoves.{Fresh, fixed_there, fresh, own_lines, own_moves, spends, mine_room, other_room, posted_there, strangers_there}
 use Rattle.engine_laws.proofs.RoomNeeds.{not_ample}
 
 -- All of it after a move.
@@ -37,14 +39,26 @@ module _ (o : Origin) (e f : Engine) (c : ℕ) (accepted : List (ℕ × Request)
   low : c < L.cores
   low = subst (λ (m : Geometry). c < m.cores) S.layout M.core
 
+  layout_is : IsLayout L
+  layout_is = (superblock_facts o.region.frame.bytes o.found (has_layout o.region.frame.bytes o.found S.sound)).1
+
+  fresh_there : (y : ℕ × Request) → owner L (key_of y.1) ≡ c → In y (e.waits (key_of y.1) ++ requests_for (key_of y.1) accepted) → Fresh L e f c accepted fixed (own_lines o e f c accepted fixed S M P R) (own_moves o e f c accepted fixed S M P R) (spends o e f c accepted fixed S M P R) y
+  fresh_there y own i = fresh L e f c accepted fixed (own_lines o e f c accepted fixed S M P R) (own_moves o e f c accepted fixed S M P R) (spends o e f c accepted fixed S M P R) y own i
+
+  groups : Groups L e.group
+  groups = subst (λ (m : Geometry). Groups m e.group) S.layout S.groups
+
+  took_few : (more : List Request) → 64 * lines_in ((e.group (group_of L c)).took (member_of L c)) ≤ log_bytes L c (e.given ++ more)
+  took_few more = taken_within L layout_is e.group groups (λ g m there high. R.strangers g m high) (e.given ++ more) (λ d there. (let is = R.posted d there in let all = out_within L e d more in omega (arith, is, all))) c low
+
   full_now : (x : Fixed) → In x fixed → x.reply ≡ Full → (more : List Request) → IsAmpleFor L o.found (e.given ++ more) c → ⊥
   full_now x i is more =
       let r = P.runs x i is in
       let own = M.own_answers x i in
       let k : ℕ = key_of x.request in
-      let F = fresh o e f c accepted fixed S M P R (asked x) own r.1 in
+      let F = fresh_there (asked x) (subst (λ (m : Geometry). owner m k ≡ c) S.layout own) r.1 in
       let lacks = all_in (λ (y : Request × Reply). y.1 ≡ Full → LacksRoom e.layout (e.stock c) y.0) (map replied (fixed_of k fixed)) (replied x) (M.refuses k own).full (in_map replied x (fixed_of k fixed) (filter_in (λ (z : Fixed). key_of z.request == k) fixed x i (eq-eqb k k refl))) is in
-      not_ample o e S R c low (R.room c low r.0) x.request x.number (subst (λ (m : Geometry). owner m k ≡ c) S.layout own) F.given F.begun (subst (λ (m : Geometry). LacksRoom m (e.stock c) x.request) S.layout lacks) more
+      not_ample o e layout_is c (R.room c low r.0) x.request x.number (subst (λ (m : Geometry). owner m k ≡ c) S.layout own) F.given F.begun (subst (λ (m : Geometry). LacksRoom m (e.stock c) x.request) S.layout lacks) more (took_few more)
 
   full_there : (n k : ℕ) (a : Answer) → f.answer n ≡ Some a → a.reply ≡ Full → IsAsked f.given n k → (more : List Request) → IsAmpleFor L o.found (f.given ++ more) (owner L k) → ⊥
   full_there n k a is full asked_n more ample = ⊎_elim
@@ -57,7 +71,7 @@ module _ (o : Origin) (e f : Engine) (c : ℕ) (accepted : List (ℕ × Request)
       let reply : x.reply ≡ Full = ap (λ (y : Answer). y.reply) same ∙ full in
       let own = M.own_answers x i in
       let r = P.runs x i reply in
-      let F = fresh o e f c accepted fixed S M P R (asked x) own r.1 in
+      let F = fresh_there (asked x) (subst (λ (m : Geometry). owner m (key_of x.request) ≡ c) S.layout own) r.1 in
       let at = in_enumerated 0 e.given (asked x) F.given in
       let place : at.0 ≡ n = (let p = at.1 in omega (arith, p, number)) in
       let request : slice_get e.given n ≡ Some x.request = ap (slice_get e.given) (sym place) ∙ at.2 in
@@ -70,7 +84,7 @@ module _ (o : Origin) (e f : Engine) (c : ℕ) (accepted : List (ℕ × Request)
   pub rooms_on : Rooms o f
   rooms_on = record {
     room = λ d lower runs. ⊎_elim
-        (λ same. subst (λ (x : ℕ). HasRoom L o f x) (sym same) (own_room o e f c accepted fixed S M P R low (sym (ap f.stopped same) ∙ runs)))
+        (λ same. subst (λ (x : ℕ). HasRoom L o f x) (sym same) (mine_room o e f c accepted fixed S M P R low (sym (ap f.stopped same) ∙ runs)))
         (λ ne. other_room o e f c accepted fixed S M P R d lower ne runs)
         (cases_eq d c);
     posted = posted_there o e f c accepted fixed S M P R;
@@ -91,17 +105,13 @@ rooms_opened o = record {
     last = λ k some. absurd (some refl);
     class = λ k some. absurd (some refl);
   };
-  posted = λ g low. (let none = none_posted (layout_of o.found).group in omega (arith, none));
+  posted = λ c low. omega arith;
   strangers = λ g m high. refl;
   full = λ n k a is. absurd (cc is);
 } where
   none_cut : (xs : List ℕ) → sum_by (λ (k : ℕ). 0) xs ≡ 0
   none_cut [] = refl
   none_cut (x ∷ xs) = let rest = none_cut xs in let a = sum_cons (λ (k : ℕ). 0) x xs in omega (arith, rest, a)
-
-  none_posted : (n : ℕ) → sum_below n (λ m. 0) ≡ 0
-  none_posted zero = refl
-  none_posted (suc n) = let rest = none_posted n in omega (arith, rest)
 
 -- A request is given.
 module _ (o : Origin) (e : Engine) (q : Request) (S : Stands o e) (R : Rooms o e) where
@@ -121,10 +131,10 @@ module _ (o : Origin) (e : Engine) (q : Request) (S : Stands o e) (R : Rooms o e
       let split = sum_by-append (λ (x : ℕ × Request). cond {A = ℕ} (is_put_of N c class x.1 && is_begun e x) 1 0) (enumerate_from 0 e.given) ((0 + length e.given, q) ∷ []) in
       omega (arith, at, split)
 
-  more_out : (h : ℕ) → out_lines N e h ≤ out_lines N g h
-  more_out h =
-      let at = ap (λ (ys : List (ℕ × Request)). sum_by (λ (x : ℕ × Request). cond {A = ℕ} (key_group N (key_of x.1) == h && is_out e x) (lines_of N x.1) 0) ys) (enumerated_more 0 e.given) in
-      let split = sum_by-append (λ (x : ℕ × Request). cond {A = ℕ} (key_group N (key_of x.1) == h && is_out e x) (lines_of N x.1) 0) (enumerate_from 0 e.given) ((0 + length e.given, q) ∷ []) in
+  more_out : (d : ℕ) → out_lines N e d ≤ out_lines N g d
+  more_out d =
+      let at = ap (λ (ys : List (ℕ × Request)). sum_by (λ (x : ℕ × Request). cond {A = ℕ} (owner N (key_of x.1) == d && is_out e x) (lines_of N x.1) 0) ys) (enumerated_more 0 e.given) in
+      let split = sum_by-append (λ (x : ℕ × Request). cond {A = ℕ} (owner N (key_of x.1) == d && is_out e x) (lines_of N x.1) 0) (enumerate_from 0 e.given) ((0 + length e.given, q) ∷ []) in
       omega (arith, at, split)
 
   -- who was answered was asked before
@@ -150,7 +160,7 @@ module _ (o : Origin) (e : Engine) (q : Request) (S : Stands o e) (R : Rooms o e
       last = λ k some. (let was = H.last k some in let up = more_begun c k in omega (arith, was, up));
       class = H.class;
     };
-    posted = λ h low. (let was = R.posted h low in let up = more_out h in omega (arith, was, up));
+    posted = λ d low. (let was = R.posted d low in let up = more_out d in omega (arith, was, up));
     strangers = R.strangers;
     full = λ n k a is full asked_n more ample. R.full n k a is full (asked_before n k a is asked_n) (q ∷ more) (subst (λ (xs : List Request). IsAmpleFor N o.found xs (owner N k)) (append_assoc e.given (q ∷ []) more) ample);
   }

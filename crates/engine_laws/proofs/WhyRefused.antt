@@ -18,20 +18,20 @@ use Rattle.chunk_map.specs.Layouts.{layout_of, owner}
 use Rattle.store_image.specs.Facts.{In}
 use Rattle.store_image.proofs.SoundFacts.{in_either, in_front}
 use Rattle.group_laws.proofs.Images.{in_map, of_map}
-use Rattle.headline.specs.Limits.{IsAsked, may_change, version_of, changes_asked, is_too_long}
+use Rattle.headline.specs.Limits.{IsAsked, may_change, version_of, changes_asked}
 use Rattle.engine_laws.specs.RefusalCauses.{raised, raised_by, HasCause, HaveCauses}
 use Rattle.engine_laws.specs.WorkerMoves.{requests_for}
 use Rattle.engine_laws.specs.Engine.{Engine, Answer, line}
-use Rattle.engine_laws.specs.Keys.{Served, pairs}
+use Rattle.engine_laws.specs.Keys.{Served, served_as, pairs}
 use Rattle.engine_laws.specs.Stands.{Origin, start_of, Stands}
 use Rattle.engine_laws.specs.Causes.{Causes}
 use Rattle.engine_laws.proofs.Numbers.{numbered, all_in, in_all, in_requests}
-use Rattle.engine_laws.proofs.Promises.{requests_are, waits_none, in_from}
+use Rattle.engine_laws.proofs.Promises.{stands_now, requests_are, waits_none, in_from}
 
 count_cons : {X : Type 0} (p : X → Bool) (x : X) (xs : List X) → count_by p (x ∷ xs) ≡ cond (p x) 1 0 + count_by p xs
 count_cons p x xs = sum_by-cons (λ y. cond (p y) 1 0) x xs
 
-abbrev asked_in : Served → ℕ × Request
+abbrev pub asked_in : Served → ℕ × Request
 asked_in x = (x.number, x.request)
 
 -- only a change is finished
@@ -50,24 +50,30 @@ finish_changes (Get k) c false replies.VersionsSpent (inr bad) f = absurd (cc f)
 finish_changes (Get k) c false replies.TooLong (inr bad) f = absurd (cc f)
 finish_changes (Get k) c false replies.Stopped (inr bad) f = absurd (cc f)
 
+-- only changes are finished
+pub Changes : Request × Reply → Type 0
+Changes x = is_finish x.1 ≡ true → may_change (key_of x.0) x.0 ≡ true
+
+pub lawful_changes : (c : Option (List ℕ)) (s : Bool) (xs : List (Request × Reply)) → IsLawfulFor c s xs → AllByRecursion Changes xs
+unfolding Changes
+lawful_changes c s [] h = tt
+lawful_changes c s (x ∷ xs) h = (λ f. finish_changes x.0 c s x.1 h.0 f, lawful_changes (cell_left x.0 x.1 c) (s || is_stopped x.1) xs h.1)
+
 -- the last version rises by the changes at most
-rises_one : (k : ℕ) (x : Served) (c : Option (List ℕ)) (s : Bool) (a : ℕ) → MayReply x.request c s x.answer.reply → key_of x.request ≡ k → raised a x.answer.reply ≤ a + cond {A = ℕ} (may_change k x.request) 1 0
-rises_one k x c s a m key = by (is_finish x.answer.reply) refl where
+rises_one : (k : ℕ) (x : Served) (a : ℕ) → (is_finish x.answer.reply ≡ true → may_change (key_of x.request) x.request ≡ true) → key_of x.request ≡ k → raised a x.answer.reply ≤ a + cond {A = ℕ} (may_change k x.request) 1 0
+rises_one k x a m key = by (is_finish x.answer.reply) refl where
   by : (b : Bool) → is_finish x.answer.reply ≡ b → cond {A = ℕ} b (a + 1) a ≤ a + cond {A = ℕ} (may_change k x.request) 1 0
-  by true f = let one = ap (λ t. cond {A = ℕ} t 1 0) (ap (λ j. may_change j x.request) (sym key) ∙ finish_changes x.request c s x.answer.reply m f) in omega (arith, one)
+  by true f = let one = ap (λ t. cond {A = ℕ} t 1 0) (ap (λ j. may_change j x.request) (sym key) ∙ m f) in omega (arith, one)
   by false f = omega arith
 
-rises : (k : ℕ) (xs : List Served) (c : Option (List ℕ)) (s : Bool) (a : ℕ) → IsLawfulFor c s (pairs xs) → AllByRecursion (λ (x : Served). key_of x.request ≡ k) xs → raised_by a (pairs xs) ≤ a + count_by (λ (y : ℕ × Request). may_change k y.1) (map asked_in xs)
-rises k [] c s a lawful keys = omega arith
-rises k (x ∷ xs) c s a lawful keys =
-    let rest = rises k xs (cell_left x.request x.answer.reply c) (s || is_stopped x.answer.reply) (raised a x.answer.reply) lawful.1 keys.1 in
+rises : (k : ℕ) (xs : List Served) (a : ℕ) → AllByRecursion Changes (pairs xs) → AllByRecursion (λ (x : Served). key_of x.request ≡ k) xs → raised_by a (pairs xs) ≤ a + count_by (λ (y : ℕ × Request). may_change k y.1) (map asked_in xs)
+unfolding Changes
+rises k [] a changes keys = omega arith
+rises k (x ∷ xs) a changes keys =
+    let rest = rises k xs (raised a x.answer.reply) changes.1 keys.1 in
     let count = count_cons (λ (y : ℕ × Request). may_change k y.1) (asked_in x) (map asked_in xs) in
-    let one = rises_one k x c s a lawful.0 keys.0 in
+    let one = rises_one k x a changes.0 keys.0 in
     omega (arith, rest, count, one)
-
-lawful_front : (xs ys : List Served) (c : Option (List ℕ)) (s : Bool) → IsLawfulFor c s (pairs (xs ++ ys)) → IsLawfulFor c s (pairs xs)
-lawful_front [] ys c s h = tt
-lawful_front (x ∷ xs) ys c s h = (h.0, lawful_front xs ys (cell_left x.request x.answer.reply c) (s || is_stopped x.answer.reply) h.1)
 
 all_front : {X : Type 0} (P : X → Type 0) (xs ys : List X) → AllByRecursion P (xs ++ ys) → AllByRecursion P xs
 all_front P [] ys h = tt
@@ -110,20 +116,32 @@ before k m (x ∷ xs) front rest n q e = by (key_of x == k) front e (λ ys t. be
       let all = count_cons (may_change k) x (take r.0 xs) in
       (suc r.0, omega (arith, at), omega (arith, more, all))
 
-asked_is : (o : Option Request) (k : ℕ) → option_map key_of o ≡ Some k → (q : Request) × (o ≡ Some q) × (key_of q ≡ k)
+pub asked_is : (o : Option Request) (k : ℕ) → option_map key_of o ≡ Some k → (q : Request) × (o ≡ Some q) × (key_of q ≡ k)
 asked_is None k e = absurd (cc e)
 asked_is (Some q) k e = (q, refl, cc e)
 
--- An answered request, with what was answered of its key before it.
-pub record Asked (o : Origin) (e : Engine) (S : Stands o e) (more : List Request) (n : ℕ) (q : Request) (a : Answer) : Type 0 where
-  pub front : List Served
-  pub rest : List Served
-  pub at : Served
-  pub served : (S.keys (key_of q)).served ≡ front ++ at ∷ rest
-  pub number : at.number ≡ n
-  pub request : at.request ≡ q
-  pub answer : at.answer ≡ a
-  pub changes : count_by (λ (y : ℕ × Request). may_change (key_of q) y.1) (map asked_in front) ≤ changes_asked (key_of q) (take n (e.given ++ more))
+-- The answers of one key, from its last version on: they are for the first of its requests in a trace. Each refusal has its cause by the changes that the trace has of the key before it.
+module _ (l : Geometry) (start : ℕ) (k : ℕ) (trace : List Request) (served : List Served) (waits : List (ℕ × Request)) (split : requests_of k trace ≡ map asked_in served ++ waits)
+    (changes : AllByRecursion Changes (pairs served)) (caused : HaveCauses l start (pairs served)) (x : Served) (there : In x served) where
+  own : (y : Served) → In y served → key_of y.request ≡ k
+  own y i = (in_requests k trace (asked_in y) (subst (λ (ys : List (ℕ × Request)). In (asked_in y) ys) (sym split) (in_front (asked_in y) (map asked_in served) waits (in_map asked_in y served i)))).1
+
+  pub cause_served : HasCause l (start + changes_asked k (take x.number trace)) x.request x.answer.reply
+  cause_served =
+      let s = split_at x served there in
+      let whole : requests_of k trace ≡ map asked_in s.0 ++ asked_in x ∷ (map asked_in s.1 ++ waits) =
+      split ∙ ap (λ ys. map asked_in ys ++ waits) s.2 ∙ ap (λ ys. ys ++ waits) (map-append asked_in s.0 (x ∷ s.1)) ∙ append_assoc (map asked_in s.0) (asked_in x ∷ map asked_in s.1) waits in
+      let b = before k 0 trace (map asked_in s.0) (map asked_in s.1 ++ waits) x.number x.request whole in
+      let at : b.0 ≡ x.number = (let i = b.1 in omega (arith, i)) in
+      let few = subst (λ (m : ℕ). count_by (λ (y : ℕ × Request). may_change k y.1) (map asked_in s.0) ≤ changes_asked k (take m trace)) at b.2 in
+      let C = cause_at l start s.0 s.1 x (subst (λ (ys : List Served). HaveCauses l start (pairs ys)) s.2 caused) in
+      let front = all_front Changes (pairs s.0) (pairs (x ∷ s.1)) (subst (AllByRecursion Changes) (ap pairs s.2 ∙ map-append served_as s.0 (x ∷ s.1)) changes) in
+      let keys = all_front (λ (y : Served). key_of y.request ≡ k) s.0 (x ∷ s.1) (subst (λ (ys : List Served). AllByRecursion (λ (y : Served). key_of y.request ≡ k) ys) s.2 (in_all (λ (y : Served). key_of y.request ≡ k) served own)) in
+      let up = rises k s.0 start front keys in
+      record {
+        spent = λ r. (let most = C.spent r in omega (arith, up, few, most));
+        long = C.long;
+      }
 
 module _ (o : Origin) (e : Engine) (S : Stands o e) (more : List Request) (n : ℕ) (q : Request) (a : Answer) (is : slice_get (e.given ++ more) n ≡ Some q) (ans : e.answer n ≡ Some a) where
   abbrev k : ℕ
@@ -140,54 +158,27 @@ module _ (o : Origin) (e : Engine) (S : Stands o e) (more : List Request) (n : �
   asked_there = subst (λ (m : ℕ). In (m, q) (requests_of k (e.given ++ more))) (let z : 0 + n ≡ n = omega arith in z) (in_from 0 (e.given ++ more) n q is)
 
   in_served : In (n, q) (map asked_in served)
-  in_served = elim (in_either (n, q) (map asked_in served) _ (subst (λ (l : List (ℕ × Request)). In (n, q) l) (requests_are o e S more k) asked_there)) [
+  in_served = elim (in_either (n, q) (map asked_in served) _ (subst (λ (l : List (ℕ × Request)). In (n, q) l) (requests_are o e (stands_now o e S) more k) asked_there)) [
     | inl i ↦ i
-    | inr j ↦ absurd (let none = all_in (λ (x : ℕ × Request). e.answer x.0 ≡ None) _ (n, q) (waits_none o e S more k) j in cc (none, ans))
+    | inr j ↦ absurd (let none = all_in (λ (x : ℕ × Request). e.answer x.0 ≡ None) _ (n, q) (waits_none o e (stands_now o e S) more k) j in cc (none, ans))
   ]
-
-  found : (x : Served) × In x served × (asked_in x ≡ (n, q))
-  found = let r = of_map asked_in (n, q) served in_served in (r.0, r.1, sym r.2)
-
-  pub asked_at : Asked o e S more n q a
-  asked_at =
-      let x = found in
-      let s = split_at x.0 served x.1 in
-      let number : x.0.number ≡ n = ap (λ (y : ℕ × Request). y.0) x.2 in
-      let request : x.0.request ≡ q = ap (λ (y : ℕ × Request). y.1) x.2 in
-      let whole : requests_of k (e.given ++ more) ≡ map asked_in s.0 ++ (n, q) ∷ (map asked_in s.1 ++ waits) =
-      requests_are o e S more k ∙ ap (λ l. map asked_in l ++ waits) s.2 ∙ ap (λ l. l ++ waits) (map-append asked_in s.0 (x.0 ∷ s.1) ∙ ap (λ y. map asked_in s.0 ++ y ∷ map asked_in s.1) x.2) ∙ append_assoc (map asked_in s.0) ((n, q) ∷ map asked_in s.1) waits in
-      let b = before k 0 (e.given ++ more) (map asked_in s.0) (map asked_in s.1 ++ waits) n q whole in
-      record {
-        front = s.0;
-        rest = s.1;
-        at = x.0;
-        served = s.2;
-        number = number;
-        request = request;
-        answer = (let here = all_in (λ (y : Served). e.answer y.number ≡ Some y.answer) served x.0 (S.keys k).answers x.1 in let both : Some x.0.answer ≡ Some a = sym here ∙ ap e.answer number ∙ ans in cc both);
-        changes = subst (λ (m : ℕ). count_by (λ (y : ℕ × Request). may_change k y.1) (map asked_in s.0) ≤ changes_asked k (take m (e.given ++ more))) (let i = b.1 in omega (arith, i)) b.2;
-      }
 
   -- its cause
   pub cause_of : HasCause (layout_of o.found) (version_of o.found k + changes_asked k (take n (e.given ++ more))) q a.reply
   cause_of =
-      let A = asked_at in
-      let start = version_of o.found k in
-      let C = cause_at (layout_of o.found) start A.front A.rest A.at (subst (λ (xs : List Served). HaveCauses (layout_of o.found) start (pairs xs)) A.served (S.causes k)) in
-      let lawful = lawful_front A.front (A.at ∷ A.rest) (start_of o k) false (subst (λ (xs : List Served). IsLawfulFor (start_of o k) false (pairs xs)) A.served (S.keys k).history.lawful) in
-      let keys = all_front (λ (x : Served). key_of x.request ≡ k) A.front (A.at ∷ A.rest) (subst (λ (xs : List Served). AllByRecursion (λ (x : Served). key_of x.request ≡ k) xs) A.served (in_all (λ (x : Served). key_of x.request ≡ k) served (λ x i. own x i))) in
-      let up = rises k A.front (start_of o k) false start lawful keys in
-      let few = A.changes in
-      let reply : A.at.answer.reply ≡ a.reply = ap (λ (y : Answer). y.reply) A.answer in
-      record {
-        spent = λ r. (let most = C.spent (reply ∙ r) in omega (arith, up, few, most));
-        long = λ r. subst (λ (x : Request). is_too_long (layout_of o.found) x ≡ true) A.request (C.long (reply ∙ r));
-      } where
-        own : (x : Served) → In x served → key_of x.request ≡ k
-        own x i = (in_requests k (e.given ++ more) (asked_in x) (subst (λ (l : List (ℕ × Request)). In (asked_in x) l) (sym (requests_are o e S more k)) (in_front (asked_in x) (map asked_in served) _ (in_map asked_in x served i)))).1
+      let x = of_map asked_in (n, q) served in_served in
+      let number : x.0.number ≡ n = sym (ap (λ (y : ℕ × Request). y.0) x.2) in
+      let request : x.0.request ≡ q = sym (ap (λ (y : ℕ × Request). y.1) x.2) in
+      let here = all_in (λ (y : Served). e.answer y.number ≡ Some y.answer) served x.0 (S.keys k).answers x.1 in
+      let both : Some x.0.answer ≡ Some a = sym here ∙ ap e.answer number ∙ ans in
+      let answer : x.0.answer ≡ a = cc both in
+      let C = cause_served (layout_of o.found) (version_of o.found k) k (e.given ++ more) served waits (requests_are o e (stands_now o e S) more k) (lawful_changes (start_of o k) false (pairs served) (S.keys k).history.lawful) (S.causes k) x.0 x.1 in
+      subst (λ (b : Answer). HasCause (layout_of o.found) (version_of o.found k + changes_asked k (take n (e.given ++ more))) q b.reply) answer
+      (subst (λ (y : Request). HasCause (layout_of o.found) (version_of o.found k + changes_asked k (take n (e.given ++ more))) y x.0.answer.reply) request
+      (subst (λ (m : ℕ). HasCause (layout_of o.found) (version_of o.found k + changes_asked k (take m (e.given ++ more))) x.0.request x.0.answer.reply) number C))
 
 -- who was answered was given
-given_front : (xs more : List Request) (i : ℕ) → i < length xs → slice_get (xs ++ more) i ≡ slice_get xs i
+pub given_front : (xs more : List Request) (i : ℕ) → i < length xs → slice_get (xs ++ more) i ≡ slice_get xs i
 given_front [] more i lt = absurd (omega (arith, lt))
 given_front (x ∷ xs) more zero lt = refl
 given_front (x ∷ xs) more (suc i) lt = given_front xs more i (omega (arith, lt))

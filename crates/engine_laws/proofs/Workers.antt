@@ -141,7 +141,7 @@ module _ (e f : Engine) (c : ℕ) (accepted : List (ℕ × Request)) (fixed : Li
     stops = λ is. elim (W.stops (T.stopped ∙ is)) [
       | inl before ↦ inl (sym S.stopped ∙ before)
       | inr (inl rose) ↦ inr (inl rose)
-      | inr (inr failed) ↦ inr (inr failed)
+      | inr (inr failed) ↦ inr (inr failed.1)
     ];
     breaks = λ is. sym T.stopped ∙ W.breaks (ap (λ (y : View). y.broken) view' ∙ is);
     stays_stopped = λ is. sym T.stopped ∙ W.stays_stopped (S.stopped ∙ is);

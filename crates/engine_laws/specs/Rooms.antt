@@ -10,9 +10,6 @@ use Rattle.chunk_map.specs.Chunks.{blocks_in}
 use Rattle.chunk_map.specs.Layouts.{layout_of, owner, numbers, payload_lines, is_class}
 use Rattle.headline.specs.Ample.{lines_of, is_put_of, IsAmpleFor}
 use Rattle.headline.specs.Limits.{IsAsked}
-use Rattle.group_laws.specs.Updates.{sum_below}
-use Rattle.group_laws.specs.State.{Group}
-use Rattle.group_laws.specs.Regions.{groups_in, key_group}
 use Rattle.engine_laws.specs.Parts.{group_of, member_of}
 use Rattle.engine_laws.specs.WorkerMoves.{Placed}
 use Rattle.engine_laws.specs.Engine.{Engine, Answer}
@@ -39,12 +36,9 @@ is_out e x = is_some (e.answer x.0) || is_posted_as x.0 (e.place (key_of x.1))
 abbrev pub begun_puts : Geometry → Engine → ℕ → ℕ → ℕ
 begun_puts l e c class = count_by (λ x. is_put_of l c class x.1 && is_begun e x) (enumerate_from 0 e.given)
 
--- the lines that the changes of a group need which were posted, and those of the entries that it posted
+-- the lines that the changes of core c need which were posted
 abbrev pub out_lines : Geometry → Engine → ℕ → ℕ
-out_lines l e g = sum_by (λ x. if key_group l (key_of x.1) == g && is_out e x then lines_of l x.1 else 0) (enumerate_from 0 e.given)
-
-abbrev pub posted_lines : Geometry → Group → ℕ
-posted_lines l w = sum_below l.group (λ m. lines_in (w.posted m))
+out_lines l e c = sum_by (λ x. if owner l (key_of x.1) == c && is_out e x then lines_of l x.1 else 0) (enumerate_from 0 e.given)
 
 -- Since the beginning core c opened so many chunks for its log, and cut so many for each class.
 pub record HasRoom (l : Geometry) (o : Origin) (e : Engine) (c : ℕ) : Type 0 where
@@ -61,7 +55,8 @@ pub record HasRoom (l : Geometry) (o : Origin) (e : Engine) (c : ℕ) : Type 0 w
 
 pub record Rooms (o : Origin) (e : Engine) : Type 0 where
   pub room : (c : ℕ) → c < (layout_of o.found).cores → e.stopped c ≡ false → HasRoom (layout_of o.found) o e c
-  pub posted : (g : ℕ) → g < groups_in (layout_of o.found) → posted_lines (layout_of o.found) (e.group g) ≤ out_lines (layout_of o.found) e g
+  -- the entries that a core posted take no more lines than its changes that are out
+  pub posted : (c : ℕ) → c < (layout_of o.found).cores → lines_in ((e.group (group_of (layout_of o.found) c)).posted (member_of (layout_of o.found) c)) ≤ out_lines (layout_of o.found) e c
   pub strangers : (g m : ℕ) → (layout_of o.found).group ≤ m → (e.group g).posted m ≡ []
   -- a change is refused for want of room only where the input is not ample for the part of its key's owner
   pub full : (n k : ℕ) (a : Answer) → e.answer n ≡ Some a → a.reply ≡ Full → IsAsked e.given n k → (more : List Request)

@@ -47,6 +47,19 @@ pub record Stands (o : Origin) (e : Engine) : Type 0 where
   pub stopped : (c : ℕ) → c < e.layout.cores → e.stopped c ≡ true → Rose o.region.faults e.region.faults
   pub broken : (c : ℕ) → c < e.layout.cores → (e.group (group_of e.layout c)).broken (member_of e.layout c) ≡ true → e.stopped c ≡ true
 
+-- What holds at one moment, however the region came there: each group is lawful, each part licensed, and each key where its answers led it. At each told moment since the origin each image is sound and shows a prefix.
+pub record StandsNow (o : Origin) (e : Engine) : Type 0 where
+  pub sound : IsSound o.region.frame.bytes o.found
+  pub first : o.region.frame.first ≡ 0
+  pub words : o.region.frame.words ≡ o.region.frame.bytes / 8
+  pub layout : e.layout ≡ layout_of o.found
+  pub groups : Groups e.layout e.group
+  pub superblock : IsTelling e.region → HasSuperblock o.found (cell_now e.region)
+  pub licensed : IsTelling e.region → AllLicensed e.layout e.group (cell_now e.region)
+  pub keys : (k : ℕ) → KeyStands (start_of o k) e k
+  pub unasked : (n : ℕ) → length e.given ≤ n → e.answer n ≡ None
+  pub crash : (t : ℕ) → IsTold e.region t → o.region.stamp ≤ t → (image : ℕ → ℕ) → MayLeave o.region.frame (e.region.cells t) image → ShowsPrefix o e keys t image
+
 -- A request is given to its owner.
 abbrev pub given_to : Engine → Request → Engine
 given_to e q = record e { given = e.given ++ q ∷ []; backlog = change e.backlog (owner e.layout (key_of q)) (λ xs. xs ++ (length e.given, q) ∷ []) }

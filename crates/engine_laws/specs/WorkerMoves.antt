@@ -119,6 +119,10 @@ pub record SpendsIn (p : places.Place) (m : ℕ) (v u : View) (w x : Hands) (acc
   pub posts : (u.posted ≡ v.posted) ⊎ PostsIn p m v u w x
   pub spends : x.stopped ≡ false → Spends p.layout v.took v.flying u.took u.flying w.stock x.stock begun
 
+-- one of the member's own changes came back as failed
+abbrev pub HasDoubt : places.Place → ℕ → View → Type 0
+HasDoubt p m v = (k : ℕ) × (d : Entry) × (places.owner p k ≡ m) × (v.pending k ≡ Some (record { entry = d; slot = None }))
+
 -- One call of the worker of member m: of the region from s to t, of the group's state where it is told, of the view from v to u, and of what it holds.
 pub record WorkerMoves (p : places.Place) (m : ℕ) (s t : State) (before after : Option Group) (v u : View) (w x : Hands) (accepted : List (ℕ × Request)) (fixed : List Fixed) : Type 0 where
   pub outside : During s t (KeepsOutside (cell_now s) (part_at p m) (part_end p m))
@@ -131,6 +135,7 @@ pub record WorkerMoves (p : places.Place) (m : ℕ) (s t : State) (before after 
   pub holds : (k : ℕ) → places.owner p k ≡ m → HoldsKey u x k
   pub refuses : (k : ℕ) → places.owner p k ≡ m → Refuses p.layout w.stock (v.last k) (u.last k) (map replied (fixed_of k fixed))
   pub spends : SpendsIn p m v u w x accepted fixed
-  pub stops : x.stopped ≡ true → (w.stopped ≡ true) ⊎ (Rose s.faults t.faults ⊎ IfSome before (λ a. (n : ℕ) × (d : Entry) × (a.slot m n ≡ Failed d)))
+  -- it stops where a call of the region failed in this call, or an own change came back as failed
+  pub stops : x.stopped ≡ true → (w.stopped ≡ true) ⊎ (Rose s.faults t.faults ⊎ (HasDoubt p m u × IfSome before (λ a. (n : ℕ) × (d : Entry) × (a.slot m n ≡ Failed d))))
   pub breaks : u.broken ≡ true → x.stopped ≡ true
   pub stays_stopped : w.stopped ≡ true → x.stopped ≡ true

@@ -7,7 +7,7 @@ ghost use Rattle.fs_model.specs.Lawful.{IsLawful, Fits};
 ghost use Rattle.fs_model.specs.Changes.{finished_by, cell_after_all};
 ghost use Rattle.fs_text.specs.declared.line.Line.{Line};
 ghost use Rattle.pm_region.specs.Cell.{Cell};
-ghost use Rattle.pm_region.specs.State.{State, Frame, MayLeave};
+ghost use Rattle.pm_region.specs.State.{State, Frame, MayLeave, Rose};
 ghost use Rattle.chunk_map.specs.declared.layouts.Geometry.{Geometry};
 ghost use Rattle.chunk_map.specs.Layouts.{layout_of, superblock_rule};
 ghost use Rattle.group_laws.specs.declared.types.Seen.{Seen};
@@ -20,9 +20,10 @@ ghost use Rattle.engine_laws.specs.WorkerMoves.{Placed, Hands, Fixed, replied, A
 ghost use Rattle.engine_laws.specs.Beginning.{BeginsKey};
 ghost use Rattle.engine_laws.specs.Engine.{Engine, Answer};
 ghost use Rattle.engine_laws.specs.Moves.{Moves};
-ghost use Rattle.engine_laws.specs.Stands.{Origin, Stands, given_to, opening};
+ghost use Rattle.engine_laws.specs.Causes.{Causes};
+ghost use Rattle.engine_laws.specs.Stands.{Origin, Stands, StandsNow, given_to, opening};
 ghost use Rattle.engine_laws.specs.Reports.{replies_from};
-ghost use Rattle.engine_laws.specs.Promises.{IsOrigin, Promised, IsDone, AnyMove, AnyTurn};
+ghost use Rattle.engine_laws.specs.Promises.{IsOrigin, HasStopped, Promised, IsDone, AnyMove, AnyTurn};
 ghost use Rattle.engine_laws.specs.Ran.{Ran, asked_in};
 ghost use Rattle.engine_laws.specs.Ceasing.{IsResting, Halts, AllRest, HasCeased};
 ghost use Rattle.engine_laws.specs.Workers.{Sits, IsLoad};
@@ -93,19 +94,25 @@ pub fn every_state()
     ensures { (o : Origin) (e : Engine) → Stands o e → Promised o e }
 {}
 
+/// The same of one moment, however the region came there, where it is known why requests were refused and cores stopped.
+pub fn every_moment()
+    ensures { (o : Origin) (e : Engine) → StandsNow o e → Causes o e
+        → (HasStopped e → Rose o.region.faults e.region.faults) → Promised o e }
+{}
+
 /// Whatever the lines and the moves: the promises hold, and the requests of the lines were given.
 pub fn every_replay()
     ensures promised { (o : Origin) (cores : ℕ) (lines : List Line) (e : Engine)
-        → IsOrigin o → Ran AnyMove cores lines (opening o) e → Promised o e }
+        → IsOrigin o → Ran AnyMove given_to cores lines (opening o) e → Promised o e }
     ensures given { (o : Origin) (cores : ℕ) (lines : List Line) (e : Engine)
-        → Ran AnyMove cores lines (opening o) e → e.given ≡ asked_in lines }
+        → Ran AnyMove given_to cores lines (opening o) e → e.given ≡ asked_in lines }
 {}
 
 /// Where a turn answers that nothing moved only when its core is idle, the last pass leaves every request answered,
 /// every slot empty and nothing waiting.
 pub fn every_drain()
     ensures { (o : Origin) (lines : List Line) (e : Engine) → IsOrigin o
-        → Ran AnyTurn (layout_of o.found).cores lines (opening o) e → IsDone o e }
+        → Ran AnyTurn given_to (layout_of o.found).cores lines (opening o) e → IsDone o e }
 {}
 
 /// A core that rests does so while a turn of another one makes loads alone; where each does, all that was posted or

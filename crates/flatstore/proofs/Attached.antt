@@ -15,6 +15,7 @@ use Rattle.store_image.proofs.Places.{layout_numbers, superblock_facts}
 use Rattle.store_image.proofs.SoundLaws.{has_layout}
 use Rattle.headline.specs.Headline.{cells_of, RecoversThroughout}
 use Rattle.headline.proofs.Images.{at_attach}
+use Rattle.flatstore.specs.Played.{StandsWhole}
 
 -- a region that is too long breaks the first rule, whatever its words
 too_long : (bytes : ℕ) (image : ℕ → ℕ) → 268439552 < bytes → first_fault bytes image ≡ Some (NotARegion 1)
@@ -64,3 +65,7 @@ module _ (old s : State) (found : ℕ → ℕ) (A : Attached old s s.frame.bytes
       let small = sound_small sound in
       let words : s.frame.words ≡ s.frame.bytes / 8 = A.words ∙ ap (λ b. cond b (s.frame.bytes / 8) 0) (le-leb s.frame.bytes 268439552 small) in
       at_attach s.frame (s.cells n) found A.first words (λ w inside. ap (λ m. s.cells m w) is ∙ A.certainly w inside telling) image may sound trace (record { finishes = []; refusals = [] })
+
+  -- It stands whole, each word certain.
+  pub stands_whole : StandsWhole s
+  stands_whole = record { first = A.first; words = A.words; parted = A.parted; certain = certain_last }

@@ -13,7 +13,7 @@ use Rattle.std.specs.Box.{box_value}
 use Rattle.clap.proofs.ValueTestLemmas.{accepts-Accepts, Accepts-accepts}
 use Rattle.clap.proofs.WalkLemmas.{one_text-rows}
 use Rattle.clap.proofs.OnLiterals.{clap_on_literals}
-use Rattle.flatstore.specs.Commands.{Form, program, u64_reader, number_of, number_in, is_good, form_in, form_of}
+use Rattle.flatstore.specs.Commands.{Form, program, u64_reader, number_of, number_in, is_good, form_in, form_of, needs_threads, alone_form_of}
 
 refuse : (b : Bool) (x : Option ℕ) → (b ≡ true → ⊥) → None ≡ (if b then x else None)
 refuse true x never = absurd (never refl)
@@ -66,3 +66,7 @@ named_rows (Some (n, rs)) name rows a b = cc
 pub name_of : {Z : Type 0} (o : Option (Box SubCommand Z)) → option_map (λ b. (out-SubCommand (box_value b)).name.now) o ≡ option_map (λ p. p.0) (subcommand_rows o)
 name_of None = refl
 name_of (Some b) = refl
+
+-- words that aren't those of `run` ask the same of a call that starts no thread
+pub alone_form : (words : List Text) → needs_threads (form_of words) ≡ false → alone_form_of words ≡ form_of words
+alone_form words alone = ap (λ b. if b then None else form_of words) alone

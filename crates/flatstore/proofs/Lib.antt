@@ -4,8 +4,12 @@ pub mod Answering
 pub mod Attached
 pub mod Numbering
 pub mod Causing
+pub mod Written
+pub mod Serving
+pub mod Running
 pub mod Replaying
 pub mod Refused
+pub mod ThreadRunning
 pub mod Standing
 pub mod Opened
 pub mod Reading

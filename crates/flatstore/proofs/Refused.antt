@@ -11,6 +11,7 @@ use Rattle.fs_model.specs.Lawful.{is_stopped}
 use Rattle.fs_text.specs.declared.line.Line.{Line}
 use Rattle.fs_text.specs.Input.{input_of}
 use Rattle.fs_text.specs.Streams.{IsReadOut}
+use Rattle.log_entry.specs.declared.entry_limits.TheConstants.{LAST_PUT_VERSION}
 use Rattle.chunk_map.specs.Layouts.{layout_of, owner}
 use Rattle.store_image.specs.declared.types.Fault.{Fault}
 use Rattle.store_image.specs.declared.types.Fault.TheVariants as faults
@@ -28,7 +29,7 @@ use Rattle.group_engine.specs.Answers.{reply_to}
 use Rattle.group_engine.specs.Reports.{told}
 use Rattle.flatstore.specs.LastStates.{told_in, AreRising}
 use Rattle.flatstore.specs.Ordering.{KeepsOrder, IsServed, due, IsDue, IsFault, status_of, is_broken, is_of_region, is_of_line, is_of_run, is_whole}
-use Rattle.flatstore.specs.Promise.{WritesFront, IsInput, Replays, asked_in}
+use Rattle.flatstore.specs.Promise.{WritesFront, IsInput, Serves, Replays, asked_in}
 use Rattle.flatstore.specs.Reads.{IsUnread}
 use Rattle.flatstore.specs.Statuses.{fault_status}
 use Rattle.flatstore.specs.Played.{IsUnserved, IsCounted, IsRefused}
@@ -105,6 +106,63 @@ unread_apart coming left cores source source' status (inr (inr u)) = ap is_of_re
 memory_source : statuses.Memory ≡ statuses.SourceFault → ⊥
 memory_source q = cc q
 
+module _ (old s : State) (found : ℕ → ℕ) (A : Attached old s s.frame.bytes found) where
+  -- the words in the superblock, where it is sound
+  core_found : IsTelling s → first_fault s.frame.bytes (lasts s) ≡ None → (first_fault s.frame.bytes found ≡ None) × (lasts s 2 ≡ found 2)
+  core_found telling sound =
+      let sound' : first_fault s.frame.bytes found ≡ None = sym (found_fault old s found A telling) ∙ sound in
+      let low = (superblock_facts s.frame.bytes found (has_layout s.frame.bytes found sound')).0 in
+      (sound', found_words old s found A (sound_small old s found A sound') telling 2 (omega (arith, low)))
+
+  pub served_by : (cores : ℕ) → IsCounted s cores → IsTelling s → IsSound s.frame.bytes found × (cores ≡ found 2)
+  served_by cores u telling = let h = u telling in let f = core_found telling h.0 in (f.0, sym h.1 ∙ f.1)
+
+-- What is so of a report that answers nothing, on a region that says what it said when it was attached, whatever the status.
+module _ (old s : State) (found : ℕ → ℕ) (A : Attached old s s.frame.bytes found) (r : Report) (fin : r.finishes.items ≡ []) (ref : r.refusals.items ≡ []) (cut : r.complete ≡ false) (cores : ℕ) (input : List ℕ) where
+  abbrev none : Told
+  none = record { finishes = []; refusals = [] }
+
+  nothing : told_in r ≡ none
+  nothing = (λ i. told (fin i) (ref i))
+
+  abbrev trace : List Request
+  trace = asked_in cores input
+
+  abbrev MayStop : Type 0
+  MayStop = r.complete ≡ true → Rose old.faults s.faults
+
+  may : MayStop
+  may complete = both r.complete complete cut
+
+  stopped : Recorded (IsTelling s) (cells_of found) trace (all_stopped trace) none
+  stopped = all_stop (IsTelling s) (cells_of found) [] [] none trace (recorded (IsTelling s) (cells_of found) [] [] none 0 (cells_of found) (nothing_answered (IsTelling s) (cells_of found) 0))
+
+  said : Answers (IsTelling s) (cells_of found) trace none MayStop (all_stopped trace)
+  said = record { each = each_stop [] [] trace tt; lawful = stopped.lawful; fits = stopped.fits; stops = may_all MayStop (all_stopped trace) may }
+
+  -- every moment that is told is that of the attach
+  pub told_now : (n : ℕ) → IsTold s n → IsTelling s
+  told_now n told =
+      let stamp = A.stamp in
+      let seen = told.seen in
+      let is : n ≡ s.stamp = omega (arith, stamp, seen) in
+      subst (IsTold s) is told
+
+  pub none_begins : (text : Option (List ℕ)) → WritesFront (IsTelling s) (cells_of found) trace (told_in r) MayStop text text
+  none_begins text = subst (λ x. WritesFront (IsTelling s) (cells_of found) trace x MayStop text text) (sym nothing) (no_text (IsTelling s) (cells_of found) trace none MayStop (all_stopped trace) said text text refl)
+
+  pub none_lost : IsSound s.frame.bytes found → RecoversThroughout s (cells_of found) trace (told_in r)
+  none_lost sound = subst (λ x. RecoversThroughout s (cells_of found) trace x) (sym nothing) (crash_at_attach old s found A sound trace)
+
+  pub none_rising : AreRising (finished_in (told_in r)) × AreRising (refused_in (told_in r))
+  none_rising = subst (λ (z : Told). AreRising (finished_in z) × AreRising (refused_in z)) (sym nothing) (tt, tt)
+
+  pub none_full : AllByRecursion (λ (x : Refusal). reply_to x.why ≡ Full → (k : ℕ) → IsAsked trace x.request k → IsAmpleFor (layout_of found) found trace (owner (layout_of found) k) → ⊥) r.refusals.items
+  none_full = subst (λ xs. AllByRecursion (λ (x : Refusal). reply_to x.why ≡ Full → (k : ℕ) → IsAsked trace x.request k → IsAmpleFor (layout_of found) found trace (owner (layout_of found) k) → ⊥) xs) (sym ref) tt
+
+  pub none_spent : AllByRecursion (λ (x : Refusal). (last : ℕ) → x.why ≡ Versions last → (k : ℕ) → IsAsked trace x.request k → LAST_PUT_VERSION ≤ version_of found k + changes_asked k (take x.request trace)) r.refusals.items
+  none_spent = subst (λ xs. AllByRecursion (λ (x : Refusal). (last : ℕ) → x.why ≡ Versions last → (k : ℕ) → IsAsked trace x.request k → LAST_PUT_VERSION ≤ version_of found k + changes_asked k (take x.request trace)) xs) (sym ref) tt
+
 module _ (old s : State) (found : ℕ → ℕ) (A : Attached old s s.frame.bytes found) (coming left : Option (List ℕ)) (source source' : ℕ) (status : Status) (U : IsRefused s coming left source source' status) where
   unread_none : (cores : ℕ) → IsUnread coming left cores source source' status → answers_none status ≡ true
   unread_none cores (inl u) = ap answers_none u.4 ∙ broken_none (input_of cores u.1) u.3
@@ -119,52 +177,13 @@ module _ (old s : State) (found : ℕ → ℕ) (A : Attached old s s.frame.bytes
   is_none : answers_none status ≡ true
   is_none = refused_none U
 
-  apart_from : (other : Status) → answers_none other ≡ false → status ≡ other → ⊥
+  pub apart_from : (other : Status) → answers_none other ≡ false → status ≡ other → ⊥
   apart_from other unlike e = both (answers_none other) (sym (ap answers_none e) ∙ is_none) unlike
 
-  -- the words in the superblock, where it is sound
-  core_found : IsTelling s → first_fault s.frame.bytes (lasts s) ≡ None → (first_fault s.frame.bytes found ≡ None) × (lasts s 2 ≡ found 2)
-  core_found telling sound =
-      let sound' : first_fault s.frame.bytes found ≡ None = sym (found_fault old s found A telling) ∙ sound in
-      let low = (superblock_facts s.frame.bytes found (has_layout s.frame.bytes found sound')).0 in
-      (sound', found_words old s found A (sound_small old s found A sound') telling 2 (omega (arith, low)))
-
-  served_by : (cores : ℕ) → IsCounted s cores → IsTelling s → IsSound s.frame.bytes found × (cores ≡ found 2)
-  served_by cores u telling = let h = u telling in let f = core_found telling h.0 in (f.0, sym h.1 ∙ f.1)
-
-  -- every moment that is told is that of the attach
-  told_now : (n : ℕ) → IsTold s n → IsTelling s
-  told_now n told =
-      let stamp = A.stamp in
-      let seen = told.seen in
-      let is : n ≡ s.stamp = omega (arith, stamp, seen) in
-      subst (IsTold s) is told
-
-  -- What a replay that answered nothing promises, by the input that it read, if any.
+  -- What a run that answered nothing promises, by the input that it read, if any.
   module _ (r : Report) (is : r.status ≡ status) (fin : r.finishes.items ≡ []) (ref : r.refusals.items ≡ []) (unbegun : r.began ≡ false) (cut : r.complete ≡ false) (text : Option (List ℕ)) (flushed : Bool) (sink cores : ℕ) (input : List ℕ)
       (count : IsTelling s → cores ≡ found 2) (line : is_of_line r.status ≡ true → IsServed s found × IsReadOut coming left × (r.status ≡ status_of (input_of cores input))) (fault : r.status ≡ statuses.SourceFault → IsServed s found)
       (judged : IsTelling s → IsDue s.frame.bytes found input r.status ⊎ IsFault old s source source' sink sink r.status) where
-    abbrev none : Told
-    none = record { finishes = []; refusals = [] }
-
-    nothing : told_in r ≡ none
-    nothing = (λ i. told (fin i) (ref i))
-
-    abbrev trace : List Request
-    trace = asked_in cores input
-
-    abbrev MayStop : Type 0
-    MayStop = r.complete ≡ true → Rose old.faults s.faults
-
-    may : MayStop
-    may complete = both r.complete complete cut
-
-    stopped : Recorded (IsTelling s) (cells_of found) trace (all_stopped trace) none
-    stopped = all_stop (IsTelling s) (cells_of found) [] [] none trace (recorded (IsTelling s) (cells_of found) [] [] none 0 (cells_of found) (nothing_answered (IsTelling s) (cells_of found) 0))
-
-    said : Answers (IsTelling s) (cells_of found) trace none MayStop (all_stopped trace)
-    said = record { each = each_stop [] [] trace tt; lawful = stopped.lawful; fits = stopped.fits; stops = may_all MayStop (all_stopped trace) may }
-
     no_status : (other : Status) → answers_none other ≡ false → r.status ≡ other → ⊥
     no_status other unlike e = apart_from other unlike (sym is ∙ e)
 
@@ -180,21 +199,20 @@ module _ (old s : State) (found : ℕ → ℕ) (A : Attached old s s.frame.bytes
       whole = λ whole. both (is_whole r.status) whole (ap is_whole is ∙ (no_run status is_none).1);
     }
 
-    replays : Replays old s found coming left source source' cores input text text flushed sink sink r
-    replays = record {
-      cores_are = λ n told. count (told_now n told);
+    serves : Serves old s found coming left source source' cores input text text flushed sink sink r
+    serves = record {
+      cores_are = λ n told. count (told_now old s found A r fin ref cut cores input n told);
       order = order;
       due = judged;
       done = λ done. absurd (no_status statuses.Done refl done);
-      failed = λ failed steady. absurd (no_status statuses.RegionFault refl failed);
+      failed = λ failed complete steady. absurd (no_status statuses.RegionFault refl failed);
       sunk = λ sunk. absurd (no_status statuses.SinkFault refl sunk);
-      begins = subst (λ x. WritesFront (IsTelling s) (cells_of found) trace x MayStop text text) (sym nothing) (no_text (IsTelling s) (cells_of found) trace none MayStop (all_stopped trace) said text text refl);
-      crash = λ sound. subst (λ x. RecoversThroughout s (cells_of found) trace x) (sym nothing) (crash_at_attach old s found A sound trace);
+      begins = none_begins old s found A r fin ref cut cores input text;
+      crash = none_lost old s found A r fin ref cut cores input;
       last = λ whole telling image may k small. both (is_whole r.status) whole (ap is_whole is ∙ (no_run status is_none).1);
-      run = λ complete. both r.complete complete cut;
-      rising = subst (λ (z : Told). AreRising (finished_in z) × AreRising (refused_in z)) (sym nothing) (tt, tt);
-      full = λ telling. subst (λ xs. AllByRecursion (λ (x : Refusal). reply_to x.why ≡ Full → (k : ℕ) → IsAsked trace x.request k → IsAmpleFor (layout_of found) found trace (owner (layout_of found) k) → ⊥) xs) (sym ref) tt;
-      spent = λ telling. subst (λ xs. AllByRecursion (λ (x : Refusal). (last : ℕ) → x.why ≡ Versions last → (k : ℕ) → IsAsked trace x.request k → 1048574 ≤ version_of found k + changes_asked k (take x.request trace)) xs) (sym ref) tt;
+      rising = none_rising old s found A r fin ref cut cores input;
+      full = λ telling. none_full old s found A r fin ref cut cores input;
+      spent = λ telling. none_spent old s found A r fin ref cut cores input;
       unrefused = λ telling within. ref;
     }
 
@@ -219,42 +237,52 @@ module _ (old s : State) (found : ℕ → ℕ) (A : Attached old s s.frame.bytes
       | inr y ↦ elim y [ inl f ↦ f.1 | inr m ↦ absurd (memory_source (sym m ∙ e)) ]
     ]
 
-  pub refused_replays : (r : Report) → r.status ≡ status → r.finishes.items ≡ [] → r.refusals.items ≡ [] → r.began ≡ false → r.complete ≡ false → (text : Option (List ℕ)) (flushed : Bool) (sink : ℕ)
-      → (input : List ℕ) × (cores : ℕ) × IsInput coming input × Replays old s found coming left source source' cores input text text flushed sink sink r
-  refused_replays r is fin ref unbegun cut text flushed sink = by U where
+  pub refused_serves : (r : Report) → r.status ≡ status → r.finishes.items ≡ [] → r.refusals.items ≡ [] → r.began ≡ false → r.complete ≡ false → (text : Option (List ℕ)) (flushed : Bool) (sink : ℕ)
+      → (input : List ℕ) × (cores : ℕ) × IsInput coming input × Serves old s found coming left source source' cores input text text flushed sink sink r
+  refused_serves r is fin ref unbegun cut text flushed sink = by U where
     in_status : (input : List ℕ) → IsDue s.frame.bytes found input status ⊎ IsFault old s source source' sink sink status → IsDue s.frame.bytes found input r.status ⊎ IsFault old s source source' sink sink r.status
     in_status input h = subst (λ st. IsDue s.frame.bytes found input st ⊎ IsFault old s source source' sink sink st) (sym is) h
 
     due_line : (cores : ℕ) (input : List ℕ) → IsSound s.frame.bytes found × (cores ≡ found 2) → status ≡ status_of (input_of cores input) → IsDue s.frame.bytes found input status
     due_line cores input h e = e ∙ ap (λ c. status_of (input_of c input)) h.1 ∙ sym (ap (due found input) h.0)
 
-    by : IsRefused s coming left source source' status → (input : List ℕ) × (cores : ℕ) × IsInput coming input × Replays old s found coming left source source' cores input text text flushed sink sink r
+    by : IsRefused s coming left source source' status → (input : List ℕ) × (cores : ℕ) × IsInput coming input × Serves old s found coming left source source' cores input text text flushed sink sink r
     by (inl u) =
         let input = some_input coming in (
           input.0,
           found 2,
           input.1,
-          replays r is fin ref unbegun cut text flushed sink (found 2) input.0 (λ telling. refl) (λ line. both (is_of_line r.status) line (ap is_of_line is ∙ unserved_line u)) (λ e. absurd (unserved_source u (sym is ∙ e)))
+          serves r is fin ref unbegun cut text flushed sink (found 2) input.0 (λ telling. refl) (λ line. both (is_of_line r.status) line (ap is_of_line is ∙ unserved_line u)) (λ e. absurd (unserved_source u (sym is ∙ e)))
               (λ telling. in_status input.0 (unserved_due u input.0 telling sink)),
         )
     by (inr (cores, counted, inl x)) = (
       x.1,
       cores,
       x.2,
-      replays r is fin ref unbegun cut text flushed sink cores x.1 (λ telling. (served_by cores counted telling).1) (λ line. ((λ telling. (served_by cores counted telling).0), x.0, is ∙ x.4)) (λ e. absurd (broken_no_source (input_of cores x.1) (sym x.4 ∙ sym is ∙ e)))
-          (λ telling. in_status x.1 (inl (due_line cores x.1 (served_by cores counted telling) x.4))),
+      serves r is fin ref unbegun cut text flushed sink cores x.1 (λ telling. (served_by old s found A cores counted telling).1) (λ line. ((λ telling. (served_by old s found A cores counted telling).0), x.0, is ∙ x.4)) (λ e. absurd (broken_no_source (input_of cores x.1) (sym x.4 ∙ sym is ∙ e)))
+          (λ telling. in_status x.1 (inl (due_line cores x.1 (served_by old s found A cores counted telling) x.4))),
     )
     by (inr (cores, counted, inr (inl f))) =
         let input = some_input coming in (
           input.0,
           cores,
           input.1,
-          replays r is fin ref unbegun cut text flushed sink cores input.0 (λ telling. (served_by cores counted telling).1) (λ line. both (is_of_line r.status) line (ap is_of_line (is ∙ f.0))) (λ e telling. (served_by cores counted telling).0) (λ telling. in_status input.0 (inr (inr (inl f)))),
+          serves r is fin ref unbegun cut text flushed sink cores input.0 (λ telling. (served_by old s found A cores counted telling).1) (λ line. both (is_of_line r.status) line (ap is_of_line (is ∙ f.0))) (λ e telling. (served_by old s found A cores counted telling).0) (λ telling. in_status input.0 (inr (inr (inl f)))),
         )
     by (inr (cores, counted, inr (inr m))) =
         let input = some_input coming in (
           input.0,
           cores,
           input.1,
-          replays r is fin ref unbegun cut text flushed sink cores input.0 (λ telling. (served_by cores counted telling).1) (λ line. both (is_of_line r.status) line (ap is_of_line (is ∙ m))) (λ e. absurd (memory_source (sym m ∙ sym is ∙ e))) (λ telling. in_status input.0 (inr (inl m))),
+          serves r is fin ref unbegun cut text flushed sink cores input.0 (λ telling. (served_by old s found A cores counted telling).1) (λ line. both (is_of_line r.status) line (ap is_of_line (is ∙ m))) (λ e. absurd (memory_source (sym m ∙ sym is ∙ e))) (λ telling. in_status input.0 (inr (inl m))),
         )
+
+  -- A run that was refused so didn't end with a fault of the region.
+  pub refused_fault : (r : Report) → r.status ≡ status → r.status ≡ statuses.RegionFault → ⊥
+  refused_fault r is failed = apart_from statuses.RegionFault refl (sym is ∙ failed)
+
+  pub refused_replays : (r : Report) → r.status ≡ status → r.finishes.items ≡ [] → r.refusals.items ≡ [] → r.began ≡ false → r.complete ≡ false → (text : Option (List ℕ)) (flushed : Bool) (sink : ℕ)
+      → (input : List ℕ) × (cores : ℕ) × IsInput coming input × Replays old s found coming left source source' cores input text text flushed sink sink r
+  refused_replays r is fin ref unbegun cut text flushed sink =
+      let x = refused_serves r is fin ref unbegun cut text flushed sink in
+      (x.0, x.1, x.2, record { serves = x.3; ends = λ failed. absurd (refused_fault r is failed); run = λ complete. both r.complete complete cut })

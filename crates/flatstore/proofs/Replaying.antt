@@ -1,395 +1,27 @@
--- From the last state of a run to what the program promises.
-use Rattle.std.proofs.Common.{◌≡◌, ◌≢◌, ◌⊎◌, inl, inr, ℕ, ◌/◌, ◌<◌, ◌≤◌, List, [], ◌∷◌, ◌++◌, length, refl, sym, ◌∙◌, ap, subst, arith, true, false, Bool, Option, None, append-nil, map, take, ◌+◌, ◌%◌, length-append, Ok}
-use Rattle.std.specs.List.{AllByRecursion}
-use Rattle.pm_region.specs.State.{State, Frame, IsTelling, MayLeave, Rose, cell_now}
+-- From the last state of a replay to what the program promises.
+use Rattle.std.proofs.Common.{◌≡◌, ◌≢◌, ℕ, ◌/◌, ◌<◌, ◌≤◌, List, [], ◌∷◌, ◌++◌, length, refl, sym, ◌∙◌, ap, subst, arith, true, Bool, Option, length-append}
+use Rattle.pm_region.specs.State.{State, Frame, IsTelling, MayLeave}
 use Rattle.pm_region.specs.Split.{Attached, IsOpenedOnceMore}
 use Rattle.pm_region.specs.Words.{lasts}
-use Rattle.fs_model.specs.declared.model.Request.{Request}
-use Rattle.fs_model.specs.declared.model.Reply.{Reply}
-use Rattle.fs_model.specs.Changes.{cell_after_all, finished_by}
-use Rattle.fs_model.specs.declared.model.Reply.TheVariants.{Full}
-use Rattle.fs_model.specs.Lawful.{IsLawful, Fits, is_finish, is_told, is_stopped}
-use Rattle.fs_text.specs.declared.line.Line.{Line}
-use Rattle.fs_text.specs.Input.{input_of}
-use Rattle.fs_text.specs.Streams.{IsReadOut, Takes, TakesPrefix}
-use Rattle.fs_text.specs.Output.{replies_text}
-use Rattle.chunk_map.specs.declared.layouts.Geometry.{Geometry}
-use Rattle.chunk_map.specs.Layouts.{layout_of, superblock_rule, owner}
-use Rattle.store_image.specs.Soundness.{IsSound, first_fault}
-use Rattle.store_image.proofs.Agree.{cells_agree, fault_agrees}
-use Rattle.store_image.proofs.SoundLaws.{has_layout}
-use Rattle.headline.specs.Headline.{Answers, Told, finished_in, refused_in, cells_of, Recovers, RecoversThroughout, RecoversAll, changes_in}
-use Rattle.headline.specs.Kinds.{AreReplies}
-use Rattle.headline.specs.Ample.{IsAmpleFor}
-use Rattle.headline.specs.Limits.{IsAsked, version_of, changes_asked, is_too_long, IsWithinLimits}
-use Rattle.core_room.specs.declared.types.Shortage.TheVariants.{Versions}
+use Rattle.chunk_map.specs.Layouts.{layout_of}
 use Rattle.engine_laws.specs.Engine.{Engine}
-use Rattle.engine_laws.specs.Stands.{Origin, Stands, start_of, opening}
-use Rattle.engine_laws.specs.Promises.{IsOrigin, Promised, IsDone, HasStopped, AnyTurn}
+use Rattle.engine_laws.specs.Stands.{Origin, opening, given_to}
+use Rattle.engine_laws.specs.Promises.{AnyTurn}
 use Rattle.engine_laws.specs.Ran.{Ran}
-use Rattle.engine_laws.specs.Ran as runs
-use Rattle.engine_laws.specs.Reports.{told_of, replies_of, replies_from, AllAnswered}
 use Rattle.group_engine.specs.declared.run_outcome.End.TheVariants as ends
 use Rattle.group_engine.specs.declared.run_outcome.Outcome.{Outcome}
 use Rattle.group_engine.specs.Replayed.{report_in}
 use Rattle.group_engine.specs.Reports.{ReportsOn, told, told_by}
-use Rattle.group_engine.specs.Answers.{reply_to}
-use Rattle.group_engine.specs.declared.run_report.Refusal.{Refusal}
 use Rattle.engine_laws.proofs.Ran.{ran_given}
-use Rattle.flatstore.specs.Attaching.{GoesOnFrom, Runs}
-use Rattle.flatstore.specs.LastStates.{told_in, AreRising, RanTo}
-use Rattle.flatstore.specs.Ordering.{KeepsOrder, IsServed, due, IsDue, IsFault, status_of, is_broken, is_quiet, is_of_line, is_whole}
-use Rattle.flatstore.specs.Promise.{IsInput, WritesAll, WritesFront, Replays, IsAllOut, asked_in}
+use Rattle.flatstore.specs.Attaching.{Runs}
+use Rattle.flatstore.specs.LastStates.{told_in, RanTo}
+use Rattle.flatstore.specs.Promise.{IsInput, Replays, IsAllOut}
 use Rattle.flatstore.specs.Played.{Played, HasWritten, is_ended}
-use Rattle.flatstore.specs.declared.report.Status.{Status}
-use Rattle.flatstore.specs.declared.report.Status.TheVariants as statuses
 use Rattle.flatstore.specs.declared.report.Report.{Report}
-use Rattle.flatstore.proofs.Inputs.{read_trace}
-use Rattle.flatstore.proofs.Attached.{found_words}
-use Rattle.flatstore.proofs.Agreeing as agreeing
-use Rattle.flatstore.proofs.Numbering.{all_map, rising}
-use Rattle.flatstore.proofs.Causing.{HasCauses, full_of, spent_of, unrefused_of}
-use Rattle.flatstore.proofs.Texts.{both, takes_front, all_text, front_text, no_text, small_sound}
-
--- What is known of the run: from the region as it was attached, by the lines of an input.
-pub record Known (old : State) (found : ℕ → ℕ) (coming left : Option (List ℕ)) (cores : ℕ) (input : List ℕ) (o : Origin) (f : Engine) (x : Outcome) : Type 0 where
-  pub origin : IsOrigin o
-  pub from : GoesOnFrom old f.region f.region.frame.bytes found
-  pub at_origin : o.region ≡ from.at
-  pub low : old.faults ≤ o.region.faults
-  pub words : IsTelling o.region → (w : ℕ) → w < o.region.frame.bytes / 8 → o.found w ≡ lasts o.region w
-  pub count : (layout_of o.found).cores ≡ cores
-  pub lines : List Line
-  pub good : input_of cores input ≡ Ok lines
-  pub stands : Stands o f
-  pub promised : Promised o f
-  pub more : List Request
-  pub given : runs.asked_in lines ≡ f.given ++ more
-  pub all_given : x.end ≢ ends.Memory → more ≡ []
-  pub reports : ReportsOn f.region o f (report_in x)
-  pub ran : x.end ≢ ends.Memory → Ran AnyTurn cores lines (opening o) f
-  pub done : x.end ≢ ends.Memory → IsDone o f
-  pub fault : x.end ≡ ends.RegionFault → HasStopped f
-  pub whole : x.end ≡ ends.Complete → (c : ℕ) → c < f.layout.cores → f.stopped c ≡ false
-  pub causes : HasCauses o.found (f.given ++ more) f.answer
-
-module _ (old : State) (found : ℕ → ℕ) (coming left : Option (List ℕ)) (cores : ℕ) (input : List ℕ) (o : Origin) (f : Engine) (x : Outcome) (K : Known old found coming left cores input o f x) (read_out : IsReadOut coming left)
-    (before now : Option (List ℕ)) (flushed : Bool) (faults faults' : ℕ) (status : Status) (W : HasWritten x before now flushed faults faults' status)
-    (r : Report) (report_status : r.status ≡ status) (report_told : told_in r ≡ told_by (report_in x)) (report_began : r.began ≡ true) (report_complete : r.complete ≡ is_ended x.end) where
-  abbrev s : State
-  s = o.region
-
-  abbrev t : State
-  t = f.region
-
-  abbrev bytes : ℕ
-  bytes = s.frame.bytes
-
-  attached : Attached old s bytes found
-  attached = subst (λ (z : State). Attached old z z.frame.bytes found) (sym K.at_origin) (subst (λ (fr : Frame). Attached old K.from.at fr.bytes found) K.from.on.frame K.from.attached)
-
-  telling_then : IsTelling t → IsTelling s
-  telling_then telling = K.stands.run.was t.stamp telling K.stands.run.later
-
-  -- The words that were read are those found, where the region tells.
-  words_found : IsTelling s → (w : ℕ) → w < bytes / 8 → o.found w ≡ found w
-  words_found telling w lt = K.words telling w lt ∙ found_words old s found attached (small_sound bytes o.found K.origin.sound) telling w lt
-
-  rule : superblock_rule bytes o.found ≡ None
-  rule = has_layout bytes o.found K.origin.sound
-
-  start_is : IsTelling s → cells_of found ≡ start_of o
-  start_is telling = (λ i k. cells_agree bytes found o.found (λ w lt. sym (words_found telling w lt)) rule k i)
-
-  sound_found : IsTelling s → IsSound bytes found
-  sound_found telling = fault_agrees bytes found o.found (λ w lt. sym (words_found telling w lt)) ∙ K.origin.sound
-
-  layout_is : IsTelling s → layout_of found ≡ layout_of o.found
-  layout_is telling = agreeing.layout_agrees bytes found o.found (λ w lt. sym (words_found telling w lt)) rule
-
-  cores_found : IsTelling s → cores ≡ found 2
-  cores_found telling = sym K.count ∙ sym (ap (λ (l : Geometry). l.cores) (layout_is telling))
-
-  served : IsServed t found
-  served telling = subst (λ (fr : Frame). IsSound fr.bytes found) (sym K.stands.run.frame) (sound_found (telling_then telling))
-
-  abbrev trace : List Request
-  trace = asked_in cores input
-
-  trace_is : trace ≡ f.given ++ K.more
-  trace_is = read_trace cores input K.lines K.good ∙ K.given
-
-  told_is : told_in r ≡ told_of f
-  told_is = report_told ∙ K.reports.told_is
-
-  -- Replies of the state are replies to the input, by the cells found.
-  said_of : (MayStop May : Type 0) (replies : List Reply) → Answers (IsTelling t) (start_of o) (f.given ++ K.more) (told_of f) May replies → (May → MayStop) → Answers (IsTelling t) (cells_of found) trace (told_in r) MayStop replies
-  said_of MayStop May replies a to = record {
-    each = subst (λ q. AreReplies q replies) (sym trace_is) a.each;
-    lawful = λ telling. subst (λ q. IsLawful (cells_of found) q replies) (sym trace_is) (subst (λ c. IsLawful c (f.given ++ K.more) replies) (sym (start_is (telling_then telling))) (a.lawful telling));
-    fits = subst (λ (z : Told). Fits (finished_in z) z.refusals replies) (sym told_is) a.fits;
-    stops = all_map (λ y. is_stopped y ≡ true → May) (λ y. is_stopped y ≡ true → MayStop) (λ y h stopped. to (h stopped)) replies a.stops;
-  }
-
-  risen : HasStopped f → Rose old.faults t.faults
-  risen h = let c = K.promised.cause h in let low = K.low in omega (arith, c, low)
-
-  abbrev FrontMayStop : Type 0
-  FrontMayStop = r.complete ≡ true → Rose old.faults t.faults
-
-  ended : is_ended x.end ≡ true → x.end ≢ ends.Memory
-  ended is m = both (is_ended x.end) is (ap is_ended m)
-
-  completed : x.end ≡ ends.Complete → x.end ≢ ends.Memory
-  completed e m = cc (sym e ∙ m)
-
-  faulted : x.end ≡ ends.RegionFault → x.end ≢ ends.Memory
-  faulted e m = cc (sym e ∙ m)
-
-  never : x.end ≡ ends.Complete → HasStopped f → ⊥
-  never e h = both (f.stopped h.0) h.2 (K.whole e h.0 h.1)
-
-  -- of a run that came to its end
-  module _ (not_cut : x.end ≢ ends.Memory) where
-    given_all : f.given ++ K.more ≡ f.given
-    given_all = ap (λ m. f.given ++ m) (K.all_given not_cut) ∙ append-nil f.given
-
-    said_whole : (MayStop : Type 0) → (HasStopped f → MayStop) → Answers (IsTelling t) (cells_of found) trace (told_in r) MayStop x.replies.items
-    said_whole MayStop to = said_of MayStop (AllAnswered f → HasStopped f) x.replies.items
-        (subst (λ q. Answers (IsTelling t) (start_of o) q (told_of f) (AllAnswered f → HasStopped f) x.replies.items) (sym given_all) K.reports.answers) (λ h. to (h (K.done not_cut).answered))
-
-    text_of : (MayStop : Type 0) → (HasStopped f → MayStop) → Takes before now (replies_text x.replies.items) → WritesAll (IsTelling t) (cells_of found) trace (told_in r) MayStop before now
-    text_of MayStop to = all_text (IsTelling t) (cells_of found) trace (told_in r) MayStop x.replies.items (said_whole MayStop to) before now
-
-    front_of : (MayStop : Type 0) → (HasStopped f → MayStop) → TakesPrefix before now (replies_text x.replies.items) → WritesFront (IsTelling t) (cells_of found) trace (told_in r) MayStop before now
-    front_of MayStop to = front_text (IsTelling t) (cells_of found) trace (told_in r) MayStop x.replies.items (said_whole MayStop to) before now
-
-    shown_front : IsTelling t → TakesPrefix before now (replies_text x.replies.items) → TakesPrefix before now (replies_text (replies_of f))
-    shown_front telling takes = subst (λ rs. TakesPrefix before now (replies_text rs)) (K.reports.known telling) takes
-
-    shown_all : IsTelling t → Takes before now (replies_text x.replies.items) → Takes before now (replies_text (replies_of f))
-    shown_all telling takes = subst (λ rs. Takes before now (replies_text rs)) (K.reports.known telling) takes
-
-  abbrev Front : Type 0
-  Front = WritesFront (IsTelling t) (cells_of found) trace (told_in r) FrontMayStop before now
-
-  abbrev Prefix : Type 0
-  Prefix = TakesPrefix before now (replies_text x.replies.items)
-
-  -- of a run that didn't, each request without an answer counts as one that is stopped
-  cut_front : is_ended x.end ≡ false → now ≡ before → Front
-  cut_front cut same = no_text (IsTelling t) (cells_of found) trace (told_in r) FrontMayStop (replies_from f.answer 0 (length (f.given ++ K.more)))
-      (said_of FrontMayStop (AllAnswered f → K.more ≡ [] → HasStopped f) (replies_from f.answer 0 (length (f.given ++ K.more))) (K.promised.replies K.more) (λ any complete. both r.complete complete (report_complete ∙ cut))) before now same
-
-  begun : HasWritten x before now flushed faults faults' status → Front
-  begun (inl w) = front_of (completed w.1) FrontMayStop (λ h complete. risen h) (takes_front before now (replies_text x.replies.items) w.2)
-  begun (inr (inl w)) = elim w.2 [
-    | inl all ↦ front_of (faulted w.1) FrontMayStop (λ h complete. risen h) (takes_front before now (replies_text x.replies.items) all.0)
-    | inr some ↦ front_of (faulted w.1) FrontMayStop (λ h complete. risen h) some.1
-  ]
-  begun (inr (inr (inl w))) = front_of (completed w.1) FrontMayStop (λ h complete. risen h) w.3
-  begun (inr (inr (inr w))) = elim w.1 [
-    | inl some ↦ front_of (ended some.0) FrontMayStop (λ h complete. risen h) some.1
-    | inr cut ↦ cut_front cut.0 cut.1
-  ]
-
-  -- the statuses that it cannot have
-  no_status : (Q : Status → Bool) → Q statuses.Done ≡ false → Q statuses.RegionFault ≡ false → Q statuses.SinkFault ≡ false → Q statuses.Memory ≡ false → Q r.status ≡ true → ⊥
-  no_status Q done failed sunk memory is = by W where
-    by : HasWritten x before now flushed faults faults' status → ⊥
-    by (inl w) = both (Q r.status) is (ap Q (report_status ∙ w.0) ∙ done)
-    by (inr (inl w)) = both (Q r.status) is (ap Q (report_status ∙ w.0) ∙ failed)
-    by (inr (inr (inl w))) = both (Q r.status) is (ap Q (report_status ∙ w.0) ∙ sunk)
-    by (inr (inr (inr w))) = both (Q r.status) is (ap Q (report_status ∙ w.0) ∙ memory)
-
-  written : r.status ≡ statuses.Done → WritesAll (IsTelling t) (cells_of found) trace (told_in r) ⊥ before now × (flushed ≡ true)
-  written done = by W where
-    by : HasWritten x before now flushed faults faults' status → WritesAll (IsTelling t) (cells_of found) trace (told_in r) ⊥ before now × (flushed ≡ true)
-    by (inl w) = (text_of (completed w.1) ⊥ (never w.1) w.2, w.3)
-    by (inr (inl w)) = cc (sym done ∙ report_status ∙ w.0)
-    by (inr (inr (inl w))) = cc (sym done ∙ report_status ∙ w.0)
-    by (inr (inr (inr w))) = cc (sym done ∙ report_status ∙ w.0)
-
-  written_failed : r.status ≡ statuses.RegionFault → (Rose faults faults' → ⊥) → WritesAll (IsTelling t) (cells_of found) trace (told_in r) (Rose old.faults t.faults) before now × (flushed ≡ true)
-  written_failed failed steady = by W where
-    by : HasWritten x before now flushed faults faults' status → WritesAll (IsTelling t) (cells_of found) trace (told_in r) (Rose old.faults t.faults) before now × (flushed ≡ true)
-    by (inl w) = cc (sym failed ∙ report_status ∙ w.0)
-    by (inr (inl w)) = elim w.2 [
-      | inl all ↦ (text_of (faulted w.1) (Rose old.faults t.faults) risen all.0, all.1)
-      | inr some ↦ absurd (steady some.0)
-    ]
-    by (inr (inr (inl w))) = cc (sym failed ∙ report_status ∙ w.0)
-    by (inr (inr (inr w))) = cc (sym failed ∙ report_status ∙ w.0)
-
-  written_sunk : r.status ≡ statuses.SinkFault → WritesFront (IsTelling t) (cells_of found) trace (told_in r) ⊥ before now
-  written_sunk sunk = by W where
-    by : HasWritten x before now flushed faults faults' status → WritesFront (IsTelling t) (cells_of found) trace (told_in r) ⊥ before now
-    by (inl w) = cc (sym sunk ∙ report_status ∙ w.0)
-    by (inr (inl w)) = cc (sym sunk ∙ report_status ∙ w.0)
-    by (inr (inr (inl w))) = front_of (completed w.1) ⊥ (never w.1) w.3
-    by (inr (inr (inr w))) = cc (sym sunk ∙ report_status ∙ w.0)
-
-  whole_ends : is_whole r.status ≡ true → x.end ≡ ends.Complete
-  whole_ends whole = by W where
-    by : HasWritten x before now flushed faults faults' status → x.end ≡ ends.Complete
-    by (inl w) = w.1
-    by (inr (inl w)) = both (is_whole r.status) whole (ap is_whole (report_status ∙ w.0))
-    by (inr (inr (inl w))) = w.1
-    by (inr (inr (inr w))) = both (is_whole r.status) whole (ap is_whole (report_status ∙ w.0))
-
-  crash_then : RecoversThroughout t (cells_of found) trace (told_in r)
-  crash_then n told image may =
-      let stamp = attached.stamp in
-      let telling : IsTelling s = K.stands.run.was n told (omega (arith, stamp)) in
-      let here : MayLeave s.frame (t.cells n) image = subst (λ fr. MayLeave fr (t.cells n) image) K.stands.run.frame may in
-      let shown = K.promised.crash K.more n told (omega (arith, stamp)) image here in
-      subst (λ z. Recovers t.frame.bytes (cells_of found) trace z (λ k. finished_by k trace z.finishes n) image) (sym told_is)
-      (subst (λ q. Recovers t.frame.bytes (cells_of found) q (told_of f) (λ k. finished_by k q (told_of f).finishes n) image) (sym trace_is)
-      (subst (λ c. Recovers t.frame.bytes c (f.given ++ K.more) (told_of f) (λ k. finished_by k (f.given ++ K.more) (told_of f).finishes n) image) (sym (start_is telling))
-      (subst (λ (fr : Frame). Recovers fr.bytes (start_of o) (f.given ++ K.more) (told_of f) (λ k. finished_by k (f.given ++ K.more) (told_of f).finishes n) image) (sym K.stands.run.frame) shown)))
-
-  recovers_all : is_whole r.status ≡ true → RecoversAll t (cells_of found) trace (told_in r)
-  recovers_all whole telling image may k small =
-      let e = whole_ends whole in
-      let here : MayLeave s.frame (cell_now t) image = subst (λ fr. MayLeave fr (cell_now t) image) K.stands.run.frame may in
-      let start : start_of o ≡ cells_of found = sym (start_is (telling_then telling)) in
-      let qs : f.given ≡ trace = sym (given_all (completed e)) ∙ sym trace_is in
-      let told : told_of f ≡ told_in r = sym told_is in
-      K.promised.last (K.done (completed e)).answered (K.whole e) telling image here k ∙ (λ i. cell_after_all (changes_in (start i) (qs i) (told i) k) (start i k))
-
-  ran_to : r.complete ≡ true → RanTo old t found cores input before now (IsAllOut r.status faults faults') r
-  ran_to complete =
-      let not_cut = ended (sym report_complete ∙ complete) in
-      record {
-        from = K.from;
-        o = o;
-        origin = K.origin;
-        region = K.at_origin;
-        words = subst (λ (z : State). IsTelling z → (w : ℕ) → w < z.frame.bytes / 8 → o.found w ≡ found w) K.at_origin words_found;
-        count = K.count;
-        lines = K.lines;
-        good = K.good;
-        f = f;
-        ran = K.ran not_cut;
-        ends = refl;
-        answered = (K.done not_cut).answered;
-        drained = (K.done not_cut).drained;
-        told_is = told_is;
-        begins = λ telling. shown_front not_cut telling (front_by W);
-        writes = λ out telling. shown_all not_cut telling (all_by W out);
-        licensed = K.stands.licensed;
-      }
-    where
-      front_by : HasWritten x before now flushed faults faults' status → Prefix
-      front_by (inl w) = takes_front before now (replies_text x.replies.items) w.2
-      front_by (inr (inl w)) = elim w.2 [
-        | inl all ↦ takes_front before now (replies_text x.replies.items) all.0
-        | inr some ↦ some.1
-      ]
-      front_by (inr (inr (inl w))) = w.3
-      front_by (inr (inr (inr w))) = elim w.1 [
-        | inl some ↦ some.1
-        | inr cut ↦ both r.complete complete (report_complete ∙ cut.0)
-      ]
-
-      out_of : (other : Status) → status ≡ other → other ≢ statuses.Done → other ≢ statuses.RegionFault → IsAllOut r.status faults faults' → ⊥
-      out_of other e done failed (inl is) = done (sym e ∙ sym report_status ∙ is)
-      out_of other e done failed (inr is) = failed (sym e ∙ sym report_status ∙ is.0)
-
-      all_by : HasWritten x before now flushed faults faults' status → IsAllOut r.status faults faults' → Takes before now (replies_text x.replies.items)
-      all_by (inl w) out = w.2
-      all_by (inr (inl w)) out = elim w.2 [
-        | inl all ↦ all.0
-        | inr some ↦ absurd (no_rise w.0 out some.0)
-      ] where
-        no_rise : status ≡ statuses.RegionFault → IsAllOut r.status faults faults' → Rose faults faults' → ⊥
-        no_rise e (inl is) rose = cc (sym e ∙ sym report_status ∙ is)
-        no_rise e (inr is) rose = is.1 rose
-      all_by (inr (inr (inl w))) out = absurd (out_of statuses.SinkFault w.0 (λ q. cc q) (λ q. cc q) out)
-      all_by (inr (inr (inr w))) out = absurd (out_of statuses.Memory w.0 (λ q. cc q) (λ q. cc q) out)
-
-  order : KeepsOrder old t found coming left cores input r
-  order = record {
-    untouched = λ no. both r.began report_began no;
-    source = λ is. absurd (no_status is_quiet refl refl refl refl (ap is_quiet is));
-    line = λ is. absurd (no_status is_of_line refl refl refl refl is);
-    began = λ yes. (served, read_out, ap is_broken K.good);
-    unbegun = λ quiet. absurd (no_status is_quiet refl refl refl refl quiet);
-    run = λ is. report_began;
-    written = λ complete. report_began;
-    whole = λ whole. report_complete ∙ ap is_ended (whole_ends whole);
-  }
-
-  -- the status that is due
-  due_of : (source source' : ℕ) → IsTelling t → IsDue t.frame.bytes found input r.status ⊎ IsFault old t source source' faults faults' r.status
-  due_of source source' telling = by W where
-    by : HasWritten x before now flushed faults faults' status → IsDue t.frame.bytes found input r.status ⊎ IsFault old t source source' faults faults' r.status
-    by (inl w) =
-        let sound : first_fault t.frame.bytes found ≡ None = served telling in
-        inl (report_status ∙ w.0 ∙ sym (ap (due found input) sound ∙ ap (λ c. status_of (input_of c input)) (sym (cores_found (telling_then telling))) ∙ ap status_of K.good))
-    by (inr (inl w)) = inr (inr (inr (inr (report_status ∙ w.0, risen (K.fault w.1)))))
-    by (inr (inr (inl w))) = inr (inr (inr (inl (report_status ∙ w.0, w.2))))
-    by (inr (inr (inr w))) = inr (inl (report_status ∙ w.0))
-
-  -- The causes of refusals, by the words found.
-  module _ (telling : IsTelling t) where
-    abbrev l : Geometry
-    l = layout_of found
-
-    rule_found : superblock_rule bytes found ≡ None
-    rule_found = has_layout bytes found (sound_found (telling_then telling))
-
-    some_cores : 1 ≤ l.cores
-    some_cores = (agreeing.is bytes found found (λ w lt. refl) rule_found).cores
-
-    causes_found : HasCauses found trace f.answer
-    causes_found =
-        let C = subst (λ q. HasCauses o.found q f.answer) (sym trace_is) K.causes in
-        let same = words_found (telling_then telling) in
-        let layout = layout_is (telling_then telling) in
-        record {
-          full = λ n k a is why asked ample. C.full n k a is why asked
-              (subst (λ c. IsAmpleFor (layout_of o.found) o.found trace c) (ap (λ m. owner m k) layout) (agreeing.ample_agrees bytes o.found found same rule_found trace (owner l k) (below k) ample));
-          spent = λ n a is why k asked. let more = C.spent n a is why k asked in let version = agreeing.version_agrees bytes o.found found same rule_found k in omega (arith, more, version);
-          kinds = C.kinds;
-          long = λ n a is why q asked. ap (λ m. is_too_long m q) layout ∙ C.long n a is why q asked;
-        }
-      where
-        below : (k : ℕ) → k % l.cores < l.cores
-        below k = let c = some_cores in omega (arith, c)
-
-    abbrev told_refused : map (λ (y : Refusal). (y.request, reply_to y.why)) r.refusals.items ≡ (told_of f).refusals
-    told_refused = ap (λ (z : Told). z.refusals) told_is
-
-    within : length f.given ≤ length trace
-    within = let sum = length-append f.given K.more in let all = ap length trace_is in omega (arith, sum, all)
-
-    pub full_then : AllByRecursion (λ (y : Refusal). reply_to y.why ≡ Full → (k : ℕ) → IsAsked trace y.request k → IsAmpleFor l found trace (owner l k) → ⊥) r.refusals.items
-    full_then = full_of found trace f.answer causes_found (length f.given) within r.refusals.items told_refused some_cores
-
-    pub spent_then : AllByRecursion (λ (y : Refusal). (last : ℕ) → y.why ≡ Versions last → (k : ℕ) → IsAsked trace y.request k → 1048574 ≤ version_of found k + changes_asked k (take y.request trace)) r.refusals.items
-    spent_then = spent_of found trace f.answer causes_found (length f.given) within r.refusals.items told_refused some_cores
-
-    pub unrefused_then : IsWithinLimits found trace → r.refusals.items ≡ []
-    unrefused_then = unrefused_of found trace f.answer causes_found (length f.given) within r.refusals.items told_refused some_cores
-
-  pub played_replays : (source source' : ℕ) → Replays old t found coming left source source' cores input before now flushed faults faults' r
-  played_replays source source' = record {
-    cores_are = λ n told. let stamp = attached.stamp in cores_found (K.stands.run.was n told (omega (arith, stamp)));
-    order = order;
-    due = due_of source source';
-    done = written;
-    failed = written_failed;
-    sunk = written_sunk;
-    begins = begun W;
-    crash = λ sound. crash_then;
-    last = recovers_all;
-    run = ran_to;
-    rising = subst (λ (z : Told). AreRising (finished_in z) × AreRising (refused_in z)) (sym told_is) (rising is_finish (λ a. a.stamp) f.answer 0 (length f.given), rising is_told (λ a. a.reply) f.answer 0 (length f.given));
-    full = full_then;
-    spent = spent_then;
-    unrefused = unrefused_then;
-  }
+use Rattle.flatstore.proofs.Causing.{HasCauses}
+use Rattle.flatstore.proofs.Running as running
+use Rattle.flatstore.proofs.Serving.{Known, serves, ends_then}
+use Rattle.flatstore.proofs.Standing.{origin_cores}
 
 none_behind : {X : Type 0} (xs ys : List X) → xs ≡ xs ++ ys → ys ≡ []
 none_behind xs [] e = refl
@@ -402,13 +34,29 @@ module _ (old s t : State) (found word : ℕ → ℕ) (A : Attached old s s.fram
   o = P.ran.origin
 
   abbrev f : Engine
-  f = P.ran.last
+  f = P.ran.last.engine
+
+  abbrev cores : ℕ
+  cores = P.recovered.layout.cores
+
+  abbrev input : List ℕ
+  input = P.ready.read.input
 
   began : o.region ≡ s
   began = P.ran.begins.region
 
+  count : (layout_of o.found).cores ≡ cores
+  count = origin_cores s word P.recovered P.ready.stands o P.ran.begins.reads
+
+  -- Calls of the region led there from where it was attached.
+  pub onward : Runs s t
+  onward = running.on old s t found word A once granted P.recovered P.ready.stands cores input P.lines P.ready.read.good x P.ran count
+
+  engine_ran : x.end ≢ ends.Memory → Ran AnyTurn given_to cores P.lines (opening o) f
+  engine_ran = running.engine_ran old s t found word A once granted P.recovered P.ready.stands cores input P.lines P.ready.read.good x P.ran count
+
   given_whole : x.end ≢ ends.Memory → P.ran.given.0 ≡ []
-  given_whole not_cut = none_behind f.given P.ran.given.0 (ran_given AnyTurn (λ e g c b m. m.0) (layout_of o.found).cores P.lines (opening o) f (P.ran.ran not_cut) ∙ P.ran.given.1)
+  given_whole not_cut = none_behind f.given P.ran.given.0 (ran_given AnyTurn (λ e g c b m. m.0) cores P.lines (opening o) f (engine_ran not_cut) ∙ P.ran.given.1)
 
   causes : HasCauses o.found (f.given ++ P.ran.given.0) f.answer
   causes =
@@ -421,38 +69,50 @@ module _ (old s t : State) (found word : ℕ → ℕ) (A : Attached old s s.fram
         long = λ n a is why q asked. C.long more n q a is why asked;
       }
 
-  pub known : Known old found coming left P.cores P.read.input o f x
-  known =
-      let on : Runs s f.region = subst (λ z. Runs z f.region) began P.ran.stands.run in
-      record {
-        origin = P.ran.begins.is;
-        from = record { at = s; attached = subst (λ (fr : Frame). Attached old s fr.bytes found) (sym on.frame) A; once = once; granted = granted; on = on };
-        at_origin = began;
-        low = let same = ap (λ (z : State). z.faults) began in omega (arith, low, same);
-        words = subst (λ z. IsTelling z → (w : ℕ) → w < z.frame.bytes / 8 → o.found w ≡ lasts z w) (sym began) P.ran.begins.tells;
-        count = P.count;
-        lines = P.lines;
-        good = P.read.good;
-        stands = P.ran.stands;
-        promised = P.ran.promised;
-        more = P.ran.given.0;
-        given = P.ran.given.1;
-        all_given = given_whole;
-        reports = subst (λ z. ReportsOn z o f (report_in x)) (sym P.ran.region) P.ran.reports;
-        ran = λ not_cut. subst (λ n. Ran AnyTurn n P.lines (opening o) f) P.count (P.ran.ran not_cut);
-        done = P.ran.done;
-        fault = P.ran.fault;
-        whole = P.ran.complete;
-        causes = causes;
-      }
+  low_stamp : (n : ℕ) → o.region.stamp ≤ n
+  low_stamp n = let same = ap (λ (z : State). z.stamp) began in let stamp = A.stamp in omega (arith, same, stamp)
 
-  pub promise : (before now : Option (List ℕ)) (flushed : Bool) (faults faults' : ℕ) (r : Report) → HasWritten x before now flushed faults faults' r.status
-      → r.finishes.items ≡ x.finishes.items → r.refusals.items ≡ x.refusals.items → r.began ≡ true → r.complete ≡ is_ended x.end → (source source' : ℕ)
-      → (input : List ℕ) × (cores : ℕ) × IsInput coming input × Replays old t found coming left source source' cores input before now flushed faults faults' r
-  promise before now flushed faults faults' r W finishes refusals began complete source source' = (
-    P.read.input,
-    P.cores,
-    P.read.is_input,
-    subst (λ z. Replays old z found coming left source source' P.cores P.read.input before now flushed faults faults' r) P.ran.region
-        (played_replays old found coming left P.cores P.read.input o f x known P.read.whole before now flushed faults faults' r.status W r refl (λ i. told (finishes i) (refusals i)) began complete source source'),
-  )
+  pub known : Known old found coming left cores input o f x
+  known = record {
+    attached = subst (λ (z : State). Attached old z z.frame.bytes found) (sym began) A;
+    origin = P.ran.begins.is;
+    was = λ n told. P.ran.stands.run.was n told (low_stamp n);
+    bytes = ap (λ (fr : Frame). fr.bytes) P.ran.stands.run.frame;
+    leaves = λ cells image may. subst (λ fr. MayLeave fr cells image) P.ran.stands.run.frame may;
+    low = let same = ap (λ (z : State). z.faults) began in omega (arith, low, same);
+    words = subst (λ z. IsTelling z → (w : ℕ) → w < z.frame.bytes / 8 → o.found w ≡ lasts z w) (sym began) P.ran.begins.tells;
+    count = count;
+    lines = P.lines;
+    good = P.ready.read.good;
+    promised = P.ran.promised;
+    more = P.ran.given.0;
+    given = P.ran.given.1;
+    all_given = given_whole;
+    reports = subst (λ z. ReportsOn z o f (report_in x)) (sym P.ran.region) P.ran.reports;
+    done = P.ran.done;
+    fault = P.ran.fault;
+    whole = P.ran.complete;
+    causes = causes;
+  }
+
+  -- The report is on the last state of the run.
+  module _ (before now : Option (List ℕ)) (flushed : Bool) (faults faults' : ℕ) (r : Report) (W : HasWritten x before now flushed faults faults' r.status)
+      (finishes : r.finishes.items ≡ x.finishes.items) (refusals : r.refusals.items ≡ x.refusals.items) (begun : r.began ≡ true) (complete_is : r.complete ≡ is_ended x.end) where
+    report_told : told_in r ≡ told_by (report_in x)
+    report_told i = told (finishes i) (refusals i)
+
+    replays : (source source' : ℕ) → Replays old f.region found coming left source source' cores input before now flushed faults faults' r
+    replays source source' = record {
+      serves = serves old found coming left cores input o f x known P.ready.read.whole before now flushed faults faults' r.status W r refl report_told begun complete_is source source';
+      ends = ends_then old found coming left cores input o f x known P.ready.read.whole before now flushed faults faults' r.status W r refl report_told begun complete_is;
+      run = λ whole. subst (λ z. RanTo old z found cores input before now (IsAllOut r.status faults faults') r) (sym P.ran.region)
+          (running.ran_to old s t found word A once granted P.recovered P.ready.stands cores input P.lines P.ready.read.good x P.ran count before now flushed faults faults' r W finishes refusals complete_is whole);
+    }
+
+    pub promise : (source source' : ℕ) → (input : List ℕ) × (cores : ℕ) × IsInput coming input × Replays old t found coming left source source' cores input before now flushed faults faults' r
+    promise source source' = (
+      input,
+      cores,
+      P.ready.read.is_input,
+      subst (λ z. Replays old z found coming left source source' cores input before now flushed faults faults' r) P.ran.region (replays source source'),
+    )

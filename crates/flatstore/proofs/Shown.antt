@@ -1,18 +1,17 @@
 -- What is written of what the words of a region that was just attached say.
-use Rattle.std.proofs.Common.{◌≡◌, ◌⊎◌, inl, inr, ℕ, List, [], append-nil, sym, ◌∙◌, ap, Bool, true, false, Option}
-use Rattle.pm_region.specs.State.{State, IsTelling, Rose}
+use Rattle.std.proofs.Common.{◌≡◌, inl, inr, ℕ, List, [], append-nil, sym, ◌∙◌, ap, Bool, true, false, Option}
+use Rattle.pm_region.specs.State.{State, IsTelling}
 use Rattle.pm_region.specs.Words.{lasts}
 use Rattle.pm_region.specs.Split.{Attached}
 use Rattle.store_image.specs.declared.types.Fault.TheVariants as faults
-use Rattle.store_image.specs.Soundness.{IsSound, first_fault}
+use Rattle.store_image.specs.Soundness.{IsSound}
 use Rattle.fs_text.specs.Streams.{Takes, TakesPrefix}
 use Rattle.flatstore.specs.declared.report.Status.{Status}
 use Rattle.flatstore.specs.declared.report.Status.TheVariants as statuses
 use Rattle.flatstore.specs.declared.report.Report.{Report}
 use Rattle.flatstore.specs.Attaching.{Attaches}
-use Rattle.flatstore.specs.Dumps.{IsUnlisted, status_by, is_of_writing}
-use Rattle.flatstore.specs.Shows.{Shows, HasShown, WritesText}
-use Rattle.flatstore.proofs.Listed.{same_fault}
+use Rattle.flatstore.specs.Shows.{Shows, HasShown, WritesText, IsDueOf, IsUnlisted, status_by, is_of_writing}
+use Rattle.flatstore.proofs.Attached.{found_fault}
 
 both : (b : Bool) {P : Type 0} → b ≡ true → b ≡ false → P
 both b t f = cc (sym t ∙ f)
@@ -39,7 +38,7 @@ module _ (s : State) (image : ℕ → ℕ) (status : Status) where
 
 module _ (IsText : List ℕ → Type 0) (old s : State) (found : ℕ → ℕ) (A : Attached old s s.frame.bytes found) (before : Option (List ℕ)) where
   sound_found : IsTelling s → IsSound s.frame.bytes (lasts s) → IsSound s.frame.bytes found
-  sound_found telling sound = sym (same_fault old s found A telling) ∙ sound
+  sound_found telling sound = sym (found_fault old s found A telling) ∙ sound
 
   -- a rule is broken, or there was no memory for what is to be written
   pub shows_none : (flushed : Bool) (count : ℕ) (status : Status) → IsUnlisted s (lasts s) status → (r : Report) → r.status ≡ status → r.complete ≡ false → Attaches old s found r
@@ -54,9 +53,9 @@ module _ (IsText : List ℕ → Type 0) (old s : State) (found : ℕ → ℕ) (A
     written = λ written. absurd (not_written s (lasts s) status why (ap is_of_writing (sym is) ∙ written));
     untouched = λ attached. A;
   } where
-    by_cause : IsUnlisted s (lasts s) status → IsTelling s → (r.status ≡ status_by (first_fault s.frame.bytes found)) ⊎ ((r.status ≡ statuses.Memory) ⊎ ((r.status ≡ statuses.SinkFault) × Rose count count × IsSound s.frame.bytes found))
+    by_cause : IsUnlisted s (lasts s) status → IsTelling s → IsDueOf s.frame.bytes found count count r.status
     by_cause (inl memory) telling = inr (inl (is ∙ memory))
-    by_cause (inr broken) telling = inl (is ∙ broken.1 ∙ ap status_by (sym (broken.2 telling) ∙ same_fault old s found A telling))
+    by_cause (inr broken) telling = inl (is ∙ broken.1 ∙ ap status_by (sym (broken.2 telling) ∙ found_fault old s found A telling))
 
   -- the text was written, or the beginning of it
   pub shows_text : (text : List ℕ) → IsText text → (IsTelling s → IsSound s.frame.bytes (lasts s))
@@ -72,7 +71,7 @@ module _ (IsText : List ℕ → Type 0) (old s : State) (found : ℕ → ℕ) (A
     written = λ written. complete;
     untouched = λ attached. A;
   } where
-    due_of : HasShown text before now flushed count count' r.status → IsTelling s → (r.status ≡ status_by (first_fault s.frame.bytes found)) ⊎ ((r.status ≡ statuses.Memory) ⊎ ((r.status ≡ statuses.SinkFault) × Rose count count' × IsSound s.frame.bytes found))
+    due_of : HasShown text before now flushed count count' r.status → IsTelling s → IsDueOf s.frame.bytes found count count' r.status
     due_of (inl w) telling = inl (w.0 ∙ ap status_by (sym (sound_found telling (sound telling))))
     due_of (inr (inl w)) telling = inr (inr (w.0, w.1, sound_found telling (sound telling)))
     due_of (inr (inr w)) telling = inr (inl w.0)

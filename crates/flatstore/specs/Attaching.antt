@@ -4,6 +4,7 @@ use Rattle.pm_region.specs.State.{State, Over, Rose}
 use Rattle.pm_region.specs.Split.{Attached, Stays, IsOpenedOnceMore, IsNotOpened}
 use Rattle.chunk_map.specs.declared.layouts.Geometry.{Geometry}
 use Rattle.chunk_map.specs.Layouts.{total_bytes}
+use Rattle.thread_engine.specs.RanApart.{Rejoined}
 use Rattle.flatstore.specs.declared.report.Status.{Status}
 use Rattle.flatstore.specs.declared.report.Status.TheVariants as statuses
 use Rattle.flatstore.specs.declared.report.Report.{Report}
@@ -12,13 +13,18 @@ use Rattle.flatstore.specs.declared.report.Report.{Report}
 abbrev pub Runs : State → State → Type 0
 Runs old new = Over old new (λ t cells. Unit {0})
 
--- It was opened once, with these words, and all that was done to it was done from that moment on.
-pub record GoesOnFrom (old new : State) (bytes : ℕ) (image : ℕ → ℕ) : Type 0 where
+-- It was opened once, with these words, and from that moment on this was done to it.
+pub record GoesOnBy (Done : State → State → Type 0) (old new : State) (bytes : ℕ)
+    (image : ℕ → ℕ) : Type 0 where
   pub at : State
   pub attached : Attached old at bytes image
   pub once : IsOpenedOnceMore old at
   pub granted : at.frame.refusals ≡ old.frame.refusals
-  pub on : Runs at new
+  pub on : Done at new
+
+-- the same, and from that moment on its calls were used
+abbrev pub GoesOnFrom : State → State → ℕ → (ℕ → ℕ) → Type 0
+GoesOnFrom old new bytes image = GoesOnBy Runs old new bytes image
 
 -- It stays as it was: nobody tried to open it, or that was refused.
 pub record IsUnopened (old new : State) : Type 0 where
@@ -28,13 +34,26 @@ pub record IsUnopened (old new : State) : Type 0 where
 -- There was no memory, or the opening itself failed.
 abbrev pub HasNotOpened : State → State → Status → Type 0
 HasNotOpened old new status =
-    (status ≡ statuses.Memory) ⊎ ((status ≡ statuses.RegionFault) × IsOpenedOnceMore old new × Rose old.frame.refusals new.frame.refusals)
+    (status ≡ statuses.Memory) ⊎ ((status ≡ statuses.RegionFault) × IsOpenedOnceMore old new
+    × Rose old.frame.refusals new.frame.refusals)
 
--- A replay and a dump attach the region once, or leave it as it was.
-pub record Attaches (old new : State) (found : ℕ → ℕ) (r : Report) : Type 0 where
-  pub attached : r.attached ≡ true → GoesOnFrom old new new.frame.bytes found
+-- A call that attaches the region does so once, and then does this to it, or it leaves it as it was.
+pub record AttachesBy (Done : State → State → Type 0) (old new : State) (found : ℕ → ℕ)
+    (r : Report) : Type 0 where
+  pub attached : r.attached ≡ true → GoesOnBy Done old new new.frame.bytes found
   pub unattached : r.attached ≡ false → IsUnopened old new
   pub cause : r.attached ≡ false → HasNotOpened old new r.status
+
+-- a replay and a dump use the calls of the region alone
+abbrev pub Attaches : State → State → (ℕ → ℕ) → Report → Type 0
+Attaches old new found r = AttachesBy Runs old new found r
+
+-- a run on threads splits the region and joins it again, or leaves it as it was
+abbrev pub MayRejoin : State → State → Type 0
+MayRejoin old new = Rejoined old new ⊎ (Stays old new × IsNotOpened old new)
+
+abbrev pub AttachesToSplit : State → State → (ℕ → ℕ) → Report → Type 0
+AttachesToSplit old new found r = AttachesBy MayRejoin old new found r
 
 -- A format creates the region once, or leaves it as it was, or its one try to create it failed.
 pub record Creates (old new : State) (l : Geometry) (r : Report) : Type 0 where

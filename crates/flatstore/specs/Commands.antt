@@ -24,7 +24,11 @@ word_rule name = record (new_rule name) { required = true }
 
 -- a required option with a number of 64 bits
 abbrev pub number_rule : Text → Rule
-number_rule name = record (new_rule name) { long = Some name; parser = Some u64_reader; required = true }
+number_rule name = record (new_rule name) {
+  long = Some name;
+  parser = Some u64_reader;
+  required = true;
+}
 
 -- a subcommand with the path of a region
 abbrev pub region_command : Text → App
@@ -38,9 +42,11 @@ format_command =
 abbrev pub bare_program : App
 bare_program = on_top (λ s. record s { subcommand_required = true }) (new_app (codes "flatstore"))
 
--- with what makes a region and what changes one
+-- with what makes a region and what change one
 abbrev pub writing_program : App
-writing_program = with_subcommand (with_subcommand bare_program format_command.top) (region_command (codes "replay")).top
+writing_program =
+    with_subcommand (with_subcommand (with_subcommand bare_program format_command.top)
+    (region_command (codes "replay")).top) (region_command (codes "run")).top
 
 -- the command of the program
 abbrev pub program : App
@@ -59,12 +65,14 @@ is_taken words = is_good (fault_of program words)
 pub data Form : Type 0 where
   Format : Text → Geometry → Form
   Replay : Text → Form
+  Run : Text → Form
   Dump : Text → Form
   Log : Text → Form
 
 -- the number that the reader makes of a text
 abbrev pub number_of : Text → Option ℕ
-number_of text = if accepts false u64_reader text then Some (digits_value 10 (without_leading_plus text)) else None
+number_of text = if accepts false u64_reader text then Some (digits_value 10
+    (without_leading_plus text)) else None
 
 abbrev pub number_in : Text → List Row → Option ℕ
 number_in name rows = option_and_then number_of (one_of name rows)
@@ -72,16 +80,23 @@ number_in name rows = option_and_then number_of (one_of name rows)
 -- the layout with the four numbers, where they keep its rules
 abbrev pub layout_in : List Row → Option Geometry
 layout_in rows =
-    option_and_then (λ cores. option_and_then (λ group. option_and_then (λ chunks. option_and_then (λ chunk_bytes.
-    layout_by_rule (record { cores = cores; group = group; chunks = chunks; chunk_bytes = chunk_bytes }))
+    option_and_then (λ cores. option_and_then (λ group. option_and_then
+    (λ chunks. option_and_then (λ chunk_bytes.
+    layout_by_rule (record {
+      cores = cores;
+      group = group;
+      chunks = chunks;
+      chunk_bytes = chunk_bytes;
+    }))
     (number_in (codes "chunk-bytes") rows)) (number_in (codes "chunks") rows)) (number_in (codes "group") rows)) (number_in (codes "cores") rows)
 
 abbrev pub form_named : Text → List Row → Text → Option Form
 form_named name rows path =
     if bytes_eq name (codes "format") then option_map (λ l. Format path l) (layout_in rows)
     else (if bytes_eq name (codes "replay") then Some (Replay path)
+    else (if bytes_eq name (codes "run") then Some (Run path)
     else (if bytes_eq name (codes "dump") then Some (Dump path)
-    else (if bytes_eq name (codes "log") then Some (Log path) else None)))
+    else (if bytes_eq name (codes "log") then Some (Log path) else None))))
 
 abbrev pub form_in : Option (Text × List Row) → Option Form
 form_in subcommand = option_and_then (λ s. option_and_then (form_named s.0 s.1) (first_of (codes "region") s.1)) subcommand
@@ -89,3 +104,16 @@ form_in subcommand = option_and_then (λ s. option_and_then (form_named s.0 s.1)
 -- What the words ask for: none where the command doesn't take them, or where the numbers of a layout break a rule of it.
 abbrev pub form_of : List Text → Option Form
 form_of words = if is_taken words then form_in (subcommand_of program words) else None
+
+-- the words are those of `run`
+abbrev pub needs_threads : Option Form → Bool
+needs_threads None = false
+needs_threads (Some (Format path l)) = false
+needs_threads (Some (Replay path)) = false
+needs_threads (Some (Run path)) = true
+needs_threads (Some (Dump path)) = false
+needs_threads (Some (Log path)) = false
+
+-- What the words ask of a call that starts no thread: those of `run` count as no form.
+abbrev pub alone_form_of : List Text → Option Form
+alone_form_of words = if needs_threads (form_of words) then None else form_of words

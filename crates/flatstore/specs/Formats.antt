@@ -23,7 +23,8 @@ pub record IsEmptyStore (l : Geometry) (image : ℕ → ℕ) : Type 0 where
 
 -- an image of so many bytes is refused by rule 2, or is the empty region
 abbrev pub IsRefusedOrEmpty : Geometry → (ℕ → ℕ) → Type 0
-IsRefusedOrEmpty l image = (first_fault (total_bytes l) image ≡ Some (NotARegion 2)) ⊎ IsEmptyStore l image
+IsRefusedOrEmpty l image =
+    (first_fault (total_bytes l) image ≡ Some (NotARegion 2)) ⊎ IsEmptyStore l image
 
 -- each image that a crash may leave of these cells has P
 abbrev pub EachImage : Frame → ((ℕ → ℕ) → Type 0) → (ℕ → Cell) → Type 0
@@ -32,11 +33,15 @@ EachImage f P cells = (image : ℕ → ℕ) → MayLeave f cells image → P ima
 -- of a region before and after the call, the layout that was asked for, and the report
 pub record Formats (old new : State) (l : Geometry) (r : Report) : Type 0 where
   -- It ends well, but for a fault that was counted and want of memory.
-  pub ends : (r.status ≡ statuses.Done) ⊎ ((r.status ≡ statuses.Memory) ⊎ ((r.status ≡ statuses.RegionFault) × Rose old.faults new.faults))
+  pub ends : (r.status ≡ statuses.Done)
+      ⊎ ((r.status ≡ statuses.Memory) ⊎ ((r.status ≡ statuses.RegionFault)
+      × Rose old.faults new.faults))
   -- The region was created once, unless the device refused that or there was no memory.
   pub creates : Creates old new l r
   pub size : r.attached ≡ true → new.frame.bytes ≡ total_bytes l
   -- Whatever a crash leaves at any told moment since the region was created is refused, or is the empty region.
-  pub crash : r.attached ≡ true → (t : ℕ) → IsTold new t → EachImage new.frame (IsRefusedOrEmpty l) (new.cells t)
+  pub crash : r.attached ≡ true → (t : ℕ) → IsTold new t
+      → EachImage new.frame (IsRefusedOrEmpty l) (new.cells t)
   -- At the end it is the empty region.
-  pub done : r.status ≡ statuses.Done → IsTelling new → EachImage new.frame (IsEmptyStore l) (cell_now new)
+  pub done : r.status ≡ statuses.Done → IsTelling new
+      → EachImage new.frame (IsEmptyStore l) (cell_now new)

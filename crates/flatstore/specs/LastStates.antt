@@ -1,20 +1,23 @@
 -- The run of the engine that a report is of.
-use Rattle.std.specs.Prelude.{◌≡◌, ℕ, ◌/◌, ◌<◌, List, [], ◌∷◌, Option, Ok}
-use Rattle.std.specs.List.{AllByRecursion}
+use Rattle.std.specs.Prelude.{◌≡◌, ℕ, ◌/◌, ◌<◌, List, [], ◌∷◌, length, map, Option, Ok}
+use Rattle.std.specs.List.{AllByRecursion, slice_get}
 use Rattle.pm_region.specs.State.{State, IsTelling, cell_now}
 use Rattle.chunk_map.specs.Layouts.{layout_of}
 use Rattle.fs_text.specs.declared.line.Line.{Line}
 use Rattle.fs_text.specs.Input.{input_of}
 use Rattle.fs_text.specs.Output.{replies_text}
 use Rattle.fs_text.specs.Streams.{Takes, TakesPrefix}
-use Rattle.engine_laws.specs.Engine.{Engine}
+use Rattle.recover.specs.declared.types.Recovered.{Recovered}
+use Rattle.core_worker.specs.declared.worker.Worker.{Worker}
 use Rattle.engine_laws.specs.Parts.{AllLicensed}
-use Rattle.engine_laws.specs.Stands.{Origin, opening}
-use Rattle.engine_laws.specs.Promises.{IsOrigin, AnyTurn}
+use Rattle.engine_laws.specs.Stands.{Origin}
 use Rattle.engine_laws.specs.Ran.{Ran}
 use Rattle.engine_laws.specs.Idle.{IsDrained}
 use Rattle.engine_laws.specs.Reports.{told_of, replies_of, AllAnswered}
-use Rattle.group_engine.specs.Reports.{told}
+use Rattle.group_engine.specs.Answers.{kept_at, ShowsAnswer}
+use Rattle.group_engine.specs.Replayed.{StandsAsFound, BeginsAt}
+use Rattle.group_engine.specs.Reports.{told, reply_in, finishes_in, refusals_in}
+use Rattle.group_engine.specs.Runs.{RunState, CoreMoves, AreNew, first_state, with_request}
 use Rattle.headline.specs.Headline.{Told}
 use Rattle.flatstore.specs.Attaching.{GoesOnFrom}
 use Rattle.flatstore.specs.declared.report.Report.{Report}
@@ -28,28 +31,65 @@ abbrev pub AreRising : List ℕ → Type 0
 AreRising [] = Unit {0}
 AreRising (n ∷ ns) = AllByRecursion (λ m. n < m) ns × AreRising ns
 
--- The lines of the input led the engine from the region, as it was attached with these words, to a last state, and this is a report on it.
--- `AllOut` holds where no write failed.
-pub record RanTo (old new : State) (found : ℕ → ℕ) (cores : ℕ) (input : List ℕ) (before now : Option (List ℕ)) (AllOut : Type 0) (r : Report) : Type 0 where
-  -- It begins at the region as it was attached: every group opened on its words, with no request and no answer. Where the region tells, the words are those that were found.
+-- The words that a run begins with in a region that was just attached, and what recovery gave of them.
+pub record Starts (at : State) (found : ℕ → ℕ) (cores : ℕ) : Type 0 where
+  -- the words that the region reads, and what recovery gave of them
+  pub word : ℕ → ℕ
+  pub recovered : Recovered
+  pub stands : StandsAsFound at word recovered
+  -- The run begins at these words. Where the region tells, they are those that were found.
+  pub origin : Origin
+  pub begins : BeginsAt at word origin
+  pub words : IsTelling at → (w : ℕ) → w < at.frame.bytes / 8 → origin.found w ≡ found w
+  pub count : (layout_of origin.found).cores ≡ cores
+
+-- How it begins: every group opens on these words, and every worker is made of what recovery gave its
+-- core of them.
+pub record Opens (at : State) (found : ℕ → ℕ) (cores : ℕ) : Type 0 where
+  pub start : Starts at found cores
+  -- the workers, by core
+  pub workers : List Worker
+  pub new : AreNew start.recovered.starts.items start.recovered.layout workers
+
+-- the state in which it begins: no request was given, and no answer
+abbrev pub first_of : {at : State} {found : ℕ → ℕ} {cores : ℕ} → Opens at found cores
+    → RunState Worker
+first_of x = first_state x.start.origin x.workers
+
+-- A report, and what the sink took, are made of the answers that are kept in a state of the run:
+-- the finishes with their stamps, the refusals with what was counted, and the replies. `AllOut`
+-- holds where no write failed.
+pub record ReportsAnswers (new : State) (before now : Option (List ℕ)) (AllOut : Type 0)
+    (last : RunState Worker) (r : Report) : Type 0 where
+  pub finishes : r.finishes.items ≡ finishes_in 0 last.answers
+  pub refusals : r.refusals.items ≡ refusals_in 0 last.answers
+  pub begins : TakesPrefix before now (replies_text (map reply_in last.answers))
+  pub writes : AllOut → Takes before now (replies_text (map reply_in last.answers))
+  -- Those are the answers of the state, each with its stamp and the cause of its refusal; where the
+  -- region doesn't tell, a get may have found another value.
+  pub count : length last.answers ≡ length last.engine.given
+  pub shown : (n : ℕ) → ShowsAnswer (IsTelling new) (slice_get last.engine.given n)
+      (last.engine.answer n) (kept_at last.answers n)
+  pub told_is : told_in r ≡ told_of last.engine
+  pub replies : IsTelling new → map reply_in last.answers ≡ replies_of last.engine
+
+-- The lines of the input led the engine from the region, as it was attached with these words, to a
+-- last state, and this is a report on it.
+pub record RanTo (old new : State) (found : ℕ → ℕ) (cores : ℕ) (input : List ℕ)
+    (before now : Option (List ℕ)) (AllOut : Type 0) (r : Report) : Type 0 where
   pub from : GoesOnFrom old new new.frame.bytes found
-  pub o : Origin
-  pub origin : IsOrigin o
-  pub region : o.region ≡ from.at
-  pub words : IsTelling from.at → (w : ℕ) → w < from.at.frame.bytes / 8 → o.found w ≡ found w
-  pub count : (layout_of o.found).cores ≡ cores
-  -- The lines are those of the input: a request joins its owner's backlog, a `go` line is so many moves of its core, and after the last come passes over all cores until nothing moves.
+  pub first : Opens from.at found cores
+  -- The lines are those of the input: a request joins its owner's backlog, a `go` line is so many
+  -- moves of its core's worker, and after the last come passes over all cores until nothing moves.
   pub lines : List Line
   pub good : input_of cores input ≡ Ok lines
-  pub f : Engine
-  pub ran : Ran AnyTurn cores lines (opening o) f
-  -- The region is as it is in the last state. Everything is answered there, every slot is empty and nothing waits.
-  pub ends : f.region ≡ new
-  pub answered : AllAnswered f
-  pub drained : IsDrained f
-  -- The report's finishes with their stamps, and its refusals with the replies that they stand for, are those of its answers, and the text is that of its answers.
-  pub told_is : told_in r ≡ told_of f
-  pub begins : IsTelling new → TakesPrefix before now (replies_text (replies_of f))
-  pub writes : AllOut → IsTelling new → Takes before now (replies_text (replies_of f))
+  pub last : RunState Worker
+  pub ran : Ran CoreMoves with_request cores lines (first_of first) last
+  -- The region is as it is in the last state. Everything is answered there, every slot is empty and
+  -- nothing waits.
+  pub ends : last.engine.region ≡ new
+  pub answered : AllAnswered last.engine
+  pub drained : IsDrained last.engine
+  pub reports : ReportsAnswers new before now AllOut last r
   -- Whatever a crash leaves of a part now is licensed by its core's view in that state.
-  pub licensed : IsTelling new → AllLicensed f.layout f.group (cell_now new)
+  pub licensed : IsTelling new → AllLicensed last.engine.layout last.engine.group (cell_now new)

@@ -11,6 +11,8 @@ pub mod Shows
 pub mod Logs
 pub mod Reads
 pub mod Played
+pub mod ThreadPlays
+pub mod ThreadRuns
 pub use Rattle.chunk_map.specs.Checked
 pub use Rattle.chunk_map.specs.Layouts
 pub use Rattle.chunk_map.specs.Superblock
@@ -29,6 +31,7 @@ pub use Rattle.fs_text.specs.Output
 pub use Rattle.fs_text.specs.Streams
 pub use Rattle.group_engine.specs.Answers
 pub use Rattle.group_engine.specs.Replayed
+pub use Rattle.group_engine.specs.Runs
 pub use Rattle.group_engine.specs.Reports as RunReports
 pub use Rattle.headline.specs.Ample
 pub use Rattle.headline.specs.Headline

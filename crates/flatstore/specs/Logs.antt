@@ -8,10 +8,17 @@ use Rattle.fs_text.specs.Output.{entries_text}
 use Rattle.flatstore.specs.Shows.{Shows}
 use Rattle.flatstore.specs.declared.report.Report.{Report}
 
--- A text of entries with their places. Where the words are known, these are all that stand in the logs, by core, chunk and place: superseded ones and copies too.
+-- A text of entries with their places. Where the words are known, these are all that stand in the logs, by core, chunk and
+-- place: superseded ones and copies too.
 abbrev pub IsLogText : Type 0 → (ℕ → ℕ) → List ℕ → Type 0
-IsLogText Known found text = (entries : List PlacedEntry) × (Known → entries ≡ all_entries (layout_of found) found) × (text ≡ entries_text entries)
+IsLogText Known found text =
+    (entries : List PlacedEntry) × (Known → entries ≡ all_entries (layout_of found) found)
+    × (text ≡ entries_text entries)
 
--- Of a region before and after the call, the words that an attach finds, what the sink had taken before and has taken now, whether that was flushed, its counts, and the report.
-abbrev pub Logs : State → State → (ℕ → ℕ) → Option (List ℕ) → Option (List ℕ) → Bool → ℕ → ℕ → Report → Type 0
-Logs old new found before now flushed faults faults' r = Shows (IsLogText (IsTelling new) found) old new found before now flushed faults faults' r
+-- Of a region before and after the call, the words that an attach finds, what the sink had taken before and has taken
+-- now, whether that was flushed, its counts, and the report.
+abbrev pub Logs : State → State → (ℕ → ℕ) → Option (List ℕ) → Option (List ℕ) → Bool → ℕ → ℕ
+    → Report
+    → Type 0
+Logs old new found before now flushed faults faults' r =
+    Shows (IsLogText (IsTelling new) found) old new found before now flushed faults faults' r

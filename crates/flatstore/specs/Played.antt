@@ -1,8 +1,9 @@
 -- What a replay did between attaching and writing.
 use Rattle.std.specs.Prelude.{◌≡◌, ◌⊎◌, ℕ, List, Bool, true, false, Option, Some, None, if◌then◌else◌}
-use Rattle.pm_region.specs.State.{State, IsTelling, Rose}
+use Rattle.pm_region.specs.Cell.{certain}
+use Rattle.pm_region.specs.State.{State, IsTelling, InRange, cell_now, Rose}
+use Rattle.pm_region.specs.Split.{words_in}
 use Rattle.pm_region.specs.Words.{lasts}
-use Rattle.chunk_map.specs.Layouts.{layout_of}
 use Rattle.store_image.specs.declared.types.Fault.{Fault}
 use Rattle.store_image.specs.Soundness.{first_fault}
 use Rattle.fs_text.specs.declared.line.Line.{Line}
@@ -11,24 +12,42 @@ use Rattle.fs_text.specs.Output.{replies_text}
 use Rattle.group_engine.specs.declared.run_outcome.End.{End}
 use Rattle.group_engine.specs.declared.run_outcome.End.TheVariants as ends
 use Rattle.group_engine.specs.declared.run_outcome.Outcome.{Outcome}
-use Rattle.group_engine.specs.Replayed.{Replayed}
+use Rattle.group_engine.specs.Replayed.{Replayed, StandsAsFound}
+use Rattle.recover.specs.declared.types.Recovered.{Recovered}
+use Rattle.fs_text.specs.Bounds.{IsWithin}
 use Rattle.flatstore.specs.Reads.{IsRead, IsUnread}
 use Rattle.flatstore.specs.Statuses.{fault_status}
 use Rattle.flatstore.specs.declared.report.Status.{Status}
 use Rattle.flatstore.specs.declared.report.Status.TheVariants as statuses
 
--- The input was read, and the engine ran over its lines, from the region's state s to t and to this outcome.
-pub record Played (s : State) (word : ℕ → ℕ) (t : State) (coming left : Option (List ℕ)) (x : Outcome) : Type 0 where
-  pub cores : ℕ
+-- A whole region, from word 0 on, of which each word is certain: as an attach leaves it.
+pub record StandsWhole (s : State) : Type 0 where
+  pub first : s.frame.first ≡ 0
+  pub words : s.frame.words ≡ words_in s.frame.bytes
+  pub parted : s.frame.parted ≡ false
+  pub certain : IsTelling s → (w : ℕ) → InRange s.frame w → cell_now s w ≡ certain (lasts s w)
+
+-- What recovery gave of the region, and the lines of the input for its cores.
+pub record IsReady (s : State) (word : ℕ → ℕ) (coming left : Option (List ℕ)) (r : Recovered)
+    (lines : List Line) : Type 0 where
+  pub stands : StandsAsFound s word r
+  pub read : IsRead coming left r.layout.cores lines
+  pub within : IsWithin r.layout.cores lines
+
+-- The region was recovered by the words that it reads, the input was read, and the engine ran over
+-- its lines, from the region's state s to t and to this outcome.
+pub record Played (s : State) (word : ℕ → ℕ) (t : State) (coming left : Option (List ℕ))
+    (x : Outcome) : Type 0 where
+  pub recovered : Recovered
   pub lines : List Line
-  pub read : IsRead coming left cores lines
-  pub ran : Replayed s word lines t x
-  pub count : (layout_of ran.origin.found).cores ≡ cores
+  pub ready : IsReady s word coming left recovered lines
+  pub ran : Replayed s word recovered lines t x
 
 -- Why a region is not served: it breaks a rule, or there was no memory.
 abbrev pub IsUnserved : State → Status → Type 0
 IsUnserved s status =
-    ((fault : Fault) × (status ≡ fault_status fault) × (IsTelling s → first_fault s.frame.bytes (lasts s) ≡ Some fault)) ⊎ (status ≡ statuses.Memory)
+    ((fault : Fault) × (status ≡ fault_status fault)
+    × (IsTelling s → first_fault s.frame.bytes (lasts s) ≡ Some fault)) ⊎ (status ≡ statuses.Memory)
 
 -- the region keeps its rules, where it tells, and has so many cores
 abbrev pub IsCounted : State → ℕ → Type 0
@@ -37,7 +56,8 @@ IsCounted s cores = IsTelling s → (first_fault s.frame.bytes (lasts s) ≡ Non
 -- why a replay answered nothing
 abbrev pub IsRefused : State → Option (List ℕ) → Option (List ℕ) → ℕ → ℕ → Status → Type 0
 IsRefused s coming left source source' status =
-    IsUnserved s status ⊎ ((cores : ℕ) × IsCounted s cores × IsUnread coming left cores source source' status)
+    IsUnserved s status ⊎ ((cores : ℕ) × IsCounted s cores
+    × IsUnread coming left cores source source' status)
 
 -- it came to its end
 abbrev pub is_ended : End → Bool
@@ -48,10 +68,16 @@ is_ended ends.Memory = false
 -- What the writing did: everything was written and flushed, or the front of it, and the status says which. A fault of the region goes before one of the sink.
 abbrev pub HasWritten : Outcome → Option (List ℕ) → Option (List ℕ) → Bool → ℕ → ℕ → Status → Type 0
 HasWritten x before now flushed faults faults' status =
-    ((status ≡ statuses.Done) × (x.end ≡ ends.Complete) × Takes before now (replies_text x.replies.items) × (flushed ≡ true))
-    ⊎ (((status ≡ statuses.RegionFault) × (x.end ≡ ends.RegionFault) × ((Takes before now (replies_text x.replies.items) × (flushed ≡ true)) ⊎ (Rose faults faults' × TakesPrefix before now (replies_text x.replies.items))))
-    ⊎ (((status ≡ statuses.SinkFault) × (x.end ≡ ends.Complete) × Rose faults faults' × TakesPrefix before now (replies_text x.replies.items))
-    ⊎ ((status ≡ statuses.Memory) × (((is_ended x.end ≡ true) × TakesPrefix before now (replies_text x.replies.items)) ⊎ ((is_ended x.end ≡ false) × (now ≡ before))))))
+    ((status ≡ statuses.Done) × (x.end ≡ ends.Complete)
+    × Takes before now (replies_text x.replies.items) × (flushed ≡ true))
+    ⊎ (((status ≡ statuses.RegionFault) × (x.end ≡ ends.RegionFault)
+    × ((Takes before now (replies_text x.replies.items) × (flushed ≡ true))
+    ⊎ (Rose faults faults' × TakesPrefix before now (replies_text x.replies.items))))
+    ⊎ (((status ≡ statuses.SinkFault) × (x.end ≡ ends.Complete) × Rose faults faults'
+    × TakesPrefix before now (replies_text x.replies.items))
+    ⊎ ((status ≡ statuses.Memory) × (((is_ended x.end ≡ true)
+    × TakesPrefix before now (replies_text x.replies.items))
+    ⊎ ((is_ended x.end ≡ false) × (now ≡ before))))))
 
 -- the status of a run by its end, and whether a write failed
 abbrev pub ended_as : End → Bool → Status

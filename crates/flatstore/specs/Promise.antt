@@ -10,6 +10,7 @@ use Rattle.headline.specs.Headline.{Told, cells_of, finished_in, refused_in, Wri
 use Rattle.headline.specs.Ample.{IsAmpleFor}
 use Rattle.headline.specs.Limits.{IsAsked, version_of, changes_asked, IsWithinLimits}
 use Rattle.chunk_map.specs.Layouts.{layout_of, owner}
+use Rattle.log_entry.specs.declared.entry_limits.TheConstants.{LAST_PUT_VERSION}
 use Rattle.store_image.specs.Soundness.{IsSound}
 use Rattle.core_room.specs.declared.types.Shortage.TheVariants.{Versions}
 use Rattle.group_engine.specs.Answers.{reply_to}
@@ -29,44 +30,75 @@ abbrev pub asked_in : ℕ → List ℕ → List Request
 asked_in cores input = trace_of cores input
 
 -- The sink took the whole text of replies that fit the report, or the beginning of such a text. They are lawful where the cells are known. One is `stopped` only for a cause.
-abbrev pub WritesAll : Type 0 → (ℕ → Option (List ℕ)) → List Request → Told → Type 0 → Option (List ℕ) → Option (List ℕ) → Type 0
-WritesAll Known start trace r MayStop before now = (written : List ℕ) × Takes before now written × WritesReplies Known start trace r MayStop written
+abbrev pub WritesAll : Type 0 → (ℕ → Option (List ℕ)) → List Request → Told → Type 0
+    → Option (List ℕ) → Option (List ℕ) → Type 0
+WritesAll Known start trace r MayStop before now = (written : List ℕ) × Takes before now written
+    × WritesReplies Known start trace r MayStop written
 
-abbrev pub WritesFront : Type 0 → (ℕ → Option (List ℕ)) → List Request → Told → Type 0 → Option (List ℕ) → Option (List ℕ) → Type 0
-WritesFront Known start trace r MayStop before now = (written : List ℕ) × Takes before now written × BeginsReplies Known start trace r MayStop written
+abbrev pub WritesFront : Type 0 → (ℕ → Option (List ℕ)) → List Request → Told → Type 0
+    → Option (List ℕ) → Option (List ℕ) → Type 0
+WritesFront Known start trace r MayStop before now = (written : List ℕ) × Takes before now written
+    × BeginsReplies Known start trace r MayStop written
 
 -- every reply was written: the end was one of the run, and no write failed
 abbrev pub IsAllOut : Status → ℕ → ℕ → Type 0
 IsAllOut status sink_faults sink_faults' =
-    (status ≡ statuses.Done) ⊎ ((status ≡ statuses.RegionFault) × (Rose sink_faults sink_faults' → ⊥))
+    (status ≡ statuses.Done) ⊎ ((status ≡ statuses.RegionFault)
+    × (Rose sink_faults sink_faults' → ⊥))
 
--- The headline, of a replay of this input on a region that was attached with these words. Of the source: what it had and has left, and its counts.
--- Of the sink: what it had and has taken, whether that was flushed, and its counts. Of the region: its cores by the words read, which are those found, where it tells.
-pub record Replays (old new : State) (found : ℕ → ℕ) (coming left : Option (List ℕ)) (source_faults source_faults' : ℕ) (cores : ℕ) (input : List ℕ) (before now : Option (List ℕ)) (flushed : Bool) (sink_faults sink_faults' : ℕ) (r : Report) : Type 0 where
+-- The headline, of a run of this input on a region that was attached with these words, whoever makes the moves of its
+-- cores. Of the source: what it had and has left, and its counts. Of the sink: what it had and has taken, whether that was
+-- flushed, and its counts. Of the region: its cores by the words read, which are those found, where it tells.
+pub record Serves (old new : State) (found : ℕ → ℕ) (coming left : Option (List ℕ))
+    (source_faults source_faults' : ℕ) (cores : ℕ) (input : List ℕ) (before now : Option (List ℕ))
+    (flushed : Bool) (sink_faults sink_faults' : ℕ) (r : Report) : Type 0 where
   pub cores_are : (t : ℕ) → IsTold new t → cores ≡ found 2
   pub order : KeepsOrder old new found coming left cores input r
   -- The words found and the input decide on the status, but for faults that were counted and want of memory.
-  pub due : IsTelling new → IsDue new.frame.bytes found input r.status ⊎ IsFault old new source_faults source_faults' sink_faults sink_faults' r.status
+  pub due : IsTelling new → IsDue new.frame.bytes found input r.status
+      ⊎ IsFault old new source_faults source_faults' sink_faults sink_faults' r.status
   -- At the end the whole text was written and flushed, without a `stopped`; also where a call of the region failed, and no write did.
-  pub done : r.status ≡ statuses.Done → WritesAll (IsTelling new) (cells_of found) (asked_in cores input) (told_in r) ⊥ before now × (flushed ≡ true)
-  pub failed : r.status ≡ statuses.RegionFault → (Rose sink_faults sink_faults' → ⊥)
-      → WritesAll (IsTelling new) (cells_of found) (asked_in cores input) (told_in r) (Rose old.faults new.faults) before now × (flushed ≡ true)
+  pub done : r.status ≡ statuses.Done → WritesAll (IsTelling new) (cells_of found)
+      (asked_in cores input) (told_in r) ⊥ before now × (flushed ≡ true)
+  pub failed : r.status ≡ statuses.RegionFault → r.complete ≡ true
+      → (Rose sink_faults sink_faults' → ⊥)
+      → WritesAll (IsTelling new) (cells_of found) (asked_in cores input) (told_in r)
+      (Rose old.faults new.faults) before now × (flushed ≡ true)
   -- Where a write failed and no call of the region did, the beginning of such a text, without a `stopped`.
-  pub sunk : r.status ≡ statuses.SinkFault → WritesFront (IsTelling new) (cells_of found) (asked_in cores input) (told_in r) ⊥ before now
+  pub sunk : r.status ≡ statuses.SinkFault → WritesFront (IsTelling new) (cells_of found)
+      (asked_in cores input) (told_in r) ⊥ before now
   -- Always the beginning of such a text, where a request is `stopped` only if a call of the region failed, or the run did not come to its end.
-  pub begins : WritesFront (IsTelling new) (cells_of found) (asked_in cores input) (told_in r) (r.complete ≡ true → Rose old.faults new.faults) before now
+  pub begins : WritesFront (IsTelling new) (cells_of found) (asked_in cores input) (told_in r)
+      (r.complete ≡ true → Rose old.faults new.faults) before now
   -- Whatever a crash leaves at any told moment since the attach is sound, and recovers for each key its finished changes, or one more.
-  pub crash : IsSound new.frame.bytes found → RecoversThroughout new (cells_of found) (asked_in cores input) (told_in r)
+  pub crash : IsSound new.frame.bytes found → RecoversThroughout new (cells_of found)
+      (asked_in cores input) (told_in r)
   -- At the end it recovers all, also where a write failed.
-  pub last : is_whole r.status ≡ true → RecoversAll new (cells_of found) (asked_in cores input) (told_in r)
-  -- A report that says so did come to the end: then its answers and finishes are those of the last state of a run of the engine over the input's lines.
-  pub run : r.complete ≡ true → RanTo old new found cores input before now (IsAllOut r.status sink_faults sink_faults') r
+  pub last : is_whole r.status ≡ true → RecoversAll new (cells_of found) (asked_in cores input)
+      (told_in r)
   -- Finishes and refusals stand in the order of the requests.
   pub rising : AreRising (finished_in (told_in r)) × AreRising (refused_in (told_in r))
   -- A change is refused for want of room only where the input is not ample for the part of its key's owner,
   -- a put for its version only where its key has so many versions, or the requests before it may use them up, and nothing is refused within all limits.
-  pub full : IsTelling new → AllByRecursion (λ x. reply_to x.why ≡ Full → (k : ℕ) → IsAsked (asked_in cores input) x.request k
-      → IsAmpleFor (layout_of found) found (asked_in cores input) (owner (layout_of found) k) → ⊥) r.refusals.items
-  pub spent : IsTelling new → AllByRecursion (λ x. (last : ℕ) → x.why ≡ Versions last → (k : ℕ) → IsAsked (asked_in cores input) x.request k
-      → 1048574 ≤ version_of found k + changes_asked k (take x.request (asked_in cores input))) r.refusals.items
-  pub unrefused : IsTelling new → IsWithinLimits found (asked_in cores input) → r.refusals.items ≡ []
+  pub full : IsTelling new → AllByRecursion (λ x. reply_to x.why ≡ Full → (k : ℕ)
+      → IsAsked (asked_in cores input) x.request k
+      → IsAmpleFor (layout_of found) found (asked_in cores input) (owner (layout_of found) k)
+      → ⊥) r.refusals.items
+  pub spent : IsTelling new → AllByRecursion (λ x. (last : ℕ) → x.why ≡ Versions last → (k : ℕ)
+      → IsAsked (asked_in cores input) x.request k
+      → LAST_PUT_VERSION ≤ version_of found k + changes_asked k
+      (take x.request (asked_in cores input))) r.refusals.items
+  pub unrefused : IsTelling new → IsWithinLimits found (asked_in cores input)
+      → r.refusals.items ≡ []
+
+-- The headline, of a replay: one thread makes the moves of all cores, by the lines of the input.
+pub record Replays (old new : State) (found : ℕ → ℕ) (coming left : Option (List ℕ))
+    (source_faults source_faults' : ℕ) (cores : ℕ) (input : List ℕ) (before now : Option (List ℕ))
+    (flushed : Bool) (sink_faults sink_faults' : ℕ) (r : Report) : Type 0 where
+  pub serves : Serves old new found coming left source_faults source_faults' cores input before now
+      flushed sink_faults sink_faults' r
+  -- Where a call of the region failed, it came to its end all the same.
+  pub ends : r.status ≡ statuses.RegionFault → r.complete ≡ true
+  -- A report that says so did come to the end: then its answers and finishes are those of the last state of a run of the engine over the input's lines.
+  pub run : r.complete ≡ true → RanTo old new found cores input before now
+      (IsAllOut r.status sink_faults sink_faults') r

@@ -21,7 +21,8 @@ pub record IsRead (coming left : Option (List ℕ)) (cores : ℕ) (lines : List 
 -- a line breaks a rule, or a read failed, or there was no memory
 abbrev pub IsUnread : Option (List ℕ) → Option (List ℕ) → ℕ → ℕ → ℕ → Status → Type 0
 IsUnread coming left cores faults faults' status =
-    (IsReadOut coming left × (input : List ℕ) × IsInput coming input × (is_broken (input_of cores input) ≡ true) × (status ≡ status_of (input_of cores input)))
+    (IsReadOut coming left × (input : List ℕ) × IsInput coming input
+    × (is_broken (input_of cores input) ≡ true) × (status ≡ status_of (input_of cores input)))
     ⊎ (((status ≡ statuses.SourceFault) × Rose faults faults') ⊎ (status ≡ statuses.Memory))
 
 -- the status for an input that was not read

@@ -1,14 +1,32 @@
 -- What a call promises that writes a text of what the words of its region say, and changes nothing of it.
-use Rattle.std.specs.Prelude.{◌≡◌, ◌⊎◌, ℕ, List, Bool, true, Option}
+use Rattle.std.specs.Prelude.{◌≡◌, ◌⊎◌, ℕ, List, Bool, true, false, Option, Some, None}
 use Rattle.pm_region.specs.State.{State, IsTelling, Rose}
 use Rattle.pm_region.specs.Split.{Attached}
+use Rattle.store_image.specs.declared.types.Fault.{Fault}
 use Rattle.store_image.specs.Soundness.{IsSound, first_fault}
 use Rattle.fs_text.specs.Streams.{Takes, TakesPrefix}
 use Rattle.flatstore.specs.Attaching.{Attaches}
-use Rattle.flatstore.specs.Dumps.{status_by, is_of_writing}
 use Rattle.flatstore.specs.declared.report.Status.{Status}
 use Rattle.flatstore.specs.declared.report.Status.TheVariants as statuses
 use Rattle.flatstore.specs.declared.report.Report.{Report}
+use Rattle.flatstore.specs.Statuses.{fault_status}
+
+-- the status that the first broken rule alone decides
+abbrev pub status_by : Option Fault → Status
+status_by None = statuses.Done
+status_by (Some fault) = fault_status fault
+
+-- a status of the writing, where it didn't lack memory
+abbrev pub is_of_writing : Status → Bool
+is_of_writing statuses.Done = true
+is_of_writing statuses.Usage = false
+is_of_writing (statuses.BadInput line rule) = false
+is_of_writing statuses.SourceFault = false
+is_of_writing statuses.SinkFault = true
+is_of_writing statuses.RegionFault = false
+is_of_writing (statuses.Damaged part chunk rule) = false
+is_of_writing (statuses.NotARegion rule) = false
+is_of_writing statuses.Memory = false
 
 -- The sink took a text of this kind, or the beginning of one.
 abbrev pub WritesText : (List ℕ → Type 0) → Option (List ℕ) → Option (List ℕ) → Type 0
@@ -17,14 +35,24 @@ WritesText IsText before now = (text : List ℕ) × IsText text × Takes before 
 abbrev pub BeginsText : (List ℕ → Type 0) → Option (List ℕ) → Option (List ℕ) → Type 0
 BeginsText IsText before now = (text : List ℕ) × IsText text × TakesPrefix before now text
 
--- Of the kind of its texts, a region before and after the call, the words that an attach finds, what the sink had taken before and has taken now, whether that was flushed, its counts, and the report.
-pub record Shows (IsText : List ℕ → Type 0) (old new : State) (found : ℕ → ℕ) (before now : Option (List ℕ)) (flushed : Bool) (sink_faults sink_faults' : ℕ) (r : Report) : Type 0 where
+-- the status that the words found decide, or want of memory, or, of a sound region, a write that failed
+abbrev pub IsDueOf : ℕ → (ℕ → ℕ) → ℕ → ℕ → Status → Type 0
+IsDueOf bytes found faults faults' status =
+    (status ≡ status_by (first_fault bytes found)) ⊎ ((status ≡ statuses.Memory)
+    ⊎ ((status ≡ statuses.SinkFault) × Rose faults faults' × IsSound bytes found))
+
+-- Of the kind of its texts, a region before and after the call, the words that an attach finds, what the sink had taken
+-- before and has taken now, whether that was flushed, its counts, and the report.
+pub record Shows (IsText : List ℕ → Type 0) (old new : State) (found : ℕ → ℕ)
+    (before now : Option (List ℕ))
+    (flushed : Bool) (sink_faults sink_faults' : ℕ) (r : Report) : Type 0 where
   pub attaches : Attaches old new found r
   -- The words found decide on the status, but for want of memory and, of a sound region, a write that failed.
-  pub due : r.attached ≡ true → IsTelling new → (r.status ≡ status_by (first_fault new.frame.bytes found))
-      ⊎ ((r.status ≡ statuses.Memory) ⊎ ((r.status ≡ statuses.SinkFault) × Rose sink_faults sink_faults' × IsSound new.frame.bytes found))
+  pub due : r.attached ≡ true → IsTelling new
+      → IsDueOf new.frame.bytes found sink_faults sink_faults' r.status
   pub no_fault : r.attached ≡ true → r.status ≡ statuses.RegionFault → ⊥
-  -- At the end the whole text was written and flushed, and else the beginning of it, where the writing began. It begins after the rules of the region.
+  -- At the end the whole text was written and flushed, and else the beginning of it, where the writing began. It begins
+  -- after the rules of the region.
   pub done : r.status ≡ statuses.Done → WritesText IsText before now × (flushed ≡ true)
   pub begins : r.complete ≡ true → BeginsText IsText before now
   pub sound : r.complete ≡ true → IsTelling new → IsSound new.frame.bytes found
@@ -38,3 +66,9 @@ HasShown text before now flushed faults faults' status =
     ((status ≡ statuses.Done) × Takes before now text × (flushed ≡ true))
     ⊎ (((status ≡ statuses.SinkFault) × Rose faults faults' × TakesPrefix before now text)
     ⊎ ((status ≡ statuses.Memory) × TakesPrefix before now text))
+
+-- why there is no text: a broken rule, or want of memory
+abbrev pub IsUnlisted : State → (ℕ → ℕ) → Status → Type 0
+IsUnlisted s image status =
+    (status ≡ statuses.Memory) ⊎ ((fault : Fault) × (status ≡ status_by (Some fault))
+    × (IsTelling s → first_fault s.frame.bytes image ≡ Some fault))

@@ -22,12 +22,15 @@ exit_code (NotARegion rule) = 7
 exit_code Memory = 8
 
 abbrev pub damage_line : ℕ → ℕ → ℕ → List ℕ
-damage_line part chunk rule = codes "flatstore: damaged region: part " ++ (decimal part ++ (codes " chunk " ++ (decimal chunk ++ (codes " rule " ++ decimal rule))))
+damage_line part chunk rule =
+    codes "flatstore: damaged region: part " ++ (decimal part
+    ++ (codes " chunk " ++ (decimal chunk ++ (codes " rule " ++ decimal rule))))
 
 abbrev pub fault_line : Status → List ℕ
 fault_line Done = []
 fault_line Usage = codes "flatstore: usage: flatstore format REGION --cores N --group N --chunks N --chunk-bytes N, replay REGION, run REGION, dump REGION, log REGION, load REGION START COUNT"
-fault_line (BadInput line rule) = codes "flatstore: line " ++ (decimal line ++ (codes " breaks input rule " ++ decimal rule))
+fault_line (BadInput line rule) =
+    codes "flatstore: line " ++ (decimal line ++ (codes " breaks input rule " ++ decimal rule))
 fault_line SourceFault = codes "flatstore: reading the input failed"
 fault_line SinkFault = codes "flatstore: writing the output failed"
 fault_line RegionFault = codes "flatstore: the region failed"

@@ -21,7 +21,7 @@ fn deletes(rt: HostRuntime) -> Result<(), Fail> {
         ),
     ];
     for (input, text) in table {
-        let (report, written) = row(alloc, input)?;
+        let (report, written) = row(&rt, input)?;
         assert_eq!(rt; report.status, Status::Done);
         assert_eq!(rt; written.as_slice(), text.as_bytes());
     }
@@ -32,7 +32,7 @@ fn deletes(rt: HostRuntime) -> Result<(), Fail> {
 fn a_delete_of_the_last_version(rt: HostRuntime) -> Result<(), Fail> {
     let alloc = rt.alloc();
     let mut region = SteadyRegion::new(alloc, spent(alloc)?, 5000)?;
-    let (report, written) = replay(alloc, &mut region, "put 9 r\ndelete 9\nget 9\nput 9 z\n")?;
+    let (report, written) = replay(&rt, &mut region, "put 9 r\ndelete 9\nget 9\nput 9 z\n")?;
     assert_eq!(rt;
         written.as_slice(),
         b"versions spent\ndeleted\nabsent\nversions spent\n".as_slice()
@@ -71,7 +71,7 @@ fn seven(alloc: Global) -> Result<String, Fail> {
 #[test]
 fn no_free_block(rt: HostRuntime) -> Result<(), Fail> {
     let alloc = rt.alloc();
-    let (report, written) = row(alloc, seven(alloc)?.as_str())?;
+    let (report, written) = row(&rt, seven(alloc)?.as_str())?;
     let text = b"stored\nstored\nstored\nstored\nstored\nstored\nfull\nfull\nstored\nstored\n";
     assert_eq!(rt; written.as_slice(), text.as_slice());
     let refusal = |request| Refusal {
@@ -95,9 +95,9 @@ fn no_free_block(rt: HostRuntime) -> Result<(), Fail> {
 #[test]
 fn the_longest_value(rt: HostRuntime) -> Result<(), Fail> {
     let alloc = rt.alloc();
-    let (_, written) = row(alloc, put(alloc, 1, b'v', 1016)?.as_str())?;
+    let (_, written) = row(&rt, put(alloc, 1, b'v', 1016)?.as_str())?;
     assert_eq!(rt; written.as_slice(), b"stored\n".as_slice());
-    let (report, written) = row(alloc, put(alloc, 1, b'v', 1017)?.as_str())?;
+    let (report, written) = row(&rt, put(alloc, 1, b'v', 1017)?.as_str())?;
     assert_eq!(rt; written.as_slice(), b"too long\n".as_slice());
     let why = Shortage::Length { length: 1017 };
     assert_eq!(rt;
@@ -113,9 +113,9 @@ fn a_block_of_an_earlier_run(rt: HostRuntime) -> Result<(), Fail> {
     let mut region = SteadyRegion::new(alloc, with(alloc, &[])?, 5000)?;
     let mut input = put(alloc, 1, b'b', 256)?;
     input.push_str(put(alloc, 1, b'c', 256)?.as_str())?;
-    let (_, written) = replay(alloc, &mut region, input.as_str())?;
+    let (_, written) = replay(&rt, &mut region, input.as_str())?;
     assert_eq!(rt; written.as_slice(), b"stored\nstored\n".as_slice());
-    let (_, written) = replay(alloc, &mut region, "get 1\n")?;
+    let (_, written) = replay(&rt, &mut region, "get 1\n")?;
     let mut text = Vec::from_slice(alloc, b"value ")?;
     text.resize(262, b'c')?;
     text.push(b'\n')?;
@@ -137,7 +137,7 @@ fn given_back(alloc: Global) -> Result<String, Fail> {
 #[test]
 fn a_block_that_is_given_back(rt: HostRuntime) -> Result<(), Fail> {
     let alloc = rt.alloc();
-    let (report, written) = row(alloc, given_back(alloc)?.as_str())?;
+    let (report, written) = row(&rt, given_back(alloc)?.as_str())?;
     let text = b"stored\nstored\nstored\nstored\nstored\nstored\nfull\ndeleted\nstored\n";
     assert_eq!(rt; written.as_slice(), text.as_slice());
     let why = Shortage::Block(Counts {

@@ -2,7 +2,7 @@
 ghost use Rattle.std.specs.Prelude.{◌≡◌, IfOk, option_map, string_bytes};
 ghost use Rattle.clap.specs.Words.{found_of, rows_of, subcommand_rows_of};
 ghost use Rattle.chunk_map.specs.Checked.{layout_by_rule};
-ghost use Rattle.flatstore.specs.Commands.{form_of, form_in, form_named, layout_in, number_in, words_of};
+ghost use Rattle.flatstore.specs.Commands.{form_of, form_in, form_named, layout_in, needs_threads, number_in, words_of};
 ghost use Rattle.flatstore.specs.Asked.{asked, path_of};
 
 use crate::parser::program;
@@ -20,6 +20,8 @@ pub enum Command<'a> {
     Format { path: &'a str, layout: Layout },
     /// Answers to the requests of the input, in order.
     Replay { path: &'a str },
+    /// The same answers, with one worker for each core, each in a thread of its own.
+    Run { path: &'a str },
     /// The live pairs, by rising key.
     Dump { path: &'a str },
     /// The entries of the logs, by core, chunk and place.
@@ -34,7 +36,12 @@ fn number_in(matches: &ArgMatches, name: &str) -> Option<u64>
 
 /// The layout with these numbers, where they keep its rules.
 fn layout_of(cores: u64, group: u64, chunks: u64, chunk_bytes: u64) -> Option<Layout>
-    ensures { result ≡ layout_by_rule (record { cores = cores; group = group; chunks = chunks; chunk_bytes = chunk_bytes }) }
+    ensures { result ≡ layout_by_rule (record {
+      cores = cores;
+      group = group;
+      chunks = chunks;
+      chunk_bytes = chunk_bytes;
+    }) }
 {
     if layout_rule(cores, group, chunks, chunk_bytes).is_some() {
         return None;
@@ -54,7 +61,8 @@ fn layout_in(matches: &ArgMatches) -> Option<Layout>
 
 /// The command of a subcommand's name, its matches and its path.
 fn command_named<'a>(name: &str, matches: &ArgMatches, path: &'a str) -> Option<Command<'a>>
-    ensures { option_map asked result ≡ form_named name.now (rows_of (found_of matches.now)) path.entry.now }
+    ensures { option_map asked result ≡ form_named name.now
+        (rows_of (found_of matches.now)) path.entry.now }
 {
     if name == "format" {
         let layout = layout_in(matches)?;
@@ -62,6 +70,9 @@ fn command_named<'a>(name: &str, matches: &ArgMatches, path: &'a str) -> Option<
     }
     if name == "replay" {
         return Some(Command::Replay { path });
+    }
+    if name == "run" {
+        return Some(Command::Run { path });
     }
     if name == "dump" {
         return Some(Command::Dump { path });
@@ -108,6 +119,7 @@ impl<'a> Command<'a> {
         match self {
             Command::Format { path, .. } => path,
             Command::Replay { path } => path,
+            Command::Run { path } => path,
             Command::Dump { path } => path,
             Command::Log { path } => path,
         }
@@ -116,11 +128,23 @@ impl<'a> Command<'a> {
 
 /// The path of the region, or `None` exactly where the words are no form.
 pub fn region_path(alloc: Global, words: &Vec<String>) -> Result<Option<String>, Memory>
-    ensures { IfOk result (λ path. option_map string_bytes path ≡ option_map path_of (form_of (words_of words.now.items))) }
+    ensures { IfOk result (λ path. option_map string_bytes path
+        ≡ option_map path_of (form_of (words_of words.now.items))) }
 {
     match parse_command(alloc, words.as_slice()) {
         Err(error) => Err(error),
         Ok(None) => Ok(None),
         Ok(Some(command)) => Ok(Some(String::from_str(alloc, command.path())?)),
+    }
+}
+
+/// Whether the words are those of `run`.
+pub fn asks_for_threads(alloc: Global, words: &Vec<String>) -> Result<bool, Memory>
+    ensures { IfOk result (λ b. b ≡ needs_threads (form_of (words_of words.now.items))) }
+{
+    match parse_command(alloc, words.as_slice()) {
+        Err(error) => Err(error),
+        Ok(Some(Command::Run { .. })) => Ok(true),
+        Ok(_) => Ok(false),
     }
 }

@@ -3,8 +3,9 @@ use crate::report::{Report, Status};
 use crate::tests::{call, replay, with};
 use fs_text::{MemSink, Sink, SteadySink, SteadySource};
 use pm_region::{ReadRegion, Region, SplitRegion, SteadyRegion};
-use std::alloc::Global;
+use std::alloc::{AllocGlobal, Global};
 use std::test::Fail;
+use std::thread::Threads;
 
 const DUMP: [&str; 3] = ["flatstore", "dump", "region"];
 
@@ -14,12 +15,12 @@ fn region(alloc: Global, others: &[(usize, u8)]) -> Result<SteadyRegion, Fail> {
 }
 
 fn dump<O: Sink, R: SplitRegion + ReadRegion>(
-    alloc: Global,
+    rt: &(impl Threads + AllocGlobal),
     sink: &mut O,
     region: &mut R,
 ) -> Result<Report, Fail> {
-    let mut source = SteadySource::new(Vec::new(alloc), 1);
-    Ok(call(alloc, &DUMP, &mut source, sink, region)?)
+    let mut source = SteadySource::new(Vec::new(rt.alloc()), 1);
+    Ok(call(rt, &DUMP, &mut source, sink, region)?)
 }
 
 #[test]
@@ -27,10 +28,10 @@ fn live_pairs(rt: HostRuntime) -> Result<(), Fail> {
     let alloc = rt.alloc();
     let mut region = region(alloc, &[])?;
     let input = "put 50 abc\nput 5 a\nput 5 de\nput 9 \nput 7 x\ndelete 7\n";
-    let (report, _) = replay(alloc, &mut region, input)?;
+    let (report, _) = replay(&rt, &mut region, input)?;
     assert_eq!(rt; report.status, Status::Done);
     let mut sink = SteadySink::new(alloc, 1000, 7)?;
-    let report = dump(alloc, &mut sink, &mut region)?;
+    let report = dump(&rt, &mut sink, &mut region)?;
     assert_eq!(rt; (report.status, report.attached), (Status::Done, true));
     assert_eq!(rt; sink.text(), Some(b"5 de\n9 \n50 abc\n".as_slice()));
     assert_eq!(rt; region.stamp(), 0);
@@ -56,7 +57,7 @@ fn regions(rt: HostRuntime) -> Result<(), Fail> {
     for (others, status) in table {
         let mut region = region(alloc, others)?;
         let mut sink = SteadySink::new(alloc, 1000, 100)?;
-        assert_eq!(rt; dump(alloc, &mut sink, &mut region)?.status, status);
+        assert_eq!(rt; dump(&rt, &mut sink, &mut region)?.status, status);
         assert_eq!(rt; sink.text(), Some(b"".as_slice()));
     }
     Ok(())
@@ -66,10 +67,10 @@ fn regions(rt: HostRuntime) -> Result<(), Fail> {
 fn a_failing_sink(rt: HostRuntime) -> Result<(), Fail> {
     let alloc = rt.alloc();
     let mut region = region(alloc, &[])?;
-    let (report, _) = replay(alloc, &mut region, "put 5 abc\n")?;
+    let (report, _) = replay(&rt, &mut region, "put 5 abc\n")?;
     assert_eq!(rt; report.status, Status::Done);
     let mut sink = MemSink::new(alloc, 100, 3, vec![in alloc; 2]?)?;
-    let report = dump(alloc, &mut sink, &mut region)?;
+    let report = dump(&rt, &mut sink, &mut region)?;
     assert_eq!(rt; (report.status, report.complete), (Status::SinkFault, true));
     assert_eq!(rt; sink.text(), Some(b"5 a".as_slice()));
     Ok(())

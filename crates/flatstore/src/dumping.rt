@@ -6,7 +6,9 @@ ghost use Rattle.pm_region.specs.Split.{Attached, words_in};
 ghost use Rattle.store_image.specs.Listing.{ListsCells};
 ghost use Rattle.store_image.specs.Soundness.{IsSound};
 ghost use Rattle.headline.specs.Headline.{cells_of};
-ghost use Rattle.flatstore.specs.Dumps.{Dumps, HasDumped, IsUnlisted};
+ghost use Rattle.fs_text.specs.Output.{pairs_text};
+ghost use Rattle.flatstore.specs.Dumps.{Dumps};
+ghost use Rattle.flatstore.specs.Shows.{HasShown, IsUnlisted};
 ghost use Rattle.flatstore.specs.Ordering.{is_quiet};
 ghost use Rattle.flatstore.specs.declared.report.Status.TheVariants as statuses;
 
@@ -22,7 +24,8 @@ fn live_pairs<R: SplitRegion>(alloc: Global, region: &R) -> Result<Vec<Pair>, St
     requires first { (R.state region.now).frame.first ≡ 0 }
     requires words { (R.state region.now).frame.words ≡ words_in (R.state region.now).frame.bytes }
     ensures ok { IfOk result (λ pairs. IsTelling (R.state region.now)
-        → IsSound (R.state region.now).frame.bytes (lasts (R.state region.now)) × ListsCells (cells_of (lasts (R.state region.now))) pairs.items) }
+        → IsSound (R.state region.now).frame.bytes (lasts (R.state region.now))
+        × ListsCells (cells_of (lasts (R.state region.now))) pairs.items) }
     ensures err { IfErr result (IsUnlisted (R.state region.now) (lasts (R.state region.now))) }
 {
     match recover::live_pairs(alloc, region, region.bytes()) {
@@ -34,7 +37,8 @@ fn live_pairs<R: SplitRegion>(alloc: Global, region: &R) -> Result<Vec<Pair>, St
 
 /// Writes the pairs, and reports.
 fn write_dump<O: Sink>(alloc: Global, sink: &mut O, pairs: &[Pair]) -> Report
-    ensures written { HasDumped pairs.now (O.taken sink.old) (O.taken sink.new) (O.flushed sink.new) (O.fault_count sink.old) (O.fault_count sink.new) result.status }
+    ensures written { HasShown (pairs_text pairs.now) (O.taken sink.old) (O.taken sink.new)
+        (O.flushed sink.new) (O.fault_count sink.old) (O.fault_count sink.new) result.status }
     ensures attached { result.attached ≡ true }
     ensures complete { result.complete ≡ true }
 {
@@ -53,14 +57,18 @@ fn write_dump<O: Sink>(alloc: Global, sink: &mut O, pairs: &[Pair]) -> Report
     }
 }
 
-/// Attaches the region, and writes its live pairs by rising key. A region that breaks a rule has none.
+/// Attaches the region, and writes its live pairs by rising key. A region that breaks a rule
+/// has none.
 pub fn dump_region<O: Sink, R: SplitRegion>(alloc: Global, sink: &mut O, region: &mut R) -> Report
     ensures promise { Dumps (R.state region.old) (R.state region.new) (R.found region.old)
-        (O.taken sink.old) (O.taken sink.new) (O.flushed sink.new) (O.fault_count sink.old) (O.fault_count sink.new) result }
+        (O.taken sink.old) (O.taken sink.new) (O.flushed sink.new)
+        (O.fault_count sink.old) (O.fault_count sink.new) result }
     ensures no_usage { result.status ≡ statuses.Usage → ⊥ }
     ensures no_source_fault { result.status ≡ statuses.SourceFault → ⊥ }
-    ensures sink_fault { result.status ≡ statuses.SinkFault → Rose (O.fault_count sink.old) (O.fault_count sink.new) }
-    ensures region_fault { result.status ≡ statuses.RegionFault → Rose (R.state region.old).faults (R.state region.new).faults }
+    ensures sink_fault { result.status ≡ statuses.SinkFault
+        → Rose (O.fault_count sink.old) (O.fault_count sink.new) }
+    ensures region_fault { result.status ≡ statuses.RegionFault
+        → Rose (R.state region.old).faults (R.state region.new).faults }
     ensures incomplete { result.complete ≡ false → sink.new ≡ sink.old }
     ensures unattached { result.attached ≡ false → result.complete ≡ false }
     ensures sink_untouched { is_quiet result.status ≡ true → sink.new ≡ sink.old }

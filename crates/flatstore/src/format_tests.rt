@@ -1,13 +1,14 @@
 // The worked rows of making a region, on the top call.
+use crate::alone::flatstore_alone;
 use crate::command::region_path;
 use crate::report::{Report, Status};
 use crate::tests::{PICKS, words_of};
-use crate::top::flatstore;
 use fs_text::{SteadySink, SteadySource};
 use image_yardstick::first_fault;
 use pm_region::{Faults, FenceNumber, MemRegion, ReadRegion, Region, SplitRegion, SteadyRegion};
-use std::alloc::{AllocError, Global};
+use std::alloc::{AllocError, AllocGlobal, Global};
 use std::test::Fail;
+use std::thread::Threads;
 use store_image::Fault;
 
 // The bytes of a region of two cores with four chunks of 4,096 bytes.
@@ -24,14 +25,15 @@ fn words(alloc: Global, line: &str) -> Result<Vec<String>, AllocError> {
 
 // A call of the program, with no input.
 fn call<R: SplitRegion + ReadRegion>(
-    alloc: Global,
+    rt: &(impl Threads + AllocGlobal),
     line: &str,
     region: &mut R,
 ) -> Result<Report, Fail> {
+    let alloc = rt.alloc();
     let mut source = SteadySource::new(Vec::new(alloc), 1);
     let mut sink = SteadySink::new(alloc, 10, 10)?;
     let words = words(alloc, line)?;
-    Ok(flatstore(alloc, &words, &mut source, &mut sink, region))
+    Ok(flatstore_alone(rt, alloc, &words, &mut source, &mut sink, region))
 }
 
 const FORMAT: &str = "format r --cores 2 --group 2 --chunks 4 --chunk-bytes 4096";
@@ -50,7 +52,7 @@ fn fault<R: SplitRegion>(alloc: Global, region: &mut R) -> Result<Option<Fault>,
 fn a_new_region(rt: HostRuntime) -> Result<(), Fail> {
     let alloc = rt.alloc();
     let mut region = SteadyRegion::new(alloc, vec![in alloc; 7u8; 100]?, 50)?;
-    let report = call(alloc, FORMAT, &mut region)?;
+    let report = call(&rt, FORMAT, &mut region)?;
     assert_eq!(rt; report.status, Status::Done);
     assert!(rt; report.attached);
     let words = words_of(alloc, &region)?;
@@ -68,7 +70,7 @@ fn a_full_size(rt: HostRuntime) -> Result<(), Fail> {
     let alloc = rt.alloc();
     let line = "format r --cores 4 --group 4 --chunks 16 --chunk-bytes 1048576";
     let mut region = SteadyRegion::new(alloc, Vec::new(alloc), 50)?;
-    let report = call(alloc, line, &mut region)?;
+    let report = call(&rt, line, &mut region)?;
     assert_eq!(rt; report.status, Status::Done);
     assert_eq!(rt; region.bytes(), 67_112_960);
     Ok(())
@@ -95,7 +97,7 @@ fn failing_fences(rt: HostRuntime) -> Result<(), Fail> {
             fences: vec![in alloc; FenceNumber { piece: 0, number }]?,
         };
         let mut region = MemRegion::new(alloc, Vec::new(alloc), 50, plan)?;
-        let report = call(alloc, FORMAT, &mut region)?;
+        let report = call(&rt, FORMAT, &mut region)?;
         assert_eq!(rt; report.status, Status::RegionFault);
         assert!(rt; report.attached);
         for stamp in 0..region.stamp() {
@@ -114,7 +116,7 @@ fn a_failing_create(rt: HostRuntime) -> Result<(), Fail> {
         fences: Vec::new(alloc),
     };
     let mut region = MemRegion::new(alloc, Vec::new(alloc), 50, plan)?;
-    let report = call(alloc, FORMAT, &mut region)?;
+    let report = call(&rt, FORMAT, &mut region)?;
     assert_eq!(rt; report.status, Status::RegionFault);
     assert!(rt; !report.attached);
     Ok(())
@@ -168,7 +170,7 @@ fn forms(rt: HostRuntime) -> Result<(), Fail> {
         assert_eq!(rt; found.as_ref().map(|found| found.as_str()), path);
         if path.is_none() {
             let mut region = SteadyRegion::new(alloc, vec![in alloc; 7u8; 80]?, 50)?;
-            let report = call(alloc, line, &mut region)?;
+            let report = call(&rt, line, &mut region)?;
             assert_eq!(rt; report.status, Status::Usage);
             assert_eq!(rt; (region.bytes(), region.words()), (80, 0));
         }

@@ -14,7 +14,8 @@ use std::alloc::Global;
 /// word that is certain, so a crash leaves a region that is refused, or the empty one.
 pub fn format_region<R: SplitRegion>(alloc: Global, region: &mut R, layout: Layout) -> Report
     ensures promise { Formats (R.state region.old) (R.state region.new) layout result }
-    ensures region_fault { result.status ≡ statuses.RegionFault → Rose (R.state region.old).faults (R.state region.new).faults }
+    ensures region_fault { result.status ≡ statuses.RegionFault
+        → Rose (R.state region.old).faults (R.state region.new).faults }
     ensures loud { is_quiet result.status ≡ false }
     ensures incomplete { result.complete ≡ false }
 {

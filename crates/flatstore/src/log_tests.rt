@@ -3,8 +3,9 @@ use crate::report::{Report, Status};
 use crate::tests::{call, with};
 use fs_text::{MemSink, Sink, SteadySink, SteadySource};
 use pm_region::{Region, SteadyRegion};
-use std::alloc::{AllocError, Global};
+use std::alloc::{AllocError, AllocGlobal, Global};
 use std::test::Fail;
+use std::thread::Threads;
 
 const LOG: [&str; 3] = ["flatstore", "log", "region"];
 
@@ -54,9 +55,13 @@ const BLOCK: [(usize, u8); 11] = [
     (8728, 2),
 ];
 
-fn log<O: Sink>(alloc: Global, sink: &mut O, region: &mut SteadyRegion) -> Result<Report, Fail> {
-    let mut source = SteadySource::new(Vec::new(alloc), 1);
-    Ok(call(alloc, &LOG, &mut source, sink, region)?)
+fn log<O: Sink>(
+    rt: &(impl Threads + AllocGlobal),
+    sink: &mut O,
+    region: &mut SteadyRegion,
+) -> Result<Report, Fail> {
+    let mut source = SteadySource::new(Vec::new(rt.alloc()), 1);
+    Ok(call(rt, &LOG, &mut source, sink, region)?)
 }
 
 // These bytes, and a value of so many bytes `a` from a place on.
@@ -107,7 +112,7 @@ fn entries(rt: HostRuntime) -> Result<(), Fail> {
         let bytes = bytes_with(alloc, others, value, length)?;
         let mut region = SteadyRegion::new(alloc, with(alloc, &bytes)?, 10)?;
         let mut sink = SteadySink::new(alloc, 1000, 7)?;
-        let report = log(alloc, &mut sink, &mut region)?;
+        let report = log(&rt, &mut sink, &mut region)?;
         assert_eq!(rt; (report.status, report.attached), (Status::Done, true));
         assert_eq!(rt; sink.text(), Some(text.as_bytes()));
         assert_eq!(rt; region.stamp(), 0);
@@ -132,12 +137,12 @@ fn regions_and_sinks(rt: HostRuntime) -> Result<(), Fail> {
     for (others, status) in table {
         let mut region = SteadyRegion::new(alloc, with(alloc, others)?, 10)?;
         let mut sink = SteadySink::new(alloc, 1000, 100)?;
-        assert_eq!(rt; log(alloc, &mut sink, &mut region)?.status, status);
+        assert_eq!(rt; log(&rt, &mut sink, &mut region)?.status, status);
         assert_eq!(rt; sink.text(), Some(b"".as_slice()));
     }
     let mut region = SteadyRegion::new(alloc, with(alloc, &GREATEST)?, 10)?;
     let mut sink = MemSink::new(alloc, 100, 6, vec![in alloc; 2]?)?;
-    let report = log(alloc, &mut sink, &mut region)?;
+    let report = log(&rt, &mut sink, &mut region)?;
     assert_eq!(rt; (report.status, report.complete), (Status::SinkFault, true));
     assert_eq!(rt; sink.text(), Some(b"core 0".as_slice()));
     Ok(())

@@ -1,64 +1,23 @@
 // The entries of the region's logs are written.
-ghost use Rattle.std.specs.Prelude.{◌≡◌, ◌⊎◌, ℕ, ◌/◌, true, false, IfOk, IfErr};
+ghost use Rattle.std.specs.Prelude.{◌≡◌, true, false, IfOk, IfErr};
 ghost use Rattle.pm_region.specs.State.{IsTelling, Rose};
 ghost use Rattle.pm_region.specs.Words.{lasts};
-ghost use Rattle.pm_region.specs.Split.{Attached, words_in};
-ghost use Rattle.chunk_map.specs.Layouts.{IsLayout, layout_of, total_bytes};
+ghost use Rattle.pm_region.specs.Split.{words_in};
+ghost use Rattle.chunk_map.specs.Layouts.{layout_of};
 ghost use Rattle.store_image.specs.Parts.{all_entries};
 ghost use Rattle.store_image.specs.Soundness.{IsSound};
 ghost use Rattle.fs_text.specs.Output.{entries_text};
-ghost use Rattle.flatstore.specs.Dumps.{IsUnlisted};
-ghost use Rattle.flatstore.specs.Shows.{HasShown};
+ghost use Rattle.flatstore.specs.Shows.{HasShown, IsUnlisted};
 ghost use Rattle.flatstore.specs.Logs.{Logs};
 ghost use Rattle.flatstore.specs.Ordering.{is_quiet};
 ghost use Rattle.flatstore.specs.declared.report.Status.TheVariants as statuses;
 
 use crate::report::{Report, Status};
-use chunk_map::words::load_words;
-use chunk_map::{Layout, read_superblock};
-use fs_errors::Memory;
 use fs_text::{OutError, Sink, write_entries};
-use image_yardstick::gather_image::gather;
 use pm_region::{AttachError, SplitRegion};
-use recover::first_fault;
+use recover::RecoverError;
 use std::alloc::Global;
 use store_image::PlacedEntry;
-
-/// The layout of an attached region that is sound, or the status where it isn't.
-fn sound_layout<R: SplitRegion>(alloc: Global, region: &R) -> Result<Layout, Status>
-    requires first { (R.state region.now).frame.first ≡ 0 }
-    requires words { (R.state region.now).frame.words ≡ words_in (R.state region.now).frame.bytes }
-    ensures layout { IfOk result (λ l. IsLayout l × (total_bytes l ≡ (R.state region.now).frame.bytes)) }
-    ensures sound { IfOk result (λ l. IsTelling (R.state region.now)
-        → IsSound (R.state region.now).frame.bytes (lasts (R.state region.now)) × (l ≡ layout_of (lasts (R.state region.now)))) }
-    ensures err { IfErr result (IsUnlisted (R.state region.now) (lasts (R.state region.now))) }
-{
-    match first_fault(alloc, region, region.bytes()) {
-        Err(_) => Err(Status::Memory),
-        Ok(Some(fault)) => Err(Status::of_fault(fault)),
-        Ok(None) => match read_superblock(region, region.bytes()) {
-            Ok(layout) => Ok(layout),
-            Err(bad) => Err(Status::NotARegion { rule: bad.rule }),
-        },
-    }
-}
-
-/// All entries of a region of this layout, by core, chunk and place.
-fn entries_in<R: SplitRegion>(
-    alloc: Global,
-    region: &R,
-    layout: &Layout,
-) -> Result<Vec<PlacedEntry>, Memory>
-    requires first { (R.state region.now).frame.first ≡ 0 }
-    requires words { (R.state region.now).frame.words ≡ words_in (R.state region.now).frame.bytes }
-    requires layout { IsLayout layout.now }
-    requires total { total_bytes layout.now ≡ (R.state region.now).frame.bytes }
-    ensures { IfOk result (λ entries. IsTelling (R.state region.now) → entries.items ≡ all_entries layout.now (lasts (R.state region.now))) }
-{
-    let words = load_words(alloc, region, 0, region.words())?;
-    let gathered = gather(alloc, &layout.geometry(), &words)?;
-    Ok(gathered.entries)
-}
 
 /// The entries of an attached region by core, chunk and place, or the status where there are none.
 fn placed_entries<R: SplitRegion>(alloc: Global, region: &R) -> Result<Vec<PlacedEntry>, Status>
@@ -66,21 +25,21 @@ fn placed_entries<R: SplitRegion>(alloc: Global, region: &R) -> Result<Vec<Place
     requires words { (R.state region.now).frame.words ≡ words_in (R.state region.now).frame.bytes }
     ensures ok { IfOk result (λ entries. IsTelling (R.state region.now)
         → IsSound (R.state region.now).frame.bytes (lasts (R.state region.now))
-        × (entries.items ≡ all_entries (layout_of (lasts (R.state region.now))) (lasts (R.state region.now)))) }
+        × (entries.items
+        ≡ all_entries (layout_of (lasts (R.state region.now))) (lasts (R.state region.now)))) }
     ensures err { IfErr result (IsUnlisted (R.state region.now) (lasts (R.state region.now))) }
 {
-    match sound_layout(alloc, region) {
-        Err(status) => Err(status),
-        Ok(layout) => match entries_in(alloc, region, &layout) {
-            Err(_) => Err(Status::Memory),
-            Ok(entries) => Ok(entries),
-        },
+    match recover::log_entries(alloc, region, region.bytes()) {
+        Err(RecoverError::Memory) => Err(Status::Memory),
+        Err(RecoverError::Fault(fault)) => Err(Status::of_fault(fault)),
+        Ok(entries) => Ok(entries),
     }
 }
 
 /// Writes the entries, and reports.
 fn write_log<O: Sink>(alloc: Global, sink: &mut O, entries: &[PlacedEntry]) -> Report
-    ensures written { HasShown (entries_text entries.now) (O.taken sink.old) (O.taken sink.new) (O.flushed sink.new) (O.fault_count sink.old) (O.fault_count sink.new) result.status }
+    ensures written { HasShown (entries_text entries.now) (O.taken sink.old) (O.taken sink.new)
+        (O.flushed sink.new) (O.fault_count sink.old) (O.fault_count sink.new) result.status }
     ensures attached { result.attached ≡ true }
     ensures complete { result.complete ≡ true }
 {
@@ -99,15 +58,18 @@ fn write_log<O: Sink>(alloc: Global, sink: &mut O, entries: &[PlacedEntry]) -> R
     }
 }
 
-/// Attaches the region, and writes the entries of its logs by core, chunk and place, as they stand there: superseded
-/// ones and copies too. A region that breaks a rule has none.
+/// Attaches the region, and writes the entries of its logs by core, chunk and place, as they stand
+/// there: superseded ones and copies too. A region that breaks a rule has none.
 pub fn log_region<O: Sink, R: SplitRegion>(alloc: Global, sink: &mut O, region: &mut R) -> Report
     ensures promise { Logs (R.state region.old) (R.state region.new) (R.found region.old)
-        (O.taken sink.old) (O.taken sink.new) (O.flushed sink.new) (O.fault_count sink.old) (O.fault_count sink.new) result }
+        (O.taken sink.old) (O.taken sink.new) (O.flushed sink.new)
+        (O.fault_count sink.old) (O.fault_count sink.new) result }
     ensures no_usage { result.status ≡ statuses.Usage → ⊥ }
     ensures no_source_fault { result.status ≡ statuses.SourceFault → ⊥ }
-    ensures sink_fault { result.status ≡ statuses.SinkFault → Rose (O.fault_count sink.old) (O.fault_count sink.new) }
-    ensures region_fault { result.status ≡ statuses.RegionFault → Rose (R.state region.old).faults (R.state region.new).faults }
+    ensures sink_fault { result.status ≡ statuses.SinkFault
+        → Rose (O.fault_count sink.old) (O.fault_count sink.new) }
+    ensures region_fault { result.status ≡ statuses.RegionFault
+        → Rose (R.state region.old).faults (R.state region.new).faults }
     ensures incomplete { result.complete ≡ false → sink.new ≡ sink.old }
     ensures unattached { result.attached ≡ false → result.complete ≡ false }
     ensures sink_untouched { is_quiet result.status ≡ true → sink.new ≡ sink.old }

@@ -1,6 +1,7 @@
 //! The program `flatstore`: a key-value store in a region file.
 #![tactic(auto)]
 
+use core_worker::OpenGate;
 use fs_errors::Memory;
 use fs_text::{StdSink, StdSource};
 use pm_region::FileRegion;
@@ -9,9 +10,12 @@ use std::alloc::{AllocGlobal, Global};
 use std::env::Env;
 use std::io::ErrorKind;
 use std::process::ExitCode;
+use std::sync::Wait;
+use std::thread::Threads;
 use std::{env, io};
 use top::flatstore;
 
+mod alone;
 #[cfg(test)]
 mod change_tests;
 mod command;
@@ -22,6 +26,8 @@ mod dumping;
 mod format_tests;
 mod formatting;
 #[cfg(test)]
+mod judging_tests;
+#[cfg(test)]
 mod log_tests;
 mod logging;
 mod parser;
@@ -30,8 +36,11 @@ mod replay;
 mod report;
 #[cfg(test)]
 mod row_tests;
+mod run_threads;
 #[cfg(test)]
 mod tests;
+#[cfg(test)]
+mod thread_tests;
 mod top;
 
 /// The words of the command line, the program's name first. Words that aren't UTF-8 are no words of the program, and
@@ -44,8 +53,13 @@ fn command_line<R: Env + AllocGlobal>(rt: &R, alloc: Global) -> Result<Vec<Strin
     }
 }
 
-/// Does what the command line asks, with the region in its file, standard input and standard output.
-fn run(rt: &HostRuntime, alloc: Global) -> Result<Status, Memory> {
+/// Does what the command line asks, with the region in its file, standard input and standard output. The
+/// runtime is handed in twice, as what it is and as the leave to start threads and to wait for them.
+fn run(
+    rt: &HostRuntime,
+    threads: &(impl Threads + Wait + Sync),
+    alloc: Global,
+) -> Result<Status, Memory> {
     let words = command_line(rt, alloc)?;
     let path = match command::region_path(alloc, &words)? {
         Some(path) => path,
@@ -59,7 +73,15 @@ fn run(rt: &HostRuntime, alloc: Global) -> Result<Status, Memory> {
     let mut region = FileRegion::at(own, path);
     let mut source = StdSource::over(rt.reader());
     let mut sink = StdSink::over(io::writer(rt));
-    let report = flatstore(alloc, &words, &mut source, &mut sink, &mut region);
+    let report = flatstore(
+        threads,
+        alloc,
+        &words,
+        &mut source,
+        &mut sink,
+        &mut region,
+        &OpenGate,
+    );
     Ok(report.status)
 }
 
@@ -80,7 +102,7 @@ fn complain(rt: &HostRuntime, alloc: Global, status: Status) {
 
 fn main(rt: HostRuntime) -> ExitCode {
     let alloc = rt.alloc();
-    let status = match run(&rt, alloc) {
+    let status = match run(&rt, &rt, alloc) {
         Ok(status) => status,
         Err(_) => Status::Memory,
     };

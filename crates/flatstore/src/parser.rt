@@ -59,7 +59,8 @@ fn writing_program<'a>(alloc: Global) -> Result<Command<'a>, AllocError>
 {
     bare_program(alloc)
         .subcommand(format_command(alloc)?)?
-        .subcommand(region_command(alloc, "replay")?)
+        .subcommand(region_command(alloc, "replay")?)?
+        .subcommand(region_command(alloc, "run")?)
 }
 
 /// The command of the program.

@@ -21,16 +21,23 @@ pub fn replay_region<S: Source, O: Sink, R: SplitRegion + ReadRegion>(
     sink: &mut O,
     region: &mut R,
 ) -> Report
-    ensures attaches { Attaches (R.state region.old) (R.state region.new) (R.found region.old) result }
+    ensures attaches { Attaches (R.state region.old) (R.state region.new) (R.found region.old)
+        result }
 
     // The headline.
-    ensures replay { result.attached ≡ true → (input : List ℕ) × (cores : ℕ) × IsInput (S.coming source.old) input
+    ensures replay { result.attached ≡ true
+        → (input : List ℕ) × (cores : ℕ) × IsInput (S.coming source.old) input
         × Replays (R.state region.old) (R.state region.new) (R.found region.old)
-        (S.coming source.old) (S.coming source.new) (S.fault_count source.old) (S.fault_count source.new) cores input
-        (O.taken sink.old) (O.taken sink.new) (O.flushed sink.new) (O.fault_count sink.old) (O.fault_count sink.new) result }
-    ensures source_fault { result.status ≡ statuses.SourceFault → Rose (S.fault_count source.old) (S.fault_count source.new) }
-    ensures sink_fault { result.status ≡ statuses.SinkFault → Rose (O.fault_count sink.old) (O.fault_count sink.new) }
-    ensures region_fault { result.status ≡ statuses.RegionFault → Rose (R.state region.old).faults (R.state region.new).faults }
+        (S.coming source.old) (S.coming source.new)
+        (S.fault_count source.old) (S.fault_count source.new) cores input
+        (O.taken sink.old) (O.taken sink.new) (O.flushed sink.new)
+        (O.fault_count sink.old) (O.fault_count sink.new) result }
+    ensures source_fault { result.status ≡ statuses.SourceFault
+        → Rose (S.fault_count source.old) (S.fault_count source.new) }
+    ensures sink_fault { result.status ≡ statuses.SinkFault
+        → Rose (O.fault_count sink.old) (O.fault_count sink.new) }
+    ensures region_fault { result.status ≡ statuses.RegionFault
+        → Rose (R.state region.old).faults (R.state region.new).faults }
     ensures no_usage { result.status ≡ statuses.Usage → ⊥ }
 
     // Nothing is written where the run didn't come to its end.
@@ -42,7 +49,8 @@ pub fn replay_region<S: Source, O: Sink, R: SplitRegion + ReadRegion>(
     ensures unattached_unread { result.attached ≡ false → source.new ≡ source.old }
     ensures sink_untouched { is_quiet result.status ≡ true → sink.new ≡ sink.old }
     ensures region_untouched { is_quiet result.status ≡ true → result.attached ≡ true
-        → Attached (R.state region.old) (R.state region.new) (R.state region.new).frame.bytes (R.found region.old) }
+        → Attached (R.state region.old) (R.state region.new) (R.state region.new).frame.bytes
+        (R.found region.old) }
 {
     match region.attach(alloc) {
         Err(AttachError::RegionFault) => Report::of(alloc, Status::RegionFault, false),

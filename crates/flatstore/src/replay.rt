@@ -7,7 +7,7 @@ ghost use Rattle.pm_region.specs.Split.{words_in};
 ghost use Rattle.group_engine.specs.Replayed.{StandsAsFound};
 ghost use Rattle.fs_text.specs.Bounds.{IsWithin};
 ghost use Rattle.flatstore.specs.Reads.{IsRead, IsUnread, unread_as};
-ghost use Rattle.flatstore.specs.Played.{Played, IsUnserved, IsRefused, HasWritten, is_ended, ended_as};
+ghost use Rattle.flatstore.specs.Played.{StandsWhole, IsReady, Played, IsUnserved, IsRefused, HasWritten, is_ended, ended_as};
 ghost use Rattle.flatstore.specs.Ordering.{is_of_region};
 
 use crate::report::{Report, Status};
@@ -30,7 +30,8 @@ fn unread(error: InputError) -> Status
 
 /// Reads the input to its end, and gives its lines, to a region of so many cores.
 fn read<S: Source>(alloc: Global, source: &mut S, cores: u32) -> Result<Input, Status>
-    ensures ok { IfOk result (λ input. IsRead (S.coming source.old) (S.coming source.new) cores input) }
+    ensures ok { IfOk result (λ input.
+        IsRead (S.coming source.old) (S.coming source.new) cores input) }
     ensures within { IfOk result (λ input. IsWithin cores input) }
     ensures err { IfErr result (IsUnread (S.coming source.old) (S.coming source.new) cores
         (S.fault_count source.old) (S.fault_count source.new)) }
@@ -43,10 +44,7 @@ fn read<S: Source>(alloc: Global, source: &mut S, cores: u32) -> Result<Input, S
 
 /// What the words of an attached region say, where it is sound.
 fn recovered<R: SplitRegion + ReadRegion>(alloc: Global, region: &R) -> Result<Recovered, Status>
-    requires first { (R.state region.now).frame.first ≡ 0 }
-    requires words { (R.state region.now).frame.words ≡ words_in (R.state region.now).frame.bytes }
-    requires certain { IsTelling (R.state region.now) → (w : ℕ) → InRange (R.state region.now).frame w
-        → cell_now (R.state region.now) w ≡ certain (lasts (R.state region.now) w) }
+    requires whole { StandsWhole (R.state region.now) }
     ensures ok { IfOk result (StandsAsFound (R.state region.now) (R.word region.now)) }
     ensures err { IfErr result (IsUnserved (R.state region.now)) }
 {
@@ -57,22 +55,18 @@ fn recovered<R: SplitRegion + ReadRegion>(alloc: Global, region: &R) -> Result<R
     }
 }
 
-/// Reads the input and runs its lines, on a region that was attached. Where it answers a status, the region is as it
-/// was.
-pub fn replay<S: Source, R: SplitRegion + ReadRegion>(
+/// What a run of lines begins with, on a region that was attached: what its words say, and the lines of the input for its
+/// cores.
+pub fn prepared<S: Source, R: SplitRegion + ReadRegion>(
     alloc: Global,
     source: &mut S,
-    region: &mut R,
-) -> Result<Outcome, Status>
-    requires first { (R.state region.old).frame.first ≡ 0 }
-    requires words { (R.state region.old).frame.words ≡ words_in (R.state region.old).frame.bytes }
-    requires certain { IsTelling (R.state region.old) → (w : ℕ) → InRange (R.state region.old).frame w
-        → cell_now (R.state region.old) w ≡ certain (lasts (R.state region.old) w) }
-    ensures played { IfOk result (Played (R.state region.old) (R.word region.old) (R.state region.new)
-        (S.coming source.old) (S.coming source.new)) }
-    ensures refused { IfErr result (IsRefused (R.state region.old)
+    region: &R,
+) -> Result<(Recovered, Input), Status>
+    requires whole { StandsWhole (R.state region.now) }
+    ensures ready { IfOk result (λ x. IsReady (R.state region.now) (R.word region.now)
+        (S.coming source.old) (S.coming source.new) x.0 x.1) }
+    ensures refused { IfErr result (IsRefused (R.state region.now)
         (S.coming source.old) (S.coming source.new) (S.fault_count source.old) (S.fault_count source.new)) }
-    ensures untouched { OnErr result (region.new ≡ region.old) }
     // A region that breaks a rule goes before the source.
     ensures unread { IfErr result (λ status. is_of_region status ≡ true → source.new ≡ source.old) }
 {
@@ -82,7 +76,30 @@ pub fn replay<S: Source, R: SplitRegion + ReadRegion>(
     };
     match read(alloc, source, recovered.layout.cores()) {
         Err(status) => Err(status),
-        Ok(input) => Ok(run_outcome::replay(alloc, region, recovered, input)),
+        Ok(input) => Ok((recovered, input)),
+    }
+}
+
+/// Reads the input and runs its lines, on a region that was attached. Where it answers a status, the region is as it
+/// was.
+pub fn replay<S: Source, R: SplitRegion + ReadRegion>(
+    alloc: Global,
+    source: &mut S,
+    region: &mut R,
+) -> Result<Outcome, Status>
+    requires whole { StandsWhole (R.state region.old) }
+    ensures played { IfOk result (Played (R.state region.old) (R.word region.old)
+        (R.state region.new)
+        (S.coming source.old) (S.coming source.new)) }
+    ensures refused { IfErr result (IsRefused (R.state region.old)
+        (S.coming source.old) (S.coming source.new) (S.fault_count source.old) (S.fault_count source.new)) }
+    ensures untouched { OnErr result (region.new ≡ region.old) }
+    // A region that breaks a rule goes before the source.
+    ensures unread { IfErr result (λ status. is_of_region status ≡ true → source.new ≡ source.old) }
+{
+    match prepared(alloc, source, region) {
+        Err(status) => Err(status),
+        Ok((recovered, input)) => Ok(run_outcome::replay(alloc, region, recovered, input)),
     }
 }
 

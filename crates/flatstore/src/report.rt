@@ -41,9 +41,10 @@ pub struct Report {
     pub refusals: Vec<Refusal>,
     /// Whether the region was attached in this call, or created.
     pub attached: bool,
-    /// Whether requests were begun to be answered. Before that no word of the region changes.
+    /// Whether the run began: the input was read and keeps its rules, and the work on its requests began, which for `run`
+    /// is the split of the region. Before that no word of the region changes.
     pub began: bool,
-    /// Whether the whole text was ready to be written: for `replay`, whether every request was answered. Where not,
+    /// Whether the whole text was ready to be written: for `replay` and `run`, whether every request was answered. Where not,
     /// nothing was written. `format` has no text, and says no.
     pub complete: bool,
 }

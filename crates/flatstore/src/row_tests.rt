@@ -3,8 +3,9 @@ use crate::report::{Report, Status};
 use crate::tests::{PICKS, call, cell, replay, with, words_of};
 use fs_text::{Sink, SteadySink, SteadySource};
 use pm_region::{Faults, FenceNumber, MemRegion, ReadRegion, Region, SplitRegion, SteadyRegion};
-use std::alloc::{AllocError, Global};
+use std::alloc::{AllocError, AllocGlobal, Global};
 use std::test::Fail;
+use std::thread::Threads;
 
 const ONE_BATCH: &str = "put 0 a\nput 1 b\nput 2 c\ngo 1 2\ngo 2 2\ngo 0 20\n";
 
@@ -19,18 +20,22 @@ const FAILS_THIRD: &str = "put 0 a\nput 1 b\nget 0\nget 1\n";
 const WITHDRAWN: &str = "put 0 a\ngo 0 2\nput 1 x\ngo 1 6\nput 2 b\ngo 0 2\ngo 1 3\n";
 
 // The bytes of a fresh region: so many cores in groups, each with 4 chunks of 4,096 bytes.
-fn fresh_of(alloc: Global, cores: u8, group: u8) -> Result<Vec<u8>, AllocError> {
+pub fn fresh_of(alloc: Global, cores: u8, group: u8) -> Result<Vec<u8>, AllocError> {
     let mut bytes = with(alloc, &[(16, cores), (24, group)])?;
     bytes.resize(4096 + 16384 * cores as usize, 0)?;
     Ok(bytes)
 }
 
 // What `log` writes of a region.
-fn log_of<R: SplitRegion + ReadRegion>(alloc: Global, region: &mut R) -> Result<Vec<u8>, Fail> {
+pub fn log_of<R: SplitRegion + ReadRegion>(
+    rt: &(impl Threads + AllocGlobal),
+    region: &mut R,
+) -> Result<Vec<u8>, Fail> {
+    let alloc = rt.alloc();
     let mut source = SteadySource::new(Vec::new(alloc), 1);
     let mut sink = SteadySink::new(alloc, 100_000, 1000)?;
     let words = ["flatstore", "log", "region"];
-    let _ = call(alloc, &words, &mut source, &mut sink, region)?;
+    let _ = call(rt, &words, &mut source, &mut sink, region)?;
     Ok(Vec::from_slice(alloc, sink.text().unwrap_or(b"not kept"))?)
 }
 
@@ -65,10 +70,10 @@ fn interleavings(rt: HostRuntime) -> Result<(), Fail> {
     ];
     for (group, input, text, log) in table {
         let mut region = SteadyRegion::new(alloc, fresh_of(alloc, 4, group)?, 5000)?;
-        let (report, written) = replay(alloc, &mut region, input)?;
+        let (report, written) = replay(&rt, &mut region, input)?;
         assert_eq!(rt; report.status, Status::Done);
         assert_eq!(rt; written.as_slice(), text.as_bytes());
-        let entries = log_of(alloc, &mut region)?;
+        let entries = log_of(&rt, &mut region)?;
         assert_eq!(rt; entries.as_slice(), log.as_bytes());
     }
     Ok(())
@@ -102,11 +107,11 @@ fn sixteen_cores(rt: HostRuntime) -> Result<(), Fail> {
     let alloc = rt.alloc();
     let (input, log) = eight_groups(alloc)?;
     let mut region = SteadyRegion::new(alloc, fresh_of(alloc, 16, 2)?, 5000)?;
-    let (report, written) = replay(alloc, &mut region, input.as_str())?;
+    let (report, written) = replay(&rt, &mut region, input.as_str())?;
     assert_eq!(rt; report.status, Status::Done);
     assert_eq!(rt; written.len(), 16 * 7);
     assert_eq!(rt; report.finishes.len(), 16);
-    let entries = log_of(alloc, &mut region)?;
+    let entries = log_of(&rt, &mut region)?;
     assert_eq!(rt; entries.as_slice(), log.as_bytes());
     Ok(())
 }
@@ -220,7 +225,7 @@ fn images_of_a_batch(rt: HostRuntime) -> Result<(), Fail> {
         },
     ];
     let mut region = region_of(alloc, 4, &[])?;
-    let (report, _) = replay(alloc, &mut region, ONE_BATCH)?;
+    let (report, _) = replay(&rt, &mut region, ONE_BATCH)?;
     assert_eq!(rt; report.status, Status::Done);
     assert!(rt; has_all(alloc, &region, &report, &changes)?);
     Ok(())
@@ -242,7 +247,7 @@ fn images_of_a_stolen_change(rt: HostRuntime) -> Result<(), Fail> {
         },
     ];
     let mut region = region_of(alloc, 4, &[])?;
-    let (report, _) = replay(alloc, &mut region, STOLEN)?;
+    let (report, _) = replay(&rt, &mut region, STOLEN)?;
     assert_eq!(rt; report.status, Status::Done);
     assert!(rt; has_all(alloc, &region, &report, &changes)?);
     Ok(())
@@ -270,7 +275,7 @@ fn a_core_that_stops(rt: HostRuntime) -> Result<(), Fail> {
     for (turns, text) in table {
         let input = format!(in alloc; "{FAILS_THIRD}{turns}")?;
         let mut region = region_of(alloc, 2, &[3])?;
-        let (report, written) = replay(alloc, &mut region, input.as_str())?;
+        let (report, written) = replay(&rt, &mut region, input.as_str())?;
         assert_eq!(rt; report.status, Status::RegionFault);
         assert_eq!(rt; written.as_slice(), text.as_bytes());
         assert!(rt; has_all(alloc, &region, &report, &changes)?);
@@ -282,14 +287,14 @@ fn a_core_that_stops(rt: HostRuntime) -> Result<(), Fail> {
 fn a_change_that_is_taken_back(rt: HostRuntime) -> Result<(), Fail> {
     let alloc = rt.alloc();
     let mut region = region_of(alloc, 2, &[1])?;
-    let (report, written) = replay(alloc, &mut region, WITHDRAWN)?;
+    let (report, written) = replay(&rt, &mut region, WITHDRAWN)?;
     assert_eq!(rt; report.status, Status::RegionFault);
     assert_eq!(rt;
         written.as_slice(),
         b"stopped\nstopped\nstopped\n".as_slice()
     );
     assert!(rt; report.finishes.is_empty());
-    assert!(rt; log_of(alloc, &mut region)?.is_empty());
+    assert!(rt; log_of(&rt, &mut region)?.is_empty());
     Ok(())
 }
 
@@ -301,7 +306,7 @@ fn an_attach_that_fails(rt: HostRuntime) -> Result<(), Fail> {
         fences: Vec::new(alloc),
     };
     let mut region = MemRegion::new(alloc, fresh_of(alloc, 1, 1)?, 5000, plan)?;
-    let (report, written) = replay(alloc, &mut region, "put 5 abc\nget 5\ndelete 5\nget 5\n")?;
+    let (report, written) = replay(&rt, &mut region, "put 5 abc\nget 5\ndelete 5\nget 5\n")?;
     assert_eq!(rt; report.status, Status::RegionFault);
     assert_eq!(rt; report.attached, false);
     assert!(rt; written.is_empty());

@@ -1,8 +1,8 @@
 // The worked rows of a replay on one core, on the top call.
+use crate::alone::flatstore_alone;
 use crate::change_tests::put;
 use crate::command_line;
 use crate::report::{Report, Status};
-use crate::top::flatstore;
 use core_room::{Counts, Shortage};
 use fs_errors::Memory;
 use fs_model::Value;
@@ -13,10 +13,11 @@ use image_yardstick::{first_fault, recovered_cells};
 use pm_region::{
     Faults, FenceNumber, FileRegion, MemRegion, Pick, ReadRegion, Region, SplitRegion, SteadyRegion,
 };
-use std::alloc::{Alloc, AllocError, Global};
+use std::alloc::{Alloc, AllocError, AllocGlobal, Global};
 use std::env::{Env, FillError};
 use std::fs;
 use std::test::Fail;
+use std::thread::Threads;
 
 const BYTES: usize = 20480;
 
@@ -61,25 +62,27 @@ pub fn command(alloc: Global, words: &[&str]) -> Result<Vec<String>, AllocError>
 
 // One call of the program, of which only the report counts.
 pub fn call<S: Source, O: Sink, R: SplitRegion + ReadRegion>(
-    alloc: Global,
+    rt: &(impl Threads + AllocGlobal),
     words: &[&str],
     source: &mut S,
     sink: &mut O,
     region: &mut R,
 ) -> Result<Report, AllocError> {
+    let alloc = rt.alloc();
     let line = command(alloc, words)?;
-    Ok(flatstore(alloc, &line, source, sink, region))
+    Ok(flatstore_alone(rt, alloc, &line, source, sink, region))
 }
 
 // Replays an input on a region, into a sink that takes everything.
 pub fn replay<R: SplitRegion + ReadRegion>(
-    alloc: Global,
+    rt: &(impl Threads + AllocGlobal),
     region: &mut R,
     input: &str,
 ) -> Result<(Report, Vec<u8>), Fail> {
+    let alloc = rt.alloc();
     let mut source = SteadySource::new(Vec::from_slice(alloc, input.as_bytes())?, 7);
     let mut sink = SteadySink::new(alloc, 100_000, 1000)?;
-    let report = call(alloc, &REPLAY, &mut source, &mut sink, region)?;
+    let report = call(rt, &REPLAY, &mut source, &mut sink, region)?;
     let text = Vec::from_slice(alloc, sink.text().unwrap_or(b"not kept"))?;
     Ok((report, text))
 }
@@ -89,9 +92,9 @@ fn steady(alloc: Global) -> Result<SteadyRegion, Memory> {
 }
 
 // Replays an input on a region in memory that is fresh.
-pub fn row(alloc: Global, input: &str) -> Result<(Report, Vec<u8>), Fail> {
-    let mut region = steady(alloc)?;
-    replay(alloc, &mut region, input)
+pub fn row(rt: &(impl Threads + AllocGlobal), input: &str) -> Result<(Report, Vec<u8>), Fail> {
+    let mut region = steady(rt.alloc())?;
+    replay(rt, &mut region, input)
 }
 
 // The words of a region that starts at word 0.
@@ -164,7 +167,7 @@ fn replies(rt: HostRuntime) -> Result<(), Fail> {
         ),
     ];
     for (input, status, text) in table {
-        let (report, written) = row(alloc, input)?;
+        let (report, written) = row(&rt, input)?;
         assert_eq!(rt; report.status, status);
         assert_eq!(rt; written.as_slice(), text.as_bytes());
     }
@@ -172,26 +175,28 @@ fn replies(rt: HostRuntime) -> Result<(), Fail> {
 }
 
 // What a call with these words says, on a fresh region.
-fn said(alloc: Global, words: &[&str]) -> Result<(Status, bool), Fail> {
+fn said(rt: &(impl Threads + AllocGlobal), words: &[&str]) -> Result<(Status, bool), Fail> {
+    let alloc = rt.alloc();
     let mut region = steady(alloc)?;
     let mut source = SteadySource::new(Vec::new(alloc), 1);
     let mut sink = SteadySink::new(alloc, 10, 1)?;
-    let report = call(alloc, words, &mut source, &mut sink, &mut region)?;
+    let report = call(rt, words, &mut source, &mut sink, &mut region)?;
     Ok((report.status, report.attached))
 }
 
 #[test]
 fn words_that_are_no_form(rt: HostRuntime) -> Result<(), Fail> {
-    let alloc = rt.alloc();
-    let lines: [&[&str]; 5] = [
+    let lines: [&[&str]; 7] = [
         &[],
         &["flatstore"],
         &["flatstore", "replay"],
         &["flatstore", "Replay", "region"],
         &["flatstore", "replay", "region", "more"],
+        &["flatstore", "run", "region"],
+        &["flatstore", "load", "region", "7", "10"],
     ];
     for line in lines {
-        assert_eq!(rt; said(alloc, line)?, (Status::Usage, false));
+        assert_eq!(rt; said(&rt, line)?, (Status::Usage, false));
     }
     Ok(())
 }
@@ -251,9 +256,10 @@ pub fn with(alloc: Global, places: &[(usize, u8)]) -> Result<Vec<u8>, AllocError
 }
 
 // Replays the three lines on a region with these bytes.
-fn three_on(alloc: Global, bytes: Vec<u8>) -> Result<(Status, Vec<u8>), Fail> {
+fn three_on(rt: &(impl Threads + AllocGlobal), bytes: Vec<u8>) -> Result<(Status, Vec<u8>), Fail> {
+    let alloc = rt.alloc();
     let mut region = SteadyRegion::new(alloc, bytes, 5000)?;
-    let (report, written) = replay(alloc, &mut region, THREE)?;
+    let (report, written) = replay(rt, &mut region, THREE)?;
     Ok((report.status, written))
 }
 
@@ -313,7 +319,7 @@ fn damaged_regions(rt: HostRuntime) -> Result<(), Fail> {
         ),
     ];
     for (bytes, status) in table {
-        let (said, written) = three_on(alloc, bytes)?;
+        let (said, written) = three_on(&rt, bytes)?;
         assert_eq!(rt; said, status);
         assert!(rt; written.is_empty());
     }
@@ -324,12 +330,12 @@ fn damaged_regions(rt: HostRuntime) -> Result<(), Fail> {
 fn a_region_with_puts(rt: HostRuntime) -> Result<(), Fail> {
     let alloc = rt.alloc();
     let mut region = steady(alloc)?;
-    let (report, _) = replay(alloc, &mut region, THREE)?;
+    let (report, _) = replay(&rt, &mut region, THREE)?;
     assert_eq!(rt; report.status, Status::Done);
-    let (report, written) = replay(alloc, &mut region, "get 5\nput 5 de\n")?;
+    let (report, written) = replay(&rt, &mut region, "get 5\nput 5 de\n")?;
     assert_eq!(rt; report.status, Status::Done);
     assert_eq!(rt; written.as_slice(), b"value abc\nstored\n".as_slice());
-    let (_, written) = replay(alloc, &mut region, "get 5")?;
+    let (_, written) = replay(&rt, &mut region, "get 5")?;
     assert_eq!(rt; written.as_slice(), b"value de\n".as_slice());
     Ok(())
 }
@@ -353,7 +359,7 @@ pub fn spent(alloc: Global) -> Result<Vec<u8>, AllocError> {
 fn versions_spent(rt: HostRuntime) -> Result<(), Fail> {
     let alloc = rt.alloc();
     let mut region = SteadyRegion::new(alloc, spent(alloc)?, 5000)?;
-    let (report, written) = replay(alloc, &mut region, "put 9 r\nget 9\n")?;
+    let (report, written) = replay(&rt, &mut region, "put 9 r\nget 9\n")?;
     assert_eq!(rt; report.status, Status::Done);
     assert_eq!(rt; written.as_slice(), b"versions spent\nvalue q\n".as_slice());
     let why = Shortage::Versions { last: 1_048_574 };
@@ -381,7 +387,7 @@ fn many(alloc: Global) -> Result<(String, String), Fail> {
 fn a_full_log(rt: HostRuntime) -> Result<(), Fail> {
     let alloc = rt.alloc();
     let (input, text) = many(alloc)?;
-    let (report, written) = row(alloc, input.as_str())?;
+    let (report, written) = row(&rt, input.as_str())?;
     assert_eq!(rt; report.status, Status::Done);
     assert_eq!(rt; written.as_slice(), text.as_bytes());
     assert_eq!(rt; report.finishes.len(), 36);
@@ -426,7 +432,7 @@ fn failing_fences(rt: HostRuntime) -> Result<(), Fail> {
     let alloc = rt.alloc();
     for number in 1..5 {
         let mut region = failing(alloc, number)?;
-        let (report, written) = replay(alloc, &mut region, "put 1 a\nget 1\n")?;
+        let (report, written) = replay(&rt, &mut region, "put 1 a\nget 1\n")?;
         assert_eq!(rt; report.status, Status::RegionFault);
         assert_eq!(rt; written.as_slice(), b"stopped\nstopped\n".as_slice());
         assert!(rt; has_none_or(alloc, &region, b"a")?);
@@ -442,7 +448,7 @@ fn failing_fences_of_a_block(rt: HostRuntime) -> Result<(), Fail> {
     // the head of the block's chunk and the value, the head of the log's chunk, and the batch
     for number in 1..7 {
         let mut region = failing(alloc, number)?;
-        let (report, written) = replay(alloc, &mut region, input.as_str())?;
+        let (report, written) = replay(&rt, &mut region, input.as_str())?;
         assert_eq!(rt; report.status, Status::RegionFault);
         assert_eq!(rt; written.as_slice(), b"stopped\n".as_slice());
         assert!(rt; has_none_or(alloc, &region, value.as_slice())?);
@@ -469,7 +475,7 @@ fn has_abc(alloc: Global, region: &SteadyRegion, stamp: u64, finished: bool) -> 
 fn images_at_each_stamp(rt: HostRuntime) -> Result<(), Fail> {
     let alloc = rt.alloc();
     let mut region = steady(alloc)?;
-    let (report, _) = replay(alloc, &mut region, THREE)?;
+    let (report, _) = replay(&rt, &mut region, THREE)?;
     let finish = match report.finishes.first() {
         Some(finish) => finish.stamp,
         None => u64::MAX,
@@ -490,7 +496,7 @@ fn a_failing_source(rt: HostRuntime) -> Result<(), Fail> {
     let mut source = MemSource::new(input, 18, vec![in alloc; 2]?);
     let mut sink = SteadySink::new(alloc, 100, 10)?;
     let mut region = steady(alloc)?;
-    let report = call(alloc, &REPLAY, &mut source, &mut sink, &mut region)?;
+    let report = call(&rt, &REPLAY, &mut source, &mut sink, &mut region)?;
     assert_eq!(rt; report.status, Status::SourceFault);
     assert_eq!(rt; sink.text(), Some(b"".as_slice()));
     assert_eq!(rt; region.stamp(), 0);
@@ -504,17 +510,22 @@ fn a_failing_sink(rt: HostRuntime) -> Result<(), Fail> {
     let mut source = SteadySource::new(input, 100);
     let mut sink = MemSink::new(alloc, 100, 10, vec![in alloc; 2]?)?;
     let mut region = steady(alloc)?;
-    let report = call(alloc, &REPLAY, &mut source, &mut sink, &mut region)?;
+    let report = call(&rt, &REPLAY, &mut source, &mut sink, &mut region)?;
     assert_eq!(rt; report.status, Status::SinkFault);
     assert_eq!(rt; sink.text(), Some(b"stored\nval".as_slice()));
     Ok(())
 }
 
 // Replays an input on the region in a file.
-fn replay_file(rt: &HostRuntime, name: &str, input: &str) -> Result<(Report, Vec<u8>), Fail> {
+fn replay_file(
+    rt: &HostRuntime,
+    threads: &(impl Threads + AllocGlobal),
+    name: &str,
+    input: &str,
+) -> Result<(Report, Vec<u8>), Fail> {
     let alloc = rt.alloc();
     let mut region = FileRegion::at(rt.clone()?, String::from_str(alloc, name)?);
-    replay(alloc, &mut region, input)
+    replay(threads, &mut region, input)
 }
 
 fn words_of_file(rt: &HostRuntime, name: &str) -> Result<Vec<u64>, Fail> {
@@ -528,7 +539,7 @@ fn words_of_file(rt: &HostRuntime, name: &str) -> Result<Vec<u64>, Fail> {
 fn a_region_in_a_file(rt: HostRuntime) -> Result<(), Fail> {
     let name = "flatstore_a_region_in_a_file";
     fs::write(&rt, name, fresh(rt.alloc())?.as_slice())?;
-    let (report, written) = replay_file(&rt, name, THREE)?;
+    let (report, written) = replay_file(&rt, &rt, name, THREE)?;
     assert_eq!(rt; report.status, Status::Done);
     assert_eq!(rt;
         written.as_slice(),
@@ -545,7 +556,7 @@ fn a_region_in_a_file(rt: HostRuntime) -> Result<(), Fail> {
         assert_eq!(rt; words.get(place), Some(&word));
     }
     fs::remove_file(&rt, name)?;
-    let (report, written) = replay_file(&rt, name, THREE)?;
+    let (report, written) = replay_file(&rt, &rt, name, THREE)?;
     assert_eq!(rt; report.status, Status::RegionFault);
     assert!(rt; written.is_empty());
     Ok(())

@@ -4,43 +4,57 @@ ghost use Rattle.pm_region.specs.State.{State, IsTelling, Rose};
 ghost use Rattle.pm_region.specs.Split.{Attached};
 ghost use Rattle.chunk_map.specs.declared.layouts.Geometry.{Geometry};
 ghost use Rattle.flatstore.specs.Commands.{form_of, words_of};
-ghost use Rattle.flatstore.specs.Commands.Form.{Format, Replay, Dump, Log};
+ghost use Rattle.flatstore.specs.Commands.Form.{Format, Replay, Run, Dump, Log};
 ghost use Rattle.flatstore.specs.Dumps.{Dumps};
 ghost use Rattle.flatstore.specs.Formats.{Formats};
 ghost use Rattle.flatstore.specs.Logs.{Logs};
-ghost use Rattle.flatstore.specs.Attaching.{Attaches};
+ghost use Rattle.flatstore.specs.Attaching.{Attaches, AttachesToSplit};
 ghost use Rattle.flatstore.specs.Ordering.{is_of_region, is_quiet};
 ghost use Rattle.flatstore.specs.Promise.{IsInput, Replays};
+ghost use Rattle.flatstore.specs.ThreadRuns.{RunsOnThreads};
 ghost use Rattle.flatstore.specs.declared.report.Status.TheVariants as statuses;
 
-use crate::command::{Command, parse_command};
-use crate::dumping::dump_region;
-use crate::formatting::format_region;
-use crate::logging::log_region;
-use crate::playing::replay_region;
+use crate::alone::flatstore_alone;
+use crate::command::asks_for_threads;
 use crate::report::{Report, Status};
+use crate::run_threads::run_region;
+use core_worker::Gate;
+use fs_errors::Memory;
 use fs_text::{Sink, Source};
 use pm_region::{ReadRegion, SplitRegion};
 use std::alloc::Global;
+use std::sync::Wait;
+use std::thread::Threads;
 
-/// Does what the words of a command line ask. The first word is the program's name. For `format` the region is created
-/// and its superblock written. For `replay` the region is attached, the input is read, its lines are run in order, each
-/// core's moves by its `go` lines, and the replies are written once all are answered. For `dump` the region is attached,
-/// and its live pairs are written, and for `log` the entries of its logs.
-pub fn flatstore<S: Source, O: Sink, R: SplitRegion + ReadRegion>(
+/// Does what the words of a command line ask. The first word is the program's name. For `run` the region is attached, the
+/// input is read, and each core of the region has a worker in a thread of its own, which answers the requests of its keys,
+/// and asks the gate before it posts; once all are joined the replies are written in the order of the requests. It may
+/// then wait for its threads. Every other form is done in the thread that calls it (`flatstore_alone`).
+pub fn flatstore<
+    T: Threads + Wait + Sync,
+    S: Source,
+    O: Sink,
+    R: SplitRegion + ReadRegion,
+    G: Gate + Sync,
+>(
+    rt: &T,
     alloc: Global,
     words: &Vec<String>,
     source: &mut S,
     sink: &mut O,
     region: &mut R,
+    gate: &G,
 ) -> Report
     // The words alone decide on Usage, but for want of memory.
     ensures usage { result.status ≡ statuses.Usage → form_of (words_of words.now.items) ≡ None }
-    ensures no_form { form_of (words_of words.now.items) ≡ None → (result.status ≡ statuses.Usage) ⊎ (result.status ≡ statuses.Memory) }
+    ensures no_form { form_of (words_of words.now.items) ≡ None → (result.status ≡ statuses.Usage)
+        ⊎ (result.status ≡ statuses.Memory) }
 
     // A region that is made is the empty one, and until then it is refused.
-    ensures format { (path : List ℕ) (l : Geometry) → form_of (words_of words.now.items) ≡ Some (Format path l)
-        → Formats (R.state region.old) (R.state region.new) l result × (source.new ≡ source.old) × (sink.new ≡ sink.old) }
+    ensures format { (path : List ℕ) (l : Geometry)
+        → form_of (words_of words.now.items) ≡ Some (Format path l)
+        → Formats (R.state region.old) (R.state region.new) l result × (source.new ≡ source.old)
+        × (sink.new ≡ sink.old) }
 
     // What is dumped are the cells that the words of the region recover.
     ensures dump { (path : List ℕ) → form_of (words_of words.now.items) ≡ Some (Dump path)
@@ -57,16 +71,31 @@ pub fn flatstore<S: Source, O: Sink, R: SplitRegion + ReadRegion>(
     // The headline.
     ensures attaches { (path : List ℕ) → form_of (words_of words.now.items) ≡ Some (Replay path)
         → Attaches (R.state region.old) (R.state region.new) (R.found region.old) result }
-    ensures replay { (path : List ℕ) → form_of (words_of words.now.items) ≡ Some (Replay path) → result.attached ≡ true
+    ensures replay { (path : List ℕ) → form_of (words_of words.now.items) ≡ Some (Replay path)
+        → result.attached ≡ true
         → (input : List ℕ) × (cores : ℕ) × IsInput (S.coming source.old) input
         × Replays (R.state region.old) (R.state region.new) (R.found region.old)
         (S.coming source.old) (S.coming source.new) (S.fault_count source.old) (S.fault_count source.new) cores input
         (O.taken sink.old) (O.taken sink.new) (O.flushed sink.new) (O.fault_count sink.old) (O.fault_count sink.new) result }
 
+    // The same of a run on threads, whatever the gate.
+    ensures attaches_run { (path : List ℕ) → form_of (words_of words.now.items) ≡ Some (Run path)
+        → AttachesToSplit (R.state region.old) (R.state region.new) (R.found region.old) result }
+    ensures run { (path : List ℕ) → form_of (words_of words.now.items) ≡ Some (Run path)
+        → result.attached ≡ true
+        → (input : List ℕ) × (cores : ℕ) × IsInput (S.coming source.old) input
+        × RunsOnThreads (R.state region.old) (R.state region.new) (R.found region.old)
+        (S.coming source.old) (S.coming source.new) (S.fault_count source.old) (S.fault_count source.new)
+        (G.may_refuse gate.now) cores input
+        (O.taken sink.old) (O.taken sink.new) (O.flushed sink.new) (O.fault_count sink.old) (O.fault_count sink.new) result }
+
     // A fault comes only where its count rose.
-    ensures source_fault { result.status ≡ statuses.SourceFault → Rose (S.fault_count source.old) (S.fault_count source.new) }
-    ensures sink_fault { result.status ≡ statuses.SinkFault → Rose (O.fault_count sink.old) (O.fault_count sink.new) }
-    ensures region_fault { result.status ≡ statuses.RegionFault → Rose (R.state region.old).faults (R.state region.new).faults }
+    ensures source_fault { result.status ≡ statuses.SourceFault
+        → Rose (S.fault_count source.old) (S.fault_count source.new) }
+    ensures sink_fault { result.status ≡ statuses.SinkFault
+        → Rose (O.fault_count sink.old) (O.fault_count sink.new) }
+    ensures region_fault { result.status ≡ statuses.RegionFault
+        → Rose (R.state region.old).faults (R.state region.new).faults }
 
     // Nothing is written where the run didn't come to its end.
     ensures incomplete { result.complete ≡ false → sink.new ≡ sink.old }
@@ -78,19 +107,15 @@ pub fn flatstore<S: Source, O: Sink, R: SplitRegion + ReadRegion>(
 
     // Nothing is lost or changed by a refusal.
     ensures sink_untouched { is_quiet result.status ≡ true → sink.new ≡ sink.old }
-    ensures no_form_untouched { form_of (words_of words.now.items) ≡ None → (region.new ≡ region.old) × (source.new ≡ source.old) }
+    ensures no_form_untouched { form_of (words_of words.now.items) ≡ None
+        → (region.new ≡ region.old) × (source.new ≡ source.old) }
     ensures region_untouched { is_quiet result.status ≡ true → result.attached ≡ true
-        → Attached (R.state region.old) (R.state region.new) (R.state region.new).frame.bytes (R.found region.old) }
+        → Attached (R.state region.old) (R.state region.new) (R.state region.new).frame.bytes
+        (R.found region.old) }
 {
-    let command = match parse_command(alloc, words.as_slice()) {
-        Err(_) => return Report::of(alloc, Status::Memory, false),
-        Ok(None) => return Report::of(alloc, Status::Usage, false),
-        Ok(Some(command)) => command,
-    };
-    match command {
-        Command::Format { layout, .. } => format_region(alloc, region, layout),
-        Command::Replay { .. } => replay_region(alloc, source, sink, region),
-        Command::Dump { .. } => dump_region(alloc, sink, region),
-        Command::Log { .. } => log_region(alloc, sink, region),
+    match asks_for_threads(alloc, words) {
+        Err(Memory) => Report::of(alloc, Status::Memory, false),
+        Ok(true) => run_region(rt, alloc, source, sink, region, gate),
+        Ok(false) => flatstore_alone(rt, alloc, words, source, sink, region),
     }
 }

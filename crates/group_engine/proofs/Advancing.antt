@@ -17,12 +17,13 @@ use Rattle.group_laws.specs.MemberViews.{View, view_of}
 use Rattle.group_laws.specs.Regions.{groups_in, place_at}
 use Rattle.group_laws.specs.Runs.{Kind, Runs}
 use Rattle.group_board.specs.Journals.{state}
+use Rattle.group_board.specs.Seats.{SeatAt}
 use Rattle.group_board.specs.declared.local_board.LocalBoard.{LocalBoard}
 use Rattle.engine_laws.specs.Parts.{group_of, member_of}
 use Rattle.engine_laws.specs.WorkerMoves.{Hands}
 use Rattle.engine_laws.specs.Engine.{Engine}
 use Rattle.engine_laws.specs.Stands.{Origin, Stands}
-use Rattle.engine_laws.specs.Promises.{AnyTurn}
+use Rattle.engine_laws.specs.Promises.{AnyTurn, next_in}
 use Rattle.engine_laws.proofs.Cores.{group_low}
 use Rattle.core_worker.specs.declared.types.Answer.{Answer}
 use Rattle.group_engine.specs.declared.types.Stamped.{Stamped}
@@ -31,6 +32,7 @@ use Rattle.group_engine.specs.Calls.{AreOwn, KeepsPart, Steps, steps_of, is_idle
 use Rattle.engine_laws.specs.Ceasing.{Halts}
 use Rattle.group_engine.specs.Passes.{Advances}
 use Rattle.group_engine.specs.Shows.{Seat, Shows, total, left_of}
+use Rattle.group_engine.specs.Runs.{Does, RunMoves, run_state}
 use Rattle.group_engine.proofs.Ending.{keeps_any}
 use Rattle.group_engine.proofs.Kept.{get_there, set_length, set_same, set_other, set_twice, total_set, stored_shows, stored_length, shows_less, places_of}
 use Rattle.group_engine.proofs.Moving.{layout_of_stands}
@@ -103,6 +105,27 @@ module _ {W Q : Type 0} (hands : View → W → Hands) (answers : W → List Ans
 
       halted : idle ≡ true → Halts e after c
       halted still = moving.halts hands answers stands fair room leads o e S c low_e t (state b1.keeper.me.0) w x Y accepted rest idle down own_e here still
+
+      -- what was handed out
+      abbrev handed : List (ℕ × Request)
+      handed = next_of (is_open room leads w) (queue q)
+
+      -- what was done, as the state has it
+      did : (begins : State → View → W → W → ℕ → Request → Type 0) (turned : Bool → State → Option Group → SeatAt → View → View → W → W → Type 0) (moved : Bool) → Does begins turned (state b0.keeper.me.0).place (member_of l c) s t (state b0.keeper.me.0) (state b1.keeper.me.0) w x (next_of (is_open room leads w) (queue q)) moved
+          → Does begins turned (place_at e.layout (group_of e.layout c)) (member_of e.layout c) e.region t (e.group (group_of e.layout c)) (after.group (group_of e.layout c)) w x (next_in e c) moved
+      did begins turned moved h =
+          subst (λ (ys : List (ℕ × Request)). Does begins turned (place_at e.layout (group_of e.layout c)) (member_of e.layout c) e.region t (e.group (group_of e.layout c)) (after.group (group_of e.layout c)) w x ys moved) (sym (λ i. next_of (Y.takes i) (waits i)))
+          (subst (λ (z : Group). Does begins turned (place_at e.layout (group_of e.layout c)) (member_of e.layout c) e.region t (e.group (group_of e.layout c)) z w x handed moved) (sym now) (there e.layout H.layout))
+        where
+          now : after.group (group_of e.layout c) ≡ state b1.keeper.me.0
+          now = moving.group_now hands answers stands fair room leads o e S c low_e t (state b1.keeper.me.0) w x Y accepted rest idle down own_e here
+
+          there : (n : Geometry) → n ≡ l → Does begins turned (place_at n (group_of n c)) (member_of n c) e.region t (e.group (group_of e.layout c)) (state b1.keeper.me.0) w x handed moved
+          there n is =
+              subst (λ (n : Geometry). Does begins turned (place_at n (group_of n c)) (member_of n c) e.region t (e.group (group_of e.layout c)) (state b1.keeper.me.0) w x handed moved) (sym is)
+              (subst (λ (r : State). Does begins turned (place_at l (group_of l c)) (member_of l c) r t (e.group (group_of e.layout c)) (state b1.keeper.me.0) w x handed moved) (sym H.region)
+              (subst (λ (z : Group). Does begins turned (place_at l (group_of l c)) (member_of l c) s t z (state b1.keeper.me.0) w x handed moved) (sym board_e)
+              (subst (λ (p : Place). Does begins turned p (member_of l c) s t (state b0.keeper.me.0) (state b1.keeper.me.0) w x handed moved) place_is h)))
 
       turns : (r : Bool) → (r ≡ false → idle ≡ true) → down ≡ false → accepted ≡ next_of (is_open room leads w) (queue q) → AnyTurn e c r after
       turns r still goes chosen = moving.any_turn hands answers stands fair room leads o e S c low_e t (state b1.keeper.me.0) w x Y accepted rest idle down own_e here r still goes (chosen ∙ ap (next_of (is_open room leads w)) (sym waits))
@@ -186,7 +209,8 @@ module _ {W Q : Type 0} (hands : View → W → Hands) (answers : W → List Ans
     module _ (t : State) (b1 : LocalBoard) (x : W) (kept : (p : Place) (n : ℕ) (s t : State) (v : View) (w : W) → During s t (KeepsPart p n (cell_now s)) → stands p n s v w → stands p n t v w)
         (beside : (a e : Group) (m n : ℕ) (kinds : List Kind) (w : W) → Lawful a → Runs a (steps_of m kinds) e → n ≢ m → fair a n w → fair e n w)
         (y u : W) (u_is : u ≡ x) (same : (v : View) → hands v y ≡ hands v u) (keeps : (p : Place) (n : ℕ) (s : State) (v : View) → stands p n s v u → stands p n s v y) (even : (a : Group) (n : ℕ) → fair a n u → fair a n y) (ready : is_open room leads y ≡ is_open room leads u) (none : answers y ≡ [])
-        (q1 : Q) (ks1 : List (Option Stamped)) (ks_is : ks1 ≡ stored (answers u) t.stamp ks) where
+        (q1 : Q) (ks1 : List (Option Stamped)) (ks_is : ks1 ≡ stored (answers u) t.stamp ks)
+        (begins : State → View → W → W → ℕ → Request → Type 0) (turned : Bool → State → Option Group → SeatAt → View → View → W → W → Type 0) (alike : W → W → Type 0) (w_is : slice_get ws c ≡ Some w) (like : alike u y) where
       abbrev pub Stepped : Bool → Result Bool Memory → Type 0
       Stepped down r =
           (accepted : List (ℕ × Request)) × (rest : List (ℕ × Request))
@@ -196,19 +220,38 @@ module _ {W Q : Type 0} (hands : View → W → Hands) (answers : W → List Ans
       abbrev Now : Engine → Type 0
       Now f = (o : Origin) × Stands o f × Shows hands answers stands fair room leads queue t l (slice_set (slice_set ws c x) c y) (slice_set bs (c / l.group) b1) (slice_set qs c q1) ks1 f
 
-      pub advanced : (down : Bool) (r : Result Bool Memory) → Stepped down r → (f : Engine) × Now f × Advances t down r c e f
-      advanced down r T = (
+      -- and the run's move
+      abbrev Moved : Bool → Result Bool Memory → Engine → Type 0
+      Moved down r f = down ≡ false → IfOk r (λ moved. RunMoves hands answers stands fair room leads begins turned alike (run_state e ws ks) c moved (run_state f (slice_set (slice_set ws c x) c y) ks1))
+
+      pub advanced : (down : Bool) (r : Result Bool Memory) → Stepped down r → IfOk r (Does begins turned (state b0.keeper.me.0).place (member_of l c) s t (state b0.keeper.me.0) (state b1.keeper.me.0) w x (next_of (is_open room leads w) (queue q))) → (f : Engine) × Now f × Advances t r c e f × Moved down r f
+      advanced down r T does = (
         after t b1 x T.0 T.1 (is_idle r) down T.2,
         (o, stands_after t b1 x T.0 T.1 (is_idle r) down T.2, shown t b1 x T.0 T.1 (is_idle r) down T.2 kept beside y u u_is same keeps even ready none q1 T.3 ks1 ks_is),
         record {
           ends = record { region = refl; keeps = keeps_any e (after t b1 x T.0 T.1 (is_idle r) down T.2) c true (moving.any_move hands answers stands fair room leads o e S c low_e t (state b1.keeper.me.0) w x Y T.0 T.1 (is_idle r) down (own_e t b1 x T.0 T.1 (is_idle r) down T.2) (here t b1 x T.0 T.1 (is_idle r) down T.2) true) };
-          turn = λ goes. turned r refl goes;
           halts = halted_by r refl;
         },
+        λ goes. moved r refl goes,
       ) where
-        turned : (z : Result Bool Memory) → r ≡ z → down ≡ false → IfOk z (λ b. AnyTurn e c b (after t b1 x T.0 T.1 (is_idle r) down T.2))
-        turned (Ok n) is goes = turns t b1 x T.0 T.1 (is_idle r) down T.2 n (λ off. ap is_idle is ∙ ap not off) goes (subst (λ (z : Result Bool Memory). OnOk z (T.0 ≡ next_of (is_open room leads w) (queue q))) is T.4)
-        turned (Err z) is goes = tt
+        moved : (z : Result Bool Memory) → r ≡ z → down ≡ false → IfOk z (λ moved. RunMoves hands answers stands fair room leads begins turned alike (run_state e ws ks) c moved (run_state (after t b1 x T.0 T.1 (is_idle r) down T.2) (slice_set (slice_set ws c x) c y) ks1))
+        moved (Ok n) is goes = record {
+          turn = turns t b1 x T.0 T.1 (is_idle r) down T.2 n (λ off. ap is_idle is ∙ ap not off) goes (subst (λ (z : Result Bool Memory). OnOk z (T.0 ≡ next_of (is_open room leads w) (queue q))) is T.4);
+          old = w;
+          mid = u;
+          new = y;
+          from = w_is;
+          sits = Y;
+          does =
+              let done = subst (λ (z : Result Bool Memory). IfOk z (Does begins turned (state b0.keeper.me.0).place (member_of l c) s t (state b0.keeper.me.0) (state b1.keeper.me.0) w x (next_of (is_open room leads w) (queue q)))) is does in
+              let here = did t b1 x T.0 T.1 (is_idle r) down T.2 begins turned n done in
+              subst (λ z. Does begins turned (place_at e.layout (group_of e.layout c)) (member_of e.layout c) e.region t (e.group (group_of e.layout c)) ((after t b1 x T.0 T.1 (is_idle r) down T.2).group (group_of e.layout c)) w z (next_in e c) n) (sym u_is) here;
+          gives = like;
+          sits_on = own_seat t b1 x T.0 T.1 (is_idle r) down T.2 kept beside y u u_is same keeps even ready none q1 T.3 ks1 ks_is;
+          workers = set_twice ws c x y;
+          keeps = ks_is;
+        }
+        moved (Err z) is goes = tt
 
         halted_by : (z : Result Bool Memory) → r ≡ z → IfOk z (λ b. b ≡ false → Halts e (after t b1 x T.0 T.1 (is_idle r) down T.2) c)
         halted_by (Ok n) is = λ off. halted t b1 x T.0 T.1 (is_idle r) down T.2 (ap is_idle is ∙ ap not off)

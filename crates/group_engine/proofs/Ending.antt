@@ -5,13 +5,14 @@ use Rattle.engine_laws.specs.Engine.{Engine}
 use Rattle.engine_laws.specs.Ran.{Goes, Ran, asked_in}
 use Rattle.engine_laws.specs.Stands.{given_to}
 use Rattle.engine_laws.specs.Promises.{AnyMove, AnyTurn}
+use Rattle.group_engine.specs.Runs.{RunState}
 use Rattle.group_engine.specs.Passes.{Settles, Passes, Keeps, Ends, Begun, EndsIn, RanSoFar, Ceases, CeasesSoFar, CeasePasses, CeasesOut, CeasesIn}
 use Rattle.std.proofs.lemmas.Bool.{cases_lt}
 use Rattle.engine_laws.specs.Ceasing.{IsResting, Halts}
 use Rattle.engine_laws.proofs.Ceasing.{stays_resting}
 use Rattle.engine_laws.proofs.Stands.{stands_on}
 use Rattle.engine_laws.proofs.Ran.{until, pass, goes}
-use Rattle.engine_laws.proofs.Begins.{gives}
+use Rattle.engine_laws.proofs.Begins as begins
 use Rattle.fs_model.specs.declared.model.Request.{Request}
 use Rattle.fs_text.specs.declared.line.Line.{Line}
 use Rattle.fs_text.specs.declared.line.Line.TheVariants.{Ask, Go}
@@ -28,11 +29,19 @@ keeps_any e f c b m = record { given = m.2.given; stands = λ o S. stands_on o e
 pub keeps_move : (e now next : Engine) (c : ℕ) (b : Bool) → Keeps e now → AnyTurn now c b next → Keeps e next
 keeps_move e now next c b K m = keeps_on e now next K (keeps_any now next c b m.0)
 
-pub keeps_settles : (e now next : Engine) (c : ℕ) (b : Bool) → Keeps e now → Settles c b now next → Keeps e next
-keeps_settles e now next c b K S = until AnyTurn (Keeps e) (λ a d k z p m. keeps_move e a z d k p m) c S.0 now next K S.2
+-- along moves of a run, which are moves of the engine's states
+module _ {W : Type 0} (Move : RunState W → ℕ → Bool → RunState W → Type 0) (turns : (e f : RunState W) (c : ℕ) (b : Bool) → Move e c b f → AnyTurn e.engine c b f.engine) (e : Engine) where
+  on : (a : RunState W) (c : ℕ) (b : Bool) (z : RunState W) → Keeps e a.engine → Move a c b z → Keeps e z.engine
+  on a c b z K m = keeps_move e a.engine z.engine c b K (turns a z c b m)
 
-pub keeps_passes : (cores : ℕ) (e now next : Engine) (b : Bool) → Keeps e now → Passes cores b now next → Keeps e next
-keeps_passes cores e now next b K P = pass AnyTurn (Keeps e) (λ a d k z p m. keeps_move e a z d k p m) 0 cores P.0 now next K P.2
+  pub keeps_settles : (now next : RunState W) (c : ℕ) (b : Bool) → Keeps e now.engine → Settles Move c b now next → Keeps e next.engine
+  keeps_settles now next c b K S = until Move (λ x. Keeps e x.engine) on c S.0 now next K S.2
+
+  pub keeps_passes : (cores : ℕ) (now next : RunState W) (b : Bool) → Keeps e now.engine → Passes Move cores b now next → Keeps e next.engine
+  keeps_passes cores now next b K P = pass Move (λ x. Keeps e x.engine) on 0 cores P.0 now next K P.2
+
+  pub keeps_goes : (c count : ℕ) (now next : RunState W) → Keeps e now.engine → Goes Move c count now next → Keeps e next.engine
+  keeps_goes c count now next K G = goes Move (λ x. Keeps e x.engine) on c count now next K G
 
 pub ends_on : (t : State) (e now f : Engine) → Keeps e now → Ends t now f → Ends t e f
 ends_on t e now f K E = record { region = E.region; keeps = keeps_on e now f K E.keeps }
@@ -46,17 +55,15 @@ begun_first ls e = record { stands = λ o S. S; given = refl }
 
 pub begun_ask : (ls rest now_rest : List Line) (q : Request) (e now : Engine) → rest ≡ Ask q ∷ now_rest → Begun ls rest e now → Begun ls now_rest e (given_to now q)
 begun_ask ls rest more q e now is B = record {
-  stands = λ o S. gives o now q (B.stands o S);
+  stands = λ o S. begins.gives o now q (B.stands o S);
   given = B.given ∙ ap (λ (zs : List Line). now.given ++ asked_in zs) is ∙ sym (append_assoc now.given (q ∷ []) (asked_in more));
 }
 
-pub begun_go : (ls rest now_rest : List Line) (c turns : ℕ) (e now next : Engine) → rest ≡ Go c turns ∷ now_rest → Begun ls rest e now → Goes AnyTurn c turns now next → Begun ls now_rest e next
-begun_go ls rest more c turns e now next is B G =
-    let K : Keeps now next = goes AnyTurn (Keeps now) (λ a d k z p m. keeps_move now a z d k p m) c turns now next (keeps_all now) G in
-    record {
-      stands = λ o S. K.stands o (B.stands o S);
-      given = B.given ∙ ap (λ (zs : List Line). now.given ++ asked_in zs) is ∙ ap (λ xs. xs ++ asked_in more) (sym K.given);
-    }
+pub begun_go : (ls rest now_rest : List Line) (c turns : ℕ) (e now next : Engine) → rest ≡ Go c turns ∷ now_rest → Begun ls rest e now → Keeps now next → Begun ls now_rest e next
+begun_go ls rest more c turns e now next is B K = record {
+  stands = λ o S. K.stands o (B.stands o S);
+  given = B.given ∙ ap (λ (zs : List Line). now.given ++ asked_in zs) is ∙ ap (λ xs. xs ++ asked_in more) (sym K.given);
+}
 
 pub ends_in : (t : State) (ls rest : List Line) (e now f : Engine) → Begun ls rest e now → Ends t now f → EndsIn t ls e f
 ends_in t ls rest e now f B E = record { region = E.region; stands = λ o S. E.keeps.stands o (B.stands o S); given = (asked_in rest, B.given ∙ ap (λ xs. xs ++ asked_in rest) (sym E.keeps.given)) }
@@ -65,11 +72,12 @@ ends_in t ls rest e now f B E = record { region = E.region; stands = λ o S. E.k
 pub ends_here : (t : State) (ls rest : List Line) (e now : Engine) → Begun ls rest e now → now.region ≡ t → EndsIn t ls e now
 ends_here t ls rest e now B at = record { region = at; stands = B.stands; given = (asked_in rest, B.given) }
 
-pub ran_ask : (cores : ℕ) (ls rest more : List Line) (q : Request) (e now : Engine) → rest ≡ Ask q ∷ more → RanSoFar cores ls rest e now → RanSoFar cores ls more e (given_to now q)
-ran_ask cores ls rest more q e now is S = λ f r. S f (subst (λ (zs : List Line). Ran AnyTurn cores zs now f) (sym is) r)
+module _ {S : Type 0} (Move : S → ℕ → Bool → S → Type 0) (gives : S → Request → S) (cores : ℕ) (ls rest more : List Line) where
+  pub ran_ask : (q : Request) (e now : S) → rest ≡ Ask q ∷ more → RanSoFar Move gives cores ls rest e now → RanSoFar Move gives cores ls more e (gives now q)
+  ran_ask q e now is S = λ f r. S f (subst (λ (zs : List Line). Ran Move gives cores zs now f) (sym is) r)
 
-pub ran_go : (cores : ℕ) (ls rest more : List Line) (c turns : ℕ) (e now next : Engine) → rest ≡ Go c turns ∷ more → RanSoFar cores ls rest e now → Goes AnyTurn c turns now next → RanSoFar cores ls more e next
-ran_go cores ls rest more c turns e now next is S G = λ f r. S f (subst (λ (zs : List Line). Ran AnyTurn cores zs now f) (sym is) (next, G, r))
+  pub ran_go : (c turns : ℕ) (e now next : S) → rest ≡ Go c turns ∷ more → RanSoFar Move gives cores ls rest e now → Goes Move c turns now next → RanSoFar Move gives cores ls more e next
+  ran_go c turns e now next is S G = λ f r. S f (subst (λ (zs : List Line). Ran Move gives cores zs now f) (sym is) (next, G, r))
 
 -- while all wind down
 pub ends_first : (t : State) (e : Engine) → e.region ≡ t → Ends t e e

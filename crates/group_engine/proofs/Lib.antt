@@ -1,18 +1,19 @@
 mod Passing
 mod Ending
+mod Running
 mod Stepping
 mod Working
 mod FreeFound
 mod Seating
-mod Ranged
-mod Opens
+pub mod Ranged
+pub mod Opens
 mod Kept
 mod Moving
 mod Advancing
 mod Giving
 mod Opened
 mod Reporting
-mod Outcomes
+pub mod Outcomes
 mod Stopping
 mod Winding
 mod Ended

@@ -101,7 +101,7 @@ module _ {W : Type 0} (hands : View → W → Hands) (answers : W → List Answe
   pub given : (y : Fixed) → In y T.fixed → y.number < length e.given
   given y i = call_given o e c t b (view_of a m) (view_of b m) (hands (view_of a m) w) (hands (view_of b m) x) takes accepted rest T.fixed S calls y i
 
-  group_now : after.group g ≡ b
+  pub group_now : after.group g ≡ b
   group_now = ap (λ q. cond q b (e.group g)) (eq-eqb g g refl)
 
   sits_after : Sits after c (view_of b m) (hands (view_of b m) x)

@@ -1,5 +1,5 @@
 -- Where a region stands as recovery found it, a run may begin there, and the workers of the starts are seated in its first state.
-use Rattle.std.proofs.Common.{◌≡◌, inl, inr, ℕ, zero, suc, ◌+◌, ◌/◌, ◌^◌, ◌<◌, List, [], ◌∷◌, ◌++◌, length, Some, refl, sym, ◌∙◌, subst, arith}
+use Rattle.std.proofs.Common.{◌≡◌, inl, inr, ℕ, zero, suc, ◌+◌, ◌/◌, ◌^◌, ◌<◌, List, [], ◌∷◌, ◌++◌, length, length-append, Some, refl, sym, ◌∙◌, ap, subst, arith}
 use Rattle.std.specs.Prelude.{slice_index_or}
 use Rattle.std.specs.List.{slice_get}
 use Rattle.pm_region.specs.State.{State, IsTelling, InRange, cell_now}
@@ -20,11 +20,12 @@ use Rattle.engine_laws.specs.Stands.{Origin, opening}
 use Rattle.core_worker.specs.declared.worker.Worker.{Worker}
 use Rattle.core_worker.specs.Beginning.{answers_of}
 use Rattle.core_worker.specs.Left.{fair}
-use Rattle.core_worker.specs.Openings.{IsStartAt, IsCertainAt}
+use Rattle.core_worker.specs.Openings.{IsNew, IsStartAt, IsCertainAt}
 use Rattle.core_worker.specs.WorkerMoves.{hands_of}
 use Rattle.core_worker.proofs.Clients.{start_at, certain_at}
 use Rattle.group_engine.specs.Replayed.{StandsAsFound, BeginsAt}
 use Rattle.group_engine.specs.Shows.{AreSeated}
+use Rattle.group_engine.specs.Runs.{AreNew}
 use Rattle.group_engine.specs.Working.{IsMember, may_take, leads, SeatsFirst, SeatFirst}
 use Rattle.group_engine.proofs.Kept.{get_there, get_more}
 use Rattle.group_engine.proofs.Ranged.{words_in, in_words, found_agrees}
@@ -47,6 +48,24 @@ seat_more starts start l ws w count all one c x y at from = elim (get_more ws w 
     | inr k ↦ subst (λ z. SeatsFirst y l z) (sym h.1) (subst (λ z. SeatsFirst z l w) (sym k.1) one)
   ]
 ]
+
+pub new_more : (starts : List CoreStart) (start : CoreStart) (l : Geometry) (ws : List Worker) (w : Worker) → AreNew starts l ws → IsNew start l w → AreNew (starts ++ start ∷ []) l (ws ++ w ∷ [])
+new_more starts start l ws w all one = record {
+  count = length-append ws (w ∷ []) ∙ ap (λ n. n + 1) all.count ∙ sym (length-append starts (start ∷ []));
+  each = λ c x y at from. elim (get_more ws w x c at) [
+    | inl h ↦ elim (get_more starts start y c from) [
+      | inl k ↦ all.each c x y h k
+      | inr k ↦ absurd (let lt = get_low ws c x h in let e = k.0 in let count = all.count in omega (arith, lt, e, count))
+    ]
+    | inr h ↦ elim (get_more starts start y c from) [
+      | inl k ↦ absurd (let lt = get_low starts c y k in let e = h.0 in let count = all.count in omega (arith, lt, e, count))
+      | inr k ↦ subst (λ z. IsNew y l z) (sym h.1) (subst (λ z. IsNew z l w) (sym k.1) one)
+    ]
+  ];
+}
+
+pub none_new : (l : Geometry) (ws : List Worker) → ws ≡ [] → AreNew [] l ws
+none_new l ws blank = subst (λ xs. AreNew [] l xs) (sym blank) (record { count = refl; each = λ c w start at from. absurd (cc at) })
 
 -- A run begins at the region's state, on its words.
 abbrev pub origin_at : State → (ℕ → ℕ) → Origin

@@ -16,7 +16,7 @@ use Rattle.pm_region.specs.State.{State, IsTelling}
 use Rattle.engine_laws.specs.Engine as engines
 use Rattle.engine_laws.specs.Engine.{Engine}
 use Rattle.engine_laws.specs.Stands.{Origin, Stands, start_of}
-use Rattle.engine_laws.specs.Promises.{HasStopped}
+use Rattle.engine_laws.specs.Promises.{HasStopped, Promised}
 use Rattle.engine_laws.specs.Reports.{reply_of, replies_from, named_at, named_from, told_of, AllAnswered}
 use Rattle.engine_laws.proofs.Kept.{promised}
 use Rattle.group_engine.specs.declared.types.Stamped.{Stamped}
@@ -233,8 +233,8 @@ abbrev MayStop : Engine → List Request → Type 0
 MayStop e more = AllAnswered e → more ≡ [] → HasStopped e
 
 -- A report on the answers that an engine keeps is one on the state that it shows.
-pub reports_on : (s : State) (o : Origin) (e : Engine) (ks : List (Option Stamped)) (r : Report) → Stands o e → length ks ≡ length e.given → ((n : ℕ) → ShowsAnswer (IsTelling s) (slice_get e.given n) (e.answer n) (kept_at ks n)) → e.region ≡ s → IsReport ks r → ReportsOn s o e r
-reports_on s o e ks r S count shown region R = record {
+pub reports_by : (s : State) (o : Origin) (e : Engine) (ks : List (Option Stamped)) (r : Report) → Promised o e → length ks ≡ length e.given → ((n : ℕ) → ShowsAnswer (IsTelling s) (slice_get e.given n) (e.answer n) (kept_at ks n)) → e.region ≡ s → IsReport ks r → ReportsOn s o e r
+reports_by s o e ks r P count shown region R = record {
   told_is = told;
   known = λ telling. R.replies ∙ kept_replies (IsTelling s) e.answer e.given ks (length e.given) (refl, sym count) from telling;
   answers = subst (λ rs. Answers (IsTelling s) (start_of o) e.given (told_of e) (AllAnswered e → HasStopped e) rs) (sym R.replies)
@@ -251,4 +251,8 @@ reports_on s o e ks r S count shown region R = record {
 
   state : Answers (IsTelling s) (start_of o) e.given (told_of e) (MayStop e []) (replies_from e.answer 0 (length e.given))
   state = subst (λ (t : State). Answers (IsTelling t) (start_of o) e.given (told_of e) (MayStop e []) (replies_from e.answer 0 (length e.given))) region
-      (subst (λ qs. Answers (IsTelling e.region) (start_of o) qs (told_of e) (MayStop e []) (replies_from e.answer 0 (length qs))) (append-nil e.given) ((promised o e S).replies []))
+      (subst (λ qs. Answers (IsTelling e.region) (start_of o) qs (told_of e) (MayStop e []) (replies_from e.answer 0 (length qs))) (append-nil e.given) (P.replies []))
+
+-- the same where a replay stands
+pub reports_on : (s : State) (o : Origin) (e : Engine) (ks : List (Option Stamped)) (r : Report) → Stands o e → length ks ≡ length e.given → ((n : ℕ) → ShowsAnswer (IsTelling s) (slice_get e.given n) (e.answer n) (kept_at ks n)) → e.region ≡ s → IsReport ks r → ReportsOn s o e r
+reports_on s o e ks r S count shown region R = reports_by s o e ks r (promised o e S) count shown region R

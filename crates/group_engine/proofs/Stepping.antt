@@ -1,14 +1,16 @@
 -- A turn, or a request taken in, is a step of the engine.
-use Rattle.std.proofs.Common.{rules, ◌≡◌, ℕ, List, [], ◌∷◌, ◌++◌, take, Bool, true, false, not, Some, refl, sym, ap, subst, ◌∙◌, ◌+◌, ◌*◌, ◌<◌, ◌≤◌, length, IfOk, OnErr, OnOk, Result, Ok, Err, arith}
+use Rattle.std.proofs.Common.{rules, ◌≡◌, ℕ, List, [], ◌∷◌, ◌++◌, take, Bool, true, false, not, Option, Some, refl, sym, ap, subst, ◌∙◌, ◌+◌, ◌*◌, ◌<◌, ◌≤◌, length, IfOk, OnErr, OnOk, Result, Ok, Err, arith}
 use Rattle.fs_errors.specs.declared.Memory.{Memory}
 use Rattle.fs_model.specs.declared.model.Request.{Request}
 use Rattle.pm_region.specs.State.{State}
 use Rattle.group_laws.specs.Places.{Place}
 use Rattle.group_laws.specs.State.{Group}
-use Rattle.group_laws.specs.MemberViews.{View}
+use Rattle.group_laws.specs.MemberViews.{View, view_of}
+use Rattle.group_board.specs.Seats.{SeatAt}
 use Rattle.engine_laws.specs.WorkerMoves.{Hands}
 use Rattle.core_worker.specs.declared.types.Answer.{Answer}
-use Rattle.group_engine.specs.Calls.{AreOwn, Accepts, Turns, Steps, is_idle, is_open, next_of}
+use Rattle.group_engine.specs.Calls.{AreOwn, Accepts, BeginsByEachView, Turns, Steps, is_idle, is_open, next_of}
+use Rattle.group_engine.specs.Runs.{TakesTurn, Does}
 
 module _ {W : Type 0} (hands : View → W → Hands) (answers : W → List Answer) (stands : Place → ℕ → State → View → W → Type 0) (fair : Group → ℕ → W → Type 0) (room leads : W → Bool) (p : Place) (m : ℕ) where
   of_turn : (s t : State) (a b : Group) (v u : View) (w x : W) (queue : List (ℕ × Request)) (idle down : Bool) → (is_open room leads w ≡ true → queue ≡ [])
@@ -86,3 +88,22 @@ less_taken queue popped now y old new under most (Err e) split taken le = tt
 pub none_left : {X : Type 0} (xs : List X) → length xs ≡ 0 → xs ≡ []
 none_left [] e = refl
 none_left (x ∷ xs) e = absurd (omega (arith, e))
+
+-- What was done in a step, by the requests that were handed out.
+module _ {W : Type 0} (stands : Place → ℕ → State → View → W → Type 0) (begins : State → View → W → W → ℕ → Request → Type 0) (turned : Bool → State → Option Group → SeatAt → View → View → W → W → Type 0) (p : Place) (m : ℕ) where
+  pub did_turn : (s t : State) (a b : Group) (w x : W) (open_now : Bool) (queue : List (ℕ × Request)) (r : Result Bool Memory) → (open_now ≡ true → queue ≡ []) → IfOk r (TakesTurn turned p m s a b w x) → IfOk r (Does begins turned p m s t a b w x (next_of open_now queue))
+  did_turn s t a b w x open_now queue (Ok moved) left turn = subst (λ ys. Does begins turned p m s t a b w x ys moved) (none open_now left) turn where
+    none : (c : Bool) → (c ≡ true → queue ≡ []) → [] ≡ next_of c queue
+    none true h = sym (ap (take 1) (h refl))
+    none false h = refl
+  did_turn s t a b w x open_now queue (Err e) left turn = tt
+
+  pub did_take : (s : State) (a : Group) (w x : W) (open_now : Bool) (queue popped : List (ℕ × Request)) (y : ℕ × Request) (r : Result Bool Memory) → queue ≡ y ∷ popped → open_now ≡ true → stands p m s (view_of a m) w → AreOwn p m queue → IfOk r (λ moved. moved ≡ true) → OnOk r (BeginsByEachView stands begins s w x y.0 y.1)
+      → IfOk r (Does begins turned p m s s a a w x (next_of open_now queue))
+  did_take s a w x open_now queue popped y (Ok moved) split ready tied own on begun = subst (λ ys. Does begins turned p m s s a a w x ys moved) (sym (ap (λ c. next_of c queue) ready ∙ ap (take 1) split)) (record {
+    begun = begun p m (view_of a m) tied (subst (AreOwn p m) split own).0;
+    moves = on;
+    region = refl;
+    group = refl;
+  })
+  did_take s a w x open_now queue popped y (Err e) split ready tied own on begun = tt

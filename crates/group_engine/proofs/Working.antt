@@ -17,7 +17,7 @@ use Rattle.core_worker.specs.declared.worker.Worker.{Worker}
 use Rattle.core_worker.specs.declared.types.NotAccepted.{NotAccepted}
 use Rattle.core_worker.specs.declared.types.Turn.{Turn}
 use Rattle.core_worker.specs.declared.types.Turn.TheVariants.{Moved, Idle}
-use Rattle.core_worker.specs.Accepting.{IsTied, HasTie, StaysTied, AcceptMoves}
+use Rattle.core_worker.specs.Accepting.{IsTied, HasTie, StaysTied, AcceptMoves, AcceptsByEachView}
 use Rattle.core_worker.specs.Beginning.{answers_of}
 use Rattle.core_worker.specs.Left.{fair, StartsFirst, MeasuresTurn, Lowers, NotMore}
 use Rattle.core_worker.specs.Order.{InOrder}
@@ -25,11 +25,12 @@ use Rattle.core_worker.specs.Resting.{AtRest, IfIdleTurn}
 use Rattle.core_worker.specs.Status.{has_room, is_leading}
 use Rattle.core_worker.specs.Supplies.{HasKeptRoom}
 use Rattle.core_worker.specs.Ties.{Holds, Stands}
-use Rattle.core_worker.specs.Turning.{TurnMoves}
+use Rattle.core_worker.specs.Turning.{TurnMoves, Turned}
+use Rattle.core_worker.specs.Turns.{Moment}
 use Rattle.core_worker.specs.WorkerMoves.{hands_of}
 use Rattle.core_worker.proofs.StartBlocks.{own_of}
-use Rattle.group_engine.specs.Calls.{AreOwn, Accepts, Turns, WindsDown, is_open}
-use Rattle.group_engine.specs.Working.{IsMember, may_take, leads}
+use Rattle.group_engine.specs.Calls.{AreOwn, Accepts, BeginsByEachView, Turns, WindsDown, is_open}
+use Rattle.group_engine.specs.Working.{IsMember, BeginsRequest, may_take, leads}
 
 -- the answers alone are other ones
 pub given_member : (p : Place) (m : ℕ) (s : State) (v : View) (w x : Worker) → x ≡ record w { answers = x.answers } → (Holds p m v w → Holds p m v x) → (Stands s p m v w → Stands s p m v x) → (InOrder p m v w → InOrder p m v x) → IsMember p m s v w → IsMember p m s v x
@@ -78,6 +79,11 @@ module _ (s : State) (w x : Worker) (k : ℕ) (stays_tied : StaysTied s w x k) (
   pub ok_takes : {X Y : Type 0} (r : Result X Y) (n : ℕ) (q : Request) → key_of q ≡ k → OnOk r (AcceptMoves s w x k ((n, q) ∷ [])) → OnOk r (Accepts hands_of answers_of IsMember fair s w x ((n, q) ∷ []))
   ok_takes (Ok y) n q at moves = takes ((n, q) ∷ []) (λ p m v M own. ap (owner p) (sym at) ∙ own.0) moves
   ok_takes (Err y) n q at moves = moves
+
+  -- begun by each view that it may be tied to
+  pub ok_begins : {X Y : Type 0} (r : Result X Y) (n : ℕ) (q : Request) → OnOk r (AcceptsByEachView s w x n q) → OnOk r (BeginsByEachView IsMember BeginsRequest s w x n q)
+  ok_begins (Ok y) n q begun = λ p m v M own. begun (record { place = p; number = m; view = v }) (tie_of p m s v w (key_of q) M own)
+  ok_begins (Err y) n q begun = begun
 
   pub err_takes : {X : Type 0} (r : Result X NotAccepted) (q : Request) → HasTie s w k → IfErr r (λ back. back.request ≡ q) → OnErr r (AcceptMoves s w x k []) → IfErr r (λ back. (back.request ≡ q) × Accepts hands_of answers_of IsMember fair s w x [])
   err_takes (Ok y) q tied back moves = tt
@@ -169,6 +175,9 @@ if_fair None S P h f = tt
 if_fair (Some a) S P h f = f h
 
 -- by what a turn answered
+pub turned_is : (t u : Turn) (s : State) (refused : Bool) (before : Option Group) (seat : SeatAt) (a b : Moment) → t ≡ u → Turned t s refused before seat a b → Turned u s refused before seat a b
+turned_is t u s refused before seat a b is h = subst (λ (y : Turn). Turned y s refused before seat a b) is h
+
 pub idle_is : (t : Turn) (X : Type 0) → t ≡ Idle → IfIdleTurn t X → X
 idle_is t X e h = subst (λ (y : Turn). IfIdleTurn y X) e h
 

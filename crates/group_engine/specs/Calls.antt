@@ -56,6 +56,10 @@ pub record Accepts {W : Type 0} (hands : View → W → Hands) (answers : W → 
   pub moves : (p : Place) (m : ℕ) (v : View) → stands p m s v w → AreOwn p m accepted → AcceptsAs hands answers p m s v w x accepted
   pub fairly : (a : Group) (m : ℕ) → fair a m w → fair a m x
 
+-- It began a request so by each view that it may be tied to.
+abbrev pub BeginsByEachView : {W : Type 0} → (Place → ℕ → State → View → W → Type 0) → (State → View → W → W → ℕ → Request → Type 0) → State → W → W → ℕ → Request → Type 0
+BeginsByEachView stands begins s w x n q = (p : Place) (m : ℕ) (v : View) → stands p m s v w → owner p (key_of q) ≡ m → begins s v w x n q
+
 -- Where nothing moved member m leads nothing, and each of its posted changes is in a leader's hands, or waits for the lock that another has.
 pub record Rests (p : Place) (m : ℕ) (before after : Option Group) (u : View) (x : Hands) : Type 0 where
   pub holds : u.holds ≡ false

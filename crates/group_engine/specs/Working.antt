@@ -1,9 +1,12 @@
 -- The worker of one core as the engine sees it.
-use Rattle.std.specs.Prelude.{◌≡◌, ℕ, Bool, false, not, ◌&&◌, List, Some}
+use Rattle.std.specs.Prelude.{◌≡◌, ℕ, Bool, false, not, ◌&&◌, List, Option, Some, if◌then◌else◌}
 use Rattle.std.specs.List.{slice_get}
-use Rattle.pm_region.specs.State.{State}
+use Rattle.fs_model.specs.declared.model.Request.{Request}
+use Rattle.pm_region.specs.State.{State, IsTelling}
 use Rattle.group_laws.specs.Places.{Place}
+use Rattle.group_laws.specs.State.{Group}
 use Rattle.group_laws.specs.MemberViews.{View}
+use Rattle.group_board.specs.Seats.{SeatAt}
 use Rattle.chunk_map.specs.declared.layouts.Geometry.{Geometry}
 use Rattle.chunk_map.specs.Layouts.{layout_of}
 use Rattle.recover.specs.declared.types.CoreStart.{CoreStart}
@@ -11,6 +14,10 @@ use Rattle.group_laws.specs.Regions.{place_at}
 use Rattle.engine_laws.specs.Parts.{group_of, member_of}
 use Rattle.engine_laws.specs.Stands.{Origin, opening}
 use Rattle.core_worker.specs.declared.worker.Worker.{Worker}
+use Rattle.core_worker.specs.declared.types.Turn.{Turn}
+use Rattle.core_worker.specs.declared.types.Turn.TheVariants.{Moved, Idle}
+use Rattle.core_worker.specs.Accepting.{Accepts}
+use Rattle.core_worker.specs.Turning.{Turned, at_entry}
 use Rattle.core_worker.specs.Beginning.{answers_of}
 use Rattle.core_worker.specs.Left.{fair}
 use Rattle.core_worker.specs.Openings.{IsStartAt, IsCertainAt}
@@ -34,6 +41,21 @@ may_take w = not w.winds_down && has_room w
 
 abbrev pub leads : Worker → Bool
 leads w = is_leading w.leading
+
+-- it accepts a request: holds it behind those of its key, or begins it
+abbrev pub BeginsRequest : State → View → Worker → Worker → ℕ → Request → Type 0
+BeginsRequest s v w x n r = Accepts (IsTelling s) v w x n r
+
+abbrev pub turn_of : Bool → Turn
+turn_of moved = if moved then Moved else Idle
+
+-- A turn by the order of work. In a replay nothing holds a worker back.
+abbrev pub MakesTurn : Bool → State → Option Group → SeatAt → View → View → Worker → Worker → Type 0
+MakesTurn moved s before seat v u w x = Turned (turn_of moved) s false before seat (at_entry w v) (at_entry x u)
+
+-- nothing but its answers differs
+abbrev pub SameButAnswers : Worker → Worker → Type 0
+SameButAnswers w x = x ≡ record w { answers = x.answers }
 
 -- On each words found of which the start is that of a core, in a region that certainly has them in the core's part, the worker is seated in the first state of a run.
 abbrev pub SeatsFirst : CoreStart → Geometry → Worker → Type 0

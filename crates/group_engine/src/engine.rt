@@ -91,11 +91,17 @@ fn wind_all<W: CoreWorker>(workers: &mut Vec<W>)
 impl<W: CoreWorker> Cores for Engine<W> {
     ghost use Rattle.engine_laws.specs.Stands.{Origin, Stands};
     ghost use Rattle.group_engine.specs.Shows.{Shows, left_of};
+    ghost use Rattle.group_engine.specs.Runs.{RunMoves, ShowsRun};
 
-    ghost shows = { λ s x e. (o : Origin) × Stands o e
-        × Shows W.hands W.answers W.stands W.fair W.room W.leads (λ q. q.items) s x.layout
+    type Worker = W;
+
+    ghost shows = { λ s x e. (o : Origin) × Stands o e.engine
+        × ShowsRun W.hands W.answers W.stands W.fair W.room W.leads (λ q. q.items) s x.layout
         x.workers.items x.boards.items x.backlogs.items x.answers.items e
         × NoneWinds W.winds x.workers.items };
+
+    ghost moves = { λ e c moved f. RunMoves W.hands W.answers W.stands W.fair W.room W.leads
+        W.begins W.turned W.alike e c moved f };
 
     ghost stays = { λ s x e. (o : Origin) × Stands o e
         × Shows W.hands W.answers W.stands W.fair W.room W.leads (λ q. q.items) s x.layout
@@ -145,7 +151,9 @@ impl<W: CoreWorker> Cores for Engine<W> {
 
     ghost placed = { λ s x e h. h.2.region };
 
-    ghost awake = { λ s x e h. (h.0, h.1, h.2) };
+    ghost awake = { λ s x e h. (h.0, h.1, h.2.shows) };
+
+    ghost turns = { λ e f c b m. m.turn };
 }
 
 impl<W: CoreWorker> Engine<W> {
@@ -154,6 +162,7 @@ impl<W: CoreWorker> Engine<W> {
     ghost use Rattle.engine_laws.specs.Stands.{Origin, Stands};
     ghost use Rattle.group_engine.specs.Passes.{Advances};
     ghost use Rattle.group_engine.specs.Shows.{Shows, left_of};
+    ghost use Rattle.group_engine.specs.Runs.{RunMoves, run_state};
 
     // Moves a core: its worker is handed the next request of its backlog, or makes a turn, and its answers are kept.
     fn move_core<R: Region>(
@@ -177,7 +186,11 @@ impl<W: CoreWorker> Engine<W> {
             × Shows W.hands W.answers W.stands W.fair W.room W.leads (λ q. q.items)
             (R.state region.new) self.new.layout self.new.workers.items self.new.boards.items
             self.new.backlogs.items self.new.answers.items f
-            × Advances (R.state region.new) (W.winds w) result core e f }
+            × Advances (R.state region.new) result core e f
+            × (W.winds w ≡ false → IfOk result (λ moved. RunMoves W.hands W.answers W.stands W.fair
+            W.room W.leads W.begins W.turned W.alike
+            (run_state e self.old.workers.items self.old.answers.items) core moved
+            (run_state f self.new.workers.items self.new.answers.items))) }
         ensures goes { NoneWinds W.winds self.old.workers.items
             → OnOk result (NoneWinds W.winds self.new.workers.items) }
         ensures winds { AllWind W.winds self.old.workers.items
@@ -215,12 +228,13 @@ impl<W: CoreWorker> Engine<W> {
     ghost use Rattle.chunk_map.specs.Layouts.{layout_of};
     ghost use Rattle.engine_laws.specs.Engine as engines;
     ghost use Rattle.engine_laws.specs.Stands.{Origin, Stands, opening};
-    ghost use Rattle.engine_laws.specs.Promises.{AnyTurn, IsOrigin, IsDone, Promised, HasStopped};
+    ghost use Rattle.engine_laws.specs.Promises.{IsOrigin, IsDone, Promised, HasStopped};
     ghost use Rattle.engine_laws.specs.Ceasing.{HasCeased};
     ghost use Rattle.pm_region.specs.State.{State};
     ghost use Rattle.engine_laws.specs.Ran.{Ran};
     ghost use Rattle.group_engine.specs.Passes.{NameCores, Ends, EndsIn, DrainsOut};
     ghost use Rattle.group_engine.specs.Shows.{Shows};
+    ghost use Rattle.group_engine.specs.Runs.{RunState, RunMoves, ShowsRun, first_state, with_request};
 
     /// Whether a core has stopped: then a call of the region failed.
     pub fn has_stopped(&self) -> bool
@@ -254,15 +268,16 @@ impl<W: CoreWorker> Engine<W> {
             (R.state region.new) self.new.layout self.new.workers.items self.new.boards.items
             self.new.backlogs.items self.new.answers.items f
             × Ends (R.state region.new) e f) }
-        ensures drained { OnOk result ((o : Origin) (e : engines.Engine) → Stands o e
-            → Shows W.hands W.answers W.stands W.fair W.room W.leads (λ q. q.items)
+        ensures drained { OnOk result ((o : Origin) (e : RunState W) → Stands o e.engine
+            → ShowsRun W.hands W.answers W.stands W.fair W.room W.leads (λ q. q.items)
             (R.state region.old) self.old.layout self.old.workers.items self.old.boards.items
             self.old.backlogs.items self.old.answers.items e
-            → (f : engines.Engine)
-            × Shows W.hands W.answers W.stands W.fair W.room W.leads (λ q. q.items)
+            → (f : RunState W)
+            × ShowsRun W.hands W.answers W.stands W.fair W.room W.leads (λ q. q.items)
             (R.state region.new) self.new.layout self.new.workers.items self.new.boards.items
             self.new.backlogs.items self.new.answers.items f
-            × DrainsOut self.old.layout.cores e f) }
+            × DrainsOut (RunMoves W.hands W.answers W.stands W.fair W.room W.leads
+            W.begins W.turned W.alike) self.old.layout.cores e f) }
         ensures awake { OnOk result (NoneWinds W.winds self.new.workers.items) }
     {
         passes::drain(self, alloc, region)
@@ -295,11 +310,13 @@ impl<W: CoreWorker> Engine<W> {
             → Shows W.hands W.answers W.stands W.fair W.room W.leads (λ q. q.items)
             (R.state region.old) self.old.layout self.old.workers.items self.old.boards.items
             self.old.backlogs.items self.old.answers.items (opening o)
-            → (f : engines.Engine)
-            × Shows W.hands W.answers W.stands W.fair W.room W.leads (λ q. q.items)
+            → (f : RunState W)
+            × ShowsRun W.hands W.answers W.stands W.fair W.room W.leads (λ q. q.items)
             (R.state region.new) self.new.layout self.new.workers.items self.new.boards.items
             self.new.backlogs.items self.new.answers.items f
-            × Ran AnyTurn (layout_of o.found).cores lines.items (opening o) f × IsDone o f) }
+            × Ran (RunMoves W.hands W.answers W.stands W.fair W.room W.leads
+            W.begins W.turned W.alike) with_request (layout_of o.found).cores lines.items
+            (first_state o self.old.workers.items) f × IsDone o f.engine) }
     {
         passes::replay(self, alloc, region, lines)
     }
@@ -309,12 +326,13 @@ impl<W: CoreWorker + Drop> Engine<W> {
     ghost use Rattle.pm_region.specs.State.{State};
     ghost use Rattle.engine_laws.specs.Engine as engines;
     ghost use Rattle.engine_laws.specs.Stands.{Origin, Stands};
-    ghost use Rattle.group_engine.specs.Reports.{ReportsOn};
+    ghost use Rattle.group_engine.specs.Reports.{IsReport, ReportsOn};
     ghost use Rattle.group_engine.specs.Shows.{Shows};
 
     /// The replies, and the report on them: those of the state that the engine shows. It takes no memory.
     pub fn into_report(self) -> Report
-        ensures { (s : State) (o : Origin) (e : engines.Engine) → Stands o e
+        ensures kept { IsReport self.answers.items result }
+        ensures reports { (s : State) (o : Origin) (e : engines.Engine) → Stands o e
             → Shows W.hands W.answers W.stands W.fair W.room W.leads (λ q. q.items) s self.layout
             self.workers.items self.boards.items self.backlogs.items self.answers.items e
             → ReportsOn s o e result }

@@ -9,7 +9,8 @@ ghost use Rattle.group_laws.specs.State.{Group};
 ghost use Rattle.group_laws.specs.MemberViews.{View, view_of};
 ghost use Rattle.group_board.specs.Journals.{state};
 ghost use Rattle.group_engine.specs.Answers.{HavePlaces, stored};
-ghost use Rattle.group_engine.specs.Calls.{AreOwn, Accepts, Turns, Steps, is_idle, is_open, next_of};
+ghost use Rattle.group_engine.specs.Runs.{TakesTurn, Does};
+ghost use Rattle.group_engine.specs.Calls.{AreOwn, Accepts, BeginsByEachView, Turns, Steps, is_idle, is_open, next_of};
 
 use crate::types::Stamped;
 use crate::worker_calls::CoreWorker;
@@ -37,6 +38,9 @@ fn turn_at<W: CoreWorker, R: Region>(
         (view_of (state board.old.keeper.me.0) member)
         (view_of (state board.new.keeper.me.0) member) worker.old worker.new (is_idle result)
         (W.winds worker.old) }
+    ensures turned { IfOk result (TakesTurn W.turned (state board.old.keeper.me.0).place member
+        (R.state region.old) (state board.old.keeper.me.0) (state board.new.keeper.me.0)
+        worker.old worker.new) }
     ensures winds { OnOk result (W.winds worker.new ≡ W.winds worker.old) }
     ensures awake { OnErr result (W.winds worker.old ≡ false) }
     ensures less { IfOk result (λ b. b ≡ true
@@ -74,6 +78,8 @@ fn take_in<W: CoreWorker, R: Region>(
     ensures moved { IfOk result (λ b. (b ≡ true)
         × Accepts W.hands W.answers W.stands W.fair (R.state region.now) worker.old worker.new
         ((number, request) ∷ [])) }
+    ensures begins { OnOk result (BeginsByEachView W.stands W.begins (R.state region.now)
+        worker.old worker.new number request) }
     ensures failed { OnErr result (Accepts W.hands W.answers W.stands W.fair
         (R.state region.now) worker.old worker.new []) }
     ensures taken { OnOk result (backlog.new.items ≡ backlog.old.items) }
@@ -112,6 +118,10 @@ pub(crate) fn step<W: CoreWorker, R: Region>(
         worker.old worker.new backlog.old.items accepted rest (is_idle result)
         (W.winds worker.old) × (backlog.new.items ≡ rest) × OnOk result (accepted
         ≡ next_of (is_open W.room W.leads worker.old) backlog.old.items) }
+    ensures does { IfOk result (Does W.begins W.turned (state board.old.keeper.me.0).place member
+        (R.state region.old) (R.state region.new)
+        (state board.old.keeper.me.0) (state board.new.keeper.me.0) worker.old worker.new
+        (next_of (is_open W.room W.leads worker.old) backlog.old.items)) }
     ensures winds { OnOk result (W.winds worker.new ≡ W.winds worker.old) }
     ensures awake { OnErr result (W.winds worker.old ≡ false) }
     ensures less { IfOk result (λ b. b ≡ true
@@ -139,6 +149,7 @@ pub(crate) fn collect<W: CoreWorker>(worker: &mut W, kept: &mut Vec<Option<Stamp
     requires { HavePlaces (length kept.old.items) (W.answers worker.old) }
     ensures kept { kept.new.items ≡ stored (W.answers worker.old) stamp kept.old.items }
     ensures answers { W.answers worker.new ≡ [] }
+    ensures alike { W.alike worker.old worker.new }
     ensures hands { (v : View) → W.hands v worker.new ≡ W.hands v worker.old }
     ensures stands { (p : Place) (m : ℕ) (s : State) (v : View)
         → W.stands p m s v worker.old → W.stands p m s v worker.new }

@@ -62,7 +62,8 @@ fn open_boards<O: Opening>(
     groups: u32,
 ) -> Result<Vec<LocalBoard>, Memory>
     requires sound { images.IsSound O.bytes (image_of O.words) }
-    requires groups { (layout_of (image_of O.words)).cores / (layout_of (image_of O.words)).group ≡ groups }
+    requires groups { (layout_of (image_of O.words)).cores
+        / (layout_of (image_of O.words)).group ≡ groups }
     requires members { (layout_of (image_of O.words)).group ≡ members }
     ensures length { IfOk result (λ v. length v.items ≡ groups) }
     ensures opened { IfOk result (λ v. AreOpened O.words v.items) }
@@ -98,6 +99,7 @@ pub fn open<O: Opening, W: CoreWorker + Drop>(
     requires group { 0 < layout.group }
     requires workers { length workers.items ≡ layout.cores }
     ensures layout { IfOk result (λ x. x.layout ≡ layout) }
+    ensures workers { IfOk result (λ x. x.workers.items ≡ workers.items) }
     ensures opened { IfOk result (λ x. (o : Origin) → o.found ≡ image_of O.words
         → AreSeated W.hands W.answers W.stands W.fair W.room W.leads workers.items (opening o)
         → Shows W.hands W.answers W.stands W.fair W.room W.leads (λ q. q.items) o.region x.layout

@@ -9,6 +9,7 @@ ghost use Rattle.core_worker.specs.WorkerMoves.{hands_of};
 ghost use Rattle.engine_laws.specs.Stands.{Origin, opening};
 ghost use Rattle.group_engine.specs.Replayed.{StandsAsFound, BeginsAt};
 ghost use Rattle.group_engine.specs.Shows.{Shows, AreSeated};
+ghost use Rattle.group_engine.specs.Runs.{AreNew};
 ghost use Rattle.group_engine.specs.Working.{IsMember, may_take, leads, SeatFirst};
 
 use crate::engine::Engine;
@@ -49,13 +50,14 @@ impl<F: Found> Opening for On<F> {
     ghost group = { 0 };
 }
 
-// One worker for each core, in their order.
-fn open_workers(
+/// One worker for each core, in their order, as it is opened of what recovery gave of the core.
+pub fn open_workers(
     alloc: Global,
     layout: Layout,
     starts: Vec<CoreStart>,
 ) -> Result<Vec<Worker>, Memory>
     ensures count { IfOk result (λ workers. length workers.items ≡ length starts.items) }
+    ensures new { IfOk result (λ workers. AreNew starts.items layout workers.items) }
     ensures seat { IfOk result (λ workers. SeatFirst starts.items layout workers.items) }
 {
     let mut workers = Vec::new(alloc);
@@ -78,6 +80,7 @@ fn open_on<F: Found, R: ReadRegion>(
     requires group { 0 < layout.group }
     requires workers { length workers.items ≡ layout.cores }
     ensures layout { IfOk result (λ x. x.layout ≡ layout) }
+    ensures workers { IfOk result (λ x. x.workers.items ≡ workers.items) }
     ensures opened { IfOk result (λ x. (o : Origin) → o.found ≡ image_of F.words
         → AreSeated hands_of answers_of IsMember fair may_take leads workers.items (opening o)
         → Shows hands_of answers_of IsMember fair may_take leads (λ q. q.items) o.region x.layout
@@ -96,6 +99,8 @@ impl Engine<Worker> {
     ) -> Result<Engine<Worker>, Memory>
         requires region { StandsAsFound (R.state region.now) (R.word region.now) recovered }
         ensures layout { IfOk result (λ x. x.layout ≡ recovered.layout) }
+        ensures new { IfOk result (λ x. AreNew recovered.starts.items recovered.layout
+            x.workers.items) }
         ensures opened { IfOk result (λ x. (o : Origin)
             × BeginsAt (R.state region.now) (R.word region.now) o
             × Shows hands_of answers_of IsMember fair may_take leads (λ q. q.items)

@@ -1,10 +1,10 @@
 // The passes of a drain, over whatever cores there are.
-ghost use Rattle.std.specs.Prelude.{◌≡◌, ℕ, ◌<◌, ◌≤◌, IfOk, OnOk, OnErr, true, false};
+ghost use Rattle.std.specs.Prelude.{◌≡◌, ℕ, ◌<◌, ◌≤◌, Bool, IfOk, OnOk, OnErr, true, false};
 ghost use Rattle.pm_region.specs.State.{State};
 ghost use Rattle.engine_laws.specs.Engine.{Engine};
 ghost use Rattle.engine_laws.specs.Promises.{AnyTurn};
 ghost use Rattle.engine_laws.specs.Ran.{Goes, Ran};
-ghost use Rattle.engine_laws.specs.Stands.{given_to};
+ghost use Rattle.group_engine.specs.Runs.{RunState, with_request};
 ghost use Rattle.group_engine.specs.Passes.{Settles, Passes, NameCores, Ends, EndsIn, DrainsOut, Leads, Ceases, CeasePasses, CeasesOut, CeasesIn};
 
 use fs_errors::Memory;
@@ -16,11 +16,17 @@ use std::collections::VecDeque;
 
 /// Cores on one region that can be moved one at a time.
 pub trait Cores {
-    // The states that they may stand at, with a region's state, while none of them winds down. It has what no code knows,
-    // so it is a relation.
-    ghost shows: { State → Self → Engine → Type 0 };
+    /// What each of them is.
+    type Worker;
 
-    // The same, whether or not some wind down.
+    // The states of a run that they may stand at, with a region's state, while none of them winds down. It has what no
+    // code knows, so it is a relation.
+    ghost shows: { State → Self → RunState Self.Worker → Type 0 };
+
+    // A move of one of them, and whether anything moved.
+    ghost moves: { RunState Self.Worker → ℕ → Bool → RunState Self.Worker → Type 0 };
+
+    // The engine's states that they may stand at, whether or not some wind down.
     ghost stays: { State → Self → Engine → Type 0 };
 
     // All of them wind down.
@@ -37,10 +43,10 @@ pub trait Cores {
 
     /// Gives a request to the owner of its key.
     fn give(&mut self, request: Request) -> Result<(), Memory>
-        requires { (s : State) × (e : Engine) × shows s self.old e }
-        ensures gave { OnOk result ((s : State) (e : Engine) → shows s self.old e
-            → shows s self.new (given_to e request)) }
-        ensures kept { OnErr result ((s : State) (e : Engine) → shows s self.old e
+        requires { (s : State) × (e : RunState Self.Worker) × shows s self.old e }
+        ensures gave { OnOk result ((s : State) (e : RunState Self.Worker) → shows s self.old e
+            → shows s self.new (with_request e request)) }
+        ensures kept { OnErr result ((s : State) (e : RunState Self.Worker) → shows s self.old e
             → shows s self.new e) }
         ensures cores { cores self.new ≡ cores self.old };
 
@@ -52,11 +58,11 @@ pub trait Cores {
         core: u32,
     ) -> Result<bool, Memory>
         requires core { core < cores self.old }
-        requires shows { (e : Engine) × shows (R.state region.old) self.old e }
+        requires shows { (e : RunState Self.Worker) × shows (R.state region.old) self.old e }
         ensures moved { IfOk result (λ b. Leads (shows (R.state region.old) self.old)
-            (shows (R.state region.new) self.new) (λ e f. AnyTurn e core b f)) }
+            (shows (R.state region.new) self.new) (λ e f. moves e core b f)) }
         ensures failed { OnErr result (Leads (shows (R.state region.old) self.old)
-            (stays (R.state region.new) self.new) (Ends (R.state region.new))) }
+            (stays (R.state region.new) self.new) (λ e f. Ends (R.state region.new) e.engine f)) }
         ensures cores { cores self.new ≡ cores self.old }
         ensures less { IfOk result (λ b. b ≡ true → left self.new < left self.old) }
         ensures idle { IfOk result (λ b. b ≡ false → left self.new ≤ left self.old) };
@@ -83,7 +89,12 @@ pub trait Cores {
     // A state that is shown with a region's state has it.
     ghost placed: { (s : State) (x : Self) (e : Engine) → stays s x e → e.region ≡ s };
 
-    ghost awake: { (s : State) (x : Self) (e : Engine) → shows s x e → stays s x e };
+    ghost awake: { (s : State) (x : Self) (e : RunState Self.Worker) → shows s x e
+        → stays s x e.engine };
+
+    // A move is one of the engine's states.
+    ghost turns: { (e f : RunState Self.Worker) (c : ℕ) (b : Bool) → moves e c b f
+        → AnyTurn e.engine c b f.engine };
 }
 
 /// Moves a core until it is idle, and answers whether anything moved.
@@ -94,11 +105,11 @@ pub fn settle<C: Cores, R: Region>(
     core: u32,
 ) -> Result<bool, Memory>
     requires core { core < C.cores cores.old }
-    requires shows { (e : Engine) × C.shows (R.state region.old) cores.old e }
+    requires shows { (e : RunState C.Worker) × C.shows (R.state region.old) cores.old e }
     ensures failed { OnErr result (Leads (C.shows (R.state region.old) cores.old)
-        (C.stays (R.state region.new) cores.new) (Ends (R.state region.new))) }
+        (C.stays (R.state region.new) cores.new) (λ e f. Ends (R.state region.new) e.engine f)) }
     ensures settles { IfOk result (λ b. Leads (C.shows (R.state region.old) cores.old)
-        (C.shows (R.state region.new) cores.new) (λ e f. Settles core b e f)) }
+        (C.shows (R.state region.new) cores.new) (λ e f. Settles C.moves core b e f)) }
     ensures cores { C.cores cores.new ≡ C.cores cores.old }
     ensures less { IfOk result (λ b. b ≡ true → C.left cores.new < C.left cores.old) }
     ensures idle { IfOk result (λ b. b ≡ false → C.left cores.new ≤ C.left cores.old) }
@@ -119,11 +130,12 @@ pub fn pass<C: Cores, R: Region>(
     alloc: Global,
     region: &mut R,
 ) -> Result<bool, Memory>
-    requires { (e : Engine) × C.shows (R.state region.old) cores.old e }
+    requires { (e : RunState C.Worker) × C.shows (R.state region.old) cores.old e }
     ensures failed { OnErr result (Leads (C.shows (R.state region.old) cores.old)
-        (C.stays (R.state region.new) cores.new) (Ends (R.state region.new))) }
+        (C.stays (R.state region.new) cores.new) (λ e f. Ends (R.state region.new) e.engine f)) }
     ensures passes { IfOk result (λ b. Leads (C.shows (R.state region.old) cores.old)
-        (C.shows (R.state region.new) cores.new) (λ e f. Passes (C.cores cores.old) b e f)) }
+        (C.shows (R.state region.new) cores.new)
+        (λ e f. Passes C.moves (C.cores cores.old) b e f)) }
     ensures cores { C.cores cores.new ≡ C.cores cores.old }
     ensures less { IfOk result (λ b. b ≡ true → C.left cores.new < C.left cores.old) }
     ensures idle { IfOk result (λ b. b ≡ false → C.left cores.new ≤ C.left cores.old) }
@@ -144,11 +156,11 @@ pub fn drain<C: Cores, R: Region>(
     alloc: Global,
     region: &mut R,
 ) -> Result<(), Memory>
-    requires { (e : Engine) × C.shows (R.state region.old) cores.old e }
+    requires { (e : RunState C.Worker) × C.shows (R.state region.old) cores.old e }
     ensures failed { OnErr result (Leads (C.shows (R.state region.old) cores.old)
-        (C.stays (R.state region.new) cores.new) (Ends (R.state region.new))) }
+        (C.stays (R.state region.new) cores.new) (λ e f. Ends (R.state region.new) e.engine f)) }
     ensures drained { OnOk result (Leads (C.shows (R.state region.old) cores.old)
-        (C.shows (R.state region.new) cores.new) (DrainsOut (C.cores cores.old))) }
+        (C.shows (R.state region.new) cores.new) (DrainsOut C.moves (C.cores cores.old))) }
     ensures cores { C.cores cores.new ≡ C.cores cores.old }
 {
     loop {
@@ -167,11 +179,11 @@ pub fn go<C: Cores, R: Region>(
     turns: u32,
 ) -> Result<(), Memory>
     requires core { core < C.cores cores.old }
-    requires shows { (e : Engine) × C.shows (R.state region.old) cores.old e }
+    requires shows { (e : RunState C.Worker) × C.shows (R.state region.old) cores.old e }
     ensures failed { OnErr result (Leads (C.shows (R.state region.old) cores.old)
-        (C.stays (R.state region.new) cores.new) (Ends (R.state region.new))) }
+        (C.stays (R.state region.new) cores.new) (λ e f. Ends (R.state region.new) e.engine f)) }
     ensures went { OnOk result (Leads (C.shows (R.state region.old) cores.old)
-        (C.shows (R.state region.new) cores.new) (λ e f. Goes AnyTurn core turns e f)) }
+        (C.shows (R.state region.new) cores.new) (λ e f. Goes C.moves core turns e f)) }
     ensures cores { C.cores cores.new ≡ C.cores cores.old }
 {
     for turn in 0..turns {
@@ -188,13 +200,14 @@ fn run<C: Cores, R: Region>(
     mut lines: VecDeque<Line>,
 ) -> Result<(), Memory>
     requires lines { NameCores (C.cores cores.old) lines.items }
-    requires shows { (e : Engine) × C.shows (R.state region.old) cores.old e }
+    requires shows { (e : RunState C.Worker) × C.shows (R.state region.old) cores.old e }
     ensures failed { OnErr result (Leads (C.shows (R.state region.old) cores.old)
-        (C.stays (R.state region.new) cores.new) (EndsIn (R.state region.new) lines.items)) }
+        (C.stays (R.state region.new) cores.new)
+        (λ e f. EndsIn (R.state region.new) lines.items e.engine f)) }
     ensures cores { C.cores cores.new ≡ C.cores cores.old }
     ensures ran { OnOk result (Leads (C.shows (R.state region.old) cores.old)
         (C.shows (R.state region.new) cores.new)
-        (λ e f. Ran AnyTurn (C.cores cores.old) lines.items e f)) }
+        (λ e f. Ran C.moves with_request (C.cores cores.old) lines.items e f)) }
 {
     loop {
         match lines.pop_front() {
@@ -279,13 +292,13 @@ pub fn replay<C: Cores, R: Region>(
     lines: VecDeque<Line>,
 ) -> Result<(), Memory>
     requires lines { NameCores (C.cores cores.old) lines.items }
-    requires shows { (e : Engine) × C.shows (R.state region.old) cores.old e }
+    requires shows { (e : RunState C.Worker) × C.shows (R.state region.old) cores.old e }
     ensures failed { OnErr result (Leads (C.shows (R.state region.old) cores.old)
         (C.stays (R.state region.new) cores.new)
-        (CeasesIn (R.state region.new) (C.cores cores.old) lines.items)) }
+        (λ e f. CeasesIn (R.state region.new) (C.cores cores.old) lines.items e.engine f)) }
     ensures ran { OnOk result (Leads (C.shows (R.state region.old) cores.old)
         (C.shows (R.state region.new) cores.new)
-        (λ e f. Ran AnyTurn (C.cores cores.old) lines.items e f)) }
+        (λ e f. Ran C.moves with_request (C.cores cores.old) lines.items e f)) }
 {
     match run(cores, alloc, region, lines) {
         Ok(()) => {

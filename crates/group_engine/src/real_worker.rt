@@ -21,7 +21,9 @@ impl CoreWorker for Worker {
     ghost use Rattle.core_worker.specs.Status as status;
     ghost use Rattle.group_engine.specs.Working as working;
     ghost use Rattle.core_worker.proofs.Aside.{stands_aside};
-    ghost use Rattle.std.specs.Prelude.{not};
+    ghost use Rattle.std.specs.Prelude.{not, refl};
+    ghost use Rattle.std.proofs.Common.{◌∙◌, ap};
+    ghost use Rattle.core_worker.specs.declared.worker.Worker as worker;
     ghost use Rattle.std.proofs.lemmas.Bool.{and_parts, not-true};
 
     ghost hands = { hands_of };
@@ -37,6 +39,12 @@ impl CoreWorker for Worker {
     ghost leads = { working.leads };
 
     ghost winds = { λ w. w.winds_down };
+
+    ghost begins = { working.BeginsRequest };
+
+    ghost turned = { working.MakesTurn };
+
+    ghost alike = { working.SameButAnswers };
 
     ghost left = { measure.left };
 
@@ -96,6 +104,10 @@ impl CoreWorker for Worker {
 
     ghost wakes = { λ w e. not-true w.winds_down
         (and_parts (not w.winds_down) (status.has_room w) (and_parts (not (working.leads w)) (working.may_take w) e).1).0 };
+
+    ghost same = { λ w. refl };
+
+    ghost same_too = { λ w x y one two. two ∙ ap (λ (z : worker.Worker). record z { answers = y.answers }) one };
 
     ghost beside = { λ a e m n kinds w lawful runs other starts. starts };
 }

@@ -75,7 +75,8 @@ pub fn replay<R: ReadRegion>(
 ) -> Outcome
     requires region { StandsAsFound (R.state region.old) (R.word region.old) recovered }
     requires lines { NameCores recovered.layout.cores input }
-    ensures { Replayed (R.state region.old) (R.word region.old) input (R.state region.new) result }
+    ensures { Replayed (R.state region.old) (R.word region.old) recovered input
+        (R.state region.new) result }
 {
     let mut engine = match Engine::open(alloc, region, recovered) {
         Ok(engine) => engine,

@@ -1,5 +1,6 @@
 // What the engine asks of the worker of one core.
 ghost use Rattle.std.specs.Prelude.{◌≡◌, ◌≢◌, ℕ, ◌+◌, ◌<◌, ◌≤◌, List, [], ◌∷◌, Bool, true, false, Option, OnOk, OnErr, IfOk, IfErr, IfSome, IsSomeAnd, MatchOption};
+ghost use Rattle.fs_model.specs.declared.model.Request as requests;
 ghost use Rattle.fs_model.specs.Cells.{key_of};
 ghost use Rattle.pm_region.specs.State.{State, During, cell_now};
 ghost use Rattle.group_laws.specs.Places.{Place, owner};
@@ -7,9 +8,10 @@ ghost use Rattle.group_laws.specs.State.{Group};
 ghost use Rattle.group_laws.specs.MemberViews.{View};
 ghost use Rattle.group_laws.specs.Invariant.{Lawful};
 ghost use Rattle.group_laws.specs.Runs.{Kind, Runs};
+ghost use Rattle.group_board.specs.Seats.{SeatAt};
 ghost use Rattle.engine_laws.specs.WorkerMoves.{Hands};
 ghost use Rattle.core_worker.specs.declared.types.Answer as answers;
-ghost use Rattle.group_engine.specs.Calls.{Accepts, Turns, KeepsPart, WindsDown, is_open, is_idle, steps_of};
+ghost use Rattle.group_engine.specs.Calls.{Accepts, BeginsByEachView, Turns, KeepsPart, WindsDown, is_open, is_idle, steps_of};
 
 use core_worker::{Answer, NotAccepted};
 use fs_errors::Memory;
@@ -39,6 +41,16 @@ pub trait CoreWorker {
     // Whether it winds down.
     ghost winds: { Self → Bool };
 
+    // How it accepts a request with a number, by its view in the region's state.
+    ghost begins: { State → View → Self → Self → ℕ → requests.Request → Type 0 };
+
+    // What a turn of it does, by whether anything moved: from the region's state, where its group stands so or does not
+    // tell, at a seat, from one view to the next.
+    ghost turned: { Bool → State → Option Group → SeatAt → View → View → Self → Self → Type 0 };
+
+    // Nothing but its answers differs.
+    ghost alike: { Self → Self → Type 0 };
+
     // What it has still to do, what is under way in a group, and what an accepted request adds at most.
     ghost left: { Self → ℕ };
 
@@ -62,6 +74,7 @@ pub trait CoreWorker {
     fn next_answer(&mut self) -> Option<Answer>
         ensures answer { MatchOption result ((answers self.old ≡ []) × (answers self.new ≡ []))
             (λ a. answers self.old ≡ a ∷ answers self.new) }
+        ensures alike { alike self.old self.new }
         ensures hands { (v : View) → hands v self.new ≡ hands v self.old }
         ensures stands { (p : Place) (m : ℕ) (s : State) (v : View)
             → stands p m s v self.old → stands p m s v self.new }
@@ -84,6 +97,8 @@ pub trait CoreWorker {
             × stands p m (R.state region.now) v self.old × (owner p (key_of request) ≡ m) }
         ensures accepted { OnOk result (Accepts hands answers stands fair (R.state region.now)
             self.old self.new ((number, request) ∷ [])) }
+        ensures begins { OnOk result (BeginsByEachView stands begins (R.state region.now)
+            self.old self.new number request) }
         ensures refused { IfErr result (λ back. (back.request ≡ request)
             × Accepts hands answers stands fair (R.state region.now) self.old self.new []) }
         ensures winds { OnOk result (winds self.new ≡ winds self.old) }
@@ -110,6 +125,8 @@ pub trait CoreWorker {
             (R.state region.old) (R.state region.new) (B.whole board.old) (B.whole board.new)
             (B.view board.old) (B.view board.new) self.old self.new (is_idle result)
             (winds self.old) }
+        ensures turned { IfOk result (λ moved. turned moved (R.state region.old) (B.whole board.old)
+            (B.seat board.old) (B.view board.old) (B.view board.new) self.old self.new) }
         ensures winds { OnOk result (winds self.new ≡ winds self.old) }
         ensures awake { OnErr result (winds self.old ≡ false) }
         ensures less { IfOk result (λ b. b ≡ true → IfSome (B.whole board.old) (λ a.
@@ -121,6 +138,11 @@ pub trait CoreWorker {
 
     // One that winds down may not be handed a request.
     ghost wakes: { (w : Self) → is_open room leads w ≡ true → winds w ≡ false };
+
+    // As it is, it is like itself, and so is what is like one that is like it.
+    ghost same: { (w : Self) → alike w w };
+
+    ghost same_too: { (w x y : Self) → alike w x → alike x y → alike w y };
 
     // What another member does leaves it as it is: to words outside the own part,
     ghost apart: { (p : Place) (m : ℕ) (s t : State) (v : View) (w : Self)

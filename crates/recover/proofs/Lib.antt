@@ -18,6 +18,7 @@ pub mod StartLaws
 pub mod StandLaws
 pub mod PairLaws
 pub mod LiveLaws
+pub mod EntryListLaws
 pub mod ReadLaws
 pub mod Clients
 pub mod OwnLaws

@@ -13,6 +13,7 @@ pub mod Listing
 pub mod Reading
 pub mod Recovering
 pub mod Live
+pub mod Logged
 pub use Rattle.chunk_map.specs.Checked
 pub use Rattle.chunk_map.specs.Layouts
 pub use Rattle.core_index.specs.Index

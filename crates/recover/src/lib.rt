@@ -2,13 +2,15 @@
 //! of soundness, or what each core begins with: its log, its allocator, in which exactly the blocks of live
 //! values are allocated, the index of its keys, and what stands in its log. It writes nothing.
 //!
-//! The plain and slow program of `store_image` says the same of a list of words; its definitions are the
+//! The plain and slow program of `image_yardstick` says the same of a list of words; its definitions are the
 //! yardstick here. This one reads the region word by word, chunk by chunk, in time linear in the words up to
 //! the logs' tails, and sorts the entries once by their names. The heads of the chunks, two words each, are read a
-//! second time for the logs and the allocators, and the logs for the names that stand in them.
+//! second time for the logs and the allocators, and the logs for the names that stand in them, or for a list of
+//! their entries.
 #![tactic(auto)]
 
 mod clashes;
+mod entry_list;
 mod gather_region;
 mod judge_winners;
 mod key_standees;
@@ -27,6 +29,7 @@ mod tests;
 mod types;
 mod winning;
 
+pub use entry_list::log_entries;
 pub use live::live_pairs;
 pub use pair_list::pairs;
 pub use recover_region::{first_fault, recover};

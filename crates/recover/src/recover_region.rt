@@ -23,7 +23,11 @@ use std::alloc::Global;
 use store_image::Fault;
 
 /// The first of rules 4 to 11 that a region of this layout breaks.
-fn damage<R: Region>(alloc: Global, region: &R, layout: &Layout) -> Result<Option<Fault>, Memory>
+pub fn damage<R: Region>(
+    alloc: Global,
+    region: &R,
+    layout: &Layout,
+) -> Result<Option<Fault>, Memory>
     requires covers { Covers (R.state region.now).frame layout.now }
     ensures { IfOk result (λ f. IsTelling (R.state region.now)
         → f ≡ damage layout.now (lasts (R.state region.now))) }

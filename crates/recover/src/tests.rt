@@ -1,5 +1,5 @@
 // Damaged regions, and what is recovered of sound ones. Expected values are those of the format's rules.
-ghost use Rattle.std.specs.Prelude.{◌≡◌, ℕ, ◌<◌, length, slice_index_or, vec_len, IfOk};
+ghost use Rattle.std.specs.Prelude.{◌≡◌, ℕ, ◌<◌, length, slice_index_or};
 ghost use Rattle.chunk_map.specs.Layouts.{IsLayout};
 ghost use Rattle.recover.specs.declared.types.CoreStart.{CoreStart};
 
@@ -382,85 +382,6 @@ fn refusals(rt: HostRuntime) -> Result<(), Fail> {
     assert!(rt; found(alloc, &long, 36864)? == damaged(0, 1, 10));
     write(&mut long, &[(1056, 0x1200_0011)]);
     assert!(rt; found(alloc, &long, 36864)? == damaged(0, 1, 9));
-    Ok(())
-}
-
-/// The same words in a list, for the plain program.
-fn words_of(alloc: Global, writes: &[(u64, u64)]) -> Result<Vec<u64>, Memory>
-    ensures { IfOk result (λ v. vec_len v ≡ 2560) }
-{
-    let mut words = vec![in alloc; 0u64; 2560]?;
-    for (at, word) in writes {
-        if *at < 2560 {
-            words[*at as usize] = *word;
-        }
-    }
-    Ok(words)
-}
-
-/// One core: a block in chunk 0, logs in chunks 1 and 2 with three entries each.
-const ONE_LOG: [(u64, u64); 25] = [
-    (0, 0x3130_5453_5441_4c46),
-    (1, 1),
-    (2, 1),
-    (3, 1),
-    (4, 4),
-    (5, 4096),
-    (512, 258),
-    (544, 300),
-    (1024, 1),
-    (1025, 16),
-    (1056, 0x1100_0011),
-    (1057, 2),
-    (1058, 0x0100_0015),
-    (1059, 1),
-    (1060, 97),
-    (1064, 0x22),
-    (1065, 1),
-    (1536, 1),
-    (1537, 8),
-    (1568, 0x1100_0011),
-    (1569, 2),
-    (1570, 0x0100_0035),
-    (1571, 1),
-    (1572, 98),
-    (1573, 0x1900_0021),
-];
-
-const PLACES: [u64; 14] = [
-    1, 5, 512, 544, 1024, 1025, 1056, 1057, 1059, 1064, 1537, 1568, 1570, 1571,
-];
-
-const WORDS: [u64; 12] = [
-    0,
-    1,
-    2,
-    8,
-    16,
-    258,
-    505,
-    0x22,
-    0x0100_0015,
-    0x1100_0021,
-    0x1300_0011,
-    u64::MAX,
-];
-
-#[test]
-fn the_plain_program(rt: HostRuntime) -> Result<(), Fail> {
-    let alloc = rt.alloc();
-    for at in PLACES {
-        for word in WORDS {
-            let mut region = region(alloc, 2560, &ONE_LOG)?;
-            write(&mut region, &[(at, word)]);
-            let mut words = words_of(alloc, &ONE_LOG)?;
-            if at < 2560 {
-                words[at as usize] = word;
-            }
-            let plain = store_image::first_fault(alloc, &words, 20480)?;
-            assert!(rt; found(alloc, &region, 20480)? == plain);
-        }
-    }
     Ok(())
 }
 

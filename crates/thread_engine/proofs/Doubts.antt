@@ -38,10 +38,10 @@ none_some x e = absurd (cc e)
 pub clash : (b : Bool) → b ≡ true → b ≡ false → ⊥
 clash b yes_ no_ = absurd (let both : true ≡ false = sym yes_ ∙ no_ in cc both)
 
-entry_is : (x y : Pending) → Some x ≡ Some y → x.entry ≡ y.entry
+pub entry_is : (x y : Pending) → Some x ≡ Some y → x.entry ≡ y.entry
 entry_is x y e = ap (λ (z : Pending). z.entry) (one_of x y e)
 
-slot_is : (x y : Pending) → Some x ≡ Some y → x.slot ≡ y.slot
+pub slot_is : (x y : Pending) → Some x ≡ Some y → x.slot ≡ y.slot
 slot_is x y e = ap (λ (z : Pending). z.slot) (one_of x y e)
 
 key_is : (x y : Block) → Some x ≡ Some y → x.key ≡ y.key
@@ -72,7 +72,7 @@ module _ (p : Place) (m : ℕ) (v : View) (w : Worker) (H : Holds p m v w) where
         absurd (none_some t (slot_is (record { entry = P.0; slot = Some t }) (in_doubt d) (sym P.1 ∙ is)))
 
 -- two numbers that are not the same
-neq : (a b : ℕ) → a ≢ b → eqb a b ≡ false
+pub neq : (a b : ℕ) → a ≢ b → eqb a b ≡ false
 neq a b ne = by (eqb a b) refl where
   by : (c : Bool) → eqb a b ≡ c → eqb a b ≡ false
   by false e = e

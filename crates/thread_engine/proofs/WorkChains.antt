@@ -33,6 +33,7 @@ use Rattle.core_worker.proofs.Given.{adds_none}
 use Rattle.thread_engine.specs.WorkStates.{WorkState, IsAtWork, Accepts, MakesTurn, Move, wound_down, Leads}
 use Rattle.thread_engine.specs.WorkStates.Move.{accepts, turns, winds_down}
 use Rattle.thread_engine.specs.WorkLaws.{in_doubt, HasBlock, KeepsDoubts, hands_at, WorksOff}
+use Rattle.thread_engine.specs.CoreRuns.{fixed_by, fixed_along}
 use Rattle.thread_engine.proofs.Doubts.{posted_offers, turn_keeps}
 
 -- answers one list after another, under what is known in the end
@@ -58,7 +59,11 @@ KeyGoes = (start : Option (List ℕ)) (v u : KeyView) (place place' : Option Pla
     → KeyIs start v place stopped xs → law.Does v u place place' stopped stopped' fixed → law.Holds u place' stopped' → KeyIs start u place' stopped' (xs ++ map replied fixed)
 
 module _ (key_goes : KeyGoes) (seat : SeatAt) where
-  pub works_off_none : (a : WorkState) → WorksOff seat a a
+  -- it was worked off so, these answers were fixed, and each own change in doubt has its block
+  abbrev Off : WorkState → WorkState → List Fixed → Type 0
+  Off a b fixed = (x : WorksOff seat a b) × (x.fixed ≡ fixed) × KeepsDoubts seat b.view
+
+  abbrev works_off_none : (a : WorkState) → WorksOff seat a a
   works_off_none a = record {
     accepted = [];
     fixed = [];
@@ -70,7 +75,7 @@ module _ (key_goes : KeyGoes) (seat : SeatAt) where
     told = λ t. t;
   }
 
-  pub works_off_more : (a b c : WorkState) → WorksOff seat a b → WorksOff seat b c → WorksOff seat a c
+  abbrev works_off_more : (a b c : WorkState) → WorksOff seat a b → WorksOff seat b c → WorksOff seat a c
   works_off_more a b c A B = record {
     accepted = A.accepted ++ B.accepted;
     fixed = A.fixed ++ B.fixed;
@@ -116,7 +121,7 @@ module _ (key_goes : KeyGoes) (seat : SeatAt) where
       ];
     }
 
-    pub call_works_off : WorksOff seat (record { region = s; view = v; worker = w; queue = queue }) (record { region = t; view = u; worker = x; queue = rest })
+    abbrev call_works_off : WorksOff seat (record { region = s; view = v; worker = w; queue = queue }) (record { region = t; view = u; worker = x; queue = rest })
     call_works_off = record {
       accepted = accepted;
       fixed = fixed;
@@ -151,16 +156,18 @@ module _ (key_goes : KeyGoes) (seat : SeatAt) where
       | inr new ↦ (carry k d now d.body (offers_block a.view k d.body (posted_offers seat.place seat.number a.view a.worker at.member.holds k d new.2 new.5).0)).0
     ]
 
-    turn_works_off : WorksOff seat a b × KeepsDoubts seat b.view
+    turn_works_off : Off a b T.moves.fixed
     turn_works_off = (
       call_works_off a.region b.region a.view b.view a.worker b.worker a.queue b.queue T.before T.after [] T.moves.fixed (sym T.queue) T.moves.answers T.moves.moves (λ k d own was now. (carry k d now d.body (D k d own was)).1),
+      refl,
       turn_doubts,
     )
 
-  accept_works_off : (a b : WorkState) → KeepsDoubts seat a.view → Accepts seat a b → WorksOff seat a b × KeepsDoubts seat b.view
-  accept_works_off a b D A = (
-    subst (WorksOff seat a) here (call_works_off a.region a.region a.view a.view a.worker b.worker a.queue b.queue None None A.accepted A.call.fixed split A.call.adds (A.call.moves None) (λ k d own was now. refl)),
-    subst (KeepsDoubts seat) (sym A.view) D,
+  accept_works_off : (a b : WorkState) → KeepsDoubts seat a.view → (A : Accepts seat a b) → Off a b A.call.fixed
+  accept_works_off a b D A = subst (λ z. Off a z A.call.fixed) here (
+    call_works_off a.region a.region a.view a.view a.worker b.worker a.queue b.queue None None A.accepted A.call.fixed split A.call.adds (A.call.moves None) (λ k d own was now. refl),
+    refl,
+    D,
   ) where
     mid : WorkState
     mid = record { region = a.region; view = a.view; worker = b.worker; queue = b.queue }
@@ -174,7 +181,7 @@ module _ (key_goes : KeyGoes) (seat : SeatAt) where
       | inr none ↦ (λ i. sym none.0 i ++ sym none.1 i)
     ]
 
-  winds_works_off : (a : WorkState) → WorksOff seat a (wound_down a)
+  abbrev winds_works_off : (a : WorkState) → WorksOff seat a (wound_down a)
   winds_works_off a = record {
     accepted = [];
     fixed = [];
@@ -186,14 +193,14 @@ module _ (key_goes : KeyGoes) (seat : SeatAt) where
     told = λ t. t;
   }
 
-  move_works_off : (refused : Bool) (a b : WorkState) → IsAtWork seat a → KeepsDoubts seat a.view → Move seat refused a b → WorksOff seat a b × KeepsDoubts seat b.view
+  move_works_off : (refused : Bool) (a b : WorkState) → IsAtWork seat a → KeepsDoubts seat a.view → (M : Move seat refused a b) → Off a b (fixed_by M)
   move_works_off refused a b at D (accepts A) = accept_works_off a b D A
   move_works_off refused a b at D (turns T) = turn_works_off refused a b at D T
-  move_works_off refused a b at D (winds_down e) = (subst (WorksOff seat a) (sym e) (winds_works_off a), subst (λ (z : WorkState). KeepsDoubts seat z.view) (sym e) D)
+  move_works_off refused a b at D (winds_down e) = subst (λ z. Off a z []) (sym e) (winds_works_off a, refl, D)
 
-  pub chain_works_off : (refused : Bool) (a : WorkState) (xs : List WorkState) (b : WorkState) → IsAtWork seat a → KeepsDoubts seat a.view → Leads seat refused a xs b → WorksOff seat a b × KeepsDoubts seat b.view
-  chain_works_off refused a [] b at D e = (subst (WorksOff seat a) (sym e) (works_off_none a), subst (λ (z : WorkState). KeepsDoubts seat z.view) (sym e) D)
+  pub chain_works_off : (refused : Bool) (a : WorkState) (xs : List WorkState) (b : WorkState) → IsAtWork seat a → KeepsDoubts seat a.view → (l : Leads seat refused a xs b) → Off a b (fixed_along seat refused a xs b l)
+  chain_works_off refused a [] b at D e = subst (λ z. Off a z []) (sym e) (works_off_none a, refl, D)
   chain_works_off refused a (x ∷ xs) b at D l =
       let one = move_works_off refused a x at D l.0 in
-      let rest = chain_works_off refused x xs b l.1 one.1 l.2 in
-      (works_off_more a x b one.0 rest.0, rest.1)
+      let rest = chain_works_off refused x xs b l.1 one.2 l.2 in
+      (works_off_more a x b one.0 rest.0, (λ i. one.1 i ++ rest.1 i), rest.2)

@@ -1,3 +1,10 @@
 pub mod WorkStates
 pub mod WorkLaws
 pub mod Pieces
+pub mod CoreRuns
+pub mod RanApart
+pub mod Manned
+pub mod Dealt
+pub mod Returns
+pub mod Collected
+pub mod Supplied

@@ -1,5 +1,5 @@
 // The laws of a core's work.
-ghost use Rattle.std.specs.Prelude.{ℕ, Bool};
+ghost use Rattle.std.specs.Prelude.{◌≡◌, ℕ, Bool};
 ghost use Rattle.pm_region.specs.State.{State, IsTelling, cell_now};
 ghost use Rattle.pm_region.specs.Split.{TakesPiece};
 ghost use Rattle.group_laws.specs.Places.{Place};
@@ -11,6 +11,7 @@ ghost use Rattle.thread_engine.specs.Pieces.{IsPieceOf, HasPart};
 ghost use Rattle.group_board.specs.Seats.{SeatAt};
 ghost use Rattle.thread_engine.specs.WorkStates.{WorkState, IsAtWork, Works, HasEnded};
 ghost use Rattle.thread_engine.specs.WorkLaws.{KeepsDoubts, WorksOff, HasRested};
+ghost use Rattle.thread_engine.specs.CoreRuns.{fixed_in};
 
 use engine_laws::engine_rules;
 
@@ -18,8 +19,9 @@ use engine_laws::engine_rules;
 /// order, each key's are answered in the order of their arrival, and each key is where its answers led it.
 pub fn every_chain()
     ensures { (seat : SeatAt) (refused : Bool) (a b : WorkState)
-        → IsAtWork seat a → KeepsDoubts seat a.view → Works seat refused a b
-        → WorksOff seat a b × KeepsDoubts seat b.view }
+        → IsAtWork seat a → KeepsDoubts seat a.view → (w : Works seat refused a b)
+        → (x : WorksOff seat a b) × (x.fixed ≡ fixed_in seat refused a b w)
+        × KeepsDoubts seat b.view }
 {
     engine_rules::every_key();
 }

@@ -1,10 +1,31 @@
 -- The promise, where the lines were run and where nothing was read.
 use Rattle.std.proofs.Common.{List, ℕ, sym, ap, subst}
+use Rattle.flatstore.specs.Attaching.{Runs}
 use Rattle.flatstore.specs.Promise.{IsInput, Replays}
-use Rattle.flatstore.proofs.Opened.{granted_by}
-use Rattle.flatstore.proofs.Replaying.{promise}
+use Rattle.flatstore.proofs.Opened.{granted_by, attaches_once, no_more}
+use Rattle.flatstore.proofs.Replaying.{promise, onward}
 use Rattle.flatstore.proofs.Refused.{refused_replays}
 use Rattle.flatstore.proofs.playing.replay_region.Goals as goal
+
+pub returns-in-Err-clause-attaches : goal.returns-in-Err-clause-attaches
+returns-in-Err-clause-attaches g c =
+    let old = g.R.Region.state c.args.region.now in
+    let at = g.R.Region.state c.attach.new.self in
+    let now = g.R.Region.state c.replay.new.region in
+    attaches_once old at now (g.R.SplitRegion.found c.args.region.now) c.attach.result _ c.in-Ok.is c.attach.ensures.cause c.in-Ok.ensures.ok c.attach.ensures.opens
+    (subst (Runs at) (ap g.R.Region.state (sym c.in-Err.ensures.untouched)) (no_more at)) c.of-in-Err.result c.of-in-Err.ensures.attached
+
+pub returns-in-Ok-replay-clause-attaches : goal.returns-in-Ok-replay-clause-attaches
+returns-in-Ok-replay-clause-attaches g c =
+    let old = g.R.Region.state c.args.region.now in
+    let at = g.R.Region.state c.attach.new.self in
+    let now = g.R.Region.state c.replay.new.region in
+    let found = g.R.SplitRegion.found c.args.region.now in
+    let granted = granted_by old at c.attach.result _ c.in-Ok.is c.attach.ensures.cause in
+    attaches_once old at now found c.attach.result _ c.in-Ok.is c.attach.ensures.cause c.in-Ok.ensures.ok c.attach.ensures.opens
+    (onward old at now found (g.R.ReadRegion.word c.attach.new.self) c.in-Ok.ensures.ok c.attach.ensures.opens granted c.attach.ensures.cause.later
+    (g.S.Source.coming c.args.source.now) (g.S.Source.coming c.replay.new.source) c.in-Ok-replay.outcome c.in-Ok-replay.ensures.played)
+    c.write_outcome.result c.write_outcome.ensures.attached
 
 pub returns-in-Err-clause-replay : goal.returns-in-Err-clause-replay
 returns-in-Err-clause-replay g c = λ attached.

@@ -8,7 +8,7 @@ pub returns-in-Ok-clause-ok : goal.returns-in-Ok-clause-ok
 returns-in-Ok-clause-ok g c =
     let s = g.R.Region.state c.args.region.now in
     let word = g.R.ReadRegion.word c.args.region.now in
-    stands_as_found s word c.requires.first c.requires.words c.requires.certain c.in-Ok.recovered
+    stands_as_found s word c.requires.whole.first c.requires.whole.words c.requires.whole.certain c.in-Ok.recovered
     (subst (λ n. IsMade n c.in-Ok.recovered) c.bytes.ensures c.in-Ok.ensures.made)
     (subst (λ n. IsFound n word c.in-Ok.recovered) c.bytes.ensures c.in-Ok.ensures.read)
-    (c.in-Ok.ensures.stands (is_certain s word c.requires.first c.requires.words c.requires.certain))
+    (c.in-Ok.ensures.stands (is_certain s word c.requires.whole.first c.requires.whole.words c.requires.whole.certain))

@@ -13,6 +13,7 @@ invariant-loop-answer g l =
     record {
       places : HavePlaces (length l.kept.items) (W.answers l.worker);
       kept : stored (W.answers l.worker) l.stamp l.kept.items ≡ stored (W.answers l.fn.worker) l.stamp l.fn.kept.items;
+      like : W.alike l.fn.worker l.worker;
       hands : (v : View) → W.hands v l.worker ≡ W.hands v l.fn.worker;
       stands : (p : Place) (m : ℕ) (s : State) (v : View) → W.stands p m s v l.fn.worker → W.stands p m s v l.worker;
       fair : (a : Group) (m : ℕ) → W.fair a m l.fn.worker → W.fair a m l.worker;

@@ -1,6 +1,8 @@
 use Rattle.std.proofs.Common.{rules, ◌∙◌, refl, sym}
 use Rattle.group_board.specs.Journals.{state}
-use Rattle.group_engine.proofs.Stepping.{turned, taken_in, less_taken, none_left}
+use Rattle.std.proofs.lemmas.Result.{IfOk-weaker}
+use Rattle.group_engine.specs.Calls.{is_open}
+use Rattle.group_engine.proofs.Stepping.{turned, taken_in, did_turn, did_take, less_taken, none_left}
 use Rattle.group_engine.proofs.Ending.{on_err}
 use Rattle.group_engine.proofs.engine_step.step.Goals as goal
 
@@ -29,3 +31,21 @@ returns-in-Some-clause-less g c =
 pub returns-in-Some-clause-awake : goal.returns-in-Some-clause-awake
 returns-in-Some-clause-awake g c =
     on_err c.take_in.result (g.met.W.CoreWorker.wakes c.args.worker.now (let n = c.if-not-takes.false in let e = c.takes.ensures in sym e ∙ n))
+
+pub returns-then-not-takes-clause-does : goal.returns-then-not-takes-clause-does
+returns-then-not-takes-clause-does g c =
+    let W = g.W.CoreWorker in
+    did_turn W.stands W.begins W.turned _ c.args.member _ _ _ _ _ _ (is_open W.room W.leads c.args.worker.now) c.args.backlog.now.items c.turn_at.result
+    (λ q. absurd (let n = c.if-not-takes.true in let e = c.takes.ensures in cc (q, n, e))) c.turn_at.ensures.turned
+
+pub returns-in-Some-clause-does : goal.returns-in-Some-clause-does
+returns-in-Some-clause-does g c =
+    let W = g.W.CoreWorker in
+    did_take W.stands W.begins W.turned _ c.args.member _ _ _ _ (is_open W.room W.leads c.args.worker.now) c.args.backlog.now.items c.pop_front.new.self.items (c.in-Some.number, c.in-Some.request) c.take_in.result c.in-Some.ensures.items
+    (let n = c.if-not-takes.false in let e = c.takes.ensures in sym e ∙ n) c.requires.stands c.requires.own (IfOk-weaker c.take_in.result _ _ (λ b h. h.0) c.take_in.ensures.moved) c.take_in.ensures.begins
+
+pub returns-in-None-clause-does : goal.returns-in-None-clause-does
+returns-in-None-clause-does g c =
+    let W = g.W.CoreWorker in
+    did_turn W.stands W.begins W.turned _ c.args.member _ _ _ _ _ _ (is_open W.room W.leads c.args.worker.now) c.args.backlog.now.items c.turn_at-in-None.result
+    (λ q. none_left c.args.backlog.now.items (let z = c.in-None.ensures.cases in search rules)) c.turn_at-in-None.ensures.turned

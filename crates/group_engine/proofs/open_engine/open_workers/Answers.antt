@@ -1,13 +1,15 @@
 use Rattle.std.proofs.Common.{◌+◌, ◌∷◌, ◌++◌, [], length, length-append, sym, ◌∙◌, ap, subst, append_assoc, append-nil}
 use Rattle.std.proofs.lemmas.List.{nil_from_length}
 use Rattle.group_engine.specs.Working.{SeatFirst}
-use Rattle.group_engine.proofs.Opens.{no_seats, seat_more}
+use Rattle.group_engine.specs.Runs.{AreNew}
+use Rattle.group_engine.proofs.Opens.{no_seats, none_new, new_more, seat_more}
 use Rattle.group_engine.proofs.open_engine.open_workers.Goals as goal
 
 pub loop-start-init : goal.loop-start-init
 loop-start-init c = record {
   count = ap length c.new-workers.ensures.items;
   split = sym c.into_iter-start-iterator.ensures.into_iter_gives.0;
+  new = none_new c.args.layout c.new-workers.result.items c.new-workers.ensures.items;
   seat = no_seats [] c.args.layout c.new-workers.result.items c.new-workers.ensures.items;
 }
 
@@ -19,6 +21,7 @@ loop-start-preserved c =
     record {
       count = ap length c.in_ok-push.ensures.items ∙ length-append old (w ∷ []) ∙ ap (λ n. n + 1) I.count ∙ sym (length-append c.loop-start.yielded (c.in-Some.start ∷ []));
       split = I.split ∙ ap (λ xs. c.loop-start.yielded ++ xs) c.in-Some.ensures.steps.0 ∙ sym (append_assoc c.loop-start.yielded (c.in-Some.start ∷ []) c.next.new.self.rest.items);
+      new = subst (λ ws. AreNew (c.loop-start.yielded ++ c.in-Some.start ∷ []) c.args.layout ws) (sym c.in_ok-push.ensures.items) (new_more c.loop-start.yielded c.in-Some.start c.args.layout old w I.new c.in_ok-worker.ensures.new);
       seat = subst (λ ws. SeatFirst (c.loop-start.yielded ++ c.in-Some.start ∷ []) c.args.layout ws) (sym c.in_ok-push.ensures.items) (seat_more c.loop-start.yielded c.in-Some.start c.args.layout old w I.count I.seat c.in_ok-worker.ensures.seated);
     }
 
@@ -28,3 +31,10 @@ returns-clause-seat c =
     let over = nil_from_length c.loop-start.start-iterator.rest.items (sym c.loop-start.start-iterator.rest.ok.0 ∙ c.in-None.ensures.steps.0) in
     let all = I.split ∙ ap (λ xs. c.loop-start.yielded ++ xs) over ∙ append-nil c.loop-start.yielded in
     subst (λ xs. SeatFirst xs c.args.layout c.loop-start.workers.items) (sym all) I.seat
+
+pub returns-clause-new : goal.returns-clause-new
+returns-clause-new c =
+    let I = c.loop-start.invariant in
+    let over = nil_from_length c.loop-start.start-iterator.rest.items (sym c.loop-start.start-iterator.rest.ok.0 ∙ c.in-None.ensures.steps.0) in
+    let all = I.split ∙ ap (λ xs. c.loop-start.yielded ++ xs) over ∙ append-nil c.loop-start.yielded in
+    subst (λ xs. AreNew xs c.args.layout c.loop-start.workers.items) (sym all) I.new

@@ -4,7 +4,7 @@ use Rattle.group_engine.proofs.Ending.{keeps_all, keeps_move, ends_on, on_err}
 use Rattle.group_engine.proofs.passes.go.Goals as goal
 
 pub loop-turn-init : goal.loop-turn-init
-loop-turn-init g c = record { shown = λ e h. (e, h, no_goes c.args.core e, keeps_all e); cores = refl; within = omega arith }
+loop-turn-init g c = record { shown = λ e h. (e, h, no_goes g.C.Cores.moves c.args.core e, keeps_all e.engine); cores = refl; within = omega arith }
 
 pub advance-requires-clause-core : goal.advance-requires-clause-core
 advance-requires-clause-core g c = subst (λ n. c.args.core < n) (sym c.loop-turn.invariant.cores) c.requires.core
@@ -16,7 +16,7 @@ pub loop-turn-preserved : goal.loop-turn-preserved
 loop-turn-preserved g c =
     let I = c.loop-turn.invariant in
     record {
-      shown = λ e h. (let r = I.shown e h in let n = c.in_ok-advance.ensures.moved r.0 r.1 in (n.0, n.1, more_goes c.args.core c.loop-turn.turn c.in_ok-advance.field-0 e r.0 n.0 r.2 n.2, keeps_move e r.0 n.0 c.args.core c.in_ok-advance.field-0 r.3 n.2));
+      shown = λ e h. (let r = I.shown e h in let n = c.in_ok-advance.ensures.moved r.0 r.1 in (n.0, n.1, more_goes g.C.Cores.moves c.args.core c.loop-turn.turn c.in_ok-advance.field-0 e r.0 n.0 r.2 n.2, keeps_move e.engine r.0.engine n.0.engine c.args.core c.in_ok-advance.field-0 r.3 (g.met.C.Cores.turns r.0 n.0 c.args.core c.in_ok-advance.field-0 n.2)));
       cores = c.in_ok-advance.ensures.cores ∙ I.cores;
       within = (let t = c.loop-turn-test.true in omega (arith, t));
     }
@@ -25,7 +25,7 @@ pub returns-clause-went : goal.returns-clause-went
 returns-clause-went g c = λ e h.
     let I = c.loop-turn.invariant in
     let r = I.shown e h in
-    (r.0, r.1, gone c.args.core c.loop-turn.turn c.args.turns e r.0 r.2 (let f = c.loop-turn-test.false in let w = I.within in omega (arith, f, w)))
+    (r.0, r.1, gone g.C.Cores.moves c.args.core c.loop-turn.turn c.args.turns e r.0 r.2 (let f = c.loop-turn-test.false in let w = I.within in omega (arith, f, w)))
 
 pub returns-in_err-advance-clause-failed : goal.returns-in_err-advance-clause-failed
-returns-in_err-advance-clause-failed g c = on_err c.from_residual.result (λ e h. let r = c.loop-turn.invariant.shown e h in let f = c.in_err-advance.ensures.failed r.0 r.1 in (f.0, f.1, ends_on _ e r.0 f.0 r.3 f.2))
+returns-in_err-advance-clause-failed g c = on_err c.from_residual.result (λ e h. let r = c.loop-turn.invariant.shown e h in let f = c.in_err-advance.ensures.failed r.0 r.1 in (f.0, f.1, ends_on _ e.engine r.0.engine f.0 r.3 f.2))

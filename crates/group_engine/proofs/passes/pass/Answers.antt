@@ -1,5 +1,4 @@
 use Rattle.std.proofs.Common.{◌≡◌, ◌∙◌, ℕ, ◌+◌, ◌<◌, Bool, true, cond, refl, sym, ap, subst, arith}
-use Rattle.engine_laws.specs.Engine.{Engine}
 use Rattle.group_engine.specs.Passes.{Settles, PassSoFar}
 use Rattle.group_engine.proofs.Passing.{no_cores, more_cores, passed, no_higher}
 use Rattle.group_engine.proofs.Ending.{keeps_all, keeps_settles, ends_on, on_err}
@@ -8,7 +7,7 @@ use Rattle.group_engine.proofs.passes.pass.Goals as goal
 
 pub loop-core-init : goal.loop-core-init
 loop-core-init g c = record {
-  shown = λ e h. (e, h, no_cores (g.C.Cores.cores c.args.cores.now) e, keeps_all e);
+  shown = λ e h. (e, h, no_cores g.C.Cores.moves (g.C.Cores.cores c.args.cores.now) e, keeps_all e.engine);
   cores = refl;
   count_is = c.count-count.ensures;
   within = omega arith;
@@ -17,8 +16,8 @@ loop-core-init g c = record {
 }
 
 -- one core more
-next : (cores at : ℕ) (a b m : Bool) (e now new : Engine) → PassSoFar cores at a e now → at < cores → Settles at b now new → cond b true a ≡ m → PassSoFar cores (at + 1) m e new
-next cores at a b m e now new S low step is = subst (λ x. PassSoFar cores (at + 1) x e new) is (more_cores cores at a b e now new S low step)
+next : {S : Type 0} (Move : S → ℕ → Bool → S → Type 0) (cores at : ℕ) (a b m : Bool) (e now new : S) → PassSoFar Move cores at a e now → at < cores → Settles Move at b now new → cond b true a ≡ m → PassSoFar Move cores (at + 1) m e new
+next Move cores at a b m e now new S low step is = subst (λ x. PassSoFar Move cores (at + 1) x e new) is (more_cores Move cores at a b e now new S low step)
 
 pub settle-requires-clause-core : goal.settle-requires-clause-core
 settle-requires-clause-core g c = let I = c.loop-core.invariant in let t = c.loop-core-test.true in let n = I.count_is in let k = I.cores in omega (arith, t, n, k)
@@ -35,7 +34,7 @@ loop-core-preserved g c =
     let low : c.loop-core.core < cores = (let t = c.loop-core-test.true in let n = I.count_is in omega (arith, t, n)) in
     elim c.if-branch.branch [
       | then-branch w ↦ record {
-        shown = λ e h. (let r = I.shown e h in let n = c.in_ok-settle.ensures.settles r.0 r.1 in (n.0, n.1, next cores c.loop-core.core c.loop-core.moved c.in_ok-settle.field-0 c.if-branch.moved e r.0 n.0 r.2 low n.2 (ap (λ b. cond b true c.loop-core.moved) w.if-branch.true ∙ sym w.moved-is), keeps_settles e r.0 n.0 c.loop-core.core c.in_ok-settle.field-0 r.3 n.2));
+        shown = λ e h. (let r = I.shown e h in let n = c.in_ok-settle.ensures.settles r.0 r.1 in (n.0, n.1, next g.C.Cores.moves cores c.loop-core.core c.loop-core.moved c.in_ok-settle.field-0 c.if-branch.moved e r.0 n.0 r.2 low n.2 (ap (λ b. cond b true c.loop-core.moved) w.if-branch.true ∙ sym w.moved-is), keeps_settles g.C.Cores.moves g.met.C.Cores.turns e.engine r.0 n.0 c.loop-core.core c.in_ok-settle.field-0 r.3 n.2));
         cores = c.in_ok-settle.ensures.cores ∙ I.cores;
         count_is = I.count_is;
         within = (let t = c.loop-core-test.true in omega (arith, t));
@@ -43,7 +42,7 @@ loop-core-preserved g c =
         idle = λ q. absurd (let is = w.moved-is in cc (q, is));
       }
       | else-branch w ↦ record {
-        shown = λ e h. (let r = I.shown e h in let n = c.in_ok-settle.ensures.settles r.0 r.1 in (n.0, n.1, next cores c.loop-core.core c.loop-core.moved c.in_ok-settle.field-0 c.if-branch.moved e r.0 n.0 r.2 low n.2 (ap (λ b. cond b true c.loop-core.moved) w.if-branch.false ∙ sym w.moved-is), keeps_settles e r.0 n.0 c.loop-core.core c.in_ok-settle.field-0 r.3 n.2));
+        shown = λ e h. (let r = I.shown e h in let n = c.in_ok-settle.ensures.settles r.0 r.1 in (n.0, n.1, next g.C.Cores.moves cores c.loop-core.core c.loop-core.moved c.in_ok-settle.field-0 c.if-branch.moved e r.0 n.0 r.2 low n.2 (ap (λ b. cond b true c.loop-core.moved) w.if-branch.false ∙ sym w.moved-is), keeps_settles g.C.Cores.moves g.met.C.Cores.turns e.engine r.0 n.0 c.loop-core.core c.in_ok-settle.field-0 r.3 n.2));
         cores = c.in_ok-settle.ensures.cores ∙ I.cores;
         count_is = I.count_is;
         within = (let t = c.loop-core-test.true in omega (arith, t));
@@ -56,7 +55,7 @@ pub returns-clause-passes : goal.returns-clause-passes
 returns-clause-passes g c = λ e h.
     let I = c.loop-core.invariant in
     let r = I.shown e h in
-    (r.0, r.1, passed (g.C.Cores.cores c.args.cores.now) c.loop-core.core c.loop-core.moved e r.0 r.2 (let f = c.loop-core-test.false in let w = I.within in let n = I.count_is in omega (arith, f, w, n)))
+    (r.0, r.1, passed g.C.Cores.moves (g.C.Cores.cores c.args.cores.now) c.loop-core.core c.loop-core.moved e r.0 r.2 (let f = c.loop-core-test.false in let w = I.within in let n = I.count_is in omega (arith, f, w, n)))
 
 pub returns-in_err-settle-clause-failed : goal.returns-in_err-settle-clause-failed
-returns-in_err-settle-clause-failed g c = on_err c.from_residual.result (λ e h. let r = c.loop-core.invariant.shown e h in let f = c.in_err-settle.ensures.failed r.0 r.1 in (f.0, f.1, ends_on _ e r.0 f.0 r.3 f.2))
+returns-in_err-settle-clause-failed g c = on_err c.from_residual.result (λ e h. let r = c.loop-core.invariant.shown e h in let f = c.in_err-settle.ensures.failed r.0 r.1 in (f.0, f.1, ends_on _ e.engine r.0.engine f.0 r.3 f.2))

@@ -1,5 +1,5 @@
 use Rattle.std.proofs.Common.{◌≡◌, ◌<◌, ◌≤◌, true, false}
-use Rattle.engine_laws.specs.Engine.{Engine}
+use Rattle.group_engine.specs.Runs.{RunState}
 use Rattle.group_engine.specs.Passes.{Keeps, PassSoFar}
 use Rattle.group_engine.proofs.passes.pass.Given as goal
 
@@ -8,7 +8,7 @@ invariant-loop-core g l =
     let C = g.C.Cores in
     let s = g.R.Region.state in
     record {
-      shown : (e : Engine) → C.shows (s l.fn.region) l.fn.cores e → (now : Engine) × C.shows (s l.region) l.cores now × PassSoFar (C.cores l.fn.cores) l.core l.moved e now × Keeps e now;
+      shown : (e : RunState g.row.C-Worker.Denot) → C.shows (s l.fn.region) l.fn.cores e → (now : RunState g.row.C-Worker.Denot) × C.shows (s l.region) l.cores now × PassSoFar C.moves (C.cores l.fn.cores) l.core l.moved e now × Keeps e.engine now.engine;
       cores : C.cores l.cores ≡ C.cores l.fn.cores;
       count_is : l.count ≡ C.cores l.fn.cores;
       within : l.core ≤ l.count;

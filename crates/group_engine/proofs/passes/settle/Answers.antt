@@ -1,12 +1,11 @@
 use Rattle.std.proofs.Common.{◌∙◌, ◌<◌, refl, sym, subst, arith}
-use Rattle.engine_laws.specs.Promises.{AnyTurn}
 use Rattle.group_engine.proofs.Passing.{no_moves, more_moves, settled, no_higher}
 use Rattle.group_engine.proofs.Ending.{keeps_all, keeps_move, ends_on, on_err}
 use Rattle.group_engine.proofs.passes.settle.Goals as goal
 
 pub loop-moved-init : goal.loop-moved-init
 loop-moved-init g c = record {
-  shown = λ e h. (e, h, no_moves c.args.core e, keeps_all e);
+  shown = λ e h. (e, h, no_moves g.C.Cores.moves c.args.core e, keeps_all e.engine);
   cores = refl;
   less = λ q. absurd (cc q);
   idle = λ q. omega arith;
@@ -28,7 +27,7 @@ loop-moved-preserved g c =
       shown = λ e h.
           let r = I.shown e h in
           let n = c.in_ok-advance.ensures.moved r.0 r.1 in
-          (n.0, n.1, more_moves c.args.core c.loop-moved.moved e r.0 n.0 r.2 (subst (λ b. AnyTurn r.0 c.args.core b n.0) c.if-branch.true n.2), keeps_move e r.0 n.0 c.args.core c.in_ok-advance.field-0 r.3 n.2);
+          (n.0, n.1, more_moves g.C.Cores.moves c.args.core c.loop-moved.moved e r.0 n.0 r.2 (subst (λ b. g.C.Cores.moves r.0 c.args.core b n.0) c.if-branch.true n.2), keeps_move e.engine r.0.engine n.0.engine c.args.core c.in_ok-advance.field-0 r.3 (g.met.C.Cores.turns r.0 n.0 c.args.core c.in_ok-advance.field-0 n.2));
       cores = c.in_ok-advance.ensures.cores ∙ I.cores;
       less = λ q. omega (arith, high, low);
       idle = λ q. absurd (cc q);
@@ -38,7 +37,7 @@ pub returns-else-branch-clause-settles : goal.returns-else-branch-clause-settles
 returns-else-branch-clause-settles g c = λ e h.
     let r = c.loop-moved.invariant.shown e h in
     let n = c.in_ok-advance.ensures.moved r.0 r.1 in
-    (n.0, n.1, settled c.args.core c.loop-moved.moved e r.0 n.0 r.2 (subst (λ b. AnyTurn r.0 c.args.core b n.0) c.if-branch.false n.2))
+    (n.0, n.1, settled g.C.Cores.moves c.args.core c.loop-moved.moved e r.0 n.0 r.2 (subst (λ b. g.C.Cores.moves r.0 c.args.core b n.0) c.if-branch.false n.2))
 
 pub returns-in_err-advance-clause-failed : goal.returns-in_err-advance-clause-failed
-returns-in_err-advance-clause-failed g c = on_err c.from_residual.result (λ e h. let r = c.loop-moved.invariant.shown e h in let f = c.in_err-advance.ensures.failed r.0 r.1 in (f.0, f.1, ends_on _ e r.0 f.0 r.3 f.2))
+returns-in_err-advance-clause-failed g c = on_err c.from_residual.result (λ e h. let r = c.loop-moved.invariant.shown e h in let f = c.in_err-advance.ensures.failed r.0 r.1 in (f.0, f.1, ends_on _ e.engine r.0.engine f.0 r.3 f.2))

@@ -1,11 +1,10 @@
-use Rattle.std.proofs.Common.{rules, ◌≡◌, ◌/◌, ◌<◌, sym, ◌∙◌, ap, subst, length, arith}
+use Rattle.std.proofs.Common.{rules, ◌≡◌, ◌/◌, ◌<◌, Some, sym, ◌∙◌, ap, subst, length, arith}
 use Rattle.group_board.specs.Journals.{state}
 use Rattle.engine_laws.proofs.Cores.{some_group}
 use Rattle.group_engine.specs.Answers.{HavePlaces, stored}
-use Rattle.group_engine.specs.Passes.{Advances}
 use Rattle.group_engine.specs.Shows.{Seat}
 use Rattle.group_engine.specs.Reports.{HasRoomFor}
-use Rattle.group_engine.proofs.Kept.{index_set, at_is, stored_length}
+use Rattle.group_engine.proofs.Kept.{get_there, index_set, at_is, stored_length}
 use Rattle.group_engine.proofs.Winding.{goes_on, winds_on, sure_of}
 use Rattle.group_engine.proofs.Advancing as advancing
 use Rattle.group_engine.proofs.engine.Engine.move_core.Goals as goal
@@ -87,9 +86,10 @@ returns-clause-advances g c = λ w w_is o e S H.
     let waits = advancing.queue_there W.hands W.answers W.stands W.fair W.room W.leads (λ q. q.items) o e S s en.layout en.workers.items en.boards.items en.backlogs.items en.answers.items H c.args.core c.requires.core c.index_mut-3.result.now ∙ ap (λ q. q.items) (sym c.index_mut-3.ensures.value) in
     let u_is = c.index_mut-4.ensures.value ∙ index_set en.workers.items c.args.core c.step-result.new.worker c.index_mut-4.result.now (let n = H.worker_count in let l = c.requires.core in omega (arith, n, l)) in
     let r =
-    advancing.advanced W.hands W.answers W.stands W.fair W.room W.leads (λ q. q.items) o e S s en.layout en.workers.items en.boards.items en.backlogs.items en.answers.items H c.args.core c.requires.core c.index_mut-2.result.now c.index_mut.result.now c.index_mut-3.result.now board seat waits t c.step-result.new.board c.step-result.new.worker g.met.W.CoreWorker.apart g.met.W.CoreWorker.beside c.collect.new.worker c.index_mut-4.result.now u_is c.collect.ensures.hands c.collect.ensures.stands c.collect.ensures.fair c.collect.ensures.open c.collect.ensures.answers c.step-result.new.backlog c.collect.new.kept.items (c.collect.ensures.kept ∙ ap (λ n. stored (W.answers c.index_mut-4.result.now) n en.answers.items) c.stamp.ensures) (W.winds c.index_mut.result.now) c.step-result.result c.step-result.ensures.steps in
+    advancing.advanced W.hands W.answers W.stands W.fair W.room W.leads (λ q. q.items) o e S s en.layout en.workers.items en.boards.items en.backlogs.items en.answers.items H c.args.core c.requires.core c.index_mut-2.result.now c.index_mut.result.now c.index_mut-3.result.now board seat waits t c.step-result.new.board c.step-result.new.worker g.met.W.CoreWorker.apart g.met.W.CoreWorker.beside c.collect.new.worker c.index_mut-4.result.now u_is c.collect.ensures.hands c.collect.ensures.stands c.collect.ensures.fair c.collect.ensures.open c.collect.ensures.answers c.step-result.new.backlog c.collect.new.kept.items (c.collect.ensures.kept ∙ ap (λ n. stored (W.answers c.index_mut-4.result.now) n en.answers.items) c.stamp.ensures)
+    W.begins W.turned W.alike (get_there en.workers.items c.args.core c.index_mut.result.now (let n = H.worker_count in let l = c.requires.core in omega (arith, n, l)) ∙ ap Some (sym c.index_mut.ensures.value)) c.collect.ensures.alike (W.winds c.index_mut.result.now) c.step-result.result c.step-result.ensures.steps c.step-result.ensures.does in
     let same : c.index_mut.result.now ≡ w = at_is en.workers.items c.args.core c.index_mut.result.now w w_is c.index_mut.ensures.value in
-    (r.0, r.1.0, r.1.1, r.1.2, subst (λ u. Advances t (W.winds u) c.step-result.result c.args.core e r.0) same r.2)
+    (r.0, r.1.0, r.1.1, r.1.2, r.2, λ off. r.3 (ap W.winds same ∙ off))
 
 pub returns-clause-less : goal.returns-clause-less
 returns-clause-less g c =

@@ -4,6 +4,7 @@ use Rattle.pm_region.specs.State.{IsTelling}
 use Rattle.pm_region.specs.Words.{lasts}
 use Rattle.chunk_map.specs.declared.layouts.Geometry.{Geometry}
 use Rattle.store_image.proofs.Places.{layout_numbers}
+use Rattle.group_engine.specs.Runs.{AreNew}
 use Rattle.group_engine.proofs.Opens.{sound, layout_is, begins, are_seated, origin_at}
 use Rattle.group_engine.proofs.open_engine.Engine+Worker.open.Goals as goal
 
@@ -32,3 +33,6 @@ returns-clause-opened g c =
       begins s word tells c.args.recovered F,
       h (origin_at s word) refl (are_seated s word tells c.args.recovered F c.in_ok-workers.workers.items c.in_ok-workers.ensures.count c.in_ok-workers.ensures.seat),
     )) c.open_on.ensures.opened
+
+pub returns-clause-new : goal.returns-clause-new
+returns-clause-new g c = IfOk-weaker c.open_on.result _ _ (λ x same. subst (λ ws. AreNew c.args.recovered.starts.items c.args.recovered.layout ws) (sym same) c.in_ok-workers.ensures.new) c.open_on.ensures.workers

@@ -1,7 +1,7 @@
 -- A request is accepted as the engine reads it.
 use Rattle.fs_model.specs.Cells.{key_of}
 use Rattle.std.proofs.Common.{refl}
-use Rattle.group_engine.proofs.Working.{open_parts, has_tie, ok_takes, err_takes}
+use Rattle.group_engine.proofs.Working.{open_parts, has_tie, ok_begins, ok_takes, err_takes}
 use Rattle.group_engine.proofs.real_worker.WorkerCoreWorker.accept.Goals as goal
 
 pub accept-requires-clause-tied : goal.accept-requires-clause-tied
@@ -26,3 +26,8 @@ returns-clause-refused g c =
     let e = c.accept.ensures in
     let s = g.R.Region.state c.args.region.now in
     err_takes s c.args.self.now c.accept.new.self (key_of c.args.request) e.ties e.rule e.runs e.starts c.accept.result c.args.request (has_tie s c.args.self.now (key_of c.args.request) c.requires.stands) e.given_back e.stays
+
+pub returns-clause-begins : goal.returns-clause-begins
+returns-clause-begins g c =
+    let e = c.accept.ensures in
+    ok_begins (g.R.Region.state c.args.region.now) c.args.self.now c.accept.new.self (key_of c.args.request) e.ties e.rule e.runs e.starts c.accept.result c.args.number c.args.request e.accepts

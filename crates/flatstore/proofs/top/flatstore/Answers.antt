@@ -1,0 +1,10 @@
+-- Words that need no thread ask the same of the call that starts none.
+use Rattle.std.proofs.Common.{◌≡◌, ◌∙◌, sym, false}
+use Rattle.flatstore.specs.Commands.{form_of, needs_threads, words_of}
+use Rattle.flatstore.proofs.Forms.{alone_form}
+use Rattle.flatstore.proofs.top.flatstore.Goals as goal
+
+pub returns-in-Ok-false-clause-format : goal.returns-in-Ok-false-clause-format
+returns-in-Ok-false-clause-format g c = λ path l is.
+    let alone : needs_threads (form_of (words_of c.args.words.now.items)) ≡ false = sym c.in-Ok-false.ensures ∙ c.in-Ok-false.field-0-test in
+    c.flatstore_alone.ensures.format path l (alone_form (words_of c.args.words.now.items) alone ∙ is)

@@ -1,0 +1,74 @@
+-- What a call with the words of `run` promises.
+use Rattle.std.specs.Prelude.{◌≡◌, ℕ, ◌<◌, ◌≤◌, List, map, Bool, true, false, Option, Ok}
+use Rattle.pm_region.specs.State.{State, IsTelling, cell_now, Rose, counted}
+use Rattle.pm_region.specs.Split.{Attached, TellsFrom}
+use Rattle.fs_text.specs.declared.line.Line.{Line}
+use Rattle.fs_text.specs.Input.{input_of}
+use Rattle.fs_text.specs.Output.{replies_text}
+use Rattle.fs_text.specs.Streams.{Takes, TakesPrefix}
+use Rattle.engine_laws.specs.Engine.{Engine}
+use Rattle.engine_laws.specs.Idle.{IsDrained}
+use Rattle.engine_laws.specs.Parts.{AllLicensed}
+use Rattle.engine_laws.specs.Ran.{asked_in}
+use Rattle.engine_laws.specs.Reports.{told_of, AllAnswered}
+use Rattle.group_engine.specs.declared.types.Stamped.{Stamped}
+use Rattle.group_engine.specs.Reports.{reply_in, finishes_in, refusals_in}
+use Rattle.thread_engine.specs.CoreRuns.{AllRan}
+use Rattle.thread_engine.specs.RanApart.{Rejoined, KeepsAnswers}
+use Rattle.flatstore.specs.Attaching.{GoesOnBy}
+use Rattle.flatstore.specs.LastStates.{told_in, Starts}
+use Rattle.flatstore.specs.Promise.{Serves, IsAllOut}
+use Rattle.flatstore.specs.declared.report.Status.{Status}
+use Rattle.flatstore.specs.declared.report.Status.TheVariants as statuses
+use Rattle.flatstore.specs.declared.report.Report.{Report}
+
+-- Each core worked off the requests of its keys, from the region as it was attached with these words to an end, and this is
+-- a report on the answers that the cores' workers gave. `refused` says whether the gate may hold a post back, and `AllOut`
+-- holds where no write failed.
+pub record RanOnThreads (old new : State) (found : ℕ → ℕ) (refused : Bool) (cores : ℕ)
+    (input : List ℕ)
+    (before now : Option (List ℕ)) (AllOut : Type 0) (r : Report) : Type 0 where
+  -- The region was attached, and then split and joined.
+  pub from : GoesOnBy Rejoined old new new.frame.bytes found
+  pub start : Starts from.at found cores
+  -- The requests are those of the input, each given to the owner of its key. Each core has a chain of its worker's moves,
+  -- from the worker that opens on what recovery gave for it to an end; the groups' states are lawful.
+  pub lines : List Line
+  pub good : input_of cores input ≡ Ok lines
+  pub f : Engine
+  pub given : f.given ≡ asked_in lines
+  pub ran : AllRan start.origin start.recovered refused f
+  -- The region is as it is in the last state, and goes on telling by the stamp after the latest of its pieces' stamps,
+  -- where each piece told to its end. Everything is answered there, every slot is empty and nothing waits.
+  pub ends : f.region ≡ new
+  pub next : IsTelling from.at
+      → ((c : ℕ) (low : c < f.layout.cores) → TellsFrom from.at (ran.cores c low).last.region)
+      → (latest : ℕ) → from.at.stamp ≤ latest
+      → ((c : ℕ) (low : c < f.layout.cores) → (ran.cores c low).last.region.stamp ≤ latest)
+      → new.stamp ≤ counted latest
+  pub answered : AllAnswered f
+  pub drained : IsDrained f
+  -- The report's finishes and refusals and the text are those of what the workers answered, at the joined region's stamp.
+  pub kept : List (Option Stamped)
+  pub keeps : KeepsAnswers start.origin start.recovered refused f ran.cores kept
+  pub finishes : r.finishes.items ≡ finishes_in 0 kept
+  pub refusals : r.refusals.items ≡ refusals_in 0 kept
+  pub told_is : told_in r ≡ told_of f
+  pub begins : TakesPrefix before now (replies_text (map reply_in kept))
+  pub writes : AllOut → Takes before now (replies_text (map reply_in kept))
+  -- Whatever a crash leaves of a part now is licensed by its core's view in that state.
+  pub licensed : IsTelling new → AllLicensed f.layout f.group (cell_now new)
+
+-- The headline, of a run: each core has a worker in a thread of its own.
+pub record RunsOnThreads (old new : State) (found : ℕ → ℕ) (coming left : Option (List ℕ))
+    (source_faults source_faults' : ℕ) (refused : Bool) (cores : ℕ) (input : List ℕ)
+    (before now : Option (List ℕ)) (flushed : Bool) (sink_faults sink_faults' : ℕ)
+    (r : Report) : Type 0 where
+  pub serves : Serves old new found coming left source_faults source_faults' cores input before now
+      flushed sink_faults sink_faults' r
+  -- A call of the region that failed kept it from its end only where that was the split: then it is as it was attached.
+  pub unsplit : r.status ≡ statuses.RegionFault → r.complete ≡ false
+      → Attached old new new.frame.bytes found × Rose old.frame.refusals new.frame.refusals
+  -- A report that says so did come to the end.
+  pub run : r.complete ≡ true → RanOnThreads old new found refused cores input before now
+      (IsAllOut r.status sink_faults sink_faults') r

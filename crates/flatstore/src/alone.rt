@@ -1,0 +1,111 @@
+// What the program does in its own thread: all of it but a run on threads.
+ghost use Rattle.std.specs.Prelude.{◌≡◌, ◌⊎◌, ℕ, ◌≤◌, List, Some, None, true, false, OnOk, OnErr, IfOk};
+ghost use Rattle.pm_region.specs.State.{State, IsTelling, Rose};
+ghost use Rattle.pm_region.specs.Split.{Attached};
+ghost use Rattle.chunk_map.specs.declared.layouts.Geometry.{Geometry};
+ghost use Rattle.flatstore.specs.Commands.{alone_form_of, words_of};
+ghost use Rattle.flatstore.specs.Commands.Form.{Format, Replay, Dump, Log};
+ghost use Rattle.flatstore.specs.Dumps.{Dumps};
+ghost use Rattle.flatstore.specs.Formats.{Formats};
+ghost use Rattle.flatstore.specs.Logs.{Logs};
+ghost use Rattle.flatstore.specs.Attaching.{Attaches};
+ghost use Rattle.flatstore.specs.Ordering.{is_of_region, is_quiet};
+ghost use Rattle.flatstore.specs.Promise.{IsInput, Replays};
+ghost use Rattle.flatstore.specs.declared.report.Status.TheVariants as statuses;
+
+use crate::command::{Command, parse_command};
+use crate::dumping::dump_region;
+use crate::formatting::format_region;
+use crate::logging::log_region;
+use crate::playing::replay_region;
+use crate::report::{Report, Status};
+use fs_text::{Sink, Source};
+use pm_region::{ReadRegion, SplitRegion};
+use std::alloc::Global;
+use std::thread::Threads;
+
+/// Does what the words of a command line ask, in the thread that calls it, and returns: the words of `run` count as no
+/// form. The first word is the program's name. For `format` the region is created and its superblock written. For
+/// `replay` the region is attached, the input is read, its lines are run in order, each core's moves by its `go` lines,
+/// and the replies are written once all are answered. For `dump` the region is attached, and its live pairs are written,
+/// and for `log` the entries of its logs.
+pub fn flatstore_alone<T: Threads, S: Source, O: Sink, R: SplitRegion + ReadRegion>(
+    _rt: &T,
+    alloc: Global,
+    words: &Vec<String>,
+    source: &mut S,
+    sink: &mut O,
+    region: &mut R,
+) -> Report
+    // The words alone decide on Usage, but for want of memory.
+    ensures usage { result.status ≡ statuses.Usage
+        → alone_form_of (words_of words.now.items) ≡ None }
+    ensures no_form { alone_form_of (words_of words.now.items) ≡ None
+        → (result.status ≡ statuses.Usage) ⊎ (result.status ≡ statuses.Memory) }
+
+    // A region that is made is the empty one, and until then it is refused.
+    ensures format { (path : List ℕ) (l : Geometry)
+        → alone_form_of (words_of words.now.items) ≡ Some (Format path l)
+        → Formats (R.state region.old) (R.state region.new) l result × (source.new ≡ source.old)
+        × (sink.new ≡ sink.old) }
+
+    // What is dumped are the cells that the words of the region recover.
+    ensures dump { (path : List ℕ) → alone_form_of (words_of words.now.items) ≡ Some (Dump path)
+        → Dumps (R.state region.old) (R.state region.new) (R.found region.old)
+        (O.taken sink.old) (O.taken sink.new) (O.flushed sink.new) (O.fault_count sink.old) (O.fault_count sink.new) result
+        × (source.new ≡ source.old) }
+
+    // What is logged are the entries that the words of the region spell.
+    ensures log { (path : List ℕ) → alone_form_of (words_of words.now.items) ≡ Some (Log path)
+        → Logs (R.state region.old) (R.state region.new) (R.found region.old)
+        (O.taken sink.old) (O.taken sink.new) (O.flushed sink.new) (O.fault_count sink.old) (O.fault_count sink.new) result
+        × (source.new ≡ source.old) }
+
+    // The headline.
+    ensures attaches { (path : List ℕ) → alone_form_of (words_of words.now.items)
+        ≡ Some (Replay path)
+        → Attaches (R.state region.old) (R.state region.new) (R.found region.old) result }
+    ensures replay { (path : List ℕ) → alone_form_of (words_of words.now.items) ≡ Some (Replay path)
+        → result.attached ≡ true
+        → (input : List ℕ) × (cores : ℕ) × IsInput (S.coming source.old) input
+        × Replays (R.state region.old) (R.state region.new) (R.found region.old)
+        (S.coming source.old) (S.coming source.new) (S.fault_count source.old) (S.fault_count source.new) cores input
+        (O.taken sink.old) (O.taken sink.new) (O.flushed sink.new) (O.fault_count sink.old) (O.fault_count sink.new) result }
+
+    // A fault comes only where its count rose.
+    ensures source_fault { result.status ≡ statuses.SourceFault
+        → Rose (S.fault_count source.old) (S.fault_count source.new) }
+    ensures sink_fault { result.status ≡ statuses.SinkFault
+        → Rose (O.fault_count sink.old) (O.fault_count sink.new) }
+    ensures region_fault { result.status ≡ statuses.RegionFault
+        → Rose (R.state region.old).faults (R.state region.new).faults }
+
+    // Nothing is written where the run didn't come to its end.
+    ensures incomplete { result.complete ≡ false → sink.new ≡ sink.old }
+    ensures unattached { result.attached ≡ false → result.complete ≡ false }
+
+    // Nothing is read before the region's rules are tested.
+    ensures unread { is_of_region result.status ≡ true → source.new ≡ source.old }
+    ensures unattached_unread { result.attached ≡ false → source.new ≡ source.old }
+
+    // Nothing is lost or changed by a refusal.
+    ensures sink_untouched { is_quiet result.status ≡ true → sink.new ≡ sink.old }
+    ensures no_form_untouched { alone_form_of (words_of words.now.items) ≡ None
+        → (region.new ≡ region.old) × (source.new ≡ source.old) }
+    ensures region_untouched { is_quiet result.status ≡ true → result.attached ≡ true
+        → Attached (R.state region.old) (R.state region.new) (R.state region.new).frame.bytes
+        (R.found region.old) }
+{
+    let command = match parse_command(alloc, words.as_slice()) {
+        Err(_) => return Report::of(alloc, Status::Memory, false),
+        Ok(None) => return Report::of(alloc, Status::Usage, false),
+        Ok(Some(command)) => command,
+    };
+    match command {
+        Command::Format { layout, .. } => format_region(alloc, region, layout),
+        Command::Replay { .. } => replay_region(alloc, source, sink, region),
+        Command::Run { .. } => Report::of(alloc, Status::Usage, false),
+        Command::Dump { .. } => dump_region(alloc, sink, region),
+        Command::Log { .. } => log_region(alloc, sink, region),
+    }
+}

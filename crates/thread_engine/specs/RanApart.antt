@@ -1,0 +1,76 @@
+-- What a run on threads comes to.
+use Rattle.std.specs.Prelude.{◌≡◌, ◌≢◌, ℕ, ◌<◌, ◌≤◌, List, length, Bool, false, Option, Some}
+use Rattle.fs_text.specs.declared.line.Line.{Line}
+use Rattle.pm_region.specs.State.{State, IsTelling, cell_now, counted, Rose}
+use Rattle.pm_region.specs.Split.{TellsFrom}
+use Rattle.store_image.specs.Facts.{In}
+use Rattle.recover.specs.declared.types.Recovered.{Recovered}
+use Rattle.engine_laws.specs.Engine.{Engine}
+use Rattle.engine_laws.specs.Origins.{Origin}
+use Rattle.engine_laws.specs.Parts.{HasSuperblock, AllLicensed}
+use Rattle.engine_laws.specs.Promises.{HasStopped, Promised, IsDone}
+use Rattle.engine_laws.specs.Ran.{asked_in}
+use Rattle.engine_laws.specs.Ceasing.{HasCeased}
+use Rattle.core_worker.specs.declared.types.Answer.{Answer}
+use Rattle.core_worker.specs.Beginning.{answers_of}
+use Rattle.group_engine.specs.declared.types.Stamped.{Stamped}
+use Rattle.group_engine.specs.declared.run_outcome.End.TheVariants as ends
+use Rattle.group_engine.specs.declared.run_outcome.Outcome.{Outcome}
+use Rattle.group_engine.specs.Answers.{kept_at}
+use Rattle.group_engine.specs.Replayed.{BeginsAt, report_in}
+use Rattle.group_engine.specs.Reports.{IsReport, ReportsOn}
+use Rattle.thread_engine.specs.CoreRuns.{CoreRun, AllRan}
+
+-- A region was split and joined, and between that only its pieces were used.
+pub record Rejoined (old new : State) : Type 0 where
+  pub first : new.frame.first ≡ old.frame.first
+  pub words : new.frame.words ≡ old.frame.words
+  pub bytes : new.frame.bytes ≡ old.frame.bytes
+  pub parted : new.frame.parted ≡ old.frame.parted
+  pub opens : new.frame.opens ≡ old.frame.opens
+  pub refusals : new.frame.refusals ≡ old.frame.refusals
+  pub faults : old.faults ≤ new.faults
+  pub later : old.stamp ≤ new.stamp
+  pub rose : Rose old.stamp new.stamp
+  -- it tells one moment, the last
+  pub since : new.frame.since ≡ new.stamp
+  pub tells : IsTelling new → IsTelling old
+
+-- what is kept of a worker's answer
+abbrev pub stamped : ℕ → Answer → Stamped
+stamped t a = record { reply = a.reply; refusal = a.refusal; stamp = t }
+
+-- What is kept by number are the answers that the cores' workers gave, each with the region's last stamp.
+pub record KeepsAnswers (o : Origin) (r : Recovered) (refused : Bool) (e : Engine) (cores : (c : ℕ) → c < e.layout.cores → CoreRun o r refused e c) (kept : List (Option Stamped)) : Type 0 where
+  pub count : length kept ≡ length e.given
+  pub all : (c : ℕ) (low : c < e.layout.cores) (a : Answer) → In a (answers_of (cores c low).last.worker) → kept_at kept a.number ≡ Some (stamped e.region.stamp a)
+  pub only : (n : ℕ) (y : Stamped) → kept_at kept n ≡ Some y → (c : ℕ) × (low : c < e.layout.cores) × (a : Answer) × In a (answers_of (cores c low).last.worker) × (a.number ≡ n)
+
+-- A run of lines on a region, one worker for each core and each in a thread of its own, led from the region's state and words to its state t, and this is the outcome. `refused` says whether the gate may hold posts back.
+pub record RanApart (s : State) (word : ℕ → ℕ) (refused : Bool) (r : Recovered) (lines : List Line) (t : State) (x : Outcome) : Type 0 where
+  pub origin : Origin
+  pub last : Engine
+  pub begins : BeginsAt s word origin
+  pub rejoined : Rejoined s t
+  -- all requests of the lines were given, each to its key's owner, and each core made its moves
+  pub region : last.region ≡ t
+  pub given : last.given ≡ asked_in lines
+  pub ran : AllRan origin r refused last
+  -- where each piece told to its end, the region goes on telling by the stamp after the latest of theirs
+  pub next : IsTelling s → ((c : ℕ) (low : c < last.layout.cores) → TellsFrom s (ran.cores c low).last.region)
+      → (latest : ℕ) → s.stamp ≤ latest → ((c : ℕ) (low : c < last.layout.cores) → (ran.cores c low).last.region.stamp ≤ latest) → t.stamp ≤ counted latest
+  -- each image of a part is licensed by its core's view
+  pub licensed : IsTelling t → AllLicensed last.layout last.group (cell_now t)
+  pub superblock : IsTelling t → HasSuperblock origin.found (cell_now t)
+  -- the outcome is made of what the workers answered
+  pub kept : List (Option Stamped)
+  pub keeps : KeepsAnswers origin r refused last ran.cores kept
+  pub report : IsReport kept (report_in x)
+  pub reports : ReportsOn t origin last (report_in x)
+  -- whatever the end, the promises hold; the region tells its last moment alone
+  pub promised : Promised origin last
+  -- With memory everything is answered and nothing is under way. Without it what was posted or taken is finished.
+  pub done : x.end ≢ ends.Memory → IsDone origin last
+  pub ceased : x.end ≡ ends.Memory → HasCeased last
+  pub fault : x.end ≡ ends.RegionFault → HasStopped last
+  pub complete : x.end ≡ ends.Complete → (c : ℕ) → c < last.layout.cores → last.stopped c ≡ false

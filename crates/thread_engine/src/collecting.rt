@@ -1,0 +1,96 @@
+// What a run on threads comes to, by what its workers answered.
+ghost use Rattle.std.specs.Prelude.{◌≡◌, ℕ, ◌<◌, ◌≤◌, length, true, false, Some, map};
+ghost use Rattle.std.specs.List.{slice_get, AllByRecursion};
+ghost use Rattle.core_worker.specs.declared.worker.Worker.{Worker};
+ghost use Rattle.core_worker.specs.Beginning.{answers_of};
+ghost use Rattle.group_engine.specs.Answers.{HavePlaces, stored};
+ghost use Rattle.group_engine.specs.Replayed.{report_in};
+ghost use Rattle.group_engine.specs.Reports.{IsReport, IsBlank, HasRoomFor};
+ghost use Rattle.thread_engine.specs.Collected.{HaveAllPlaces, stored_all, end_by, any_short, any_stopped};
+
+use core_worker::Worker;
+use group_engine::run_outcome::{End, Outcome};
+use group_engine::run_report::{Report, report_on};
+use group_engine::types::Stamped;
+
+// Keeps the answers of a worker by the numbers of their requests.
+fn keep_answers(worker: &mut Worker, kept: &mut Vec<Option<Stamped>>, stamp: u64)
+    requires { HavePlaces (length kept.old.items) (answers_of worker.old) }
+    ensures { kept.new.items ≡ stored (answers_of worker.old) stamp kept.old.items }
+{
+    loop {
+        match worker.next_answer() {
+            Some(answer) => {
+                kept[answer.number as usize] = Some(Stamped {
+                    reply: answer.reply,
+                    refusal: answer.refusal,
+                    stamp,
+                });
+            }
+            None => return,
+        }
+    }
+}
+
+// Keeps the answers of all workers.
+fn keep_all(workers: Vec<Worker>, mut kept: Vec<Option<Stamped>>, stamp: u64) -> Vec<Option<Stamped>>
+    requires { HaveAllPlaces (length kept.items) workers.items }
+    ensures { result.items ≡ stored_all workers.items stamp kept.items }
+{
+    for mut worker in workers {
+        keep_answers(&mut worker, &mut kept, stamp);
+    }
+    kept
+}
+
+// Whether a worker found no memory, or was told that another one didn't.
+fn is_short(workers: &[Worker]) -> bool
+    ensures { result ≡ any_short workers.now }
+{
+    workers.iter().any(|worker| worker.winding_down())
+}
+
+// Whether a worker has stopped.
+fn has_stopped(workers: &[Worker]) -> bool
+    ensures { result ≡ any_stopped workers.now }
+{
+    workers.iter().any(|worker| worker.stopped())
+}
+
+fn end_of(short: bool, stopped: bool) -> End
+    ensures { result ≡ end_by short stopped }
+{
+    if short {
+        return End::Memory;
+    }
+    if stopped {
+        End::RegionFault
+    } else {
+        End::Complete
+    }
+}
+
+/// The outcome by the answers of all workers, each with this stamp. `kept` has a place for each request, and the report
+/// on them has room. It takes no memory.
+pub fn outcome_of(
+    workers: Vec<Worker>,
+    kept: Vec<Option<Stamped>>,
+    report: Report,
+    stamp: u64,
+) -> Outcome
+    requires places { HaveAllPlaces (length kept.items) workers.items }
+    requires blank { IsBlank report }
+    requires room { HasRoomFor (length kept.items) report }
+    ensures report { IsReport (stored_all workers.items stamp kept.items) (report_in result) }
+    ensures end { result.end ≡ end_by (any_short workers.items) (any_stopped workers.items) }
+{
+    let end = end_of(is_short(&workers), has_stopped(&workers));
+    let kept = keep_all(workers, kept, stamp);
+    let report = report_on(kept, report);
+    Outcome {
+        replies: report.replies,
+        finishes: report.finishes,
+        refusals: report.refusals,
+        end,
+    }
+}

@@ -1,0 +1,135 @@
+// The jobs of all cores are made, done, and taken apart again.
+ghost use Rattle.std.specs.Prelude.{◌≡◌, ◌≤◌, [], length, vec_capacity, IfOk};
+ghost use Rattle.thread_engine.specs.Returns.{IsCrew, HasRoomOf, Gave, AreMade, AllAtWork, AllWent};
+
+use crate::core_job::CoreJob;
+use crate::crew::work_all;
+use atomic_board::{CoreSeat, GroupTable, SeatToken};
+use core_worker::{Gate, Worker};
+use fs_errors::Memory;
+use fs_model::Request;
+use pm_region::Region;
+use std::alloc::Global;
+use std::collections::VecDeque;
+use std::sync::Wait;
+use std::thread::Threads;
+
+/// What the cores begin with but their pieces, in the cores' order: their tokens, their workers and their requests.
+#[derive(Drop)]
+pub struct Crew {
+    pub tokens: Vec<SeatToken>,
+    pub workers: Vec<Worker>,
+    pub queues: Vec<VecDeque<(u64, Request)>>,
+}
+
+/// What the cores give back, in the cores' order: their pieces, their tokens and their workers.
+#[derive(Drop)]
+pub struct Returned<P> {
+    pub pieces: Vec<P>,
+    pub tokens: Vec<SeatToken>,
+    pub workers: Vec<Worker>,
+}
+
+impl<P: Drop> Returned<P> {
+    /// Room for what so many cores give back.
+    pub fn with_room(alloc: Global, cores: usize) -> Result<Returned<P>, Memory>
+        ensures { IfOk result (HasRoomOf cores) }
+    {
+        let pieces = Vec::with_capacity(alloc, cores)?;
+        let tokens = Vec::with_capacity(alloc, cores)?;
+        let workers = Vec::with_capacity(alloc, cores)?;
+        Ok(Returned {
+            pieces,
+            tokens,
+            workers,
+        })
+    }
+}
+
+// A job for each core, at its group's table.
+fn make_jobs<'a, P: Region + Drop>(
+    tables: &'a Vec<GroupTable>,
+    group: u32,
+    pieces: Vec<P>,
+    crew: Crew,
+    mut jobs: Vec<CoreJob<CoreSeat<'a>, P>>,
+) -> Vec<CoreJob<CoreSeat<'a>, P>>
+    requires crew { IsCrew tables.now.items group (length pieces.items) crew }
+    requires room { (jobs.items ≡ []) × (length pieces.items ≤ vec_capacity jobs) }
+    ensures { AreMade pieces.items crew result.items }
+{
+    let Crew {
+        tokens,
+        workers,
+        queues,
+    } = crew;
+    let mut tokens = VecDeque::from_vec(tokens);
+    let mut workers = VecDeque::from_vec(workers);
+    let mut queues = VecDeque::from_vec(queues);
+    for piece in pieces {
+        let core = jobs.len();
+        let Some(token) = tokens.pop_front() else {
+            unreachable!()
+        };
+        let Some(worker) = workers.pop_front() else {
+            unreachable!()
+        };
+        let Some(queue) = queues.pop_front() else {
+            unreachable!()
+        };
+        let seat = tables[core / group as usize].attend(token);
+        jobs.push_reserved(CoreJob {
+            seat,
+            piece,
+            worker,
+            queue,
+        });
+    }
+    jobs
+}
+
+// Takes the jobs apart. The seats leave their tables.
+fn dismiss<P: Region + Drop>(
+    jobs: Vec<CoreJob<CoreSeat<'_>, P>>,
+    mut room: Returned<P>,
+) -> Returned<P>
+    requires { HasRoomOf (length jobs.items) room }
+    ensures { Gave jobs.entry.items result }
+{
+    for job in jobs {
+        let CoreJob {
+            seat,
+            piece,
+            worker,
+            queue: _,
+        } = job;
+        room.pieces.push_reserved(piece);
+        room.tokens.push_reserved(seat.leave());
+        room.workers.push_reserved(worker);
+    }
+    room
+}
+
+/// Lets all cores work on their pieces, each in a thread of its own, until all have ended, and gives back what they have
+/// then. It takes no memory.
+pub fn work_apart<'a, T: Threads + Wait + Sync, P: Region + Drop + Send, G: Gate + Sync>(
+    rt: &T,
+    alloc: Global,
+    tables: &'a Vec<GroupTable>,
+    group: u32,
+    pieces: Vec<P>,
+    crew: Crew,
+    jobs: Vec<CoreJob<CoreSeat<'a>, P>>,
+    room: Returned<P>,
+    gate: &G,
+) -> Returned<P>
+    requires crew { IsCrew tables.now.items group (length pieces.items) crew }
+    requires work { AllAtWork P.state pieces.items crew }
+    requires room { (jobs.items ≡ []) × (length pieces.items ≤ vec_capacity jobs)
+        × HasRoomOf (length pieces.items) room }
+    ensures { AllWent P.state (G.may_refuse gate.now) pieces.items crew result }
+{
+    let mut jobs = make_jobs(tables, group, pieces, crew, jobs);
+    work_all(rt, alloc, &mut jobs, gate);
+    dismiss(jobs, room)
+}

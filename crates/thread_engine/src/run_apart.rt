@@ -1,0 +1,171 @@
+// A run of an input on threads, and its outcome.
+ghost use Rattle.std.specs.Prelude.{◌≡◌, List, false, IfOk, OnErr};
+ghost use Rattle.pm_region.specs.Split.{Stays, Refuses, IsNotOpened};
+ghost use Rattle.fs_text.specs.declared.line.Line.{Line};
+ghost use Rattle.recover.specs.declared.types.Recovered.{Recovered};
+ghost use Rattle.engine_laws.specs.Origins.{Origin};
+ghost use Rattle.group_engine.specs.Replayed.{StandsAsFound, BeginsAt};
+ghost use Rattle.thread_engine.specs.RanApart.{RanApart};
+ghost use Rattle.thread_engine.specs.Supplied.{IsSupplied, ArePartCuts};
+
+use crate::closing::{close_tables, empty_hands};
+use crate::collecting::outcome_of;
+use crate::deal::deal;
+use crate::group_tables::open_tables;
+use crate::muster::{Crew, Returned, work_apart};
+use crate::opening_rules;
+use crate::refusal_rules;
+use crate::work_rules;
+use atomic_board::{GroupTable, SeatToken};
+use chunk_map::{Geometry, Layout};
+use core_worker::Gate;
+use engine_laws::engine_rules;
+use fs_errors::Memory;
+use fs_text::Input;
+use group_engine::open_engine::open_workers;
+use group_engine::run_outcome::Outcome;
+use group_engine::run_report::Report;
+use group_engine::types::Stamped;
+use pm_region::{AttachError, ReadRegion, SplitRegion};
+use recover::Recovered;
+use std::alloc::Global;
+use std::sync::Wait;
+use std::thread::Threads;
+
+/// What a run needs, all of it taken before the region is split.
+#[derive(Drop)]
+pub struct Supplies {
+    pub layout: Geometry,
+    pub tables: Vec<GroupTable>,
+    pub crew: Crew,
+    /// A place for each request's answer.
+    pub answers: Vec<Option<Stamped>>,
+    /// Nothing yet, with room for all answers.
+    pub report: Report,
+    /// Room for the tokens of each table.
+    pub hands: Vec<Vec<SeatToken>>,
+    /// Where the parts begin, in words from the region's start, and where the last one ends.
+    pub cuts: Vec<u64>,
+}
+
+// Where the parts begin, and where the last one ends.
+fn part_cuts(alloc: Global, layout: &Layout) -> Result<Vec<u64>, Memory>
+    ensures { IfOk result (λ cuts. ArePartCuts layout.now cuts.items) }
+{
+    let cores = layout.geometry().cores;
+    let mut cuts = Vec::new(alloc);
+    for part in 0..cores + 1 {
+        cuts.push(layout.part_first(part))?;
+    }
+    Ok(cuts)
+}
+
+// Takes all that a run needs. Nothing is written.
+fn supply<R: ReadRegion>(
+    alloc: Global,
+    region: &R,
+    recovered: Recovered,
+    input: Input,
+) -> Result<Supplies, Memory>
+    requires region { StandsAsFound (R.state region.now) (R.word region.now) recovered }
+    ensures { IfOk result (λ x. (o : Origin) × BeginsAt (R.state region.now) (R.word region.now) o
+        × IsSupplied o recovered input x) }
+{
+    let layout = recovered.layout.geometry();
+    let opened = open_tables(alloc, region, &recovered)?;
+    let cuts = part_cuts(alloc, &recovered.layout)?;
+    let workers = open_workers(alloc, recovered.layout, recovered.starts)?;
+    let dealt = deal(alloc, layout.cores, input.into_lines())?;
+    let mut report = Report::new(alloc);
+    report.reserve(dealt.answers.len())?;
+    let hands = empty_hands(alloc, layout.group, opened.tables.len())?;
+    Ok(Supplies {
+        layout,
+        tables: opened.tables,
+        crew: Crew {
+            tokens: opened.tokens,
+            workers,
+            queues: dealt.queues,
+        },
+        answers: dealt.answers,
+        report,
+        hands,
+        cuts,
+    })
+}
+
+// Splits the region, lets the cores work, and joins it. The memory for what comes after the split is taken before it.
+fn run_supplied<T: Threads + Wait + Sync, R: SplitRegion + ReadRegion, G: Gate + Sync>(
+    rt: &T,
+    alloc: Global,
+    region: &mut R,
+    supplies: Supplies,
+    gate: &G,
+) -> Result<Outcome, AttachError>
+    requires whole { (R.state region.old).frame.parted ≡ false }
+    requires supplied { (o : Origin) × (r : Recovered) × (lines : List Line)
+        × StandsAsFound (R.state region.old) (R.word region.old) r
+        × BeginsAt (R.state region.old) (R.word region.old) o × IsSupplied o r lines supplies }
+    ensures ran { IfOk result (λ x. (o : Origin) (r : Recovered) (lines : List Line)
+        → StandsAsFound (R.state region.old) (R.word region.old) r
+        → BeginsAt (R.state region.old) (R.word region.old) o → IsSupplied o r lines supplies
+        → RanApart (R.state region.old) (R.word region.old) (G.may_refuse gate.now) r lines
+        (R.state region.new) x) }
+    ensures stays { OnErr result (Stays (R.state region.old) (R.state region.new)) }
+    ensures cause { Refuses (R.state region.old) (R.state region.new) result }
+    ensures opens { IsNotOpened (R.state region.old) (R.state region.new) }
+{
+    opening_rules::every_opening();
+    work_rules::every_chain();
+    refusal_rules::every_refusal();
+    engine_rules::every_moment();
+    let Supplies {
+        layout,
+        tables,
+        crew,
+        answers,
+        report,
+        hands,
+        cuts,
+    } = supplies;
+    let cores = layout.cores as usize;
+    let jobs = Vec::with_capacity(alloc, cores)?;
+    let Ok(room) = Returned::with_room(alloc, cores) else {
+        return Err(AttachError::Memory);
+    };
+    let pieces = region.split(alloc, &cuts)?;
+    let back = work_apart(
+        rt, alloc, &tables, layout.group, pieces, crew, jobs, room, gate,
+    );
+    close_tables(tables, layout.group, back.tokens, hands);
+    region.join(back.pieces);
+    let stamp = region.stamp();
+    Ok(outcome_of(back.workers, answers, report, stamp))
+}
+
+/// Runs an input on a region that stands as recovery found it: one worker for each core, each in a thread of its own and
+/// on its own piece of the region. `go` lines change nothing. The report's stamps are the joined region's.
+///
+/// Whatever the end of a run, the pieces are joined again. After an `Err` the region is as it was: `RegionFault` comes
+/// where it could not be split, and `Memory` where there was none for what the run needs.
+pub fn run<T: Threads + Wait + Sync, R: SplitRegion + ReadRegion, G: Gate + Sync>(
+    rt: &T,
+    alloc: Global,
+    region: &mut R,
+    recovered: Recovered,
+    input: Input,
+    gate: &G,
+) -> Result<Outcome, AttachError>
+    requires whole { (R.state region.old).frame.parted ≡ false }
+    requires region { StandsAsFound (R.state region.old) (R.word region.old) recovered }
+    ensures ran { IfOk result (λ x. RanApart (R.state region.old) (R.word region.old)
+        (G.may_refuse gate.now) recovered input (R.state region.new) x) }
+    ensures stays { OnErr result (Stays (R.state region.old) (R.state region.new)) }
+    ensures cause { Refuses (R.state region.old) (R.state region.new) result }
+    ensures opens { IsNotOpened (R.state region.old) (R.state region.new) }
+{
+    let Ok(supplies) = supply(alloc, &*region, recovered, input) else {
+        return Err(AttachError::Memory);
+    };
+    run_supplied(rt, alloc, region, supplies, gate)
+}
