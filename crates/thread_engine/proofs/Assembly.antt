@@ -198,7 +198,7 @@ module _ {P : Type 0} (state : P → State) (refused : Bool) (s : State) (word :
             let taken : TakesPiece t (state O.4) = subst (λ (y : P). TakesPiece t (state y)) (get_index back.pieces.items c O.4 O.4 O.11) (takes c O.4 (get_low back.pieces.items c O.4 O.11)) in
             let end = core_end state refused o r is_layout given tables x.crew pieces x.cuts.items S.manned table_count S.workers.each (seat_there s word r o F B x.crew.workers.items S.seated worker_count) (start_there s word r o F B) queues_are piece_at cuts_are
             c low O.0 O.1 O.2 O.3 O.7 O.8 O.9 O.10 t shown O.4 O.5 O.6 O.14 taken view in
-            (end.0, end.1, O.13, O.4, O.11, refl)
+            (end.0, (end.1, O.13, (O.4, O.11, refl)))
 
         chosen_by : (c : ℕ) (b : Bool) → nat_lt c l.cores ≡ b → Option (CoreEnd refused)
         chosen_by c true e = Some (ended c (ltb-true c l.cores e)).0
@@ -207,7 +207,7 @@ module _ {P : Type 0} (state : P → State) (refused : Bool) (s : State) (word :
         pub ends : ℕ → Option (CoreEnd refused)
         ends c = chosen_by c (nat_lt c l.cores) refl
 
-        full : (c : ℕ) → c < l.cores → (y : CoreEnd refused) × (ends c ≡ Some y) × Full c y
+        pub full : (c : ℕ) → c < l.cores → (y : CoreEnd refused) × (ends c ≡ Some y) × Full c y
         unfolding ends chosen_by
         full c low = by (nat_lt c l.cores) refl (lt-ltb c l.cores low) where
           by : (b : Bool) (e : nat_lt c l.cores ≡ b) → b ≡ true → (y : CoreEnd refused) × (chosen_by c b e ≡ Some y) × Full c y

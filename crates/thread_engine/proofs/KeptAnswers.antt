@@ -131,9 +131,9 @@ pub apart_by_keys : (fs : List Fixed) → ((k : ℕ) → IsUp (map asked (fixed_
 apart_by_keys [] up same = tt
 apart_by_keys (y ∷ ys) up same = (
   λ z i e. (let k = key_of y.request in let own : (key_of z.request == k) ≡ true = eq-eqb (key_of z.request) k (sym (same y z (inl refl) (inr i) e)) in
-  let U = first y ys k (eq-eqb k k refl) (up k) in
-  let less : y.number < z.number = all_in (λ (w : ℕ × Request). y.number < w.0) (map asked (fixed_of k ys)) (asked z) U.0 (in_map asked z (fixed_of k ys) (filter_in (λ (f : Fixed). key_of f.request == k) ys z i own)) in
-  omega (arith, less, e)),
+      let U = first y ys k (eq-eqb k k refl) (up k) in
+      let less : y.number < z.number = all_in (λ (w : ℕ × Request). y.number < w.0) (map asked (fixed_of k ys)) (asked z) U.0 (in_map asked z (fixed_of k ys) (filter_in (λ (f : Fixed). key_of f.request == k) ys z i own)) in
+      omega (arith, less, e)),
   apart_by_keys ys (λ k. behind y ys k (up k)) (λ v w i j. same v w (inr i) (inr j)),
 ) where
   first : (y : Fixed) (ys : List Fixed) (k : ℕ) → (key_of y.request == k) ≡ true → IsUp (map asked (fixed_of k (y ∷ ys))) → AllByRecursion (λ (w : ℕ × Request). y.number < w.0) (map asked (fixed_of k ys)) × IsUp (map asked (fixed_of k ys))

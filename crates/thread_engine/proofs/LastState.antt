@@ -355,8 +355,8 @@ module _ (chain : ChainLaw) (keys_open : OpeningKeys) (doubts_open : OpeningDoub
           };
           pending = λ p pends. (let n = K.pending p pends in (n.0, n.1, (λ i. changes_on (start_of o k) (pairs_are i ++ posted_in ((hands_are i).place k))) ∙ n.2 ∙ (λ i. finished (sym pairs_are i) ++ n.0 ∷ n.1), n.3));
         } where
-      pairs_are : pairs served ≡ map replied fs
-      pairs_are = served_pairs t.stamp fs
+          pairs_are : pairs served ≡ map replied fs
+          pairs_are = served_pairs t.stamp fs
 
   same_end : (c : ℕ) (low low' : c < l.cores) → x c low ≡ x c low'
   same_end c low low' = one_of (x c low) (x c low') (sym (at c low) ∙ at c low')

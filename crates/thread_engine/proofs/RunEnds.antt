@@ -134,10 +134,10 @@ module _ {P : Type 0} (state : P → State) (refused : Bool) (o : Origin) (r : R
     view_is : view_at t.own ≡ view_of (opened (place_at l (group_of l c)) o.found) (member_of l c)
     view_is = manned.views (group_of l c) (member_of l c) table.0 t table.1 (member_low l is_layout c) t_there
 
-    place_is : (seat_of t.own).place ≡ place_at l (group_of l c)
+    pub place_is : (seat_of t.own).place ≡ place_at l (group_of l c)
     place_is = ap (λ y. y.place) seat_is
 
-    number_is : (seat_of t.own).number ≡ member_of l c
+    pub number_is : (seat_of t.own).number ≡ member_of l c
     number_is = ap (λ y. y.number) seat_is
 
     S : Seat hands_of answers_of IsMember fair may_take leads (opening o) c w

@@ -70,14 +70,14 @@ module _ (s : State) (word : ℕ → ℕ) (r : Recovered) (o : Origin) (F : Stan
   pub seat_there : (workers : List Worker) → SeatFirst r.starts.items r.layout workers → length workers ≡ l.cores → (c : ℕ) (w : Worker) → slice_get workers c ≡ Some w → Seat hands_of answers_of IsMember fair may_take leads (opening o) c w
   seat_there workers seated count c w at = seated c w start at from.1 o c layout_found from.2
       (subst (λ (x : State). IsCertainAt x (place_at l (group_of l c)) (member_of l c) o.found start) (sym B.region) (certain_at s (place_at l (group_of l c)) (member_of l c) o.found start from.2 stand small surely_found)) where
-    low : c < l.cores
-    low = let there = get_low workers c w at in let many = count in omega (arith, there, many)
+        low : c < l.cores
+        low = let there = get_low workers c w at in let many = count in omega (arith, there, many)
 
-    from : (x : CoreStart) × (slice_get r.starts.items c ≡ Some x) × IsStartAt (place_at l (group_of l c)) (member_of l c) o.found x
-    from = start_there c low
+        from : (x : CoreStart) × (slice_get r.starts.items c ≡ Some x) × IsStartAt (place_at l (group_of l c)) (member_of l c) o.found x
+        from = start_there c low
 
-    start : CoreStart
-    start = from.0
+        start : CoreStart
+        start = from.0
 
-    stand : StandsIn s start.log
-    stand = subst (λ (x : CoreStart). StandsIn s x.log) (get_index r.starts.items c start start from.1) (F.stand c start (subst (λ (m : Geometry). c < m.cores) (sym layout_found) low))
+        stand : StandsIn s start.log
+        stand = subst (λ (x : CoreStart). StandsIn s x.log) (get_index r.starts.items c start start from.1) (F.stand c start (subst (λ (m : Geometry). c < m.cores) (sym layout_found) low))

@@ -33,7 +33,11 @@ fn keep_answers(worker: &mut Worker, kept: &mut Vec<Option<Stamped>>, stamp: u64
 }
 
 // Keeps the answers of all workers.
-fn keep_all(workers: Vec<Worker>, mut kept: Vec<Option<Stamped>>, stamp: u64) -> Vec<Option<Stamped>>
+fn keep_all(
+    workers: Vec<Worker>,
+    mut kept: Vec<Option<Stamped>>,
+    stamp: u64,
+) -> Vec<Option<Stamped>>
     requires { HaveAllPlaces (length kept.items) workers.items }
     ensures { result.items ≡ stored_all workers.items stamp kept.items }
 {

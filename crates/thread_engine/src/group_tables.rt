@@ -47,7 +47,11 @@ fn open_one<O: Opening, N: Numbered>(
 }
 
 // A table, and its tokens behind those of the tables before.
-fn man(alloc: Global, mut table: GroupTable, tokens: &mut Vec<SeatToken>) -> Result<GroupTable, Memory>
+fn man(
+    alloc: Global,
+    mut table: GroupTable,
+    tokens: &mut Vec<SeatToken>,
+) -> Result<GroupTable, Memory>
     ensures same { IfOk result (λ t. t ≡ table) }
     ensures manned { IfOk result (λ t. IsManned t tokens.old.items tokens.new.items) }
 {

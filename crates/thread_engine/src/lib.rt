@@ -11,9 +11,9 @@ pub mod muster;
 pub mod opening_rules;
 pub mod refusal_rules;
 pub mod run_apart;
-pub mod table_end;
 #[cfg(test)]
 mod run_tests;
+pub mod table_end;
 #[cfg(test)]
 mod tests;
 pub mod work_rules;

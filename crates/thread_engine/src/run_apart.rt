@@ -13,9 +13,7 @@ use crate::collecting::outcome_of;
 use crate::deal::deal;
 use crate::group_tables::open_tables;
 use crate::muster::{Crew, Returned, work_apart};
-use crate::opening_rules;
-use crate::refusal_rules;
-use crate::work_rules;
+use crate::{opening_rules, refusal_rules, work_rules};
 use atomic_board::{GroupTable, SeatToken};
 use chunk_map::{Geometry, Layout};
 use core_worker::Gate;
@@ -133,9 +131,20 @@ fn run_supplied<T: Threads + Wait + Sync, R: SplitRegion + ReadRegion, G: Gate +
     let Ok(room) = Returned::with_room(alloc, cores) else {
         return Err(AttachError::Memory);
     };
-    let pieces = region.split(alloc, &cuts)?;
+    let pieces = match region.split(alloc, &cuts) {
+        Ok(pieces) => pieces,
+        Err(error) => return Err(error),
+    };
     let back = work_apart(
-        rt, alloc, &tables, layout.group, pieces, crew, jobs, room, gate,
+        rt,
+        alloc,
+        &tables,
+        layout.group,
+        pieces,
+        crew,
+        jobs,
+        room,
+        gate,
     );
     close_tables(tables, layout.group, back.tokens, hands);
     region.join(back.pieces);

@@ -23,21 +23,24 @@ returns g c =
     let layout = layout_found (g.R.Region.state c.args.region.now) (g.R.ReadRegion.word c.args.region.now) c.args.recovered M.0 c.requires.region M.1 in
     let tables = c.in_ok-opened.opened.tables in
     let dealt = c.in_ok-dealt.dealt in
-    let D = subst (λ ls. AreDealt c.geometry-layout.result.cores (asked_in ls) dealt) c.into_lines.ensures c.in_ok-dealt.ensures in
-    (M.0, M.1, record {
-      layout = value ∙ layout;
-      recovered = layout;
-      tables = c.in_ok-opened.ensures.length ∙ sym (ap (λ (l : Geometry). l.cores / l.group) value);
-      manned = M.2;
-      worker_count = c.in_ok-workers.ensures.count ∙ c.requires.region.made.count ∙ sym (ap (λ (l : Geometry). l.cores) value);
-      workers = c.in_ok-workers.ensures.new;
-      seated = c.in_ok-workers.ensures.seat;
-      queue_count = D.count;
-      queues = D.dealt;
-      places = D.places;
-      blank = D.blank;
-      report = c.in_ok-reserve.ensures.blank;
-      room = subst (λ n. HasRoomFor n c.reserve.new.self) (c.len.ensures ∙ dealt.answers.ok.0) c.in_ok-reserve.ensures.room;
-      hands = subst (λ n. AreHands c.geometry-layout.result.group n c.in_ok-hands.hands.items) (c.len-2.ensures ∙ tables.ok.0) c.in_ok-hands.ensures;
-      cuts = subst (λ (l : Geometry). ArePartCuts l c.in_ok-cuts.cuts.items) (sym value) c.in_ok-cuts.ensures;
-    })
+    let D = subst (λ ls. AreDealt c.geometry-layout.result.cores (asked_in ls) dealt) c.into_lines.ensures c.in_ok-dealt.ensures in (
+      M.0,
+      M.1,
+      record {
+        layout = value ∙ layout;
+        recovered = layout;
+        tables = c.in_ok-opened.ensures.length ∙ sym (ap (λ (l : Geometry). l.cores / l.group) value);
+        manned = M.2;
+        worker_count = c.in_ok-workers.ensures.count ∙ c.requires.region.made.count ∙ sym (ap (λ (l : Geometry). l.cores) value);
+        workers = c.in_ok-workers.ensures.new;
+        seated = c.in_ok-workers.ensures.seat;
+        queue_count = D.count;
+        queues = D.dealt;
+        places = D.places;
+        blank = D.blank;
+        report = c.in_ok-reserve.ensures.blank;
+        room = subst (λ n. HasRoomFor n c.reserve.new.self) (c.len.ensures ∙ dealt.answers.ok.0) c.in_ok-reserve.ensures.room;
+        hands = subst (λ n. AreHands c.geometry-layout.result.group n c.in_ok-hands.hands.items) (c.len-2.ensures ∙ tables.ok.0) c.in_ok-hands.ensures;
+        cuts = subst (λ (l : Geometry). ArePartCuts l c.in_ok-cuts.cuts.items) (sym value) c.in_ok-cuts.ensures;
+      },
+    )
