@@ -11,6 +11,8 @@ pub record BeginsKey (v : View) (w x : Hands) (k : ℕ) (fixed : List Fixed) : T
   pub idle : w.place k ≡ None
   pub order : w.waits k ≡ map asked fixed ++ line_in x k
   pub stopped : x.stopped ≡ w.stopped
-  pub runs : w.stopped ≡ false → IsLawfulFor (v.cell k) false (map replied fixed) × (cell_of (v.cell k) (map replied fixed) ≡ v.cell k) × AllByRecursion (λ y. y.reply ≢ Stopped) fixed
+  pub runs : w.stopped ≡ false → IsLawfulFor (v.cell k) false (map replied fixed)
+      × (cell_of (v.cell k) (map replied fixed) ≡ v.cell k)
+      × AllByRecursion (λ y. y.reply ≢ Stopped) fixed
   pub ends : w.stopped ≡ true → AllByRecursion (λ y. y.reply ≡ Stopped) fixed × (x.place k ≡ None)
   pub staged : (y : Placed) → x.place k ≡ Some y → y.posted ≡ false

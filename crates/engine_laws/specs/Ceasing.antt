@@ -14,9 +14,11 @@ use Rattle.engine_laws.specs.Engine.{Engine, group_for}
 pub record IsResting (e : Engine) (c : ℕ) : Type 0 where
   pub holds : (e.group (group_of e.layout c)).holds (member_of e.layout c) ≡ false
   pub taken : (a s : ℕ) → (e.group (group_of e.layout c)).taken (member_of e.layout c) a s ≡ None
-  pub posted : (k : ℕ) (x : Placed) → owner e.layout k ≡ c → e.place k ≡ Some x → x.posted ≡ true → (p : Pending) (s : ℕ) → (group_for e k).pending k ≡ Some p → p.slot ≡ Some s
+  pub posted : (k : ℕ) (x : Placed) → owner e.layout k ≡ c → e.place k ≡ Some x → x.posted ≡ true
+      → (p : Pending) (s : ℕ) → (group_for e k).pending k ≡ Some p → p.slot ≡ Some s
       → ((e.group (group_of e.layout c)).slot (member_of e.layout c) s ≡ Taken)
-      ⊎ ((d : Entry) × (h : ℕ) × ((e.group (group_of e.layout c)).slot (member_of e.layout c) s ≡ Posted d) × ((e.group (group_of e.layout c)).holder ≡ Some h))
+      ⊎ ((d : Entry) × (h : ℕ) × ((e.group (group_of e.layout c)).slot (member_of e.layout c) s
+      ≡ Posted d) × ((e.group (group_of e.layout c)).holder ≡ Some h))
 
 -- A turn that moved nothing made loads alone, and left its core resting.
 pub record Halts (e f : Engine) (c : ℕ) : Type 0 where
@@ -32,5 +34,6 @@ AllRest e = (c : ℕ) → c < e.layout.cores → IsResting e c
 -- What was posted or taken is finished: every slot is empty, no place has a posted change, and nobody leads. What is staged or waits is left.
 pub record HasCeased (e : Engine) : Type 0 where
   pub posted : (k : ℕ) (x : Placed) → e.place k ≡ Some x → x.posted ≡ false
-  pub slots : (g m s : ℕ) → g < groups_in e.layout → m < e.layout.group → (e.group g).slot m s ≡ Empty
+  pub slots : (g m s : ℕ) → g < groups_in e.layout → m < e.layout.group
+      → (e.group g).slot m s ≡ Empty
   pub leads : (g h : ℕ) → g < groups_in e.layout → (e.group g).holder ≡ Some h → ⊥

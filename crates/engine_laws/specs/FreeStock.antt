@@ -21,7 +21,8 @@ pub record IsAtLeast (s t : Stock) : Type 0 where
 
 -- a put whose value gets a block of this class
 abbrev pub is_put_in : Geometry → ℕ → Request → Bool
-is_put_in l class (Put k v) = has_class (length v) class && nat_le (length v) (l.chunk_bytes / 4 - 8)
+is_put_in l class (Put k v) = has_class (length v) class && nat_le (length v)
+    (l.chunk_bytes / 4 - 8)
 is_put_in l class (Get k) = false
 is_put_in l class (Delete k) = false
 

@@ -17,7 +17,8 @@ pub record IsIdle (e : Engine) (c : ℕ) : Type 0 where
   pub placed : (k : ℕ) (x : Placed) → owner e.layout k ≡ c → e.place k ≡ Some x → (x.posted ≡ true)
       × ((p : Pending) (s : ℕ) → (group_for e k).pending k ≡ Some p → p.slot ≡ Some s
       → ((e.group (group_of e.layout c)).slot (member_of e.layout c) s ≡ Taken)
-      ⊎ ((d : Entry) × (h : ℕ) × ((e.group (group_of e.layout c)).slot (member_of e.layout c) s ≡ Posted d) × ((e.group (group_of e.layout c)).holder ≡ Some h)))
+      ⊎ ((d : Entry) × (h : ℕ) × ((e.group (group_of e.layout c)).slot (member_of e.layout c) s
+      ≡ Posted d) × ((e.group (group_of e.layout c)).holder ≡ Some h)))
   pub waits : (k : ℕ) → owner e.layout k ≡ c → e.place k ≡ None → e.waits k ≡ []
   pub backlog : ((k : ℕ) → owner e.layout k ≡ c → e.place k ≡ None) → e.backlog c ≡ []
 
@@ -35,4 +36,5 @@ pub record IsDrained (e : Engine) : Type 0 where
   pub place : (k : ℕ) → e.place k ≡ None
   pub waits : (k : ℕ) → e.waits k ≡ []
   pub backlog : (c : ℕ) → c < e.layout.cores → e.backlog c ≡ []
-  pub slots : (g m s : ℕ) → g < groups_in e.layout → m < e.layout.group → (e.group g).slot m s ≡ Empty
+  pub slots : (g m s : ℕ) → g < groups_in e.layout → m < e.layout.group
+      → (e.group g).slot m s ≡ Empty

@@ -28,35 +28,55 @@ abbrev pub key_view : View → ℕ → KeyView
 key_view v k = record { cell = v.cell k; pending = v.pending k; left = left_in v.blocks }
 
 abbrev pub key_in : Group → ℕ → KeyView
-key_in w k = record { cell = w.cell k; pending = w.pending k; left = left_by w (places.owner w.place k) }
+key_in w k = record {
+  cell = w.cell k;
+  pending = w.pending k;
+  left = left_by w (places.owner w.place k);
+}
 
 -- between calls
 pub record Holds (v : KeyView) (place : Option Placed) (stopped : Bool) : Type 0 where
   pub posted : (x : Placed) → place ≡ Some x → x.posted ≡ true
-      → (is_change x.request v.cell ≡ true) × ((p : Pending) × (s : ℕ) × (v.pending ≡ Some p) × (p.slot ≡ Some s) × (v.left p.entry.body ≡ cell_after x.request v.cell))
-  pub pending : (p : Pending) → v.pending ≡ Some p → ((x : Placed) × (place ≡ Some x) × (x.posted ≡ true)) ⊎ ((p.slot ≡ None) × (place ≡ None) × (stopped ≡ true))
+      → (is_change x.request v.cell ≡ true) × ((p : Pending) × (s : ℕ) × (v.pending ≡ Some p)
+      × (p.slot ≡ Some s) × (v.left p.entry.body ≡ cell_after x.request v.cell))
+  pub pending : (p : Pending) → v.pending ≡ Some p
+      → ((x : Placed) × (place ≡ Some x) × (x.posted ≡ true))
+      ⊎ ((p.slot ≡ None) × (place ≡ None) × (stopped ≡ true))
 
 -- what a call does
-pub record Does (v u : KeyView) (place place' : Option Placed) (stopped stopped' : Bool) (fixed : List Fixed) : Type 0 where
+pub record Does (v u : KeyView) (place place' : Option Placed) (stopped stopped' : Bool)
+    (fixed : List Fixed) : Type 0 where
   pub lawful : IsLawfulFor v.cell false (map replied fixed)
   pub cell : cell_of v.cell (map replied fixed) ≡ u.cell
-  pub after_stop : stopped ≡ true → place ≡ None → AllByRecursion (λ y. y.reply ≡ Stopped) fixed × (place' ≡ None)
+  pub after_stop : stopped ≡ true → place ≡ None → AllByRecursion (λ y. y.reply ≡ Stopped) fixed
+      × (place' ≡ None)
   pub stops : (y : Fixed) → In y fixed → y.reply ≡ Stopped → (stopped' ≡ true) × (place' ≡ None)
   pub stays : stopped ≡ true → stopped' ≡ true
   pub posted : (y : Placed) → place ≡ Some y → y.posted ≡ true
       → ((fixed ≡ []) × (place' ≡ Some y))
-      ⊎ ((r : Reply) × (rest : List Fixed) × (fixed ≡ record { number = y.number; request = y.request; reply = r; refusal = None } ∷ rest) × ((is_finish r ≡ true) ⊎ (r ≡ Stopped)))
+      ⊎ ((r : Reply) × (rest : List Fixed) × (fixed
+      ≡ record { number = y.number; request = y.request; reply = r; refusal = None } ∷ rest)
+      × ((is_finish r ≡ true) ⊎ (r ≡ Stopped)))
   -- A change in doubt was pending before, and leaves what it left. Where it was in a slot then, it has been answered Stopped.
   pub doubt : (d : Entry) → u.pending ≡ Some (record { entry = d; slot = None })
       → (u.left d.body ≡ v.left d.body)
       × ((v.pending ≡ Some (record { entry = d; slot = None }))
-      ⊎ ((y : Placed) × (rest : List Fixed) × (s : ℕ) × (place ≡ Some y) × (y.posted ≡ true) × (v.pending ≡ Some (record { entry = d; slot = Some s }))
-      × (fixed ≡ record { number = y.number; request = y.request; reply = Stopped; refusal = None } ∷ rest)))
+      ⊎ ((y : Placed) × (rest : List Fixed) × (s : ℕ) × (place ≡ Some y) × (y.posted ≡ true)
+      × (v.pending ≡ Some (record { entry = d; slot = Some s }))
+      × (fixed ≡ record {
+        number = y.number;
+        request = y.request;
+        reply = Stopped;
+        refusal = None;
+      } ∷ rest)))
 
 -- Where the key is, with these answered requests.
-pub record KeyIs (start : Option (List ℕ)) (v : KeyView) (place : Option Placed) (stopped : Bool) (xs : List (Request × Reply)) : Type 0 where
+pub record KeyIs (start : Option (List ℕ)) (v : KeyView) (place : Option Placed) (stopped : Bool)
+    (xs : List (Request × Reply)) : Type 0 where
   pub history : History start xs
   pub cell : cell_of start xs ≡ v.cell
   pub halted : stopped_of false xs ≡ true → (stopped ≡ true) × (place ≡ None)
   pub holds : Holds v place stopped
-  pub pending : (p : Pending) → v.pending ≡ Some p → (q : Request) × (rest : List Request) × (changes_on start (xs ++ posted_in place) ≡ finished xs ++ q ∷ rest) × (v.left p.entry.body ≡ cell_after q v.cell)
+  pub pending : (p : Pending) → v.pending ≡ Some p → (q : Request) × (rest : List Request)
+      × (changes_on start (xs ++ posted_in place) ≡ finished xs ++ q ∷ rest)
+      × (v.left p.entry.body ≡ cell_after q v.cell)

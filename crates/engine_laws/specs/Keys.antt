@@ -22,7 +22,8 @@ finished xs = map (λ x. x.0) (filter (λ x. is_finish x.1) xs)
 
 -- Behind the last finished one, the first that would change the cell and wasn't refused by name.
 abbrev pub open_in : Option (List ℕ) → List (Request × Reply) → Option (Request × Reply)
-open_in c xs = find (λ x. is_change x.0 c && not (is_told x.1)) (behind_last (λ x. is_finish x.1) xs)
+open_in c xs = find (λ x. is_change x.0 c && not (is_told x.1))
+    (behind_last (λ x. is_finish x.1) xs)
 
 abbrev pub open_change : Option (List ℕ) → List (Request × Reply) → List Request
 open_change c xs = map (λ x. x.0) (option_to_list (open_in c xs))
@@ -65,24 +66,32 @@ pub record History (start : Option (List ℕ)) (xs : List (Request × Reply)) : 
 pub record KeyStands (start : Option (List ℕ)) (e : Engine) (k : ℕ) : Type 0 where
   -- its answered requests are the first ones; then come those in the worker's hands, and those in the backlog
   pub served : List Served
-  pub split : requests_of k e.given ≡ map (λ x. (x.number, x.request)) served ++ (line e k ++ requests_for k (e.backlog (owner e.layout k)))
+  pub split : requests_of k e.given ≡ map (λ x. (x.number, x.request)) served
+      ++ (line e k ++ requests_for k (e.backlog (owner e.layout k)))
   pub answers : AllByRecursion (λ x. e.answer x.number ≡ Some x.answer) served
-  pub waiting : AllByRecursion (λ x. e.answer x.0 ≡ None) (line e k ++ requests_for k (e.backlog (owner e.layout k)))
+  pub waiting : AllByRecursion (λ x. e.answer x.0 ≡ None)
+      (line e k ++ requests_for k (e.backlog (owner e.layout k)))
   pub stamps : AllByRecursion (λ x. x.answer.stamp ≤ e.region.stamp) served
   pub history : History start (pairs served)
   pub cell : cell_of start (pairs served) ≡ cell_at e k
-  pub halted : stopped_of false (pairs served) ≡ true → (e.stopped (owner e.layout k) ≡ true) × (e.place k ≡ None)
+  pub halted : stopped_of false (pairs served) ≡ true → (e.stopped (owner e.layout k) ≡ true)
+      × (e.place k ≡ None)
   pub holds : KeyHolds e k
   -- a pending change is the one behind the finished ones
-  pub pending : (p : Pending) → (group_for e k).pending k ≡ Some p → (q : Request) × (rest : List Request) × (changes_on start (pairs served ++ posted_in (e.place k)) ≡ finished (pairs served) ++ q ∷ rest)
-      × (left_by (group_for e k) (places.owner (group_for e k).place k) p.entry.body ≡ cell_after q (cell_at e k))
+  pub pending : (p : Pending) → (group_for e k).pending k ≡ Some p → (q : Request)
+      × (rest : List Request) × (changes_on start (pairs served ++ posted_in (e.place k))
+      ≡ finished (pairs served) ++ q ∷ rest)
+      × (left_by (group_for e k) (places.owner (group_for e k).place k) p.entry.body
+      ≡ cell_after q (cell_at e k))
 
 -- its changes, as far as they are known
-abbrev pub changes_at : (start : Option (List ℕ)) (e : Engine) (k : ℕ) → KeyStands start e k → List Request
+abbrev pub changes_at : (start : Option (List ℕ)) (e : Engine) (k : ℕ) → KeyStands start e k
+    → List Request
 changes_at start e k s = changes_on start (pairs s.served ++ posted_in (e.place k))
 
 -- How a key stands after a move: some more requests are answered, with the stamp after the move, and the changes have grown.
-pub record KeyGoes (start : Option (List ℕ)) (e f : Engine) (k : ℕ) (old : KeyStands start e k) : Type 0 where
+pub record KeyGoes (start : Option (List ℕ)) (e f : Engine) (k : ℕ)
+    (old : KeyStands start e k) : Type 0 where
   pub new : KeyStands start f k
   pub more : List Served
   pub served : new.served ≡ old.served ++ more

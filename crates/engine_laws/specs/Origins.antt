@@ -17,4 +17,8 @@ start_of o k = recovered (layout_of o.found) o.found k
 
 -- what a core has free at first: the chunks that the words found say are free
 abbrev pub stock_found : Origin → ℕ → Stock
-stock_found o c = record { chunks = free_chunks (layout_of o.found) o.found c; lines = 0; blocks = λ class. 0 }
+stock_found o c = record {
+  chunks = free_chunks (layout_of o.found) o.found c;
+  lines = 0;
+  blocks = λ class. 0;
+}

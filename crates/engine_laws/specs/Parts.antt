@@ -20,7 +20,8 @@ member_of l c = c % l.group
 
 -- each image of core c's part is licensed by the view of its member in this state of its group
 abbrev pub LicensedPart : Geometry → ℕ → Group → (ℕ → Cell) → Type 0
-LicensedPart l c w cells = Licensed (place_at l (group_of l c)) (member_of l c) (view_of w (member_of l c)) cells
+LicensedPart l c w cells = Licensed (place_at l (group_of l c)) (member_of l c)
+    (view_of w (member_of l c)) cells
 
 -- each part is licensed by its core's view
 abbrev pub AllLicensed : Geometry → (ℕ → Group) → (ℕ → Cell) → Type 0

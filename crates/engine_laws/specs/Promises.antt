@@ -19,27 +19,36 @@ pub record IsOrigin (o : Origin) : Type 0 where
   pub sound : IsSound o.region.frame.bytes o.found
   pub first : o.region.frame.first ≡ 0
   pub words : o.region.frame.words ≡ o.region.frame.bytes / 8
-  pub certain : IsTelling o.region → (w : ℕ) → w < o.region.frame.bytes / 8 → Surely (cell_now o.region w) (o.found w)
+  pub certain : IsTelling o.region → (w : ℕ) → w < o.region.frame.bytes / 8
+      → Surely (cell_now o.region w) (o.found w)
 
 abbrev pub HasStopped : Engine → Type 0
 HasStopped e = (c : ℕ) × (c < e.layout.cores) × (e.stopped c ≡ true)
 
 -- `more` are the requests of the trace that were not given yet.
 pub record Promised (o : Origin) (e : Engine) : Type 0 where
-  pub crash : (more : List Request) (t : ℕ) → IsTold e.region t → o.region.stamp ≤ t → (image : ℕ → ℕ) → MayLeave o.region.frame (e.region.cells t) image
-      → Recovers o.region.frame.bytes (start_of o) (e.given ++ more) (told_of e) (λ k. finished_by k (e.given ++ more) (told_of e).finishes t) image
-  pub blocks : (t : ℕ) → IsTold e.region t → o.region.stamp ≤ t → (image : ℕ → ℕ) → MayLeave o.region.frame (e.region.cells t) image → HasOwnBlocks image
+  pub crash : (more : List Request) (t : ℕ) → IsTold e.region t → o.region.stamp ≤ t
+      → (image : ℕ → ℕ) → MayLeave o.region.frame (e.region.cells t) image
+      → Recovers o.region.frame.bytes (start_of o) (e.given ++ more) (told_of e)
+      (λ k. finished_by k (e.given ++ more) (told_of e).finishes t) image
+  pub blocks : (t : ℕ) → IsTold e.region t → o.region.stamp ≤ t → (image : ℕ → ℕ)
+      → MayLeave o.region.frame (e.region.cells t) image → HasOwnBlocks image
   -- Replies that the report fits; a request without an answer counts as one that is stopped. Where all is answered, one is `Stopped` only if a core has stopped, and a core stops only if a call of the region failed.
-  pub replies : (more : List Request) → Answers (IsTelling e.region) (start_of o) (e.given ++ more) (told_of e) (AllAnswered e → more ≡ [] → HasStopped e) (replies_from e.answer 0 (length (e.given ++ more)))
+  pub replies : (more : List Request) → Answers (IsTelling e.region) (start_of o) (e.given ++ more)
+      (told_of e) (AllAnswered e → more ≡ [] → HasStopped e)
+      (replies_from e.answer 0 (length (e.given ++ more)))
   -- why requests were refused
   pub causes : Causes o e
   pub cause : HasStopped e → Rose o.region.faults e.region.faults
-  pub last : AllAnswered e → ((c : ℕ) → c < e.layout.cores → e.stopped c ≡ false) → IsTelling e.region → (image : ℕ → ℕ) → MayLeave o.region.frame (cell_now e.region) image
-      → (k : ℕ) → cells_of image k ≡ cell_after_all (changes_in (start_of o) e.given (told_of e) k) (start_of o k)
+  pub last : AllAnswered e → ((c : ℕ) → c < e.layout.cores → e.stopped c ≡ false)
+      → IsTelling e.region → (image : ℕ → ℕ) → MayLeave o.region.frame (cell_now e.region) image
+      → (k : ℕ) → cells_of image k ≡ cell_after_all (changes_in (start_of o) e.given (told_of e) k)
+      (start_of o k)
 
 -- any move that delivers its facts, whatever it answers
 abbrev pub AnyMove : Engine → ℕ → Bool → Engine → Type 0
-AnyMove e c b f = (accepted : List (ℕ × Request)) × (fixed : List Fixed) × Moves e f c accepted fixed
+AnyMove e c b f = (accepted : List (ℕ × Request)) × (fixed : List Fixed)
+    × Moves e f c accepted fixed
 
 -- what core c accepts in its next move: the first request of its backlog, where it takes one, and else none
 abbrev pub next_in : Engine → ℕ → List (ℕ × Request)

@@ -29,7 +29,8 @@ HaveCauses l last [] = Unit {0}
 HaveCauses l last (x ∷ xs) = HasCause l last x.0 x.1 × HaveCauses l (raised last x.1) xs
 
 -- What one call says of a key's replies, by what the core had free before it, and of the key's last version before and after.
-pub record Refuses (l : Geometry) (s : Stock) (last now : ℕ) (xs : List (Request × Reply)) : Type 0 where
+pub record Refuses (l : Geometry) (s : Stock) (last now : ℕ)
+    (xs : List (Request × Reply)) : Type 0 where
   pub causes : HaveCauses l last xs
   pub full : AllByRecursion (λ x. x.1 ≡ Full → LacksRoom l s x.0) xs
   pub last_now : now ≤ raised_by last xs

@@ -19,10 +19,12 @@ use Rattle.engine_laws.specs.Engine.{Engine, group_for}
 use Rattle.engine_laws.specs.Keys.{KeyStands, changes_at, finished_until, pairs}
 
 -- An image of the stamp t: it is sound, and recovers for each key the cell after the changes that were finished by then, or after one more.
-pub record ShowsPrefix (o : Origin) (e : Engine) (keys : (k : ℕ) → KeyStands (start_of o k) e k) (t : ℕ) (image : ℕ → ℕ) : Type 0 where
+pub record ShowsPrefix (o : Origin) (e : Engine) (keys : (k : ℕ) → KeyStands (start_of o k) e k)
+    (t : ℕ) (image : ℕ → ℕ) : Type 0 where
   pub sound : IsSound o.region.frame.bytes image
   pub layout : layout_of image ≡ layout_of o.found
-  pub cells : (k : ℕ) → IsPrefixCell (start_of o k) (changes_at (start_of o k) e k (keys k)) (finished_until t (keys k).served) (recovered (layout_of o.found) image k)
+  pub cells : (k : ℕ) → IsPrefixCell (start_of o k) (changes_at (start_of o k) e k (keys k))
+      (finished_until t (keys k).served) (recovered (layout_of o.found) image k)
 
 pub record Stands (o : Origin) (e : Engine) : Type 0 where
   pub sound : IsSound o.region.frame.bytes o.found
@@ -38,14 +40,19 @@ pub record Stands (o : Origin) (e : Engine) : Type 0 where
   pub keys : (k : ℕ) → KeyStands (start_of o k) e k
   pub unasked : (n : ℕ) → length e.given ≤ n → e.answer n ≡ None
   -- what a crash may have left at each told moment so far
-  pub crash : (t : ℕ) → IsTold e.region t → o.region.stamp ≤ t → (image : ℕ → ℕ) → MayLeave o.region.frame (e.region.cells t) image → ShowsPrefix o e keys t image
+  pub crash : (t : ℕ) → IsTold e.region t → o.region.stamp ≤ t → (image : ℕ → ℕ)
+      → MayLeave o.region.frame (e.region.cells t) image → ShowsPrefix o e keys t image
   -- why requests were refused, and how far the versions are
-  pub causes : (k : ℕ) → HaveCauses (layout_of o.found) (version_of o.found k) (pairs (keys k).served)
-  pub versions : (k : ℕ) → (group_for e k).last k ≤ raised_by (version_of o.found k) (pairs (keys k).served)
+  pub causes : (k : ℕ) → HaveCauses (layout_of o.found) (version_of o.found k)
+      (pairs (keys k).served)
+  pub versions : (k : ℕ) → (group_for e k).last k ≤ raised_by (version_of o.found k)
+      (pairs (keys k).served)
   pub rooms : Rooms o e
   -- who has stopped has a cause
-  pub stopped : (c : ℕ) → c < e.layout.cores → e.stopped c ≡ true → Rose o.region.faults e.region.faults
-  pub broken : (c : ℕ) → c < e.layout.cores → (e.group (group_of e.layout c)).broken (member_of e.layout c) ≡ true → e.stopped c ≡ true
+  pub stopped : (c : ℕ) → c < e.layout.cores → e.stopped c ≡ true
+      → Rose o.region.faults e.region.faults
+  pub broken : (c : ℕ) → c < e.layout.cores → (e.group (group_of e.layout c)).broken
+      (member_of e.layout c) ≡ true → e.stopped c ≡ true
 
 -- What holds at one moment, however the region came there: each group is lawful, each part licensed, and each key where its answers led it. At each told moment since the origin each image is sound and shows a prefix.
 pub record StandsNow (o : Origin) (e : Engine) : Type 0 where
@@ -58,11 +65,15 @@ pub record StandsNow (o : Origin) (e : Engine) : Type 0 where
   pub licensed : IsTelling e.region → AllLicensed e.layout e.group (cell_now e.region)
   pub keys : (k : ℕ) → KeyStands (start_of o k) e k
   pub unasked : (n : ℕ) → length e.given ≤ n → e.answer n ≡ None
-  pub crash : (t : ℕ) → IsTold e.region t → o.region.stamp ≤ t → (image : ℕ → ℕ) → MayLeave o.region.frame (e.region.cells t) image → ShowsPrefix o e keys t image
+  pub crash : (t : ℕ) → IsTold e.region t → o.region.stamp ≤ t → (image : ℕ → ℕ)
+      → MayLeave o.region.frame (e.region.cells t) image → ShowsPrefix o e keys t image
 
 -- A request is given to its owner.
 abbrev pub given_to : Engine → Request → Engine
-given_to e q = record e { given = e.given ++ q ∷ []; backlog = change e.backlog (owner e.layout (key_of q)) (λ xs. xs ++ (length e.given, q) ∷ []) }
+given_to e q = record e {
+  given = e.given ++ q ∷ [];
+  backlog = change e.backlog (owner e.layout (key_of q)) (λ xs. xs ++ (length e.given, q) ∷ []);
+}
 
 -- the first state: the groups open on what was found
 abbrev pub opening : Origin → Engine

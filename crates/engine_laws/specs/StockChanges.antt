@@ -28,14 +28,17 @@ puts_in l c None = 0
 puts_in l c (Some y) = one_if (is_put_in l c y.1)
 
 -- What is free goes from s to t where so much more was taken into batches, and this change was begun: a chunk is taken for a batch only where less than five lines are free, and one is cut only for a block of the change, where none of its class is free.
-pub record Spends (l : Geometry) (took flying took' flying' : List Entry) (s t : Stock) (begun : Option (ℕ × Request)) : Type 0 where
+pub record Spends (l : Geometry) (took flying took' flying' : List Entry) (s t : Stock)
+    (begun : Option (ℕ × Request)) : Type 0 where
   pub opened : Bool
   pub cut : Option ℕ
   pub chunks : s.chunks ≤ t.chunks + (one_if opened + one_if (is_some cut))
-  pub lines : (if opened then payload_lines l else s.lines) + (lines_in took + lines_in flying') ≤ t.lines + (lines_in took' + lines_in flying)
+  pub lines : (if opened then payload_lines l else s.lines) + (lines_in took + lines_in flying')
+      ≤ t.lines + (lines_in took' + lines_in flying)
   pub late : opened ≡ true → s.lines ≤ 4
   pub small : t.lines ≤ payload_lines l
-  pub blocks : (c : ℕ) → s.blocks c + (if is_cut_for cut c then blocks_in l c else 0) ≤ t.blocks c + puts_in l c begun
+  pub blocks : (c : ℕ) → s.blocks c + (if is_cut_for cut c then blocks_in l c else 0) ≤ t.blocks c
+      + puts_in l c begun
   pub none : (c : ℕ) → cut ≡ Some c → s.blocks c ≡ 0
   pub puts : (c : ℕ) → cut ≡ Some c → puts_in l c begun ≡ 1
   pub class : (c : ℕ) → cut ≡ Some c → is_class l c ≡ true

@@ -21,7 +21,8 @@ pub record Sits (e : Engine) (c : ℕ) (v : View) (w : Hands) : Type 0 where
   pub stock : IsAtLeast (e.stock c) w.stock
 
 -- What the engine itself sees to: the requests, the answers, and that it touches no other core.
-pub record Around (e f : Engine) (c : ℕ) (accepted : List (ℕ × Request)) (fixed : List Fixed) : Type 0 where
+pub record Around (e f : Engine) (c : ℕ) (accepted : List (ℕ × Request))
+    (fixed : List Fixed) : Type 0 where
   pub core : c < e.layout.cores
   pub layout : f.layout ≡ e.layout
   pub other_groups : (g : ℕ) → g ≢ group_of e.layout c → f.group g ≡ e.group g
@@ -29,11 +30,13 @@ pub record Around (e f : Engine) (c : ℕ) (accepted : List (ℕ × Request)) (f
   pub backlog : e.backlog c ≡ accepted ++ f.backlog c
   pub other_backlogs : (d : ℕ) → d ≢ c → f.backlog d ≡ e.backlog d
   pub own_keys : (x : ℕ × Request) → In x accepted → owner e.layout (key_of x.1) ≡ c
-  pub other_keys : (k : ℕ) → owner e.layout k ≢ c → (f.place k ≡ e.place k) × (f.waits k ≡ e.waits k)
+  pub other_keys : (k : ℕ) → owner e.layout k ≢ c → (f.place k ≡ e.place k)
+      × (f.waits k ≡ e.waits k)
   pub other_stops : (d : ℕ) → d ≢ c → f.stopped d ≡ e.stopped d
   pub other_takes : (d : ℕ) → d ≢ c → f.takes d ≡ e.takes d
   pub other_stocks : (d : ℕ) → d ≢ c → f.stock d ≡ e.stock d
-  pub new_answers : (x : Fixed) → In x fixed → f.answer x.number ≡ Some (record { reply = x.reply; stamp = f.region.stamp })
+  pub new_answers : (x : Fixed) → In x fixed → f.answer x.number
+      ≡ Some (record { reply = x.reply; stamp = f.region.stamp })
   pub old_answers : (n : ℕ) → ((x : Fixed) → In x fixed → x.number ≢ n) → f.answer n ≡ e.answer n
 
 -- a step that only loads: a look, or a try of the lock

@@ -10,7 +10,8 @@ use Rattle.group_engine.specs.declared.types.Stamped.{Stamped}
 -- the answers kept with a stamp, by number
 abbrev pub stored : List Answer → ℕ → List (Option Stamped) → List (Option Stamped)
 stored [] t ys = ys
-stored (x ∷ xs) t ys = stored xs t (slice_set ys x.number (Some (record { reply = x.reply; refusal = x.refusal; stamp = t })))
+stored (x ∷ xs) t ys = stored xs t (slice_set ys x.number
+    (Some (record { reply = x.reply; refusal = x.refusal; stamp = t })))
 
 -- what is kept of a number
 abbrev pub kept_at : List (Option Stamped) → ℕ → Option Stamped
@@ -19,9 +20,11 @@ kept_at (x ∷ xs) zero = x
 kept_at (x ∷ xs) (suc n) = kept_at xs n
 
 -- What is kept of a request is its answer in the run, with the same stamp and its cause; the reply agrees as above.
-pub record IsShown (Known : Type 0) (asked : Option Request) (a : engines.Answer) (x : Stamped) : Type 0 where
+pub record IsShown (Known : Type 0) (asked : Option Request) (a : engines.Answer)
+    (x : Stamped) : Type 0 where
   pub stamp : x.stamp ≡ a.stamp
-  pub reply : (x.reply ≡ a.reply) ⊎ ((q : Request) × (asked ≡ Some q) × (is_read q a.reply ≡ true) × (is_read q x.reply ≡ true))
+  pub reply : (x.reply ≡ a.reply) ⊎ ((q : Request) × (asked ≡ Some q) × (is_read q a.reply ≡ true)
+      × (is_read q x.reply ≡ true))
   pub known : Known → x.reply ≡ a.reply
   pub cause : IsCause a.reply x.refusal
 

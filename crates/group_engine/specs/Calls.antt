@@ -45,27 +45,38 @@ abbrev pub next_of : Bool → List (ℕ × Request) → List (ℕ × Request)
 next_of takes queue = if takes then take 1 queue else []
 
 -- One call of member m with this view that takes requests in, and makes no step, whatever state its group is in.
-pub record AcceptsAs {W : Type 0} (hands : View → W → Hands) (answers : W → List Answer) (p : Place) (m : ℕ) (s : State) (v : View) (w x : W) (accepted : List (ℕ × Request)) : Type 0 where
+pub record AcceptsAs {W : Type 0} (hands : View → W → Hands) (answers : W → List Answer) (p : Place)
+    (m : ℕ) (s : State) (v : View) (w x : W) (accepted : List (ℕ × Request)) : Type 0 where
   pub fixed : List Fixed
   pub adds : AddsAnswers (IsTelling s) (answers w) (answers x) fixed
-  pub moves : (a : Option Group) → WorkerMoves p m s s a a v v (hands v w) (hands v x) accepted fixed
+  pub moves : (a : Option Group) → WorkerMoves p m s s a a v v (hands v w)
+      (hands v x) accepted fixed
 
 -- The same whatever member it is.
-pub record Accepts {W : Type 0} (hands : View → W → Hands) (answers : W → List Answer) (stands : Place → ℕ → State → View → W → Type 0) (fair : Group → ℕ → W → Type 0) (s : State) (w x : W) (accepted : List (ℕ × Request)) : Type 0 where
-  pub tied : (p : Place) (m : ℕ) (v : View) → stands p m s v w → AreOwn p m accepted → stands p m s v x
-  pub moves : (p : Place) (m : ℕ) (v : View) → stands p m s v w → AreOwn p m accepted → AcceptsAs hands answers p m s v w x accepted
+pub record Accepts {W : Type 0} (hands : View → W → Hands) (answers : W → List Answer)
+    (stands : Place → ℕ → State → View → W → Type 0) (fair : Group → ℕ → W → Type 0) (s : State)
+    (w x : W) (accepted : List (ℕ × Request)) : Type 0 where
+  pub tied : (p : Place) (m : ℕ) (v : View) → stands p m s v w → AreOwn p m accepted
+      → stands p m s v x
+  pub moves : (p : Place) (m : ℕ) (v : View) → stands p m s v w → AreOwn p m accepted
+      → AcceptsAs hands answers p m s v w x accepted
   pub fairly : (a : Group) (m : ℕ) → fair a m w → fair a m x
 
 -- It began a request so by each view that it may be tied to.
-abbrev pub BeginsByEachView : {W : Type 0} → (Place → ℕ → State → View → W → Type 0) → (State → View → W → W → ℕ → Request → Type 0) → State → W → W → ℕ → Request → Type 0
-BeginsByEachView stands begins s w x n q = (p : Place) (m : ℕ) (v : View) → stands p m s v w → owner p (key_of q) ≡ m → begins s v w x n q
+abbrev pub BeginsByEachView : {W : Type 0} → (Place → ℕ → State → View → W → Type 0)
+    → (State → View → W → W → ℕ → Request → Type 0) → State → W → W → ℕ → Request → Type 0
+BeginsByEachView stands begins s w x n q = (p : Place) (m : ℕ) (v : View) → stands p m s v w
+    → owner p (key_of q) ≡ m → begins s v w x n q
 
 -- Where nothing moved member m leads nothing, and each of its posted changes is in a leader's hands, or waits for the lock that another has.
-pub record Rests (p : Place) (m : ℕ) (before after : Option Group) (u : View) (x : Hands) : Type 0 where
+pub record Rests (p : Place) (m : ℕ) (before after : Option Group) (u : View)
+    (x : Hands) : Type 0 where
   pub holds : u.holds ≡ false
   pub taken : (a s : ℕ) → u.taken a s ≡ None
-  pub posted : (k : ℕ) (y : Placed) → owner p k ≡ m → x.place k ≡ Some y → y.posted ≡ true → (d : Pending) (s : ℕ) → u.pending k ≡ Some d → d.slot ≡ Some s
-      → IfSome before (λ a. IfSome after (λ b. (b.slot m s ≡ Taken) ⊎ ((e : Entry) × (h : ℕ) × (b.slot m s ≡ Posted e) × (b.holder ≡ Some h))))
+  pub posted : (k : ℕ) (y : Placed) → owner p k ≡ m → x.place k ≡ Some y → y.posted ≡ true
+      → (d : Pending) (s : ℕ) → u.pending k ≡ Some d → d.slot ≡ Some s
+      → IfSome before (λ a. IfSome after (λ b. (b.slot m s ≡ Taken)
+      ⊎ ((e : Entry) × (h : ℕ) × (b.slot m s ≡ Posted e) × (b.holder ≡ Some h))))
 
 -- And it has nothing to begin, as `IsIdle` says it of a state of the engine.
 pub record HasNoMore (p : Place) (m : ℕ) (x : Hands) : Type 0 where
@@ -73,7 +84,10 @@ pub record HasNoMore (p : Place) (m : ℕ) (x : Hands) : Type 0 where
   pub waits : (k : ℕ) → owner p k ≡ m → x.place k ≡ None → x.waits k ≡ []
 
 -- One turn of member m, from view v to u; `down` where its worker winds down.
-pub record Turns {W : Type 0} (hands : View → W → Hands) (answers : W → List Answer) (stands : Place → ℕ → State → View → W → Type 0) (fair : Group → ℕ → W → Type 0) (room leads : W → Bool) (p : Place) (m : ℕ) (s t : State) (before after : Option Group) (v u : View) (w x : W) (idle down : Bool) : Type 0 where
+pub record Turns {W : Type 0} (hands : View → W → Hands) (answers : W → List Answer)
+    (stands : Place → ℕ → State → View → W → Type 0) (fair : Group → ℕ → W → Type 0)
+    (room leads : W → Bool) (p : Place) (m : ℕ) (s t : State) (before after : Option Group)
+    (v u : View) (w x : W) (idle down : Bool) : Type 0 where
   pub fixed : List Fixed
   pub adds : AddsAnswers (IsTelling t) (answers w) (answers x) fixed
   pub moves : WorkerMoves p m s t before after v u (hands v w) (hands u x) [] fixed
@@ -81,13 +95,18 @@ pub record Turns {W : Type 0} (hands : View → W → Hands) (answers : W → Li
   pub fairly : IfSome before (λ a. IsSomeAnd after (λ b. fair b m x))
   -- Where nothing moved, it made loads alone, holds what it held, and rests; one that goes on has nothing to begin, and if nothing of it is in a place, it could have been handed a request.
   pub loads : idle ≡ true → AllByRecursion IsLoad moves.steps
-  pub same : idle ≡ true → (k : ℕ) → owner p k ≡ m → ((hands u x).place k ≡ (hands v w).place k) × ((hands u x).waits k ≡ (hands v w).waits k)
+  pub same : idle ≡ true → (k : ℕ) → owner p k ≡ m → ((hands u x).place k ≡ (hands v w).place k)
+      × ((hands u x).waits k ≡ (hands v w).waits k)
   pub rests : idle ≡ true → Rests p m before after u (hands u x)
   pub no_more : idle ≡ true → down ≡ false → HasNoMore p m (hands u x)
-  pub open_for : idle ≡ true → down ≡ false → ((k : ℕ) → owner p k ≡ m → (hands u x).place k ≡ None) → is_open room leads w ≡ true
+  pub open_for : idle ≡ true → down ≡ false → ((k : ℕ) → owner p k ≡ m → (hands u x).place k ≡ None)
+      → is_open room leads w ≡ true
 
 -- A step of the engine: member m accepts the next request, or makes a turn. `rest` is what its backlog still has.
-pub record Steps {W : Type 0} (hands : View → W → Hands) (answers : W → List Answer) (stands : Place → ℕ → State → View → W → Type 0) (fair : Group → ℕ → W → Type 0) (p : Place) (m : ℕ) (s t : State) (a b : Group) (v u : View) (w x : W) (queue accepted rest : List (ℕ × Request)) (idle down : Bool) : Type 0 where
+pub record Steps {W : Type 0} (hands : View → W → Hands) (answers : W → List Answer)
+    (stands : Place → ℕ → State → View → W → Type 0) (fair : Group → ℕ → W → Type 0) (p : Place)
+    (m : ℕ) (s t : State) (a b : Group) (v u : View) (w x : W)
+    (queue accepted rest : List (ℕ × Request)) (idle down : Bool) : Type 0 where
   pub fixed : List Fixed
   pub split : queue ≡ accepted ++ rest
   pub adds : AddsAnswers (IsTelling t) (answers w) (answers x) fixed
@@ -95,14 +114,18 @@ pub record Steps {W : Type 0} (hands : View → W → Hands) (answers : W → Li
   pub tied : stands p m t u x
   pub fairly : fair b m x
   pub loads : idle ≡ true → AllByRecursion IsLoad moves.steps
-  pub same : idle ≡ true → (k : ℕ) → owner p k ≡ m → ((hands u x).place k ≡ (hands v w).place k) × ((hands u x).waits k ≡ (hands v w).waits k)
+  pub same : idle ≡ true → (k : ℕ) → owner p k ≡ m → ((hands u x).place k ≡ (hands v w).place k)
+      × ((hands u x).waits k ≡ (hands v w).waits k)
   pub rests : idle ≡ true → Rests p m (Some a) (Some b) u (hands u x)
   pub no_more : idle ≡ true → down ≡ false → HasNoMore p m (hands u x)
   pub none : idle ≡ true → accepted ≡ []
-  pub empty : idle ≡ true → down ≡ false → ((k : ℕ) → owner p k ≡ m → (hands u x).place k ≡ None) → queue ≡ []
+  pub empty : idle ≡ true → down ≡ false → ((k : ℕ) → owner p k ≡ m → (hands u x).place k ≡ None)
+      → queue ≡ []
 
 -- It winds down: it accepts nothing more, and holds, answers and stands on what it did.
-pub record WindsDown {W : Type 0} (hands : View → W → Hands) (answers : W → List Answer) (stands : Place → ℕ → State → View → W → Type 0) (fair : Group → ℕ → W → Type 0) (room leads winds : W → Bool) (w x : W) : Type 0 where
+pub record WindsDown {W : Type 0} (hands : View → W → Hands) (answers : W → List Answer)
+    (stands : Place → ℕ → State → View → W → Type 0) (fair : Group → ℕ → W → Type 0)
+    (room leads winds : W → Bool) (w x : W) : Type 0 where
   pub is : winds x ≡ true
   pub closed : is_open room leads x ≡ false
   pub given : answers x ≡ answers w
@@ -118,6 +141,9 @@ abbrev pub NoneWinds : {W : Type 0} → (W → Bool) → List W → Type 0
 NoneWinds {W} winds ws = (c : ℕ) (w : W) → slice_get ws c ≡ Some w → winds w ≡ false
 
 -- The workers below a number wind down, each as above, and the others are as they were.
-pub record EachWinds {W : Type 0} (hands : View → W → Hands) (answers : W → List Answer) (stands : Place → ℕ → State → View → W → Type 0) (fair : Group → ℕ → W → Type 0) (room leads winds : W → Bool) (upto : ℕ) (old new : List W) : Type 0 where
-  pub below : (c : ℕ) (x : W) → c < upto → slice_get new c ≡ Some x → (w : W) × (slice_get old c ≡ Some w) × WindsDown hands answers stands fair room leads winds w x
+pub record EachWinds {W : Type 0} (hands : View → W → Hands) (answers : W → List Answer)
+    (stands : Place → ℕ → State → View → W → Type 0) (fair : Group → ℕ → W → Type 0)
+    (room leads winds : W → Bool) (upto : ℕ) (old new : List W) : Type 0 where
+  pub below : (c : ℕ) (x : W) → c < upto → slice_get new c ≡ Some x → (w : W)
+      × (slice_get old c ≡ Some w) × WindsDown hands answers stands fair room leads winds w x
   pub above : (c : ℕ) → upto ≤ c → slice_get new c ≡ slice_get old c

@@ -45,13 +45,19 @@ end_by stopped (Ok x) = if stopped then ends.RegionFault else ends.Complete
 end_by stopped (Err e) = ends.Memory
 
 abbrev pub outcome_by : Report → End → Outcome
-outcome_by r end = record { replies = r.replies; finishes = r.finishes; refusals = r.refusals; end = end }
+outcome_by r end = record {
+  replies = r.replies;
+  finishes = r.finishes;
+  refusals = r.refusals;
+  end = end;
+}
 
 abbrev pub report_in : Outcome → Report
 report_in x = record { replies = x.replies; finishes = x.finishes; refusals = x.refusals }
 
 -- Lines led from a region's state and words, of which recovery gave this, to its state t, and this is the outcome, by the run's last state.
-pub record Replayed (s : State) (word : ℕ → ℕ) (r : Recovered) (lines : List Line) (t : State) (x : Outcome) : Type 0 where
+pub record Replayed (s : State) (word : ℕ → ℕ) (r : Recovered) (lines : List Line) (t : State)
+    (x : Outcome) : Type 0 where
   pub origin : Origin
   pub begins : BeginsAt s word origin
   pub last : RunState Worker
@@ -62,16 +68,19 @@ pub record Replayed (s : State) (word : ℕ → ℕ) (r : Recovered) (lines : Li
   pub given : (more : List Request) × (asked_in lines ≡ last.engine.given ++ more)
   -- The outcome is made of the answers that are kept, by number: they are the state's, and so is the report.
   pub count : length last.answers ≡ length last.engine.given
-  pub shown : (n : ℕ) → ShowsAnswer (IsTelling t) (slice_get last.engine.given n) (last.engine.answer n) (kept_at last.answers n)
+  pub shown : (n : ℕ) → ShowsAnswer (IsTelling t) (slice_get last.engine.given n)
+      (last.engine.answer n) (kept_at last.answers n)
   pub kept : IsReport last.answers (report_in x)
   pub reports : ReportsOn t origin last.engine (report_in x)
   -- With memory all lines ran, by moves of workers that were made of what recovery gave; everything is answered and nothing is under way.
   pub workers : List Worker
   pub opened : x.end ≢ ends.Memory → AreNew r.starts.items r.layout workers
-  pub ran : x.end ≢ ends.Memory → Ran CoreMoves with_request (layout_of origin.found).cores lines (first_state origin workers) last
+  pub ran : x.end ≢ ends.Memory → Ran CoreMoves with_request (layout_of origin.found).cores lines
+      (first_state origin workers) last
   pub done : x.end ≢ ends.Memory → IsDone origin last.engine
   -- Without it all cores were wound down: what was posted or taken is finished.
   pub ceased : x.end ≡ ends.Memory → HasCeased last.engine
   -- With memory a fault is told exactly where a core has stopped.
   pub fault : x.end ≡ ends.RegionFault → HasStopped last.engine
-  pub complete : x.end ≡ ends.Complete → (c : ℕ) → c < last.engine.layout.cores → last.engine.stopped c ≡ false
+  pub complete : x.end ≡ ends.Complete → (c : ℕ) → c < last.engine.layout.cores
+      → last.engine.stopped c ≡ false

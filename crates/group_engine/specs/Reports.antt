@@ -48,8 +48,10 @@ refusals_in n (x ∷ xs) = refusal_in n x ++ refusals_in (n + 1) xs
 
 pub record Adds (old new : Report) (answer : Option Stamped) : Type 0 where
   pub replies : new.replies.items ≡ old.replies.items ++ reply_in answer ∷ []
-  pub finishes : new.finishes.items ≡ old.finishes.items ++ finish_in (length old.replies.items) answer
-  pub refusals : new.refusals.items ≡ old.refusals.items ++ refusal_in (length old.replies.items) answer
+  pub finishes : new.finishes.items ≡ old.finishes.items
+      ++ finish_in (length old.replies.items) answer
+  pub refusals : new.refusals.items ≡ old.refusals.items
+      ++ refusal_in (length old.replies.items) answer
 
 pub record IsReport (answers : List (Option Stamped)) (r : Report) : Type 0 where
   pub replies : r.replies.items ≡ map reply_in answers
@@ -103,4 +105,5 @@ told_by r = told r.finishes.items r.refusals.items
 pub record ReportsOn (s : State) (o : Origin) (e : Engine) (r : Report) : Type 0 where
   pub told_is : told_by r ≡ told_of e
   pub known : IsTelling s → r.replies.items ≡ replies_of e
-  pub answers : Answers (IsTelling s) (start_of o) e.given (told_of e) (AllAnswered e → HasStopped e) r.replies.items
+  pub answers : Answers (IsTelling s) (start_of o) e.given (told_of e)
+      (AllAnswered e → HasStopped e) r.replies.items

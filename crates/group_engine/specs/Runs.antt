@@ -45,26 +45,35 @@ abbrev pub with_request : {W : Type 0} → RunState W → Request → RunState W
 with_request e q = run_state (given_to e.engine q) e.workers (e.answers ++ None ∷ [])
 
 -- The worker of member m accepts a request that it is handed: it makes no step, and the region is as it was.
-pub record TakesIn {W : Type 0} (begins : State → View → W → W → ℕ → Request → Type 0) (m : ℕ) (s t : State) (a b : Group) (w x : W) (y : ℕ × Request) (moved : Bool) : Type 0 where
+pub record TakesIn {W : Type 0} (begins : State → View → W → W → ℕ → Request → Type 0) (m : ℕ)
+    (s t : State) (a b : Group) (w x : W) (y : ℕ × Request) (moved : Bool) : Type 0 where
   pub begun : begins s (view_of a m) w x y.0 y.1
   pub moves : moved ≡ true
   pub region : t ≡ s
   pub group : b ≡ a
 
 -- It makes a turn, at a seat of that member.
-pub record TakesTurn {W : Type 0} (turned : Bool → State → Option Group → SeatAt → View → View → W → W → Type 0) (p : Place) (m : ℕ) (s : State) (a b : Group) (w x : W) (moved : Bool) : Type 0 where
+pub record TakesTurn {W : Type 0} (turned : Bool → State → Option Group → SeatAt → View → View → W
+    → W → Type 0) (p : Place) (m : ℕ) (s : State) (a b : Group) (w x : W)
+    (moved : Bool) : Type 0 where
   pub seat : SeatAt
   pub place : seat.place ≡ p
   pub number : seat.number ≡ m
   pub turn : turned moved s (Some a) seat (view_of a m) (view_of b m) w x
 
 -- what a worker does in a move, by the requests that it is handed: one, or none
-abbrev pub Does : {W : Type 0} → (State → View → W → W → ℕ → Request → Type 0) → (Bool → State → Option Group → SeatAt → View → View → W → W → Type 0) → Place → ℕ → State → State → Group → Group → W → W → List (ℕ × Request) → Bool → Type 0
+abbrev pub Does : {W : Type 0} → (State → View → W → W → ℕ → Request → Type 0)
+    → (Bool → State → Option Group → SeatAt → View → View → W → W → Type 0) → Place → ℕ → State
+    → State → Group → Group → W → W → List (ℕ × Request) → Bool → Type 0
 Does begins turned p m s t a b w x [] moved = TakesTurn turned p m s a b w x moved
 Does begins turned p m s t a b w x (y ∷ ys) moved = TakesIn begins m s t a b w x y moved
 
 -- A move of core c: its worker accepts the first request of its backlog, where it may take one and one waits, and else makes a turn. Then all its answers are given out, and kept with the region's stamp.
-pub record RunMoves {W : Type 0} (hands : View → W → Hands) (answers : W → List Answer) (stands : Place → ℕ → State → View → W → Type 0) (fair : Group → ℕ → W → Type 0) (room leads : W → Bool) (begins : State → View → W → W → ℕ → Request → Type 0) (turned : Bool → State → Option Group → SeatAt → View → View → W → W → Type 0) (alike : W → W → Type 0) (e : RunState W) (c : ℕ) (moved : Bool) (f : RunState W) : Type 0 where
+pub record RunMoves {W : Type 0} (hands : View → W → Hands) (answers : W → List Answer)
+    (stands : Place → ℕ → State → View → W → Type 0) (fair : Group → ℕ → W → Type 0)
+    (room leads : W → Bool) (begins : State → View → W → W → ℕ → Request → Type 0)
+    (turned : Bool → State → Option Group → SeatAt → View → View → W → W → Type 0)
+    (alike : W → W → Type 0) (e : RunState W) (c : ℕ) (moved : Bool) (f : RunState W) : Type 0 where
   pub turn : AnyTurn e.engine c moved f.engine
   -- the core's worker before the move, once it has moved, and once its answers are given out, in which alone it differs then
   pub old : W
@@ -72,7 +81,10 @@ pub record RunMoves {W : Type 0} (hands : View → W → Hands) (answers : W →
   pub new : W
   pub from : slice_get e.workers c ≡ Some old
   pub sits : Seat hands answers stands fair room leads e.engine c old
-  pub does : Does begins turned (place_at e.engine.layout (group_of e.engine.layout c)) (member_of e.engine.layout c) e.engine.region f.engine.region (e.engine.group (group_of e.engine.layout c)) (f.engine.group (group_of e.engine.layout c)) old mid (next_in e.engine c) moved
+  pub does : Does begins turned (place_at e.engine.layout (group_of e.engine.layout c))
+      (member_of e.engine.layout c) e.engine.region f.engine.region
+      (e.engine.group (group_of e.engine.layout c))
+      (f.engine.group (group_of e.engine.layout c)) old mid (next_in e.engine c) moved
   pub gives : alike mid new
   pub sits_on : Seat hands answers stands fair room leads f.engine c new
   pub workers : f.workers ≡ slice_set e.workers c new
@@ -80,15 +92,22 @@ pub record RunMoves {W : Type 0} (hands : View → W → Hands) (answers : W →
 
 -- a move of a core of the program
 abbrev pub CoreMoves : RunState Worker → ℕ → Bool → RunState Worker → Type 0
-CoreMoves e c moved f = RunMoves hands_of answers_of IsMember fair may_take leads BeginsRequest MakesTurn SameButAnswers e c moved f
+CoreMoves e c moved f = RunMoves hands_of answers_of IsMember fair may_take leads BeginsRequest
+    MakesTurn SameButAnswers e c moved f
 
 -- The lists of an engine show such a state: its workers and its kept answers are these.
-pub record ShowsRun {W Q : Type 0} (hands : View → W → Hands) (answers : W → List Answer) (stands : Place → ℕ → State → View → W → Type 0) (fair : Group → ℕ → W → Type 0) (room leads : W → Bool) (queue : Q → List (ℕ × Request)) (s : State) (l : Geometry) (workers : List W) (boards : List LocalBoard) (backlogs : List Q) (kept : List (Option Stamped)) (e : RunState W) : Type 0 where
-  pub shows : Shows hands answers stands fair room leads queue s l workers boards backlogs kept e.engine
+pub record ShowsRun {W Q : Type 0} (hands : View → W → Hands) (answers : W → List Answer)
+    (stands : Place → ℕ → State → View → W → Type 0) (fair : Group → ℕ → W → Type 0)
+    (room leads : W → Bool) (queue : Q → List (ℕ × Request)) (s : State) (l : Geometry)
+    (workers : List W) (boards : List LocalBoard) (backlogs : List Q) (kept : List (Option Stamped))
+    (e : RunState W) : Type 0 where
+  pub shows : Shows hands answers stands fair room leads queue s l workers boards backlogs kept
+      e.engine
   pub workers_are : e.workers ≡ workers
   pub answers_are : e.answers ≡ kept
 
 -- Each worker is as it is made of the start of its core.
 pub record AreNew (starts : List CoreStart) (layout : Geometry) (ws : List Worker) : Type 0 where
   pub count : length ws ≡ length starts
-  pub each : (c : ℕ) (w : Worker) (start : CoreStart) → slice_get ws c ≡ Some w → slice_get starts c ≡ Some start → IsNew start layout w
+  pub each : (c : ℕ) (w : Worker) (start : CoreStart) → slice_get ws c ≡ Some w
+      → slice_get starts c ≡ Some start → IsNew start layout w

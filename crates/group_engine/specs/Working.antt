@@ -51,7 +51,8 @@ turn_of moved = if moved then Moved else Idle
 
 -- A turn by the order of work. In a replay nothing holds a worker back.
 abbrev pub MakesTurn : Bool → State → Option Group → SeatAt → View → View → Worker → Worker → Type 0
-MakesTurn moved s before seat v u w x = Turned (turn_of moved) s false before seat (at_entry w v) (at_entry x u)
+MakesTurn moved s before seat v u w x = Turned (turn_of moved) s false before seat (at_entry w v)
+    (at_entry x u)
 
 -- nothing but its answers differs
 abbrev pub SameButAnswers : Worker → Worker → Type 0
@@ -60,10 +61,13 @@ SameButAnswers w x = x ≡ record w { answers = x.answers }
 -- On each words found of which the start is that of a core, in a region that certainly has them in the core's part, the worker is seated in the first state of a run.
 abbrev pub SeatsFirst : CoreStart → Geometry → Worker → Type 0
 SeatsFirst start layout w = (o : Origin) (c : ℕ) → layout ≡ layout_of o.found
-    → IsStartAt (place_at (layout_of o.found) (group_of (layout_of o.found) c)) (member_of (layout_of o.found) c) o.found start
-    → IsCertainAt o.region (place_at (layout_of o.found) (group_of (layout_of o.found) c)) (member_of (layout_of o.found) c) o.found start
+    → IsStartAt (place_at (layout_of o.found) (group_of (layout_of o.found) c))
+    (member_of (layout_of o.found) c) o.found start
+    → IsCertainAt o.region (place_at (layout_of o.found) (group_of (layout_of o.found) c))
+    (member_of (layout_of o.found) c) o.found start
     → Seat hands_of answers_of IsMember fair may_take leads (opening o) c w
 
 -- each worker is so by the start of its core
 abbrev pub SeatFirst : List CoreStart → Geometry → List Worker → Type 0
-SeatFirst starts layout ws = (c : ℕ) (w : Worker) (start : CoreStart) → slice_get ws c ≡ Some w → slice_get starts c ≡ Some start → SeatsFirst start layout w
+SeatFirst starts layout ws = (c : ℕ) (w : Worker) (start : CoreStart) → slice_get ws c ≡ Some w
+    → slice_get starts c ≡ Some start → SeatsFirst start layout w

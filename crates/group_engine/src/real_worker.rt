@@ -107,7 +107,8 @@ impl CoreWorker for Worker {
 
     ghost same = { λ w. refl };
 
-    ghost same_too = { λ w x y one two. two ∙ ap (λ (z : worker.Worker). record z { answers = y.answers }) one };
+    ghost same_too = { λ w x y one two. two ∙ ap (λ (z : worker.Worker). record z
+        { answers = y.answers }) one };
 
     ghost beside = { λ a e m n kinds w lawful runs other starts. starts };
 }

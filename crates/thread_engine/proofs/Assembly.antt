@@ -1,8 +1,8 @@
 -- A run on threads: from its supplies, the pieces of the split, what the cores gave back and the joined region to what it comes to.
-use Rattle.std.proofs.Common.{◌≡◌, ◌⊎◌, inl, inr, ℕ, zero, suc, ◌+◌, ◌-◌, ◌*◌, ◌/◌, ◌%◌, ◌<◌, ◌≤◌, Bool, true, false, List, [], ◌∷◌, ◌++◌, length, Option, Some, None, refl, sym, ◌∙◌, ap, subst, arith, nat_lt, slice_index_or, slice_index}
+use Rattle.std.proofs.Common.{◌≡◌, ℕ, ◌+◌, ◌-◌, ◌*◌, ◌/◌, ◌<◌, Bool, true, false, List, length, Option, Some, None, refl, sym, ◌∙◌, ap, subst, arith, nat_lt, slice_index_or}
 use Rattle.std.specs.List.{slice_get}
 use Rattle.std.proofs.lemmas.Bool.{ltb-true, lt-ltb}
-use Rattle.std.proofs.lemmas.Nat.{div-add-mod', div-mul-add, mod-mul-add}
+use Rattle.std.proofs.lemmas.Nat.{div-add-mod'}
 use Rattle.std.specs.Global.{Global}
 use Rattle.std.specs.declared.collections.VecDeque.{VecDeque}
 use Rattle.fs_model.specs.declared.model.Request.{Request}
@@ -37,17 +37,17 @@ use Rattle.thread_engine.specs.declared.run_apart.Supplies.{Supplies}
 use Rattle.thread_engine.specs.CoreRuns.{requests_to, HasView}
 use Rattle.thread_engine.specs.Collected.{stored_all, HaveAllPlaces, any_short, any_stopped, end_by}
 use Rattle.thread_engine.specs.RanApart.{RanApart}
-use Rattle.thread_engine.specs.Manned.{AreManned, AreTokensOf, AllEnded}
+use Rattle.thread_engine.specs.Manned.{AreTokensOf, AllEnded}
 use Rattle.thread_engine.specs.Returns.{IsCrew, AllAtWork, AllWent, Went, core_stands}
 use Rattle.thread_engine.specs.Supplied.{IsSupplied, ArePartCuts}
 use Rattle.thread_engine.proofs.Blocks.{tokens_of}
 use Rattle.thread_engine.proofs.Doubts.{one_of}
 use Rattle.thread_engine.proofs.LastState.{CoreEnd, IsEnd, ChainLaw, OpeningKeys, OpeningDoubts, RefusalLaw, MomentLaw, have_places, ran}
 use Rattle.thread_engine.proofs.Rejoining.{region_rejoined, region_superblock, next_joined}
-use Rattle.thread_engine.proofs.Places.{get_low, get_at, get_index, get_there}
+use Rattle.thread_engine.proofs.Places.{get_low, get_at, get_index}
 use Rattle.thread_engine.proofs.RunEnds.{shown_groups, shown_reached, shown_view, first_works, core_end}
 use Rattle.thread_engine.proofs.Stops.{chain_frame, chain_tells}
-use Rattle.thread_engine.proofs.Supplying.{layout_found, start_there, seat_there}
+use Rattle.thread_engine.proofs.Supplying.{start_there, seat_there}
 
 module _ {P : Type 0} (state : P → State) (refused : Bool) (s : State) (word : ℕ → ℕ) (o : Origin) (r : Recovered) (lines : List Line) (x : Supplies) (F : StandsAsFound s word r) (B : BeginsAt s word o) (S : IsSupplied o r lines x) where
   abbrev l : Geometry

@@ -1,9 +1,8 @@
 -- The requests of a core by key, and its answers by number.
-use Rattle.std.proofs.Common.{◌≡◌, ◌≢◌, inl, inr, ℕ, zero, suc, ◌+◌, ◌<◌, ◌==◌, Bool, true, false, cond, List, [], ◌∷◌, ◌++◌, map, filter, Option, Some, None, refl, sym, ◌∙◌, ap, subst, arith}
+use Rattle.std.proofs.Common.{◌≡◌, inl, inr, ℕ, zero, suc, ◌+◌, ◌<◌, ◌==◌, Bool, true, false, cond, List, [], ◌∷◌, ◌++◌, map, filter, Option, Some, None, refl, sym, ◌∙◌, ap, subst, arith}
 use Rattle.std.specs.List.{AllByRecursion, enumerate_from, find, slice_get}
 use Rattle.std.proofs.lemmas.Bool.{eqb-true, eq-eqb}
 use Rattle.fs_model.specs.declared.model.Request.{Request}
-use Rattle.fs_model.specs.declared.model.Reply.{Reply}
 use Rattle.fs_model.specs.Cells.{key_of}
 use Rattle.fs_model.specs.Changes.{requests_of}
 use Rattle.chunk_map.specs.declared.layouts.Geometry.{Geometry}
@@ -13,7 +12,7 @@ use Rattle.store_image.proofs.SoundFacts.{in_front, in_back}
 use Rattle.group_laws.proofs.Images.{in_map}
 use Rattle.engine_laws.specs.WorkerMoves.{Fixed, asked, replied, requests_for}
 use Rattle.engine_laws.specs.Keys.{Served, pairs}
-use Rattle.engine_laws.proofs.Numbers.{IsUp, all_in, in_all}
+use Rattle.engine_laws.proofs.Numbers.{IsUp, all_in}
 use Rattle.thread_engine.specs.CoreRuns.{requests_to}
 use Rattle.thread_engine.proofs.Doubts.{clash, neq}
 

@@ -1,5 +1,5 @@
 -- What is kept by number of the answers of all workers.
-use Rattle.std.proofs.Common.{◌≡◌, ◌≢◌, ◌⊎◌, inl, inr, ℕ, zero, suc, ◌<◌, ◌==◌, Bool, true, false, cond, List, [], ◌∷◌, ◌++◌, map, length, Option, Some, None, refl, sym, ◌∙◌, ap, subst, arith}
+use Rattle.std.proofs.Common.{◌≡◌, ◌≢◌, ◌⊎◌, inl, inr, ℕ, zero, suc, ◌<◌, ◌==◌, Bool, true, false, cond, List, [], ◌∷◌, map, length, Option, Some, None, refl, sym, ◌∙◌, ap, subst, arith}
 use Rattle.std.specs.Prelude.{slice_set}
 use Rattle.std.specs.List.{AllByRecursion, slice_get}
 use Rattle.std.proofs.lemmas.Bool.{cases_eq, eq-eqb}
@@ -8,7 +8,7 @@ use Rattle.fs_model.specs.Cells.{key_of}
 use Rattle.store_image.specs.Facts.{In}
 use Rattle.group_laws.proofs.Images.{in_map}
 use Rattle.engine_laws.specs.WorkerMoves.{Fixed, asked, fixed_of}
-use Rattle.engine_laws.proofs.Numbers.{IsUp, all_in, in_all, filter_in}
+use Rattle.engine_laws.proofs.Numbers.{IsUp, all_in, filter_in}
 use Rattle.core_worker.specs.declared.types.Answer.{Answer}
 use Rattle.core_worker.specs.declared.worker.Worker.{Worker}
 use Rattle.core_worker.specs.Answering.{IsGiven, AreGiven}

@@ -1,12 +1,11 @@
 -- The state in which a run on threads ends, made of what each core has then.
-use Rattle.std.proofs.Common.{◌≡◌, ◌≢◌, ◌⊎◌, inl, inr, ℕ, zero, suc, ◌+◌, ◌*◌, ◌/◌, ◌≤◌, ◌<◌, ◌==◌, Bool, true, false, cond, List, [], ◌∷◌, ◌++◌, map, length, Option, Some, None, refl, sym, ◌∙◌, ap, subst, arith, append-nil, append_assoc}
+use Rattle.std.proofs.Common.{◌≡◌, ◌≢◌, ◌⊎◌, inl, inr, ℕ, zero, suc, ◌+◌, ◌*◌, ◌≤◌, ◌<◌, ◌==◌, Bool, true, false, List, [], ◌∷◌, ◌++◌, map, length, Option, Some, None, refl, sym, ◌∙◌, ap, subst, arith, append-nil, append_assoc}
 use Rattle.std.proofs.lemmas.Bool.{cases_eq, eq-eqb, eqb-true}
 use Rattle.std.proofs.lemmas.Option.{slice_get_within}
 use Rattle.std.proofs.lemmas.Nat.{div-mul-add, mod-mul-add}
 use Rattle.std.specs.List.{AllByRecursion, slice_get, enumerate_from}
 use Rattle.std.proofs.lemmas.List.Elements.{filter-append}
 use Rattle.fs_model.specs.declared.model.Request.{Request}
-use Rattle.fs_model.specs.declared.model.Reply.{Reply}
 use Rattle.fs_model.specs.Cells.{key_of}
 use Rattle.fs_model.specs.Lawful.{cell_of, stopped_of}
 use Rattle.fs_model.specs.Changes.{requests_of}
@@ -24,7 +23,6 @@ use Rattle.store_image.proofs.SoundFacts.{in_front, in_back}
 use Rattle.store_image.proofs.SoundLaws.{has_layout}
 use Rattle.recover.specs.declared.types.CoreStart.{CoreStart}
 use Rattle.recover.specs.declared.types.Recovered.{Recovered}
-use Rattle.group_laws.specs.declared.types.Pending.{Pending}
 use Rattle.group_laws.specs.declared.types.Block.{Block}
 use Rattle.group_laws.specs.declared.types.Slot.{Slot}
 use Rattle.group_laws.specs.declared.types.Slot.TheVariants.{Empty, Posted, Taken, Done, Failed}
@@ -39,7 +37,6 @@ use Rattle.group_laws.specs.MemberViews.{View, view_of}
 use Rattle.group_laws.proofs.Images.{in_map, of_map}
 use Rattle.group_board.specs.Seats.{SeatAt}
 use Rattle.group_board.specs.Views.{left_in}
-use Rattle.engine_laws.specs.FreeStock.{Stock}
 use Rattle.licence.specs.Licence.{Licensed}
 use Rattle.engine_laws.specs.Parts.{Groups, AllLicensed, HasSuperblock, group_of, member_of}
 use Rattle.engine_laws.specs.Idle.{IsDrained}
@@ -51,7 +48,7 @@ use Rattle.engine_laws.specs.WorkerMoves.{Placed, placed, Hands, Fixed, asked, r
 use Rattle.engine_laws.specs.Engine as engines
 use Rattle.engine_laws.specs.Engine.{Engine, group_for, line}
 use Rattle.engine_laws.specs.Keys.{Served, pairs, posted_in, finished, changes_on, History, KeyStands}
-use Rattle.engine_laws.specs.KeyLaw.{KeyView, KeyIs, key_view, key_in}
+use Rattle.engine_laws.specs.KeyLaw.{KeyIs, key_view, key_in}
 use Rattle.engine_laws.specs.Origins.{Origin, start_of}
 use Rattle.engine_laws.specs.Promises.{IsOrigin, HasStopped, Promised, IsDone}
 use Rattle.engine_laws.specs.Stands.{StandsNow, opening}

@@ -1,8 +1,7 @@
 -- One more table, with tokens for its members.
-use Rattle.std.proofs.Common.{◌≡◌, inl, inr, ℕ, ◌+◌, ◌*◌, ◌<◌, List, [], ◌∷◌, ◌++◌, length, length-append, Some, refl, sym, ◌∙◌, ap, subst, arith}
+use Rattle.std.proofs.Common.{◌≡◌, inl, inr, ℕ, ◌+◌, ◌*◌, ◌<◌, List, [], ◌∷◌, ◌++◌, length, length-append, Some, sym, ◌∙◌, ap, arith}
 use Rattle.std.specs.List.{slice_get}
 use Rattle.chunk_map.specs.Layouts.{layout_of}
-use Rattle.group_laws.specs.Places as places
 use Rattle.group_laws.specs.State.{Group}
 use Rattle.group_laws.specs.Regions.{place_at}
 use Rattle.group_laws.specs.MemberViews.{view_of}
@@ -11,7 +10,6 @@ use Rattle.atomic_board.specs.declared.group_table.GroupTable.{GroupTable}
 use Rattle.atomic_board.specs.declared.token.SeatToken.{SeatToken}
 use Rattle.atomic_board.specs.Deeds.{began}
 use Rattle.atomic_board.specs.GroupTables.{id_of, origin_of, group_place}
-use Rattle.atomic_board.specs.MemberSeats.{seat_of, view_at}
 use Rattle.atomic_board.specs.Tokens.{member_at}
 use Rattle.thread_engine.specs.Manned.{IsManned, AreManned}
 use Rattle.thread_engine.proofs.Places.{get_more, get_low, get_front, get_behind, as_elem, in_block}

@@ -1,5 +1,5 @@
 -- A region that was split at the parts and joined again.
-use Rattle.std.proofs.Common.{◌≡◌, inl, inr, ℕ, ◌+◌, ◌*◌, ◌/◌, ◌%◌, ◌<◌, ◌≤◌, List, length, Some, false, true, cond, IsTrue, refl, sym, ◌∙◌, ap, subst, arith}
+use Rattle.std.proofs.Common.{◌≡◌, inl, ℕ, ◌+◌, ◌*◌, ◌/◌, ◌%◌, ◌<◌, ◌≤◌, List, length, Some, false, cond, IsTrue, sym, ◌∙◌, ap, subst, arith}
 use Rattle.std.specs.List.{slice_get, slice_index, slice_index_or}
 use Rattle.std.proofs.lemmas.Bool.{le-leb}
 use Rattle.pm_region.specs.Cell.{Cell}

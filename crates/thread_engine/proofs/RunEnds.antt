@@ -1,6 +1,6 @@
 -- Each core at the end of a run, by what was supplied, what the split gave, what came back, and the tables as they were closed.
-use Rattle.std.proofs.Common.{◌≡◌, ◌≢◌, inl, inr, ℕ, zero, suc, ◌+◌, ◌*◌, ◌/◌, ◌<◌, ◌≤◌, ◌==◌, Bool, List, [], ◌∷◌, ◌++◌, map, length, Option, Some, None, refl, sym, ◌∙◌, ap, subst, arith}
-use Rattle.std.specs.List.{AllByRecursion, slice_get, slice_index, enumerate_from}
+use Rattle.std.proofs.Common.{◌≡◌, ℕ, zero, suc, ◌+◌, ◌*◌, ◌<◌, ◌==◌, Bool, List, [], ◌∷◌, length, Some, refl, sym, ◌∙◌, ap, subst, arith}
+use Rattle.std.specs.List.{slice_get, enumerate_from}
 use Rattle.std.specs.Global.{Global}
 use Rattle.std.specs.declared.collections.VecDeque.{VecDeque}
 use Rattle.std.proofs.lemmas.Bool.{eqb-true}
@@ -28,8 +28,8 @@ use Rattle.atomic_board.specs.Deeds.{began, place_of}
 use Rattle.atomic_board.specs.GroupTables.{origin_of, id_of}
 use Rattle.atomic_board.specs.ShownState.{state_shown, views_of}
 use Rattle.atomic_board.specs.MemberSeats.{seat_of, view_at}
-use Rattle.atomic_board.specs.Tokens.{Ended, member_at}
-use Rattle.engine_laws.specs.Parts.{Groups, group_of, member_of}
+use Rattle.atomic_board.specs.Tokens.{member_at}
+use Rattle.engine_laws.specs.Parts.{group_of, member_of}
 use Rattle.engine_laws.specs.Origins.{Origin}
 use Rattle.engine_laws.specs.Stands.{opening}
 use Rattle.engine_laws.specs.Workers.{Sits}
@@ -44,15 +44,14 @@ use Rattle.group_engine.specs.Calls.{AreOwn}
 use Rattle.group_engine.specs.Shows.{Seat}
 use Rattle.group_engine.specs.Working.{IsMember, may_take, leads}
 use Rattle.thread_engine.specs.declared.muster.Crew.{Crew}
-use Rattle.thread_engine.specs.declared.muster.Returned.{Returned}
 use Rattle.thread_engine.specs.WorkStates.{IsAtWork}
 use Rattle.thread_engine.specs.Pieces.{IsPieceOf}
 use Rattle.thread_engine.specs.CoreRuns.{HasView, requests_to}
 use Rattle.thread_engine.specs.Manned.{AreManned, AllEnded}
-use Rattle.thread_engine.specs.Returns.{core_stands, AllAtWork, AllWent, Went}
+use Rattle.thread_engine.specs.Returns.{core_stands, Went}
 use Rattle.thread_engine.specs.Supplied.{ArePartCuts}
 use Rattle.thread_engine.proofs.PieceStands.{piece_member}
-use Rattle.thread_engine.proofs.Places.{get_low, get_at, get_front, get_behind, as_elem}
+use Rattle.thread_engine.proofs.Places.{get_at, get_front, get_behind, as_elem}
 use Rattle.thread_engine.proofs.LastState.{CoreEnd, IsEnd}
 
 -- the groups' states as the closed tables show them, and another one behind them

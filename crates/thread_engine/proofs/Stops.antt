@@ -1,13 +1,13 @@
 -- Why a core has stopped: a call of its piece failed, or an own change is in doubt and it has nothing in flight.
 use Rattle.std.proofs.Common.{◌≡◌, ◌≢◌, ◌⊎◌, inl, inr, ℕ, ◌≤◌, ◌<◌, Bool, true, false, cond, List, [], ◌∷◌, Option, Some, None, Result, Ok, Err, refl, sym, ◌∙◌, ap, subst, arith}
-use Rattle.std.specs.Prelude.{eqb, MatchOption, IfSome}
-use Rattle.std.proofs.lemmas.Bool.{cases_lt, eqb-true, eq-eqb}
+use Rattle.std.specs.Prelude.{MatchOption}
+use Rattle.std.proofs.lemmas.Bool.{cases_lt}
 use Rattle.fs_errors.specs.declared.Memory.{Memory}
 use Rattle.pm_region.specs.Cell.{Cell}
 use Rattle.pm_region.specs.State.{State, Frame, IsTold, During, Rose}
 use Rattle.log_entry.specs.declared.entry.Entry.{Entry}
 use Rattle.group_laws.specs.declared.types.Pending.{Pending}
-use Rattle.group_laws.specs.Places.{Place, owner}
+use Rattle.group_laws.specs.Places.{Place}
 use Rattle.group_laws.specs.Updates.{put}
 use Rattle.group_laws.specs.State.{Group}
 use Rattle.group_laws.specs.MemberViews.{View}
@@ -24,10 +24,10 @@ use Rattle.core_worker.specs.Ties.{Holds, LeadsAt, LeadsNothing}
 use Rattle.core_worker.specs.Turning.{Did, TurnedTo, at_entry}
 use Rattle.core_worker.specs.Turning.Did.{goes_round, withdraws, writes, marks, fails, finishes, posts, loses_block, drops, locks}
 use Rattle.core_worker.specs.Turns.{PersistsOrLoses}
-use Rattle.thread_engine.specs.WorkStates.{WorkState, IsAtWork, Accepts, MakesTurn, Move, wound_down, Leads, Works, HasEnded}
+use Rattle.thread_engine.specs.WorkStates.{WorkState, IsAtWork, Accepts, MakesTurn, Move, Leads, Works, HasEnded}
 use Rattle.thread_engine.specs.WorkStates.Move.{accepts, turns, winds_down}
 use Rattle.thread_engine.specs.WorkLaws.{in_doubt, HasRested}
-use Rattle.thread_engine.proofs.Doubts.{none_some, clash, doubt_stops, entry_is, slot_is, one_of, neq}
+use Rattle.thread_engine.proofs.Doubts.{none_some, clash, doubt_stops, slot_is, neq}
 use Rattle.thread_engine.proofs.Rested.{has_rested}
 
 -- a view in which the key's pending change was put

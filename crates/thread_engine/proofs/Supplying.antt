@@ -1,5 +1,5 @@
 -- What a region that stands as recovery found it gives the cores of a run: their starts, and workers that are seated.
-use Rattle.std.proofs.Common.{◌≡◌, ℕ, ◌+◌, ◌/◌, ◌^◌, ◌<◌, List, length, Some, sym, ap, subst, arith}
+use Rattle.std.proofs.Common.{◌≡◌, ℕ, ◌+◌, ◌^◌, ◌<◌, List, length, Some, sym, subst, arith}
 use Rattle.std.specs.List.{slice_get, slice_index_or}
 use Rattle.pm_region.specs.State.{State, IsTelling, InRange, cell_now}
 use Rattle.pm_region.specs.Words.{Surely}

@@ -1,5 +1,5 @@
 -- What the jobs did, by what they were made of and what they gave back.
-use Rattle.std.proofs.Common.{◌≡◌, ℕ, zero, suc, ◌<◌, List, [], ◌∷◌, ◌++◌, map, length, take, Bool, Option, Some, refl, sym, ◌∙◌, ap, subst, arith, slice_index_or}
+use Rattle.std.proofs.Common.{◌≡◌, ℕ, zero, suc, ◌<◌, List, [], ◌∷◌, ◌++◌, length, take, Bool, Some, refl, sym, ◌∙◌, ap, subst, arith, slice_index_or}
 use Rattle.std.specs.List.{slice_get}
 use Rattle.std.specs.Global.{Global}
 use Rattle.std.specs.declared.collections.VecDeque.{VecDeque}
@@ -15,7 +15,7 @@ use Rattle.atomic_board.specs.MemberSeats.{seat_of, view_at}
 use Rattle.thread_engine.specs.declared.core_job.CoreJob.{CoreJob}
 use Rattle.thread_engine.specs.declared.muster.Crew.{Crew}
 use Rattle.thread_engine.specs.declared.muster.Returned.{Returned}
-use Rattle.thread_engine.specs.WorkStates.{WorkState, IsAtWork, Works, HasEnded, GoesOn, stands_at}
+use Rattle.thread_engine.specs.WorkStates.{IsAtWork, Works, HasEnded, GoesOn, stands_at}
 use Rattle.thread_engine.specs.Returns.{AreMade, Gave, AllAtWork, AllWent, Went, core_stands}
 use Rattle.thread_engine.proofs.Doubts.{one_of}
 use Rattle.thread_engine.proofs.Places.{get_low, get_index, get_there, get_map, map_get, map_long}

@@ -26,4 +26,5 @@ any_stopped ws = list_any (λ w. w.stopped) ws
 
 -- how a run ended, by whether a worker winds down and whether one has stopped
 abbrev pub end_by : Bool → Bool → End
-end_by short stopped = if short then ends.Memory else (if stopped then ends.RegionFault else ends.Complete)
+end_by short stopped = if short then ends.Memory else
+    (if stopped then ends.RegionFault else ends.Complete)

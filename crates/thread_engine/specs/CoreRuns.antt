@@ -1,5 +1,5 @@
 -- A run on threads, core by core: each core's chain of moves, and the state in which all of them end.
-use Rattle.std.specs.Prelude.{◌≡◌, ℕ, ◌<◌, ◌==◌, List, [], ◌∷◌, ◌++◌, filter, Bool, Option, Some, None}
+use Rattle.std.specs.Prelude.{◌≡◌, ℕ, ◌<◌, ◌==◌, List, [], ◌∷◌, ◌++◌, filter, Bool, Some}
 use Rattle.std.specs.List.{slice_get, enumerate_from}
 use Rattle.fs_model.specs.declared.model.Request.{Request}
 use Rattle.fs_model.specs.Cells.{key_of}
@@ -33,17 +33,20 @@ abbrev pub requests_to : Geometry → ℕ → List Request → List (ℕ × Requ
 requests_to l c trace = filter (λ x. owner l (key_of x.1) == c) (enumerate_from 0 trace)
 
 -- what one move fixed
-abbrev pub fixed_by : {seat : SeatAt} {refused : Bool} {a b : WorkState} → Move seat refused a b → List Fixed
+abbrev pub fixed_by : {seat : SeatAt} {refused : Bool} {a b : WorkState} → Move seat refused a b
+    → List Fixed
 fixed_by (accepts A) = A.call.fixed
 fixed_by (turns T) = T.moves.fixed
 fixed_by (winds_down e) = []
 
 -- what the moves of a chain fixed, in order
-abbrev pub fixed_along : (seat : SeatAt) (refused : Bool) (a : WorkState) (path : List WorkState) (b : WorkState) → Leads seat refused a path b → List Fixed
+abbrev pub fixed_along : (seat : SeatAt) (refused : Bool) (a : WorkState) (path : List WorkState)
+    (b : WorkState) → Leads seat refused a path b → List Fixed
 fixed_along seat refused a [] b l = []
 fixed_along seat refused a (x ∷ xs) b l = fixed_by l.0 ++ fixed_along seat refused x xs b l.2
 
-abbrev pub fixed_in : (seat : SeatAt) (refused : Bool) (a b : WorkState) → Works seat refused a b → List Fixed
+abbrev pub fixed_in : (seat : SeatAt) (refused : Bool) (a b : WorkState) → Works seat refused a b
+    → List Fixed
 fixed_in seat refused a b w = fixed_along seat refused a w.path b w.leads
 
 -- The state of a group has what member m has by this view, of its own keys and of its log and blocks.
@@ -88,16 +91,20 @@ pub record CoreRun (o : Origin) (r : Recovered) (refused : Bool) (e : Engine) (c
   pub stock : e.stock c ≡ (hands_at last).stock
   pub backlog : e.backlog c ≡ last.queue
   pub joined : TakesPiece e.region last.region
-  pub answers : (y : Fixed) → In y (fixed_in seat refused first last works) → e.answer y.number ≡ Some (record { reply = y.reply; stamp = e.region.stamp })
+  pub answers : (y : Fixed) → In y (fixed_in seat refused first last works)
+      → e.answer y.number ≡ Some (record { reply = y.reply; stamp = e.region.stamp })
 
 -- what the core fixed in its run
-abbrev pub fixed_at : {o : Origin} {r : Recovered} {refused : Bool} {e : Engine} {c : ℕ} → CoreRun o r refused e c → List Fixed
+abbrev pub fixed_at : {o : Origin} {r : Recovered} {refused : Bool} {e : Engine} {c : ℕ}
+    → CoreRun o r refused e c → List Fixed
 fixed_at {o} {r} {refused} x = fixed_in x.seat refused x.first x.last x.works
 
 -- All cores ran to their ends. Each group's state is lawful, and steps of the group machine lead to it from the one that it opened on; each answer is one that a core fixed.
 pub record AllRan (o : Origin) (r : Recovered) (refused : Bool) (e : Engine) : Type 0 where
   pub layout : e.layout ≡ layout_of o.found
   pub groups : Groups e.layout e.group
-  pub reached : (g : ℕ) → g < groups_in e.layout → (steps : List (ℕ × Kind)) × Runs (opened (place_at e.layout g) o.found) steps (e.group g)
+  pub reached : (g : ℕ) → g < groups_in e.layout → (steps : List (ℕ × Kind))
+      × Runs (opened (place_at e.layout g) o.found) steps (e.group g)
   pub cores : (c : ℕ) → c < e.layout.cores → CoreRun o r refused e c
-  pub fixed : (n : ℕ) (a : Answer) → e.answer n ≡ Some a → (c : ℕ) × (low : c < e.layout.cores) × (y : Fixed) × In y (fixed_at (cores c low)) × (y.number ≡ n) × (y.reply ≡ a.reply)
+  pub fixed : (n : ℕ) (a : Answer) → e.answer n ≡ Some a → (c : ℕ) × (low : c < e.layout.cores)
+      × (y : Fixed) × In y (fixed_at (cores c low)) × (y.number ≡ n) × (y.reply ≡ a.reply)

@@ -19,6 +19,7 @@ AreBlank xs = AllByRecursion (λ x. x ≡ None) xs
 -- each core has the requests of its keys, and each request has a place for its answer
 pub record AreDealt (cores : ℕ) (trace : List Request) (x : Dealt) : Type 0 where
   pub count : length x.queues.items ≡ cores
-  pub dealt : (c : ℕ) (q : VecDeque (ℕ × Request) Global) → slice_get x.queues.items c ≡ Some q → q.items ≡ dealt_to cores c trace
+  pub dealt : (c : ℕ) (q : VecDeque (ℕ × Request) Global) → slice_get x.queues.items c ≡ Some q
+      → q.items ≡ dealt_to cores c trace
   pub places : length x.answers.items ≡ length trace
   pub blank : AreBlank x.answers.items

@@ -25,15 +25,23 @@ pub record IsManned (t : GroupTable) (old new : List SeatToken) : Type 0 where
 -- Each table is of its group, as it opens on this image; the tokens are those of its members, with the views that they have then.
 pub record AreManned (image : ℕ → ℕ) (ts : List GroupTable) (tokens : List SeatToken) : Type 0 where
   pub count : length tokens ≡ length ts * (layout_of image).group
-  pub sizes : (g : ℕ) (t : GroupTable) → slice_get ts g ≡ Some t → t.members ≡ (layout_of image).group
-  pub opened_on : (g : ℕ) (t : GroupTable) → slice_get ts g ≡ Some t → began (origin_of t) ≡ opened (place_at (layout_of image) g) image
-  pub seats : (g m : ℕ) (t : GroupTable) (x : SeatToken) → slice_get ts g ≡ Some t → m < (layout_of image).group → slice_get tokens (g * (layout_of image).group + m) ≡ Some x → seat_of x.own ≡ member_at (id_of t) (place_at (layout_of image) g) m
-  pub views : (g m : ℕ) (t : GroupTable) (x : SeatToken) → slice_get ts g ≡ Some t → m < (layout_of image).group → slice_get tokens (g * (layout_of image).group + m) ≡ Some x → view_at x.own ≡ view_of (opened (place_at (layout_of image) g) image) m
+  pub sizes : (g : ℕ) (t : GroupTable) → slice_get ts g ≡ Some t
+      → t.members ≡ (layout_of image).group
+  pub opened_on : (g : ℕ) (t : GroupTable) → slice_get ts g ≡ Some t
+      → began (origin_of t) ≡ opened (place_at (layout_of image) g) image
+  pub seats : (g m : ℕ) (t : GroupTable) (x : SeatToken) → slice_get ts g ≡ Some t
+      → m < (layout_of image).group → slice_get tokens (g * (layout_of image).group + m) ≡ Some x
+      → seat_of x.own ≡ member_at (id_of t) (place_at (layout_of image) g) m
+  pub views : (g m : ℕ) (t : GroupTable) (x : SeatToken) → slice_get ts g ≡ Some t
+      → m < (layout_of image).group → slice_get tokens (g * (layout_of image).group + m) ≡ Some x
+      → view_at x.own ≡ view_of (opened (place_at (layout_of image) g) image) m
 
 -- the tokens of each table, one table's after another's
 abbrev pub AreTokensOf : ℕ → List GroupTable → List SeatToken → Type 0
 AreTokensOf members [] tokens = tokens ≡ []
-AreTokensOf members (t ∷ ts) tokens = (own : List SeatToken) × (rest : List SeatToken) × (tokens ≡ own ++ rest) × (t.members ≡ members) × (length own ≡ members) × AreTokens (id_of t) (group_place t) own × AreTokensOf members ts rest
+AreTokensOf members (t ∷ ts) tokens = (own : List SeatToken) × (rest : List SeatToken)
+    × (tokens ≡ own ++ rest) × (t.members ≡ members) × (length own ≡ members)
+    × AreTokens (id_of t) (group_place t) own × AreTokensOf members ts rest
 
 -- so many lists with nothing in them, each with room for so many tokens
 pub record AreHands (members count : ℕ) (hands : List (Vec SeatToken Global)) : Type 0 where
@@ -43,4 +51,5 @@ pub record AreHands (members count : ℕ) (hands : List (Vec SeatToken Global)) 
 -- Each table was closed with its members' tokens, which stand one table's after another's.
 abbrev pub AllEnded : List GroupTable → List SeatToken → Type 0
 AllEnded [] tokens = Unit {0}
-AllEnded (t ∷ ts) tokens = (own : List SeatToken) × (rest : List SeatToken) × (tokens ≡ own ++ rest) × (length own ≡ t.members) × (words : List ℕ) × Ended (origin_of t) own words × AllEnded ts rest
+AllEnded (t ∷ ts) tokens = (own : List SeatToken) × (rest : List SeatToken) × (tokens ≡ own ++ rest)
+    × (length own ≡ t.members) × (words : List ℕ) × Ended (origin_of t) own words × AllEnded ts rest

@@ -41,13 +41,19 @@ abbrev pub stamped : ℕ → Answer → Stamped
 stamped t a = record { reply = a.reply; refusal = a.refusal; stamp = t }
 
 -- What is kept by number are the answers that the cores' workers gave, each with the region's last stamp.
-pub record KeepsAnswers (o : Origin) (r : Recovered) (refused : Bool) (e : Engine) (cores : (c : ℕ) → c < e.layout.cores → CoreRun o r refused e c) (kept : List (Option Stamped)) : Type 0 where
+pub record KeepsAnswers (o : Origin) (r : Recovered) (refused : Bool) (e : Engine)
+    (cores : (c : ℕ) → c < e.layout.cores → CoreRun o r refused e c)
+    (kept : List (Option Stamped)) : Type 0 where
   pub count : length kept ≡ length e.given
-  pub all : (c : ℕ) (low : c < e.layout.cores) (a : Answer) → In a (answers_of (cores c low).last.worker) → kept_at kept a.number ≡ Some (stamped e.region.stamp a)
-  pub only : (n : ℕ) (y : Stamped) → kept_at kept n ≡ Some y → (c : ℕ) × (low : c < e.layout.cores) × (a : Answer) × In a (answers_of (cores c low).last.worker) × (a.number ≡ n)
+  pub all : (c : ℕ) (low : c < e.layout.cores) (a : Answer)
+      → In a (answers_of (cores c low).last.worker)
+      → kept_at kept a.number ≡ Some (stamped e.region.stamp a)
+  pub only : (n : ℕ) (y : Stamped) → kept_at kept n ≡ Some y → (c : ℕ) × (low : c < e.layout.cores)
+      × (a : Answer) × In a (answers_of (cores c low).last.worker) × (a.number ≡ n)
 
 -- A run of lines on a region, one worker for each core and each in a thread of its own, led from the region's state and words to its state t, and this is the outcome. `refused` says whether the gate may hold posts back.
-pub record RanApart (s : State) (word : ℕ → ℕ) (refused : Bool) (r : Recovered) (lines : List Line) (t : State) (x : Outcome) : Type 0 where
+pub record RanApart (s : State) (word : ℕ → ℕ) (refused : Bool) (r : Recovered) (lines : List Line)
+    (t : State) (x : Outcome) : Type 0 where
   pub origin : Origin
   pub last : Engine
   pub begins : BeginsAt s word origin
@@ -57,8 +63,10 @@ pub record RanApart (s : State) (word : ℕ → ℕ) (refused : Bool) (r : Recov
   pub given : last.given ≡ asked_in lines
   pub ran : AllRan origin r refused last
   -- where each piece told to its end, the region goes on telling by the stamp after the latest of theirs
-  pub next : IsTelling s → ((c : ℕ) (low : c < last.layout.cores) → TellsFrom s (ran.cores c low).last.region)
-      → (latest : ℕ) → s.stamp ≤ latest → ((c : ℕ) (low : c < last.layout.cores) → (ran.cores c low).last.region.stamp ≤ latest) → t.stamp ≤ counted latest
+  pub next : IsTelling s → ((c : ℕ) (low : c < last.layout.cores)
+      → TellsFrom s (ran.cores c low).last.region)
+      → (latest : ℕ) → s.stamp ≤ latest → ((c : ℕ) (low : c < last.layout.cores)
+      → (ran.cores c low).last.region.stamp ≤ latest) → t.stamp ≤ counted latest
   -- each image of a part is licensed by its core's view
   pub licensed : IsTelling t → AllLicensed last.layout last.group (cell_now t)
   pub superblock : IsTelling t → HasSuperblock origin.found (cell_now t)

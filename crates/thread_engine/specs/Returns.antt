@@ -23,7 +23,8 @@ pub record IsCrew (tables : List GroupTable) (group count : ℕ) (x : Crew) : Ty
   pub queues : length x.queues.items ≡ count
   pub some_ : 0 < group
   pub within : (c : ℕ) → c < count → c / group < length tables
-  pub seats : (c : ℕ) (t : SeatToken) (b : GroupTable) → slice_get x.tokens.items c ≡ Some t → slice_get tables (c / group) ≡ Some b → (seat_of t.own).table ≡ id_of b
+  pub seats : (c : ℕ) (t : SeatToken) (b : GroupTable) → slice_get x.tokens.items c ≡ Some t
+      → slice_get tables (c / group) ≡ Some b → (seat_of t.own).table ≡ id_of b
 
 -- nothing is in it, and there is room for what so many cores give back
 pub record HasRoomOf {P : Type 0} (cores : ℕ) (x : Returned P) : Type 0 where
@@ -32,7 +33,8 @@ pub record HasRoomOf {P : Type 0} (cores : ℕ) (x : Returned P) : Type 0 where
   pub workers : (x.workers.items ≡ []) × (cores ≤ vec_capacity x.workers)
 
 -- the jobs are made of these, core by core
-pub record AreMade {P : Type 0} (pieces : List P) (x : Crew) (jobs : List (CoreJob CoreSeat P)) : Type 0 where
+pub record AreMade {P : Type 0} (pieces : List P) (x : Crew)
+    (jobs : List (CoreJob CoreSeat P)) : Type 0 where
   pub pieces_are : map (λ j. j.piece) jobs ≡ pieces
   pub workers : map (λ j. j.worker) jobs ≡ x.workers.items
   pub queues : map (λ j. j.queue) jobs ≡ x.queues.items
@@ -45,29 +47,38 @@ pub record Gave {P : Type 0} (jobs : List (CoreJob CoreSeat P)) (x : Returned P)
   pub seats : map (λ t. t.own) x.tokens.items ≡ map (λ j. j.seat.own) jobs
 
 -- where a core stands, by what it has
-abbrev pub core_stands : {P : Type 0} → (P → State) → P → SeatToken → Worker → List (ℕ × Request) → WorkState
+abbrev pub core_stands : {P : Type 0} → (P → State) → P → SeatToken → Worker → List (ℕ × Request)
+    → WorkState
 core_stands state p t w q = record { region = state p; view = view_at t.own; worker = w; queue = q }
 
 -- each core is at work
 abbrev pub AllAtWork : {P : Type 0} → (P → State) → List P → Crew → Type 0
-AllAtWork {P} state pieces x = (c : ℕ) (p : P) (t : SeatToken) (w : Worker) (q : VecDeque (ℕ × Request) Global)
-    → slice_get pieces c ≡ Some p → slice_get x.tokens.items c ≡ Some t → slice_get x.workers.items c ≡ Some w → slice_get x.queues.items c ≡ Some q
+AllAtWork {P} state pieces x = (c : ℕ) (p : P) (t : SeatToken) (w : Worker)
+    (q : VecDeque (ℕ × Request) Global)
+    → slice_get pieces c ≡ Some p → slice_get x.tokens.items c ≡ Some t
+    → slice_get x.workers.items c ≡ Some w → slice_get x.queues.items c ≡ Some q
     → IsAtWork (seat_of t.own) (core_stands state p t w q.items)
 
 -- A core worked to its end.
-pub record Went {P : Type 0} (state : P → State) (refused : Bool) (p : P) (t : SeatToken) (w : Worker) (queue : List (ℕ × Request)) (q : P) (u : SeatToken) (x : Worker) : Type 0 where
+pub record Went {P : Type 0} (state : P → State) (refused : Bool) (p : P) (t : SeatToken)
+    (w : Worker) (queue : List (ℕ × Request)) (q : P) (u : SeatToken) (x : Worker) : Type 0 where
   pub seat : seat_of u.own ≡ seat_of t.own
   pub left : List (ℕ × Request)
   pub work : IsAtWork (seat_of t.own) (core_stands state q u x left)
-  pub works : Works (seat_of t.own) refused (core_stands state p t w queue) (core_stands state q u x left)
+  pub works : Works (seat_of t.own) refused (core_stands state p t w queue)
+      (core_stands state q u x left)
   pub ended : HasEnded (core_stands state q u x left)
 
 -- All did, and gave back what they have.
-pub record AllWent {P : Type 0} (state : P → State) (refused : Bool) (pieces : List P) (crew : Crew) (x : Returned P) : Type 0 where
+pub record AllWent {P : Type 0} (state : P → State) (refused : Bool) (pieces : List P) (crew : Crew)
+    (x : Returned P) : Type 0 where
   pub pieces_count : length x.pieces.items ≡ length pieces
   pub tokens_count : length x.tokens.items ≡ length pieces
   pub workers_count : length x.workers.items ≡ length pieces
-  pub each : (c : ℕ) (p : P) (t : SeatToken) (w : Worker) (k : VecDeque (ℕ × Request) Global) (q : P) (u : SeatToken) (y : Worker)
-      → slice_get pieces c ≡ Some p → slice_get crew.tokens.items c ≡ Some t → slice_get crew.workers.items c ≡ Some w → slice_get crew.queues.items c ≡ Some k
-      → slice_get x.pieces.items c ≡ Some q → slice_get x.tokens.items c ≡ Some u → slice_get x.workers.items c ≡ Some y
+  pub each : (c : ℕ) (p : P) (t : SeatToken) (w : Worker) (k : VecDeque (ℕ × Request) Global)
+      (q : P) (u : SeatToken) (y : Worker)
+      → slice_get pieces c ≡ Some p → slice_get crew.tokens.items c ≡ Some t
+      → slice_get crew.workers.items c ≡ Some w → slice_get crew.queues.items c ≡ Some k
+      → slice_get x.pieces.items c ≡ Some q → slice_get x.tokens.items c ≡ Some u
+      → slice_get x.workers.items c ≡ Some y
       → Went state refused p t w k.items q u y

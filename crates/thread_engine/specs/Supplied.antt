@@ -33,7 +33,8 @@ pub record IsSupplied (o : Origin) (r : Recovered) (lines : List Line) (x : Supp
   pub workers : AreNew r.starts.items r.layout x.crew.workers.items
   pub seated : SeatFirst r.starts.items r.layout x.crew.workers.items
   pub queue_count : length x.crew.queues.items ≡ x.layout.cores
-  pub queues : (c : ℕ) (q : VecDeque (ℕ × Request) Global) → slice_get x.crew.queues.items c ≡ Some q → q.items ≡ requests_to x.layout c (asked_in lines)
+  pub queues : (c : ℕ) (q : VecDeque (ℕ × Request) Global)
+      → slice_get x.crew.queues.items c ≡ Some q → q.items ≡ requests_to x.layout c (asked_in lines)
   pub places : length x.answers.items ≡ length (asked_in lines)
   pub blank : AreBlank x.answers.items
   pub report : IsBlank x.report

@@ -26,13 +26,15 @@ in_doubt d = record { entry = d; slot = None }
 
 -- the block that a body points to holds a value of the key
 abbrev pub HasBlock : View → ℕ → Body → Type 0
-HasBlock v k (bodies.Pointer q) = (bytes : List ℕ) × (v.blocks q ≡ Some (record { key = k; bytes = bytes }))
+HasBlock v k (bodies.Pointer q) = (bytes : List ℕ)
+    × (v.blocks q ≡ Some (record { key = k; bytes = bytes }))
 HasBlock v k (bodies.Embedded u) = Unit {0}
 HasBlock v k bodies.Tombstone = Unit {0}
 
 -- each own change in doubt has its block
 abbrev pub KeepsDoubts : SeatAt → View → Type 0
-KeepsDoubts seat v = (k : ℕ) (d : Entry) → owner seat.place k ≡ seat.number → v.pending k ≡ Some (in_doubt d) → HasBlock v k d.body
+KeepsDoubts seat v = (k : ℕ) (d : Entry) → owner seat.place k ≡ seat.number
+    → v.pending k ≡ Some (in_doubt d) → HasBlock v k d.body
 
 -- what its worker holds
 abbrev pub hands_at : WorkState → Hands
@@ -45,10 +47,14 @@ pub record WorksOff (seat : SeatAt) (a b : WorkState) : Type 0 where
   pub split : a.queue ≡ accepted ++ b.queue
   pub answers : AddsAnswers (IsTelling b.region) (answers_of a.worker) (answers_of b.worker) fixed
   pub own : (y : Fixed) → In y fixed → owner seat.place (key_of y.request) ≡ seat.number
-  pub order : (k : ℕ) → owner seat.place k ≡ seat.number → line_in (hands_at a) k ++ requests_for k accepted ≡ map asked (fixed_of k fixed) ++ line_in (hands_at b) k
-  pub keys : (start : Option (List ℕ)) (k : ℕ) (xs : List (Request × Reply)) → owner seat.place k ≡ seat.number
+  pub order : (k : ℕ) → owner seat.place k ≡ seat.number
+      → line_in (hands_at a) k ++ requests_for k accepted ≡ map asked (fixed_of k fixed)
+      ++ line_in (hands_at b) k
+  pub keys : (start : Option (List ℕ)) (k : ℕ) (xs : List (Request × Reply))
+      → owner seat.place k ≡ seat.number
       → KeyIs start (key_view a.view k) ((hands_at a).place k) a.worker.stopped xs
-      → KeyIs start (key_view b.view k) ((hands_at b).place k) b.worker.stopped (xs ++ map replied (fixed_of k fixed))
+      → KeyIs start (key_view b.view k) ((hands_at b).place k) b.worker.stopped
+      (xs ++ map replied (fixed_of k fixed))
   pub told : IsTelling b.region → IsTelling a.region
 
 -- A core that has ended leads nothing and has taken nothing, and nothing is in flight but after a fault. Each image of its part is licensed by its view. Until it winds down nothing of an own key is under way.
@@ -58,7 +64,8 @@ pub record HasRested (seat : SeatAt) (x : WorkState) : Type 0 where
   pub flying : x.view.broken ≡ false → x.view.flying ≡ []
   pub licensed : IsTelling x.region → Licensed seat.place seat.number x.view (cell_now x.region)
   pub broken : x.view.broken ≡ true → x.worker.stopped ≡ true
-  pub slots : (k s : ℕ) (e : Entry) → x.view.pending k ≡ Some (record { entry = e; slot = Some s }) → ⊥
+  pub slots : (k s : ℕ) (e : Entry) → x.view.pending k ≡ Some (record { entry = e; slot = Some s })
+      → ⊥
   pub places : x.worker.winds_down ≡ false → (k : ℕ) → (hands_at x).place k ≡ None
   pub waits : x.worker.winds_down ≡ false → (k : ℕ) → (hands_at x).waits k ≡ []
   pub queue : x.worker.winds_down ≡ false → x.queue ≡ []

@@ -26,7 +26,12 @@ pub record WorkState : Type 0 where
 
 -- where a core's job stands
 abbrev pub stands_at : {B P : Type 0} → (B → View) → (P → State) → CoreJob B P → WorkState
-stands_at view state x = record { region = state x.piece; view = view x.seat; worker = x.worker; queue = x.queue.items }
+stands_at view state x = record {
+  region = state x.piece;
+  view = view x.seat;
+  worker = x.worker;
+  queue = x.queue.items;
+}
 
 -- with one more request, before those that wait
 abbrev pub with_next : ℕ × Request → WorkState → WorkState
@@ -51,7 +56,8 @@ pub record Accepts (seat : SeatAt) (a b : WorkState) : Type 0 where
   pub either : ((accepted ≡ next ∷ []) × (b.queue ≡ rest)) ⊎ ((accepted ≡ []) × (b.queue ≡ a.queue))
   pub region : b.region ≡ a.region
   pub view : b.view ≡ a.view
-  pub call : AcceptsAs hands_of answers_of seat.place seat.number a.region a.view a.worker b.worker accepted
+  pub call : AcceptsAs hands_of answers_of seat.place seat.number a.region a.view a.worker b.worker
+      accepted
 
 -- The worker makes a turn, since it may not be handed a request, or none waits.
 pub record MakesTurn (seat : SeatAt) (refused : Bool) (a b : WorkState) : Type 0 where
@@ -61,7 +67,8 @@ pub record MakesTurn (seat : SeatAt) (refused : Bool) (a b : WorkState) : Type 0
   pub after : Option Group
   pub result : Result Turn Memory
   pub moves : TurnMoves seat a.region b.region before after a.view b.view a.worker b.worker
-  pub turned : TurnedTo result a.region refused before seat (at_entry a.worker a.view) (at_entry b.worker b.view)
+  pub turned : TurnedTo result a.region refused before seat (at_entry a.worker a.view)
+      (at_entry b.worker b.view)
 
 -- it is told to wind down
 abbrev pub wound_down : WorkState → WorkState
@@ -76,7 +83,8 @@ pub data Move (seat : SeatAt) (refused : Bool) (a b : WorkState) : Type 0 where
 -- Moves lead from a state over these to another, and the core is at work in each of them.
 abbrev pub Leads : SeatAt → Bool → WorkState → List WorkState → WorkState → Type 0
 Leads seat refused a [] b = b ≡ a
-Leads seat refused a (x ∷ xs) b = Move seat refused a x × IsAtWork seat x × Leads seat refused x xs b
+Leads seat refused a (x ∷ xs) b = Move seat refused a x × IsAtWork seat x
+    × Leads seat refused x xs b
 
 -- a chain of moves
 pub record Works (seat : SeatAt) (refused : Bool) (a b : WorkState) : Type 0 where
@@ -91,7 +99,8 @@ pub record HasEnded (x : WorkState) : Type 0 where
   pub queue : x.worker.winds_down ≡ false → x.queue ≡ []
 
 -- A job so far: its seat is where it was, its core is at work, and a chain of moves led it here.
-pub record GoesOn {B P : Type 0} (seat : B → SeatAt) (view : B → View) (state : P → State) (refused : Bool) (old new : CoreJob B P) : Type 0 where
+pub record GoesOn {B P : Type 0} (seat : B → SeatAt) (view : B → View) (state : P → State)
+    (refused : Bool) (old new : CoreJob B P) : Type 0 where
   pub seat_is : seat new.seat ≡ seat old.seat
   pub work : IsAtWork (seat old.seat) (stands_at view state new)
   pub works : Works (seat old.seat) refused (stands_at view state old) (stands_at view state new)

@@ -1,4 +1,4 @@
-use Rattle.std.proofs.Common.{rules, ◌≡◌, ◌+◌, ◌/◌, ◌<◌, [], ◌∷◌, ◌++◌, map, length, Some, refl, sym, ◌∙◌, ap, append_assoc, append-nil, arith}
+use Rattle.std.proofs.Common.{rules, ◌≡◌, ◌/◌, [], ◌∷◌, ◌++◌, map, length, Some, sym, ◌∙◌, ap, append_assoc, append-nil, arith}
 use Rattle.std.specs.Prelude.{vec_len}
 use Rattle.std.specs.List.{slice_get}
 use Rattle.std.proofs.lemmas.List.{nil_from_length}

@@ -1,4 +1,4 @@
-use Rattle.std.proofs.Common.{◌≡◌, ℕ, ◌-◌, ◌<◌, ◌≤◌, List, length, slice_index_or, Result, Ok, Err, refl, sym, ◌∙◌, ap, subst, arith}
+use Rattle.std.proofs.Common.{◌≡◌, ℕ, ◌-◌, ◌<◌, List, length, slice_index_or, Ok, Err, sym, ◌∙◌, ap, subst, arith}
 use Rattle.pm_region.specs.State.{State}
 use Rattle.pm_region.specs.Split.{AreCuts, IsPiece, Parted, Joined, Refuses}
 use Rattle.pm_region.specs.declared.split.AttachError.{AttachError}

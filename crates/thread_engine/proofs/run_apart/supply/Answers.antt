@@ -1,4 +1,4 @@
-use Rattle.std.proofs.Common.{◌≡◌, ◌/◌, ◌<◌, length, sym, ◌∙◌, ap, subst, arith}
+use Rattle.std.proofs.Common.{◌/◌, sym, ◌∙◌, ap, subst, arith}
 use Rattle.chunk_map.specs.declared.layouts.Geometry.{Geometry}
 use Rattle.chunk_map.proofs.LayoutLaws.{numbers_of}
 use Rattle.engine_laws.specs.Ran.{asked_in}

@@ -1,7 +1,6 @@
 use Rattle.std.proofs.Common.{◌<◌, ◌∙◌, refl, sym, subst}
 use Rattle.chunk_map.specs.declared.layouts.Geometry.{Geometry}
 use Rattle.chunk_map.specs.Layouts.{layout_of}
-use Rattle.engine_laws.specs.Engine.{Engine}
 use Rattle.engine_laws.specs.Stands.{opening, given_to}
 use Rattle.engine_laws.specs.Promises.{AnyTurn}
 use Rattle.engine_laws.specs.Ran.{Ran}
@@ -9,7 +8,7 @@ use Rattle.engine_laws.proofs.Begins.{opens}
 use Rattle.engine_laws.proofs.Ceasing.{ceased}
 use Rattle.engine_laws.proofs.Kept.{done, promised}
 use Rattle.engine_laws.proofs.Ran.{ran_seen}
-use Rattle.group_engine.specs.Runs.{RunState, RunMoves, first_state, with_request}
+use Rattle.group_engine.specs.Runs.{RunMoves, first_state, with_request}
 use Rattle.group_engine.proofs.Kept.{ok_then, err_then}
 use Rattle.group_engine.proofs.Running.{shows_first}
 use Rattle.group_engine.proofs.engine.Engine.replay.Goals as goal
