@@ -52,13 +52,15 @@ pub fn flatstore_alone<T: Threads, S: Source, O: Sink, R: SplitRegion + ReadRegi
     // What is dumped are the cells that the words of the region recover.
     ensures dump { (path : List ℕ) → alone_form_of (words_of words.now.items) ≡ Some (Dump path)
         → Dumps (R.state region.old) (R.state region.new) (R.found region.old)
-        (O.taken sink.old) (O.taken sink.new) (O.flushed sink.new) (O.fault_count sink.old) (O.fault_count sink.new) result
+        (O.taken sink.old) (O.taken sink.new) (O.flushed sink.new)
+        (O.fault_count sink.old) (O.fault_count sink.new) result
         × (source.new ≡ source.old) }
 
     // What is logged are the entries that the words of the region spell.
     ensures log { (path : List ℕ) → alone_form_of (words_of words.now.items) ≡ Some (Log path)
         → Logs (R.state region.old) (R.state region.new) (R.found region.old)
-        (O.taken sink.old) (O.taken sink.new) (O.flushed sink.new) (O.fault_count sink.old) (O.fault_count sink.new) result
+        (O.taken sink.old) (O.taken sink.new) (O.flushed sink.new)
+        (O.fault_count sink.old) (O.fault_count sink.new) result
         × (source.new ≡ source.old) }
 
     // The headline.
@@ -69,8 +71,10 @@ pub fn flatstore_alone<T: Threads, S: Source, O: Sink, R: SplitRegion + ReadRegi
         → result.attached ≡ true
         → (input : List ℕ) × (cores : ℕ) × IsInput (S.coming source.old) input
         × Replays (R.state region.old) (R.state region.new) (R.found region.old)
-        (S.coming source.old) (S.coming source.new) (S.fault_count source.old) (S.fault_count source.new) cores input
-        (O.taken sink.old) (O.taken sink.new) (O.flushed sink.new) (O.fault_count sink.old) (O.fault_count sink.new) result }
+        (S.coming source.old) (S.coming source.new)
+        (S.fault_count source.old) (S.fault_count source.new) cores input
+        (O.taken sink.old) (O.taken sink.new) (O.flushed sink.new)
+        (O.fault_count sink.old) (O.fault_count sink.new) result }
 
     // A fault comes only where its count rose.
     ensures source_fault { result.status ≡ statuses.SourceFault

@@ -66,7 +66,8 @@ pub fn prepared<S: Source, R: SplitRegion + ReadRegion>(
     ensures ready { IfOk result (λ x. IsReady (R.state region.now) (R.word region.now)
         (S.coming source.old) (S.coming source.new) x.0 x.1) }
     ensures refused { IfErr result (IsRefused (R.state region.now)
-        (S.coming source.old) (S.coming source.new) (S.fault_count source.old) (S.fault_count source.new)) }
+        (S.coming source.old) (S.coming source.new)
+        (S.fault_count source.old) (S.fault_count source.new)) }
     // A region that breaks a rule goes before the source.
     ensures unread { IfErr result (λ status. is_of_region status ≡ true → source.new ≡ source.old) }
 {
@@ -92,7 +93,8 @@ pub fn replay<S: Source, R: SplitRegion + ReadRegion>(
         (R.state region.new)
         (S.coming source.old) (S.coming source.new)) }
     ensures refused { IfErr result (IsRefused (R.state region.old)
-        (S.coming source.old) (S.coming source.new) (S.fault_count source.old) (S.fault_count source.new)) }
+        (S.coming source.old) (S.coming source.new)
+        (S.fault_count source.old) (S.fault_count source.new)) }
     ensures untouched { OnErr result (region.new ≡ region.old) }
     // A region that breaks a rule goes before the source.
     ensures unread { IfErr result (λ status. is_of_region status ≡ true → source.new ≡ source.old) }

@@ -85,7 +85,8 @@ fn run_cores<T: Threads + Wait + Sync, S: Source, R: SplitRegion + ReadRegion, G
         (R.state region.new) (S.coming source.old) (S.coming source.new)) }
     ensures refused { IfErr result (IsNotRun (R.state region.old) (R.word region.old)
         (R.state region.new)
-        (S.coming source.old) (S.coming source.new) (S.fault_count source.old) (S.fault_count source.new)) }
+        (S.coming source.old) (S.coming source.new)
+        (S.fault_count source.old) (S.fault_count source.new)) }
     ensures opens { IsNotOpened (R.state region.old) (R.state region.new) }
     // A region that breaks a rule goes before the source.
     ensures unread { IfErr result (λ why. is_of_region (status_for why) ≡ true
@@ -111,9 +112,11 @@ pub fn run_region<
     ensures run { result.attached ≡ true → (input : List ℕ) × (cores : ℕ)
         × IsInput (S.coming source.old) input
         × RunsOnThreads (R.state region.old) (R.state region.new) (R.found region.old)
-        (S.coming source.old) (S.coming source.new) (S.fault_count source.old) (S.fault_count source.new)
+        (S.coming source.old) (S.coming source.new)
+        (S.fault_count source.old) (S.fault_count source.new)
         (G.may_refuse gate.now) cores input
-        (O.taken sink.old) (O.taken sink.new) (O.flushed sink.new) (O.fault_count sink.old) (O.fault_count sink.new) result }
+        (O.taken sink.old) (O.taken sink.new) (O.flushed sink.new)
+        (O.fault_count sink.old) (O.fault_count sink.new) result }
     ensures source_fault { result.status ≡ statuses.SourceFault
         → Rose (S.fault_count source.old) (S.fault_count source.new) }
     ensures sink_fault { result.status ≡ statuses.SinkFault
