@@ -14,7 +14,7 @@ use Rattle.core_worker.specs.Status.{is_leading, is_pending}
 use Rattle.core_worker.specs.Turning.{TurnMoves, TurnedTo, at_entry}
 use Rattle.core_worker.specs.WorkerMoves.{hands_of}
 use Rattle.group_engine.specs.Calls.{AreOwn, AcceptsAs, is_open}
-use Rattle.group_engine.specs.Working.{IsMember, may_take, leads}
+use Rattle.group_engine.specs.Working.{IsMember, may_take, leads, BeginsRequest}
 use Rattle.thread_engine.specs.declared.core_job.CoreJob.{CoreJob}
 
 -- Its piece of the region, its view, its worker, and the requests that the worker has not accepted yet.
@@ -58,6 +58,9 @@ pub record Accepts (seat : SeatAt) (a b : WorkState) : Type 0 where
   pub view : b.view ≡ a.view
   pub call : AcceptsAs hands_of answers_of seat.place seat.number a.region a.view a.worker b.worker
       accepted
+  -- what it accepts it begins or holds, by its own order: refused exactly for its causes, with its counts
+  pub begins : accepted ≡ next ∷ []
+      → BeginsRequest a.region a.view a.worker b.worker next.0 next.1
 
 -- The worker makes a turn, since it may not be handed a request, or none waits.
 pub record MakesTurn (seat : SeatAt) (refused : Bool) (a b : WorkState) : Type 0 where

@@ -24,6 +24,7 @@ returns-in-Ok-clause-accepts g c =
       region = refl;
       view = refl;
       call = c.in-Ok.ensures.accepted.moves seat.place seat.number (g.B.Board.view c.args.self.now.seat) c.requires.work.member (c.requires.own, tt);
+      begins = λ is. c.in-Ok.ensures.begins seat.place seat.number (g.B.Board.view c.args.self.now.seat) c.requires.work.member c.requires.own;
     }
 
 pub returns-in-Err-clause-work : goal.returns-in-Err-clause-work
@@ -51,4 +52,5 @@ returns-in-Err-clause-accepts g c =
       region = refl;
       view = refl;
       call = e.1.moves seat.place seat.number (g.B.Board.view c.args.self.now.seat) c.requires.work.member tt;
+      begins = λ is. absurd (cc is);
     }
