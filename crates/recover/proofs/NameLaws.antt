@@ -54,7 +54,7 @@ same_rank v u = elim (ltb v u) as (λ b. ltb v u ≡ b → (not (is_lt (cond b L
 ] refl
 
 -- and neither name
-same_name_rank : (k v j u : ℕ) → (not (is_lt (name_cmp (k, v) (j, u))) && not (is_lt (name_cmp (j, u) (k, v)))) ≡ (j == k && u == v)
+pub same_name_rank : (k v j u : ℕ) → (not (is_lt (name_cmp (k, v) (j, u))) && not (is_lt (name_cmp (j, u) (k, v)))) ≡ (j == k && u == v)
 same_name_rank k v j u = elim (ltb k j) as (λ b. ltb k j ≡ b → (not (is_lt (ordering_then (cond b Less (cond (k == j) Equal Greater)) (nat_cmp v u))) && not (is_lt (name_cmp (j, u) (k, v)))) ≡ (j == k && u == v)) [
   | true ↦ λ e. (let h = ltb-true k j e in rw (ne_eqb j k (λ p. omega (arith, h, p))) refl)
   | false ↦ λ e. elim (k == j) as (λ b. (k == j) ≡ b → (not (is_lt (ordering_then (cond b Equal Greater) (nat_cmp v u))) && not (is_lt (name_cmp (j, u) (k, v)))) ≡ (j == k && u == v)) [
@@ -91,7 +91,7 @@ find_front p (x ∷ xs) = elim (p x) as (λ b. cond b (Some x) (find p xs) ≡ f
   | false ↦ find_front p xs
 ]
 
-in_filter : {X : Type 0} (p : X → Bool) (xs : List X) (x : X) → In x xs → p x ≡ true → In x (filter p xs)
+pub in_filter : {X : Type 0} (p : X → Bool) (xs : List X) (x : X) → In x xs → p x ≡ true → In x (filter p xs)
 in_filter p [] x h is = absurd h
 in_filter p (y ∷ ys) x (inl e) is = rw (sym (ap p e) ∙ is) (inl e)
 in_filter p (y ∷ ys) x (inr h) is = elim (p y) as (λ b. In x (cond b (y ∷ filter p ys) (filter p ys))) [
@@ -99,7 +99,7 @@ in_filter p (y ∷ ys) x (inr h) is = elim (p y) as (λ b. In x (cond b (y ∷ f
   | false ↦ in_filter p ys x h is
 ]
 
-filter_in : {X : Type 0} (p : X → Bool) (xs : List X) (x : X) → In x (filter p xs) → In x xs
+pub filter_in : {X : Type 0} (p : X → Bool) (xs : List X) (x : X) → In x (filter p xs) → In x xs
 filter_in p [] x h = h
 filter_in p (y ∷ ys) x h = elim (p y) as (λ b. In x (cond b (y ∷ filter p ys) (filter p ys)) → In x (y ∷ ys)) [
   | true ↦ kept (filter_in p ys x)
@@ -184,11 +184,11 @@ key_in k es x h key = by_winner (winner_in k es) refl where
   by_winner None none = absurd (winner_some k es x h key none)
   by_winner (Some y) won = winner_key k es y won
 
-all_of : {X : Type 0} (P : X → Type 0) (xs : List X) → ((x : X) → In x xs → P x) → AllByRecursion P xs
+pub all_of : {X : Type 0} (P : X → Type 0) (xs : List X) → ((x : X) → In x xs → P x) → AllByRecursion P xs
 all_of P [] each = tt
 all_of P (x ∷ xs) each = (each x (inl refl), all_of P xs (λ y h. each y (inr h)))
 
-one_of : {X : Type 0} (P : X → Type 0) (xs : List X) (x : X) → AllByRecursion P xs → In x xs → P x
+pub one_of : {X : Type 0} (P : X → Type 0) (xs : List X) (x : X) → AllByRecursion P xs → In x xs → P x
 one_of P [] x all h = absurd h
 one_of P (y ∷ ys) x all (inl e) = subst P (sym e) all.0
 one_of P (y ∷ ys) x all (inr h) = one_of P ys x all.1 h

@@ -1,5 +1,5 @@
 -- Entries by their names and the words at which they begin.
-use Rattle.std.specs.Prelude.{◌≡◌, ℕ, ◌+◌, ◌-◌, ◌/◌, ◌%◌, ◌≤◌, ◌==◌, ◌&&◌, Bool, List, map, filter, length, Result, Ok, Err, Vec}
+use Rattle.std.specs.Prelude.{◌≡◌, ℕ, ◌+◌, ◌-◌, ◌/◌, ◌%◌, ◌<◌, ◌≤◌, ◌==◌, ◌&&◌, Bool, List, map, filter, length, Result, Ok, Err, Vec}
 use Rattle.std.specs.Global.{Global}
 use Rattle.std.specs.List.{AllByRecursion}
 use Rattle.std.specs.List.Sorted.{IsSortedByKey}
@@ -69,6 +69,10 @@ is_found k v f = f.key == k && f.version == v
 pub record AreByName (es xs : List Found) : Type 0 where
   pub same : (k v : ℕ) → filter (is_found k v) xs ≡ filter (is_found k v) es
   pub rising : AreInOrder xs
+
+-- each begins in front of this place
+abbrev pub LieBelow : ℕ → List (ℕ × Entry) → Type 0
+LieBelow n xs = AllByRecursion (λ x. x.0 < n) xs
 
 -- how an entry is found that stands at a place of a payload, which begins at this word
 abbrev pub found_in : ℕ → ℕ × Entry → Found
