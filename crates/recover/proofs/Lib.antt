@@ -3,6 +3,8 @@ pub mod WinningLaws
 pub mod ClashLaws
 pub mod NameLaws
 pub mod FoundEntryLaws
+pub mod StandsLaws
+pub mod ReadBackLaws
 pub mod TakenLaws
 pub mod RegionLaws
 pub mod GatherLaws
