@@ -5,6 +5,7 @@ pub mod NameLaws
 pub mod FoundEntryLaws
 pub mod StandsLaws
 pub mod ReadBackLaws
+pub mod RunLaws
 pub mod TakenLaws
 pub mod RegionLaws
 pub mod GatherLaws
