@@ -6,6 +6,7 @@ pub mod FoundEntryLaws
 pub mod SortLaws
 pub mod StandsLaws
 pub mod ReadBackLaws
+pub mod WordOrderLaws
 pub mod RunLaws
 pub mod TakenLaws
 pub mod RegionLaws

@@ -31,11 +31,11 @@ use Rattle.recover.proofs.RegionLaws.{payload_lies}
 use Rattle.recover.proofs.StandsLaws.{body_there}
 
 -- what holds of each, and what follows of each
-all_implies : {X : Type 0} (P Q : X → Type 0) → ((x : X) → P x → Q x) → (xs : List X) → AllByRecursion P xs → AllByRecursion Q xs
+pub all_implies : {X : Type 0} (P Q : X → Type 0) → ((x : X) → P x → Q x) → (xs : List X) → AllByRecursion P xs → AllByRecursion Q xs
 all_implies P Q f [] all = tt
 all_implies P Q f (x ∷ xs) all = (f x all.0, all_implies P Q f xs all.1)
 
-all_append : {X : Type 0} (P : X → Type 0) (xs ys : List X) → AllByRecursion P xs → AllByRecursion P ys → AllByRecursion P (xs ++ ys)
+pub all_append : {X : Type 0} (P : X → Type 0) (xs ys : List X) → AllByRecursion P xs → AllByRecursion P ys → AllByRecursion P (xs ++ ys)
 all_append P [] ys a b = b
 all_append P (x ∷ xs) ys a b = (a.0, all_append P xs ys a.1 b)
 
@@ -76,7 +76,7 @@ log_by l t tail class false true c false fits is = absurd (cc is)
 log_by l t tail class false false true d fits is = absurd (cc is)
 log_by l t tail class false false false d fits is = absurd (cc is)
 
-tail_fits : (l : Geometry) (image : ℕ → ℕ) (at tail : ℕ) → head_at l image at ≡ Ok (Log tail) → tail ≤ payload_words l
+pub tail_fits : (l : Geometry) (image : ℕ → ℕ) (at tail : ℕ) → head_at l image at ≡ Ok (Log tail) → tail ≤ payload_words l
 tail_fits l image at tail is = log_by l (image (at + 1)) tail (image at / 256) (image at == 0) (image at == 1) (image at % 256 == 2 && is_class l (image at / 256)) (image (at + 1) % 8 == 0 && nat_le (image (at + 1)) (payload_words l)) refl is
 
 -- an entry is where it was found, and is what the image has there
