@@ -2,7 +2,6 @@
 ghost use Rattle.std.specs.Prelude.{◌≡◌, ℕ, ◌<◌, ◌++◌, ◌∷◌, [], List, length, Some, true, false, OnOk, OnErr};
 ghost use Rattle.std.specs.List.{slice_get};
 ghost use Rattle.group_laws.specs.MemberViews.{View};
-ghost use Rattle.fs_model.specs.Cells.{key_of};
 ghost use Rattle.group_engine.specs.Calls.{AllWind, NoneWinds, EachWinds};
 ghost use Rattle.group_engine.specs.Reports.{IsBlank, HasRoomFor};
 
@@ -35,16 +34,6 @@ pub struct Engine<W> {
     pub report: Report,
     ghost blank: { IsBlank report },
     ghost room: { HasRoomFor (length answers.items) report },
-}
-
-fn key_in(request: &Request) -> u64
-    ensures { result ≡ key_of request.now }
-{
-    match request {
-        Request::Put { key, .. } => *key,
-        Request::Get { key } => *key,
-        Request::Delete { key } => *key,
-    }
 }
 
 // Puts a request behind those of a backlog.
@@ -123,7 +112,7 @@ impl<W: CoreWorker> Cores for Engine<W> {
         self.report.reserve(count + 1)?;
         self.answers.reserve(1)?;
         let number = count as u64;
-        let owner = (key_in(&request) % self.layout.cores as u64) as usize;
+        let owner = (request.key() % self.layout.cores as u64) as usize;
         append(&mut self.backlogs[owner], number, request)?;
         self.answers.push(None)?;
         Ok(())
