@@ -1,10 +1,11 @@
 // The engine: what it keeps, and one move of it.
-ghost use Rattle.std.specs.Prelude.{◌≡◌, ℕ, ◌<◌, ◌++◌, ◌∷◌, [], List, length, Some, true, false, OnOk, OnErr};
+ghost use Rattle.std.specs.Prelude.{◌≡◌, ℕ, ◌<◌, List, length, Some, true, false, OnOk, OnErr};
 ghost use Rattle.std.specs.List.{slice_get};
 ghost use Rattle.group_laws.specs.MemberViews.{View};
 ghost use Rattle.group_engine.specs.Calls.{AllWind, NoneWinds, EachWinds};
 ghost use Rattle.group_engine.specs.Reports.{IsBlank, HasRoomFor};
 
+use crate::backlog::append;
 use crate::engine_step::{collect, step};
 use crate::passes;
 use crate::passes::Cores;
@@ -34,20 +35,6 @@ pub struct Engine<W> {
     pub report: Report,
     ghost blank: { IsBlank report },
     ghost room: { HasRoomFor (length answers.items) report },
-}
-
-// Puts a request behind those of a backlog.
-fn append(
-    backlog: &mut VecDeque<(u64, Request)>,
-    number: u64,
-    request: Request,
-) -> Result<(), Memory>
-    ensures appended { OnOk result
-        (backlog.new.items ≡ backlog.old.items ++ (number, request) ∷ []) }
-    ensures kept { OnErr result (backlog.new.items ≡ backlog.old.items) }
-{
-    backlog.push_back((number, request))?;
-    Ok(())
 }
 
 // Whether one of the workers has stopped.

@@ -144,8 +144,8 @@ pub(crate) fn step<W: CoreWorker, R: Region>(
     }
 }
 
-// Takes the answers that a worker fixed.
-pub(crate) fn collect<W: CoreWorker>(worker: &mut W, kept: &mut Vec<Option<Stamped>>, stamp: u64)
+/// Takes the answers that a worker fixed, and keeps each by the number of its request, with this stamp.
+pub fn collect<W: CoreWorker>(worker: &mut W, kept: &mut Vec<Option<Stamped>>, stamp: u64)
     requires { HavePlaces (length kept.old.items) (W.answers worker.old) }
     ensures kept { kept.new.items ≡ stored (W.answers worker.old) stamp kept.old.items }
     ensures answers { W.answers worker.new ≡ [] }

@@ -8,6 +8,7 @@ ghost use Rattle.thread_engine.specs.Dealt.{AreDealt, AreBlank};
 use fs_errors::Memory;
 use fs_model::Request;
 use fs_text::Line;
+use group_engine::backlog::append;
 use group_engine::types::Stamped;
 use std::alloc::Global;
 use std::collections::VecDeque;
@@ -31,18 +32,6 @@ fn empty_queues(alloc: Global, cores: u32) -> Result<Vec<VecDeque<(u64, Request)
     Ok(queues)
 }
 
-// Puts a request behind those of a queue.
-fn put_behind(
-    queue: &mut VecDeque<(u64, Request)>,
-    number: u64,
-    request: Request,
-) -> Result<(), Memory>
-    ensures { OnOk result (queue.new.items ≡ queue.old.items ++ (number, request) ∷ []) }
-{
-    queue.push_back((number, request))?;
-    Ok(())
-}
-
 // Deals the next request.
 fn deal_one(dealt: &mut Dealt, cores: u32, request: Request) -> Result<(), Memory>
     requires cores { (0 < cores) × (length dealt.old.queues.items ≡ cores) }
@@ -52,7 +41,7 @@ fn deal_one(dealt: &mut Dealt, cores: u32, request: Request) -> Result<(), Memor
 {
     let number = dealt.answers.len() as u64;
     let owner = (request.key() % cores as u64) as usize;
-    put_behind(&mut dealt.queues[owner], number, request)?;
+    append(&mut dealt.queues[owner], number, request)?;
     dealt.answers.push(None)?;
     Ok(())
 }
