@@ -2,7 +2,8 @@
 ghost use Rattle.std.specs.Prelude.{◌≡◌, ℕ, ◌<◌, List, length, Some, true, false, OnOk, OnErr};
 ghost use Rattle.std.specs.List.{slice_get};
 ghost use Rattle.group_laws.specs.MemberViews.{View};
-ghost use Rattle.group_engine.specs.Calls.{AllWind, NoneWinds, EachWinds};
+ghost use Rattle.core_worker.specs.declared.types.Turn.TheVariants.{Moved, Idle};
+ghost use Rattle.group_engine.specs.Calls.{AllWind, NoneWinds, EachWinds, has_moved};
 ghost use Rattle.group_engine.specs.Reports.{IsBlank, HasRoomFor};
 
 use crate::backlog::append;
@@ -13,6 +14,7 @@ use crate::run_report::{Report, report_on};
 use crate::types::Stamped;
 use crate::worker_calls::CoreWorker;
 use chunk_map::Geometry;
+use core_worker::Turn;
 use fs_errors::Memory;
 use fs_model::Request;
 use fs_text::Line;
@@ -110,7 +112,7 @@ impl<W: CoreWorker> Cores for Engine<W> {
         alloc: Global,
         region: &mut R,
         core: u32,
-    ) -> Result<bool, Memory> {
+    ) -> Result<Turn, Memory> {
         self.move_core(alloc, region, core)
     }
 
@@ -118,9 +120,9 @@ impl<W: CoreWorker> Cores for Engine<W> {
         wind_all(&mut self.workers);
     }
 
-    fn cease<R: Region>(&mut self, alloc: Global, region: &mut R, core: u32) -> bool {
+    fn cease<R: Region>(&mut self, alloc: Global, region: &mut R, core: u32) -> Turn {
         match self.move_core(alloc, region, core) {
-            Ok(moved) => moved,
+            Ok(turn) => turn,
             Err(_) => unreachable!(),
         }
     }
@@ -146,7 +148,7 @@ impl<W: CoreWorker> Engine<W> {
         alloc: Global,
         region: &mut R,
         core: u32,
-    ) -> Result<bool, Memory>
+    ) -> Result<Turn, Memory>
         requires core { core < self.old.layout.cores }
         requires stays { (e : engines.Engine) × (o : Origin) × Stands o e
             × Shows W.hands W.answers W.stands W.fair W.room W.leads (λ q. q.items)
@@ -163,9 +165,9 @@ impl<W: CoreWorker> Engine<W> {
             (R.state region.new) self.new.layout self.new.workers.items self.new.boards.items
             self.new.backlogs.items self.new.answers.items f
             × Advances (R.state region.new) result core e f
-            × (W.winds w ≡ false → IfOk result (λ moved. RunMoves W.hands W.answers W.stands W.fair
+            × (W.winds w ≡ false → IfOk result (λ turn. RunMoves W.hands W.answers W.stands W.fair
             W.room W.leads W.begins W.turned W.alike
-            (run_state e self.old.workers.items self.old.answers.items) core moved
+            (run_state e self.old.workers.items self.old.answers.items) core (has_moved turn)
             (run_state f self.new.workers.items self.new.answers.items))) }
         ensures goes { NoneWinds W.winds self.old.workers.items
             → OnOk result (NoneWinds W.winds self.new.workers.items) }
@@ -173,12 +175,12 @@ impl<W: CoreWorker> Engine<W> {
             → AllWind W.winds self.new.workers.items }
         ensures sure { OnErr result ((w : W) → slice_get self.old.workers.items core ≡ Some w
             → W.winds w ≡ false) }
-        ensures less { IfOk result (λ b. b ≡ true
+        ensures less { IfOk result (λ turn. turn ≡ Moved
             → left_of W.left W.under_way W.most (λ q. q.items) self.new.workers.items
             self.new.boards.items self.new.backlogs.items
             < left_of W.left W.under_way W.most (λ q. q.items) self.old.workers.items
             self.old.boards.items self.old.backlogs.items) }
-        ensures idle { IfOk result (λ b. b ≡ false
+        ensures idle { IfOk result (λ turn. turn ≡ Idle
             → left_of W.left W.under_way W.most (λ q. q.items) self.new.workers.items
             self.new.boards.items self.new.backlogs.items
             ≤ left_of W.left W.under_way W.most (λ q. q.items) self.old.workers.items
