@@ -69,7 +69,7 @@ fn wind_all<W: CoreWorker>(workers: &mut Vec<W>)
 impl<W: CoreWorker> Cores for Engine<W> {
     ghost use Rattle.engine_laws.specs.Stands.{Origin, Stands};
     ghost use Rattle.group_engine.specs.Shows.{Shows, left_of};
-    ghost use Rattle.group_engine.specs.Runs.{RunMoves, ShowsRun};
+    ghost use Rattle.group_engine.specs.Runs.{MovesOf, ShowsRun};
 
     type Worker = W;
 
@@ -78,8 +78,7 @@ impl<W: CoreWorker> Cores for Engine<W> {
         x.workers.items x.boards.items x.backlogs.items x.answers.items e
         × NoneWinds W.winds x.workers.items };
 
-    ghost moves = { λ e c moved f. RunMoves W.hands W.answers W.stands W.fair W.room W.leads
-        W.begins W.turned W.alike e c moved f };
+    ghost moves = { MovesOf W.CoreWorker };
 
     ghost stays = { λ s x e. (o : Origin) × Stands o e
         × Shows W.hands W.answers W.stands W.fair W.room W.leads (λ q. q.items) s x.layout
@@ -140,7 +139,7 @@ impl<W: CoreWorker> Engine<W> {
     ghost use Rattle.engine_laws.specs.Stands.{Origin, Stands};
     ghost use Rattle.group_engine.specs.Passes.{Advances};
     ghost use Rattle.group_engine.specs.Shows.{Shows, left_of};
-    ghost use Rattle.group_engine.specs.Runs.{RunMoves, run_state};
+    ghost use Rattle.group_engine.specs.Runs.{MovesOf, run_state};
 
     // Moves a core: its worker is handed the next request of its backlog, or makes a turn, and its answers are kept.
     fn move_core<R: Region>(
@@ -165,8 +164,7 @@ impl<W: CoreWorker> Engine<W> {
             (R.state region.new) self.new.layout self.new.workers.items self.new.boards.items
             self.new.backlogs.items self.new.answers.items f
             × Advances (R.state region.new) result core e f
-            × (W.winds w ≡ false → IfOk result (λ turn. RunMoves W.hands W.answers W.stands W.fair
-            W.room W.leads W.begins W.turned W.alike
+            × (W.winds w ≡ false → IfOk result (λ turn. MovesOf W.CoreWorker
             (run_state e self.old.workers.items self.old.answers.items) core (has_moved turn)
             (run_state f self.new.workers.items self.new.answers.items))) }
         ensures goes { NoneWinds W.winds self.old.workers.items
@@ -212,7 +210,7 @@ impl<W: CoreWorker> Engine<W> {
     ghost use Rattle.engine_laws.specs.Ran.{Ran};
     ghost use Rattle.group_engine.specs.Passes.{NameCores, Ends, EndsIn, DrainsOut};
     ghost use Rattle.group_engine.specs.Shows.{Shows};
-    ghost use Rattle.group_engine.specs.Runs.{RunState, RunMoves, ShowsRun, first_state, with_request};
+    ghost use Rattle.group_engine.specs.Runs.{RunState, MovesOf, ShowsRun, first_state, with_request};
 
     /// Whether a core has stopped: then a call of the region failed.
     pub fn has_stopped(&self) -> bool
@@ -254,8 +252,7 @@ impl<W: CoreWorker> Engine<W> {
             × ShowsRun W.hands W.answers W.stands W.fair W.room W.leads (λ q. q.items)
             (R.state region.new) self.new.layout self.new.workers.items self.new.boards.items
             self.new.backlogs.items self.new.answers.items f
-            × DrainsOut (RunMoves W.hands W.answers W.stands W.fair W.room W.leads
-            W.begins W.turned W.alike) self.old.layout.cores e f) }
+            × DrainsOut (MovesOf W.CoreWorker) self.old.layout.cores e f) }
         ensures awake { OnOk result (NoneWinds W.winds self.new.workers.items) }
     {
         passes::drain(self, alloc, region)
@@ -292,8 +289,7 @@ impl<W: CoreWorker> Engine<W> {
             × ShowsRun W.hands W.answers W.stands W.fair W.room W.leads (λ q. q.items)
             (R.state region.new) self.new.layout self.new.workers.items self.new.boards.items
             self.new.backlogs.items self.new.answers.items f
-            × Ran (RunMoves W.hands W.answers W.stands W.fair W.room W.leads
-            W.begins W.turned W.alike) with_request (layout_of o.found).cores lines.items
+            × Ran (MovesOf W.CoreWorker) with_request (layout_of o.found).cores lines.items
             (first_state o self.old.workers.items) f × IsDone o f.engine) }
     {
         passes::replay(self, alloc, region, lines)

@@ -146,8 +146,9 @@ pub fn pass<C: Cores, R: Region>(
     let mut turn = Turn::Idle;
     let count = cores.count();
     for core in 0..count {
-        if let Turn::Moved = settle(cores, alloc, region, core)? {
-            turn = Turn::Moved;
+        match settle(cores, alloc, region, core)? {
+            Turn::Moved => turn = Turn::Moved,
+            Turn::Idle => {}
         }
     }
     Ok(turn)
@@ -167,8 +168,9 @@ pub fn drain<C: Cores, R: Region>(
     ensures cores { C.cores cores.new ≡ C.cores cores.old }
 {
     loop {
-        if let Turn::Idle = pass(cores, alloc, region)? {
-            return Ok(());
+        match pass(cores, alloc, region)? {
+            Turn::Moved => {}
+            Turn::Idle => return Ok(()),
         }
     }
 }
@@ -263,8 +265,9 @@ pub fn cease_pass<C: Cores, R: Region>(cores: &mut C, alloc: Global, region: &mu
     let mut turn = Turn::Idle;
     let all = cores.count();
     for core in 0..all {
-        if let Turn::Moved = cease_core(cores, alloc, region, core) {
-            turn = Turn::Moved;
+        match cease_core(cores, alloc, region, core) {
+            Turn::Moved => turn = Turn::Moved,
+            Turn::Idle => {}
         }
     }
     turn
@@ -279,8 +282,9 @@ pub fn cease<C: Cores, R: Region>(cores: &mut C, alloc: Global, region: &mut R)
         (CeasesOut (R.state region.new) (C.cores cores.old)) }
 {
     loop {
-        if let Turn::Idle = cease_pass(cores, alloc, region) {
-            return;
+        match cease_pass(cores, alloc, region) {
+            Turn::Moved => {}
+            Turn::Idle => return,
         }
     }
 }
