@@ -33,9 +33,9 @@ loop-core-preserved g c =
     let cores : ℕ = g.C.Cores.cores c.args.cores.now in
     let high = no_higher c.loop-core.turn (left c.loop-core.cores) (left c.args.cores.now) I.less I.idle in
     let low : c.loop-core.core < cores = (let t = c.loop-core-test.true in let n = I.count_is in omega (arith, t, n)) in
-    elim c.match-branch.branch [
+    elim c.match-branch-2.branch [
       | in-Moved w ↦ record {
-        shown = λ e h. (let r = I.shown e h in let n = c.in_ok-settle.ensures.settles r.0 r.1 in (n.0, n.1, next g.C.Cores.moves cores c.loop-core.core (has_moved c.loop-core.turn) (has_moved c.in_ok-settle.field-0) (has_moved c.match-branch.turn) e r.0 n.0 r.2 low n.2 (ap (λ t. cond (has_moved t) true (has_moved c.loop-core.turn)) w.in-Moved.is ∙ ap has_moved (sym w.turn-is)), keeps_settles g.C.Cores.moves g.met.C.Cores.turns e.engine r.0 n.0 c.loop-core.core (has_moved c.in_ok-settle.field-0) r.3 n.2));
+        shown = λ e h. (let r = I.shown e h in let n = c.in_ok-settle.ensures.settles r.0 r.1 in (n.0, n.1, next g.C.Cores.moves cores c.loop-core.core (has_moved c.loop-core.turn) (has_moved c.in_ok-settle.field-0) (has_moved c.match-branch-2.turn) e r.0 n.0 r.2 low n.2 (ap (λ t. cond (has_moved t) true (has_moved c.loop-core.turn)) w.in-Moved.is ∙ ap has_moved (sym w.turn-is)), keeps_settles g.C.Cores.moves g.met.C.Cores.turns e.engine r.0 n.0 c.loop-core.core (has_moved c.in_ok-settle.field-0) r.3 n.2));
         cores = c.in_ok-settle.ensures.cores ∙ I.cores;
         count_is = I.count_is;
         within = (let t = c.loop-core-test.true in omega (arith, t));
@@ -43,7 +43,7 @@ loop-core-preserved g c =
         idle = λ q. absurd (let is = w.turn-is in cc (q, is));
       }
       | in-Idle w ↦ record {
-        shown = λ e h. (let r = I.shown e h in let n = c.in_ok-settle.ensures.settles r.0 r.1 in (n.0, n.1, next g.C.Cores.moves cores c.loop-core.core (has_moved c.loop-core.turn) (has_moved c.in_ok-settle.field-0) (has_moved c.match-branch.turn) e r.0 n.0 r.2 low n.2 (ap (λ t. cond (has_moved t) true (has_moved c.loop-core.turn)) w.in-Idle.is ∙ ap has_moved (sym w.turn-is)), keeps_settles g.C.Cores.moves g.met.C.Cores.turns e.engine r.0 n.0 c.loop-core.core (has_moved c.in_ok-settle.field-0) r.3 n.2));
+        shown = λ e h. (let r = I.shown e h in let n = c.in_ok-settle.ensures.settles r.0 r.1 in (n.0, n.1, next g.C.Cores.moves cores c.loop-core.core (has_moved c.loop-core.turn) (has_moved c.in_ok-settle.field-0) (has_moved c.match-branch-2.turn) e r.0 n.0 r.2 low n.2 (ap (λ t. cond (has_moved t) true (has_moved c.loop-core.turn)) w.in-Idle.is ∙ ap has_moved (sym w.turn-is)), keeps_settles g.C.Cores.moves g.met.C.Cores.turns e.engine r.0 n.0 c.loop-core.core (has_moved c.in_ok-settle.field-0) r.3 n.2));
         cores = c.in_ok-settle.ensures.cores ∙ I.cores;
         count_is = I.count_is;
         within = (let t = c.loop-core-test.true in omega (arith, t));
