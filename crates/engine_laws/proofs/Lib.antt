@@ -29,5 +29,4 @@ mod Drained
 pub mod Kept
 pub mod Beginning
 mod KeyLaw
-mod Exits
 mod Trials
