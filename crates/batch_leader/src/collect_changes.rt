@@ -12,12 +12,12 @@ ghost use Rattle.batch_leader.specs.Leading.{Collects, Suits, Takes, Went, SawPa
 ghost use Rattle.batch_leader.specs.Rounds.{fits, member_at, slot_at, round_end};
 ghost use Rattle.batch_leader.specs.declared.states.Collected.TheVariants as answers;
 
-use crate::batch_buffer::MOST_ENTRIES;
 use crate::fitting::own_share;
 use crate::round::{member_at, slot_at};
 use crate::states::{Batch, Collected, Collecting, Released};
 use core_log::Room;
 use group_board::Board;
+use log_entry::MOST_ENTRIES;
 
 impl Collecting {
     // Takes the change of the slot at the round's position, which a look found Posted and which fits.
@@ -32,7 +32,7 @@ impl Collecting {
     )
         requires collects { Collects (B.seat board.old) (B.view board.old) self.old }
         requires whole { (B.view board.old).broken ≡ false }
-        requires few { length (taken_by self.old) < 64 }
+        requires few { length (taken_by self.old) < MOST_ENTRIES }
         requires within { self.old.at < round_end (B.seat board.old).place }
         requires suits { Suits room.now self.old }
         requires group { members (B.seat board.old).place ≤ 8 }
@@ -68,7 +68,7 @@ impl Collecting {
     fn visit<B: Board>(&mut self, board: &mut B, room: &Room) -> bool
         requires collects { Collects (B.seat board.old) (B.view board.old) self.old }
         requires whole { (B.view board.old).broken ≡ false }
-        requires few { length (taken_by self.old) < 64 }
+        requires few { length (taken_by self.old) < MOST_ENTRIES }
         requires within { self.old.at < round_end (B.seat board.old).place }
         requires suits { Suits room.now self.old }
         requires group { members (B.seat board.old).place ≤ 8 }
@@ -103,7 +103,8 @@ impl Collecting {
 
     /// Goes on with the round: looks at the slots from where it stands, first the own ones, then those of the other
     /// members by rising number, and takes the first change that it finds Posted and that fits. It answers RoundOver
-    /// exactly where the round's end is reached or 64 entries are held. The room is that of the own part.
+    /// exactly where the round's end is reached, or the batch has as many entries as it may. The room is that of the
+    /// own part.
     pub fn collect<B: Board>(&mut self, board: &mut B, room: &Room) -> Collected
         requires collects { Collects (B.seat board.old) (B.view board.old) self.old }
         requires whole { (B.view board.old).broken ≡ false }

@@ -7,9 +7,7 @@ ghost use Rattle.batch_leader.specs.Rounds.{fits, Passes, goes_fresh, stays_in, 
 use crate::states::Collecting;
 use core_log::Room;
 use group_board::SlotState;
-
-/// The most words of an entry.
-const LONGEST_ENTRY: u64 = 34;
+use log_entry::LONGEST_ENTRY;
 
 // The lines that are free for the batch in its chunk.
 fn space(room: &Room, fresh: bool) -> u64
