@@ -5,7 +5,7 @@ ghost use Rattle.store_image.specs.Parts.{chunk_units, chunk_at, unit_at, is_sta
 ghost use Rattle.lazy_alloc.specs.Sets.{blocks_in};
 ghost use Rattle.lazy_alloc.specs.Form.{room_words, chunk_in, bit_of, is_full};
 
-use crate::bits::first_unset;
+use crate::bits::{WORD_BITS, first_unset};
 use chunk_map::Layout;
 use chunk_map::layout_sizes::{FIRST_UNIT, GREATEST_CLASS, UNIT_BYTES};
 
@@ -75,7 +75,7 @@ pub fn bit_of(layout: &Layout, pointer: u64, class: u32) -> u64
     ensures { result ≡ bit_of layout.now pointer class }
 {
     let unit = (pointer - FIRST_UNIT) % units(layout);
-    64 * (chunk_in(layout, pointer) as u64 * room(layout)) + (unit - 1) / (1 << class)
+    WORD_BITS * (chunk_in(layout, pointer) as u64 * room(layout)) + (unit - 1) / (1 << class)
 }
 
 /// The pointer of a chunk's first block.
