@@ -1,7 +1,7 @@
 -- The states of a leader, and what the view has in each of the member m that leads, in a group at the place p. A seat says both; another seat of the same member will do as well.
 use Rattle.std.specs.Prelude.{◌≡◌, ◌≢◌, ◌⊎◌, ℕ, zero, suc, ◌+◌, ◌-◌, ◌*◌, ◌<◌, ◌≤◌, ◌==◌, Bool, true, false, List, [], ◌∷◌, ◌++◌, length, Option, Some, None, IfSome, IsSomeAnd}
 use Rattle.std.specs.List.{AllByRecursion}
-use Rattle.log_entry.specs.declared.entry_limits.TheConstants.{LONGEST_ENTRY, MOST_ENTRIES}
+use Rattle.log_entry.specs.declared.entry_limits.TheConstants.{LONGEST_ENTRY, LONGEST_ENTRY_LINES, MOST_ENTRIES}
 use Rattle.log_entry.specs.Spelling.{words_of}
 use Rattle.store_image.specs.Facts.{In}
 use Rattle.core_log.specs.declared.types.Room.{Room}
@@ -53,7 +53,7 @@ pub record CollectsAt (p : Place) (m : ℕ) (v : View) (c : Collecting) : Type 0
   pub passed : AllByRecursion (IsFrom m c.at) (taken_by c)
   pub within : c.at ≤ round_end p
   pub own : c.own_lines ≡ own_lines m (taken_by c)
-  pub own_few : c.own_lines ≤ 5 * length (taken_by c)
+  pub own_few : c.own_lines ≤ LONGEST_ENTRY_LINES * length (taken_by c)
   pub unlogged : AreUnlogged m v (taken_by c)
 
 abbrev pub Collects : SeatAt → View → Collecting → Type 0

@@ -13,11 +13,12 @@ ghost use Rattle.batch_leader.specs.Rounds.{fits, member_at, slot_at, round_end}
 ghost use Rattle.batch_leader.specs.declared.states.Collected.TheVariants as answers;
 
 use crate::fitting::own_share;
-use crate::round::{member_at, slot_at};
+use crate::round::{SLOTS, member_at, slot_at};
 use crate::states::{Batch, Collected, Collecting, Released};
+use chunk_map::layout_sizes::MOST_GROUP;
 use core_log::Room;
 use group_board::Board;
-use log_entry::MOST_ENTRIES;
+use log_entry::{LONGEST_ENTRY, LONGEST_ENTRY_LINES, MOST_ENTRIES};
 
 impl Collecting {
     // Takes the change of the slot at the round's position, which a look found Posted and which fits.
@@ -35,12 +36,12 @@ impl Collecting {
         requires few { length (taken_by self.old) < MOST_ENTRIES }
         requires within { self.old.at < round_end (B.seat board.old).place }
         requires suits { Suits room.now self.old }
-        requires group { members (B.seat board.old).place ≤ 8 }
-        requires room { 5 ≤ room.now.payload_lines }
+        requires group { members (B.seat board.old).place ≤ MOST_GROUP }
+        requires room { LONGEST_ENTRY_LINES ≤ room.now.payload_lines }
         requires own { own ≡ (B.seat board.old).number }
         requires member { member ≡ member_at (B.seat board.old).number self.old.at }
         requires slot { slot ≡ slot_at self.old.at }
-        requires short { count ≤ 34 }
+        requires short { count ≤ LONGEST_ENTRY }
         requires seen { In (loads.Slot member slot (words.Posted count)) (B.view board.old).looked }
         requires fits { fits room.now self.old.own_lines (taken_by self.old) self.old.fresh
             (member == own) count ≡ true }
@@ -71,8 +72,8 @@ impl Collecting {
         requires few { length (taken_by self.old) < MOST_ENTRIES }
         requires within { self.old.at < round_end (B.seat board.old).place }
         requires suits { Suits room.now self.old }
-        requires group { members (B.seat board.old).place ≤ 8 }
-        requires room { 5 ≤ room.now.payload_lines }
+        requires group { members (B.seat board.old).place ≤ MOST_GROUP }
+        requires room { LONGEST_ENTRY_LINES ≤ room.now.payload_lines }
         ensures seat { B.seat board.new ≡ B.seat board.old }
         ensures collects { Collects (B.seat board.old) (B.view board.new) self.new }
         ensures suits { Suits room.now self.new }
@@ -109,8 +110,8 @@ impl Collecting {
         requires collects { Collects (B.seat board.old) (B.view board.old) self.old }
         requires whole { (B.view board.old).broken ≡ false }
         requires suits { Suits room.now self.old }
-        requires group { members (B.seat board.old).place ≤ 8 }
-        requires room { 5 ≤ room.now.payload_lines }
+        requires group { members (B.seat board.old).place ≤ MOST_GROUP }
+        requires room { LONGEST_ENTRY_LINES ≤ room.now.payload_lines }
         ensures seat { B.seat board.new ≡ B.seat board.old }
         ensures collects { Collects (B.seat board.old) (B.view board.new) self.new }
         ensures suits { Suits room.now self.new }
@@ -125,7 +126,7 @@ impl Collecting {
             (steps_of (took result) (B.seat board.old).number self.old self.new)
             (B.whole board.new) (B.seat board.old).number (B.view board.new) }
     {
-        let end = 8 * board.members();
+        let end = SLOTS * board.members();
         'round: while self.changes.count() < MOST_ENTRIES && self.at < end {
             if self.visit(board, room) {
                 return Collected::Took;

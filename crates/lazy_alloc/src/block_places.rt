@@ -38,7 +38,8 @@ pub fn blocks_in(layout: &Layout, class: u32) -> u64
 
 /// Whether a pointer is one into the part.
 pub fn is_in_part(layout: &Layout, part: u32, pointer: u64) -> bool
-    ensures { result ≡ (nat_le 16 pointer && chunk_at layout.now pointer / layout.now.chunks ==
+    ensures { result ≡ (nat_le FIRST_UNIT pointer
+        && chunk_at layout.now pointer / layout.now.chunks ==
         part) }
 {
     pointer >= FIRST_UNIT
@@ -82,7 +83,8 @@ pub fn bit_of(layout: &Layout, pointer: u64, class: u32) -> u64
 pub fn first_block(layout: &Layout, part: u32, chunk: u32) -> u64
     requires part { part < layout.now.cores }
     requires chunk { chunk < layout.now.chunks }
-    ensures value { result ≡ 16 + (part * layout.now.chunks + chunk) * chunk_units layout.now + 1 }
+    ensures value { result ≡ FIRST_UNIT
+        + (part * layout.now.chunks + chunk) * chunk_units layout.now + 1 }
     ensures small { result < 2 ^ 32 }
 {
     let number = part as u64 * layout.geometry().chunks as u64 + chunk as u64;
@@ -95,7 +97,7 @@ pub fn block_at(layout: &Layout, part: u32, chunk: u32, class: u32, block: u64) 
     requires chunk { chunk < layout.now.chunks }
     requires class { class ≤ GREATEST_CLASS }
     requires fits { block * 2 ^ class < chunk_units layout.now }
-    ensures { result ≡ 16 + (part * layout.now.chunks + chunk) * chunk_units layout.now
+    ensures { result ≡ FIRST_UNIT + (part * layout.now.chunks + chunk) * chunk_units layout.now
         + (1 + block * 2 ^ class) }
 {
     // A chunk has few units, which bounds the product.
