@@ -1,2 +1,4 @@
 pub mod StandingLaws
 pub mod Filled
+pub mod ItemLaws
+pub mod PartLaws

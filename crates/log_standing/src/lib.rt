@@ -2,6 +2,10 @@
 #![tactic(auto)]
 
 mod filling;
+mod merging;
+mod name_item;
+mod name_table;
+mod names;
 mod standing_names;
 mod types;
 

@@ -1,0 +1,115 @@
+// The names that were found at the start, in one sorted list.
+ghost use Rattle.std.specs.Prelude.{◌≡◌, ℕ, ◌<◌, ◌≤◌, [], true, false, Some, None, List, IfSome, IfNone, IsSome, if◌then◌else◌};
+ghost use Rattle.std.specs.List.{All};
+ghost use Rattle.core_log.specs.declared.types.LogChunk.{LogChunk};
+ghost use Rattle.log_standing.specs.NameCounts.{count_in, told_in};
+ghost use Rattle.log_standing.specs.NameItems.{Rises, IsPlace, IsAbsent, Fits, AreIn, copies_among, chunks_noted, Writes};
+
+use crate::merging::merge;
+use crate::name_item::{MOST_IN_ITEM, NameItem, copies_of, item_of, order_of, rank_of};
+use crate::types::Copies;
+use log_entry::EntryName;
+use std::alloc::Global;
+use std::marker::Model;
+
+// Names by rising rank, each once. One that is gone keeps its place.
+#[derive(Drop)]
+pub struct NameTable {
+    items: Vec<NameItem>,
+}
+
+impl Model for NameTable {
+    ghost use Rattle.std.specs.Prelude.{ℕ, List};
+    ghost use Rattle.log_standing.specs.declared.types.Copies.{Copies};
+
+    ghost Value = { List ((ℕ × ℕ) × Copies) };
+
+    ghost use Rattle.log_standing.specs.NameItems.{live, Rises};
+
+    ghost view = { λ a. live a.items.items };
+
+    ghost invariant = { λ a. Rises a.items.items };
+}
+
+// Where a name is.
+fn place_of(items: &[NameItem], name: EntryName) -> Option<usize>
+    requires { Rises items.now }
+    ensures found { IfSome result (IsPlace items.now name.key name.version) }
+    ensures absent { IfNone result (IsAbsent items.now name.key name.version) }
+{
+    let rank = rank_of(name.key, name.version);
+    let at = items.partition_point(|x| rank_of(x.key, x.version) < rank);
+    if at >= items.len() {
+        return None;
+    }
+    let found = items[at];
+    if found.key != name.key || found.version != name.version {
+        return None;
+    }
+    Some(at)
+}
+
+impl NameTable {
+    // No names.
+    pub fn new(alloc: Global) -> NameTable
+        ensures { result ≡ [] }
+    {
+        NameTable {
+            items: Vec::new(alloc),
+        }
+    }
+
+    // The names of these items, each in as many copies as it has chunks.
+    pub fn of(items: Vec<NameItem>) -> NameTable
+        requires { All Fits items.items }
+        ensures counts { (cs : List LogChunk) → AreIn cs items.items → (k v : ℕ)
+            → count_in (copies_among result k v) ≡ chunks_noted cs items.items k v }
+        ensures untold { (k v : ℕ) → told_in (copies_among result k v) ≡ false }
+        ensures each { (k v : ℕ) (c : Copies) → copies_among result k v ≡ Some c
+            → (0 < c.count) × (c.count ≤ MOST_IN_ITEM) }
+    {
+        let mut items = items;
+        items.sort_unstable_by_key(|x| order_of(x));
+        merge(&mut items);
+        items.shrink_to_fit();
+        NameTable { items }
+    }
+
+    // What a name has.
+    pub fn get(&self, name: EntryName) -> Option<Copies>
+        ensures copies { result ≡ copies_among self.now name.key name.version }
+        ensures small { IfSome result (λ c. c.count ≤ MOST_IN_ITEM) }
+    {
+        match place_of(&self.items, name) {
+            Some(place) => copies_of(self.items[place]),
+            None => None,
+        }
+    }
+
+    // Writes what a name has, where it has a place and its count fits in. Says whether it did.
+    pub fn put(&mut self, name: EntryName, copies: Copies) -> bool
+        ensures put { result ≡ true → Writes self.old self.new name.key name.version (Some copies) }
+        ensures same { result ≡ false → self.new ≡ self.old }
+        ensures fits { 0 < copies.count → copies.count ≤ MOST_IN_ITEM
+            → IsSome (copies_among self.old name.key name.version) → result ≡ true }
+    {
+        let Some(place) = place_of(&self.items, name) else {
+            return false;
+        };
+        let Some(item) = item_of(name, copies) else {
+            return false;
+        };
+        self.items[place] = item;
+        true
+    }
+
+    // Takes a name out. It keeps its place.
+    pub fn take(&mut self, name: EntryName)
+        ensures { Writes self.old self.new name.key name.version None }
+    {
+        let Some(place) = place_of(&self.items, name) else {
+            return;
+        };
+        self.items[place].count = 0;
+    }
+}
