@@ -30,6 +30,18 @@ other_rank k v x ne = elim (is_item k v x) as (λ b. is_item k v x ≡ b → b �
   | false ↦ λ _. refl
 ] refl
 
+pub other_key : (k v : ℕ) (x : NameItem) → x.key ≢ k → is_item k v x ≡ false
+other_key k v x ne = elim (is_item k v x) as (λ b. is_item k v x ≡ b → b ≡ false) [
+  | true ↦ λ is. absurd (ne (same_name x.key x.version k v is).0)
+  | false ↦ λ _. refl
+] refl
+
+pub other_version : (k v : ℕ) (x : NameItem) → x.version ≢ v → is_item k v x ≡ false
+other_version k v x ne = elim (is_item k v x) as (λ b. is_item k v x ≡ b → b ≡ false) [
+  | true ↦ λ is. absurd (ne (same_name x.key x.version k v is).1)
+  | false ↦ λ _. refl
+] refl
+
 above_at : (r : ℕ) (xs : List NameItem) (j : ℕ) (d : NameItem) → AllByRecursion (λ (x : NameItem). r < rank_in x) xs → j < length xs → r < rank_in (get_or xs j d)
 above_at r [] j d all lt = absurd (omega (arith, lt))
 above_at r (x ∷ xs) zero d all lt = all.0

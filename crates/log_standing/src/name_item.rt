@@ -43,7 +43,8 @@ pub fn is_same_name(item: NameItem, other: NameItem) -> bool
 
 /// What an item's name has.
 pub fn copies_of(item: NameItem) -> Option<Copies>
-    ensures { result ≡ copies_of item }
+    ensures copies { result ≡ copies_of item }
+    ensures small { IfSome result (λ c. c.count ≤ MOST_IN_ITEM) }
 {
     if item.count == 0 {
         return None;

@@ -1,0 +1,4 @@
+use Rattle.log_standing.proofs.names.Names.take.Goals as goal
+
+pub returns-clause-taken : goal.returns-clause-taken
+returns-clause-taken c = ?
