@@ -2,3 +2,4 @@ pub mod StandingLaws
 pub mod Filled
 pub mod ItemLaws
 pub mod PartLaws
+pub mod MergeLaws

@@ -1,8 +1,9 @@
 -- Names in two parts.
-use Rattle.std.proofs.Common.{◌≡◌, ℕ, Bool, true, false, cond, List, [], ◌∷◌, ◌++◌, Option, Some, None, is_some, refl, sym, ◌∙◌, ap}
+use Rattle.std.proofs.Common.{◌≡◌, ℕ, ◌≤◌, max, arith, Bool, true, false, cond, List, [], ◌∷◌, ◌++◌, Option, Some, None, is_some, refl, sym, ◌∙◌, ap}
+use Rattle.std.specs.Prelude.{IfSome}
 use Rattle.std.proofs.lemmas.Bool.{cond-true, cond-false}
 use Rattle.log_standing.specs.declared.types.Copies.{Copies}
-use Rattle.log_standing.specs.NameCounts.{name_eq}
+use Rattle.log_standing.specs.NameCounts.{name_eq, count_in}
 use Rattle.log_standing.specs.NameItems.{copies_among, Writes}
 use Rattle.log_standing.specs.TwoParts.{AreApart}
 use Rattle.log_standing.proofs.StandingLaws.{same_name}
@@ -24,6 +25,20 @@ joined_none xs ys k v none = copies_joined xs ys k v ∙ ap (λ (o : Option Copi
 
 pub joined_some : (xs ys : List ((ℕ × ℕ) × Copies)) (k v : ℕ) (c : Copies) → copies_among xs k v ≡ Some c → copies_among (xs ++ ys) k v ≡ Some c
 joined_some xs ys k v c some = copies_joined xs ys k v ∙ ap (λ (o : Option Copies). either o (copies_among ys k v)) some
+
+pub none_from : (o : Option Copies) → is_some o ≡ false → o ≡ None
+none_from None isnt = refl
+none_from (Some c) isnt = absurd (cc isnt)
+
+pub joined_first : (xs ys : List ((ℕ × ℕ) × Copies)) (k v : ℕ) → is_some (copies_among xs k v) ≡ true → copies_among (xs ++ ys) k v ≡ copies_among xs k v
+joined_first xs ys k v some = copies_joined xs ys k v ∙ first (copies_among xs k v) (copies_among ys k v) some where
+  first : (o p : Option Copies) → is_some o ≡ true → either o p ≡ o
+  first None p some = absurd (cc some)
+  first (Some c) p some = refl
+
+pub bounded : (o : Option Copies) (n most : ℕ) → IfSome o (λ (c : Copies). c.count ≤ most) → 2 ≤ most → n ≤ max 2 (count_in o) → n ≤ most
+bounded None n most small two le = omega (arith, two, le)
+bounded (Some c) n most small two le = omega (arith, small, two, le)
 
 -- a name that has nothing has nothing after that
 pub writes_none : (t : List ((ℕ × ℕ) × Copies)) (k v : ℕ) → copies_among t k v ≡ None → Writes t t k v None

@@ -12,7 +12,12 @@ none_there : (o : Option Copies) → o ≡ None → is_some o ≡ true → ⊥
 none_there o none some = let both : true ≡ false = sym some ∙ ap (λ (p : Option Copies). is_some p) none in cc both
 
 pub returns-in_default-clause-fits : goal.returns-in_default-clause-fits
-returns-in_default-clause-fits c = λ some most there. ?
+returns-in_default-clause-fits c = λ some most there.
+    let xs = c.self.inside.items.items in
+    let k = c.args.name.key in
+    let v = c.args.name.version in
+    let none : IsAbsent xs k v = subst (λ (l : List NameItem). IsAbsent l k v) c.deref.ensures.value c.in_default.ensures.absent in
+    absurd (none_there (copies_among c.args.self.now k v) (ap (λ (t : List ((ℕ × ℕ) × Copies)). copies_among t k v) (sym c.self.view_is) ∙ absent_copies xs k v none) (search rules))
 
 pub invariant_of-self : goal.invariant_of-self
 invariant_of-self c =
