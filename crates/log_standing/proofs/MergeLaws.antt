@@ -3,7 +3,7 @@ use Rattle.std.proofs.Common.{◌≡◌, ◌≢◌, ⊎_elim, ℕ, zero, suc, �
 use Rattle.std.specs.Prelude.{nat_eq}
 use Rattle.std.specs.List.{All, AllByRecursion, list_any, count_by}
 use Rattle.std.proofs.lemmas.Bool.{cond-true, cond-false, and_parts, and_from, eqb-true, eq-eqb, ne_eqb, cases_eq, cases_lt}
-use Rattle.std.proofs.lemmas.List.{length_push, get_or_push, get_or_append_left, get_or-set_same, length-set}
+use Rattle.std.proofs.lemmas.List.{length_push, get_or_push, get_or_append_left, get_or-set_same, length-set, get_or_default}
 use Rattle.std.proofs.lemmas.List.Elements.{All-push, All-set, All-tail, All-head, recursion_from_All}
 use Rattle.std.proofs.lemmas.List.Folds.{list_any-append, list_any_none, list_any_at}
 use Rattle.std.proofs.lemmas.List.Sums.{sum_by-cons}
@@ -201,3 +201,148 @@ module _ (xs out : List NameItem) (y : NameItem) (merged : IsMerged xs out) (ord
               let b : get_or (xs ++ y ∷ []) (length (xs ++ y ∷ []) - 1) d ≡ y = get_or_push xs y d (length (xs ++ y ∷ []) - 1) (omega (arith, n)) in
               record { key = ap (λ (x : NameItem). x.key) a ∙ sym (ap (λ (x : NameItem). x.key) b); version = ap (λ (x : NameItem). x.version) a ∙ sym (ap (λ (x : NameItem). x.version) b); chunk = ap (λ (x : NameItem). x.chunk) a ∙ sym (ap (λ (x : NameItem). x.chunk) b) };
         }
+
+  -- The last name again.
+  module _ (d : NameItem) (some : 0 < length out) (same : is_item y.key y.version (get_or out (length out - 1) d) ≡ true) where
+    o : NameItem
+    o = get_or out (length out - 1) d
+
+    x : NameItem
+    x = get_or xs (length xs - 1) d
+
+    there : 0 < length xs
+    there = let more = merged.no_more in omega (arith, some, more)
+
+    last : IsNoteOf o x
+    unfolding o x there
+    last = merged.last d there
+
+    name : (o.key ≡ y.key) × (o.version ≡ y.version)
+    unfolding o
+    name = same_name (get_or out (length out - 1) d).key (get_or out (length out - 1) d).version y.key y.version same
+
+    x_rank : rank_in x ≡ rank_in y
+    unfolding name last
+    x_rank = λ i. rank_of ((sym last.key ∙ name.0) i) ((sym last.version ∙ name.1) i)
+
+    was_at : (cs : List LogChunk) → AreIn cs (xs ++ y ∷ []) → AreIn cs xs
+    unfolding n
+    was_at cs are = λ j e lt. subst (λ (z : NameItem). count_by (λ (c : LogChunk). c.chunk == z.chunk) cs ≡ 1) (get_or_append_left xs (y ∷ []) e j lt) (are j e (omega (arith, n, lt)))
+
+    -- in another chunk
+    module _ (other : (get_or out (length out - 1) d).chunk ≢ y.chunk) where
+      z : NameItem
+      z = with_chunk (get_or out (length out - 1) d) y.chunk
+
+      chunk_less : o.chunk < y.chunk
+      unfolding o x last x_rank before there
+      chunk_less =
+          let le = before (length xs - 1) d (omega (arith, there)) in
+          let rank = x_rank in
+          let chunk = last.chunk in
+          let most : o.chunk ≤ y.chunk = omega (arith, le, rank, chunk) in
+          ⊎_elim (λ (eq : o.chunk ≡ y.chunk). absurd (other eq)) (λ (ne : o.chunk ≢ y.chunk). ⊎_elim (λ (lt : o.chunk < y.chunk). lt) (λ (ge : y.chunk ≤ o.chunk). absurd (ne (omega (arith, most, ge)))) (cases_lt o.chunk y.chunk)) (cases_eq o.chunk y.chunk)
+
+      none : has_note xs y.key y.version y.chunk ≡ false
+      unfolding not_noted chunk_less x_rank last x
+      none = not_noted (λ e lt.
+          let rank = x_rank in
+          let chunk = last.chunk in
+          let less = chunk_less in
+          let at : order_of x < order_of y = omega (arith, rank, chunk, less) in
+          subst (λ (w : NameItem). order_of w < order_of y) (get_or_default xs (length xs - 1) d e (omega (arith, lt))) at)
+
+      counted_at : (w : NameItem) → 0 < w.count → count_in (copies_of w) ≡ w.count
+      counted_at w more = ap count_in (cond-false (w.count == 0) None (Some (copies_with w.count w.dead)) (ne_eqb w.count 0 (λ e. omega (arith, more, e))))
+
+      old_each : IsCounted (get_or out (length out - 1) d)
+      old_each = merged.each (length out - 1) d (omega (arith, some))
+
+      more_counts : (cs : List LogChunk) → AreIn cs (xs ++ y ∷ []) → (k v : ℕ) → count_in (copies_among (live (slice_set out (length out - 1) z)) k v) ≡ chunks_noted cs (xs ++ y ∷ []) k v
+      unfolding none counted_at old_each z name o was_at at_end n
+      more_counts cs are k v =
+          let lt : length out - 1 < length out = omega (arith, some) in
+          let was = merged.counts cs (was_at cs are) k v in
+          let once : count_by (λ (c : LogChunk). c.chunk == y.chunk) cs ≡ 1 = subst (λ (w : NameItem). count_by (λ (c : LogChunk). c.chunk == w.chunk) cs ≡ 1) (at_end y) (are (length xs) y (omega (arith, n))) in
+          let now = copies_set out (length out - 1) z d y.key y.version merged.rises lt same same k v in
+          elim (is_item k v y) as (λ b. is_item k v y ≡ b → count_in (copies_among (live (slice_set out (length out - 1) z)) k v) ≡ chunks_noted cs (xs ++ y ∷ []) k v) [
+            | true ↦ λ is.
+                let more = counts_new cs xs y none once k v is in
+                let here : is_item k v (get_or out (length out - 1) d) ≡ true = (λ i. name_eq (name.0 i, name.1 i) (k, v)) ∙ is in
+                let each = old_each in
+                let positive = each.some in
+                let old : count_in (copies_among (live out) k v) ≡ (get_or out (length out - 1) d).count = ap count_in (copies_at_place out (length out - 1) d k v merged.rises lt here) ∙ counted_at (get_or out (length out - 1) d) positive in
+                let new : count_in (copies_among (live (slice_set out (length out - 1) z)) k v) ≡ z.count = ap count_in (now ∙ cond-true (is_item k v y) (copies_of z) (copies_among (live out) k v) is) ∙ counted_at z (omega arith) in
+                omega (arith, more, old, new, was)
+            | false ↦ λ isnt. ap count_in (now ∙ cond-false (is_item k v y) (copies_of z) (copies_among (live out) k v) isnt) ∙ was ∙ sym (counts_other cs xs y k v isnt)
+          ] refl
+
+      pub merged_more : IsMerged (xs ++ y ∷ []) (slice_set out (length out - 1) (with_chunk (get_or out (length out - 1) d) y.chunk))
+      unfolding more_counts old_each chunk_less name z o n fits_new
+      merged_more =
+          let i = length out - 1 in
+          let lt : i < length out = omega (arith, some) in
+          let m : length (slice_set out i z) ≡ length out = length-set out i z in
+          let more = merged.no_more in
+          let each = old_each in
+          let most = each.most in
+          let less = chunk_less in
+          let fits = fits_new in
+          record {
+            rises = rises_set out i z d refl merged.rises;
+            each = All-set IsCounted out i z (record { some = omega arith; most = omega (arith, most, less); chunk = fits.chunk; untold = each.untold }) merged.each;
+            counts = more_counts;
+            some = λ _. omega (arith, m, some);
+            no_more = omega (arith, m, n, more);
+            last = λ e _.
+                let a : get_or (slice_set out i z) (length (slice_set out i z) - 1) e ≡ z = ap (λ (l : ℕ). get_or (slice_set out i z) (l - 1) e) m ∙ get_or-set_same out i z e lt in
+                let b : get_or (xs ++ y ∷ []) (length (xs ++ y ∷ []) - 1) e ≡ y = get_or_push xs y e (length (xs ++ y ∷ []) - 1) (omega (arith, n)) in
+                record { key = ap (λ (w : NameItem). w.key) a ∙ name.0 ∙ sym (ap (λ (w : NameItem). w.key) b); version = ap (λ (w : NameItem). w.version) a ∙ name.1 ∙ sym (ap (λ (w : NameItem). w.version) b); chunk = ap (λ (w : NameItem). w.chunk) a ∙ sym (ap (λ (w : NameItem). w.chunk) b) };
+          }
+
+    -- in the same chunk
+    module _ (again : (get_or out (length out - 1) d).chunk ≡ y.chunk) where
+      had : has_note xs y.key y.version y.chunk ≡ true
+      unfolding last name o x there
+      had =
+          let e : is_item y.key y.version (get_or xs (length xs - 1) d) ≡ true = (λ i. name_eq ((sym last.key ∙ name.0) i, (sym last.version ∙ name.1) i) (y.key, y.version)) ∙ name_same y.key y.version in
+          let j : (get_or xs (length xs - 1) d).chunk ≡ y.chunk = sym last.chunk ∙ again in
+          list_any_at (is_note y.key y.version y.chunk) xs (length xs - 1) d (omega (arith, there)) (and_from (is_item y.key y.version (get_or xs (length xs - 1) d)) ((get_or xs (length xs - 1) d).chunk == y.chunk) e (eq-eqb (get_or xs (length xs - 1) d).chunk y.chunk j))
+
+      pub merged_same : IsMerged (xs ++ y ∷ []) out
+      unfolding had was_at n name o
+      merged_same =
+          let more = merged.no_more in
+          record {
+            rises = merged.rises;
+            each = merged.each;
+            counts = λ cs are k v. merged.counts cs (was_at cs are) k v ∙ sym (counts_again cs xs y had k v);
+            some = λ _. some;
+            no_more = omega (arith, n, more);
+            last = λ e _.
+                let a : get_or out (length out - 1) e ≡ get_or out (length out - 1) d = get_or_default out (length out - 1) e d (omega (arith, some)) in
+                let b : get_or (xs ++ y ∷ []) (length (xs ++ y ∷ []) - 1) e ≡ y = get_or_push xs y e (length (xs ++ y ∷ []) - 1) (omega (arith, n)) in
+                record { key = ap (λ (w : NameItem). w.key) a ∙ name.0 ∙ sym (ap (λ (w : NameItem). w.key) b); version = ap (λ (w : NameItem). w.version) a ∙ name.1 ∙ sym (ap (λ (w : NameItem). w.version) b); chunk = ap (λ (w : NameItem). w.chunk) a ∙ again ∙ sym (ap (λ (w : NameItem). w.chunk) b) };
+          }
+
+-- A write among the first ones of a list.
+pub take_write : (xs : List NameItem) (i n : ℕ) (z : NameItem) → i < n → take n (slice_set xs i z) ≡ slice_set (take n xs) i z
+take_write [] i zero z lt = refl
+take_write [] i (suc n) z lt = refl
+take_write (x ∷ xs) i zero z lt = absurd (omega (arith, lt))
+take_write (x ∷ xs) zero (suc n) z lt = refl
+take_write (x ∷ xs) (suc i) (suc n) z lt = ap (λ (l : List NameItem). x ∷ l) (take_write xs i n z (omega (arith, lt)))
+
+-- no notes
+pub merged_none : IsMerged [] []
+merged_none = record {
+  rises = tt;
+  each = λ j d lt. absurd (omega (arith, lt));
+  counts = λ cs are k v. sym (count_none cs);
+  some = λ lt. absurd (omega (arith, lt));
+  no_more = omega arith;
+  last = λ d lt. absurd (omega (arith, lt));
+} where
+  count_none : (cs : List LogChunk) → count_by (λ (c : LogChunk). false) cs ≡ 0
+  count_none [] = refl
+  count_none (c ∷ cs) = let a = sum_by-cons (λ (x : LogChunk). 0) c cs in let b = count_none cs in omega (arith, a, b)

@@ -1,6 +1,6 @@
 // A name in 16 bytes.
 ghost use Rattle.std.specs.Prelude.{◌≡◌, ◌<◌, ◌≤◌, Some, IfSome, IsSome};
-ghost use Rattle.log_standing.specs.NameItems.{rank_of, order_of, copies_of, is_item, IsItemOf};
+ghost use Rattle.log_standing.specs.NameItems.{rank_of, copies_of, is_item, IsItemOf};
 
 use crate::types::Copies;
 use fs_model::{Key, Version};
@@ -25,13 +25,6 @@ pub fn rank_of(key: Key, version: Version) -> u128
     ensures { result ≡ rank_of key version }
 {
     key as u128 * 4294967296 + version as u128
-}
-
-/// Where an item comes among all: by name, then by chunk.
-pub fn order_of(item: &NameItem) -> u128
-    ensures { result ≡ order_of item.now }
-{
-    rank_of(item.key, item.version) * 256 + item.chunk as u128
 }
 
 /// Whether two items have one name.

@@ -6,7 +6,7 @@ ghost use Rattle.log_standing.specs.NameCounts.{count_in, told_in};
 ghost use Rattle.log_standing.specs.NameItems.{Rises, IsPlace, IsAbsent, Fits, AreIn, copies_among, chunks_noted, Writes};
 
 use crate::merging::merge;
-use crate::name_item::{MOST_IN_ITEM, NameItem, copies_of, item_of, order_of, rank_of};
+use crate::name_item::{MOST_IN_ITEM, NameItem, copies_of, item_of, rank_of};
 use crate::types::Copies;
 use log_entry::EntryName;
 use std::alloc::Global;
@@ -69,7 +69,7 @@ impl NameTable {
             → (0 < c.count) × (c.count ≤ MOST_IN_ITEM) }
     {
         let mut items = items;
-        items.sort_unstable_by_key(|x| order_of(x));
+        items.sort_unstable_by_key(|x| (x.key, x.version, x.chunk));
         merge(&mut items);
         items.shrink_to_fit();
         NameTable { items }
