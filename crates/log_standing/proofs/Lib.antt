@@ -4,3 +4,4 @@ pub mod ItemLaws
 pub mod PartLaws
 pub mod MergeLaws
 pub mod Noting
+pub mod OrderLaws

@@ -1,12 +1,17 @@
 -- The entries of a chunk, noted one by one, and the chunks of a log.
-use Rattle.std.proofs.Common.{◌≡◌, ℕ, zero, suc, ◌+◌, ◌<◌, ◌≤◌, ◌==◌, ◌&&◌, ◌||◌, Bool, true, false, List, [], ◌∷◌, ◌++◌, refl, sym, ◌∙◌, ap, arith, append_assoc}
-use Rattle.std.specs.List.{All, list_any}
-use Rattle.std.proofs.lemmas.List.Folds.{list_any-append}
+use Rattle.std.proofs.Common.{◌≡◌, ℕ, zero, suc, ◌+◌, ◌<◌, ◌≤◌, ◌==◌, ◌&&◌, ◌||◌, Bool, true, false, cond, List, [], ◌∷◌, ◌++◌, length, get_or, Option, Some, None, is_some, refl, sym, ◌∙◌, ap, arith, append_assoc}
+use Rattle.std.specs.List.{All, list_any, count_by}
+use Rattle.std.proofs.lemmas.Bool.{cond-true, cond-false, and_from, eqb-true, eq-eqb, ne_eqb}
+use Rattle.std.proofs.lemmas.List.Folds.{list_any-append, list_any_none, list_any_at}
+use Rattle.std.proofs.lemmas.List.Sums.{sum_by-cons}
+use Rattle.chunk_map.proofs.LayoutLaws.{numbers_of}
 use Rattle.pm_region.specs.State.{State, IsTelling}
 use Rattle.log_entry.specs.declared.entry.Entry.{Entry}
 use Rattle.core_log.specs.declared.types.Peek.{Peek}
-use Rattle.core_log.specs.Log.{LogState, Spelled}
+use Rattle.core_log.specs.declared.types.LogChunk.{LogChunk}
+use Rattle.core_log.specs.Log.{LogState, Spelled, IsOwn, IsRising, tail_of}
 use Rattle.core_log.specs.Walking.{entries_in, words_in, behind, IsFound, IsReadable}
+use Rattle.core_log.proofs.LogLaws.{own_chunk}
 use Rattle.core_log.proofs.Steps.{ordered, all_behind}
 use Rattle.log_standing.specs.declared.name_item.NameItem.{NameItem}
 use Rattle.log_standing.specs.NameCounts.{name_eq}
@@ -65,3 +70,65 @@ pub noted_all : (old now : List NameItem) (chunk : ℕ) (es : List (ℕ × Entry
 noted_all old now chunk es place so_far none k v j =
     let all : so_far.done ≡ es = append_none so_far.done (behind place es) none ∙ so_far.split in
     so_far.notes k v j ∙ ap (λ (l : List (ℕ × Entry)). has_note old k v j || ((chunk == j) && has_name l k v)) all
+
+-- a chunk of a log has a small number
+pub chunk_small : (log : LogState) → IsOwn log → (j : ℕ) → is_some (tail_of log.chunks j) ≡ true → j < 256
+chunk_small log own j has = by_tail (tail_of log.chunks j) refl has where
+  by_tail : (t : Option ℕ) → tail_of log.chunks j ≡ t → is_some t ≡ true → j < 256
+  by_tail None is some = absurd (cc some)
+  by_tail (Some t) is some =
+      let here = (own_chunk log own j t is).within in
+      let most = (numbers_of log.layout own.layout).chunks_high in
+      omega (arith, here, most)
+
+-- a chunk of a log stands there once
+above_none : (cs : List LogChunk) (from j : ℕ) → IsRising from cs → j < from → count_by (λ (c : LogChunk). c.chunk == j) cs ≡ 0
+above_none [] from j rising lt = refl
+above_none (c ∷ cs) from j rising lt =
+    let e : count_by (λ (x : LogChunk). x.chunk == j) (c ∷ cs) ≡ cond (c.chunk == j) 1 0 + count_by (λ (x : LogChunk). x.chunk == j) cs = sum_by-cons (λ (x : LogChunk). cond (x.chunk == j) 1 0) c cs in
+    let none : cond (c.chunk == j) 1 0 ≡ 0 = cond-false (c.chunk == j) 1 0 (ne_eqb c.chunk j (λ same. omega (arith, same, rising.0, lt))) in
+    let rest = above_none cs (c.chunk + 1) j rising.1 (omega (arith, rising.0, lt)) in
+    omega (arith, e, none, rest)
+
+pub stands_once : (cs : List LogChunk) (from j : ℕ) → IsRising from cs → is_some (tail_of cs j) ≡ true → count_by (λ (c : LogChunk). c.chunk == j) cs ≡ 1
+stands_once [] from j rising has = absurd (cc has)
+stands_once (c ∷ cs) from j rising has =
+    let e : count_by (λ (x : LogChunk). x.chunk == j) (c ∷ cs) ≡ cond (c.chunk == j) 1 0 + count_by (λ (x : LogChunk). x.chunk == j) cs = sum_by-cons (λ (x : LogChunk). cond (x.chunk == j) 1 0) c cs in
+    elim (c.chunk == j) as (λ b. (c.chunk == j) ≡ b → is_some (cond b (Some c.tail) (tail_of cs j)) ≡ true → count_by (λ (x : LogChunk). x.chunk == j) (c ∷ cs) ≡ 1) [
+      | true ↦ λ is _.
+          let same = eqb-true c.chunk j is in
+          let one : cond (c.chunk == j) 1 0 ≡ 1 = cond-true (c.chunk == j) 1 0 is in
+          let rest = above_none cs (c.chunk + 1) j rising.1 (omega (arith, same)) in
+          omega (arith, e, one, rest)
+      | false ↦ λ isnt there.
+          let none : cond (c.chunk == j) 1 0 ≡ 0 = cond-false (c.chunk == j) 1 0 isnt in
+          let rest = stands_once cs (c.chunk + 1) j rising.1 there in
+          omega (arith, e, none, rest)
+    ] refl has
+
+-- the names that stand in one of these chunks, by its number
+abbrev pub noted_in : State → LogState → List LogChunk → ℕ → ℕ → ℕ → Bool
+noted_in s log cs k v j = list_any (λ (c : LogChunk). (c.chunk == j) && has_name (entries_in s log c.chunk) k v) cs
+
+pub noted_here : (s : State) (log : LogState) (cs : List LogChunk) (i : ℕ) (d : LogChunk) (k v : ℕ) → i < length cs → noted_in s log cs k v (get_or cs i d).chunk ≡ has_name (entries_in s log (get_or cs i d).chunk) k v
+noted_here s log cs i d k v lt =
+    let j = (get_or cs i d).chunk in
+    let p : LogChunk → Bool = λ c. (c.chunk == j) && has_name (entries_in s log c.chunk) k v in
+    let h = has_name (entries_in s log j) k v in
+    elim h as (λ b. h ≡ b → noted_in s log cs k v j ≡ b) [
+      | true ↦ λ is. list_any_at p cs i d lt (and_from (j == j) h (eq-eqb j j refl) is)
+      | false ↦ λ isnt. list_any_none p cs (λ n e _. elim ((get_or cs n e).chunk == j) as (λ b. ((get_or cs n e).chunk == j) ≡ b → (b && has_name (entries_in s log (get_or cs n e).chunk) k v) ≡ false) [
+        | true ↦ λ same. ap (λ (m : ℕ). has_name (entries_in s log m) k v) (eqb-true (get_or cs n e).chunk j same) ∙ isnt
+        | false ↦ λ _. refl
+      ] refl)
+    ] refl
+
+-- two tests that agree at each element count alike
+pub count_alike : (p q : LogChunk → Bool) (cs : List LogChunk) → ((i : ℕ) (d : LogChunk) → i < length cs → p (get_or cs i d) ≡ q (get_or cs i d)) → count_by p cs ≡ count_by q cs
+count_alike p q [] same = refl
+count_alike p q (c ∷ cs) same =
+    let a : count_by p (c ∷ cs) ≡ cond (p c) 1 0 + count_by p cs = sum_by-cons (λ (x : LogChunk). cond (p x) 1 0) c cs in
+    let b : count_by q (c ∷ cs) ≡ cond (q c) 1 0 + count_by q cs = sum_by-cons (λ (x : LogChunk). cond (q x) 1 0) c cs in
+    let here : cond (p c) 1 0 ≡ cond (q c) 1 0 = ap (λ (t : Bool). cond t 1 0) (same 0 c (omega arith)) in
+    let rest = count_alike p q cs (λ i d lt. same (suc i) d (omega (arith, lt))) in
+    omega (arith, a, b, here, rest)
