@@ -81,27 +81,30 @@ chunk_small log own j has = by_tail (tail_of log.chunks j) refl has where
       let most = (numbers_of log.layout own.layout).chunks_high in
       omega (arith, here, most)
 
+abbrev one_if : Bool → ℕ
+one_if b = cond b 1 0
+
 -- a chunk of a log stands there once
 above_none : (cs : List LogChunk) (from j : ℕ) → IsRising from cs → j < from → count_by (λ (c : LogChunk). c.chunk == j) cs ≡ 0
 above_none [] from j rising lt = refl
 above_none (c ∷ cs) from j rising lt =
-    let e : count_by (λ (x : LogChunk). x.chunk == j) (c ∷ cs) ≡ cond (c.chunk == j) 1 0 + count_by (λ (x : LogChunk). x.chunk == j) cs = sum_by-cons (λ (x : LogChunk). cond (x.chunk == j) 1 0) c cs in
-    let none : cond (c.chunk == j) 1 0 ≡ 0 = cond-false (c.chunk == j) 1 0 (ne_eqb c.chunk j (λ same. omega (arith, same, rising.0, lt))) in
+    let e : count_by (λ (x : LogChunk). x.chunk == j) (c ∷ cs) ≡ one_if (c.chunk == j) + count_by (λ (x : LogChunk). x.chunk == j) cs = sum_by-cons (λ (x : LogChunk). cond (x.chunk == j) 1 0) c cs in
+    let none : one_if (c.chunk == j) ≡ 0 = cond-false (c.chunk == j) 1 0 (ne_eqb c.chunk j (λ same. omega (arith, same, rising.0, lt))) in
     let rest = above_none cs (c.chunk + 1) j rising.1 (omega (arith, rising.0, lt)) in
     omega (arith, e, none, rest)
 
 pub stands_once : (cs : List LogChunk) (from j : ℕ) → IsRising from cs → is_some (tail_of cs j) ≡ true → count_by (λ (c : LogChunk). c.chunk == j) cs ≡ 1
 stands_once [] from j rising has = absurd (cc has)
 stands_once (c ∷ cs) from j rising has =
-    let e : count_by (λ (x : LogChunk). x.chunk == j) (c ∷ cs) ≡ cond (c.chunk == j) 1 0 + count_by (λ (x : LogChunk). x.chunk == j) cs = sum_by-cons (λ (x : LogChunk). cond (x.chunk == j) 1 0) c cs in
+    let e : count_by (λ (x : LogChunk). x.chunk == j) (c ∷ cs) ≡ one_if (c.chunk == j) + count_by (λ (x : LogChunk). x.chunk == j) cs = sum_by-cons (λ (x : LogChunk). cond (x.chunk == j) 1 0) c cs in
     elim (c.chunk == j) as (λ b. (c.chunk == j) ≡ b → is_some (cond b (Some c.tail) (tail_of cs j)) ≡ true → count_by (λ (x : LogChunk). x.chunk == j) (c ∷ cs) ≡ 1) [
       | true ↦ λ is _.
           let same = eqb-true c.chunk j is in
-          let one : cond (c.chunk == j) 1 0 ≡ 1 = cond-true (c.chunk == j) 1 0 is in
+          let one : one_if (c.chunk == j) ≡ 1 = cond-true (c.chunk == j) 1 0 is in
           let rest = above_none cs (c.chunk + 1) j rising.1 (omega (arith, same)) in
           omega (arith, e, one, rest)
       | false ↦ λ isnt there.
-          let none : cond (c.chunk == j) 1 0 ≡ 0 = cond-false (c.chunk == j) 1 0 isnt in
+          let none : one_if (c.chunk == j) ≡ 0 = cond-false (c.chunk == j) 1 0 isnt in
           let rest = stands_once cs (c.chunk + 1) j rising.1 there in
           omega (arith, e, none, rest)
     ] refl has
@@ -127,8 +130,8 @@ noted_here s log cs i d k v lt =
 pub count_alike : (p q : LogChunk → Bool) (cs : List LogChunk) → ((i : ℕ) (d : LogChunk) → i < length cs → p (get_or cs i d) ≡ q (get_or cs i d)) → count_by p cs ≡ count_by q cs
 count_alike p q [] same = refl
 count_alike p q (c ∷ cs) same =
-    let a : count_by p (c ∷ cs) ≡ cond (p c) 1 0 + count_by p cs = sum_by-cons (λ (x : LogChunk). cond (p x) 1 0) c cs in
-    let b : count_by q (c ∷ cs) ≡ cond (q c) 1 0 + count_by q cs = sum_by-cons (λ (x : LogChunk). cond (q x) 1 0) c cs in
-    let here : cond (p c) 1 0 ≡ cond (q c) 1 0 = ap (λ (t : Bool). cond t 1 0) (same 0 c (omega arith)) in
+    let a : count_by p (c ∷ cs) ≡ one_if (p c) + count_by p cs = sum_by-cons (λ (x : LogChunk). cond (p x) 1 0) c cs in
+    let b : count_by q (c ∷ cs) ≡ one_if (q c) + count_by q cs = sum_by-cons (λ (x : LogChunk). cond (q x) 1 0) c cs in
+    let here : one_if (p c) ≡ one_if (q c) = ap one_if (same 0 c (omega arith)) in
     let rest = count_alike p q cs (λ i d lt. same (suc i) d (omega (arith, lt))) in
     omega (arith, a, b, here, rest)
