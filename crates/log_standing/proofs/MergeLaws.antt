@@ -29,11 +29,11 @@ count_either p q apart (c ∷ cs) =
     let d : count_by q (c ∷ cs) ≡ cond (q c) 1 0 + count_by q cs = sum_by-cons (λ (x : LogChunk). cond (q x) 1 0) c cs in
     let e = one (p c) (q c) (apart c) in
     omega (arith, a, b, d, e, rest) where
-  one : (x y : Bool) → (y ≡ true → x ≡ false) → cond (x || (y || false)) 1 0 ≡ cond x 1 0 + cond y 1 0
-  one true true none = absurd (cc (none refl))
-  one true false none = refl
-  one false true none = refl
-  one false false none = refl
+      one : (x y : Bool) → (y ≡ true → x ≡ false) → cond (x || (y || false)) 1 0 ≡ cond x 1 0 + cond y 1 0
+      one true true none = absurd (cc (none refl))
+      one true false none = refl
+      one false true none = refl
+      one false false none = refl
 
 -- one note more of another name, one that was noted before, and a new one
 pub counts_other : (cs : List LogChunk) (xs : List NameItem) (y : NameItem) (k v : ℕ) → is_item k v y ≡ false → chunks_noted cs (xs ++ y ∷ []) k v ≡ chunks_noted cs xs k v
@@ -59,17 +59,17 @@ counts_again cs xs y had k v = λ i. count_by (λ (c : LogChunk). same c.chunk i
 pub counts_new : (cs : List LogChunk) (xs : List NameItem) (y : NameItem) → has_note xs y.key y.version y.chunk ≡ false → count_by (λ (c : LogChunk). c.chunk == y.chunk) cs ≡ 1 → (k v : ℕ) → is_item k v y ≡ true → chunks_noted cs (xs ++ y ∷ []) k v ≡ chunks_noted cs xs k v + 1
 counts_new cs xs y none once k v is =
     (λ i. count_by (λ (c : LogChunk). more c.chunk i) cs) ∙ count_either (λ (c : LogChunk). has_note xs k v c.chunk) (λ (c : LogChunk). c.chunk == y.chunk) (λ c at. absent c.chunk at) cs ∙ ap (λ (n : ℕ). chunks_noted cs xs k v + n) once where
-  e : (y.key ≡ k) × (y.version ≡ v)
-  e = same_name y.key y.version k v is
+      e : (y.key ≡ k) × (y.version ≡ v)
+      e = same_name y.key y.version k v is
 
-  absent : (j : ℕ) → (j == y.chunk) ≡ true → has_note xs k v j ≡ false
-  absent j at = let n = eqb-true j y.chunk at in sym (λ i. has_note xs (e.0 i) (e.1 i) (sym n i)) ∙ none
+      absent : (j : ℕ) → (j == y.chunk) ≡ true → has_note xs k v j ≡ false
+      absent j at = let n = eqb-true j y.chunk at in sym (λ i. has_note xs (e.0 i) (e.1 i) (sym n i)) ∙ none
 
-  flip : (m n : ℕ) → (m == n) ≡ (n == m)
-  flip m n = ⊎_elim (λ (same : m ≡ n). eq-eqb m n same ∙ sym (eq-eqb n m (sym same))) (λ (ne : m ≢ n). ne_eqb m n ne ∙ sym (ne_eqb n m (λ same. ne (sym same)))) (cases_eq m n)
+      flip : (m n : ℕ) → (m == n) ≡ (n == m)
+      flip m n = ⊎_elim (λ (same : m ≡ n). eq-eqb m n same ∙ sym (eq-eqb n m (sym same))) (λ (ne : m ≢ n). ne_eqb m n ne ∙ sym (ne_eqb n m (λ same. ne (sym same)))) (cases_eq m n)
 
-  more : (j : ℕ) → has_note (xs ++ y ∷ []) k v j ≡ (has_note xs k v j || ((j == y.chunk) || false))
-  more j = list_any-append (is_note k v j) xs (y ∷ []) ∙ ap (λ (b : Bool). has_note xs k v j || ((b && (y.chunk == j)) || false)) is ∙ ap (λ (b : Bool). has_note xs k v j || (b || false)) (flip y.chunk j)
+      more : (j : ℕ) → has_note (xs ++ y ∷ []) k v j ≡ (has_note xs k v j || ((j == y.chunk) || false))
+      more j = list_any-append (is_note k v j) xs (y ∷ []) ∙ ap (λ (b : Bool). has_note xs k v j || ((b && (y.chunk == j)) || false)) is ∙ ap (λ (b : Bool). has_note xs k v j || (b || false)) (flip y.chunk j)
 
 -- One item more.
 
@@ -145,14 +145,14 @@ module _ (xs out : List NameItem) (y : NameItem) (merged : IsMerged xs out) (ord
         ⊎_elim
         (λ (lt : rank_in o < rank_in y). lt)
         (λ (ge : rank_in y ≤ rank_in o).
-            let chunk = fits.chunk in
-            let rank : x.key * 4294967296 + x.version ≡ y.key * 4294967296 + y.version = omega (arith, le, chunk, same, ge) in
-            let low = old.version in
-            let low' = fits.version in
-            let key : x.key ≡ y.key = omega (arith, rank, low, low') in
-            let version : x.version ≡ y.version = omega (arith, rank, key) in
-            let is : is_item y.key y.version o ≡ true = (λ i. name_eq (last.key i, last.version i) (y.key, y.version)) ∙ (λ i. name_eq (key i, version i) (y.key, y.version)) ∙ name_same y.key y.version in
-            absurd (let both : true ≡ false = sym is ∙ isnt in cc both))
+        let chunk = fits.chunk in
+        let rank : x.key * 4294967296 + x.version ≡ y.key * 4294967296 + y.version = omega (arith, le, chunk, same, ge) in
+        let low = old.version in
+        let low' = fits.version in
+        let key : x.key ≡ y.key = omega (arith, rank, low, low') in
+        let version : x.version ≡ y.version = omega (arith, rank, key) in
+        let is : is_item y.key y.version o ≡ true = (λ i. name_eq (last.key i, last.version i) (y.key, y.version)) ∙ (λ i. name_eq (key i, version i) (y.key, y.version)) ∙ name_same y.key y.version in
+        absurd (let both : true ≡ false = sym is ∙ isnt in cc both))
         (cases_lt (rank_in o) (rank_in y))
 
     below : AllByRecursion (λ (x : NameItem). rank_in x < rank_in y) out

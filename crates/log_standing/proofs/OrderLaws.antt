@@ -40,14 +40,14 @@ order_up x y fx fy isnt =
     let cy = fy.chunk in
     ⊎_elim
     (λ (k : y.key ≡ x.key).
-        let version = at_most y.version x.version (b.1 (equal y.key x.key k)) in
-        ⊎_elim
-        (λ (v : y.version ≡ x.version).
-            let both : names ≡ Equal = λ i. ordering_then (equal y.key x.key k i) (equal y.version x.version v i) in
-            let chunk = at_most y.chunk x.chunk (a.1 both) in
-            omega (arith, k, v, chunk))
-        (λ (v : y.version ≢ x.version). ⊎_elim (λ (lt : x.version < y.version). omega (arith, k, lt, cx)) (λ (ge : y.version ≤ x.version). absurd (v (omega (arith, ge, version)))) (cases_lt x.version y.version))
-        (cases_eq y.version x.version))
+    let version = at_most y.version x.version (b.1 (equal y.key x.key k)) in
+    ⊎_elim
+    (λ (v : y.version ≡ x.version).
+    let both : names ≡ Equal = λ i. ordering_then (equal y.key x.key k i) (equal y.version x.version v i) in
+    let chunk = at_most y.chunk x.chunk (a.1 both) in
+    omega (arith, k, v, chunk))
+    (λ (v : y.version ≢ x.version). ⊎_elim (λ (lt : x.version < y.version). omega (arith, k, lt, cx)) (λ (ge : y.version ≤ x.version). absurd (v (omega (arith, ge, version)))) (cases_lt x.version y.version))
+    (cases_eq y.version x.version))
     (λ (k : y.key ≢ x.key). ⊎_elim (λ (lt : x.key < y.key). omega (arith, lt, vx, cx)) (λ (ge : y.key ≤ x.key). absurd (k (omega (arith, ge, key)))) (cases_lt x.key y.key))
     (cases_eq y.key x.key)
 
