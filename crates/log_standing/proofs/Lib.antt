@@ -3,3 +3,4 @@ pub mod Filled
 pub mod ItemLaws
 pub mod PartLaws
 pub mod MergeLaws
+pub mod KillLaws

@@ -1,8 +1,9 @@
 // The names that were found at the start, in one sorted list.
-ghost use Rattle.std.specs.Prelude.{◌≡◌, ℕ, ◌<◌, ◌≤◌, [], true, false, Some, None, List, IfSome, IfNone, IsSome, if◌then◌else◌};
+ghost use Rattle.std.specs.Prelude.{◌≡◌, ℕ, ◌<◌, ◌≤◌, [], map, Bool, true, false, Some, None, List, IfSome, IfNone, IsSome, if◌then◌else◌};
 ghost use Rattle.std.specs.List.{All};
 ghost use Rattle.core_log.specs.declared.types.LogChunk.{LogChunk};
 ghost use Rattle.log_standing.specs.NameCounts.{count_in, told_in};
+ghost use Rattle.log_standing.specs.Killing.{Answers, dead_by, KillsAmong};
 ghost use Rattle.log_standing.specs.NameItems.{Rises, IsPlace, IsAbsent, Fits, AreIn, copies_among, chunks_noted, Writes};
 
 use crate::merging::merge;
@@ -47,6 +48,22 @@ fn place_of(items: &[NameItem], name: EntryName) -> Option<usize>
         return None;
     }
     Some(at)
+}
+
+// Tells the items dead of whose names a test says so.
+fn kill_items<F: Fn(EntryName) -> bool>(items: &mut Vec<NameItem>, dead: F)
+    requires { F.IsAlwaysCallable dead }
+    ensures rises { Rises items.old.items → Rises items.new.items }
+    ensures killed { (f : ℕ → ℕ → Bool) → Answers (F.post dead) f
+        → items.new.items ≡ map (dead_by f) items.old.items }
+{
+    for i in 0..items.len() {
+        let name = EntryName {
+            key: items[i].key,
+            version: items[i].version,
+        };
+        items[i].dead = items[i].dead | dead(name);
+    }
 }
 
 impl NameTable {
@@ -111,5 +128,13 @@ impl NameTable {
             return;
         };
         self.items[place].count = 0;
+    }
+
+    // Tells the names dead of which a test says so.
+    pub fn kill_where<F: Fn(EntryName) -> bool>(&mut self, dead: F)
+        requires { F.IsAlwaysCallable dead }
+        ensures { (f : ℕ → ℕ → Bool) → Answers (F.post dead) f → KillsAmong self.old self.new f }
+    {
+        kill_items(&mut self.items, dead);
     }
 }
