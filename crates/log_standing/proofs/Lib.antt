@@ -5,3 +5,4 @@ pub mod PartLaws
 pub mod MergeLaws
 pub mod Noting
 pub mod OrderLaws
+pub mod KillLaws

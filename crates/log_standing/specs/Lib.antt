@@ -1,5 +1,6 @@
 pub mod NameCounts
 pub mod NameItems
+pub mod Killing
 pub mod TwoParts
 pub mod Notes
 pub mod ChunkCounts

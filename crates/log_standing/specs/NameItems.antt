@@ -5,6 +5,7 @@ use Rattle.std.specs.List.Sorted.{IsNonDecreasingBy}
 use Rattle.std.specs.Map.{lookup}
 use Rattle.core_log.specs.declared.types.LogChunk.{LogChunk}
 use Rattle.log_standing.specs.declared.name_item.NameItem.{NameItem}
+use Rattle.log_standing.specs.declared.name_item.TheConstants.{MOST_IN_ITEM}
 use Rattle.log_standing.specs.declared.types.Copies.{Copies}
 use Rattle.log_standing.specs.NameCounts.{name_eq, copies_with, count_in}
 
@@ -35,6 +36,11 @@ live (x ∷ xs) = if x.count == 0 then live xs
 -- what a name has in such a list
 abbrev pub copies_among : List ((ℕ × ℕ) × Copies) → ℕ → ℕ → Option Copies
 copies_among es k v = lookup (name_eq (k, v)) es
+
+-- no name has more copies than fit into an item, and none has none
+abbrev pub AreSmall : List ((ℕ × ℕ) × Copies) → Type 0
+AreSmall es = (k v : ℕ) (c : Copies) → copies_among es k v ≡ Some c
+    → (0 < c.count) × (c.count ≤ MOST_IN_ITEM)
 
 -- each rank is below those behind it
 abbrev pub Rises : List NameItem → Type 0

@@ -9,6 +9,6 @@ mod names;
 mod standing_names;
 mod types;
 
-pub use filling::standing_of;
+pub use filling::{standing_of, standing_told};
 pub use standing_names::Standing;
 pub use types::{Copies, Settled};

@@ -1,9 +1,10 @@
 // The names that were found at the start, in one sorted list.
-ghost use Rattle.std.specs.Prelude.{◌≡◌, ℕ, ◌<◌, ◌≤◌, [], true, false, Some, None, List, IfSome, IfNone, IsSome, if◌then◌else◌};
+ghost use Rattle.std.specs.Prelude.{◌≡◌, ℕ, ◌<◌, ◌≤◌, [], map, Bool, true, false, Some, None, List, IfSome, IfNone, IsSome, if◌then◌else◌};
 ghost use Rattle.std.specs.List.{All};
 ghost use Rattle.core_log.specs.declared.types.LogChunk.{LogChunk};
 ghost use Rattle.log_standing.specs.NameCounts.{count_in, told_in};
-ghost use Rattle.log_standing.specs.NameItems.{Rises, IsPlace, IsAbsent, Fits, AreIn, copies_among, chunks_noted, Writes};
+ghost use Rattle.log_standing.specs.Killing.{Answers, dead_by, all_dead, KillsAmong, SameCounts};
+ghost use Rattle.log_standing.specs.NameItems.{Rises, IsPlace, IsAbsent, Fits, AreIn, copies_among, chunks_noted, AreSmall, Writes};
 
 use crate::merging::merge;
 use crate::name_item::{MOST_IN_ITEM, NameItem, copies_of, item_of, rank_of};
@@ -49,6 +50,23 @@ fn place_of(items: &[NameItem], name: EntryName) -> Option<usize>
     Some(at)
 }
 
+// Tells the items dead of whose names a test says so.
+fn kill_items<F: Fn(EntryName) -> bool>(items: &mut Vec<NameItem>, dead: F)
+    requires { F.IsAlwaysCallable dead }
+    ensures rises { Rises items.old.items → Rises items.new.items }
+    ensures killed { (f : ℕ → ℕ → Bool) → Answers (F.post dead) f
+        → items.new.items ≡ map (dead_by f) items.old.items }
+    ensures same { map all_dead items.new.items ≡ map all_dead items.old.items }
+{
+    for i in 0..items.len() {
+        let name = EntryName {
+            key: items[i].key,
+            version: items[i].version,
+        };
+        items[i].dead = items[i].dead | dead(name);
+    }
+}
+
 impl NameTable {
     // No names.
     pub fn new(alloc: Global) -> NameTable
@@ -65,8 +83,7 @@ impl NameTable {
         ensures counts { (cs : List LogChunk) → AreIn cs items.items → (k v : ℕ)
             → count_in (copies_among result k v) ≡ chunks_noted cs items.items k v }
         ensures untold { (k v : ℕ) → told_in (copies_among result k v) ≡ false }
-        ensures each { (k v : ℕ) (c : Copies) → copies_among result k v ≡ Some c
-            → (0 < c.count) × (c.count ≤ MOST_IN_ITEM) }
+        ensures small { AreSmall result }
     {
         let mut items = items;
         items.sort_unstable_by_key(|x| (x.key, x.version, x.chunk));
@@ -111,5 +128,15 @@ impl NameTable {
             return;
         };
         self.items[place].count = 0;
+    }
+
+    // Tells the names dead of which a test says so.
+    pub fn kill_where<F: Fn(EntryName) -> bool>(&mut self, dead: F)
+        requires { F.IsAlwaysCallable dead }
+        ensures killed { (f : ℕ → ℕ → Bool) → Answers (F.post dead) f
+            → KillsAmong self.old self.new f }
+        ensures counts { SameCounts self.old self.new }
+    {
+        kill_items(&mut self.items, dead);
     }
 }

@@ -1,7 +1,7 @@
 // Which entries stand in the own log.
 ghost use Rattle.std.specs.Prelude.{◌≡◌, ◌⊎◌, ℕ, ◌+◌, ◌-◌, ◌^◌, ◌<◌, ◌≤◌, ◌==◌, nat_eq, true, false, Some, None, option_map, is_some, IsSome, IsOk, OnOk, OnErr, IfOk, if◌then◌else◌};
 ghost use Rattle.log_standing.specs.NameCounts.{name_eq, copies_at, count_of, is_told, count_in, wants, living, one_more, killed, times_in, copies_with, Changes, SameCopies};
-ghost use Rattle.log_standing.specs.NameItems.{copies_among};
+ghost use Rattle.log_standing.specs.NameItems.{copies_among, AreSmall};
 
 use crate::name_item::MOST_IN_ITEM;
 use crate::name_table::NameTable;
@@ -54,8 +54,7 @@ fn one_more(copies: Option<Copies>) -> Copies
 impl Standing {
     // The names of a table.
     pub(crate) fn of(alloc: Global, table: NameTable) -> Standing
-        requires { (k v : ℕ) (c : Copies) → copies_among table k v ≡ Some c
-            → (0 < c.count) × (c.count ≤ MOST_IN_ITEM) }
+        requires { AreSmall table }
         ensures copies { (k v : ℕ) → copies_at result k v ≡ copies_among table k v }
         ensures settled { result.settled ≡ None }
     {

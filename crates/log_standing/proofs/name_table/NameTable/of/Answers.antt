@@ -34,8 +34,8 @@ returns-clause-untold c = λ k v.
     let all = recursion_from_All (λ (x : NameItem). P (copies_with x.count x.dead)) out (λ j d lt. (each j d lt).untold) in
     none_told (copies_among (live out) k v) (each_live P out all k v)
 
-pub returns-clause-each : goal.returns-clause-each
-returns-clause-each c = λ k v.
+pub returns-clause-small : goal.returns-clause-small
+returns-clause-small c = λ k v.
     let out = c.shrink_to_fit.new.self.items in
     let each = subst (λ (l : List NameItem). All IsCounted l) (sym c.shrink_to_fit.ensures.items) c.merge.ensures.each in
     let P : Copies → Type 0 = λ c. (0 < c.count) × (c.count ≤ 65535) in

@@ -6,7 +6,7 @@ use Rattle.log_standing.specs.declared.name_item.NameItem.{NameItem}
 use Rattle.log_standing.specs.NameItems.{has_note}
 use Rattle.log_standing.specs.Notes.{IsOfLog}
 use Rattle.log_standing.proofs.Noting.{noted_in}
-use Rattle.log_standing.proofs.filling.standing_of.Given as goal
+use Rattle.log_standing.proofs.filling.table_of.Given as goal
 
 pub record SoFar (s : State) (log : LogState) (now : List NameItem) (i : ℕ) : Type 0 where
   pub each : All (IsOfLog log) now
