@@ -1,20 +1,18 @@
 -- Notes in order, merged into one item a name.
-use Rattle.std.proofs.Common.{◌≡◌, ◌≢◌, ⊎_elim, ℕ, zero, suc, ◌+◌, ◌-◌, ◌*◌, ◌<◌, ◌≤◌, ◌==◌, ◌&&◌, ◌||◌, Bool, true, false, cond, List, [], ◌∷◌, ◌++◌, length, take, get_or, Option, Some, None, refl, sym, ◌∙◌, ap, subst, arith, slice_set}
-use Rattle.std.specs.Prelude.{nat_eq}
-use Rattle.std.specs.List.{All, AllByRecursion, list_any, count_by}
+use Rattle.std.proofs.Common.{◌≡◌, ◌≢◌, ⊎_elim, ℕ, zero, suc, ◌+◌, ◌-◌, ◌*◌, ◌<◌, ◌≤◌, ◌==◌, ◌&&◌, ◌||◌, Bool, true, false, cond, List, [], ◌∷◌, ◌++◌, length, take, get_or, Some, None, refl, sym, ◌∙◌, ap, subst, arith, slice_set}
+use Rattle.std.specs.List.{AllByRecursion, count_by}
 use Rattle.std.proofs.lemmas.Bool.{cond-true, cond-false, and_parts, and_from, eqb-true, eq-eqb, ne_eqb, cases_eq, cases_lt}
 use Rattle.std.proofs.lemmas.List.{length_push, get_or_push, get_or_append_left, get_or-set_same, length-set, get_or_default}
-use Rattle.std.proofs.lemmas.List.Elements.{All-push, All-set, All-tail, All-head, recursion_from_All}
+use Rattle.std.proofs.lemmas.List.Elements.{All-push, All-set}
 use Rattle.std.proofs.lemmas.List.Folds.{list_any-append, list_any_none, list_any_at}
 use Rattle.std.proofs.lemmas.List.Sums.{sum_by-cons}
 use Rattle.core_log.specs.declared.types.LogChunk.{LogChunk}
 use Rattle.log_standing.specs.declared.name_item.NameItem.{NameItem}
-use Rattle.log_standing.specs.declared.types.Copies.{Copies}
 use Rattle.log_standing.specs.NameCounts.{name_eq, copies_with, count_in}
-use Rattle.log_standing.specs.NameItems.{rank_of, rank_in, order_of, is_item, copies_of, live, copies_among, Rises, is_note, has_note, chunks_noted, AreIn, Fits, InOrder, IsCounted, IsNoteOf, IsMerged}
+use Rattle.log_standing.specs.NameItems.{rank_of, rank_in, order_of, is_item, copies_of, live, copies_among, is_note, has_note, chunks_noted, AreIn, Fits, InOrder, IsCounted, IsNoteOf, IsMerged}
 use Rattle.log_standing.proofs.StandingLaws.{same_name, name_same}
 use Rattle.log_standing.proofs.Filled.{again_named}
-use Rattle.log_standing.proofs.ItemLaws.{item_rank, other_rank, rises_set, rises_push, all_below, below_absent, absent_copies, copies_at_place, copies_set, copies_push}
+use Rattle.log_standing.proofs.ItemLaws.{item_rank, rises_set, rises_push, all_below, below_absent, absent_copies, copies_at_place, copies_set, copies_push}
 
 -- Counting.
 

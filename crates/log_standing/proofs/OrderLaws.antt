@@ -1,7 +1,7 @@
 -- Items that were put in order by name and chunk.
-use Rattle.std.proofs.Common.{◌≡◌, ◌≢◌, ⊎_elim, ℕ, ◌+◌, ◌*◌, ◌<◌, ◌≤◌, ◌==◌, nat_lt, Bool, true, false, cond, List, length, get_or, refl, sym, ◌∙◌, ap, subst, arith}
-use Rattle.std.specs.List.{All, AllAdjacentBelow, count_by, list_any}
-use Rattle.std.specs.List.Sorted.{IsPermutation, IsNonDecreasingBy, IsSortedBy}
+use Rattle.std.proofs.Common.{◌≡◌, ◌≢◌, ⊎_elim, ℕ, ◌+◌, ◌<◌, ◌≤◌, ◌==◌, nat_lt, true, false, cond, List, get_or, refl, sym, arith}
+use Rattle.std.specs.List.{All, count_by}
+use Rattle.std.specs.List.Sorted.{IsPermutation, IsSortedBy}
 use Rattle.std.specs.Ordering.{nat_cmp, is_lt, ordering_then}
 use Rattle.std.specs.declared.cmp.Ordering.{Ordering}
 use Rattle.std.specs.declared.cmp.Ordering.TheVariants.{Less, Equal, Greater}
@@ -9,7 +9,7 @@ use Rattle.std.proofs.lemmas.Bool.{ltb-false, le-ltb, eq-eqb, cases_eq, cases_lt
 use Rattle.std.proofs.lemmas.List.Sorted.{IsNonDecreasingBy-from_all_adjacent, All-permutation, list_any-IsPermutation}
 use Rattle.core_log.specs.declared.types.LogChunk.{LogChunk}
 use Rattle.log_standing.specs.declared.name_item.NameItem.{NameItem}
-use Rattle.log_standing.specs.NameItems.{order_of, rank_in, is_note, chunks_noted, Fits, InOrder}
+use Rattle.log_standing.specs.NameItems.{order_of, is_note, chunks_noted, Fits, InOrder}
 
 not_less : (o p : Ordering) → is_lt (ordering_then o p) ≡ false → (is_lt o ≡ false) × (o ≡ Equal → is_lt p ≡ false)
 not_less Less p isnt = absurd (cc isnt)

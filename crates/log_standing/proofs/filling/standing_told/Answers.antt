@@ -1,4 +1,4 @@
-use Rattle.std.proofs.Common.{◌≡◌, ◌&&◌, Option, is_some, sym, ◌∙◌, ap}
+use Rattle.std.proofs.Common.{◌&&◌, Option, is_some, sym, ◌∙◌, ap}
 use Rattle.log_standing.specs.declared.types.Copies.{Copies}
 use Rattle.log_standing.specs.NameCounts.{count_in, told_in}
 use Rattle.log_standing.specs.NameItems.{copies_among}

@@ -1,9 +1,9 @@
-use Rattle.std.proofs.Common.{◌≡◌, ◌+◌, ◌-◌, ◌<◌, ◌≤◌, ◌++◌, ◌∷◌, [], ℕ, List, length, take, drop, get_or, refl, sym, ◌∙◌, ap, subst, arith, rules, vec_len}
-use Rattle.std.proofs.lemmas.List.{take_more, take_all, drop-drop, get_or-drop, get_or_read, length-take-le}
+use Rattle.std.proofs.Common.{◌≡◌, ◌+◌, ◌-◌, ◌<◌, ◌++◌, ◌∷◌, [], ℕ, List, length, take, drop, get_or, refl, sym, ◌∙◌, ap, subst, arith, rules, vec_len}
+use Rattle.std.proofs.lemmas.List.{take_more, take_all, drop-drop, get_or-drop}
 use Rattle.std.proofs.lemmas.List.Elements.{All-take}
 use Rattle.std.proofs.lemmas.List.Sorted.{IsNonDecreasingBy-take}
 use Rattle.log_standing.specs.declared.name_item.NameItem.{NameItem}
-use Rattle.log_standing.specs.NameItems.{Fits, IsCounted, IsMerged, InOrder, order_of}
+use Rattle.log_standing.specs.NameItems.{Fits, IsMerged, InOrder, order_of}
 use Rattle.log_standing.proofs.MergeLaws.{merged_none}
 use Rattle.log_standing.proofs.merging.merge.Goals as goal
 

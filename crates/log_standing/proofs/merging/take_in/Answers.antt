@@ -1,8 +1,8 @@
-use Rattle.std.proofs.Common.{◌≡◌, ◌+◌, ◌-◌, ◌<◌, ◌≤◌, ◌++◌, ◌∷◌, [], ℕ, List, length, take, get_or, true, false, refl, sym, ◌∙◌, ap, subst, arith, rules, slice_set}
+use Rattle.std.proofs.Common.{◌≡◌, ◌+◌, ◌-◌, ◌<◌, ◌≤◌, ◌++◌, ◌∷◌, [], ℕ, List, length, take, get_or, true, false, sym, ◌∙◌, ap, subst, arith, slice_set}
 use Rattle.std.proofs.lemmas.List.{get_or_read, get_or-take, length-take-le, take_more_set}
 use Rattle.log_standing.specs.declared.name_item.NameItem.{NameItem}
-use Rattle.log_standing.specs.NameItems.{is_item, IsCounted, IsMerged, InOrder}
-use Rattle.log_standing.proofs.MergeLaws.{first_of, with_chunk, merged_new, merged_more, merged_same, take_write}
+use Rattle.log_standing.specs.NameItems.{is_item, IsCounted, IsMerged}
+use Rattle.log_standing.proofs.MergeLaws.{with_chunk, merged_new, merged_more, merged_same, take_write}
 use Rattle.log_standing.proofs.merging.take_in.Goals.{then-kept-eq0-via-then-kept-eq0, then-kept-eq0-via-else-kept-eq0+then-not-is_same_name}
 use Rattle.log_standing.proofs.merging.take_in.Goals as goal
 

@@ -1,4 +1,4 @@
-use Rattle.std.proofs.Common.{◌≡◌, ℕ, ◌+◌, ◌*◌, Bool, ◌||◌, ◌<◌, slice_set, map, length, get_or, refl, sym, ◌∙◌, ap, arith}
+use Rattle.std.proofs.Common.{◌≡◌, ◌+◌, ◌*◌, ◌||◌, ◌<◌, slice_set, map, length, get_or, sym, ◌∙◌, ap, arith}
 use Rattle.std.proofs.lemmas.List.{length-set, get_or_read, map-set, get_or-map, set-get_or}
 use Rattle.std.proofs.lemmas.List.Edits.{map_over_more}
 use Rattle.log_standing.specs.declared.name_item.NameItem.{NameItem}

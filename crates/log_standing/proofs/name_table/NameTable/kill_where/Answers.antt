@@ -1,7 +1,6 @@
-use Rattle.std.proofs.Common.{◌≡◌, ℕ, Bool, List, map, sym, ◌∙◌, ap, subst}
-use Rattle.log_standing.specs.declared.name_item.NameItem.{NameItem}
-use Rattle.log_standing.specs.NameItems.{live, Rises}
-use Rattle.log_standing.specs.Killing.{Answers, KillsAmong, SameCounts}
+use Rattle.std.proofs.Common.{sym, subst}
+use Rattle.log_standing.specs.NameItems.{live}
+use Rattle.log_standing.specs.Killing.{KillsAmong, SameCounts}
 use Rattle.log_standing.proofs.KillLaws.{kills_all, same_counts}
 use Rattle.log_standing.proofs.name_table.NameTable.kill_where.Goals as goal
 

@@ -1,9 +1,8 @@
-use Rattle.std.proofs.Common.{◌≡◌, ◌==◌, ◌&&◌, ◌++◌, ℕ, List, get_or, Option, Some, None, true, false, cond, is_some, refl, sym, ◌∙◌, ap, subst, arith, rules, slice_set}
-use Rattle.std.proofs.lemmas.List.{get_or_read}
+use Rattle.std.proofs.Common.{◌≡◌, ℕ, List, get_or, Option, None, true, false, cond, is_some, sym, ◌∙◌, ap, subst, rules}
 use Rattle.log_standing.specs.declared.name_item.NameItem.{NameItem}
 use Rattle.log_standing.specs.declared.types.Copies.{Copies}
 use Rattle.log_standing.specs.NameCounts.{name_eq}
-use Rattle.log_standing.specs.NameItems.{copies_of, copies_among, live, is_item, IsPlace, IsAbsent, Rises, rank_in}
+use Rattle.log_standing.specs.NameItems.{copies_among, is_item, IsPlace, IsAbsent}
 use Rattle.log_standing.proofs.StandingLaws.{name_same}
 use Rattle.log_standing.proofs.ItemLaws.{absent_copies, item_rank, rises_set, copies_set}
 use Rattle.log_standing.proofs.name_table.NameTable.put.Goals as goal

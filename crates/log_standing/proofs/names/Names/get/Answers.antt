@@ -1,6 +1,5 @@
-use Rattle.std.proofs.Common.{◌≡◌, ◌++◌, ℕ, List, Option, Some, None, true, false, is_some, refl, sym, ◌∙◌, ap, subst, arith, rules}
-use Rattle.log_standing.specs.declared.types.Copies.{Copies}
-use Rattle.log_standing.specs.NameItems.{copies_among, Writes}
+use Rattle.std.proofs.Common.{sym, ◌∙◌, ap}
+use Rattle.log_standing.specs.NameItems.{copies_among}
 use Rattle.log_standing.specs.TwoParts.{NamesState}
 use Rattle.log_standing.proofs.PartLaws.{joined_none, joined_some}
 use Rattle.log_standing.proofs.names.Names.get.Goals as goal

@@ -1,7 +1,6 @@
-use Rattle.std.proofs.Common.{◌≡◌, ◌++◌, ℕ, List, Option, Some, None, true, false, cond, is_some, refl, sym, ◌∙◌, ap, subst, arith, rules}
+use Rattle.std.proofs.Common.{◌≡◌, Option, sym, ◌∙◌, ap}
 use Rattle.log_standing.specs.declared.types.Copies.{Copies}
-use Rattle.log_standing.specs.NameCounts.{name_eq, count_in}
-use Rattle.log_standing.specs.NameItems.{copies_among, Writes}
+use Rattle.log_standing.specs.NameItems.{copies_among}
 use Rattle.log_standing.specs.TwoParts.{NamesState}
 use Rattle.log_standing.proofs.PartLaws.{either, copies_joined}
 use Rattle.log_standing.proofs.names.Names.reserve.Goals as goal

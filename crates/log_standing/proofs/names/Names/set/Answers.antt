@@ -1,6 +1,6 @@
-use Rattle.std.proofs.Common.{◌≡◌, ◌≤◌, ◌++◌, max, ℕ, List, Option, Some, None, true, false, cond, is_some, refl, sym, ◌∙◌, ap, subst, arith, rules}
+use Rattle.std.proofs.Common.{◌≡◌, ◌≤◌, ◌++◌, max, Option, Some, None, true, is_some, sym, ◌∙◌, ap, subst, arith}
 use Rattle.log_standing.specs.declared.types.Copies.{Copies}
-use Rattle.log_standing.specs.NameCounts.{name_eq, count_in}
+use Rattle.log_standing.specs.NameCounts.{count_in}
 use Rattle.log_standing.specs.NameItems.{copies_among, Writes}
 use Rattle.log_standing.specs.TwoParts.{NamesState}
 use Rattle.log_standing.proofs.PartLaws.{writes_none, writes_first, writes_second, apart_second, joined_none, joined_first, none_from, bounded}

@@ -1,7 +1,5 @@
-use Rattle.std.proofs.Common.{◌≡◌, ◌++◌, ℕ, List, Option, Some, None, true, false, cond, is_some, refl, sym, ◌∙◌, ap, subst, arith, rules}
-use Rattle.log_standing.specs.declared.types.Copies.{Copies}
-use Rattle.log_standing.specs.NameCounts.{name_eq, count_in}
-use Rattle.log_standing.specs.NameItems.{copies_among, Writes}
+use Rattle.std.proofs.Common.{◌++◌, None, subst}
+use Rattle.log_standing.specs.NameItems.{Writes}
 use Rattle.log_standing.specs.TwoParts.{NamesState}
 use Rattle.log_standing.proofs.PartLaws.{writes_second}
 use Rattle.log_standing.proofs.names.Names.take.Goals as goal
