@@ -37,11 +37,11 @@ module _ (f : ℕ → ℕ → Bool) where
       ∙ ap (λ o. cond (x.count == 0) (cond (f k v) (option_map killed rest) rest) o) (named (name_eq (k, v) (x.key, x.version)) refl)
       ∙ spread (f k v) (x.count == 0) (name_eq (k, v) (x.key, x.version)) rest (Some (copies_with x.count x.dead))
       ∙ ap (λ o. cond (f k v) (option_map killed o) o) (sym (copies_first x xs k v)) where
-    named : (e : Bool) → name_eq (k, v) (x.key, x.version) ≡ e → cond e (Some (copies_with x.count (x.dead || f x.key x.version))) (cond (f k v) (option_map killed (copies_among (live xs) k v)) (copies_among (live xs) k v))
-        ≡ cond e (cond (f k v) (option_map killed (Some (copies_with x.count x.dead))) (Some (copies_with x.count x.dead))) (cond (f k v) (option_map killed (copies_among (live xs) k v)) (copies_among (live xs) k v))
-    named true is = let e = same_name k v x.key x.version is in
-        ap (λ b. Some (copies_with x.count (x.dead || b))) (sym (λ i. f (e.0 i) (e.1 i))) ∙ told_more x.count x.dead (f k v)
-    named false is = refl
+        named : (e : Bool) → name_eq (k, v) (x.key, x.version) ≡ e → cond e (Some (copies_with x.count (x.dead || f x.key x.version))) (cond (f k v) (option_map killed (copies_among (live xs) k v)) (copies_among (live xs) k v))
+            ≡ cond e (cond (f k v) (option_map killed (Some (copies_with x.count x.dead))) (Some (copies_with x.count x.dead))) (cond (f k v) (option_map killed (copies_among (live xs) k v)) (copies_among (live xs) k v))
+        named true is = let e = same_name k v x.key x.version is in
+            ap (λ b. Some (copies_with x.count (x.dead || b))) (sym (λ i. f (e.0 i) (e.1 i))) ∙ told_more x.count x.dead (f k v)
+        named false is = refl
 
 pub kills_every : (xs : List NameItem) (k v : ℕ) → copies_among (live (map all_dead xs)) k v ≡ option_map killed (copies_among (live xs) k v)
 kills_every [] k v = refl
