@@ -5,7 +5,7 @@ use Rattle.std.proofs.lemmas.Bool.{ne_eqb, cases_eq}
 use Rattle.std.proofs.Math.ListN.{get_or-eq_default}
 use Rattle.pm_region.specs.Cell.{certain}
 use Rattle.pm_region.specs.State.{State, IsTelling, cell_now, InRange}
-use Rattle.pm_region.proofs.Cells.{certain_may_be}
+use Rattle.pm_region.proofs.Clients.{certain_may_be}
 use Rattle.chunk_map.specs.declared.layouts.Geometry.{Geometry}
 use Rattle.chunk_map.specs.declared.layouts.BadLayout.{BadLayout}
 use Rattle.chunk_map.specs.Checked.{checked_layout}
@@ -18,7 +18,7 @@ use Rattle.group_laws.specs.MemberViews.{View, view_of, of_own}
 use Rattle.group_laws.specs.OpeningImages.{IsBlank}
 use Rattle.group_laws.specs.declared.types.Pending.{Pending}
 use Rattle.crash_core.specs.declared.kinds.Change.{Change}
-use Rattle.crash_core.proofs.Blank as blank
+use Rattle.crash_core.proofs.Clients.Blank as blank
 use Rattle.group_board.specs.Journals.{image_of}
 use Rattle.group_board.specs.Conditions.{IsFree, MayPost, MayLock}
 use Rattle.group_board.specs.Views.{after_post}

@@ -5,8 +5,7 @@ use Rattle.std.proofs.lemmas.Bool.{eqb-true, and_parts}
 use Rattle.std.proofs.lemmas.Nat.{div-mul-add}
 use Rattle.log_entry.specs.declared.entry.Body.TheVariants.{Pointer}
 use Rattle.log_entry.specs.Words.{words_for, unpacked, words_from}
-use Rattle.log_entry.proofs.Bytes.{length-unpacked}
-use Rattle.log_entry.proofs.Images.{length-words}
+use Rattle.log_entry.proofs.Clients.{length-unpacked, length-words}
 use Rattle.chunk_map.specs.declared.layouts.Geometry.{Geometry}
 use Rattle.chunk_map.specs.declared.heads.Head.{Head}
 use Rattle.chunk_map.specs.declared.heads.Head.TheVariants.{Free, Log, Data}
@@ -16,17 +15,16 @@ use Rattle.store_image.specs.declared.types.PlacedEntry.{PlacedEntry}
 use Rattle.store_image.specs.Facts.{KeepsRules}
 use Rattle.store_image.specs.Parts.{chunk_at, unit_at, class_behind, block_class, block_bytes, held, held_by}
 use Rattle.store_image.specs.Winners.{winner}
-use Rattle.store_image.proofs.Places.{layout_numbers}
+use Rattle.store_image.proofs.Clients.{layout_numbers}
 use Rattle.lazy_alloc.specs.Heads.{class_in}
 use Rattle.lazy_alloc.specs.Sets.{Sets, start_in, chunk_class, class_at, block_is_used}
 use Rattle.recover.specs.Starts.{IsAllocatorOf}
 use Rattle.group_laws.specs.declared.types.Block.{Block}
 use Rattle.group_laws.specs.Places.{Place, IsPlace, members, core_of, owner}
 use Rattle.group_laws.specs.MemberViews.{View}
-use Rattle.group_laws.proofs.Images.{held_there}
-use Rattle.group_laws.proofs.GroupEntries as entries
-use Rattle.group_laws.proofs.GroupEntries.{core_once, own_core, owner_of}
-use Rattle.group_laws.proofs.OpeningFound as founds
+use Rattle.group_laws.proofs.Clients.{held_there, core_once, own_core, owner_of}
+use Rattle.group_laws.proofs.Clients.GroupEntries as entries
+use Rattle.group_laws.proofs.Clients.OpeningFound as founds
 use Rattle.core_worker.specs.KeyTies.{IsBlockFor}
 use Rattle.core_worker.specs.Openings.{opened_view}
 

@@ -10,8 +10,7 @@ use Rattle.store_image.specs.declared.types.PlacedEntry.{PlacedEntry}
 use Rattle.store_image.specs.Facts.{In, KeepsRules}
 use Rattle.store_image.specs.Parts.{all_entries, held, block_bytes}
 use Rattle.store_image.specs.Winners.{winner, recovered, cell_by}
-use Rattle.store_image.proofs.Copies.{winner_some, winner_max}
-use Rattle.store_image.proofs.SoundFacts.{winner_is}
+use Rattle.store_image.proofs.Clients.{winner_some, winner_max, winner_is}
 use Rattle.core_index.specs.declared.types.Standing.{Standing}
 use Rattle.core_index.specs.Index.{known_at}
 use Rattle.core_index.specs.Records.{KeyRecord, last_of, block_of, standing_of, standing_at, standing_with, stands_alone, is_tombstone, is_empty, is_forgettable}
@@ -22,12 +21,9 @@ use Rattle.group_laws.specs.Places.{Place, IsPlace, members, core_of, owner}
 use Rattle.group_laws.specs.MemberViews.{View}
 use Rattle.group_laws.specs.OpeningImages.{winner_of, home_of, is_own, is_at, is_dead, is_own_dead, alone}
 use Rattle.group_laws.specs.OpeningImages as images
-use Rattle.group_laws.proofs.Images.{held_there}
-use Rattle.group_laws.proofs.GroupEntries as entries
-use Rattle.group_laws.proofs.GroupEntries.{core_once, core_back, own_core}
-use Rattle.group_laws.proofs.OpeningFound as founds
-use Rattle.group_laws.proofs.OpeningFound.{found_is, finds_one}
-use Rattle.group_laws.proofs.OpeningTidied.{all_true, all_from}
+use Rattle.group_laws.proofs.Clients.{held_there, core_once, core_back, own_core, found_is, finds_one, all_true, all_from}
+use Rattle.group_laws.proofs.Clients.GroupEntries as entries
+use Rattle.group_laws.proofs.Clients.OpeningFound as founds
 use Rattle.core_worker.specs.KeyTies.{KnowsKey, Left, LeftIn}
 use Rattle.core_worker.specs.Hearing.{is_dead_by, heard_at, last_change, HearsAll}
 use Rattle.core_worker.specs.Openings.{opened_view}

@@ -30,3 +30,4 @@ pub mod Kept
 pub mod Beginning
 mod KeyLaw
 mod Trials
+pub mod Clients

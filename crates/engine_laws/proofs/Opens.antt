@@ -8,20 +8,18 @@ use Rattle.pm_region.specs.Cell.{Cell}
 use Rattle.pm_region.specs.Words.{Surely}
 use Rattle.chunk_map.specs.declared.layouts.Geometry.{Geometry}
 use Rattle.chunk_map.specs.Layouts.{part_first, layout_of, IsLayout}
-use Rattle.chunk_map.proofs.LayoutLaws.{part_within}
+use Rattle.chunk_map.proofs.Clients.{part_within}
 use Rattle.store_image.specs.Soundness.{IsSound}
 use Rattle.store_image.specs.Winners as winners
-use Rattle.store_image.proofs.SoundLaws.{has_layout}
-use Rattle.store_image.proofs.SoundFacts.{sound_store}
-use Rattle.store_image.proofs.Places.{superblock_facts}
+use Rattle.store_image.proofs.Clients.{has_layout, sound_store, superblock_facts}
 use Rattle.group_laws.specs.Places.{Place, core_of, members}
 use Rattle.group_laws.specs.Places as places
 use Rattle.group_laws.specs.State.{Group}
 use Rattle.group_laws.specs.OpeningImages.{opened, is_own}
-use Rattle.group_laws.proofs.OpeningTidied as laws
+use Rattle.group_laws.proofs.Clients.OpeningTidied as laws
 use Rattle.group_laws.specs.MemberViews.{view_of}
 use Rattle.group_laws.specs.Regions.{place_at, key_group}
-use Rattle.group_laws.proofs.PartWords.{licensed_words}
+use Rattle.group_laws.proofs.Clients.{licensed_words}
 use Rattle.engine_laws.specs.Parts.{group_of, member_of, AllLicensed, Groups, HasSuperblock}
 use Rattle.engine_laws.proofs.Cores.{group_low, member_low, core_is, place_is, owner_member}
 

@@ -15,9 +15,9 @@ use Rattle.group_laws.specs.State.{Group}
 use Rattle.group_laws.specs.Runs.{IsStep}
 use Rattle.group_laws.specs.Runs as runs
 use Rattle.group_laws.specs.OpeningImages.{IsBlank}
-use Rattle.group_laws.proofs.Puts.{In-append_right}
+use Rattle.group_laws.proofs.Clients.{In-append_right}
 use Rattle.crash_core.specs.declared.kinds.Change.{Change}
-use Rattle.crash_core.proofs.Blank as blank
+use Rattle.crash_core.proofs.Clients.Blank as blank
 use Rattle.group_board.specs.Journals.{image_of, place_in}
 use Rattle.group_laws.specs.MemberViews.{View, view_of, of_own}
 use Rattle.group_board.specs.Seats.{SeatAt}

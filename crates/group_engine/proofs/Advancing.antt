@@ -6,7 +6,7 @@ use Rattle.fs_errors.specs.declared.Memory.{Memory}
 use Rattle.fs_model.specs.declared.model.Request.{Request}
 use Rattle.pm_region.specs.State.{State, During, IsTelling, cell_now}
 use Rattle.pm_region.specs.Words.{KeepsOutside}
-use Rattle.pm_region.proofs.Moments.{told_at_entry}
+use Rattle.pm_region.proofs.Clients.{told_at_entry}
 use Rattle.chunk_map.specs.declared.layouts.Geometry.{Geometry}
 use Rattle.chunk_map.specs.Layouts.{IsLayout}
 use Rattle.licence.specs.Licence.{part_at, part_end}
@@ -24,7 +24,7 @@ use Rattle.engine_laws.specs.WorkerMoves.{Hands}
 use Rattle.engine_laws.specs.Engine.{Engine}
 use Rattle.engine_laws.specs.Stands.{Origin, Stands}
 use Rattle.engine_laws.specs.Promises.{AnyTurn, next_in}
-use Rattle.engine_laws.proofs.Cores.{group_low}
+use Rattle.engine_laws.proofs.Clients.{group_low}
 use Rattle.core_worker.specs.declared.types.Answer.{Answer}
 use Rattle.core_worker.specs.declared.types.Turn.{Turn}
 use Rattle.core_worker.specs.declared.types.Turn.TheVariants.{Moved, Idle}

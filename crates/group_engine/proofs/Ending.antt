@@ -9,10 +9,8 @@ use Rattle.group_engine.specs.Runs.{RunState}
 use Rattle.group_engine.specs.Passes.{Settles, Passes, Keeps, Ends, Begun, EndsIn, RanSoFar, Ceases, CeasesSoFar, CeasePasses, CeasesOut, CeasesIn}
 use Rattle.std.proofs.lemmas.Bool.{cases_lt}
 use Rattle.engine_laws.specs.Ceasing.{IsResting, Halts}
-use Rattle.engine_laws.proofs.Ceasing.{stays_resting}
-use Rattle.engine_laws.proofs.Stands.{stands_on}
-use Rattle.engine_laws.proofs.Ran.{until, pass, goes}
-use Rattle.engine_laws.proofs.Begins as begins
+use Rattle.engine_laws.proofs.Clients.{stays_resting, stands_on, until, pass, goes}
+use Rattle.engine_laws.proofs.Clients.Begins as begins
 use Rattle.fs_model.specs.declared.model.Request.{Request}
 use Rattle.fs_text.specs.declared.line.Line.{Line}
 use Rattle.fs_text.specs.declared.line.Line.TheVariants.{Ask, Go}

@@ -14,7 +14,7 @@ use Rattle.engine_laws.specs.WorkerMoves.{Hands}
 use Rattle.engine_laws.specs.Engine.{Engine}
 use Rattle.engine_laws.specs.Workers.{Sits}
 use Rattle.engine_laws.specs.Stands.{Origin, Stands}
-use Rattle.engine_laws.proofs.Ceasing.{takes_stands}
+use Rattle.engine_laws.proofs.Clients.{takes_stands}
 use Rattle.core_worker.specs.declared.types.Answer.{Answer}
 use Rattle.core_worker.specs.declared.types.Turn.{Turn}
 use Rattle.group_engine.specs.declared.types.Stamped.{Stamped}

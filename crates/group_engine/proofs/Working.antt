@@ -12,7 +12,7 @@ use Rattle.group_laws.specs.Places.{Place, core_of, owner}
 use Rattle.group_laws.specs.State.{Group}
 use Rattle.group_laws.specs.Runs.{Kind, Runs}
 use Rattle.group_laws.specs.MemberViews.{View}
-use Rattle.group_laws.proofs.GroupEntries.{own_core}
+use Rattle.group_laws.proofs.Clients.{own_core}
 use Rattle.group_board.specs.Seats.{SeatAt}
 use Rattle.core_worker.specs.declared.worker.Worker.{Worker}
 use Rattle.core_worker.specs.declared.types.NotAccepted.{NotAccepted}
@@ -29,7 +29,7 @@ use Rattle.core_worker.specs.Ties.{Holds, Stands}
 use Rattle.core_worker.specs.Turning.{TurnMoves, Turned, TurnedTo}
 use Rattle.core_worker.specs.Turns.{Moment}
 use Rattle.core_worker.specs.WorkerMoves.{hands_of}
-use Rattle.core_worker.proofs.StartBlocks.{own_of}
+use Rattle.core_worker.proofs.Clients.{own_of}
 use Rattle.group_engine.specs.Calls.{AreOwn, Accepts, BeginsByEachView, Turns, WindsDown, has_moved, is_idle, is_open}
 use Rattle.group_engine.specs.Working.{IsMember, BeginsRequest, may_take, leads, turn_of}
 

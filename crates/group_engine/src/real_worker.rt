@@ -20,7 +20,7 @@ impl CoreWorker for Worker {
     ghost use Rattle.core_worker.specs.Left as measure;
     ghost use Rattle.core_worker.specs.Status as status;
     ghost use Rattle.group_engine.specs.Working as working;
-    ghost use Rattle.core_worker.proofs.Aside.{stands_aside};
+    ghost use Rattle.core_worker.proofs.Clients.{stands_aside};
     ghost use Rattle.std.specs.Prelude.{not, refl};
     ghost use Rattle.std.proofs.Common.{◌∙◌, ap};
     ghost use Rattle.core_worker.specs.declared.worker.Worker as worker;

@@ -1,6 +1,6 @@
 use Rattle.std.proofs.Common.{rules, ◌≡◌, ◌%◌, ◌<◌, [], ◌∷◌, ◌++◌, None, sym, ◌∙◌, ap, subst, length, slice_set, arith}
 use Rattle.chunk_map.specs.Layouts.{owner}
-use Rattle.chunk_map.proofs.LayoutLaws.{numbers_of}
+use Rattle.chunk_map.proofs.Clients.{numbers_of}
 use Rattle.group_engine.specs.Runs.{ShowsRun}
 use Rattle.group_engine.proofs.Ending.{on_err}
 use Rattle.group_engine.proofs.Giving.{layout_is, gave_at, still_at}
