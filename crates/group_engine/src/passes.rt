@@ -1,5 +1,5 @@
 // The passes of a drain, over whatever cores there are.
-ghost use Rattle.std.specs.Prelude.{◌≡◌, ℕ, ◌<◌, ◌≤◌, Bool, IfOk, OnOk, OnErr, true, false};
+ghost use Rattle.std.specs.Prelude.{◌≡◌, ℕ, ◌<◌, ◌≤◌, Bool, IfOk, OnOk, OnErr};
 ghost use Rattle.pm_region.specs.State.{State};
 ghost use Rattle.engine_laws.specs.Engine.{Engine};
 ghost use Rattle.engine_laws.specs.Promises.{AnyTurn};
