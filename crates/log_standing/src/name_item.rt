@@ -8,6 +8,10 @@ use log_entry::EntryName;
 
 // A greater count stands in the map.
 pub const MOST_IN_ITEM: u64 = 65535;
+// As many versions there are.
+pub const VERSIONS: u128 = 4294967296;
+// Each chunk of a log has a lower number.
+pub const CHUNK_NUMBERS: u32 = 256;
 
 /// A name with what it has: in how many chunks it stands, and whether it was told dead. One in no chunk is gone. While
 /// a log is read `chunk` is the chunk of an entry, and afterwards it is the last one that was counted.
@@ -24,7 +28,7 @@ pub struct NameItem {
 pub fn rank_of(key: Key, version: Version) -> u128
     ensures { result ≡ rank_of key version }
 {
-    key as u128 * 4294967296 + version as u128
+    key as u128 * VERSIONS + version as u128
 }
 
 /// Whether two items have one name.
