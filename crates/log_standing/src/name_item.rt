@@ -5,6 +5,7 @@ ghost use Rattle.log_standing.specs.NameItems.{rank_of, copies_of, is_item, IsIt
 use crate::types::Copies;
 use fs_model::{Key, Version};
 use log_entry::EntryName;
+use std::mem::size_of;
 
 // A greater count stands in the map.
 pub const MOST_IN_ITEM: u64 = 65535;
@@ -23,6 +24,8 @@ pub struct NameItem {
     pub chunk: u8,
     pub dead: bool,
 }
+
+const _: () = prove!(size_of::<NameItem>() == 16);
 
 /// Where a name comes among all: by key, then by version.
 pub fn rank_of(key: Key, version: Version) -> u128
