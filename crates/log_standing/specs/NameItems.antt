@@ -5,19 +5,19 @@ use Rattle.std.specs.List.Sorted.{IsNonDecreasingBy}
 use Rattle.std.specs.Map.{lookup}
 use Rattle.core_log.specs.declared.types.LogChunk.{LogChunk}
 use Rattle.log_standing.specs.declared.name_item.NameItem.{NameItem}
-use Rattle.log_standing.specs.declared.name_item.TheConstants.{MOST_IN_ITEM}
+use Rattle.log_standing.specs.declared.name_item.TheConstants.{CHUNK_NUMBERS, MOST_IN_ITEM, VERSIONS}
 use Rattle.log_standing.specs.declared.types.Copies.{Copies}
 use Rattle.log_standing.specs.NameCounts.{name_eq, copies_with, count_in}
 
 -- where a name comes among all, and an item: by key, then by version, then by chunk
 abbrev pub rank_of : ℕ → ℕ → ℕ
-rank_of k v = k * 4294967296 + v
+rank_of k v = k * VERSIONS + v
 
 abbrev pub rank_in : NameItem → ℕ
 rank_in x = rank_of x.key x.version
 
 abbrev pub order_of : NameItem → ℕ
-order_of x = rank_in x * 256 + x.chunk
+order_of x = rank_in x * CHUNK_NUMBERS + x.chunk
 
 -- the item is the name's
 abbrev pub is_item : ℕ → ℕ → NameItem → Bool
@@ -83,8 +83,8 @@ AreIn cs xs = All (λ x. count_by (λ (c : LogChunk). c.chunk == x.chunk) cs ≡
 
 -- the numbers fit their fields
 pub record Fits (x : NameItem) : Type 0 where
-  pub version : x.version < 4294967296
-  pub chunk : x.chunk < 256
+  pub version : x.version < VERSIONS
+  pub chunk : x.chunk < CHUNK_NUMBERS
 
 -- by name, then by chunk
 pub record InOrder (xs : List NameItem) : Type 0 where
@@ -95,7 +95,7 @@ pub record InOrder (xs : List NameItem) : Type 0 where
 pub record IsCounted (x : NameItem) : Type 0 where
   pub some : 0 < x.count
   pub most : x.count ≤ x.chunk + 1
-  pub chunk : x.chunk < 256
+  pub chunk : x.chunk < CHUNK_NUMBERS
   pub untold : x.dead ≡ false
 
 -- the same name, and the same chunk

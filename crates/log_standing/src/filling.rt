@@ -10,7 +10,7 @@ ghost use Rattle.log_standing.specs.NameItems.{copies_among, AreSmall};
 ghost use Rattle.log_standing.specs.Killing.{Answers};
 ghost use Rattle.log_standing.specs.Notes.{IsNote, IsOfLog, NotesAll};
 
-use crate::name_item::NameItem;
+use crate::name_item::{CHUNK_NUMBERS, NameItem};
 use crate::name_table::NameTable;
 use crate::standing_names::Standing;
 use core_log::CoreLog;
@@ -21,7 +21,7 @@ use std::alloc::Global;
 
 // The item of a name in a chunk.
 fn noted(name: EntryName, chunk: u32) -> NameItem
-    requires { chunk < 256 }
+    requires { chunk < CHUNK_NUMBERS }
     ensures { IsNote result name.key name.version chunk }
 {
     NameItem {

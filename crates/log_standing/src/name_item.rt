@@ -5,9 +5,14 @@ ghost use Rattle.log_standing.specs.NameItems.{rank_of, copies_of, is_item, IsIt
 use crate::types::Copies;
 use fs_model::{Key, Version};
 use log_entry::EntryName;
+use std::mem::size_of;
 
 // A greater count stands in the map.
 pub const MOST_IN_ITEM: u64 = 65535;
+// As many versions there are.
+pub const VERSIONS: u128 = 4294967296;
+// Each chunk of a log has a lower number.
+pub const CHUNK_NUMBERS: u32 = 256;
 
 /// A name with what it has: in how many chunks it stands, and whether it was told dead. One in no chunk is gone. While
 /// a log is read `chunk` is the chunk of an entry, and afterwards it is the last one that was counted.
@@ -20,11 +25,13 @@ pub struct NameItem {
     pub dead: bool,
 }
 
+const _: () = prove!(size_of::<NameItem>() == 16);
+
 /// Where a name comes among all: by key, then by version.
 pub fn rank_of(key: Key, version: Version) -> u128
     ensures { result ≡ rank_of key version }
 {
-    key as u128 * 4294967296 + version as u128
+    key as u128 * VERSIONS + version as u128
 }
 
 /// Whether two items have one name.
