@@ -139,6 +139,9 @@ untold_at e = standing_with e.0 e.1 false
 abbrev pub by_version : List Standee → List Standing
 by_version ss = map untold_at (homes_of ss)
 
--- a record at the start: no death was told yet
+-- what is known of a key at the start: no death was told yet
+abbrev pub opened_with : ℕ → Body → List Standee → KeyRecord
+opened_with v body standees = record { version = v; body = body; standing = by_version standees }
+
 abbrev pub opened : Record → KeyRecord
-opened r = record { version = r.version; body = r.body; standing = by_version r.standing.items }
+opened r = opened_with r.version r.body r.standing.items

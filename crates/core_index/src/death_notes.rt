@@ -4,11 +4,12 @@ ghost use Rattle.log_entry.specs.declared.entry.EntryName.{EntryName};
 ghost use Rattle.core_index.specs.Records.{Awaits};
 ghost use Rattle.core_index.specs.Slots.{count_dead, standee_with};
 ghost use Rattle.core_index.specs.Noted.{Noted, name_with};
-ghost use Rattle.core_index.specs.Index.{IsIndex, Tells, all_untold, known_at};
+ghost use Rattle.core_index.specs.Index.{IsIndex, Tells, all_places, all_untold, known_at};
 
-use crate::map::tell_at;
+use crate::compact::tell_in;
 use crate::notices::Notices;
 use crate::slot::Slot;
+use crate::tombstones::{Tombstones, name_of};
 use crate::types::Standee;
 use fs_model::Key;
 use log_entry::EntryName;
@@ -34,20 +35,51 @@ pub fn note_dead(notices: &mut Notices, key: Key, dead: Option<Standee>)
 // Tells a home of a dead entry. A name that is noted and does not wait any more is passed over.
 pub fn next_dead(
     slots: &mut BTreeMap<Key, Slot>,
+    tombstones: &mut Tombstones,
     notices: &mut Notices,
     home: u32,
 ) -> Option<EntryName>
-    requires { IsIndex slots.old.entries notices.old }
-    ensures index { IsIndex slots.new.entries notices.new }
-    ensures told { IfSome result (λ name. Tells slots.old.entries slots.new.entries home name) }
-    ensures fewer { IfSome result (λ _. all_untold slots.new.entries + 1
-        ≡ all_untold slots.old.entries) }
-    ensures none { IfNone result ((name : EntryName)
-        → ¬ Awaits (known_at slots.old.entries name.key) home name.version) }
-    ensures unchanged { IfNone result (slots.new.entries ≡ slots.old.entries) }
+    requires { IsIndex slots.old.entries tombstones.old notices.old }
+    ensures index { IsIndex slots.new.entries tombstones.new notices.new }
+    ensures told { IfSome result (λ name. Tells (all_places slots.old.entries tombstones.old)
+        (all_places slots.new.entries tombstones.new) home name) }
+    ensures fewer { IfSome result (λ _. all_untold (all_places slots.new.entries tombstones.new) + 1
+        ≡ all_untold (all_places slots.old.entries tombstones.old)) }
+    ensures none { IfNone result ((name : EntryName) → ¬ Awaits
+        (known_at (all_places slots.old.entries tombstones.old) name.key) home name.version) }
+    ensures unchanged { IfNone result (all_places slots.new.entries tombstones.new
+        ≡ all_places slots.old.entries tombstones.old) }
 {
     while let Some(name) = notices.take(home) {
-        if tell_at(slots, name, home) {
+        if tell_in(slots, tombstones, name, home) {
+            return Some(name);
+        }
+    }
+    next_deleted(slots, tombstones, notices, home)
+}
+
+// The same where no name is noted for the home: of the keys that were deleted before the start.
+fn next_deleted(
+    slots: &mut BTreeMap<Key, Slot>,
+    tombstones: &mut Tombstones,
+    notices: &Notices,
+    home: u32,
+) -> Option<EntryName>
+    requires index { IsIndex slots.old.entries tombstones.old notices.now }
+    requires none { (name : EntryName) → ¬ Noted notices.now home name }
+    ensures index { IsIndex slots.new.entries tombstones.new notices.now }
+    ensures told { IfSome result (λ name. Tells (all_places slots.old.entries tombstones.old)
+        (all_places slots.new.entries tombstones.new) home name) }
+    ensures fewer { IfSome result (λ _. all_untold (all_places slots.new.entries tombstones.new) + 1
+        ≡ all_untold (all_places slots.old.entries tombstones.old)) }
+    ensures none { IfNone result ((name : EntryName) → ¬ Awaits
+        (known_at (all_places slots.old.entries tombstones.old) name.key) home name.version) }
+    ensures unchanged { IfNone result (all_places slots.new.entries tombstones.new
+        ≡ all_places slots.old.entries tombstones.old) }
+{
+    while let Some(tombstone) = tombstones.pass(home) {
+        let name = name_of(&tombstone);
+        if u32::from(tombstone.home) == home && tell_in(slots, tombstones, name, home) {
             return Some(name);
         }
     }

@@ -2,7 +2,7 @@
 ghost use Rattle.std.specs.Prelude.{◌≡◌, ◌+◌, ◌-◌, ◌<◌, ◌≤◌, true, false, IsTrue, OnOk, OnErr, Some, None, option_map};
 ghost use Rattle.core_index.specs.Records.{Awaits, settled, last_of, block_of, is_forgettable};
 ghost use Rattle.core_index.specs.Slots.{mortal, count_dead, OnlyDead};
-ghost use Rattle.core_index.specs.Index.{Step, ToldAt, known_at, room_at, mortal_in, place_at, gone_place, Forgets};
+ghost use Rattle.core_index.specs.Index.{Step, ToldAt, known_at, room_at, mortal_in, all_mortal, place_at, gone_place, Forgets};
 
 use crate::slot::Slot;
 use crate::types::{Settled, Standee};
@@ -42,7 +42,7 @@ pub fn settle_at(
     }
 }
 
-// Makes room for one more change of a key.
+// Makes room for one more change of a key, as it is in the map.
 pub fn reserve_at(alloc: Global, slots: &mut BTreeMap<Key, Slot>, key: Key) -> Result<(), Memory>
     ensures ok { OnOk result (Step slots.old.entries slots.new.entries key
         (Some (record {
@@ -69,6 +69,7 @@ pub fn enter_at(slots: &mut BTreeMap<Key, Slot>, key: Key, slot: Slot) -> Result
 // Tells a home of a dead entry, where it waits to be told.
 pub fn tell_at(slots: &mut BTreeMap<Key, Slot>, name: EntryName, home: u32) -> bool
     ensures told { result ≡ true → ToldAt slots.old.entries slots.new.entries home name }
+    ensures mortal { result ≡ true → all_mortal slots.new.entries ≤ all_mortal slots.old.entries }
     ensures none { result ≡ false → ¬ Awaits (known_at slots.old.entries name.key) home
         name.version }
     ensures unchanged { result ≡ false → slots.new.entries ≡ slots.old.entries }
