@@ -1,5 +1,5 @@
 -- Keys that were deleted before the start, by rising key.
-use Rattle.std.proofs.Common.{◌≡◌, ◌≢◌, ◌⊎◌, inl, inr, ⊎_elim, ℕ, zero, suc, ◌+◌, ◌-◌, ◌*◌, ◌<◌, ◌≤◌, ◌==◌, nat_lt, Bool, true, false, cond, List, [], ◌∷◌, ◌++◌, length, get_or, Option, Some, None, option_map, refl, sym, ◌∙◌, ap, subst, arith, slice_set}
+use Rattle.std.proofs.Common.{◌≡◌, ◌≢◌, ◌⊎◌, inl, inr, ⊎_elim, ℕ, zero, suc, ◌+◌, ◌-◌, ◌*◌, ◌<◌, ◌≤◌, ◌==◌, nat_lt, Bool, true, false, cond, not, List, [], ◌∷◌, ◌++◌, length, get_or, Option, Some, None, option_map, refl, sym, ◌∙◌, ap, subst, arith, slice_set}
 use Rattle.std.specs.List.{AllByRecursion}
 use Rattle.std.specs.List.Sorted.{IsNonDecreasingBy}
 use Rattle.std.specs.Map.{values_of}
@@ -12,12 +12,14 @@ use Rattle.std.proofs.lemmas.Bool.{eqb-true, eq-eqb, ne_eqb, cond-true, cond-fal
 use Rattle.log_entry.specs.declared.entry.EntryName.{EntryName}
 use Rattle.core_index.specs.declared.types.Fate.{Fate}
 use Rattle.core_index.specs.declared.types.Fate.TheVariants.{Untold, Told, Gone, Moved}
+use Rattle.core_index.specs.declared.types.Look.TheVariants as looks
+use Rattle.core_index.specs.declared.types.Standing.{Standing}
 use Rattle.core_index.specs.declared.types.Tombstone.{Tombstone}
-use Rattle.core_index.specs.Records.{KeyRecord, live_version, count_untold, standing_of}
+use Rattle.core_index.specs.Records.{KeyRecord, Awaits, Shows, standing_at, standing_with, told_in, without, live_version, count_untold, standing_of}
 use Rattle.core_index.specs.Slots.{Place}
 use Rattle.core_index.specs.Noted.{name_with}
-use Rattle.core_index.specs.Tombs.{Tombs, key_of, left_of, left_by, place_of, placed, found_at, fated, with_fate, AreLess, Rising, IsMissing, AreTombs, Ahead, passed_at, bare_tombstone}
-use Rattle.core_index.specs.Index.{place_at, known_in, room_in, known_at, room_at, untold_in, all_untold, Turns}
+use Rattle.core_index.specs.Tombs.{Tombs, key_of, left_of, left_by, deleted, IsThere, place_of, placed, found_at, fated, with_fate, AreLess, Rising, IsMissing, AreTombs, Ahead, passed_at, bare_tombstone}
+use Rattle.core_index.specs.Index.{place_at, known_in, room_in, known_at, room_at, untold_in, all_untold, ToldAt, Turns}
 use Rattle.core_index.proofs.StepLaws.{apart}
 
 -- a key behind another is greater
@@ -60,6 +62,11 @@ missing_from ts k at rises less more ne = all_from (λ (t : Tombstone). key_of t
     (cases_eq i at))
     (cases_lt i at))
 
+default_of : (xs : List Tombstone) (i : ℕ) (e d : Tombstone) → i < length xs → get_or xs i e ≡ get_or xs i d
+default_of [] i e d lt = absurd (omega (arith, lt))
+default_of (x ∷ xs) zero e d lt = refl
+default_of (x ∷ xs) (suc i) e d lt = default_of xs i e d (omega (arith, lt))
+
 -- the last key is above all, so what is above it is above all
 pub all_less : (ts : List Tombstone) (k : ℕ) (d : Tombstone) → Rising ts → (0 < length ts → key_of (get_or ts (length ts - 1) d) < k) → AreLess ts k
 all_less ts k d rises last = all_from (λ (t : Tombstone). key_of t < k) ts (λ i e lt. less i e lt)
@@ -73,10 +80,6 @@ all_less ts k d rises last = all_from (λ (t : Tombstone). key_of t < k) ts (λ 
         (λ (at : i ≡ n). let top = last (omega (arith, lt)) in let is = ap key_of (same ∙ ap (λ (m : ℕ). get_or ts m d) at) in omega (arith, top, is))
         (λ (ne : i ≢ n). let below : i < n = ⊎_elim (λ (l : i < n). l) (λ (g : n ≤ i). absurd (ne (omega (arith, g, lt)))) (cases_lt i n) in let pair = rises_pair ts i n d rises below within in let top = last (omega (arith, lt)) in let is = ap key_of same in omega (arith, pair, top, is))
         (cases_eq i n)
-    default_of : (xs : List Tombstone) (i : ℕ) (e d : Tombstone) → i < length xs → get_or xs i e ≡ get_or xs i d
-    default_of [] i e d lt = absurd (omega (arith, lt))
-    default_of (x ∷ xs) zero e d lt = refl
-    default_of (x ∷ xs) (suc i) e d lt = default_of xs i e d (omega (arith, lt))
 
 -- What a search for a key finds.
 
@@ -102,6 +105,9 @@ placed_found (t ∷ ts) k = ⊎_elim
     (λ (e : key_of t ≡ k). cond-true (is_at (nat_cmp k) (key_of t)) (Some (place_of t)) (place_at (placed ts) k) (hit k (key_of t) (sym e)) ∙ ap (option_map place_of) (sym (cond-true (key_of t == k) (Some t) (found_at ts k) (eq-eqb (key_of t) k e))))
     (λ (ne : key_of t ≢ k). cond-false (is_at (nat_cmp k) (key_of t)) (Some (place_of t)) (place_at (placed ts) k) (apart k (key_of t) ne) ∙ placed_found ts k ∙ ap (option_map place_of) (sym (cond-false (key_of t == k) (Some t) (found_at ts k) (ne_eqb (key_of t) k ne))))
     (cases_eq (key_of t) k)
+
+pub known_found : (ts : List Tombstone) (k : ℕ) (o : Option Tombstone) → o ≡ found_at ts k → known_at (placed ts) k ≡ known_in (option_map place_of o)
+known_found ts k o is = ap known_in (placed_found ts k ∙ ap (option_map place_of) (sym is))
 
 pub no_room : (ts : List Tombstone) (k : ℕ) → room_at (placed ts) k ≡ 0
 no_room ts k = ap room_in (placed_found ts k) ∙ by (found_at ts k)
@@ -370,3 +376,96 @@ passed_one a home t lt is h n ahead = ⊎_elim
     let from = ahead.from in
     inr (record { at = ahead.at; from = omega (arith, here, from); within = ahead.within; key = ahead.key; version = ahead.version; home_is = ahead.home_is }))
     (cases_eq h home)
+
+-- What its calls make of such a key.
+
+pub same_turns : (a : Tombs) (k : ℕ) (now : Option KeyRecord) → known_at (placed a.items) k ≡ now → Turns a a k now
+same_turns a k now is = record { here = is; others = λ j ne. refl; ahead = λ home n ahead. ahead }
+
+pub cleared : (a : Tombs) (k : ℕ) → Turns a (fated_in a k Moved) k None
+cleared a k = fated_turns a k Moved None (by (found_at a.items k))
+  where
+    by : (o : Option Tombstone) → known_in (option_map place_of (option_map (with_fate Moved) o)) ≡ None
+    by None = refl
+    by (Some t) = refl
+
+gone_left : (f : Fate) (v home w : ℕ) → v ≡ w → IsThere f → left_by Gone v home ≡ option_map (without w) (left_by f v home)
+gone_left Untold v home w e there = ap (λ (b : Bool). Some (deleted v (cond (not b) (standing_with v home false ∷ []) []))) (sym (eq-eqb v w e))
+gone_left Told v home w e there = ap (λ (b : Bool). Some (deleted v (cond (not b) (standing_with v home true ∷ []) []))) (sym (eq-eqb v w e))
+gone_left Gone v home w e there = absurd there
+gone_left Moved v home w e there = absurd there
+
+pub gone_turns : (a : Tombs) (k w : ℕ) (t : Tombstone) → Some t ≡ found_at a.items k → t.version ≡ w → IsThere t.fate → Turns a (fated_in a k Gone) k (option_map (without w) (known_at (placed a.items) k))
+gone_turns a k w t is e there = fated_turns a k Gone (option_map (without w) (known_at (placed a.items) k)) (
+  ap (λ (o : Option Tombstone). known_in (option_map place_of (option_map (with_fate Gone) o))) (sym is)
+  ∙ gone_left t.fate t.version t.home w e there
+  ∙ ap (option_map (without w)) (sym (known_found a.items k (Some t) is)))
+
+none_stands : (v home w : ℕ) → Awaits (Some (deleted v [])) home w → ⊥
+none_stands v home w waits =
+    let e : deleted v [] ≡ waits.found = let has = waits.has in cc has in
+    let stands = ap (λ (r : KeyRecord). standing_at r.standing w) e ∙ waits.stands in
+    cc stands
+
+pub gone_waits : (a : Tombs) (k : ℕ) (t : Tombstone) → Some t ≡ found_at a.items k → (home w : ℕ) → Awaits (known_at (placed (fated a.items k Gone)) k) home w → ⊥
+gone_waits a k t is home w waits =
+    let now : known_at (placed (fated a.items k Gone)) k ≡ Some (deleted t.version []) = known_found (fated a.items k Gone) k (Some (with_fate Gone t)) (ap (option_map (with_fate Gone)) is ∙ sym (fated_here a.items k Gone)) in
+    none_stands t.version home w (subst (λ (o : Option KeyRecord). Awaits o home w) now waits)
+
+-- who waits was not told, and is of this name
+record OwnName (f : Fate) (v h home w : ℕ) : Type 0 where
+  untold : f ≡ Untold
+  version : v ≡ w
+  home_is : h ≡ home
+
+waits_own : (f : Fate) (v h home w : ℕ) → Awaits (left_by f v h) home w → OwnName f v h home w
+waits_own Untold v h home w waits =
+    let e : deleted v (standing_with v h false ∷ []) ≡ waits.found = let has = waits.has in cc has in
+    let stands = ap (λ (r : KeyRecord). standing_at r.standing w) e ∙ waits.stands in
+    by (v == w) refl stands
+  where
+    by : (b : Bool) → (v == w) ≡ b → cond b (Some (standing_with v h false)) None ≡ Some (standing_with w home false) → OwnName Untold v h home w
+    by true same at = record { untold = refl; version = eqb-true v w same; home_is = let one : standing_with v h false ≡ standing_with w home false = cc at in ap (λ (s : Standing). s.home) one }
+    by false same at = absurd (cc at)
+waits_own Told v h home w waits =
+    let e : deleted v (standing_with v h true ∷ []) ≡ waits.found = let has = waits.has in cc has in
+    let stands = ap (λ (r : KeyRecord). standing_at r.standing w) e ∙ waits.stands in
+    absurd (by (v == w) stands)
+  where
+    by : (b : Bool) → cond b (Some (standing_with v h true)) None ≡ Some (standing_with w home false) → ⊥
+    by true at = let one : standing_with v h true ≡ standing_with w home false = cc at in let flag : true ≡ false = ap (λ (s : Standing). s.told) one in cc flag
+    by false at = cc at
+waits_own Gone v h home w waits = absurd (none_stands v home w waits)
+waits_own Moved v h home w waits = let has = waits.has in absurd (cc has)
+
+told_left : (f : Fate) (v home w : ℕ) → f ≡ Untold → v ≡ w → left_by Told v home ≡ option_map (told_in w) (left_by f v home)
+told_left f v home w new e = ap (λ (b : Bool). Some (deleted v (cond b (standing_with v home true ∷ []) (standing_with v home false ∷ [])))) (sym (eq-eqb v w e)) ∙ ap (λ (g : Fate). option_map (told_in w) (left_by g v home)) (sym new)
+
+pub told_tomb : (a : Tombs) (home : ℕ) (n : EntryName) (t : Tombstone) → Some t ≡ found_at a.items n.key → Awaits (left_of t) home n.version → ToldAt (placed a.items) (placed (fated a.items n.key Told)) home n
+told_tomb a home n t is waits =
+    let own = waits_own t.fate t.version t.home home n.version waits in
+    let was : known_at (placed a.items) n.key ≡ left_of t = known_found a.items n.key (Some t) is in
+    let now : known_at (placed (fated a.items n.key Told)) n.key ≡ left_by Told t.version t.home = known_found (fated a.items n.key Told) n.key (Some (with_fate Told t)) (ap (option_map (with_fate Told)) is ∙ sym (fated_here a.items n.key Told)) in
+    let turns = fated_turns a n.key Told (known_at (placed (fated a.items n.key Told)) n.key) (sym (ap known_in (placed_found (fated a.items n.key Told) n.key ∙ ap (option_map place_of) (fated_here a.items n.key Told)))) in
+    record {
+      tells = record {
+        waited = subst (λ (o : Option KeyRecord). Awaits o home n.version) (sym was) waits;
+        change = record {
+          here = now ∙ told_left t.fate t.version t.home n.version own.untold own.version ∙ ap (option_map (told_in n.version)) (sym was);
+          others = λ j ne. ap known_in (turns.others j ne);
+        };
+        room = λ j. no_room (fated a.items n.key Told) j ∙ sym (no_room a.items j);
+      };
+      others = turns.others;
+      waits = λ w h after. let other = waits_own Told t.version t.home h w (subst (λ (o : Option KeyRecord). Awaits o h w) now after) in let flag = other.untold in absurd (cc flag);
+      fewer = fated_fewer a.items n.key t (sym is) own.untold;
+    }
+
+pub none_waits : (home v : ℕ) → Awaits None home v → ⊥
+none_waits home v waits = let has = waits.has in cc has
+
+pub shows_deleted : (f : Fate) (v home : ℕ) → (f ≡ Moved → ⊥) → Shows (left_by f v home) looks.Deleted
+shows_deleted Untold v home ne = refl
+shows_deleted Told v home ne = refl
+shows_deleted Gone v home ne = refl
+shows_deleted Moved v home ne = absurd (ne refl)

@@ -89,6 +89,11 @@ abbrev pub opened_in : List Record → ℕ → Option KeyRecord
 opened_in [] k = None
 opened_in (r ∷ rs) k = if r.key == k then Some (opened r) else opened_in rs k
 
+-- what the first list has, or else the second one
+abbrev pub over : Option Place → Option Place → Option Place
+over None o = o
+over (Some p) o = Some p
+
 -- What the index keeps of all keys: a key of the map is there, whatever the list of deleted keys has of it.
 abbrev pub all_places : List (ℕ × Place) → Tombs → List (ℕ × Place)
 all_places es a = es ++ placed a.items

@@ -6,7 +6,7 @@ ghost use Rattle.core_index.specs.Slots.{count_dead, OnlyDead};
 ghost use Rattle.core_index.specs.Tombs.{Ahead};
 ghost use Rattle.core_index.specs.Index.{Admits, Changes, SameRoom, IsCompact, ToldAt, all_places, all_mortal, known_at};
 
-use crate::map::{enter_at, forget_at, gone_at, reserve_at, tell_at};
+use crate::map::{enter_at, forget_there, gone_at, has, reserve_at, tell_at};
 use crate::slot::Slot;
 use crate::tombstones::{Tombstones, tombstone_of};
 use crate::types::{Standee, Tombstone};
@@ -38,7 +38,7 @@ pub fn compact(
     ensures { IfSome result (IsCompact slots.now.entries tombstones.now key version
         (opened_with version body.now standing.now)) }
 {
-    if slots.get(&key).is_some() || !tombstones.is_below(key) {
+    if has(slots, key) || !tombstones.is_below(key) {
         return None;
     }
     tombstone_of(key, version, body, standing)
@@ -56,7 +56,7 @@ pub fn admit_at(
     ensures err { OnErr result (slots.new.entries ≡ slots.old.entries) }
     ensures err_left { OnErr result (tombstones.new ≡ tombstones.old) }
 {
-    if slots.get(&key).is_some() {
+    if has(slots, key) {
         return reserve_at(alloc, slots, key);
     }
     let Some(tombstone) = tombstones.find(key) else {
@@ -83,7 +83,7 @@ pub fn tell_in(
     ensures unchanged { result ≡ false → slots.new.entries ≡ slots.old.entries }
     ensures unchanged_left { result ≡ false → tombstones.new ≡ tombstones.old }
 {
-    if slots.get(&name.key).is_some() {
+    if has(slots, name.key) {
         tell_at(slots, name, home)
     } else {
         tombstones.tell(name, home)
@@ -107,7 +107,7 @@ pub fn gone_in(
         ≤ all_mortal slots.old.entries }
     ensures ahead { (h : ℕ) (n : EntryName) → Ahead tombstones.old h n → Ahead tombstones.new h n }
 {
-    if slots.get(&name.key).is_some() {
+    if has(slots, name.key) {
         gone_at(slots, name)
     } else {
         tombstones.gone(name);
@@ -126,8 +126,6 @@ pub fn forget_in(slots: &mut BTreeMap<Key, Slot>, tombstones: &mut Tombstones, k
     ensures mortal { all_mortal slots.new.entries ≤ all_mortal slots.old.entries }
     ensures ahead { (h : ℕ) (n : EntryName) → Ahead tombstones.old h n → Ahead tombstones.new h n }
 {
-    if slots.get(&key).is_some() {
-        forget_at(slots, key);
-    }
+    forget_there(slots, key);
     tombstones.clear(key);
 }

@@ -285,11 +285,12 @@ impl Tombstones {
         ensures more { IfSome result (λ _. (passed_at self.old home < length self.old.items)
             × (passed_at self.new home ≡ passed_at self.old home + 1)) }
     {
+        let count = self.items.len();
         if home >= HOMES {
             return None;
         }
         let at = self.passed[home as usize];
-        if at >= self.items.len() {
+        if at >= count {
             return None;
         }
         self.passed[home as usize] = at + 1;
