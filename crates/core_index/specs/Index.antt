@@ -157,3 +157,8 @@ pub record Entering (all left : List Record) (es : List (ℕ × Place)) : Type 0
   pub split : all ≡ left ++ done
   pub known : (k : ℕ) → known_at es k ≡ opened_in done k
   pub room : (k : ℕ) → room_at es k ≡ 0
+
+-- The key has this record now, and every other one what it had.
+pub record TurnsAt (old new : List (ℕ × Place)) (k : ℕ) (now : Option KeyRecord) : Type 0 where
+  pub here : known_at new k ≡ now
+  pub others : (j : ℕ) → j ≢ k → place_at new j ≡ place_at old j

@@ -3,4 +3,5 @@ pub mod Marks
 pub mod Slots
 pub mod Noted
 pub mod Tombs
+pub mod Lives
 pub mod Index

@@ -7,6 +7,7 @@ mod death_notes;
 mod entries;
 mod index;
 mod live_keys;
+mod live_list;
 mod map;
 mod notices;
 mod slot;

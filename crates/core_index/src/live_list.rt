@@ -1,0 +1,358 @@
+// The keys that had a value at the start, each by an entry that stands alone.
+ghost use Rattle.std.specs.Prelude.{◌≡◌, ◌≢◌, ℕ, ◌+◌, ◌<◌, ◌≤◌, ◌++◌, ◌∷◌, List, [], Some, None, option_map, true, false, IfOk, IfSome, IfNone, OnOk, length, take, drop, IsTrue};
+ghost use Rattle.std.specs.List.{AllByRecursion};
+ghost use Rattle.log_entry.specs.declared.entry.EntryName.{EntryName};
+ghost use Rattle.core_index.specs.Index.{known_at, TurnsAt};
+ghost use Rattle.core_index.specs.Noted.{name_with};
+ghost use Rattle.core_index.specs.Records.{Shows, without, opened_with, last_of, live_version};
+ghost use Rattle.core_index.specs.Slots.{alive_at, count_of};
+ghost use Rattle.core_index.specs.Lives.{live_key, bytes_in, body_in, IsWithin, valued, IsStanding, live_at, turned, AllLess, KeysRise, IsLiveSpot, IsNotThere, placed_lives, FitsLive};
+
+use crate::slot::Slot;
+use crate::types::{Holding, LiveFate, LiveKey, Look, Record, Standee};
+use fs_errors::Memory;
+use fs_model::{Key, Value, Version};
+use log_entry::{Body, EntryName};
+use std::alloc::Global;
+use std::marker::Model;
+
+// By this a key is parted in two halves. Pointers and places of values are below it.
+const SHARE: u64 = 4_294_967_296;
+
+// The versions below it fit into two bytes.
+const VERSIONS: u32 = 65_536;
+
+// The homes below it fit into a byte, and so does the length of every value beside its key.
+const BYTES: u32 = 256;
+
+// By rising key, and the bytes of all values one behind the other. Only `push` and `slot` take memory.
+#[derive(Drop)]
+pub struct LiveList {
+    items: Vec<LiveKey>,
+    bytes: Vec<u8>,
+}
+
+impl Model for LiveList {
+    ghost use Rattle.core_index.specs.Lives.{Lives, AreLives};
+
+    ghost Value = { Lives };
+
+    ghost view = { λ a. record { items = a.items.items; bytes = a.bytes.items } };
+
+    ghost invariant = { λ a. AreLives a.items.items a.bytes.items };
+}
+
+fn key_of(live: &LiveKey) -> Key
+    ensures { result ≡ live_key live.now }
+{
+    u64::from(live.high) * SHARE + u64::from(live.low)
+}
+
+// Where the value will be, once its bytes are behind so many others.
+fn held_of(body: &Body, start: usize) -> Option<Holding>
+    ensures body { IfSome result (λ held. (bytes : List ℕ) → length bytes ≡ start
+        → body_in (bytes ++ bytes_in body.now) held ≡ body.now) }
+    ensures within { IfSome result (λ held. (bytes : List ℕ) → length bytes ≡ start
+        → IsWithin (bytes ++ bytes_in body.now) held) }
+{
+    match body {
+        Body::Tombstone => None,
+        Body::Pointer(pointer) => {
+            if *pointer >= SHARE {
+                return None;
+            }
+            Some(Holding::InBlock(*pointer as u32))
+        }
+        Body::Embedded(value) => {
+            let size = value.bytes().len();
+            if size >= BYTES as usize || start as u64 >= SHARE {
+                return None;
+            }
+            Some(Holding::Beside(start as u32, size as u8))
+        }
+    }
+}
+
+// What is known of a key, where it is of this kind and fits.
+fn live_key_of(
+    key: Key,
+    version: Version,
+    body: &Body,
+    standing: &[Standee],
+    start: usize,
+) -> Option<LiveKey>
+    ensures key { IfSome result (λ x. live_key x ≡ key) }
+    ensures within { IfSome result (λ x. (bytes : List ℕ) → length bytes ≡ start
+        → IsWithin (bytes ++ bytes_in body.now) x.held) }
+    ensures valued { IfSome result (λ x. (bytes : List ℕ) → length bytes ≡ start
+        → valued (bytes ++ bytes_in body.now) x
+            ≡ Some (opened_with version body.now standing.now)) }
+{
+    let [only] = standing else {
+        return None;
+    };
+    if version >= VERSIONS || only.version != version || only.home >= BYTES {
+        return None;
+    }
+    let held = held_of(body, start)?;
+    Some(LiveKey {
+        high: (key / SHARE) as u32,
+        low: (key % SHARE) as u32,
+        version: version as u16,
+        home: only.home as u8,
+        fate: LiveFate::Stands,
+        held,
+    })
+}
+
+// Whether its entry has this version, and stands.
+fn stands(live: &LiveKey, version: Version) -> bool
+    ensures found { result ≡ true → (live.now.version ≡ version) × IsStanding live.now.fate }
+    ensures none { (bytes : List ℕ) → result ≡ false → option_map (without version)
+        (valued bytes live.now) ≡ valued bytes live.now }
+{
+    match live.fate {
+        LiveFate::Stands => u32::from(live.version) == version,
+        _ => false,
+    }
+}
+
+// Where a key is.
+fn live_spot(items: &[LiveKey], key: Key) -> Option<usize>
+    requires { KeysRise items.now }
+    ensures found { IfSome result (IsLiveSpot items.now key) }
+    ensures missing { IfNone result (IsNotThere items.now key) }
+{
+    let at = items.partition_point(|x| key_of(x) < key);
+    if at >= items.len() {
+        return None;
+    }
+    if key_of(&items[at]) != key {
+        return None;
+    }
+    Some(at)
+}
+
+// The part of the bytes that a value has.
+fn part(bytes: &[u8], start: u32, size: u8) -> &[u8]
+    requires { start + size ≤ length bytes.now }
+    ensures { result.now ≡ take size (drop start bytes.now) }
+{
+    let start = start as usize;
+    &bytes[start..start + usize::from(size)]
+}
+
+fn body_of(alloc: Global, bytes: &[u8], held: Holding) -> Result<Body, Memory>
+    requires { IsWithin bytes.now held }
+    ensures { IfOk result (λ body. body ≡ body_in bytes.now held) }
+{
+    match held {
+        Holding::InBlock(pointer) => Ok(Body::Pointer(u64::from(pointer))),
+        Holding::Beside(start, size) => {
+            let own = Vec::from_slice(alloc, part(bytes, start, size))?;
+            Ok(Body::Embedded(Value::of(own)))
+        }
+    }
+}
+
+// What there is of a key, and room for one change.
+fn slot_with(
+    alloc: Global,
+    key: Key,
+    version: Version,
+    body: Body,
+    standing: &[Standee],
+) -> Result<Slot, Memory>
+    requires { AllByRecursion (λ s. s.version ≤ version) standing.now }
+    ensures { IfOk result (λ slot. slot ≡ record {
+      known = Some (opened_with version body standing.now);
+      room = 1;
+    }) }
+{
+    let start = Record {
+        key,
+        version,
+        body,
+        standing: Vec::from_slice(alloc, standing)?,
+    };
+    let mut slot = Slot::of(alloc, start)?;
+    slot.reserve()?;
+    Ok(slot)
+}
+
+// What there is of a key, where it is not elsewhere, and room for one change.
+fn slot_of(alloc: Global, bytes: &[u8], live: &LiveKey) -> Result<Slot, Memory>
+    requires { IsWithin bytes.now live.now.held }
+    ensures { IfOk result (λ slot. slot ≡ record { known = valued bytes.now live.now; room = 1 }) }
+{
+    let key = key_of(live);
+    let version = u32::from(live.version);
+    match live.fate {
+        LiveFate::Moved => Slot::with_room(alloc),
+        LiveFate::Gone => slot_with(alloc, key, version, body_of(alloc, bytes, live.held)?, &[]),
+        LiveFate::Stands => {
+            let only = Standee {
+                version,
+                home: u32::from(live.home),
+            };
+            slot_with(alloc, key, version, body_of(alloc, bytes, live.held)?, &[only])
+        }
+    }
+}
+
+fn last_of(live: &LiveKey) -> Version
+    ensures { (bytes : List ℕ) → result ≡ last_of (valued bytes live.now) }
+{
+    match live.fate {
+        LiveFate::Moved => 0,
+        _ => u32::from(live.version),
+    }
+}
+
+impl LiveList {
+    pub fn empty(alloc: Global) -> LiveList
+        ensures { result.items ≡ [] }
+    {
+        LiveList {
+            items: Vec::new(alloc),
+            bytes: Vec::new(alloc),
+        }
+    }
+
+    // Whether a key is above all of these.
+    pub fn is_below(&self, key: Key) -> bool
+        ensures { result ≡ true → AllLess self.now.items key }
+    {
+        match self.items.last() {
+            None => true,
+            Some(last) => key_of(last) < key,
+        }
+    }
+
+    // What is known of a key at the start, where it fits into the list.
+    pub fn fit(
+        &self,
+        key: Key,
+        version: Version,
+        body: &Body,
+        standing: &[Standee],
+    ) -> Option<LiveKey>
+        ensures { IfSome result (FitsLive self.now key body.now
+            (opened_with version body.now standing.now)) }
+    {
+        if !self.is_below(key) {
+            return None;
+        }
+        live_key_of(key, version, body, standing, self.bytes.len())
+    }
+
+    // Adds a key that is above all others.
+    pub fn push(&mut self, live: LiveKey, body: &Body) -> Result<(), Memory>
+        requires above { AllLess self.old.items (live_key live) }
+        requires within { IsWithin (self.old.bytes ++ bytes_in body.now) live.held }
+        ensures here { OnOk result (TurnsAt (placed_lives self.old) (placed_lives self.new)
+            (live_key live) (valued (self.old.bytes ++ bytes_in body.now) live)) }
+    {
+        if let Body::Embedded(value) = body {
+            self.bytes.extend_from_slice(value.bytes())?;
+        }
+        self.items.push(live)?;
+        Ok(())
+    }
+
+    // What there is of a key.
+    fn find(&self, key: Key) -> Option<LiveKey>
+        ensures found { result ≡ live_at self.now.items key }
+        ensures within { IfSome result (λ x. IsWithin self.now.bytes x.held) }
+    {
+        let Some(spot) = live_spot(&self.items, key) else {
+            return None;
+        };
+        Some(self.items[spot])
+    }
+
+    pub fn last(&self, key: Key) -> Version
+        ensures { result ≡ last_of (known_at (placed_lives self.now) key) }
+    {
+        match self.find(key) {
+            None => 0,
+            Some(live) => last_of(&live),
+        }
+    }
+
+    pub fn look(&self, key: Key) -> Look<'_>
+        ensures { Shows (known_at (placed_lives self.now) key) result }
+    {
+        let Some(live) = self.find(key) else {
+            return Look::Unknown;
+        };
+        if live.fate == LiveFate::Moved {
+            return Look::Unknown;
+        }
+        match live.held {
+            Holding::InBlock(pointer) => Look::Block(u64::from(pointer)),
+            Holding::Beside(start, size) => Look::Embedded(part(&self.bytes, start, size)),
+        }
+    }
+
+    // How many entries of the key may still die.
+    pub fn count_alive(&self, key: Key) -> u64
+        ensures { result ≡ count_of (alive_at (known_at (placed_lives self.now) key)) }
+    {
+        match self.find(key) {
+            None => 0,
+            Some(live) => match live.fate {
+                LiveFate::Stands => 1,
+                _ => 0,
+            },
+        }
+    }
+
+    // What there is of a key, with room for one change; nothing where it is not among these.
+    pub fn slot(&self, alloc: Global, key: Key) -> Result<Option<Slot>, Memory>
+        ensures slot { IfOk result (λ found. IfSome found (λ slot. slot ≡ record {
+          known = known_at (placed_lives self.now) key;
+          room = 1;
+        })) }
+        ensures none { IfOk result (λ found. IfNone found
+            (known_at (placed_lives self.now) key ≡ None)) }
+    {
+        let Some(live) = self.find(key) else {
+            return Ok(None);
+        };
+        Ok(Some(slot_of(alloc, &self.bytes, &live)?))
+    }
+
+    // Gives the entry of a key another fate.
+    fn set(&mut self, key: Key, fate: LiveFate)
+        ensures { self.new ≡ record {
+          items = turned self.old.items key fate;
+          bytes = self.old.bytes;
+        } }
+    {
+        let Some(spot) = live_spot(&self.items, key) else {
+            return;
+        };
+        self.items[spot].fate = fate;
+    }
+
+    // Takes an entry out of those that stand.
+    pub fn gone(&mut self, name: EntryName)
+        ensures { TurnsAt (placed_lives self.old) (placed_lives self.new) name.key
+            (option_map (without name.version) (known_at (placed_lives self.old) name.key)) }
+    {
+        let Some(live) = self.find(name.key) else {
+            return;
+        };
+        if stands(&live, name.version) {
+            self.set(name.key, LiveFate::Gone);
+        }
+    }
+
+    // Takes the record of a key out.
+    pub fn clear(&mut self, key: Key)
+        ensures { TurnsAt (placed_lives self.old) (placed_lives self.new) key None }
+    {
+        self.set(key, LiveFate::Moved);
+    }
+}
