@@ -5,6 +5,7 @@ pub mod SlotLaws
 pub mod NoticeLaws
 pub mod StepLaws
 pub mod TombLaws
+pub mod LiveLaws
 pub mod PlaceLaws
 pub mod IndexLaws
 pub mod ListingLaws

@@ -1,5 +1,5 @@
 // The keys that had a value at the start, each by an entry that stands alone.
-ghost use Rattle.std.specs.Prelude.{◌≡◌, ◌≢◌, ℕ, ◌+◌, ◌<◌, ◌≤◌, ◌++◌, ◌∷◌, List, [], Some, None, option_map, true, false, IfOk, IfSome, IfNone, OnOk, length, take, drop, IsTrue};
+ghost use Rattle.std.specs.Prelude.{◌≡◌, ◌≢◌, ℕ, ◌+◌, ◌<◌, ◌≤◌, ◌++◌, ◌∷◌, List, [], Some, None, option_map, true, false, IfOk, IfSome, IfNone, OnOk, OnErr, length, take, drop, IsTrue};
 ghost use Rattle.std.specs.List.{AllByRecursion};
 ghost use Rattle.log_entry.specs.declared.entry.EntryName.{EntryName};
 ghost use Rattle.core_index.specs.Index.{known_at, TurnsAt};
@@ -155,6 +155,17 @@ fn body_of(alloc: Global, bytes: &[u8], held: Holding) -> Result<Body, Memory>
     }
 }
 
+// Adds the bytes that a body has beside its key.
+fn add_bytes(bytes: &mut Vec<u8>, body: &Body) -> Result<(), Memory>
+    ensures ok { OnOk result (bytes.new.items ≡ bytes.old.items ++ bytes_in body.now) }
+    ensures err { OnErr result (bytes.new.items ≡ bytes.old.items) }
+{
+    if let Body::Embedded(value) = body {
+        bytes.extend_from_slice(value.bytes())?;
+    }
+    Ok(())
+}
+
 // What there is of a key, and room for one change.
 fn slot_with(
     alloc: Global,
@@ -253,9 +264,7 @@ impl LiveList {
         ensures here { OnOk result (TurnsAt (placed_lives self.old) (placed_lives self.new)
             (live_key live) (valued (self.old.bytes ++ bytes_in body.now) live)) }
     {
-        if let Body::Embedded(value) = body {
-            self.bytes.extend_from_slice(value.bytes())?;
-        }
+        add_bytes(&mut self.bytes, body)?;
         self.items.push(live)?;
         Ok(())
     }

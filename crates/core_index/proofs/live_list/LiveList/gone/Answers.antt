@@ -1,0 +1,30 @@
+use Rattle.std.proofs.Common.{◌≡◌, ◌<◌, ◌≤◌, ◌+◌, ◌-◌, ◌++◌, ◌∷◌, [], ℕ, List, length, get_or, true, false, nat_lt, Option, Some, None, option_map, refl, sym, ◌∙◌, ap, subst, arith, rules, slice_set}
+use Rattle.std.proofs.lemmas.List.{get_or_read}
+use Rattle.core_index.specs.declared.types.LiveFate.{LiveFate}
+use Rattle.core_index.specs.declared.types.LiveFate.TheVariants.{Stands, Gone, Moved}
+use Rattle.core_index.specs.declared.types.LiveKey.{LiveKey}
+use Rattle.core_index.specs.Records.{KeyRecord, Shows, without}
+use Rattle.core_index.specs.Lives.{Lives, AreLives, live_key, body_in, bytes_in, IsWithin, valued, valued_by, live_place, live_at, places_of, placed_lives, with_live_fate, turned, AllLess, KeysRise, IsLiveSpot, IsNotThere}
+use Rattle.core_index.specs.Index.{known_at, known_in, TurnsAt}
+use Rattle.core_index.proofs.LiveLaws.{known_found, same_at, live_gone}
+use Rattle.core_index.proofs.live_list.LiveList.gone.Goals as goal
+
+pub returns-in_default : goal.returns-in_default
+returns-in_default c =
+    let a = c.args.self.now in
+    let none = known_found a.bytes a.items c.args.name.key None c.in_default.ensures.found in
+    same_at (placed_lives a) c.args.name.key (option_map (without c.args.name.version) (known_at (placed_lives a) c.args.name.key)) (none ∙ ap (option_map (without c.args.name.version)) (sym none))
+
+pub returns-then-stands : goal.returns-then-stands
+returns-then-stands c =
+    let a = c.args.self.now in
+    let n = c.args.name in
+    let stands = c.stands.ensures.found c.if-stands.true in
+    subst (λ (b : Lives). TurnsAt (placed_lives a) (placed_lives b) n.key (option_map (without n.version) (known_at (placed_lives a) n.key))) (sym c.set.ensures) (live_gone a.bytes a.items n.key n.version c.in-Some.live c.in-Some.ensures.found stands.0 stands.1)
+
+pub returns-else-stands : goal.returns-else-stands
+returns-else-stands c =
+    let a = c.args.self.now in
+    let n = c.args.name in
+    let is = known_found a.bytes a.items n.key (Some c.in-Some.live) c.in-Some.ensures.found in
+    same_at (placed_lives a) n.key (option_map (without n.version) (known_at (placed_lives a) n.key)) (is ∙ sym (c.stands.ensures.none a.bytes c.if-stands.false) ∙ ap (option_map (without n.version)) (sym is))
