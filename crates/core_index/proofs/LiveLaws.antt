@@ -1,5 +1,5 @@
 -- Keys that had a value at the start, by rising key.
-use Rattle.std.proofs.Common.{◌≡◌, ◌≢◌, ◌⊎◌, inl, inr, ⊎_elim, ℕ, zero, suc, ◌+◌, ◌-◌, ◌*◌, ◌<◌, ◌≤◌, ◌==◌, nat_lt, Bool, true, false, cond, not, ◌&&◌, ◌||◌, List, [], ◌∷◌, ◌++◌, length, take, drop, get_or, Option, Some, None, option_map, refl, sym, ◌∙◌, ap, subst, arith, slice_set, length-drop}
+use Rattle.std.proofs.Common.{◌≡◌, ◌≢◌, ⊎_elim, ℕ, zero, suc, ◌+◌, ◌-◌, ◌<◌, ◌≤◌, ◌==◌, Bool, true, false, cond, not, ◌&&◌, ◌||◌, List, [], ◌∷◌, ◌++◌, length, take, drop, get_or, Option, Some, None, option_map, refl, sym, ◌∙◌, ap, subst, arith, slice_set, length-drop}
 use Rattle.std.specs.List.{AllByRecursion}
 use Rattle.std.specs.List.Sorted.{IsNonDecreasingBy}
 use Rattle.std.specs.BTreeMap.{is_at}
@@ -15,11 +15,10 @@ use Rattle.core_index.specs.declared.types.LiveFate.{LiveFate}
 use Rattle.core_index.specs.declared.types.LiveFate.TheVariants.{Stands, Gone, Moved}
 use Rattle.core_index.specs.declared.types.LiveKey.{LiveKey}
 use Rattle.core_index.specs.declared.types.Look.{Look}
-use Rattle.core_index.specs.declared.types.Look.TheVariants as looks
 use Rattle.core_index.specs.declared.types.Standing.{Standing}
-use Rattle.core_index.specs.Records.{KeyRecord, Awaits, Shows, ShowsBody, is_dead, is_tombstone, stands_alone, standing_at, standing_with, without, live_version}
+use Rattle.core_index.specs.Records.{KeyRecord, Shows, ShowsBody, is_dead, is_tombstone, stands_alone, standing_at, standing_with, without}
 use Rattle.core_index.specs.Slots.{Place, alive_at, home_in, count_of}
-use Rattle.core_index.specs.Lives.{Lives, AreLives, live_key, body_in, IsWithin, valued, valued_by, IsStanding, live_place, live_at, places_of, placed_lives, with_live_fate, turned, AllLess, KeysRise, IsNotThere}
+use Rattle.core_index.specs.Lives.{AreLives, live_key, body_in, IsWithin, valued, valued_by, IsStanding, live_place, live_at, places_of, with_live_fate, turned, AllLess, KeysRise, IsNotThere}
 use Rattle.core_index.specs.Index.{place_at, known_in, room_in, known_at, room_at, TurnsAt}
 use Rattle.core_index.proofs.StepLaws.{apart}
 

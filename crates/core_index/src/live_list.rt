@@ -4,7 +4,7 @@ ghost use Rattle.std.specs.List.{AllByRecursion};
 ghost use Rattle.log_entry.specs.declared.entry.EntryName.{EntryName};
 ghost use Rattle.core_index.specs.Index.{known_at, TurnsAt};
 ghost use Rattle.core_index.specs.Noted.{name_with};
-ghost use Rattle.core_index.specs.Records.{Shows, without, opened_with, last_of, live_version};
+ghost use Rattle.core_index.specs.Records.{Shows, ShowsBody, without, opened_with, last_of, live_version};
 ghost use Rattle.core_index.specs.Slots.{alive_at, count_of};
 ghost use Rattle.core_index.specs.Lives.{live_key, bytes_in, body_in, IsWithin, valued, IsStanding, live_at, turned, AllLess, KeysRise, IsLiveSpot, IsNotThere, placed_lives, FitsLive};
 
@@ -140,6 +140,16 @@ fn part(bytes: &[u8], start: u32, size: u8) -> &[u8]
 {
     let start = start as usize;
     &bytes[start..start + usize::from(size)]
+}
+
+fn show(bytes: &[u8], held: Holding) -> Look<'_>
+    requires { IsWithin bytes.now held }
+    ensures { ShowsBody (body_in bytes.now held) result }
+{
+    match held {
+        Holding::InBlock(pointer) => Look::Block(u64::from(pointer)),
+        Holding::Beside(start, size) => Look::Embedded(part(bytes, start, size)),
+    }
 }
 
 fn body_of(alloc: Global, bytes: &[u8], held: Holding) -> Result<Body, Memory>
@@ -292,15 +302,12 @@ impl LiveList {
     pub fn look(&self, key: Key) -> Look<'_>
         ensures { Shows (known_at (placed_lives self.now) key) result }
     {
-        let Some(live) = self.find(key) else {
-            return Look::Unknown;
-        };
-        if live.fate == LiveFate::Moved {
-            return Look::Unknown;
-        }
-        match live.held {
-            Holding::InBlock(pointer) => Look::Block(u64::from(pointer)),
-            Holding::Beside(start, size) => Look::Embedded(part(&self.bytes, start, size)),
+        match self.find(key) {
+            None => Look::Unknown,
+            Some(live) => match live.fate {
+                LiveFate::Moved => Look::Unknown,
+                _ => show(&self.bytes, live.held),
+            },
         }
     }
 
