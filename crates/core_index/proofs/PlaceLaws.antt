@@ -1,21 +1,23 @@
 -- The map of keys beside the list of deleted keys.
-use Rattle.std.proofs.Common.{◌≡◌, ◌≢◌, ◌⊎◌, inl, inr, ⊎_elim, ℕ, ◌+◌, ◌-◌, ◌<◌, ◌≤◌, Bool, true, false, cond, List, [], ◌∷◌, ◌++◌, Option, Some, None, option_map, refl, sym, ◌∙◌, ap, subst, arith}
+use Rattle.std.proofs.Common.{◌≡◌, ◌≢◌, ◌⊎◌, inl, inr, ⊎_elim, ℕ, ◌+◌, ◌-◌, ◌<◌, ◌≤◌, Bool, true, false, cond, ◌&&◌, ◌||◌, ◌==◌, nat_lt, List, [], ◌∷◌, ◌++◌, Option, Some, None, option_map, refl, sym, ◌∙◌, ap, subst, arith}
 use Rattle.std.specs.Prelude.{is_some, Result, Ok, Err, OnOk, OnErr, IsTrue}
 use Rattle.std.specs.List.{sum_by}
 use Rattle.std.specs.Map.{values_of}
 use Rattle.std.specs.BTreeMap.{is_at}
 use Rattle.std.specs.Ordering.{nat_cmp}
-use Rattle.std.proofs.lemmas.Bool.{cases_eq}
+use Rattle.std.proofs.lemmas.Bool.{cases_eq, eq-eqb}
 use Rattle.std.proofs.lemmas.List.Sums.{sum_by-append}
 use Rattle.log_entry.specs.declared.entry.EntryName.{EntryName}
 use Rattle.core_index.specs.declared.types.Fate.{Fate}
 use Rattle.core_index.specs.declared.types.Fate.TheVariants.{Untold, Told, Gone, Moved}
 use Rattle.core_index.specs.declared.types.Standee.{Standee}
+use Rattle.core_index.specs.declared.types.Standing.{Standing}
 use Rattle.core_index.specs.declared.types.Tombstone.{Tombstone}
-use Rattle.core_index.specs.Records.{KeyRecord, Awaits, told_in, without, live_version, is_forgettable}
+use Rattle.core_index.specs.Records.{KeyRecord, Awaits, is_dead, stands_alone, standing_with, told_in, without, live_version, is_forgettable}
 use Rattle.core_index.specs.Slots.{Place, mortal, OnlyDead, count_dead, count_of, alive_at, standee_with}
-use Rattle.core_index.specs.Tombs.{Tombs, left_by, left_of, found_at, placed, Ahead}
+use Rattle.core_index.specs.Tombs.{Tombs, deleted, left_by, left_of, found_at, placed, Ahead}
 use Rattle.core_index.specs.Index.{place_at, known_in, room_in, known_at, room_at, mortal_in, all_mortal, untold_in, all_untold, over, all_places, gone_place, Step, Changes, SameRoom, Tells, ToldAt, Turns, Forgets, Admits}
+use Rattle.core_index.proofs.DeadLaws.{alive_none}
 use Rattle.core_index.proofs.TombLaws.{no_room, none_live, known_found}
 
 pub place_both : (es ps : List (ℕ × Place)) (k : ℕ) → place_at (es ++ ps) k ≡ over (place_at es k) (place_at ps k)
@@ -175,10 +177,17 @@ admits_there es fs a k same step = record {
   count = let sum = step.count in let more = grown (place_at es k) in omega (arith, sum, more);
 }
 
+dead_now : (v : ℕ) (ss : List Standing) → stands_alone ss v ≡ true → is_dead (deleted v ss) v ≡ true
+dead_now v ss alone = ap (λ (b : Bool). nat_lt v v || ((v == v) && b)) alone ∙ ap (λ (b : Bool). nat_lt v v || (b && true)) (eq-eqb v v refl) ∙ by (nat_lt v v)
+  where
+    by : (b : Bool) → (b || (true && true)) ≡ true
+    by true = refl
+    by false = refl
+
 left_mortal : (f : Fate) (v home : ℕ) → count_of (alive_at (left_by f v home)) ≡ 0
-left_mortal Untold v home = ?
-left_mortal Told v home = ?
-left_mortal Gone v home = ?
+left_mortal Untold v home = ap count_of (alive_none (deleted v (standing_with v home false ∷ [])) (dead_now v (standing_with v home false ∷ []) (ap (λ (b : Bool). b && true) (eq-eqb v v refl))))
+left_mortal Told v home = ap count_of (alive_none (deleted v (standing_with v home true ∷ [])) (dead_now v (standing_with v home true ∷ []) (ap (λ (b : Bool). b && true) (eq-eqb v v refl))))
+left_mortal Gone v home = ap count_of (alive_none (deleted v []) (dead_now v [] refl))
 left_mortal Moved v home = refl
 
 pub admits_moved : (es fs : List (ℕ × Place)) (a b : Tombs) (k : ℕ) (t : Tombstone) (p : Place) → place_at es k ≡ None → Some t ≡ found_at a.items k → p ≡ record { known = left_of t; room = 1 } → Step es fs k (Some p) → Turns a b k None → Admits es fs a b k

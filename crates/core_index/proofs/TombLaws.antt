@@ -170,7 +170,7 @@ length_fated (t ∷ ts) k f = by (key_of t == k) (length_fated ts k f)
 pub fated_tombs : (ts : List Tombstone) (passed : List ℕ) (k : ℕ) (f : Fate) → AreTombs ts passed → AreTombs (fated ts k f) passed
 fated_tombs ts passed k f is = record {
   rising = rising_fated ts k f is.rising;
-  homes = all_fated (λ (t : Tombstone). t.home < 8) ts k f (λ t lt. lt) is.homes;
+  homes = all_fated (λ (t : Tombstone). t.home < 16) ts k f (λ t lt. lt) is.homes;
   within = subst (λ (m : ℕ). AllByRecursion (λ (n : ℕ). n ≤ m) passed) (sym (length_fated ts k f)) is.within;
 }
 
@@ -263,10 +263,10 @@ within_more : (passed : List ℕ) (m n : ℕ) → m ≤ n → AllByRecursion (λ
 within_more [] m n le all = tt
 within_more (x ∷ passed) m n le all = ((let own = all.0 in omega (arith, own, le)), within_more passed m n le all.1)
 
-pub pushed_tombs : (ts : List Tombstone) (passed : List ℕ) (t : Tombstone) → AreTombs ts passed → AreLess ts (key_of t) → t.home < 8 → AreTombs (ts ++ t ∷ []) passed
+pub pushed_tombs : (ts : List Tombstone) (passed : List ℕ) (t : Tombstone) → AreTombs ts passed → AreLess ts (key_of t) → t.home < 16 → AreTombs (ts ++ t ∷ []) passed
 pushed_tombs ts passed t is less home = record {
   rising = rising_more ts t is.rising less;
-  homes = all_more (λ (x : Tombstone). x.home < 8) ts t is.homes home;
+  homes = all_more (λ (x : Tombstone). x.home < 16) ts t is.homes home;
   within = let longer = length-append ts (t ∷ []) in within_more passed (length ts) (length (ts ++ t ∷ [])) (omega (arith, longer)) is.within;
 }
 
@@ -335,8 +335,8 @@ passed_tombs ts passed home is lt = record { rising = is.rising; homes = is.home
     by (x ∷ ps) zero n all le = (le, all.1)
     by (x ∷ ps) (suc i) n all le = (all.0, by ps i n all.1 le)
 
-pub none_far : (a : Tombs) (home : ℕ) (n : EntryName) → AllByRecursion (λ (t : Tombstone). t.home < 8) a.items → 8 ≤ home → Ahead a home n → ⊥
-none_far a home n homes far is = let lt = all_at (λ (t : Tombstone). t.home < 8) a.items is.at bare_tombstone homes is.within in let e = is.home_is in omega (arith, lt, e, far)
+pub none_far : (a : Tombs) (home : ℕ) (n : EntryName) → AllByRecursion (λ (t : Tombstone). t.home < 16) a.items → 16 ≤ home → Ahead a home n → ⊥
+none_far a home n homes far is = let lt = all_at (λ (t : Tombstone). t.home < 16) a.items is.at bare_tombstone homes is.within in let e = is.home_is in omega (arith, lt, e, far)
 
 pub none_left : (a : Tombs) (home : ℕ) (n : EntryName) → length a.items ≤ passed_at a home → Ahead a home n → ⊥
 none_left a home n past is = let from = is.from in let lt = is.within in omega (arith, past, from, lt)
@@ -413,12 +413,12 @@ gone_waits a k t is home w waits =
     none_stands t.version home w (subst (λ (o : Option KeyRecord). Awaits o home w) now waits)
 
 -- who waits was not told, and is of this name
-record OwnName (f : Fate) (v h home w : ℕ) : Type 0 where
-  untold : f ≡ Untold
-  version : v ≡ w
-  home_is : h ≡ home
+pub record OwnName (f : Fate) (v h home w : ℕ) : Type 0 where
+  pub untold : f ≡ Untold
+  pub version : v ≡ w
+  pub home_is : h ≡ home
 
-waits_own : (f : Fate) (v h home w : ℕ) → Awaits (left_by f v h) home w → OwnName f v h home w
+pub waits_own : (f : Fate) (v h home w : ℕ) → Awaits (left_by f v h) home w → OwnName f v h home w
 waits_own Untold v h home w waits =
     let e : deleted v (standing_with v h false ∷ []) ≡ waits.found = let has = waits.has in cc has in
     let stands = ap (λ (r : KeyRecord). standing_at r.standing w) e ∙ waits.stands in

@@ -110,7 +110,7 @@ pub record IsCompact (es : List (ℕ × Place)) (a : Tombs) (k v : ℕ) (known :
   pub new : place_at es k ≡ None
   pub above : AreLess a.items k
   pub key : key_of t ≡ k
-  pub home : t.home < 8
+  pub home : t.home < 16
   pub version : t.version ≡ v
   pub left : left_of t ≡ Some known
 

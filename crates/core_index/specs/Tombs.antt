@@ -14,6 +14,9 @@ use Rattle.core_index.specs.Slots.{Place}
 abbrev pub key_of : Tombstone → ℕ
 key_of t = t.high * 4294967296 + t.low
 
+abbrev pub name_of : Tombstone → EntryName
+name_of t = record { key = key_of t; version = t.version }
+
 abbrev pub deleted : ℕ → List Standing → KeyRecord
 deleted v ss = record { version = v; body = bodies.Tombstone; standing = ss }
 
@@ -112,5 +115,5 @@ pub record Ahead (b : Tombs) (home : ℕ) (n : EntryName) : Type 0 where
 -- What is true of the fields of such a list.
 pub record AreTombs (ts : List Tombstone) (passed : List ℕ) : Type 0 where
   pub rising : Rising ts
-  pub homes : AllByRecursion (λ t. t.home < 8) ts
+  pub homes : AllByRecursion (λ t. t.home < 16) ts
   pub within : AllByRecursion (λ n. n ≤ length ts) passed

@@ -1,16 +1,17 @@
 // Dead entries on their way to be told.
-ghost use Rattle.std.specs.Prelude.{◌≡◌, ℕ, ◌+◌, ◌≤◌, Some, IfSome, IfNone};
+ghost use Rattle.std.specs.Prelude.{◌≡◌, true, false, ℕ, ◌+◌, ◌≤◌, Some, IfSome, IfNone};
 ghost use Rattle.log_entry.specs.declared.entry.EntryName.{EntryName};
 ghost use Rattle.core_index.specs.Records.{Awaits};
 ghost use Rattle.core_index.specs.Slots.{count_dead, standee_with};
 ghost use Rattle.core_index.specs.Noted.{Noted, name_with};
-ghost use Rattle.core_index.specs.Index.{IsIndex, Tells, all_places, all_untold, known_at};
+ghost use Rattle.core_index.specs.Tombs.{Ahead, key_of, name_of};
+ghost use Rattle.core_index.specs.Index.{IsIndex, Tells, ToldAt, all_places, all_mortal, all_untold, known_at};
 
 use crate::compact::tell_in;
 use crate::notices::Notices;
 use crate::slot::Slot;
 use crate::tombstones::{Tombstones, name_of};
-use crate::types::Standee;
+use crate::types::{Standee, Tombstone};
 use fs_model::Key;
 use log_entry::EntryName;
 use std::collections::BTreeMap;
@@ -78,10 +79,32 @@ fn next_deleted(
         ≡ all_places slots.old.entries tombstones.old) }
 {
     while let Some(tombstone) = tombstones.pass(home) {
-        let name = name_of(&tombstone);
-        if u32::from(tombstone.home) == home && tell_in(slots, tombstones, name, home) {
-            return Some(name);
+        if tell_passed(slots, tombstones, &tombstone, home) {
+            return Some(name_of(&tombstone));
         }
     }
     None
+}
+
+// Tells a home of such a key's entry, where it waits to be told to this home.
+fn tell_passed(
+    slots: &mut BTreeMap<Key, Slot>,
+    tombstones: &mut Tombstones,
+    tombstone: &Tombstone,
+    home: u32,
+) -> bool
+    ensures told { result ≡ true → ToldAt (all_places slots.old.entries tombstones.old)
+        (all_places slots.new.entries tombstones.new) home (name_of tombstone.now) }
+    ensures mortal { result ≡ true → all_mortal slots.new.entries ≤ all_mortal slots.old.entries }
+    ensures ahead { (h : ℕ) (n : EntryName) → Ahead tombstones.old h n → Ahead tombstones.new h n }
+    ensures none { result ≡ false → tombstone.now.home ≡ home → ¬ Awaits
+        (known_at (all_places slots.old.entries tombstones.old) (key_of tombstone.now)) home
+        tombstone.now.version }
+    ensures unchanged { result ≡ false → slots.new.entries ≡ slots.old.entries }
+    ensures unchanged_left { result ≡ false → tombstones.new ≡ tombstones.old }
+{
+    if u32::from(tombstone.home) != home {
+        return false;
+    }
+    tell_in(slots, tombstones, name_of(tombstone), home)
 }

@@ -3,9 +3,8 @@ ghost use Rattle.std.specs.Prelude.{◌≡◌, ◌≢◌, ◌⊎◌, ℕ, ◌+�
 ghost use Rattle.std.specs.Bool.{Decides};
 ghost use Rattle.log_entry.specs.declared.entry.EntryName.{EntryName};
 ghost use Rattle.core_index.specs.Index.{known_at, ToldAt, Turns};
-ghost use Rattle.core_index.specs.Noted.{name_with};
 ghost use Rattle.core_index.specs.Records.{Awaits, Shows, without, opened_with, last_of, is_forgettable};
-ghost use Rattle.core_index.specs.Tombs.{key_of, left_of, placed, found_at, fated, AreLess, Rising, IsSpot, IsMissing, IsThere, passed_at, Ahead};
+ghost use Rattle.core_index.specs.Tombs.{key_of, name_of, left_of, placed, found_at, fated, AreLess, Rising, IsSpot, IsMissing, IsThere, passed_at, Ahead};
 
 use crate::types::{Fate, Look, Standee, Tombstone};
 use fs_errors::Memory;
@@ -20,15 +19,15 @@ const SHARE: u64 = 4_294_967_296;
 // The versions below it fit into two bytes.
 const VERSIONS: u32 = 65_536;
 
-// As many as a group has members.
-const HOMES: u32 = 8;
+// As many as a region has cores at most.
+const HOMES: u32 = 16;
 
 // By rising key. For each home the first `passed` of them need not be looked at to tell it of a death. Only `push`
 // takes memory.
 #[derive(Drop)]
 pub struct Tombstones {
     items: Vec<Tombstone>,
-    passed: [usize; 8],
+    passed: [usize; 16],
 }
 
 impl Model for Tombstones {
@@ -48,7 +47,7 @@ fn key_of(tombstone: &Tombstone) -> Key
 }
 
 pub fn name_of(tombstone: &Tombstone) -> EntryName
-    ensures { result ≡ name_with (key_of tombstone.now) tombstone.now.version }
+    ensures { result ≡ name_of tombstone.now }
 {
     EntryName {
         key: key_of(tombstone),
@@ -64,7 +63,7 @@ pub fn tombstone_of(
     standing: &[Standee],
 ) -> Option<Tombstone>
     ensures key { IfSome result (λ t. key_of t ≡ key) }
-    ensures home { IfSome result (λ t. t.home < 8) }
+    ensures home { IfSome result (λ t. t.home < 16) }
     ensures left { IfSome result (λ t. left_of t
         ≡ Some (opened_with version body.now standing.now)) }
     ensures name { IfSome result (λ t. t.version ≡ version) }
@@ -151,7 +150,7 @@ impl Tombstones {
     {
         Tombstones {
             items: Vec::new(alloc),
-            passed: [0; 8],
+            passed: [0; 16],
         }
     }
 
@@ -168,7 +167,7 @@ impl Tombstones {
     // Adds a key that is above all others.
     pub fn push(&mut self, tombstone: Tombstone) -> Result<(), Memory>
         requires above { AreLess self.old.items (key_of tombstone) }
-        requires home { tombstone.home < 8 }
+        requires home { tombstone.home < 16 }
         ensures ok { OnOk result (self.new ≡ record {
           items = self.old.items ++ tombstone ∷ [];
           passed = self.old.passed;
@@ -279,7 +278,7 @@ impl Tombstones {
         ensures none { IfNone result ((n : EntryName) → ¬ Ahead self.old home n) }
         ensures unchanged { IfNone result (self.new ≡ self.old) }
         ensures others { IfSome result (λ t. (h : ℕ) (n : EntryName) → Ahead self.old h n
-            → ((h ≡ home) × (n ≡ name_with (key_of t) t.version) × (t.home ≡ home))
+            → ((h ≡ home) × (n ≡ name_of t) × (t.home ≡ home))
             ⊎ Ahead self.new h n) }
         ensures items { self.new.items ≡ self.old.items }
         ensures more { IfSome result (λ _. (passed_at self.old home < length self.old.items)
