@@ -19,7 +19,7 @@ use Rattle.core_index.specs.declared.types.Standing.{Standing}
 use Rattle.core_index.specs.Records.{KeyRecord, Shows, ShowsBody, is_dead, is_tombstone, stands_alone, standing_at, standing_with, without}
 use Rattle.core_index.specs.Slots.{Place, alive_at, home_in, count_of}
 use Rattle.core_index.specs.Lives.{AreLives, live_key, body_in, IsWithin, valued, valued_by, IsStanding, live_place, live_at, places_of, with_live_fate, turned, AllLess, KeysRise, IsNotThere}
-use Rattle.core_index.specs.Index.{place_at, known_in, room_in, known_at, room_at, TurnsAt}
+use Rattle.core_index.specs.Index.{place_at, known_in, room_in, known_at, room_at, gone_place, cleared, TurnsAt}
 use Rattle.core_index.proofs.StepLaws.{apart}
 
 above_at : (k : ℕ) (ts : List LiveKey) (j : ℕ) (d : LiveKey) → AllByRecursion (λ (x : LiveKey). k < live_key x) ts → j < length ts → k < live_key (get_or ts j d)
@@ -193,7 +193,7 @@ all_within : (bytes more : List ℕ) (xs : List LiveKey) → AllByRecursion (λ 
 all_within bytes more [] all = tt
 all_within bytes more (x ∷ xs) all = (within_more bytes more x.held all.0, all_within bytes more xs all.1)
 
-places_more : (bytes more : List ℕ) (xs : List LiveKey) → AllByRecursion (λ (x : LiveKey). IsWithin bytes x.held) xs → places_of (bytes ++ more) xs ≡ places_of bytes xs
+pub places_more : (bytes more : List ℕ) (xs : List LiveKey) → AllByRecursion (λ (x : LiveKey). IsWithin bytes x.held) xs → places_of (bytes ++ more) xs ≡ places_of bytes xs
 places_more bytes more [] all = refl
 places_more bytes more (x ∷ xs) all = λ i. (live_key x, record { known = valued_by x.fate x.version x.home (body_more bytes more x.held all.0 i); room = 0 }) ∷ places_more bytes more xs all.1 i
 
@@ -206,9 +206,9 @@ pushed_lives xs bytes more x are less there = record {
   within = all_more (λ (y : LiveKey). IsWithin (bytes ++ more) y.held) xs x (all_within bytes more xs are.within) there;
 }
 
-pub pushed_turns : (xs : List LiveKey) (bytes more : List ℕ) (x : LiveKey) → AreLives xs bytes → AllLess xs (live_key x) → TurnsAt (places_of bytes xs) (places_of (bytes ++ more) (xs ++ x ∷ [])) (live_key x) (valued (bytes ++ more) x)
+pub pushed_turns : (xs : List LiveKey) (bytes more : List ℕ) (x : LiveKey) → AreLives xs bytes → AllLess xs (live_key x) → TurnsAt (places_of bytes xs) (places_of (bytes ++ more) (xs ++ x ∷ [])) (live_key x) (Some (live_place (bytes ++ more) x))
 pushed_turns xs bytes more x are less = record {
-  here = ap known_in (placed_found (bytes ++ more) (xs ++ x ∷ []) (live_key x) ∙ ap (option_map (live_place (bytes ++ more))) (more_here xs x less));
+  here = placed_found (bytes ++ more) (xs ++ x ∷ []) (live_key x) ∙ ap (option_map (live_place (bytes ++ more))) (more_here xs x less);
   others = λ j ne. placed_found (bytes ++ more) (xs ++ x ∷ []) j ∙ ap (option_map (live_place (bytes ++ more))) (more_other xs x j ne) ∙ sym (placed_found (bytes ++ more) xs j) ∙ ap (λ (ps : List (ℕ × Place)). place_at ps j) (places_more bytes more xs are.within);
 }
 
@@ -223,19 +223,19 @@ turned_lives xs bytes k f are = record {
 pub found_within : (xs : List LiveKey) (bytes : List ℕ) (i : ℕ) → AreLives xs bytes → i < length xs → IsWithin bytes (get_or xs i bare_live).held
 found_within xs bytes i are lt = all_at (λ (x : LiveKey). IsWithin bytes x.held) xs i bare_live are.within lt
 
-turned_turns : (bytes : List ℕ) (xs : List LiveKey) (k : ℕ) (f : LiveFate) (now : Option KeyRecord) → known_in (option_map (live_place bytes) (option_map (with_live_fate f) (live_at xs k))) ≡ now → TurnsAt (places_of bytes xs) (places_of bytes (turned xs k f)) k now
+turned_turns : (bytes : List ℕ) (xs : List LiveKey) (k : ℕ) (f : LiveFate) (now : Option Place) → option_map (live_place bytes) (option_map (with_live_fate f) (live_at xs k)) ≡ now → TurnsAt (places_of bytes xs) (places_of bytes (turned xs k f)) k now
 turned_turns bytes xs k f now is = record {
-  here = ap known_in (placed_found bytes (turned xs k f) k ∙ ap (option_map (live_place bytes)) (turned_here xs k f)) ∙ is;
+  here = placed_found bytes (turned xs k f) k ∙ ap (option_map (live_place bytes)) (turned_here xs k f) ∙ is;
   others = λ j ne. placed_found bytes (turned xs k f) j ∙ ap (option_map (live_place bytes)) (turned_other xs k j f ne) ∙ sym (placed_found bytes xs j);
 }
 
-pub same_at : (ps : List (ℕ × Place)) (k : ℕ) (now : Option KeyRecord) → known_at ps k ≡ now → TurnsAt ps ps k now
+pub same_at : (ps : List (ℕ × Place)) (k : ℕ) (now : Option Place) → place_at ps k ≡ now → TurnsAt ps ps k now
 same_at ps k now is = record { here = is; others = λ j ne. refl }
 
-pub live_cleared : (bytes : List ℕ) (xs : List LiveKey) (k : ℕ) → TurnsAt (places_of bytes xs) (places_of bytes (turned xs k Moved)) k None
-live_cleared bytes xs k = turned_turns bytes xs k Moved None (by (live_at xs k))
+pub live_cleared : (bytes : List ℕ) (xs : List LiveKey) (k : ℕ) → TurnsAt (places_of bytes xs) (places_of bytes (turned xs k Moved)) k (option_map cleared (place_at (places_of bytes xs) k))
+live_cleared bytes xs k = turned_turns bytes xs k Moved (option_map cleared (place_at (places_of bytes xs) k)) (by (live_at xs k) ∙ ap (option_map cleared) (sym (placed_found bytes xs k)))
   where
-    by : (o : Option LiveKey) → known_in (option_map (live_place bytes) (option_map (with_live_fate Moved) o)) ≡ None
+    by : (o : Option LiveKey) → option_map (live_place bytes) (option_map (with_live_fate Moved) o) ≡ option_map cleared (option_map (live_place bytes) o)
     by None = refl
     by (Some x) = refl
 
@@ -244,11 +244,25 @@ gone_valued Stands v home w b e there = ap (λ (c : Bool). Some (record { versio
 gone_valued Gone v home w b e there = absurd there
 gone_valued Moved v home w b e there = absurd there
 
-pub live_gone : (bytes : List ℕ) (xs : List LiveKey) (k w : ℕ) (x : LiveKey) → Some x ≡ live_at xs k → x.version ≡ w → IsStanding x.fate → TurnsAt (places_of bytes xs) (places_of bytes (turned xs k Gone)) k (option_map (without w) (known_at (places_of bytes xs) k))
-live_gone bytes xs k w x is e there = turned_turns bytes xs k Gone (option_map (without w) (known_at (places_of bytes xs) k)) (
-  ap (λ (o : Option LiveKey). known_in (option_map (live_place bytes) (option_map (with_live_fate Gone) o))) (sym is)
-  ∙ gone_valued x.fate x.version x.home w (body_in bytes x.held) e there
-  ∙ ap (option_map (without w)) (sym (known_found bytes xs k (Some x) is)))
+pub live_gone : (bytes : List ℕ) (xs : List LiveKey) (k w : ℕ) (x : LiveKey) → Some x ≡ live_at xs k → x.version ≡ w → IsStanding x.fate → TurnsAt (places_of bytes xs) (places_of bytes (turned xs k Gone)) k (option_map (gone_place w) (place_at (places_of bytes xs) k))
+live_gone bytes xs k w x is e there = turned_turns bytes xs k Gone (option_map (gone_place w) (place_at (places_of bytes xs) k)) (
+  ap (λ (o : Option LiveKey). option_map (live_place bytes) (option_map (with_live_fate Gone) o)) (sym is)
+  ∙ ap (λ (o : Option KeyRecord). Some (record { known = o; room = 0 })) (gone_valued x.fate x.version x.home w (body_in bytes x.held) e there)
+  ∙ ap (λ (o : Option LiveKey). option_map (gone_place w) (option_map (live_place bytes) o)) is
+  ∙ ap (option_map (gone_place w)) (sym (placed_found bytes xs k)))
+
+pub live_stays : (bytes : List ℕ) (xs : List LiveKey) (k w : ℕ) (x : LiveKey) → Some x ≡ live_at xs k → option_map (without w) (valued bytes x) ≡ valued bytes x → TurnsAt (places_of bytes xs) (places_of bytes xs) k (option_map (gone_place w) (place_at (places_of bytes xs) k))
+live_stays bytes xs k w x is same = same_at (places_of bytes xs) k (option_map (gone_place w) (place_at (places_of bytes xs) k)) (
+  placed_found bytes xs k ∙ ap (option_map (live_place bytes)) (sym is)
+  ∙ ap (λ (o : Option KeyRecord). Some (record { known = o; room = 0 })) (sym same)
+  ∙ ap (λ (o : Option LiveKey). option_map (gone_place w) (option_map (live_place bytes) o)) is
+  ∙ ap (option_map (gone_place w)) (sym (placed_found bytes xs k)))
+
+pub live_absent : (bytes : List ℕ) (xs : List LiveKey) (k w : ℕ) → None ≡ live_at xs k → TurnsAt (places_of bytes xs) (places_of bytes xs) k (option_map (gone_place w) (place_at (places_of bytes xs) k))
+live_absent bytes xs k w is = same_at (places_of bytes xs) k (option_map (gone_place w) (place_at (places_of bytes xs) k)) (none ∙ ap (option_map (gone_place w)) (sym none))
+  where
+    none : place_at (places_of bytes xs) k ≡ None
+    none = placed_found bytes xs k ∙ ap (option_map (live_place bytes)) (sym is)
 
 no_tombstone : (bytes : List ℕ) (h : Holding) → is_tombstone (body_in bytes h) ≡ false
 no_tombstone bytes (InBlock p) = refl

@@ -158,7 +158,11 @@ pub record Entering (all left : List Record) (es : List (ℕ × Place)) : Type 0
   pub known : (k : ℕ) → known_at es k ≡ opened_in done k
   pub room : (k : ℕ) → room_at es k ≡ 0
 
--- The key has this record now, and every other one what it had.
-pub record TurnsAt (old new : List (ℕ × Place)) (k : ℕ) (now : Option KeyRecord) : Type 0 where
-  pub here : known_at new k ≡ now
+-- The key has this now, and every other one what it had.
+pub record TurnsAt (old new : List (ℕ × Place)) (k : ℕ) (now : Option Place) : Type 0 where
+  pub here : place_at new k ≡ now
   pub others : (j : ℕ) → j ≢ k → place_at new j ≡ place_at old j
+
+-- the place of a key that has no record any more
+abbrev pub cleared : Place → Place
+cleared p = record { known = None; room = p.room }

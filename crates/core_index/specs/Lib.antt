@@ -4,4 +4,5 @@ pub mod Slots
 pub mod Noted
 pub mod Tombs
 pub mod Lives
+pub mod Starts
 pub mod Index

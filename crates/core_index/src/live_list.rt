@@ -2,11 +2,11 @@
 ghost use Rattle.std.specs.Prelude.{◌≡◌, ◌≢◌, ℕ, ◌+◌, ◌<◌, ◌≤◌, ◌++◌, ◌∷◌, List, [], Some, None, option_map, true, false, IfOk, IfSome, IfNone, OnOk, OnErr, length, take, drop, IsTrue};
 ghost use Rattle.std.specs.List.{AllByRecursion};
 ghost use Rattle.log_entry.specs.declared.entry.EntryName.{EntryName};
-ghost use Rattle.core_index.specs.Index.{known_at, TurnsAt};
+ghost use Rattle.core_index.specs.Index.{place_at, TurnsAt, gone_place, cleared};
 ghost use Rattle.core_index.specs.Noted.{name_with};
 ghost use Rattle.core_index.specs.Records.{Shows, ShowsBody, without, opened_with, last_of, live_version};
 ghost use Rattle.core_index.specs.Slots.{alive_at, count_of};
-ghost use Rattle.core_index.specs.Lives.{live_key, bytes_in, body_in, IsWithin, valued, IsStanding, live_at, turned, AllLess, KeysRise, IsLiveSpot, IsNotThere, placed_lives, FitsLive};
+ghost use Rattle.core_index.specs.Lives.{live_key, bytes_in, body_in, IsWithin, valued, IsStanding, live_place, live_at, turned, AllLess, KeysRise, IsLiveSpot, IsNotThere, placed_lives, FitsLive};
 
 use crate::slot::Slot;
 use crate::types::{Holding, LiveFate, LiveKey, Look, Record, Standee};
@@ -221,12 +221,22 @@ fn slot_of(alloc: Global, bytes: &[u8], live: &LiveKey) -> Result<Slot, Memory>
     }
 }
 
-fn last_of(live: &LiveKey) -> Version
+pub fn last_of(live: &LiveKey) -> Version
     ensures { (bytes : List ℕ) → result ≡ last_of (valued bytes live.now) }
 {
     match live.fate {
         LiveFate::Moved => 0,
         _ => u32::from(live.version),
+    }
+}
+
+// How many entries of the key may still die.
+pub fn count_alive(live: &LiveKey) -> u64
+    ensures { (bytes : List ℕ) → result ≡ count_of (alive_at (valued bytes live.now)) }
+{
+    match live.fate {
+        LiveFate::Stands => 1,
+        _ => 0,
     }
 }
 
@@ -271,8 +281,9 @@ impl LiveList {
     pub fn push(&mut self, live: LiveKey, body: &Body) -> Result<(), Memory>
         requires above { AllLess self.old.items (live_key live) }
         requires within { IsWithin (self.old.bytes ++ bytes_in body.now) live.held }
-        ensures here { OnOk result (TurnsAt (placed_lives self.old) (placed_lives self.new)
-            (live_key live) (valued (self.old.bytes ++ bytes_in body.now) live)) }
+        ensures ok { OnOk result (TurnsAt (placed_lives self.old) (placed_lives self.new)
+            (live_key live) (Some (live_place (self.old.bytes ++ bytes_in body.now) live))) }
+        ensures err { OnErr result (placed_lives self.new ≡ placed_lives self.old) }
     {
         add_bytes(&mut self.bytes, body)?;
         self.items.push(live)?;
@@ -280,7 +291,7 @@ impl LiveList {
     }
 
     // What there is of a key.
-    fn find(&self, key: Key) -> Option<LiveKey>
+    pub fn find(&self, key: Key) -> Option<LiveKey>
         ensures found { result ≡ live_at self.now.items key }
         ensures within { IfSome result (λ x. IsWithin self.now.bytes x.held) }
     {
@@ -290,53 +301,26 @@ impl LiveList {
         Some(self.items[spot])
     }
 
-    pub fn last(&self, key: Key) -> Version
-        ensures { result ≡ last_of (known_at (placed_lives self.now) key) }
+    // What such a key has.
+    pub fn look(&self, live: &LiveKey) -> Look<'_>
+        requires { IsWithin self.now.bytes live.now.held }
+        ensures { Shows (valued self.now.bytes live.now) result }
     {
-        match self.find(key) {
-            None => 0,
-            Some(live) => last_of(&live),
+        match live.fate {
+            LiveFate::Moved => Look::Unknown,
+            _ => show(&self.bytes, live.held),
         }
     }
 
-    pub fn look(&self, key: Key) -> Look<'_>
-        ensures { Shows (known_at (placed_lives self.now) key) result }
-    {
-        match self.find(key) {
-            None => Look::Unknown,
-            Some(live) => match live.fate {
-                LiveFate::Moved => Look::Unknown,
-                _ => show(&self.bytes, live.held),
-            },
-        }
-    }
-
-    // How many entries of the key may still die.
-    pub fn count_alive(&self, key: Key) -> u64
-        ensures { result ≡ count_of (alive_at (known_at (placed_lives self.now) key)) }
-    {
-        match self.find(key) {
-            None => 0,
-            Some(live) => match live.fate {
-                LiveFate::Stands => 1,
-                _ => 0,
-            },
-        }
-    }
-
-    // What there is of a key, with room for one change; nothing where it is not among these.
-    pub fn slot(&self, alloc: Global, key: Key) -> Result<Option<Slot>, Memory>
-        ensures slot { IfOk result (λ found. IfSome found (λ slot. slot ≡ record {
-          known = known_at (placed_lives self.now) key;
+    // What there is of such a key, with room for one change.
+    pub fn slot(&self, alloc: Global, live: &LiveKey) -> Result<Slot, Memory>
+        requires { IsWithin self.now.bytes live.now.held }
+        ensures { IfOk result (λ slot. slot ≡ record {
+          known = valued self.now.bytes live.now;
           room = 1;
-        })) }
-        ensures none { IfOk result (λ found. IfNone found
-            (known_at (placed_lives self.now) key ≡ None)) }
+        }) }
     {
-        let Some(live) = self.find(key) else {
-            return Ok(None);
-        };
-        Ok(Some(slot_of(alloc, &self.bytes, &live)?))
+        slot_of(alloc, &self.bytes, live)
     }
 
     // Gives the entry of a key another fate.
@@ -355,7 +339,7 @@ impl LiveList {
     // Takes an entry out of those that stand.
     pub fn gone(&mut self, name: EntryName)
         ensures { TurnsAt (placed_lives self.old) (placed_lives self.new) name.key
-            (option_map (without name.version) (known_at (placed_lives self.old) name.key)) }
+            (option_map (gone_place name.version) (place_at (placed_lives self.old) name.key)) }
     {
         let Some(live) = self.find(name.key) else {
             return;
@@ -367,7 +351,8 @@ impl LiveList {
 
     // Takes the record of a key out.
     pub fn clear(&mut self, key: Key)
-        ensures { TurnsAt (placed_lives self.old) (placed_lives self.new) key None }
+        ensures { TurnsAt (placed_lives self.old) (placed_lives self.new) key
+            (option_map cleared (place_at (placed_lives self.old) key)) }
     {
         self.set(key, LiveFate::Moved);
     }
