@@ -264,12 +264,12 @@ live_absent bytes xs k w is = same_at (places_of bytes xs) k (option_map (gone_p
     none : place_at (places_of bytes xs) k ≡ None
     none = placed_found bytes xs k ∙ ap (option_map (live_place bytes)) (sym is)
 
-no_tombstone : (bytes : List ℕ) (h : Holding) → is_tombstone (body_in bytes h) ≡ false
+pub no_tombstone : (bytes : List ℕ) (h : Holding) → is_tombstone (body_in bytes h) ≡ false
 no_tombstone bytes (InBlock p) = refl
 no_tombstone bytes (Beside start size) = refl
 
 -- the one entry of a live key is not dead
-not_dead : (bytes : List ℕ) (h : Holding) (v : ℕ) (ss : List Standing) → is_dead (record { version = v; body = body_in bytes h; standing = ss }) v ≡ false
+pub not_dead : (bytes : List ℕ) (h : Holding) (v : ℕ) (ss : List Standing) → is_dead (record { version = v; body = body_in bytes h; standing = ss }) v ≡ false
 not_dead bytes h v ss = ap (λ (b : Bool). b || ((v == v) && (is_tombstone (body_in bytes h) && stands_alone ss v))) (le-ltb v v (omega arith)) ∙ ap (λ (b : Bool). (v == v) && (b && stands_alone ss v)) (no_tombstone bytes h) ∙ ap (λ (b : Bool). b && false) (eq-eqb v v refl)
 
 pub one_alive : (bytes : List ℕ) (h : Holding) (f : LiveFate) (v home : ℕ) → f ≡ Stands → count_of (alive_at (valued_by f v home (body_in bytes h))) ≡ 1

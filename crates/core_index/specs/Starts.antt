@@ -1,18 +1,15 @@
 -- Keys that are as they were at the start: those with a value, and those that were deleted.
-use Rattle.std.specs.Prelude.{◌≡◌, ℕ, List, ◌++◌}
+use Rattle.std.specs.Prelude.{◌≡◌, ◌≢◌, ℕ, List, ◌++◌, Option}
 use Rattle.log_entry.specs.declared.entry.EntryName.{EntryName}
+use Rattle.core_index.specs.declared.start_keys.StartKeys.{StartKeys}
 use Rattle.core_index.specs.Slots.{Place}
-use Rattle.core_index.specs.Tombs.{Tombs, Ahead, placed}
-use Rattle.core_index.specs.Lives.{Lives, placed_lives}
-
-pub record Starts : Type 0 where
-  pub live : Lives
-  pub deleted : Tombs
+use Rattle.core_index.specs.Tombs.{Ahead, placed}
+use Rattle.core_index.specs.Lives.{placed_lives}
 
 -- what the index keeps of them: a key with a value is there, whatever the list of deleted keys has of it
-abbrev pub started : Starts → List (ℕ × Place)
+abbrev pub started : StartKeys → List (ℕ × Place)
 started a = placed_lives a.live ++ placed a.deleted.items
 
 -- The name is that of a deleted key's entry which its home was not asked about.
-abbrev pub IsAhead : Starts → ℕ → EntryName → Type 0
+abbrev pub IsAhead : StartKeys → ℕ → EntryName → Type 0
 IsAhead a home n = Ahead a.deleted home n

@@ -11,6 +11,7 @@ mod live_list;
 mod map;
 mod notices;
 mod slot;
+mod start_keys;
 #[cfg(test)]
 mod tests;
 mod tombstones;

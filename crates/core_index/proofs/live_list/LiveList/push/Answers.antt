@@ -1,7 +1,7 @@
-use Rattle.std.proofs.Common.{◌≡◌, ◌++◌, ◌∷◌, [], ℕ, List, sym, subst, rules}
+use Rattle.std.proofs.Common.{◌≡◌, ◌++◌, ◌∷◌, [], ℕ, List, Some, sym, subst, rules}
 use Rattle.core_index.specs.declared.types.LiveKey.{LiveKey}
 use Rattle.core_index.specs.Index.{TurnsAt}
-use Rattle.core_index.specs.Lives.{Lives, AreLives, live_key, bytes_in, IsWithin, valued, places_of, placed_lives, AllLess}
+use Rattle.core_index.specs.Lives.{live_place, Lives, AreLives, live_key, bytes_in, IsWithin, valued, places_of, placed_lives, AllLess}
 use Rattle.core_index.proofs.LiveLaws.{pushed_lives, pushed_turns}
 use Rattle.core_index.proofs.live_list.LiveList.push.Goals as goal
 
