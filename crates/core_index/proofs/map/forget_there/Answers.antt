@@ -2,7 +2,8 @@ use Rattle.std.proofs.Common.{◌≡◌, ℕ, List, true, false, Option, Some, N
 use Rattle.core_index.specs.Records.{KeyRecord, Awaits}
 use Rattle.core_index.specs.Slots.{Place}
 use Rattle.core_index.specs.Index.{place_at, known_at, all_places}
-use Rattle.core_index.proofs.PlaceLaws.{none_of, forgets_none}
+use Rattle.core_index.proofs.OverLaws.{none_of}
+use Rattle.core_index.proofs.PlaceLaws.{forgets_none}
 use Rattle.core_index.proofs.map.forget_there.Goals as goal
 
 pub returns-else-has : goal.returns-else-has
