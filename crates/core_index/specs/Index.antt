@@ -10,6 +10,8 @@ use Rattle.core_index.specs.declared.types.Tombstone.{Tombstone}
 use Rattle.core_index.specs.Records.{KeyRecord, Awaits, told_in, count_untold, standing_of, without, live_version, opened}
 use Rattle.core_index.specs.Slots.{Place, mortal}
 use Rattle.core_index.specs.Noted.{Book, Noted, name_with}
+use Rattle.core_index.specs.declared.start_keys.StartKeys.{StartKeys}
+use Rattle.core_index.specs.Starts.{started, IsAhead}
 use Rattle.core_index.specs.Tombs.{Tombs, Ahead, AreLess, key_of, left_of, placed}
 
 abbrev pub place_at : List (ℕ × Place) → ℕ → Option Place
@@ -157,3 +159,18 @@ pub record Entering (all left : List Record) (es : List (ℕ × Place)) : Type 0
   pub split : all ≡ left ++ done
   pub known : (k : ℕ) → known_at es k ≡ opened_in done k
   pub room : (k : ℕ) → room_at es k ≡ 0
+
+-- The key has this now, and every other one what it had.
+pub record TurnsAt (old new : List (ℕ × Place)) (k : ℕ) (now : Option Place) : Type 0 where
+  pub here : place_at new k ≡ now
+  pub others : (j : ℕ) → j ≢ k → place_at new j ≡ place_at old j
+
+-- the place of a key that has no record any more
+abbrev pub cleared : Place → Place
+cleared p = record { known = None; room = p.room }
+
+-- A key has this record now, and every other one what it had. No home was asked about more of them.
+pub record StartTurns (old new : StartKeys) (k : ℕ) (now : Option KeyRecord) : Type 0 where
+  pub here : known_at (started new) k ≡ now
+  pub others : (j : ℕ) → j ≢ k → place_at (started new) j ≡ place_at (started old) j
+  pub ahead : (home : ℕ) (n : EntryName) → IsAhead old home n → IsAhead new home n

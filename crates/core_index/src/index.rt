@@ -3,7 +3,7 @@ ghost use Rattle.std.specs.Prelude.{◌≡◌, ◌≢◌, ◌⊎◌, ◌↔◌, 
 ghost use Rattle.std.specs.List.{AllByRecursion, Contains};
 ghost use Rattle.std.specs.List.Sorted.{IsStrictlyIncreasing};
 ghost use Rattle.log_entry.specs.declared.entry.EntryName.{EntryName};
-ghost use Rattle.core_index.specs.Records.{Awaits, Shows, opened, opened_with, settled, without, last_of, block_of, is_forgettable, live_version};
+ghost use Rattle.core_index.specs.Records.{Awaits, Shows, opened, opened_with, settled, without, last_of, block_of, is_dead_in, is_forgettable, live_version};
 ghost use Rattle.core_index.specs.Noted.{name_with};
 ghost use Rattle.core_index.specs.Index.{known_at, room_at, Changes, SameRoom, Tells, HasNoneAbove, EntersAs, all_untold, opened_in};
 
@@ -225,6 +225,16 @@ impl CoreIndex {
         match self.slots.get(&key) {
             None => self.tombstones.is_forgettable(key),
             Some(slot) => slot.is_forgettable(),
+        }
+    }
+
+    /// Whether an entry of this name stands and is dead.
+    pub fn is_dead(&self, name: EntryName) -> bool
+        ensures { result ≡ is_dead_in (known_at self.now name.key) name.version }
+    {
+        match self.slots.get(&name.key) {
+            None => self.tombstones.is_dead(name),
+            Some(slot) => slot.is_dead(name.version),
         }
     }
 

@@ -7,9 +7,11 @@ mod death_notes;
 mod entries;
 mod index;
 mod live_keys;
+mod live_list;
 mod map;
 mod notices;
 mod slot;
+mod start_keys;
 #[cfg(test)]
 mod tests;
 mod tombstones;

@@ -3,7 +3,7 @@ ghost use Rattle.std.specs.Prelude.{◌≡◌, ◌≢◌, ◌⊎◌, ℕ, ◌+�
 ghost use Rattle.std.specs.Bool.{Decides};
 ghost use Rattle.log_entry.specs.declared.entry.EntryName.{EntryName};
 ghost use Rattle.core_index.specs.Index.{known_at, ToldAt, Turns};
-ghost use Rattle.core_index.specs.Records.{Awaits, Shows, without, opened_with, last_of, is_forgettable};
+ghost use Rattle.core_index.specs.Records.{Awaits, Shows, without, opened_with, last_of, is_dead_in, is_forgettable};
 ghost use Rattle.core_index.specs.Tombs.{key_of, name_of, left_of, placed, found_at, fated, AreLess, Rising, IsSpot, IsMissing, IsThere, passed_at, Ahead};
 
 use crate::types::{Fate, Look, Standee, Tombstone};
@@ -100,6 +100,16 @@ fn is_gone(tombstone: &Tombstone) -> bool
 {
     match tombstone.fate {
         Fate::Gone => true,
+        _ => false,
+    }
+}
+
+// Whether its entry has this version, and stands: it is dead then.
+fn is_dead(tombstone: &Tombstone, version: Version) -> bool
+    ensures { result ≡ is_dead_in (left_of tombstone.now) version }
+{
+    match tombstone.fate {
+        Fate::Untold | Fate::Told => u32::from(tombstone.version) == version,
         _ => false,
     }
 }
@@ -216,6 +226,15 @@ impl Tombstones {
         match self.find(key) {
             None => false,
             Some(tombstone) => is_gone(&tombstone),
+        }
+    }
+
+    pub fn is_dead(&self, name: EntryName) -> bool
+        ensures { result ≡ is_dead_in (known_at (placed self.now.items) name.key) name.version }
+    {
+        match self.find(name.key) {
+            None => false,
+            Some(tombstone) => is_dead(&tombstone, name.version),
         }
     }
 

@@ -89,3 +89,32 @@ pub struct Tombstone {
     pub home: u8,
     pub fate: Fate,
 }
+
+// Where the value of a key is: in a block, or so many bytes from a start on among the bytes of all values.
+#[derive(Clone, Copy, Debug, PartialEq, Eq)]
+pub enum Holding {
+    InBlock(u32),
+    Beside(u32, u8),
+}
+
+// What became of the one entry of a key that had a value at the start.
+#[derive(Clone, Copy, Debug, PartialEq, Eq)]
+pub enum LiveFate {
+    // It stands.
+    Stands,
+    // It stands in no log.
+    Gone,
+    // The key has its record in the map by now, or none at all.
+    Moved,
+}
+
+// A key that had a value at the start, by an entry that stands alone. It takes twenty bytes beside the value's own.
+#[derive(Clone, Copy, Debug, PartialEq, Eq)]
+pub struct LiveKey {
+    pub high: u32,
+    pub low: u32,
+    pub version: u16,
+    pub home: u8,
+    pub fate: LiveFate,
+    pub held: Holding,
+}
