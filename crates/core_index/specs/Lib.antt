@@ -6,3 +6,4 @@ pub mod Tombs
 pub mod Lives
 pub mod Starts
 pub mod Index
+pub mod Listing

@@ -42,7 +42,7 @@ impl Model for LiveList {
     ghost invariant = { λ a. AreLives a.items.items a.bytes.items };
 }
 
-fn key_of(live: &LiveKey) -> Key
+pub fn key_of(live: &LiveKey) -> Key
     ensures { result ≡ live_key live.now }
 {
     u64::from(live.high) * SHARE + u64::from(live.low)
@@ -248,6 +248,14 @@ impl LiveList {
             items: Vec::new(alloc),
             bytes: Vec::new(alloc),
         }
+    }
+
+    // The keys by rising key.
+    pub fn items(&self) -> &[LiveKey]
+        ensures items { result.now ≡ self.now.items }
+        ensures rising { KeysRise self.now.items }
+    {
+        &self.items
     }
 
     // Whether a key is above all of these.

@@ -1,9 +1,6 @@
-use Rattle.std.proofs.Common.{◌≡◌, ◌<◌, ◌≤◌, ◌+◌, ℕ, List, length, get_or, true, false, nat_lt, Option, Some, None, option_map, refl, sym, ◌∙◌, ap, subst, arith, rules, slice_set}
-use Rattle.std.proofs.lemmas.List.{get_or_read}
-use Rattle.log_entry.specs.declared.entry.EntryName.{EntryName}
-use Rattle.core_index.specs.declared.types.Fate.TheVariants.{Untold, Told, Gone, Moved}
+use Rattle.std.proofs.Common.{◌≡◌, ◌<◌, List, length, get_or, sym, ◌∙◌, ap, subst, arith}
 use Rattle.core_index.specs.declared.types.Tombstone.{Tombstone}
-use Rattle.core_index.specs.Tombs.{Tombs, key_of, left_of, placed, found_at, fated, with_fate, place_of, AreLess, AreTombs, IsSpot, IsMissing, Ahead, bare_tombstone}
+use Rattle.core_index.specs.Tombs.{Tombs, key_of, AreLess, bare_tombstone}
 use Rattle.std.proofs.Common.{◌-◌}
 use Rattle.std.proofs.lemmas.Bool.{ltb-true}
 use Rattle.std.proofs.lemmas.Option.{get_or_from_slice_get}
