@@ -13,9 +13,11 @@ ghost use Rattle.recover.specs.Recovering.{IsMade, Restores, Recovers, AllStand}
 
 use crate::judge_winners::{agreed_entries, judge};
 use crate::key_standees::standees;
+use crate::reading::read_entries;
 use crate::shares::{Share, shares};
 use crate::starts::starts;
 use crate::types::{RecoverError, Recovered};
+use crate::winning::winners;
 use chunk_map::{Layout, read_superblock};
 use fs_errors::Memory;
 use pm_region::Region;
@@ -34,9 +36,9 @@ pub fn damage<R: Region>(
 {
     match agreed_entries(alloc, region, layout)? {
         Err(fault) => Ok(Some(fault)),
-        Ok(entries) => {
-            let judged = judge(alloc, region, layout, entries)?;
-            Ok(judged.err())
+        Ok(found) => {
+            let fault = judge(alloc, region, layout, &found)?;
+            Ok(fault)
         }
     }
 }
@@ -79,17 +81,21 @@ fn judged_shares<R: Region>(
     ensures told { IfOk result (λ r. IsTelling (R.state region.now)
         → Shares layout.now (lasts (R.state region.now)) r) }
 {
-    let entries = match agreed_entries(alloc, region, layout)? {
-        Ok(entries) => entries,
+    let found = match agreed_entries(alloc, region, layout)? {
+        Ok(found) => found,
         Err(fault) => return Ok(Err(fault)),
     };
-    let standing = standees(alloc, &entries)?;
-    match judge(alloc, region, layout, entries)? {
-        Ok(winners) => {
+    if let Some(fault) = judge(alloc, region, layout, &found)? {
+        return Ok(Err(fault));
+    }
+    match read_entries(alloc, region, layout, &found)? {
+        Err(fault) => Ok(Err(fault)),
+        Ok(entries) => {
+            let standing = standees(alloc, &entries)?;
+            let winners = winners(alloc, entries)?;
             let shares = shares(alloc, layout, winners, standing)?;
             Ok(Ok(shares))
         }
-        Err(fault) => Ok(Err(fault)),
     }
 }
 
