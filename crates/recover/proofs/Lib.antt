@@ -11,7 +11,6 @@ pub mod SpellLaws
 pub mod FoundLaws
 pub mod LogLaws
 pub mod MadeLaws
-pub mod StandingLaws
 pub mod ShareLaws
 pub mod HeadLaws
 pub mod StartLaws
