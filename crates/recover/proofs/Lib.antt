@@ -2,6 +2,8 @@ pub mod ListLaws
 pub mod WinningLaws
 pub mod ClashLaws
 pub mod NameLaws
+pub mod FoundEntryLaws
+pub mod KeyLaws
 pub mod TakenLaws
 pub mod RegionLaws
 pub mod GatherLaws

@@ -1,5 +1,6 @@
 // The entries of one key that stand in the logs.
 ghost use Rattle.std.specs.Prelude.{◌≡◌, map, IfOk};
+ghost use Rattle.chunk_map.specs.Layouts.{IsLayout};
 ghost use Rattle.recover.specs.Standing.{standee_at};
 
 use crate::found_entries::{Found, core_of};
@@ -14,6 +15,7 @@ pub fn list_standees(
     run: &[Found],
     standing: &mut Vec<Standee>,
 ) -> Result<(), Memory>
+    requires { IsLayout layout.now }
     ensures { IfOk result (λ _. standing.new.items ≡ map (standee_at layout.now) run.now) }
 {
     standing.clear();
