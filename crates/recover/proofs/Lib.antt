@@ -4,6 +4,8 @@ pub mod ClashLaws
 pub mod NameLaws
 pub mod FoundEntryLaws
 pub mod KeyLaws
+pub mod StandsLaws
+pub mod ReadBackLaws
 pub mod TakenLaws
 pub mod RegionLaws
 pub mod GatherLaws

@@ -1,10 +1,12 @@
 -- Entries by their names and the words at which they begin.
-use Rattle.std.specs.Prelude.{◌≡◌, ℕ, ◌+◌, ◌-◌, ◌/◌, ◌%◌, ◌≤◌, ◌==◌, ◌&&◌, Bool, List, map, filter, length, Result, Ok, Err, Vec}
+use Rattle.std.specs.Prelude.{◌≡◌, ℕ, ◌+◌, ◌-◌, ◌/◌, ◌%◌, ◌<◌, ◌≤◌, ◌==◌, ◌&&◌, Bool, List, map, filter, length, Option, Some, None, Result, Ok, Err, Vec, if◌then◌else◌}
 use Rattle.std.specs.Global.{Global}
 use Rattle.std.specs.List.{AllByRecursion}
 use Rattle.std.specs.List.Sorted.{IsSortedByKey}
 use Rattle.log_entry.specs.declared.entry.Entry.{Entry}
 use Rattle.log_entry.specs.declared.entry.Body.{Body}
+use Rattle.log_entry.specs.declared.entry.Read.{Read}
+use Rattle.log_entry.specs.declared.entry.Read.TheVariants as reads
 use Rattle.log_entry.specs.Words.{words_from}
 use Rattle.log_entry.specs.Spelling.{words_of, HasSpelling}
 use Rattle.log_entry.specs.Reading.{size_of, body_of}
@@ -70,6 +72,10 @@ pub record AreByName (es xs : List Found) : Type 0 where
   pub same : (k v : ℕ) → filter (is_found k v) xs ≡ filter (is_found k v) es
   pub rising : AreInOrder xs
 
+-- each begins in front of this place
+abbrev pub LieBelow : ℕ → List (ℕ × Entry) → Type 0
+LieBelow n xs = AllByRecursion (λ x. x.0 < n) xs
+
 -- how an entry is found that stands at a place of a payload, which begins at this word
 abbrev pub found_in : ℕ → ℕ × Entry → Found
 found_in first x = record { key = x.1.key; version = x.1.version; at = first + x.0 }
@@ -81,6 +87,18 @@ found_of l x = record {
   version = x.entry.version;
   at = chunk_first l x.core x.chunk + HEAD_WORDS + x.place;
 }
+
+-- the words of the entry that begins there, where they lie in a region of so many words
+abbrev pub HasWords : (ℕ → ℕ) → ℕ → ℕ → Option (Vec ℕ Global) → Type 0
+HasWords image n at None = n < at + size_of (image at)
+HasWords image n at (Some words) = words.items ≡ words_from image at (size_of (image at))
+
+-- the body that was read, where an entry of this name was
+abbrev pub body_named : Read → Found → Option Body
+body_named (reads.Entry e n) f = if e.key == f.key && e.version == f.version then Some e.body
+    else None
+body_named reads.Padding f = None
+body_named (reads.BadEntry rule) f = None
 
 -- all that were found were read
 abbrev pub ReadsAll : Geometry → (ℕ → ℕ) → List Found → Result (Vec PlacedEntry Global) Fault → Type 0

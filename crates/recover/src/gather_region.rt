@@ -1,18 +1,16 @@
 // The entries of a region, chunk by chunk, by their names alone.
-ghost use Rattle.std.specs.Prelude.{◌≡◌, ℕ, ◌+◌, ◌/◌, ◌<◌, ◌≤◌, ◌%◌, ◌^◌, ◌++◌, length, map, true, None, option_map, IfOk};
-ghost use Rattle.std.specs.List.{AllByRecursion};
+ghost use Rattle.std.specs.Prelude.{◌≡◌, ℕ, ◌+◌, ◌-◌, ◌/◌, ◌<◌, ◌≤◌, ◌%◌, ◌^◌, ◌++◌, length, map, true, None, option_map, IfOk};
 ghost use Rattle.pm_region.specs.State.{IsTelling};
 ghost use Rattle.pm_region.specs.Words.{lasts};
-ghost use Rattle.log_entry.specs.Spelling.{HasSpelling};
 ghost use Rattle.log_entry.specs.Batches.{scan_of};
-ghost use Rattle.chunk_map.specs.Layouts.{chunk_first};
+ghost use Rattle.chunk_map.specs.Layouts.{chunk_first, payload_words};
 ghost use Rattle.store_image.specs.Parts.{scan_at, chunk_entries};
 ghost use Rattle.store_image.specs.Scanned.{IsScan, shown};
 ghost use Rattle.store_image.specs.Soundness.{damaged, chunk_rule};
 ghost use Rattle.core_log.specs.Log.{Spelled};
 ghost use Rattle.recover.specs.Regions.{Covers};
 ghost use Rattle.recover.specs.Logs.{SpellsLog};
-ghost use Rattle.recover.specs.FoundEntries.{found_in, found_of};
+ghost use Rattle.recover.specs.FoundEntries.{found_in, found_of, LieBelow};
 ghost use Rattle.recover.specs.Gathering.{GathersPart, Gathers};
 
 use crate::found_entries::Found;
@@ -26,11 +24,10 @@ use store_image::log_rules::log_rule;
 use store_image::Fault;
 use store_image::scanning::{AtPlace, Scanned, scan};
 
-/// What stands in the words of a log. Each entry is one that words can spell.
+/// What stands in the words of a log.
 fn scan_log(alloc: Global, words: &[u64]) -> Result<Scanned, Memory>
     ensures scan { IfOk result (λ s. IsScan s (scan_of words.now)) }
-    ensures spelled { IfOk result (λ s. AllByRecursion (λ x. HasSpelling x.1)
-        (shown s.entries.items)) }
+    ensures places { IfOk result (λ s. LieBelow (length words.now) (shown s.entries.items)) }
     ensures batches { IfOk result (λ s. s.whole ≡ true → length words.now % 8 ≡ 0
         → Spelled words.now) }
 {
@@ -54,7 +51,7 @@ fn read_chunk<R: Region>(
         → (r.0 ≡ chunk_rule layout.now (lasts (R.state region.now)) part chunk)
         × IsScan r.1 (scan_at layout.now (lasts (R.state region.now))
         (chunk_first layout.now part chunk))) }
-    ensures spelled { IfOk result (λ r. AllByRecursion (λ x. HasSpelling x.1)
+    ensures places { IfOk result (λ r. LieBelow (payload_words layout.now)
         (shown r.1.entries.items)) }
     ensures batches { IfOk result (λ r. IsTelling (R.state region.now) → r.0 ≡ None
         → SpellsLog layout.now (lasts (R.state region.now)) part chunk) }
@@ -73,13 +70,10 @@ fn read_chunk<R: Region>(
 }
 
 /// Appends the names of a payload's entries with their first words. The payload begins at word `first`.
-fn note_entries(
-    first: u64,
-    entries: Vec<AtPlace>,
-    found: &mut Vec<Found>,
-) -> Result<(), Memory>
+fn note_entries(first: u64, entries: &[AtPlace], found: &mut Vec<Found>) -> Result<(), Memory>
+    requires { LieBelow (2 ^ 32 - first) (shown entries.now) }
     ensures { IfOk result (λ _. found.new.items ≡ found.old.items ++ map (found_in first)
-        (shown entries.items)) }
+        (shown entries.now)) }
 {
     for x in entries {
         found.push(Found {
@@ -113,7 +107,7 @@ fn gather_chunk<R: Region>(
         → SpellsLog layout.now (lasts (R.state region.now)) part chunk) }
 {
     let (rule, scanned) = read_chunk(alloc, region, layout, part, chunk)?;
-    note_entries(layout.chunk_first(part, chunk) + HEAD_WORDS, scanned.entries, found)?;
+    note_entries(layout.chunk_first(part, chunk) + HEAD_WORDS, &scanned.entries, found)?;
     match rule {
         Some(rule) => Ok(Some(Fault::Damaged { part, chunk, rule })),
         None => Ok(None),

@@ -1,12 +1,14 @@
 // Entries that were found are read from the region.
-ghost use Rattle.std.specs.Prelude.{◌≡◌, ℕ, ◌+◌, ◌/◌, ◌≤◌, map, Some, IfOk, IfSome};
+ghost use Rattle.std.specs.Prelude.{◌≡◌, ℕ, ◌/◌, ◌<◌, map, length, Some, IfOk, IfSome};
 ghost use Rattle.pm_region.specs.State.{IsTelling};
 ghost use Rattle.pm_region.specs.Words.{lasts};
 ghost use Rattle.log_entry.specs.Spelling.{HasSpelling};
+ghost use Rattle.chunk_map.specs.Layouts.{total_bytes};
+ghost use Rattle.store_image.specs.Soundness.{damaged};
 ghost use Rattle.recover.specs.Regions.{Covers};
 ghost use Rattle.recover.specs.ByName.{name_of};
 ghost use Rattle.recover.specs.Winning.{AreSpelled};
-ghost use Rattle.recover.specs.FoundEntries.{body_at, placed_at, Stands, AreFound, name_found, ReadsAll};
+ghost use Rattle.recover.specs.FoundEntries.{body_at, core_at, chunk_there, placed_at, Stands, AreFound, name_found, HasWords, body_named, ReadsAll};
 
 use crate::found_entries::{Found, chunk_of, core_of, place_of};
 use chunk_map::Layout;
@@ -22,10 +24,14 @@ fn words_there<R: Region>(
     alloc: Global,
     region: &R,
     layout: &Layout,
-    at: u64,
+    at: u32,
 ) -> Result<Option<Vec<u64>>, Memory>
     requires covers { Covers (R.state region.now).frame layout.now }
+    ensures told { IfOk result (λ r. IsTelling (R.state region.now)
+        → HasWords (lasts (R.state region.now)) (total_bytes layout.now / 8) at r) }
+    ensures some { IfOk result (λ r. IfSome r (λ words. 0 < length words.items)) }
 {
+    let at = at as u64;
     let words = layout.total_bytes() / WORD_BYTES;
     if at >= words {
         return Ok(None);
@@ -38,8 +44,10 @@ fn words_there<R: Region>(
     Ok(Some(words))
 }
 
-/// The body of an entry that has this name.
-fn body_named(read: Read, found: &Found) -> Option<Body> {
+/// The body of an entry that was read, where it has this name.
+fn body_named(read: Read, found: &Found) -> Option<Body>
+    ensures { result ≡ body_named read found.now }
+{
     match read {
         Read::Entry { entry, length: _ } => {
             if entry.key == found.key && entry.version == found.version {
@@ -66,7 +74,7 @@ pub fn read_at<R: Region>(
     ensures spelled { IfOk result (λ b. IfSome b (λ body. HasSpelling
         (record { key = found.now.key; version = found.now.version; body = body }))) }
 {
-    match words_there(alloc, region, layout, found.at as u64)? {
+    match words_there(alloc, region, layout, found.at)? {
         None => Ok(None),
         Some(words) => {
             let read = read_entry(alloc, &words, 0)?;
@@ -76,7 +84,10 @@ pub fn read_at<R: Region>(
 }
 
 /// The fault of a chunk in which an entry stands no more that was found there.
-pub fn gone_fault(layout: &Layout, found: &Found) -> Fault {
+pub fn gone_fault(layout: &Layout, found: &Found) -> Fault
+    ensures { result ≡ damaged (core_at layout.now found.now.at)
+        (chunk_there layout.now found.now.at) 6 }
+{
     Fault::Damaged {
         part: core_of(layout, found.at),
         chunk: chunk_of(layout, found.at),
