@@ -82,7 +82,7 @@ module _ (s : State) (log : LogState) (j place : ℕ) (p : Peek) (old now seen n
     seen_are = λ k v. let a = sees.counts k v in let b = so_far.seen_are k v in let e = new_bit (has_name so_far.done p.name.key p.name.version) refl k v in omega (arith, a, b, e);
   }
 
-append_none : (xs ys : List (ℕ × Entry)) → ys ≡ [] → xs ≡ xs ++ ys
+pub append_none : (xs ys : List (ℕ × Entry)) → ys ≡ [] → xs ≡ xs ++ ys
 append_none [] ys none = sym none
 append_none (x ∷ xs) ys none = ap (λ (l : List (ℕ × Entry)). x ∷ l) (append_none xs ys none)
 
