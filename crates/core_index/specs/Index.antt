@@ -117,9 +117,3 @@ pub record Entering (all left : List Record) (es : List (ℕ × Place)) : Type 0
   pub split : all ≡ left ++ done
   pub known : (k : ℕ) → known_at es k ≡ opened_in done k
   pub room : (k : ℕ) → room_at es k ≡ 0
-
--- The key has this record now and no room, and every other key what it had.
-pub record EntersAs (old new : List (ℕ × Place)) (k : ℕ) (known : KeyRecord) : Type 0 where
-  pub change : Changes old new k (Some known)
-  pub none : room_at new k ≡ 0
-  pub room : (j : ℕ) → j ≢ k → room_at new j ≡ room_at old j

@@ -3,35 +3,22 @@ ghost use Rattle.std.specs.Prelude.{◌≡◌, ◌≢◌, ◌⊎◌, ◌↔◌, 
 ghost use Rattle.std.specs.List.{AllByRecursion, Contains};
 ghost use Rattle.std.specs.List.Sorted.{IsStrictlyIncreasing};
 ghost use Rattle.log_entry.specs.declared.entry.EntryName.{EntryName};
-ghost use Rattle.core_index.specs.Records.{Awaits, Shows, settled, without, last_of, block_of, is_forgettable, live_version, opened_with, is_dead_in};
+ghost use Rattle.core_index.specs.Records.{Awaits, Shows, settled, without, last_of, block_of, is_forgettable, live_version};
 ghost use Rattle.core_index.specs.Noted.{name_with};
-ghost use Rattle.core_index.specs.Index.{known_at, room_at, Changes, SameRoom, Tells, HasNoneAbove, Entered, EntersAs, all_untold, opened_in};
+ghost use Rattle.core_index.specs.Index.{known_at, room_at, Changes, SameRoom, Tells, HasNoneAbove, Entered, all_untold, opened_in};
 
 use crate::death_notes::{next_dead, note_dead};
 use crate::live_keys::live_in;
 use crate::map::{enter_at, forget_at, gone_at, reserve_at, settle_at};
 use crate::notices::Notices;
 use crate::slot::Slot;
-use crate::types::{Look, Record, Spent, Standee};
+use crate::types::{Look, Record, Spent};
 use fs_errors::Memory;
 use fs_model::{Key, Version};
-use log_entry::{Body, Entry, EntryName, LAST_PUT_VERSION};
+use log_entry::{Entry, EntryName, LAST_PUT_VERSION};
 use std::alloc::Global;
 use std::collections::BTreeMap;
 use std::marker::Model;
-
-fn copy_body(alloc: Global, body: &Body) -> Result<Body, Memory>
-    ensures { IfOk result (λ b. b ≡ body.now) }
-{
-    match body {
-        Body::Pointer(pointer) => Ok(Body::Pointer(*pointer)),
-        Body::Embedded(value) => {
-            let value = value.copy(alloc)?;
-            Ok(Body::Embedded(value))
-        }
-        Body::Tombstone => Ok(Body::Tombstone),
-    }
-}
 
 /// The keys of one core: for each its last version, the value or block that this left, and the entries that
 /// stand in a log. A key without a record has last version 0.
@@ -69,53 +56,13 @@ impl CoreIndex {
         };
         let mut left = records;
         while let Some(record) = left.pop() {
-            index.enter_record(alloc, record)?;
+            index.enter(alloc, record)?;
         }
         Ok(index)
     }
 
-    /// An index of no keys.
-    pub fn empty(alloc: Global) -> Result<CoreIndex, Memory>
-        ensures known { IfOk result (λ index. (k : ℕ) → known_at index k ≡ None) }
-        ensures room { IfOk result (λ index. (k : ℕ) → room_at index k ≡ 0) }
-    {
-        CoreIndex::open(alloc, Vec::new(alloc))
-    }
-
-    /// Puts in what is known of a key at the start, in place of anything that it has.
-    pub fn enter(
-        &mut self,
-        alloc: Global,
-        key: Key,
-        version: Version,
-        body: &Body,
-        standing: &[Standee],
-    ) -> Result<(), Memory>
-        requires { AllByRecursion (λ s. s.version ≤ version) standing.now }
-        ensures { OnOk result (EntersAs self.old self.new key
-            (opened_with version body.now standing.now)) }
-    {
-        let start = Record {
-            key,
-            version,
-            body: copy_body(alloc, body)?,
-            standing: standing.to_vec(alloc)?,
-        };
-        self.enter_record(alloc, start)
-    }
-
-    /// Whether an entry of this name stands and is dead.
-    pub fn is_dead(&self, name: EntryName) -> bool
-        ensures { result ≡ is_dead_in (known_at self.now name.key) name.version }
-    {
-        match self.slots.get(&name.key) {
-            None => false,
-            Some(slot) => slot.is_dead(name.version),
-        }
-    }
-
     // Puts a record in, in place of any that the key has.
-    fn enter_record(&mut self, alloc: Global, start: Record) -> Result<(), Memory>
+    fn enter(&mut self, alloc: Global, start: Record) -> Result<(), Memory>
         requires { HasNoneAbove start }
         ensures { OnOk result (Entered self.old self.new start) }
     {

@@ -5,7 +5,7 @@ ghost use Rattle.std.specs.List.{AllByRecursion};
 ghost use Rattle.log_entry.specs.declared.entry.EntryName.{EntryName};
 ghost use Rattle.core_index.specs.Marks.{kept};
 ghost use Rattle.core_index.specs.Noted.{Noted, NotedIfDead, count_lively, name_with};
-ghost use Rattle.core_index.specs.Records.{Awaits, is_dead, is_dead_in, standing_of, Shows, settled, opened, told_in, without, last_of, block_of, is_forgettable, live_version};
+ghost use Rattle.core_index.specs.Records.{Awaits, is_dead, standing_of, Shows, settled, opened, told_in, without, last_of, block_of, is_forgettable, live_version};
 ghost use Rattle.core_index.specs.Slots.{alive_at, home_alive, record_with, known_with, mortal, count_of, count_dead, dead_by, died, OnlyDead, TellsOne};
 
 use crate::dead_entries::{awaits, is_dead, is_tombstone};
@@ -92,18 +92,6 @@ impl Slot {
         match &self.head {
             None => 0,
             Some(head) => head.version,
-        }
-    }
-
-    // Whether a version stands and is dead.
-    pub fn is_dead(&self, version: Version) -> bool
-        ensures { result ≡ is_dead_in self.now.known version }
-    {
-        match &self.head {
-            None => false,
-            Some(head) => {
-                self.standing.find(version).is_some() && is_dead(head, &self.standing, version)
-            }
         }
     }
 

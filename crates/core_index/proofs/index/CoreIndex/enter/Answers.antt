@@ -3,7 +3,7 @@ use Rattle.log_entry.specs.declared.entry.EntryName.{EntryName}
 use Rattle.core_index.specs.Slots.{Place}
 use Rattle.core_index.specs.Noted.{Noted}
 use Rattle.core_index.proofs.IndexLaws.{entered_index, roomier}
-use Rattle.core_index.proofs.index.CoreIndex.enter_record.Goals as goal
+use Rattle.core_index.proofs.index.CoreIndex.enter.Goals as goal
 
 pub invariant_of-self-2 : goal.invariant_of-self-2
 invariant_of-self-2 c =
