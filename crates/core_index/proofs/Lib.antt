@@ -4,6 +4,8 @@ pub mod DeadLaws
 pub mod SlotLaws
 pub mod NoticeLaws
 pub mod StepLaws
+pub mod TombLaws
+pub mod PlaceLaws
 pub mod IndexLaws
 pub mod ListingLaws
 pub mod Clients

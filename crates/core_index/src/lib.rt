@@ -1,6 +1,7 @@
 //! The keys of one core: last version, value, and the entries that stand in a log.
 #![tactic(auto)]
 
+mod compact;
 mod dead_entries;
 mod death_notes;
 mod entries;
@@ -11,6 +12,7 @@ mod notices;
 mod slot;
 #[cfg(test)]
 mod tests;
+mod tombstones;
 mod types;
 
 pub use index::CoreIndex;

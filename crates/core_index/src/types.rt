@@ -65,3 +65,27 @@ pub struct Settled {
     pub replaced: Option<u64>,
     pub dead: Option<Standee>,
 }
+
+// What became of the one entry of a key that was deleted before the start.
+#[derive(Clone, Copy, Debug, PartialEq, Eq)]
+pub enum Fate {
+    // It stands, and its death was not told.
+    Untold,
+    // It stands, and its death was told.
+    Told,
+    // It stands in no log.
+    Gone,
+    // The key has its record in the map by now, or none at all.
+    Moved,
+}
+
+// A key that was deleted before the start, by an entry that stands alone. It takes twelve bytes, so the key is in two
+// halves, and later versions and homes stand in the map.
+#[derive(Clone, Copy, Debug, PartialEq, Eq)]
+pub struct Tombstone {
+    pub high: u32,
+    pub low: u32,
+    pub version: u16,
+    pub home: u8,
+    pub fate: Fate,
+}

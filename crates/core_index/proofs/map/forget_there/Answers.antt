@@ -1,0 +1,9 @@
+use Rattle.std.proofs.Common.{◌≡◌, ℕ, List, true, false, Option, Some, None, refl, sym, ◌∙◌, ap, subst, arith, rules}
+use Rattle.core_index.specs.Records.{KeyRecord, Awaits}
+use Rattle.core_index.specs.Slots.{Place}
+use Rattle.core_index.specs.Index.{place_at, known_at, all_places}
+use Rattle.core_index.proofs.PlaceLaws.{none_of, forgets_none}
+use Rattle.core_index.proofs.map.forget_there.Goals as goal
+
+pub returns-else-has : goal.returns-else-has
+returns-else-has c = forgets_none c.args.slots.now.entries c.args.key (none_of (place_at c.args.slots.now.entries c.args.key) (sym c.has.ensures ∙ c.if-has.false))

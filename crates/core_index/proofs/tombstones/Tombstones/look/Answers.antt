@@ -1,0 +1,26 @@
+use Rattle.std.proofs.Common.{◌≡◌, ◌<◌, ◌≤◌, ◌+◌, ℕ, List, length, get_or, true, false, nat_lt, Option, Some, None, option_map, refl, sym, ◌∙◌, ap, subst, arith, rules, slice_set}
+use Rattle.std.proofs.lemmas.List.{get_or_read}
+use Rattle.log_entry.specs.declared.entry.EntryName.{EntryName}
+use Rattle.core_index.specs.declared.types.Fate.TheVariants.{Untold, Told, Gone, Moved}
+use Rattle.core_index.specs.declared.types.Tombstone.{Tombstone}
+use Rattle.core_index.specs.Tombs.{Tombs, key_of, left_of, placed, found_at, fated, with_fate, place_of, AreLess, AreTombs, IsSpot, IsMissing, Ahead, bare_tombstone}
+use Rattle.core_index.specs.Records.{KeyRecord, Shows}
+use Rattle.core_index.specs.Tombs.{left_by}
+use Rattle.core_index.specs.declared.types.Fate.{Fate}
+use Rattle.core_index.specs.declared.types.Look.TheVariants as looks
+use Rattle.core_index.proofs.TombLaws.{known_found, shows_deleted}
+use Rattle.core_index.proofs.tombstones.Tombstones.look.Goals as goal
+
+pub returns-in-None : goal.returns-in-None
+returns-in-None c = subst (λ (o : Option KeyRecord). Shows o looks.Unknown) (sym (known_found c.args.self.now.items c.args.key None c.in-None.ensures)) refl
+
+pub returns-in-Moved : goal.returns-in-Moved
+returns-in-Moved c =
+    let t = c.in-Some.tombstone in
+    let none : left_of t ≡ None = ap (λ (f : Fate). left_by f t.version t.home) c.in-Moved.is in
+    subst (λ (o : Option KeyRecord). Shows o looks.Unknown) (sym (known_found c.args.self.now.items c.args.key (Some t) c.in-Some.ensures ∙ none)) refl
+
+pub returns-in_default : goal.returns-in_default
+returns-in_default c =
+    let t = c.in-Some.tombstone in
+    subst (λ (o : Option KeyRecord). Shows o looks.Deleted) (sym (known_found c.args.self.now.items c.args.key (Some t) c.in-Some.ensures)) (shows_deleted t.fate t.version t.home c.in_default.not-Moved)
