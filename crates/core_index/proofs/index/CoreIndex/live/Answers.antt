@@ -6,6 +6,7 @@ use Rattle.log_entry.specs.declared.entry.EntryName.{EntryName}
 use Rattle.core_index.specs.Records.{live_version}
 use Rattle.core_index.specs.Slots.{Place}
 use Rattle.core_index.specs.Index.{known_at}
+use Rattle.core_index.proofs.PlaceLaws.{live_both}
 use Rattle.core_index.proofs.ListingLaws.{live_sorted, lists_exactly, if_ok_both}
 use Rattle.core_index.proofs.index.CoreIndex.live.Goals as goal
 
@@ -21,6 +22,6 @@ returns-clause-each c =
     let es = c.self.inside.slots.entries in
     if_ok_both c.live_in.result (λ names is ordered. λ k v.
     let exact = lists_exactly es names.items ordered is k v in (
-      λ has. ap (λ (fs : List (ℕ × Place)). live_version (known_at fs k)) (sym c.self.view_is) ∙ exact.0 has,
-      λ at. exact.1 (ap (λ (fs : List (ℕ × Place)). live_version (known_at fs k)) c.self.view_is ∙ at),
+      λ has. ap (λ (fs : List (ℕ × Place)). live_version (known_at fs k)) (sym c.self.view_is) ∙ live_both es c.self.inside.tombstones k ∙ exact.0 has,
+      λ at. exact.1 (sym (live_both es c.self.inside.tombstones k) ∙ ap (λ (fs : List (ℕ × Place)). live_version (known_at fs k)) c.self.view_is ∙ at),
     )) c.live_in.ensures.names c.live_in.ensures.ordered
