@@ -24,4 +24,3 @@ pub mod LiveLaws
 pub mod EntryListLaws
 pub mod ReadLaws
 pub mod Clients
-pub mod OwnLaws

@@ -16,7 +16,6 @@ ghost use Rattle.recover.specs.Logs.{IsStart};
 ghost use Rattle.recover.specs.Heads.{Starts, AllStart};
 
 use crate::logs::{heads, log_chunks};
-use crate::own_deaths::tell_own;
 use crate::shares::Share;
 use crate::types::CoreStart;
 use chunk_map::Layout;
@@ -24,12 +23,12 @@ use core_index::CoreIndex;
 use core_log::CoreLog;
 use fs_errors::Memory;
 use lazy_alloc::Allocator;
-use log_standing::{Standing, standing_of};
+use log_standing::{Standing, standing_told};
 use pm_region::Region;
 use std::alloc::Global;
 use store_image::Fault;
 
-/// What stands in the log of a core with this index: its dead entries were told dead.
+/// What stands in the log of a core with this index: the names that are dead by it were told dead.
 fn own_standing<R: Region>(
     alloc: Global,
     region: &R,
@@ -43,9 +42,7 @@ fn own_standing<R: Region>(
     ensures counts { IfOk result (λ standing. IsTelling (R.state region.now)
         → IsStandingOf (R.state region.now) log.now standing) }
 {
-    let mut standing = standing_of(alloc, region, log)?;
-    tell_own(&mut standing, index);
-    Ok(standing)
+    standing_told(alloc, region, log, |name| index.is_dead(name))
 }
 
 /// The start of one core. The heads of its part are read again: one that is none now is answered as damage.
