@@ -6,6 +6,7 @@ pub mod FoundEntryLaws
 pub mod KeyLaws
 pub mod StandsLaws
 pub mod ReadBackLaws
+pub mod RunLaws
 pub mod TakenLaws
 pub mod RegionLaws
 pub mod GatherLaws

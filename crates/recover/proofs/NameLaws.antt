@@ -231,7 +231,7 @@ module _ (es xs : List PlacedEntry) (is : IsByName es xs) where
   spelled_sorted all = all_of (λ (x : PlacedEntry). HasSpelling x.entry) xs (λ x h. one_of (λ (x : PlacedEntry). HasSpelling x.entry) es x all (in_first x h))
 
 -- a name that isn't above another
-not_above : (k v j u : ℕ) → is_lt (name_cmp (j, u) (k, v)) ≡ false → (k < j) ⊎ ((k ≡ j) × (v ≤ u))
+pub not_above : (k v j u : ℕ) → is_lt (name_cmp (j, u) (k, v)) ≡ false → (k < j) ⊎ ((k ≡ j) × (v ≤ u))
 not_above k v j u e = elim (ltb j k) as (λ b. ltb j k ≡ b → is_lt (ordering_then (cond b Less (cond (j == k) Equal Greater)) (nat_cmp u v)) ≡ false → (k < j) ⊎ ((k ≡ j) × (v ≤ u))) [
   | true ↦ λ t q. absurd (cc q)
   | false ↦ λ t. elim (j == k) as (λ b. (j == k) ≡ b → is_lt (ordering_then (cond b Equal Greater) (nat_cmp u v)) ≡ false → (k < j) ⊎ ((k ≡ j) × (v ≤ u))) [
@@ -275,7 +275,7 @@ find_some p (y ∷ ys) x (inr h) is = elim (p y) as (λ b. is_some (cond b (Some
   | false ↦ find_some p ys x h is
 ]
 
-names_total : IsTotalOrder name_cmp
+pub names_total : IsTotalOrder name_cmp
 names_total = then_total (on_total (λ p. p.0) nat_cmp_total) (on_total (λ p. p.1) nat_cmp_total)
 
 -- each entry from the second on agrees with the one before it
