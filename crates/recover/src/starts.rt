@@ -5,6 +5,8 @@ ghost use Rattle.pm_region.specs.Words.{lasts};
 ghost use Rattle.store_image.specs.Parts.{all_entries};
 ghost use Rattle.store_image.specs.Facts.{KeepsRules};
 ghost use Rattle.core_log.specs.Walking.{LiesIn};
+ghost use Rattle.core_index.specs.Records.{is_dead_in};
+ghost use Rattle.core_index.specs.Index.{known_at};
 ghost use Rattle.log_standing.specs.ChunkCounts.{IsStandingOf, IsSpelled};
 ghost use Rattle.recover.specs.Regions.{Covers};
 ghost use Rattle.recover.specs.Gathering.{AllSpell};
@@ -23,6 +25,7 @@ use core_index::CoreIndex;
 use core_log::CoreLog;
 use fs_errors::Memory;
 use lazy_alloc::Allocator;
+use log_entry::EntryName;
 use log_standing::{Standing, standing_told};
 use pm_region::Region;
 use std::alloc::Global;
@@ -42,7 +45,12 @@ fn own_standing<R: Region>(
     ensures counts { IfOk result (λ standing. IsTelling (R.state region.now)
         → IsStandingOf (R.state region.now) log.now standing) }
 {
-    standing_told(alloc, region, log, |name| index.is_dead(name))
+    let dead = |name: EntryName|
+        ensures { result ≡ is_dead_in (known_at index.entry.now name.key) name.version }
+    {
+        index.is_dead(name)
+    };
+    standing_told(alloc, region, log, dead)
 }
 
 /// The start of one core. The heads of its part are read again: one that is none now is answered as damage.

@@ -9,4 +9,4 @@ ok_by P Q (Ok x) by is = by x is
 ok_by P Q (Err e) by is = tt
 
 pub returns-clause-told : goal.returns-clause-told
-returns-clause-told g c = ok_by _ _ c.standing_told.result (λ s told. told (λ k v. is_dead_in (known_at c.args.index.now k) v) (λ n b says. says)) c.standing_told.ensures.told
+returns-clause-told g c = ok_by _ _ c.standing_told.result (λ s told. told (λ k v. is_dead_in (known_at c.args.index.now k) v) (λ n b says. says.1)) c.standing_told.ensures.told
