@@ -12,6 +12,7 @@ pub mod RegionLaws
 pub mod GatherLaws
 pub mod BlockLaws
 pub mod JudgeLaws
+pub mod FaultLaws
 pub mod SpellLaws
 pub mod FoundLaws
 pub mod LogLaws

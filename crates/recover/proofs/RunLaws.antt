@@ -1,6 +1,7 @@
 -- The runs of one key in a list by names, and the winners that they give.
 use Rattle.std.proofs.Common.{◌≡◌, ◌≢◌, ◌⊎◌, inl, inr, ℕ, zero, suc, ◌+◌, ◌-◌, ◌<◌, ◌≤◌, ◌==◌, ◌&&◌, Bool, true, false, cond, ltb, List, [], ◌∷◌, ◌++◌, length, take, get_or, map, refl, sym, ◌∙◌, ap, subst, arith}
 use Rattle.std.specs.Ordering.{is_lt}
+use Rattle.std.proofs.lemmas.List.{take_all}
 use Rattle.std.proofs.lemmas.List.Sorted.{ranks_by, sorted_far}
 use Rattle.std.proofs.lemmas.Bool.{eqb-true, eqb-false, eq-eqb, ne_eqb, ltb-true, ltb-false, lt-ltb, le-ltb}
 use Rattle.chunk_map.specs.declared.layouts.Geometry.{Geometry}
@@ -200,6 +201,31 @@ module _ (f : ℕ → PlacedEntry) where
     span_rises (suc a) n (λ i j le lt. up i j le (omega (arith, lt))),
   )
 
+-- a winner is one of the entries
+with_in : (y x : PlacedEntry) (ws : List PlacedEntry) → In y (with_winner x ws) → (y ≡ x) ⊎ In y ws
+with_in y x [] (inl e) = inl e
+with_in y x [] (inr none) = absurd none
+with_in y x (w ∷ ws) h = by_two (w.entry.key == x.entry.key) (ltb x.entry.version w.entry.version) h where
+  first : In y (x ∷ (w ∷ ws)) → (y ≡ x) ⊎ In y (w ∷ ws)
+  first (inl e) = inl e
+  first (inr g) = inr g
+
+  over : In y (x ∷ ws) → (y ≡ x) ⊎ In y (w ∷ ws)
+  over (inl e) = inl e
+  over (inr g) = inr (inr g)
+
+  by_two : (b c : Bool) → In y (cond (b && c) (w ∷ ws) (x ∷ cond b ws (w ∷ ws))) → (y ≡ x) ⊎ In y (w ∷ ws)
+  by_two true true h = inr h
+  by_two true false h = over h
+  by_two false c h = first h
+
+winner_in_list : (vs : List PlacedEntry) (y : PlacedEntry) → In y (winners_from vs) → In y vs
+winner_in_list [] y h = h
+winner_in_list (x ∷ vs) y h = either (winner_in_list vs y) (with_in y x (winners_from vs) h) where
+  either : (In y (winners_from vs) → In y vs) → (y ≡ x) ⊎ In y (winners_from vs) → In y (x ∷ vs)
+  either more (inl e) = inl e
+  either more (inr g) = inr (more g)
+
 -- a key begins at a place of a list by names
 abbrev pub Begins : List Found → ℕ → Type 0
 Begins fs at = (d : Found) → 0 < at → at < length fs → (get_or fs (at - 1) d).key ≢ (get_or fs at d).key
@@ -248,3 +274,43 @@ module _ (l : Geometry) (image : ℕ → ℕ) (fs : List Found) (rising : AreInO
           let first = found_rise fs rising i (at - 1) d (omega (arith, h)) (omega (arith, h, low, high, within)) in
           let next = found_rise fs rising (at - 1) at d (omega arith) (omega (arith, low, high, within)) in
           begins d (omega (arith, h)) (omega (arith, low, high, within)) (omega (arith, first, next, key, same, p))
+
+-- the winners of those in front of a key are the first of all
+module _ (l : Geometry) (image : ℕ → ℕ) (fs : List Found) (rising : AreInOrder fs) (at : ℕ) (begins : Begins fs at) (within : at ≤ length fs) where
+  abbrev d : Found
+  d = record { key = 0; version = 0; at = 0 }
+
+  abbrev f : ℕ → PlacedEntry
+  f i = placed_at l image (get_or fs i d)
+
+  abbrev n : ℕ
+  n = length fs - at
+
+  pub cut_wins : (rest : List PlacedEntry) × (winners_of (entries_at l image fs) ≡ winners_of (entries_at l image (take at fs)) ++ rest)
+  cut_wins = (winners_from (span f at n), whole) where
+    differs : (i : ℕ) (y : PlacedEntry) → 0 ≤ i → i < 0 + at → In y (winners_from (span f at n)) → (f i).entry.key ≢ y.entry.key
+    differs i y low high mem p =
+        let r = in_span f at n y (winner_in_list (span f at n) y mem) in
+        let a = r.1 in
+        let b = r.2 in
+        let in_fs : r.0 < length fs = omega (arith, b, within) in
+        let key : y.entry.key ≡ (get_or fs r.0 d).key = ap (λ (z : PlacedEntry). z.entry.key) r.3 in
+        let first = found_rise fs rising i (at - 1) d (omega (arith, high)) (omega (arith, high, a, in_fs)) in
+        let next = found_rise fs rising (at - 1) at d (omega arith) (omega (arith, a, in_fs)) in
+        let last = found_rise fs rising at r.0 d a in_fs in
+        begins d (omega (arith, high)) (omega (arith, a, in_fs)) (omega (arith, first, next, last, key, p))
+
+    up : (m : ℕ) → m ≤ length fs → (i j : ℕ) → i ≤ j → j < 0 + m → (f i).entry.key ≤ (f j).entry.key
+    up m le i j low high = found_rise fs rising i j d low (omega (arith, high, le))
+
+    whole : winners_of (entries_at l image fs) ≡ winners_of (entries_at l image (take at fs)) ++ winners_from (span f at n)
+    whole =
+        let z : 0 + at ≡ at = omega arith in
+        let all : at + n ≡ length fs = omega (arith, within) in
+        ap (λ l1. winners_of (entries_at l image l1)) (sym (take_all (length fs) fs (omega arith)))
+        ∙ ap winners_of (take_span (placed_at l image) fs (length fs) d (omega arith))
+        ∙ sym (from_risen (span f 0 (length fs)) (span_rises f 0 (length fs) (up (length fs) (omega arith))))
+        ∙ ap (λ k. winners_from (span f 0 k)) (sym all)
+        ∙ ap winners_from (span_append f 0 at n ∙ ap (λ k. span f 0 at ++ span f k n) z)
+        ∙ others_stay f 0 at (span f at n) (winners_from (span f at n)) refl differs
+        ∙ ap (λ ws. ws ++ winners_from (span f at n)) (from_risen (span f 0 at) (span_rises f 0 at (up at within)) ∙ sym (ap winners_of (take_span (placed_at l image) fs at d within)))

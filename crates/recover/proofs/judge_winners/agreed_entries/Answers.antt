@@ -1,4 +1,4 @@
-use Rattle.std.proofs.Common.{subst}
+use Rattle.std.proofs.Common.{sym, subst}
 use Rattle.pm_region.specs.Words.{lasts}
 use Rattle.store_image.specs.Facts.{Agree}
 use Rattle.recover.specs.FoundEntries.{AreFound, AreInOrder, entries_at}
@@ -14,4 +14,13 @@ returns-in-Err-clause-told g c = λ telling.
     by_chunks c.args.layout.now image c.in_ok-found.field-0 c.in-Err.fault (c.in_ok-found.ensures telling) c.in-Err.is
 
 pub returns-then-branch-clause-told : goal.returns-then-branch-clause-told
-returns-then-branch-clause-told g c = ?
+returns-then-branch-clause-told g c = λ telling.
+    let s = g.R.Region.state c.args.region.now in
+    let image = lasts s in
+    let l = c.args.layout.now in
+    let all = gathered l image c.in_ok-found.field-0 c.in-Ok.found (c.in_ok-found.ensures telling) c.in-Ok.is in
+    let fs = c.in-Ok.found.items in
+    let xs = c.in_ok-sorted.sorted.items in
+    let stand = subst (AreFound l image) (sym c.deref.ensures.value) (stand_sorted s.frame l c.requires.covers image fs xs all.1 all.0 all.2 c.in_ok-sorted.ensures) in
+    let both = subst (λ ys. Agree (entries_at l image ys)) c.deref.ensures.value (c.in_ok-agree.ensures c.if-branch.true telling stand) in
+    sorted_agree s.frame l c.requires.covers image fs xs all.1 all.0 all.2 c.in_ok-sorted.ensures both
