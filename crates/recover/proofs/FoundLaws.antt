@@ -1,7 +1,6 @@
 -- What is said of a region by its superblock.
 use Rattle.std.proofs.Common.{◌≡◌, ℕ, ◌<◌, ◌+◌, ◌*◌, ◌/◌, Option, Some, None, refl, sym, ◌∙◌, ap, subst, arith}
 use Rattle.std.specs.Prelude.{Result, Ok, Err, IfOk, Vec, slice_index_or}
-use Rattle.std.specs.Result.{result_err}
 use Rattle.std.specs.Global.{Global}
 use Rattle.pm_region.specs.State.{Frame}
 use Rattle.chunk_map.specs.declared.layouts.Geometry.{Geometry}
@@ -9,7 +8,6 @@ use Rattle.chunk_map.specs.declared.superblock.NotARegion.{NotARegion}
 use Rattle.chunk_map.specs.Layouts.{IsLayout, layout_of, superblock_rule, total_bytes, chunk_words}
 use Rattle.chunk_map.specs.Checked.{superblock_by, checked_superblock, IsLength}
 use Rattle.store_image.proofs.Places.{layout_numbers}
-use Rattle.store_image.specs.declared.types.PlacedEntry.{PlacedEntry}
 use Rattle.store_image.specs.declared.types.Fault.{Fault}
 use Rattle.store_image.specs.Soundness.{damage}
 use Rattle.store_image.specs.Facts.{KeepsRules, IsStore}
@@ -18,7 +16,9 @@ use Rattle.store_image.proofs.SoundFacts.{sound_store}
 use Rattle.store_image.specs.Parts.{all_entries}
 use Rattle.recover.specs.declared.shares.Share.{Share}
 use Rattle.recover.specs.declared.types.CoreStart.{CoreStart}
-use Rattle.recover.specs.Gathering.{AreAgreed, Agrees, Judges, AllSpell}
+use Rattle.recover.specs.declared.found_entries.Found.{Found}
+use Rattle.recover.specs.FoundEntries.{entries_at, AreFound}
+use Rattle.recover.specs.Gathering.{AreAgreed, Agrees, AllSpell}
 use Rattle.recover.specs.Shares.{AreShares, Shares}
 use Rattle.recover.specs.Heads.{IsStartOf, Starts, AllStart}
 use Rattle.recover.specs.Regions.{Covers}
@@ -59,25 +59,13 @@ covers_all f l bytes first words layout total = record {
   words = words (is_length l bytes layout total) ∙ ap (λ b. b / 8) (sym total);
 }
 
--- the fault of what was judged
-pub judged_fault : (l : Geometry) (image : ℕ → ℕ) (r : Result (Vec PlacedEntry Global) Fault) → Judges l image r → result_err r ≡ damage l image
-judged_fault l image (Ok ws) is = sym is
-judged_fault l image (Err f) is = sym is
-
 module _ (l : Geometry) (image : ℕ → ℕ) where
   -- the entries that agree, or the fault
-  pub agreed_of : (r : Result (Vec PlacedEntry Global) Fault) (v : Vec PlacedEntry Global) → Agrees l image r → r ≡ Ok v → AreAgreed l image v.items × AllSpell l image
+  pub agreed_of : (r : Result (Vec Found Global) Fault) (v : Vec Found Global) → Agrees l image r → r ≡ Ok v → AreAgreed l image (entries_at l image v.items) × AllSpell l image × AreFound l image v.items
   agreed_of r v told is = subst (Agrees l image) is told
 
-  pub agreed_fault : (r : Result (Vec PlacedEntry Global) Fault) (f : Fault) → Agrees l image r → r ≡ Err f → damage l image ≡ Some f
+  pub agreed_fault : (r : Result (Vec Found Global) Fault) (f : Fault) → Agrees l image r → r ≡ Err f → damage l image ≡ Some f
   agreed_fault r f told is = subst (Agrees l image) is told
-
-  -- the winners that were judged
-  pub judged_ok : (r : Result (Vec PlacedEntry Global) Fault) (v : Vec PlacedEntry Global) → Judges l image r → r ≡ Ok v → damage l image ≡ None
-  judged_ok r v told is = subst (Judges l image) is told
-
-  pub judged_err : (r : Result (Vec PlacedEntry Global) Fault) (f : Fault) → Judges l image r → r ≡ Err f → damage l image ≡ Some f
-  judged_err r f told is = subst (Judges l image) is told
 
   -- the shares
   pub shares_ok : (r : Result (Vec Share Global) Fault) (v : Vec Share Global) → Shares l image r → r ≡ Ok v → (damage l image ≡ None) × AllSpell l image × AreShares l (all_entries l image) v.items

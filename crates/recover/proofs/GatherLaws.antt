@@ -1,10 +1,20 @@
 -- Loops that end at the first fault.
-use Rattle.std.proofs.Common.{◌≡◌, ℕ, ◌+◌, ◌-◌, ◌<◌, ◌≤◌, refl, ◌∙◌, ap, Option, Some, None, true, false}
+use Rattle.std.proofs.Common.{◌≡◌, ℕ, ◌+◌, ◌-◌, ◌<◌, ◌≤◌, List, [], ◌∷◌, ◌++◌, length, take, get_or, map, subst, arith, refl, sym, ◌∙◌, ap, append_assoc, append-nil, Option, Some, None, true, false}
+use Rattle.std.specs.List.{flat_map}
+use Rattle.std.proofs.lemmas.List.{map-append, length-map, get_or-map, take_more}
 use Rattle.std.specs.Prelude.{is_some}
 use Rattle.std.specs.Option.{option_or}
-use Rattle.chunk_map.specs.Layouts.{numbers}
+use Rattle.chunk_map.specs.Layouts.{numbers, chunk_first}
 use Rattle.store_image.specs.Soundness.{first_some}
-use Rattle.store_image.proofs.Loops.{first_next, first_end}
+use Rattle.store_image.proofs.Loops.{first_next, first_end, list_next, list_end}
+use Rattle.log_entry.specs.declared.entry.Entry.{Entry}
+use Rattle.chunk_map.specs.declared.layouts.Geometry.{Geometry}
+use Rattle.store_image.specs.declared.scanning.AtPlace.{AtPlace}
+use Rattle.store_image.specs.Scanned.{shown}
+use Rattle.store_image.specs.Parts.{placed}
+use Rattle.recover.specs.declared.found_entries.Found.{Found}
+use Rattle.recover.specs.FoundEntries.{found_in, found_of, LieBelow}
+use Rattle.recover.proofs.ListLaws.{all_at}
 
 module _ {Y : Type 0} (f : ℕ → Option Y) (i n : ℕ) where
   pub goes_on : (o : Option Y) → i < n → o ≡ f i → is_some o ≡ false → first_some f (numbers (i + 1) (n - (i + 1))) ≡ first_some f (numbers i (n - i))
@@ -25,3 +35,39 @@ not_none (Some y) some none = cc none
 pub is_none : {Y : Type 0} (o : Option Y) → is_some o ≡ false → o ≡ None
 is_none None none = refl
 is_none (Some y) none = absurd (cc none)
+
+-- a loop that gathers what is found of the entries of one after another
+module _ {X Y : Type 0} (f : X → Y) (h : ℕ → List X) (i n : ℕ) where
+  pub found_next : (old more : List Y) → i < n → more ≡ old ++ map f (h i) → more ++ map f (flat_map h (numbers (i + 1) (n - (i + 1)))) ≡ old ++ map f (flat_map h (numbers i (n - i)))
+  found_next old more lt e =
+      let rest = flat_map h (numbers (i + 1) (n - (i + 1))) in
+      ap (λ l. l ++ map f rest) e ∙ append_assoc old (map f (h i)) (map f rest) ∙ ap (λ l. old ++ l) (sym (map-append f (h i) rest)) ∙ ap (λ l. old ++ map f l) (list_next h i n [] (h i) lt refl)
+
+  pub found_end : (old : List Y) → n ≤ i → old ≡ old ++ map f (flat_map h (numbers i (n - i)))
+  found_end old le = sym (append-nil old) ∙ ap (λ l. old ++ map f l) (list_end h i n [] le)
+
+-- what is found of a payload's entries
+pub place_lies : (n : ℕ) (es : List AtPlace) → LieBelow n (shown es) → (i : ℕ) (x : AtPlace) → i < length es → x ≡ get_or es i x → x.place < n
+place_lies n es all i x lt is =
+    let d : ℕ × Entry = (x.place, x.entry) in
+    let shows : AtPlace → ℕ × Entry = λ y. (y.place, y.entry) in
+    let here : get_or (shown es) i d ≡ (x.place, x.entry) = get_or-map shows es i x d lt ∙ ap shows (sym is) in
+    let long = length-map es shows in
+    subst (λ (y : ℕ × Entry). y.0 < n) here (all_at (λ (y : ℕ × Entry). y.0 < n) (shown es) i d all (omega (arith, lt, long)))
+
+pub more_noted : (first : ℕ) (old now new : List Found) (es : List AtPlace) (i : ℕ) (x : AtPlace) → i < length es → x ≡ get_or es i x → now ≡ old ++ map (found_in first) (shown (take i es))
+    → new ≡ now ++ found_in first (x.place, x.entry) ∷ [] → new ≡ old ++ map (found_in first) (shown (take (i + 1) es))
+more_noted first old now new es i x lt is so_far push =
+    let shows : AtPlace → ℕ × Entry = λ y. (y.place, y.entry) in
+    let f : AtPlace → Found = λ y. found_in first (shows y) in
+    push ∙ ap (λ l. l ++ f x ∷ []) so_far ∙ append_assoc old (map (found_in first) (shown (take i es))) (f x ∷ [])
+    ∙ ap (λ l. old ++ l) (sym (map-append (found_in first) (shown (take i es)) (shows x ∷ [])))
+    ∙ ap (λ l. old ++ map (found_in first) l) (sym (map-append shows (take i es) (x ∷ [])))
+    ∙ ap (λ ys. old ++ map (found_in first) (shown ys)) (pushed es i x lt is)
+  where
+    pushed : (es : List AtPlace) (i : ℕ) (x : AtPlace) → i < length es → x ≡ get_or es i x → take i es ++ x ∷ [] ≡ take (i + 1) es
+    pushed es i x lt is = ap (λ y. take i es ++ y ∷ []) is ∙ sym (take_more es i x lt)
+
+pub placed_found : (l : Geometry) (c j first : ℕ) (xs : List (ℕ × Entry)) → first ≡ chunk_first l c j + 32 → map (found_in first) xs ≡ map (found_of l) (placed c j xs)
+placed_found l c j first [] is = refl
+placed_found l c j first (x ∷ xs) is = (λ i. record { key = x.1.key; version = x.1.version; at = is i + x.0 } ∷ placed_found l c j first xs is i)

@@ -1,6 +1,6 @@
 -- The rules on blocks, told of the list of winners.
-use Rattle.std.proofs.Common.{◌≡◌, inl, ℕ, ◌+◌, ◌*◌, ◌<◌, ◌≤◌, ltb, List, [], ◌∷◌, ◌++◌, length, take, drop, get_or, refl, sym, ◌∙◌, ap, subst, arith, ◌&&◌, ◌||◌, true, false, cond, Bool, Option, Some, None, append_assoc, append-nil}
-use Rattle.std.specs.Prelude.{option_map, is_some, Result, Ok, Err, IfOk, Vec}
+use Rattle.std.proofs.Common.{◌≡◌, inl, ℕ, ◌+◌, ◌*◌, ◌<◌, ◌≤◌, ltb, List, [], ◌∷◌, ◌++◌, length, take, drop, get_or, map, refl, sym, ◌∙◌, ap, subst, arith, ◌&&◌, ◌||◌, true, false, cond, Bool, Option, Some, None, append_assoc, append-nil}
+use Rattle.std.specs.Prelude.{option_map, is_some, Result, Ok, Err, Vec}
 use Rattle.std.specs.Global.{Global}
 use Rattle.std.proofs.lemmas.List.{drop_more}
 use Rattle.std.proofs.Math.ListN.{drop_of_length-le}
@@ -22,8 +22,16 @@ use Rattle.store_image.proofs.SoundFacts.{in_back, winner_is}
 use Rattle.store_image.proofs.Listings.{rising_keys}
 use Rattle.store_image.proofs.Loops.{chunks_decide, clash_decides, blocks_decide}
 use Rattle.recover.specs.ByName.{IsByName}
+use Rattle.store_image.specs.Facts.{Agree}
+use Rattle.pm_region.specs.State.{Frame}
+use Rattle.recover.specs.declared.found_entries.Found.{Found}
+use Rattle.recover.specs.Regions.{Covers}
+use Rattle.recover.specs.FoundEntries.{found_of, entries_at, Stands, AreFound, AreByName}
 use Rattle.recover.specs.Gathering.{Gathers, AllSpell, AreAgreed}
-use Rattle.recover.specs.Winning.{winners_of, AreSpelled}
+use Rattle.recover.proofs.NameLaws.{no_clash}
+use Rattle.recover.proofs.FoundEntryLaws.{by_name_at, all_by_name}
+use Rattle.recover.proofs.ReadBackLaws.{found_back, found_stand}
+use Rattle.recover.specs.Winning.{winners_of}
 use Rattle.recover.specs.Judging.{is_taken, rule_beside, body_beside, fault_beside, winners_fault}
 use Rattle.recover.proofs.WinningLaws.{above_in}
 
@@ -110,10 +118,10 @@ no_fault l image ws i le = sym (ap (winners_fault l image (take i ws)) (drop_of_
 
 -- what the steps find one after another decides
 module _ (l : Geometry) (image : ℕ → ℕ) where
-  pub by_chunks : (r : Result (Vec PlacedEntry Global) Fault) (f : Fault) → Gathers l image r → r ≡ Err f → damage l image ≡ Some f
+  pub by_chunks : (r : Result (Vec Found Global) Fault) (f : Fault) → Gathers l image r → r ≡ Err f → damage l image ≡ Some f
   by_chunks r f gathers is = sym (chunks_decide l image (all_entries l image) refl (Some f) (sym (subst (Gathers l image) is gathers)) refl)
 
-  pub gathered : (r : Result (Vec PlacedEntry Global) Fault) (v : Vec PlacedEntry Global) → Gathers l image r → r ≡ Ok v → (chunk_fault l image ≡ None) × (v.items ≡ all_entries l image) × AllSpell l image
+  pub gathered : (r : Result (Vec Found Global) Fault) (v : Vec Found Global) → Gathers l image r → r ≡ Ok v → (chunk_fault l image ≡ None) × (v.items ≡ map (found_of l) (all_entries l image)) × AllSpell l image
   gathered r v gathers is = subst (Gathers l image) is gathers
 
   module _ (es : List PlacedEntry) (is : es ≡ all_entries l image) (whole : chunk_fault l image ≡ None) where
@@ -123,9 +131,19 @@ module _ (l : Geometry) (image : ℕ → ℕ) where
     pub by_winners : (f : Option Fault) (ws : List PlacedEntry) → None ≡ clash_fault es → ws ≡ winners_of es → f ≡ winners_fault l image [] ws → damage l image ≡ f
     by_winners f ws none won found = sym (blocks_decide l image es is f None None (sym whole) refl none refl (found ∙ ap (winners_fault l image []) won ∙ winners_decide es l image))
 
--- all entries that break none of rules 4 to 8
-pub agreed : (l : Geometry) (image : ℕ → ℕ) (es : List PlacedEntry) → es ≡ all_entries l image → chunk_fault l image ≡ None → AllSpell l image → (xs : List PlacedEntry) → IsByName es xs → clash_fault es ≡ None → AreAgreed l image xs × AllSpell l image
-agreed l image es is whole spells xs sorted none = (record { all = subst (λ (es : List PlacedEntry). IsByName es xs) is sorted; chunks = whole; clash = ap clash_fault (sym is) ∙ none }, spells)
+-- all entries that break none of rules 4 to 8, as they are found
+module _ (f : Frame) (l : Geometry) (covers : Covers f l) (image : ℕ → ℕ) (fs xs : List Found) (is : fs ≡ map (found_of l) (all_entries l image)) (whole : chunk_fault l image ≡ None) (spells : AllSpell l image) (sorted : AreByName fs xs) where
+  -- they stand there
+  pub stand_sorted : AreFound l image xs
+  stand_sorted = all_by_name (Stands l image) fs xs sorted (found_stand f l covers image spells fs is)
 
-pub spelled_of : (r : Result (Vec PlacedEntry Global) Fault) (v : Vec PlacedEntry Global) → IfOk r (λ es. AreSpelled es.items) → r ≡ Ok v → AreSpelled v.items
-spelled_of r v all is = subst (λ (r : Result (Vec PlacedEntry Global) Fault). IfOk r (λ es. AreSpelled es.items)) is all
+  by_name_all : IsByName (all_entries l image) (entries_at l image xs)
+  by_name_all = subst (λ (es : List PlacedEntry). IsByName es (entries_at l image xs)) (found_back f l covers image spells fs is) (by_name_at l image fs xs sorted)
+
+  -- where none contradicts one before it
+  pub none_clash : clash_fault (all_entries l image) ≡ None → AreAgreed l image (entries_at l image xs) × AllSpell l image × AreFound l image xs
+  none_clash none = (record { all = by_name_all; chunks = whole; clash = none }, spells, stand_sorted)
+
+  -- where the sorted ones agree
+  pub sorted_agree : Agree (entries_at l image xs) → AreAgreed l image (entries_at l image xs) × AllSpell l image × AreFound l image xs
+  sorted_agree both = none_clash (no_clash (all_entries l image) (entries_at l image xs) by_name_all both)

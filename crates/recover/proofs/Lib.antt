@@ -2,16 +2,21 @@ pub mod ListLaws
 pub mod WinningLaws
 pub mod ClashLaws
 pub mod NameLaws
+pub mod FoundEntryLaws
+pub mod KeyLaws
+pub mod StandsLaws
+pub mod ReadBackLaws
+pub mod RunLaws
 pub mod TakenLaws
 pub mod RegionLaws
 pub mod GatherLaws
 pub mod BlockLaws
 pub mod JudgeLaws
+pub mod FaultLaws
 pub mod SpellLaws
 pub mod FoundLaws
 pub mod LogLaws
 pub mod MadeLaws
-pub mod StandingLaws
 pub mod ShareLaws
 pub mod HeadLaws
 pub mod StartLaws
@@ -21,4 +26,3 @@ pub mod LiveLaws
 pub mod EntryListLaws
 pub mod ReadLaws
 pub mod Clients
-pub mod OwnLaws

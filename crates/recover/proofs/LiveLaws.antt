@@ -1,5 +1,5 @@
 -- The pairs of winners are the live pairs.
-use Rattle.std.proofs.Common.{◌≡◌, ℕ, List, [], ◌∷◌, ◌++◌, refl, sym, ◌∙◌, ap, subst, append_assoc, Option, Some, None}
+use Rattle.std.proofs.Common.{◌≡◌, ℕ, List, [], ◌∷◌, ◌++◌, refl, sym, ◌∙◌, ap, subst, Option, Some, None}
 use Rattle.std.specs.Prelude.{Result, Ok, Err, Vec}
 use Rattle.std.specs.Global.{Global}
 use Rattle.std.specs.Option.{option_to_list, option_and_then}
@@ -16,7 +16,7 @@ use Rattle.store_image.specs.Listing.{ListsCells, with_pair}
 use Rattle.store_image.proofs.SoundFacts.{winner_is}
 use Rattle.store_image.proofs.Listings.{pairs_of, lists_pairs}
 use Rattle.recover.specs.Winning.{winners_of}
-use Rattle.recover.specs.Live.{pairs_by, Lists}
+use Rattle.recover.specs.Live.{pairs_by, HasLeft, Lists}
 
 module _ (l : Geometry) (image : ℕ → ℕ) where
   abbrev es : List PlacedEntry
@@ -40,15 +40,25 @@ module _ (l : Geometry) (image : ℕ → ℕ) where
   pub winners_list : (ws : List PlacedEntry) (ps : List Pair) → ws ≡ winners_of es → ps ≡ pairs_by l image ws → ListsCells (recovered l image) ps
   winners_list ws ps won left = subst (ListsCells (recovered l image)) (sym (left ∙ ap (pairs_by l image) won ∙ left_at (keys_of es))) (lists_pairs l image)
 
-  -- one pair more, or none
-  pub left_more : (ps more : List Pair) (x : PlacedEntry) (xs : List PlacedEntry) (v : Option (List ℕ)) → v ≡ cell_by (held l image (owner l x.entry.key)) x.entry.body → more ≡ ps ++ with_pair x.entry.key v []
-      → more ++ pairs_by l image xs ≡ ps ++ pairs_by l image (x ∷ xs)
-  left_more ps more x xs v is push =
-      ap (λ ps. ps ++ pairs_by l image xs) push ∙ append_assoc ps (with_pair x.entry.key v []) (pairs_by l image xs) ∙ ap (λ qs. ps ++ qs) (before v (pairs_by l image xs) ∙ ap (λ o. with_pair x.entry.key o (pairs_by l image xs)) is)
+  -- the pairs of more winners
+  pairs_append : (ws vs : List PlacedEntry) → pairs_by l image (ws ++ vs) ≡ pairs_by l image ws ++ pairs_by l image vs
+  pairs_append [] vs = refl
+  pairs_append (x ∷ ws) vs =
+      let v = cell_by (held l image (owner l x.entry.key)) x.entry.body in
+      ap (with_pair x.entry.key v) (pairs_append ws vs) ∙ before v (pairs_by l image ws) (pairs_by l image vs)
     where
-      before : (o : Option (List ℕ)) (rest : List Pair) → with_pair x.entry.key o [] ++ rest ≡ with_pair x.entry.key o rest
-      before None rest = refl
-      before (Some v) rest = refl
+      before : (o : Option (List ℕ)) (ps qs : List Pair) → with_pair x.entry.key o (ps ++ qs) ≡ with_pair x.entry.key o ps ++ qs
+      before None ps qs = refl
+      before (Some v) ps qs = refl
+
+  -- those of one winner more
+  pub left_more : (now more : List Pair) (ws all : List PlacedEntry) (x : PlacedEntry) → now ≡ pairs_by l image ws → more ≡ now ++ pairs_by l image (x ∷ []) → all ≡ ws ++ x ∷ [] → more ≡ pairs_by l image all
+  left_more now more ws all x so_far push is = push ∙ ap (λ ps. ps ++ pairs_by l image (x ∷ [])) so_far ∙ sym (pairs_append ws (x ∷ [])) ∙ ap (pairs_by l image) (sym is)
+
+  -- what was listed of winners
+  pub left_lists : (xs : List PlacedEntry) → damage l image ≡ None → winners_of xs ≡ winners_of es → (r : Result (Vec Pair Global) Fault) → HasLeft l image xs r → Lists l image r
+  left_lists xs none same (Ok pairs) left = (none, winners_list (winners_of xs) pairs.items same left)
+  left_lists xs none same (Err fault) left = absurd left
 
   pub lists_ok : (r : Result (Vec Pair Global) Fault) (v : Vec Pair Global) → Lists l image r → r ≡ Ok v → (damage l image ≡ None) × ListsCells (recovered l image) v.items
   lists_ok r v told is = subst (Lists l image) is told

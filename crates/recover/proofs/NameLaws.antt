@@ -1,8 +1,6 @@
 -- What a list of entries keeps when it is put in the order of their names.
 use Rattle.std.proofs.Common.{◌≡◌, ◌⊎◌, inl, inr, ℕ, zero, suc, ◌+◌, ◌-◌, ◌<◌, ◌≤◌, List, [], ◌∷◌, length, take, get_or, refl, sym, ◌∙◌, ap, subst, arith, ◌==◌, ◌&&◌, not, Bool, true, false, cond, Option, Some, None, ltb}
 use Rattle.std.specs.Prelude.{find, filter, option_map, is_some, Vec}
-use Rattle.std.specs.Global.{Global}
-use Rattle.std.specs.BTreeMap.{BTreeMap}
 use Rattle.std.specs.Option.{option_to_list}
 use Rattle.std.specs.List.{flat_map, AllByRecursion}
 use Rattle.std.specs.List.Sorted.{IsStableByKey}
@@ -27,9 +25,6 @@ use Rattle.recover.specs.Clashes.{name_cmp}
 use Rattle.recover.specs.Starts.{named_in}
 use Rattle.recover.specs.ByName.{name_of, is_named, is_first, HasNoKey, IsInOrder, IsByName}
 use Rattle.recover.specs.Winning.{winners_of, AreSpelled}
-use Rattle.core_index.specs.declared.types.Standee.{Standee}
-use Rattle.core_index.specs.Records.{standing_with}
-use Rattle.recover.specs.Standing.{HasStandees}
 use Rattle.recover.proofs.ListLaws.{found_in}
 use Rattle.recover.proofs.ClashLaws.{agrees}
 use Rattle.std.proofs.lemmas.List.{length-take-le, get_or-take}
@@ -54,7 +49,7 @@ same_rank v u = elim (ltb v u) as (λ b. ltb v u ≡ b → (not (is_lt (cond b L
 ] refl
 
 -- and neither name
-same_name_rank : (k v j u : ℕ) → (not (is_lt (name_cmp (k, v) (j, u))) && not (is_lt (name_cmp (j, u) (k, v)))) ≡ (j == k && u == v)
+pub same_name_rank : (k v j u : ℕ) → (not (is_lt (name_cmp (k, v) (j, u))) && not (is_lt (name_cmp (j, u) (k, v)))) ≡ (j == k && u == v)
 same_name_rank k v j u = elim (ltb k j) as (λ b. ltb k j ≡ b → (not (is_lt (ordering_then (cond b Less (cond (k == j) Equal Greater)) (nat_cmp v u))) && not (is_lt (name_cmp (j, u) (k, v)))) ≡ (j == k && u == v)) [
   | true ↦ λ e. (let h = ltb-true k j e in rw (ne_eqb j k (λ p. omega (arith, h, p))) refl)
   | false ↦ λ e. elim (k == j) as (λ b. (k == j) ≡ b → (not (is_lt (ordering_then (cond b Equal Greater) (nat_cmp v u))) && not (is_lt (name_cmp (j, u) (k, v)))) ≡ (j == k && u == v)) [
@@ -91,7 +86,7 @@ find_front p (x ∷ xs) = elim (p x) as (λ b. cond b (Some x) (find p xs) ≡ f
   | false ↦ find_front p xs
 ]
 
-in_filter : {X : Type 0} (p : X → Bool) (xs : List X) (x : X) → In x xs → p x ≡ true → In x (filter p xs)
+pub in_filter : {X : Type 0} (p : X → Bool) (xs : List X) (x : X) → In x xs → p x ≡ true → In x (filter p xs)
 in_filter p [] x h is = absurd h
 in_filter p (y ∷ ys) x (inl e) is = rw (sym (ap p e) ∙ is) (inl e)
 in_filter p (y ∷ ys) x (inr h) is = elim (p y) as (λ b. In x (cond b (y ∷ filter p ys) (filter p ys))) [
@@ -99,7 +94,7 @@ in_filter p (y ∷ ys) x (inr h) is = elim (p y) as (λ b. In x (cond b (y ∷ f
   | false ↦ in_filter p ys x h is
 ]
 
-filter_in : {X : Type 0} (p : X → Bool) (xs : List X) (x : X) → In x (filter p xs) → In x xs
+pub filter_in : {X : Type 0} (p : X → Bool) (xs : List X) (x : X) → In x (filter p xs) → In x xs
 filter_in p [] x h = h
 filter_in p (y ∷ ys) x h = elim (p y) as (λ b. In x (cond b (y ∷ filter p ys) (filter p ys)) → In x (y ∷ ys)) [
   | true ↦ kept (filter_in p ys x)
@@ -184,11 +179,11 @@ key_in k es x h key = by_winner (winner_in k es) refl where
   by_winner None none = absurd (winner_some k es x h key none)
   by_winner (Some y) won = winner_key k es y won
 
-all_of : {X : Type 0} (P : X → Type 0) (xs : List X) → ((x : X) → In x xs → P x) → AllByRecursion P xs
+pub all_of : {X : Type 0} (P : X → Type 0) (xs : List X) → ((x : X) → In x xs → P x) → AllByRecursion P xs
 all_of P [] each = tt
 all_of P (x ∷ xs) each = (each x (inl refl), all_of P xs (λ y h. each y (inr h)))
 
-one_of : {X : Type 0} (P : X → Type 0) (xs : List X) (x : X) → AllByRecursion P xs → In x xs → P x
+pub one_of : {X : Type 0} (P : X → Type 0) (xs : List X) (x : X) → AllByRecursion P xs → In x xs → P x
 one_of P [] x all h = absurd h
 one_of P (y ∷ ys) x all (inl e) = subst P (sym e) all.0
 one_of P (y ∷ ys) x all (inr h) = one_of P ys x all.1 h
@@ -235,15 +230,8 @@ module _ (es xs : List PlacedEntry) (is : IsByName es xs) where
   pub spelled_sorted : AreSpelled es → AreSpelled xs
   spelled_sorted all = all_of (λ (x : PlacedEntry). HasSpelling x.entry) xs (λ x h. one_of (λ (x : PlacedEntry). HasSpelling x.entry) es x all (in_first x h))
 
-  -- what stands of the one list stands of the other
-  pub standees_first : (m : BTreeMap ℕ (Vec Standee Global)) → HasStandees m xs → HasStandees m es
-  standees_first m has = record {
-    each = λ k v. has.each k v ∙ ap (option_map (λ (x : PlacedEntry). standing_with v x.core false)) (named_same k v);
-    once = has.once;
-  }
-
 -- a name that isn't above another
-not_above : (k v j u : ℕ) → is_lt (name_cmp (j, u) (k, v)) ≡ false → (k < j) ⊎ ((k ≡ j) × (v ≤ u))
+pub not_above : (k v j u : ℕ) → is_lt (name_cmp (j, u) (k, v)) ≡ false → (k < j) ⊎ ((k ≡ j) × (v ≤ u))
 not_above k v j u e = elim (ltb j k) as (λ b. ltb j k ≡ b → is_lt (ordering_then (cond b Less (cond (j == k) Equal Greater)) (nat_cmp u v)) ≡ false → (k < j) ⊎ ((k ≡ j) × (v ≤ u))) [
   | true ↦ λ t q. absurd (cc q)
   | false ↦ λ t. elim (j == k) as (λ b. (j == k) ≡ b → is_lt (ordering_then (cond b Equal Greater) (nat_cmp u v)) ≡ false → (k < j) ⊎ ((k ≡ j) × (v ≤ u))) [
@@ -287,7 +275,7 @@ find_some p (y ∷ ys) x (inr h) is = elim (p y) as (λ b. is_some (cond b (Some
   | false ↦ find_some p ys x h is
 ]
 
-names_total : IsTotalOrder name_cmp
+pub names_total : IsTotalOrder name_cmp
 names_total = then_total (on_total (λ p. p.0) nat_cmp_total) (on_total (λ p. p.1) nat_cmp_total)
 
 -- each entry from the second on agrees with the one before it

@@ -1,7 +1,7 @@
--- What a scan finds can be spelled.
-use Rattle.std.proofs.Common.{◌≡◌, ℕ, zero, suc, ◌+◌, ◌-◌, ◌%◌, ◌==◌, ◌&&◌, not, List, [], ◌∷◌, ◌++◌, Bool, true, false, cond, refl, sym, ◌∙◌, ap, subst}
+-- What a scan finds.
+use Rattle.std.proofs.Common.{◌≡◌, ℕ, zero, suc, ◌+◌, ◌-◌, ◌%◌, ◌<◌, ◌≤◌, ◌==◌, ◌&&◌, not, List, [], ◌∷◌, length, Bool, true, false, cond, refl, sym, ◌∙◌, ap, subst, arith}
 use Rattle.std.specs.Prelude.{Option, Some, None, Result, Ok, option_map}
-use Rattle.std.specs.List.{AllByRecursion, list_all}
+use Rattle.std.specs.List.{list_all}
 use Rattle.chunk_map.specs.declared.layouts.Geometry.{Geometry}
 use Rattle.chunk_map.specs.declared.heads.Head.{Head}
 use Rattle.chunk_map.specs.declared.heads.Head.TheVariants.{Log}
@@ -14,55 +14,44 @@ use Rattle.recover.specs.Logs.{tail_behind}
 use Rattle.log_entry.specs.declared.entry.Entry.{Entry}
 use Rattle.log_entry.specs.declared.entry.Read.{Read}
 use Rattle.log_entry.specs.declared.entry.Read.TheVariants as reads
-use Rattle.log_entry.specs.Spelling.{HasSpelling}
 use Rattle.log_entry.specs.Reading.{read}
 use Rattle.log_entry.specs.Batches.{Scan, broken, with_entry, scan, scan_of}
-use Rattle.log_entry.proofs.Bytes.{AreWords}
-use Rattle.log_entry.proofs.Exact.{read_exact}
-use Rattle.store_image.specs.declared.types.PlacedEntry.{PlacedEntry}
-use Rattle.store_image.specs.Parts.{placed, payload}
-use Rattle.recover.specs.Winning.{AreSpelled}
+use Rattle.store_image.specs.Parts.{payload}
+use Rattle.recover.specs.FoundEntries.{LieBelow}
 
-abbrev Spelled : Scan → Type 0
-Spelled s = AllByRecursion (λ (x : ℕ × Entry). HasSpelling x.1) s.entries
+-- each entry that a scan finds begins in the words that are left
+abbrev LiesIn : ℕ → Scan → Type 0
+LiesIn n s = LieBelow n s.entries
 
-scan_spelled : (ws : List ℕ) → AreWords ws → (p left : ℕ) (padded : Bool) → Spelled (scan p left padded ws)
-scan_spelled [] words p left padded = tt
-scan_spelled (w ∷ ws) words p (suc left) padded = scan_spelled ws (λ i. words (suc i)) (p + 1) left padded
-scan_spelled (w ∷ ws) words p zero padded = here (scan_spelled ws (λ i. words (suc i)) (p + 1)) where
-  by_read : ((left : ℕ) (padded : Bool) → Spelled (scan (p + 1) left padded ws)) → (r : Read) → read (w ∷ ws) ≡ r → Spelled (elim r as (λ x. Scan) [
+scan_lies : (ws : List ℕ) (p n left : ℕ) (padded : Bool) → p + length ws ≤ n → LiesIn n (scan p left padded ws)
+scan_lies [] p n left padded le = tt
+scan_lies (w ∷ ws) p n (suc left) padded le = scan_lies ws (p + 1) n left padded (omega (arith, le))
+scan_lies (w ∷ ws) p n zero padded le = here (λ left padded. scan_lies ws (p + 1) n left padded (omega (arith, le))) where
+  by_read : ((left : ℕ) (padded : Bool) → LiesIn n (scan (p + 1) left padded ws)) → (r : Read) → LiesIn n (elim r as (λ x. Scan) [
     | reads.Entry e n ↦ with_entry p e (scan (p + 1) (n - 1) false ws)
     | reads.Padding ↦ cond (p % 8 == 0) broken (scan (p + 1) 0 true ws)
     | reads.BadEntry rule ↦ broken
   ])
-  by_read again (reads.Entry e n) is = ((read_exact (w ∷ ws) e n words is).0, again (n - 1) false)
-  by_read again reads.Padding is = elim (p % 8 == 0) as (λ b. Spelled (cond b broken (scan (p + 1) 0 true ws))) [ true ↦ tt | false ↦ again 0 true ]
-  by_read again (reads.BadEntry rule) is = tt
+  by_read again (reads.Entry e m) = (omega (arith, le), again (m - 1) false)
+  by_read again reads.Padding = elim (p % 8 == 0) as (λ b. LiesIn n (cond b broken (scan (p + 1) 0 true ws))) [ true ↦ tt | false ↦ again 0 true ]
+  by_read again (reads.BadEntry rule) = tt
 
-  here : ((left : ℕ) (padded : Bool) → Spelled (scan (p + 1) left padded ws)) → Spelled (scan p zero padded (w ∷ ws))
-  here again = elim (padded && not (p % 8 == 0)) as (λ b. Spelled (cond b (cond (w == 0) (scan (p + 1) 0 true ws) broken) (elim (read (w ∷ ws)) as (λ x. Scan) [
+  here : ((left : ℕ) (padded : Bool) → LiesIn n (scan (p + 1) left padded ws)) → LiesIn n (scan p zero padded (w ∷ ws))
+  here again = elim (padded && not (p % 8 == 0)) as (λ b. LiesIn n (cond b (cond (w == 0) (scan (p + 1) 0 true ws) broken) (elim (read (w ∷ ws)) as (λ x. Scan) [
     | reads.Entry e n ↦ with_entry p e (scan (p + 1) (n - 1) false ws)
     | reads.Padding ↦ cond (p % 8 == 0) broken (scan (p + 1) 0 true ws)
     | reads.BadEntry rule ↦ broken
   ]))) [
-    | true ↦ elim (w == 0) as (λ b. Spelled (cond b (scan (p + 1) 0 true ws) broken)) [ true ↦ again 0 true | false ↦ tt ]
-    | false ↦ by_read again (read (w ∷ ws)) refl
+    | true ↦ elim (w == 0) as (λ b. LiesIn n (cond b (scan (p + 1) 0 true ws) broken)) [ true ↦ again 0 true | false ↦ tt ]
+    | false ↦ by_read again (read (w ∷ ws))
   ]
 
-pub found_spelled : (ws : List ℕ) → AreWords ws → (xs : List (ℕ × Entry)) → xs ≡ (scan_of ws).entries → AllByRecursion (λ (x : ℕ × Entry). HasSpelling x.1) xs
-found_spelled ws words xs is = subst (AllByRecursion (λ (x : ℕ × Entry). HasSpelling x.1)) (sym is) (scan_spelled ws words 0 0 false)
+pub places_lie : (ws : List ℕ) (xs : List (ℕ × Entry)) → xs ≡ (scan_of ws).entries → LieBelow (length ws) xs
+places_lie ws xs is = subst (LieBelow (length ws)) (sym is) (scan_lies ws 0 (length ws) 0 false (omega arith))
 
--- and so it is where it is appended
-placed_spelled : (c j : ℕ) (xs : List (ℕ × Entry)) → AllByRecursion (λ (x : ℕ × Entry). HasSpelling x.1) xs → AreSpelled (placed c j xs)
-placed_spelled c j [] all = tt
-placed_spelled c j (x ∷ xs) all = (all.0, placed_spelled c j xs all.1)
-
-pub more_spelled : (es fs : List PlacedEntry) → AreSpelled es → AreSpelled fs → AreSpelled (es ++ fs)
-more_spelled [] fs a b = b
-more_spelled (e ∷ es) fs a b = (a.0, more_spelled es fs a.1 b)
-
-pub appended_spelled : (c j : ℕ) (old new : List PlacedEntry) (xs : List (ℕ × Entry)) → new ≡ old ++ placed c j xs → AllByRecursion (λ (x : ℕ × Entry). HasSpelling x.1) xs → AreSpelled old → AreSpelled new
-appended_spelled c j old new xs is all before = subst AreSpelled (sym is) (more_spelled old (placed c j xs) before (placed_spelled c j xs all))
+pub lie_lower : (m n : ℕ) (xs : List (ℕ × Entry)) → m ≤ n → LieBelow m xs → LieBelow n xs
+lie_lower m n [] le all = tt
+lie_lower m n (x ∷ xs) le all = (let l = all.0 in omega (arith, l, le), lie_lower m n xs le all.1)
 
 -- a log that keeps rules 6 and 7 was read to its end
 rule_none : (a whole : Bool) → cond {A = Option ℕ} a (cond whole None (Some 6)) (Some 7) ≡ None → whole ≡ true

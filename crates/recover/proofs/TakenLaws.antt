@@ -159,7 +159,7 @@ abbrev pub winners_from : List PlacedEntry → List PlacedEntry
 winners_from [] = []
 winners_from (x ∷ es) = with_winner x (winners_from es)
 
-abbrev KeysRise : List PlacedEntry → Type 0
+abbrev pub KeysRise : List PlacedEntry → Type 0
 KeysRise [] = Unit {0}
 KeysRise (x ∷ es) = ((y : PlacedEntry) → In y es → x.entry.key ≤ y.entry.key) × KeysRise es
 
@@ -172,7 +172,7 @@ rises (x ∷ es) up = (
   rises es (λ i j d le lt. up (suc i) (suc j) d (omega (arith, le)) (omega (arith, lt))),
 )
 
-from_risen : (es : List PlacedEntry) → KeysRise es → winners_from es ≡ winners_of es
+pub from_risen : (es : List PlacedEntry) → KeysRise es → winners_from es ≡ winners_of es
 from_risen [] rise = refl
 from_risen (x ∷ es) rise = ap (with_winner x) (from_risen es rise.1) ∙ sym (one_more_wins x es rise.0)
 

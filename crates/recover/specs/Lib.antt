@@ -2,6 +2,8 @@ pub mod Regions
 pub mod Winning
 pub mod Clashes
 pub mod ByName
+pub mod FoundEntries
+pub mod KeyRuns
 pub mod Judging
 pub mod Gathering
 pub mod Starts

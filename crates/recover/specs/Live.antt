@@ -14,12 +14,18 @@ use Rattle.store_image.specs.Facts.{IsStore}
 use Rattle.recover.specs.declared.types.RecoverError.{RecoverError}
 use Rattle.recover.specs.declared.types.RecoverError.TheVariants as errors
 use Rattle.recover.specs.Recovering.{cells_found}
+use Rattle.recover.specs.Winning.{winners_of}
 
 -- the pairs of the winners that leave a value
 abbrev pub pairs_by : Geometry → (ℕ → ℕ) → List PlacedEntry → List Pair
 pairs_by l image [] = []
 pairs_by l image (x ∷ xs) = with_pair x.entry.key (cell_by
     (held l image (owner l x.entry.key)) x.entry.body) (pairs_by l image xs)
+
+-- those of the winners of some entries
+abbrev pub HasLeft : Geometry → (ℕ → ℕ) → List PlacedEntry → Result (Vec Pair Global) Fault → Type 0
+HasLeft l image es (Ok pairs) = pairs.items ≡ pairs_by l image (winners_of es)
+HasLeft l image es (Err fault) = ⊥
 
 -- the pairs of an image that keeps rules 4 to 11, or the first that it breaks
 abbrev pub Lists : Geometry → (ℕ → ℕ) → Result (Vec Pair Global) Fault → Type 0

@@ -7,6 +7,7 @@ ghost use Rattle.recover.specs.Regions.{Covers};
 ghost use Rattle.recover.specs.Logged.{Logs, ListsLogs};
 
 use crate::gather_region::gather;
+use crate::reading::read_entries;
 use crate::recover_region::damage;
 use crate::types::RecoverError;
 use chunk_map::{Layout, read_superblock};
@@ -28,8 +29,13 @@ fn logged<R: Region>(
     if let Some(fault) = damage(alloc, region, layout)? {
         return Ok(Err(fault));
     }
-    let entries = gather(alloc, region, layout)?;
-    Ok(entries)
+    match gather(alloc, region, layout)? {
+        Err(fault) => Ok(Err(fault)),
+        Ok(found) => {
+            let entries = read_entries(alloc, region, layout, &found)?;
+            Ok(entries)
+        }
+    }
 }
 
 /// All entries that stand in the logs of a region of so many bytes, by core, chunk and place, superseded ones and copies

@@ -1,35 +1,33 @@
-// The entries of a region, chunk by chunk.
-ghost use Rattle.std.specs.Prelude.{◌≡◌, ℕ, ◌+◌, ◌/◌, ◌<◌, ◌≤◌, ◌%◌, ◌++◌, length, true, None, option_map, IfOk};
-ghost use Rattle.std.specs.List.{AllByRecursion};
+// The entries of a region, chunk by chunk, by their names alone.
+ghost use Rattle.std.specs.Prelude.{◌≡◌, ℕ, ◌+◌, ◌-◌, ◌/◌, ◌<◌, ◌≤◌, ◌%◌, ◌^◌, ◌++◌, length, map, true, None, option_map, IfOk};
 ghost use Rattle.pm_region.specs.State.{IsTelling};
 ghost use Rattle.pm_region.specs.Words.{lasts};
-ghost use Rattle.log_entry.specs.Spelling.{HasSpelling};
 ghost use Rattle.log_entry.specs.Batches.{scan_of};
-ghost use Rattle.chunk_map.specs.Layouts.{chunk_first};
+ghost use Rattle.chunk_map.specs.Layouts.{chunk_first, payload_words};
 ghost use Rattle.store_image.specs.Parts.{scan_at, chunk_entries};
 ghost use Rattle.store_image.specs.Scanned.{IsScan, shown};
 ghost use Rattle.store_image.specs.Soundness.{damaged, chunk_rule};
 ghost use Rattle.core_log.specs.Log.{Spelled};
 ghost use Rattle.recover.specs.Regions.{Covers};
 ghost use Rattle.recover.specs.Logs.{SpellsLog};
-ghost use Rattle.recover.specs.Winning.{AreSpelled};
+ghost use Rattle.recover.specs.FoundEntries.{found_in, found_of, LieBelow};
 ghost use Rattle.recover.specs.Gathering.{GathersPart, Gathers};
 
+use crate::found_entries::Found;
+use chunk_map::layout_sizes::HEAD_WORDS;
 use chunk_map::words::load_words;
 use chunk_map::{Head, Layout, read_head};
 use fs_errors::Memory;
 use pm_region::Region;
 use std::alloc::Global;
 use store_image::log_rules::log_rule;
-use store_image::placing::place_entries;
-use store_image::scanning::{Scanned, scan};
-use store_image::{Fault, PlacedEntry};
+use store_image::Fault;
+use store_image::scanning::{AtPlace, Scanned, scan};
 
-/// What stands in the words of a log. Each entry is one that words can spell.
+/// What stands in the words of a log.
 fn scan_log(alloc: Global, words: &[u64]) -> Result<Scanned, Memory>
     ensures scan { IfOk result (λ s. IsScan s (scan_of words.now)) }
-    ensures spelled { IfOk result (λ s. AllByRecursion (λ x. HasSpelling x.1)
-        (shown s.entries.items)) }
+    ensures places { IfOk result (λ s. LieBelow (length words.now) (shown s.entries.items)) }
     ensures batches { IfOk result (λ s. s.whole ≡ true → length words.now % 8 ≡ 0
         → Spelled words.now) }
 {
@@ -53,7 +51,7 @@ fn read_chunk<R: Region>(
         → (r.0 ≡ chunk_rule layout.now (lasts (R.state region.now)) part chunk)
         × IsScan r.1 (scan_at layout.now (lasts (R.state region.now))
         (chunk_first layout.now part chunk))) }
-    ensures spelled { IfOk result (λ r. AllByRecursion (λ x. HasSpelling x.1)
+    ensures places { IfOk result (λ r. LieBelow (payload_words layout.now)
         (shown r.1.entries.items)) }
     ensures batches { IfOk result (λ r. IsTelling (R.state region.now) → r.0 ≡ None
         → SpellsLog layout.now (lasts (R.state region.now)) part chunk) }
@@ -71,14 +69,30 @@ fn read_chunk<R: Region>(
     }
 }
 
-/// Appends a chunk's entries, and says what it breaks of rules 4 to 7.
+/// Appends the names of a payload's entries with their first words. The payload begins at word `first`.
+fn note_entries(first: u64, entries: &[AtPlace], found: &mut Vec<Found>) -> Result<(), Memory>
+    requires { LieBelow (2 ^ 32 - first) (shown entries.now) }
+    ensures { IfOk result (λ _. found.new.items ≡ found.old.items ++ map (found_in first)
+        (shown entries.now)) }
+{
+    for x in entries {
+        found.push(Found {
+            key: x.entry.key,
+            version: x.entry.version,
+            at: (first + x.place) as u32,
+        })?;
+    }
+    Ok(())
+}
+
+/// Appends what is found of a chunk's entries, and says what it breaks of rules 4 to 7.
 fn gather_chunk<R: Region>(
     alloc: Global,
     region: &R,
     layout: &Layout,
     part: u32,
     chunk: u32,
-    entries: &mut Vec<PlacedEntry>,
+    found: &mut Vec<Found>,
 ) -> Result<Option<Fault>, Memory>
     requires covers { Covers (R.state region.now).frame layout.now }
     requires part { part < layout.now.cores }
@@ -87,39 +101,35 @@ fn gather_chunk<R: Region>(
         → f ≡ option_map (damaged part chunk) (chunk_rule layout.now
         (lasts (R.state region.now)) part chunk)) }
     ensures entries { IfOk result (λ _. IsTelling (R.state region.now)
-        → entries.new.items ≡ entries.old.items ++ chunk_entries layout.now
-        (lasts (R.state region.now)) part chunk) }
-    ensures spelled { IfOk result (λ _. AreSpelled entries.old.items
-        → AreSpelled entries.new.items) }
+        → found.new.items ≡ found.old.items ++ map (found_of layout.now) (chunk_entries layout.now
+        (lasts (R.state region.now)) part chunk)) }
     ensures batches { IfOk result (λ f. IsTelling (R.state region.now) → f ≡ None
         → SpellsLog layout.now (lasts (R.state region.now)) part chunk) }
 {
     let (rule, scanned) = read_chunk(alloc, region, layout, part, chunk)?;
-    place_entries(part, chunk, scanned.entries, entries)?;
+    note_entries(layout.chunk_first(part, chunk) + HEAD_WORDS, &scanned.entries, found)?;
     match rule {
         Some(rule) => Ok(Some(Fault::Damaged { part, chunk, rule })),
         None => Ok(None),
     }
 }
 
-/// Appends a part's entries, up to the first chunk that breaks one of rules 4 to 7.
+/// Appends what is found of a part's entries, up to the first chunk that breaks one of rules 4 to 7.
 fn gather_part<R: Region>(
     alloc: Global,
     region: &R,
     layout: &Layout,
     part: u32,
-    entries: &mut Vec<PlacedEntry>,
+    found: &mut Vec<Found>,
 ) -> Result<Option<Fault>, Memory>
     requires covers { Covers (R.state region.now).frame layout.now }
     requires part { part < layout.now.cores }
-    ensures told { IfOk result (λ f. IsTelling (R.state region.now)
-        → GathersPart layout.now (lasts (R.state region.now)) part entries.old.items
-        entries.new.items f) }
-    ensures spelled { IfOk result (λ _. AreSpelled entries.old.items
-        → AreSpelled entries.new.items) }
+    ensures { IfOk result (λ f. IsTelling (R.state region.now)
+        → GathersPart layout.now (lasts (R.state region.now)) part found.old.items
+        found.new.items f) }
 {
     for chunk in 0..layout.chunks() {
-        let fault = gather_chunk(alloc, region, layout, part, chunk, entries)?;
+        let fault = gather_chunk(alloc, region, layout, part, chunk, found)?;
         if fault.is_some() {
             return Ok(fault);
         }
@@ -127,23 +137,22 @@ fn gather_part<R: Region>(
     Ok(None)
 }
 
-/// All entries of a region by part, chunk and place, or the fault of its first chunk that breaks one of rules
-/// 4 to 7.
+/// All entries of a region by part, chunk and place, as they are found, or the fault of its first chunk that breaks
+/// one of rules 4 to 7.
 pub fn gather<R: Region>(
     alloc: Global,
     region: &R,
     layout: &Layout,
-) -> Result<Result<Vec<PlacedEntry>, Fault>, Memory>
+) -> Result<Result<Vec<Found>, Fault>, Memory>
     requires covers { Covers (R.state region.now).frame layout.now }
-    ensures told { IfOk result (λ r. IsTelling (R.state region.now)
+    ensures { IfOk result (λ r. IsTelling (R.state region.now)
         → Gathers layout.now (lasts (R.state region.now)) r) }
-    ensures spelled { IfOk result (λ r. IfOk r (λ entries. AreSpelled entries.items)) }
 {
-    let mut entries = Vec::new(alloc);
+    let mut found = Vec::new(alloc);
     for part in 0..layout.cores() {
-        if let Some(fault) = gather_part(alloc, region, layout, part, &mut entries)? {
+        if let Some(fault) = gather_part(alloc, region, layout, part, &mut found)? {
             return Ok(Err(fault));
         }
     }
-    Ok(Ok(entries))
+    Ok(Ok(found))
 }

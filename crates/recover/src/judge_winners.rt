@@ -7,26 +7,28 @@ ghost use Rattle.pm_region.specs.Words.{lasts};
 ghost use Rattle.chunk_map.specs.Layouts.{owner};
 ghost use Rattle.store_image.specs.declared.types.PlacedEntry.{PlacedEntry};
 ghost use Rattle.store_image.specs.Parts.{all_entries, block_class};
-ghost use Rattle.store_image.specs.Soundness.{block_fault};
+ghost use Rattle.store_image.specs.Soundness.{damage};
 ghost use Rattle.recover.specs.Regions.{Covers};
-ghost use Rattle.recover.specs.Winning.{winners_of, AreSpelled};
-ghost use Rattle.recover.specs.ByName.{IsInOrder};
-ghost use Rattle.recover.specs.Gathering.{AreAgreed, Agrees, Judges};
+ghost use Rattle.recover.specs.Winning.{winners_of};
+ghost use Rattle.recover.specs.FoundEntries.{placed_at, entries_at, Stands, AreFound, AreInOrder};
+ghost use Rattle.recover.specs.Gathering.{AreAgreed, Agrees};
 ghost use Rattle.recover.specs.Judging.{rule_beside, fault_beside, winners_fault, HasPointers};
 
 use crate::clashes::clash_fault;
+use crate::found_entries::{Found, chunk_of, core_of};
 use crate::gather_region::gather;
+use crate::key_runs::key_run;
+use crate::reading::{gone_fault, read_at, read_entries};
 use crate::region_blocks::block_class;
 use crate::sorting::{agree, by_name};
-use crate::winning::winners;
 use chunk_map::Layout;
 use fs_errors::Memory;
 use log_entry::Body;
 use pm_region::Region;
 use std::alloc::Global;
 use std::collections::BTreeSet;
+use store_image::Fault;
 use store_image::geometry::{has_class, owner};
-use store_image::{Fault, PlacedEntry};
 
 /// The first rule of 9 to 11 that a key's winner breaks by its pointer. The set has the pointers of the
 /// winners of smaller keys.
@@ -61,25 +63,29 @@ fn pointer_rule<R: Region>(
     }
 }
 
-/// What a winner breaks of rules 9 to 11, at its place. A winner that breaks none leaves its pointer in the set.
-fn winner_fault<R: Region>(
+/// What a winner's body breaks of rules 9 to 11, at its place. One that breaks none leaves its pointer in the set.
+fn body_fault<R: Region>(
     region: &R,
     layout: &Layout,
     taken: &mut BTreeSet<u64>,
-    winner: &PlacedEntry,
+    winner: &Found,
+    body: &Body,
 ) -> Result<Option<Fault>, Memory>
     requires covers { Covers (R.state region.now).frame layout.now }
     ensures fault { IfOk result (λ f. (before : List PlacedEntry) → HasPointers taken.old before
         → IsTelling (R.state region.now)
-        → f ≡ fault_beside layout.now (lasts (R.state region.now)) before winner.now) }
-    ensures taken { IfOk result (λ f. (before : List PlacedEntry) → HasPointers taken.old before
-        → f ≡ None → HasPointers taken.new (before ++ winner.now ∷ [])) }
+        → body.now ≡ (placed_at layout.now (lasts (R.state region.now)) winner.now).entry.body
+        → f ≡ fault_beside layout.now (lasts (R.state region.now)) before
+        (placed_at layout.now (lasts (R.state region.now)) winner.now)) }
+    ensures taken { IfOk result (λ f. (before : List PlacedEntry) (x : PlacedEntry)
+        → HasPointers taken.old before → body.now ≡ x.entry.body
+        → f ≡ None → HasPointers taken.new (before ++ x ∷ [])) }
 {
-    if let Body::Pointer(pointer) = &winner.entry.body {
-        if let Some(rule) = pointer_rule(region, layout, taken, winner.entry.key, *pointer) {
+    if let Body::Pointer(pointer) = body {
+        if let Some(rule) = pointer_rule(region, layout, taken, winner.key, *pointer) {
             return Ok(Some(Fault::Damaged {
-                part: winner.core,
-                chunk: winner.chunk,
+                part: core_of(layout, winner.at),
+                chunk: chunk_of(layout, winner.at),
                 rule,
             }));
         }
@@ -88,94 +94,128 @@ fn winner_fault<R: Region>(
     Ok(None)
 }
 
+/// What a winner breaks of rules 9 to 11. One that stands there no more is answered as damage.
+fn winner_fault<R: Region>(
+    alloc: Global,
+    region: &R,
+    layout: &Layout,
+    taken: &mut BTreeSet<u64>,
+    winner: &Found,
+) -> Result<Option<Fault>, Memory>
+    requires covers { Covers (R.state region.now).frame layout.now }
+    ensures fault { IfOk result (λ f. (before : List PlacedEntry) → HasPointers taken.old before
+        → IsTelling (R.state region.now)
+        → Stands layout.now (lasts (R.state region.now)) winner.now
+        → f ≡ fault_beside layout.now (lasts (R.state region.now)) before
+        (placed_at layout.now (lasts (R.state region.now)) winner.now)) }
+    ensures taken { IfOk result (λ f. (before : List PlacedEntry) → HasPointers taken.old before
+        → IsTelling (R.state region.now)
+        → Stands layout.now (lasts (R.state region.now)) winner.now
+        → f ≡ None → HasPointers taken.new (before
+        ++ placed_at layout.now (lasts (R.state region.now)) winner.now ∷ [])) }
+{
+    match read_at(alloc, region, layout, winner)? {
+        None => Ok(Some(gone_fault(layout, winner))),
+        Some(body) => {
+            let fault = body_fault(region, layout, taken, winner, &body)?;
+            Ok(fault)
+        }
+    }
+}
+
 /// What the first winner that breaks one of rules 9 to 11 breaks, of the winners by rising key.
 fn block_fault<R: Region>(
     alloc: Global,
     region: &R,
     layout: &Layout,
-    winners: &[PlacedEntry],
+    sorted: &[Found],
 ) -> Result<Option<Fault>, Memory>
     requires covers { Covers (R.state region.now).frame layout.now }
+    requires order { AreInOrder sorted.now }
     ensures { IfOk result (λ f. IsTelling (R.state region.now)
-        → f ≡ winners_fault layout.now (lasts (R.state region.now)) [] winners.now) }
+        → AreFound layout.now (lasts (R.state region.now)) sorted.now
+        → f ≡ winners_fault layout.now (lasts (R.state region.now)) []
+        (winners_of (entries_at layout.now (lasts (R.state region.now)) sorted.now))) }
 {
     let mut taken = BTreeSet::new(alloc);
-    for winner in winners {
-        let fault = winner_fault(region, layout, &mut taken, winner)?;
+    let mut at = 0;
+    while at < sorted.len() {
+        let run = key_run(sorted, at);
+        let fault = winner_fault(alloc, region, layout, &mut taken, &sorted[run.winner])?;
         if fault.is_some() {
             return Ok(fault);
         }
+        at = run.end;
     }
     Ok(None)
 }
 
-/// The same, where some entries contradict others: they are read again, and compared in the order of their places.
+/// All entries of a region in the order of their names, where some contradict others: they are read and compared in
+/// the order of their places.
 fn compared_entries<R: Region>(
     alloc: Global,
     region: &R,
     layout: &Layout,
-) -> Result<Result<Vec<PlacedEntry>, Fault>, Memory>
+) -> Result<Result<Vec<Found>, Fault>, Memory>
     requires covers { Covers (R.state region.now).frame layout.now }
     ensures told { IfOk result (λ r. IsTelling (R.state region.now)
         → Agrees layout.now (lasts (R.state region.now)) r) }
-    ensures order { IfOk result (λ r. IfOk r (λ entries. IsInOrder entries.items)) }
-    ensures spelled { IfOk result (λ r. IfOk r (λ entries. AreSpelled entries.items)) }
+    ensures order { IfOk result (λ r. IfOk r (λ found. AreInOrder found.items)) }
 {
-    let entries = match gather(alloc, region, layout)? {
+    let found = match gather(alloc, region, layout)? {
+        Ok(found) => found,
+        Err(fault) => return Ok(Err(fault)),
+    };
+    let entries = match read_entries(alloc, region, layout, &found)? {
         Ok(entries) => entries,
         Err(fault) => return Ok(Err(fault)),
     };
     match clash_fault(alloc, &entries)? {
         Some(fault) => Ok(Err(fault)),
         None => {
-            let sorted = by_name(entries)?;
+            let sorted = by_name(found)?;
             Ok(Ok(sorted))
         }
     }
 }
 
-/// All entries of a region in the order of their names, or the first broken one of rules 4 to 8.
+/// All entries of a region in the order of their names, as they are found, or the first broken one of rules 4 to 8.
 pub fn agreed_entries<R: Region>(
     alloc: Global,
     region: &R,
     layout: &Layout,
-) -> Result<Result<Vec<PlacedEntry>, Fault>, Memory>
+) -> Result<Result<Vec<Found>, Fault>, Memory>
     requires covers { Covers (R.state region.now).frame layout.now }
     ensures told { IfOk result (λ r. IsTelling (R.state region.now)
         → Agrees layout.now (lasts (R.state region.now)) r) }
-    ensures order { IfOk result (λ r. IfOk r (λ entries. IsInOrder entries.items)) }
-    ensures spelled { IfOk result (λ r. IfOk r (λ entries. AreSpelled entries.items)) }
+    ensures order { IfOk result (λ r. IfOk r (λ found. AreInOrder found.items)) }
 {
-    let entries = match gather(alloc, region, layout)? {
-        Ok(entries) => entries,
+    let found = match gather(alloc, region, layout)? {
+        Ok(found) => found,
         Err(fault) => return Ok(Err(fault)),
     };
-    let sorted = by_name(entries)?;
-    if agree(&sorted) {
+    let sorted = by_name(found)?;
+    if agree(alloc, region, layout, &sorted)? {
         return Ok(Ok(sorted));
     }
     compared_entries(alloc, region, layout)
 }
 
-/// The winners of entries that break none of rules 4 to 8, by rising key, or the first broken one of rules 9
-/// to 11.
+/// The first one of rules 4 to 11 that a region breaks whose entries break none of rules 4 to 8.
 pub fn judge<R: Region>(
     alloc: Global,
     region: &R,
     layout: &Layout,
-    entries: Vec<PlacedEntry>,
-) -> Result<Result<Vec<PlacedEntry>, Fault>, Memory>
+    sorted: &[Found],
+) -> Result<Option<Fault>, Memory>
     requires covers { Covers (R.state region.now).frame layout.now }
-    requires order { IsInOrder entries.items }
-    ensures told { IfOk result (λ r. IsTelling (R.state region.now)
-        → AreAgreed layout.now (lasts (R.state region.now)) entries.items
-        → Judges layout.now (lasts (R.state region.now)) r) }
-    ensures winners { IfOk result (λ r. IfOk r (λ winners. winners.items
-        ≡ winners_of entries.items)) }
+    requires order { AreInOrder sorted.now }
+    ensures { IfOk result (λ f. IsTelling (R.state region.now)
+        → AreAgreed layout.now (lasts (R.state region.now))
+        (entries_at layout.now (lasts (R.state region.now)) sorted.now)
+        → AreFound layout.now (lasts (R.state region.now)) sorted.now
+        → f ≡ damage layout.now (lasts (R.state region.now))) }
 {
-    let winners = winners(alloc, entries)?;
-    match block_fault(alloc, region, layout, &winners)? {
-        Some(fault) => Ok(Err(fault)),
-        None => Ok(Ok(winners)),
-    }
+    let fault = block_fault(alloc, region, layout, sorted)?;
+    Ok(fault)
 }

@@ -11,13 +11,15 @@
 
 mod clashes;
 mod entry_list;
+mod found_entries;
 mod gather_region;
 mod judge_winners;
+mod key_runs;
 mod key_standees;
 mod live;
 mod logs;
-mod own_deaths;
 mod pair_list;
+mod reading;
 mod recover_region;
 mod recover_snapshot;
 mod region_blocks;

@@ -1,14 +1,18 @@
 // The live pairs of a region, without what its cores begin with.
-ghost use Rattle.std.specs.Prelude.{◌≡◌, ◌/◌, ◌<◌, IfOk};
+ghost use Rattle.std.specs.Prelude.{◌≡◌, ◌/◌, ◌<◌, ◌++◌, ◌∷◌, [], true, IfOk};
 ghost use Rattle.pm_region.specs.State.{IsTelling};
 ghost use Rattle.pm_region.specs.Words.{lasts};
 ghost use Rattle.chunk_map.specs.Checked.{IsLength};
 ghost use Rattle.store_image.specs.Parts.{held};
 ghost use Rattle.store_image.specs.Winners.{cell_by};
 ghost use Rattle.recover.specs.Regions.{Covers};
-ghost use Rattle.recover.specs.Live.{pairs_by, Lists, ListsLive};
+ghost use Rattle.recover.specs.FoundEntries.{placed_at, entries_at, Stands, AreFound, AreInOrder};
+ghost use Rattle.recover.specs.Live.{pairs_by, HasLeft, Lists, ListsLive};
 
+use crate::found_entries::Found;
 use crate::judge_winners::{agreed_entries, judge};
+use crate::key_runs::key_run;
+use crate::reading::{gone_fault, read_at};
 use crate::region_blocks::held;
 use crate::types::RecoverError;
 use chunk_map::{Layout, read_superblock};
@@ -17,9 +21,9 @@ use fs_model::{Pair, Value};
 use log_entry::Body;
 use pm_region::Region;
 use std::alloc::Global;
+use store_image::Fault;
 use store_image::geometry::owner;
 use store_image::live_pair::push_pair;
-use store_image::{Fault, PlacedEntry};
 
 /// The value that an entry leaves, where it leaves one. A value in a block of the part is read from the region.
 fn value_left<R: Region>(
@@ -44,25 +48,54 @@ fn value_left<R: Region>(
     }
 }
 
-/// The pairs of the winners that leave a value, in their order.
+/// Appends the pair of a winner, where it leaves a value. Whether the winner stands there still.
+fn push_left<R: Region>(
+    alloc: Global,
+    region: &R,
+    layout: &Layout,
+    pairs: &mut Vec<Pair>,
+    winner: &Found,
+) -> Result<bool, Memory>
+    requires covers { Covers (R.state region.now).frame layout.now }
+    ensures { IfOk result (λ b. IsTelling (R.state region.now)
+        → Stands layout.now (lasts (R.state region.now)) winner.now
+        → (b ≡ true) × (pairs.new.items ≡ pairs.old.items
+        ++ pairs_by layout.now (lasts (R.state region.now))
+        (placed_at layout.now (lasts (R.state region.now)) winner.now ∷ []))) }
+{
+    let Some(body) = read_at(alloc, region, layout, winner)? else {
+        return Ok(false);
+    };
+    let part = owner(&layout.geometry(), winner.key);
+    let value = value_left(alloc, region, layout, part, body)?;
+    push_pair(pairs, winner.key, value)?;
+    Ok(true)
+}
+
+/// The pairs of the winners that leave a value, by rising key. A winner that stands there no more is answered as damage.
 fn pairs_left<R: Region>(
     alloc: Global,
     region: &R,
     layout: &Layout,
-    winners: Vec<PlacedEntry>,
-) -> Result<Vec<Pair>, Memory>
+    sorted: &[Found],
+) -> Result<Result<Vec<Pair>, Fault>, Memory>
     requires covers { Covers (R.state region.now).frame layout.now }
-    ensures { IfOk result (λ pairs. IsTelling (R.state region.now)
-        → pairs.items ≡ pairs_by layout.now (lasts (R.state region.now)) winners.items) }
+    requires order { AreInOrder sorted.now }
+    ensures { IfOk result (λ r. IsTelling (R.state region.now)
+        → AreFound layout.now (lasts (R.state region.now)) sorted.now
+        → HasLeft layout.now (lasts (R.state region.now))
+        (entries_at layout.now (lasts (R.state region.now)) sorted.now) r) }
 {
     let mut pairs = Vec::new(alloc);
-    for x in winners {
-        let key = x.entry.key;
-        let part = owner(&layout.geometry(), key);
-        let value = value_left(alloc, region, layout, part, x.entry.body)?;
-        push_pair(&mut pairs, key, value)?;
+    let mut at = 0;
+    while at < sorted.len() {
+        let run = key_run(sorted, at);
+        if !push_left(alloc, region, layout, &mut pairs, &sorted[run.winner])? {
+            return Ok(Err(gone_fault(layout, &sorted[run.winner])));
+        }
+        at = run.end;
     }
-    Ok(pairs)
+    Ok(Ok(pairs))
 }
 
 /// The live pairs of a region of this layout, or the first broken one of rules 4 to 11.
@@ -75,16 +108,16 @@ fn judged_pairs<R: Region>(
     ensures { IfOk result (λ r. IsTelling (R.state region.now)
         → Lists layout.now (lasts (R.state region.now)) r) }
 {
-    let entries = match agreed_entries(alloc, region, layout)? {
-        Ok(entries) => entries,
+    let found = match agreed_entries(alloc, region, layout)? {
+        Ok(found) => found,
         Err(fault) => return Ok(Err(fault)),
     };
-    match judge(alloc, region, layout, entries)? {
-        Ok(winners) => {
-            let pairs = pairs_left(alloc, region, layout, winners)?;
-            Ok(Ok(pairs))
+    match judge(alloc, region, layout, &found)? {
+        Some(fault) => Ok(Err(fault)),
+        None => {
+            let pairs = pairs_left(alloc, region, layout, &found)?;
+            Ok(pairs)
         }
-        Err(fault) => Ok(Err(fault)),
     }
 }
 

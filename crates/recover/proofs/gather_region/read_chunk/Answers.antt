@@ -1,6 +1,7 @@
 use Rattle.std.proofs.Common.{◌+◌, ◌%◌, length, sym, ◌∙◌, ap, subst, arith, Ok}
 use Rattle.pm_region.specs.Words.{lasts}
-use Rattle.chunk_map.specs.Layouts.{head_at}
+use Rattle.chunk_map.specs.Layouts.{head_at, payload_words}
+use Rattle.store_image.specs.Scanned.{shown}
 use Rattle.chunk_map.specs.Setting.{HeadLies}
 use Rattle.chunk_map.specs.declared.layouts.Geometry.{Geometry}
 use Rattle.chunk_map.specs.declared.heads.Head.TheVariants.{Log}
@@ -9,7 +10,7 @@ use Rattle.store_image.specs.Soundness.{rule_of}
 use Rattle.store_image.proofs.ReadLaws.{log_read}
 use Rattle.log_entry.proofs.Images.{words_loaded}
 use Rattle.recover.proofs.RegionLaws.{chunk_lies, payload_lies, head_read}
-use Rattle.recover.proofs.SpellLaws.{log_spelled, whole_of}
+use Rattle.recover.proofs.SpellLaws.{log_spelled, whole_of, lie_lower}
 use Rattle.recover.proofs.gather_region.read_chunk.Goals as goal
 
 pub read_head-requires : goal.read_head-requires
@@ -47,7 +48,10 @@ returns-in_ok-scanned-in-Ok-Log g c = record {
       log_read l (lasts s) c.args.part c.args.chunk c.chunk_first-at.result c.in-Ok-Log.tail c.in_ok-scanned-in-Ok-Log.scanned c.log_rule-rule.result c.deref.result.now
       c.chunk_first-at.ensures head (c.deref.ensures.value ∙ words_loaded (lasts s) (c.chunk_first-at.result + 32) c.in-Ok-Log.tail c.in_ok-words-in-Ok-Log.words.items c.in_ok-words-in-Ok-Log.ensures.long (c.in_ok-words-in-Ok-Log.ensures.words telling)) c.in_ok-scanned-in-Ok-Log.ensures.scan
       (λ found is. c.log_rule-rule.ensures found is ∙ ap (λ (l : Geometry). rule_of l c.args.part found) c.geometry.ensures.value);
-  spelled = c.in_ok-scanned-in-Ok-Log.ensures.spelled;
+  places =
+      let tail = (subst (FitsHead c.args.layout.now) c.in-Ok-Log.field-0-is c.in-Ok-Log.ensures.fits).1 in
+      let long = ap length c.deref.ensures.value ∙ c.in_ok-words-in-Ok-Log.ensures.long in
+      lie_lower (length c.deref.result.now) (payload_words c.args.layout.now) (shown c.in_ok-scanned-in-Ok-Log.scanned.entries.items) (omega (arith, tail, long)) c.in_ok-scanned-in-Ok-Log.ensures.places;
   batches = λ telling none tail head.
       let s = g.R.Region.state c.args.region.now in
       let l = c.args.layout.now in

@@ -1,11 +1,11 @@
 use Rattle.std.proofs.Common.{sym, ◌∙◌, arith}
 use Rattle.log_entry.proofs.Whole.{whole_spelled}
 use Rattle.store_image.specs.Scanned.{shown}
-use Rattle.recover.proofs.SpellLaws.{found_spelled}
+use Rattle.recover.proofs.SpellLaws.{places_lie}
 use Rattle.recover.proofs.gather_region.scan_log.Goals as goal
 
-pub returns-clause-spelled : goal.returns-clause-spelled
-returns-clause-spelled c = found_spelled c.args.words.now (λ i. (let small = c.type_inv.words i in omega (arith, small))) (shown c.in_ok-scanned.scanned.entries.items) c.in_ok-scanned.ensures.0
+pub returns-clause-places : goal.returns-clause-places
+returns-clause-places c = places_lie c.args.words.now (shown c.in_ok-scanned.scanned.entries.items) c.in_ok-scanned.ensures.0
 
 pub returns-clause-batches : goal.returns-clause-batches
 returns-clause-batches c = λ whole lines.

@@ -1,22 +1,26 @@
-use Rattle.std.proofs.Common.{subst}
+use Rattle.std.proofs.Common.{sym, subst}
 use Rattle.pm_region.specs.Words.{lasts}
 use Rattle.store_image.specs.Facts.{Agree}
-use Rattle.recover.proofs.JudgeLaws.{by_chunks, gathered, agreed, spelled_of}
-use Rattle.recover.proofs.NameLaws.{no_clash, spelled_sorted}
+use Rattle.recover.specs.FoundEntries.{AreFound, AreInOrder, entries_at}
+use Rattle.recover.proofs.JudgeLaws.{by_chunks, gathered, sorted_agree, stand_sorted}
 use Rattle.recover.proofs.judge_winners.agreed_entries.Goals as goal
+
+pub agree-requires-clause-order : goal.agree-requires-clause-order
+agree-requires-clause-order g c = subst AreInOrder (sym c.deref.ensures.value) c.in_ok-sorted.ensures.rising
 
 pub returns-in-Err-clause-told : goal.returns-in-Err-clause-told
 returns-in-Err-clause-told g c = λ telling.
     let image = lasts (g.R.Region.state c.args.region.now) in
-    by_chunks c.args.layout.now image c.in_ok-entries.field-0 c.in-Err.fault (c.in_ok-entries.ensures.told telling) c.in-Err.is
+    by_chunks c.args.layout.now image c.in_ok-found.field-0 c.in-Err.fault (c.in_ok-found.ensures telling) c.in-Err.is
 
-pub returns-then-agree-clause-told : goal.returns-then-agree-clause-told
-returns-then-agree-clause-told g c = λ telling.
-    let image = lasts (g.R.Region.state c.args.region.now) in
+pub returns-then-branch-clause-told : goal.returns-then-branch-clause-told
+returns-then-branch-clause-told g c = λ telling.
+    let s = g.R.Region.state c.args.region.now in
+    let image = lasts s in
     let l = c.args.layout.now in
-    let all = gathered l image c.in_ok-entries.field-0 c.in-Ok.entries (c.in_ok-entries.ensures.told telling) c.in-Ok.is in
-    let both = subst Agree c.deref.ensures.value (c.agree.ensures c.if-agree.true) in
-    agreed l image c.in-Ok.entries.items all.1 all.0 all.2 c.in_ok-sorted.sorted.items c.in_ok-sorted.ensures (no_clash c.in-Ok.entries.items c.in_ok-sorted.sorted.items c.in_ok-sorted.ensures both)
-
-pub returns-then-agree-clause-spelled : goal.returns-then-agree-clause-spelled
-returns-then-agree-clause-spelled g c = spelled_sorted c.in-Ok.entries.items c.in_ok-sorted.sorted.items c.in_ok-sorted.ensures (spelled_of c.in_ok-entries.field-0 c.in-Ok.entries c.in_ok-entries.ensures.spelled c.in-Ok.is)
+    let all = gathered l image c.in_ok-found.field-0 c.in-Ok.found (c.in_ok-found.ensures telling) c.in-Ok.is in
+    let fs = c.in-Ok.found.items in
+    let xs = c.in_ok-sorted.sorted.items in
+    let stand = subst (AreFound l image) (sym c.deref.ensures.value) (stand_sorted s.frame l c.requires.covers image fs xs all.1 all.0 all.2 c.in_ok-sorted.ensures) in
+    let both = subst (λ ys. Agree (entries_at l image ys)) c.deref.ensures.value (c.in_ok-agree.ensures c.if-branch.true telling stand) in
+    sorted_agree s.frame l c.requires.covers image fs xs all.1 all.0 all.2 c.in_ok-sorted.ensures both

@@ -1,38 +1,54 @@
-use Rattle.std.proofs.Common.{take, refl, sym, ◌∙◌, subst}
+use Rattle.std.proofs.Common.{ℕ, ◌<◌, length, take, refl, sym, ◌∙◌, arith}
 use Rattle.pm_region.specs.Words.{lasts}
-use Rattle.recover.specs.Judging.{HasPointers}
-use Rattle.recover.proofs.ClashLaws.{one_more}
+use Rattle.recover.specs.Winning.{winners_of}
+use Rattle.recover.specs.FoundEntries.{Stands, entries_at}
 use Rattle.recover.proofs.GatherLaws.{is_none}
-use Rattle.recover.proofs.JudgeLaws.{fault_here, fault_later, no_fault}
+use Rattle.recover.proofs.ListLaws.{all_at}
+use Rattle.recover.proofs.FoundEntryLaws.{no_found}
+use Rattle.recover.proofs.RunLaws.{run_begins}
+use Rattle.recover.proofs.FaultLaws.{none_more, fault_found, none_at_all}
 use Rattle.recover.proofs.judge_winners.block_fault.Goals as goal
 
-pub loop-winner-init : goal.loop-winner-init
-loop-winner-init g c = record { pointers = λ p. rw c.new-taken.ensures.empty refl; none = λ telling. refl }
-
-pub loop-winner-preserved : goal.loop-winner-preserved
-loop-winner-preserved g c =
+pub loop-at-preserved : goal.loop-at-preserved
+loop-at-preserved g c =
     let image = lasts (g.R.Region.state c.args.region.now) in
     let l = c.args.layout.now in
-    let ws = c.args.winners.now in
-    let i = c.loop-winner.winner-index in
-    let x = c.winner-item.result in
-    let inv = c.loop-winner.invariant in
-    let none = sym c.is_some.ensures ∙ c.if-is_some.false in
+    let fs = c.args.sorted.now in
+    let at = c.loop-at.at in
+    let run = c.key_run-run.result in
+    let is = c.key_run-run.ensures in
+    let inv = c.loop-at.invariant in
+    let high = is.high in
+    let end = is.end in
+    let none = is_none c.in_ok-fault.fault (sym c.is_some.ensures ∙ c.if-is_some.false) in
     record {
-      pointers = subst (HasPointers c.winner_fault.new.taken) (one_more ws i x c.loop-winner-test.true c.winner-item.is) (c.in_ok-fault.ensures.taken (take i ws) inv.pointers (is_none c.in_ok-fault.fault none));
-      none = λ telling. inv.none telling ∙ fault_later l image ws i x c.loop-winner-test.true c.winner-item.is c.in_ok-fault.fault (c.in_ok-fault.ensures.fault (take i ws) inv.pointers telling) none;
+      within = end;
+      begins = run_begins l image fs c.requires.order at inv.begins run is;
+      so_far = λ telling all.
+          let so_far = inv.so_far telling all in
+          let stands = all_at (Stands l image) fs run.winner no_found all (omega (arith, high, end)) in
+          let ws = winners_of (entries_at l image (take at fs)) in
+          none_more l image fs c.requires.order at inv.begins run is no_found c.loop-at.taken c.winner_fault.new.taken so_far c.in_ok-fault.fault
+          (c.in_ok-fault.ensures.fault ws so_far.pointers telling stands) none (c.in_ok-fault.ensures.taken ws so_far.pointers telling stands none);
     }
 
 pub returns-then-is_some : goal.returns-then-is_some
-returns-then-is_some g c = λ telling.
+returns-then-is_some g c = λ telling all.
     let image = lasts (g.R.Region.state c.args.region.now) in
     let l = c.args.layout.now in
-    let ws = c.args.winners.now in
-    let i = c.loop-winner.winner-index in
-    let inv = c.loop-winner.invariant in
-    fault_here l image ws i c.winner-item.result c.loop-winner-test.true c.winner-item.is c.in_ok-fault.fault (c.in_ok-fault.ensures.fault (take i ws) inv.pointers telling) (sym c.is_some.ensures ∙ c.if-is_some.true) ∙ sym (inv.none telling)
+    let fs = c.args.sorted.now in
+    let at = c.loop-at.at in
+    let run = c.key_run-run.result in
+    let is = c.key_run-run.ensures in
+    let inv = c.loop-at.invariant in
+    let high = is.high in
+    let end = is.end in
+    let so_far = inv.so_far telling all in
+    let stands = all_at (Stands l image) fs run.winner no_found all (omega (arith, high, end)) in
+    fault_found l image fs c.requires.order at inv.begins run is no_found c.loop-at.taken so_far c.in_ok-fault.fault
+    (c.in_ok-fault.ensures.fault (winners_of (entries_at l image (take at fs))) so_far.pointers telling stands) (sym c.is_some.ensures ∙ c.if-is_some.true)
 
 pub returns : goal.returns
-returns g c = λ telling.
+returns g c = λ telling all.
     let image = lasts (g.R.Region.state c.args.region.now) in
-    no_fault c.args.layout.now image c.args.winners.now c.loop-winner.winner-index c.loop-winner-test.false ∙ sym (c.loop-winner.invariant.none telling)
+    none_at_all c.args.layout.now image c.args.sorted.now c.loop-at.at c.loop-at.taken c.loop-at-test.false (c.loop-at.invariant.so_far telling all)

@@ -1,20 +1,16 @@
-use Rattle.std.proofs.Common.{refl, sym, ◌∙◌}
+use Rattle.std.proofs.Common.{refl, sym}
 use Rattle.pm_region.specs.Words.{lasts}
 use Rattle.store_image.specs.Parts.{all_entries}
+use Rattle.recover.specs.Winning.{winners_of}
+use Rattle.recover.specs.FoundEntries.{entries_at}
 use Rattle.recover.proofs.JudgeLaws.{by_winners}
 use Rattle.recover.proofs.NameLaws.{winners_same}
 use Rattle.recover.proofs.judge_winners.judge.Goals as goal
 
-pub returns-in-Some-clause-told : goal.returns-in-Some-clause-told
-returns-in-Some-clause-told g c = λ telling agreed.
+pub returns : goal.returns
+returns g c = λ telling agreed stand.
     let l = c.args.layout.now in
     let image = lasts (g.R.Region.state c.args.region.now) in
-    let won = c.deref.ensures.value ∙ c.in_ok-winners.ensures ∙ winners_same (all_entries l image) c.args.entries.items agreed.all in
-    by_winners l image (all_entries l image) refl agreed.chunks c.in_ok-fault.field-0 c.deref.result.now (sym agreed.clash) won (c.in_ok-fault.ensures telling) ∙ c.in-Some.is
-
-pub returns-in-None-clause-told : goal.returns-in-None-clause-told
-returns-in-None-clause-told g c = λ telling agreed.
-    let l = c.args.layout.now in
-    let image = lasts (g.R.Region.state c.args.region.now) in
-    let won = c.deref.ensures.value ∙ c.in_ok-winners.ensures ∙ winners_same (all_entries l image) c.args.entries.items agreed.all in
-    by_winners l image (all_entries l image) refl agreed.chunks c.in_ok-fault.field-0 c.deref.result.now (sym agreed.clash) won (c.in_ok-fault.ensures telling) ∙ c.in-None.is
+    let xs = entries_at l image c.args.sorted.now in
+    sym (by_winners l image (all_entries l image) refl agreed.chunks c.in_ok-fault.fault (winners_of xs) (sym agreed.clash)
+    (winners_same (all_entries l image) xs agreed.all) (c.in_ok-fault.ensures telling stand))

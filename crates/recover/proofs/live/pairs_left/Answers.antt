@@ -1,29 +1,36 @@
-use Rattle.std.proofs.Common.{◌++◌, sym, ◌∙◌, ap, append-nil}
-use Rattle.std.proofs.lemmas.List.{nil_from_length}
+use Rattle.std.proofs.Common.{ℕ, ◌<◌, length, take, get_or, sym, ◌∙◌, ap, arith}
+use Rattle.std.proofs.lemmas.List.{take_all}
 use Rattle.pm_region.specs.Words.{lasts}
-use Rattle.chunk_map.specs.declared.layouts.Geometry.{Geometry}
-use Rattle.chunk_map.specs.Layouts.{owner}
-use Rattle.store_image.specs.Parts.{held}
-use Rattle.store_image.specs.Winners.{cell_by}
+use Rattle.recover.specs.Winning.{winners_of}
 use Rattle.recover.specs.Live.{pairs_by}
+use Rattle.recover.specs.FoundEntries.{Stands, placed_at, entries_at}
+use Rattle.recover.proofs.ListLaws.{all_at}
+use Rattle.recover.proofs.FoundEntryLaws.{no_found}
+use Rattle.recover.proofs.RunLaws.{run_begins, run_wins}
 use Rattle.recover.proofs.LiveLaws.{left_more}
 use Rattle.recover.proofs.live.pairs_left.Goals as goal
 
-pub loop-x-init : goal.loop-x-init
-loop-x-init g c = λ telling.
-    let left = pairs_by c.args.layout.now (lasts (g.R.Region.state c.args.region.now)) in
-    ap (λ ps. ps ++ left c.into_iter-x-iterator.result.rest.items) c.new-pairs.ensures.items ∙ ap left c.into_iter-x-iterator.ensures.into_iter_gives.0
-
-pub loop-x-preserved : goal.loop-x-preserved
-loop-x-preserved g c = λ telling.
+pub loop-at-preserved : goal.loop-at-preserved
+loop-at-preserved g c =
     let image = lasts (g.R.Region.state c.args.region.now) in
     let l = c.args.layout.now in
-    left_more l image c.loop-x.pairs.items c.push_pair.new.pairs.items c.in-Some.x c.next.new.self.rest.items c.in_ok-value.value (c.in_ok-value.ensures telling ∙ ap (λ p. cell_by (held l image p) c.in-Some.x.entry.body) (c.owner-part.ensures.value ∙ ap (λ (k : Geometry). owner k c.in-Some.x.entry.key) c.geometry.ensures.value)) c.in_ok-push_pair.ensures
-    ∙ ap (λ xs. c.loop-x.pairs.items ++ pairs_by l image xs) (sym c.in-Some.ensures.steps.0) ∙ c.loop-x.invariant telling
+    let fs = c.args.sorted.now in
+    let at = c.loop-at.at in
+    let run = c.key_run-run.result in
+    let is = c.key_run-run.ensures in
+    let inv = c.loop-at.invariant in
+    let high = is.high in
+    let end = is.end in
+    record {
+      within = end;
+      begins = run_begins l image fs c.requires.order at inv.begins run is;
+      so_far = λ telling all.
+          let stands = all_at (Stands l image) fs run.winner no_found all (omega (arith, high, end)) in
+          left_more l image c.loop-at.pairs.items c.push_left.new.pairs.items (winners_of (entries_at l image (take at fs))) (winners_of (entries_at l image (take run.end fs)))
+          (placed_at l image (get_or fs run.winner no_found)) (inv.so_far telling all) (c.in_ok-push_left.ensures telling stands).1 (run_wins l image fs c.requires.order at inv.begins run is no_found);
+    }
 
 pub returns : goal.returns
-returns g c = λ telling.
+returns g c = λ telling all.
     let image = lasts (g.R.Region.state c.args.region.now) in
-    let l = c.args.layout.now in
-    let none = nil_from_length c.loop-x.x-iterator.rest.items (sym c.loop-x.x-iterator.rest.ok.0 ∙ c.in-None.ensures.steps.0) in
-    sym (append-nil c.loop-x.pairs.items) ∙ ap (λ xs. c.loop-x.pairs.items ++ pairs_by l image xs) (sym none) ∙ c.loop-x.invariant telling
+    c.loop-at.invariant.so_far telling all ∙ ap (λ xs. pairs_by c.args.layout.now image (winners_of (entries_at c.args.layout.now image xs))) (take_all c.loop-at.at c.args.sorted.now c.loop-at-test.false)

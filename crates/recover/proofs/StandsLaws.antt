@@ -1,0 +1,89 @@
+-- What is read where an entry was found.
+use Rattle.std.proofs.Common.{◌≡◌, ◌≢◌, ℕ, zero, suc, ◌+◌, ◌-◌, ◌/◌, ◌<◌, ◌≤◌, ◌==◌, ◌&&◌, Bool, true, false, cond, List, [], ◌∷◌, ◌++◌, length, take, drop, get_or, map, Option, Some, None, refl, sym, ◌∙◌, ap, subst, arith, append-nil}
+use Rattle.std.specs.Prelude.{IfSome, Vec}
+use Rattle.std.specs.Global.{Global}
+use Rattle.std.proofs.lemmas.List.{map-append, take_more}
+use Rattle.std.proofs.lemmas.Bool.{eqb-true, eq-eqb, and_parts}
+use Rattle.log_entry.specs.declared.entry.Body.{Body}
+use Rattle.log_entry.specs.declared.entry.Entry.{Entry}
+use Rattle.log_entry.specs.declared.entry.Read.{Read}
+use Rattle.log_entry.specs.declared.entry.Read.TheVariants as reads
+use Rattle.log_entry.specs.Words.{words_from}
+use Rattle.log_entry.specs.Spelling.{words_of, HasSpelling}
+use Rattle.log_entry.specs.Grammar.{Tells}
+use Rattle.log_entry.specs.Reading.{size_of, entry_rule, entry_of, body_of, read_by, read}
+use Rattle.log_entry.proofs.Spellings.{read_spelled}
+use Rattle.chunk_map.specs.declared.layouts.Geometry.{Geometry}
+use Rattle.chunk_map.specs.Layouts.{total_bytes}
+use Rattle.core_log.proofs.ItemLaws.{first_is}
+use Rattle.core_log.proofs.WalkLaws.{fields_read, word_of}
+use Rattle.recover.specs.declared.found_entries.Found.{Found}
+use Rattle.recover.specs.FoundEntries.{body_at, entry_at, Stands, HasWords, body_named}
+
+-- the words of an entry are read as it is
+pub alone : (e : Entry) → HasSpelling e → read (words_of e) ≡ reads.Entry e (length (words_of e))
+alone e has = ap read (sym (append-nil (words_of e))) ∙ read_spelled e has []
+
+pub body_read : (ws : List ℕ) (e : Entry) (n : ℕ) → read ws ≡ reads.Entry e n → body_of ws ≡ e.body
+unfolding read
+body_read ws e n is = by_zero (get_or ws 0 0 == 0) is
+  where
+    by_rule : (r : Option ℕ) → read_by ws r ≡ reads.Entry e n → body_of ws ≡ e.body
+    by_rule None same = let f : entry_of ws ≡ e = cc same in ap (λ (x : Entry). x.body) f
+    by_rule (Some rule) same = absurd (cc same)
+
+    by_zero : (b : Bool) → cond b reads.Padding (read_by ws (entry_rule ws)) ≡ reads.Entry e n → body_of ws ≡ e.body
+    by_zero true same = absurd (cc same)
+    by_zero false same = by_rule (entry_rule ws) same
+
+module _ (image : ℕ → ℕ) (at : ℕ) (e : Entry) (has : HasSpelling e) (words : words_from image at (length (words_of e)) ≡ words_of e) where
+  pub size_there : length (words_of e) ≡ size_of (image at)
+  size_there =
+      let is = fields_read (words_of e) e (length (words_of e)) (alone e has) in
+      let two = (first_is e).0 in
+      let zero_at : at + 0 ≡ at = omega arith in
+      let head : get_or (words_of e) 0 0 ≡ image at = ap (λ (l : List ℕ). get_or l 0 0) (sym words) ∙ word_of image at (length (words_of e)) 0 (omega (arith, two)) ∙ ap image zero_at in
+      is.0 ∙ ap size_of head
+
+  pub words_there : words_from image at (size_of (image at)) ≡ words_of e
+  words_there = ap (words_from image at) (sym size_there) ∙ words
+
+  pub body_there : body_at image at ≡ e.body
+  unfolding body_at
+  body_there = ap body_of words_there ∙ body_read (words_of e) e (length (words_of e)) (alone e has)
+
+-- an entry that stands there is read
+module _ (l : Geometry) (image : ℕ → ℕ) (f : Found) (stands : Stands l image f) where
+  pub stands_read : (ws : List ℕ) → ws ≡ words_from image f.at (size_of (image f.at)) → read (drop 0 ws) ≡ reads.Entry (entry_at image f) (length (words_of (entry_at image f)))
+  stands_read ws is = ap read (is ∙ words_there image f.at (entry_at image f) stands.spelling stands.words) ∙ alone (entry_at image f) stands.spelling
+
+  pub not_out : HasWords image (total_bytes l / 8) f.at None → ⊥
+  not_out out = let size = size_there image f.at (entry_at image f) stands.spelling stands.words in let low = stands.within in omega (arith, out, size, low)
+
+  pub body_found : (r : Read) → r ≡ reads.Entry (entry_at image f) (length (words_of (entry_at image f))) → body_named r f ≡ Some (body_at image f.at)
+  body_found r is = ap (λ r. body_named r f) is ∙ rw (eq-eqb f.key f.key refl, eq-eqb f.version f.version refl) refl
+
+-- and what is read of its name is spelled, whatever the region tells
+pub named_spelled : (ws : List ℕ) (r : Read) (f : Found) → Tells ws r → IfSome (body_named r f) (λ b. HasSpelling (record { key = f.key; version = f.version; body = b }))
+named_spelled ws (reads.Entry e n) f tells = elim (e.key == f.key && e.version == f.version) as (λ b. (e.key == f.key && e.version == f.version) ≡ b → IfSome (cond b (Some e.body) None) (λ b. HasSpelling (record { key = f.key; version = f.version; body = b }))) [
+  | true ↦ λ is.
+      let names = and_parts (e.key == f.key) (e.version == f.version) is in
+      let key = eqb-true e.key f.key names.0 in
+      let version = eqb-true e.version f.version names.1 in
+      let P : ℕ → ℕ → Type 0 = λ k v. HasSpelling (record { key = k; version = v; body = e.body }) in
+      subst (λ k. P k f.version) key (subst (P e.key) version tells.spelling)
+  | false ↦ λ is. tt
+] refl
+named_spelled ws reads.Padding f tells = tt
+named_spelled ws (reads.BadEntry rule) f tells = tt
+
+-- a list that follows another, with one more
+pub map_more : {X Y Z : Type 0} (f : X → Z) (h : Y → Z) (old new : List X) (e : X) (es : List Y) (i : ℕ) (x : Y) → i < length es → x ≡ get_or es i x → f e ≡ h x → map f old ≡ map h (take i es) → new ≡ old ++ e ∷ [] → map f new ≡ map h (take (i + 1) es)
+map_more f h old new e es i x lt is same so_far push =
+    ap (map f) push ∙ map-append f old (e ∷ []) ∙ ap (λ l. l ++ f e ∷ []) so_far ∙ ap (λ z. map h (take i es) ++ z ∷ []) same
+    ∙ sym (map-append h (take i es) (x ∷ [])) ∙ ap (map h) (ap (λ y. take i es ++ y ∷ []) is ∙ sym (take_more es i x lt))
+
+pub list_more : {Y Z : Type 0} (h : Y → Z) (old new : List Z) (e : Z) (es : List Y) (i : ℕ) (x : Y) → i < length es → x ≡ get_or es i x → e ≡ h x → old ≡ map h (take i es) → new ≡ old ++ e ∷ [] → new ≡ map h (take (i + 1) es)
+list_more h old new e es i x lt is same so_far push =
+    push ∙ ap (λ l. l ++ e ∷ []) so_far ∙ ap (λ z. map h (take i es) ++ z ∷ []) same
+    ∙ sym (map-append h (take i es) (x ∷ [])) ∙ ap (map h) (ap (λ y. take i es ++ y ∷ []) is ∙ sym (take_more es i x lt))

@@ -1,0 +1,10 @@
+use Rattle.std.proofs.Common.{◌≤◌, ◌/◌, sym, subst, arith}
+use Rattle.chunk_map.specs.Layouts.{IsLayout}
+use Rattle.store_image.proofs.Places.{layout_numbers}
+use Rattle.recover.proofs.found_entries.chunk_of.Goals as goal
+
+pub nonzero_rem-result : goal.nonzero_rem-result
+nonzero_rem-result c =
+    let is = layout_numbers c.geometry-geometry.result (subst IsLayout (sym c.geometry-geometry.ensures.value) c.geometry-geometry.ensures.rules) in
+    let low = is.chunks in
+    omega (arith, low)

@@ -1,0 +1,54 @@
+// Entries by their names and the words at which they begin.
+ghost use Rattle.std.specs.Prelude.{◌≡◌, ◌-◌, ◌/◌};
+ghost use Rattle.chunk_map.specs.Layouts.{chunk_words};
+ghost use Rattle.recover.specs.FoundEntries.{core_at, chunk_there, place_there};
+
+use chunk_map::Layout;
+use chunk_map::layout_sizes::{HEAD_WORDS, SUPERBLOCK_WORDS};
+use fs_model::{Key, Version};
+use pm_region::WORD_BYTES;
+
+/// An entry by its name, and where it stands. Its body stays in the region.
+#[derive(Clone, Copy)]
+pub struct Found {
+    pub key: Key,
+    pub version: Version,
+    /// The entry's first word, counted from the region's first. All parts together have less than 2^26 words.
+    pub at: u32,
+}
+
+/// The number of the chunk in which a word lies, of all chunks of the region.
+fn chunk_number(layout: &Layout, at: u32) -> u64
+    ensures { result ≡ (at - SUPERBLOCK_WORDS) / chunk_words layout.now }
+{
+    let geometry = layout.geometry();
+    (at as u64).saturating_sub(SUPERBLOCK_WORDS) / (geometry.chunk_bytes / WORD_BYTES)
+}
+
+/// The core in whose part a word lies.
+#[tactic(auto, unfolding(crate::specs::FoundEntries::core_at))]
+pub fn core_of(layout: &Layout, at: u32) -> u32
+    ensures { result ≡ core_at layout.now at }
+{
+    let geometry = layout.geometry();
+    (chunk_number(layout, at) / geometry.chunks as u64) as u32
+}
+
+/// The chunk of the part in which a word lies.
+#[tactic(auto, unfolding(crate::specs::FoundEntries::chunk_there))]
+pub fn chunk_of(layout: &Layout, at: u32) -> u32
+    ensures { result ≡ chunk_there layout.now at }
+{
+    let geometry = layout.geometry();
+    (chunk_number(layout, at) % geometry.chunks as u64) as u32
+}
+
+/// The place of a word in its chunk's payload.
+#[tactic(auto, unfolding(crate::specs::FoundEntries::place_there))]
+pub fn place_of(layout: &Layout, at: u32) -> u64
+    ensures { result ≡ place_there layout.now at }
+{
+    let geometry = layout.geometry();
+    let words = geometry.chunk_bytes / WORD_BYTES;
+    ((at as u64).saturating_sub(SUPERBLOCK_WORDS) % words).saturating_sub(HEAD_WORDS)
+}

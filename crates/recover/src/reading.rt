@@ -1,0 +1,151 @@
+// Entries that were found are read from the region.
+ghost use Rattle.std.specs.Prelude.{◌≡◌, ℕ, ◌/◌, ◌<◌, map, length, Some, IfOk, IfSome};
+ghost use Rattle.pm_region.specs.State.{IsTelling};
+ghost use Rattle.pm_region.specs.Words.{lasts};
+ghost use Rattle.log_entry.specs.Spelling.{HasSpelling};
+ghost use Rattle.chunk_map.specs.Layouts.{total_bytes};
+ghost use Rattle.store_image.specs.Soundness.{damaged};
+ghost use Rattle.recover.specs.Regions.{Covers};
+ghost use Rattle.recover.specs.ByName.{name_of};
+ghost use Rattle.recover.specs.Winning.{AreSpelled};
+ghost use Rattle.recover.specs.FoundEntries.{body_at, core_at, chunk_there, placed_at, Stands, AreFound, name_found, HasWords, body_named, ReadsAll};
+
+use crate::found_entries::{Found, chunk_of, core_of, place_of};
+use chunk_map::Layout;
+use chunk_map::words::load_words;
+use fs_errors::Memory;
+use log_entry::{Body, Entry, Read, read_entry, size_of};
+use pm_region::{Region, WORD_BYTES};
+use std::alloc::Global;
+use store_image::{Fault, PlacedEntry};
+
+/// The words of the entry that begins at a word, where they lie in the region.
+fn words_there<R: Region>(
+    alloc: Global,
+    region: &R,
+    layout: &Layout,
+    at: u32,
+) -> Result<Option<Vec<u64>>, Memory>
+    requires covers { Covers (R.state region.now).frame layout.now }
+    ensures told { IfOk result (λ r. IsTelling (R.state region.now)
+        → HasWords (lasts (R.state region.now)) (total_bytes layout.now / 8) at r) }
+    ensures some { IfOk result (λ r. IfSome r (λ words. 0 < length words.items)) }
+{
+    let at = at as u64;
+    let words = layout.total_bytes() / WORD_BYTES;
+    if at >= words {
+        return Ok(None);
+    }
+    let size = size_of(region.load(at));
+    if size > words - at {
+        return Ok(None);
+    }
+    let words = load_words(alloc, region, at, size)?;
+    Ok(Some(words))
+}
+
+/// The body of an entry that was read, where it has this name.
+fn body_named(read: Read, found: &Found) -> Option<Body>
+    ensures { result ≡ body_named read found.now }
+{
+    match read {
+        Read::Entry { entry, length: _ } => {
+            if entry.key == found.key && entry.version == found.version {
+                Some(entry.body)
+            } else {
+                None
+            }
+        }
+        _ => None,
+    }
+}
+
+/// The body of an entry that was found; none where no entry of its name stands there now.
+pub fn read_at<R: Region>(
+    alloc: Global,
+    region: &R,
+    layout: &Layout,
+    found: &Found,
+) -> Result<Option<Body>, Memory>
+    requires covers { Covers (R.state region.now).frame layout.now }
+    ensures told { IfOk result (λ b. IsTelling (R.state region.now)
+        → Stands layout.now (lasts (R.state region.now)) found.now
+        → b ≡ Some (body_at (lasts (R.state region.now)) found.now.at)) }
+    ensures spelled { IfOk result (λ b. IfSome b (λ body. HasSpelling
+        (record { key = found.now.key; version = found.now.version; body = body }))) }
+{
+    match words_there(alloc, region, layout, found.at)? {
+        None => Ok(None),
+        Some(words) => {
+            let read = read_entry(alloc, &words, 0)?;
+            Ok(body_named(read, found))
+        }
+    }
+}
+
+/// The fault of a chunk in which an entry stands no more that was found there.
+pub fn gone_fault(layout: &Layout, found: &Found) -> Fault
+    ensures { result ≡ damaged (core_at layout.now found.now.at)
+        (chunk_there layout.now found.now.at) 6 }
+{
+    Fault::Damaged {
+        part: core_of(layout, found.at),
+        chunk: chunk_of(layout, found.at),
+        rule: 6,
+    }
+}
+
+/// An entry that was found, with its body; none where no entry of its name stands there now.
+pub fn read_placed<R: Region>(
+    alloc: Global,
+    region: &R,
+    layout: &Layout,
+    found: &Found,
+) -> Result<Option<PlacedEntry>, Memory>
+    requires covers { Covers (R.state region.now).frame layout.now }
+    ensures told { IfOk result (λ x. IsTelling (R.state region.now)
+        → Stands layout.now (lasts (R.state region.now)) found.now
+        → x ≡ Some (placed_at layout.now (lasts (R.state region.now)) found.now)) }
+    ensures name { IfOk result (λ x. IfSome x (λ x. name_of x ≡ name_found found.now)) }
+    ensures spelled { IfOk result (λ x. IfSome x (λ x. HasSpelling x.entry)) }
+{
+    match read_at(alloc, region, layout, found)? {
+        None => Ok(None),
+        Some(body) => Ok(Some(PlacedEntry {
+            core: core_of(layout, found.at),
+            chunk: chunk_of(layout, found.at),
+            place: place_of(layout, found.at),
+            entry: Entry {
+                key: found.key,
+                version: found.version,
+                body,
+            },
+        })),
+    }
+}
+
+/// The entries that were found, with their bodies, in their order. One that stands there no more is answered as
+/// damage.
+pub fn read_entries<R: Region>(
+    alloc: Global,
+    region: &R,
+    layout: &Layout,
+    found: &[Found],
+) -> Result<Result<Vec<PlacedEntry>, Fault>, Memory>
+    requires covers { Covers (R.state region.now).frame layout.now }
+    ensures told { IfOk result (λ r. IsTelling (R.state region.now)
+        → AreFound layout.now (lasts (R.state region.now)) found.now
+        → ReadsAll layout.now (lasts (R.state region.now)) found.now r) }
+    ensures names { IfOk result (λ r. IfOk r (λ es. map name_of es.items
+        ≡ map name_found found.now)) }
+    ensures spelled { IfOk result (λ r. IfOk r (λ es. AreSpelled es.items)) }
+{
+    let mut entries = Vec::with_capacity(alloc, found.len())?;
+    for x in found {
+        match read_placed(alloc, region, layout, x)? {
+            Some(entry) => entries.push(entry)?,
+            None => return Ok(Err(gone_fault(layout, x))),
+        }
+    }
+    Ok(Ok(entries))
+}
