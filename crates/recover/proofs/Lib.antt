@@ -4,6 +4,7 @@ pub mod ClashLaws
 pub mod NameLaws
 pub mod FoundEntryLaws
 pub mod KeyLaws
+pub mod SortLaws
 pub mod StandsLaws
 pub mod ReadBackLaws
 pub mod RunLaws

@@ -1,5 +1,5 @@
 -- Entries by their names and the words at which they begin.
-use Rattle.std.specs.Prelude.{◌≡◌, ℕ, ◌+◌, ◌-◌, ◌/◌, ◌%◌, ◌<◌, ◌≤◌, ◌==◌, ◌&&◌, Bool, List, map, filter, length, Option, Some, None, Result, Ok, Err, Vec, if◌then◌else◌}
+use Rattle.std.specs.Prelude.{◌≡◌, ℕ, ◌+◌, ◌-◌, ◌/◌, ◌%◌, ◌<◌, ◌≤◌, ◌==◌, ◌&&◌, Bool, List, [], ◌∷◌, map, filter, length, Option, Some, None, Result, Ok, Err, Vec, if◌then◌else◌}
 use Rattle.std.specs.Global.{Global}
 use Rattle.std.specs.List.{AllByRecursion}
 use Rattle.std.specs.List.Sorted.{IsSortedByKey}
@@ -71,6 +71,11 @@ is_found k v f = f.key == k && f.version == v
 pub record AreByName (es xs : List Found) : Type 0 where
   pub same : (k v : ℕ) → filter (is_found k v) xs ≡ filter (is_found k v) es
   pub rising : AreInOrder xs
+
+-- each begins behind those in front of it
+abbrev pub RiseByWord : List Found → Type 0
+RiseByWord [] = Unit {0}
+RiseByWord (f ∷ fs) = AllByRecursion (λ g. f.at < g.at) fs × RiseByWord fs
 
 -- each begins in front of this place
 abbrev pub LieBelow : ℕ → List (ℕ × Entry) → Type 0

@@ -173,7 +173,7 @@ fn compared_entries<R: Region>(
     match clash_fault(alloc, &entries)? {
         Some(fault) => Ok(Err(fault)),
         None => {
-            let sorted = by_name(found)?;
+            let sorted = by_name(found);
             Ok(Ok(sorted))
         }
     }
@@ -194,7 +194,7 @@ pub fn agreed_entries<R: Region>(
         Ok(found) => found,
         Err(fault) => return Ok(Err(fault)),
     };
-    let sorted = by_name(found)?;
+    let sorted = by_name(found);
     if agree(alloc, region, layout, &sorted)? {
         return Ok(Ok(sorted));
     }

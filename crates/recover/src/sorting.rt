@@ -5,7 +5,7 @@ ghost use Rattle.pm_region.specs.Words.{lasts};
 ghost use Rattle.store_image.specs.Soundness.{contradicts};
 ghost use Rattle.store_image.specs.Facts.{Agree};
 ghost use Rattle.recover.specs.Regions.{Covers};
-ghost use Rattle.recover.specs.FoundEntries.{placed_at, entries_at, Stands, AreFound, AreInOrder, AreByName};
+ghost use Rattle.recover.specs.FoundEntries.{placed_at, entries_at, Stands, AreFound, AreInOrder, AreByName, RiseByWord};
 
 use crate::found_entries::Found;
 use crate::reading::read_placed;
@@ -15,13 +15,15 @@ use pm_region::Region;
 use std::alloc::Global;
 use store_image::contradictions::contradicts;
 
-/// The entries by rising key, and those of a key by rising version. Entries of one key and version keep their order.
-pub fn by_name(found: Vec<Found>) -> Result<Vec<Found>, Memory>
-    ensures { IfOk result (λ sorted. AreByName found.items sorted.items) }
+/// The entries by rising key, and those of a key by rising version. Entries of one key and version keep their order,
+/// that of their words. They are sorted in place: a stable sort would take as much memory again.
+pub fn by_name(found: Vec<Found>) -> Vec<Found>
+    ensures order { AreInOrder result.items }
+    ensures names { RiseByWord found.items → AreByName found.items result.items }
 {
     let mut sorted = found;
-    sorted.sort_by_key(|x| (x.key, x.version))?;
-    Ok(sorted)
+    sorted.sort_unstable_by_key(|x| (x.key, x.version, x.at));
+    sorted
 }
 
 /// Whether an entry contradicts another, by what stands in the region. Their bodies are read only where they have one
