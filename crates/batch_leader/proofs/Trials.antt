@@ -23,7 +23,7 @@ use Rattle.group_laws.specs.Images.{IsLicensedBy}
 use Rattle.group_laws.specs.OpeningImages.{IsBlank}
 use Rattle.group_laws.specs.declared.types.Pending.{Pending}
 use Rattle.crash_core.specs.declared.kinds.Change.{Change}
-use Rattle.crash_core.proofs.Clients.Blank as blank
+use Rattle.crash_core.proofs.Clients.{no_block, no_last, no_log}
 use Rattle.group_board.specs.Journals.{image_of, place_in}
 use Rattle.group_board.specs.Conditions.{MayPost}
 use Rattle.group_board.specs.Trials.{small_words, fresh}
@@ -59,7 +59,7 @@ fresh_post m k low small_key own = record {
   own = own;
   idle = none_own (eqb (owner fresh.place k) m) None;
   whole = refl;
-  next = sym (ap (λ (x : ℕ). x + 1) (ap (λ (x : ℕ). of_own small m k x 0) (blank.no_last small small_place (image_of small_words) small_blank k) ∙ none_own (eqb (owner small k) m) 0));
+  next = sym (ap (λ (x : ℕ). x + 1) (ap (λ (x : ℕ). of_own small m k x 0) (no_last small small_place (image_of small_words) small_blank k) ∙ none_own (eqb (owner small k) m) 0));
   live = λ t. absurd (cc t);
   block = λ at t. absurd (cc t);
 }
@@ -70,8 +70,8 @@ key_1 = refl
 
 pub fresh_unwritten : (m : ℕ) → IsUnwritten (view_of fresh m)
 fresh_unwritten m = record {
-  kept = blank.no_log small small_place (image_of small_words) small_blank m;
-  blocks = λ q. blank.no_block small small_place (image_of small_words) small_blank m q;
+  kept = no_log small small_place (image_of small_words) small_blank m;
+  blocks = λ q. no_block small small_place (image_of small_words) small_blank m q;
 }
 
 -- an image of zeros is licensed where nothing is certain

@@ -6,7 +6,8 @@ pub use Rattle.core_log.proofs.LogLaws.{kept_last, log_kept, own_chunk, own_open
 pub use Rattle.core_log.proofs.BatchLaws.{entries_or_lacks, entries_read, head_of, holds_some, moved_chunk_of, open_chunk_of, open_has, open_spelled, opened_is, room_opens, some_opens}
 pub use Rattle.core_log.proofs.WithoutLaws.{without_other, without_self}
 pub use Rattle.core_log.proofs.RetireLaws.{is_tail}
-pub use Rattle.core_log.proofs.WalkLaws.{words_more}
+pub use Rattle.core_log.proofs.ItemLaws.{HaveSpelling, drop_behind, first_is, items_have, items_of, items_placed, items_spelled, placed_items, spelled_by}
+pub use Rattle.core_log.proofs.WalkLaws.{Spells, entry_fits, entry_words, fields_read, word_of, words_more}
 pub use Rattle.core_log.proofs.EntryImages.{may_start}
 pub use Rattle.core_log.proofs.Steps.{all_behind, may_begin, ordered}
 pub use Rattle.core_log.proofs.ChunkWords.{free_has_none, free_reads_well, placed_all}

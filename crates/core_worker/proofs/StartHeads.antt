@@ -17,8 +17,7 @@ use Rattle.lazy_alloc.specs.Sets.{chunk_is_free, chunk_class, chunk_is_due}
 use Rattle.recover.specs.declared.types.CoreStart.{CoreStart}
 use Rattle.recover.specs.Logs.{tail_behind}
 use Rattle.group_laws.specs.Places.{Place, core_of}
-use Rattle.group_laws.proofs.Clients.{core_low, licensed_words}
-use Rattle.group_laws.proofs.Clients.OpeningTidied as opens
+use Rattle.group_laws.proofs.Clients.{core_low, licensed_words, licensed as opens_licensed}
 use Rattle.licence.specs.Licence.{Licensed}
 use Rattle.core_worker.specs.OwnChunks.{HasChunk, AreChunks}
 use Rattle.core_worker.specs.Openings.{IsStartAt, IsCertainAt, opened_view}
@@ -126,4 +125,4 @@ module _ (p : Place) (m : ℕ) (image : ℕ → ℕ) (start : CoreStart) (at : I
     licensed_now telling other may =
         licensed_words p m (opened_view p m image) other image at.place
         (λ w low high. here.words telling w low high (other w) (may w low high))
-        (opens.licensed p image at.place at.rules m at.member)
+        (opens_licensed p image at.place at.rules m at.member)

@@ -5,8 +5,7 @@ use Rattle.std.specs.Prelude.{slice_get}
 use Rattle.std.proofs.lemmas.List.{take_more}
 use Rattle.group_laws.specs.State.{Group}
 use Rattle.group_laws.specs.Invariant.{Lawful}
-use Rattle.group_laws.proofs.Clients.{step_keeps, images_safe, run_cell, run_posted}
-use Rattle.group_laws.proofs.Clients.Safe as safe
+use Rattle.group_laws.proofs.Clients.{step_keeps, images_safe, run_cell, run_posted, distinct as safe_distinct}
 use Rattle.crash_core.specs.declared.kinds.Kind.{Kind}
 use Rattle.crash_core.specs.declared.kinds.Step.{Step}
 use Rattle.crash_core.specs.declared.state.GroupState.{GroupState}
@@ -30,7 +29,7 @@ reached g xs h first made L = record {
   posted = λ k. run_posted (group_of g) (kinds_of (group_of g) xs (group_of h) made) (group_of h) (run_of (group_of g) xs (group_of h) made) first k;
   lawful = L;
   safe = λ images ok. images_safe (group_of h) L images ok;
-  distinct = safe.distinct (group_of h) L;
+  distinct = safe_distinct (group_of h) L;
 }
 
 -- a step that isn't enabled, after i steps

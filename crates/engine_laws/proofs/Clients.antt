@@ -6,7 +6,6 @@ pub use Rattle.engine_laws.proofs.Licences.{outside_part, shows_groups}
 pub use Rattle.engine_laws.proofs.Opens.{opens_last, opens_own}
 pub use Rattle.engine_laws.proofs.Numbers.{IsUp, all_append, all_in, filter_in, in_all, in_filter, in_requests, numbered, one_key, up, up_apart, up_tail}
 pub use Rattle.engine_laws.proofs.Stands.{shows_key, stands_on}
-pub use Rattle.engine_laws.proofs.Begins
 pub use Rattle.engine_laws.proofs.Begins.{gives, opens}
 pub use Rattle.engine_laws.proofs.WhyRefused.{Changes, asked_in, cause_served, given_front, lawful_changes}
 pub use Rattle.engine_laws.proofs.Ran.{Delivers, goes, pass, ran_given, ran_seen, ran_stands, until}

@@ -8,7 +8,7 @@ use Rattle.chunk_map.specs.declared.layouts.Geometry.{Geometry}
 use Rattle.store_image.specs.declared.types.PlacedEntry.{PlacedEntry}
 use Rattle.store_image.specs.Facts.{In}
 use Rattle.store_image.specs.Winners.{better, winner_in}
-use Rattle.store_image.proofs.SoundFacts.{winner_is}
+use Rattle.store_image.proofs.Clients.{winner_is}
 use Rattle.core_index.specs.Records.{standing_at, standing_with, untold}
 use Rattle.recover.specs.declared.found_entries.Found.{Found}
 use Rattle.recover.specs.declared.key_runs.KeyRun.{KeyRun}
@@ -90,11 +90,11 @@ module _ (l : Geometry) (image : ℕ → ℕ) where
       let es = entries_at l image fs in
       ap (λ b. cond b (Some (better x (winner_in k es))) (winner_in k es)) (eq-eqb f.key k (own zero d (omega arith)))
       ∙ ap Some (stays x (winner_in k es) (λ y won.
-          let is = winner_is k es y won in
-          let r = in_map (placed_at l image) fs y is.0 in
-          let at = in_at r.0 fs r.1 in
-          let low = at.1 in
-          subst (λ (n : ℕ). n ≤ f.version) ((λ t. (at.2 f t).version) ∙ (λ t. (sym r.2 t).entry.version)) (rest (suc at.0) f (omega arith) (omega (arith, low)))))
+      let is = winner_is k es y won in
+      let r = in_map (placed_at l image) fs y is.0 in
+      let at = in_at r.0 fs r.1 in
+      let low = at.1 in
+      subst (λ (n : ℕ). n ≤ f.version) ((λ t. (at.2 f t).version) ∙ (λ t. (sym r.2 t).entry.version)) (rest (suc at.0) f (omega arith) (omega (arith, low)))))
   winner_at k (f ∷ fs) (suc w) lt own first rest d =
       let x = placed_at l image f in
       let es = entries_at l image fs in
@@ -109,7 +109,7 @@ module _ (l : Geometry) (image : ℕ → ℕ) where
   stand_all k v (f ∷ fs) own =
       let x = placed_at l image f in
       elim (f.version == v) as (λ b. (f.version == v) ≡ b → cond b (Some (untold (standee_at l f))) (standing_at (map untold (map (standee_at l) fs)) v)
-          ≡ option_map (λ (x : PlacedEntry). standing_with v x.core false) (cond (f.key == k && b) (Some x) (named_in k v (entries_at l image fs)))) [
+      ≡ option_map (λ (x : PlacedEntry). standing_with v x.core false) (cond (f.key == k && b) (Some x) (named_in k v (entries_at l image fs)))) [
         | true ↦ λ e. ap (λ (n : ℕ). Some (standing_with n (core_at l f.at) false)) (eqb-true f.version v e)
             ∙ sym (ap (λ b. option_map (λ (x : PlacedEntry). standing_with v x.core false) (cond (b && true) (Some x) (named_in k v (entries_at l image fs)))) (eq-eqb f.key k own.0))
         | false ↦ λ e. stand_all k v fs own.1

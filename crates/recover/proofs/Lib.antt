@@ -26,4 +26,4 @@ pub mod PairLaws
 pub mod LiveLaws
 pub mod EntryListLaws
 pub mod ReadLaws
-pub mod Clients
+pub mod RecoveredLaws

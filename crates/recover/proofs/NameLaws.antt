@@ -17,10 +17,7 @@ use Rattle.store_image.specs.Winners.{better, winner_in, with_key, keys_of}
 use Rattle.store_image.specs.Listing.{IsRising}
 use Rattle.store_image.specs.Soundness.{damaged, contradicts, clash_fault}
 use Rattle.store_image.specs.Facts.{In, Agree}
-use Rattle.store_image.proofs.Copies.{winner_some, winner_max}
-use Rattle.store_image.proofs.SoundLaws.{winner_key}
-use Rattle.store_image.proofs.SoundFacts.{winner_is, no_clash_after}
-use Rattle.store_image.proofs.Listings.{rising_keys}
+use Rattle.store_image.proofs.Clients.{winner_some, winner_max, winner_key, winner_is, no_clash_after, rising_keys}
 use Rattle.recover.specs.Clashes.{name_cmp}
 use Rattle.recover.specs.Starts.{named_in}
 use Rattle.recover.specs.ByName.{name_of, is_named, is_first, HasNoKey, IsInOrder, IsByName}

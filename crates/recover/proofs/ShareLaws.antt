@@ -18,7 +18,7 @@ use Rattle.store_image.specs.Parts.{all_entries}
 use Rattle.store_image.specs.Soundness.{damage}
 use Rattle.store_image.specs.Winners.{winner_in}
 use Rattle.store_image.specs.Facts.{In}
-use Rattle.store_image.proofs.SoundFacts.{winner_is}
+use Rattle.store_image.proofs.Clients.{winner_is}
 use Rattle.core_index.specs.declared.types.Standee.{Standee}
 use Rattle.core_index.specs.Records.{KeyRecord, standing_at, standing_of, standing_with, opened_with, pointer_of, untold}
 use Rattle.core_index.specs.Index.{known_at, room_at, EntersAs}
@@ -85,7 +85,7 @@ module _ (l : Geometry) (es xs : List PlacedEntry) (x : PlacedEntry) (ss : List 
   was : (c p : ℕ) → PointsFor l all c p → (PointsFor l es c p) ⊎ ((owner l k ≡ c) × (x.entry.body ≡ Pointer p))
   was c p w = ⊎_elim
       (λ (e : w.key ≡ k). (let same : w.winner_is ≡ x = cc (sym w.wins ∙ ap (λ j. winner_in j all) e ∙ won_here) in
-          inr (ap (owner l) (sym e) ∙ w.owned, sym (ap (λ (y : PlacedEntry). y.entry.body) same) ∙ w.points)))
+      inr (ap (owner l) (sym e) ∙ w.owned, sym (ap (λ (y : PlacedEntry). y.entry.body) same) ∙ w.points)))
       (λ (ne : w.key ≢ k). inl (record { key = w.key; winner_is = w.winner_is; wins = sym (won_there w.key ne) ∙ w.wins; owned = w.owned; points = w.points }))
       (cases_eq w.key k)
 
@@ -119,9 +119,9 @@ module _ (l : Geometry) (es xs : List PlacedEntry) (x : PlacedEntry) (ss : List 
           (cases_eq j k);
       standing = λ j v owned. ⊎_elim
           (λ (e : j ≡ k). ap (λ o. standing_at (standing_of o) v) (ap (known_at new.index) e ∙ enters.change.here) ∙ opened_at ss v ∙ stand v
-              ∙ ap (option_map (λ (x : PlacedEntry). standing_with v x.core false)) (sym (ap (λ n. named_in n v all) e ∙ named_behind k v es xs fresh)))
+          ∙ ap (option_map (λ (x : PlacedEntry). standing_with v x.core false)) (sym (ap (λ n. named_in n v all) e ∙ named_behind k v es xs fresh)))
           (λ (ne : j ≢ k). ap (λ o. standing_at (standing_of o) v) (enters.change.others j ne) ∙ is.standing j v owned
-              ∙ ap (option_map (λ (x : PlacedEntry). standing_with v x.core false)) (sym (named_front j v es xs (lacks j ne))))
+          ∙ ap (option_map (λ (x : PlacedEntry). standing_with v x.core false)) (sym (named_front j v es xs (lacks j ne))))
           (cases_eq j k);
       room = λ j. ⊎_elim
           (λ (e : j ≡ k). ap (room_at new.index) e ∙ enters.none)
@@ -139,15 +139,15 @@ module _ (l : Geometry) (es xs : List PlacedEntry) (x : PlacedEntry) (ss : List 
   pub shares_more : (old new : List Share) (f : Found) → f.key ≡ k → f.version ≡ x.entry.version → Gives l old new f x.entry.body ss → AreShares l es old → AreShares l all new
   shares_more old new f key version gives are c d lt = ⊎_elim
       (λ (e : c ≡ owner l f.key). (let got = gives.owner_gets d in
-          let own_core : owner l k ≡ owner l f.key = ap (owner l) (sym key) in
-          let index : EntersAs (slice_index_or old (owner l k) d).index (slice_index_or new (owner l k) d).index k (opened_with x.entry.version x.entry.body ss) =
-              subst (λ (n : ℕ). EntersAs (slice_index_or old (owner l k) d).index (slice_index_or new (owner l k) d).index k (opened_with n x.entry.body ss)) version
-              (subst (λ (n : ℕ). EntersAs (slice_index_or old (owner l n) d).index (slice_index_or new (owner l n) d).index n (opened_with f.version x.entry.body ss)) key got.index) in
-          let pointers : (slice_index_or new (owner l k) d).pointers.items ≡ (slice_index_or old (owner l k) d).pointers.items ++ option_to_list (pointer_of x.entry.body) =
-              subst (λ (n : ℕ). (slice_index_or new (owner l n) d).pointers.items ≡ (slice_index_or old (owner l n) d).pointers.items ++ option_to_list (pointer_of x.entry.body)) key got.pointers in
-          let at : c ≡ owner l k = e ∙ sym own_core in
-          subst (λ (n : ℕ). IsShare l all n (slice_index_or new n d)) (sym at)
-          (share_here (slice_index_or old (owner l k) d) (slice_index_or new (owner l k) d) (subst (λ (n : ℕ). IsShare l es n (slice_index_or old n d)) at (are c d lt)) index pointers)))
+      let own_core : owner l k ≡ owner l f.key = ap (owner l) (sym key) in
+      let index : EntersAs (slice_index_or old (owner l k) d).index (slice_index_or new (owner l k) d).index k (opened_with x.entry.version x.entry.body ss) =
+      subst (λ (n : ℕ). EntersAs (slice_index_or old (owner l k) d).index (slice_index_or new (owner l k) d).index k (opened_with n x.entry.body ss)) version
+      (subst (λ (n : ℕ). EntersAs (slice_index_or old (owner l n) d).index (slice_index_or new (owner l n) d).index n (opened_with f.version x.entry.body ss)) key got.index) in
+      let pointers : (slice_index_or new (owner l k) d).pointers.items ≡ (slice_index_or old (owner l k) d).pointers.items ++ option_to_list (pointer_of x.entry.body) =
+      subst (λ (n : ℕ). (slice_index_or new (owner l n) d).pointers.items ≡ (slice_index_or old (owner l n) d).pointers.items ++ option_to_list (pointer_of x.entry.body)) key got.pointers in
+      let at : c ≡ owner l k = e ∙ sym own_core in
+      subst (λ (n : ℕ). IsShare l all n (slice_index_or new n d)) (sym at)
+      (share_here (slice_index_or old (owner l k) d) (slice_index_or new (owner l k) d) (subst (λ (n : ℕ). IsShare l es n (slice_index_or old n d)) at (are c d lt)) index pointers)))
       (λ (ne : c ≢ owner l f.key). subst (IsShare l all c) (sym (gives.others c d ne)) (share_there c (slice_index_or old c d) (λ e. ne (sym e ∙ ap (owner l) (sym key))) (are c d lt)))
       (cases_eq c (owner l f.key))
 
@@ -186,13 +186,13 @@ given_one l old f body ss o before after own lt was index pointers = record {
 pub spelled_more : (l : Geometry) (old new : List Share) (f : Found) (body : Body) (ss : List Standee) → HasSpelling (record { key = f.key; version = f.version; body = body }) → Gives l old new f body ss → AreSpelledShares l old → AreSpelledShares l new
 spelled_more l old new f body ss spelled gives are c d lt k r is = ⊎_elim
     (λ (e : c ≡ owner l f.key).
-        (let got = gives.owner_gets d in
-        let here = subst (λ (n : ℕ). EntersAs (slice_index_or old n d).index (slice_index_or new n d).index f.key (opened_with f.version body ss)) (sym e) got.index in
-        ⊎_elim
-        (λ (same : k ≡ f.key). (let known : opened_with f.version body ss ≡ r = cc (sym here.change.here ∙ ap (known_at (slice_index_or new c d).index) (sym same) ∙ is) in
-            subst (λ (q : KeyRecord). HasSpelling (record { key = k; version = q.version; body = q.body })) known (subst (λ (n : ℕ). HasSpelling (record { key = n; version = f.version; body = body })) (sym same) spelled)))
-        (λ (ne : k ≢ f.key). are c d lt k r (sym (here.change.others k ne) ∙ is))
-        (cases_eq k f.key)))
+    (let got = gives.owner_gets d in
+    let here = subst (λ (n : ℕ). EntersAs (slice_index_or old n d).index (slice_index_or new n d).index f.key (opened_with f.version body ss)) (sym e) got.index in
+    ⊎_elim
+    (λ (same : k ≡ f.key). (let known : opened_with f.version body ss ≡ r = cc (sym here.change.here ∙ ap (known_at (slice_index_or new c d).index) (sym same) ∙ is) in
+    subst (λ (q : KeyRecord). HasSpelling (record { key = k; version = q.version; body = q.body })) known (subst (λ (n : ℕ). HasSpelling (record { key = n; version = f.version; body = body })) (sym same) spelled)))
+    (λ (ne : k ≢ f.key). are c d lt k r (sym (here.change.others k ne) ∙ is))
+    (cases_eq k f.key)))
     (λ (ne : c ≢ owner l f.key). are c d lt k r (ap (λ (s : Share). known_at s.index k) (sym (gives.others c d ne)) ∙ is))
     (cases_eq c (owner l f.key))
 

@@ -11,7 +11,7 @@ use Rattle.std.specs.Prelude.{Result, Ok, Err}
 use Rattle.chunk_map.specs.Layouts.{IsLayout, chunk_first, chunk_words, head_at, owner}
 use Rattle.store_image.specs.Parts.{all_entries, chunk_at, unit_at, class_behind, block_class, held_by}
 use Rattle.store_image.specs.Facts.{KeepsRules}
-use Rattle.store_image.proofs.Places.{layout_numbers}
+use Rattle.store_image.proofs.Clients.{layout_numbers}
 use Rattle.lazy_alloc.specs.Heads.{is_free, class_in, is_free_there, class_there}
 use Rattle.lazy_alloc.specs.Sets.{Sets, chunk_is_free, chunk_class, chunk_is_due, block_is_used, class_at, start_in}
 use Rattle.recover.specs.declared.shares.Share.{Share}

@@ -47,9 +47,7 @@ fn own_standing<R: Region>(
 {
     let dead = |name: EntryName|
         ensures { result ≡ is_dead_in (known_at index.entry.now name.key) name.version }
-    {
-        index.is_dead(name)
-    };
+    { index.is_dead(name) };
     standing_told(alloc, region, log, dead)
 }
 
