@@ -21,8 +21,7 @@ use Rattle.group_laws.specs.MemberViews.{View}
 use Rattle.group_board.specs.Views.{after_finish, after_give_up, after_retire}
 use Rattle.group_board.specs.Conditions.{MayMark, MayFail, MayWithdraw, MayRetire}
 use Rattle.group_board.specs.Journals.{name_of}
-use Rattle.group_board.proofs.Facts.{posted_by}
-use Rattle.group_board.proofs.Keeping.{covers_more, covers_less}
+use Rattle.group_board.proofs.Clients.{posted_by, covers_more, covers_less}
 use Rattle.atomic_board.specs.declared.seat_data.Origin.{Origin}
 use Rattle.atomic_board.specs.declared.seat_data.Holding.{Holding}
 use Rattle.atomic_board.specs.declared.seat_data.Deed.{Deed}

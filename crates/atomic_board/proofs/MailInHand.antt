@@ -4,7 +4,7 @@ use Rattle.log_entry.specs.declared.entry.EntryName.{EntryName}
 use Rattle.store_image.specs.Facts.{In}
 use Rattle.group_laws.specs.declared.types.Seen.TheVariants as loads
 use Rattle.group_laws.specs.State.{Notices}
-use Rattle.group_laws.proofs.Puts.{In-append_right}
+use Rattle.group_laws.proofs.Clients.{In-append_right}
 use Rattle.crash_core.specs.declared.names.Notices.{Notices as Parceled}
 use Rattle.group_board.specs.Views.{after_find}
 use Rattle.group_board.specs.Conditions.{MaySend}

@@ -15,7 +15,7 @@ use Rattle.atomic_board.proofs.Reaches.{step_reaches}
 use Rattle.group_laws.specs.MemberViews.{View}
 use Rattle.group_board.specs.Views.{after_receive, IsDeadIn}
 use Rattle.group_board.specs.Conditions.{MaySend}
-use Rattle.group_board.proofs.Keeping.{covers_less}
+use Rattle.group_board.proofs.Clients.{covers_less}
 use Rattle.atomic_board.specs.declared.seat_data.Origin.{Origin}
 use Rattle.atomic_board.specs.declared.seat_data.Holding.{Holding}
 use Rattle.atomic_board.specs.declared.seat_data.Deed.{Deed}

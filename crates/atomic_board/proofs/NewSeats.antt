@@ -5,12 +5,10 @@ use native.Mathlib.Decide.{ℕ_discrete, dec_le}
 use Rattle.group_laws.specs.OpeningImages.{opened}
 use Rattle.group_board.specs.Journals.{image_of, place_in, names_in, begun, names}
 use Rattle.group_board.specs.Tidies.{Covers}
-use Rattle.group_board.proofs.Opens.{opened_kept}
-use Rattle.group_board.proofs.Journals.{state_begun, names_begun}
+use Rattle.group_board.proofs.Clients.{opened_kept, state_begun, names_begun}
 use Rattle.chunk_map.specs.Layouts.{layout_of}
-use Rattle.chunk_map.proofs.LayoutLaws.{numbers_of}
-use Rattle.store_image.proofs.Places.{superblock_facts}
-use Rattle.store_image.proofs.SoundFacts.{sound_store}
+use Rattle.chunk_map.proofs.Clients.{numbers_of}
+use Rattle.store_image.proofs.Clients.{superblock_facts, sound_store}
 use Rattle.store_image.specs.Soundness as images
 use Rattle.atomic_board.specs.declared.seat_data.Origin.{Origin}
 use Rattle.atomic_board.specs.TableWords.{pool_place}

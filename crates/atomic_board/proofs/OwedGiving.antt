@@ -19,7 +19,7 @@ use Rattle.group_laws.specs.MemberViews.{View}
 use Rattle.group_board.specs.Views.{after_finish, after_give_up, after_retire}
 use Rattle.group_board.specs.Conditions.{MayMark, MayFail, MayFinish, MayWithdraw, MayDoom, MayRetire}
 use Rattle.group_board.specs.Journals.{name_of}
-use Rattle.group_board.proofs.Keeping.{covers_more, covers_less}
+use Rattle.group_board.proofs.Clients.{covers_more, covers_less}
 use Rattle.atomic_board.specs.declared.parcel.Parcel.{Parcel}
 use Rattle.atomic_board.specs.declared.parcel.Parcel.TheVariants as parcels
 use Rattle.atomic_board.specs.declared.seat_data.Origin.{Origin}

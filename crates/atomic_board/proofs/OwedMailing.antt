@@ -14,7 +14,7 @@ use Rattle.crash_core.specs.declared.names.Notices.{Notices}
 use Rattle.crash_core.specs.Shows.{notices_of}
 use Rattle.group_board.specs.Views.{after_receive}
 use Rattle.group_board.specs.Conditions.{MaySend}
-use Rattle.group_board.proofs.Keeping.{covers_less}
+use Rattle.group_board.proofs.Clients.{covers_less}
 use Rattle.atomic_board.specs.declared.parcel.Parcel.{Parcel}
 use Rattle.atomic_board.specs.declared.parcel.Parcel.TheVariants as parcels
 use Rattle.atomic_board.specs.declared.seat_data.Origin.{Origin}

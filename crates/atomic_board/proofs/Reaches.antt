@@ -2,7 +2,7 @@
 use Rattle.std.proofs.Common.{ℕ, List, [], ◌∷◌, ◌++◌, refl, subst}
 use Rattle.group_laws.specs.State.{Group}
 use Rattle.group_laws.specs.Runs.{Kind, IsStep, Runs}
-use Rattle.group_laws.proofs.Runs.{step_keeps}
+use Rattle.group_laws.proofs.Clients.{step_keeps}
 use Rattle.atomic_board.specs.declared.seat_data.Origin.{Origin}
 use Rattle.atomic_board.specs.Deeds.{began}
 use Rattle.atomic_board.specs.ShownState.{IsReached}

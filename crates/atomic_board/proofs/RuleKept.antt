@@ -23,7 +23,7 @@ use Rattle.atomic_board.proofs.Reaches.{step_reaches}
 use Rattle.crash_core.specs.declared.kinds.Change.{Change}
 use Rattle.group_laws.specs.MemberViews.{View}
 use Rattle.group_board.specs.Conditions.{IsFree, MayPost, MayLock, MayTake, MayUnlock, MayCommit, MayDoom}
-use Rattle.group_board.proofs.Facts.{posted_by}
+use Rattle.group_board.proofs.Clients.{posted_by}
 use Rattle.atomic_board.specs.declared.parcel.Parcel.{Parcel}
 use Rattle.atomic_board.specs.declared.seat_data.Origin.{Origin}
 use Rattle.atomic_board.specs.declared.seat_data.Holding.{Holding}

@@ -18,7 +18,7 @@ use Rattle.group_laws.specs.MemberViews.{view_of}
 use Rattle.group_board.specs.Conditions.{IsFree}
 use Rattle.group_board.specs.Journals.{place_in}
 use Rattle.group_board.specs.Tidies.{Covers}
-use Rattle.group_board.proofs.Picks.{here}
+use Rattle.group_board.proofs.Clients.{here}
 use Rattle.atomic_board.specs.declared.parcel.Parcel.{Parcel}
 use Rattle.atomic_board.specs.declared.seat_data.Origin.{Origin}
 use Rattle.atomic_board.specs.declared.seat_data.MailHold.{MailHold}

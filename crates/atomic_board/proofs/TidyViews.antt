@@ -11,8 +11,7 @@ use Rattle.group_laws.specs.Tidying.{IsSpent, TellsItself, IsTidy, Tidied}
 use Rattle.group_board.specs.Tidies.{Covers, tidied}
 use Rattle.group_laws.specs.MemberViews.{View}
 use Rattle.group_board.specs.Views.{TidiedIn}
-use Rattle.group_board.proofs.Keeping.{covers_more, covers_less}
-use Rattle.group_board.proofs.Tidies.{tidied_is}
+use Rattle.group_board.proofs.Clients.{covers_more, covers_less, tidied_is}
 use Rattle.atomic_board.specs.declared.seat_data.Origin.{Origin}
 use Rattle.atomic_board.specs.declared.seat_data.Deed.{Deed}
 use Rattle.atomic_board.specs.declared.seat_data.Deed.TheVariants.{Post, Lock, Found, Take, Unlock, Commit, Mark, Fail, Finish, GiveUp, Withdraw, Doom, Retire, Send, Receive}

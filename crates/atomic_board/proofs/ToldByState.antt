@@ -9,7 +9,7 @@ use Rattle.group_laws.specs.Places.{owner}
 use Rattle.group_laws.specs.Updates.{has}
 use Rattle.group_laws.specs.State.{Notices}
 use Rattle.group_laws.specs.MemberViews.{View}
-use Rattle.group_laws.proofs.Names.{has_In}
+use Rattle.group_laws.proofs.Clients.{has_In}
 use Rattle.group_board.specs.Assurances.{IsHome, IsHeard, IsOwnEntry, IsUnlogged}
 use Rattle.atomic_board.specs.declared.seat_data.Origin.{Origin}
 use Rattle.atomic_board.specs.declared.seat_data.Holding.{Holding}

@@ -19,8 +19,8 @@ use Rattle.group_laws.specs.State.{Group}
 use Rattle.group_laws.specs.OpeningImages.{IsBlank}
 use Rattle.group_laws.specs.Updates.{put2}
 use Rattle.group_laws.specs.MemberViews.{View, view_of, of_own}
-use Rattle.group_laws.proofs.Puts.{In-append_right}
-use Rattle.crash_core.proofs.Blank as blank
+use Rattle.group_laws.proofs.Clients.{In-append_right}
+use Rattle.crash_core.proofs.Clients.{no_last}
 use Rattle.group_board.specs.Journals.{image_of, place_in}
 use Rattle.group_board.specs.Views.{after_post, after_lock, after_find, after_take, after_unlock, after_commit, after_mark, after_finish, after_give_up, TidiedIn}
 use Rattle.group_board.specs.Conditions.{MayPost, MayLock, MayTake, MayMark, MayFinish}
@@ -87,7 +87,7 @@ begins ws s is_place is_blank at low own = record {
   holds = refl;
   whole = refl;
   empty = λ a t. refl;
-  last = ap (λ (x : ℕ). x + 1) (ap (λ (x : ℕ). of_own (place_in 0 ws) s.number s.number x 0) (blank.no_last (place_in 0 ws) is_place (image_of ws) is_blank s.number) ∙ none_own (eqb (owner (place_in 0 ws) s.number) s.number) 0);
+  last = ap (λ (x : ℕ). x + 1) (ap (λ (x : ℕ). of_own (place_in 0 ws) s.number s.number x 0) (no_last (place_in 0 ws) is_place (image_of ws) is_blank s.number) ∙ none_own (eqb (owner (place_in 0 ws) s.number) s.number) 0);
   idle = λ k. none_own (eqb (owner (place_in 0 ws) k) s.number) None;
 }
 

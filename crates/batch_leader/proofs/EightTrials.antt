@@ -5,7 +5,7 @@ use Rattle.std.proofs.lemmas.Bool.{ne_eqb, cases_eq}
 use Rattle.std.proofs.Math.ListN.{get_or-eq_default}
 use Rattle.pm_region.specs.Cell.{certain}
 use Rattle.pm_region.specs.State.{State, IsTelling, cell_now, InRange}
-use Rattle.pm_region.proofs.Cells.{certain_may_be}
+use Rattle.pm_region.proofs.Clients.{certain_may_be}
 use Rattle.chunk_map.specs.declared.layouts.Geometry.{Geometry}
 use Rattle.chunk_map.specs.declared.layouts.BadLayout.{BadLayout}
 use Rattle.chunk_map.specs.Checked.{checked_layout}
@@ -18,7 +18,7 @@ use Rattle.group_laws.specs.MemberViews.{View, view_of, of_own}
 use Rattle.group_laws.specs.OpeningImages.{IsBlank}
 use Rattle.group_laws.specs.declared.types.Pending.{Pending}
 use Rattle.crash_core.specs.declared.kinds.Change.{Change}
-use Rattle.crash_core.proofs.Blank as blank
+use Rattle.crash_core.proofs.Clients.{no_block, no_last, no_log}
 use Rattle.group_board.specs.Journals.{image_of}
 use Rattle.group_board.specs.Conditions.{IsFree, MayPost, MayLock}
 use Rattle.group_board.specs.Views.{after_post}
@@ -55,13 +55,13 @@ first_posted w is = subst (IsPosted 0) (sym is) (record {
   place = refl;
   each = λ m. record {
     whole = refl;
-    last = λ k. ap (λ (x : ℕ). of_own eight_place m k x 0) (blank.no_last eight_place eight_is_place (image_of eight_words) eight_blank k) ∙ none_own (eqb (owner eight_place k) m) 0;
+    last = λ k. ap (λ (x : ℕ). of_own eight_place m k x 0) (no_last eight_place eight_is_place (image_of eight_words) eight_blank k) ∙ none_own (eqb (owner eight_place k) m) 0;
     holds = refl;
     taken = λ a s. refl;
     flying = refl;
     unwritten = record {
-      kept = blank.no_log eight_place eight_is_place (image_of eight_words) eight_blank m;
-      blocks = λ q. blank.no_block eight_place eight_is_place (image_of eight_words) eight_blank m q;
+      kept = no_log eight_place eight_is_place (image_of eight_words) eight_blank m;
+      blocks = λ q. no_block eight_place eight_is_place (image_of eight_words) eight_blank m q;
     };
   };
   free = λ i le k e pends. (let both : None ≡ Some (record { entry = e; slot = Some (i % 8) }) = sym (nothing_pends (i / 8) k) ∙ pends in cc both);

@@ -3,7 +3,7 @@ use Rattle.std.proofs.Common.{◌≡◌, ◌≢◌, inl, inr, ℕ, ◌+◌, ◌*
 use Rattle.pm_region.specs.Cell.{Cell, certain, fenced}
 use Rattle.pm_region.specs.State.{State, IsTelling, cell_now}
 use Rattle.pm_region.specs.Words.{Kept}
-use Rattle.pm_region.proofs.Cells.{certain_may_be}
+use Rattle.pm_region.proofs.Clients.{certain_may_be}
 use Rattle.chunk_map.specs.declared.layouts.Geometry.{Geometry}
 use Rattle.chunk_map.specs.Layouts.{chunk_first, part_first, payload_lines}
 use Rattle.core_log.specs.Log.{LogState, first_of}

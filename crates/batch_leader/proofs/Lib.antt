@@ -7,3 +7,4 @@ pub mod WithdrawLaws
 pub mod Trials
 pub mod LeaderTrials
 pub mod EightTrials
+pub mod Clients

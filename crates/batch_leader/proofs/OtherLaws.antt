@@ -5,7 +5,7 @@ use Rattle.group_laws.specs.State.{Group}
 use Rattle.group_laws.specs.Runs.{Kind, Runs, IsStep}
 use Rattle.group_laws.specs.Runs.Kind.{Look, Take}
 use Rattle.group_laws.specs.MemberViews.{View, view_of}
-use Rattle.group_laws.proofs.Others.{frame}
+use Rattle.group_laws.proofs.Clients.{frame}
 use Rattle.group_board.specs.Seats.{SeatAt}
 use Rattle.group_board.specs.Told.{Makes}
 use Rattle.batch_leader.specs.declared.taken.Taken.{Taken}

@@ -1,7 +1,7 @@
 -- What a leader's view has of its round, as it grows.
 use Rattle.std.proofs.Common.{◌≡◌, ⊎_elim, ℕ, ◌+◌, List, [], ◌∷◌, ◌++◌, inl, sym, ◌∙◌, ap, subst, arith, append-nil, append_assoc}
 use Rattle.std.proofs.lemmas.Bool.{cases_lt}
-use Rattle.group_laws.proofs.Puts.{In-append_left, In-append_right}
+use Rattle.group_laws.proofs.Clients.{In-append_left, In-append_right}
 use Rattle.group_laws.specs.MemberViews.{View}
 use Rattle.group_laws.specs.declared.types.Seen.{Seen}
 use Rattle.group_laws.specs.declared.types.Seen.TheVariants.{Slot}

@@ -8,7 +8,7 @@ use Rattle.log_entry.specs.Batches.{IsBatch}
 use Rattle.store_image.specs.Facts.{In}
 use Rattle.group_laws.specs.Places.{Place}
 use Rattle.group_laws.specs.Updates.{put2}
-use Rattle.group_laws.proofs.Puts.{if2_into, In-append_right}
+use Rattle.group_laws.proofs.Clients.{if2_into, In-append_right}
 use Rattle.group_laws.specs.MemberViews.{View}
 use Rattle.group_board.specs.Views.{after_commit}
 use Rattle.batch_leader.specs.declared.taken.Taken.{Taken}

@@ -6,17 +6,16 @@ use Rattle.chunk_map.specs.declared.layouts.BadLayout.{BadLayout}
 use Rattle.std.proofs.Math.ListN.{get_or-eq_default}
 use Rattle.pm_region.specs.Cell.{certain}
 use Rattle.pm_region.specs.State.{State, IsTelling, cell_now, InRange}
-use Rattle.pm_region.proofs.Cells.{certain_may_be}
+use Rattle.pm_region.proofs.Clients.{certain_may_be}
 use Rattle.chunk_map.specs.declared.layouts.Geometry.{Geometry}
 use Rattle.chunk_map.specs.Layouts.{chunk_first, head_by, part_first, chunk_words, payload_lines}
-use Rattle.chunk_map.proofs.LayoutLaws.{chunk_in_part}
+use Rattle.chunk_map.proofs.Clients.{chunk_in_part}
 use Rattle.log_entry.specs.declared.entry.Entry.{Entry}
 use Rattle.store_image.specs.declared.types.PlacedEntry.{PlacedEntry}
 use Rattle.store_image.specs.Facts.{In}
 use Rattle.core_log.specs.Chunk.{lines_for}
 use Rattle.core_log.specs.Log.{LogState, IsOwn, tail_of, first_of}
-use Rattle.core_log.proofs.ChunkWords.{free_reads_well, free_has_none}
-use Rattle.core_log.proofs.ChunkImages.{InPart, part_of, part_reads_by}
+use Rattle.core_log.proofs.Clients.{free_reads_well, free_has_none, InPart, part_of, part_reads_by}
 use Rattle.group_laws.specs.Places.{Place, IsPlace, owner, core_of}
 use Rattle.group_laws.specs.State.{Group}
 use Rattle.group_laws.specs.MemberViews.{View, view_of, of_own}
@@ -24,7 +23,7 @@ use Rattle.group_laws.specs.Images.{IsLicensedBy}
 use Rattle.group_laws.specs.OpeningImages.{IsBlank}
 use Rattle.group_laws.specs.declared.types.Pending.{Pending}
 use Rattle.crash_core.specs.declared.kinds.Change.{Change}
-use Rattle.crash_core.proofs.Blank as blank
+use Rattle.crash_core.proofs.Clients.{no_block, no_last, no_log}
 use Rattle.group_board.specs.Journals.{image_of, place_in}
 use Rattle.group_board.specs.Conditions.{MayPost}
 use Rattle.group_board.specs.Trials.{small_words, fresh}
@@ -60,7 +59,7 @@ fresh_post m k low small_key own = record {
   own = own;
   idle = none_own (eqb (owner fresh.place k) m) None;
   whole = refl;
-  next = sym (ap (λ (x : ℕ). x + 1) (ap (λ (x : ℕ). of_own small m k x 0) (blank.no_last small small_place (image_of small_words) small_blank k) ∙ none_own (eqb (owner small k) m) 0));
+  next = sym (ap (λ (x : ℕ). x + 1) (ap (λ (x : ℕ). of_own small m k x 0) (no_last small small_place (image_of small_words) small_blank k) ∙ none_own (eqb (owner small k) m) 0));
   live = λ t. absurd (cc t);
   block = λ at t. absurd (cc t);
 }
@@ -71,8 +70,8 @@ key_1 = refl
 
 pub fresh_unwritten : (m : ℕ) → IsUnwritten (view_of fresh m)
 fresh_unwritten m = record {
-  kept = blank.no_log small small_place (image_of small_words) small_blank m;
-  blocks = λ q. blank.no_block small small_place (image_of small_words) small_blank m q;
+  kept = no_log small small_place (image_of small_words) small_blank m;
+  blocks = λ q. no_block small small_place (image_of small_words) small_blank m q;
 }
 
 -- an image of zeros is licensed where nothing is certain

@@ -1,6 +1,7 @@
 -- The states of a leader, and what the view has in each of the member m that leads, in a group at the place p. A seat says both; another seat of the same member will do as well.
 use Rattle.std.specs.Prelude.{◌≡◌, ◌≢◌, ◌⊎◌, ℕ, zero, suc, ◌+◌, ◌-◌, ◌*◌, ◌<◌, ◌≤◌, ◌==◌, Bool, true, false, List, [], ◌∷◌, ◌++◌, length, Option, Some, None, IfSome, IsSomeAnd}
 use Rattle.std.specs.List.{AllByRecursion}
+use Rattle.log_entry.specs.declared.entry_limits.TheConstants.{LONGEST_ENTRY, LONGEST_ENTRY_LINES, MOST_ENTRIES}
 use Rattle.log_entry.specs.Spelling.{words_of}
 use Rattle.store_image.specs.Facts.{In}
 use Rattle.core_log.specs.declared.types.Room.{Room}
@@ -52,7 +53,7 @@ pub record CollectsAt (p : Place) (m : ℕ) (v : View) (c : Collecting) : Type 0
   pub passed : AllByRecursion (IsFrom m c.at) (taken_by c)
   pub within : c.at ≤ round_end p
   pub own : c.own_lines ≡ own_lines m (taken_by c)
-  pub own_few : c.own_lines ≤ 5 * length (taken_by c)
+  pub own_few : c.own_lines ≤ LONGEST_ENTRY_LINES * length (taken_by c)
   pub unlogged : AreUnlogged m v (taken_by c)
 
 abbrev pub Collects : SeatAt → View → Collecting → Type 0
@@ -114,7 +115,7 @@ pub record Saw (old new : View) (m first end : ℕ) (P : ℕ → SlotState → T
 pub record Fits (room : Room) (lines : ℕ) (ts : List Taken) (fresh mine : Bool) (x : SlotState)
     (n : ℕ) : Type 0 where
   pub posted : x ≡ slots.Posted n
-  pub short : n ≤ 34
+  pub short : n ≤ LONGEST_ENTRY
   pub fits : fits room lines ts fresh mine n ≡ true
 
 -- The leader took the change of the slot at the position before `new.at`, which fits.
@@ -172,9 +173,9 @@ abbrev pub took : Collected → Bool
 took Took = true
 took RoundOver = false
 
--- the round is over: its last slot is behind, or 64 entries are there
+-- the round is over: its last slot is behind, or as many entries as a batch may have are there
 abbrev pub IsOver : SeatAt → Collecting → Type 0
-IsOver seat c = (c.at ≡ round_end seat.place) ⊎ (length (taken_by c) ≡ 64)
+IsOver seat c = (c.at ≡ round_end seat.place) ⊎ (length (taken_by c) ≡ MOST_ENTRIES)
 
 -- Own slots are the first 8 of the round. Those below a number were found not Posted.
 abbrev pub IsNotPosted : SlotState → Type 0

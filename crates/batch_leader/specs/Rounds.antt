@@ -1,5 +1,6 @@
 -- The round of a leader: which slots it looks at, in order, and which entries fit.
 use Rattle.std.specs.Prelude.{◌≡◌, ℕ, ◌+◌, ◌-◌, ◌*◌, ◌/◌, ◌%◌, ◌==◌, ◌&&◌, ◌||◌, not, nat_le, nat_lt, Bool, true, false, List, [], ◌∷◌, length, if◌then◌else◌}
+use Rattle.log_entry.specs.declared.entry_limits.TheConstants.{LONGEST_ENTRY}
 use Rattle.log_entry.specs.Spelling.{words_of}
 use Rattle.core_log.specs.declared.types.Room.{Room}
 use Rattle.core_log.specs.Chunk.{lines_for}
@@ -61,10 +62,10 @@ unfoldable pub leaves_room : Room → ℕ → List Taken → Bool → ℕ → Bo
 leaves_room room own ts fresh n = nat_le (room.pledged_lines - own)
     (left_open room ts fresh n) || nat_le 2 (left_free room fresh)
 
--- An entry of so many words (no entry has more than 34) fits into a batch whose own entries take `own` lines: an own one where it is the first or the chunk has room; another's where that holds and room is left. That there is a chunk for the batch is asked of an own one too; where the room rule is kept, there is.
+-- An entry of so many words (no entry is longer than the longest) fits into a batch whose own entries take `own` lines: an own one where it is the first or the chunk has room; another's where that holds and room is left. That there is a chunk for the batch is asked of an own one too; where the room rule is kept, there is.
 unfoldable pub fits : Room → ℕ → List Taken → Bool → Bool → ℕ → Bool
 fits room own ts fresh mine n =
-    nat_le n 34 && (stays_in room ts (goes_fresh room ts fresh n) n &&
+    nat_le n LONGEST_ENTRY && (stays_in room ts (goes_fresh room ts fresh n) n &&
     (has_chunk room (goes_fresh room ts fresh n) &&
     (mine || leaves_room room own ts (goes_fresh room ts fresh n) n)))
 

@@ -1,22 +1,23 @@
 // What a leader took, until it is written.
 ghost use Rattle.std.specs.Prelude.{◌≡◌, ◌≢◌, ℕ, ◌+◌, ◌*◌, ◌≤◌, ◌<◌, List, [], ◌∷◌, ◌++◌, length, vec_capacity, MatchOption};
 ghost use Rattle.log_entry.specs.Spelling.{words_of, HasSpelling};
+ghost use Rattle.log_entry.specs.declared.entry_limits.TheConstants.{LONGEST_ENTRY, MOST_ENTRIES, MOST_BATCH_WORDS};
 ghost use Rattle.batch_leader.specs.TakenChanges.{name_in, spelled, MatchBool};
 
 use crate::batch_buffer::BatchBuffer;
 use crate::taken::Taken;
 use crash_core::Change;
-use log_entry::{EntryName, WordBuffer, entry_words, write_entry};
+use log_entry::{EntryName, MOST_BATCH_WORDS, MOST_ENTRIES, WordBuffer, entry_words, write_entry};
 
 /// The changes that a leader took, in order, with the words of their entries.
 #[derive(Drop)]
 pub struct Changes {
     pub taken: Vec<Taken>,
     pub words: WordBuffer,
-    ghost places: { 64 ≤ vec_capacity taken },
-    ghost room: { 2176 ≤ words.room },
-    ghost few: { length taken.items ≤ 64 },
-    ghost short: { length words.words ≤ 34 * length taken.items },
+    ghost places: { MOST_ENTRIES ≤ vec_capacity taken },
+    ghost room: { MOST_BATCH_WORDS ≤ words.room },
+    ghost few: { length taken.items ≤ MOST_ENTRIES },
+    ghost short: { length words.words ≤ LONGEST_ENTRY * length taken.items },
     ghost written: { words.words ≡ spelled taken.items },
 }
 
@@ -52,14 +53,14 @@ impl Changes {
 
     pub fn word_count(&self) -> u64
         ensures count { result ≡ length (spelled self.now.taken.items) }
-        ensures few { result ≤ 2176 }
+        ensures few { result ≤ MOST_BATCH_WORDS }
     {
         self.words.words().len() as u64
     }
 
     /// Appends a change, with the words of its entry.
     pub fn add(&mut self, member: u32, slot: u32, change: Change)
-        requires few { length self.old.taken.items < 64 }
+        requires few { length self.old.taken.items < MOST_ENTRIES }
         requires spelled { HasSpelling change.entry }
         ensures { self.new.taken.items
             ≡ self.old.taken.items ++ (record {

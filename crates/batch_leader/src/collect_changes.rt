@@ -12,12 +12,13 @@ ghost use Rattle.batch_leader.specs.Leading.{Collects, Suits, Takes, Went, SawPa
 ghost use Rattle.batch_leader.specs.Rounds.{fits, member_at, slot_at, round_end};
 ghost use Rattle.batch_leader.specs.declared.states.Collected.TheVariants as answers;
 
-use crate::batch_buffer::MOST_ENTRIES;
 use crate::fitting::own_share;
-use crate::round::{member_at, slot_at};
+use crate::round::{SLOTS, member_at, slot_at};
 use crate::states::{Batch, Collected, Collecting, Released};
+use chunk_map::layout_sizes::MOST_GROUP;
 use core_log::Room;
 use group_board::Board;
+use log_entry::{LONGEST_ENTRY, LONGEST_ENTRY_LINES, MOST_ENTRIES};
 
 impl Collecting {
     // Takes the change of the slot at the round's position, which a look found Posted and which fits.
@@ -32,15 +33,15 @@ impl Collecting {
     )
         requires collects { Collects (B.seat board.old) (B.view board.old) self.old }
         requires whole { (B.view board.old).broken ≡ false }
-        requires few { length (taken_by self.old) < 64 }
+        requires few { length (taken_by self.old) < MOST_ENTRIES }
         requires within { self.old.at < round_end (B.seat board.old).place }
         requires suits { Suits room.now self.old }
-        requires group { members (B.seat board.old).place ≤ 8 }
-        requires room { 5 ≤ room.now.payload_lines }
+        requires group { members (B.seat board.old).place ≤ MOST_GROUP }
+        requires room { LONGEST_ENTRY_LINES ≤ room.now.payload_lines }
         requires own { own ≡ (B.seat board.old).number }
         requires member { member ≡ member_at (B.seat board.old).number self.old.at }
         requires slot { slot ≡ slot_at self.old.at }
-        requires short { count ≤ 34 }
+        requires short { count ≤ LONGEST_ENTRY }
         requires seen { In (loads.Slot member slot (words.Posted count)) (B.view board.old).looked }
         requires fits { fits room.now self.old.own_lines (taken_by self.old) self.old.fresh
             (member == own) count ≡ true }
@@ -68,11 +69,11 @@ impl Collecting {
     fn visit<B: Board>(&mut self, board: &mut B, room: &Room) -> bool
         requires collects { Collects (B.seat board.old) (B.view board.old) self.old }
         requires whole { (B.view board.old).broken ≡ false }
-        requires few { length (taken_by self.old) < 64 }
+        requires few { length (taken_by self.old) < MOST_ENTRIES }
         requires within { self.old.at < round_end (B.seat board.old).place }
         requires suits { Suits room.now self.old }
-        requires group { members (B.seat board.old).place ≤ 8 }
-        requires room { 5 ≤ room.now.payload_lines }
+        requires group { members (B.seat board.old).place ≤ MOST_GROUP }
+        requires room { LONGEST_ENTRY_LINES ≤ room.now.payload_lines }
         ensures seat { B.seat board.new ≡ B.seat board.old }
         ensures collects { Collects (B.seat board.old) (B.view board.new) self.new }
         ensures suits { Suits room.now self.new }
@@ -103,13 +104,14 @@ impl Collecting {
 
     /// Goes on with the round: looks at the slots from where it stands, first the own ones, then those of the other
     /// members by rising number, and takes the first change that it finds Posted and that fits. It answers RoundOver
-    /// exactly where the round's end is reached or 64 entries are held. The room is that of the own part.
+    /// exactly where the round's end is reached, or the batch has as many entries as it may. The room is that of the
+    /// own part.
     pub fn collect<B: Board>(&mut self, board: &mut B, room: &Room) -> Collected
         requires collects { Collects (B.seat board.old) (B.view board.old) self.old }
         requires whole { (B.view board.old).broken ≡ false }
         requires suits { Suits room.now self.old }
-        requires group { members (B.seat board.old).place ≤ 8 }
-        requires room { 5 ≤ room.now.payload_lines }
+        requires group { members (B.seat board.old).place ≤ MOST_GROUP }
+        requires room { LONGEST_ENTRY_LINES ≤ room.now.payload_lines }
         ensures seat { B.seat board.new ≡ B.seat board.old }
         ensures collects { Collects (B.seat board.old) (B.view board.new) self.new }
         ensures suits { Suits room.now self.new }
@@ -124,7 +126,7 @@ impl Collecting {
             (steps_of (took result) (B.seat board.old).number self.old self.new)
             (B.whole board.new) (B.seat board.old).number (B.view board.new) }
     {
-        let end = 8 * board.members();
+        let end = SLOTS * board.members();
         'round: while self.changes.count() < MOST_ENTRIES && self.at < end {
             if self.visit(board, room) {
                 return Collected::Took;

@@ -7,9 +7,8 @@ ghost use Rattle.batch_leader.specs.Rounds.{fits, Passes, goes_fresh, stays_in, 
 use crate::states::Collecting;
 use core_log::Room;
 use group_board::SlotState;
-
-/// The most words of an entry.
-const LONGEST_ENTRY: u64 = 34;
+use log_entry::{LONGEST_ENTRY, LONGEST_ENTRY_LINES};
+use pm_region::LINE_WORDS;
 
 // The lines that are free for the batch in its chunk.
 fn space(room: &Room, fresh: bool) -> u64
@@ -42,22 +41,26 @@ fn has_chunk(room: &Room, fresh: bool) -> bool
 
 /// The lines of an entry of so many words, where it is an own one.
 pub fn own_share(own: u32, member: u32, count: u64) -> u64
-    requires { count ≤ 34 }
+    requires { count ≤ LONGEST_ENTRY }
     ensures share { result ≡ (if member == own then lines_for count else 0) }
-    ensures few { result ≤ 5 }
+    ensures few { result ≤ LONGEST_ENTRY_LINES }
 {
-    if member == own { (count + 7) / 8 } else { 0 }
+    if member == own {
+        count.div_ceil(LINE_WORDS)
+    } else {
+        0
+    }
 }
 
 impl Collecting {
     /// Whether the batch goes into a fresh chunk, once an entry of so many words is taken.
     #[tactic(auto, unfolding(crate::specs::Rounds::goes_fresh))]
     pub(crate) fn goes_fresh(&self, words: u64, room: &Room) -> bool
-        requires { words ≤ 34 }
+        requires { words ≤ LONGEST_ENTRY }
         ensures { result ≡ goes_fresh room.now (taken_by self.now) self.now.fresh words }
     {
         if self.changes.is_empty() {
-            room.open_lines < (words + 7) / 8
+            room.open_lines < words.div_ceil(LINE_WORDS)
         } else {
             self.fresh
         }
@@ -65,15 +68,15 @@ impl Collecting {
 
     // The lines of the batch with so many words more.
     fn lines_with(&self, words: u64) -> u64
-        requires { words ≤ 34 }
+        requires { words ≤ LONGEST_ENTRY }
         ensures { result ≡ lines_for (words_in (taken_by self.now) + words) }
     {
-        (self.changes.word_count() + words + 7) / 8
+        (self.changes.word_count() + words).div_ceil(LINE_WORDS)
     }
 
     #[tactic(auto, unfolding(crate::specs::Rounds::stays_in))]
     fn stays_in(&self, fresh: bool, words: u64, room: &Room) -> bool
-        requires { words ≤ 34 }
+        requires { words ≤ LONGEST_ENTRY }
         ensures { result ≡ stays_in room.now (taken_by self.now) fresh words }
     {
         self.changes.is_empty() || self.lines_with(words) <= space(room, fresh)
@@ -81,7 +84,7 @@ impl Collecting {
 
     #[tactic(auto, unfolding(crate::specs::Rounds::leaves_room))]
     fn leaves_room(&self, fresh: bool, words: u64, room: &Room) -> bool
-        requires { words ≤ 34 }
+        requires { words ≤ LONGEST_ENTRY }
         ensures { result ≡ leaves_room room.now self.now.own_lines (taken_by self.now) fresh words }
     {
         let left = space(room, fresh).saturating_sub(self.lines_with(words));
@@ -92,7 +95,7 @@ impl Collecting {
     // An entry of so many words fits into the batch.
     #[tactic(auto, unfolding(crate::specs::Rounds::fits))]
     fn fits(&self, mine: bool, words: u64, room: &Room) -> bool
-        requires { words ≤ 34 }
+        requires { words ≤ LONGEST_ENTRY }
         ensures { result ≡ fits room.now self.now.own_lines
             (taken_by self.now) self.now.fresh mine words }
     {

@@ -1,5 +1,6 @@
 // What a leader has to give back, after its batch was written or could not be written.
 ghost use Rattle.std.specs.Prelude.{◌≡◌, ◌≢◌, ◌≤◌, [], ◌∷◌, vec_capacity, is_some, MatchOption};
+ghost use Rattle.log_entry.specs.declared.entry_limits.TheConstants.{MOST_ENTRIES, MOST_BATCH_WORDS};
 ghost use Rattle.batch_leader.specs.TakenChanges.{MatchBool, taken_in};
 
 use crate::batch_buffer::BatchBuffer;
@@ -12,8 +13,8 @@ use log_entry::WordBuffer;
 pub struct Returning {
     pub taken: Vec<Taken>,
     pub words: WordBuffer,
-    ghost places: { 64 ≤ vec_capacity taken },
-    ghost room: { 2176 ≤ words.room },
+    ghost places: { MOST_ENTRIES ≤ vec_capacity taken },
+    ghost room: { MOST_BATCH_WORDS ≤ words.room },
 }
 
 impl Returning {

@@ -2,11 +2,14 @@
 ghost use Rattle.std.specs.Prelude.{◌≡◌, ◌*◌, ◌<◌, ◌≤◌};
 ghost use Rattle.batch_leader.specs.Rounds.{member_at, slot_at};
 
+/// How many slots a member has.
+pub const SLOTS: u32 = 8;
+
 /// Whose slot stands at a position of the round of a member.
 pub fn member_at(own: u32, position: u32) -> u32
     ensures { result ≡ member_at own position }
 {
-    let row = position / 8;
+    let row = position / SLOTS;
     if row == 0 {
         own
     } else if row <= own {
@@ -19,5 +22,5 @@ pub fn member_at(own: u32, position: u32) -> u32
 pub fn slot_at(position: u32) -> u32
     ensures { result ≡ slot_at position }
 {
-    position % 8
+    position % SLOTS
 }

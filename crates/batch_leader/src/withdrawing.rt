@@ -4,11 +4,9 @@ ghost use Rattle.batch_leader.specs.Leading.{Collects, TakesBack, FindsNone, Saw
 ghost use Rattle.batch_leader.specs.TakenChanges.{MatchBool};
 ghost use Rattle.group_board.specs.declared.board.SlotState.TheVariants as slots;
 
+use crate::round::SLOTS;
 use crate::states::Collecting;
 use group_board::{Board, Change, SlotState};
-
-/// How many slots a member has.
-const SLOTS: u32 = 8;
 
 fn is_posted(found: SlotState) -> bool
     ensures { MatchBool result ((n : ℕ) × (found ≡ slots.Posted n)) (IsNotPosted found) }
@@ -37,7 +35,7 @@ impl Collecting {
             (B.view board.old) (B.view board.new)) }
         // Where it took nothing back, its view has what it loaded of each own slot.
         ensures seen { result ≡ Option.None → SawNonePosted (B.seat board.old).number
-            (B.view board.old) (B.view board.new) 8 }
+            (B.view board.old) (B.view board.new) SLOTS }
     {
         let own = board.member();
         'slots: for slot in 0..SLOTS {

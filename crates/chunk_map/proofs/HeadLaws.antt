@@ -4,8 +4,7 @@ use Rattle.std.proofs.lemmas.Bool.{cases_eq, and_from, eq-eqb, ne_eqb, le-leb, c
 use Rattle.pm_region.specs.Cell.{MayBe}
 use Rattle.pm_region.specs.State.{State, IsTelling, cell_now, During}
 use Rattle.pm_region.specs.Words.{EachIn}
-use Rattle.pm_region.proofs.Moments.{weaken}
-use Rattle.pm_region.proofs.Cells.{may_be_last}
+use Rattle.pm_region.proofs.Clients.{weaken, may_be_last}
 use Rattle.chunk_map.specs.declared.layouts.Geometry.{Geometry}
 use Rattle.chunk_map.specs.declared.heads.Head.{Head}
 use Rattle.chunk_map.specs.declared.heads.Head.TheVariants.{Free, Log, Data}

@@ -1,3 +1,4 @@
 pub mod LayoutLaws
 pub mod SuperLaws
 pub mod HeadLaws
+pub mod Clients

@@ -4,10 +4,7 @@ use Rattle.pm_region.specs.Cell.{Cell, certain, fenced, flush_line, fence_range,
 use Rattle.pm_region.specs.State.{State, Frame, IsTelling, cell_now, Goes, During}
 use Rattle.pm_region.specs.Words.{KeepsOutside, Surely, MayLeaveIn, EachIn, Sets}
 use Rattle.pm_region.specs.declared.region.RegionFault.{RegionFault}
-use Rattle.pm_region.proofs.Moments.{weaken, goes_on, then_on, at_exit, told_at_entry}
-use Rattle.pm_region.proofs.Narrow.{kept_narrows, surely_narrows, surely_certain, flush_narrows, fence_narrows}
-use Rattle.pm_region.proofs.Cells.{flush_here, fence_here}
-use Rattle.pm_region.proofs.Runs.{fence_on}
+use Rattle.pm_region.proofs.Clients.{weaken, goes_on, then_on, at_exit, told_at_entry, kept_narrows, surely_narrows, surely_certain, flush_narrows, fence_narrows, flush_here, fence_here, fence_on}
 use Rattle.std.proofs.lemmas.Bool.{and_from, and_left, eq-eqb, le-leb, cond-true, cond-false}
 use Rattle.chunk_map.specs.declared.layouts.Geometry.{Geometry}
 use Rattle.chunk_map.specs.Layouts.{magic, layout_of, layout_rule, IsLayout, total_bytes, superblock_rule}

@@ -2,7 +2,7 @@
 ghost use Rattle.std.specs.Prelude.{◌≡◌, ◌<◌, ◌≤◌, length, slice_index_or, vec_len, vec_capacity, None};
 ghost use Rattle.conflict_queue.specs.Chains.{IsTable, all_held, held_at, none, IsPlace, Extends, Shortens};
 
-use crate::nodes::{Node, exchange, key_of, link};
+use crate::nodes::{Node, exchange, link};
 use crate::types::Held;
 use fs_model::Key;
 
@@ -37,7 +37,7 @@ pub fn add_last(nodes: &mut Vec<Node>, chains: &mut Vec<Chain>, node: u32, held:
         held }
     ensures capacity { vec_capacity chains.old ≤ vec_capacity chains.new }
 {
-    let key = key_of(&held.request);
+    let key = held.request.key();
     let place = place_of(chains, key);
     let new = Node {
         held: Some(held),

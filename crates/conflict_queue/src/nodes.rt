@@ -1,11 +1,9 @@
 // The places, which are linked by their numbers.
 ghost use Rattle.std.specs.Prelude.{◌≡◌, ◌-◌, ◌<◌, length, slice_index_or, vec_len, vec_capacity, slice_set, IfOk, Some, None};
-ghost use Rattle.fs_model.specs.Cells.{key_of};
 ghost use Rattle.conflict_queue.specs.Chains.{AllFree, bare, node_with};
 
 use crate::types::Held;
 use fs_errors::Memory;
-use fs_model::{Key, Request};
 use std::alloc::Global;
 use std::mem::replace;
 
@@ -18,17 +16,6 @@ pub const NODES: u32 = 64;
 pub struct Node {
     pub held: Option<Held>,
     pub next: Option<u32>,
-}
-
-/// The key that a request is about.
-pub fn key_of(request: &Request) -> Key
-    ensures { result ≡ key_of request.now }
-{
-    match request {
-        Request::Put { key, .. } => *key,
-        Request::Get { key } => *key,
-        Request::Delete { key } => *key,
-    }
 }
 
 /// Free places, each linked to the one before.

@@ -1,5 +1,4 @@
 // 64 requests of three keys, and a long script against a plain queue.
-use crate::nodes::key_of;
 use crate::{ConflictQueue, Held, NoNode};
 use fs_errors::Memory;
 use fs_model::{Key, Request};
@@ -30,7 +29,7 @@ impl PlainQueue {
 
     fn release(&mut self, key: Key) -> Option<Held> {
         for i in 0..self.held.len() {
-            if key_of(&self.held[i].request) == key {
+            if self.held[i].request.key() == key {
                 return Some(self.held.remove(i));
             }
         }
@@ -41,7 +40,7 @@ impl PlainQueue {
 fn number_and_key(held: &Option<Held>) -> Option<(u64, Key)> {
     match held {
         None => None,
-        Some(held) => Some((held.number, key_of(&held.request))),
+        Some(held) => Some((held.number, held.request.key())),
     }
 }
 

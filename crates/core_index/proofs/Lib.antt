@@ -4,6 +4,11 @@ pub mod DeadLaws
 pub mod SlotLaws
 pub mod NoticeLaws
 pub mod StepLaws
+pub mod OverLaws
+pub mod TombLaws
+pub mod LiveLaws
+pub mod StartLaws
+pub mod PlaceLaws
 pub mod IndexLaws
 pub mod ListingLaws
 pub mod Clients

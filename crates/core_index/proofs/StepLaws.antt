@@ -73,6 +73,10 @@ pub on_ok : {T E P Q : Type 0} (r : Result T E) → (P → Q) → OnOk r P → O
 on_ok (Ok x) f p = f p
 on_ok (Err e) f p = tt
 
+pub err_is : {T E P : Type 0} (r : Result T E) → P → OnErr r P
+err_is (Ok x) p = tt
+err_is (Err e) p = p
+
 pub on_err : {T E P Q : Type 0} (r : Result T E) → (P → Q) → OnErr r P → OnErr r Q
 on_err (Ok x) f p = tt
 on_err (Err e) f p = f p
@@ -95,8 +99,8 @@ fewer_of v w home n one =
     let less = fewer_untold waits.found.standing n home waits.stands in
     omega (arith, now, before, less)
 
-pub told_at : (es fs : List (ℕ × Place)) (home : ℕ) (n : EntryName) (v w : Place) → place_at es n.key ≡ Some v → fs ≡ set_value (is_at (nat_cmp n.key)) es w → Step es fs n.key (Some w) → TellsOne v w home n.version → mortal w ≤ mortal v → ToldAt es fs home n
-told_at es fs home n v w at is step one le =
+pub told_at : (es fs : List (ℕ × Place)) (home : ℕ) (n : EntryName) (v w : Place) → place_at es n.key ≡ Some v → fs ≡ set_value (is_at (nat_cmp n.key)) es w → Step es fs n.key (Some w) → TellsOne v w home n.version → ToldAt es fs home n
+told_at es fs home n v w at is step one =
     let known : known_at es n.key ≡ v.known = ap known_in at in
     let room : room_at es n.key ≡ v.room = ap room_in at in
     let now : known_at fs n.key ≡ w.known = ap known_in step.here in
@@ -106,10 +110,10 @@ told_at es fs home n v w at is step one le =
         change = record { here = now ∙ ap (λ (p : Place). p.known) one.told ∙ ap (option_map (told_in n.version)) (sym known); others = λ j ne. ap known_in (step.others j ne) };
         room = step_room es fs n.key (Some w) step (ap (λ (p : Place). p.room) one.told ∙ sym room);
       };
+      others = step.others;
       waits = λ v' h after.
           let both = one.others v' h (subst (λ (o : Option KeyRecord). Awaits o h v') now after) in
           (both.0, subst (λ (o : Option KeyRecord). Awaits o h v') (sym known) both.1);
-      count = let sum = step.count in let a : mortal_in (place_at es n.key) ≡ mortal v = ap mortal_in at in omega (arith, sum, a, le);
       fewer =
           let sum = sum_by-set_value untold_in (is_at (nat_cmp n.key)) es v w at in
           let a : all_untold fs ≡ sum_by untold_in (values_of (set_value (is_at (nat_cmp n.key)) es w)) = ap all_untold is in
@@ -117,13 +121,17 @@ told_at es fs home n v w at is step one le =
           omega (arith, sum, a, e);
     }
 
+pub told_mortal : (es fs : List (ℕ × Place)) (k : ℕ) (v w : Place) → place_at es k ≡ Some v → Step es fs k (Some w) → mortal w ≤ mortal v → all_mortal fs ≤ all_mortal es
+told_mortal es fs k v w at step le = let sum = step.count in let a : mortal_in (place_at es k) ≡ mortal v = ap mortal_in at in omega (arith, sum, a, le)
+
 room_mortal : (o : Option Place) → room_in o ≤ mortal_in o
 room_mortal None = omega arith
 room_mortal (Some p) = omega arith
 
 pub forgets_keeping : (es fs : List (ℕ × Place)) (k : ℕ) → Step es fs k (Some (record { known = None; room = room_at es k })) → Forgets es fs k
 forgets_keeping es fs k step = record {
-  change = step_known es fs k (Some (record { known = None; room = room_at es k })) step;
+  here = ap known_in step.here;
+  others = step.others;
   room = step_room es fs k (Some (record { known = None; room = room_at es k })) step refl;
   count = let sum = step.count in let le = room_mortal (place_at es k) in omega (arith, sum, le);
 }
@@ -133,7 +141,8 @@ forgets_all es fs gs k first second none =
     let a = forgets_keeping es fs k first in
     let room : room_in None ≡ room_at fs k = sym (ap room_in first.here ∙ none) in
     record {
-      change = record { here = ap known_in second.here; others = λ j ne. ap known_in (second.others j ne) ∙ a.change.others j ne };
+      here = ap known_in second.here;
+      others = λ j ne. second.others j ne ∙ a.others j ne;
       room = λ j. step_room fs gs k None second room j ∙ a.room j;
       count = let sum = second.count in let le = a.count in omega (arith, sum, le);
     }

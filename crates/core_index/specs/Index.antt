@@ -1,14 +1,21 @@
 -- The index as its callers see it: a map from keys to records, with room for so many changes of a key to come.
-use Rattle.std.specs.Prelude.{◌≡◌, ◌≢◌, ℕ, ◌+◌, ◌≤◌, ◌==◌, List, [], ◌∷◌, ◌++◌, if◌then◌else◌, Option, Some, None, option_map}
+use Rattle.std.specs.Prelude.{◌≡◌, ◌≢◌, ◌⊎◌, ◌<◌, ℕ, ◌+◌, ◌≤◌, ◌==◌, List, [], ◌∷◌, ◌++◌, if◌then◌else◌, Option, Some, None, option_map}
 use Rattle.std.specs.List.{sum_by, AllByRecursion}
 use Rattle.std.specs.Map.{lookup, values_of}
 use Rattle.std.specs.BTreeMap.{is_at}
 use Rattle.std.specs.Ordering.{nat_cmp}
+use Rattle.log_entry.specs.declared.entry.Body.{Body}
 use Rattle.log_entry.specs.declared.entry.EntryName.{EntryName}
 use Rattle.core_index.specs.declared.types.Record.{Record}
+use Rattle.core_index.specs.declared.types.LiveKey.{LiveKey}
+use Rattle.core_index.specs.declared.types.Tombstone.{Tombstone}
 use Rattle.core_index.specs.Records.{KeyRecord, Awaits, told_in, count_untold, standing_of, without, live_version, opened}
-use Rattle.core_index.specs.Slots.{Place, mortal}
+use Rattle.core_index.specs.Slots.{Place, mortal, alive_at, count_of}
 use Rattle.core_index.specs.Noted.{Book, Noted, name_with}
+use Rattle.core_index.specs.declared.start_keys.StartKeys.{StartKeys}
+use Rattle.core_index.specs.Lives.{FitsLive, placed_lives}
+use Rattle.core_index.specs.Starts.{started, IsAhead}
+use Rattle.core_index.specs.Tombs.{Tombs, Ahead, AreLess, key_of, left_of, placed}
 
 abbrev pub place_at : List (ℕ × Place) → ℕ → Option Place
 place_at es k = lookup (is_at (nat_cmp k)) es
@@ -64,12 +71,12 @@ pub record Tells (old new : List (ℕ × Place)) (home : ℕ) (n : EntryName) : 
   pub change : Changes old new n.key (option_map (told_in n.version) (known_at old n.key))
   pub room : SameRoom old new
 
--- the same, with which entries wait afterwards, and how many may still die or be told
+-- the same, with which entries wait afterwards, and how many are still to be told
 pub record ToldAt (old new : List (ℕ × Place)) (home : ℕ) (n : EntryName) : Type 0 where
   pub tells : Tells old new home n
+  pub others : (j : ℕ) → j ≢ n.key → place_at new j ≡ place_at old j
   pub waits : (w h : ℕ) → Awaits (known_at new n.key) h w → (w ≢ n.version)
       × Awaits (known_at old n.key) h w
-  pub count : all_mortal new ≤ all_mortal old
   pub fewer : all_untold new + 1 ≡ all_untold old
 
 abbrev pub gone_place : ℕ → Place → Place
@@ -77,7 +84,8 @@ gone_place v p = record { known = option_map (without v) p.known; room = p.room 
 
 -- The key has no record any more. Its room stays.
 pub record Forgets (old new : List (ℕ × Place)) (k : ℕ) : Type 0 where
-  pub change : Changes old new k None
+  pub here : known_at new k ≡ None
+  pub others : (j : ℕ) → j ≢ k → place_at new j ≡ place_at old j
   pub room : SameRoom old new
   pub count : all_mortal new ≤ all_mortal old
 
@@ -86,10 +94,54 @@ abbrev pub opened_in : List Record → ℕ → Option KeyRecord
 opened_in [] k = None
 opened_in (r ∷ rs) k = if r.key == k then Some (opened r) else opened_in rs k
 
--- What is true of the index's fields between two calls: each entry that waits to be told is noted, and there is
--- room for every name that may still die.
-pub record IsIndex (es : List (ℕ × Place)) (b : Book) : Type 0 where
-  pub noted : (k v h : ℕ) → Awaits (known_at es k) h v → Noted b h (name_with k v)
+-- what the first list has, or else the second one
+abbrev pub over : Option Place → Option Place → Option Place
+over None o = o
+over (Some p) o = Some p
+
+-- What the index keeps of all keys: a key of the map is there, whatever the lists of the start have of it.
+abbrev pub all_places : List (ℕ × Place) → StartKeys → List (ℕ × Place)
+all_places es a = es ++ started a
+
+-- A deleted key has this record now, and every other one what it had. No home was asked about more of them.
+pub record Turns (old new : Tombs) (k : ℕ) (now : Option KeyRecord) : Type 0 where
+  pub here : known_at (placed new.items) k ≡ now
+  pub others : (j : ℕ) → j ≢ k → place_at (placed new.items) j ≡ place_at (placed old.items) j
+  pub ahead : (home : ℕ) (n : EntryName) → Ahead old home n → Ahead new home n
+
+-- The key fits into the list of deleted keys by this, and is nowhere yet.
+pub record IsCompact (es : List (ℕ × Place)) (a : StartKeys) (k v : ℕ) (known : KeyRecord)
+    (t : Tombstone) : Type 0 where
+  pub new : place_at es k ≡ None
+  pub apart : place_at (placed_lives a.live) k ≡ None
+  pub above : AreLess a.deleted.items k
+  pub key : key_of t ≡ k
+  pub home : t.home < 16
+  pub version : t.version ≡ v
+  pub left : left_of t ≡ Some known
+
+-- The key fits into the list of keys with a value by this, and is not in the map.
+pub record IsCompactLive (es : List (ℕ × Place)) (a : StartKeys) (k : ℕ) (body : Body)
+    (known : KeyRecord) (x : LiveKey) : Type 0 where
+  pub new : place_at es k ≡ None
+  pub fits : FitsLive a.live k body known x
+
+-- The key has room for one more change, and is in the map.
+pub record Admits (es fs : List (ℕ × Place)) (a b : StartKeys) (k : ℕ) : Type 0 where
+  pub here : place_at fs k ≡ Some (record {
+    known = known_at (all_places es a) k;
+    room = room_at es k + 1;
+  })
+  pub others : (j : ℕ) → j ≢ k → place_at fs j ≡ place_at es j
+  pub others_left : (j : ℕ) → j ≢ k → place_at (started b) j ≡ place_at (started a) j
+  pub ahead : (home : ℕ) (n : EntryName) → IsAhead a home n → IsAhead b home n
+  pub count : all_mortal fs ≤ all_mortal es + 1 + count_of (alive_at (known_at (started a) k))
+
+-- What is true of the index's fields between two calls: each entry that waits to be told is noted, or its home will be
+-- asked about it, and there is room for every name that may still die.
+pub record IsIndex (es : List (ℕ × Place)) (a : StartKeys) (b : Book) : Type 0 where
+  pub noted : (k v h : ℕ) → Awaits (known_at (all_places es a) k) h v
+      → Noted b h (name_with k v) ⊎ IsAhead a h (name_with k v)
   pub spare : all_mortal es ≤ b.spare
 
 -- the live keys with their versions, in the order of the entries
@@ -105,11 +157,11 @@ live_names (e ∷ es) = live_name e.0 (live_version e.1.known) ++ live_names es
 abbrev pub HasNoneAbove : Record → Type 0
 HasNoneAbove r = AllByRecursion (λ s. s.version ≤ r.version) r.standing.items
 
--- a record of the start was put in
-pub record Entered (old new : List (ℕ × Place)) (r : Record) : Type 0 where
-  pub change : Changes old new r.key (Some (opened r))
-  pub none : room_at new r.key ≡ 0
-  pub room : (j : ℕ) → j ≢ r.key → room_at new j ≡ room_at old j
+-- The key has this record now and no room, and every other key what it had.
+pub record EntersAs (old new : List (ℕ × Place)) (k : ℕ) (known : KeyRecord) : Type 0 where
+  pub change : Changes old new k (Some known)
+  pub none : room_at new k ≡ 0
+  pub room : (j : ℕ) → j ≢ k → room_at new j ≡ room_at old j
 
 -- Of all records these are left, and the index has the others.
 pub record Entering (all left : List Record) (es : List (ℕ × Place)) : Type 0 where
@@ -117,3 +169,18 @@ pub record Entering (all left : List Record) (es : List (ℕ × Place)) : Type 0
   pub split : all ≡ left ++ done
   pub known : (k : ℕ) → known_at es k ≡ opened_in done k
   pub room : (k : ℕ) → room_at es k ≡ 0
+
+-- The key has this now, and every other one what it had.
+pub record TurnsAt (old new : List (ℕ × Place)) (k : ℕ) (now : Option Place) : Type 0 where
+  pub here : place_at new k ≡ now
+  pub others : (j : ℕ) → j ≢ k → place_at new j ≡ place_at old j
+
+-- the place of a key that has no record any more
+abbrev pub cleared : Place → Place
+cleared p = record { known = None; room = p.room }
+
+-- A key has this record now, and every other one what it had. No home was asked about more of them.
+pub record StartTurns (old new : StartKeys) (k : ℕ) (now : Option KeyRecord) : Type 0 where
+  pub here : known_at (started new) k ≡ now
+  pub others : (j : ℕ) → j ≢ k → place_at (started new) j ≡ place_at (started old) j
+  pub ahead : (home : ℕ) (n : EntryName) → IsAhead old home n → IsAhead new home n

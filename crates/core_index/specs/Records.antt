@@ -1,5 +1,5 @@
 -- A key's record, and which of its entries are dead.
-use Rattle.std.specs.Prelude.{◌≡◌, ℕ, ◌+◌, ◌==◌, nat_lt, Bool, true, false, ◌&&◌, ◌||◌, not, List, [], ◌∷◌, ◌++◌, map, Option, Some, None, if◌then◌else◌}
+use Rattle.std.specs.Prelude.{◌≡◌, ℕ, ◌+◌, ◌==◌, nat_lt, Bool, true, false, ◌&&◌, ◌||◌, not, List, [], ◌∷◌, ◌++◌, map, Option, Some, None, is_some, if◌then◌else◌}
 use Rattle.std.specs.List.{filter, list_all}
 use Rattle.std.specs.BTreeMap.{insert_entry}
 use Rattle.std.specs.Ordering.{nat_cmp}
@@ -139,6 +139,14 @@ untold_at e = standing_with e.0 e.1 false
 abbrev pub by_version : List Standee → List Standing
 by_version ss = map untold_at (homes_of ss)
 
--- a record at the start: no death was told yet
+-- what is known of a key at the start: no death was told yet
+abbrev pub opened_with : ℕ → Body → List Standee → KeyRecord
+opened_with v body standees = record { version = v; body = body; standing = by_version standees }
+
 abbrev pub opened : Record → KeyRecord
-opened r = record { version = r.version; body = r.body; standing = by_version r.standing.items }
+opened r = opened_with r.version r.body r.standing.items
+
+-- the version stands and is dead, as the record of its key has it
+abbrev pub is_dead_in : Option KeyRecord → ℕ → Bool
+is_dead_in None v = false
+is_dead_in (Some r) v = is_some (standing_at r.standing v) && is_dead r v

@@ -5,6 +5,7 @@ ghost use Rattle.std.specs.BTreeMap.{IsOrdered};
 ghost use Rattle.std.specs.Ordering.{nat_cmp};
 ghost use Rattle.std.specs.Vec.{vec_capacity};
 ghost use Rattle.core_index.specs.Records.{standing_at, standing_with, stands_alone, told, others, homes_of, by_version};
+ghost use Rattle.core_index.specs.Tombs.{list_of};
 ghost use Rattle.core_index.specs.Marks.{kept, mark_of, Rises, IsPlace, IsAbsent, AreMarks, marked, Keeps};
 
 use crate::types::{Marked, Standee, Standing};
@@ -26,6 +27,7 @@ pub struct Entries {
 impl Model for Entries {
     ghost use Rattle.std.specs.Prelude.{length, ◌-◌};
     ghost use Rattle.std.specs.Vec.{vec_capacity};
+    ghost use Rattle.core_index.specs.Tombs.{list_of};
     ghost use Rattle.core_index.specs.Marks.{Marks, AreMarks, kept};
 
     ghost Value = { Marks };
@@ -129,6 +131,29 @@ impl Entries {
         Ok(Entries {
             left: marks.len() as u64,
             marks,
+            top,
+        })
+    }
+
+    // The one entry of a start, where it stands, and room for one more.
+    pub fn of_one(alloc: Global, only: Option<Standing>, top: Version) -> Result<Entries, Memory>
+        requires { AllByRecursion (λ s. s.version ≤ top) (list_of only) }
+        ensures items { IfOk result (λ entries. entries.items ≡ list_of only) }
+        ensures room { IfOk result (λ entries. 1 ≤ entries.room) }
+        ensures top { IfOk result (λ entries. entries.top ≡ top) }
+    {
+        let Some(entry) = only else {
+            return Ok(Entries {
+                marks: Vec::with_capacity(alloc, 1)?,
+                left: 0,
+                top,
+            });
+        };
+        let mut marks = Vec::with_capacity(alloc, 2)?;
+        marks.push(Marked { entry, gone: false })?;
+        Ok(Entries {
+            marks,
+            left: 1,
             top,
         })
     }

@@ -3,28 +3,32 @@ ghost use Rattle.std.specs.Prelude.{◌≡◌, ◌≢◌, ◌⊎◌, ◌↔◌, 
 ghost use Rattle.std.specs.List.{AllByRecursion, Contains};
 ghost use Rattle.std.specs.List.Sorted.{IsStrictlyIncreasing};
 ghost use Rattle.log_entry.specs.declared.entry.EntryName.{EntryName};
-ghost use Rattle.core_index.specs.Records.{Awaits, Shows, settled, without, last_of, block_of, is_forgettable, live_version};
+ghost use Rattle.core_index.specs.Records.{Awaits, Shows, opened, opened_with, settled, without, last_of, block_of, is_dead_in, is_forgettable, live_version};
 ghost use Rattle.core_index.specs.Noted.{name_with};
-ghost use Rattle.core_index.specs.Index.{known_at, room_at, Changes, SameRoom, Tells, HasNoneAbove, Entered, all_untold, opened_in};
+ghost use Rattle.core_index.specs.Index.{known_at, room_at, Changes, SameRoom, Tells, HasNoneAbove, EntersAs, all_untold, opened_in};
 
+use crate::compact::{admit_at, compact, compact_live, copy_of, forget_in, gone_in};
 use crate::death_notes::{next_dead, note_dead};
 use crate::live_keys::live_in;
-use crate::map::{enter_at, forget_at, gone_at, reserve_at, settle_at};
+use crate::map::{enter_at, settle_at};
 use crate::notices::Notices;
 use crate::slot::Slot;
-use crate::types::{Look, Record, Spent};
+use crate::start_keys::StartKeys;
+use crate::types::{Look, Record, Spent, Standee};
 use fs_errors::Memory;
 use fs_model::{Key, Version};
-use log_entry::{Entry, EntryName, LAST_PUT_VERSION};
+use log_entry::{Body, Entry, EntryName, LAST_PUT_VERSION};
 use std::alloc::Global;
 use std::collections::BTreeMap;
 use std::marker::Model;
 
 /// The keys of one core: for each its last version, the value or block that this left, and the entries that
-/// stand in a log. A key without a record has last version 0.
+/// stand in a log. A key without a record has last version 0. A key that was deleted before the start, by an entry
+/// that stands alone, takes twelve bytes until it is changed.
 #[derive(Drop)]
 pub struct CoreIndex {
     slots: BTreeMap<Key, Slot>,
+    start: StartKeys,
     notices: Notices,
 }
 
@@ -34,11 +38,11 @@ impl Model for CoreIndex {
 
     ghost Value = { List (ℕ × Place) };
 
-    ghost use Rattle.core_index.specs.Index.{IsIndex};
+    ghost use Rattle.core_index.specs.Index.{IsIndex, all_places};
 
-    ghost view = { λ a. a.slots.entries };
+    ghost view = { λ a. all_places a.slots.entries a.start };
 
-    ghost invariant = { λ a. IsIndex a.slots.entries a.notices };
+    ghost invariant = { λ a. IsIndex a.slots.entries a.start a.notices };
 }
 
 impl CoreIndex {
@@ -50,27 +54,68 @@ impl CoreIndex {
             → known_at index k ≡ opened_in records.items k) }
         ensures room { IfOk result (λ index. (k : ℕ) → room_at index k ≡ 0) }
     {
-        let mut index = CoreIndex {
-            slots: BTreeMap::new(alloc),
-            notices: Notices::open(alloc)?,
-        };
+        let mut index = CoreIndex::empty(alloc)?;
         let mut left = records;
         while let Some(record) = left.pop() {
-            index.enter(alloc, record)?;
+            index.enter_record(alloc, record)?;
         }
         Ok(index)
     }
 
-    // Puts a record in, in place of any that the key has.
-    fn enter(&mut self, alloc: Global, start: Record) -> Result<(), Memory>
+    /// An index without keys, and without room for changes.
+    pub fn empty(alloc: Global) -> Result<CoreIndex, Memory>
+        ensures known { IfOk result (λ index. (k : ℕ) → known_at index k ≡ None) }
+        ensures room { IfOk result (λ index. (k : ℕ) → room_at index k ≡ 0) }
+    {
+        Ok(CoreIndex {
+            slots: BTreeMap::new(alloc),
+            start: StartKeys::empty(alloc),
+            notices: Notices::open(alloc)?,
+        })
+    }
+
+    /// Puts in what is known of a key at the start, in place of anything that it has. No death was told yet, and where a
+    /// version stands twice, the first one counts. Deleted keys that come in rising order and of which the delete alone
+    /// stands take twelve bytes.
+    pub fn enter(
+        &mut self,
+        alloc: Global,
+        key: Key,
+        version: Version,
+        body: &Body,
+        standing: &[Standee],
+    ) -> Result<(), Memory>
+        requires below { AllByRecursion (λ s. s.version ≤ version) standing.now }
+        ensures { OnOk result (EntersAs self.old self.new key
+            (opened_with version body.now standing.now)) }
+    {
+        if let Some(tombstone) = compact(&self.slots, &self.start, key, version, body, standing) {
+            return self.start.add_deleted(tombstone);
+        }
+        if let Some(live) = compact_live(&self.slots, &self.start, key, version, body, standing) {
+            return self.start.add_live(live, body);
+        }
+        let start = Record {
+            key,
+            version,
+            body: copy_of(alloc, body)?,
+            standing: Vec::from_slice(alloc, standing)?,
+        };
+        self.enter_record(alloc, start)
+    }
+
+    // Puts a record into the map, in place of anything that its key has.
+    fn enter_record(&mut self, alloc: Global, start: Record) -> Result<(), Memory>
         requires { HasNoneAbove start }
-        ensures { OnOk result (Entered self.old self.new start) }
+        ensures { OnOk result (EntersAs self.old self.new start.key (opened start)) }
     {
         let key = start.key;
         let slot = Slot::of(alloc, start)?;
         self.notices.reserve(slot.len())?;
         slot.note_dead(key, &mut self.notices);
-        enter_at(&mut self.slots, key, slot)
+        enter_at(&mut self.slots, key, slot)?;
+        self.start.clear(key);
+        Ok(())
     }
 
     /// Makes room for one more `settle` of the key.
@@ -80,8 +125,8 @@ impl CoreIndex {
         ensures records { (j : ℕ) → known_at self.new j ≡ known_at self.old j }
         ensures err { OnErr result (self.new ≡ self.old) }
     {
-        self.notices.reserve(1)?;
-        reserve_at(alloc, &mut self.slots, key)
+        self.notices.reserve(1 + self.start.count_alive(key))?;
+        admit_at(alloc, &mut self.slots, &mut self.start, key)
     }
 
     /// For how many changes of the key there is room. A request that was refused leaves the room that was made for it.
@@ -99,7 +144,7 @@ impl CoreIndex {
         ensures { Shows (known_at self.now key) result }
     {
         match self.slots.get(&key) {
-            None => Look::Unknown,
+            None => self.start.look(key),
             Some(slot) => slot.look(),
         }
     }
@@ -108,7 +153,7 @@ impl CoreIndex {
         ensures { result ≡ last_of (known_at self.now key) }
     {
         match self.slots.get(&key) {
-            None => 0,
+            None => self.start.last(key),
             Some(slot) => slot.last(),
         }
     }
@@ -156,7 +201,7 @@ impl CoreIndex {
             → ¬ Awaits (known_at self.old name.key) home name.version) }
         ensures unchanged { IfNone result (self.new ≡ self.old) }
     {
-        next_dead(&mut self.slots, &mut self.notices, home)
+        next_dead(&mut self.slots, &mut self.start, &mut self.notices, home)
     }
 
     /// Takes an entry out of those that stand: it is in no log any more.
@@ -165,7 +210,7 @@ impl CoreIndex {
             (option_map (without name.version) (known_at self.old name.key)) }
         ensures room { SameRoom self.old self.new }
     {
-        let dead = gone_at(&mut self.slots, name);
+        let dead = gone_in(&mut self.slots, &mut self.start, name);
         note_dead(&mut self.notices, name.key, dead);
     }
 
@@ -174,8 +219,18 @@ impl CoreIndex {
         ensures { result ≡ is_forgettable (known_at self.now key) }
     {
         match self.slots.get(&key) {
-            None => false,
+            None => self.start.is_forgettable(key),
             Some(slot) => slot.is_forgettable(),
+        }
+    }
+
+    /// Whether an entry of this name stands and is dead.
+    pub fn is_dead(&self, name: EntryName) -> bool
+        ensures { result ≡ is_dead_in (known_at self.now name.key) name.version }
+    {
+        match self.slots.get(&name.key) {
+            None => self.start.is_dead(name),
+            Some(slot) => slot.is_dead(name.version),
         }
     }
 
@@ -185,7 +240,7 @@ impl CoreIndex {
         ensures forgotten { Changes self.old self.new key None }
         ensures room { SameRoom self.old self.new }
     {
-        forget_at(&mut self.slots, key);
+        forget_in(&mut self.slots, &mut self.start, key);
     }
 
     /// The live keys with their versions, by rising key.
@@ -195,6 +250,6 @@ impl CoreIndex {
         ensures each { IfOk result (λ names. (k v : ℕ) → Contains names.items (name_with k v)
             ↔ (live_version (known_at self.now k) ≡ Some v)) }
     {
-        live_in(alloc, &self.slots)
+        live_in(alloc, &self.slots, &self.start)
     }
 }

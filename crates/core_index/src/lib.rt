@@ -1,16 +1,20 @@
 //! The keys of one core: last version, value, and the entries that stand in a log.
 #![tactic(auto)]
 
+mod compact;
 mod dead_entries;
 mod death_notes;
 mod entries;
 mod index;
 mod live_keys;
+mod live_list;
 mod map;
 mod notices;
 mod slot;
+mod start_keys;
 #[cfg(test)]
 mod tests;
+mod tombstones;
 mod types;
 
 pub use index::CoreIndex;

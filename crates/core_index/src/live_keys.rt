@@ -1,18 +1,29 @@
 // The keys that have a value.
-ghost use Rattle.std.specs.Prelude.{◌≡◌, IfOk};
+ghost use Rattle.std.specs.Prelude.{◌≡◌, ◌++◌, ℕ, ◌↔◌, Some, IfOk, OnOk, map};
 ghost use Rattle.std.specs.BTreeMap.{IsOrdered};
+ghost use Rattle.std.specs.List.{Contains};
+ghost use Rattle.std.specs.List.Sorted.{IsStrictlyIncreasing};
 ghost use Rattle.std.specs.Ordering.{nat_cmp};
-ghost use Rattle.core_index.specs.Index.{live_names};
+ghost use Rattle.core_index.specs.Index.{known_at, live_name, live_names};
+ghost use Rattle.core_index.specs.Listing.{start_names, version_left};
+ghost use Rattle.core_index.specs.Lives.{live_key, KeysRise};
+ghost use Rattle.core_index.specs.Noted.{name_with};
+ghost use Rattle.core_index.specs.Records.{live_version};
+ghost use Rattle.core_index.specs.Starts.{started};
 
+use crate::live_list::{LiveList, key_of};
+use crate::map::has;
 use crate::slot::Slot;
+use crate::start_keys::StartKeys;
+use crate::types::{LiveFate, LiveKey};
 use fs_errors::Memory;
-use fs_model::Key;
+use fs_model::{Key, Version};
 use log_entry::EntryName;
 use std::alloc::Global;
 use std::collections::BTreeMap;
 
-// The live keys with their versions, in the order of the map.
-pub fn live_in(alloc: Global, slots: &BTreeMap<Key, Slot>) -> Result<Vec<EntryName>, Memory>
+// The live keys of the map with their versions, in its order.
+fn live_slots(alloc: Global, slots: &BTreeMap<Key, Slot>) -> Result<Vec<EntryName>, Memory>
     ensures names { IfOk result (λ names. names.items ≡ live_names slots.now.entries) }
     ensures ordered { IfOk result (λ _. IsOrdered nat_cmp slots.now) }
 {
@@ -22,5 +33,82 @@ pub fn live_in(alloc: Global, slots: &BTreeMap<Key, Slot>) -> Result<Vec<EntryNa
             names.push(EntryName { key: *key, version })?;
         }
     }
+    Ok(names)
+}
+
+// The version of a live key that the map has no place for.
+fn version_left(slots: &BTreeMap<Key, Slot>, live: &LiveKey) -> Option<Version>
+    ensures { result ≡ version_left slots.now.entries live.now }
+{
+    if has(slots, key_of(live)) {
+        return None;
+    }
+    match live.fate {
+        LiveFate::Moved => None,
+        _ => Some(u32::from(live.version)),
+    }
+}
+
+// Adds the name of such a key.
+fn add_left(
+    names: &mut Vec<EntryName>,
+    slots: &BTreeMap<Key, Slot>,
+    live: &LiveKey,
+) -> Result<(), Memory>
+    ensures { OnOk result (names.new.items ≡ names.old.items
+        ++ live_name (live_key live.now) (version_left slots.now.entries live.now)) }
+{
+    if let Some(version) = version_left(slots, live) {
+        names.push(EntryName {
+            key: key_of(live),
+            version,
+        })?;
+    }
+    Ok(())
+}
+
+// Adds those of the start that the map has no place for.
+fn add_started(
+    names: &mut Vec<EntryName>,
+    slots: &BTreeMap<Key, Slot>,
+    items: &[LiveKey],
+) -> Result<(), Memory>
+    ensures { OnOk result (names.new.items
+        ≡ names.old.items ++ start_names slots.now.entries items.now) }
+{
+    for live in items {
+        add_left(names, slots, live)?;
+    }
+    Ok(())
+}
+
+// All live keys, those of the map first.
+fn live_unsorted(
+    alloc: Global,
+    slots: &BTreeMap<Key, Slot>,
+    live: &LiveList,
+) -> Result<Vec<EntryName>, Memory>
+    ensures names { IfOk result (λ names. names.items ≡ live_names slots.now.entries
+        ++ start_names slots.now.entries live.now.items) }
+    ensures ordered { IfOk result (λ _. IsOrdered nat_cmp slots.now) }
+    ensures rising { IfOk result (λ _. KeysRise live.now.items) }
+{
+    let mut names = live_slots(alloc, slots)?;
+    add_started(&mut names, slots, live.items())?;
+    Ok(names)
+}
+
+// The live keys with their versions, by rising key.
+pub fn live_in(
+    alloc: Global,
+    slots: &BTreeMap<Key, Slot>,
+    start: &StartKeys,
+) -> Result<Vec<EntryName>, Memory>
+    ensures rising { IfOk result (λ names. IsStrictlyIncreasing (map (λ n. n.key) names.items)) }
+    ensures each { IfOk result (λ names. (k v : ℕ) → Contains names.items (name_with k v)
+        ↔ (live_version (known_at (slots.now.entries ++ started start.now) k) ≡ Some v)) }
+{
+    let mut names = live_unsorted(alloc, slots, &start.live)?;
+    names.sort_unstable_by_key(|n| n.key);
     Ok(names)
 }

@@ -1,8 +1,8 @@
 // Changes of one key in the map of keys.
-ghost use Rattle.std.specs.Prelude.{◌≡◌, ◌+◌, ◌-◌, ◌<◌, ◌≤◌, true, false, IsTrue, OnOk, OnErr, Some, None, option_map};
+ghost use Rattle.std.specs.Prelude.{◌≡◌, ◌+◌, ◌-◌, ◌<◌, ◌≤◌, true, false, IsTrue, OnOk, OnErr, Some, None, option_map, is_some};
 ghost use Rattle.core_index.specs.Records.{Awaits, settled, last_of, block_of, is_forgettable};
 ghost use Rattle.core_index.specs.Slots.{mortal, count_dead, OnlyDead};
-ghost use Rattle.core_index.specs.Index.{Step, ToldAt, known_at, room_at, mortal_in, place_at, gone_place, Forgets};
+ghost use Rattle.core_index.specs.Index.{Step, ToldAt, known_at, room_at, mortal_in, all_mortal, place_at, gone_place, Forgets};
 
 use crate::slot::Slot;
 use crate::types::{Settled, Standee};
@@ -11,6 +11,13 @@ use fs_model::{Key, Version};
 use log_entry::{Body, EntryName};
 use std::alloc::Global;
 use std::collections::BTreeMap;
+
+// Whether the map has a place for a key.
+pub fn has(slots: &BTreeMap<Key, Slot>, key: Key) -> bool
+    ensures { result ≡ is_some (place_at slots.now.entries key) }
+{
+    slots.get(&key).is_some()
+}
 
 // Records a finished change of a key that has room for it.
 pub fn settle_at(
@@ -42,7 +49,7 @@ pub fn settle_at(
     }
 }
 
-// Makes room for one more change of a key.
+// Makes room for one more change of a key, as it is in the map.
 pub fn reserve_at(alloc: Global, slots: &mut BTreeMap<Key, Slot>, key: Key) -> Result<(), Memory>
     ensures ok { OnOk result (Step slots.old.entries slots.new.entries key
         (Some (record {
@@ -69,6 +76,7 @@ pub fn enter_at(slots: &mut BTreeMap<Key, Slot>, key: Key, slot: Slot) -> Result
 // Tells a home of a dead entry, where it waits to be told.
 pub fn tell_at(slots: &mut BTreeMap<Key, Slot>, name: EntryName, home: u32) -> bool
     ensures told { result ≡ true → ToldAt slots.old.entries slots.new.entries home name }
+    ensures mortal { result ≡ true → all_mortal slots.new.entries ≤ all_mortal slots.old.entries }
     ensures none { result ≡ false → ¬ Awaits (known_at slots.old.entries name.key) home
         name.version }
     ensures unchanged { result ≡ false → slots.new.entries ≡ slots.old.entries }
@@ -111,12 +119,23 @@ fn clear_at(slots: &mut BTreeMap<Key, Slot>, key: Key) -> u64
 }
 
 // Takes a record out. Its place goes too, where there is no room to keep.
-pub fn forget_at(slots: &mut BTreeMap<Key, Slot>, key: Key)
+fn forget_at(slots: &mut BTreeMap<Key, Slot>, key: Key)
     requires { IsTrue (is_forgettable (known_at slots.old.entries key)) }
     ensures { Forgets slots.old.entries slots.new.entries key }
 {
     let room = clear_at(slots, key);
     if room == 0 {
         let _ = slots.remove(&key);
+    }
+}
+
+// The same where the map may have no place for the key.
+pub fn forget_there(slots: &mut BTreeMap<Key, Slot>, key: Key)
+    requires { is_some (place_at slots.old.entries key) ≡ true
+        → IsTrue (is_forgettable (known_at slots.old.entries key)) }
+    ensures { Forgets slots.old.entries slots.new.entries key }
+{
+    if has(slots, key) {
+        forget_at(slots, key);
     }
 }

@@ -1,17 +1,18 @@
 // What the index keeps of one key.
-ghost use Rattle.std.specs.Prelude.{◌≡◌, ◌+◌, ◌-◌, ◌<◌, ◌≤◌, ◌∷◌, ℕ, Some, None, [], true, false, if◌then◌else◌, option_map, length, IfOk, OnOk, OnErr, IsTrue};
+ghost use Rattle.std.specs.Prelude.{◌≡◌, ◌+◌, ◌-◌, ◌<◌, ◌≤◌, ◌∷◌, ℕ, Some, None, [], true, false, if◌then◌else◌, option_map, length, IfOk, IfSome, OnOk, OnErr, IsTrue};
 ghost use Rattle.std.specs.Bool.{Decides};
 ghost use Rattle.std.specs.List.{AllByRecursion};
 ghost use Rattle.log_entry.specs.declared.entry.EntryName.{EntryName};
 ghost use Rattle.core_index.specs.Marks.{kept};
 ghost use Rattle.core_index.specs.Noted.{Noted, NotedIfDead, count_lively, name_with};
-ghost use Rattle.core_index.specs.Records.{Awaits, is_dead, standing_of, Shows, settled, opened, told_in, without, last_of, block_of, is_forgettable, live_version};
+ghost use Rattle.core_index.specs.Records.{Awaits, is_dead, is_dead_in, standing_of, Shows, settled, opened, told_in, without, last_of, block_of, is_forgettable, live_version};
+ghost use Rattle.core_index.specs.Tombs.{left_of, list_of, standing_left, delete_at};
 ghost use Rattle.core_index.specs.Slots.{alive_at, home_alive, record_with, known_with, mortal, count_of, count_dead, dead_by, died, OnlyDead, TellsOne};
 
 use crate::dead_entries::{awaits, is_dead, is_tombstone};
 use crate::entries::Entries;
 use crate::notices::Notices;
-use crate::types::{Head, Look, Marked, Record, Settled, Standee};
+use crate::types::{Fate, Head, Look, Marked, Record, Settled, Standee, Standing, Tombstone};
 use fs_errors::Memory;
 use fs_model::{Key, Version};
 use log_entry::{Body, EntryName};
@@ -72,6 +73,21 @@ impl Slot {
         })
     }
 
+    // What there is of a key that was deleted before the start, and room for one change.
+    pub fn of_tombstone(alloc: Global, tombstone: &Tombstone) -> Result<Slot, Memory>
+        ensures { IfOk result (λ slot. slot ≡ record { known = left_of tombstone.now; room = 1 }) }
+    {
+        let Some(head) = head_of(tombstone) else {
+            return Slot::with_room(alloc);
+        };
+        Ok(Slot {
+            head: Some(head),
+            standing: Entries::of_one(alloc, standing_of(tombstone), u32::from(tombstone.version))?,
+            room: 1,
+            alive: None,
+        })
+    }
+
     // Makes room for one more change.
     pub fn reserve(&mut self) -> Result<(), Memory>
         ensures ok { OnOk result (self.new ≡ record {
@@ -92,6 +108,18 @@ impl Slot {
         match &self.head {
             None => 0,
             Some(head) => head.version,
+        }
+    }
+
+    // Whether a version stands and is dead.
+    pub fn is_dead(&self, version: Version) -> bool
+        ensures { result ≡ is_dead_in self.now.known version }
+    {
+        match &self.head {
+            None => false,
+            Some(head) => {
+                self.standing.find(version).is_some() && is_dead(head, &self.standing, version)
+            }
         }
     }
 
@@ -242,6 +270,36 @@ impl Slot {
             },
         }
     }
+}
+
+// The last change of such a key, where its record is not elsewhere.
+fn head_of(tombstone: &Tombstone) -> Option<Head>
+    ensures known { known_with result (list_of (standing_left tombstone.now)) ≡ left_of tombstone.now }
+    ensures head { IfSome result (λ h. h ≡ delete_at tombstone.now.version) }
+{
+    match tombstone.fate {
+        Fate::Moved => None,
+        _ => Some(Head {
+            version: u32::from(tombstone.version),
+            body: Body::Tombstone,
+        }),
+    }
+}
+
+// The entry of such a key, where it stands.
+fn standing_of(tombstone: &Tombstone) -> Option<Standing>
+    ensures { result ≡ standing_left tombstone.now }
+{
+    let told = match tombstone.fate {
+        Fate::Untold => false,
+        Fate::Told => true,
+        _ => return None,
+    };
+    Some(Standing {
+        version: u32::from(tombstone.version),
+        home: u32::from(tombstone.home),
+        told,
+    })
 }
 
 // What dies by a finished change: its own entry at once, or the one that was alive.

@@ -65,3 +65,56 @@ pub struct Settled {
     pub replaced: Option<u64>,
     pub dead: Option<Standee>,
 }
+
+// What became of the one entry of a key that was deleted before the start.
+#[derive(Clone, Copy, Debug, PartialEq, Eq)]
+pub enum Fate {
+    // It stands, and its death was not told.
+    Untold,
+    // It stands, and its death was told.
+    Told,
+    // It stands in no log.
+    Gone,
+    // The key has its record in the map by now, or none at all.
+    Moved,
+}
+
+// A key that was deleted before the start, by an entry that stands alone. It takes twelve bytes, so the key is in two
+// halves, and later versions and homes stand in the map.
+#[derive(Clone, Copy, Debug, PartialEq, Eq)]
+pub struct Tombstone {
+    pub high: u32,
+    pub low: u32,
+    pub version: u16,
+    pub home: u8,
+    pub fate: Fate,
+}
+
+// Where the value of a key is: in a block, or so many bytes from a start on among the bytes of all values.
+#[derive(Clone, Copy, Debug, PartialEq, Eq)]
+pub enum Holding {
+    InBlock(u32),
+    Beside(u32, u8),
+}
+
+// What became of the one entry of a key that had a value at the start.
+#[derive(Clone, Copy, Debug, PartialEq, Eq)]
+pub enum LiveFate {
+    // It stands.
+    Stands,
+    // It stands in no log.
+    Gone,
+    // The key has its record in the map by now, or none at all.
+    Moved,
+}
+
+// A key that had a value at the start, by an entry that stands alone. It takes twenty bytes beside the value's own.
+#[derive(Clone, Copy, Debug, PartialEq, Eq)]
+pub struct LiveKey {
+    pub high: u32,
+    pub low: u32,
+    pub version: u16,
+    pub home: u8,
+    pub fate: LiveFate,
+    pub held: Holding,
+}

@@ -6,20 +6,18 @@ use Rattle.std.proofs.lemmas.List.{map-append}
 use Rattle.pm_region.specs.Cell.{Cell}
 use Rattle.pm_region.specs.State.{State, Frame, IsTelling, cell_now, During}
 use Rattle.pm_region.specs.Words.{KeepsOutside, MayLeaveIn, EachIn, lasts}
-use Rattle.pm_region.proofs.Moments.{weaken, at_exit, told_at_entry}
-use Rattle.pm_region.proofs.Cells.{may_be_last}
+use Rattle.pm_region.proofs.Clients.{weaken, at_exit, told_at_entry, may_be_last}
 use Rattle.chunk_map.specs.declared.layouts.Geometry.{Geometry}
 use Rattle.chunk_map.specs.declared.heads.Head.{Head}
 use Rattle.chunk_map.specs.declared.heads.Head.TheVariants.{Free, Log, Data}
 use Rattle.chunk_map.specs.Layouts.{chunk_words, payload_words, payload_lines, chunk_first, head_by, head_at}
-use Rattle.chunk_map.proofs.LayoutLaws.{numbers_of, payload_of}
+use Rattle.chunk_map.proofs.Clients.{numbers_of, payload_of}
 use Rattle.log_entry.specs.declared.entry.Entry.{Entry}
 use Rattle.log_entry.specs.declared.entry.Body.{Body}
 use Rattle.log_entry.specs.declared.entry.Body.TheVariants.{Pointer, Embedded, Tombstone}
 use Rattle.log_entry.specs.Spelling.{words_of, body_words}
 use Rattle.log_entry.specs.Batches.{batch_words, IsBatch, SpellsBatches, Scan, scan_of}
-use Rattle.log_entry.proofs.Scans.{entries_from, scan-append, spells-append, whole_lines}
-use Rattle.log_entry.proofs.Images.{length-words}
+use Rattle.log_entry.proofs.Clients.{entries_from, scan-append, spells-append, whole_lines, length-words}
 use Rattle.store_image.specs.declared.types.PlacedEntry.{PlacedEntry}
 use Rattle.store_image.specs.Parts.{payload, scan_at, scan_behind, placed, chunk_entries}
 use Rattle.core_log.specs.declared.types.LogChunk.{LogChunk}

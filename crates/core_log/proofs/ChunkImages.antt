@@ -6,15 +6,11 @@ use Rattle.log_entry.specs.declared.entry.Entry.{Entry}
 use Rattle.chunk_map.specs.declared.heads.Head.TheVariants.{Data}
 use Rattle.chunk_map.specs.declared.layouts.Geometry.{Geometry}
 use Rattle.chunk_map.specs.Layouts.{numbers, chunk_words, chunk_first, head_at}
-use Rattle.chunk_map.proofs.LayoutLaws.{chunks_apart}
+use Rattle.chunk_map.proofs.Clients.{chunks_apart}
 use Rattle.store_image.specs.declared.types.PlacedEntry.{PlacedEntry}
 use Rattle.store_image.specs.Parts.{chunk_entries, part_entries, chunk_reads, reads, chunk_at, unit_at, class_behind, block_class, held, held_by}
 use Rattle.store_image.specs.Facts.{In}
-use Rattle.store_image.proofs.Local.{chunk_same, reads_same, head_same}
-use Rattle.store_image.proofs.Places.{Numbers}
-use Rattle.store_image.proofs.BlockLaws.{chunk_of, block_lies, held_same}
-use Rattle.store_image.proofs.SoundLaws.{in_numbers}
-use Rattle.store_image.proofs.SoundFacts.{in_front, in_back, in_either, number_in}
+use Rattle.store_image.proofs.Clients.{chunk_same, reads_same, head_same, Numbers, chunk_of, block_lies, held_same, in_numbers, in_front, in_back, in_either, number_in}
 
 -- the entry stands in a chunk, or in a part
 abbrev pub InChunk : Geometry → (ℕ → ℕ) → ℕ → ℕ → Entry → Type 0

@@ -8,7 +8,7 @@ use Rattle.log_entry.specs.declared.entry.Body.TheVariants.{Pointer, Embedded, T
 use Rattle.log_entry.specs.declared.entry.Entry.{Entry}
 use Rattle.log_entry.specs.Spelling.{words_of, body_words, first_word, HasSpelling}
 use Rattle.log_entry.specs.Batches.{padding, batch_words, IsBatch, SpellsBatches, Scan, scan_of}
-use Rattle.log_entry.proofs.Scans.{entries_from, batches_from, scan_spelled, length-batch}
+use Rattle.log_entry.proofs.Clients.{entries_from, batches_from, scan_spelled, length-batch}
 use Rattle.core_log.specs.Walking.{next_entry, IsBetween}
 
 -- an entry, or a word of padding

@@ -9,6 +9,7 @@ pub mod WithoutLaws
 pub mod RetireLaws
 pub mod ItemLaws
 pub mod WalkLaws
+pub mod EntryImages
 pub mod Clients
 pub mod Steps
 pub mod ChunkWords

@@ -5,12 +5,11 @@ use Rattle.std.proofs.lemmas.Bool.{cases_eq, cases_lt}
 use Rattle.pm_region.specs.Cell.{Cell, fenced, MayBe}
 use Rattle.pm_region.specs.State.{State, Frame, IsTelling, cell_now, During}
 use Rattle.pm_region.specs.Words.{Kept, KeepsOutside, Surely, lasts}
-use Rattle.pm_region.proofs.Moments.{at_exit, told_at_entry}
-use Rattle.pm_region.proofs.Narrow.{surely_kept, surely_own}
+use Rattle.pm_region.proofs.Clients.{at_exit, told_at_entry, surely_kept, surely_own}
 use Rattle.chunk_map.specs.declared.layouts.Geometry.{Geometry}
 use Rattle.chunk_map.specs.Layouts.{IsLayout, chunk_words, payload_words, payload_lines, total_bytes, part_first, chunk_first}
-use Rattle.chunk_map.proofs.LayoutLaws.{numbers_of, chunk_words_whole, payload_of, chunks_apart, chunk_in_part, chunk_first_whole, part_within}
-use Rattle.log_entry.proofs.Images.{words_same}
+use Rattle.chunk_map.proofs.Clients.{numbers_of, chunk_words_whole, payload_of, chunks_apart, chunk_in_part, chunk_first_whole, part_within}
+use Rattle.log_entry.proofs.Clients.{words_same}
 use Rattle.core_log.specs.declared.types.LogChunk.{LogChunk}
 use Rattle.core_log.specs.Chunk.{words_now, ChunkLies, IsLog}
 use Rattle.core_log.specs.Log.{LogState, tail_of, with_tail, chunk_with, IsRising, IsChunkOf, IsOwn, first_of, open_number, open_first, open_tail, room_of, lines_left, Spelled, StandsIn}

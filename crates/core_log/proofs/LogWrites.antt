@@ -6,21 +6,18 @@ use Rattle.std.proofs.lemmas.List.{map-append}
 use Rattle.pm_region.specs.Cell.{Cell}
 use Rattle.pm_region.specs.State.{State, Frame, IsTelling, cell_now, During}
 use Rattle.pm_region.specs.Words.{Kept, KeepsOutside, MayLeaveIn, Surely, lasts}
-use Rattle.pm_region.proofs.Moments.{weaken, both, told_at_entry, at_exit}
-use Rattle.pm_region.proofs.Cells.{may_be_last}
-use Rattle.pm_region.proofs.Narrow.{surely_last}
+use Rattle.pm_region.proofs.Clients.{weaken, both, told_at_entry, at_exit, may_be_last, surely_last}
 use Rattle.log_entry.specs.declared.entry.Entry.{Entry}
 use Rattle.log_entry.specs.Spelling.{words_of}
 use Rattle.log_entry.specs.Batches.{IsBatch, SpellsBatches}
-use Rattle.log_entry.proofs.Scans.{spells-append}
+use Rattle.log_entry.proofs.Clients.{spells-append}
 use Rattle.chunk_map.specs.declared.heads.Head.TheVariants.{Data}
 use Rattle.chunk_map.specs.Layouts.{chunk_words, head_at, part_first}
-use Rattle.chunk_map.proofs.LayoutLaws.{chunks_apart, chunk_in_part}
+use Rattle.chunk_map.proofs.Clients.{chunks_apart, chunk_in_part}
 use Rattle.store_image.specs.declared.types.PlacedEntry.{PlacedEntry}
 use Rattle.store_image.specs.Parts.{placed, chunk_entries, chunk_reads}
 use Rattle.store_image.specs.Facts.{In}
-use Rattle.store_image.proofs.Places.{Numbers, layout_numbers}
-use Rattle.store_image.proofs.SoundFacts.{in_front, in_back, in_either}
+use Rattle.store_image.proofs.Clients.{Numbers, layout_numbers, in_front, in_back, in_either}
 use Rattle.core_log.specs.Chunk.{words_now, padded, HasOrLacks, HasLog, FreeOrEmpty, FreeOrLog, lines_for}
 use Rattle.core_log.specs.Log.{LogState, StandsIn, EachInOpen, Spelled, IsChunkOf, chunk_with, tail_of, tail_in, first_of, open_number, open_first, open_tail, room_of}
 use Rattle.core_log.specs.Entries.{open_entries, added_entries, AppendedBatch}
@@ -32,7 +29,7 @@ use Rattle.core_log.proofs.Append.{log_reads}
 use Rattle.core_log.proofs.LogLaws.{own_chunk, tail_fits, log_kept, words_kept}
 use Rattle.core_log.proofs.RetireLaws.{is_tail}
 use Rattle.core_log.proofs.BatchLaws.{some_opens, holds_some, open_has, open_chunk_of, moved_chunk_of, open_log, open_spelled, has_entries, entries_read}
-use Rattle.core_log.proofs.Clients.{AtEntry, at_entry}
+use Rattle.core_log.proofs.EntryImages.{AtEntry, at_entry}
 use Rattle.core_log.proofs.ChunkWords.{log_reads_well, log_not_data, free_not_data, free_or_empty_reads, free_reads_well, free_has_none, placed_entries, placed_all}
 use Rattle.core_log.proofs.ChunkImages.{InChunk, part_has, part_of, reads_kept, to_else, from_else, block_stays}
 

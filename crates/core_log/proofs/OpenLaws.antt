@@ -3,8 +3,7 @@ use Rattle.std.proofs.Common.{◌≡◌, ◌≢◌, ◌⊎◌, inl, inr, ⊎_eli
 use Rattle.pm_region.specs.Cell.{Cell, MayBe}
 use Rattle.pm_region.specs.State.{State, Frame, IsTelling, cell_now, During}
 use Rattle.pm_region.specs.Words.{KeepsOutside, Surely, MayLeaveIn, EachIn, lasts}
-use Rattle.pm_region.proofs.Moments.{weaken}
-use Rattle.pm_region.proofs.Runs.{wider}
+use Rattle.pm_region.proofs.Clients.{weaken, wider}
 use Rattle.chunk_map.specs.declared.layouts.Geometry.{Geometry}
 use Rattle.chunk_map.specs.declared.heads.Head.{Head}
 use Rattle.chunk_map.specs.declared.heads.Head.TheVariants.{Free, Log, Data}

@@ -4,18 +4,15 @@ use Rattle.std.proofs.lemmas.Bool.{cases_eq}
 use Rattle.pm_region.specs.Cell.{Cell, MayBe}
 use Rattle.pm_region.specs.State.{State, Frame, IsTelling, cell_now, During}
 use Rattle.pm_region.specs.Words.{Kept, KeepsOutside, Surely, MayLeaveIn, EachIn, lasts}
-use Rattle.pm_region.proofs.Moments.{weaken, both, at_exit, told_at_entry}
-use Rattle.pm_region.proofs.Runs.{wider}
-use Rattle.pm_region.proofs.Cells.{may_be_last}
-use Rattle.pm_region.proofs.Narrow.{surely_kept}
+use Rattle.pm_region.proofs.Clients.{weaken, both, at_exit, told_at_entry, wider, may_be_last, surely_kept}
 use Rattle.chunk_map.specs.declared.heads.Head.{Head}
 use Rattle.chunk_map.specs.declared.heads.Head.TheVariants.{Free, Log, Data}
 use Rattle.chunk_map.specs.Layouts.{chunk_words, part_first, head_by, chunk_first}
 use Rattle.chunk_map.specs.Setting.{HeadTurns}
 use Rattle.chunk_map.specs.declared.layouts.Geometry.{Geometry}
-use Rattle.chunk_map.proofs.LayoutLaws.{chunks_apart}
+use Rattle.chunk_map.proofs.Clients.{chunks_apart}
 use Rattle.log_entry.specs.Batches.{Scan, scan_of}
-use Rattle.log_entry.proofs.Images.{words_same}
+use Rattle.log_entry.proofs.Clients.{words_same}
 use Rattle.store_image.specs.Parts.{payload, chunk_entries, scan_behind, placed}
 use Rattle.core_log.specs.Chunk.{words_now, HasLog, FreeOrLog, ChunkLies, IsLog}
 use Rattle.core_log.specs.Log.{LogState, tail_of, without, chunk_with, IsChunkOf, IsOwn, first_of, tail_in, Spelled, StandsIn}

@@ -8,10 +8,7 @@ use Rattle.pm_region.specs.Words.{lasts}
 use Rattle.log_entry.specs.declared.entry.Entry.{Entry}
 use Rattle.log_entry.specs.Spelling.{words_of}
 use Rattle.log_entry.specs.Batches.{Scan, scan_of, spells}
-use Rattle.log_entry.proofs.Bytes.{AreWords}
-use Rattle.log_entry.proofs.Scans.{scan_spelled}
-use Rattle.log_entry.proofs.Whole.{whole_spelled, spelled_whole}
-use Rattle.log_entry.proofs.Images.{length-words}
+use Rattle.log_entry.proofs.Clients.{AreWords, scan_spelled, whole_spelled, spelled_whole, length-words}
 use Rattle.core_log.specs.declared.types.Peek.{Peek}
 use Rattle.core_log.specs.declared.types.WalkStep.{WalkStep}
 use Rattle.core_log.specs.Log.{LogState, Spelled, tail_of, first_of, tail_in}

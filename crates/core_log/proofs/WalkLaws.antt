@@ -11,9 +11,7 @@ use Rattle.log_entry.specs.Spelling.{words_of, HasSpelling}
 use Rattle.log_entry.specs.Reading.{size_of, version_of, entry_rule, entry_of, read_by, read}
 use Rattle.log_entry.specs.Words.{words_from}
 use Rattle.log_entry.specs.Batches.{batch_words, SpellsBatches, Scan, scan_of}
-use Rattle.log_entry.proofs.Scans.{scan_spelled}
-use Rattle.log_entry.proofs.Spellings.{read_spelled}
-use Rattle.log_entry.proofs.Images.{words_append, words_list, length-words}
+use Rattle.log_entry.proofs.Clients.{scan_spelled, read_spelled, words_append, words_list, length-words}
 use Rattle.core_log.specs.declared.types.WalkStep.{WalkStep}
 use Rattle.core_log.specs.declared.types.Peek.{Peek}
 use Rattle.core_log.specs.Log.{Spelled}

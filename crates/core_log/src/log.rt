@@ -175,7 +175,8 @@ impl CoreLog {
         // The words before the tail, with the whole batch or without it.
         ensures moments { During (R.state region.old) (R.state region.new)
             (EachInOpen self.old (HasOrLacks (open_first self.old) (open_tail self.old)
-            (words_now (R.state region.old) (open_first self.old) (open_tail self.old)) (padded batch.now.words))) }
+            (words_now (R.state region.old) (open_first self.old) (open_tail self.old))
+            (padded batch.now.words))) }
         // The same of the entries that images show.
         ensures entries { (es : List Entry) → batch.now.words ≡ flat_map words_of es → IsBatch es
             → During (R.state region.old) (R.state region.new)
@@ -183,7 +184,8 @@ impl CoreLog {
             (open_entries self.old (lasts (R.state region.old))) es)) }
         // No word outside the open chunk is stored or flushed.
         ensures outside { During (R.state region.old) (R.state region.new)
-            (KeepsOutside (cell_now (R.state region.old)) (open_first self.old) (open_first self.old + chunk_words self.old.layout)) }
+            (KeepsOutside (cell_now (R.state region.old)) (open_first self.old)
+            (open_first self.old + chunk_words self.old.layout)) }
         ensures ok { OnOk result (AppendedBatch (R.state region.old) (R.state region.new) self.old
             self.new (padded batch.now.words)) }
         ensures ok_entries { OnOk result ((es : List Entry) → batch.now.words ≡ flat_map words_of es
@@ -247,7 +249,9 @@ impl CoreLog {
         requires closed { self.old.opened ≢ Some chunk }
         ensures moments { During (R.state region.old) (R.state region.new)
             (EachInChunk self.old chunk
-            (FreeOrLog (first_of self.old chunk) (tail_in self.old chunk) (words_now (R.state region.old) (first_of self.old chunk) (tail_in self.old chunk)))) }
+            (FreeOrLog (first_of self.old chunk) (tail_in self.old chunk)
+            (words_now (R.state region.old) (first_of self.old chunk)
+            (tail_in self.old chunk)))) }
         // The chunk's entries are shown as before, or none of them.
         ensures entries { During (R.state region.old) (R.state region.new)
             (EachInChunk self.old chunk (HasSameOrNone (R.state region.old) self.old chunk)) }

@@ -8,9 +8,9 @@ use Rattle.std.proofs.lemmas.Nat.{pow-add}
 use Rattle.std.proofs.lemmas.Bool.{eqb-true, and_parts, and_from, leb-true, le-leb, lt-leb, ltb-true, or_cases, cases_lt, cases_eq}
 use Rattle.chunk_map.specs.declared.layouts.Geometry.{Geometry}
 use Rattle.chunk_map.specs.Layouts.{IsLayout, is_chunk_size, is_class, has_class, numbers}
-use Rattle.chunk_map.proofs.LayoutLaws.{numbers_of}
+use Rattle.chunk_map.proofs.Clients.{numbers_of}
 use Rattle.store_image.specs.Facts.{In}
-use Rattle.store_image.proofs.SoundLaws.{in_numbers}
+use Rattle.store_image.proofs.Clients.{in_numbers}
 use Rattle.core_room.specs.Lengths.{class_for}
 
 -- what a class says of a length

@@ -41,8 +41,8 @@ use Rattle.core_worker.specs.WorkerMoves.{asked, BeginsIn, SpendsIn, Fixed, repl
 use Rattle.engine_laws.specs.FreeStock.{Stock, LacksRoom}
 use Rattle.engine_laws.specs.RefusalCauses.{HasCause, Refuses}
 use Rattle.engine_laws.specs.RefusalCauses.{is_too_long}
-use Rattle.engine_laws.proofs.CauseLaws.{raised_low, quiet_refuses, at_least_same}
-use Rattle.store_image.proofs.SoundFacts.{in_back}
+use Rattle.engine_laws.proofs.Clients.{raised_low, quiet_refuses, at_least_same}
+use Rattle.store_image.proofs.Clients.{in_back}
 use Rattle.core_worker.proofs.StockFacts.{Stages, still_in, still_stock, stages_spend, staged_stock, stock_small, why_short}
 use Rattle.core_worker.proofs.CauseFacts.{lacks_as_stock, stopped_causeless, answer_causeless, answer_not_full, why_cause, why_full, stock_same}
 use Rattle.core_worker.proofs.HandKeys.{none_for}

@@ -7,10 +7,9 @@ use Rattle.log_entry.specs.declared.entry.Entry.{Entry}
 use Rattle.chunk_map.specs.declared.layouts.Geometry.{Geometry}
 use Rattle.chunk_map.specs.Layouts.{numbers, has_class, is_class}
 use Rattle.store_image.specs.Parts.{chunk_at, unit_at, chunk_units, is_start}
-use Rattle.store_image.proofs.Places.{Numbers, layout_numbers}
-use Rattle.store_image.proofs.BlockLaws.{chunk_of}
+use Rattle.store_image.proofs.Clients.{Numbers, layout_numbers, chunk_of}
 use Rattle.lazy_alloc.specs.Sets.{Sets, AreSets, chunk_class}
-use Rattle.lazy_alloc.proofs.SetLaws.{lies_at}
+use Rattle.lazy_alloc.proofs.Clients.{lies_at}
 use Rattle.group_laws.specs.Places.{Place, core_of, first_unit, units, LiesIn, GetsBlock}
 use Rattle.group_laws.specs.MemberViews.{View}
 use Rattle.group_board.specs.Conditions.{IsClearIn}
@@ -20,8 +19,7 @@ use Rattle.core_worker.specs.OwnPlaces.{place_at}
 use Rattle.core_worker.specs.KeyTies.{IsBlockFor}
 use Rattle.core_worker.specs.Posting.{IsStagedWith}
 use Rattle.core_worker.specs.Ties.{Holds}
-use Rattle.licence.proofs.Blocks.{Start, numbers_of, apart}
-use Rattle.licence.proofs.BlockEvents.{start_at}
+use Rattle.licence.proofs.Clients.{Start, numbers_of, apart, start_at}
 use Rattle.core_worker.proofs.BlockStands.{staged_block}
 
 -- the first number that passes is no greater than any that does

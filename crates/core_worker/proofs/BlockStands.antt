@@ -3,23 +3,22 @@ use Rattle.std.proofs.Common.{◌≡◌, ◌≢◌, inl, inr, ⊎_elim, ℕ, ◌
 use Rattle.std.proofs.lemmas.Bool.{cases_eq, eq-eqb, ne_eqb, and_parts}
 use Rattle.pm_region.specs.State.{State, Frame, IsTelling, cell_now, During}
 use Rattle.pm_region.specs.Words.{KeepsOutside, EachIn, Surely}
-use Rattle.pm_region.proofs.Moments.{at_exit, told_at_entry}
-use Rattle.pm_region.proofs.Narrow.{surely_kept}
+use Rattle.pm_region.proofs.Clients.{at_exit, told_at_entry, surely_kept}
 use Rattle.log_entry.specs.declared.entry.Entry.{Entry}
 use Rattle.log_entry.specs.declared.entry.Body.TheVariants as bodies
 use Rattle.std.specs.Prelude.{is_some}
 use Rattle.chunk_map.specs.declared.layouts.Geometry.{Geometry}
 use Rattle.chunk_map.specs.Layouts.{chunk_words, chunk_first, part_first, has_class}
-use Rattle.store_image.proofs.Places.{layout_numbers}
+use Rattle.store_image.proofs.Clients.{layout_numbers, chunk_of as block_chunk_of}
 use Rattle.core_log.specs.Log.{tail_of, first_of}
 use Rattle.lazy_alloc.specs.Sets.{Sets, AreSets, chunk_of, class_at, chunk_class, chunk_is_due}
 use Rattle.lazy_alloc.specs.Written.{KeepsOthers, HeadTurnsTo, HasHead, WroteValue, head_of}
-use Rattle.lazy_alloc.proofs.SetLaws.{lies_at, class_same}
+use Rattle.lazy_alloc.proofs.Clients.{lies_at, class_same}
 use Rattle.group_laws.specs.Places.{Place, core_of}
 use Rattle.group_laws.specs.MemberViews.{View}
 use Rattle.group_board.specs.Views.{after_post}
 use Rattle.licence.specs.Licence.{Licensed, grounded}
-use Rattle.core_log.proofs.ChunkImages.{outside_chunk}
+use Rattle.core_log.proofs.Clients.{outside_chunk, log_beside}
 use Rattle.core_worker.specs.declared.worker.Worker.{Worker}
 use Rattle.core_worker.specs.declared.types.Leading.TheVariants as leads
 use Rattle.core_worker.specs.declared.types.Place.TheVariants.{Staged}
@@ -28,11 +27,9 @@ use Rattle.core_worker.specs.OwnPlaces.{place_at}
 use Rattle.core_worker.specs.Posting.{IsStagedWith}
 use Rattle.core_worker.specs.KeyTies.{IsBlockFor}
 use Rattle.core_worker.specs.Ties.{HasSpaceFor, Holds, Stands}
-use Rattle.store_image.proofs.BlockLaws.{chunk_of as block_chunk_of}
 use Rattle.core_worker.proofs.Writing.{in_chunks}
-use Rattle.core_log.proofs.LogWrites.{log_beside}
 use Rattle.licence.specs.Writes.{IsUnused, WritesBlock}
-use Rattle.licence.proofs.BlockEvents.{block_licensed, block_chunk, block_gained}
+use Rattle.licence.proofs.Clients.{block_licensed, block_chunk, block_gained}
 use Rattle.core_worker.proofs.PostedBlocks.{posted_gains}
 
 -- the head of a staged change's block is what the write asks

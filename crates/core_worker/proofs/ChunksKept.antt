@@ -4,7 +4,7 @@ use Rattle.std.specs.Prelude.{is_some}
 use Rattle.std.proofs.lemmas.Bool.{cases_eq, ne_eqb, and_from}
 use Rattle.core_log.specs.declared.types.LogChunk.{LogChunk}
 use Rattle.core_log.specs.Log.{LogState, tail_of, with_tail, open_number, open_tail}
-use Rattle.core_log.proofs.TailLaws.{tail_set, tail_other}
+use Rattle.core_log.proofs.Clients.{tail_set, tail_other}
 use Rattle.lazy_alloc.specs.Sets.{Sets, chunk_is_free}
 use Rattle.batch_leader.specs.Persisting.{opened_for}
 use Rattle.core_worker.specs.OwnChunks.{IsFreeOrData, AreChunks}

@@ -6,10 +6,9 @@ use Rattle.fs_model.specs.Cells.{answer_to, is_change}
 use Rattle.core_worker.specs.Answering.{is_read}
 use Rattle.pm_region.specs.State.{State, IsTelling, cell_now}
 use Rattle.pm_region.specs.Words.{lasts, MayLeaveIn}
-use Rattle.pm_region.proofs.Cells.{may_be_last}
+use Rattle.pm_region.proofs.Clients.{may_be_last}
 use Rattle.log_entry.specs.Words.{words_for, unpacked, words_from}
-use Rattle.log_entry.proofs.Bytes.{length-unpacked}
-use Rattle.log_entry.proofs.Images.{length-words}
+use Rattle.log_entry.proofs.Clients.{length-unpacked, length-words}
 use Rattle.log_entry.specs.declared.entry.Body.{Body}
 use Rattle.log_entry.specs.declared.entry.Body.TheVariants as bodies
 use Rattle.chunk_map.specs.Layouts.{has_class}

@@ -12,7 +12,7 @@ use Rattle.core_index.specs.Index.{known_at, room_at}
 use Rattle.core_index.specs.Records.{is_forgettable}
 use Rattle.recover.specs.Starts.{IsSpelledIndex}
 use Rattle.lazy_alloc.specs.Sets.{AreSets, SameChunks, block_is_used}
-use Rattle.lazy_alloc.proofs.SetLaws.{same_part, class_same}
+use Rattle.lazy_alloc.proofs.Clients.{same_part, class_same}
 use Rattle.store_image.specs.Facts.{In}
 use Rattle.group_laws.specs.declared.types.Block.{Block}
 use Rattle.group_laws.specs.declared.types.Pending.{Pending}
@@ -21,7 +21,7 @@ use Rattle.group_laws.specs.MemberViews.{View}
 use Rattle.group_board.specs.Conditions.{IsFree}
 use Rattle.licence.specs.Licence.{grounded}
 use Rattle.licence.specs.ViewChanges.{AllowsAll}
-use Rattle.licence.proofs.Quiet.{allowed}
+use Rattle.licence.proofs.Clients.{allowed}
 use Rattle.core_worker.specs.declared.types.Place as places
 use Rattle.core_worker.specs.declared.types.Place.TheVariants.{Free, Staged, Posted}
 use Rattle.core_worker.specs.declared.worker.Worker.{Worker}

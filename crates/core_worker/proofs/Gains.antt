@@ -10,9 +10,7 @@ use Rattle.chunk_map.specs.Layouts.{is_class, has_class}
 use Rattle.store_image.specs.Parts.{chunk_units, is_start}
 use Rattle.lazy_alloc.specs.Sets.{Sets, AreSets, Takes, TakesBlock, Cuts, start_in, chunk_of, chunk_is_free, chunk_class, chunk_is_due, class_at, block_is_used}
 use Rattle.lazy_alloc.specs.Form.{class_by}
-use Rattle.lazy_alloc.proofs.SetLaws.{SamePart, same_part, class_same, free_block, lies_at}
-use Rattle.lazy_alloc.proofs.CutLaws.{class_point, class_fits}
-use Rattle.lazy_alloc.proofs.PlaceLaws.{placed_class}
+use Rattle.lazy_alloc.proofs.Clients.{SamePart, same_part, class_same, free_block, lies_at, class_point, class_fits, placed_class}
 use Rattle.core_worker.specs.KeyTies.{IsBlockFor}
 use Rattle.core_worker.specs.OwnChunks.{IsFreeOrData}
 use Rattle.core_worker.specs.Posting.{PointsNowhere}

@@ -6,7 +6,7 @@ use Rattle.pm_region.specs.Words.{lasts}
 use Rattle.chunk_map.specs.declared.layouts.Geometry.{Geometry}
 use Rattle.chunk_map.specs.Layouts.{layout_of}
 use Rattle.store_image.specs.Soundness.{IsSound}
-use Rattle.store_image.proofs.SoundFacts.{store_sound}
+use Rattle.store_image.proofs.Clients.{store_sound}
 use Rattle.recover.specs.declared.types.CoreStart.{CoreStart}
 use Rattle.recover.specs.declared.types.Recovered.{Recovered}
 use Rattle.recover.specs.Regions.{IsCertain}

@@ -10,7 +10,7 @@ use Rattle.core_index.proofs.Clients.{at_told, at_told_other}
 use Rattle.log_standing.specs.declared.types.Copies.{Copies}
 use Rattle.log_standing.specs.NameCounts.{StandingState, name_eq, copies_at, count_in, count_of, is_told, killed, Changes}
 use Rattle.log_standing.specs.NameCounts as counts
-use Rattle.log_standing.proofs.StandingLaws.{same_name, name_same}
+use Rattle.log_standing.proofs.Clients.{same_name, name_same}
 use Rattle.core_worker.specs.Hearing.{is_dead_by}
 use Rattle.core_worker.specs.StandingTies.{HearsOwn}
 use Rattle.core_worker.proofs.Heard.{Hears, hears_none, hears_more, dead_told, standing_told}

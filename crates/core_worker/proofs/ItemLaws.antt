@@ -2,8 +2,7 @@
 use Rattle.std.proofs.Common.{◌≡◌, inl, inr, ⊎_elim, ℕ, ◌<◌, Bool, true, false, [], Option, refl, sym, ◌∙◌, ap, subst}
 use Rattle.std.specs.Prelude.{IfSome}
 use Rattle.pm_region.specs.State.{State}
-use Rattle.pm_region.proofs.Moments.{started}
-use Rattle.pm_region.proofs.Runs.{all_kept}
+use Rattle.pm_region.proofs.Clients.{started, all_kept}
 use Rattle.store_image.specs.Facts.{In}
 use Rattle.group_laws.specs.declared.types.Seen.TheVariants.{Slot}
 use Rattle.group_laws.specs.declared.types.SlotWord.{SlotWord}
@@ -14,7 +13,7 @@ use Rattle.group_laws.specs.MemberViews.{View, view_of}
 use Rattle.group_board.specs.Seats.{SeatAt}
 use Rattle.group_board.specs.Told.{Makes}
 use Rattle.licence.specs.Licence.{Licensed, part_at, part_end}
-use Rattle.batch_leader.proofs.Steps.{no_steps}
+use Rattle.batch_leader.proofs.Clients.{no_steps}
 use Rattle.batch_leader.specs.declared.batch_buffer.BatchBuffer.{BatchBuffer}
 use Rattle.batch_leader.specs.declared.states.Collecting.{Collecting}
 use Rattle.core_worker.specs.WorkerMoves.{awaits_chunk}

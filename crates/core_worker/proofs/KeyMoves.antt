@@ -12,8 +12,7 @@ use Rattle.group_laws.specs.State.{Group}
 use Rattle.group_laws.specs.Runs.{Kind, Runs}
 use Rattle.group_laws.specs.MemberViews.{View}
 use Rattle.pm_region.specs.State.{State, IsTelling, cell_now}
-use Rattle.pm_region.proofs.Moments.{started}
-use Rattle.pm_region.proofs.Runs.{all_kept}
+use Rattle.pm_region.proofs.Clients.{started, all_kept}
 use Rattle.store_image.specs.Facts.{In}
 use Rattle.group_laws.specs.Places as places
 use Rattle.licence.specs.Licence.{Licensed, part_at, part_end}

@@ -6,7 +6,7 @@ use Rattle.group_laws.specs.declared.types.Seen.{Seen}
 use Rattle.group_laws.specs.Places.{Place}
 use Rattle.group_laws.specs.MemberViews.{View}
 use Rattle.licence.specs.Licence.{grounded}
-use Rattle.licence.proofs.Quiet.{allowed, flown}
+use Rattle.licence.proofs.Clients.{allowed, flown}
 use Rattle.core_worker.specs.declared.types.Leading.{Leading}
 use Rattle.core_worker.specs.declared.worker.Worker.{Worker}
 use Rattle.core_worker.specs.Ties.{Leads, HasSpaceFor, is_lost, Holds, Stands}

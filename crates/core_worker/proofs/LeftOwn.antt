@@ -6,7 +6,7 @@ use Rattle.log_entry.specs.declared.entry.Body.TheVariants as bodies
 use Rattle.log_entry.specs.declared.entry.Entry.{Entry}
 use Rattle.log_entry.specs.Spelling.{HasSpelling, words_of}
 use Rattle.log_entry.specs.Words.{words_for}
-use Rattle.log_entry.proofs.Bytes.{length-packed_in}
+use Rattle.log_entry.proofs.Clients.{length-packed_in}
 use Rattle.core_log.specs.Chunk.{lines_for}
 use Rattle.core_log.specs.declared.types.Room.{Room}
 use Rattle.store_image.specs.Facts.{In}

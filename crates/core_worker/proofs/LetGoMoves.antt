@@ -10,8 +10,7 @@ use Rattle.fs_model.specs.declared.model.Reply.TheVariants as replies
 use Rattle.fs_model.specs.Cells.{key_of}
 use Rattle.fs_model.specs.Lawful.{MayReply, IsLawfulFor, cell_left, cell_of, is_finish, is_stopped}
 use Rattle.pm_region.specs.State.{State, IsTelling}
-use Rattle.pm_region.proofs.Moments.{started}
-use Rattle.pm_region.proofs.Runs.{all_kept}
+use Rattle.pm_region.proofs.Clients.{started, all_kept}
 use Rattle.log_entry.specs.declared.entry.Entry.{Entry}
 use Rattle.log_entry.specs.declared.entry.Body.{Body}
 use Rattle.log_entry.specs.declared.entry.Body.TheVariants as bodies
@@ -46,10 +45,10 @@ use Rattle.core_index.specs.Index.{known_at}
 use Rattle.core_index.specs.Records.{last_of}
 use Rattle.engine_laws.specs.FreeStock.{IsAtLeast, LacksRoom}
 use Rattle.engine_laws.specs.RefusalCauses.{raised, HaveCauses, Refuses}
-use Rattle.engine_laws.proofs.CauseLaws.{raised_by_low, causes_up, full_less, quiet_refuses}
+use Rattle.engine_laws.proofs.Clients.{raised_by_low, causes_up, full_less, quiet_refuses}
 use Rattle.lazy_alloc.specs.Sets.{AreSets}
-use Rattle.store_image.proofs.SoundFacts.{in_front}
-use Rattle.group_laws.proofs.Images.{in_map}
+use Rattle.store_image.proofs.Clients.{in_front}
+use Rattle.group_laws.proofs.Clients.{in_map}
 use Rattle.core_worker.proofs.StockFacts.{stages_spend, stock_small}
 use Rattle.core_worker.proofs.CauseFacts.{finish_causeless, all_stopped}
 use Rattle.core_worker.proofs.HandKeys.{holds_key}

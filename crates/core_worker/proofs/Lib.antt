@@ -84,6 +84,7 @@ pub mod StartBlocks
 mod StartHeads
 pub mod Starting
 mod PartsGiven
+pub mod OpeningLaws
 pub mod Clients
 mod Trials
 mod ReachedWords

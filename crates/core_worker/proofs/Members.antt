@@ -1,7 +1,7 @@
 -- The cores of the members of a group.
 use Rattle.std.proofs.Common.{◌≡◌, ℕ, ◌+◌, ◌-◌, ◌*◌, ◌/◌, ◌<◌, ◌≤◌, arith}
 use Rattle.std.proofs.Math.Nat.{mul-le-mul_left, mul-div-le}
-use Rattle.chunk_map.proofs.LayoutLaws.{numbers_of}
+use Rattle.chunk_map.proofs.Clients.{numbers_of}
 use Rattle.group_laws.specs.Places.{Place, IsPlace, members, core_of}
 
 pub core_few : (p : Place) → IsPlace p → (h : ℕ) → h < members p → core_of p h < 16

@@ -6,7 +6,7 @@ use Rattle.log_entry.specs.declared.entry.EntryName.{EntryName}
 use Rattle.log_standing.specs.declared.types.Copies.{Copies}
 use Rattle.log_standing.specs.NameCounts.{StandingState, name_eq, copies_at, count_in, count_of, is_told, one_more, Changes}
 use Rattle.log_standing.specs.NameCounts as counts
-use Rattle.log_standing.proofs.StandingLaws.{same_name}
+use Rattle.log_standing.proofs.Clients.{same_name}
 use Rattle.batch_leader.specs.declared.taken.Taken.{Taken}
 use Rattle.batch_leader.specs.TakenChanges.{entries_in, name_in}
 use Rattle.core_worker.specs.StandingTies.{named_in, most_names, AddsNames}

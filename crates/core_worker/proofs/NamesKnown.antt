@@ -3,10 +3,10 @@ use Rattle.std.proofs.Common.{◌≡◌, ◌⊎◌, inl, inr, ⊎_elim, ℕ, zer
 use Rattle.std.specs.Prelude.{is_some}
 use Rattle.log_entry.specs.declared.entry.Entry.{Entry}
 use Rattle.core_index.specs.Slots as slots
-use Rattle.group_laws.proofs.Puts.{In-append_left, In-append_right, In-append}
+use Rattle.group_laws.proofs.Clients.{In-append_left, In-append_right, In-append}
 use Rattle.log_standing.specs.NameCounts.{StandingState, name_eq, count_in, count_of}
 use Rattle.log_standing.specs.NameCounts as counts
-use Rattle.log_standing.proofs.StandingLaws.{same_name, name_same}
+use Rattle.log_standing.proofs.Clients.{same_name, name_same}
 use Rattle.core_worker.specs.StandingTies.{IsNamedIn, named_in, KnowsLog, SameNames, HasCopies, HearsOwn, AddsNames}
 use Rattle.core_worker.proofs.NamesAdded.{one_if, named_more}
 

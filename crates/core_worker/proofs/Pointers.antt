@@ -4,18 +4,17 @@ use Rattle.std.specs.Option.{IsSome}
 use Rattle.std.specs.List.{AllByRecursion}
 use Rattle.std.proofs.lemmas.Nat.{pow_pos}
 use Rattle.std.proofs.Math.Nat.{mul-le-mul_right, mul-le-mul_left, add-mul}
-use Rattle.core_room.proofs.LengthLaws.{class_for_long, class_fits, class_small}
+use Rattle.core_room.proofs.Clients.{class_for_long, class_fits, class_small}
 use Rattle.chunk_map.specs.Layouts.{has_class}
 use Rattle.std.proofs.lemmas.Bool.{le-leb}
 use Rattle.std.proofs.lemmas.Bool.{eq-eqb, ne_eqb, and_parts, or_cases, leb-true, eqb-true, leb-false, ltb-false}
 use Rattle.chunk_map.specs.declared.layouts.Geometry.{Geometry}
 use Rattle.chunk_map.specs.Layouts.{IsLayout, is_class}
-use Rattle.chunk_map.proofs.LayoutLaws.{numbers_of}
+use Rattle.chunk_map.proofs.Clients.{numbers_of}
 use Rattle.store_image.specs.Parts.{chunk_units}
 use Rattle.lazy_alloc.specs.Sets.{Sets, AreSets, class_at, chunk_is_free, is_free_block, free_chunk_count, free_block_count, part_unit, Takes}
 use Rattle.lazy_alloc.specs.Sets as sets
-use Rattle.lazy_alloc.proofs.SetLaws.{lies_at}
-use Rattle.lazy_alloc.proofs.CountLaws.{count_none}
+use Rattle.lazy_alloc.proofs.Clients.{lies_at, count_none}
 use Rattle.log_entry.specs.Spelling.{HasSpelling, Fits}
 use Rattle.log_entry.specs.declared.entry.Body.{Body}
 use Rattle.log_entry.specs.declared.entry.Body.TheVariants as bodies

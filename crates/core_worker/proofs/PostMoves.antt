@@ -9,8 +9,7 @@ use Rattle.fs_model.specs.declared.model.Request.{Request}
 use Rattle.fs_model.specs.Cells.{key_of}
 use Rattle.pm_region.specs.State.{State, During, IsTelling, cell_now, Rose}
 use Rattle.pm_region.specs.Words.{KeepsOutside}
-use Rattle.pm_region.proofs.Moments.{started}
-use Rattle.pm_region.proofs.Runs.{all_kept}
+use Rattle.pm_region.proofs.Clients.{started, all_kept}
 use Rattle.log_entry.specs.declared.entry.Entry.{Entry}
 use Rattle.log_entry.specs.declared.entry.Body.{Body}
 use Rattle.log_entry.specs.declared.entry.Body.TheVariants as bodies
@@ -46,8 +45,7 @@ use Rattle.core_worker.proofs.HandKeys.{holds_key}
 use Rattle.core_worker.proofs.HandPlaces.{held_at, held_beside}
 use Rattle.core_worker.proofs.QuietMoves.{runs_in}
 use Rattle.engine_laws.specs.FreeStock.{Stock, IsAtLeast}
-use Rattle.engine_laws.proofs.Ampleness.{chunk_big}
-use Rattle.engine_laws.proofs.CauseLaws.{quiet_refuses, at_least_same}
+use Rattle.engine_laws.proofs.Clients.{chunk_big, quiet_refuses, at_least_same}
 use Rattle.core_worker.proofs.CauseFacts.{stock_same}
 use Rattle.core_worker.proofs.StockFacts.{quiet_in, stages_none, stages_spend, stock_small, entry_needs, class_short}
 use Rattle.core_worker.proofs.KeyMoves.{no_steps}

@@ -5,7 +5,7 @@ use Rattle.std.specs.Global.{Global}
 use Rattle.core_worker.specs.declared.types.Leading.TheVariants as leads
 use Rattle.batch_leader.specs.declared.batch_buffer.BatchBuffer.{BatchBuffer}
 use Rattle.licence.specs.Licence.{grounded}
-use Rattle.licence.proofs.Quiet.{allowed}
+use Rattle.licence.proofs.Clients.{allowed}
 use Rattle.core_worker.specs.Ties.{LeadsAt}
 use Rattle.std.proofs.lemmas.Bool.{cases_eq, eqb-true, eq-eqb, ne_eqb}
 use Rattle.pm_region.specs.State.{State}

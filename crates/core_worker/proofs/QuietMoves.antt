@@ -23,7 +23,7 @@ use Rattle.core_worker.specs.OwnPlaces.{key_in, is_of, request_pending}
 use Rattle.core_worker.specs.Ties.{Holds}
 use Rattle.core_worker.specs.Turns.{Steps}
 use Rattle.core_worker.specs.WorkerMoves.{Spends, placed_in, placed_for, placed, stock_of, hands_of, line_in, WorkerMoves, asked_by}
-use Rattle.engine_laws.proofs.CauseLaws.{quiet_refuses}
+use Rattle.engine_laws.proofs.Clients.{quiet_refuses}
 use Rattle.core_worker.proofs.StockFacts.{quiet_in}
 use Rattle.core_worker.proofs.HandKeys.{holds_key}
 

@@ -8,7 +8,7 @@ use Rattle.group_laws.specs.Runs.{Kind, Runs}
 use Rattle.group_laws.specs.Runs.Kind.{Look, Lock}
 use Rattle.group_board.specs.Told.{Makes}
 use Rattle.batch_leader.specs.Leading.{MakesAll}
-use Rattle.batch_leader.proofs.Steps.{makes_then}
+use Rattle.batch_leader.proofs.Clients.{makes_then}
 use Rattle.core_worker.specs.Turns.{looks_at, LooksMade}
 use Rattle.core_worker.specs.Resting.{LoadsOnly}
 use Rattle.engine_laws.specs.Workers.{IsLoad}

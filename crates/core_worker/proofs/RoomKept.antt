@@ -5,13 +5,13 @@ use Rattle.log_entry.specs.declared.entry.Entry.{Entry}
 use Rattle.log_entry.specs.declared.entry.Body.TheVariants as bodies
 use Rattle.log_entry.specs.Spelling.{words_of}
 use Rattle.log_entry.specs.Words.{words_for}
-use Rattle.log_entry.proofs.Bytes.{length-packed_in}
+use Rattle.log_entry.proofs.Clients.{length-packed_in}
 use Rattle.core_room.specs.Lengths.{lines_needed}
 use Rattle.core_log.specs.Chunk.{lines_for}
 use Rattle.core_log.specs.Log.{room_of}
 use Rattle.pm_region.specs.State.{State}
 use Rattle.lazy_alloc.specs.Written.{WroteValue}
-use Rattle.lazy_alloc.proofs.SetLaws.{chunks_same}
+use Rattle.lazy_alloc.proofs.Clients.{chunks_same}
 use Rattle.group_laws.specs.State.{Group}
 use Rattle.group_laws.specs.MemberViews.{View}
 use Rattle.core_worker.specs.Posting.{PostsPlain}

@@ -14,13 +14,13 @@ use Rattle.group_laws.specs.Updates.{put}
 use Rattle.group_laws.specs.Runs.{Kind}
 use Rattle.group_laws.specs.Runs.Kind.{Look}
 use Rattle.group_laws.specs.MemberViews.{View, view_of}
-use Rattle.group_laws.proofs.Puts.{In-append_left, In-append_right}
+use Rattle.group_laws.proofs.Clients.{In-append_left, In-append_right}
 use Rattle.group_board.specs.declared.board.SlotState.{SlotState}
 use Rattle.group_board.specs.Told.{Makes, state_of}
 use Rattle.group_board.specs.Views.{after_find}
 use Rattle.batch_leader.specs.Leading.{MakesAll}
 use Rattle.batch_leader.specs.TakenChanges.{MatchBool}
-use Rattle.batch_leader.proofs.Steps.{no_steps, one_step, makes_then}
+use Rattle.batch_leader.proofs.Clients.{no_steps, one_step, makes_then}
 use Rattle.core_worker.specs.declared.types.Place.{Place}
 use Rattle.core_worker.specs.declared.worker.Worker.{Worker}
 use Rattle.core_worker.specs.OwnPlaces.{place_at, is_posted}

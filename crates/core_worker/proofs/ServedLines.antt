@@ -30,7 +30,7 @@ use Rattle.engine_laws.specs.FreeStock.{Stock, LacksRoom}
 use Rattle.engine_laws.specs.RefusalCauses.{raised, HasCause, HaveCauses}
 use Rattle.lazy_alloc.specs.Sets.{Sets, AreSets}
 use Rattle.engine_laws.specs.RefusalCauses.{is_too_long}
-use Rattle.engine_laws.proofs.CauseLaws.{raised_low, causes_up, at_least_same}
+use Rattle.engine_laws.proofs.Clients.{raised_low, causes_up, at_least_same}
 use Rattle.core_worker.proofs.StockFacts.{Stages, stages_none, staged_stock, why_short}
 use Rattle.core_worker.proofs.CauseFacts.{lacks_as_stock, stopped_causeless, answer_causeless, answer_not_full, why_cause, why_full, stock_same}
 use Rattle.core_worker.proofs.AcceptMoves.{not_stopped, left_by_refusal, may_refuse_for, still_left, still_runs}

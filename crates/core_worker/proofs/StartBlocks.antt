@@ -5,8 +5,7 @@ use Rattle.std.proofs.lemmas.Bool.{eqb-true, and_parts}
 use Rattle.std.proofs.lemmas.Nat.{div-mul-add}
 use Rattle.log_entry.specs.declared.entry.Body.TheVariants.{Pointer}
 use Rattle.log_entry.specs.Words.{words_for, unpacked, words_from}
-use Rattle.log_entry.proofs.Bytes.{length-unpacked}
-use Rattle.log_entry.proofs.Images.{length-words}
+use Rattle.log_entry.proofs.Clients.{length-unpacked, length-words}
 use Rattle.chunk_map.specs.declared.layouts.Geometry.{Geometry}
 use Rattle.chunk_map.specs.declared.heads.Head.{Head}
 use Rattle.chunk_map.specs.declared.heads.Head.TheVariants.{Free, Log, Data}
@@ -16,17 +15,14 @@ use Rattle.store_image.specs.declared.types.PlacedEntry.{PlacedEntry}
 use Rattle.store_image.specs.Facts.{KeepsRules}
 use Rattle.store_image.specs.Parts.{chunk_at, unit_at, class_behind, block_class, block_bytes, held, held_by}
 use Rattle.store_image.specs.Winners.{winner}
-use Rattle.store_image.proofs.Places.{layout_numbers}
+use Rattle.store_image.proofs.Clients.{layout_numbers}
 use Rattle.lazy_alloc.specs.Heads.{class_in}
 use Rattle.lazy_alloc.specs.Sets.{Sets, start_in, chunk_class, class_at, block_is_used}
 use Rattle.recover.specs.Starts.{IsAllocatorOf}
 use Rattle.group_laws.specs.declared.types.Block.{Block}
 use Rattle.group_laws.specs.Places.{Place, IsPlace, members, core_of, owner}
 use Rattle.group_laws.specs.MemberViews.{View}
-use Rattle.group_laws.proofs.Images.{held_there}
-use Rattle.group_laws.proofs.GroupEntries as entries
-use Rattle.group_laws.proofs.GroupEntries.{core_once, own_core, owner_of}
-use Rattle.group_laws.proofs.OpeningFound as founds
+use Rattle.group_laws.proofs.Clients.{held_there, core_once, own_core, owner_of, some_group, wins as entries_wins, won, is_found}
 use Rattle.core_worker.specs.KeyTies.{IsBlockFor}
 use Rattle.core_worker.specs.Openings.{opened_view}
 
@@ -107,14 +103,14 @@ module _ (p : Place) (image : ℕ → ℕ) (place : IsPlace p) (rules : KeepsRul
 
   pub owned : (q : ℕ) (b : Block) → v.blocks q ≡ Some b → Owned q b
   owned q b t =
-      let e = ((founds.is_found p image place rules).blocks m q b).0 t in
-      let y = entries.won p image place rules b.key e.0 e.1 in
+      let e = ((is_found p image place rules).blocks m q b).0 t in
+      let y = won p image place rules b.key e.0 e.1 in
       record { winner_is = y.0; wins = y.1; points = ap (λ z. z.body) y.2 ∙ e.2; own = e.3; holds = sym (held_there p (λ h. image) m q) ∙ e.4 }
 
   pub held_block : (q : ℕ) (b : Block) → v.blocks q ≡ Some b → IsBlockFor a q (length b.bytes)
   held_block q b t =
       let o = owned q b t in
-      let some = entries.some_group p image place rules in
+      let some = some_group p image place rules in
       let whose : layouts.owner l b.key ≡ c = sym (own_core p b.key some (subst (λ (n : ℕ). n < members p) (sym o.own) member)).0 ∙ ap (core_of p) o.own in
       let h = held_class image q (block_class l image c q) b.bytes o.holds in
       record {
@@ -127,10 +123,10 @@ module _ (p : Place) (image : ℕ → ℕ) (place : IsPlace p) (rules : KeepsRul
   pub only_blocks : (q : ℕ) → block_is_used a q ≡ true → (b : Block) × (v.blocks q ≡ Some b)
   only_blocks q used =
       let w = is.won q used in
-      let some = entries.some_group p image place rules in
+      let some = some_group p image place rules in
       let own = own_of p m w.key some member w.owned in
       let holds = held_there p (λ h. image) m q ∙ ap (λ (d : ℕ). held l image d q) (sym w.owned) ∙ rules.holds w.key q w.winner_is w.wins w.points in (
         record { key = w.key; bytes = block_bytes image q },
-        ((founds.is_found p image place rules).blocks m q (record { key = w.key; bytes = block_bytes image q })).1
-            (w.winner_is.entry, entries.wins p image place rules w.key w.winner_is (subst (λ (n : ℕ). n < members p) (sym own) member) w.wins, w.points, own, holds),
+        ((is_found p image place rules).blocks m q (record { key = w.key; bytes = block_bytes image q })).1
+            (w.winner_is.entry, entries_wins p image place rules w.key w.winner_is (subst (λ (n : ℕ). n < members p) (sym own) member) w.wins, w.points, own, holds),
       )

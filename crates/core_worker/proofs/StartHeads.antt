@@ -8,18 +8,16 @@ use Rattle.chunk_map.specs.declared.layouts.Geometry.{Geometry}
 use Rattle.chunk_map.specs.declared.heads.Head.{Head}
 use Rattle.chunk_map.specs.declared.heads.Head.TheVariants.{Free, Log, Data}
 use Rattle.chunk_map.specs.Layouts.{chunk_first, head_at, head_by, payload_words, is_class}
-use Rattle.chunk_map.proofs.LayoutLaws.{chunk_in_part}
+use Rattle.chunk_map.proofs.Clients.{chunk_in_part}
 use Rattle.store_image.specs.Parts.{head_reads, scan_at}
-use Rattle.store_image.proofs.Places.{layout_numbers}
+use Rattle.store_image.proofs.Clients.{layout_numbers}
 use Rattle.core_log.specs.Log.{tail_of, first_of}
 use Rattle.lazy_alloc.specs.Heads.{is_free, class_in}
 use Rattle.lazy_alloc.specs.Sets.{chunk_is_free, chunk_class, chunk_is_due}
 use Rattle.recover.specs.declared.types.CoreStart.{CoreStart}
 use Rattle.recover.specs.Logs.{tail_behind}
 use Rattle.group_laws.specs.Places.{Place, core_of}
-use Rattle.group_laws.proofs.GroupEntries.{core_low}
-use Rattle.group_laws.proofs.PartWords.{licensed_words}
-use Rattle.group_laws.proofs.OpeningTidied as opens
+use Rattle.group_laws.proofs.Clients.{core_low, licensed_words, licensed as opens_licensed}
 use Rattle.licence.specs.Licence.{Licensed}
 use Rattle.core_worker.specs.OwnChunks.{HasChunk, AreChunks}
 use Rattle.core_worker.specs.Openings.{IsStartAt, IsCertainAt, opened_view}
@@ -127,4 +125,4 @@ module _ (p : Place) (m : ℕ) (image : ℕ → ℕ) (start : CoreStart) (at : I
     licensed_now telling other may =
         licensed_words p m (opened_view p m image) other image at.place
         (λ w low high. here.words telling w low high (other w) (may w low high))
-        (opens.licensed p image at.place at.rules m at.member)
+        (opens_licensed p image at.place at.rules m at.member)

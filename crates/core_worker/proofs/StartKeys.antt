@@ -10,8 +10,7 @@ use Rattle.store_image.specs.declared.types.PlacedEntry.{PlacedEntry}
 use Rattle.store_image.specs.Facts.{In, KeepsRules}
 use Rattle.store_image.specs.Parts.{all_entries, held, block_bytes}
 use Rattle.store_image.specs.Winners.{winner, recovered, cell_by}
-use Rattle.store_image.proofs.Copies.{winner_some, winner_max}
-use Rattle.store_image.proofs.SoundFacts.{winner_is}
+use Rattle.store_image.proofs.Clients.{winner_some, winner_max, winner_is}
 use Rattle.core_index.specs.declared.types.Standing.{Standing}
 use Rattle.core_index.specs.Index.{known_at}
 use Rattle.core_index.specs.Records.{KeyRecord, last_of, block_of, standing_of, standing_at, standing_with, stands_alone, is_tombstone, is_empty, is_forgettable}
@@ -22,12 +21,7 @@ use Rattle.group_laws.specs.Places.{Place, IsPlace, members, core_of, owner}
 use Rattle.group_laws.specs.MemberViews.{View}
 use Rattle.group_laws.specs.OpeningImages.{winner_of, home_of, is_own, is_at, is_dead, is_own_dead, alone}
 use Rattle.group_laws.specs.OpeningImages as images
-use Rattle.group_laws.proofs.Images.{held_there}
-use Rattle.group_laws.proofs.GroupEntries as entries
-use Rattle.group_laws.proofs.GroupEntries.{core_once, core_back, own_core}
-use Rattle.group_laws.proofs.OpeningFound as founds
-use Rattle.group_laws.proofs.OpeningFound.{found_is, finds_one}
-use Rattle.group_laws.proofs.OpeningTidied.{all_true, all_from}
+use Rattle.group_laws.proofs.Clients.{held_there, core_once, core_back, own_core, found_is, finds_one, all_true, all_from, home as entries_home, some_group, wins, is_found, own_true}
 use Rattle.core_worker.specs.KeyTies.{KnowsKey, Left, LeftIn}
 use Rattle.core_worker.specs.Hearing.{is_dead_by, heard_at, last_change, HearsAll}
 use Rattle.core_worker.specs.Openings.{opened_view}
@@ -118,7 +112,7 @@ module _ (p : Place) (image : ℕ → ℕ) (place : IsPlace p) (rules : KeepsRul
     low = subst (λ (n : ℕ). n < members p) (sym own) member
 
     pub core_is : core_of p m ≡ layouts.owner p.layout k
-    core_is = ap (core_of p) (sym own) ∙ (own_core p k (entries.some_group p image place rules) low).0
+    core_is = ap (core_of p) (sym own) ∙ (own_core p k (some_group p image place rules) low).0
 
     known : KnownAs (winner p.layout image k) (known_at old k)
     known = is.known k (sym core_is)
@@ -127,7 +121,7 @@ module _ (p : Place) (image : ℕ → ℕ) (place : IsPlace p) (rules : KeepsRul
     stood n = is.standing k n (sym core_is)
 
     group_own : is_own p k ≡ true
-    group_own = founds.own_true p image place rules k low
+    group_own = own_true p image place rules k low
 
     mine : eqb (owner p k) m ≡ true
     mine = eq-eqb (owner p k) m own
@@ -146,7 +140,7 @@ module _ (p : Place) (image : ℕ → ℕ) (place : IsPlace p) (rules : KeepsRul
     block_there : (q : ℕ) (x : PlacedEntry) → winner p.layout image k ≡ Some x → x.entry.body ≡ Pointer q → v.blocks q ≡ Some (record { key = k; bytes = block_bytes image q })
     block_there q x w body =
         let holds = held_there p (λ h. image) m q ∙ ap (λ (c : ℕ). held p.layout image c q) core_is ∙ rules.holds k q x w body in
-        ((founds.is_found p image place rules).blocks m q (record { key = k; bytes = block_bytes image q })).1 (x.entry, entries.wins p image place rules k x low w, body, own, holds)
+        ((is_found p image place rules).blocks m q (record { key = k; bytes = block_bytes image q })).1 (x.entry, wins p image place rules k x low w, body, own, holds)
 
     left_body : (x : PlacedEntry) → winner p.layout image k ≡ Some x → (b : Body) → x.entry.body ≡ b → Left v k b (cell_by (held p.layout image (layouts.owner p.layout k)) b)
     left_body x w (Pointer q) e = (block_bytes image q, rules.holds k q x w e, block_there q x w e)
@@ -164,7 +158,7 @@ module _ (p : Place) (image : ℕ → ℕ) (place : IsPlace p) (rules : KeepsRul
     -- the entry of a name is one of the key, in a log of the group
     home_core : (x : PlacedEntry) → In x es → x.entry.key ≡ k → core_of p (x.core - base) ≡ x.core
     home_core x i key =
-        let at = entries.home p image place rules x i (subst (λ (j : ℕ). owner p j < members p) (sym key) low) in
+        let at = entries_home p image place rules x i (subst (λ (j : ℕ). owner p j < members p) (sym key) low) in
         ap (core_of p) (ap (λ (c : ℕ). c - base) at.3 ∙ core_back p at.0) ∙ sym at.3
 
     named : (n : ℕ) (x : PlacedEntry) → named_in k n es ≡ Some x → In x es × (x.entry.key ≡ k) × (x.entry.version ≡ n)

@@ -13,19 +13,18 @@ use Rattle.chunk_map.specs.Layouts.{numbers, chunk_first, head_at}
 use Rattle.store_image.specs.declared.types.PlacedEntry.{PlacedEntry}
 use Rattle.store_image.specs.Facts.{In}
 use Rattle.store_image.specs.Parts.{payload, scan_at, scan_behind, chunk_entries}
-use Rattle.store_image.proofs.SoundFacts.{number_in}
-use Rattle.store_image.proofs.SoundLaws.{in_numbers}
+use Rattle.store_image.proofs.Clients.{number_in, in_numbers}
 use Rattle.core_log.specs.declared.types.LogChunk.{LogChunk}
 use Rattle.core_log.specs.Log.{tail_of, tail_in, first_of}
 use Rattle.log_standing.specs.NameCounts.{name_eq, count_of}
 use Rattle.log_standing.specs.ChunkCounts.{is_named, has_name}
-use Rattle.log_standing.proofs.StandingLaws.{same_name, name_same}
+use Rattle.log_standing.proofs.Clients.{same_name, name_same}
 use Rattle.recover.specs.declared.types.CoreStart.{CoreStart}
 use Rattle.recover.specs.Logs.{tail_behind}
 use Rattle.group_laws.specs.Places.{Place, members, core_of}
 use Rattle.group_laws.specs.Images.{log_of}
 use Rattle.group_laws.specs.OpeningImages.{kept_in}
-use Rattle.group_laws.proofs.Images.{in_map, of_map, in_flat, of_flat}
+use Rattle.group_laws.proofs.Clients.{in_map, of_map, in_flat, of_flat}
 use Rattle.core_worker.specs.StandingTies.{IsNamedIn}
 use Rattle.core_worker.specs.Openings.{IsStartAt}
 

@@ -28,11 +28,8 @@ use Rattle.group_laws.specs.declared.types.Block.{Block}
 use Rattle.group_laws.specs.declared.types.Pending.{Pending}
 use Rattle.group_laws.specs.Places.{Place, members, core_of, owner}
 use Rattle.group_laws.specs.MemberViews.{View, of_own}
-use Rattle.group_laws.proofs.Images.{part_core}
-use Rattle.group_laws.proofs.OpeningFound as founds
+use Rattle.group_laws.proofs.Clients.{part_core, own_core, has_home, home_has, back, some_group}
 use Rattle.group_laws.specs.OpeningImages.{home_of, is_at, is_dead, is_own_dead}
-use Rattle.group_laws.proofs.GroupEntries.{own_core}
-use Rattle.group_laws.proofs.GroupEntries as entries
 use Rattle.group_board.specs.Seats.{SeatAt}
 use Rattle.core_worker.specs.declared.types.Cleaning.{Cleaning}
 use Rattle.core_worker.specs.declared.types.Place as places
@@ -199,13 +196,13 @@ module _ (p : Place) (m : ℕ) (image : ℕ → ℕ) (start : CoreStart) (layout
 
   -- a name that has this member as its home stands in its log, and the other way round
   own_logged : (k n : ℕ) → home_of p image k n ≡ Some m → Logged p m image start at k n
-  own_logged k n is = let y = founds.home_has p image at.place at.rules k n m is in record { y = y.0; log = y.2; key = y.5; version = y.6 }
+  own_logged k n is = let y = home_has p image at.place at.rules k n m is in record { y = y.0; log = y.2; key = y.5; version = y.6 }
 
   logged_own : (k n : ℕ) → Logged p m image start at k n → (home_of p image k n ≡ Some m) × (owner p k < members p)
   logged_own k n g =
-      let b = entries.back p image at.place at.rules m g.y at.member g.log in
+      let b = back p image at.place at.rules m g.y at.member g.log in
       let core = part_core p image m g.y g.log in
-      ((λ i. home_of p image (sym g.key i) (sym g.version i)) ∙ founds.has_home p image at.place at.rules g.y b.0 m at.member core b.1, subst (λ (j : ℕ). owner p j < members p) g.key b.1)
+      ((λ i. home_of p image (sym g.key i) (sym g.version i)) ∙ has_home p image at.place at.rules g.y b.0 m at.member core b.1, subst (λ (j : ℕ). owner p j < members p) g.key b.1)
 
   mine_of : {X : Type 0} (k : ℕ) (x d y : X) → of_own p m k x d ≡ y → (d ≡ y → ⊥) → (owner p k ≡ m) × (x ≡ y)
   mine_of {X} k x d y is off = by (eqb (owner p k) m) refl is where
@@ -274,7 +271,7 @@ module _ (p : Place) (m : ℕ) (image : ℕ → ℕ) (start : CoreStart) (layout
 
       own_key : (k n : ℕ) (s : Standing) → standing_at (standing_of (known_at start.index k)) n ≡ Some s → owner p k ≡ m
       own_key k n s is = ⊎_elim
-          (λ mine. own_of p m k (entries.some_group p image at.place at.rules) at.member mine)
+          (λ mine. own_of p m k (some_group p image at.place at.rules) at.member mine)
           (λ other. absurd (others k n (heard_at start.core (known_at start.index k) n s) other (stood_now k n s is)))
           (cases_eq (layouts.owner p.layout k) c)
 
@@ -352,7 +349,7 @@ module _ (p : Place) (m : ℕ) (image : ℕ → ℕ) (start : CoreStart) (layout
     recalls = λ k own busy none. idle k busy;
     hand = λ works. N.hand;
     versions = λ k n s now. elim (cases_eq (layouts.owner p.layout k) c) [
-      | inl mine ↦ start_keys.below p image at.place at.rules m at.member start.index at.found.index k (own_of p m k (entries.some_group p image at.place at.rules) at.member mine) w.index start.core core_is N.index n s now
+      | inl mine ↦ start_keys.below p image at.place at.rules m at.member start.index at.found.index k (own_of p m k (some_group p image at.place at.rules) at.member mine) w.index start.core core_is N.index n s now
       | inr other ↦ absurd (others k n s other now)
     ];
     answers =

@@ -17,8 +17,7 @@ use Rattle.core_log.specs.Chunk.{lines_for}
 use Rattle.core_room.specs.Lengths.{class_for, lines_needed}
 use Rattle.lazy_alloc.specs.Sets.{Sets, AreSets, Takes, TakesBlock, Cuts, class_at, chunk_class, part_unit, free_chunk_count, free_block_count, is_free_block, blocks_in}
 use Rattle.lazy_alloc.specs.Written.{WroteValue}
-use Rattle.lazy_alloc.proofs.SetLaws.{blocks_same, free_block, lies_at}
-use Rattle.lazy_alloc.proofs.CountLaws.{count_none}
+use Rattle.lazy_alloc.proofs.Clients.{blocks_same, free_block, lies_at, count_none}
 use Rattle.store_image.specs.Parts.{chunk_units}
 use Rattle.batch_leader.specs.declared.taken.Taken.{Taken}
 use Rattle.batch_leader.specs.TakenChanges.{entries_in, spelled}
@@ -38,7 +37,7 @@ use Rattle.group_laws.specs.MemberViews.{View}
 use Rattle.core_worker.specs.Ties.{Holds}
 use Rattle.core_worker.specs.WorkerMoves.{Hands, SpendsIn, awaits_chunk, lines_free, stock_of, hands_of}
 use Rattle.core_worker.specs.OwnPlaces.{request_by}
-use Rattle.core_room.proofs.LengthLaws.{fit_of}
+use Rattle.core_room.proofs.Clients.{fit_of}
 use Rattle.core_worker.proofs.CauseFacts.{class_is, lines_low, lines_same}
 use Rattle.core_worker.proofs.RoomKept.{embedded_lines, wrote_chunks}
 

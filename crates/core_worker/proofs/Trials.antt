@@ -5,7 +5,7 @@ use Rattle.pm_region.specs.Cell.{Cell}
 use Rattle.pm_region.specs.State.{State, cell_now}
 use Rattle.pm_region.specs.Words.{Surely, lasts}
 use Rattle.pm_region.specs.Split.{Attached}
-use Rattle.pm_region.proofs.Narrow.{surely_certain}
+use Rattle.pm_region.proofs.Clients.{surely_certain}
 use Rattle.chunk_map.specs.declared.layouts.Geometry.{Geometry}
 use Rattle.core_log.specs.Log.{StandsIn}
 use Rattle.recover.specs.declared.types.CoreStart.{CoreStart}
@@ -14,14 +14,14 @@ use Rattle.recover.specs.Regions.{IsCertain}
 use Rattle.recover.specs.Recovering.{IsMade, IsFound, AllStand}
 use Rattle.group_laws.specs.Places.{Place, owner}
 use Rattle.group_laws.specs.Regions.{place_at}
-use Rattle.group_laws.proofs.GroupEntries as entries
+use Rattle.group_laws.proofs.Clients.{some_group}
 use Rattle.core_worker.specs.declared.worker.Worker.{Worker}
 use Rattle.core_worker.specs.Accepting.{HasTie}
 use Rattle.core_worker.specs.Order.{InOrder}
 use Rattle.core_worker.specs.Ties.{Holds, Stands}
 use Rattle.core_worker.specs.Openings.{IsNew, IsStartAt, IsCertainAt, ByEachImage, opened_view}
 use Rattle.core_worker.specs.Trials.{MayAccept, IsSeated}
-use Rattle.core_worker.proofs.Clients.{start_at, certain_at, new_room, new_idle, core_is}
+use Rattle.core_worker.proofs.OpeningLaws.{start_at, certain_at, new_room, new_idle, core_is}
 use Rattle.core_worker.proofs.StartBlocks.{own_of}
 
 -- the words of a region that was attached are certain
@@ -52,7 +52,7 @@ module _ (s : State) (r : Recovered) (core : ℕ) (d start : CoreStart) (w : Wor
   here = certain_at s p m (lasts s) start at (subst (λ (x : CoreStart). StandsIn s x.log) (sym is) (stand core d within)) (omega (arith, first, words)) (λ telling. certain telling)
 
   pub own : (k : ℕ) → k % 8 ≡ core → owner p k ≡ m
-  own k is = own_of p m k (entries.some_group p (lasts s) at.place at.rules) at.member (ap (λ (n : ℕ). k % n) eight ∙ is ∙ sym (core_is l core))
+  own k is = own_of p m k (some_group p (lasts s) at.place at.rules) at.member (ap (λ (n : ℕ). k % n) eight ∙ is ∙ sym (core_is l core))
 
   tied : Holds p m (opened_view p m (lasts s)) w → Stands s p m (opened_view p m (lasts s)) w → InOrder p m (opened_view p m (lasts s)) w → (k : ℕ) → k % 8 ≡ core → HasTie s w k
   tied holds stands order k is = (

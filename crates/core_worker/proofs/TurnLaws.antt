@@ -2,8 +2,7 @@
 use Rattle.std.proofs.Common.{◌+◌, ◌≤◌, ◌≢◌, ◌≡◌, inl, inr, ⊎_elim, ℕ, zero, suc, Bool, true, false, cond, List, [], ◌∷◌, ◌++◌, map, length, Option, Some, None, refl, sym, ◌∙◌, ap, subst, arith}
 use Rattle.std.specs.Prelude.{IfSome, IsSomeAnd}
 use Rattle.pm_region.specs.State.{State, IsTelling, cell_now, Rose}
-use Rattle.pm_region.proofs.Moments.{started, weaken}
-use Rattle.pm_region.proofs.Runs.{all_kept}
+use Rattle.pm_region.proofs.Clients.{started, weaken, all_kept}
 use Rattle.log_entry.specs.declared.entry.Entry.{Entry}
 use Rattle.group_laws.specs.declared.types.Seen.{Seen}
 use Rattle.group_laws.specs.declared.types.Slot.{Slot}
@@ -15,10 +14,10 @@ use Rattle.group_laws.specs.MemberViews.{View, view_of}
 use Rattle.group_board.specs.Seats.{SeatAt}
 use Rattle.group_board.specs.Views.{after_commit}
 use Rattle.licence.specs.Licence.{Licensed, part_at, part_end}
-use Rattle.licence.proofs.Quiet.{allowed}
+use Rattle.licence.proofs.Clients.{allowed}
 use Rattle.batch_leader.specs.TakenChanges.{entries_in, taken_in}
 use Rattle.batch_leader.specs.Persisting.{StaysLicensed, WritesPart}
-use Rattle.batch_leader.proofs.Steps.{runs_then, no_steps}
+use Rattle.batch_leader.proofs.Clients.{runs_then, no_steps}
 use Rattle.core_worker.specs.declared.types.Place as places
 use Rattle.core_worker.specs.declared.types.Leading.{Leading}
 use Rattle.core_worker.specs.declared.types.Leading.TheVariants as leads

@@ -13,7 +13,7 @@ use Rattle.batch_leader.specs.declared.states.Released.{Released}
 use Rattle.batch_leader.specs.declared.states.Released.TheVariants as released
 use Rattle.batch_leader.specs.declared.changes.Changes.{Changes}
 use Rattle.batch_leader.specs.declared.batch_buffer.BatchBuffer.{BatchBuffer}
-use Rattle.batch_leader.proofs.Steps.{makes_then}
+use Rattle.batch_leader.proofs.Clients.{makes_then}
 use Rattle.core_worker.specs.declared.types.Leading.{Leading}
 use Rattle.core_worker.specs.declared.types.Leading.TheVariants as leads
 use Rattle.core_worker.specs.declared.worker.Worker.{Worker}

@@ -4,20 +4,18 @@ use Rattle.std.specs.Prelude.{count_by, is_some, is_none}
 use Rattle.std.proofs.lemmas.Bool.{eq-eqb, and_parts}
 use Rattle.pm_region.specs.State.{State, Frame, IsTelling, cell_now, During}
 use Rattle.pm_region.specs.Words.{KeepsOutside, Surely}
-use Rattle.pm_region.proofs.Moments.{at_exit, told_at_entry}
-use Rattle.pm_region.proofs.Narrow.{surely_kept}
+use Rattle.pm_region.proofs.Clients.{at_exit, told_at_entry, surely_kept}
 use Rattle.log_entry.specs.declared.entry.Entry.{Entry}
 use Rattle.chunk_map.specs.declared.layouts.Geometry.{Geometry}
 use Rattle.chunk_map.specs.Layouts.{numbers, chunk_first, chunk_words, part_first}
-use Rattle.store_image.proofs.Places.{layout_numbers}
+use Rattle.store_image.proofs.Clients.{layout_numbers}
 use Rattle.core_log.specs.Chunk.{padded}
 use Rattle.core_log.specs.Log.{LogState, tail_of, first_of, open_first, open_number, open_tail}
 use Rattle.core_log.specs.Entries.{AppendedBatch}
-use Rattle.core_log.proofs.TailLaws.{tail_other}
-use Rattle.core_log.proofs.BatchLaws.{open_has, open_chunk_of}
+use Rattle.core_log.proofs.Clients.{tail_other, open_has, open_chunk_of, outside_chunk}
 use Rattle.batch_leader.specs.declared.states.Persisted.{Persisted}
 use Rattle.lazy_alloc.specs.Sets.{Sets, AreSets, SameBlocks, chunk_is_free, chunk_class, chunk_is_due}
-use Rattle.lazy_alloc.proofs.SetLaws.{class_same}
+use Rattle.lazy_alloc.proofs.Clients.{class_same}
 use Rattle.group_laws.specs.declared.types.Seen.{Seen}
 use Rattle.group_laws.specs.Places.{Place, core_of}
 use Rattle.group_laws.specs.MemberViews.{View}
@@ -25,7 +23,6 @@ use Rattle.group_board.specs.Views.{after_commit}
 use Rattle.licence.specs.Licence.{Licensed, grounded}
 use Rattle.batch_leader.specs.Leading.{HasSpace}
 use Rattle.batch_leader.specs.Persisting.{HasRoom, opened_for}
-use Rattle.core_log.proofs.ChunkImages.{outside_chunk}
 use Rattle.core_worker.specs.declared.types.Leading.{Leading}
 use Rattle.core_worker.specs.declared.types.Leading.TheVariants as leads
 use Rattle.core_worker.specs.declared.worker.Worker.{Worker}

@@ -13,7 +13,6 @@ ghost use Rattle.core_worker.specs.Accepting.{Prepared, HasTie, StaysTied, Accep
 ghost use Rattle.core_worker.specs.Status.{has_room, is_leading};
 ghost use Rattle.core_worker.specs.Left.{left, most, StartsFirst};
 
-use crate::refusing::key_of;
 use crate::types::{NotAccepted, Place};
 use crate::worker::Worker;
 use fs_model::{Key, Request};
@@ -90,7 +89,7 @@ impl Worker {
         ensures works { self.new.winds_down ≡ self.old.winds_down }
         ensures runs { self.new.stopped ≡ self.old.stopped }
     {
-        let key = key_of(&request);
+        let key = request.key();
         if !self.prepare(alloc, key) {
             return Err(NotAccepted { request });
         }

@@ -22,7 +22,7 @@ ghost use Rattle.core_worker.specs.Serving.{KeepsLine, LeadsNothingYet};
 ghost use Rattle.core_worker.specs.Left.{left, staged_left};
 
 use crate::post_item::place_in;
-use crate::refusing::{key_of, reply_for};
+use crate::refusing::reply_for;
 use crate::types::{Answer, NotAccepted, Place};
 use crate::worker::Worker;
 use chunk_map::layout_sizes::SHORTEST_IN_BLOCK;
@@ -305,7 +305,7 @@ impl Worker {
         ensures given_back { IfErr result (λ back. back.request ≡ request) }
         ensures unchanged { OnErr result (self.new ≡ self.old) }
     {
-        let live = self.is_live(key_of(&request));
+        let live = self.is_live(request.key());
         match self.refusal(&request, live) {
             Some(shortage) => {
                 self.answer(number, reply_for(&shortage), Some(shortage));

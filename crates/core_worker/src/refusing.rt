@@ -23,17 +23,6 @@ pub(crate) fn reply_for(shortage: &Shortage) -> Reply
     }
 }
 
-// Whose request it is.
-pub(crate) fn key_of(request: &Request) -> Key
-    ensures { result ≡ key_of request.now }
-{
-    match request {
-        Request::Put { key, .. } => *key,
-        Request::Get { key } => *key,
-        Request::Delete { key } => *key,
-    }
-}
-
 impl Worker {
     // Whether the key has a value.
     pub(crate) fn is_live(&self, key: Key) -> bool

@@ -14,15 +14,14 @@ use Rattle.store_image.specs.Winners.{winner, winner_in, keys_of, cell_by}
 use Rattle.store_image.specs.Soundness.{points_to}
 use Rattle.store_image.specs.Facts.{In}
 use Rattle.chunk_map.specs.Layouts as layouts
-use Rattle.store_image.proofs.Local.{free_entries}
-use Rattle.store_image.proofs.SoundFacts.{number_in}
+use Rattle.store_image.proofs.Clients.{free_entries, number_in}
 use Rattle.group_laws.specs.declared.types.Slot.{Slot}
 use Rattle.group_laws.specs.declared.types.Slot.TheVariants.{Empty}
 use Rattle.group_laws.specs.Places.{Place, IsPlace, members, core_of, owner}
 use Rattle.group_laws.specs.Updates.{has}
 use Rattle.group_laws.specs.Images.{log_of, block_of}
 use Rattle.group_laws.specs.OpeningImages.{is_own, kept_in, last_of, cell_of, home_of, pointing, block_at, is_dead, is_at, is_own_dead, opened, IsBlank}
-use Rattle.group_laws.proofs.GroupEntries.{core_low}
+use Rattle.group_laws.proofs.Clients.{core_low}
 use Rattle.crash_core.specs.declared.names.Notices.{Notices}
 use Rattle.crash_core.specs.declared.state.CoreView.{CoreView}
 use Rattle.crash_core.specs.Shows.{pair_cmp, notices_of, no_notices, last_in, mailed_in, group_at, IsEmptyView}

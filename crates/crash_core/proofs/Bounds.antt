@@ -4,7 +4,7 @@ use Rattle.std.proofs.Math.Nat.{mul-le-mul_left}
 use Rattle.std.proofs.lemmas.Nat.{mul-le}
 use Rattle.chunk_map.specs.declared.layouts.Geometry.{Geometry}
 use Rattle.chunk_map.specs.Layouts.{IsLayout}
-use Rattle.store_image.proofs.Places.{layout_numbers}
+use Rattle.store_image.proofs.Clients.{layout_numbers}
 
 -- the units of a part
 pub part_small : (l : Geometry) → IsLayout l → l.chunks * (l.chunk_bytes / 256) ≤ 268435456

@@ -15,7 +15,7 @@ use Rattle.group_laws.specs.State.{Group}
 use Rattle.group_laws.specs.Tidying.{Tidied}
 use Rattle.group_laws.specs.Invariant.{Lawful}
 use Rattle.group_laws.specs.Opening.{IsSound, IsFound, AllTidied, IsOpened, nothing}
-use Rattle.group_laws.proofs.Opened as laws
+use Rattle.group_laws.proofs.Clients.{opened as laws_opened}
 use Rattle.crash_core.specs.declared.names.Notices.{Notices}
 use Rattle.crash_core.specs.declared.state.CoreView.{CoreView}
 use Rattle.crash_core.specs.Shows.{pair_cmp, of, notices_of, last_in, group_at, IsEmptyView}
@@ -114,4 +114,4 @@ module _ (p : Place) (place : IsPlace p) (slots : BTreeMap (ℕ × ℕ) Slot) (m
   }
 
   pub lawful : Lawful w
-  lawful = laws.opened w nothing sound opened
+  lawful = laws_opened w nothing sound opened

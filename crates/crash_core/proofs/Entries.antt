@@ -4,7 +4,7 @@ use Rattle.std.proofs.lemmas.Bool.{eqb-true, and_parts}
 use Rattle.std.specs.Ordering.{nat_cmp}
 use Rattle.std.specs.BTreeMap.{is_at}
 use Rattle.std.specs.Map.{lookup}
-use Rattle.group_laws.proofs.Puts.{cond_cases}
+use Rattle.group_laws.proofs.Clients.{cond_cases}
 use Rattle.crash_core.specs.Shows.{pair_cmp}
 use Rattle.crash_core.proofs.Pairs.{number_at, pair_at}
 

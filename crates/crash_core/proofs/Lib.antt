@@ -18,3 +18,4 @@ pub mod Laws
 pub mod Runs
 pub mod Empties
 pub mod Blank
+pub mod Clients

@@ -2,7 +2,7 @@
 use Rattle.std.proofs.Common.{◌≡◌, ℕ, ◌+◌, ◌<◌, zero, suc, List, [], ◌∷◌, take, length, get_or, refl, sym, subst, arith, ◌⊎◌, inl, inr}
 use Rattle.std.proofs.lemmas.List.{take_more}
 use Rattle.store_image.specs.Facts.{In}
-use Rattle.group_laws.proofs.Puts.{In-push, In-append_left, In-append_right}
+use Rattle.group_laws.proofs.Clients.{In-push, In-append_left, In-append_right}
 
 pub In-take_more : {X : Type 0} (x : X) (xs : List X) (i : ℕ) (d : X) → i < length xs → In x (take (i + 1) xs) → (x ≡ get_or xs i d) ⊎ In x (take i xs)
 In-take_more x xs i d l q = In-push x (get_or xs i d) (take i xs) (subst (In x) (take_more xs i d l) q)

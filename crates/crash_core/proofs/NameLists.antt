@@ -5,7 +5,7 @@ use Rattle.std.proofs.lemmas.Bool.{eqb-true, eq-eqb, and_parts, and_from, or_cas
 use Rattle.log_entry.specs.declared.entry.EntryName.{EntryName}
 use Rattle.log_entry.specs.declared.entry.Entry.{Entry}
 use Rattle.group_laws.specs.Updates.{has, without}
-use Rattle.group_laws.proofs.Names.{In_has}
+use Rattle.group_laws.proofs.Clients.{In_has}
 use Rattle.crash_core.proofs.Lists.{In-at}
 
 or_assoc : (a b c : Bool) → ((a || b) || c) ≡ (a || (b || c))

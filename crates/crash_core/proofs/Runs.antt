@@ -5,15 +5,11 @@ use Rattle.std.specs.Prelude.{slice_get}
 use Rattle.std.proofs.lemmas.List.{take_more}
 use Rattle.group_laws.specs.State.{Group}
 use Rattle.group_laws.specs.Invariant.{Lawful}
-use Rattle.group_laws.proofs.Runs.{step_keeps}
-use Rattle.group_laws.proofs.Safe as safe
-use Rattle.group_laws.proofs.Images.{images_safe}
+use Rattle.group_laws.proofs.Clients.{step_keeps, images_safe, run_cell, run_posted, distinct as safe_distinct}
 use Rattle.crash_core.specs.declared.kinds.Kind.{Kind}
 use Rattle.crash_core.specs.declared.kinds.Step.{Step}
 use Rattle.crash_core.specs.declared.state.GroupState.{GroupState}
 use Rattle.crash_core.specs.Shows.{group_of}
-use Rattle.group_laws.proofs.Finishes.{run_cell}
-use Rattle.group_laws.proofs.Posted.{run_posted}
 use Rattle.crash_core.specs.Steps.{IsMade, AreMade, IsReached, kind_of, step_of, kinds_of, run_of}
 
 pub made_keeps : (w : Group) (m : ℕ) (kind : Kind) (u : Group) → Lawful w → IsMade w m kind u → Lawful u
@@ -33,7 +29,7 @@ reached g xs h first made L = record {
   posted = λ k. run_posted (group_of g) (kinds_of (group_of g) xs (group_of h) made) (group_of h) (run_of (group_of g) xs (group_of h) made) first k;
   lawful = L;
   safe = λ images ok. images_safe (group_of h) L images ok;
-  distinct = safe.distinct (group_of h) L;
+  distinct = safe_distinct (group_of h) L;
 }
 
 -- a step that isn't enabled, after i steps

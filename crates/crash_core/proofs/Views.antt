@@ -6,7 +6,7 @@ use Rattle.std.proofs.lemmas.Bool.{cases_eq, cases_lt, eq-eqb, eqb-true, ne_eqb,
 use Rattle.std.proofs.lemmas.Option.{slice_get_within, slice_get-get_or, slice_get_past}
 use Rattle.std.proofs.lemmas.List.{get_or-set_same, get_or-set_other}
 use Rattle.group_laws.specs.Updates.{put, put2, change}
-use Rattle.group_laws.proofs.Puts.{if_into, if2_into}
+use Rattle.group_laws.proofs.Clients.{if_into, if2_into}
 use Rattle.crash_core.specs.Shows.{of}
 
 module _ {V : Type 0} (vs : List V) (m : ℕ) (v w : V) (at : slice_get vs m ≡ Some v) where

@@ -9,9 +9,9 @@ use Rattle.fs_model.specs.Changes.{requests_of}
 use Rattle.pm_region.specs.State.{State}
 use Rattle.chunk_map.specs.Layouts.{owner, IsLayout}
 use Rattle.store_image.specs.Facts.{In}
-use Rattle.store_image.proofs.SoundFacts.{in_front, in_back}
+use Rattle.store_image.proofs.Clients.{in_front, in_back}
 use Rattle.group_laws.specs.State.{Group}
-use Rattle.group_laws.proofs.Images.{in_map}
+use Rattle.group_laws.proofs.Clients.{in_map}
 use Rattle.group_laws.specs.MemberViews.{View, view_of}
 use Rattle.group_laws.specs.Regions.{place_at}
 use Rattle.engine_laws.specs.Parts.{group_of, member_of}

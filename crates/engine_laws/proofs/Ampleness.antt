@@ -7,7 +7,7 @@ use Rattle.chunk_map.specs.declared.layout_sizes.TheConstants.{GREATEST_CLASS}
 use Rattle.chunk_map.specs.declared.layouts.Geometry.{Geometry}
 use Rattle.chunk_map.specs.Chunks.{blocks_in, chunk_units}
 use Rattle.chunk_map.specs.Layouts.{payload_lines, is_class, has_class, IsLayout}
-use Rattle.chunk_map.proofs.LayoutLaws.{numbers_of}
+use Rattle.chunk_map.proofs.Clients.{numbers_of}
 use Rattle.fs_model.specs.declared.model.Request.{Request}
 use Rattle.fs_model.specs.declared.model.Request.TheVariants.{Put, Get, Delete}
 use Rattle.engine_laws.specs.FreeStock.{NeedsBlock}

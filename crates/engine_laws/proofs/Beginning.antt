@@ -6,8 +6,8 @@ use Rattle.fs_model.specs.declared.model.Request.{Request}
 use Rattle.fs_model.specs.declared.model.Reply.{Reply}
 use Rattle.fs_model.specs.declared.model.Reply.TheVariants.{Stopped}
 use Rattle.fs_model.specs.Lawful.{IsLawfulFor, cell_of, stopped_of}
-use Rattle.fs_model.proofs.Answered.{lawful-append}
-use Rattle.store_image.proofs.SoundFacts.{in_either}
+use Rattle.fs_model.proofs.Clients.{lawful-append}
+use Rattle.store_image.proofs.Clients.{in_either}
 use Rattle.group_laws.specs.MemberViews.{View}
 use Rattle.engine_laws.specs.WorkerMoves.{Hands, Fixed, placed, line_in, asked, replied, HoldsKey, AnswersKey}
 use Rattle.engine_laws.specs.Beginning.{BeginsKey}

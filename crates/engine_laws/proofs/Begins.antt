@@ -9,11 +9,11 @@ use Rattle.fs_model.specs.Changes.{requests_of}
 use Rattle.pm_region.specs.State.{IsTold, IsTelling, MayLeave, cell_now}
 use Rattle.pm_region.specs.Cell.{Cell}
 use Rattle.pm_region.specs.Words.{Surely}
-use Rattle.pm_region.proofs.Moments.{started}
+use Rattle.pm_region.proofs.Clients.{started}
 use Rattle.chunk_map.specs.Layouts.{layout_of, owner}
 use Rattle.store_image.specs.Soundness.{IsSound}
-use Rattle.store_image.proofs.SoundLaws.{has_layout}
-use Rattle.headline.proofs.Run.{requests-append}
+use Rattle.store_image.proofs.Clients.{has_layout}
+use Rattle.headline.proofs.Clients.{requests-append}
 use Rattle.headline.specs.Limits.{version_of}
 use Rattle.engine_laws.specs.RefusalCauses.{HaveCauses, raised_by}
 use Rattle.engine_laws.specs.Engine.{Engine, group_for, line}

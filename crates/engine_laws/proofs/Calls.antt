@@ -6,12 +6,11 @@ use Rattle.fs_model.specs.Cells.{key_of}
 use Rattle.fs_model.specs.declared.model.Request.{Request}
 use Rattle.pm_region.specs.State.{State}
 use Rattle.chunk_map.specs.Layouts.{IsLayout}
-use Rattle.store_image.proofs.SoundLaws.{has_layout}
-use Rattle.store_image.proofs.Places.{superblock_facts}
+use Rattle.store_image.proofs.Clients.{has_layout, superblock_facts}
 use Rattle.group_laws.specs.State.{Group}
 use Rattle.group_laws.specs.MemberViews.{View}
 use Rattle.group_laws.specs.Regions.{place_at}
-use Rattle.group_laws.proofs.Others.{run_place}
+use Rattle.group_laws.proofs.Clients.{run_place}
 use Rattle.engine_laws.specs.Parts.{group_of}
 use Rattle.engine_laws.specs.WorkerMoves.{Hands, Fixed}
 use Rattle.engine_laws.specs.Engine.{Engine}

@@ -5,8 +5,7 @@ use Rattle.pm_region.specs.State.{IsTold, MayLeave}
 use Rattle.log_entry.specs.declared.entry.Entry.{Entry}
 use Rattle.chunk_map.specs.declared.layouts.Geometry.{Geometry}
 use Rattle.chunk_map.specs.Layouts.{owner, IsLayout}
-use Rattle.store_image.proofs.SoundLaws.{has_layout}
-use Rattle.store_image.proofs.Places.{superblock_facts}
+use Rattle.store_image.proofs.Clients.{has_layout, superblock_facts}
 use Rattle.group_laws.specs.declared.types.Slot.{Slot}
 use Rattle.group_laws.specs.declared.types.Seen.{Seen}
 use Rattle.group_laws.specs.declared.types.Slot.TheVariants.{Empty, Posted, Taken, Done, Failed}
@@ -15,7 +14,7 @@ use Rattle.group_laws.specs.Places as places
 use Rattle.group_laws.specs.State.{Group}
 use Rattle.group_laws.specs.Invariant.{PendsAt}
 use Rattle.group_laws.specs.Regions.{groups_in, place_at, key_group}
-use Rattle.group_laws.proofs.GroupEntries.{own_core}
+use Rattle.group_laws.proofs.Clients.{own_core}
 use Rattle.engine_laws.specs.Parts.{group_of, member_of}
 use Rattle.engine_laws.specs.WorkerMoves.{Placed}
 use Rattle.engine_laws.specs.Engine.{Engine, group_for}

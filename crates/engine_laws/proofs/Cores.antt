@@ -4,11 +4,11 @@ use Rattle.std.proofs.Math.Nat.{div-lt_iff_lt-mul}
 use Rattle.std.proofs.lemmas.Nat.{div-add-mod'}
 use Rattle.chunk_map.specs.declared.layouts.Geometry.{Geometry}
 use Rattle.chunk_map.specs.Layouts.{IsLayout, owner}
-use Rattle.chunk_map.proofs.LayoutLaws.{numbers_of}
+use Rattle.chunk_map.proofs.Clients.{numbers_of}
 use Rattle.group_laws.specs.Places.{IsPlace, core_of}
 use Rattle.group_laws.specs.Places as places
 use Rattle.group_laws.specs.Regions.{groups_in, place_at, key_group}
-use Rattle.group_laws.proofs.GroupEntries.{own_core, owner_of, core_low, core_once}
+use Rattle.group_laws.proofs.Clients.{own_core, owner_of, core_low, core_once}
 use Rattle.engine_laws.specs.Parts.{group_of, member_of}
 
 pub core_number : (l : Geometry) (g h : ℕ) → core_of (place_at l g) h ≡ g * l.group + h

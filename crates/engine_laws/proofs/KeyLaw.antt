@@ -1,14 +1,11 @@
 -- One key by itself: a call after another.
-use Rattle.std.proofs.Common.{◌≡◌, inl, inr, ◌⊎◌, ℕ, ◌+◌, List, [], ◌∷◌, ◌++◌, map, length, take, refl, sym, ◌∙◌, ap, subst, arith, ◌||◌, true, false, Bool, cond, Option, Some, None, append_assoc, append-nil, length-append}
+use Rattle.std.proofs.Common.{◌≡◌, inl, inr, ◌⊎◌, ℕ, ◌+◌, List, [], ◌∷◌, ◌++◌, map, refl, sym, ◌∙◌, ap, subst, ◌||◌, true, false, Bool, cond, Option, Some, None, append_assoc, append-nil}
 use Rattle.std.specs.List.{AllByRecursion}
-use Rattle.std.proofs.lemmas.List.{take-append-le, take_all}
 use Rattle.fs_model.specs.declared.model.Request.{Request}
 use Rattle.fs_model.specs.declared.model.Reply.{Reply}
 use Rattle.fs_model.specs.declared.model.Reply.TheVariants.{Stopped}
 use Rattle.fs_model.specs.Cells.{cell_after, is_change}
 use Rattle.fs_model.specs.Lawful.{IsLawfulFor, MayReply, cell_of, cell_left, stopped_of, is_finish, is_stopped}
-use Rattle.fs_model.specs.Changes.{cell_after_all, IsPrefixCell}
-use Rattle.fs_model.proofs.Answered.{changes-append}
 use Rattle.group_laws.specs.declared.types.Pending.{Pending}
 use Rattle.engine_laws.specs.WorkerMoves.{Placed, Fixed, replied}
 use Rattle.engine_laws.specs.Keys.{finished, changes_on, posted_in, History}
@@ -17,7 +14,6 @@ use Rattle.engine_laws.proofs.Numbers.{all_map}
 use Rattle.engine_laws.proofs.Histories.{cell_of-append, stopped_of-append, many, stopped_lawful, finishes_open, finished-append, open_end}
 use Rattle.engine_laws.proofs.Histories as histories
 use Rattle.engine_laws.proofs.KeyMoves.{stop_all, stopped_cell, stopped_none, stop_found, posted_stopped, chain}
-use Rattle.engine_laws.proofs.Stands.{front_of, posted_unfinished}
 
 module _ (start : Option (List ℕ)) (v u : KeyView) (place place' : Option Placed) (stopped stopped' : Bool) (xs : List (Request × Reply)) (fixed : List Fixed) (S : KeyIs start v place stopped xs) (K : Does v u place place' stopped stopped' fixed) (after : Holds u place' stopped') where
   abbrev ys : List (Request × Reply)
@@ -146,19 +142,3 @@ module _ (start : Option (List ℕ)) (v u : KeyView) (place place' : Option Plac
 
   pub key_goes : KeyIs start u place' stopped' (xs ++ ys)
   key_goes = record { history = grown.0; cell = cell_is; halted = halted'; holds = after; pending = next }
-
--- What a crash may show of the key: its cell after the finished changes, or after one more.
-take_front : (xs ys : List Request) (f : ℕ) → f ≡ length xs → take f (xs ++ ys) ≡ xs
-take_front xs ys f e = take-append-le f xs ys (omega (arith, e)) ∙ take_all f xs (omega (arith, e))
-
-pub key_shows : (start : Option (List ℕ)) (v : KeyView) (place : Option Placed) (stopped : Bool) (xs : List (Request × Reply)) (c : Option (List ℕ)) → KeyIs start v place stopped xs → (c ≡ v.cell) ⊎ ((p : Pending) × (v.pending ≡ Some p) × (c ≡ v.left p.entry.body))
-    → IsPrefixCell start (changes_on start (xs ++ posted_in place)) (length (finished xs)) c
-key_shows start v place stopped xs c S (inl is) =
-    let begins = front_of start xs (posted_in place) (posted_unfinished place) in
-    inl (is ∙ sym S.cell ∙ sym S.history.left ∙ ap (λ l. cell_after_all l start) (sym (take_front (finished xs) begins.0 (length (finished xs)) refl) ∙ ap (take (length (finished xs))) (sym begins.1)))
-key_shows start v place stopped xs c S (inr next) =
-    let n = S.pending next.0 next.1 in
-    let cut : take (length (finished xs) + 1) (changes_on start (xs ++ posted_in place)) ≡ finished xs ++ n.0 ∷ [] =
-    ap (take (length (finished xs) + 1)) (n.2 ∙ sym (append_assoc (finished xs) (n.0 ∷ []) n.1))
-    ∙ take_front (finished xs ++ n.0 ∷ []) n.1 (length (finished xs) + 1) (let long = length-append (finished xs) (n.0 ∷ []) in omega (arith, long)) in
-    inr (next.2 ∙ n.3 ∙ ap (cell_after n.0) (sym S.cell ∙ sym S.history.left) ∙ sym (changes-append start (finished xs) (n.0 ∷ [])) ∙ ap (λ l. cell_after_all l start) (sym cut))

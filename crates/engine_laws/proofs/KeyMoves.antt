@@ -13,15 +13,14 @@ use Rattle.fs_model.specs.Changes.{requests_of}
 use Rattle.log_entry.specs.declared.entry.Entry.{Entry}
 use Rattle.chunk_map.specs.Layouts.{owner}
 use Rattle.store_image.specs.Facts.{In}
-use Rattle.store_image.proofs.SoundFacts.{in_front, in_back}
+use Rattle.store_image.proofs.Clients.{in_front, in_back}
 use Rattle.group_laws.specs.declared.types.Pending.{Pending}
 use Rattle.group_laws.specs.Places as places
 use Rattle.group_laws.specs.State.{Group}
 use Rattle.group_laws.specs.Steps.{left_by}
-use Rattle.group_laws.proofs.Images.{in_map}
+use Rattle.group_laws.proofs.Clients.{in_map, run_place, run_doubt}
 use Rattle.group_laws.specs.MemberViews.{View, view_of}
 use Rattle.group_laws.specs.Regions.{key_group}
-use Rattle.group_laws.proofs.Others.{run_place}
 use Rattle.group_board.specs.Views.{left_in}
 use Rattle.engine_laws.specs.Parts.{group_of, member_of, Groups}
 use Rattle.engine_laws.proofs.Cores.{of_member, key_group_low}
@@ -39,7 +38,6 @@ use Rattle.engine_laws.specs.Keys.{finished, changes_on, Served, served_as, pair
 use Rattle.engine_laws.proofs.Numbers.{IsUp, up, up_apart, up_tail, all_in, in_all, all_append, all_map, one_key, in_filter, filter_in}
 use Rattle.engine_laws.proofs.Histories.{cell_of-append, stopped_of-append, many, stopped_lawful, finishes_open, finished-append, open_end}
 use Rattle.engine_laws.proofs.Histories as histories
-use Rattle.group_laws.proofs.Doubts.{run_doubt}
 
 abbrev asked_in : Served → ℕ × Request
 asked_in x = (x.number, x.request)

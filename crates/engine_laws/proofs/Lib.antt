@@ -29,5 +29,5 @@ mod Drained
 pub mod Kept
 pub mod Beginning
 mod KeyLaw
-mod Exits
 mod Trials
+pub mod Clients

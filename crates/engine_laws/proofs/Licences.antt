@@ -5,19 +5,18 @@ use Rattle.std.proofs.lemmas.Nat.{div-mul-add, mod-mul-add}
 use Rattle.pm_region.specs.Cell.{Cell}
 use Rattle.pm_region.specs.State.{Frame, InRange, MayLeave}
 use Rattle.pm_region.specs.Words.{EachIn, KeepsOutside}
-use Rattle.pm_region.proofs.Narrow.{kept_narrows, surely_kept}
+use Rattle.pm_region.proofs.Clients.{kept_narrows, surely_kept}
 use Rattle.chunk_map.specs.declared.layouts.Geometry.{Geometry}
 use Rattle.chunk_map.specs.Layouts.{part_first, layout_of, superblock_rule, IsLayout, layout_rule, magic, total_bytes}
-use Rattle.chunk_map.proofs.LayoutLaws.{part_below, part_within}
-use Rattle.store_image.proofs.Places.{superblock_facts}
+use Rattle.chunk_map.proofs.Clients.{part_below, part_within}
+use Rattle.store_image.proofs.Clients.{superblock_facts}
 use Rattle.group_laws.specs.Places.{Place, members}
 use Rattle.group_laws.specs.State.{Group}
 use Rattle.group_laws.specs.MemberViews.{View, view_of}
 use Rattle.group_laws.specs.Images.{IsLicensedBy, IsSafe}
 use Rattle.group_laws.specs.Regions.{groups_in, place_at, AreSafe, ShowsCell}
 use Rattle.group_laws.specs.Runs.{Kind, Runs}
-use Rattle.group_laws.proofs.Images.{images_safe}
-use Rattle.group_laws.proofs.SafeRegions.{region_sound, region_cells}
+use Rattle.group_laws.proofs.Clients.{images_safe, region_sound, region_cells}
 use Rattle.licence.specs.Licence.{Licensed}
 use Rattle.engine_laws.specs.Parts.{group_of, member_of, LicensedPart, HasSuperblock, AllLicensed, Groups, ShowsGroups}
 use Rattle.engine_laws.proofs.Cores.{core_is, member_core}

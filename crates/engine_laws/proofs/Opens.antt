@@ -8,20 +8,17 @@ use Rattle.pm_region.specs.Cell.{Cell}
 use Rattle.pm_region.specs.Words.{Surely}
 use Rattle.chunk_map.specs.declared.layouts.Geometry.{Geometry}
 use Rattle.chunk_map.specs.Layouts.{part_first, layout_of, IsLayout}
-use Rattle.chunk_map.proofs.LayoutLaws.{part_within}
+use Rattle.chunk_map.proofs.Clients.{part_within}
 use Rattle.store_image.specs.Soundness.{IsSound}
 use Rattle.store_image.specs.Winners as winners
-use Rattle.store_image.proofs.SoundLaws.{has_layout}
-use Rattle.store_image.proofs.SoundFacts.{sound_store}
-use Rattle.store_image.proofs.Places.{superblock_facts}
+use Rattle.store_image.proofs.Clients.{has_layout, sound_store, superblock_facts}
 use Rattle.group_laws.specs.Places.{Place, core_of, members}
 use Rattle.group_laws.specs.Places as places
 use Rattle.group_laws.specs.State.{Group}
 use Rattle.group_laws.specs.OpeningImages.{opened, is_own}
-use Rattle.group_laws.proofs.OpeningTidied as laws
+use Rattle.group_laws.proofs.Clients.{lawful as laws_lawful, licensed as laws_licensed, licensed_words}
 use Rattle.group_laws.specs.MemberViews.{view_of}
 use Rattle.group_laws.specs.Regions.{place_at, key_group}
-use Rattle.group_laws.proofs.PartWords.{licensed_words}
 use Rattle.engine_laws.specs.Parts.{group_of, member_of, AllLicensed, Groups, HasSuperblock}
 use Rattle.engine_laws.proofs.Cores.{group_low, member_low, core_is, place_is, owner_member}
 
@@ -39,7 +36,7 @@ module _ (bytes : ℕ) (found : ℕ → ℕ) (sound : IsSound bytes found) where
   pub opens_lawful : Groups l (opened_groups found)
   opens_lawful = record {
     place = λ g low. refl;
-    lawful = λ g low. laws.lawful (place_at l g) found (place_is l is_layout g low) (sound_store bytes found sound).rules;
+    lawful = λ g low. laws_lawful (place_at l g) found (place_is l is_layout g low) (sound_store bytes found sound).rules;
   }
 
   -- Where each word is certain, each part is licensed.
@@ -54,7 +51,7 @@ module _ (bytes : ℕ) (found : ℕ → ℕ) (sound : IsSound bytes found) where
       let low' : part_first l c ≤ n = subst (λ (d : ℕ). part_first l d ≤ n) core from in
       let high' : n < part_first l (c + 1) = subst (λ (d : ℕ). n < part_first l (d + 1)) core to in
       sure n (omega (arith, end, size, high')) (image n) (may n from to))
-      (laws.licensed at found (place_is l is_layout (group_of l c) (group_low l is_layout c low)) (sound_store bytes found sound).rules (member_of l c) (member_low l is_layout c))
+      (laws_licensed at found (place_is l is_layout (group_of l c) (group_low l is_layout c low)) (sound_store bytes found sound).rules (member_of l c) (member_low l is_layout c))
 
   pub opens_superblock : (cells : ℕ → Cell) → ((w : ℕ) → w < bytes / 8 → Surely (cells w) (found w)) → HasSuperblock found cells
   opens_superblock cells sure w low = let f = superblock_facts bytes found (has_layout bytes found sound) in sure w (omega (arith, f.0, low))

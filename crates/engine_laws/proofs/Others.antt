@@ -10,7 +10,7 @@ use Rattle.group_laws.specs.State.{Group}
 use Rattle.group_laws.specs.Steps.{left_by}
 use Rattle.group_laws.specs.MemberViews.{view_of, of_own}
 use Rattle.group_laws.specs.Runs.{Kind, Runs}
-use Rattle.group_laws.proofs.Others.{run_frame}
+use Rattle.group_laws.proofs.Clients.{run_frame}
 use Rattle.group_board.specs.Views.{left_in}
 use Rattle.engine_laws.specs.Parts.{group_of, member_of}
 

@@ -12,19 +12,16 @@ use Rattle.fs_model.specs.declared.model.Reply.TheVariants.{Stopped}
 use Rattle.fs_model.specs.Cells.{key_of}
 use Rattle.fs_model.specs.Lawful.{IsLawful, Fits, IsLawfulFor, is_finish, is_told, is_stopped, stopped_of, asked}
 use Rattle.fs_model.specs.Changes.{requests_of, names, finished_by, cell_after_all, IsPrefixCell}
-use Rattle.fs_model.proofs.Answered.{lawful-append}
+use Rattle.fs_model.proofs.Clients.{lawful-append}
 use Rattle.pm_region.specs.State.{IsTold, IsTelling, MayLeave, cell_now}
 use Rattle.chunk_map.specs.declared.layouts.Geometry.{Geometry}
 use Rattle.chunk_map.specs.Layouts.{layout_of, owner, IsLayout}
 use Rattle.store_image.specs.Facts.{In}
 use Rattle.store_image.specs.Winners.{recovered}
-use Rattle.store_image.proofs.SoundFacts.{in_back, in_either}
-use Rattle.store_image.proofs.SoundLaws.{has_layout}
-use Rattle.store_image.proofs.Places.{superblock_facts}
+use Rattle.store_image.proofs.Clients.{in_back, in_either, has_layout, superblock_facts}
 use Rattle.group_laws.specs.declared.types.Pending.{Pending}
 use Rattle.headline.specs.Headline.{Told, finished_in, refused_in, changes_in, Answers, cells_of, Recovers, HasOwnBlocks}
-use Rattle.headline.proofs.Run.{requests-append, prefix_grows}
-use Rattle.headline.proofs.Images.{sound_blocks}
+use Rattle.headline.proofs.Clients.{requests-append, prefix_grows, sound_blocks}
 use Rattle.group_laws.specs.Regions.{key_group}
 use Rattle.engine_laws.specs.Parts.{Groups, AllLicensed}
 use Rattle.engine_laws.specs.WorkerMoves.{Placed, placed, requests_for}
@@ -39,7 +36,7 @@ use Rattle.engine_laws.proofs.Stands.{until_few, front_of, posted_unfinished}
 use Rattle.engine_laws.proofs.Cores.{owner_low}
 use Rattle.engine_laws.proofs.ReplyKinds.{are_replies}
 use Rattle.engine_laws.proofs.KeyMoves.{posted_stopped}
-use Rattle.group_laws.proofs.Images.{in_map, of_map}
+use Rattle.group_laws.proofs.Clients.{in_map, of_map}
 use Rattle.engine_laws.proofs.Licences.{shows_groups}
 
 count_cons : {X : Type 0} (p : X → Bool) (x : X) (xs : List X) → count_by p (x ∷ xs) ≡ cond (p x) 1 0 + count_by p xs

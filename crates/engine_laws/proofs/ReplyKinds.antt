@@ -10,7 +10,7 @@ use Rattle.fs_model.specs.Cells.{key_of, answer_to}
 use Rattle.fs_model.specs.Lawful.{IsLawful, IsLawfulFor, MayReply, asked, cell_left, is_stopped, may_refuse}
 use Rattle.store_image.specs.Facts.{In}
 use Rattle.headline.specs.Kinds.{AreReplies, is_reply_to}
-use Rattle.headline.proofs.Counted.{stopped_to}
+use Rattle.headline.proofs.Clients.{stopped_to}
 use Rattle.engine_laws.proofs.Numbers.{all_in, filter_in}
 
 given_kind : (q : Request) (c : Option (List ℕ)) → is_reply_to q (answer_to q c) ≡ true

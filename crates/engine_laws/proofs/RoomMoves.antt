@@ -15,14 +15,12 @@ use Rattle.chunk_map.specs.declared.layouts.Geometry.{Geometry}
 use Rattle.chunk_map.specs.Chunks.{blocks_in}
 use Rattle.chunk_map.specs.Layouts.{layout_of, owner, numbers, payload_lines, is_class, has_class, IsLayout}
 use Rattle.store_image.specs.Facts.{In}
-use Rattle.store_image.proofs.SoundFacts.{in_front, in_back, in_either}
-use Rattle.store_image.proofs.SoundLaws.{has_layout}
-use Rattle.store_image.proofs.Places.{superblock_facts}
+use Rattle.store_image.proofs.Clients.{in_front, in_back, in_either, has_layout, superblock_facts}
 use Rattle.group_laws.specs.State.{Group}
 use Rattle.group_laws.specs.MemberViews.{View, view_of}
 use Rattle.core_log.specs.Chunk.{lines_for}
 use Rattle.log_entry.specs.Spelling.{words_of}
-use Rattle.group_laws.proofs.Others.{run_frame}
+use Rattle.group_laws.proofs.Clients.{run_frame}
 use Rattle.headline.specs.Ample.{lines_of, is_put_of}
 use Rattle.engine_laws.specs.Parts.{group_of, member_of}
 use Rattle.engine_laws.specs.FreeStock.{Stock, is_put_in}

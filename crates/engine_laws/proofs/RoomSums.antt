@@ -8,7 +8,7 @@ use Rattle.fs_model.specs.declared.model.Request.{Request}
 use Rattle.chunk_map.specs.Layouts.{numbers}
 use Rattle.store_image.specs.Facts.{In}
 use Rattle.group_laws.specs.Updates.{same_entry, times, sum_below}
-use Rattle.group_laws.proofs.Times.{same_entry-true, times-same, times-other}
+use Rattle.group_laws.proofs.Clients.{same_entry-true, times-same, times-other}
 use Rattle.engine_laws.specs.Spending.{lines_in}
 
 pub sum_cons : {X : Type 0} (f : X → ℕ) (x : X) (xs : List X) → sum_by f (x ∷ xs) ≡ f x + sum_by f xs

@@ -12,9 +12,8 @@ use Rattle.chunk_map.specs.declared.layout_sizes.TheConstants.{GREATEST_CLASS}
 use Rattle.chunk_map.specs.declared.layouts.Geometry.{Geometry}
 use Rattle.chunk_map.specs.Layouts.{layout_of, owner, numbers, IsLayout}
 use Rattle.store_image.specs.Facts.{In}
-use Rattle.store_image.proofs.SoundLaws.{has_layout}
-use Rattle.store_image.proofs.Places.{superblock_facts}
-use Rattle.group_laws.proofs.Images.{in_map}
+use Rattle.store_image.proofs.Clients.{has_layout, superblock_facts}
+use Rattle.group_laws.proofs.Clients.{in_map}
 use Rattle.headline.specs.Ample.{lines_of, log_bytes, is_put_of, IsAmpleFor}
 use Rattle.headline.specs.Limits.{IsAsked}
 use Rattle.engine_laws.specs.Parts.{Groups, group_of, member_of}

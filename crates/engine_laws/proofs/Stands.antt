@@ -10,29 +10,27 @@ use Rattle.fs_model.specs.declared.model.Reply.{Reply}
 use Rattle.fs_model.specs.Cells.{key_of, cell_after}
 use Rattle.fs_model.specs.Lawful.{is_finish}
 use Rattle.fs_model.specs.Changes.{cell_after_all, IsPrefixCell}
-use Rattle.fs_model.proofs.Answered.{changes-append}
+use Rattle.fs_model.proofs.Clients.{changes-append}
 use Rattle.pm_region.specs.Cell.{Cell}
 use Rattle.pm_region.specs.State.{IsTold, IsTelling, MayLeave, cell_now, Rose}
 use Rattle.pm_region.specs.Words.{KeepsOutside}
-use Rattle.pm_region.proofs.Moments.{then_on, weaken, at_exit, told_at_entry}
+use Rattle.pm_region.proofs.Clients.{then_on, weaken, at_exit, told_at_entry}
 use Rattle.chunk_map.specs.declared.layouts.Geometry.{Geometry}
 use Rattle.chunk_map.specs.Layouts.{layout_of, owner, IsLayout, part_first}
 use Rattle.store_image.specs.Winners.{recovered}
-use Rattle.store_image.proofs.SoundLaws.{has_layout}
-use Rattle.store_image.proofs.Places.{superblock_facts}
+use Rattle.store_image.proofs.Clients.{has_layout, superblock_facts}
 use Rattle.group_laws.specs.Places.{Place, core_of, members}
 use Rattle.group_laws.specs.Places as places
 use Rattle.group_laws.specs.State.{Group}
 use Rattle.group_laws.specs.Invariant.{Lawful}
 use Rattle.group_laws.specs.Crashes.{Leaves}
 use Rattle.group_laws.specs.Steps.{left_by, bytes_of}
-use Rattle.group_laws.proofs.Runs.{run_keeps}
+use Rattle.group_laws.proofs.Clients.{run_keeps, run_place}
 use Rattle.log_entry.specs.declared.entry.Body.{Body}
 use Rattle.log_entry.specs.declared.entry.Body.TheVariants.{Pointer, Embedded, Tombstone}
-use Rattle.headline.proofs.Run.{prefix_grows}
+use Rattle.headline.proofs.Clients.{prefix_grows}
 use Rattle.group_laws.specs.MemberViews.{View}
 use Rattle.group_laws.specs.Regions.{groups_in, place_at}
-use Rattle.group_laws.proofs.Others.{run_place}
 use Rattle.engine_laws.specs.Parts.{group_of, member_of, Groups, AllLicensed, HasSuperblock, ShowsGroups}
 use Rattle.engine_laws.specs.WorkerMoves.{Placed, Fixed, replied, fixed_of}
 use Rattle.engine_laws.specs.Engine.{Engine, group_for, cell_at}

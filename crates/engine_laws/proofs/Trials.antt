@@ -9,7 +9,7 @@ use Rattle.fs_model.specs.Cells.{key_of, answer_to}
 use Rattle.fs_model.specs.Lawful.{cell_of}
 use Rattle.pm_region.specs.State.{cell_now}
 use Rattle.pm_region.specs.Words.{KeepsOutside}
-use Rattle.pm_region.proofs.Moments.{started}
+use Rattle.pm_region.proofs.Clients.{started}
 use Rattle.chunk_map.specs.declared.layouts.Geometry.{Geometry}
 use Rattle.chunk_map.specs.Layouts.{part_first, owner, payload_lines}
 use Rattle.group_laws.specs.Updates.{put}

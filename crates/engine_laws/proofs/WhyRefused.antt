@@ -16,8 +16,8 @@ use Rattle.log_entry.specs.declared.entry_limits.TheConstants.{LAST_PUT_VERSION}
 use Rattle.chunk_map.specs.declared.layouts.Geometry.{Geometry}
 use Rattle.chunk_map.specs.Layouts.{layout_of, owner}
 use Rattle.store_image.specs.Facts.{In}
-use Rattle.store_image.proofs.SoundFacts.{in_either, in_front}
-use Rattle.group_laws.proofs.Images.{in_map, of_map}
+use Rattle.store_image.proofs.Clients.{in_either, in_front}
+use Rattle.group_laws.proofs.Clients.{in_map, of_map}
 use Rattle.headline.specs.Limits.{IsAsked, may_change, version_of, changes_asked}
 use Rattle.engine_laws.specs.RefusalCauses.{raised, raised_by, HasCause, HaveCauses}
 use Rattle.engine_laws.specs.WorkerMoves.{requests_for}

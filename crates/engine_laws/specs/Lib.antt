@@ -20,4 +20,3 @@ pub mod Promises
 pub mod Workers
 pub mod Advance
 pub mod KeyLaw
-pub mod Exits

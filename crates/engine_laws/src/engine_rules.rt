@@ -1,35 +1,29 @@
 // The laws of an engine over several cores and groups.
-ghost use Rattle.std.specs.Prelude.{◌≡◌, ◌≢◌, ℕ, ◌<◌, ◌/◌, ◌++◌, List, map, length, Bool, true, false, Option, None};
+ghost use Rattle.std.specs.Prelude.{◌≡◌, ◌≢◌, ℕ, ◌<◌, ◌/◌, ◌++◌, List, map, Bool, true, false, Option, None};
 ghost use Rattle.std.specs.List.{AllByRecursion};
 ghost use Rattle.fs_model.specs.declared.model.Request.{Request};
 ghost use Rattle.fs_model.specs.declared.model.Reply.{Reply};
-ghost use Rattle.fs_model.specs.Lawful.{IsLawful, Fits};
-ghost use Rattle.fs_model.specs.Changes.{finished_by, cell_after_all};
 ghost use Rattle.fs_text.specs.declared.line.Line.{Line};
 ghost use Rattle.pm_region.specs.Cell.{Cell};
 ghost use Rattle.pm_region.specs.State.{State, Frame, MayLeave, Rose};
-ghost use Rattle.chunk_map.specs.declared.layouts.Geometry.{Geometry};
 ghost use Rattle.chunk_map.specs.Layouts.{layout_of, superblock_rule};
 ghost use Rattle.group_laws.specs.declared.types.Seen.{Seen};
 ghost use Rattle.group_laws.specs.State.{Group};
 ghost use Rattle.group_laws.specs.MemberViews.{View};
 ghost use Rattle.group_laws.specs.Runs.{Kind, Runs};
-ghost use Rattle.headline.specs.Headline.{Recovers, changes_in, cells_of, finished_in};
 ghost use Rattle.engine_laws.specs.Parts.{Groups, HasSuperblock, AllLicensed, ShowsGroups};
 ghost use Rattle.engine_laws.specs.WorkerMoves.{Placed, Hands, Fixed, replied, AnswersKey, HoldsKey};
 ghost use Rattle.engine_laws.specs.Beginning.{BeginsKey};
-ghost use Rattle.engine_laws.specs.Engine.{Engine, Answer};
+ghost use Rattle.engine_laws.specs.Engine.{Engine};
 ghost use Rattle.engine_laws.specs.Moves.{Moves};
 ghost use Rattle.engine_laws.specs.Causes.{Causes};
 ghost use Rattle.engine_laws.specs.Stands.{Origin, Stands, StandsNow, given_to, opening};
-ghost use Rattle.engine_laws.specs.Reports.{replies_from};
 ghost use Rattle.engine_laws.specs.Promises.{IsOrigin, HasStopped, Promised, IsDone, AnyMove, AnyTurn};
 ghost use Rattle.engine_laws.specs.Ran.{Ran, asked_in};
 ghost use Rattle.engine_laws.specs.Ceasing.{IsResting, Halts, AllRest, HasCeased};
 ghost use Rattle.engine_laws.specs.Workers.{Sits, IsLoad};
 ghost use Rattle.engine_laws.specs.Advance.{Calls, moved_to};
 ghost use Rattle.engine_laws.specs.KeyLaw.{KeyView, Holds, Does, KeyIs};
-ghost use Rattle.engine_laws.specs.Exits.{Ended, told_by};
 
 /// Where each group is lawful and each part is licensed, whatever a crash leaves of the whole region is sound. It
 /// recovers for each key its owner's cell, or the one that its pending change leaves.
@@ -131,29 +125,4 @@ pub fn every_key()
         → KeyIs start v place stopped xs → Does v u place place' stopped stopped' fixed
         → Holds u place' stopped'
         → KeyIs start u place' stopped' (xs ++ map replied fixed) }
-{}
-
-/// What holds where a run on threads has ended: lawful replies that fit the report, crashes that recover all finished
-/// changes of a key or one more, and all changes where no core has stopped.
-pub fn every_exit()
-    ensures recovers { (l : Geometry) (w : ℕ → Group) (start : ℕ → Option (List ℕ))
-        (trace : List Request) (ans : ℕ → Option Answer) (stopped : ℕ → Bool) (now bytes : ℕ)
-        (image : ℕ → ℕ) → Ended l w start trace ans stopped now → ShowsGroups bytes l w image
-        → Recovers bytes start trace (told_by ans (length trace))
-        (λ k. finished_by k trace (told_by ans (length trace)).finishes now) image }
-    ensures lawful { (l : Geometry) (w : ℕ → Group) (start : ℕ → Option (List ℕ))
-        (trace : List Request) (ans : ℕ → Option Answer) (stopped : ℕ → Bool) (now : ℕ)
-        → Ended l w start trace ans stopped now
-        → IsLawful start trace (replies_from ans 0 (length trace)) }
-    ensures fits { (l : Geometry) (w : ℕ → Group) (start : ℕ → Option (List ℕ))
-        (trace : List Request) (ans : ℕ → Option Answer) (stopped : ℕ → Bool) (now : ℕ)
-        → Ended l w start trace ans stopped now
-        → Fits (finished_in (told_by ans (length trace))) (told_by ans (length trace)).refusals
-        (replies_from ans 0 (length trace)) }
-    ensures last { (l : Geometry) (w : ℕ → Group) (start : ℕ → Option (List ℕ))
-        (trace : List Request) (ans : ℕ → Option Answer) (stopped : ℕ → Bool) (now bytes : ℕ)
-        (image : ℕ → ℕ) → Ended l w start trace ans stopped now
-        → ((k : ℕ) → stopped k ≡ false) → ShowsGroups bytes l w image → (k : ℕ)
-        → cells_of image k
-        ≡ cell_after_all (changes_in start trace (told_by ans (length trace)) k) (start k) }
 {}

@@ -7,9 +7,7 @@ use Rattle.chunk_map.specs.declared.layouts.Geometry.{Geometry}
 use Rattle.chunk_map.specs.Layouts.{numbers, layout_of, superblock_rule, total_bytes, chunk_first, head_at}
 use Rattle.chunk_map.specs.Chunks.{is_free}
 use Rattle.store_image.specs.Winners.{winner, winner_in}
-use Rattle.store_image.proofs.Agree.{entries_agree}
-use Rattle.store_image.proofs.Local.{head_same}
-use Rattle.store_image.proofs.Places.{Numbers, layout_numbers, superblock_facts, in_region, chunk_number}
+use Rattle.store_image.proofs.Clients.{entries_agree, head_same, Numbers, layout_numbers, superblock_facts, in_region, chunk_number}
 use Rattle.headline.specs.Ample.{IsAmpleFor, free_chunks}
 use Rattle.headline.specs.Limits.{version_in, version_of}
 

@@ -5,8 +5,7 @@ use Rattle.fs_model.specs.declared.model.Reply.{Reply}
 use Rattle.fs_model.specs.declared.model.Reply.TheVariants.{Stopped}
 use Rattle.headline.specs.Headline.{Told}
 use Rattle.headline.specs.Run.{Answered, Recorded}
-use Rattle.headline.proofs.Run.{recorded_stopped}
-use Rattle.headline.proofs.Counted.{are_more, stopped_to}
+use Rattle.headline.proofs.Clients.{recorded_stopped, are_more, stopped_to}
 use Rattle.headline.specs.Kinds.{AreReplies}
 
 -- as many replies `Stopped` as there are requests

@@ -10,11 +10,9 @@ use Rattle.fs_model.specs.declared.model.Request.{Request}
 use Rattle.chunk_map.specs.Layouts.{layout_of, layout_rule, total_bytes, magic}
 use Rattle.store_image.specs.declared.types.Fault.TheVariants.{NotARegion}
 use Rattle.store_image.specs.Soundness.{IsSound, first_fault, fault_by}
-use Rattle.store_image.proofs.Agree.{fault_agrees}
-use Rattle.store_image.proofs.Places.{layout_numbers, superblock_facts}
-use Rattle.store_image.proofs.SoundLaws.{has_layout}
+use Rattle.store_image.proofs.Clients.{fault_agrees, layout_numbers, superblock_facts, has_layout}
 use Rattle.headline.specs.Headline.{cells_of, RecoversThroughout}
-use Rattle.headline.proofs.Images.{at_attach}
+use Rattle.headline.proofs.Clients.{at_attach}
 use Rattle.flatstore.specs.Played.{StandsWhole}
 
 -- a region that is too long breaks the first rule, whatever its words

@@ -9,21 +9,18 @@ use Rattle.pm_region.specs.Words.{EachIn, Surely}
 use Rattle.pm_region.specs.Split.{Attached, Refuses, IsOpenedOnceMore, words_in}
 use Rattle.pm_region.specs.declared.split.AttachError.{AttachError}
 use Rattle.flatstore.proofs.Opened.{creates_once}
-use Rattle.pm_region.proofs.Cells.{certain_may_be}
-use Rattle.pm_region.proofs.Narrow.{surely_certain}
+use Rattle.pm_region.proofs.Clients.{certain_may_be, surely_certain, over_weaken}
 use Rattle.chunk_map.specs.declared.layouts.Geometry.{Geometry}
 use Rattle.chunk_map.specs.Layouts.{numbers, IsLayout, head_by, total_bytes, chunk_first, owner, superblock_rule}
 use Rattle.chunk_map.specs.Superblock.{IsSuperblock, IsRefusedOrWhole, NarrowsOutside}
-use Rattle.chunk_map.proofs.LayoutLaws.{numbers_of, chunk_words_whole, chunk_in_part, part_within, parts_end}
-use Rattle.chunk_map.proofs.SuperLaws.{keeps_rules}
+use Rattle.chunk_map.proofs.Clients.{numbers_of, chunk_words_whole, chunk_in_part, part_within, parts_end, keeps_rules}
 use Rattle.store_image.specs.declared.types.PlacedEntry.{PlacedEntry}
 use Rattle.store_image.specs.declared.types.Fault.TheVariants.{NotARegion}
 use Rattle.store_image.specs.Facts.{In, KeepsRules}
 use Rattle.store_image.specs.Parts.{all_entries, part_entries, chunk_entries, chunk_reads, scan_behind, head_reads, placed, held}
 use Rattle.store_image.specs.Winners.{winner_in, cell_by}
 use Rattle.store_image.specs.Soundness.{first_fault, fault_by}
-use Rattle.store_image.proofs.SoundFacts.{store_sound}
-use Rattle.pm_region.proofs.Moments.{over_weaken}
+use Rattle.store_image.proofs.Clients.{store_sound}
 use Rattle.flatstore.specs.declared.report.Status.TheVariants as statuses
 use Rattle.flatstore.specs.declared.report.Report.{Report}
 use Rattle.flatstore.specs.Attaching.{Runs, Creates}

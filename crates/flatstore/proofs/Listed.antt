@@ -6,8 +6,7 @@ use Rattle.pm_region.specs.Words.{lasts}
 use Rattle.pm_region.specs.Split.{Attached}
 use Rattle.store_image.specs.Listing.{ListsCells}
 use Rattle.store_image.specs.Soundness.{IsSound}
-use Rattle.store_image.proofs.Agree.{cells_agree}
-use Rattle.store_image.proofs.SoundLaws.{has_layout}
+use Rattle.store_image.proofs.Clients.{cells_agree, has_layout}
 use Rattle.headline.specs.Headline.{cells_of}
 use Rattle.flatstore.proofs.Attached.{found_fault, found_words, sound_small}
 

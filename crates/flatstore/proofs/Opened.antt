@@ -4,7 +4,7 @@ use Rattle.pm_region.specs.State.{State, Frame}
 use Rattle.pm_region.specs.Split.{Attached, Refuses, IsOpenedOnceMore}
 use Rattle.pm_region.specs.declared.split.AttachError.{AttachError}
 use Rattle.pm_region.specs.declared.split.AttachError.TheVariants.{RegionFault}
-use Rattle.pm_region.proofs.Moments.{over_started}
+use Rattle.pm_region.proofs.Clients.{over_started}
 use Rattle.chunk_map.specs.declared.layouts.Geometry.{Geometry}
 use Rattle.chunk_map.specs.Layouts.{total_bytes}
 use Rattle.flatstore.specs.Attaching.{Runs, GoesOnFrom, Attaches, Creates}

@@ -16,14 +16,13 @@ use Rattle.chunk_map.specs.Layouts.{layout_of, owner}
 use Rattle.store_image.specs.declared.types.Fault.{Fault}
 use Rattle.store_image.specs.declared.types.Fault.TheVariants as faults
 use Rattle.store_image.specs.Soundness.{IsSound, first_fault}
-use Rattle.store_image.proofs.Places.{superblock_facts}
-use Rattle.store_image.proofs.SoundLaws.{has_layout}
+use Rattle.store_image.proofs.Clients.{superblock_facts, has_layout}
 use Rattle.core_room.specs.declared.types.Shortage.TheVariants.{Versions}
 use Rattle.headline.specs.Ample.{IsAmpleFor}
 use Rattle.headline.specs.Limits.{IsAsked, version_of, changes_asked}
 use Rattle.headline.specs.Headline.{Told, Answers, cells_of, finished_in, refused_in, RecoversThroughout}
 use Rattle.headline.specs.Run.{Recorded}
-use Rattle.headline.proofs.Run.{recorded}
+use Rattle.headline.proofs.Clients.{recorded}
 use Rattle.group_engine.specs.declared.run_report.Refusal.{Refusal}
 use Rattle.group_engine.specs.Answers.{reply_to}
 use Rattle.group_engine.specs.Reports.{told}

@@ -12,7 +12,7 @@ use Rattle.group_engine.specs.declared.run_outcome.End.TheVariants as ends
 use Rattle.group_engine.specs.declared.run_outcome.Outcome.{Outcome}
 use Rattle.group_engine.specs.Replayed.{report_in}
 use Rattle.group_engine.specs.Reports.{ReportsOn, told, told_by}
-use Rattle.engine_laws.proofs.Ran.{ran_given}
+use Rattle.engine_laws.proofs.Clients.{ran_given}
 use Rattle.flatstore.specs.Attaching.{Runs}
 use Rattle.flatstore.specs.LastStates.{told_in, RanTo}
 use Rattle.flatstore.specs.Promise.{IsInput, Replays, IsAllOut}

@@ -13,7 +13,7 @@ use Rattle.engine_laws.specs.Stands.{Origin, opening, given_to}
 use Rattle.engine_laws.specs.Promises.{AnyTurn}
 use Rattle.engine_laws.specs.Parts.{AllLicensed}
 use Rattle.engine_laws.specs.Ran.{Ran}
-use Rattle.engine_laws.proofs.Ran.{ran_seen}
+use Rattle.engine_laws.proofs.Clients.{ran_seen}
 use Rattle.core_worker.specs.declared.worker.Worker.{Worker}
 use Rattle.group_engine.specs.declared.run_outcome.End.TheVariants as ends
 use Rattle.group_engine.specs.declared.run_outcome.Outcome.{Outcome}

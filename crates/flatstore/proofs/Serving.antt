@@ -18,8 +18,7 @@ use Rattle.log_entry.specs.declared.entry_limits.TheConstants.{LAST_PUT_VERSION}
 use Rattle.chunk_map.specs.declared.layouts.Geometry.{Geometry}
 use Rattle.chunk_map.specs.Layouts.{layout_of, superblock_rule, owner}
 use Rattle.store_image.specs.Soundness.{IsSound, first_fault}
-use Rattle.store_image.proofs.Agree.{cells_agree, fault_agrees}
-use Rattle.store_image.proofs.SoundLaws.{has_layout}
+use Rattle.store_image.proofs.Clients.{cells_agree, fault_agrees, has_layout}
 use Rattle.headline.specs.Headline.{Answers, Told, finished_in, refused_in, cells_of, Recovers, RecoversThroughout, RecoversAll, changes_in}
 use Rattle.headline.specs.Kinds.{AreReplies}
 use Rattle.headline.specs.Ample.{IsAmpleFor}

@@ -7,9 +7,7 @@ use Rattle.chunk_map.specs.declared.layouts.Geometry.{Geometry}
 use Rattle.chunk_map.specs.Layouts.{layout_of}
 use Rattle.store_image.specs.Parts.{all_entries}
 use Rattle.store_image.specs.Soundness.{IsSound}
-use Rattle.store_image.proofs.Agree.{entries_agree}
-use Rattle.store_image.proofs.Places.{layout_numbers, superblock_facts}
-use Rattle.store_image.proofs.SoundLaws.{has_layout}
+use Rattle.store_image.proofs.Clients.{entries_agree, layout_numbers, superblock_facts, has_layout}
 use Rattle.flatstore.proofs.Attached.{found_fault, found_words, sound_small}
 
 pub entries_found : (old s : State) (found : ℕ → ℕ) → Attached old s s.frame.bytes found → IsTelling s → IsSound s.frame.bytes (lasts s)

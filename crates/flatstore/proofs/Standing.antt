@@ -7,10 +7,10 @@ use Rattle.pm_region.specs.Words.{lasts}
 use Rattle.pm_region.specs.Split.{words_in}
 use Rattle.chunk_map.specs.declared.layouts.Geometry.{Geometry}
 use Rattle.chunk_map.specs.Layouts.{layout_of}
-use Rattle.chunk_map.proofs.LayoutLaws.{numbers_of}
+use Rattle.chunk_map.proofs.Clients.{numbers_of}
 use Rattle.store_image.specs.Soundness.{first_fault}
-use Rattle.store_image.proofs.SoundFacts.{store_sound}
-use Rattle.headline.proofs.Images.{certain_may_be}
+use Rattle.store_image.proofs.Clients.{store_sound}
+use Rattle.headline.proofs.Clients.{certain_may_be}
 use Rattle.recover.specs.declared.types.Recovered.{Recovered}
 use Rattle.recover.specs.Regions.{IsCertain}
 use Rattle.recover.specs.Recovering.{IsMade, IsFound, AllStand}

@@ -7,8 +7,7 @@ use Rattle.fs_text.specs.Output.{replies_text}
 use Rattle.headline.specs.Headline.{Answers, Told}
 use Rattle.chunk_map.specs.Layouts.{layout_of}
 use Rattle.store_image.specs.Soundness.{IsSound}
-use Rattle.store_image.proofs.Places.{superblock_facts, layout_numbers}
-use Rattle.store_image.proofs.SoundLaws.{has_layout}
+use Rattle.store_image.proofs.Clients.{superblock_facts, layout_numbers, has_layout}
 use Rattle.flatstore.specs.Promise.{WritesAll, WritesFront}
 
 pub both : (b : Bool) {P : Type 0} → b ≡ true → b ≡ false → P

@@ -37,7 +37,8 @@ region_command name = with_rule (new_app name) (word_rule (codes "region"))
 abbrev pub format_command : App
 format_command =
     with_rule (with_rule (with_rule (with_rule (region_command (codes "format"))
-    (number_rule (codes "cores"))) (number_rule (codes "group"))) (number_rule (codes "chunks"))) (number_rule (codes "chunk-bytes"))
+    (number_rule (codes "cores"))) (number_rule (codes "group"))) (number_rule (codes "chunks")))
+    (number_rule (codes "chunk-bytes"))
 
 abbrev pub bare_program : App
 bare_program = on_top (λ s. record s { subcommand_required = true }) (new_app (codes "flatstore"))
@@ -50,7 +51,9 @@ writing_program =
 
 -- the command of the program
 abbrev pub program : App
-program = with_subcommand (with_subcommand writing_program (region_command (codes "dump")).top) (region_command (codes "log")).top
+program =
+    with_subcommand (with_subcommand writing_program (region_command (codes "dump")).top)
+    (region_command (codes "log")).top
 
 -- no kind of error comes
 abbrev pub is_good : Kinds → Bool
@@ -88,7 +91,8 @@ layout_in rows =
       chunks = chunks;
       chunk_bytes = chunk_bytes;
     }))
-    (number_in (codes "chunk-bytes") rows)) (number_in (codes "chunks") rows)) (number_in (codes "group") rows)) (number_in (codes "cores") rows)
+    (number_in (codes "chunk-bytes") rows)) (number_in (codes "chunks") rows))
+    (number_in (codes "group") rows)) (number_in (codes "cores") rows)
 
 abbrev pub form_named : Text → List Row → Text → Option Form
 form_named name rows path =
@@ -99,7 +103,9 @@ form_named name rows path =
     else (if bytes_eq name (codes "log") then Some (Log path) else None))))
 
 abbrev pub form_in : Option (Text × List Row) → Option Form
-form_in subcommand = option_and_then (λ s. option_and_then (form_named s.0 s.1) (first_of (codes "region") s.1)) subcommand
+form_in subcommand =
+    option_and_then (λ s. option_and_then (form_named s.0 s.1) (first_of (codes "region") s.1))
+    subcommand
 
 -- What the words ask for: none where the command doesn't take them, or where the numbers of a layout break a rule of it.
 abbrev pub form_of : List Text → Option Form

@@ -47,25 +47,33 @@ fn interleavings(rt: HostRuntime) -> Result<(), Fail> {
             4,
             ONE_BATCH,
             "stored\nstored\nstored\n",
-            "core 0 chunk 0 place 0 key 0 version 1 embedded 1\ncore 0 chunk 0 place 3 key 1 version 1 embedded 1\ncore 0 chunk 0 place 6 key 2 version 1 embedded 1\n",
+            "core 0 chunk 0 place 0 key 0 version 1 embedded 1\n\
+                core 0 chunk 0 place 3 key 1 version 1 embedded 1\n\
+                core 0 chunk 0 place 6 key 2 version 1 embedded 1\n",
         ),
         (
             4,
             STOLEN,
             "stored\nstored\nvalue a\nstored\nvalue b\n",
-            "core 0 chunk 0 place 0 key 4 version 2 embedded 1\ncore 1 chunk 0 place 0 key 1 version 1 embedded 1\ncore 1 chunk 0 place 3 key 4 version 1 embedded 1\n",
+            "core 0 chunk 0 place 0 key 4 version 2 embedded 1\n\
+                core 1 chunk 0 place 0 key 1 version 1 embedded 1\n\
+                core 1 chunk 0 place 3 key 4 version 1 embedded 1\n",
         ),
         (
             4,
             UNSTOLEN,
             "stored\nstored\nvalue a\nstored\nvalue b\n",
-            "core 0 chunk 0 place 0 key 4 version 1 embedded 1\ncore 0 chunk 0 place 8 key 4 version 2 embedded 1\ncore 1 chunk 0 place 0 key 1 version 1 embedded 1\n",
+            "core 0 chunk 0 place 0 key 4 version 1 embedded 1\n\
+                core 0 chunk 0 place 8 key 4 version 2 embedded 1\n\
+                core 1 chunk 0 place 0 key 1 version 1 embedded 1\n",
         ),
         (
             2,
             ONE_BATCH,
             "stored\nstored\nstored\n",
-            "core 0 chunk 0 place 0 key 0 version 1 embedded 1\ncore 0 chunk 0 place 3 key 1 version 1 embedded 1\ncore 2 chunk 0 place 0 key 2 version 1 embedded 1\n",
+            "core 0 chunk 0 place 0 key 0 version 1 embedded 1\n\
+                core 0 chunk 0 place 3 key 1 version 1 embedded 1\n\
+                core 2 chunk 0 place 0 key 2 version 1 embedded 1\n",
         ),
     ];
     for (group, input, text, log) in table {

@@ -219,8 +219,8 @@ fn two_cores_meet(rt: HostRuntime) -> Result<(), Fail> {
     assert!(rt; !gate.missed.load(Ordering::SeqCst));
     assert_eq!(rt; (gate.asks_of(0), gate.asks_of(1)), (2, 2));
     let log = log_of(&rt, &mut region)?;
-    let first =
-        "core 0 chunk 0 place 0 key 0 version 1 embedded 1\ncore 0 chunk 0 place 3 key 1 version 1 embedded 1\n";
+    let first = "core 0 chunk 0 place 0 key 0 version 1 embedded 1\n\
+            core 0 chunk 0 place 3 key 1 version 1 embedded 1\n";
     assert!(rt; log.as_slice().starts_with(first.as_bytes()));
     Ok(())
 }

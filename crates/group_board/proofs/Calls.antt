@@ -30,7 +30,7 @@ use Rattle.group_laws.specs.MemberViews.{View, view_of}
 use Rattle.group_board.specs.Views.{after_post, after_lock, after_find, after_take, after_unlock, after_commit, after_mark, after_fail, after_finish, after_give_up, after_withdraw, after_doom, after_retire, TidiedIn}
 use Rattle.group_board.specs.Conditions.{MayPost, MayLock, MayLook, MayTake, MayUnlock, MayCommit, MayMark, MayFail, MayFinish, MayWithdraw, MayDoom, MayRetire}
 use Rattle.group_board.specs.Told.{Leads, stood_as}
-use Rattle.group_laws.proofs.Runs.{step_keeps}
+use Rattle.group_laws.proofs.Clients.{step_keeps}
 use Rattle.group_board.proofs.Tidies.{tidied_is}
 use Rattle.group_board.proofs.Journals.{state_is, names_are}
 use Rattle.group_board.proofs.Views as views

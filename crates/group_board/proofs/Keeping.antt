@@ -9,7 +9,7 @@ use Rattle.group_laws.specs.Updates.{put2, has}
 use Rattle.group_laws.specs.State.{Group}
 use Rattle.group_laws.specs.State as laws
 use Rattle.group_laws.specs.Runs.{Kind, IsStep}
-use Rattle.group_laws.proofs.Runs.{step_keeps}
+use Rattle.group_laws.proofs.Clients.{step_keeps}
 use Rattle.crash_core.specs.declared.names.Notices.{Notices}
 use Rattle.crash_core.specs.Shows.{notices_of}
 use Rattle.group_board.specs.declared.board_journal.Journal.{Journal}

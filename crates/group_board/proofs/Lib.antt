@@ -9,3 +9,4 @@ pub mod Calls
 pub mod Mail
 pub mod Opens
 pub mod Trials
+pub mod Clients

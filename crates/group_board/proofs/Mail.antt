@@ -9,12 +9,11 @@ use Rattle.group_laws.specs.Steps.{finds, sends, receives, CanSend}
 use Rattle.group_laws.specs.Tidying.{Tidied}
 use Rattle.group_laws.specs.Runs.{IsStep}
 use Rattle.group_laws.specs.Runs as runs
-use Rattle.group_laws.proofs.Puts.{In-append_right}
+use Rattle.group_laws.proofs.Clients.{In-append_right, step_keeps}
 use Rattle.group_laws.specs.MemberViews.{View, view_of}
 use Rattle.group_board.specs.Views.{after_find, after_send, after_receive, TidiedIn}
 use Rattle.group_board.specs.Conditions.{MaySend}
 use Rattle.group_laws.specs.Invariant.{Lawful}
-use Rattle.group_laws.proofs.Runs.{step_keeps}
 use Rattle.group_board.specs.Assurances.{IsHeard}
 use Rattle.group_board.specs.Told.{AreSteps}
 use Rattle.group_board.proofs.Picks.{here}

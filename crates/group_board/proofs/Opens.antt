@@ -1,18 +1,17 @@
 -- A board that just opened agrees with its journal.
 use Rattle.std.proofs.Common.{◌≡◌, ℕ, ◌+◌, ◌-◌, ◌*◌, ◌/◌, ◌<◌, ◌≤◌, ◌==◌, ◌&&◌, ◌||◌, Bool, true, false, cond, List, [], ◌∷◌, map, find, get_or, Option, Some, None, option_map, refl, sym, ap, ◌∙◌, subst}
 use Rattle.chunk_map.specs.Layouts.{layout_of}
-use Rattle.chunk_map.proofs.LayoutLaws.{numbers_of}
+use Rattle.chunk_map.proofs.Clients.{numbers_of}
 use Rattle.store_image.specs.declared.types.PlacedEntry.{PlacedEntry}
 use Rattle.store_image.specs.Soundness as images
-use Rattle.store_image.proofs.Places.{superblock_facts}
-use Rattle.store_image.proofs.SoundFacts.{sound_store}
+use Rattle.store_image.proofs.Clients.{superblock_facts, sound_store}
 use Rattle.group_laws.specs.declared.types.Slot.{Slot}
 use Rattle.group_laws.specs.declared.types.Slot.TheVariants.{Empty}
 use Rattle.group_laws.specs.Places.{Place, members}
 use Rattle.group_laws.specs.Updates.{has}
 use Rattle.group_laws.specs.Invariant.{Lawful}
 use Rattle.group_laws.specs.OpeningImages.{opened, entries_of, is_own}
-use Rattle.group_laws.proofs.OpeningTidied as laws
+use Rattle.group_laws.proofs.Clients.{lawful as laws_lawful}
 use Rattle.crash_core.specs.declared.names.Notices.{Notices}
 use Rattle.crash_core.specs.Shows.{notices_of}
 use Rattle.group_board.specs.declared.board_journal.Journal.{Journal}
@@ -43,7 +42,7 @@ module _ (bytes g : ℕ) (ws : List ℕ) (sound : images.IsSound bytes (image_of
   pub opened_lawful : Lawful (opened (place_in g ws) (image_of ws))
   opened_lawful =
       let store = sound_store bytes (image_of ws) sound in
-      laws.lawful (place_in g ws) (image_of ws) (record { layout = (superblock_facts bytes (image_of ws) store.superblock).1; group = low }) store.rules
+      laws_lawful (place_in g ws) (image_of ws) (record { layout = (superblock_facts bytes (image_of ws) store.superblock).1; group = low }) store.rules
 
   pub opened_kept : (n : ℕ) (slots : List Slot) (mail : List (Option Notices)) (j : Journal) → (layout_of (image_of ws)).group ≡ n → j ≡ begun g ws
       → ((i : ℕ) → get_or slots i Empty ≡ Empty) → ((i : ℕ) → option_map notices_of (get_or mail i None) ≡ None) → IsKept n None slots mail j

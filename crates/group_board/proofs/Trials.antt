@@ -15,9 +15,9 @@ use Rattle.group_laws.specs.State.{Group}
 use Rattle.group_laws.specs.Runs.{IsStep}
 use Rattle.group_laws.specs.Runs as runs
 use Rattle.group_laws.specs.OpeningImages.{IsBlank}
-use Rattle.group_laws.proofs.Puts.{In-append_right}
+use Rattle.group_laws.proofs.Clients.{In-append_right}
 use Rattle.crash_core.specs.declared.kinds.Change.{Change}
-use Rattle.crash_core.proofs.Blank as blank
+use Rattle.crash_core.proofs.Clients.{no_block, no_last}
 use Rattle.group_board.specs.Journals.{image_of, place_in}
 use Rattle.group_laws.specs.MemberViews.{View, view_of, of_own}
 use Rattle.group_board.specs.Seats.{SeatAt}
@@ -156,7 +156,7 @@ fresh_post = record {
   own = small_owner;
   idle = none_own (eqb (owner fresh.place 1) 1) None;
   whole = refl;
-  next = sym (ap (λ (x : ℕ). x + 1) (ap (λ (x : ℕ). of_own small 1 1 x 0) (blank.no_last small small_place (image_of small_words) small_blank 1) ∙ none_own (eqb (owner small 1) 1) 0));
+  next = sym (ap (λ (x : ℕ). x + 1) (ap (λ (x : ℕ). of_own small 1 1 x 0) (no_last small small_place (image_of small_words) small_blank 1) ∙ none_own (eqb (owner small 1) 1) 0));
   live = λ t. absurd (cc);
   block = λ at t. absurd (cc);
 }
@@ -181,7 +181,7 @@ small_lies : LiesIn small 1 98 (units 256)
 small_lies = let a = part_begins in let b = part_ends in let c = two_units in (omega (arith, a), omega (arith, b, c))
 
 no_blocks : (q : ℕ) (b : Block) → (view_of fresh 1).blocks q ≡ Some b → ⊥
-no_blocks q b is = (let none = blank.no_block small small_place (image_of small_words) small_blank 1 q in absurd (cc (none, is)))
+no_blocks q b is = (let none = no_block small small_place (image_of small_words) small_blank 1 q in absurd (cc (none, is)))
 
 long_block : (value : List ℕ) → length value ≡ 256 → GetsBlock (length value) × IsClearIn small 1 (view_of fresh 1) 98 value
 long_block value long = (

@@ -6,7 +6,7 @@ use Rattle.fs_errors.specs.declared.Memory.{Memory}
 use Rattle.fs_model.specs.declared.model.Request.{Request}
 use Rattle.pm_region.specs.State.{State, During, IsTelling, cell_now}
 use Rattle.pm_region.specs.Words.{KeepsOutside}
-use Rattle.pm_region.proofs.Moments.{told_at_entry}
+use Rattle.pm_region.proofs.Clients.{told_at_entry}
 use Rattle.chunk_map.specs.declared.layouts.Geometry.{Geometry}
 use Rattle.chunk_map.specs.Layouts.{IsLayout}
 use Rattle.licence.specs.Licence.{part_at, part_end}
@@ -24,11 +24,13 @@ use Rattle.engine_laws.specs.WorkerMoves.{Hands}
 use Rattle.engine_laws.specs.Engine.{Engine}
 use Rattle.engine_laws.specs.Stands.{Origin, Stands}
 use Rattle.engine_laws.specs.Promises.{AnyTurn, next_in}
-use Rattle.engine_laws.proofs.Cores.{group_low}
+use Rattle.engine_laws.proofs.Clients.{group_low}
 use Rattle.core_worker.specs.declared.types.Answer.{Answer}
+use Rattle.core_worker.specs.declared.types.Turn.{Turn}
+use Rattle.core_worker.specs.declared.types.Turn.TheVariants.{Moved, Idle}
 use Rattle.group_engine.specs.declared.types.Stamped.{Stamped}
 use Rattle.group_engine.specs.Answers.{HavePlaces, ShowsAnswer, kept_at, stored}
-use Rattle.group_engine.specs.Calls.{AreOwn, KeepsPart, Steps, steps_of, is_idle, is_open, next_of}
+use Rattle.group_engine.specs.Calls.{AreOwn, KeepsPart, Steps, steps_of, has_moved, is_idle, is_open, next_of}
 use Rattle.engine_laws.specs.Ceasing.{Halts}
 use Rattle.group_engine.specs.Passes.{Advances}
 use Rattle.group_engine.specs.Shows.{Seat, Shows, total, left_of}
@@ -211,7 +213,7 @@ module _ {W Q : Type 0} (hands : View → W → Hands) (answers : W → List Ans
         (y u : W) (u_is : u ≡ x) (same : (v : View) → hands v y ≡ hands v u) (keeps : (p : Place) (n : ℕ) (s : State) (v : View) → stands p n s v u → stands p n s v y) (even : (a : Group) (n : ℕ) → fair a n u → fair a n y) (ready : is_open room leads y ≡ is_open room leads u) (none : answers y ≡ [])
         (q1 : Q) (ks1 : List (Option Stamped)) (ks_is : ks1 ≡ stored (answers u) t.stamp ks)
         (begins : State → View → W → W → ℕ → Request → Type 0) (turned : Bool → State → Option Group → SeatAt → View → View → W → W → Type 0) (alike : W → W → Type 0) (w_is : slice_get ws c ≡ Some w) (like : alike u y) where
-      abbrev pub Stepped : Bool → Result Bool Memory → Type 0
+      abbrev pub Stepped : Bool → Result Turn Memory → Type 0
       Stepped down r =
           (accepted : List (ℕ × Request)) × (rest : List (ℕ × Request))
           × Steps hands answers stands fair (state b0.keeper.me.0).place (member_of l c) s t (state b0.keeper.me.0) (state b1.keeper.me.0) (view_of (state b0.keeper.me.0) (member_of l c)) (view_of (state b1.keeper.me.0) (member_of l c)) w x (queue q) accepted rest (is_idle r) down
@@ -221,10 +223,10 @@ module _ {W Q : Type 0} (hands : View → W → Hands) (answers : W → List Ans
       Now f = (o : Origin) × Stands o f × Shows hands answers stands fair room leads queue t l (slice_set (slice_set ws c x) c y) (slice_set bs (c / l.group) b1) (slice_set qs c q1) ks1 f
 
       -- and the run's move
-      abbrev Moved : Bool → Result Bool Memory → Engine → Type 0
-      Moved down r f = down ≡ false → IfOk r (λ moved. RunMoves hands answers stands fair room leads begins turned alike (run_state e ws ks) c moved (run_state f (slice_set (slice_set ws c x) c y) ks1))
+      abbrev HasRun : Bool → Result Turn Memory → Engine → Type 0
+      HasRun down r f = down ≡ false → IfOk r (λ turn. RunMoves hands answers stands fair room leads begins turned alike (run_state e ws ks) c (has_moved turn) (run_state f (slice_set (slice_set ws c x) c y) ks1))
 
-      pub advanced : (down : Bool) (r : Result Bool Memory) → Stepped down r → IfOk r (Does begins turned (state b0.keeper.me.0).place (member_of l c) s t (state b0.keeper.me.0) (state b1.keeper.me.0) w x (next_of (is_open room leads w) (queue q))) → (f : Engine) × Now f × Advances t r c e f × Moved down r f
+      pub advanced : (down : Bool) (r : Result Turn Memory) → Stepped down r → IfOk r (λ turn. Does begins turned (state b0.keeper.me.0).place (member_of l c) s t (state b0.keeper.me.0) (state b1.keeper.me.0) w x (next_of (is_open room leads w) (queue q)) (has_moved turn)) → (f : Engine) × Now f × Advances t r c e f × HasRun down r f
       advanced down r T does = (
         after t b1 x T.0 T.1 (is_idle r) down T.2,
         (o, stands_after t b1 x T.0 T.1 (is_idle r) down T.2, shown t b1 x T.0 T.1 (is_idle r) down T.2 kept beside y u u_is same keeps even ready none q1 T.3 ks1 ks_is),
@@ -234,18 +236,18 @@ module _ {W Q : Type 0} (hands : View → W → Hands) (answers : W → List Ans
         },
         λ goes. moved r refl goes,
       ) where
-        moved : (z : Result Bool Memory) → r ≡ z → down ≡ false → IfOk z (λ moved. RunMoves hands answers stands fair room leads begins turned alike (run_state e ws ks) c moved (run_state (after t b1 x T.0 T.1 (is_idle r) down T.2) (slice_set (slice_set ws c x) c y) ks1))
+        moved : (z : Result Turn Memory) → r ≡ z → down ≡ false → IfOk z (λ turn. RunMoves hands answers stands fair room leads begins turned alike (run_state e ws ks) c (has_moved turn) (run_state (after t b1 x T.0 T.1 (is_idle r) down T.2) (slice_set (slice_set ws c x) c y) ks1))
         moved (Ok n) is goes = record {
-          turn = turns t b1 x T.0 T.1 (is_idle r) down T.2 n (λ off. ap is_idle is ∙ ap not off) goes (subst (λ (z : Result Bool Memory). OnOk z (T.0 ≡ next_of (is_open room leads w) (queue q))) is T.4);
+          turn = turns t b1 x T.0 T.1 (is_idle r) down T.2 (has_moved n) (λ off. ap is_idle is ∙ ap not off) goes (subst (λ (z : Result Turn Memory). OnOk z (T.0 ≡ next_of (is_open room leads w) (queue q))) is T.4);
           old = w;
           mid = u;
           new = y;
           from = w_is;
           sits = Y;
           does =
-              let done = subst (λ (z : Result Bool Memory). IfOk z (Does begins turned (state b0.keeper.me.0).place (member_of l c) s t (state b0.keeper.me.0) (state b1.keeper.me.0) w x (next_of (is_open room leads w) (queue q)))) is does in
-              let here = did t b1 x T.0 T.1 (is_idle r) down T.2 begins turned n done in
-              subst (λ z. Does begins turned (place_at e.layout (group_of e.layout c)) (member_of e.layout c) e.region t (e.group (group_of e.layout c)) ((after t b1 x T.0 T.1 (is_idle r) down T.2).group (group_of e.layout c)) w z (next_in e c) n) (sym u_is) here;
+              let done = subst (λ (z : Result Turn Memory). IfOk z (λ turn. Does begins turned (state b0.keeper.me.0).place (member_of l c) s t (state b0.keeper.me.0) (state b1.keeper.me.0) w x (next_of (is_open room leads w) (queue q)) (has_moved turn))) is does in
+              let here = did t b1 x T.0 T.1 (is_idle r) down T.2 begins turned (has_moved n) done in
+              subst (λ z. Does begins turned (place_at e.layout (group_of e.layout c)) (member_of e.layout c) e.region t (e.group (group_of e.layout c)) ((after t b1 x T.0 T.1 (is_idle r) down T.2).group (group_of e.layout c)) w z (next_in e c) (has_moved n)) (sym u_is) here;
           gives = like;
           sits_on = own_seat t b1 x T.0 T.1 (is_idle r) down T.2 kept beside y u u_is same keeps even ready none q1 T.3 ks1 ks_is;
           workers = set_twice ws c x y;
@@ -253,11 +255,11 @@ module _ {W Q : Type 0} (hands : View → W → Hands) (answers : W → List Ans
         }
         moved (Err z) is goes = tt
 
-        halted_by : (z : Result Bool Memory) → r ≡ z → IfOk z (λ b. b ≡ false → Halts e (after t b1 x T.0 T.1 (is_idle r) down T.2) c)
+        halted_by : (z : Result Turn Memory) → r ≡ z → IfOk z (λ turn. has_moved turn ≡ false → Halts e (after t b1 x T.0 T.1 (is_idle r) down T.2) c)
         halted_by (Ok n) is = λ off. halted t b1 x T.0 T.1 (is_idle r) down T.2 (ap is_idle is ∙ ap not off)
         halted_by (Err z) is = tt
 
-      pub places : (down : Bool) (r : Result Bool Memory) → Stepped down r → HavePlaces (length ks) (answers x)
+      pub places : (down : Bool) (r : Result Turn Memory) → Stepped down r → HavePlaces (length ks) (answers x)
       places down r T = have_places t b1 x T.0 T.1 (is_idle r) down T.2
 
 module _ {W Q : Type 0} (left : W → ℕ) (under : Group → ℕ) (most : ℕ) (queue : Q → List (ℕ × Request)) (ws : List W) (bs : List LocalBoard) (qs : List Q) (c g : ℕ) (w x y : W) (b0 b1 : LocalBoard) (q0 q1 : Q)
@@ -275,10 +277,10 @@ module _ {W Q : Type 0} (left : W → ℕ) (under : Group → ℕ) (most : ℕ) 
       let r : total (λ n. (most + 1) * length (queue n)) (slice_set qs c q1) + (most + 1) * length (queue q0) ≡ total (λ n. (most + 1) * length (queue n)) qs + (most + 1) * length (queue q1) = ap (λ u. total (λ n. (most + 1) * length (queue n)) (slice_set qs c q1) + (most + 1) * length (queue u)) q_is ∙ total_set (λ n. (most + 1) * length (queue n)) qs c q1 q0 cq in
       omega (arith, p, q, r)
 
-  pub falls : (r : Result Bool Memory) → IfOk r (λ b. b ≡ true → left x + under (state b1.keeper.me.0) + (most + 1) * length (queue q1) < left w + under (state b0.keeper.me.0) + (most + 1) * length (queue q0)) → IfOk r (λ b. b ≡ true → new < old)
+  pub falls : (r : Result Turn Memory) → IfOk r (λ b. b ≡ Moved → left x + under (state b1.keeper.me.0) + (most + 1) * length (queue q1) < left w + under (state b0.keeper.me.0) + (most + 1) * length (queue q0)) → IfOk r (λ b. b ≡ Moved → new < old)
   falls (Ok b) h = λ on. (let l = h on in let s = sums in omega (arith, l, s))
   falls (Err n) h = tt
 
-  pub stays : (r : Result Bool Memory) → IfOk r (λ b. b ≡ false → left x + under (state b1.keeper.me.0) + (most + 1) * length (queue q1) ≤ left w + under (state b0.keeper.me.0) + (most + 1) * length (queue q0)) → IfOk r (λ b. b ≡ false → new ≤ old)
+  pub stays : (r : Result Turn Memory) → IfOk r (λ b. b ≡ Idle → left x + under (state b1.keeper.me.0) + (most + 1) * length (queue q1) ≤ left w + under (state b0.keeper.me.0) + (most + 1) * length (queue q0)) → IfOk r (λ b. b ≡ Idle → new ≤ old)
   stays (Ok b) h = λ on. (let l = h on in let s = sums in omega (arith, l, s))
   stays (Err n) h = tt

@@ -14,9 +14,7 @@ use Rattle.engine_laws.specs.Stands.{Origin, Stands, opening, given_to}
 use Rattle.engine_laws.specs.Promises.{IsOrigin, HasStopped, Promised, AnyTurn, IsDone}
 use Rattle.engine_laws.specs.Ran.{Ran, asked_in}
 use Rattle.engine_laws.specs.Ceasing.{HasCeased}
-use Rattle.engine_laws.proofs.Begins.{opens}
-use Rattle.engine_laws.proofs.Kept.{promised}
-use Rattle.engine_laws.proofs.Ran.{Delivers, ran_stands, ran_given, ran_seen}
+use Rattle.engine_laws.proofs.Clients.{opens, promised, Delivers, ran_stands, ran_given, ran_seen}
 use Rattle.core_worker.specs.declared.worker.Worker.{Worker}
 use Rattle.core_worker.specs.Beginning.{answers_of}
 use Rattle.core_worker.specs.Left.{fair}

@@ -9,10 +9,7 @@ use Rattle.group_engine.specs.Runs.{RunState}
 use Rattle.group_engine.specs.Passes.{Settles, Passes, Keeps, Ends, Begun, EndsIn, RanSoFar, Ceases, CeasesSoFar, CeasePasses, CeasesOut, CeasesIn}
 use Rattle.std.proofs.lemmas.Bool.{cases_lt}
 use Rattle.engine_laws.specs.Ceasing.{IsResting, Halts}
-use Rattle.engine_laws.proofs.Ceasing.{stays_resting}
-use Rattle.engine_laws.proofs.Stands.{stands_on}
-use Rattle.engine_laws.proofs.Ran.{until, pass, goes}
-use Rattle.engine_laws.proofs.Begins as begins
+use Rattle.engine_laws.proofs.Clients.{stays_resting, stands_on, until, pass, goes, gives as begins_gives}
 use Rattle.fs_model.specs.declared.model.Request.{Request}
 use Rattle.fs_text.specs.declared.line.Line.{Line}
 use Rattle.fs_text.specs.declared.line.Line.TheVariants.{Ask, Go}
@@ -55,7 +52,7 @@ begun_first ls e = record { stands = λ o S. S; given = refl }
 
 pub begun_ask : (ls rest now_rest : List Line) (q : Request) (e now : Engine) → rest ≡ Ask q ∷ now_rest → Begun ls rest e now → Begun ls now_rest e (given_to now q)
 begun_ask ls rest more q e now is B = record {
-  stands = λ o S. begins.gives o now q (B.stands o S);
+  stands = λ o S. begins_gives o now q (B.stands o S);
   given = B.given ∙ ap (λ (zs : List Line). now.given ++ asked_in zs) is ∙ sym (append_assoc now.given (q ∷ []) (asked_in more));
 }
 

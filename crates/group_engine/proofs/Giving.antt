@@ -17,8 +17,7 @@ use Rattle.engine_laws.specs.Parts.{group_of, member_of}
 use Rattle.engine_laws.specs.WorkerMoves.{Hands}
 use Rattle.engine_laws.specs.Engine.{Engine}
 use Rattle.engine_laws.specs.Stands.{Origin, Stands, given_to}
-use Rattle.engine_laws.proofs.Cores.{of_member}
-use Rattle.engine_laws.proofs.Begins.{gives}
+use Rattle.engine_laws.proofs.Clients.{of_member, gives}
 use Rattle.core_worker.specs.declared.types.Answer.{Answer}
 use Rattle.group_engine.specs.declared.types.Stamped.{Stamped}
 use Rattle.group_engine.specs.Answers.{ShowsAnswer, kept_at}

@@ -17,3 +17,4 @@ pub mod Outcomes
 mod Stopping
 mod Winding
 mod Ended
+pub mod Clients

@@ -6,13 +6,11 @@ use Rattle.fs_model.specs.declared.model.Request.{Request}
 use Rattle.fs_model.specs.Cells.{key_of}
 use Rattle.pm_region.specs.State.{State, During, cell_now}
 use Rattle.pm_region.specs.Words.{Kept, KeepsOutside}
-use Rattle.pm_region.proofs.Moments.{weaken}
+use Rattle.pm_region.proofs.Clients.{weaken}
 use Rattle.chunk_map.specs.declared.layouts.Geometry.{Geometry}
 use Rattle.chunk_map.specs.Layouts.{owner, part_first, IsLayout}
 use Rattle.store_image.specs.Facts.{In}
-use Rattle.store_image.proofs.SoundFacts.{in_front}
-use Rattle.store_image.proofs.SoundLaws.{has_layout}
-use Rattle.store_image.proofs.Places.{superblock_facts}
+use Rattle.store_image.proofs.Clients.{in_front, has_layout, superblock_facts}
 use Rattle.group_laws.specs.declared.types.Seen.{Seen}
 use Rattle.group_laws.specs.Places.{Place}
 use Rattle.group_laws.specs.Places as places
@@ -30,12 +28,7 @@ use Rattle.engine_laws.specs.Idle.{IsIdle, Idles}
 use Rattle.engine_laws.specs.Promises.{AnyMove, AnyTurn}
 use Rattle.engine_laws.specs.Workers.{Sits}
 use Rattle.engine_laws.specs.Advance.{Calls, moved_to}
-use Rattle.engine_laws.proofs.Cores.{group_low, of_member, of_core, core_is}
-use Rattle.engine_laws.proofs.Others.{apart, pending_in}
-use Rattle.engine_laws.proofs.Licences.{outside_part}
-use Rattle.engine_laws.proofs.Sits.{loads_only}
-use Rattle.engine_laws.proofs.Numbers.{all_in}
-use Rattle.engine_laws.proofs.Calls.{call_stands, call_sits, call_others, call_move, call_once, call_given, call_asked}
+use Rattle.engine_laws.proofs.Clients.{group_low, of_member, of_core, core_is, apart, pending_in, outside_part, loads_only, all_in, call_stands, call_sits, call_others, call_move, call_once, call_given, call_asked}
 use Rattle.core_worker.specs.declared.types.Answer.{Answer}
 use Rattle.engine_laws.specs.Ceasing.{IsResting, Halts}
 use Rattle.group_engine.specs.Calls.{HasNoMore, AreOwn, Rests, KeepsPart, Steps, steps_of, is_open, next_of}

@@ -7,8 +7,7 @@ use Rattle.pm_region.specs.Words.{Surely, lasts}
 use Rattle.chunk_map.specs.declared.layouts.Geometry.{Geometry}
 use Rattle.chunk_map.specs.Layouts.{layout_of}
 use Rattle.store_image.specs.Soundness.{IsSound}
-use Rattle.store_image.proofs.Places.{layout_numbers}
-use Rattle.store_image.proofs.SoundFacts.{store_sound}
+use Rattle.store_image.proofs.Clients.{layout_numbers, store_sound}
 use Rattle.core_log.specs.Log.{StandsIn}
 use Rattle.recover.specs.declared.types.CoreStart.{CoreStart}
 use Rattle.recover.specs.declared.types.Recovered.{Recovered}

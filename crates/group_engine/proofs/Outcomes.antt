@@ -18,7 +18,7 @@ use Rattle.engine_laws.specs.Engine.{Engine}
 use Rattle.engine_laws.specs.Stands.{Origin, Stands, start_of}
 use Rattle.engine_laws.specs.Promises.{HasStopped, Promised}
 use Rattle.engine_laws.specs.Reports.{reply_of, replies_from, named_at, named_from, told_of, AllAnswered}
-use Rattle.engine_laws.proofs.Kept.{promised}
+use Rattle.engine_laws.proofs.Clients.{promised}
 use Rattle.group_engine.specs.declared.types.Stamped.{Stamped}
 use Rattle.group_engine.specs.declared.run_report.Finish.{Finish}
 use Rattle.group_engine.specs.declared.run_report.Refusal.{Refusal}

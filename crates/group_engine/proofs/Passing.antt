@@ -1,11 +1,13 @@
 -- The loops of a drain, a move and a core at a time.
 use Rattle.std.proofs.Common.{if◌then◌else◌, ◌≡◌, ◌≢◌, ℕ, zero, suc, ◌+◌, ◌<◌, ◌≤◌, Bool, true, false, refl, ◌∙◌, ap, subst, arith}
+use Rattle.core_worker.specs.declared.types.Turn.{Turn}
+use Rattle.core_worker.specs.declared.types.Turn.TheVariants.{Moved, Idle}
 use Rattle.engine_laws.specs.Ran.{Until, Pass, Drains, Goes}
 use Rattle.group_engine.specs.Passes.{is_some, Settles, SettlesSoFar, Passes, PassSoFar, DrainSoFar, GoesSoFar}
 
-pub no_higher : (b : Bool) (x y : ℕ) → (b ≡ true → x < y) → (b ≡ false → x ≤ y) → x ≤ y
-no_higher true x y less idle = let lt = less refl in omega (arith, lt)
-no_higher false x y less idle = idle refl
+pub no_higher : (turn : Turn) (x y : ℕ) → (turn ≡ Moved → x < y) → (turn ≡ Idle → x ≤ y) → x ≤ y
+no_higher Moved x y less idle = let lt = less refl in omega (arith, lt)
+no_higher Idle x y less idle = idle refl
 
 some_sum : (n m : ℕ) (a b : Bool) → a ≡ is_some n → b ≡ is_some m → (if b then true else a) ≡ is_some (n + m)
 some_sum n zero a b p q = (λ i. if q i then true else a) ∙ p ∙ (let z : n ≡ n + zero = omega arith in ap is_some z)

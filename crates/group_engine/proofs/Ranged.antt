@@ -7,14 +7,11 @@ use Rattle.chunk_map.specs.declared.layouts.Geometry.{Geometry}
 use Rattle.chunk_map.specs.declared.heads.Head.TheVariants.{Log}
 use Rattle.chunk_map.specs.Layouts.{numbers, layout_of, total_bytes, chunk_words, payload_words, chunk_first, head_at}
 use Rattle.log_entry.specs.Batches.{scan_of}
-use Rattle.log_entry.proofs.Images.{words_same}
+use Rattle.log_entry.proofs.Clients.{words_same}
 use Rattle.store_image.specs.Parts.{payload, all_entries}
 use Rattle.store_image.specs.Winners.{winner_in}
 use Rattle.store_image.specs.Soundness.{IsSound}
-use Rattle.store_image.proofs.Agree.{entries_agree, fault_agrees}
-use Rattle.store_image.proofs.Local.{head_same, tail_within}
-use Rattle.store_image.proofs.Places.{Numbers, layout_numbers, in_region, chunk_number, superblock_facts}
-use Rattle.store_image.proofs.SoundFacts.{store_sound, sound_store}
+use Rattle.store_image.proofs.Clients.{entries_agree, fault_agrees, head_same, tail_within, Numbers, layout_numbers, in_region, chunk_number, superblock_facts, store_sound, sound_store}
 use Rattle.core_log.specs.declared.types.LogChunk.{LogChunk}
 use Rattle.core_log.specs.Log.{LogState, IsChunkOf, Spelled, first_of, tail_in, tail_of}
 use Rattle.core_index.specs.Records.{standing_with}

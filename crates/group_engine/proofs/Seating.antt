@@ -16,11 +16,8 @@ use Rattle.core_worker.specs.Order.{InOrder}
 use Rattle.core_worker.specs.Supplies.{HasKeptRoom}
 use Rattle.core_worker.specs.Ties.{Holds, Stands}
 use Rattle.core_worker.specs.WorkerMoves.{asked_by}
-use Rattle.core_worker.proofs.Clients.{new_room, new_idle}
-use Rattle.core_worker.proofs.HandKeys.{none_for}
-use Rattle.core_worker.proofs.LeftFair.{starts_nothing}
-use Rattle.core_worker.proofs.Starting.{free_busy}
-use Rattle.engine_laws.proofs.Cores.{core_is}
+use Rattle.core_worker.proofs.Clients.{new_room, new_idle, none_for, starts_nothing, free_busy}
+use Rattle.engine_laws.proofs.Clients.{core_is}
 use Rattle.group_engine.proofs.FreeFound.{found_free}
 use Rattle.group_engine.specs.Working.{SeatsFirst}
 

@@ -9,7 +9,9 @@ use Rattle.group_laws.specs.MemberViews.{View, view_of}
 use Rattle.group_board.specs.Seats.{SeatAt}
 use Rattle.engine_laws.specs.WorkerMoves.{Hands}
 use Rattle.core_worker.specs.declared.types.Answer.{Answer}
-use Rattle.group_engine.specs.Calls.{AreOwn, Accepts, BeginsByEachView, Turns, Steps, is_idle, is_open, next_of}
+use Rattle.core_worker.specs.declared.types.Turn.{Turn}
+use Rattle.core_worker.specs.declared.types.Turn.TheVariants.{Moved}
+use Rattle.group_engine.specs.Calls.{AreOwn, Accepts, BeginsByEachView, Turns, Steps, has_moved, is_idle, is_open, next_of}
 use Rattle.group_engine.specs.Runs.{TakesTurn, Does}
 
 module _ {W : Type 0} (hands : View → W → Hands) (answers : W → List Answer) (stands : Place → ℕ → State → View → W → Type 0) (fair : Group → ℕ → W → Type 0) (room leads : W → Bool) (p : Place) (m : ℕ) where
@@ -48,25 +50,25 @@ module _ {W : Type 0} (hands : View → W → Hands) (answers : W → List Answe
   }
 
   -- what a step says, by its outcome
-  abbrev Stepped : State → State → Group → Group → View → View → W → W → List (ℕ × Request) → List (ℕ × Request) → Bool → Result Bool Memory → Type 0
+  abbrev Stepped : State → State → Group → Group → View → View → W → W → List (ℕ × Request) → List (ℕ × Request) → Bool → Result Turn Memory → Type 0
   Stepped s t a b v u w x queue now down r =
       (accepted : List (ℕ × Request)) × (rest : List (ℕ × Request)) × Steps hands answers stands fair p m s t a b v u w x queue accepted rest (is_idle r) down
       × (now ≡ rest) × OnOk r (accepted ≡ next_of (is_open room leads w) queue)
 
-  pub taken_in : (s : State) (a : Group) (v : View) (w x : W) (queue popped now : List (ℕ × Request)) (y : ℕ × Request) (down : Bool) (r : Result Bool Memory) → queue ≡ y ∷ popped → is_open room leads w ≡ true → fair a m w → stands p m s v w → AreOwn p m queue
-      → IfOk r (λ b. (b ≡ true) × Accepts hands answers stands fair s w x (y ∷ [])) → OnErr r (Accepts hands answers stands fair s w x []) → OnOk r (now ≡ popped) → OnErr r (now ≡ y ∷ popped) → Stepped s s a a v v w x queue now down r
+  pub taken_in : (s : State) (a : Group) (v : View) (w x : W) (queue popped now : List (ℕ × Request)) (y : ℕ × Request) (down : Bool) (r : Result Turn Memory) → queue ≡ y ∷ popped → is_open room leads w ≡ true → fair a m w → stands p m s v w → AreOwn p m queue
+      → IfOk r (λ b. (b ≡ Moved) × Accepts hands answers stands fair s w x (y ∷ [])) → OnErr r (Accepts hands answers stands fair s w x []) → OnOk r (now ≡ popped) → OnErr r (now ≡ y ∷ popped) → Stepped s s a a v v w x queue now down r
   taken_in s a v w x queue popped now y down (Ok b) split ready fairly tied own ok err taken back = (
     y ∷ [],
     popped,
-    subst (λ i. Steps hands answers stands fair p m s s a a v v w x queue (y ∷ []) popped i down) (ap not (sym ok.0)) (of_accept s a v w x queue (y ∷ []) popped down split fairly tied ((subst (AreOwn p m) split own).0, tt) ok.1),
+    subst (λ i. Steps hands answers stands fair p m s s a a v v w x queue (y ∷ []) popped i down) (ap (λ turn. not (has_moved turn)) (sym ok.0)) (of_accept s a v w x queue (y ∷ []) popped down split fairly tied ((subst (AreOwn p m) split own).0, tt) ok.1),
     taken,
     sym (ap (λ c. next_of c queue) ready ∙ ap (take 1) split),
   )
   taken_in s a v w x queue popped now y down (Err e) split ready fairly tied own ok err taken back = ([], queue, of_accept s a v w x queue [] queue down refl fairly tied tt err, back ∙ sym split, tt)
 
-  pub turned : (s t : State) (a b : Group) (v u : View) (w x : W) (queue now : List (ℕ × Request)) (down : Bool) (r : Result Bool Memory) → now ≡ queue → (is_open room leads w ≡ true → queue ≡ [])
+  pub turned : (s t : State) (a b : Group) (v u : View) (w x : W) (queue now : List (ℕ × Request)) (down : Bool) (r : Result Turn Memory) → now ≡ queue → (is_open room leads w ≡ true → queue ≡ [])
       → Turns hands answers stands fair room leads p m s t (Some a) (Some b) v u w x (is_idle r) down → Stepped s t a b v u w x queue now down r
-  turned s t a b v u w x queue now down (Ok y) same left T = ([], queue, of_turn s t a b v u w x queue (not y) down left T, same, none (is_open room leads w) left) where
+  turned s t a b v u w x queue now down (Ok y) same left T = ([], queue, of_turn s t a b v u w x queue (not (has_moved y)) down left T, same, none (is_open room leads w) left) where
     none : (c : Bool) → (c ≡ true → queue ≡ []) → [] ≡ next_of c queue
     none true h = sym (ap (take 1) (h refl))
     none false h = refl
@@ -81,7 +83,7 @@ less_in queue popped y old new under most split le =
       nonlinear : (a b : ℕ) → a * (b + 1) ≡ a * b + a
       nonlinear a b = search rules
 
-pub less_taken : (queue popped now : List (ℕ × Request)) (y : ℕ × Request) (old new under most : ℕ) (r : Result Bool Memory) → queue ≡ y ∷ popped → OnOk r (now ≡ popped) → OnOk r (new ≤ old + most) → IfOk r (λ b. b ≡ true → new + under + (most + 1) * length now < old + under + (most + 1) * length queue)
+pub less_taken : (queue popped now : List (ℕ × Request)) (y : ℕ × Request) (old new under most : ℕ) (r : Result Turn Memory) → queue ≡ y ∷ popped → OnOk r (now ≡ popped) → OnOk r (new ≤ old + most) → IfOk r (λ b. b ≡ Moved → new + under + (most + 1) * length now < old + under + (most + 1) * length queue)
 less_taken queue popped now y old new under most (Ok b) split taken le = λ q. less_in queue now y old new under most (split ∙ ap (λ ys. y ∷ ys) (sym taken)) le
 less_taken queue popped now y old new under most (Err e) split taken le = tt
 
@@ -91,18 +93,18 @@ none_left (x ∷ xs) e = absurd (omega (arith, e))
 
 -- What was done in a step, by the requests that were handed out.
 module _ {W : Type 0} (stands : Place → ℕ → State → View → W → Type 0) (begins : State → View → W → W → ℕ → Request → Type 0) (turned : Bool → State → Option Group → SeatAt → View → View → W → W → Type 0) (p : Place) (m : ℕ) where
-  pub did_turn : (s t : State) (a b : Group) (w x : W) (open_now : Bool) (queue : List (ℕ × Request)) (r : Result Bool Memory) → (open_now ≡ true → queue ≡ []) → IfOk r (TakesTurn turned p m s a b w x) → IfOk r (Does begins turned p m s t a b w x (next_of open_now queue))
-  did_turn s t a b w x open_now queue (Ok moved) left turn = subst (λ ys. Does begins turned p m s t a b w x ys moved) (none open_now left) turn where
+  pub did_turn : (s t : State) (a b : Group) (w x : W) (open_now : Bool) (queue : List (ℕ × Request)) (r : Result Turn Memory) → (open_now ≡ true → queue ≡ []) → IfOk r (λ turn. TakesTurn turned p m s a b w x (has_moved turn)) → IfOk r (λ turn. Does begins turned p m s t a b w x (next_of open_now queue) (has_moved turn))
+  did_turn s t a b w x open_now queue (Ok moved) left turn = subst (λ ys. Does begins turned p m s t a b w x ys (has_moved moved)) (none open_now left) turn where
     none : (c : Bool) → (c ≡ true → queue ≡ []) → [] ≡ next_of c queue
     none true h = sym (ap (take 1) (h refl))
     none false h = refl
   did_turn s t a b w x open_now queue (Err e) left turn = tt
 
-  pub did_take : (s : State) (a : Group) (w x : W) (open_now : Bool) (queue popped : List (ℕ × Request)) (y : ℕ × Request) (r : Result Bool Memory) → queue ≡ y ∷ popped → open_now ≡ true → stands p m s (view_of a m) w → AreOwn p m queue → IfOk r (λ moved. moved ≡ true) → OnOk r (BeginsByEachView stands begins s w x y.0 y.1)
-      → IfOk r (Does begins turned p m s s a a w x (next_of open_now queue))
-  did_take s a w x open_now queue popped y (Ok moved) split ready tied own on begun = subst (λ ys. Does begins turned p m s s a a w x ys moved) (sym (ap (λ c. next_of c queue) ready ∙ ap (take 1) split)) (record {
+  pub did_take : (s : State) (a : Group) (w x : W) (open_now : Bool) (queue popped : List (ℕ × Request)) (y : ℕ × Request) (r : Result Turn Memory) → queue ≡ y ∷ popped → open_now ≡ true → stands p m s (view_of a m) w → AreOwn p m queue → IfOk r (λ turn. turn ≡ Moved) → OnOk r (BeginsByEachView stands begins s w x y.0 y.1)
+      → IfOk r (λ turn. Does begins turned p m s s a a w x (next_of open_now queue) (has_moved turn))
+  did_take s a w x open_now queue popped y (Ok moved) split ready tied own on begun = subst (λ ys. Does begins turned p m s s a a w x ys (has_moved moved)) (sym (ap (λ c. next_of c queue) ready ∙ ap (take 1) split)) (record {
     begun = begun p m (view_of a m) tied (subst (AreOwn p m) split own).0;
-    moves = on;
+    moves = ap has_moved on;
     region = refl;
     group = refl;
   })

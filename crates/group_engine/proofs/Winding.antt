@@ -14,8 +14,9 @@ use Rattle.engine_laws.specs.WorkerMoves.{Hands}
 use Rattle.engine_laws.specs.Engine.{Engine}
 use Rattle.engine_laws.specs.Workers.{Sits}
 use Rattle.engine_laws.specs.Stands.{Origin, Stands}
-use Rattle.engine_laws.proofs.Ceasing.{takes_stands}
+use Rattle.engine_laws.proofs.Clients.{takes_stands}
 use Rattle.core_worker.specs.declared.types.Answer.{Answer}
+use Rattle.core_worker.specs.declared.types.Turn.{Turn}
 use Rattle.group_engine.specs.declared.types.Stamped.{Stamped}
 use Rattle.group_engine.specs.Calls.{AllWind, NoneWinds, EachWinds, WindsDown}
 use Rattle.group_engine.specs.Passes.{Ends}
@@ -36,15 +37,15 @@ module _ {W : Type 0} (winds : W → Bool) where
     there : slice_get ws c ≡ Some w
     there = get_there ws c w low ∙ ap Some (sym w_is)
 
-    pub goes_on : (r : Result Bool Memory) → OnOk r (winds x ≡ winds w) → winds y ≡ winds x → NoneWinds winds ws → OnOk r (NoneWinds winds (slice_set (slice_set ws c x) c y))
+    pub goes_on : (r : Result Turn Memory) → OnOk r (winds x ≡ winds w) → winds y ≡ winds x → NoneWinds winds ws → OnOk r (NoneWinds winds (slice_set (slice_set ws c x) c y))
     goes_on (Ok b) same last none = all_set false ws c x y none (last ∙ same ∙ none c w there)
     goes_on (Err e) same last none = tt
 
-    pub winds_on : (r : Result Bool Memory) → OnOk r (winds x ≡ winds w) → OnErr r (winds w ≡ false) → winds y ≡ winds x → AllWind winds ws → AllWind winds (slice_set (slice_set ws c x) c y)
+    pub winds_on : (r : Result Turn Memory) → OnOk r (winds x ≡ winds w) → OnErr r (winds w ≡ false) → winds y ≡ winds x → AllWind winds ws → AllWind winds (slice_set (slice_set ws c x) c y)
     winds_on (Ok b) same awake last all = all_set true ws c x y all (last ∙ same ∙ all c w there)
     winds_on (Err e) same awake last all = absurd (let on = all c w there in let both : true ≡ false = sym on ∙ awake in cc both)
 
-  pub sure_of : (ws : List W) (c : ℕ) (w : W) → w ≡ slice_index_or ws c w → (r : Result Bool Memory) → OnErr r (winds w ≡ false) → OnErr r ((u : W) → slice_get ws c ≡ Some u → winds u ≡ false)
+  pub sure_of : (ws : List W) (c : ℕ) (w : W) → w ≡ slice_index_or ws c w → (r : Result Turn Memory) → OnErr r (winds w ≡ false) → OnErr r ((u : W) → slice_get ws c ≡ Some u → winds u ≡ false)
   sure_of ws c w w_is (Ok b) awake = tt
   sure_of ws c w w_is (Err e) awake = λ u at. ap winds (sym (at_is ws c w u at w_is)) ∙ awake
 

@@ -1,7 +1,8 @@
 -- The worker of one core keeps the clauses that the engine asks for.
-use Rattle.std.proofs.Common.{◌≡◌, ℕ, ◌<◌, Bool, true, false, not, ◌&&◌, List, [], ◌∷◌, map, Option, Some, None, Result, Ok, Err, OnOk, OnErr, refl, sym, ◌∙◌, ap, subst, arith}
+use Rattle.std.proofs.Common.{◌≡◌, ℕ, ◌+◌, ◌<◌, ◌≤◌, Bool, true, false, not, ◌&&◌, List, [], ◌∷◌, map, Option, Some, None, Result, Ok, Err, IfOk, OnOk, OnErr, refl, sym, ◌∙◌, ap, subst, arith}
 use Rattle.std.specs.Prelude.{IfSome, IsSomeAnd, IfErr}
 use Rattle.std.proofs.lemmas.Bool.{and_parts}
+use Rattle.fs_errors.specs.declared.Memory.{Memory}
 use Rattle.fs_model.specs.declared.model.Request.{Request}
 use Rattle.fs_model.specs.Cells.{key_of}
 use Rattle.pm_region.specs.State.{State}
@@ -11,7 +12,7 @@ use Rattle.group_laws.specs.Places.{Place, core_of, owner}
 use Rattle.group_laws.specs.State.{Group}
 use Rattle.group_laws.specs.Runs.{Kind, Runs}
 use Rattle.group_laws.specs.MemberViews.{View}
-use Rattle.group_laws.proofs.GroupEntries.{own_core}
+use Rattle.group_laws.proofs.Clients.{own_core}
 use Rattle.group_board.specs.Seats.{SeatAt}
 use Rattle.core_worker.specs.declared.worker.Worker.{Worker}
 use Rattle.core_worker.specs.declared.types.NotAccepted.{NotAccepted}
@@ -19,18 +20,18 @@ use Rattle.core_worker.specs.declared.types.Turn.{Turn}
 use Rattle.core_worker.specs.declared.types.Turn.TheVariants.{Moved, Idle}
 use Rattle.core_worker.specs.Accepting.{IsTied, HasTie, StaysTied, AcceptMoves, AcceptsByEachView}
 use Rattle.core_worker.specs.Beginning.{answers_of}
-use Rattle.core_worker.specs.Left.{fair, StartsFirst, MeasuresTurn, Lowers, NotMore}
+use Rattle.core_worker.specs.Left.{left, under_way, fair, StartsFirst, Measures}
 use Rattle.core_worker.specs.Order.{InOrder}
-use Rattle.core_worker.specs.Resting.{AtRest, IfIdleTurn}
+use Rattle.core_worker.specs.Resting.{AtRest, IfIdle}
 use Rattle.core_worker.specs.Status.{has_room, is_leading}
 use Rattle.core_worker.specs.Supplies.{HasKeptRoom}
 use Rattle.core_worker.specs.Ties.{Holds, Stands}
-use Rattle.core_worker.specs.Turning.{TurnMoves, Turned}
+use Rattle.core_worker.specs.Turning.{TurnMoves, Turned, TurnedTo}
 use Rattle.core_worker.specs.Turns.{Moment}
 use Rattle.core_worker.specs.WorkerMoves.{hands_of}
-use Rattle.core_worker.proofs.StartBlocks.{own_of}
-use Rattle.group_engine.specs.Calls.{AreOwn, Accepts, BeginsByEachView, Turns, WindsDown, is_open}
-use Rattle.group_engine.specs.Working.{IsMember, BeginsRequest, may_take, leads}
+use Rattle.core_worker.proofs.Clients.{own_of}
+use Rattle.group_engine.specs.Calls.{AreOwn, Accepts, BeginsByEachView, Turns, WindsDown, has_moved, is_idle, is_open}
+use Rattle.group_engine.specs.Working.{IsMember, BeginsRequest, may_take, leads, turn_of}
 
 -- the answers alone are other ones
 pub given_member : (p : Place) (m : ℕ) (s : State) (v : View) (w x : Worker) → x ≡ record w { answers = x.answers } → (Holds p m v w → Holds p m v x) → (Stands s p m v w → Stands s p m v x) → (InOrder p m v w → InOrder p m v x) → IsMember p m s v w → IsMember p m s v x
@@ -126,7 +127,7 @@ module _ (seat : SeatAt) (s t : State) (before after : Option Group) (v u : View
   even_now = some_after before after (λ a b. Runs a (map {B = ℕ × Kind} (λ y. (seat.number, y)) T.moves.steps) b) (StartsFirst x) T.moves.whole starts
 
   -- it moved, or found no memory for all of it
-  pub moved : Turns hands_of answers_of IsMember fair may_take leads seat.place seat.number s t before after v u w x false w.winds_down
+  moved : Turns hands_of answers_of IsMember fair may_take leads seat.place seat.number s t before after v u w x false w.winds_down
   moved = record {
     fixed = T.fixed;
     adds = T.answers;
@@ -141,7 +142,7 @@ module _ (seat : SeatAt) (s t : State) (before after : Option Group) (v u : View
   }
 
   -- it found nothing to do
-  pub idled : (refused : Bool) → refused ≡ false → AtRest refused seat before after v u w x → Turns hands_of answers_of IsMember fair may_take leads seat.place seat.number s t before after v u w x true w.winds_down
+  idled : (refused : Bool) → refused ≡ false → AtRest refused seat before after v u w x → Turns hands_of answers_of IsMember fair may_take leads seat.place seat.number s t before after v u w x true w.winds_down
   idled refused asks R = record {
     fixed = T.fixed;
     adds = T.answers;
@@ -169,21 +170,30 @@ module _ (seat : SeatAt) (s t : State) (before after : Option Group) (v u : View
     open_for = λ e works none. ap (λ b. not (leads w) && (not b && has_room w)) works ∙ (R.no_more asks works).open_for none;
   }
 
+  -- by what the turn answered
+  pub turns_by : (refused : Bool) → refused ≡ false → (r : Result Turn Memory) → IfIdle r (AtRest refused seat before after v u w x) → Turns hands_of answers_of IsMember fair may_take leads seat.place seat.number s t before after v u w x (is_idle r) w.winds_down
+  turns_by refused asks (Ok Moved) rest = moved
+  turns_by refused asks (Ok Idle) rest = idled refused asks rest
+  turns_by refused asks (Err e) rest = moved
+
 -- where the state is told, it is fair
-pub if_fair : (before : Option Group) (S : Type 0) (P : Group → Type 0) → IfSome before (λ a. S) → (S → IfSome before (λ a. P a)) → IfSome before (λ a. P a)
+if_fair : (before : Option Group) (S : Type 0) (P : Group → Type 0) → IfSome before (λ a. S) → (S → IfSome before (λ a. P a)) → IfSome before (λ a. P a)
 if_fair None S P h f = tt
 if_fair (Some a) S P h f = f h
 
 -- by what a turn answered
-pub turned_is : (t u : Turn) (s : State) (refused : Bool) (before : Option Group) (seat : SeatAt) (a b : Moment) → t ≡ u → Turned t s refused before seat a b → Turned u s refused before seat a b
-turned_is t u s refused before seat a b is h = subst (λ (y : Turn). Turned y s refused before seat a b) is h
+pub did_by : (r : Result Turn Memory) (s : State) (refused : Bool) (before : Option Group) (seat : SeatAt) (a b : Moment) → TurnedTo r s refused before seat a b → IfOk r (λ turn. Turned (turn_of (has_moved turn)) s refused before seat a b)
+did_by (Ok Moved) s refused before seat a b h = h
+did_by (Ok Idle) s refused before seat a b h = h
+did_by (Err e) s refused before seat a b h = tt
 
-pub idle_is : (t : Turn) (X : Type 0) → t ≡ Idle → IfIdleTurn t X → X
-idle_is t X e h = subst (λ (y : Turn). IfIdleTurn y X) e h
+module _ (before after : Option Group) (w x : Worker) (S : Type 0) (fair_now : IfSome before (λ a. S)) where
+  pub lowers_by : (r : Result Turn Memory) → (S → Measures r before after w x) → IfOk r (λ turn. turn ≡ Moved → IfSome before (λ a. IsSomeAnd after (λ e. left x + under_way e < left w + under_way a)))
+  lowers_by (Ok Moved) h = λ on. if_fair before S (λ a. IsSomeAnd after (λ e. left x + under_way e < left w + under_way a)) fair_now h
+  lowers_by (Ok Idle) h = λ on. absurd (cc on)
+  lowers_by (Err e) h = tt
 
-module _ (before after : Option Group) (w x : Worker) where
-  pub lowers_is : (t : Turn) → t ≡ Moved → MeasuresTurn t before after w x → Lowers before after w x
-  lowers_is t e h = subst (λ (y : Turn). MeasuresTurn y before after w x) e h
-
-  pub not_more_is : (t : Turn) → t ≡ Idle → MeasuresTurn t before after w x → NotMore before after w x
-  not_more_is t e h = subst (λ (y : Turn). MeasuresTurn y before after w x) e h
+  pub not_more_by : (r : Result Turn Memory) → (S → Measures r before after w x) → IfOk r (λ turn. turn ≡ Idle → IfSome before (λ a. IsSomeAnd after (λ e. left x + under_way e ≤ left w + under_way a)))
+  not_more_by (Ok Moved) h = λ off. absurd (cc off)
+  not_more_by (Ok Idle) h = λ off. if_fair before S (λ a. IsSomeAnd after (λ e. left x + under_way e ≤ left w + under_way a)) fair_now h
+  not_more_by (Err e) h = tt

@@ -18,6 +18,8 @@ use Rattle.licence.specs.Licence.{part_at, part_end}
 use Rattle.engine_laws.specs.WorkerMoves.{Placed, Hands, Fixed, WorkerMoves}
 use Rattle.engine_laws.specs.Workers.{IsLoad}
 use Rattle.core_worker.specs.declared.types.Answer.{Answer}
+use Rattle.core_worker.specs.declared.types.Turn.{Turn}
+use Rattle.core_worker.specs.declared.types.Turn.TheVariants.{Moved, Idle}
 use Rattle.group_engine.specs.Answers.{AddsAnswers}
 
 -- each of these requests is member m's
@@ -31,9 +33,14 @@ steps_of m kinds = map (λ x. (m, x)) kinds
 abbrev pub KeepsPart : Place → ℕ → (ℕ → Cell) → (ℕ → Cell) → Type 0
 KeepsPart p m old new = (w : ℕ) → part_at p m ≤ w → w < part_end p m → Kept (old w) (new w)
 
+-- whether a move did something
+abbrev pub has_moved : Turn → Bool
+has_moved Moved = true
+has_moved Idle = false
+
 -- nothing moved
-abbrev pub is_idle : Result Bool Memory → Bool
-is_idle (Ok b) = not b
+abbrev pub is_idle : Result Turn Memory → Bool
+is_idle (Ok turn) = not (has_moved turn)
 is_idle (Err e) = false
 
 -- whether a worker is handed a request: it leads nothing, and has room

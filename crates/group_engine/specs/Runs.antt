@@ -23,6 +23,7 @@ use Rattle.core_worker.specs.Left.{fair}
 use Rattle.core_worker.specs.Openings.{IsNew}
 use Rattle.core_worker.specs.WorkerMoves.{hands_of}
 use Rattle.group_engine.specs.declared.types.Stamped.{Stamped}
+use Rattle.group_engine.specs.declared.worker_calls.CoreWorker.{Ghosts}
 use Rattle.group_engine.specs.Answers.{stored}
 use Rattle.group_engine.specs.Shows.{Seat, Shows}
 use Rattle.group_engine.specs.Working.{IsMember, may_take, leads, BeginsRequest, MakesTurn, SameButAnswers}
@@ -89,6 +90,11 @@ pub record RunMoves {W : Type 0} (hands : View → W → Hands) (answers : W →
   pub sits_on : Seat hands answers stands fair room leads f.engine c new
   pub workers : f.workers ≡ slice_set e.workers c new
   pub keeps : f.answers ≡ stored (answers mid) f.engine.region.stamp e.answers
+
+-- the same, by all that a kind of worker says of itself
+abbrev pub MovesOf : {W : Type 0} → Ghosts W → RunState W → ℕ → Bool → RunState W → Type 0
+MovesOf says e c moved f = RunMoves says.hands says.answers says.stands says.fair says.room
+    says.leads says.begins says.turned says.alike e c moved f
 
 -- a move of a core of the program
 abbrev pub CoreMoves : RunState Worker → ℕ → Bool → RunState Worker → Type 0

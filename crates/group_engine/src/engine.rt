@@ -1,11 +1,12 @@
 // The engine: what it keeps, and one move of it.
-ghost use Rattle.std.specs.Prelude.{◌≡◌, ℕ, ◌<◌, ◌++◌, ◌∷◌, [], List, length, Some, true, false, OnOk, OnErr};
+ghost use Rattle.std.specs.Prelude.{◌≡◌, ℕ, ◌<◌, List, length, Some, true, false, OnOk, OnErr};
 ghost use Rattle.std.specs.List.{slice_get};
 ghost use Rattle.group_laws.specs.MemberViews.{View};
-ghost use Rattle.fs_model.specs.Cells.{key_of};
-ghost use Rattle.group_engine.specs.Calls.{AllWind, NoneWinds, EachWinds};
+ghost use Rattle.core_worker.specs.declared.types.Turn.TheVariants.{Moved, Idle};
+ghost use Rattle.group_engine.specs.Calls.{AllWind, NoneWinds, EachWinds, has_moved};
 ghost use Rattle.group_engine.specs.Reports.{IsBlank, HasRoomFor};
 
+use crate::backlog::append;
 use crate::engine_step::{collect, step};
 use crate::passes;
 use crate::passes::Cores;
@@ -13,6 +14,7 @@ use crate::run_report::{Report, report_on};
 use crate::types::Stamped;
 use crate::worker_calls::CoreWorker;
 use chunk_map::Geometry;
+use core_worker::Turn;
 use fs_errors::Memory;
 use fs_model::Request;
 use fs_text::Line;
@@ -35,30 +37,6 @@ pub struct Engine<W> {
     pub report: Report,
     ghost blank: { IsBlank report },
     ghost room: { HasRoomFor (length answers.items) report },
-}
-
-fn key_in(request: &Request) -> u64
-    ensures { result ≡ key_of request.now }
-{
-    match request {
-        Request::Put { key, .. } => *key,
-        Request::Get { key } => *key,
-        Request::Delete { key } => *key,
-    }
-}
-
-// Puts a request behind those of a backlog.
-fn append(
-    backlog: &mut VecDeque<(u64, Request)>,
-    number: u64,
-    request: Request,
-) -> Result<(), Memory>
-    ensures appended { OnOk result
-        (backlog.new.items ≡ backlog.old.items ++ (number, request) ∷ []) }
-    ensures kept { OnErr result (backlog.new.items ≡ backlog.old.items) }
-{
-    backlog.push_back((number, request))?;
-    Ok(())
 }
 
 // Whether one of the workers has stopped.
@@ -91,7 +69,7 @@ fn wind_all<W: CoreWorker>(workers: &mut Vec<W>)
 impl<W: CoreWorker> Cores for Engine<W> {
     ghost use Rattle.engine_laws.specs.Stands.{Origin, Stands};
     ghost use Rattle.group_engine.specs.Shows.{Shows, left_of};
-    ghost use Rattle.group_engine.specs.Runs.{RunMoves, ShowsRun};
+    ghost use Rattle.group_engine.specs.Runs.{MovesOf, ShowsRun};
 
     type Worker = W;
 
@@ -100,8 +78,7 @@ impl<W: CoreWorker> Cores for Engine<W> {
         x.workers.items x.boards.items x.backlogs.items x.answers.items e
         × NoneWinds W.winds x.workers.items };
 
-    ghost moves = { λ e c moved f. RunMoves W.hands W.answers W.stands W.fair W.room W.leads
-        W.begins W.turned W.alike e c moved f };
+    ghost moves = { MovesOf W.CoreWorker };
 
     ghost stays = { λ s x e. (o : Origin) × Stands o e
         × Shows W.hands W.answers W.stands W.fair W.room W.leads (λ q. q.items) s x.layout
@@ -123,7 +100,7 @@ impl<W: CoreWorker> Cores for Engine<W> {
         self.report.reserve(count + 1)?;
         self.answers.reserve(1)?;
         let number = count as u64;
-        let owner = (key_in(&request) % self.layout.cores as u64) as usize;
+        let owner = (request.key() % self.layout.cores as u64) as usize;
         append(&mut self.backlogs[owner], number, request)?;
         self.answers.push(None)?;
         Ok(())
@@ -134,7 +111,7 @@ impl<W: CoreWorker> Cores for Engine<W> {
         alloc: Global,
         region: &mut R,
         core: u32,
-    ) -> Result<bool, Memory> {
+    ) -> Result<Turn, Memory> {
         self.move_core(alloc, region, core)
     }
 
@@ -142,9 +119,9 @@ impl<W: CoreWorker> Cores for Engine<W> {
         wind_all(&mut self.workers);
     }
 
-    fn cease<R: Region>(&mut self, alloc: Global, region: &mut R, core: u32) -> bool {
+    fn cease<R: Region>(&mut self, alloc: Global, region: &mut R, core: u32) -> Turn {
         match self.move_core(alloc, region, core) {
-            Ok(moved) => moved,
+            Ok(turn) => turn,
             Err(_) => unreachable!(),
         }
     }
@@ -162,7 +139,7 @@ impl<W: CoreWorker> Engine<W> {
     ghost use Rattle.engine_laws.specs.Stands.{Origin, Stands};
     ghost use Rattle.group_engine.specs.Passes.{Advances};
     ghost use Rattle.group_engine.specs.Shows.{Shows, left_of};
-    ghost use Rattle.group_engine.specs.Runs.{RunMoves, run_state};
+    ghost use Rattle.group_engine.specs.Runs.{MovesOf, run_state};
 
     // Moves a core: its worker is handed the next request of its backlog, or makes a turn, and its answers are kept.
     fn move_core<R: Region>(
@@ -170,7 +147,7 @@ impl<W: CoreWorker> Engine<W> {
         alloc: Global,
         region: &mut R,
         core: u32,
-    ) -> Result<bool, Memory>
+    ) -> Result<Turn, Memory>
         requires core { core < self.old.layout.cores }
         requires stays { (e : engines.Engine) × (o : Origin) × Stands o e
             × Shows W.hands W.answers W.stands W.fair W.room W.leads (λ q. q.items)
@@ -187,9 +164,8 @@ impl<W: CoreWorker> Engine<W> {
             (R.state region.new) self.new.layout self.new.workers.items self.new.boards.items
             self.new.backlogs.items self.new.answers.items f
             × Advances (R.state region.new) result core e f
-            × (W.winds w ≡ false → IfOk result (λ moved. RunMoves W.hands W.answers W.stands W.fair
-            W.room W.leads W.begins W.turned W.alike
-            (run_state e self.old.workers.items self.old.answers.items) core moved
+            × (W.winds w ≡ false → IfOk result (λ turn. MovesOf W.CoreWorker
+            (run_state e self.old.workers.items self.old.answers.items) core (has_moved turn)
             (run_state f self.new.workers.items self.new.answers.items))) }
         ensures goes { NoneWinds W.winds self.old.workers.items
             → OnOk result (NoneWinds W.winds self.new.workers.items) }
@@ -197,12 +173,12 @@ impl<W: CoreWorker> Engine<W> {
             → AllWind W.winds self.new.workers.items }
         ensures sure { OnErr result ((w : W) → slice_get self.old.workers.items core ≡ Some w
             → W.winds w ≡ false) }
-        ensures less { IfOk result (λ b. b ≡ true
+        ensures less { IfOk result (λ turn. turn ≡ Moved
             → left_of W.left W.under_way W.most (λ q. q.items) self.new.workers.items
             self.new.boards.items self.new.backlogs.items
             < left_of W.left W.under_way W.most (λ q. q.items) self.old.workers.items
             self.old.boards.items self.old.backlogs.items) }
-        ensures idle { IfOk result (λ b. b ≡ false
+        ensures idle { IfOk result (λ turn. turn ≡ Idle
             → left_of W.left W.under_way W.most (λ q. q.items) self.new.workers.items
             self.new.boards.items self.new.backlogs.items
             ≤ left_of W.left W.under_way W.most (λ q. q.items) self.old.workers.items
@@ -234,7 +210,7 @@ impl<W: CoreWorker> Engine<W> {
     ghost use Rattle.engine_laws.specs.Ran.{Ran};
     ghost use Rattle.group_engine.specs.Passes.{NameCores, Ends, EndsIn, DrainsOut};
     ghost use Rattle.group_engine.specs.Shows.{Shows};
-    ghost use Rattle.group_engine.specs.Runs.{RunState, RunMoves, ShowsRun, first_state, with_request};
+    ghost use Rattle.group_engine.specs.Runs.{RunState, MovesOf, ShowsRun, first_state, with_request};
 
     /// Whether a core has stopped: then a call of the region failed.
     pub fn has_stopped(&self) -> bool
@@ -276,8 +252,7 @@ impl<W: CoreWorker> Engine<W> {
             × ShowsRun W.hands W.answers W.stands W.fair W.room W.leads (λ q. q.items)
             (R.state region.new) self.new.layout self.new.workers.items self.new.boards.items
             self.new.backlogs.items self.new.answers.items f
-            × DrainsOut (RunMoves W.hands W.answers W.stands W.fair W.room W.leads
-            W.begins W.turned W.alike) self.old.layout.cores e f) }
+            × DrainsOut (MovesOf W.CoreWorker) self.old.layout.cores e f) }
         ensures awake { OnOk result (NoneWinds W.winds self.new.workers.items) }
     {
         passes::drain(self, alloc, region)
@@ -314,8 +289,7 @@ impl<W: CoreWorker> Engine<W> {
             × ShowsRun W.hands W.answers W.stands W.fair W.room W.leads (λ q. q.items)
             (R.state region.new) self.new.layout self.new.workers.items self.new.boards.items
             self.new.backlogs.items self.new.answers.items f
-            × Ran (RunMoves W.hands W.answers W.stands W.fair W.room W.leads
-            W.begins W.turned W.alike) with_request (layout_of o.found).cores lines.items
+            × Ran (MovesOf W.CoreWorker) with_request (layout_of o.found).cores lines.items
             (first_state o self.old.workers.items) f × IsDone o f.engine) }
     {
         passes::replay(self, alloc, region, lines)

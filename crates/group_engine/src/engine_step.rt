@@ -8,12 +8,14 @@ ghost use Rattle.group_laws.specs.Places.{Place, owner};
 ghost use Rattle.group_laws.specs.State.{Group};
 ghost use Rattle.group_laws.specs.MemberViews.{View, view_of};
 ghost use Rattle.group_board.specs.Journals.{state};
+ghost use Rattle.core_worker.specs.declared.types.Turn.TheVariants.{Moved, Idle};
 ghost use Rattle.group_engine.specs.Answers.{HavePlaces, stored};
 ghost use Rattle.group_engine.specs.Runs.{TakesTurn, Does};
-ghost use Rattle.group_engine.specs.Calls.{AreOwn, Accepts, BeginsByEachView, Turns, Steps, is_idle, is_open, next_of};
+ghost use Rattle.group_engine.specs.Calls.{AreOwn, Accepts, BeginsByEachView, Turns, Steps, has_moved, is_idle, is_open, next_of};
 
 use crate::types::Stamped;
 use crate::worker_calls::CoreWorker;
+use core_worker::Turn;
 use fs_errors::Memory;
 use fs_model::Request;
 use group_board::{LocalBoard, LocalSeat};
@@ -28,7 +30,7 @@ fn turn_at<W: CoreWorker, R: Region>(
     alloc: Global,
     region: &mut R,
     member: u32,
-) -> Result<bool, Memory>
+) -> Result<Turn, Memory>
     requires stands { W.stands (state board.old.keeper.me.0).place member (R.state region.old)
         (view_of (state board.old.keeper.me.0) member) worker.old }
     requires fair { W.fair (state board.old.keeper.me.0) member worker.old }
@@ -38,15 +40,16 @@ fn turn_at<W: CoreWorker, R: Region>(
         (view_of (state board.old.keeper.me.0) member)
         (view_of (state board.new.keeper.me.0) member) worker.old worker.new (is_idle result)
         (W.winds worker.old) }
-    ensures turned { IfOk result (TakesTurn W.turned (state board.old.keeper.me.0).place member
+    ensures turned { IfOk result (λ turn. TakesTurn W.turned
+        (state board.old.keeper.me.0).place member
         (R.state region.old) (state board.old.keeper.me.0) (state board.new.keeper.me.0)
-        worker.old worker.new) }
+        worker.old worker.new (has_moved turn)) }
     ensures winds { OnOk result (W.winds worker.new ≡ W.winds worker.old) }
     ensures awake { OnErr result (W.winds worker.old ≡ false) }
-    ensures less { IfOk result (λ b. b ≡ true
+    ensures less { IfOk result (λ turn. turn ≡ Moved
         → W.left worker.new + W.under_way (state board.new.keeper.me.0)
         < W.left worker.old + W.under_way (state board.old.keeper.me.0)) }
-    ensures idle { IfOk result (λ b. b ≡ false
+    ensures idle { IfOk result (λ turn. turn ≡ Idle
         → W.left worker.new + W.under_way (state board.new.keeper.me.0)
         ≤ W.left worker.old + W.under_way (state board.old.keeper.me.0)) }
 {
@@ -70,12 +73,12 @@ fn take_in<W: CoreWorker, R: Region>(
     region: &R,
     number: u64,
     request: Request,
-) -> Result<bool, Memory>
+) -> Result<Turn, Memory>
     requires open { is_open W.room W.leads worker.old ≡ true }
     requires stands { (p : Place) × (m : ℕ) × (v : View)
         × W.stands p m (R.state region.now) v worker.old × (owner p (key_of request) ≡ m) }
     requires room { deque_len backlog.old < deque_capacity backlog.old }
-    ensures moved { IfOk result (λ b. (b ≡ true)
+    ensures moved { IfOk result (λ turn. (turn ≡ Moved)
         × Accepts W.hands W.answers W.stands W.fair (R.state region.now) worker.old worker.new
         ((number, request) ∷ [])) }
     ensures begins { OnOk result (BeginsByEachView W.stands W.begins (R.state region.now)
@@ -88,7 +91,7 @@ fn take_in<W: CoreWorker, R: Region>(
     ensures less { OnOk result (W.left worker.new ≤ W.left worker.old + W.most) }
 {
     match worker.accept(alloc, region, number, request) {
-        Ok(()) => Ok(true),
+        Ok(()) => Ok(Turn::Moved),
         Err(refused) => {
             backlog.push_front((number, refused.request)).unwrap();
             Err(Memory)
@@ -104,7 +107,7 @@ pub(crate) fn step<W: CoreWorker, R: Region>(
     alloc: Global,
     region: &mut R,
     member: u32,
-) -> Result<bool, Memory>
+) -> Result<Turn, Memory>
     requires stands { W.stands (state board.old.keeper.me.0).place member (R.state region.old)
         (view_of (state board.old.keeper.me.0) member) worker.old }
     requires own { AreOwn (state board.old.keeper.me.0).place member backlog.old.items }
@@ -118,18 +121,19 @@ pub(crate) fn step<W: CoreWorker, R: Region>(
         worker.old worker.new backlog.old.items accepted rest (is_idle result)
         (W.winds worker.old) × (backlog.new.items ≡ rest) × OnOk result (accepted
         ≡ next_of (is_open W.room W.leads worker.old) backlog.old.items) }
-    ensures does { IfOk result (Does W.begins W.turned (state board.old.keeper.me.0).place member
+    ensures does { IfOk result (λ turn. Does W.begins W.turned
+        (state board.old.keeper.me.0).place member
         (R.state region.old) (R.state region.new)
         (state board.old.keeper.me.0) (state board.new.keeper.me.0) worker.old worker.new
-        (next_of (is_open W.room W.leads worker.old) backlog.old.items)) }
+        (next_of (is_open W.room W.leads worker.old) backlog.old.items) (has_moved turn)) }
     ensures winds { OnOk result (W.winds worker.new ≡ W.winds worker.old) }
     ensures awake { OnErr result (W.winds worker.old ≡ false) }
-    ensures less { IfOk result (λ b. b ≡ true
+    ensures less { IfOk result (λ turn. turn ≡ Moved
         → W.left worker.new + W.under_way (state board.new.keeper.me.0)
         + (W.most + 1) * length backlog.new.items
         < W.left worker.old + W.under_way (state board.old.keeper.me.0)
         + (W.most + 1) * length backlog.old.items) }
-    ensures idle { IfOk result (λ b. b ≡ false
+    ensures idle { IfOk result (λ turn. turn ≡ Idle
         → W.left worker.new + W.under_way (state board.new.keeper.me.0)
         + (W.most + 1) * length backlog.new.items
         ≤ W.left worker.old + W.under_way (state board.old.keeper.me.0)
@@ -144,8 +148,8 @@ pub(crate) fn step<W: CoreWorker, R: Region>(
     }
 }
 
-// Takes the answers that a worker fixed.
-pub(crate) fn collect<W: CoreWorker>(worker: &mut W, kept: &mut Vec<Option<Stamped>>, stamp: u64)
+/// Takes the answers that a worker fixed, and keeps each by the number of its request, with this stamp.
+pub fn collect<W: CoreWorker>(worker: &mut W, kept: &mut Vec<Option<Stamped>>, stamp: u64)
     requires { HavePlaces (length kept.old.items) (W.answers worker.old) }
     ensures kept { kept.new.items ≡ stored (W.answers worker.old) stamp kept.old.items }
     ensures answers { W.answers worker.new ≡ [] }

@@ -1,8 +1,9 @@
 //! The engine of a replay: one worker for each core, one board for each group, and what was answered.
 #![tactic(auto)]
 
+pub mod backlog;
 pub mod engine;
-mod engine_step;
+pub mod engine_step;
 pub mod open_boards;
 pub mod open_engine;
 pub mod passes;

@@ -1,12 +1,15 @@
 // The passes of a drain, over whatever cores there are.
-ghost use Rattle.std.specs.Prelude.{◌≡◌, ℕ, ◌<◌, ◌≤◌, Bool, IfOk, OnOk, OnErr, true, false};
+ghost use Rattle.std.specs.Prelude.{◌≡◌, ℕ, ◌<◌, ◌≤◌, Bool, IfOk, OnOk, OnErr};
 ghost use Rattle.pm_region.specs.State.{State};
 ghost use Rattle.engine_laws.specs.Engine.{Engine};
 ghost use Rattle.engine_laws.specs.Promises.{AnyTurn};
 ghost use Rattle.engine_laws.specs.Ran.{Goes, Ran};
+ghost use Rattle.core_worker.specs.declared.types.Turn.TheVariants.{Moved, Idle};
+ghost use Rattle.group_engine.specs.Calls.{has_moved};
 ghost use Rattle.group_engine.specs.Runs.{RunState, with_request};
 ghost use Rattle.group_engine.specs.Passes.{Settles, Passes, NameCores, Ends, EndsIn, DrainsOut, Leads, Ceases, CeasePasses, CeasesOut, CeasesIn};
 
+use core_worker::Turn;
 use fs_errors::Memory;
 use fs_model::Request;
 use fs_text::Line;
@@ -56,16 +59,16 @@ pub trait Cores {
         alloc: Global,
         region: &mut R,
         core: u32,
-    ) -> Result<bool, Memory>
+    ) -> Result<Turn, Memory>
         requires core { core < cores self.old }
         requires shows { (e : RunState Self.Worker) × shows (R.state region.old) self.old e }
-        ensures moved { IfOk result (λ b. Leads (shows (R.state region.old) self.old)
-            (shows (R.state region.new) self.new) (λ e f. moves e core b f)) }
+        ensures moved { IfOk result (λ turn. Leads (shows (R.state region.old) self.old)
+            (shows (R.state region.new) self.new) (λ e f. moves e core (has_moved turn) f)) }
         ensures failed { OnErr result (Leads (shows (R.state region.old) self.old)
             (stays (R.state region.new) self.new) (λ e f. Ends (R.state region.new) e.engine f)) }
         ensures cores { cores self.new ≡ cores self.old }
-        ensures less { IfOk result (λ b. b ≡ true → left self.new < left self.old) }
-        ensures idle { IfOk result (λ b. b ≡ false → left self.new ≤ left self.old) };
+        ensures less { IfOk result (λ turn. turn ≡ Moved → left self.new < left self.old) }
+        ensures idle { IfOk result (λ turn. turn ≡ Idle → left self.new ≤ left self.old) };
 
     /// Lets each finish what is posted or taken, and begin nothing more. It needs no memory for this.
     fn wind_down(&mut self)
@@ -74,17 +77,17 @@ pub trait Cores {
         ensures cores { cores self.new ≡ cores self.old };
 
     /// Moves a core while all wind down, and answers whether anything moved. It finds memory for all that it does.
-    fn cease<R: Region>(&mut self, alloc: Global, region: &mut R, core: u32) -> bool
+    fn cease<R: Region>(&mut self, alloc: Global, region: &mut R, core: u32) -> Turn
         requires core { core < cores self.old }
         requires winds { winds self.old }
         requires stays { (e : Engine) × stays (R.state region.old) self.old e }
         ensures ceases { Leads (stays (R.state region.old) self.old)
             (stays (R.state region.new) self.new)
-            (Ceases (R.state region.new) result core) }
+            (Ceases (R.state region.new) (has_moved result) core) }
         ensures winds { winds self.new }
         ensures cores { cores self.new ≡ cores self.old }
-        ensures less { result ≡ true → left self.new < left self.old }
-        ensures idle { result ≡ false → left self.new ≤ left self.old };
+        ensures less { result ≡ Moved → left self.new < left self.old }
+        ensures idle { result ≡ Idle → left self.new ≤ left self.old };
 
     // A state that is shown with a region's state has it.
     ghost placed: { (s : State) (x : Self) (e : Engine) → stays s x e → e.region ≡ s };
@@ -103,23 +106,23 @@ pub fn settle<C: Cores, R: Region>(
     alloc: Global,
     region: &mut R,
     core: u32,
-) -> Result<bool, Memory>
+) -> Result<Turn, Memory>
     requires core { core < C.cores cores.old }
     requires shows { (e : RunState C.Worker) × C.shows (R.state region.old) cores.old e }
     ensures failed { OnErr result (Leads (C.shows (R.state region.old) cores.old)
         (C.stays (R.state region.new) cores.new) (λ e f. Ends (R.state region.new) e.engine f)) }
-    ensures settles { IfOk result (λ b. Leads (C.shows (R.state region.old) cores.old)
-        (C.shows (R.state region.new) cores.new) (λ e f. Settles C.moves core b e f)) }
+    ensures settles { IfOk result (λ turn. Leads (C.shows (R.state region.old) cores.old)
+        (C.shows (R.state region.new) cores.new)
+        (λ e f. Settles C.moves core (has_moved turn) e f)) }
     ensures cores { C.cores cores.new ≡ C.cores cores.old }
-    ensures less { IfOk result (λ b. b ≡ true → C.left cores.new < C.left cores.old) }
-    ensures idle { IfOk result (λ b. b ≡ false → C.left cores.new ≤ C.left cores.old) }
+    ensures less { IfOk result (λ turn. turn ≡ Moved → C.left cores.new < C.left cores.old) }
+    ensures idle { IfOk result (λ turn. turn ≡ Idle → C.left cores.new ≤ C.left cores.old) }
 {
-    let mut moved = false;
+    let mut turn = Turn::Idle;
     loop {
-        if cores.advance(alloc, region, core)? {
-            moved = true;
-        } else {
-            return Ok(moved);
+        match cores.advance(alloc, region, core)? {
+            Turn::Moved => turn = Turn::Moved,
+            Turn::Idle => return Ok(turn),
         }
     }
 }
@@ -129,25 +132,26 @@ pub fn pass<C: Cores, R: Region>(
     cores: &mut C,
     alloc: Global,
     region: &mut R,
-) -> Result<bool, Memory>
+) -> Result<Turn, Memory>
     requires { (e : RunState C.Worker) × C.shows (R.state region.old) cores.old e }
     ensures failed { OnErr result (Leads (C.shows (R.state region.old) cores.old)
         (C.stays (R.state region.new) cores.new) (λ e f. Ends (R.state region.new) e.engine f)) }
-    ensures passes { IfOk result (λ b. Leads (C.shows (R.state region.old) cores.old)
+    ensures passes { IfOk result (λ turn. Leads (C.shows (R.state region.old) cores.old)
         (C.shows (R.state region.new) cores.new)
-        (λ e f. Passes C.moves (C.cores cores.old) b e f)) }
+        (λ e f. Passes C.moves (C.cores cores.old) (has_moved turn) e f)) }
     ensures cores { C.cores cores.new ≡ C.cores cores.old }
-    ensures less { IfOk result (λ b. b ≡ true → C.left cores.new < C.left cores.old) }
-    ensures idle { IfOk result (λ b. b ≡ false → C.left cores.new ≤ C.left cores.old) }
+    ensures less { IfOk result (λ turn. turn ≡ Moved → C.left cores.new < C.left cores.old) }
+    ensures idle { IfOk result (λ turn. turn ≡ Idle → C.left cores.new ≤ C.left cores.old) }
 {
-    let mut moved = false;
+    let mut turn = Turn::Idle;
     let count = cores.count();
     for core in 0..count {
-        if settle(cores, alloc, region, core)? {
-            moved = true;
+        match settle(cores, alloc, region, core)? {
+            Turn::Moved => turn = Turn::Moved,
+            Turn::Idle => {}
         }
     }
-    Ok(moved)
+    Ok(turn)
 }
 
 /// Makes passes until nothing moves.
@@ -164,8 +168,9 @@ pub fn drain<C: Cores, R: Region>(
     ensures cores { C.cores cores.new ≡ C.cores cores.old }
 {
     loop {
-        if !pass(cores, alloc, region)? {
-            return Ok(());
+        match pass(cores, alloc, region)? {
+            Turn::Moved => {}
+            Turn::Idle => return Ok(()),
         }
     }
 }
@@ -224,48 +229,48 @@ pub fn cease_core<C: Cores, R: Region>(
     alloc: Global,
     region: &mut R,
     core: u32,
-) -> bool
+) -> Turn
     requires core { core < C.cores cores.old }
     requires winds { C.winds cores.old }
     requires stays { (e : Engine) × C.stays (R.state region.old) cores.old e }
     ensures ceases { Leads (C.stays (R.state region.old) cores.old)
         (C.stays (R.state region.new) cores.new)
-        (Ceases (R.state region.new) result core) }
+        (Ceases (R.state region.new) (has_moved result) core) }
     ensures winds { C.winds cores.new }
     ensures cores { C.cores cores.new ≡ C.cores cores.old }
-    ensures less { result ≡ true → C.left cores.new < C.left cores.old }
-    ensures idle { result ≡ false → C.left cores.new ≤ C.left cores.old }
+    ensures less { result ≡ Moved → C.left cores.new < C.left cores.old }
+    ensures idle { result ≡ Idle → C.left cores.new ≤ C.left cores.old }
 {
-    let mut moved = false;
+    let mut turn = Turn::Idle;
     loop {
-        if cores.cease(alloc, region, core) {
-            moved = true;
-        } else {
-            return moved;
+        match cores.cease(alloc, region, core) {
+            Turn::Moved => turn = Turn::Moved,
+            Turn::Idle => return turn,
         }
     }
 }
 
 /// Moves each core until nothing of it moves, by rising number, while all wind down, and answers whether anything moved.
-pub fn cease_pass<C: Cores, R: Region>(cores: &mut C, alloc: Global, region: &mut R) -> bool
+pub fn cease_pass<C: Cores, R: Region>(cores: &mut C, alloc: Global, region: &mut R) -> Turn
     requires winds { C.winds cores.old }
     requires stays { (e : Engine) × C.stays (R.state region.old) cores.old e }
     ensures passes { Leads (C.stays (R.state region.old) cores.old)
         (C.stays (R.state region.new) cores.new)
-        (CeasePasses (R.state region.new) (C.cores cores.old) result) }
+        (CeasePasses (R.state region.new) (C.cores cores.old) (has_moved result)) }
     ensures winds { C.winds cores.new }
     ensures cores { C.cores cores.new ≡ C.cores cores.old }
-    ensures less { result ≡ true → C.left cores.new < C.left cores.old }
-    ensures idle { result ≡ false → C.left cores.new ≤ C.left cores.old }
+    ensures less { result ≡ Moved → C.left cores.new < C.left cores.old }
+    ensures idle { result ≡ Idle → C.left cores.new ≤ C.left cores.old }
 {
-    let mut moved = false;
+    let mut turn = Turn::Idle;
     let all = cores.count();
     for core in 0..all {
-        if cease_core(cores, alloc, region, core) {
-            moved = true;
+        match cease_core(cores, alloc, region, core) {
+            Turn::Moved => turn = Turn::Moved,
+            Turn::Idle => {}
         }
     }
-    moved
+    turn
 }
 
 /// Makes passes until nothing moves, while all wind down: what is posted or taken is finished, and then all rest.
@@ -277,8 +282,9 @@ pub fn cease<C: Cores, R: Region>(cores: &mut C, alloc: Global, region: &mut R)
         (CeasesOut (R.state region.new) (C.cores cores.old)) }
 {
     loop {
-        if !cease_pass(cores, alloc, region) {
-            return;
+        match cease_pass(cores, alloc, region) {
+            Turn::Moved => {}
+            Turn::Idle => return,
         }
     }
 }

@@ -20,7 +20,7 @@ impl CoreWorker for Worker {
     ghost use Rattle.core_worker.specs.Left as measure;
     ghost use Rattle.core_worker.specs.Status as status;
     ghost use Rattle.group_engine.specs.Working as working;
-    ghost use Rattle.core_worker.proofs.Aside.{stands_aside};
+    ghost use Rattle.core_worker.proofs.Clients.{stands_aside};
     ghost use Rattle.std.specs.Prelude.{not, refl};
     ghost use Rattle.std.proofs.Common.{◌∙◌, ap};
     ghost use Rattle.core_worker.specs.declared.worker.Worker as worker;
@@ -87,12 +87,8 @@ impl CoreWorker for Worker {
         alloc: Global,
         region: &mut R,
         board: &mut B,
-    ) -> Result<bool, Memory> {
-        match Worker::turn(self, alloc, region, board, &OpenGate) {
-            Ok(Turn::Moved) => Ok(true),
-            Ok(Turn::Idle) => Ok(false),
-            Err(memory) => Err(memory),
-        }
+    ) -> Result<Turn, Memory> {
+        Worker::turn(self, alloc, region, board, &OpenGate)
     }
 
     ghost apart = { λ p m s t v w aside tied. record {
@@ -103,7 +99,8 @@ impl CoreWorker for Worker {
     } };
 
     ghost wakes = { λ w e. not-true w.winds_down
-        (and_parts (not w.winds_down) (status.has_room w) (and_parts (not (working.leads w)) (working.may_take w) e).1).0 };
+        (and_parts (not w.winds_down) (status.has_room w)
+        (and_parts (not (working.leads w)) (working.may_take w) e).1).0 };
 
     ghost same = { λ w. refl };
 

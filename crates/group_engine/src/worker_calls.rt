@@ -11,9 +11,10 @@ ghost use Rattle.group_laws.specs.Runs.{Kind, Runs};
 ghost use Rattle.group_board.specs.Seats.{SeatAt};
 ghost use Rattle.engine_laws.specs.WorkerMoves.{Hands};
 ghost use Rattle.core_worker.specs.declared.types.Answer as answers;
-ghost use Rattle.group_engine.specs.Calls.{Accepts, BeginsByEachView, Turns, KeepsPart, WindsDown, is_open, is_idle, steps_of};
+ghost use Rattle.core_worker.specs.declared.types.Turn.TheVariants.{Moved, Idle};
+ghost use Rattle.group_engine.specs.Calls.{Accepts, BeginsByEachView, Turns, KeepsPart, WindsDown, has_moved, is_open, is_idle, steps_of};
 
-use core_worker::{Answer, NotAccepted};
+use core_worker::{Answer, NotAccepted, Turn};
 use fs_errors::Memory;
 use fs_model::Request;
 use group_board::Board;
@@ -108,13 +109,13 @@ pub trait CoreWorker {
     fn wind_down(&mut self)
         ensures { WindsDown hands answers stands fair room leads winds self.old self.new };
 
-    /// Makes a turn, and answers whether anything moved. One that winds down finds memory for all that it does.
+    /// Makes a turn, and answers whether it found something to do. One that winds down finds memory for all that it does.
     fn turn<R: Region, B: Board>(
         &mut self,
         alloc: Global,
         region: &mut R,
         board: &mut B,
-    ) -> Result<bool, Memory>
+    ) -> Result<Turn, Memory>
         requires stands { stands (B.seat board.old).place (B.seat board.old).number
             (R.state region.old) (B.view board.old) self.old }
         requires fair { IfSome (B.whole board.old)
@@ -125,14 +126,15 @@ pub trait CoreWorker {
             (R.state region.old) (R.state region.new) (B.whole board.old) (B.whole board.new)
             (B.view board.old) (B.view board.new) self.old self.new (is_idle result)
             (winds self.old) }
-        ensures turned { IfOk result (λ moved. turned moved (R.state region.old) (B.whole board.old)
-            (B.seat board.old) (B.view board.old) (B.view board.new) self.old self.new) }
+        ensures turned { IfOk result (λ turn. turned (has_moved turn) (R.state region.old)
+            (B.whole board.old) (B.seat board.old) (B.view board.old) (B.view board.new)
+            self.old self.new) }
         ensures winds { OnOk result (winds self.new ≡ winds self.old) }
         ensures awake { OnErr result (winds self.old ≡ false) }
-        ensures less { IfOk result (λ b. b ≡ true → IfSome (B.whole board.old) (λ a.
+        ensures less { IfOk result (λ turn. turn ≡ Moved → IfSome (B.whole board.old) (λ a.
             IsSomeAnd (B.whole board.new) (λ e.
             left self.new + under_way e < left self.old + under_way a))) }
-        ensures idle { IfOk result (λ b. b ≡ false → IfSome (B.whole board.old) (λ a.
+        ensures idle { IfOk result (λ turn. turn ≡ Idle → IfSome (B.whole board.old) (λ a.
             IsSomeAnd (B.whole board.new) (λ e.
             left self.new + under_way e ≤ left self.old + under_way a))) };
 

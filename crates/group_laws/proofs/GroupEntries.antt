@@ -10,7 +10,7 @@ use Rattle.log_entry.specs.declared.entry.Read.{Read}
 use Rattle.log_entry.specs.declared.entry.Read.TheVariants as reads
 use Rattle.log_entry.specs.Reading.{read, read_by, entry_of, entry_rule, op_of, version_of}
 use Rattle.log_entry.specs.Batches.{Scan, broken, with_entry, scan}
-use Rattle.log_entry.proofs.Exact.{rules_kept}
+use Rattle.log_entry.proofs.Clients.{rules_kept}
 use Rattle.chunk_map.specs.declared.heads.Head.{Head}
 use Rattle.chunk_map.specs.declared.heads.Head.TheVariants.{Free, Log, Data}
 use Rattle.chunk_map.specs.Layouts.{numbers, chunk_first, head_at, is_of_group}
@@ -19,11 +19,7 @@ use Rattle.store_image.specs.declared.types.PlacedEntry.{PlacedEntry}
 use Rattle.store_image.specs.Parts.{all_entries, part_entries, chunk_entries, placed, scan_behind, payload}
 use Rattle.store_image.specs.Winners.{winner_in}
 use Rattle.store_image.specs.Facts.{In, KeepsRules}
-use Rattle.store_image.proofs.Local.{chosen}
-use Rattle.store_image.proofs.Places.{layout_numbers}
-use Rattle.store_image.proofs.SoundFacts.{number_in, winner_is}
-use Rattle.store_image.proofs.SoundLaws.{in_numbers}
-use Rattle.store_image.proofs.Copies.{winner_some, winner_max}
+use Rattle.store_image.proofs.Clients.{chosen, layout_numbers, number_in, winner_is, in_numbers, winner_some, winner_max}
 use Rattle.group_laws.specs.Places.{Place, IsPlace, members, core_of, owner}
 use Rattle.group_laws.specs.Crashes.{Contents, IsWinner}
 use Rattle.group_laws.specs.Images.{log_of}

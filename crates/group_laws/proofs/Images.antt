@@ -11,9 +11,7 @@ use Rattle.store_image.specs.declared.types.PlacedEntry.{PlacedEntry}
 use Rattle.store_image.specs.Parts.{placed, chunk_entries}
 use Rattle.store_image.specs.Winners.{winner_in, cell_by}
 use Rattle.store_image.specs.Facts.{In}
-use Rattle.store_image.proofs.SoundFacts.{in_front, in_back, in_either, number_in, winner_is}
-use Rattle.store_image.proofs.SoundLaws.{in_numbers}
-use Rattle.store_image.proofs.Copies.{winner_some, winner_max}
+use Rattle.store_image.proofs.Clients.{in_front, in_back, in_either, number_in, winner_is, in_numbers, winner_some, winner_max}
 use Rattle.group_laws.specs.Places.{Place, members, core_of, owner}
 use Rattle.group_laws.specs.Updates.{same_entry}
 use Rattle.group_laws.specs.State.{Group}

@@ -32,3 +32,4 @@ pub mod Others
 pub mod Doubts
 pub mod PartWords
 pub mod SafeRegions
+pub mod Clients

@@ -13,10 +13,7 @@ use Rattle.store_image.specs.Winners.{winner, winner_in, keys_of, cell_by}
 use Rattle.store_image.specs.Winners as images
 use Rattle.store_image.specs.Soundness.{points_to, same_body}
 use Rattle.store_image.specs.Facts.{In, KeepsRules}
-use Rattle.store_image.proofs.Local.{chosen}
-use Rattle.store_image.proofs.Places.{layout_numbers}
-use Rattle.store_image.proofs.SoundLaws.{winner_key, same_bodies}
-use Rattle.store_image.proofs.Copies.{winner_some}
+use Rattle.store_image.proofs.Clients.{chosen, layout_numbers, winner_key, same_bodies, winner_some}
 use Rattle.group_laws.specs.declared.types.Block.{Block}
 use Rattle.group_laws.specs.Places.{Place, IsPlace, members, core_of, owner}
 use Rattle.group_laws.specs.Crashes.{Contents, IsWinner, HasNone, Leaves}

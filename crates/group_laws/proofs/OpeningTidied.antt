@@ -8,8 +8,7 @@ use Rattle.store_image.specs.declared.types.PlacedEntry.{PlacedEntry}
 use Rattle.store_image.specs.Parts.{all_entries, chunk_reads}
 use Rattle.store_image.specs.Winners.{winner}
 use Rattle.store_image.specs.Facts.{In, KeepsRules}
-use Rattle.store_image.proofs.Local.{chosen}
-use Rattle.store_image.proofs.SoundFacts.{winner_is, number_in}
+use Rattle.store_image.proofs.Clients.{chosen, winner_is, number_in}
 use Rattle.group_laws.specs.Places.{Place, IsPlace, members, core_of, owner}
 use Rattle.group_laws.specs.State.{Group}
 use Rattle.group_laws.specs.Invariant.{Lawful, IsDead}

@@ -5,15 +5,13 @@ use Rattle.std.proofs.Math.Nat.{mul-le-mul_left, pow-le-pow_right}
 use Rattle.std.proofs.lemmas.Nat.{pow_pos}
 use Rattle.std.proofs.lemmas.Bool.{and_parts, eqb-true, leb-true, cases_eq, cases_lt}
 use Rattle.log_entry.specs.Words.{words_for, unpacked, words_from}
-use Rattle.log_entry.proofs.Bytes.{length-unpacked}
-use Rattle.log_entry.proofs.Images.{length-words}
+use Rattle.log_entry.proofs.Clients.{length-unpacked, length-words}
 use Rattle.chunk_map.specs.declared.layouts.Geometry.{Geometry}
 use Rattle.chunk_map.specs.declared.heads.Head.{Head}
 use Rattle.chunk_map.specs.declared.heads.Head.TheVariants.{Free, Log, Data}
 use Rattle.chunk_map.specs.Layouts.{numbers, chunk_words, is_class, head_at, head_by, has_class, payload_words}
 use Rattle.store_image.specs.Parts.{chunk_units, chunk_at, unit_at, is_start, class_behind, block_class, block_bytes, held_by, held}
-use Rattle.store_image.proofs.Local.{chosen}
-use Rattle.store_image.proofs.Places.{start_facts}
+use Rattle.store_image.proofs.Clients.{chosen, start_facts}
 use Rattle.group_laws.specs.Places.{Place, core_of, first_unit, units, LiesIn, Apart}
 
 -- what stands at a pointer where a block starts

@@ -8,12 +8,10 @@ use Rattle.std.proofs.lemmas.Bool.{and_parts, eqb-true}
 use Rattle.log_entry.specs.declared.entry.Entry.{Entry}
 use Rattle.chunk_map.specs.declared.layouts.Geometry.{Geometry}
 use Rattle.chunk_map.specs.Layouts.{numbers, part_first, chunk_first, chunk_words, head_at}
-use Rattle.chunk_map.proofs.LayoutLaws.{chunk_in_part}
+use Rattle.chunk_map.proofs.Clients.{chunk_in_part}
 use Rattle.store_image.specs.declared.types.PlacedEntry.{PlacedEntry}
 use Rattle.store_image.specs.Parts.{part_entries, reads, held, block_class, class_behind, chunk_at, unit_at, chunk_units}
-use Rattle.store_image.proofs.Local.{chosen, head_same, reads_same, part_same}
-use Rattle.store_image.proofs.Places.{Numbers, behind_facts, layout_numbers}
-use Rattle.store_image.proofs.BlockLaws.{held_same}
+use Rattle.store_image.proofs.Clients.{chosen, head_same, reads_same, part_same, Numbers, behind_facts, layout_numbers, held_same}
 use Rattle.store_image.specs.Facts.{In}
 use Rattle.group_laws.specs.Places.{Place, IsPlace, core_of}
 use Rattle.group_laws.specs.MemberViews.{View}

@@ -9,17 +9,14 @@ use Rattle.log_entry.specs.declared.entry.Body.TheVariants.{Pointer}
 use Rattle.chunk_map.specs.declared.layouts.Geometry.{Geometry}
 use Rattle.chunk_map.specs.Layouts.{IsLayout, numbers, chunk_first, is_of_group, superblock_rule, layout_of}
 use Rattle.chunk_map.specs.Layouts as layouts
-use Rattle.chunk_map.proofs.LayoutLaws.{numbers_of}
+use Rattle.chunk_map.proofs.Clients.{numbers_of}
 use Rattle.store_image.specs.declared.types.PlacedEntry.{PlacedEntry}
 use Rattle.store_image.specs.Parts.{chunk_reads, reads, chunk_entries, part_entries, all_entries, held, block_bytes}
 use Rattle.store_image.specs.Winners.{winner_in, cell_by}
 use Rattle.store_image.specs.Winners as winners
 use Rattle.store_image.specs.Facts.{In, Agree, KeepsRules}
 use Rattle.store_image.specs.Soundness.{IsSound}
-use Rattle.store_image.proofs.SoundFacts.{number_in, winner_is, store_sound}
-use Rattle.store_image.proofs.SoundLaws.{in_numbers}
-use Rattle.store_image.proofs.Places.{superblock_facts}
-use Rattle.store_image.proofs.Copies.{winner_some, winner_max}
+use Rattle.store_image.proofs.Clients.{number_in, winner_is, store_sound, in_numbers, superblock_facts, winner_some, winner_max}
 use Rattle.group_laws.specs.Places.{Place, members, core_of, owner}
 use Rattle.group_laws.specs.State.{Group}
 use Rattle.group_laws.specs.Crashes.{IsNext}

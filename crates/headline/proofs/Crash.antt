@@ -9,7 +9,7 @@ use Rattle.fs_model.specs.Changes.{names, finished_changes, unfinished_change, c
 use Rattle.headline.specs.Headline.{Told, finished_in, refused_in, changes_in, cells_of, Recovers}
 use Rattle.fs_model.specs.Cells.{key_of, is_change, cell_after}
 use Rattle.fs_model.specs.Changes.{requests_in, behind_last, requests_of}
-use Rattle.fs_model.proofs.Answered.{changes-append}
+use Rattle.fs_model.proofs.Clients.{changes-append}
 use Rattle.store_image.specs.Soundness.{IsSound}
 use Rattle.headline.specs.Run.{Answered, Recorded, HoldsCells}
 use Rattle.headline.proofs.Lists.{each_number, any_none}

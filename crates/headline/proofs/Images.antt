@@ -4,8 +4,7 @@ use Rattle.pm_region.specs.Cell.{Cell, certain, MayBe}
 use Rattle.pm_region.specs.State.{Frame, InRange, MayLeave}
 use Rattle.fs_model.specs.declared.model.Request.{Request}
 use Rattle.store_image.specs.Soundness.{first_fault, IsSound}
-use Rattle.store_image.proofs.Agree.{fault_agrees, cells_agree}
-use Rattle.store_image.proofs.SoundLaws.{own_blocks, has_layout}
+use Rattle.store_image.proofs.Clients.{fault_agrees, cells_agree, own_blocks, has_layout}
 use Rattle.headline.specs.Headline.{cells_of, HasOwnBlocks, Recovers, Told}
 
 pub certain_may_be : (v x : ℕ) → MayBe (certain v) x → x ≡ v

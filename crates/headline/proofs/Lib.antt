@@ -4,3 +4,4 @@ pub mod Crash
 pub mod Images
 pub mod Steady
 pub mod Counted
+pub mod Clients

@@ -13,7 +13,7 @@ use Rattle.fs_model.specs.declared.model.Reply.{Reply}
 use Rattle.fs_model.specs.declared.model.Reply.TheVariants.{Stopped}
 use Rattle.fs_model.specs.Cells.{key_of, is_change, cell_after}
 use Rattle.fs_model.specs.Lawful.{IsLawful, IsLawfulFor, MayReply, Fits, asked, cell_of, stopped_of, cell_left, is_stopped, is_finish, is_told, once_where}
-use Rattle.fs_model.proofs.Answered.{asked-append, lawful-more, changes-append}
+use Rattle.fs_model.proofs.Clients.{asked-append, lawful-more, changes-append}
 use Rattle.fs_model.specs.Changes.{requests_of, names, behind_last, requests_in, finished_changes, unfinished_change, changes_of, cell_after_all, finished_by, IsPrefixCell}
 use Rattle.headline.specs.Headline.{Told, finished_in, refused_in}
 use Rattle.headline.specs.Run.{Answered, Recorded}

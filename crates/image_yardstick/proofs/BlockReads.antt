@@ -1,10 +1,10 @@
 -- What the code reads of a block.
 use Rattle.std.proofs.Common.{◌≡◌, ℕ, ◌+◌, ◌-◌, ◌*◌, ◌^◌, ◌≤◌, List, length, take, drop, get_or, sym, ◌∙◌, ap, arith, true, cond, Some, None}
 use Rattle.log_entry.specs.Words.{words_for, unpacked, words_from}
-use Rattle.log_entry.proofs.Images.{slice_words}
+use Rattle.log_entry.proofs.Clients.{slice_words}
 use Rattle.chunk_map.specs.Layouts.{has_class}
 use Rattle.store_image.specs.Parts.{block_bytes, held_by}
-use Rattle.store_image.proofs.Places.{class_room}
+use Rattle.store_image.proofs.Clients.{class_room}
 
 -- the words behind the length, as a part of the list, are the block's
 pub block_read : (ws : List ℕ) (p class to : ℕ) (bytes value : List ℕ) → has_class (get_or ws (32 * p) 0) class ≡ true → 32 * p + 32 * 2 ^ class ≤ length ws

@@ -6,7 +6,7 @@ use Rattle.std.proofs.lemmas.Bool.{cases_eq, cases_lt, both_ways, eq-eqb, ne_eqb
 use Rattle.std.proofs.lemmas.List.{length-set, get_or-set_same, get_or-set_other, get_or-replicate, get_or_past, length-replicate}
 use Rattle.chunk_map.specs.declared.layouts.Geometry.{Geometry}
 use Rattle.chunk_map.specs.Layouts.{IsLayout, is_class}
-use Rattle.chunk_map.proofs.LayoutLaws.{numbers_of}
+use Rattle.chunk_map.proofs.Clients.{numbers_of}
 use Rattle.store_image.specs.Parts.{chunk_units, unit_at}
 use Rattle.lazy_alloc.specs.Bits.{has, has_bit}
 use Rattle.lazy_alloc.specs.Chains.{IsLinked, Adds, Removes, Same, Lacks, LeastFrom, link_at}

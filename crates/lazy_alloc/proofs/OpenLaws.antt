@@ -5,7 +5,7 @@ use Rattle.std.proofs.lemmas.Bool.{both_ways, and_parts, leb-true, not-true, eqb
 use Rattle.chunk_map.specs.declared.layouts.Geometry.{Geometry}
 use Rattle.chunk_map.specs.Layouts.{is_class}
 use Rattle.store_image.specs.Parts.{chunk_units}
-use Rattle.chunk_map.proofs.LayoutLaws.{numbers_of}
+use Rattle.chunk_map.proofs.Clients.{numbers_of}
 use Rattle.lazy_alloc.specs.Bits.{has_bit}
 use Rattle.lazy_alloc.specs.Sets.{is_free_block, blocks_in}
 use Rattle.lazy_alloc.specs.Form.{room_words, chunk_in, bit_of, class_in, class_of_block, is_full, is_open, sets_of, IsForm}

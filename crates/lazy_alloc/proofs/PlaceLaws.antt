@@ -6,8 +6,7 @@ use Rattle.std.proofs.lemmas.Nat.{div-add-mod', div-mul-add, mod-mul-add, pow_po
 use Rattle.std.proofs.lemmas.Bool.{and_parts, and_from, leb-true, le-leb, eqb-true, eq-eqb, cond-true}
 use Rattle.chunk_map.specs.declared.layouts.Geometry.{Geometry}
 use Rattle.store_image.specs.Parts.{chunk_units, chunk_at, unit_at, is_start}
-use Rattle.store_image.proofs.Local.{chosen}
-use Rattle.store_image.proofs.Places.{start_facts}
+use Rattle.store_image.proofs.Clients.{chosen, start_facts}
 use Rattle.lazy_alloc.specs.Sets.{start_in, blocks_in}
 use Rattle.lazy_alloc.specs.Form.{room_words, chunk_in, bit_of, class_by}
 

@@ -3,8 +3,7 @@ use Rattle.std.proofs.Common.{◌≡◌, ℕ, zero, suc, ◌+◌, ◌-◌, ◌*�
 use Rattle.std.specs.Int.{w64, from_le_bytes}
 use Rattle.std.proofs.lemmas.List.{drop-drop, take_at}
 use Rattle.log_entry.specs.Words.{words_for, packed_in, packed, unpacked, words_from}
-use Rattle.log_entry.proofs.Bytes.{AreBytes, unpacked-packed, length-packed_in}
-use Rattle.log_entry.proofs.Images.{words_list}
+use Rattle.log_entry.proofs.Clients.{AreBytes, unpacked-packed, length-packed_in, words_list}
 use Rattle.lazy_alloc.specs.Written.{block_words, HoldsValue}
 
 packed_at : (n k : ℕ) (xs : List ℕ) → k < n → get_or (packed_in n xs) k 0 ≡ from_le_bytes w64 (take 8 (drop (8 * k) xs))

@@ -5,18 +5,15 @@ use Rattle.pm_region.specs.Cell.{Cell, certain}
 use Rattle.pm_region.specs.State.{State, Frame, During, IsTelling, cell_now}
 use Rattle.pm_region.specs.Words.{EachIn, Kept, KeepsOutside, Surely}
 use Rattle.pm_region.specs.declared.region.RegionFault.{RegionFault}
-use Rattle.pm_region.proofs.Moments.{started, then_on, weaken, at_exit, told_at_entry}
-use Rattle.pm_region.proofs.Cells.{kept_then}
-use Rattle.pm_region.proofs.Narrow.{surely_kept, surely_certain}
+use Rattle.pm_region.proofs.Clients.{started, then_on, weaken, at_exit, told_at_entry, kept_then, surely_kept, surely_certain}
 use Rattle.chunk_map.specs.declared.heads.Head.TheVariants.{Free, Data}
 use Rattle.chunk_map.specs.Layouts.{IsLayout, chunk_words, part_first, head_by, is_class, has_class}
 use Rattle.chunk_map.specs.Setting.{HeadLies, HasEitherHead, HasHead as ReadsHead}
-use Rattle.chunk_map.proofs.LayoutLaws.{numbers_of, chunk_in_part, chunk_first_whole, chunk_words_whole}
-use Rattle.chunk_map.proofs.HeadLaws.{data_read}
+use Rattle.chunk_map.proofs.Clients.{numbers_of, chunk_in_part, chunk_first_whole, chunk_words_whole, data_read}
 use Rattle.log_entry.specs.Words.{words_for}
-use Rattle.log_entry.proofs.Bytes.{AreBytes}
+use Rattle.log_entry.proofs.Clients.{AreBytes}
 use Rattle.store_image.specs.Parts.{chunk_units}
-use Rattle.store_image.proofs.Places.{class_room}
+use Rattle.store_image.proofs.Clients.{class_room}
 use Rattle.lazy_alloc.specs.Sets.{Sets, AreSets, class_at, chunk_of, chunk_is_due}
 use Rattle.lazy_alloc.specs.Steps.{WritesHead}
 use Rattle.lazy_alloc.specs.Written.{PartLies, head_of, HasHead, HeadTurnsTo, KeepsOthers, block_words, block_lines, WroteValue}

@@ -5,11 +5,12 @@ use Rattle.std.specs.Option.{option_and_then, option_map_or}
 use Rattle.chunk_map.specs.declared.layouts.Geometry.{Geometry}
 use Rattle.chunk_map.specs.Layouts.{numbers, is_class, IsLayout}
 use Rattle.store_image.specs.Parts.{chunk_units, chunk_at, unit_at}
+use Rattle.lazy_alloc.specs.declared.bits.TheConstants.{WORD_BITS}
 use Rattle.lazy_alloc.specs.Bits.{has, has_bit}
 use Rattle.lazy_alloc.specs.Chains.{IsLinked}
 use Rattle.lazy_alloc.specs.Sets.{Chunk, Sets, start_in, blocks_in, free_block_count}
 
--- Each chunk has room for a bit for each block of the least class, in words of 64 bits.
+-- Each chunk has room for a bit for each block of the least class, in whole words.
 abbrev pub room_words : Geometry → ℕ
 room_words l = (chunk_units l + 127) / 128
 
@@ -18,7 +19,7 @@ abbrev pub chunk_in : Geometry → ℕ → ℕ
 chunk_in l p = chunk_at l p % l.chunks
 
 abbrev pub bit_of : Geometry → ℕ → ℕ → ℕ
-bit_of l p c = 64 * (chunk_in l p * room_words l) + (unit_at l p - 1) / 2 ^ c
+bit_of l p c = WORD_BITS * (chunk_in l p * room_words l) + (unit_at l p - 1) / 2 ^ c
 
 abbrev pub class_in : List (Option ℕ) → ℕ → Option ℕ
 class_in classes j = slice_index_or classes j None
@@ -62,12 +63,12 @@ pub record IsForm (l : Geometry) (part free due : ℕ) (classes : List (Option �
   pub free_in : (j : ℕ) → has free j ≡ true → (j < l.chunks) × (class_in classes j ≡ None)
   pub due_in : (j : ℕ) → has due j ≡ true → is_none (class_in classes j) ≡ false
   pub cut_in : (j c : ℕ) → class_in classes j ≡ Some c → is_class l c ≡ true
-  pub blank : (j : ℕ) → class_in classes j ≡ None → (i : ℕ) → 64 * (j * room_words l) ≤ i
-      → i < 64 * ((j + 1) * room_words l) → has_bit bits i ≡ false
+  pub blank : (j : ℕ) → class_in classes j ≡ None → (i : ℕ) → WORD_BITS * (j * room_words l) ≤ i
+      → i < WORD_BITS * ((j + 1) * room_words l) → has_bit bits i ≡ false
 
 -- all blocks of a chunk are allocated, if they are of this class
 unfoldable pub is_full : Geometry → List ℕ → ℕ → ℕ → Bool
-is_full l bits j c = list_all (λ b. has_bit bits (64 * (j * room_words l) + b))
+is_full l bits j c = list_all (λ b. has_bit bits (WORD_BITS * (j * room_words l) + b))
     (numbers 0 (blocks_in l c))
 
 -- a chunk is cut into blocks of this class, and one of them is free

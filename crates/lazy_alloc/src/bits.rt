@@ -1,10 +1,13 @@
-// Sets of numbers as bits: up to 64 in one word, and more in a list of words.
+// Sets of numbers as bits: as many in one word as it has bits, and more in a list of words.
 ghost use Rattle.std.specs.Prelude.{◌≡◌, ℕ, ◌+◌, ◌*◌, ◌/◌, ◌%◌, ◌<◌, ◌≤◌, ◌==◌, ◌||◌, ◌&&◌, not, length, true, false, IfSome, MatchOption};
 ghost use Rattle.lazy_alloc.specs.Bits.{has, has_bit};
 
+/// How many numbers a set of one word may have.
+pub const WORD_BITS: u64 = 64;
+
 /// Whether the number is in the set.
 pub fn has(word: u64, at: u32) -> bool
-    requires { at < 64 }
+    requires { at < WORD_BITS }
     ensures { result ≡ has word at }
 {
     word >> at & 1 == 1
@@ -12,7 +15,7 @@ pub fn has(word: u64, at: u32) -> bool
 
 /// The set with the number in it.
 pub fn with(word: u64, at: u32) -> u64
-    requires { at < 64 }
+    requires { at < WORD_BITS }
     ensures { (i : ℕ) → has result i ≡ (i == at || has word i) }
 {
     word | 1 << at
@@ -20,7 +23,7 @@ pub fn with(word: u64, at: u32) -> u64
 
 /// The same where `on` holds, and the word itself where it doesn't.
 pub fn with_if(word: u64, at: u32, on: bool) -> u64
-    requires { at < 64 }
+    requires { at < WORD_BITS }
     ensures { (i : ℕ) → has result i ≡ ((i == at && on) || has word i) }
 {
     if on { with(word, at) } else { word }
@@ -28,7 +31,7 @@ pub fn with_if(word: u64, at: u32, on: bool) -> u64
 
 /// The set without the number.
 pub fn without(word: u64, at: u32) -> u64
-    requires { at < 64 }
+    requires { at < WORD_BITS }
     ensures { (i : ℕ) → has result i ≡ (has word i && not (i == at)) }
 {
     word & !(1 << at)
@@ -36,7 +39,7 @@ pub fn without(word: u64, at: u32) -> u64
 
 /// The lowest bit that is set.
 pub fn lowest(word: u64) -> Option<u32>
-    ensures small { IfSome result (λ j. j < 64) }
+    ensures small { IfSome result (λ j. j < WORD_BITS) }
     ensures lowest { MatchOption result ((i : ℕ) → has word i ≡ false) (λ j. (has word j ≡ true)
         × ((i : ℕ) → i < j → has word i ≡ false)) }
 {
@@ -49,8 +52,8 @@ pub fn lowest(word: u64) -> Option<u32>
 
 // The lowest bit that is not set.
 fn lowest_unset(word: u64) -> Option<u32>
-    ensures small { IfSome result (λ j. j < 64) }
-    ensures lowest { MatchOption result ((i : ℕ) → i < 64 → has word i ≡ true)
+    ensures small { IfSome result (λ j. j < WORD_BITS) }
+    ensures lowest { MatchOption result ((i : ℕ) → i < WORD_BITS → has word i ≡ true)
         (λ j. (has word j ≡ false) × ((i : ℕ) → i < j → has word i ≡ true)) }
 {
     if word == u64::MAX {
@@ -62,43 +65,43 @@ fn lowest_unset(word: u64) -> Option<u32>
 
 /// Whether a bit of the list is set.
 pub fn is_set(words: &[u64], at: u64) -> bool
-    requires { at < 64 * length words.now }
+    requires { at < WORD_BITS * length words.now }
     ensures { result ≡ has_bit words.now at }
 {
-    has(words[(at / 64) as usize], (at % 64) as u32)
+    has(words[(at / WORD_BITS) as usize], (at % WORD_BITS) as u32)
 }
 
 /// Sets a bit of the list.
 pub fn set(words: &mut Vec<u64>, at: u64)
-    requires { at < 64 * length words.old.items }
+    requires { at < WORD_BITS * length words.old.items }
     ensures long { length words.new.items ≡ length words.old.items }
     ensures each { (i : ℕ) → has_bit words.new.items i ≡ (i == at || has_bit words.old.items i) }
 {
-    let word = (at / 64) as usize;
-    words[word] = with(words[word], (at % 64) as u32);
+    let word = (at / WORD_BITS) as usize;
+    words[word] = with(words[word], (at % WORD_BITS) as u32);
 }
 
 /// Clears a bit of the list.
 pub fn clear(words: &mut Vec<u64>, at: u64)
-    requires { at < 64 * length words.old.items }
+    requires { at < WORD_BITS * length words.old.items }
     ensures long { length words.new.items ≡ length words.old.items }
     ensures each { (i : ℕ) → has_bit words.new.items i
         ≡ (has_bit words.old.items i && not (i == at)) }
 {
-    let word = (at / 64) as usize;
-    words[word] = without(words[word], (at % 64) as u32);
+    let word = (at / WORD_BITS) as usize;
+    words[word] = without(words[word], (at % WORD_BITS) as u32);
 }
 
 /// Of so many bits from a word on, the lowest that is not set, counted from that word's first bit.
 pub fn first_unset(words: &[u64], from: u64, count: u64) -> Option<u64>
-    requires { 64 * from + count ≤ 64 * length words.now }
-    ensures { MatchOption result ((i : ℕ) → i < count → has_bit words.now (64 * from + i) ≡ true)
-        (λ b. (b < count) × ((has_bit words.now (64 * from + b) ≡ false)
-        × ((i : ℕ) → i < b → has_bit words.now (64 * from + i) ≡ true))) }
+    requires { WORD_BITS * from + count ≤ WORD_BITS * length words.now }
+    ensures { MatchOption result ((i : ℕ) → i < count → has_bit words.now (WORD_BITS * from + i) ≡ true)
+        (λ b. (b < count) × ((has_bit words.now (WORD_BITS * from + b) ≡ false)
+        × ((i : ℕ) → i < b → has_bit words.now (WORD_BITS * from + i) ≡ true))) }
 {
-    for i in 0..count.div_ceil(64) {
+    for i in 0..count.div_ceil(WORD_BITS) {
         if let Some(bit) = lowest_unset(words[(from + i) as usize]) {
-            let found = 64 * i + bit as u64;
+            let found = WORD_BITS * i + bit as u64;
             return if found < count { Some(found) } else { None };
         }
     }

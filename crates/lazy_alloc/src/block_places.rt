@@ -5,7 +5,7 @@ ghost use Rattle.store_image.specs.Parts.{chunk_units, chunk_at, unit_at, is_sta
 ghost use Rattle.lazy_alloc.specs.Sets.{blocks_in};
 ghost use Rattle.lazy_alloc.specs.Form.{room_words, chunk_in, bit_of, is_full};
 
-use crate::bits::first_unset;
+use crate::bits::{WORD_BITS, first_unset};
 use chunk_map::Layout;
 use chunk_map::layout_sizes::{FIRST_UNIT, GREATEST_CLASS, UNIT_BYTES};
 
@@ -38,7 +38,8 @@ pub fn blocks_in(layout: &Layout, class: u32) -> u64
 
 /// Whether a pointer is one into the part.
 pub fn is_in_part(layout: &Layout, part: u32, pointer: u64) -> bool
-    ensures { result ≡ (nat_le 16 pointer && chunk_at layout.now pointer / layout.now.chunks ==
+    ensures { result ≡ (nat_le FIRST_UNIT pointer
+        && chunk_at layout.now pointer / layout.now.chunks ==
         part) }
 {
     pointer >= FIRST_UNIT
@@ -75,14 +76,15 @@ pub fn bit_of(layout: &Layout, pointer: u64, class: u32) -> u64
     ensures { result ≡ bit_of layout.now pointer class }
 {
     let unit = (pointer - FIRST_UNIT) % units(layout);
-    64 * (chunk_in(layout, pointer) as u64 * room(layout)) + (unit - 1) / (1 << class)
+    WORD_BITS * (chunk_in(layout, pointer) as u64 * room(layout)) + (unit - 1) / (1 << class)
 }
 
 /// The pointer of a chunk's first block.
 pub fn first_block(layout: &Layout, part: u32, chunk: u32) -> u64
     requires part { part < layout.now.cores }
     requires chunk { chunk < layout.now.chunks }
-    ensures value { result ≡ 16 + (part * layout.now.chunks + chunk) * chunk_units layout.now + 1 }
+    ensures value { result ≡ FIRST_UNIT
+        + (part * layout.now.chunks + chunk) * chunk_units layout.now + 1 }
     ensures small { result < 2 ^ 32 }
 {
     let number = part as u64 * layout.geometry().chunks as u64 + chunk as u64;
@@ -95,7 +97,7 @@ pub fn block_at(layout: &Layout, part: u32, chunk: u32, class: u32, block: u64) 
     requires chunk { chunk < layout.now.chunks }
     requires class { class ≤ GREATEST_CLASS }
     requires fits { block * 2 ^ class < chunk_units layout.now }
-    ensures { result ≡ 16 + (part * layout.now.chunks + chunk) * chunk_units layout.now
+    ensures { result ≡ FIRST_UNIT + (part * layout.now.chunks + chunk) * chunk_units layout.now
         + (1 + block * 2 ^ class) }
 {
     // A chunk has few units, which bounds the product.

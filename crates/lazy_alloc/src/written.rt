@@ -8,7 +8,7 @@ ghost use Rattle.lazy_alloc.specs.Written.{block_words, block_lines};
 
 use chunk_map::words::flush_lines;
 use log_entry::packing::{word_at, words_for};
-use pm_region::{LINE_WORDS, Region, RegionFault};
+use pm_region::{LINE_WORDS, Region, RegionFault, WORD_BYTES};
 
 // A word of a block: the length, or eight bytes of the value with zeros past its end.
 fn block_word(value: &[u8], at: u64) -> u64
@@ -18,7 +18,7 @@ fn block_word(value: &[u8], at: u64) -> u64
     if at == 0 {
         value.len() as u64
     } else {
-        word_at(value, 8 * (at as usize - 1))
+        word_at(value, WORD_BYTES as usize * (at as usize - 1))
     }
 }
 
@@ -42,16 +42,16 @@ fn store_block<R: Region>(region: &mut R, at: u64, value: &[u8], count: u64)
 /// Makes the length and the value certain: each touched line is flushed once, and one fence follows. The block begins
 /// at line `line`.
 pub fn write_block<R: Region>(region: &mut R, line: u64, value: &[u8]) -> Result<(), RegionFault>
-    requires low { (R.state region.old).frame.first ≤ 8 * line }
-    requires high { 8 * (line + block_lines value.now) ≤ (R.state region.old).frame.first
+    requires low { (R.state region.old).frame.first ≤ LINE_WORDS * line }
+    requires high { LINE_WORDS * (line + block_lines value.now) ≤ (R.state region.old).frame.first
         + (R.state region.old).frame.words }
-    requires fits { 8 * (line + block_lines value.now) < 2 ^ 64 }
+    requires fits { LINE_WORDS * (line + block_lines value.now) < 2 ^ 64 }
     ensures run { During (R.state region.old) (R.state region.new)
-        (KeepsOutside (cell_now (R.state region.old)) (8 * line)
-        (8 * (line + block_lines value.now))) }
+        (KeepsOutside (cell_now (R.state region.old)) (LINE_WORDS * line)
+        (LINE_WORDS * (line + block_lines value.now))) }
     ensures ok { OnOk result (IsTelling (R.state region.new) → (j : ℕ)
         → j < 1 + words_for (length value.now)
-        → cell_now (R.state region.new) (8 * line + j)
+        → cell_now (R.state region.new) (LINE_WORDS * line + j)
         ≡ certain (slice_index (block_words value.now) j)) }
     ensures cause { OnErr result (Rose (R.state region.old).faults (R.state region.new).faults) }
 {

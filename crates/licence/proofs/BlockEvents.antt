@@ -5,22 +5,18 @@ use Rattle.std.proofs.lemmas.Nat.{pow_pos}
 use Rattle.pm_region.specs.Cell.{Cell, MayBe}
 use Rattle.pm_region.specs.State.{State, IsTelling, cell_now, During}
 use Rattle.pm_region.specs.Words.{KeepsOutside, MayLeaveIn, EachIn, Surely, lasts}
-use Rattle.pm_region.proofs.Cells.{may_be_last}
-use Rattle.pm_region.proofs.Narrow.{kept_narrows, patch, patch_in, patch_out, surely_last}
-use Rattle.pm_region.proofs.Moments.{weaken, both, at_exit}
+use Rattle.pm_region.proofs.Clients.{may_be_last, kept_narrows, patch, patch_in, patch_out, surely_last, weaken, both, at_exit}
 use Rattle.chunk_map.specs.declared.heads.Head.TheVariants.{Free, Data}
 use Rattle.chunk_map.specs.declared.layouts.Geometry.{Geometry}
 use Rattle.chunk_map.specs.Layouts.{chunk_words, chunk_first, head_at, head_by, has_class, is_class}
-use Rattle.chunk_map.proofs.HeadLaws.{data_read}
+use Rattle.chunk_map.proofs.Clients.{data_read, chunk_in_part}
 use Rattle.store_image.specs.Parts.{chunk_at, unit_at, is_start, class_behind, block_class, held_by, block_bytes}
 use Rattle.store_image.specs.Facts.{In}
-use Rattle.store_image.proofs.Local.{chosen}
-use Rattle.store_image.proofs.Places.{Numbers}
-use Rattle.store_image.proofs.BlockLaws.{LiesIn, chunk_of, block_lies}
+use Rattle.store_image.proofs.Clients.{chosen, Numbers, LiesIn, chunk_of, block_lies, layout_numbers}
 use Rattle.lazy_alloc.specs.Sets.{Sets, AreSets, class_at, chunk_class, chunk_is_due, block_is_used}
 use Rattle.lazy_alloc.specs.Sets as sets
 use Rattle.lazy_alloc.specs.Written.{KeepsOthers, HeadTurnsTo, HoldsValue, WroteValue, head_of}
-use Rattle.lazy_alloc.proofs.SetLaws.{lies_at}
+use Rattle.lazy_alloc.proofs.Clients.{lies_at}
 use Rattle.group_laws.specs.declared.types.Block.{Block}
 use Rattle.group_laws.specs.Places.{Place, core_of}
 use Rattle.group_laws.specs.Images.{block_of, IsLicensedBy}
@@ -31,8 +27,6 @@ use Rattle.group_laws.specs.MemberViews.{View}
 use Rattle.licence.specs.Licence.{Licensed, part_at, part_end}
 use Rattle.licence.specs.ViewChanges.{GainsBlock}
 use Rattle.licence.specs.Writes.{IsUnused, WritesBlock}
-use Rattle.chunk_map.proofs.LayoutLaws.{chunk_in_part}
-use Rattle.store_image.proofs.Places.{layout_numbers}
 use Rattle.licence.proofs.Gained.{not_true}
 use Rattle.licence.proofs.Blocks.{Start, numbers_of, licensed_block}
 

@@ -8,17 +8,15 @@ use Rattle.chunk_map.specs.declared.heads.Head.{Head}
 use Rattle.chunk_map.specs.declared.heads.Head.TheVariants.{Free, Log, Data}
 use Rattle.chunk_map.specs.declared.layouts.Geometry.{Geometry}
 use Rattle.chunk_map.specs.Layouts.{chunk_words, chunk_first, head_at, is_class}
-use Rattle.chunk_map.proofs.HeadLaws.{data_read}
+use Rattle.chunk_map.proofs.Clients.{data_read}
 use Rattle.store_image.specs.declared.types.PlacedEntry.{PlacedEntry}
 use Rattle.store_image.specs.Parts.{chunk_entries, chunk_reads, head_reads, scan_behind, chunk_at, unit_at, chunk_units, is_start, class_behind, block_class, held}
 use Rattle.store_image.specs.Facts.{In}
-use Rattle.store_image.proofs.Local.{chunk_same, head_same, reads_same, chosen, data_entries, free_entries}
-use Rattle.store_image.proofs.Places.{Numbers}
-use Rattle.store_image.proofs.BlockLaws.{LiesIn, chunk_of, block_lies, held_same}
+use Rattle.store_image.proofs.Clients.{chunk_same, head_same, reads_same, chosen, data_entries, free_entries, Numbers, LiesIn, chunk_of, block_lies, held_same}
 use Rattle.group_laws.specs.Places.{Place, core_of}
 use Rattle.group_laws.specs.Images.{StandsIn, IsLicensedBy}
 use Rattle.group_laws.specs.MemberViews.{View}
-use Rattle.core_log.proofs.ChunkImages.{part_has, part_of, chunk_reads_of, part_reads_by, outside_chunk, held_has}
+use Rattle.core_log.proofs.Clients.{part_has, part_of, chunk_reads_of, part_reads_by, outside_chunk, held_has}
 
 -- a block of this class may begin at the pointer, in this part
 pub record Start (l : Geometry) (c r k : ℕ) : Type 0 where

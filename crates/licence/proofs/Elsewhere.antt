@@ -3,8 +3,7 @@ use Rattle.std.proofs.Common.{◌⊎◌, inl, inr, ⊎_elim, ℕ, ◌≤◌, ◌
 use Rattle.pm_region.specs.Cell.{Cell}
 use Rattle.pm_region.specs.State.{State, IsTelling, cell_now, During}
 use Rattle.pm_region.specs.Words.{KeepsOutside, Narrows}
-use Rattle.pm_region.proofs.Moments.{weaken}
-use Rattle.pm_region.proofs.Narrow.{kept_narrows}
+use Rattle.pm_region.proofs.Clients.{weaken, kept_narrows}
 use Rattle.group_laws.specs.Places.{Place}
 use Rattle.group_laws.specs.MemberViews.{View}
 use Rattle.licence.specs.Licence.{Licensed, part_at, part_end}

@@ -10,12 +10,12 @@ use Rattle.store_image.specs.Parts.{reads, held}
 use Rattle.store_image.specs.Facts.{In}
 use Rattle.core_log.specs.Log.{LogState}
 use Rattle.core_log.specs.PartImages.{KeepsPart, Gains, Loses, EachInPart, entries_of}
-use Rattle.core_log.proofs.ChunkImages.{InPart}
+use Rattle.core_log.proofs.Clients.{InPart}
 use Rattle.group_laws.specs.declared.types.Block.{Block}
 use Rattle.group_laws.specs.Places.{Place, core_of}
 use Rattle.group_laws.specs.MemberViews.{View}
 use Rattle.group_laws.specs.Images.{IsLicensedBy, block_of}
-use Rattle.group_laws.proofs.Puts.{In-append, In-append_left, In-append_right}
+use Rattle.group_laws.proofs.Clients.{In-append, In-append_left, In-append_right}
 use Rattle.licence.specs.Licence.{IsLogOf, part_at, part_end}
 use Rattle.licence.specs.ViewChanges.{Commits}
 use Rattle.licence.specs.Writes.{StandsElsewhere}

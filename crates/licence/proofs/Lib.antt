@@ -5,3 +5,4 @@ pub mod BlockEvents
 pub mod Quiet
 pub mod Elsewhere
 pub mod Changes
+pub mod Clients

@@ -2,25 +2,21 @@
 use Rattle.std.proofs.Common.{◌≡◌, ◌⊎◌, inl, inr, ⊎_elim, ℕ, ◌+◌, ◌≤◌, ◌<◌, true, false, cond, List, [], ◌∷◌, Option, Some, None, is_some, refl, sym, ◌∙◌, ap, subst, arith}
 use Rattle.pm_region.specs.State.{State, IsTelling, cell_now, During}
 use Rattle.pm_region.specs.Words.{KeepsOutside}
-use Rattle.pm_region.proofs.Moments.{weaken, told_at_entry}
-use Rattle.pm_region.proofs.Runs.{wider}
+use Rattle.pm_region.proofs.Clients.{weaken, told_at_entry, wider}
 use Rattle.chunk_map.specs.Layouts.{chunk_words, part_first}
-use Rattle.chunk_map.proofs.LayoutLaws.{chunk_in_part}
+use Rattle.chunk_map.proofs.Clients.{chunk_in_part}
 use Rattle.log_entry.specs.declared.entry.Entry.{Entry}
 use Rattle.log_entry.specs.declared.entry.EntryName.{EntryName}
 use Rattle.store_image.specs.declared.types.PlacedEntry.{PlacedEntry}
 use Rattle.store_image.specs.Parts.{chunk_entries, placed}
 use Rattle.store_image.specs.Facts.{In}
-use Rattle.store_image.proofs.Places.{layout_numbers}
+use Rattle.store_image.proofs.Clients.{layout_numbers}
 use Rattle.core_log.specs.Chunk.{padded}
 use Rattle.core_log.specs.Log.{LogState, tail_of, first_of, open_number, open_first}
 use Rattle.core_log.specs.Walking.{entries_in}
 use Rattle.core_log.specs.Entries.{AppendedBatch}
 use Rattle.core_log.specs.PartImages.{MayLeavePart, EachInPart, GainsSince, LosesSince}
-use Rattle.core_log.proofs.BatchLaws.{some_opens, holds_some, open_chunk_of}
-use Rattle.core_log.proofs.ChunkWords.{placed_all}
-use Rattle.core_log.proofs.ChunkImages.{InChunk, InPart, part_of}
-use Rattle.core_log.proofs.LogWrites.{entries_all, append_gains, appended_gains, open_gains, retire_loses, chunk_is, chunk_now, in_chunk_of}
+use Rattle.core_log.proofs.Clients.{some_opens, holds_some, open_chunk_of, placed_all, InChunk, InPart, part_of, entries_all, append_gains, appended_gains, open_gains, retire_loses, chunk_is, chunk_now, in_chunk_of}
 use Rattle.group_laws.specs.Places.{Place, core_of}
 use Rattle.group_laws.specs.Updates.{has, without}
 use Rattle.group_laws.specs.MemberViews.{View}

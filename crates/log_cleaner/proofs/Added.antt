@@ -3,7 +3,7 @@ use Rattle.std.proofs.Common.{◌≡◌, ◌≢◌, ℕ, ◌+◌, ◌==◌, ◌&
 use Rattle.std.proofs.lemmas.Bool.{cond-false}
 use Rattle.pm_region.specs.State.{State, IsTelling, cell_now}
 use Rattle.pm_region.specs.Words.{KeepsOutside}
-use Rattle.pm_region.proofs.Moments.{told_at_entry}
+use Rattle.pm_region.proofs.Clients.{told_at_entry}
 use Rattle.chunk_map.specs.Layouts.{chunk_words}
 use Rattle.log_entry.specs.declared.entry.Entry.{Entry}
 use Rattle.core_log.specs.Log.{LogState, tail_of, open_number, open_first}

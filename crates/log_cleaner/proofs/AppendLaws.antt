@@ -6,23 +6,19 @@ use Rattle.std.proofs.lemmas.List.Sums.{sum_by-cons}
 use Rattle.std.proofs.lemmas.List.Folds.{list_any-append}
 use Rattle.pm_region.specs.State.{State, IsTelling, cell_now, During}
 use Rattle.pm_region.specs.Words.{KeepsOutside, lasts}
-use Rattle.pm_region.proofs.Cells.{may_be_last}
+use Rattle.pm_region.proofs.Clients.{may_be_last}
 use Rattle.chunk_map.specs.Layouts.{chunk_words}
-use Rattle.chunk_map.proofs.LayoutLaws.{chunks_apart}
+use Rattle.chunk_map.proofs.Clients.{chunks_apart}
 use Rattle.log_entry.specs.declared.entry.Entry.{Entry}
 use Rattle.log_entry.specs.Spelling.{words_of}
 use Rattle.log_entry.specs.Batches.{IsBatch, batch_words, scan_of}
-use Rattle.log_entry.proofs.Scans.{entries_from, scan-append}
+use Rattle.log_entry.proofs.Clients.{entries_from, scan-append}
 use Rattle.core_log.specs.declared.types.LogChunk.{LogChunk}
 use Rattle.core_log.specs.Chunk.{words_now}
 use Rattle.core_log.specs.Entries.{AppendedBatch}
 use Rattle.core_log.specs.Log.{LogState, IsOwn, Spelled, IsRising, tail_of, with_tail, without, tail_in, first_of, chunk_with, open_number, open_first, open_tail}
 use Rattle.core_log.specs.Walking.{words_in, entries_in}
-use Rattle.core_log.proofs.BatchLaws.{open_has}
-use Rattle.core_log.proofs.LogLaws.{own_chunk, tail_fits}
-use Rattle.core_log.proofs.RetireLaws.{is_tail}
-use Rattle.core_log.proofs.TailLaws.{tail_set, tail_other}
-use Rattle.core_log.proofs.WithoutLaws.{without_other, without_self}
+use Rattle.core_log.proofs.Clients.{open_has, own_chunk, tail_fits, is_tail, tail_set, tail_other, without_other, without_self}
 use Rattle.log_standing.specs.NameCounts.{name_eq}
 use Rattle.log_standing.specs.ChunkCounts.{is_named, has_name, chunks_with}
 use Rattle.log_cleaner.specs.Additions.{is_among, Lacks}

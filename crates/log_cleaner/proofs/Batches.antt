@@ -16,8 +16,7 @@ use Rattle.log_standing.specs.NameCounts.{StandingState, name_eq, copies_at, cou
 use Rattle.log_standing.specs.ChunkCounts.{is_named, has_name}
 use Rattle.log_cleaner.specs.Copying.{awaits, left_to_copy}
 use Rattle.log_cleaner.specs.CopyBatch.{firsts, next_batch, entries_of, Adds, Collected}
-use Rattle.log_standing.proofs.StandingLaws.{same_name, name_same}
-use Rattle.log_standing.proofs.Filled.{has_push}
+use Rattle.log_standing.proofs.Clients.{same_name, name_same, has_push}
 
 -- names are equal either way
 pub name_sym : (k v j w : ℕ) → name_eq (k, v) (j, w) ≡ name_eq (j, w) (k, v)

@@ -13,7 +13,7 @@ use Rattle.log_standing.specs.ChunkCounts.{is_named, has_name, IsStandingOf}
 use Rattle.core_log.specs.Walking.{entries_in, behind}
 use Rattle.log_cleaner.specs.Copying.{awaits, left_to_copy, words_sum, IsSettledIn, IsUpToDate}
 use Rattle.log_cleaner.specs.Clearing.{ClearingState, is_doomed, IsGathered}
-use Rattle.log_standing.proofs.StandingLaws.{same_name}
+use Rattle.log_standing.proofs.Clients.{same_name}
 use Rattle.log_cleaner.proofs.Batches.{name_sym, differs, filter_same, filter_both, and_false, and_true}
 use Rattle.log_cleaner.proofs.LessLaws.{sum_filter, sum_ones}
 use Rattle.log_cleaner.proofs.Parts.{name_in}

@@ -2,7 +2,7 @@
 use Rattle.std.proofs.Common.{◌≡◌, inl, inr, ⊎_elim, ℕ, ◌+◌, ◌≤◌, ◌<◌, true, Option, Some, None, is_some, refl, arith}
 use Rattle.std.proofs.lemmas.Bool.{cases_lt}
 use Rattle.pm_region.specs.State.{State}
-use Rattle.chunk_map.proofs.LayoutLaws.{numbers_of, chunk_words_whole, payload_of}
+use Rattle.chunk_map.proofs.Clients.{numbers_of, chunk_words_whole, payload_of}
 use Rattle.core_log.specs.declared.types.Room.{Room}
 use Rattle.core_log.specs.Log.{LogState, StandsIn, tail_of, tail_in}
 use Rattle.log_cleaner.specs.declared.types.Victim.{Victim}

@@ -5,22 +5,20 @@ use Rattle.std.proofs.lemmas.Bool.{cond-true, cond-false, eqb-true, eq-eqb, ne_e
 use Rattle.pm_region.specs.Cell.{Cell}
 use Rattle.pm_region.specs.State.{State, IsTelling, cell_now, During}
 use Rattle.pm_region.specs.Words.{KeepsOutside, MayLeaveIn, lasts}
-use Rattle.pm_region.proofs.Moments.{weaken, both, told_at_entry}
+use Rattle.pm_region.proofs.Clients.{weaken, both, told_at_entry}
 use Rattle.chunk_map.specs.Layouts.{chunk_words, part_first}
-use Rattle.chunk_map.proofs.LayoutLaws.{numbers_of, chunk_words_whole, chunks_apart, chunk_in_part}
+use Rattle.chunk_map.proofs.Clients.{numbers_of, chunk_words_whole, chunks_apart, chunk_in_part}
 use Rattle.log_entry.specs.declared.entry.Entry.{Entry}
 use Rattle.store_image.specs.declared.types.PlacedEntry.{PlacedEntry}
 use Rattle.store_image.specs.Parts.{chunk_entries, placed, chunk_reads}
 use Rattle.core_log.specs.Chunk.{words_now, FreeOrLog}
-use Rattle.core_log.proofs.RetireLaws.{is_tail}
+use Rattle.core_log.proofs.Clients.{is_tail, tail_fits, without_other, without_self}
 use Rattle.store_image.specs.Facts.{In}
 use Rattle.core_log.specs.declared.types.LogChunk.{LogChunk}
 use Rattle.core_log.specs.Log.{LogState, StandsIn, tail_of, without, tail_in, first_of, chunk_with}
 use Rattle.core_log.specs.Walking.{entries_in}
 use Rattle.core_log.specs.Opening.{EachInChunk}
 use Rattle.core_log.specs.Retiring.{HasSameOrNone, RetiredChunk}
-use Rattle.core_log.proofs.LogLaws.{tail_fits}
-use Rattle.core_log.proofs.WithoutLaws.{without_other, without_self}
 use Rattle.log_standing.specs.declared.types.Copies.{Copies}
 use Rattle.log_standing.specs.NameCounts.{StandingState, copies_at, count_in, count_of, is_told, times_in, bit}
 use Rattle.log_cleaner.specs.Dropping.{lowered, Drops}

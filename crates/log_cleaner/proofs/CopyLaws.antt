@@ -6,25 +6,22 @@ use Rattle.std.proofs.lemmas.List.{map-append}
 use Rattle.pm_region.specs.Cell.{Cell}
 use Rattle.pm_region.specs.State.{State, IsTelling, cell_now, During}
 use Rattle.pm_region.specs.Words.{KeepsOutside, MayLeaveIn, lasts}
-use Rattle.pm_region.proofs.Moments.{weaken, both, told_at_entry, started}
+use Rattle.pm_region.proofs.Clients.{weaken, both, told_at_entry, started}
 use Rattle.chunk_map.specs.Layouts.{chunk_words, part_first}
-use Rattle.chunk_map.proofs.LayoutLaws.{chunk_in_part}
+use Rattle.chunk_map.proofs.Clients.{chunk_in_part}
 use Rattle.log_entry.specs.declared.entry.Entry.{Entry}
 use Rattle.log_entry.specs.Spelling.{words_of}
 use Rattle.log_entry.specs.Batches.{IsBatch, batch_words}
 use Rattle.store_image.specs.declared.types.PlacedEntry.{PlacedEntry}
 use Rattle.store_image.specs.Parts.{chunk_entries, placed, chunk_reads}
-use Rattle.log_entry.proofs.Scans.{spells-append}
-use Rattle.core_log.proofs.Padded.{length-padded}
+use Rattle.log_entry.proofs.Clients.{spells-append}
+use Rattle.core_log.proofs.Clients.{length-padded, tail_other, without_other, open_has, opened_is, open_spelled, open_chunk_of, moved_chunk_of, entries_or_lacks}
 use Rattle.store_image.specs.Facts.{In}
-use Rattle.store_image.proofs.SoundFacts.{in_front, in_either}
+use Rattle.store_image.proofs.Clients.{in_front, in_either}
 use Rattle.core_log.specs.Chunk.{lines_for, padded, words_now, HasOrLacks}
 use Rattle.core_log.specs.Log.{LogState, StandsIn, Spelled, tail_of, with_tail, without, first_of, open_number, open_first, open_tail, room_of, EachInOpen}
 use Rattle.core_log.specs.Entries.{with_places, open_entries, added_entries, HasEntries, HasEntriesOrLacks, AppendedBatch}
 use Rattle.core_log.specs.Walking.{entries_in}
-use Rattle.core_log.proofs.TailLaws.{tail_other}
-use Rattle.core_log.proofs.WithoutLaws.{without_other}
-use Rattle.core_log.proofs.BatchLaws.{open_has, opened_is, open_spelled, open_chunk_of, moved_chunk_of, entries_or_lacks}
 use Rattle.log_standing.specs.declared.types.Copies.{Copies}
 use Rattle.log_standing.specs.NameCounts.{StandingState, copies_at, count_in, count_of, one_more}
 use Rattle.log_standing.specs.ChunkCounts.{is_named, has_name, chunks_with, IsStandingOf}

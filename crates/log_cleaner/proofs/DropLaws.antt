@@ -4,7 +4,7 @@ use Rattle.std.proofs.lemmas.Bool.{eq-eqb, ne_eqb, cond-true, cond-false}
 use Rattle.std.proofs.lemmas.List.Sums.{count_by_more_yes, count_by_more_no, sum_by-take-le}
 use Rattle.log_entry.specs.declared.entry.EntryName.{EntryName}
 use Rattle.log_standing.specs.NameCounts.{StandingState, name_eq, copies_at, times_in, Changes}
-use Rattle.log_standing.proofs.StandingLaws.{same_name}
+use Rattle.log_standing.proofs.Clients.{same_name}
 use Rattle.log_cleaner.specs.Dropping.{lowered, Drops}
 
 -- one name of the list more was dropped

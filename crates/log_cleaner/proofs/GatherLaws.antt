@@ -10,9 +10,8 @@ use Rattle.core_log.specs.Walking.{entries_in, words_in, behind, IsFound}
 use Rattle.log_standing.specs.NameCounts.{StandingState, name_eq, copies_at, count_of, times_in, one_more, Changes, bit}
 use Rattle.log_standing.specs.ChunkCounts.{is_named, has_name}
 use Rattle.log_cleaner.specs.Clearing.{ClearingState, IsFresh, is_doomed, HasNames, HasDoomed, IsGathered, NotesNew}
-use Rattle.log_standing.proofs.StandingLaws.{same_name, count_added}
-use Rattle.log_standing.proofs.Filled.{has_push, again_named, new_named}
-use Rattle.core_log.proofs.Steps.{ordered, all_behind}
+use Rattle.log_standing.proofs.Clients.{same_name, count_added, has_push, again_named, new_named}
+use Rattle.core_log.proofs.Clients.{ordered, all_behind}
 
 -- the entries before a place are noted
 pub record Gathering (st : StandingState) (es : List (ℕ × Entry)) (place : ℕ) (c : ClearingState) : Type 0 where

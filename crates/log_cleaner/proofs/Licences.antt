@@ -4,11 +4,9 @@ use Rattle.std.proofs.lemmas.Bool.{cases_eq}
 use Rattle.std.proofs.lemmas.List.Sums.{sum_by-cons}
 use Rattle.pm_region.specs.State.{State, IsTelling, cell_now, During}
 use Rattle.pm_region.specs.Words.{KeepsOutside}
-use Rattle.pm_region.proofs.Moments.{weaken, at_exit, told_at_entry}
-use Rattle.pm_region.proofs.Narrow.{kept_narrows}
-use Rattle.pm_region.proofs.Runs.{wider}
+use Rattle.pm_region.proofs.Clients.{weaken, at_exit, told_at_entry, kept_narrows, wider}
 use Rattle.chunk_map.specs.Layouts.{chunk_words, part_first}
-use Rattle.chunk_map.proofs.LayoutLaws.{numbers_of, chunk_words_whole, chunks_apart, chunk_in_part}
+use Rattle.chunk_map.proofs.Clients.{numbers_of, chunk_words_whole, chunks_apart, chunk_in_part}
 use Rattle.log_entry.specs.declared.entry.Entry.{Entry}
 use Rattle.log_entry.specs.declared.entry.EntryName.{EntryName}
 use Rattle.store_image.specs.Parts.{reads, held}
@@ -18,8 +16,7 @@ use Rattle.core_log.specs.Opening.{EachInChunk, HasNoEntries}
 use Rattle.core_log.specs.PartImages.{EachInPart, entries_of}
 use Rattle.core_log.specs.Retiring.{RetiredChunk}
 use Rattle.core_log.specs.Walking.{entries_in}
-use Rattle.core_log.proofs.ChunkImages.{InPart}
-use Rattle.core_log.proofs.WithoutLaws.{without_other}
+use Rattle.core_log.proofs.Clients.{InPart, without_other}
 use Rattle.group_laws.specs.Places.{Place}
 use Rattle.group_laws.specs.Updates.{has}
 use Rattle.group_laws.specs.MemberViews.{View}
@@ -27,8 +24,7 @@ use Rattle.group_laws.specs.Images.{IsLicensedBy}
 use Rattle.licence.specs.Licence.{Licensed, IsLogOf, part_at, part_end}
 use Rattle.licence.specs.ViewChanges.{Forgets, HaveVanished}
 use Rattle.licence.specs.Writes.{Begins}
-use Rattle.licence.proofs.Gained.{to_place, part_each, log_each, gained_kept}
-use Rattle.licence.proofs.LogEvents.{forgotten}
+use Rattle.licence.proofs.Clients.{to_place, part_each, log_each, gained_kept, forgotten}
 use Rattle.log_standing.specs.NameCounts.{times_in, name_eq}
 use Rattle.log_standing.specs.ChunkCounts.{has_name}
 use Rattle.log_cleaner.specs.ImagesBeside.{HasSame, LosesOnly, MakesCopies, GivesUp, Vanish}

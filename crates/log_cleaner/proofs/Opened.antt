@@ -4,16 +4,14 @@ use Rattle.std.specs.List.{count_by}
 use Rattle.std.proofs.lemmas.Bool.{cond-false}
 use Rattle.std.proofs.lemmas.List.Sums.{sum_by-cons}
 use Rattle.pm_region.specs.State.{State, IsTelling}
-use Rattle.chunk_map.proofs.LayoutLaws.{numbers_of, chunk_words_whole, chunks_apart}
+use Rattle.chunk_map.proofs.Clients.{numbers_of, chunk_words_whole, chunks_apart}
 use Rattle.log_entry.specs.declared.entry.Entry.{Entry}
 use Rattle.log_entry.specs.Batches.{scan_of}
 use Rattle.core_log.specs.declared.types.LogChunk.{LogChunk}
 use Rattle.core_log.specs.Chunk.{words_now}
 use Rattle.core_log.specs.Log.{LogState, tail_of, with_tail, tail_in, first_of, chunk_with}
 use Rattle.core_log.specs.Walking.{IsBetween, words_in, entries_in, behind}
-use Rattle.core_log.proofs.LogLaws.{own_chunk, tail_fits}
-use Rattle.core_log.proofs.RetireLaws.{is_tail}
-use Rattle.core_log.proofs.TailLaws.{tail_set, tail_other}
+use Rattle.core_log.proofs.Clients.{own_chunk, tail_fits, is_tail, tail_set, tail_other}
 use Rattle.log_standing.specs.NameCounts.{StandingState}
 use Rattle.log_standing.specs.ChunkCounts.{has_name, IsStandingOf}
 use Rattle.log_cleaner.specs.Copying.{left_to_copy, IsSettledIn, IsUpToDate}

@@ -7,36 +7,27 @@ use Rattle.std.proofs.lemmas.List.Sums.{sum_by-cons}
 use Rattle.pm_region.specs.Cell.{Cell}
 use Rattle.pm_region.specs.State.{State, IsTelling, cell_now, During}
 use Rattle.pm_region.specs.Words.{KeepsOutside, MayLeaveIn, lasts}
-use Rattle.pm_region.proofs.Moments.{at_exit}
-use Rattle.pm_region.proofs.Cells.{may_be_last}
-use Rattle.pm_region.proofs.Narrow.{patch, patch_out, was_image}
+use Rattle.pm_region.proofs.Clients.{at_exit, may_be_last, patch, patch_out, was_image}
 use Rattle.chunk_map.specs.declared.layouts.Geometry.{Geometry}
 use Rattle.chunk_map.specs.declared.heads.Head.{Head}
 use Rattle.chunk_map.specs.declared.heads.Head.TheVariants.{Log, Data}
 use Rattle.chunk_map.specs.Layouts.{numbers, chunk_words, payload_words, part_first, chunk_first, head_by, head_at}
-use Rattle.chunk_map.proofs.LayoutLaws.{numbers_of, chunk_words_whole, chunks_apart, chunk_in_part}
+use Rattle.chunk_map.proofs.Clients.{numbers_of, chunk_words_whole, chunks_apart, chunk_in_part}
 use Rattle.log_entry.specs.declared.entry.Entry.{Entry}
 use Rattle.log_entry.specs.Batches.{Scan, scan_of}
-use Rattle.log_entry.proofs.Images.{words_same}
-use Rattle.log_entry.proofs.Scans.{scan_spelled}
+use Rattle.log_entry.proofs.Clients.{words_same, scan_spelled}
 use Rattle.store_image.specs.declared.types.PlacedEntry.{PlacedEntry}
 use Rattle.store_image.specs.Parts.{placed, chunk_entries, chunk_reads, reads, head_reads, scan_behind, chunk_at, unit_at, class_behind, block_class, held_by, held}
-use Rattle.store_image.proofs.BlockLaws.{chunk_of as in_chunk, block_lies, held_same}
-use Rattle.store_image.proofs.Places.{Numbers, layout_numbers}
+use Rattle.store_image.proofs.Clients.{chunk_of as in_chunk, block_lies, held_same, Numbers, layout_numbers, in_front, in_back, in_either, chunk_same, reads_same, head_same}
 use Rattle.store_image.specs.Facts.{In}
-use Rattle.store_image.proofs.SoundFacts.{in_front, in_back, in_either}
-use Rattle.store_image.proofs.Local.{chunk_same, reads_same, head_same}
 use Rattle.core_log.specs.declared.types.LogChunk.{LogChunk}
 use Rattle.core_log.specs.Chunk.{words_now, HasLog}
 use Rattle.core_log.specs.Log.{LogState, StandsIn, IsRising, IsChunkOf, Spelled, tail_of, without, tail_in, first_of, chunk_with}
 use Rattle.core_log.specs.Walking.{entries_in}
-use Rattle.core_log.proofs.Append.{log_reads}
-use Rattle.core_log.proofs.LogLaws.{own_chunk, tail_fits, kept_last}
-use Rattle.core_log.proofs.BatchLaws.{entries_read, head_of}
-use Rattle.core_log.proofs.RetireLaws.{is_tail}
+use Rattle.core_log.proofs.Clients.{log_reads, own_chunk, tail_fits, kept_last, entries_read, head_of, is_tail}
 use Rattle.log_standing.specs.ChunkCounts.{is_named, has_name}
 use Rattle.log_cleaner.specs.ImagesBeside.{Stands}
-use Rattle.log_standing.proofs.StandingLaws.{same_name, name_same}
+use Rattle.log_standing.proofs.Clients.{same_name, name_same}
 
 -- the entry stands in chunk j of the part
 abbrev pub StandsAt : LogState → (ℕ → ℕ) → ℕ → Entry → Type 0

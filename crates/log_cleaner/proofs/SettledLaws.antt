@@ -5,8 +5,7 @@ use Rattle.pm_region.specs.State.{State, IsTelling}
 use Rattle.log_entry.specs.declared.entry.Entry.{Entry}
 use Rattle.core_log.specs.Log.{LogState, StandsIn, tail_of, tail_in}
 use Rattle.core_log.specs.Walking.{IsBetween, IsReadable, entries_in, words_in, behind}
-use Rattle.core_log.proofs.Clients.{may_start}
-use Rattle.core_log.proofs.Steps.{ordered, all_behind}
+use Rattle.core_log.proofs.Clients.{may_start, ordered, all_behind}
 use Rattle.log_standing.specs.declared.types.Settled.{Settled}
 use Rattle.log_standing.specs.declared.types.Copies.{Copies}
 use Rattle.log_standing.specs.NameCounts.{StandingState, SameCopies, count_in, told_in}

@@ -5,7 +5,7 @@ use Rattle.std.proofs.lemmas.Bool.{and_parts, and_from, eqb-true, eq-eqb, cond-t
 use Rattle.std.proofs.lemmas.List.Sums.{count_by_more_yes, count_by_more_no}
 use Rattle.log_entry.specs.declared.entry.EntryName.{EntryName}
 use Rattle.log_standing.specs.declared.types.Copies.{Copies}
-use Rattle.log_standing.specs.NameCounts.{StandingState, name_eq, copies_at, count_in, count_of, told_in, is_told, living, one_more, copies_with, times_in, bit, Changes, SameCopies, Gets}
+use Rattle.log_standing.specs.NameCounts.{StandingState, name_eq, copies_at, count_in, count_of, living, one_more, copies_with, times_in, bit, Changes, SameCopies}
 
 -- names that are equal
 pub same_name : (k v j w : ℕ) → name_eq (k, v) (j, w) ≡ true → (k ≡ j) × (v ≡ w)
@@ -37,30 +37,9 @@ count_more : (o : Option Copies) → count_in (Some (one_more o)) ≡ count_in o
 count_more None = refl
 count_more (Some c) = refl
 
-told_more : (o : Option Copies) → told_in (Some (one_more o)) ≡ told_in o
-told_more None = refl
-told_more (Some c) = refl
-
 -- one copy more of a name
 pub count_added : (old new : StandingState) (k v : ℕ) → Changes old new k v (Some (one_more (copies_at old k v))) → (j w : ℕ) → count_of new j w ≡ count_of old j w + bit (name_eq (k, v) (j, w))
 count_added old new k v changes j w = elim (name_eq (k, v) (j, w)) as (λ b. name_eq (k, v) (j, w) ≡ b → count_of new j w ≡ count_of old j w + bit b) [
   | true ↦ λ is. let e = same_name k v j w is in ap count_in (changes j w ∙ cond-true (name_eq (k, v) (j, w)) (Some (one_more (copies_at old k v))) (copies_at old j w) is) ∙ count_more (copies_at old k v) ∙ (λ i. count_of old (e.0 i) (e.1 i) + 1)
   | false ↦ λ isnt. let zero_more : count_of old j w ≡ count_of old j w + 0 = omega arith in ap count_in (changes j w ∙ cond-false (name_eq (k, v) (j, w)) (Some (one_more (copies_at old k v))) (copies_at old j w) isnt) ∙ zero_more
 ] refl
-
-pub told_added : (old new : StandingState) (k v : ℕ) → Changes old new k v (Some (one_more (copies_at old k v))) → (j w : ℕ) → is_told new j w ≡ is_told old j w
-told_added old new k v changes j w = elim (name_eq (k, v) (j, w)) as (λ b. name_eq (k, v) (j, w) ≡ b → is_told new j w ≡ is_told old j w) [
-  | true ↦ λ is. let e = same_name k v j w is in ap told_in (changes j w ∙ cond-true (name_eq (k, v) (j, w)) (Some (one_more (copies_at old k v))) (copies_at old j w) is) ∙ told_more (copies_at old k v) ∙ (λ i. is_told old (e.0 i) (e.1 i))
-  | false ↦ λ isnt. ap told_in (changes j w ∙ cond-false (name_eq (k, v) (j, w)) (Some (one_more (copies_at old k v))) (copies_at old j w) isnt)
-] refl
-
--- a place was reserved, and a name added
-pub gets_added : (old mid new : StandingState) (n : EntryName) → SameCopies old mid → Changes mid new n.key n.version (Some (one_more (copies_at mid n.key n.version))) → new.settled ≡ old.settled → Gets old new true n
-gets_added old mid new n same changes settled = record {
-  counts = λ k v. count_added mid new n.key n.version changes k v ∙ ap (λ (o : Option Copies). count_in o + bit (name_eq (n.key, n.version) (k, v))) (same k v);
-  told = λ k v. told_added mid new n.key n.version changes k v ∙ ap told_in (same k v);
-  settled = settled;
-}
-
-pub gets_none : (old : StandingState) (n : EntryName) → Gets old old false n
-gets_none old n = record { counts = λ k v. omega arith; told = λ k v. refl; settled = refl }

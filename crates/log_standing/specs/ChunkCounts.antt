@@ -1,5 +1,5 @@
 -- In how many chunks of a log each name stands.
-use Rattle.std.specs.Prelude.{◌≡◌, ℕ, ◌+◌, Bool, true, false, List, None, is_some}
+use Rattle.std.specs.Prelude.{◌≡◌, ℕ, Bool, true, false, List, None, is_some}
 use Rattle.std.specs.List.{list_any, count_by}
 use Rattle.pm_region.specs.State.{State, IsTelling}
 use Rattle.pm_region.specs.Words.{lasts}
@@ -9,7 +9,7 @@ use Rattle.store_image.specs.Parts.{payload}
 use Rattle.core_log.specs.declared.types.LogChunk.{LogChunk}
 use Rattle.core_log.specs.Log.{LogState, Spelled, tail_of, tail_in, first_of}
 use Rattle.core_log.specs.Walking.{words_in}
-use Rattle.log_standing.specs.NameCounts.{StandingState, name_eq, bit, count_of, is_told}
+use Rattle.log_standing.specs.NameCounts.{StandingState, name_eq, count_of, is_told}
 
 -- an entry of the list has this name
 abbrev pub is_named : ℕ → ℕ → ℕ × Entry → Bool
@@ -40,7 +40,3 @@ IsSpelled s log = IsTelling s → (j : ℕ) → is_some (tail_of log.chunks j) �
 pub record IsUntold (st : StandingState) : Type 0 where
   pub told : (k v : ℕ) → is_told st k v ≡ false
   pub settled : st.settled ≡ None
-
--- each name of the entries has one copy more
-abbrev pub GetsAll : StandingState → StandingState → List (ℕ × Entry) → Type 0
-GetsAll old new es = (k v : ℕ) → count_of new k v ≡ count_of old k v + bit (has_name es k v)

@@ -1,4 +1,8 @@
 pub mod NameCounts
+pub mod NameItems
+pub mod Killing
+pub mod TwoParts
+pub mod Notes
 pub mod ChunkCounts
 pub use Rattle.core_log.specs.Log
 pub use Rattle.core_log.specs.Walking

@@ -78,10 +78,3 @@ pub record IsStanding (entries : List ((ℕ × ℕ) × Copies)) (spare most room
   pub two : 2 ≤ most
   pub each : (k v : ℕ) (c : Copies) → lookup (name_eq (k, v)) entries ≡ Some c → (0 < c.count)
       × (c.count ≤ most)
-
--- where b, the name has one copy more; nothing else changed, and no name was told dead
-pub record Gets (old new : StandingState) (b : Bool) (n : EntryName) : Type 0 where
-  pub counts : (k v : ℕ) → count_of new k v ≡ count_of old k v + bit
-      (b && name_eq (n.key, n.version) (k, v))
-  pub told : (k v : ℕ) → is_told new k v ≡ is_told old k v
-  pub settled : new.settled ≡ old.settled

@@ -1,11 +1,17 @@
 // What stands in a log is found by reading it.
-ghost use Rattle.std.specs.Prelude.{◌≡◌, ℕ, ◌+◌, ◌-◌, ◌==◌, ◌≤◌, ◌<◌, true, is_some, Some, None, IfOk};
+ghost use Rattle.std.specs.Prelude.{◌≡◌, ℕ, ◌<◌, ◌&&◌, Bool, true, false, is_some, None, IfOk};
 ghost use Rattle.pm_region.specs.State.{State, IsTelling};
 ghost use Rattle.core_log.specs.Log.{tail_of};
 ghost use Rattle.core_log.specs.Walking.{LiesIn, entries_in};
-ghost use Rattle.log_standing.specs.NameCounts.{count_of, is_told, Gets};
-ghost use Rattle.log_standing.specs.ChunkCounts.{IsStandingOf, IsSpelled, IsUntold, GetsAll};
+ghost use Rattle.std.specs.List.{All};
+ghost use Rattle.log_standing.specs.ChunkCounts.{IsStandingOf, IsSpelled, IsUntold, chunks_with};
+ghost use Rattle.log_standing.specs.NameCounts.{count_in, told_in, copies_at, is_told};
+ghost use Rattle.log_standing.specs.NameItems.{copies_among, AreSmall};
+ghost use Rattle.log_standing.specs.Killing.{Answers};
+ghost use Rattle.log_standing.specs.Notes.{IsNote, IsOfLog, NotesAll};
 
+use crate::name_item::{CHUNK_NUMBERS, NameItem};
+use crate::name_table::NameTable;
 use crate::standing_names::Standing;
 use core_log::CoreLog;
 use fs_errors::Memory;
@@ -13,58 +19,64 @@ use log_entry::EntryName;
 use pm_region::Region;
 use std::alloc::Global;
 
-// One copy more of a name, where it is a new one.
-fn add_if(standing: &mut Standing, name: EntryName, new: bool) -> Result<(), Memory>
-    ensures { IfOk result (λ _. Gets standing.old standing.new new name) }
+// The item of a name in a chunk.
+fn noted(name: EntryName, chunk: u32) -> NameItem
+    requires { chunk < CHUNK_NUMBERS }
+    ensures { IsNote result name.key name.version chunk }
 {
-    if new {
-        standing.reserve(1)?;
-        standing.add(name);
+    NameItem {
+        key: name.key,
+        version: name.version,
+        count: 1,
+        chunk: chunk as u8,
+        dead: false,
     }
-    Ok(())
 }
 
-// Notes a name of a chunk, where it was not seen there yet.
-fn note(standing: &mut Standing, seen: &mut Standing, name: EntryName) -> Result<(), Memory>
-    ensures standing { IfOk result
-        (λ _. Gets standing.old standing.new (count_of seen.old name.key name.version == 0) name) }
-    ensures seen { IfOk result
-        (λ _. Gets seen.old seen.new (count_of seen.old name.key name.version == 0) name) }
-{
-    let new = seen.copies(name) == 0;
-    add_if(seen, name, new)?;
-    add_if(standing, name, new)
-}
-
-// Notes the names of a chunk's entries, each once.
+// Notes the names of a chunk's entries.
 fn note_chunk<R: Region>(
-    alloc: Global,
     region: &R,
     log: &CoreLog,
-    standing: &mut Standing,
+    items: &mut Vec<NameItem>,
     chunk: u32,
 ) -> Result<(), Memory>
     requires lies { LiesIn (R.state region.now).frame log.now }
     requires has { is_some (tail_of log.now.chunks chunk) ≡ true }
     requires spelled { IsSpelled (R.state region.now) log.now }
-    ensures told { IfOk result (λ _. (k v : ℕ) → is_told standing.new k v ≡ is_told standing.old k
-        v) }
-    ensures settled { IfOk result (λ _. standing.new.settled ≡ standing.old.settled) }
-    ensures counts { IfOk result (λ _. IsTelling (R.state region.now)
-        → GetsAll standing.old standing.new (entries_in (R.state region.now) log.now chunk)) }
+    ensures each { IfOk result (λ _. All (IsOfLog log.now) items.old.items
+        → All (IsOfLog log.now) items.new.items) }
+    ensures notes { IfOk result (λ _. IsTelling (R.state region.now)
+        → NotesAll items.old.items items.new.items chunk
+        (entries_in (R.state region.now) log.now chunk)) }
 {
-    let mut seen = Standing::open(alloc, &[])?;
     let mut place = 0;
     while let Some(found) = log.peek(region, chunk, place) {
-        note(standing, &mut seen, found.name)?;
+        items.push(noted(found.name, chunk))?;
         place = found.next;
     }
     Ok(())
 }
 
+// The names of a log's entries. None is told dead.
+fn table_of<R: Region>(alloc: Global, region: &R, log: &CoreLog) -> Result<NameTable, Memory>
+    requires lies { LiesIn (R.state region.now).frame log.now }
+    requires spelled { IsSpelled (R.state region.now) log.now }
+    ensures small { IfOk result AreSmall }
+    ensures untold { IfOk result (λ table. (k v : ℕ)
+        → told_in (copies_among table k v) ≡ false) }
+    ensures counts { IfOk result (λ table. IsTelling (R.state region.now) → (k v : ℕ)
+        → count_in (copies_among table k v) ≡ chunks_with (R.state region.now) log.now k v) }
+{
+    let mut items = Vec::new(alloc);
+    for c in log.chunks() {
+        note_chunk(region, log, &mut items, c.chunk)?;
+    }
+    Ok(NameTable::of(items))
+}
+
 /// What stands in a log: of each name that its entries have in how many chunks, equal entries in one chunk being
-/// one copy. None is told dead. It reads each chunk once, and takes memory for the names, and for those of one
-/// chunk more while it is read.
+/// one copy. None is told dead. It reads each chunk once, and takes memory for 16 bytes an entry, which are put in
+/// order where they stand.
 pub fn standing_of<R: Region>(alloc: Global, region: &R, log: &CoreLog) -> Result<Standing, Memory>
     requires lies { LiesIn (R.state region.now).frame log.now }
     requires spelled { IsSpelled (R.state region.now) log.now }
@@ -72,9 +84,27 @@ pub fn standing_of<R: Region>(alloc: Global, region: &R, log: &CoreLog) -> Resul
     ensures standing { IfOk result (λ standing. IsTelling (R.state region.now)
         → IsStandingOf (R.state region.now) log.now standing) }
 {
-    let mut standing = Standing::open(alloc, &[])?;
-    for c in log.chunks() {
-        note_chunk(alloc, region, log, &mut standing, c.chunk)?;
-    }
-    Ok(standing)
+    let table = table_of(alloc, region, log)?;
+    Ok(Standing::of(alloc, table))
+}
+
+/// The same, with the names told dead of which `dead` says so.
+pub fn standing_told<R: Region, F: Fn(EntryName) -> bool>(
+    alloc: Global,
+    region: &R,
+    log: &CoreLog,
+    dead: F,
+) -> Result<Standing, Memory>
+    requires lies { LiesIn (R.state region.now).frame log.now }
+    requires spelled { IsSpelled (R.state region.now) log.now }
+    requires dead { F.IsAlwaysCallable dead }
+    ensures told { IfOk result (λ s. (f : ℕ → ℕ → Bool) → Answers (F.post dead) f → (k v : ℕ)
+        → is_told s k v ≡ (is_some (copies_at s k v) && f k v)) }
+    ensures settled { IfOk result (λ s. s.settled ≡ None) }
+    ensures standing { IfOk result (λ s. IsTelling (R.state region.now)
+        → IsStandingOf (R.state region.now) log.now s) }
+{
+    let mut table = table_of(alloc, region, log)?;
+    table.kill_where(dead);
+    Ok(Standing::of(alloc, table))
 }

@@ -2,9 +2,15 @@
 #![tactic(auto)]
 
 mod filling;
+mod merging;
+mod name_item;
+mod name_table;
+mod names;
 mod standing_names;
+#[cfg(test)]
+mod tests;
 mod types;
 
-pub use filling::standing_of;
+pub use filling::{standing_of, standing_told};
 pub use standing_names::Standing;
 pub use types::{Copies, Settled};

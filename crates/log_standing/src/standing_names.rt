@@ -1,60 +1,22 @@
 // Which entries stand in the own log.
 ghost use Rattle.std.specs.Prelude.{◌≡◌, ◌⊎◌, ℕ, ◌+◌, ◌-◌, ◌^◌, ◌<◌, ◌≤◌, ◌==◌, nat_eq, true, false, Some, None, option_map, is_some, IsSome, IsOk, OnOk, OnErr, IfOk, if◌then◌else◌};
-ghost use Rattle.std.specs.HashMap.{get, spare};
-ghost use Rattle.log_standing.specs.NameCounts.{name_eq, copies_at, count_of, is_told, wants, living, one_more, killed, times_in, copies_with, Changes, SameCopies};
+ghost use Rattle.log_standing.specs.NameCounts.{name_eq, copies_at, count_of, is_told, count_in, wants, living, one_more, killed, times_in, copies_with, Changes, SameCopies};
+ghost use Rattle.log_standing.specs.NameItems.{copies_among, AreSmall};
 
+use crate::name_item::MOST_IN_ITEM;
+use crate::name_table::NameTable;
+use crate::names::Names;
 use crate::types::{Copies, Settled};
 use fs_errors::Memory;
-use fs_model::{Key, Version};
 use log_entry::EntryName;
 use std::alloc::Global;
-use std::collections::HashMap;
 use std::marker::Model;
-
-// What a name has.
-fn copies_in(names: &HashMap<(Key, Version), Copies>, name: EntryName) -> Option<Copies>
-    ensures { result ≡ get name_eq names.now (name.key, name.version) }
-{
-    names.get(&(name.key, name.version)).copied()
-}
-
-// Writes what a name has that stands.
-fn set_in(names: &mut HashMap<(Key, Version), Copies>, name: EntryName, copies: Copies)
-    ensures set { IsSome (get name_eq names.old (name.key, name.version)) → (q : ℕ × ℕ)
-        → get name_eq names.new q ≡ (if name_eq (name.key, name.version) q then Some copies
-        else get name_eq names.old q) }
-    ensures spare { spare names.new ≡ spare names.old }
-{
-    if let Some(place) = names.get_mut(&(name.key, name.version)) {
-        *place = copies;
-    }
-}
-
-// Enters a name. There is a place for it.
-fn put_in(names: &mut HashMap<(Key, Version), Copies>, name: EntryName, copies: Copies)
-    requires { 0 < spare names.old }
-    ensures put { (q : ℕ × ℕ) → get name_eq names.new q ≡ (if name_eq (name.key, name.version) q
-        then Some copies else get name_eq names.old q) }
-    ensures spare { spare names.old ≤ spare names.new + 1 }
-{
-    let put: Result<_, _> = names.insert((name.key, name.version), copies);
-    let _ = put.unwrap();
-}
-
-// Takes a name out.
-fn take_in(names: &mut HashMap<(Key, Version), Copies>, name: EntryName)
-    ensures taken { (q : ℕ × ℕ) → get name_eq names.new q ≡ (if name_eq (name.key, name.version) q
-        then None else get name_eq names.old q) }
-    ensures spare { spare names.old ≤ spare names.new }
-{
-    let _ = names.remove(&(name.key, name.version));
-}
 
 /// Which entries stand in a core's log, by their names: each in how many chunks, and whether it was told dead.
 /// Equal entries in one chunk are one copy. A cleaning asks it what is still needed.
 #[derive(Drop)]
 pub struct Standing {
-    names: HashMap<(Key, Version), Copies>,
+    names: Names,
     // No name has more copies.
     most: u64,
     // How many places are reserved.
@@ -63,29 +25,54 @@ pub struct Standing {
 }
 
 impl Model for Standing {
-    ghost use Rattle.std.specs.HashMap.{spare};
     ghost use Rattle.log_standing.specs.NameCounts.{StandingState, IsStanding};
 
     ghost Value = { StandingState };
 
     ghost view = { λ a. record { entries = a.names.entries; room = a.room; settled = a.settled } };
 
-    ghost invariant = { λ a. IsStanding a.names.entries (spare a.names) a.most a.room };
+    ghost invariant = { λ a. IsStanding a.names.entries a.names.spare a.most a.room };
+}
+
+// One copy more.
+fn one_more(copies: Option<Copies>) -> Copies
+    requires { count_in copies + 1 < 2 ^ 64 }
+    ensures { result ≡ one_more copies }
+{
+    match copies {
+        Some(copies) => Copies {
+            count: copies.count + 1,
+            dead: copies.dead,
+        },
+        None => Copies {
+            count: 1,
+            dead: false,
+        },
+    }
 }
 
 impl Standing {
+    // The names of a table.
+    pub(crate) fn of(alloc: Global, table: NameTable) -> Standing
+        requires { AreSmall table }
+        ensures copies { (k v : ℕ) → copies_at result k v ≡ copies_among table k v }
+        ensures settled { result.settled ≡ None }
+    {
+        Standing {
+            names: Names::of(alloc, table),
+            most: MOST_IN_ITEM,
+            room: 0,
+            settled: None,
+        }
+    }
+
     /// These names, each in as many copies as it stands in the list. None was told dead, and no place is reserved.
     pub fn open(alloc: Global, names: &[EntryName]) -> Result<Standing, Memory>
         ensures names { IfOk result (λ s. (k v : ℕ)
             → copies_at s k v ≡ living (times_in names.now k v)) }
         ensures settled { IfOk result (λ s. s.settled ≡ None) }
     {
-        let mut standing = Standing {
-            names: HashMap::new(alloc),
-            most: 2,
-            room: 0,
-            settled: None,
-        };
+        let mut standing = Standing::of(alloc, NameTable::new(alloc));
         for name in names {
             standing.reserve(1)?;
             standing.add(*name);
@@ -109,7 +96,7 @@ impl Standing {
         if self.most.checked_add(more).is_none() {
             return Err(Memory);
         }
-        self.names.reserve(more as usize)?;
+        self.names.reserve(more)?;
         self.room = more;
         Ok(())
     }
@@ -122,24 +109,8 @@ impl Standing {
         ensures room { self.new.room + 1 ≡ self.old.room }
         ensures settled { self.new.settled ≡ self.old.settled }
     {
-        match copies_in(&self.names, name) {
-            Some(copies) => set_in(
-                &mut self.names,
-                name,
-                Copies {
-                    count: copies.count + 1,
-                    dead: copies.dead,
-                },
-            ),
-            None => put_in(
-                &mut self.names,
-                name,
-                Copies {
-                    count: 1,
-                    dead: false,
-                },
-            ),
-        }
+        let copies = one_more(self.names.get(name));
+        self.names.put(name, copies);
         self.most += 1;
         self.room -= 1;
     }
@@ -151,9 +122,8 @@ impl Standing {
         ensures room { self.new.room ≡ self.old.room }
         ensures settled { self.new.settled ≡ self.old.settled }
     {
-        if let Some(copies) = copies_in(&self.names, name) {
-            set_in(
-                &mut self.names,
+        if let Some(copies) = self.names.get(name) {
+            self.names.set(
                 name,
                 Copies {
                     count: copies.count,
@@ -167,7 +137,7 @@ impl Standing {
     pub fn is_dead(&self, name: EntryName) -> bool
         ensures { result ≡ is_told self.now name.key name.version }
     {
-        match copies_in(&self.names, name) {
+        match self.names.get(name) {
             Some(copies) => copies.dead,
             None => false,
         }
@@ -177,7 +147,7 @@ impl Standing {
     pub fn copies(&self, name: EntryName) -> u64
         ensures { result ≡ count_of self.now name.key name.version }
     {
-        match copies_in(&self.names, name) {
+        match self.names.get(name) {
             Some(copies) => copies.count,
             None => 0,
         }
@@ -188,7 +158,7 @@ impl Standing {
     pub fn wants(&self, name: EntryName) -> bool
         ensures { result ≡ wants self.now name.key name.version }
     {
-        match copies_in(&self.names, name) {
+        match self.names.get(name) {
             Some(copies) => copies.count == 1 && !copies.dead,
             None => false,
         }
@@ -226,7 +196,7 @@ impl Standing {
         ensures settled { self.new.settled ≡ self.old.settled }
     {
         let dead = self.is_dead(name);
-        set_in(&mut self.names, name, Copies { count: 2, dead });
+        self.names.set(name, Copies { count: 2, dead });
     }
 
     /// Takes out a copy of a name that stands, and says whether it was the last one. What was told of a name goes
@@ -243,12 +213,11 @@ impl Standing {
     {
         let count = self.copies(name);
         if count == 1 {
-            take_in(&mut self.names, name);
+            self.names.take(name);
             return true;
         }
         let dead = self.is_dead(name);
-        set_in(
-            &mut self.names,
+        self.names.set(
             name,
             Copies {
                 count: count - 1,

@@ -69,7 +69,8 @@ impl Region for FilePiece {
 
     fn fence(&mut self) -> Result<(), RegionFault>
         ensures ok { OnOk result (Goes (file_piece_state self.old) (file_piece_state self.new)
-            (fence_range (file_piece_state self.old).frame.first (file_piece_state self.old).frame.words)) }
+            (fence_range (file_piece_state self.old).frame.first
+            (file_piece_state self.old).frame.words)) }
         ensures err { OnErr result (Goes (file_piece_state self.old) (file_piece_state self.new)
             unchanged) }
         ensures cause { OnErr result (Rose (file_piece_state self.old).faults

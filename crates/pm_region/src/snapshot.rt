@@ -28,8 +28,10 @@ impl<'a, R: ReadRegion> Snapshot<'a, R> {
     // One moment more, which it doesn't tell: so it is what any call leaves.
     fn pass(&mut self)
         ensures { (change : ℕ → Cell → Cell) → Goes
-            (snapshot_state (R.state self.old.region.now) (R.word self.old.region.now) self.old.stamp)
-            (snapshot_state (R.state self.new.region.now) (R.word self.new.region.now) self.new.stamp)
+            (snapshot_state (R.state self.old.region.now) (R.word self.old.region.now)
+            self.old.stamp)
+            (snapshot_state (R.state self.new.region.now) (R.word self.new.region.now)
+            self.new.stamp)
             change }
     {
         self.stamp = self.stamp.saturating_add(1);

@@ -5,7 +5,7 @@ use Rattle.pm_region.specs.State.{Frame}
 use Rattle.chunk_map.specs.declared.layouts.Geometry.{Geometry}
 use Rattle.chunk_map.specs.Layouts.{chunk_words, total_bytes, has_class}
 use Rattle.store_image.specs.Parts.{chunk_units, chunk_at, unit_at, is_start, block_bytes, held_by}
-use Rattle.store_image.proofs.Places.{layout_numbers, in_region, chunk_within, start_facts, two_positive}
+use Rattle.store_image.proofs.Clients.{layout_numbers, in_region, chunk_within, start_facts, two_positive}
 use Rattle.recover.specs.Regions.{Covers}
 
 module _ (f : Frame) (l : Geometry) (covers : Covers f l) where

@@ -13,8 +13,7 @@ use Rattle.std.proofs.lemmas.List.{drop_more, take_more}
 use Rattle.std.proofs.Math.ListN.{drop_of_length-le}
 use Rattle.store_image.specs.Soundness.{same_body, contradicts, clash_after}
 use Rattle.store_image.specs.Facts.{In}
-use Rattle.store_image.proofs.SoundLaws.{same_bodies}
-use Rattle.store_image.proofs.SoundFacts.{in_front, in_back, in_either}
+use Rattle.store_image.proofs.Clients.{same_bodies, in_front, in_back, in_either}
 use Rattle.recover.specs.Clashes.{name_cmp, HasName, Notes}
 
 -- names are told apart by both parts

@@ -1,19 +1,16 @@
 -- What is said of a region by its superblock.
 use Rattle.std.proofs.Common.{◌≡◌, ℕ, ◌<◌, ◌+◌, ◌*◌, ◌/◌, Option, Some, None, refl, sym, ◌∙◌, ap, subst, arith}
 use Rattle.std.specs.Prelude.{Result, Ok, Err, IfOk, Vec, slice_index_or}
-use Rattle.std.specs.Result.{result_err}
 use Rattle.std.specs.Global.{Global}
 use Rattle.pm_region.specs.State.{Frame}
 use Rattle.chunk_map.specs.declared.layouts.Geometry.{Geometry}
 use Rattle.chunk_map.specs.declared.superblock.NotARegion.{NotARegion}
 use Rattle.chunk_map.specs.Layouts.{IsLayout, layout_of, superblock_rule, total_bytes, chunk_words}
 use Rattle.chunk_map.specs.Checked.{superblock_by, checked_superblock, IsLength}
-use Rattle.store_image.proofs.Places.{layout_numbers}
+use Rattle.store_image.proofs.Clients.{layout_numbers, judged, sound_store}
 use Rattle.store_image.specs.declared.types.Fault.{Fault}
 use Rattle.store_image.specs.Soundness.{damage}
 use Rattle.store_image.specs.Facts.{KeepsRules, IsStore}
-use Rattle.store_image.proofs.Loops.{judged}
-use Rattle.store_image.proofs.SoundFacts.{sound_store}
 use Rattle.store_image.specs.Parts.{all_entries}
 use Rattle.recover.specs.declared.shares.Share.{Share}
 use Rattle.recover.specs.declared.types.CoreStart.{CoreStart}

@@ -6,7 +6,7 @@ use Rattle.std.specs.Prelude.{is_some}
 use Rattle.std.specs.Option.{option_or}
 use Rattle.chunk_map.specs.Layouts.{numbers, chunk_first}
 use Rattle.store_image.specs.Soundness.{first_some}
-use Rattle.store_image.proofs.Loops.{first_next, first_end, list_next, list_end}
+use Rattle.store_image.proofs.Clients.{first_next, first_end, list_next, list_end}
 use Rattle.log_entry.specs.declared.entry.Entry.{Entry}
 use Rattle.chunk_map.specs.declared.layouts.Geometry.{Geometry}
 use Rattle.store_image.specs.declared.scanning.AtPlace.{AtPlace}

@@ -18,9 +18,7 @@ use Rattle.store_image.specs.Parts.{block_class, all_entries}
 use Rattle.store_image.specs.Winners.{winner_in, keys_of}
 use Rattle.store_image.specs.Listing.{IsRising}
 use Rattle.store_image.specs.Soundness.{first_some, damaged, points_to, pointer_rule, body_rule, winner_fault, block_fault, chunk_fault, clash_fault, damage}
-use Rattle.store_image.proofs.SoundFacts.{in_back, winner_is}
-use Rattle.store_image.proofs.Listings.{rising_keys}
-use Rattle.store_image.proofs.Loops.{chunks_decide, clash_decides, blocks_decide}
+use Rattle.store_image.proofs.Clients.{in_back, winner_is, rising_keys, chunks_decide, clash_decides, blocks_decide}
 use Rattle.recover.specs.ByName.{IsByName}
 use Rattle.store_image.specs.Facts.{Agree}
 use Rattle.pm_region.specs.State.{Frame}

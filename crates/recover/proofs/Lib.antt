@@ -3,6 +3,7 @@ pub mod WinningLaws
 pub mod ClashLaws
 pub mod NameLaws
 pub mod FoundEntryLaws
+pub mod KeyLaws
 pub mod SortLaws
 pub mod StandsLaws
 pub mod ReadBackLaws
@@ -18,7 +19,6 @@ pub mod SpellLaws
 pub mod FoundLaws
 pub mod LogLaws
 pub mod MadeLaws
-pub mod StandingLaws
 pub mod ShareLaws
 pub mod HeadLaws
 pub mod StartLaws
@@ -27,5 +27,4 @@ pub mod PairLaws
 pub mod LiveLaws
 pub mod EntryListLaws
 pub mod ReadLaws
-pub mod Clients
-pub mod OwnLaws
+pub mod RecoveredLaws

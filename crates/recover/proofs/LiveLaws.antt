@@ -13,8 +13,7 @@ use Rattle.store_image.specs.Parts.{all_entries, held}
 use Rattle.store_image.specs.Soundness.{damage}
 use Rattle.store_image.specs.Winners.{winner_in, keys_of, cell_by, recovered}
 use Rattle.store_image.specs.Listing.{ListsCells, with_pair}
-use Rattle.store_image.proofs.SoundFacts.{winner_is}
-use Rattle.store_image.proofs.Listings.{pairs_of, lists_pairs}
+use Rattle.store_image.proofs.Clients.{winner_is, pairs_of, lists_pairs}
 use Rattle.recover.specs.Winning.{winners_of}
 use Rattle.recover.specs.Live.{pairs_by, HasLeft, Lists}
 

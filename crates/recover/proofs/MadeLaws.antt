@@ -6,8 +6,7 @@ use Rattle.log_entry.specs.Spelling.{HasSpelling}
 use Rattle.store_image.specs.declared.types.PlacedEntry.{PlacedEntry}
 use Rattle.store_image.specs.Winners.{winner_in, keys_of}
 use Rattle.store_image.specs.Facts.{In}
-use Rattle.store_image.proofs.SoundFacts.{winner_is, in_front, in_back, in_either}
-use Rattle.store_image.proofs.SoundLaws.{winner_key}
+use Rattle.store_image.proofs.Clients.{winner_is, in_front, in_back, in_either, winner_key}
 use Rattle.recover.specs.Winning.{winners_of, won_in, AreSpelled}
 use Rattle.recover.proofs.JudgeLaws.{winners_at}
 

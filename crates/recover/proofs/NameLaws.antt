@@ -1,8 +1,6 @@
 -- What a list of entries keeps when it is put in the order of their names.
 use Rattle.std.proofs.Common.{◌≡◌, ◌⊎◌, inl, inr, ℕ, zero, suc, ◌+◌, ◌-◌, ◌<◌, ◌≤◌, List, [], ◌∷◌, length, take, get_or, refl, sym, ◌∙◌, ap, subst, arith, ◌==◌, ◌&&◌, not, Bool, true, false, cond, Option, Some, None, ltb}
 use Rattle.std.specs.Prelude.{find, filter, option_map, is_some, Vec}
-use Rattle.std.specs.Global.{Global}
-use Rattle.std.specs.BTreeMap.{BTreeMap}
 use Rattle.std.specs.Option.{option_to_list}
 use Rattle.std.specs.List.{flat_map, AllByRecursion}
 use Rattle.std.specs.List.Sorted.{IsStableByKey}
@@ -19,17 +17,11 @@ use Rattle.store_image.specs.Winners.{better, winner_in, with_key, keys_of}
 use Rattle.store_image.specs.Listing.{IsRising}
 use Rattle.store_image.specs.Soundness.{damaged, contradicts, clash_fault}
 use Rattle.store_image.specs.Facts.{In, Agree}
-use Rattle.store_image.proofs.Copies.{winner_some, winner_max}
-use Rattle.store_image.proofs.SoundLaws.{winner_key}
-use Rattle.store_image.proofs.SoundFacts.{winner_is, no_clash_after}
-use Rattle.store_image.proofs.Listings.{rising_keys}
+use Rattle.store_image.proofs.Clients.{winner_some, winner_max, winner_key, winner_is, no_clash_after, rising_keys}
 use Rattle.recover.specs.Clashes.{name_cmp}
 use Rattle.recover.specs.Starts.{named_in}
 use Rattle.recover.specs.ByName.{name_of, is_named, is_first, HasNoKey, IsInOrder, IsByName}
 use Rattle.recover.specs.Winning.{winners_of, AreSpelled}
-use Rattle.core_index.specs.declared.types.Standee.{Standee}
-use Rattle.core_index.specs.Records.{standing_with}
-use Rattle.recover.specs.Standing.{HasStandees}
 use Rattle.recover.proofs.ListLaws.{found_in}
 use Rattle.recover.proofs.ClashLaws.{agrees}
 use Rattle.std.proofs.lemmas.List.{length-take-le, get_or-take}
@@ -234,13 +226,6 @@ module _ (es xs : List PlacedEntry) (is : IsByName es xs) where
 
   pub spelled_sorted : AreSpelled es → AreSpelled xs
   spelled_sorted all = all_of (λ (x : PlacedEntry). HasSpelling x.entry) xs (λ x h. one_of (λ (x : PlacedEntry). HasSpelling x.entry) es x all (in_first x h))
-
-  -- what stands of the one list stands of the other
-  pub standees_first : (m : BTreeMap ℕ (Vec Standee Global)) → HasStandees m xs → HasStandees m es
-  standees_first m has = record {
-    each = λ k v. has.each k v ∙ ap (option_map (λ (x : PlacedEntry). standing_with v x.core false)) (named_same k v);
-    once = has.once;
-  }
 
 -- a name that isn't above another
 pub not_above : (k v j u : ℕ) → is_lt (name_cmp (j, u) (k, v)) ≡ false → (k < j) ⊎ ((k ≡ j) × (v ≤ u))

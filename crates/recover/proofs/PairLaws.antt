@@ -25,7 +25,7 @@ use Rattle.store_image.specs.Parts.{held}
 use Rattle.store_image.specs.Winners.{winner, cell_by, recovered}
 use Rattle.store_image.specs.Listing.{IsRising, with_pair}
 use Rattle.store_image.specs.Facts.{In}
-use Rattle.store_image.proofs.Listings.{pairs_of}
+use Rattle.store_image.proofs.Clients.{pairs_of}
 use Rattle.core_index.specs.Records.{KeyRecord, is_tombstone, live_version}
 use Rattle.core_index.specs.Index.{known_at}
 use Rattle.lazy_alloc.specs.Sets.{chunk_is_due}

@@ -10,7 +10,7 @@ use Rattle.log_entry.specs.declared.entry.Entry.{Entry}
 use Rattle.log_entry.specs.Spelling.{words_of, HasSpelling}
 use Rattle.log_entry.specs.Words.{words_from}
 use Rattle.log_entry.specs.Batches.{Scan, scan_of}
-use Rattle.log_entry.proofs.Scans.{scan_spelled}
+use Rattle.log_entry.proofs.Clients.{scan_spelled}
 use Rattle.chunk_map.specs.declared.layouts.Geometry.{Geometry}
 use Rattle.chunk_map.specs.declared.heads.Head.{Head}
 use Rattle.chunk_map.specs.declared.heads.Head.TheVariants.{Free, Log, Data}
@@ -18,10 +18,9 @@ use Rattle.chunk_map.specs.Layouts.{numbers, chunk_words, payload_words, chunk_f
 use Rattle.store_image.specs.declared.types.PlacedEntry.{PlacedEntry}
 use Rattle.store_image.specs.declared.types.Fault.{Fault}
 use Rattle.store_image.specs.Parts.{payload, scan_behind, scan_at, placed, chunk_entries, part_entries, all_entries}
-use Rattle.store_image.proofs.Places.{layout_numbers}
+use Rattle.store_image.proofs.Clients.{layout_numbers}
 use Rattle.core_log.specs.Log as log
-use Rattle.core_log.proofs.ItemLaws.{spelled_by, placed_items, HaveSpelling, items_of, items_spelled, items_placed, items_have, drop_behind, first_is}
-use Rattle.core_log.proofs.WalkLaws.{Spells, entry_fits, entry_words}
+use Rattle.core_log.proofs.Clients.{spelled_by, placed_items, HaveSpelling, items_of, items_spelled, items_placed, items_have, drop_behind, first_is, Spells, entry_fits, entry_words}
 use Rattle.recover.specs.declared.found_entries.Found.{Found}
 use Rattle.recover.specs.Regions.{Covers}
 use Rattle.recover.specs.Logs.{SpellsLog}
@@ -53,9 +52,10 @@ all_spell : (is : List (Option Entry)) (p : ℕ) → HaveSpelling is → AllByRe
 all_spell [] p have = tt
 all_spell (None ∷ is) p have = all_implies (Spells (spelled_by is) (p + 1)) (Spells (0 ∷ spelled_by is) p) (λ x s. shifted (0 ∷ []) (spelled_by is) p x s) (placed_items (p + 1) is) (all_spell is (p + 1) have)
 all_spell (Some e ∷ is) p have =
-    let none : p - p ≡ 0 = omega arith in
-    (record { low = omega arith; spelling = have.0; rest = spelled_by is; words = ap (λ (n : ℕ). drop n (words_of e ++ spelled_by is)) none },
-    all_implies (Spells (spelled_by is) (p + length (words_of e))) (Spells (words_of e ++ spelled_by is) p) (λ x s. shifted (words_of e) (spelled_by is) p x s) (placed_items (p + length (words_of e)) is) (all_spell is (p + length (words_of e)) have.1))
+    let none : p - p ≡ 0 = omega arith in (
+      record { low = omega arith; spelling = have.0; rest = spelled_by is; words = ap (λ (n : ℕ). drop n (words_of e ++ spelled_by is)) none },
+      all_implies (Spells (spelled_by is) (p + length (words_of e))) (Spells (words_of e ++ spelled_by is) p) (λ x s. shifted (words_of e) (spelled_by is) p x s) (placed_items (p + length (words_of e)) is) (all_spell is (p + length (words_of e)) have.1),
+    )
 
 scan_spells : (ws : List ℕ) → log.Spelled ws → AllByRecursion (Spells ws 0) (scan_of ws).entries
 scan_spells ws spelled =

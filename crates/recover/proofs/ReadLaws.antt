@@ -7,8 +7,8 @@ use Rattle.pm_region.specs.Snapshots.{IsSnapshot}
 use Rattle.chunk_map.specs.declared.layouts.Geometry.{Geometry}
 use Rattle.chunk_map.specs.Layouts.{layout_of, part_first}
 use Rattle.chunk_map.specs.Checked.{IsLength}
-use Rattle.chunk_map.proofs.LayoutLaws.{part_within}
-use Rattle.store_image.proofs.Places.{layout_numbers}
+use Rattle.chunk_map.proofs.Clients.{part_within}
+use Rattle.store_image.proofs.Clients.{layout_numbers}
 use Rattle.lazy_alloc.specs.Sets.{Sets}
 use Rattle.lazy_alloc.specs.Written.{PartLies}
 use Rattle.recover.specs.declared.types.Recovered.{Recovered}

@@ -7,8 +7,8 @@ use Rattle.pm_region.specs.State.{Frame}
 use Rattle.chunk_map.specs.declared.layouts.Geometry.{Geometry}
 use Rattle.chunk_map.specs.Layouts.{chunk_words, payload_words, chunk_first}
 use Rattle.chunk_map.specs.Setting.{HeadLies}
-use Rattle.chunk_map.proofs.LayoutLaws.{numbers_of, chunk_first_whole}
-use Rattle.store_image.proofs.Places.{layout_numbers, chunk_ends, chunk_number}
+use Rattle.chunk_map.proofs.Clients.{numbers_of, chunk_first_whole}
+use Rattle.store_image.proofs.Clients.{layout_numbers, chunk_ends, chunk_number}
 use Rattle.recover.specs.Regions.{Covers}
 
 module _ (f : Frame) (l : Geometry) (covers : Covers f l) where

@@ -251,9 +251,9 @@ module _ (l : Geometry) (image : ℕ → ℕ) (fs : List Found) (rising : AreInO
       let some : suc (n - 1) ≡ n = omega (arith, high) in
       let all : at + (m + n) ≡ r.end = omega (arith, low, high) in
       let own : winners_from (span f r.winner n) ≡ f r.winner ∷ [] =
-          ap (λ k. winners_from (span f r.winner k)) (sym some) ∙ same_win f r.winner (n - 1) (λ i l h. (run.same i d (omega (arith, l, low)) (omega (arith, h, some, high)) ∙ sym (run.same r.winner d low high), run.newest i d l (omega (arith, h, some, high)))) in
+      ap (λ k. winners_from (span f r.winner k)) (sym some) ∙ same_win f r.winner (n - 1) (λ i l h. (run.same i d (omega (arith, l, low)) (omega (arith, h, some, high)) ∙ sym (run.same r.winner d low high), run.newest i d l (omega (arith, h, some, high)))) in
       let whole : winners_from (span f at (m + n)) ≡ f r.winner ∷ [] =
-          older_lose f at m n r.winner w_at own (λ i l h. (run.same i d l (omega (arith, h, high)) ∙ sym (run.same r.winner d low high), run.first i d l h)) in
+      older_lose f at m n r.winner w_at own (λ i l h. (run.same i d l (omega (arith, h, high)) ∙ sym (run.same r.winner d low high), run.first i d l h)) in
       let other : (i : ℕ) (y : PlacedEntry) → 0 ≤ i → i < 0 + at → In y (f r.winner ∷ []) → (f i).entry.key ≢ y.entry.key = λ i y l h mem. differs i y h mem in
       let both : winners_from (span f 0 at ++ span f at (m + n)) ≡ winners_from (span f 0 at) ++ f r.winner ∷ [] = others_stay f 0 at (span f at (m + n)) (f r.winner ∷ []) whole other in
       let z : 0 + at ≡ at = omega arith in

@@ -1,278 +1,232 @@
--- The shares of the cores, winner by winner.
-use Rattle.std.proofs.Common.{◌≡◌, ◌≢◌, inl, inr, ⊎_elim, ℕ, ◌<◌, ◌≤◌, ◌==◌, ◌&&◌, ◌||◌, List, [], ◌∷◌, ◌++◌, length, get_or, set, Bool, true, false, cond, Option, Some, None, refl, sym, ◌∙◌, ap, subst}
-use Rattle.std.specs.Prelude.{option_map, is_some, slice_index_or, Vec, Result, Ok, Err, OnOk}
+-- The shares of the cores, key by key.
+use Rattle.std.proofs.Common.{◌≡◌, ◌≢◌, ◌⊎◌, inl, inr, ⊎_elim, ℕ, ◌<◌, ◌≤◌, ◌==◌, ◌||◌, List, [], ◌∷◌, ◌++◌, length, get_or, set, map, Bool, true, false, cond, Option, Some, None, refl, sym, ◌∙◌, ap, subst}
+use Rattle.std.specs.Prelude.{option_map, slice_index_or, Result, Ok, Err, IfOk, Vec}
 use Rattle.std.specs.Global.{Global}
-use Rattle.std.specs.Option.{option_to_list, option_map_or}
+use Rattle.fs_errors.specs.declared.Memory.{Memory}
+use Rattle.std.specs.Option.{option_to_list}
 use Rattle.std.specs.List.{list_any, AllByRecursion}
-use Rattle.std.specs.BTreeMap.{BTreeMap}
 use Rattle.std.proofs.lemmas.List.{get_or_read, get_or-set_same, get_or-set_other}
-use Rattle.std.proofs.lemmas.Bool.{and_parts, and_from, eqb-true, eqb-false, eq-eqb, ne_eqb, cases_eq}
+use Rattle.std.proofs.lemmas.Bool.{eqb-true, eq-eqb, cases_eq, or_cases}
 use Rattle.log_entry.specs.declared.entry.Body.{Body}
 use Rattle.log_entry.specs.declared.entry.Body.TheVariants.{Pointer, Embedded, Tombstone}
+use Rattle.log_entry.specs.Spelling.{HasSpelling}
 use Rattle.chunk_map.specs.declared.layouts.Geometry.{Geometry}
 use Rattle.chunk_map.specs.Layouts.{owner}
 use Rattle.store_image.specs.declared.types.PlacedEntry.{PlacedEntry}
+use Rattle.store_image.specs.declared.types.Fault.{Fault}
+use Rattle.store_image.specs.Parts.{all_entries}
+use Rattle.store_image.specs.Soundness.{damage}
 use Rattle.store_image.specs.Winners.{winner_in}
 use Rattle.store_image.specs.Facts.{In}
-use Rattle.store_image.proofs.SoundFacts.{winner_is}
-use Rattle.store_image.proofs.Copies.{winner_some}
-use Rattle.core_index.specs.declared.types.Record.{Record}
+use Rattle.store_image.proofs.Clients.{winner_is}
 use Rattle.core_index.specs.declared.types.Standee.{Standee}
-use Rattle.core_index.specs.Records.{KeyRecord, standing_at, standing_of, standing_with, by_version, opened, pointer_of}
+use Rattle.core_index.specs.Records.{KeyRecord, standing_at, standing_of, standing_with, opened_with, pointer_of, untold}
+use Rattle.core_index.specs.Index.{known_at, room_at, EntersAs}
+use Rattle.core_index.specs.Slots.{Place}
 use Rattle.core_index.proofs.Clients.{opened_at}
-use Rattle.core_index.specs.Index.{opened_in, HasNoneAbove}
+use Rattle.recover.specs.declared.found_entries.Found.{Found}
 use Rattle.recover.specs.declared.shares.Share.{Share}
-use Rattle.recover.specs.Winning.{winners_of, won_in}
-use Rattle.recover.specs.Starts.{KnownAs, named_in}
-use Rattle.recover.specs.Standing.{standees_at, HasStandees}
-use Rattle.recover.specs.Shares.{PointsFor, IsBareOrKnown, IsShare, AreShares, Appends, Gives, TakesOut}
-use Rattle.recover.proofs.ClashLaws.{any_in}
-use Rattle.recover.proofs.ListLaws.{or_else, or_none, find_push, any_append, all_push, found_in, any_found}
-use Rattle.recover.proofs.MadeLaws.{won_each, winner_wins, among_winners}
-use Rattle.recover.proofs.StandingLaws.{below_winner}
+use Rattle.recover.specs.Starts.{KnownAs, IsSpelledIndex, named_in}
+use Rattle.recover.specs.ByName.{IsByName}
+use Rattle.recover.specs.Standing.{standee_at}
+use Rattle.recover.specs.Gathering.{AllSpell}
+use Rattle.recover.specs.Shares.{PointsFor, Shares, GivesShares, IsShare, AreShares, AreSpelledShares, IsEmpty, AreEmpty, Enters, Gives}
+use Rattle.recover.proofs.ListLaws.{any_append, all_at}
+use Rattle.recover.proofs.NameLaws.{winner_same, named_same}
+use Rattle.recover.proofs.KeyLaws.{LacksKey, HaveKey, winner_behind, winner_front, named_behind, named_front}
 
--- one share was written
-pub given_one : (l : Geometry) (old : List Share) (x : PlacedEntry) (o : ℕ) (before after : Share) (r : Record) (left rest : BTreeMap ℕ (Vec Standee Global)) → o ≡ owner l x.entry.key → o < length old → before ≡ get_or old o before → r.key ≡ x.entry.key → r.version ≡ x.entry.version → r.body ≡ x.entry.body
-    → r.standing.items ≡ standees_at left x.entry.key → TakesOut left rest x.entry.key → after.records.items ≡ before.records.items ++ r ∷ [] → after.pointers.items ≡ before.pointers.items ++ option_to_list (pointer_of r.body) → Gives l old (set old o after) left rest x
-given_one l old x o before after r left rest own lt was key version body standing taken records pointers = record {
-  given = r;
-  key = key;
-  version = version;
-  body = body;
-  standing = standing;
-  owner_gets = λ d. subst (λ (n : ℕ). Appends (get_or old n d) (get_or (set old o after) n d) r) own (
-      let read : before ≡ get_or old o d = get_or_read old o before lt was d in
-      let wrote : get_or (set old o after) o d ≡ after = get_or-set_same old o after d lt in
-      record {
-        records = ap (λ (s : Share). s.records.items) wrote ∙ records ∙ ap (λ (s : Share). s.records.items ++ r ∷ []) read;
-        pointers = ap (λ (s : Share). s.pointers.items) wrote ∙ pointers ∙ ap (λ (s : Share). s.pointers.items ++ option_to_list (pointer_of r.body)) read;
-      });
-  others = λ c d other. get_or-set_other old o c after d (λ e. other (e ∙ own));
-  taken = taken;
-}
+-- the pointer of a body in a list of it
+pointed_by : (p : ℕ) (b : Body) → list_any (λ q. q == p) (option_to_list (pointer_of b)) ≡ true → b ≡ Pointer p
+pointed_by p (Pointer q) is = ap Pointer (eqb-true q p (first (q == p) is)) where
+  first : (b : Bool) → (b || false) ≡ true → b ≡ true
+  first true e = refl
+  first false e = e
+pointed_by p (Embedded v) is = absurd (cc is)
+pointed_by p Tombstone is = absurd (cc is)
 
-pub both_ok : {T E : Type 0} {A B C : Type 0} (r : Result T E) → (A → B → C) → OnOk r A → OnOk r B → OnOk r C
-both_ok (Ok x) f a b = f a b
-both_ok (Err e) f a b = tt
+points_to : (p : ℕ) (b : Body) → b ≡ Pointer p → list_any (λ q. q == p) (option_to_list (pointer_of b)) ≡ true
+points_to p b is = ap (λ (b : Body). list_any (λ q. q == p) (option_to_list (pointer_of b))) is ∙ ap (λ t. t || false) (eq-eqb p p refl)
 
-opened_push : (rs : List Record) (r : Record) (k : ℕ) → opened_in (rs ++ r ∷ []) k ≡ or_else (opened_in rs k) (cond (r.key == k) (Some (opened r)) None)
-opened_push [] r k = refl
-opened_push (q ∷ rs) r k = elim (q.key == k) as (λ b. cond b (Some (opened q)) (opened_in (rs ++ r ∷ []) k) ≡ or_else (cond b (Some (opened q)) (opened_in rs k)) (cond (r.key == k) (Some (opened r)) None)) [
-  | true ↦ refl
-  | false ↦ opened_push rs r k
-]
+either : (a b : Bool) → (a ≡ true) ⊎ (b ≡ true) → (a || b) ≡ true
+either true b h = refl
+either false b (inl e) = absurd (cc e)
+either false b (inr e) = e
 
-abbrev is_at_pointer : ℕ → Option ℕ → Bool
-is_at_pointer p o = option_map_or (λ q. q == p) o false
+known_by : (x : PlacedEntry) (ss : List Standee) (o : Option PlacedEntry) (p : Option KeyRecord) → o ≡ Some x → p ≡ Some (opened_with x.entry.version x.entry.body ss) → KnownAs o p
+known_by x ss o p won known = subst (λ q. KnownAs q p) (sym won) (subst (KnownAs (Some x)) (sym known) (refl, refl))
 
-any_pointer : (p : ℕ) (o : Option ℕ) → list_any (λ q. q == p) (option_to_list o) ≡ is_at_pointer p o
-any_pointer p None = refl
-any_pointer p (Some q) = or_false (q == p) where
-  or_false : (b : Bool) → (b || false) ≡ b
-  or_false true = refl
-  or_false false = refl
+-- all entries of one key more, of which x wins
+module _ (l : Geometry) (es xs : List PlacedEntry) (x : PlacedEntry) (ss : List Standee) (fresh : LacksKey x.entry.key es) (own : HaveKey x.entry.key xs) (wins : winner_in x.entry.key xs ≡ Some x)
+    (stand : (v : ℕ) → standing_at (map untold ss) v ≡ option_map (λ (x : PlacedEntry). standing_with v x.core false) (named_in x.entry.key v xs)) where
+  abbrev k : ℕ
+  k = x.entry.key
 
-module _ (l : Geometry) (start : ℕ → List Standee) where
-  -- what a winner's key is known as, with the entries that stood at the start
-  abbrev known_by : PlacedEntry → KeyRecord
-  known_by x = record { version = x.entry.version; body = x.entry.body; standing = by_version (start x.entry.key) }
+  abbrev all : List PlacedEntry
+  all = es ++ xs
 
-  abbrev points : ℕ → ℕ → PlacedEntry → Bool
-  points c p x = owner l x.entry.key == c && is_at_pointer p (pointer_of x.entry.body)
+  lacks : (j : ℕ) → (j ≡ k → ⊥) → LacksKey j xs
+  lacks j ne y h e = ne (sym e ∙ own y h)
 
-  -- the share after these winners
-  pub record Given (c : ℕ) (done : List PlacedEntry) (share : Share) : Type 0 where
-    pub known : (k : ℕ) → opened_in share.records.items k ≡ cond (owner l k == c) (option_map known_by (won_in k done)) None
-    pub below : AllByRecursion HasNoneAbove share.records.items
-    pub bare : AllByRecursion (IsBareOrKnown share.records.items) share.records.items
-    pub pointers : (p : ℕ) → list_any (λ q. q == p) share.pointers.items ≡ list_any (points c p) done
+  won_here : winner_in k all ≡ Some x
+  won_here = winner_behind k es xs fresh ∙ wins
 
-  pub record AllGiven (done : List PlacedEntry) (shares : List Share) (left : BTreeMap ℕ (Vec Standee Global)) : Type 0 where
-    pub each : (c : ℕ) (d : Share) → c < l.cores → Given c done (slice_index_or shares c d)
-    pub rest : (k : ℕ) → standees_at left k ≡ cond (is_some (won_in k done)) [] (start k)
+  won_there : (j : ℕ) → (j ≡ k → ⊥) → winner_in j all ≡ winner_in j es
+  won_there j ne = winner_front j es xs (lacks j ne)
 
-  module _ (done : List PlacedEntry) (x : PlacedEntry) where
-    won_push : (k : ℕ) → won_in k (done ++ x ∷ []) ≡ or_else (won_in k done) (cond (x.entry.key == k) (Some x) None)
-    won_push k = find_push (λ (y : PlacedEntry). y.entry.key == k) done x
+  -- which keys have pointers
+  kept : (c p : ℕ) → PointsFor l es c p → PointsFor l all c p
+  kept c p w =
+      let is = winner_is w.key es w.winner_is w.wins in
+      record { key = w.key; winner_is = w.winner_is; wins = won_there w.key (λ e. fresh w.winner_is is.0 (is.1 ∙ e)) ∙ w.wins; owned = w.owned; points = w.points }
 
-    any_push : (f : PlacedEntry → Bool) → list_any f (done ++ x ∷ []) ≡ (list_any f done || f x)
-    any_push f = any_append f done (x ∷ []) ∙ ap (λ b. list_any f done || b) (or_false (f x)) where
-      or_false : (b : Bool) → (b || false) ≡ b
-      or_false true = refl
-      or_false false = refl
+  new_one : (c p : ℕ) → owner l k ≡ c → x.entry.body ≡ Pointer p → PointsFor l all c p
+  new_one c p owned points = record { key = k; winner_is = x; wins = won_here; owned = owned; points = points }
 
-    -- the share of the core that owns the key
-    module _ (share new : Share) (r : Record) (given : Given (owner l x.entry.key) done share) (records : new.records.items ≡ share.records.items ++ r ∷ []) (pointers : new.pointers.items ≡ share.pointers.items ++ option_to_list (pointer_of r.body))
-        (key : r.key ≡ x.entry.key) (version : r.version ≡ x.entry.version) (body : r.body ≡ x.entry.body) (standing : r.standing.items ≡ cond (is_some (won_in x.entry.key done)) [] (start x.entry.key)) (none_above : AllByRecursion (λ s. s.version ≤ x.entry.version) (start x.entry.key)) where
-      abbrev here : ℕ
-      here = owner l x.entry.key
+  was : (c p : ℕ) → PointsFor l all c p → (PointsFor l es c p) ⊎ ((owner l k ≡ c) × (x.entry.body ≡ Pointer p))
+  was c p w = ⊎_elim
+      (λ (e : w.key ≡ k). (let same : w.winner_is ≡ x = cc (sym w.wins ∙ ap (λ j. winner_in j all) e ∙ won_here) in
+      inr (ap (owner l) (sym e) ∙ w.owned, sym (ap (λ (y : PlacedEntry). y.entry.body) same) ∙ w.points)))
+      (λ (ne : w.key ≢ k). inl (record { key = w.key; winner_is = w.winner_is; wins = sym (won_there w.key ne) ∙ w.wins; owned = w.owned; points = w.points }))
+      (cases_eq w.key k)
 
-      fresh : (o : Option PlacedEntry) → won_in x.entry.key done ≡ o → is_some o ≡ false → opened r ≡ known_by x
-      fresh o is none =
-          let items : r.standing.items ≡ start x.entry.key = standing ∙ ap (λ o. cond (is_some o) [] (start x.entry.key)) is ∙ ap (λ b. cond b [] (start x.entry.key)) none in
-          (λ i. record { version = version i; body = body i; standing = by_version (items i) })
+  -- a core that doesn't own the key
+  share_there : (c : ℕ) (share : Share) → (owner l k ≡ c → ⊥) → IsShare l es c share → IsShare l all c share
+  share_there c share other is = record {
+    others = is.others;
+    known = λ j owned. subst (λ o. KnownAs o (known_at share.index j)) (sym (won_there j (ne j owned))) (is.known j owned);
+    standing = λ j v owned. is.standing j v owned ∙ ap (option_map (λ (x : PlacedEntry). standing_with v x.core false)) (sym (named_front j v es xs (lacks j (ne j owned))));
+    room = is.room;
+    points = λ p t. kept c p (is.points p t);
+    pointed = λ p w. ⊎_elim (λ old. is.pointed p old) (λ new. absurd (other new.0)) (was c p w);
+  } where
+    ne : (j : ℕ) → owner l j ≡ c → j ≡ k → ⊥
+    ne j owned e = other (ap (owner l) (sym e) ∙ owned)
 
-      one : (b : Bool) (k : ℕ) → (x.entry.key == k) ≡ b → (o : Option PlacedEntry) → won_in k done ≡ o → or_else (option_map known_by o) (cond b (Some (opened r)) None) ≡ option_map known_by (or_else o (cond b (Some x) None))
-      one b k same (Some y) is = refl
-      one true k same None is = ap Some (fresh None (ap (λ j. won_in j done) (eqb-true x.entry.key k same) ∙ is) refl)
-      one false k same None is = refl
+  -- the one that owns it
+  module _ (old new : Share) (is : IsShare l es (owner l k) old) (enters : EntersAs old.index new.index k (opened_with x.entry.version x.entry.body ss)) (pointers : new.pointers.items ≡ old.pointers.items ++ option_to_list (pointer_of x.entry.body)) where
+    abbrev of_key : KeyRecord
+    of_key = opened_with x.entry.version x.entry.body ss
 
-      own_key : (k : ℕ) → (owner l k == here) ≡ false → (r.key == k) ≡ false
-      own_key k other = ne_eqb r.key k (λ e. eqb-false (owner l k) here other (ap (owner l) (sym e ∙ key)))
+    any_pointer : (p : ℕ) → list_any (λ q. q == p) new.pointers.items ≡ (list_any (λ q. q == p) old.pointers.items || list_any (λ q. q == p) (option_to_list (pointer_of x.entry.body)))
+    any_pointer p = ap (list_any (λ q. q == p)) pointers ∙ any_append (λ q. q == p) old.pointers.items (option_to_list (pointer_of x.entry.body))
 
-      known_more : (k : ℕ) → opened_in new.records.items k ≡ cond (owner l k == here) (option_map known_by (won_in k (done ++ x ∷ []))) None
-      known_more k =
-          ap (λ rs. opened_in rs k) records ∙ opened_push share.records.items r k
-          ∙ (λ i. or_else (given.known k i) (cond (r.key == k) (Some (opened r)) None))
-          ∙ (elim (owner l k == here) as (λ b. (owner l k == here) ≡ b → or_else (cond b (option_map known_by (won_in k done)) None) (cond (r.key == k) (Some (opened r)) None) ≡ cond b (option_map known_by (won_in k (done ++ x ∷ []))) None) [
-            | true ↦ λ e. (λ i. or_else (option_map known_by (won_in k done)) (cond (key i == k) (Some (opened r)) None)) ∙ one (x.entry.key == k) k refl (won_in k done) refl ∙ ap (option_map known_by) (sym (won_push k))
-            | false ↦ λ e. ap (λ b. cond b (Some (opened r)) None) (own_key k e)
-          ] refl)
-
-      none_over : (b : Bool) → AllByRecursion (λ s. s.version ≤ x.entry.version) (cond b [] (start x.entry.key))
-      none_over true = tt
-      none_over false = none_above
-
-      below_more : AllByRecursion HasNoneAbove new.records.items
-      below_more = subst (AllByRecursion HasNoneAbove) (sym records) (all_push HasNoneAbove share.records.items r given.below
-          (subst (λ (n : ℕ). AllByRecursion (λ s. s.version ≤ n) r.standing.items) (sym version) (subst (AllByRecursion (λ s. s.version ≤ x.entry.version)) (sym standing) (none_over (is_some (won_in x.entry.key done))))))
-
-      pointers_more : (p : ℕ) → list_any (λ q. q == p) new.pointers.items ≡ list_any (points here p) (done ++ x ∷ [])
-      pointers_more p =
-          ap (list_any (λ q. q == p)) pointers ∙ any_append (λ q. q == p) share.pointers.items (option_to_list (pointer_of r.body))
-          ∙ (λ i. given.pointers p i || any_pointer p (pointer_of r.body) i)
-          ∙ (λ i. list_any (points here p) done || (sym (eq-eqb here here refl) i && is_at_pointer p (pointer_of (body i))))
-          ∙ sym (any_push (points here p))
-
-      -- each record of the old list is known by the new one as before
-      still : (q : Record) → IsBareOrKnown share.records.items q → IsBareOrKnown new.records.items q
-      still q (inl none) = inl none
-      still q (inr known) = inr (ap (λ rs. opened_in rs q.key) records ∙ opened_push share.records.items r q.key ∙ ap (λ o. or_else o (cond (r.key == q.key) (Some (opened r)) None)) known)
-
-      all_still : (qs : List Record) → AllByRecursion (IsBareOrKnown share.records.items) qs → AllByRecursion (IsBareOrKnown new.records.items) qs
-      all_still [] all = tt
-      all_still (q ∷ qs) all = (still q all.0, all_still qs all.1)
-
-      -- and so is the record that was appended
-      last_one : (o : Option PlacedEntry) → won_in x.entry.key done ≡ o → IsBareOrKnown new.records.items r
-      last_one (Some y) won = inl (standing ∙ ap (λ o. cond (is_some o) [] (start x.entry.key)) won)
-      last_one None won =
-          let unknown : opened_in share.records.items r.key ≡ None = ap (opened_in share.records.items) key ∙ given.known x.entry.key ∙ ap (λ o. cond (owner l x.entry.key == here) (option_map known_by o) None) won ∙ nothing (owner l x.entry.key == here) in
-          inr (ap (λ rs. opened_in rs r.key) records ∙ opened_push share.records.items r r.key ∙ (λ i. or_else (unknown i) (cond (eq-eqb r.key r.key refl i) (Some (opened r)) None)))
-        where
-          nothing : (b : Bool) → cond b (option_map known_by None) None ≡ None
-          nothing true = refl
-          nothing false = refl
-
-      bare_more : AllByRecursion (IsBareOrKnown new.records.items) new.records.items
-      bare_more = subst (AllByRecursion (IsBareOrKnown new.records.items)) (sym records) (all_push (IsBareOrKnown new.records.items) share.records.items r (all_still share.records.items given.bare) (last_one (won_in x.entry.key done) refl))
-
-      pub given_here : Given here (done ++ x ∷ []) new
-      given_here = record { known = known_more; below = below_more; bare = bare_more; pointers = pointers_more }
-
-    -- that of another one
-    pub given_there : (c : ℕ) (share : Share) → c ≢ owner l x.entry.key → Given c done share → Given c (done ++ x ∷ []) share
-    given_there c share other given = record {
-      known = λ k. given.known k ∙ same k;
-      below = given.below;
-      bare = given.bare;
-      pointers = λ p. given.pointers p ∙ or_false (list_any (points c p) done) ∙ (λ i. list_any (points c p) done || (sym not_own i && is_at_pointer p (pointer_of x.entry.body))) ∙ sym (any_push (points c p));
-    } where
-      or_false : (b : Bool) → b ≡ (b || false)
-      or_false true = refl
-      or_false false = refl
-
-      not_own : (owner l x.entry.key == c) ≡ false
-      not_own = ne_eqb (owner l x.entry.key) c (λ e. other (sym e))
-
-      same : (k : ℕ) → cond (owner l k == c) (option_map known_by (won_in k done)) None ≡ cond (owner l k == c) (option_map known_by (won_in k (done ++ x ∷ []))) None
-      same k = elim (owner l k == c) as (λ b. (owner l k == c) ≡ b → cond b (option_map known_by (won_in k done)) None ≡ cond b (option_map known_by (won_in k (done ++ x ∷ []))) None) [
-        | true ↦ λ e.
-            let not_key : (x.entry.key == k) ≡ false = ne_eqb x.entry.key k (λ q. other (sym (eqb-true (owner l k) c e) ∙ ap (owner l) (sym q))) in
-            ap (option_map known_by) (sym (won_push k ∙ ap (λ b. or_else (won_in k done) (cond b (Some x) None)) not_key ∙ or_none (won_in k done)))
-        | false ↦ λ e. refl
-      ] refl
-
-    rest_more : (b : Bool) (o : Option PlacedEntry) (ss : List Standee) → cond b [] (cond (is_some o) [] ss) ≡ cond (is_some (or_else o (cond b (Some x) None))) [] ss
-    rest_more true None ss = refl
-    rest_more true (Some y) ss = refl
-    rest_more false None ss = refl
-    rest_more false (Some y) ss = refl
-
-    pub given_more : (old new : List Share) (left rest : BTreeMap ℕ (Vec Standee Global)) → Gives l old new left rest x → AllByRecursion (λ s. s.version ≤ x.entry.version) (start x.entry.key) → AllGiven done old left → AllGiven (done ++ x ∷ []) new rest
-    given_more old new left rest gives none_above all = record {
-      each = λ c d lt. ⊎_elim
-          (λ (e : c ≡ owner l x.entry.key). (let got = gives.owner_gets d in
-          subst (λ (n : ℕ). Given n (done ++ x ∷ []) (slice_index_or new n d)) (sym e)
-          (given_here (slice_index_or old (owner l x.entry.key) d) (slice_index_or new (owner l x.entry.key) d) gives.given (subst (λ (n : ℕ). Given n done (slice_index_or old n d)) e (all.each c d lt)) got.records got.pointers
-          gives.key gives.version gives.body (gives.standing ∙ all.rest x.entry.key) none_above)))
-          (λ (ne : c ≢ owner l x.entry.key). subst (Given c (done ++ x ∷ [])) (sym (gives.others c d ne)) (given_there c (slice_index_or old c d) ne (all.each c d lt)))
-          (cases_eq c (owner l x.entry.key));
-      rest = λ k. gives.taken k ∙ ap (cond (x.entry.key == k) []) (all.rest k) ∙ rest_more (x.entry.key == k) (won_in k done) (start k) ∙ ap (λ o. cond (is_some o) [] (start k)) (sym (won_push k));
+    share_here : IsShare l all (owner l k) new
+    share_here = record {
+      others = λ j other. enters.change.others j (λ e. other (ap (owner l) e)) ∙ is.others j other;
+      known = λ j owned. ⊎_elim
+          (λ (e : j ≡ k). known_by x ss (winner_in j all) (known_at new.index j) (ap (λ n. winner_in n all) e ∙ won_here) (ap (known_at new.index) e ∙ enters.change.here))
+          (λ (ne : j ≢ k). subst (λ o. KnownAs o (known_at new.index j)) (sym (won_there j ne)) (subst (KnownAs (winner_in j es)) (sym (enters.change.others j ne)) (is.known j owned)))
+          (cases_eq j k);
+      standing = λ j v owned. ⊎_elim
+          (λ (e : j ≡ k). ap (λ o. standing_at (standing_of o) v) (ap (known_at new.index) e ∙ enters.change.here) ∙ opened_at ss v ∙ stand v
+          ∙ ap (option_map (λ (x : PlacedEntry). standing_with v x.core false)) (sym (ap (λ n. named_in n v all) e ∙ named_behind k v es xs fresh)))
+          (λ (ne : j ≢ k). ap (λ o. standing_at (standing_of o) v) (enters.change.others j ne) ∙ is.standing j v owned
+          ∙ ap (option_map (λ (x : PlacedEntry). standing_with v x.core false)) (sym (named_front j v es xs (lacks j ne))))
+          (cases_eq j k);
+      room = λ j. ⊎_elim
+          (λ (e : j ≡ k). ap (room_at new.index) e ∙ enters.none)
+          (λ (ne : j ≢ k). enters.room j ne ∙ is.room j)
+          (cases_eq j k);
+      points = λ p t. ⊎_elim
+          (λ before. kept (owner l k) p (is.points p before))
+          (λ now. new_one (owner l k) p refl (pointed_by p x.entry.body now))
+          (or_cases (list_any (λ q. q == p) old.pointers.items) (list_any (λ q. q == p) (option_to_list (pointer_of x.entry.body))) (sym (any_pointer p) ∙ t));
+      pointed = λ p w. any_pointer p ∙ either (list_any (λ q. q == p) old.pointers.items) (list_any (λ q. q == p) (option_to_list (pointer_of x.entry.body)))
+          (⊎_elim (λ before. inl (is.pointed p before)) (λ now. inr (points_to p x.entry.body now.1)) (was (owner l k) p w));
     }
 
-  -- nothing was given yet
-  pub given_none : (shares : List Share) (left : BTreeMap ℕ (Vec Standee Global)) → ((c : ℕ) (d : Share) → c < l.cores → ((slice_index_or shares c d).records.items ≡ []) × ((slice_index_or shares c d).pointers.items ≡ [])) → ((k : ℕ) → standees_at left k ≡ start k) → AllGiven [] shares left
-  given_none shares left empty same = record {
-    each = λ c d lt. (let none = empty c d lt in record {
-      known = λ k. ap (λ rs. opened_in rs k) none.0 ∙ nothing (owner l k == c);
-      below = subst (AllByRecursion HasNoneAbove) (sym none.0) tt;
-      bare = subst (λ (rs : List Record). AllByRecursion (IsBareOrKnown (slice_index_or shares c d).records.items) rs) (sym none.0) tt;
-      pointers = λ p. ap (list_any (λ q. q == p)) none.1;
-    });
-    rest = same;
-  } where
-    nothing : (b : Bool) → None ≡ cond b (option_map known_by None) None
-    nothing true = refl
-    nothing false = refl
+  -- all cores
+  pub shares_more : (old new : List Share) (f : Found) → f.key ≡ k → f.version ≡ x.entry.version → Gives l old new f x.entry.body ss → AreShares l es old → AreShares l all new
+  shares_more old new f key version gives are c d lt = ⊎_elim
+      (λ (e : c ≡ owner l f.key). (let got = gives.owner_gets d in
+      let own_core : owner l k ≡ owner l f.key = ap (owner l) (sym key) in
+      let index : EntersAs (slice_index_or old (owner l k) d).index (slice_index_or new (owner l k) d).index k (opened_with x.entry.version x.entry.body ss) =
+      subst (λ (n : ℕ). EntersAs (slice_index_or old (owner l k) d).index (slice_index_or new (owner l k) d).index k (opened_with n x.entry.body ss)) version
+      (subst (λ (n : ℕ). EntersAs (slice_index_or old (owner l n) d).index (slice_index_or new (owner l n) d).index n (opened_with f.version x.entry.body ss)) key got.index) in
+      let pointers : (slice_index_or new (owner l k) d).pointers.items ≡ (slice_index_or old (owner l k) d).pointers.items ++ option_to_list (pointer_of x.entry.body) =
+      subst (λ (n : ℕ). (slice_index_or new (owner l n) d).pointers.items ≡ (slice_index_or old (owner l n) d).pointers.items ++ option_to_list (pointer_of x.entry.body)) key got.pointers in
+      let at : c ≡ owner l k = e ∙ sym own_core in
+      subst (λ (n : ℕ). IsShare l all n (slice_index_or new n d)) (sym at)
+      (share_here (slice_index_or old (owner l k) d) (slice_index_or new (owner l k) d) (subst (λ (n : ℕ). IsShare l es n (slice_index_or old n d)) at (are c d lt)) index pointers)))
+      (λ (ne : c ≢ owner l f.key). subst (IsShare l all c) (sym (gives.others c d ne)) (share_there c (slice_index_or old c d) (λ e. ne (sym e ∙ ap (owner l) (sym key))) (are c d lt)))
+      (cases_eq c (owner l f.key))
 
--- all winners were given
-module _ (l : Geometry) (standing : BTreeMap ℕ (Vec Standee Global)) (es : List PlacedEntry) (has : HasStandees standing es) where
-  abbrev start : ℕ → List Standee
-  start k = standees_at standing k
+-- nothing was given yet
+no_points : (l : Geometry) (c p : ℕ) → PointsFor l [] c p → ⊥
+no_points l c p w = cc w.wins
 
-  points_at : (p : ℕ) (b : Body) → is_at_pointer p (pointer_of b) ≡ true → b ≡ Pointer p
-  points_at p (Pointer q) is = ap Pointer (eqb-true q p is)
-  points_at p (Embedded v) is = absurd (cc is)
-  points_at p Tombstone is = absurd (cc is)
+pub shares_none : (l : Geometry) (shares : List Share) → length shares ≡ l.cores → AreEmpty shares → AreShares l [] shares
+shares_none l shares count empty c d lt =
+    let none = all_at IsEmpty shares c d empty (subst (λ (n : ℕ). c < n) (sym count) lt) in
+    record {
+      others = λ k other. none.known k;
+      known = λ k owned. none.known k;
+      standing = λ k v owned. ap (λ o. standing_at (standing_of o) v) (none.known k);
+      room = none.room;
+      points = λ p t. absurd (cc (sym t ∙ ap (list_any (λ q. q == p)) none.pointers));
+      pointed = λ p w. absurd (no_points l c p w);
+    }
 
-  known_as : (o : Option PlacedEntry) → KnownAs o (option_map (known_by l start) o)
-  known_as None = refl
-  known_as (Some x) = (refl, refl)
+pub spelled_none : (l : Geometry) (shares : List Share) → length shares ≡ l.cores → AreEmpty shares → AreSpelledShares l shares
+spelled_none l shares count empty c d lt k r is =
+    let none = all_at IsEmpty shares c d empty (subst (λ (n : ℕ). c < n) (sym count) lt) in
+    absurd (cc (sym is ∙ none.known k))
 
-  no_entry : (k v : ℕ) → winner_in k es ≡ None → (o : Option PlacedEntry) → named_in k v es ≡ o → None ≡ option_map (λ (x : PlacedEntry). standing_with v x.core false) o
-  no_entry k v none None is = refl
-  no_entry k v none (Some y) is =
-      let r = found_in (λ (x : PlacedEntry). x.entry.key == k && x.entry.version == v) es y is in
-      absurd (winner_some k es y r.0 (eqb-true y.entry.key k (and_parts (y.entry.key == k) (y.entry.version == v) r.1).0) none)
+-- one share was written
+pub given_one : (l : Geometry) (old : List Share) (f : Found) (body : Body) (ss : List Standee) (o : ℕ) (before after : Share) → o ≡ owner l f.key → o < length old → before ≡ get_or old o before
+    → EntersAs before.index after.index f.key (opened_with f.version body ss) → after.pointers.items ≡ before.pointers.items ++ option_to_list (pointer_of body) → Gives l old (set old o after) f body ss
+given_one l old f body ss o before after own lt was index pointers = record {
+  owner_gets = λ d. subst (λ (n : ℕ). Enters (get_or old n d) (get_or (set old o after) n d) f body ss) own
+      (subst (λ (s : Share). Enters s (get_or (set old o after) o d) f body ss) (get_or_read old o before lt was d)
+      (subst (λ (s : Share). Enters before s f body ss) (sym (get_or-set_same old o after d lt)) (record { index = index; pointers = pointers })));
+  others = λ c d other. get_or-set_other old o c after d (λ e. other (e ∙ own));
+}
 
-  standing_is : (k v : ℕ) (o : Option PlacedEntry) → winner_in k es ≡ o → standing_at (standing_of (option_map (known_by l start) o)) v ≡ option_map (λ (x : PlacedEntry). standing_with v x.core false) (named_in k v es)
-  standing_is k v None won = no_entry k v won (named_in k v es) refl
-  standing_is k v (Some x) won = ap (λ j. standing_at (by_version (start j)) v) (winner_is k es x won).1 ∙ opened_at (start k) v ∙ has.each k v
+-- words can spell what one core was given
+pub spelled_more : (l : Geometry) (old new : List Share) (f : Found) (body : Body) (ss : List Standee) → HasSpelling (record { key = f.key; version = f.version; body = body }) → Gives l old new f body ss → AreSpelledShares l old → AreSpelledShares l new
+spelled_more l old new f body ss spelled gives are c d lt k r is = ⊎_elim
+    (λ (e : c ≡ owner l f.key).
+    (let got = gives.owner_gets d in
+    let here = subst (λ (n : ℕ). EntersAs (slice_index_or old n d).index (slice_index_or new n d).index f.key (opened_with f.version body ss)) (sym e) got.index in
+    ⊎_elim
+    (λ (same : k ≡ f.key). (let known : opened_with f.version body ss ≡ r = cc (sym here.change.here ∙ ap (known_at (slice_index_or new c d).index) (sym same) ∙ is) in
+    subst (λ (q : KeyRecord). HasSpelling (record { key = k; version = q.version; body = q.body })) known (subst (λ (n : ℕ). HasSpelling (record { key = n; version = f.version; body = body })) (sym same) spelled)))
+    (λ (ne : k ≢ f.key). are c d lt k r (sym (here.change.others k ne) ∙ is))
+    (cases_eq k f.key)))
+    (λ (ne : c ≢ owner l f.key). are c d lt k r (ap (λ (s : Share). known_at s.index k) (sym (gives.others c d ne)) ∙ is))
+    (cases_eq c (owner l f.key))
 
-  pub is_share : (c : ℕ) (share : Share) → Given l start c (winners_of es) share → IsShare l es c share
-  is_share c share given = record {
-    others = λ k other. given.known k ∙ ap (λ b. cond b (option_map (known_by l start) (won_in k (winners_of es))) None) (ne_eqb (owner l k) c other);
-    known = λ k own. subst (KnownAs (winner_in k es)) (sym (known k own)) (known_as (winner_in k es));
-    standing = λ k v own. ap (λ o. standing_at (standing_of o) v) (known k own) ∙ standing_is k v (winner_in k es) refl;
-    below = given.below;
-    bare = given.bare;
-    points = λ p is. points_of p (any_found (points l start c p) (winners_of es) (sym (given.pointers p) ∙ is));
-    pointed = λ p w. given.pointers p ∙ any_in (points l start c p) (winners_of es) w.winner_is (among_winners es w.key w.winner_is w.wins)
-        (and_from (owner l w.winner_is.entry.key == c) (is_at_pointer p (pointer_of w.winner_is.entry.body)) (eq-eqb (owner l w.winner_is.entry.key) c (ap (owner l) (winner_is w.key es w.winner_is w.wins).1 ∙ w.owned)) (ap (λ b. is_at_pointer p (pointer_of b)) w.points ∙ eq-eqb p p refl));
-  } where
-    known : (k : ℕ) → owner l k ≡ c → opened_in share.records.items k ≡ option_map (known_by l start) (winner_in k es)
-    known k own = given.known k ∙ ap (λ b. cond b (option_map (known_by l start) (won_in k (winners_of es))) None) (eq-eqb (owner l k) c own) ∙ ap (option_map (known_by l start)) (won_each es k)
+-- what is a share of entries is one of them in another order of names
+module _ (l : Geometry) (es xs : List PlacedEntry) (is : IsByName es xs) where
+  points_same : (c p : ℕ) → PointsFor l xs c p → PointsFor l es c p
+  points_same c p w = record { key = w.key; winner_is = w.winner_is; wins = sym (winner_same es xs is w.key) ∙ w.wins; owned = w.owned; points = w.points }
 
-    points_of : (p : ℕ) → (x : PlacedEntry) × In x (winners_of es) × (points l start c p x ≡ true) → PointsFor l es c p
-    points_of p found =
-        let x = found.0 in
-        let parts = and_parts (owner l x.entry.key == c) (is_at_pointer p (pointer_of x.entry.body)) found.2 in
-        record { key = x.entry.key; winner_is = x; wins = winner_wins es x found.1; owned = eqb-true (owner l x.entry.key) c parts.0; points = points_at p x.entry.body parts.1 }
+  points_back : (c p : ℕ) → PointsFor l es c p → PointsFor l xs c p
+  points_back c p w = record { key = w.key; winner_is = w.winner_is; wins = winner_same es xs is w.key ∙ w.wins; owned = w.owned; points = w.points }
 
-  pub are_shares : (ws : List PlacedEntry) (shares : List Share) (left : BTreeMap ℕ (Vec Standee Global)) → ws ≡ winners_of es → AllGiven l start ws shares left → AreShares l es shares
-  are_shares ws shares left is all c d lt = is_share c (slice_index_or shares c d) (subst (λ (xs : List PlacedEntry). Given l start c xs (slice_index_or shares c d)) is (all.each c d lt))
+  pub shares_same : (shares : List Share) → AreShares l xs shares → AreShares l es shares
+  shares_same shares are c d lt =
+      let s = are c d lt in
+      record {
+        others = s.others;
+        known = λ k owned. subst (λ o. KnownAs o (known_at (slice_index_or shares c d).index k)) (winner_same es xs is k) (s.known k owned);
+        standing = λ k v owned. s.standing k v owned ∙ ap (option_map (λ (x : PlacedEntry). standing_with v x.core false)) (named_same es xs is k v);
+        room = s.room;
+        points = λ p t. points_same c p (s.points p t);
+        pointed = λ p w. s.pointed p (points_back c p w);
+      }
 
-  -- a winner has none above it
-  pub none_above : (x : PlacedEntry) (ws : List PlacedEntry) → ws ≡ winners_of es → In x ws → AllByRecursion (λ s. s.version ≤ x.entry.version) (start x.entry.key)
-  none_above x ws is h = below_winner standing es x.entry.key x has (winner_wins es x (subst (In x) is h))
+-- what is below a version is so in the list of standing entries
+pub below_map : (l : Geometry) (n : ℕ) (fs : List Found) → AllByRecursion (λ f. f.version ≤ n) fs → AllByRecursion (λ s. s.version ≤ n) (map (standee_at l) fs)
+below_map l n [] all = tt
+below_map l n (f ∷ fs) all = (all.0, below_map l n fs all.1)
+
+-- what judged entries give
+shares_of : (l : Geometry) (image : ℕ → ℕ) (xs : List PlacedEntry) → damage l image ≡ None → AllSpell l image → IsByName (all_entries l image) xs → (r : Result (Vec Share Global) Fault) → GivesShares l xs r → Shares l image r
+shares_of l image xs none spell is (Ok shares) given = (none, spell, shares_same l (all_entries l image) xs is shares.items given)
+shares_of l image xs none spell is (Err fault) given = absurd given
+
+pub judged_shares : (l : Geometry) (image : ℕ → ℕ) (xs : List PlacedEntry) (T F : Type 0) → (T → damage l image ≡ None) → (T → AllSpell l image) → (T → IsByName (all_entries l image) xs) → (T → F)
+    → (r : Result (Result (Vec Share Global) Fault) Memory) → IfOk r (λ r. T → F → GivesShares l xs r) → IfOk r (λ r. T → Shares l image r)
+judged_shares l image xs T F none spell is found (Ok r) given = λ telling. shares_of l image xs (none telling) (spell telling) (is telling) r (given telling (found telling))
+judged_shares l image xs T F none spell is found (Err e) given = tt

@@ -8,13 +8,13 @@ use Rattle.chunk_map.specs.declared.layouts.Geometry.{Geometry}
 use Rattle.chunk_map.specs.declared.heads.Head.{Head}
 use Rattle.chunk_map.specs.declared.heads.Head.TheVariants.{Free, Log, Data}
 use Rattle.chunk_map.specs.Layouts.{chunk_first, head_at}
-use Rattle.chunk_map.proofs.LayoutLaws.{part_within}
-use Rattle.store_image.proofs.Local.{tail_within}
+use Rattle.chunk_map.proofs.Clients.{part_within}
+use Rattle.store_image.proofs.Clients.{tail_within}
 use Rattle.core_log.specs.Chunk.{IsLog}
 use Rattle.store_image.specs.Parts.{payload}
 use Rattle.core_log.specs.Log.{LogState, IsOwn, Spelled, StandsIn, tail_of, tail_in, first_of}
 use Rattle.core_log.specs.Walking.{LiesIn}
-use Rattle.core_log.proofs.RetireLaws.{is_tail}
+use Rattle.core_log.proofs.Clients.{is_tail}
 use Rattle.log_standing.specs.ChunkCounts.{IsSpelled}
 use Rattle.store_image.specs.declared.types.Fault.{Fault}
 use Rattle.store_image.specs.Soundness.{damage}

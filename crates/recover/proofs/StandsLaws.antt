@@ -12,11 +12,10 @@ use Rattle.log_entry.specs.Words.{words_from}
 use Rattle.log_entry.specs.Spelling.{words_of, HasSpelling}
 use Rattle.log_entry.specs.Grammar.{Tells}
 use Rattle.log_entry.specs.Reading.{size_of, entry_rule, entry_of, body_of, read_by, read}
-use Rattle.log_entry.proofs.Spellings.{read_spelled}
+use Rattle.log_entry.proofs.Clients.{read_spelled}
 use Rattle.chunk_map.specs.declared.layouts.Geometry.{Geometry}
 use Rattle.chunk_map.specs.Layouts.{total_bytes}
-use Rattle.core_log.proofs.ItemLaws.{first_is}
-use Rattle.core_log.proofs.WalkLaws.{fields_read, word_of}
+use Rattle.core_log.proofs.Clients.{first_is, fields_read, word_of}
 use Rattle.recover.specs.declared.found_entries.Found.{Found}
 use Rattle.recover.specs.FoundEntries.{body_at, entry_at, Stands, HasWords, body_named}
 

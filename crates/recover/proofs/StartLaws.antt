@@ -4,54 +4,26 @@ use Rattle.std.specs.Prelude.{slice_get, is_none}
 use Rattle.std.specs.Option.{option_and_then}
 use Rattle.std.specs.List.{list_any}
 use Rattle.std.proofs.lemmas.Bool.{and_parts, and_from, eqb-true, cases_eq}
-use Rattle.log_entry.specs.Spelling.{HasSpelling}
 use Rattle.chunk_map.specs.declared.layouts.Geometry.{Geometry}
 use Rattle.chunk_map.specs.declared.heads.Head.{Head}
 use Rattle.chunk_map.specs.declared.heads.Head.TheVariants.{Free, Log, Data}
 use Rattle.std.specs.Prelude.{Result, Ok, Err}
 use Rattle.chunk_map.specs.Layouts.{IsLayout, chunk_first, chunk_words, head_at, owner}
-use Rattle.store_image.specs.declared.types.PlacedEntry.{PlacedEntry}
 use Rattle.store_image.specs.Parts.{all_entries, chunk_at, unit_at, class_behind, block_class, held_by}
-use Rattle.store_image.specs.Winners.{winner_in}
 use Rattle.store_image.specs.Facts.{KeepsRules}
-use Rattle.store_image.proofs.Places.{layout_numbers}
-use Rattle.store_image.proofs.SoundFacts.{winner_is}
-use Rattle.core_index.specs.Records.{KeyRecord, standing_at, standing_of}
-use Rattle.core_index.specs.Index.{known_at, room_at, opened_in}
-use Rattle.core_index.specs.Slots.{Place}
+use Rattle.store_image.proofs.Clients.{layout_numbers}
 use Rattle.lazy_alloc.specs.Heads.{is_free, class_in, is_free_there, class_there}
 use Rattle.lazy_alloc.specs.Sets.{Sets, chunk_is_free, chunk_class, chunk_is_due, block_is_used, class_at, start_in}
 use Rattle.recover.specs.declared.shares.Share.{Share}
-use Rattle.recover.specs.Starts.{KnownAs, IsSpelledIndex, IsAllocatorOf, IsIndexOf}
-use Rattle.recover.specs.Shares.{IsShare, IsShared}
+use Rattle.recover.specs.Starts.{IsAllocatorOf, IsIndexOf}
+use Rattle.recover.specs.Shares.{IsShare}
 use Rattle.recover.specs.Heads.{AreHeads}
-use Rattle.recover.proofs.MadeLaws.{spelled_in}
 use Rattle.recover.proofs.HeadLaws.{has_head}
-
--- the records of the index can be spelled
-module _ (l : Geometry) (c : ℕ) (share : Share) (shared : IsShared l c share) (es : List (ℕ × Place)) (records : (k : ℕ) → known_at es k ≡ opened_in share.records.items k) where
-  of_winner : (k : ℕ) (r : KeyRecord) (o : Option PlacedEntry) → winner_in k shared.entries ≡ o → KnownAs o (Some r) → HasSpelling (record { key = k; version = r.version; body = r.body })
-  of_winner k r None won as_known = absurd (cc as_known)
-  of_winner k r (Some x) won as_known =
-      let at = winner_is k shared.entries x won in
-      let same : x.entry ≡ record { key = k; version = r.version; body = r.body } = λ i. record { key = at.1 i; version = sym as_known.0 i; body = sym as_known.1 i } in
-      subst HasSpelling same (spelled_in shared.entries x shared.spelled at.0)
-
-  pub spelled_index : IsSpelledIndex es
-  spelled_index k r is = ⊎_elim
-      (λ (own : owner l k ≡ c). of_winner k r (winner_in k shared.entries) refl (subst (KnownAs (winner_in k shared.entries)) (sym (records k) ∙ is) (shared.is.known k own)))
-      (λ (other : owner l k ≡ c → ⊥). absurd (cc (sym is ∙ records k ∙ shared.is.others k other)))
-      (cases_eq (owner l k) c)
 
 -- the index is that of the image
 module _ (l : Geometry) (image : ℕ → ℕ) (c : ℕ) (share : Share) (is : IsShare l (all_entries l image) c share) where
-  pub index_of : (es : List (ℕ × Place)) → ((k : ℕ) → known_at es k ≡ opened_in share.records.items k) → ((k : ℕ) → room_at es k ≡ 0) → IsIndexOf l image c es
-  index_of es records room = record {
-    others = λ k other. records k ∙ is.others k other;
-    known = λ k own. subst (KnownAs (winner_in k (all_entries l image))) (sym (records k)) (is.known k own);
-    standing = λ k v own. ap (λ r. standing_at (standing_of r) v) (records k) ∙ is.standing k v own;
-    room = room;
-  }
+  pub index_of : IsIndexOf l image c share.index
+  index_of = record { others = is.others; known = is.known; standing = is.standing; room = is.room }
 
   -- and so is the allocator
   behind_is : (u : ℕ) (h : Result Head ℕ) → class_behind l u h ≡ option_and_then (start_in l u) (class_in h)

@@ -9,10 +9,7 @@ use Rattle.store_image.specs.declared.types.PlacedEntry.{PlacedEntry}
 use Rattle.store_image.specs.Winners.{better, winner_in, with_key, keys_of}
 use Rattle.store_image.specs.Listing.{IsRising}
 use Rattle.store_image.specs.Facts.{In}
-use Rattle.store_image.proofs.SoundLaws.{winner_key}
-use Rattle.store_image.proofs.SoundFacts.{winner_is}
-use Rattle.store_image.proofs.Listings.{rising_keys}
-use Rattle.store_image.proofs.Copies.{winner_some}
+use Rattle.store_image.proofs.Clients.{winner_key, winner_is, rising_keys, winner_some}
 use Rattle.recover.specs.Winning.{winners_of, is_of_key, is_older, without, with_winner}
 use Rattle.recover.specs.ByName.{IsInOrder}
 use Rattle.recover.proofs.WinningLaws.{above_in}

@@ -20,8 +20,8 @@ use chunk_map::{Head, Layout, read_head};
 use fs_errors::Memory;
 use pm_region::Region;
 use std::alloc::Global;
-use store_image::log_rules::log_rule;
 use store_image::Fault;
+use store_image::log_rules::log_rule;
 use store_image::scanning::{AtPlace, Scanned, scan};
 
 /// What stands in the words of a log.
@@ -107,7 +107,11 @@ fn gather_chunk<R: Region>(
         → SpellsLog layout.now (lasts (R.state region.now)) part chunk) }
 {
     let (rule, scanned) = read_chunk(alloc, region, layout, part, chunk)?;
-    note_entries(layout.chunk_first(part, chunk) + HEAD_WORDS, &scanned.entries, found)?;
+    note_entries(
+        layout.chunk_first(part, chunk) + HEAD_WORDS,
+        &scanned.entries,
+        found,
+    )?;
     match rule {
         Some(rule) => Ok(Some(Fault::Damaged { part, chunk, rule })),
         None => Ok(None),

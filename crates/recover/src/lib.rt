@@ -18,7 +18,6 @@ mod key_runs;
 mod key_standees;
 mod live;
 mod logs;
-mod own_deaths;
 mod pair_list;
 mod reading;
 mod recover_region;

@@ -1,23 +1,19 @@
 // Recovery of a region.
-ghost use Rattle.std.specs.Prelude.{◌≡◌, ◌↔◌, ℕ, ◌/◌, ◌<◌, None, IfOk, length, slice_index_or};
+ghost use Rattle.std.specs.Prelude.{◌≡◌, ◌↔◌, ◌/◌, None, IfOk, length};
 ghost use Rattle.pm_region.specs.State.{IsTelling};
 ghost use Rattle.pm_region.specs.Words.{lasts};
 ghost use Rattle.chunk_map.specs.Layouts.{total_bytes};
 ghost use Rattle.chunk_map.specs.Checked.{IsLength};
 ghost use Rattle.store_image.specs.Soundness.{damage, first_fault};
 ghost use Rattle.store_image.specs.Facts.{KeepsRules, IsStore};
-ghost use Rattle.recover.specs.declared.shares.Share.{Share};
 ghost use Rattle.recover.specs.Regions.{Covers, IsCertain};
-ghost use Rattle.recover.specs.Shares.{IsShared, Shares};
+ghost use Rattle.recover.specs.Shares.{AreSpelledShares, Shares};
 ghost use Rattle.recover.specs.Recovering.{IsMade, Restores, Recovers, AllStand};
 
 use crate::judge_winners::{agreed_entries, judge};
-use crate::key_standees::standees;
-use crate::reading::read_entries;
 use crate::shares::{Share, shares};
 use crate::starts::starts;
 use crate::types::{RecoverError, Recovered};
-use crate::winning::winners;
 use chunk_map::{Layout, read_superblock};
 use fs_errors::Memory;
 use pm_region::Region;
@@ -76,8 +72,8 @@ fn judged_shares<R: Region>(
 ) -> Result<Result<Vec<Share>, Fault>, Memory>
     requires covers { Covers (R.state region.now).frame layout.now }
     ensures count { IfOk result (λ r. IfOk r (λ shares. length shares.items ≡ layout.now.cores)) }
-    ensures made { IfOk result (λ r. IfOk r (λ shares. (c : ℕ) (d : Share) → c < layout.now.cores
-        → IsShared layout.now c (slice_index_or shares.items c d))) }
+    ensures spelled { IfOk result (λ r. IfOk r (λ shares. AreSpelledShares layout.now
+        shares.items)) }
     ensures told { IfOk result (λ r. IsTelling (R.state region.now)
         → Shares layout.now (lasts (R.state region.now)) r) }
 {
@@ -88,15 +84,7 @@ fn judged_shares<R: Region>(
     if let Some(fault) = judge(alloc, region, layout, &found)? {
         return Ok(Err(fault));
     }
-    match read_entries(alloc, region, layout, &found)? {
-        Err(fault) => Ok(Err(fault)),
-        Ok(entries) => {
-            let standing = standees(alloc, &entries)?;
-            let winners = winners(alloc, entries)?;
-            let shares = shares(alloc, layout, winners, standing)?;
-            Ok(Ok(shares))
-        }
-    }
+    shares(alloc, region, layout, &found)
 }
 
 /// What a region of this layout recovers, or the first broken one of rules 4 to 11.

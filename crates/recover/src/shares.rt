@@ -1,21 +1,29 @@
 // What each core gets of the entries of all logs.
-ghost use Rattle.std.specs.Prelude.{◌≡◌, ◌++◌, ◌∷◌, [], List, length, IfOk, OnOk};
+ghost use Rattle.std.specs.Prelude.{◌≡◌, ℕ, ◌<◌, ◌≤◌, ◌++◌, None, length, map, slice_index_or, IfOk, OnOk};
 ghost use Rattle.std.specs.Option.{option_to_list};
+ghost use Rattle.std.specs.List.{AllByRecursion};
+ghost use Rattle.pm_region.specs.State.{IsTelling};
+ghost use Rattle.pm_region.specs.Words.{lasts};
+ghost use Rattle.log_entry.specs.Spelling.{HasSpelling};
 ghost use Rattle.chunk_map.specs.Layouts.{IsLayout};
-ghost use Rattle.store_image.specs.declared.types.PlacedEntry.{PlacedEntry};
-ghost use Rattle.core_index.specs.Records.{pointer_of};
-ghost use Rattle.recover.specs.Winning.{winners_of};
-ghost use Rattle.recover.specs.Standing.{standees_at, HasStandees};
-ghost use Rattle.recover.specs.Shares.{AreShares, AreEmpty, TakesOut, Gives};
+ghost use Rattle.core_index.specs.Records.{pointer_of, opened_with};
+ghost use Rattle.core_index.specs.Index.{EntersAs};
+ghost use Rattle.recover.specs.Regions.{Covers};
+ghost use Rattle.recover.specs.FoundEntries.{AreInOrder, AreFound, Stands, body_at, entries_at};
+ghost use Rattle.recover.specs.Standing.{standee_at};
+ghost use Rattle.recover.specs.Shares.{AreSpelledShares, AreEmpty, Gives, GivesShares};
 
+use crate::found_entries::Found;
+use crate::key_runs::key_run;
+use crate::key_standees::list_standees;
+use crate::reading::{gone_fault, read_at};
 use chunk_map::Layout;
-use core_index::{Record, Standee};
+use core_index::{CoreIndex, Standee};
 use fs_errors::Memory;
-use fs_model::Key;
-use log_entry::{Body, Entry};
+use log_entry::Body;
+use pm_region::Region;
 use std::alloc::Global;
-use std::collections::BTreeMap;
-use store_image::PlacedEntry;
+use store_image::Fault;
 use store_image::geometry::owner;
 
 /// What one core gets.
@@ -23,42 +31,30 @@ use store_image::geometry::owner;
 pub struct Share {
     /// The pointers of the winners of its keys.
     pub pointers: Vec<u64>,
-    /// The records of its keys.
-    pub records: Vec<Record>,
+    /// What is known of its keys.
+    pub index: CoreIndex,
 }
 
-/// The record of a winner. The entries of its key are taken out of the map.
-fn record_of(alloc: Global, standing: &mut BTreeMap<Key, Vec<Standee>>, winner: Entry) -> Record
-    ensures key { result.key ≡ winner.key }
-    ensures version { result.version ≡ winner.version }
-    ensures body { result.body ≡ winner.body }
-    ensures standing { result.standing.items ≡ standees_at standing.old winner.key }
-    ensures left { TakesOut standing.old standing.new winner.key }
-{
-    let standing = match standing.remove(&winner.key) {
-        Some(list) => list,
-        None => Vec::new(alloc),
-    };
-    Record {
-        key: winner.key,
-        version: winner.version,
-        body: winner.body,
-        standing,
-    }
-}
-
-/// Appends a record, and its pointer where it has one.
-fn add(share: &mut Share, known: Record) -> Result<(), Memory>
-    ensures records { OnOk result (share.new.records.items ≡ share.old.records.items
-        ++ known ∷ []) }
+/// Enters what is known of a winner's key, and appends its pointer where it has one.
+fn enter(
+    alloc: Global,
+    share: &mut Share,
+    winner: &Found,
+    body: &Body,
+    standing: &[Standee],
+) -> Result<(), Memory>
+    requires below { AllByRecursion (λ s. s.version ≤ winner.now.version) standing.now }
+    ensures index { OnOk result (EntersAs share.old.index share.new.index winner.now.key
+        (opened_with winner.now.version body.now standing.now)) }
     ensures pointers { OnOk result (share.new.pointers.items ≡ share.old.pointers.items
-        ++ option_to_list (pointer_of known.body)) }
+        ++ option_to_list (pointer_of body.now)) }
 {
-    if let Body::Pointer(pointer) = &known.body {
+    if let Body::Pointer(pointer) = body {
         share.pointers.push(*pointer)?;
     }
-    share.records.push(known)?;
-    Ok(())
+    share
+        .index
+        .enter(alloc, winner.key, winner.version, body, standing)
 }
 
 /// Gives a winner to the core that owns its key.
@@ -66,18 +62,52 @@ fn give(
     alloc: Global,
     layout: &Layout,
     shares: &mut Vec<Share>,
-    standing: &mut BTreeMap<Key, Vec<Standee>>,
-    winner: PlacedEntry,
+    winner: &Found,
+    body: &Body,
+    standing: &[Standee],
 ) -> Result<(), Memory>
     requires layout { IsLayout layout.now }
     requires count { length shares.old.items ≡ layout.now.cores }
+    requires below { AllByRecursion (λ s. s.version ≤ winner.now.version) standing.now }
     ensures count { length shares.new.items ≡ layout.now.cores }
-    ensures gives { OnOk result (Gives layout.now shares.old.items shares.new.items standing.old
-        standing.new winner) }
+    ensures gives { OnOk result (Gives layout.now shares.old.items shares.new.items winner.now
+        body.now standing.now) }
 {
-    let owner = owner(&layout.geometry(), winner.entry.key) as usize;
-    let record = record_of(alloc, standing, winner.entry);
-    add(&mut shares[owner], record)
+    let owner = owner(&layout.geometry(), winner.key) as usize;
+    enter(alloc, &mut shares[owner], winner, body, standing)
+}
+
+/// Gives the winner of some entries of one key to the core that owns the key, with all of them. A winner that stands
+/// there no more is answered as damage. `standing` is scratch.
+fn give_key<R: Region>(
+    alloc: Global,
+    region: &R,
+    layout: &Layout,
+    shares: &mut Vec<Share>,
+    winner: &Found,
+    run: &[Found],
+    standing: &mut Vec<Standee>,
+) -> Result<Option<Fault>, Memory>
+    requires covers { Covers (R.state region.now).frame layout.now }
+    requires count { length shares.old.items ≡ layout.now.cores }
+    requires below { AllByRecursion (λ f. f.version ≤ winner.now.version) run.now }
+    ensures count { length shares.new.items ≡ layout.now.cores }
+    ensures spelled { IfOk result (λ f. f ≡ None → AreSpelledShares layout.now shares.old.items
+        → AreSpelledShares layout.now shares.new.items) }
+    ensures told { IfOk result (λ f. IsTelling (R.state region.now)
+        → Stands layout.now (lasts (R.state region.now)) winner.now → (f ≡ None)
+        × Gives layout.now shares.old.items shares.new.items winner.now
+        (body_at (lasts (R.state region.now)) winner.now.at)
+        (map (standee_at layout.now) run.now)) }
+{
+    match read_at(alloc, region, layout, winner)? {
+        None => Ok(Some(gone_fault(layout, winner))),
+        Some(body) => {
+            list_standees(layout, run, standing)?;
+            give(alloc, layout, shares, winner, &body, standing)?;
+            Ok(None)
+        }
+    }
 }
 
 /// A share for each core, with nothing in it.
@@ -89,28 +119,49 @@ fn no_shares(alloc: Global, layout: &Layout) -> Result<Vec<Share>, Memory>
     for _ in 0..layout.cores() {
         shares.push(Share {
             pointers: Vec::new(alloc),
-            records: Vec::new(alloc),
+            index: CoreIndex::empty(alloc)?,
         })?;
     }
     Ok(shares)
 }
 
-/// What the cores get, in their order, of the winners of some entries and of all that stand.
-pub fn shares(
+/// What the cores get, in their order, of entries by their names. Each key's winner is read from the region once.
+pub fn shares<R: Region>(
     alloc: Global,
+    region: &R,
     layout: &Layout,
-    winners: Vec<PlacedEntry>,
-    standing: BTreeMap<Key, Vec<Standee>>,
-) -> Result<Vec<Share>, Memory>
-    requires { IsLayout layout.now }
-    ensures count { IfOk result (λ shares. length shares.items ≡ layout.now.cores) }
-    ensures shares { IfOk result (λ shares. (es : List PlacedEntry) → winners.items ≡ winners_of es
-        → HasStandees standing es → AreShares layout.now es shares.items) }
+    sorted: &[Found],
+) -> Result<Result<Vec<Share>, Fault>, Memory>
+    requires covers { Covers (R.state region.now).frame layout.now }
+    requires order { AreInOrder sorted.now }
+    ensures count { IfOk result (λ r. IfOk r (λ shares. length shares.items ≡ layout.now.cores)) }
+    ensures spelled { IfOk result (λ r. IfOk r (λ shares. AreSpelledShares layout.now
+        shares.items)) }
+    ensures told { IfOk result (λ r. IsTelling (R.state region.now)
+        → AreFound layout.now (lasts (R.state region.now)) sorted.now
+        → GivesShares layout.now (entries_at layout.now (lasts (R.state region.now)) sorted.now)
+        r) }
 {
     let mut shares = no_shares(alloc, layout)?;
-    let mut standing = standing;
-    for winner in winners {
-        give(alloc, layout, &mut shares, &mut standing, winner)?;
+    let mut standing = Vec::new(alloc);
+    let mut at = 0;
+    while at < sorted.len() {
+        let run = key_run(sorted, at);
+        let winner = &sorted[run.winner];
+        let entries = &sorted[at..run.end];
+        let fault = give_key(
+            alloc,
+            region,
+            layout,
+            &mut shares,
+            winner,
+            entries,
+            &mut standing,
+        )?;
+        if let Some(fault) = fault {
+            return Ok(Err(fault));
+        }
+        at = run.end;
     }
-    Ok(shares)
+    Ok(Ok(shares))
 }

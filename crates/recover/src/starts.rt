@@ -1,56 +1,54 @@
 // What each core begins with.
-ghost use Rattle.std.specs.Prelude.{◌≡◌, ℕ, ◌<◌, List, None, length, slice_index_or, IfOk};
-ghost use Rattle.std.specs.List.{AllByRecursion};
+ghost use Rattle.std.specs.Prelude.{◌≡◌, ℕ, ◌<◌, None, length, slice_index_or, IfOk};
 ghost use Rattle.pm_region.specs.State.{IsTelling};
 ghost use Rattle.pm_region.specs.Words.{lasts};
 ghost use Rattle.store_image.specs.Parts.{all_entries};
 ghost use Rattle.store_image.specs.Facts.{KeepsRules};
 ghost use Rattle.core_log.specs.Walking.{LiesIn};
-ghost use Rattle.core_index.specs.Index.{known_at, opened_in};
-ghost use Rattle.core_index.specs.Slots.{Place};
+ghost use Rattle.core_index.specs.Records.{is_dead_in};
+ghost use Rattle.core_index.specs.Index.{known_at};
 ghost use Rattle.log_standing.specs.ChunkCounts.{IsStandingOf, IsSpelled};
 ghost use Rattle.recover.specs.Regions.{Covers};
 ghost use Rattle.recover.specs.Gathering.{AllSpell};
 ghost use Rattle.recover.specs.OwnDead.{TellsOwn};
+ghost use Rattle.recover.specs.Starts.{IsSpelledIndex};
 ghost use Rattle.recover.specs.declared.types.CoreStart.{CoreStart};
-ghost use Rattle.recover.specs.declared.shares.Share.{Share};
-ghost use Rattle.recover.specs.Shares.{IsBareOrKnown, IsShare, IsShared, AreShares};
+ghost use Rattle.recover.specs.Shares.{IsShare, AreSpelledShares, AreShares};
 ghost use Rattle.recover.specs.Logs.{IsStart};
 ghost use Rattle.recover.specs.Heads.{Starts, AllStart};
 
 use crate::logs::{heads, log_chunks};
-use crate::own_deaths::tell_own;
 use crate::shares::Share;
 use crate::types::CoreStart;
 use chunk_map::Layout;
-use core_index::{CoreIndex, Record};
+use core_index::CoreIndex;
 use core_log::CoreLog;
 use fs_errors::Memory;
 use lazy_alloc::Allocator;
-use log_standing::{Standing, standing_of};
+use log_entry::EntryName;
+use log_standing::{Standing, standing_told};
 use pm_region::Region;
 use std::alloc::Global;
 use store_image::Fault;
 
-/// What stands in the log of a core whose keys have these records: its dead entries of these keys were told dead.
+/// What stands in the log of a core with this index: the names that are dead by it were told dead.
 fn own_standing<R: Region>(
     alloc: Global,
     region: &R,
     log: &CoreLog,
-    records: &[Record],
+    index: &CoreIndex,
 ) -> Result<Standing, Memory>
     requires lies { LiesIn (R.state region.now).frame log.now }
     requires spelled { IsSpelled (R.state region.now) log.now }
-    requires records { AllByRecursion (IsBareOrKnown records.now) records.now }
-    ensures told { IfOk result (λ standing. (es : List (ℕ × Place))
-        → ((k : ℕ) → known_at es k ≡ opened_in records.now k) → TellsOwn standing es) }
+    ensures told { IfOk result (λ standing. TellsOwn standing index.now) }
     ensures settled { IfOk result (λ standing. standing.settled ≡ None) }
     ensures counts { IfOk result (λ standing. IsTelling (R.state region.now)
         → IsStandingOf (R.state region.now) log.now standing) }
 {
-    let mut standing = standing_of(alloc, region, log)?;
-    tell_own(&mut standing, records);
-    Ok(standing)
+    let dead = |name: EntryName|
+        ensures { result ≡ is_dead_in (known_at index.entry.now name.key) name.version }
+    { index.is_dead(name) };
+    standing_told(alloc, region, log, dead)
 }
 
 /// The start of one core. The heads of its part are read again: one that is none now is answered as damage.
@@ -63,7 +61,7 @@ fn start<R: Region>(
 ) -> Result<Result<CoreStart, Fault>, Memory>
     requires covers { Covers (R.state region.now).frame layout.now }
     requires core { core < layout.now.cores }
-    requires share { IsShared layout.now core share }
+    requires index { IsSpelledIndex share.index }
     requires spelled { IsTelling (R.state region.now)
         → AllSpell layout.now (lasts (R.state region.now)) }
     ensures made { IfOk result (λ r. IfOk r (IsStart layout.now core)) }
@@ -79,13 +77,12 @@ fn start<R: Region>(
     let chunks = log_chunks(alloc, layout, &heads)?;
     let log = CoreLog::open(alloc, *layout, core, chunks)?;
     let allocator = Allocator::rebuild(alloc, *layout, core, &heads, &share.pointers)?;
-    let standing = own_standing(alloc, region, &log, &share.records)?;
-    let index = CoreIndex::open(alloc, share.records)?;
+    let standing = own_standing(alloc, region, &log, &share.index)?;
     Ok(Ok(CoreStart {
         core,
         log,
         allocator,
-        index,
+        index: share.index,
         standing,
     }))
 }
@@ -99,8 +96,7 @@ pub fn starts<R: Region>(
 ) -> Result<Result<Vec<CoreStart>, Fault>, Memory>
     requires covers { Covers (R.state region.now).frame layout.now }
     requires count { length shares.items ≡ layout.now.cores }
-    requires shares { (c : ℕ) (d : Share) → c < layout.now.cores
-        → IsShared layout.now c (slice_index_or shares.items c d) }
+    requires shares { AreSpelledShares layout.now shares.items }
     requires spelled { IsTelling (R.state region.now)
         → AllSpell layout.now (lasts (R.state region.now)) }
     ensures count { IfOk result (λ r. IfOk r (λ starts. length starts.items ≡ layout.now.cores)) }

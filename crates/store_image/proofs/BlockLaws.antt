@@ -3,8 +3,7 @@ use Rattle.std.proofs.Common.{◌≡◌, inl, inr, ℕ, ◌+◌, ◌-◌, ◌*�
 use Rattle.std.proofs.lemmas.Bool.{and_parts, eqb-true}
 use Rattle.std.proofs.lemmas.List.{take_at}
 use Rattle.log_entry.specs.Words.{words_for, packed, unpacked, words_from}
-use Rattle.log_entry.proofs.Bytes.{AreBytes, unpacked-packed}
-use Rattle.log_entry.proofs.Images.{words_same}
+use Rattle.log_entry.proofs.Clients.{AreBytes, unpacked-packed, words_same}
 use Rattle.chunk_map.specs.declared.layouts.Geometry.{Geometry}
 use Rattle.chunk_map.specs.declared.heads.Head.{Head}
 use Rattle.chunk_map.specs.declared.heads.Head.TheVariants.{Free, Log, Data}

@@ -5,8 +5,7 @@ use Rattle.std.specs.List.{flat_map}
 use Rattle.log_entry.specs.declared.entry.Entry.{Entry}
 use Rattle.log_entry.specs.Words.{words_from}
 use Rattle.log_entry.specs.Batches.{Scan, scan_of, SpellsBatches, IsBatch, batch_words}
-use Rattle.log_entry.proofs.Images.{words_same, words_append}
-use Rattle.log_entry.proofs.Scans.{scan-append, entries_from}
+use Rattle.log_entry.proofs.Clients.{words_same, words_append, scan-append, entries_from}
 use Rattle.chunk_map.specs.declared.layouts.Geometry.{Geometry}
 use Rattle.chunk_map.specs.declared.heads.Head.{Head}
 use Rattle.chunk_map.specs.declared.heads.Head.TheVariants.{Free, Log, Data}

@@ -11,7 +11,7 @@ use Rattle.pm_region.specs.State.{State, Frame, IsTold, InRange, cell_now}
 use Rattle.pm_region.specs.Split.{IsPiece, Parted, Joined, TakesPiece, CameFrom, IsBetween, ComesNext}
 use Rattle.chunk_map.specs.declared.layouts.Geometry.{Geometry}
 use Rattle.chunk_map.specs.Layouts.{layout_of, IsLayout}
-use Rattle.chunk_map.proofs.LayoutLaws.{numbers_of}
+use Rattle.chunk_map.proofs.Clients.{numbers_of}
 use Rattle.recover.specs.declared.types.Recovered.{Recovered}
 use Rattle.group_laws.specs.State.{Group}
 use Rattle.group_laws.specs.Invariant.{Lawful}
@@ -28,7 +28,7 @@ use Rattle.core_worker.specs.declared.worker.Worker.{Worker}
 use Rattle.engine_laws.specs.Origins.{Origin}
 use Rattle.engine_laws.specs.Parts.{Groups, group_of, member_of}
 use Rattle.engine_laws.specs.Ran.{asked_in}
-use Rattle.engine_laws.proofs.Cores.{group_low, member_low, member_core}
+use Rattle.engine_laws.proofs.Clients.{group_low, member_low, member_core}
 use Rattle.group_engine.specs.declared.run_outcome.Outcome.{Outcome}
 use Rattle.group_engine.specs.Replayed.{StandsAsFound, BeginsAt, report_in}
 use Rattle.group_engine.specs.Reports.{IsReport}

@@ -8,11 +8,11 @@ use Rattle.fs_model.specs.Changes.{requests_of}
 use Rattle.chunk_map.specs.declared.layouts.Geometry.{Geometry}
 use Rattle.chunk_map.specs.Layouts.{owner}
 use Rattle.store_image.specs.Facts.{In}
-use Rattle.store_image.proofs.SoundFacts.{in_front, in_back}
-use Rattle.group_laws.proofs.Images.{in_map}
+use Rattle.store_image.proofs.Clients.{in_front, in_back}
+use Rattle.group_laws.proofs.Clients.{in_map}
 use Rattle.engine_laws.specs.WorkerMoves.{Fixed, asked, replied, requests_for}
 use Rattle.engine_laws.specs.Keys.{Served, pairs}
-use Rattle.engine_laws.proofs.Numbers.{IsUp, all_in}
+use Rattle.engine_laws.proofs.Clients.{IsUp, all_in}
 use Rattle.thread_engine.specs.CoreRuns.{requests_to}
 use Rattle.thread_engine.proofs.Doubts.{clash, neq}
 

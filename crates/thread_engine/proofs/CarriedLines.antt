@@ -8,12 +8,11 @@ use Rattle.fs_model.specs.Changes.{requests_of}
 use Rattle.chunk_map.specs.declared.layouts.Geometry.{Geometry}
 use Rattle.chunk_map.specs.Layouts.{owner}
 use Rattle.store_image.specs.Facts.{In}
-use Rattle.store_image.proofs.SoundFacts.{in_front, in_back}
-use Rattle.group_laws.proofs.Images.{in_map}
+use Rattle.store_image.proofs.Clients.{in_front, in_back}
+use Rattle.group_laws.proofs.Clients.{in_map}
 use Rattle.engine_laws.specs.WorkerMoves.{Fixed, asked, fixed_of, requests_for}
 use Rattle.engine_laws.specs.Engine.{Engine, line}
-use Rattle.engine_laws.proofs.Numbers.{IsUp, up, up_tail, up_apart, all_in, in_all, filter_in, one_key}
-use Rattle.engine_laws.proofs.RoomMoves.{OwnLines, OwnMoves}
+use Rattle.engine_laws.proofs.Clients.{IsUp, up, up_tail, up_apart, all_in, in_all, filter_in, one_key, OwnLines, OwnMoves}
 
 module _ (l : Geometry) (e f : Engine) (c : ℕ) (accepted : List (ℕ × Request)) (fixed : List Fixed) (O : OwnLines l c e) (M : OwnMoves l e f c accepted fixed) (mine : (y : Fixed) → In y fixed → owner l (key_of y.request) ≡ c) where
   -- what has no answer before the move

@@ -9,9 +9,9 @@ use Rattle.fs_model.specs.declared.model.Request.{Request}
 use Rattle.fs_model.specs.Cells.{key_of}
 use Rattle.fs_text.specs.declared.line.Line.{Line}
 use Rattle.fs_text.specs.declared.line.Line.TheVariants.{Ask, Go}
-use Rattle.headline.proofs.Lists.{enumerate-append}
+use Rattle.headline.proofs.Clients.{enumerate-append}
 use Rattle.engine_laws.specs.Ran.{asked_in}
-use Rattle.engine_laws.proofs.Numbers.{all_append}
+use Rattle.engine_laws.proofs.Clients.{all_append}
 use Rattle.group_engine.specs.declared.types.Stamped.{Stamped}
 use Rattle.thread_engine.specs.declared.deal.Dealt.{Dealt}
 use Rattle.thread_engine.specs.Dealt.{dealt_to, AreBlank, AreDealt}

@@ -6,9 +6,9 @@ use Rattle.std.proofs.lemmas.Bool.{cases_eq, eq-eqb}
 use Rattle.fs_model.specs.declared.model.Request.{Request}
 use Rattle.fs_model.specs.Cells.{key_of}
 use Rattle.store_image.specs.Facts.{In}
-use Rattle.group_laws.proofs.Images.{in_map}
+use Rattle.group_laws.proofs.Clients.{in_map}
 use Rattle.engine_laws.specs.WorkerMoves.{Fixed, asked, fixed_of}
-use Rattle.engine_laws.proofs.Numbers.{IsUp, all_in, filter_in}
+use Rattle.engine_laws.proofs.Clients.{IsUp, all_in, filter_in}
 use Rattle.core_worker.specs.declared.types.Answer.{Answer}
 use Rattle.core_worker.specs.declared.worker.Worker.{Worker}
 use Rattle.core_worker.specs.Answering.{IsGiven, AreGiven}

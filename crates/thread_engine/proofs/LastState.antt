@@ -19,8 +19,7 @@ use Rattle.log_entry.specs.declared.entry.Body.TheVariants as bodies
 use Rattle.chunk_map.specs.declared.layouts.Geometry.{Geometry}
 use Rattle.chunk_map.specs.Layouts.{layout_of, owner, IsLayout}
 use Rattle.store_image.specs.Facts.{In}
-use Rattle.store_image.proofs.SoundFacts.{in_front, in_back}
-use Rattle.store_image.proofs.SoundLaws.{has_layout}
+use Rattle.store_image.proofs.Clients.{in_front, in_back, has_layout}
 use Rattle.recover.specs.declared.types.CoreStart.{CoreStart}
 use Rattle.recover.specs.declared.types.Recovered.{Recovered}
 use Rattle.group_laws.specs.declared.types.Block.{Block}
@@ -34,7 +33,7 @@ use Rattle.group_laws.specs.Steps.{left_by}
 use Rattle.group_laws.specs.Regions.{key_group, groups_in, place_at}
 use Rattle.group_laws.specs.OpeningImages.{opened}
 use Rattle.group_laws.specs.MemberViews.{View, view_of}
-use Rattle.group_laws.proofs.Images.{in_map, of_map}
+use Rattle.group_laws.proofs.Clients.{in_map, of_map}
 use Rattle.group_board.specs.Seats.{SeatAt}
 use Rattle.group_board.specs.Views.{left_in}
 use Rattle.licence.specs.Licence.{Licensed}
@@ -53,10 +52,7 @@ use Rattle.engine_laws.specs.Origins.{Origin, start_of}
 use Rattle.engine_laws.specs.Promises.{IsOrigin, HasStopped, Promised, IsDone}
 use Rattle.engine_laws.specs.Stands.{StandsNow, opening}
 use Rattle.engine_laws.specs.Workers.{Sits}
-use Rattle.engine_laws.proofs.Cores.{owner_low, key_group_low, group_low, member_core, of_member, of_core}
-use Rattle.engine_laws.proofs.Licences.{shows_groups}
-use Rattle.engine_laws.proofs.Stands.{shows_key}
-use Rattle.engine_laws.proofs.Numbers.{IsUp, up, all_in, in_all, in_requests, in_filter, filter_in}
+use Rattle.engine_laws.proofs.Clients.{owner_low, key_group_low, group_low, member_core, of_member, of_core, shows_groups, shows_key, IsUp, up, all_in, in_all, in_requests, in_filter, filter_in}
 use Rattle.core_worker.specs.declared.types.Answer.{Answer}
 use Rattle.core_worker.specs.declared.worker.Worker.{Worker}
 use Rattle.core_worker.specs.Answering.{IsGiven, AreGiven}
@@ -68,7 +64,7 @@ use Rattle.group_engine.specs.declared.run_outcome.Outcome.{Outcome}
 use Rattle.group_engine.specs.Answers.{ShowsAnswer, kept_at, HavePlaces}
 use Rattle.group_engine.specs.Replayed.{BeginsAt, report_in}
 use Rattle.group_engine.specs.Reports.{IsReport}
-use Rattle.group_engine.proofs.Outcomes.{reports_by}
+use Rattle.group_engine.proofs.Clients.{reports_by}
 use Rattle.thread_engine.specs.Collected.{stored_all, HaveAllPlaces, any_short, any_stopped, end_by}
 use Rattle.thread_engine.specs.Dealt.{AreBlank}
 use Rattle.thread_engine.specs.RanApart.{stamped, KeepsAnswers, Rejoined, RanApart}

@@ -5,17 +5,17 @@ use Rattle.pm_region.specs.State.{State, IsTelling, cell_now}
 use Rattle.pm_region.specs.Split.{TakesPiece}
 use Rattle.pm_region.specs.Words.{Kept, Surely}
 use Rattle.pm_region.specs.Cell.{Cell, MayBe}
-use Rattle.pm_region.proofs.Narrow.{kept_narrows, surely_kept}
+use Rattle.pm_region.proofs.Clients.{kept_narrows, surely_kept}
 use Rattle.chunk_map.specs.declared.layouts.Geometry.{Geometry}
 use Rattle.chunk_map.specs.Layouts.{chunk_words, part_first}
-use Rattle.store_image.proofs.Places.{layout_numbers}
+use Rattle.store_image.proofs.Clients.{layout_numbers}
 use Rattle.core_log.specs.Log.{Spelled, tail_of, chunk_with, first_of}
-use Rattle.core_log.proofs.LogLaws.{log_kept, words_kept, own_chunk, tail_fits}
+use Rattle.core_log.proofs.Clients.{log_kept, words_kept, own_chunk, tail_fits}
 use Rattle.lazy_alloc.specs.Sets.{Sets, AreSets, chunk_class}
 use Rattle.group_laws.specs.Places.{Place}
 use Rattle.group_laws.specs.MemberViews.{View}
 use Rattle.licence.specs.Licence.{Licensed, grounded, part_at, part_end}
-use Rattle.chunk_map.proofs.LayoutLaws.{chunk_in_part}
+use Rattle.chunk_map.proofs.Clients.{chunk_in_part}
 use Rattle.core_worker.specs.declared.worker.Worker.{Worker}
 use Rattle.core_worker.specs.Ties.{Holds, Stands}
 use Rattle.group_engine.specs.Working.{IsMember}

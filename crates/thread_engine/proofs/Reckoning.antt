@@ -13,12 +13,12 @@ use Rattle.fs_model.specs.Changes.{requests_of}
 use Rattle.chunk_map.specs.declared.layouts.Geometry.{Geometry}
 use Rattle.chunk_map.specs.Layouts.{layout_of, owner, IsLayout}
 use Rattle.store_image.specs.Facts.{In}
-use Rattle.store_image.proofs.SoundFacts.{in_either}
+use Rattle.store_image.proofs.Clients.{in_either}
 use Rattle.group_laws.specs.Places.{Place}
 use Rattle.group_laws.specs.State.{Group}
 use Rattle.group_laws.specs.OpeningImages.{opened}
 use Rattle.group_laws.specs.Regions.{place_at}
-use Rattle.group_laws.proofs.Images.{in_map}
+use Rattle.group_laws.proofs.Clients.{in_map}
 use Rattle.group_board.specs.Seats.{SeatAt}
 use Rattle.headline.specs.Ample.{log_bytes, IsAmpleFor}
 use Rattle.headline.specs.Limits.{version_of}
@@ -31,13 +31,7 @@ use Rattle.engine_laws.specs.Advance.{answered}
 use Rattle.engine_laws.specs.Origins.{Origin}
 use Rattle.engine_laws.specs.Spending.{lines_in, SpendsRoom}
 use Rattle.engine_laws.specs.Rooms.{out_lines, HasRoom}
-use Rattle.engine_laws.proofs.CauseLaws.{raised_by_up, raised_append, causes_up, causes_append, lacks_less, at_least_same}
-use Rattle.engine_laws.proofs.Cores.{of_member, of_core}
-use Rattle.engine_laws.proofs.Numbers.{all_in, all_append, filter_in}
-use Rattle.engine_laws.proofs.RoomMoves.{OwnLines, OwnMoves, fresh, own_room, own_posted}
-use Rattle.engine_laws.proofs.RoomNeeds.{not_ample}
-use Rattle.engine_laws.proofs.SpendingMoves.{core_spends}
-use Rattle.engine_laws.proofs.WhyRefused.{Changes, lawful_changes}
+use Rattle.engine_laws.proofs.Clients.{raised_by_up, raised_append, causes_up, causes_append, lacks_less, at_least_same, of_member, of_core, all_in, all_append, filter_in, OwnLines, OwnMoves, fresh, own_room, own_posted, not_ample, core_spends, Changes, lawful_changes}
 use Rattle.thread_engine.specs.WorkStates.{WorkState, Accepts, Move, wound_down, Leads}
 use Rattle.thread_engine.specs.WorkStates.Move.{accepts, turns, winds_down}
 use Rattle.thread_engine.specs.WorkLaws.{hands_at}

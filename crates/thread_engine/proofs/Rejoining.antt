@@ -9,8 +9,8 @@ use Rattle.pm_region.specs.Split.{AreCuts, Parted, Joined, ComesNext, TellsFrom,
 use Rattle.pm_region.specs.declared.region_sizes.TheConstants.{MOST_BYTES}
 use Rattle.chunk_map.specs.declared.layouts.Geometry.{Geometry}
 use Rattle.chunk_map.specs.Layouts.{layout_of, part_first, chunk_words, total_bytes, IsLayout}
-use Rattle.chunk_map.proofs.LayoutLaws.{numbers_of, chunk_words_whole, part_below, parts_end}
-use Rattle.store_image.proofs.Places.{layout_numbers}
+use Rattle.chunk_map.proofs.Clients.{numbers_of, chunk_words_whole, part_below, parts_end}
+use Rattle.store_image.proofs.Clients.{layout_numbers}
 use Rattle.recover.specs.declared.types.Recovered.{Recovered}
 use Rattle.engine_laws.specs.Parts.{HasSuperblock}
 use Rattle.engine_laws.specs.Origins.{Origin}

@@ -11,18 +11,16 @@ use Rattle.chunk_map.specs.declared.layout_sizes.TheConstants.{GREATEST_CLASS}
 use Rattle.chunk_map.specs.declared.layouts.Geometry.{Geometry}
 use Rattle.chunk_map.specs.Layouts.{layout_of, owner, numbers, IsLayout}
 use Rattle.store_image.specs.Facts.{In}
-use Rattle.store_image.proofs.SoundFacts.{in_front}
-use Rattle.store_image.proofs.SoundLaws.{has_layout}
-use Rattle.store_image.proofs.Places.{superblock_facts}
+use Rattle.store_image.proofs.Clients.{in_front, has_layout, superblock_facts}
 use Rattle.recover.specs.declared.types.Recovered.{Recovered}
 use Rattle.group_laws.specs.MemberViews.{View}
 use Rattle.group_laws.specs.OpeningImages.{opened}
 use Rattle.group_laws.specs.Regions.{groups_in, place_at}
-use Rattle.group_laws.proofs.Images.{in_map}
+use Rattle.group_laws.proofs.Clients.{in_map}
 use Rattle.headline.specs.Ample.{log_bytes, IsAmpleFor}
 use Rattle.headline.specs.Limits.{IsAsked, version_of, changes_asked, is_too_long}
 use Rattle.log_entry.specs.declared.entry_limits.TheConstants.{LAST_PUT_VERSION}
-use Rattle.headline.proofs.Run.{requests-append}
+use Rattle.headline.proofs.Clients.{requests-append}
 use Rattle.engine_laws.specs.Parts.{Groups, group_of, member_of}
 use Rattle.engine_laws.specs.RefusalCauses.{HasCause, HaveCauses}
 use Rattle.engine_laws.specs.WorkerMoves.{Fixed, asked, replied, fixed_of, requests_for, placed, line_in}
@@ -34,13 +32,7 @@ use Rattle.engine_laws.specs.Promises.{IsOrigin}
 use Rattle.engine_laws.specs.Spending.{lines_in}
 use Rattle.engine_laws.specs.Workers.{Sits}
 use Rattle.engine_laws.specs.Advance.{answered}
-use Rattle.engine_laws.proofs.Cores.{of_member}
-use Rattle.engine_laws.proofs.GroupLines.{own_lines, out_within, taken_within}
-use Rattle.engine_laws.proofs.Numbers.{numbered, in_all, filter_in, in_requests}
-use Rattle.engine_laws.proofs.Opens.{opens_last, opens_own}
-use Rattle.engine_laws.proofs.Others.{last_in}
-use Rattle.engine_laws.proofs.RoomSums.{sum_cons}
-use Rattle.engine_laws.proofs.WhyRefused.{Changes, asked_in, cause_served, given_front}
+use Rattle.engine_laws.proofs.Clients.{of_member, own_lines, out_within, taken_within, numbered, in_all, filter_in, in_requests, opens_last, opens_own, last_in, sum_cons, Changes, asked_in, cause_served, given_front}
 use Rattle.thread_engine.specs.WorkStates.{WorkState}
 use Rattle.thread_engine.specs.WorkLaws.{hands_at}
 use Rattle.thread_engine.specs.CoreRuns.{requests_to, fixed_at, CoreRun, AllRan}

@@ -33,8 +33,7 @@ use Rattle.engine_laws.specs.Parts.{group_of, member_of}
 use Rattle.engine_laws.specs.Origins.{Origin}
 use Rattle.engine_laws.specs.Stands.{opening}
 use Rattle.engine_laws.specs.Workers.{Sits}
-use Rattle.engine_laws.proofs.Cores.{of_member, group_low, member_low, core_is}
-use Rattle.engine_laws.proofs.Numbers.{in_all, in_filter}
+use Rattle.engine_laws.proofs.Clients.{of_member, group_low, member_low, core_is, in_all, in_filter}
 use Rattle.core_worker.specs.declared.worker.Worker.{Worker}
 use Rattle.core_worker.specs.Beginning.{answers_of}
 use Rattle.core_worker.specs.Left.{fair}

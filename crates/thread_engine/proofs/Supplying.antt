@@ -5,7 +5,7 @@ use Rattle.pm_region.specs.State.{State, IsTelling, InRange, cell_now}
 use Rattle.pm_region.specs.Words.{Surely}
 use Rattle.chunk_map.specs.declared.layouts.Geometry.{Geometry}
 use Rattle.chunk_map.specs.Layouts.{layout_of}
-use Rattle.store_image.proofs.Places.{layout_numbers}
+use Rattle.store_image.proofs.Clients.{layout_numbers}
 use Rattle.core_log.specs.Log.{StandsIn}
 use Rattle.recover.specs.declared.types.CoreStart.{CoreStart}
 use Rattle.recover.specs.declared.types.Recovered.{Recovered}
@@ -23,7 +23,7 @@ use Rattle.core_worker.proofs.Clients.{start_at, certain_at}
 use Rattle.group_engine.specs.Replayed.{StandsAsFound, BeginsAt}
 use Rattle.group_engine.specs.Shows.{Seat}
 use Rattle.group_engine.specs.Working.{IsMember, SeatFirst, may_take, leads}
-use Rattle.group_engine.proofs.Ranged.{found_agrees}
+use Rattle.group_engine.proofs.Clients.{found_agrees}
 use Rattle.thread_engine.proofs.Places.{get_low, get_at, get_index}
 
 module _ (s : State) (word : ℕ → ℕ) (r : Recovered) (o : Origin) (F : StandsAsFound s word r) (B : BeginsAt s word o) where

@@ -11,7 +11,7 @@ use Rattle.group_laws.specs.State.{Group}
 use Rattle.group_laws.specs.Runs.{Kind, IsStep, Runs}
 use Rattle.group_laws.specs.Runs.Kind.{Split, Join, Post, Lock, Look, LookMail, Take, Unlock, Commit, Mark, Finish, Fail, Withdraw, Doom, Retire, Send, Receive}
 use Rattle.group_laws.specs.MemberViews.{View}
-use Rattle.group_laws.proofs.Others.{step_place}
+use Rattle.group_laws.proofs.Clients.{step_place}
 use Rattle.group_board.specs.Seats.{SeatAt}
 use Rattle.group_board.specs.Views.{after_finish, after_give_up, after_unlock, TidiedIn}
 use Rattle.engine_laws.specs.Spending.{lines_in}

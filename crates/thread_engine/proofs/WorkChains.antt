@@ -8,11 +8,11 @@ use Rattle.fs_model.specs.Cells.{key_of}
 use Rattle.pm_region.specs.State.{State, IsTelling}
 use Rattle.pm_region.specs.Words.{KeepsOutside}
 use Rattle.pm_region.specs.State.{cell_now}
-use Rattle.pm_region.proofs.Moments.{told_at_entry}
+use Rattle.pm_region.proofs.Clients.{told_at_entry}
 use Rattle.log_entry.specs.declared.entry.Body.{Body}
 use Rattle.log_entry.specs.declared.entry.Body.TheVariants as bodies
 use Rattle.log_entry.specs.declared.entry.Entry.{Entry}
-use Rattle.store_image.proofs.SoundFacts.{in_either}
+use Rattle.store_image.proofs.Clients.{in_either}
 use Rattle.group_laws.specs.Places.{owner}
 use Rattle.group_laws.specs.Steps.{bytes_of}
 use Rattle.group_laws.specs.State.{Group}
@@ -29,7 +29,7 @@ use Rattle.core_worker.specs.Answering.{AreGiven, AddsAnswers}
 use Rattle.core_worker.specs.Beginning.{answers_of}
 use Rattle.core_worker.specs.KeyTies.{Offers}
 use Rattle.core_worker.specs.WorkerMoves.{hands_of}
-use Rattle.core_worker.proofs.Given.{adds_none}
+use Rattle.core_worker.proofs.Clients.{adds_none}
 use Rattle.thread_engine.specs.WorkStates.{WorkState, IsAtWork, Accepts, MakesTurn, Move, wound_down, Leads}
 use Rattle.thread_engine.specs.WorkStates.Move.{accepts, turns, winds_down}
 use Rattle.thread_engine.specs.WorkLaws.{in_doubt, HasBlock, KeepsDoubts, hands_at, WorksOff}

@@ -2,35 +2,15 @@
 ghost use Rattle.std.specs.Prelude.{◌≡◌, ℕ, ◌<◌, ◌≤◌, length, true, false, Some, map};
 ghost use Rattle.std.specs.List.{slice_get, AllByRecursion};
 ghost use Rattle.core_worker.specs.declared.worker.Worker.{Worker};
-ghost use Rattle.core_worker.specs.Beginning.{answers_of};
-ghost use Rattle.group_engine.specs.Answers.{HavePlaces, stored};
 ghost use Rattle.group_engine.specs.Replayed.{report_in};
 ghost use Rattle.group_engine.specs.Reports.{IsReport, IsBlank, HasRoomFor};
 ghost use Rattle.thread_engine.specs.Collected.{HaveAllPlaces, stored_all, end_by, any_short, any_stopped};
 
 use core_worker::Worker;
+use group_engine::engine_step::collect;
 use group_engine::run_outcome::{End, Outcome};
 use group_engine::run_report::{Report, report_on};
 use group_engine::types::Stamped;
-
-// Keeps the answers of a worker by the numbers of their requests.
-fn keep_answers(worker: &mut Worker, kept: &mut Vec<Option<Stamped>>, stamp: u64)
-    requires { HavePlaces (length kept.old.items) (answers_of worker.old) }
-    ensures { kept.new.items ≡ stored (answers_of worker.old) stamp kept.old.items }
-{
-    loop {
-        match worker.next_answer() {
-            Some(answer) => {
-                kept[answer.number as usize] = Some(Stamped {
-                    reply: answer.reply,
-                    refusal: answer.refusal,
-                    stamp,
-                });
-            }
-            None => return,
-        }
-    }
-}
 
 // Keeps the answers of all workers.
 fn keep_all(
@@ -42,7 +22,7 @@ fn keep_all(
     ensures { result.items ≡ stored_all workers.items stamp kept.items }
 {
     for mut worker in workers {
-        keep_answers(&mut worker, &mut kept, stamp);
+        collect(&mut worker, &mut kept, stamp);
     }
     kept
 }

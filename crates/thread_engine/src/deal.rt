@@ -1,7 +1,6 @@
 // The requests of a trace, dealt to the cores that own their keys.
 ghost use Rattle.std.specs.Prelude.{◌≡◌, ◌<◌, ◌++◌, ◌∷◌, [], List, length, IfOk, OnOk};
 ghost use Rattle.std.specs.List.{slice_get};
-ghost use Rattle.fs_model.specs.Cells.{key_of};
 ghost use Rattle.engine_laws.specs.Ran.{asked_in};
 ghost use Rattle.group_engine.specs.Shows.{AreEmpty};
 ghost use Rattle.thread_engine.specs.Dealt.{AreDealt, AreBlank};
@@ -9,6 +8,7 @@ ghost use Rattle.thread_engine.specs.Dealt.{AreDealt, AreBlank};
 use fs_errors::Memory;
 use fs_model::Request;
 use fs_text::Line;
+use group_engine::backlog::append;
 use group_engine::types::Stamped;
 use std::alloc::Global;
 use std::collections::VecDeque;
@@ -19,16 +19,6 @@ use std::collections::VecDeque;
 pub struct Dealt {
     pub queues: Vec<VecDeque<(u64, Request)>>,
     pub answers: Vec<Option<Stamped>>,
-}
-
-fn key_in(request: &Request) -> u64
-    ensures { result ≡ key_of request.now }
-{
-    match request {
-        Request::Put { key, .. } => *key,
-        Request::Get { key } => *key,
-        Request::Delete { key } => *key,
-    }
 }
 
 fn empty_queues(alloc: Global, cores: u32) -> Result<Vec<VecDeque<(u64, Request)>>, Memory>
@@ -42,18 +32,6 @@ fn empty_queues(alloc: Global, cores: u32) -> Result<Vec<VecDeque<(u64, Request)
     Ok(queues)
 }
 
-// Puts a request behind those of a queue.
-fn put_behind(
-    queue: &mut VecDeque<(u64, Request)>,
-    number: u64,
-    request: Request,
-) -> Result<(), Memory>
-    ensures { OnOk result (queue.new.items ≡ queue.old.items ++ (number, request) ∷ []) }
-{
-    queue.push_back((number, request))?;
-    Ok(())
-}
-
 // Deals the next request.
 fn deal_one(dealt: &mut Dealt, cores: u32, request: Request) -> Result<(), Memory>
     requires cores { (0 < cores) × (length dealt.old.queues.items ≡ cores) }
@@ -62,8 +40,8 @@ fn deal_one(dealt: &mut Dealt, cores: u32, request: Request) -> Result<(), Memor
     ensures count { length dealt.new.queues.items ≡ length dealt.old.queues.items }
 {
     let number = dealt.answers.len() as u64;
-    let owner = (key_in(&request) % cores as u64) as usize;
-    put_behind(&mut dealt.queues[owner], number, request)?;
+    let owner = (request.key() % cores as u64) as usize;
+    append(&mut dealt.queues[owner], number, request)?;
     dealt.answers.push(None)?;
     Ok(())
 }

@@ -1,7 +1,7 @@
 use Rattle.std.proofs.Common.{ap, sym, ◌∙◌}
 use lib.ListN.{get_elem?}
 use Rattle.group_board.specs.Seats.{SeatAt}
-use Rattle.group_board.proofs.Trials.{small_sound}
+use Rattle.group_board.proofs.Clients.{small_sound}
 use Rattle.atomic_board.specs.GroupTables.{id_of, origin_of}
 use Rattle.atomic_board.proofs.TrialSteps.{at_three}
 use Rattle.atomic_board.proofs.tests.a_mailbox_in_each_direction.Goals as goal

@@ -4,7 +4,7 @@ use Rattle.atomic_board.specs.declared.group_table.GroupTable.{GroupTable}
 use Rattle.atomic_board.specs.GroupTables.{id_of, origin_of, group_place}
 use Rattle.atomic_board.specs.Tokens.{AreTokens}
 use Rattle.group_board.specs.Trials.{small_words}
-use Rattle.group_board.proofs.Trials.{small_sound}
+use Rattle.group_board.proofs.Clients.{small_sound}
 use Rattle.atomic_board.specs.ThreadTrials.{IsStart}
 use Rattle.atomic_board.proofs.TrialSteps.{starts, are_three}
 use Rattle.atomic_board.proofs.tests.three_threads_make_a_thousand_changes_each.Goals as goal

@@ -1,5 +1,5 @@
 use Rattle.std.proofs.Common.{◌∙◌}
-use Rattle.group_board.proofs.Trials.{stays, may_give_up}
+use Rattle.group_board.proofs.Clients.{stays, may_give_up}
 use Rattle.batch_leader.proofs.given_back.is_given_up.Goals as goal
 
 pub finish-requires : goal.finish-requires

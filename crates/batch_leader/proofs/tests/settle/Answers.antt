@@ -1,5 +1,5 @@
 use Rattle.std.proofs.Common.{◌∙◌}
-use Rattle.group_board.proofs.Trials.{stays, may_finish}
+use Rattle.group_board.proofs.Clients.{stays, may_finish}
 use Rattle.batch_leader.proofs.tests.settle.Goals as goal
 
 pub finish-requires : goal.finish-requires

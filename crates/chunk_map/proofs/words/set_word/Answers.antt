@@ -1,5 +1,5 @@
 use Rattle.std.proofs.Common.{◌/◌, arith}
-use Rattle.pm_region.proofs.Runs.{set_run}
+use Rattle.pm_region.proofs.Clients.{set_run}
 use Rattle.chunk_map.proofs.words.set_word.Goals as goal
 
 pub returns-clause-run : goal.returns-clause-run

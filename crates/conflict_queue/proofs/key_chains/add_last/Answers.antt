@@ -27,8 +27,8 @@ returns-clause-extends c =
     let h = c.args.held in
     let at = c.place_of-place.result in
     let within : i < length ns = search rules in
-    let key : c.key_of-key.result ≡ key_of h.request = c.key_of-key.ensures in
-    let place : IsPlace cs (key_of h.request) at = subst (λ (k : ℕ). IsPlace cs k at) key (subst (λ (xs : List Chain). IsPlace xs c.key_of-key.result at) c.deref.ensures.value c.place_of-place.ensures) in
+    let key : c.key-key.result ≡ key_of h.request = c.key-key.ensures in
+    let place : IsPlace cs (key_of h.request) at = subst (λ (k : ℕ). IsPlace cs k at) key (subst (λ (xs : List Chain). IsPlace xs c.key-key.result at) c.deref.ensures.value c.place_of-place.ensures) in
     elim c.if-place-len.branch [
       | then-place-len w ↦
           let lt : at < length cs = search rules in

@@ -1,11 +1,14 @@
-use Rattle.std.proofs.Common.{ℕ, List, sym, subst}
-use Rattle.core_index.specs.Records.{Awaits}
-use Rattle.core_index.specs.Slots.{Place}
-use Rattle.core_index.specs.Index.{known_at}
-use Rattle.core_index.proofs.IndexLaws.{none_awaits}
+use Rattle.std.proofs.Common.{◌≡◌, ℕ, sym, ap, subst}
+use Rattle.core_index.specs.Noted.{Book, Noted}
+use Rattle.core_index.proofs.IndexLaws.{told_index, takes_noted}
 use Rattle.core_index.proofs.death_notes.next_dead.Goals as goal
 
-pub returns-clause-none : goal.returns-clause-none
-returns-clause-none c = λ name waits.
-    let is = c.loop-name.invariant in
-    none_awaits c.loop-name.slots.entries c.loop-name.notices c.args.home is.index c.in_default.ensures.none name (subst (λ (es : List (ℕ × Place)). Awaits (known_at es name.key) c.args.home name.version) (sym is.same) waits)
+pub returns-then-tell_in-clause-index : goal.returns-then-tell_in-clause-index
+returns-then-tell_in-clause-index c =
+    let es = c.loop-name.slots.entries in
+    let a = c.loop-name.start in
+    let e = c.tell_in.new.start in
+    told_index es c.tell_in.new.slots.entries a e c.loop-name.notices c.take.new.self c.args.home c.in-Some.name c.loop-name.invariant.index (takes_noted a e c.loop-name.notices c.take.new.self c.args.home c.in-Some.name c.in-Some.ensures.others c.tell_in.ensures.ahead) c.take.ensures.spare (c.tell_in.ensures.told c.if-tell_in.true) (c.tell_in.ensures.mortal c.if-tell_in.true)
+
+pub next_deleted-requires-clause-none : goal.next_deleted-requires-clause-none
+next_deleted-requires-clause-none c = λ name noted. c.in_default.ensures.none name (subst (λ (b : Book). Noted b c.args.home name) c.in_default.ensures.unchanged noted)

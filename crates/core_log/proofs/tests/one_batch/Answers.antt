@@ -1,7 +1,7 @@
 use Rattle.std.proofs.Common.{◌≡◌, true, is_some, rules}
 use Rattle.pm_region.specs.Steady.{steady_state}
 use Rattle.core_log.specs.Log.{tail_of}
-use Rattle.core_log.proofs.Clients.{may_start}
+use Rattle.core_log.proofs.EntryImages.{may_start}
 use Rattle.core_log.proofs.tests.one_batch.Goals as goal
 
 pub walk-requires-clause-readable : goal.walk-requires-clause-readable

@@ -6,7 +6,7 @@ use Rattle.log_entry.specs.declared.entry.Entry.{Entry}
 use Rattle.log_entry.specs.Reading.{size_of, version_of}
 use Rattle.log_entry.specs.Words.{words_from}
 use Rattle.log_entry.specs.Batches.{scan_of}
-use Rattle.log_entry.proofs.Images.{length-words}
+use Rattle.log_entry.proofs.Clients.{length-words}
 use Rattle.core_log.specs.Walking.{next_entry, IsBetween, peek_at}
 use Rattle.core_log.proofs.WalkLaws.{none_left, found, next_is_between, next_is_spelled, word_of, entry_fits, entry_fields, peek_is}
 use Rattle.core_log.proofs.walking.peek_from.Goals as goal

@@ -8,7 +8,7 @@ use Rattle.log_entry.specs.Spelling.{words_of}
 use Rattle.log_entry.specs.Words.{words_from}
 use Rattle.log_entry.specs.Reading.{read}
 use Rattle.log_entry.specs.Batches.{scan_of}
-use Rattle.log_entry.proofs.Images.{length-words, words_loaded}
+use Rattle.log_entry.proofs.Clients.{length-words, words_loaded}
 use Rattle.core_log.specs.declared.types.Peek.{Peek}
 use Rattle.core_log.specs.Walking.{next_entry, peek_at}
 use Rattle.core_log.proofs.WalkLaws.{next_is_spelled, entry_read, walk_is, walk_ends}

@@ -1,6 +1,6 @@
-use Rattle.chunk_map.proofs.SuperLaws.{on_ok}
+use Rattle.chunk_map.proofs.Clients.{on_ok}
 use Rattle.group_board.specs.Views.{after_post}
-use Rattle.licence.proofs.BlockEvents.{block_licensed, block_outside, block_gained}
+use Rattle.licence.proofs.Clients.{block_licensed, block_outside, block_gained}
 use Rattle.core_worker.proofs.PostedBlocks.{posted_gains}
 use Rattle.core_worker.proofs.post_item.write_for.Goals as goal
 

@@ -1,7 +1,7 @@
 use Rattle.std.proofs.Common.{◌≡◌, ℕ, true, Some, ◌&&◌, not, [], ◌∷◌, sym, ◌∙◌, inl, inr, subst}
 use Rattle.store_image.specs.Facts.{In}
 use Rattle.group_laws.specs.Steps.{is_of, points_at}
-use Rattle.group_laws.proofs.Puts.{In-push, In-append_left, In-append_right}
+use Rattle.group_laws.proofs.Clients.{In-push, In-append_left, In-append_right}
 use Rattle.crash_core.proofs.finishing.add_replaced.Goals as goal
 
 pub returns-in_ok-push : goal.returns-in_ok-push

@@ -2,7 +2,7 @@ use Rattle.std.proofs.Common.{◌≡◌, ℕ, ◌<◌, None, Option, length, get
 use Rattle.std.specs.Ordering.{nat_cmp}
 use Rattle.std.specs.BTreeMap.{get}
 use Rattle.group_laws.specs.declared.types.Block.{Block}
-use Rattle.group_laws.proofs.Puts.{if_into}
+use Rattle.group_laws.proofs.Clients.{if_into}
 use Rattle.crash_core.proofs.Lists.{In-take_more, In-more, In-here}
 use Rattle.crash_core.proofs.Pairs.{number_put}
 use Rattle.crash_core.proofs.finishing.drop_blocks.Goals as goal

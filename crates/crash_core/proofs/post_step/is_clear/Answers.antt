@@ -8,7 +8,7 @@ use Rattle.std.specs.Map.Iter.{deref_pair}
 use Rattle.std.proofs.lemmas.Map.Views.{All-turn}
 use Rattle.group_laws.specs.declared.types.Block.{Block}
 use Rattle.group_laws.specs.Places.{Apart, units}
-use Rattle.group_laws.proofs.Puts.{cond_cases}
+use Rattle.group_laws.proofs.Clients.{cond_cases}
 use Rattle.crash_core.proofs.post_step.is_clear.Goals as goal
 
 pub returns-then-not-is_apart : goal.returns-then-not-is_apart

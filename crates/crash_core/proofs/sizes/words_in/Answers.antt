@@ -1,6 +1,6 @@
 use Rattle.std.proofs.Common.{length, ap, arith}
 use Rattle.log_entry.specs.Words.{words_for}
-use Rattle.log_entry.proofs.Bytes.{length-packed_in}
+use Rattle.log_entry.proofs.Clients.{length-packed_in}
 use Rattle.crash_core.proofs.sizes.words_in.Goals as goal
 
 pub returns-in-Embedded : goal.returns-in-Embedded

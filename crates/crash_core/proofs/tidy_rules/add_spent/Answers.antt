@@ -1,6 +1,6 @@
 use Rattle.std.proofs.Common.{ℕ, [], ◌∷◌, refl, sym, inl, inr, subst}
 use Rattle.store_image.specs.Facts.{In}
-use Rattle.group_laws.proofs.Puts.{In-push, In-append_left, In-append_right}
+use Rattle.group_laws.proofs.Clients.{In-push, In-append_left, In-append_right}
 use Rattle.crash_core.specs.Deaths.{IsSpentIn}
 use Rattle.crash_core.proofs.tidy_rules.add_spent.Goals as goal
 

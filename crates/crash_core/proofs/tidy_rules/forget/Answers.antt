@@ -1,7 +1,7 @@
 use Rattle.std.proofs.Common.{◌≡◌, ℕ, ◌<◌, None, Option, length, get_or, arith, refl, ◌∙◌, inl, inr}
 use Rattle.std.specs.Ordering.{nat_cmp}
 use Rattle.std.specs.BTreeMap.{get}
-use Rattle.group_laws.proofs.Puts.{if_into}
+use Rattle.group_laws.proofs.Clients.{if_into}
 use Rattle.crash_core.proofs.Lists.{In-take_more, In-more, In-here}
 use Rattle.crash_core.proofs.Pairs.{number_put}
 use Rattle.crash_core.proofs.tidy_rules.forget.Goals as goal

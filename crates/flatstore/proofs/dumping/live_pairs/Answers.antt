@@ -2,7 +2,7 @@
 use Rattle.std.proofs.Common.{subst}
 use Rattle.pm_region.specs.Words.{lasts}
 use Rattle.store_image.specs.Facts.{IsStore}
-use Rattle.store_image.proofs.SoundFacts.{store_sound}
+use Rattle.store_image.proofs.Clients.{store_sound}
 use Rattle.flatstore.proofs.dumping.live_pairs.Goals as goal
 
 pub returns-in-Ok-clause-ok : goal.returns-in-Ok-clause-ok

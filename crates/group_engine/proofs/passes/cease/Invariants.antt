@@ -3,8 +3,8 @@ use Rattle.engine_laws.specs.Engine.{Engine}
 use Rattle.group_engine.specs.Passes.{Ends}
 use Rattle.group_engine.proofs.passes.cease.Given as goal
 
-abbrev pub invariant-loop-alloc : goal.invariant-loop-alloc
-invariant-loop-alloc g l =
+abbrev pub invariant-loop : goal.invariant-loop
+invariant-loop g l =
     let C = g.C.Cores in
     let s = g.R.Region.state in
     record {
@@ -13,5 +13,5 @@ invariant-loop-alloc g l =
       cores : C.cores l.cores ≡ C.cores l.fn.cores;
     }
 
-abbrev pub decreases-loop-alloc : goal.decreases-loop-alloc
-decreases-loop-alloc g l = g.C.Cores.left l.cores
+abbrev pub decreases-loop : goal.decreases-loop
+decreases-loop g l = g.C.Cores.left l.cores

@@ -1,8 +1,9 @@
 use Rattle.std.proofs.Common.{◌≡◌, ◌∙◌, true, cond, refl, sym, ap, subst, arith}
+use Rattle.group_engine.specs.Calls.{has_moved}
 use Rattle.group_engine.specs.Passes.{CeasePasses}
 use Rattle.group_engine.proofs.Passing.{no_higher}
 use Rattle.group_engine.proofs.Ending.{cease_none, cease_one}
-use Rattle.group_engine.proofs.passes.cease_pass.Goals.{then-cease_core, else-cease_core}
+use Rattle.group_engine.proofs.passes.cease_pass.Goals.{in-Moved, in-Idle}
 use Rattle.group_engine.proofs.passes.cease_pass.Goals as goal
 
 pub loop-core-init : goal.loop-core-init
@@ -26,26 +27,26 @@ pub loop-core-preserved : goal.loop-core-preserved
 loop-core-preserved g c =
     let left = g.C.Cores.left in
     let I = c.loop-core.invariant in
-    let high = no_higher c.loop-core.moved (left c.loop-core.cores) (left c.args.cores.now) I.less I.idle in
+    let high = no_higher c.loop-core.turn (left c.loop-core.cores) (left c.args.cores.now) I.less I.idle in
     let ends = c.cease_core.ensures in
-    elim c.if-cease_core.branch [
-      | then-cease_core w ↦ record {
-        shown = λ e h. (let r = I.shown e h in let n = ends.ceases r.0 r.1 in (n.0, n.1, cease_one _ _ c.loop-core.core c.loop-core.moved c.cease_core.result c.if-cease_core.moved e r.0 n.0 r.2 n.2 (ap (λ b. cond b true c.loop-core.moved) w.if-cease_core.true ∙ sym w.moved-is)));
+    elim c.match-cease_core.branch [
+      | in-Moved w ↦ record {
+        shown = λ e h. (let r = I.shown e h in let n = ends.ceases r.0 r.1 in (n.0, n.1, cease_one _ _ c.loop-core.core (has_moved c.loop-core.turn) (has_moved c.cease_core.result) (has_moved c.match-cease_core.turn) e r.0 n.0 r.2 n.2 (ap (λ t. cond (has_moved t) true (has_moved c.loop-core.turn)) w.in-Moved.is ∙ ap has_moved (sym w.turn-is))));
         winds = ends.winds;
         cores = ends.cores ∙ I.cores;
         count_is = I.count_is;
         within = (let t = c.loop-core-test.true in omega (arith, t));
-        less = λ q. (let lt = ends.less w.if-cease_core.true in omega (arith, high, lt));
-        idle = λ q. absurd (let is = w.moved-is in cc (q, is));
+        less = λ q. (let lt = ends.less w.in-Moved.is in omega (arith, high, lt));
+        idle = λ q. absurd (let is = w.turn-is in cc (q, is));
       }
-      | else-cease_core w ↦ record {
-        shown = λ e h. (let r = I.shown e h in let n = ends.ceases r.0 r.1 in (n.0, n.1, cease_one _ _ c.loop-core.core c.loop-core.moved c.cease_core.result c.if-cease_core.moved e r.0 n.0 r.2 n.2 (ap (λ b. cond b true c.loop-core.moved) w.if-cease_core.false ∙ sym w.moved-is)));
+      | in-Idle w ↦ record {
+        shown = λ e h. (let r = I.shown e h in let n = ends.ceases r.0 r.1 in (n.0, n.1, cease_one _ _ c.loop-core.core (has_moved c.loop-core.turn) (has_moved c.cease_core.result) (has_moved c.match-cease_core.turn) e r.0 n.0 r.2 n.2 (ap (λ t. cond (has_moved t) true (has_moved c.loop-core.turn)) w.in-Idle.is ∙ ap has_moved (sym w.turn-is))));
         winds = ends.winds;
         cores = ends.cores ∙ I.cores;
         count_is = I.count_is;
         within = (let t = c.loop-core-test.true in omega (arith, t));
-        less = λ q. (let le = ends.idle w.if-cease_core.false in let lt = I.less (sym w.moved-is ∙ q) in omega (arith, lt, le));
-        idle = λ q. (let le = ends.idle w.if-cease_core.false in let was = I.idle (sym w.moved-is ∙ q) in omega (arith, was, le));
+        less = λ q. (let le = ends.idle w.in-Idle.is in let lt = I.less (sym w.turn-is ∙ q) in omega (arith, lt, le));
+        idle = λ q. (let le = ends.idle w.in-Idle.is in let was = I.idle (sym w.turn-is ∙ q) in omega (arith, was, le));
       }
     ]
 
@@ -54,4 +55,4 @@ returns-clause-passes g c = λ e h.
     let I = c.loop-core.invariant in
     let r = I.shown e h in
     let end : c.loop-core.core ≡ g.C.Cores.cores c.args.cores.now = (let f = c.loop-core-test.false in let w = I.within in let n = I.count_is in omega (arith, f, w, n)) in
-    (r.0, r.1, subst (λ k. CeasePasses (g.R.Region.state c.loop-core.region) k c.loop-core.moved e r.0) end r.2)
+    (r.0, r.1, subst (λ k. CeasePasses (g.R.Region.state c.loop-core.region) k (has_moved c.loop-core.turn) e r.0) end r.2)

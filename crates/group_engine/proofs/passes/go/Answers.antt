@@ -1,4 +1,5 @@
 use Rattle.std.proofs.Common.{◌∙◌, ◌<◌, refl, sym, subst, arith}
+use Rattle.group_engine.specs.Calls.{has_moved}
 use Rattle.group_engine.proofs.Passing.{no_goes, more_goes, gone}
 use Rattle.group_engine.proofs.Ending.{keeps_all, keeps_move, ends_on, on_err}
 use Rattle.group_engine.proofs.passes.go.Goals as goal
@@ -16,7 +17,7 @@ pub loop-turn-preserved : goal.loop-turn-preserved
 loop-turn-preserved g c =
     let I = c.loop-turn.invariant in
     record {
-      shown = λ e h. (let r = I.shown e h in let n = c.in_ok-advance.ensures.moved r.0 r.1 in (n.0, n.1, more_goes g.C.Cores.moves c.args.core c.loop-turn.turn c.in_ok-advance.field-0 e r.0 n.0 r.2 n.2, keeps_move e.engine r.0.engine n.0.engine c.args.core c.in_ok-advance.field-0 r.3 (g.met.C.Cores.turns r.0 n.0 c.args.core c.in_ok-advance.field-0 n.2)));
+      shown = λ e h. (let r = I.shown e h in let n = c.in_ok-advance.ensures.moved r.0 r.1 in (n.0, n.1, more_goes g.C.Cores.moves c.args.core c.loop-turn.turn (has_moved c.in_ok-advance.field-0) e r.0 n.0 r.2 n.2, keeps_move e.engine r.0.engine n.0.engine c.args.core (has_moved c.in_ok-advance.field-0) r.3 (g.met.C.Cores.turns r.0 n.0 c.args.core (has_moved c.in_ok-advance.field-0) n.2)));
       cores = c.in_ok-advance.ensures.cores ∙ I.cores;
       within = (let t = c.loop-turn-test.true in omega (arith, t));
     }

@@ -1,18 +1,20 @@
-use Rattle.std.proofs.Common.{◌≡◌, ◌<◌, ◌≤◌, true, false}
+use Rattle.std.proofs.Common.{◌≡◌, ◌<◌, ◌≤◌}
 use Rattle.group_engine.specs.Runs.{RunState}
 use Rattle.group_engine.specs.Passes.{Keeps, SettlesSoFar}
+use Rattle.core_worker.specs.declared.types.Turn.TheVariants.{Moved, Idle}
+use Rattle.group_engine.specs.Calls.{has_moved}
 use Rattle.group_engine.proofs.passes.settle.Given as goal
 
-abbrev pub invariant-loop-moved : goal.invariant-loop-moved
-invariant-loop-moved g l =
+abbrev pub invariant-loop-turn : goal.invariant-loop-turn
+invariant-loop-turn g l =
     let C = g.C.Cores in
     let s = g.R.Region.state in
     record {
-      shown : (e : RunState g.row.C-Worker.Denot) → C.shows (s l.fn.region) l.fn.cores e → (now : RunState g.row.C-Worker.Denot) × C.shows (s l.region) l.cores now × SettlesSoFar C.moves l.core l.moved e now × Keeps e.engine now.engine;
+      shown : (e : RunState g.row.C-Worker.Denot) → C.shows (s l.fn.region) l.fn.cores e → (now : RunState g.row.C-Worker.Denot) × C.shows (s l.region) l.cores now × SettlesSoFar C.moves l.core (has_moved l.turn) e now × Keeps e.engine now.engine;
       cores : C.cores l.cores ≡ C.cores l.fn.cores;
-      less : l.moved ≡ true → C.left l.cores < C.left l.fn.cores;
-      idle : l.moved ≡ false → C.left l.cores ≤ C.left l.fn.cores;
+      less : l.turn ≡ Moved → C.left l.cores < C.left l.fn.cores;
+      idle : l.turn ≡ Idle → C.left l.cores ≤ C.left l.fn.cores;
     }
 
-abbrev pub decreases-loop-moved : goal.decreases-loop-moved
-decreases-loop-moved g l = g.C.Cores.left l.cores
+abbrev pub decreases-loop-turn : goal.decreases-loop-turn
+decreases-loop-turn g l = g.C.Cores.left l.cores

@@ -1,8 +1,7 @@
 use Rattle.std.proofs.Common.{◌<◌, ◌/◌, ℕ}
 use Rattle.chunk_map.specs.Layouts.{layout_of}
 use Rattle.store_image.specs.Facts.{IsStore}
-use Rattle.store_image.proofs.Places.{superblock_facts}
-use Rattle.store_image.proofs.SoundFacts.{sound_store}
+use Rattle.store_image.proofs.Clients.{superblock_facts, sound_store}
 use Rattle.group_laws.specs.Places.{Place, IsPlace}
 use Rattle.group_laws.proofs.OpeningTidied as laws
 use Rattle.group_laws.proofs.openings.every_image.Goals as goal

@@ -1,5 +1,5 @@
 use Rattle.std.proofs.Common.{◌≡◌, ◌+◌, ◌-◌, ◌∙◌, ap, arith, take, drop}
-use Rattle.log_entry.proofs.Images.{slice_words}
+use Rattle.log_entry.proofs.Clients.{slice_words}
 use Rattle.image_yardstick.proofs.chunks.log_words.Goals as goal
 
 pub returns : goal.returns

@@ -1,5 +1,5 @@
 use Rattle.std.proofs.Common.{◌∙◌, sym, ap, Ok, slice_index}
-use Rattle.store_image.proofs.ReadLaws.{log_read}
+use Rattle.store_image.proofs.Clients.{log_read}
 use Rattle.image_yardstick.proofs.chunks.read_chunk.Goals as goal
 
 pub returns-in_ok-scanned-in-Ok-Log : goal.returns-in_ok-scanned-in-Ok-Log

@@ -1,7 +1,7 @@
 use Rattle.std.proofs.Common.{ℕ, ◌∙◌, sym, ap, slice_index}
 use Rattle.store_image.specs.Winners.{winner_in}
 use Rattle.store_image.specs.Soundness.{first_some, winner_fault}
-use Rattle.store_image.proofs.Loops.{first_at}
+use Rattle.store_image.proofs.Clients.{first_at}
 use Rattle.image_yardstick.proofs.entry_rules.block_fault.Goals as goal
 
 pub returns-in-Some : goal.returns-in-Some

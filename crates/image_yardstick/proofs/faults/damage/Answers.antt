@@ -1,6 +1,6 @@
 use Rattle.std.proofs.Common.{ℕ, ◌∙◌, sym, ap, slice_index}
 use Rattle.store_image.specs.Soundness.{clash_fault, block_fault}
-use Rattle.store_image.proofs.Loops.{blocks_decide}
+use Rattle.store_image.proofs.Clients.{blocks_decide}
 use Rattle.image_yardstick.proofs.faults.damage.Goals as goal
 
 pub returns : goal.returns

@@ -1,7 +1,6 @@
 use Rattle.std.proofs.Common.{ℕ, slice_index, Some}
 use Rattle.store_image.specs.declared.types.Fault.TheVariants.{NotARegion}
-use Rattle.store_image.proofs.Loops.{judged, not_a_region}
-use Rattle.store_image.proofs.SoundFacts.{none_tells}
+use Rattle.store_image.proofs.Clients.{judged, not_a_region, none_tells}
 use Rattle.image_yardstick.proofs.faults.first_fault.Goals as goal
 
 pub returns-in-Err : goal.returns-in-Err

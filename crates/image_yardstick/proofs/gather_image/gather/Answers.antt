@@ -2,7 +2,7 @@ use Rattle.std.proofs.Common.{ℕ, ◌∙◌, ap, slice_index}
 use Rattle.std.specs.Option.{option_or}
 use Rattle.store_image.specs.Parts.{part_entries}
 use Rattle.store_image.specs.Soundness.{part_fault}
-use Rattle.store_image.proofs.Loops.{first_next, first_end, list_next, list_end}
+use Rattle.store_image.proofs.Clients.{first_next, first_end, list_next, list_end}
 use Rattle.image_yardstick.proofs.gather_image.gather.Goals as goal
 
 pub loop-part-preserved : goal.loop-part-preserved

@@ -3,7 +3,7 @@ use Rattle.std.specs.Option.{option_or}
 use Rattle.std.specs.Prelude.{option_map}
 use Rattle.store_image.specs.Parts.{chunk_entries}
 use Rattle.store_image.specs.Soundness.{damaged, chunk_rule}
-use Rattle.store_image.proofs.Loops.{first_next, first_end, list_next, list_end}
+use Rattle.store_image.proofs.Clients.{first_next, first_end, list_next, list_end}
 use Rattle.image_yardstick.proofs.gather_image.gather_part.Goals as goal
 
 pub loop-chunk-preserved : goal.loop-chunk-preserved

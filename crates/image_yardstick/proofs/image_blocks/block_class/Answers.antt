@@ -1,6 +1,6 @@
 use Rattle.std.proofs.Common.{arith}
 use Rattle.store_image.specs.Parts.{chunk_at}
-use Rattle.store_image.proofs.Places.{layout_numbers, chunk_ends, chunk_within}
+use Rattle.store_image.proofs.Clients.{layout_numbers, chunk_ends, chunk_within}
 use Rattle.image_yardstick.proofs.image_blocks.block_class.Goals as goal
 
 pub overflow_mul-at : goal.overflow_mul-at

@@ -3,7 +3,7 @@ use Rattle.std.specs.Option.{option_copied}
 use Rattle.chunk_map.specs.Layouts.{owner}
 use Rattle.store_image.specs.Parts.{held}
 use Rattle.store_image.specs.Winners.{cell_by}
-use Rattle.store_image.proofs.Listings.{cell_at}
+use Rattle.store_image.proofs.Clients.{cell_at}
 use Rattle.image_yardstick.proofs.image_cells.cell.Goals as goal
 
 pub returns-in_ok-value-in-Pointer : goal.returns-in_ok-value-in-Pointer

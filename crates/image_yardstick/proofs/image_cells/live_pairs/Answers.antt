@@ -1,7 +1,7 @@
 use Rattle.std.proofs.Common.{ℕ, ◌++◌, [], ◌∙◌, ap, slice_index, get_or}
 use Rattle.store_image.specs.Winners.{recovered, keys_of}
 use Rattle.store_image.specs.Listing.{with_pair}
-use Rattle.store_image.proofs.Listings.{pair_added, pairs_listed}
+use Rattle.store_image.proofs.Clients.{pair_added, pairs_listed}
 use Rattle.image_yardstick.proofs.image_cells.live_pairs.Goals as goal
 
 pub loop-key-preserved : goal.loop-key-preserved

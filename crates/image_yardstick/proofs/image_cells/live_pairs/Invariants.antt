@@ -1,6 +1,6 @@
 use Rattle.std.proofs.Common.{◌≡◌, ◌++◌, drop, slice_index}
 use Rattle.store_image.specs.Winners.{recovered}
-use Rattle.store_image.proofs.Listings.{pairs_of}
+use Rattle.store_image.proofs.Clients.{pairs_of}
 use Rattle.image_yardstick.proofs.image_cells.live_pairs.Given as goal
 
 -- the pairs of the keys so far, and those of the rest

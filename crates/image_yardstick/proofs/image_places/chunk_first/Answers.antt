@@ -1,5 +1,5 @@
 use Rattle.std.proofs.Common.{◌+◌, ◌*◌, arith}
-use Rattle.store_image.proofs.Places.{layout_numbers, chunk_number, chunk_ends}
+use Rattle.store_image.proofs.Clients.{layout_numbers, chunk_number, chunk_ends}
 use Rattle.image_yardstick.proofs.image_places.chunk_first.Goals as goal
 
 pub overflow_mul-result : goal.overflow_mul-result

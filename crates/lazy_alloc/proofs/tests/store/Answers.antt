@@ -4,7 +4,7 @@ use Rattle.chunk_map.specs.Layouts.{IsLayout, has_class}
 use Rattle.lazy_alloc.specs.Sets.{class_at}
 use Rattle.lazy_alloc.proofs.ClassLaws.{fits_class}
 use Rattle.lazy_alloc.proofs.SetLaws.{some_of}
-use Rattle.lazy_alloc.proofs.Clients.{part_still, first_taken, taken_used, taken_class, may_write, may_read, takes_same}
+use Rattle.lazy_alloc.proofs.TakenLaws.{part_still, first_taken, taken_used, taken_class, may_write, may_read, takes_same}
 use Rattle.lazy_alloc.proofs.tests.store.Goals as goal
 
 pub write_value-requires-clause-used : goal.write_value-requires-clause-used

@@ -2,7 +2,7 @@ use Rattle.std.proofs.Common.{◌≡◌, ◌∙◌, ℕ, true, ⊎_elim, refl, a
 use Rattle.std.proofs.lemmas.Bool.{cases_eq}
 use Rattle.chunk_map.specs.declared.layouts.Geometry.{Geometry}
 use Rattle.chunk_map.specs.Layouts.{is_class}
-use Rattle.lazy_alloc.proofs.Clients.{takes_same}
+use Rattle.lazy_alloc.proofs.TakenLaws.{takes_same}
 use Rattle.lazy_alloc.proofs.tests.take.Goals as goal
 
 pub take-requires : goal.take-requires

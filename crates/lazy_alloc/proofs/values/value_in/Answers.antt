@@ -1,7 +1,7 @@
 use Rattle.std.proofs.Common.{◌≡◌, ◌+◌, ◌*◌, rules}
 use Rattle.pm_region.specs.Words.{lasts}
 use Rattle.log_entry.specs.Words.{words_from}
-use Rattle.log_entry.proofs.Images.{words_loaded}
+use Rattle.log_entry.proofs.Clients.{words_loaded}
 use Rattle.lazy_alloc.proofs.values.value_in.Goals as goal
 
 pub returns : goal.returns

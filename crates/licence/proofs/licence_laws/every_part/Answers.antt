@@ -1,4 +1,4 @@
-use Rattle.group_laws.proofs.PartWords.{licensed_words}
+use Rattle.group_laws.proofs.Clients.{licensed_words}
 use Rattle.licence.proofs.Elsewhere.{narrowed, beside}
 use Rattle.licence.proofs.licence_laws.every_part.Goals as goal
 

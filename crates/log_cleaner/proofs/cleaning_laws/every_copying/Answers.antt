@@ -1,4 +1,4 @@
-use Rattle.pm_region.proofs.Moments.{at_exit}
+use Rattle.pm_region.proofs.Clients.{at_exit}
 use Rattle.licence.specs.Licence.{Licensed}
 use Rattle.log_cleaner.proofs.Licences.{copies_licensed, copies_outside}
 use Rattle.log_cleaner.proofs.cleaning_laws.every_copying.Goals as goal

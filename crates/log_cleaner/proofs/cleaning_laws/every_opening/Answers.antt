@@ -1,4 +1,4 @@
-use Rattle.core_log.proofs.LogLaws.{own_open}
+use Rattle.core_log.proofs.Clients.{own_open}
 use Rattle.log_cleaner.proofs.Opened.{open_up, open_else, open_empty}
 use Rattle.log_cleaner.proofs.cleaning_laws.every_opening.Goals as goal
 

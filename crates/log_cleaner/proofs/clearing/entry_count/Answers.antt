@@ -1,8 +1,7 @@
 use Rattle.std.proofs.Common.{ℕ, List, length, ap, arith}
 use Rattle.log_entry.specs.declared.entry.Entry.{Entry}
-use Rattle.core_log.proofs.Clients.{may_start}
+use Rattle.core_log.proofs.Clients.{may_start, all_behind, ordered}
 use Rattle.core_log.specs.Walking.{entries_in, words_in}
-use Rattle.core_log.proofs.Steps.{all_behind, ordered}
 use Rattle.log_cleaner.proofs.clearing.entry_count.Goals as goal
 
 pub loop-found-init : goal.loop-found-init

@@ -1,7 +1,7 @@
 use Rattle.std.proofs.Common.{◌+◌, ℕ, List, [], ◌∷◌, ◌++◌, length, sym, ◌∙◌, ap, arith, length-append, append_assoc}
 use Rattle.pm_region.specs.Words.{lasts}
 use Rattle.log_entry.specs.Words.{words_from}
-use Rattle.core_log.proofs.WalkLaws.{words_more}
+use Rattle.core_log.proofs.Clients.{words_more}
 use Rattle.log_cleaner.proofs.collect_copies.copy_words.Goals as goal
 
 pub loop-i-preserved : goal.loop-i-preserved

@@ -1,14 +1,13 @@
 use Rattle.std.proofs.Common.{◌≡◌, ◌+◌, ⊎_elim, ℕ, List, [], ◌∷◌, length, refl, sym, ◌∙◌, ap, arith}
 use Rattle.pm_region.specs.State.{State, IsTelling, cell_now}
 use Rattle.pm_region.specs.Words.{KeepsOutside}
-use Rattle.pm_region.proofs.Moments.{told_at_entry}
-use Rattle.pm_region.proofs.Runs.{all_kept}
+use Rattle.pm_region.proofs.Clients.{told_at_entry, all_kept}
 use Rattle.chunk_map.specs.Layouts.{chunk_words}
 use Rattle.log_entry.specs.declared.entry.Entry.{Entry}
 use Rattle.core_log.specs.Chunk.{lines_for}
 use Rattle.core_log.specs.Log.{LogState, open_first}
 use Rattle.core_log.specs.Walking.{entries_in}
-use Rattle.core_log.proofs.BatchLaws.{some_opens}
+use Rattle.core_log.proofs.Clients.{some_opens}
 use Rattle.log_standing.specs.NameCounts.{StandingState, count_in}
 use Rattle.log_standing.specs.ChunkCounts.{IsStandingOf}
 use Rattle.log_cleaner.specs.CopyBatch.{Adds, batch_in, copies_in, SameElse}

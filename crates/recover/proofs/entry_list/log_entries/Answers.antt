@@ -2,7 +2,7 @@ use Rattle.std.proofs.Common.{Some, sym, ◌∙◌, ap, subst}
 use Rattle.pm_region.specs.Words.{lasts}
 use Rattle.chunk_map.specs.declared.layouts.Geometry.{Geometry}
 use Rattle.store_image.specs.Parts.{all_entries}
-use Rattle.store_image.proofs.Loops.{judged, not_a_region}
+use Rattle.store_image.proofs.Clients.{judged, not_a_region}
 use Rattle.recover.proofs.FoundLaws.{superblock_kept, superblock_broken, covers_all, store_found}
 use Rattle.recover.proofs.EntryListLaws.{logs_ok, logs_err}
 use Rattle.recover.proofs.entry_list.log_entries.Goals as goal

@@ -7,8 +7,8 @@ use Rattle.chunk_map.specs.declared.layouts.Geometry.{Geometry}
 use Rattle.chunk_map.specs.declared.heads.Head.TheVariants.{Log}
 use Rattle.chunk_map.specs.Checked.{FitsHead}
 use Rattle.store_image.specs.Soundness.{rule_of}
-use Rattle.store_image.proofs.ReadLaws.{log_read}
-use Rattle.log_entry.proofs.Images.{words_loaded}
+use Rattle.store_image.proofs.Clients.{log_read}
+use Rattle.log_entry.proofs.Clients.{words_loaded}
 use Rattle.recover.proofs.RegionLaws.{chunk_lies, payload_lies, head_read}
 use Rattle.recover.proofs.SpellLaws.{log_spelled, whole_of, lie_lower}
 use Rattle.recover.proofs.gather_region.read_chunk.Goals as goal

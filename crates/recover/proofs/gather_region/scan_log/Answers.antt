@@ -1,5 +1,5 @@
 use Rattle.std.proofs.Common.{sym, ◌∙◌, arith}
-use Rattle.log_entry.proofs.Whole.{whole_spelled}
+use Rattle.log_entry.proofs.Clients.{whole_spelled}
 use Rattle.store_image.specs.Scanned.{shown}
 use Rattle.recover.proofs.SpellLaws.{places_lie}
 use Rattle.recover.proofs.gather_region.scan_log.Goals as goal

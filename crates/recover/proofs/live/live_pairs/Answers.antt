@@ -3,7 +3,7 @@ use Rattle.pm_region.specs.Words.{lasts}
 use Rattle.chunk_map.specs.declared.layouts.Geometry.{Geometry}
 use Rattle.store_image.specs.Winners.{recovered}
 use Rattle.store_image.specs.Listing.{ListsCells}
-use Rattle.store_image.proofs.Loops.{judged, not_a_region}
+use Rattle.store_image.proofs.Clients.{judged, not_a_region}
 use Rattle.recover.proofs.FoundLaws.{superblock_kept, superblock_broken, covers_all, store_found}
 use Rattle.recover.proofs.LiveLaws.{lists_ok, lists_err}
 use Rattle.recover.proofs.live.live_pairs.Goals as goal

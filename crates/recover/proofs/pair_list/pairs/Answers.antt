@@ -5,8 +5,7 @@ use Rattle.chunk_map.specs.declared.layouts.Geometry.{Geometry}
 use Rattle.store_image.specs.Winners.{recovered}
 use Rattle.store_image.specs.Listing.{ListsCells}
 use Rattle.store_image.specs.Facts.{In}
-use Rattle.store_image.proofs.Places.{layout_numbers}
-use Rattle.store_image.proofs.Listings.{pairs_of, lists_cells}
+use Rattle.store_image.proofs.Clients.{layout_numbers, pairs_of, lists_cells}
 use Rattle.core_index.specs.Records.{live_version}
 use Rattle.core_index.specs.Index.{known_at}
 use Rattle.recover.specs.declared.types.CoreStart.{CoreStart}

@@ -2,7 +2,7 @@ use Rattle.std.proofs.Common.{◌≡◌, ◌++◌}
 use Rattle.pm_region.specs.State.{IsTelling}
 use Rattle.pm_region.specs.Words.{lasts}
 use Rattle.store_image.specs.Winners.{recovered}
-use Rattle.store_image.proofs.Listings.{pairs_of}
+use Rattle.store_image.proofs.Clients.{pairs_of}
 use Rattle.recover.proofs.pair_list.pairs.Given as goal
 
 -- the pairs so far, and those of the keys that are left

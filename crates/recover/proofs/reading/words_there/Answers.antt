@@ -2,7 +2,7 @@ use Rattle.std.proofs.Common.{◌∙◌, ap, sym}
 use Rattle.pm_region.specs.Words.{lasts}
 use Rattle.log_entry.specs.Reading.{size_of}
 use Rattle.log_entry.specs.Words.{words_from}
-use Rattle.log_entry.proofs.Images.{words_loaded}
+use Rattle.log_entry.proofs.Clients.{words_loaded}
 use Rattle.recover.proofs.reading.words_there.Goals as goal
 
 pub returns-clause-told : goal.returns-clause-told

@@ -3,8 +3,7 @@ use Rattle.pm_region.specs.State.{IsTelling}
 use Rattle.pm_region.specs.Words.{lasts}
 use Rattle.store_image.specs.declared.types.Fault.TheVariants.{NotARegion}
 use Rattle.store_image.specs.Soundness.{first_fault}
-use Rattle.store_image.proofs.Loops.{judged, not_a_region}
-use Rattle.store_image.proofs.SoundFacts.{none_tells}
+use Rattle.store_image.proofs.Clients.{judged, not_a_region, none_tells}
 use Rattle.recover.proofs.FoundLaws.{superblock_kept, superblock_broken, covers_all}
 use Rattle.recover.proofs.recover_region.first_fault.Goals as goal
 

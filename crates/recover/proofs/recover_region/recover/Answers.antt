@@ -2,7 +2,7 @@ use Rattle.std.proofs.Common.{Some, sym, ◌∙◌, subst}
 use Rattle.pm_region.specs.Words.{lasts}
 use Rattle.chunk_map.specs.declared.layouts.Geometry.{Geometry}
 use Rattle.chunk_map.specs.Layouts.{total_bytes}
-use Rattle.store_image.proofs.Loops.{judged, not_a_region}
+use Rattle.store_image.proofs.Clients.{judged, not_a_region}
 use Rattle.recover.specs.Recovering.{IsOf}
 use Rattle.recover.proofs.StandLaws.{all_stand, restored, refused, restored_made}
 use Rattle.recover.proofs.FoundLaws.{superblock_kept, superblock_broken, covers_all, store_found, rules_kept}

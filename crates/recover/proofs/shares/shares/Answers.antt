@@ -1,38 +1,86 @@
-use Rattle.std.proofs.Common.{◌≡◌, inl, refl, [], ◌∷◌, ◌++◌, sym, ◌∙◌, ap, subst, append_assoc, append-nil, arith}
-use Rattle.std.proofs.lemmas.List.{nil_from_length}
-use Rattle.store_image.specs.Facts.{In}
-use Rattle.store_image.proofs.SoundFacts.{in_back}
-use Rattle.recover.specs.Standing.{standees_at}
+use Rattle.std.proofs.Common.{◌≡◌, ◌<◌, ◌≤◌, List, length, get_or, map, take, take_all, refl, sym, ◌∙◌, ap, subst, arith}
+use Rattle.std.specs.Prelude.{Some, None}
+use Rattle.pm_region.specs.Words.{lasts}
+use Rattle.store_image.specs.declared.types.PlacedEntry.{PlacedEntry}
+use Rattle.recover.specs.declared.found_entries.Found.{Found}
+use Rattle.recover.specs.FoundEntries.{placed_at, entries_at, Stands}
+use Rattle.recover.specs.Standing.{standee_at}
+use Rattle.recover.specs.Shares.{AreShares}
 use Rattle.recover.proofs.ListLaws.{all_at}
-use Rattle.recover.proofs.ShareLaws.{given_none, given_more, are_shares, none_above}
+use Rattle.recover.proofs.NameLaws.{any_default}
+use Rattle.recover.proofs.KeyLaws.{run_of, first_key, new_key, run_keys, run_below, run_wins, have_key, lacks_key, split_run, stand_all}
+use Rattle.recover.proofs.ShareLaws.{shares_none, spelled_none, shares_more}
 use Rattle.recover.proofs.shares.shares.Goals as goal
 
-pub loop-winner-init : goal.loop-winner-init
-loop-winner-init c = record {
-  count = c.in_ok-shares.ensures.count;
-  split = sym c.into_iter-winner-iterator.ensures.into_iter_gives.0;
-  given = λ es is has. given_none c.args.layout.now (standees_at c.args.standing) c.in_ok-shares.shares.items c.args.standing
-      (λ k d lt. all_at (λ s. (s.records.items ≡ []) × (s.pointers.items ≡ [])) c.in_ok-shares.shares.items k d c.in_ok-shares.ensures.empty (let count = c.in_ok-shares.ensures.count in omega (arith, lt, count)))
-      (λ k. refl);
-}
+abbrev nothing : Found
+nothing = record { key = 0; version = 0; at = 0 }
 
-pub loop-winner-preserved : goal.loop-winner-preserved
-loop-winner-preserved c =
-    let inv = c.loop-winner.invariant in
-    let done = c.loop-winner.yielded in
-    let x = c.in-Some.winner in
-    let split : c.args.winners.items ≡ done ++ (x ∷ c.next.new.self.rest.items) = inv.split ∙ ap (λ xs. done ++ xs) c.in-Some.ensures.steps.0 in
-    let there : In x c.args.winners.items = subst (In x) (sym split) (in_back x done (x ∷ c.next.new.self.rest.items) (inl refl)) in
+pub give_key-requires-clause-below : goal.give_key-requires-clause-below
+give_key-requires-clause-below g c =
+    let fs = c.args.sorted.now in
+    let r = c.key_run-run.result in
+    let run = c.key_run-run.ensures in
+    let high = run.high in
+    let end = run.end in
+    let x = get_or fs r.winner nothing in
+    run_below fs c.loop-at.at r run x (any_default fs r.winner nothing x (omega (arith, high, end)))
+
+pub loop-at-init : goal.loop-at-init
+loop-at-init g c =
+    let l = c.args.layout.now in
+    let shares = c.in_ok-shares.shares.items in
+    let count = c.in_ok-shares.ensures.count in
+    let empty = c.in_ok-shares.ensures.empty in
     record {
-      count = c.in_ok-give.ensures.count;
-      split = split ∙ sym (append_assoc done (x ∷ []) c.next.new.self.rest.items);
-      given = λ es is has. given_more c.args.layout.now (standees_at c.args.standing) done x c.loop-winner.shares.items c.give.new.shares.items c.loop-winner.standing c.give.new.standing
-          c.in_ok-give.ensures.gives (none_above c.args.layout.now c.args.standing es has x c.args.winners.items is there) (inv.given es is has);
+      count = count;
+      within = omega arith;
+      fresh = first_key c.args.sorted.now c.requires.order;
+      spelled = spelled_none l shares count empty;
+      told = λ telling found. shares_none l shares count empty;
     }
 
-pub returns-clause-shares : goal.returns-clause-shares
-returns-clause-shares c = λ es is has.
-    let inv = c.loop-winner.invariant in
-    let none = nil_from_length c.loop-winner.winner-iterator.rest.items (sym c.loop-winner.winner-iterator.rest.ok.0 ∙ c.in-None.ensures.steps.0) in
-    let all = inv.split ∙ ap (λ xs. c.loop-winner.yielded ++ xs) none ∙ append-nil c.loop-winner.yielded in
-    are_shares c.args.layout.now c.args.standing es has c.loop-winner.yielded c.loop-winner.shares.items c.loop-winner.standing (sym all ∙ is) (inv.given es is has)
+pub loop-at-preserved : goal.loop-at-preserved
+loop-at-preserved g c =
+    let l = c.args.layout.now in
+    let image = lasts (g.R.Region.state c.args.region.now) in
+    let inv = c.loop-at.invariant in
+    let fs = c.args.sorted.now in
+    let at = c.loop-at.at in
+    let r = c.key_run-run.result in
+    let run = c.key_run-run.ensures in
+    let high = run.high in
+    let end = run.end in
+    let x = get_or fs r.winner nothing in
+    let here : x ≡ get_or fs r.winner x = any_default fs r.winner nothing x (omega (arith, high, end)) in
+    record {
+      count = c.in_ok-fault.ensures.count;
+      within = run.end;
+      fresh = new_key fs c.requires.order at r run;
+      spelled = c.in_ok-fault.ensures.spelled c.in_default.is inv.spelled;
+      told = λ telling found.
+          let stands : Stands l image x = all_at (Stands l image) fs r.winner nothing found (omega (arith, high, end)) in
+          let given = c.in_ok-fault.ensures.told telling stands in
+          subst (λ (es : List PlacedEntry). AreShares l es c.give_key.new.shares.items) (sym (split_run fs at r run x here l image))
+          (shares_more l (entries_at l image (take at fs)) (entries_at l image (run_of fs at r)) (placed_at l image x) (map (standee_at l) (run_of fs at r))
+          (lacks_key fs at r run x here l image inv.fresh) (have_key fs at r run x here l image) (run_wins fs at r run x here l image)
+          (λ v. stand_all l image x.key v (run_of fs at r) (run_keys fs at r run x here))
+          c.loop-at.shares.items c.give_key.new.shares.items x refl refl given.1 (inv.told telling found));
+    }
+
+pub returns-clause-told : goal.returns-clause-told
+returns-clause-told g c = λ telling found.
+    let image = lasts (g.R.Region.state c.args.region.now) in
+    let fs = c.args.sorted.now in
+    let all : take c.loop-at.at fs ≡ fs = take_all c.loop-at.at fs c.loop-at-test.false in
+    subst (λ (xs : List Found). AreShares c.args.layout.now (entries_at c.args.layout.now image xs) c.loop-at.shares.items) all (c.loop-at.invariant.told telling found)
+
+pub returns-in-Some-clause-told : goal.returns-in-Some-clause-told
+returns-in-Some-clause-told g c = λ telling found.
+    let l = c.args.layout.now in
+    let image = lasts (g.R.Region.state c.args.region.now) in
+    let fs = c.args.sorted.now in
+    let r = c.key_run-run.result in
+    let high = c.key_run-run.ensures.high in
+    let end = c.key_run-run.ensures.end in
+    let stands : Stands l image (get_or fs r.winner nothing) = all_at (Stands l image) fs r.winner nothing found (omega (arith, high, end)) in
+    cc (sym (c.in_ok-fault.ensures.told telling stands).0 ∙ c.in-Some.is)

@@ -1,14 +1,21 @@
-use Rattle.std.proofs.Common.{◌≡◌, List, ◌++◌, length}
-use Rattle.store_image.specs.declared.types.PlacedEntry.{PlacedEntry}
-use Rattle.recover.specs.Winning.{winners_of}
-use Rattle.recover.specs.Standing.{HasStandees, standees_at}
-use Rattle.recover.proofs.ShareLaws.{AllGiven}
+use Rattle.std.proofs.Common.{◌≡◌, ◌-◌, ◌≤◌, length, take}
+use Rattle.pm_region.specs.State.{IsTelling}
+use Rattle.pm_region.specs.Words.{lasts}
+use Rattle.recover.specs.FoundEntries.{AreFound, entries_at}
+use Rattle.recover.specs.Shares.{AreShares, AreSpelledShares}
+use Rattle.recover.proofs.KeyLaws.{IsNewKey}
 use Rattle.recover.proofs.shares.shares.Given as goal
 
--- the winners so far were given, and the rest are left
-abbrev pub invariant-loop-winner : goal.invariant-loop-winner
-invariant-loop-winner l = record {
+-- the keys so far were given
+abbrev pub invariant-loop-at : goal.invariant-loop-at
+invariant-loop-at g l = record {
   count : length l.shares.items ≡ l.layout.cores;
-  split : l.fn.winners.items ≡ l.yielded ++ l.winner-iterator.rest.items;
-  given : (es : List PlacedEntry) → l.fn.winners.items ≡ winners_of es → HasStandees l.fn.standing es → AllGiven l.layout (standees_at l.fn.standing) l.yielded l.shares.items l.standing;
+  within : l.at ≤ length l.sorted;
+  fresh : IsNewKey l.sorted l.at;
+  spelled : AreSpelledShares l.layout l.shares.items;
+  told : IsTelling (g.R.Region.state l.region) → AreFound l.layout (lasts (g.R.Region.state l.region)) l.sorted
+      → AreShares l.layout (entries_at l.layout (lasts (g.R.Region.state l.region)) (take l.at l.sorted)) l.shares.items;
 }
+
+abbrev pub decreases-loop-at : goal.decreases-loop-at
+decreases-loop-at g l = length l.sorted - l.at

@@ -1,10 +1,12 @@
-use Rattle.std.proofs.Common.{◌∙◌}
-use Rattle.recover.specs.OwnDead.{dies_in}
-use Rattle.recover.proofs.OwnLaws.{tells_own, tells_counts}
+use Rattle.std.proofs.Common.{ℕ}
+use Rattle.std.specs.Prelude.{Result, Ok, Err, IfOk}
+use Rattle.core_index.specs.Records.{is_dead_in}
+use Rattle.core_index.specs.Index.{known_at}
 use Rattle.recover.proofs.starts.own_standing.Goals as goal
 
-pub returns-clause-told : goal.returns-clause-told
-returns-clause-told g c = λ es records. tells_own c.args.records.now c.requires.records c.in_ok-standing.standing c.tell_own.new.standing es c.in_ok-standing.ensures.untold.told c.tell_own.ensures records
+ok_by : {X E : Type 0} (P Q : X → Type 0) (r : Result X E) → ((x : X) → P x → Q x) → IfOk r P → IfOk r Q
+ok_by P Q (Ok x) by is = by x is
+ok_by P Q (Err e) by is = tt
 
-pub returns-clause-counts : goal.returns-clause-counts
-returns-clause-counts g c = λ telling k v. tells_counts c.in_ok-standing.standing c.tell_own.new.standing (dies_in c.args.records.now) c.tell_own.ensures k v ∙ c.in_ok-standing.ensures.standing telling k v
+pub returns-clause-told : goal.returns-clause-told
+returns-clause-told g c = ok_by _ _ c.standing_told.result (λ s told. told (λ k v. is_dead_in (known_at c.args.index.now k) v) (λ n b says. says.1)) c.standing_told.ensures.told

@@ -4,13 +4,12 @@ use Rattle.std.specs.List.{list_any}
 use Rattle.pm_region.specs.Words.{lasts}
 use Rattle.lazy_alloc.specs.Heads.{is_free_there, class_there}
 use Rattle.lazy_alloc.specs.Sets.{chunk_is_free, chunk_class, block_is_used, class_at}
-use Rattle.core_index.specs.Index.{opened_in}
 use Rattle.recover.specs.Regions.{Covers}
 use Rattle.recover.specs.Heads.{tail_there}
 use Rattle.recover.proofs.StandLaws.{lies_log, spelled_log}
 use Rattle.recover.proofs.FoundLaws.{ok_of}
 use Rattle.recover.proofs.HeadLaws.{heads_ok, logs_of}
-use Rattle.recover.proofs.StartLaws.{spelled_index, index_of, allocator_of}
+use Rattle.recover.proofs.StartLaws.{index_of, allocator_of}
 use Rattle.recover.proofs.starts.start.Goals as goal
 
 pub own_standing-requires-clause-lies : goal.own_standing-requires-clause-lies
@@ -42,9 +41,9 @@ returns-clause-made g c =
       sets = allocator.sets;
       allocator_layout = allocator.layout;
       allocator_part = allocator.part;
-      spelled = spelled_index c.args.layout.now c.args.core c.args.share c.requires.share c.in_ok-index.index c.in_ok-index.ensures.records;
+      spelled = c.requires.index;
       opened = log.opened;
-      told = c.in_ok-standing.ensures.told c.in_ok-index.index (λ k. c.in_ok-index.ensures.records k ∙ ap (λ rs. opened_in rs k) (sym c.deref-4.ensures.value));
+      told = c.in_ok-standing.ensures.told;
       settled = c.in_ok-standing.ensures.settled;
     }
 
@@ -64,5 +63,5 @@ returns-clause-told g c = λ telling kept share.
       logs = logs_of l image c.args.core heads count are c.in_ok-log.log.chunks (λ j. c.in_ok-log.ensures.chunks j ∙ c.in_ok-chunks.ensures.tails j ∙ ap (λ hs. tail_there (slice_get hs j)) c.deref.ensures.value);
       allocator = allocator_of l image c.args.core c.args.share share c.requires.covers.layout kept heads count are c.in_ok-allocator.allocator allocator.layout allocator.part free class allocator.due used;
       standing = c.in_ok-standing.ensures.counts telling;
-      index = index_of l image c.args.core c.args.share share c.in_ok-index.index c.in_ok-index.ensures.records c.in_ok-index.ensures.room;
+      index = index_of l image c.args.core c.args.share share;
     }

@@ -1,4 +1,4 @@
-use Rattle.std.proofs.Common.{◌≡◌, ◌<◌, ◌+◌, ◌++◌, ◌∷◌, [], length, length-append, sym, ◌∙◌, ap, subst, append_assoc, arith}
+use Rattle.std.proofs.Common.{◌≡◌, ℕ, List, ◌<◌, ◌+◌, ◌++◌, ◌∷◌, [], length, length-append, sym, ◌∙◌, ap, subst, append_assoc, arith}
 use Rattle.std.specs.Prelude.{slice_index_or}
 use Rattle.pm_region.specs.Words.{lasts}
 use Rattle.store_image.specs.Parts.{all_entries}
@@ -6,11 +6,35 @@ use Rattle.recover.specs.declared.types.CoreStart.{CoreStart}
 use Rattle.recover.specs.declared.shares.Share.{Share}
 use Rattle.recover.specs.Shares.{IsShare}
 use Rattle.recover.specs.Logs.{IsStart}
-use Rattle.recover.specs.Heads.{IsStartOf}
+use Rattle.recover.specs.Starts.{IsSpelledIndex}
+use Rattle.recover.specs.Heads.{Starts, IsStartOf}
 use Rattle.recover.proofs.FoundLaws.{ok_of, start_ok}
 use Rattle.recover.proofs.ListLaws.{behind}
 use Rattle.recover.proofs.LogLaws.{each_more}
 use Rattle.recover.proofs.starts.starts.Goals as goal
+
+-- a share stands in the list at the number of its core
+at_core : (all done rest : List Share) (share : Share) (n cores : ℕ) → all ≡ done ++ (share ∷ rest) → length done ≡ n → length all ≡ cores → (n < cores) × (slice_index_or all n share ≡ share)
+at_core all done rest share n cores split passed count =
+    let long = ap length split ∙ length-append done (share ∷ rest) in
+    (omega (arith, long, passed, count), ap (λ xs. slice_index_or xs n share) split ∙ behind done share rest n share passed)
+
+pub start-requires-clause-index : goal.start-requires-clause-index
+start-requires-clause-index g c =
+    let inv = c.loop-share.invariant in
+    let share = c.in-Some.share in
+    let at = at_core c.args.shares.items c.loop-share.yielded c.next.new.self.rest.items share c.loop-share.core c.args.layout.now.cores (inv.split ∙ ap (λ xs. c.loop-share.yielded ++ xs) c.in-Some.ensures.steps.0) inv.passed c.requires.count in
+    subst (λ (s : Share). IsSpelledIndex s.index) at.1 (c.requires.shares c.loop-share.core share at.0)
+
+pub returns-in-Err-clause-told : goal.returns-in-Err-clause-told
+returns-in-Err-clause-told g c = λ telling kept shares.
+    let image = lasts (g.R.Region.state c.args.region.now) in
+    let l = c.args.layout.now in
+    let inv = c.loop-share.invariant in
+    let share = c.in-Some.share in
+    let n = c.loop-share.core in
+    let at = at_core c.args.shares.items c.loop-share.yielded c.next.new.self.rest.items share n l.cores (inv.split ∙ ap (λ xs. c.loop-share.yielded ++ xs) c.in-Some.ensures.steps.0) inv.passed c.requires.count in
+    subst (Starts l image n) c.in-Err.is (c.in_ok-start.ensures.told telling kept (subst (λ (s : Share). IsShare l (all_entries l image) n s) at.1 (shares n share at.0)))
 
 pub loop-share-preserved : goal.loop-share-preserved
 loop-share-preserved g c =

@@ -1,6 +1,6 @@
 use Rattle.pm_region.specs.Steady.{steady_state}
 use Rattle.pm_region.specs.Words.{lasts}
-use Rattle.recover.proofs.Clients.{found_made}
+use Rattle.recover.proofs.RecoveredLaws.{found_made}
 use Rattle.recover.proofs.tests.pairs_of_two_cores.Goals as goal
 
 pub pairs-requires-clause-found : goal.pairs-requires-clause-found

@@ -1,4 +1,4 @@
-use Rattle.recover.proofs.Clients.{allocators_laid}
+use Rattle.recover.proofs.RecoveredLaws.{allocators_laid}
 use Rattle.recover.proofs.tests.two_puts.Goals as goal
 
 pub free_small_blocks-requires : goal.free_small_blocks-requires

@@ -13,8 +13,8 @@ loop-worker-init c =
       kept = ap (λ ws. stored_all ws c.args.stamp c.args.kept.items) all;
     }
 
-pub keep_answers-requires : goal.keep_answers-requires
-keep_answers-requires c = (subst (HaveAllPlaces (length c.loop-worker.kept.items)) c.in-Some.ensures.steps.0 c.loop-worker.invariant.places).0
+pub collect-requires : goal.collect-requires
+collect-requires c = (subst (HaveAllPlaces (length c.loop-worker.kept.items)) c.in-Some.ensures.steps.0 c.loop-worker.invariant.places).0
 
 pub loop-worker-preserved : goal.loop-worker-preserved
 loop-worker-preserved c =
@@ -23,8 +23,8 @@ loop-worker-preserved c =
     let kept = c.loop-worker.kept.items in
     let w = c.in-Some.worker in
     record {
-      places = subst (λ n. HaveAllPlaces n c.next.new.self.rest.items) (sym (ap length c.keep_answers.ensures ∙ stored_long (answers_of w) c.args.stamp kept)) (subst (HaveAllPlaces (length kept)) step I.places).1;
-      kept = ap (stored_all c.next.new.self.rest.items c.args.stamp) c.keep_answers.ensures ∙ sym (ap (λ ws. stored_all ws c.args.stamp kept) step) ∙ I.kept;
+      places = subst (λ n. HaveAllPlaces n c.next.new.self.rest.items) (sym (ap length c.collect.ensures.kept ∙ stored_long (answers_of w) c.args.stamp kept)) (subst (HaveAllPlaces (length kept)) step I.places).1;
+      kept = ap (stored_all c.next.new.self.rest.items c.args.stamp) c.collect.ensures.kept ∙ sym (ap (λ ws. stored_all ws c.args.stamp kept) step) ∙ I.kept;
     }
 
 pub returns : goal.returns

@@ -1,6 +1,6 @@
 use Rattle.std.proofs.Common.{◌/◌, sym, ◌∙◌, ap, subst, arith}
 use Rattle.chunk_map.specs.declared.layouts.Geometry.{Geometry}
-use Rattle.chunk_map.proofs.LayoutLaws.{numbers_of}
+use Rattle.chunk_map.proofs.Clients.{numbers_of}
 use Rattle.engine_laws.specs.Ran.{asked_in}
 use Rattle.group_engine.specs.Reports.{HasRoomFor}
 use Rattle.thread_engine.specs.Dealt.{AreDealt}

@@ -2,7 +2,7 @@ use Rattle.std.proofs.Common.{◌≡◌, ℕ, ◌+◌, ◌*◌, ◌<◌, ◌≤�
 use Rattle.atomic_table.specs.Table.{opening}
 use Rattle.group_laws.specs.Invariant.{Lawful}
 use Rattle.group_laws.specs.Places.{members}
-use Rattle.group_board.proofs.Opens.{opened_few, opened_lawful}
+use Rattle.group_board.proofs.Clients.{opened_few, opened_lawful}
 use Rattle.atomic_board.specs.declared.seat_data.Origin.{Origin}
 use Rattle.atomic_board.specs.declared.seat_data.SeatData.TheVariants.{Store}
 use Rattle.atomic_board.specs.TableWords.{word_count}

@@ -2,19 +2,19 @@ use Rattle.std.proofs.Common.{◌≡◌, ◌≤◌, ℕ, List, length, refl, sym
 use Rattle.std.specs.List.{flat_map}
 use Rattle.log_entry.specs.Spelling.{words_of}
 use Rattle.core_log.specs.Log.{HoldsEntries}
-use Rattle.pm_region.proofs.Moments.{at_exit}
+use Rattle.pm_region.proofs.Clients.{at_exit}
 use Rattle.log_entry.specs.Batches.{IsBatch}
 use Rattle.core_log.specs.Chunk.{lines_for, padded}
 use Rattle.core_log.specs.Log.{LogState, room_of}
 use Rattle.core_log.specs.Entries.{AppendedBatch}
-use Rattle.core_log.proofs.BatchLaws.{holds_some}
+use Rattle.core_log.proofs.Clients.{holds_some}
 use Rattle.group_laws.specs.MemberViews.{View}
 use Rattle.group_board.specs.Seats.{SeatAt}
 use Rattle.group_board.specs.Views.{after_commit}
 use Rattle.licence.specs.Licence.{Licensed}
 use Rattle.licence.specs.ViewChanges.{Commits}
 use Rattle.licence.specs.Writes.{IsSpelled}
-use Rattle.licence.proofs.LogEvents.{batch_licensed, batch_committed, append_outside}
+use Rattle.licence.proofs.Clients.{batch_licensed, batch_committed, append_outside}
 use Rattle.batch_leader.specs.declared.states.Batch.{Batch}
 use Rattle.batch_leader.specs.declared.taken.Taken.{Taken}
 use Rattle.batch_leader.specs.TakenChanges.{entries_in}

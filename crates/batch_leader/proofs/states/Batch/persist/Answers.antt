@@ -3,18 +3,17 @@ use Rattle.std.specs.Prelude.{unwrap_or}
 use Rattle.std.proofs.lemmas.Result.{on_ok_weaker}
 use Rattle.pm_region.specs.State.{State, During, cell_now}
 use Rattle.pm_region.specs.Words.{KeepsOutside}
-use Rattle.pm_region.proofs.Moments.{then_on, at_exit}
-use Rattle.pm_region.proofs.Runs.{kept_on, wider}
-use Rattle.store_image.proofs.Places.{layout_numbers}
+use Rattle.pm_region.proofs.Clients.{then_on, at_exit, kept_on, wider}
+use Rattle.store_image.proofs.Clients.{layout_numbers}
 use Rattle.chunk_map.specs.Layouts.{chunk_words}
 use Rattle.core_log.specs.Chunk.{padded, words_now, FreeOrEmpty}
 use Rattle.core_log.specs.Opening.{EachInChunk}
 use Rattle.core_log.specs.Log.{LogState, StandsIn, open_first, open_tail, first_of}
 use Rattle.core_log.specs.Entries.{AppendedBatch}
-use Rattle.core_log.proofs.TailLaws.{tail_set}
+use Rattle.core_log.proofs.Clients.{tail_set}
 use Rattle.licence.specs.Licence.{Licensed, IsLogOf, part_at, part_end}
 use Rattle.licence.specs.Writes.{Opens}
-use Rattle.licence.proofs.LogEvents.{open_licensed, open_outside}
+use Rattle.licence.proofs.Clients.{open_licensed, open_outside}
 use Rattle.batch_leader.specs.Leading.{IsLost}
 use Rattle.batch_leader.specs.Persisting.{HasRoom, opened_for, WritesOpenChunk}
 use Rattle.batch_leader.specs.Rounds.{words_in}

@@ -4,7 +4,7 @@ use Rattle.group_laws.specs.declared.types.Seen.TheVariants as loads
 use Rattle.group_laws.specs.declared.types.SlotWord.{SlotWord}
 use Rattle.group_laws.specs.declared.types.SlotWord.TheVariants as words
 use Rattle.group_laws.specs.Places.{members}
-use Rattle.group_laws.proofs.Puts.{In-append_right}
+use Rattle.group_laws.proofs.Clients.{In-append_right}
 use Rattle.group_laws.specs.MemberViews.{View}
 use Rattle.batch_leader.specs.Rounds.{member_at, slot_at, Passes}
 use Rattle.batch_leader.proofs.CollectLaws.{collects_past, member_low}

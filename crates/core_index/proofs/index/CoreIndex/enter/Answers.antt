@@ -1,19 +1,38 @@
-use Rattle.std.proofs.Common.{◌≡◌, ℕ, ap, arith}
-use Rattle.log_entry.specs.declared.entry.EntryName.{EntryName}
+use Rattle.std.proofs.Common.{◌≡◌, ◌≢◌, ◌+◌, ◌-◌, ◌<◌, ◌≤◌, ℕ, List, length, Option, Some, None, refl, sym, ◌∙◌, ap, subst, arith}
+use Rattle.std.specs.Prelude.{OnOk}
+use Rattle.core_index.specs.Records.{KeyRecord, Awaits, Shows, settled, last_of, block_of, is_forgettable, live_version, opened, opened_with}
 use Rattle.core_index.specs.Slots.{Place}
-use Rattle.core_index.specs.Noted.{Noted}
-use Rattle.core_index.proofs.IndexLaws.{entered_index, roomier}
+use Rattle.core_index.specs.Tombs.{Tombs, passed_at}
+use Rattle.core_index.specs.Index.{place_at, known_in, room_in, known_at, room_at, all_places, Changes, EntersAs}
+use Rattle.core_index.proofs.PlaceLaws.{place_there, known_there, known_else, room_both, room_place}
+use Rattle.core_index.proofs.IndexLaws.{pushed_index, pushed_enters, added_index, added_enters}
 use Rattle.core_index.proofs.index.CoreIndex.enter.Goals as goal
 
-pub invariant_of-self-2 : goal.invariant_of-self-2
-invariant_of-self-2 c =
-    let p : Place = c.in_ok-slot.slot in
-    let none : p.room ≡ 0 = ap (λ (x : Place). x.room) c.in_ok-slot.ensures in
-    let kept : (h : ℕ) (n : EntryName) → Noted c.self.inside.notices h n → Noted c.note_dead.new.notices h n = λ h n noted. c.note_dead.ensures.kept h n (c.in_ok-reserve.ensures.kept h n noted) in
-    let count = c.len.ensures in
-    let more = c.in_ok-reserve.ensures.ok in
-    let less = c.note_dead.ensures.spare in
-    entered_index c.enter_at.result c.self.inside.slots.entries c.enter_at.new.slots.entries c.self.inside.notices c.note_dead.new.notices c.args.start.key p c.self.invariant c.enter_at.ensures.ok c.enter_at.ensures.err none c.note_dead.ensures.noted kept (omega (arith, count, more, less))
-
 pub invariant_of-self : goal.invariant_of-self
-invariant_of-self c = roomier c.self.inside.slots.entries c.self.inside.notices c.reserve.new.self c.self.invariant c.in_err-reserve.ensures.kept (let same = c.in_err-reserve.ensures.err in omega (arith, same))
+invariant_of-self c =
+    let es = c.self.inside.slots.entries in
+    let a = c.self.inside.start in
+    let known = opened_with c.args.version c.args.body.now c.args.standing.now in
+    pushed_index c.add_deleted.result es a c.add_deleted.new.self c.self.inside.notices c.args.key c.args.version known c.in-Some.tombstone c.in-Some.ensures (c.add_deleted.ensures.room c.in-Some.tombstone.home) c.add_deleted.ensures.ok c.add_deleted.ensures.err c.self.invariant
+
+pub returns-in-Some : goal.returns-in-Some
+returns-in-Some c =
+    let es = c.self.inside.slots.entries in
+    let a = c.self.inside.start in
+    let known = opened_with c.args.version c.args.body.now c.args.standing.now in
+    subst (λ (xs : List (ℕ × Place)). OnOk c.add_deleted.result (EntersAs xs (all_places es c.add_deleted.new.self) c.args.key known)) c.self.view_is (pushed_enters c.add_deleted.result es a c.add_deleted.new.self c.args.key c.args.version known c.in-Some.tombstone c.in-Some.ensures c.add_deleted.ensures.ok)
+
+pub invariant_of-self-in-Some-compact_live : goal.invariant_of-self-in-Some-compact_live
+invariant_of-self-in-Some-compact_live c =
+    let es = c.self.inside.slots.entries in
+    let a = c.self.inside.start in
+    let known = opened_with c.args.version c.args.body.now c.args.standing.now in
+    let added = c.add_live.ensures in
+    added_index c.add_live.result es a c.add_live.new.self c.self.inside.notices c.args.key c.args.body.now known c.in-Some-compact_live.live c.in-Some-compact_live.ensures added.ok added.err added.deleted c.self.invariant
+
+pub returns-in-Some-compact_live : goal.returns-in-Some-compact_live
+returns-in-Some-compact_live c =
+    let es = c.self.inside.slots.entries in
+    let a = c.self.inside.start in
+    let known = opened_with c.args.version c.args.body.now c.args.standing.now in
+    subst (λ (xs : List (ℕ × Place)). OnOk c.add_live.result (EntersAs xs (all_places es c.add_live.new.self) c.args.key known)) c.self.view_is (added_enters c.add_live.result es a c.add_live.new.self c.args.key c.args.body.now known c.in-Some-compact_live.live c.in-Some-compact_live.ensures c.add_live.ensures.ok)

@@ -5,7 +5,7 @@ use Rattle.chunk_map.specs.Layouts.{chunk_words}
 use Rattle.core_log.specs.Chunk.{lines_for, padded, words_now, HasOrLacks, ChunkLies, IsLog, Appended}
 use Rattle.core_log.specs.Log.{LogState, IsChunkOf, chunk_with, with_tail, open_number, open_first, open_tail, EachInOpen}
 use Rattle.core_log.specs.Entries.{AppendedBatch}
-use Rattle.pm_region.proofs.Moments.{told_at_entry}
+use Rattle.pm_region.proofs.Clients.{told_at_entry}
 use Rattle.core_log.proofs.BatchLaws.{some_opens, opened_is, room_words, moved_chunk_of, open_lies, open_log, has_entries, entries_run, after_batch}
 use Rattle.core_log.proofs.log.CoreLog.append_batch.Goals as goal
 

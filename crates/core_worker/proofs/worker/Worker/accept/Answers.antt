@@ -17,8 +17,8 @@ returns-in-Ok-clause-ties g c =
     let P = c.prepare.ensures.ready c.if-not-prepare.false in
     let B = c.prepare.ensures.before in
     held_tie (g.R.Region.state c.args.region.now) c.args.self.now c.prepare.new.self c.hold.new.self c.args.number c.args.request B
-    (subst (λ (k : ℕ). room_at c.prepare.new.self.index k ≡ room_at c.args.self.now.index k + 1) c.key_of-key.ensures P.record_room)
-    (ap (λ (y : Worker). is_busy y.places.items (key_of c.args.request)) (sym B.rest) ∙ ap (is_busy c.prepare.new.self.places.items) (sym c.key_of-key.ensures) ∙ sym c.is_busy.ensures ∙ c.if-is_busy.true)
+    (subst (λ (k : ℕ). room_at c.prepare.new.self.index k ≡ room_at c.args.self.now.index k + 1) c.key-key.ensures P.record_room)
+    (ap (λ (y : Worker). is_busy y.places.items (key_of c.args.request)) (sym B.rest) ∙ ap (is_busy c.prepare.new.self.places.items) (sym c.key-key.ensures) ∙ sym c.is_busy.ensures ∙ c.if-is_busy.true)
     c.in-Ok.ensures.added P.answers c.requires.works (room_node c.args.self.now c.prepare.new.self B c.requires.room)
 
 pub returns-in-Ok-clause-accepts : goal.returns-in-Ok-clause-accepts
@@ -27,8 +27,8 @@ returns-in-Ok-clause-accepts g c x T =
     let B = c.prepare.ensures.before in (
       c.prepare.new.self,
       B,
-      subst (Prepared c.args.self.now c.prepare.new.self) c.key_of-key.ensures P,
-      inl (ap (λ (y : Worker). is_busy y.places.items (key_of c.args.request)) (sym B.rest) ∙ ap (is_busy c.prepare.new.self.places.items) (sym c.key_of-key.ensures) ∙ sym c.is_busy.ensures ∙ c.if-is_busy.true, c.in-Ok.ensures.added, refl),
+      subst (Prepared c.args.self.now c.prepare.new.self) c.key-key.ensures P,
+      inl (ap (λ (y : Worker). is_busy y.places.items (key_of c.args.request)) (sym B.rest) ∙ ap (is_busy c.prepare.new.self.places.items) (sym c.key-key.ensures) ∙ sym c.is_busy.ensures ∙ c.if-is_busy.true, c.in-Ok.ensures.added, refl),
     )
 
 pub begin-requires-clause-tied : goal.begin-requires-clause-tied
@@ -53,7 +53,7 @@ returns-clause-ties g c = begun_tie c.begin.result (g.R.Region.state c.args.regi
     c.begin.ensures.line c.begin.ensures.room (c.prepare.ensures.ready c.if-not-prepare.false).answers (room_node c.args.self.now c.prepare.new.self c.prepare.ensures.before c.requires.room)
 
 pub returns-clause-accepts : goal.returns-clause-accepts
-returns-clause-accepts g c = accepts_begun c.begin.result (g.R.Region.state c.args.region.now) c.args.self.now c.prepare.new.self c.begin.new.self c.args.number c.key_of-key.result c.args.request c.key_of-key.ensures c.prepare.ensures.before (c.prepare.ensures.ready c.if-not-prepare.false) (sym c.is_busy.ensures ∙ c.if-is_busy.false) c.begin.ensures.rest c.begin.ensures.begins
+returns-clause-accepts g c = accepts_begun c.begin.result (g.R.Region.state c.args.region.now) c.args.self.now c.prepare.new.self c.begin.new.self c.args.number c.key-key.result c.args.request c.key-key.ensures c.prepare.ensures.before (c.prepare.ensures.ready c.if-not-prepare.false) (sym c.is_busy.ensures ∙ c.if-is_busy.false) c.begin.ensures.rest c.begin.ensures.begins
 
 pub returns-then-not-prepare-clause-rule : goal.returns-then-not-prepare-clause-rule
 returns-then-not-prepare-clause-rule g c = prepared_room c.args.self.now c.prepare.new.self c.prepare.ensures.before

@@ -29,7 +29,7 @@ returns-in-Some-clause-begins g c t h S =
     let m = t.number in
     let v = t.view in
     let w = c.args.self.now in
-    let live : is_some (v.cell (key_of c.args.request)) ≡ c.is_live-live.result = live_is p m v w h.holds c.requires.runs (key_of c.args.request) h.own ∙ ap (λ k. is_some (live_version (known_at w.index k))) (sym c.key_of.ensures) ∙ sym c.is_live-live.ensures in
+    let live : is_some (v.cell (key_of c.args.request)) ≡ c.is_live-live.result = live_is p m v w h.holds c.requires.runs (key_of c.args.request) h.own ∙ ap (λ k. is_some (live_version (known_at w.index k))) (sym c.key.ensures) ∙ sym c.is_live-live.ensures in
     let why = c.refusal.ensures (v.cell (key_of c.args.request)) live in
     begins_refused (IsTelling (g.R.Region.state c.args.region.now)) w c.answer.new.self (v.cell (key_of c.args.request)) c.args.number c.args.request c.requires.runs c.refusal.result c.in-Some.shortage c.in-Some.is why
     (answered w c.answer.new.self _ c.answer.ensures.rest (subst (λ (r : Reply). c.answer.new.self.answers.items ≡ w.answers.items ++ answer_with c.args.number r (Some c.in-Some.shortage) ∷ []) c.reply_for.ensures c.answer.ensures.answers))

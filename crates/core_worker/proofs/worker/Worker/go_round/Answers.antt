@@ -13,7 +13,7 @@ use Rattle.core_worker.proofs.Rounds.{released_leads, released_space, released_n
 use Rattle.group_laws.specs.Runs as runs
 use Rattle.group_board.specs.Told.{Makes}
 use Rattle.batch_leader.specs.Leading.{steps_of}
-use Rattle.batch_leader.proofs.Steps.{makes_then}
+use Rattle.batch_leader.proofs.Clients.{makes_then}
 use Rattle.core_worker.proofs.Made.{one_step, and_then, round_of, steps_made}
 use Rattle.core_worker.specs.Turns.{Collects, Releases}
 use Rattle.core_worker.proofs.LeftRounds.{collects_lower, releases_lower}

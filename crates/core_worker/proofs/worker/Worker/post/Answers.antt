@@ -1,7 +1,6 @@
 -- With a block or without, the change is posted.
 use Rattle.std.proofs.Common.{inl, refl}
-use Rattle.pm_region.proofs.Moments.{started}
-use Rattle.pm_region.proofs.Runs.{all_kept}
+use Rattle.pm_region.proofs.Clients.{started, all_kept}
 use Rattle.licence.specs.Licence.{Licensed, part_at, part_end}
 use Rattle.core_worker.proofs.TurnLaws.{keeps_posts}
 use Rattle.core_worker.proofs.worker.Worker.post.Goals as goal

@@ -1,4 +1,4 @@
-use Rattle.engine_laws.proofs.CauseLaws.{at_least_same}
+use Rattle.engine_laws.proofs.Clients.{at_least_same}
 use Rattle.core_worker.specs.WorkerMoves.{stock_of}
 use Rattle.core_worker.proofs.RoomKept.{room_posted}
 use Rattle.std.proofs.Common.{ℕ, List, refl, sym, ◌∙◌, ap, subst}

@@ -5,7 +5,7 @@ use Rattle.chunk_map.specs.Layouts.{is_class}
 use Rattle.core_index.specs.Index.{known_at}
 use Rattle.core_index.specs.Records.{last_of}
 use Rattle.core_worker.specs.Supplies.{supply_of, lacks}
-use Rattle.core_room.proofs.LengthLaws.{class_in_layout}
+use Rattle.core_room.proofs.Clients.{class_in_layout}
 use Rattle.core_worker.proofs.RefusalLaws.{put_by}
 use Rattle.core_worker.proofs.worker.Worker.put_shortage.Goals as goal
 

@@ -2,7 +2,7 @@ use Rattle.std.proofs.Common.{◌≡◌, ℕ, not, Bool, true, false, [], ◌∷
 use Rattle.std.specs.Prelude.{◌+◌, ◌<◌, List, is_some}
 use Rattle.std.specs.List.{AllByRecursion}
 use Rattle.store_image.specs.Facts.{In}
-use Rattle.group_laws.proofs.Puts.{In-append_left}
+use Rattle.group_laws.proofs.Clients.{In-append_left}
 use Rattle.group_board.specs.Seats.{SeatAt}
 use Rattle.batch_leader.specs.declared.taken.Taken.{Taken}
 use Rattle.pm_region.specs.State.{During, cell_now}
@@ -13,12 +13,12 @@ use Rattle.core_log.specs.Chunk.{padded}
 use Rattle.core_log.specs.Log.{open_first}
 use Rattle.batch_leader.specs.Persisting.{opened_for}
 use Rattle.core_log.specs.Log.{HoldsEntries}
-use Rattle.core_log.proofs.BatchLaws.{room_opens}
+use Rattle.core_log.proofs.Clients.{room_opens}
 use Rattle.group_laws.specs.MemberViews.{View}
 use Rattle.batch_leader.specs.TakenChanges.{entries_in, spelled, taken_in}
 use Rattle.batch_leader.specs.Rounds.{words_in}
 use Rattle.batch_leader.specs.Persisting.{HasRoom}
-use Rattle.batch_leader.proofs.TakenLaws.{batch_of}
+use Rattle.batch_leader.proofs.Clients.{batch_of}
 use Rattle.core_worker.specs.declared.types.Leading.TheVariants as leads
 use Rattle.core_worker.specs.Ties.{HasSpaceFor}
 use Rattle.core_worker.specs.Turns.{TakesFor, MadeOrStops, PersistsOrLoses, unpledged_if}

@@ -6,7 +6,7 @@ use Rattle.group_board.specs.Journals.{state}
 use Rattle.group_board.proofs.Mail.{seen_in, receive_steps, receive_place, receive_view}
 use Rattle.group_board.proofs.Mail.{mail_step, steps_lawful, heard_before}
 use Rattle.group_laws.specs.Runs as runs
-use Rattle.group_laws.proofs.Runs.{step_keeps}
+use Rattle.group_laws.proofs.Clients.{step_keeps}
 use Rattle.group_board.proofs.local_board.LocalBoard.receive.Goals as goal
 
 pub take_mail-requires-clause-seen : goal.take_mail-requires-clause-seen

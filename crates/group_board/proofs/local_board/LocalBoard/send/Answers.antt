@@ -6,7 +6,7 @@ use Rattle.group_board.specs.Journals.{state}
 use Rattle.group_board.proofs.Mail.{can_send, send_steps, send_place, send_view}
 use Rattle.group_board.proofs.Mail.{mail_step, steps_lawful}
 use Rattle.group_laws.specs.Runs as runs
-use Rattle.group_laws.proofs.Runs.{step_keeps}
+use Rattle.group_laws.proofs.Clients.{step_keeps}
 use Rattle.group_board.proofs.local_board.LocalBoard.send.Goals as goal
 
 pub put_mail-requires : goal.put_mail-requires

@@ -1,6 +1,6 @@
 use Rattle.std.proofs.Common.{rules, ◌≡◌, ◌/◌, ◌<◌, Some, sym, ◌∙◌, ap, subst, length, arith}
 use Rattle.group_board.specs.Journals.{state}
-use Rattle.engine_laws.proofs.Cores.{some_group}
+use Rattle.engine_laws.proofs.Clients.{some_group}
 use Rattle.group_engine.specs.Answers.{HavePlaces, stored}
 use Rattle.group_engine.specs.Shows.{Seat}
 use Rattle.group_engine.specs.Reports.{HasRoomFor}

@@ -4,10 +4,7 @@ use Rattle.chunk_map.specs.Layouts.{layout_of}
 use Rattle.engine_laws.specs.Stands.{opening, given_to}
 use Rattle.engine_laws.specs.Promises.{AnyTurn}
 use Rattle.engine_laws.specs.Ran.{Ran}
-use Rattle.engine_laws.proofs.Begins.{opens}
-use Rattle.engine_laws.proofs.Ceasing.{ceased}
-use Rattle.engine_laws.proofs.Kept.{done, promised}
-use Rattle.engine_laws.proofs.Ran.{ran_seen}
+use Rattle.engine_laws.proofs.Clients.{opens, ceased, done, promised, ran_seen}
 use Rattle.group_engine.specs.Runs.{RunMoves, first_state, with_request}
 use Rattle.group_engine.proofs.Kept.{ok_then, err_then}
 use Rattle.group_engine.proofs.Running.{shows_first}

@@ -1,7 +1,7 @@
 use Rattle.std.proofs.Common.{◌<◌, length, refl, ap, subst, arith, Result, OnOk, IfOk}
 use Rattle.fs_errors.specs.declared.Memory.{Memory}
 use Rattle.chunk_map.specs.declared.layouts.Geometry.{Geometry}
-use Rattle.group_engine.specs.Calls.{NoneWinds}
+use Rattle.group_engine.specs.Calls.{NoneWinds, has_moved}
 use Rattle.group_engine.specs.Runs.{RunMoves, run_state}
 use Rattle.group_engine.proofs.Ending.{on_err}
 use Rattle.group_engine.proofs.Running.{of_lists}
@@ -22,8 +22,8 @@ returns-clause-moved g c =
     let a = c.move_core.ensures.advances at.0 at.1 h.0 e.engine h.1 h.2.shows in
     let new = c.move_core.new.self in
     let f = run_state a.0 new.workers.items new.answers.items in
-    let run = subst (λ (z : Result _ Memory). IfOk z (λ d. RunMoves W.hands W.answers W.stands W.fair W.room W.leads W.begins W.turned W.alike (run_state e.engine en.workers.items en.answers.items) c.args.core d f)) is (a.5 (h.3 c.args.core at.0 at.1)) in
-    (f, (a.1, a.2, record { shows = a.3; workers_are = refl; answers_are = refl }, subst (λ (z : Result _ Memory). OnOk z (NoneWinds W.winds c.move_core.new.self.workers.items)) is (c.move_core.ensures.goes h.3)), of_lists W.hands W.answers W.stands W.fair W.room W.leads W.begins W.turned W.alike e c.args.core b f en.workers.items en.answers.items h.2.workers_are h.2.answers_are run))
+    let run = subst (λ (z : Result _ Memory). IfOk z (λ d. RunMoves W.hands W.answers W.stands W.fair W.room W.leads W.begins W.turned W.alike (run_state e.engine en.workers.items en.answers.items) c.args.core (has_moved d) f)) is (a.5 (h.3 c.args.core at.0 at.1)) in
+    (f, (a.1, a.2, record { shows = a.3; workers_are = refl; answers_are = refl }, subst (λ (z : Result _ Memory). OnOk z (NoneWinds W.winds c.move_core.new.self.workers.items)) is (c.move_core.ensures.goes h.3)), of_lists W.hands W.answers W.stands W.fair W.room W.leads W.begins W.turned W.alike e c.args.core (has_moved b) f en.workers.items en.answers.items h.2.workers_are h.2.answers_are run))
 
 pub returns-clause-failed : goal.returns-clause-failed
 returns-clause-failed g c =

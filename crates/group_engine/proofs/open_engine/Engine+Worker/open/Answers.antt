@@ -3,7 +3,7 @@ use Rattle.std.proofs.lemmas.Result.{IfOk-weaker}
 use Rattle.pm_region.specs.State.{IsTelling}
 use Rattle.pm_region.specs.Words.{lasts}
 use Rattle.chunk_map.specs.declared.layouts.Geometry.{Geometry}
-use Rattle.store_image.proofs.Places.{layout_numbers}
+use Rattle.store_image.proofs.Clients.{layout_numbers}
 use Rattle.group_engine.specs.Runs.{AreNew}
 use Rattle.group_engine.proofs.Opens.{sound, layout_is, begins, are_seated, origin_at}
 use Rattle.group_engine.proofs.open_engine.Engine+Worker.open.Goals as goal

@@ -1,5 +1,5 @@
 use Rattle.std.proofs.Common.{sym, ◌∙◌, ap, arith}
-use Rattle.chunk_map.proofs.LayoutLaws.{numbers_of}
+use Rattle.chunk_map.proofs.Clients.{numbers_of}
 use Rattle.lazy_alloc.specs.Bits.{has}
 use Rattle.lazy_alloc.specs.Sets.{Sets, chunk_is_due, chunk_of}
 use Rattle.lazy_alloc.specs.Form.{chunk_in}

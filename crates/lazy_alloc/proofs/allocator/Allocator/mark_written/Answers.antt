@@ -1,5 +1,5 @@
 use Rattle.std.proofs.Common.{◌&&◌, ◌==◌, not, refl, sym, ◌∙◌, subst, arith}
-use Rattle.chunk_map.proofs.LayoutLaws.{numbers_of}
+use Rattle.chunk_map.proofs.Clients.{numbers_of}
 use Rattle.lazy_alloc.specs.Sets.{Sets}
 use Rattle.lazy_alloc.specs.Steps.{WritesHead}
 use Rattle.lazy_alloc.specs.Form.{sets_of}

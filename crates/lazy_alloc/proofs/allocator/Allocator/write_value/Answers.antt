@@ -1,7 +1,7 @@
 use Rattle.std.proofs.Common.{◌≡◌, ◌+◌, ℕ, Some, sym, ◌∙◌, ap, subst, arith}
 use Rattle.pm_region.specs.State.{During, cell_now, Frame}
 use Rattle.pm_region.specs.Words.{EachIn}
-use Rattle.store_image.proofs.Places.{class_room}
+use Rattle.store_image.proofs.Clients.{class_room}
 use Rattle.lazy_alloc.specs.Sets.{class_at}
 use Rattle.lazy_alloc.specs.Written.{head_of, KeepsOthers, HeadTurnsTo, WroteValue}
 use Rattle.lazy_alloc.proofs.WriteLaws.{lie, value_outside, value_head, wrote}

@@ -1,0 +1,158 @@
+-- Keys with a value before those that were deleted.
+use Rattle.std.proofs.Common.{◌≡◌, ◌≢◌, ℕ, ◌+◌, ◌==◌, nat_lt, Bool, true, false, cond, ◌&&◌, ◌||◌, List, [], ◌∷◌, ◌++◌, Option, Some, None, option_map, refl, sym, ◌∙◌, ap, subst, arith}
+use Rattle.std.specs.Prelude.{is_some}
+use Rattle.std.proofs.lemmas.Bool.{eqb-true, eq-eqb}
+use Rattle.log_entry.specs.declared.entry.Body.{Body}
+use Rattle.log_entry.specs.declared.entry.EntryName.{EntryName}
+use Rattle.core_index.specs.declared.start_keys.StartKeys.{StartKeys}
+use Rattle.core_index.specs.declared.types.Holding.{Holding}
+use Rattle.core_index.specs.declared.types.LiveFate.{LiveFate}
+use Rattle.core_index.specs.declared.types.LiveFate.TheVariants.{Stands, Gone, Moved}
+use Rattle.core_index.specs.declared.types.LiveKey.{LiveKey}
+use Rattle.core_index.specs.declared.types.Standing.{Standing}
+use Rattle.core_index.specs.declared.types.Tombstone.{Tombstone}
+use Rattle.core_index.specs.declared.types.Fate.{Fate}
+use Rattle.core_index.specs.declared.types.Fate.TheVariants as fates
+use Rattle.core_index.proofs.DeadLaws.{alive_none}
+use Rattle.core_index.specs.Records.{KeyRecord, Awaits, is_dead, is_dead_in, is_tombstone, is_empty, is_forgettable, stands_alone, standing_at, standing_with, without}
+use Rattle.core_index.specs.Slots.{Place, count_of, alive_at}
+use Rattle.core_index.specs.Tombs.{Tombs, placed, place_of, found_at, left_by, deleted}
+use Rattle.core_index.specs.Lives.{Lives, body_in, valued, valued_by, live_place, live_at, places_of, placed_lives}
+use Rattle.core_index.specs.Starts.{started, IsAhead}
+use Rattle.core_index.specs.Index.{place_at, known_in, room_in, known_at, room_at, over, gone_place, cleared, TurnsAt, Turns, StartTurns}
+use Rattle.core_index.proofs.OverLaws.{place_both, first_place, both_kept}
+use Rattle.core_index.proofs.LiveLaws.{placed_found, not_dead, no_tombstone}
+use Rattle.core_index.proofs.TombLaws.{no_room, none_waits, placed_found as tomb_found}
+
+pub live_found : (a : StartKeys) (k : ℕ) (o : Option LiveKey) → o ≡ live_at a.live.items k → place_at (placed_lives a.live) k ≡ option_map (live_place a.live.bytes) o
+live_found a k o is = placed_found a.live.bytes a.live.items k ∙ ap (option_map (live_place a.live.bytes)) (sym is)
+
+pub place_live : (a : StartKeys) (k : ℕ) (x : LiveKey) → Some x ≡ live_at a.live.items k → place_at (started a) k ≡ Some (live_place a.live.bytes x)
+place_live a k x is = first_place (placed_lives a.live) (placed a.deleted.items) k (Some (live_place a.live.bytes x)) (live_found a k (Some x) is)
+
+pub place_deleted : (a : StartKeys) (k : ℕ) → None ≡ live_at a.live.items k → place_at (started a) k ≡ place_at (placed a.deleted.items) k
+place_deleted a k is = first_place (placed_lives a.live) (placed a.deleted.items) k None (live_found a k None is)
+
+pub known_live : (a : StartKeys) (k : ℕ) (x : LiveKey) → Some x ≡ live_at a.live.items k → known_at (started a) k ≡ valued a.live.bytes x
+known_live a k x is = ap known_in (place_live a k x is)
+
+pub known_deleted : (a : StartKeys) (k : ℕ) → None ≡ live_at a.live.items k → known_at (started a) k ≡ known_at (placed a.deleted.items) k
+known_deleted a k is = ap known_in (place_deleted a k is)
+
+pub start_no_room : (a : StartKeys) (k : ℕ) → room_at (started a) k ≡ 0
+start_no_room a k = ap room_in (place_both (placed_lives a.live) (placed a.deleted.items) k ∙ ap (λ (o : Option Place). over o (place_at (placed a.deleted.items) k)) (placed_found a.live.bytes a.live.items k)) ∙ by (live_at a.live.items k)
+  where
+    by : (o : Option LiveKey) → room_in (over (option_map (live_place a.live.bytes) o) (place_at (placed a.deleted.items) k)) ≡ 0
+    by None = no_room a.deleted.items k
+    by (Some x) = refl
+
+pub never_forgettable : (bytes : List ℕ) (h : Holding) (f : LiveFate) (v home : ℕ) → is_forgettable (valued_by f v home (body_in bytes h)) ≡ false
+never_forgettable bytes h Stands v home = ap (λ (b : Bool). b && is_empty (standing_with v home false ∷ [])) (no_tombstone bytes h)
+never_forgettable bytes h Gone v home = ap (λ (b : Bool). b && is_empty []) (no_tombstone bytes h)
+never_forgettable bytes h Moved v home = refl
+
+-- no entry of a key with a value is dead
+pub value_waits : (bytes : List ℕ) (h : Holding) (f : LiveFate) (v own home w : ℕ) → Awaits (valued_by f v own (body_in bytes h)) home w → ⊥
+value_waits bytes h Stands v own home w waits =
+    let e : record { version = v; body = body_in bytes h; standing = standing_with v own false ∷ [] } ≡ waits.found = let has = waits.has in cc has in
+    let stands = ap (λ (r : KeyRecord). standing_at r.standing w) e ∙ waits.stands in
+    let dead = ap (λ (r : KeyRecord). is_dead r w) e ∙ waits.dead in
+    by (v == w) refl stands dead
+  where
+    by : (b : Bool) → (v == w) ≡ b → cond b (Some (standing_with v own false)) None ≡ Some (standing_with w home false) → is_dead (record { version = v; body = body_in bytes h; standing = standing_with v own false ∷ [] }) w ≡ true → ⊥
+    by true same at dead =
+        let no = not_dead bytes h v (standing_with v own false ∷ []) in
+        let now = ap (λ (u : ℕ). is_dead (record { version = v; body = body_in bytes h; standing = standing_with v own false ∷ [] }) u) (eqb-true v w same) ∙ dead in
+        cc (no, now)
+    by false same at dead = cc at
+value_waits bytes h Gone v own home w waits =
+    let e : record { version = v; body = body_in bytes h; standing = [] } ≡ waits.found = let has = waits.has in cc has in
+    let stands = ap (λ (r : KeyRecord). standing_at r.standing w) e ∙ waits.stands in
+    cc stands
+value_waits bytes h Moved v own home w waits = none_waits home w waits
+
+pub live_waits : (a : Lives) (k home w : ℕ) → Awaits (known_at (placed_lives a) k) home w → ⊥
+live_waits a k home w waits = by (live_at a.items k) (subst (λ (o : Option Place). Awaits (known_in o) home w) (placed_found a.bytes a.items k) waits)
+  where
+    by : (o : Option LiveKey) → Awaits (known_in (option_map (live_place a.bytes) o)) home w → ⊥
+    by None waits = none_waits home w waits
+    by (Some x) waits = value_waits a.bytes x.held x.fate x.version x.home home w waits
+
+abbrev pub StaysAhead : StartKeys → StartKeys → Type 0
+StaysAhead a b = (home : ℕ) (n : EntryName) → IsAhead a home n → IsAhead b home n
+
+-- an entry that is gone
+pub gone_live : (a b : StartKeys) (k w : ℕ) (x : LiveKey) → Some x ≡ live_at a.live.items k → TurnsAt (placed_lives a.live) (placed_lives b.live) k (option_map (gone_place w) (place_at (placed_lives a.live) k)) → b.deleted ≡ a.deleted → StartTurns a b k (option_map (without w) (known_at (started a) k))
+gone_live a b k w x is turns same =
+    let now : place_at (placed_lives b.live) k ≡ Some (gone_place w (live_place a.live.bytes x)) = turns.here ∙ ap (option_map (gone_place w)) (live_found a k (Some x) is) in
+    record {
+      here = ap known_in (first_place (placed_lives b.live) (placed b.deleted.items) k (Some (gone_place w (live_place a.live.bytes x))) now) ∙ ap (option_map (without w)) (sym (known_live a k x is));
+      others = λ j ne. both_kept (placed_lives a.live) (placed_lives b.live) (placed a.deleted.items) (placed b.deleted.items) j (turns.others j ne) (ap (λ (d : Tombs). place_at (placed d.items) j) same);
+      ahead = λ home n ahead. subst (λ (d : Tombs). IsAhead (record { live = b.live; deleted = d }) home n) (sym same) ahead;
+    }
+
+pub gone_live_waits : (a b : StartKeys) (k w home v : ℕ) (x : LiveKey) → Some x ≡ live_at a.live.items k → TurnsAt (placed_lives a.live) (placed_lives b.live) k (option_map (gone_place w) (place_at (placed_lives a.live) k)) → Awaits (known_at (started b) k) home v → ⊥
+gone_live_waits a b k w home v x is turns waits =
+    let now : place_at (placed_lives b.live) k ≡ Some (gone_place w (live_place a.live.bytes x)) = turns.here ∙ ap (option_map (gone_place w)) (live_found a k (Some x) is) in
+    let first : known_at (started b) k ≡ known_at (placed_lives b.live) k = ap known_in (first_place (placed_lives b.live) (placed b.deleted.items) k (Some (gone_place w (live_place a.live.bytes x))) now ∙ sym now) in
+    live_waits b.live k home v (subst (λ (o : Option KeyRecord). Awaits o home v) first waits)
+
+pub gone_deleted : (a b : StartKeys) (k : ℕ) (now : Option KeyRecord) → None ≡ live_at a.live.items k → b.live ≡ a.live → Turns a.deleted b.deleted k now → StartTurns a b k now
+gone_deleted a b k now is same turns = record {
+  here = known_deleted b k (is ∙ ap (λ (l : Lives). live_at l.items k) (sym same)) ∙ turns.here;
+  others = λ j ne. both_kept (placed_lives a.live) (placed_lives b.live) (placed a.deleted.items) (placed b.deleted.items) j (ap (λ (l : Lives). place_at (placed_lives l) j) same) (turns.others j ne);
+  ahead = turns.ahead;
+}
+
+-- a record that is taken out of both
+pub start_cleared : (a b : StartKeys) (k : ℕ) → TurnsAt (placed_lives a.live) (placed_lives b.live) k (option_map cleared (place_at (placed_lives a.live) k)) → Turns a.deleted b.deleted k None → StartTurns a b k None
+start_cleared a b k live deleted = record {
+  here = ap known_in (first_place (placed_lives b.live) (placed b.deleted.items) k (option_map cleared (place_at (placed_lives a.live) k)) live.here) ∙ by (place_at (placed_lives a.live) k);
+  others = λ j ne. both_kept (placed_lives a.live) (placed_lives b.live) (placed a.deleted.items) (placed b.deleted.items) j (live.others j ne) (deleted.others j ne);
+  ahead = deleted.ahead;
+}
+  where
+    by : (o : Option Place) → known_in (over (option_map cleared o) (place_at (placed b.deleted.items) k)) ≡ None
+    by None = deleted.here
+    by (Some p) = refl
+
+-- no deleted key has an entry that may still die
+
+dead_now : (v : ℕ) (ss : List Standing) → stands_alone ss v ≡ true → is_dead (deleted v ss) v ≡ true
+dead_now v ss alone = ap (λ (b : Bool). nat_lt v v || ((v == v) && b)) alone ∙ ap (λ (b : Bool). nat_lt v v || (b && true)) (eq-eqb v v refl) ∙ by (nat_lt v v)
+  where
+    by : (b : Bool) → (b || (true && true)) ≡ true
+    by true = refl
+    by false = refl
+
+pub left_mortal : (f : Fate) (v home : ℕ) → count_of (alive_at (left_by f v home)) ≡ 0
+left_mortal fates.Untold v home = ap count_of (alive_none (deleted v (standing_with v home false ∷ [])) (dead_now v (standing_with v home false ∷ []) (ap (λ (b : Bool). b && true) (eq-eqb v v refl))))
+left_mortal fates.Told v home = ap count_of (alive_none (deleted v (standing_with v home true ∷ [])) (dead_now v (standing_with v home true ∷ []) (ap (λ (b : Bool). b && true) (eq-eqb v v refl))))
+left_mortal fates.Gone v home = ap count_of (alive_none (deleted v []) (dead_now v [] refl))
+left_mortal fates.Moved v home = refl
+
+pub deleted_alive : (ts : List Tombstone) (k : ℕ) → count_of (alive_at (known_at (placed ts) k)) ≡ 0
+deleted_alive ts k = ap (λ (o : Option Place). count_of (alive_at (known_in o))) (tomb_found ts k) ∙ by (found_at ts k)
+  where
+    by : (o : Option Tombstone) → count_of (alive_at (known_in (option_map place_of o))) ≡ 0
+    by None = refl
+    by (Some t) = left_mortal t.fate t.version t.home
+
+-- a key with a value that is added
+pub added_live : (a : StartKeys) (l : Lives) (k : ℕ) (p : Place) → TurnsAt (placed_lives a.live) (placed_lives l) k (Some p) → TurnsAt (started a) (started (record { live = l; deleted = a.deleted })) k (Some p)
+added_live a l k p turns = record {
+  here = first_place (placed_lives l) (placed a.deleted.items) k (Some p) turns.here;
+  others = λ j ne. both_kept (placed_lives a.live) (placed_lives l) (placed a.deleted.items) (placed a.deleted.items) j (turns.others j ne) refl;
+}
+
+pub never_dead : (bytes : List ℕ) (h : Holding) (f : LiveFate) (v home w : ℕ) → is_dead_in (valued_by f v home (body_in bytes h)) w ≡ false
+never_dead bytes h Stands v home w = by (v == w) refl
+  where
+    by : (b : Bool) → (v == w) ≡ b → is_some (cond b (Some (standing_with v home false)) None) && is_dead (record { version = v; body = body_in bytes h; standing = standing_with v home false ∷ [] }) w ≡ false
+    by true same = ap (λ (u : ℕ). is_dead (record { version = v; body = body_in bytes h; standing = standing_with v home false ∷ [] }) u) (sym (eqb-true v w same)) ∙ not_dead bytes h v (standing_with v home false ∷ [])
+    by false same = refl
+never_dead bytes h Gone v home w = refl
+never_dead bytes h Moved v home w = refl
+
+abbrev pub with_tombs : StartKeys → Tombs → StartKeys
+with_tombs a d = record { live = a.live; deleted = d }

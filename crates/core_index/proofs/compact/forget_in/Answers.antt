@@ -1,0 +1,15 @@
+use Rattle.std.proofs.Common.{◌≡◌, ℕ, List, true, false, Option, Some, None, refl, sym, ◌∙◌, ap, subst, arith, rules}
+use Rattle.core_index.specs.Records.{KeyRecord, Awaits}
+use Rattle.core_index.specs.Slots.{Place}
+use Rattle.core_index.specs.Index.{place_at, known_at, all_places}
+use Rattle.core_index.proofs.PlaceLaws.{forgettable_there, forgotten, forgotten_room}
+use Rattle.core_index.proofs.compact.forget_in.Goals as goal
+
+pub forget_there-requires : goal.forget_there-requires
+forget_there-requires c = forgettable_there c.args.slots.now.entries c.args.start.now c.args.key c.requires
+
+pub returns-clause-change : goal.returns-clause-change
+returns-clause-change c = forgotten c.args.slots.now.entries c.forget_there.new.slots.entries c.args.start.now c.clear.new.self c.args.key c.forget_there.ensures.here c.forget_there.ensures.others c.clear.ensures
+
+pub returns-clause-room : goal.returns-clause-room
+returns-clause-room c = forgotten_room c.args.slots.now.entries c.forget_there.new.slots.entries c.args.start.now c.clear.new.self c.forget_there.ensures.room

@@ -1,0 +1,16 @@
+use Rattle.std.proofs.Common.{◌≡◌, ◌+◌, ◌++◌, ◌∷◌, [], ℕ, List, true, false, Option, Some, None, option_map, refl, sym, ◌∙◌, ap, subst, arith, rules}
+use Rattle.core_index.specs.declared.types.LiveKey.{LiveKey}
+use Rattle.core_index.specs.Records.{KeyRecord, Awaits, Shows, without, last_of, is_forgettable}
+use Rattle.core_index.specs.Slots.{Place, alive_at, count_of}
+use Rattle.core_index.specs.Tombs.{Tombs, placed}
+use Rattle.core_index.specs.Lives.{Lives, bytes_in, valued, live_key, live_place, live_at, placed_lives}
+use Rattle.core_index.specs.Starts.{started, IsAhead}
+use Rattle.core_index.specs.Index.{place_at, known_at, known_in, gone_place, cleared, TurnsAt, StartTurns, ToldAt}
+use Rattle.core_index.proofs.StartLaws.{known_live, known_deleted, deleted_alive}
+use Rattle.core_index.proofs.start_keys.StartKeys.count_alive.Goals as goal
+
+pub returns-in-None : goal.returns-in-None
+returns-in-None c = let a = c.args.self.now in sym (ap (λ (o : Option KeyRecord). count_of (alive_at o)) (known_deleted a c.args.key c.in-None.ensures.found) ∙ deleted_alive a.deleted.items c.args.key)
+
+pub returns-in-Some : goal.returns-in-Some
+returns-in-Some c = let a = c.args.self.now in c.count_alive.ensures a.live.bytes ∙ sym (ap (λ (o : Option KeyRecord). count_of (alive_at o)) (known_live a c.args.key c.in-Some.live c.in-Some.ensures.found))

@@ -1,0 +1,35 @@
+use Rattle.std.proofs.Common.{◌≡◌, ◌+◌, ◌++◌, ◌∷◌, [], ℕ, List, true, false, Option, Some, None, option_map, refl, sym, ◌∙◌, ap, subst, arith, rules}
+use Rattle.core_index.specs.declared.start_keys.StartKeys.{StartKeys}
+use Rattle.core_index.specs.declared.types.LiveKey.{LiveKey}
+use Rattle.core_index.specs.Records.{KeyRecord, Awaits, Shows, without, last_of, is_forgettable}
+use Rattle.core_index.specs.Slots.{Place, alive_at, count_of}
+use Rattle.core_index.specs.Tombs.{Tombs, placed}
+use Rattle.core_index.specs.Lives.{Lives, bytes_in, valued, live_key, live_place, live_at, placed_lives}
+use Rattle.core_index.specs.Starts.{started, IsAhead}
+use Rattle.core_index.specs.Index.{place_at, known_at, known_in, gone_place, cleared, TurnsAt, StartTurns, ToldAt}
+use Rattle.core_index.proofs.StartLaws.{gone_live, gone_live_waits, gone_deleted, known_deleted}
+use Rattle.core_index.proofs.start_keys.StartKeys.gone.Goals as goal
+
+pub returns-in-None-clause-gone : goal.returns-in-None-clause-gone
+returns-in-None-clause-gone c =
+    let a = c.args.self.now in
+    let b : StartKeys = record { live = a.live; deleted = c.gone.new.self } in
+    let n = c.args.name in
+    subst (λ (o : Option KeyRecord). StartTurns a b n.key (option_map (without n.version) o)) (sym (known_deleted a n.key c.in-None.ensures.found)) (gone_deleted a b n.key (option_map (without n.version) (known_at (placed a.deleted.items) n.key)) c.in-None.ensures.found refl c.gone.ensures.gone)
+
+pub returns-in-None-clause-none : goal.returns-in-None-clause-none
+returns-in-None-clause-none c = λ home v waits.
+    let a = c.args.self.now in
+    let b : StartKeys = record { live = a.live; deleted = c.gone.new.self } in
+    let n = c.args.name in
+    subst (λ (o : Option KeyRecord). Awaits o home v) (sym (known_deleted a n.key c.in-None.ensures.found)) (c.gone.ensures.none home v (subst (λ (o : Option KeyRecord). Awaits o home v) (known_deleted b n.key c.in-None.ensures.found) waits))
+
+pub returns-in-Some-clause-gone : goal.returns-in-Some-clause-gone
+returns-in-Some-clause-gone c =
+    let a = c.args.self.now in
+    gone_live a (record { live = c.gone-in-Some.new.self; deleted = a.deleted }) c.args.name.key c.args.name.version c.in-Some.field-0 c.in-Some.ensures.found c.gone-in-Some.ensures refl
+
+pub returns-in-Some-clause-none : goal.returns-in-Some-clause-none
+returns-in-Some-clause-none c = λ home v waits.
+    let a = c.args.self.now in
+    absurd (gone_live_waits a (record { live = c.gone-in-Some.new.self; deleted = a.deleted }) c.args.name.key c.args.name.version home v c.in-Some.field-0 c.in-Some.ensures.found c.gone-in-Some.ensures waits)

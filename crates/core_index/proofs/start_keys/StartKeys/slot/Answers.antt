@@ -1,0 +1,24 @@
+use Rattle.std.proofs.Common.{◌≡◌, ◌+◌, ◌++◌, ◌∷◌, [], ℕ, List, true, false, Option, Some, None, option_map, refl, sym, ◌∙◌, ap, subst, arith, rules}
+use Rattle.core_index.specs.declared.types.LiveKey.{LiveKey}
+use Rattle.core_index.specs.Records.{KeyRecord, Awaits, Shows, without, last_of, is_forgettable}
+use Rattle.core_index.specs.Slots.{Place, alive_at, count_of}
+use Rattle.core_index.specs.Tombs.{Tombs, placed}
+use Rattle.core_index.specs.Lives.{Lives, bytes_in, valued, live_key, live_place, live_at, placed_lives}
+use Rattle.core_index.specs.Starts.{started, IsAhead}
+use Rattle.core_index.specs.Index.{place_at, known_at, known_in, gone_place, cleared, TurnsAt, StartTurns, ToldAt}
+use Rattle.core_index.proofs.TombLaws.{known_found}
+use Rattle.core_index.proofs.StartLaws.{known_live, known_deleted}
+use Rattle.core_index.proofs.start_keys.StartKeys.slot.Goals as goal
+
+pub returns-in-Some-clause-slot : goal.returns-in-Some-clause-slot
+returns-in-Some-clause-slot c = c.in_ok-slot.ensures ∙ ap (λ (o : Option KeyRecord). record { known = o; room = 1 }) (sym (known_live c.args.self.now c.args.key c.in-Some.live c.in-Some.ensures.found))
+
+pub returns-in_default-find-clause-none : goal.returns-in_default-find-clause-none
+returns-in_default-find-clause-none c =
+    let a = c.args.self.now in
+    known_deleted a c.args.key c.in_default.ensures.found ∙ known_found a.deleted.items c.args.key None c.in_default-find.ensures
+
+pub returns-clause-slot : goal.returns-clause-slot
+returns-clause-slot c =
+    let a = c.args.self.now in
+    c.in_ok-of_tombstone.ensures ∙ ap (λ (o : Option KeyRecord). record { known = o; room = 1 }) (sym (known_deleted a c.args.key c.in_default.ensures.found ∙ known_found a.deleted.items c.args.key (Some c.in-Some-find.tombstone) c.in-Some-find.ensures))

@@ -1,0 +1,26 @@
+use Rattle.std.proofs.Common.{◌≡◌, ◌+◌, ◌++◌, ◌∷◌, [], ℕ, List, true, false, Option, Some, None, option_map, refl, sym, ◌∙◌, ap, subst, arith, rules}
+use Rattle.core_index.specs.declared.types.LiveKey.{LiveKey}
+use Rattle.core_index.specs.Records.{KeyRecord, Awaits, Shows, without, last_of, is_forgettable}
+use Rattle.core_index.specs.Slots.{Place, alive_at, count_of}
+use Rattle.core_index.specs.Tombs.{Tombs, placed}
+use Rattle.core_index.specs.Lives.{Lives, bytes_in, valued, live_key, live_place, live_at, placed_lives}
+use Rattle.core_index.specs.Starts.{started, IsAhead}
+use Rattle.core_index.specs.Index.{place_at, known_at, known_in, gone_place, cleared, TurnsAt, StartTurns, ToldAt}
+use Rattle.core_index.proofs.OverLaws.{told_second}
+use Rattle.core_index.proofs.StartLaws.{known_live, known_deleted, live_found, value_waits}
+use Rattle.core_index.proofs.start_keys.StartKeys.tell.Goals as goal
+
+pub returns-in-None-clause-told : goal.returns-in-None-clause-told
+returns-in-None-clause-told c = λ is.
+    let a = c.args.self.now in
+    told_second (placed_lives a.live) (placed a.deleted.items) (placed c.tell.new.self.items) c.args.home c.args.name (live_found a c.args.name.key None c.in-None.ensures.found) (c.tell.ensures.told is)
+
+pub returns-in-None-clause-none : goal.returns-in-None-clause-none
+returns-in-None-clause-none c = λ is waits.
+    c.tell.ensures.none is (subst (λ (o : Option KeyRecord). Awaits o c.args.home c.args.name.version) (known_deleted c.args.self.now c.args.name.key c.in-None.ensures.found) waits)
+
+pub returns-in-Some-clause-none : goal.returns-in-Some-clause-none
+returns-in-Some-clause-none c = λ is waits.
+    let a = c.args.self.now in
+    let x = c.in-Some.field-0 in
+    value_waits a.live.bytes x.held x.fate x.version x.home c.args.home c.args.name.version (subst (λ (o : Option KeyRecord). Awaits o c.args.home c.args.name.version) (known_live a c.args.name.key x c.in-Some.ensures.found) waits)

@@ -1,0 +1,119 @@
+-- Keys that were deleted before the start, each by an entry that stands alone.
+use Rattle.std.specs.Prelude.{◌≡◌, ◌≢◌, ℕ, ◌+◌, ◌*◌, ◌<◌, ◌≤◌, ◌==◌, true, false, List, [], ◌∷◌, length, slice_index_or, Option, Some, None, if◌then◌else◌}
+use Rattle.std.specs.List.{AllByRecursion}
+use Rattle.log_entry.specs.declared.entry.Body.TheVariants as bodies
+use Rattle.log_entry.specs.declared.entry.EntryName.{EntryName}
+use Rattle.core_index.specs.declared.types.Fate.{Fate}
+use Rattle.core_index.specs.declared.types.Fate.TheVariants.{Untold, Told, Gone, Moved}
+use Rattle.core_index.specs.declared.types.Head.{Head}
+use Rattle.core_index.specs.declared.types.Standing.{Standing}
+use Rattle.core_index.specs.declared.types.Tombstone.{Tombstone}
+use Rattle.core_index.specs.Records.{KeyRecord, standing_with}
+use Rattle.core_index.specs.Slots.{Place}
+
+abbrev pub key_of : Tombstone → ℕ
+key_of t = t.high * 4294967296 + t.low
+
+abbrev pub name_of : Tombstone → EntryName
+name_of t = record { key = key_of t; version = t.version }
+
+abbrev pub deleted : ℕ → List Standing → KeyRecord
+deleted v ss = record { version = v; body = bodies.Tombstone; standing = ss }
+
+abbrev pub left_by : Fate → ℕ → ℕ → Option KeyRecord
+left_by Untold v home = Some (deleted v (standing_with v home false ∷ []))
+left_by Told v home = Some (deleted v (standing_with v home true ∷ []))
+left_by Gone v home = Some (deleted v [])
+left_by Moved v home = None
+
+-- the entry stands
+abbrev pub IsThere : Fate → Type 0
+IsThere Untold = Unit {0}
+IsThere Told = Unit {0}
+IsThere Gone = ⊥
+IsThere Moved = ⊥
+
+abbrev pub list_of : Option Standing → List Standing
+list_of None = []
+list_of (Some s) = s ∷ []
+
+abbrev pub standing_by : Fate → ℕ → ℕ → Option Standing
+standing_by Untold v home = Some (standing_with v home false)
+standing_by Told v home = Some (standing_with v home true)
+standing_by Gone v home = None
+standing_by Moved v home = None
+
+-- the entry, where it stands
+abbrev pub standing_left : Tombstone → Option Standing
+standing_left t = standing_by t.fate t.version t.home
+
+abbrev pub delete_at : ℕ → Head
+delete_at v = record { version = v; body = bodies.Tombstone }
+
+-- the record of the key, where it is not elsewhere
+abbrev pub left_of : Tombstone → Option KeyRecord
+left_of t = left_by t.fate t.version t.home
+
+abbrev pub place_of : Tombstone → Place
+place_of t = record { known = left_of t; room = 0 }
+
+abbrev pub found_at : List Tombstone → ℕ → Option Tombstone
+found_at [] k = None
+found_at (t ∷ ts) k = if key_of t == k then Some t else found_at ts k
+
+-- what the index keeps of these keys
+abbrev pub placed : List Tombstone → List (ℕ × Place)
+placed [] = []
+placed (t ∷ ts) = (key_of t, place_of t) ∷ placed ts
+
+abbrev pub with_fate : Fate → Tombstone → Tombstone
+with_fate f t = record { high = t.high; low = t.low; version = t.version; home = t.home; fate = f }
+
+-- the list, in which a key's entry has another fate
+abbrev pub fated : List Tombstone → ℕ → Fate → List Tombstone
+fated [] k f = []
+fated (t ∷ ts) k f = if key_of t == k then with_fate f t ∷ ts else t ∷ fated ts k f
+
+-- every key is less than this one
+abbrev pub AreLess : List Tombstone → ℕ → Type 0
+AreLess ts k = AllByRecursion (λ t. key_of t < k) ts
+
+-- each key is below those behind it
+abbrev pub Rising : List Tombstone → Type 0
+Rising [] = Unit {0}
+Rising (t ∷ ts) = AllByRecursion (λ x. key_of t < key_of x) ts × Rising ts
+
+-- the key is there
+abbrev pub bare_tombstone : Tombstone
+bare_tombstone = record { high = 0; low = 0; version = 0; home = 0; fate = Moved }
+
+pub record IsSpot (ts : List Tombstone) (k i : ℕ) : Type 0 where
+  pub within : i < length ts
+  pub key : (d : Tombstone) → key_of (slice_index_or ts i d) ≡ k
+
+-- the key is nowhere
+abbrev pub IsMissing : List Tombstone → ℕ → Type 0
+IsMissing ts k = AllByRecursion (λ t. key_of t ≢ k) ts
+
+-- the keys, and for each home how many of them it was asked about from the front on
+pub record Tombs : Type 0 where
+  pub items : List Tombstone
+  pub passed : List ℕ
+
+abbrev pub passed_at : Tombs → ℕ → ℕ
+passed_at b home = slice_index_or b.passed home 0
+
+-- The name is that of an entry at this home which its home was not asked about.
+pub record Ahead (b : Tombs) (home : ℕ) (n : EntryName) : Type 0 where
+  pub at : ℕ
+  pub from : passed_at b home ≤ at
+  pub within : at < length b.items
+  pub key : key_of (slice_index_or b.items at bare_tombstone) ≡ n.key
+  pub version : (slice_index_or b.items at bare_tombstone).version ≡ n.version
+  pub home_is : (slice_index_or b.items at bare_tombstone).home ≡ home
+
+-- What is true of the fields of such a list.
+pub record AreTombs (ts : List Tombstone) (passed : List ℕ) : Type 0 where
+  pub rising : Rising ts
+  pub homes : AllByRecursion (λ t. t.home < 16) ts
+  pub within : AllByRecursion (λ n. n ≤ length ts) passed

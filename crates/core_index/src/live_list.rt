@@ -1,0 +1,373 @@
+// The keys that had a value at the start, each by an entry that stands alone.
+ghost use Rattle.std.specs.Prelude.{◌≡◌, ◌≢◌, ℕ, ◌+◌, ◌<◌, ◌≤◌, ◌++◌, ◌∷◌, List, [], Some, None, option_map, true, false, IfOk, IfSome, IfNone, OnOk, OnErr, length, take, drop, IsTrue};
+ghost use Rattle.std.specs.List.{AllByRecursion};
+ghost use Rattle.log_entry.specs.declared.entry.EntryName.{EntryName};
+ghost use Rattle.core_index.specs.Index.{place_at, TurnsAt, gone_place, cleared};
+ghost use Rattle.core_index.specs.Noted.{name_with};
+ghost use Rattle.core_index.specs.Records.{Shows, ShowsBody, without, opened_with, last_of, live_version};
+ghost use Rattle.core_index.specs.Slots.{alive_at, count_of};
+ghost use Rattle.core_index.specs.Lives.{live_key, bytes_in, body_in, IsWithin, valued, IsStanding, live_place, live_at, turned, AllLess, KeysRise, IsLiveSpot, IsNotThere, placed_lives, FitsLive};
+
+use crate::slot::Slot;
+use crate::types::{Holding, LiveFate, LiveKey, Look, Record, Standee};
+use fs_errors::Memory;
+use fs_model::{Key, Value, Version};
+use log_entry::{Body, EntryName};
+use std::alloc::Global;
+use std::marker::Model;
+
+// By this a key is parted in two halves. Pointers and places of values are below it.
+const SHARE: u64 = 4_294_967_296;
+
+// The versions below it fit into two bytes.
+const VERSIONS: u32 = 65_536;
+
+// The homes below it fit into a byte, and so does the length of every value beside its key.
+const BYTES: u32 = 256;
+
+// By rising key, and the bytes of all values one behind the other. Only `push` and `slot` take memory.
+#[derive(Drop)]
+pub struct LiveList {
+    items: Vec<LiveKey>,
+    bytes: Vec<u8>,
+}
+
+impl Model for LiveList {
+    ghost use Rattle.core_index.specs.Lives.{Lives, AreLives};
+
+    ghost Value = { Lives };
+
+    ghost view = { λ a. record { items = a.items.items; bytes = a.bytes.items } };
+
+    ghost invariant = { λ a. AreLives a.items.items a.bytes.items };
+}
+
+pub fn key_of(live: &LiveKey) -> Key
+    ensures { result ≡ live_key live.now }
+{
+    u64::from(live.high) * SHARE + u64::from(live.low)
+}
+
+// Where the value will be, once its bytes are behind so many others.
+fn held_of(body: &Body, start: usize) -> Option<Holding>
+    ensures body { IfSome result (λ held. (bytes : List ℕ) → length bytes ≡ start
+        → body_in (bytes ++ bytes_in body.now) held ≡ body.now) }
+    ensures within { IfSome result (λ held. (bytes : List ℕ) → length bytes ≡ start
+        → IsWithin (bytes ++ bytes_in body.now) held) }
+{
+    match body {
+        Body::Tombstone => None,
+        Body::Pointer(pointer) => {
+            if *pointer >= SHARE {
+                return None;
+            }
+            Some(Holding::InBlock(*pointer as u32))
+        }
+        Body::Embedded(value) => {
+            let size = value.bytes().len();
+            if size >= BYTES as usize || start as u64 >= SHARE {
+                return None;
+            }
+            Some(Holding::Beside(start as u32, size as u8))
+        }
+    }
+}
+
+// What is known of a key, where it is of this kind and fits.
+fn live_key_of(
+    key: Key,
+    version: Version,
+    body: &Body,
+    standing: &[Standee],
+    start: usize,
+) -> Option<LiveKey>
+    ensures key { IfSome result (λ x. live_key x ≡ key) }
+    ensures within { IfSome result (λ x. (bytes : List ℕ) → length bytes ≡ start
+        → IsWithin (bytes ++ bytes_in body.now) x.held) }
+    ensures valued { IfSome result (λ x. (bytes : List ℕ) → length bytes ≡ start
+        → valued (bytes ++ bytes_in body.now) x
+        ≡ Some (opened_with version body.now standing.now)) }
+{
+    let [only] = standing else {
+        return None;
+    };
+    if version >= VERSIONS || only.version != version || only.home >= BYTES {
+        return None;
+    }
+    let held = held_of(body, start)?;
+    Some(LiveKey {
+        high: (key / SHARE) as u32,
+        low: (key % SHARE) as u32,
+        version: version as u16,
+        home: only.home as u8,
+        fate: LiveFate::Stands,
+        held,
+    })
+}
+
+// Whether its entry has this version, and stands.
+fn stands(live: &LiveKey, version: Version) -> bool
+    ensures found { result ≡ true → (live.now.version ≡ version) × IsStanding live.now.fate }
+    ensures none { (bytes : List ℕ) → result ≡ false → option_map (without version)
+        (valued bytes live.now) ≡ valued bytes live.now }
+{
+    match live.fate {
+        LiveFate::Stands => u32::from(live.version) == version,
+        _ => false,
+    }
+}
+
+// Where a key is.
+fn live_spot(items: &[LiveKey], key: Key) -> Option<usize>
+    requires { KeysRise items.now }
+    ensures found { IfSome result (IsLiveSpot items.now key) }
+    ensures missing { IfNone result (IsNotThere items.now key) }
+{
+    let at = items.partition_point(|x| key_of(x) < key);
+    if at >= items.len() {
+        return None;
+    }
+    if key_of(&items[at]) != key {
+        return None;
+    }
+    Some(at)
+}
+
+// The part of the bytes that a value has.
+fn part(bytes: &[u8], start: u32, size: u8) -> &[u8]
+    requires { start + size ≤ length bytes.now }
+    ensures { result.now ≡ take size (drop start bytes.now) }
+{
+    let start = start as usize;
+    &bytes[start..start + usize::from(size)]
+}
+
+fn show(bytes: &[u8], held: Holding) -> Look<'_>
+    requires { IsWithin bytes.now held }
+    ensures { ShowsBody (body_in bytes.now held) result }
+{
+    match held {
+        Holding::InBlock(pointer) => Look::Block(u64::from(pointer)),
+        Holding::Beside(start, size) => Look::Embedded(part(bytes, start, size)),
+    }
+}
+
+fn body_of(alloc: Global, bytes: &[u8], held: Holding) -> Result<Body, Memory>
+    requires { IsWithin bytes.now held }
+    ensures { IfOk result (λ body. body ≡ body_in bytes.now held) }
+{
+    match held {
+        Holding::InBlock(pointer) => Ok(Body::Pointer(u64::from(pointer))),
+        Holding::Beside(start, size) => {
+            let own = Vec::from_slice(alloc, part(bytes, start, size))?;
+            Ok(Body::Embedded(Value::of(own)))
+        }
+    }
+}
+
+// Adds the bytes that a body has beside its key.
+fn add_bytes(bytes: &mut Vec<u8>, body: &Body) -> Result<(), Memory>
+    ensures ok { OnOk result (bytes.new.items ≡ bytes.old.items ++ bytes_in body.now) }
+    ensures err { OnErr result (bytes.new.items ≡ bytes.old.items) }
+{
+    if let Body::Embedded(value) = body {
+        bytes.extend_from_slice(value.bytes())?;
+    }
+    Ok(())
+}
+
+// What there is of a key, and room for one change.
+fn slot_with(
+    alloc: Global,
+    key: Key,
+    version: Version,
+    body: Body,
+    standing: &[Standee],
+) -> Result<Slot, Memory>
+    requires { AllByRecursion (λ s. s.version ≤ version) standing.now }
+    ensures { IfOk result (λ slot. slot ≡ record {
+      known = Some (opened_with version body standing.now);
+      room = 1;
+    }) }
+{
+    let start = Record {
+        key,
+        version,
+        body,
+        standing: Vec::from_slice(alloc, standing)?,
+    };
+    let mut slot = Slot::of(alloc, start)?;
+    slot.reserve()?;
+    Ok(slot)
+}
+
+// What there is of a key, where it is not elsewhere, and room for one change.
+fn slot_of(alloc: Global, bytes: &[u8], live: &LiveKey) -> Result<Slot, Memory>
+    requires { IsWithin bytes.now live.now.held }
+    ensures { IfOk result (λ slot. slot ≡ record { known = valued bytes.now live.now; room = 1 }) }
+{
+    let key = key_of(live);
+    let version = u32::from(live.version);
+    match live.fate {
+        LiveFate::Moved => Slot::with_room(alloc),
+        LiveFate::Gone => slot_with(alloc, key, version, body_of(alloc, bytes, live.held)?, &[]),
+        LiveFate::Stands => {
+            let only = Standee {
+                version,
+                home: u32::from(live.home),
+            };
+            slot_with(
+                alloc,
+                key,
+                version,
+                body_of(alloc, bytes, live.held)?,
+                &[only],
+            )
+        }
+    }
+}
+
+pub fn last_of(live: &LiveKey) -> Version
+    ensures { (bytes : List ℕ) → result ≡ last_of (valued bytes live.now) }
+{
+    match live.fate {
+        LiveFate::Moved => 0,
+        _ => u32::from(live.version),
+    }
+}
+
+// How many entries of the key may still die.
+pub fn count_alive(live: &LiveKey) -> u64
+    ensures { (bytes : List ℕ) → result ≡ count_of (alive_at (valued bytes live.now)) }
+{
+    match live.fate {
+        LiveFate::Stands => 1,
+        _ => 0,
+    }
+}
+
+impl LiveList {
+    pub fn empty(alloc: Global) -> LiveList
+        ensures { result.items ≡ [] }
+    {
+        LiveList {
+            items: Vec::new(alloc),
+            bytes: Vec::new(alloc),
+        }
+    }
+
+    // The keys by rising key.
+    pub fn items(&self) -> &[LiveKey]
+        ensures items { result.now ≡ self.now.items }
+        ensures rising { KeysRise self.now.items }
+    {
+        &self.items
+    }
+
+    // Whether a key is above all of these.
+    pub fn is_below(&self, key: Key) -> bool
+        ensures { result ≡ true → AllLess self.now.items key }
+    {
+        match self.items.last() {
+            None => true,
+            Some(last) => key_of(last) < key,
+        }
+    }
+
+    // What is known of a key at the start, where it fits into the list.
+    pub fn fit(
+        &self,
+        key: Key,
+        version: Version,
+        body: &Body,
+        standing: &[Standee],
+    ) -> Option<LiveKey>
+        ensures { IfSome result (FitsLive self.now key body.now
+            (opened_with version body.now standing.now)) }
+    {
+        if !self.is_below(key) {
+            return None;
+        }
+        live_key_of(key, version, body, standing, self.bytes.len())
+    }
+
+    // Adds a key that is above all others.
+    pub fn push(&mut self, live: LiveKey, body: &Body) -> Result<(), Memory>
+        requires above { AllLess self.old.items (live_key live) }
+        requires within { IsWithin (self.old.bytes ++ bytes_in body.now) live.held }
+        ensures ok { OnOk result (TurnsAt (placed_lives self.old) (placed_lives self.new)
+            (live_key live) (Some (live_place (self.old.bytes ++ bytes_in body.now) live))) }
+        ensures err { OnErr result (placed_lives self.new ≡ placed_lives self.old) }
+    {
+        add_bytes(&mut self.bytes, body)?;
+        self.items.push(live)?;
+        Ok(())
+    }
+
+    // What there is of a key.
+    pub fn find(&self, key: Key) -> Option<LiveKey>
+        ensures found { result ≡ live_at self.now.items key }
+        ensures within { IfSome result (λ x. IsWithin self.now.bytes x.held) }
+    {
+        let Some(spot) = live_spot(&self.items, key) else {
+            return None;
+        };
+        Some(self.items[spot])
+    }
+
+    // What such a key has.
+    pub fn look(&self, live: &LiveKey) -> Look<'_>
+        requires { IsWithin self.now.bytes live.now.held }
+        ensures { Shows (valued self.now.bytes live.now) result }
+    {
+        match live.fate {
+            LiveFate::Moved => Look::Unknown,
+            _ => show(&self.bytes, live.held),
+        }
+    }
+
+    // What there is of such a key, with room for one change.
+    pub fn slot(&self, alloc: Global, live: &LiveKey) -> Result<Slot, Memory>
+        requires { IsWithin self.now.bytes live.now.held }
+        ensures { IfOk result (λ slot. slot ≡ record {
+          known = valued self.now.bytes live.now;
+          room = 1;
+        }) }
+    {
+        slot_of(alloc, &self.bytes, live)
+    }
+
+    // Gives the entry of a key another fate.
+    fn set(&mut self, key: Key, fate: LiveFate)
+        ensures { self.new ≡ record {
+          items = turned self.old.items key fate;
+          bytes = self.old.bytes;
+        } }
+    {
+        let Some(spot) = live_spot(&self.items, key) else {
+            return;
+        };
+        self.items[spot].fate = fate;
+    }
+
+    // Takes an entry out of those that stand.
+    pub fn gone(&mut self, name: EntryName)
+        ensures { TurnsAt (placed_lives self.old) (placed_lives self.new) name.key
+            (option_map (gone_place name.version) (place_at (placed_lives self.old) name.key)) }
+    {
+        let Some(live) = self.find(name.key) else {
+            return;
+        };
+        if stands(&live, name.version) {
+            self.set(name.key, LiveFate::Gone);
+        }
+    }
+
+    // Takes the record of a key out.
+    pub fn clear(&mut self, key: Key)
+        ensures { TurnsAt (placed_lives self.old) (placed_lives self.new) key
+            (option_map cleared (place_at (placed_lives self.old) key)) }
+    {
+        self.set(key, LiveFate::Moved);
+    }
+}

@@ -1,0 +1,182 @@
+// The keys that are as they were at the start.
+ghost use Rattle.std.specs.Prelude.{◌≡◌, ◌≢◌, ◌⊎◌, ℕ, ◌+◌, ◌<◌, ◌≤◌, ◌++◌, ◌∷◌, [], Some, None, option_map, true, false, IfOk, IfSome, IfNone, OnOk, OnErr, length};
+ghost use Rattle.log_entry.specs.declared.entry.EntryName.{EntryName};
+ghost use Rattle.core_index.specs.Index.{known_at, place_at, ToldAt, TurnsAt, StartTurns};
+ghost use Rattle.core_index.specs.Records.{Awaits, Shows, without, last_of, is_dead_in, is_forgettable};
+ghost use Rattle.core_index.specs.Slots.{alive_at, count_of};
+ghost use Rattle.core_index.specs.Starts.{started, IsAhead};
+ghost use Rattle.core_index.specs.Tombs.{key_of, name_of, AreLess, passed_at};
+ghost use Rattle.core_index.specs.Lives.{live_key, live_place, bytes_in, AllLess, IsWithin};
+
+use crate::live_list::{LiveList, count_alive, last_of};
+use crate::slot::Slot;
+use crate::tombstones::Tombstones;
+use crate::types::{LiveKey, Look, Tombstone};
+use fs_errors::Memory;
+use fs_model::{Key, Version};
+use log_entry::{Body, EntryName};
+use std::alloc::Global;
+
+// Those with a value, and those that were deleted. What the first list has of a key counts. Only the calls that add a
+// key and `slot` take memory.
+#[derive(Drop)]
+pub struct StartKeys {
+    pub live: LiveList,
+    pub deleted: Tombstones,
+}
+
+impl StartKeys {
+    pub fn empty(alloc: Global) -> StartKeys
+        ensures { started result ≡ [] }
+    {
+        StartKeys {
+            live: LiveList::empty(alloc),
+            deleted: Tombstones::empty(alloc),
+        }
+    }
+
+    // Adds a deleted key that is above all others.
+    pub fn add_deleted(&mut self, tombstone: Tombstone) -> Result<(), Memory>
+        requires above { AreLess self.old.deleted.items (key_of tombstone) }
+        requires home { tombstone.home < 16 }
+        ensures ok { OnOk result (self.new ≡ record {
+          live = self.old.live;
+          deleted = record {
+            items = self.old.deleted.items ++ tombstone ∷ [];
+            passed = self.old.deleted.passed;
+          };
+        }) }
+        ensures room { (h : ℕ) → passed_at self.old.deleted h ≤ length self.old.deleted.items }
+        ensures err { OnErr result (self.new ≡ self.old) }
+    {
+        self.deleted.push(tombstone)
+    }
+
+    // Adds a key with a value that is above all others of this kind.
+    pub fn add_live(&mut self, live: LiveKey, body: &Body) -> Result<(), Memory>
+        requires above { AllLess self.old.live.items (live_key live) }
+        requires within { IsWithin (self.old.live.bytes ++ bytes_in body.now) live.held }
+        ensures ok { OnOk result (TurnsAt (started self.old) (started self.new) (live_key live)
+            (Some (live_place (self.old.live.bytes ++ bytes_in body.now) live))) }
+        ensures err { OnErr result (started self.new ≡ started self.old) }
+        ensures deleted { self.new.deleted ≡ self.old.deleted }
+    {
+        self.live.push(live, body)
+    }
+
+    pub fn last(&self, key: Key) -> Version
+        ensures { result ≡ last_of (known_at (started self.now) key) }
+    {
+        match self.live.find(key) {
+            None => self.deleted.last(key),
+            Some(live) => last_of(&live),
+        }
+    }
+
+    pub fn look(&self, key: Key) -> Look<'_>
+        ensures { Shows (known_at (started self.now) key) result }
+    {
+        match self.live.find(key) {
+            None => self.deleted.look(key),
+            Some(live) => self.live.look(&live),
+        }
+    }
+
+    // How many entries of the key may still die.
+    pub fn count_alive(&self, key: Key) -> u64
+        ensures { result ≡ count_of (alive_at (known_at (started self.now) key)) }
+    {
+        match self.live.find(key) {
+            None => 0,
+            Some(live) => count_alive(&live),
+        }
+    }
+
+    pub fn is_forgettable(&self, key: Key) -> bool
+        ensures { result ≡ is_forgettable (known_at (started self.now) key) }
+    {
+        match self.live.find(key) {
+            None => self.deleted.is_forgettable(key),
+            Some(_) => false,
+        }
+    }
+
+    // Whether an entry of this name stands and is dead.
+    pub fn is_dead(&self, name: EntryName) -> bool
+        ensures { result ≡ is_dead_in (known_at (started self.now) name.key) name.version }
+    {
+        match self.live.find(name.key) {
+            None => self.deleted.is_dead(name),
+            Some(_) => false,
+        }
+    }
+
+    // What there is of a key, with room for one change; nothing where it is not among these.
+    pub fn slot(&self, alloc: Global, key: Key) -> Result<Option<Slot>, Memory>
+        ensures slot { IfOk result (λ found. IfSome found (λ slot. slot ≡ record {
+          known = known_at (started self.now) key;
+          room = 1;
+        })) }
+        ensures none { IfOk result (λ found. IfNone found (known_at (started self.now) key
+            ≡ None)) }
+    {
+        if let Some(live) = self.live.find(key) {
+            return Ok(Some(self.live.slot(alloc, &live)?));
+        }
+        let Some(tombstone) = self.deleted.find(key) else {
+            return Ok(None);
+        };
+        Ok(Some(Slot::of_tombstone(alloc, &tombstone)?))
+    }
+
+    // Tells a home of a dead entry, where it waits to be told.
+    pub fn tell(&mut self, name: EntryName, home: u32) -> bool
+        ensures told { result ≡ true → ToldAt (started self.old) (started self.new) home name }
+        ensures none { result ≡ false → ¬ Awaits (known_at (started self.old) name.key) home
+            name.version }
+        ensures unchanged { result ≡ false → self.new ≡ self.old }
+        ensures ahead { (h : ℕ) (n : EntryName) → IsAhead self.old h n → IsAhead self.new h n }
+    {
+        match self.live.find(name.key) {
+            None => self.deleted.tell(name, home),
+            Some(_) => false,
+        }
+    }
+
+    // Takes an entry out of those that stand.
+    pub fn gone(&mut self, name: EntryName)
+        ensures gone { StartTurns self.old self.new name.key
+            (option_map (without name.version) (known_at (started self.old) name.key)) }
+        ensures none { (home v : ℕ) → Awaits (known_at (started self.new) name.key) home v
+            → Awaits (known_at (started self.old) name.key) home v }
+    {
+        match self.live.find(name.key) {
+            None => self.deleted.gone(name),
+            Some(_) => self.live.gone(name),
+        }
+    }
+
+    // Takes the record of a key out.
+    pub fn clear(&mut self, key: Key)
+        ensures { StartTurns self.old self.new key None }
+    {
+        self.live.clear(key);
+        self.deleted.clear(key);
+    }
+
+    // The next deleted key that this home was not asked about.
+    pub fn pass(&mut self, home: u32) -> Option<Tombstone>
+        ensures none { IfNone result ((n : EntryName) → ¬ IsAhead self.old home n) }
+        ensures unchanged { IfNone result (self.new ≡ self.old) }
+        ensures others { IfSome result (λ t. (h : ℕ) (n : EntryName) → IsAhead self.old h n
+            → ((h ≡ home) × (n ≡ name_of t) × (t.home ≡ home))
+            ⊎ IsAhead self.new h n) }
+        ensures same { started self.new ≡ started self.old }
+        ensures items { self.new.deleted.items ≡ self.old.deleted.items }
+        ensures more { IfSome result (λ _. (passed_at self.old.deleted home
+            < length self.old.deleted.items)
+            × (passed_at self.new.deleted home ≡ passed_at self.old.deleted home + 1)) }
+    {
+        self.deleted.pass(home)
+    }
+}

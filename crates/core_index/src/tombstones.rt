@@ -1,0 +1,317 @@
+// The keys that were deleted before the start, each by an entry that stands alone.
+ghost use Rattle.std.specs.Prelude.{◌≡◌, ◌≢◌, ◌⊎◌, ℕ, ◌+◌, ◌<◌, ◌≤◌, ◌++◌, ◌∷◌, [], Some, None, option_map, true, false, IfSome, IfNone, OnOk, OnErr, length};
+ghost use Rattle.std.specs.Bool.{Decides};
+ghost use Rattle.log_entry.specs.declared.entry.EntryName.{EntryName};
+ghost use Rattle.core_index.specs.Index.{known_at, ToldAt, Turns};
+ghost use Rattle.core_index.specs.Records.{Awaits, Shows, without, opened_with, last_of, is_dead_in, is_forgettable};
+ghost use Rattle.core_index.specs.Tombs.{key_of, name_of, left_of, placed, found_at, fated, AreLess, Rising, IsSpot, IsMissing, IsThere, passed_at, Ahead};
+
+use crate::types::{Fate, Look, Standee, Tombstone};
+use fs_errors::Memory;
+use fs_model::{Key, Version};
+use log_entry::{Body, EntryName};
+use std::alloc::Global;
+use std::marker::Model;
+
+// By this a key is parted in two halves.
+const SHARE: u64 = 4_294_967_296;
+
+// The versions below it fit into two bytes.
+const VERSIONS: u32 = 65_536;
+
+// As many as a region has cores at most.
+const HOMES: u32 = 16;
+
+// By rising key. For each home the first `passed` of them need not be looked at to tell it of a death. Only `push`
+// takes memory.
+#[derive(Drop)]
+pub struct Tombstones {
+    items: Vec<Tombstone>,
+    passed: [usize; 16],
+}
+
+impl Model for Tombstones {
+    ghost use Rattle.core_index.specs.Tombs.{Tombs, AreTombs};
+
+    ghost Value = { Tombs };
+
+    ghost view = { λ a. record { items = a.items.items; passed = a.passed } };
+
+    ghost invariant = { λ a. AreTombs a.items.items a.passed };
+}
+
+fn key_of(tombstone: &Tombstone) -> Key
+    ensures { result ≡ key_of tombstone.now }
+{
+    u64::from(tombstone.high) * SHARE + u64::from(tombstone.low)
+}
+
+pub fn name_of(tombstone: &Tombstone) -> EntryName
+    ensures { result ≡ name_of tombstone.now }
+{
+    EntryName {
+        key: key_of(tombstone),
+        version: u32::from(tombstone.version),
+    }
+}
+
+// What is known of a key, where it is of this kind and fits.
+pub fn tombstone_of(
+    key: Key,
+    version: Version,
+    body: &Body,
+    standing: &[Standee],
+) -> Option<Tombstone>
+    ensures key { IfSome result (λ t. key_of t ≡ key) }
+    ensures home { IfSome result (λ t. t.home < 16) }
+    ensures left { IfSome result (λ t. left_of t
+        ≡ Some (opened_with version body.now standing.now)) }
+    ensures name { IfSome result (λ t. t.version ≡ version) }
+{
+    let Body::Tombstone = body else {
+        return None;
+    };
+    let [only] = standing else {
+        return None;
+    };
+    if version >= VERSIONS || only.version != version || only.home >= HOMES {
+        return None;
+    }
+    Some(Tombstone {
+        high: (key / SHARE) as u32,
+        low: (key % SHARE) as u32,
+        version: version as u16,
+        home: only.home as u8,
+        fate: Fate::Untold,
+    })
+}
+
+fn last_of(tombstone: &Tombstone) -> Version
+    ensures { result ≡ last_of (left_of tombstone.now) }
+{
+    match tombstone.fate {
+        Fate::Moved => 0,
+        _ => u32::from(tombstone.version),
+    }
+}
+
+fn is_gone(tombstone: &Tombstone) -> bool
+    ensures { result ≡ is_forgettable (left_of tombstone.now) }
+{
+    match tombstone.fate {
+        Fate::Gone => true,
+        _ => false,
+    }
+}
+
+// Whether its entry has this version, and stands: it is dead then.
+fn is_dead(tombstone: &Tombstone, version: Version) -> bool
+    ensures { result ≡ is_dead_in (left_of tombstone.now) version }
+{
+    match tombstone.fate {
+        Fate::Untold | Fate::Told => u32::from(tombstone.version) == version,
+        _ => false,
+    }
+}
+
+// Whether its entry has this version, and stands.
+fn stands(tombstone: &Tombstone, version: Version) -> bool
+    ensures found { result ≡ true → (tombstone.now.version ≡ version) × IsThere tombstone.now.fate }
+    ensures none { result ≡ false → option_map (without version) (left_of tombstone.now)
+        ≡ left_of tombstone.now }
+{
+    match tombstone.fate {
+        Fate::Untold | Fate::Told => u32::from(tombstone.version) == version,
+        _ => false,
+    }
+}
+
+// Whether its entry has this version and home, and its death was not told.
+fn awaits(tombstone: &Tombstone, version: Version, home: u32) -> bool
+    ensures { Decides result (Awaits (left_of tombstone.now) home version) }
+{
+    match tombstone.fate {
+        Fate::Untold => {
+            u32::from(tombstone.version) == version && u32::from(tombstone.home) == home
+        }
+        _ => false,
+    }
+}
+
+// Where a key is.
+fn spot_of(items: &[Tombstone], key: Key) -> Option<usize>
+    requires { Rising items.now }
+    ensures found { IfSome result (IsSpot items.now key) }
+    ensures missing { IfNone result (IsMissing items.now key) }
+{
+    let at = items.partition_point(|t| key_of(t) < key);
+    if at >= items.len() {
+        return None;
+    }
+    if key_of(&items[at]) != key {
+        return None;
+    }
+    Some(at)
+}
+
+impl Tombstones {
+    pub fn empty(alloc: Global) -> Tombstones
+        ensures { result.items ≡ [] }
+    {
+        Tombstones {
+            items: Vec::new(alloc),
+            passed: [0; 16],
+        }
+    }
+
+    // Whether a key is above all of these.
+    pub fn is_below(&self, key: Key) -> bool
+        ensures { result ≡ true → AreLess self.now.items key }
+    {
+        match self.items.last() {
+            None => true,
+            Some(last) => key_of(last) < key,
+        }
+    }
+
+    // Adds a key that is above all others.
+    pub fn push(&mut self, tombstone: Tombstone) -> Result<(), Memory>
+        requires above { AreLess self.old.items (key_of tombstone) }
+        requires home { tombstone.home < 16 }
+        ensures ok { OnOk result (self.new ≡ record {
+          items = self.old.items ++ tombstone ∷ [];
+          passed = self.old.passed;
+        }) }
+        ensures room { (h : ℕ) → passed_at self.old h ≤ length self.old.items }
+        ensures err { OnErr result (self.new ≡ self.old) }
+    {
+        self.items.push(tombstone)?;
+        Ok(())
+    }
+
+    // What there is of a key.
+    pub fn find(&self, key: Key) -> Option<Tombstone>
+        ensures { result ≡ found_at self.now.items key }
+    {
+        let Some(spot) = spot_of(&self.items, key) else {
+            return None;
+        };
+        Some(self.items[spot])
+    }
+
+    pub fn last(&self, key: Key) -> Version
+        ensures { result ≡ last_of (known_at (placed self.now.items) key) }
+    {
+        match self.find(key) {
+            None => 0,
+            Some(tombstone) => last_of(&tombstone),
+        }
+    }
+
+    pub fn look(&self, key: Key) -> Look<'_>
+        ensures { Shows (known_at (placed self.now.items) key) result }
+    {
+        match self.find(key) {
+            None => Look::Unknown,
+            Some(tombstone) => match tombstone.fate {
+                Fate::Moved => Look::Unknown,
+                _ => Look::Deleted,
+            },
+        }
+    }
+
+    pub fn is_forgettable(&self, key: Key) -> bool
+        ensures { result ≡ is_forgettable (known_at (placed self.now.items) key) }
+    {
+        match self.find(key) {
+            None => false,
+            Some(tombstone) => is_gone(&tombstone),
+        }
+    }
+
+    pub fn is_dead(&self, name: EntryName) -> bool
+        ensures { result ≡ is_dead_in (known_at (placed self.now.items) name.key) name.version }
+    {
+        match self.find(name.key) {
+            None => false,
+            Some(tombstone) => is_dead(&tombstone, name.version),
+        }
+    }
+
+    // Gives the entry of a key another fate.
+    pub fn set(&mut self, key: Key, fate: Fate)
+        ensures { self.new ≡ record {
+          items = fated self.old.items key fate;
+          passed = self.old.passed;
+        } }
+    {
+        let Some(spot) = spot_of(&self.items, key) else {
+            return;
+        };
+        self.items[spot].fate = fate;
+    }
+
+    // Tells a home of a dead entry, where it waits to be told.
+    pub fn tell(&mut self, name: EntryName, home: u32) -> bool
+        ensures told { result ≡ true → ToldAt (placed self.old.items) (placed self.new.items) home
+            name }
+        ensures none { result ≡ false → ¬ Awaits (known_at (placed self.old.items) name.key) home
+            name.version }
+        ensures unchanged { result ≡ false → self.new ≡ self.old }
+        ensures ahead { (h : ℕ) (n : EntryName) → Ahead self.old h n → Ahead self.new h n }
+    {
+        let Some(tombstone) = self.find(name.key) else {
+            return false;
+        };
+        if !awaits(&tombstone, name.version, home) {
+            return false;
+        }
+        self.set(name.key, Fate::Told);
+        true
+    }
+
+    // Takes an entry out of those that stand.
+    pub fn gone(&mut self, name: EntryName)
+        ensures gone { Turns self.old self.new name.key
+            (option_map (without name.version) (known_at (placed self.old.items) name.key)) }
+        ensures none { (home v : ℕ) → Awaits (known_at (placed self.new.items) name.key) home v
+            → Awaits (known_at (placed self.old.items) name.key) home v }
+    {
+        let Some(tombstone) = self.find(name.key) else {
+            return;
+        };
+        if stands(&tombstone, name.version) {
+            self.set(name.key, Fate::Gone);
+        }
+    }
+
+    // Takes the record of a key out.
+    pub fn clear(&mut self, key: Key)
+        ensures { Turns self.old self.new key None }
+    {
+        self.set(key, Fate::Moved);
+    }
+
+    // The next key that this home was not asked about.
+    pub fn pass(&mut self, home: u32) -> Option<Tombstone>
+        ensures none { IfNone result ((n : EntryName) → ¬ Ahead self.old home n) }
+        ensures unchanged { IfNone result (self.new ≡ self.old) }
+        ensures others { IfSome result (λ t. (h : ℕ) (n : EntryName) → Ahead self.old h n
+            → ((h ≡ home) × (n ≡ name_of t) × (t.home ≡ home))
+            ⊎ Ahead self.new h n) }
+        ensures items { self.new.items ≡ self.old.items }
+        ensures more { IfSome result (λ _. (passed_at self.old home < length self.old.items)
+            × (passed_at self.new home ≡ passed_at self.old home + 1)) }
+    {
+        let count = self.items.len();
+        if home >= HOMES {
+            return None;
+        }
+        let at = self.passed[home as usize];
+        if at >= count {
+            return None;
+        }
+        self.passed[home as usize] = at + 1;
+        Some(self.items[at])
+    }
+}

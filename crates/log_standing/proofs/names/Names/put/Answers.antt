@@ -1,0 +1,32 @@
+use Rattle.std.proofs.Common.{◌≡◌, ◌++◌, Option, Some, ◌∙◌, subst}
+use Rattle.log_standing.specs.declared.types.Copies.{Copies}
+use Rattle.log_standing.specs.NameItems.{Writes}
+use Rattle.log_standing.specs.declared.names.Names.TheInside.{Inside}
+use Rattle.log_standing.specs.TwoParts.{NamesState}
+use Rattle.log_standing.proofs.PartLaws.{writes_first, writes_second}
+use Rattle.log_standing.proofs.names.Names.put.Goals.{else-is_none-via-then-is_none+else-put, else-is_none-via-else-is_none}
+use Rattle.log_standing.proofs.names.Names.put.Goals as goal
+
+pub returns-then-put-clause-put : goal.returns-then-put-clause-put
+returns-then-put-clause-put c =
+    let k = c.args.name.key in
+    let v = c.args.name.version in
+    let l = c.self.inside.later.entries in
+    subst (λ (s : NamesState). Writes s.entries (c.put.new.self ++ l) k v (Some c.args.copies)) c.self.view_is
+    (writes_first c.self.inside.table c.put.new.self l k v c.args.copies (c.put.ensures.put c.if-put.true))
+
+pub returns-clause-put : goal.returns-clause-put
+returns-clause-put c =
+    let k = c.args.name.key in
+    let v = c.args.name.version in
+    let new = c.take.new.self ++ c.put_in.new.names.entries in
+    let some : Option Copies = Some c.args.copies in
+    let before = c.else-is_none.self-inside in
+    let is : before ≡ c.self.inside = elim c.else-is_none.branch [
+      | else-is_none-via-then-is_none+else-put w ↦ w.self-inside-is ∙ (λ i. record { table = w.put.ensures.same w.if-put.false i; later = c.self.inside.later })
+      | else-is_none-via-else-is_none w ↦ w.self-inside-is
+    ] in
+    let later : Writes before.later.entries c.put_in.new.names.entries k v some = λ j w. c.put_in.ensures.put (j, w) in
+    subst (λ (s : NamesState). Writes s.entries new k v some) c.self.view_is
+    (subst (λ (a : Inside). Writes (a.table ++ a.later.entries) new k v some) is
+    (writes_second before.table c.take.new.self before.later.entries c.put_in.new.names.entries k v some c.take.ensures later))

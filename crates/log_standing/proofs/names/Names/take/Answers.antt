@@ -1,0 +1,14 @@
+use Rattle.std.proofs.Common.{◌++◌, None, subst}
+use Rattle.log_standing.specs.NameItems.{Writes}
+use Rattle.log_standing.specs.TwoParts.{NamesState}
+use Rattle.log_standing.proofs.PartLaws.{writes_second}
+use Rattle.log_standing.proofs.names.Names.take.Goals as goal
+
+pub returns-clause-taken : goal.returns-clause-taken
+returns-clause-taken c =
+    let k = c.args.name.key in
+    let v = c.args.name.version in
+    let more = c.take_in.new.names.entries in
+    let later : Writes c.self.inside.later.entries more k v None = λ j w. c.take_in.ensures.taken (j, w) in
+    subst (λ (s : NamesState). Writes s.entries (c.take.new.self ++ more) k v None) c.self.view_is
+    (writes_second c.self.inside.table c.take.new.self c.self.inside.later.entries more k v None c.take.ensures later)

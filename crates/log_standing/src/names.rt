@@ -1,0 +1,143 @@
+// The names of a log: those that were found at the start in a sorted table, and later ones in a map.
+ghost use Rattle.std.specs.Prelude.{◌≡◌, ℕ, ◌+◌, ◌<◌, ◌≤◌, max, Some, None, IsSome, OnOk, if◌then◌else◌};
+ghost use Rattle.std.specs.HashMap.{get, spare};
+ghost use Rattle.log_standing.specs.NameCounts.{name_eq, count_in};
+ghost use Rattle.log_standing.specs.NameItems.{copies_among, Writes};
+
+use crate::name_table::NameTable;
+use crate::types::Copies;
+use fs_errors::Memory;
+use fs_model::{Key, Version};
+use log_entry::EntryName;
+use std::alloc::Global;
+use std::collections::HashMap;
+use std::marker::Model;
+
+// A name of the table that comes back stands there again, so none is in both.
+#[derive(Drop)]
+pub struct Names {
+    table: NameTable,
+    later: HashMap<(Key, Version), Copies>,
+}
+
+impl Model for Names {
+    ghost use Rattle.std.specs.HashMap.{spare};
+    ghost use Rattle.std.specs.Prelude.{◌++◌};
+    ghost use Rattle.log_standing.specs.TwoParts.{NamesState, AreApart};
+
+    ghost Value = { NamesState };
+
+    ghost view = { λ a. record { entries = a.table ++ a.later.entries; spare = spare a.later } };
+
+    ghost invariant = { λ a. AreApart a.table a.later.entries };
+}
+
+// What a name of the map has.
+fn copies_in(names: &HashMap<(Key, Version), Copies>, name: EntryName) -> Option<Copies>
+    ensures { result ≡ get name_eq names.now (name.key, name.version) }
+{
+    names.get(&(name.key, name.version)).copied()
+}
+
+// Writes what a name of the map has.
+fn set_in(names: &mut HashMap<(Key, Version), Copies>, name: EntryName, copies: Copies)
+    ensures set { IsSome (get name_eq names.old (name.key, name.version)) → (q : ℕ × ℕ)
+        → get name_eq names.new q ≡ (if name_eq (name.key, name.version) q then Some copies
+        else get name_eq names.old q) }
+    ensures spare { spare names.new ≡ spare names.old }
+{
+    if let Some(place) = names.get_mut(&(name.key, name.version)) {
+        *place = copies;
+    }
+}
+
+// Enters a name into the map. There is a place for it.
+fn put_in(names: &mut HashMap<(Key, Version), Copies>, name: EntryName, copies: Copies)
+    requires { 0 < spare names.old }
+    ensures put { (q : ℕ × ℕ) → get name_eq names.new q ≡ (if name_eq (name.key, name.version) q
+        then Some copies else get name_eq names.old q) }
+    ensures spare { spare names.old ≤ spare names.new + 1 }
+{
+    let put: Result<_, _> = names.insert((name.key, name.version), copies);
+    let _ = put.unwrap();
+}
+
+// Takes a name out of the map.
+fn take_in(names: &mut HashMap<(Key, Version), Copies>, name: EntryName)
+    ensures taken { (q : ℕ × ℕ) → get name_eq names.new q ≡ (if name_eq (name.key, name.version) q
+        then None else get name_eq names.old q) }
+    ensures spare { spare names.old ≤ spare names.new }
+{
+    let _ = names.remove(&(name.key, name.version));
+}
+
+impl Names {
+    // The names of a table.
+    pub fn of(alloc: Global, table: NameTable) -> Names
+        ensures { (k v : ℕ) → copies_among result.entries k v ≡ copies_among table k v }
+    {
+        Names {
+            table,
+            later: HashMap::new(alloc),
+        }
+    }
+
+    // What a name has.
+    pub fn get(&self, name: EntryName) -> Option<Copies>
+        ensures { result ≡ copies_among self.now.entries name.key name.version }
+    {
+        match self.table.get(name) {
+            Some(copies) => Some(copies),
+            None => copies_in(&self.later, name),
+        }
+    }
+
+    // Makes room for so many more names.
+    pub fn reserve(&mut self, more: u64) -> Result<(), Memory>
+        ensures copies { (k v : ℕ) → copies_among self.new.entries k v
+            ≡ copies_among self.old.entries k v }
+        ensures ok { OnOk result (more ≤ self.new.spare) }
+        ensures spare { self.old.spare ≤ self.new.spare }
+    {
+        self.later.reserve(more as usize)?;
+        Ok(())
+    }
+
+    // Writes what a name has that stands. The count is no greater than before.
+    pub fn set(&mut self, name: EntryName, copies: Copies)
+        requires stands { IsSome (copies_among self.old.entries name.key name.version) }
+        requires some { 0 < copies.count }
+        requires fits { copies.count ≤ max 2
+            (count_in (copies_among self.old.entries name.key name.version)) }
+        ensures set { Writes self.old.entries self.new.entries name.key name.version (Some copies) }
+        ensures spare { self.new.spare ≡ self.old.spare }
+    {
+        if self.table.get(name).is_some() {
+            let _ = self.table.put(name, copies);
+        } else {
+            set_in(&mut self.later, name, copies);
+        }
+    }
+
+    // Writes what a name has, whether or not it stands. There is a place for it.
+    pub fn put(&mut self, name: EntryName, copies: Copies)
+        requires { 0 < self.old.spare }
+        ensures put { Writes self.old.entries self.new.entries name.key name.version (Some copies) }
+        ensures spare { self.old.spare ≤ self.new.spare + 1 }
+    {
+        if copies_in(&self.later, name).is_none() && self.table.put(name, copies) {
+            return;
+        }
+        self.table.take(name);
+        put_in(&mut self.later, name, copies);
+    }
+
+    // Takes a name out.
+    pub fn take(&mut self, name: EntryName)
+        ensures taken { Writes self.old.entries self.new.entries name.key name.version None }
+        ensures spare { self.old.spare ≤ self.new.spare }
+    {
+        self.table.take(name);
+        take_in(&mut self.later, name);
+    }
+}
