@@ -1,5 +1,5 @@
 -- What is found of an image's entries, and what the image has there.
-use Rattle.std.proofs.Common.{◌≡◌, ◌⊎◌, inl, inr, ℕ, zero, suc, ◌+◌, ◌-◌, ◌*◌, ◌/◌, ◌%◌, ◌<◌, ◌≤◌, ◌==◌, ◌&&◌, nat_le, Bool, true, false, cond, List, [], ◌∷◌, ◌++◌, length, drop, map, Option, Some, None, refl, sym, ◌∙◌, ap, subst, arith}
+use Rattle.std.proofs.Common.{◌≡◌, ℕ, zero, suc, ◌+◌, ◌-◌, ◌*◌, ◌/◌, ◌%◌, ◌<◌, ◌≤◌, ◌==◌, ◌&&◌, nat_le, Bool, true, false, cond, List, [], ◌∷◌, ◌++◌, length, drop, map, Option, Some, None, refl, sym, ◌∙◌, ap, subst, arith}
 use Rattle.std.specs.Prelude.{Result, Ok, Err, Vec}
 use Rattle.std.specs.Global.{Global}
 use Rattle.std.proofs.lemmas.Nat.{div-mul-add, mod-mul-add}
@@ -14,11 +14,10 @@ use Rattle.log_entry.proofs.Clients.{scan_spelled}
 use Rattle.chunk_map.specs.declared.layouts.Geometry.{Geometry}
 use Rattle.chunk_map.specs.declared.heads.Head.{Head}
 use Rattle.chunk_map.specs.declared.heads.Head.TheVariants.{Free, Log, Data}
-use Rattle.chunk_map.specs.Layouts.{numbers, chunk_words, payload_words, chunk_first, head_at, is_class, total_bytes}
+use Rattle.chunk_map.specs.Layouts.{numbers, chunk_words, payload_words, chunk_first, head_at, is_class}
 use Rattle.store_image.specs.declared.types.PlacedEntry.{PlacedEntry}
 use Rattle.store_image.specs.declared.types.Fault.{Fault}
-use Rattle.store_image.specs.Parts.{payload, scan_behind, scan_at, placed, chunk_entries, part_entries, all_entries}
-use Rattle.store_image.proofs.Clients.{layout_numbers}
+use Rattle.store_image.specs.Parts.{payload, scan_behind, placed, chunk_entries, part_entries, all_entries}
 use Rattle.core_log.specs.Log as log
 use Rattle.core_log.proofs.Clients.{spelled_by, placed_items, HaveSpelling, items_of, items_spelled, items_placed, items_have, drop_behind, first_is, Spells, entry_fits, entry_words}
 use Rattle.recover.specs.declared.found_entries.Found.{Found}

@@ -10,7 +10,7 @@ use Rattle.log_entry.proofs.Images.{length-words}
 use Rattle.chunk_map.specs.declared.layouts.Geometry.{Geometry}
 use Rattle.chunk_map.specs.declared.heads.Head.{Head}
 use Rattle.chunk_map.specs.declared.heads.Head.TheVariants.{Free, Log, Data}
-use Rattle.chunk_map.specs.Layouts.{IsLayout, numbers, chunk_words, payload_words, chunk_first, head_at}
+use Rattle.chunk_map.specs.Layouts.{IsLayout, numbers, chunk_words, chunk_first, head_at}
 use Rattle.store_image.specs.declared.types.PlacedEntry.{PlacedEntry}
 use Rattle.store_image.specs.Parts.{payload, scan_behind, placed, chunk_entries, part_entries, all_entries}
 use Rattle.store_image.proofs.Places.{layout_numbers}
