@@ -1,20 +1,18 @@
 -- Found entries, and what an image has where they stand.
-use Rattle.std.proofs.Common.{◌≡◌, ◌⊎◌, inl, inr, ℕ, zero, suc, ◌+◌, ◌-◌, ◌*◌, ◌/◌, ◌%◌, ◌^◌, ◌<◌, ◌≤◌, List, [], ◌∷◌, ◌++◌, length, get_or, refl, sym, ◌∙◌, ap, subst, arith, ◌==◌, ◌&&◌, Bool, true, false, cond, ltb, map}
+use Rattle.std.proofs.Common.{◌≡◌, ℕ, ◌+◌, ◌-◌, ◌<◌, List, [], ◌∷◌, length, get_or, refl, sym, ◌∙◌, ap, subst, arith, Bool, true, false, cond, ltb, map}
 use Rattle.std.specs.Prelude.{filter}
 use Rattle.std.specs.List.{AllByRecursion}
-use Rattle.std.specs.List.Sorted.{IsStableByKey}
 use Rattle.std.specs.Ordering.{is_lt}
 use Rattle.std.proofs.lemmas.List.{get_or-map, length-map}
 use Rattle.std.proofs.lemmas.Bool.{eq-eqb, ltb-true, ltb-false}
 use Rattle.chunk_map.specs.declared.layouts.Geometry.{Geometry}
-use Rattle.store_image.specs.declared.types.PlacedEntry.{PlacedEntry}
 use Rattle.store_image.specs.Facts.{In}
 use Rattle.store_image.specs.Soundness.{contradicts}
 use Rattle.recover.specs.declared.found_entries.Found.{Found}
 use Rattle.recover.specs.Clashes.{name_cmp}
 use Rattle.recover.specs.ByName.{name_of, is_named, IsInOrder, IsByName}
-use Rattle.recover.specs.FoundEntries.{placed_at, entries_at, Stands, AreFound, name_found, AreInOrder, is_found, AreByName}
-use Rattle.recover.proofs.NameLaws.{same_name_rank, in_filter, filter_in, all_of, one_of, any_default, NeighboursAgree}
+use Rattle.recover.specs.FoundEntries.{placed_at, entries_at, AreInOrder, is_found, AreByName}
+use Rattle.recover.proofs.NameLaws.{in_filter, filter_in, all_of, one_of, any_default, NeighboursAgree}
 
 filter_map : {X Y : Type 0} (f : X → Y) (p : Y → Bool) (xs : List X) → filter p (map f xs) ≡ map f (filter (λ x. p (f x)) xs)
 filter_map f p [] = refl
@@ -22,19 +20,6 @@ filter_map f p (x ∷ xs) = elim (p (f x)) as (λ b. cond b (f x ∷ filter p (m
   | true ↦ ap (λ ys. f x ∷ ys) (filter_map f p xs)
   | false ↦ filter_map f p xs
 ]
-
--- what a stable sort by names gives
-abbrev found_named : ℕ → ℕ → Found
-found_named k v = record { key = k; version = v; at = 0 }
-
-pub sorted_found : (es xs : List Found) → IsStableByKey name_found name_cmp es xs → AreInOrder xs → AreByName es xs
-sorted_found es xs stable rising = record {
-  same = λ k v.
-      (λ i. filter (λ y. sym (same_name_rank k v y.key y.version) i) xs)
-      ∙ stable (found_named k v)
-      ∙ (λ i. filter (λ y. same_name_rank k v y.key y.version i) es);
-  rising = rising;
-}
 
 -- the entries there are in the same order
 module _ (l : Geometry) (image : ℕ → ℕ) where

@@ -7,6 +7,7 @@ pub mod KeyLaws
 pub mod SortLaws
 pub mod StandsLaws
 pub mod ReadBackLaws
+pub mod WordOrderLaws
 pub mod RunLaws
 pub mod TakenLaws
 pub mod RegionLaws

@@ -1,17 +1,14 @@
 -- What a list of entries keeps when it is put in the order of their names.
-use Rattle.std.proofs.Common.{◌≡◌, ◌⊎◌, inl, inr, ℕ, zero, suc, ◌+◌, ◌-◌, ◌<◌, ◌≤◌, List, [], ◌∷◌, length, take, get_or, refl, sym, ◌∙◌, ap, subst, arith, ◌==◌, ◌&&◌, not, Bool, true, false, cond, Option, Some, None, ltb}
-use Rattle.std.specs.Prelude.{find, filter, option_map, is_some, Vec}
+use Rattle.std.proofs.Common.{◌≡◌, ◌⊎◌, inl, inr, ℕ, zero, suc, ◌+◌, ◌-◌, ◌<◌, ◌≤◌, List, [], ◌∷◌, length, get_or, refl, sym, ◌∙◌, ap, subst, arith, ◌==◌, ◌&&◌, Bool, true, false, cond, Option, Some, None, ltb}
+use Rattle.std.specs.Prelude.{find, filter, option_map, is_some}
 use Rattle.std.specs.Option.{option_to_list}
 use Rattle.std.specs.List.{flat_map, AllByRecursion}
-use Rattle.std.specs.List.Sorted.{IsStableByKey}
 use Rattle.std.specs.Ordering.{nat_cmp, is_lt, ordering_then}
 use Rattle.std.specs.declared.cmp.Ordering.TheVariants.{Less, Equal, Greater}
 use Rattle.std.specs.Cmp.{IsTotalOrder}
 use Rattle.std.proofs.lemmas.Cmp.{nat_cmp_total, on_total, then_total}
 use Rattle.std.proofs.lemmas.List.Sorted.{ranks_by, sorted_far}
-use Rattle.std.proofs.lemmas.Bool.{eqb-true, eqb-false, eq-eqb, ne_eqb, ltb-true, ltb-false, lt-ltb, le-ltb, and_parts, and_from}
-use Rattle.log_entry.specs.declared.entry.Body.TheVariants.{Tombstone}
-use Rattle.log_entry.specs.Spelling.{HasSpelling}
+use Rattle.std.proofs.lemmas.Bool.{eqb-true, eqb-false, eq-eqb, ne_eqb, ltb-true, ltb-false}
 use Rattle.store_image.specs.declared.types.PlacedEntry.{PlacedEntry}
 use Rattle.store_image.specs.Winners.{better, winner_in, with_key, keys_of}
 use Rattle.store_image.specs.Listing.{IsRising}
@@ -20,11 +17,9 @@ use Rattle.store_image.specs.Facts.{In, Agree}
 use Rattle.store_image.proofs.Clients.{winner_some, winner_max, winner_key, winner_is, no_clash_after, rising_keys}
 use Rattle.recover.specs.Clashes.{name_cmp}
 use Rattle.recover.specs.Starts.{named_in}
-use Rattle.recover.specs.ByName.{name_of, is_named, is_first, HasNoKey, IsInOrder, IsByName}
-use Rattle.recover.specs.Winning.{winners_of, AreSpelled}
-use Rattle.recover.proofs.ListLaws.{found_in}
+use Rattle.recover.specs.ByName.{name_of, is_named, IsInOrder, IsByName}
+use Rattle.recover.specs.Winning.{winners_of}
 use Rattle.recover.proofs.ClashLaws.{agrees}
-use Rattle.std.proofs.lemmas.List.{length-take-le, get_or-take}
 use Rattle.recover.proofs.WinningLaws.{above_in}
 
 pub less_of : (a b : ℕ) → a ≤ b → (a ≡ b → ⊥) → a < b
@@ -32,44 +27,6 @@ less_of a b le ne = elim (ltb a b) as (λ c. ltb a b ≡ c → a < b) [
   | true ↦ λ e. ltb-true a b e
   | false ↦ λ e. absurd (ne (let h = ltb-false a b e in omega (arith, le, h)))
 ] refl
-
--- neither number is less
-same_rank : (v u : ℕ) → (not (is_lt (nat_cmp v u)) && not (is_lt (nat_cmp u v))) ≡ (u == v)
-same_rank v u = elim (ltb v u) as (λ b. ltb v u ≡ b → (not (is_lt (cond b Less (cond (v == u) Equal Greater))) && not (is_lt (nat_cmp u v))) ≡ (u == v)) [
-  | true ↦ λ e. sym (ne_eqb u v (λ p. let h = ltb-true v u e in omega (arith, h, p)))
-  | false ↦ λ e. elim (v == u) as (λ b. (v == u) ≡ b → (not (is_lt (cond b Equal Greater)) && not (is_lt (nat_cmp u v))) ≡ (u == v)) [
-    | true ↦ λ s. (let p = eqb-true v u s in rw (le-ltb u v (omega (arith, p)), eq-eqb u v (sym p)) refl)
-    | false ↦ λ s. (let h = ltb-false v u e in
-        let less = less_of u v h (λ p. eqb-false v u s (sym p)) in
-        rw (lt-ltb u v less, ne_eqb u v (λ p. omega (arith, less, p))) refl)
-  ] refl
-] refl
-
--- and neither name
-pub same_name_rank : (k v j u : ℕ) → (not (is_lt (name_cmp (k, v) (j, u))) && not (is_lt (name_cmp (j, u) (k, v)))) ≡ (j == k && u == v)
-same_name_rank k v j u = elim (ltb k j) as (λ b. ltb k j ≡ b → (not (is_lt (ordering_then (cond b Less (cond (k == j) Equal Greater)) (nat_cmp v u))) && not (is_lt (name_cmp (j, u) (k, v)))) ≡ (j == k && u == v)) [
-  | true ↦ λ e. (let h = ltb-true k j e in rw (ne_eqb j k (λ p. omega (arith, h, p))) refl)
-  | false ↦ λ e. elim (k == j) as (λ b. (k == j) ≡ b → (not (is_lt (ordering_then (cond b Equal Greater) (nat_cmp v u))) && not (is_lt (name_cmp (j, u) (k, v)))) ≡ (j == k && u == v)) [
-    | true ↦ λ s. (let p = eqb-true k j s in rw (le-ltb j k (omega (arith, p)), eq-eqb j k (sym p)) (same_rank v u))
-    | false ↦ λ s. (let h = ltb-false k j e in
-        let less = less_of j k h (λ p. eqb-false k j s (sym p)) in
-        rw (lt-ltb j k less, ne_eqb j k (λ p. omega (arith, less, p))) refl)
-  ] refl
-] refl
-
--- an entry of a name
-abbrev entry_named : ℕ → ℕ → PlacedEntry
-entry_named k v = record { core = 0; chunk = 0; place = 0; entry = record { key = k; version = v; body = Tombstone } }
-
--- what a stable sort by names gives
-pub sorted_by_name : (es xs : List PlacedEntry) → IsStableByKey name_of name_cmp es xs → IsInOrder xs → IsByName es xs
-sorted_by_name es xs stable rising = record {
-  same = λ k v.
-      (λ i. filter (λ y. sym (same_name_rank k v y.entry.key y.entry.version) i) xs)
-      ∙ stable (entry_named k v)
-      ∙ (λ i. filter (λ y. same_name_rank k v y.entry.key y.entry.version i) es);
-  rising = rising;
-}
 
 -- what passes a test is what the filter keeps
 abbrev front : {X : Type 0} → List X → Option X
@@ -224,9 +181,6 @@ module _ (es xs : List PlacedEntry) (is : IsByName es xs) where
   pub no_clash : Agree xs → clash_fault es ≡ None
   no_clash all = ap (option_map (λ (x : PlacedEntry). damaged x.core x.chunk 8)) (no_clash_after [] es (λ x y h g key version. all x y (in_sorted x h) (in_sorted y g) key version))
 
-  pub spelled_sorted : AreSpelled es → AreSpelled xs
-  spelled_sorted all = all_of (λ (x : PlacedEntry). HasSpelling x.entry) xs (λ x h. one_of (λ (x : PlacedEntry). HasSpelling x.entry) es x all (in_first x h))
-
 -- a name that isn't above another
 pub not_above : (k v j u : ℕ) → is_lt (name_cmp (j, u) (k, v)) ≡ false → (k < j) ⊎ ((k ≡ j) × (v ≤ u))
 not_above k v j u e = elim (ltb j k) as (λ b. ltb j k ≡ b → is_lt (ordering_then (cond b Less (cond (j == k) Equal Greater)) (nat_cmp u v)) ≡ false → (k < j) ⊎ ((k ≡ j) × (v ≤ u))) [
@@ -291,69 +245,6 @@ module _ (xs : List PlacedEntry) (rising : IsInOrder xs) where
     at_most : ((get_or xs i d).entry.key < (get_or xs j d).entry.key) ⊎ (((get_or xs i d).entry.key ≡ (get_or xs j d).entry.key) × ((get_or xs i d).entry.version ≤ (get_or xs j d).entry.version)) → (get_or xs i d).entry.key ≤ (get_or xs j d).entry.key
     at_most (inl less) = omega (arith, less)
     at_most (inr same) = let e = same.0 in omega (arith, e)
-
-  -- whether an entry of a name stands in front of one, by the neighbour in front
-  module _ (at : ℕ) (d : PlacedEntry) (some : 0 < at) (lt : at < length xs) where
-    abbrev here : PlacedEntry
-    here = get_or xs at d
-
-    abbrev ahead : PlacedEntry
-    ahead = get_or xs (at - 1) d
-
-    abbrev same : Bool
-    same = ahead.entry.key == here.entry.key && ahead.entry.version == here.entry.version
-
-    long : length (take at xs) ≡ at
-    long = length-take-le at xs (omega (arith, lt))
-
-    squeezed : (z : PlacedEntry) → In z (take at xs) → z.entry.key ≡ here.entry.key → z.entry.version ≡ here.entry.version → same ≡ true
-    squeezed z h key version =
-        let place = in_at z (take at xs) h in
-        let low = place.1 in
-        let n = long in
-        let less : place.0 < at = omega (arith, low, n) in
-        let is : get_or xs place.0 d ≡ z = sym (get_or-take at xs place.0 d less) ∙ place.2 d in
-        let w = get_or xs place.0 d in
-        let k : w.entry.key ≡ here.entry.key = (λ t. (is t).entry.key) ∙ key in
-        let v : w.entry.version ≡ here.entry.version = (λ t. (is t).entry.version) ∙ version in
-        let both = between w.entry.key w.entry.version ahead.entry.key ahead.entry.version here.entry.key here.entry.version (above place.0 (at - 1) d (omega (arith, less)) (omega (arith, lt))) (above (at - 1) at d (omega arith) lt) k v in
-        and_from (ahead.entry.key == here.entry.key) (ahead.entry.version == here.entry.version) (eq-eqb ahead.entry.key here.entry.key (sym both.0 ∙ k)) (eq-eqb ahead.entry.version here.entry.version (sym both.1 ∙ v))
-
-    none_ahead : same ≡ false → (o : Option PlacedEntry) → named_in here.entry.key here.entry.version (take at xs) ≡ o → is_some o ≡ false
-    none_ahead other None e = refl
-    none_ahead other (Some z) e =
-        let r = found_in (is_named here.entry.key here.entry.version) (take at xs) z e in
-        let names = and_parts (z.entry.key == here.entry.key) (z.entry.version == here.entry.version) r.1 in
-        absurd (cc (sym (squeezed z r.0 (eqb-true z.entry.key here.entry.key names.0) (eqb-true z.entry.version here.entry.version names.1)) ∙ other))
-
-    one_ahead : same ≡ true → is_some (named_in here.entry.key here.entry.version (take at xs)) ≡ true
-    one_ahead is =
-        let n = long in
-        let there = at_in (take at xs) (at - 1) d (omega (arith, n, some)) in
-        let e = get_or-take at xs (at - 1) d (omega (arith, some)) in
-        find_some (is_named here.entry.key here.entry.version) (take at xs) ahead (subst (λ z. In z (take at xs)) e there) is
-
-    pub first_told : (b : Bool) → b ≡ same → not b ≡ is_first (take at xs) here
-    first_told true e = ap not (sym (one_ahead (sym e)))
-    first_told false e = ap not (sym (none_ahead (sym e) (named_in here.entry.key here.entry.version (take at xs)) refl))
-
-    no_key : (ahead.entry.key == here.entry.key) ≡ false → (v : ℕ) (o : Option PlacedEntry) → named_in here.entry.key v (take at xs) ≡ o → o ≡ None
-    no_key other v None e = refl
-    no_key other v (Some z) e =
-        let r = found_in (is_named here.entry.key v) (take at xs) z e in
-        let names = and_parts (z.entry.key == here.entry.key) (z.entry.version == v) r.1 in
-        let place = in_at z (take at xs) r.0 in
-        let low = place.1 in
-        let n = long in
-        let less : place.0 < at = omega (arith, low, n) in
-        let is : get_or xs place.0 d ≡ z = sym (get_or-take at xs place.0 d less) ∙ place.2 d in
-        let k : (get_or xs place.0 d).entry.key ≡ here.entry.key = (λ t. (is t).entry.key) ∙ eqb-true z.entry.key here.entry.key names.0 in
-        let below = keys_rise place.0 (at - 1) d (omega (arith, less)) (omega (arith, lt)) in
-        let above = keys_rise (at - 1) at d (omega arith) lt in
-        absurd (cc (sym (eq-eqb ahead.entry.key here.entry.key (omega (arith, below, above, k))) ∙ other))
-
-    pub key_is_new : (ahead.entry.key == here.entry.key) ≡ false → HasNoKey here.entry.key (take at xs)
-    key_is_new other v = no_key other v (named_in here.entry.key v (take at xs)) refl
 
 module _ (xs : List PlacedEntry) (rising : IsInOrder xs) (near : NeighboursAgree xs (length xs)) where
   run : (j i : ℕ) (d : PlacedEntry) → i ≤ j → j < length xs → (get_or xs i d).entry.key ≡ (get_or xs j d).entry.key → (get_or xs i d).entry.version ≡ (get_or xs j d).entry.version

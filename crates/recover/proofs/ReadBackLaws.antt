@@ -1,5 +1,5 @@
 -- What is found of an image's entries, and what the image has there.
-use Rattle.std.proofs.Common.{◌≡◌, ◌⊎◌, inl, inr, ℕ, zero, suc, ◌+◌, ◌-◌, ◌*◌, ◌/◌, ◌%◌, ◌<◌, ◌≤◌, ◌==◌, ◌&&◌, nat_le, Bool, true, false, cond, List, [], ◌∷◌, ◌++◌, length, drop, map, Option, Some, None, refl, sym, ◌∙◌, ap, subst, arith}
+use Rattle.std.proofs.Common.{◌≡◌, ℕ, zero, suc, ◌+◌, ◌-◌, ◌*◌, ◌/◌, ◌%◌, ◌<◌, ◌≤◌, ◌==◌, ◌&&◌, nat_le, Bool, true, false, cond, List, [], ◌∷◌, ◌++◌, length, drop, map, Option, Some, None, refl, sym, ◌∙◌, ap, subst, arith}
 use Rattle.std.specs.Prelude.{Result, Ok, Err, Vec}
 use Rattle.std.specs.Global.{Global}
 use Rattle.std.proofs.lemmas.Nat.{div-mul-add, mod-mul-add}
@@ -14,11 +14,10 @@ use Rattle.log_entry.proofs.Clients.{scan_spelled}
 use Rattle.chunk_map.specs.declared.layouts.Geometry.{Geometry}
 use Rattle.chunk_map.specs.declared.heads.Head.{Head}
 use Rattle.chunk_map.specs.declared.heads.Head.TheVariants.{Free, Log, Data}
-use Rattle.chunk_map.specs.Layouts.{numbers, chunk_words, payload_words, chunk_first, head_at, is_class, total_bytes}
+use Rattle.chunk_map.specs.Layouts.{numbers, chunk_words, payload_words, chunk_first, head_at, is_class}
 use Rattle.store_image.specs.declared.types.PlacedEntry.{PlacedEntry}
 use Rattle.store_image.specs.declared.types.Fault.{Fault}
-use Rattle.store_image.specs.Parts.{payload, scan_behind, scan_at, placed, chunk_entries, part_entries, all_entries}
-use Rattle.store_image.proofs.Clients.{layout_numbers}
+use Rattle.store_image.specs.Parts.{payload, scan_behind, placed, chunk_entries, part_entries, all_entries}
 use Rattle.core_log.specs.Log as log
 use Rattle.core_log.proofs.Clients.{spelled_by, placed_items, HaveSpelling, items_of, items_spelled, items_placed, items_have, drop_behind, first_is, Spells, entry_fits, entry_words}
 use Rattle.recover.specs.declared.found_entries.Found.{Found}
@@ -30,11 +29,11 @@ use Rattle.recover.proofs.RegionLaws.{payload_lies}
 use Rattle.recover.proofs.StandsLaws.{body_there}
 
 -- what holds of each, and what follows of each
-all_implies : {X : Type 0} (P Q : X → Type 0) → ((x : X) → P x → Q x) → (xs : List X) → AllByRecursion P xs → AllByRecursion Q xs
+pub all_implies : {X : Type 0} (P Q : X → Type 0) → ((x : X) → P x → Q x) → (xs : List X) → AllByRecursion P xs → AllByRecursion Q xs
 all_implies P Q f [] all = tt
 all_implies P Q f (x ∷ xs) all = (f x all.0, all_implies P Q f xs all.1)
 
-all_append : {X : Type 0} (P : X → Type 0) (xs ys : List X) → AllByRecursion P xs → AllByRecursion P ys → AllByRecursion P (xs ++ ys)
+pub all_append : {X : Type 0} (P : X → Type 0) (xs ys : List X) → AllByRecursion P xs → AllByRecursion P ys → AllByRecursion P (xs ++ ys)
 all_append P [] ys a b = b
 all_append P (x ∷ xs) ys a b = (a.0, all_append P xs ys a.1 b)
 
@@ -76,7 +75,7 @@ log_by l t tail class false true c false fits is = absurd (cc is)
 log_by l t tail class false false true d fits is = absurd (cc is)
 log_by l t tail class false false false d fits is = absurd (cc is)
 
-tail_fits : (l : Geometry) (image : ℕ → ℕ) (at tail : ℕ) → head_at l image at ≡ Ok (Log tail) → tail ≤ payload_words l
+pub tail_fits : (l : Geometry) (image : ℕ → ℕ) (at tail : ℕ) → head_at l image at ≡ Ok (Log tail) → tail ≤ payload_words l
 tail_fits l image at tail is = log_by l (image (at + 1)) tail (image at / 256) (image at == 0) (image at == 1) (image at % 256 == 2 && is_class l (image at / 256)) (image (at + 1) % 8 == 0 && nat_le (image (at + 1)) (payload_words l)) refl is
 
 -- an entry is where it was found, and is what the image has there

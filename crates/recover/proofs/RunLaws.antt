@@ -10,7 +10,7 @@ use Rattle.store_image.specs.Facts.{In}
 use Rattle.recover.specs.declared.found_entries.Found.{Found}
 use Rattle.recover.specs.declared.key_runs.KeyRun.{KeyRun}
 use Rattle.recover.specs.Clashes.{name_cmp}
-use Rattle.recover.specs.Winning.{winners_of, is_older, without, with_winner}
+use Rattle.recover.specs.Winning.{winners_of, with_winner}
 use Rattle.recover.specs.FoundEntries.{placed_at, entries_at, name_found, AreInOrder}
 use Rattle.recover.specs.KeyRuns.{IsRun}
 use Rattle.recover.proofs.NameLaws.{not_above, names_total, any_default}
@@ -45,16 +45,6 @@ pub record RunSoFar (fs : List Found) (at winner end : ℕ) : Type 0 where
   pub same : (i : ℕ) (d : Found) → at ≤ i → i < end → (get_or fs i d).key ≡ (get_or fs at d).key
   pub newest : (i : ℕ) (d : Found) → winner ≤ i → i < end → (get_or fs i d).version ≡ (get_or fs winner d).version
   pub first : (i : ℕ) (d : Found) → at ≤ i → i < winner → (get_or fs i d).version < (get_or fs winner d).version
-
-pub run_one : (fs : List Found) (at : ℕ) → at < length fs → RunSoFar fs at at (at + 1)
-run_one fs at lt = record {
-  low = omega arith;
-  high = omega arith;
-  end_in = omega (arith, lt);
-  same = λ i d low high. (let e : i ≡ at = omega (arith, low, high) in λ t. (get_or fs (e t) d).key);
-  newest = λ i d low high. (let e : i ≡ at = omega (arith, low, high) in λ t. (get_or fs (e t) d).version);
-  first = λ i d low high. absurd (omega (arith, low, high));
-}
 
 module _ (fs : List Found) (rising : AreInOrder fs) (at winner end : ℕ) (run : RunSoFar fs at winner end) (lt : end < length fs) (key : (d : Found) → (get_or fs end d).key ≡ (get_or fs at d).key) where
   same_more : (i : ℕ) (d : Found) → at ≤ i → i < end + 1 → (get_or fs i d).key ≡ (get_or fs at d).key
@@ -107,9 +97,6 @@ module _ (fs : List Found) (rising : AreInOrder fs) (at winner end : ℕ) (run :
     by_version : (b : Bool) → ((get_or fs end any).version == (get_or fs winner any).version) ≡ b → w ≡ cond b winner end → RunSoFar fs at w (end + 1)
     by_version true e same = subst (λ n. RunSoFar fs at n (end + 1)) (sym same) (run_stays (λ d. to_any end d lt ∙ eqb-true (get_or fs end any).version (get_or fs winner any).version e ∙ sym (to_any winner d (let h = run.high in omega (arith, h, lt)))))
     by_version false e same = subst (λ n. RunSoFar fs at n (end + 1)) (sym same) (run_moves (λ d p. eqb-false (get_or fs end any).version (get_or fs winner any).version e (sym (to_any end d lt) ∙ p ∙ to_any winner d (let h = run.high in omega (arith, h, lt)))))
-
-pub run_ends : (fs : List Found) (at : ℕ) (r : KeyRun) → RunSoFar fs at r.winner r.end → ((d : Found) → r.end < length fs → (get_or fs r.end d).key ≢ (get_or fs at d).key) → IsRun fs at r
-run_ends fs at r run other = record { low = run.low; high = run.high; end = run.end_in; same = run.same; other = other; newest = run.newest; first = run.first }
 
 -- so many elements from a place on
 abbrev span : {X : Type 0} → (ℕ → X) → ℕ → ℕ → List X

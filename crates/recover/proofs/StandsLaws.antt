@@ -1,16 +1,11 @@
 -- What is read where an entry was found.
-use Rattle.std.proofs.Common.{◌≡◌, ◌≢◌, ℕ, zero, suc, ◌+◌, ◌-◌, ◌/◌, ◌<◌, ◌≤◌, ◌==◌, ◌&&◌, Bool, true, false, cond, List, [], ◌∷◌, ◌++◌, length, take, drop, get_or, map, Option, Some, None, refl, sym, ◌∙◌, ap, subst, arith, append-nil}
-use Rattle.std.specs.Prelude.{IfSome, Vec}
-use Rattle.std.specs.Global.{Global}
-use Rattle.std.proofs.lemmas.List.{map-append, take_more}
-use Rattle.std.proofs.lemmas.Bool.{eqb-true, eq-eqb, and_parts}
-use Rattle.log_entry.specs.declared.entry.Body.{Body}
+use Rattle.std.proofs.Common.{◌≡◌, ℕ, ◌+◌, ◌-◌, ◌/◌, ◌==◌, Bool, true, false, cond, List, [], length, drop, get_or, Option, Some, None, refl, sym, ◌∙◌, ap, arith, append-nil}
+use Rattle.std.proofs.lemmas.Bool.{eq-eqb}
 use Rattle.log_entry.specs.declared.entry.Entry.{Entry}
 use Rattle.log_entry.specs.declared.entry.Read.{Read}
 use Rattle.log_entry.specs.declared.entry.Read.TheVariants as reads
 use Rattle.log_entry.specs.Words.{words_from}
 use Rattle.log_entry.specs.Spelling.{words_of, HasSpelling}
-use Rattle.log_entry.specs.Grammar.{Tells}
 use Rattle.log_entry.specs.Reading.{size_of, entry_rule, entry_of, body_of, read_by, read}
 use Rattle.log_entry.proofs.Clients.{read_spelled}
 use Rattle.chunk_map.specs.declared.layouts.Geometry.{Geometry}
@@ -61,28 +56,3 @@ module _ (l : Geometry) (image : ℕ → ℕ) (f : Found) (stands : Stands l ima
 
   pub body_found : (r : Read) → r ≡ reads.Entry (entry_at image f) (length (words_of (entry_at image f))) → body_named r f ≡ Some (body_at image f.at)
   body_found r is = ap (λ r. body_named r f) is ∙ rw (eq-eqb f.key f.key refl, eq-eqb f.version f.version refl) refl
-
--- and what is read of its name is spelled, whatever the region tells
-pub named_spelled : (ws : List ℕ) (r : Read) (f : Found) → Tells ws r → IfSome (body_named r f) (λ b. HasSpelling (record { key = f.key; version = f.version; body = b }))
-named_spelled ws (reads.Entry e n) f tells = elim (e.key == f.key && e.version == f.version) as (λ b. (e.key == f.key && e.version == f.version) ≡ b → IfSome (cond b (Some e.body) None) (λ b. HasSpelling (record { key = f.key; version = f.version; body = b }))) [
-  | true ↦ λ is.
-      let names = and_parts (e.key == f.key) (e.version == f.version) is in
-      let key = eqb-true e.key f.key names.0 in
-      let version = eqb-true e.version f.version names.1 in
-      let P : ℕ → ℕ → Type 0 = λ k v. HasSpelling (record { key = k; version = v; body = e.body }) in
-      subst (λ k. P k f.version) key (subst (P e.key) version tells.spelling)
-  | false ↦ λ is. tt
-] refl
-named_spelled ws reads.Padding f tells = tt
-named_spelled ws (reads.BadEntry rule) f tells = tt
-
--- a list that follows another, with one more
-pub map_more : {X Y Z : Type 0} (f : X → Z) (h : Y → Z) (old new : List X) (e : X) (es : List Y) (i : ℕ) (x : Y) → i < length es → x ≡ get_or es i x → f e ≡ h x → map f old ≡ map h (take i es) → new ≡ old ++ e ∷ [] → map f new ≡ map h (take (i + 1) es)
-map_more f h old new e es i x lt is same so_far push =
-    ap (map f) push ∙ map-append f old (e ∷ []) ∙ ap (λ l. l ++ f e ∷ []) so_far ∙ ap (λ z. map h (take i es) ++ z ∷ []) same
-    ∙ sym (map-append h (take i es) (x ∷ [])) ∙ ap (map h) (ap (λ y. take i es ++ y ∷ []) is ∙ sym (take_more es i x lt))
-
-pub list_more : {Y Z : Type 0} (h : Y → Z) (old new : List Z) (e : Z) (es : List Y) (i : ℕ) (x : Y) → i < length es → x ≡ get_or es i x → e ≡ h x → old ≡ map h (take i es) → new ≡ old ++ e ∷ [] → new ≡ map h (take (i + 1) es)
-list_more h old new e es i x lt is same so_far push =
-    push ∙ ap (λ l. l ++ e ∷ []) so_far ∙ ap (λ z. map h (take i es) ++ z ∷ []) same
-    ∙ sym (map-append h (take i es) (x ∷ [])) ∙ ap (map h) (ap (λ y. take i es ++ y ∷ []) is ∙ sym (take_more es i x lt))

@@ -1,70 +1,16 @@
 -- The winners of entries in the order of their names, taken from the last on.
-use Rattle.std.proofs.Common.{◌≡◌, inl, inr, ℕ, zero, suc, ◌-◌, ◌<◌, ◌≤◌, List, [], ◌∷◌, ◌++◌, length, take, get_or, reverse, refl, sym, ◌∙◌, ap, subst, arith, ◌==◌, ◌&&◌, Bool, true, false, cond, Option, Some, None, ltb}
-use Rattle.std.specs.Prelude.{slice_get}
+use Rattle.std.proofs.Common.{◌≡◌, inl, inr, ℕ, ◌-◌, ◌<◌, ◌≤◌, List, [], ◌∷◌, ◌++◌, refl, sym, ◌∙◌, ap, subst, arith, ◌==◌, ◌&&◌, Bool, true, false, cond, Option, Some, None, ltb}
 use Rattle.std.specs.Option.{option_to_list}
 use Rattle.std.specs.List.{flat_map}
 use Rattle.std.proofs.lemmas.Bool.{eqb-true, eqb-false, eq-eqb, ne_eqb, le-ltb, lt-ltb}
-use Rattle.std.proofs.lemmas.List.{reverse-append, reverse-reverse, length_push}
 use Rattle.store_image.specs.declared.types.PlacedEntry.{PlacedEntry}
 use Rattle.store_image.specs.Winners.{better, winner_in, with_key, keys_of}
 use Rattle.store_image.specs.Listing.{IsRising}
 use Rattle.store_image.specs.Facts.{In}
 use Rattle.store_image.proofs.Clients.{winner_key, winner_is, rising_keys, winner_some}
-use Rattle.recover.specs.Winning.{winners_of, is_of_key, is_older, without, with_winner}
-use Rattle.recover.specs.ByName.{IsInOrder}
+use Rattle.recover.specs.Winning.{winners_of, with_winner}
 use Rattle.recover.proofs.WinningLaws.{above_in}
-use Rattle.recover.proofs.NameLaws.{less_of, in_at, key_won, keys_rise}
-
--- the last of a list that was put together from its end
-last_push : {X : Type 0} (xs : List X) (y : X) → slice_get (xs ++ y ∷ []) (length xs) ≡ Some y
-last_push [] y = refl
-last_push (x ∷ xs) y = last_push xs y
-
-take_push : {X : Type 0} (xs : List X) (y : X) → take (length xs) (xs ++ y ∷ []) ≡ xs
-take_push [] y = refl
-take_push (x ∷ xs) y = ap (λ l. x ∷ l) (take_push xs y)
-
-module _ (y : PlacedEntry) (ws : List PlacedEntry) where
-  turned : reverse (y ∷ ws) ≡ reverse ws ++ y ∷ []
-  turned = reverse-append (y ∷ []) ws
-
-  one_less : length (reverse (y ∷ ws)) - 1 ≡ length (reverse ws)
-  one_less = let l = ap length turned ∙ length_push (reverse ws) y in omega (arith, l)
-
-  last_turned : (old : List PlacedEntry) → old ≡ reverse (y ∷ ws) → slice_get old (length old - 1) ≡ Some y
-  last_turned old is = (λ i. slice_get (is i) (length (is i) - 1)) ∙ ap (slice_get (reverse (y ∷ ws))) one_less ∙ ap (λ l. slice_get l (length (reverse ws))) turned ∙ last_push (reverse ws) y
-
-  rest_turned : (old : List PlacedEntry) → old ≡ reverse (y ∷ ws) → take (length old - 1) old ≡ reverse ws
-  rest_turned old is = (λ i. take (length (is i) - 1) (is i)) ∙ ap (λ n. take n (reverse (y ∷ ws))) one_less ∙ ap (take (length (reverse ws))) turned ∙ take_push (reverse ws) y
-
-none_turned : (old : List PlacedEntry) → old ≡ [] → slice_get old (length old - 1) ≡ None
-none_turned old is = λ i. slice_get (is i) (length (is i) - 1)
-
--- the last winner was of the entry's key, and was taken out
-pub way_made : (old new : List PlacedEntry) (x : PlacedEntry) (ws : List PlacedEntry) → old ≡ reverse ws → is_of_key (slice_get old (length old - 1)) x ≡ true → new ≡ take (length old - 1) old → new ≡ reverse (without x ws)
-way_made old new x [] is key rest = absurd (cc (sym (ap (λ o. is_of_key o x) (none_turned old is)) ∙ key))
-way_made old new x (y ∷ ws) is key rest =
-    let same = sym (ap (λ o. is_of_key o x) (last_turned y ws old is)) ∙ key in
-    rest ∙ rest_turned y ws old is ∙ ap (λ b. reverse (cond b ws (y ∷ ws))) (sym same)
-
-pub way_free : (old : List PlacedEntry) (x : PlacedEntry) (ws : List PlacedEntry) → old ≡ reverse ws → is_of_key (slice_get old (length old - 1)) x ≡ false → old ≡ reverse (without x ws)
-way_free old x [] is key = is
-way_free old x (y ∷ ws) is key =
-    let other = sym (ap (λ o. is_of_key o x) (last_turned y ws old is)) ∙ key in
-    is ∙ ap (λ b. reverse (cond b ws (y ∷ ws))) (sym other)
-
--- an older entry changes nothing, another goes in front
-pub older_stays : (old : List PlacedEntry) (x : PlacedEntry) (ws : List PlacedEntry) → old ≡ reverse ws → is_older (slice_get old (length old - 1)) x ≡ true → old ≡ reverse (with_winner x ws)
-older_stays old x [] is older = absurd (cc (sym (ap (λ o. is_older o x) (none_turned old is)) ∙ older))
-older_stays old x (y ∷ ws) is older =
-    let e = sym (ap (λ o. is_older o x) (last_turned y ws old is)) ∙ older in
-    is ∙ ap (λ b. reverse (cond b (y ∷ ws) (x ∷ without x (y ∷ ws)))) (sym e)
-
-pub newer_wins : (old mid new : List PlacedEntry) (x : PlacedEntry) (ws : List PlacedEntry) → old ≡ reverse ws → is_older (slice_get old (length old - 1)) x ≡ false → mid ≡ reverse (without x ws) → new ≡ mid ++ x ∷ [] → new ≡ reverse (with_winner x ws)
-newer_wins old mid new x [] is older way push = push ∙ ap (λ l. l ++ x ∷ []) way
-newer_wins old mid new x (y ∷ ws) is older way push =
-    let e = sym (ap (λ o. is_older o x) (last_turned y ws old is)) ∙ older in
-    push ∙ ap (λ l. l ++ x ∷ []) way ∙ sym (turned x (without x (y ∷ ws))) ∙ ap (λ b. reverse (cond b (y ∷ ws) (x ∷ without x (y ∷ ws)))) (sym e)
+use Rattle.recover.proofs.NameLaws.{less_of, key_won}
 
 -- no winner
 no_winner : (k : ℕ) (es : List PlacedEntry) → (In k (keys_of es) → ⊥) → winner_in k es ≡ None
@@ -160,18 +106,6 @@ abbrev pub KeysRise : List PlacedEntry → Type 0
 KeysRise [] = Unit {0}
 KeysRise (x ∷ es) = ((y : PlacedEntry) → In y es → x.entry.key ≤ y.entry.key) × KeysRise es
 
-rises : (es : List PlacedEntry) → ((i j : ℕ) (d : PlacedEntry) → i ≤ j → j < length es → (get_or es i d).entry.key ≤ (get_or es j d).entry.key) → KeysRise es
-rises [] up = tt
-rises (x ∷ es) up = (
-  λ y h. (let r = in_at y es h in
-      let l = r.1 in
-      subst (λ (z : PlacedEntry). x.entry.key ≤ z.entry.key) (r.2 x) (up zero (suc r.0) x (omega arith) (omega (arith, l)))),
-  rises es (λ i j d le lt. up (suc i) (suc j) d (omega (arith, le)) (omega (arith, lt))),
-)
-
 pub from_risen : (es : List PlacedEntry) → KeysRise es → winners_from es ≡ winners_of es
 from_risen [] rise = refl
 from_risen (x ∷ es) rise = ap (with_winner x) (from_risen es rise.1) ∙ sym (one_more_wins x es rise.0)
-
-pub all_taken : (es ws : List PlacedEntry) → IsInOrder es → ws ≡ reverse (winners_from es) → reverse ws ≡ winners_of es
-all_taken es ws rising is = ap reverse is ∙ reverse-reverse (winners_from es) ∙ from_risen es (rises es (keys_rise es rising))

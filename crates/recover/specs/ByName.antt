@@ -1,9 +1,8 @@
 -- A list of entries in the order of their names.
-use Rattle.std.specs.Prelude.{◌≡◌, ℕ, ◌==◌, ◌&&◌, not, Bool, List, filter, is_some, None}
+use Rattle.std.specs.Prelude.{◌≡◌, ℕ, ◌==◌, ◌&&◌, Bool, List, filter}
 use Rattle.std.specs.List.Sorted.{IsSortedByKey}
 use Rattle.store_image.specs.declared.types.PlacedEntry.{PlacedEntry}
 use Rattle.recover.specs.Clashes.{name_cmp}
-use Rattle.recover.specs.Starts.{named_in}
 
 -- the key and the version
 abbrev pub name_of : PlacedEntry → ℕ × ℕ
@@ -20,11 +19,3 @@ IsInOrder xs = IsSortedByKey name_of name_cmp xs
 pub record IsByName (es xs : List PlacedEntry) : Type 0 where
   pub same : (k v : ℕ) → filter (is_named k v) xs ≡ filter (is_named k v) es
   pub rising : IsInOrder xs
-
--- no entry of this name is in front
-abbrev pub is_first : List PlacedEntry → PlacedEntry → Bool
-is_first before x = not (is_some (named_in x.entry.key x.entry.version before))
-
--- and none of this key
-abbrev pub HasNoKey : ℕ → List PlacedEntry → Type 0
-HasNoKey k before = (v : ℕ) → named_in k v before ≡ None

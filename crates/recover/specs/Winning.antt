@@ -18,11 +18,7 @@ won_in k ws = find (λ x. x.entry.key == k) ws
 abbrev pub AreSpelled : List PlacedEntry → Type 0
 AreSpelled es = AllByRecursion (λ x. HasSpelling x.entry) es
 
--- whether the last winner, if any, has the entry's key, and whether it is of greater version
-abbrev pub is_of_key : Option PlacedEntry → PlacedEntry → Bool
-is_of_key None x = false
-is_of_key (Some y) x = y.entry.key == x.entry.key
-
+-- whether the winner has the entry's key and a greater version
 abbrev pub is_older : Option PlacedEntry → PlacedEntry → Bool
 is_older None x = false
 is_older (Some y) x = y.entry.key == x.entry.key && nat_lt x.entry.version y.entry.version

@@ -4,9 +4,9 @@
 //!
 //! The plain and slow program of `image_yardstick` says the same of a list of words; its definitions are the
 //! yardstick here. This one reads the region word by word, chunk by chunk, in time linear in the words up to
-//! the logs' tails, and sorts the entries once by their names. The heads of the chunks, two words each, are read a
-//! second time for the logs and the allocators, and the logs for the names that stand in them, or for a list of
-//! their entries.
+//! the logs' tails. It keeps of each entry its name and its first word, 16 bytes, sorts these once by name, and
+//! reads a body again where it is needed. The heads of the chunks, two words each, are read a second time for the
+//! logs and the allocators, and the logs for the names that stand in them.
 #![tactic(auto)]
 
 mod clashes;
@@ -29,7 +29,6 @@ mod starts;
 #[cfg(test)]
 mod tests;
 mod types;
-mod winning;
 
 pub use entry_list::log_entries;
 pub use live::live_pairs;

@@ -3,10 +3,11 @@ use Rattle.pm_region.specs.Words.{lasts}
 use Rattle.store_image.specs.Facts.{Agree}
 use Rattle.recover.specs.FoundEntries.{AreFound, AreInOrder, entries_at}
 use Rattle.recover.proofs.JudgeLaws.{by_chunks, gathered, sorted_agree, stand_sorted}
+use Rattle.recover.proofs.WordOrderLaws.{words_rise}
 use Rattle.recover.proofs.judge_winners.agreed_entries.Goals as goal
 
 pub agree-requires-clause-order : goal.agree-requires-clause-order
-agree-requires-clause-order g c = subst AreInOrder (sym c.deref.ensures.value) c.in_ok-sorted.ensures.rising
+agree-requires-clause-order g c = subst AreInOrder (sym c.deref.ensures.value) c.by_name-sorted.ensures.order
 
 pub returns-in-Err-clause-told : goal.returns-in-Err-clause-told
 returns-in-Err-clause-told g c = λ telling.
@@ -20,7 +21,8 @@ returns-then-branch-clause-told g c = λ telling.
     let l = c.args.layout.now in
     let all = gathered l image c.in_ok-found.field-0 c.in-Ok.found (c.in_ok-found.ensures telling) c.in-Ok.is in
     let fs = c.in-Ok.found.items in
-    let xs = c.in_ok-sorted.sorted.items in
-    let stand = subst (AreFound l image) (sym c.deref.ensures.value) (stand_sorted s.frame l c.requires.covers image fs xs all.1 all.0 all.2 c.in_ok-sorted.ensures) in
+    let xs = c.by_name-sorted.result.items in
+    let sorted = c.by_name-sorted.ensures.names (words_rise l c.requires.covers.layout image all.2 fs all.1) in
+    let stand = subst (AreFound l image) (sym c.deref.ensures.value) (stand_sorted s.frame l c.requires.covers image fs xs all.1 all.0 all.2 sorted) in
     let both = subst (λ ys. Agree (entries_at l image ys)) c.deref.ensures.value (c.in_ok-agree.ensures c.if-branch.true telling stand) in
-    sorted_agree s.frame l c.requires.covers image fs xs all.1 all.0 all.2 c.in_ok-sorted.ensures both
+    sorted_agree s.frame l c.requires.covers image fs xs all.1 all.0 all.2 sorted both

@@ -4,6 +4,7 @@ use Rattle.store_image.specs.Soundness.{clash_fault}
 use Rattle.store_image.specs.Parts.{all_entries}
 use Rattle.recover.specs.declared.found_entries.Found.{Found}
 use Rattle.recover.specs.FoundEntries.{AreFound, entries_at}
+use Rattle.recover.proofs.WordOrderLaws.{words_rise}
 use Rattle.recover.proofs.ReadBackLaws.{found_back, found_stand, reads_ok, reads_err}
 use Rattle.recover.proofs.JudgeLaws.{by_chunks, gathered, by_clash, none_clash}
 use Rattle.recover.proofs.judge_winners.compared_entries.Goals as goal
@@ -31,12 +32,12 @@ returns-in-Some-clause-told g c = λ telling.
     let fs = c.in-Ok.found.items in
     let stand = subst (AreFound l image) (sym c.deref.ensures.value) (found_stand s.frame l c.requires.covers image all.2 fs all.1) in
     let read : c.in-Ok-2.entries.items ≡ all_entries l image =
-    reads_ok l image c.deref.result.now c.in_ok-entries.field-0 c.in-Ok-2.entries (c.in_ok-entries.ensures.told telling stand) c.in-Ok-2.is
-    ∙ ap (entries_at l image) c.deref.ensures.value ∙ found_back s.frame l c.requires.covers image all.2 fs all.1 in
+        reads_ok l image c.deref.result.now c.in_ok-entries.field-0 c.in-Ok-2.entries (c.in_ok-entries.ensures.told telling stand) c.in-Ok-2.is
+        ∙ ap (entries_at l image) c.deref.ensures.value ∙ found_back s.frame l c.requires.covers image all.2 fs all.1 in
     by_clash l image c.in-Ok-2.entries.items read all.0 c.in-Some.fault (sym c.in-Some.is ∙ c.in_ok-fault.ensures ∙ ap clash_fault c.deref-2.ensures.value)
 
-pub returns-in_ok-sorted-in-None-clause-told : goal.returns-in_ok-sorted-in-None-clause-told
-returns-in_ok-sorted-in-None-clause-told g c = λ telling.
+pub returns-in-None-clause-told : goal.returns-in-None-clause-told
+returns-in-None-clause-told g c = λ telling.
     let s = g.R.Region.state c.args.region.now in
     let image = lasts s in
     let l = c.args.layout.now in
@@ -44,7 +45,7 @@ returns-in_ok-sorted-in-None-clause-told g c = λ telling.
     let fs = c.in-Ok.found.items in
     let stand = subst (AreFound l image) (sym c.deref.ensures.value) (found_stand s.frame l c.requires.covers image all.2 fs all.1) in
     let read : c.in-Ok-2.entries.items ≡ all_entries l image =
-    reads_ok l image c.deref.result.now c.in_ok-entries.field-0 c.in-Ok-2.entries (c.in_ok-entries.ensures.told telling stand) c.in-Ok-2.is
-    ∙ ap (entries_at l image) c.deref.ensures.value ∙ found_back s.frame l c.requires.covers image all.2 fs all.1 in
-    none_clash s.frame l c.requires.covers image fs c.in_ok-sorted-in-None.sorted.items all.1 all.0 all.2 c.in_ok-sorted-in-None.ensures
+        reads_ok l image c.deref.result.now c.in_ok-entries.field-0 c.in-Ok-2.entries (c.in_ok-entries.ensures.told telling stand) c.in-Ok-2.is
+        ∙ ap (entries_at l image) c.deref.ensures.value ∙ found_back s.frame l c.requires.covers image all.2 fs all.1 in
+    none_clash s.frame l c.requires.covers image fs c.by_name-sorted.result.items all.1 all.0 all.2 (c.by_name-sorted.ensures.names (words_rise l c.requires.covers.layout image all.2 fs all.1))
     (sym (ap clash_fault read) ∙ sym (sym c.in-None.is ∙ c.in_ok-fault.ensures ∙ ap clash_fault c.deref-2.ensures.value))

@@ -7,7 +7,7 @@ use Rattle.log_entry.specs.Reading.{read}
 use Rattle.pm_region.specs.Words.{lasts}
 use Rattle.chunk_map.specs.Layouts.{total_bytes}
 use Rattle.recover.specs.FoundEntries.{HasWords}
-use Rattle.recover.proofs.StandsLaws.{stands_read, not_out, body_found, named_spelled}
+use Rattle.recover.proofs.StandsLaws.{stands_read, not_out, body_found}
 use Rattle.recover.proofs.reading.read_at.Goals as goal
 
 pub returns-in-None-clause-told : goal.returns-in-None-clause-told
