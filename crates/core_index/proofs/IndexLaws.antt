@@ -13,29 +13,36 @@ use Rattle.core_index.specs.declared.types.Tombstone.{Tombstone}
 use Rattle.core_index.specs.Records.{KeyRecord, Awaits, is_dead, standing_at, standing_with, opened}
 use Rattle.core_index.specs.Slots.{Place, mortal, standee_with, count_dead, count_of, alive_at, home_in, home_alive, record_with, OnlyDead}
 use Rattle.core_index.specs.Noted.{Book, Noted, NotedIfDead, count_lively, name_with}
-use Rattle.core_index.specs.Tombs.{Tombs, key_of, name_of, left_of, place_of, placed, found_at, passed_at, AreLess, Ahead}
-use Rattle.core_index.specs.Index.{place_at, known_in, room_in, known_at, room_at, mortal_in, all_mortal, all_places, Step, Changes, ToldAt, Turns, IsCompact, Admits, HasNoneAbove, EntersAs, Entering, opened_in, IsIndex}
+use Rattle.core_index.specs.declared.start_keys.StartKeys.{StartKeys}
+use Rattle.core_index.specs.declared.types.LiveKey.{LiveKey}
+use Rattle.core_index.specs.Lives.{live_key, live_place, bytes_in, placed_lives}
+use Rattle.core_index.specs.Starts.{started, IsAhead}
+use Rattle.core_index.specs.Tombs.{Tombs, key_of, name_of, left_of, place_of, placed, found_at, passed_at, AreLess}
+use Rattle.log_entry.specs.declared.entry.Body.{Body}
+use Rattle.core_index.specs.Index.{place_at, known_in, room_in, known_at, room_at, mortal_in, all_mortal, all_places, Step, Changes, ToldAt, TurnsAt, StartTurns, IsCompact, IsCompactLive, Admits, HasNoneAbove, EntersAs, Entering, opened_in, IsIndex}
 use Rattle.core_index.proofs.TombLaws.{placed_found, more_here, more_other, more_ahead, own_ahead, with_more, waits_own}
+use Rattle.core_index.proofs.OverLaws.{first_place, both_kept}
+use Rattle.core_index.proofs.StartLaws.{value_waits}
 use Rattle.core_index.proofs.PlaceLaws.{place_there, place_else, place_kept, known_there, room_both}
 use Rattle.core_index.proofs.StandingLaws.{found_has}
 use Rattle.core_index.proofs.DeadLaws.{alive_is, alive_none}
 use Rattle.core_index.proofs.SlotLaws.{awaits_needs}
 
 -- a name that a home is still to be told
-abbrev pub Waiting : Book → Tombs → ℕ → EntryName → Type 0
-Waiting b a home n = Noted b home n ⊎ Ahead a home n
+abbrev pub Waiting : Book → StartKeys → ℕ → EntryName → Type 0
+Waiting b a home n = Noted b home n ⊎ IsAhead a home n
 
 abbrev pub KeepsNames : Book → Book → Type 0
 KeepsNames b c = (h : ℕ) (n : EntryName) → Noted b h n → Noted c h n
 
-abbrev pub KeepsAhead : Tombs → Tombs → Type 0
-KeepsAhead a d = (h : ℕ) (n : EntryName) → Ahead a h n → Ahead d h n
+abbrev pub KeepsAhead : StartKeys → StartKeys → Type 0
+KeepsAhead a d = (h : ℕ) (n : EntryName) → IsAhead a h n → IsAhead d h n
 
-still_waiting : (a d : Tombs) (b c : Book) → KeepsNames b c → KeepsAhead a d → (h : ℕ) (n : EntryName) → Waiting b a h n → Waiting c d h n
-still_waiting a d b c kept ahead h n waits = ⊎_elim (λ (noted : Noted b h n). inl (kept h n noted)) (λ (far : Ahead a h n). inr (ahead h n far)) waits
+still_waiting : (a d : StartKeys) (b c : Book) → KeepsNames b c → KeepsAhead a d → (h : ℕ) (n : EntryName) → Waiting b a h n → Waiting c d h n
+still_waiting a d b c kept ahead h n waits = ⊎_elim (λ (noted : Noted b h n). inl (kept h n noted)) (λ (far : IsAhead a h n). inr (ahead h n far)) waits
 
 -- a change of one key, by which one entry may die
-pub index_step : (es fs : List (ℕ × Place)) (a d : Tombs) (b c : Book) (k : ℕ) (dead : Option Standee) → IsIndex es a b → ((j : ℕ) → j ≢ k → known_at (all_places fs d) j ≡ known_at (all_places es a) j) → OnlyDead (known_at (all_places es a) k) (known_at (all_places fs d) k) dead
+pub index_step : (es fs : List (ℕ × Place)) (a d : StartKeys) (b c : Book) (k : ℕ) (dead : Option Standee) → IsIndex es a b → ((j : ℕ) → j ≢ k → known_at (all_places fs d) j ≡ known_at (all_places es a) j) → OnlyDead (known_at (all_places es a) k) (known_at (all_places fs d) k) dead
     → ((v h : ℕ) → dead ≡ Some (standee_with v h) → Noted c h (name_with k v)) → KeepsNames b c → KeepsAhead a d → all_mortal fs ≤ c.spare → IsIndex fs d c
 index_step es fs a d b c k dead is others only added kept ahead le = record {
   noted = λ j v h waits. ⊎_elim
@@ -52,11 +59,11 @@ no_death : (k : ℕ) (c : Book) (v h : ℕ) → None ≡ Some (standee_with v h)
 no_death k c v h none = absurd (cc none)
 
 -- a change of one key by which none dies
-pub index_same : (es fs : List (ℕ × Place)) (a d : Tombs) (b c : Book) (k : ℕ) → IsIndex es a b → ((j : ℕ) → j ≢ k → known_at (all_places fs d) j ≡ known_at (all_places es a) j) → ((v h : ℕ) → Awaits (known_at (all_places fs d) k) h v → Awaits (known_at (all_places es a) k) h v)
+pub index_same : (es fs : List (ℕ × Place)) (a d : StartKeys) (b c : Book) (k : ℕ) → IsIndex es a b → ((j : ℕ) → j ≢ k → known_at (all_places fs d) j ≡ known_at (all_places es a) j) → ((v h : ℕ) → Awaits (known_at (all_places fs d) k) h v → Awaits (known_at (all_places es a) k) h v)
     → KeepsNames b c → KeepsAhead a d → all_mortal fs ≤ c.spare → IsIndex fs d c
 index_same es fs a d b c k is others only kept ahead le = index_step es fs a d b c k None is others (λ v h waits. inl (only v h waits)) (no_death k c) kept ahead le
 
-pub settled_index : (es fs : List (ℕ × Place)) (a : Tombs) (b c : Book) (k : ℕ) (p now : Place) (dead : Option Standee) → IsIndex es a b → place_at es k ≡ Some p → Step es fs k (Some now) → OnlyDead (known_at es k) (known_at fs k) dead → mortal_in (place_at fs k) + count_dead dead ≤ mortal_in (place_at es k)
+pub settled_index : (es fs : List (ℕ × Place)) (a : StartKeys) (b c : Book) (k : ℕ) (p now : Place) (dead : Option Standee) → IsIndex es a b → place_at es k ≡ Some p → Step es fs k (Some now) → OnlyDead (known_at es k) (known_at fs k) dead → mortal_in (place_at fs k) + count_dead dead ≤ mortal_in (place_at es k)
     → ((v h : ℕ) → dead ≡ Some (standee_with v h) → Noted c h (name_with k v)) → KeepsNames b c → c.spare + count_dead dead ≡ b.spare → IsIndex fs a c
 settled_index es fs a b c k p now dead is at step only mortal added kept spare =
     let sum = step.count in
@@ -67,34 +74,34 @@ settled_index es fs a b c k p now dead is at step only mortal added kept spare =
     (λ v h after. ⊎_elim (λ (waits : Awaits (known_at es k) h v). inl (subst (λ (o : Option KeyRecord). Awaits o h v) (sym (known_there es a k p at)) waits)) (λ (died : dead ≡ Some (standee_with v h)). inr died) (only v h (subst (λ (o : Option KeyRecord). Awaits o h v) (known_there fs a k now step.here) after)))
     added kept (λ h n far. far) (omega (arith, sum, same, mortal, spare, room))
 
-pub settled_change : (es fs : List (ℕ × Place)) (a : Tombs) (k : ℕ) (now : Place) → Step es fs k (Some now) → Changes (all_places es a) (all_places fs a) k now.known
+pub settled_change : (es fs : List (ℕ × Place)) (a : StartKeys) (k : ℕ) (now : Place) → Step es fs k (Some now) → Changes (all_places es a) (all_places fs a) k now.known
 settled_change es fs a k now step = record { here = ap known_in (place_there fs a k now step.here); others = λ j ne. ap known_in (place_kept es fs a a j (step.others j ne) refl) }
 
 -- more room alone
-pub roomier : (es : List (ℕ × Place)) (a : Tombs) (b c : Book) → IsIndex es a b → KeepsNames b c → b.spare ≤ c.spare → IsIndex es a c
+pub roomier : (es : List (ℕ × Place)) (a : StartKeys) (b c : Book) → IsIndex es a b → KeepsNames b c → b.spare ≤ c.spare → IsIndex es a c
 roomier es a b c is kept le = record {
   noted = λ k v h waits. still_waiting a a b c kept (λ i n far. far) h (name_with k v) (is.noted k v h waits);
   spare = let s = is.spare in omega (arith, s, le);
 }
 
 -- a key's record stays, and its room grows by one
-pub admits_known : (es fs : List (ℕ × Place)) (a d : Tombs) (k : ℕ) → Admits es fs a d k → (j : ℕ) → known_at (all_places fs d) j ≡ known_at (all_places es a) j
+pub admits_known : (es fs : List (ℕ × Place)) (a d : StartKeys) (k : ℕ) → Admits es fs a d k → (j : ℕ) → known_at (all_places fs d) j ≡ known_at (all_places es a) j
 admits_known es fs a d k is j = ⊎_elim
     (λ (e : j ≡ k). ap (known_at (all_places fs d)) e ∙ ap known_in (place_there fs d k (record { known = known_at (all_places es a) k; room = room_at es k + 1 }) is.here) ∙ ap (known_at (all_places es a)) (sym e))
     (λ (ne : j ≢ k). ap known_in (place_kept es fs a d j (is.others j ne) (is.others_left j ne)))
     (cases_eq j k)
 
-pub admits_room : (es fs : List (ℕ × Place)) (a d : Tombs) (k : ℕ) → Admits es fs a d k → room_at (all_places fs d) k ≡ room_at (all_places es a) k + 1
+pub admits_room : (es fs : List (ℕ × Place)) (a d : StartKeys) (k : ℕ) → Admits es fs a d k → room_at (all_places fs d) k ≡ room_at (all_places es a) k + 1
 admits_room es fs a d k is = room_both fs d k ∙ ap room_in is.here ∙ ap (λ (n : ℕ). n + 1) (sym (room_both es a k))
 
-pub admits_others : (es fs : List (ℕ × Place)) (a d : Tombs) (k : ℕ) → Admits es fs a d k → (j : ℕ) → j ≢ k → room_at (all_places fs d) j ≡ room_at (all_places es a) j
+pub admits_others : (es fs : List (ℕ × Place)) (a d : StartKeys) (k : ℕ) → Admits es fs a d k → (j : ℕ) → j ≢ k → room_at (all_places fs d) j ≡ room_at (all_places es a) j
 admits_others es fs a d k is j ne = ap room_in (place_kept es fs a d j (is.others j ne) (is.others_left j ne))
 
-pub same_places : (es fs : List (ℕ × Place)) (a d : Tombs) → fs ≡ es → d ≡ a → all_places fs d ≡ all_places es a
+pub same_places : (es fs : List (ℕ × Place)) (a d : StartKeys) → fs ≡ es → d ≡ a → all_places fs d ≡ all_places es a
 same_places es fs a d e f = λ i. all_places (e i) (f i)
 
-pub admitted_index : {T E : Type 0} (r : Result T E) (es fs : List (ℕ × Place)) (a d : Tombs) (b c : Book) (k : ℕ) → IsIndex es a b → OnOk r (Admits es fs a d k) → OnErr r (fs ≡ es) → OnErr r (d ≡ a) → KeepsNames b c → c.spare ≡ b.spare + 1 → IsIndex fs d c
-admitted_index (Err e) es fs a d b c k is ok err left same spare = subst (λ (xs : List (ℕ × Place)). IsIndex xs d c) (sym err) (subst (λ (x : Tombs). IsIndex es x c) (sym left) (roomier es a b c is same (omega (arith, spare))))
+pub admitted_index : {T E : Type 0} (r : Result T E) (es fs : List (ℕ × Place)) (a d : StartKeys) (b c : Book) (k : ℕ) → IsIndex es a b → OnOk r (Admits es fs a d k) → OnErr r (fs ≡ es) → OnErr r (d ≡ a) → KeepsNames b c → c.spare ≡ b.spare + (1 + count_of (alive_at (known_at (started a) k))) → IsIndex fs d c
+admitted_index (Err e) es fs a d b c k is ok err left same spare = subst (λ (xs : List (ℕ × Place)). IsIndex xs d c) (sym err) (subst (λ (x : StartKeys). IsIndex es x c) (sym left) (roomier es a b c is same (omega (arith, spare))))
 admitted_index (Ok x) es fs a d b c k is admits err left same spare =
     let known = admits_known es fs a d k admits in
     let count = admits.count in
@@ -102,15 +109,15 @@ admitted_index (Ok x) es fs a d b c k is admits err left same spare =
     index_same es fs a d b c k is (λ j ne. known j) (λ v h waits. subst (λ (o : Option KeyRecord). Awaits o h v) (known k) waits) same admits.ahead (omega (arith, count, room, spare))
 
 -- the rest of what it says, where it may have failed
-pub admitted_others : {T E : Type 0} (r : Result T E) (es fs : List (ℕ × Place)) (a d : Tombs) (k : ℕ) → OnOk r (Admits es fs a d k) → OnErr r (fs ≡ es) → OnErr r (d ≡ a) → (j : ℕ) → j ≢ k → room_at (all_places fs d) j ≡ room_at (all_places es a) j
+pub admitted_others : {T E : Type 0} (r : Result T E) (es fs : List (ℕ × Place)) (a d : StartKeys) (k : ℕ) → OnOk r (Admits es fs a d k) → OnErr r (fs ≡ es) → OnErr r (d ≡ a) → (j : ℕ) → j ≢ k → room_at (all_places fs d) j ≡ room_at (all_places es a) j
 admitted_others (Err e) es fs a d k ok err left j ne = ap (λ (xs : List (ℕ × Place)). room_at xs j) (same_places es fs a d err left)
 admitted_others (Ok x) es fs a d k admits err left j ne = admits_others es fs a d k admits j ne
 
-pub admitted_known : {T E : Type 0} (r : Result T E) (es fs : List (ℕ × Place)) (a d : Tombs) (k : ℕ) → OnOk r (Admits es fs a d k) → OnErr r (fs ≡ es) → OnErr r (d ≡ a) → (j : ℕ) → known_at (all_places fs d) j ≡ known_at (all_places es a) j
+pub admitted_known : {T E : Type 0} (r : Result T E) (es fs : List (ℕ × Place)) (a d : StartKeys) (k : ℕ) → OnOk r (Admits es fs a d k) → OnErr r (fs ≡ es) → OnErr r (d ≡ a) → (j : ℕ) → known_at (all_places fs d) j ≡ known_at (all_places es a) j
 admitted_known (Err e) es fs a d k ok err left j = ap (λ (xs : List (ℕ × Place)). known_at xs j) (same_places es fs a d err left)
 admitted_known (Ok x) es fs a d k admits err left j = admits_known es fs a d k admits j
 
-pub admitted_err : {T E : Type 0} (r : Result T E) (es fs : List (ℕ × Place)) (a d : Tombs) → OnErr r (fs ≡ es) → OnErr r (d ≡ a) → OnErr r (all_places fs d ≡ all_places es a)
+pub admitted_err : {T E : Type 0} (r : Result T E) (es fs : List (ℕ × Place)) (a d : StartKeys) → OnErr r (fs ≡ es) → OnErr r (d ≡ a) → OnErr r (all_places fs d ≡ all_places es a)
 admitted_err (Err e) es fs a d err left = same_places es fs a d err left
 admitted_err (Ok x) es fs a d err left = tt
 
@@ -119,31 +126,31 @@ admitted_err (Ok x) es fs a d err left = tt
 abbrev pub TakesOut : Book → Book → ℕ → EntryName → Type 0
 TakesOut b c home n = (h : ℕ) (m : EntryName) → Noted b h m → ((h ≡ home) × (m ≡ n)) ⊎ Noted c h m
 
-abbrev pub Takes : Book → Tombs → Book → Tombs → ℕ → EntryName → Type 0
+abbrev pub Takes : Book → StartKeys → Book → StartKeys → ℕ → EntryName → Type 0
 Takes b a c d home n = (h : ℕ) (m : EntryName) → Waiting b a h m → ((h ≡ home) × (m ≡ n)) ⊎ Waiting c d h m
 
-pub takes_noted : (a d : Tombs) (b c : Book) (home : ℕ) (n : EntryName) → TakesOut b c home n → KeepsAhead a d → Takes b a c d home n
+pub takes_noted : (a d : StartKeys) (b c : Book) (home : ℕ) (n : EntryName) → TakesOut b c home n → KeepsAhead a d → Takes b a c d home n
 takes_noted a d b c home n taken ahead h m waits = ⊎_elim
     (λ (noted : Noted b h m). ⊎_elim (λ (same : (h ≡ home) × (m ≡ n)). inl same) (λ (still : Noted c h m). inr (inl still)) (taken h m noted))
-    (λ (far : Ahead a h m). inr (inr (ahead h m far)))
+    (λ (far : IsAhead a h m). inr (inr (ahead h m far)))
     waits
 
-abbrev pub Passes : Tombs → Tombs → ℕ → Tombstone → Type 0
-Passes a d home t = (h : ℕ) (m : EntryName) → Ahead a h m → ((h ≡ home) × (m ≡ name_of t) × (t.home ≡ home)) ⊎ Ahead d h m
+abbrev pub Passes : StartKeys → StartKeys → ℕ → Tombstone → Type 0
+Passes a d home t = (h : ℕ) (m : EntryName) → IsAhead a h m → ((h ≡ home) × (m ≡ name_of t) × (t.home ≡ home)) ⊎ IsAhead d h m
 
-pub takes_passed : (a d e : Tombs) (b : Book) (home : ℕ) (t : Tombstone) → Passes a d home t → KeepsAhead d e → Takes b a b e home (name_of t)
+pub takes_passed : (a d e : StartKeys) (b : Book) (home : ℕ) (t : Tombstone) → Passes a d home t → KeepsAhead d e → Takes b a b e home (name_of t)
 takes_passed a d e b home t passes ahead h m waits = ⊎_elim
     (λ (noted : Noted b h m). inr (inl noted))
-    (λ (far : Ahead a h m). ⊎_elim (λ (own : (h ≡ home) × (m ≡ name_of t) × (t.home ≡ home)). inl (own.0, own.1)) (λ (still : Ahead d h m). inr (inr (ahead h m still))) (passes h m far))
+    (λ (far : IsAhead a h m). ⊎_elim (λ (own : (h ≡ home) × (m ≡ name_of t) × (t.home ≡ home)). inl (own.0, own.1)) (λ (still : IsAhead d h m). inr (inr (ahead h m still))) (passes h m far))
     waits
 
-not_this : (es : List (ℕ × Place)) (a : Tombs) (home : ℕ) (n : EntryName) (k v h : ℕ) → (Awaits (known_at (all_places es a) n.key) home n.version → ⊥) → h ≡ home → name_with k v ≡ n → Awaits (known_at (all_places es a) k) h v → ⊥
+not_this : (es : List (ℕ × Place)) (a : StartKeys) (home : ℕ) (n : EntryName) (k v h : ℕ) → (Awaits (known_at (all_places es a) n.key) home n.version → ⊥) → h ≡ home → name_with k v ≡ n → Awaits (known_at (all_places es a) k) h v → ⊥
 not_this es a home n k v h none at same waits =
     let key : k ≡ n.key = ap (λ (m : EntryName). m.key) same in
     let version : v ≡ n.version = ap (λ (m : EntryName). m.version) same in
     none (subst (λ (x : ℕ). Awaits (known_at (all_places es a) n.key) home x) version (subst (λ (x : ℕ). Awaits (known_at (all_places es a) n.key) x v) at (subst (λ (x : ℕ). Awaits (known_at (all_places es a) x) h v) key waits)))
 
-pub passed_index : (es : List (ℕ × Place)) (a : Tombs) (b c : Book) (home : ℕ) (n : EntryName) → IsIndex es a b → TakesOut b c home n → c.spare ≡ b.spare → (Awaits (known_at (all_places es a) n.key) home n.version → ⊥) → IsIndex es a c
+pub passed_index : (es : List (ℕ × Place)) (a : StartKeys) (b c : Book) (home : ℕ) (n : EntryName) → IsIndex es a b → TakesOut b c home n → c.spare ≡ b.spare → (Awaits (known_at (all_places es a) n.key) home n.version → ⊥) → IsIndex es a c
 passed_index es a b c home n is taken spare none = record {
   noted = λ k v h waits. ⊎_elim
       (λ (same : (h ≡ home) × (name_with k v ≡ n)). absurd (not_this es a home n k v h none same.0 same.1 waits))
@@ -152,19 +159,19 @@ passed_index es a b c home n is taken spare none = record {
   spare = let s = is.spare in omega (arith, s, spare);
 }
 
-pub skipped_index : (es : List (ℕ × Place)) (a d : Tombs) (b : Book) (home : ℕ) (t : Tombstone) → IsIndex es a b → Passes a d home t → d.items ≡ a.items → (t.home ≡ home → Awaits (known_at (all_places es d) (key_of t)) home t.version → ⊥) → IsIndex es d b
-skipped_index es a d b home t is passes items none = record {
+pub skipped_index : (es : List (ℕ × Place)) (a d : StartKeys) (b : Book) (home : ℕ) (t : Tombstone) → IsIndex es a b → Passes a d home t → started d ≡ started a → (t.home ≡ home → Awaits (known_at (all_places es d) (key_of t)) home t.version → ⊥) → IsIndex es d b
+skipped_index es a d b home t is passes same none = record {
   noted = λ k v h waits. ⊎_elim
       (λ (noted : Noted b h (name_with k v)). inl noted)
-      (λ (far : Ahead a h (name_with k v)). ⊎_elim
+      (λ (far : IsAhead a h (name_with k v)). ⊎_elim
       (λ (own : (h ≡ home) × (name_with k v ≡ name_of t) × (t.home ≡ home)). absurd (not_this es d home (name_of t) k v h (none own.2) own.0 own.1 waits))
-      (λ (still : Ahead d h (name_with k v)). inr still)
+      (λ (still : IsAhead d h (name_with k v)). inr still)
       (passes h (name_with k v) far))
-      (is.noted k v h (subst (λ (xs : List Tombstone). Awaits (known_at (es ++ placed xs) k) h v) items waits));
+      (is.noted k v h (subst (λ (ps : List (ℕ × Place)). Awaits (known_at (es ++ ps) k) h v) same waits));
   spare = is.spare;
 }
 
-pub told_index : (es fs : List (ℕ × Place)) (a d : Tombs) (b c : Book) (home : ℕ) (n : EntryName) → IsIndex es a b → Takes b a c d home n → c.spare ≡ b.spare → ToldAt (all_places es a) (all_places fs d) home n → all_mortal fs ≤ all_mortal es → IsIndex fs d c
+pub told_index : (es fs : List (ℕ × Place)) (a d : StartKeys) (b c : Book) (home : ℕ) (n : EntryName) → IsIndex es a b → Takes b a c d home n → c.spare ≡ b.spare → ToldAt (all_places es a) (all_places fs d) home n → all_mortal fs ≤ all_mortal es → IsIndex fs d c
 told_index es fs a d b c home n is taken spare told le = record {
   noted = λ k v h waits. ⊎_elim
       (λ (e : k ≡ n.key).
@@ -179,8 +186,8 @@ told_index es fs a d b c home n is taken spare told le = record {
     still : (k v h : ℕ) → Awaits (known_at (all_places es a) k) h v → (name_with k v ≡ n → ⊥) → Waiting c d h (name_with k v)
     still k v h was ne = ⊎_elim (λ (same : (h ≡ home) × (name_with k v ≡ n)). absurd (ne same.1)) (λ (waits : Waiting c d h (name_with k v)). waits) (taken h (name_with k v) (is.noted k v h was))
 
-pub none_awaits : (es : List (ℕ × Place)) (a : Tombs) (b : Book) (home : ℕ) → IsIndex es a b → ((n : EntryName) → Noted b home n → ⊥) → ((n : EntryName) → Ahead a home n → ⊥) → (n : EntryName) → Awaits (known_at (all_places es a) n.key) home n.version → ⊥
-none_awaits es a b home is none far n waits = ⊎_elim (λ (noted : Noted b home (name_with n.key n.version)). none (name_with n.key n.version) noted) (λ (ahead : Ahead a home (name_with n.key n.version)). far (name_with n.key n.version) ahead) (is.noted n.key n.version home waits)
+pub none_awaits : (es : List (ℕ × Place)) (a : StartKeys) (b : Book) (home : ℕ) → IsIndex es a b → ((n : EntryName) → Noted b home n → ⊥) → ((n : EntryName) → IsAhead a home n → ⊥) → (n : EntryName) → Awaits (known_at (all_places es a) n.key) home n.version → ⊥
+none_awaits es a b home is none far n waits = ⊎_elim (λ (noted : Noted b home (name_with n.key n.version)). none (name_with n.key n.version) noted) (λ (ahead : IsAhead a home (name_with n.key n.version)). far (name_with n.key n.version) ahead) (is.noted n.key n.version home waits)
 
 -- A record that is put in at the start.
 
@@ -215,7 +222,7 @@ alive_lively r = by (is_dead r r.version) refl (standing_at r.standing r.version
     by false lives (Some s) at = let one : count_of (home_alive r) ≡ 1 = ap count_of (alive_is r s lives at) in let le = found_lively r r.standing r.version s at lives in omega (arith, one, le)
 
 -- a record that is put into the map
-pub entered_index : (es fs : List (ℕ × Place)) (a d : Tombs) (b c : Book) (k : ℕ) (p : Place) → IsIndex es a b → Step es fs k (Some p) → Turns a d k None → p.room ≡ 0 → ((v h : ℕ) → Awaits p.known h v → Noted c h (name_with k v)) → KeepsNames b c → b.spare + count_of (alive_at p.known) ≤ c.spare → IsIndex fs d c
+pub entered_index : (es fs : List (ℕ × Place)) (a d : StartKeys) (b c : Book) (k : ℕ) (p : Place) → IsIndex es a b → Step es fs k (Some p) → StartTurns a d k None → p.room ≡ 0 → ((v h : ℕ) → Awaits p.known h v → Noted c h (name_with k v)) → KeepsNames b c → b.spare + count_of (alive_at p.known) ≤ c.spare → IsIndex fs d c
 entered_index es fs a d b c k p is step turns none noted kept le =
     let known : known_at (all_places fs d) k ≡ p.known = ap known_in (place_there fs d k p step.here) in
     let sum = step.count in
@@ -228,7 +235,7 @@ entered_index es fs a d b c k p is step turns none noted kept le =
       spare = omega (arith, sum, room, none, le);
     }
 
-pub enters_as : (es fs : List (ℕ × Place)) (a d : Tombs) (k : ℕ) (p : Place) (known : KeyRecord) → p ≡ record { known = Some known; room = 0 } → Step es fs k (Some p) → Turns a d k None → EntersAs (all_places es a) (all_places fs d) k known
+pub enters_as : (es fs : List (ℕ × Place)) (a d : StartKeys) (k : ℕ) (p : Place) (known : KeyRecord) → p ≡ record { known = Some known; room = 0 } → Step es fs k (Some p) → StartTurns a d k None → EntersAs (all_places es a) (all_places fs d) k known
 enters_as es fs a d k p known is step turns =
     let here = place_there fs d k p step.here in
     let same : (j : ℕ) → j ≢ k → place_at (all_places fs d) j ≡ place_at (all_places es a) j = λ j ne. place_kept es fs a d j (step.others j ne) (turns.others j ne) in
@@ -239,15 +246,22 @@ enters_as es fs a d k p known is step turns =
     }
 
 -- a deleted key that is put behind all others
-more_places : (es : List (ℕ × Place)) (a : Tombs) (k v : ℕ) (known : KeyRecord) (t : Tombstone) → IsCompact es a k v known t → (j : ℕ) → j ≢ k → place_at (all_places es (with_more a t)) j ≡ place_at (all_places es a) j
-more_places es a k v known t is j ne = place_kept es es a (with_more a t) j refl (placed_found (a.items ++ t ∷ []) j ∙ ap (option_map place_of) (more_other a.items t j (λ e. ne (e ∙ is.key))) ∙ sym (placed_found a.items j))
+abbrev pub with_deleted : StartKeys → Tombstone → StartKeys
+with_deleted a t = record { live = a.live; deleted = with_more a.deleted t }
 
-more_known : (es : List (ℕ × Place)) (a : Tombs) (k v : ℕ) (known : KeyRecord) (t : Tombstone) → IsCompact es a k v known t → place_at (all_places es (with_more a t)) k ≡ Some (place_of t)
+more_places : (es : List (ℕ × Place)) (a : StartKeys) (k v : ℕ) (known : KeyRecord) (t : Tombstone) → IsCompact es a k v known t → (j : ℕ) → j ≢ k → place_at (all_places es (with_deleted a t)) j ≡ place_at (all_places es a) j
+more_places es a k v known t is j ne =
+    let ts = a.deleted.items in
+    let more : place_at (placed (ts ++ t ∷ [])) j ≡ place_at (placed ts) j = placed_found (ts ++ t ∷ []) j ∙ ap (option_map place_of) (more_other ts t j (λ e. ne (e ∙ is.key))) ∙ sym (placed_found ts j) in
+    place_kept es es a (with_deleted a t) j refl (both_kept (placed_lives a.live) (placed_lives a.live) (placed ts) (placed (ts ++ t ∷ [])) j refl more)
+
+more_known : (es : List (ℕ × Place)) (a : StartKeys) (k v : ℕ) (known : KeyRecord) (t : Tombstone) → IsCompact es a k v known t → place_at (all_places es (with_deleted a t)) k ≡ Some (place_of t)
 more_known es a k v known t is =
-    let less : AreLess a.items (key_of t) = subst (AreLess a.items) (sym is.key) is.above in
-    place_else es (with_more a t) k is.new ∙ placed_found (a.items ++ t ∷ []) k ∙ ap (λ (j : ℕ). option_map place_of (found_at (a.items ++ t ∷ []) j)) (sym is.key) ∙ ap (option_map place_of) (more_here a.items t less)
+    let ts = a.deleted.items in
+    let less : AreLess ts (key_of t) = subst (AreLess ts) (sym is.key) is.above in
+    place_else es (with_deleted a t) k is.new ∙ first_place (placed_lives a.live) (placed (ts ++ t ∷ [])) k None is.apart ∙ placed_found (ts ++ t ∷ []) k ∙ ap (λ (j : ℕ). option_map place_of (found_at (ts ++ t ∷ []) j)) (sym is.key) ∙ ap (option_map place_of) (more_here ts t less)
 
-pub compact_enters : (es : List (ℕ × Place)) (a : Tombs) (k v : ℕ) (known : KeyRecord) (t : Tombstone) → IsCompact es a k v known t → EntersAs (all_places es a) (all_places es (with_more a t)) k known
+pub compact_enters : (es : List (ℕ × Place)) (a : StartKeys) (k v : ℕ) (known : KeyRecord) (t : Tombstone) → IsCompact es a k v known t → EntersAs (all_places es a) (all_places es (with_deleted a t)) k known
 compact_enters es a k v known t is =
     let here = more_known es a k v known t is in
     record {
@@ -256,26 +270,67 @@ compact_enters es a k v known t is =
       room = λ j ne. ap room_in (more_places es a k v known t is j ne);
     }
 
-pub compact_index : (es : List (ℕ × Place)) (a : Tombs) (b : Book) (k v : ℕ) (known : KeyRecord) (t : Tombstone) → IsCompact es a k v known t → passed_at a t.home ≤ length a.items → IsIndex es a b → IsIndex es (with_more a t) b
+pub compact_index : (es : List (ℕ × Place)) (a : StartKeys) (b : Book) (k v : ℕ) (known : KeyRecord) (t : Tombstone) → IsCompact es a k v known t → passed_at a.deleted t.home ≤ length a.deleted.items → IsIndex es a b → IsIndex es (with_deleted a t) b
 compact_index es a b k v known t compact le is = record {
   noted = λ j w h waits. ⊎_elim
       (λ (e : j ≡ k).
-      let here : known_at (all_places es (with_more a t)) j ≡ left_of t = ap (known_at (all_places es (with_more a t))) e ∙ ap known_in (more_known es a k v known t compact) in
+      let here : known_at (all_places es (with_deleted a t)) j ≡ left_of t = ap (known_at (all_places es (with_deleted a t))) e ∙ ap known_in (more_known es a k v known t compact) in
       let own = waits_own t.fate t.version t.home h w (subst (λ (o : Option KeyRecord). Awaits o h w) here waits) in
       let name : name_with (key_of t) t.version ≡ name_with j w = λ i. name_with ((compact.key ∙ sym e) i) (own.version i) in
-      inr (subst (λ (x : ℕ). Ahead (with_more a t) x (name_with j w)) own.home_is (subst (Ahead (with_more a t) t.home) name (own_ahead a t le))))
-      (λ (ne : j ≢ k). still_waiting a (with_more a t) b b (λ i n noted. noted) (more_ahead a t) h (name_with j w) (is.noted j w h (subst (λ (o : Option KeyRecord). Awaits o h w) (ap known_in (more_places es a k v known t compact j ne)) waits)))
+      inr (subst (λ (x : ℕ). IsAhead (with_deleted a t) x (name_with j w)) own.home_is (subst (IsAhead (with_deleted a t) t.home) name (own_ahead a.deleted t le))))
+      (λ (ne : j ≢ k). still_waiting a (with_deleted a t) b b (λ i n noted. noted) (more_ahead a.deleted t) h (name_with j w) (is.noted j w h (subst (λ (o : Option KeyRecord). Awaits o h w) (ap known_in (more_places es a k v known t compact j ne)) waits)))
       (cases_eq j k);
   spare = is.spare;
 }
 
-pub pushed_index : {T E : Type 0} (r : Result T E) (es : List (ℕ × Place)) (a d : Tombs) (b : Book) (k v : ℕ) (known : KeyRecord) (t : Tombstone) → IsCompact es a k v known t → passed_at a t.home ≤ length a.items → OnOk r (d ≡ with_more a t) → OnErr r (d ≡ a) → IsIndex es a b → IsIndex es d b
-pushed_index (Ok x) es a d b k v known t compact le ok err is = subst (λ (y : Tombs). IsIndex es y b) (sym ok) (compact_index es a b k v known t compact le is)
-pushed_index (Err e) es a d b k v known t compact le ok err is = subst (λ (y : Tombs). IsIndex es y b) (sym err) is
+pub pushed_index : {T E : Type 0} (r : Result T E) (es : List (ℕ × Place)) (a d : StartKeys) (b : Book) (k v : ℕ) (known : KeyRecord) (t : Tombstone) → IsCompact es a k v known t → passed_at a.deleted t.home ≤ length a.deleted.items → OnOk r (d ≡ with_deleted a t) → OnErr r (d ≡ a) → IsIndex es a b → IsIndex es d b
+pushed_index (Ok x) es a d b k v known t compact le ok err is = subst (λ (y : StartKeys). IsIndex es y b) (sym ok) (compact_index es a b k v known t compact le is)
+pushed_index (Err e) es a d b k v known t compact le ok err is = subst (λ (y : StartKeys). IsIndex es y b) (sym err) is
 
-pub pushed_enters : {T E : Type 0} (r : Result T E) (es : List (ℕ × Place)) (a d : Tombs) (k v : ℕ) (known : KeyRecord) (t : Tombstone) → IsCompact es a k v known t → OnOk r (d ≡ with_more a t) → OnOk r (EntersAs (all_places es a) (all_places es d) k known)
-pushed_enters (Ok x) es a d k v known t compact ok = subst (λ (y : Tombs). EntersAs (all_places es a) (all_places es y) k known) (sym ok) (compact_enters es a k v known t compact)
+pub pushed_enters : {T E : Type 0} (r : Result T E) (es : List (ℕ × Place)) (a d : StartKeys) (k v : ℕ) (known : KeyRecord) (t : Tombstone) → IsCompact es a k v known t → OnOk r (d ≡ with_deleted a t) → OnOk r (EntersAs (all_places es a) (all_places es d) k known)
+pushed_enters (Ok x) es a d k v known t compact ok = subst (λ (y : StartKeys). EntersAs (all_places es a) (all_places es y) k known) (sym ok) (compact_enters es a k v known t compact)
 pushed_enters (Err e) es a d k v known t compact ok = tt
+
+-- a key with a value that is put behind all others
+abbrev pub TakesLive : StartKeys → StartKeys → LiveKey → Body → Type 0
+TakesLive a d x body = TurnsAt (started a) (started d) (live_key x) (Some (live_place (a.live.bytes ++ bytes_in body) x))
+
+live_there : (es : List (ℕ × Place)) (a d : StartKeys) (k : ℕ) (body : Body) (known : KeyRecord) (x : LiveKey) → IsCompactLive es a k body known x → TakesLive a d x body → place_at (all_places es d) k ≡ Some (live_place (a.live.bytes ++ bytes_in body) x)
+live_there es a d k body known x is turns = place_else es d k is.new ∙ ap (place_at (started d)) (sym is.fits.key) ∙ turns.here
+
+live_others : (es : List (ℕ × Place)) (a d : StartKeys) (k : ℕ) (body : Body) (known : KeyRecord) (x : LiveKey) → IsCompactLive es a k body known x → TakesLive a d x body → (j : ℕ) → j ≢ k → place_at (all_places es d) j ≡ place_at (all_places es a) j
+live_others es a d k body known x is turns j ne = place_kept es es a d j refl (turns.others j (λ e. ne (e ∙ is.fits.key)))
+
+live_enters : (es : List (ℕ × Place)) (a d : StartKeys) (k : ℕ) (body : Body) (known : KeyRecord) (x : LiveKey) → IsCompactLive es a k body known x → TakesLive a d x body → EntersAs (all_places es a) (all_places es d) k known
+live_enters es a d k body known x is turns =
+    let here = live_there es a d k body known x is turns in
+    record {
+      change = record { here = ap known_in here ∙ is.fits.valued_is; others = λ j ne. ap known_in (live_others es a d k body known x is turns j ne) };
+      none = ap room_in here;
+      room = λ j ne. ap room_in (live_others es a d k body known x is turns j ne);
+    }
+
+same_ahead : (a d : StartKeys) → d.deleted ≡ a.deleted → KeepsAhead a d
+same_ahead a d same = λ h n far. subst (λ (ts : Tombs). IsAhead (record { live = d.live; deleted = ts }) h n) (sym same) far
+
+live_index : (es : List (ℕ × Place)) (a d : StartKeys) (b : Book) (k : ℕ) (body : Body) (known : KeyRecord) (x : LiveKey) → IsCompactLive es a k body known x → TakesLive a d x body → d.deleted ≡ a.deleted → IsIndex es a b → IsIndex es d b
+live_index es a d b k body known x compact turns same is = index_same es es a d b b k is
+    (λ j ne. ap known_in (live_others es a d k body known x compact turns j ne))
+    (λ v h waits. absurd (value_waits (a.live.bytes ++ bytes_in body) x.held x.fate x.version x.home h v (subst (λ (o : Option KeyRecord). Awaits o h v) (ap known_in (live_there es a d k body known x compact turns)) waits)))
+    (λ h n noted. noted)
+    (same_ahead a d same)
+    is.spare
+
+pub added_index : {T E : Type 0} (r : Result T E) (es : List (ℕ × Place)) (a d : StartKeys) (b : Book) (k : ℕ) (body : Body) (known : KeyRecord) (x : LiveKey) → IsCompactLive es a k body known x → OnOk r (TakesLive a d x body) → OnErr r (started d ≡ started a) → d.deleted ≡ a.deleted → IsIndex es a b → IsIndex es d b
+added_index (Ok y) es a d b k body known x compact ok err same is = live_index es a d b k body known x compact ok same is
+added_index (Err e) es a d b k body known x compact ok err same is = record {
+  noted = λ j v h waits. still_waiting a d b b (λ i n noted. noted) (same_ahead a d same) h (name_with j v) (is.noted j v h (subst (λ (ps : List (ℕ × Place)). Awaits (known_at (es ++ ps) j) h v) err waits));
+  spare = is.spare;
+}
+
+pub added_enters : {T E : Type 0} (r : Result T E) (es : List (ℕ × Place)) (a d : StartKeys) (k : ℕ) (body : Body) (known : KeyRecord) (x : LiveKey) → IsCompactLive es a k body known x → OnOk r (TakesLive a d x body) → OnOk r (EntersAs (all_places es a) (all_places es d) k known)
+added_enters (Ok y) es a d k body known x compact ok = live_enters es a d k body known x compact ok
+added_enters (Err e) es a d k body known x compact ok = tt
 
 -- One record after another, from the last one on.
 

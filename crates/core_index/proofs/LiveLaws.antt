@@ -173,6 +173,10 @@ pub more_other : (ts : List LiveKey) (t : LiveKey) (j : ℕ) → j ≢ live_key 
 more_other [] t j ne = cond-false (live_key t == j) (Some t) None (ne_eqb (live_key t) j (λ e. ne (sym e)))
 more_other (x ∷ ts) t j ne = ap (cond (live_key x == j) (Some x)) (more_other ts t j ne)
 
+pub less_absent : (xs : List LiveKey) (k : ℕ) → AllLess xs k → live_at xs k ≡ None
+less_absent [] k less = refl
+less_absent (x ∷ xs) k less = cond-false (live_key x == k) (Some x) (live_at xs k) (ne_eqb (live_key x) k (λ e. let lt = less.0 in omega (arith, lt, e))) ∙ less_absent xs k less.1
+
 -- The bytes of a value stay where they are when others come behind them.
 
 abbrev pub bare_live : LiveKey

@@ -1,6 +1,6 @@
--- The map of keys beside the list of deleted keys.
+-- The map of keys beside the keys of the start.
 use Rattle.std.proofs.Common.{◌≡◌, ◌≢◌, ◌⊎◌, inl, inr, ⊎_elim, ℕ, ◌+◌, ◌-◌, ◌<◌, ◌≤◌, Bool, true, false, cond, ◌&&◌, ◌||◌, ◌==◌, nat_lt, List, [], ◌∷◌, ◌++◌, Option, Some, None, option_map, refl, sym, ◌∙◌, ap, subst, arith}
-use Rattle.std.specs.Prelude.{is_some, Result, Ok, Err, OnOk, OnErr, IsTrue}
+use Rattle.std.specs.Prelude.{is_some, IfSome, Result, Ok, Err, OnOk, OnErr, IsTrue}
 use Rattle.std.specs.List.{sum_by}
 use Rattle.std.specs.Map.{values_of}
 use Rattle.std.specs.BTreeMap.{is_at}
@@ -15,41 +15,38 @@ use Rattle.core_index.specs.declared.types.Standing.{Standing}
 use Rattle.core_index.specs.declared.types.Tombstone.{Tombstone}
 use Rattle.core_index.specs.Records.{KeyRecord, Awaits, is_dead, stands_alone, standing_with, told_in, without, live_version, is_forgettable}
 use Rattle.core_index.specs.Slots.{Place, mortal, OnlyDead, count_dead, count_of, alive_at, standee_with}
-use Rattle.core_index.specs.Tombs.{Tombs, deleted, left_by, left_of, found_at, placed, Ahead}
-use Rattle.core_index.specs.Index.{place_at, known_in, room_in, known_at, room_at, mortal_in, all_mortal, untold_in, all_untold, over, all_places, gone_place, Step, Changes, SameRoom, Tells, ToldAt, Turns, Forgets, Admits}
+use Rattle.core_index.specs.declared.start_keys.StartKeys.{StartKeys}
+use Rattle.core_index.specs.Starts.{started, IsAhead}
+use Rattle.core_index.specs.Index.{IsCompact, place_at, known_in, room_in, known_at, room_at, mortal_in, all_mortal, untold_in, all_untold, over, all_places, gone_place, Step, Changes, SameRoom, Tells, ToldAt, StartTurns, Forgets, Admits}
 use Rattle.core_index.proofs.DeadLaws.{alive_none}
-use Rattle.core_index.proofs.TombLaws.{no_room, none_live, known_found}
+use Rattle.core_index.proofs.OverLaws.{place_both, untold_both, some_of, none_of}
+use Rattle.core_index.proofs.StartLaws.{start_no_room, live_found}
+use Rattle.core_index.proofs.LiveLaws.{less_absent}
+use Rattle.core_index.specs.Lives.{AllLess}
+use Rattle.core_index.specs.Tombs.{key_of, left_of, AreLess}
 
-pub place_both : (es ps : List (ℕ × Place)) (k : ℕ) → place_at (es ++ ps) k ≡ over (place_at es k) (place_at ps k)
-place_both [] ps k = refl
-place_both (e ∷ es) ps k = by (is_at (nat_cmp k) e.0) (place_both es ps k)
-  where
-    by : (b : Bool) → place_at (es ++ ps) k ≡ over (place_at es k) (place_at ps k) → cond b (Some e.1) (place_at (es ++ ps) k) ≡ over (cond b (Some e.1) (place_at es k)) (place_at ps k)
-    by true rest = refl
-    by false rest = rest
+pub place_there : (es : List (ℕ × Place)) (a : StartKeys) (k : ℕ) (p : Place) → place_at es k ≡ Some p → place_at (all_places es a) k ≡ Some p
+place_there es a k p is = place_both es (started a) k ∙ ap (λ (o : Option Place). over o (place_at (started a) k)) is
 
-pub place_there : (es : List (ℕ × Place)) (a : Tombs) (k : ℕ) (p : Place) → place_at es k ≡ Some p → place_at (all_places es a) k ≡ Some p
-place_there es a k p is = place_both es (placed a.items) k ∙ ap (λ (o : Option Place). over o (place_at (placed a.items) k)) is
+pub place_else : (es : List (ℕ × Place)) (a : StartKeys) (k : ℕ) → place_at es k ≡ None → place_at (all_places es a) k ≡ place_at (started a) k
+place_else es a k none = place_both es (started a) k ∙ ap (λ (o : Option Place). over o (place_at (started a) k)) none
 
-pub place_else : (es : List (ℕ × Place)) (a : Tombs) (k : ℕ) → place_at es k ≡ None → place_at (all_places es a) k ≡ place_at (placed a.items) k
-place_else es a k none = place_both es (placed a.items) k ∙ ap (λ (o : Option Place). over o (place_at (placed a.items) k)) none
-
-pub known_there : (es : List (ℕ × Place)) (a : Tombs) (k : ℕ) (p : Place) → place_at es k ≡ Some p → known_at (all_places es a) k ≡ known_at es k
+pub known_there : (es : List (ℕ × Place)) (a : StartKeys) (k : ℕ) (p : Place) → place_at es k ≡ Some p → known_at (all_places es a) k ≡ known_at es k
 known_there es a k p is = ap known_in (place_there es a k p is ∙ sym is)
 
-pub known_else : (es : List (ℕ × Place)) (a : Tombs) (k : ℕ) → place_at es k ≡ None → known_at (all_places es a) k ≡ known_at (placed a.items) k
+pub known_else : (es : List (ℕ × Place)) (a : StartKeys) (k : ℕ) → place_at es k ≡ None → known_at (all_places es a) k ≡ known_at (started a) k
 known_else es a k none = ap known_in (place_else es a k none)
 
 -- only the map has room
-pub room_both : (es : List (ℕ × Place)) (a : Tombs) (k : ℕ) → room_at (all_places es a) k ≡ room_at es k
-room_both es a k = ap room_in (place_both es (placed a.items) k) ∙ by (place_at es k)
+pub room_both : (es : List (ℕ × Place)) (a : StartKeys) (k : ℕ) → room_at (all_places es a) k ≡ room_at es k
+room_both es a k = ap room_in (place_both es (started a) k) ∙ by (place_at es k)
   where
-    by : (o : Option Place) → room_in (over o (place_at (placed a.items) k)) ≡ room_in o
-    by None = no_room a.items k
+    by : (o : Option Place) → room_in (over o (place_at (started a) k)) ≡ room_in o
+    by None = start_no_room a k
     by (Some p) = refl
 
-pub place_kept : (es fs : List (ℕ × Place)) (a b : Tombs) (j : ℕ) → place_at fs j ≡ place_at es j → place_at (placed b.items) j ≡ place_at (placed a.items) j → place_at (all_places fs b) j ≡ place_at (all_places es a) j
-place_kept es fs a b j one two = place_both fs (placed b.items) j ∙ ap (λ (o : Option Place). over o (place_at (placed b.items) j)) one ∙ ap (over (place_at es j)) two ∙ sym (place_both es (placed a.items) j)
+pub place_kept : (es fs : List (ℕ × Place)) (a b : StartKeys) (j : ℕ) → place_at fs j ≡ place_at es j → place_at (started b) j ≡ place_at (started a) j → place_at (all_places fs b) j ≡ place_at (all_places es a) j
+place_kept es fs a b j one two = place_both fs (started b) j ∙ ap (λ (o : Option Place). over o (place_at (started b) j)) one ∙ ap (over (place_at es j)) two ∙ sym (place_both es (started a) j)
 
 -- a key that has a record or room in the map is there
 pub some_place : (o : Option Place) (r : KeyRecord) → known_in o ≡ Some r → (p : Place) × (o ≡ Some p)
@@ -60,16 +57,9 @@ pub room_place : (o : Option Place) → 0 < room_in o → (p : Place) × (o ≡ 
 room_place None lt = absurd (omega (arith, lt))
 room_place (Some p) lt = (p, refl)
 
-values_both : (es ps : List (ℕ × Place)) → values_of (es ++ ps) ≡ values_of es ++ values_of ps
-values_both [] ps = refl
-values_both (e ∷ es) ps = ap (λ (xs : List Place). e.1 ∷ xs) (values_both es ps)
-
-pub untold_both : (es ps : List (ℕ × Place)) → all_untold (es ++ ps) ≡ all_untold es + all_untold ps
-untold_both es ps = ap (sum_by untold_in) (values_both es ps) ∙ sum_by-append untold_in (values_of es) (values_of ps)
-
 -- Changes of one part alone.
 
-pub told_there : (es fs : List (ℕ × Place)) (a : Tombs) (home : ℕ) (n : EntryName) → ToldAt es fs home n → ToldAt (all_places es a) (all_places fs a) home n
+pub told_there : (es fs : List (ℕ × Place)) (a : StartKeys) (home : ℕ) (n : EntryName) → ToldAt es fs home n → ToldAt (all_places es a) (all_places fs a) home n
 told_there es fs a home n is =
     let has = is.tells.waited.has in
     let old = some_place (place_at es n.key) is.tells.waited.found has in
@@ -85,13 +75,13 @@ told_there es fs a home n is =
       };
       others = same;
       waits = λ w h after. let both = is.waits w h (subst (λ (o : Option KeyRecord). Awaits o h w) now after) in (both.0, subst (λ (o : Option KeyRecord). Awaits o h w) (sym was) both.1);
-      fewer = let x = untold_both fs (placed a.items) in let y = untold_both es (placed a.items) in let z = is.fewer in omega (arith, x, y, z);
+      fewer = let x = untold_both fs (started a) in let y = untold_both es (started a) in let z = is.fewer in omega (arith, x, y, z);
     }
 
-pub told_else : (es : List (ℕ × Place)) (a b : Tombs) (home : ℕ) (n : EntryName) → place_at es n.key ≡ None → ToldAt (placed a.items) (placed b.items) home n → ToldAt (all_places es a) (all_places es b) home n
+pub told_else : (es : List (ℕ × Place)) (a b : StartKeys) (home : ℕ) (n : EntryName) → place_at es n.key ≡ None → ToldAt (started a) (started b) home n → ToldAt (all_places es a) (all_places es b) home n
 told_else es a b home n none is =
-    let was : known_at (all_places es a) n.key ≡ known_at (placed a.items) n.key = known_else es a n.key none in
-    let now : known_at (all_places es b) n.key ≡ known_at (placed b.items) n.key = known_else es b n.key none in
+    let was : known_at (all_places es a) n.key ≡ known_at (started a) n.key = known_else es a n.key none in
+    let now : known_at (all_places es b) n.key ≡ known_at (started b) n.key = known_else es b n.key none in
     let same : (j : ℕ) → j ≢ n.key → place_at (all_places es b) j ≡ place_at (all_places es a) j = λ j ne. place_kept es es a b j refl (is.others j ne) in
     record {
       tells = record {
@@ -101,20 +91,20 @@ told_else es a b home n none is =
       };
       others = same;
       waits = λ w h after. let both = is.waits w h (subst (λ (o : Option KeyRecord). Awaits o h w) now after) in (both.0, subst (λ (o : Option KeyRecord). Awaits o h w) (sym was) both.1);
-      fewer = let x = untold_both es (placed b.items) in let y = untold_both es (placed a.items) in let z = is.fewer in omega (arith, x, y, z);
+      fewer = let x = untold_both es (started b) in let y = untold_both es (started a) in let z = is.fewer in omega (arith, x, y, z);
     }
 
-pub changes_else : (es : List (ℕ × Place)) (a b : Tombs) (k : ℕ) (now : Option KeyRecord) → place_at es k ≡ None → Turns a b k now → Changes (all_places es a) (all_places es b) k now
+pub changes_else : (es : List (ℕ × Place)) (a b : StartKeys) (k : ℕ) (now : Option KeyRecord) → place_at es k ≡ None → StartTurns a b k now → Changes (all_places es a) (all_places es b) k now
 changes_else es a b k now none is = record {
   here = known_else es b k none ∙ is.here;
   others = λ j ne. ap known_in (place_kept es es a b j refl (is.others j ne));
 }
 
-pub room_else : (es : List (ℕ × Place)) (a b : Tombs) → SameRoom (all_places es a) (all_places es b)
+pub room_else : (es : List (ℕ × Place)) (a b : StartKeys) → SameRoom (all_places es a) (all_places es b)
 room_else es a b = λ j. room_both es b j ∙ sym (room_both es a j)
 
 -- an entry that is gone from the map
-pub gone_there : (es fs : List (ℕ × Place)) (a : Tombs) (k v : ℕ) (p : Place) → place_at es k ≡ Some p → Step es fs k (option_map (gone_place v) (place_at es k)) → Changes (all_places es a) (all_places fs a) k (option_map (without v) (known_at (all_places es a) k))
+pub gone_there : (es fs : List (ℕ × Place)) (a : StartKeys) (k v : ℕ) (p : Place) → place_at es k ≡ Some p → Step es fs k (option_map (gone_place v) (place_at es k)) → Changes (all_places es a) (all_places fs a) k (option_map (without v) (known_at (all_places es a) k))
 gone_there es fs a k v p at is =
     let here : place_at fs k ≡ Some (gone_place v p) = is.here ∙ ap (option_map (gone_place v)) at in
     record {
@@ -122,7 +112,7 @@ gone_there es fs a k v p at is =
       others = λ j ne. ap known_in (place_kept es fs a a j (is.others j ne) refl);
     }
 
-pub gone_room : (es fs : List (ℕ × Place)) (a : Tombs) (k v : ℕ) → Step es fs k (option_map (gone_place v) (place_at es k)) → SameRoom (all_places es a) (all_places fs a)
+pub gone_room : (es fs : List (ℕ × Place)) (a : StartKeys) (k v : ℕ) → Step es fs k (option_map (gone_place v) (place_at es k)) → SameRoom (all_places es a) (all_places fs a)
 gone_room es fs a k v is = λ j. room_both fs a j ∙ ⊎_elim (λ (e : j ≡ k). ap (room_at fs) e ∙ ap room_in is.here ∙ same (place_at es k) ∙ ap (room_at es) (sym e)) (λ (ne : j ≢ k). ap room_in (is.others j ne)) (cases_eq j k) ∙ sym (room_both es a j)
   where
     same : (o : Option Place) → room_in (option_map (gone_place v) o) ≡ room_in o
@@ -135,32 +125,14 @@ none_over : (o q : Option Place) → known_in o ≡ None → known_in q ≡ None
 none_over None q one two = two
 none_over (Some p) q one two = one
 
-pub forgotten : (es fs : List (ℕ × Place)) (a b : Tombs) (k : ℕ) → known_at fs k ≡ None → ((j : ℕ) → j ≢ k → place_at fs j ≡ place_at es j) → Turns a b k None → Changes (all_places es a) (all_places fs b) k None
+pub forgotten : (es fs : List (ℕ × Place)) (a b : StartKeys) (k : ℕ) → known_at fs k ≡ None → ((j : ℕ) → j ≢ k → place_at fs j ≡ place_at es j) → StartTurns a b k None → Changes (all_places es a) (all_places fs b) k None
 forgotten es fs a b k none others turns = record {
-  here = ap known_in (place_both fs (placed b.items) k) ∙ none_over (place_at fs k) (place_at (placed b.items) k) none turns.here;
+  here = ap known_in (place_both fs (started b) k) ∙ none_over (place_at fs k) (place_at (started b) k) none turns.here;
   others = λ j ne. ap known_in (place_kept es fs a b j (others j ne) (turns.others j ne));
 }
 
-pub forgotten_room : (es fs : List (ℕ × Place)) (a b : Tombs) → SameRoom es fs → SameRoom (all_places es a) (all_places fs b)
+pub forgotten_room : (es fs : List (ℕ × Place)) (a b : StartKeys) → SameRoom es fs → SameRoom (all_places es a) (all_places fs b)
 forgotten_room es fs a b same = λ j. room_both fs b j ∙ same j ∙ sym (room_both es a j)
-
--- what lives is in the map alone
-pub live_both : (es : List (ℕ × Place)) (a : Tombs) (k : ℕ) → live_version (known_at (all_places es a) k) ≡ live_version (known_at es k)
-live_both es a k = ap (λ (o : Option Place). live_version (known_in o)) (place_both es (placed a.items) k) ∙ by (place_at es k)
-  where
-    by : (o : Option Place) → live_version (known_in (over o (place_at (placed a.items) k))) ≡ live_version (known_in o)
-    by None = none_live a.items k
-    by (Some p) = refl
-
--- What a test says of a place.
-
-pub some_of : (o : Option Place) → is_some o ≡ true → (p : Place) × (o ≡ Some p)
-some_of None is = absurd (cc is)
-some_of (Some p) is = (p, refl)
-
-pub none_of : (o : Option Place) → is_some o ≡ false → o ≡ None
-none_of None is = refl
-none_of (Some p) is = absurd (cc is)
 
 -- Room for one more change.
 
@@ -168,7 +140,7 @@ pub grown : (o : Option Place) → mortal_in (Some (record { known = known_in o;
 grown None = refl
 grown (Some p) = omega arith
 
-pub admits_there : (es fs : List (ℕ × Place)) (a : Tombs) (k : ℕ) → known_at (all_places es a) k ≡ known_at es k → Step es fs k (Some (record { known = known_at es k; room = room_at es k + 1 })) → Admits es fs a a k
+pub admits_there : (es fs : List (ℕ × Place)) (a : StartKeys) (k : ℕ) → known_at (all_places es a) k ≡ known_at es k → Step es fs k (Some (record { known = known_at es k; room = room_at es k + 1 })) → Admits es fs a a k
 admits_there es fs a k same step = record {
   here = step.here ∙ ap (λ (o : Option KeyRecord). Some (record { known = o; room = room_at es k + 1 })) (sym same);
   others = step.others;
@@ -177,22 +149,9 @@ admits_there es fs a k same step = record {
   count = let sum = step.count in let more = grown (place_at es k) in omega (arith, sum, more);
 }
 
-dead_now : (v : ℕ) (ss : List Standing) → stands_alone ss v ≡ true → is_dead (deleted v ss) v ≡ true
-dead_now v ss alone = ap (λ (b : Bool). nat_lt v v || ((v == v) && b)) alone ∙ ap (λ (b : Bool). nat_lt v v || (b && true)) (eq-eqb v v refl) ∙ by (nat_lt v v)
-  where
-    by : (b : Bool) → (b || (true && true)) ≡ true
-    by true = refl
-    by false = refl
-
-left_mortal : (f : Fate) (v home : ℕ) → count_of (alive_at (left_by f v home)) ≡ 0
-left_mortal Untold v home = ap count_of (alive_none (deleted v (standing_with v home false ∷ [])) (dead_now v (standing_with v home false ∷ []) (ap (λ (b : Bool). b && true) (eq-eqb v v refl))))
-left_mortal Told v home = ap count_of (alive_none (deleted v (standing_with v home true ∷ [])) (dead_now v (standing_with v home true ∷ []) (ap (λ (b : Bool). b && true) (eq-eqb v v refl))))
-left_mortal Gone v home = ap count_of (alive_none (deleted v []) (dead_now v [] refl))
-left_mortal Moved v home = refl
-
-pub admits_moved : (es fs : List (ℕ × Place)) (a b : Tombs) (k : ℕ) (t : Tombstone) (p : Place) → place_at es k ≡ None → Some t ≡ found_at a.items k → p ≡ record { known = left_of t; room = 1 } → Step es fs k (Some p) → Turns a b k None → Admits es fs a b k
-admits_moved es fs a b k t p none found is step turns =
-    let known : known_at (all_places es a) k ≡ left_of t = known_else es a k none ∙ known_found a.items k (Some t) found in
+pub admits_moved : (es fs : List (ℕ × Place)) (a b : StartKeys) (k : ℕ) (p : Place) → place_at es k ≡ None → p ≡ record { known = known_at (started a) k; room = 1 } → Step es fs k (Some p) → StartTurns a b k None → Admits es fs a b k
+admits_moved es fs a b k p none is step turns =
+    let known : known_at (all_places es a) k ≡ known_at (started a) k = known_else es a k none in
     let room : room_at es k + 1 ≡ 1 = ap (λ (o : Option Place). room_in o + 1) none in
     record {
       here = step.here ∙ ap (λ (q : Place). Some q) is ∙ (λ i. Some (record { known = sym known i; room = sym room i }));
@@ -202,25 +161,37 @@ admits_moved es fs a b k t p none found is step turns =
       count =
           let sum = step.count in
           let old : mortal_in (place_at es k) ≡ 0 = ap mortal_in none in
-          let new : mortal_in (Some p) ≡ 1 + count_of (alive_at (left_of t)) = ap mortal is in
-          let dead = left_mortal t.fate t.version t.home in
-          omega (arith, sum, old, new, dead);
+          let new : mortal_in (Some p) ≡ 1 + count_of (alive_at (known_at (started a) k)) = ap mortal is in
+          omega (arith, sum, old, new);
     }
 
 pub forgets_none : (es : List (ℕ × Place)) (k : ℕ) → place_at es k ≡ None → Forgets es es k
 forgets_none es k none = record { here = ap known_in none; others = λ j ne. refl; room = λ j. refl; count = omega arith }
 
-pub forgettable_there : (es : List (ℕ × Place)) (a : Tombs) (k : ℕ) → IsTrue (is_forgettable (known_at (all_places es a) k)) → is_some (place_at es k) ≡ true → IsTrue (is_forgettable (known_at es k))
+pub forgettable_there : (es : List (ℕ × Place)) (a : StartKeys) (k : ℕ) → IsTrue (is_forgettable (known_at (all_places es a) k)) → is_some (place_at es k) ≡ true → IsTrue (is_forgettable (known_at es k))
 forgettable_there es a k is some = let there = some_of (place_at es k) some in subst (λ (o : Option KeyRecord). IsTrue (is_forgettable o)) (known_there es a k there.0 there.1) is
 
 -- who dies by an entry that is gone from one part
-pub only_there : (es fs : List (ℕ × Place)) (a : Tombs) (k v : ℕ) (p : Place) (dead : Option Standee) → place_at es k ≡ Some p → Step es fs k (option_map (gone_place v) (place_at es k)) → OnlyDead (known_at es k) (known_at fs k) dead → OnlyDead (known_at (all_places es a) k) (known_at (all_places fs a) k) dead
+pub only_there : (es fs : List (ℕ × Place)) (a : StartKeys) (k v : ℕ) (p : Place) (dead : Option Standee) → place_at es k ≡ Some p → Step es fs k (option_map (gone_place v) (place_at es k)) → OnlyDead (known_at es k) (known_at fs k) dead → OnlyDead (known_at (all_places es a) k) (known_at (all_places fs a) k) dead
 only_there es fs a k v p dead at step only = λ w home after.
     let here : place_at fs k ≡ Some (gone_place v p) = step.here ∙ ap (option_map (gone_place v)) at in
     let was = known_there es a k p at in
     let now = known_there fs a k (gone_place v p) here in
     ⊎_elim (λ (waits : Awaits (known_at es k) home w). inl (subst (λ (o : Option KeyRecord). Awaits o home w) (sym was) waits)) (λ (died : dead ≡ Some (standee_with w home)). inr died) (only w home (subst (λ (o : Option KeyRecord). Awaits o home w) now after))
 
-pub only_else : (es : List (ℕ × Place)) (a b : Tombs) (k : ℕ) (dead : Option Standee) → place_at es k ≡ None → ((home v : ℕ) → Awaits (known_at (placed b.items) k) home v → Awaits (known_at (placed a.items) k) home v) → OnlyDead (known_at (all_places es a) k) (known_at (all_places es b) k) dead
+pub only_else : (es : List (ℕ × Place)) (a b : StartKeys) (k : ℕ) (dead : Option Standee) → place_at es k ≡ None → ((home v : ℕ) → Awaits (known_at (started b) k) home v → Awaits (known_at (started a) k) home v) → OnlyDead (known_at (all_places es a) k) (known_at (all_places es b) k) dead
 only_else es a b k dead none kept = λ w home after.
     inl (subst (λ (o : Option KeyRecord). Awaits o home w) (sym (known_else es a k none)) (kept home w (subst (λ (o : Option KeyRecord). Awaits o home w) (known_else es b k none) after)))
+
+-- what fits into the list of deleted keys
+pub all_fit : (r : Option Tombstone) (es : List (ℕ × Place)) (a : StartKeys) (k v : ℕ) (known : KeyRecord) → place_at es k ≡ None → AllLess a.live.items k → AreLess a.deleted.items k → IfSome r (λ t. key_of t ≡ k) → IfSome r (λ t. t.home < 16) → IfSome r (λ t. left_of t ≡ Some known) → IfSome r (λ t. t.version ≡ v) → IfSome r (IsCompact es a k v known)
+all_fit None es a k v known new apart above key home left version = tt
+all_fit (Some t) es a k v known new apart above key home left version = record {
+  new = new;
+  apart = live_found a k None (sym (less_absent a.live.items k apart));
+  above = above;
+  key = key;
+  home = home;
+  version = version;
+  left = left;
+}

@@ -1,5 +1,6 @@
 -- Keys with a value before those that were deleted.
 use Rattle.std.proofs.Common.{◌≡◌, ◌≢◌, ℕ, ◌+◌, ◌==◌, nat_lt, Bool, true, false, cond, ◌&&◌, ◌||◌, List, [], ◌∷◌, ◌++◌, Option, Some, None, option_map, refl, sym, ◌∙◌, ap, subst, arith}
+use Rattle.std.specs.Prelude.{is_some}
 use Rattle.std.proofs.lemmas.Bool.{eqb-true, eq-eqb}
 use Rattle.log_entry.specs.declared.entry.Body.{Body}
 use Rattle.log_entry.specs.declared.entry.EntryName.{EntryName}
@@ -13,7 +14,7 @@ use Rattle.core_index.specs.declared.types.Tombstone.{Tombstone}
 use Rattle.core_index.specs.declared.types.Fate.{Fate}
 use Rattle.core_index.specs.declared.types.Fate.TheVariants as fates
 use Rattle.core_index.proofs.DeadLaws.{alive_none}
-use Rattle.core_index.specs.Records.{KeyRecord, Awaits, is_dead, is_tombstone, is_empty, is_forgettable, stands_alone, standing_at, standing_with, without}
+use Rattle.core_index.specs.Records.{KeyRecord, Awaits, is_dead, is_dead_in, is_tombstone, is_empty, is_forgettable, stands_alone, standing_at, standing_with, without}
 use Rattle.core_index.specs.Slots.{Place, count_of, alive_at}
 use Rattle.core_index.specs.Tombs.{Tombs, placed, place_of, found_at, left_by, deleted}
 use Rattle.core_index.specs.Lives.{Lives, body_in, valued, valued_by, live_place, live_at, places_of, placed_lives}
@@ -143,3 +144,15 @@ added_live a l k p turns = record {
   here = first_place (placed_lives l) (placed a.deleted.items) k (Some p) turns.here;
   others = λ j ne. both_kept (placed_lives a.live) (placed_lives l) (placed a.deleted.items) (placed a.deleted.items) j (turns.others j ne) refl;
 }
+
+pub never_dead : (bytes : List ℕ) (h : Holding) (f : LiveFate) (v home w : ℕ) → is_dead_in (valued_by f v home (body_in bytes h)) w ≡ false
+never_dead bytes h Stands v home w = by (v == w) refl
+  where
+    by : (b : Bool) → (v == w) ≡ b → is_some (cond b (Some (standing_with v home false)) None) && is_dead (record { version = v; body = body_in bytes h; standing = standing_with v home false ∷ [] }) w ≡ false
+    by true same = ap (λ (u : ℕ). is_dead (record { version = v; body = body_in bytes h; standing = standing_with v home false ∷ [] }) u) (sym (eqb-true v w same)) ∙ not_dead bytes h v (standing_with v home false ∷ [])
+    by false same = refl
+never_dead bytes h Gone v home w = refl
+never_dead bytes h Moved v home w = refl
+
+abbrev pub with_tombs : StartKeys → Tombs → StartKeys
+with_tombs a d = record { live = a.live; deleted = d }

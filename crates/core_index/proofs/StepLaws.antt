@@ -73,6 +73,10 @@ pub on_ok : {T E P Q : Type 0} (r : Result T E) → (P → Q) → OnOk r P → O
 on_ok (Ok x) f p = f p
 on_ok (Err e) f p = tt
 
+pub err_is : {T E P : Type 0} (r : Result T E) → P → OnErr r P
+err_is (Ok x) p = tt
+err_is (Err e) p = p
+
 pub on_err : {T E P Q : Type 0} (r : Result T E) → (P → Q) → OnErr r P → OnErr r Q
 on_err (Ok x) f p = tt
 on_err (Err e) f p = f p

@@ -4,13 +4,16 @@ use Rattle.std.specs.List.{sum_by, AllByRecursion}
 use Rattle.std.specs.Map.{lookup, values_of}
 use Rattle.std.specs.BTreeMap.{is_at}
 use Rattle.std.specs.Ordering.{nat_cmp}
+use Rattle.log_entry.specs.declared.entry.Body.{Body}
 use Rattle.log_entry.specs.declared.entry.EntryName.{EntryName}
 use Rattle.core_index.specs.declared.types.Record.{Record}
+use Rattle.core_index.specs.declared.types.LiveKey.{LiveKey}
 use Rattle.core_index.specs.declared.types.Tombstone.{Tombstone}
 use Rattle.core_index.specs.Records.{KeyRecord, Awaits, told_in, count_untold, standing_of, without, live_version, opened}
-use Rattle.core_index.specs.Slots.{Place, mortal}
+use Rattle.core_index.specs.Slots.{Place, mortal, alive_at, count_of}
 use Rattle.core_index.specs.Noted.{Book, Noted, name_with}
 use Rattle.core_index.specs.declared.start_keys.StartKeys.{StartKeys}
+use Rattle.core_index.specs.Lives.{FitsLive, placed_lives}
 use Rattle.core_index.specs.Starts.{started, IsAhead}
 use Rattle.core_index.specs.Tombs.{Tombs, Ahead, AreLess, key_of, left_of, placed}
 
@@ -96,9 +99,9 @@ abbrev pub over : Option Place → Option Place → Option Place
 over None o = o
 over (Some p) o = Some p
 
--- What the index keeps of all keys: a key of the map is there, whatever the list of deleted keys has of it.
-abbrev pub all_places : List (ℕ × Place) → Tombs → List (ℕ × Place)
-all_places es a = es ++ placed a.items
+-- What the index keeps of all keys: a key of the map is there, whatever the lists of the start have of it.
+abbrev pub all_places : List (ℕ × Place) → StartKeys → List (ℕ × Place)
+all_places es a = es ++ started a
 
 -- A deleted key has this record now, and every other one what it had. No home was asked about more of them.
 pub record Turns (old new : Tombs) (k : ℕ) (now : Option KeyRecord) : Type 0 where
@@ -107,31 +110,38 @@ pub record Turns (old new : Tombs) (k : ℕ) (now : Option KeyRecord) : Type 0 w
   pub ahead : (home : ℕ) (n : EntryName) → Ahead old home n → Ahead new home n
 
 -- The key fits into the list of deleted keys by this, and is nowhere yet.
-pub record IsCompact (es : List (ℕ × Place)) (a : Tombs) (k v : ℕ) (known : KeyRecord)
+pub record IsCompact (es : List (ℕ × Place)) (a : StartKeys) (k v : ℕ) (known : KeyRecord)
     (t : Tombstone) : Type 0 where
   pub new : place_at es k ≡ None
-  pub above : AreLess a.items k
+  pub apart : place_at (placed_lives a.live) k ≡ None
+  pub above : AreLess a.deleted.items k
   pub key : key_of t ≡ k
   pub home : t.home < 16
   pub version : t.version ≡ v
   pub left : left_of t ≡ Some known
 
+-- The key fits into the list of keys with a value by this, and is not in the map.
+pub record IsCompactLive (es : List (ℕ × Place)) (a : StartKeys) (k : ℕ) (body : Body)
+    (known : KeyRecord) (x : LiveKey) : Type 0 where
+  pub new : place_at es k ≡ None
+  pub fits : FitsLive a.live k body known x
+
 -- The key has room for one more change, and is in the map.
-pub record Admits (es fs : List (ℕ × Place)) (a b : Tombs) (k : ℕ) : Type 0 where
+pub record Admits (es fs : List (ℕ × Place)) (a b : StartKeys) (k : ℕ) : Type 0 where
   pub here : place_at fs k ≡ Some (record {
     known = known_at (all_places es a) k;
     room = room_at es k + 1;
   })
   pub others : (j : ℕ) → j ≢ k → place_at fs j ≡ place_at es j
-  pub others_left : (j : ℕ) → j ≢ k → place_at (placed b.items) j ≡ place_at (placed a.items) j
-  pub ahead : (home : ℕ) (n : EntryName) → Ahead a home n → Ahead b home n
-  pub count : all_mortal fs ≤ all_mortal es + 1
+  pub others_left : (j : ℕ) → j ≢ k → place_at (started b) j ≡ place_at (started a) j
+  pub ahead : (home : ℕ) (n : EntryName) → IsAhead a home n → IsAhead b home n
+  pub count : all_mortal fs ≤ all_mortal es + 1 + count_of (alive_at (known_at (started a) k))
 
 -- What is true of the index's fields between two calls: each entry that waits to be told is noted, or its home will be
 -- asked about it, and there is room for every name that may still die.
-pub record IsIndex (es : List (ℕ × Place)) (a : Tombs) (b : Book) : Type 0 where
+pub record IsIndex (es : List (ℕ × Place)) (a : StartKeys) (b : Book) : Type 0 where
   pub noted : (k v h : ℕ) → Awaits (known_at (all_places es a) k) h v
-      → Noted b h (name_with k v) ⊎ Ahead a h (name_with k v)
+      → Noted b h (name_with k v) ⊎ IsAhead a h (name_with k v)
   pub spare : all_mortal es ≤ b.spare
 
 -- the live keys with their versions, in the order of the entries

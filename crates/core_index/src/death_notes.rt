@@ -4,13 +4,15 @@ ghost use Rattle.log_entry.specs.declared.entry.EntryName.{EntryName};
 ghost use Rattle.core_index.specs.Records.{Awaits};
 ghost use Rattle.core_index.specs.Slots.{count_dead, standee_with};
 ghost use Rattle.core_index.specs.Noted.{Noted, name_with};
-ghost use Rattle.core_index.specs.Tombs.{Ahead, key_of, name_of};
+ghost use Rattle.core_index.specs.Tombs.{key_of, name_of};
+ghost use Rattle.core_index.specs.Starts.{IsAhead};
 ghost use Rattle.core_index.specs.Index.{IsIndex, Tells, ToldAt, all_places, all_mortal, all_untold, known_at};
 
 use crate::compact::tell_in;
 use crate::notices::Notices;
 use crate::slot::Slot;
-use crate::tombstones::{Tombstones, name_of};
+use crate::start_keys::StartKeys;
+use crate::tombstones::name_of;
 use crate::types::{Standee, Tombstone};
 use fs_model::Key;
 use log_entry::EntryName;
@@ -36,50 +38,50 @@ pub fn note_dead(notices: &mut Notices, key: Key, dead: Option<Standee>)
 // Tells a home of a dead entry. A name that is noted and does not wait any more is passed over.
 pub fn next_dead(
     slots: &mut BTreeMap<Key, Slot>,
-    tombstones: &mut Tombstones,
+    start: &mut StartKeys,
     notices: &mut Notices,
     home: u32,
 ) -> Option<EntryName>
-    requires { IsIndex slots.old.entries tombstones.old notices.old }
-    ensures index { IsIndex slots.new.entries tombstones.new notices.new }
-    ensures told { IfSome result (λ name. Tells (all_places slots.old.entries tombstones.old)
-        (all_places slots.new.entries tombstones.new) home name) }
-    ensures fewer { IfSome result (λ _. all_untold (all_places slots.new.entries tombstones.new) + 1
-        ≡ all_untold (all_places slots.old.entries tombstones.old)) }
+    requires { IsIndex slots.old.entries start.old notices.old }
+    ensures index { IsIndex slots.new.entries start.new notices.new }
+    ensures told { IfSome result (λ name. Tells (all_places slots.old.entries start.old)
+        (all_places slots.new.entries start.new) home name) }
+    ensures fewer { IfSome result (λ _. all_untold (all_places slots.new.entries start.new) + 1
+        ≡ all_untold (all_places slots.old.entries start.old)) }
     ensures none { IfNone result ((name : EntryName) → ¬ Awaits
-        (known_at (all_places slots.old.entries tombstones.old) name.key) home name.version) }
-    ensures unchanged { IfNone result (all_places slots.new.entries tombstones.new
-        ≡ all_places slots.old.entries tombstones.old) }
+        (known_at (all_places slots.old.entries start.old) name.key) home name.version) }
+    ensures unchanged { IfNone result (all_places slots.new.entries start.new
+        ≡ all_places slots.old.entries start.old) }
 {
     while let Some(name) = notices.take(home) {
-        if tell_in(slots, tombstones, name, home) {
+        if tell_in(slots, start, name, home) {
             return Some(name);
         }
     }
-    next_deleted(slots, tombstones, notices, home)
+    next_deleted(slots, start, notices, home)
 }
 
 // The same where no name is noted for the home: of the keys that were deleted before the start.
 fn next_deleted(
     slots: &mut BTreeMap<Key, Slot>,
-    tombstones: &mut Tombstones,
+    start: &mut StartKeys,
     notices: &Notices,
     home: u32,
 ) -> Option<EntryName>
-    requires index { IsIndex slots.old.entries tombstones.old notices.now }
+    requires index { IsIndex slots.old.entries start.old notices.now }
     requires none { (name : EntryName) → ¬ Noted notices.now home name }
-    ensures index { IsIndex slots.new.entries tombstones.new notices.now }
-    ensures told { IfSome result (λ name. Tells (all_places slots.old.entries tombstones.old)
-        (all_places slots.new.entries tombstones.new) home name) }
-    ensures fewer { IfSome result (λ _. all_untold (all_places slots.new.entries tombstones.new) + 1
-        ≡ all_untold (all_places slots.old.entries tombstones.old)) }
+    ensures index { IsIndex slots.new.entries start.new notices.now }
+    ensures told { IfSome result (λ name. Tells (all_places slots.old.entries start.old)
+        (all_places slots.new.entries start.new) home name) }
+    ensures fewer { IfSome result (λ _. all_untold (all_places slots.new.entries start.new) + 1
+        ≡ all_untold (all_places slots.old.entries start.old)) }
     ensures none { IfNone result ((name : EntryName) → ¬ Awaits
-        (known_at (all_places slots.old.entries tombstones.old) name.key) home name.version) }
-    ensures unchanged { IfNone result (all_places slots.new.entries tombstones.new
-        ≡ all_places slots.old.entries tombstones.old) }
+        (known_at (all_places slots.old.entries start.old) name.key) home name.version) }
+    ensures unchanged { IfNone result (all_places slots.new.entries start.new
+        ≡ all_places slots.old.entries start.old) }
 {
-    while let Some(tombstone) = tombstones.pass(home) {
-        if tell_passed(slots, tombstones, &tombstone, home) {
+    while let Some(tombstone) = start.pass(home) {
+        if tell_passed(slots, start, &tombstone, home) {
             return Some(name_of(&tombstone));
         }
     }
@@ -89,22 +91,22 @@ fn next_deleted(
 // Tells a home of such a key's entry, where it waits to be told to this home.
 fn tell_passed(
     slots: &mut BTreeMap<Key, Slot>,
-    tombstones: &mut Tombstones,
+    start: &mut StartKeys,
     tombstone: &Tombstone,
     home: u32,
 ) -> bool
-    ensures told { result ≡ true → ToldAt (all_places slots.old.entries tombstones.old)
-        (all_places slots.new.entries tombstones.new) home (name_of tombstone.now) }
+    ensures told { result ≡ true → ToldAt (all_places slots.old.entries start.old)
+        (all_places slots.new.entries start.new) home (name_of tombstone.now) }
     ensures mortal { result ≡ true → all_mortal slots.new.entries ≤ all_mortal slots.old.entries }
-    ensures ahead { (h : ℕ) (n : EntryName) → Ahead tombstones.old h n → Ahead tombstones.new h n }
+    ensures ahead { (h : ℕ) (n : EntryName) → IsAhead start.old h n → IsAhead start.new h n }
     ensures none { result ≡ false → tombstone.now.home ≡ home → ¬ Awaits
-        (known_at (all_places slots.old.entries tombstones.old) (key_of tombstone.now)) home
+        (known_at (all_places slots.old.entries start.old) (key_of tombstone.now)) home
         tombstone.now.version }
     ensures unchanged { result ≡ false → slots.new.entries ≡ slots.old.entries }
-    ensures unchanged_left { result ≡ false → tombstones.new ≡ tombstones.old }
+    ensures unchanged_left { result ≡ false → start.new ≡ start.old }
 {
     if u32::from(tombstone.home) != home {
         return false;
     }
-    tell_in(slots, tombstones, name_of(tombstone), home)
+    tell_in(slots, start, name_of(tombstone), home)
 }

@@ -7,13 +7,13 @@ ghost use Rattle.core_index.specs.Records.{Awaits, Shows, opened, opened_with, s
 ghost use Rattle.core_index.specs.Noted.{name_with};
 ghost use Rattle.core_index.specs.Index.{known_at, room_at, Changes, SameRoom, Tells, HasNoneAbove, EntersAs, all_untold, opened_in};
 
-use crate::compact::{admit_at, compact, copy_of, forget_in, gone_in};
+use crate::compact::{admit_at, compact, compact_live, copy_of, forget_in, gone_in};
 use crate::death_notes::{next_dead, note_dead};
 use crate::live_keys::live_in;
 use crate::map::{enter_at, settle_at};
 use crate::notices::Notices;
 use crate::slot::Slot;
-use crate::tombstones::Tombstones;
+use crate::start_keys::StartKeys;
 use crate::types::{Look, Record, Spent, Standee};
 use fs_errors::Memory;
 use fs_model::{Key, Version};
@@ -28,7 +28,7 @@ use std::marker::Model;
 #[derive(Drop)]
 pub struct CoreIndex {
     slots: BTreeMap<Key, Slot>,
-    tombstones: Tombstones,
+    start: StartKeys,
     notices: Notices,
 }
 
@@ -40,9 +40,9 @@ impl Model for CoreIndex {
 
     ghost use Rattle.core_index.specs.Index.{IsIndex, all_places};
 
-    ghost view = { λ a. all_places a.slots.entries a.tombstones };
+    ghost view = { λ a. all_places a.slots.entries a.start };
 
-    ghost invariant = { λ a. IsIndex a.slots.entries a.tombstones a.notices };
+    ghost invariant = { λ a. IsIndex a.slots.entries a.start a.notices };
 }
 
 impl CoreIndex {
@@ -69,7 +69,7 @@ impl CoreIndex {
     {
         Ok(CoreIndex {
             slots: BTreeMap::new(alloc),
-            tombstones: Tombstones::empty(alloc),
+            start: StartKeys::empty(alloc),
             notices: Notices::open(alloc)?,
         })
     }
@@ -91,13 +91,16 @@ impl CoreIndex {
     {
         if let Some(tombstone) = compact(
             &self.slots,
-            &self.tombstones,
+            &self.start,
             key,
             version,
             body,
             standing,
         ) {
-            return self.tombstones.push(tombstone);
+            return self.start.add_deleted(tombstone);
+        }
+        if let Some(live) = compact_live(&self.slots, &self.start, key, version, body, standing) {
+            return self.start.add_live(live, body);
         }
         let start = Record {
             key,
@@ -118,7 +121,7 @@ impl CoreIndex {
         self.notices.reserve(slot.len())?;
         slot.note_dead(key, &mut self.notices);
         enter_at(&mut self.slots, key, slot)?;
-        self.tombstones.clear(key);
+        self.start.clear(key);
         Ok(())
     }
 
@@ -129,8 +132,8 @@ impl CoreIndex {
         ensures records { (j : ℕ) → known_at self.new j ≡ known_at self.old j }
         ensures err { OnErr result (self.new ≡ self.old) }
     {
-        self.notices.reserve(1)?;
-        admit_at(alloc, &mut self.slots, &mut self.tombstones, key)
+        self.notices.reserve(1 + self.start.count_alive(key))?;
+        admit_at(alloc, &mut self.slots, &mut self.start, key)
     }
 
     /// For how many changes of the key there is room. A request that was refused leaves the room that was made for it.
@@ -148,7 +151,7 @@ impl CoreIndex {
         ensures { Shows (known_at self.now key) result }
     {
         match self.slots.get(&key) {
-            None => self.tombstones.look(key),
+            None => self.start.look(key),
             Some(slot) => slot.look(),
         }
     }
@@ -157,7 +160,7 @@ impl CoreIndex {
         ensures { result ≡ last_of (known_at self.now key) }
     {
         match self.slots.get(&key) {
-            None => self.tombstones.last(key),
+            None => self.start.last(key),
             Some(slot) => slot.last(),
         }
     }
@@ -205,7 +208,7 @@ impl CoreIndex {
             → ¬ Awaits (known_at self.old name.key) home name.version) }
         ensures unchanged { IfNone result (self.new ≡ self.old) }
     {
-        next_dead(&mut self.slots, &mut self.tombstones, &mut self.notices, home)
+        next_dead(&mut self.slots, &mut self.start, &mut self.notices, home)
     }
 
     /// Takes an entry out of those that stand: it is in no log any more.
@@ -214,7 +217,7 @@ impl CoreIndex {
             (option_map (without name.version) (known_at self.old name.key)) }
         ensures room { SameRoom self.old self.new }
     {
-        let dead = gone_in(&mut self.slots, &mut self.tombstones, name);
+        let dead = gone_in(&mut self.slots, &mut self.start, name);
         note_dead(&mut self.notices, name.key, dead);
     }
 
@@ -223,7 +226,7 @@ impl CoreIndex {
         ensures { result ≡ is_forgettable (known_at self.now key) }
     {
         match self.slots.get(&key) {
-            None => self.tombstones.is_forgettable(key),
+            None => self.start.is_forgettable(key),
             Some(slot) => slot.is_forgettable(),
         }
     }
@@ -233,7 +236,7 @@ impl CoreIndex {
         ensures { result ≡ is_dead_in (known_at self.now name.key) name.version }
     {
         match self.slots.get(&name.key) {
-            None => self.tombstones.is_dead(name),
+            None => self.start.is_dead(name),
             Some(slot) => slot.is_dead(name.version),
         }
     }
@@ -244,7 +247,7 @@ impl CoreIndex {
         ensures forgotten { Changes self.old self.new key None }
         ensures room { SameRoom self.old self.new }
     {
-        forget_in(&mut self.slots, &mut self.tombstones, key);
+        forget_in(&mut self.slots, &mut self.start, key);
     }
 
     /// The live keys with their versions, by rising key.
@@ -254,6 +257,6 @@ impl CoreIndex {
         ensures each { IfOk result (λ names. (k v : ℕ) → Contains names.items (name_with k v)
             ↔ (live_version (known_at self.now k) ≡ Some v)) }
     {
-        live_in(alloc, &self.slots)
+        live_in(alloc, &self.slots, &self.start)
     }
 }

@@ -2,7 +2,7 @@
 ghost use Rattle.std.specs.Prelude.{◌≡◌, ◌≢◌, ◌⊎◌, ℕ, ◌+◌, ◌<◌, ◌≤◌, ◌++◌, ◌∷◌, [], Some, None, option_map, true, false, IfOk, IfSome, IfNone, OnOk, OnErr, length};
 ghost use Rattle.log_entry.specs.declared.entry.EntryName.{EntryName};
 ghost use Rattle.core_index.specs.Index.{known_at, place_at, ToldAt, TurnsAt, StartTurns};
-ghost use Rattle.core_index.specs.Records.{Awaits, Shows, without, last_of, is_forgettable};
+ghost use Rattle.core_index.specs.Records.{Awaits, Shows, without, last_of, is_dead_in, is_forgettable};
 ghost use Rattle.core_index.specs.Slots.{alive_at, count_of};
 ghost use Rattle.core_index.specs.Starts.{started, IsAhead};
 ghost use Rattle.core_index.specs.Tombs.{key_of, name_of, AreLess, passed_at};
@@ -39,13 +39,15 @@ impl StartKeys {
     pub fn add_deleted(&mut self, tombstone: Tombstone) -> Result<(), Memory>
         requires above { AreLess self.old.deleted.items (key_of tombstone) }
         requires home { tombstone.home < 16 }
-        ensures ok { OnOk result (self.new.deleted ≡ record {
-          items = self.old.deleted.items ++ tombstone ∷ [];
-          passed = self.old.deleted.passed;
+        ensures ok { OnOk result (self.new ≡ record {
+          live = self.old.live;
+          deleted = record {
+            items = self.old.deleted.items ++ tombstone ∷ [];
+            passed = self.old.deleted.passed;
+          };
         }) }
         ensures room { (h : ℕ) → passed_at self.old.deleted h ≤ length self.old.deleted.items }
-        ensures err { OnErr result (self.new.deleted ≡ self.old.deleted) }
-        ensures live { self.new.live ≡ self.old.live }
+        ensures err { OnErr result (self.new ≡ self.old) }
     {
         self.deleted.push(tombstone)
     }
@@ -95,6 +97,16 @@ impl StartKeys {
     {
         match self.live.find(key) {
             None => self.deleted.is_forgettable(key),
+            Some(_) => false,
+        }
+    }
+
+    // Whether an entry of this name stands and is dead.
+    pub fn is_dead(&self, name: EntryName) -> bool
+        ensures { result ≡ is_dead_in (known_at (started self.now) name.key) name.version }
+    {
+        match self.live.find(name.key) {
+            None => self.deleted.is_dead(name),
             Some(_) => false,
         }
     }

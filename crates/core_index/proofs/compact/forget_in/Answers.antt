@@ -6,10 +6,10 @@ use Rattle.core_index.proofs.PlaceLaws.{forgettable_there, forgotten, forgotten_
 use Rattle.core_index.proofs.compact.forget_in.Goals as goal
 
 pub forget_there-requires : goal.forget_there-requires
-forget_there-requires c = forgettable_there c.args.slots.now.entries c.args.tombstones.now c.args.key c.requires
+forget_there-requires c = forgettable_there c.args.slots.now.entries c.args.start.now c.args.key c.requires
 
 pub returns-clause-change : goal.returns-clause-change
-returns-clause-change c = forgotten c.args.slots.now.entries c.forget_there.new.slots.entries c.args.tombstones.now c.clear.new.self c.args.key c.forget_there.ensures.here c.forget_there.ensures.others c.clear.ensures
+returns-clause-change c = forgotten c.args.slots.now.entries c.forget_there.new.slots.entries c.args.start.now c.clear.new.self c.args.key c.forget_there.ensures.here c.forget_there.ensures.others c.clear.ensures
 
 pub returns-clause-room : goal.returns-clause-room
-returns-clause-room c = forgotten_room c.args.slots.now.entries c.forget_there.new.slots.entries c.args.tombstones.now c.clear.new.self c.forget_there.ensures.room
+returns-clause-room c = forgotten_room c.args.slots.now.entries c.forget_there.new.slots.entries c.args.start.now c.clear.new.self c.forget_there.ensures.room

@@ -6,8 +6,8 @@ use Rattle.core_index.proofs.death_notes.next_dead.Goals as goal
 pub returns-then-tell_in-clause-index : goal.returns-then-tell_in-clause-index
 returns-then-tell_in-clause-index c =
     let es = c.loop-name.slots.entries in
-    let a = c.loop-name.tombstones in
-    let e = c.tell_in.new.tombstones in
+    let a = c.loop-name.start in
+    let e = c.tell_in.new.start in
     told_index es c.tell_in.new.slots.entries a e c.loop-name.notices c.take.new.self c.args.home c.in-Some.name c.loop-name.invariant.index (takes_noted a e c.loop-name.notices c.take.new.self c.args.home c.in-Some.name c.in-Some.ensures.others c.tell_in.ensures.ahead) c.take.ensures.spare (c.tell_in.ensures.told c.if-tell_in.true) (c.tell_in.ensures.mortal c.if-tell_in.true)
 
 pub next_deleted-requires-clause-none : goal.next_deleted-requires-clause-none

@@ -5,8 +5,8 @@ use Rattle.core_index.proofs.death_notes.next_dead.Given as goal
 abbrev pub invariant-loop-name : goal.invariant-loop-name
 invariant-loop-name l = record {
   same : l.slots.entries ≡ l.initial.slots.entries;
-  left : l.tombstones ≡ l.initial.tombstones;
-  index : IsIndex l.slots.entries l.tombstones l.notices;
+  left : l.start ≡ l.initial.start;
+  index : IsIndex l.slots.entries l.start l.notices;
 }
 
 abbrev pub decreases-loop-name : goal.decreases-loop-name

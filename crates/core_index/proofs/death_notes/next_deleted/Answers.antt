@@ -11,19 +11,19 @@ pub returns-then-tell_passed-clause-index : goal.returns-then-tell_passed-clause
 returns-then-tell_passed-clause-index c =
     let es = c.loop-tombstone.slots.entries in
     let fs = c.tell_passed.new.slots.entries in
-    let a = c.loop-tombstone.tombstones in
+    let a = c.loop-tombstone.start in
     let d = c.pass.new.self in
-    let e = c.tell_passed.new.tombstones in
+    let e = c.tell_passed.new.start in
     let b = c.args.notices.now in
     let t = c.in-Some.tombstone in
-    let same : all_places es d ≡ all_places es a = ap (λ (xs : List Tombstone). es ++ placed xs) c.pass.ensures.items in
+    let same : all_places es d ≡ all_places es a = ap (λ (ps : List (ℕ × Place)). es ++ ps) c.pass.ensures.same in
     let told : ToldAt (all_places es a) (all_places fs e) c.args.home (name_of t) = subst (λ (xs : List (ℕ × Place)). ToldAt xs (all_places fs e) c.args.home (name_of t)) same (c.tell_passed.ensures.told c.if-tell_passed.true) in
     told_index es fs a e b b c.args.home (name_of t) c.loop-tombstone.invariant.index (takes_passed a d e b c.args.home t c.in-Some.ensures.others c.tell_passed.ensures.ahead) refl told (c.tell_passed.ensures.mortal c.if-tell_passed.true)
 
 pub returns-clause-none : goal.returns-clause-none
 returns-clause-none c = λ name waits.
     let es = c.loop-tombstone.slots.entries in
-    let a = c.loop-tombstone.tombstones in
+    let a = c.loop-tombstone.start in
     let is = c.loop-tombstone.invariant in
-    let same : all_places c.args.slots.now.entries c.args.tombstones.now ≡ all_places es a = λ i. sym is.same i ++ placed (sym is.items i) in
+    let same : all_places c.args.slots.now.entries c.args.start.now ≡ all_places es a = λ i. sym is.same i ++ sym is.places i in
     none_awaits es a c.args.notices.now c.args.home is.index c.requires.none c.in_default.ensures.none name (subst (λ (xs : List (ℕ × Place)). Awaits (known_at xs name.key) c.args.home name.version) same waits)

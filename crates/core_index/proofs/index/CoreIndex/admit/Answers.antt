@@ -4,33 +4,33 @@ use Rattle.core_index.specs.Records.{KeyRecord, Awaits, Shows, settled, last_of,
 use Rattle.core_index.specs.Slots.{Place}
 use Rattle.core_index.specs.Tombs.{Tombs, passed_at}
 use Rattle.core_index.specs.Index.{place_at, known_in, room_in, known_at, room_at, all_places, Changes, EntersAs}
-use Rattle.core_index.proofs.PlaceLaws.{place_there, known_there, known_else, room_both, room_place, live_both}
+use Rattle.core_index.proofs.PlaceLaws.{place_there, known_there, known_else, room_both, room_place}
 use Rattle.core_index.proofs.StepLaws.{on_ok}
 use Rattle.core_index.proofs.IndexLaws.{admits_room, admitted_others, admitted_known}
 use Rattle.core_index.proofs.IndexLaws.{admitted_index, roomier}
 use Rattle.core_index.proofs.index.CoreIndex.admit.Goals as goal
 
 pub invariant_of-self-2 : goal.invariant_of-self-2
-invariant_of-self-2 c = admitted_index c.admit_at.result c.self.inside.slots.entries c.admit_at.new.slots.entries c.self.inside.tombstones c.admit_at.new.tombstones c.self.inside.notices c.reserve.new.self c.args.key c.self.invariant c.admit_at.ensures.ok c.admit_at.ensures.err c.admit_at.ensures.err_left c.in_ok-reserve.ensures.kept c.in_ok-reserve.ensures.ok
+invariant_of-self-2 c = admitted_index c.admit_at.result c.self.inside.slots.entries c.admit_at.new.slots.entries c.self.inside.start c.admit_at.new.start c.self.inside.notices c.reserve.new.self c.args.key c.self.invariant c.admit_at.ensures.ok c.admit_at.ensures.err c.admit_at.ensures.err_left c.in_ok-reserve.ensures.kept (c.in_ok-reserve.ensures.ok ∙ ap (λ (n : ℕ). c.self.inside.notices.spare + (1 + n)) c.count_alive.ensures)
 
 pub invariant_of-self : goal.invariant_of-self
-invariant_of-self c = roomier c.self.inside.slots.entries c.self.inside.tombstones c.self.inside.notices c.reserve.new.self c.self.invariant c.in_err-reserve.ensures.kept (let same = c.in_err-reserve.ensures.err in omega (arith, same))
+invariant_of-self c = roomier c.self.inside.slots.entries c.self.inside.start c.self.inside.notices c.reserve.new.self c.self.invariant c.in_err-reserve.ensures.kept (let same = c.in_err-reserve.ensures.err in omega (arith, same))
 
 pub returns-clause-ok : goal.returns-clause-ok
 returns-clause-ok c =
     let es = c.self.inside.slots.entries in
-    let a = c.self.inside.tombstones in
+    let a = c.self.inside.start in
     let k = c.args.key in
-    on_ok c.admit_at.result (λ admits. admits_room es c.admit_at.new.slots.entries a c.admit_at.new.tombstones k admits ∙ ap (λ (xs : List (ℕ × Place)). room_at xs k + 1) c.self.view_is) c.admit_at.ensures.ok
+    on_ok c.admit_at.result (λ admits. admits_room es c.admit_at.new.slots.entries a c.admit_at.new.start k admits ∙ ap (λ (xs : List (ℕ × Place)). room_at xs k + 1) c.self.view_is) c.admit_at.ensures.ok
 
 pub returns-clause-others : goal.returns-clause-others
 returns-clause-others c = λ j ne.
     let es = c.self.inside.slots.entries in
-    let a = c.self.inside.tombstones in
-    admitted_others c.admit_at.result es c.admit_at.new.slots.entries a c.admit_at.new.tombstones c.args.key c.admit_at.ensures.ok c.admit_at.ensures.err c.admit_at.ensures.err_left j ne ∙ ap (λ (xs : List (ℕ × Place)). room_at xs j) c.self.view_is
+    let a = c.self.inside.start in
+    admitted_others c.admit_at.result es c.admit_at.new.slots.entries a c.admit_at.new.start c.args.key c.admit_at.ensures.ok c.admit_at.ensures.err c.admit_at.ensures.err_left j ne ∙ ap (λ (xs : List (ℕ × Place)). room_at xs j) c.self.view_is
 
 pub returns-clause-records : goal.returns-clause-records
 returns-clause-records c = λ j.
     let es = c.self.inside.slots.entries in
-    let a = c.self.inside.tombstones in
-    admitted_known c.admit_at.result es c.admit_at.new.slots.entries a c.admit_at.new.tombstones c.args.key c.admit_at.ensures.ok c.admit_at.ensures.err c.admit_at.ensures.err_left j ∙ ap (λ (xs : List (ℕ × Place)). known_at xs j) c.self.view_is
+    let a = c.self.inside.start in
+    admitted_known c.admit_at.result es c.admit_at.new.slots.entries a c.admit_at.new.start c.args.key c.admit_at.ensures.ok c.admit_at.ensures.err c.admit_at.ensures.err_left j ∙ ap (λ (xs : List (ℕ × Place)). known_at xs j) c.self.view_is

@@ -4,7 +4,7 @@ use Rattle.core_index.specs.Records.{KeyRecord, Awaits, Shows, settled, last_of,
 use Rattle.core_index.specs.Slots.{Place}
 use Rattle.core_index.specs.Tombs.{Tombs, passed_at}
 use Rattle.core_index.specs.Index.{place_at, known_in, room_in, known_at, room_at, all_places, Changes, EntersAs}
-use Rattle.core_index.proofs.PlaceLaws.{place_there, known_there, known_else, room_both, room_place, live_both}
+use Rattle.core_index.proofs.PlaceLaws.{place_there, known_there, known_else, room_both, room_place}
 use Rattle.log_entry.specs.declared.entry.EntryName.{EntryName}
 use Rattle.core_index.specs.Noted.{Noted}
 use Rattle.core_index.proofs.IndexLaws.{entered_index, enters_as, roomier}
@@ -18,12 +18,12 @@ invariant_of-self-2 c =
     let count = c.len.ensures in
     let more = c.in_ok-reserve.ensures.ok in
     let less = c.note_dead.ensures.spare in
-    entered_index c.self.inside.slots.entries c.enter_at.new.slots.entries c.self.inside.tombstones c.clear.new.self c.self.inside.notices c.note_dead.new.notices c.args.start.key p c.self.invariant c.in_ok-enter_at.ensures.ok c.clear.ensures none c.note_dead.ensures.noted kept (omega (arith, count, more, less))
+    entered_index c.self.inside.slots.entries c.enter_at.new.slots.entries c.self.inside.start c.clear.new.self c.self.inside.notices c.note_dead.new.notices c.args.start.key p c.self.invariant c.in_ok-enter_at.ensures.ok c.clear.ensures none c.note_dead.ensures.noted kept (omega (arith, count, more, less))
 
 pub returns : goal.returns
 returns c =
     let es = c.self.inside.slots.entries in
-    let a = c.self.inside.tombstones in
+    let a = c.self.inside.start in
     let fs = c.enter_at.new.slots.entries in
     let k = c.args.start.key in
     subst (λ (xs : List (ℕ × Place)). EntersAs xs (all_places fs c.clear.new.self) k (opened c.args.start)) c.self.view_is (enters_as es fs a c.clear.new.self k c.in_ok-slot.slot (opened c.args.start) c.in_ok-slot.ensures c.in_ok-enter_at.ensures.ok c.clear.ensures)

@@ -4,7 +4,7 @@ use Rattle.core_index.specs.Records.{KeyRecord, Awaits, Shows, settled, last_of,
 use Rattle.core_index.specs.Slots.{Place}
 use Rattle.core_index.specs.Tombs.{Tombs, passed_at}
 use Rattle.core_index.specs.Index.{place_at, known_in, room_in, known_at, room_at, all_places, Changes, EntersAs}
-use Rattle.core_index.proofs.PlaceLaws.{place_there, known_there, known_else, room_both, room_place, live_both}
+use Rattle.core_index.proofs.PlaceLaws.{place_there, known_there, known_else, room_both, room_place}
 use Rattle.core_index.proofs.IndexLaws.{index_step}
 use Rattle.core_index.proofs.index.CoreIndex.gone.Goals as goal
 
@@ -15,4 +15,4 @@ invariant_of-self c =
     let mortal = g.mortal in
     let spare = n.spare in
     let room = c.self.invariant.spare in
-    index_step c.self.inside.slots.entries c.gone_in-dead.new.slots.entries c.self.inside.tombstones c.gone_in-dead.new.tombstones c.self.inside.notices c.note_dead.new.notices c.args.name.key c.gone_in-dead.result c.self.invariant g.gone.others g.dead n.added n.kept g.ahead (omega (arith, mortal, spare, room))
+    index_step c.self.inside.slots.entries c.gone_in-dead.new.slots.entries c.self.inside.start c.gone_in-dead.new.start c.self.inside.notices c.note_dead.new.notices c.args.name.key c.gone_in-dead.result c.self.invariant g.gone.others g.dead n.added n.kept g.ahead (omega (arith, mortal, spare, room))

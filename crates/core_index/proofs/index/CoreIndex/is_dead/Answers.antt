@@ -10,11 +10,11 @@ returns-in-None c =
     let es = c.self.inside.slots.entries in
     let k = c.args.name.key in
     let none : place_at es k ≡ None = sym c.in-None.ensures.value in
-    c.is_dead.ensures ∙ ap (λ (o : Option KeyRecord). is_dead_in o c.args.name.version) (sym (known_else es c.self.inside.tombstones k none) ∙ ap (λ (ps : List (ℕ × Place)). known_at ps k) c.self.view_is)
+    c.is_dead.ensures ∙ ap (λ (o : Option KeyRecord). is_dead_in o c.args.name.version) (sym (known_else es c.self.inside.start k none) ∙ ap (λ (ps : List (ℕ × Place)). known_at ps k) c.self.view_is)
 
 pub returns-in-Some : goal.returns-in-Some
 returns-in-Some c =
     let es = c.self.inside.slots.entries in
     let k = c.args.name.key in
     let some : place_at es k ≡ Some c.in-Some.slot.now = sym c.in-Some.ensures.value in
-    c.is_dead-in-Some.ensures ∙ ap (λ (o : Option KeyRecord). is_dead_in o c.args.name.version) (ap (λ (o : Option Place). known_in o) (sym some) ∙ sym (known_there es c.self.inside.tombstones k c.in-Some.slot.now some) ∙ ap (λ (ps : List (ℕ × Place)). known_at ps k) c.self.view_is)
+    c.is_dead-in-Some.ensures ∙ ap (λ (o : Option KeyRecord). is_dead_in o c.args.name.version) (ap (λ (o : Option Place). known_in o) (sym some) ∙ sym (known_there es c.self.inside.start k c.in-Some.slot.now some) ∙ ap (λ (ps : List (ℕ × Place)). known_at ps k) c.self.view_is)

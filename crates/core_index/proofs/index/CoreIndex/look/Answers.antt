@@ -4,17 +4,17 @@ use Rattle.core_index.specs.Records.{KeyRecord, Awaits, Shows, settled, last_of,
 use Rattle.core_index.specs.Slots.{Place}
 use Rattle.core_index.specs.Tombs.{Tombs, passed_at}
 use Rattle.core_index.specs.Index.{place_at, known_in, room_in, known_at, room_at, all_places, Changes, EntersAs}
-use Rattle.core_index.proofs.PlaceLaws.{place_there, known_there, known_else, room_both, room_place, live_both}
+use Rattle.core_index.proofs.PlaceLaws.{place_there, known_there, known_else, room_both, room_place}
 use Rattle.core_index.proofs.index.CoreIndex.look.Goals as goal
 
 pub returns-in-None : goal.returns-in-None
 returns-in-None c =
     let es = c.self.inside.slots.entries in
     let k = c.args.key in
-    subst (λ (o : Option KeyRecord). Shows o c.look.result) (sym (known_else es c.self.inside.tombstones k (sym c.in-None.ensures.value)) ∙ ap (λ (xs : List (ℕ × Place)). known_at xs k) c.self.view_is) c.look.ensures
+    subst (λ (o : Option KeyRecord). Shows o c.look.result) (sym (known_else es c.self.inside.start k (sym c.in-None.ensures.value)) ∙ ap (λ (xs : List (ℕ × Place)). known_at xs k) c.self.view_is) c.look.ensures
 
 pub returns-in-Some : goal.returns-in-Some
 returns-in-Some c =
     let es = c.self.inside.slots.entries in
     let k = c.args.key in
-    subst (λ (o : Option KeyRecord). Shows o c.look-in-Some.result) (sym (ap known_in (place_there es c.self.inside.tombstones k c.in-Some.slot.now (sym c.in-Some.ensures.value))) ∙ ap (λ (xs : List (ℕ × Place)). known_at xs k) c.self.view_is) c.look-in-Some.ensures
+    subst (λ (o : Option KeyRecord). Shows o c.look-in-Some.result) (sym (ap known_in (place_there es c.self.inside.start k c.in-Some.slot.now (sym c.in-Some.ensures.value))) ∙ ap (λ (xs : List (ℕ × Place)). known_at xs k) c.self.view_is) c.look-in-Some.ensures

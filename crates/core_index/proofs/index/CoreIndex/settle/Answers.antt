@@ -4,14 +4,14 @@ use Rattle.core_index.specs.Records.{KeyRecord, Awaits, Shows, settled, last_of,
 use Rattle.core_index.specs.Slots.{Place}
 use Rattle.core_index.specs.Tombs.{Tombs, passed_at}
 use Rattle.core_index.specs.Index.{place_at, known_in, room_in, known_at, room_at, all_places, Changes, EntersAs}
-use Rattle.core_index.proofs.PlaceLaws.{place_there, known_there, known_else, room_both, room_place, live_both}
+use Rattle.core_index.proofs.PlaceLaws.{place_there, known_there, known_else, room_both, room_place}
 use Rattle.core_index.proofs.IndexLaws.{settled_index, settled_change}
 use Rattle.core_index.proofs.index.CoreIndex.settle.Goals as goal
 
 pub settle_at-settled-requires-clause-room : goal.settle_at-settled-requires-clause-room
 settle_at-settled-requires-clause-room c =
     let es = c.self.inside.slots.entries in
-    let a = c.self.inside.tombstones in
+    let a = c.self.inside.start in
     let k = c.args.entry.key in
     let same : room_at (all_places es a) k ≡ room_at c.args.self.now k = ap (λ (xs : List (ℕ × Place)). room_at xs k) c.self.view_is in
     let both = room_both es a k in
@@ -22,7 +22,7 @@ settle_at-settled-requires-clause-room c =
 pub settle_at-settled-requires-clause-next : goal.settle_at-settled-requires-clause-next
 settle_at-settled-requires-clause-next c =
     let es = c.self.inside.slots.entries in
-    let a = c.self.inside.tombstones in
+    let a = c.self.inside.start in
     let k = c.args.entry.key in
     let same : room_at (all_places es a) k ≡ room_at c.args.self.now k = ap (λ (xs : List (ℕ × Place)). room_at xs k) c.self.view_is in
     let both = room_both es a k in
@@ -35,7 +35,7 @@ settle_at-settled-requires-clause-next c =
 pub invariant_of-self : goal.invariant_of-self
 invariant_of-self c =
     let es = c.self.inside.slots.entries in
-    let a = c.self.inside.tombstones in
+    let a = c.self.inside.start in
     let k = c.args.entry.key in
     let same : room_at (all_places es a) k ≡ room_at c.args.self.now k = ap (λ (xs : List (ℕ × Place)). room_at xs k) c.self.view_is in
     let both = room_both es a k in
@@ -50,7 +50,7 @@ invariant_of-self c =
 pub returns-clause-settled : goal.returns-clause-settled
 returns-clause-settled c =
     let es = c.self.inside.slots.entries in
-    let a = c.self.inside.tombstones in
+    let a = c.self.inside.start in
     let k = c.args.entry.key in
     let same : room_at (all_places es a) k ≡ room_at c.args.self.now k = ap (λ (xs : List (ℕ × Place)). room_at xs k) c.self.view_is in
     let both = room_both es a k in
@@ -67,7 +67,7 @@ returns-clause-settled c =
 pub returns-clause-replaced : goal.returns-clause-replaced
 returns-clause-replaced c =
     let es = c.self.inside.slots.entries in
-    let a = c.self.inside.tombstones in
+    let a = c.self.inside.start in
     let k = c.args.entry.key in
     let same : room_at (all_places es a) k ≡ room_at c.args.self.now k = ap (λ (xs : List (ℕ × Place)). room_at xs k) c.self.view_is in
     let both = room_both es a k in
@@ -80,7 +80,7 @@ returns-clause-replaced c =
 pub returns-clause-room : goal.returns-clause-room
 returns-clause-room c =
     let es = c.self.inside.slots.entries in
-    let a = c.self.inside.tombstones in
+    let a = c.self.inside.start in
     let k = c.args.entry.key in
     let same : room_at (all_places es a) k ≡ room_at c.args.self.now k = ap (λ (xs : List (ℕ × Place)). room_at xs k) c.self.view_is in
     let both = room_both es a k in
@@ -94,5 +94,5 @@ returns-clause-room c =
 pub returns-clause-others : goal.returns-clause-others
 returns-clause-others c = λ j ne.
     let es = c.self.inside.slots.entries in
-    let a = c.self.inside.tombstones in
+    let a = c.self.inside.start in
     room_both c.settle_at-settled.new.slots.entries a j ∙ ap room_in (c.settle_at-settled.ensures.step.others j ne) ∙ sym (room_both es a j) ∙ ap (λ (xs : List (ℕ × Place)). room_at xs j) c.self.view_is

@@ -1,0 +1,12 @@
+use Rattle.std.proofs.Common.{ap}
+use Rattle.core_index.specs.declared.start_keys.StartKeys.{StartKeys}
+use Rattle.core_index.specs.Tombs.{Tombs}
+use Rattle.core_index.proofs.StepLaws.{on_ok, on_err}
+use Rattle.core_index.proofs.StartLaws.{with_tombs}
+use Rattle.core_index.proofs.start_keys.StartKeys.add_deleted.Goals as goal
+
+pub returns-clause-ok : goal.returns-clause-ok
+returns-clause-ok c = on_ok c.push.result (λ is. ap (with_tombs c.args.self.now) is) c.push.ensures.ok
+
+pub returns-clause-err : goal.returns-clause-err
+returns-clause-err c = on_err c.push.result (λ is. ap (with_tombs c.args.self.now) is) c.push.ensures.err
