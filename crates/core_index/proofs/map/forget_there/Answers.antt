@@ -1,7 +1,5 @@
-use Rattle.std.proofs.Common.{◌≡◌, ℕ, List, true, false, Option, Some, None, refl, sym, ◌∙◌, ap, subst, arith, rules}
-use Rattle.core_index.specs.Records.{KeyRecord, Awaits}
-use Rattle.core_index.specs.Slots.{Place}
-use Rattle.core_index.specs.Index.{place_at, known_at, all_places}
+use Rattle.std.proofs.Common.{sym, ◌∙◌}
+use Rattle.core_index.specs.Index.{place_at}
 use Rattle.core_index.proofs.OverLaws.{none_of}
 use Rattle.core_index.proofs.PlaceLaws.{forgets_none}
 use Rattle.core_index.proofs.map.forget_there.Goals as goal
