@@ -5,17 +5,16 @@ use Rattle.std.specs.List.{flat_map, AllByRecursion}
 use Rattle.log_entry.specs.declared.entry.Entry.{Entry}
 use Rattle.log_entry.specs.Spelling.{words_of}
 use Rattle.log_entry.specs.Batches.{Scan, scan_of}
-use Rattle.log_entry.proofs.Scans.{scan_spelled}
-use Rattle.log_entry.proofs.Images.{length-words}
+use Rattle.log_entry.proofs.Clients.{scan_spelled, length-words}
 use Rattle.chunk_map.specs.declared.layouts.Geometry.{Geometry}
 use Rattle.chunk_map.specs.declared.heads.Head.{Head}
 use Rattle.chunk_map.specs.declared.heads.Head.TheVariants.{Free, Log, Data}
 use Rattle.chunk_map.specs.Layouts.{IsLayout, numbers, chunk_words, chunk_first, head_at}
 use Rattle.store_image.specs.declared.types.PlacedEntry.{PlacedEntry}
 use Rattle.store_image.specs.Parts.{payload, scan_behind, placed, chunk_entries, part_entries, all_entries}
-use Rattle.store_image.proofs.Places.{layout_numbers}
+use Rattle.store_image.proofs.Clients.{layout_numbers}
 use Rattle.core_log.specs.Log as log
-use Rattle.core_log.proofs.ItemLaws.{placed_items, items_of, items_placed, first_is}
+use Rattle.core_log.proofs.Clients.{placed_items, items_of, items_placed, first_is}
 use Rattle.recover.specs.declared.found_entries.Found.{Found}
 use Rattle.recover.specs.Logs.{SpellsLog}
 use Rattle.recover.specs.Gathering.{AllSpell}
@@ -37,9 +36,10 @@ items_rise : (is : List (Option Entry)) (p : ℕ) → PlacesRise (placed_items p
 items_rise [] p = tt
 items_rise (None ∷ is) p = items_rise is (p + 1)
 items_rise (Some e ∷ is) p =
-    let two = (first_is e).0 in
-    (all_implies (λ (x : ℕ × Entry). suc p ≤ x.0) (λ (x : ℕ × Entry). p < x.0) (λ x h. omega (arith, h)) (placed_items (p + length (words_of e)) is) (items_from is (p + length (words_of e)) (suc p) (omega (arith, two))),
-    items_rise is (p + length (words_of e)))
+    let two = (first_is e).0 in (
+      all_implies (λ (x : ℕ × Entry). suc p ≤ x.0) (λ (x : ℕ × Entry). p < x.0) (λ x h. omega (arith, h)) (placed_items (p + length (words_of e)) is) (items_from is (p + length (words_of e)) (suc p) (omega (arith, two))),
+      items_rise is (p + length (words_of e)),
+    )
 
 scan_rises : (ws : List ℕ) → log.Spelled ws → PlacesRise (scan_of ws).entries
 scan_rises ws spelled =
@@ -62,9 +62,10 @@ record RiseIn (l : Geometry) (lo hi : ℕ) (es : List PlacedEntry) : Type 0 wher
 module _ (l : Geometry) where
   rise_append : (mid : ℕ) (xs ys : List PlacedEntry) → AllByRecursion (λ (x : PlacedEntry). word_of l x < mid) xs → AllByRecursion (λ (x : PlacedEntry). mid ≤ word_of l x) ys → Rise l xs → Rise l ys → Rise l (xs ++ ys)
   rise_append mid [] ys high low a b = b
-  rise_append mid (x ∷ xs) ys high low a b =
-      (all_append (λ (y : PlacedEntry). word_of l x < word_of l y) xs ys a.0 (all_implies (λ (y : PlacedEntry). mid ≤ word_of l y) (λ (y : PlacedEntry). word_of l x < word_of l y) (λ y h. let less = high.0 in omega (arith, h, less)) ys low),
-      rise_append mid xs ys high.1 low a.1 b)
+  rise_append mid (x ∷ xs) ys high low a b = (
+    all_append (λ (y : PlacedEntry). word_of l x < word_of l y) xs ys a.0 (all_implies (λ (y : PlacedEntry). mid ≤ word_of l y) (λ (y : PlacedEntry). word_of l x < word_of l y) (λ y h. let less = high.0 in omega (arith, h, less)) ys low),
+    rise_append mid xs ys high.1 low a.1 b,
+  )
 
   joined : (lo mid hi : ℕ) (xs ys : List PlacedEntry) → lo ≤ mid → mid ≤ hi → RiseIn l lo mid xs → RiseIn l mid hi ys → RiseIn l lo hi (xs ++ ys)
   joined lo mid hi xs ys a b first next = record {

@@ -32,8 +32,8 @@ returns-in-Some-clause-told g c = λ telling.
     let fs = c.in-Ok.found.items in
     let stand = subst (AreFound l image) (sym c.deref.ensures.value) (found_stand s.frame l c.requires.covers image all.2 fs all.1) in
     let read : c.in-Ok-2.entries.items ≡ all_entries l image =
-        reads_ok l image c.deref.result.now c.in_ok-entries.field-0 c.in-Ok-2.entries (c.in_ok-entries.ensures.told telling stand) c.in-Ok-2.is
-        ∙ ap (entries_at l image) c.deref.ensures.value ∙ found_back s.frame l c.requires.covers image all.2 fs all.1 in
+    reads_ok l image c.deref.result.now c.in_ok-entries.field-0 c.in-Ok-2.entries (c.in_ok-entries.ensures.told telling stand) c.in-Ok-2.is
+    ∙ ap (entries_at l image) c.deref.ensures.value ∙ found_back s.frame l c.requires.covers image all.2 fs all.1 in
     by_clash l image c.in-Ok-2.entries.items read all.0 c.in-Some.fault (sym c.in-Some.is ∙ c.in_ok-fault.ensures ∙ ap clash_fault c.deref-2.ensures.value)
 
 pub returns-in-None-clause-told : goal.returns-in-None-clause-told
@@ -45,7 +45,7 @@ returns-in-None-clause-told g c = λ telling.
     let fs = c.in-Ok.found.items in
     let stand = subst (AreFound l image) (sym c.deref.ensures.value) (found_stand s.frame l c.requires.covers image all.2 fs all.1) in
     let read : c.in-Ok-2.entries.items ≡ all_entries l image =
-        reads_ok l image c.deref.result.now c.in_ok-entries.field-0 c.in-Ok-2.entries (c.in_ok-entries.ensures.told telling stand) c.in-Ok-2.is
-        ∙ ap (entries_at l image) c.deref.ensures.value ∙ found_back s.frame l c.requires.covers image all.2 fs all.1 in
+    reads_ok l image c.deref.result.now c.in_ok-entries.field-0 c.in-Ok-2.entries (c.in_ok-entries.ensures.told telling stand) c.in-Ok-2.is
+    ∙ ap (entries_at l image) c.deref.ensures.value ∙ found_back s.frame l c.requires.covers image all.2 fs all.1 in
     none_clash s.frame l c.requires.covers image fs c.by_name-sorted.result.items all.1 all.0 all.2 (c.by_name-sorted.ensures.names (words_rise l c.requires.covers.layout image all.2 fs all.1))
     (sym (ap clash_fault read) ∙ sym (sym c.in-None.is ∙ c.in_ok-fault.ensures ∙ ap clash_fault c.deref-2.ensures.value))
