@@ -250,17 +250,17 @@ gone_valued Moved v home w b e there = absurd there
 
 pub live_gone : (bytes : List ℕ) (xs : List LiveKey) (k w : ℕ) (x : LiveKey) → Some x ≡ live_at xs k → x.version ≡ w → IsStanding x.fate → TurnsAt (places_of bytes xs) (places_of bytes (turned xs k Gone)) k (option_map (gone_place w) (place_at (places_of bytes xs) k))
 live_gone bytes xs k w x is e there = turned_turns bytes xs k Gone (option_map (gone_place w) (place_at (places_of bytes xs) k)) (
-  ap (λ (o : Option LiveKey). option_map (live_place bytes) (option_map (with_live_fate Gone) o)) (sym is)
-  ∙ ap (λ (o : Option KeyRecord). Some (record { known = o; room = 0 })) (gone_valued x.fate x.version x.home w (body_in bytes x.held) e there)
-  ∙ ap (λ (o : Option LiveKey). option_map (gone_place w) (option_map (live_place bytes) o)) is
-  ∙ ap (option_map (gone_place w)) (sym (placed_found bytes xs k)))
+    ap (λ (o : Option LiveKey). option_map (live_place bytes) (option_map (with_live_fate Gone) o)) (sym is)
+    ∙ ap (λ (o : Option KeyRecord). Some (record { known = o; room = 0 })) (gone_valued x.fate x.version x.home w (body_in bytes x.held) e there)
+    ∙ ap (λ (o : Option LiveKey). option_map (gone_place w) (option_map (live_place bytes) o)) is
+    ∙ ap (option_map (gone_place w)) (sym (placed_found bytes xs k)))
 
 pub live_stays : (bytes : List ℕ) (xs : List LiveKey) (k w : ℕ) (x : LiveKey) → Some x ≡ live_at xs k → option_map (without w) (valued bytes x) ≡ valued bytes x → TurnsAt (places_of bytes xs) (places_of bytes xs) k (option_map (gone_place w) (place_at (places_of bytes xs) k))
 live_stays bytes xs k w x is same = same_at (places_of bytes xs) k (option_map (gone_place w) (place_at (places_of bytes xs) k)) (
-  placed_found bytes xs k ∙ ap (option_map (live_place bytes)) (sym is)
-  ∙ ap (λ (o : Option KeyRecord). Some (record { known = o; room = 0 })) (sym same)
-  ∙ ap (λ (o : Option LiveKey). option_map (gone_place w) (option_map (live_place bytes) o)) is
-  ∙ ap (option_map (gone_place w)) (sym (placed_found bytes xs k)))
+    placed_found bytes xs k ∙ ap (option_map (live_place bytes)) (sym is)
+    ∙ ap (λ (o : Option KeyRecord). Some (record { known = o; room = 0 })) (sym same)
+    ∙ ap (λ (o : Option LiveKey). option_map (gone_place w) (option_map (live_place bytes) o)) is
+    ∙ ap (option_map (gone_place w)) (sym (placed_found bytes xs k)))
 
 pub live_absent : (bytes : List ℕ) (xs : List LiveKey) (k w : ℕ) → None ≡ live_at xs k → TurnsAt (places_of bytes xs) (places_of bytes xs) k (option_map (gone_place w) (place_at (places_of bytes xs) k))
 live_absent bytes xs k w is = same_at (places_of bytes xs) k (option_map (gone_place w) (place_at (places_of bytes xs) k)) (none ∙ ap (option_map (gone_place w)) (sym none))

@@ -397,9 +397,9 @@ gone_left Moved v home w e there = absurd there
 
 pub gone_turns : (a : Tombs) (k w : ℕ) (t : Tombstone) → Some t ≡ found_at a.items k → t.version ≡ w → IsThere t.fate → Turns a (fated_in a k Gone) k (option_map (without w) (known_at (placed a.items) k))
 gone_turns a k w t is e there = fated_turns a k Gone (option_map (without w) (known_at (placed a.items) k)) (
-  ap (λ (o : Option Tombstone). known_in (option_map place_of (option_map (with_fate Gone) o))) (sym is)
-  ∙ gone_left t.fate t.version t.home w e there
-  ∙ ap (option_map (without w)) (sym (known_found a.items k (Some t) is)))
+    ap (λ (o : Option Tombstone). known_in (option_map place_of (option_map (with_fate Gone) o))) (sym is)
+    ∙ gone_left t.fate t.version t.home w e there
+    ∙ ap (option_map (without w)) (sym (known_found a.items k (Some t) is)))
 
 none_stands : (v home w : ℕ) → Awaits (Some (deleted v [])) home w → ⊥
 none_stands v home w waits =

@@ -28,7 +28,7 @@ impl Model for Entries {
     ghost use Rattle.std.specs.Prelude.{length, ◌-◌};
     ghost use Rattle.std.specs.Vec.{vec_capacity};
     ghost use Rattle.core_index.specs.Tombs.{list_of};
-ghost use Rattle.core_index.specs.Marks.{Marks, AreMarks, kept};
+    ghost use Rattle.core_index.specs.Marks.{Marks, AreMarks, kept};
 
     ghost Value = { Marks };
 

@@ -89,14 +89,7 @@ impl CoreIndex {
         ensures { OnOk result (EntersAs self.old self.new key
             (opened_with version body.now standing.now)) }
     {
-        if let Some(tombstone) = compact(
-            &self.slots,
-            &self.start,
-            key,
-            version,
-            body,
-            standing,
-        ) {
+        if let Some(tombstone) = compact(&self.slots, &self.start, key, version, body, standing) {
             return self.start.add_deleted(tombstone);
         }
         if let Some(live) = compact_live(&self.slots, &self.start, key, version, body, standing) {

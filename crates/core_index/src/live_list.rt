@@ -86,7 +86,7 @@ fn live_key_of(
         → IsWithin (bytes ++ bytes_in body.now) x.held) }
     ensures valued { IfSome result (λ x. (bytes : List ℕ) → length bytes ≡ start
         → valued (bytes ++ bytes_in body.now) x
-            ≡ Some (opened_with version body.now standing.now)) }
+        ≡ Some (opened_with version body.now standing.now)) }
 {
     let [only] = standing else {
         return None;
@@ -216,7 +216,13 @@ fn slot_of(alloc: Global, bytes: &[u8], live: &LiveKey) -> Result<Slot, Memory>
                 version,
                 home: u32::from(live.home),
             };
-            slot_with(alloc, key, version, body_of(alloc, bytes, live.held)?, &[only])
+            slot_with(
+                alloc,
+                key,
+                version,
+                body_of(alloc, bytes, live.held)?,
+                &[only],
+            )
         }
     }
 }

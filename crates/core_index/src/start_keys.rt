@@ -174,7 +174,7 @@ impl StartKeys {
         ensures same { started self.new ≡ started self.old }
         ensures items { self.new.deleted.items ≡ self.old.deleted.items }
         ensures more { IfSome result (λ _. (passed_at self.old.deleted home
-                < length self.old.deleted.items)
+            < length self.old.deleted.items)
             × (passed_at self.new.deleted home ≡ passed_at self.old.deleted home + 1)) }
     {
         self.deleted.pass(home)
