@@ -66,6 +66,12 @@ pub struct Settled {
     pub dead: Option<Standee>,
 }
 
+// By this a key is parted in two halves. Pointers and places of values that are kept in half a word are below it.
+pub const SHARE: u64 = 4_294_967_296;
+
+// The versions below it fit into two bytes.
+pub const VERSIONS: u32 = 65_536;
+
 // What became of the one entry of a key that was deleted before the start.
 #[derive(Clone, Copy, Debug, PartialEq, Eq)]
 pub enum Fate {
