@@ -24,7 +24,7 @@ use std::marker::Model;
 
 /// The keys of one core: for each its last version, the value or block that this left, and the entries that
 /// stand in a log. A key without a record has last version 0. A key of the start of which one entry stands, that of
-/// its last version, takes twelve bytes until it is changed where it was deleted, and twenty beside its value else.
+/// its last version, takes twelve bytes until it is changed where it was deleted, and 24 beside its value else.
 #[derive(Drop)]
 pub struct CoreIndex {
     slots: BTreeMap<Key, Slot>,

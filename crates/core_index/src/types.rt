@@ -114,7 +114,7 @@ pub enum LiveFate {
     Moved,
 }
 
-// A key that had a value at the start, by an entry that stands alone. It takes twenty bytes beside the value's own.
+// A key that had a value at the start, by an entry that stands alone. It takes 24 bytes beside the value's own.
 #[derive(Clone, Copy, Debug, PartialEq, Eq)]
 pub struct LiveKey {
     pub high: u32,
