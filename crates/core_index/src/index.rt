@@ -23,8 +23,8 @@ use std::collections::BTreeMap;
 use std::marker::Model;
 
 /// The keys of one core: for each its last version, the value or block that this left, and the entries that
-/// stand in a log. A key without a record has last version 0. A key that was deleted before the start, by an entry
-/// that stands alone, takes twelve bytes until it is changed.
+/// stand in a log. A key without a record has last version 0. A key of the start of which one entry stands, that of
+/// its last version, takes twelve bytes until it is changed where it was deleted, and 24 beside its value else.
 #[derive(Drop)]
 pub struct CoreIndex {
     slots: BTreeMap<Key, Slot>,
@@ -75,8 +75,8 @@ impl CoreIndex {
     }
 
     /// Puts in what is known of a key at the start, in place of anything that it has. No death was told yet, and where a
-    /// version stands twice, the first one counts. Deleted keys that come in rising order and of which the delete alone
-    /// stands take twelve bytes.
+    /// version stands twice, the first one counts. Keys that come in rising order and of which the last version alone
+    /// stands take twelve bytes where they were deleted, and twenty beside their value else.
     pub fn enter(
         &mut self,
         alloc: Global,

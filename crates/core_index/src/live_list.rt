@@ -9,18 +9,12 @@ ghost use Rattle.core_index.specs.Slots.{alive_at, count_of};
 ghost use Rattle.core_index.specs.Lives.{live_key, bytes_in, body_in, IsWithin, valued, IsStanding, live_place, live_at, turned, AllLess, KeysRise, IsLiveSpot, IsNotThere, placed_lives, FitsLive};
 
 use crate::slot::Slot;
-use crate::types::{Holding, LiveFate, LiveKey, Look, Record, Standee};
+use crate::types::{Holding, LiveFate, LiveKey, Look, Record, SHARE, Standee, VERSIONS};
 use fs_errors::Memory;
 use fs_model::{Key, Value, Version};
 use log_entry::{Body, EntryName};
 use std::alloc::Global;
 use std::marker::Model;
-
-// By this a key is parted in two halves. Pointers and places of values are below it.
-const SHARE: u64 = 4_294_967_296;
-
-// The versions below it fit into two bytes.
-const VERSIONS: u32 = 65_536;
 
 // The homes below it fit into a byte, and so does the length of every value beside its key.
 const BYTES: u32 = 256;

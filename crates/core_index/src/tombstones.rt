@@ -6,18 +6,12 @@ ghost use Rattle.core_index.specs.Index.{known_at, ToldAt, Turns};
 ghost use Rattle.core_index.specs.Records.{Awaits, Shows, without, opened_with, last_of, is_dead_in, is_forgettable};
 ghost use Rattle.core_index.specs.Tombs.{key_of, name_of, left_of, placed, found_at, fated, AreLess, Rising, IsSpot, IsMissing, IsThere, passed_at, Ahead};
 
-use crate::types::{Fate, Look, Standee, Tombstone};
+use crate::types::{Fate, Look, SHARE, Standee, Tombstone, VERSIONS};
 use fs_errors::Memory;
 use fs_model::{Key, Version};
 use log_entry::{Body, EntryName};
 use std::alloc::Global;
 use std::marker::Model;
-
-// By this a key is parted in two halves.
-const SHARE: u64 = 4_294_967_296;
-
-// The versions below it fit into two bytes.
-const VERSIONS: u32 = 65_536;
 
 // As many as a region has cores at most.
 const HOMES: u32 = 16;

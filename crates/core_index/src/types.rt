@@ -66,6 +66,12 @@ pub struct Settled {
     pub dead: Option<Standee>,
 }
 
+// By this a key is parted in two halves. Pointers and places of values that are kept in half a word are below it.
+pub const SHARE: u64 = 4_294_967_296;
+
+// The versions below it fit into two bytes.
+pub const VERSIONS: u32 = 65_536;
+
 // What became of the one entry of a key that was deleted before the start.
 #[derive(Clone, Copy, Debug, PartialEq, Eq)]
 pub enum Fate {
@@ -108,7 +114,7 @@ pub enum LiveFate {
     Moved,
 }
 
-// A key that had a value at the start, by an entry that stands alone. It takes twenty bytes beside the value's own.
+// A key that had a value at the start, by an entry that stands alone. It takes 24 bytes beside the value's own.
 #[derive(Clone, Copy, Debug, PartialEq, Eq)]
 pub struct LiveKey {
     pub high: u32,
