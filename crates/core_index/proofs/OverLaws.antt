@@ -9,7 +9,7 @@ use Rattle.std.proofs.lemmas.List.Sums.{sum_by-append}
 use Rattle.log_entry.specs.declared.entry.EntryName.{EntryName}
 use Rattle.core_index.specs.Records.{KeyRecord, Awaits, told_in}
 use Rattle.core_index.specs.Slots.{Place}
-use Rattle.core_index.specs.Index.{place_at, known_in, room_in, known_at, room_at, untold_in, all_untold, over, ToldAt}
+use Rattle.core_index.specs.Index.{place_at, known_in, room_in, known_at, untold_in, all_untold, over, ToldAt}
 
 pub place_both : (es ps : List (ℕ × Place)) (k : ℕ) → place_at (es ++ ps) k ≡ over (place_at es k) (place_at ps k)
 place_both [] ps k = refl

@@ -1,25 +1,16 @@
 -- The map of keys beside the keys of the start.
-use Rattle.std.proofs.Common.{◌≡◌, ◌≢◌, ◌⊎◌, inl, inr, ⊎_elim, ℕ, ◌+◌, ◌-◌, ◌<◌, ◌≤◌, Bool, true, false, cond, ◌&&◌, ◌||◌, ◌==◌, nat_lt, List, [], ◌∷◌, ◌++◌, Option, Some, None, option_map, refl, sym, ◌∙◌, ap, subst, arith}
-use Rattle.std.specs.Prelude.{is_some, IfSome, Result, Ok, Err, OnOk, OnErr, IsTrue}
-use Rattle.std.specs.List.{sum_by}
-use Rattle.std.specs.Map.{values_of}
-use Rattle.std.specs.BTreeMap.{is_at}
-use Rattle.std.specs.Ordering.{nat_cmp}
-use Rattle.std.proofs.lemmas.Bool.{cases_eq, eq-eqb}
-use Rattle.std.proofs.lemmas.List.Sums.{sum_by-append}
+use Rattle.std.proofs.Common.{◌≡◌, ◌≢◌, inl, inr, ⊎_elim, ℕ, ◌+◌, ◌<◌, true, List, Option, Some, None, option_map, refl, sym, ◌∙◌, ap, subst, arith}
+use Rattle.std.specs.Prelude.{is_some, IfSome, IsTrue}
+use Rattle.std.proofs.lemmas.Bool.{cases_eq}
 use Rattle.log_entry.specs.declared.entry.EntryName.{EntryName}
-use Rattle.core_index.specs.declared.types.Fate.{Fate}
-use Rattle.core_index.specs.declared.types.Fate.TheVariants.{Untold, Told, Gone, Moved}
 use Rattle.core_index.specs.declared.types.Standee.{Standee}
-use Rattle.core_index.specs.declared.types.Standing.{Standing}
 use Rattle.core_index.specs.declared.types.Tombstone.{Tombstone}
-use Rattle.core_index.specs.Records.{KeyRecord, Awaits, is_dead, stands_alone, standing_with, told_in, without, live_version, is_forgettable}
-use Rattle.core_index.specs.Slots.{Place, mortal, OnlyDead, count_dead, count_of, alive_at, standee_with}
+use Rattle.core_index.specs.Records.{KeyRecord, Awaits, told_in, without, is_forgettable}
+use Rattle.core_index.specs.Slots.{Place, mortal, OnlyDead, count_of, alive_at, standee_with}
 use Rattle.core_index.specs.declared.start_keys.StartKeys.{StartKeys}
-use Rattle.core_index.specs.Starts.{started, IsAhead}
-use Rattle.core_index.specs.Index.{IsCompact, place_at, known_in, room_in, known_at, room_at, mortal_in, all_mortal, untold_in, all_untold, over, all_places, gone_place, Step, Changes, SameRoom, Tells, ToldAt, StartTurns, Forgets, Admits}
-use Rattle.core_index.proofs.DeadLaws.{alive_none}
-use Rattle.core_index.proofs.OverLaws.{place_both, untold_both, some_of, none_of}
+use Rattle.core_index.specs.Starts.{started}
+use Rattle.core_index.specs.Index.{IsCompact, place_at, known_in, room_in, known_at, room_at, mortal_in, over, all_places, gone_place, Step, Changes, SameRoom, ToldAt, StartTurns, Forgets, Admits}
+use Rattle.core_index.proofs.OverLaws.{place_both, untold_both, some_of}
 use Rattle.core_index.proofs.StartLaws.{start_no_room, live_found}
 use Rattle.core_index.proofs.LiveLaws.{less_absent}
 use Rattle.core_index.specs.Lives.{AllLess}

@@ -1,8 +1,7 @@
 -- Keys with a value before those that were deleted.
-use Rattle.std.proofs.Common.{◌≡◌, ◌≢◌, ℕ, ◌+◌, ◌==◌, nat_lt, Bool, true, false, cond, ◌&&◌, ◌||◌, List, [], ◌∷◌, ◌++◌, Option, Some, None, option_map, refl, sym, ◌∙◌, ap, subst, arith}
+use Rattle.std.proofs.Common.{◌≡◌, ℕ, ◌==◌, nat_lt, Bool, true, false, cond, ◌&&◌, ◌||◌, List, [], ◌∷◌, Option, Some, None, option_map, refl, sym, ◌∙◌, ap, subst}
 use Rattle.std.specs.Prelude.{is_some}
 use Rattle.std.proofs.lemmas.Bool.{eqb-true, eq-eqb}
-use Rattle.log_entry.specs.declared.entry.Body.{Body}
 use Rattle.log_entry.specs.declared.entry.EntryName.{EntryName}
 use Rattle.core_index.specs.declared.start_keys.StartKeys.{StartKeys}
 use Rattle.core_index.specs.declared.types.Holding.{Holding}
@@ -14,10 +13,10 @@ use Rattle.core_index.specs.declared.types.Tombstone.{Tombstone}
 use Rattle.core_index.specs.declared.types.Fate.{Fate}
 use Rattle.core_index.specs.declared.types.Fate.TheVariants as fates
 use Rattle.core_index.proofs.DeadLaws.{alive_none}
-use Rattle.core_index.specs.Records.{KeyRecord, Awaits, is_dead, is_dead_in, is_tombstone, is_empty, is_forgettable, stands_alone, standing_at, standing_with, without}
+use Rattle.core_index.specs.Records.{KeyRecord, Awaits, is_dead, is_dead_in, is_empty, is_forgettable, stands_alone, standing_at, standing_with, without}
 use Rattle.core_index.specs.Slots.{Place, count_of, alive_at}
 use Rattle.core_index.specs.Tombs.{Tombs, placed, place_of, found_at, left_by, deleted}
-use Rattle.core_index.specs.Lives.{Lives, body_in, valued, valued_by, live_place, live_at, places_of, placed_lives}
+use Rattle.core_index.specs.Lives.{Lives, body_in, valued, valued_by, live_place, live_at, placed_lives}
 use Rattle.core_index.specs.Starts.{started, IsAhead}
 use Rattle.core_index.specs.Index.{place_at, known_in, room_in, known_at, room_at, over, gone_place, cleared, TurnsAt, Turns, StartTurns}
 use Rattle.core_index.proofs.OverLaws.{place_both, first_place, both_kept}

@@ -1,5 +1,4 @@
-use Rattle.std.proofs.Common.{◌≡◌, ℕ, List, true, false, Option, Some, None, refl, sym, ◌∙◌, ap, subst, arith, rules}
-use Rattle.core_index.specs.Records.{KeyRecord, Awaits}
+use Rattle.std.proofs.Common.{◌≡◌, Option, None, sym, ◌∙◌, ap, subst}
 use Rattle.std.specs.Prelude.{IfSome, IfNone}
 use Rattle.core_index.specs.Starts.{started}
 use Rattle.core_index.specs.Slots.{Place}

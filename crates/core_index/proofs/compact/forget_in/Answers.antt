@@ -1,7 +1,3 @@
-use Rattle.std.proofs.Common.{◌≡◌, ℕ, List, true, false, Option, Some, None, refl, sym, ◌∙◌, ap, subst, arith, rules}
-use Rattle.core_index.specs.Records.{KeyRecord, Awaits}
-use Rattle.core_index.specs.Slots.{Place}
-use Rattle.core_index.specs.Index.{place_at, known_at, all_places}
 use Rattle.core_index.proofs.PlaceLaws.{forgettable_there, forgotten, forgotten_room}
 use Rattle.core_index.proofs.compact.forget_in.Goals as goal
 

@@ -1,6 +1,5 @@
-use Rattle.std.proofs.Common.{◌≡◌, ℕ, List, true, false, Option, Some, None, refl, sym, ◌∙◌, ap, subst, arith, rules}
-use Rattle.core_index.specs.Records.{KeyRecord, Awaits}
-use Rattle.core_index.specs.Slots.{Place}
+use Rattle.std.proofs.Common.{Option, None, sym, ◌∙◌, subst}
+use Rattle.core_index.specs.Records.{KeyRecord}
 use Rattle.core_index.specs.Index.{place_at, known_at, all_places, Changes}
 use Rattle.core_index.specs.Starts.{started}
 use Rattle.core_index.proofs.OverLaws.{some_of, none_of}

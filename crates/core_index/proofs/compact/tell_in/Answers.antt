@@ -1,7 +1,6 @@
-use Rattle.std.proofs.Common.{◌≡◌, ℕ, List, true, false, Option, Some, None, refl, sym, ◌∙◌, ap, subst, arith, rules}
+use Rattle.std.proofs.Common.{Option, sym, ◌∙◌, subst}
 use Rattle.core_index.specs.Records.{KeyRecord, Awaits}
-use Rattle.core_index.specs.Slots.{Place}
-use Rattle.core_index.specs.Index.{place_at, known_at, all_places}
+use Rattle.core_index.specs.Index.{place_at}
 use Rattle.core_index.proofs.OverLaws.{some_of, none_of}
 use Rattle.core_index.proofs.PlaceLaws.{known_there, known_else, told_there, told_else}
 use Rattle.core_index.proofs.compact.tell_in.Goals as goal

@@ -1,4 +1,4 @@
-use Rattle.std.proofs.Common.{◌≡◌, ℕ, sym, ap, subst}
+use Rattle.std.proofs.Common.{subst}
 use Rattle.core_index.specs.Noted.{Book, Noted}
 use Rattle.core_index.proofs.IndexLaws.{told_index, takes_noted}
 use Rattle.core_index.proofs.death_notes.next_dead.Goals as goal

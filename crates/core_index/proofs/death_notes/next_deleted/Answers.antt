@@ -1,8 +1,7 @@
-use Rattle.std.proofs.Common.{◌≡◌, ◌++◌, ℕ, List, refl, sym, ◌∙◌, ap, subst}
-use Rattle.core_index.specs.declared.types.Tombstone.{Tombstone}
+use Rattle.std.proofs.Common.{◌≡◌, ◌++◌, ℕ, List, refl, sym, ap, subst}
 use Rattle.core_index.specs.Records.{Awaits}
 use Rattle.core_index.specs.Slots.{Place}
-use Rattle.core_index.specs.Tombs.{Tombs, name_of, placed}
+use Rattle.core_index.specs.Tombs.{name_of}
 use Rattle.core_index.specs.Index.{ToldAt, all_places, known_at}
 use Rattle.core_index.proofs.IndexLaws.{told_index, takes_passed, none_awaits}
 use Rattle.core_index.proofs.death_notes.next_deleted.Goals as goal

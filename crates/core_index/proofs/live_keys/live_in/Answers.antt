@@ -1,9 +1,7 @@
-use Rattle.std.proofs.Common.{◌≡◌, List, sym, subst, rules}
+use Rattle.std.proofs.Common.{List, subst, rules}
 use Rattle.std.specs.List.Sorted.{IsPermutation}
 use Rattle.std.proofs.lemmas.List.Sorted.{IsNonDecreasingBy-from_sort_by_key}
 use Rattle.log_entry.specs.declared.entry.EntryName.{EntryName}
-use Rattle.core_index.specs.Index.{live_names}
-use Rattle.core_index.specs.Listing.{start_names}
 use Rattle.core_index.proofs.ListingLaws.{rising_names, sorted_each, keys_order}
 use Rattle.core_index.proofs.live_keys.live_in.Goals as goal
 

@@ -1,13 +1,10 @@
-use Rattle.std.proofs.Common.{◌≡◌, ◌≢◌, ◌+◌, ◌-◌, ◌<◌, ◌≤◌, ℕ, List, length, Option, Some, None, refl, sym, ◌∙◌, ap, subst, arith}
-use Rattle.std.specs.Prelude.{OnOk}
-use Rattle.core_index.specs.Records.{KeyRecord, Awaits, Shows, settled, last_of, block_of, is_forgettable, live_version, opened, opened_with}
+use Rattle.std.proofs.Common.{◌≡◌, ℕ, List, ap, subst, arith}
+use Rattle.core_index.specs.Records.{opened}
 use Rattle.core_index.specs.Slots.{Place}
-use Rattle.core_index.specs.Tombs.{Tombs, passed_at}
-use Rattle.core_index.specs.Index.{place_at, known_in, room_in, known_at, room_at, all_places, Changes, EntersAs}
-use Rattle.core_index.proofs.PlaceLaws.{place_there, known_there, known_else, room_both, room_place}
+use Rattle.core_index.specs.Index.{all_places, EntersAs}
 use Rattle.log_entry.specs.declared.entry.EntryName.{EntryName}
 use Rattle.core_index.specs.Noted.{Noted}
-use Rattle.core_index.proofs.IndexLaws.{entered_index, enters_as, roomier}
+use Rattle.core_index.proofs.IndexLaws.{entered_index, enters_as}
 use Rattle.core_index.proofs.index.CoreIndex.enter_record.Goals as goal
 
 pub invariant_of-self-2 : goal.invariant_of-self-2

@@ -1,10 +1,7 @@
-use Rattle.std.proofs.Common.{◌≡◌, ◌≢◌, ◌+◌, ◌-◌, ◌<◌, ◌≤◌, ℕ, List, length, Option, Some, None, refl, sym, ◌∙◌, ap, subst, arith}
-use Rattle.std.specs.Prelude.{OnOk}
-use Rattle.core_index.specs.Records.{KeyRecord, Awaits, Shows, settled, last_of, block_of, is_forgettable, live_version, opened, opened_with}
+use Rattle.std.proofs.Common.{ℕ, List, sym, ◌∙◌, ap}
 use Rattle.core_index.specs.Slots.{Place}
-use Rattle.core_index.specs.Tombs.{Tombs, passed_at}
-use Rattle.core_index.specs.Index.{place_at, known_in, room_in, known_at, room_at, all_places, Changes, EntersAs}
-use Rattle.core_index.proofs.PlaceLaws.{place_there, known_there, known_else, room_both, room_place}
+use Rattle.core_index.specs.Index.{room_in, room_at}
+use Rattle.core_index.proofs.PlaceLaws.{room_both}
 use Rattle.core_index.proofs.index.CoreIndex.room.Goals as goal
 
 pub returns-in-None : goal.returns-in-None

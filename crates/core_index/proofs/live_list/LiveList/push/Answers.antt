@@ -1,7 +1,7 @@
 use Rattle.std.proofs.Common.{◌≡◌, ◌++◌, ◌∷◌, [], ℕ, List, Some, ap, ◌∙◌, sym, subst, rules}
 use Rattle.core_index.specs.declared.types.LiveKey.{LiveKey}
 use Rattle.core_index.specs.Index.{TurnsAt}
-use Rattle.core_index.specs.Lives.{live_place, Lives, AreLives, live_key, bytes_in, IsWithin, valued, places_of, placed_lives, AllLess}
+use Rattle.core_index.specs.Lives.{live_place, Lives, AreLives, live_key, bytes_in, IsWithin, places_of, placed_lives, AllLess}
 use Rattle.core_index.proofs.StepLaws.{err_is}
 use Rattle.core_index.proofs.LiveLaws.{pushed_lives, pushed_turns, places_more}
 use Rattle.core_index.proofs.live_list.LiveList.push.Goals as goal

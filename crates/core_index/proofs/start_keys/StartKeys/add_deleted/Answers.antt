@@ -1,6 +1,4 @@
 use Rattle.std.proofs.Common.{ap}
-use Rattle.core_index.specs.declared.start_keys.StartKeys.{StartKeys}
-use Rattle.core_index.specs.Tombs.{Tombs}
 use Rattle.core_index.proofs.StepLaws.{on_ok, on_err}
 use Rattle.core_index.proofs.StartLaws.{with_tombs}
 use Rattle.core_index.proofs.start_keys.StartKeys.add_deleted.Goals as goal

@@ -1,12 +1,8 @@
-use Rattle.std.proofs.Common.{◌≡◌, ◌+◌, ◌++◌, ◌∷◌, [], ℕ, List, true, false, Option, Some, None, option_map, refl, sym, ◌∙◌, ap, subst, arith, rules}
+use Rattle.std.proofs.Common.{Option, option_map, refl, sym, subst}
 use Rattle.core_index.specs.declared.start_keys.StartKeys.{StartKeys}
-use Rattle.core_index.specs.declared.types.LiveKey.{LiveKey}
-use Rattle.core_index.specs.Records.{KeyRecord, Awaits, Shows, without, last_of, is_forgettable}
-use Rattle.core_index.specs.Slots.{Place, alive_at, count_of}
-use Rattle.core_index.specs.Tombs.{Tombs, placed}
-use Rattle.core_index.specs.Lives.{Lives, bytes_in, valued, live_key, live_place, live_at, placed_lives}
-use Rattle.core_index.specs.Starts.{started, IsAhead}
-use Rattle.core_index.specs.Index.{place_at, known_at, known_in, gone_place, cleared, TurnsAt, StartTurns, ToldAt}
+use Rattle.core_index.specs.Records.{KeyRecord, Awaits, without}
+use Rattle.core_index.specs.Tombs.{placed}
+use Rattle.core_index.specs.Index.{known_at, StartTurns}
 use Rattle.core_index.proofs.StartLaws.{gone_live, gone_live_waits, gone_deleted, known_deleted}
 use Rattle.core_index.proofs.start_keys.StartKeys.gone.Goals as goal
 

@@ -1,11 +1,5 @@
-use Rattle.std.proofs.Common.{◌≡◌, ◌+◌, ◌++◌, ◌∷◌, [], ℕ, List, true, false, Option, Some, None, option_map, refl, sym, ◌∙◌, ap, subst, arith, rules}
-use Rattle.core_index.specs.declared.types.LiveKey.{LiveKey}
-use Rattle.core_index.specs.Records.{KeyRecord, Awaits, Shows, without, last_of, is_forgettable}
-use Rattle.core_index.specs.Slots.{Place, alive_at, count_of}
-use Rattle.core_index.specs.Tombs.{Tombs, placed}
-use Rattle.core_index.specs.Lives.{Lives, bytes_in, valued, live_key, live_place, live_at, placed_lives}
-use Rattle.core_index.specs.Starts.{started, IsAhead}
-use Rattle.core_index.specs.Index.{place_at, known_at, known_in, gone_place, cleared, TurnsAt, StartTurns, ToldAt}
+use Rattle.std.proofs.Common.{sym, ◌∙◌, ap}
+use Rattle.core_index.specs.Records.{last_of}
 use Rattle.core_index.proofs.StartLaws.{known_live, known_deleted}
 use Rattle.core_index.proofs.start_keys.StartKeys.last.Goals as goal
 
