@@ -1,5 +1,5 @@
 -- What a list of entries keeps when it is put in the order of their names.
-use Rattle.std.proofs.Common.{◌≡◌, ◌⊎◌, inl, inr, ℕ, zero, suc, ◌+◌, ◌-◌, ◌<◌, ◌≤◌, List, [], ◌∷◌, length, get_or, refl, sym, ◌∙◌, ap, subst, arith, ◌==◌, ◌&&◌, Bool, true, false, cond, Option, Some, None, ltb}
+use Rattle.std.proofs.Common.{◌≡◌, ◌⊎◌, inl, inr, ℕ, zero, suc, ◌+◌, ◌<◌, ◌≤◌, List, [], ◌∷◌, length, get_or, refl, sym, ◌∙◌, ap, subst, arith, ◌==◌, ◌&&◌, Bool, true, false, cond, Option, Some, None, ltb}
 use Rattle.std.specs.Prelude.{find, filter, option_map, is_some}
 use Rattle.std.specs.Option.{option_to_list}
 use Rattle.std.specs.List.{flat_map, AllByRecursion}

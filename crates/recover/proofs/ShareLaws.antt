@@ -1,5 +1,5 @@
 -- The shares of the cores, key by key.
-use Rattle.std.proofs.Common.{◌≡◌, ◌≢◌, ◌⊎◌, inl, inr, ⊎_elim, ℕ, ◌<◌, ◌≤◌, ◌==◌, ◌||◌, List, [], ◌∷◌, ◌++◌, length, get_or, set, map, Bool, true, false, cond, Option, Some, None, refl, sym, ◌∙◌, ap, subst}
+use Rattle.std.proofs.Common.{◌≡◌, ◌≢◌, ◌⊎◌, inl, inr, ⊎_elim, ℕ, ◌<◌, ◌≤◌, ◌==◌, ◌||◌, List, [], ◌∷◌, ◌++◌, length, get_or, set, map, Bool, true, false, Option, Some, None, refl, sym, ◌∙◌, ap, subst}
 use Rattle.std.specs.Prelude.{option_map, slice_index_or, Result, Ok, Err, IfOk, Vec}
 use Rattle.std.specs.Global.{Global}
 use Rattle.fs_errors.specs.declared.Memory.{Memory}
@@ -17,16 +17,14 @@ use Rattle.store_image.specs.declared.types.Fault.{Fault}
 use Rattle.store_image.specs.Parts.{all_entries}
 use Rattle.store_image.specs.Soundness.{damage}
 use Rattle.store_image.specs.Winners.{winner_in}
-use Rattle.store_image.specs.Facts.{In}
 use Rattle.store_image.proofs.Clients.{winner_is}
 use Rattle.core_index.specs.declared.types.Standee.{Standee}
 use Rattle.core_index.specs.Records.{KeyRecord, standing_at, standing_of, standing_with, opened_with, pointer_of, untold}
 use Rattle.core_index.specs.Index.{known_at, room_at, EntersAs}
-use Rattle.core_index.specs.Slots.{Place}
 use Rattle.core_index.proofs.Clients.{opened_at}
 use Rattle.recover.specs.declared.found_entries.Found.{Found}
 use Rattle.recover.specs.declared.shares.Share.{Share}
-use Rattle.recover.specs.Starts.{KnownAs, IsSpelledIndex, named_in}
+use Rattle.recover.specs.Starts.{KnownAs, named_in}
 use Rattle.recover.specs.ByName.{IsByName}
 use Rattle.recover.specs.Standing.{standee_at}
 use Rattle.recover.specs.Gathering.{AllSpell}

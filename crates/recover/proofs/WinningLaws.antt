@@ -1,5 +1,5 @@
 -- Lists of winners.
-use Rattle.std.proofs.Common.{inl, inr, ℕ, ◌-◌, ◌<◌, List, [], ◌∷◌, arith}
+use Rattle.std.proofs.Common.{inl, inr, ℕ, ◌<◌, List, [], ◌∷◌, arith}
 use Rattle.std.specs.List.{AllByRecursion}
 use Rattle.store_image.specs.Facts.{In}
 

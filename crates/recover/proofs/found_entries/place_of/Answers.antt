@@ -1,4 +1,4 @@
-use Rattle.std.proofs.Common.{◌≤◌, ◌/◌, sym, subst, arith}
+use Rattle.std.proofs.Common.{sym, subst, arith}
 use Rattle.chunk_map.specs.Layouts.{IsLayout}
 use Rattle.store_image.proofs.Clients.{layout_numbers}
 use Rattle.recover.proofs.found_entries.place_of.Goals as goal

@@ -1,4 +1,4 @@
-use Rattle.std.proofs.Common.{sym, ◌∙◌, ap, append-nil, arith, take, map, ◌++◌}
+use Rattle.std.proofs.Common.{sym, ◌∙◌, ap, append-nil, arith, map, ◌++◌}
 use Rattle.std.proofs.lemmas.List.{take_all}
 use Rattle.store_image.specs.Scanned.{shown}
 use Rattle.recover.specs.FoundEntries.{found_in}

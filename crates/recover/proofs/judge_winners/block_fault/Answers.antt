@@ -1,4 +1,4 @@
-use Rattle.std.proofs.Common.{ℕ, ◌<◌, length, take, refl, sym, ◌∙◌, arith}
+use Rattle.std.proofs.Common.{take, sym, ◌∙◌, arith}
 use Rattle.pm_region.specs.Words.{lasts}
 use Rattle.recover.specs.Winning.{winners_of}
 use Rattle.recover.specs.FoundEntries.{Stands, entries_at}

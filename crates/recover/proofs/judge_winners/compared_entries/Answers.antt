@@ -1,8 +1,7 @@
-use Rattle.std.proofs.Common.{◌≡◌, List, sym, ◌∙◌, ap, subst}
+use Rattle.std.proofs.Common.{◌≡◌, sym, ◌∙◌, ap, subst}
 use Rattle.pm_region.specs.Words.{lasts}
 use Rattle.store_image.specs.Soundness.{clash_fault}
 use Rattle.store_image.specs.Parts.{all_entries}
-use Rattle.recover.specs.declared.found_entries.Found.{Found}
 use Rattle.recover.specs.FoundEntries.{AreFound, entries_at}
 use Rattle.recover.proofs.WordOrderLaws.{words_rise}
 use Rattle.recover.proofs.ReadBackLaws.{found_back, found_stand, reads_ok, reads_err}

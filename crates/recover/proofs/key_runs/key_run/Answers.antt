@@ -1,4 +1,3 @@
-use Rattle.std.proofs.Common.{arith}
 use Rattle.recover.proofs.FoundEntryLaws.{key_any}
 use Rattle.recover.proofs.RunLaws.{run_more}
 use Rattle.recover.proofs.key_runs.key_run.Goals as goal

@@ -1,4 +1,4 @@
-use Rattle.std.proofs.Common.{ℕ, ◌<◌, length, take, get_or, sym, ◌∙◌, ap, arith}
+use Rattle.std.proofs.Common.{take, get_or, ◌∙◌, ap, arith}
 use Rattle.std.proofs.lemmas.List.{take_all}
 use Rattle.pm_region.specs.Words.{lasts}
 use Rattle.recover.specs.Winning.{winners_of}

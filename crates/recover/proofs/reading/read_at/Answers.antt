@@ -1,9 +1,4 @@
-use Rattle.std.proofs.Common.{◌≡◌, ◌/◌, drop, Some, sym, ◌∙◌, ap, subst, Option}
-use Rattle.std.specs.Prelude.{Vec, IfSome}
-use Rattle.std.specs.Global.{Global}
-use Rattle.log_entry.specs.declared.entry.Body.{Body}
-use Rattle.log_entry.specs.Spelling.{HasSpelling}
-use Rattle.log_entry.specs.Reading.{read}
+use Rattle.std.proofs.Common.{◌/◌, ◌∙◌, subst}
 use Rattle.pm_region.specs.Words.{lasts}
 use Rattle.chunk_map.specs.Layouts.{total_bytes}
 use Rattle.recover.specs.FoundEntries.{HasWords}

@@ -1,4 +1,4 @@
-use Rattle.std.proofs.Common.{◌∙◌, ap, sym}
+use Rattle.std.proofs.Common.{◌∙◌, ap}
 use Rattle.pm_region.specs.Words.{lasts}
 use Rattle.log_entry.specs.Reading.{size_of}
 use Rattle.log_entry.specs.Words.{words_from}

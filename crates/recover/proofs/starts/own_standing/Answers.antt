@@ -1,4 +1,3 @@
-use Rattle.std.proofs.Common.{ℕ}
 use Rattle.std.specs.Prelude.{Result, Ok, Err, IfOk}
 use Rattle.core_index.specs.Records.{is_dead_in}
 use Rattle.core_index.specs.Index.{known_at}
