@@ -7,8 +7,6 @@ pub mod layouts;
 pub mod read_heads;
 pub mod setting;
 pub mod superblock;
-#[cfg(test)]
-mod tests;
 pub mod words;
 
 pub use heads::{BadHead, Head};

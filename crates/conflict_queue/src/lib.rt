@@ -4,8 +4,6 @@
 mod key_chains;
 mod nodes;
 mod queue;
-#[cfg(test)]
-mod tests;
 mod types;
 
 pub use queue::ConflictQueue;

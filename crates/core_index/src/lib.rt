@@ -12,8 +12,6 @@ mod map;
 mod notices;
 mod slot;
 mod start_keys;
-#[cfg(test)]
-mod tests;
 mod tombstones;
 mod types;
 

@@ -5,8 +5,6 @@ mod chunk;
 mod log;
 pub mod part_laws;
 mod tails;
-#[cfg(test)]
-mod tests;
 mod types;
 mod walking;
 

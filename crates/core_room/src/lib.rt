@@ -6,8 +6,6 @@
 mod needs;
 pub mod room_laws;
 mod supply;
-#[cfg(test)]
-mod tests;
 mod types;
 
 pub use needs::{byte_count, class_or_zero, lines_needed, lines_to_copy, longest_value};

@@ -5,4 +5,4 @@ pub use Rattle.core_worker.proofs.Given.{adds_none}
 pub use Rattle.core_worker.proofs.LeftFair.{starts_nothing}
 pub use Rattle.core_worker.proofs.StartBlocks.{own_of}
 pub use Rattle.core_worker.proofs.Starting.{free_busy}
-pub use Rattle.core_worker.proofs.OpeningLaws.{certain_at, new_idle, new_room, start_at}
+pub use Rattle.core_worker.proofs.OpeningLaws.{certain_at, core_is, new_idle, new_room, start_at}

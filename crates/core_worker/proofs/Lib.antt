@@ -86,6 +86,3 @@ pub mod Starting
 mod PartsGiven
 pub mod OpeningLaws
 pub mod Clients
-mod Trials
-mod ReachedWords
-mod GateTrials

@@ -23,7 +23,6 @@ pub mod Posting
 pub mod Status
 pub mod Openings
 pub mod GivenBack
-pub mod Trials
 pub use Rattle.fs_model.specs.Cells
 pub use Rattle.core_log.specs.Chunk
 pub use Rattle.group_board.specs.Conditions

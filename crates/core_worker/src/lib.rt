@@ -7,8 +7,6 @@ mod begin_request;
 mod choose_item;
 mod finish_item;
 mod gate;
-#[cfg(test)]
-mod gate_tests;
 mod hearing;
 mod lead_items;
 mod open_worker;
@@ -20,8 +18,6 @@ mod search_places;
 mod status;
 mod stop_worker;
 mod stopped_items;
-#[cfg(test)]
-mod tests;
 mod turn_items;
 mod types;
 mod worker;

@@ -10,7 +10,5 @@ pub mod passes;
 pub mod real_worker;
 pub mod run_outcome;
 pub mod run_report;
-#[cfg(test)]
-mod tests;
 pub mod types;
 pub mod worker_calls;

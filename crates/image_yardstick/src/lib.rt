@@ -12,8 +12,6 @@ pub mod image_cells;
 pub mod image_heads;
 pub mod image_places;
 pub mod image_superblock;
-#[cfg(test)]
-mod tests;
 pub mod winners;
 
 pub use faults::first_fault;

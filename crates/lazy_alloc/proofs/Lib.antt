@@ -1,7 +1,6 @@
 pub mod BitLaws
 pub mod BlockLaws
 pub mod ClassLaws
-pub mod TakenLaws
 pub mod Clients
 pub mod CountLaws
 pub mod CutLaws

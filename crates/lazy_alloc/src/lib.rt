@@ -7,10 +7,6 @@ mod block_places;
 mod class_chains;
 mod classes;
 mod counts;
-#[cfg(test)]
-mod plain;
-#[cfg(test)]
-mod tests;
 mod values;
 mod written;
 

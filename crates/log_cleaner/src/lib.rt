@@ -8,8 +8,6 @@ mod collect_copies;
 mod copying;
 mod counting;
 mod reading_start;
-#[cfg(test)]
-mod tests;
 mod types;
 
 pub use choosing::victim;

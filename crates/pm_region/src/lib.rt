@@ -40,7 +40,3 @@ pub use snapshot::Snapshot;
 pub use split::{AttachError, SplitRegion};
 pub use steady::{SteadyPiece, SteadyRegion};
 
-#[cfg(test)]
-mod file_tests;
-#[cfg(test)]
-mod tests;

@@ -27,4 +27,3 @@ pub mod PairLaws
 pub mod LiveLaws
 pub mod EntryListLaws
 pub mod ReadLaws
-pub mod RecoveredLaws

@@ -26,8 +26,6 @@ mod region_blocks;
 mod shares;
 mod sorting;
 mod starts;
-#[cfg(test)]
-mod tests;
 mod types;
 
 pub use entry_list::log_entries;

@@ -12,6 +12,4 @@ pub mod opening_rules;
 pub mod refusal_rules;
 pub mod run_apart;
 pub mod table_end;
-#[cfg(test)]
-mod tests;
 pub mod work_rules;

@@ -1,0 +1,5 @@
+mod BlockTrials
+mod RecoveryTrials
+mod WorkerTrials
+mod ReachedWords
+mod GateTrials

@@ -1,0 +1,9 @@
+use Rattle.pm_region.specs.Steady.{steady_state}
+use Rattle.core_tests.proofs.GateTrials.{seated_on}
+use Rattle.core_tests.proofs.gate_tests.once.Goals as goal
+
+pub returns : goal.returns
+returns g c =
+    seated_on (steady_state c.turn.new.region) (g.B.Board.seat c.args.board.now) (g.B.Board.seat c.turn.new.board) (g.B.Board.view c.turn.new.board) c.turn.new.self c.next_answer-answer.new.self
+    c.turn.ensures.seat c.turn.ensures.holds c.turn.ensures.stands c.turn.ensures.order
+    c.next_answer-answer.ensures.holds c.next_answer-answer.ensures.stands c.next_answer-answer.ensures.order

@@ -1,0 +1,194 @@
+// A put that a gate holds back, and the turns that then write it. The board is opened on what recovery found.
+ghost use Rattle.std.specs.Prelude.{◌≡◌, ℕ, List, [], ◌/◌, ◌<◌, ◌%◌, true, IfOk, IfSome, OnOk};
+ghost use Rattle.pm_region.specs.State.{IsTelling};
+ghost use Rattle.pm_region.specs.Steady.{steady_state};
+ghost use Rattle.chunk_map.specs.Layouts.{layout_of};
+ghost use Rattle.store_image.specs.Soundness as images;
+ghost use Rattle.recover.specs.Regions.{IsCertain};
+ghost use Rattle.group_laws.specs.OpeningImages.{opened};
+ghost use Rattle.group_laws.specs.Places.{owner};
+ghost use Rattle.group_board.specs.Journals.{image_of, place_in, state};
+ghost use Rattle.core_tests.specs.WorkerTrials.{IsSeated, IsAtBoard};
+
+use crate::worker_tests::attached;
+use core_worker::{Answer, Gate, OpenGate, Point, Turn, Worker};
+use fs_errors::Memory;
+use fs_model::{Reply, Request, Value};
+use group_board::{Board, LocalBoard, LocalSeat, Opening};
+use pm_region::{Region, SteadyRegion};
+use recover::recover;
+use std::alloc::Global;
+use std::marker::{Brand, PhantomData};
+use std::test::Fail;
+
+/// A gate that refuses all.
+struct ShutGate;
+
+impl Gate for ShutGate {
+    ghost may_refuse = { λ _. true };
+
+    fn ready(&self, _core: u32, _point: Point) -> bool {
+        false
+    }
+}
+
+/// The words of a region and its length in bytes, which are known only when the test runs.
+trait RegionWords {
+    ghost words: { List ℕ };
+
+    ghost bytes: { ℕ };
+}
+
+impl RegionWords for Brand {
+    ghost words = { [] };
+
+    ghost bytes = { 0 };
+}
+
+/// The opening of the second group on them.
+struct SecondOn<W> {
+    marker: PhantomData<W>,
+}
+
+impl<W: RegionWords> Opening for SecondOn<W> {
+    ghost words = { W.words };
+
+    ghost bytes = { W.bytes };
+
+    ghost group = { 1 };
+}
+
+// The region is passed since what is known of its words must be said of what is passed.
+fn open_board<W: RegionWords>(
+    alloc: Global,
+    _region: &SteadyRegion,
+    members: u32,
+) -> Result<LocalBoard, Fail>
+    requires sound { images.IsSound W.bytes (image_of W.words) }
+    requires group { 1
+        < (layout_of (image_of W.words)).cores / (layout_of (image_of W.words)).group }
+    requires members { (layout_of (image_of W.words)).group ≡ members }
+    ensures { IfOk result (λ b.
+        state b.keeper.me.0 ≡ opened (place_in 1 W.words) (image_of W.words)) }
+{
+    let board = LocalBoard::open::<SecondOn<W>>(alloc, members)?;
+    Ok(board)
+}
+
+/// The worker of core 5 and the board of its group, in which it is member 1.
+fn seated(alloc: Global, region: &SteadyRegion) -> Result<Option<(Worker, LocalBoard)>, Fail>
+    requires first { (steady_state region.now).frame.first ≡ 0 }
+    requires tells { IsTelling (steady_state region.now) }
+    requires certain { IsCertain (steady_state region.now) }
+    ensures { IfOk result (λ o. IfSome o (λ x.
+        IsAtBoard (steady_state region.now) (state x.1.keeper.me.0) x.0)) }
+{
+    if region.words() != 16_896 {
+        return Ok(None);
+    }
+    let found = recover(alloc, region, 135_168)?;
+    let layout = found.layout;
+    let mut starts = found.starts;
+    if layout.cores() != 8 || layout.group() != 4 {
+        return Ok(None);
+    }
+    let start = starts.swap_remove(5);
+    let worker = Worker::open(alloc, start, layout)?;
+    let board = open_board::<Brand>(alloc, region, 4)?;
+    Ok(Some((worker, board)))
+}
+
+/// Makes a turn, and gives what it answered.
+fn once<B: Board, G: Gate>(
+    alloc: Global,
+    region: &mut SteadyRegion,
+    board: &mut B,
+    worker: &mut Worker,
+    gate: &G,
+) -> Result<(Turn, Option<Answer>), Memory>
+    requires { IsSeated (steady_state region.old) (B.seat board.old).place
+        (B.seat board.old).number (B.view board.old) worker.old }
+    ensures { OnOk result (IsSeated (steady_state region.new) (B.seat board.new).place
+        (B.seat board.new).number (B.view board.new) worker.new) }
+{
+    let turn = worker.turn(alloc, region, board, gate)?;
+    let answer = worker.next_answer();
+    Ok((turn, answer))
+}
+
+/// Makes turns until one answers or is idle. It gives that answer and the number of turns before.
+fn turns<B: Board>(
+    alloc: Global,
+    region: &mut SteadyRegion,
+    board: &mut B,
+    worker: &mut Worker,
+) -> Result<(u32, Option<Answer>), Memory>
+    requires { IsSeated (steady_state region.old) (B.seat board.old).place
+        (B.seat board.old).number (B.view board.old) worker.old }
+{
+    for turn in 0..20 {
+        match once(alloc, region, board, worker, &OpenGate)? {
+            (Turn::Moved, None) => {}
+            (_, answer) => {
+                return Ok((turn, answer));
+            }
+        }
+    }
+    Ok((20, None))
+}
+
+/// Accepts a put of three bytes as request 7, under a key of core 5 that has no value. It answers whether it did.
+fn accept_put(
+    alloc: Global,
+    region: &SteadyRegion,
+    board: &LocalBoard,
+    worker: &mut Worker,
+) -> Result<bool, Fail>
+    requires { IsAtBoard (steady_state region.now) (state board.now.keeper.me.0) worker.old }
+    ensures { OnOk result
+        (IsAtBoard (steady_state region.now) (state board.now.keeper.me.0) worker.new) }
+{
+    let value = Value::of(Vec::from_slice(alloc, b"abc")?);
+    if !worker.has_room() || worker.leading() || worker.winding_down() {
+        return Ok(false);
+    }
+    let accepted = worker.accept(alloc, region, 7, Request::Put { key: 29, value });
+    Ok(accepted.is_ok())
+}
+
+#[test]
+fn a_gate_that_refuses(rt: HostRuntime) -> Result<(), Fail> {
+    let alloc = rt.alloc();
+    let mut region = attached(alloc)?;
+    let Some((mut worker, mut board)) = seated(alloc, &region)? else {
+        assert!(rt; false);
+        return Ok(());
+    };
+    assert!(rt; accept_put(alloc, &region, &board, &mut worker)?);
+    let mut seat = LocalSeat {
+        board: &mut board,
+        member: 1,
+    };
+    let held = once(alloc, &mut region, &mut seat, &mut worker, &ShutGate)?;
+    assert_eq!(rt; held.0, Turn::Idle);
+    assert!(rt; held.1.is_none());
+    assert!(rt; worker.pending());
+    let posted = once(alloc, &mut region, &mut seat, &mut worker, &OpenGate)?;
+    assert_eq!(rt; posted.0, Turn::Moved);
+    assert!(rt; posted.1.is_none());
+    // the lock, the take, the unlock, the log and the mark; then the finish answers
+    let written = turns(alloc, &mut region, &mut seat, &mut worker)?;
+    assert_eq!(rt; written.0, 5);
+    assert!(rt;
+        matches!(
+            &written.1,
+            Some(Answer {
+                number: 7,
+                reply: Reply::Stored,
+                ..
+            })
+        )
+    );
+    assert!(rt; !worker.pending());
+    Ok(())
+}

@@ -1,0 +1,107 @@
+// 64 requests of three keys, and a long script against a plain queue.
+use conflict_queue::{ConflictQueue, Held, NoNode};
+use fs_errors::Memory;
+use fs_model::{Key, Request};
+use std::alloc::Global;
+use std::test::Fail;
+
+// The same in one list, in order of arrival.
+#[derive(Drop)]
+struct PlainQueue {
+    held: Vec<Held>,
+}
+
+impl PlainQueue {
+    fn open(alloc: Global) -> PlainQueue {
+        PlainQueue {
+            held: Vec::new(alloc),
+        }
+    }
+
+    // Whether there was a place.
+    fn hold(&mut self, number: u64, request: Request) -> Result<bool, Memory> {
+        if self.held.len() == 64 {
+            return Ok(false);
+        }
+        self.held.push(Held { number, request })?;
+        Ok(true)
+    }
+
+    fn release(&mut self, key: Key) -> Option<Held> {
+        for i in 0..self.held.len() {
+            if self.held[i].request.key() == key {
+                return Some(self.held.remove(i));
+            }
+        }
+        None
+    }
+}
+
+fn number_and_key(held: &Option<Held>) -> Option<(u64, Key)> {
+    match held {
+        None => None,
+        Some(held) => Some((held.number, held.request.key())),
+    }
+}
+
+#[test]
+fn three_keys_in_turn(rt: HostRuntime) -> Result<(), Fail> {
+    let mut queue = ConflictQueue::open(rt.alloc())?;
+    assert_eq!(rt; queue.free_nodes(), 64);
+    for number in 0..64 {
+        let key = number % 3 + 1;
+        assert!(rt; queue.hold(number, Request::Get { key }).is_ok());
+    }
+    assert_eq!(rt; queue.free_nodes(), 0);
+    match queue.hold(64, Request::Delete { key: 9 }) {
+        Err(
+            NoNode {
+                request: Request::Delete { key },
+            },
+        ) => assert_eq!(rt; key, 9),
+        _ => assert!(rt; false),
+    }
+    for round in 0..21 {
+        assert_eq!(rt; number_and_key(&queue.release(2)), Some((3 * round + 1, 2)));
+    }
+    assert!(rt; queue.release(2).is_none());
+    assert_eq!(rt; queue.free_nodes(), 21);
+    for number in 100..121 {
+        assert!(rt; queue.hold(number, Request::Get { key: 2 }).is_ok());
+    }
+    assert!(rt; queue.hold(121, Request::Get { key: 2 }).is_err());
+    for round in 0..22 {
+        assert_eq!(rt; number_and_key(&queue.release(1)), Some((3 * round, 1)));
+    }
+    for round in 0..21 {
+        assert_eq!(rt; number_and_key(&queue.release(3)), Some((3 * round + 2, 3)));
+        assert_eq!(rt; number_and_key(&queue.release(2)), Some((100 + round, 2)));
+    }
+    assert_eq!(rt; queue.free_nodes(), 64);
+    Ok(())
+}
+
+#[test]
+fn as_a_plain_queue_does(rt: HostRuntime) -> Result<(), Fail> {
+    let mut queue = ConflictQueue::open(rt.alloc())?;
+    let mut plain = PlainQueue::open(rt.alloc());
+    let mut state = 1u32;
+    let mut refused = 0u64;
+    for number in 0..4000 {
+        state = ((state as u64 * 1_103_515_245 + 12_345) % 2_147_483_648) as u32;
+        let key = (state / 65_536 % 7) as u64;
+        if state / 1_048_576 % 100 < 52 {
+            let taken = plain.hold(number, Request::Get { key })?;
+            assert_eq!(rt; queue.hold(number, Request::Get { key }).is_ok(), taken);
+            if !taken && refused < 4000 {
+                refused += 1;
+            }
+        } else {
+            let first = plain.release(key);
+            assert_eq!(rt; number_and_key(&queue.release(key)), number_and_key(&first));
+        }
+        assert_eq!(rt; queue.free_nodes() as usize + plain.held.len(), 64);
+    }
+    assert!(rt; refused > 0);
+    Ok(())
+}

@@ -1,0 +1,185 @@
+// A worker over what recovery finds, in the second of two groups. Expected values are those of the format's rules.
+ghost use Rattle.std.specs.Prelude.{◌≡◌, ℕ, ◌%◌, length, IfOk, IfSome};
+ghost use Rattle.pm_region.specs.State.{IsTelling};
+ghost use Rattle.pm_region.specs.Steady.{steady_state};
+ghost use Rattle.recover.specs.Regions.{IsCertain};
+ghost use Rattle.core_tests.specs.WorkerTrials.{MayAccept};
+
+use core_worker::Worker;
+use fs_errors::Memory;
+use fs_model::{Key, Reply, Request};
+use log_entry::EntryName;
+use pm_region::{Pick, Region, SplitRegion, SteadyRegion};
+use recover::recover;
+use std::alloc::Global;
+use std::test::Fail;
+
+/// Eight cores in two groups of four, with four chunks of 4,096 bytes each. Keys 5, 13 and 21 are core 5's.
+const TWO_GROUPS: [(usize, u64); 25] = [
+    (0, 0x3130_5453_5441_4c46),
+    (1, 1),
+    (2, 8),
+    (3, 4),
+    (4, 4),
+    (5, 4096),
+    // part 5: the second value of key 21 and the first one of key 13
+    (10752, 1),
+    (10753, 8),
+    (10784, 0x0100_0025),
+    (10785, 21),
+    (10786, 98),
+    (10787, 0x0100_0015),
+    (10788, 13),
+    (10789, 99),
+    // part 6: the value of key 5, the second one of key 13 and, in a batch of its own, the first one of key 21
+    (13312, 1),
+    (13313, 16),
+    (13344, 0x0300_0015),
+    (13345, 5),
+    (13346, 0x0063_6261),
+    (13347, 0x0100_0025),
+    (13348, 13),
+    (13349, 100),
+    (13352, 0x0100_0015),
+    (13353, 21),
+    (13354, 97),
+];
+
+/// The bytes of these words, and zeros.
+fn bytes_of(alloc: Global, writes: &[(usize, u64)]) -> Result<Vec<u8>, Memory> {
+    let mut words = vec![in alloc; 0u64; 16_896]?;
+    for (at, word) in writes {
+        if *at < words.len() {
+            words[*at] = *word;
+        }
+    }
+    let mut bytes = Vec::with_capacity(alloc, 135_168)?;
+    for word in words {
+        for byte in word.to_le_bytes() {
+            bytes.push(byte)?;
+        }
+    }
+    Ok(bytes)
+}
+
+/// A region with these words, attached.
+pub(crate) fn attached(alloc: Global) -> Result<SteadyRegion, Fail>
+    ensures first { IfOk result (λ r. (steady_state r).frame.first ≡ 0) }
+    ensures tells { IfOk result (λ r. IsTelling (steady_state r)) }
+    ensures certain { IfOk result (λ r. IsCertain (steady_state r)) }
+{
+    let mut region = SteadyRegion::new(alloc, bytes_of(alloc, &TWO_GROUPS)?, 64)?;
+    region.attach(alloc)?;
+    let _image = region.image_at(alloc, region.stamp(), Pick::Newest)?;
+    Ok(region)
+}
+
+/// The worker of a core, by what recovery finds.
+fn opened(alloc: Global, region: &SteadyRegion, core: u32) -> Result<Option<Worker>, Fail>
+    requires first { (steady_state region.now).frame.first ≡ 0 }
+    requires tells { IsTelling (steady_state region.now) }
+    requires certain { IsCertain (steady_state region.now) }
+    ensures { IfOk result (λ o. IfSome o (MayAccept (steady_state region.now) core)) }
+{
+    if region.words() != 16_896 {
+        return Ok(None);
+    }
+    let found = recover(alloc, region, 135_168)?;
+    let layout = found.layout;
+    let mut starts = found.starts;
+    if layout.cores() != 8 || core >= 8 {
+        return Ok(None);
+    }
+    let start = starts.swap_remove(core as usize);
+    let worker = Worker::open(alloc, start, layout)?;
+    Ok(Some(worker))
+}
+
+/// What a get of one of the core's keys answers.
+fn get(alloc: Global, region: &SteadyRegion, core: u32, key: Key) -> Result<Option<Reply>, Fail>
+    requires first { (steady_state region.now).frame.first ≡ 0 }
+    requires tells { IsTelling (steady_state region.now) }
+    requires certain { IsCertain (steady_state region.now) }
+    requires own { key % 8 ≡ core }
+{
+    let Some(mut worker) = opened(alloc, region, core)? else {
+        return Ok(None);
+    };
+    if worker
+        .accept(alloc, region, 7, Request::Get { key })
+        .is_err()
+    {
+        return Ok(None);
+    }
+    match worker.next_answer() {
+        None => Ok(None),
+        Some(answer) => Ok(Some(answer.reply)),
+    }
+}
+
+/// Whether it is this value.
+fn is_value(reply: &Option<Reply>, bytes: &[u8]) -> bool {
+    match reply {
+        Some(Reply::Value(value)) => value.bytes() == bytes,
+        _ => false,
+    }
+}
+
+#[test]
+fn the_second_group(rt: HostRuntime) -> Result<(), Fail> {
+    let alloc = rt.alloc();
+    let region = attached(alloc)?;
+    // two of its values stand in the log of the next core
+    assert!(rt; is_value(&get(alloc, &region, 5, 5)?, b"abc"));
+    assert!(rt; is_value(&get(alloc, &region, 5, 13)?, b"d"));
+    assert!(rt; is_value(&get(alloc, &region, 5, 21)?, b"b"));
+    assert!(rt; matches!(get(alloc, &region, 5, 29)?, Some(Reply::Absent)));
+    // of the two old entries the one in the own log was told
+    let Some(worker) = opened(alloc, &region, 5)? else {
+        assert!(rt; false);
+        return Ok(());
+    };
+    if worker.pending() || worker.leading() {
+        assert!(rt; false);
+        return Ok(());
+    }
+    let told = EntryName {
+        key: 21,
+        version: 1,
+    };
+    let mut index = worker.stop().index;
+    assert!(rt; index.next_notice(5).is_none());
+    assert!(rt; index.next_notice(6) == Some(told));
+    assert!(rt; index.next_notice(6).is_none());
+    Ok(())
+}
+
+#[test]
+fn what_stands_in_the_log(rt: HostRuntime) -> Result<(), Fail> {
+    let alloc = rt.alloc();
+    let region = attached(alloc)?;
+    let Some(worker) = opened(alloc, &region, 5)? else {
+        assert!(rt; false);
+        return Ok(());
+    };
+    if worker.pending() || worker.leading() {
+        assert!(rt; false);
+        return Ok(());
+    }
+    // the newest value of key 21, and the old one of key 13, which is dead
+    let newest = EntryName {
+        key: 21,
+        version: 2,
+    };
+    let old = EntryName {
+        key: 13,
+        version: 1,
+    };
+    let start = worker.stop();
+    assert_eq!(rt; start.standing.copies(newest), 1);
+    assert!(rt; !start.standing.is_dead(newest));
+    assert_eq!(rt; start.standing.copies(old), 1);
+    assert!(rt; start.standing.is_dead(old));
+    assert_eq!(rt; start.standing.settled(), None);
+    Ok(())
+}

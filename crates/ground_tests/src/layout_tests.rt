@@ -1,0 +1,100 @@
+// Layouts by the numbers, and a superblock and heads in a region of memory.
+use chunk_map::*;
+use pm_region::{Region, RegionFault, SplitRegion, SteadyRegion};
+use std::test::Fail;
+
+#[test]
+fn layouts(rt: HostRuntime) -> Result<(), Fail> {
+    for (cores, group, chunks, bytes, rule) in [
+        (0, 1, 4, 4096, 1),
+        (17, 1, 4, 4096, 1),
+        (4, 3, 4, 4096, 2),
+        (16, 16, 4, 4096, 2),
+        (1, 1, 3, 4096, 3),
+        (1, 1, 65, 4096, 3),
+        (1, 1, 4, 6144, 4),
+        (1, 1, 4, 8388608, 4),
+        (16, 8, 64, 524288, 5),
+    ] {
+        let layout = Layout::new(cores, group, chunks, bytes);
+        assert_eq!(rt; layout.err(), Some(BadLayout { rule }));
+    }
+    let layout = Layout::new(2, 2, 6, 8192)?;
+    assert_eq!(rt; layout.total_bytes(), 102400);
+    assert_eq!(rt; layout.payload_lines(), 124);
+    assert_eq!(rt; layout.part_first(1), 6656);
+    assert_eq!(rt; layout.chunk_first(1, 2), 8704);
+    Ok(())
+}
+
+fn word(region: &SteadyRegion, at: u64) -> u64 {
+    if region.first() == 0 && at < region.words() {
+        region.load(at)
+    } else {
+        0
+    }
+}
+
+fn format(region: &mut SteadyRegion, layout: &Layout) -> Option<Result<(), RegionFault>> {
+    if region.first() == 0 && region.words() >= 8 {
+        Some(write_superblock(region, layout))
+    } else {
+        None
+    }
+}
+
+fn turn(region: &mut SteadyRegion, at: u64, head: Head) -> Option<Result<(), RegionFault>> {
+    if region.first() == 0 && region.words() == 2560 && at <= 2528 && at % 8 == 0 {
+        Some(set_head(region, at, head))
+    } else {
+        None
+    }
+}
+
+fn head(region: &SteadyRegion, layout: &Layout, at: u64) -> Option<Result<Head, BadHead>> {
+    if region.first() == 0 && region.words() == 2560 && at <= 2528 && at % 8 == 0 {
+        Some(read_head(region, layout, at))
+    } else {
+        None
+    }
+}
+
+fn found(region: &SteadyRegion) -> Option<Result<u64, NotARegion>> {
+    if region.first() == 0 && region.words() == 2560 {
+        Some(read_superblock(region, 20480).map(|l| l.total_bytes()))
+    } else {
+        None
+    }
+}
+
+#[test]
+fn superblock_and_heads(rt: HostRuntime) -> Result<(), Fail> {
+    let alloc = rt.alloc();
+    let layout = Layout::new(1, 1, 4, 4096)?;
+    let mut region = SteadyRegion::new(alloc, Vec::new(alloc), 100)?;
+    region.create(alloc, 2560)?;
+    assert_eq!(rt; found(&region), Some(Err(NotARegion { rule: 2 })));
+    assert_eq!(rt; format(&mut region, &layout), Some(Ok(())));
+    assert_eq!(rt; word(&region, 0).to_le_bytes(), *b"FLATST01");
+    assert_eq!(rt; word(&region, 1), 1);
+    assert_eq!(rt; word(&region, 5), 4096);
+    assert_eq!(rt; found(&region), Some(Ok(20480)));
+    assert_eq!(rt;
+        turn(&mut region, 512, Head::Log { tail: 488 }),
+        Some(Ok(()))
+    );
+    assert!(rt; matches!(head(&region, &layout, 512), Some(Err(BadHead { rule: 5 }))));
+    assert_eq!(rt;
+        turn(&mut region, 1024, Head::Data { class: 1 }),
+        Some(Ok(()))
+    );
+    assert_eq!(rt; word(&region, 1024), 258);
+    assert!(rt;
+        matches!(
+            head(&region, &layout, 1024),
+            Some(Ok(Head::Data { class: 1 }))
+        )
+    );
+    assert!(rt; matches!(head(&region, &layout, 1536), Some(Ok(Head::Free))));
+    Ok(())
+}
