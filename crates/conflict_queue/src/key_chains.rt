@@ -7,7 +7,7 @@ use crate::types::Held;
 use fs_model::Key;
 
 /// The chain of a key with waiting requests: the numbers of its first and its last place.
-#[derive(Clone, Copy, Debug, PartialEq, Eq)]
+#[derive(Clone, Copy)]
 pub struct Chain {
     pub key: Key,
     pub first: u32,

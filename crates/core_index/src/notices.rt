@@ -19,7 +19,7 @@ const FREE: usize = 8;
 const MOST: usize = 4_294_967_295;
 
 // A place for a name, linked to the next one of its chain. The name is for `home`; a free place has none.
-#[derive(Clone, Copy, Debug, PartialEq, Eq)]
+#[derive(Clone, Copy)]
 pub struct Node {
     pub name: EntryName,
     pub home: Option<u32>,

@@ -38,7 +38,7 @@ pub struct Spent {
 }
 
 // An entry that stands in a log, and whether its death was told to its home.
-#[derive(Clone, Copy, Debug, PartialEq, Eq)]
+#[derive(Clone, Copy)]
 pub struct Standing {
     pub version: Version,
     pub home: u32,
@@ -46,7 +46,7 @@ pub struct Standing {
 }
 
 // A place in a key's list. Its entry is gone once it stands in no log, and leaves the list when that is closed up.
-#[derive(Clone, Copy, Debug, PartialEq, Eq)]
+#[derive(Clone, Copy)]
 pub struct Marked {
     pub entry: Standing,
     pub gone: bool,
@@ -60,7 +60,7 @@ pub struct Head {
 }
 
 // What a finished change did: the block of the value before it, and the entry that died by it.
-#[derive(Clone, Copy, Debug, PartialEq, Eq)]
+#[derive(Clone, Copy)]
 pub struct Settled {
     pub replaced: Option<u64>,
     pub dead: Option<Standee>,
@@ -73,7 +73,7 @@ pub const SHARE: u64 = 4_294_967_296;
 pub const VERSIONS: u32 = 65_536;
 
 // What became of the one entry of a key that was deleted before the start.
-#[derive(Clone, Copy, Debug, PartialEq, Eq)]
+#[derive(Clone, Copy)]
 pub enum Fate {
     // It stands, and its death was not told.
     Untold,
@@ -87,7 +87,7 @@ pub enum Fate {
 
 // A key that was deleted before the start, by an entry that stands alone. It takes twelve bytes, so the key is in two
 // halves, and later versions and homes stand in the map.
-#[derive(Clone, Copy, Debug, PartialEq, Eq)]
+#[derive(Clone, Copy)]
 pub struct Tombstone {
     pub high: u32,
     pub low: u32,
@@ -97,14 +97,14 @@ pub struct Tombstone {
 }
 
 // Where the value of a key is: in a block, or so many bytes from a start on among the bytes of all values.
-#[derive(Clone, Copy, Debug, PartialEq, Eq)]
+#[derive(Clone, Copy)]
 pub enum Holding {
     InBlock(u32),
     Beside(u32, u8),
 }
 
 // What became of the one entry of a key that had a value at the start.
-#[derive(Clone, Copy, Debug, PartialEq, Eq)]
+#[derive(Clone, Copy)]
 pub enum LiveFate {
     // It stands.
     Stands,
@@ -115,7 +115,7 @@ pub enum LiveFate {
 }
 
 // A key that had a value at the start, by an entry that stands alone. It takes 24 bytes beside the value's own.
-#[derive(Clone, Copy, Debug, PartialEq, Eq)]
+#[derive(Clone, Copy)]
 pub struct LiveKey {
     pub high: u32,
     pub low: u32,

@@ -25,4 +25,6 @@ mod report_tests;
 #[cfg(test)]
 mod room_tests;
 #[cfg(test)]
+mod standing_tests;
+#[cfg(test)]
 mod worker_tests;

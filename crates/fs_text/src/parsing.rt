@@ -12,7 +12,7 @@ use fs_model::{Request, Value};
 use std::alloc::{AllocError, Global};
 
 /// Why a line gives nothing.
-#[derive(Clone, Copy, Debug, PartialEq, Eq)]
+#[derive(Clone, Copy)]
 pub enum LineError {
     /// The first rule that it breaks.
     Broken { rule: u32 },

@@ -7,8 +7,6 @@ mod name_item;
 mod name_table;
 mod names;
 mod standing_names;
-#[cfg(test)]
-mod tests;
 mod types;
 
 pub use filling::{standing_of, standing_told};
