@@ -113,7 +113,7 @@ impl Model for Layout {
 }
 
 impl Layout {
-    ghost use Rattle.chunk_map.specs.Checked.{checked_layout};
+    ghost use Rattle.chunk_map.specs.Checked.{checked_layout, layout_by_rule};
 
     /// The layout with these numbers, or the first rule that they break.
     pub fn new(cores: u32, group: u32, chunks: u32, chunk_bytes: u64) -> Result<Layout, BadLayout>
@@ -129,6 +129,17 @@ impl Layout {
             chunks,
             chunk_bytes,
         })
+    }
+
+    /// The layout with these numbers, where they keep the rules.
+    pub fn of_numbers(cores: u64, group: u64, chunks: u64, chunk_bytes: u64) -> Option<Layout>
+        ensures { result ≡ layout_by_rule
+            (record { cores = cores; group = group; chunks = chunks; chunk_bytes = chunk_bytes }) }
+    {
+        if layout_rule(cores, group, chunks, chunk_bytes).is_some() {
+            return None;
+        }
+        Layout::new(cores as u32, group as u32, chunks as u32, chunk_bytes).ok()
     }
 
     /// The numbers of the layout, as plain data. They keep the rules.

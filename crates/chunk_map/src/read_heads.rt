@@ -4,11 +4,11 @@ ghost use Rattle.pm_region.specs.State.{State, Frame, IsTelling, cell_now};
 ghost use Rattle.pm_region.specs.Words.{lasts};
 ghost use Rattle.chunk_map.specs.Layouts.{head_at, total_bytes, IsLayout, layout_rule};
 ghost use Rattle.chunk_map.specs.Setting.{HeadLies};
-ghost use Rattle.chunk_map.specs.Checked.{checked_head, FitsHead, checked_superblock, IsLength, layout_by_rule};
+ghost use Rattle.chunk_map.specs.Checked.{checked_head, FitsHead, checked_superblock, IsLength};
 
 use crate::heads::{BadHead, Head, head_by};
 use crate::layout_sizes::{FORMAT, MAGIC, SUPERBLOCK_BYTES};
-use crate::layouts::{Layout, layout_rule};
+use crate::layouts::Layout;
 use crate::superblock::NotARegion;
 use pm_region::{MOST_BYTES, Region, WORD_BYTES};
 
@@ -29,17 +29,6 @@ pub fn read_head<R: Region>(region: &R, layout: &Layout, at: u64) -> Result<Head
     }
 }
 
-// The layout with these numbers, where they keep the rules.
-fn layout_of(cores: u64, group: u64, chunks: u64, chunk_bytes: u64) -> Option<Layout>
-    ensures { result ≡ layout_by_rule
-        (record { cores = cores; group = group; chunks = chunks; chunk_bytes = chunk_bytes }) }
-{
-    if layout_rule(cores, group, chunks, chunk_bytes).is_some() {
-        return None;
-    }
-    Layout::new(cores as u32, group as u32, chunks as u32, chunk_bytes).ok()
-}
-
 /// The layout of a region of so many bytes, or the first rule that its superblock breaks.
 pub fn read_superblock<R: Region>(region: &R, bytes: u64) -> Result<Layout, NotARegion>
     requires first { (R.state region.now).frame.first ≡ 0 }
@@ -55,7 +44,7 @@ pub fn read_superblock<R: Region>(region: &R, bytes: u64) -> Result<Layout, NotA
     if !(region.load(0) == MAGIC && region.load(1) == FORMAT) {
         return Err(NotARegion { rule: 2 });
     }
-    match layout_of(
+    match Layout::of_numbers(
         region.load(2),
         region.load(3),
         region.load(4),

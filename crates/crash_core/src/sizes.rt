@@ -11,7 +11,7 @@ pub fn words_in(entry: &Entry) -> u64
     match &entry.body {
         Body::Embedded(value) => {
             let bytes = value.bytes().len() as u64;
-            2 + bytes / 8 + (bytes % 8 + 7) / 8
+            2 + bytes.div_ceil(8)
         }
         Body::Pointer(_) => 2,
         Body::Tombstone => 2,

@@ -1,13 +1,11 @@
 // The words of the command line.
 ghost use Rattle.std.specs.Prelude.{◌≡◌, IfOk, option_map, string_bytes};
 ghost use Rattle.clap.specs.Words.{found_of, rows_of, subcommand_rows_of};
-ghost use Rattle.chunk_map.specs.Checked.{layout_by_rule};
 ghost use Rattle.flatstore.specs.Commands.{form_of, form_in, form_named, layout_in, needs_threads, number_in, words_of};
 ghost use Rattle.flatstore.specs.Asked.{asked, path_of};
 
 use crate::parser::program;
 use chunk_map::Layout;
-use chunk_map::layouts::layout_rule;
 use clap::ArgMatches;
 use clap::error::ErrorKind;
 use fs_errors::Memory;
@@ -34,21 +32,6 @@ fn number_in(matches: &ArgMatches, name: &str) -> Option<u64>
     matches.get_one::<u64>(name)
 }
 
-/// The layout with these numbers, where they keep its rules.
-fn layout_of(cores: u64, group: u64, chunks: u64, chunk_bytes: u64) -> Option<Layout>
-    ensures { result ≡ layout_by_rule (record {
-      cores = cores;
-      group = group;
-      chunks = chunks;
-      chunk_bytes = chunk_bytes;
-    }) }
-{
-    if layout_rule(cores, group, chunks, chunk_bytes).is_some() {
-        return None;
-    }
-    Layout::new(cores as u32, group as u32, chunks as u32, chunk_bytes).ok()
-}
-
 fn layout_in(matches: &ArgMatches) -> Option<Layout>
     ensures { result ≡ layout_in (rows_of (found_of matches.now)) }
 {
@@ -56,7 +39,7 @@ fn layout_in(matches: &ArgMatches) -> Option<Layout>
     let group = number_in(matches, "group")?;
     let chunks = number_in(matches, "chunks")?;
     let chunk_bytes = number_in(matches, "chunk-bytes")?;
-    layout_of(cores, group, chunks, chunk_bytes)
+    Layout::of_numbers(cores, group, chunks, chunk_bytes)
 }
 
 /// The command of a subcommand's name, its matches and its path.

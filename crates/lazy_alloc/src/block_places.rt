@@ -23,7 +23,7 @@ pub fn room(layout: &Layout) -> u64
     ensures value { result ≡ room_words layout.now }
     ensures high { result ≤ 128 }
 {
-    (units(layout) + 127) / 128
+    units(layout).div_ceil(128)
 }
 
 /// How many blocks of a class a chunk holds.

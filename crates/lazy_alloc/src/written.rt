@@ -57,6 +57,6 @@ pub fn write_block<R: Region>(region: &mut R, line: u64, value: &[u8]) -> Result
 {
     let count = 1 + words_for(value.len() as u64);
     store_block(region, LINE_WORDS * line, value, count);
-    flush_lines(region, line, (count + 7) / LINE_WORDS);
+    flush_lines(region, line, count.div_ceil(LINE_WORDS));
     region.fence()
 }

@@ -12,7 +12,7 @@ use crate::types::Victim;
 use core_log::CoreLog;
 use log_entry::{MOST_BATCH_WORDS, WordBuffer};
 use log_standing::Standing;
-use pm_region::{Region, RegionFault};
+use pm_region::{LINE_WORDS, Region, RegionFault};
 
 // Whether there is a batch, and room for it.
 fn is_ready(log: &CoreLog, buffer: &WordBuffer, taken: u64) -> bool
@@ -22,7 +22,7 @@ fn is_ready(log: &CoreLog, buffer: &WordBuffer, taken: u64) -> bool
     ensures unready { result ≡ false → (taken ≡ 0)
         ⊎ (room_of log.now < lines_for (length buffer.now.words)) }
 {
-    taken > 0 && (buffer.words().len() as u64 + 7) / 8 <= log.room()
+    taken > 0 && (buffer.words().len() as u64).div_ceil(LINE_WORDS) <= log.room()
 }
 
 /// Copies the next entries of a victim's chunk that are still to be copied, by place, as one batch into the open
