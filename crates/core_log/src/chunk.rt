@@ -78,7 +78,7 @@ pub fn append_at<R: Region>(
         → Appended (R.state region.old) (R.state region.new) at tail (padded batch.now)) }
     ensures cause { OnErr result (Rose (R.state region.old).faults (R.state region.new).faults) }
 {
-    let lines = (batch.len() as u64).div_ceil(LINE_WORDS);
+    let lines = (batch.len() as u64 + 7) / LINE_WORDS;
     write_lines(
         region,
         at / LINE_WORDS + HEAD_LINES + tail / LINE_WORDS,

@@ -204,7 +204,7 @@ impl CoreLog {
         let words = self.chunk_words();
         let list = batch.words();
         append_at(region, at, words, place.place, list)?;
-        let lines = (list.len() as u64).div_ceil(LINE_WORDS);
+        let lines = (list.len() as u64 + 7) / LINE_WORDS;
         self.move_tail(place.chunk, place.place + LINE_WORDS * lines);
         Ok(place)
     }
