@@ -8,11 +8,6 @@ use Rattle.recover.proofs.ReadBackLaws.{found_back, found_stand}
 use Rattle.recover.proofs.EntryListLaws.{logs_read}
 use Rattle.recover.proofs.entry_list.logged.Goals as goal
 
-pub returns-in_err-sound_entries : goal.returns-in_err-sound_entries
-returns-in_err-sound_entries g c = λ telling.
-    let image = lasts (g.R.Region.state c.args.region.now) in
-    handed_on (Logs c.args.layout.now image) c.from_residual.result c.in_err-sound_entries.field-0.0 c.from_residual.ensures.1 (c.in_err-sound_entries.ensures.told telling)
-
 pub returns-in_err-found : goal.returns-in_err-found
 returns-in_err-found g c = λ telling.
     let image = lasts (g.R.Region.state c.args.region.now) in

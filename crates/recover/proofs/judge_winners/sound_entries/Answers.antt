@@ -5,11 +5,6 @@ use Rattle.recover.specs.Gathering.{AreAgreed, Judges}
 use Rattle.recover.proofs.CauseLaws.{handed_on}
 use Rattle.recover.proofs.judge_winners.sound_entries.Goals as goal
 
-pub returns-in_err-found-clause-told : goal.returns-in_err-found-clause-told
-returns-in_err-found-clause-told g c = λ telling.
-    let image = lasts (g.R.Region.state c.args.region.now) in
-    handed_on (Judges c.args.layout.now image) c.from_residual.result c.in_err-found.field-0.0 c.from_residual.ensures.1 (c.in_err-found.ensures.told telling)
-
 pub returns-in_err-judge-clause-told : goal.returns-in_err-judge-clause-told
 returns-in_err-judge-clause-told g c = λ telling.
     let image = lasts (g.R.Region.state c.args.region.now) in

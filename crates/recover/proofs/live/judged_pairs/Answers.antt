@@ -9,17 +9,12 @@ use Rattle.recover.proofs.NameLaws.{winners_same}
 use Rattle.recover.proofs.LiveLaws.{left_lists}
 use Rattle.recover.proofs.live.judged_pairs.Goals as goal
 
-pub returns-in_err-found : goal.returns-in_err-found
-returns-in_err-found g c = λ telling.
-    let image = lasts (g.R.Region.state c.args.region.now) in
-    handed_on (Lists c.args.layout.now image) c.from_residual.result c.in_err-found.field-0.0 c.from_residual.ensures.1 (c.in_err-found.ensures.told telling)
-
 pub returns : goal.returns
 returns g c = λ telling.
     let image = lasts (g.R.Region.state c.args.region.now) in
     let l = c.args.layout.now in
     let sound = c.in_ok-found.ensures.told telling in
-    let fits = subst (λ fs. AreAgreed l image (entries_at l image fs)) (sym c.deref.ensures.value) sound.1 in
-    let found = subst (AreFound l image) (sym c.deref.ensures.value) sound.3 in
+    let fits = subst (λ fs. AreAgreed l image (entries_at l image fs)) (sym c.deref.ensures.value) sound.1.0 in
+    let found = subst (AreFound l image) (sym c.deref.ensures.value) sound.1.2 in
     let xs = entries_at l image c.deref.result.now in
     left_lists l image xs sound.0 (winners_same (all_entries l image) xs fits.all) c.pairs_left.result (c.pairs_left.ensures telling found)

@@ -9,16 +9,11 @@ use Rattle.recover.proofs.CauseLaws.{handed_on}
 use Rattle.recover.proofs.ShareLaws.{judged_shares}
 use Rattle.recover.proofs.recover_region.judged_shares.Goals as goal
 
-pub returns-in_err-found-clause-told : goal.returns-in_err-found-clause-told
-returns-in_err-found-clause-told g c = λ telling.
-    let image = lasts (g.R.Region.state c.args.region.now) in
-    handed_on (Shares c.args.layout.now image) c.from_residual.result c.in_err-found.field-0.0 c.from_residual.ensures.1 (c.in_err-found.ensures.told telling)
-
 pub returns-clause-told : goal.returns-clause-told
 returns-clause-told g c = λ telling.
     let l = c.args.layout.now in
     let image = lasts (g.R.Region.state c.args.region.now) in
     let sound = c.in_ok-found.ensures.told telling in
-    judged_shares l image (entries_at l image c.deref.result.now) sound.0 sound.2
-    (subst (λ (xs : List Found). IsByName (all_entries l image) (entries_at l image xs)) (sym c.deref.ensures.value) sound.1.all)
-    c.shares.result (c.shares.ensures.told telling (subst (AreFound l image) (sym c.deref.ensures.value) sound.3))
+    judged_shares l image (entries_at l image c.deref.result.now) sound.0 sound.1.1
+    (subst (λ (xs : List Found). IsByName (all_entries l image) (entries_at l image xs)) (sym c.deref.ensures.value) sound.1.0.all)
+    c.shares.result (c.shares.ensures.told telling (subst (AreFound l image) (sym c.deref.ensures.value) sound.1.2))

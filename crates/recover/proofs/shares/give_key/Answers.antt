@@ -15,5 +15,5 @@ pub returns-clause-spelled : goal.returns-clause-spelled
 returns-clause-spelled g c = λ are.
     let f = c.args.winner.now in
     spelled_more c.args.layout.now c.args.shares.now.items c.give.new.shares.items f c.in-Some.body c.deref.result.now
-    (subst (λ o. IfSome o (λ (b : Body). HasSpelling (record { key = f.key; version = f.version; body = b }))) c.in-Some.is c.in_ok-read_at.ensures.spelled)
+    (subst (λ o. IfSome o (λ (b : Body). HasSpelling (record { key = f.key; version = f.version; body = b }))) c.in-Some.is c.in_ok-body.ensures.spelled)
     c.in_ok-give.ensures.gives are
