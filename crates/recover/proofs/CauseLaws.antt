@@ -19,7 +19,7 @@ use Rattle.store_image.proofs.Clients.{judged, not_a_region}
 use Rattle.recover.specs.declared.types.Recovered.{Recovered}
 use Rattle.recover.specs.declared.types.RecoverError.{RecoverError}
 use Rattle.recover.specs.declared.types.RecoverError.TheVariants as errors
-use Rattle.recover.specs.Causes.{HasCause, AnswersFault}
+use Rattle.recover.specs.Causes.{HasCause}
 use Rattle.recover.specs.Recovering.{IsOf, Restores, Recovers}
 use Rattle.recover.specs.Live.{Lists, ListsLive}
 use Rattle.recover.specs.Logged.{Logs, ListsLogs}

@@ -1,6 +1,6 @@
 -- What the heads of a part say of its log and of its allocator.
 use Rattle.std.proofs.Common.{◌≡◌, ℕ, ◌<◌, ◌≤◌, ltb, true, false, cond, List, length, get_or, Option, Some, None, refl, sym, ◌∙◌, ap, subst, arith}
-use Rattle.std.specs.Prelude.{IfSome, slice_get, Result, Ok, Err}
+use Rattle.std.specs.Prelude.{IfSome, slice_get, Ok, Err}
 use Rattle.std.proofs.lemmas.Bool.{ltb-true, ltb-false}
 use Rattle.std.proofs.lemmas.Option.{slice_get-get_or, slice_get_past}
 use Rattle.chunk_map.specs.declared.layouts.Geometry.{Geometry}

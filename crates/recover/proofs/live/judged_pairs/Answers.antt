@@ -3,8 +3,6 @@ use Rattle.pm_region.specs.Words.{lasts}
 use Rattle.store_image.specs.Parts.{all_entries}
 use Rattle.recover.specs.FoundEntries.{AreFound, entries_at}
 use Rattle.recover.specs.Gathering.{AreAgreed}
-use Rattle.recover.specs.Live.{Lists}
-use Rattle.recover.proofs.CauseLaws.{handed_on}
 use Rattle.recover.proofs.NameLaws.{winners_same}
 use Rattle.recover.proofs.LiveLaws.{left_lists}
 use Rattle.recover.proofs.live.judged_pairs.Goals as goal

@@ -4,8 +4,6 @@ use Rattle.store_image.specs.Parts.{all_entries}
 use Rattle.recover.specs.declared.found_entries.Found.{Found}
 use Rattle.recover.specs.ByName.{IsByName}
 use Rattle.recover.specs.FoundEntries.{entries_at, AreFound}
-use Rattle.recover.specs.Shares.{Shares}
-use Rattle.recover.proofs.CauseLaws.{handed_on}
 use Rattle.recover.proofs.ShareLaws.{judged_shares}
 use Rattle.recover.proofs.recover_region.judged_shares.Goals as goal
 

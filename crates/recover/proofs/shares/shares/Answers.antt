@@ -1,4 +1,4 @@
-use Rattle.std.proofs.Common.{◌≡◌, List, get_or, map, take, take_all, refl, sym, ◌∙◌, subst, arith}
+use Rattle.std.proofs.Common.{◌≡◌, List, get_or, map, take, take_all, refl, sym, subst, arith}
 use Rattle.pm_region.specs.Words.{lasts}
 use Rattle.store_image.specs.declared.types.PlacedEntry.{PlacedEntry}
 use Rattle.recover.specs.declared.found_entries.Found.{Found}
