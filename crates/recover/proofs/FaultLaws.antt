@@ -1,6 +1,5 @@
 -- Winners are judged run by run.
-use Rattle.std.proofs.Common.{◌≡◌, ℕ, ◌≤◌, List, [], ◌∷◌, ◌++◌, length, take, get_or, Option, Some, None, refl, sym, ◌∙◌, ap, subst, append_assoc, append-nil, true}
-use Rattle.std.specs.Prelude.{is_some}
+use Rattle.std.proofs.Common.{◌≡◌, ℕ, ◌≤◌, List, [], ◌∷◌, ◌++◌, length, take, get_or, Option, Some, None, refl, sym, ◌∙◌, ap, subst, append_assoc, append-nil}
 use Rattle.std.specs.Option.{option_or}
 use Rattle.std.specs.BTreeSet.{BTreeSet}
 use Rattle.std.proofs.lemmas.List.{take_all}
@@ -9,6 +8,9 @@ use Rattle.store_image.specs.declared.types.PlacedEntry.{PlacedEntry}
 use Rattle.store_image.specs.declared.types.Fault.{Fault}
 use Rattle.recover.specs.declared.found_entries.Found.{Found}
 use Rattle.recover.specs.declared.key_runs.KeyRun.{KeyRun}
+use Rattle.recover.specs.declared.types.RecoverError.{RecoverError}
+use Rattle.recover.specs.declared.types.RecoverError.TheVariants as errors
+use Rattle.recover.specs.Causes.{HasCause}
 use Rattle.recover.specs.Judging.{fault_beside, winners_fault, HasPointers}
 use Rattle.recover.specs.Winning.{winners_of}
 use Rattle.recover.specs.FoundEntries.{placed_at, entries_at, AreInOrder}
@@ -41,28 +43,33 @@ module _ (l : Geometry) (image : ℕ → ℕ) (ws : List PlacedEntry) (none : wi
 
 module _ (l : Geometry) (image : ℕ → ℕ) (fs : List Found) (rising : AreInOrder fs) (at : ℕ) (begins : Begins fs at) (r : KeyRun) (run : IsRun fs at r) (d : Found) where
   -- a key more
-  pub none_more : (old new : BTreeSet ℕ) → NoneSoFar l image old (winners_of (entries_at l image (take at fs))) → (f : Option Fault)
-      → f ≡ fault_beside l image (winners_of (entries_at l image (take at fs))) (placed_at l image (get_or fs r.winner d)) → f ≡ None
+  pub none_more : (old new : BTreeSet ℕ) → NoneSoFar l image old (winners_of (entries_at l image (take at fs)))
+      → fault_beside l image (winners_of (entries_at l image (take at fs))) (placed_at l image (get_or fs r.winner d)) ≡ None
       → HasPointers new (winners_of (entries_at l image (take at fs)) ++ placed_at l image (get_or fs r.winner d) ∷ [])
       → NoneSoFar l image new (winners_of (entries_at l image (take r.end fs)))
-  none_more old new so_far f is none pointers = subst (NoneSoFar l image new) (sym (run_wins l image fs rising at begins r run d)) (record {
+  none_more old new so_far none pointers = subst (NoneSoFar l image new) (sym (run_wins l image fs rising at begins r run d)) (record {
     pointers = pointers;
-    none = with_one l image (winners_of (entries_at l image (take at fs))) so_far.none (placed_at l image (get_or fs r.winner d)) f is ∙ none;
+    none = with_one l image (winners_of (entries_at l image (take at fs))) so_far.none (placed_at l image (get_or fs r.winner d)) None (sym none);
   })
 
   -- a key whose winner breaks a rule
-  pub fault_found : (old : BTreeSet ℕ) → NoneSoFar l image old (winners_of (entries_at l image (take at fs))) → (f : Option Fault)
-      → f ≡ fault_beside l image (winners_of (entries_at l image (take at fs))) (placed_at l image (get_or fs r.winner d)) → is_some f ≡ true
-      → f ≡ winners_fault l image [] (winners_of (entries_at l image fs))
-  fault_found old so_far None is some = absurd (cc some)
-  fault_found old so_far (Some y) is some =
+  fault_there : (old : BTreeSet ℕ) → NoneSoFar l image old (winners_of (entries_at l image (take at fs))) → (y : Fault)
+      → fault_beside l image (winners_of (entries_at l image (take at fs))) (placed_at l image (get_or fs r.winner d)) ≡ Some y
+      → winners_fault l image [] (winners_of (entries_at l image fs)) ≡ Some y
+  fault_there old so_far y is =
       let ws = winners_of (entries_at l image (take at fs)) in
       let x = placed_at l image (get_or fs r.winner d) in
       let cut = cut_wins l image fs rising r.end (run_begins l image fs rising at begins r run) run.end in
-      sym (ap (winners_fault l image []) (cut.1 ∙ ap (λ ws. ws ++ cut.0) (run_wins l image fs rising at begins r run d))
+      ap (winners_fault l image []) (cut.1 ∙ ap (λ ws. ws ++ cut.0) (run_wins l image fs rising at begins r run d))
       ∙ winners_split l image [] (ws ++ x ∷ []) cut.0
-      ∙ ap (λ o. option_or o (winners_fault l image (ws ++ x ∷ []) cut.0)) (with_one l image ws so_far.none x (Some y) is))
+      ∙ ap (λ o. option_or o (winners_fault l image (ws ++ x ∷ []) cut.0)) (with_one l image ws so_far.none x (Some y) (sym is))
+
+  pub fault_found : (old : BTreeSet ℕ) → NoneSoFar l image old (winners_of (entries_at l image (take at fs))) → (e : RecoverError)
+      → HasCause (fault_beside l image (winners_of (entries_at l image (take at fs))) (placed_at l image (get_or fs r.winner d))) e
+      → HasCause (winners_fault l image [] (winners_of (entries_at l image fs))) e
+  fault_found old so_far (errors.Fault y) is = fault_there old so_far y is
+  fault_found old so_far errors.Memory is = tt
 
 -- all keys
-pub none_at_all : (l : Geometry) (image : ℕ → ℕ) (fs : List Found) (at : ℕ) (taken : BTreeSet ℕ) → length fs ≤ at → NoneSoFar l image taken (winners_of (entries_at l image (take at fs))) → None ≡ winners_fault l image [] (winners_of (entries_at l image fs))
-none_at_all l image fs at taken le so_far = sym (ap (λ xs. winners_fault l image [] (winners_of (entries_at l image xs))) (sym (take_all at fs le)) ∙ so_far.none)
+pub none_at_all : (l : Geometry) (image : ℕ → ℕ) (fs : List Found) (at : ℕ) (taken : BTreeSet ℕ) → length fs ≤ at → NoneSoFar l image taken (winners_of (entries_at l image (take at fs))) → winners_fault l image [] (winners_of (entries_at l image fs)) ≡ None
+none_at_all l image fs at taken le so_far = ap (λ xs. winners_fault l image [] (winners_of (entries_at l image xs))) (sym (take_all at fs le)) ∙ so_far.none

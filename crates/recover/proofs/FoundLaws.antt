@@ -1,24 +1,14 @@
 -- What is said of a region by its superblock.
-use Rattle.std.proofs.Common.{◌≡◌, ℕ, ◌<◌, ◌+◌, ◌*◌, ◌/◌, Option, Some, None, refl, sym, ◌∙◌, ap, subst, arith}
-use Rattle.std.specs.Prelude.{Result, Ok, Err, IfOk, Vec, slice_index_or}
-use Rattle.std.specs.Global.{Global}
+use Rattle.std.proofs.Common.{◌≡◌, ℕ, ◌+◌, ◌*◌, ◌/◌, Option, Some, None, refl, sym, ◌∙◌, ap, subst, arith}
+use Rattle.std.specs.Prelude.{Ok, Err}
 use Rattle.pm_region.specs.State.{Frame}
 use Rattle.chunk_map.specs.declared.layouts.Geometry.{Geometry}
 use Rattle.chunk_map.specs.declared.superblock.NotARegion.{NotARegion}
 use Rattle.chunk_map.specs.Layouts.{IsLayout, layout_of, superblock_rule, total_bytes, chunk_words}
 use Rattle.chunk_map.specs.Checked.{superblock_by, checked_superblock, IsLength}
 use Rattle.store_image.proofs.Clients.{layout_numbers, judged, sound_store}
-use Rattle.store_image.specs.declared.types.Fault.{Fault}
 use Rattle.store_image.specs.Soundness.{damage}
 use Rattle.store_image.specs.Facts.{KeepsRules, IsStore}
-use Rattle.store_image.specs.Parts.{all_entries}
-use Rattle.recover.specs.declared.shares.Share.{Share}
-use Rattle.recover.specs.declared.types.CoreStart.{CoreStart}
-use Rattle.recover.specs.declared.found_entries.Found.{Found}
-use Rattle.recover.specs.FoundEntries.{entries_at, AreFound}
-use Rattle.recover.specs.Gathering.{AreAgreed, Agrees, AllSpell}
-use Rattle.recover.specs.Shares.{AreShares, Shares}
-use Rattle.recover.specs.Heads.{IsStartOf, Starts, AllStart}
 use Rattle.recover.specs.Regions.{Covers}
 
 module _ (bytes : ℕ) (image : ℕ → ℕ) where
@@ -56,35 +46,6 @@ covers_all f l bytes first words layout total = record {
   first = first;
   words = words (is_length l bytes layout total) ∙ ap (λ b. b / 8) (sym total);
 }
-
-module _ (l : Geometry) (image : ℕ → ℕ) where
-  -- the entries that agree, or the fault
-  pub agreed_of : (r : Result (Vec Found Global) Fault) (v : Vec Found Global) → Agrees l image r → r ≡ Ok v → AreAgreed l image (entries_at l image v.items) × AllSpell l image × AreFound l image v.items
-  agreed_of r v told is = subst (Agrees l image) is told
-
-  pub agreed_fault : (r : Result (Vec Found Global) Fault) (f : Fault) → Agrees l image r → r ≡ Err f → damage l image ≡ Some f
-  agreed_fault r f told is = subst (Agrees l image) is told
-
-  -- the shares
-  pub shares_ok : (r : Result (Vec Share Global) Fault) (v : Vec Share Global) → Shares l image r → r ≡ Ok v → (damage l image ≡ None) × AllSpell l image × AreShares l (all_entries l image) v.items
-  shares_ok r v told is = subst (Shares l image) is told
-
-  pub shares_err : (r : Result (Vec Share Global) Fault) (f : Fault) → Shares l image r → r ≡ Err f → damage l image ≡ Some f
-  shares_err r f told is = subst (Shares l image) is told
-
-  -- the starts
-  pub start_ok : (c : ℕ) (r : Result CoreStart Fault) (start : CoreStart) → Starts l image c r → r ≡ Ok start → IsStartOf l image c start
-  start_ok c r start told is = subst (Starts l image c) is told
-
-  pub starts_ok : (r : Result (Vec CoreStart Global) Fault) (v : Vec CoreStart Global) → AllStart l image r → r ≡ Ok v → (c : ℕ) (d : CoreStart) → c < l.cores → IsStartOf l image c (slice_index_or v.items c d)
-  starts_ok r v told is = subst (AllStart l image) is told
-
-  pub starts_err : (r : Result (Vec CoreStart Global) Fault) (f : Fault) → AllStart l image r → r ≡ Err f → ⊥
-  starts_err r f told is = subst (AllStart l image) is told
-
--- whatever was answered: what holds of each answer holds of this one
-pub ok_of : {X E : Type 0} (P : X → Type 0) (r : Result X E) (v : X) → IfOk r P → r ≡ Ok v → P v
-ok_of P r v holds is = subst (λ (r : Result _ _). IfOk r P) is holds
 
 -- a region that broke no rule
 pub store_found : (bytes : ℕ) (image : ℕ → ℕ) (l : Geometry) → superblock_rule bytes image ≡ None → l ≡ layout_of image → damage l image ≡ None → IsStore bytes image

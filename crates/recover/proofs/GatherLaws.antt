@@ -12,7 +12,11 @@ use Rattle.chunk_map.specs.declared.layouts.Geometry.{Geometry}
 use Rattle.store_image.specs.declared.scanning.AtPlace.{AtPlace}
 use Rattle.store_image.specs.Scanned.{shown}
 use Rattle.store_image.specs.Parts.{placed}
+use Rattle.store_image.specs.declared.types.Fault.{Fault}
 use Rattle.recover.specs.declared.found_entries.Found.{Found}
+use Rattle.recover.specs.declared.types.RecoverError.{RecoverError}
+use Rattle.recover.specs.declared.types.RecoverError.TheVariants as errors
+use Rattle.recover.specs.Causes.{HasCause}
 use Rattle.recover.specs.FoundEntries.{found_in, found_of, LieBelow}
 use Rattle.recover.proofs.ListLaws.{all_at}
 
@@ -28,13 +32,10 @@ module _ {Y : Type 0} (f : ℕ → Option Y) (i n : ℕ) where
   pub ends : n ≤ i → None ≡ first_some f (numbers i (n - i))
   ends le = first_end f i n None le
 
-pub not_none : {Y : Type 0} (o : Option Y) → is_some o ≡ true → o ≡ None → ⊥
-not_none None some none = cc some
-not_none (Some y) some none = cc none
-
-pub is_none : {Y : Type 0} (o : Option Y) → is_some o ≡ false → o ≡ None
-is_none None none = refl
-is_none (Some y) none = absurd (cc none)
+-- the error of the first one that has a fault
+pub stops_by : (f : ℕ → Option Fault) (i n : ℕ) (e : RecoverError) → i < n → HasCause (f i) e → HasCause (first_some f (numbers i (n - i))) e
+stops_by f i n (errors.Fault y) lt is = sym (stops f i n (Some y) lt (sym is) refl)
+stops_by f i n errors.Memory lt is = tt
 
 -- a loop that gathers what is found of the entries of one after another
 module _ {X Y : Type 0} (f : X → Y) (h : ℕ → List X) (i n : ℕ) where

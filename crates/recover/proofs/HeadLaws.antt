@@ -1,8 +1,6 @@
 -- What the heads of a part say of its log and of its allocator.
 use Rattle.std.proofs.Common.{◌≡◌, ℕ, ◌<◌, ◌≤◌, ltb, true, false, cond, List, length, get_or, Option, Some, None, refl, sym, ◌∙◌, ap, subst, arith}
-use Rattle.std.specs.Prelude.{IfSome, slice_get, Result, Ok, Vec}
-use Rattle.std.specs.Global.{Global}
-use Rattle.store_image.specs.declared.types.Fault.{Fault}
+use Rattle.std.specs.Prelude.{IfSome, slice_get, Ok, Err}
 use Rattle.std.proofs.lemmas.Bool.{ltb-true, ltb-false}
 use Rattle.std.proofs.lemmas.Option.{slice_get-get_or, slice_get_past}
 use Rattle.chunk_map.specs.declared.layouts.Geometry.{Geometry}
@@ -12,6 +10,10 @@ use Rattle.chunk_map.specs.Checked.{FitsHead}
 use Rattle.chunk_map.specs.Layouts.{chunk_first, head_at}
 use Rattle.core_log.specs.declared.types.LogChunk.{LogChunk}
 use Rattle.core_log.specs.Log.{tail_of, chunk_with, IsChunkOf}
+use Rattle.store_image.specs.Parts.{head_reads, scan_at}
+use Rattle.store_image.specs.Facts.{KeepsRules}
+use Rattle.recover.specs.declared.types.RecoverError.{RecoverError}
+use Rattle.recover.specs.declared.types.RecoverError.TheVariants as errors
 use Rattle.recover.specs.Logs.{tail_behind, log_tail}
 use Rattle.recover.specs.Heads.{AreHeads, HasHeads, tail_there}
 use Rattle.recover.proofs.LogLaws.{HasBelow, EndsBefore}
@@ -45,5 +47,9 @@ module _ (l : Geometry) (image : ℕ → ℕ) (c : ℕ) (heads : List Head) (cou
     | false ↦ λ e. (let past = ltb-false j l.chunks e in ap tail_there (slice_get_past heads j (omega (arith, count, past))))
   ] refl)
 
-pub heads_ok : (l : Geometry) (image : ℕ → ℕ) (c : ℕ) (r : Result (Vec Head Global) Fault) (v : Vec Head Global) → HasHeads l image c r → r ≡ Ok v → AreHeads l image c v.items
-heads_ok l image c r v told is = subst (HasHeads l image c) is told
+-- no head is broken where no rule is
+pub heads_kept : (l : Geometry) (image : ℕ → ℕ) (c : ℕ) → KeepsRules l image → c < l.cores → (e : RecoverError) → HasHeads l image c (Err e) → e ≡ errors.Memory
+heads_kept l image c kept lt (errors.Fault fault) bad =
+    let at = chunk_first l c bad.chunk in
+    absurd (cc (sym (ap (λ head. head_reads head (scan_at l image at)) bad.broken) ∙ kept.reads c bad.chunk lt bad.within))
+heads_kept l image c kept lt errors.Memory bad = refl

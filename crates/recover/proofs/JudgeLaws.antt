@@ -1,7 +1,6 @@
 -- The rules on blocks, told of the list of winners.
 use Rattle.std.proofs.Common.{◌≡◌, inl, ℕ, ◌+◌, ◌*◌, ◌<◌, ◌≤◌, ltb, List, [], ◌∷◌, ◌++◌, length, take, drop, get_or, map, refl, sym, ◌∙◌, ap, subst, arith, ◌&&◌, ◌||◌, true, false, cond, Bool, Option, Some, None, append_assoc, append-nil}
-use Rattle.std.specs.Prelude.{option_map, is_some, Result, Ok, Err, Vec}
-use Rattle.std.specs.Global.{Global}
+use Rattle.std.specs.Prelude.{option_map, is_some}
 use Rattle.std.proofs.lemmas.List.{drop_more}
 use Rattle.std.proofs.Math.ListN.{drop_of_length-le}
 use Rattle.recover.proofs.ClashLaws.{one_more}
@@ -25,7 +24,10 @@ use Rattle.pm_region.specs.State.{Frame}
 use Rattle.recover.specs.declared.found_entries.Found.{Found}
 use Rattle.recover.specs.Regions.{Covers}
 use Rattle.recover.specs.FoundEntries.{found_of, entries_at, Stands, AreFound, AreByName}
-use Rattle.recover.specs.Gathering.{Gathers, AllSpell, AreAgreed}
+use Rattle.recover.specs.declared.types.RecoverError.{RecoverError}
+use Rattle.recover.specs.declared.types.RecoverError.TheVariants as errors
+use Rattle.recover.specs.Causes.{HasCause}
+use Rattle.recover.specs.Gathering.{AllSpell, AreAgreed}
 use Rattle.recover.proofs.NameLaws.{no_clash}
 use Rattle.recover.proofs.FoundEntryLaws.{by_name_at, all_by_name}
 use Rattle.recover.proofs.ReadBackLaws.{found_back, found_stand}
@@ -116,11 +118,9 @@ no_fault l image ws i le = sym (ap (winners_fault l image (take i ws)) (drop_of_
 
 -- what the steps find one after another decides
 module _ (l : Geometry) (image : ℕ → ℕ) where
-  pub by_chunks : (r : Result (Vec Found Global) Fault) (f : Fault) → Gathers l image r → r ≡ Err f → damage l image ≡ Some f
-  by_chunks r f gathers is = sym (chunks_decide l image (all_entries l image) refl (Some f) (sym (subst (Gathers l image) is gathers)) refl)
-
-  pub gathered : (r : Result (Vec Found Global) Fault) (v : Vec Found Global) → Gathers l image r → r ≡ Ok v → (chunk_fault l image ≡ None) × (v.items ≡ map (found_of l) (all_entries l image)) × AllSpell l image
-  gathered r v gathers is = subst (Gathers l image) is gathers
+  pub by_chunks : (e : RecoverError) → HasCause (chunk_fault l image) e → HasCause (damage l image) e
+  by_chunks (errors.Fault f) is = sym (chunks_decide l image (all_entries l image) refl (Some f) (sym is) refl)
+  by_chunks errors.Memory is = tt
 
   module _ (es : List PlacedEntry) (is : es ≡ all_entries l image) (whole : chunk_fault l image ≡ None) where
     pub by_clash : (f : Fault) → Some f ≡ clash_fault es → damage l image ≡ Some f

@@ -17,6 +17,7 @@ pub mod JudgeLaws
 pub mod FaultLaws
 pub mod SpellLaws
 pub mod FoundLaws
+pub mod CauseLaws
 pub mod LogLaws
 pub mod MadeLaws
 pub mod ShareLaws

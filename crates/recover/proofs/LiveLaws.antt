@@ -8,14 +8,15 @@ use Rattle.fs_model.specs.declared.model.Pair.{Pair}
 use Rattle.chunk_map.specs.declared.layouts.Geometry.{Geometry}
 use Rattle.chunk_map.specs.Layouts.{owner}
 use Rattle.store_image.specs.declared.types.PlacedEntry.{PlacedEntry}
-use Rattle.store_image.specs.declared.types.Fault.{Fault}
 use Rattle.store_image.specs.Parts.{all_entries, held}
 use Rattle.store_image.specs.Soundness.{damage}
 use Rattle.store_image.specs.Winners.{winner_in, keys_of, cell_by, recovered}
 use Rattle.store_image.specs.Listing.{ListsCells, with_pair}
 use Rattle.store_image.proofs.Clients.{winner_is, pairs_of, lists_pairs}
+use Rattle.recover.specs.declared.types.RecoverError.{RecoverError}
 use Rattle.recover.specs.Winning.{winners_of}
 use Rattle.recover.specs.Live.{pairs_by, HasLeft, Lists}
+use Rattle.recover.proofs.CauseLaws.{memory_cause}
 
 module _ (l : Geometry) (image : ℕ → ℕ) where
   abbrev es : List PlacedEntry
@@ -55,12 +56,6 @@ module _ (l : Geometry) (image : ℕ → ℕ) where
   left_more now more ws all x so_far push is = push ∙ ap (λ ps. ps ++ pairs_by l image (x ∷ [])) so_far ∙ sym (pairs_append ws (x ∷ [])) ∙ ap (pairs_by l image) (sym is)
 
   -- what was listed of winners
-  pub left_lists : (xs : List PlacedEntry) → damage l image ≡ None → winners_of xs ≡ winners_of es → (r : Result (Vec Pair Global) Fault) → HasLeft l image xs r → Lists l image r
+  pub left_lists : (xs : List PlacedEntry) → damage l image ≡ None → winners_of xs ≡ winners_of es → (r : Result (Vec Pair Global) RecoverError) → HasLeft l image xs r → Lists l image r
   left_lists xs none same (Ok pairs) left = (none, winners_list (winners_of xs) pairs.items same left)
-  left_lists xs none same (Err fault) left = absurd left
-
-  pub lists_ok : (r : Result (Vec Pair Global) Fault) (v : Vec Pair Global) → Lists l image r → r ≡ Ok v → (damage l image ≡ None) × ListsCells (recovered l image) v.items
-  lists_ok r v told is = subst (Lists l image) is told
-
-  pub lists_err : (r : Result (Vec Pair Global) Fault) (f : Fault) → Lists l image r → r ≡ Err f → damage l image ≡ Some f
-  lists_err r f told is = subst (Lists l image) is told
+  left_lists xs none same (Err e) left = memory_cause (damage l image) e left

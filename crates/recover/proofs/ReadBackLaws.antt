@@ -1,7 +1,6 @@
 -- What is found of an image's entries, and what the image has there.
 use Rattle.std.proofs.Common.{◌≡◌, ℕ, zero, suc, ◌+◌, ◌-◌, ◌*◌, ◌/◌, ◌%◌, ◌<◌, ◌≤◌, ◌==◌, ◌&&◌, nat_le, Bool, true, false, cond, List, [], ◌∷◌, ◌++◌, length, drop, map, Option, Some, None, refl, sym, ◌∙◌, ap, subst, arith}
-use Rattle.std.specs.Prelude.{Result, Ok, Err, Vec}
-use Rattle.std.specs.Global.{Global}
+use Rattle.std.specs.Prelude.{Result, Ok, Err}
 use Rattle.std.proofs.lemmas.Nat.{div-mul-add, mod-mul-add}
 use Rattle.std.proofs.lemmas.Bool.{leb-true, and_parts}
 use Rattle.std.specs.List.{flat_map, AllByRecursion}
@@ -16,7 +15,6 @@ use Rattle.chunk_map.specs.declared.heads.Head.{Head}
 use Rattle.chunk_map.specs.declared.heads.Head.TheVariants.{Free, Log, Data}
 use Rattle.chunk_map.specs.Layouts.{numbers, chunk_words, payload_words, chunk_first, head_at, is_class}
 use Rattle.store_image.specs.declared.types.PlacedEntry.{PlacedEntry}
-use Rattle.store_image.specs.declared.types.Fault.{Fault}
 use Rattle.store_image.specs.Parts.{payload, scan_behind, placed, chunk_entries, part_entries, all_entries}
 use Rattle.core_log.specs.Log as log
 use Rattle.core_log.proofs.Clients.{spelled_by, placed_items, HaveSpelling, items_of, items_spelled, items_placed, items_have, drop_behind, first_is, Spells, entry_fits, entry_words}
@@ -24,7 +22,7 @@ use Rattle.recover.specs.declared.found_entries.Found.{Found}
 use Rattle.recover.specs.Regions.{Covers}
 use Rattle.recover.specs.Logs.{SpellsLog}
 use Rattle.recover.specs.Gathering.{AllSpell}
-use Rattle.recover.specs.FoundEntries.{body_at, core_at, chunk_there, place_there, entry_at, placed_at, entries_at, Stands, AreFound, found_of, ReadsAll}
+use Rattle.recover.specs.FoundEntries.{body_at, core_at, chunk_there, place_there, entry_at, placed_at, entries_at, Stands, AreFound, found_of}
 use Rattle.recover.proofs.RegionLaws.{payload_lies}
 use Rattle.recover.proofs.StandsLaws.{body_there}
 
@@ -168,10 +166,3 @@ module _ (f : Frame) (l : Geometry) (covers : Covers f l) (image : ℕ → ℕ) 
 
   pub found_stand : AreFound l image fs
   found_stand = subst (AreFound l image) (sym is) (back_stands l image (all_entries l image) (all_back f l covers image spell))
-
--- what was read of them
-pub reads_ok : (l : Geometry) (image : ℕ → ℕ) (fs : List Found) (r : Result (Vec PlacedEntry Global) Fault) (v : Vec PlacedEntry Global) → ReadsAll l image fs r → r ≡ Ok v → v.items ≡ entries_at l image fs
-reads_ok l image fs r v reads is = subst (ReadsAll l image fs) is reads
-
-pub reads_err : (l : Geometry) (image : ℕ → ℕ) (fs : List Found) (r : Result (Vec PlacedEntry Global) Fault) (f : Fault) → ReadsAll l image fs r → r ≡ Err f → ⊥
-reads_err l image fs r f reads is = subst (ReadsAll l image fs) is reads

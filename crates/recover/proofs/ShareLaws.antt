@@ -1,8 +1,7 @@
 -- The shares of the cores, key by key.
 use Rattle.std.proofs.Common.{◌≡◌, ◌≢◌, ◌⊎◌, inl, inr, ⊎_elim, ℕ, ◌<◌, ◌≤◌, ◌==◌, ◌||◌, List, [], ◌∷◌, ◌++◌, length, get_or, set, map, Bool, true, false, Option, Some, None, refl, sym, ◌∙◌, ap, subst}
-use Rattle.std.specs.Prelude.{option_map, slice_index_or, Result, Ok, Err, IfOk, Vec}
+use Rattle.std.specs.Prelude.{option_map, slice_index_or, Result, Ok, Err, Vec}
 use Rattle.std.specs.Global.{Global}
-use Rattle.fs_errors.specs.declared.Memory.{Memory}
 use Rattle.std.specs.Option.{option_to_list}
 use Rattle.std.specs.List.{list_any, AllByRecursion}
 use Rattle.std.proofs.lemmas.List.{get_or_read, get_or-set_same, get_or-set_other}
@@ -13,7 +12,6 @@ use Rattle.log_entry.specs.Spelling.{HasSpelling}
 use Rattle.chunk_map.specs.declared.layouts.Geometry.{Geometry}
 use Rattle.chunk_map.specs.Layouts.{owner}
 use Rattle.store_image.specs.declared.types.PlacedEntry.{PlacedEntry}
-use Rattle.store_image.specs.declared.types.Fault.{Fault}
 use Rattle.store_image.specs.Parts.{all_entries}
 use Rattle.store_image.specs.Soundness.{damage}
 use Rattle.store_image.specs.Winners.{winner_in}
@@ -24,6 +22,7 @@ use Rattle.core_index.specs.Index.{known_at, room_at, EntersAs}
 use Rattle.core_index.proofs.Clients.{opened_at}
 use Rattle.recover.specs.declared.found_entries.Found.{Found}
 use Rattle.recover.specs.declared.shares.Share.{Share}
+use Rattle.recover.specs.declared.types.RecoverError.{RecoverError}
 use Rattle.recover.specs.Starts.{KnownAs, named_in}
 use Rattle.recover.specs.ByName.{IsByName}
 use Rattle.recover.specs.Standing.{standee_at}
@@ -31,6 +30,7 @@ use Rattle.recover.specs.Gathering.{AllSpell}
 use Rattle.recover.specs.Shares.{PointsFor, Shares, GivesShares, IsShare, AreShares, AreSpelledShares, IsEmpty, AreEmpty, Enters, Gives}
 use Rattle.recover.proofs.ListLaws.{any_append, all_at}
 use Rattle.recover.proofs.NameLaws.{winner_same, named_same}
+use Rattle.recover.proofs.CauseLaws.{memory_cause}
 use Rattle.recover.proofs.KeyLaws.{LacksKey, HaveKey, winner_behind, winner_front, named_behind, named_front}
 
 -- the pointer of a body in a list of it
@@ -220,11 +220,6 @@ below_map l n [] all = tt
 below_map l n (f ∷ fs) all = (all.0, below_map l n fs all.1)
 
 -- what judged entries give
-shares_of : (l : Geometry) (image : ℕ → ℕ) (xs : List PlacedEntry) → damage l image ≡ None → AllSpell l image → IsByName (all_entries l image) xs → (r : Result (Vec Share Global) Fault) → GivesShares l xs r → Shares l image r
-shares_of l image xs none spell is (Ok shares) given = (none, spell, shares_same l (all_entries l image) xs is shares.items given)
-shares_of l image xs none spell is (Err fault) given = absurd given
-
-pub judged_shares : (l : Geometry) (image : ℕ → ℕ) (xs : List PlacedEntry) (T F : Type 0) → (T → damage l image ≡ None) → (T → AllSpell l image) → (T → IsByName (all_entries l image) xs) → (T → F)
-    → (r : Result (Result (Vec Share Global) Fault) Memory) → IfOk r (λ r. T → F → GivesShares l xs r) → IfOk r (λ r. T → Shares l image r)
-judged_shares l image xs T F none spell is found (Ok r) given = λ telling. shares_of l image xs (none telling) (spell telling) (is telling) r (given telling (found telling))
-judged_shares l image xs T F none spell is found (Err e) given = tt
+pub judged_shares : (l : Geometry) (image : ℕ → ℕ) (xs : List PlacedEntry) → damage l image ≡ None → AllSpell l image → IsByName (all_entries l image) xs → (r : Result (Vec Share Global) RecoverError) → GivesShares l xs r → Shares l image r
+judged_shares l image xs none spell is (Ok shares) given = (none, spell, shares_same l (all_entries l image) xs is shares.items given)
+judged_shares l image xs none spell is (Err e) given = memory_cause (damage l image) e given

@@ -1,6 +1,6 @@
 -- Where each word is certain, the logs stand in the region.
 use Rattle.std.proofs.Common.{◌≡◌, ℕ, ◌+◌, ◌<◌, ltb, true, false, cond, Some, None, refl, sym, ◌∙◌, ap, subst, arith}
-use Rattle.std.specs.Prelude.{Result, Ok, Err, IfOk, slice_index_or}
+use Rattle.std.specs.Prelude.{Result, Ok, Err, slice_index_or}
 use Rattle.std.proofs.lemmas.Bool.{ltb-true}
 use Rattle.pm_region.specs.State.{State, Frame, IsTelling, cell_now}
 use Rattle.pm_region.specs.Words.{lasts}
@@ -16,11 +16,9 @@ use Rattle.core_log.specs.Log.{LogState, IsOwn, Spelled, StandsIn, tail_of, tail
 use Rattle.core_log.specs.Walking.{LiesIn}
 use Rattle.core_log.proofs.Clients.{is_tail}
 use Rattle.log_standing.specs.ChunkCounts.{IsSpelled}
-use Rattle.store_image.specs.declared.types.Fault.{Fault}
-use Rattle.store_image.specs.Soundness.{damage}
 use Rattle.recover.specs.declared.types.CoreStart.{CoreStart}
 use Rattle.recover.specs.declared.types.Recovered.{Recovered}
-use Rattle.recover.specs.Recovering.{IsMade, IsOf, Restores, AllStand}
+use Rattle.recover.specs.Recovering.{IsMade, IsOf, AllStand}
 use Rattle.recover.specs.Regions.{Covers, IsCertain}
 use Rattle.recover.specs.Logs.{tail_behind, log_tail, HasLogsOf, IsStart}
 use Rattle.recover.specs.Gathering.{AllSpell}
@@ -99,13 +97,3 @@ all_stand s l bytes r covers made is certain c d lt =
     (λ telling. let of = is telling in subst (λ (k : Geometry). HasLogsOf k (lasts s) c (slice_index_or r.starts.items c d).log) (sym of.layout_is) (of.logs c d (subst (λ (k : Geometry). c < k.cores) of.layout_is lt)))
     (λ telling. let of = is telling in subst (λ (k : Geometry). AllSpell k (lasts s)) (sym of.layout_is) of.spells)
     certain
-
--- what was restored
-pub restored : (l : Geometry) (image : ℕ → ℕ) (o : Result Recovered Fault) (r : Recovered) → Restores l image o → o ≡ Ok r → (damage l image ≡ None) × IsOf l image r
-restored l image o r told is = subst (Restores l image) is told
-
-pub refused : (l : Geometry) (image : ℕ → ℕ) (o : Result Recovered Fault) (f : Fault) → Restores l image o → o ≡ Err f → damage l image ≡ Some f
-refused l image o f told is = subst (Restores l image) is told
-
-pub restored_made : (bytes : ℕ) (o : Result Recovered Fault) (r : Recovered) → IfOk o (IsMade bytes) → o ≡ Ok r → IsMade bytes r
-restored_made bytes o r made is = subst (λ (o : Result Recovered Fault). IfOk o (IsMade bytes)) is made

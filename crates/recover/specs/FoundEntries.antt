@@ -14,8 +14,9 @@ use Rattle.chunk_map.specs.declared.layout_sizes.TheConstants.{HEAD_WORDS, SUPER
 use Rattle.chunk_map.specs.declared.layouts.Geometry.{Geometry}
 use Rattle.chunk_map.specs.Layouts.{chunk_words, chunk_first, total_bytes}
 use Rattle.store_image.specs.declared.types.PlacedEntry.{PlacedEntry}
-use Rattle.store_image.specs.declared.types.Fault.{Fault}
 use Rattle.recover.specs.declared.found_entries.Found.{Found}
+use Rattle.recover.specs.declared.types.RecoverError.{RecoverError}
+use Rattle.recover.specs.declared.types.RecoverError.TheVariants as errors
 use Rattle.recover.specs.Clashes.{name_cmp}
 
 -- the body of the entry that begins at a word
@@ -105,7 +106,8 @@ body_named (reads.Entry e n) f = if e.key == f.key && e.version == f.version the
 body_named reads.Padding f = None
 body_named (reads.BadEntry rule) f = None
 
--- all that were found were read
-abbrev pub ReadsAll : Geometry → (ℕ → ℕ) → List Found → Result (Vec PlacedEntry Global) Fault → Type 0
+-- all that were found were read, unless memory was wanting
+abbrev pub ReadsAll : Geometry → (ℕ → ℕ) → List Found
+    → Result (Vec PlacedEntry Global) RecoverError → Type 0
 ReadsAll l image fs (Ok es) = es.items ≡ entries_at l image fs
-ReadsAll l image fs (Err fault) = ⊥
+ReadsAll l image fs (Err e) = e ≡ errors.Memory

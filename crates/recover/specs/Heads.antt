@@ -7,6 +7,8 @@ use Rattle.chunk_map.specs.Layouts.{chunk_first, head_at}
 use Rattle.store_image.specs.declared.types.Fault.{Fault}
 use Rattle.store_image.specs.Soundness.{damaged}
 use Rattle.recover.specs.declared.types.CoreStart.{CoreStart}
+use Rattle.recover.specs.declared.types.RecoverError.{RecoverError}
+use Rattle.recover.specs.declared.types.RecoverError.TheVariants as errors
 use Rattle.recover.specs.Logs.{tail_behind, HasLogsOf}
 use Rattle.recover.specs.Starts.{IsAllocatorOf, IsIndexOf, HasCopiesOf}
 
@@ -23,9 +25,10 @@ AreHeads l image c heads = (j : ℕ) (d : Head) → j < l.chunks
     → head_at l image (chunk_first l c j) ≡ Ok (slice_index_or heads j d)
 
 -- the heads of the part's chunks, or a chunk that has none
-abbrev pub HasHeads : Geometry → (ℕ → ℕ) → ℕ → Result (Vec Head Global) Fault → Type 0
+abbrev pub HasHeads : Geometry → (ℕ → ℕ) → ℕ → Result (Vec Head Global) RecoverError → Type 0
 HasHeads l image c (Ok heads) = AreHeads l image c heads.items
-HasHeads l image c (Err fault) = IsBadHead l image c fault
+HasHeads l image c (Err (errors.Fault fault)) = IsBadHead l image c fault
+HasHeads l image c (Err errors.Memory) = Unit {0}
 
 -- the tail of a chunk in a list of heads, where the list has it and it is a log
 abbrev pub tail_there : Option Head → Option ℕ
@@ -39,12 +42,12 @@ pub record IsStartOf (l : Geometry) (image : ℕ → ℕ) (c : ℕ) (start : Cor
   pub index : IsIndexOf l image c start.index
   pub standing : HasCopiesOf image start.log start.standing
 
--- there is no fault
-abbrev pub Starts : Geometry → (ℕ → ℕ) → ℕ → Result CoreStart Fault → Type 0
+-- there is no fault: memory alone may be wanting
+abbrev pub Starts : Geometry → (ℕ → ℕ) → ℕ → Result CoreStart RecoverError → Type 0
 Starts l image c (Ok start) = IsStartOf l image c start
-Starts l image c (Err fault) = ⊥
+Starts l image c (Err e) = e ≡ errors.Memory
 
-abbrev pub AllStart : Geometry → (ℕ → ℕ) → Result (Vec CoreStart Global) Fault → Type 0
+abbrev pub AllStart : Geometry → (ℕ → ℕ) → Result (Vec CoreStart Global) RecoverError → Type 0
 AllStart l image (Ok starts) = (c : ℕ) (d : CoreStart) → c < l.cores
     → IsStartOf l image c (slice_index_or starts.items c d)
-AllStart l image (Err fault) = ⊥
+AllStart l image (Err e) = e ≡ errors.Memory

@@ -1,4 +1,5 @@
 pub mod Regions
+pub mod Causes
 pub mod Winning
 pub mod Clashes
 pub mod ByName

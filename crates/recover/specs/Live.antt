@@ -5,7 +5,6 @@ use Rattle.fs_model.specs.declared.model.Pair.{Pair}
 use Rattle.chunk_map.specs.declared.layouts.Geometry.{Geometry}
 use Rattle.chunk_map.specs.Layouts.{owner}
 use Rattle.store_image.specs.declared.types.PlacedEntry.{PlacedEntry}
-use Rattle.store_image.specs.declared.types.Fault.{Fault}
 use Rattle.store_image.specs.Parts.{held}
 use Rattle.store_image.specs.Winners.{cell_by, recovered}
 use Rattle.store_image.specs.Listing.{ListsCells, with_pair}
@@ -13,6 +12,7 @@ use Rattle.store_image.specs.Soundness.{damage, first_fault}
 use Rattle.store_image.specs.Facts.{IsStore}
 use Rattle.recover.specs.declared.types.RecoverError.{RecoverError}
 use Rattle.recover.specs.declared.types.RecoverError.TheVariants as errors
+use Rattle.recover.specs.Causes.{HasCause}
 use Rattle.recover.specs.Recovering.{cells_found}
 use Rattle.recover.specs.Winning.{winners_of}
 
@@ -22,15 +22,16 @@ pairs_by l image [] = []
 pairs_by l image (x ∷ xs) = with_pair x.entry.key (cell_by
     (held l image (owner l x.entry.key)) x.entry.body) (pairs_by l image xs)
 
--- those of the winners of some entries
-abbrev pub HasLeft : Geometry → (ℕ → ℕ) → List PlacedEntry → Result (Vec Pair Global) Fault → Type 0
+-- those of the winners of some entries, unless memory was wanting
+abbrev pub HasLeft : Geometry → (ℕ → ℕ) → List PlacedEntry → Result (Vec Pair Global) RecoverError
+    → Type 0
 HasLeft l image es (Ok pairs) = pairs.items ≡ pairs_by l image (winners_of es)
-HasLeft l image es (Err fault) = ⊥
+HasLeft l image es (Err e) = e ≡ errors.Memory
 
 -- the pairs of an image that keeps rules 4 to 11, or the first that it breaks
-abbrev pub Lists : Geometry → (ℕ → ℕ) → Result (Vec Pair Global) Fault → Type 0
+abbrev pub Lists : Geometry → (ℕ → ℕ) → Result (Vec Pair Global) RecoverError → Type 0
 Lists l image (Ok pairs) = (damage l image ≡ None) × ListsCells (recovered l image) pairs.items
-Lists l image (Err fault) = damage l image ≡ Some fault
+Lists l image (Err e) = HasCause (damage l image) e
 
 -- the pairs of a sound image of so many bytes, or the first broken rule
 abbrev pub ListsLive : ℕ → (ℕ → ℕ) → Result (Vec Pair Global) RecoverError → Type 0

@@ -3,7 +3,6 @@ use Rattle.std.specs.Prelude.{◌≡◌, ℕ, ◌<◌, List, length, slice_index
 use Rattle.pm_region.specs.State.{State}
 use Rattle.chunk_map.specs.Layouts.{IsLayout, total_bytes, layout_of}
 use Rattle.chunk_map.specs.declared.layouts.Geometry.{Geometry}
-use Rattle.store_image.specs.declared.types.Fault.{Fault}
 use Rattle.store_image.specs.Winners.{recovered}
 use Rattle.store_image.specs.Soundness.{damage, first_fault}
 use Rattle.store_image.specs.Facts.{IsStore}
@@ -12,6 +11,7 @@ use Rattle.recover.specs.declared.types.CoreStart.{CoreStart}
 use Rattle.recover.specs.declared.types.Recovered.{Recovered}
 use Rattle.recover.specs.declared.types.RecoverError.{RecoverError}
 use Rattle.recover.specs.declared.types.RecoverError.TheVariants as errors
+use Rattle.recover.specs.Causes.{HasCause}
 use Rattle.recover.specs.Logs.{HasLogsOf, IsStart}
 use Rattle.recover.specs.Gathering.{AllSpell}
 use Rattle.recover.specs.Starts.{IsAllocatorOf, IsIndexOf, HasCopiesOf}
@@ -39,9 +39,9 @@ pub record IsOf (l : Geometry) (image : ℕ → ℕ) (r : Recovered) : Type 0 wh
       (slice_index_or r.starts.items c d).standing
 
 -- those of an image that keeps rules 4 to 11, or the first that it breaks
-abbrev pub Restores : Geometry → (ℕ → ℕ) → Result Recovered Fault → Type 0
+abbrev pub Restores : Geometry → (ℕ → ℕ) → Result Recovered RecoverError → Type 0
 Restores l image (Ok r) = (damage l image ≡ None) × IsOf l image r
-Restores l image (Err fault) = damage l image ≡ Some fault
+Restores l image (Err e) = HasCause (damage l image) e
 
 -- what recovery finds in a sound image of so many bytes
 pub record IsFound (bytes : ℕ) (image : ℕ → ℕ) (r : Recovered) : Type 0 where

@@ -8,7 +8,6 @@ use Rattle.log_entry.specs.declared.entry.Body.TheVariants.{Pointer}
 use Rattle.chunk_map.specs.declared.layouts.Geometry.{Geometry}
 use Rattle.chunk_map.specs.Layouts.{owner}
 use Rattle.store_image.specs.declared.types.PlacedEntry.{PlacedEntry}
-use Rattle.store_image.specs.declared.types.Fault.{Fault}
 use Rattle.store_image.specs.Parts.{all_entries}
 use Rattle.store_image.specs.Winners.{winner_in}
 use Rattle.store_image.specs.Soundness.{damage}
@@ -17,6 +16,9 @@ use Rattle.core_index.specs.Records.{standing_at, standing_of, standing_with, op
 use Rattle.core_index.specs.Index.{known_at, room_at, EntersAs}
 use Rattle.recover.specs.declared.found_entries.Found.{Found}
 use Rattle.recover.specs.declared.shares.Share.{Share}
+use Rattle.recover.specs.declared.types.RecoverError.{RecoverError}
+use Rattle.recover.specs.declared.types.RecoverError.TheVariants as errors
+use Rattle.recover.specs.Causes.{HasCause}
 use Rattle.recover.specs.Gathering.{AllSpell}
 use Rattle.recover.specs.Starts.{KnownAs, IsSpelledIndex, named_in}
 
@@ -49,16 +51,16 @@ abbrev pub AreSpelledShares : Geometry → List Share → Type 0
 AreSpelledShares l shares = (c : ℕ) (d : Share) → c < l.cores
     → IsSpelledIndex (slice_index_or shares c d).index
 
--- there is no fault
-abbrev pub GivesShares : Geometry → List PlacedEntry → Result (Vec Share Global) Fault → Type 0
+-- there is no fault: memory alone may be wanting
+abbrev pub GivesShares : Geometry → List PlacedEntry → Result (Vec Share Global) RecoverError → Type 0
 GivesShares l es (Ok shares) = AreShares l es shares.items
-GivesShares l es (Err fault) = ⊥
+GivesShares l es (Err e) = e ≡ errors.Memory
 
 -- the shares of an image that keeps rules 4 to 11, or the first that it breaks
-abbrev pub Shares : Geometry → (ℕ → ℕ) → Result (Vec Share Global) Fault → Type 0
+abbrev pub Shares : Geometry → (ℕ → ℕ) → Result (Vec Share Global) RecoverError → Type 0
 Shares l image (Ok shares) = (damage l image ≡ None) × AllSpell l image
     × AreShares l (all_entries l image) shares.items
-Shares l image (Err fault) = damage l image ≡ Some fault
+Shares l image (Err e) = HasCause (damage l image) e
 
 -- nothing is known of any key
 pub record IsEmpty (share : Share) : Type 0 where

@@ -11,9 +11,11 @@ ghost use Rattle.core_log.specs.Log.{Spelled};
 ghost use Rattle.recover.specs.Regions.{Covers};
 ghost use Rattle.recover.specs.Logs.{SpellsLog};
 ghost use Rattle.recover.specs.FoundEntries.{found_in, found_of, LieBelow};
+ghost use Rattle.recover.specs.Causes.{AnswersFault};
 ghost use Rattle.recover.specs.Gathering.{GathersPart, Gathers};
 
 use crate::found_entries::Found;
+use crate::types::RecoverError;
 use chunk_map::layout_sizes::HEAD_WORDS;
 use chunk_map::words::load_words;
 use chunk_map::{Head, Layout, read_head};
@@ -85,7 +87,7 @@ fn note_entries(first: u64, entries: &[AtPlace], found: &mut Vec<Found>) -> Resu
     Ok(())
 }
 
-/// Appends what is found of a chunk's entries, and says what it breaks of rules 4 to 7.
+/// Appends what is found of a chunk's entries, or answers what it breaks of rules 4 to 7.
 fn gather_chunk<R: Region>(
     alloc: Global,
     region: &R,
@@ -93,52 +95,49 @@ fn gather_chunk<R: Region>(
     part: u32,
     chunk: u32,
     found: &mut Vec<Found>,
-) -> Result<Option<Fault>, Memory>
+) -> Result<(), RecoverError>
     requires covers { Covers (R.state region.now).frame layout.now }
     requires part { part < layout.now.cores }
     requires chunk { chunk < layout.now.chunks }
-    ensures fault { IfOk result (λ f. IsTelling (R.state region.now)
-        → f ≡ option_map (damaged part chunk) (chunk_rule layout.now
-        (lasts (R.state region.now)) part chunk)) }
+    ensures fault { IsTelling (R.state region.now)
+        → AnswersFault (option_map (damaged part chunk) (chunk_rule layout.now
+        (lasts (R.state region.now)) part chunk)) result }
     ensures entries { IfOk result (λ _. IsTelling (R.state region.now)
         → found.new.items ≡ found.old.items ++ map (found_of layout.now) (chunk_entries layout.now
         (lasts (R.state region.now)) part chunk)) }
-    ensures batches { IfOk result (λ f. IsTelling (R.state region.now) → f ≡ None
+    ensures batches { IfOk result (λ _. IsTelling (R.state region.now)
         → SpellsLog layout.now (lasts (R.state region.now)) part chunk) }
 {
     let (rule, scanned) = read_chunk(alloc, region, layout, part, chunk)?;
+    if let Some(rule) = rule {
+        return Err(RecoverError::Fault(Fault::Damaged { part, chunk, rule }));
+    }
     note_entries(
         layout.chunk_first(part, chunk) + HEAD_WORDS,
         &scanned.entries,
         found,
     )?;
-    match rule {
-        Some(rule) => Ok(Some(Fault::Damaged { part, chunk, rule })),
-        None => Ok(None),
-    }
+    Ok(())
 }
 
-/// Appends what is found of a part's entries, up to the first chunk that breaks one of rules 4 to 7.
+/// Appends what is found of a part's entries, or answers the fault of its first chunk that breaks one of rules 4 to 7.
 fn gather_part<R: Region>(
     alloc: Global,
     region: &R,
     layout: &Layout,
     part: u32,
     found: &mut Vec<Found>,
-) -> Result<Option<Fault>, Memory>
+) -> Result<(), RecoverError>
     requires covers { Covers (R.state region.now).frame layout.now }
     requires part { part < layout.now.cores }
-    ensures { IfOk result (λ f. IsTelling (R.state region.now)
+    ensures { IsTelling (R.state region.now)
         → GathersPart layout.now (lasts (R.state region.now)) part found.old.items
-        found.new.items f) }
+        found.new.items result }
 {
     for chunk in 0..layout.chunks() {
-        let fault = gather_chunk(alloc, region, layout, part, chunk, found)?;
-        if fault.is_some() {
-            return Ok(fault);
-        }
+        gather_chunk(alloc, region, layout, part, chunk, found)?;
     }
-    Ok(None)
+    Ok(())
 }
 
 /// All entries of a region by part, chunk and place, as they are found, or the fault of its first chunk that breaks
@@ -147,16 +146,14 @@ pub fn gather<R: Region>(
     alloc: Global,
     region: &R,
     layout: &Layout,
-) -> Result<Result<Vec<Found>, Fault>, Memory>
+) -> Result<Vec<Found>, RecoverError>
     requires covers { Covers (R.state region.now).frame layout.now }
-    ensures { IfOk result (λ r. IsTelling (R.state region.now)
-        → Gathers layout.now (lasts (R.state region.now)) r) }
+    ensures { IsTelling (R.state region.now)
+        → Gathers layout.now (lasts (R.state region.now)) result }
 {
     let mut found = Vec::new(alloc);
     for part in 0..layout.cores() {
-        if let Some(fault) = gather_part(alloc, region, layout, part, &mut found)? {
-            return Ok(Err(fault));
-        }
+        gather_part(alloc, region, layout, part, &mut found)?;
     }
-    Ok(Ok(found))
+    Ok(found)
 }

@@ -1,5 +1,5 @@
 // The rules on the blocks of winners.
-ghost use Rattle.std.specs.Prelude.{◌≡◌, ℕ, ◌++◌, ◌∷◌, [], List, None, IfOk};
+ghost use Rattle.std.specs.Prelude.{◌≡◌, ℕ, ◌++◌, ◌∷◌, [], List, IfOk, OnOk};
 ghost use Rattle.std.specs.Ordering.{nat_cmp};
 ghost use Rattle.std.specs.BTreeSet.{contains};
 ghost use Rattle.pm_region.specs.State.{IsTelling};
@@ -11,7 +11,8 @@ ghost use Rattle.store_image.specs.Soundness.{damage};
 ghost use Rattle.recover.specs.Regions.{Covers};
 ghost use Rattle.recover.specs.Winning.{winners_of};
 ghost use Rattle.recover.specs.FoundEntries.{placed_at, entries_at, Stands, AreFound, AreInOrder};
-ghost use Rattle.recover.specs.Gathering.{AreAgreed, Agrees};
+ghost use Rattle.recover.specs.Causes.{AnswersFault};
+ghost use Rattle.recover.specs.Gathering.{AreAgreed, Agrees, Judges};
 ghost use Rattle.recover.specs.Judging.{rule_beside, fault_beside, winners_fault, HasPointers};
 
 use crate::clashes::clash_fault;
@@ -21,8 +22,8 @@ use crate::key_runs::key_run;
 use crate::reading::{gone_fault, read_at, read_entries};
 use crate::region_blocks::block_class;
 use crate::sorting::{agree, by_name};
+use crate::types::RecoverError;
 use chunk_map::Layout;
-use fs_errors::Memory;
 use log_entry::Body;
 use pm_region::Region;
 use std::alloc::Global;
@@ -63,27 +64,27 @@ fn pointer_rule<R: Region>(
     }
 }
 
-/// What a winner's body breaks of rules 9 to 11, at its place. One that breaks none leaves its pointer in the set.
-fn body_fault<R: Region>(
+/// Judges a winner's body by rules 9 to 11, at its place. One that breaks none leaves its pointer in the set.
+fn judge_body<R: Region>(
     region: &R,
     layout: &Layout,
     taken: &mut BTreeSet<u64>,
     winner: &Found,
     body: &Body,
-) -> Result<Option<Fault>, Memory>
+) -> Result<(), RecoverError>
     requires covers { Covers (R.state region.now).frame layout.now }
-    ensures fault { IfOk result (λ f. (before : List PlacedEntry) → HasPointers taken.old before
+    ensures fault { (before : List PlacedEntry) → HasPointers taken.old before
         → IsTelling (R.state region.now)
         → body.now ≡ (placed_at layout.now (lasts (R.state region.now)) winner.now).entry.body
-        → f ≡ fault_beside layout.now (lasts (R.state region.now)) before
-        (placed_at layout.now (lasts (R.state region.now)) winner.now)) }
-    ensures taken { IfOk result (λ f. (before : List PlacedEntry) (x : PlacedEntry)
+        → AnswersFault (fault_beside layout.now (lasts (R.state region.now)) before
+        (placed_at layout.now (lasts (R.state region.now)) winner.now)) result }
+    ensures taken { OnOk result ((before : List PlacedEntry) (x : PlacedEntry)
         → HasPointers taken.old before → body.now ≡ x.entry.body
-        → f ≡ None → HasPointers taken.new (before ++ x ∷ [])) }
+        → HasPointers taken.new (before ++ x ∷ [])) }
 {
     if let Body::Pointer(pointer) = body {
         if let Some(rule) = pointer_rule(region, layout, taken, winner.key, *pointer) {
-            return Ok(Some(Fault::Damaged {
+            return Err(RecoverError::Fault(Fault::Damaged {
                 part: core_of(layout, winner.at),
                 chunk: chunk_of(layout, winner.at),
                 rule,
@@ -91,63 +92,57 @@ fn body_fault<R: Region>(
         }
         taken.insert(*pointer)?;
     }
-    Ok(None)
+    Ok(())
 }
 
-/// What a winner breaks of rules 9 to 11. One that stands there no more is answered as damage.
-fn winner_fault<R: Region>(
+/// Judges a winner by rules 9 to 11. One that stands there no more is answered as damage.
+fn judge_winner<R: Region>(
     alloc: Global,
     region: &R,
     layout: &Layout,
     taken: &mut BTreeSet<u64>,
     winner: &Found,
-) -> Result<Option<Fault>, Memory>
+) -> Result<(), RecoverError>
     requires covers { Covers (R.state region.now).frame layout.now }
-    ensures fault { IfOk result (λ f. (before : List PlacedEntry) → HasPointers taken.old before
+    ensures fault { (before : List PlacedEntry) → HasPointers taken.old before
         → IsTelling (R.state region.now)
         → Stands layout.now (lasts (R.state region.now)) winner.now
-        → f ≡ fault_beside layout.now (lasts (R.state region.now)) before
-        (placed_at layout.now (lasts (R.state region.now)) winner.now)) }
-    ensures taken { IfOk result (λ f. (before : List PlacedEntry) → HasPointers taken.old before
+        → AnswersFault (fault_beside layout.now (lasts (R.state region.now)) before
+        (placed_at layout.now (lasts (R.state region.now)) winner.now)) result }
+    ensures taken { OnOk result ((before : List PlacedEntry) → HasPointers taken.old before
         → IsTelling (R.state region.now)
         → Stands layout.now (lasts (R.state region.now)) winner.now
-        → f ≡ None → HasPointers taken.new (before
+        → HasPointers taken.new (before
         ++ placed_at layout.now (lasts (R.state region.now)) winner.now ∷ [])) }
 {
-    match read_at(alloc, region, layout, winner)? {
-        None => Ok(Some(gone_fault(layout, winner))),
-        Some(body) => {
-            let fault = body_fault(region, layout, taken, winner, &body)?;
-            Ok(fault)
-        }
-    }
+    let Some(body) = read_at(alloc, region, layout, winner)? else {
+        return Err(gone_fault(layout, winner).into());
+    };
+    judge_body(region, layout, taken, winner, &body)
 }
 
-/// What the first winner that breaks one of rules 9 to 11 breaks, of the winners by rising key.
-fn block_fault<R: Region>(
+/// Judges the winners by rules 9 to 11, by rising key, up to the first that breaks one.
+fn judge_winners<R: Region>(
     alloc: Global,
     region: &R,
     layout: &Layout,
     sorted: &[Found],
-) -> Result<Option<Fault>, Memory>
+) -> Result<(), RecoverError>
     requires covers { Covers (R.state region.now).frame layout.now }
     requires order { AreInOrder sorted.now }
-    ensures { IfOk result (λ f. IsTelling (R.state region.now)
+    ensures { IsTelling (R.state region.now)
         → AreFound layout.now (lasts (R.state region.now)) sorted.now
-        → f ≡ winners_fault layout.now (lasts (R.state region.now)) []
-        (winners_of (entries_at layout.now (lasts (R.state region.now)) sorted.now))) }
+        → AnswersFault (winners_fault layout.now (lasts (R.state region.now)) []
+        (winners_of (entries_at layout.now (lasts (R.state region.now)) sorted.now))) result }
 {
     let mut taken = BTreeSet::new(alloc);
     let mut at = 0;
     while at < sorted.len() {
         let run = key_run(sorted, at);
-        let fault = winner_fault(alloc, region, layout, &mut taken, &sorted[run.winner])?;
-        if fault.is_some() {
-            return Ok(fault);
-        }
+        judge_winner(alloc, region, layout, &mut taken, &sorted[run.winner])?;
         at = run.end;
     }
-    Ok(None)
+    Ok(())
 }
 
 /// All entries of a region in the order of their names, where some contradict others: they are read and compared in
@@ -156,66 +151,69 @@ fn compared_entries<R: Region>(
     alloc: Global,
     region: &R,
     layout: &Layout,
-) -> Result<Result<Vec<Found>, Fault>, Memory>
+) -> Result<Vec<Found>, RecoverError>
     requires covers { Covers (R.state region.now).frame layout.now }
-    ensures told { IfOk result (λ r. IsTelling (R.state region.now)
-        → Agrees layout.now (lasts (R.state region.now)) r) }
-    ensures order { IfOk result (λ r. IfOk r (λ found. AreInOrder found.items)) }
+    ensures told { IsTelling (R.state region.now)
+        → Agrees layout.now (lasts (R.state region.now)) result }
+    ensures order { IfOk result (λ found. AreInOrder found.items) }
 {
-    let found = match gather(alloc, region, layout)? {
-        Ok(found) => found,
-        Err(fault) => return Ok(Err(fault)),
-    };
-    let entries = match read_entries(alloc, region, layout, &found)? {
-        Ok(entries) => entries,
-        Err(fault) => return Ok(Err(fault)),
-    };
+    let found = gather(alloc, region, layout)?;
+    let entries = read_entries(alloc, region, layout, &found)?;
     match clash_fault(alloc, &entries)? {
-        Some(fault) => Ok(Err(fault)),
-        None => {
-            let sorted = by_name(found);
-            Ok(Ok(sorted))
-        }
+        Some(fault) => Err(fault.into()),
+        None => Ok(by_name(found)),
     }
 }
 
 /// All entries of a region in the order of their names, as they are found, or the first broken one of rules 4 to 8.
-pub fn agreed_entries<R: Region>(
+fn agreed_entries<R: Region>(
     alloc: Global,
     region: &R,
     layout: &Layout,
-) -> Result<Result<Vec<Found>, Fault>, Memory>
+) -> Result<Vec<Found>, RecoverError>
     requires covers { Covers (R.state region.now).frame layout.now }
-    ensures told { IfOk result (λ r. IsTelling (R.state region.now)
-        → Agrees layout.now (lasts (R.state region.now)) r) }
-    ensures order { IfOk result (λ r. IfOk r (λ found. AreInOrder found.items)) }
+    ensures told { IsTelling (R.state region.now)
+        → Agrees layout.now (lasts (R.state region.now)) result }
+    ensures order { IfOk result (λ found. AreInOrder found.items) }
 {
-    let found = match gather(alloc, region, layout)? {
-        Ok(found) => found,
-        Err(fault) => return Ok(Err(fault)),
-    };
+    let found = gather(alloc, region, layout)?;
     let sorted = by_name(found);
     if agree(alloc, region, layout, &sorted)? {
-        return Ok(Ok(sorted));
+        return Ok(sorted);
     }
     compared_entries(alloc, region, layout)
 }
 
-/// The first one of rules 4 to 11 that a region breaks whose entries break none of rules 4 to 8.
-pub fn judge<R: Region>(
+/// Judges a region whose entries break none of rules 4 to 8: the first one of rules 4 to 11 that it breaks.
+fn judge<R: Region>(
     alloc: Global,
     region: &R,
     layout: &Layout,
     sorted: &[Found],
-) -> Result<Option<Fault>, Memory>
+) -> Result<(), RecoverError>
     requires covers { Covers (R.state region.now).frame layout.now }
     requires order { AreInOrder sorted.now }
-    ensures { IfOk result (λ f. IsTelling (R.state region.now)
+    ensures { IsTelling (R.state region.now)
         → AreAgreed layout.now (lasts (R.state region.now))
         (entries_at layout.now (lasts (R.state region.now)) sorted.now)
         → AreFound layout.now (lasts (R.state region.now)) sorted.now
-        → f ≡ damage layout.now (lasts (R.state region.now))) }
+        → AnswersFault (damage layout.now (lasts (R.state region.now))) result }
 {
-    let fault = block_fault(alloc, region, layout, sorted)?;
-    Ok(fault)
+    judge_winners(alloc, region, layout, sorted)
+}
+
+/// All entries of a region in the order of their names, as they are found, or the first broken one of rules 4 to 11.
+pub fn sound_entries<R: Region>(
+    alloc: Global,
+    region: &R,
+    layout: &Layout,
+) -> Result<Vec<Found>, RecoverError>
+    requires covers { Covers (R.state region.now).frame layout.now }
+    ensures told { IsTelling (R.state region.now)
+        → Judges layout.now (lasts (R.state region.now)) result }
+    ensures order { IfOk result (λ found. AreInOrder found.items) }
+{
+    let found = agreed_entries(alloc, region, layout)?;
+    judge(alloc, region, layout, &found)?;
+    Ok(found)
 }

@@ -1,5 +1,5 @@
 // The live pairs of a region, without what its cores begin with.
-ghost use Rattle.std.specs.Prelude.{◌≡◌, ◌/◌, ◌<◌, ◌++◌, ◌∷◌, [], true, IfOk};
+ghost use Rattle.std.specs.Prelude.{◌≡◌, ◌/◌, ◌<◌, ◌++◌, ◌∷◌, [], IfOk, OnOk, IsOkUnless};
 ghost use Rattle.pm_region.specs.State.{IsTelling};
 ghost use Rattle.pm_region.specs.Words.{lasts};
 ghost use Rattle.chunk_map.specs.Checked.{IsLength};
@@ -10,7 +10,7 @@ ghost use Rattle.recover.specs.FoundEntries.{placed_at, entries_at, Stands, AreF
 ghost use Rattle.recover.specs.Live.{pairs_by, HasLeft, Lists, ListsLive};
 
 use crate::found_entries::Found;
-use crate::judge_winners::{agreed_entries, judge};
+use crate::judge_winners::sound_entries;
 use crate::key_runs::key_run;
 use crate::reading::{gone_fault, read_at};
 use crate::region_blocks::held;
@@ -21,7 +21,6 @@ use fs_model::{Pair, Value};
 use log_entry::Body;
 use pm_region::Region;
 use std::alloc::Global;
-use store_image::Fault;
 use store_image::geometry::owner;
 use store_image::live_pair::push_pair;
 
@@ -48,28 +47,30 @@ fn value_left<R: Region>(
     }
 }
 
-/// Appends the pair of a winner, where it leaves a value. Whether the winner stands there still.
+/// Appends the pair of a winner, where it leaves a value. A winner that stands there no more is answered as damage.
 fn push_left<R: Region>(
     alloc: Global,
     region: &R,
     layout: &Layout,
     pairs: &mut Vec<Pair>,
     winner: &Found,
-) -> Result<bool, Memory>
+) -> Result<(), RecoverError>
     requires covers { Covers (R.state region.now).frame layout.now }
-    ensures { IfOk result (λ b. IsTelling (R.state region.now)
+    ensures appends { OnOk result (IsTelling (R.state region.now)
         → Stands layout.now (lasts (R.state region.now)) winner.now
-        → (b ≡ true) × (pairs.new.items ≡ pairs.old.items
-        ++ pairs_by layout.now (lasts (R.state region.now))
-        (placed_at layout.now (lasts (R.state region.now)) winner.now ∷ []))) }
+        → pairs.new.items ≡ pairs.old.items ++ pairs_by layout.now (lasts (R.state region.now))
+        (placed_at layout.now (lasts (R.state region.now)) winner.now ∷ [])) }
+    ensures stands { IsTelling (R.state region.now)
+        → Stands layout.now (lasts (R.state region.now)) winner.now
+        → IsOkUnless result RecoverError.Memory }
 {
     let Some(body) = read_at(alloc, region, layout, winner)? else {
-        return Ok(false);
+        return Err(gone_fault(layout, winner).into());
     };
     let part = owner(&layout.geometry(), winner.key);
     let value = value_left(alloc, region, layout, part, body)?;
     push_pair(pairs, winner.key, value)?;
-    Ok(true)
+    Ok(())
 }
 
 /// The pairs of the winners that leave a value, by rising key. A winner that stands there no more is answered as damage.
@@ -78,24 +79,22 @@ fn pairs_left<R: Region>(
     region: &R,
     layout: &Layout,
     sorted: &[Found],
-) -> Result<Result<Vec<Pair>, Fault>, Memory>
+) -> Result<Vec<Pair>, RecoverError>
     requires covers { Covers (R.state region.now).frame layout.now }
     requires order { AreInOrder sorted.now }
-    ensures { IfOk result (λ r. IsTelling (R.state region.now)
+    ensures { IsTelling (R.state region.now)
         → AreFound layout.now (lasts (R.state region.now)) sorted.now
         → HasLeft layout.now (lasts (R.state region.now))
-        (entries_at layout.now (lasts (R.state region.now)) sorted.now) r) }
+        (entries_at layout.now (lasts (R.state region.now)) sorted.now) result }
 {
     let mut pairs = Vec::new(alloc);
     let mut at = 0;
     while at < sorted.len() {
         let run = key_run(sorted, at);
-        if !push_left(alloc, region, layout, &mut pairs, &sorted[run.winner])? {
-            return Ok(Err(gone_fault(layout, &sorted[run.winner])));
-        }
+        push_left(alloc, region, layout, &mut pairs, &sorted[run.winner])?;
         at = run.end;
     }
-    Ok(Ok(pairs))
+    Ok(pairs)
 }
 
 /// The live pairs of a region of this layout, or the first broken one of rules 4 to 11.
@@ -103,22 +102,13 @@ fn judged_pairs<R: Region>(
     alloc: Global,
     region: &R,
     layout: &Layout,
-) -> Result<Result<Vec<Pair>, Fault>, Memory>
+) -> Result<Vec<Pair>, RecoverError>
     requires covers { Covers (R.state region.now).frame layout.now }
-    ensures { IfOk result (λ r. IsTelling (R.state region.now)
-        → Lists layout.now (lasts (R.state region.now)) r) }
+    ensures { IsTelling (R.state region.now)
+        → Lists layout.now (lasts (R.state region.now)) result }
 {
-    let found = match agreed_entries(alloc, region, layout)? {
-        Ok(found) => found,
-        Err(fault) => return Ok(Err(fault)),
-    };
-    match judge(alloc, region, layout, &found)? {
-        Some(fault) => Ok(Err(fault)),
-        None => {
-            let pairs = pairs_left(alloc, region, layout, &found)?;
-            Ok(pairs)
-        }
-    }
+    let found = sound_entries(alloc, region, layout)?;
+    pairs_left(alloc, region, layout, &found)
 }
 
 /// The live pairs of a region of so many bytes by rising key, or the first broken rule: what `recover` and then
@@ -132,13 +122,6 @@ pub fn live_pairs<R: Region>(
     requires words { IsLength bytes → (R.state region.now).frame.words ≡ bytes / 8 }
     ensures { IsTelling (R.state region.now) → ListsLive bytes (lasts (R.state region.now)) result }
 {
-    let layout = match read_superblock(region, bytes) {
-        Ok(layout) => layout,
-        Err(bad) => return Err(RecoverError::Fault(Fault::NotARegion { rule: bad.rule })),
-    };
-    match judged_pairs(alloc, region, &layout) {
-        Ok(Ok(pairs)) => Ok(pairs),
-        Ok(Err(fault)) => Err(RecoverError::Fault(fault)),
-        Err(Memory) => Err(RecoverError::Memory),
-    }
+    let layout = read_superblock(region, bytes)?;
+    judged_pairs(alloc, region, &layout)
 }

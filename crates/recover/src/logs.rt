@@ -10,6 +10,7 @@ ghost use Rattle.recover.specs.Regions.{Covers};
 ghost use Rattle.recover.specs.Logs.{tail_behind, with_log};
 ghost use Rattle.recover.specs.Heads.{HasHeads, tail_there};
 
+use crate::types::RecoverError;
 use chunk_map::{Head, Layout, read_head};
 use core_log::LogChunk;
 use fs_errors::Memory;
@@ -23,21 +24,20 @@ pub fn heads<R: Region>(
     region: &R,
     layout: &Layout,
     part: u32,
-) -> Result<Result<Vec<Head>, Fault>, Memory>
+) -> Result<Vec<Head>, RecoverError>
     requires covers { Covers (R.state region.now).frame layout.now }
     requires part { part < layout.now.cores }
-    ensures count { IfOk result (λ r. IfOk r (λ heads. length heads.items ≡ layout.now.chunks)) }
-    ensures fits { IfOk result (λ r. IfOk r (λ heads. AllByRecursion
-        (FitsHead layout.now) heads.items)) }
-    ensures told { IfOk result (λ r. IsTelling (R.state region.now)
-        → HasHeads layout.now (lasts (R.state region.now)) part r) }
+    ensures count { IfOk result (λ heads. length heads.items ≡ layout.now.chunks) }
+    ensures fits { IfOk result (λ heads. AllByRecursion (FitsHead layout.now) heads.items) }
+    ensures told { IsTelling (R.state region.now)
+        → HasHeads layout.now (lasts (R.state region.now)) part result }
 {
     let mut heads = Vec::with_capacity(alloc, layout.chunks() as usize)?;
     for chunk in 0..layout.chunks() {
         match read_head(region, layout, layout.chunk_first(part, chunk)) {
             Ok(head) => heads.push(head)?,
             Err(bad) => {
-                return Ok(Err(Fault::Damaged {
+                return Err(RecoverError::Fault(Fault::Damaged {
                     part,
                     chunk,
                     rule: bad.rule,
@@ -45,7 +45,7 @@ pub fn heads<R: Region>(
             }
         }
     }
-    Ok(Ok(heads))
+    Ok(heads)
 }
 
 /// The tail of a log.

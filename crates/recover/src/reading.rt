@@ -11,6 +11,7 @@ ghost use Rattle.recover.specs.Winning.{AreSpelled};
 ghost use Rattle.recover.specs.FoundEntries.{body_at, core_at, chunk_there, placed_at, Stands, AreFound, name_found, HasWords, body_named, ReadsAll};
 
 use crate::found_entries::{Found, chunk_of, core_of, place_of};
+use crate::types::RecoverError;
 use chunk_map::Layout;
 use chunk_map::words::load_words;
 use fs_errors::Memory;
@@ -131,21 +132,20 @@ pub fn read_entries<R: Region>(
     region: &R,
     layout: &Layout,
     found: &[Found],
-) -> Result<Result<Vec<PlacedEntry>, Fault>, Memory>
+) -> Result<Vec<PlacedEntry>, RecoverError>
     requires covers { Covers (R.state region.now).frame layout.now }
-    ensures told { IfOk result (λ r. IsTelling (R.state region.now)
+    ensures told { IsTelling (R.state region.now)
         → AreFound layout.now (lasts (R.state region.now)) found.now
-        → ReadsAll layout.now (lasts (R.state region.now)) found.now r) }
-    ensures names { IfOk result (λ r. IfOk r (λ es. map name_of es.items
-        ≡ map name_found found.now)) }
-    ensures spelled { IfOk result (λ r. IfOk r (λ es. AreSpelled es.items)) }
+        → ReadsAll layout.now (lasts (R.state region.now)) found.now result }
+    ensures names { IfOk result (λ es. map name_of es.items ≡ map name_found found.now) }
+    ensures spelled { IfOk result (λ es. AreSpelled es.items) }
 {
     let mut entries = Vec::with_capacity(alloc, found.len())?;
     for x in found {
         match read_placed(alloc, region, layout, x)? {
             Some(entry) => entries.push(entry)?,
-            None => return Ok(Err(gone_fault(layout, x))),
+            None => return Err(gone_fault(layout, x).into()),
         }
     }
-    Ok(Ok(entries))
+    Ok(entries)
 }

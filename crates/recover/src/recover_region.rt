@@ -7,10 +7,11 @@ ghost use Rattle.chunk_map.specs.Checked.{IsLength};
 ghost use Rattle.store_image.specs.Soundness.{damage, first_fault};
 ghost use Rattle.store_image.specs.Facts.{KeepsRules, IsStore};
 ghost use Rattle.recover.specs.Regions.{Covers, IsCertain};
+ghost use Rattle.recover.specs.Causes.{AnswersFault};
 ghost use Rattle.recover.specs.Shares.{AreSpelledShares, Shares};
 ghost use Rattle.recover.specs.Recovering.{IsMade, Restores, Recovers, AllStand};
 
-use crate::judge_winners::{agreed_entries, judge};
+use crate::judge_winners::sound_entries;
 use crate::shares::{Share, shares};
 use crate::starts::starts;
 use crate::types::{RecoverError, Recovered};
@@ -20,23 +21,16 @@ use pm_region::Region;
 use std::alloc::Global;
 use store_image::Fault;
 
-/// The first of rules 4 to 11 that a region of this layout breaks.
-pub fn damage<R: Region>(
-    alloc: Global,
-    region: &R,
-    layout: &Layout,
-) -> Result<Option<Fault>, Memory>
-    requires covers { Covers (R.state region.now).frame layout.now }
-    ensures { IfOk result (λ f. IsTelling (R.state region.now)
-        → f ≡ damage layout.now (lasts (R.state region.now))) }
+/// Judges a region of so many bytes by all rules of soundness.
+fn judged<R: Region>(alloc: Global, region: &R, bytes: u64) -> Result<(), RecoverError>
+    requires first { (R.state region.now).frame.first ≡ 0 }
+    requires words { IsLength bytes → (R.state region.now).frame.words ≡ bytes / 8 }
+    ensures { IsTelling (R.state region.now)
+        → AnswersFault (first_fault bytes (lasts (R.state region.now))) result }
 {
-    match agreed_entries(alloc, region, layout)? {
-        Err(fault) => Ok(Some(fault)),
-        Ok(found) => {
-            let fault = judge(alloc, region, layout, &found)?;
-            Ok(fault)
-        }
-    }
+    let layout = read_superblock(region, bytes)?;
+    sound_entries(alloc, region, &layout)?;
+    Ok(())
 }
 
 /// The first rule of soundness that a region of so many bytes breaks, or none where it is sound.
@@ -55,12 +49,10 @@ pub fn first_fault<R: Region>(
     ensures sound { IfOk result (λ f. IsTelling (R.state region.now) → (f ≡ None)
         ↔ IsStore bytes (lasts (R.state region.now))) }
 {
-    match read_superblock(region, bytes) {
-        Err(bad) => Ok(Some(Fault::NotARegion { rule: bad.rule })),
-        Ok(layout) => {
-            let fault = damage(alloc, region, &layout)?;
-            Ok(fault)
-        }
+    match judged(alloc, region, bytes) {
+        Ok(()) => Ok(None),
+        Err(RecoverError::Fault(fault)) => Ok(Some(fault)),
+        Err(RecoverError::Memory) => Err(Memory),
     }
 }
 
@@ -69,21 +61,14 @@ fn judged_shares<R: Region>(
     alloc: Global,
     region: &R,
     layout: &Layout,
-) -> Result<Result<Vec<Share>, Fault>, Memory>
+) -> Result<Vec<Share>, RecoverError>
     requires covers { Covers (R.state region.now).frame layout.now }
-    ensures count { IfOk result (λ r. IfOk r (λ shares. length shares.items ≡ layout.now.cores)) }
-    ensures spelled { IfOk result (λ r. IfOk r (λ shares. AreSpelledShares layout.now
-        shares.items)) }
-    ensures told { IfOk result (λ r. IsTelling (R.state region.now)
-        → Shares layout.now (lasts (R.state region.now)) r) }
+    ensures count { IfOk result (λ shares. length shares.items ≡ layout.now.cores) }
+    ensures spelled { IfOk result (λ shares. AreSpelledShares layout.now shares.items) }
+    ensures told { IsTelling (R.state region.now)
+        → Shares layout.now (lasts (R.state region.now)) result }
 {
-    let found = match agreed_entries(alloc, region, layout)? {
-        Ok(found) => found,
-        Err(fault) => return Ok(Err(fault)),
-    };
-    if let Some(fault) = judge(alloc, region, layout, &found)? {
-        return Ok(Err(fault));
-    }
+    let found = sound_entries(alloc, region, layout)?;
     shares(alloc, region, layout, &found)
 }
 
@@ -92,22 +77,17 @@ fn recovered<R: Region>(
     alloc: Global,
     region: &R,
     layout: Layout,
-) -> Result<Result<Recovered, Fault>, Memory>
+) -> Result<Recovered, RecoverError>
     requires covers { Covers (R.state region.now).frame layout }
-    ensures made { IfOk result (λ r. IfOk r (IsMade (total_bytes layout))) }
-    ensures told { IfOk result (λ r. IsTelling (R.state region.now)
+    ensures made { IfOk result (IsMade (total_bytes layout)) }
+    ensures told { IsTelling (R.state region.now)
         → (damage layout (lasts (R.state region.now)) ≡ None
         → KeepsRules layout (lasts (R.state region.now)))
-        → Restores layout (lasts (R.state region.now)) r) }
+        → Restores layout (lasts (R.state region.now)) result }
 {
-    let shares = match judged_shares(alloc, region, &layout)? {
-        Ok(shares) => shares,
-        Err(fault) => return Ok(Err(fault)),
-    };
-    match starts(alloc, region, &layout, shares)? {
-        Ok(starts) => Ok(Ok(Recovered { layout, starts })),
-        Err(fault) => Ok(Err(fault)),
-    }
+    let shares = judged_shares(alloc, region, &layout)?;
+    let starts = starts(alloc, region, &layout, shares)?;
+    Ok(Recovered { layout, starts })
 }
 
 /// What the cores of a region of so many bytes begin with, or the first broken rule: their logs, their
@@ -122,13 +102,6 @@ pub fn recover<R: Region>(alloc: Global, region: &R, bytes: u64) -> Result<Recov
     // Where each word is certain, each log stands in the region.
     ensures stands { IsCertain (R.state region.now) → IfOk result (AllStand (R.state region.now)) }
 {
-    let layout = match read_superblock(region, bytes) {
-        Ok(layout) => layout,
-        Err(bad) => return Err(RecoverError::Fault(Fault::NotARegion { rule: bad.rule })),
-    };
-    match recovered(alloc, region, layout) {
-        Ok(Ok(recovered)) => Ok(recovered),
-        Ok(Err(fault)) => Err(RecoverError::Fault(fault)),
-        Err(Memory) => Err(RecoverError::Memory),
-    }
+    let layout = read_superblock(region, bytes)?;
+    recovered(alloc, region, layout)
 }

@@ -1,5 +1,5 @@
 // What each core gets of the entries of all logs.
-ghost use Rattle.std.specs.Prelude.{◌≡◌, ℕ, ◌<◌, ◌≤◌, ◌++◌, None, length, map, slice_index_or, IfOk, OnOk};
+ghost use Rattle.std.specs.Prelude.{◌≡◌, ℕ, ◌<◌, ◌≤◌, ◌++◌, length, map, slice_index_or, IfOk, OnOk, IsOkUnless};
 ghost use Rattle.std.specs.Option.{option_to_list};
 ghost use Rattle.std.specs.List.{AllByRecursion};
 ghost use Rattle.pm_region.specs.State.{IsTelling};
@@ -17,13 +17,13 @@ use crate::found_entries::Found;
 use crate::key_runs::key_run;
 use crate::key_standees::list_standees;
 use crate::reading::{gone_fault, read_at};
+use crate::types::RecoverError;
 use chunk_map::Layout;
 use core_index::{CoreIndex, Standee};
 use fs_errors::Memory;
 use log_entry::Body;
 use pm_region::Region;
 use std::alloc::Global;
-use store_image::Fault;
 use store_image::geometry::owner;
 
 /// What one core gets.
@@ -87,27 +87,28 @@ fn give_key<R: Region>(
     winner: &Found,
     run: &[Found],
     standing: &mut Vec<Standee>,
-) -> Result<Option<Fault>, Memory>
+) -> Result<(), RecoverError>
     requires covers { Covers (R.state region.now).frame layout.now }
     requires count { length shares.old.items ≡ layout.now.cores }
     requires below { AllByRecursion (λ f. f.version ≤ winner.now.version) run.now }
     ensures count { length shares.new.items ≡ layout.now.cores }
-    ensures spelled { IfOk result (λ f. f ≡ None → AreSpelledShares layout.now shares.old.items
+    ensures spelled { OnOk result (AreSpelledShares layout.now shares.old.items
         → AreSpelledShares layout.now shares.new.items) }
-    ensures told { IfOk result (λ f. IsTelling (R.state region.now)
-        → Stands layout.now (lasts (R.state region.now)) winner.now → (f ≡ None)
-        × Gives layout.now shares.old.items shares.new.items winner.now
+    ensures gives { OnOk result (IsTelling (R.state region.now)
+        → Stands layout.now (lasts (R.state region.now)) winner.now
+        → Gives layout.now shares.old.items shares.new.items winner.now
         (body_at (lasts (R.state region.now)) winner.now.at)
         (map (standee_at layout.now) run.now)) }
+    ensures stands { IsTelling (R.state region.now)
+        → Stands layout.now (lasts (R.state region.now)) winner.now
+        → IsOkUnless result RecoverError.Memory }
 {
-    match read_at(alloc, region, layout, winner)? {
-        None => Ok(Some(gone_fault(layout, winner))),
-        Some(body) => {
-            list_standees(layout, run, standing)?;
-            give(alloc, layout, shares, winner, &body, standing)?;
-            Ok(None)
-        }
-    }
+    let Some(body) = read_at(alloc, region, layout, winner)? else {
+        return Err(gone_fault(layout, winner).into());
+    };
+    list_standees(layout, run, standing)?;
+    give(alloc, layout, shares, winner, &body, standing)?;
+    Ok(())
 }
 
 /// A share for each core, with nothing in it.
@@ -131,16 +132,15 @@ pub fn shares<R: Region>(
     region: &R,
     layout: &Layout,
     sorted: &[Found],
-) -> Result<Result<Vec<Share>, Fault>, Memory>
+) -> Result<Vec<Share>, RecoverError>
     requires covers { Covers (R.state region.now).frame layout.now }
     requires order { AreInOrder sorted.now }
-    ensures count { IfOk result (λ r. IfOk r (λ shares. length shares.items ≡ layout.now.cores)) }
-    ensures spelled { IfOk result (λ r. IfOk r (λ shares. AreSpelledShares layout.now
-        shares.items)) }
-    ensures told { IfOk result (λ r. IsTelling (R.state region.now)
+    ensures count { IfOk result (λ shares. length shares.items ≡ layout.now.cores) }
+    ensures spelled { IfOk result (λ shares. AreSpelledShares layout.now shares.items) }
+    ensures told { IsTelling (R.state region.now)
         → AreFound layout.now (lasts (R.state region.now)) sorted.now
         → GivesShares layout.now (entries_at layout.now (lasts (R.state region.now)) sorted.now)
-        r) }
+        result }
 {
     let mut shares = no_shares(alloc, layout)?;
     let mut standing = Vec::new(alloc);
@@ -149,7 +149,7 @@ pub fn shares<R: Region>(
         let run = key_run(sorted, at);
         let winner = &sorted[run.winner];
         let entries = &sorted[at..run.end];
-        let fault = give_key(
+        give_key(
             alloc,
             region,
             layout,
@@ -158,10 +158,7 @@ pub fn shares<R: Region>(
             entries,
             &mut standing,
         )?;
-        if let Some(fault) = fault {
-            return Ok(Err(fault));
-        }
         at = run.end;
     }
-    Ok(Ok(shares))
+    Ok(shares)
 }

@@ -19,7 +19,7 @@ ghost use Rattle.recover.specs.Heads.{Starts, AllStart};
 
 use crate::logs::{heads, log_chunks};
 use crate::shares::Share;
-use crate::types::CoreStart;
+use crate::types::{CoreStart, RecoverError};
 use chunk_map::Layout;
 use core_index::CoreIndex;
 use core_log::CoreLog;
@@ -29,7 +29,6 @@ use log_entry::EntryName;
 use log_standing::{Standing, standing_told};
 use pm_region::Region;
 use std::alloc::Global;
-use store_image::Fault;
 
 /// What stands in the log of a core with this index: the names that are dead by it were told dead.
 fn own_standing<R: Region>(
@@ -58,33 +57,30 @@ fn start<R: Region>(
     layout: &Layout,
     core: u32,
     share: Share,
-) -> Result<Result<CoreStart, Fault>, Memory>
+) -> Result<CoreStart, RecoverError>
     requires covers { Covers (R.state region.now).frame layout.now }
     requires core { core < layout.now.cores }
     requires index { IsSpelledIndex share.index }
     requires spelled { IsTelling (R.state region.now)
         → AllSpell layout.now (lasts (R.state region.now)) }
-    ensures made { IfOk result (λ r. IfOk r (IsStart layout.now core)) }
-    ensures told { IfOk result (λ r. IsTelling (R.state region.now)
+    ensures made { IfOk result (IsStart layout.now core) }
+    ensures told { IsTelling (R.state region.now)
         → KeepsRules layout.now (lasts (R.state region.now))
         → IsShare layout.now (all_entries layout.now (lasts (R.state region.now))) core share
-        → Starts layout.now (lasts (R.state region.now)) core r) }
+        → Starts layout.now (lasts (R.state region.now)) core result }
 {
-    let heads = match heads(alloc, region, layout, core)? {
-        Ok(heads) => heads,
-        Err(fault) => return Ok(Err(fault)),
-    };
+    let heads = heads(alloc, region, layout, core)?;
     let chunks = log_chunks(alloc, layout, &heads)?;
     let log = CoreLog::open(alloc, *layout, core, chunks)?;
     let allocator = Allocator::rebuild(alloc, *layout, core, &heads, &share.pointers)?;
     let standing = own_standing(alloc, region, &log, &share.index)?;
-    Ok(Ok(CoreStart {
+    Ok(CoreStart {
         core,
         log,
         allocator,
         index: share.index,
         standing,
-    }))
+    })
 }
 
 /// The starts of all cores, in order.
@@ -93,28 +89,26 @@ pub fn starts<R: Region>(
     region: &R,
     layout: &Layout,
     shares: Vec<Share>,
-) -> Result<Result<Vec<CoreStart>, Fault>, Memory>
+) -> Result<Vec<CoreStart>, RecoverError>
     requires covers { Covers (R.state region.now).frame layout.now }
     requires count { length shares.items ≡ layout.now.cores }
     requires shares { AreSpelledShares layout.now shares.items }
     requires spelled { IsTelling (R.state region.now)
         → AllSpell layout.now (lasts (R.state region.now)) }
-    ensures count { IfOk result (λ r. IfOk r (λ starts. length starts.items ≡ layout.now.cores)) }
-    ensures made { IfOk result (λ r. IfOk r (λ starts. (c : ℕ) (d : CoreStart)
-        → c < layout.now.cores → IsStart layout.now c (slice_index_or starts.items c d))) }
-    ensures told { IfOk result (λ r. IsTelling (R.state region.now)
+    ensures count { IfOk result (λ starts. length starts.items ≡ layout.now.cores) }
+    ensures made { IfOk result (λ starts. (c : ℕ) (d : CoreStart)
+        → c < layout.now.cores → IsStart layout.now c (slice_index_or starts.items c d)) }
+    ensures told { IsTelling (R.state region.now)
         → KeepsRules layout.now (lasts (R.state region.now))
         → AreShares layout.now (all_entries layout.now (lasts (R.state region.now))) shares.items
-        → AllStart layout.now (lasts (R.state region.now)) r) }
+        → AllStart layout.now (lasts (R.state region.now)) result }
 {
     let mut starts = Vec::with_capacity(alloc, shares.len())?;
     let mut core = 0;
     for share in shares {
-        match start(alloc, region, layout, core, share)? {
-            Ok(start) => starts.push(start)?,
-            Err(fault) => return Ok(Err(fault)),
-        }
+        let start = start(alloc, region, layout, core, share)?;
+        starts.push(start)?;
         core += 1;
     }
-    Ok(Ok(starts))
+    Ok(starts)
 }

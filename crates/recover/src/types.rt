@@ -1,9 +1,15 @@
 // What recovery gives.
-use chunk_map::Layout;
+ghost use Rattle.std.specs.Prelude.{◌≡◌};
+ghost use Rattle.store_image.specs.declared.types.Fault.TheVariants as faults;
+ghost use Rattle.recover.specs.declared.types.RecoverError.TheVariants as errors;
+
+use chunk_map::{Layout, NotARegion};
 use core_index::CoreIndex;
 use core_log::CoreLog;
+use fs_errors::Memory;
 use lazy_alloc::Allocator;
 use log_standing::Standing;
+use std::alloc::{AllocError, AllocFailed};
 use store_image::Fault;
 use thiserror::Error;
 
@@ -38,4 +44,44 @@ pub enum RecoverError {
     /// No memory.
     #[error("out of memory")]
     Memory,
+}
+
+impl From<Fault> for RecoverError {
+    ghost from_gives = { λ fault e. e ≡ errors.Fault fault };
+
+    fn from(fault: Fault) -> RecoverError {
+        RecoverError::Fault(fault)
+    }
+}
+
+impl From<NotARegion> for RecoverError {
+    ghost from_gives = { λ bad e. e ≡ errors.Fault (faults.NotARegion bad.rule) };
+
+    fn from(bad: NotARegion) -> RecoverError {
+        RecoverError::Fault(Fault::NotARegion { rule: bad.rule })
+    }
+}
+
+impl From<Memory> for RecoverError {
+    ghost from_gives = { λ _ e. e ≡ errors.Memory };
+
+    fn from(_: Memory) -> RecoverError {
+        RecoverError::Memory
+    }
+}
+
+impl From<AllocError> for RecoverError {
+    ghost from_gives = { λ _ e. e ≡ errors.Memory };
+
+    fn from(_: AllocError) -> RecoverError {
+        RecoverError::Memory
+    }
+}
+
+impl<T: Drop> From<AllocFailed<T>> for RecoverError {
+    ghost from_gives = { λ _ e. e ≡ errors.Memory };
+
+    fn from(_: AllocFailed<T>) -> RecoverError {
+        RecoverError::Memory
+    }
 }

@@ -17,16 +17,6 @@ note_entries-requires g c =
     lie_lower (payload_words l) (2 ^ 32 - (c.chunk_first.result + 32)) (shown c.deref.result.now) (omega (arith, small, c.chunk_first.ensures))
     (subst (λ es. LieBelow (payload_words l) (shown es)) (sym c.deref.ensures.value) c.in_ok-rule.ensures.places)
 
-pub returns-in-Some-clause-entries : goal.returns-in-Some-clause-entries
-returns-in-Some-clause-entries g c = λ telling.
-    let image = lasts (g.R.Region.state c.args.region.now) in
-    let l = c.args.layout.now in
-    let first : c.chunk_first.result + 32 ≡ chunk_first l c.args.part c.args.chunk + 32 = ap (λ n. n + 32) c.chunk_first.ensures in
-    c.in_ok-note_entries.ensures
-    ∙ ap (λ es. c.args.found.now.items ++ map (found_in (c.chunk_first.result + 32)) (shown es)) c.deref.ensures.value
-    ∙ ap (λ xs. c.args.found.now.items ++ map (found_in (c.chunk_first.result + 32)) xs) (c.in_ok-rule.ensures.told telling).1.0
-    ∙ ap (λ fs. c.args.found.now.items ++ fs) (placed_found l c.args.part c.args.chunk (c.chunk_first.result + 32) (scan_at l image (chunk_first l c.args.part c.args.chunk)).entries first)
-
 pub returns-clause-entries : goal.returns-clause-entries
 returns-clause-entries g c = λ telling.
     let image = lasts (g.R.Region.state c.args.region.now) in

@@ -1,50 +1,55 @@
 use Rattle.std.proofs.Common.{◌≡◌, sym, ◌∙◌, ap, subst}
 use Rattle.pm_region.specs.Words.{lasts}
-use Rattle.store_image.specs.Soundness.{clash_fault}
 use Rattle.store_image.specs.Parts.{all_entries}
+use Rattle.store_image.specs.Soundness.{clash_fault, damage}
+use Rattle.recover.specs.Causes.{HasCause}
 use Rattle.recover.specs.FoundEntries.{AreFound, entries_at}
+use Rattle.recover.specs.Gathering.{Agrees}
+use Rattle.recover.proofs.CauseLaws.{handed_on, memory_cause}
 use Rattle.recover.proofs.WordOrderLaws.{words_rise}
-use Rattle.recover.proofs.ReadBackLaws.{found_back, found_stand, reads_ok, reads_err}
-use Rattle.recover.proofs.JudgeLaws.{by_chunks, gathered, by_clash, none_clash}
+use Rattle.recover.proofs.ReadBackLaws.{found_back, found_stand}
+use Rattle.recover.proofs.JudgeLaws.{by_chunks, by_clash, none_clash}
 use Rattle.recover.proofs.judge_winners.compared_entries.Goals as goal
 
-pub returns-in-Err-clause-told : goal.returns-in-Err-clause-told
-returns-in-Err-clause-told g c = λ telling.
+pub returns-in_err-found-clause-told : goal.returns-in_err-found-clause-told
+returns-in_err-found-clause-told g c = λ telling.
     let image = lasts (g.R.Region.state c.args.region.now) in
-    by_chunks c.args.layout.now image c.in_ok-found.field-0 c.in-Err.fault (c.in_ok-found.ensures telling) c.in-Err.is
+    let l = c.args.layout.now in
+    let e = c.in_err-found.field-0.0 in
+    handed_on (Agrees l image) c.from_residual.result e c.from_residual.ensures.1 (by_chunks l image e (c.in_err-found.ensures telling))
 
-pub returns-in-Err-2-clause-told : goal.returns-in-Err-2-clause-told
-returns-in-Err-2-clause-told g c = λ telling.
+pub returns-in_err-entries-clause-told : goal.returns-in_err-entries-clause-told
+returns-in_err-entries-clause-told g c = λ telling.
     let s = g.R.Region.state c.args.region.now in
     let image = lasts s in
     let l = c.args.layout.now in
-    let all = gathered l image c.in_ok-found.field-0 c.in-Ok.found (c.in_ok-found.ensures telling) c.in-Ok.is in
-    let stand = subst (AreFound l image) (sym c.deref.ensures.value) (found_stand s.frame l c.requires.covers image all.2 c.in-Ok.found.items all.1) in
-    absurd (reads_err l image c.deref.result.now c.in_ok-entries.field-0 c.in-Err-2.fault (c.in_ok-entries.ensures.told telling stand) c.in-Err-2.is)
+    let e = c.in_err-entries.field-0.0 in
+    let all = c.in_ok-found.ensures telling in
+    let stand = subst (AreFound l image) (sym c.deref.ensures.value) (found_stand s.frame l c.requires.covers image all.2 c.in_ok-found.found.items all.1) in
+    handed_on (Agrees l image) c.from_residual-in_err-entries.result e c.from_residual-in_err-entries.ensures.1 (memory_cause (damage l image) e (c.in_err-entries.ensures.told telling stand))
 
 pub returns-in-Some-clause-told : goal.returns-in-Some-clause-told
 returns-in-Some-clause-told g c = λ telling.
     let s = g.R.Region.state c.args.region.now in
     let image = lasts s in
     let l = c.args.layout.now in
-    let all = gathered l image c.in_ok-found.field-0 c.in-Ok.found (c.in_ok-found.ensures telling) c.in-Ok.is in
-    let fs = c.in-Ok.found.items in
+    let all = c.in_ok-found.ensures telling in
+    let fs = c.in_ok-found.found.items in
     let stand = subst (AreFound l image) (sym c.deref.ensures.value) (found_stand s.frame l c.requires.covers image all.2 fs all.1) in
-    let read : c.in-Ok-2.entries.items ≡ all_entries l image =
-    reads_ok l image c.deref.result.now c.in_ok-entries.field-0 c.in-Ok-2.entries (c.in_ok-entries.ensures.told telling stand) c.in-Ok-2.is
-    ∙ ap (entries_at l image) c.deref.ensures.value ∙ found_back s.frame l c.requires.covers image all.2 fs all.1 in
-    by_clash l image c.in-Ok-2.entries.items read all.0 c.in-Some.fault (sym c.in-Some.is ∙ c.in_ok-fault.ensures ∙ ap clash_fault c.deref-2.ensures.value)
+    let read : c.in_ok-entries.entries.items ≡ all_entries l image =
+    c.in_ok-entries.ensures.told telling stand ∙ ap (entries_at l image) c.deref.ensures.value ∙ found_back s.frame l c.requires.covers image all.2 fs all.1 in
+    subst (HasCause (damage l image)) (sym c.into.ensures)
+    (by_clash l image c.in_ok-entries.entries.items read all.0 c.in-Some.fault (sym c.in-Some.is ∙ c.in_ok-fault.ensures ∙ ap clash_fault c.deref-2.ensures.value))
 
 pub returns-in-None-clause-told : goal.returns-in-None-clause-told
 returns-in-None-clause-told g c = λ telling.
     let s = g.R.Region.state c.args.region.now in
     let image = lasts s in
     let l = c.args.layout.now in
-    let all = gathered l image c.in_ok-found.field-0 c.in-Ok.found (c.in_ok-found.ensures telling) c.in-Ok.is in
-    let fs = c.in-Ok.found.items in
+    let all = c.in_ok-found.ensures telling in
+    let fs = c.in_ok-found.found.items in
     let stand = subst (AreFound l image) (sym c.deref.ensures.value) (found_stand s.frame l c.requires.covers image all.2 fs all.1) in
-    let read : c.in-Ok-2.entries.items ≡ all_entries l image =
-    reads_ok l image c.deref.result.now c.in_ok-entries.field-0 c.in-Ok-2.entries (c.in_ok-entries.ensures.told telling stand) c.in-Ok-2.is
-    ∙ ap (entries_at l image) c.deref.ensures.value ∙ found_back s.frame l c.requires.covers image all.2 fs all.1 in
-    none_clash s.frame l c.requires.covers image fs c.by_name-sorted.result.items all.1 all.0 all.2 (c.by_name-sorted.ensures.names (words_rise l c.requires.covers.layout image all.2 fs all.1))
+    let read : c.in_ok-entries.entries.items ≡ all_entries l image =
+    c.in_ok-entries.ensures.told telling stand ∙ ap (entries_at l image) c.deref.ensures.value ∙ found_back s.frame l c.requires.covers image all.2 fs all.1 in
+    none_clash s.frame l c.requires.covers image fs c.by_name.result.items all.1 all.0 all.2 (c.by_name.ensures.names (words_rise l c.requires.covers.layout image all.2 fs all.1))
     (sym (ap clash_fault read) ∙ sym (sym c.in-None.is ∙ c.in_ok-fault.ensures ∙ ap clash_fault c.deref-2.ensures.value))

@@ -2,7 +2,8 @@ use Rattle.std.proofs.Common.{take, get_or, ◌∙◌, ap, arith}
 use Rattle.std.proofs.lemmas.List.{take_all}
 use Rattle.pm_region.specs.Words.{lasts}
 use Rattle.recover.specs.Winning.{winners_of}
-use Rattle.recover.specs.Live.{pairs_by}
+use Rattle.recover.specs.Live.{pairs_by, HasLeft}
+use Rattle.recover.proofs.CauseLaws.{handed_on}
 use Rattle.recover.specs.FoundEntries.{Stands, placed_at, entries_at}
 use Rattle.recover.proofs.ListLaws.{all_at}
 use Rattle.recover.proofs.FoundEntryLaws.{no_found}
@@ -27,8 +28,19 @@ loop-at-preserved g c =
       so_far = λ telling all.
           let stands = all_at (Stands l image) fs run.winner no_found all (omega (arith, high, end)) in
           left_more l image c.loop-at.pairs.items c.push_left.new.pairs.items (winners_of (entries_at l image (take at fs))) (winners_of (entries_at l image (take run.end fs)))
-          (placed_at l image (get_or fs run.winner no_found)) (inv.so_far telling all) (c.in_ok-push_left.ensures telling stands).1 (run_wins l image fs c.requires.order at inv.begins run is no_found);
+          (placed_at l image (get_or fs run.winner no_found)) (inv.so_far telling all) (c.in_ok-push_left.ensures.appends telling stands) (run_wins l image fs c.requires.order at inv.begins run is no_found);
     }
+
+pub returns-in_err-push_left : goal.returns-in_err-push_left
+returns-in_err-push_left g c = λ telling all.
+    let image = lasts (g.R.Region.state c.args.region.now) in
+    let l = c.args.layout.now in
+    let fs = c.args.sorted.now in
+    let run = c.key_run-run.result in
+    let high = c.key_run-run.ensures.high in
+    let end = c.key_run-run.ensures.end in
+    let stands = all_at (Stands l image) fs run.winner no_found all (omega (arith, high, end)) in
+    handed_on (HasLeft l image (entries_at l image fs)) c.from_residual.result c.in_err-push_left.field-0.0 c.from_residual.ensures.1 (c.in_err-push_left.ensures.stands telling stands)
 
 pub returns : goal.returns
 returns g c = λ telling all.

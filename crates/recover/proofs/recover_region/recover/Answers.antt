@@ -1,45 +1,35 @@
-use Rattle.std.proofs.Common.{Some, sym, ◌∙◌, subst}
+use Rattle.std.proofs.Common.{ℕ, subst}
+use Rattle.std.specs.Prelude.{IfOk}
 use Rattle.pm_region.specs.Words.{lasts}
-use Rattle.chunk_map.specs.declared.layouts.Geometry.{Geometry}
-use Rattle.chunk_map.specs.Layouts.{total_bytes}
-use Rattle.store_image.proofs.Clients.{judged, not_a_region}
-use Rattle.recover.specs.Recovering.{IsOf}
-use Rattle.recover.proofs.StandLaws.{all_stand, restored, refused, restored_made}
-use Rattle.recover.proofs.FoundLaws.{superblock_kept, superblock_broken, covers_all, store_found, rules_kept}
+use Rattle.store_image.specs.declared.types.Fault.TheVariants.{NotARegion}
+use Rattle.recover.specs.declared.types.RecoverError.TheVariants as errors
+use Rattle.recover.specs.Recovering.{IsMade, Recovers}
+use Rattle.recover.proofs.FoundLaws.{superblock_kept, covers_all, rules_kept}
+use Rattle.recover.proofs.CauseLaws.{handed_on, superblock_cause, restored}
+use Rattle.recover.proofs.ReadLaws.{stands_read}
 use Rattle.recover.proofs.recover_region.recover.Goals as goal
 
 pub recovered-requires : goal.recovered-requires
-recovered-requires g c = record { covers = covers_all (g.R.Region.state c.args.region.now).frame c.in-Ok.layout c.args.bytes c.requires.first c.requires.words c.in-Ok.ensures.bytes.0 c.in-Ok.ensures.bytes.1 }
+recovered-requires g c = record { covers = covers_all (g.R.Region.state c.args.region.now).frame c.in_ok-layout.layout c.args.bytes c.requires.first c.requires.words c.in_ok-layout.ensures.bytes.0 c.in_ok-layout.ensures.bytes.1 }
 
-pub returns-in-Err-clause-told : goal.returns-in-Err-clause-told
-returns-in-Err-clause-told g c = λ telling.
+pub returns-in_err-layout-clause-told : goal.returns-in_err-layout-clause-told
+returns-in_err-layout-clause-told g c = λ telling.
     let image = lasts (g.R.Region.state c.args.region.now) in
-    sym (not_a_region c.args.bytes image c.in-Err.bad.rule (superblock_broken c.args.bytes image c.in-Err.bad (sym c.in-Err.is ∙ c.read_superblock.ensures.told telling)))
+    let bad = c.in_err-layout.field-0.0 in
+    handed_on (Recovers c.args.bytes image) c.from_residual.result (errors.Fault (NotARegion bad.rule)) c.from_residual.ensures.1
+    (superblock_cause c.args.bytes image bad (c.in_err-layout.ensures.told telling))
 
-pub returns-in-Ok-Ok-clause-told : goal.returns-in-Ok-Ok-clause-told
-returns-in-Ok-Ok-clause-told g c = λ telling.
+pub returns-clause-made : goal.returns-clause-made
+returns-clause-made g c = subst (λ (bytes : ℕ). IfOk c.recovered.result (IsMade bytes)) c.in_ok-layout.ensures.bytes.1 c.recovered.ensures.made
+
+pub returns-clause-told : goal.returns-clause-told
+returns-clause-told g c = λ telling.
     let image = lasts (g.R.Region.state c.args.region.now) in
-    let l = c.in-Ok.layout in
-    let kept = superblock_kept c.args.bytes image l (sym c.in-Ok.is ∙ c.read_superblock.ensures.told telling) in
-    let here = restored l image c.in-Ok-Ok.field-0 c.in-Ok-Ok.recovered (c.in-Ok-Ok.ensures.told telling (rules_kept c.args.bytes image l kept.0 kept.1)) c.in-Ok-Ok.field-0-is in
-    record {
-      sound = store_found c.args.bytes image l kept.0 kept.1 here.0;
-      is_of = subst (λ (k : Geometry). IsOf k image c.in-Ok-Ok.recovered) kept.1 here.1;
-    }
+    let l = c.in_ok-layout.layout in
+    let kept = superblock_kept c.args.bytes image l (c.in_ok-layout.ensures.told telling) in
+    restored c.args.bytes image l kept.0 kept.1 c.recovered.result (c.recovered.ensures.told telling (rules_kept c.args.bytes image l kept.0 kept.1))
 
-pub returns-in-Ok-Ok-clause-stands : goal.returns-in-Ok-Ok-clause-stands
-returns-in-Ok-Ok-clause-stands g c = λ certain.
-    let s = g.R.Region.state c.args.region.now in
-    let l = c.in-Ok.layout in
-    let made = restored_made (total_bytes l) c.in-Ok-Ok.field-0 c.in-Ok-Ok.recovered c.in-Ok-Ok.ensures.made c.in-Ok-Ok.field-0-is in
-    let covers = covers_all s.frame c.in-Ok-Ok.recovered.layout c.args.bytes c.requires.first c.requires.words made.layout (made.total ∙ c.in-Ok.ensures.bytes.1) in
-    all_stand s l (total_bytes l) c.in-Ok-Ok.recovered covers made (λ telling.
-    let kept = superblock_kept c.args.bytes (lasts s) l (sym c.in-Ok.is ∙ c.read_superblock.ensures.told telling) in
-    (restored l (lasts s) c.in-Ok-Ok.field-0 c.in-Ok-Ok.recovered (c.in-Ok-Ok.ensures.told telling (rules_kept c.args.bytes (lasts s) l kept.0 kept.1)) c.in-Ok-Ok.field-0-is).1) certain
-
-pub returns-in-Ok-Err-clause-told : goal.returns-in-Ok-Err-clause-told
-returns-in-Ok-Err-clause-told g c = λ telling.
-    let image = lasts (g.R.Region.state c.args.region.now) in
-    let l = c.in-Ok.layout in
-    let kept = superblock_kept c.args.bytes image l (sym c.in-Ok.is ∙ c.read_superblock.ensures.told telling) in
-    sym (judged c.args.bytes image l (Some c.in-Ok-Err.fault) kept.0 kept.1 (sym (refused l image c.in-Ok-Err.field-0 c.in-Ok-Err.fault (c.in-Ok-Err.ensures.told telling (rules_kept c.args.bytes image l kept.0 kept.1)) c.in-Ok-Err.field-0-is)))
+-- by what was recovered
+pub returns-clause-stands : goal.returns-clause-stands
+returns-clause-stands g c =
+    stands_read (g.R.Region.state c.args.region.now) c.args.bytes c.requires.first c.requires.words c.recovered.result (returns-clause-made g c) (returns-clause-told g c)

@@ -1,10 +1,11 @@
-use Rattle.std.proofs.Common.{◌≡◌, List, get_or, map, take, take_all, refl, sym, ◌∙◌, subst, arith}
+use Rattle.std.proofs.Common.{◌≡◌, List, get_or, map, take, take_all, refl, sym, subst, arith}
 use Rattle.pm_region.specs.Words.{lasts}
 use Rattle.store_image.specs.declared.types.PlacedEntry.{PlacedEntry}
 use Rattle.recover.specs.declared.found_entries.Found.{Found}
 use Rattle.recover.specs.FoundEntries.{placed_at, entries_at, Stands}
 use Rattle.recover.specs.Standing.{standee_at}
-use Rattle.recover.specs.Shares.{AreShares}
+use Rattle.recover.specs.Shares.{AreShares, GivesShares}
+use Rattle.recover.proofs.CauseLaws.{handed_on}
 use Rattle.recover.proofs.ListLaws.{all_at}
 use Rattle.recover.proofs.NameLaws.{any_default}
 use Rattle.recover.proofs.KeyLaws.{run_of, first_key, new_key, run_keys, run_below, run_wins, have_key, lacks_key, split_run, stand_all}
@@ -52,18 +53,18 @@ loop-at-preserved g c =
     let x = get_or fs r.winner nothing in
     let here : x ≡ get_or fs r.winner x = any_default fs r.winner nothing x (omega (arith, high, end)) in
     record {
-      count = c.in_ok-fault.ensures.count;
+      count = c.in_ok-give_key.ensures.count;
       within = run.end;
       fresh = new_key fs c.requires.order at r run;
-      spelled = c.in_ok-fault.ensures.spelled c.in_default.is inv.spelled;
+      spelled = c.in_ok-give_key.ensures.spelled inv.spelled;
       told = λ telling found.
           let stands : Stands l image x = all_at (Stands l image) fs r.winner nothing found (omega (arith, high, end)) in
-          let given = c.in_ok-fault.ensures.told telling stands in
+          let given = c.in_ok-give_key.ensures.gives telling stands in
           subst (λ (es : List PlacedEntry). AreShares l es c.give_key.new.shares.items) (sym (split_run fs at r run x here l image))
           (shares_more l (entries_at l image (take at fs)) (entries_at l image (run_of fs at r)) (placed_at l image x) (map (standee_at l) (run_of fs at r))
           (lacks_key fs at r run x here l image inv.fresh) (have_key fs at r run x here l image) (run_wins fs at r run x here l image)
           (λ v. stand_all l image x.key v (run_of fs at r) (run_keys fs at r run x here))
-          c.loop-at.shares.items c.give_key.new.shares.items x refl refl given.1 (inv.told telling found));
+          c.loop-at.shares.items c.give_key.new.shares.items x refl refl given (inv.told telling found));
     }
 
 pub returns-clause-told : goal.returns-clause-told
@@ -73,8 +74,8 @@ returns-clause-told g c = λ telling found.
     let all : take c.loop-at.at fs ≡ fs = take_all c.loop-at.at fs c.loop-at-test.false in
     subst (λ (xs : List Found). AreShares c.args.layout.now (entries_at c.args.layout.now image xs) c.loop-at.shares.items) all (c.loop-at.invariant.told telling found)
 
-pub returns-in-Some-clause-told : goal.returns-in-Some-clause-told
-returns-in-Some-clause-told g c = λ telling found.
+pub returns-in_err-give_key-clause-told : goal.returns-in_err-give_key-clause-told
+returns-in_err-give_key-clause-told g c = λ telling found.
     let l = c.args.layout.now in
     let image = lasts (g.R.Region.state c.args.region.now) in
     let fs = c.args.sorted.now in
@@ -82,4 +83,4 @@ returns-in-Some-clause-told g c = λ telling found.
     let high = c.key_run-run.ensures.high in
     let end = c.key_run-run.ensures.end in
     let stands : Stands l image (get_or fs r.winner nothing) = all_at (Stands l image) fs r.winner nothing found (omega (arith, high, end)) in
-    cc (sym (c.in_ok-fault.ensures.told telling stands).0 ∙ c.in-Some.is)
+    handed_on (GivesShares l (entries_at l image fs)) c.from_residual-in_err-give_key.result c.in_err-give_key.field-0.0 c.from_residual-in_err-give_key.ensures.1 (c.in_err-give_key.ensures.stands telling stands)

@@ -1,4 +1,4 @@
-use Rattle.std.proofs.Common.{◌≡◌, ℕ, ◌==◌, ◌&&◌, not, length, refl, sym, ◌∙◌, ap, subst}
+use Rattle.std.proofs.Common.{◌≡◌, ℕ, ◌==◌, ◌&&◌, not, refl, sym, ◌∙◌, ap, subst}
 use Rattle.std.specs.Prelude.{slice_get, is_none}
 use Rattle.std.specs.List.{list_any}
 use Rattle.pm_region.specs.Words.{lasts}
@@ -7,8 +7,9 @@ use Rattle.lazy_alloc.specs.Sets.{chunk_is_free, chunk_class, block_is_used, cla
 use Rattle.recover.specs.Regions.{Covers}
 use Rattle.recover.specs.Heads.{tail_there}
 use Rattle.recover.proofs.StandLaws.{lies_log, spelled_log}
-use Rattle.recover.proofs.FoundLaws.{ok_of}
-use Rattle.recover.proofs.HeadLaws.{heads_ok, logs_of}
+use Rattle.recover.specs.Heads.{Starts}
+use Rattle.recover.proofs.CauseLaws.{handed_on}
+use Rattle.recover.proofs.HeadLaws.{heads_kept, logs_of}
 use Rattle.recover.proofs.StartLaws.{index_of, allocator_of}
 use Rattle.recover.proofs.starts.start.Goals as goal
 
@@ -22,12 +23,19 @@ own_standing-requires-clause-spelled g c =
     let s = g.R.Region.state c.args.region.now in
     let l = c.args.layout.now in
     let log = c.in_ok-log.ensures in
-    let heads = c.in-Ok.heads.items in
-    let count = ok_of (λ heads. length heads.items ≡ l.chunks) c.in_ok-heads.field-0 c.in-Ok.heads c.in_ok-heads.ensures.count c.in-Ok.is in
+    let heads = c.in_ok-heads.heads.items in
+    let count = c.in_ok-heads.ensures.count in
     spelled_log s l c.args.core c.in_ok-log.log log.layout log.part c.requires.core
-    (λ telling. logs_of l (lasts s) c.args.core heads count (heads_ok l (lasts s) c.args.core c.in_ok-heads.field-0 c.in-Ok.heads (c.in_ok-heads.ensures.told telling) c.in-Ok.is) c.in_ok-log.log.chunks
+    (λ telling. logs_of l (lasts s) c.args.core heads count (c.in_ok-heads.ensures.told telling) c.in_ok-log.log.chunks
     (λ j. log.chunks j ∙ c.in_ok-chunks.ensures.tails j ∙ ap (λ hs. tail_there (slice_get hs j)) c.deref.ensures.value))
     c.requires.spelled
+
+pub returns-in_err-heads-clause-told : goal.returns-in_err-heads-clause-told
+returns-in_err-heads-clause-told g c = λ telling kept share.
+    let image = lasts (g.R.Region.state c.args.region.now) in
+    let l = c.args.layout.now in
+    let e = c.in_err-heads.field-0.0 in
+    handed_on (Starts l image c.args.core) c.from_residual.result e c.from_residual.ensures.1 (heads_kept l image c.args.core kept c.requires.core e (c.in_err-heads.ensures.told telling))
 
 pub returns-clause-made : goal.returns-clause-made
 returns-clause-made g c =
@@ -51,9 +59,9 @@ pub returns-clause-told : goal.returns-clause-told
 returns-clause-told g c = λ telling kept share.
     let image = lasts (g.R.Region.state c.args.region.now) in
     let l = c.args.layout.now in
-    let heads = c.in-Ok.heads.items in
-    let count = ok_of (λ heads. length heads.items ≡ l.chunks) c.in_ok-heads.field-0 c.in-Ok.heads c.in_ok-heads.ensures.count c.in-Ok.is in
-    let are = heads_ok l image c.args.core c.in_ok-heads.field-0 c.in-Ok.heads (c.in_ok-heads.ensures.told telling) c.in-Ok.is in
+    let heads = c.in_ok-heads.heads.items in
+    let count = c.in_ok-heads.ensures.count in
+    let are = c.in_ok-heads.ensures.told telling in
     let allocator = c.in_ok-allocator.ensures in
     let free : (j : ℕ) → chunk_is_free c.in_ok-allocator.allocator j ≡ is_free_there (slice_get heads j) = λ j. allocator.free j ∙ ap (λ hs. is_free_there (slice_get hs j)) c.deref-2.ensures.value in
     let class : (j : ℕ) → chunk_class c.in_ok-allocator.allocator j ≡ class_there (slice_get heads j) = λ j. allocator.class j ∙ ap (λ hs. class_there (slice_get hs j)) c.deref-2.ensures.value in

@@ -7,8 +7,8 @@ use Rattle.recover.specs.declared.shares.Share.{Share}
 use Rattle.recover.specs.Shares.{IsShare}
 use Rattle.recover.specs.Logs.{IsStart}
 use Rattle.recover.specs.Starts.{IsSpelledIndex}
-use Rattle.recover.specs.Heads.{Starts, IsStartOf}
-use Rattle.recover.proofs.FoundLaws.{ok_of, start_ok}
+use Rattle.recover.specs.Heads.{AllStart, IsStartOf}
+use Rattle.recover.proofs.CauseLaws.{handed_on}
 use Rattle.recover.proofs.ListLaws.{behind}
 use Rattle.recover.proofs.LogLaws.{each_more}
 use Rattle.recover.proofs.starts.starts.Goals as goal
@@ -26,15 +26,16 @@ start-requires-clause-index g c =
     let at = at_core c.args.shares.items c.loop-share.yielded c.next.new.self.rest.items share c.loop-share.core c.args.layout.now.cores (inv.split ∙ ap (λ xs. c.loop-share.yielded ++ xs) c.in-Some.ensures.steps.0) inv.passed c.requires.count in
     subst (λ (s : Share). IsSpelledIndex s.index) at.1 (c.requires.shares c.loop-share.core share at.0)
 
-pub returns-in-Err-clause-told : goal.returns-in-Err-clause-told
-returns-in-Err-clause-told g c = λ telling kept shares.
+pub returns-in_err-start-clause-told : goal.returns-in_err-start-clause-told
+returns-in_err-start-clause-told g c = λ telling kept shares.
     let image = lasts (g.R.Region.state c.args.region.now) in
     let l = c.args.layout.now in
     let inv = c.loop-share.invariant in
     let share = c.in-Some.share in
     let n = c.loop-share.core in
     let at = at_core c.args.shares.items c.loop-share.yielded c.next.new.self.rest.items share n l.cores (inv.split ∙ ap (λ xs. c.loop-share.yielded ++ xs) c.in-Some.ensures.steps.0) inv.passed c.requires.count in
-    subst (Starts l image n) c.in-Err.is (c.in_ok-start.ensures.told telling kept (subst (λ (s : Share). IsShare l (all_entries l image) n s) at.1 (shares n share at.0)))
+    handed_on (AllStart l image) c.from_residual-in_err-start.result c.in_err-start.field-0.0 c.from_residual-in_err-start.ensures.1
+    (c.in_err-start.ensures.told telling kept (subst (λ (s : Share). IsShare l (all_entries l image) n s) at.1 (shares n share at.0)))
 
 pub loop-share-preserved : goal.loop-share-preserved
 loop-share-preserved g c =
@@ -46,7 +47,7 @@ loop-share-preserved g c =
     let rest = c.next.new.self.rest.items in
     let old = c.loop-share.starts.items in
     let new = c.push.new.self.items in
-    let x = c.in-Ok.start in
+    let x = c.in_ok-start.start in
     let n = c.loop-share.core in
     let split : c.args.shares.items ≡ done ++ (share ∷ rest) = inv.split ∙ ap (λ xs. done ++ xs) c.in-Some.ensures.steps.0 in
     let there : slice_index_or c.args.shares.items n share ≡ share = ap (λ xs. slice_index_or xs n share) split ∙ behind done share rest n share inv.passed in
@@ -55,8 +56,8 @@ loop-share-preserved g c =
     record {
       split = split ∙ sym (append_assoc done (share ∷ []) rest);
       passed = length-append done (share ∷ []) ∙ ap (λ k. k + 1) inv.passed;
-      count = ap length c.in_ok-push-in-Ok.ensures.items ∙ length-append old (x ∷ []) ∙ ap (λ k. k + 1) inv.count;
-      made = each_more CoreStart (IsStart l) old new x n inv.count c.in_ok-push-in-Ok.ensures.items inv.made (ok_of (IsStart l n) c.in_ok-start.field-0 x c.in_ok-start.ensures.made c.in-Ok.is);
-      told = λ telling kept shares. each_more CoreStart (IsStartOf l image) old new x n inv.count c.in_ok-push-in-Ok.ensures.items (inv.told telling kept shares)
-          (start_ok l image n c.in_ok-start.field-0 x (c.in_ok-start.ensures.told telling kept (subst (λ (s : Share). IsShare l (all_entries l image) n s) there (shares n share lt))) c.in-Ok.is);
+      count = ap length c.in_ok-push.ensures.items ∙ length-append old (x ∷ []) ∙ ap (λ k. k + 1) inv.count;
+      made = each_more CoreStart (IsStart l) old new x n inv.count c.in_ok-push.ensures.items inv.made c.in_ok-start.ensures.made;
+      told = λ telling kept shares. each_more CoreStart (IsStartOf l image) old new x n inv.count c.in_ok-push.ensures.items (inv.told telling kept shares)
+          (c.in_ok-start.ensures.told telling kept (subst (λ (s : Share). IsShare l (all_entries l image) n s) there (shares n share lt)));
     }

@@ -5,7 +5,7 @@ use Rattle.recover.specs.Winning.{winners_of}
 use Rattle.recover.specs.FoundEntries.{AreFound, entries_at}
 use Rattle.recover.proofs.RunLaws.{Begins}
 use Rattle.recover.proofs.FaultLaws.{NoneSoFar}
-use Rattle.recover.proofs.judge_winners.block_fault.Given as goal
+use Rattle.recover.proofs.judge_winners.judge_winners.Given as goal
 
 -- the winners of the keys so far break nothing
 abbrev pub invariant-loop-at : goal.invariant-loop-at

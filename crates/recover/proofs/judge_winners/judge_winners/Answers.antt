@@ -1,13 +1,15 @@
-use Rattle.std.proofs.Common.{take, sym, ◌∙◌, arith}
+use Rattle.std.proofs.Common.{[], take, arith}
 use Rattle.pm_region.specs.Words.{lasts}
+use Rattle.recover.specs.Causes.{AnswersFault}
+use Rattle.recover.specs.Judging.{winners_fault}
 use Rattle.recover.specs.Winning.{winners_of}
 use Rattle.recover.specs.FoundEntries.{Stands, entries_at}
-use Rattle.recover.proofs.GatherLaws.{is_none}
 use Rattle.recover.proofs.ListLaws.{all_at}
+use Rattle.recover.proofs.CauseLaws.{handed_on}
 use Rattle.recover.proofs.FoundEntryLaws.{no_found}
 use Rattle.recover.proofs.RunLaws.{run_begins}
 use Rattle.recover.proofs.FaultLaws.{none_more, fault_found, none_at_all}
-use Rattle.recover.proofs.judge_winners.block_fault.Goals as goal
+use Rattle.recover.proofs.judge_winners.judge_winners.Goals as goal
 
 pub loop-at-preserved : goal.loop-at-preserved
 loop-at-preserved g c =
@@ -20,7 +22,6 @@ loop-at-preserved g c =
     let inv = c.loop-at.invariant in
     let high = is.high in
     let end = is.end in
-    let none = is_none c.in_ok-fault.fault (sym c.is_some.ensures ∙ c.if-is_some.false) in
     record {
       within = end;
       begins = run_begins l image fs c.requires.order at inv.begins run is;
@@ -28,12 +29,12 @@ loop-at-preserved g c =
           let so_far = inv.so_far telling all in
           let stands = all_at (Stands l image) fs run.winner no_found all (omega (arith, high, end)) in
           let ws = winners_of (entries_at l image (take at fs)) in
-          none_more l image fs c.requires.order at inv.begins run is no_found c.loop-at.taken c.winner_fault.new.taken so_far c.in_ok-fault.fault
-          (c.in_ok-fault.ensures.fault ws so_far.pointers telling stands) none (c.in_ok-fault.ensures.taken ws so_far.pointers telling stands none);
+          none_more l image fs c.requires.order at inv.begins run is no_found c.loop-at.taken c.judge_winner.new.taken so_far
+          (c.in_ok-judge_winner.ensures.fault ws so_far.pointers telling stands) (c.in_ok-judge_winner.ensures.taken ws so_far.pointers telling stands);
     }
 
-pub returns-then-is_some : goal.returns-then-is_some
-returns-then-is_some g c = λ telling all.
+pub returns-in_err-judge_winner : goal.returns-in_err-judge_winner
+returns-in_err-judge_winner g c = λ telling all.
     let image = lasts (g.R.Region.state c.args.region.now) in
     let l = c.args.layout.now in
     let fs = c.args.sorted.now in
@@ -45,8 +46,10 @@ returns-then-is_some g c = λ telling all.
     let end = is.end in
     let so_far = inv.so_far telling all in
     let stands = all_at (Stands l image) fs run.winner no_found all (omega (arith, high, end)) in
-    fault_found l image fs c.requires.order at inv.begins run is no_found c.loop-at.taken so_far c.in_ok-fault.fault
-    (c.in_ok-fault.ensures.fault (winners_of (entries_at l image (take at fs))) so_far.pointers telling stands) (sym c.is_some.ensures ∙ c.if-is_some.true)
+    let e = c.in_err-judge_winner.field-0.0 in
+    handed_on (AnswersFault (winners_fault l image [] (winners_of (entries_at l image fs)))) c.from_residual.result e c.from_residual.ensures.1
+    (fault_found l image fs c.requires.order at inv.begins run is no_found c.loop-at.taken so_far e
+    (c.in_err-judge_winner.ensures.fault (winners_of (entries_at l image (take at fs))) so_far.pointers telling stands))
 
 pub returns : goal.returns
 returns g c = λ telling all.
