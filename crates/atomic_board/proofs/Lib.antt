@@ -20,4 +20,3 @@ pub mod OneState
 pub mod MailboxKept
 pub mod OwedMailing
 pub mod MailInHand
-pub mod TrialSteps

@@ -7,7 +7,6 @@ pub mod Identities
 pub mod MemberSeats
 pub mod Tokens
 pub mod GroupTables
-pub mod ThreadTrials
 pub use Rattle.group_board.specs.Assurances
 pub use Rattle.group_board.specs.Conditions
 pub use Rattle.store_image.specs.Facts

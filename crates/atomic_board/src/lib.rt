@@ -15,8 +15,6 @@ mod seat_returns;
 mod slot_order;
 mod table;
 pub mod table_laws;
-#[cfg(test)]
-mod tests;
 mod token;
 
 pub use group_table::GroupTable;

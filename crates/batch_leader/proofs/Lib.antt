@@ -2,9 +2,5 @@ pub mod TakenLaws
 pub mod CollectLaws
 pub mod Steps
 pub mod SightLaws
-pub mod OtherLaws
 pub mod WithdrawLaws
-pub mod Trials
-pub mod LeaderTrials
-pub mod EightTrials
 pub mod Clients

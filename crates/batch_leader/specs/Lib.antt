@@ -3,8 +3,6 @@ pub mod Rounds
 pub mod Leading
 pub mod GivingBack
 pub mod Persisting
-pub mod LeadTrials
-pub mod EightTrials
 pub use Rattle.core_log.specs.Chunk
 pub use Rattle.group_board.specs.Conditions
 pub use Rattle.core_log.specs.Entries
@@ -21,8 +19,3 @@ pub use Rattle.group_board.specs.Told
 pub use Rattle.group_board.specs.Views
 pub use Rattle.pm_region.specs.Words
 pub use Rattle.licence.specs.Writes
-pub use Rattle.pm_region.specs.Cell
-pub use Rattle.group_board.specs.Journals
-pub use Rattle.pm_region.specs.Mem
-pub use Rattle.pm_region.specs.Steady
-pub use Rattle.group_board.specs.Trials

@@ -6,11 +6,7 @@
 mod batch_buffer;
 mod changes;
 mod collect_changes;
-#[cfg(test)]
-mod eight_members;
 mod fitting;
-#[cfg(test)]
-mod given_back;
 mod mark_and_fail;
 mod persisting;
 mod returning;
@@ -18,10 +14,6 @@ mod round;
 mod starting;
 mod states;
 mod taken;
-#[cfg(test)]
-mod tests;
-#[cfg(test)]
-mod two_leaders;
 mod withdrawing;
 
 pub use batch_buffer::BatchBuffer;

@@ -17,8 +17,6 @@ mod sets;
 mod sizes;
 mod state;
 mod tables;
-#[cfg(test)]
-mod tests;
 mod tidy_rules;
 
 pub use kinds::{Change, Kind, Step, StepError, StepsError};

@@ -5,4 +5,3 @@ pub use Rattle.group_board.proofs.Journals.{names_begun, state_begun}
 pub use Rattle.group_board.proofs.Keeping.{covers_less, covers_more}
 pub use Rattle.group_board.proofs.Facts.{posted_by}
 pub use Rattle.group_board.proofs.Opens.{opened_few, opened_kept, opened_lawful}
-pub use Rattle.group_board.proofs.Trials.{may_finish, may_give_up, small_sound, stays}

@@ -8,5 +8,4 @@ pub mod Assured
 pub mod Calls
 pub mod Mail
 pub mod Opens
-pub mod Trials
 pub mod Clients

@@ -7,7 +7,6 @@ pub mod Conditions
 pub mod Slots
 pub mod Told
 pub mod Kept
-pub mod Trials
 pub use Rattle.chunk_map.specs.Layouts
 pub use Rattle.crash_core.specs.Shows
 pub use Rattle.group_laws.specs.Invariant

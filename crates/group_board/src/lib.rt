@@ -9,8 +9,6 @@ mod local_seat;
 mod notes;
 mod opening;
 mod slots;
-#[cfg(test)]
-mod tests;
 
 pub use board::{Board, Busy, MailFull, SlotState};
 pub use crash_core::{Change, Names, Notices};

@@ -1,5 +1,0 @@
-use Rattle.atomic_board.proofs.TrialSteps.{pair_starts}
-use Rattle.atomic_board.proofs.tests.begin.Goals as goal
-
-pub first_turn-found-requires-clause-rests : goal.first_turn-found-requires-clause-rests
-first_turn-found-requires-clause-rests c = pair_starts _ c.args.member c.args.token c.attend-seat.result.own c.requires.change.0 c.requires.token c.attend-seat.ensures

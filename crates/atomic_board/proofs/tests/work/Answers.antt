@@ -1,5 +1,0 @@
-use Rattle.atomic_board.proofs.TrialSteps.{small_starts}
-use Rattle.atomic_board.proofs.tests.work.Goals as goal
-
-pub rounds-done-requires-clause-rests : goal.rounds-done-requires-clause-rests
-rounds-done-requires-clause-rests c = small_starts _ c.args.member c.args.token c.attend-seat.result.own c.requires.first.0 c.requires.token c.attend-seat.ensures

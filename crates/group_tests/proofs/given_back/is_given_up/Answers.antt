@@ -1,0 +1,9 @@
+use Rattle.std.proofs.Common.{◌∙◌}
+use Rattle.group_tests.proofs.BoardTrialLaws.{stays, may_give_up}
+use Rattle.group_tests.proofs.given_back.is_given_up.Goals as goal
+
+pub finish-requires : goal.finish-requires
+finish-requires g c =
+    let B = g.B.Board in
+    let b = c.args.board.now in
+    may_give_up (B.seat b).place (B.seat c.look.new.self).place (B.seat b).number (B.seat c.look.new.self).number c.member-member.result (B.view b) (B.view c.look.new.self) c.look.ensures.view.0 c.member-member.ensures (stays c.look.ensures.seat) c.requires (c.look.ensures.view.1 ∙ c.in-Failed.is) c.look.ensures.view.2

@@ -1,0 +1,4 @@
+pub mod BoardTrials
+pub mod ThreadTrials
+pub mod LeadTrials
+pub mod EightTrials

@@ -1,0 +1,181 @@
+// A full batch: one leader takes eight changes of each of eight members, at the board of one thread. What is expected
+// is what the format says of a batch.
+ghost use Rattle.std.specs.Prelude.{◌≡◌, ◌*◌, ◌+◌, ◌/◌, ◌%◌, ◌<◌, ◌≤◌, false, true, [], IfOk, IfSome, OnOk};
+ghost use Rattle.group_laws.specs.Places.{members};
+ghost use Rattle.group_laws.specs.MemberViews.{view_of};
+ghost use Rattle.group_board.specs.Journals.{state};
+ghost use Rattle.group_board.specs.Conditions.{MayPost, MayLock};
+ghost use Rattle.group_board.specs.Views.{after_post};
+ghost use Rattle.batch_leader.specs.Leading.{IsBatchOf};
+ghost use Rattle.group_tests.specs.LeadTrials.{put_of, IsUnwritten, FitsFresh, KeepsOthers, LeavesOthers};
+ghost use Rattle.group_tests.specs.EightTrials.{eight_words, eight_fresh, key_at, IsPosted, HasBatch};
+
+use crate::leader_tests::{empty_room, put, word};
+use crate::two_leaders::write_at;
+use batch_leader::{Batch, BatchBuffer, Collected, Released, lead};
+use chunk_map::Layout;
+use core_log::CoreLog;
+use group_board::{Board, Change, LocalBoard, LocalSeat, Opening, SlotState};
+use pm_region::{Region, SplitRegion, SteadyRegion};
+use std::test::Fail;
+
+/// Eight cores of one group on an empty region.
+struct Eight;
+
+impl Opening for Eight {
+    ghost words = { eight_words };
+
+    ghost bytes = { 135168 };
+
+    ghost group = { 0 };
+}
+
+fn open_eight(rt: &HostRuntime) -> Result<LocalBoard, Fail>
+    ensures { IfOk result (λ b. state b.keeper.me.0 ≡ eight_fresh) }
+{
+    let board = LocalBoard::open::<Eight>(rt.alloc(), 8)?;
+    Ok(board)
+}
+
+/// Which change is posted with this number: the key is one of member `number / 8`.
+fn key_at(number: u32) -> u64
+    requires { number < 64 }
+    ensures { result ≡ key_at number }
+{
+    (8 * (number % 8) + number / 8) as u64
+}
+
+/// Posts a change that points to no block.
+fn post<B: Board>(board: &mut B, slot: u32, change: Change)
+    requires { MayPost (B.seat board.old).place (B.seat board.old).number (B.view board.old)
+        slot change [] }
+    ensures seat { B.seat board.new ≡ B.seat board.old }
+    ensures view { B.view board.new ≡ after_post slot change.entry [] (B.view board.old) }
+    ensures others { LeavesOthers (B.whole board.old) (B.whole board.new)
+        (B.seat board.old).number }
+{
+    board.post(slot, change, &[]);
+}
+
+/// A member posts a change.
+fn post_at(board: &mut LocalBoard, member: u32, slot: u32, change: Change)
+    requires { MayPost (state board.old.keeper.me.0).place member
+        (view_of (state board.old.keeper.me.0) member) slot change [] }
+    ensures place { (state board.new.keeper.me.0).place ≡ (state board.old.keeper.me.0).place }
+    ensures view { view_of (state board.new.keeper.me.0) member
+        ≡ after_post slot change.entry [] (view_of (state board.old.keeper.me.0) member) }
+    ensures others { KeepsOthers (state board.old.keeper.me.0) (state board.new.keeper.me.0)
+        member }
+{
+    let mut seat = LocalSeat { board, member };
+    post(&mut seat, slot, change);
+}
+
+/// Each member posts a change in each of its slots.
+fn post_all(rt: &HostRuntime, board: &mut LocalBoard) -> Result<(), Fail>
+    requires { state board.old.keeper.me.0 ≡ eight_fresh }
+    ensures { OnOk result (IsPosted 64 (state board.new.keeper.me.0)) }
+{
+    for number in 0..64 {
+        let change = put(rt, key_at(number))?;
+        post_at(board, number / 8, number % 8, change);
+    }
+    Ok(())
+}
+
+/// Leads, takes 64 changes, finds the round over, and gives the lock back.
+fn gather_all<B: Board>(board: &mut B, buffer: BatchBuffer) -> Option<Batch>
+    requires lock { MayLock (B.seat board.old).place (B.seat board.old).number (B.view board.old) }
+    requires idle { (B.view board.old).flying ≡ [] }
+    requires whole { (B.view board.old).broken ≡ false }
+    requires group { members (B.seat board.old).place ≤ 8 }
+    ensures seat { B.seat board.new ≡ B.seat board.old }
+    ensures batch { IfSome result (IsBatchOf (B.seat board.old) (B.view board.new)) }
+    ensures fits { IfSome result FitsFresh }
+    ensures unwritten { IfSome result
+        (λ _. IsUnwritten (B.view board.old) → IsUnwritten (B.view board.new)) }
+{
+    let room = empty_room();
+    let Ok(mut leader) = lead(board, buffer) else {
+        return None;
+    };
+    'round: for _ in 0..64 {
+        match leader.collect(board, &room) {
+            Collected::Took => {}
+            Collected::RoundOver => {
+                return None;
+            }
+        }
+    }
+    match leader.collect(board, &room) {
+        Collected::Took => None,
+        Collected::RoundOver => match leader.release(board) {
+            Released::Batch(batch) => Some(batch),
+            Released::Nothing(_) => None,
+        },
+    }
+}
+
+/// Member 0's batch of all that was posted.
+fn gather_at(board: &mut LocalBoard, buffer: BatchBuffer) -> Option<Batch>
+    requires { IsPosted 64 (state board.old.keeper.me.0) }
+    ensures { IfSome result (HasBatch (state board.new.keeper.me.0)) }
+{
+    let mut seat = LocalSeat { board, member: 0 };
+    gather_all(&mut seat, buffer)
+}
+
+/// Whether the slot of a member shows that its change is done.
+fn is_done_at(board: &mut LocalBoard, member: u32, slot: u32) -> bool
+    requires { (member < members (state board.old.keeper.me.0).place) × (slot < 8) }
+    ensures { (state board.new.keeper.me.0).place ≡ (state board.old.keeper.me.0).place }
+{
+    let mut seat = LocalSeat { board, member };
+    seat.look(member, slot) == SlotState::Done
+}
+
+/// Whether all 64 slots show that their changes are done.
+fn all_done(board: &mut LocalBoard) -> bool
+    requires { members (state board.old.keeper.me.0).place ≡ 8 }
+{
+    for number in 0..64 {
+        if !is_done_at(board, number / 8, number % 8) {
+            return false;
+        }
+    }
+    true
+}
+
+#[test]
+fn a_batch_of_64_changes_from_eight_members(rt: HostRuntime) -> Result<(), Fail> {
+    let alloc = rt.alloc();
+    let buffer = BatchBuffer::open(alloc)?;
+    let layout = Layout::new(8, 8, 4, 4096)?;
+    let mut log = CoreLog::open(alloc, layout, 0, Vec::new(alloc))?;
+    let mut region = SteadyRegion::new(alloc, Vec::new(alloc), 100)?;
+    region.create(alloc, 16896)?;
+    let mut board = open_eight(&rt)?;
+    post_all(&rt, &mut board)?;
+    let Some(batch) = gather_at(&mut board, buffer) else {
+        assert!(rt; false);
+        return Ok(());
+    };
+    // own slots first, then member after member
+    assert_eq!(rt; batch.name_at(0).map(|n| (n.key, n.version)), Some((0, 1)));
+    assert_eq!(rt; batch.name_at(8).map(|n| (n.key, n.version)), Some((1, 1)));
+    assert_eq!(rt;
+        batch.name_at(63).map(|n| (n.key, n.version)),
+        Some((63, 1))
+    );
+    assert!(rt; batch.name_at(64).is_none());
+    if !write_at(&mut region, &mut log, &mut board, 0, batch) {
+        assert!(rt; false);
+        return Ok(());
+    }
+    assert!(rt; all_done(&mut board));
+    // chunk 2 of part 0: a log of 24 lines, 64 entries of three words
+    assert_eq!(rt; word(&region, 1536), 1);
+    assert_eq!(rt; word(&region, 1537), 192);
+    assert_eq!(rt; word(&region, 1568 + 3 * 63 + 1), 63);
+    Ok(())
+}

@@ -1,0 +1,207 @@
+// Two leaders of a group at the board of one thread: the second leads and writes before the first wrote. What is expected
+// is what the format says of a batch.
+ghost use Rattle.std.specs.Prelude.{◌≡◌, ◌<◌, ◌≤◌, true, IfOk, IfSome};
+ghost use Rattle.pm_region.specs.Steady.{steady_state};
+ghost use Rattle.group_laws.specs.MemberViews.{view_of};
+ghost use Rattle.group_laws.specs.Places.{members};
+ghost use Rattle.group_board.specs.Journals.{state};
+ghost use Rattle.group_tests.specs.BoardTrials.{fresh};
+ghost use Rattle.group_tests.specs.LeadTrials.{put_of, small_place, IsBlankRegion, IsEmptyLog, MayGather, Gathered, MayWrite, Wrote, HaveBatches};
+
+use crate::leader_tests::{gather, open_small, put, settle, word, write_back};
+use batch_leader::{Batch, BatchBuffer};
+use chunk_map::Layout;
+use core_log::CoreLog;
+use group_board::{Change, LocalBoard, LocalSeat};
+use pm_region::{Pick, Region, SplitRegion, SteadyRegion};
+use std::alloc::Global;
+use std::test::Fail;
+
+/// A member's batch of one change.
+fn gather_at(
+    board: &mut LocalBoard,
+    member: u32,
+    change: Change,
+    buffer: BatchBuffer,
+) -> Option<Batch>
+    requires { MayGather (state board.old.keeper.me.0).place member
+        (view_of (state board.old.keeper.me.0) member) change }
+    ensures { IfSome result (Gathered (state board.old.keeper.me.0)
+        (state board.new.keeper.me.0) member) }
+{
+    let mut seat = LocalSeat { board, member };
+    gather(&mut seat, change, buffer)
+}
+
+/// A member writes its batch, and gives back what is in it.
+pub(crate) fn write_at(
+    region: &mut SteadyRegion,
+    log: &mut CoreLog,
+    board: &mut LocalBoard,
+    member: u32,
+    batch: Batch,
+) -> bool
+    requires { MayWrite (state board.old.keeper.me.0).place member
+        (view_of (state board.old.keeper.me.0) member) (steady_state region.old) log.old batch }
+    ensures { result ≡ true → Wrote (state board.old.keeper.me.0)
+        (state board.new.keeper.me.0) member
+        (steady_state region.old) (steady_state region.new) }
+{
+    let mut seat = LocalSeat { board, member };
+    write_back(region, log, &mut seat, batch, 2)
+}
+
+/// Core 0 leads and gives the lock back with its batch, and then core 1 does.
+fn both_gather(
+    board: &mut LocalBoard,
+    change: Change,
+    buffer: BatchBuffer,
+    other: Change,
+    another: BatchBuffer,
+) -> Option<(Batch, Batch)>
+    requires opened { state board.old.keeper.me.0 ≡ fresh }
+    requires change { change ≡ put_of 0 }
+    requires other { other ≡ put_of 1 }
+    ensures { IfSome result (λ b. HaveBatches (state board.new.keeper.me.0) b.0 b.1) }
+{
+    let first = gather_at(board, 0, change, buffer)?;
+    let second = gather_at(board, 1, other, another)?;
+    Some((first, second))
+}
+
+/// Core 1 writes its batch and gives back what is in it, and then core 0 does.
+fn both_write(
+    region: &mut SteadyRegion,
+    log: &mut CoreLog,
+    other: &mut CoreLog,
+    board: &mut LocalBoard,
+    first: Batch,
+    second: Batch,
+) -> bool
+    requires batches { HaveBatches (state board.old.keeper.me.0) first second }
+    requires region { IsBlankRegion (steady_state region.old) }
+    requires log { IsEmptyLog log.old 0 }
+    requires other { IsEmptyLog other.old 1 }
+    ensures { result ≡ true → members (state board.new.keeper.me.0).place ≡ 3 }
+{
+    if !write_at(region, other, board, 1, second) {
+        return false;
+    }
+    write_at(region, log, board, 0, first)
+}
+
+/// A member takes its change back.
+fn settle_at(board: &mut LocalBoard, member: u32) -> Option<u32>
+    requires { member < members (state board.old.keeper.me.0).place }
+    ensures { (state board.new.keeper.me.0).place ≡ (state board.old.keeper.me.0).place }
+{
+    let mut seat = LocalSeat { board, member };
+    settle(&mut seat)
+}
+
+/// The log of a core, with no chunk yet.
+fn open_log(alloc: Global, core: u32) -> Result<CoreLog, Fail>
+    requires { core < 3 }
+    ensures { IfOk result (λ log. IsEmptyLog log core) }
+{
+    let layout = Layout::new(3, 3, 4, 4096)?;
+    let log = CoreLog::open(alloc, layout, core, Vec::new(alloc))?;
+    Ok(log)
+}
+
+const PICKS: [Pick; 4] = [Pick::Oldest, Pick::Newest, Pick::Mixed(1), Pick::Mixed(2)];
+
+/// Whether the log chunk at this word has the batch of one put of the key. None where it is torn.
+fn has_batch(image: &SteadyRegion, chunk: u64, key: u64) -> Option<bool>
+    requires { chunk ≤ 6000 }
+{
+    match (word(image, chunk), word(image, chunk + 1)) {
+        (0, _) => Some(false),
+        (1, 0) => Some(false),
+        (1, 8) => {
+            if word(image, chunk + 32) == 0x100_0015
+                && word(image, chunk + 33) == key
+                && word(image, chunk + 34) == 97
+            {
+                Some(true)
+            } else {
+                None
+            }
+        }
+        _ => None,
+    }
+}
+
+/// How many of the two batches an image has, core 1's first. None where it has anything else.
+fn batches_in(image: &SteadyRegion) -> Option<u32> {
+    match (has_batch(image, 3584, 1)?, has_batch(image, 1536, 0)?) {
+        (false, false) => Some(0),
+        (true, false) => Some(1),
+        (true, true) => Some(2),
+        (false, true) => None,
+    }
+}
+
+/// How many batches an image of this stamp has.
+fn batches_at(
+    alloc: Global,
+    region: &SteadyRegion,
+    stamp: u64,
+    pick: Pick,
+) -> Result<Option<u32>, Fail> {
+    let mut image = region.image_at(alloc, stamp, pick)?;
+    image.attach(alloc)?;
+    Ok(batches_in(&image))
+}
+
+/// Whether each image of this stamp has a prefix of the batches, in the order in which they were written.
+fn are_prefixes(alloc: Global, region: &SteadyRegion, stamp: u64) -> Result<bool, Fail> {
+    for pick in PICKS {
+        if batches_at(alloc, region, stamp, pick)?.is_none() {
+            return Ok(false);
+        }
+    }
+    Ok(true)
+}
+
+#[test]
+fn a_second_leader_before_the_first_wrote(rt: HostRuntime) -> Result<(), Fail> {
+    let alloc = rt.alloc();
+    let change = put(&rt, 0)?;
+    let other = put(&rt, 1)?;
+    let buffer = BatchBuffer::open(alloc)?;
+    let another = BatchBuffer::open(alloc)?;
+    let mut board = open_small(&rt)?;
+    let Some((first, second)) = both_gather(&mut board, change, buffer, other, another) else {
+        assert!(rt; false);
+        return Ok(());
+    };
+    assert_eq!(rt; first.name_at(0).map(|n| (n.key, n.version)), Some((0, 1)));
+    assert_eq!(rt; second.name_at(0).map(|n| (n.key, n.version)), Some((1, 1)));
+    let mut log = open_log(alloc, 0)?;
+    let mut next_log = open_log(alloc, 1)?;
+    let mut region = SteadyRegion::new(alloc, Vec::new(alloc), 100)?;
+    region.create(alloc, 6656)?;
+    let start = region.stamp();
+    if !both_write(
+        &mut region,
+        &mut log,
+        &mut next_log,
+        &mut board,
+        first,
+        second,
+    ) {
+        assert!(rt; false);
+        return Ok(());
+    }
+    assert_eq!(rt; settle_at(&mut board, 0), Some(0));
+    assert_eq!(rt; settle_at(&mut board, 1), Some(1));
+    for stamp in start..region.stamp() {
+        assert!(rt; are_prefixes(alloc, &region, stamp)?);
+    }
+    for pick in PICKS {
+        assert_eq!(rt; batches_at(alloc, &region, start, pick)?, Some(0));
+        assert_eq!(rt; batches_at(alloc, &region, region.stamp(), pick)?, Some(2));
+    }
+    Ok(())
+}
