@@ -10,6 +10,7 @@ use Rattle.group_laws.specs.MemberViews.{view_of}
 use Rattle.group_laws.specs.Invariant.{Lawful}
 use Rattle.group_laws.specs.Regions.{groups_in, place_at, ShowsCell}
 use Rattle.licence.specs.Licence.{Licensed}
+use Rattle.chunk_map.specs.declared.layout_sizes.TheConstants.{SUPERBLOCK_WORDS}
 
 -- the group of a core, and which member of it the core is
 abbrev pub group_of : Geometry → ℕ → ℕ
@@ -29,7 +30,7 @@ AllLicensed l w cells = (c : ℕ) → c < l.cores → LicensedPart l c (w (group
 
 -- the words of the superblock are certain
 abbrev pub HasSuperblock : (ℕ → ℕ) → (ℕ → Cell) → Type 0
-HasSuperblock found cells = (w : ℕ) → w < 512 → Surely (cells w) (found w)
+HasSuperblock found cells = (w : ℕ) → w < SUPERBLOCK_WORDS → Surely (cells w) (found w)
 
 -- the groups of a layout, each in a lawful state
 pub record Groups (l : Geometry) (w : ℕ → Group) : Type 0 where

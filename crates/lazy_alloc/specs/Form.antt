@@ -9,6 +9,7 @@ use Rattle.lazy_alloc.specs.declared.bits.TheConstants.{WORD_BITS}
 use Rattle.lazy_alloc.specs.Bits.{has, has_bit}
 use Rattle.lazy_alloc.specs.Chains.{IsLinked}
 use Rattle.lazy_alloc.specs.Sets.{Chunk, Sets, start_in, blocks_in, free_block_count}
+use Rattle.chunk_map.specs.declared.layout_sizes.TheConstants.{FIRST_UNIT}
 
 -- Each chunk has room for a bit for each block of the least class, in whole words.
 abbrev pub room_words : Geometry → ℕ
@@ -27,7 +28,7 @@ class_in classes j = slice_index_or classes j None
 -- the class of the block of the part that begins at a pointer, by the classes of the chunks
 abbrev pub class_by : Geometry → ℕ → (ℕ → Option ℕ) → ℕ → Option ℕ
 class_by l part class p =
-    if nat_le 16 p && chunk_at l p / l.chunks == part
+    if nat_le FIRST_UNIT p && chunk_at l p / l.chunks == part
     then option_and_then (start_in l (unit_at l p)) (class (chunk_in l p)) else None
 
 unfoldable pub class_of_block : Geometry → ℕ → List (Option ℕ) → ℕ → Option ℕ
@@ -43,7 +44,7 @@ chunks_of n free due classes = map
 
 unfoldable pub used_of : Geometry → ℕ → List (Option ℕ) → List ℕ → List Bool
 used_of l part classes bits = map (λ p. is_marked l bits p (class_of_block l part classes p))
-    (numbers (16 + part * l.chunks * chunk_units l) (l.chunks * chunk_units l))
+    (numbers (FIRST_UNIT + part * l.chunks * chunk_units l) (l.chunks * chunk_units l))
 
 abbrev pub sets_of : Geometry → ℕ → ℕ → ℕ → List (Option ℕ) → List ℕ → Sets
 sets_of l part free due classes bits = record {

@@ -5,6 +5,7 @@ use Rattle.chunk_map.specs.declared.layouts.Geometry.{Geometry}
 pub use Rattle.chunk_map.specs.Chunks.{blocks_in}
 use Rattle.chunk_map.specs.Layouts.{numbers, is_class}
 use Rattle.store_image.specs.Parts.{chunk_units, chunk_at, unit_at, is_start}
+use Rattle.chunk_map.specs.declared.layout_sizes.TheConstants.{FIRST_UNIT}
 
 -- Chunks are numbered in their part from 0. A pointer is the number of a block's first byte in the region divided by 256.
 pub record Chunk : Type 0 where
@@ -29,7 +30,7 @@ chunk_is_due a j = option_map_or (λ c. c.is_due) (slice_get a.chunks j) false
 
 -- the pointer of the part's first unit
 abbrev pub part_unit : Sets → ℕ
-part_unit a = 16 + a.part * a.layout.chunks * chunk_units a.layout
+part_unit a = FIRST_UNIT + a.part * a.layout.chunks * chunk_units a.layout
 
 -- whether the block with this pointer is allocated
 abbrev pub block_is_used : Sets → ℕ → Bool
@@ -42,7 +43,7 @@ start_in l u class = if is_start l class u then Some class else None
 -- the class of the block of the part that begins at a pointer, where one does
 abbrev pub class_at : Sets → ℕ → Option ℕ
 class_at a p =
-    if nat_le 16 p && chunk_at a.layout p / a.layout.chunks == a.part
+    if nat_le FIRST_UNIT p && chunk_at a.layout p / a.layout.chunks == a.part
     then option_and_then (start_in a.layout (unit_at a.layout p))
     (chunk_class a (chunk_at a.layout p % a.layout.chunks)) else None
 
@@ -61,7 +62,7 @@ free_block_count a class =
 
 -- the pointer of a chunk's first block
 abbrev pub first_block : Sets → ℕ → ℕ
-first_block a j = 16 + (a.part * a.layout.chunks + j) * chunk_units a.layout + 1
+first_block a j = FIRST_UNIT + (a.part * a.layout.chunks + j) * chunk_units a.layout + 1
 
 -- the chunk of the part in which a pointer lies
 abbrev pub chunk_of : Sets → ℕ → ℕ

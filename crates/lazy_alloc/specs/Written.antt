@@ -8,6 +8,7 @@ use Rattle.chunk_map.specs.Layouts.{part_first, chunk_first, head_at}
 use Rattle.chunk_map.specs.declared.heads.Head.TheVariants.{Free, Data}
 use Rattle.store_image.specs.Parts.{block_bytes}
 use Rattle.lazy_alloc.specs.Sets.{Sets, SameBlocks, chunk_of, chunk_is_free, chunk_class, chunk_is_due}
+use Rattle.chunk_map.specs.declared.layout_sizes.TheConstants.{CLASS_FACTOR, UNIT_WORDS}
 
 -- the allocator's part lies in the region's range
 pub record PartLies (f : Frame) (a : Sets) : Type 0 where
@@ -23,7 +24,7 @@ head_of a p = chunk_first a.layout a.part (chunk_of a p)
 pub record HasHead (s : State) (a : Sets) (p class : ℕ) : Type 0 where
   pub due : chunk_is_due a (chunk_of a p) ≡ true → IsTelling s → Surely (cell_now s (head_of a p)) 0
   pub written : chunk_is_due a (chunk_of a p) ≡ false → IsTelling s
-      → Surely (cell_now s (head_of a p)) (2 + 256 * class)
+      → Surely (cell_now s (head_of a p)) (2 + CLASS_FACTOR * class)
 
 -- The head of the block's chunk is that of the class; or it is Free, where it is due.
 abbrev pub HeadTurnsTo : Sets → ℕ → ℕ → (ℕ → ℕ) → Type 0
@@ -32,14 +33,14 @@ HeadTurnsTo a p class image = (head_at a.layout image (head_of a p) ≡ Ok (Data
 
 -- No word outside the block is stored or flushed, but for the head's first line where the head is due.
 pub record KeepsOthers (a : Sets) (p class : ℕ) (old new : ℕ → Cell) : Type 0 where
-  pub outside : (w : ℕ) → (w < 32 * p) ⊎ (32 * p + 32 * 2 ^ class ≤ w) → (w < head_of a p)
-      ⊎ (head_of a p + 8 ≤ w) → Kept (old w) (new w)
-  pub head : chunk_is_due a (chunk_of a p) ≡ false → (w : ℕ) → (w < 32 * p)
-      ⊎ (32 * p + 32 * 2 ^ class ≤ w) → Kept (old w) (new w)
+  pub outside : (w : ℕ) → (w < UNIT_WORDS * p) ⊎ (UNIT_WORDS * p + UNIT_WORDS * 2 ^ class ≤ w)
+      → (w < head_of a p) ⊎ (head_of a p + 8 ≤ w) → Kept (old w) (new w)
+  pub head : chunk_is_due a (chunk_of a p) ≡ false → (w : ℕ) → (w < UNIT_WORDS * p)
+      ⊎ (UNIT_WORDS * p + UNIT_WORDS * 2 ^ class ≤ w) → Kept (old w) (new w)
 
 -- the image's block has the length and the bytes of the value
 abbrev pub HoldsValue : ℕ → List ℕ → (ℕ → ℕ) → Type 0
-HoldsValue p value image = (image (32 * p) ≡ length value) × (block_bytes image p ≡ value)
+HoldsValue p value image = (image (UNIT_WORDS * p) ≡ length value) × (block_bytes image p ≡ value)
 
 -- the words that are stored: the length, and the bytes in words
 abbrev pub block_words : List ℕ → List ℕ
@@ -50,9 +51,9 @@ block_lines value = (1 + words_for (length value) + 7) / 8
 
 -- The value is certain, and its chunk is certainly Data.
 pub record WroteValue (s : State) (old new : Sets) (p class : ℕ) (value : List ℕ) : Type 0 where
-  pub head : IsTelling s → Surely (cell_now s (head_of old p)) (2 + 256 * class)
-  pub holds : IsTelling s → EachIn (32 * p) (32 * p + 32 * 2 ^ class) (HoldsValue p value)
-      (cell_now s)
+  pub head : IsTelling s → Surely (cell_now s (head_of old p)) (2 + CLASS_FACTOR * class)
+  pub holds : IsTelling s → EachIn (UNIT_WORDS * p) (UNIT_WORDS * p + UNIT_WORDS * 2 ^ class)
+      (HoldsValue p value) (cell_now s)
   pub layout_is : new.layout ≡ old.layout
   pub part_is : new.part ≡ old.part
   pub free : (i : ℕ) → chunk_is_free new i ≡ chunk_is_free old i

@@ -12,6 +12,7 @@ use Rattle.store_image.specs.declared.types.PlacedEntry.{PlacedEntry}
 use Rattle.store_image.specs.declared.types.Fault.{Fault}
 use Rattle.store_image.specs.Parts.{block_class}
 use Rattle.store_image.specs.Soundness.{damaged, same_body}
+use Rattle.chunk_map.specs.declared.layout_sizes.TheConstants.{UNIT_WORDS}
 
 -- whether one of these entries has the pointer
 abbrev pub is_taken : ℕ → List PlacedEntry → Bool
@@ -20,7 +21,7 @@ is_taken p ws = list_any (λ x. same_body (Pointer p) x.entry.body) ws
 -- the first rule of 9 to 11 that a pointer breaks beside those of smaller keys, by the class of the block there
 abbrev pub rule_beside : (ℕ → ℕ) → List PlacedEntry → ℕ → Option ℕ → Option ℕ
 rule_beside image before p None = Some 9
-rule_beside image before p (Some class) = if has_class (image (32 * p)) class then
+rule_beside image before p (Some class) = if has_class (image (UNIT_WORDS * p)) class then
     (if is_taken p before then Some 11 else None) else Some 10
 
 abbrev pub body_beside : Geometry → (ℕ → ℕ) → List PlacedEntry → ℕ → Body → Option ℕ

@@ -62,7 +62,7 @@ fn read_chunk<R: Region>(
     match read_head(region, layout, at) {
         Err(bad) => Ok((Some(bad.rule), Scanned::nothing(alloc))),
         Ok(Head::Log { tail }) => {
-            let words = load_words(alloc, region, at + 32, tail)?;
+            let words = load_words(alloc, region, at + HEAD_WORDS, tail)?;
             let scanned = scan_log(alloc, &words)?;
             let rule = log_rule(&layout.geometry(), part, &scanned);
             Ok((rule, scanned))

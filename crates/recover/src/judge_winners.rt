@@ -24,6 +24,7 @@ use crate::region_blocks::block_class;
 use crate::sorting::{agree, by_name};
 use crate::types::RecoverError;
 use chunk_map::Layout;
+use chunk_map::layout_sizes::UNIT_WORDS;
 use log_entry::Body;
 use pm_region::Region;
 use std::alloc::Global;
@@ -53,7 +54,7 @@ fn pointer_rule<R: Region>(
     match block_class(region, layout, owner(&layout.geometry(), key), pointer) {
         None => Some(9),
         Some(class) => {
-            if !has_class(region.load(32 * pointer), class) {
+            if !has_class(region.load(UNIT_WORDS * pointer), class) {
                 Some(10)
             } else if taken.contains(&pointer) {
                 Some(11)

@@ -6,7 +6,9 @@ ghost use Rattle.chunk_map.specs.Layouts.{total_bytes};
 ghost use Rattle.store_image.specs.Parts.{block_class, held};
 ghost use Rattle.recover.specs.Regions.{Covers};
 
-use chunk_map::layout_sizes::{FIRST_UNIT, SUPERBLOCK_WORDS, UNIT_BYTES};
+use chunk_map::layout_sizes::{
+    FIRST_UNIT, GREATEST_CLASS, SUPERBLOCK_WORDS, UNIT_BYTES, UNIT_WORDS,
+};
 use chunk_map::{Head, Layout, read_head};
 use fs_errors::Memory;
 use fs_model::Value;
@@ -22,8 +24,8 @@ pub fn block_class<R: Region>(region: &R, layout: &Layout, part: u32, pointer: u
     requires part { part < layout.now.cores }
     ensures told { IsTelling (R.state region.now) → result
         ≡ block_class layout.now (lasts (R.state region.now)) part pointer }
-    ensures small { IfSome result (λ class. class ≤ 12) }
-    ensures within { IfSome result (λ class. 32 * pointer + 32 * 2 ^ class
+    ensures small { IfSome result (λ class. class ≤ GREATEST_CLASS) }
+    ensures within { IfSome result (λ class. UNIT_WORDS * pointer + UNIT_WORDS * 2 ^ class
         ≤ total_bytes layout.now / 8) }
 {
     if pointer < FIRST_UNIT {
