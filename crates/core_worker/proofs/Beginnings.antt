@@ -49,9 +49,6 @@ module _ (Known : Type 0) (w u : Worker) (cell : Option (List ℕ)) (n : ℕ) (r
   pub begins_answered : (o : Option Shortage) → o ≡ None → o ≡ cause → is_change r cell ≡ false → (a : Reply) → IsSaid Known r (answer_to r cell) a → IsAnswered w u (answer_with n a None) → Begins Known w u cell n r
   begins_answered o is why change reply said a = by_why None (sym why ∙ is) (subst (λ (c : Bool). GoesOn Known c w u cell n r) (sym change) (reply, said, a))
 
-  pub begins_staged : (o : Option Shortage) → o ≡ None → o ≡ cause → is_change r cell ≡ true → IsStaged w u n r → Begins Known w u cell n r
-  begins_staged o is why change s = by_why None (sym why ∙ is) (subst (λ (c : Bool). GoesOn Known c w u cell n r) (sym change) s)
-
 -- an answer more changes none of the ties
 abbrev pub with_answers : Worker → VecDeque Answer Global → Worker
 with_answers w a = record w { answers = a }

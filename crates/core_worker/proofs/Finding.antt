@@ -1,8 +1,8 @@
 -- What a get finds is what the view has of the key.
 use Rattle.std.proofs.Common.{◌≡◌, ◌≢◌, inl, ℕ, ◌+◌, ◌*◌, List, [], length, length-take, Option, Some, None, Bool, true, false, cond, refl, sym, ◌∙◌, ap, subst, arith}
 use Rattle.std.specs.Prelude.{is_some}
-use Rattle.fs_model.specs.declared.model.Request.TheVariants.{Get, Delete}
-use Rattle.fs_model.specs.Cells.{answer_to, is_change}
+use Rattle.fs_model.specs.declared.model.Request.TheVariants.{Get}
+use Rattle.fs_model.specs.Cells.{answer_to}
 use Rattle.core_worker.specs.Answering.{is_read}
 use Rattle.pm_region.specs.State.{State, IsTelling, cell_now}
 use Rattle.pm_region.specs.Words.{lasts, MayLeaveIn}
@@ -98,13 +98,3 @@ is_live (Some u) e n = cc n
 pub is_gone : (c : Option (List ℕ)) → is_some c ≡ false → c ≡ None
 is_gone None e = refl
 is_gone (Some u) e = absurd (cc e)
-
--- there is a cell with a value, and one without
-pub some_cell : (b : Bool) → (c : Option (List ℕ)) × (is_some c ≡ b)
-some_cell true = (Some [], refl)
-some_cell false = (None, refl)
-
--- a delete of a key that has a value changes it
-pub deletes : (k : ℕ) (c : Option (List ℕ)) → is_some c ≡ true → is_change (Delete k) c ≡ true
-deletes k None e = absurd (cc e)
-deletes k (Some u) e = refl

@@ -1,13 +1,13 @@
 -- The pointer of a block of the part is small, and there is a block where a put is not refused.
-use Rattle.std.proofs.Common.{◌≡◌, ◌≢◌, inl, ⊎_elim, ℕ, suc, ◌+◌, ◌-◌, ◌*◌, ◌/◌, ◌^◌, ◌<◌, ◌≤◌, ◌==◌, ◌&&◌, ◌||◌, not, Bool, true, false, cond, leb, ltb, List, [], ◌∷◌, length, Option, Some, None, refl, sym, ◌∙◌, subst, arith}
+use Rattle.std.proofs.Common.{◌≡◌, ◌≢◌, inl, ⊎_elim, ℕ, zero, suc, ◌+◌, ◌-◌, ◌*◌, ◌/◌, ◌^◌, ◌<◌, ◌≤◌, ◌==◌, ◌&&◌, ◌||◌, not, Bool, true, false, cond, leb, ltb, List, [], ◌∷◌, length, Option, Some, None, refl, sym, ◌∙◌, subst, arith}
 use Rattle.std.specs.Option.{IsSome}
 use Rattle.std.specs.List.{AllByRecursion}
-use Rattle.std.proofs.lemmas.Nat.{pow_pos}
+use Rattle.std.proofs.lemmas.Nat.{pow_pos, pow-add}
 use Rattle.std.proofs.Math.Nat.{mul-le-mul_right, mul-le-mul_left, add-mul}
-use Rattle.core_room.proofs.Clients.{class_for_long, class_fits, class_small}
+use Rattle.core_room.proofs.Clients.{class_for_long, class_fits}
 use Rattle.chunk_map.specs.Layouts.{has_class}
 use Rattle.std.proofs.lemmas.Bool.{le-leb}
-use Rattle.std.proofs.lemmas.Bool.{eq-eqb, ne_eqb, and_parts, or_cases, leb-true, eqb-true, leb-false, ltb-false}
+use Rattle.std.proofs.lemmas.Bool.{eq-eqb, ne_eqb, and_parts, and_from, or_cases, leb-true, eqb-true, leb-false, ltb-false, lt-ltb, cases_lt}
 use Rattle.chunk_map.specs.declared.layouts.Geometry.{Geometry}
 use Rattle.chunk_map.specs.Layouts.{IsLayout, is_class}
 use Rattle.chunk_map.proofs.Clients.{numbers_of}
@@ -32,6 +32,7 @@ use Rattle.core_room.specs.declared.supply.Supply.{Supply}
 use Rattle.core_worker.specs.Supplies.{IsSmall, supply_of, why_put, free_blocks}
 use Rattle.core_room.specs.RoomRule.{pledged, lacks_block, lacks_room, may_cut}
 use Rattle.core_room.specs.Lengths.{lines_needed, class_for}
+use Rattle.core_worker.specs.Plans.{last_version, PutsInBlock}
 use Rattle.core_worker.specs.Beginning.{HoldsAside}
 
 each : (ps : List Place) → ((s : ℕ) → s < length ps → IsCounted (place_at ps s)) → AllByRecursion IsCounted ps
@@ -128,34 +129,59 @@ pointer_small a q class are is at =
     below : (c n m j : ℕ) → c < n → j < m → (c * m + j) + 1 ≤ n * m
     below c n m j lt jl = let up : (c + 1) * m ≤ n * m = mul-le-mul_right m (let le : c + 1 ≤ n = omega (arith, lt) in le) in let one : (c + 1) * m ≡ c * m + 1 * m = add-mul c 1 m in omega (arith, up, jl, one)
 
--- a put that gets a block and isn't refused
-module _ (p : group.Place) (m : ℕ) (v : View) (w : Worker) (H : HoldsAside p m v w) (last n class : ℕ) (why : why_put w.layout (supply_of w) w.allocator last n ≡ None) (long : 256 ≤ n) (has : has_class n class ≡ true) where
+or_right : (x y : Bool) → y ≡ true → (x || y) ≡ true
+or_right true y e = refl
+or_right false y e = e
+
+-- a length that gets a block has a class
+class_up_to : (n c : ℕ) → 256 ≤ n → n + 8 ≤ 256 * 2 ^ (suc c) → (d : ℕ) × (d ≤ suc c) × (has_class n d ≡ true)
+class_up_to n zero long fits = (1, omega arith, and_from _ _ (and_from _ _ (le-leb 256 n long) (le-leb (n + 8) (256 * 2 ^ 1) fits)) refl)
+class_up_to n (suc c) long fits = ⊎_elim
+    (λ more. (suc (suc c), omega arith, and_from _ _ (and_from _ _ (le-leb 256 n long) (le-leb (n + 8) (256 * 2 ^ (suc (suc c))) fits)) (or_right (suc (suc c) == 1) _ (lt-ltb (128 * 2 ^ (suc (suc c))) (n + 8) more))))
+    (λ le. let twice : 2 ^ (suc c + 1) ≡ 2 ^ (suc c) * 2 = pow-add 2 (suc c) 1 in
+    let less = class_up_to n c long (omega (arith, le, twice)) in
+    let up = less.1 in
+    (less.0, omega (arith, up), less.2))
+    (cases_lt (128 * 2 ^ (suc (suc c))) (n + 8))
+
+pub class_has : (n : ℕ) → 256 ≤ n → n ≤ 1048568 → has_class n (class_for n) ≡ true
+class_has n long short =
+    let d = class_up_to n 11 long (omega (arith, short)) in
+    subst (λ k. has_class n k ≡ true) (sym (class_for_long n d.0 d.2 d.1)) d.2
+
+-- a put that gets a block
+module _ (p : group.Place) (m : ℕ) (v : View) (w : Worker) (H : HoldsAside p m v w) (key : ℕ) (value : List ℕ) (version class : ℕ) (cuts : Bool) (P : PutsInBlock w key value version class cuts) where
   is : IsLayout w.layout
   is = subst IsLayout (sym H.layout) H.place.layout
 
-  U : Unrefused w.layout (supply_of w) w.allocator last n
-  U = unrefused w.layout (supply_of w) w.allocator last n why
+  U : Unrefused w.layout (supply_of w) w.allocator (last_version w key) (length value)
+  U = unrefused w.layout (supply_of w) w.allocator (last_version w key) (length value) P.unrefused
 
-  fits : is_class w.layout class ≡ true
-  fits = class_fits w.layout is n class U.short has
+  pub has : has_class (length value) class ≡ true
+  has =
+      let most = (numbers_of w.layout is).size.1 in
+      let short = U.short in
+      subst (λ (k : ℕ). has_class (length value) k ≡ true) (sym P.class_is) (class_has (length value) P.long (omega (arith, most, short)))
 
-  pub one_line : lines_needed n ≡ 1
-  one_line = (λ i. cond (le-leb 256 n long i) 1 ((2 + (n + 7) / 8 + 7) / 8))
-
-  pub class_is : class_for n ≡ class
-  class_is = class_for_long n class has (class_small w.layout is n class U.short has)
+  pub one_line : lines_needed (length value) ≡ 1
+  one_line = (λ i. cond (le-leb 256 (length value) P.long i) 1 ((2 + (length value + 7) / 8 + 7) / 8))
 
   pub block_class : is_class w.allocator.layout class ≡ true
-  block_class = subst (λ (l : Geometry). is_class l class ≡ true) (H.layout ∙ sym H.allocator_layout) fits
+  block_class = subst (λ (l : Geometry). is_class l class ≡ true) (H.layout ∙ sym H.allocator_layout) (class_fits w.layout is (length value) class U.short has)
 
-  pub block_there : lacks_block (supply_of w) 1 class (free_blocks w.allocator class) ≡ false
-  block_there = (λ i. lacks_block (supply_of w) (sym one_line i) (sym class_is i) (free_blocks w.allocator (sym class_is i))) ∙ U.block
+  pub block_there : (new : Sets) (o : Option ℕ) → Takes w.allocator new class cuts o → IsSome o
+  block_there new o takes = take_some w new w.allocator.layout class (lines_needed (length value)) block_class
+      ((λ i. lacks_block (supply_of w) (lines_needed (length value)) (P.class_is i) (free_blocks w.allocator (P.class_is i))) ∙ U.block)
+      o (subst (λ (b : Bool). Takes w.allocator new class b o) P.cuts_is takes)
 
   pub layout_there : IsLayout w.allocator.layout
   layout_there = subst IsLayout (sym H.allocator_layout) H.place.layout
 
-  pub unspent : last < 1048574
+  pub unspent : last_version w key < 1048574
   unspent = U.unspent
+
+  pub room_there : lacks_room (supply_of w) (lines_needed (length value)) ≡ false
+  room_there = U.room
 
 -- a key that has a value was changed before, and a delete of it has a number left
 live_record : (v : View) (k : ℕ) (o : Option KeyRecord) (cell : Option (List ℕ)) → LeftIn v k o cell → cell ≢ None → ((r : KeyRecord) → o ≡ Some r → HasSpelling (record { key = k; version = r.version; body = r.body })) → (1 ≤ last_of o) × (last_of o ≤ 1048574)

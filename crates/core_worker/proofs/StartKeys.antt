@@ -21,7 +21,7 @@ use Rattle.group_laws.specs.Places.{Place, IsPlace, members, core_of, owner}
 use Rattle.group_laws.specs.MemberViews.{View}
 use Rattle.group_laws.specs.OpeningImages.{winner_of, home_of, is_own, is_at, is_dead, is_own_dead, alone}
 use Rattle.group_laws.specs.OpeningImages as images
-use Rattle.group_laws.proofs.Clients.{held_there, core_once, core_back, own_core, found_is, finds_one, all_true, all_from, home as entries_home, some_group, wins, is_found, own_true}
+use Rattle.group_laws.proofs.Clients.{held_there, core_back, own_core, found_is, finds_one, all_true, all_from, home as entries_home, some_group, wins, is_found, own_true}
 use Rattle.core_worker.specs.KeyTies.{KnowsKey, Left, LeftIn}
 use Rattle.core_worker.specs.Hearing.{is_dead_by, heard_at, last_change, HearsAll}
 use Rattle.core_worker.specs.Openings.{opened_view}

@@ -28,7 +28,7 @@ use Rattle.group_laws.specs.declared.types.Block.{Block}
 use Rattle.group_laws.specs.declared.types.Pending.{Pending}
 use Rattle.group_laws.specs.Places.{Place, members, core_of, owner}
 use Rattle.group_laws.specs.MemberViews.{View, of_own}
-use Rattle.group_laws.proofs.Clients.{part_core, own_core, has_home, home_has, back, some_group}
+use Rattle.group_laws.proofs.Clients.{part_core, has_home, home_has, back, some_group}
 use Rattle.group_laws.specs.OpeningImages.{home_of, is_at, is_dead, is_own_dead}
 use Rattle.group_board.specs.Seats.{SeatAt}
 use Rattle.core_worker.specs.declared.types.Cleaning.{Cleaning}

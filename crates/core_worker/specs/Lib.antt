@@ -6,6 +6,7 @@ pub mod StandingTies
 pub mod Ties
 pub mod Order
 pub mod Refusals
+pub mod Plans
 pub mod Answering
 pub mod Beginning
 pub mod Serving

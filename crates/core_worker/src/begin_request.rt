@@ -1,19 +1,17 @@
 // Beginning a request: it is refused, answered, or staged as a change.
-ghost use Rattle.std.specs.Prelude.{◌≡◌, ◌≢◌, ◌⊎◌, ℕ, ◌+◌, ◌<◌, ◌≤◌, List, [], ◌∷◌, ◌++◌, length, Option, Some, None, true, false, is_some, IfOk, IfErr, OnOk, OnErr};
+ghost use Rattle.std.specs.Prelude.{◌≡◌, ◌≢◌, ◌⊎◌, ℕ, ◌+◌, ◌<◌, ◌≤◌, [], ◌∷◌, ◌++◌, length, Option, Some, None, true, false, IfOk, IfErr, OnOk, OnErr};
 ghost use Rattle.std.specs.VecDeque.{deque_len, deque_capacity};
 ghost use Rattle.pm_region.specs.State.{State, IsTelling};
 ghost use Rattle.fs_model.specs.declared.model.Request.TheVariants as requests;
 ghost use Rattle.fs_model.specs.Cells.{key_of, answer_to};
 ghost use Rattle.log_entry.specs.Spelling.{HasSpelling};
-ghost use Rattle.core_index.specs.Index.{known_at, room_at};
-ghost use Rattle.core_index.specs.Records.{last_of, live_version};
+ghost use Rattle.core_index.specs.Index.{room_at};
 ghost use Rattle.batch_leader.specs.declared.batch_buffer.BatchBuffer.{BatchBuffer};
 ghost use Rattle.core_worker.specs.declared.types.Place.TheVariants as kinds;
 ghost use Rattle.core_worker.specs.declared.types.Leading.TheVariants as leads;
 ghost use Rattle.core_worker.specs.OwnPlaces.{place_at, is_free, is_busy, IsLowest, Replaces};
-ghost use Rattle.core_worker.specs.Supplies.{supply_of, HasKeptRoom, why, why_put};
-ghost use Rattle.core_room.specs.RoomRule.{lacks_room};
-ghost use Rattle.core_room.specs.Lengths.{lines_needed};
+ghost use Rattle.core_worker.specs.Supplies.{HasKeptRoom};
+ghost use Rattle.core_worker.specs.Plans.{PutsBeside, PutsInBlock, Deletes};
 ghost use Rattle.core_worker.specs.Refusals.{HasAnswerRoom};
 ghost use Rattle.core_worker.specs.Answering.{IsSaid};
 ghost use Rattle.core_worker.specs.Beginning.{answer_with, HasFree, IsAside, StandsAside, KeepsTies, ByEachView, OnlyStages, OnlyBegins, IsStaged, Begins};
@@ -21,17 +19,15 @@ ghost use Rattle.core_worker.specs.Ties.{LeadsNothing};
 ghost use Rattle.core_worker.specs.Serving.{KeepsLine, LeadsNothingYet};
 ghost use Rattle.core_worker.specs.Left.{left, staged_left};
 
+use crate::planning::reply_for;
 use crate::post_item::place_in;
-use crate::refusing::reply_for;
-use crate::types::{Answer, NotAccepted, Place};
+use crate::types::{Answer, NotAccepted, Place, Plan};
 use crate::worker::Worker;
-use chunk_map::layout_sizes::SHORTEST_IN_BLOCK;
 use core_index::Look;
-use core_room::{Shortage, byte_count};
+use core_room::Shortage;
 use fs_errors::Memory;
-use fs_model::{Key, Reply, Request, Value};
-use lazy_alloc::class_of;
-use log_entry::{Body, Entry, LAST_PUT_VERSION};
+use fs_model::{Key, Reply, Request, Value, Version};
+use log_entry::{Body, Entry};
 use pm_region::Region;
 use std::alloc::Global;
 use std::mem;
@@ -108,23 +104,19 @@ impl Worker {
     }
 
     // Stages a put of a value that stands beside its key.
-    fn stage_beside(&mut self, alloc: Global, number: u64, key: Key, value: Value)
+    fn stage_beside(&mut self, alloc: Global, number: u64, key: Key, value: Value, version: Version)
         requires held { IsAside self.old key }
         requires runs { self.old.stopped ≡ false }
         requires nothing { LeadsNothing self.old }
         requires idle { is_busy self.old.places.items key ≡ false }
         requires room { 0 < room_at self.old.index key }
         requires place { HasFree self.old.places.items }
-        requires short { length value < SHORTEST_IN_BLOCK }
-        requires unspent { last_of (known_at self.old.index key) < LAST_PUT_VERSION }
-        requires fits { lacks_room (supply_of self.old) (lines_needed (length value)) ≡ false }
+        requires planned { PutsBeside self.old key value version }
         ensures keeps { KeepsTies self.old self.new key }
         ensures staged { IsStaged self.old self.new number (requests.Put key value) }
         ensures rule { HasKeptRoom self.new }
         ensures rest { OnlyStages self.old self.new }
     {
-        let _count = byte_count(value.bytes());
-        let version = self.index.next_version(key, false).unwrap();
         let entry = Entry {
             key,
             version,
@@ -134,24 +126,27 @@ impl Worker {
     }
 
     // Stages a put of a value that gets a block.
-    fn stage_block(&mut self, number: u64, key: Key, value: Value)
+    fn stage_block(
+        &mut self,
+        number: u64,
+        key: Key,
+        value: Value,
+        version: Version,
+        class: u32,
+        may_cut: bool,
+    )
         requires held { IsAside self.old key }
         requires runs { self.old.stopped ≡ false }
         requires nothing { LeadsNothing self.old }
         requires idle { is_busy self.old.places.items key ≡ false }
         requires room { 0 < room_at self.old.index key }
         requires place { HasFree self.old.places.items }
-        requires long { SHORTEST_IN_BLOCK ≤ length value }
-        requires unrefused { why_put self.old.layout (supply_of self.old) self.old.allocator
-            (last_of (known_at self.old.index key)) (length value) ≡ None }
+        requires planned { PutsInBlock self.old key value version class may_cut }
         ensures keeps { KeepsTies self.old self.new key }
         ensures staged { IsStaged self.old self.new number (requests.Put key value) }
         ensures rule { HasKeptRoom self.new }
         ensures rest { OnlyStages self.old self.new }
     {
-        let class = class_of(byte_count(value.bytes()));
-        let may_cut = self.may_cut(1);
-        let version = self.index.next_version(key, false).unwrap();
         let pointer = self.allocator.take(class, may_cut).unwrap();
         let entry = Entry {
             key,
@@ -162,21 +157,19 @@ impl Worker {
     }
 
     // Stages a delete of a key that has a value.
-    fn stage_delete(&mut self, alloc: Global, number: u64, key: Key)
+    fn stage_delete(&mut self, alloc: Global, number: u64, key: Key, version: Version)
         requires held { IsAside self.old key }
         requires runs { self.old.stopped ≡ false }
         requires nothing { LeadsNothing self.old }
         requires idle { is_busy self.old.places.items key ≡ false }
         requires room { 0 < room_at self.old.index key }
         requires place { HasFree self.old.places.items }
-        requires live { is_some (live_version (known_at self.old.index key)) ≡ true }
-        requires fits { lacks_room (supply_of self.old) 1 ≡ false }
+        requires planned { Deletes self.old key version }
         ensures keeps { KeepsTies self.old self.new key }
         ensures staged { IsStaged self.old self.new number (requests.Delete key) }
         ensures rule { HasKeptRoom self.new }
         ensures rest { OnlyStages self.old self.new }
     {
-        let version = self.index.next_version(key, true).unwrap();
         let entry = Entry {
             key,
             version,
@@ -187,92 +180,6 @@ impl Worker {
 }
 
 impl Worker {
-    // Stages a put that is not refused.
-    fn stage_put(&mut self, alloc: Global, number: u64, key: Key, value: Value)
-        requires held { IsAside self.old key }
-        requires runs { self.old.stopped ≡ false }
-        requires nothing { LeadsNothing self.old }
-        requires idle { is_busy self.old.places.items key ≡ false }
-        requires room { 0 < room_at self.old.index key }
-        requires place { HasFree self.old.places.items }
-        requires unrefused { why_put self.old.layout (supply_of self.old) self.old.allocator
-            (last_of (known_at self.old.index key)) (length value) ≡ None }
-        ensures keeps { KeepsTies self.old self.new key }
-        ensures staged { IsStaged self.old self.new number (requests.Put key value) }
-        ensures rule { HasKeptRoom self.new }
-        ensures rest { OnlyStages self.old self.new }
-    {
-        if byte_count(value.bytes()) < SHORTEST_IN_BLOCK {
-            self.stage_beside(alloc, number, key, value);
-        } else {
-            self.stage_block(number, key, value);
-        }
-    }
-
-    // Answers or stages a request of a core that runs, which is not refused. `live` tells whether its key has a value.
-    fn begin_unrefused<R: Region>(
-        &mut self,
-        alloc: Global,
-        region: &R,
-        number: u64,
-        request: Request,
-        live: bool,
-    ) -> Result<(), NotAccepted>
-        requires tied { StandsAside (R.state region.now) self.old (key_of request) }
-        requires runs { self.old.stopped ≡ false }
-        requires nothing { LeadsNothing self.old }
-        requires idle { is_busy self.old.places.items (key_of request) ≡ false }
-        requires room { 0 < room_at self.old.index (key_of request) }
-        requires place { HasFree self.old.places.items }
-        requires answers { HasAnswerRoom 1 self.old }
-        requires why { (cell : Option (List ℕ)) → is_some cell ≡ live
-            → why self.old.layout (supply_of self.old) self.old.allocator
-            (last_of (known_at self.old.index (key_of request))) cell request ≡ None }
-        requires live { is_some (live_version (known_at self.old.index (key_of request))) ≡ live }
-        ensures keeps { OnOk result (KeepsTies self.old self.new (key_of request)) }
-        ensures begins { OnOk result (ByEachView (R.state region.now) self.old (key_of request)
-            (λ v. Begins (IsTelling (R.state region.now)) self.old self.new
-            (v.cell (key_of request)) number request)) }
-        ensures room { OnOk result ((n : ℕ) → HasAnswerRoom (n + 1) self.old
-            → HasAnswerRoom n self.new) }
-        ensures rule { HasKeptRoom self.old → HasKeptRoom self.new }
-        ensures rest { OnlyBegins self.old self.new }
-        ensures places { OnOk result ((self.new.places ≡ self.old.places)
-            ⊎ (is_busy self.new.places.items (key_of request) ≡ true)) }
-        ensures busy { OnOk result ((k : ℕ) → is_busy self.old.places.items k ≡ true
-            → is_busy self.new.places.items k ≡ true) }
-        ensures line { OnOk result (KeepsLine self.old self.new (key_of request)) }
-        ensures most { OnOk result (left self.new ≤ left self.old + staged_left) }
-        ensures given_back { IfErr result (λ back. back.request ≡ request) }
-        ensures unchanged { OnErr result (self.new ≡ self.old) }
-    {
-        match request {
-            Request::Get { key } => match self.found(alloc, region, key) {
-                Ok(reply) => {
-                    self.answer(number, reply, None);
-                    return Ok(());
-                }
-                Err(_) => {
-                    return Err(NotAccepted {
-                        request: Request::Get { key },
-                    });
-                }
-            },
-            Request::Put { key, value } => {
-                self.stage_put(alloc, number, key, value);
-                return Ok(());
-            }
-            Request::Delete { key } => {
-                if live {
-                    self.stage_delete(alloc, number, key);
-                    return Ok(());
-                }
-                self.answer(number, Reply::Absent, None);
-                return Ok(());
-            }
-        }
-    }
-
     // Begins a request of a core that runs.
     fn begin_running<R: Region>(
         &mut self,
@@ -305,14 +212,50 @@ impl Worker {
         ensures given_back { IfErr result (λ back. back.request ≡ request) }
         ensures unchanged { OnErr result (self.new ≡ self.old) }
     {
-        let live = self.is_live(request.key());
-        match self.refusal(&request, live) {
-            Some(shortage) => {
+        let plan = match self.plan(request) {
+            Ok(plan) => plan,
+            Err(shortage) => {
                 self.answer(number, reply_for(&shortage), Some(shortage));
                 return Ok(());
             }
-            None => {
-                return self.begin_unrefused(alloc, region, number, request, live);
+        };
+        match plan {
+            Plan::Get { key } => match self.found(alloc, region, key) {
+                Ok(reply) => {
+                    self.answer(number, reply, None);
+                    return Ok(());
+                }
+                Err(_) => {
+                    return Err(NotAccepted {
+                        request: Request::Get { key },
+                    });
+                }
+            },
+            Plan::Absent => {
+                self.answer(number, Reply::Absent, None);
+                return Ok(());
+            }
+            Plan::PutBeside {
+                key,
+                value,
+                version,
+            } => {
+                self.stage_beside(alloc, number, key, value, version);
+                return Ok(());
+            }
+            Plan::PutInBlock {
+                key,
+                value,
+                version,
+                class,
+                may_cut,
+            } => {
+                self.stage_block(number, key, value, version, class, may_cut);
+                return Ok(());
+            }
+            Plan::Delete { key, version } => {
+                self.stage_delete(alloc, number, key, version);
+                return Ok(());
             }
         }
     }

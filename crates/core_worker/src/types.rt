@@ -54,6 +54,33 @@ pub enum Cleaning {
     Doomed { chunk: u32 },
 }
 
+// What is done for a request that is not refused.
+#[derive(Drop)]
+pub(crate) enum Plan {
+    Get {
+        key: Key,
+    },
+    // A delete of a key without a value is answered.
+    Absent,
+    PutBeside {
+        key: Key,
+        value: Value,
+        version: Version,
+    },
+    // The value gets a block of the class, for which a chunk may be cut or not.
+    PutInBlock {
+        key: Key,
+        value: Value,
+        version: Version,
+        class: u32,
+        may_cut: bool,
+    },
+    Delete {
+        key: Key,
+        version: Version,
+    },
+}
+
 /// The answer to a request, by its number.
 #[derive(Drop)]
 pub struct Answer {

@@ -1,7 +1,7 @@
 // What room a core has, and what it has promised.
-ghost use Rattle.std.specs.Prelude.{◌≡◌, ◌⊎◌, ℕ, ◌+◌, ◌^◌, ◌<◌, ◌≤◌, length, true};
+ghost use Rattle.std.specs.Prelude.{◌≡◌, ◌⊎◌, ℕ, ◌+◌, ◌^◌, ◌<◌, ◌≤◌, length, true, Some, None, IfOk, IfErr, OnOk};
 ghost use Rattle.chunk_map.specs.Layouts.{is_class};
-ghost use Rattle.core_room.specs.RoomRule.{pledged, may_cut};
+ghost use Rattle.core_room.specs.RoomRule.{pledged};
 ghost use Rattle.core_worker.specs.OwnPlaces.{lines_in, own};
 ghost use Rattle.core_worker.specs.Supplies.{supply_of, rest, IsSmall, free_blocks, lacks};
 ghost use Rattle.core_worker.specs.Refusals.{IsCounted, AreCounted, IsMeasured};
@@ -66,15 +66,6 @@ impl Worker {
         }
     }
 
-    // A chunk may be cut, and still an entry of so many lines fits.
-    pub(crate) fn may_cut(&self, need: u64) -> bool
-        requires measured { IsMeasured self.now }
-        requires few { need ≤ 5 }
-        ensures { result ≡ may_cut (supply_of self.now) need }
-    {
-        self.supply().may_cut(need)
-    }
-
     fn free_blocks(&self, class: u32) -> u32
         requires { (class ≡ 0) ⊎ (is_class self.now.allocator.layout class ≡ true) }
         ensures { result ≡ free_blocks self.now.allocator class }
@@ -86,14 +77,23 @@ impl Worker {
         }
     }
 
-    // Why an entry of so many lines, with a block of the class, finds no place.
-    pub(crate) fn shortage(&self, need: u64, class: u32) -> Option<Shortage>
+    // What room there is, where an entry of so many lines finds place, with a block of the class or none; else why not.
+    pub(crate) fn supply_for(&self, need: u64, class: u32) -> Result<Supply, Shortage>
         requires measured { IsMeasured self.now }
         requires few { need ≤ 5 }
         requires class { (class ≡ 0) ⊎ (is_class self.now.allocator.layout class ≡ true) }
-        ensures { result ≡ lacks (supply_of self.now) self.now.allocator need class }
+        ensures supply { IfOk result (λ supply. supply ≡ supply_of self.now) }
+        ensures few { IfOk result (λ supply. pledged supply < 2 ^ 33) }
+        ensures fits { OnOk result
+            (lacks (supply_of self.now) self.now.allocator need class ≡ None) }
+        ensures lacks { IfErr result (λ shortage.
+            lacks (supply_of self.now) self.now.allocator need class ≡ Some shortage) }
     {
         let free = self.free_blocks(class);
-        self.supply().shortage(need, class, free)
+        let supply = self.supply();
+        match supply.shortage(need, class, free) {
+            Some(shortage) => Err(shortage),
+            None => Ok(supply),
+        }
     }
 }

@@ -1,47 +1,116 @@
 -- What was done is what beginning the request is, and what it leaves of the ties.
-use Rattle.core_worker.proofs.RoomKept.{answered_room}
-use Rattle.std.proofs.Common.{◌≡◌, [], ◌∷◌, ◌++◌, Some, sym, ◌∙◌, ap, subst}
-use Rattle.std.specs.Prelude.{is_some}
+use Rattle.std.proofs.Common.{◌≡◌, inr, [], ◌∷◌, ◌++◌, Some, refl, sym, ◌∙◌, ap, subst, arith}
+use Rattle.pm_region.specs.State.{IsTelling}
+use Rattle.fs_model.specs.declared.model.Request.TheVariants as requests
 use Rattle.fs_model.specs.declared.model.Reply.{Reply}
 use Rattle.fs_model.specs.Cells.{key_of}
-use Rattle.core_index.specs.Index.{known_at}
-use Rattle.core_index.specs.Records.{live_version}
+use Rattle.group_laws.specs.Places.{owner}
+use Rattle.core_worker.specs.Plans.{IsPlanOf}
 use Rattle.core_worker.specs.Beginning.{answer_with}
-use Rattle.core_worker.proofs.Finding.{live_is}
-use Rattle.core_worker.proofs.Pointers.{measured}
-use Rattle.core_worker.proofs.Beginnings.{begins_refused, answered_holds, answered_stands, answered_busy, answered}
-use Rattle.core_worker.proofs.Serving.{line_answered}
-use Rattle.pm_region.specs.State.{IsTelling}
+use Rattle.core_worker.proofs.Beginnings.{begins_refused, answered_holds, answered_stands, answered, staged_busy, staged_keeps}
+use Rattle.core_worker.proofs.Finding.{live_is, is_live}
+use Rattle.core_worker.proofs.LeftWorkers.{staged_way}
+use Rattle.core_worker.proofs.Pointers.{measured, live_last}
+use Rattle.core_worker.proofs.Serving.{line_answered, line_staged}
 use Rattle.core_worker.proofs.worker.Worker.begin_running.Goals as goal
 
-pub refusal-requires : goal.refusal-requires
-refusal-requires g c =
+pub plan-requires : goal.plan-requires
+plan-requires g c =
     let t = c.requires.tied.0 in
     let h = c.requires.tied.1 in
-    record { measured = measured t.place t.number t.view c.args.self.now h.holds }
-
-pub returns-in-Some-clause-keeps : goal.returns-in-Some-clause-keeps
-returns-in-Some-clause-keeps g c t h = record { holds = answered_holds t.place t.number t.view c.args.self.now c.answer.new.self c.answer.ensures.rest h.holds; stands = λ s S. answered_stands s t.place t.number t.view c.args.self.now c.answer.new.self c.answer.ensures.rest S }
-
-pub returns-in-Some-clause-begins : goal.returns-in-Some-clause-begins
-returns-in-Some-clause-begins g c t h S =
-    let p = t.place in
-    let m = t.number in
-    let v = t.view in
+    let k = key_of c.args.request in
     let w = c.args.self.now in
-    let live : is_some (v.cell (key_of c.args.request)) ≡ c.is_live-live.result = live_is p m v w h.holds c.requires.runs (key_of c.args.request) h.own ∙ ap (λ k. is_some (live_version (known_at w.index k))) (sym c.key.ensures) ∙ sym c.is_live-live.ensures in
-    let why = c.refusal.ensures (v.cell (key_of c.args.request)) live in
-    begins_refused (IsTelling (g.R.Region.state c.args.region.now)) w c.answer.new.self (v.cell (key_of c.args.request)) c.args.number c.args.request c.requires.runs c.refusal.result c.in-Some.shortage c.in-Some.is why
-    (answered w c.answer.new.self _ c.answer.ensures.rest (subst (λ (r : Reply). c.answer.new.self.answers.items ≡ w.answers.items ++ answer_with c.args.number r (Some c.in-Some.shortage) ∷ []) c.reply_for.ensures c.answer.ensures.answers))
+    record {
+      measured = measured t.place t.number t.view w h.holds;
+      left = λ has. (let last = (live_last t.place t.number t.view w h.holds c.requires.runs k h.own (is_live (t.view.cell k) (live_is t.place t.number t.view w h.holds c.requires.runs k h.own ∙ has))).1 in omega (arith, last));
+    }
 
-pub returns-in-Some-clause-busy : goal.returns-in-Some-clause-busy
-returns-in-Some-clause-busy g c = answered_busy c.args.self.now c.answer.new.self c.answer.ensures.rest
+pub returns-in-Err-clause-keeps : goal.returns-in-Err-clause-keeps
+returns-in-Err-clause-keeps g c t h = record { holds = answered_holds t.place t.number t.view c.args.self.now c.answer.new.self c.answer.ensures.rest h.holds; stands = λ s S. answered_stands s t.place t.number t.view c.args.self.now c.answer.new.self c.answer.ensures.rest S }
 
-pub begin_unrefused-requires-clause-why : goal.begin_unrefused-requires-clause-why
-begin_unrefused-requires-clause-why g c cell live = sym (c.refusal.ensures cell live) ∙ c.in-None.is
+pub returns-in-Err-clause-begins : goal.returns-in-Err-clause-begins
+returns-in-Err-clause-begins g c t h S =
+    let w = c.args.self.now in
+    let r = c.args.request in
+    let cell = t.view.cell (key_of r) in
+    let live = live_is t.place t.number t.view w h.holds c.requires.runs (key_of r) h.own in
+    begins_refused (IsTelling (g.R.Region.state c.args.region.now)) w c.answer.new.self cell c.args.number r c.requires.runs (Some c.in-Err.shortage) c.in-Err.shortage refl (sym (c.in-Err.ensures.cause cell live))
+    (answered w c.answer.new.self _ c.answer.ensures.rest (subst (λ (y : Reply). c.answer.new.self.answers.items ≡ w.answers.items ++ answer_with c.args.number y (Some c.in-Err.shortage) ∷ []) c.reply_for.ensures c.answer.ensures.answers))
 
-pub returns-in-Some-clause-rule : goal.returns-in-Some-clause-rule
-returns-in-Some-clause-rule g c = answered_room c.args.self.now c.answer.new.self c.answer.ensures.rest
+pub returns-in-Err-clause-line : goal.returns-in-Err-clause-line
+returns-in-Err-clause-line g c = line_answered c.args.self.now c.answer.new.self (key_of c.args.request) c.answer.ensures.rest c.answer.ensures.room
 
-pub returns-in-Some-clause-line : goal.returns-in-Some-clause-line
-returns-in-Some-clause-line g c = line_answered c.args.self.now c.answer.new.self (key_of c.args.request) c.answer.ensures.rest c.answer.ensures.room
+pub returns-in-Ok-found-clause-keeps : goal.returns-in-Ok-found-clause-keeps
+returns-in-Ok-found-clause-keeps g c t h = record { holds = answered_holds t.place t.number t.view c.args.self.now c.answer-in-Ok-found.new.self c.answer-in-Ok-found.ensures.rest h.holds; stands = λ s S. answered_stands s t.place t.number t.view c.args.self.now c.answer-in-Ok-found.new.self c.answer-in-Ok-found.ensures.rest S }
+
+pub returns-in-Ok-found-clause-line : goal.returns-in-Ok-found-clause-line
+returns-in-Ok-found-clause-line g c = line_answered c.args.self.now c.answer-in-Ok-found.new.self (key_of c.args.request) c.answer-in-Ok-found.ensures.rest c.answer-in-Ok-found.ensures.room
+
+pub returns-in-Absent-clause-keeps : goal.returns-in-Absent-clause-keeps
+returns-in-Absent-clause-keeps g c t h = record { holds = answered_holds t.place t.number t.view c.args.self.now c.answer-in-Absent.new.self c.answer-in-Absent.ensures.rest h.holds; stands = λ s S. answered_stands s t.place t.number t.view c.args.self.now c.answer-in-Absent.new.self c.answer-in-Absent.ensures.rest S }
+
+pub returns-in-Absent-clause-line : goal.returns-in-Absent-clause-line
+returns-in-Absent-clause-line g c = line_answered c.args.self.now c.answer-in-Absent.new.self (key_of c.args.request) c.answer-in-Absent.ensures.rest c.answer-in-Absent.ensures.room
+
+pub returns-in-PutBeside-clause-keeps : goal.returns-in-PutBeside-clause-keeps
+returns-in-PutBeside-clause-keeps g c t h =
+    let is = (subst (IsPlanOf c.args.self.now c.args.request) c.in-PutBeside.is c.in-Ok.ensures.plan).0 in
+    c.stage_beside.ensures.keeps t (record { holds = h.holds; own = ap (owner t.place) (ap key_of (sym is)) ∙ h.own })
+
+pub returns-in-PutBeside-clause-places : goal.returns-in-PutBeside-clause-places
+returns-in-PutBeside-clause-places g c =
+    let is = (subst (IsPlanOf c.args.self.now c.args.request) c.in-PutBeside.is c.in-Ok.ensures.plan).0 in
+    inr (staged_busy c.args.self.now c.stage_beside.new.self c.args.number (key_of c.args.request) (requests.Put c.in-PutBeside.key c.in-PutBeside.value) (ap key_of (sym is)) c.stage_beside.ensures.staged)
+
+pub returns-in-PutBeside-clause-busy : goal.returns-in-PutBeside-clause-busy
+returns-in-PutBeside-clause-busy g c = staged_keeps c.args.self.now c.stage_beside.new.self c.args.number (requests.Put c.in-PutBeside.key c.in-PutBeside.value) c.stage_beside.ensures.staged
+
+pub returns-in-PutBeside-clause-line : goal.returns-in-PutBeside-clause-line
+returns-in-PutBeside-clause-line g c =
+    let is = (subst (IsPlanOf c.args.self.now c.args.request) c.in-PutBeside.is c.in-Ok.ensures.plan).0 in
+    line_staged c.args.self.now c.stage_beside.new.self c.args.number (key_of c.args.request) (requests.Put c.in-PutBeside.key c.in-PutBeside.value) c.requires.runs c.stage_beside.ensures.rest (ap key_of (sym is)) c.stage_beside.ensures.staged
+
+pub returns-in-PutBeside-clause-most : goal.returns-in-PutBeside-clause-most
+returns-in-PutBeside-clause-most g c = staged_way c.args.self.now c.stage_beside.new.self c.args.number (requests.Put c.in-PutBeside.key c.in-PutBeside.value) c.stage_beside.ensures.rest c.stage_beside.ensures.staged
+
+pub returns-in-PutInBlock-clause-keeps : goal.returns-in-PutInBlock-clause-keeps
+returns-in-PutInBlock-clause-keeps g c t h =
+    let is = (subst (IsPlanOf c.args.self.now c.args.request) c.in-PutInBlock.is c.in-Ok.ensures.plan).0 in
+    c.stage_block.ensures.keeps t (record { holds = h.holds; own = ap (owner t.place) (ap key_of (sym is)) ∙ h.own })
+
+pub returns-in-PutInBlock-clause-places : goal.returns-in-PutInBlock-clause-places
+returns-in-PutInBlock-clause-places g c =
+    let is = (subst (IsPlanOf c.args.self.now c.args.request) c.in-PutInBlock.is c.in-Ok.ensures.plan).0 in
+    inr (staged_busy c.args.self.now c.stage_block.new.self c.args.number (key_of c.args.request) (requests.Put c.in-PutInBlock.key c.in-PutInBlock.value) (ap key_of (sym is)) c.stage_block.ensures.staged)
+
+pub returns-in-PutInBlock-clause-busy : goal.returns-in-PutInBlock-clause-busy
+returns-in-PutInBlock-clause-busy g c = staged_keeps c.args.self.now c.stage_block.new.self c.args.number (requests.Put c.in-PutInBlock.key c.in-PutInBlock.value) c.stage_block.ensures.staged
+
+pub returns-in-PutInBlock-clause-line : goal.returns-in-PutInBlock-clause-line
+returns-in-PutInBlock-clause-line g c =
+    let is = (subst (IsPlanOf c.args.self.now c.args.request) c.in-PutInBlock.is c.in-Ok.ensures.plan).0 in
+    line_staged c.args.self.now c.stage_block.new.self c.args.number (key_of c.args.request) (requests.Put c.in-PutInBlock.key c.in-PutInBlock.value) c.requires.runs c.stage_block.ensures.rest (ap key_of (sym is)) c.stage_block.ensures.staged
+
+pub returns-in-PutInBlock-clause-most : goal.returns-in-PutInBlock-clause-most
+returns-in-PutInBlock-clause-most g c = staged_way c.args.self.now c.stage_block.new.self c.args.number (requests.Put c.in-PutInBlock.key c.in-PutInBlock.value) c.stage_block.ensures.rest c.stage_block.ensures.staged
+
+pub returns-in-Delete-clause-keeps : goal.returns-in-Delete-clause-keeps
+returns-in-Delete-clause-keeps g c t h =
+    let is = (subst (IsPlanOf c.args.self.now c.args.request) c.in-Delete.is c.in-Ok.ensures.plan).0 in
+    c.stage_delete.ensures.keeps t (record { holds = h.holds; own = ap (owner t.place) (ap key_of (sym is)) ∙ h.own })
+
+pub returns-in-Delete-clause-places : goal.returns-in-Delete-clause-places
+returns-in-Delete-clause-places g c =
+    let is = (subst (IsPlanOf c.args.self.now c.args.request) c.in-Delete.is c.in-Ok.ensures.plan).0 in
+    inr (staged_busy c.args.self.now c.stage_delete.new.self c.args.number (key_of c.args.request) (requests.Delete c.in-Delete.key) (ap key_of (sym is)) c.stage_delete.ensures.staged)
+
+pub returns-in-Delete-clause-busy : goal.returns-in-Delete-clause-busy
+returns-in-Delete-clause-busy g c = staged_keeps c.args.self.now c.stage_delete.new.self c.args.number (requests.Delete c.in-Delete.key) c.stage_delete.ensures.staged
+
+pub returns-in-Delete-clause-line : goal.returns-in-Delete-clause-line
+returns-in-Delete-clause-line g c =
+    let is = (subst (IsPlanOf c.args.self.now c.args.request) c.in-Delete.is c.in-Ok.ensures.plan).0 in
+    line_staged c.args.self.now c.stage_delete.new.self c.args.number (key_of c.args.request) (requests.Delete c.in-Delete.key) c.requires.runs c.stage_delete.ensures.rest (ap key_of (sym is)) c.stage_delete.ensures.staged
+
+pub returns-in-Delete-clause-most : goal.returns-in-Delete-clause-most
+returns-in-Delete-clause-most g c = staged_way c.args.self.now c.stage_delete.new.self c.args.number (requests.Delete c.in-Delete.key) c.stage_delete.ensures.rest c.stage_delete.ensures.staged

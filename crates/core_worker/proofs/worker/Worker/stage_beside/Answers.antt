@@ -1,23 +1,17 @@
 -- What the change leaves of the ties.
 use Rattle.core_room.specs.Lengths.{lines_needed}
 use Rattle.core_worker.proofs.RoomKept.{room_staged, embedded_lines}
-use Rattle.std.proofs.Common.{◌≡◌, ℕ, ◌+◌, ◌<◌, List, length, Result, Ok, refl, subst, arith}
-use Rattle.std.specs.List.{AllByRecursion}
-use Rattle.std.specs.Result.{IfOk}
+use Rattle.std.proofs.Common.{length, refl, arith}
 use Rattle.log_entry.specs.declared.entry.Entry.{Entry}
 use Rattle.log_entry.specs.declared.entry.Body.TheVariants as bodies
 use Rattle.log_entry.specs.Spelling.{HasSpelling}
-use Rattle.core_index.specs.Index.{known_at}
-use Rattle.core_index.specs.Records.{last_of}
-use Rattle.core_index.specs.declared.types.Spent.{Spent}
 use Rattle.core_worker.specs.OwnPlaces.{place_at}
+use Rattle.core_worker.specs.Supplies.{supply_of}
+use Rattle.core_worker.specs.Plans.{last_version}
 use Rattle.core_worker.proofs.Gains.{allots_none}
-use Rattle.core_worker.proofs.Pointers.{free_is}
+use Rattle.core_worker.proofs.Pointers.{free_is, unrefused}
 use Rattle.core_worker.proofs.Staging.{holds_staged, stands_staged}
 use Rattle.core_worker.proofs.worker.Worker.stage_beside.Goals as goal
-
-next_is : (r : Result ℕ Spent) (version last : ℕ) → r ≡ Ok version → IfOk r (λ x. x ≡ last + 1) → version ≡ last + 1
-next_is r version last e h = subst (λ (x : Result ℕ Spent). IfOk x (λ y. y ≡ last + 1)) e h
 
 pub returns-clause-keeps : goal.returns-clause-keeps
 returns-clause-keeps c t h =
@@ -25,18 +19,20 @@ returns-clause-keeps c t h =
     let m = t.number in
     let v = t.view in
     let w = c.args.self.now in
-    let last = last_of (known_at w.index c.args.key) in
-    let next = next_is c.next_version.result c.unwrap-version.result last c.unwrap-version.ensures c.next_version.ensures.next in
-    let e : Entry = record { key = c.args.key; version = c.unwrap-version.result; body = bodies.Embedded c.args.value } in
-    let left = c.requires.unspent in
-    let short = c.requires.short in
-    let spelled : HasSpelling e = record { key = c.ranges.key.fits; fits = (omega (arith, next), omega (arith, next, left), omega (arith, short), subst (λ (u : List ℕ). AllByRecursion (λ b. b < 256) u) c.bytes.ensures c.byte_count-count.ensures.bytes) } in
+    let plan = c.requires.planned in
+    let next = plan.version_is in
+    let e : Entry = record { key = c.args.key; version = c.args.version; body = bodies.Embedded c.args.value } in
+    let left = (unrefused w.layout (supply_of w) w.allocator (last_version w c.args.key) (length c.args.value) plan.unrefused).unspent in
+    let short = plan.short in
+    let spelled : HasSpelling e = record { key = c.ranges.key.fits; fits = (omega (arith, next), omega (arith, next, left), omega (arith, short), plan.bytes) } in
     let was = free_is (place_at w.places.items c.stage-slot.result) c.stage-slot.ensures.lowest.0 in
     record { holds = holds_staged p m v w h.holds c.requires.runs c.stage-slot.result c.stage-slot.ensures.within was c.args.number e _ h.own c.requires.idle spelled next (λ t. absurd (cc t)) c.requires.room w.allocator (allots_none w.allocator e.body _ h.holds.sets tt) c.stage-slot.new.places c.stage-slot.ensures.placed c.requires.nothing.0 c.requires.nothing.1; stands = stands_staged p m v w h.holds c.requires.runs c.stage-slot.result c.stage-slot.ensures.within was c.args.number e _ h.own c.requires.idle spelled next (λ t. absurd (cc t)) c.requires.room w.allocator (allots_none w.allocator e.body _ h.holds.sets tt) c.stage-slot.new.places c.stage-slot.ensures.placed }
 
 pub returns-clause-rule : goal.returns-clause-rule
 returns-clause-rule c =
     let w = c.args.self.now in
+    let plan = c.requires.planned in
+    let fits = (unrefused w.layout (supply_of w) w.allocator (last_version w c.args.key) (length c.args.value) plan.unrefused).room in
     let low = c.stage-slot.ensures.lowest in
     room_staged w (record w { places = c.stage-slot.new.places }) c.stage-slot.result c.args.number _ _ (lines_needed (length c.args.value)) c.stage-slot.ensures.placed (free_is (place_at w.places.items c.stage-slot.result) low.0) low.1
-    (embedded_lines c.args.key c.unwrap-version.result c.args.value c.requires.short) refl refl refl c.requires.fits
+    (embedded_lines c.args.key c.args.version c.args.value plan.short) refl refl refl fits

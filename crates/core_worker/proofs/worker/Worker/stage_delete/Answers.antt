@@ -1,21 +1,16 @@
 -- What the change leaves of the ties.
 use Rattle.core_worker.proofs.RoomKept.{room_staged}
-use Rattle.std.proofs.Common.{◌≡◌, ℕ, ◌+◌, Result, Ok, refl, ◌∙◌, subst}
-use Rattle.std.specs.Result.{IfOk}
+use Rattle.std.proofs.Common.{refl, ◌∙◌}
 use Rattle.log_entry.specs.declared.entry.Entry.{Entry}
 use Rattle.log_entry.specs.declared.entry.Body.TheVariants as bodies
-use Rattle.core_index.specs.Index.{known_at}
-use Rattle.core_index.specs.Records.{last_of}
-use Rattle.core_index.specs.declared.types.Spent.{Spent}
+use Rattle.core_room.specs.RoomRule.{lacks_room}
 use Rattle.core_worker.specs.OwnPlaces.{place_at}
+use Rattle.core_worker.specs.Supplies.{supply_of}
 use Rattle.core_worker.proofs.Finding.{live_is, is_live}
 use Rattle.core_worker.proofs.Gains.{allots_none}
-use Rattle.core_worker.proofs.Pointers.{free_is, delete_spelled}
+use Rattle.core_worker.proofs.Pointers.{free_is, refused, delete_spelled}
 use Rattle.core_worker.proofs.Staging.{holds_staged, stands_staged}
 use Rattle.core_worker.proofs.worker.Worker.stage_delete.Goals as goal
-
-next_is : (r : Result ℕ Spent) (version last : ℕ) → r ≡ Ok version → IfOk r (λ x. x ≡ last + 1) → version ≡ last + 1
-next_is r version last e h = subst (λ (x : Result ℕ Spent). IfOk x (λ y. y ≡ last + 1)) e h
 
 pub returns-clause-keeps : goal.returns-clause-keeps
 returns-clause-keeps c t h =
@@ -23,11 +18,10 @@ returns-clause-keeps c t h =
     let m = t.number in
     let v = t.view in
     let w = c.args.self.now in
-    let last = last_of (known_at w.index c.args.key) in
-    let next = next_is c.next_version.result c.unwrap-version.result last c.unwrap-version.ensures c.next_version.ensures.next in
-    let e : Entry = record { key = c.args.key; version = c.unwrap-version.result; body = bodies.Tombstone } in
-    let live = is_live (v.cell c.args.key) (live_is p m v w h.holds c.requires.runs c.args.key h.own ∙ c.requires.live) in
-    let spelled = delete_spelled p m v w h.holds c.requires.runs c.args.key h.own live c.unwrap-version.result next c.ranges.key.fits in
+    let next = c.requires.planned.version_is in
+    let e : Entry = record { key = c.args.key; version = c.args.version; body = bodies.Tombstone } in
+    let live = is_live (v.cell c.args.key) (live_is p m v w h.holds c.requires.runs c.args.key h.own ∙ c.requires.planned.live) in
+    let spelled = delete_spelled p m v w h.holds c.requires.runs c.args.key h.own live c.args.version next c.ranges.key.fits in
     let was = free_is (place_at w.places.items c.stage-slot.result) c.stage-slot.ensures.lowest.0 in
     record { holds = holds_staged p m v w h.holds c.requires.runs c.stage-slot.result c.stage-slot.ensures.within was c.args.number e _ h.own c.requires.idle spelled next (λ e. live) c.requires.room w.allocator (allots_none w.allocator e.body _ h.holds.sets tt) c.stage-slot.new.places c.stage-slot.ensures.placed c.requires.nothing.0 c.requires.nothing.1; stands = stands_staged p m v w h.holds c.requires.runs c.stage-slot.result c.stage-slot.ensures.within was c.args.number e _ h.own c.requires.idle spelled next (λ e. live) c.requires.room w.allocator (allots_none w.allocator e.body _ h.holds.sets tt) c.stage-slot.new.places c.stage-slot.ensures.placed }
 
@@ -36,4 +30,4 @@ returns-clause-rule c =
     let w = c.args.self.now in
     let low = c.stage-slot.ensures.lowest in
     room_staged w (record w { places = c.stage-slot.new.places }) c.stage-slot.result c.args.number _ _ 1 c.stage-slot.ensures.placed (free_is (place_at w.places.items c.stage-slot.result) low.0) low.1
-    refl refl refl refl c.requires.fits
+    refl refl refl refl (refused (lacks_room (supply_of w) 1) _ _ c.requires.planned.unrefused).0
