@@ -98,24 +98,6 @@ module _ (es : List PlacedEntry) where
     pub winners_decide : winners_fault l image [] (winners_of es) ≡ block_fault l image es
     winners_decide = decide [] (keys_of es) refl
 
--- a loop over the winners
-module _ (l : Geometry) (image : ℕ → ℕ) (ws : List PlacedEntry) (i : ℕ) (x : PlacedEntry) (lt : i < length ws) (here : x ≡ get_or ws i x) where
-  next : winners_fault l image (take i ws) (drop i ws) ≡ option_or (fault_beside l image (take i ws) x) (winners_fault l image (take (i + 1) ws) (drop (i + 1) ws))
-  next =
-      ap (winners_fault l image (take i ws)) (drop_more ws i x lt ∙ ap (λ y. y ∷ drop (i + 1) ws) (sym here))
-      ∙ ap (λ before. option_or (fault_beside l image (take i ws) x) (winners_fault l image before (drop (i + 1) ws))) (one_more ws i x lt here)
-
-  pub fault_here : (f : Option Fault) → f ≡ fault_beside l image (take i ws) x → is_some f ≡ true → f ≡ winners_fault l image (take i ws) (drop i ws)
-  fault_here None is some = absurd (cc some)
-  fault_here (Some y) is some = ap (λ o. option_or o (winners_fault l image (take (i + 1) ws) (drop (i + 1) ws))) is ∙ sym next
-
-  pub fault_later : (f : Option Fault) → f ≡ fault_beside l image (take i ws) x → is_some f ≡ false → winners_fault l image (take i ws) (drop i ws) ≡ winners_fault l image (take (i + 1) ws) (drop (i + 1) ws)
-  fault_later None is none = next ∙ ap (λ o. option_or o (winners_fault l image (take (i + 1) ws) (drop (i + 1) ws))) (sym is)
-  fault_later (Some y) is none = absurd (cc none)
-
-pub no_fault : (l : Geometry) (image : ℕ → ℕ) (ws : List PlacedEntry) (i : ℕ) → length ws ≤ i → None ≡ winners_fault l image (take i ws) (drop i ws)
-no_fault l image ws i le = sym (ap (winners_fault l image (take i ws)) (drop_of_length-le ws le))
-
 -- what the steps find one after another decides
 module _ (l : Geometry) (image : ℕ → ℕ) where
   pub by_chunks : (e : RecoverError) → HasCause (chunk_fault l image) e → HasCause (damage l image) e
