@@ -161,7 +161,7 @@ fn a_gate_that_refuses(rt: HostRuntime) -> Result<(), Fail> {
     let alloc = rt.alloc();
     let mut region = attached(alloc)?;
     let Some((mut worker, mut board)) = seated(alloc, &region)? else {
-        assert!(rt; false);
+        assert!(rt; false, "the worker is seated");
         return Ok(());
     };
     assert!(rt; accept_put(alloc, &region, &board, &mut worker)?);

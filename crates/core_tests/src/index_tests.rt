@@ -75,7 +75,7 @@ fn as_the_records_say(rt: HostRuntime) -> Result<(), Fail> {
     let index = started(rt.alloc())?;
     match index.look(7) {
         Look::Embedded(bytes) => assert_eq!(rt; bytes, b"abc".as_slice()),
-        _ => assert!(rt; false),
+        _ => assert!(rt; false, "key 7 has its value"),
     }
     assert!(rt; matches!(index.look(5), Look::Deleted));
     assert!(rt; matches!(index.look(9), Look::Block(17)));
@@ -216,7 +216,7 @@ fn keys_with_values_move_when_they_change(rt: HostRuntime) -> Result<(), Fail> {
     enter(alloc, &mut index, 11, 2, &Body::Embedded(de), 0)?;
     match index.look(9) {
         Look::Embedded(bytes) => assert_eq!(rt; bytes, b"abc".as_slice()),
-        _ => assert!(rt; false),
+        _ => assert!(rt; false, "key 9 has its value"),
     }
     assert_eq!(rt; index.next_version(9, false), Ok(6));
     assert_eq!(rt; change(alloc, &mut index, 9, Body::Pointer(33), 1)?, None);
@@ -224,7 +224,7 @@ fn keys_with_values_move_when_they_change(rt: HostRuntime) -> Result<(), Fail> {
     index.gone(name(11, 2));
     match index.look(11) {
         Look::Embedded(bytes) => assert_eq!(rt; bytes, b"de".as_slice()),
-        _ => assert!(rt; false),
+        _ => assert!(rt; false, "key 11 has its value"),
     }
     assert_eq!(rt; index.next_notice(2), Some(name(9, 5)));
     assert_eq!(rt; index.next_notice(2), Some(name(5, 4)));

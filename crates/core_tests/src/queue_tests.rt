@@ -59,7 +59,7 @@ fn three_keys_in_turn(rt: HostRuntime) -> Result<(), Fail> {
                 request: Request::Delete { key },
             },
         ) => assert_eq!(rt; key, 9),
-        _ => assert!(rt; false),
+        _ => assert!(rt; false, "the queue is full"),
     }
     for round in 0..21 {
         assert_eq!(rt; number_and_key(&queue.release(2)), Some((3 * round + 1, 2)));

@@ -136,11 +136,11 @@ fn the_second_group(rt: HostRuntime) -> Result<(), Fail> {
     assert!(rt; matches!(get(alloc, &region, 5, 29)?, Some(Reply::Absent)));
     // of the two old entries the one in the own log was told
     let Some(worker) = opened(alloc, &region, 5)? else {
-        assert!(rt; false);
+        assert!(rt; false, "core 5 opens");
         return Ok(());
     };
     if worker.pending() || worker.leading() {
-        assert!(rt; false);
+        assert!(rt; false, "a worker that opens is idle");
         return Ok(());
     }
     let told = EntryName {
@@ -159,11 +159,11 @@ fn what_stands_in_the_log(rt: HostRuntime) -> Result<(), Fail> {
     let alloc = rt.alloc();
     let region = attached(alloc)?;
     let Some(worker) = opened(alloc, &region, 5)? else {
-        assert!(rt; false);
+        assert!(rt; false, "core 5 opens");
         return Ok(());
     };
     if worker.pending() || worker.leading() {
-        assert!(rt; false);
+        assert!(rt; false, "a worker that opens is idle");
         return Ok(());
     }
     // the newest value of key 21, and the old one of key 13, which is dead

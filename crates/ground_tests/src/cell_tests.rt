@@ -18,7 +18,7 @@ fn a_cell_through_four_requests(rt: HostRuntime) -> Result<(), Fail> {
     let stored = cell_after(alloc, None, &put)?;
     match cell_answer(alloc, &stored, &get)? {
         Reply::Value(value) => assert_eq!(rt; value.bytes(), b"abc".as_slice()),
-        _ => assert!(rt; false),
+        _ => assert!(rt; false, "the value that was put is found"),
     }
     let kept = cell_after(alloc, stored, &get)?;
     assert!(rt; kept.is_some());

@@ -23,10 +23,10 @@ fn embedded_abc(rt: HostRuntime) -> Result<(), Fail> {
             assert_eq!(rt; length, 3);
             match entry.body {
                 Body::Embedded(v) => assert_eq!(rt; v.bytes(), b"abc".as_slice()),
-                _ => assert!(rt; false),
+                _ => assert!(rt; false, "the value stands in the entry"),
             }
         }
-        _ => assert!(rt; false),
+        _ => assert!(rt; false, "the first entry is read"),
     }
     Ok(())
 }
@@ -49,7 +49,7 @@ fn delete_pointer_and_last(rt: HostRuntime) -> Result<(), Fail> {
             assert_eq!(rt; length, 2);
             assert!(rt; matches!(entry.body, Body::Tombstone));
         }
-        _ => assert!(rt; false),
+        _ => assert!(rt; false, "the delete is read"),
     }
     match read_entry(rt.alloc(), &words, 2)? {
         Read::Entry { entry, length } => {
@@ -57,14 +57,14 @@ fn delete_pointer_and_last(rt: HostRuntime) -> Result<(), Fail> {
             assert_eq!(rt; length, 2);
             assert!(rt; matches!(entry.body, Body::Pointer(17)));
         }
-        _ => assert!(rt; false),
+        _ => assert!(rt; false, "the put with a block is read"),
     }
     match read_entry(rt.alloc(), &words, 4)? {
         Read::Entry { entry, length } => {
             assert_eq!(rt; entry.version, 1048574);
             assert_eq!(rt; length, 3);
         }
-        _ => assert!(rt; false),
+        _ => assert!(rt; false, "the last version of a put is read"),
     }
     assert!(rt; matches!(read_entry(rt.alloc(), &words, 7)?, Read::Padding));
     assert!(rt;

@@ -147,11 +147,11 @@ fn the_way_of_one_change(rt: HostRuntime) -> Result<(), Fail> {
         member: 1,
     };
     if offer(&mut seat, change, &[]).is_err() {
-        assert!(rt; false);
+        assert!(rt; false, "the lock is free");
         return Ok(());
     }
     let Some(change) = collect(&mut seat) else {
-        assert!(rt; false);
+        assert!(rt; false, "the change is taken");
         return Ok(());
     };
     assert_eq!(rt; change.home, None);
@@ -161,7 +161,7 @@ fn the_way_of_one_change(rt: HostRuntime) -> Result<(), Fail> {
             assert_eq!(rt; change.home, Some(1));
             assert_eq!(rt; change.entry.version, 1);
         }
-        None => assert!(rt; false),
+        None => assert!(rt; false, "the change is given back"),
     }
     Ok(())
 }
@@ -175,17 +175,17 @@ fn a_change_that_could_not_be_written(rt: HostRuntime) -> Result<(), Fail> {
         member: 1,
     };
     if offer(&mut seat, change, &[]).is_err() {
-        assert!(rt; false);
+        assert!(rt; false, "the lock is free");
         return Ok(());
     }
     let Some(change) = collect(&mut seat) else {
-        assert!(rt; false);
+        assert!(rt; false, "the change is taken");
         return Ok(());
     };
     give_up(&mut seat, change);
     match settle(&mut seat) {
         Some(change) => assert_eq!(rt; change.home, None),
-        None => assert!(rt; false),
+        None => assert!(rt; false, "the change comes back failed"),
     }
     Ok(())
 }
@@ -200,12 +200,12 @@ fn a_change_that_is_taken_back(rt: HostRuntime) -> Result<(), Fail> {
         member: 1,
     };
     if offer(&mut seat, change, &value).is_err() {
-        assert!(rt; false);
+        assert!(rt; false, "the lock is free");
         return Ok(());
     }
     match retract(&mut seat) {
         Some(change) => assert_eq!(rt; change.entry.key, 1),
-        None => assert!(rt; false),
+        None => assert!(rt; false, "the change is taken back"),
     }
     Ok(())
 }

@@ -157,7 +157,7 @@ fn a_batch_of_64_changes_from_eight_members(rt: HostRuntime) -> Result<(), Fail>
     let mut board = open_eight(&rt)?;
     post_all(&rt, &mut board)?;
     let Some(batch) = gather_at(&mut board, buffer) else {
-        assert!(rt; false);
+        assert!(rt; false, "64 changes are gathered");
         return Ok(());
     };
     // own slots first, then member after member
@@ -169,7 +169,7 @@ fn a_batch_of_64_changes_from_eight_members(rt: HostRuntime) -> Result<(), Fail>
     );
     assert!(rt; batch.name_at(64).is_none());
     if !write_at(&mut region, &mut log, &mut board, 0, batch) {
-        assert!(rt; false);
+        assert!(rt; false, "the batch is written");
         return Ok(());
     }
     assert!(rt; all_done(&mut board));

@@ -87,7 +87,7 @@ fn a_change_that_is_taken_back(rt: HostRuntime) -> Result<(), Fail> {
     };
     match take_back(&mut seat, change, buffer) {
         Some(change) => assert_eq!(rt; (change.entry.key, change.entry.version), (1, 1)),
-        None => assert!(rt; false),
+        None => assert!(rt; false, "the change is taken back"),
     }
     Ok(())
 }
@@ -116,7 +116,7 @@ fn a_batch_that_could_not_be_written(rt: HostRuntime) -> Result<(), Fail> {
         member: 1,
     };
     let Some(batch) = gather(&mut seat, change, buffer) else {
-        assert!(rt; false);
+        assert!(rt; false, "the change is gathered");
         return Ok(());
     };
     assert!(rt; give_up(&mut region, &mut log, &mut seat, batch, 2));

@@ -158,14 +158,14 @@ fn a_batch_of_one_change(rt: HostRuntime) -> Result<(), Fail> {
         member: 1,
     };
     let Some(batch) = gather(&mut seat, change, buffer) else {
-        assert!(rt; false);
+        assert!(rt; false, "the change is gathered");
         return Ok(());
     };
     assert!(rt; batch.needs_chunk());
     assert_eq!(rt; batch.name_at(0).map(|n| (n.key, n.version)), Some((1, 1)));
     assert!(rt; batch.name_at(1).is_none());
     let Ok(mut done) = batch.persist(&mut region, &mut log, &mut seat, Some(2)) else {
-        assert!(rt; false);
+        assert!(rt; false, "the batch is written");
         return Ok(());
     };
     assert!(rt; done.mark_one(&mut seat));

@@ -130,7 +130,7 @@ fn one_batch_for_three_cores(rt: HostRuntime) -> Result<(), Fail> {
             assert!(rt; is_value(state.cell(2), b"c"));
             assert_eq!(rt; state.last(1), 1);
         }
-        Err(_) => assert!(rt; false),
+        Err(_) => assert!(rt; false, "each step may be made"),
     }
     Ok(())
 }
@@ -149,7 +149,7 @@ fn a_mark_before_the_commit(rt: HostRuntime) -> Result<(), Fail> {
             assert_eq!(rt; flying(&stop.state, 0), 3);
             assert_eq!(rt; kept(&stop.state, 0), 0);
         }
-        None => assert!(rt; false),
+        None => assert!(rt; false, "a step is refused"),
     }
     Ok(())
 }
@@ -207,7 +207,7 @@ fn a_tombstone_is_not_dead_yet(rt: HostRuntime) -> Result<(), Fail> {
             assert_eq!(rt; stop.at, 18);
             assert_eq!(rt; stop.state.last(1), 2);
         }
-        None => assert!(rt; false),
+        None => assert!(rt; false, "a step is refused"),
     }
     Ok(())
 }
@@ -222,7 +222,7 @@ fn a_tombstone_goes_last(rt: HostRuntime) -> Result<(), Fail> {
     add_clean(&rt, &mut steps, 0, 1, 2)?;
     match all_steps(rt.alloc(), state, &steps) {
         Ok(state) => assert_eq!(rt; state.last(1), 0),
-        Err(_) => assert!(rt; false),
+        Err(_) => assert!(rt; false, "each step may be made"),
     }
     Ok(())
 }
@@ -271,7 +271,7 @@ fn a_stolen_entry_is_cleaned(rt: HostRuntime) -> Result<(), Fail> {
             assert!(rt; is_value(state.cell(1), b"y"));
             assert_eq!(rt; kept(&state, 2), 1);
         }
-        Err(_) => assert!(rt; false),
+        Err(_) => assert!(rt; false, "each step may be made"),
     }
     Ok(())
 }
@@ -303,7 +303,7 @@ fn a_mailbox_in_each_direction(rt: HostRuntime) -> Result<(), Fail> {
             assert_eq!(rt; stop.at, 25);
             assert_eq!(rt; stop.state.mail.len(), 0);
         }
-        None => assert!(rt; false),
+        None => assert!(rt; false, "a step is refused"),
     }
     Ok(())
 }
@@ -352,14 +352,14 @@ fn each_kind_by_the_second_member(rt: HostRuntime) -> Result<(), Fail> {
     let mut steps = Vec::new(rt.alloc());
     add_first_change(&rt, &mut steps)?;
     let Some(state) = after_each(&rt, state, &steps) else {
-        assert!(rt; false);
+        assert!(rt; false, "each step may be made");
         return Ok(());
     };
     assert!(rt; is_value(state.cell(1), &LONG));
     let mut steps = Vec::new(rt.alloc());
     add_later_steps(&rt, &mut steps)?;
     let Some(state) = after_each(&rt, state, &steps) else {
-        assert!(rt; false);
+        assert!(rt; false, "each step may be made");
         return Ok(());
     };
     assert!(rt; is_value(state.cell(1), b"y"));
@@ -389,7 +389,7 @@ fn a_change_comes_back(rt: HostRuntime) -> Result<(), Fail> {
             assert_eq!(rt; stop.at, 11);
             assert_eq!(rt; stop.state.last(1), 0);
         }
-        None => assert!(rt; false),
+        None => assert!(rt; false, "a step is refused"),
     }
     Ok(())
 }
@@ -404,7 +404,7 @@ fn one_step(rt: HostRuntime) -> Result<(), Fail> {
     };
     match step(rt.alloc(), state, &first) {
         Ok(state) => assert_eq!(rt; state.last(3), 0),
-        Err(_) => assert!(rt; false),
+        Err(_) => assert!(rt; false, "the step may be made"),
     }
     Ok(())
 }

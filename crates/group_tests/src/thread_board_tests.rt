@@ -286,7 +286,7 @@ fn three_threads_make_a_thousand_changes_each(rt: HostRuntime) -> Result<(), Fai
     let tokens = table.seats(rt.alloc())?;
     let puts = (put(&rt, 0)?, put(&rt, 1)?, put(&rt, 2)?);
     let Some(tokens) = three_of(tokens) else {
-        assert!(rt; false);
+        assert!(rt; false, "there are three tokens");
         return Ok(());
     };
     let (a, b, c, done) = work_three(&rt, &table, tokens, puts);
@@ -405,7 +405,7 @@ fn two_threads_post_and_one_takes_both(rt: HostRuntime) -> Result<(), Fail> {
     let tokens = table.seats(rt.alloc())?;
     let puts = (put(&rt, 0)?, put(&rt, 1)?);
     let Some(tokens) = two_of(tokens) else {
-        assert!(rt; false);
+        assert!(rt; false, "there are two tokens");
         return Ok(());
     };
     let (a, b, told) = both(&rt, &table, tokens, puts);
@@ -418,7 +418,7 @@ fn two_threads_post_and_one_takes_both(rt: HostRuntime) -> Result<(), Fail> {
             assert_eq!(rt; words[0], leader as u64 + 1);
             assert_eq!(rt; (words[3], words[11]), (2, 2));
         }
-        None => assert!(rt; false),
+        None => assert!(rt; false, "the words are told"),
     }
     Ok(())
 }
@@ -521,7 +521,7 @@ fn a_mailbox_in_each_direction(rt: HostRuntime) -> Result<(), Fail> {
     let tokens = table.seats(rt.alloc())?;
     assert!(rt; table.seats(rt.alloc()).is_err());
     let Some((a, b, c)) = three_of(tokens) else {
-        assert!(rt; false);
+        assert!(rt; false, "there are three tokens");
         return Ok(());
     };
     may_be_sent(&a);

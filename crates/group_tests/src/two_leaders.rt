@@ -173,7 +173,7 @@ fn a_second_leader_before_the_first_wrote(rt: HostRuntime) -> Result<(), Fail> {
     let another = BatchBuffer::open(alloc)?;
     let mut board = open_small(&rt)?;
     let Some((first, second)) = both_gather(&mut board, change, buffer, other, another) else {
-        assert!(rt; false);
+        assert!(rt; false, "both leaders gather");
         return Ok(());
     };
     assert_eq!(rt; first.name_at(0).map(|n| (n.key, n.version)), Some((0, 1)));
@@ -191,7 +191,7 @@ fn a_second_leader_before_the_first_wrote(rt: HostRuntime) -> Result<(), Fail> {
         first,
         second,
     ) {
-        assert!(rt; false);
+        assert!(rt; false, "both batches are written");
         return Ok(());
     }
     assert_eq!(rt; settle_at(&mut board, 0), Some(0));
