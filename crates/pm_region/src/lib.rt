@@ -39,4 +39,3 @@ pub use region_sizes::{LINE_BYTES, LINE_WORDS, MOST_BYTES, MOST_WORDS, WORD_BYTE
 pub use snapshot::Snapshot;
 pub use split::{AttachError, SplitRegion};
 pub use steady::{SteadyPiece, SteadyRegion};
-
