@@ -1,5 +1,2 @@
 mod BlockTrials
 mod RecoveryTrials
-mod WorkerTrials
-mod ReachedWords
-mod GateTrials

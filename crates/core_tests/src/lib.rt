@@ -1,5 +1,5 @@
-//! Tests of what one core stands on: its log, blocks, index, standing names, cleaning, recovery and worker, and what the
-//! engines make of its answers. They stand beside the crates that they test, since a crate with tests is proved twice.
+//! Tests of what one core stands on: its log, blocks, room, index, queue, standing names, cleaning and recovery. They stand
+//! beside the crates that they test, since a crate with tests is proved twice.
 #![tactic(auto)]
 
 #[cfg(test)]
@@ -9,10 +9,6 @@ mod block_tests;
 #[cfg(test)]
 mod cleaning_tests;
 #[cfg(test)]
-mod crew_tests;
-#[cfg(test)]
-mod gate_tests;
-#[cfg(test)]
 mod index_tests;
 #[cfg(test)]
 mod plain_allocator;
@@ -21,10 +17,6 @@ mod queue_tests;
 #[cfg(test)]
 mod recovery_tests;
 #[cfg(test)]
-mod report_tests;
-#[cfg(test)]
 mod room_tests;
 #[cfg(test)]
 mod standing_tests;
-#[cfg(test)]
-mod worker_tests;

@@ -1,7 +1,7 @@
 use Rattle.std.proofs.Common.{sym, ◌∙◌, arith}
 use Rattle.pm_region.specs.Steady.{steady_state}
-use Rattle.core_tests.proofs.WorkerTrials.{may_accept}
-use Rattle.core_tests.proofs.worker_tests.opened.Goals as goal
+use Rattle.engine_tests.proofs.WorkerTrials.{may_accept}
+use Rattle.engine_tests.proofs.worker_tests.opened.Goals as goal
 
 pub returns : goal.returns
 returns c =

@@ -2,9 +2,9 @@ use Rattle.std.proofs.Common.{sym, ◌∙◌}
 use Rattle.pm_region.specs.Steady.{steady_state}
 use Rattle.pm_region.specs.Words.{lasts}
 use Rattle.group_board.specs.Journals.{state}
-use Rattle.core_tests.proofs.GateTrials.{words_sound, words_group, second_group, opened_second, at_board}
-use Rattle.core_tests.proofs.ReachedWords.{words, same}
-use Rattle.core_tests.proofs.gate_tests.seated.Goals as goal
+use Rattle.engine_tests.proofs.GateTrials.{words_sound, words_group, second_group, opened_second, at_board}
+use Rattle.engine_tests.proofs.ReachedWords.{words, same}
+use Rattle.engine_tests.proofs.gate_tests.seated.Goals as goal
 
 pub open_board-requires-clause-sound : goal.open_board-requires-clause-sound
 open_board-requires-clause-sound c =

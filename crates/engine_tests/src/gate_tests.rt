@@ -8,7 +8,7 @@ ghost use Rattle.recover.specs.Regions.{IsCertain};
 ghost use Rattle.group_laws.specs.OpeningImages.{opened};
 ghost use Rattle.group_laws.specs.Places.{owner};
 ghost use Rattle.group_board.specs.Journals.{image_of, place_in, state};
-ghost use Rattle.core_tests.specs.WorkerTrials.{IsSeated, IsAtBoard};
+ghost use Rattle.engine_tests.specs.WorkerTrials.{IsSeated, IsAtBoard};
 
 use crate::worker_tests::attached;
 use core_worker::{Answer, Gate, OpenGate, Point, Turn, Worker};

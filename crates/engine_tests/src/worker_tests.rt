@@ -3,7 +3,7 @@ ghost use Rattle.std.specs.Prelude.{◌≡◌, ℕ, ◌%◌, length, IfOk, IfSom
 ghost use Rattle.pm_region.specs.State.{IsTelling};
 ghost use Rattle.pm_region.specs.Steady.{steady_state};
 ghost use Rattle.recover.specs.Regions.{IsCertain};
-ghost use Rattle.core_tests.specs.WorkerTrials.{MayAccept};
+ghost use Rattle.engine_tests.specs.WorkerTrials.{MayAccept};
 
 use core_worker::Worker;
 use fs_errors::Memory;

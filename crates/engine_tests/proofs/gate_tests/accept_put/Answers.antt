@@ -1,8 +1,8 @@
 use Rattle.std.proofs.Common.{refl}
 use Rattle.pm_region.specs.Steady.{steady_state}
 use Rattle.group_board.specs.Journals.{state}
-use Rattle.core_tests.proofs.GateTrials.{has_tie, still_at}
-use Rattle.core_tests.proofs.gate_tests.accept_put.Goals as goal
+use Rattle.engine_tests.proofs.GateTrials.{has_tie, still_at}
+use Rattle.engine_tests.proofs.gate_tests.accept_put.Goals as goal
 
 pub accept-accepted-requires-clause-tied : goal.accept-accepted-requires-clause-tied
 accept-accepted-requires-clause-tied c = has_tie (steady_state c.args.region.now) (state c.args.board.now.keeper.me.0) c.args.worker.now c.requires 29 refl

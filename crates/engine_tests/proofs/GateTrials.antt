@@ -23,8 +23,8 @@ use Rattle.core_worker.specs.Accepting.{HasTie, IsTied, StaysTied}
 use Rattle.core_worker.specs.Order.{InOrder}
 use Rattle.core_worker.specs.Ties.{Holds, Stands}
 use Rattle.core_worker.specs.Openings.{IsNew, IsCertainAt, ByEachImage, opened_view}
-use Rattle.core_tests.specs.WorkerTrials.{IsSeated, IsAtBoard}
-use Rattle.core_tests.proofs.WorkerTrials.{seated, own}
+use Rattle.engine_tests.specs.WorkerTrials.{IsSeated, IsAtBoard}
+use Rattle.engine_tests.proofs.WorkerTrials.{seated, own}
 
 -- what opening a board asks of the words that recovery found
 module _ (image : ℕ → ℕ) (r : Recovered) (found : IsFound 135168 image r) (eight : r.layout.cores ≡ 8) (four : r.layout.group ≡ 4) (ws : List ℕ) (same : image_of ws ≡ image) where

@@ -1,6 +1,6 @@
 use Rattle.pm_region.specs.Steady.{steady_state}
-use Rattle.core_tests.proofs.GateTrials.{seated_on}
-use Rattle.core_tests.proofs.gate_tests.once.Goals as goal
+use Rattle.engine_tests.proofs.GateTrials.{seated_on}
+use Rattle.engine_tests.proofs.gate_tests.once.Goals as goal
 
 pub returns : goal.returns
 returns g c =

@@ -20,7 +20,7 @@ use Rattle.core_worker.specs.Accepting.{HasTie}
 use Rattle.core_worker.specs.Order.{InOrder}
 use Rattle.core_worker.specs.Ties.{Holds, Stands}
 use Rattle.core_worker.specs.Openings.{IsNew, IsStartAt, IsCertainAt, ByEachImage, opened_view}
-use Rattle.core_tests.specs.WorkerTrials.{MayAccept, IsSeated}
+use Rattle.engine_tests.specs.WorkerTrials.{MayAccept, IsSeated}
 use Rattle.core_worker.proofs.Clients.{start_at, certain_at, new_room, new_idle, core_is}
 use Rattle.core_worker.proofs.Clients.{own_of}
 

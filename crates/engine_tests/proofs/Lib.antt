@@ -1,0 +1,3 @@
+mod WorkerTrials
+mod ReachedWords
+mod GateTrials
