@@ -1,11 +1,11 @@
 -- The states of a leader, and what the view has in each of the member m that leads, in a group at the place p. A seat says both; another seat of the same member will do as well.
 use Rattle.std.specs.Prelude.{◌≡◌, ◌≢◌, ◌⊎◌, ℕ, zero, suc, ◌+◌, ◌-◌, ◌*◌, ◌<◌, ◌≤◌, ◌==◌, Bool, true, false, List, [], ◌∷◌, ◌++◌, length, Option, Some, None, IfSome, IsSomeAnd}
 use Rattle.std.specs.List.{AllByRecursion}
+use Rattle.pm_region.specs.Words.{lines_for}
 use Rattle.log_entry.specs.declared.entry_limits.TheConstants.{LONGEST_ENTRY, LONGEST_ENTRY_LINES, MOST_ENTRIES}
 use Rattle.log_entry.specs.Spelling.{words_of}
 use Rattle.store_image.specs.Facts.{In}
 use Rattle.core_log.specs.declared.types.Room.{Room}
-use Rattle.core_log.specs.Chunk.{lines_for}
 use Rattle.group_laws.specs.declared.types.Seen.{Seen}
 use Rattle.group_laws.specs.declared.types.Seen.TheVariants.{Slot}
 use Rattle.group_laws.specs.declared.types.SlotWord.{SlotWord}

@@ -1,9 +1,9 @@
 -- The round of a leader: which slots it looks at, in order, and which entries fit.
 use Rattle.std.specs.Prelude.{◌≡◌, ℕ, ◌+◌, ◌-◌, ◌*◌, ◌/◌, ◌%◌, ◌==◌, ◌&&◌, ◌||◌, not, nat_le, nat_lt, Bool, true, false, List, [], ◌∷◌, length, if◌then◌else◌}
+use Rattle.pm_region.specs.Words.{lines_for}
 use Rattle.log_entry.specs.declared.entry_limits.TheConstants.{LONGEST_ENTRY}
 use Rattle.log_entry.specs.Spelling.{words_of}
 use Rattle.core_log.specs.declared.types.Room.{Room}
-use Rattle.core_log.specs.Chunk.{lines_for}
 use Rattle.group_laws.specs.Places.{Place, members}
 use Rattle.group_laws.specs.State.{Group, shown}
 use Rattle.group_board.specs.Told.{state_of}

@@ -20,7 +20,13 @@ pub const FIRST_UNIT: u64 = 16;
 pub const UNIT_WORDS: u64 = 32;
 /// How many lines of 8 words a unit has.
 pub const UNIT_LINES: u64 = 4;
-/// The kind word of a Data chunk is 2 and the class times this.
+/// The kind word of a Free chunk.
+pub const FREE_KIND: u64 = 0;
+/// The kind word of a chunk of a log.
+pub const LOG_KIND: u64 = 1;
+/// The kind word of a Data chunk, but for its class.
+pub const DATA_KIND: u64 = 2;
+/// The kind word of a Data chunk has its class times this beside `DATA_KIND`.
 pub const CLASS_FACTOR: u64 = 256;
 /// The greatest class of blocks: class `c` has blocks of `2 ^ c` units.
 pub const GREATEST_CLASS: u32 = 12;

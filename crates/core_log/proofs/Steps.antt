@@ -3,7 +3,7 @@ use Rattle.std.proofs.Common.{◌≡◌, ◌⊎◌, inl, ℕ, ◌+◌, ◌-◌, 
 use Rattle.std.specs.Prelude.{option_map, IfSome, IfOk}
 use Rattle.std.proofs.lemmas.Bool.{cond-true, cond-false, le-leb, leb-true, leb-false}
 use Rattle.std.proofs.lemmas.Bool.Decides.{nat_tests}
-use Rattle.pm_region.specs.State.{State, Frame, IsTelling}
+use Rattle.pm_region.specs.State.{State, Frame, IsTelling, WordsLie}
 use Rattle.pm_region.specs.Words.{lasts}
 use Rattle.log_entry.specs.declared.entry.Entry.{Entry}
 use Rattle.log_entry.specs.Spelling.{words_of}
@@ -12,7 +12,7 @@ use Rattle.log_entry.proofs.Clients.{AreWords, scan_spelled, whole_spelled, spel
 use Rattle.core_log.specs.declared.types.Peek.{Peek}
 use Rattle.core_log.specs.declared.types.WalkStep.{WalkStep}
 use Rattle.core_log.specs.Log.{LogState, Spelled, tail_of, first_of, tail_in}
-use Rattle.core_log.specs.Walking.{LiesIn, IsBetween, IsReadable, next_entry, peek_at, step_at, entries_in, words_in, behind, WordsLie, IsStep, IsWalk}
+use Rattle.core_log.specs.Walking.{LiesIn, IsBetween, IsReadable, next_entry, peek_at, step_at, entries_in, words_in, behind, IsStep, IsWalk}
 use Rattle.core_log.proofs.ItemLaws.{placed_items, items_of, items_placed, first_is as entry_first}
 use Rattle.core_log.proofs.LogLaws.{own_chunk, part_lies}
 use Rattle.core_log.proofs.RetireLaws.{is_tail}

@@ -21,7 +21,7 @@ pub fn byte_count(value: &[u8]) -> u64
 
 /// The bytes of the longest value that a block of the layout holds.
 pub fn longest_value(layout: &Layout) -> u64
-    ensures value { result ≡ layout.now.chunk_bytes / 4 - 8 }
+    ensures value { result ≡ layout.now.chunk_bytes / 4 - WORD_BYTES }
     ensures small { result ≤ LONGEST_VALUE }
     ensures rules { IsLayout layout.now }
 {

@@ -1,5 +1,6 @@
 -- One turn of a core as a relation of what it was and what it is: which item it did, what it loaded before, and why it passed the items before that one.
 use Rattle.std.specs.Prelude.{◌≡◌, ◌≢◌, ◌⊎◌, ℕ, ◌+◌, ◌<◌, Bool, true, false, List, [], ◌∷◌, ◌++◌, length, map, Option, Some, None}
+use Rattle.pm_region.specs.Words.{lines_for}
 use Rattle.pm_region.specs.State.{State}
 use Rattle.log_entry.specs.declared.entry.Entry.{Entry}
 use Rattle.store_image.specs.Facts.{In}
@@ -12,7 +13,7 @@ use Rattle.group_laws.specs.State.{Group}
 use Rattle.group_laws.specs.Runs.{Kind}
 use Rattle.group_laws.specs.Runs.Kind.{Look}
 use Rattle.log_entry.specs.Spelling.{words_of}
-use Rattle.core_log.specs.Chunk.{lines_for, padded}
+use Rattle.core_log.specs.Chunk.{padded}
 use Rattle.core_log.specs.Log.{LogState, with_tail, open_number, open_tail}
 use Rattle.lazy_alloc.specs.Sets.{TakesChunkOrNone, Sets}
 use Rattle.group_laws.specs.MemberViews.{View}

@@ -1,6 +1,6 @@
 // What a turn does for the group: trying the lock, collecting, writing the batch, and giving its changes back.
 ghost use Rattle.std.specs.Prelude.{◌≡◌, ◌≢◌, ◌⊎◌, ℕ, ◌+◌, ◌≤◌, ◌<◌, Bool, true, false, List, [], ◌∷◌, length, is_some, Option, OnOk, MatchOption};
-ghost use Rattle.pm_region.specs.State.{State, During, IsTelling, cell_now, Rose};
+ghost use Rattle.pm_region.specs.State.{State, During, IsTelling, cell_now, Faulted};
 ghost use Rattle.pm_region.specs.Words.{KeepsOutside};
 ghost use Rattle.group_laws.specs.Runs as runs;
 ghost use Rattle.group_laws.specs.declared.types.Seen.TheVariants as loads;
@@ -243,7 +243,7 @@ impl Worker {
         ensures made { MadeOrStops self.new.stopped (B.whole board.old) (B.whole board.new)
             (B.seat board.old).number (B.view board.old) (B.view board.new) }
         ensures cause { self.new.stopped ≡ true
-            → Rose (R.state region.old).faults (R.state region.new).faults }
+            → Faulted (R.state region.old) (R.state region.new) }
         // The rule is one of a core that hasn't stopped.
         ensures rule { self.new.stopped ≡ false → HasKeptRoom self.old → HasKeptRoom self.new }
         ensures persists { PersistsOrLoses self.new.stopped (B.seat board.old).number

@@ -1,6 +1,6 @@
 // Posting a staged change.
 ghost use Rattle.std.specs.Prelude.{◌≡◌, ◌≢◌, ◌⊎◌, ℕ, ◌+◌, ◌≤◌, ◌<◌, Bool, true, false, List, [], ◌∷◌, length, Option, Some, None, OnOk, OnErr, not};
-ghost use Rattle.pm_region.specs.State.{State, During, IsTelling, cell_now, Rose};
+ghost use Rattle.pm_region.specs.State.{State, During, IsTelling, cell_now, Faulted};
 ghost use Rattle.pm_region.specs.Words.{KeepsOutside, EachIn};
 ghost use Rattle.log_entry.specs.declared.entry.Entry.{Entry};
 ghost use Rattle.log_entry.specs.declared.entry.Body.TheVariants as bodies;
@@ -73,7 +73,7 @@ fn write_for<R: Region, B: Board>(
     ensures ok { OnOk result ((class : ℕ) → class_at allocator.old pointer ≡ Some class
         → WroteValue (R.state region.new) allocator.old allocator.new pointer class value.now) }
     ensures err { OnErr result (allocator.new ≡ allocator.old) }
-    ensures cause { OnErr result (Rose (R.state region.old).faults (R.state region.new).faults) }
+    ensures cause { OnErr result (Faulted (R.state region.old) (R.state region.new)) }
 {
     allocator.write_value(region, pointer, value)
 }
@@ -126,8 +126,7 @@ impl Worker {
             ≡ free_chunk_count self.old.allocator }
         ensures blocks { (class : ℕ) → free_block_count self.new.allocator class
             ≡ free_block_count self.old.allocator class }
-        ensures cause { result ≡ false → Rose (R.state region.old).faults
-            (R.state region.new).faults }
+        ensures cause { result ≡ false → Faulted (R.state region.old) (R.state region.new) }
     {
         match place_in(&self.places, slot) {
             Place::Staged { value, .. } => {
@@ -249,7 +248,7 @@ impl Worker {
         ensures order { InOrderAt (B.seat board.old) (B.view board.old) self.old
             → InOrderAt (B.seat board.old) (B.view board.new) self.new }
         ensures cause { self.new.stopped ≡ true
-            → Rose (R.state region.old).faults (R.state region.new).faults }
+            → Faulted (R.state region.old) (R.state region.new) }
     {
         if self.write_staged(region, &*board, slot, pointer) {
             self.post_written(board, slot, pointer);

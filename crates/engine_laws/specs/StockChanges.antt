@@ -1,12 +1,12 @@
 -- What a call spends of what a core has free: chunks that it takes, a block of the change that it begins, and lines of the log.
 use Rattle.std.specs.Prelude.{◌≡◌, ℕ, ◌+◌, ◌≤◌, ◌==◌, List, length, Bool, true, false, Option, Some, None, is_some, if◌then◌else◌, sum_by}
+use Rattle.pm_region.specs.Words.{lines_for}
 use Rattle.fs_model.specs.declared.model.Request.{Request}
 use Rattle.log_entry.specs.declared.entry.Entry.{Entry}
 use Rattle.log_entry.specs.Spelling.{words_of}
 use Rattle.chunk_map.specs.declared.layouts.Geometry.{Geometry}
 use Rattle.chunk_map.specs.Chunks.{blocks_in}
 use Rattle.chunk_map.specs.Layouts.{payload_lines, is_class}
-use Rattle.core_log.specs.Chunk.{lines_for}
 pub use Rattle.headline.specs.Ample.{lines_of, parts_of}
 use Rattle.engine_laws.specs.FreeStock.{Stock, is_put_in}
 

@@ -5,7 +5,7 @@ ghost use Rattle.fs_model.specs.declared.model.Request.{Request};
 ghost use Rattle.fs_model.specs.declared.model.Reply.{Reply};
 ghost use Rattle.fs_text.specs.declared.line.Line.{Line};
 ghost use Rattle.pm_region.specs.Cell.{Cell};
-ghost use Rattle.pm_region.specs.State.{State, Frame, MayLeave, Rose};
+ghost use Rattle.pm_region.specs.State.{State, Frame, MayLeave, Faulted};
 ghost use Rattle.chunk_map.specs.Layouts.{layout_of, superblock_rule};
 ghost use Rattle.group_laws.specs.declared.types.Seen.{Seen};
 ghost use Rattle.group_laws.specs.State.{Group};
@@ -91,7 +91,7 @@ pub fn every_state()
 /// The same of one moment, however the region came there, where it is known why requests were refused and cores stopped.
 pub fn every_moment()
     ensures { (o : Origin) (e : Engine) → StandsNow o e → Causes o e
-        → (HasStopped e → Rose o.region.faults e.region.faults) → Promised o e }
+        → (HasStopped e → Faulted o.region e.region) → Promised o e }
 {}
 
 /// Whatever the lines and the moves: the promises hold, and the requests of the lines were given.
