@@ -5,16 +5,22 @@ use log_entry::Body;
 /// An entry that stands in a log. `home` is the core in whose log it stands.
 #[derive(Clone, Copy, Debug, PartialEq, Eq)]
 pub struct Standee {
+    /// Which change of its key it is, counted from 1.
     pub version: Version,
+    /// By its number in the region, from 0.
     pub home: u32,
 }
 
 /// What is known of a key at the start: its last version, what that left, and its entries in all logs.
 #[derive(Drop)]
 pub struct Record {
+    /// Whose record it is.
     pub key: Key,
+    /// That of the last change, also where it was a delete.
     pub version: Version,
+    /// A value, or the first unit of its block, or a tombstone.
     pub body: Body,
+    /// In any order. Of two of one version the first counts.
     pub standing: Vec<Standee>,
 }
 
@@ -34,6 +40,7 @@ pub enum Look<'a> {
 /// The key was changed as often as versions go.
 #[derive(Clone, Copy, Debug, PartialEq, Eq)]
 pub struct Spent {
+    /// The key's last version: 1,048,574 at least.
     pub last: Version,
 }
 

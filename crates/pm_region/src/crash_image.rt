@@ -15,8 +15,11 @@ use thiserror::Error;
 /// `(w + n) mod length`.
 #[derive(Clone, Copy, Debug, PartialEq, Eq)]
 pub enum Pick {
+    /// Of each word the first value, as if nothing had reached the device that is not certain.
     Oldest,
+    /// Of each word the last value, as if all had reached it.
     Newest,
+    /// The number `n`; `w` counts from the start of the region.
     Mixed(u64),
 }
 
@@ -134,6 +137,7 @@ pub enum ImageError {
     /// The region doesn't tell what a crash at that stamp may have left.
     #[error("the stamp is not told")]
     NotTold,
+    /// There was none for the image.
     #[error("out of memory")]
     Memory,
 }

@@ -10,7 +10,9 @@ use std::alloc::{AllocError, Global};
 /// counted from 1: those of the whole region since its last attach or create, those of a piece since the split.
 #[derive(Clone, Copy, Debug, PartialEq, Eq)]
 pub struct FenceNumber {
+    /// 0, or `i + 1`.
     pub piece: u32,
+    /// From 1 on.
     pub number: u64,
 }
 
@@ -18,7 +20,9 @@ pub struct FenceNumber {
 /// these fences.
 #[derive(Debug, Drop)]
 pub struct Faults {
+    /// In any order.
     pub opens: Vec<u64>,
+    /// In any order.
     pub fences: Vec<FenceNumber>,
 }
 
