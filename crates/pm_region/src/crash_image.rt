@@ -26,8 +26,11 @@ pub enum Pick {
 /// The values of a word: those before the mark, those from the mark on but for the last, and the last.
 #[derive(Drop)]
 pub struct CellData {
+    /// The oldest first. A fence drops them.
     pub before: Vec<u64>,
+    /// The oldest first.
     pub marked: Vec<u64>,
+    /// What a load gives.
     pub last: u64,
 }
 

@@ -29,9 +29,13 @@ pub struct Faults {
 /// The counts of a region: of faults, of refused calls of attach, create and split, and of all these calls.
 #[derive(Drop)]
 pub struct Counts {
+    /// Each call that failed counts: attach, create, split and fence.
     pub faults: u64,
+    /// Each attach, create and split that failed counts.
     pub refusals: u64,
+    /// Each attach, create and split counts, failed or not.
     pub opens: u64,
+    /// Which calls are to fail.
     pub plan: Faults,
 }
 
