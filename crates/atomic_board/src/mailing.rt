@@ -16,6 +16,7 @@ use crate::rule::{Receives, Sends, TryReceives, TrySends};
 use crash_core::Notices;
 use group_board::MailFull;
 
+/// The number of the word of the mailbox from one member to another, counted from the table's first.
 pub fn mail_word_of(members: u32, from: u32, to: u32) -> usize
     requires { (members ≤ 8) × (from < members) × (to < members) }
     ensures { result ≡ mail_word members from to }
@@ -23,6 +24,8 @@ pub fn mail_word_of(members: u32, from: u32, to: u32) -> usize
     1 + 9 * members as usize + (members as usize * from as usize + to as usize)
 }
 
+/// The number of that mailbox's slot, counted from the table's first. They stand behind the slots of the pools, eight
+/// for each member, whatever the size of the group.
 pub fn mail_place_of(members: u32, from: u32, to: u32) -> usize
     requires { (members ≤ 8) × (from < members) × (to < members) }
     ensures { result ≡ mail_place members from to }

@@ -29,6 +29,7 @@ use group_board::{Busy, SlotState};
 use log_entry::entry_words;
 use std::marker::Brand;
 
+/// The number of the word of a member's slot, counted from the table's first.
 pub fn pool_word_of(members: u32, member: u32, slot: u32) -> usize
     requires { (members ≤ 8) × (member < members) × (slot < 8) }
     ensures { result ≡ pool_word members member slot }
@@ -36,6 +37,7 @@ pub fn pool_word_of(members: u32, member: u32, slot: u32) -> usize
     (1 + members + 8 * member + slot) as usize
 }
 
+/// The number of that slot, counted from the table's first.
 pub fn pool_place_of(member: u32, slot: u32) -> usize
     requires { (member < 8) × (slot < 8) }
     ensures { result ≡ pool_place member slot }

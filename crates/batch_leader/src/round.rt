@@ -19,6 +19,7 @@ pub fn member_at(own: u32, position: u32) -> u32
     }
 }
 
+/// Which of that member's slots stands there.
 pub fn slot_at(position: u32) -> u32
     ensures { result ≡ slot_at position }
 {

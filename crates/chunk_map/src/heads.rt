@@ -9,6 +9,7 @@ use pm_region::{LINE_WORDS, WORD_BYTES};
 /// What a chunk is.
 #[derive(Clone, Copy)]
 pub enum Head {
+    /// Neither: what its payload has says nothing.
     Free,
     /// A log. The first `tail` words of the payload hold batches.
     Log { tail: u64 },
@@ -20,6 +21,7 @@ pub enum Head {
 /// not lie in the payload.
 #[derive(Clone, Copy, Debug, PartialEq, Eq)]
 pub struct BadHead {
+    /// 4 or 5.
     pub rule: u32,
 }
 

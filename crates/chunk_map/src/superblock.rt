@@ -16,6 +16,7 @@ use pm_region::{LINE_WORDS, Region, RegionFault};
 /// numbers of the layout, or the length is another one. The first that is broken.
 #[derive(Clone, Copy, Debug, PartialEq, Eq)]
 pub struct NotARegion {
+    /// 1, 2 or 3.
     pub rule: u32,
 }
 

@@ -16,8 +16,11 @@ use std::alloc::{AllocError, Global};
 /// that isn't whole is never among them.
 #[derive(Drop)]
 pub struct FileWords {
+    /// In bytes.
     pub size: u64,
+    /// Eight to a word; bytes of the file behind its last whole word are not here.
     pub bytes: Vec<u8>,
+    /// Counted from the first line of these words.
     pub flushed: LineSet,
     ghost whole: { length bytes.items ≡ WORD_BYTES * words_in size },
     ghost lines: { length flushed.marks.items ≡ words_in size / LINE_WORDS },

@@ -17,11 +17,17 @@ use std::alloc::{AllocError, Global};
 /// attach finds, which need not be whole words; `opens` counts the calls of attach and create.
 #[derive(Drop)]
 pub struct Volume {
+    /// The words, of an attach that is still to come too.
     pub history: History,
+    /// The words are the whole ones of them.
     pub bytes: u64,
+    /// Whether the words count as the region's. Before it there are none.
     pub attached: bool,
+    /// Whether the pieces of a split have them now.
     pub parted: bool,
+    /// The cuts of the last split, in words from the region's start.
     pub cuts: Vec<u64>,
+    /// Answered or refused. A split does not count here.
     pub opens: u64,
     ghost at_zero: { history.first ≡ 0 },
     ghost long: { length history.words.items ≡ words_in bytes },
