@@ -16,12 +16,12 @@ use std::marker::Model;
 /// The names that stand: those of a table, which was made at the start, and those that came later, in a map. A name of
 /// the table that comes back stands there again, so none is in both.
 #[derive(Drop)]
-pub struct Names {
+pub struct LoggedNames {
     table: NameTable,
     later: HashMap<(Key, Version), Copies>,
 }
 
-impl Model for Names {
+impl Model for LoggedNames {
     ghost use Rattle.std.specs.HashMap.{spare};
     ghost use Rattle.std.specs.Prelude.{◌++◌};
     ghost use Rattle.log_standing.specs.TwoParts.{NamesState, AreApart};
@@ -72,12 +72,12 @@ fn take_in(names: &mut HashMap<(Key, Version), Copies>, name: EntryName)
     let _ = names.remove(&(name.key, name.version));
 }
 
-impl Names {
+impl LoggedNames {
     /// The names of a table.
-    pub fn of(alloc: Global, table: NameTable) -> Names
+    pub fn of(alloc: Global, table: NameTable) -> LoggedNames
         ensures { (k v : ℕ) → copies_among result.entries k v ≡ copies_among table k v }
     {
-        Names {
+        LoggedNames {
             table,
             later: HashMap::new(alloc),
         }
