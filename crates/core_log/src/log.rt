@@ -196,8 +196,7 @@ impl CoreLog {
         ensures placed { IfOk result (λ p. (self.old.opened ≡ Some p.chunk)
             × (p.place ≡ open_tail self.old)) }
         ensures err { OnErr result (self.new ≡ self.old) }
-        ensures cause { OnErr result
-            (Faulted (R.state region.old) (R.state region.new)) }
+        ensures cause { OnErr result (Faulted (R.state region.old) (R.state region.new)) }
     {
         let place = self.open_place();
         let at = self.first_of(place.chunk);
@@ -225,8 +224,7 @@ impl CoreLog {
             (first_of self.old chunk + LINE_WORDS)) }
         ensures ok { OnOk result (OpenedChunk (R.state region.new) self.old self.new chunk) }
         ensures err { OnErr result (self.new ≡ self.old) }
-        ensures cause { OnErr result
-            (Faulted (R.state region.old) (R.state region.new)) }
+        ensures cause { OnErr result (Faulted (R.state region.old) (R.state region.new)) }
     {
         let at = self.first_of(chunk);
         set_head(region, at, Head::Log { tail: 0 })?;
@@ -261,8 +259,7 @@ impl CoreLog {
             (first_of self.old chunk + LINE_WORDS)) }
         ensures ok { OnOk result (RetiredChunk (R.state region.new) self.old self.new chunk) }
         ensures err { OnErr result (self.new ≡ self.old) }
-        ensures cause { OnErr result
-            (Faulted (R.state region.old) (R.state region.new)) }
+        ensures cause { OnErr result (Faulted (R.state region.old) (R.state region.new)) }
     {
         let at = self.first_of(chunk);
         set_head(region, at, Head::Free)?;

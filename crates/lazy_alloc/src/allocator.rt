@@ -388,8 +388,7 @@ impl Allocator {
         ensures ok { OnOk result ((class : ℕ) → class_at self.old pointer ≡ Some class
             → WroteValue (R.state region.new) self.old self.new pointer class value.now) }
         ensures err { OnErr result (self.new ≡ self.old) }
-        ensures cause { OnErr result
-            (Faulted (R.state region.old) (R.state region.new)) }
+        ensures cause { OnErr result (Faulted (R.state region.old) (R.state region.new)) }
     {
         let class = self.class_at(pointer).unwrap();
         self.write_head(region, pointer, class)?;
@@ -444,8 +443,7 @@ impl Allocator {
         ensures ok { OnOk result (IsTelling (R.state region.new)
             → Surely (cell_now (R.state region.new) (head_of self.now pointer))
             (kind_of (Data class))) }
-        ensures cause { OnErr result
-            (Faulted (R.state region.old) (R.state region.new)) }
+        ensures cause { OnErr result (Faulted (R.state region.old) (R.state region.new)) }
     {
         if self.is_due(pointer) {
             let at = self.head_of(pointer);

@@ -209,8 +209,7 @@ impl Clearing {
             standing.old standing.new self) }
         ensures chunk { IfOk result (λ cleared. cleared.chunk ≡ self.chunk) }
         ensures gone { IfOk result (λ cleared. cleared.gone.items ≡ self.doomed) }
-        ensures cause { OnErr result
-            (Faulted (R.state region.old) (R.state region.new)) }
+        ensures cause { OnErr result (Faulted (R.state region.old) (R.state region.new)) }
     {
         let Clearing {
             chunk,

@@ -114,8 +114,7 @@ impl<R: Files<File = File> + Drop> Region for FileRegion<R> {
         ensures ok { OnOk result (Goes (file_state self.old) (file_state self.new)
             (fence_range (file_state self.old).frame.first (file_state self.old).frame.words)) }
         ensures err { OnErr result (Goes (file_state self.old) (file_state self.new) unchanged) }
-        ensures cause { OnErr result
-            (Faulted (file_state self.old) (file_state self.new)) }
+        ensures cause { OnErr result (Faulted (file_state self.old) (file_state self.new)) }
         ensures fenced { OnOk result (IsFenced self.old.words self.new.words 0
             (calls_on self.old.device) (calls_on self.new.device)) }
         ensures kept { OnErr result (IsKept self.old.words self.new.words) }
