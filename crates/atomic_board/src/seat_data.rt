@@ -48,11 +48,12 @@ pub struct Origin {
 
 /// The slot of a mailbox that a member has in hand, by its place, with the dead names and the gone ones that lie there.
 pub struct MailHold {
-    /// The number of the slot among the slots of the table, counted from 0.
+    /// Eight times the sender's number and the receiver's: the number among the mailboxes, and not among all slots of
+    /// the table.
     pub place: u64,
-    /// Names whose owner tells the receiver that they are dead.
+    /// Names whose owner tells the receiver that they are dead. None where the mailbox was empty.
     pub dead: LinkedList<EntryName>,
-    /// Names that vanished from the sender's log.
+    /// Names that vanished from the sender's log. None where the mailbox was empty.
     pub gone: LinkedList<EntryName>,
 }
 

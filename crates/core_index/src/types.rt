@@ -51,7 +51,7 @@ pub struct Standing {
     pub version: Version,
     /// The core in whose log it stands, by its number in the region.
     pub home: u32,
-    /// Only a dead one is.
+    /// Of its death.
     pub told: bool,
 }
 

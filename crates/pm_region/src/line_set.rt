@@ -10,7 +10,7 @@ use std::alloc::{AllocError, Global};
 pub struct LineSet {
     /// By the line's number: whether it is in the set.
     pub marks: Vec<bool>,
-    /// The lines of the set, in the order in which they were added.
+    /// The lines of the set, each once, in any order.
     pub lines: Vec<u32>,
     ghost keeps: { KeepsLines marks.items lines.items },
     ghost room: { length marks.items ≤ vec_capacity lines },

@@ -9,9 +9,9 @@ use std::alloc::{AllocError, Global};
 /// and while its region is split for those of each piece, which are its `shares`.
 #[derive(Drop)]
 pub struct Journal {
-    /// From the first step on of which it tells.
+    /// Those that it keeps.
     pub steps: Vec<Step>,
-    /// A number of steps.
+    /// How many of them stand before the moment `since`.
     pub base: u64,
     /// The first stamp of which it may tell.
     pub since: u64,

@@ -21,7 +21,7 @@ pub struct Volume {
     pub history: History,
     /// The words are the whole ones of them.
     pub bytes: u64,
-    /// Whether the words count as the region's. Before it there are none.
+    /// Whether it was attached or created. Before that it has no words.
     pub attached: bool,
     /// Whether the pieces of a split have them now.
     pub parted: bool,
