@@ -1,5 +1,5 @@
-//! The tests of a group: its machine over plain data, its board of one thread and of threads, and its leaders. They make
-//! public calls alone, and are proved over the contracts of the crates below.
+//! The tests of a group: its board of one thread and of threads, and its leaders. They make public calls alone, and are
+//! proved over the contracts of the crates below.
 #![tactic(auto)]
 
 #[cfg(test)]
@@ -10,8 +10,6 @@ mod eight_members;
 mod given_back;
 #[cfg(test)]
 mod leader_tests;
-#[cfg(test)]
-mod machine_tests;
 #[cfg(test)]
 mod thread_board_tests;
 #[cfg(test)]

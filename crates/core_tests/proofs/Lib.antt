@@ -1,2 +1,0 @@
-mod BlockTrials
-mod RecoveryTrials
