@@ -2,7 +2,7 @@
 use Rattle.std.specs.Prelude.{◌≡◌, ℕ, zero, suc, ◌+◌, ◌-◌, ◌*◌, ◌/◌, ◌%◌, ◌^◌, ◌==◌, ◌&&◌, ◌||◌, nat_lt, nat_le, List, [], ◌∷◌, Bool, Option, Some, None, Result, Ok, Err, is_none, if◌then◌else◌}
 use Rattle.std.specs.List.{list_any}
 use Rattle.pm_region.specs.declared.region_sizes.TheConstants.{LINE_BYTES, LINE_WORDS, MOST_BYTES, WORD_BYTES}
-use Rattle.chunk_map.specs.declared.layout_sizes.TheConstants.{CLASS_FACTOR, DATA_KIND, FORMAT, FREE_KIND, GREATEST_CLASS, HEAD_LINES, HEAD_WORDS, LEAST_CHUNKS, LOG_KIND, MAGIC, MOST_CHUNKS, MOST_CORES, MOST_GROUP, MOST_PART_BYTES, SHORTEST_IN_BLOCK, SUPERBLOCK_BYTES, SUPERBLOCK_WORDS, UNIT_BYTES}
+use Rattle.chunk_map.specs.declared.layout_sizes.TheConstants.{CLASS_FACTOR, DATA_KIND, FORMAT, FREE_KIND, GREATEST_CLASS, HEAD_LINES, HEAD_WORDS, LEAST_BLOCKS, LEAST_CHUNKS, LOG_KIND, MAGIC, MOST_CHUNKS, MOST_CORES, MOST_GROUP, MOST_PART_BYTES, SHORTEST_IN_BLOCK, SUPERBLOCK_BYTES, SUPERBLOCK_WORDS, UNIT_BYTES}
 use Rattle.chunk_map.specs.declared.layouts.Geometry.{Geometry}
 use Rattle.chunk_map.specs.declared.heads.Head.{Head}
 use Rattle.chunk_map.specs.declared.heads.Head.TheVariants.{Free, Log, Data}
@@ -83,7 +83,11 @@ is_of_group l c key = owner l key / l.group == c / l.group
 -- A class of the layout. No layout has one past the greatest.
 abbrev pub is_class : Geometry → ℕ → Bool
 is_class l class = nat_le 1 class && nat_le class GREATEST_CLASS && nat_le
-    (4 * UNIT_BYTES * 2 ^ class) l.chunk_bytes
+    (LEAST_BLOCKS * UNIT_BYTES * 2 ^ class) l.chunk_bytes
+
+-- the bytes of the longest value: it fills a block of the greatest class, whose first word is the length
+abbrev pub longest_value : Geometry → ℕ
+longest_value l = l.chunk_bytes / LEAST_BLOCKS - WORD_BYTES
 
 -- whether a value of this length gets a block, and one of this class: the least that has room for a word more
 abbrev pub has_class : ℕ → ℕ → Bool

@@ -30,6 +30,8 @@ pub const DATA_KIND: u64 = 2;
 pub const CLASS_FACTOR: u64 = 256;
 /// The greatest class of blocks: class `c` has blocks of `2 ^ c` units.
 pub const GREATEST_CLASS: u32 = 12;
+/// A chunk has the bytes of so many blocks of the greatest class of its layout, or more.
+pub const LEAST_BLOCKS: u64 = 4;
 /// How many bytes the shortest value has that gets a block. A shorter one stands beside its key.
 pub const SHORTEST_IN_BLOCK: u64 = 256;
 /// How many bytes the longest value has: a quarter of the greatest chunk, but for one word.
