@@ -7,16 +7,12 @@ use Rattle.pm_region.specs.declared.region_sizes.TheConstants.{LINE_BYTES, WORD_
 use Rattle.log_entry.specs.declared.entry_limits.TheConstants.{LONGEST_ENTRY_LINES, SHORTEST_ENTRY}
 use Rattle.chunk_map.specs.declared.layout_sizes.TheConstants.{GREATEST_CLASS, HEAD_LINES, SHORTEST_IN_BLOCK}
 use Rattle.chunk_map.specs.declared.layouts.Geometry.{Geometry}
-use Rattle.chunk_map.specs.Layouts.{numbers, chunk_first, head_at, owner, is_of_group, has_class}
+use Rattle.chunk_map.specs.Layouts.{numbers, chunk_first, head_at, owner, is_of_group, has_class, longest_value}
 use Rattle.chunk_map.specs.Chunks.{is_free, blocks_in}
 
 -- n divided by d, rounded up
 abbrev pub parts_of : ℕ → ℕ → ℕ
 parts_of n d = (n + (d - 1)) / d
-
--- The bytes of the longest value. Its block is a quarter of a chunk, whose first word is the length.
-abbrev pub longest_value : Geometry → ℕ
-longest_value l = l.chunk_bytes / 4 - WORD_BYTES
 
 -- the lines of the entry alone; a put that is too long counts nowhere
 abbrev pub lines_of : Geometry → Request → ℕ

@@ -6,10 +6,10 @@ use Rattle.fs_model.specs.declared.model.Request.TheVariants.{Put, Get, Delete}
 use Rattle.fs_model.specs.Cells.{key_of}
 use Rattle.log_entry.specs.declared.entry_limits.TheConstants.{LAST_PUT_VERSION}
 use Rattle.chunk_map.specs.declared.layouts.Geometry.{Geometry}
-use Rattle.chunk_map.specs.Layouts.{layout_of}
+use Rattle.chunk_map.specs.Layouts.{layout_of, longest_value}
 use Rattle.store_image.specs.declared.types.PlacedEntry.{PlacedEntry}
 use Rattle.store_image.specs.Winners.{winner}
-use Rattle.headline.specs.Ample.{IsAmple, longest_value}
+use Rattle.headline.specs.Ample.{IsAmple}
 
 -- the request with this number is one of this key
 abbrev pub IsAsked : List Request → ℕ → ℕ → Type 0
