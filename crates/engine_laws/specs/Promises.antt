@@ -2,6 +2,7 @@
 use Rattle.std.specs.Prelude.{◌≡◌, ℕ, ◌/◌, ◌<◌, ◌≤◌, List, [], ◌++◌, length, take, Bool, true, false, if◌then◌else◌}
 use Rattle.fs_model.specs.declared.model.Request.{Request}
 use Rattle.fs_model.specs.Changes.{finished_by, cell_after_all}
+use Rattle.pm_region.specs.declared.region_sizes.TheConstants.{WORD_BYTES}
 use Rattle.pm_region.specs.State.{IsTold, IsTelling, MayLeave, cell_now, Rose}
 use Rattle.pm_region.specs.Words.{Surely}
 use Rattle.store_image.specs.Soundness.{IsSound}
@@ -18,8 +19,8 @@ use Rattle.engine_laws.specs.Idle.{Idles, IsDrained}
 pub record IsOrigin (o : Origin) : Type 0 where
   pub sound : IsSound o.region.frame.bytes o.found
   pub first : o.region.frame.first ≡ 0
-  pub words : o.region.frame.words ≡ o.region.frame.bytes / 8
-  pub certain : IsTelling o.region → (w : ℕ) → w < o.region.frame.bytes / 8
+  pub words : o.region.frame.words ≡ o.region.frame.bytes / WORD_BYTES
+  pub certain : IsTelling o.region → (w : ℕ) → w < o.region.frame.bytes / WORD_BYTES
       → Surely (cell_now o.region w) (o.found w)
 
 abbrev pub HasStopped : Engine → Type 0

@@ -3,6 +3,7 @@ use Rattle.std.specs.Prelude.{◌≡◌, ℕ, ◌/◌, ◌≤◌, ◌<◌, [], �
 use Rattle.fs_model.specs.declared.model.Request.{Request}
 use Rattle.fs_model.specs.Cells.{key_of}
 use Rattle.fs_model.specs.Changes.{IsPrefixCell}
+use Rattle.pm_region.specs.declared.region_sizes.TheConstants.{WORD_BYTES}
 use Rattle.pm_region.specs.State.{During, IsTold, IsTelling, MayLeave, cell_now, Rose}
 use Rattle.chunk_map.specs.Layouts.{layout_of, owner}
 use Rattle.store_image.specs.Soundness.{IsSound}
@@ -29,7 +30,7 @@ pub record ShowsPrefix (o : Origin) (e : Engine) (keys : (k : ℕ) → KeyStands
 pub record Stands (o : Origin) (e : Engine) : Type 0 where
   pub sound : IsSound o.region.frame.bytes o.found
   pub first : o.region.frame.first ≡ 0
-  pub words : o.region.frame.words ≡ o.region.frame.bytes / 8
+  pub words : o.region.frame.words ≡ o.region.frame.bytes / WORD_BYTES
   pub layout : e.layout ≡ layout_of o.found
   -- the groups are lawful, and each part is licensed
   pub groups : Groups e.layout e.group
@@ -58,7 +59,7 @@ pub record Stands (o : Origin) (e : Engine) : Type 0 where
 pub record StandsNow (o : Origin) (e : Engine) : Type 0 where
   pub sound : IsSound o.region.frame.bytes o.found
   pub first : o.region.frame.first ≡ 0
-  pub words : o.region.frame.words ≡ o.region.frame.bytes / 8
+  pub words : o.region.frame.words ≡ o.region.frame.bytes / WORD_BYTES
   pub layout : e.layout ≡ layout_of o.found
   pub groups : Groups e.layout e.group
   pub superblock : IsTelling e.region → HasSuperblock o.found (cell_now e.region)
