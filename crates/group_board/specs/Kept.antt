@@ -20,7 +20,8 @@ pub record IsKept (n : ℕ) (holder : Option ℕ) (slots : List Slot) (mail : Li
     (j : Journal) : Type 0 where
   pub size : members (state j).place ≡ n
   pub holder_is : (state j).holder ≡ holder
-  pub slots_are : (a s : ℕ) → a < n → s < SLOTS → (state j).slot a s ≡ get_or slots (ROW_LENGTH * a + s) Empty
+  pub slots_are : (a s : ℕ) → a < n → s < SLOTS → (state j).slot a s
+      ≡ get_or slots (ROW_LENGTH * a + s) Empty
   pub mail_is : (a b : ℕ) → a < n → b < n → (state j).mail a b
       ≡ option_map notices_of (get_or mail (ROW_LENGTH * a + b) None)
   pub covers : Covers (names j) (state j)

@@ -56,7 +56,8 @@ pub struct LocalBoard {
     /// The seat whose view is the journal.
     pub(crate) keeper: Keeper,
     ghost sized: { (table.shared.table_id.words ≡ 1) × (member_count ≤ MOST_GROUP)
-        × (length slots.items ≡ ROW_LENGTH * member_count) × (length mail.items ≡ ROW_LENGTH * member_count)
+        × (length slots.items ≡ ROW_LENGTH * member_count)
+        × (length mail.items ≡ ROW_LENGTH * member_count)
         × (places.members (state keeper.me.0).place ≡ member_count) },
     ghost here: { keeper.table_id ≡ table.shared.table_id } by { TableId-set _ _ },
     ghost kept: { ∥ IsKept member_count holder slots.items mail.items keeper.me.0 ∥₁ },
