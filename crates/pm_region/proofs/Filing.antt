@@ -4,7 +4,7 @@ use Rattle.std.proofs.lemmas.Bool.{cases_eq}
 use Rattle.std.proofs.lemmas.List.{get_or_push, get_or_append_left}
 use Rattle.pm_region.specs.Split.{words_in, AreCuts, IsBetween}
 use Rattle.pm_region.specs.Filed.{word_of, flushes, TakesPart}
-use Rattle.pm_region.specs.Files.{IsFilePart, AreFileParts, ArePlaced, IsInNone, HaveTaken, end_of, file_piece_state}
+use Rattle.pm_region.specs.Files.{IsFilePart, AreFileParts, ArePlaced, HaveTaken, end_of, file_piece_state}
 use Rattle.pm_region.specs.declared.file_words.FileWords.{FileWords}
 use Rattle.pm_region.specs.declared.file_piece.FilePiece.{FilePiece}
 

@@ -9,7 +9,6 @@ use Rattle.pm_region.specs.Volumes.{part_frame, volume_state}
 use Rattle.pm_region.specs.declared.history.History.{History}
 use Rattle.pm_region.specs.declared.volume.Volume.{Volume}
 use Rattle.pm_region.specs.declared.region_journal.Journal.{Journal}
-use Rattle.pm_region.specs.declared.step.Step.{Step}
 use Rattle.pm_region.proofs.Now.{now_cell, telling_complete, complete_telling}
 
 goes_on_complete : (old new : Journal) (from end : ℕ) → GoesOnFrom old from end new → IsComplete old → IsComplete new

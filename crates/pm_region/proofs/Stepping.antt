@@ -1,16 +1,15 @@
 -- How the cells of neighbouring words take a step.
-use Rattle.std.proofs.Common.{◌≡◌, ◌⊎◌, inl, inr, ⊎_elim, ℕ, ◌+◌, ◌*◌, ◌≤◌, ◌<◌, ◌/◌, ◌==◌, ◌&&◌, nat_le, nat_lt, Bool, true, false, if◌then◌else◌, zero, suc, List, [], ◌∷◌, ◌++◌, length, map, get_or, set, take, refl, sym, ◌∙◌, ap, subst, arith, length-append, length-set}
-use Rattle.std.proofs.lemmas.Bool.{cases_eq, cond_both}
-use Rattle.std.proofs.lemmas.List.{length-map, map-set, get_or-map, get_or-set_same, get_or-set_other, take_more, take_all, get_or_push, get_or_append_left}
+use Rattle.std.proofs.Common.{◌≡◌, ◌⊎◌, inl, inr, ⊎_elim, ℕ, ◌+◌, ◌<◌, ◌/◌, ◌==◌, ◌&&◌, nat_le, nat_lt, Bool, true, false, if◌then◌else◌, zero, suc, List, [], ◌∷◌, ◌++◌, length, map, get_or, set, take, refl, sym, ◌∙◌, ap, subst, arith, length-set}
+use Rattle.std.proofs.lemmas.Bool.{cases_eq}
+use Rattle.std.proofs.lemmas.List.{length-map, map-set, get_or-map, get_or-set_same, get_or-set_other, take_more, take_all}
 use Rattle.pm_region.specs.Cell.{Cell, certain, fenced, flushed, HasValue}
 use Rattle.pm_region.specs.Image.{cell_of_data}
 use Rattle.pm_region.specs.CellLists.{cell_in, HasOne, ActsAt, Acts, AllAct, AreOpen}
 use Rattle.pm_region.specs.Journals.{act}
 use Rattle.pm_region.specs.declared.crash_image.CellData.{CellData}
 use Rattle.pm_region.specs.declared.step.Step.{Step}
-use Rattle.pm_region.specs.declared.step.Step.TheVariants.{Store, Flush, Fence}
-use Rattle.pm_region.proofs.Cells.{store_other, flush_other, has_end}
-use Rattle.pm_region.proofs.Narrow.{has_right, has_split}
+use Rattle.pm_region.specs.declared.step.Step.TheVariants.{Flush, Fence}
+use Rattle.pm_region.proofs.Narrow.{has_split}
 
 pub cell_there : (ds : List CellData) (k : ℕ) (d : CellData) → k < length ds → cell_in ds k ≡ cell_of_data (get_or ds k d)
 cell_there ds k d lt = get_or-map cell_of_data ds k d (certain 0) lt

@@ -1,9 +1,9 @@
 -- What a write of a run of lines leaves in the file.
-use Rattle.std.proofs.Common.{◌≡◌, ◌⊎◌, inl, inr, ⊎_elim, ℕ, ◌+◌, ◌-◌, ◌*◌, ◌/◌, ◌≤◌, ◌<◌, ◌&&◌, nat_le, nat_lt, List, [], ◌∷◌, ◌++◌, length, get_or, take, drop, refl, sym, ◌∙◌, ap, subst, arith, length-drop}
+use Rattle.std.proofs.Common.{◌≡◌, ◌⊎◌, inl, inr, ⊎_elim, ℕ, ◌+◌, ◌-◌, ◌*◌, ◌/◌, ◌≤◌, ◌<◌, ◌&&◌, nat_le, nat_lt, List, [], ◌∷◌, length, get_or, take, drop, refl, ◌∙◌, ap, arith, length-drop}
 use Rattle.std.proofs.lemmas.Bool.{cases_lt, cond-true, cond-false}
 use Rattle.std.proofs.lemmas.Bool.Decides.{nat_tests}
 use Rattle.std.proofs.lemmas.List.{get_or-take, get_or-drop, length-take-le}
-use Rattle.pm_region.specs.Calls.{Call, wrote, covers, byte_after, AreWrites, OnlyWrites}
+use Rattle.pm_region.specs.Calls.{Call, wrote, byte_after, OnlyWrites}
 use Rattle.pm_region.specs.LineRuns.{IsClear, AreRuns}
 
 length_run : (bytes : List ℕ) (a n : ℕ) → 64 * a + 64 * n ≤ length bytes → length (take (64 * n) (drop (64 * a) bytes)) ≡ 64 * n

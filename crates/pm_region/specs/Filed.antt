@@ -3,7 +3,7 @@ use Rattle.std.specs.Prelude.{◌≡◌, ◌≢◌, ◌⊎◌, ℕ, ◌+◌, ◌
 use Rattle.pm_region.specs.declared.region_sizes.TheConstants.{LINE_BYTES, LINE_WORDS, WORD_BYTES}
 use Rattle.pm_region.specs.Bytes.{word_at}
 use Rattle.pm_region.specs.Split.{words_in}
-use Rattle.pm_region.specs.Lines.{has_line, HasNone, Adds}
+use Rattle.pm_region.specs.Lines.{has_line, Adds}
 use Rattle.pm_region.specs.Calls.{Call, settled, measured, gave, wrote, emptied, synced, named, byte_after, OnlyWrites}
 use Rattle.pm_region.specs.declared.device.Device.{Device}
 use Rattle.pm_region.specs.declared.file_words.FileWords.{FileWords}

@@ -1,6 +1,5 @@
-use Rattle.std.proofs.Common.{ℕ, List, ◌++◌, ◌∷◌, [], get_or, take, sym, ◌∙◌, ap, arith}
-use Rattle.pm_region.specs.Cell.{Cell}
-use Rattle.pm_region.specs.Journals.{act, cell_after}
+use Rattle.std.proofs.Common.{List, ◌∷◌, [], get_or, sym, ◌∙◌, ap, arith}
+use Rattle.pm_region.specs.Journals.{cell_after}
 use Rattle.pm_region.specs.declared.step.Step.{Step}
 use Rattle.pm_region.specs.declared.step.Step.TheVariants.{Store}
 use Rattle.pm_region.proofs.Journals.{after_append, replay_more}

@@ -1,6 +1,5 @@
-use Rattle.std.proofs.Common.{ℕ, ◌+◌, ◌∙◌, get_or, ap, arith}
-use Rattle.pm_region.specs.Cell.{Cell, certain}
-use Rattle.pm_region.specs.Journals.{act}
+use Rattle.std.proofs.Common.{◌+◌, ◌∙◌, get_or, arith}
+use Rattle.pm_region.specs.Cell.{certain}
 use Rattle.pm_region.specs.declared.step.Step.TheVariants.{Store}
 use Rattle.pm_region.proofs.Journals.{replay_more}
 use Rattle.pm_region.proofs.word_cells.cells_after.Goals as goal

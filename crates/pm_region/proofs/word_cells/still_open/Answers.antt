@@ -1,8 +1,7 @@
-use Rattle.std.proofs.Common.{rules, ℕ, ◌≡◌, ◌⊎◌, ◌<◌, ◌+◌, ◌++◌, ◌∷◌, [], List, false, inl, inr, ⊎_elim, get_or, take, length, subst, sym, ap, ◌∙◌, arith}
+use Rattle.std.proofs.Common.{rules, ℕ, ◌<◌, ◌∷◌, [], List, inl, inr, ⊎_elim, get_or, length, subst, sym, ap, ◌∙◌, arith}
 use Rattle.pm_region.specs.Cell.{HasValue}
 use Rattle.pm_region.specs.CellLists.{HasOne, cell_in}
 use Rattle.pm_region.specs.Image.{cell_of_data}
-use Rattle.pm_region.specs.declared.crash_image.CellData.{CellData}
 use Rattle.pm_region.proofs.Cells.{has_end}
 use Rattle.pm_region.proofs.Narrow.{has_split}
 use Rattle.pm_region.proofs.Stepping.{cell_there, place_has, one_more_place, has_left, alone}

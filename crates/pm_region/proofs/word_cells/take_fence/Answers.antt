@@ -1,4 +1,4 @@
-use Rattle.std.proofs.Common.{ℕ, ◌+◌, ◌≡◌, ◌<◌, List, take, get_or, subst, sym, ap, arith}
+use Rattle.std.proofs.Common.{ℕ, ◌+◌, ◌≡◌, take, get_or, subst, sym, arith}
 use Rattle.pm_region.specs.Cell.{Cell, HasValue}
 use Rattle.pm_region.specs.Journals.{act}
 use Rattle.pm_region.specs.declared.step.Step.{Step}

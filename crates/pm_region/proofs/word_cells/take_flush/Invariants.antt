@@ -1,4 +1,4 @@
-use Rattle.std.proofs.Common.{ℕ, ◌+◌, ◌≤◌, ◌<◌}
+use Rattle.std.proofs.Common.{◌+◌, ◌≤◌, ◌<◌}
 use Rattle.pm_region.specs.CellLists.{Acts}
 use Rattle.pm_region.proofs.word_cells.take_flush.Given as goal
 

@@ -1,4 +1,4 @@
-use Rattle.std.proofs.Common.{inl, inr, ⊎_elim, ℕ, ◌+◌, ◌*◌, List, length, refl, ◌∙◌, ap, arith}
+use Rattle.std.proofs.Common.{inl, inr, ⊎_elim, ℕ, ◌+◌, List, length, refl, ◌∙◌, ap, arith}
 use Rattle.std.proofs.lemmas.List.{with_items_is}
 use Rattle.pm_region.specs.Bytes.{word_at}
 use Rattle.pm_region.proofs.file_words.FileWords.absorb.Goals as goal

@@ -1,4 +1,4 @@
-use Rattle.std.proofs.Common.{◌≡◌, ℕ, ◌-◌, ◌*◌, List, take, drop, ◌∙◌, ap, subst, arith}
+use Rattle.std.proofs.Common.{ℕ, ◌-◌, ◌*◌, List, take, drop, ◌∙◌, ap, arith}
 use Rattle.pm_region.specs.Bytes.{word_at}
 use Rattle.pm_region.proofs.Wording.{word_part}
 use Rattle.pm_region.proofs.file_words.FileWords.part.Goals as goal

@@ -1,4 +1,4 @@
-use Rattle.std.proofs.Common.{◌≡◌, ◌<◌, Bool, true, false, length, get_or, refl, sym, subst, arith, length-set}
+use Rattle.std.proofs.Common.{◌≡◌, Bool, true, false, get_or, refl, sym, subst, arith, length-set}
 use Rattle.pm_region.proofs.Lining.{keeps_more, room_for}
 use Rattle.pm_region.proofs.line_set.LineSet.insert.Goals as goal
 

@@ -1,4 +1,4 @@
-use Rattle.std.proofs.Common.{false, ℕ, ◌≡◌, List, Bool, replicate, sym, subst}
+use Rattle.std.proofs.Common.{false, ℕ, ◌≡◌, List, Bool, sym, subst}
 use Rattle.pm_region.specs.Marks.{is_marked, KeepsLines}
 use Rattle.pm_region.proofs.Lining.{keeps_none, unmarked}
 use Rattle.pm_region.proofs.line_set.LineSet.new.Goals as goal
