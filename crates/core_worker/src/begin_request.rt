@@ -221,17 +221,14 @@ impl Worker {
             }
         };
         match plan {
-            Plan::Get { key } => match self.found(alloc, region, key) {
-                Ok(reply) => {
-                    self.answer(number, reply, None);
-                    return Ok(());
-                }
-                Err(_) => {
-                    return Err(NotAccepted {
-                        request: Request::Get { key },
-                    });
-                }
-            },
+            Plan::Get { key } => {
+                let Ok(reply) = self.found(alloc, region, key) else {
+                    let request = Request::Get { key };
+                    return Err(NotAccepted { request });
+                };
+                self.answer(number, reply, None);
+                return Ok(());
+            }
             Plan::Absent => {
                 self.answer(number, Reply::Absent, None);
                 return Ok(());
