@@ -1,28 +1,25 @@
 -- A batch in the open chunk: its room, its words and its entries.
-use Rattle.std.proofs.Common.{◌≡◌, ◌≢◌, ◌⊎◌, inl, inr, ⊎_elim, ℕ, zero, suc, ◌+◌, ◌-◌, ◌*◌, ◌/◌, ◌%◌, ◌^◌, ◌≤◌, ◌<◌, ◌==◌, ◌&&◌, nat_le, Bool, true, false, cond, List, [], ◌∷◌, ◌++◌, length, map, Option, Some, None, is_some, unwrap_or, Result, Ok, Err, refl, sym, ◌∙◌, ap, subst, arith, length-append}
-use Rattle.std.specs.List.{flat_map, AllByRecursion}
+use Rattle.std.proofs.Common.{◌≡◌, inl, inr, ⊎_elim, ℕ, ◌+◌, ◌-◌, ◌*◌, ◌/◌, ◌%◌, ◌≤◌, ◌<◌, ◌==◌, ◌&&◌, nat_le, true, List, [], ◌∷◌, ◌++◌, length, Option, Some, None, is_some, unwrap_or, Ok, Err, refl, sym, ◌∙◌, ap, subst, arith, length-append}
+use Rattle.std.specs.List.{flat_map}
 use Rattle.std.proofs.lemmas.Bool.{cond-true, and_from, eq-eqb, le-leb}
 use Rattle.std.proofs.lemmas.List.{map-append}
-use Rattle.pm_region.specs.Cell.{Cell}
-use Rattle.pm_region.specs.State.{State, Frame, IsTelling, cell_now, During}
-use Rattle.pm_region.specs.Words.{KeepsOutside, MayLeaveIn, EachIn, lasts, lines_for}
-use Rattle.pm_region.proofs.Clients.{weaken, at_exit, told_at_entry, may_be_last}
+use Rattle.pm_region.specs.State.{State, IsTelling, cell_now, During}
+use Rattle.pm_region.specs.Words.{KeepsOutside, lasts, lines_for}
+use Rattle.pm_region.proofs.Clients.{weaken, told_at_entry, may_be_last}
 use Rattle.chunk_map.specs.declared.layouts.Geometry.{Geometry}
-use Rattle.chunk_map.specs.declared.heads.Head.{Head}
-use Rattle.chunk_map.specs.declared.heads.Head.TheVariants.{Free, Log, Data}
+use Rattle.chunk_map.specs.declared.heads.Head.TheVariants.{Log}
 use Rattle.chunk_map.specs.Layouts.{chunk_words, payload_words, payload_lines, chunk_first, head_by, head_at}
 use Rattle.chunk_map.proofs.Clients.{numbers_of, payload_of}
 use Rattle.log_entry.specs.declared.entry.Entry.{Entry}
 use Rattle.log_entry.specs.declared.entry.Body.{Body}
 use Rattle.log_entry.specs.declared.entry.Body.TheVariants.{Pointer, Embedded, Tombstone}
 use Rattle.log_entry.specs.Spelling.{words_of, body_words}
-use Rattle.log_entry.specs.Batches.{batch_words, IsBatch, SpellsBatches, Scan, scan_of}
-use Rattle.log_entry.proofs.Clients.{entries_from, scan-append, spells-append, whole_lines, length-words}
+use Rattle.log_entry.specs.Batches.{batch_words, IsBatch, Scan, scan_of}
+use Rattle.log_entry.proofs.Clients.{entries_from, scan-append, spells-append, length-words}
 use Rattle.store_image.specs.declared.types.PlacedEntry.{PlacedEntry}
-use Rattle.store_image.specs.Parts.{payload, scan_at, scan_behind, placed, chunk_entries}
-use Rattle.core_log.specs.declared.types.LogChunk.{LogChunk}
+use Rattle.store_image.specs.Parts.{scan_at, scan_behind, placed, chunk_entries}
 use Rattle.core_log.specs.Chunk.{padded, words_now, HasLog, HasOrLacks, ChunkLies, IsLog, Appended}
-use Rattle.core_log.specs.Log.{LogState, tail_of, with_tail, chunk_with, IsChunkOf, IsOwn, first_of, open_number, open_first, open_tail, room_of, lines_left, EachInOpen, Spelled, HoldsEntries, StandsIn}
+use Rattle.core_log.specs.Log.{LogState, tail_of, with_tail, chunk_with, IsChunkOf, IsOwn, open_number, open_first, open_tail, room_of, lines_left, EachInOpen, Spelled, HoldsEntries, StandsIn}
 use Rattle.core_log.specs.Entries.{with_places, open_entries, added_entries, HasEntries, HasEntriesOrLacks, AppendedBatch}
 use Rattle.core_log.proofs.Padded.{length-padded}
 use Rattle.core_log.proofs.Append.{log_reads}

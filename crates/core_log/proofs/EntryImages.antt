@@ -1,8 +1,7 @@
 -- What callers of a log start from.
-use Rattle.std.proofs.Common.{◌≡◌, ◌⊎◌, inl, ℕ, ◌+◌, ◌≤◌, ◌<◌, true, List, [], ◌∷◌, Option, Some, is_some, refl, sym, ap, subst, arith}
-use Rattle.std.specs.List.{AllByRecursion}
-use Rattle.pm_region.specs.Cell.{Cell, MayBe}
-use Rattle.pm_region.specs.State.{State, Frame, IsTelling, cell_now}
+use Rattle.std.proofs.Common.{◌≡◌, ◌⊎◌, inl, ℕ, ◌≤◌, ◌<◌, true, List, [], ◌∷◌, is_some, arith}
+use Rattle.pm_region.specs.Cell.{Cell}
+use Rattle.pm_region.specs.State.{State, cell_now}
 use Rattle.pm_region.specs.Words.{KeepsOutside, MayLeaveIn, lasts}
 use Rattle.pm_region.proofs.Clients.{patch, patch_in, patch_out, was_image}
 use Rattle.log_entry.specs.declared.entry.Entry.{Entry}

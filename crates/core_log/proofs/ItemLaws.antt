@@ -1,14 +1,14 @@
 -- Words that spell batches are entries and single zero words, one after another.
-use Rattle.std.proofs.Common.{◌≡◌, ◌≢◌, ◌⊎◌, inl, inr, ⊎_elim, ℕ, zero, suc, ◌+◌, ◌-◌, ◌*◌, ◌/◌, ◌%◌, ◌^◌, ◌≤◌, ◌<◌, nat_le, List, [], ◌∷◌, ◌++◌, length, map, drop, get_or, replicate, Option, Some, None, refl, sym, ◌∙◌, ap, subst, arith, append_assoc, length-append}
+use Rattle.std.proofs.Common.{◌≡◌, ◌≢◌, ⊎_elim, ℕ, zero, suc, ◌+◌, ◌-◌, ◌≤◌, ◌<◌, nat_le, List, [], ◌∷◌, ◌++◌, length, map, drop, get_or, replicate, Option, Some, None, refl, sym, ◌∙◌, ap, arith, append_assoc, length-append}
 use Rattle.std.specs.List.{flat_map, AllByRecursion}
-use Rattle.std.proofs.lemmas.Bool.{cond-true, cond-false, le-leb, cases_eq, cases_lt}
+use Rattle.std.proofs.lemmas.Bool.{cond-false, cases_eq}
 use Rattle.std.proofs.lemmas.Bool.Decides.{nat_tests}
 use Rattle.log_entry.specs.declared.entry.Body.{Body}
 use Rattle.log_entry.specs.declared.entry.Body.TheVariants.{Pointer, Embedded, Tombstone}
 use Rattle.log_entry.specs.declared.entry.Entry.{Entry}
-use Rattle.log_entry.specs.Spelling.{words_of, body_words, first_word, HasSpelling}
-use Rattle.log_entry.specs.Batches.{padding, batch_words, IsBatch, SpellsBatches, Scan, scan_of}
-use Rattle.log_entry.proofs.Clients.{entries_from, batches_from, scan_spelled, length-batch}
+use Rattle.log_entry.specs.Spelling.{words_of, body_words, HasSpelling}
+use Rattle.log_entry.specs.Batches.{padding, batch_words, IsBatch}
+use Rattle.log_entry.proofs.Clients.{entries_from, batches_from, length-batch}
 use Rattle.core_log.specs.Walking.{next_entry, IsBetween}
 
 -- an entry, or a word of padding

@@ -1,18 +1,18 @@
 -- What a log keeps to, and that it stands again after a chunk of it was written.
-use Rattle.std.proofs.Common.{◌≡◌, ◌≢◌, ◌⊎◌, inl, inr, ⊎_elim, ℕ, zero, suc, ◌+◌, ◌-◌, ◌*◌, ◌/◌, ◌%◌, ◌^◌, ◌≤◌, ◌<◌, ◌==◌, Bool, true, false, cond, List, [], ◌∷◌, ◌++◌, length, get_or, Option, Some, None, is_some, unwrap_or, refl, sym, ◌∙◌, ap, subst, arith}
+use Rattle.std.proofs.Common.{◌≡◌, ◌≢◌, inl, inr, ⊎_elim, ℕ, ◌+◌, ◌*◌, ◌/◌, ◌≤◌, ◌<◌, true, List, [], ◌∷◌, length, Option, Some, None, is_some, unwrap_or, refl, sym, ◌∙◌, ap, subst, arith}
 use Rattle.std.specs.List.{AllByRecursion}
-use Rattle.std.proofs.lemmas.Bool.{cases_eq, cases_lt}
-use Rattle.pm_region.specs.Cell.{Cell, fenced, MayBe}
+use Rattle.std.proofs.lemmas.Bool.{cases_eq}
+use Rattle.pm_region.specs.Cell.{Cell}
 use Rattle.pm_region.specs.State.{State, Frame, IsTelling, cell_now, During}
-use Rattle.pm_region.specs.Words.{Kept, KeepsOutside, Surely, lasts}
+use Rattle.pm_region.specs.Words.{Kept, KeepsOutside, lasts}
 use Rattle.pm_region.proofs.Clients.{at_exit, told_at_entry, surely_kept, surely_own}
 use Rattle.chunk_map.specs.declared.layouts.Geometry.{Geometry}
-use Rattle.chunk_map.specs.Layouts.{IsLayout, chunk_words, payload_words, payload_lines, total_bytes, part_first, chunk_first}
-use Rattle.chunk_map.proofs.Clients.{numbers_of, chunk_words_whole, payload_of, chunks_apart, chunk_in_part, chunk_first_whole, part_within}
+use Rattle.chunk_map.specs.Layouts.{IsLayout, chunk_words, payload_lines, part_first}
+use Rattle.chunk_map.proofs.Clients.{numbers_of, payload_of, chunks_apart, chunk_in_part, chunk_first_whole, part_within}
 use Rattle.log_entry.proofs.Clients.{words_same}
 use Rattle.core_log.specs.declared.types.LogChunk.{LogChunk}
 use Rattle.core_log.specs.Chunk.{words_now, ChunkLies, IsLog}
-use Rattle.core_log.specs.Log.{LogState, tail_of, with_tail, chunk_with, IsRising, IsChunkOf, IsOwn, first_of, open_number, open_first, open_tail, room_of, lines_left, Spelled, StandsIn}
+use Rattle.core_log.specs.Log.{LogState, tail_of, with_tail, chunk_with, IsRising, IsChunkOf, IsOwn, first_of, Spelled, StandsIn}
 use Rattle.core_log.proofs.TailLaws.{tail_set, tail_other, rising_set, all_set, all_of, rising_short}
 
 pub own_chunk : (log : LogState) → IsOwn log → (j t : ℕ) → tail_of log.chunks j ≡ Some t → IsChunkOf log.layout (chunk_with j t)

@@ -1,19 +1,17 @@
 -- A chunk is opened for a log.
-use Rattle.std.proofs.Common.{◌≡◌, ◌≢◌, ◌⊎◌, inl, inr, ⊎_elim, ℕ, ◌+◌, ◌-◌, ◌*◌, ◌/◌, ◌%◌, ◌≤◌, ◌<◌, ◌==◌, List, [], ◌∷◌, length, Option, Some, unwrap_or, Result, Ok, refl, sym, ◌∙◌, ap, subst, arith}
-use Rattle.pm_region.specs.Cell.{Cell, MayBe}
-use Rattle.pm_region.specs.State.{State, Frame, IsTelling, cell_now, During}
-use Rattle.pm_region.specs.Words.{KeepsOutside, Surely, MayLeaveIn, EachIn, lasts}
+use Rattle.std.proofs.Common.{◌≡◌, inl, inr, ⊎_elim, ℕ, ◌+◌, ◌-◌, ◌/◌, ◌<◌, [], Option, Some, unwrap_or, Result, Ok, refl, sym, ◌∙◌, ap, subst, arith}
+use Rattle.pm_region.specs.Cell.{Cell}
+use Rattle.pm_region.specs.State.{State, IsTelling, cell_now, During}
+use Rattle.pm_region.specs.Words.{KeepsOutside, Surely, EachIn}
 use Rattle.pm_region.proofs.Clients.{weaken, wider}
 use Rattle.chunk_map.specs.declared.layouts.Geometry.{Geometry}
 use Rattle.chunk_map.specs.declared.heads.Head.{Head}
-use Rattle.chunk_map.specs.declared.heads.Head.TheVariants.{Free, Log, Data}
-use Rattle.chunk_map.specs.Layouts.{chunk_words, payload_lines, payload_words, head_by, head_at, chunk_first}
-use Rattle.chunk_map.specs.Setting.{HeadLies, HasTail, HeadTurns, SurelyHead}
-use Rattle.store_image.specs.Parts.{payload, chunk_entries, scan_behind, scan_at, placed}
-use Rattle.log_entry.specs.Batches.{Scan}
-use Rattle.core_log.specs.declared.types.LogChunk.{LogChunk}
-use Rattle.core_log.specs.Chunk.{words_now, HasLog, FreeOrEmpty, ChunkLies, IsLog}
-use Rattle.core_log.specs.Log.{LogState, tail_of, with_tail, chunk_with, IsChunkOf, first_of, room_of, lines_left, Spelled, StandsIn}
+use Rattle.chunk_map.specs.declared.heads.Head.TheVariants.{Log}
+use Rattle.chunk_map.specs.Layouts.{chunk_words, payload_lines, head_by, head_at, chunk_first}
+use Rattle.chunk_map.specs.Setting.{HeadLies, HeadTurns, SurelyHead}
+use Rattle.store_image.specs.Parts.{chunk_entries, scan_behind, placed}
+use Rattle.core_log.specs.Chunk.{FreeOrEmpty, ChunkLies, IsLog}
+use Rattle.core_log.specs.Log.{LogState, with_tail, first_of, room_of, StandsIn}
 use Rattle.core_log.specs.Opening.{EachInChunk, HasNoEntries, OpenedChunk}
 use Rattle.core_log.proofs.Append.{log_reads}
 use Rattle.core_log.proofs.TailLaws.{tail_set}

@@ -1,24 +1,21 @@
 -- A chunk of a log is made Free.
-use Rattle.std.proofs.Common.{◌≡◌, ◌≢◌, ◌⊎◌, inl, inr, ⊎_elim, ℕ, ◌+◌, ◌-◌, ◌*◌, ◌/◌, ◌%◌, ◌≤◌, ◌<◌, ◌==◌, true, List, [], Option, Some, None, is_some, unwrap_or, Result, Ok, refl, sym, ◌∙◌, ap, subst, arith}
-use Rattle.std.proofs.lemmas.Bool.{cases_eq}
-use Rattle.pm_region.specs.Cell.{Cell, MayBe}
+use Rattle.std.proofs.Common.{◌≡◌, ◌≢◌, inl, inr, ⊎_elim, ℕ, ◌+◌, ◌≤◌, ◌<◌, true, [], Option, Some, None, is_some, unwrap_or, refl, sym, ◌∙◌, ap, subst, arith}
+use Rattle.pm_region.specs.Cell.{Cell}
 use Rattle.pm_region.specs.State.{State, Frame, IsTelling, cell_now, During}
-use Rattle.pm_region.specs.Words.{Kept, KeepsOutside, Surely, MayLeaveIn, EachIn, lasts}
-use Rattle.pm_region.proofs.Clients.{weaken, both, at_exit, told_at_entry, wider, may_be_last, surely_kept}
-use Rattle.chunk_map.specs.declared.heads.Head.{Head}
-use Rattle.chunk_map.specs.declared.heads.Head.TheVariants.{Free, Log, Data}
+use Rattle.pm_region.specs.Words.{Kept, KeepsOutside, Surely, EachIn, lasts}
+use Rattle.pm_region.proofs.Clients.{weaken, both, at_exit, told_at_entry, may_be_last, surely_kept}
+use Rattle.chunk_map.specs.declared.heads.Head.TheVariants.{Free}
 use Rattle.chunk_map.specs.Layouts.{chunk_words, part_first, head_by, chunk_first}
 use Rattle.chunk_map.specs.Setting.{HeadTurns}
 use Rattle.chunk_map.specs.declared.layouts.Geometry.{Geometry}
 use Rattle.chunk_map.proofs.Clients.{chunks_apart}
-use Rattle.log_entry.specs.Batches.{Scan, scan_of}
 use Rattle.log_entry.proofs.Clients.{words_same}
-use Rattle.store_image.specs.Parts.{payload, chunk_entries, scan_behind, placed}
-use Rattle.core_log.specs.Chunk.{words_now, HasLog, FreeOrLog, ChunkLies, IsLog}
+use Rattle.store_image.specs.Parts.{chunk_entries, scan_behind, placed}
+use Rattle.core_log.specs.Chunk.{words_now, FreeOrLog, ChunkLies}
 use Rattle.core_log.specs.Log.{LogState, tail_of, without, chunk_with, IsChunkOf, IsOwn, first_of, tail_in, Spelled, StandsIn}
-use Rattle.core_log.specs.Opening.{EachInChunk, HasNoEntries}
+use Rattle.core_log.specs.Opening.{EachInChunk}
 use Rattle.core_log.specs.Retiring.{HasSameOrNone, RetiredChunk}
-use Rattle.core_log.proofs.Append.{reads_old, log_reads}
+use Rattle.core_log.proofs.Append.{log_reads}
 use Rattle.core_log.proofs.LogLaws.{own_chunk, chunk_lies, log_kept, words_kept, tail_fits}
 use Rattle.core_log.proofs.BatchLaws.{entries_read}
 use Rattle.core_log.proofs.WithoutLaws.{without_other, without_self, rising_without, all_without}

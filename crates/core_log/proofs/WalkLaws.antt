@@ -1,18 +1,16 @@
 -- The next entry at or after a place.
-use Rattle.std.proofs.Common.{◌≡◌, ◌≢◌, ◌⊎◌, inl, inr, ⊎_elim, ℕ, zero, suc, ◌+◌, ◌-◌, ◌*◌, ◌/◌, ◌%◌, ◌^◌, ◌≤◌, ◌<◌, ◌==◌, nat_le, Bool, true, false, cond, List, [], ◌∷◌, ◌++◌, length, drop, get_or, Option, Some, None, refl, sym, ◌∙◌, ap, subst, arith, append-nil, length-append, length-drop, get_or-drop}
+use Rattle.std.proofs.Common.{◌≡◌, ◌≢◌, inl, inr, ℕ, zero, suc, ◌+◌, ◌-◌, ◌≤◌, ◌<◌, ◌==◌, nat_le, Bool, true, false, cond, List, [], ◌∷◌, ◌++◌, length, drop, get_or, Option, Some, None, refl, sym, ◌∙◌, ap, subst, arith, append-nil, length-append, length-drop, get_or-drop}
 use Rattle.std.specs.Prelude.{option_map}
-use Rattle.std.specs.List.{flat_map, AllByRecursion}
-use Rattle.std.proofs.lemmas.Bool.{cond-true, cond-false, le-leb, leb-true, leb-false, cases_eq, cases_lt}
-use Rattle.std.proofs.lemmas.Bool.Decides.{nat_tests}
+use Rattle.std.specs.List.{AllByRecursion}
+use Rattle.std.proofs.lemmas.Bool.{cond-true, le-leb}
 use Rattle.log_entry.specs.declared.entry.Entry.{Entry}
 use Rattle.log_entry.specs.declared.entry.Read.{Read}
 use Rattle.log_entry.specs.declared.entry.Read.TheVariants as reads
 use Rattle.log_entry.specs.Spelling.{words_of, HasSpelling}
 use Rattle.log_entry.specs.Reading.{size_of, version_of, entry_rule, entry_of, read_by, read}
 use Rattle.log_entry.specs.Words.{words_from}
-use Rattle.log_entry.specs.Batches.{batch_words, SpellsBatches, Scan, scan_of}
+use Rattle.log_entry.specs.Batches.{Scan, scan_of}
 use Rattle.log_entry.proofs.Clients.{scan_spelled, read_spelled, words_append, words_list, length-words}
-use Rattle.core_log.specs.declared.types.WalkStep.{WalkStep}
 use Rattle.core_log.specs.declared.types.Peek.{Peek}
 use Rattle.core_log.specs.Log.{Spelled}
 use Rattle.core_log.specs.Walking.{next_entry, IsBetween, step_at, peek_at}

@@ -1,5 +1,5 @@
 -- What one chunk of a log is in a region, and how an image reads it. Addresses are word numbers of the region. The first two words of a head are the kind and the tail.
-use Rattle.std.specs.Prelude.{◌≡◌, ◌⊎◌, ℕ, ◌+◌, ◌/◌, ◌%◌, ◌^◌, ◌≤◌, ◌<◌, List, ◌++◌, length, replicate, ◌-◌}
+use Rattle.std.specs.Prelude.{◌≡◌, ◌⊎◌, ℕ, ◌+◌, ◌%◌, ◌^◌, ◌≤◌, ◌<◌, List, ◌++◌, length, replicate}
 use Rattle.pm_region.specs.declared.region_sizes.TheConstants.{LINE_WORDS}
 use Rattle.pm_region.specs.Cell.{Cell}
 use Rattle.pm_region.specs.State.{State, Frame, cell_now}

@@ -1,12 +1,11 @@
 -- The entries of the open chunk while a batch is appended.
 use Rattle.std.specs.Prelude.{◌≡◌, ◌⊎◌, ℕ, ◌+◌, List, [], ◌∷◌, ◌++◌, length}
 use Rattle.pm_region.specs.State.{State, IsTelling, cell_now}
-use Rattle.pm_region.specs.Words.{EachIn, lasts}
 use Rattle.log_entry.specs.declared.entry.Entry.{Entry}
 use Rattle.log_entry.specs.Spelling.{words_of}
 use Rattle.store_image.specs.declared.types.PlacedEntry.{PlacedEntry}
 use Rattle.store_image.specs.Parts.{placed, chunk_entries}
-use Rattle.core_log.specs.Chunk.{words_now, padded, HasLog}
+use Rattle.core_log.specs.Chunk.{words_now, HasLog}
 use Rattle.core_log.specs.Log.{LogState, StandsIn, EachInOpen, with_tail, open_number, open_first, open_tail}
 
 -- entries one after another from a place on, each with its place

@@ -1,9 +1,9 @@
 -- A core's log as its callers see it: its chunks with their tails, and which is open. And what it is in a region.
-use Rattle.std.specs.Prelude.{◌≡◌, ℕ, zero, suc, ◌+◌, ◌-◌, ◌/◌, ◌%◌, ◌<◌, ◌≤◌, ◌==◌, nat_lt, Bool, true, List, [], ◌∷◌, ◌++◌, length, Option, Some, None, is_some, unwrap_or, if◌then◌else◌}
+use Rattle.std.specs.Prelude.{◌≡◌, ℕ, ◌+◌, ◌-◌, ◌/◌, ◌%◌, ◌<◌, ◌≤◌, ◌==◌, nat_lt, true, List, [], ◌∷◌, Option, Some, None, is_some, unwrap_or, if◌then◌else◌}
 use Rattle.std.specs.List.{flat_map, AllByRecursion}
 use Rattle.pm_region.specs.declared.region_sizes.TheConstants.{LINE_WORDS}
 use Rattle.pm_region.specs.Cell.{Cell}
-use Rattle.pm_region.specs.State.{State, Frame, IsTelling, cell_now}
+use Rattle.pm_region.specs.State.{State, IsTelling, cell_now}
 use Rattle.pm_region.specs.Words.{EachIn}
 use Rattle.chunk_map.specs.declared.layouts.Geometry.{Geometry}
 use Rattle.chunk_map.specs.Layouts.{IsLayout, chunk_words, payload_words, payload_lines, part_first, chunk_first}

@@ -1,5 +1,5 @@
 -- Which changes are refused for want of room, by what a core has free and what it has pledged.
-use Rattle.std.specs.Prelude.{ℕ, ◌+◌, ◌-◌, ◌≡◌, ◌⊎◌, ◌≤◌, ◌==◌, ◌&&◌, ◌||◌, not, nat_lt, nat_le, Bool, true, Option, Some, None, if◌then◌else◌}
+use Rattle.std.specs.Prelude.{ℕ, ◌+◌, ◌-◌, ◌⊎◌, ◌≤◌, ◌==◌, ◌&&◌, ◌||◌, not, nat_lt, nat_le, Bool, Option, Some, None, if◌then◌else◌}
 use Rattle.core_room.specs.declared.supply.Supply.{Supply}
 use Rattle.core_room.specs.declared.types.Counts.{Counts}
 use Rattle.core_room.specs.declared.types.Shortage.{Shortage}

@@ -1,5 +1,5 @@
 -- The allocator of one part as its callers see it: which chunks are free, which are cut into blocks, and which blocks are allocated.
-use Rattle.std.specs.Prelude.{◌≡◌, ◌⊎◌, ℕ, ◌+◌, ◌-◌, ◌*◌, ◌/◌, ◌%◌, ◌^◌, ◌<◌, ◌==◌, ◌&&◌, ◌||◌, not, nat_le, List, Bool, true, false, slice_get, Option, Some, None, is_none, if◌then◌else◌, count_by}
+use Rattle.std.specs.Prelude.{◌≡◌, ◌⊎◌, ℕ, ◌+◌, ◌-◌, ◌*◌, ◌/◌, ◌%◌, ◌<◌, ◌==◌, ◌&&◌, ◌||◌, not, nat_le, List, Bool, true, false, slice_get, Option, Some, None, is_none, if◌then◌else◌, count_by}
 use Rattle.std.specs.Option.{option_map_or, option_and_then}
 use Rattle.chunk_map.specs.declared.layouts.Geometry.{Geometry}
 pub use Rattle.chunk_map.specs.Chunks.{blocks_in}

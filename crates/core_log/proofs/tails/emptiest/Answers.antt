@@ -1,4 +1,4 @@
-use Rattle.std.proofs.Common.{◌≡◌, ◌+◌, ℕ, List, Option, Some, [], drop, length, sym, ◌∙◌, ap, subst, arith, rules}
+use Rattle.std.proofs.Common.{◌≡◌, ℕ, List, Option, Some, [], drop, sym, ◌∙◌, ap, subst, rules}
 use Rattle.core_log.specs.declared.types.LogChunk.{LogChunk}
 use Rattle.std.proofs.lemmas.List.{drop_all}
 use Rattle.core_log.specs.Fresh.{IsEmptiest, least, emptiest}

@@ -1,7 +1,6 @@
-use Rattle.std.proofs.Common.{◌≡◌, ◌<◌, ◌≤◌, ℕ, List, true, is_some, length, sym, ◌∙◌, ap, subst, arith, rules}
+use Rattle.std.proofs.Common.{◌≡◌, ◌≤◌, List, length, sym, ◌∙◌, ap, arith, rules}
 use Rattle.std.specs.List.{remove}
 use Rattle.core_log.specs.declared.types.LogChunk.{LogChunk}
-use Rattle.core_log.specs.Log.{without}
 use Rattle.core_log.specs.Places.{place_of}
 use Rattle.core_log.proofs.WithoutLaws.{place_in, without_is}
 use Rattle.core_log.proofs.tails.take_out.Goals as goal

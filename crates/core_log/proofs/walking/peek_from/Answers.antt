@@ -1,13 +1,11 @@
-use Rattle.std.proofs.Common.{◌≡◌, ◌≢◌, ◌≤◌, ◌<◌, ◌+◌, ℕ, Option, Some, None, List, length, get_or, sym, ◌∙◌, ap, subst, arith, rules}
+use Rattle.std.proofs.Common.{◌≡◌, ◌<◌, ◌+◌, ℕ, Some, sym, ◌∙◌, ap, subst, arith}
 use Rattle.std.specs.Prelude.{option_map}
-use Rattle.pm_region.specs.State.{IsTelling}
 use Rattle.pm_region.specs.Words.{lasts}
-use Rattle.log_entry.specs.declared.entry.Entry.{Entry}
 use Rattle.log_entry.specs.Reading.{size_of, version_of}
 use Rattle.log_entry.specs.Words.{words_from}
 use Rattle.log_entry.specs.Batches.{scan_of}
 use Rattle.log_entry.proofs.Clients.{length-words}
-use Rattle.core_log.specs.Walking.{next_entry, IsBetween, peek_at}
+use Rattle.core_log.specs.Walking.{IsBetween, peek_at}
 use Rattle.core_log.proofs.WalkLaws.{none_left, found, next_is_between, next_is_spelled, word_of, entry_fits, entry_fields, peek_is}
 use Rattle.core_log.proofs.walking.peek_from.Goals as goal
 

@@ -1,15 +1,11 @@
-use Rattle.std.proofs.Common.{◌≡◌, ◌≢◌, ◌≤◌, ◌<◌, ◌+◌, ◌-◌, ℕ, Option, Some, None, List, length, drop, sym, ◌∙◌, ap, subst, arith, rules}
-use Rattle.std.specs.Prelude.{option_map}
-use Rattle.pm_region.specs.State.{IsTelling}
+use Rattle.std.proofs.Common.{◌≡◌, ◌+◌, ◌-◌, ℕ, Some, length, ◌∙◌, ap, arith}
 use Rattle.pm_region.specs.Words.{lasts}
 use Rattle.log_entry.specs.declared.entry.Entry.{Entry}
 use Rattle.log_entry.specs.declared.entry.Read.TheVariants as reads
 use Rattle.log_entry.specs.Spelling.{words_of}
 use Rattle.log_entry.specs.Words.{words_from}
-use Rattle.log_entry.specs.Reading.{read}
 use Rattle.log_entry.specs.Batches.{scan_of}
 use Rattle.log_entry.proofs.Clients.{length-words, words_loaded}
-use Rattle.core_log.specs.declared.types.Peek.{Peek}
 use Rattle.core_log.specs.Walking.{next_entry, peek_at}
 use Rattle.core_log.proofs.WalkLaws.{next_is_spelled, entry_read, walk_is, walk_ends}
 use Rattle.core_log.proofs.walking.walk_from.Goals as goal

@@ -1,5 +1,4 @@
-use Rattle.std.proofs.Common.{◌≡◌, ◌≤◌, ◌<◌, ◌+◌, Some, length, vec_len, sym, ap, subst, arith, rules}
-use Rattle.std.specs.Vec.{vec_capacity}
+use Rattle.std.proofs.Common.{◌≡◌, ◌≤◌, ◌<◌, Some, length, vec_len, sym, subst, arith, rules}
 use Rattle.core_log.specs.declared.types.LogChunk.{LogChunk}
 use Rattle.std.proofs.Common.{List}
 use Rattle.core_log.specs.Log.{LogState, IsOwn}

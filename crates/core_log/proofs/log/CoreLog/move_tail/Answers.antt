@@ -1,6 +1,4 @@
-use Rattle.std.proofs.Common.{◌≡◌, ◌≤◌, ◌<◌, ◌+◌, List, length, vec_len, sym, ap, subst, arith, rules}
-use Rattle.std.specs.Vec.{vec_capacity}
-use Rattle.chunk_map.specs.declared.layouts.Geometry.{Geometry}
+use Rattle.std.proofs.Common.{◌≡◌, ◌≤◌, List, length, vec_len, sym, subst, arith, rules}
 use Rattle.core_log.specs.declared.types.LogChunk.{LogChunk}
 use Rattle.core_log.specs.Log.{LogState, IsOwn, IsChunkOf, chunk_with}
 use Rattle.core_log.proofs.LogLaws.{has_place, own_set}

@@ -1,4 +1,4 @@
-use Rattle.std.proofs.Common.{◌+◌, ap, arith, rules}
+use Rattle.std.proofs.Common.{◌+◌, ap, rules}
 use Rattle.core_log.proofs.Steps.{step_is, found_lies, payload_lies}
 use Rattle.core_log.proofs.log.CoreLog.peek.Goals as goal
 

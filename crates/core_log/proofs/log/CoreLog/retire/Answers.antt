@@ -1,9 +1,9 @@
-use Rattle.std.proofs.Common.{◌≡◌, ◌≤◌, ◌<◌, ◌+◌, ℕ, Some, refl, sym, ◌∙◌, ap, subst, arith, rules}
+use Rattle.std.proofs.Common.{◌≡◌, ◌+◌, ℕ, sym, subst, arith}
 use Rattle.pm_region.specs.State.{State, During, IsTelling, cell_now}
 use Rattle.pm_region.specs.Words.{KeepsOutside, EachIn, Surely}
 use Rattle.chunk_map.specs.declared.heads.Head.TheVariants.{Free}
 use Rattle.chunk_map.specs.Setting.{HeadLies, HeadTurns}
-use Rattle.core_log.specs.Log.{LogState, first_of, tail_in}
+use Rattle.core_log.specs.Log.{first_of}
 use Rattle.core_log.proofs.RetireLaws.{retiring_lies, free_or_log, same_or_none, retired_chunk}
 use Rattle.core_log.proofs.log.CoreLog.retire.Goals as goal
 

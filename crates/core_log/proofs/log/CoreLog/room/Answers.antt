@@ -1,6 +1,5 @@
-use Rattle.std.proofs.Common.{◌≡◌, ◌≤◌, ◌/◌, List, Option, unwrap_or, ℕ, sym, ◌∙◌, ap, subst, arith, rules}
-use Rattle.core_log.specs.declared.types.LogChunk.{LogChunk}
-use Rattle.core_log.specs.Log.{LogState, IsOwn, tail_of}
+use Rattle.std.proofs.Common.{◌≡◌, unwrap_or, arith, rules}
+use Rattle.core_log.specs.Log.{LogState, tail_of}
 use Rattle.core_log.proofs.LogLaws.{room_in}
 use Rattle.core_log.proofs.log.CoreLog.room.Goals as goal
 
