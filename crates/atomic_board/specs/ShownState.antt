@@ -1,12 +1,14 @@
 -- The state that a table's words, slots and views show, and the rule.
 -- The first seat has the store. The seat that was split k-th from it is member k's: it stands behind the store, at the place k + 1.
-use Rattle.std.specs.Prelude.{◌≡◌, ℕ, suc, ◌*◌, ◌<◌, ◌≤◌, Bool, true, false, cond, eqb, ◌||◌, List, [], ◌∷◌, length, slice_index, Option, Some, None, ◌⊎◌}
+use Rattle.std.specs.Prelude.{◌≡◌, ℕ, suc, ◌+◌, ◌*◌, ◌<◌, ◌≤◌, Bool, true, false, cond, eqb, ◌||◌, List, [], ◌∷◌, length, slice_index, Option, Some, None, ◌⊎◌}
 use mathlib.Core.Option.{some, none}
 use mathlib.Core.Option as maybe
 use lib.ListN.{get_elem?}
 use Rattle.atomic_table.specs.Table.{State}
 use Rattle.log_entry.specs.declared.entry.Entry.{Entry}
 use Rattle.log_entry.specs.declared.entry.EntryName.{EntryName}
+use Rattle.chunk_map.specs.declared.layout_sizes.TheConstants.{MOST_GROUP}
+use Rattle.group_laws.specs.declared.group_sizes.TheConstants.{SLOTS}
 use Rattle.group_laws.specs.declared.types.Slot.{Slot}
 use Rattle.group_laws.specs.declared.types.Slot.TheVariants.{Empty, Posted, Taken, Done, Failed}
 use Rattle.group_laws.specs.State.{Notices, shown}
@@ -24,6 +26,7 @@ use Rattle.atomic_board.specs.declared.seat_data.Holding.{Holding}
 use Rattle.atomic_board.specs.declared.seat_data.Deed.{Deed}
 use Rattle.atomic_board.specs.declared.seat_data.SeatData.{SeatData}
 use Rattle.atomic_board.specs.declared.seat_data.SeatData.TheVariants.{Store, Own, Spent}
+use Rattle.atomic_board.specs.declared.table_words.TheConstants.{EMPTY_MAILBOX, FULL_MAILBOX, LOCK}
 use Rattle.atomic_board.specs.TableWords.{pool_word, pool_place, mail_word, mail_place, word_count, lock_word, word_number}
 use Rattle.atomic_board.specs.Deeds.{group_of, began, names_of, place_of, size, view_by}
 use Rattle.group_board.specs.Tidies.{Covers}
@@ -81,7 +84,7 @@ abbrev pub IsHome : Home → Bool → Slot → Type 0
 IsHome h settled Empty = settled ≡ false → h ≡ some (some None)
 IsHome h settled (Posted e) = h ≡ some (some (lies e None))
 IsHome h settled Taken = Unit {0}
-IsHome h settled (Done e home) = (h ≡ some (some (lies e (Some home)))) × (home < 8)
+IsHome h settled (Done e home) = (h ≡ some (some (lies e (Some home)))) × (home < MOST_GROUP)
 IsHome h settled (Failed e) = h ≡ some (some (lies e None))
 
 -- the hand has the slot of that mailbox
@@ -98,8 +101,9 @@ gripped (Some g) = record { dead = g.dead; gone = g.gone }
 
 -- a mailbox's word and what lies in its slot, with the hands of its sender and its receiver
 abbrev pub IsBox : ℕ → Home → ℕ → Option MailHold → Option MailHold → Option Notices → Type 0
-IsBox x h k s r None = (x ≡ 0) × (grips r k ≡ false) × (grips s k ≡ false → h ≡ some (some None))
-IsBox x h k s r (Some n) = (x ≡ 1) × (grips r k ≡ false → (q : Parceled)
+IsBox x h k s r None = (x ≡ EMPTY_MAILBOX) × (grips r k ≡ false)
+    × (grips s k ≡ false → h ≡ some (some None))
+IsBox x h k s r (Some n) = (x ≡ FULL_MAILBOX) × (grips r k ≡ false → (q : Parceled)
     × (h ≡ some (some (Some (parcels.Notices q)))) × (notices_of q ≡ n))
     × (grips r k ≡ true → n ≡ gripped r)
 
@@ -109,11 +113,11 @@ IsSlot x h settled y = (x ≡ word_number (shown y)) × IsHome h settled y
 
 pub record Fits (b : Origin) (holder : Option ℕ) (slot : ℕ → ℕ → Slot)
     (mail : ℕ → ℕ → Option Notices) (s : TableState) : Type 0 where
-  pub few : size b ≤ 8
+  pub few : size b ≤ MOST_GROUP
   pub begun : Covers (names_of b) (began b)
   pub wide : length s.words ≡ word_count (size b)
-  pub many : length s.homes ≡ 16 * size b
-  pub lock : slice_index s.words 0 ≡ lock_word holder
+  pub many : length s.homes ≡ (SLOTS + MOST_GROUP) * size b
+  pub lock : slice_index s.words LOCK ≡ lock_word holder
   pub member : lock_word holder ≤ size b
   pub given : ℕ
   pub low : given ≤ size b
@@ -123,9 +127,10 @@ pub record Fits (b : Origin) (holder : Option ℕ) (slot : ℕ → ℕ → Slot)
   pub gone : (m : ℕ) → is_back back m ≡ true → get_elem? s.views (suc m) ≡ some Spent
   pub own : (j : ℕ) (d : SeatData) → get_elem? s.views (suc j) ≡ some d
       → ((q : Holding) × (ds : List Deed) × (d ≡ Own j q b ds)) ⊎ (d ≡ Spent)
-  pub pool : (a t : ℕ) → a < size b → t < 8 → IsSlot (slice_index s.words (pool_word (size b) a t))
-      (get_elem? s.homes (pool_place a t)) (pose_at s.views a).settled (slot a t)
-  pub outside : (a t : ℕ) → (size b ≤ a) ⊎ (8 ≤ t) → slot a t ≡ Empty
+  pub pool : (a t : ℕ) → a < size b → t < SLOTS
+      → IsSlot (slice_index s.words (pool_word (size b) a t)) (get_elem? s.homes (pool_place a t))
+      (pose_at s.views a).settled (slot a t)
+  pub outside : (a t : ℕ) → (size b ≤ a) ⊎ (SLOTS ≤ t) → slot a t ≡ Empty
   pub box : (a c : ℕ) → a < size b → c < size b → IsBox
       (slice_index s.words (mail_word (size b) a c)) (get_elem? s.homes (mail_place (size b) a c))
       (pool_place a c) (pose_at s.views a).hand (pose_at s.views c).hand (mail a c)

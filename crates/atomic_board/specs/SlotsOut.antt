@@ -2,6 +2,7 @@
 use Rattle.std.specs.Prelude.{◌≡◌, ◌≢◌, ℕ, ◌*◌, ◌<◌, Bool, true, false, eqb, ◌&&◌, not, List, [], ◌∷◌, Option, Some, None}
 use Rattle.std.specs.List.{list_any}
 use Rattle.log_entry.specs.declared.entry.Entry.{Entry}
+use Rattle.group_laws.specs.declared.group_sizes.TheConstants.{SLOTS}
 use Rattle.group_laws.specs.declared.types.Pending.{Pending}
 use Rattle.group_laws.specs.Places.{Place, owner}
 use Rattle.atomic_board.specs.declared.parcel.Parcel.{Parcel}
@@ -46,9 +47,9 @@ IsNamedBy p m pending t = (k : ℕ) × (e : Entry) × (owner p k ≡ m)
 -- A seat has out the own slots that no change stands in, and those of the changes that its member has in its hands. It has no other slot out.
 pub record Holds (p : Place) (m n : ℕ) (pending : ℕ → Option Pending) (taken : ℕ → ℕ → Option Entry)
     (held : List ℕ) : Type 0 where
-  pub mine : (t : ℕ) → t < 8 → IsFreeBy pending t → has (pool_place m t) held ≡ true
-  pub hands : (a t : ℕ) (e : Entry) → a < n → t < 8 → taken a t ≡ Some e
+  pub mine : (t : ℕ) → t < SLOTS → IsFreeBy pending t → has (pool_place m t) held ≡ true
+  pub hands : (a t : ℕ) (e : Entry) → a < n → t < SLOTS → taken a t ≡ Some e
       → has (pool_place a t) held ≡ true
-  pub others : (a t : ℕ) → a < n → t < 8 → (a ≡ m → IsNamedBy p m pending t) → taken a t ≡ None
+  pub others : (a t : ℕ) → a < n → t < SLOTS → (a ≡ m → IsNamedBy p m pending t) → taken a t ≡ None
       → has (pool_place a t) held ≡ false
-  pub below : (k : ℕ) → has k held ≡ true → k < 8 * n
+  pub below : (k : ℕ) → has k held ≡ true → k < SLOTS * n

@@ -5,6 +5,7 @@ use Rattle.atomic_table.specs.Table.{Me, Step, rest}
 use Rattle.log_entry.specs.declared.entry.Entry.{Entry}
 use Rattle.log_entry.specs.Spelling.{words_of, HasSpelling}
 use Rattle.store_image.specs.Facts.{In}
+use Rattle.group_laws.specs.declared.group_sizes.TheConstants.{SLOTS}
 use Rattle.group_laws.specs.declared.types.SlotWord.{SlotWord}
 use Rattle.group_laws.specs.declared.types.SlotWord.TheVariants as words
 use Rattle.group_laws.specs.declared.types.Seen.TheVariants as loads
@@ -19,6 +20,7 @@ use Rattle.atomic_board.specs.declared.seat_data.Deed.{Deed}
 use Rattle.atomic_board.specs.declared.seat_data.Deed.TheVariants.{Post, Lock, Found, Take, Unlock, Commit, Finish, GiveUp, Withdraw, Doom, Retire, Send, Receive}
 use Rattle.atomic_board.specs.declared.seat_data.SeatData.{SeatData}
 use Rattle.atomic_board.specs.declared.seat_data.SeatData.TheVariants.{Store, Own, Spent}
+use Rattle.atomic_board.specs.declared.table_words.TheConstants.{EMPTY_MAILBOX, FREE_LOCK}
 use Rattle.atomic_board.specs.TableWords.{pool_word, pool_place, mail_word, mail_place, word_number, IsClearWord}
 use Rattle.atomic_board.specs.Deeds.{began, place_of, size, view_by}
 use Rattle.atomic_board.specs.ShownState.{lies, deeds_in, gripped, grip_at}
@@ -98,16 +100,16 @@ tells_unlock st m r n = n ≡ (did Unlock m.0, m.1)
 
 abbrev pub tells_lock : Tells
 tells_lock st m r n = (r ≤ size (origin_in m.0)) × (r ≢ number_in m.0 + 1)
-    × (r ≡ 0 → n ≡ (did Lock m.0, m.1)) × ((h : ℕ) → r ≡ h + 1
+    × (r ≡ FREE_LOCK → n ≡ (did Lock m.0, m.1)) × ((h : ℕ) → r ≡ h + 1
     → n ≡ (did (Found (loads.Holder h)) m.0, m.1))
 
 abbrev pub tells_look : Tells
-tells_look st m r n = (a t : ℕ) → t < 8 → st.word ≡ pool_word (size (origin_in m.0)) a t
+tells_look st m r n = (a t : ℕ) → t < SLOTS → st.word ≡ pool_word (size (origin_in m.0)) a t
     → (w : SlotWord) × (r ≡ word_number w) × IsClearWord w
     × (n ≡ (did (Found (loads.Slot a t w)) m.0, m.1))
 
 abbrev pub tells_settle : Tells
-tells_settle st m r n = n ≡ (settled_in m.0, row_out (pool_place (number_in m.0) 0) 8 m.1)
+tells_settle st m r n = n ≡ (settled_in m.0, row_out (pool_place (number_in m.0) 0) SLOTS m.1)
 
 abbrev pub IsNamed : Place → ℕ → View → ℕ → Type 0
 IsNamed p m v t = IsNamedBy p m v.pending t
@@ -117,7 +119,7 @@ abbrev pub IsNotOut : Place → ℕ → View → ℕ → ℕ → Type 0
 IsNotOut p m v a t = (a ≡ m → IsNamed p m v t) × (v.taken a t ≡ None)
 
 abbrev pub tells_take : Tells
-tells_take st m r n = (a t : ℕ) → t < 8 → st.word ≡ pool_word (size (origin_in m.0)) a t
+tells_take st m r n = (a t : ℕ) → t < SLOTS → st.word ≡ pool_word (size (origin_in m.0)) a t
     → (e : Entry) × (n ≡ (did (Take a t e) m.0, (pool_place a t, lies e None) ∷ m.1))
     × IsNotOut (place_of (origin_in m.0)) (number_in m.0) (view_in m.0) a t
     × ((c : ℕ) → In (loads.Slot a t (words.Posted c)) (view_in m.0).looked
@@ -157,7 +159,7 @@ joined Spent e = Spent
 
 -- a change is given back, done or failed
 abbrev pub tells_give : (ℕ → ℕ → Deed) → Tells
-tells_give d st m r n = (a t : ℕ) (c : Change) → t < 8
+tells_give d st m r n = (a t : ℕ) (c : Change) → t < SLOTS
     → st.word ≡ pool_word (size (origin_in m.0)) a t
     → m.1 ≡ (pool_place a t, Some (parcels.Change c)) ∷ rest m.1
     → (n ≡ (did (d a t) m.0, rest m.1)) × (a ≡ number_in m.0
@@ -176,7 +178,7 @@ over e None = GiveUp e
 over e (Some h) = Finish e h
 
 abbrev pub tells_finish : Tells
-tells_finish st m r n = (t : ℕ) → t < 8 → st.word ≡ pool_word (size (origin_in m.0))
+tells_finish st m r n = (t : ℕ) → t < SLOTS → st.word ≡ pool_word (size (origin_in m.0))
     (number_in m.0) t
     → (e : Entry) × (home : Option ℕ) × (n ≡ (
       did (over e home) m.0,
@@ -192,7 +194,7 @@ tells_finish st m r n = (t : ℕ) → t < 8 → st.word ≡ pool_word (size (ori
     × IfSome home (IsHome (place_of (origin_in m.0)) (number_in m.0) (view_in m.0) e)
 
 abbrev pub tells_withdraw : Tells
-tells_withdraw st m r n = (t : ℕ) → t < 8 → st.word
+tells_withdraw st m r n = (t : ℕ) → t < SLOTS → st.word
     ≡ pool_word (size (origin_in m.0)) (number_in m.0) t
     → (e : Entry) × (n ≡ (did (Withdraw e) m.0, (pool_place (number_in m.0) t, lies e None) ∷ m.1))
     × Stands (place_of (origin_in m.0)) (number_in m.0) (view_in m.0) t e
@@ -219,12 +221,12 @@ gripping g Spent = Spent
 -- a load of an outgoing mailbox: where it is empty, its slot is taken in hand
 abbrev pub tells_try_send : Tells
 tells_try_send st m r n = (to : ℕ) → st.word ≡ mail_word (size (origin_in m.0)) (number_in m.0) to
-    → ((r ≡ 0) × (n ≡ (
+    → ((r ≡ EMPTY_MAILBOX) × (n ≡ (
       gripping (grip_at (pool_place (number_in m.0) to) [] [])
           (did (Found (loads.Mail (number_in m.0) to false)) m.0),
       (mail_place (size (origin_in m.0)) (number_in m.0) to, None) ∷ m.1,
     )))
-    ⊎ ((r ≢ 0) × (n ≡ (did (Found (loads.Mail (number_in m.0) to true)) m.0, m.1)))
+    ⊎ ((r ≢ EMPTY_MAILBOX) × (n ≡ (did (Found (loads.Mail (number_in m.0) to true)) m.0, m.1)))
 
 abbrev pub tells_send : Tells
 tells_send st m r n = (to : ℕ) (q : Notices) → st.word
@@ -247,8 +249,8 @@ Fetched m n from = (q : Notices) × (n ≡ (
 abbrev pub tells_try_receive : Tells
 tells_try_receive st m r n = (from : ℕ) → from < size (origin_in m.0)
     → st.word ≡ mail_word (size (origin_in m.0)) from (number_in m.0)
-    → ((r ≢ 0) × Fetched m n from)
-    ⊎ ((r ≡ 0) × (n ≡ (did (Found (loads.Mail from (number_in m.0) false)) m.0, m.1)))
+    → ((r ≢ EMPTY_MAILBOX) × Fetched m n from)
+    ⊎ ((r ≡ EMPTY_MAILBOX) × (n ≡ (did (Found (loads.Mail from (number_in m.0) false)) m.0, m.1)))
 
 abbrev pub tells_receive : Tells
 tells_receive st m r n = (n ≡ (

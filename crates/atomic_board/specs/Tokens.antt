@@ -12,6 +12,7 @@ use Rattle.atomic_board.specs.declared.seat_data.Origin.{Origin}
 use Rattle.atomic_board.specs.declared.seat_data.SeatData.{SeatData}
 use Rattle.atomic_board.specs.declared.seat_data.SeatData.TheVariants.{Store}
 use Rattle.atomic_board.specs.declared.seat_data.Deed.{Deed}
+use Rattle.atomic_board.specs.declared.table_words.TheConstants.{MOST_SLOTS}
 use Rattle.atomic_board.specs.declared.token.SeatToken.{SeatToken}
 use Rattle.atomic_board.specs.Deeds.{began, view_by}
 use Rattle.atomic_board.specs.ShownState.{TableState, ShowsLawful, views_of, is_back, deeds_in}
@@ -39,10 +40,10 @@ pub record Ended (b : Origin) (ts : List SeatToken) (ws : List ℕ) : Type 0 whe
   pub views : (k : ℕ) (t : SeatToken) → get_elem? ts k ≡ some t
       → views_of b table.views k ≡ view_at t.own
 
--- nothing in them, and room for 64 numbers
+-- nothing in them, and room for the numbers of all slots
 abbrev pub AreEmptyHands : {A : Type 0} → List (VecDeque ℕ A) → Type 0
 AreEmptyHands hs = (k : ℕ) (h : VecDeque ℕ _) → get_elem? hs k ≡ some h → (h.items ≡ [])
-    × (64 ≤ deque_capacity h)
+    × (MOST_SLOTS ≤ deque_capacity h)
 
 -- the store has the deeds of the tokens from the j-th on
 abbrev pub HasFrom : Origin → List SeatToken → ℕ → SeatData → Type 0

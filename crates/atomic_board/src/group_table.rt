@@ -1,5 +1,6 @@
 // The table of a group.
 ghost use Rattle.std.specs.Prelude.{◌≡◌, ◌<◌, ◌≤◌, [], vec_capacity};
+ghost use Rattle.chunk_map.specs.declared.layout_sizes.TheConstants.{MOST_GROUP};
 ghost use Rattle.atomic_board.specs.declared.seat_data.SeatData.TheVariants.{Store};
 ghost use Rattle.atomic_board.specs.TableWords.{word_count};
 ghost use Rattle.atomic_board.specs.Deeds.{size};
@@ -20,7 +21,7 @@ pub struct GroupTable {
     pub(crate) members: u32,
     /// Room for the words that `close` gives.
     pub(crate) report: Vec<u64>,
-    ghost few: { (0 < members) × (members ≤ 8) },
+    ghost few: { (0 < members) × (members ≤ MOST_GROUP) },
     ghost room: { (report.items ≡ []) × (word_count members ≤ vec_capacity report) },
     ghost wide: { table.shared.table_id.words ≡ word_count members },
     ghost sized: { size table.shared.key.me.0 ≡ members },

@@ -15,6 +15,7 @@ mod seat_returns;
 mod slot_order;
 mod table;
 pub mod table_laws;
+mod table_words;
 mod token;
 
 pub use group_table::GroupTable;

@@ -13,21 +13,29 @@ ghost use Rattle.atomic_board.specs.MemberSeats.{place_at, view_at, Stays};
 use crate::member_seat::{Common, MemberSeat};
 use crate::parcel::Parcel;
 use crate::rule::{Receives, Sends, TryReceives, TrySends};
+use crate::table_words::{EMPTY_MAILBOX, FULL_MAILBOX};
+use chunk_map::layout_sizes::MOST_GROUP;
 use crash_core::Notices;
 use group_board::MailFull;
+use group_laws::group_sizes::{LOCK_WORDS, SLOTS};
 
+/// The number of the word of the mailbox from one member to another, counted from the table's first.
 pub fn mail_word_of(members: u32, from: u32, to: u32) -> usize
-    requires { (members ≤ 8) × (from < members) × (to < members) }
+    requires { (members ≤ MOST_GROUP) × (from < members) × (to < members) }
     ensures { result ≡ mail_word members from to }
 {
-    1 + 9 * members as usize + (members as usize * from as usize + to as usize)
+    LOCK_WORDS as usize
+        + (1 + SLOTS as usize) * members as usize
+        + (members as usize * from as usize + to as usize)
 }
 
+/// The number of that mailbox's slot, counted from the table's first. They stand behind the slots of the pools, eight
+/// for each member, whatever the size of the group.
 pub fn mail_place_of(members: u32, from: u32, to: u32) -> usize
-    requires { (members ≤ 8) × (from < members) × (to < members) }
+    requires { (members ≤ MOST_GROUP) × (from < members) × (to < members) }
     ensures { result ≡ mail_place members from to }
 {
-    8 * members as usize + (8 * from as usize + to as usize)
+    SLOTS as usize * members as usize + (MOST_GROUP as usize * from as usize + to as usize)
 }
 
 /// The notices that lie there.
@@ -62,11 +70,11 @@ impl MemberSeat {
         let word = mail_word_of(self.members, self.member, to);
         let place = mail_place_of(self.members, self.member, to);
         let found = shared.load::<TrySends>(&mut self.seat, word);
-        if found != 0 {
+        if found != EMPTY_MAILBOX {
             return Err(MailFull { notices });
         }
         let _ = shared.exchange(&mut self.seat, place, Some(Parcel::Notices(notices)));
-        shared.store::<Sends>(&mut self.seat, word, 1);
+        shared.store::<Sends>(&mut self.seat, word, FULL_MAILBOX);
         Ok(())
     }
 
@@ -87,11 +95,11 @@ impl MemberSeat {
         let word = mail_word_of(self.members, from, self.member);
         let place = mail_place_of(self.members, from, self.member);
         let found = shared.load::<TryReceives>(&mut self.seat, word);
-        if found == 0 {
+        if found == EMPTY_MAILBOX {
             return None;
         }
         let parcel = shared.exchange(&mut self.seat, place, None);
-        shared.store::<Receives>(&mut self.seat, word, 0);
+        shared.store::<Receives>(&mut self.seat, word, EMPTY_MAILBOX);
         Some(opened(parcel))
     }
 }

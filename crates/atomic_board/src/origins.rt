@@ -18,6 +18,7 @@ impl TableRule<u8, Origin, ()> for Asks {
     ghost first = { λ _. record { group = 0; words = [] } };
 }
 
+/// The load by which the seat gets what a group opens on as its view.
 pub struct Opens<O> {
     marker: PhantomData<O>,
 }
@@ -26,6 +27,7 @@ impl<O: Opening> Play<u8, Origin> for Opens<O> {
     ghost then = { λ st m r n. n ≡ (record { group = O.group; words = O.words }, m.1) };
 }
 
+/// A seat whose view is what the group opens on. Its table has one word and asks nothing.
 pub fn origin_seat<O: Opening>(alloc: Global) -> Result<OriginSeat, Memory>
     ensures { IfOk result (λ p. p.me.0 ≡ record { group = O.group; words = O.words }) }
 {

@@ -12,11 +12,13 @@ use crate::seat_data::{Origin, SeatData};
 use atomic_table::{Play, Seat, TableRule};
 use std::marker::{Brand, PhantomData};
 
+/// A seat of a group's table: the first one, or a member's.
 pub type CoreView = Seat<Option<Parcel>, SeatData>;
 
 /// The seat of a table that asks nothing. Its view is what the group opens on, and it is the key of the group's table.
 pub type OriginSeat = Seat<u8, Origin>;
 
+/// The rule of a group's table: it shows a lawful state that the machine's steps lead to.
 pub struct Ruled;
 
 impl TableRule<Option<Parcel>, SeatData, OriginSeat> for Ruled {
@@ -25,30 +27,35 @@ impl TableRule<Option<Parcel>, SeatData, OriginSeat> for Ruled {
     ghost first = { λ plan. Store 0 plan.me.0 [] };
 }
 
+/// The step up of the own word's count by which what was in flight is certain.
 pub struct Commits;
 
 impl Play<Option<Parcel>, SeatData> for Commits {
     ghost then = { tells_commit };
 }
 
+/// The store that frees the lock.
 pub struct Unlocks;
 
 impl Play<Option<Parcel>, SeatData> for Unlocks {
     ghost then = { tells_unlock };
 }
 
+/// The compare-exchange at the lock, which was free or had a holder.
 pub struct Locks;
 
 impl Play<Option<Parcel>, SeatData> for Locks {
     ghost then = { tells_lock };
 }
 
+/// A load of a pool word.
 pub struct Looks;
 
 impl Play<Option<Parcel>, SeatData> for Looks {
     ghost then = { tells_look };
 }
 
+/// The load by which a seat takes all its slots out, each Empty.
 pub struct Settles;
 
 impl Play<Option<Parcel>, SeatData> for Settles {
@@ -73,6 +80,7 @@ impl<W: OpenedOn> Play<Option<Parcel>, SeatData> for Returns<W> {
     ghost then = { tells_return W.origin };
 }
 
+/// The store of Taken at a pool word that was Posted. The change is in hand then.
 pub struct Takes;
 
 impl Play<Option<Parcel>, SeatData> for Takes {
@@ -88,6 +96,7 @@ impl Value for Brand {
     ghost value = { [] };
 }
 
+/// The store of Posted at an own pool word, with the change in its slot.
 pub struct Posts<W> {
     marker: PhantomData<W>,
 }
@@ -96,24 +105,28 @@ impl<W: Value> Play<Option<Parcel>, SeatData> for Posts<W> {
     ghost then = { tells_post W.value };
 }
 
+/// The store of Done at a Taken pool word, with the change back in its slot.
 pub struct Marks;
 
 impl Play<Option<Parcel>, SeatData> for Marks {
     ghost then = { tells_give Mark };
 }
 
+/// The store of Failed at a Taken pool word, with the change back in its slot.
 pub struct Fails;
 
 impl Play<Option<Parcel>, SeatData> for Fails {
     ghost then = { tells_give Fail };
 }
 
+/// The store of Empty at an own pool word that was Done or Failed. The change is out then.
 pub struct Finishes;
 
 impl Play<Option<Parcel>, SeatData> for Finishes {
     ghost then = { tells_finish };
 }
 
+/// The store of Empty at an own pool word that was Posted, by the lock's holder.
 pub struct Withdraws;
 
 impl Play<Option<Parcel>, SeatData> for Withdraws {
@@ -129,6 +142,7 @@ impl Named for Brand {
     ghost names = { [] };
 }
 
+/// The step up of the own word's count from which on these names may vanish.
 pub struct Dooms<W> {
     marker: PhantomData<W>,
 }
@@ -137,6 +151,7 @@ impl<W: Named> Play<Option<Parcel>, SeatData> for Dooms<W> {
     ghost then = { tells_doom W.names };
 }
 
+/// The step up of the own word's count by which these names have vanished.
 pub struct Retires<W> {
     marker: PhantomData<W>,
 }
@@ -145,24 +160,28 @@ impl<W: Named> Play<Option<Parcel>, SeatData> for Retires<W> {
     ghost then = { tells_retire W.names };
 }
 
+/// A load of the word of a mailbox from this member. Where it is empty, its slot is in hand then.
 pub struct TrySends;
 
 impl Play<Option<Parcel>, SeatData> for TrySends {
     ghost then = { tells_try_send };
 }
 
+/// The store of full there, with the notices in the slot.
 pub struct Sends;
 
 impl Play<Option<Parcel>, SeatData> for Sends {
     ghost then = { tells_send };
 }
 
+/// A load of the word of a mailbox to this member. Where it is full, the notices are in hand then.
 pub struct TryReceives;
 
 impl Play<Option<Parcel>, SeatData> for TryReceives {
     ghost then = { tells_try_receive };
 }
 
+/// The store of empty there, with the slot back.
 pub struct Receives;
 
 impl Play<Option<Parcel>, SeatData> for Receives {

@@ -24,23 +24,30 @@ use crate::member_seat::{Common, MemberSeat};
 use crate::parcel::Parcel;
 use crate::rule::{Commits, CoreView, Locks, Looks, Posts, Takes, Unlocks, Value};
 use crate::slot_order::bring;
+use crate::table_words::{
+    DONE_WORD, EMPTY_WORD, FAILED_WORD, FREE_LOCK, LOCK, POSTED_WORD, TAKEN_WORD,
+};
+use chunk_map::layout_sizes::MOST_GROUP;
 use crash_core::Change;
 use group_board::{Busy, SlotState};
+use group_laws::group_sizes::{LOCK_WORDS, SLOTS};
 use log_entry::entry_words;
 use std::marker::Brand;
 
+/// The number of the word of a member's slot, counted from the table's first.
 pub fn pool_word_of(members: u32, member: u32, slot: u32) -> usize
-    requires { (members ≤ 8) × (member < members) × (slot < 8) }
+    requires { (members ≤ MOST_GROUP) × (member < members) × (slot < SLOTS) }
     ensures { result ≡ pool_word members member slot }
 {
-    (1 + members + 8 * member + slot) as usize
+    (LOCK_WORDS + members + SLOTS * member + slot) as usize
 }
 
+/// The number of that slot, counted from the table's first.
 pub fn pool_place_of(member: u32, slot: u32) -> usize
-    requires { (member < 8) × (slot < 8) }
+    requires { (member < MOST_GROUP) × (slot < SLOTS) }
     ensures { result ≡ pool_place member slot }
 {
-    (8 * member + slot) as usize
+    (SLOTS * member + slot) as usize
 }
 
 /// The change that lies there.
@@ -75,7 +82,11 @@ impl MemberSeat {
         ensures same { Stays self.old self.new }
         ensures view { view_at self.new ≡ after_commit (view_at self.old) }
     {
-        shared.fetch_add::<Commits>(&mut self.seat, 1 + self.member as usize, 1);
+        shared.fetch_add::<Commits>(
+            &mut self.seat,
+            LOCK_WORDS as usize + self.member as usize,
+            1,
+        );
     }
 
     pub(crate) fn unlock(&mut self, shared: &Common)
@@ -84,7 +95,7 @@ impl MemberSeat {
         ensures same { Stays self.old self.new }
         ensures view { view_at self.new ≡ after_unlock (view_at self.old) }
     {
-        shared.store::<Unlocks>(&mut self.seat, 0, 0);
+        shared.store::<Unlocks>(&mut self.seat, LOCK, FREE_LOCK);
     }
 
     pub(crate) fn try_lock(&mut self, shared: &Common) -> Result<(), Busy>
@@ -97,8 +108,8 @@ impl MemberSeat {
         ensures holder { IfErr result (λ busy. busy.holder < size (origin_at self.old)) }
     {
         let mine = self.member as u64 + 1;
-        let found = shared.compare_exchange::<Locks>(&mut self.seat, 0, 0, mine);
-        if found == 0 {
+        let found = shared.compare_exchange::<Locks>(&mut self.seat, LOCK, FREE_LOCK, mine);
+        if found == FREE_LOCK {
             Ok(())
         } else {
             Err(Busy {
@@ -132,7 +143,7 @@ impl MemberSeat {
     {
         let pool_word = pool_word_of(self.members, member, slot);
         let place = pool_place_of(member, slot);
-        shared.store::<Takes>(&mut self.seat, pool_word, 2);
+        shared.store::<Takes>(&mut self.seat, pool_word, TAKEN_WORD);
         let parcel = shared.exchange(&mut self.seat, place, None);
         self.held.push_front_reserved(place);
         unpacked(parcel)
@@ -148,7 +159,7 @@ impl MemberSeat {
     {
         let pool_word = pool_word_of(self.members, self.member, slot);
         let place = pool_place_of(self.member, slot);
-        let words = 16 + entry_words(&change.entry);
+        let words = POSTED_WORD + entry_words(&change.entry);
         bring(&mut self.seat, &mut self.held, place);
         let _ = shared.exchange(&mut self.seat, place, Some(Parcel::Change(change)));
         offer::<Brand>(shared, &mut self.seat, pool_word, words, value);
@@ -161,11 +172,13 @@ pub fn state_at(found: u64) -> SlotState
     ensures { (w : SlotWord) → found ≡ word_number w → IsClearWord w → state_of w ≡ result }
 {
     match found {
-        0 => SlotState::Empty,
-        2 => SlotState::Taken,
-        4 => SlotState::Failed,
-        8..=15 => SlotState::Done,
-        _ if found >= 16 => SlotState::Posted { words: found - 16 },
+        EMPTY_WORD => SlotState::Empty,
+        TAKEN_WORD => SlotState::Taken,
+        FAILED_WORD => SlotState::Failed,
+        DONE_WORD..POSTED_WORD => SlotState::Done,
+        _ if found >= POSTED_WORD => SlotState::Posted {
+            words: found - POSTED_WORD,
+        },
         _ => SlotState::Empty,
     }
 }

@@ -18,7 +18,9 @@ use crate::parcel::Parcel;
 use crate::rule::{CoreView, Dooms, Fails, Finishes, Marks, Named, Retires, Withdraws};
 use crate::seat_leading::{pool_place_of, pool_word_of, unpacked};
 use crate::slot_order::bring;
+use crate::table_words::{DONE_WORD, EMPTY_WORD, FAILED_WORD};
 use crash_core::Change;
+use group_laws::group_sizes::LOCK_WORDS;
 use log_entry::entry::EntryName;
 use std::marker::Brand;
 
@@ -58,7 +60,7 @@ impl MemberSeat {
     {
         let pool_word = pool_word_of(self.members, member, slot);
         let place = pool_place_of(member, slot);
-        let word = 8 + self.member as u64;
+        let word = DONE_WORD + self.member as u64;
         let done = Change {
             entry: change.entry,
             home: Some(self.member),
@@ -84,7 +86,7 @@ impl MemberSeat {
         };
         bring(&mut self.seat, &mut self.held, place);
         let _ = shared.exchange(&mut self.seat, place, Some(Parcel::Change(failed)));
-        shared.store::<Fails>(&mut self.seat, pool_word, 4);
+        shared.store::<Fails>(&mut self.seat, pool_word, FAILED_WORD);
         let _ = self.held.pop_front();
     }
 
@@ -108,7 +110,7 @@ impl MemberSeat {
     {
         let pool_word = pool_word_of(self.members, self.member, slot);
         let place = pool_place_of(self.member, slot);
-        shared.store::<Finishes>(&mut self.seat, pool_word, 0);
+        shared.store::<Finishes>(&mut self.seat, pool_word, EMPTY_WORD);
         let parcel = shared.exchange(&mut self.seat, place, None);
         self.held.push_front_reserved(place);
         unpacked(parcel)
@@ -125,7 +127,7 @@ impl MemberSeat {
     {
         let pool_word = pool_word_of(self.members, self.member, slot);
         let place = pool_place_of(self.member, slot);
-        shared.store::<Withdraws>(&mut self.seat, pool_word, 0);
+        shared.store::<Withdraws>(&mut self.seat, pool_word, EMPTY_WORD);
         let parcel = shared.exchange(&mut self.seat, place, None);
         self.held.push_front_reserved(place);
         unpacked(parcel)
@@ -137,7 +139,12 @@ impl MemberSeat {
         ensures same { Stays self.old self.new }
         ensures view { view_at self.new ≡ after_doom names.now (view_at self.old) }
     {
-        dooms::<Brand>(shared, &mut self.seat, 1 + self.member as usize, names);
+        dooms::<Brand>(
+            shared,
+            &mut self.seat,
+            LOCK_WORDS as usize + self.member as usize,
+            names,
+        );
     }
 
     pub(crate) fn retire(&mut self, shared: &Common, names: &[EntryName])
@@ -148,6 +155,11 @@ impl MemberSeat {
             (after_retire (place_at self.old) self.old.member names.now (view_at self.old))
             (view_at self.new) }
     {
-        retires::<Brand>(shared, &mut self.seat, 1 + self.member as usize, names);
+        retires::<Brand>(
+            shared,
+            &mut self.seat,
+            LOCK_WORDS as usize + self.member as usize,
+            names,
+        );
     }
 }

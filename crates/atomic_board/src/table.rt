@@ -25,10 +25,13 @@ use crate::parcel::Parcel;
 use crate::rule::{CoreView, OpenedOn, Returns, Settles};
 use crate::seat_data::SeatData;
 use crate::seat_leading::pool_place_of;
+use crate::table_words::MOST_SLOTS;
 use crate::token::{CoreSeat, SeatToken};
 use atomic_table::{Closed, Join, Perch, Split, Table};
+use chunk_map::layout_sizes::MOST_GROUP;
 use fs_errors::Memory;
 use group_board::Opening;
+use group_laws::group_sizes::{LOCK_WORDS, SLOTS};
 use std::alloc::Global;
 use std::collections::VecDeque;
 use std::marker::Brand;
@@ -61,9 +64,9 @@ fn split_next(
 ) -> MemberSeat
     requires table { (spare.old.table_id ≡ shared.now.table_id)
         × (shared.now.table_id.words ≡ word_count members) × (size shared.now.key.me.0 ≡ members) }
-    requires member { (member < members) × (members ≤ 8) }
+    requires member { (member < members) × (members ≤ MOST_GROUP) }
     requires spare { spare.old.me ≡ (Store member shared.now.key.me.0 [], []) }
-    requires held { (held.items ≡ []) × (64 ≤ deque_capacity held) }
+    requires held { (held.items ≡ []) × (MOST_SLOTS ≤ deque_capacity held) }
     ensures spare { (spare.new.table_id ≡ spare.old.table_id)
         × (spare.new.me ≡ (Store (member + 1) shared.now.key.me.0 [], [])) }
     ensures token { (result.seat.table_id ≡ shared.now.table_id) × (result.member ≡ member)
@@ -71,8 +74,8 @@ fn split_next(
     ensures view { view_at result ≡ view_of (began shared.now.key.me.0) member }
 {
     let mut seat = shared.split_seat::<SplitsOff>(spare);
-    shared.load::<Settles>(&mut seat, 1 + member as usize);
-    for slot in 0..8 {
+    shared.load::<Settles>(&mut seat, LOCK_WORDS as usize + member as usize);
+    for slot in 0..SLOTS {
         held.push_front_reserved(pool_place_of(member, slot));
     }
     MemberSeat {
@@ -93,7 +96,7 @@ fn split_all(
 ) -> Vec<SeatToken>
     requires table { (first.table_id ≡ shared.now.table_id)
         × (shared.now.table_id.words ≡ word_count members) × (size shared.now.key.me.0 ≡ members) }
-    requires members { (0 < members) × (members ≤ 8) }
+    requires members { (0 < members) × (members ≤ MOST_GROUP) }
     requires first { first.me ≡ (Store 0 shared.now.key.me.0 [], []) }
     requires hands { (length hands.items ≡ members) × AreEmptyHands hands.items }
     requires room { (tokens.items ≡ []) × (members ≤ vec_capacity tokens) }
@@ -125,7 +128,7 @@ fn empty_hands(alloc: Global, members: u32) -> Result<Vec<VecDeque<usize>>, Memo
 {
     let mut hands = Vec::with_capacity(alloc, members as usize)?;
     for _ in 0..members {
-        hands.push_reserved(VecDeque::with_capacity(alloc, 64)?);
+        hands.push_reserved(VecDeque::with_capacity(alloc, MOST_SLOTS)?);
     }
     Ok(hands)
 }
@@ -157,7 +160,7 @@ fn join_one(shared: &Common, spare: &mut CoreView, own: MemberSeat)
         members: _,
         held: _,
     } = own;
-    gives_back::<Brand>(shared, &mut seat, 1 + member as usize);
+    gives_back::<Brand>(shared, &mut seat, LOCK_WORDS as usize + member as usize);
     shared.join_seat::<JoinsBack>(spare, seat);
 }
 
@@ -225,9 +228,12 @@ impl GroupTable {
     {
         let plan = origin_seat::<O>(alloc)?;
         let count = members as usize;
-        let words = vec![in alloc; 0; 1 + 9 * count + count * count]?;
-        let (table, spare) = Table::vacant(alloc, &words, 16 * count, &plan)?;
-        let report = Vec::with_capacity(alloc, 1 + 9 * count + count * count)?;
+        let first_mail_word = LOCK_WORDS as usize + (1 + SLOTS as usize) * count;
+        let word_count = first_mail_word + count * count;
+        let home_count = (SLOTS as usize + MOST_GROUP as usize) * count;
+        let words = vec![in alloc; 0; word_count]?;
+        let (table, spare) = Table::vacant(alloc, &words, home_count, &plan)?;
+        let report = Vec::with_capacity(alloc, word_count)?;
         let rest = Perch::new(&spare, 0);
         if rest.give(spare, 0, 2).is_err() {
             return Err(Memory);

@@ -1,11 +1,12 @@
 -- The states of a leader, and what the view has in each of the member m that leads, in a group at the place p. A seat says both; another seat of the same member will do as well.
 use Rattle.std.specs.Prelude.{◌≡◌, ◌≢◌, ◌⊎◌, ℕ, zero, suc, ◌+◌, ◌-◌, ◌*◌, ◌<◌, ◌≤◌, ◌==◌, Bool, true, false, List, [], ◌∷◌, ◌++◌, length, Option, Some, None, IfSome, IsSomeAnd}
 use Rattle.std.specs.List.{AllByRecursion}
+use Rattle.pm_region.specs.Words.{lines_for}
 use Rattle.log_entry.specs.declared.entry_limits.TheConstants.{LONGEST_ENTRY, LONGEST_ENTRY_LINES, MOST_ENTRIES}
 use Rattle.log_entry.specs.Spelling.{words_of}
 use Rattle.store_image.specs.Facts.{In}
 use Rattle.core_log.specs.declared.types.Room.{Room}
-use Rattle.core_log.specs.Chunk.{lines_for}
+use Rattle.group_laws.specs.declared.group_sizes.TheConstants.{SLOTS}
 use Rattle.group_laws.specs.declared.types.Seen.{Seen}
 use Rattle.group_laws.specs.declared.types.Seen.TheVariants.{Slot}
 use Rattle.group_laws.specs.declared.types.SlotWord.{SlotWord}
@@ -177,7 +178,7 @@ took RoundOver = false
 abbrev pub IsOver : SeatAt → Collecting → Type 0
 IsOver seat c = (c.at ≡ round_end seat.place) ⊎ (length (taken_by c) ≡ MOST_ENTRIES)
 
--- Own slots are the first 8 of the round. Those below a number were found not Posted.
+-- The own slots are the first ones of the round. Those below a number were found not Posted.
 abbrev pub IsNotPosted : SlotState → Type 0
 IsNotPosted x = (n : ℕ) → x ≢ slots.Posted n
 
@@ -192,7 +193,7 @@ SawNonePosted m v v' end = Saw v v' m 0 end (λ i x. IsNotPosted x)
 pub record TakesBack (before after : Option Group) (m : ℕ) (v v' : View)
     (change : Change) : Type 0 where
   pub slot : ℕ
-  pub within : slot < 8
+  pub within : slot < SLOTS
   pub lower : NonePosted before m slot
   pub home : change.home ≡ None
   pub pending : v.pending change.entry.key ≡ Some (record {
@@ -204,9 +205,9 @@ pub record TakesBack (before after : Option Group) (m : ℕ) (v v' : View)
 
 -- No own slot was found Posted.
 pub record FindsNone (before after : Option Group) (m : ℕ) (v v' : View) : Type 0 where
-  pub none : NonePosted before m 8
+  pub none : NonePosted before m SLOTS
   pub view : HasLooked v v'
-  pub made : MakesAll before (looks_upto m 0 8) after m v'
+  pub made : MakesAll before (looks_upto m 0 SLOTS) after m v'
 
 -- A batch that is to be written: its entries are in flight, in this order, and the lock is given back.
 pub record IsBatchAt (p : Place) (m : ℕ) (v : View) (b : Batch) : Type 0 where

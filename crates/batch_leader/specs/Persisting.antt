@@ -1,9 +1,8 @@
 -- A batch on its way into the own log.
 use Rattle.std.specs.Prelude.{ℕ, ◌+◌, ◌<◌, ◌≤◌, Option, Some, None}
 use Rattle.pm_region.specs.State.{State, IsTelling, cell_now, During}
-use Rattle.pm_region.specs.Words.{Surely, KeepsOutside}
+use Rattle.pm_region.specs.Words.{Surely, KeepsOutside, lines_for}
 use Rattle.chunk_map.specs.Layouts.{payload_lines, chunk_words}
-use Rattle.core_log.specs.Chunk.{lines_for}
 use Rattle.core_log.specs.Log.{LogState, with_tail, first_of, open_first, room_of}
 use Rattle.group_laws.specs.MemberViews.{View}
 use Rattle.group_board.specs.Seats.{SeatAt}

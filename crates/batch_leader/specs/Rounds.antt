@@ -1,9 +1,10 @@
 -- The round of a leader: which slots it looks at, in order, and which entries fit.
 use Rattle.std.specs.Prelude.{◌≡◌, ℕ, ◌+◌, ◌-◌, ◌*◌, ◌/◌, ◌%◌, ◌==◌, ◌&&◌, ◌||◌, not, nat_le, nat_lt, Bool, true, false, List, [], ◌∷◌, length, if◌then◌else◌}
+use Rattle.pm_region.specs.Words.{lines_for}
 use Rattle.log_entry.specs.declared.entry_limits.TheConstants.{LONGEST_ENTRY}
 use Rattle.log_entry.specs.Spelling.{words_of}
 use Rattle.core_log.specs.declared.types.Room.{Room}
-use Rattle.core_log.specs.Chunk.{lines_for}
+use Rattle.group_laws.specs.declared.group_sizes.TheConstants.{SLOTS}
 use Rattle.group_laws.specs.Places.{Place, members}
 use Rattle.group_laws.specs.State.{Group, shown}
 use Rattle.group_board.specs.Told.{state_of}
@@ -12,15 +13,16 @@ use Rattle.group_board.specs.declared.board.SlotState.TheVariants as slots
 use Rattle.batch_leader.specs.declared.taken.Taken.{Taken}
 use Rattle.batch_leader.specs.TakenChanges.{spelled}
 
--- Positions go over the own slots first, then over the other members by rising number; 8 for each.
+-- Positions go over the own slots first, then over the other members by rising number; all slots of each.
 unfoldable pub member_at : ℕ → ℕ → ℕ
-member_at m i = if i / 8 == 0 then m else (if nat_le (i / 8) m then i / 8 - 1 else i / 8)
+member_at m i = if i / SLOTS == 0 then m
+    else (if nat_le (i / SLOTS) m then i / SLOTS - 1 else i / SLOTS)
 
 abbrev pub slot_at : ℕ → ℕ
-slot_at i = i % 8
+slot_at i = i % SLOTS
 
 abbrev pub round_end : Place → ℕ
-round_end p = 8 * members p
+round_end p = SLOTS * members p
 
 -- how many words the entries have, and the lines that m's own entries take, each by itself
 abbrev pub words_in : List Taken → ℕ

@@ -4,6 +4,7 @@ use Rattle.std.specs.List.{flat_map, AllByRecursion}
 use Rattle.log_entry.specs.declared.entry.Entry.{Entry}
 use Rattle.log_entry.specs.declared.entry.EntryName.{EntryName}
 use Rattle.log_entry.specs.Spelling.{words_of, HasSpelling}
+use Rattle.group_laws.specs.declared.group_sizes.TheConstants.{SLOTS}
 use Rattle.group_laws.specs.Places.{Place, members}
 use Rattle.group_laws.specs.MemberViews.{View}
 use Rattle.batch_leader.specs.declared.taken.Taken.{Taken}
@@ -35,7 +36,7 @@ AreApart (t ∷ ts) = (taken_in ts t.member t.slot ≡ None) × AreApart ts
 -- a change out of a slot of the group, whose entry has a spelling
 pub record IsTaken (p : Place) (t : Taken) : Type 0 where
   pub member : t.member < members p
-  pub slot : t.slot < 8
+  pub slot : t.slot < SLOTS
   pub spelled : HasSpelling t.change.entry
 
 -- the words of the entries, in order

@@ -12,7 +12,9 @@ use log_entry::{EntryName, MOST_BATCH_WORDS, MOST_ENTRIES, WordBuffer, entry_wor
 /// The changes that a leader took, in order, with the words of their entries.
 #[derive(Drop)]
 pub struct Changes {
+    /// Has room for as many as a batch may have.
     pub taken: Vec<Taken>,
+    /// The spellings of their entries, one behind the other. Has room for those of the largest batch.
     pub words: WordBuffer,
     ghost places: { MOST_ENTRIES ≤ vec_capacity taken },
     ghost room: { MOST_BATCH_WORDS ≤ words.room },
@@ -39,18 +41,21 @@ impl Changes {
         BatchBuffer { taken, words }
     }
 
+    /// How many changes.
     pub fn count(&self) -> u32
         ensures { result ≡ length self.now.taken.items }
     {
         self.taken.len() as u32
     }
 
+    /// Whether nothing was taken.
     pub fn is_empty(&self) -> bool
         ensures { MatchBool result (self.now.taken.items ≡ []) (self.now.taken.items ≢ []) }
     {
         self.taken.is_empty()
     }
 
+    /// How many words their entries have together.
     pub fn word_count(&self) -> u64
         ensures count { result ≡ length (spelled self.now.taken.items) }
         ensures few { result ≤ MOST_BATCH_WORDS }

@@ -13,11 +13,12 @@ ghost use Rattle.batch_leader.specs.Rounds.{fits, member_at, slot_at, round_end}
 ghost use Rattle.batch_leader.specs.declared.states.Collected.TheVariants as answers;
 
 use crate::fitting::own_share;
-use crate::round::{SLOTS, member_at, slot_at};
+use crate::round::{member_at, slot_at};
 use crate::states::{Batch, Collected, Collecting, Released};
 use chunk_map::layout_sizes::MOST_GROUP;
 use core_log::Room;
 use group_board::Board;
+use group_laws::group_sizes::SLOTS;
 use log_entry::{LONGEST_ENTRY, LONGEST_ENTRY_LINES, MOST_ENTRIES};
 
 impl Collecting {

@@ -1,6 +1,6 @@
 // Which entries fit into a batch.
 ghost use Rattle.std.specs.Prelude.{◌≡◌, ℕ, ◌+◌, ◌/◌, ◌≤◌, ◌==◌, true, length, MatchOption, if◌then◌else◌};
-ghost use Rattle.core_log.specs.Chunk.{lines_for};
+ghost use Rattle.pm_region.specs.Words.{lines_for};
 ghost use Rattle.batch_leader.specs.Leading.{Fits, taken_by};
 ghost use Rattle.batch_leader.specs.Rounds.{fits, Passes, goes_fresh, stays_in, leaves_room, has_chunk, left_free, space, words_in};
 

@@ -1,6 +1,6 @@
 // Writing a batch into the own log.
 ghost use Rattle.std.specs.Prelude.{◌≡◌, ◌≢◌, ℕ, ◌≤◌, ◌<◌, false, [], Option, OnOk, OnErr, MatchResult};
-ghost use Rattle.pm_region.specs.State.{Rose};
+ghost use Rattle.pm_region.specs.State.{Faulted};
 ghost use Rattle.core_log.specs.Chunk.{padded};
 ghost use Rattle.core_log.specs.Entries.{AppendedBatch};
 ghost use Rattle.group_laws.specs.Runs as runs;
@@ -97,8 +97,7 @@ impl Batch {
             (λ _. Makes (B.whole board.old) (B.seat board.old).number
             runs.Kind.Commit (B.whole board.new) (B.view board.new))
             (λ _. B.whole board.new ≡ B.whole board.old) }
-        ensures cause { OnErr result (Rose (R.state region.old).faults
-            (R.state region.new).faults) }
+        ensures cause { OnErr result (Faulted (R.state region.old) (R.state region.new)) }
     {
         match log.append_batch(region, &self.changes.words) {
             Ok(_) => {
@@ -151,8 +150,7 @@ impl Batch {
             (λ _. Makes (B.whole board.old) (B.seat board.old).number
             runs.Kind.Commit (B.whole board.new) (B.view board.new))
             (λ _. B.whole board.new ≡ B.whole board.old) }
-        ensures cause { OnErr result (Rose (R.state region.old).faults
-            (R.state region.new).faults) }
+        ensures cause { OnErr result (Faulted (R.state region.old) (R.state region.new)) }
     {
         match fresh {
             None => self.append(region, log, board),

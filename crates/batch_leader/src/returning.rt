@@ -11,13 +11,16 @@ use log_entry::WordBuffer;
 /// Changes that are to be given back, in order.
 #[derive(Drop)]
 pub struct Returning {
+    /// Those that are left.
     pub taken: Vec<Taken>,
+    /// Kept for its room alone.
     pub words: WordBuffer,
     ghost places: { MOST_ENTRIES ≤ vec_capacity taken },
     ghost room: { MOST_BATCH_WORDS ≤ words.room },
 }
 
 impl Returning {
+    /// All changes of a batch.
     pub fn all(changes: Changes) -> Returning
         ensures { result.taken.items ≡ changes.taken.items }
     {
@@ -50,6 +53,7 @@ impl Returning {
         false
     }
 
+    /// Whether all were given back.
     pub fn is_empty(&self) -> bool
         ensures { MatchBool result (self.now.taken.items ≡ []) (self.now.taken.items ≢ []) }
     {

@@ -2,8 +2,7 @@
 ghost use Rattle.std.specs.Prelude.{◌≡◌, ◌*◌, ◌<◌, ◌≤◌};
 ghost use Rattle.batch_leader.specs.Rounds.{member_at, slot_at};
 
-/// How many slots a member has.
-pub const SLOTS: u32 = 8;
+use group_laws::group_sizes::SLOTS;
 
 /// Whose slot stands at a position of the round of a member.
 pub fn member_at(own: u32, position: u32) -> u32
@@ -19,6 +18,7 @@ pub fn member_at(own: u32, position: u32) -> u32
     }
 }
 
+/// Which of that member's slots stands there.
 pub fn slot_at(position: u32) -> u32
     ensures { result ≡ slot_at position }
 {

@@ -22,21 +22,27 @@ pub struct Collecting {
 /// What a call of `collect` did.
 #[derive(Clone, Copy, Debug, PartialEq, Eq)]
 pub enum Collected {
+    /// It took one change. The round may go on.
     Took,
+    /// It took none: the round is at its end, or the batch has as many entries as it may.
     RoundOver,
 }
 
 /// Another member has the lock.
 #[derive(Drop)]
 pub struct NotLeading {
+    /// For the next try.
     pub buffer: BatchBuffer,
+    /// Who has it, by its number in the group.
     pub holder: u32,
 }
 
 /// What a leader has that gave the lock back.
 #[derive(Drop)]
 pub enum Released {
+    /// Some changes were taken, and are to be written.
     Batch(Batch),
+    /// None were taken. The buffer serves the next try.
     Nothing(BatchBuffer),
 }
 

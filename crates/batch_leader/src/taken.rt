@@ -4,7 +4,10 @@ use crash_core::Change;
 /// A change that a leader took out of a slot of a member.
 #[derive(Drop)]
 pub struct Taken {
+    /// By its number in the group.
     pub member: u32,
+    /// From 0 to 7.
     pub slot: u32,
+    /// As the slot had it, without a home.
     pub change: Change,
 }

@@ -4,9 +4,9 @@ ghost use Rattle.batch_leader.specs.Leading.{Collects, TakesBack, FindsNone, Saw
 ghost use Rattle.batch_leader.specs.TakenChanges.{MatchBool};
 ghost use Rattle.group_board.specs.declared.board.SlotState.TheVariants as slots;
 
-use crate::round::SLOTS;
 use crate::states::Collecting;
 use group_board::{Board, Change, SlotState};
+use group_laws::group_sizes::SLOTS;
 
 fn is_posted(found: SlotState) -> bool
     ensures { MatchBool result ((n : ℕ) × (found ≡ slots.Posted n)) (IsNotPosted found) }

@@ -1,6 +1,6 @@
 -- What is answered of numbers, heads and superblocks that may break a rule.
 use Rattle.std.specs.Prelude.{◌≡◌, ℕ, ◌%◌, ◌≤◌, true, Option, Some, None, Result, Ok, Err}
-use Rattle.pm_region.specs.declared.region_sizes.TheConstants.{MOST_BYTES}
+use Rattle.pm_region.specs.declared.region_sizes.TheConstants.{LINE_WORDS, MOST_BYTES, WORD_BYTES}
 use Rattle.chunk_map.specs.declared.layout_sizes.TheConstants.{SUPERBLOCK_BYTES}
 use Rattle.chunk_map.specs.declared.layouts.Geometry.{Geometry}
 use Rattle.chunk_map.specs.declared.layouts.BadLayout.{BadLayout}
@@ -26,7 +26,7 @@ checked_head (Err rule) = Err (record { rule = rule })
 -- the numbers of a head that breaks no rule
 abbrev pub FitsHead : Geometry → Head → Type 0
 FitsHead l Free = Unit {0}
-FitsHead l (Log tail) = (tail % 8 ≡ 0) × (tail ≤ payload_words l)
+FitsHead l (Log tail) = (tail % LINE_WORDS ≡ 0) × (tail ≤ payload_words l)
 FitsHead l (Data class) = is_class l class ≡ true
 
 abbrev pub superblock_by : (ℕ → ℕ) → Option ℕ → Result Geometry NotARegion
@@ -39,7 +39,7 @@ checked_superblock bytes image = superblock_by image (superblock_rule bytes imag
 
 -- a region may have this length in bytes
 pub record IsLength (bytes : ℕ) : Type 0 where
-  pub whole : bytes % 8 ≡ 0
+  pub whole : bytes % WORD_BYTES ≡ 0
   pub low : SUPERBLOCK_BYTES ≤ bytes
   pub high : bytes ≤ MOST_BYTES
 

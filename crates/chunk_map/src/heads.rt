@@ -2,13 +2,14 @@
 ghost use Rattle.std.specs.Prelude.{◌≡◌, ℕ, ◌+◌, ◌-◌, ◌*◌, ◌/◌, ◌^◌, ◌<◌, ◌≤◌, ◌==◌};
 ghost use Rattle.chunk_map.specs.Layouts.{is_class, head_by, payload_words};
 
-use crate::layout_sizes::{CLASS_FACTOR, HEAD_WORDS, UNIT_BYTES};
+use crate::layout_sizes::{CLASS_FACTOR, DATA_KIND, FREE_KIND, HEAD_WORDS, LOG_KIND, UNIT_BYTES};
 use crate::layouts::Geometry;
 use pm_region::{LINE_WORDS, WORD_BYTES};
 
 /// What a chunk is.
 #[derive(Clone, Copy)]
 pub enum Head {
+    /// Neither: what its payload has says nothing.
     Free,
     /// A log. The first `tail` words of the payload hold batches.
     Log { tail: u64 },
@@ -20,6 +21,7 @@ pub enum Head {
 /// not lie in the payload.
 #[derive(Clone, Copy, Debug, PartialEq, Eq)]
 pub struct BadHead {
+    /// 4 or 5.
     pub rule: u32,
 }
 
@@ -49,16 +51,16 @@ pub fn head_by(geometry: &Geometry, kind: u64, tail: u64) -> Result<Head, u32>
     requires size { UNIT_BYTES ≤ geometry.now.chunk_bytes }
     ensures { result ≡ head_by geometry.now kind tail }
 {
-    if kind == 0 {
+    if kind == FREE_KIND {
         return Ok(Head::Free);
     }
-    if kind == 1 {
+    if kind == LOG_KIND {
         if tail % LINE_WORDS == 0 && tail <= geometry.chunk_bytes / WORD_BYTES - HEAD_WORDS {
             return Ok(Head::Log { tail });
         }
         return Err(5);
     }
-    if kind % CLASS_FACTOR == 2 && is_class(geometry.chunk_bytes, kind / CLASS_FACTOR) {
+    if kind % CLASS_FACTOR == DATA_KIND && is_class(geometry.chunk_bytes, kind / CLASS_FACTOR) {
         return Ok(Head::Data {
             class: (kind / CLASS_FACTOR) as u32,
         });

@@ -20,10 +20,18 @@ pub const FIRST_UNIT: u64 = 16;
 pub const UNIT_WORDS: u64 = 32;
 /// How many lines of 8 words a unit has.
 pub const UNIT_LINES: u64 = 4;
-/// The kind word of a Data chunk is 2 and the class times this.
+/// The kind word of a Free chunk.
+pub const FREE_KIND: u64 = 0;
+/// The kind word of a chunk of a log.
+pub const LOG_KIND: u64 = 1;
+/// The kind word of a Data chunk, but for its class.
+pub const DATA_KIND: u64 = 2;
+/// The kind word of a Data chunk has its class times this beside `DATA_KIND`.
 pub const CLASS_FACTOR: u64 = 256;
 /// The greatest class of blocks: class `c` has blocks of `2 ^ c` units.
 pub const GREATEST_CLASS: u32 = 12;
+/// A chunk has the bytes of so many blocks of the greatest class of its layout, or more.
+pub const LEAST_BLOCKS: u64 = 4;
 /// How many bytes the shortest value has that gets a block. A shorter one stands beside its key.
 pub const SHORTEST_IN_BLOCK: u64 = 256;
 /// How many bytes the longest value has: a quarter of the greatest chunk, but for one word.

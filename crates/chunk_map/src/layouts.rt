@@ -72,6 +72,7 @@ pub fn layout_rule(cores: u64, group: u64, chunks: u64, chunk_bytes: u64) -> Opt
 /// The numbers break a rule of a layout: 1 to 5, the first that is broken.
 #[derive(Clone, Copy, Debug, PartialEq, Eq)]
 pub struct BadLayout {
+    /// The number of the rule.
     pub rule: u32,
 }
 

@@ -32,7 +32,7 @@ pub fn read_head<R: Region>(region: &R, layout: &Layout, at: u64) -> Result<Head
 /// The layout of a region of so many bytes, or the first rule that its superblock breaks.
 pub fn read_superblock<R: Region>(region: &R, bytes: u64) -> Result<Layout, NotARegion>
     requires first { (R.state region.now).frame.first ≡ 0 }
-    requires words { IsLength bytes → (R.state region.now).frame.words ≡ bytes / 8 }
+    requires words { IsLength bytes → (R.state region.now).frame.words ≡ bytes / WORD_BYTES }
     ensures told { IsTelling (R.state region.now)
         → result ≡ checked_superblock bytes (lasts (R.state region.now)) }
     // Whatever the region tells.

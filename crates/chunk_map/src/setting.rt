@@ -1,16 +1,16 @@
 // The head of a chunk is set.
 ghost use Rattle.std.specs.Prelude.{◌≡◌, ◌⊎◌, ℕ, ◌+◌, ◌*◌, ◌/◌, ◌%◌, ◌^◌, ◌≤◌, ◌<◌, Result, OnOk, OnErr};
 ghost use Rattle.pm_region.specs.Cell.{Cell, MayBe};
-ghost use Rattle.pm_region.specs.State.{State, Frame, During, IsTelling, cell_now, Rose};
+ghost use Rattle.pm_region.specs.State.{State, Frame, During, IsTelling, cell_now, Faulted};
 ghost use Rattle.pm_region.specs.Words.{KeepsOutside, EachIn, Surely, Sets};
 ghost use Rattle.chunk_map.specs.declared.layouts.Geometry.{Geometry};
 ghost use Rattle.chunk_map.specs.Checked.{FitsHead};
 ghost use Rattle.chunk_map.specs.Setting.{HeadLies, HasKind, HasTail, HeadTurns, SurelyHead, HasHead, HasEitherHead};
 
 use crate::heads::Head;
-use crate::layout_sizes::CLASS_FACTOR;
+use crate::layout_sizes::{CLASS_FACTOR, DATA_KIND, FREE_KIND, LOG_KIND};
 use crate::words::set_word;
-use pm_region::{Region, RegionFault};
+use pm_region::{LINE_WORDS, Region, RegionFault};
 
 // Makes the kind word certain, and stores no other word.
 fn set_kind<R: Region>(region: &mut R, at: u64, kind: u64) -> Result<(), RegionFault>
@@ -18,10 +18,10 @@ fn set_kind<R: Region>(region: &mut R, at: u64, kind: u64) -> Result<(), RegionF
     ensures moments { During (R.state region.old) (R.state region.new)
         (EachIn at (at + 2) (HasKind (cell_now (R.state region.old)) at kind)) }
     ensures outside { During (R.state region.old) (R.state region.new)
-        (KeepsOutside (cell_now (R.state region.old)) at (at + 8)) }
+        (KeepsOutside (cell_now (R.state region.old)) at (at + LINE_WORDS)) }
     ensures ok { OnOk result (IsTelling (R.state region.new)
         → Surely (cell_now (R.state region.new) at) kind) }
-    ensures cause { OnErr result (Rose (R.state region.old).faults (R.state region.new).faults) }
+    ensures cause { OnErr result (Faulted (R.state region.old) (R.state region.new)) }
 {
     set_word(region, at, kind)
 }
@@ -32,14 +32,14 @@ fn set_log<R: Region>(region: &mut R, at: u64, tail: u64) -> Result<(), RegionFa
     ensures moments { During (R.state region.old) (R.state region.new)
         (EachIn at (at + 2) (HasTail (cell_now (R.state region.old)) at tail)) }
     ensures outside { During (R.state region.old) (R.state region.new)
-        (KeepsOutside (cell_now (R.state region.old)) at (at + 8)) }
+        (KeepsOutside (cell_now (R.state region.old)) at (at + LINE_WORDS)) }
     ensures ok { OnOk result (IsTelling (R.state region.new)
-        → Surely (cell_now (R.state region.new) at) 1
+        → Surely (cell_now (R.state region.new) at) LOG_KIND
         × Surely (cell_now (R.state region.new) (at + 1)) tail) }
-    ensures cause { OnErr result (Rose (R.state region.old).faults (R.state region.new).faults) }
+    ensures cause { OnErr result (Faulted (R.state region.old) (R.state region.new)) }
 {
     set_word(region, at + 1, tail)?;
-    set_word(region, at, 1)
+    set_word(region, at, LOG_KIND)
 }
 
 /// Makes the head of a chunk certain. The address is a word number of the region. A Log's tail word is
@@ -57,14 +57,14 @@ pub fn set_head<R: Region>(region: &mut R, at: u64, head: Head) -> Result<(), Re
         (EachIn at (at + 2) (HasEitherHead l at before head)) }
     // No word outside the head's first line is stored or flushed.
     ensures outside { During (R.state region.old) (R.state region.new)
-        (KeepsOutside (cell_now (R.state region.old)) at (at + 8)) }
+        (KeepsOutside (cell_now (R.state region.old)) at (at + LINE_WORDS)) }
     ensures ok { OnOk result (IsTelling (R.state region.new)
         → SurelyHead (cell_now (R.state region.new)) at head) }
-    ensures cause { OnErr result (Rose (R.state region.old).faults (R.state region.new).faults) }
+    ensures cause { OnErr result (Faulted (R.state region.old) (R.state region.new)) }
 {
     match head {
-        Head::Free => set_kind(region, at, 0),
+        Head::Free => set_kind(region, at, FREE_KIND),
         Head::Log { tail } => set_log(region, at, tail),
-        Head::Data { class } => set_kind(region, at, 2 + CLASS_FACTOR * class as u64),
+        Head::Data { class } => set_kind(region, at, DATA_KIND + CLASS_FACTOR * class as u64),
     }
 }

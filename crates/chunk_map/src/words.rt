@@ -1,7 +1,7 @@
 // Words and lines of a region are stored, flushed and made certain. Addresses are word numbers of the region.
 ghost use Rattle.std.specs.Prelude.{◌≡◌, ◌⊎◌, ℕ, ◌+◌, ◌*◌, ◌/◌, ◌^◌, ◌≤◌, ◌<◌, [], length, slice_index, IfOk, OnOk, OnErr};
 ghost use Rattle.pm_region.specs.Cell.{Cell, certain};
-ghost use Rattle.pm_region.specs.State.{State, During, IsTelling, LineInRange, cell_now, Rose};
+ghost use Rattle.pm_region.specs.State.{State, During, IsTelling, LineInRange, cell_now, Faulted, WordsLie};
 ghost use Rattle.pm_region.specs.Words.{KeepsOutside, Sets, lasts};
 
 use fs_errors::Memory;
@@ -11,12 +11,12 @@ use std::alloc::Global;
 /// Stores a word and makes it certain: one store, one flush of its line, one fence. At every moment the word
 /// may be what it might be before or the new value.
 pub fn set_word<R: Region>(region: &mut R, at: u64, value: u64) -> Result<(), RegionFault>
-    requires { LineInRange (R.state region.old).frame (at / 8) }
+    requires { LineInRange (R.state region.old).frame (at / LINE_WORDS) }
     ensures run { During (R.state region.old) (R.state region.new)
-        (Sets (cell_now (R.state region.old)) (at / 8) at value) }
+        (Sets (cell_now (R.state region.old)) (at / LINE_WORDS) at value) }
     ensures ok { OnOk result (IsTelling (R.state region.new) → cell_now (R.state region.new) at
         ≡ certain value) }
-    ensures cause { OnErr result (Rose (R.state region.old).faults (R.state region.new).faults) }
+    ensures cause { OnErr result (Faulted (R.state region.old) (R.state region.new)) }
 {
     region.store(at, value);
     region.flush(at / LINE_WORDS);
@@ -25,10 +25,7 @@ pub fn set_word<R: Region>(region: &mut R, at: u64, value: u64) -> Result<(), Re
 
 /// Stores words, one after another from a place on, and no other word.
 pub fn store_words<R: Region>(region: &mut R, at: u64, words: &[u64])
-    requires low { (R.state region.old).frame.first ≤ at }
-    requires high { at + length words.now ≤ (R.state region.old).frame.first
-        + (R.state region.old).frame.words }
-    requires fits { at + length words.now < 2 ^ 64 }
+    requires { WordsLie (R.state region.old).frame at (length words.now) }
     ensures run { During (R.state region.old) (R.state region.new)
         (KeepsOutside (cell_now (R.state region.old)) at (at + length words.now)) }
     ensures stored { IsTelling (R.state region.new) → (j : ℕ) → j < length words.now
@@ -41,15 +38,13 @@ pub fn store_words<R: Region>(region: &mut R, at: u64, words: &[u64])
 
 /// Flushes so many lines, one after another. A line is named by its number, its first word's divided by 8.
 pub fn flush_lines<R: Region>(region: &mut R, line: u64, count: u64)
-    requires low { (R.state region.old).frame.first ≤ 8 * line }
-    requires high { 8 * (line + count) ≤ (R.state region.old).frame.first
-        + (R.state region.old).frame.words }
-    requires fits { line + count < 2 ^ 64 }
+    requires { WordsLie (R.state region.old).frame (LINE_WORDS * line) (LINE_WORDS * count) }
     ensures run { During (R.state region.old) (R.state region.new)
-        (KeepsOutside (cell_now (R.state region.old)) (8 * line) (8 * (line + count))) }
+        (KeepsOutside (cell_now (R.state region.old)) (LINE_WORDS * line) (LINE_WORDS * (line + count))) }
     ensures lasts { IsTelling (R.state region.new) → (w : ℕ)
         → (cell_now (R.state region.new) w).last ≡ (cell_now (R.state region.old) w).last }
-    ensures marks { IsTelling (R.state region.new) → (w : ℕ) → 8 * line ≤ w → w < 8 * (line + count)
+    ensures marks { IsTelling (R.state region.new) → (w : ℕ) → LINE_WORDS * line ≤ w
+        → w < LINE_WORDS * (line + count)
         → (cell_now (R.state region.new) w).marked ≡ [] }
 {
     for i in 0..count {
@@ -64,10 +59,7 @@ pub fn load_words<R: Region>(
     first: u64,
     count: u64,
 ) -> Result<Vec<u64>, Memory>
-    requires low { (R.state region.now).frame.first ≤ first }
-    requires high { first + count ≤ (R.state region.now).frame.first
-        + (R.state region.now).frame.words }
-    requires fits { first + count < 2 ^ 64 }
+    requires { WordsLie (R.state region.now).frame first count }
     ensures long { IfOk result (λ words. length words.items ≡ count) }
     ensures words { IfOk result (λ words. IsTelling (R.state region.now) → (k : ℕ) → k < count
         → slice_index words.items k ≡ lasts (R.state region.now) (first + k)) }

@@ -9,8 +9,11 @@ use fs_model::Key;
 /// The chain of a key with waiting requests: the numbers of its first and its last place.
 #[derive(Clone, Copy)]
 pub struct Chain {
+    /// The key that its requests wait for.
     pub key: Key,
+    /// That of the request that has waited longest.
     pub first: u32,
+    /// The same as `first` where one waits.
     pub last: u32,
 }
 

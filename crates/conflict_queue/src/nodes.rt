@@ -14,7 +14,9 @@ pub const NODES: u32 = 64;
 /// holds nothing.
 #[derive(Drop)]
 pub struct Node {
+    /// The request that waits here.
     pub held: Option<Held>,
+    /// Below 64.
     pub next: Option<u32>,
 }
 

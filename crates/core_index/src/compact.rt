@@ -17,6 +17,7 @@ use log_entry::{Body, EntryName};
 use std::alloc::Global;
 use std::collections::BTreeMap;
 
+/// A copy of a body.
 pub fn copy_of(alloc: Global, body: &Body) -> Result<Body, Memory>
     ensures { IfOk result (λ copy. copy ≡ body.now) }
 {
@@ -27,7 +28,7 @@ pub fn copy_of(alloc: Global, body: &Body) -> Result<Body, Memory>
     }
 }
 
-// What is known of a key at the start, where it fits into the list of deleted keys.
+/// What is known of a key at the start, where it fits into the list of deleted keys.
 pub fn compact(
     slots: &BTreeMap<Key, Slot>,
     start: &StartKeys,
@@ -45,7 +46,7 @@ pub fn compact(
     tombstone_of(key, version, body, standing)
 }
 
-// The same, where it fits into the list of keys with a value.
+/// The same, where it fits into the list of keys with a value.
 pub fn compact_live(
     slots: &BTreeMap<Key, Slot>,
     start: &StartKeys,
@@ -63,7 +64,7 @@ pub fn compact_live(
     start.live.fit(key, version, body, standing)
 }
 
-// Makes room for one more change of a key. It is in the map then.
+/// Makes room for one more change of a key. It is in the map then.
 pub fn admit_at(
     alloc: Global,
     slots: &mut BTreeMap<Key, Slot>,
@@ -86,7 +87,7 @@ pub fn admit_at(
     Ok(())
 }
 
-// Tells a home of a dead entry, where it waits to be told.
+/// Tells a home of a dead entry, where it waits to be told.
 pub fn tell_in(
     slots: &mut BTreeMap<Key, Slot>,
     start: &mut StartKeys,
@@ -109,7 +110,7 @@ pub fn tell_in(
     }
 }
 
-// Takes an entry out of those that stand. Gives the entry that died by it.
+/// Takes an entry out of those that stand. Gives the entry that died by it.
 pub fn gone_in(
     slots: &mut BTreeMap<Key, Slot>,
     start: &mut StartKeys,
@@ -134,7 +135,7 @@ pub fn gone_in(
     }
 }
 
-// Takes out the record of a key that is deleted and of which nothing stands.
+/// Takes out the record of a key that is deleted and of which nothing stands.
 pub fn forget_in(slots: &mut BTreeMap<Key, Slot>, start: &mut StartKeys, key: Key)
     requires { IsTrue (is_forgettable (known_at (all_places slots.old.entries start.old)
         key)) }

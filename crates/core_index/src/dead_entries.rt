@@ -9,13 +9,14 @@ use crate::types::Head;
 use fs_model::Version;
 use log_entry::Body;
 
+/// Whether it is that of a delete.
 pub fn is_tombstone(body: &Body) -> bool
     ensures { result ≡ is_tombstone body.now }
 {
     matches!(body, Body::Tombstone)
 }
 
-// Whether a version is dead.
+/// Whether a version is dead.
 pub fn is_dead(head: &Head, standing: &Entries, version: Version) -> bool
     ensures { result ≡ is_dead (record_with head.now standing.now.items) version }
 {
@@ -24,7 +25,7 @@ pub fn is_dead(head: &Head, standing: &Entries, version: Version) -> bool
         || (version == newest && is_tombstone(&head.body) && standing.stands_alone(version))
 }
 
-// Whether a version stands at this home, is dead, and was not told.
+/// Whether a version stands at this home, is dead, and was not told.
 pub fn awaits(head: &Head, standing: &Entries, version: Version, home: u32) -> bool
     ensures { Decides result (Awaits (Some (record_with head.now standing.now.items)) home
         version) }

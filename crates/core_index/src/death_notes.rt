@@ -18,7 +18,7 @@ use fs_model::Key;
 use log_entry::EntryName;
 use std::collections::BTreeMap;
 
-// Notes an entry that died, where one did.
+/// Notes an entry that died, where one did.
 pub fn note_dead(notices: &mut Notices, key: Key, dead: Option<Standee>)
     requires { count_dead dead ≤ notices.old.spare }
     ensures added { (v h : ℕ) → dead ≡ Some (standee_with v h)
@@ -35,7 +35,7 @@ pub fn note_dead(notices: &mut Notices, key: Key, dead: Option<Standee>)
     }
 }
 
-// Tells a home of a dead entry. A name that is noted and does not wait any more is passed over.
+/// Tells a home of a dead entry. A name that is noted and does not wait any more is passed over.
 pub fn next_dead(
     slots: &mut BTreeMap<Key, Slot>,
     start: &mut StartKeys,

@@ -15,8 +15,9 @@ use std::alloc::Global;
 use std::collections::BTreeMap;
 use std::marker::Model;
 
-// An entry that is gone keeps its place until the list is closed up, so that taking one out moves no other. `left`
-// counts those that stand, and no version is above `top`. Only `of`, `with_room` and `reserve` take memory.
+/// The entries of a key that stand in a log, by rising version. One that is gone keeps its place until the list is
+/// closed up, so that taking one out moves no other. `left` counts those that stand, and no version is above `top`.
+/// Only `of`, `of_one`, `with_room` and `reserve` take memory.
 #[derive(Drop)]
 pub struct Entries {
     marks: Vec<Marked>,
@@ -108,7 +109,7 @@ fn close_up(marks: &mut Vec<Marked>, left: u64)
 }
 
 impl Entries {
-    // No entries, and room for one.
+    /// No entries, and room for one.
     pub fn with_room(alloc: Global) -> Result<Entries, Memory>
         ensures { IfOk result (λ entries. (entries.items ≡ []) × (1 ≤ entries.room)
             × (entries.top ≡ 0)) }
@@ -120,7 +121,7 @@ impl Entries {
         })
     }
 
-    // The entries of a start, of which none is above `top`.
+    /// The entries of a start, of which none is above `top`.
     pub fn of(alloc: Global, standees: Vec<Standee>, top: Version) -> Result<Entries, Memory>
         requires { AllByRecursion (λ s. s.version ≤ top) standees.items }
         ensures items { IfOk result (λ entries. entries.items ≡ by_version standees.items) }
@@ -135,7 +136,7 @@ impl Entries {
         })
     }
 
-    // The one entry of a start, where it stands, and room for one more.
+    /// The one entry of a start, where it stands, and room for one more.
     pub fn of_one(alloc: Global, only: Option<Standing>, top: Version) -> Result<Entries, Memory>
         requires { AllByRecursion (λ s. s.version ≤ top) (list_of only) }
         ensures items { IfOk result (λ entries. entries.items ≡ list_of only) }
@@ -158,7 +159,7 @@ impl Entries {
         })
     }
 
-    // Makes room for so many more, first of all by closing up, where no more than half of the places stand.
+    /// Makes room for so many more, first of all by closing up, where no more than half of the places stand.
     pub fn reserve(&mut self, room: u64) -> Result<(), Memory>
         ensures ok { OnOk result (room ≤ self.new.room) }
         ensures keeps { Keeps self.old self.new }
@@ -168,14 +169,14 @@ impl Entries {
         Ok(())
     }
 
-    // How many stand.
+    /// How many stand.
     pub fn len(&self) -> u64
         ensures { result ≡ length self.now.items }
     {
         self.left
     }
 
-    // The entry of a version, where it stands.
+    /// The entry of a version, where it stands.
     pub fn find(&self, version: Version) -> Option<Standing>
         ensures { result ≡ standing_at self.now.items version }
     {
@@ -186,14 +187,14 @@ impl Entries {
         if found.gone { None } else { Some(found.entry) }
     }
 
-    // Whether no other version stands.
+    /// Whether no other version stands.
     pub fn stands_alone(&self, version: Version) -> bool
         ensures { result ≡ stands_alone self.now.items version }
     {
         self.left == 0 || (self.left == 1 && self.find(version).is_some())
     }
 
-    // Adds an entry of a later version.
+    /// Adds an entry of a later version.
     pub fn push(&mut self, version: Version, home: u32)
         requires later { self.old.top < version }
         requires room { 0 < self.old.room }
@@ -206,7 +207,7 @@ impl Entries {
         self.top = version;
     }
 
-    // Notes that the death of a version was told.
+    /// Notes that the death of a version was told.
     pub fn tell(&mut self, version: Version)
         ensures items { self.new.items ≡ told self.old.items version }
         ensures top { self.new.top ≡ self.old.top }
@@ -218,7 +219,7 @@ impl Entries {
         self.marks[place].entry.told = true;
     }
 
-    // Takes a version out.
+    /// Takes a version out.
     pub fn take_out(&mut self, version: Version)
         ensures items { self.new.items ≡ others version self.old.items }
         ensures top { self.new.top ≡ self.old.top }
@@ -234,7 +235,7 @@ impl Entries {
         self.left -= 1;
     }
 
-    // Takes all out.
+    /// Takes all out.
     pub fn clear(&mut self)
         ensures items { self.new.items ≡ [] }
         ensures top { self.new.top ≡ 0 }
@@ -245,7 +246,7 @@ impl Entries {
         self.top = 0;
     }
 
-    // The places.
+    /// The places.
     pub fn marks(&self) -> &[Marked]
         ensures { kept result.now ≡ self.now.items }
     {

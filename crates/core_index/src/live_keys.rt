@@ -98,7 +98,7 @@ fn live_unsorted(
     Ok(names)
 }
 
-// The live keys with their versions, by rising key.
+/// The live keys with their versions, by rising key.
 pub fn live_in(
     alloc: Global,
     slots: &BTreeMap<Key, Slot>,

@@ -19,7 +19,8 @@ use std::marker::Model;
 // The homes below it fit into a byte, and so does the length of every value beside its key.
 const BYTES: u32 = 256;
 
-// By rising key, and the bytes of all values one behind the other. Only `push` and `slot` take memory.
+/// The keys that had a value at the start, by rising key, and the bytes of all values one behind the other. Only `push`
+/// and `slot` take memory.
 #[derive(Drop)]
 pub struct LiveList {
     items: Vec<LiveKey>,
@@ -36,6 +37,7 @@ impl Model for LiveList {
     ghost invariant = { λ a. AreLives a.items.items a.bytes.items };
 }
 
+/// The key, of its two halves.
 pub fn key_of(live: &LiveKey) -> Key
     ensures { result ≡ live_key live.now }
 {
@@ -221,6 +223,7 @@ fn slot_of(alloc: Global, bytes: &[u8], live: &LiveKey) -> Result<Slot, Memory>
     }
 }
 
+/// The version of the entry, or 0 where the record is not here.
 pub fn last_of(live: &LiveKey) -> Version
     ensures { (bytes : List ℕ) → result ≡ last_of (valued bytes live.now) }
 {
@@ -230,7 +233,7 @@ pub fn last_of(live: &LiveKey) -> Version
     }
 }
 
-// How many entries of the key may still die.
+/// How many entries of the key may still die.
 pub fn count_alive(live: &LiveKey) -> u64
     ensures { (bytes : List ℕ) → result ≡ count_of (alive_at (valued bytes live.now)) }
 {
@@ -241,6 +244,7 @@ pub fn count_alive(live: &LiveKey) -> u64
 }
 
 impl LiveList {
+    /// No keys.
     pub fn empty(alloc: Global) -> LiveList
         ensures { result.items ≡ [] }
     {
@@ -250,7 +254,7 @@ impl LiveList {
         }
     }
 
-    // The keys by rising key.
+    /// The keys by rising key.
     pub fn items(&self) -> &[LiveKey]
         ensures items { result.now ≡ self.now.items }
         ensures rising { KeysRise self.now.items }
@@ -258,7 +262,7 @@ impl LiveList {
         &self.items
     }
 
-    // Whether a key is above all of these.
+    /// Whether a key is above all of these.
     pub fn is_below(&self, key: Key) -> bool
         ensures { result ≡ true → AllLess self.now.items key }
     {
@@ -268,7 +272,7 @@ impl LiveList {
         }
     }
 
-    // What is known of a key at the start, where it fits into the list.
+    /// What is known of a key at the start, where it fits into the list.
     pub fn fit(
         &self,
         key: Key,
@@ -285,7 +289,7 @@ impl LiveList {
         live_key_of(key, version, body, standing, self.bytes.len())
     }
 
-    // Adds a key that is above all others.
+    /// Adds a key that is above all others.
     pub fn push(&mut self, live: LiveKey, body: &Body) -> Result<(), Memory>
         requires above { AllLess self.old.items (live_key live) }
         requires within { IsWithin (self.old.bytes ++ bytes_in body.now) live.held }
@@ -298,7 +302,7 @@ impl LiveList {
         Ok(())
     }
 
-    // What there is of a key.
+    /// What there is of a key.
     pub fn find(&self, key: Key) -> Option<LiveKey>
         ensures found { result ≡ live_at self.now.items key }
         ensures within { IfSome result (λ x. IsWithin self.now.bytes x.held) }
@@ -309,7 +313,7 @@ impl LiveList {
         Some(self.items[spot])
     }
 
-    // What such a key has.
+    /// What such a key has.
     pub fn look(&self, live: &LiveKey) -> Look<'_>
         requires { IsWithin self.now.bytes live.now.held }
         ensures { Shows (valued self.now.bytes live.now) result }
@@ -320,7 +324,7 @@ impl LiveList {
         }
     }
 
-    // What there is of such a key, with room for one change.
+    /// What there is of such a key, with room for one change.
     pub fn slot(&self, alloc: Global, live: &LiveKey) -> Result<Slot, Memory>
         requires { IsWithin self.now.bytes live.now.held }
         ensures { IfOk result (λ slot. slot ≡ record {
@@ -344,7 +348,7 @@ impl LiveList {
         self.items[spot].fate = fate;
     }
 
-    // Takes an entry out of those that stand.
+    /// Takes an entry out of those that stand.
     pub fn gone(&mut self, name: EntryName)
         ensures { TurnsAt (placed_lives self.old) (placed_lives self.new) name.key
             (option_map (gone_place name.version) (place_at (placed_lives self.old) name.key)) }
@@ -357,7 +361,7 @@ impl LiveList {
         }
     }
 
-    // Takes the record of a key out.
+    /// Takes the record of a key out.
     pub fn clear(&mut self, key: Key)
         ensures { TurnsAt (placed_lives self.old) (placed_lives self.new) key
             (option_map cleared (place_at (placed_lives self.old) key)) }

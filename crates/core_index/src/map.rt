@@ -12,14 +12,14 @@ use log_entry::{Body, EntryName};
 use std::alloc::Global;
 use std::collections::BTreeMap;
 
-// Whether the map has a place for a key.
+/// Whether the map has a place for a key.
 pub fn has(slots: &BTreeMap<Key, Slot>, key: Key) -> bool
     ensures { result ≡ is_some (place_at slots.now.entries key) }
 {
     slots.get(&key).is_some()
 }
 
-// Records a finished change of a key that has room for it.
+/// Records a finished change of a key that has room for it.
 pub fn settle_at(
     slots: &mut BTreeMap<Key, Slot>,
     key: Key,
@@ -49,7 +49,7 @@ pub fn settle_at(
     }
 }
 
-// Makes room for one more change of a key, as it is in the map.
+/// Makes room for one more change of a key, as it is in the map.
 pub fn reserve_at(alloc: Global, slots: &mut BTreeMap<Key, Slot>, key: Key) -> Result<(), Memory>
     ensures ok { OnOk result (Step slots.old.entries slots.new.entries key
         (Some (record {
@@ -64,7 +64,7 @@ pub fn reserve_at(alloc: Global, slots: &mut BTreeMap<Key, Slot>, key: Key) -> R
     }
 }
 
-// Gives a key this slot.
+/// Gives a key this slot.
 pub fn enter_at(slots: &mut BTreeMap<Key, Slot>, key: Key, slot: Slot) -> Result<(), Memory>
     ensures ok { OnOk result (Step slots.old.entries slots.new.entries key (Some slot)) }
     ensures err { OnErr result (slots.new.entries ≡ slots.old.entries) }
@@ -73,7 +73,7 @@ pub fn enter_at(slots: &mut BTreeMap<Key, Slot>, key: Key, slot: Slot) -> Result
     Ok(())
 }
 
-// Tells a home of a dead entry, where it waits to be told.
+/// Tells a home of a dead entry, where it waits to be told.
 pub fn tell_at(slots: &mut BTreeMap<Key, Slot>, name: EntryName, home: u32) -> bool
     ensures told { result ≡ true → ToldAt slots.old.entries slots.new.entries home name }
     ensures mortal { result ≡ true → all_mortal slots.new.entries ≤ all_mortal slots.old.entries }
@@ -87,7 +87,7 @@ pub fn tell_at(slots: &mut BTreeMap<Key, Slot>, name: EntryName, home: u32) -> b
     }
 }
 
-// Takes an entry out of those that stand. Gives the entry that died by it.
+/// Takes an entry out of those that stand. Gives the entry that died by it.
 pub fn gone_at(slots: &mut BTreeMap<Key, Slot>, name: EntryName) -> Option<Standee>
     ensures step { Step slots.old.entries slots.new.entries name.key
         (option_map (gone_place name.version) (place_at slots.old.entries name.key)) }
@@ -129,7 +129,7 @@ fn forget_at(slots: &mut BTreeMap<Key, Slot>, key: Key)
     }
 }
 
-// The same where the map may have no place for the key.
+/// The same where the map may have no place for the key.
 pub fn forget_there(slots: &mut BTreeMap<Key, Slot>, key: Key)
     requires { is_some (place_at slots.old.entries key) ≡ true
         → IsTrue (is_forgettable (known_at slots.old.entries key)) }

@@ -18,16 +18,19 @@ const FREE: usize = 8;
 // The greatest number of places, so that four bytes tell one.
 const MOST: usize = 4_294_967_295;
 
-// A place for a name, linked to the next one of its chain. The name is for `home`; a free place has none.
+/// A place for a name, linked to the next one of its chain. The name is for `home`; a free place has none.
 #[derive(Clone, Copy)]
 pub struct Node {
+    /// What it says in a free place means nothing.
     pub name: EntryName,
+    /// The number of a core in the region.
     pub home: Option<u32>,
+    /// The number of a place; none at the chain's end.
     pub next: Option<u32>,
 }
 
-// Names for homes, in places that are linked in chains by home. `used` counts the places with a name, and there is
-// room for `spare` more names. Only `open` and `reserve` take memory.
+/// Names for homes, in places that are linked in chains by home. `used` counts the places with a name, and there is
+/// room for `spare` more names. Only `open` and `reserve` take memory.
 #[derive(Drop)]
 pub struct Notices {
     nodes: Vec<Node>,
@@ -185,7 +188,7 @@ fn no_heads(alloc: Global) -> Result<Vec<Option<u32>>, Memory>
 }
 
 impl Notices {
-    // No names, and no room.
+    /// No names, and no room.
     pub fn open(alloc: Global) -> Result<Notices, Memory>
         ensures { IfOk result (λ notices. notices.spare ≡ 0) }
     {
@@ -197,7 +200,7 @@ impl Notices {
         })
     }
 
-    // Makes room for so many more names. Places that are free already are used first.
+    /// Makes room for so many more names. Places that are free already are used first.
     pub fn reserve(&mut self, more: u64) -> Result<(), Memory>
         ensures kept { (h : ℕ) (n : EntryName) → Noted self.old h n → Noted self.new h n }
         ensures ok { OnOk result (self.new.spare ≡ self.old.spare + more) }
@@ -210,7 +213,7 @@ impl Notices {
         Ok(())
     }
 
-    // Notes a name for a home.
+    /// Notes a name for a home.
     pub fn push(&mut self, home: u32, name: EntryName)
         requires { 0 < self.old.spare }
         ensures added { Noted self.new home name }
@@ -230,7 +233,7 @@ impl Notices {
         self.spare -= 1;
     }
 
-    // Takes out a name that is noted for a home; none exactly where none is.
+    /// Takes out a name that is noted for a home; none exactly where none is.
     pub fn take(&mut self, home: u32) -> Option<EntryName>
         ensures none { IfNone result ((name : EntryName) → ¬ Noted self.old home name) }
         ensures unchanged { IfNone result (self.new ≡ self.old) }

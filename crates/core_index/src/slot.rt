@@ -20,8 +20,8 @@ use std::alloc::Global;
 use std::marker::Model;
 use std::mem::replace;
 
-// A key's record, where it has one, and room for so many changes to come. No call but `with_room`, `of` and
-// `reserve` takes memory.
+/// A key's record, where it has one, and room for so many changes to come. No call but `with_room`, `of` and
+/// `reserve` takes memory.
 #[derive(Drop)]
 pub struct Slot {
     head: Option<Head>,
@@ -42,7 +42,7 @@ impl Model for Slot {
 }
 
 impl Slot {
-    // No record, and room for one change.
+    /// No record, and room for one change.
     pub fn with_room(alloc: Global) -> Result<Slot, Memory>
         ensures { IfOk result (λ slot. slot ≡ record { known = None; room = 1 }) }
     {
@@ -54,7 +54,7 @@ impl Slot {
         })
     }
 
-    // A record at the start, with no room.
+    /// A record at the start, with no room.
     pub fn of(alloc: Global, start: Record) -> Result<Slot, Memory>
         requires { AllByRecursion (λ s. s.version ≤ start.version) start.standing.items }
         ensures { IfOk result (λ slot. slot ≡ record { known = Some (opened start); room = 0 }) }
@@ -73,7 +73,7 @@ impl Slot {
         })
     }
 
-    // What there is of a key that was deleted before the start, and room for one change.
+    /// What there is of a key that was deleted before the start, and room for one change.
     pub fn of_tombstone(alloc: Global, tombstone: &Tombstone) -> Result<Slot, Memory>
         ensures { IfOk result (λ slot. slot ≡ record { known = left_of tombstone.now; room = 1 }) }
     {
@@ -88,7 +88,7 @@ impl Slot {
         })
     }
 
-    // Makes room for one more change.
+    /// Makes room for one more change.
     pub fn reserve(&mut self) -> Result<(), Memory>
         ensures ok { OnOk result (self.new ≡ record {
           known = self.old.known;
@@ -102,6 +102,7 @@ impl Slot {
         Ok(())
     }
 
+    /// The last version, or 0 where there is no record.
     pub fn last(&self) -> Version
         ensures { result ≡ last_of self.now.known }
     {
@@ -111,7 +112,7 @@ impl Slot {
         }
     }
 
-    // Whether a version stands and is dead.
+    /// Whether a version stands and is dead.
     pub fn is_dead(&self, version: Version) -> bool
         ensures { result ≡ is_dead_in self.now.known version }
     {
@@ -123,6 +124,7 @@ impl Slot {
         }
     }
 
+    /// Whether the key is deleted and nothing of it stands.
     pub fn is_forgettable(&self) -> bool
         ensures { result ≡ is_forgettable self.now.known }
     {
@@ -132,14 +134,14 @@ impl Slot {
         }
     }
 
-    // The home of the last version's entry, where it stands and is not dead.
+    /// The home of the last version's entry, where it stands and is not dead.
     pub fn alive(&self) -> Option<u32>
         ensures { result ≡ alive_at self.now.known }
     {
         self.alive
     }
 
-    // Records a finished change.
+    /// Records a finished change.
     pub fn settle(&mut self, version: Version, body: Body, home: u32) -> Settled
         requires room { 0 < self.old.room }
         requires next { version ≡ last_of self.old.known + 1 }
@@ -176,7 +178,7 @@ impl Slot {
         }
     }
 
-    // Tells a home of a dead entry, where it waits to be told.
+    /// Tells a home of a dead entry, where it waits to be told.
     pub fn tell(&mut self, version: Version, home: u32) -> bool
         ensures told { result ≡ true → TellsOne self.old self.new home version }
         ensures none { result ≡ false → ¬ Awaits self.old.known home version }
@@ -190,7 +192,7 @@ impl Slot {
         true
     }
 
-    // Takes an entry out of those that stand. Gives the entry that died by it.
+    /// Takes an entry out of those that stand. Gives the entry that died by it.
     pub fn gone(&mut self, version: Version) -> Option<Standee>
         ensures gone { self.new ≡ record {
           known = option_map (without version) self.old.known;
@@ -206,7 +208,7 @@ impl Slot {
         died(version, last, before, self.alive)
     }
 
-    // Notes each entry that is dead and was not told.
+    /// Notes each entry that is dead and was not told.
     pub fn note_dead(&self, key: Key, notices: &mut Notices)
         requires { length (standing_of self.now.known) ≤ notices.old.spare }
         ensures noted { (v h : ℕ) → Awaits self.now.known h v
@@ -220,7 +222,7 @@ impl Slot {
         }
     }
 
-    // Takes out the record of a key that is deleted and of which nothing stands.
+    /// Takes out the record of a key that is deleted and of which nothing stands.
     pub fn forget(&mut self)
         requires { IsTrue (is_forgettable self.old.known) }
         ensures { self.new ≡ record { known = None; room = self.old.room } }
@@ -230,19 +232,21 @@ impl Slot {
         self.alive = None;
     }
 
-    // How many entries stand.
+    /// How many entries stand.
     pub fn len(&self) -> u64
         ensures { result ≡ length (standing_of self.now.known) }
     {
         self.standing.len()
     }
 
+    /// How many changes there is room for.
     pub fn room(&self) -> u64
         ensures { result ≡ self.now.room }
     {
         self.room
     }
 
+    /// The last version, where the key has a value.
     pub fn live_version(&self) -> Option<Version>
         ensures { result ≡ live_version self.now.known }
     {
@@ -258,6 +262,7 @@ impl Slot {
         }
     }
 
+    /// What the key has.
     pub fn look(&self) -> Look<'_>
         ensures { Shows self.now.known result }
     {

@@ -17,15 +17,18 @@ use fs_model::{Key, Version};
 use log_entry::{Body, EntryName};
 use std::alloc::Global;
 
-// Those with a value, and those that were deleted. What the first list has of a key counts. Only the calls that add a
-// key and `slot` take memory.
+/// The keys that are as they were at the start: those with a value, and those that were deleted. What the first list
+/// has of a key counts. Only the calls that add a key and `slot` take memory.
 #[derive(Drop)]
 pub struct StartKeys {
+    /// Those with a value.
     pub live: LiveList,
+    /// Those that were deleted.
     pub deleted: Tombstones,
 }
 
 impl StartKeys {
+    /// No keys.
     pub fn empty(alloc: Global) -> StartKeys
         ensures { started result ≡ [] }
     {
@@ -35,7 +38,7 @@ impl StartKeys {
         }
     }
 
-    // Adds a deleted key that is above all others.
+    /// Adds a deleted key that is above all others.
     pub fn add_deleted(&mut self, tombstone: Tombstone) -> Result<(), Memory>
         requires above { AreLess self.old.deleted.items (key_of tombstone) }
         requires home { tombstone.home < 16 }
@@ -52,7 +55,7 @@ impl StartKeys {
         self.deleted.push(tombstone)
     }
 
-    // Adds a key with a value that is above all others of this kind.
+    /// Adds a key with a value that is above all others of this kind.
     pub fn add_live(&mut self, live: LiveKey, body: &Body) -> Result<(), Memory>
         requires above { AllLess self.old.live.items (live_key live) }
         requires within { IsWithin (self.old.live.bytes ++ bytes_in body.now) live.held }
@@ -64,6 +67,7 @@ impl StartKeys {
         self.live.push(live, body)
     }
 
+    /// The last version of a key, or 0 where it is not among these.
     pub fn last(&self, key: Key) -> Version
         ensures { result ≡ last_of (known_at (started self.now) key) }
     {
@@ -73,6 +77,7 @@ impl StartKeys {
         }
     }
 
+    /// What a key has.
     pub fn look(&self, key: Key) -> Look<'_>
         ensures { Shows (known_at (started self.now) key) result }
     {
@@ -82,7 +87,7 @@ impl StartKeys {
         }
     }
 
-    // How many entries of the key may still die.
+    /// How many entries of the key may still die.
     pub fn count_alive(&self, key: Key) -> u64
         ensures { result ≡ count_of (alive_at (known_at (started self.now) key)) }
     {
@@ -92,6 +97,7 @@ impl StartKeys {
         }
     }
 
+    /// Whether a key of these is deleted and nothing of it stands.
     pub fn is_forgettable(&self, key: Key) -> bool
         ensures { result ≡ is_forgettable (known_at (started self.now) key) }
     {
@@ -101,7 +107,7 @@ impl StartKeys {
         }
     }
 
-    // Whether an entry of this name stands and is dead.
+    /// Whether an entry of this name stands and is dead.
     pub fn is_dead(&self, name: EntryName) -> bool
         ensures { result ≡ is_dead_in (known_at (started self.now) name.key) name.version }
     {
@@ -111,7 +117,7 @@ impl StartKeys {
         }
     }
 
-    // What there is of a key, with room for one change; nothing where it is not among these.
+    /// What there is of a key, with room for one change; nothing where it is not among these.
     pub fn slot(&self, alloc: Global, key: Key) -> Result<Option<Slot>, Memory>
         ensures slot { IfOk result (λ found. IfSome found (λ slot. slot ≡ record {
           known = known_at (started self.now) key;
@@ -129,7 +135,7 @@ impl StartKeys {
         Ok(Some(Slot::of_tombstone(alloc, &tombstone)?))
     }
 
-    // Tells a home of a dead entry, where it waits to be told.
+    /// Tells a home of a dead entry, where it waits to be told.
     pub fn tell(&mut self, name: EntryName, home: u32) -> bool
         ensures told { result ≡ true → ToldAt (started self.old) (started self.new) home name }
         ensures none { result ≡ false → ¬ Awaits (known_at (started self.old) name.key) home
@@ -143,7 +149,7 @@ impl StartKeys {
         }
     }
 
-    // Takes an entry out of those that stand.
+    /// Takes an entry out of those that stand.
     pub fn gone(&mut self, name: EntryName)
         ensures gone { StartTurns self.old self.new name.key
             (option_map (without name.version) (known_at (started self.old) name.key)) }
@@ -156,7 +162,7 @@ impl StartKeys {
         }
     }
 
-    // Takes the record of a key out.
+    /// Takes the record of a key out.
     pub fn clear(&mut self, key: Key)
         ensures { StartTurns self.old self.new key None }
     {
@@ -164,7 +170,7 @@ impl StartKeys {
         self.deleted.clear(key);
     }
 
-    // The next deleted key that this home was not asked about.
+    /// The next deleted key that this home was not asked about.
     pub fn pass(&mut self, home: u32) -> Option<Tombstone>
         ensures none { IfNone result ((n : EntryName) → ¬ IsAhead self.old home n) }
         ensures unchanged { IfNone result (self.new ≡ self.old) }

@@ -16,8 +16,8 @@ use std::marker::Model;
 // As many as a region has cores at most.
 const HOMES: u32 = 16;
 
-// By rising key. For each home the first `passed` of them need not be looked at to tell it of a death. Only `push`
-// takes memory.
+/// The keys that were deleted before the start, by rising key. For each home the first `passed` of them need not be
+/// looked at to tell it of a death. Only `push` takes memory.
 #[derive(Drop)]
 pub struct Tombstones {
     items: Vec<Tombstone>,
@@ -40,6 +40,7 @@ fn key_of(tombstone: &Tombstone) -> Key
     u64::from(tombstone.high) * SHARE + u64::from(tombstone.low)
 }
 
+/// The name of the entry that deleted the key.
 pub fn name_of(tombstone: &Tombstone) -> EntryName
     ensures { result ≡ name_of tombstone.now }
 {
@@ -49,7 +50,7 @@ pub fn name_of(tombstone: &Tombstone) -> EntryName
     }
 }
 
-// What is known of a key, where it is of this kind and fits.
+/// What is known of a key, where it is of this kind and fits.
 pub fn tombstone_of(
     key: Key,
     version: Version,
@@ -149,6 +150,7 @@ fn spot_of(items: &[Tombstone], key: Key) -> Option<usize>
 }
 
 impl Tombstones {
+    /// No keys.
     pub fn empty(alloc: Global) -> Tombstones
         ensures { result.items ≡ [] }
     {
@@ -158,7 +160,7 @@ impl Tombstones {
         }
     }
 
-    // Whether a key is above all of these.
+    /// Whether a key is above all of these.
     pub fn is_below(&self, key: Key) -> bool
         ensures { result ≡ true → AreLess self.now.items key }
     {
@@ -168,7 +170,7 @@ impl Tombstones {
         }
     }
 
-    // Adds a key that is above all others.
+    /// Adds a key that is above all others.
     pub fn push(&mut self, tombstone: Tombstone) -> Result<(), Memory>
         requires above { AreLess self.old.items (key_of tombstone) }
         requires home { tombstone.home < 16 }
@@ -183,7 +185,7 @@ impl Tombstones {
         Ok(())
     }
 
-    // What there is of a key.
+    /// What there is of a key.
     pub fn find(&self, key: Key) -> Option<Tombstone>
         ensures { result ≡ found_at self.now.items key }
     {
@@ -193,6 +195,7 @@ impl Tombstones {
         Some(self.items[spot])
     }
 
+    /// The last version of a key, or 0 where its record is not here.
     pub fn last(&self, key: Key) -> Version
         ensures { result ≡ last_of (known_at (placed self.now.items) key) }
     {
@@ -202,6 +205,7 @@ impl Tombstones {
         }
     }
 
+    /// What a key has: it was deleted, or its record is not here.
     pub fn look(&self, key: Key) -> Look<'_>
         ensures { Shows (known_at (placed self.now.items) key) result }
     {
@@ -214,6 +218,7 @@ impl Tombstones {
         }
     }
 
+    /// Whether a key of these has no entry that stands.
     pub fn is_forgettable(&self, key: Key) -> bool
         ensures { result ≡ is_forgettable (known_at (placed self.now.items) key) }
     {
@@ -223,6 +228,7 @@ impl Tombstones {
         }
     }
 
+    /// Whether an entry of this name stands and is dead.
     pub fn is_dead(&self, name: EntryName) -> bool
         ensures { result ≡ is_dead_in (known_at (placed self.now.items) name.key) name.version }
     {
@@ -232,7 +238,7 @@ impl Tombstones {
         }
     }
 
-    // Gives the entry of a key another fate.
+    /// Gives the entry of a key another fate.
     pub fn set(&mut self, key: Key, fate: Fate)
         ensures { self.new ≡ record {
           items = fated self.old.items key fate;
@@ -245,7 +251,7 @@ impl Tombstones {
         self.items[spot].fate = fate;
     }
 
-    // Tells a home of a dead entry, where it waits to be told.
+    /// Tells a home of a dead entry, where it waits to be told.
     pub fn tell(&mut self, name: EntryName, home: u32) -> bool
         ensures told { result ≡ true → ToldAt (placed self.old.items) (placed self.new.items) home
             name }
@@ -264,7 +270,7 @@ impl Tombstones {
         true
     }
 
-    // Takes an entry out of those that stand.
+    /// Takes an entry out of those that stand.
     pub fn gone(&mut self, name: EntryName)
         ensures gone { Turns self.old self.new name.key
             (option_map (without name.version) (known_at (placed self.old.items) name.key)) }
@@ -279,14 +285,14 @@ impl Tombstones {
         }
     }
 
-    // Takes the record of a key out.
+    /// Takes the record of a key out.
     pub fn clear(&mut self, key: Key)
         ensures { Turns self.old self.new key None }
     {
         self.set(key, Fate::Moved);
     }
 
-    // The next key that this home was not asked about.
+    /// The next key that this home was not asked about.
     pub fn pass(&mut self, home: u32) -> Option<Tombstone>
         ensures none { IfNone result ((n : EntryName) → ¬ Ahead self.old home n) }
         ensures unchanged { IfNone result (self.new ≡ self.old) }

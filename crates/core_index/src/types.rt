@@ -5,16 +5,22 @@ use log_entry::Body;
 /// An entry that stands in a log. `home` is the core in whose log it stands.
 #[derive(Clone, Copy, Debug, PartialEq, Eq)]
 pub struct Standee {
+    /// Which change of its key it is, counted from 1.
     pub version: Version,
+    /// By its number in the region, from 0.
     pub home: u32,
 }
 
 /// What is known of a key at the start: its last version, what that left, and its entries in all logs.
 #[derive(Drop)]
 pub struct Record {
+    /// Whose record it is.
     pub key: Key,
+    /// That of the last change, also where it was a delete.
     pub version: Version,
+    /// A value, or the first unit of its block, or a tombstone.
     pub body: Body,
+    /// In any order. Of two of one version the first counts.
     pub standing: Vec<Standee>,
 }
 
@@ -34,93 +40,116 @@ pub enum Look<'a> {
 /// The key was changed as often as versions go.
 #[derive(Clone, Copy, Debug, PartialEq, Eq)]
 pub struct Spent {
+    /// The key's last version: 1,048,574 at least.
     pub last: Version,
 }
 
-// An entry that stands in a log, and whether its death was told to its home.
+/// An entry that stands in a log, and whether its death was told to its home.
 #[derive(Clone, Copy)]
 pub struct Standing {
+    /// Which change of its key it is, counted from 1.
     pub version: Version,
+    /// The core in whose log it stands, by its number in the region.
     pub home: u32,
+    /// Of its death.
     pub told: bool,
 }
 
-// A place in a key's list. Its entry is gone once it stands in no log, and leaves the list when that is closed up.
+/// A place in a key's list. Its entry is gone once it stands in no log, and leaves the list when that is closed up.
 #[derive(Clone, Copy)]
 pub struct Marked {
+    /// What it was, also where it is gone.
     pub entry: Standing,
+    /// It stands in no log.
     pub gone: bool,
 }
 
-// The last change of a key.
+/// The last change of a key.
 #[derive(Drop)]
 pub struct Head {
+    /// The key's last.
     pub version: Version,
+    /// What it left.
     pub body: Body,
 }
 
-// What a finished change did: the block of the value before it, and the entry that died by it.
+/// What a finished change did: the block of the value before it, and the entry that died by it.
 #[derive(Clone, Copy)]
 pub struct Settled {
+    /// The block's first byte in the region divided by 256.
     pub replaced: Option<u64>,
+    /// None where none died.
     pub dead: Option<Standee>,
 }
 
-// By this a key is parted in two halves. Pointers and places of values that are kept in half a word are below it.
+/// A key is parted in two halves by this. Pointers and places of values that are kept in half a word are below it.
 pub const SHARE: u64 = 4_294_967_296;
 
-// The versions below it fit into two bytes.
+/// The versions below it fit into two bytes.
 pub const VERSIONS: u32 = 65_536;
 
-// What became of the one entry of a key that was deleted before the start.
+/// What became of the one entry of a key that was deleted before the start.
 #[derive(Clone, Copy)]
 pub enum Fate {
-    // It stands, and its death was not told.
+    /// It stands, and its death was not told.
     Untold,
-    // It stands, and its death was told.
+    /// It stands, and its death was told.
     Told,
-    // It stands in no log.
+    /// It stands in no log.
     Gone,
-    // The key has its record in the map by now, or none at all.
+    /// The key has its record in the map by now, or none at all.
     Moved,
 }
 
-// A key that was deleted before the start, by an entry that stands alone. It takes twelve bytes, so the key is in two
-// halves, and later versions and homes stand in the map.
+/// A key that was deleted before the start, by an entry that stands alone. It takes twelve bytes, so the key is in two
+/// halves, and later versions and homes stand in the map.
 #[derive(Clone, Copy)]
 pub struct Tombstone {
+    /// The key divided by 2^32.
     pub high: u32,
+    /// The rest.
     pub low: u32,
+    /// That of the entry.
     pub version: u16,
+    /// The core in whose log it stands, by its number in the region.
     pub home: u8,
+    /// What became of the entry since.
     pub fate: Fate,
 }
 
-// Where the value of a key is: in a block, or so many bytes from a start on among the bytes of all values.
+/// Where the value of a key is: in a block, or so many bytes from a start on among the bytes of all values.
 #[derive(Clone, Copy)]
 pub enum Holding {
+    /// The block's first byte in the region divided by 256.
     InBlock(u32),
+    /// The place of the first byte among those of all values, and how many bytes.
     Beside(u32, u8),
 }
 
-// What became of the one entry of a key that had a value at the start.
+/// What became of the one entry of a key that had a value at the start.
 #[derive(Clone, Copy)]
 pub enum LiveFate {
-    // It stands.
+    /// It stands.
     Stands,
-    // It stands in no log.
+    /// It stands in no log.
     Gone,
-    // The key has its record in the map by now, or none at all.
+    /// The key has its record in the map by now, or none at all.
     Moved,
 }
 
-// A key that had a value at the start, by an entry that stands alone. It takes 24 bytes beside the value's own.
+/// A key that had a value at the start, by an entry that stands alone. It takes 24 bytes beside the value's own.
 #[derive(Clone, Copy)]
 pub struct LiveKey {
+    /// The key divided by 2^32.
     pub high: u32,
+    /// The rest.
     pub low: u32,
+    /// That of the entry.
     pub version: u16,
+    /// The core in whose log it stands, by its number in the region.
     pub home: u8,
+    /// What became of the entry since.
     pub fate: LiveFate,
+    /// Where the value is.
     pub held: Holding,
 }

@@ -3,12 +3,12 @@ use Rattle.std.proofs.Common.{◌≡◌, inl, inr, ⊎_elim, ℕ, ◌+◌, ◌-�
 use Rattle.std.proofs.lemmas.Bool.{cases_lt}
 use Rattle.pm_region.specs.Cell.{Cell, certain}
 use Rattle.pm_region.specs.State.{State, IsTelling, cell_now, During}
-use Rattle.pm_region.specs.Words.{KeepsOutside, Surely, MayLeaveIn, EachIn, Sets, lasts}
+use Rattle.pm_region.specs.Words.{KeepsOutside, Surely, MayLeaveIn, EachIn, Sets, lasts, lines_for}
 use Rattle.pm_region.specs.declared.region.RegionFault.{RegionFault}
 use Rattle.pm_region.proofs.Clients.{weaken, then_on, at_exit, told_at_entry, may_be_last, surely_narrows, surely_kept, surely_certain, surely_last, surely_own}
 use Rattle.log_entry.proofs.Clients.{words_same, words_append, words_list}
 use Rattle.log_entry.specs.Words.{words_from}
-use Rattle.core_log.specs.Chunk.{lines_for, padded, words_now, HasLog, HasOrLacks, ChunkLies, IsLog, Appended}
+use Rattle.core_log.specs.Chunk.{padded, words_now, HasLog, HasOrLacks, ChunkLies, IsLog, Appended}
 use Rattle.core_log.proofs.Padded.{padded_at, length-padded}
 
 pub on_ok : (r : Result (Unit {0}) RegionFault) (P Q : Type 0) → (P → Q) → OnOk r P → OnOk r Q

@@ -5,7 +5,7 @@ use Rattle.std.proofs.lemmas.Bool.{cond-true, and_from, eq-eqb, le-leb}
 use Rattle.std.proofs.lemmas.List.{map-append}
 use Rattle.pm_region.specs.Cell.{Cell}
 use Rattle.pm_region.specs.State.{State, Frame, IsTelling, cell_now, During}
-use Rattle.pm_region.specs.Words.{KeepsOutside, MayLeaveIn, EachIn, lasts}
+use Rattle.pm_region.specs.Words.{KeepsOutside, MayLeaveIn, EachIn, lasts, lines_for}
 use Rattle.pm_region.proofs.Clients.{weaken, at_exit, told_at_entry, may_be_last}
 use Rattle.chunk_map.specs.declared.layouts.Geometry.{Geometry}
 use Rattle.chunk_map.specs.declared.heads.Head.{Head}
@@ -21,7 +21,7 @@ use Rattle.log_entry.proofs.Clients.{entries_from, scan-append, spells-append, w
 use Rattle.store_image.specs.declared.types.PlacedEntry.{PlacedEntry}
 use Rattle.store_image.specs.Parts.{payload, scan_at, scan_behind, placed, chunk_entries}
 use Rattle.core_log.specs.declared.types.LogChunk.{LogChunk}
-use Rattle.core_log.specs.Chunk.{lines_for, padded, words_now, HasLog, HasOrLacks, ChunkLies, IsLog, Appended}
+use Rattle.core_log.specs.Chunk.{padded, words_now, HasLog, HasOrLacks, ChunkLies, IsLog, Appended}
 use Rattle.core_log.specs.Log.{LogState, tail_of, with_tail, chunk_with, IsChunkOf, IsOwn, first_of, open_number, open_first, open_tail, room_of, lines_left, EachInOpen, Spelled, HoldsEntries, StandsIn}
 use Rattle.core_log.specs.Entries.{with_places, open_entries, added_entries, HasEntries, HasEntriesOrLacks, AppendedBatch}
 use Rattle.core_log.proofs.Padded.{length-padded}

@@ -5,7 +5,7 @@ use Rattle.std.proofs.lemmas.Bool.{cases_eq}
 use Rattle.std.proofs.lemmas.List.{map-append}
 use Rattle.pm_region.specs.Cell.{Cell}
 use Rattle.pm_region.specs.State.{State, Frame, IsTelling, cell_now, During}
-use Rattle.pm_region.specs.Words.{Kept, KeepsOutside, MayLeaveIn, Surely, lasts}
+use Rattle.pm_region.specs.Words.{Kept, KeepsOutside, MayLeaveIn, Surely, lasts, lines_for}
 use Rattle.pm_region.proofs.Clients.{weaken, both, told_at_entry, at_exit, may_be_last, surely_last}
 use Rattle.log_entry.specs.declared.entry.Entry.{Entry}
 use Rattle.log_entry.specs.Spelling.{words_of}
@@ -18,7 +18,7 @@ use Rattle.store_image.specs.declared.types.PlacedEntry.{PlacedEntry}
 use Rattle.store_image.specs.Parts.{placed, chunk_entries, chunk_reads}
 use Rattle.store_image.specs.Facts.{In}
 use Rattle.store_image.proofs.Clients.{Numbers, layout_numbers, in_front, in_back, in_either}
-use Rattle.core_log.specs.Chunk.{words_now, padded, HasOrLacks, HasLog, FreeOrEmpty, FreeOrLog, lines_for}
+use Rattle.core_log.specs.Chunk.{words_now, padded, HasOrLacks, HasLog, FreeOrEmpty, FreeOrLog}
 use Rattle.core_log.specs.Log.{LogState, StandsIn, EachInOpen, Spelled, IsChunkOf, chunk_with, tail_of, tail_in, first_of, open_number, open_first, open_tail, room_of}
 use Rattle.core_log.specs.Entries.{open_entries, added_entries, AppendedBatch}
 use Rattle.core_log.specs.Opening.{EachInChunk}

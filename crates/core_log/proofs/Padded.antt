@@ -1,8 +1,9 @@
 -- A list of words with zeros up to a line's end.
 use Rattle.std.proofs.Common.{◌≡◌, ℕ, zero, suc, ◌*◌, List, [], ◌∷◌, ◌++◌, length, get_or, replicate, refl, arith, length-append}
 use Rattle.std.proofs.lemmas.List.{length-replicate}
+use Rattle.pm_region.specs.Words.{lines_for}
 use Rattle.log_entry.specs.Batches.{padding}
-use Rattle.core_log.specs.Chunk.{lines_for, padded}
+use Rattle.core_log.specs.Chunk.{padded}
 
 zeros_at : (n j : ℕ) → get_or (replicate {A = ℕ} n 0) j 0 ≡ 0
 zeros_at zero j = refl

@@ -3,7 +3,7 @@ use Rattle.std.proofs.Common.{◌≡◌, ◌⊎◌, inl, ℕ, ◌+◌, ◌-◌, 
 use Rattle.std.specs.Prelude.{option_map, IfSome, IfOk}
 use Rattle.std.proofs.lemmas.Bool.{cond-true, cond-false, le-leb, leb-true, leb-false}
 use Rattle.std.proofs.lemmas.Bool.Decides.{nat_tests}
-use Rattle.pm_region.specs.State.{State, Frame, IsTelling}
+use Rattle.pm_region.specs.State.{State, Frame, IsTelling, WordsLie}
 use Rattle.pm_region.specs.Words.{lasts}
 use Rattle.log_entry.specs.declared.entry.Entry.{Entry}
 use Rattle.log_entry.specs.Spelling.{words_of}
@@ -12,7 +12,7 @@ use Rattle.log_entry.proofs.Clients.{AreWords, scan_spelled, whole_spelled, spel
 use Rattle.core_log.specs.declared.types.Peek.{Peek}
 use Rattle.core_log.specs.declared.types.WalkStep.{WalkStep}
 use Rattle.core_log.specs.Log.{LogState, Spelled, tail_of, first_of, tail_in}
-use Rattle.core_log.specs.Walking.{LiesIn, IsBetween, IsReadable, next_entry, peek_at, step_at, entries_in, words_in, behind, WordsLie, IsStep, IsWalk}
+use Rattle.core_log.specs.Walking.{LiesIn, IsBetween, IsReadable, next_entry, peek_at, step_at, entries_in, words_in, behind, IsStep, IsWalk}
 use Rattle.core_log.proofs.ItemLaws.{placed_items, items_of, items_placed, first_is as entry_first}
 use Rattle.core_log.proofs.LogLaws.{own_chunk, part_lies}
 use Rattle.core_log.proofs.RetireLaws.{is_tail}
@@ -111,16 +111,25 @@ module _ (s : State) (log : LogState) (j place : ℕ) (spelled : Spelled (words_
   pub step_is : (r : Option Peek) → r ≡ option_map (peek_at (first_of log j + 32)) (next_entry place (entries_in s log j)) → IsStep s log j place r
   step_is r told = subst (IsStep s log j place) (sym told) (by_next (next_entry place (entries_in s log j)) refl)
 
--- an entry's words lie in the region
-pub words_lie : (f : Frame) (log : LogState) (j at place next : ℕ) → LiesIn f log → is_some (tail_of log.chunks j) ≡ true → at ≡ first_of log j + 32 + place → place < next → next ≤ tail_in log j → WordsLie f at (next - place)
-words_lie f log j at place next lies has is lt le =
+-- the words of a chunk's payload up to its tail lie in the region
+pub payload_lies : (f : Frame) (log : LogState) (j at tail : ℕ) → LiesIn f log → is_some (tail_of log.chunks j) ≡ true → at ≡ first_of log j + 32 → tail ≡ tail_in log j → WordsLie f at tail
+payload_lies f log j at tail lies has at_is tail_is =
     let own = lies.own in
     let in_part = part_lies f log j (tail_in log j) own lies.low lies.high (own_chunk log own j (tail_in log j) (is_tail (tail_of log.chunks j) has)) in
     let low = in_part.low in
     let high = in_part.high in
     let fits = in_part.fits in
     let room = in_part.tail_in in
-    record { low = omega (arith, low, is); high = omega (arith, high, room, is, lt, le); fits = omega (arith, fits, room, is, lt, le) }
+    record { low = omega (arith, low, at_is); high = omega (arith, high, room, at_is, tail_is); fits = omega (arith, fits, room, at_is, tail_is) }
+
+-- an entry's words lie in the region
+pub words_lie : (f : Frame) (log : LogState) (j at place next : ℕ) → LiesIn f log → is_some (tail_of log.chunks j) ≡ true → at ≡ first_of log j + 32 + place → place < next → next ≤ tail_in log j → WordsLie f at (next - place)
+words_lie f log j at place next lies has is lt le =
+    let payload = payload_lies f log j (first_of log j + 32) (tail_in log j) lies has refl refl in
+    let low = payload.low in
+    let high = payload.high in
+    let fits = payload.fits in
+    record { low = omega (arith, low, is); high = omega (arith, high, is, lt, le); fits = omega (arith, fits, is, lt, le) }
 
 pub found_lies : (f : Frame) (log : LogState) (j place first tail : ℕ) (r : Option Peek) → LiesIn f log → is_some (tail_of log.chunks j) ≡ true → first ≡ first_of log j + 32 → tail ≡ tail_in log j
     → IfSome r (λ p. (place ≤ p.place) × ((p.place < p.next) × (p.next ≤ tail))) → IfSome r (λ p. p.at ≡ first + p.place) → IfSome r (λ p. WordsLie f p.at (p.next - p.place))

@@ -1,15 +1,12 @@
 -- What one chunk of a log is in a region, and how an image reads it. Addresses are word numbers of the region. The first two words of a head are the kind and the tail.
-use Rattle.std.specs.Prelude.{◌≡◌, ◌⊎◌, ℕ, ◌+◌, ◌/◌, ◌%◌, ◌^◌, ◌≤◌, ◌<◌, List, ◌++◌, length, replicate}
+use Rattle.std.specs.Prelude.{◌≡◌, ◌⊎◌, ℕ, ◌+◌, ◌/◌, ◌%◌, ◌^◌, ◌≤◌, ◌<◌, List, ◌++◌, length, replicate, ◌-◌}
+use Rattle.pm_region.specs.declared.region_sizes.TheConstants.{LINE_WORDS}
 use Rattle.pm_region.specs.Cell.{Cell}
 use Rattle.pm_region.specs.State.{State, Frame, cell_now}
 use Rattle.pm_region.specs.Words.{Surely, lasts}
-use Rattle.chunk_map.specs.declared.layout_sizes.TheConstants.{HEAD_WORDS}
+use Rattle.chunk_map.specs.declared.layout_sizes.TheConstants.{FREE_KIND, HEAD_WORDS, LOG_KIND}
 use Rattle.log_entry.specs.Batches.{padding}
 use Rattle.store_image.specs.Parts.{payload}
-
--- so many words in lines of 8, rounded up
-abbrev pub lines_for : ℕ → ℕ
-lines_for n = (n + 7) / 8
 
 -- the words, and zeros up to a line's end
 abbrev pub padded : List ℕ → List ℕ
@@ -21,7 +18,7 @@ words_now s at tail = payload (lasts s) at tail
 
 -- the image has a Log there with this tail and these words up to it
 abbrev pub HasLog : ℕ → ℕ → List ℕ → (ℕ → ℕ) → Type 0
-HasLog at tail ws image = (image at ≡ 1) × (image (at + 1) ≡ tail) × (payload image at tail ≡ ws)
+HasLog at tail ws image = (image at ≡ LOG_KIND) × (image (at + 1) ≡ tail) × (payload image at tail ≡ ws)
 
 -- the words from before, with the batch wholly or without it
 abbrev pub HasOrLacks : ℕ → ℕ → List ℕ → List ℕ → (ℕ → ℕ) → Type 0
@@ -30,24 +27,24 @@ HasOrLacks at tail ws batch image = HasLog at tail ws image
 
 -- Free, or a Log with nothing in it
 abbrev pub FreeOrEmpty : ℕ → (ℕ → ℕ) → Type 0
-FreeOrEmpty at image = (image at ≡ 0) ⊎ ((image at ≡ 1) × (image (at + 1) ≡ 0))
+FreeOrEmpty at image = (image at ≡ FREE_KIND) ⊎ ((image at ≡ LOG_KIND) × (image (at + 1) ≡ 0))
 
 -- Free, or the Log that it was
 abbrev pub FreeOrLog : ℕ → ℕ → List ℕ → (ℕ → ℕ) → Type 0
-FreeOrLog at tail ws image = (image at ≡ 0) ⊎ HasLog at tail ws image
+FreeOrLog at tail ws image = (image at ≡ FREE_KIND) ⊎ HasLog at tail ws image
 
 -- a chunk of so many words lies in the region's range, and has room for its tail
 pub record ChunkLies (f : Frame) (at words tail : ℕ) : Type 0 where
   pub low : f.first ≤ at
   pub high : at + words ≤ f.first + f.words
   pub fits : at + words < 2 ^ 64
-  pub line : at % 8 ≡ 0
+  pub line : at % LINE_WORDS ≡ 0
   pub tail_in : tail + HEAD_WORDS ≤ words
-  pub tail_whole : tail % 8 ≡ 0
+  pub tail_whole : tail % LINE_WORDS ≡ 0
 
 -- the kind Log, the tail and the words up to it are certain
 pub record IsLog (cells : ℕ → Cell) (at tail : ℕ) : Type 0 where
-  pub kind : Surely (cells at) 1
+  pub kind : Surely (cells at) LOG_KIND
   pub tail_is : Surely (cells (at + 1)) tail
   pub words : (k : ℕ) → k < tail → Surely (cells (at + HEAD_WORDS + k))
       (cells (at + HEAD_WORDS + k)).last

@@ -1,6 +1,7 @@
 -- A core's log as its callers see it: its chunks with their tails, and which is open. And what it is in a region.
 use Rattle.std.specs.Prelude.{◌≡◌, ℕ, zero, suc, ◌+◌, ◌-◌, ◌/◌, ◌%◌, ◌<◌, ◌≤◌, ◌==◌, nat_lt, Bool, true, List, [], ◌∷◌, ◌++◌, length, Option, Some, None, is_some, unwrap_or, if◌then◌else◌}
 use Rattle.std.specs.List.{flat_map, AllByRecursion}
+use Rattle.pm_region.specs.declared.region_sizes.TheConstants.{LINE_WORDS}
 use Rattle.pm_region.specs.Cell.{Cell}
 use Rattle.pm_region.specs.State.{State, Frame, IsTelling, cell_now}
 use Rattle.pm_region.specs.Words.{EachIn}
@@ -45,7 +46,7 @@ IsRising from (c ∷ cs) = (from ≤ c.chunk) × IsRising (c.chunk + 1) cs
 -- a chunk of a part, with a tail of whole lines in its payload
 pub record IsChunkOf (l : Geometry) (c : LogChunk) : Type 0 where
   pub within : c.chunk < l.chunks
-  pub whole : c.tail % 8 ≡ 0
+  pub whole : c.tail % LINE_WORDS ≡ 0
   pub fits : c.tail ≤ payload_words l
 
 -- numbers alone: chunks of the part, each once, and the open one is one of them
@@ -74,7 +75,7 @@ open_tail log = unwrap_or (tail_of log.chunks (open_number log)) 0
 
 abbrev pub lines_left : LogState → Option ℕ → ℕ
 lines_left log None = 0
-lines_left log (Some j) = payload_lines log.layout - unwrap_or (tail_of log.chunks j) 0 / 8
+lines_left log (Some j) = payload_lines log.layout - unwrap_or (tail_of log.chunks j) 0 / LINE_WORDS
 
 -- the free lines of the open chunk
 abbrev pub room_of : LogState → ℕ

@@ -59,12 +59,6 @@ abbrev pub behind : ℕ → List (ℕ × Entry) → List (ℕ × Entry)
 behind place [] = []
 behind place (x ∷ xs) = if nat_le place x.0 then x ∷ xs else behind place xs
 
--- so many words of the region lie in its range
-pub record WordsLie (f : Frame) (at n : ℕ) : Type 0 where
-  pub low : f.first ≤ at
-  pub high : at + n ≤ f.first + f.words
-  pub fits : at + n < 2 ^ 64
-
 -- The first entry that is left at a place was found: its name, its place and its words. Behind it the others are left.
 pub record IsFound (s : State) (log : LogState) (j place : ℕ) (p : Peek) : Type 0 where
   pub found : ℕ × Entry

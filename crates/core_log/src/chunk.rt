@@ -1,9 +1,9 @@
 // One chunk of a log: a batch is appended behind its tail.
 ghost use Rattle.std.specs.Prelude.{◌≡◌, ◌⊎◌, ℕ, ◌+◌, ◌-◌, ◌*◌, ◌/◌, ◌%◌, ◌^◌, ◌≤◌, ◌<◌, length, [], slice_index, OnOk, OnErr};
 ghost use Rattle.pm_region.specs.Cell.{Cell, certain};
-ghost use Rattle.pm_region.specs.State.{State, During, IsTelling, cell_now, Rose};
-ghost use Rattle.pm_region.specs.Words.{KeepsOutside, EachIn, Surely};
-ghost use Rattle.core_log.specs.Chunk.{lines_for, padded, words_now, HasOrLacks, ChunkLies, IsLog, Appended};
+ghost use Rattle.pm_region.specs.State.{State, During, IsTelling, cell_now, Faulted, WordsLie};
+ghost use Rattle.pm_region.specs.Words.{KeepsOutside, EachIn, Surely, lines_for};
+ghost use Rattle.core_log.specs.Chunk.{padded, words_now, HasOrLacks, ChunkLies, IsLog, Appended};
 
 use chunk_map::layout_sizes::{HEAD_LINES, HEAD_WORDS};
 use chunk_map::words::{flush_lines, set_word};
@@ -22,10 +22,7 @@ fn word_or_zero(words: &[u64], at: u64) -> u64
 
 // Stores so many words: those of the list, then zeros.
 fn store_all<R: Region>(region: &mut R, at: u64, words: &[u64], count: u64)
-    requires low { (R.state region.old).frame.first ≤ at }
-    requires high { at + count ≤ (R.state region.old).frame.first
-        + (R.state region.old).frame.words }
-    requires fits { at + count < 2 ^ 64 }
+    requires { WordsLie (R.state region.old).frame at count }
     ensures run { During (R.state region.old) (R.state region.new)
         (KeepsOutside (cell_now (R.state region.old)) at (at + count)) }
     ensures stored { IsTelling (R.state region.new) → (j : ℕ) → j < count
@@ -43,15 +40,12 @@ fn write_lines<R: Region>(
     words: &[u64],
     lines: u64,
 ) -> Result<(), RegionFault>
-    requires low { (R.state region.old).frame.first ≤ 8 * line }
-    requires high { 8 * (line + lines) ≤ (R.state region.old).frame.first
-        + (R.state region.old).frame.words }
-    requires fits { 8 * (line + lines) < 2 ^ 64 }
+    requires { WordsLie (R.state region.old).frame (LINE_WORDS * line) (LINE_WORDS * lines) }
     ensures run { During (R.state region.old) (R.state region.new)
-        (KeepsOutside (cell_now (R.state region.old)) (8 * line) (8 * (line + lines))) }
-    ensures ok { OnOk result (IsTelling (R.state region.new) → (j : ℕ) → j < 8 * lines
-        → cell_now (R.state region.new) (8 * line + j) ≡ certain (slice_index words.now j)) }
-    ensures cause { OnErr result (Rose (R.state region.old).faults (R.state region.new).faults) }
+        (KeepsOutside (cell_now (R.state region.old)) (LINE_WORDS * line) (LINE_WORDS * (line + lines))) }
+    ensures ok { OnOk result (IsTelling (R.state region.new) → (j : ℕ) → j < LINE_WORDS * lines
+        → cell_now (R.state region.new) (LINE_WORDS * line + j) ≡ certain (slice_index words.now j)) }
+    ensures cause { OnErr result (Faulted (R.state region.old) (R.state region.new)) }
 {
     store_all(region, LINE_WORDS * line, words, LINE_WORDS * lines);
     flush_lines(region, line, lines);
@@ -69,14 +63,14 @@ pub fn append_at<R: Region>(
 ) -> Result<(), RegionFault>
     requires lies { ChunkLies (R.state region.old).frame at words tail }
     requires log { IsTelling (R.state region.old) → IsLog (cell_now (R.state region.old)) at tail }
-    requires room { tail + 8 * lines_for (length batch.now) + HEAD_WORDS ≤ words }
+    requires room { tail + LINE_WORDS * lines_for (length batch.now) + HEAD_WORDS ≤ words }
     ensures moments { During (R.state region.old) (R.state region.new) (EachIn at (at + words)
         (HasOrLacks at tail (words_now (R.state region.old) at tail) (padded batch.now))) }
     ensures outside { During (R.state region.old) (R.state region.new)
         (KeepsOutside (cell_now (R.state region.old)) at (at + words)) }
     ensures ok { OnOk result (IsTelling (R.state region.new)
         → Appended (R.state region.old) (R.state region.new) at tail (padded batch.now)) }
-    ensures cause { OnErr result (Rose (R.state region.old).faults (R.state region.new).faults) }
+    ensures cause { OnErr result (Faulted (R.state region.old) (R.state region.new)) }
 {
     let lines = (batch.len() as u64 + 7) / LINE_WORDS;
     write_lines(

@@ -1,18 +1,18 @@
 // A core's log: its chunks with their tails, and which of them is open.
 ghost use Rattle.std.specs.Prelude.{◌≡◌, ◌≢◌, ◌⊎◌, ℕ, ◌+◌, ◌-◌, ◌*◌, ◌/◌, ◌%◌, ◌^◌, ◌≤◌, ◌<◌, List, length, Some, None, true, is_some, OnOk, OnErr, IfOk, IfSome, Option, option_map};
 ghost use Rattle.std.specs.List.{flat_map, AllByRecursion};
-ghost use Rattle.pm_region.specs.State.{State, During, IsTelling, cell_now, Rose};
-ghost use Rattle.pm_region.specs.Words.{KeepsOutside, EachIn, Surely, lasts};
+ghost use Rattle.pm_region.specs.State.{State, During, IsTelling, cell_now, Faulted, WordsLie};
+ghost use Rattle.pm_region.specs.Words.{KeepsOutside, EachIn, Surely, lasts, lines_for};
 ghost use Rattle.chunk_map.specs.Layouts.{chunk_words, payload_words, payload_lines, chunk_first};
 ghost use Rattle.log_entry.specs.declared.entry.Entry.{Entry};
 ghost use Rattle.log_entry.specs.Spelling.{words_of};
 ghost use Rattle.log_entry.specs.Batches.{IsBatch};
-ghost use Rattle.core_log.specs.Chunk.{lines_for, padded, words_now, HasOrLacks, FreeOrEmpty, FreeOrLog};
+ghost use Rattle.core_log.specs.Chunk.{padded, words_now, HasOrLacks, FreeOrEmpty, FreeOrLog};
 ghost use Rattle.core_log.specs.Log.{LogState, IsOwn, tail_of, with_tail, without, chunk_with, IsChunkOf, first_of, tail_in, open_number, open_first, open_tail, room_of, EachInOpen, HoldsEntries, StandsIn};
 ghost use Rattle.core_log.specs.Fresh.{HasEachOnce, IsEmptiest};
 ghost use Rattle.core_log.specs.Opening.{EachInChunk, HasNoEntries, OpenedChunk};
 ghost use Rattle.core_log.specs.Retiring.{HasSameOrNone, RetiredChunk};
-ghost use Rattle.core_log.specs.Walking.{LiesIn, IsReadable, entries_in, next_entry, step_at, peek_at, WordsLie, IsStep, IsWalk};
+ghost use Rattle.core_log.specs.Walking.{LiesIn, IsReadable, entries_in, next_entry, step_at, peek_at, IsStep, IsWalk};
 ghost use Rattle.core_log.specs.Entries.{open_entries, added_entries, HasEntries, HasEntriesOrLacks, AppendedBatch};
 
 use crate::chunk::append_at;
@@ -196,8 +196,7 @@ impl CoreLog {
         ensures placed { IfOk result (λ p. (self.old.opened ≡ Some p.chunk)
             × (p.place ≡ open_tail self.old)) }
         ensures err { OnErr result (self.new ≡ self.old) }
-        ensures cause { OnErr result
-            (Rose (R.state region.old).faults (R.state region.new).faults) }
+        ensures cause { OnErr result (Faulted (R.state region.old) (R.state region.new)) }
     {
         let place = self.open_place();
         let at = self.first_of(place.chunk);
@@ -222,11 +221,10 @@ impl CoreLog {
         // No word outside the head's first line is stored or flushed.
         ensures outside { During (R.state region.old) (R.state region.new)
             (KeepsOutside (cell_now (R.state region.old)) (first_of self.old chunk)
-            (first_of self.old chunk + 8)) }
+            (first_of self.old chunk + LINE_WORDS)) }
         ensures ok { OnOk result (OpenedChunk (R.state region.new) self.old self.new chunk) }
         ensures err { OnErr result (self.new ≡ self.old) }
-        ensures cause { OnErr result
-            (Rose (R.state region.old).faults (R.state region.new).faults) }
+        ensures cause { OnErr result (Faulted (R.state region.old) (R.state region.new)) }
     {
         let at = self.first_of(chunk);
         set_head(region, at, Head::Log { tail: 0 })?;
@@ -258,11 +256,10 @@ impl CoreLog {
         // No word outside the head's first line is stored or flushed.
         ensures outside { During (R.state region.old) (R.state region.new)
             (KeepsOutside (cell_now (R.state region.old)) (first_of self.old chunk)
-            (first_of self.old chunk + 8)) }
+            (first_of self.old chunk + LINE_WORDS)) }
         ensures ok { OnOk result (RetiredChunk (R.state region.new) self.old self.new chunk) }
         ensures err { OnErr result (self.new ≡ self.old) }
-        ensures cause { OnErr result
-            (Rose (R.state region.old).faults (R.state region.new).faults) }
+        ensures cause { OnErr result (Faulted (R.state region.old) (R.state region.new)) }
     {
         let at = self.first_of(chunk);
         set_head(region, at, Head::Free)?;

@@ -1,13 +1,14 @@
 // What the part of a log is in images while the log is written, for callers whose promises speak of the whole part.
 ghost use Rattle.std.specs.Prelude.{◌≡◌, ◌⊎◌, ℕ, ◌+◌, ◌≤◌, ◌<◌, List, [], length, None, true, is_some};
 ghost use Rattle.std.specs.List.{flat_map};
+ghost use Rattle.pm_region.specs.declared.region_sizes.TheConstants.{LINE_WORDS};
 ghost use Rattle.pm_region.specs.State.{State, IsTelling, cell_now, During};
-ghost use Rattle.pm_region.specs.Words.{KeepsOutside, Surely};
+ghost use Rattle.pm_region.specs.Words.{KeepsOutside, Surely, lines_for};
 ghost use Rattle.chunk_map.specs.Layouts.{chunk_words};
 ghost use Rattle.log_entry.specs.declared.entry.Entry.{Entry};
 ghost use Rattle.log_entry.specs.Spelling.{words_of};
 ghost use Rattle.log_entry.specs.Batches.{IsBatch};
-ghost use Rattle.core_log.specs.Chunk.{lines_for, padded, words_now, HasOrLacks, FreeOrEmpty, FreeOrLog};
+ghost use Rattle.core_log.specs.Chunk.{padded, words_now, HasOrLacks, FreeOrEmpty, FreeOrLog};
 ghost use Rattle.core_log.specs.Log.{LogState, StandsIn, tail_of, tail_in, first_of, open_first, open_tail, room_of, EachInOpen};
 ghost use Rattle.core_log.specs.Entries.{AppendedBatch};
 ghost use Rattle.core_log.specs.Opening.{EachInChunk};
@@ -39,7 +40,7 @@ pub fn every_opening()
     ensures { (s t : State) (log : LogState) (chunk : ℕ) → StandsIn s log
         → chunk < log.layout.chunks
         → (IsTelling s → Surely (cell_now s (first_of log chunk)) 0)
-        → During s t (KeepsOutside (cell_now s) (first_of log chunk) (first_of log chunk + 8))
+        → During s t (KeepsOutside (cell_now s) (first_of log chunk) (first_of log chunk + LINE_WORDS))
         → During s t (EachInChunk log chunk (FreeOrEmpty (first_of log chunk)))
         → During s t (EachInPart log (GainsSince s log [])) }
 {}
@@ -49,7 +50,7 @@ pub fn every_opening()
 pub fn every_freeing()
     ensures { (s t : State) (log : LogState) (chunk : ℕ) → StandsIn s log
         → is_some (tail_of log.chunks chunk) ≡ true
-        → During s t (KeepsOutside (cell_now s) (first_of log chunk) (first_of log chunk + 8))
+        → During s t (KeepsOutside (cell_now s) (first_of log chunk) (first_of log chunk + LINE_WORDS))
         → During s t (EachInChunk log chunk (FreeOrLog (first_of log chunk) (tail_in log chunk)
         (words_now s (first_of log chunk) (tail_in log chunk))))
         → During s t (EachInPart log (λ image. GainsSince s log [] image

@@ -1,6 +1,6 @@
 // A log is read by places.
 ghost use Rattle.std.specs.Prelude.{◌≡◌, ◌≢◌, ◌⊎◌, ℕ, ◌+◌, ◌-◌, ◌*◌, ◌/◌, ◌%◌, ◌^◌, ◌≤◌, ◌<◌, length, option_map, Option, IfOk, IfSome};
-ghost use Rattle.pm_region.specs.State.{State, Frame, IsTelling, cell_now};
+ghost use Rattle.pm_region.specs.State.{State, Frame, IsTelling, cell_now, WordsLie};
 ghost use Rattle.pm_region.specs.Words.{lasts};
 ghost use Rattle.log_entry.specs.Words.{words_from};
 ghost use Rattle.log_entry.specs.Batches.{scan_of};
@@ -16,10 +16,7 @@ use std::alloc::Global;
 
 // The first place that has no zero word, from a place on; the tail where there is none.
 fn skip_zeros<R: Region>(region: &R, first: u64, place: u64, tail: u64) -> u64
-    requires low { (R.state region.now).frame.first ≤ first }
-    requires high { first + tail ≤ (R.state region.now).frame.first
-        + (R.state region.now).frame.words }
-    requires fits { first + tail < 2 ^ 64 }
+    requires lies { WordsLie (R.state region.now).frame first tail }
     requires place { place ≤ tail }
     ensures from { place ≤ result }
     ensures end { result ≤ tail }
@@ -38,10 +35,7 @@ fn skip_zeros<R: Region>(region: &R, first: u64, place: u64, tail: u64) -> u64
 
 /// The next entry at or after a place of a payload, without its body. The payload begins at word `first`.
 pub fn peek_from<R: Region>(region: &R, first: u64, place: u64, tail: u64) -> Option<Peek>
-    requires low { (R.state region.now).frame.first ≤ first }
-    requires high { first + tail ≤ (R.state region.now).frame.first
-        + (R.state region.now).frame.words }
-    requires fits { first + tail < 2 ^ 64 }
+    requires lies { WordsLie (R.state region.now).frame first tail }
     requires place { place ≤ tail }
     requires spelled { IsTelling (R.state region.now)
         → Spelled (words_from (lasts (R.state region.now)) first tail) }
@@ -87,10 +81,7 @@ pub fn walk_from<R: Region>(
     place: u64,
     tail: u64,
 ) -> Result<Option<WalkStep>, Memory>
-    requires low { (R.state region.now).frame.first ≤ first }
-    requires high { first + tail ≤ (R.state region.now).frame.first
-        + (R.state region.now).frame.words }
-    requires fits { first + tail < 2 ^ 64 }
+    requires lies { WordsLie (R.state region.now).frame first tail }
     requires place { place ≤ tail }
     requires spelled { IsTelling (R.state region.now)
         → Spelled (words_from (lasts (R.state region.now)) first tail) }

@@ -1,11 +1,11 @@
 // What a value needs: lines of the log, and a block.
 ghost use Rattle.std.specs.Prelude.{◌≡◌, ◌+◌, ◌-◌, ◌/◌, ◌≤◌, ◌<◌, ◌^◌, length};
 ghost use Rattle.std.specs.List.{AllByRecursion};
-ghost use Rattle.chunk_map.specs.Layouts.{IsLayout};
+ghost use Rattle.chunk_map.specs.Layouts.{IsLayout, longest_value};
 ghost use Rattle.core_room.specs.Lengths.{lines_needed, class_for, lines_to_copy};
 
 use chunk_map::Layout;
-use chunk_map::layout_sizes::{LONGEST_VALUE, SHORTEST_IN_BLOCK};
+use chunk_map::layout_sizes::{LEAST_BLOCKS, LONGEST_VALUE, SHORTEST_IN_BLOCK};
 use lazy_alloc::class_of;
 use log_entry::MOST_ENTRIES;
 use pm_region::{LINE_WORDS, WORD_BYTES};
@@ -21,12 +21,12 @@ pub fn byte_count(value: &[u8]) -> u64
 
 /// The bytes of the longest value that a block of the layout holds.
 pub fn longest_value(layout: &Layout) -> u64
-    ensures value { result ≡ layout.now.chunk_bytes / 4 - 8 }
+    ensures value { result ≡ longest_value layout.now }
     ensures small { result ≤ LONGEST_VALUE }
     ensures rules { IsLayout layout.now }
 {
     let numbers = layout.geometry();
-    numbers.chunk_bytes / 4 - WORD_BYTES
+    numbers.chunk_bytes / LEAST_BLOCKS - WORD_BYTES
 }
 
 /// The lines of the log that a put of so many bytes takes.

@@ -4,6 +4,7 @@ use fs_model::Version;
 /// The numbers by which a change was refused for want of room, of its core at that moment.
 #[derive(Clone, Copy, Debug, PartialEq, Eq)]
 pub struct Counts {
+    /// Free chunks of the core's part.
     pub free_chunks: u32,
     /// Free lines of the open log chunk.
     pub open_lines: u64,

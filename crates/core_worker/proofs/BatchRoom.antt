@@ -2,6 +2,7 @@
 use Rattle.std.proofs.Common.{◌≡◌, inl, inr, ⊎_elim, ℕ, ◌+◌, ◌-◌, ◌*◌, ◌/◌, ◌≤◌, Bool, true, false, List, [], ◌∷◌, length, Option, Some, None, refl, sym, ◌∙◌, ap, subst, arith}
 use Rattle.std.specs.Prelude.{is_some, unwrap_or}
 use Rattle.std.specs.List.{AllByRecursion}
+use Rattle.pm_region.specs.Words.{lines_for}
 use Rattle.chunk_map.specs.Layouts.{IsLayout, payload_lines, numbers}
 use Rattle.chunk_map.proofs.Clients.{numbers_of}
 use Rattle.log_entry.specs.declared.entry.Body.TheVariants as bodies
@@ -9,7 +10,7 @@ use Rattle.log_entry.specs.declared.entry.Entry.{Entry}
 use Rattle.log_entry.specs.Spelling.{HasSpelling, words_of}
 use Rattle.log_entry.proofs.Clients.{length-packed_in}
 use Rattle.log_entry.specs.Words.{words_for}
-use Rattle.core_log.specs.Chunk.{lines_for, padded}
+use Rattle.core_log.specs.Chunk.{padded}
 use Rattle.core_log.specs.Log.{LogState, with_tail, open_number, open_tail, lines_left, room_of, tail_of}
 use Rattle.core_log.proofs.Clients.{tail_set, length-padded}
 use Rattle.lazy_alloc.specs.Sets.{Sets, chunk_is_free, free_chunk_count}

@@ -1,12 +1,12 @@
 -- What a batch that is written spends of the core's room.
 use Rattle.std.proofs.Common.{◌≡◌, ℕ, ◌+◌, ◌-◌, ◌≤◌, ◌&&◌, not, Bool, true, false, cond, List, [], ◌∷◌, length, Option, Some, None, refl, ◌∙◌, ap, arith, length-append}
 use Rattle.std.specs.Prelude.{is_some}
+use Rattle.pm_region.specs.Words.{lines_for}
 use Rattle.log_entry.specs.declared.entry.Entry.{Entry}
 use Rattle.log_entry.specs.declared.entry.Body.{Body}
 use Rattle.log_entry.specs.declared.entry.Body.TheVariants as bodies
 use Rattle.log_entry.specs.Spelling.{words_of}
 use Rattle.chunk_map.specs.Layouts.{payload_lines}
-use Rattle.core_log.specs.Chunk.{lines_for}
 use Rattle.core_log.specs.Log.{room_of, lines_left}
 use Rattle.chunk_map.specs.Layouts.{numbers}
 use Rattle.core_worker.proofs.Writing.{none_counted}

@@ -2,12 +2,12 @@
 use Rattle.std.proofs.Common.{◌≡◌, inl, ⊎_elim, ℕ, zero, suc, ◌<◌, ◌≤◌, ◌&&◌, nat_le, nat_lt, Bool, true, false, cond, List, [], ◌∷◌, length, Option, Some, None, refl, sym, ◌∙◌, ap, subst, arith}
 use Rattle.std.proofs.lemmas.Bool.{eq-eqb, and_from}
 use Rattle.std.proofs.lemmas.Bool.Decides.{nat_tests}
+use Rattle.pm_region.specs.Words.{lines_for}
 use Rattle.log_entry.specs.declared.entry.Body.TheVariants as bodies
 use Rattle.log_entry.specs.declared.entry.Entry.{Entry}
 use Rattle.log_entry.specs.Spelling.{HasSpelling, words_of}
 use Rattle.log_entry.specs.Words.{words_for}
 use Rattle.log_entry.proofs.Clients.{length-packed_in}
-use Rattle.core_log.specs.Chunk.{lines_for}
 use Rattle.core_log.specs.declared.types.Room.{Room}
 use Rattle.store_image.specs.Facts.{In}
 use Rattle.group_laws.specs.declared.types.Pending.{Pending}

@@ -8,13 +8,12 @@ use Rattle.std.proofs.lemmas.Bool.{cases_eq, eq-eqb, ne_eqb}
 use Rattle.fs_model.specs.declared.model.Request.{Request}
 use Rattle.fs_model.specs.Cells.{key_of}
 use Rattle.pm_region.specs.State.{State, During, IsTelling, cell_now, Rose}
-use Rattle.pm_region.specs.Words.{KeepsOutside}
+use Rattle.pm_region.specs.Words.{KeepsOutside, lines_for}
 use Rattle.pm_region.proofs.Clients.{started, all_kept}
 use Rattle.log_entry.specs.declared.entry.Entry.{Entry}
 use Rattle.log_entry.specs.declared.entry.Body.{Body}
 use Rattle.log_entry.specs.declared.entry.Body.TheVariants as bodies
 use Rattle.log_entry.specs.Spelling.{HasSpelling, words_of}
-use Rattle.core_log.specs.Chunk.{lines_for}
 use Rattle.core_index.specs.Index.{known_at}
 use Rattle.core_index.specs.Records.{KeyRecord, Awaits, pointer_of, block_of, last_of, standing_of, standing_at, is_forgettable}
 use Rattle.lazy_alloc.specs.Sets.{Sets}

@@ -8,12 +8,12 @@ use Rattle.licence.specs.Licence.{grounded}
 use Rattle.licence.proofs.Clients.{allowed}
 use Rattle.core_worker.specs.Ties.{LeadsAt}
 use Rattle.std.proofs.lemmas.Bool.{cases_eq, eqb-true, eq-eqb, ne_eqb}
+use Rattle.pm_region.specs.Words.{lines_for}
 use Rattle.pm_region.specs.State.{State}
 use Rattle.log_entry.specs.declared.entry.Entry.{Entry}
 use Rattle.log_entry.specs.declared.entry.Body.{Body}
 use Rattle.log_entry.specs.declared.entry.Body.TheVariants as bodies
 use Rattle.log_entry.specs.Spelling.{words_of, HasSpelling}
-use Rattle.core_log.specs.Chunk.{lines_for}
 use Rattle.group_laws.specs.declared.types.Pending.{Pending}
 use Rattle.group_laws.specs.Places.{Place, owner}
 use Rattle.group_laws.specs.Steps.{with_block}

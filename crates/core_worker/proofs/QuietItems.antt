@@ -5,12 +5,12 @@ use Rattle.std.specs.Global.{Global}
 use Rattle.std.specs.List.{AllByRecursion}
 use Rattle.std.proofs.lemmas.Bool.{leb-true, ltb-true, le-ltb, and_parts}
 use Rattle.std.proofs.lemmas.List.Sums.{sum_by-append}
+use Rattle.pm_region.specs.Words.{lines_for}
 use Rattle.pm_region.specs.State.{State}
 use Rattle.pm_region.proofs.Clients.{started, all_kept}
 use Rattle.log_entry.specs.declared.entry.Entry.{Entry}
 use Rattle.log_entry.specs.Spelling.{words_of}
 use Rattle.core_log.specs.declared.types.Room.{Room}
-use Rattle.core_log.specs.Chunk.{lines_for}
 use Rattle.core_log.specs.Log.{LogState, room_of}
 use Rattle.lazy_alloc.specs.Sets.{Sets}
 use Rattle.group_laws.specs.declared.types.Seen.{Seen}

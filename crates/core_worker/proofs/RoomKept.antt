@@ -1,13 +1,13 @@
 -- The room rule is kept where a change is staged that was not refused.
 use Rattle.std.proofs.Common.{◌≡◌, Option, Some, ◌/◌, ◌⊎◌, inl, inr, ⊎_elim, ℕ, zero, suc, ◌+◌, ◌<◌, ◌≤◌, ◌==◌, ◌&&◌, leb, ltb, Bool, true, false, cond, List, [], ◌∷◌, length, refl, sym, ◌∙◌, ap, subst, arith}
 use Rattle.std.proofs.lemmas.Bool.{lt-leb, ltb-false, leb-true, and_parts, or_cases}
+use Rattle.pm_region.specs.Words.{lines_for}
 use Rattle.log_entry.specs.declared.entry.Entry.{Entry}
 use Rattle.log_entry.specs.declared.entry.Body.TheVariants as bodies
 use Rattle.log_entry.specs.Spelling.{words_of}
 use Rattle.log_entry.specs.Words.{words_for}
 use Rattle.log_entry.proofs.Clients.{length-packed_in}
 use Rattle.core_room.specs.Lengths.{lines_needed}
-use Rattle.core_log.specs.Chunk.{lines_for}
 use Rattle.core_log.specs.Log.{room_of}
 use Rattle.pm_region.specs.State.{State}
 use Rattle.lazy_alloc.specs.Written.{WroteValue}

@@ -3,6 +3,7 @@ use Rattle.std.proofs.Common.{◌≡◌, inl, ⊎_elim, ℕ, ◌+◌, ◌-◌, �
 use Rattle.std.specs.Prelude.{is_some}
 use Rattle.std.proofs.lemmas.Bool.{ltb-false, leb-true, le-leb, lt-leb, le-ltb, and_parts, and_from, eq-eqb, ne_eqb, cases_eq}
 use Rattle.std.proofs.lemmas.List.Sums.{sum_by-append}
+use Rattle.pm_region.specs.Words.{lines_for}
 use Rattle.fs_model.specs.declared.model.Request.{Request}
 use Rattle.fs_model.specs.declared.model.Request.TheVariants.{Put, Get, Delete}
 use Rattle.pm_region.specs.State.{State}
@@ -13,7 +14,6 @@ use Rattle.log_entry.specs.Spelling.{HasSpelling, words_of}
 use Rattle.chunk_map.specs.declared.layout_sizes.TheConstants.{GREATEST_CLASS}
 use Rattle.chunk_map.specs.declared.layouts.Geometry.{Geometry}
 use Rattle.chunk_map.specs.Layouts.{has_class, is_class, payload_lines}
-use Rattle.core_log.specs.Chunk.{lines_for}
 use Rattle.core_room.specs.Lengths.{class_for, lines_needed}
 use Rattle.lazy_alloc.specs.Sets.{Sets, AreSets, Takes, TakesBlock, Cuts, class_at, chunk_class, part_unit, free_chunk_count, free_block_count, is_free_block, blocks_in}
 use Rattle.lazy_alloc.specs.Written.{WroteValue}

@@ -1,11 +1,11 @@
 -- What a worker knows of its keys, as its view has it.
 use Rattle.std.specs.Prelude.{◌≡◌, ◌≢◌, ◌⊎◌, ℕ, ◌+◌, ◌≤◌, true, List, length, Option, Some, None, option_map}
+use Rattle.pm_region.specs.Words.{lines_for}
 use Rattle.log_entry.specs.declared.entry.Body.{Body}
 use Rattle.log_entry.specs.declared.entry.Body.TheVariants as bodies
 use Rattle.log_entry.specs.declared.entry.Entry.{Entry}
 use Rattle.log_entry.specs.Spelling.{HasSpelling, words_of}
 use Rattle.chunk_map.specs.Layouts.{has_class}
-use Rattle.core_log.specs.Chunk.{lines_for}
 use Rattle.core_index.specs.Records.{KeyRecord, last_of, standing_of, standing_at}
 use Rattle.core_index.specs.declared.types.Standing.{Standing}
 use Rattle.store_image.specs.Facts.{In}

@@ -5,6 +5,7 @@ use Rattle.chunk_map.specs.declared.layout_sizes.TheConstants.{SHORTEST_IN_BLOCK
 use Rattle.fs_model.specs.declared.model.Request.{Request}
 use Rattle.fs_model.specs.declared.model.Request.TheVariants as requests
 use Rattle.fs_model.specs.Cells.{key_of}
+use Rattle.log_entry.specs.Words.{byte_range}
 use Rattle.core_index.specs.Index.{known_at}
 use Rattle.core_index.specs.Records.{last_of, live_version}
 use Rattle.core_room.specs.declared.types.Shortage.{Shortage}
@@ -37,7 +38,7 @@ pub record PutsBeside (w : Worker) (key : ℕ) (value : List ℕ) (version : ℕ
       ≡ None
   pub version_is : version ≡ last_version w key + 1
   pub short : length value < SHORTEST_IN_BLOCK
-  pub bytes : AllByRecursion (λ b. b < 256) value
+  pub bytes : AllByRecursion (λ b. b < byte_range) value
 
 -- A put is not refused, and its value gets a block of the class, for which a chunk may be cut or not.
 pub record PutsInBlock (w : Worker) (key : ℕ) (value : List ℕ) (version class : ℕ)

@@ -1,10 +1,10 @@
 -- Posting a change that needs no block.
 use Rattle.std.specs.Prelude.{◌≡◌, ◌⊎◌, ℕ, true, List, length, Option}
+use Rattle.pm_region.specs.Words.{lines_for}
 use Rattle.log_entry.specs.declared.entry.Entry.{Entry}
 use Rattle.log_entry.specs.declared.entry.Body.{Body}
 use Rattle.log_entry.specs.declared.entry.Body.TheVariants as bodies
 use Rattle.log_entry.specs.Spelling.{words_of}
-use Rattle.core_log.specs.Chunk.{lines_for}
 use Rattle.pm_region.specs.State.{State}
 use Rattle.group_laws.specs.Places as places
 use Rattle.group_laws.specs.State.{Group}

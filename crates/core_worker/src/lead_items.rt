@@ -1,6 +1,6 @@
 // What a turn does for the group: trying the lock, collecting, writing the batch, and giving its changes back.
 ghost use Rattle.std.specs.Prelude.{◌≡◌, ◌≢◌, ◌⊎◌, ℕ, ◌+◌, ◌≤◌, ◌<◌, Bool, true, false, List, [], ◌∷◌, length, is_some, Option, OnOk, MatchOption};
-ghost use Rattle.pm_region.specs.State.{State, During, IsTelling, cell_now, Rose};
+ghost use Rattle.pm_region.specs.State.{State, During, IsTelling, cell_now, Faulted};
 ghost use Rattle.pm_region.specs.Words.{KeepsOutside};
 ghost use Rattle.group_laws.specs.Runs as runs;
 ghost use Rattle.group_laws.specs.declared.types.Seen.TheVariants as loads;
@@ -31,6 +31,7 @@ use crate::worker::Worker;
 use batch_leader::{Collected, FailedBatch, Persisted, Released, lead};
 use core_log::Room;
 use group_board::Board;
+use group_laws::group_sizes::SLOTS;
 use lazy_alloc::Allocator;
 use pm_region::Region;
 use std::mem;
@@ -101,9 +102,9 @@ fn unpledge_at(places: &mut Vec<Place>, slot: u32)
 
 // The places of the own changes that are certain pledge nothing any more.
 fn unpledge(places: &mut Vec<Place>, done: &Persisted, own: u32)
-    requires eight { length places.old.items ≡ 8 }
-    ensures count { length places.new.items ≡ 8 }
-    ensures each { (s : ℕ) → s < 8 → place_at places.new.items s
+    requires eight { length places.old.items ≡ SLOTS }
+    ensures count { length places.new.items ≡ SLOTS }
+    ensures each { (s : ℕ) → s < SLOTS → place_at places.new.items s
         ≡ unpledged_if (is_some (taken_in done.now.left.taken.items own s))
         (place_at places.old.items s) }
 {
@@ -243,7 +244,7 @@ impl Worker {
         ensures made { MadeOrStops self.new.stopped (B.whole board.old) (B.whole board.new)
             (B.seat board.old).number (B.view board.old) (B.view board.new) }
         ensures cause { self.new.stopped ≡ true
-            → Rose (R.state region.old).faults (R.state region.new).faults }
+            → Faulted (R.state region.old) (R.state region.new) }
         // The rule is one of a core that hasn't stopped.
         ensures rule { self.new.stopped ≡ false → HasKeptRoom self.old → HasKeptRoom self.new }
         ensures persists { PersistsOrLoses self.new.stopped (B.seat board.old).number

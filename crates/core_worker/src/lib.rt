@@ -4,6 +4,7 @@
 mod accepting;
 mod batch_names;
 mod begin_request;
+mod begin_waiting;
 mod choose_item;
 mod finish_item;
 mod gate;
@@ -13,7 +14,6 @@ mod open_worker;
 mod planning;
 mod post_item;
 mod posted_places;
-mod releasing;
 mod search_places;
 mod status;
 mod stop_worker;

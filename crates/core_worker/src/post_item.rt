@@ -1,6 +1,6 @@
 // Posting a staged change.
 ghost use Rattle.std.specs.Prelude.{◌≡◌, ◌≢◌, ◌⊎◌, ℕ, ◌+◌, ◌≤◌, ◌<◌, Bool, true, false, List, [], ◌∷◌, length, Option, Some, None, OnOk, OnErr, not};
-ghost use Rattle.pm_region.specs.State.{State, During, IsTelling, cell_now, Rose};
+ghost use Rattle.pm_region.specs.State.{State, During, IsTelling, cell_now, Faulted};
 ghost use Rattle.pm_region.specs.Words.{KeepsOutside, EachIn};
 ghost use Rattle.log_entry.specs.declared.entry.Entry.{Entry};
 ghost use Rattle.log_entry.specs.declared.entry.Body.TheVariants as bodies;
@@ -27,6 +27,7 @@ use crate::types::Place;
 use crate::worker::Worker;
 use crash_core::Change;
 use group_board::Board;
+use group_laws::group_sizes::SLOTS;
 use lazy_alloc::Allocator;
 use log_entry::entry_lines;
 use pm_region::{Region, RegionFault};
@@ -73,7 +74,7 @@ fn write_for<R: Region, B: Board>(
     ensures ok { OnOk result ((class : ℕ) → class_at allocator.old pointer ≡ Some class
         → WroteValue (R.state region.new) allocator.old allocator.new pointer class value.now) }
     ensures err { OnErr result (allocator.new ≡ allocator.old) }
-    ensures cause { OnErr result (Rose (R.state region.old).faults (R.state region.new).faults) }
+    ensures cause { OnErr result (Faulted (R.state region.old) (R.state region.new)) }
 {
     allocator.write_value(region, pointer, value)
 }
@@ -109,7 +110,7 @@ impl Worker {
             (B.view board.now) self.old }
         requires runs { self.old.stopped ≡ false }
         requires nothing { LeadsNothing self.old }
-        requires slot { slot < 8 }
+        requires slot { slot < SLOTS }
         requires staged { IsStagedWith (place_at self.old.places.items slot) pointer }
         ensures moments { StaysLicensed (R.state region.old) (R.state region.new)
             (B.seat board.now) (B.view board.now) }
@@ -126,8 +127,7 @@ impl Worker {
             ≡ free_chunk_count self.old.allocator }
         ensures blocks { (class : ℕ) → free_block_count self.new.allocator class
             ≡ free_block_count self.old.allocator class }
-        ensures cause { result ≡ false → Rose (R.state region.old).faults
-            (R.state region.new).faults }
+        ensures cause { result ≡ false → Faulted (R.state region.old) (R.state region.new) }
     {
         match place_in(&self.places, slot) {
             Place::Staged { value, .. } => {
@@ -148,7 +148,7 @@ impl Worker {
         requires holds { HoldsAt (B.seat board.old) (B.view board.old) self.old }
         requires runs { self.old.stopped ≡ false }
         requires nothing { LeadsNothing self.old }
-        requires slot { slot < 8 }
+        requires slot { slot < SLOTS }
         requires staged { HasNoBlock (place_at self.old.places.items slot) }
         ensures seat { B.seat board.new ≡ B.seat board.old }
         ensures holds { HoldsAt (B.seat board.old) (B.view board.new) self.new }
@@ -186,7 +186,7 @@ impl Worker {
         requires holds { HoldsAt (B.seat board.old) (B.view board.old) self.old }
         requires runs { self.old.stopped ≡ false }
         requires nothing { LeadsNothing self.old }
-        requires slot { slot < 8 }
+        requires slot { slot < SLOTS }
         requires staged { IsStagedWith (place_at self.old.places.items slot) pointer }
         ensures seat { B.seat board.new ≡ B.seat board.old }
         ensures holds { HoldsAt (B.seat board.old) (B.view board.new) self.new }
@@ -230,7 +230,7 @@ impl Worker {
             (B.view board.old) self.old }
         requires runs { self.old.stopped ≡ false }
         requires nothing { LeadsNothing self.old }
-        requires slot { slot < 8 }
+        requires slot { slot < SLOTS }
         requires staged { IsStagedWith (place_at self.old.places.items slot) pointer }
         ensures seat { B.seat board.new ≡ B.seat board.old }
         ensures moments { StaysLicensed (R.state region.old) (R.state region.new)
@@ -249,7 +249,7 @@ impl Worker {
         ensures order { InOrderAt (B.seat board.old) (B.view board.old) self.old
             → InOrderAt (B.seat board.old) (B.view board.new) self.new }
         ensures cause { self.new.stopped ≡ true
-            → Rose (R.state region.old).faults (R.state region.new).faults }
+            → Faulted (R.state region.old) (R.state region.new) }
     {
         if self.write_staged(region, &*board, slot, pointer) {
             self.post_written(board, slot, pointer);

@@ -7,6 +7,7 @@ use log_entry::Entry;
 /// One of the eight places, which are numbered as the core's slots.
 #[derive(Drop)]
 pub enum Place {
+    /// For the next change that is begun.
     Free,
     /// A change that is to be posted, with the number of its request. `value` is what its block is to hold, empty where it
     /// has none.
@@ -27,10 +28,15 @@ pub enum Place {
 /// What the core leads, and how far.
 #[derive(Drop)]
 pub enum Leading {
+    /// It leads nothing, and keeps the buffer for its next batch.
     Nothing(BatchBuffer),
+    /// It has the lock, and takes posted changes.
     Collecting(Collecting),
+    /// The lock is given back, and the batch is to be written.
     Batch(Batch),
+    /// The batch is certain in the own log. Its changes are marked, one a turn.
     Persisted(Persisted),
+    /// The batch could not be written, and the core has stopped. Its changes are given back as failed, one a turn.
     Failed(FailedBatch),
     /// Between two of these, inside a call.
     Between,
@@ -39,14 +45,18 @@ pub enum Leading {
 /// A chunk that is cleaned: how many entries, and how many words of them, are still to be copied.
 #[derive(Clone, Copy, Debug, PartialEq, Eq)]
 pub struct Victim {
+    /// By its number in the part.
     pub chunk: u32,
+    /// Perhaps more than there are, never fewer.
     pub entries: u64,
+    /// Perhaps more than there are, never fewer.
     pub words: u64,
 }
 
 /// How far a cleaning is.
 #[derive(Clone, Copy, Debug, PartialEq, Eq)]
 pub enum Cleaning {
+    /// No cleaning is under way.
     Nothing,
     /// `first` until its first copy is made.
     Copying { victim: Victim, first: bool },
@@ -84,20 +94,26 @@ pub(crate) enum Plan {
 /// The answer to a request, by its number.
 #[derive(Drop)]
 pub struct Answer {
+    /// As `accept` was given it.
     pub number: u64,
+    /// With the bytes of the value, where it shows one.
     pub reply: Reply,
+    /// The cause of a Full, a VersionsSpent or a TooLong; else none.
     pub refusal: Option<Shortage>,
 }
 
 /// A request that was not accepted, for want of memory.
 #[derive(Drop)]
 pub struct NotAccepted {
+    /// As it was given, to be tried again or left.
     pub request: Request,
 }
 
 /// Whether a turn found something to do.
 #[derive(Clone, Copy, Debug, PartialEq, Eq)]
 pub enum Turn {
+    /// It did one item of the order of work.
     Moved,
+    /// No item applied. It made loads alone.
     Idle,
 }

@@ -1,6 +1,7 @@
 -- The steps as data: what each asks and leaves, and what a list of them leads to.
 use Rattle.std.specs.Prelude.{◌≡◌, ℕ, ◌+◌, ◌*◌, ◌<◌, List, [], ◌∷◌, take, Bool, true, false, Some, None, Result, Ok, Err, ◌⊎◌, slice_get}
 use Rattle.std.proofs.Common.{inl, inr}
+use Rattle.group_laws.specs.declared.group_sizes.TheConstants.{LOCK_WORDS, SLOTS}
 use Rattle.group_laws.specs.Places.{members}
 use Rattle.group_laws.specs.State.{Group}
 use Rattle.group_laws.specs.Invariant.{Lawful}
@@ -21,12 +22,18 @@ use Rattle.crash_core.specs.declared.kinds.StepsError.TheVariants as stops
 use Rattle.crash_core.specs.declared.state.GroupState.{GroupState}
 use Rattle.crash_core.specs.Shows.{group_of, notices_of}
 
--- The numbers of the words of a table with n members: behind the lock and the members' own words the slots, and behind these the mailboxes.
+-- The words of a table with n members, by number: the lock, a word of its own for each member, the members' slots, and a mailbox for each pair of members.
+abbrev pub first_slot_word : ℕ → ℕ
+first_slot_word n = LOCK_WORDS + n
+
 abbrev pub slot_word : ℕ → ℕ → ℕ → ℕ
-slot_word n a s = 1 + n + 8 * a + s
+slot_word n a s = first_slot_word n + SLOTS * a + s
+
+abbrev pub first_mail_word : ℕ → ℕ
+first_mail_word n = LOCK_WORDS + (1 + SLOTS) * n
 
 abbrev pub mail_word : ℕ → ℕ → ℕ → ℕ
-mail_word n a b = 1 + 9 * n + n * a + b
+mail_word n a b = first_mail_word n + n * a + b
 
 -- member m's step of this kind is enabled at w, and leaves u
 abbrev pub IsMade : Group → ℕ → Kind → Group → Type 0

@@ -8,6 +8,7 @@ use log_entry::entry::Entry;
 /// An entry on its way between cores.
 #[derive(Drop)]
 pub struct Change {
+    /// As it is to stand in a log.
     pub entry: Entry,
     /// The member in whose log the entry is certain. None before that.
     pub home: Option<u32>,
@@ -83,7 +84,9 @@ pub enum Kind {
 /// What a member does, and which.
 #[derive(Drop)]
 pub struct Step {
+    /// The one whose step it is.
     pub member: u32,
+    /// With the data that this kind of step takes.
     pub kind: Kind,
 }
 

@@ -12,6 +12,7 @@ use crate::sizes::words_in;
 use crate::state::GroupState;
 use crate::tables::{has_member, mail_at, posted_at, saw, word_at};
 use fs_errors::Memory;
+use group_laws::group_sizes::SLOTS;
 use group_laws::types::{Seen, Slot, SlotWord};
 use log_entry::entry::Entry;
 use std::alloc::Global;
@@ -93,7 +94,7 @@ pub fn look_at_slot(
 ) -> Result<bool, Memory>
     ensures { IfOk result (λ made. Makes made state.old member (Look owner slot) state.new) }
 {
-    if !has_member(state, member) || !has_member(state, owner) || slot >= 8 {
+    if !has_member(state, member) || !has_member(state, owner) || slot >= SLOTS {
         return Ok(false);
     }
     let word = word_at(state, owner, slot);
@@ -120,7 +121,7 @@ fn may_take_from(state: &GroupState, member: u32, owner: u32, slot: u32, entry: 
     ensures { (group_of state.now).slot owner slot ≡ Posted entry.now
         → IsTrue result ↔ CanTake (group_of state.now) member owner slot entry.now }
 {
-    if !has_member(state, member) || !has_member(state, owner) || slot >= 8 {
+    if !has_member(state, member) || !has_member(state, owner) || slot >= SLOTS {
         return false;
     }
     let view = &state.views[member as usize];

@@ -17,6 +17,7 @@ use crate::state::GroupState;
 use crate::tables::has_member;
 use fs_errors::Memory;
 use fs_model::model::Value;
+use group_laws::group_sizes::{LOCK_WORDS, SLOTS};
 use std::alloc::Global;
 
 /// A word of a group's table that guards something.
@@ -33,14 +34,16 @@ fn word_numbered(members: u32, word: u64) -> Option<Word>
     ensures { IsWordOf members word result }
 {
     let n = members as u64;
-    if word < 1 + n {
+    let slots = SLOTS as u64;
+    let first_slot = LOCK_WORDS as u64 + n;
+    if word < first_slot {
         return None;
     }
-    let slot = word - 1 - n;
-    if slot < 8 * n {
-        return Some(Word::Slot((slot / 8) as u32, (slot % 8) as u32));
+    let slot = word - first_slot;
+    if slot < slots * n {
+        return Some(Word::Slot((slot / slots) as u32, (slot % slots) as u32));
     }
-    let mail = slot - 8 * n;
+    let mail = slot - slots * n;
     if mail < n * n {
         return Some(Word::Mail((mail / n) as u32, (mail % n) as u32));
     }

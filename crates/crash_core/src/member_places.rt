@@ -4,6 +4,7 @@ ghost use Rattle.group_laws.specs.Places.{owner, first_unit, units, LiesIn, Apar
 
 use chunk_map::layout_sizes::{FIRST_UNIT, UNIT_BYTES};
 use chunk_map::layouts::Layout;
+use pm_region::WORD_BYTES;
 
 /// The member that owns a key, or the number of members where another group has it.
 #[tactic(auto, unfolding(group_laws::specs::Places::owner))]
@@ -56,29 +57,30 @@ pub fn units_of(length: usize) -> u64
     requires { length < 2 ^ 63 }
     ensures { result ≡ units length }
 {
-    if length + 8 <= 512 {
+    let bytes = length as u64 + WORD_BYTES;
+    if bytes <= 2 * UNIT_BYTES {
         2
-    } else if length + 8 <= 1024 {
+    } else if bytes <= 4 * UNIT_BYTES {
         4
-    } else if length + 8 <= 2048 {
+    } else if bytes <= 8 * UNIT_BYTES {
         8
-    } else if length + 8 <= 4096 {
+    } else if bytes <= 16 * UNIT_BYTES {
         16
-    } else if length + 8 <= 8192 {
+    } else if bytes <= 32 * UNIT_BYTES {
         32
-    } else if length + 8 <= 16384 {
+    } else if bytes <= 64 * UNIT_BYTES {
         64
-    } else if length + 8 <= 32768 {
+    } else if bytes <= 128 * UNIT_BYTES {
         128
-    } else if length + 8 <= 65536 {
+    } else if bytes <= 256 * UNIT_BYTES {
         256
-    } else if length + 8 <= 131072 {
+    } else if bytes <= 512 * UNIT_BYTES {
         512
-    } else if length + 8 <= 262144 {
+    } else if bytes <= 1024 * UNIT_BYTES {
         1024
-    } else if length + 8 <= 524288 {
+    } else if bytes <= 2048 * UNIT_BYTES {
         2048
-    } else if length + 8 <= 1048576 {
+    } else if bytes <= 4096 * UNIT_BYTES {
         4096
     } else {
         8192

@@ -21,6 +21,7 @@ use crate::tables::has_member;
 use chunk_map::layout_sizes::{LONGEST_VALUE, SHORTEST_IN_BLOCK};
 use fs_errors::Memory;
 use fs_model::model::Value;
+use group_laws::group_sizes::SLOTS;
 use group_laws::types::{Block, Pending, Slot};
 use log_entry::entry::{Body, Entry};
 use log_entry::{LAST_DELETE_VERSION, LAST_PUT_VERSION, LONGEST_EMBEDDED};
@@ -132,7 +133,7 @@ fn has_free_block(state: &GroupState, member: u32, entry: &Entry, value: &Value)
 fn may_post(state: &GroupState, member: u32, slot: u32, entry: &Entry, value: &Value) -> bool
     ensures { IsTrue result ↔ CanPost (group_of state.now) member slot entry.now value.now }
 {
-    if !has_member(state, member) || slot >= 8 || !is_empty(state, member, slot) {
+    if !has_member(state, member) || slot >= SLOTS || !is_empty(state, member, slot) {
         return false;
     }
     if !has_spelling(entry) || owner_of(&state.layout, state.group, entry.key) != member {

@@ -3,6 +3,8 @@ ghost use Rattle.std.specs.Prelude.{◌≡◌, length};
 ghost use Rattle.log_entry.specs.Spelling.{words_of};
 
 use log_entry::entry::{Body, Entry};
+use log_entry::entry_limits::SHORTEST_ENTRY;
+use pm_region::WORD_BYTES;
 
 /// How many words an entry has. It asks for no spelling, since a state may hold any entries.
 pub fn words_in(entry: &Entry) -> u64
@@ -11,9 +13,9 @@ pub fn words_in(entry: &Entry) -> u64
     match &entry.body {
         Body::Embedded(value) => {
             let bytes = value.bytes().len() as u64;
-            2 + bytes.div_ceil(8)
+            SHORTEST_ENTRY + bytes.div_ceil(WORD_BYTES)
         }
-        Body::Pointer(_) => 2,
-        Body::Tombstone => 2,
+        Body::Pointer(_) => SHORTEST_ENTRY,
+        Body::Tombstone => SHORTEST_ENTRY,
     }
 }

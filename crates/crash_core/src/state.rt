@@ -53,6 +53,7 @@ pub struct CoreView {
 /// member.
 #[derive(Drop)]
 pub struct GroupState {
+    /// That of the region: it says which keys are whose.
     pub layout: Layout,
     /// The number of the group in the layout.
     pub group: u32,

@@ -10,6 +10,7 @@ use crate::copies::copy_entry;
 use crate::sizes::words_in;
 use crate::state::GroupState;
 use fs_errors::Memory;
+use group_laws::group_sizes::SLOTS;
 use group_laws::types::{Seen, Slot, SlotWord};
 use log_entry::entry::Entry;
 use std::alloc::Global;
@@ -25,7 +26,7 @@ pub fn has_member(state: &GroupState, member: u32) -> bool
 pub fn has_slot(state: &GroupState, member: u32, slot: u32) -> bool
     ensures { IsTrue result ↔ IsSlot (group_of state.now) member slot }
 {
-    has_member(state, member) && slot < 8
+    has_member(state, member) && slot < SLOTS
 }
 
 /// Whether two loads found the same.

@@ -5,6 +5,7 @@ use Rattle.std.specs.List.{AllByRecursion, count_by, sum_by, enumerate_from}
 use Rattle.std.proofs.lemmas.Bool.{cases_eq, eq-eqb, ne_eqb, eqb-true, and_parts, and_from, or_cases}
 use Rattle.std.proofs.lemmas.List.Sums.{sum_by-append}
 use Rattle.std.proofs.lemmas.List.Elements.{filter-append}
+use Rattle.pm_region.specs.Words.{lines_for}
 use Rattle.fs_model.specs.declared.model.Request.{Request}
 use Rattle.fs_model.specs.declared.model.Request.TheVariants.{Put, Get, Delete}
 use Rattle.fs_model.specs.Cells.{key_of}
@@ -18,7 +19,6 @@ use Rattle.store_image.specs.Facts.{In}
 use Rattle.store_image.proofs.Clients.{in_front, in_back, in_either, has_layout, superblock_facts}
 use Rattle.group_laws.specs.State.{Group}
 use Rattle.group_laws.specs.MemberViews.{View, view_of}
-use Rattle.core_log.specs.Chunk.{lines_for}
 use Rattle.log_entry.specs.Spelling.{words_of}
 use Rattle.group_laws.proofs.Clients.{run_frame}
 use Rattle.headline.specs.Ample.{lines_of, is_put_of}

@@ -1,10 +1,15 @@
 -- What a core has free, as far as a refusal for want of room asks for it.
-use Rattle.std.specs.Prelude.{◌≡◌, ◌⊎◌, ℕ, ◌-◌, ◌/◌, ◌≤◌, ◌&&◌, nat_le, length, Bool, true, false}
+use Rattle.std.specs.Prelude.{◌≡◌, ◌⊎◌, ℕ, ◌-◌, ◌≤◌, ◌&&◌, nat_le, length, Bool, true, false}
 use Rattle.fs_model.specs.declared.model.Request.{Request}
 use Rattle.fs_model.specs.declared.model.Request.TheVariants.{Put, Get, Delete}
+use Rattle.log_entry.specs.declared.entry_limits.TheConstants.{LONGEST_ENTRY_LINES}
 use Rattle.chunk_map.specs.declared.layout_sizes.TheConstants.{GREATEST_CLASS}
 use Rattle.chunk_map.specs.declared.layouts.Geometry.{Geometry}
-use Rattle.chunk_map.specs.Layouts.{has_class}
+use Rattle.chunk_map.specs.Layouts.{has_class, longest_value}
+
+-- at most so many lines are left at a chunk's end, where the longest entry does not fit in
+abbrev pub lines_left_over : ℕ
+lines_left_over = LONGEST_ENTRY_LINES - 1
 
 pub record Stock : Type 0 where
   -- free chunks, and free lines of the log's open chunk
@@ -22,7 +27,7 @@ pub record IsAtLeast (s t : Stock) : Type 0 where
 -- a put whose value gets a block of this class
 abbrev pub is_put_in : Geometry → ℕ → Request → Bool
 is_put_in l class (Put k v) = has_class (length v) class && nat_le (length v)
-    (l.chunk_bytes / 4 - 8)
+    (longest_value l)
 is_put_in l class (Get k) = false
 is_put_in l class (Delete k) = false
 

@@ -6,7 +6,7 @@ use Rattle.fs_model.specs.declared.model.Reply.{Reply}
 use Rattle.fs_model.specs.declared.model.Reply.TheVariants.{Stopped}
 use Rattle.fs_model.specs.Cells.{key_of, cell_after, is_change}
 use Rattle.fs_model.specs.Lawful.{IsLawfulFor, cell_of, is_finish}
-use Rattle.pm_region.specs.State.{During, IsTelling, cell_now, Rose}
+use Rattle.pm_region.specs.State.{During, IsTelling, cell_now, Faulted}
 use Rattle.pm_region.specs.Words.{KeepsOutside}
 use Rattle.chunk_map.specs.Layouts.{part_first, owner}
 use Rattle.store_image.specs.Facts.{In}
@@ -106,7 +106,7 @@ pub record Moves (e f : Engine) (c : ℕ) (accepted : List (ℕ × Request))
   pub answers : Answers e f fixed
   -- Who stops has a cause: a call of the region that failed in this move, or an own slot that was Failed.
   pub stops : f.stopped c ≡ true → (e.stopped c ≡ true)
-      ⊎ (Rose e.region.faults f.region.faults ⊎ ((s : ℕ) × (d : Entry)
+      ⊎ (Faulted e.region f.region ⊎ ((s : ℕ) × (d : Entry)
       × ((e.group (group_of e.layout c)).slot (member_of e.layout c) s ≡ Failed d)))
   pub breaks : (f.group (group_of e.layout c)).broken (member_of e.layout c) ≡ true
       → f.stopped c ≡ true

@@ -1,8 +1,9 @@
 -- What a replay promises at any state that it reaches.
 use Rattle.std.specs.Prelude.{◌≡◌, ℕ, ◌/◌, ◌<◌, ◌≤◌, List, [], ◌++◌, length, take, Bool, true, false, if◌then◌else◌}
+use Rattle.pm_region.specs.declared.region_sizes.TheConstants.{WORD_BYTES}
 use Rattle.fs_model.specs.declared.model.Request.{Request}
 use Rattle.fs_model.specs.Changes.{finished_by, cell_after_all}
-use Rattle.pm_region.specs.State.{IsTold, IsTelling, MayLeave, cell_now, Rose}
+use Rattle.pm_region.specs.State.{IsTold, IsTelling, MayLeave, cell_now, Faulted}
 use Rattle.pm_region.specs.Words.{Surely}
 use Rattle.store_image.specs.Soundness.{IsSound}
 use Rattle.headline.specs.Headline.{Answers, Recovers, HasOwnBlocks, changes_in, cells_of}
@@ -18,8 +19,8 @@ use Rattle.engine_laws.specs.Idle.{Idles, IsDrained}
 pub record IsOrigin (o : Origin) : Type 0 where
   pub sound : IsSound o.region.frame.bytes o.found
   pub first : o.region.frame.first ≡ 0
-  pub words : o.region.frame.words ≡ o.region.frame.bytes / 8
-  pub certain : IsTelling o.region → (w : ℕ) → w < o.region.frame.bytes / 8
+  pub words : o.region.frame.words ≡ o.region.frame.bytes / WORD_BYTES
+  pub certain : IsTelling o.region → (w : ℕ) → w < o.region.frame.bytes / WORD_BYTES
       → Surely (cell_now o.region w) (o.found w)
 
 abbrev pub HasStopped : Engine → Type 0
@@ -39,7 +40,7 @@ pub record Promised (o : Origin) (e : Engine) : Type 0 where
       (replies_from e.answer 0 (length (e.given ++ more)))
   -- why requests were refused
   pub causes : Causes o e
-  pub cause : HasStopped e → Rose o.region.faults e.region.faults
+  pub cause : HasStopped e → Faulted o.region e.region
   pub last : AllAnswered e → ((c : ℕ) → c < e.layout.cores → e.stopped c ≡ false)
       → IsTelling e.region → (image : ℕ → ℕ) → MayLeave o.region.frame (cell_now e.region) image
       → (k : ℕ) → cells_of image k ≡ cell_after_all (changes_in (start_of o) e.given (told_of e) k)

@@ -10,6 +10,7 @@ use Rattle.chunk_map.specs.Chunks.{blocks_in}
 use Rattle.chunk_map.specs.Layouts.{layout_of, owner, numbers, payload_lines, is_class}
 use Rattle.headline.specs.Ample.{lines_of, is_put_of, IsAmpleFor}
 use Rattle.headline.specs.Limits.{IsAsked}
+use Rattle.engine_laws.specs.FreeStock.{lines_left_over}
 use Rattle.engine_laws.specs.Parts.{group_of, member_of}
 use Rattle.engine_laws.specs.WorkerMoves.{Placed}
 use Rattle.engine_laws.specs.Engine.{Engine, Answer}
@@ -48,8 +49,8 @@ pub record HasRoom (l : Geometry) (o : Origin) (e : Engine) (c : ℕ) : Type 0 w
   pub cuts : ℕ → ℕ
   pub chunks : (stock_found o c).chunks ≤ (e.stock c).chunks
       + (opened + sum_by cuts (numbers 1 GREATEST_CLASS))
-  -- all but four lines of each that it opened are filled, but for the open one
-  pub lines : opened * (payload_lines l - 4) + lines_in
+  -- all lines of each that it opened are filled but those left over, but for the open one
+  pub lines : opened * (payload_lines l - lines_left_over) + lines_in
       ((e.group (group_of l c)).flying (member_of l c))
       ≤ lines_in ((e.group (group_of l c)).took (member_of l c)) + (e.stock c).lines
   pub small : (e.stock c).lines ≤ payload_lines l

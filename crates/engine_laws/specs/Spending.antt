@@ -1,5 +1,6 @@
 -- What a call or a move does to what a core has free, and which changes it begins and posts.
 use Rattle.std.specs.Prelude.{◌≡◌, ◌⊎◌, ℕ, ◌≤◌, List, [], ◌∷◌, ◌++◌, length, true, false, Option, Some}
+use Rattle.pm_region.specs.Words.{lines_for}
 use Rattle.fs_model.specs.declared.model.Request.{Request}
 use Rattle.fs_model.specs.declared.model.Reply.TheVariants.{Full}
 use Rattle.fs_model.specs.Cells.{key_of}
@@ -7,7 +8,6 @@ use Rattle.log_entry.specs.declared.entry.Entry.{Entry}
 use Rattle.log_entry.specs.Spelling.{words_of}
 use Rattle.chunk_map.specs.declared.layouts.Geometry.{Geometry}
 use Rattle.chunk_map.specs.Layouts.{owner}
-use Rattle.core_log.specs.Chunk.{lines_for}
 use Rattle.store_image.specs.Facts.{In}
 use Rattle.headline.specs.Ample.{lines_of}
 use Rattle.engine_laws.specs.Parts.{group_of, member_of}

@@ -1,9 +1,10 @@
 -- Where a replay stands: what holds between any two moves.
 use Rattle.std.specs.Prelude.{◌≡◌, ℕ, ◌/◌, ◌≤◌, ◌<◌, [], ◌∷◌, ◌++◌, length, true, false, None}
+use Rattle.pm_region.specs.declared.region_sizes.TheConstants.{WORD_BYTES}
 use Rattle.fs_model.specs.declared.model.Request.{Request}
 use Rattle.fs_model.specs.Cells.{key_of}
 use Rattle.fs_model.specs.Changes.{IsPrefixCell}
-use Rattle.pm_region.specs.State.{During, IsTold, IsTelling, MayLeave, cell_now, Rose}
+use Rattle.pm_region.specs.State.{During, IsTold, IsTelling, MayLeave, cell_now, Faulted}
 use Rattle.chunk_map.specs.Layouts.{layout_of, owner}
 use Rattle.store_image.specs.Soundness.{IsSound}
 use Rattle.store_image.specs.Winners.{recovered}
@@ -29,7 +30,7 @@ pub record ShowsPrefix (o : Origin) (e : Engine) (keys : (k : ℕ) → KeyStands
 pub record Stands (o : Origin) (e : Engine) : Type 0 where
   pub sound : IsSound o.region.frame.bytes o.found
   pub first : o.region.frame.first ≡ 0
-  pub words : o.region.frame.words ≡ o.region.frame.bytes / 8
+  pub words : o.region.frame.words ≡ o.region.frame.bytes / WORD_BYTES
   pub layout : e.layout ≡ layout_of o.found
   -- the groups are lawful, and each part is licensed
   pub groups : Groups e.layout e.group
@@ -50,7 +51,7 @@ pub record Stands (o : Origin) (e : Engine) : Type 0 where
   pub rooms : Rooms o e
   -- who has stopped has a cause
   pub stopped : (c : ℕ) → c < e.layout.cores → e.stopped c ≡ true
-      → Rose o.region.faults e.region.faults
+      → Faulted o.region e.region
   pub broken : (c : ℕ) → c < e.layout.cores → (e.group (group_of e.layout c)).broken
       (member_of e.layout c) ≡ true → e.stopped c ≡ true
 
@@ -58,7 +59,7 @@ pub record Stands (o : Origin) (e : Engine) : Type 0 where
 pub record StandsNow (o : Origin) (e : Engine) : Type 0 where
   pub sound : IsSound o.region.frame.bytes o.found
   pub first : o.region.frame.first ≡ 0
-  pub words : o.region.frame.words ≡ o.region.frame.bytes / 8
+  pub words : o.region.frame.words ≡ o.region.frame.bytes / WORD_BYTES
   pub layout : e.layout ≡ layout_of o.found
   pub groups : Groups e.layout e.group
   pub superblock : IsTelling e.region → HasSuperblock o.found (cell_now e.region)

@@ -6,8 +6,8 @@ use Rattle.fs_model.specs.declared.model.Reply.{Reply}
 use Rattle.fs_model.specs.declared.model.Reply.TheVariants.{Full, Stopped}
 use Rattle.fs_model.specs.Cells.{key_of, cell_after, is_change}
 use Rattle.fs_model.specs.Lawful.{IsLawfulFor, cell_of, is_finish}
-use Rattle.pm_region.specs.State.{State, During, IsTelling, cell_now, Rose}
-use Rattle.pm_region.specs.Words.{KeepsOutside}
+use Rattle.pm_region.specs.State.{State, During, IsTelling, cell_now, Faulted}
+use Rattle.pm_region.specs.Words.{KeepsOutside, lines_for}
 use Rattle.log_entry.specs.declared.entry.Entry.{Entry}
 use Rattle.store_image.specs.Facts.{In}
 use Rattle.core_room.specs.declared.types.Shortage.{Shortage}
@@ -21,7 +21,6 @@ use Rattle.group_board.specs.Views.{left_in}
 use Rattle.licence.specs.Licence.{Licensed, part_at, part_end}
 use Rattle.engine_laws.specs.FreeStock.{Stock}
 use Rattle.log_entry.specs.Spelling.{words_of}
-use Rattle.core_log.specs.Chunk.{lines_for}
 use Rattle.headline.specs.Ample.{lines_of}
 use Rattle.engine_laws.specs.RefusalCauses.{Refuses}
 use Rattle.engine_laws.specs.StockChanges.{Spends}
@@ -164,7 +163,7 @@ pub record WorkerMoves (p : places.Place) (m : ℕ) (s t : State) (before after 
   pub spends : SpendsIn p m v u w x accepted fixed
   -- it stops where a call of the region failed in this call, or an own change came back as failed
   pub stops : x.stopped ≡ true → (w.stopped ≡ true)
-      ⊎ (Rose s.faults t.faults ⊎ (HasDoubt p m u × IfSome before
+      ⊎ (Faulted s t ⊎ (HasDoubt p m u × IfSome before
       (λ a. (n : ℕ) × (d : Entry) × (a.slot m n ≡ Failed d))))
   pub breaks : u.broken ≡ true → x.stopped ≡ true
   pub stays_stopped : w.stopped ≡ true → x.stopped ≡ true

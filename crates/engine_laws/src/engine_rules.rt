@@ -4,8 +4,9 @@ ghost use Rattle.std.specs.List.{AllByRecursion};
 ghost use Rattle.fs_model.specs.declared.model.Request.{Request};
 ghost use Rattle.fs_model.specs.declared.model.Reply.{Reply};
 ghost use Rattle.fs_text.specs.declared.line.Line.{Line};
+ghost use Rattle.pm_region.specs.declared.region_sizes.TheConstants.{WORD_BYTES};
 ghost use Rattle.pm_region.specs.Cell.{Cell};
-ghost use Rattle.pm_region.specs.State.{State, Frame, MayLeave, Rose};
+ghost use Rattle.pm_region.specs.State.{State, Frame, MayLeave, Faulted};
 ghost use Rattle.chunk_map.specs.Layouts.{layout_of, superblock_rule};
 ghost use Rattle.group_laws.specs.declared.types.Seen.{Seen};
 ghost use Rattle.group_laws.specs.State.{Group};
@@ -29,8 +30,8 @@ ghost use Rattle.engine_laws.specs.KeyLaw.{KeyView, Holds, Does, KeyIs};
 /// recovers for each key its owner's cell, or the one that its pending change leaves.
 pub fn every_region()
     ensures { (bytes : ℕ) (found : ℕ → ℕ) (f : Frame) (w : ℕ → Group) (cells : ℕ → Cell)
-        (image : ℕ → ℕ) → superblock_rule bytes found ≡ None → f.first ≡ 0 → f.words ≡ bytes / 8
-        → Groups (layout_of found) w → HasSuperblock found cells
+        (image : ℕ → ℕ) → superblock_rule bytes found ≡ None → f.first ≡ 0 → f.words
+        ≡ bytes / WORD_BYTES → Groups (layout_of found) w → HasSuperblock found cells
         → AllLicensed (layout_of found) w cells → MayLeave f cells image
         → ShowsGroups bytes (layout_of found) w image }
 {}
@@ -91,7 +92,7 @@ pub fn every_state()
 /// The same of one moment, however the region came there, where it is known why requests were refused and cores stopped.
 pub fn every_moment()
     ensures { (o : Origin) (e : Engine) → StandsNow o e → Causes o e
-        → (HasStopped e → Rose o.region.faults e.region.faults) → Promised o e }
+        → (HasStopped e → Faulted o.region e.region) → Promised o e }
 {}
 
 /// Whatever the lines and the moves: the promises hold, and the requests of the lines were given.

@@ -1,10 +1,10 @@
 -- What a call with the words of `format` promises.
 use Rattle.std.specs.Prelude.{◌≡◌, ◌⊎◌, ℕ, ◌/◌, ◌≤◌, ◌<◌, true, Some, None, Ok}
 use Rattle.pm_region.specs.Cell.{Cell}
-use Rattle.pm_region.specs.State.{State, Frame, IsTold, IsTelling, MayLeave, cell_now, Rose}
+use Rattle.pm_region.specs.State.{State, Frame, IsTold, IsTelling, MayLeave, cell_now, Faulted}
 use Rattle.chunk_map.specs.declared.layouts.Geometry.{Geometry}
 use Rattle.chunk_map.specs.declared.heads.Head.TheVariants.{Free}
-use Rattle.chunk_map.specs.Layouts.{chunk_first, head_at, total_bytes}
+use Rattle.chunk_map.specs.Layouts.{chunk_first, head_at, total_bytes, total_words}
 use Rattle.chunk_map.specs.Superblock.{IsSuperblock}
 use Rattle.store_image.specs.declared.types.Fault.TheVariants.{NotARegion}
 use Rattle.store_image.specs.Soundness.{IsSound, first_fault}
@@ -16,7 +16,7 @@ use Rattle.flatstore.specs.declared.report.Report.{Report}
 -- The empty region of a layout: its superblock, and zeros behind. So each chunk is free, it is sound, and no key has a value.
 pub record IsEmptyStore (l : Geometry) (image : ℕ → ℕ) : Type 0 where
   pub superblock : IsSuperblock l image
-  pub zeros : (w : ℕ) → 6 ≤ w → w < total_bytes l / 8 → image w ≡ 0
+  pub zeros : (w : ℕ) → 6 ≤ w → w < total_words l → image w ≡ 0
   pub free : (c j : ℕ) → c < l.cores → j < l.chunks → head_at l image (chunk_first l c j) ≡ Ok Free
   pub sound : IsSound (total_bytes l) image
   pub cells : (k : ℕ) → cells_of image k ≡ None
@@ -35,7 +35,7 @@ pub record Formats (old new : State) (l : Geometry) (r : Report) : Type 0 where
   -- It ends well, but for a fault that was counted and want of memory.
   pub ends : (r.status ≡ statuses.Done)
       ⊎ ((r.status ≡ statuses.Memory) ⊎ ((r.status ≡ statuses.RegionFault)
-      × Rose old.faults new.faults))
+      × Faulted old new))
   -- The region was created once, unless the device refused that or there was no memory.
   pub creates : Creates old new l r
   pub size : r.attached ≡ true → new.frame.bytes ≡ total_bytes l

@@ -1,6 +1,7 @@
 -- The run of the engine that a report is of.
 use Rattle.std.specs.Prelude.{◌≡◌, ℕ, ◌/◌, ◌<◌, List, [], ◌∷◌, length, map, Option, Ok}
 use Rattle.std.specs.List.{AllByRecursion, slice_get}
+use Rattle.pm_region.specs.declared.region_sizes.TheConstants.{WORD_BYTES}
 use Rattle.pm_region.specs.State.{State, IsTelling, cell_now}
 use Rattle.chunk_map.specs.Layouts.{layout_of}
 use Rattle.fs_text.specs.declared.line.Line.{Line}
@@ -40,7 +41,7 @@ pub record Starts (at : State) (found : ℕ → ℕ) (cores : ℕ) : Type 0 wher
   -- The run begins at these words. Where the region tells, they are those that were found.
   pub origin : Origin
   pub begins : BeginsAt at word origin
-  pub words : IsTelling at → (w : ℕ) → w < at.frame.bytes / 8 → origin.found w ≡ found w
+  pub words : IsTelling at → (w : ℕ) → w < at.frame.bytes / WORD_BYTES → origin.found w ≡ found w
   pub count : (layout_of origin.found).cores ≡ cores
 
 -- How it begins: every group opens on these words, and every worker is made of what recovery gave its

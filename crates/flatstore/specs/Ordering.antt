@@ -1,6 +1,6 @@
 -- The order of a replay's work: attaching, the region's rules, reading the source to its end, the input's rules, the run, the writing.
 use Rattle.std.specs.Prelude.{◌≡◌, ◌⊎◌, ℕ, List, Bool, true, false, Option, Some, None, Result, Ok, Err}
-use Rattle.pm_region.specs.State.{State, IsTelling, Rose}
+use Rattle.pm_region.specs.State.{State, IsTelling, Faulted, Rose}
 use Rattle.pm_region.specs.Split.{Attached}
 use Rattle.fs_text.specs.declared.line.Line.{Line}
 use Rattle.fs_text.specs.Input.{input_of}
@@ -29,7 +29,7 @@ abbrev pub IsFault : State → State → ℕ → ℕ → ℕ → ℕ → Status 
 IsFault old new source source' sink sink' status =
     (status ≡ statuses.Memory) ⊎ (((status ≡ statuses.SourceFault) × Rose source source')
     ⊎ (((status ≡ statuses.SinkFault) × Rose sink sink')
-    ⊎ ((status ≡ statuses.RegionFault) × Rose old.faults new.faults)))
+    ⊎ ((status ≡ statuses.RegionFault) × Faulted old new)))
 
 -- a status at which nothing was written and no word of the region changed
 abbrev pub is_quiet : Status → Bool

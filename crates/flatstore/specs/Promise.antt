@@ -3,7 +3,7 @@ use Rattle.std.specs.Prelude.{◌≡◌, ◌⊎◌, ℕ, ◌+◌, ◌≤◌, Lis
 use Rattle.std.specs.List.{AllByRecursion}
 use Rattle.fs_model.specs.declared.model.Request.{Request}
 use Rattle.fs_model.specs.declared.model.Reply.TheVariants.{Full}
-use Rattle.pm_region.specs.State.{State, IsTold, IsTelling, Rose}
+use Rattle.pm_region.specs.State.{State, IsTold, IsTelling, Faulted, Rose}
 use Rattle.fs_text.specs.Input.{trace_of}
 use Rattle.fs_text.specs.Streams.{Takes}
 use Rattle.headline.specs.Headline.{Told, cells_of, finished_in, refused_in, WritesReplies, BeginsReplies, RecoversThroughout, RecoversAll}
@@ -63,13 +63,13 @@ pub record Serves (old new : State) (found : ℕ → ℕ) (coming left : Option 
   pub failed : r.status ≡ statuses.RegionFault → r.complete ≡ true
       → (Rose sink_faults sink_faults' → ⊥)
       → WritesAll (IsTelling new) (cells_of found) (asked_in cores input) (told_in r)
-      (Rose old.faults new.faults) before now × (flushed ≡ true)
+      (Faulted old new) before now × (flushed ≡ true)
   -- Where a write failed and no call of the region did, the beginning of such a text, without a `stopped`.
   pub sunk : r.status ≡ statuses.SinkFault → WritesFront (IsTelling new) (cells_of found)
       (asked_in cores input) (told_in r) ⊥ before now
   -- Always the beginning of such a text, where a request is `stopped` only if a call of the region failed, or the run did not come to its end.
   pub begins : WritesFront (IsTelling new) (cells_of found) (asked_in cores input) (told_in r)
-      (r.complete ≡ true → Rose old.faults new.faults) before now
+      (r.complete ≡ true → Faulted old new) before now
   -- Whatever a crash leaves at any told moment since the attach is sound, and recovers for each key its finished changes, or one more.
   pub crash : IsSound new.frame.bytes found → RecoversThroughout new (cells_of found)
       (asked_in cores input) (told_in r)

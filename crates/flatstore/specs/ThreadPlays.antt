@@ -1,6 +1,6 @@
 -- What a run on threads did between attaching and writing.
 use Rattle.std.specs.Prelude.{◌≡◌, ◌⊎◌, ℕ, ◌≤◌, List, Bool, true, false, Option}
-use Rattle.pm_region.specs.State.{State, Rose}
+use Rattle.pm_region.specs.State.{State, Faulted, Rose}
 use Rattle.pm_region.specs.Split.{Stays}
 use Rattle.recover.specs.declared.types.Recovered.{Recovered}
 use Rattle.fs_text.specs.declared.line.Line.{Line}
@@ -29,7 +29,7 @@ pub record HasNotSplit (s : State) (word : ℕ → ℕ) (t : State)
   pub recovered : Recovered
   pub lines : List Line
   pub ready : IsReady s word coming left recovered lines
-  pub fault : Rose s.faults t.faults
+  pub fault : Faulted s t
   pub refused : Rose s.frame.refusals t.frame.refusals
 
 -- why a run that was to begin didn't

@@ -1,6 +1,6 @@
 // What the program does in its own thread: all of it but a run on threads.
 ghost use Rattle.std.specs.Prelude.{◌≡◌, ◌⊎◌, ℕ, ◌≤◌, List, Some, None, true, false, OnOk, OnErr, IfOk};
-ghost use Rattle.pm_region.specs.State.{State, IsTelling, Rose};
+ghost use Rattle.pm_region.specs.State.{State, IsTelling, Faulted, Rose};
 ghost use Rattle.pm_region.specs.Split.{Attached};
 ghost use Rattle.chunk_map.specs.declared.layouts.Geometry.{Geometry};
 ghost use Rattle.flatstore.specs.Commands.{alone_form_of, words_of};
@@ -82,7 +82,7 @@ pub fn flatstore_alone<T: Threads, S: Source, O: Sink, R: SplitRegion + ReadRegi
     ensures sink_fault { result.status ≡ statuses.SinkFault
         → Rose (O.fault_count sink.old) (O.fault_count sink.new) }
     ensures region_fault { result.status ≡ statuses.RegionFault
-        → Rose (R.state region.old).faults (R.state region.new).faults }
+        → Faulted (R.state region.old) (R.state region.new) }
 
     // Nothing is written where the run didn't come to its end.
     ensures incomplete { result.complete ≡ false → sink.new ≡ sink.old }

@@ -1,6 +1,6 @@
 // The entries of the region's logs are written.
 ghost use Rattle.std.specs.Prelude.{◌≡◌, true, false, IfOk, IfErr};
-ghost use Rattle.pm_region.specs.State.{IsTelling, Rose};
+ghost use Rattle.pm_region.specs.State.{IsTelling, Faulted, Rose};
 ghost use Rattle.pm_region.specs.Words.{lasts};
 ghost use Rattle.pm_region.specs.Split.{words_in};
 ghost use Rattle.chunk_map.specs.Layouts.{layout_of};
@@ -69,7 +69,7 @@ pub fn log_region<O: Sink, R: SplitRegion>(alloc: Global, sink: &mut O, region: 
     ensures sink_fault { result.status ≡ statuses.SinkFault
         → Rose (O.fault_count sink.old) (O.fault_count sink.new) }
     ensures region_fault { result.status ≡ statuses.RegionFault
-        → Rose (R.state region.old).faults (R.state region.new).faults }
+        → Faulted (R.state region.old) (R.state region.new) }
     ensures incomplete { result.complete ≡ false → sink.new ≡ sink.old }
     ensures unattached { result.attached ≡ false → result.complete ≡ false }
     ensures sink_untouched { is_quiet result.status ≡ true → sink.new ≡ sink.old }

@@ -1,6 +1,6 @@
 // The lines of the input are run on the region.
 ghost use Rattle.std.specs.Prelude.{◌≡◌, ◌⊎◌, ℕ, ◌≤◌, List, Some, None, true, false, OnOk, OnErr, IfOk};
-ghost use Rattle.pm_region.specs.State.{State, IsTelling, Rose};
+ghost use Rattle.pm_region.specs.State.{State, IsTelling, Faulted, Rose};
 ghost use Rattle.pm_region.specs.Split.{Attached};
 ghost use Rattle.flatstore.specs.Attaching.{Attaches};
 ghost use Rattle.flatstore.specs.Ordering.{is_of_region, is_quiet};
@@ -37,7 +37,7 @@ pub fn replay_region<S: Source, O: Sink, R: SplitRegion + ReadRegion>(
     ensures sink_fault { result.status ≡ statuses.SinkFault
         → Rose (O.fault_count sink.old) (O.fault_count sink.new) }
     ensures region_fault { result.status ≡ statuses.RegionFault
-        → Rose (R.state region.old).faults (R.state region.new).faults }
+        → Faulted (R.state region.old) (R.state region.new) }
     ensures no_usage { result.status ≡ statuses.Usage → ⊥ }
 
     // Nothing is written where the run didn't come to its end.

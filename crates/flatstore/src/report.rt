@@ -34,6 +34,7 @@ pub enum Status {
 /// How a call ended, and what it reports of the requests. Requests are numbered from 0 in the order of the input.
 #[derive(Drop)]
 pub struct Report {
+    /// From it the exit status is made.
     pub status: Status,
     /// One for each change that was answered `Stored` or `Deleted`.
     pub finishes: Vec<Finish>,

@@ -9,6 +9,7 @@ use memchr::memchr;
 /// The first line of a text, without its newline.
 #[derive(Clone, Copy)]
 pub struct FirstLine<'a> {
+    /// Its bytes.
     pub text: &'a [u8],
     /// Whether it has a newline.
     pub ended: bool,

@@ -5,6 +5,7 @@ use Rattle.log_entry.specs.declared.entry.Entry.{Entry}
 use Rattle.log_entry.specs.declared.entry.EntryName.{EntryName}
 use Rattle.log_entry.specs.Spelling.{HasSpelling}
 use Rattle.store_image.specs.Facts.{In}
+use Rattle.group_laws.specs.declared.group_sizes.TheConstants.{SLOTS}
 use Rattle.group_laws.specs.declared.types.Block.{Block}
 use Rattle.group_laws.specs.declared.types.Seen.TheVariants.{Slot as SeenSlot}
 use Rattle.group_laws.specs.declared.types.SlotWord.TheVariants.{Posted as ShowsPosted, Done as ShowsDone, Failed as ShowsFailed}
@@ -29,7 +30,7 @@ IsClearIn p m v at value = LiesIn p m at (units (length value))
 pub record MayPost (p : Place) (m : ℕ) (v : View) (s : ℕ) (c : Change)
     (value : List ℕ) : Type 0 where
   pub member : m < members p
-  pub slot : s < 8
+  pub slot : s < SLOTS
   pub free : IsFree v s
   pub home : c.home ≡ None
   pub spelled : HasSpelling c.entry
@@ -51,13 +52,13 @@ pub record MayLock (p : Place) (m : ℕ) (v : View) : Type 0 where
 pub record MayLook (p : Place) (m a s : ℕ) : Type 0 where
   pub member : m < members p
   pub target : a < members p
-  pub slot : s < 8
+  pub slot : s < SLOTS
 
 -- m is the leader, its log is whole, and a look found the slot Posted
 pub record MayTake (p : Place) (m : ℕ) (v : View) (a s : ℕ) : Type 0 where
   pub member : m < members p
   pub target : a < members p
-  pub slot : s < 8
+  pub slot : s < SLOTS
   pub holds : v.holds ≡ true
   pub whole : v.broken ≡ false
   pub seen : (n : ℕ) × In (SeenSlot a s (ShowsPosted n)) v.looked
@@ -74,7 +75,7 @@ pub record MayCommit (p : Place) (m : ℕ) (v : View) : Type 0 where
 pub record MayMark (p : Place) (m : ℕ) (v : View) (a s : ℕ) (e : Entry) : Type 0 where
   pub member : m < members p
   pub target : a < members p
-  pub slot : s < 8
+  pub slot : s < SLOTS
   pub taken : v.taken a s ≡ Some e
   pub kept : In e v.kept
 
@@ -82,21 +83,21 @@ pub record MayMark (p : Place) (m : ℕ) (v : View) (a s : ℕ) (e : Entry) : Ty
 pub record MayFail (p : Place) (m : ℕ) (v : View) (a s : ℕ) (e : Entry) : Type 0 where
   pub member : m < members p
   pub target : a < members p
-  pub slot : s < 8
+  pub slot : s < SLOTS
   pub taken : v.taken a s ≡ Some e
   pub flying : In e v.flying
 
 -- a look found the own slot Done or Failed
 pub record MayFinish (p : Place) (m : ℕ) (v : View) (s : ℕ) : Type 0 where
   pub member : m < members p
-  pub slot : s < 8
+  pub slot : s < SLOTS
   pub seen : In (SeenSlot m s ShowsFailed) v.looked
       ⊎ ((h : ℕ) × In (SeenSlot m s (ShowsDone h)) v.looked)
 
 -- m is the leader, and a look found the own slot Posted
 pub record MayWithdraw (p : Place) (m : ℕ) (v : View) (s : ℕ) : Type 0 where
   pub member : m < members p
-  pub slot : s < 8
+  pub slot : s < SLOTS
   pub holds : v.holds ≡ true
   pub seen : (n : ℕ) × In (SeenSlot m s (ShowsPosted n)) v.looked
 

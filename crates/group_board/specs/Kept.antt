@@ -5,6 +5,8 @@ use Rattle.std.specs.Coded.{Coded-set}
 use mathlib.Core.Logic.{∥∥₁_map}
 use Rattle.group_laws.specs.declared.types.Slot.{Slot}
 use Rattle.group_laws.specs.declared.types.Slot.TheVariants.{Empty}
+use Rattle.group_laws.specs.declared.group_sizes.TheConstants.{SLOTS}
+use Rattle.group_board.specs.declared.slots.TheConstants.{ROW_LENGTH}
 use Rattle.group_laws.specs.Places.{members}
 use Rattle.group_laws.specs.Invariant.{Lawful}
 use Rattle.crash_core.specs.declared.names.Notices.{Notices}
@@ -13,14 +15,15 @@ use Rattle.group_board.specs.declared.board_journal.Journal.{Journal}
 use Rattle.group_board.specs.Journals.{names, state}
 use Rattle.group_board.specs.Tidies.{Covers}
 
--- Slots stand in rows of 8, one for each owner, and mailboxes in rows of 8, one for each sender.
+-- Slots stand in rows, one for each owner, and mailboxes in rows, one for each sender.
 pub record IsKept (n : ℕ) (holder : Option ℕ) (slots : List Slot) (mail : List (Option Notices))
     (j : Journal) : Type 0 where
   pub size : members (state j).place ≡ n
   pub holder_is : (state j).holder ≡ holder
-  pub slots_are : (a s : ℕ) → a < n → s < 8 → (state j).slot a s ≡ get_or slots (8 * a + s) Empty
+  pub slots_are : (a s : ℕ) → a < n → s < SLOTS → (state j).slot a s
+      ≡ get_or slots (ROW_LENGTH * a + s) Empty
   pub mail_is : (a b : ℕ) → a < n → b < n → (state j).mail a b
-      ≡ option_map notices_of (get_or mail (8 * a + b) None)
+      ≡ option_map notices_of (get_or mail (ROW_LENGTH * a + b) None)
   pub covers : Covers (names j) (state j)
   pub lawful : Lawful (state j)
 

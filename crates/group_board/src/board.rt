@@ -25,23 +25,29 @@ use log_entry::entry::EntryName;
 /// What a look finds in a slot.
 #[derive(Clone, Copy, Debug, PartialEq, Eq)]
 pub enum SlotState {
+    /// Its owner may post there.
     Empty,
     /// With the number of words of the entry that is offered.
     Posted { words: u64 },
+    /// A leader has the change.
     Taken,
+    /// The change is certain in some member's log, and its owner may finish it.
     Done,
+    /// The change could not be written, and its owner takes it back.
     Failed,
 }
 
 /// Another member has the lock.
 #[derive(Clone, Copy, Debug, PartialEq, Eq)]
 pub struct Busy {
+    /// Who has it, by its number in the group.
     pub holder: u32,
 }
 
 /// The mailbox still has what was sent before. The notices come back.
 #[derive(Drop)]
 pub struct MailFull {
+    /// Those that were to be sent now.
     pub notices: Notices,
 }
 

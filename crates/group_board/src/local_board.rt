@@ -1,6 +1,7 @@
 // A board that serves one thread: the lock, the slots and the mailboxes as plain data, and the journal of all steps.
 ghost use Rattle.std.specs.Prelude.{◌≡◌, ◌≢◌, ℕ, ◌+◌, ◌*◌, ◌/◌, ◌<◌, ◌≤◌, length, Option, None, Some, IfErr, IfOk, IfSome, is_err, true, false, option_map, get_or, MatchOption, MatchResult};
 ghost use Rattle.log_entry.specs.Spelling.{words_of, HasSpelling};
+ghost use Rattle.chunk_map.specs.declared.layout_sizes.TheConstants.{MOST_GROUP};
 ghost use Rattle.chunk_map.specs.Layouts.{layout_of};
 ghost use Rattle.store_image.specs.Facts.{In};
 ghost use Rattle.store_image.specs.Soundness as images;
@@ -17,6 +18,7 @@ ghost use Rattle.group_laws.specs.declared.types.SlotWord.{SlotWord};
 ghost use Rattle.group_laws.specs.declared.types.SlotWord.TheVariants as words;
 ghost use Rattle.group_laws.specs.declared.types.Seen.TheVariants as loads;
 ghost use Rattle.crash_core.specs.Shows.{notices_of};
+ghost use Rattle.group_board.specs.declared.slots.TheConstants.{ROW_LENGTH};
 ghost use Rattle.group_board.specs.Journals.{image_of, place_in, state};
 ghost use Rattle.group_board.specs.Kept.{IsKept, TableId-set};
 ghost use Rattle.group_laws.specs.MemberViews.{view_of};
@@ -29,8 +31,9 @@ use crate::board::{Busy, MailFull, SlotState};
 use crate::board_journal::Journal;
 use crate::notes::{Asks, Begins, Keeper, note};
 use crate::opening::Opening;
-use crate::slots::{answer_at, given_back, offered, place_of};
+use crate::slots::{ROW_LENGTH, answer_at, given_back, offered, place_of};
 use atomic_table::Table;
+use chunk_map::layout_sizes::MOST_GROUP;
 use crash_core::{Change, Notices, word_of};
 use fs_errors::Memory;
 use group_laws::types::Slot;
@@ -45,41 +48,42 @@ pub struct LocalBoard {
     pub(crate) member_count: u32,
     /// Who has the lock.
     pub(crate) holder: Option<u32>,
-    /// In rows of 8, one for each owner.
+    /// In rows, one for each owner.
     pub(crate) slots: Vec<Slot>,
-    /// In rows of 8, one for each sender.
+    /// In rows, one for each sender.
     pub(crate) mail: Vec<Option<Notices>>,
     pub(crate) table: Table<u8, Journal, (), Asks, Global>,
     /// The seat whose view is the journal.
     pub(crate) keeper: Keeper,
-    ghost sized: { (table.shared.table_id.words ≡ 1) × (member_count ≤ 8)
-        × (length slots.items ≡ 8 * member_count) × (length mail.items ≡ 8 * member_count)
+    ghost sized: { (table.shared.table_id.words ≡ 1) × (member_count ≤ MOST_GROUP)
+        × (length slots.items ≡ ROW_LENGTH * member_count)
+        × (length mail.items ≡ ROW_LENGTH * member_count)
         × (places.members (state keeper.me.0).place ≡ member_count) },
     ghost here: { keeper.table_id ≡ table.shared.table_id } by { TableId-set _ _ },
     ghost kept: { ∥ IsKept member_count holder slots.items mail.items keeper.me.0 ∥₁ },
 }
 
-/// Empty slots, 8 for each member.
+/// Empty slots, a row for each member.
 fn empty_slots(alloc: Global, members: u32) -> Result<Vec<Slot>, Memory>
-    requires { members ≤ 8 }
-    ensures { IfOk result (λ slots. (length slots.items ≡ 8 * members)
+    requires { members ≤ MOST_GROUP }
+    ensures { IfOk result (λ slots. (length slots.items ≡ ROW_LENGTH * members)
         × ((i : ℕ) → get_or slots.items i slot_states.Empty ≡ slot_states.Empty)) }
 {
     let mut slots = Vec::new(alloc);
-    for _ in 0..8 * members {
+    for _ in 0..ROW_LENGTH * members {
         slots.push(Slot::Empty)?;
     }
     Ok(slots)
 }
 
-/// Empty mailboxes, 8 for each member.
+/// Empty mailboxes, a row for each member.
 fn empty_mail(alloc: Global, members: u32) -> Result<Vec<Option<Notices>>, Memory>
-    requires { members ≤ 8 }
-    ensures { IfOk result (λ mail. (length mail.items ≡ 8 * members)
+    requires { members ≤ MOST_GROUP }
+    ensures { IfOk result (λ mail. (length mail.items ≡ ROW_LENGTH * members)
         × ((i : ℕ) → option_map notices_of (get_or mail.items i None) ≡ None)) }
 {
     let mut mail = Vec::new(alloc);
-    for _ in 0..8 * members {
+    for _ in 0..ROW_LENGTH * members {
         mail.push(None)?;
     }
     Ok(mail)

@@ -12,7 +12,9 @@ use log_entry::entry::EntryName;
 /// The seat of one member at a board of one thread.
 #[derive(Drop)]
 pub struct LocalSeat<'a> {
+    /// That of the member's group. One seat at a time has it.
     pub board: &'a mut LocalBoard,
+    /// By its number in the group.
     pub member: u32,
 }
 

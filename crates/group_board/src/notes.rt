@@ -46,8 +46,10 @@ impl<O: Opening> Play<u8, Journal> for Begins<O> {
     ghost then = { λ st m r n. n ≡ (begun O.group O.words, m.1) };
 }
 
+/// The table of one word at which notes are written. It asks nothing.
 pub type Steps = Shared<u8, Journal, (), Asks>;
 
+/// The seat there, whose view is the journal.
 pub type Keeper = Seat<u8, Journal>;
 
 /// Writes a note. What it is about is passed, since a pick sees the call's arguments alone.

@@ -5,15 +5,20 @@ ghost use Rattle.group_board.specs.Told.{state_of, stood_as};
 ghost use Rattle.group_board.specs.Slots.{IsPosted, IsOver};
 
 use crate::board::SlotState;
+use chunk_map::layout_sizes::MOST_GROUP;
 use crash_core::Change;
+use group_laws::group_sizes::SLOTS;
 use group_laws::types::{Slot, SlotWord};
 
-/// The place of a slot or of a mailbox in its list, which has rows of 8.
+/// How long a row is: a member has as many slots, and a group at most as many members.
+pub const ROW_LENGTH: u32 = SLOTS;
+
+/// The place of a slot or of a mailbox in its list.
 pub fn place_of(row: u32, column: u32) -> usize
-    requires { (row < 8) × (column < 8) }
-    ensures { result ≡ 8 * row + column }
+    requires { (row < MOST_GROUP) × (column < ROW_LENGTH) }
+    ensures { result ≡ ROW_LENGTH * row + column }
 {
-    8 * row as usize + column as usize
+    ROW_LENGTH as usize * row as usize + column as usize
 }
 
 /// What a look answers at a word.

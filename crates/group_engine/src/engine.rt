@@ -28,10 +28,15 @@ use std::collections::VecDeque;
 /// where there is no memory any more.
 #[derive(Drop)]
 pub struct Engine<W> {
+    /// That of the region.
     pub layout: Geometry,
+    /// By the core's number.
     pub workers: Vec<W>,
+    /// By the group's number.
     pub boards: Vec<LocalBoard>,
+    /// By the core's number: each request with its own, the next one in front.
     pub backlogs: Vec<VecDeque<(u64, Request)>>,
+    /// One for each request that was given. None until its answer is fixed.
     pub answers: Vec<Option<Stamped>>,
     /// Nothing yet, with room for all answers.
     pub report: Report,

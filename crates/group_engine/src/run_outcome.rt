@@ -29,9 +29,13 @@ pub enum End {
 /// that is stopped.
 #[derive(Drop)]
 pub struct Outcome {
+    /// One for each request.
     pub replies: Vec<Reply>,
+    /// The requests that were answered Stored or Deleted.
     pub finishes: Vec<Finish>,
+    /// The requests that were answered Full, VersionsSpent or TooLong, with the cause.
     pub refusals: Vec<Refusal>,
+    /// Whether all was answered, and why not.
     pub end: End,
 }
 

@@ -24,6 +24,7 @@ pub struct Finish {
 pub struct Refusal {
     /// The number of the request, from 0.
     pub request: u64,
+    /// The cause, with the numbers of its core at that moment.
     pub why: Shortage,
 }
 
@@ -31,8 +32,11 @@ pub struct Refusal {
 /// without an answer is replied to as one that is stopped.
 #[derive(Drop)]
 pub struct Report {
+    /// One for each request.
     pub replies: Vec<Reply>,
+    /// The requests that were answered Stored or Deleted.
     pub finishes: Vec<Finish>,
+    /// The requests that were answered Full, VersionsSpent or TooLong, with the cause.
     pub refusals: Vec<Refusal>,
 }
 

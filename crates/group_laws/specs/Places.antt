@@ -1,5 +1,6 @@
 -- Where a group stands in a region: which cores it has, whose a key is, and where blocks lie.
 use Rattle.std.specs.Prelude.{ℕ, ◌+◌, ◌*◌, ◌/◌, ◌%◌, ◌^◌, ◌<◌, ◌≤◌, ◌==◌, nat_le, find, unwrap_or, if◌then◌else◌, ◌⊎◌}
+use Rattle.pm_region.specs.declared.region_sizes.TheConstants.{WORD_BYTES}
 use Rattle.chunk_map.specs.declared.layout_sizes.TheConstants.{FIRST_UNIT, GREATEST_CLASS, LONGEST_VALUE, SHORTEST_IN_BLOCK, UNIT_BYTES}
 use Rattle.chunk_map.specs.declared.layouts.Geometry.{Geometry}
 use Rattle.chunk_map.specs.Layouts.{IsLayout, numbers, is_of_group}
@@ -35,8 +36,8 @@ first_unit p m = FIRST_UNIT + (p.group * p.layout.group + m) *
 
 -- the units of a value's block: those of the least class that has room for the length word and the bytes
 unfoldable pub units : ℕ → ℕ
-units n = 2 ^ unwrap_or (find (λ class. nat_le (n + 8) (UNIT_BYTES * 2 ^ class))
-    (numbers 1 GREATEST_CLASS)) 13
+units n = 2 ^ unwrap_or (find (λ class. nat_le (n + WORD_BYTES) (UNIT_BYTES * 2 ^ class))
+    (numbers 1 GREATEST_CLASS)) (GREATEST_CLASS + 1)
 
 -- a run of units lies in a member's part
 abbrev pub LiesIn : Place → ℕ → ℕ → ℕ → Type 0

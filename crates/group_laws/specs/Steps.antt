@@ -6,6 +6,7 @@ use Rattle.log_entry.specs.declared.entry.Entry.{Entry}
 use Rattle.log_entry.specs.declared.entry.EntryName.{EntryName}
 use Rattle.log_entry.specs.Spelling.{words_of, HasSpelling}
 use Rattle.store_image.specs.Facts.{In}
+use Rattle.group_laws.specs.declared.group_sizes.TheConstants.{SLOTS}
 use Rattle.group_laws.specs.declared.types.Slot.TheVariants.{Empty, Posted, Taken, Done, Failed}
 use Rattle.group_laws.specs.declared.types.Block.{Block}
 use Rattle.group_laws.specs.declared.types.Seen.{Seen}
@@ -21,7 +22,7 @@ IsMember w m = m < members w.place
 
 -- slot s of member a is one of the group's
 abbrev pub IsSlot : Group → ℕ → ℕ → Type 0
-IsSlot w a s = IsMember w a × (s < 8)
+IsSlot w a s = IsMember w a × (s < SLOTS)
 
 -- the blocks with the value's block, where the entry points to one
 abbrev pub with_block : ℕ → List ℕ → Body → (ℕ → Option Block) → ℕ → Option Block

@@ -5,6 +5,7 @@ use log_entry::entry::Entry;
 /// A slot of a member's pool.
 #[derive(Drop)]
 pub enum Slot {
+    /// Its owner may post there.
     Empty,
     /// The owner offers this entry to whoever leads.
     Posted(Entry),
@@ -19,6 +20,7 @@ pub enum Slot {
 /// An entry that its owner posted and did not finish.
 #[derive(Drop)]
 pub struct Pending {
+    /// The key's next version, and what it would leave.
     pub entry: Entry,
     /// The slot in which it stands. None once it came back as failed.
     pub slot: Option<u32>,
@@ -27,19 +29,24 @@ pub struct Pending {
 /// The value that a block must hold, and whose it is.
 #[derive(Drop)]
 pub struct Block {
+    /// The key of the live value or of the pending change.
     pub key: u64,
+    /// The whole value. The block has its length before it.
     pub bytes: Value,
 }
 
 /// What the word of a slot tells of it.
 #[derive(Clone, Copy, Debug, PartialEq, Eq)]
 pub enum SlotWord {
+    /// Its owner may post there.
     Empty,
     /// With the number of words of its entry.
     Posted(u64),
+    /// A leader has the entry; which one, the word does not tell.
     Taken,
     /// With the number of the member in whose log the entry is certain.
     Done(u32),
+    /// The entry could not be written.
     Failed,
 }
 

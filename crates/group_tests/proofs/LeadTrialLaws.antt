@@ -4,6 +4,7 @@ use Rattle.std.specs.Prelude.{Result, Ok}
 use Rattle.chunk_map.specs.Checked.{checked_layout}
 use Rattle.chunk_map.specs.declared.layouts.BadLayout.{BadLayout}
 use Rattle.std.proofs.Math.ListN.{get_or-eq_default}
+use Rattle.pm_region.specs.Words.{lines_for}
 use Rattle.pm_region.specs.Cell.{certain}
 use Rattle.pm_region.specs.State.{State, IsTelling, cell_now, InRange}
 use Rattle.pm_region.proofs.Clients.{certain_may_be}
@@ -13,7 +14,6 @@ use Rattle.chunk_map.proofs.Clients.{chunk_in_part}
 use Rattle.log_entry.specs.declared.entry.Entry.{Entry}
 use Rattle.store_image.specs.declared.types.PlacedEntry.{PlacedEntry}
 use Rattle.store_image.specs.Facts.{In}
-use Rattle.core_log.specs.Chunk.{lines_for}
 use Rattle.core_log.specs.Log.{LogState, IsOwn, tail_of, first_of}
 use Rattle.core_log.proofs.Clients.{free_reads_well, free_has_none, InPart, part_of, part_reads_by}
 use Rattle.group_laws.specs.Places.{Place, IsPlace, owner, core_of}

@@ -1,12 +1,12 @@
 -- What an input has to keep so that none of its requests is refused.
-use Rattle.std.specs.Prelude.{◌≡◌, ℕ, ◌+◌, ◌-◌, ◌/◌, ◌<◌, ◌==◌, nat_lt, List, ◌∷◌, ◌++◌, length, Bool, false, Option, Some, None, slice_get, option_map, count_by}
+use Rattle.std.specs.Prelude.{◌≡◌, ℕ, ◌+◌, ◌<◌, ◌==◌, nat_lt, List, ◌∷◌, ◌++◌, length, Bool, false, Option, Some, None, slice_get, option_map, count_by}
 use Rattle.std.specs.List.{AllByRecursion}
 use Rattle.fs_model.specs.declared.model.Request.{Request}
 use Rattle.fs_model.specs.declared.model.Request.TheVariants.{Put, Get, Delete}
 use Rattle.fs_model.specs.Cells.{key_of}
 use Rattle.log_entry.specs.declared.entry_limits.TheConstants.{LAST_PUT_VERSION}
 use Rattle.chunk_map.specs.declared.layouts.Geometry.{Geometry}
-use Rattle.chunk_map.specs.Layouts.{layout_of}
+use Rattle.chunk_map.specs.Layouts.{layout_of, longest_value}
 use Rattle.store_image.specs.declared.types.PlacedEntry.{PlacedEntry}
 use Rattle.store_image.specs.Winners.{winner}
 use Rattle.headline.specs.Ample.{IsAmple}
@@ -39,7 +39,7 @@ HasVersions image trace = (front rest : List Request) (k : ℕ) (v : List ℕ)
     < LAST_PUT_VERSION
 
 abbrev pub is_too_long : Geometry → Request → Bool
-is_too_long l (Put k v) = nat_lt (l.chunk_bytes / 4 - 8) (length v)
+is_too_long l (Put k v) = nat_lt (longest_value l) (length v)
 is_too_long l (Get k) = false
 is_too_long l (Delete k) = false
 

@@ -1,6 +1,6 @@
 // Reading one chunk of an image.
 ghost use Rattle.std.specs.Prelude.{◌≡◌, ◌+◌, ◌/◌, ◌<◌, ◌≤◌, length, IfOk, None};
-ghost use Rattle.chunk_map.specs.Layouts.{layout_rule, payload_words, chunk_first, chunk_words, total_bytes};
+ghost use Rattle.chunk_map.specs.Layouts.{layout_rule, payload_words, chunk_first, chunk_words, total_words};
 ghost use Rattle.store_image.specs.Scanned.{IsScan};
 ghost use Rattle.store_image.specs.Soundness.{chunk_rule};
 ghost use Rattle.store_image.specs.Parts.{payload, scan_at};
@@ -43,7 +43,7 @@ pub fn read_chunk(
     chunk: u32,
 ) -> Result<(Option<u32>, Scanned), Memory>
     requires layout { layout_rule layout.now ≡ None }
-    requires words { length words.now ≡ total_bytes layout.now / 8 }
+    requires words { length words.now ≡ total_words layout.now }
     requires part { part < layout.now.cores }
     requires chunk { chunk < layout.now.chunks }
     ensures rule { IfOk result

@@ -2,7 +2,7 @@
 ghost use Rattle.std.specs.Prelude.{◌≡◌, ◌/◌, ◌&&◌, nat_lt, length, IfOk, None, []};
 ghost use Rattle.std.specs.List.{list_any};
 ghost use Rattle.std.specs.Option.{option_copied};
-ghost use Rattle.chunk_map.specs.Layouts.{layout_rule, total_bytes, owner};
+ghost use Rattle.chunk_map.specs.Layouts.{layout_rule, total_words, owner};
 ghost use Rattle.store_image.specs.Parts.{block_class};
 ghost use Rattle.store_image.specs.Winners.{winner_in, keys_of};
 ghost use Rattle.store_image.specs.Soundness.{contradicts, clash_after, clash_fault, points_to, pointer_rule, body_rule, winner_fault, block_fault};
@@ -87,7 +87,7 @@ fn pointer_rule(
     pointer: u64,
 ) -> Option<u32>
     requires layout { layout_rule layout.now ≡ None }
-    requires words { length words.now ≡ total_bytes layout.now / 8 }
+    requires words { length words.now ≡ total_words layout.now }
     requires keys { keys.now ≡ keys_of entries.now }
     ensures { result ≡ pointer_rule (image_of words.now) entries.now key pointer
         (block_class layout.now (image_of words.now) (owner layout.now key) pointer) }
@@ -115,7 +115,7 @@ fn winner_fault(
     key: u64,
 ) -> Option<Fault>
     requires layout { layout_rule layout.now ≡ None }
-    requires words { length words.now ≡ total_bytes layout.now / 8 }
+    requires words { length words.now ≡ total_words layout.now }
     requires keys { keys.now ≡ keys_of entries.now }
     ensures { result ≡ winner_fault layout.now (image_of words.now) entries.now key
         (winner_in key entries.now) }
@@ -143,7 +143,7 @@ pub fn block_fault(
     entries: &[PlacedEntry],
 ) -> Result<Option<Fault>, Memory>
     requires layout { layout_rule layout.now ≡ None }
-    requires words { length words.now ≡ total_bytes layout.now / 8 }
+    requires words { length words.now ≡ total_words layout.now }
     ensures { IfOk result (λ f. f ≡ block_fault layout.now (image_of words.now) entries.now) }
 {
     let keys = keys_of(alloc, entries)?;

@@ -1,6 +1,6 @@
 // The first broken rule of an image.
 ghost use Rattle.std.specs.Prelude.{◌≡◌, ◌%◌, ◌/◌, ◌≤◌, length, IfOk, None, ◌↔◌};
-ghost use Rattle.chunk_map.specs.Layouts.{layout_rule, total_bytes};
+ghost use Rattle.chunk_map.specs.Layouts.{layout_rule, total_words};
 ghost use Rattle.store_image.specs.Soundness.{damage, first_fault};
 ghost use Rattle.store_image.specs.Facts.{IsStore};
 ghost use Rattle.image_yardstick.specs.Images.{image_of};
@@ -18,7 +18,7 @@ use store_image::Fault;
 /// The first broken one of rules 4 to 11.
 fn damage(alloc: Global, layout: &Geometry, words: &[u64]) -> Result<Option<Fault>, Memory>
     requires layout { layout_rule layout.now ≡ None }
-    requires words { length words.now ≡ total_bytes layout.now / 8 }
+    requires words { length words.now ≡ total_words layout.now }
     ensures { IfOk result (λ f. f ≡ damage layout.now (image_of words.now)) }
 {
     let gathered = gather(alloc, layout, words)?;

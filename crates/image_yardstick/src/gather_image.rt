@@ -1,6 +1,6 @@
 // All entries of an image.
 ghost use Rattle.std.specs.Prelude.{◌≡◌, ◌/◌, ◌<◌, ◌++◌, length, option_map, IfOk, None};
-ghost use Rattle.chunk_map.specs.Layouts.{layout_rule, total_bytes};
+ghost use Rattle.chunk_map.specs.Layouts.{layout_rule, total_words};
 ghost use Rattle.store_image.specs.Soundness.{damaged, chunk_rule, part_fault, chunk_fault};
 ghost use Rattle.store_image.specs.Parts.{chunk_entries, part_entries, all_entries};
 ghost use Rattle.image_yardstick.specs.Images.{image_of};
@@ -22,7 +22,7 @@ fn gather_chunk(
     entries: &mut Vec<PlacedEntry>,
 ) -> Result<Option<Fault>, Memory>
     requires layout { layout_rule layout.now ≡ None }
-    requires words { length words.now ≡ total_bytes layout.now / 8 }
+    requires words { length words.now ≡ total_words layout.now }
     requires part { part < layout.now.cores }
     requires chunk { chunk < layout.now.chunks }
     ensures fault { IfOk result (λ f. f
@@ -47,7 +47,7 @@ fn gather_part(
     entries: &mut Vec<PlacedEntry>,
 ) -> Result<Option<Fault>, Memory>
     requires layout { layout_rule layout.now ≡ None }
-    requires words { length words.now ≡ total_bytes layout.now / 8 }
+    requires words { length words.now ≡ total_words layout.now }
     requires part { part < layout.now.cores }
     ensures fault { IfOk result (λ f. f ≡ part_fault layout.now (image_of words.now) part) }
     ensures entries { IfOk result (λ _. entries.new.items
@@ -73,7 +73,7 @@ pub struct Gathered {
 /// Reads all chunks of an image, by part and chunk.
 pub fn gather(alloc: Global, layout: &Geometry, words: &[u64]) -> Result<Gathered, Memory>
     requires layout { layout_rule layout.now ≡ None }
-    requires words { length words.now ≡ total_bytes layout.now / 8 }
+    requires words { length words.now ≡ total_words layout.now }
     ensures fault { IfOk result (λ g. g.fault ≡ chunk_fault layout.now (image_of words.now)) }
     ensures entries { IfOk result (λ g. g.entries.items ≡ all_entries layout.now (image_of words.now)) }
 {

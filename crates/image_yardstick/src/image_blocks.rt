@@ -1,6 +1,6 @@
 // The value blocks of an image.
 ghost use Rattle.std.specs.Prelude.{◌≡◌, ◌+◌, ◌*◌, ◌/◌, ◌^◌, ◌<◌, ◌≤◌, length, IfOk, IfSome, Some, None};
-ghost use Rattle.chunk_map.specs.Layouts.{layout_rule, total_bytes};
+ghost use Rattle.chunk_map.specs.Layouts.{layout_rule, total_words};
 ghost use Rattle.store_image.specs.Parts.{block_class, held_by, held};
 ghost use Rattle.image_yardstick.specs.Images.{image_of};
 
@@ -22,12 +22,12 @@ use store_image::geometry::has_class;
 /// number of the block's first byte in the region divided by 256.
 pub fn block_class(layout: &Geometry, words: &[u64], part: u32, pointer: u64) -> Option<u32>
     requires layout { layout_rule layout.now ≡ None }
-    requires words { length words.now ≡ total_bytes layout.now / 8 }
+    requires words { length words.now ≡ total_words layout.now }
     requires part { part < layout.now.cores }
     ensures value { result ≡ block_class layout.now (image_of words.now) part pointer }
     ensures small { IfSome result (λ class. class ≤ GREATEST_CLASS) }
     ensures within { IfSome result (λ class. UNIT_WORDS * pointer + UNIT_WORDS * 2 ^ class
-        ≤ total_bytes layout.now / 8) }
+        ≤ total_words layout.now) }
 {
     if pointer < FIRST_UNIT {
         return None;
@@ -79,7 +79,7 @@ pub fn held(
     pointer: u64,
 ) -> Result<Option<Value>, Memory>
     requires layout { layout_rule layout.now ≡ None }
-    requires words { length words.now ≡ total_bytes layout.now / 8 }
+    requires words { length words.now ≡ total_words layout.now }
     requires part { part < layout.now.cores }
     ensures { IfOk result (λ v. v ≡ held layout.now (image_of words.now) part pointer) }
 {

@@ -1,6 +1,6 @@
 // The cells that an image recovers.
 ghost use Rattle.std.specs.Prelude.{◌≡◌, ◌/◌, length, IfOk, None};
-ghost use Rattle.chunk_map.specs.Layouts.{layout_rule, layout_of, total_bytes};
+ghost use Rattle.chunk_map.specs.Layouts.{layout_rule, layout_of, total_words};
 ghost use Rattle.store_image.specs.Parts.{all_entries};
 ghost use Rattle.store_image.specs.Winners.{recovered};
 ghost use Rattle.store_image.specs.Listing.{ListsCells};
@@ -28,7 +28,7 @@ fn cell(
     key: u64,
 ) -> Result<Option<Value>, Memory>
     requires layout { layout_rule layout.now ≡ None }
-    requires words { length words.now ≡ total_bytes layout.now / 8 }
+    requires words { length words.now ≡ total_words layout.now }
     requires entries { entries.now ≡ all_entries layout.now (image_of words.now) }
     ensures { IfOk result (λ v. v ≡ recovered layout.now (image_of words.now) key) }
 {
@@ -48,7 +48,7 @@ fn cell(
 /// The live pairs of an image of this layout by rising key.
 fn live_pairs(alloc: Global, layout: &Geometry, words: &[u64]) -> Result<Vec<Pair>, Memory>
     requires layout { layout_rule layout.now ≡ None }
-    requires words { length words.now ≡ total_bytes layout.now / 8 }
+    requires words { length words.now ≡ total_words layout.now }
     ensures { IfOk result
         (λ pairs. ListsCells (recovered layout.now (image_of words.now)) pairs.items) }
 {
@@ -66,7 +66,7 @@ fn live_pairs(alloc: Global, layout: &Geometry, words: &[u64]) -> Result<Vec<Pai
 /// many as its region has; the image need not be sound.
 pub fn recovered_cells(alloc: Global, words: &[u64]) -> Result<Vec<Pair>, Memory>
     requires layout { layout_rule (layout_of (image_of words.now)) ≡ None }
-    requires words { length words.now ≡ total_bytes (layout_of (image_of words.now)) / 8 }
+    requires words { length words.now ≡ total_words (layout_of (image_of words.now)) }
     ensures { IfOk result (λ pairs. ListsCells
         (recovered (layout_of (image_of words.now)) (image_of words.now)) pairs.items) }
 {

@@ -1,6 +1,6 @@
 // Where the chunks of an image lie.
 ghost use Rattle.std.specs.Prelude.{◌≡◌, ◌+◌, ◌/◌, ◌<◌, ◌≤◌, None};
-ghost use Rattle.chunk_map.specs.Layouts.{layout_rule, chunk_first, chunk_words, total_bytes};
+ghost use Rattle.chunk_map.specs.Layouts.{layout_rule, chunk_first, chunk_words, total_bytes, total_words};
 
 use chunk_map::layout_sizes::{SUPERBLOCK_BYTES, SUPERBLOCK_WORDS};
 use chunk_map::layouts::Geometry;
@@ -12,7 +12,7 @@ pub fn chunk_first(layout: &Geometry, part: u32, chunk: u32) -> usize
     requires part { part < layout.now.cores }
     requires chunk { chunk < layout.now.chunks }
     ensures value { result ≡ chunk_first layout.now part chunk }
-    ensures within { result + chunk_words layout.now ≤ total_bytes layout.now / 8 }
+    ensures within { result + chunk_words layout.now ≤ total_words layout.now }
 {
     let number = part as usize * layout.chunks as usize + chunk as usize;
     SUPERBLOCK_WORDS as usize + number * (layout.chunk_bytes / WORD_BYTES) as usize

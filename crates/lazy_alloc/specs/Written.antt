@@ -1,14 +1,16 @@
 -- What a region holds while a value is written to its block, and afterwards.
-use Rattle.std.specs.Prelude.{◌≡◌, ◌⊎◌, ℕ, ◌+◌, ◌*◌, ◌/◌, ◌^◌, ◌<◌, ◌≤◌, ◌==◌, ◌&&◌, not, List, ◌∷◌, length, true, false, Ok}
+use Rattle.std.specs.Prelude.{◌≡◌, ◌⊎◌, ℕ, ◌+◌, ◌*◌, ◌/◌, ◌^◌, ◌<◌, ◌≤◌, ◌==◌, ◌&&◌, not, List, ◌∷◌, length, true, false, Ok, ◌-◌}
+use Rattle.pm_region.specs.declared.region_sizes.TheConstants.{LINE_WORDS}
 use Rattle.pm_region.specs.Cell.{Cell}
 use Rattle.pm_region.specs.State.{State, Frame, IsTelling, cell_now}
-use Rattle.pm_region.specs.Words.{EachIn, Kept, Surely}
+use Rattle.pm_region.specs.Words.{EachIn, Kept, Surely, lines_for}
 use Rattle.log_entry.specs.Words.{words_for, packed}
 use Rattle.chunk_map.specs.Layouts.{part_first, chunk_first, head_at}
 use Rattle.chunk_map.specs.declared.heads.Head.TheVariants.{Free, Data}
+use Rattle.chunk_map.specs.Setting.{kind_of}
 use Rattle.store_image.specs.Parts.{block_bytes}
 use Rattle.lazy_alloc.specs.Sets.{Sets, SameBlocks, chunk_of, chunk_is_free, chunk_class, chunk_is_due}
-use Rattle.chunk_map.specs.declared.layout_sizes.TheConstants.{CLASS_FACTOR, UNIT_WORDS}
+use Rattle.chunk_map.specs.declared.layout_sizes.TheConstants.{FREE_KIND, UNIT_WORDS}
 
 -- the allocator's part lies in the region's range
 pub record PartLies (f : Frame) (a : Sets) : Type 0 where
@@ -22,9 +24,9 @@ head_of a p = chunk_first a.layout a.part (chunk_of a p)
 
 -- a chunk that is due is certainly Free, and another one that is cut is certainly Data of its class
 pub record HasHead (s : State) (a : Sets) (p class : ℕ) : Type 0 where
-  pub due : chunk_is_due a (chunk_of a p) ≡ true → IsTelling s → Surely (cell_now s (head_of a p)) 0
+  pub due : chunk_is_due a (chunk_of a p) ≡ true → IsTelling s → Surely (cell_now s (head_of a p)) FREE_KIND
   pub written : chunk_is_due a (chunk_of a p) ≡ false → IsTelling s
-      → Surely (cell_now s (head_of a p)) (2 + CLASS_FACTOR * class)
+      → Surely (cell_now s (head_of a p)) (kind_of (Data class))
 
 -- The head of the block's chunk is that of the class; or it is Free, where it is due.
 abbrev pub HeadTurnsTo : Sets → ℕ → ℕ → (ℕ → ℕ) → Type 0
@@ -34,7 +36,7 @@ HeadTurnsTo a p class image = (head_at a.layout image (head_of a p) ≡ Ok (Data
 -- No word outside the block is stored or flushed, but for the head's first line where the head is due.
 pub record KeepsOthers (a : Sets) (p class : ℕ) (old new : ℕ → Cell) : Type 0 where
   pub outside : (w : ℕ) → (w < UNIT_WORDS * p) ⊎ (UNIT_WORDS * p + UNIT_WORDS * 2 ^ class ≤ w)
-      → (w < head_of a p) ⊎ (head_of a p + 8 ≤ w) → Kept (old w) (new w)
+      → (w < head_of a p) ⊎ (head_of a p + LINE_WORDS ≤ w) → Kept (old w) (new w)
   pub head : chunk_is_due a (chunk_of a p) ≡ false → (w : ℕ) → (w < UNIT_WORDS * p)
       ⊎ (UNIT_WORDS * p + UNIT_WORDS * 2 ^ class ≤ w) → Kept (old w) (new w)
 
@@ -47,11 +49,11 @@ abbrev pub block_words : List ℕ → List ℕ
 block_words value = length value ∷ packed value
 
 abbrev pub block_lines : List ℕ → ℕ
-block_lines value = (1 + words_for (length value) + 7) / 8
+block_lines value = lines_for (1 + words_for (length value))
 
 -- The value is certain, and its chunk is certainly Data.
 pub record WroteValue (s : State) (old new : Sets) (p class : ℕ) (value : List ℕ) : Type 0 where
-  pub head : IsTelling s → Surely (cell_now s (head_of old p)) (2 + CLASS_FACTOR * class)
+  pub head : IsTelling s → Surely (cell_now s (head_of old p)) (kind_of (Data class))
   pub holds : IsTelling s → EachIn (UNIT_WORDS * p) (UNIT_WORDS * p + UNIT_WORDS * 2 ^ class)
       (HoldsValue p value) (cell_now s)
   pub layout_is : new.layout ≡ old.layout

@@ -1,11 +1,12 @@
 // The free chunks and blocks of one part.
 ghost use Rattle.std.specs.Prelude.{◌≡◌, ◌⊎◌, ℕ, ◌+◌, ◌*◌, ◌^◌, ◌<◌, ◌≤◌, ◌==◌, ◌&&◌, not, length, true, false, Some, None, is_none, IfOk, OnOk, OnErr, slice_get, replicate, IfSome, Ok, if◌then◌else◌};
 ghost use Rattle.std.specs.List.{AllByRecursion, list_any};
-ghost use Rattle.pm_region.specs.State.{State, During, IsTelling, cell_now, Rose};
+ghost use Rattle.pm_region.specs.State.{State, During, IsTelling, cell_now, Faulted};
 ghost use Rattle.pm_region.specs.Words.{EachIn, Surely, lasts};
 ghost use Rattle.chunk_map.specs.Layouts.{IsLayout, is_class, has_class};
 ghost use Rattle.chunk_map.specs.Checked.{FitsHead};
-ghost use Rattle.chunk_map.specs.Setting.{HasEitherHead};
+ghost use Rattle.chunk_map.specs.Setting.{HasEitherHead, kind_of};
+ghost use Rattle.chunk_map.specs.declared.heads.Head.TheVariants.{Data};
 ghost use Rattle.store_image.specs.Parts.{block_bytes, unit_at, chunk_units};
 ghost use Rattle.lazy_alloc.specs.Sets.{Sets, AreSets, class_at, chunk_is_free, chunk_class, chunk_is_due, chunk_of, block_is_used, free_chunk_count, free_block_count, Takes, TakesChunkOrNone, GivesChunk, PutsBack, SameBlocks, SameChunks, Uses, is_free_block, part_unit};
 ghost use Rattle.lazy_alloc.specs.Steps.{CutsChunk, WritesHead, UsesBlock, LowestIn, LowestBlock};
@@ -21,7 +22,7 @@ use crate::counts::{add_to, count_of, take_from};
 use crate::values::value_in;
 use crate::written::write_block;
 use chunk_map::layout_sizes::{
-    CLASS_FACTOR, FIRST_UNIT, GREATEST_CLASS, LEAST_CHUNKS, MOST_CHUNKS, UNIT_LINES, UNIT_WORDS,
+    FIRST_UNIT, GREATEST_CLASS, LEAST_CHUNKS, MOST_CHUNKS, UNIT_LINES, UNIT_WORDS,
 };
 use chunk_map::{Head, Layout, set_head};
 use fs_errors::Memory;
@@ -387,8 +388,7 @@ impl Allocator {
         ensures ok { OnOk result ((class : ℕ) → class_at self.old pointer ≡ Some class
             → WroteValue (R.state region.new) self.old self.new pointer class value.now) }
         ensures err { OnErr result (self.new ≡ self.old) }
-        ensures cause { OnErr result
-            (Rose (R.state region.old).faults (R.state region.new).faults) }
+        ensures cause { OnErr result (Faulted (R.state region.old) (R.state region.new)) }
     {
         let class = self.class_at(pointer).unwrap();
         self.write_head(region, pointer, class)?;
@@ -442,9 +442,8 @@ impl Allocator {
             (HeadTurnsTo self.now pointer class)) }
         ensures ok { OnOk result (IsTelling (R.state region.new)
             → Surely (cell_now (R.state region.new) (head_of self.now pointer))
-            (2 + CLASS_FACTOR * class)) }
-        ensures cause { OnErr result
-            (Rose (R.state region.old).faults (R.state region.new).faults) }
+            (kind_of (Data class))) }
+        ensures cause { OnErr result (Faulted (R.state region.old) (R.state region.new)) }
     {
         if self.is_due(pointer) {
             let at = self.head_of(pointer);

@@ -1,7 +1,7 @@
 // A value is written to its block: its length in the block's first word, and its bytes behind.
 ghost use Rattle.std.specs.Prelude.{◌≡◌, ◌⊎◌, ℕ, ◌+◌, ◌-◌, ◌*◌, ◌/◌, ◌%◌, ◌^◌, ◌≤◌, ◌<◌, length, slice_index, OnOk, OnErr};
 ghost use Rattle.pm_region.specs.Cell.{Cell, certain};
-ghost use Rattle.pm_region.specs.State.{State, During, IsTelling, cell_now, Rose};
+ghost use Rattle.pm_region.specs.State.{State, During, IsTelling, cell_now, Faulted, WordsLie};
 ghost use Rattle.pm_region.specs.Words.{KeepsOutside};
 ghost use Rattle.log_entry.specs.Words.{words_for};
 ghost use Rattle.lazy_alloc.specs.Written.{block_words, block_lines};
@@ -25,10 +25,7 @@ fn block_word(value: &[u8], at: u64) -> u64
 // Stores the length and the words of the value, and no other word.
 fn store_block<R: Region>(region: &mut R, at: u64, value: &[u8], count: u64)
     requires count { count ≡ 1 + words_for (length value.now) }
-    requires low { (R.state region.old).frame.first ≤ at }
-    requires high { at + count ≤ (R.state region.old).frame.first
-        + (R.state region.old).frame.words }
-    requires fits { at + count < 2 ^ 64 }
+    requires lies { WordsLie (R.state region.old).frame at count }
     ensures run { During (R.state region.old) (R.state region.new)
         (KeepsOutside (cell_now (R.state region.old)) at (at + count)) }
     ensures stored { IsTelling (R.state region.new) → (j : ℕ) → j < count
@@ -42,10 +39,8 @@ fn store_block<R: Region>(region: &mut R, at: u64, value: &[u8], count: u64)
 /// Makes the length and the value certain: each touched line is flushed once, and one fence follows. The block begins
 /// at line `line`.
 pub fn write_block<R: Region>(region: &mut R, line: u64, value: &[u8]) -> Result<(), RegionFault>
-    requires low { (R.state region.old).frame.first ≤ LINE_WORDS * line }
-    requires high { LINE_WORDS * (line + block_lines value.now) ≤ (R.state region.old).frame.first
-        + (R.state region.old).frame.words }
-    requires fits { LINE_WORDS * (line + block_lines value.now) < 2 ^ 64 }
+    requires { WordsLie (R.state region.old).frame (LINE_WORDS * line)
+        (LINE_WORDS * block_lines value.now) }
     ensures run { During (R.state region.old) (R.state region.new)
         (KeepsOutside (cell_now (R.state region.old)) (LINE_WORDS * line)
         (LINE_WORDS * (line + block_lines value.now))) }
@@ -53,7 +48,7 @@ pub fn write_block<R: Region>(region: &mut R, line: u64, value: &[u8]) -> Result
         → j < 1 + words_for (length value.now)
         → cell_now (R.state region.new) (LINE_WORDS * line + j)
         ≡ certain (slice_index (block_words value.now) j)) }
-    ensures cause { OnErr result (Rose (R.state region.old).faults (R.state region.new).faults) }
+    ensures cause { OnErr result (Faulted (R.state region.old) (R.state region.new)) }
 {
     let count = 1 + words_for(value.len() as u64);
     store_block(region, LINE_WORDS * line, value, count);

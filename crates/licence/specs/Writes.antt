@@ -2,13 +2,13 @@
 use Rattle.std.specs.Prelude.{◌≡◌, ◌≢◌, ◌⊎◌, ℕ, ◌+◌, ◌≤◌, ◌<◌, true, List, [], length, Some, None, is_some}
 use Rattle.std.specs.List.{flat_map}
 use Rattle.pm_region.specs.State.{State, IsTelling, cell_now, During}
-use Rattle.pm_region.specs.Words.{EachIn, KeepsOutside, Surely}
+use Rattle.pm_region.specs.Words.{EachIn, KeepsOutside, Surely, lines_for}
 use Rattle.log_entry.specs.declared.entry.Entry.{Entry}
 use Rattle.log_entry.specs.Spelling.{words_of}
 use Rattle.log_entry.specs.Batches.{IsBatch}
 use Rattle.chunk_map.specs.Layouts.{chunk_words}
 use Rattle.store_image.specs.Facts.{In}
-use Rattle.core_log.specs.Chunk.{lines_for, padded, words_now, HasOrLacks, FreeOrEmpty, FreeOrLog}
+use Rattle.core_log.specs.Chunk.{padded, words_now, HasOrLacks, FreeOrEmpty, FreeOrLog}
 use Rattle.core_log.specs.Log.{LogState, StandsIn, tail_of, tail_in, first_of, open_first, open_tail, room_of, EachInOpen}
 use Rattle.core_log.specs.Opening.{EachInChunk}
 use Rattle.core_log.specs.PartImages.{entries_of}

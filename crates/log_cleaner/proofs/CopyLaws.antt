@@ -5,7 +5,7 @@ use Rattle.std.proofs.lemmas.Bool.{eqb-true, and_parts, cases_eq}
 use Rattle.std.proofs.lemmas.List.{map-append}
 use Rattle.pm_region.specs.Cell.{Cell}
 use Rattle.pm_region.specs.State.{State, IsTelling, cell_now, During}
-use Rattle.pm_region.specs.Words.{KeepsOutside, MayLeaveIn, lasts}
+use Rattle.pm_region.specs.Words.{KeepsOutside, MayLeaveIn, lasts, lines_for}
 use Rattle.pm_region.proofs.Clients.{weaken, both, told_at_entry, started}
 use Rattle.chunk_map.specs.Layouts.{chunk_words, part_first}
 use Rattle.chunk_map.proofs.Clients.{chunk_in_part}
@@ -18,7 +18,7 @@ use Rattle.log_entry.proofs.Clients.{spells-append}
 use Rattle.core_log.proofs.Clients.{length-padded, tail_other, without_other, open_has, opened_is, open_spelled, open_chunk_of, moved_chunk_of, entries_or_lacks}
 use Rattle.store_image.specs.Facts.{In}
 use Rattle.store_image.proofs.Clients.{in_front, in_either}
-use Rattle.core_log.specs.Chunk.{lines_for, padded, words_now, HasOrLacks}
+use Rattle.core_log.specs.Chunk.{padded, words_now, HasOrLacks}
 use Rattle.core_log.specs.Log.{LogState, StandsIn, Spelled, tail_of, with_tail, without, first_of, open_number, open_first, open_tail, room_of, EachInOpen}
 use Rattle.core_log.specs.Entries.{with_places, open_entries, added_entries, HasEntries, HasEntriesOrLacks, AppendedBatch}
 use Rattle.core_log.specs.Walking.{entries_in}

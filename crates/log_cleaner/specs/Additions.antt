@@ -1,6 +1,7 @@
 -- Entries that a lead appends to the log between two turns of a cleaning.
 use Rattle.std.specs.Prelude.{◌≡◌, ◌≢◌, ℕ, ◌+◌, ◌<◌, Bool, true, false, List, Some, None, is_some, if◌then◌else◌}
 use Rattle.std.specs.List.{flat_map, list_any}
+use Rattle.pm_region.specs.declared.region_sizes.TheConstants.{LINE_WORDS}
 use Rattle.pm_region.specs.State.{State, IsTelling, cell_now, During}
 use Rattle.pm_region.specs.Words.{KeepsOutside}
 use Rattle.chunk_map.specs.Layouts.{chunk_words}
@@ -39,7 +40,7 @@ pub record OpensNew (s t : State) (log : LogState) (st : StandingState) (j : ℕ
   pub own : IsOwn log
   pub within : j < log.layout.chunks
   pub new : tail_of log.chunks j ≡ None
-  pub outside : During s t (KeepsOutside (cell_now s) (first_of log j) (first_of log j + 8))
+  pub outside : During s t (KeepsOutside (cell_now s) (first_of log j) (first_of log j + LINE_WORDS))
   pub settled : (h : Settled) → st.settled ≡ Some h → is_some (tail_of log.chunks h.chunk) ≡ true
 
 -- the chunk is another one of the log's than the open one, and lacks their names

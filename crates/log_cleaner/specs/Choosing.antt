@@ -1,5 +1,7 @@
 -- Which chunk is cleaned next.
-use Rattle.std.specs.Prelude.{◌≡◌, ◌⊎◌, ℕ, ◌+◌, ◌*◌, ◌/◌, ◌<◌, ◌≤◌, ◌&&◌, ◌||◌, nat_le, Bool, true, Option, Some, None, is_some}
+use Rattle.std.specs.Prelude.{◌≡◌, ◌⊎◌, ℕ, ◌+◌, ◌*◌, ◌/◌, ◌<◌, ◌≤◌, ◌&&◌, ◌||◌, nat_le, Bool, true, Option, Some, None, is_some, ◌-◌}
+use Rattle.log_entry.specs.declared.entry_limits.TheConstants.{MOST_ENTRIES}
+use Rattle.pm_region.specs.Words.{lines_for}
 use Rattle.pm_region.specs.State.{State}
 use Rattle.core_log.specs.declared.types.Room.{Room}
 use Rattle.core_log.specs.Log.{LogState, tail_of}
@@ -9,7 +11,7 @@ use Rattle.log_cleaner.specs.Copying.{to_copy}
 
 -- the lines that the copies take at most: their words in whole lines, and a line's end for each batch
 abbrev pub copy_lines : Victim → ℕ
-copy_lines v = (v.words + 7) / 8 + (v.entries + 63) / 64
+copy_lines v = lines_for v.words + (v.entries + (MOST_ENTRIES - 1)) / MOST_ENTRIES
 
 -- The copies are a third of a payload at most, and there is room for them besides what is promised. No cleaning is under way, so what is promised is to own changes.
 abbrev pub fits : Room → Victim → Bool

@@ -1,11 +1,11 @@
 -- The next batch of a chunk's copies.
 use Rattle.std.specs.Prelude.{◌≡◌, ◌≢◌, ℕ, ◌+◌, ◌-◌, ◌≤◌, not, List, [], ◌∷◌, map, length, take, Some, if◌then◌else◌}
 use Rattle.std.specs.List.{filter, flat_map, AllByRecursion}
+use Rattle.pm_region.specs.Words.{lines_for}
 use Rattle.pm_region.specs.State.{State, IsTelling}
 use Rattle.log_entry.specs.declared.entry_limits.TheConstants.{MOST_ENTRIES}
 use Rattle.log_entry.specs.declared.entry.Entry.{Entry}
 use Rattle.log_entry.specs.Spelling.{words_of, HasSpelling}
-use Rattle.core_log.specs.Chunk.{lines_for}
 use Rattle.core_log.specs.Log.{LogState, StandsIn, tail_of, open_number, room_of}
 use Rattle.core_log.specs.Walking.{entries_in}
 use Rattle.log_standing.specs.NameCounts.{StandingState, copies_at, one_more}

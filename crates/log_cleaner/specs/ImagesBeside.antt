@@ -1,5 +1,6 @@
 -- What an image of a log's part has, beside an image of the call's beginning.
 use Rattle.std.specs.Prelude.{◌≡◌, ◌⊎◌, ℕ, ◌+◌, ◌≤◌, ◌<◌, List, length, map, true, Some, is_some}
+use Rattle.pm_region.specs.declared.region_sizes.TheConstants.{LINE_WORDS}
 use Rattle.pm_region.specs.Cell.{Cell}
 use Rattle.pm_region.specs.State.{State, IsTelling, cell_now, During}
 use Rattle.pm_region.specs.Words.{KeepsOutside, MayLeaveIn, EachIn, lasts}
@@ -63,7 +64,7 @@ pub record MakesCopies (s t : State) (log : LogState) (es : List Entry) : Type 0
 -- A chunk is made Free. It has its entries or none of them, no word outside its head's line is stored or flushed, and each image of the part has the entries of one of the beginning but perhaps those of these names.
 pub record GivesUp (s t : State) (log : LogState) (j : ℕ) (doomed : List EntryName) : Type 0 where
   pub entries : During s t (EachInChunk log j (HasSameOrNone s log j))
-  pub outside : During s t (KeepsOutside (cell_now s) (first_of log j) (first_of log j + 8))
+  pub outside : During s t (KeepsOutside (cell_now s) (first_of log j) (first_of log j + LINE_WORDS))
   pub parts : During s t (EachInPart log (LosesOnly s log j doomed))
 
 -- two entries of the log that have one name are equal

@@ -1,6 +1,6 @@
 // A chunk of the log is given up: what vanishes with it.
 ghost use Rattle.std.specs.Prelude.{◌≡◌, ◌≢◌, ℕ, ◌+◌, ◌-◌, ◌==◌, ◌≤◌, ◌<◌, true, Some, OnOk, OnErr, is_some, [], ◌∷◌, ◌++◌, length, IfOk, vec_len, vec_capacity, if◌then◌else◌};
-ghost use Rattle.pm_region.specs.State.{IsTelling, Rose};
+ghost use Rattle.pm_region.specs.State.{IsTelling, Faulted};
 ghost use Rattle.core_log.specs.Log.{StandsIn, tail_of};
 ghost use Rattle.core_log.specs.Walking.{entries_in};
 ghost use Rattle.log_standing.specs.NameCounts.{is_told, count_of, times_in, copies_at, Changes};
@@ -209,8 +209,7 @@ impl Clearing {
             standing.old standing.new self) }
         ensures chunk { IfOk result (λ cleared. cleared.chunk ≡ self.chunk) }
         ensures gone { IfOk result (λ cleared. cleared.gone.items ≡ self.doomed) }
-        ensures cause { OnErr result
-            (Rose (R.state region.old).faults (R.state region.new).faults) }
+        ensures cause { OnErr result (Faulted (R.state region.old) (R.state region.new)) }
     {
         let Clearing {
             chunk,

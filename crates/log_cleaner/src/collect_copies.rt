@@ -1,10 +1,10 @@
 // The next batch of copies out of a chunk.
 ghost use Rattle.std.specs.Prelude.{◌≡◌, ◌≢◌, ℕ, ◌+◌, ◌-◌, ◌*◌, ◌^◌, ◌≤◌, ◌<◌, true, false, is_some, Some, IfSome, List, [], ◌++◌, length};
-ghost use Rattle.pm_region.specs.State.{IsTelling};
+ghost use Rattle.pm_region.specs.State.{IsTelling, WordsLie};
 ghost use Rattle.pm_region.specs.Words.{lasts};
 ghost use Rattle.log_entry.specs.Words.{words_from};
 ghost use Rattle.core_log.specs.Log.{StandsIn, tail_of, HoldsEntries};
-ghost use Rattle.core_log.specs.Walking.{IsReadable, WordsLie, entries_in, behind};
+ghost use Rattle.core_log.specs.Walking.{IsReadable, entries_in, behind};
 ghost use Rattle.log_standing.specs.NameCounts.{copies_at, one_more, Changes, SameCopies, wants};
 ghost use Rattle.log_cleaner.specs.Copying.{IsSettled, IsSettledIn, IsUpToDate, begins, left_to_copy};
 ghost use Rattle.log_cleaner.specs.CopyBatch.{Collected, batch_in};
@@ -17,10 +17,7 @@ use pm_region::Region;
 
 // Appends so many words of the region.
 fn copy_words<R: Region>(region: &R, first: u64, count: u64, buffer: &mut WordBuffer)
-    requires low { (R.state region.now).frame.first ≤ first }
-    requires high { first + count ≤ (R.state region.now).frame.first
-        + (R.state region.now).frame.words }
-    requires fits { first + count < 2 ^ 64 }
+    requires lies { WordsLie (R.state region.now).frame first count }
     requires room { length buffer.old.words + count ≤ buffer.old.room }
     ensures words { IsTelling (R.state region.now) → buffer.new.words ≡ buffer.old.words
         ++ words_from (lasts (R.state region.now)) first count }

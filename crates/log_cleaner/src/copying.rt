@@ -1,7 +1,7 @@
 // What still lives in a chunk is copied into the open one.
 ghost use Rattle.std.specs.Prelude.{◌≡◌, ◌≢◌, ◌⊎◌, ℕ, ◌+◌, ◌-◌, ◌*◌, ◌^◌, ◌≤◌, ◌<◌, true, false, is_some, Some, length, OnOk, OnErr, IfOk};
-ghost use Rattle.pm_region.specs.State.{IsTelling, Rose};
-ghost use Rattle.core_log.specs.Chunk.{lines_for};
+ghost use Rattle.pm_region.specs.Words.{lines_for};
+ghost use Rattle.pm_region.specs.State.{IsTelling, Faulted};
 ghost use Rattle.core_log.specs.Log.{StandsIn, tail_of, room_of};
 ghost use Rattle.log_cleaner.specs.Copying.{IsUpToDate};
 ghost use Rattle.log_cleaner.specs.CopyBatch.{copies_in, CopiesFit, IsBatchOf, HasCopied};
@@ -53,7 +53,7 @@ pub fn copy_live<R: Region>(
         × (log.new ≡ log.old)) }
     ensures buffer { buffer.new.room ≡ buffer.old.room }
     ensures err { OnErr result (log.new ≡ log.old) }
-    ensures cause { OnErr result (Rose (R.state region.old).faults (R.state region.new).faults) }
+    ensures cause { OnErr result (Faulted (R.state region.old) (R.state region.new)) }
 {
     buffer.clear();
     let taken = collect(region, log, standing, victim.chunk, buffer);

@@ -1,6 +1,7 @@
 -- Batches: as a list of words spells them, and as they are read place by place.
 use Rattle.std.specs.Prelude.{◌≡◌, ℕ, zero, suc, ◌+◌, ◌-◌, ◌%◌, ◌<◌, ◌==◌, ◌&&◌, not, List, [], ◌∷◌, ◌++◌, length, Bool, true, false, if◌then◌else◌, replicate}
 use Rattle.std.specs.List.{flat_map, AllByRecursion}
+use Rattle.pm_region.specs.declared.region_sizes.TheConstants.{LINE_WORDS}
 use Rattle.log_entry.specs.declared.entry.Entry.{Entry}
 use Rattle.log_entry.specs.declared.entry.Read.TheVariants as reads
 use Rattle.log_entry.specs.Spelling.{words_of, HasSpelling}
@@ -8,7 +9,7 @@ use Rattle.log_entry.specs.Reading.{read}
 
 -- how many words are missing up to a line's end
 abbrev pub padding : ℕ → ℕ
-padding n = (8 - n % 8) % 8
+padding n = (LINE_WORDS - n % LINE_WORDS) % LINE_WORDS
 
 abbrev pub batch_words : List Entry → List ℕ
 batch_words es = let ws = flat_map words_of es in ws ++ replicate (padding (length ws)) 0
@@ -41,10 +42,10 @@ abbrev pub scan : ℕ → ℕ → Bool → List ℕ → Scan
 scan p left padded [] = ended
 scan p (suc left) padded (w ∷ ws) = scan (p + 1) left padded ws
 scan p zero padded (w ∷ ws) =
-    if padded && not (p % 8 == 0) then (if w == 0 then scan (p + 1) 0 true ws else broken)
+    if padded && not (p % LINE_WORDS == 0) then (if w == 0 then scan (p + 1) 0 true ws else broken)
     else (elim (read (w ∷ ws)) [
       | reads.Entry e n ↦ with_entry p e (scan (p + 1) (n - 1) false ws)
-      | reads.Padding ↦ if p % 8 == 0 then broken else scan (p + 1) 0 true ws
+      | reads.Padding ↦ if p % LINE_WORDS == 0 then broken else scan (p + 1) 0 true ws
       | reads.BadEntry rule ↦ broken
     ])
 

@@ -1,17 +1,18 @@
 // Bytes in words, and back.
-ghost use Rattle.std.specs.Prelude.{◌≡◌, ◌+◌, ◌^◌, ◌<◌, IfOk, take, drop, slice_index};
+ghost use Rattle.std.specs.Prelude.{◌≡◌, ◌+◌, ◌-◌, ◌^◌, ◌<◌, IfOk, take, drop, slice_index};
 ghost use Rattle.std.specs.Int.{w64, from_le_bytes};
 ghost use Rattle.log_entry.specs.Words.{words_for, unpacked};
 
 use fs_errors::Memory;
+use pm_region::WORD_BYTES;
 use std::alloc::Global;
 
 /// How many words so many bytes take.
 pub fn words_for(bytes: u64) -> u64
-    requires { bytes + 7 < 2 ^ 64 }
+    requires { bytes + (WORD_BYTES - 1) < 2 ^ 64 }
     ensures { result ≡ words_for bytes }
 {
-    bytes.div_ceil(8)
+    bytes.div_ceil(WORD_BYTES)
 }
 
 fn byte_at(bytes: &[u8], at: usize) -> u8
@@ -24,7 +25,7 @@ fn byte_at(bytes: &[u8], at: usize) -> u8
 /// `at` counts bytes.
 pub fn word_at(bytes: &[u8], at: usize) -> u64
     requires { at < 2 ^ 63 }
-    ensures { result ≡ from_le_bytes w64 (take 8 (drop at bytes.now)) }
+    ensures { result ≡ from_le_bytes w64 (take WORD_BYTES (drop at bytes.now)) }
 {
     u64::from_le_bytes([
         byte_at(bytes, at),
@@ -42,7 +43,7 @@ pub fn word_at(bytes: &[u8], at: usize) -> u64
 pub fn unpack(alloc: Global, words: &[u64]) -> Result<Vec<u8>, Memory>
     ensures { IfOk result (λ v. v.items ≡ unpacked words.now) }
 {
-    let mut bytes = Vec::with_capacity(alloc, words.len() * 8)?;
+    let mut bytes = Vec::with_capacity(alloc, words.len() * WORD_BYTES as usize)?;
     for word in words {
         bytes.extend_from_slice(&word.to_le_bytes())?;
     }

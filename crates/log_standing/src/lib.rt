@@ -2,10 +2,10 @@
 #![tactic(auto)]
 
 mod filling;
+mod logged_names;
 mod merging;
 mod name_item;
 mod name_table;
-mod names;
 mod standing_names;
 mod types;
 

@@ -51,7 +51,7 @@ fn take_in(items: &mut Vec<NameItem>, kept: usize, item: NameItem) -> usize
     kept
 }
 
-// Makes of each run of one name one item, which has the number of its chunks.
+/// Makes of each run of one name one item, which has the number of its chunks.
 pub fn merge(items: &mut Vec<NameItem>)
     requires { InOrder items.old.items }
     ensures { IsMerged items.old.items items.new.items }

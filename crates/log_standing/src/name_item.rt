@@ -7,21 +7,26 @@ use fs_model::{Key, Version};
 use log_entry::EntryName;
 use std::mem::size_of;
 
-// A greater count stands in the map.
+/// A greater count stands in the map.
 pub const MOST_IN_ITEM: u64 = 65535;
-// As many versions there are.
+/// So many numbers a version may have.
 pub const VERSIONS: u128 = 4294967296;
-// Each chunk of a log has a lower number.
+/// Each chunk of a log has a lower number.
 pub const CHUNK_NUMBERS: u32 = 256;
 
 /// A name with what it has: in how many chunks it stands, and whether it was told dead. One in no chunk is gone. While
 /// a log is read `chunk` is the chunk of an entry, and afterwards it is the last one that was counted.
 #[derive(Clone, Copy)]
 pub struct NameItem {
+    /// With `version` the name.
     pub key: Key,
+    /// Which change of the key it is, counted from 1.
     pub version: Version,
+    /// In how many chunks.
     pub count: u16,
+    /// By its number in the part.
     pub chunk: u8,
+    /// The owner told it.
     pub dead: bool,
 }
 

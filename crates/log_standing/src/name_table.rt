@@ -13,7 +13,7 @@ use log_entry::EntryName;
 use std::alloc::Global;
 use std::marker::Model;
 
-// Names by rising rank, each once. One that is gone keeps its place.
+/// The names that stood at the start, by rising rank, each once. One that is gone keeps its place.
 #[derive(Drop)]
 pub struct NameTable {
     items: Vec<NameItem>,
@@ -68,7 +68,7 @@ fn kill_items<F: Fn(EntryName) -> bool>(items: &mut Vec<NameItem>, dead: F)
 }
 
 impl NameTable {
-    // No names.
+    /// No names.
     pub fn new(alloc: Global) -> NameTable
         ensures { result ≡ [] }
     {
@@ -77,7 +77,7 @@ impl NameTable {
         }
     }
 
-    // The names of these items, each in as many copies as it has chunks.
+    /// The names of these items, each in as many copies as it has chunks.
     pub fn of(items: Vec<NameItem>) -> NameTable
         requires { All Fits items.items }
         ensures counts { (cs : List LogChunk) → AreIn cs items.items → (k v : ℕ)
@@ -92,7 +92,7 @@ impl NameTable {
         NameTable { items }
     }
 
-    // What a name has.
+    /// What a name has.
     pub fn get(&self, name: EntryName) -> Option<Copies>
         ensures copies { result ≡ copies_among self.now name.key name.version }
         ensures small { IfSome result (λ c. c.count ≤ MOST_IN_ITEM) }
@@ -103,7 +103,7 @@ impl NameTable {
         }
     }
 
-    // Writes what a name has, where it has a place and its count fits in. Says whether it did.
+    /// Writes what a name has, where it has a place and its count fits in. Says whether it did.
     pub fn put(&mut self, name: EntryName, copies: Copies) -> bool
         ensures put { result ≡ true → Writes self.old self.new name.key name.version (Some copies) }
         ensures same { result ≡ false → self.new ≡ self.old }
@@ -120,7 +120,7 @@ impl NameTable {
         true
     }
 
-    // Takes a name out. It keeps its place.
+    /// Takes a name out. It keeps its place.
     pub fn take(&mut self, name: EntryName)
         ensures { Writes self.old self.new name.key name.version None }
     {
@@ -130,7 +130,7 @@ impl NameTable {
         self.items[place].count = 0;
     }
 
-    // Tells the names dead of which a test says so.
+    /// Tells the names dead of which a test says so.
     pub fn kill_where<F: Fn(EntryName) -> bool>(&mut self, dead: F)
         requires { F.IsAlwaysCallable dead }
         ensures killed { (f : ℕ → ℕ → Bool) → Answers (F.post dead) f

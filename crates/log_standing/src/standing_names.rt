@@ -3,9 +3,9 @@ ghost use Rattle.std.specs.Prelude.{◌≡◌, ◌⊎◌, ℕ, ◌+◌, ◌-◌,
 ghost use Rattle.log_standing.specs.NameCounts.{name_eq, copies_at, count_of, is_told, count_in, wants, living, one_more, killed, times_in, copies_with, Changes, SameCopies};
 ghost use Rattle.log_standing.specs.NameItems.{copies_among, AreSmall};
 
+use crate::logged_names::LoggedNames;
 use crate::name_item::MOST_IN_ITEM;
 use crate::name_table::NameTable;
-use crate::names::Names;
 use crate::types::{Copies, Settled};
 use fs_errors::Memory;
 use log_entry::EntryName;
@@ -16,7 +16,7 @@ use std::marker::Model;
 /// Equal entries in one chunk are one copy. A cleaning asks it what is still needed.
 #[derive(Drop)]
 pub struct Standing {
-    names: Names,
+    names: LoggedNames,
     // No name has more copies.
     most: u64,
     // How many places are reserved.
@@ -59,7 +59,7 @@ impl Standing {
         ensures settled { result.settled ≡ None }
     {
         Standing {
-            names: Names::of(alloc, table),
+            names: LoggedNames::of(alloc, table),
             most: MOST_IN_ITEM,
             room: 0,
             settled: None,

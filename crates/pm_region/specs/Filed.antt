@@ -1,5 +1,6 @@
 -- What the calls of the words of a file do, and which calls of the system they make.
 use Rattle.std.specs.Prelude.{◌≡◌, ◌≢◌, ◌⊎◌, ℕ, ◌+◌, ◌-◌, ◌*◌, ◌/◌, ◌≤◌, ◌<◌, true, false, Bool, List, [], ◌∷◌, replicate, slice_index, Option, Some, None}
+use Rattle.pm_region.specs.declared.region_sizes.TheConstants.{LINE_BYTES, LINE_WORDS, WORD_BYTES}
 use Rattle.pm_region.specs.Bytes.{word_at}
 use Rattle.pm_region.specs.Split.{words_in}
 use Rattle.pm_region.specs.Lines.{has_line, HasNone, Adds}
@@ -39,16 +40,16 @@ pub record IsKept (old new : FileWords) : Type 0 where
 
 -- the byte of the file is in none of the flushed lines of these words, which begin at the byte `start`
 abbrev pub IsBeside : FileWords → ℕ → ℕ → Type 0
-IsBeside w start byte = (line : ℕ) → flushes w line ≡ true → (byte < start + 64 * line)
-    ⊎ (start + 64 * line + 64 ≤ byte)
+IsBeside w start byte = (line : ℕ) → flushes w line ≡ true → (byte < start + LINE_BYTES * line)
+    ⊎ (start + LINE_BYTES * line + LINE_BYTES ≤ byte)
 
 -- From some calls to others, the flushed lines of these words were written: only writes were made. Each byte of those
 -- lines has its place, and no other byte of the file changed.
 pub record IsWritten (w : FileWords) (start : ℕ) (before after : List Call) : Type 0 where
   pub writes : OnlyWrites before after
-  pub lines : (disk : ℕ → ℕ) (line byte : ℕ) → flushes w line ≡ true → byte < 64
-      → byte_after disk after (start + (64 * line + byte)) ≡ slice_index w.bytes.items
-      (64 * line + byte)
+  pub lines : (disk : ℕ → ℕ) (line byte : ℕ) → flushes w line ≡ true → byte < LINE_BYTES
+      → byte_after disk after (start + (LINE_BYTES * line + byte)) ≡ slice_index w.bytes.items
+      (LINE_BYTES * line + byte)
   pub others : (disk : ℕ → ℕ) (byte : ℕ) → IsBeside w start byte → byte_after disk after byte
       ≡ byte_after disk before byte
 
@@ -68,7 +69,7 @@ IsSettled old new before after = (((line : ℕ) → flushes old line ≡ false) 
 
 -- the words from one place to another, with nothing flushed
 pub record IsPart (w : FileWords) (from end : ℕ) (part : FileWords) : Type 0 where
-  pub size : part.size ≡ 8 * (end - from)
+  pub size : part.size ≡ WORD_BYTES * (end - from)
   pub words : (k : ℕ) → k < end - from → word_of part k ≡ word_of w (from + k)
   pub none : (line : ℕ) → flushes part line ≡ false
 
@@ -79,7 +80,7 @@ pub record TakesPart (old new part : FileWords) (first : ℕ) : Type 0 where
   pub outer : (k : ℕ) → (k < first) ⊎ (first + words_in part.size ≤ k)
       → word_of new k ≡ word_of old k
   pub keeps : (line : ℕ) → flushes old line ≡ true → flushes new line ≡ true
-  pub takes : (line : ℕ) → flushes part line ≡ true → flushes new (first / 8 + line) ≡ true
+  pub takes : (line : ℕ) → flushes part line ≡ true → flushes new (first / LINE_WORDS + line) ≡ true
 
 -- The file was settled, then measured, and then read: these are its words, and nothing is flushed.
 pub record IsOpened (device : Device) (w : FileWords) : Type 0 where
@@ -88,7 +89,7 @@ pub record IsOpened (device : Device) (w : FileWords) : Type 0 where
 
 -- The file was cut to nothing and synced, so many zero words were written and synced, and its name was made certain.
 pub record IsMade (count : ℕ) (device : Device) (w : FileWords) : Type 0 where
-  pub size : w.size ≡ 8 * count
-  pub zeros : w.bytes.items ≡ replicate (8 * count) 0
+  pub size : w.size ≡ WORD_BYTES * count
+  pub zeros : w.bytes.items ≡ replicate (WORD_BYTES * count) 0
   pub calls : device.calls.made ≡ named ∷ synced ∷ wrote 0 w.bytes.items ∷ synced ∷ emptied ∷ []
   pub none : (line : ℕ) → flushes w line ≡ false

@@ -4,6 +4,7 @@ use Rattle.std.specs.declared.fs.File.{File}
 use Rattle.std.specs.declared.io.traits.Read as Read
 use Rattle.std.specs.declared.io.traits.Write as Write
 use Rattle.std.specs.declared.io.traits.Seek as Seek
+use Rattle.pm_region.specs.declared.region_sizes.TheConstants.{LINE_WORDS}
 use Rattle.pm_region.specs.Cell.{certain}
 use Rattle.pm_region.specs.State.{State, Frame}
 use Rattle.pm_region.specs.Split.{words_in}
@@ -97,7 +98,7 @@ pub record HaveTaken (old new : FileWords) (pieces : List FilePiece) (n : ℕ) :
   pub keeps : (line : ℕ) → flushes old line ≡ true → flushes new line ≡ true
   pub takes : (i : ℕ) (p : FilePiece) (line : ℕ) → i < n → flushes (slice_index_or pieces i p).words
       line ≡ true
-      → flushes new ((slice_index_or pieces i p).first / 8 + line) ≡ true
+      → flushes new ((slice_index_or pieces i p).first / LINE_WORDS + line) ≡ true
 
 -- the file was opened, and these are its words
 abbrev pub HasOpened : Option Device → FileWords → Type 0

@@ -1,19 +1,20 @@
 -- What is written of some lines of a file.
 use Rattle.std.specs.Prelude.{◌≡◌, ◌⊎◌, ℕ, ◌+◌, ◌*◌, ◌≤◌, ◌<◌, List, slice_index}
+use Rattle.pm_region.specs.declared.region_sizes.TheConstants.{LINE_BYTES}
 use Rattle.pm_region.specs.Calls.{Call, byte_after, OnlyWrites}
 
 -- the byte is in none of the first n lines, of a file whose bytes begin at `start`
 abbrev pub IsClear : ℕ → List ℕ → ℕ → ℕ → Type 0
-IsClear start lines n byte = (j : ℕ) → j < n → (byte < start + 64 * slice_index lines j)
-    ⊎ (start + 64 * slice_index lines j + 64 ≤ byte)
+IsClear start lines n byte = (j : ℕ) → j < n → (byte < start + LINE_BYTES * slice_index lines j)
+    ⊎ (start + LINE_BYTES * slice_index lines j + LINE_BYTES ≤ byte)
 
 -- From some calls to others only writes were made, by which each byte of the first n lines has its place, and no other
 -- byte of the file changed.
 pub record AreRuns (start : ℕ) (lines bytes : List ℕ) (n : ℕ) (before after : List Call) :
     Type 0 where
   pub writes : OnlyWrites before after
-  pub own : (disk : ℕ → ℕ) (j byte : ℕ) → j < n → byte < 64
-      → byte_after disk after (start + (64 * slice_index lines j + byte)) ≡ slice_index bytes
-      (64 * slice_index lines j + byte)
+  pub own : (disk : ℕ → ℕ) (j byte : ℕ) → j < n → byte < LINE_BYTES
+      → byte_after disk after (start + (LINE_BYTES * slice_index lines j + byte)) ≡ slice_index bytes
+      (LINE_BYTES * slice_index lines j + byte)
   pub others : (disk : ℕ → ℕ) (byte : ℕ) → IsClear start lines n byte → byte_after disk after byte
       ≡ byte_after disk before byte

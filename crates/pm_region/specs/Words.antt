@@ -1,7 +1,12 @@
 -- Images of a range of words, and what narrows them.
-use Rattle.std.specs.Prelude.{◌≡◌, ◌⊎◌, ℕ, ◌+◌, ◌*◌, ◌≤◌, ◌<◌}
+use Rattle.std.specs.Prelude.{◌≡◌, ◌⊎◌, ℕ, ◌+◌, ◌*◌, ◌≤◌, ◌<◌, ◌-◌, ◌/◌}
+use Rattle.pm_region.specs.declared.region_sizes.TheConstants.{LINE_WORDS}
 use Rattle.pm_region.specs.Cell.{Cell, fenced, MayBe}
 use Rattle.pm_region.specs.State.{State, cell_now}
+
+-- how many lines so many words take, the last one filled up
+abbrev pub lines_for : ℕ → ℕ
+lines_for n = (n + (LINE_WORDS - 1)) / LINE_WORDS
 
 -- the cell is as it was, or as a fence leaves it: the word was neither stored nor flushed
 abbrev pub Kept : Cell → Cell → Type 0
@@ -35,4 +40,4 @@ lasts s w = (cell_now s w).last
 pub record Sets (old : ℕ → Cell) (line at after : ℕ) (new : ℕ → Cell) : Type 0 where
   pub either : (v : ℕ) → MayBe (new at) v → MayBe (old at) v ⊎ (v ≡ after)
   pub beside : (w : ℕ) → (w ≡ at → ⊥) → Narrows (old w) (new w)
-  pub others : KeepsOutside old (8 * line) (8 * line + 8) new
+  pub others : KeepsOutside old (LINE_WORDS * line) (LINE_WORDS * line + LINE_WORDS) new

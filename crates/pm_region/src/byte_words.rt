@@ -25,38 +25,38 @@ pub fn words_of(alloc: Global, bytes: &[u8]) -> Result<Vec<u64>, AllocError>
     let count = word_count(bytes.len() as u64) as usize;
     let mut words = Vec::with_capacity(alloc, count)?;
     for k in 0..count {
-        words.push(LittleEndian::read_u64(&bytes[8 * k..]))?;
+        words.push(LittleEndian::read_u64(&bytes[WORD_BYTES as usize * k..]))?;
     }
     Ok(words)
 }
 
 /// The word at a place.
 pub fn word(bytes: &[u8], place: u64) -> u64
-    requires { 8 * place + 8 ≤ length bytes.now }
+    requires { WORD_BYTES * place + WORD_BYTES ≤ length bytes.now }
     ensures { result ≡ word_at bytes.now place }
 {
-    LittleEndian::read_u64(&bytes[8 * place as usize..])
+    LittleEndian::read_u64(&bytes[(WORD_BYTES * place) as usize..])
 }
 
 /// Stores a word.
 pub fn set_word(bytes: &mut [u8], place: u64, value: u64)
-    requires { 8 * place + 8 ≤ length bytes.old }
+    requires { WORD_BYTES * place + WORD_BYTES ≤ length bytes.old }
     ensures this { word_at bytes.new place ≡ value }
     ensures others { (k : ℕ) → k ≢ place → word_at bytes.new k ≡ word_at bytes.old k }
 {
     let low = (WORD_BYTES * place) as usize;
-    LittleEndian::write_u64(&mut bytes[low..low + 8], value);
+    LittleEndian::write_u64(&mut bytes[low..low + WORD_BYTES as usize], value);
 }
 
 /// Stores words, one behind the other, from a place on.
 pub fn set_words(bytes: &mut [u8], first: u64, words: &[u8])
-    requires whole { length words.now % 8 ≡ 0 }
-    requires within { 8 * first + length words.now ≤ length bytes.old }
-    ensures inner { (k : ℕ) → 8 * k < length words.now → word_at bytes.new (first + k)
+    requires whole { length words.now % WORD_BYTES ≡ 0 }
+    requires within { WORD_BYTES * first + length words.now ≤ length bytes.old }
+    ensures inner { (k : ℕ) → WORD_BYTES * k < length words.now → word_at bytes.new (first + k)
         ≡ word_at words.now k }
-    ensures outer { (k : ℕ) → (k < first) ⊎ (first + length words.now / 8 ≤ k)
+    ensures outer { (k : ℕ) → (k < first) ⊎ (first + length words.now / WORD_BYTES ≤ k)
         → word_at bytes.new k ≡ word_at bytes.old k }
 {
-    let low = 8 * first as usize;
+    let low = (WORD_BYTES * first) as usize;
     bytes[low..low + words.len()].copy_from_slice(words);
 }

@@ -15,16 +15,22 @@ use thiserror::Error;
 /// `(w + n) mod length`.
 #[derive(Clone, Copy, Debug, PartialEq, Eq)]
 pub enum Pick {
+    /// Of each word the first value, as if nothing had reached the device that is not certain.
     Oldest,
+    /// Of each word the last value, as if all had reached it.
     Newest,
+    /// The number `n`; `w` counts from the start of the region.
     Mixed(u64),
 }
 
 /// The values of a word: those before the mark, those from the mark on but for the last, and the last.
 #[derive(Drop)]
 pub struct CellData {
+    /// The oldest first. A fence drops them.
     pub before: Vec<u64>,
+    /// The oldest first.
     pub marked: Vec<u64>,
+    /// What a load gives.
     pub last: u64,
 }
 
@@ -134,6 +140,7 @@ pub enum ImageError {
     /// The region doesn't tell what a crash at that stamp may have left.
     #[error("the stamp is not told")]
     NotTold,
+    /// There was none for the image.
     #[error("out of memory")]
     Memory,
 }

@@ -41,6 +41,7 @@ impl From<io::Error> for RegionFault {
 pub struct Device {
     file: File,
     writable: bool,
+    /// Since it was opened. Only clauses read it.
     pub calls: Calls,
 }
 

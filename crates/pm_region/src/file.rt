@@ -1,7 +1,7 @@
 // A region in a file.
 ghost use Rattle.std.specs.Prelude.{◌≡◌, ℕ, ◌+◌, ◌-◌, ◌*◌, ◌^◌, ◌≤◌, ◌<◌, true, false, [], Some, length, slice_index, slice_index_or, IfOk, OnOk, OnErr, IsErrOf, Err};
 ghost use Rattle.pm_region.specs.Cell.{MayBe, store_at, flush_line, fence_range, unchanged};
-ghost use Rattle.pm_region.specs.State.{State, Goes, InRange, LineInRange, IsTelling, cell_now, Rose};
+ghost use Rattle.pm_region.specs.State.{State, Goes, InRange, LineInRange, IsTelling, cell_now, Faulted, Rose};
 ghost use Rattle.pm_region.specs.Split.{words_in, AreCuts};
 
 use crate::byte_words::word_count;
@@ -12,7 +12,7 @@ use crate::file_pieces::{absorb_all, file_pieces, latest_of, most_faults};
 use crate::file_words::FileWords;
 use crate::read_region::ReadRegion;
 use crate::region::{Region, RegionFault};
-use crate::region_sizes::MOST_WORDS;
+use crate::region_sizes::{MOST_WORDS, WORD_BYTES};
 use crate::split::{AttachError, SplitRegion};
 use std::alloc::Global;
 use std::fs::File;
@@ -114,8 +114,7 @@ impl<R: Files<File = File> + Drop> Region for FileRegion<R> {
         ensures ok { OnOk result (Goes (file_state self.old) (file_state self.new)
             (fence_range (file_state self.old).frame.first (file_state self.old).frame.words)) }
         ensures err { OnErr result (Goes (file_state self.old) (file_state self.new) unchanged) }
-        ensures cause { OnErr result
-            (Rose (file_state self.old).faults (file_state self.new).faults) }
+        ensures cause { OnErr result (Faulted (file_state self.old) (file_state self.new)) }
         ensures fenced { OnOk result (IsFenced self.old.words self.new.words 0
             (calls_on self.old.device) (calls_on self.new.device)) }
         ensures kept { OnErr result (IsKept self.old.words self.new.words) }
@@ -197,7 +196,7 @@ impl<R: Files<File = File> + Drop> SplitRegion for FileRegion<R> {
 
     fn create(&mut self, alloc: Global, words: u64) -> Result<(), AttachError>
         requires { words ≤ MOST_WORDS }
-        ensures ok { OnOk result (Attached (file_state self.old) (file_state self.new) (8 * words)
+        ensures ok { OnOk result (Attached (file_state self.old) (file_state self.new) (WORD_BYTES * words)
             (λ w. 0)) }
         ensures cause { Refuses (file_state self.old) (file_state self.new) result }
         ensures opens { IsOpenedOnceMore (file_state self.old) (file_state self.new) }

@@ -6,7 +6,7 @@ use crate::byte_words::word_count;
 use crate::device::Device;
 use crate::file_words::FileWords;
 use crate::region::RegionFault;
-use crate::region_sizes::MOST_WORDS;
+use crate::region_sizes::{MOST_WORDS, WORD_BYTES};
 use crate::split::AttachError;
 use std::alloc::Global;
 use std::fs::File;
@@ -32,7 +32,7 @@ pub fn open_words<R: Files<File = File>>(
 {
     let mut device = Device::attach(alloc, rt, path)?;
     let size = device.size()?;
-    let mut bytes = vec![in alloc; 0u8; 8 * word_count(size) as usize]?;
+    let mut bytes = vec![in alloc; 0u8; (WORD_BYTES * word_count(size)) as usize]?;
     device.read(&mut bytes)?;
     let words = FileWords::new(alloc, size, bytes)?;
     Ok((device, words))
@@ -49,8 +49,8 @@ pub fn create_words<R: Files<File = File>>(
     requires { count ≤ MOST_WORDS }
     ensures { IfOk result (λ pair. IsMade count pair.0 pair.1) }
 {
-    let bytes = vec![in alloc; 0u8; 8 * count as usize]?;
-    let words = FileWords::new(alloc, 8 * count, bytes)?;
+    let bytes = vec![in alloc; 0u8; (WORD_BYTES * count) as usize]?;
+    let words = FileWords::new(alloc, WORD_BYTES * count, bytes)?;
     let mut device = Device::create(rt, path)?;
     device.sync()?;
     device.write(0, &words.bytes)?;

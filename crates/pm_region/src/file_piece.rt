@@ -2,14 +2,14 @@
 ghost use Rattle.std.specs.Prelude.{◌≡◌, ℕ, ◌+◌, ◌-◌, ◌*◌, ◌/◌, ◌%◌, ◌≤◌, ◌<◌, OnOk, OnErr};
 ghost use Rattle.pm_region.specs.Cell.{store_at, flush_line, fence_range, unchanged};
 ghost use Rattle.pm_region.specs.declared.region_sizes.TheConstants.{LINE_WORDS, MOST_WORDS};
-ghost use Rattle.pm_region.specs.State.{Goes, InRange, LineInRange, IsTelling, cell_now, Rose};
+ghost use Rattle.pm_region.specs.State.{Goes, InRange, LineInRange, IsTelling, cell_now, Faulted};
 
 use crate::byte_words::word_count;
 use crate::device::Device;
 use crate::file_words::FileWords;
 use crate::read_region::ReadRegion;
 use crate::region::{Region, RegionFault};
-use crate::region_sizes::LINE_WORDS;
+use crate::region_sizes::{LINE_WORDS, WORD_BYTES};
 
 /// A piece of a `FileRegion`, which has opened the file for itself. The region has the file's lock.
 #[derive(Drop)]
@@ -61,7 +61,7 @@ impl Region for FilePiece {
         requires { LineInRange (file_piece_state self.old).frame line }
         ensures goes { Goes (file_piece_state self.old) (file_piece_state self.new)
             (flush_line line) }
-        ensures flushed { IsFlushed self.old.words self.new.words (line - self.old.first / 8) }
+        ensures flushed { IsFlushed self.old.words self.new.words (line - self.old.first / LINE_WORDS) }
     {
         self.words.flush(line - self.first / LINE_WORDS);
         self.stamp = self.stamp.saturating_add(1);
@@ -73,14 +73,16 @@ impl Region for FilePiece {
             (file_piece_state self.old).frame.words)) }
         ensures err { OnErr result (Goes (file_piece_state self.old) (file_piece_state self.new)
             unchanged) }
-        ensures cause { OnErr result (Rose (file_piece_state self.old).faults
-            (file_piece_state self.new).faults) }
-        ensures fenced { OnOk result (IsFenced self.old.words self.new.words (8 * self.old.first)
+        ensures cause { OnErr result (Faulted (file_piece_state self.old) (file_piece_state self.new)) }
+        ensures fenced { OnOk result (IsFenced self.old.words self.new.words (WORD_BYTES * self.old.first)
             self.old.device.calls.made self.new.device.calls.made) }
         ensures kept { OnErr result (IsKept self.old.words self.new.words) }
     {
         self.stamp = self.stamp.saturating_add(1);
-        match self.words.write_flushed(&mut self.device, 8 * self.first) {
+        match self
+            .words
+            .write_flushed(&mut self.device, WORD_BYTES * self.first)
+        {
             Ok(()) => Ok(()),
             Err(e) => {
                 self.faults = self.faults.saturating_add(1);

@@ -1,5 +1,6 @@
 // Words of a file, kept in memory.
 ghost use Rattle.std.specs.Prelude.{◌≡◌, ℕ, ◌+◌, ◌-◌, ◌*◌, ◌/◌, ◌%◌, ◌≤◌, ◌<◌, length};
+ghost use Rattle.pm_region.specs.declared.region_sizes.TheConstants.{LINE_WORDS, WORD_BYTES};
 ghost use Rattle.pm_region.specs.Split.{words_in};
 
 use crate::byte_words::{set_word, set_words, word, word_count};
@@ -7,7 +8,7 @@ use crate::device::Device;
 use crate::line_runs::write_runs;
 use crate::line_set::LineSet;
 use crate::region::RegionFault;
-use crate::region_sizes::{LINE_WORDS, MOST_BYTES};
+use crate::region_sizes::{LINE_WORDS, MOST_BYTES, WORD_BYTES};
 use std::alloc::{AllocError, Global};
 
 /// Words by their place, as bytes with the lowest of each word first. `size` is how many bytes the file or the
@@ -15,11 +16,14 @@ use std::alloc::{AllocError, Global};
 /// that isn't whole is never among them.
 #[derive(Drop)]
 pub struct FileWords {
+    /// In bytes.
     pub size: u64,
+    /// Eight to a word; bytes of the file behind its last whole word are not here.
     pub bytes: Vec<u8>,
+    /// Counted from the first line of these words.
     pub flushed: LineSet,
-    ghost whole: { length bytes.items ≡ 8 * words_in size },
-    ghost lines: { length flushed.marks.items ≡ words_in size / 8 },
+    ghost whole: { length bytes.items ≡ WORD_BYTES * words_in size },
+    ghost lines: { length flushed.marks.items ≡ words_in size / LINE_WORDS },
 }
 
 impl FileWords {
@@ -40,7 +44,7 @@ impl FileWords {
 
     /// These words, of a file or piece of so many bytes. It takes the room for every line once.
     pub fn new(alloc: Global, size: u64, bytes: Vec<u8>) -> Result<FileWords, AllocError>
-        requires { length bytes.items ≡ 8 * words_in size }
+        requires { length bytes.items ≡ WORD_BYTES * words_in size }
         ensures size { IfOk result (λ w. w.size ≡ size) }
         ensures bytes { IfOk result (λ w. w.bytes ≡ bytes) }
         ensures none { IfOk result (λ w. (line : ℕ) → flushes w line ≡ false) }
@@ -105,14 +109,16 @@ impl FileWords {
         requires high { end ≤ words_in self.now.size }
         ensures { IfOk result (IsPart self.now from end) }
     {
-        let bytes = self.bytes[8 * from as usize..8 * end as usize].to_vec(alloc)?;
-        let part = FileWords::new(alloc, 8 * (end - from), bytes)?;
+        let bytes = self.bytes[(WORD_BYTES * from) as usize..(WORD_BYTES * end) as usize].to_vec(
+            alloc,
+        )?;
+        let part = FileWords::new(alloc, WORD_BYTES * (end - from), bytes)?;
         Ok(part)
     }
 
     /// Takes the words of a part back that begins at the place `first`, with what is flushed of them.
     pub fn absorb(&mut self, part: &FileWords, first: u64)
-        requires whole { first % 8 ≡ 0 }
+        requires whole { first % LINE_WORDS ≡ 0 }
         requires within { first + words_in part.now.size ≤ words_in self.old.size }
         ensures { TakesPart self.old self.new part.now first }
     {

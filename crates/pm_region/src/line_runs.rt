@@ -59,8 +59,8 @@ fn write_run(
 ) -> Result<(), RegionFault>
     requires start { start ≤ MOST_BYTES }
     requires within { LINE_BYTES * first + LINE_BYTES * count ≤ length bytes.now }
-    ensures { OnOk result (device.new.calls.made ≡ wrote (start + 64 * first)
-        (take (64 * count) (drop (64 * first) bytes.now)) ∷ device.old.calls.made) }
+    ensures { OnOk result (device.new.calls.made ≡ wrote (start + LINE_BYTES * first)
+        (take (LINE_BYTES * count) (drop (LINE_BYTES * first) bytes.now)) ∷ device.old.calls.made) }
 {
     let low = LINE_BYTES * u64::from(first);
     let high = low + LINE_BYTES * count;

@@ -8,7 +8,9 @@ use std::alloc::{AllocError, Global};
 /// in the set stands once in the list. To add a line takes no memory.
 #[derive(Drop)]
 pub struct LineSet {
+    /// By the line's number: whether it is in the set.
     pub marks: Vec<bool>,
+    /// The lines of the set, each once, in any order.
     pub lines: Vec<u32>,
     ghost keeps: { KeepsLines marks.items lines.items },
     ghost room: { length marks.items ≤ vec_capacity lines },

@@ -10,7 +10,9 @@ use std::alloc::{AllocError, Global};
 /// counted from 1: those of the whole region since its last attach or create, those of a piece since the split.
 #[derive(Clone, Copy, Debug, PartialEq, Eq)]
 pub struct FenceNumber {
+    /// 0, or `i + 1`.
     pub piece: u32,
+    /// From 1 on.
     pub number: u64,
 }
 
@@ -18,16 +20,22 @@ pub struct FenceNumber {
 /// these fences.
 #[derive(Debug, Drop)]
 pub struct Faults {
+    /// In any order.
     pub opens: Vec<u64>,
+    /// In any order.
     pub fences: Vec<FenceNumber>,
 }
 
 /// The counts of a region: of faults, of refused calls of attach, create and split, and of all these calls.
 #[derive(Drop)]
 pub struct Counts {
+    /// Each call that failed counts: attach, create, split and fence.
     pub faults: u64,
+    /// Each attach, create and split that failed counts.
     pub refusals: u64,
+    /// Each attach, create and split counts, failed or not.
     pub opens: u64,
+    /// Which calls are to fail.
     pub plan: Faults,
 }
 

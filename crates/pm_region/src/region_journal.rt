@@ -9,11 +9,17 @@ use std::alloc::{AllocError, Global};
 /// and while its region is split for those of each piece, which are its `shares`.
 #[derive(Drop)]
 pub struct Journal {
+    /// Those that it keeps.
     pub steps: Vec<Step>,
+    /// How many of them stand before the moment `since`.
     pub base: u64,
+    /// The first stamp of which it may tell.
     pub since: u64,
+    /// The present one. It stays at the last number of 64 bits.
     pub stamp: u64,
+    /// The last stamp of which it may tell.
     pub limit: u64,
+    /// 1, or more while the region is split.
     pub shares: u64,
     ghost ordered: { since ≤ stamp },
     ghost last_stamp: { stamp < 2 ^ 64 },

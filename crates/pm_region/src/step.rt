@@ -9,9 +9,13 @@ use std::alloc::{AllocError, Global};
 /// One call of a region. A fence has the range of words that it covers, and one that failed is `Nothing`.
 #[derive(Clone, Copy)]
 pub enum Step {
+    /// A value to a word, counted from the start of the region.
     Store { at: u64, value: u64 },
+    /// Of a line, by its first word's number divided by 8.
     Flush { line: u64 },
+    /// Of so many words from the first on.
     Fence { first: u64, words: u64 },
+    /// No word changes, and the stamp rises.
     Nothing,
 }
 

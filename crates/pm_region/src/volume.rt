@@ -10,18 +10,24 @@ use crate::crash_image::{ImageError, Pick};
 use crate::history::History;
 use crate::part::Part;
 use crate::pieces::{latest_stamp, take_back};
-use crate::region_sizes::MOST_WORDS;
+use crate::region_sizes::{LINE_WORDS, MOST_WORDS, WORD_BYTES};
 use std::alloc::{AllocError, Global};
 
 /// Words in memory with their whole history, and how they are attached and split. `bytes` is the length of what an
 /// attach finds, which need not be whole words; `opens` counts the calls of attach and create.
 #[derive(Drop)]
 pub struct Volume {
+    /// The words, of an attach that is still to come too.
     pub history: History,
+    /// The words are the whole ones of them.
     pub bytes: u64,
+    /// Whether it was attached or created. Before that it has no words.
     pub attached: bool,
+    /// Whether the pieces of a split have them now.
     pub parted: bool,
+    /// The cuts of the last split, in words from the region's start.
     pub cuts: Vec<u64>,
+    /// Answered or refused. A split does not count here.
     pub opens: u64,
     ghost at_zero: { history.first ≡ 0 },
     ghost long: { length history.words.items ≡ words_in bytes },
@@ -114,7 +120,7 @@ impl Volume {
 
     /// Flushes a line, and notes the step.
     pub fn flush(&mut self, line: u64)
-        requires { 8 * line + 8 ≤ volume_words self.old }
+        requires { LINE_WORDS * line + LINE_WORDS ≤ volume_words self.old }
         ensures { VolumeMoves self.old self.new (flush_line line) }
     {
         self.history.flush(line);
@@ -155,14 +161,14 @@ impl Volume {
     /// Begins with so many zero words, each certain.
     pub fn create(&mut self, alloc: Global, words: u64) -> Result<(), AllocError>
         requires { words ≤ MOST_WORDS }
-        ensures ok { OnOk result (VolumeAttached self.old self.new (8 * words) (λ w. 0)) }
+        ensures ok { OnOk result (VolumeAttached self.old self.new (WORD_BYTES * words) (λ w. 0)) }
         ensures err { OnErr result (self.new ≡ self.old) }
         ensures opens { self.new.opens ≡ self.old.opens }
         ensures limit { limit_of self.new ≡ limit_of self.old }
     {
         let zeros = vec![in alloc; 0; words as usize]?;
         self.history = History::new(alloc, &zeros, self.history.journal.limit)?;
-        self.bytes = 8 * words;
+        self.bytes = WORD_BYTES * words;
         self.attached = true;
         self.parted = false;
         self.cuts.clear();

@@ -7,6 +7,7 @@ ghost use Rattle.pm_region.specs.Journals.{act, cell_after};
 ghost use Rattle.pm_region.specs.declared.step.Step.TheVariants.{Store, Flush, Fence};
 
 use crate::crash_image::CellData;
+use crate::region_sizes::LINE_WORDS;
 use crate::step::Step;
 use std::alloc::{AllocError, Global};
 
@@ -113,10 +114,10 @@ fn take_flush(
     requires step { step ≡ Flush line }
     ensures { OnOk result (AllAct step first cells.old.items cells.new.items) }
 {
-    let from = line.saturating_mul(8).max(first);
+    let from = line.saturating_mul(LINE_WORDS).max(first);
     let end = line
-        .saturating_mul(8)
-        .saturating_add(8)
+        .saturating_mul(LINE_WORDS)
+        .saturating_add(LINE_WORDS)
         .min(first + cells.len() as u64);
     for w in from..end {
         act_at(cells, first, (w - first) as usize, step)?;

@@ -12,7 +12,7 @@ use Rattle.log_entry.specs.Spelling.{words_of, HasSpelling}
 use Rattle.log_entry.specs.Reading.{size_of, body_of}
 use Rattle.chunk_map.specs.declared.layout_sizes.TheConstants.{HEAD_WORDS, SUPERBLOCK_WORDS}
 use Rattle.chunk_map.specs.declared.layouts.Geometry.{Geometry}
-use Rattle.chunk_map.specs.Layouts.{chunk_words, chunk_first, total_bytes}
+use Rattle.chunk_map.specs.Layouts.{chunk_words, chunk_first, total_words}
 use Rattle.store_image.specs.declared.types.PlacedEntry.{PlacedEntry}
 use Rattle.recover.specs.declared.found_entries.Found.{Found}
 use Rattle.recover.specs.declared.types.RecoverError.{RecoverError}
@@ -50,7 +50,7 @@ entries_at l image fs = map (placed_at l image) fs
 
 -- an entry of this name stands there in an image with this layout
 pub record Stands (l : Geometry) (image : ℕ → ℕ) (f : Found) : Type 0 where
-  pub within : f.at + length (words_of (entry_at image f)) ≤ total_bytes l / 8
+  pub within : f.at + length (words_of (entry_at image f)) ≤ total_words l
   pub spelling : HasSpelling (entry_at image f)
   pub words : words_from image f.at (length (words_of (entry_at image f)))
       ≡ words_of (entry_at image f)

@@ -1,5 +1,6 @@
 // The entries of a region's logs, without what its cores begin with.
 ghost use Rattle.std.specs.Prelude.{◌≡◌, ◌/◌};
+ghost use Rattle.pm_region.specs.declared.region_sizes.TheConstants.{WORD_BYTES};
 ghost use Rattle.pm_region.specs.State.{IsTelling};
 ghost use Rattle.pm_region.specs.Words.{lasts};
 ghost use Rattle.chunk_map.specs.Checked.{IsLength};
@@ -39,7 +40,7 @@ pub fn log_entries<R: Region>(
     bytes: u64,
 ) -> Result<Vec<PlacedEntry>, RecoverError>
     requires first { (R.state region.now).frame.first ≡ 0 }
-    requires words { IsLength bytes → (R.state region.now).frame.words ≡ bytes / 8 }
+    requires words { IsLength bytes → (R.state region.now).frame.words ≡ bytes / WORD_BYTES }
     ensures { IsTelling (R.state region.now) → ListsLogs bytes (lasts (R.state region.now)) result }
 {
     let layout = read_superblock(region, bytes)?;

@@ -11,7 +11,9 @@ use pm_region::WORD_BYTES;
 /// An entry by its name, and where it stands. Its body stays in the region.
 #[derive(Clone, Copy)]
 pub struct Found {
+    /// With `version` the name.
     pub key: Key,
+    /// Which change of the key it is, counted from 1.
     pub version: Version,
     /// The entry's first word, counted from the region's first. All parts together have less than 2^26 words.
     pub at: u32,

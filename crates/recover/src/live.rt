@@ -1,5 +1,6 @@
 // The live pairs of a region, without what its cores begin with.
 ghost use Rattle.std.specs.Prelude.{◌≡◌, ◌/◌, ◌<◌, ◌++◌, ◌∷◌, [], IfOk, OnOk, IsOkUnless};
+ghost use Rattle.pm_region.specs.declared.region_sizes.TheConstants.{WORD_BYTES};
 ghost use Rattle.pm_region.specs.State.{IsTelling};
 ghost use Rattle.pm_region.specs.Words.{lasts};
 ghost use Rattle.chunk_map.specs.Checked.{IsLength};
@@ -119,7 +120,7 @@ pub fn live_pairs<R: Region>(
     bytes: u64,
 ) -> Result<Vec<Pair>, RecoverError>
     requires first { (R.state region.now).frame.first ≡ 0 }
-    requires words { IsLength bytes → (R.state region.now).frame.words ≡ bytes / 8 }
+    requires words { IsLength bytes → (R.state region.now).frame.words ≡ bytes / WORD_BYTES }
     ensures { IsTelling (R.state region.now) → ListsLive bytes (lasts (R.state region.now)) result }
 {
     let layout = read_superblock(region, bytes)?;

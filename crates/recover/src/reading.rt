@@ -3,7 +3,7 @@ ghost use Rattle.std.specs.Prelude.{◌≡◌, ℕ, ◌/◌, ◌<◌, map, lengt
 ghost use Rattle.pm_region.specs.State.{IsTelling};
 ghost use Rattle.pm_region.specs.Words.{lasts};
 ghost use Rattle.log_entry.specs.Spelling.{HasSpelling};
-ghost use Rattle.chunk_map.specs.Layouts.{total_bytes};
+ghost use Rattle.chunk_map.specs.Layouts.{total_bytes, total_words};
 ghost use Rattle.store_image.specs.Soundness.{damaged};
 ghost use Rattle.recover.specs.Regions.{Covers};
 ghost use Rattle.recover.specs.ByName.{name_of};
@@ -29,7 +29,7 @@ fn words_there<R: Region>(
 ) -> Result<Option<Vec<u64>>, Memory>
     requires covers { Covers (R.state region.now).frame layout.now }
     ensures told { IfOk result (λ r. IsTelling (R.state region.now)
-        → HasWords (lasts (R.state region.now)) (total_bytes layout.now / 8) at r) }
+        → HasWords (lasts (R.state region.now)) (total_words layout.now) at r) }
     ensures some { IfOk result (λ r. IfSome r (λ words. 0 < length words.items)) }
 {
     let at = at as u64;

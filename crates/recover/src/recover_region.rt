@@ -1,5 +1,6 @@
 // Recovery of a region.
 ghost use Rattle.std.specs.Prelude.{◌≡◌, ◌↔◌, ◌/◌, None, IfOk, length};
+ghost use Rattle.pm_region.specs.declared.region_sizes.TheConstants.{WORD_BYTES};
 ghost use Rattle.pm_region.specs.State.{IsTelling};
 ghost use Rattle.pm_region.specs.Words.{lasts};
 ghost use Rattle.chunk_map.specs.Layouts.{total_bytes};
@@ -24,7 +25,7 @@ use store_image::Fault;
 /// Judges a region of so many bytes by all rules of soundness.
 fn judged<R: Region>(alloc: Global, region: &R, bytes: u64) -> Result<(), RecoverError>
     requires first { (R.state region.now).frame.first ≡ 0 }
-    requires words { IsLength bytes → (R.state region.now).frame.words ≡ bytes / 8 }
+    requires words { IsLength bytes → (R.state region.now).frame.words ≡ bytes / WORD_BYTES }
     ensures { IsTelling (R.state region.now)
         → AnswersFault (first_fault bytes (lasts (R.state region.now))) result }
 {
@@ -43,7 +44,7 @@ pub fn first_fault<R: Region>(
     bytes: u64,
 ) -> Result<Option<Fault>, Memory>
     requires first { (R.state region.now).frame.first ≡ 0 }
-    requires words { IsLength bytes → (R.state region.now).frame.words ≡ bytes / 8 }
+    requires words { IsLength bytes → (R.state region.now).frame.words ≡ bytes / WORD_BYTES }
     ensures first { IfOk result (λ f. IsTelling (R.state region.now)
         → f ≡ first_fault bytes (lasts (R.state region.now))) }
     ensures sound { IfOk result (λ f. IsTelling (R.state region.now) → (f ≡ None)
@@ -94,7 +95,7 @@ fn recovered<R: Region>(
 /// allocators and their indexes. It writes nothing.
 pub fn recover<R: Region>(alloc: Global, region: &R, bytes: u64) -> Result<Recovered, RecoverError>
     requires first { (R.state region.now).frame.first ≡ 0 }
-    requires words { IsLength bytes → (R.state region.now).frame.words ≡ bytes / 8 }
+    requires words { IsLength bytes → (R.state region.now).frame.words ≡ bytes / WORD_BYTES }
     // Whatever the region tells.
     ensures made { IfOk result (IsMade bytes) }
     ensures told { IsTelling (R.state region.now) → Recovers bytes

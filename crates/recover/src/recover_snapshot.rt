@@ -1,5 +1,6 @@
 // Recovery of a region that needs to tell nothing.
 ghost use Rattle.std.specs.Prelude.{◌≡◌, ℕ, ◌/◌, IfOk};
+ghost use Rattle.pm_region.specs.declared.region_sizes.TheConstants.{WORD_BYTES};
 ghost use Rattle.pm_region.specs.State.{IsTelling};
 ghost use Rattle.pm_region.specs.Words.{lasts};
 ghost use Rattle.chunk_map.specs.Checked.{IsLength};
@@ -20,7 +21,7 @@ pub fn recover_read<R: ReadRegion>(
     bytes: u64,
 ) -> Result<Recovered, RecoverError>
     requires first { (R.state region.now).frame.first ≡ 0 }
-    requires words { IsLength bytes → (R.state region.now).frame.words ≡ bytes / 8 }
+    requires words { IsLength bytes → (R.state region.now).frame.words ≡ bytes / WORD_BYTES }
     ensures made { IfOk result (IsMade bytes) }
     // By the words that the region reads.
     ensures read { Recovers bytes (R.word region.now) result }

@@ -2,7 +2,7 @@
 ghost use Rattle.std.specs.Prelude.{◌≡◌, ◌+◌, ◌*◌, ◌/◌, ◌^◌, ◌<◌, ◌≤◌, IfOk, IfSome, Some, None};
 ghost use Rattle.pm_region.specs.State.{IsTelling};
 ghost use Rattle.pm_region.specs.Words.{lasts};
-ghost use Rattle.chunk_map.specs.Layouts.{total_bytes};
+ghost use Rattle.chunk_map.specs.Layouts.{total_words};
 ghost use Rattle.store_image.specs.Parts.{block_class, held};
 ghost use Rattle.recover.specs.Regions.{Covers};
 
@@ -26,7 +26,7 @@ pub fn block_class<R: Region>(region: &R, layout: &Layout, part: u32, pointer: u
         ≡ block_class layout.now (lasts (R.state region.now)) part pointer }
     ensures small { IfSome result (λ class. class ≤ GREATEST_CLASS) }
     ensures within { IfSome result (λ class. UNIT_WORDS * pointer + UNIT_WORDS * 2 ^ class
-        ≤ total_bytes layout.now / 8) }
+        ≤ total_words layout.now) }
 {
     if pointer < FIRST_UNIT {
         return None;

@@ -16,6 +16,7 @@ use thiserror::Error;
 /// What a core begins with.
 #[derive(Drop)]
 pub struct CoreStart {
+    /// The core's number in the region, from 0.
     pub core: u32,
     /// The log of the core's part.
     pub log: CoreLog,
@@ -30,6 +31,7 @@ pub struct CoreStart {
 /// What the words of a sound region say.
 #[derive(Drop)]
 pub struct Recovered {
+    /// What the superblock says.
     pub layout: Layout,
     /// One start for each core, in their order.
     pub starts: Vec<CoreStart>,

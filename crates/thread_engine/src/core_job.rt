@@ -22,9 +22,13 @@ use std::thread;
 /// not accepted yet, with their numbers.
 #[derive(Drop)]
 pub struct CoreJob<B, P> {
+    /// The core's own: no other job has it.
     pub seat: B,
+    /// The words of the core's part, under their addresses in the region.
     pub piece: P,
+    /// The one of this core.
     pub worker: Worker,
+    /// The next one in front.
     pub queue: VecDeque<(u64, Request)>,
 }
 

@@ -17,7 +17,9 @@ use std::collections::VecDeque;
 /// of each.
 #[derive(Drop)]
 pub struct Dealt {
+    /// By the core's number.
     pub queues: Vec<VecDeque<(u64, Request)>>,
+    /// By the request's number, all None.
     pub answers: Vec<Option<Stamped>>,
 }
 

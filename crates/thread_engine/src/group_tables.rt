@@ -24,7 +24,9 @@ use std::marker::Brand;
 /// The tables of all groups, by number, and the tokens of their members, by core.
 #[derive(Drop)]
 pub struct GroupTables {
+    /// One for each group.
     pub tables: Vec<GroupTable>,
+    /// One for each core.
     pub tokens: Vec<SeatToken>,
 }
 

@@ -17,16 +17,22 @@ use std::thread::Threads;
 /// What the cores begin with but their pieces, in the cores' order: their tokens, their workers and their requests.
 #[derive(Drop)]
 pub struct Crew {
+    /// One for each core, of its seat at its group's table.
     pub tokens: Vec<SeatToken>,
+    /// One for each core.
     pub workers: Vec<Worker>,
+    /// By core the requests of its keys, each with its number in the trace, the next one in front.
     pub queues: Vec<VecDeque<(u64, Request)>>,
 }
 
 /// What the cores give back, in the cores' order: their pieces, their tokens and their workers.
 #[derive(Drop)]
 pub struct Returned<P> {
+    /// For the join.
     pub pieces: Vec<P>,
+    /// For closing the tables.
     pub tokens: Vec<SeatToken>,
+    /// With the answers that they fixed.
     pub workers: Vec<Worker>,
 }
 

@@ -33,8 +33,11 @@ use std::thread::Threads;
 /// What a run needs, all of it taken before the region is split.
 #[derive(Drop)]
 pub struct Supplies {
+    /// That of the region.
     pub layout: Geometry,
+    /// One for each group.
     pub tables: Vec<GroupTable>,
+    /// What each core begins with but its piece.
     pub crew: Crew,
     /// A place for each request's answer.
     pub answers: Vec<Option<Stamped>>,

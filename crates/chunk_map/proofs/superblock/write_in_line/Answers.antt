@@ -11,4 +11,4 @@ pub returns-clause-ok : goal.returns-clause-ok
 returns-clause-ok g c =
     let st = g.R.Region.state in
     certain_words (st c.args.region.now) (st c.store_words.new.region) (st c.flush.new.self) (st c.fence.new.self) c.args.at (c.args.at / 8) c.args.words.now c.fence.result c.store_words.ensures.run c.flush.ensures c.fence.ensures.ok
-    c.store_words.ensures.stored c.requires.low c.requires.high (omega arith) c.requires.within
+    c.store_words.ensures.stored c.requires.lies.low c.requires.lies.high (omega arith) c.requires.within

@@ -14,14 +14,15 @@ use Rattle.core_log.specs.Walking.{next_entry, peek_at}
 use Rattle.core_log.proofs.WalkLaws.{next_is_spelled, entry_read, walk_is, walk_ends}
 use Rattle.core_log.proofs.walking.walk_from.Goals as goal
 
-pub load_words-requires-clause-low : goal.load_words-requires-clause-low
-load_words-requires-clause-low g c = let at = c.in-Some.ensures.at in omega (arith, at, c.requires.low)
-
-pub load_words-requires-clause-high : goal.load_words-requires-clause-high
-load_words-requires-clause-high g c = let at = c.in-Some.ensures.at in let within = c.in-Some.ensures.within in omega (arith, at, within, c.requires.high)
-
-pub load_words-requires-clause-fits : goal.load_words-requires-clause-fits
-load_words-requires-clause-fits g c = let at = c.in-Some.ensures.at in let within = c.in-Some.ensures.within in omega (arith, at, within, c.requires.fits)
+pub load_words-requires : goal.load_words-requires
+load_words-requires g c =
+    let lies = c.requires.lies in
+    let low = lies.low in
+    let high = lies.high in
+    let fits = lies.fits in
+    let at = c.in-Some.ensures.at in
+    let within = c.in-Some.ensures.within in
+    record { low = omega (arith, at, low); high = omega (arith, at, within, high); fits = omega (arith, at, within, fits) }
 
 pub returns-in-Entry-clause-told : goal.returns-in-Entry-clause-told
 returns-in-Entry-clause-told g c = λ telling.

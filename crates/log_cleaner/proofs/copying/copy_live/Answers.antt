@@ -1,10 +1,9 @@
 use Rattle.std.proofs.Common.{◌≡◌, ◌+◌, ⊎_elim, ℕ, List, [], ◌∷◌, length, refl, sym, ◌∙◌, ap, arith}
 use Rattle.pm_region.specs.State.{State, IsTelling, cell_now}
-use Rattle.pm_region.specs.Words.{KeepsOutside}
+use Rattle.pm_region.specs.Words.{KeepsOutside, lines_for}
 use Rattle.pm_region.proofs.Clients.{told_at_entry, all_kept}
 use Rattle.chunk_map.specs.Layouts.{chunk_words}
 use Rattle.log_entry.specs.declared.entry.Entry.{Entry}
-use Rattle.core_log.specs.Chunk.{lines_for}
 use Rattle.core_log.specs.Log.{LogState, open_first}
 use Rattle.core_log.specs.Walking.{entries_in}
 use Rattle.core_log.proofs.Clients.{some_opens}

@@ -11,10 +11,10 @@ returns c =
     let ws = c.args.words.now in
     let w = slice_index ws 0 in
     let value = c.size_of-size.ensures.value in
-    let f = fills w (λ e. c.if-size-eq2.false (value ∙ e)) in
+    let f = fills w (λ e. c.if-size-eq-SHORTEST_ENTRY.false (value ∙ e)) in
     let some = f.0 in
     let long = f.1 in
-    let n = c.size_of-size.result - 3 in
+    let n = c.size_of-size.result - 1 - 2 in
     let last : c.size_of-size.result - 1 ≡ n + 2 = omega (arith, value, some) in
     c.all_zero_from.ensures
     ∙ (λ i. list_all (λ b. b == 0) (drop (c.length_of.ensures.value i - 8 * n) (c.to_le_bytes.ensures i)))

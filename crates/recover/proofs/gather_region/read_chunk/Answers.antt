@@ -25,19 +25,14 @@ overflow_add-at g c =
     let small = lies.1 in
     omega (arith, small, c.chunk_first-at.ensures)
 
-pub load_words-requires-clause-high : goal.load_words-requires-clause-high
-load_words-requires-clause-high g c =
+pub load_words-requires : goal.load_words-requires
+load_words-requires g c =
     let f = (g.R.Region.state c.args.region.now).frame in
     let lies = payload_lies f c.args.layout.now c.requires.covers c.args.part c.args.chunk c.in-Ok-Log.tail c.requires.part c.requires.chunk (subst (FitsHead c.args.layout.now) c.in-Ok-Log.field-0-is c.in-Ok-Log.ensures.fits).1 in
     let end = lies.0 in
-    omega (arith, end, c.chunk_first-at.ensures)
-
-pub load_words-requires-clause-fits : goal.load_words-requires-clause-fits
-load_words-requires-clause-fits g c =
-    let f = (g.R.Region.state c.args.region.now).frame in
-    let lies = payload_lies f c.args.layout.now c.requires.covers c.args.part c.args.chunk c.in-Ok-Log.tail c.requires.part c.requires.chunk (subst (FitsHead c.args.layout.now) c.in-Ok-Log.field-0-is c.in-Ok-Log.ensures.fits).1 in
     let small = lies.1 in
-    omega (arith, small, c.chunk_first-at.ensures)
+    let first = c.requires.covers.first in
+    record { low = omega (arith, first); high = omega (arith, end, c.chunk_first-at.ensures); fits = omega (arith, small, c.chunk_first-at.ensures) }
 
 pub returns-in_ok-scanned-in-Ok-Log : goal.returns-in_ok-scanned-in-Ok-Log
 returns-in_ok-scanned-in-Ok-Log g c = record {

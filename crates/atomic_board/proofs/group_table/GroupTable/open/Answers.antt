@@ -12,8 +12,8 @@ use Rattle.atomic_board.proofs.RuleOpened.{opens}
 use Rattle.atomic_board.proofs.NewSeats.{began_is, begun_covers, square_low, zeros, many, opened_some}
 use Rattle.atomic_board.proofs.group_table.GroupTable.open.Goals as goal
 
-pub overflow_add-count-2 : goal.overflow_add-count-2
-overflow_add-count-2 g c = let few = subst (λ (n : ℕ). n ≤ 8) c.requires.members (opened_few g.O.Opening.bytes g.O.Opening.group g.O.Opening.words c.requires.sound c.requires.group) in
+pub overflow_add-word_count : goal.overflow_add-word_count
+overflow_add-word_count g c = let few = subst (λ (n : ℕ). n ≤ 8) c.requires.members (opened_few g.O.Opening.bytes g.O.Opening.group g.O.Opening.words c.requires.sound c.requires.group) in
     let low = square_low c.args.members few in omega (arith, low, few)
 
 pub vacant-requires : goal.vacant-requires

@@ -28,23 +28,23 @@ pub invariant_of-self : goal.invariant_of-self
 invariant_of-self c = let me = c.args.self.now in let may = c.requires.may in let at = c.mail_word_of-word.ensures in let place = c.mail_place_of-place.ensures in
     let low = subst (λ n. c.args.from < n) me.own.2 may.sender in
     let word : c.mail_word_of-word.result ≡ mail_word (size (origin_in me.seat.me.0)) c.args.from (number_in me.seat.me.0) = at ∙ ap₂ (λ x y. mail_word x c.args.from y) (sym me.own.2) (sym me.own.1) in
-    let told = unfetched me.seat.me c.load-found.new.seat.me c.args.from c.load-found.result (c.load-found.new.seat.me ≡ (did (Found (loads.Mail c.args.from (number_in me.seat.me.0) false)) me.seat.me.0, me.seat.me.1)) (c.load-found.ensures.2 c.args.from may.sender word) (let z = c.if-found-eq0.true in z) in
+    let told = unfetched me.seat.me c.load-found.new.seat.me c.args.from c.load-found.result (c.load-found.new.seat.me ≡ (did (Found (loads.Mail c.args.from (number_in me.seat.me.0) false)) me.seat.me.0, me.seat.me.1)) (c.load-found.ensures.2 c.args.from may.sender word) (let z = c.if-found-eq-EMPTY_MAILBOX.true in z) in
     let t = calm_found me.seat.me c.load-found.new.seat.me me.member me.members me.held.items me.own me.order me.holds (loads.Mail c.args.from (number_in me.seat.me.0) false) told in
     record { few = me.few; wide = ap (λ z. z.words) c.load-found.ensures.0 ∙ me.wide; own = t.own; order = t.order; room = me.room; holds = t.holds }
 
-pub returns-then-found-eq0-clause-same : goal.returns-then-found-eq0-clause-same
-returns-then-found-eq0-clause-same c = let me = c.args.self.now in let may = c.requires.may in let at = c.mail_word_of-word.ensures in let place = c.mail_place_of-place.ensures in
+pub returns-then-found-eq-EMPTY_MAILBOX-clause-same : goal.returns-then-found-eq-EMPTY_MAILBOX-clause-same
+returns-then-found-eq-EMPTY_MAILBOX-clause-same c = let me = c.args.self.now in let may = c.requires.may in let at = c.mail_word_of-word.ensures in let place = c.mail_place_of-place.ensures in
     let low = subst (λ n. c.args.from < n) me.own.2 may.sender in
     let word : c.mail_word_of-word.result ≡ mail_word (size (origin_in me.seat.me.0)) c.args.from (number_in me.seat.me.0) = at ∙ ap₂ (λ x y. mail_word x c.args.from y) (sym me.own.2) (sym me.own.1) in
-    let told = unfetched me.seat.me c.load-found.new.seat.me c.args.from c.load-found.result (c.load-found.new.seat.me ≡ (did (Found (loads.Mail c.args.from (number_in me.seat.me.0) false)) me.seat.me.0, me.seat.me.1)) (c.load-found.ensures.2 c.args.from may.sender word) (let z = c.if-found-eq0.true in z) in
+    let told = unfetched me.seat.me c.load-found.new.seat.me c.args.from c.load-found.result (c.load-found.new.seat.me ≡ (did (Found (loads.Mail c.args.from (number_in me.seat.me.0) false)) me.seat.me.0, me.seat.me.1)) (c.load-found.ensures.2 c.args.from may.sender word) (let z = c.if-found-eq-EMPTY_MAILBOX.true in z) in
     let t = calm_found me.seat.me c.load-found.new.seat.me me.member me.members me.held.items me.own me.order me.holds (loads.Mail c.args.from (number_in me.seat.me.0) false) told in
     (c.load-found.ensures.0, refl, refl, t.base)
 
-pub returns-then-found-eq0-clause-view : goal.returns-then-found-eq0-clause-view
-returns-then-found-eq0-clause-view c = let me = c.args.self.now in let may = c.requires.may in let at = c.mail_word_of-word.ensures in let place = c.mail_place_of-place.ensures in
+pub returns-then-found-eq-EMPTY_MAILBOX-clause-view : goal.returns-then-found-eq-EMPTY_MAILBOX-clause-view
+returns-then-found-eq-EMPTY_MAILBOX-clause-view c = let me = c.args.self.now in let may = c.requires.may in let at = c.mail_word_of-word.ensures in let place = c.mail_place_of-place.ensures in
     let low = subst (λ n. c.args.from < n) me.own.2 may.sender in
     let word : c.mail_word_of-word.result ≡ mail_word (size (origin_in me.seat.me.0)) c.args.from (number_in me.seat.me.0) = at ∙ ap₂ (λ x y. mail_word x c.args.from y) (sym me.own.2) (sym me.own.1) in
-    let told = unfetched me.seat.me c.load-found.new.seat.me c.args.from c.load-found.result (c.load-found.new.seat.me ≡ (did (Found (loads.Mail c.args.from (number_in me.seat.me.0) false)) me.seat.me.0, me.seat.me.1)) (c.load-found.ensures.2 c.args.from may.sender word) (let z = c.if-found-eq0.true in z) in
+    let told = unfetched me.seat.me c.load-found.new.seat.me c.args.from c.load-found.result (c.load-found.new.seat.me ≡ (did (Found (loads.Mail c.args.from (number_in me.seat.me.0) false)) me.seat.me.0, me.seat.me.1)) (c.load-found.ensures.2 c.args.from may.sender word) (let z = c.if-found-eq-EMPTY_MAILBOX.true in z) in
     let t = calm_found me.seat.me c.load-found.new.seat.me me.member me.members me.held.items me.own me.order me.holds (loads.Mail c.args.from (number_in me.seat.me.0) false) told in
     t.view ∙ ap (λ j. after_find (loads.Mail c.args.from j false) (view_in me.seat.me.0)) me.own.1
 
@@ -52,7 +52,7 @@ pub exchange-parcel-requires : goal.exchange-parcel-requires
 exchange-parcel-requires c = let me = c.args.self.now in let may = c.requires.may in let at = c.mail_word_of-word.ensures in let place = c.mail_place_of-place.ensures in
     let low = subst (λ n. c.args.from < n) me.own.2 may.sender in
     let word : c.mail_word_of-word.result ≡ mail_word (size (origin_in me.seat.me.0)) c.args.from (number_in me.seat.me.0) = at ∙ ap₂ (λ x y. mail_word x c.args.from y) (sym me.own.2) (sym me.own.1) in
-    let got = fetched me.seat.me c.load-found.new.seat.me c.args.from c.load-found.result (c.load-found.new.seat.me ≡ (did (Found (loads.Mail c.args.from (number_in me.seat.me.0) false)) me.seat.me.0, me.seat.me.1)) (c.load-found.ensures.2 c.args.from may.sender word) c.if-found-eq0.false in let n : Notices = got.0 in let told = got.1 in
+    let got = fetched me.seat.me c.load-found.new.seat.me c.args.from c.load-found.result (c.load-found.new.seat.me ≡ (did (Found (loads.Mail c.args.from (number_in me.seat.me.0) false)) me.seat.me.0, me.seat.me.1)) (c.load-found.ensures.2 c.args.from may.sender word) c.if-found-eq-EMPTY_MAILBOX.false in let n : Notices = got.0 in let told = got.1 in
     let spot : c.mail_place_of-place.result ≡ mail_place (size (origin_in me.seat.me.0)) c.args.from (number_in me.seat.me.0) = place ∙ ap₂ (λ x y. mail_place x c.args.from y) (sym me.own.2) (sym me.own.1) in
     let out : c.load-found.new.seat.me.1 ≡ (c.mail_place_of-place.result, Some (parcels.Notices n)) ∷ me.seat.me.1 = ap (λ x. x.1) told ∙ ap (λ k. (k, Some (parcels.Notices n)) ∷ me.seat.me.1) (sym spot) in
     let outs = out ∙ ap (λ l. (c.mail_place_of-place.result, Some (parcels.Notices n)) ∷ l) (sym (ap (λ l. rest l) out)) in
@@ -62,7 +62,7 @@ pub store-requires : goal.store-requires
 store-requires c = let me = c.args.self.now in let may = c.requires.may in let at = c.mail_word_of-word.ensures in let place = c.mail_place_of-place.ensures in
     let low = subst (λ n. c.args.from < n) me.own.2 may.sender in
     let word : c.mail_word_of-word.result ≡ mail_word (size (origin_in me.seat.me.0)) c.args.from (number_in me.seat.me.0) = at ∙ ap₂ (λ x y. mail_word x c.args.from y) (sym me.own.2) (sym me.own.1) in
-    let got = fetched me.seat.me c.load-found.new.seat.me c.args.from c.load-found.result (c.load-found.new.seat.me ≡ (did (Found (loads.Mail c.args.from (number_in me.seat.me.0) false)) me.seat.me.0, me.seat.me.1)) (c.load-found.ensures.2 c.args.from may.sender word) c.if-found-eq0.false in let n : Notices = got.0 in let told = got.1 in
+    let got = fetched me.seat.me c.load-found.new.seat.me c.args.from c.load-found.result (c.load-found.new.seat.me ≡ (did (Found (loads.Mail c.args.from (number_in me.seat.me.0) false)) me.seat.me.0, me.seat.me.1)) (c.load-found.ensures.2 c.args.from may.sender word) c.if-found-eq-EMPTY_MAILBOX.false in let n : Notices = got.0 in let told = got.1 in
     let spot : c.mail_place_of-place.result ≡ mail_place (size (origin_in me.seat.me.0)) c.args.from (number_in me.seat.me.0) = place ∙ ap₂ (λ x y. mail_place x c.args.from y) (sym me.own.2) (sym me.own.1) in
     let out : c.load-found.new.seat.me.1 ≡ (c.mail_place_of-place.result, Some (parcels.Notices n)) ∷ me.seat.me.1 = ap (λ x. x.1) told ∙ ap (λ k. (k, Some (parcels.Notices n)) ∷ me.seat.me.1) (sym spot) in
     let outs = out ∙ ap (λ l. (c.mail_place_of-place.result, Some (parcels.Notices n)) ∷ l) (sym (ap (λ l. rest l) out)) in
@@ -77,7 +77,7 @@ pub invariant_of-self-2 : goal.invariant_of-self-2
 invariant_of-self-2 c = let me = c.args.self.now in let may = c.requires.may in let at = c.mail_word_of-word.ensures in let place = c.mail_place_of-place.ensures in
     let low = subst (λ n. c.args.from < n) me.own.2 may.sender in
     let word : c.mail_word_of-word.result ≡ mail_word (size (origin_in me.seat.me.0)) c.args.from (number_in me.seat.me.0) = at ∙ ap₂ (λ x y. mail_word x c.args.from y) (sym me.own.2) (sym me.own.1) in
-    let got = fetched me.seat.me c.load-found.new.seat.me c.args.from c.load-found.result (c.load-found.new.seat.me ≡ (did (Found (loads.Mail c.args.from (number_in me.seat.me.0) false)) me.seat.me.0, me.seat.me.1)) (c.load-found.ensures.2 c.args.from may.sender word) c.if-found-eq0.false in let n : Notices = got.0 in let told = got.1 in
+    let got = fetched me.seat.me c.load-found.new.seat.me c.args.from c.load-found.result (c.load-found.new.seat.me ≡ (did (Found (loads.Mail c.args.from (number_in me.seat.me.0) false)) me.seat.me.0, me.seat.me.1)) (c.load-found.ensures.2 c.args.from may.sender word) c.if-found-eq-EMPTY_MAILBOX.false in let n : Notices = got.0 in let told = got.1 in
     let spot : c.mail_place_of-place.result ≡ mail_place (size (origin_in me.seat.me.0)) c.args.from (number_in me.seat.me.0) = place ∙ ap₂ (λ x y. mail_place x c.args.from y) (sym me.own.2) (sym me.own.1) in
     let out : c.load-found.new.seat.me.1 ≡ (c.mail_place_of-place.result, Some (parcels.Notices n)) ∷ me.seat.me.1 = ap (λ x. x.1) told ∙ ap (λ k. (k, Some (parcels.Notices n)) ∷ me.seat.me.1) (sym spot) in
     let outs = out ∙ ap (λ l. (c.mail_place_of-place.result, Some (parcels.Notices n)) ∷ l) (sym (ap (λ l. rest l) out)) in
@@ -103,7 +103,7 @@ pub opened-requires : goal.opened-requires
 opened-requires c = let me = c.args.self.now in let may = c.requires.may in let at = c.mail_word_of-word.ensures in let place = c.mail_place_of-place.ensures in
     let low = subst (λ n. c.args.from < n) me.own.2 may.sender in
     let word : c.mail_word_of-word.result ≡ mail_word (size (origin_in me.seat.me.0)) c.args.from (number_in me.seat.me.0) = at ∙ ap₂ (λ x y. mail_word x c.args.from y) (sym me.own.2) (sym me.own.1) in
-    let got = fetched me.seat.me c.load-found.new.seat.me c.args.from c.load-found.result (c.load-found.new.seat.me ≡ (did (Found (loads.Mail c.args.from (number_in me.seat.me.0) false)) me.seat.me.0, me.seat.me.1)) (c.load-found.ensures.2 c.args.from may.sender word) c.if-found-eq0.false in let n : Notices = got.0 in let told = got.1 in
+    let got = fetched me.seat.me c.load-found.new.seat.me c.args.from c.load-found.result (c.load-found.new.seat.me ≡ (did (Found (loads.Mail c.args.from (number_in me.seat.me.0) false)) me.seat.me.0, me.seat.me.1)) (c.load-found.ensures.2 c.args.from may.sender word) c.if-found-eq-EMPTY_MAILBOX.false in let n : Notices = got.0 in let told = got.1 in
     let spot : c.mail_place_of-place.result ≡ mail_place (size (origin_in me.seat.me.0)) c.args.from (number_in me.seat.me.0) = place ∙ ap₂ (λ x y. mail_place x c.args.from y) (sym me.own.2) (sym me.own.1) in
     let out : c.load-found.new.seat.me.1 ≡ (c.mail_place_of-place.result, Some (parcels.Notices n)) ∷ me.seat.me.1 = ap (λ x. x.1) told ∙ ap (λ k. (k, Some (parcels.Notices n)) ∷ me.seat.me.1) (sym spot) in
     let outs = out ∙ ap (λ l. (c.mail_place_of-place.result, Some (parcels.Notices n)) ∷ l) (sym (ap (λ l. rest l) out)) in
@@ -113,7 +113,7 @@ pub returns-clause-same : goal.returns-clause-same
 returns-clause-same c = let me = c.args.self.now in let may = c.requires.may in let at = c.mail_word_of-word.ensures in let place = c.mail_place_of-place.ensures in
     let low = subst (λ n. c.args.from < n) me.own.2 may.sender in
     let word : c.mail_word_of-word.result ≡ mail_word (size (origin_in me.seat.me.0)) c.args.from (number_in me.seat.me.0) = at ∙ ap₂ (λ x y. mail_word x c.args.from y) (sym me.own.2) (sym me.own.1) in
-    let got = fetched me.seat.me c.load-found.new.seat.me c.args.from c.load-found.result (c.load-found.new.seat.me ≡ (did (Found (loads.Mail c.args.from (number_in me.seat.me.0) false)) me.seat.me.0, me.seat.me.1)) (c.load-found.ensures.2 c.args.from may.sender word) c.if-found-eq0.false in let n : Notices = got.0 in let told = got.1 in
+    let got = fetched me.seat.me c.load-found.new.seat.me c.args.from c.load-found.result (c.load-found.new.seat.me ≡ (did (Found (loads.Mail c.args.from (number_in me.seat.me.0) false)) me.seat.me.0, me.seat.me.1)) (c.load-found.ensures.2 c.args.from may.sender word) c.if-found-eq-EMPTY_MAILBOX.false in let n : Notices = got.0 in let told = got.1 in
     let spot : c.mail_place_of-place.result ≡ mail_place (size (origin_in me.seat.me.0)) c.args.from (number_in me.seat.me.0) = place ∙ ap₂ (λ x y. mail_place x c.args.from y) (sym me.own.2) (sym me.own.1) in
     let out : c.load-found.new.seat.me.1 ≡ (c.mail_place_of-place.result, Some (parcels.Notices n)) ∷ me.seat.me.1 = ap (λ x. x.1) told ∙ ap (λ k. (k, Some (parcels.Notices n)) ∷ me.seat.me.1) (sym spot) in
     let outs = out ∙ ap (λ l. (c.mail_place_of-place.result, Some (parcels.Notices n)) ∷ l) (sym (ap (λ l. rest l) out)) in
@@ -131,7 +131,7 @@ pub returns-clause-view : goal.returns-clause-view
 returns-clause-view c = let me = c.args.self.now in let may = c.requires.may in let at = c.mail_word_of-word.ensures in let place = c.mail_place_of-place.ensures in
     let low = subst (λ n. c.args.from < n) me.own.2 may.sender in
     let word : c.mail_word_of-word.result ≡ mail_word (size (origin_in me.seat.me.0)) c.args.from (number_in me.seat.me.0) = at ∙ ap₂ (λ x y. mail_word x c.args.from y) (sym me.own.2) (sym me.own.1) in
-    let got = fetched me.seat.me c.load-found.new.seat.me c.args.from c.load-found.result (c.load-found.new.seat.me ≡ (did (Found (loads.Mail c.args.from (number_in me.seat.me.0) false)) me.seat.me.0, me.seat.me.1)) (c.load-found.ensures.2 c.args.from may.sender word) c.if-found-eq0.false in let n : Notices = got.0 in let told = got.1 in
+    let got = fetched me.seat.me c.load-found.new.seat.me c.args.from c.load-found.result (c.load-found.new.seat.me ≡ (did (Found (loads.Mail c.args.from (number_in me.seat.me.0) false)) me.seat.me.0, me.seat.me.1)) (c.load-found.ensures.2 c.args.from may.sender word) c.if-found-eq-EMPTY_MAILBOX.false in let n : Notices = got.0 in let told = got.1 in
     let spot : c.mail_place_of-place.result ≡ mail_place (size (origin_in me.seat.me.0)) c.args.from (number_in me.seat.me.0) = place ∙ ap₂ (λ x y. mail_place x c.args.from y) (sym me.own.2) (sym me.own.1) in
     let out : c.load-found.new.seat.me.1 ≡ (c.mail_place_of-place.result, Some (parcels.Notices n)) ∷ me.seat.me.1 = ap (λ x. x.1) told ∙ ap (λ k. (k, Some (parcels.Notices n)) ∷ me.seat.me.1) (sym spot) in
     let outs = out ∙ ap (λ l. (c.mail_place_of-place.result, Some (parcels.Notices n)) ∷ l) (sym (ap (λ l. rest l) out)) in

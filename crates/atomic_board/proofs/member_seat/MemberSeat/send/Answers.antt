@@ -28,23 +28,23 @@ pub invariant_of-self : goal.invariant_of-self
 invariant_of-self c = let me = c.args.self.now in let may = c.requires.may in let at = c.mail_word_of-word.ensures in let place = c.mail_place_of-place.ensures in
     let less = subst (λ n. c.args.to < n) me.own.2 may.receiver in
     let word : c.mail_word_of-word.result ≡ mail_word (size (origin_in me.seat.me.0)) (number_in me.seat.me.0) c.args.to = at ∙ ap₂ (λ x y. mail_word x y c.args.to) (sym me.own.2) (sym me.own.1) in
-    let told = other_case c.load-found.result (c.load-found.ensures.2 c.args.to word) c.if-found-ne0.true in
+    let told = other_case c.load-found.result (c.load-found.ensures.2 c.args.to word) c.if-found-ne-EMPTY_MAILBOX.true in
     let t = calm_found me.seat.me c.load-found.new.seat.me me.member me.members me.held.items me.own me.order me.holds (loads.Mail (number_in me.seat.me.0) c.args.to true) told in
     record { few = me.few; wide = ap (λ z. z.words) c.load-found.ensures.0 ∙ me.wide; own = t.own; order = t.order; room = me.room; holds = t.holds }
 
-pub returns-then-found-ne0-clause-same : goal.returns-then-found-ne0-clause-same
-returns-then-found-ne0-clause-same c = let me = c.args.self.now in let may = c.requires.may in let at = c.mail_word_of-word.ensures in let place = c.mail_place_of-place.ensures in
+pub returns-then-found-ne-EMPTY_MAILBOX-clause-same : goal.returns-then-found-ne-EMPTY_MAILBOX-clause-same
+returns-then-found-ne-EMPTY_MAILBOX-clause-same c = let me = c.args.self.now in let may = c.requires.may in let at = c.mail_word_of-word.ensures in let place = c.mail_place_of-place.ensures in
     let less = subst (λ n. c.args.to < n) me.own.2 may.receiver in
     let word : c.mail_word_of-word.result ≡ mail_word (size (origin_in me.seat.me.0)) (number_in me.seat.me.0) c.args.to = at ∙ ap₂ (λ x y. mail_word x y c.args.to) (sym me.own.2) (sym me.own.1) in
-    let told = other_case c.load-found.result (c.load-found.ensures.2 c.args.to word) c.if-found-ne0.true in
+    let told = other_case c.load-found.result (c.load-found.ensures.2 c.args.to word) c.if-found-ne-EMPTY_MAILBOX.true in
     let t = calm_found me.seat.me c.load-found.new.seat.me me.member me.members me.held.items me.own me.order me.holds (loads.Mail (number_in me.seat.me.0) c.args.to true) told in
     (c.load-found.ensures.0, refl, refl, t.base)
 
-pub returns-then-found-ne0-clause-view : goal.returns-then-found-ne0-clause-view
-returns-then-found-ne0-clause-view c = let me = c.args.self.now in let may = c.requires.may in let at = c.mail_word_of-word.ensures in let place = c.mail_place_of-place.ensures in
+pub returns-then-found-ne-EMPTY_MAILBOX-clause-view : goal.returns-then-found-ne-EMPTY_MAILBOX-clause-view
+returns-then-found-ne-EMPTY_MAILBOX-clause-view c = let me = c.args.self.now in let may = c.requires.may in let at = c.mail_word_of-word.ensures in let place = c.mail_place_of-place.ensures in
     let less = subst (λ n. c.args.to < n) me.own.2 may.receiver in
     let word : c.mail_word_of-word.result ≡ mail_word (size (origin_in me.seat.me.0)) (number_in me.seat.me.0) c.args.to = at ∙ ap₂ (λ x y. mail_word x y c.args.to) (sym me.own.2) (sym me.own.1) in
-    let told = other_case c.load-found.result (c.load-found.ensures.2 c.args.to word) c.if-found-ne0.true in
+    let told = other_case c.load-found.result (c.load-found.ensures.2 c.args.to word) c.if-found-ne-EMPTY_MAILBOX.true in
     let t = calm_found me.seat.me c.load-found.new.seat.me me.member me.members me.held.items me.own me.order me.holds (loads.Mail (number_in me.seat.me.0) c.args.to true) told in
     t.view ∙ ap (λ j. after_find (loads.Mail j c.args.to true) (view_in me.seat.me.0)) me.own.1
 
@@ -52,7 +52,7 @@ pub exchange-requires : goal.exchange-requires
 exchange-requires c = let me = c.args.self.now in let may = c.requires.may in let at = c.mail_word_of-word.ensures in let place = c.mail_place_of-place.ensures in
     let less = subst (λ n. c.args.to < n) me.own.2 may.receiver in
     let word : c.mail_word_of-word.result ≡ mail_word (size (origin_in me.seat.me.0)) (number_in me.seat.me.0) c.args.to = at ∙ ap₂ (λ x y. mail_word x y c.args.to) (sym me.own.2) (sym me.own.1) in
-    let told = zero_case c.load-found.result (c.load-found.ensures.2 c.args.to word) (let z = c.if-found-ne0.false in z) in
+    let told = zero_case c.load-found.result (c.load-found.ensures.2 c.args.to word) (let z = c.if-found-ne-EMPTY_MAILBOX.false in z) in
     let spot : c.mail_place_of-place.result ≡ mail_place (size (origin_in me.seat.me.0)) (number_in me.seat.me.0) c.args.to = place ∙ ap₂ (λ x y. mail_place x y c.args.to) (sym me.own.2) (sym me.own.1) in
     let out : c.load-found.new.seat.me.1 ≡ (c.mail_place_of-place.result, None) ∷ me.seat.me.1 = ap (λ x. x.1) told ∙ ap (λ k. (k, None) ∷ me.seat.me.1) (sym spot) in
     (c.load-found.ensures.0 ∙ c.requires.table, (None, out ∙ ap (λ l. (c.mail_place_of-place.result, None) ∷ l) (sym (ap (λ l. rest l) out))))
@@ -61,7 +61,7 @@ pub store-requires : goal.store-requires
 store-requires c = let me = c.args.self.now in let may = c.requires.may in let at = c.mail_word_of-word.ensures in let place = c.mail_place_of-place.ensures in
     let less = subst (λ n. c.args.to < n) me.own.2 may.receiver in
     let word : c.mail_word_of-word.result ≡ mail_word (size (origin_in me.seat.me.0)) (number_in me.seat.me.0) c.args.to = at ∙ ap₂ (λ x y. mail_word x y c.args.to) (sym me.own.2) (sym me.own.1) in
-    let told = zero_case c.load-found.result (c.load-found.ensures.2 c.args.to word) (let z = c.if-found-ne0.false in z) in
+    let told = zero_case c.load-found.result (c.load-found.ensures.2 c.args.to word) (let z = c.if-found-ne-EMPTY_MAILBOX.false in z) in
     let spot : c.mail_place_of-place.result ≡ mail_place (size (origin_in me.seat.me.0)) (number_in me.seat.me.0) c.args.to = place ∙ ap₂ (λ x y. mail_place x y c.args.to) (sym me.own.2) (sym me.own.1) in
     let out : c.load-found.new.seat.me.1 ≡ (c.mail_place_of-place.result, None) ∷ me.seat.me.1 = ap (λ x. x.1) told ∙ ap (λ k. (k, None) ∷ me.seat.me.1) (sym spot) in
     let exch = c.exchange.ensures in let mine = ap (λ x. x.0) exch.3 ∙ ap (λ x. x.0) told in
@@ -75,7 +75,7 @@ pub invariant_of-self-2 : goal.invariant_of-self-2
 invariant_of-self-2 c = let me = c.args.self.now in let may = c.requires.may in let at = c.mail_word_of-word.ensures in let place = c.mail_place_of-place.ensures in
     let less = subst (λ n. c.args.to < n) me.own.2 may.receiver in
     let word : c.mail_word_of-word.result ≡ mail_word (size (origin_in me.seat.me.0)) (number_in me.seat.me.0) c.args.to = at ∙ ap₂ (λ x y. mail_word x y c.args.to) (sym me.own.2) (sym me.own.1) in
-    let told = zero_case c.load-found.result (c.load-found.ensures.2 c.args.to word) (let z = c.if-found-ne0.false in z) in
+    let told = zero_case c.load-found.result (c.load-found.ensures.2 c.args.to word) (let z = c.if-found-ne-EMPTY_MAILBOX.false in z) in
     let spot : c.mail_place_of-place.result ≡ mail_place (size (origin_in me.seat.me.0)) (number_in me.seat.me.0) c.args.to = place ∙ ap₂ (λ x y. mail_place x y c.args.to) (sym me.own.2) (sym me.own.1) in
     let out : c.load-found.new.seat.me.1 ≡ (c.mail_place_of-place.result, None) ∷ me.seat.me.1 = ap (λ x. x.1) told ∙ ap (λ k. (k, None) ∷ me.seat.me.1) (sym spot) in
     let exch = c.exchange.ensures in let mine = ap (λ x. x.0) exch.3 ∙ ap (λ x. x.0) told in
@@ -102,7 +102,7 @@ pub returns-clause-same : goal.returns-clause-same
 returns-clause-same c = let me = c.args.self.now in let may = c.requires.may in let at = c.mail_word_of-word.ensures in let place = c.mail_place_of-place.ensures in
     let less = subst (λ n. c.args.to < n) me.own.2 may.receiver in
     let word : c.mail_word_of-word.result ≡ mail_word (size (origin_in me.seat.me.0)) (number_in me.seat.me.0) c.args.to = at ∙ ap₂ (λ x y. mail_word x y c.args.to) (sym me.own.2) (sym me.own.1) in
-    let told = zero_case c.load-found.result (c.load-found.ensures.2 c.args.to word) (let z = c.if-found-ne0.false in z) in
+    let told = zero_case c.load-found.result (c.load-found.ensures.2 c.args.to word) (let z = c.if-found-ne-EMPTY_MAILBOX.false in z) in
     let spot : c.mail_place_of-place.result ≡ mail_place (size (origin_in me.seat.me.0)) (number_in me.seat.me.0) c.args.to = place ∙ ap₂ (λ x y. mail_place x y c.args.to) (sym me.own.2) (sym me.own.1) in
     let out : c.load-found.new.seat.me.1 ≡ (c.mail_place_of-place.result, None) ∷ me.seat.me.1 = ap (λ x. x.1) told ∙ ap (λ k. (k, None) ∷ me.seat.me.1) (sym spot) in
     let exch = c.exchange.ensures in let mine = ap (λ x. x.0) exch.3 ∙ ap (λ x. x.0) told in
@@ -121,7 +121,7 @@ pub returns-clause-view : goal.returns-clause-view
 returns-clause-view c = let me = c.args.self.now in let may = c.requires.may in let at = c.mail_word_of-word.ensures in let place = c.mail_place_of-place.ensures in
     let less = subst (λ n. c.args.to < n) me.own.2 may.receiver in
     let word : c.mail_word_of-word.result ≡ mail_word (size (origin_in me.seat.me.0)) (number_in me.seat.me.0) c.args.to = at ∙ ap₂ (λ x y. mail_word x y c.args.to) (sym me.own.2) (sym me.own.1) in
-    let told = zero_case c.load-found.result (c.load-found.ensures.2 c.args.to word) (let z = c.if-found-ne0.false in z) in
+    let told = zero_case c.load-found.result (c.load-found.ensures.2 c.args.to word) (let z = c.if-found-ne-EMPTY_MAILBOX.false in z) in
     let spot : c.mail_place_of-place.result ≡ mail_place (size (origin_in me.seat.me.0)) (number_in me.seat.me.0) c.args.to = place ∙ ap₂ (λ x y. mail_place x y c.args.to) (sym me.own.2) (sym me.own.1) in
     let out : c.load-found.new.seat.me.1 ≡ (c.mail_place_of-place.result, None) ∷ me.seat.me.1 = ap (λ x. x.1) told ∙ ap (λ k. (k, None) ∷ me.seat.me.1) (sym spot) in
     let exch = c.exchange.ensures in let mine = ap (λ x. x.0) exch.3 ∙ ap (λ x. x.0) told in

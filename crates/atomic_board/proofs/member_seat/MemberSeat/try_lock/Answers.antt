@@ -16,12 +16,12 @@ invariant_of-self c = let me = c.args.self.now in let said = c.compare_exchange-
     let t = after_try me.seat.me c.compare_exchange-found.new.seat.me me.member me.members me.held.items me.own me.order me.holds c.compare_exchange-found.result said.2 said.3 in
     record { few = me.few; wide = ap (λ z. z.words) c.compare_exchange-found.ensures.0 ∙ me.wide; own = t.own; order = t.order; room = me.room; holds = t.holds }
 
-pub returns-else-found-eq0-clause-same : goal.returns-else-found-eq0-clause-same
-returns-else-found-eq0-clause-same c = let me = c.args.self.now in let said = c.compare_exchange-found.ensures.2 in
+pub returns-else-found-eq-FREE_LOCK-clause-same : goal.returns-else-found-eq-FREE_LOCK-clause-same
+returns-else-found-eq-FREE_LOCK-clause-same c = let me = c.args.self.now in let said = c.compare_exchange-found.ensures.2 in
     let t = after_try me.seat.me c.compare_exchange-found.new.seat.me me.member me.members me.held.items me.own me.order me.holds c.compare_exchange-found.result said.2 said.3 in
     (c.compare_exchange-found.ensures.0, refl, refl, t.base)
 
-pub returns-else-found-eq0-clause-view : goal.returns-else-found-eq0-clause-view
-returns-else-found-eq0-clause-view c = let me = c.args.self.now in let said = c.compare_exchange-found.ensures.2 in let x : ℕ = c.compare_exchange-found.result in
-    let ne = c.if-found-eq0.false in
+pub returns-else-found-eq-FREE_LOCK-clause-view : goal.returns-else-found-eq-FREE_LOCK-clause-view
+returns-else-found-eq-FREE_LOCK-clause-view c = let me = c.args.self.now in let said = c.compare_exchange-found.ensures.2 in let x : ℕ = c.compare_exchange-found.result in
+    let ne = c.if-found-eq-FREE_LOCK.false in
     (calm_found me.seat.me c.compare_exchange-found.new.seat.me me.member me.members me.held.items me.own me.order me.holds (loads.Holder (x - 1)) (said.3 (x - 1) (omega arith))).view

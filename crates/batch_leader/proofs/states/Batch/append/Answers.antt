@@ -1,10 +1,11 @@
 use Rattle.std.proofs.Common.{◌≡◌, ◌≤◌, ℕ, List, length, refl, sym, ◌∙◌, ap, subst}
 use Rattle.std.specs.List.{flat_map}
+use Rattle.pm_region.specs.Words.{lines_for}
 use Rattle.log_entry.specs.Spelling.{words_of}
 use Rattle.core_log.specs.Log.{HoldsEntries}
 use Rattle.pm_region.proofs.Clients.{at_exit}
 use Rattle.log_entry.specs.Batches.{IsBatch}
-use Rattle.core_log.specs.Chunk.{lines_for, padded}
+use Rattle.core_log.specs.Chunk.{padded}
 use Rattle.core_log.specs.Log.{LogState, room_of}
 use Rattle.core_log.specs.Entries.{AppendedBatch}
 use Rattle.core_log.proofs.Clients.{holds_some}

@@ -1,5 +1,5 @@
 use Rattle.std.proofs.Common.{◌≡◌, ℕ, ◌+◌, ◌-◌, ◌<◌, ◌==◌, Bool, if◌then◌else◌, [], length, refl, sym, ◌∙◌, ap, subst, arith, length-append}
-use Rattle.core_log.specs.Chunk.{lines_for}
+use Rattle.pm_region.specs.Words.{lines_for}
 use Rattle.log_entry.specs.Spelling.{words_of}
 use Rattle.group_laws.specs.Places.{members}
 use Rattle.batch_leader.specs.declared.taken.Taken.{Taken}

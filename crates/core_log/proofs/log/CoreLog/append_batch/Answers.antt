@@ -1,8 +1,8 @@
 use Rattle.std.proofs.Common.{◌≡◌, ◌≤◌, ◌<◌, ◌+◌, ◌*◌, ◌/◌, ℕ, List, Some, true, is_some, length, refl, sym, ◌∙◌, ap, subst, arith, rules}
 use Rattle.pm_region.specs.State.{State, During, IsTelling, cell_now}
-use Rattle.pm_region.specs.Words.{KeepsOutside, EachIn}
+use Rattle.pm_region.specs.Words.{KeepsOutside, EachIn, lines_for}
 use Rattle.chunk_map.specs.Layouts.{chunk_words}
-use Rattle.core_log.specs.Chunk.{lines_for, padded, words_now, HasOrLacks, ChunkLies, IsLog, Appended}
+use Rattle.core_log.specs.Chunk.{padded, words_now, HasOrLacks, ChunkLies, IsLog, Appended}
 use Rattle.core_log.specs.Log.{LogState, IsChunkOf, chunk_with, with_tail, open_number, open_first, open_tail, EachInOpen}
 use Rattle.core_log.specs.Entries.{AppendedBatch}
 use Rattle.pm_region.proofs.Clients.{told_at_entry}

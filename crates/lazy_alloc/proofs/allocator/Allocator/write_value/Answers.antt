@@ -13,47 +13,22 @@ write_head-requires-clause-at g c = sym c.class_at.ensures.class ∙ c.unwrap-cl
 pub write_head-requires-clause-head : goal.write_head-requires-clause-head
 write_head-requires-clause-head g c = (c.requires.class c.unwrap-class.result (sym c.class_at.ensures.class ∙ c.unwrap-class.ensures)).1
 
-pub write_block-requires-clause-low : goal.write_block-requires-clause-low
-write_block-requires-clause-low g c =
+pub write_block-requires : goal.write_block-requires
+write_block-requires g c =
     let a = c.args.self.now in
     let p = c.args.pointer in
     let k = c.unwrap-class.result in
-    let st = g.R.Region.state in
     let at : class_at a p ≡ Some k = sym c.class_at.ensures.class ∙ c.unwrap-class.ensures in
     let is = lie a p k c.class_at.ensures.rules c.class_at.ensures.sets at in
     let room = class_room _ k (c.requires.class k at).0 in
     let same = c.write_head.ensures.outside.frame in
     let frame = ap (λ (f : Frame). f.first) same in
     let words = ap (λ (f : Frame). f.words) same in
-    omega (arith, frame, is.low, is.first, c.requires.lies.low)
-
-pub write_block-requires-clause-high : goal.write_block-requires-clause-high
-write_block-requires-clause-high g c =
-    let a = c.args.self.now in
-    let p = c.args.pointer in
-    let k = c.unwrap-class.result in
-    let st = g.R.Region.state in
-    let at : class_at a p ≡ Some k = sym c.class_at.ensures.class ∙ c.unwrap-class.ensures in
-    let is = lie a p k c.class_at.ensures.rules c.class_at.ensures.sets at in
-    let room = class_room _ k (c.requires.class k at).0 in
-    let same = c.write_head.ensures.outside.frame in
-    let frame = ap (λ (f : Frame). f.first) same in
-    let words = ap (λ (f : Frame). f.words) same in
-    omega (arith, words, frame, room, is.high, is.last, c.requires.lies.high)
-
-pub write_block-requires-clause-fits : goal.write_block-requires-clause-fits
-write_block-requires-clause-fits g c =
-    let a = c.args.self.now in
-    let p = c.args.pointer in
-    let k = c.unwrap-class.result in
-    let st = g.R.Region.state in
-    let at : class_at a p ≡ Some k = sym c.class_at.ensures.class ∙ c.unwrap-class.ensures in
-    let is = lie a p k c.class_at.ensures.rules c.class_at.ensures.sets at in
-    let room = class_room _ k (c.requires.class k at).0 in
-    let same = c.write_head.ensures.outside.frame in
-    let frame = ap (λ (f : Frame). f.first) same in
-    let words = ap (λ (f : Frame). f.words) same in
-    omega (arith, room, is.high, is.last, c.requires.lies.high, c.requires.lies.fits)
+    record {
+      low = omega (arith, frame, is.low, is.first, c.requires.lies.low);
+      high = omega (arith, words, frame, room, is.high, is.last, c.requires.lies.high);
+      fits = omega (arith, room, is.high, is.last, c.requires.lies.high, c.requires.lies.fits);
+    }
 
 pub mark_written-requires : goal.mark_written-requires
 mark_written-requires g c =

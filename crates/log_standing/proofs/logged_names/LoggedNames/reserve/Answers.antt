@@ -3,7 +3,7 @@ use Rattle.log_standing.specs.declared.types.Copies.{Copies}
 use Rattle.log_standing.specs.NameItems.{copies_among}
 use Rattle.log_standing.specs.TwoParts.{NamesState}
 use Rattle.log_standing.proofs.PartLaws.{either, copies_joined}
-use Rattle.log_standing.proofs.names.Names.reserve.Goals as goal
+use Rattle.log_standing.proofs.logged_names.LoggedNames.reserve.Goals as goal
 
 pub invariant_of-self-2 : goal.invariant_of-self-2
 invariant_of-self-2 c = λ k v some. c.in_ok-reserve.ensures.entries.2 (k, v) ∙ c.self.invariant k v some

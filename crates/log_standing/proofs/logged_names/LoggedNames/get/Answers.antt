@@ -2,7 +2,7 @@ use Rattle.std.proofs.Common.{sym, ◌∙◌, ap}
 use Rattle.log_standing.specs.NameItems.{copies_among}
 use Rattle.log_standing.specs.TwoParts.{NamesState}
 use Rattle.log_standing.proofs.PartLaws.{joined_none, joined_some}
-use Rattle.log_standing.proofs.names.Names.get.Goals as goal
+use Rattle.log_standing.proofs.logged_names.LoggedNames.get.Goals as goal
 
 pub returns-in-Some : goal.returns-in-Some
 returns-in-Some c =

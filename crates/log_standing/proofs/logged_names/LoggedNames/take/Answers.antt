@@ -2,7 +2,7 @@ use Rattle.std.proofs.Common.{◌++◌, None, subst}
 use Rattle.log_standing.specs.NameItems.{Writes}
 use Rattle.log_standing.specs.TwoParts.{NamesState}
 use Rattle.log_standing.proofs.PartLaws.{writes_second}
-use Rattle.log_standing.proofs.names.Names.take.Goals as goal
+use Rattle.log_standing.proofs.logged_names.LoggedNames.take.Goals as goal
 
 pub returns-clause-taken : goal.returns-clause-taken
 returns-clause-taken c =

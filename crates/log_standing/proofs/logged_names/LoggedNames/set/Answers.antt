@@ -4,7 +4,7 @@ use Rattle.log_standing.specs.NameCounts.{count_in}
 use Rattle.log_standing.specs.NameItems.{copies_among, Writes}
 use Rattle.log_standing.specs.TwoParts.{NamesState}
 use Rattle.log_standing.proofs.PartLaws.{writes_none, writes_first, writes_second, apart_second, joined_none, joined_first, none_from, bounded}
-use Rattle.log_standing.proofs.names.Names.set.Goals as goal
+use Rattle.log_standing.proofs.logged_names.LoggedNames.set.Goals as goal
 
 pub invariant_of-self-else-is_some : goal.invariant_of-self-else-is_some
 invariant_of-self-else-is_some c =

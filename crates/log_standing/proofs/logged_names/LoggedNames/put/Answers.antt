@@ -1,11 +1,11 @@
 use Rattle.std.proofs.Common.{◌≡◌, ◌++◌, Option, Some, ◌∙◌, subst}
 use Rattle.log_standing.specs.declared.types.Copies.{Copies}
 use Rattle.log_standing.specs.NameItems.{Writes}
-use Rattle.log_standing.specs.declared.names.Names.TheInside.{Inside}
+use Rattle.log_standing.specs.declared.logged_names.LoggedNames.TheInside.{Inside}
 use Rattle.log_standing.specs.TwoParts.{NamesState}
 use Rattle.log_standing.proofs.PartLaws.{writes_first, writes_second}
-use Rattle.log_standing.proofs.names.Names.put.Goals.{else-is_none-via-then-is_none+else-put, else-is_none-via-else-is_none}
-use Rattle.log_standing.proofs.names.Names.put.Goals as goal
+use Rattle.log_standing.proofs.logged_names.LoggedNames.put.Goals.{else-is_none-via-then-is_none+else-put, else-is_none-via-else-is_none}
+use Rattle.log_standing.proofs.logged_names.LoggedNames.put.Goals as goal
 
 pub returns-then-put-clause-put : goal.returns-then-put-clause-put
 returns-then-put-clause-put c =

@@ -13,14 +13,15 @@ use std::alloc::Global;
 use std::collections::HashMap;
 use std::marker::Model;
 
-// A name of the table that comes back stands there again, so none is in both.
+/// The names that stand: those of a table, which was made at the start, and those that came later, in a map. A name of
+/// the table that comes back stands there again, so none is in both.
 #[derive(Drop)]
-pub struct Names {
+pub struct LoggedNames {
     table: NameTable,
     later: HashMap<(Key, Version), Copies>,
 }
 
-impl Model for Names {
+impl Model for LoggedNames {
     ghost use Rattle.std.specs.HashMap.{spare};
     ghost use Rattle.std.specs.Prelude.{◌++◌};
     ghost use Rattle.log_standing.specs.TwoParts.{NamesState, AreApart};
@@ -71,18 +72,18 @@ fn take_in(names: &mut HashMap<(Key, Version), Copies>, name: EntryName)
     let _ = names.remove(&(name.key, name.version));
 }
 
-impl Names {
-    // The names of a table.
-    pub fn of(alloc: Global, table: NameTable) -> Names
+impl LoggedNames {
+    /// The names of a table.
+    pub fn of(alloc: Global, table: NameTable) -> LoggedNames
         ensures { (k v : ℕ) → copies_among result.entries k v ≡ copies_among table k v }
     {
-        Names {
+        LoggedNames {
             table,
             later: HashMap::new(alloc),
         }
     }
 
-    // What a name has.
+    /// What a name has.
     pub fn get(&self, name: EntryName) -> Option<Copies>
         ensures { result ≡ copies_among self.now.entries name.key name.version }
     {
@@ -92,7 +93,7 @@ impl Names {
         }
     }
 
-    // Makes room for so many more names.
+    /// Makes room for so many more names.
     pub fn reserve(&mut self, more: u64) -> Result<(), Memory>
         ensures copies { (k v : ℕ) → copies_among self.new.entries k v
             ≡ copies_among self.old.entries k v }
@@ -103,7 +104,7 @@ impl Names {
         Ok(())
     }
 
-    // Writes what a name has that stands. The count is no greater than before.
+    /// Writes what a name has that stands. The count is no greater than before.
     pub fn set(&mut self, name: EntryName, copies: Copies)
         requires stands { IsSome (copies_among self.old.entries name.key name.version) }
         requires some { 0 < copies.count }
@@ -119,7 +120,7 @@ impl Names {
         }
     }
 
-    // Writes what a name has, whether or not it stands. There is a place for it.
+    /// Writes what a name has, whether or not it stands. There is a place for it.
     pub fn put(&mut self, name: EntryName, copies: Copies)
         requires { 0 < self.old.spare }
         ensures put { Writes self.old.entries self.new.entries name.key name.version (Some copies) }
@@ -132,7 +133,7 @@ impl Names {
         put_in(&mut self.later, name, copies);
     }
 
-    // Takes a name out.
+    /// Takes a name out.
     pub fn take(&mut self, name: EntryName)
         ensures taken { Writes self.old.entries self.new.entries name.key name.version None }
         ensures spare { self.old.spare ≤ self.new.spare }
