@@ -38,23 +38,33 @@ fn live_pairs(rt: HostRuntime) -> Result<(), Fail> {
     Ok(())
 }
 
+const REGIONS: [(&[(usize, u8)], Status); 5] = [
+    (&[], Status::Done),
+    (&[(0, b'G')], Status::NotARegion { rule: 2 }),
+    (&[(32, 5)], Status::NotARegion { rule: 3 }),
+    // the kind of chunk 0 and the tail of chunk 2, which is a log
+    (
+        &[(4096, 9)],
+        Status::Damaged {
+            part: 0,
+            chunk: 0,
+            rule: 4,
+        },
+    ),
+    (
+        &[(12_288, 1), (12_296, 3)],
+        Status::Damaged {
+            part: 0,
+            chunk: 2,
+            rule: 5,
+        },
+    ),
+];
+
 #[test]
 fn regions(rt: HostRuntime) -> Result<(), Fail> {
     let alloc = rt.alloc();
-    let damaged = |chunk, rule| Status::Damaged {
-        part: 0,
-        chunk,
-        rule,
-    };
-    let table: [(&[(usize, u8)], Status); 5] = [
-        (&[], Status::Done),
-        (&[(0, b'G')], Status::NotARegion { rule: 2 }),
-        (&[(32, 5)], Status::NotARegion { rule: 3 }),
-        // the kind of chunk 0 and the tail of chunk 2, which is a log
-        (&[(4096, 9)], damaged(0, 4)),
-        (&[(12_288, 1), (12_296, 3)], damaged(2, 5)),
-    ];
-    for (others, status) in table {
+    for (others, status) in REGIONS {
         let mut region = region(alloc, others)?;
         let mut sink = SteadySink::new(alloc, 1000, 100)?;
         assert_eq!(rt; dump(&rt, &mut sink, &mut region)?.status, status);

@@ -122,50 +122,51 @@ fn a_failing_create(rt: HostRuntime) -> Result<(), Fail> {
     Ok(())
 }
 
+const FORMS: [(&str, Option<&str>); 17] = [
+    (FORMAT, Some("r")),
+    (
+        "format --chunk-bytes=4096 --chunks=4 --cores=2 --group=2 another",
+        Some("another"),
+    ),
+    ("replay region", Some("region")),
+    ("replay ", Some("")),
+    ("replay", None),
+    ("reply r", None),
+    ("replay r s", None),
+    ("replay --help", None),
+    ("--help", None),
+    ("help", None),
+    ("format r", None),
+    (
+        "format r --cores 3 --group 2 --chunks 4 --chunk-bytes 4096",
+        None,
+    ),
+    (
+        "format r --cores 16 --group 8 --chunks 64 --chunk-bytes 1048576",
+        None,
+    ),
+    (
+        "format r --cores 4294967298 --group 2 --chunks 4 --chunk-bytes 4096",
+        None,
+    ),
+    (
+        "format r --cores 2 --group 2 --chunks 4 --chunk-bytes 4k",
+        None,
+    ),
+    (
+        "format r --cores 2 --cores 2 --group 2 --chunks 4 --chunk-bytes 4096",
+        None,
+    ),
+    (
+        "format --cores 2 --group 2 --chunks 4 --chunk-bytes 4096",
+        None,
+    ),
+];
+
 #[test]
 fn forms(rt: HostRuntime) -> Result<(), Fail> {
     let alloc = rt.alloc();
-    let table = [
-        (FORMAT, Some("r")),
-        (
-            "format --chunk-bytes=4096 --chunks=4 --cores=2 --group=2 another",
-            Some("another"),
-        ),
-        ("replay region", Some("region")),
-        ("replay ", Some("")),
-        ("replay", None),
-        ("reply r", None),
-        ("replay r s", None),
-        ("replay --help", None),
-        ("--help", None),
-        ("help", None),
-        ("format r", None),
-        (
-            "format r --cores 3 --group 2 --chunks 4 --chunk-bytes 4096",
-            None,
-        ),
-        (
-            "format r --cores 16 --group 8 --chunks 64 --chunk-bytes 1048576",
-            None,
-        ),
-        (
-            "format r --cores 4294967298 --group 2 --chunks 4 --chunk-bytes 4096",
-            None,
-        ),
-        (
-            "format r --cores 2 --group 2 --chunks 4 --chunk-bytes 4k",
-            None,
-        ),
-        (
-            "format r --cores 2 --cores 2 --group 2 --chunks 4 --chunk-bytes 4096",
-            None,
-        ),
-        (
-            "format --cores 2 --group 2 --chunks 4 --chunk-bytes 4096",
-            None,
-        ),
-    ];
-    for (line, path) in table {
+    for (line, path) in FORMS {
         let found = region_path(alloc, &words(alloc, line)?)?;
         assert_eq!(rt; found.as_ref().map(|found| found.as_str()), path);
         if path.is_none() {

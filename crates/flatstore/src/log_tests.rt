@@ -81,34 +81,35 @@ fn bytes_with(
     Ok(all)
 }
 
+const ENTRIES: [(&[(usize, u8)], usize, usize, &str); 4] = [
+    (&[], 0, 0, ""),
+    (
+        &GREATEST,
+        0,
+        0,
+        "core 0 chunk 0 place 0 key 9 version 1048574 embedded 1\n",
+    ),
+    (
+        &SUPERSEDED,
+        12_560,
+        1,
+        "core 0 chunk 0 place 0 key 5 version 1 embedded 1\n\
+            core 0 chunk 0 place 3 key 5 version 2 delete\n\
+            core 0 chunk 2 place 0 key 5 version 1 embedded 1\n",
+    ),
+    (
+        &BLOCK,
+        8464,
+        255,
+        "core 0 chunk 1 place 0 key 1 version 1 embedded 255\n\
+            core 0 chunk 1 place 34 key 2 version 1 block 17\n",
+    ),
+];
+
 #[test]
 fn entries(rt: HostRuntime) -> Result<(), Fail> {
     let alloc = rt.alloc();
-    let table: [(&[(usize, u8)], usize, usize, &str); 4] = [
-        (&[], 0, 0, ""),
-        (
-            &GREATEST,
-            0,
-            0,
-            "core 0 chunk 0 place 0 key 9 version 1048574 embedded 1\n",
-        ),
-        (
-            &SUPERSEDED,
-            12_560,
-            1,
-            "core 0 chunk 0 place 0 key 5 version 1 embedded 1\n\
-                core 0 chunk 0 place 3 key 5 version 2 delete\n\
-                core 0 chunk 2 place 0 key 5 version 1 embedded 1\n",
-        ),
-        (
-            &BLOCK,
-            8464,
-            255,
-            "core 0 chunk 1 place 0 key 1 version 1 embedded 255\n\
-                core 0 chunk 1 place 34 key 2 version 1 block 17\n",
-        ),
-    ];
-    for (others, value, length, text) in table {
+    for (others, value, length, text) in ENTRIES {
         let bytes = bytes_with(alloc, others, value, length)?;
         let mut region = SteadyRegion::new(alloc, with(alloc, &bytes)?, 10)?;
         let mut sink = SteadySink::new(alloc, 1000, 7)?;
@@ -120,21 +121,22 @@ fn entries(rt: HostRuntime) -> Result<(), Fail> {
     Ok(())
 }
 
+const REFUSED: [(&[(usize, u8)], Status); 2] = [
+    (&[(0, b'G')], Status::NotARegion { rule: 2 }),
+    (
+        &[(12_288, 1), (12_296, 3)],
+        Status::Damaged {
+            part: 0,
+            chunk: 2,
+            rule: 5,
+        },
+    ),
+];
+
 #[test]
 fn regions_and_sinks(rt: HostRuntime) -> Result<(), Fail> {
     let alloc = rt.alloc();
-    let table: [(&[(usize, u8)], Status); 2] = [
-        (&[(0, b'G')], Status::NotARegion { rule: 2 }),
-        (
-            &[(12_288, 1), (12_296, 3)],
-            Status::Damaged {
-                part: 0,
-                chunk: 2,
-                rule: 5,
-            },
-        ),
-    ];
-    for (others, status) in table {
+    for (others, status) in REFUSED {
         let mut region = SteadyRegion::new(alloc, with(alloc, others)?, 10)?;
         let mut sink = SteadySink::new(alloc, 1000, 100)?;
         assert_eq!(rt; log(&rt, &mut sink, &mut region)?.status, status);

@@ -39,44 +39,45 @@ pub fn log_of<R: SplitRegion + ReadRegion>(
     Ok(Vec::from_slice(alloc, sink.text().unwrap_or(b"not kept"))?)
 }
 
+const INTERLEAVINGS: [(u8, &str, &str, &str); 4] = [
+    (
+        4,
+        ONE_BATCH,
+        "stored\nstored\nstored\n",
+        "core 0 chunk 0 place 0 key 0 version 1 embedded 1\n\
+            core 0 chunk 0 place 3 key 1 version 1 embedded 1\n\
+            core 0 chunk 0 place 6 key 2 version 1 embedded 1\n",
+    ),
+    (
+        4,
+        STOLEN,
+        "stored\nstored\nvalue a\nstored\nvalue b\n",
+        "core 0 chunk 0 place 0 key 4 version 2 embedded 1\n\
+            core 1 chunk 0 place 0 key 1 version 1 embedded 1\n\
+            core 1 chunk 0 place 3 key 4 version 1 embedded 1\n",
+    ),
+    (
+        4,
+        UNSTOLEN,
+        "stored\nstored\nvalue a\nstored\nvalue b\n",
+        "core 0 chunk 0 place 0 key 4 version 1 embedded 1\n\
+            core 0 chunk 0 place 8 key 4 version 2 embedded 1\n\
+            core 1 chunk 0 place 0 key 1 version 1 embedded 1\n",
+    ),
+    (
+        2,
+        ONE_BATCH,
+        "stored\nstored\nstored\n",
+        "core 0 chunk 0 place 0 key 0 version 1 embedded 1\n\
+            core 0 chunk 0 place 3 key 1 version 1 embedded 1\n\
+            core 2 chunk 0 place 0 key 2 version 1 embedded 1\n",
+    ),
+];
+
 #[test]
 fn interleavings(rt: HostRuntime) -> Result<(), Fail> {
     let alloc = rt.alloc();
-    let table = [
-        (
-            4,
-            ONE_BATCH,
-            "stored\nstored\nstored\n",
-            "core 0 chunk 0 place 0 key 0 version 1 embedded 1\n\
-                core 0 chunk 0 place 3 key 1 version 1 embedded 1\n\
-                core 0 chunk 0 place 6 key 2 version 1 embedded 1\n",
-        ),
-        (
-            4,
-            STOLEN,
-            "stored\nstored\nvalue a\nstored\nvalue b\n",
-            "core 0 chunk 0 place 0 key 4 version 2 embedded 1\n\
-                core 1 chunk 0 place 0 key 1 version 1 embedded 1\n\
-                core 1 chunk 0 place 3 key 4 version 1 embedded 1\n",
-        ),
-        (
-            4,
-            UNSTOLEN,
-            "stored\nstored\nvalue a\nstored\nvalue b\n",
-            "core 0 chunk 0 place 0 key 4 version 1 embedded 1\n\
-                core 0 chunk 0 place 8 key 4 version 2 embedded 1\n\
-                core 1 chunk 0 place 0 key 1 version 1 embedded 1\n",
-        ),
-        (
-            2,
-            ONE_BATCH,
-            "stored\nstored\nstored\n",
-            "core 0 chunk 0 place 0 key 0 version 1 embedded 1\n\
-                core 0 chunk 0 place 3 key 1 version 1 embedded 1\n\
-                core 2 chunk 0 place 0 key 2 version 1 embedded 1\n",
-        ),
-    ];
-    for (group, input, text, log) in table {
+    for (group, input, text, log) in INTERLEAVINGS {
         let mut region = SteadyRegion::new(alloc, fresh_of(alloc, 4, group)?, 5000)?;
         let (report, written) = replay(&rt, &mut region, input)?;
         assert_eq!(rt; report.status, Status::Done);

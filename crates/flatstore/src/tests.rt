@@ -129,44 +129,45 @@ fn cell_in<R: SplitRegion>(alloc: Global, region: &mut R, key: u64) -> Result<Op
     cell(alloc, &words, key)
 }
 
+const REPLIES: [(&str, Status, &str); 12] = [
+    ("", Status::Done, ""),
+    (THREE, Status::Done, "stored\nvalue abc\nabsent\n"),
+    ("put 5 \nget 5\n", Status::Done, "stored\nvalue \n"),
+    (
+        "put 1 a\nput 1 bc\nget 1",
+        Status::Done,
+        "stored\nstored\nvalue bc\n",
+    ),
+    (
+        "put 18446744073709551615 m\nget 18446744073709551615\n",
+        Status::Done,
+        "stored\nvalue m\n",
+    ),
+    ("put 5", Status::BadInput { line: 1, rule: 4 }, ""),
+    (
+        "get 18446744073709551616\n",
+        Status::BadInput { line: 1, rule: 5 },
+        "",
+    ),
+    ("get 007\n", Status::BadInput { line: 1, rule: 5 }, ""),
+    ("get -1\n", Status::BadInput { line: 1, rule: 5 }, ""),
+    (
+        "put 1 a\nGet 5\n",
+        Status::BadInput { line: 2, rule: 3 },
+        "",
+    ),
+    ("go 1 1\n", Status::BadInput { line: 1, rule: 6 }, ""),
+    (
+        "get 1\ngo 0 1\nput 1 a\ngo 0\n",
+        Status::Done,
+        "absent\nstored\n",
+    ),
+];
+
 #[test]
 fn replies(rt: HostRuntime) -> Result<(), Fail> {
     let alloc = rt.alloc();
-    let table = [
-        ("", Status::Done, ""),
-        (THREE, Status::Done, "stored\nvalue abc\nabsent\n"),
-        ("put 5 \nget 5\n", Status::Done, "stored\nvalue \n"),
-        (
-            "put 1 a\nput 1 bc\nget 1",
-            Status::Done,
-            "stored\nstored\nvalue bc\n",
-        ),
-        (
-            "put 18446744073709551615 m\nget 18446744073709551615\n",
-            Status::Done,
-            "stored\nvalue m\n",
-        ),
-        ("put 5", Status::BadInput { line: 1, rule: 4 }, ""),
-        (
-            "get 18446744073709551616\n",
-            Status::BadInput { line: 1, rule: 5 },
-            "",
-        ),
-        ("get 007\n", Status::BadInput { line: 1, rule: 5 }, ""),
-        ("get -1\n", Status::BadInput { line: 1, rule: 5 }, ""),
-        (
-            "put 1 a\nGet 5\n",
-            Status::BadInput { line: 2, rule: 3 },
-            "",
-        ),
-        ("go 1 1\n", Status::BadInput { line: 1, rule: 6 }, ""),
-        (
-            "get 1\ngo 0 1\nput 1 a\ngo 0\n",
-            Status::Done,
-            "absent\nstored\n",
-        ),
-    ];
-    for (input, status, text) in table {
+    for (input, status, text) in REPLIES {
         let (report, written) = row(&rt, input)?;
         assert_eq!(rt; report.status, status);
         assert_eq!(rt; written.as_slice(), text.as_bytes());
@@ -184,18 +185,19 @@ fn said(rt: &(impl Threads + AllocGlobal), words: &[&str]) -> Result<(Status, bo
     Ok((report.status, report.attached))
 }
 
+const NO_FORMS: [&[&str]; 7] = [
+    &[],
+    &["flatstore"],
+    &["flatstore", "replay"],
+    &["flatstore", "Replay", "region"],
+    &["flatstore", "replay", "region", "more"],
+    &["flatstore", "run", "region"],
+    &["flatstore", "load", "region", "7", "10"],
+];
+
 #[test]
 fn words_that_are_no_form(rt: HostRuntime) -> Result<(), Fail> {
-    let lines: [&[&str]; 7] = [
-        &[],
-        &["flatstore"],
-        &["flatstore", "replay"],
-        &["flatstore", "Replay", "region"],
-        &["flatstore", "replay", "region", "more"],
-        &["flatstore", "run", "region"],
-        &["flatstore", "load", "region", "7", "10"],
-    ];
-    for line in lines {
+    for line in NO_FORMS {
         assert_eq!(rt; said(&rt, line)?, (Status::Usage, false));
     }
     Ok(())
@@ -263,63 +265,68 @@ fn three_on(rt: &(impl Threads + AllocGlobal), bytes: Vec<u8>) -> Result<(Status
     Ok((report.status, written))
 }
 
+// Key 1 version 1, as `a` in log chunk 0 and as `b` in log chunk 1.
+const TWICE: [(usize, u8); 12] = [
+    (4096, 1),
+    (4104, 8),
+    (4352, 0x15),
+    (4355, 1),
+    (4360, 1),
+    (4368, b'a'),
+    (8192, 1),
+    (8200, 8),
+    (8448, 0x15),
+    (8451, 1),
+    (8456, 1),
+    (8464, b'b'),
+];
+
+// Keys 1 and 2 in log chunk 1, both pointing at 17, a block of class 1 in data chunk 0 with length 256.
+const SHARED: [(usize, u8); 11] = [
+    (4096, 2),
+    (4097, 1),
+    (4353, 1),
+    (8192, 1),
+    (8200, 8),
+    (8448, 0x11),
+    (8451, 17),
+    (8456, 1),
+    (8464, 0x11),
+    (8467, 17),
+    (8472, 2),
+];
+
+const DAMAGED: [(&[(usize, u8)], Status); 4] = [
+    (&[(0, b'G')], Status::NotARegion { rule: 2 }),
+    (&[(32, 5)], Status::NotARegion { rule: 3 }),
+    (
+        &TWICE,
+        Status::Damaged {
+            part: 0,
+            chunk: 1,
+            rule: 8,
+        },
+    ),
+    (
+        &SHARED,
+        Status::Damaged {
+            part: 0,
+            chunk: 1,
+            rule: 11,
+        },
+    ),
+];
+
 #[test]
 fn damaged_regions(rt: HostRuntime) -> Result<(), Fail> {
     let alloc = rt.alloc();
-    // key 1 version 1, as `a` in log chunk 0 and as `b` in log chunk 1
-    let twice: [(usize, u8); 12] = [
-        (4096, 1),
-        (4104, 8),
-        (4352, 0x15),
-        (4355, 1),
-        (4360, 1),
-        (4368, b'a'),
-        (8192, 1),
-        (8200, 8),
-        (8448, 0x15),
-        (8451, 1),
-        (8456, 1),
-        (8464, b'b'),
-    ];
-    // keys 1 and 2 in log chunk 1, both pointing at 17, a block of class 1 in data chunk 0 with length 256
-    let shared: [(usize, u8); 11] = [
-        (4096, 2),
-        (4097, 1),
-        (4353, 1),
-        (8192, 1),
-        (8200, 8),
-        (8448, 0x11),
-        (8451, 17),
-        (8456, 1),
-        (8464, 0x11),
-        (8467, 17),
-        (8472, 2),
-    ];
     let mut short = fresh(alloc)?;
     let _ = short.pop();
-    let table = [
-        (short, Status::NotARegion { rule: 1 }),
-        (with(alloc, &[(0, b'G')])?, Status::NotARegion { rule: 2 }),
-        (with(alloc, &[(32, 5)])?, Status::NotARegion { rule: 3 }),
-        (
-            with(alloc, twice.as_slice())?,
-            Status::Damaged {
-                part: 0,
-                chunk: 1,
-                rule: 8,
-            },
-        ),
-        (
-            with(alloc, shared.as_slice())?,
-            Status::Damaged {
-                part: 0,
-                chunk: 1,
-                rule: 11,
-            },
-        ),
-    ];
-    for (bytes, status) in table {
-        let (said, written) = three_on(&rt, bytes)?;
+    let (said, written) = three_on(&rt, short)?;
+    assert_eq!(rt; said, Status::NotARegion { rule: 1 });
+    assert!(rt; written.is_empty());
+    for (others, status) in DAMAGED {
+        let (said, written) = three_on(&rt, with(alloc, others)?)?;
         assert_eq!(rt; said, status);
         assert!(rt; written.is_empty());
     }

@@ -42,28 +42,29 @@ fn run<R: SplitRegion + ReadRegion>(
     threads(rt, &RUN, region, input, &OpenGate)
 }
 
+const ONE_CORE: [(&str, Status, &str); 4] = [
+    ("", Status::Done, ""),
+    (
+        "put 5 abc\nget 5\ndelete 5\nget 5\n",
+        Status::Done,
+        "stored\nvalue abc\ndeleted\nabsent\n",
+    ),
+    (
+        "delete 3\nput 3 a\nput 3 b\ndelete 3\ndelete 3\nget 3\n",
+        Status::Done,
+        "absent\nstored\nstored\ndeleted\nabsent\nabsent\n",
+    ),
+    (
+        "put 1 a\nGet 5\n",
+        Status::BadInput { line: 2, rule: 3 },
+        "",
+    ),
+];
+
 #[test]
 fn one_core(rt: HostRuntime) -> Result<(), Fail> {
     let alloc = rt.alloc();
-    let table = [
-        ("", Status::Done, ""),
-        (
-            "put 5 abc\nget 5\ndelete 5\nget 5\n",
-            Status::Done,
-            "stored\nvalue abc\ndeleted\nabsent\n",
-        ),
-        (
-            "delete 3\nput 3 a\nput 3 b\ndelete 3\ndelete 3\nget 3\n",
-            Status::Done,
-            "absent\nstored\nstored\ndeleted\nabsent\nabsent\n",
-        ),
-        (
-            "put 1 a\nGet 5\n",
-            Status::BadInput { line: 2, rule: 3 },
-            "",
-        ),
-    ];
-    for (input, status, text) in table {
+    for (input, status, text) in ONE_CORE {
         let mut region = SteadyRegion::new(alloc, fresh_of(alloc, 1, 1)?, 5000)?;
         let (report, written) = run(&rt, &mut region, input)?;
         assert_eq!(rt; report.status, status);

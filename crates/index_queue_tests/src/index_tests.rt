@@ -1,9 +1,10 @@
-// Keys through their changes, from the records of a start to the last notice.
+// Keys through their changes, from the records of a start to the last notice. Each test is a table of calls and answers,
+// which one loop plays: the proof of a function costs the square of its length.
 ghost use Rattle.std.specs.Prelude.{◌≤◌, IfOk};
 ghost use Rattle.std.specs.List.{AllByRecursion};
 ghost use Rattle.core_index.specs.Index.{HasNoneAbove};
 
-use core_index::{CoreIndex, Look, Record, Spent, Standee};
+use core_index::{CoreIndex, Look, Record, Standee};
 use fs_model::{Key, Value};
 use log_entry::{Body, Entry, EntryName};
 use std::alloc::Global;
@@ -70,22 +71,38 @@ fn name(key: Key, version: u32) -> EntryName {
     EntryName { key, version }
 }
 
-// What a key has, without its bytes.
+// One call of the index. A put has its block and its home, a delete its home.
+#[derive(Clone, Copy)]
+enum Call {
+    Look(Key),
+    Next(Key),
+    Put(Key, u64, u32),
+    Delete(Key, u32),
+    Notice(u32),
+    Gone(Key, u32),
+    Forget(Key),
+}
+
+// What it answers: of a change, the block of the value before.
 #[derive(Clone, Copy, Debug, PartialEq, Eq)]
-enum Found {
+enum Answer {
+    Nothing,
     Unknown,
     Deleted,
     Embedded,
     Block(u64),
+    Version(u32),
+    Spent(u32),
+    Name(Key, u32),
+    Forgotten,
 }
 
-// The calls without their clauses: a test that makes many of them carries none of their facts, and is proved in seconds.
-fn look(index: &CoreIndex, key: Key) -> Found {
+fn look(index: &CoreIndex, key: Key) -> Answer {
     match index.look(key) {
-        Look::Unknown => Found::Unknown,
-        Look::Deleted => Found::Deleted,
-        Look::Embedded(_) => Found::Embedded,
-        Look::Block(pointer) => Found::Block(pointer),
+        Look::Unknown => Answer::Unknown,
+        Look::Deleted => Answer::Deleted,
+        Look::Embedded(_) => Answer::Embedded,
+        Look::Block(pointer) => Answer::Block(pointer),
     }
 }
 
@@ -96,111 +113,149 @@ fn has_value(index: &CoreIndex, key: Key, bytes: &[u8]) -> bool {
     }
 }
 
-fn next(index: &CoreIndex, key: Key) -> Result<u32, Spent> {
-    index.next_version(key, false)
-}
-
-fn gone(index: &mut CoreIndex, name: EntryName) {
-    index.gone(name);
-}
-
-// Whether the key could be forgotten. It is.
-fn forget(index: &mut CoreIndex, key: Key) -> bool {
-    let may = index.forgettable(key);
-    if may {
-        index.forget(key);
+fn next(index: &CoreIndex, key: Key) -> Answer {
+    match index.next_version(key, false) {
+        Ok(version) => Answer::Version(version),
+        Err(spent) => Answer::Spent(spent.last),
     }
-    may
 }
 
-// What these homes are told, one after the other.
-fn notices(
+fn changed(
     alloc: Global,
     index: &mut CoreIndex,
-    homes: &[u32],
-) -> Result<Vec<Option<EntryName>>, Fail> {
-    let mut told = Vec::new(alloc);
-    for home in homes {
-        told.push(index.next_notice(*home))?;
+    key: Key,
+    body: Body,
+    home: u32,
+) -> Result<Answer, Fail> {
+    match change(alloc, index, key, body, home)? {
+        Some(pointer) => Ok(Answer::Block(pointer)),
+        None => Ok(Answer::Nothing),
     }
-    Ok(told)
 }
 
-fn live(alloc: Global, index: &CoreIndex) -> Result<Vec<EntryName>, Fail> {
-    let names = index.live(alloc)?;
-    Ok(names)
+fn notice(index: &mut CoreIndex, home: u32) -> Answer {
+    match index.next_notice(home) {
+        Some(name) => Answer::Name(name.key, name.version),
+        None => Answer::Nothing,
+    }
 }
+
+fn gone(index: &mut CoreIndex, name: EntryName) -> Answer {
+    index.gone(name);
+    Answer::Nothing
+}
+
+// Forgets the key where that may be.
+fn forget(index: &mut CoreIndex, key: Key) -> Answer {
+    if index.forgettable(key) {
+        index.forget(key);
+        Answer::Forgotten
+    } else {
+        Answer::Nothing
+    }
+}
+
+fn make(alloc: Global, index: &mut CoreIndex, call: Call) -> Result<Answer, Fail> {
+    match call {
+        Call::Look(key) => Ok(look(index, key)),
+        Call::Next(key) => Ok(next(index, key)),
+        Call::Put(key, block, home) => changed(alloc, index, key, Body::Pointer(block), home),
+        Call::Delete(key, home) => changed(alloc, index, key, Body::Tombstone, home),
+        Call::Notice(home) => Ok(notice(index, home)),
+        Call::Gone(key, version) => Ok(gone(index, name(key, version))),
+        Call::Forget(key) => Ok(forget(index, key)),
+    }
+}
+
+// The first call that answers otherwise, by its place, and what it answers.
+fn first_other(
+    alloc: Global,
+    index: &mut CoreIndex,
+    calls: &[(Call, Answer)],
+) -> Result<Option<(usize, Answer)>, Fail> {
+    for (place, (call, expected)) in calls.iter().enumerate() {
+        let found = make(alloc, index, *call)?;
+        if found != *expected {
+            return Ok(Some((place, found)));
+        }
+    }
+    Ok(None)
+}
+
+fn are_live(alloc: Global, index: &CoreIndex, names: &[EntryName]) -> Result<bool, Fail> {
+    let live = index.live(alloc)?;
+    Ok(live.as_slice() == names)
+}
+
+const AS_THE_RECORDS_SAY: [(Call, Answer); 7] = [
+    (Call::Look(7), Answer::Embedded),
+    (Call::Look(5), Answer::Deleted),
+    (Call::Look(9), Answer::Block(17)),
+    (Call::Look(1), Answer::Unknown),
+    (Call::Next(7), Answer::Version(4)),
+    (Call::Next(1), Answer::Version(1)),
+    (Call::Next(9), Answer::Spent(1_048_574)),
+];
 
 #[test]
 fn as_the_records_say(rt: HostRuntime) -> Result<(), Fail> {
-    let index = started(rt.alloc())?;
+    let alloc = rt.alloc();
+    let mut index = started(alloc)?;
     assert!(rt; has_value(&index, 7, b"abc"));
-    let found = [look(&index, 5), look(&index, 9), look(&index, 1)];
-    assert_eq!(rt; found, [Found::Deleted, Found::Block(17), Found::Unknown]);
-    let versions = [next(&index, 7), next(&index, 1), next(&index, 9)];
-    assert_eq!(rt; versions, [Ok(4), Ok(1), Err(Spent { last: 1_048_574 })]);
-    assert_eq!(rt;
-        live(rt.alloc(), &index)?.as_slice(),
-        [name(7, 3), name(9, 1_048_574)].as_slice()
-    );
+    assert_eq!(rt; first_other(alloc, &mut index, &AS_THE_RECORDS_SAY)?, None);
+    let live = [name(7, 3), name(9, 1_048_574)];
+    assert!(rt; are_live(alloc, &index, &live)?);
     Ok(())
 }
+
+// Version 3 of key 7 dies by the next change, and the next but one gives back the block of the next. The delete is told
+// only when no other entry of its key stands.
+const DEATHS: [(Call, Answer); 17] = [
+    (Call::Notice(0), Answer::Nothing),
+    (Call::Notice(1), Answer::Name(7, 2)),
+    (Call::Notice(1), Answer::Nothing),
+    (Call::Put(7, 33, 9), Answer::Nothing),
+    (Call::Look(7), Answer::Block(33)),
+    (Call::Notice(0), Answer::Name(7, 3)),
+    (Call::Notice(0), Answer::Nothing),
+    (Call::Delete(7, 1), Answer::Block(33)),
+    (Call::Look(7), Answer::Deleted),
+    (Call::Notice(9), Answer::Name(7, 4)),
+    (Call::Notice(1), Answer::Nothing),
+    (Call::Gone(7, 2), Answer::Nothing),
+    (Call::Gone(7, 4), Answer::Nothing),
+    (Call::Notice(1), Answer::Nothing),
+    (Call::Gone(7, 3), Answer::Nothing),
+    (Call::Notice(1), Answer::Name(7, 5)),
+    (Call::Notice(1), Answer::Nothing),
+];
 
 #[test]
 fn each_death_is_told_once(rt: HostRuntime) -> Result<(), Fail> {
     let alloc = rt.alloc();
     let mut index = started(alloc)?;
-    assert_eq!(rt;
-        notices(alloc, &mut index, &[0, 1, 1])?.as_slice(),
-        [None, Some(name(7, 2)), None].as_slice()
-    );
-    // Version 3 dies by the next change, and the next but one gives back the block of the next.
-    assert_eq!(rt; change(alloc, &mut index, 7, Body::Pointer(33), 9)?, None);
-    assert_eq!(rt; look(&index, 7), Found::Block(33));
-    assert_eq!(rt;
-        notices(alloc, &mut index, &[0, 0])?.as_slice(),
-        [Some(name(7, 3)), None].as_slice()
-    );
-    assert_eq!(rt; change(alloc, &mut index, 7, Body::Tombstone, 1)?, Some(33));
-    assert_eq!(rt; look(&index, 7), Found::Deleted);
-    // The delete is told only when no other entry of its key stands.
-    assert_eq!(rt;
-        notices(alloc, &mut index, &[9, 1])?.as_slice(),
-        [Some(name(7, 4)), None].as_slice()
-    );
-    gone(&mut index, name(7, 2));
-    gone(&mut index, name(7, 4));
-    assert_eq!(rt;
-        notices(alloc, &mut index, &[1])?.as_slice(),
-        [None].as_slice()
-    );
-    gone(&mut index, name(7, 3));
-    assert_eq!(rt;
-        notices(alloc, &mut index, &[1, 1])?.as_slice(),
-        [Some(name(7, 5)), None].as_slice()
-    );
+    assert_eq!(rt; first_other(alloc, &mut index, &DEATHS)?, None);
     Ok(())
 }
+
+const FORGOTTEN: [(Call, Answer); 8] = [
+    (Call::Notice(2), Answer::Name(5, 4)),
+    (Call::Forget(5), Answer::Nothing),
+    (Call::Gone(5, 4), Answer::Nothing),
+    (Call::Forget(1), Answer::Nothing),
+    (Call::Forget(5), Answer::Forgotten),
+    (Call::Look(5), Answer::Unknown),
+    (Call::Put(5, 1, 2), Answer::Nothing),
+    (Call::Next(5), Answer::Version(2)),
+];
 
 #[test]
 fn a_key_is_forgotten(rt: HostRuntime) -> Result<(), Fail> {
     let alloc = rt.alloc();
     let mut index = started(alloc)?;
-    assert_eq!(rt;
-        notices(alloc, &mut index, &[2])?.as_slice(),
-        [Some(name(5, 4))].as_slice()
-    );
-    assert!(rt; !index.forgettable(5));
-    gone(&mut index, name(5, 4));
-    assert!(rt; !index.forgettable(1));
-    assert!(rt; forget(&mut index, 5));
-    assert_eq!(rt; look(&index, 5), Found::Unknown);
-    assert_eq!(rt; change(alloc, &mut index, 5, Body::Pointer(1), 2)?, None);
-    assert_eq!(rt; next(&index, 5), Ok(2));
-    assert_eq!(rt;
-        live(alloc, &index)?.as_slice(),
-        [name(5, 1), name(7, 3), name(9, 1_048_574)].as_slice()
-    );
+    assert_eq!(rt; first_other(alloc, &mut index, &FORGOTTEN)?, None);
+    let live = [name(5, 1), name(7, 3), name(9, 1_048_574)];
+    assert!(rt; are_live(alloc, &index, &live)?);
     Ok(())
 }
 
@@ -240,72 +295,84 @@ fn enter_value(
     enter(alloc, index, key, version, &Body::Embedded(value), home)
 }
 
+const DELETED: [(Call, Answer); 5] = [
+    (Call::Look(3), Answer::Deleted),
+    (Call::Look(4), Answer::Unknown),
+    (Call::Look(6), Answer::Block(17)),
+    (Call::Next(8), Answer::Version(7)),
+    (Call::Forget(3), Answer::Nothing),
+];
+
 #[test]
 fn deleted_keys_are_known(rt: HostRuntime) -> Result<(), Fail> {
     let alloc = rt.alloc();
-    let index = entered(alloc)?;
-    let found = [look(&index, 3), look(&index, 4), look(&index, 6)];
-    assert_eq!(rt; found, [Found::Deleted, Found::Unknown, Found::Block(17)]);
-    assert_eq!(rt; next(&index, 8), Ok(7));
+    let mut index = entered(alloc)?;
+    assert_eq!(rt; first_other(alloc, &mut index, &DELETED)?, None);
     assert_eq!(rt; index.room(3), 0);
-    assert!(rt; !index.forgettable(3));
-    assert_eq!(rt; live(alloc, &index)?.as_slice(), [name(6, 1)].as_slice());
+    assert!(rt; are_live(alloc, &index, &[name(6, 1)])?);
     Ok(())
 }
+
+// Key 3 is changed before its home is asked, and waits all the same.
+const DELETES_OF_THE_START: [(Call, Answer); 12] = [
+    (Call::Notice(9), Answer::Nothing),
+    (Call::Notice(2), Answer::Name(5, 4)),
+    (Call::Notice(2), Answer::Nothing),
+    (Call::Put(3, 1, 1), Answer::Nothing),
+    (Call::Notice(1), Answer::Name(3, 2)),
+    (Call::Gone(8, 6), Answer::Nothing),
+    (Call::Notice(1), Answer::Nothing),
+    (Call::Forget(8), Answer::Forgotten),
+    (Call::Look(8), Answer::Unknown),
+    (Call::Gone(5, 4), Answer::Nothing),
+    (Call::Put(5, 2, 2), Answer::Nothing),
+    (Call::Notice(2), Answer::Nothing),
+];
 
 #[test]
 fn deletes_of_the_start_are_told_once(rt: HostRuntime) -> Result<(), Fail> {
     let alloc = rt.alloc();
     let mut index = entered(alloc)?;
     assert_eq!(rt;
-        notices(alloc, &mut index, &[9, 2, 2])?.as_slice(),
-        [None, Some(name(5, 4)), None].as_slice()
+        first_other(alloc, &mut index, &DELETES_OF_THE_START)?,
+        None
     );
-    // Key 3 is changed before its home is asked, and waits all the same.
-    assert_eq!(rt; change(alloc, &mut index, 3, Body::Pointer(1), 1)?, None);
-    assert_eq!(rt;
-        notices(alloc, &mut index, &[1])?.as_slice(),
-        [Some(name(3, 2))].as_slice()
-    );
-    gone(&mut index, name(8, 6));
-    assert_eq!(rt;
-        notices(alloc, &mut index, &[1])?.as_slice(),
-        [None].as_slice()
-    );
-    assert!(rt; forget(&mut index, 8));
-    assert_eq!(rt; look(&index, 8), Found::Unknown);
-    gone(&mut index, name(5, 4));
-    assert_eq!(rt; change(alloc, &mut index, 5, Body::Pointer(2), 2)?, None);
-    assert_eq!(rt;
-        notices(alloc, &mut index, &[2])?.as_slice(),
-        [None].as_slice()
-    );
-    assert_eq!(rt;
-        live(alloc, &index)?.as_slice(),
-        [name(3, 3), name(5, 5), name(6, 1)].as_slice()
-    );
+    let live = [name(3, 3), name(5, 5), name(6, 1)];
+    assert!(rt; are_live(alloc, &index, &live)?);
     Ok(())
 }
+
+// Keys 9 and 11 have values beside them.
+fn with_values(alloc: Global) -> Result<CoreIndex, Fail> {
+    let mut index = entered(alloc)?;
+    enter_value(alloc, &mut index, 9, 5, b"abc", 2)?;
+    enter_value(alloc, &mut index, 11, 2, b"de", 0)?;
+    Ok(index)
+}
+
+const CHANGES: [(Call, Answer); 5] = [
+    (Call::Look(9), Answer::Embedded),
+    (Call::Next(9), Answer::Version(6)),
+    (Call::Put(9, 33, 1), Answer::Nothing),
+    (Call::Delete(6, 1), Answer::Block(17)),
+    (Call::Gone(11, 2), Answer::Nothing),
+];
+
+const TOLD_THEN: [(Call, Answer); 4] = [
+    (Call::Notice(2), Answer::Name(9, 5)),
+    (Call::Notice(2), Answer::Name(5, 4)),
+    (Call::Notice(2), Answer::Nothing),
+    (Call::Notice(0), Answer::Name(6, 1)),
+];
 
 #[test]
 fn keys_with_values_move_when_they_change(rt: HostRuntime) -> Result<(), Fail> {
     let alloc = rt.alloc();
-    let mut index = entered(alloc)?;
-    enter_value(alloc, &mut index, 9, 5, b"abc", 2)?;
-    enter_value(alloc, &mut index, 11, 2, b"de", 0)?;
+    let mut index = with_values(alloc)?;
     assert!(rt; has_value(&index, 9, b"abc"));
-    assert_eq!(rt; next(&index, 9), Ok(6));
-    assert_eq!(rt; change(alloc, &mut index, 9, Body::Pointer(33), 1)?, None);
-    assert_eq!(rt; change(alloc, &mut index, 6, Body::Tombstone, 1)?, Some(17));
-    gone(&mut index, name(11, 2));
+    assert_eq!(rt; first_other(alloc, &mut index, &CHANGES)?, None);
     assert!(rt; has_value(&index, 11, b"de"));
-    assert_eq!(rt;
-        notices(alloc, &mut index, &[2, 2, 2, 0])?.as_slice(),
-        [Some(name(9, 5)), Some(name(5, 4)), None, Some(name(6, 1))].as_slice()
-    );
-    assert_eq!(rt;
-        live(alloc, &index)?.as_slice(),
-        [name(9, 6), name(11, 2)].as_slice()
-    );
+    assert_eq!(rt; first_other(alloc, &mut index, &TOLD_THEN)?, None);
+    assert!(rt; are_live(alloc, &index, &[name(9, 6), name(11, 2)])?);
     Ok(())
 }
