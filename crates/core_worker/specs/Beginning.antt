@@ -1,5 +1,6 @@
 -- What beginning a request does: it is answered, or a change is staged.
 use Rattle.std.specs.Prelude.{◌≡◌, ◌⊎◌, ℕ, ◌+◌, ◌<◌, Bool, true, false, List, [], ◌∷◌, ◌++◌, length, Option, Some, None}
+use Rattle.group_laws.specs.declared.group_sizes.TheConstants.{SLOTS}
 use Rattle.pm_region.specs.State.{State}
 use Rattle.fs_model.specs.declared.model.Request.{Request}
 use Rattle.fs_model.specs.declared.model.Reply.{Reply}
@@ -65,9 +66,9 @@ KeepsTies old new k = (t : Tie) → IsHeldAside old k t → KeepsTie old new t
 abbrev pub ByEachView : State → Worker → ℕ → (View → Type 0) → Type 0
 ByEachView s w k says = (t : Tie) → IsHeldAside w k t → StandsBy s t w → says t.view
 
--- one of the eight places is free
+-- one of the places is free
 abbrev pub HasFree : List Place → Type 0
-HasFree ps = (s : ℕ) × (s < 8) × (place_at ps s ≡ Free)
+HasFree ps = (s : ℕ) × (s < SLOTS) × (place_at ps s ≡ Free)
 
 -- nothing but allocator and places differs
 abbrev pub OnlyStages : Worker → Worker → Type 0

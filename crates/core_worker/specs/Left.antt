@@ -1,5 +1,6 @@
 -- What is left to do: of a worker, and of what is under way in a group, by what its shared words say. A turn that moves lowers the sum of both.
 use Rattle.std.specs.Prelude.{◌≡◌, ℕ, zero, suc, ◌+◌, ◌*◌, ◌<◌, ◌≤◌, Bool, true, false, ◌||◌, List, [], ◌∷◌, length, Option, Some, None, is_some, IfSome, IsSomeAnd, Result, Ok, Err, if◌then◌else◌}
+use Rattle.group_laws.specs.declared.group_sizes.TheConstants.{SLOTS}
 use Rattle.fs_errors.specs.declared.Memory.{Memory}
 use Rattle.group_laws.specs.declared.types.Slot.{Slot}
 use Rattle.group_laws.specs.declared.types.Slot.TheVariants as slots
@@ -77,15 +78,15 @@ any_offers slots (suc n) = offers (slots n) || any_offers slots n
 
 -- a member has an own change Posted, where the state is told
 abbrev pub HasOffer : Option Group → ℕ → Type 0
-HasOffer before m = IfSome before (λ w. any_offers (w.slot m) 8 ≡ true)
+HasOffer before m = IfSome before (λ w. any_offers (w.slot m) SLOTS ≡ true)
 
 -- The lock is taken by a member with an own change Posted, and given back when it has taken some, or has none Posted any more. So taking it and giving it back for nothing don't go on for ever.
 abbrev pub lock_left : Option ℕ → (ℕ → ℕ → Slot) → ℕ
 lock_left None slot = 1
-lock_left (Some h) slot = if any_offers (slot h) 8 then 0 else 2
+lock_left (Some h) slot = if any_offers (slot h) SLOTS then 0 else 2
 
 abbrev pub slots_left : Group → ℕ
-slots_left w = sum_below (members w.place) (λ a. sum_below 8 (λ s. slot_left (w.slot a s)))
+slots_left w = sum_below (members w.place) (λ a. sum_below SLOTS (λ s. slot_left (w.slot a s)))
 
 abbrev pub under_way : Group → ℕ
 under_way w = slots_left w + lock_left w.holder w.slot

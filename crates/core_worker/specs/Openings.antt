@@ -1,6 +1,7 @@
 -- What a worker begins with, where recovery gave its start.
 use Rattle.std.specs.Prelude.{◌≡◌, ℕ, ◌<◌, ◌≤◌, false, [], length, None}
 use Rattle.std.specs.VecDeque.{deque_len}
+use Rattle.group_laws.specs.declared.group_sizes.TheConstants.{SLOTS}
 use Rattle.pm_region.specs.State.{State, IsTelling, cell_now}
 use Rattle.pm_region.specs.Words.{Surely}
 use Rattle.chunk_map.specs.declared.layouts.Geometry.{Geometry}
@@ -32,7 +33,7 @@ pub record IsNew (start : CoreStart) (layout : Geometry) (w : Worker) : Type 0 w
   pub standing : HearsOwn start.core start.index start.standing w.standing
   pub copies : HasCopies start.standing
   pub names : most_names ≤ w.standing.room
-  pub eight : length w.places.items ≡ 8
+  pub eight : length w.places.items ≡ SLOTS
   pub free : (s : ℕ) → place_at w.places.items s ≡ Free
   pub queue : w.queue ≡ []
   pub hand : w.in_hand ≡ None

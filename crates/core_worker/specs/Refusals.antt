@@ -2,6 +2,7 @@
 use Rattle.std.specs.Prelude.{◌≡◌, ℕ, ◌+◌, ◌≤◌, List, length}
 use Rattle.std.specs.VecDeque.{deque_len, deque_capacity}
 use Rattle.std.specs.List.{AllByRecursion}
+use Rattle.group_laws.specs.declared.group_sizes.TheConstants.{SLOTS}
 use Rattle.fs_model.specs.declared.model.Reply.{Reply}
 use Rattle.fs_model.specs.declared.model.Reply.TheVariants.{Full, VersionsSpent, TooLong}
 use Rattle.log_entry.specs.Spelling.{HasSpelling}
@@ -23,7 +24,7 @@ AreCounted ps = AllByRecursion IsCounted ps
 
 -- What makes the sum of what is pledged small.
 pub record IsMeasured (w : Worker) : Type 0 where
-  pub eight : length w.places.items ≡ 8
+  pub eight : length w.places.items ≡ SLOTS
   pub counted : AreCounted w.places.items
   pub small : IsSmall w.cleaning
   pub layout : w.allocator.layout ≡ w.layout

@@ -1,5 +1,6 @@
 -- How a worker looks for a change of its own that is given back.
 use Rattle.std.specs.Prelude.{◌≡◌, ℕ, ◌<◌, ◌++◌, Bool, true, false, List, Option, Some, None, IfSome}
+use Rattle.group_laws.specs.declared.group_sizes.TheConstants.{SLOTS}
 use Rattle.store_image.specs.Facts.{In}
 use Rattle.group_laws.specs.declared.types.Seen.{Seen}
 use Rattle.group_laws.specs.declared.types.Seen.TheVariants.{Slot}
@@ -64,8 +65,8 @@ pub record Searched (before after : Option Group) (m : ℕ) (ps : List Place) (v
 
 -- The lowest posted place that is given back, or none is; then also whether a change was found that nobody had taken.
 abbrev pub Finds : Search → ℕ → Moment → View → Type 0
-Finds (Back slot) m a u = (slot < 8) × (is_posted (place_at a.worker.places.items slot) ≡ true)
+Finds (Back slot) m a u = (slot < SLOTS) × (is_posted (place_at a.worker.places.items slot) ≡ true)
     × PassesItems m a slot u × ((word : SlotWord) × IsBack word × In (Slot m slot word) u.looked)
-Finds (Out posted) m a u = (before : PassesItems m a 8 u)
-    × MatchBool posted (FindsPosted a.worker.places.items before.looked.found 8)
-    (FindsPosted a.worker.places.items before.looked.found 8 → ⊥)
+Finds (Out posted) m a u = (before : PassesItems m a SLOTS u)
+    × MatchBool posted (FindsPosted a.worker.places.items before.looked.found SLOTS)
+    (FindsPosted a.worker.places.items before.looked.found SLOTS → ⊥)

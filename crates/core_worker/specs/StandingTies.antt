@@ -6,11 +6,12 @@ use Rattle.store_image.specs.Facts.{In}
 use Rattle.core_index.specs.Index.{known_at}
 use Rattle.core_index.specs.Records.{Awaits}
 use Rattle.core_index.specs.Slots as slots
+use Rattle.core_worker.specs.declared.batch_names.TheConstants.{MOST_NAMES}
 use Rattle.log_standing.specs.NameCounts.{StandingState, SameCopies, name_eq, copies_at, count_of, is_told}
 
 -- as many names as a batch may have
 abbrev pub most_names : ℕ
-most_names = 64
+most_names = MOST_NAMES
 
 -- one of the entries has this name
 abbrev pub IsNamedIn : List Entry → ℕ → ℕ → Type 0

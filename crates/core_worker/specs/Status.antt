@@ -4,6 +4,7 @@ use Rattle.core_worker.specs.declared.types.Leading.{Leading}
 use Rattle.core_worker.specs.declared.types.Leading.TheVariants as leads
 use Rattle.core_worker.specs.declared.types.Place.{Place}
 use Rattle.core_worker.specs.declared.worker.Worker.{Worker}
+use Rattle.core_worker.specs.declared.status.TheConstants.{WAITING}
 use Rattle.core_worker.specs.OwnPlaces.{is_free}
 
 abbrev pub any_free : List Place → Bool
@@ -16,7 +17,7 @@ all_free (x ∷ xs) = if is_free x then all_free xs else false
 
 -- a place is free, and there is room for one more request that waits
 abbrev pub has_room : Worker → Bool
-has_room w = any_free w.places.items && nat_lt (length w.queue) 64
+has_room w = any_free w.places.items && nat_lt (length w.queue) WAITING
 
 -- it collects, persists, or gives changes back
 abbrev pub is_leading : Leading → Bool

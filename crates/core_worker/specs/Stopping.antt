@@ -1,5 +1,6 @@
 -- What a stopped core does with its own changes.
 use Rattle.std.specs.Prelude.{◌≡◌, ◌⊎◌, ℕ, Bool, true, false, List, [], Option, Some, None}
+use Rattle.group_laws.specs.declared.group_sizes.TheConstants.{SLOTS}
 use Rattle.pm_region.specs.State.{State, IsTelling}
 use Rattle.fs_model.specs.declared.model.Reply.TheVariants.{Stopped}
 use Rattle.log_entry.specs.declared.entry.Entry.{Entry}
@@ -69,7 +70,7 @@ pub record Unlocks (seat : SeatAt) (before after : Option Group) (v u : View)
   pub mid : View
   pub middle : Option Group
   pub found : FindsNone before middle seat.number v mid
-  pub seen : SawNonePosted seat.number v mid 8
+  pub seen : SawNonePosted seat.number v mid SLOTS
   pub view : u ≡ after_unlock mid
   pub made : Steps before after seat.number u
   pub leads_now : LeadsNothing new

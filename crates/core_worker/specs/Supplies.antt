@@ -1,5 +1,5 @@
 -- The room of a worker at one moment, and which requests are refused for want of it.
-use Rattle.std.specs.Prelude.{ℕ, ◌-◌, ◌/◌, ◌^◌, ◌<◌, ◌==◌, nat_lt, nat_le, true, false, List, length, Option, Some, None, if◌then◌else◌}
+use Rattle.std.specs.Prelude.{ℕ, ◌^◌, ◌<◌, ◌==◌, nat_lt, nat_le, true, false, List, length, Option, Some, None, if◌then◌else◌}
 use Rattle.chunk_map.specs.declared.layouts.Geometry.{Geometry}
 use Rattle.chunk_map.specs.Layouts.{payload_lines}
 use Rattle.core_log.specs.Log.{room_of}
@@ -8,6 +8,7 @@ use Rattle.lazy_alloc.specs.Sets.{Sets, free_chunk_count, free_block_count}
 use Rattle.fs_model.specs.declared.model.Request.{Request}
 use Rattle.fs_model.specs.declared.model.Request.TheVariants.{Put, Get, Delete}
 use Rattle.log_entry.specs.declared.entry_limits.TheConstants.{LAST_PUT_VERSION}
+use Rattle.engine_laws.specs.FreeStock.{longest_value}
 use Rattle.core_room.specs.declared.supply.Supply.{Supply}
 use Rattle.core_room.specs.declared.types.Shortage.{Shortage}
 use Rattle.core_room.specs.declared.types.Shortage.TheVariants as causes
@@ -68,7 +69,7 @@ lacks s a need class = shortage_at s need class (free_blocks a class)
 -- Why a put of so many bytes is refused, to a key with this last version: the first cause counts.
 abbrev pub why_put : Geometry → Supply → Sets → ℕ → ℕ → Option Shortage
 why_put l s a last n =
-    if nat_lt (l.chunk_bytes / 4 - 8) n then Some (causes.Length n)
+    if nat_lt (longest_value l) n then Some (causes.Length n)
     else (if nat_le LAST_PUT_VERSION last then Some (causes.Versions last)
     else lacks s a (lines_needed n) (class_for n))
 

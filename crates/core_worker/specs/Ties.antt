@@ -1,5 +1,7 @@
 -- What ties a worker to its board and to its region, between two calls.
 use Rattle.std.specs.Prelude.{◌≡◌, ◌≢◌, ◌⊎◌, ℕ, ◌+◌, ◌*◌, ◌<◌, Bool, true, false, [], length, Some, None}
+use Rattle.group_laws.specs.declared.group_sizes.TheConstants.{SLOTS}
+use Rattle.chunk_map.specs.declared.layout_sizes.TheConstants.{CLASS_FACTOR}
 use Rattle.pm_region.specs.State.{State, IsTelling, cell_now}
 use Rattle.pm_region.specs.Words.{Surely}
 use Rattle.core_log.specs.Log.{StandsIn, tail_of, first_of}
@@ -77,12 +79,12 @@ pub record Holds (p : Place) (m : ℕ) (v : View) (w : Worker) : Type 0 where
   pub allocator_layout : w.allocator.layout ≡ p.layout
   pub allocator_part : w.allocator.part ≡ core_of p m
   pub spelled : IsSpelledIndex w.index
-  pub eight : length w.places.items ≡ 8
-  pub placed : (s : ℕ) → s < 8 → IsPlaced p m v s (place_at w.places.items s)
+  pub eight : length w.places.items ≡ SLOTS
+  pub placed : (s : ℕ) → s < SLOTS → IsPlaced p m v s (place_at w.places.items s)
   pub apart : AreApart w.places.items
   -- a change that the view has pending stands in a place, or is in doubt
   pub pending : (k : ℕ) (q : Pending) → v.pending k ≡ Some q
-      → ((s number lines : ℕ) × (s < 8) × (place_at w.places.items s ≡ Posted number k lines))
+      → ((s number lines : ℕ) × (s < SLOTS) × (place_at w.places.items s ≡ Posted number k lines))
       ⊎ ((q.slot ≡ None) × (is_busy w.places.items k ≡ false) × (w.stopped ≡ true))
   -- each request that may still become a change has room for its record
   pub admitted : (k : ℕ) → is_busy w.places.items k ≡ true
@@ -120,7 +122,7 @@ pub record Stands (s : State) (p : Place) (m : ℕ) (v : View) (w : Worker) : Ty
       → (tail_of w.log.chunks j ≡ None) × Surely (cell_now s (first_of w.log j)) 0
   pub cut : w.stopped ≡ false → (j c : ℕ) → chunk_class w.allocator j ≡ Some c
       → chunk_is_due w.allocator j ≡ false → IsTelling s → (tail_of w.log.chunks j ≡ None)
-      × Surely (cell_now s (first_of w.log j)) (2 + 256 * c)
+      × Surely (cell_now s (first_of w.log j)) (2 + CLASS_FACTOR * c)
 
 -- the same at a seat
 abbrev pub HoldsAt : SeatAt → View → Worker → Type 0

@@ -1,6 +1,7 @@
 -- What every part of a turn keeps, and what a whole turn did.
 use Rattle.fs_errors.specs.declared.Memory.{Memory}
 use Rattle.std.specs.Prelude.{Result, Ok, Err, ◌≡◌, ℕ, ◌<◌, Bool, true, false, List, [], Option}
+use Rattle.group_laws.specs.declared.group_sizes.TheConstants.{SLOTS}
 use Rattle.pm_region.specs.State.{State, IsTelling}
 use Rattle.group_laws.specs.State.{Group}
 use Rattle.group_laws.specs.MemberViews.{View}
@@ -55,7 +56,7 @@ HasBatch leads.Between = ⊥
 pub record DropsLowest (s : State) (m : ℕ) (a b : Moment) (all : Bool) : Type 0 where
   pub slot : ℕ
   pub mid : View
-  pub before : PassesItems m a 8 mid
+  pub before : PassesItems m a SLOTS mid
   pub stopped : a.worker.stopped ≡ true
   pub works : a.worker.winds_down ≡ false
   pub lowest : IsLowest is_staged a.worker.places.items slot
@@ -95,14 +96,14 @@ at_entry w v = record { worker = w; view = v }
 
 -- whether a posted slot was found that nobody had taken
 abbrev pub Tells : Bool → ℕ → Worker → View → View → Type 0
-Tells posted m w v mid = (before : PassesItems m (at_entry w v) 8 mid)
-    × MatchBool posted (FindsPosted w.places.items before.looked.found 8)
-    (FindsPosted w.places.items before.looked.found 8 → ⊥)
+Tells posted m w v mid = (before : PassesItems m (at_entry w v) SLOTS mid)
+    × MatchBool posted (FindsPosted w.places.items before.looked.found SLOTS)
+    (FindsPosted w.places.items before.looked.found SLOTS → ⊥)
 
 -- what there is to do with the staged changes
 abbrev pub Chooses : Choice → Bool → Worker → Type 0
 Chooses Pass refused w = PassesPost refused w
-Chooses (Drop slot) refused w = IsLowest is_staged w.places.items slot × (slot < 8)
+Chooses (Drop slot) refused w = IsLowest is_staged w.places.items slot × (slot < SLOTS)
     × (w.stopped ≡ true) × (w.winds_down ≡ false)
-Chooses (Post slot) refused w = IsLowest is_staged w.places.items slot × (slot < 8)
+Chooses (Post slot) refused w = IsLowest is_staged w.places.items slot × (slot < SLOTS)
     × (w.stopped ≡ false) × (w.winds_down ≡ false)

@@ -1,5 +1,6 @@
 -- One turn of a core as a relation of what it was and what it is: which item it did, what it loaded before, and why it passed the items before that one.
 use Rattle.std.specs.Prelude.{◌≡◌, ◌≢◌, ◌⊎◌, ℕ, ◌+◌, ◌<◌, Bool, true, false, List, [], ◌∷◌, ◌++◌, length, map, Option, Some, None}
+use Rattle.group_laws.specs.declared.group_sizes.TheConstants.{SLOTS}
 use Rattle.pm_region.specs.State.{State}
 use Rattle.log_entry.specs.declared.entry.Entry.{Entry}
 use Rattle.store_image.specs.Facts.{In}
@@ -252,7 +253,7 @@ pub record Posts (m : ℕ) (a b : Moment) : Type 0 where
   pub value : List ℕ
   pub lines : ℕ
   pub mid : View
-  pub before : PassesItems m a 8 mid
+  pub before : PassesItems m a SLOTS mid
   pub runs : (a.worker.stopped ≡ false) × (a.worker.winds_down ≡ false)
   pub lowest : IsLowest is_staged a.worker.places.items slot
   pub place : place_at a.worker.places.items slot ≡ Staged number entry value
@@ -266,7 +267,7 @@ pub record Posts (m : ℕ) (a b : Moment) : Type 0 where
 pub record LosesBlock (m : ℕ) (a b : Moment) : Type 0 where
   pub slot : ℕ
   pub mid : View
-  pub before : PassesItems m a 8 mid
+  pub before : PassesItems m a SLOTS mid
   pub runs : (a.worker.stopped ≡ false) × (a.worker.winds_down ≡ false)
   pub lowest : IsLowest is_staged a.worker.places.items slot
   pub view : b.view ≡ mid
@@ -279,9 +280,9 @@ PassesPost refused w = HasNone is_staged w.places.items ⊎ ((refused ≡ true) 
 -- Item 7: an own slot was found Posted, and the lock is tried and had.
 pub record Locks (refused : Bool) (m : ℕ) (a b : Moment) : Type 0 where
   pub mid : View
-  pub before : PassesItems m a 8 mid
+  pub before : PassesItems m a SLOTS mid
   pub post : PassesPost refused a.worker
-  pub posted : FindsPosted a.worker.places.items before.looked.found 8
+  pub posted : FindsPosted a.worker.places.items before.looked.found SLOTS
   pub view : b.view ≡ after_lock mid
   pub leads_now : (c : Collecting) × (b.worker.leading ≡ leads.Collecting c) × (c.at ≡ 0)
   pub same : SameButLeading a.worker b.worker
@@ -289,10 +290,10 @@ pub record Locks (refused : Bool) (m : ℕ) (a b : Moment) : Type 0 where
 -- Item 8: nothing applied. No own slot was found Posted, or the try found a holder.
 pub record Idles (refused : Bool) (m : ℕ) (a b : Moment) : Type 0 where
   pub mid : View
-  pub before : PassesItems m a 8 mid
+  pub before : PassesItems m a SLOTS mid
   pub post : PassesPost refused a.worker
-  pub lock : ((FindsPosted a.worker.places.items before.looked.found 8 → ⊥) × (b.view ≡ mid))
-      ⊎ (FindsPosted a.worker.places.items before.looked.found 8
+  pub lock : ((FindsPosted a.worker.places.items before.looked.found SLOTS → ⊥) × (b.view ≡ mid))
+      ⊎ (FindsPosted a.worker.places.items before.looked.found SLOTS
       × ((h : ℕ) × (h ≢ m) × (b.view ≡ after_find (Holder h) mid)))
   pub free : LeadsNothing b.worker
   pub same : SameButLeading a.worker b.worker

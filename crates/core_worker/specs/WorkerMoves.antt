@@ -18,7 +18,7 @@ use Rattle.core_worker.specs.OwnPlaces.{key_in, is_of, request_by, request_pendi
 use Rattle.core_worker.specs.Beginning.{answer_with}
 use Rattle.core_log.specs.Log.{room_of}
 use Rattle.lazy_alloc.specs.Sets.{free_chunk_count, free_block_count}
-use Rattle.engine_laws.specs.FreeStock.{Stock}
+use Rattle.engine_laws.specs.FreeStock.{Stock, lines_left_over}
 pub use Rattle.engine_laws.specs.StockChanges.{lines_in, Spends}
 pub use Rattle.engine_laws.specs.WorkerMoves.{BeginsIn, PostsIn, SpendsIn, Placed, Hands, placed, line_in, Fixed, asked, replied, fixed_of, requests_for, HoldsKey, AnswersKey, WorkerMoves}
 
@@ -51,9 +51,10 @@ awaits_chunk (leads.Persisted x) = false
 awaits_chunk (leads.Failed x) = false
 awaits_chunk leads.Between = false
 
--- The free lines of the open chunk. Where a batch in hand goes into a fresh one, four of them count at most.
+-- The free lines of the open chunk. Where a batch in hand goes into a fresh one, those left over count at most.
 abbrev pub lines_free : Worker → ℕ
-lines_free w = if awaits_chunk w.leading && nat_lt 4 (room_of w.log) then 4 else room_of w.log
+lines_free w = if awaits_chunk w.leading && nat_lt lines_left_over (room_of w.log)
+    then lines_left_over else room_of w.log
 
 -- what a worker has free
 abbrev pub stock_of : Worker → Stock

@@ -27,6 +27,7 @@ use core_index::Look;
 use core_room::Shortage;
 use fs_errors::Memory;
 use fs_model::{Key, Reply, Request, Value, Version};
+use group_laws::group_sizes::SLOTS;
 use log_entry::{Body, Entry};
 use pm_region::Region;
 use std::alloc::Global;
@@ -34,10 +35,10 @@ use std::mem;
 
 // The lowest free place.
 fn free_place(places: &Vec<Place>) -> u32
-    requires eight { length places.now.items ≡ 8 }
+    requires eight { length places.now.items ≡ SLOTS }
     requires some { HasFree places.now.items }
     ensures lowest { IsLowest is_free places.now.items result }
-    ensures within { result < 8 }
+    ensures within { result < SLOTS }
 {
     for slot in 0..8 {
         if let Place::Free = place_in(places, slot) {
@@ -49,10 +50,10 @@ fn free_place(places: &Vec<Place>) -> u32
 
 // Stages a change in the lowest free place.
 fn stage(places: &mut Vec<Place>, number: u64, entry: Entry, value: Value) -> u32
-    requires eight { length places.old.items ≡ 8 }
+    requires eight { length places.old.items ≡ SLOTS }
     requires some { HasFree places.old.items }
     ensures lowest { IsLowest is_free places.old.items result }
-    ensures within { result < 8 }
+    ensures within { result < SLOTS }
     ensures placed { Replaces places.old.items places.new.items result
         (kinds.Staged number entry value) }
 {

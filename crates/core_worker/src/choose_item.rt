@@ -8,6 +8,7 @@ use crate::gate::{Gate, Point};
 use crate::post_item::place_in;
 use crate::types::Place;
 use crate::worker::Worker;
+use group_laws::group_sizes::SLOTS;
 use log_entry::Body;
 
 // What there is to do.
@@ -29,9 +30,9 @@ fn is_staged(place: &Place) -> bool
 
 // The lowest staged place.
 fn lowest_staged(places: &Vec<Place>) -> Option<u32>
-    requires eight { length places.now.items ≡ 8 }
+    requires eight { length places.now.items ≡ SLOTS }
     ensures { MatchOption result (HasNone is_staged places.now.items)
-        (λ slot. IsLowest is_staged places.now.items slot × (slot < 8)) }
+        (λ slot. IsLowest is_staged places.now.items slot × (slot < SLOTS)) }
 {
     for slot in 0..8 {
         if is_staged(place_in(places, slot)) {
@@ -59,7 +60,7 @@ pub(crate) fn staged_block(place: &Place) -> Option<u64>
 impl Worker {
     // What there is to do with the staged change in a place. The gate is asked before a post, and of nothing else.
     fn choose_at<G: Gate>(&self, gate: &G, slot: u32) -> Choice
-        requires lowest { IsLowest is_staged self.now.places.items slot × (slot < 8) }
+        requires lowest { IsLowest is_staged self.now.places.items slot × (slot < SLOTS) }
         ensures { Chooses result (G.may_refuse gate.now) self.now }
     {
         if self.winds_down {
@@ -76,7 +77,7 @@ impl Worker {
 
     // What there is to do with the lowest staged change.
     pub(crate) fn choose<G: Gate>(&self, gate: &G) -> Choice
-        requires eight { length self.now.places.items ≡ 8 }
+        requires eight { length self.now.places.items ≡ SLOTS }
         ensures { Chooses result (G.may_refuse gate.now) self.now }
     {
         match lowest_staged(&self.places) {

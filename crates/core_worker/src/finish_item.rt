@@ -26,6 +26,7 @@ use crash_core::Change;
 use fs_errors::Memory;
 use fs_model::{Key, Reply};
 use group_board::Board;
+use group_laws::group_sizes::SLOTS;
 use lazy_alloc::Allocator;
 use log_entry::{Body, Entry};
 use pm_region::Region;
@@ -103,7 +104,7 @@ impl Worker {
         requires holds { HoldsAt (B.seat board.old) (B.view board.old) self.old }
         requires order { InOrderAt (B.seat board.old) (B.view board.old) self.old }
         requires nothing { LeadsNothing self.old }
-        requires slot { slot < 8 }
+        requires slot { slot < SLOTS }
         requires seen { WasFoundBack (B.seat board.old).number slot (B.view board.old) }
         ensures seat { B.seat board.new ≡ B.seat board.old }
         ensures freed { IsFreed (B.seat board.old).place (B.seat board.old).number
@@ -146,7 +147,7 @@ impl Worker {
             (B.view board.old) self.old }
         requires order { InOrderAt (B.seat board.old) (B.view board.old) self.old }
         requires nothing { LeadsNothing self.old }
-        requires slot { slot < 8 }
+        requires slot { slot < SLOTS }
         requires seen { WasFoundBack (B.seat board.old).number slot (B.view board.old) }
         ensures seat { B.seat board.new ≡ B.seat board.old }
         ensures holds { HoldsAt (B.seat board.old) (B.view board.new) self.new }

@@ -31,6 +31,7 @@ use crate::worker::Worker;
 use batch_leader::{Collected, FailedBatch, Persisted, Released, lead};
 use core_log::Room;
 use group_board::Board;
+use group_laws::group_sizes::SLOTS;
 use lazy_alloc::Allocator;
 use pm_region::Region;
 use std::mem;
@@ -101,9 +102,9 @@ fn unpledge_at(places: &mut Vec<Place>, slot: u32)
 
 // The places of the own changes that are certain pledge nothing any more.
 fn unpledge(places: &mut Vec<Place>, done: &Persisted, own: u32)
-    requires eight { length places.old.items ≡ 8 }
-    ensures count { length places.new.items ≡ 8 }
-    ensures each { (s : ℕ) → s < 8 → place_at places.new.items s
+    requires eight { length places.old.items ≡ SLOTS }
+    ensures count { length places.new.items ≡ SLOTS }
+    ensures each { (s : ℕ) → s < SLOTS → place_at places.new.items s
         ≡ unpledged_if (is_some (taken_in done.now.left.taken.items own s))
         (place_at places.old.items s) }
 {

@@ -16,19 +16,18 @@ use batch_leader::BatchBuffer;
 use chunk_map::Layout;
 use conflict_queue::ConflictQueue;
 use fs_errors::Memory;
+use group_laws::group_sizes::SLOTS;
 use recover::CoreStart;
 use std::alloc::Global;
 use std::collections::VecDeque;
 
-// How many places a worker has: one for each slot of its core.
-const PLACES: u32 = 8;
-
+// A place for each slot of the core.
 fn free_places(alloc: Global) -> Result<Vec<Place>, Memory>
-    ensures eight { IfOk result (λ places. length places.items ≡ 8) }
+    ensures eight { IfOk result (λ places. length places.items ≡ SLOTS) }
     ensures free { IfOk result (λ places. (s : ℕ) → place_at places.items s ≡ kinds.Free) }
 {
     let mut places = Vec::new(alloc);
-    for _ in 0..PLACES {
+    for _ in 0..SLOTS {
         places.push(Place::Free)?;
     }
     Ok(places)

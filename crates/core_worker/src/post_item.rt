@@ -27,6 +27,7 @@ use crate::types::Place;
 use crate::worker::Worker;
 use crash_core::Change;
 use group_board::Board;
+use group_laws::group_sizes::SLOTS;
 use lazy_alloc::Allocator;
 use log_entry::entry_lines;
 use pm_region::{Region, RegionFault};
@@ -109,7 +110,7 @@ impl Worker {
             (B.view board.now) self.old }
         requires runs { self.old.stopped ≡ false }
         requires nothing { LeadsNothing self.old }
-        requires slot { slot < 8 }
+        requires slot { slot < SLOTS }
         requires staged { IsStagedWith (place_at self.old.places.items slot) pointer }
         ensures moments { StaysLicensed (R.state region.old) (R.state region.new)
             (B.seat board.now) (B.view board.now) }
@@ -148,7 +149,7 @@ impl Worker {
         requires holds { HoldsAt (B.seat board.old) (B.view board.old) self.old }
         requires runs { self.old.stopped ≡ false }
         requires nothing { LeadsNothing self.old }
-        requires slot { slot < 8 }
+        requires slot { slot < SLOTS }
         requires staged { HasNoBlock (place_at self.old.places.items slot) }
         ensures seat { B.seat board.new ≡ B.seat board.old }
         ensures holds { HoldsAt (B.seat board.old) (B.view board.new) self.new }
@@ -186,7 +187,7 @@ impl Worker {
         requires holds { HoldsAt (B.seat board.old) (B.view board.old) self.old }
         requires runs { self.old.stopped ≡ false }
         requires nothing { LeadsNothing self.old }
-        requires slot { slot < 8 }
+        requires slot { slot < SLOTS }
         requires staged { IsStagedWith (place_at self.old.places.items slot) pointer }
         ensures seat { B.seat board.new ≡ B.seat board.old }
         ensures holds { HoldsAt (B.seat board.old) (B.view board.new) self.new }
@@ -230,7 +231,7 @@ impl Worker {
             (B.view board.old) self.old }
         requires runs { self.old.stopped ≡ false }
         requires nothing { LeadsNothing self.old }
-        requires slot { slot < 8 }
+        requires slot { slot < SLOTS }
         requires staged { IsStagedWith (place_at self.old.places.items slot) pointer }
         ensures seat { B.seat board.new ≡ B.seat board.old }
         ensures moments { StaysLicensed (R.state region.old) (R.state region.new)

@@ -10,6 +10,7 @@ use crate::post_item::place_in;
 use crate::types::Place;
 use crate::worker::Worker;
 use group_board::{Board, SlotState};
+use group_laws::group_sizes::SLOTS;
 
 // What the loads of the own slots found.
 pub(crate) enum Search {
@@ -21,8 +22,8 @@ pub(crate) enum Search {
 
 // Loads the slot of a posted place.
 fn look_place<B: Board>(places: &Vec<Place>, board: &mut B, slot: u32) -> Option<SlotState>
-    requires eight { length places.now.items ≡ 8 }
-    requires slot { slot < 8 }
+    requires eight { length places.now.items ≡ SLOTS }
+    requires slot { slot < SLOTS }
     requires member { (B.seat board.old).number < members (B.seat board.old).place }
     ensures seat { B.seat board.new ≡ B.seat board.old }
     ensures sees { Sees (B.seat board.old).number slot (B.whole board.old) (B.whole board.new)

@@ -24,6 +24,7 @@ use crash_core::Change;
 use fs_errors::Memory;
 use fs_model::{Key, Reply};
 use group_board::Board;
+use group_laws::group_sizes::SLOTS;
 use log_entry::{Body, Entry};
 use pm_region::Region;
 use std::alloc::Global;
@@ -73,10 +74,10 @@ fn has_key(place: &Place, key: Key) -> bool
 
 // The place of a key's change.
 fn place_with(places: &Vec<Place>, key: Key) -> u32
-    requires eight { length places.now.items ≡ 8 }
+    requires eight { length places.now.items ≡ SLOTS }
     requires busy { is_busy places.now.items key ≡ true }
     ensures place { key_in (place_at places.now.items result) ≡ Some key }
-    ensures within { result < 8 }
+    ensures within { result < SLOTS }
 {
     for slot in 0..8 {
         if has_key(place_in(places, slot), key) {
@@ -104,7 +105,7 @@ impl Worker {
     fn drop_out(&mut self, slot: u32) -> Key
         requires tied { (t : Tie) × HoldsBy t self.old × InOrderBy t self.old }
         requires stopped { self.old.stopped ≡ true }
-        requires slot { slot < 8 }
+        requires slot { slot < SLOTS }
         requires staged { is_staged (place_at self.old.places.items slot) ≡ true }
         ensures key { key_in (place_at self.old.places.items slot) ≡ Some result }
         ensures puts { PutsAway self.old self.new slot
@@ -126,7 +127,7 @@ impl Worker {
     ) -> Result<(), Memory>
         requires tied { (t : Tie) × IsServed (R.state region.now) self.old t }
         requires stopped { self.old.stopped ≡ true }
-        requires slot { slot < 8 }
+        requires slot { slot < SLOTS }
         requires staged { is_staged (place_at self.old.places.items slot) ≡ true }
         ensures ties { (s : State) (t : Tie) → IsServed s self.old t → IsServed s self.new t }
         ensures rule { HasKeptRoom self.old → HasKeptRoom self.new }
@@ -142,7 +143,7 @@ impl Worker {
 
     // Puts a change away that was withdrawn.
     fn put_by(&mut self, entry: Entry)
-        requires eight { length self.old.places.items ≡ 8 }
+        requires eight { length self.old.places.items ≡ SLOTS }
         requires busy { is_busy self.old.places.items entry.key ≡ true }
         requires room { HasAnswerRoom 1 self.old }
         requires sets { AreSets self.old.allocator }

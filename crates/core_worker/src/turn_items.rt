@@ -26,6 +26,7 @@ use crate::worker::Worker;
 use core_log::Room;
 use fs_errors::Memory;
 use group_board::Board;
+use group_laws::group_sizes::SLOTS;
 use pm_region::Region;
 use std::alloc::Global;
 
@@ -79,7 +80,7 @@ impl Worker {
         requires order { InOrderAt (B.seat board.old) (B.view board.old) self.old }
         requires runs { self.old.stopped ≡ false }
         requires nothing { LeadsNothing self.old }
-        requires slot { slot < 8 }
+        requires slot { slot < SLOTS }
         requires staged { is_staged (place_at self.old.places.items slot) ≡ true }
         ensures seat { B.seat board.new ≡ B.seat board.old }
         ensures keeps { KeepsTurn (B.seat board.old) (R.state region.old) (R.state region.new)

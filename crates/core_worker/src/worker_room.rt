@@ -9,6 +9,7 @@ ghost use Rattle.core_worker.specs.Refusals.{IsCounted, AreCounted, IsMeasured};
 use crate::types::{Cleaning, Place};
 use crate::worker::Worker;
 use core_room::{Shortage, Supply, lines_to_copy};
+use group_laws::group_sizes::SLOTS;
 use log_entry::entry_lines;
 
 // The lines of the log that a place pledges.
@@ -27,7 +28,7 @@ fn lines_in(place: &Place) -> u64
 // The lines that all places pledge.
 fn own_lines(places: &Vec<Place>) -> u64
     requires each { AreCounted places.now.items }
-    requires eight { length places.now.items ≡ 8 }
+    requires eight { length places.now.items ≡ SLOTS }
     ensures lines { result ≡ own places.now.items }
     ensures few { result ≤ 40 }
 {
