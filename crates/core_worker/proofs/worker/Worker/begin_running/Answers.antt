@@ -40,11 +40,11 @@ returns-in-Err-clause-begins g c t h S =
 pub returns-in-Err-clause-line : goal.returns-in-Err-clause-line
 returns-in-Err-clause-line g c = line_answered c.args.self.now c.answer.new.self (key_of c.args.request) c.answer.ensures.rest c.answer.ensures.room
 
-pub returns-in-Ok-found-clause-keeps : goal.returns-in-Ok-found-clause-keeps
-returns-in-Ok-found-clause-keeps g c t h = record { holds = answered_holds t.place t.number t.view c.args.self.now c.answer-in-Ok-found.new.self c.answer-in-Ok-found.ensures.rest h.holds; stands = λ s S. answered_stands s t.place t.number t.view c.args.self.now c.answer-in-Ok-found.new.self c.answer-in-Ok-found.ensures.rest S }
+pub returns-in-Get-clause-keeps : goal.returns-in-Get-clause-keeps
+returns-in-Get-clause-keeps g c t h = record { holds = answered_holds t.place t.number t.view c.args.self.now c.answer-in-Get.new.self c.answer-in-Get.ensures.rest h.holds; stands = λ s S. answered_stands s t.place t.number t.view c.args.self.now c.answer-in-Get.new.self c.answer-in-Get.ensures.rest S }
 
-pub returns-in-Ok-found-clause-line : goal.returns-in-Ok-found-clause-line
-returns-in-Ok-found-clause-line g c = line_answered c.args.self.now c.answer-in-Ok-found.new.self (key_of c.args.request) c.answer-in-Ok-found.ensures.rest c.answer-in-Ok-found.ensures.room
+pub returns-in-Get-clause-line : goal.returns-in-Get-clause-line
+returns-in-Get-clause-line g c = line_answered c.args.self.now c.answer-in-Get.new.self (key_of c.args.request) c.answer-in-Get.ensures.rest c.answer-in-Get.ensures.room
 
 pub returns-in-Absent-clause-keeps : goal.returns-in-Absent-clause-keeps
 returns-in-Absent-clause-keeps g c t h = record { holds = answered_holds t.place t.number t.view c.args.self.now c.answer-in-Absent.new.self c.answer-in-Absent.ensures.rest h.holds; stands = λ s S. answered_stands s t.place t.number t.view c.args.self.now c.answer-in-Absent.new.self c.answer-in-Absent.ensures.rest S }
