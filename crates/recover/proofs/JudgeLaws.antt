@@ -1,9 +1,6 @@
 -- The rules on blocks, told of the list of winners.
-use Rattle.std.proofs.Common.{◌≡◌, inl, ℕ, ◌+◌, ◌*◌, ◌<◌, ◌≤◌, ltb, List, [], ◌∷◌, ◌++◌, length, take, drop, get_or, map, refl, sym, ◌∙◌, ap, subst, arith, ◌&&◌, ◌||◌, true, false, cond, Bool, Option, Some, None, append_assoc, append-nil}
-use Rattle.std.specs.Prelude.{option_map, is_some}
-use Rattle.std.proofs.lemmas.List.{drop_more}
-use Rattle.std.proofs.Math.ListN.{drop_of_length-le}
-use Rattle.recover.proofs.ClashLaws.{one_more}
+use Rattle.std.proofs.Common.{◌≡◌, inl, ℕ, ◌*◌, ◌<◌, ltb, List, [], ◌∷◌, ◌++◌, map, refl, sym, ◌∙◌, ap, subst, arith, ◌&&◌, ◌||◌, false, cond, Bool, Option, Some, None, append_assoc, append-nil}
+use Rattle.std.specs.Prelude.{option_map}
 use Rattle.std.specs.Option.{option_or, option_to_list}
 use Rattle.std.specs.List.{flat_map, list_any, AllByRecursion}
 use Rattle.std.proofs.lemmas.Bool.{lt-ltb, le-ltb}

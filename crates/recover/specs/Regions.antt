@@ -1,5 +1,5 @@
 -- A whole region of a layout.
-use Rattle.std.specs.Prelude.{◌≡◌, ℕ, ◌/◌}
+use Rattle.std.specs.Prelude.{◌≡◌, ℕ}
 use Rattle.pm_region.specs.State.{State, Frame, IsTelling, InRange, cell_now}
 use Rattle.pm_region.specs.Words.{Surely, lasts}
 use Rattle.chunk_map.specs.declared.layouts.Geometry.{Geometry}
