@@ -40,7 +40,7 @@ fn free_place(places: &Vec<Place>) -> u32
     ensures lowest { IsLowest is_free places.now.items result }
     ensures within { result < SLOTS }
 {
-    for slot in 0..8 {
+    for slot in 0..SLOTS {
         if let Place::Free = place_in(places, slot) {
             return slot;
         }

@@ -34,7 +34,7 @@ fn lowest_staged(places: &Vec<Place>) -> Option<u32>
     ensures { MatchOption result (HasNone is_staged places.now.items)
         (λ slot. IsLowest is_staged places.now.items slot × (slot < SLOTS)) }
 {
-    for slot in 0..8 {
+    for slot in 0..SLOTS {
         if is_staged(place_in(places, slot)) {
             return Some(slot);
         }

@@ -108,7 +108,7 @@ fn unpledge(places: &mut Vec<Place>, done: &Persisted, own: u32)
         ≡ unpledged_if (is_some (taken_in done.now.left.taken.items own s))
         (place_at places.old.items s) }
 {
-    for slot in 0..8 {
+    for slot in 0..SLOTS {
         if done.has(own, slot) {
             unpledge_at(places, slot);
         }

@@ -77,7 +77,7 @@ impl Worker {
             (B.seat board.old).number (B.view board.new) }
     {
         let mut posted = false;
-        for slot in 0..8 {
+        for slot in 0..SLOTS {
             let seen = look_place(&self.places, board, slot);
             if shows_back(&seen) {
                 return Search::Back(slot);

@@ -79,7 +79,7 @@ fn place_with(places: &Vec<Place>, key: Key) -> u32
     ensures place { key_in (place_at places.now.items result) ≡ Some key }
     ensures within { result < SLOTS }
 {
-    for slot in 0..8 {
+    for slot in 0..SLOTS {
         if has_key(place_in(places, slot), key) {
             return slot;
         }
