@@ -246,8 +246,8 @@ impl GroupTable {
         })
     }
 
-    /// A token for each member, by rising number. All memory is taken before the first seat is split, so the table is as
-    /// it was where there is none. A table whose seats were handed out answers Memory too.
+    /// A token for each member, by rising number. All memory is taken before the first seat is split, so the table is
+    /// as it was where there is none. A table whose seats were handed out answers Memory too.
     pub fn seats(&mut self, alloc: Global) -> Result<Vec<SeatToken>, Memory>
         ensures same { self.new ≡ self.old }
         ensures count { IfOk result (λ ts. length ts.items ≡ self.old.members) }

@@ -38,9 +38,13 @@ pub fn store_words<R: Region>(region: &mut R, at: u64, words: &[u64])
 
 /// Flushes so many lines, one after another. A line is named by its number, its first word's divided by 8.
 pub fn flush_lines<R: Region>(region: &mut R, line: u64, count: u64)
-    requires { WordsLie (R.state region.old).frame (LINE_WORDS * line) (LINE_WORDS * count) }
+    requires low { (R.state region.old).frame.first ≤ LINE_WORDS * line }
+    requires high { LINE_WORDS * (line + count) ≤ (R.state region.old).frame.first
+        + (R.state region.old).frame.words }
+    requires fits { line + count < 2 ^ 64 }
     ensures run { During (R.state region.old) (R.state region.new)
-        (KeepsOutside (cell_now (R.state region.old)) (LINE_WORDS * line) (LINE_WORDS * (line + count))) }
+        (KeepsOutside (cell_now (R.state region.old)) (LINE_WORDS * line)
+        (LINE_WORDS * (line + count))) }
     ensures lasts { IsTelling (R.state region.new) → (w : ℕ)
         → (cell_now (R.state region.new) w).last ≡ (cell_now (R.state region.old) w).last }
     ensures marks { IsTelling (R.state region.new) → (w : ℕ) → LINE_WORDS * line ≤ w

@@ -1,5 +1,5 @@
-// One part with four chunks of 4,096 bytes. Expected values are those of the format: a chunk of 16 units has a head of one,
-// and 7 blocks of class 1 or 3 of class 2.
+// One part with four chunks of 4,096 bytes. Expected values are those of the format: a chunk of 16 units has a head of
+// one, and 7 blocks of class 1 or 3 of class 2.
 ghost use Rattle.std.specs.Prelude.{◌≡◌, ◌≤◌, ◌<◌, ◌+◌, ◌*◌, ◌^◌, ℕ, length, None, true, false, IfOk};
 ghost use Rattle.pm_region.specs.State.{IsTelling, InRange, cell_now};
 ghost use Rattle.pm_region.specs.Cell.{certain};

@@ -1,5 +1,6 @@
-// The allocator in its plain form, as the yardstick of a test: it has no bits, chains or counts, and each answer is a scan
-// from the lowest unit. It is that of the tests' part, of four chunks of 4,096 bytes behind the region's first 4,096.
+// The allocator in its plain form, as the yardstick of a test: it has no bits, chains or counts, and each answer is a
+// scan from the lowest unit. It is that of the tests' part, of four chunks of 4,096 bytes behind the region's first
+// 4,096.
 ghost use Rattle.std.specs.Prelude.{◌<◌, IfSome};
 
 const CHUNKS: usize = 4;

@@ -74,8 +74,8 @@ impl CoreIndex {
         })
     }
 
-    /// Puts in what is known of a key at the start, in place of anything that it has. No death was told yet, and where a
-    /// version stands twice, the first one counts. Keys that come in rising order and of which the last version alone
+    /// Puts in what is known of a key at the start, in place of anything that it has. No death was told yet, and where
+    /// a version stands twice, the first one counts. Keys that come in rising order and of which the last version alone
     /// stands take twelve bytes where they were deleted, and 24 beside their value else.
     pub fn enter(
         &mut self,

@@ -279,7 +279,8 @@ impl Slot {
 
 // The last change of such a key, where its record is not elsewhere.
 fn head_of(tombstone: &Tombstone) -> Option<Head>
-    ensures known { known_with result (list_of (standing_left tombstone.now)) ≡ left_of tombstone.now }
+    ensures known { known_with result (list_of (standing_left tombstone.now))
+        ≡ left_of tombstone.now }
     ensures head { IfSome result (λ h. h ≡ delete_at tombstone.now.version) }
 {
     match tombstone.fate {

@@ -42,9 +42,11 @@ fn write_lines<R: Region>(
 ) -> Result<(), RegionFault>
     requires { WordsLie (R.state region.old).frame (LINE_WORDS * line) (LINE_WORDS * lines) }
     ensures run { During (R.state region.old) (R.state region.new)
-        (KeepsOutside (cell_now (R.state region.old)) (LINE_WORDS * line) (LINE_WORDS * (line + lines))) }
+        (KeepsOutside (cell_now (R.state region.old)) (LINE_WORDS * line)
+        (LINE_WORDS * (line + lines))) }
     ensures ok { OnOk result (IsTelling (R.state region.new) → (j : ℕ) → j < LINE_WORDS * lines
-        → cell_now (R.state region.new) (LINE_WORDS * line + j) ≡ certain (slice_index words.now j)) }
+        → cell_now (R.state region.new) (LINE_WORDS * line + j)
+        ≡ certain (slice_index words.now j)) }
     ensures cause { OnErr result (Faulted (R.state region.old) (R.state region.new)) }
 {
     store_all(region, LINE_WORDS * line, words, LINE_WORDS * lines);

@@ -40,7 +40,8 @@ pub fn every_opening()
     ensures { (s t : State) (log : LogState) (chunk : ℕ) → StandsIn s log
         → chunk < log.layout.chunks
         → (IsTelling s → Surely (cell_now s (first_of log chunk)) 0)
-        → During s t (KeepsOutside (cell_now s) (first_of log chunk) (first_of log chunk + LINE_WORDS))
+        → During s t (KeepsOutside (cell_now s) (first_of log chunk)
+        (first_of log chunk + LINE_WORDS))
         → During s t (EachInChunk log chunk (FreeOrEmpty (first_of log chunk)))
         → During s t (EachInPart log (GainsSince s log [])) }
 {}
@@ -50,7 +51,8 @@ pub fn every_opening()
 pub fn every_freeing()
     ensures { (s t : State) (log : LogState) (chunk : ℕ) → StandsIn s log
         → is_some (tail_of log.chunks chunk) ≡ true
-        → During s t (KeepsOutside (cell_now s) (first_of log chunk) (first_of log chunk + LINE_WORDS))
+        → During s t (KeepsOutside (cell_now s) (first_of log chunk)
+        (first_of log chunk + LINE_WORDS))
         → During s t (EachInChunk log chunk (FreeOrLog (first_of log chunk) (tail_in log chunk)
         (words_now s (first_of log chunk) (tail_in log chunk))))
         → During s t (EachInPart log (λ image. GainsSince s log [] image

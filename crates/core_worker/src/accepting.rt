@@ -61,8 +61,8 @@ impl Worker {
         self.index.admit(alloc, key).is_ok()
     }
 
-    /// Accepts a request. One for a key with a change under way is held; any other is begun. Where there is no memory for
-    /// it the request comes back, and nothing is answered, held or staged.
+    /// Accepts a request. One for a key with a change under way is held; any other is begun. Where there is no memory
+    /// for it the request comes back, and nothing is answered, held or staged.
     pub fn accept<R: Region>(
         &mut self,
         alloc: Global,

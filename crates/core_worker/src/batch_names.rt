@@ -35,8 +35,8 @@ pub(crate) fn note_names(standing: &mut Standing, batch: &Batch, needed: bool)
 }
 
 impl Worker {
-    // Makes sure of the places for the names of the next batch. Where there is no memory for them the worker winds down;
-    // one that winds down or has stopped needs none.
+    // Makes sure of the places for the names of the next batch. Where there is no memory for them the worker winds
+    // down; one that winds down or has stopped needs none.
     pub(crate) fn renew_names(&mut self) -> Result<(), Memory>
         ensures rest { self.new ≡ record self.old {
           standing = self.new.standing;

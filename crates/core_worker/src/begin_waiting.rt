@@ -23,8 +23,8 @@ use pm_region::Region;
 use std::alloc::Global;
 
 impl Worker {
-    // Begins the waiting requests of a key in order, until one is staged or none waits. Where there is no memory for the
-    // answer to a get, that request is in hand, and the core winds down.
+    // Begins the waiting requests of a key in order, until one is staged or none waits. Where there is no memory for
+    // the answer to a get, that request is in hand, and the core winds down.
     pub(crate) fn begin_waiting<R: Region>(
         &mut self,
         alloc: Global,

@@ -98,8 +98,8 @@ impl Worker {
         put_back(&mut self.allocator, replaced);
     }
 
-    // Takes the change of a slot that was found given back out of its place: it is settled where it is done, and else the
-    // core stops.
+    // Takes the change of a slot that was found given back out of its place: it is settled where it is done, and else
+    // the core stops.
     fn take_out<B: Board>(&mut self, board: &mut B, slot: u32) -> Key
         requires holds { HoldsAt (B.seat board.old) (B.view board.old) self.old }
         requires order { InOrderAt (B.seat board.old) (B.view board.old) self.old }

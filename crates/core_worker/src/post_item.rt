@@ -97,7 +97,8 @@ pub(crate) fn place_in(places: &Vec<Place>, slot: u32) -> &Place
 }
 
 impl Worker {
-    // Writes the block of the change that is staged in a place. It answers false where that failed: then the core stops.
+    // Writes the block of the change that is staged in a place. It answers false where that failed: then the core
+    // stops.
     fn write_staged<R: Region, B: Board>(
         &mut self,
         region: &mut R,

@@ -186,8 +186,8 @@ impl Worker {
         }
     }
 
-    // Takes the lowest own change back that nobody had taken, answers it and begins what waits of its key. Where there is
-    // none it gives the lock back.
+    // Takes the lowest own change back that nobody had taken, answers it and begins what waits of its key. Where there
+    // is none it gives the lock back.
     pub(crate) fn withdraw<R: Region, B: Board>(
         &mut self,
         alloc: Global,

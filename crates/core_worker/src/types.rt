@@ -9,15 +9,15 @@ use log_entry::Entry;
 pub enum Place {
     /// For the next change that is begun.
     Free,
-    /// A change that is to be posted, with the number of its request. `value` is what its block is to hold, empty where it
-    /// has none.
+    /// A change that is to be posted, with the number of its request. `value` is what its block is to hold, empty where
+    /// it has none.
     Staged {
         number: u64,
         entry: Entry,
         value: Value,
     },
-    /// A change that was posted and is not finished. `lines` are those that the log must still have for it: 0 once the core
-    /// itself made its entry certain.
+    /// A change that was posted and is not finished. `lines` are those that the log must still have for it: 0 once the
+    /// core itself made its entry certain.
     Posted {
         number: u64,
         key: Key,

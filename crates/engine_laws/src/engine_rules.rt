@@ -89,7 +89,8 @@ pub fn every_state()
     ensures { (o : Origin) (e : Engine) → Stands o e → Promised o e }
 {}
 
-/// The same of one moment, however the region came there, where it is known why requests were refused and cores stopped.
+/// The same of one moment, however the region came there, where it is known why requests were refused and cores
+/// stopped.
 pub fn every_moment()
     ensures { (o : Origin) (e : Engine) → StandsNow o e → Causes o e
         → (HasStopped e → Faulted o.region e.region) → Promised o e }

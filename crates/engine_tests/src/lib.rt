@@ -1,5 +1,5 @@
-//! Tests of a core's worker, of the engines' reports, and of cores in threads. They stand beside the crates that they test,
-//! since a crate with tests is proved twice.
+//! Tests of a core's worker, of the engines' reports, and of cores in threads. They stand beside the crates that they
+//! test, since a crate with tests is proved twice.
 #![tactic(auto)]
 
 #[cfg(test)]

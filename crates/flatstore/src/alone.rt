@@ -27,8 +27,8 @@ use std::thread::Threads;
 /// Does what the words of a command line ask, in the thread that calls it, and returns: the words of `run` count as no
 /// form. The first word is the program's name. For `format` the region is created and its superblock written. For
 /// `replay` the region is attached, the input is read, its lines are run in order, each core's moves by its `go` lines,
-/// and the replies are written once all are answered. For `dump` the region is attached, and its live pairs are written,
-/// and for `log` the entries of its logs.
+/// and the replies are written once all are answered. For `dump` the region is attached, and its live pairs are
+/// written, and for `log` the entries of its logs.
 pub fn flatstore_alone<T: Threads, S: Source, O: Sink, R: SplitRegion + ReadRegion>(
     _rt: &T,
     alloc: Global,

@@ -55,8 +55,8 @@ pub fn put(alloc: Global, key: u64, byte: u8, length: usize) -> Result<String, F
     Ok(format!(in alloc; "put {key} {value}\n")?)
 }
 
-// Puts of 1,000 bytes to keys 1 to 7 and 1, of one byte to key 1, and of 1,000 bytes to key 8, each with turns enough to
-// end it.
+// Puts of 1,000 bytes to keys 1 to 7 and 1, of one byte to key 1, and of 1,000 bytes to key 8, each with turns enough
+// to end it.
 fn seven(alloc: Global) -> Result<String, Fail> {
     let mut input = String::new(alloc);
     for key in [1u64, 2, 3, 4, 5, 6, 7, 1] {

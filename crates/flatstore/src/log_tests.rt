@@ -9,8 +9,8 @@ use std::thread::Threads;
 
 const LOG: [&str; 3] = ["flatstore", "log", "region"];
 
-// The words of a log in chunk 0: its kind, its tail of one line, and an entry of key 9 with the greatest version of a put
-// and the value `q`.
+// The words of a log in chunk 0: its kind, its tail of one line, and an entry of key 9 with the greatest version of a
+// put and the value `q`.
 const GREATEST: [(usize, u8); 8] = [
     (4096, 1),
     (4104, 8),
@@ -39,8 +39,8 @@ const SUPERSEDED: [(usize, u8); 13] = [
     (12_552, 5),
 ];
 
-// Chunk 0 has blocks of 512 bytes, the first with a value of 256 bytes. Chunk 1 is a log: key 1 with an embedded value of
-// 255 bytes, whose bytes are missing here, and key 2 with that block.
+// Chunk 0 has blocks of 512 bytes, the first with a value of 256 bytes. Chunk 1 is a log: key 1 with an embedded value
+// of 255 bytes, whose bytes are missing here, and key 2 with that block.
 const BLOCK: [(usize, u8); 11] = [
     (4096, 2),
     (4097, 1),

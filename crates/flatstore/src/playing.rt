@@ -13,8 +13,8 @@ use fs_text::{Sink, Source};
 use pm_region::{AttachError, ReadRegion, SplitRegion};
 use std::alloc::Global;
 
-/// Attaches the region, reads the input, runs its lines, and writes the replies in the order of the requests once all are
-/// answered.
+/// Attaches the region, reads the input, runs its lines, and writes the replies in the order of the requests once all
+/// are answered.
 pub fn replay_region<S: Source, O: Sink, R: SplitRegion + ReadRegion>(
     alloc: Global,
     source: &mut S,

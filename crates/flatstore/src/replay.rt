@@ -55,8 +55,8 @@ fn recovered<R: SplitRegion + ReadRegion>(alloc: Global, region: &R) -> Result<R
     }
 }
 
-/// What a run of lines begins with, on a region that was attached: what its words say, and the lines of the input for its
-/// cores.
+/// What a run of lines begins with, on a region that was attached: what its words say, and the lines of the input for
+/// its cores.
 pub fn prepared<S: Source, R: SplitRegion + ReadRegion>(
     alloc: Global,
     source: &mut S,

@@ -14,7 +14,8 @@ pub enum Status {
     Done,
     /// The words are no form of the program.
     Usage,
-    /// This line of the input, counted from 1, is the first that breaks a rule, and this is the first rule that it breaks.
+    /// This line of the input, counted from 1, is the first that breaks a rule, and this is the first rule that it
+    /// breaks.
     BadInput { line: u64, rule: u32 },
     /// A read of the input failed.
     SourceFault,
@@ -42,11 +43,11 @@ pub struct Report {
     pub refusals: Vec<Refusal>,
     /// Whether the region was attached in this call, or created.
     pub attached: bool,
-    /// Whether the run began: the input was read and keeps its rules, and the work on its requests began, which for `run`
-    /// is the split of the region. Before that no word of the region changes.
+    /// Whether the run began: the input was read and keeps its rules, and the work on its requests began, which for
+    /// `run` is the split of the region. Before that no word of the region changes.
     pub began: bool,
-    /// Whether the whole text was ready to be written: for `replay` and `run`, whether every request was answered. Where not,
-    /// nothing was written. `format` has no text, and says no.
+    /// Whether the whole text was ready to be written: for `replay` and `run`, whether every request was answered.
+    /// Where not, nothing was written. `format` has no text, and says no.
     pub complete: bool,
 }
 

@@ -15,8 +15,8 @@ const UNSTOLEN: &str = "put 4 a\nput 1 x\nget 4\nput 4 b\nget 4\n";
 
 const FAILS_THIRD: &str = "put 0 a\nput 1 b\nget 0\nget 1\n";
 
-// Core 1 takes the change of key 0, and its batch fails, while that of key 2 stands posted: its core stops, and takes it
-// back.
+// Core 1 takes the change of key 0, and its batch fails, while that of key 2 stands posted: its core stops, and takes
+// it back.
 const WITHDRAWN: &str = "put 0 a\ngo 0 2\nput 1 x\ngo 1 6\nput 2 b\ngo 0 2\ngo 1 3\n";
 
 // The bytes of a fresh region: so many cores in groups, each with 4 chunks of 4,096 bytes.
@@ -88,7 +88,8 @@ fn interleavings(rt: HostRuntime) -> Result<(), Fail> {
     Ok(())
 }
 
-// For each of eight groups of two cores: both put, the second posts, and the first leads for both. The lines, and the log.
+// For each of eight groups of two cores: both put, the second posts, and the first leads for both. The lines, and the
+// log.
 fn eight_groups(alloc: Global) -> Result<(String, String), Fail> {
     let mut input = String::new(alloc);
     let mut log = String::new(alloc);

@@ -96,8 +96,8 @@ fn run_cores<T: Threads + Wait + Sync, S: Source, R: SplitRegion + ReadRegion, G
     Ok(run_apart::run(rt, alloc, region, recovered, input, gate)?)
 }
 
-/// Attaches the region, reads the input, runs a worker for each core in a thread of its own, and writes the replies in the
-/// order of the requests once all are joined.
+/// Attaches the region, reads the input, runs a worker for each core in a thread of its own, and writes the replies in
+/// the order of the requests once all are joined.
 pub fn run_region<
     T: Threads + Wait + Sync,
     S: Source,

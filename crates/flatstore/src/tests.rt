@@ -377,8 +377,8 @@ fn versions_spent(rt: HostRuntime) -> Result<(), Fail> {
     Ok(())
 }
 
-// 37 puts of values with 255 bytes, each with turns enough to end it, and the replies to them: a chunk of 60 lines has 12
-// entries of 5 lines.
+// 37 puts of values with 255 bytes, each with turns enough to end it, and the replies to them: a chunk of 60 lines has
+// 12 entries of 5 lines.
 fn many(alloc: Global) -> Result<(String, String), Fail> {
     let value = String::from_utf8(vec![in alloc; b'v'; 255]?)?;
     let mut input = String::new(alloc);

@@ -154,7 +154,8 @@ fn as_a_replay(rt: HostRuntime) -> Result<(), Fail> {
 
 const LOADS: u64 = 500_000_000;
 
-// Counts how often each of two cores asks. Core 0's first ask waits for core 1's second, and that one for core 0's second.
+// Counts how often each of two cores asks. Core 0's first ask waits for core 1's second, and that one for core 0's
+// second.
 #[derive(Drop)]
 struct Meeting {
     asked: [AtomicU64; 2],

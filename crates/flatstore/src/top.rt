@@ -26,10 +26,11 @@ use std::alloc::Global;
 use std::sync::Wait;
 use std::thread::Threads;
 
-/// Does what the words of a command line ask. The first word is the program's name. For `run` the region is attached, the
-/// input is read, and each core of the region has a worker in a thread of its own, which answers the requests of its keys,
-/// and asks the gate before it posts; once all are joined the replies are written in the order of the requests. It may
-/// then wait for its threads. Every other form is done in the thread that calls it (`flatstore_alone`).
+/// Does what the words of a command line ask. The first word is the program's name. For `run` the region is attached,
+/// the input is read, and each core of the region has a worker in a thread of its own, which answers the requests of
+/// its keys, and asks the gate before it posts; once all are joined the replies are written in the order of the
+/// requests. It may then wait for its threads. Every other form is done in the thread that calls it
+/// (`flatstore_alone`).
 pub fn flatstore<
     T: Threads + Wait + Sync,
     S: Source,

@@ -1,5 +1,5 @@
-//! Tests of the ground: cells, entries, layouts, texts, and the yardstick of images. They stand beside the crates that they
-//! test, since a crate with tests is proved twice.
+//! Tests of the ground: cells, entries, layouts, texts, and the yardstick of images. They stand beside the crates that
+//! they test, since a crate with tests is proved twice.
 #![tactic(auto)]
 
 #[cfg(test)]

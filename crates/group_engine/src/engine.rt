@@ -263,8 +263,8 @@ impl<W: CoreWorker> Engine<W> {
         passes::drain(self, alloc, region)
     }
 
-    /// Handles the lines of an input in order, and then drains. The engine has just been opened. Where a worker finds no
-    /// memory, all wind down: they finish what is posted or taken, and then rest.
+    /// Handles the lines of an input in order, and then drains. The engine has just been opened. Where a worker finds
+    /// no memory, all wind down: they finish what is posted or taken, and then rest.
     pub fn replay<R: Region>(
         &mut self,
         alloc: Global,

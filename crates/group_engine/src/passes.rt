@@ -250,7 +250,8 @@ pub fn cease_core<C: Cores, R: Region>(
     }
 }
 
-/// Moves each core until nothing of it moves, by rising number, while all wind down, and answers whether anything moved.
+/// Moves each core until nothing of it moves, by rising number, while all wind down, and answers whether anything
+/// moved.
 pub fn cease_pass<C: Cores, R: Region>(cores: &mut C, alloc: Global, region: &mut R) -> Turn
     requires winds { C.winds cores.old }
     requires stays { (e : Engine) × C.stays (R.state region.old) cores.old e }

@@ -110,8 +110,8 @@ impl CoreWorker for Worker {
     ghost beside = { λ a e m n kinds w lawful runs other starts. starts };
 }
 
-/// The worker of a core that recovery found so, in the region's layout: it is seated in the first state of a run on what
-/// was found.
+/// The worker of a core that recovery found so, in the region's layout: it is seated in the first state of a run on
+/// what was found.
 pub fn open_worker(alloc: Global, start: CoreStart, layout: Layout) -> Result<Worker, Memory>
     ensures new { IfOk result (IsNew start layout) }
     ensures seated { IfOk result (SeatsFirst start layout) }

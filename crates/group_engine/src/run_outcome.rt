@@ -69,8 +69,8 @@ impl Outcome {
 }
 
 /// Opens the engine of a region that stands as recovery found it, handles the lines of an input in order, drains, and
-/// reports. Whatever the end, the region stands at the last state of the run, and the report is that state's: at want of
-/// memory too, since making it takes none.
+/// reports. Whatever the end, the region stands at the last state of the run, and the report is that state's: at want
+/// of memory too, since making it takes none.
 pub fn replay<R: ReadRegion>(
     alloc: Global,
     region: &mut R,

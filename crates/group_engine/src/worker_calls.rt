@@ -109,7 +109,8 @@ pub trait CoreWorker {
     fn wind_down(&mut self)
         ensures { WindsDown hands answers stands fair room leads winds self.old self.new };
 
-    /// Makes a turn, and answers whether it found something to do. One that winds down finds memory for all that it does.
+    /// Makes a turn, and answers whether it found something to do. One that winds down finds memory for all that it
+    /// does.
     fn turn<R: Region, B: Board>(
         &mut self,
         alloc: Global,

@@ -1,5 +1,5 @@
-// One change's way, the lock and a mailbox, at the board of one thread. The requests and answers are those that the calls
-// themselves describe.
+// One change's way, the lock and a mailbox, at the board of one thread. The requests and answers are those that the
+// calls themselves describe.
 ghost use Rattle.std.specs.Prelude.{◌≡◌, ◌≢◌, ◌<◌, ℕ, [], IfOk, IfSome, MatchResult};
 ghost use Rattle.group_laws.specs.Places as places;
 ghost use Rattle.group_board.specs.Journals.{state};

@@ -1,5 +1,5 @@
-// A change that its owner takes back before anybody took it, and one that could not be written. What is expected is what
-// the calls say of a slot.
+// A change that its owner takes back before anybody took it, and one that could not be written. What is expected is
+// what the calls say of a slot.
 ghost use Rattle.std.specs.Prelude.{◌≡◌, ◌<◌, ◌≤◌, true, false, [], IfOk, IfSome, Option};
 ghost use Rattle.pm_region.specs.Mem.{mem_state};
 ghost use Rattle.group_laws.specs.Places.{members};

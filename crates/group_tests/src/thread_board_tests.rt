@@ -364,8 +364,8 @@ fn take_both(table: &GroupTable, token: SeatToken) -> (SeatToken, u32)
     (seat.leave(), first + second)
 }
 
-/// Both members' turns in threads of their own, and then the leader's. Gives the leader, the holder that the other found
-/// and how many changes the leader took.
+/// Both members' turns in threads of their own, and then the leader's. Gives the leader, the holder that the other
+/// found and how many changes the leader took.
 fn both<R: Threads + Sync>(
     rt: &R,
     table: &GroupTable,

@@ -1,5 +1,5 @@
-// Two leaders of a group at the board of one thread: the second leads and writes before the first wrote. What is expected
-// is what the format says of a batch.
+// Two leaders of a group at the board of one thread: the second leads and writes before the first wrote. What is
+// expected is what the format says of a batch.
 ghost use Rattle.std.specs.Prelude.{◌≡◌, ◌<◌, ◌≤◌, true, IfOk, IfSome};
 ghost use Rattle.pm_region.specs.Steady.{steady_state};
 ghost use Rattle.group_laws.specs.MemberViews.{view_of};

@@ -75,7 +75,8 @@ pub fn gather(alloc: Global, layout: &Geometry, words: &[u64]) -> Result<Gathere
     requires layout { layout_rule layout.now ≡ None }
     requires words { length words.now ≡ total_words layout.now }
     ensures fault { IfOk result (λ g. g.fault ≡ chunk_fault layout.now (image_of words.now)) }
-    ensures entries { IfOk result (λ g. g.entries.items ≡ all_entries layout.now (image_of words.now)) }
+    ensures entries { IfOk result (λ g. g.entries.items
+        ≡ all_entries layout.now (image_of words.now)) }
 {
     let mut entries = Vec::new(alloc);
     let mut fault: Option<Fault> = None;

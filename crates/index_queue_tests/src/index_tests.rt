@@ -1,5 +1,5 @@
-// Keys through their changes, from the records of a start to the last notice. Each test is a table of calls and answers,
-// which one loop plays: the proof of a function costs the square of its length.
+// Keys through their changes, from the records of a start to the last notice. Each test is a table of calls and
+// answers, which one loop plays: the proof of a function costs the square of its length.
 ghost use Rattle.std.specs.Prelude.{◌≤◌, IfOk};
 ghost use Rattle.std.specs.List.{AllByRecursion};
 ghost use Rattle.core_index.specs.Index.{HasNoneAbove};

@@ -80,8 +80,8 @@ fn no_counts(alloc: Global) -> Result<Vec<u32>, Memory>
 }
 
 impl Allocator {
-    /// The allocator of a part whose chunks have these heads, in their order. Of the pointers, those at which a block of
-    /// the part begins are allocated, and no other block is.
+    /// The allocator of a part whose chunks have these heads, in their order. Of the pointers, those at which a block
+    /// of the part begins are allocated, and no other block is.
     pub fn rebuild(
         alloc: Global,
         layout: Layout,

@@ -95,7 +95,8 @@ pub fn clear(words: &mut Vec<u64>, at: u64)
 /// Of so many bits from a word on, the lowest that is not set, counted from that word's first bit.
 pub fn first_unset(words: &[u64], from: u64, count: u64) -> Option<u64>
     requires { WORD_BITS * from + count ≤ WORD_BITS * length words.now }
-    ensures { MatchOption result ((i : ℕ) → i < count → has_bit words.now (WORD_BITS * from + i) ≡ true)
+    ensures { MatchOption result ((i : ℕ) → i < count
+        → has_bit words.now (WORD_BITS * from + i) ≡ true)
         (λ b. (b < count) × ((has_bit words.now (WORD_BITS * from + b) ≡ false)
         × ((i : ℕ) → i < b → has_bit words.now (WORD_BITS * from + i) ≡ true))) }
 {

@@ -196,8 +196,8 @@ impl<R: Files<File = File> + Drop> SplitRegion for FileRegion<R> {
 
     fn create(&mut self, alloc: Global, words: u64) -> Result<(), AttachError>
         requires { words ≤ MOST_WORDS }
-        ensures ok { OnOk result (Attached (file_state self.old) (file_state self.new) (WORD_BYTES * words)
-            (λ w. 0)) }
+        ensures ok { OnOk result (Attached (file_state self.old) (file_state self.new)
+            (WORD_BYTES * words) (λ w. 0)) }
         ensures cause { Refuses (file_state self.old) (file_state self.new) result }
         ensures opens { IsOpenedOnceMore (file_state self.old) (file_state self.new) }
         ensures made { OnOk result (HasMade words self.new.device self.new.words) }

@@ -61,7 +61,8 @@ impl Region for FilePiece {
         requires { LineInRange (file_piece_state self.old).frame line }
         ensures goes { Goes (file_piece_state self.old) (file_piece_state self.new)
             (flush_line line) }
-        ensures flushed { IsFlushed self.old.words self.new.words (line - self.old.first / LINE_WORDS) }
+        ensures flushed { IsFlushed self.old.words self.new.words
+            (line - self.old.first / LINE_WORDS) }
     {
         self.words.flush(line - self.first / LINE_WORDS);
         self.stamp = self.stamp.saturating_add(1);
@@ -73,9 +74,10 @@ impl Region for FilePiece {
             (file_piece_state self.old).frame.words)) }
         ensures err { OnErr result (Goes (file_piece_state self.old) (file_piece_state self.new)
             unchanged) }
-        ensures cause { OnErr result (Faulted (file_piece_state self.old) (file_piece_state self.new)) }
-        ensures fenced { OnOk result (IsFenced self.old.words self.new.words (WORD_BYTES * self.old.first)
-            self.old.device.calls.made self.new.device.calls.made) }
+        ensures cause { OnErr result (Faulted (file_piece_state self.old)
+            (file_piece_state self.new)) }
+        ensures fenced { OnOk result (IsFenced self.old.words self.new.words
+            (WORD_BYTES * self.old.first) self.old.device.calls.made self.new.device.calls.made) }
         ensures kept { OnErr result (IsKept self.old.words self.new.words) }
     {
         self.stamp = self.stamp.saturating_add(1);

@@ -4,9 +4,9 @@ ghost use Rattle.std.specs.Prelude.{◌≡◌, ℕ, ◌+◌, ◌-◌, ◌^◌, �
 use crate::step::{Step, touching_steps};
 use std::alloc::{AllocError, Global};
 
-/// The steps of a region, oldest first. The moment `since` stands after the first `base` of them, and each later
-/// moment one step later. It keeps the steps up to the stamp `limit`, for which it has room from the start: for its own,
-/// and while its region is split for those of each piece, which are its `shares`.
+/// The steps of a region, oldest first. The moment `since` stands after the first `base` of them, and each later moment
+/// one step later. It keeps the steps up to the stamp `limit`, for which it has room from the start: for its own, and
+/// while its region is split for those of each piece, which are its `shares`.
 #[derive(Drop)]
 pub struct Journal {
     /// Those that it keeps.

@@ -1,5 +1,5 @@
-//! Tests of regions: in memory with faults and images, in pieces, and in files. They stand beside the crate that they test,
-//! since a crate with tests is proved twice.
+//! Tests of regions: in memory with faults and images, in pieces, and in files. They stand beside the crate that they
+//! test, since a crate with tests is proved twice.
 #![tactic(auto)]
 
 #[cfg(test)]

@@ -31,9 +31,9 @@ fn logged<R: Region>(
     read_entries(alloc, region, layout, &found)
 }
 
-/// All entries that stand in the logs of a region of so many bytes, by core, chunk and place, superseded ones and copies
-/// too, or the first broken rule. The rules are tested first, so each log is read once more than for `first_fault`. It
-/// writes nothing.
+/// All entries that stand in the logs of a region of so many bytes, by core, chunk and place, superseded ones and
+/// copies too, or the first broken rule. The rules are tested first, so each log is read once more than for
+/// `first_fault`. It writes nothing.
 pub fn log_entries<R: Region>(
     alloc: Global,
     region: &R,

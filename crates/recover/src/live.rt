@@ -74,7 +74,8 @@ fn push_left<R: Region>(
     Ok(())
 }
 
-/// The pairs of the winners that leave a value, by rising key. A winner that stands there no more is answered as damage.
+/// The pairs of the winners that leave a value, by rising key. A winner that stands there no more is answered as
+/// damage.
 fn pairs_left<R: Region>(
     alloc: Global,
     region: &R,

@@ -1,5 +1,5 @@
-//! Tests of recovery: damaged regions, and what is found of sound ones. They stand beside the crate that they test, since a
-//! crate with tests is proved twice.
+//! Tests of recovery: damaged regions, and what is found of sound ones. They stand beside the crate that they test,
+//! since a crate with tests is proved twice.
 #![tactic(auto)]
 
 #[cfg(test)]

@@ -116,8 +116,8 @@ fn dismiss<P: Region + Drop>(
     room
 }
 
-/// Lets all cores work on their pieces, each in a thread of its own, until all have ended, and gives back what they have
-/// then. It takes no memory.
+/// Lets all cores work on their pieces, each in a thread of its own, until all have ended, and gives back what they
+/// have then. It takes no memory.
 pub fn work_apart<'a, T: Threads + Wait + Sync, P: Region + Drop + Send, G: Gate + Sync>(
     rt: &T,
     alloc: Global,

@@ -155,8 +155,8 @@ fn run_supplied<T: Threads + Wait + Sync, R: SplitRegion + ReadRegion, G: Gate +
     Ok(outcome_of(back.workers, answers, report, stamp))
 }
 
-/// Runs an input on a region that stands as recovery found it: one worker for each core, each in a thread of its own and
-/// on its own piece of the region. `go` lines change nothing. The report's stamps are the joined region's.
+/// Runs an input on a region that stands as recovery found it: one worker for each core, each in a thread of its own
+/// and on its own piece of the region. `go` lines change nothing. The report's stamps are the joined region's.
 ///
 /// Whatever the end of a run, the pieces are joined again. After an `Err` the region is as it was: `RegionFault` comes
 /// where it could not be split, and `Memory` where there was none for what the run needs.

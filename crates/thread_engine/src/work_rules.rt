@@ -15,8 +15,8 @@ ghost use Rattle.thread_engine.specs.CoreRuns.{fixed_in};
 
 use engine_laws::engine_rules;
 
-/// A chain of a core's moves, whatever the other cores of its group did between them: its requests are accepted in their
-/// order, each key's are answered in the order of their arrival, and each key is where its answers led it.
+/// A chain of a core's moves, whatever the other cores of its group did between them: its requests are accepted in
+/// their order, each key's are answered in the order of their arrival, and each key is where its answers led it.
 pub fn every_chain()
     ensures { (seat : SeatAt) (refused : Bool) (a b : WorkState)
         → IsAtWork seat a → KeepsDoubts seat a.view → (w : Works seat refused a b)
@@ -26,8 +26,8 @@ pub fn every_chain()
     engine_rules::every_key();
 }
 
-/// A core that has ended leads nothing, has nothing posted and nothing taken, and its part is licensed by its view. Unless
-/// there was no memory, each request that it was given is answered.
+/// A core that has ended leads nothing, has nothing posted and nothing taken, and its part is licensed by its view.
+/// Unless there was no memory, each request that it was given is answered.
 pub fn every_end()
     ensures { (seat : SeatAt) (x : WorkState) → IsAtWork seat x → HasEnded x → HasRested seat x }
 {}
