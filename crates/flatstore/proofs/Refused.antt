@@ -26,6 +26,7 @@ use Rattle.headline.proofs.Clients.{recorded}
 use Rattle.group_engine.specs.declared.run_report.Refusal.{Refusal}
 use Rattle.group_engine.specs.Answers.{reply_to}
 use Rattle.group_engine.specs.Reports.{told}
+use Rattle.flatstore.specs.Ends.{SourceUse, SinkUse}
 use Rattle.flatstore.specs.LastStates.{told_in, AreRising}
 use Rattle.flatstore.specs.Ordering.{KeepsOrder, IsServed, due, IsDue, IsFault, status_of, is_broken, is_of_region, is_of_line, is_of_run, is_whole}
 use Rattle.flatstore.specs.Promise.{WritesFront, IsInput, Serves, Replays, asked_in}
@@ -97,10 +98,10 @@ some_input None = ([], tt)
 some_input (Some bytes) = (bytes, refl)
 
 -- what was read is nothing that the region's rules decide
-pub unread_apart : (coming left : Option (List ℕ)) (cores source source' : ℕ) (status : Status) → IsUnread coming left cores source source' status → is_of_region status ≡ false
-unread_apart coming left cores source source' status (inl u) = ap is_of_region u.4 ∙ broken_apart (input_of cores u.1) u.3
-unread_apart coming left cores source source' status (inr (inl u)) = ap is_of_region u.0
-unread_apart coming left cores source source' status (inr (inr u)) = ap is_of_region u
+pub unread_apart : (source : SourceUse) (cores : ℕ) (status : Status) → IsUnread source cores status → is_of_region status ≡ false
+unread_apart source cores status (inl u) = ap is_of_region u.4 ∙ broken_apart (input_of cores u.1) u.3
+unread_apart source cores status (inr (inl u)) = ap is_of_region u.0
+unread_apart source cores status (inr (inr u)) = ap is_of_region u
 
 memory_source : statuses.Memory ≡ statuses.SourceFault → ⊥
 memory_source q = cc q
@@ -147,8 +148,8 @@ module _ (old s : State) (found : ℕ → ℕ) (A : Attached old s s.frame.bytes
       let is : n ≡ s.stamp = omega (arith, stamp, seen) in
       subst (IsTold s) is told
 
-  pub none_begins : (text : Option (List ℕ)) → WritesFront (IsTelling s) (cells_of found) trace (told_in r) MayStop text text
-  none_begins text = subst (λ x. WritesFront (IsTelling s) (cells_of found) trace x MayStop text text) (sym nothing) (no_text (IsTelling s) (cells_of found) trace none MayStop (all_stopped trace) said text text refl)
+  pub none_begins : (sink : SinkUse) → sink.now ≡ sink.before → WritesFront (IsTelling s) (cells_of found) trace (told_in r) MayStop sink
+  none_begins sink same = subst (λ x. WritesFront (IsTelling s) (cells_of found) trace x MayStop sink) (sym nothing) (no_text (IsTelling s) (cells_of found) trace none MayStop (all_stopped trace) said sink same)
 
   pub none_lost : IsSound s.frame.bytes found → RecoversThroughout s (cells_of found) trace (told_in r)
   none_lost sound = subst (λ x. RecoversThroughout s (cells_of found) trace x) (sym nothing) (crash_at_attach old s found A sound trace)
@@ -162,13 +163,13 @@ module _ (old s : State) (found : ℕ → ℕ) (A : Attached old s s.frame.bytes
   pub none_spent : AllByRecursion (λ (x : Refusal). (last : ℕ) → x.why ≡ Versions last → (k : ℕ) → IsAsked trace x.request k → LAST_PUT_VERSION ≤ version_of found k + changes_asked k (take x.request trace)) r.refusals.items
   none_spent = subst (λ xs. AllByRecursion (λ (x : Refusal). (last : ℕ) → x.why ≡ Versions last → (k : ℕ) → IsAsked trace x.request k → LAST_PUT_VERSION ≤ version_of found k + changes_asked k (take x.request trace)) xs) (sym ref) tt
 
-module _ (old s : State) (found : ℕ → ℕ) (A : Attached old s s.frame.bytes found) (coming left : Option (List ℕ)) (source source' : ℕ) (status : Status) (U : IsRefused s coming left source source' status) where
-  unread_none : (cores : ℕ) → IsUnread coming left cores source source' status → answers_none status ≡ true
+module _ (old s : State) (found : ℕ → ℕ) (A : Attached old s s.frame.bytes found) (source : SourceUse) (status : Status) (U : IsRefused s source status) where
+  unread_none : (cores : ℕ) → IsUnread source cores status → answers_none status ≡ true
   unread_none cores (inl u) = ap answers_none u.4 ∙ broken_none (input_of cores u.1) u.3
   unread_none cores (inr (inl u)) = ap answers_none u.0
   unread_none cores (inr (inr u)) = ap answers_none u
 
-  refused_none : IsRefused s coming left source source' status → answers_none status ≡ true
+  refused_none : IsRefused s source status → answers_none status ≡ true
   refused_none (inl (inl u)) = ap answers_none u.1 ∙ fault_none u.0
   refused_none (inl (inr u)) = ap answers_none u
   refused_none (inr u) = unread_none u.0 u.2
@@ -180,16 +181,16 @@ module _ (old s : State) (found : ℕ → ℕ) (A : Attached old s s.frame.bytes
   apart_from other unlike e = both (answers_none other) (sym (ap answers_none e) ∙ is_none) unlike
 
   -- What a run that answered nothing promises, by the input that it read, if any.
-  module _ (r : Report) (is : r.status ≡ status) (fin : r.finishes.items ≡ []) (ref : r.refusals.items ≡ []) (unbegun : r.began ≡ false) (cut : r.complete ≡ false) (text : Option (List ℕ)) (flushed : Bool) (sink cores : ℕ) (input : List ℕ)
-      (count : IsTelling s → cores ≡ found 2) (line : is_of_line r.status ≡ true → IsServed s found × IsReadOut coming left × (r.status ≡ status_of (input_of cores input))) (fault : r.status ≡ statuses.SourceFault → IsServed s found)
-      (judged : IsTelling s → IsDue s.frame.bytes found input r.status ⊎ IsFault old s source source' sink sink r.status) where
+  module _ (r : Report) (is : r.status ≡ status) (fin : r.finishes.items ≡ []) (ref : r.refusals.items ≡ []) (unbegun : r.began ≡ false) (cut : r.complete ≡ false) (sink : SinkUse) (same : sink.now ≡ sink.before) (cores : ℕ) (input : List ℕ)
+      (count : IsTelling s → cores ≡ found 2) (line : is_of_line r.status ≡ true → IsServed s found × IsReadOut source.coming source.left × (r.status ≡ status_of (input_of cores input))) (fault : r.status ≡ statuses.SourceFault → IsServed s found)
+      (judged : IsTelling s → IsDue s.frame.bytes found input r.status ⊎ IsFault old s source sink r.status) where
     no_status : (other : Status) → answers_none other ≡ false → r.status ≡ other → ⊥
     no_status other unlike e = apart_from other unlike (sym is ∙ e)
 
-    order : KeepsOrder old s found coming left cores input r
+    order : KeepsOrder old s found source cores input r
     order = record {
       untouched = λ not. A;
-      source = fault;
+      read = fault;
       line = line;
       began = λ yes. both r.began yes unbegun;
       unbegun = λ quiet. unbegun;
@@ -198,7 +199,7 @@ module _ (old s : State) (found : ℕ → ℕ) (A : Attached old s s.frame.bytes
       whole = λ whole. both (is_whole r.status) whole (ap is_whole is ∙ (no_run status is_none).1);
     }
 
-    serves : Serves old s found coming left source source' cores input text text flushed sink sink r
+    serves : Serves old s found source cores input sink r
     serves = record {
       cores_are = λ n told. count (told_now old s found A r fin ref cut cores input n told);
       order = order;
@@ -206,7 +207,7 @@ module _ (old s : State) (found : ℕ → ℕ) (A : Attached old s s.frame.bytes
       done = λ done. absurd (no_status statuses.Done refl done);
       failed = λ failed complete steady. absurd (no_status statuses.RegionFault refl failed);
       sunk = λ sunk. absurd (no_status statuses.SinkFault refl sunk);
-      begins = none_begins old s found A r fin ref cut cores input text;
+      begins = none_begins old s found A r fin ref cut cores input sink same;
       crash = none_lost old s found A r fin ref cut cores input;
       last = λ whole telling image may k small. both (is_whole r.status) whole (ap is_whole is ∙ (no_run status is_none).1);
       rising = none_rising old s found A r fin ref cut cores input;
@@ -215,7 +216,7 @@ module _ (old s : State) (found : ℕ → ℕ) (A : Attached old s s.frame.bytes
       unrefused = λ telling within. ref;
     }
 
-  unserved_due : IsUnserved s status → (input : List ℕ) → IsTelling s → (sink : ℕ) → IsDue s.frame.bytes found input status ⊎ IsFault old s source source' sink sink status
+  unserved_due : IsUnserved s status → (input : List ℕ) → IsTelling s → (sink : ℕ) → IsDue s.frame.bytes found input status ⊎ IsFault old s source sink status
   unserved_due (inl u) input telling sink = inl (u.1 ∙ sym (ap (due found input) (sym (found_fault old s found A telling) ∙ u.2 telling)))
   unserved_due (inr u) input telling sink = inr (inl u)
 
@@ -227,61 +228,61 @@ module _ (old s : State) (found : ℕ → ℕ) (A : Attached old s s.frame.bytes
   unserved_source (inl u) e = fault_no_source u.0 (sym u.1 ∙ e)
   unserved_source (inr u) e = cc (sym u ∙ e)
 
-  pub refused_source : status ≡ statuses.SourceFault → Rose source source'
+  pub refused_source : status ≡ statuses.SourceFault → Rose source.faults source.faults'
   refused_source e = by U where
-    by : IsRefused s coming left source source' status → Rose source source'
+    by : IsRefused s source status → Rose source.faults source.faults'
     by (inl u) = absurd (unserved_source u e)
     by (inr u) = elim u.2 [
       | inl x ↦ absurd (broken_no_source (input_of u.0 x.1) (sym x.4 ∙ e))
       | inr y ↦ elim y [ inl f ↦ f.1 | inr m ↦ absurd (memory_source (sym m ∙ e)) ]
     ]
 
-  pub refused_serves : (r : Report) → r.status ≡ status → r.finishes.items ≡ [] → r.refusals.items ≡ [] → r.began ≡ false → r.complete ≡ false → (text : Option (List ℕ)) (flushed : Bool) (sink : ℕ)
-      → (input : List ℕ) × (cores : ℕ) × IsInput coming input × Serves old s found coming left source source' cores input text text flushed sink sink r
-  refused_serves r is fin ref unbegun cut text flushed sink = by U where
-    in_status : (input : List ℕ) → IsDue s.frame.bytes found input status ⊎ IsFault old s source source' sink sink status → IsDue s.frame.bytes found input r.status ⊎ IsFault old s source source' sink sink r.status
-    in_status input h = subst (λ st. IsDue s.frame.bytes found input st ⊎ IsFault old s source source' sink sink st) (sym is) h
+  pub refused_serves : (r : Report) → r.status ≡ status → r.finishes.items ≡ [] → r.refusals.items ≡ [] → r.began ≡ false → r.complete ≡ false → (sink : SinkUse) → sink.now ≡ sink.before
+      → (input : List ℕ) × (cores : ℕ) × IsInput source.coming input × Serves old s found source cores input sink r
+  refused_serves r is fin ref unbegun cut sink same = by U where
+    in_status : (input : List ℕ) → IsDue s.frame.bytes found input status ⊎ IsFault old s source sink status → IsDue s.frame.bytes found input r.status ⊎ IsFault old s source sink r.status
+    in_status input h = subst (λ st. IsDue s.frame.bytes found input st ⊎ IsFault old s source sink st) (sym is) h
 
     due_line : (cores : ℕ) (input : List ℕ) → IsSound s.frame.bytes found × (cores ≡ found 2) → status ≡ status_of (input_of cores input) → IsDue s.frame.bytes found input status
     due_line cores input h e = e ∙ ap (λ c. status_of (input_of c input)) h.1 ∙ sym (ap (due found input) h.0)
 
-    by : IsRefused s coming left source source' status → (input : List ℕ) × (cores : ℕ) × IsInput coming input × Serves old s found coming left source source' cores input text text flushed sink sink r
+    by : IsRefused s source status → (input : List ℕ) × (cores : ℕ) × IsInput source.coming input × Serves old s found source cores input sink r
     by (inl u) =
-        let input = some_input coming in (
+        let input = some_input source.coming in (
           input.0,
           found 2,
           input.1,
-          serves r is fin ref unbegun cut text flushed sink (found 2) input.0 (λ telling. refl) (λ line. both (is_of_line r.status) line (ap is_of_line is ∙ unserved_line u)) (λ e. absurd (unserved_source u (sym is ∙ e)))
+          serves r is fin ref unbegun cut sink same (found 2) input.0 (λ telling. refl) (λ line. both (is_of_line r.status) line (ap is_of_line is ∙ unserved_line u)) (λ e. absurd (unserved_source u (sym is ∙ e)))
               (λ telling. in_status input.0 (unserved_due u input.0 telling sink)),
         )
     by (inr (cores, counted, inl x)) = (
       x.1,
       cores,
       x.2,
-      serves r is fin ref unbegun cut text flushed sink cores x.1 (λ telling. (served_by old s found A cores counted telling).1) (λ line. ((λ telling. (served_by old s found A cores counted telling).0), x.0, is ∙ x.4)) (λ e. absurd (broken_no_source (input_of cores x.1) (sym x.4 ∙ sym is ∙ e)))
+      serves r is fin ref unbegun cut sink same cores x.1 (λ telling. (served_by old s found A cores counted telling).1) (λ line. ((λ telling. (served_by old s found A cores counted telling).0), x.0, is ∙ x.4)) (λ e. absurd (broken_no_source (input_of cores x.1) (sym x.4 ∙ sym is ∙ e)))
           (λ telling. in_status x.1 (inl (due_line cores x.1 (served_by old s found A cores counted telling) x.4))),
     )
     by (inr (cores, counted, inr (inl f))) =
-        let input = some_input coming in (
+        let input = some_input source.coming in (
           input.0,
           cores,
           input.1,
-          serves r is fin ref unbegun cut text flushed sink cores input.0 (λ telling. (served_by old s found A cores counted telling).1) (λ line. both (is_of_line r.status) line (ap is_of_line (is ∙ f.0))) (λ e telling. (served_by old s found A cores counted telling).0) (λ telling. in_status input.0 (inr (inr (inl f)))),
+          serves r is fin ref unbegun cut sink same cores input.0 (λ telling. (served_by old s found A cores counted telling).1) (λ line. both (is_of_line r.status) line (ap is_of_line (is ∙ f.0))) (λ e telling. (served_by old s found A cores counted telling).0) (λ telling. in_status input.0 (inr (inr (inl f)))),
         )
     by (inr (cores, counted, inr (inr m))) =
-        let input = some_input coming in (
+        let input = some_input source.coming in (
           input.0,
           cores,
           input.1,
-          serves r is fin ref unbegun cut text flushed sink cores input.0 (λ telling. (served_by old s found A cores counted telling).1) (λ line. both (is_of_line r.status) line (ap is_of_line (is ∙ m))) (λ e. absurd (memory_source (sym m ∙ sym is ∙ e))) (λ telling. in_status input.0 (inr (inl m))),
+          serves r is fin ref unbegun cut sink same cores input.0 (λ telling. (served_by old s found A cores counted telling).1) (λ line. both (is_of_line r.status) line (ap is_of_line (is ∙ m))) (λ e. absurd (memory_source (sym m ∙ sym is ∙ e))) (λ telling. in_status input.0 (inr (inl m))),
         )
 
   -- A run that was refused so didn't end with a fault of the region.
   pub refused_fault : (r : Report) → r.status ≡ status → r.status ≡ statuses.RegionFault → ⊥
   refused_fault r is failed = apart_from statuses.RegionFault refl (sym is ∙ failed)
 
-  pub refused_replays : (r : Report) → r.status ≡ status → r.finishes.items ≡ [] → r.refusals.items ≡ [] → r.began ≡ false → r.complete ≡ false → (text : Option (List ℕ)) (flushed : Bool) (sink : ℕ)
-      → (input : List ℕ) × (cores : ℕ) × IsInput coming input × Replays old s found coming left source source' cores input text text flushed sink sink r
-  refused_replays r is fin ref unbegun cut text flushed sink =
-      let x = refused_serves r is fin ref unbegun cut text flushed sink in
+  pub refused_replays : (r : Report) → r.status ≡ status → r.finishes.items ≡ [] → r.refusals.items ≡ [] → r.began ≡ false → r.complete ≡ false → (sink : SinkUse) → sink.now ≡ sink.before
+      → (input : List ℕ) × (cores : ℕ) × IsInput source.coming input × Replays old s found source cores input sink r
+  refused_replays r is fin ref unbegun cut sink same =
+      let x = refused_serves r is fin ref unbegun cut sink same in
       (x.0, x.1, x.2, record { serves = x.3; ends = λ failed. absurd (refused_fault r is failed); run = λ complete. both r.complete complete cut })

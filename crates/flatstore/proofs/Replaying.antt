@@ -14,8 +14,9 @@ use Rattle.group_engine.specs.Replayed.{report_in}
 use Rattle.group_engine.specs.Reports.{ReportsOn, told, told_by}
 use Rattle.engine_laws.proofs.Clients.{ran_given}
 use Rattle.flatstore.specs.Attaching.{Runs}
+use Rattle.flatstore.specs.Ends.{SourceUse, SinkUse}
 use Rattle.flatstore.specs.LastStates.{told_in, RanTo}
-use Rattle.flatstore.specs.Promise.{IsInput, Replays, IsAllOut}
+use Rattle.flatstore.specs.Promise.{IsInput, Replays}
 use Rattle.flatstore.specs.Played.{Played, HasWritten, is_ended}
 use Rattle.flatstore.specs.declared.report.Report.{Report}
 use Rattle.flatstore.proofs.Causing.{HasCauses}
@@ -28,8 +29,8 @@ none_behind xs [] e = refl
 none_behind xs (y ∷ ys) e = absurd (let n = ap length e in let sum = length-append xs (y ∷ ys) in omega (arith, n, sum))
 
 -- The promise, with the input and the number of cores.
-module _ (old s t : State) (found word : ℕ → ℕ) (A : Attached old s s.frame.bytes found) (once : IsOpenedOnceMore old s) (granted : s.frame.refusals ≡ old.frame.refusals) (low : old.faults ≤ s.faults) (coming left : Option (List ℕ)) (x : Outcome)
-    (P : Played s word t coming left x) where
+module _ (old s t : State) (found word : ℕ → ℕ) (A : Attached old s s.frame.bytes found) (once : IsOpenedOnceMore old s) (granted : s.frame.refusals ≡ old.frame.refusals) (low : old.faults ≤ s.faults) (source : SourceUse) (x : Outcome)
+    (P : Played s word t source x) where
   abbrev o : Origin
   o = P.ran.origin
 
@@ -72,7 +73,7 @@ module _ (old s t : State) (found word : ℕ → ℕ) (A : Attached old s s.fram
   low_stamp : (n : ℕ) → o.region.stamp ≤ n
   low_stamp n = let same = ap (λ (z : State). z.stamp) began in let stamp = A.stamp in omega (arith, same, stamp)
 
-  pub known : Known old found coming left cores input o f x
+  pub known : Known old found cores input o f x
   known = record {
     attached = subst (λ (z : State). Attached old z z.frame.bytes found) (sym began) A;
     origin = P.ran.begins.is;
@@ -96,23 +97,23 @@ module _ (old s t : State) (found word : ℕ → ℕ) (A : Attached old s s.fram
   }
 
   -- The report is on the last state of the run.
-  module _ (before now : Option (List ℕ)) (flushed : Bool) (faults faults' : ℕ) (r : Report) (W : HasWritten x before now flushed faults faults' r.status)
+  module _ (sink : SinkUse) (r : Report) (W : HasWritten x sink r.status)
       (finishes : r.finishes.items ≡ x.finishes.items) (refusals : r.refusals.items ≡ x.refusals.items) (begun : r.began ≡ true) (complete_is : r.complete ≡ is_ended x.end) where
     report_told : told_in r ≡ told_by (report_in x)
     report_told i = told (finishes i) (refusals i)
 
-    replays : (source source' : ℕ) → Replays old f.region found coming left source source' cores input before now flushed faults faults' r
-    replays source source' = record {
-      serves = serves old found coming left cores input o f x known P.ready.read.whole before now flushed faults faults' r.status W r refl report_told begun complete_is source source';
-      ends = ends_then old found coming left cores input o f x known P.ready.read.whole before now flushed faults faults' r.status W r refl report_told begun complete_is;
-      run = λ whole. subst (λ z. RanTo old z found cores input before now (IsAllOut r.status faults faults') r) (sym P.ran.region)
-          (running.ran_to old s t found word A once granted P.recovered P.ready.stands cores input P.lines P.ready.read.good x P.ran count before now flushed faults faults' r W finishes refusals complete_is whole);
+    replays : Replays old f.region found source cores input sink r
+    replays = record {
+      serves = serves old found source cores input o f x known P.ready.read.whole sink r.status W r refl report_told begun complete_is;
+      ends = ends_then old found source cores input o f x known P.ready.read.whole sink r.status W r refl report_told begun complete_is;
+      run = λ whole. subst (λ z. RanTo old z found cores input sink r) (sym P.ran.region)
+          (running.ran_to old s t found word A once granted P.recovered P.ready.stands cores input P.lines P.ready.read.good x P.ran count sink r W finishes refusals complete_is whole);
     }
 
-    pub promise : (source source' : ℕ) → (input : List ℕ) × (cores : ℕ) × IsInput coming input × Replays old t found coming left source source' cores input before now flushed faults faults' r
-    promise source source' = (
+    pub promise : (input : List ℕ) × (cores : ℕ) × IsInput source.coming input × Replays old t found source cores input sink r
+    promise = (
       input,
       cores,
       P.ready.read.is_input,
-      subst (λ z. Replays old z found coming left source source' cores input before now flushed faults faults' r) P.ran.region (replays source source'),
+      subst (λ z. Replays old z found source cores input sink r) P.ran.region replays,
     )

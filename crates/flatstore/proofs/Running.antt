@@ -21,8 +21,8 @@ use Rattle.group_engine.specs.Replayed.{StandsAsFound, Replayed}
 use Rattle.group_engine.specs.Reports.{told}
 use Rattle.group_engine.specs.Runs.{RunState, CoreMoves, first_state, with_request}
 use Rattle.flatstore.specs.Attaching.{GoesOnFrom, Runs}
+use Rattle.flatstore.specs.Ends.{SinkUse}
 use Rattle.flatstore.specs.LastStates.{Opens, ReportsAnswers, RanTo}
-use Rattle.flatstore.specs.Promise.{IsAllOut}
 use Rattle.flatstore.specs.Played.{HasWritten, is_ended}
 use Rattle.flatstore.specs.declared.report.Report.{Report}
 use Rattle.flatstore.proofs.Attached.{found_words}
@@ -68,27 +68,24 @@ module _ (old s t : State) (found word : ℕ → ℕ) (A : Attached old s s.fram
     engine_ran = ran_seen (λ (e : RunState Worker). e.engine) CoreMoves AnyTurn (λ e c b f m. m.turn) with_request given_to (λ e q. refl) cores lines (first_state o P.workers) last
         (subst (λ n. Ran CoreMoves with_request n lines (first_state o P.workers) last) count (P.ran not_cut))
 
-  module _ (before now : Option (List ℕ)) (flushed : Bool) (faults faults' : ℕ) (r : Report) (W : HasWritten x before now flushed faults faults' r.status)
+  module _ (sink : SinkUse) (r : Report) (W : HasWritten x sink r.status)
       (finishes : r.finishes.items ≡ x.finishes.items) (refusals : r.refusals.items ≡ x.refusals.items) (report_complete : r.complete ≡ is_ended x.end) (complete : r.complete ≡ true) where
     not_cut : x.end ≢ ends.Memory
     not_cut m = both (is_ended x.end) (sym report_complete ∙ complete) (ap is_ended m)
 
-    abbrev AllOut : Type 0
-    AllOut = IsAllOut r.status faults faults'
-
-    reports : ReportsAnswers t before now AllOut last r
+    reports : ReportsAnswers t sink last r
     reports = record {
       finishes = finishes ∙ P.kept.finishes;
       refusals = refusals ∙ P.kept.refusals;
-      begins = subst (λ rs. TakesPrefix before now (replies_text rs)) P.kept.replies (front_written x before now flushed faults faults' r.status W (sym report_complete ∙ complete));
-      writes = λ out. subst (λ rs. Takes before now (replies_text rs)) P.kept.replies (all_written x before now flushed faults faults' r.status W out);
+      begins = subst (λ rs. TakesPrefix sink.before sink.now (replies_text rs)) P.kept.replies (front_written x sink r.status W (sym report_complete ∙ complete));
+      writes = λ out. subst (λ rs. Takes sink.before sink.now (replies_text rs)) P.kept.replies (all_written x sink r.status W out);
       count = P.count;
       shown = P.shown;
       told_is = (λ i. told (finishes i) (refusals i)) ∙ P.reports.told_is;
       replies = λ telling. sym P.kept.replies ∙ P.reports.known telling;
     }
 
-    pub ran_to : RanTo old t found cores input before now AllOut r
+    pub ran_to : RanTo old t found cores input sink r
     ran_to = record {
       from = from;
       first = first not_cut;

@@ -35,6 +35,7 @@ use Rattle.group_engine.specs.Replayed.{report_in}
 use Rattle.group_engine.specs.Reports.{ReportsOn, told, told_by}
 use Rattle.group_engine.specs.Answers.{reply_to}
 use Rattle.group_engine.specs.declared.run_report.Refusal.{Refusal}
+use Rattle.flatstore.specs.Ends.{SourceUse, SinkUse}
 use Rattle.flatstore.specs.LastStates.{told_in, AreRising}
 use Rattle.flatstore.specs.Ordering.{KeepsOrder, IsServed, due, IsDue, IsFault, status_of, is_broken, is_quiet, is_of_line, is_whole}
 use Rattle.flatstore.specs.Promise.{WritesAll, WritesFront, Serves, asked_in}
@@ -50,7 +51,7 @@ use Rattle.flatstore.proofs.Causing.{HasCauses, full_of, spent_of, unrefused_of}
 use Rattle.flatstore.proofs.Texts.{both, takes_front, all_text, front_text, no_text, small_sound}
 
 -- What is known of a run on a region that was attached, by the requests of an input, whoever made the moves of its cores.
-pub record Known (old : State) (found : ℕ → ℕ) (coming left : Option (List ℕ)) (cores : ℕ) (input : List ℕ) (o : Origin) (f : Engine) (x : Outcome) : Type 0 where
+pub record Known (old : State) (found : ℕ → ℕ) (cores : ℕ) (input : List ℕ) (o : Origin) (f : Engine) (x : Outcome) : Type 0 where
   pub attached : Attached old o.region o.region.frame.bytes found
   pub low : old.faults ≤ o.region.faults
   pub origin : IsOrigin o
@@ -72,7 +73,7 @@ pub record Known (old : State) (found : ℕ → ℕ) (coming left : Option (List
   pub whole : x.end ≡ ends.Complete → (c : ℕ) → c < f.layout.cores → f.stopped c ≡ false
   pub causes : HasCauses o.found (f.given ++ more) f.answer
 
-module _ (old : State) (found : ℕ → ℕ) (coming left : Option (List ℕ)) (cores : ℕ) (input : List ℕ) (o : Origin) (f : Engine) (x : Outcome) (K : Known old found coming left cores input o f x) where
+module _ (old : State) (found : ℕ → ℕ) (source : SourceUse) (cores : ℕ) (input : List ℕ) (o : Origin) (f : Engine) (x : Outcome) (K : Known old found cores input o f x) where
   abbrev s : State
   s = o.region
 
@@ -117,7 +118,7 @@ module _ (old : State) (found : ℕ → ℕ) (coming left : Option (List ℕ)) (
   trace_is = read_trace cores input K.lines K.good ∙ K.given
 
   -- of a report on it, and what was written
-  module _ (read_out : IsReadOut coming left) (before now : Option (List ℕ)) (flushed : Bool) (faults faults' : ℕ) (status : Status) (W : HasWritten x before now flushed faults faults' status)
+  module _ (read_out : IsReadOut source.coming source.left) (sink : SinkUse) (status : Status) (W : HasWritten x sink status)
       (r : Report) (report_status : r.status ≡ status) (report_told : told_in r ≡ told_by (report_in x)) (report_began : r.began ≡ true) (report_complete : r.complete ≡ is_ended x.end) where
     pub told_is : told_in r ≡ told_of f
     told_is = report_told ∙ K.reports.told_is
@@ -158,27 +159,27 @@ module _ (old : State) (found : ℕ → ℕ) (coming left : Option (List ℕ)) (
       said_whole MayStop to = said_of MayStop (AllAnswered f → HasStopped f) x.replies.items
           (subst (λ q. Answers (IsTelling t) (start_of o) q (told_of f) (AllAnswered f → HasStopped f) x.replies.items) (sym given_all) K.reports.answers) (λ h. to (h (K.done not_cut).answered))
 
-      text_of : (MayStop : Type 0) → (HasStopped f → MayStop) → Takes before now (replies_text x.replies.items) → WritesAll (IsTelling t) (cells_of found) trace (told_in r) MayStop before now
-      text_of MayStop to = all_text (IsTelling t) (cells_of found) trace (told_in r) MayStop x.replies.items (said_whole MayStop to) before now
+      text_of : (MayStop : Type 0) → (HasStopped f → MayStop) → Takes sink.before sink.now (replies_text x.replies.items) → WritesAll (IsTelling t) (cells_of found) trace (told_in r) MayStop sink
+      text_of MayStop to = all_text (IsTelling t) (cells_of found) trace (told_in r) MayStop x.replies.items (said_whole MayStop to) sink
 
-      front_of : (MayStop : Type 0) → (HasStopped f → MayStop) → TakesPrefix before now (replies_text x.replies.items) → WritesFront (IsTelling t) (cells_of found) trace (told_in r) MayStop before now
-      front_of MayStop to = front_text (IsTelling t) (cells_of found) trace (told_in r) MayStop x.replies.items (said_whole MayStop to) before now
+      front_of : (MayStop : Type 0) → (HasStopped f → MayStop) → TakesPrefix sink.before sink.now (replies_text x.replies.items) → WritesFront (IsTelling t) (cells_of found) trace (told_in r) MayStop sink
+      front_of MayStop to = front_text (IsTelling t) (cells_of found) trace (told_in r) MayStop x.replies.items (said_whole MayStop to) sink
 
     abbrev Front : Type 0
-    Front = WritesFront (IsTelling t) (cells_of found) trace (told_in r) FrontMayStop before now
+    Front = WritesFront (IsTelling t) (cells_of found) trace (told_in r) FrontMayStop sink
 
     abbrev Prefix : Type 0
-    Prefix = TakesPrefix before now (replies_text x.replies.items)
+    Prefix = TakesPrefix sink.before sink.now (replies_text x.replies.items)
 
     -- of a run that didn't, each request without an answer counts as one that is stopped
-    cut_front : is_ended x.end ≡ false → now ≡ before → Front
+    cut_front : is_ended x.end ≡ false → sink.now ≡ sink.before → Front
     cut_front cut same = no_text (IsTelling t) (cells_of found) trace (told_in r) FrontMayStop (replies_from f.answer 0 (length (f.given ++ K.more)))
-        (said_of FrontMayStop (AllAnswered f → K.more ≡ [] → HasStopped f) (replies_from f.answer 0 (length (f.given ++ K.more))) (K.promised.replies K.more) (λ any complete. both r.complete complete (report_complete ∙ cut))) before now same
+        (said_of FrontMayStop (AllAnswered f → K.more ≡ [] → HasStopped f) (replies_from f.answer 0 (length (f.given ++ K.more))) (K.promised.replies K.more) (λ any complete. both r.complete complete (report_complete ∙ cut))) sink same
 
-    begun : HasWritten x before now flushed faults faults' status → Front
-    begun (inl w) = front_of (completed w.1) FrontMayStop (λ h complete. risen h) (takes_front before now (replies_text x.replies.items) w.2)
+    begun : HasWritten x sink status → Front
+    begun (inl w) = front_of (completed w.1) FrontMayStop (λ h complete. risen h) (takes_front sink.before sink.now (replies_text x.replies.items) w.2)
     begun (inr (inl w)) = elim w.2 [
-      | inl all ↦ front_of (faulted w.1) FrontMayStop (λ h complete. risen h) (takes_front before now (replies_text x.replies.items) all.0)
+      | inl all ↦ front_of (faulted w.1) FrontMayStop (λ h complete. risen h) (takes_front sink.before sink.now (replies_text x.replies.items) all.0)
       | inr some ↦ front_of (faulted w.1) FrontMayStop (λ h complete. risen h) some.1
     ]
     begun (inr (inr (inl w))) = front_of (completed w.1) FrontMayStop (λ h complete. risen h) w.3
@@ -190,23 +191,23 @@ module _ (old : State) (found : ℕ → ℕ) (coming left : Option (List ℕ)) (
     -- the statuses that it cannot have
     no_status : (Q : Status → Bool) → Q statuses.Done ≡ false → Q statuses.RegionFault ≡ false → Q statuses.SinkFault ≡ false → Q statuses.Memory ≡ false → Q r.status ≡ true → ⊥
     no_status Q done failed sunk memory is = by W where
-      by : HasWritten x before now flushed faults faults' status → ⊥
+      by : HasWritten x sink status → ⊥
       by (inl w) = both (Q r.status) is (ap Q (report_status ∙ w.0) ∙ done)
       by (inr (inl w)) = both (Q r.status) is (ap Q (report_status ∙ w.0) ∙ failed)
       by (inr (inr (inl w))) = both (Q r.status) is (ap Q (report_status ∙ w.0) ∙ sunk)
       by (inr (inr (inr w))) = both (Q r.status) is (ap Q (report_status ∙ w.0) ∙ memory)
 
-    written : r.status ≡ statuses.Done → WritesAll (IsTelling t) (cells_of found) trace (told_in r) ⊥ before now × (flushed ≡ true)
+    written : r.status ≡ statuses.Done → WritesAll (IsTelling t) (cells_of found) trace (told_in r) ⊥ sink × (sink.flushed ≡ true)
     written done = by W where
-      by : HasWritten x before now flushed faults faults' status → WritesAll (IsTelling t) (cells_of found) trace (told_in r) ⊥ before now × (flushed ≡ true)
+      by : HasWritten x sink status → WritesAll (IsTelling t) (cells_of found) trace (told_in r) ⊥ sink × (sink.flushed ≡ true)
       by (inl w) = (text_of (completed w.1) ⊥ (never w.1) w.2, w.3)
       by (inr (inl w)) = cc (sym done ∙ report_status ∙ w.0)
       by (inr (inr (inl w))) = cc (sym done ∙ report_status ∙ w.0)
       by (inr (inr (inr w))) = cc (sym done ∙ report_status ∙ w.0)
 
-    written_failed : r.status ≡ statuses.RegionFault → (Rose faults faults' → ⊥) → WritesAll (IsTelling t) (cells_of found) trace (told_in r) (Rose old.faults t.faults) before now × (flushed ≡ true)
+    written_failed : r.status ≡ statuses.RegionFault → (Rose sink.faults sink.faults' → ⊥) → WritesAll (IsTelling t) (cells_of found) trace (told_in r) (Rose old.faults t.faults) sink × (sink.flushed ≡ true)
     written_failed failed steady = by W where
-      by : HasWritten x before now flushed faults faults' status → WritesAll (IsTelling t) (cells_of found) trace (told_in r) (Rose old.faults t.faults) before now × (flushed ≡ true)
+      by : HasWritten x sink status → WritesAll (IsTelling t) (cells_of found) trace (told_in r) (Rose old.faults t.faults) sink × (sink.flushed ≡ true)
       by (inl w) = cc (sym failed ∙ report_status ∙ w.0)
       by (inr (inl w)) = elim w.2 [
         | inl all ↦ (text_of (faulted w.1) (Rose old.faults t.faults) risen all.0, all.1)
@@ -215,9 +216,9 @@ module _ (old : State) (found : ℕ → ℕ) (coming left : Option (List ℕ)) (
       by (inr (inr (inl w))) = cc (sym failed ∙ report_status ∙ w.0)
       by (inr (inr (inr w))) = cc (sym failed ∙ report_status ∙ w.0)
 
-    written_sunk : r.status ≡ statuses.SinkFault → WritesFront (IsTelling t) (cells_of found) trace (told_in r) ⊥ before now
+    written_sunk : r.status ≡ statuses.SinkFault → WritesFront (IsTelling t) (cells_of found) trace (told_in r) ⊥ sink
     written_sunk sunk = by W where
-      by : HasWritten x before now flushed faults faults' status → WritesFront (IsTelling t) (cells_of found) trace (told_in r) ⊥ before now
+      by : HasWritten x sink status → WritesFront (IsTelling t) (cells_of found) trace (told_in r) ⊥ sink
       by (inl w) = cc (sym sunk ∙ report_status ∙ w.0)
       by (inr (inl w)) = cc (sym sunk ∙ report_status ∙ w.0)
       by (inr (inr (inl w))) = front_of (completed w.1) ⊥ (never w.1) w.3
@@ -225,7 +226,7 @@ module _ (old : State) (found : ℕ → ℕ) (coming left : Option (List ℕ)) (
 
     whole_ends : is_whole r.status ≡ true → x.end ≡ ends.Complete
     whole_ends whole = by W where
-      by : HasWritten x before now flushed faults faults' status → x.end ≡ ends.Complete
+      by : HasWritten x sink status → x.end ≡ ends.Complete
       by (inl w) = w.1
       by (inr (inl w)) = both (is_whole r.status) whole (ap is_whole (report_status ∙ w.0))
       by (inr (inr (inl w))) = w.1
@@ -251,10 +252,10 @@ module _ (old : State) (found : ℕ → ℕ) (coming left : Option (List ℕ)) (
         let told : told_of f ≡ told_in r = sym told_is in
         K.promised.last (K.done (completed e)).answered (K.whole e) telling image here k ∙ (λ i. cell_after_all (changes_in (start i) (qs i) (told i) k) (start i k))
 
-    order : KeepsOrder old t found coming left cores input r
+    order : KeepsOrder old t found source cores input r
     order = record {
       untouched = λ no. both r.began report_began no;
-      source = λ is. absurd (no_status is_quiet refl refl refl refl (ap is_quiet is));
+      read = λ is. absurd (no_status is_quiet refl refl refl refl (ap is_quiet is));
       line = λ is. absurd (no_status is_of_line refl refl refl refl is);
       began = λ yes. (served, read_out, ap is_broken K.good);
       unbegun = λ quiet. absurd (no_status is_quiet refl refl refl refl quiet);
@@ -264,9 +265,9 @@ module _ (old : State) (found : ℕ → ℕ) (coming left : Option (List ℕ)) (
     }
 
     -- the status that is due
-    due_of : (source source' : ℕ) → IsTelling t → IsDue t.frame.bytes found input r.status ⊎ IsFault old t source source' faults faults' r.status
-    due_of source source' telling = by W where
-      by : HasWritten x before now flushed faults faults' status → IsDue t.frame.bytes found input r.status ⊎ IsFault old t source source' faults faults' r.status
+    due_of : IsTelling t → IsDue t.frame.bytes found input r.status ⊎ IsFault old t source sink r.status
+    due_of telling = by W where
+      by : HasWritten x sink status → IsDue t.frame.bytes found input r.status ⊎ IsFault old t source sink r.status
       by (inl w) =
           let sound : first_fault t.frame.bytes found ≡ None = served telling in
           inl (report_status ∙ w.0 ∙ sym (ap (due found input) sound ∙ ap (λ c. status_of (input_of c input)) (sym (cores_found (telling_then telling))) ∙ ap status_of K.good))
@@ -316,11 +317,11 @@ module _ (old : State) (found : ℕ → ℕ) (coming left : Option (List ℕ)) (
       pub unrefused_then : IsWithinLimits found trace → r.refusals.items ≡ []
       unrefused_then = unrefused_of found trace f.answer causes_found (length f.given) within r.refusals.items told_refused some_cores
 
-    pub serves : (source source' : ℕ) → Serves old t found coming left source source' cores input before now flushed faults faults' r
-    serves source source' = record {
+    pub serves : Serves old t found source cores input sink r
+    serves = record {
       cores_are = λ n told. cores_found (K.was n told);
       order = order;
-      due = due_of source source';
+      due = due_of;
       done = written;
       failed = λ failed complete. written_failed failed;
       sunk = written_sunk;
@@ -336,7 +337,7 @@ module _ (old : State) (found : ℕ → ℕ) (coming left : Option (List ℕ)) (
     -- A call of the region that failed doesn't keep it from its end.
     pub ends_then : r.status ≡ statuses.RegionFault → r.complete ≡ true
     ends_then failed = by W where
-      by : HasWritten x before now flushed faults faults' status → r.complete ≡ true
+      by : HasWritten x sink status → r.complete ≡ true
       by (inl w) = cc (sym failed ∙ report_status ∙ w.0)
       by (inr (inl w)) = report_complete ∙ ap is_ended w.1
       by (inr (inr (inl w))) = cc (sym failed ∙ report_status ∙ w.0)

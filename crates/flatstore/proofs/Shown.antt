@@ -9,6 +9,7 @@ use Rattle.fs_text.specs.Streams.{Takes, TakesPrefix}
 use Rattle.flatstore.specs.declared.report.Status.{Status}
 use Rattle.flatstore.specs.declared.report.Status.TheVariants as statuses
 use Rattle.flatstore.specs.declared.report.Report.{Report}
+use Rattle.flatstore.specs.Ends.{SinkUse}
 use Rattle.flatstore.specs.Attaching.{Attaches}
 use Rattle.flatstore.specs.Shows.{Shows, HasShown, WritesText, IsDueOf, IsUnlisted, status_by, is_of_writing}
 use Rattle.flatstore.proofs.Attached.{found_fault}
@@ -36,14 +37,14 @@ module _ (s : State) (image : ℕ → ℕ) (status : Status) where
   not_written (inr (faults.NotARegion rule, is, told)) w = both (is_of_writing status) w (ap is_of_writing is)
   not_written (inr (faults.Damaged part chunk rule, is, told)) w = both (is_of_writing status) w (ap is_of_writing is)
 
-module _ (IsText : List ℕ → Type 0) (old s : State) (found : ℕ → ℕ) (A : Attached old s s.frame.bytes found) (before : Option (List ℕ)) where
+module _ (IsText : List ℕ → Type 0) (old s : State) (found : ℕ → ℕ) (A : Attached old s s.frame.bytes found) (sink : SinkUse) where
   sound_found : IsTelling s → IsSound s.frame.bytes (lasts s) → IsSound s.frame.bytes found
   sound_found telling sound = sym (found_fault old s found A telling) ∙ sound
 
   -- a rule is broken, or there was no memory for what is to be written
-  pub shows_none : (flushed : Bool) (count : ℕ) (status : Status) → IsUnlisted s (lasts s) status → (r : Report) → r.status ≡ status → r.complete ≡ false → Attaches old s found r
-      → Shows IsText old s found before before flushed count count r
-  shows_none flushed count status why r is incomplete attaches = record {
+  pub shows_none : (status : Status) → IsUnlisted s (lasts s) status → (r : Report) → r.status ≡ status → r.complete ≡ false → Attaches old s found r
+      → Shows IsText old s found sink r
+  shows_none status why r is incomplete attaches = record {
     attaches = attaches;
     due = λ attached telling. by_cause why telling;
     no_fault = λ attached failed. absurd (not_failed s (lasts s) status why (sym is ∙ failed));
@@ -53,15 +54,15 @@ module _ (IsText : List ℕ → Type 0) (old s : State) (found : ℕ → ℕ) (A
     written = λ written. absurd (not_written s (lasts s) status why (ap is_of_writing (sym is) ∙ written));
     untouched = λ attached. A;
   } where
-    by_cause : IsUnlisted s (lasts s) status → IsTelling s → IsDueOf s.frame.bytes found count count r.status
+    by_cause : IsUnlisted s (lasts s) status → IsTelling s → IsDueOf s.frame.bytes found sink r.status
     by_cause (inl memory) telling = inr (inl (is ∙ memory))
     by_cause (inr broken) telling = inl (is ∙ broken.1 ∙ ap status_by (sym (broken.2 telling) ∙ found_fault old s found A telling))
 
   -- the text was written, or the beginning of it
   pub shows_text : (text : List ℕ) → IsText text → (IsTelling s → IsSound s.frame.bytes (lasts s))
-      → (now : Option (List ℕ)) (flushed : Bool) (count count' : ℕ) (r : Report) → HasShown text before now flushed count count' r.status → r.complete ≡ true → Attaches old s found r
-      → Shows IsText old s found before now flushed count count' r
-  shows_text text kind sound now flushed count count' r W complete attaches = record {
+      → (r : Report) → HasShown text sink r.status → r.complete ≡ true → Attaches old s found r
+      → Shows IsText old s found sink r
+  shows_text text kind sound r W complete attaches = record {
     attaches = attaches;
     due = λ attached telling. due_of W telling;
     no_fault = λ attached failed. absurd (none_failed W failed);
@@ -71,12 +72,12 @@ module _ (IsText : List ℕ → Type 0) (old s : State) (found : ℕ → ℕ) (A
     written = λ written. complete;
     untouched = λ attached. A;
   } where
-    due_of : HasShown text before now flushed count count' r.status → IsTelling s → IsDueOf s.frame.bytes found count count' r.status
+    due_of : HasShown text sink r.status → IsTelling s → IsDueOf s.frame.bytes found sink r.status
     due_of (inl w) telling = inl (w.0 ∙ ap status_by (sym (sound_found telling (sound telling))))
     due_of (inr (inl w)) telling = inr (inr (w.0, w.1, sound_found telling (sound telling)))
     due_of (inr (inr w)) telling = inr (inl w.0)
 
-    none_failed : HasShown text before now flushed count count' r.status → r.status ≡ statuses.RegionFault → ⊥
+    none_failed : HasShown text sink r.status → r.status ≡ statuses.RegionFault → ⊥
     none_failed (inl w) failed = cc (sym w.0 ∙ failed)
     none_failed (inr (inl w)) failed = cc (sym w.0 ∙ failed)
     none_failed (inr (inr w)) failed = cc (sym w.0 ∙ failed)
@@ -87,12 +88,12 @@ module _ (IsText : List ℕ → Type 0) (old s : State) (found : ℕ → ℕ) (A
     memory_done : statuses.Memory ≡ statuses.Done → ⊥
     memory_done e = cc e
 
-    whole : HasShown text before now flushed count count' r.status → r.status ≡ statuses.Done → WritesText IsText before now × (flushed ≡ true)
+    whole : HasShown text sink r.status → r.status ≡ statuses.Done → WritesText IsText sink × (sink.flushed ≡ true)
     whole (inl w) done = ((text, kind, w.1), w.2)
     whole (inr (inl w)) done = absurd (sink_done (sym w.0 ∙ done))
     whole (inr (inr w)) done = absurd (memory_done (sym w.0 ∙ done))
 
-    begun : HasShown text before now flushed count count' r.status → TakesPrefix before now text
-    begun (inl w) = begun_whole before now text w.1
+    begun : HasShown text sink r.status → TakesPrefix sink.before sink.now text
+    begun (inl w) = begun_whole sink.before sink.now text w.1
     begun (inr (inl w)) = w.2
     begun (inr (inr w)) = w.1

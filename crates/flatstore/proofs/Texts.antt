@@ -8,6 +8,7 @@ use Rattle.headline.specs.Headline.{Answers, Told}
 use Rattle.chunk_map.specs.Layouts.{layout_of}
 use Rattle.store_image.specs.Soundness.{IsSound}
 use Rattle.store_image.proofs.Clients.{superblock_facts, layout_numbers, has_layout}
+use Rattle.flatstore.specs.Ends.{SinkUse}
 use Rattle.flatstore.specs.Promise.{WritesAll, WritesFront}
 
 pub both : (b : Bool) {P : Type 0} → b ≡ true → b ≡ false → P
@@ -20,15 +21,15 @@ takes_nothing (Some b) = sym (append-nil b)
 pub takes_front : (before now : Option (List ℕ)) (text : List ℕ) → Takes before now text → TakesPrefix before now text
 takes_front before now text takes = ([], (text, sym (append-nil text), takes))
 
-module _ (Known : Type 0) (start : ℕ → Option (List ℕ)) (trace : List Request) (r : Told) (MayStop : Type 0) (replies : List Reply) (said : Answers Known start trace r MayStop replies) (before now : Option (List ℕ)) where
-  pub all_text : Takes before now (replies_text replies) → WritesAll Known start trace r MayStop before now
+module _ (Known : Type 0) (start : ℕ → Option (List ℕ)) (trace : List Request) (r : Told) (MayStop : Type 0) (replies : List Reply) (said : Answers Known start trace r MayStop replies) (sink : SinkUse) where
+  pub all_text : Takes sink.before sink.now (replies_text replies) → WritesAll Known start trace r MayStop sink
   all_text took = (replies_text replies, took, (replies, said, refl))
 
-  pub front_text : TakesPrefix before now (replies_text replies) → WritesFront Known start trace r MayStop before now
+  pub front_text : TakesPrefix sink.before sink.now (replies_text replies) → WritesFront Known start trace r MayStop sink
   front_text took = (took.1.0, took.1.2, (took.0, (replies, said, sym took.1.1)))
 
-  pub no_text : now ≡ before → WritesFront Known start trace r MayStop before now
-  no_text same = ([], subst (λ x. Takes before x []) (sym same) (takes_nothing before), (replies_text replies, (replies, said, refl)))
+  pub no_text : sink.now ≡ sink.before → WritesFront Known start trace r MayStop sink
+  no_text same = ([], subst (λ x. Takes sink.before x []) (sym same) (takes_nothing sink.before), (replies_text replies, (replies, said, refl)))
 
 -- a sound region has few bytes
 pub small_sound : (bytes : ℕ) (image : ℕ → ℕ) → IsSound bytes image → bytes ≤ 268439552

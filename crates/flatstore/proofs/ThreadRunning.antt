@@ -23,9 +23,10 @@ use Rattle.group_engine.specs.Replayed.{report_in}
 use Rattle.group_engine.specs.Reports.{ReportsOn, reply_in, told, told_by}
 use Rattle.thread_engine.specs.RanApart.{Rejoined}
 use Rattle.flatstore.specs.Attaching.{GoesOnBy, AttachesToSplit, MayRejoin}
+use Rattle.flatstore.specs.Ends.{SourceUse, SinkUse}
 use Rattle.flatstore.specs.LastStates.{told_in}
 use Rattle.flatstore.specs.Ordering.{KeepsOrder, IsServed, is_broken, is_of_line, is_quiet, is_whole}
-use Rattle.flatstore.specs.Promise.{IsInput, Serves, IsAllOut}
+use Rattle.flatstore.specs.Promise.{IsInput, Serves}
 use Rattle.flatstore.specs.Played.{IsReady, IsRefused, HasWritten, is_ended}
 use Rattle.flatstore.specs.ThreadPlays.{PlayedApart, HasNotSplit, IsNotRun, WhyNotRun, why_of, status_for, has_begun}
 use Rattle.flatstore.specs.ThreadRuns.{RanOnThreads, RunsOnThreads}
@@ -85,58 +86,58 @@ attaches_then old s t found A once granted bytes done r opened = record {
 }
 
 -- A split that was refused, or for which there was no memory.
-module _ (s t : State) (word : ℕ → ℕ) (S : Stays s t) (coming left : Option (List ℕ)) (source source' : ℕ) (r : Result Outcome AttachError) (R : Refuses s t r) (recovered : Recovered) (lines : List Line) (ready : IsReady s word coming left recovered lines) where
-  why_split : (error : AttachError) → r ≡ Err error → WhyNotRun s word t coming left source source' (why_of error)
+module _ (s t : State) (word : ℕ → ℕ) (S : Stays s t) (source : SourceUse) (r : Result Outcome AttachError) (R : Refuses s t r) (recovered : Recovered) (lines : List Line) (ready : IsReady s word source recovered lines) where
+  why_split : (error : AttachError) → r ≡ Err error → WhyNotRun s word t source (why_of error)
   why_split attach.RegionFault is = let rose = R.fault is in record { recovered = recovered; lines = lines; ready = ready; fault = rose.0; refused = rose.1 }
   why_split attach.Memory is = inr refl
 
-  pub split_refused : (error : AttachError) → r ≡ Err error → {T : Type 0} (x : Result T NotRun) → IsErrAnd x (λ e. e ≡ why_of error) → IfErr x (IsNotRun s word t coming left source source')
+  pub split_refused : (error : AttachError) → r ≡ Err error → {T : Type 0} (x : Result T NotRun) → IsErrAnd x (λ e. e ≡ why_of error) → IfErr x (IsNotRun s word t source)
   split_refused error is (Ok x) e = tt
-  split_refused error is (Err x) e = subst (IsNotRun s word t coming left source source') (sym e) (record { stays = S; later = R.later; cause = why_split error is })
+  split_refused error is (Err x) e = subst (IsNotRun s word t source) (sym e) (record { stays = S; later = R.later; cause = why_split error is })
 
 -- No core ran.
-module _ (old s t : State) (found word : ℕ → ℕ) (A : Attached old s s.frame.bytes found) (tells : (w : ℕ) → IsTelling s → lasts s w ≡ word w) (low : old.faults ≤ s.faults) (granted : s.frame.refusals ≡ old.frame.refusals) (coming left : Option (List ℕ)) (source source' : ℕ) (why : NotRun)
-    (N : IsNotRun s word t coming left source source' why) where
+module _ (old s t : State) (found word : ℕ → ℕ) (A : Attached old s s.frame.bytes found) (tells : (w : ℕ) → IsTelling s → lasts s w ≡ word w) (low : old.faults ≤ s.faults) (granted : s.frame.refusals ≡ old.frame.refusals) (source : SourceUse) (why : NotRun)
+    (N : IsNotRun s word t source why) where
   -- the region says what it said when it was attached
   pub still : Attached old t t.frame.bytes found
   still = attached_still s t N.stays old found A
 
-  early_source : (status : Status) → WhyNotRun s word t coming left source source' (Refused status) → status ≡ statuses.SourceFault → Rose source source'
-  early_source status (inl x) e = refused_source old s found A coming left source source' status x.1 e
+  early_source : (status : Status) → WhyNotRun s word t source (Refused status) → status ≡ statuses.SourceFault → Rose source.faults source.faults'
+  early_source status (inl x) e = refused_source old s found A source status x.1 e
   early_source status (inr m) e = cc (sym m ∙ e)
 
-  early_fault : (status : Status) → WhyNotRun s word t coming left source source' (Refused status) → status ≡ statuses.RegionFault → ⊥
-  early_fault status (inl x) e = apart_from old s found A coming left source source' status x.1 statuses.RegionFault refl e
+  early_fault : (status : Status) → WhyNotRun s word t source (Refused status) → status ≡ statuses.RegionFault → ⊥
+  early_fault status (inl x) e = apart_from old s found A source status x.1 statuses.RegionFault refl e
   early_fault status (inr m) e = cc (sym m ∙ e)
 
-  early_usage : (status : Status) → WhyNotRun s word t coming left source source' (Refused status) → status ≡ statuses.Usage → ⊥
-  early_usage status (inl x) e = apart_from old s found A coming left source source' status x.1 statuses.Usage refl e
+  early_usage : (status : Status) → WhyNotRun s word t source (Refused status) → status ≡ statuses.Usage → ⊥
+  early_usage status (inl x) e = apart_from old s found A source status x.1 statuses.Usage refl e
   early_usage status (inr m) e = cc (sym m ∙ e)
 
-  early_sink : (status : Status) → WhyNotRun s word t coming left source source' (Refused status) → status ≡ statuses.SinkFault → ⊥
-  early_sink status (inl x) e = apart_from old s found A coming left source source' status x.1 statuses.SinkFault refl e
+  early_sink : (status : Status) → WhyNotRun s word t source (Refused status) → status ≡ statuses.SinkFault → ⊥
+  early_sink status (inl x) e = apart_from old s found A source status x.1 statuses.SinkFault refl e
   early_sink status (inr m) e = cc (sym m ∙ e)
 
-  risen : HasNotSplit s word t coming left → Rose old.faults t.faults
+  risen : HasNotSplit s word t source → Rose old.faults t.faults
   risen h = let fault = h.fault in omega (arith, fault, low)
 
-  source_by : (y : NotRun) → WhyNotRun s word t coming left source source' y → status_for y ≡ statuses.SourceFault → Rose source source'
+  source_by : (y : NotRun) → WhyNotRun s word t source y → status_for y ≡ statuses.SourceFault → Rose source.faults source.faults'
   source_by (Refused status) h e = early_source status h e
   source_by Unsplit h e = cc e
 
-  fault_by : (y : NotRun) → WhyNotRun s word t coming left source source' y → status_for y ≡ statuses.RegionFault → Rose old.faults t.faults
+  fault_by : (y : NotRun) → WhyNotRun s word t source y → status_for y ≡ statuses.RegionFault → Rose old.faults t.faults
   fault_by (Refused status) h e = absurd (early_fault status h e)
   fault_by Unsplit h e = risen h
 
-  usage_by : (y : NotRun) → WhyNotRun s word t coming left source source' y → status_for y ≡ statuses.Usage → ⊥
+  usage_by : (y : NotRun) → WhyNotRun s word t source y → status_for y ≡ statuses.Usage → ⊥
   usage_by (Refused status) h e = early_usage status h e
   usage_by Unsplit h e = cc e
 
-  sink_by : (y : NotRun) → WhyNotRun s word t coming left source source' y → status_for y ≡ statuses.SinkFault → ⊥
+  sink_by : (y : NotRun) → WhyNotRun s word t source y → status_for y ≡ statuses.SinkFault → ⊥
   sink_by (Refused status) h e = early_sink status h e
   sink_by Unsplit h e = cc e
 
-  pub why_source : status_for why ≡ statuses.SourceFault → Rose source source'
+  pub why_source : status_for why ≡ statuses.SourceFault → Rose source.faults source.faults'
   why_source e = source_by why N.cause e
 
   pub why_fault : status_for why ≡ statuses.RegionFault → Rose old.faults t.faults
@@ -148,24 +149,24 @@ module _ (old s t : State) (found word : ℕ → ℕ) (A : Attached old s s.fram
   pub why_sink : status_for why ≡ statuses.SinkFault → ⊥
   why_sink e = sink_by why N.cause e
 
-  module _ (r : Report) (fin : r.finishes.items ≡ []) (ref : r.refusals.items ≡ []) (cut : r.complete ≡ false) (text : Option (List ℕ)) (flushed : Bool) (sink : ℕ) (refused : Bool) where
+  module _ (r : Report) (fin : r.finishes.items ≡ []) (ref : r.refusals.items ≡ []) (cut : r.complete ≡ false) (sink : SinkUse) (same : sink.now ≡ sink.before) (refused : Bool) where
     abbrev Promised : Type 0
-    Promised = (input : List ℕ) × (cores : ℕ) × IsInput coming input × RunsOnThreads old t found coming left source source' refused cores input text text flushed sink sink r
+    Promised = (input : List ℕ) × (cores : ℕ) × IsInput source.coming input × RunsOnThreads old t found source refused cores input sink r
 
     -- the work before the run ended with a status
-    module _ (status : Status) (is : r.status ≡ status) (unbegun : r.began ≡ false) (u : State) (B : Attached old u u.frame.bytes found) (U : IsRefused u coming left source source' status) where
-      early_serves : (input : List ℕ) × (cores : ℕ) × IsInput coming input × RunsOnThreads old u found coming left source source' refused cores input text text flushed sink sink r
+    module _ (status : Status) (is : r.status ≡ status) (unbegun : r.began ≡ false) (u : State) (B : Attached old u u.frame.bytes found) (U : IsRefused u source status) where
+      early_serves : (input : List ℕ) × (cores : ℕ) × IsInput source.coming input × RunsOnThreads old u found source refused cores input sink r
       early_serves =
-          let x = refused_serves old u found B coming left source source' status U r is fin ref unbegun cut text flushed sink in
-          (x.0, x.1, x.2, record { serves = x.3; unsplit = λ failed no. absurd (refused_fault old u found B coming left source source' status U r is failed); run = λ complete. both r.complete complete cut })
+          let x = refused_serves old u found B source status U r is fin ref unbegun cut sink same in
+          (x.0, x.1, x.2, record { serves = x.3; unsplit = λ failed no. absurd (refused_fault old u found B source status U r is failed); run = λ complete. both r.complete complete cut })
 
-    early : (status : Status) → WhyNotRun s word t coming left source source' (Refused status) → r.status ≡ status → r.began ≡ false → Promised
-    early status (inl x) is unbegun = subst (λ z. (input : List ℕ) × (cores : ℕ) × IsInput coming input × RunsOnThreads old z found coming left source source' refused cores input text text flushed sink sink r) (sym x.0)
+    early : (status : Status) → WhyNotRun s word t source (Refused status) → r.status ≡ status → r.began ≡ false → Promised
+    early status (inl x) is unbegun = subst (λ z. (input : List ℕ) × (cores : ℕ) × IsInput source.coming input × RunsOnThreads old z found source refused cores input sink r) (sym x.0)
         (early_serves status is unbegun s A x.1)
     early status (inr m) is unbegun = early_serves status is unbegun t still (inl (inr m))
 
     -- the region could not be split
-    module _ (h : HasNotSplit s word t coming left) (is : r.status ≡ statuses.RegionFault) (begun : r.began ≡ true) where
+    module _ (h : HasNotSplit s word t source) (is : r.status ≡ statuses.RegionFault) (begun : r.began ≡ true) where
       abbrev own_cores : ℕ
       own_cores = h.recovered.layout.cores
 
@@ -178,10 +179,10 @@ module _ (old s t : State) (found word : ℕ → ℕ) (A : Attached old s s.fram
       served : IsServed t found
       served telling = subst (λ n. IsSound n found) (sym N.stays.bytes) (served_then telling).0
 
-      order : KeepsOrder old t found coming left own_cores own_input r
+      order : KeepsOrder old t found source own_cores own_input r
       order = record {
         untouched = λ no. still;
-        source = λ e. cc (sym is ∙ e);
+        read = λ e. cc (sym is ∙ e);
         line = λ line. both (is_of_line r.status) line (ap is_of_line is);
         began = λ yes. (served, h.ready.read.whole, ap is_broken h.ready.read.good);
         unbegun = λ quiet. both (is_quiet r.status) quiet (ap is_quiet is);
@@ -190,7 +191,7 @@ module _ (old s t : State) (found word : ℕ → ℕ) (A : Attached old s s.fram
         whole = λ whole. both (is_whole r.status) whole (ap is_whole is);
       }
 
-      split_serves : Serves old t found coming left source source' own_cores own_input text text flushed sink sink r
+      split_serves : Serves old t found source own_cores own_input sink r
       split_serves = record {
         cores_are = λ n told. (served_then (told_now old t found still r fin ref cut own_cores own_input n told)).1;
         order = order;
@@ -198,7 +199,7 @@ module _ (old s t : State) (found word : ℕ → ℕ) (A : Attached old s s.fram
         done = λ done. cc (sym is ∙ done);
         failed = λ failed complete steady. both r.complete complete cut;
         sunk = λ sunk. cc (sym is ∙ sunk);
-        begins = none_begins old t found still r fin ref cut own_cores own_input text;
+        begins = none_begins old t found still r fin ref cut own_cores own_input sink same;
         crash = none_lost old t found still r fin ref cut own_cores own_input;
         last = λ whole telling image may k small. both (is_whole r.status) whole (ap is_whole is);
         rising = none_rising old t found still r fin ref cut own_cores own_input;
@@ -215,7 +216,7 @@ module _ (old s t : State) (found word : ℕ → ℕ) (A : Attached old s s.fram
         record { serves = split_serves; unsplit = λ failed no. (still, subst (λ n. Rose n t.frame.refusals) granted h.refused); run = λ complete. both r.complete complete cut },
       )
 
-    by_why : (y : NotRun) → WhyNotRun s word t coming left source source' y → r.status ≡ status_for y → r.began ≡ has_begun y → Promised
+    by_why : (y : NotRun) → WhyNotRun s word t source y → r.status ≡ status_for y → r.began ≡ has_begun y → Promised
     by_why (Refused status) h is began = early status h is began
     by_why Unsplit h is began = unsplit h is began
 
@@ -223,8 +224,8 @@ module _ (old s t : State) (found word : ℕ → ℕ) (A : Attached old s s.fram
     not_run is began = by_why why N.cause is began
 
 -- All cores ran.
-module _ (old s t : State) (found word : ℕ → ℕ) (A : Attached old s s.frame.bytes found) (once : IsOpenedOnceMore old s) (granted : s.frame.refusals ≡ old.frame.refusals) (low : old.faults ≤ s.faults) (refused : Bool) (coming left : Option (List ℕ)) (x : Outcome)
-    (P : PlayedApart s word refused t coming left x) where
+module _ (old s t : State) (found word : ℕ → ℕ) (A : Attached old s s.frame.bytes found) (once : IsOpenedOnceMore old s) (granted : s.frame.refusals ≡ old.frame.refusals) (low : old.faults ≤ s.faults) (refused : Bool) (source : SourceUse) (x : Outcome)
+    (P : PlayedApart s word refused t source x) where
   abbrev o : Origin
   o = P.ran.origin
 
@@ -273,7 +274,7 @@ module _ (old s t : State) (found word : ℕ → ℕ) (A : Attached old s s.fram
         long = λ n a is why q asked. C.long [] n q a is why asked;
       }
 
-  pub known : Known old found coming left cores input o f x
+  pub known : Known old found cores input o f x
   known = record {
     attached = subst (λ (z : State). Attached old z z.frame.bytes found) (sym began) A;
     origin = P.ran.begins.is;
@@ -303,7 +304,7 @@ module _ (old s t : State) (found word : ℕ → ℕ) (A : Attached old s s.fram
   from = record { at = s; attached = subst (λ n. Attached old s n found) (sym bytes) A; once = once; granted = granted; on = subst (λ z. Rejoined s z) (sym P.ran.region) P.ran.rejoined }
 
   -- The report is on the last state of the cores.
-  module _ (before now : Option (List ℕ)) (flushed : Bool) (faults faults' : ℕ) (r : Report) (W : HasWritten x before now flushed faults faults' r.status)
+  module _ (sink : SinkUse) (r : Report) (W : HasWritten x sink r.status)
       (finishes : r.finishes.items ≡ x.finishes.items) (refusals : r.refusals.items ≡ x.refusals.items) (begun : r.began ≡ true) (complete_is : r.complete ≡ is_ended x.end) where
     report_told : told_in r ≡ told_by (report_in x)
     report_told i = told (finishes i) (refusals i)
@@ -314,7 +315,7 @@ module _ (old s t : State) (found word : ℕ → ℕ) (A : Attached old s s.fram
     text_is : replies_text x.replies.items ≡ replies_text (map reply_in P.ran.kept)
     text_is = ap replies_text P.ran.report.replies
 
-    ran_then : r.complete ≡ true → RanOnThreads old f.region found refused cores input before now (IsAllOut r.status faults faults') r
+    ran_then : r.complete ≡ true → RanOnThreads old f.region found refused cores input sink r
     ran_then complete =
         let end : is_ended x.end ≡ true = sym complete_is ∙ complete in
         let not_cut : x.end ≢ ends.Memory = ended end in
@@ -327,7 +328,7 @@ module _ (old s t : State) (found word : ℕ → ℕ) (A : Attached old s s.fram
             origin = o;
             begins = P.ran.begins;
             words = subst (λ (z : State). IsTelling z → (w : ℕ) → w < z.frame.bytes / 8 → o.found w ≡ found w) began
-                (words_found old found coming left cores input o f x known);
+                (words_found old found source cores input o f x known);
             count = count;
           };
           lines = P.lines;
@@ -344,22 +345,22 @@ module _ (old s t : State) (found word : ℕ → ℕ) (A : Attached old s s.fram
           finishes = finishes ∙ P.ran.report.finishes;
           refusals = refusals ∙ P.ran.report.refusals;
           told_is = report_told ∙ P.ran.reports.told_is;
-          begins = subst (λ text. TakesPrefix before now text) text_is (front_written x before now flushed faults faults' r.status W end);
-          writes = λ out. subst (λ text. Takes before now text) text_is (all_written x before now flushed faults faults' r.status W out);
+          begins = subst (λ text. TakesPrefix sink.before sink.now text) text_is (front_written x sink r.status W end);
+          writes = λ out. subst (λ text. Takes sink.before sink.now text) text_is (all_written x sink r.status W out);
           licensed = subst (λ z. IsTelling z → AllLicensed f.layout f.group (cell_now z)) (sym P.ran.region) P.ran.licensed;
         }
       where
         ended : is_ended x.end ≡ true → x.end ≢ ends.Memory
         ended is m = both (is_ended x.end) is (ap is_ended m)
 
-    pub ran_on : (source source' : ℕ) → (input : List ℕ) × (cores : ℕ) × IsInput coming input × RunsOnThreads old t found coming left source source' refused cores input before now flushed faults faults' r
-    ran_on source source' = (
+    pub ran_on : (input : List ℕ) × (cores : ℕ) × IsInput source.coming input × RunsOnThreads old t found source refused cores input sink r
+    ran_on = (
       input,
       cores,
       P.ready.read.is_input,
-      subst (λ z. RunsOnThreads old z found coming left source source' refused cores input before now flushed faults faults' r) P.ran.region (record {
-        serves = serves old found coming left cores input o f x known P.ready.read.whole before now flushed faults faults' r.status W r refl report_told begun complete_is source source';
-        unsplit = λ failed no. both r.complete (ends_then old found coming left cores input o f x known P.ready.read.whole before now flushed faults faults' r.status W r refl report_told begun complete_is failed) no;
+      subst (λ z. RunsOnThreads old z found source refused cores input sink r) P.ran.region (record {
+        serves = serves old found source cores input o f x known P.ready.read.whole sink r.status W r refl report_told begun complete_is;
+        unsplit = λ failed no. both r.complete (ends_then old found source cores input o f x known P.ready.read.whole sink r.status W r refl report_told begun complete_is failed) no;
         run = ran_then;
       }),
     )

@@ -5,17 +5,17 @@ use Rattle.fs_text.specs.Output.{replies_text}
 use Rattle.fs_text.specs.Streams.{Takes, TakesPrefix}
 use Rattle.group_engine.specs.declared.run_outcome.Outcome.{Outcome}
 use Rattle.flatstore.specs.Played.{HasWritten, is_ended}
-use Rattle.flatstore.specs.Promise.{IsAllOut}
+use Rattle.flatstore.specs.Ends.{SinkUse, IsAllOut}
 use Rattle.flatstore.specs.declared.report.Status.{Status}
 use Rattle.flatstore.specs.declared.report.Status.TheVariants as statuses
 use Rattle.flatstore.proofs.Texts.{both, takes_front}
 
-module _ (x : Outcome) (before now : Option (List ℕ)) (flushed : Bool) (faults faults' : ℕ) (status : Status) where
+module _ (x : Outcome) (sink : SinkUse) (status : Status) where
   -- a run that came to its end wrote at least the beginning of its text
-  pub front_written : HasWritten x before now flushed faults faults' status → is_ended x.end ≡ true → TakesPrefix before now (replies_text x.replies.items)
-  front_written (inl w) ended = takes_front before now (replies_text x.replies.items) w.2
+  pub front_written : HasWritten x sink status → is_ended x.end ≡ true → TakesPrefix sink.before sink.now (replies_text x.replies.items)
+  front_written (inl w) ended = takes_front sink.before sink.now (replies_text x.replies.items) w.2
   front_written (inr (inl w)) ended = elim w.2 [
-    | inl all ↦ takes_front before now (replies_text x.replies.items) all.0
+    | inl all ↦ takes_front sink.before sink.now (replies_text x.replies.items) all.0
     | inr some ↦ some.1
   ]
   front_written (inr (inr (inl w))) ended = w.3
@@ -24,16 +24,16 @@ module _ (x : Outcome) (before now : Option (List ℕ)) (flushed : Bool) (faults
     | inr cut ↦ both (is_ended x.end) ended cut.0
   ]
 
-  out_of : (other : Status) → status ≡ other → other ≢ statuses.Done → other ≢ statuses.RegionFault → IsAllOut status faults faults' → ⊥
+  out_of : (other : Status) → status ≡ other → other ≢ statuses.Done → other ≢ statuses.RegionFault → IsAllOut status sink → ⊥
   out_of other e done failed (inl is) = done (sym e ∙ is)
   out_of other e done failed (inr is) = failed (sym e ∙ is.0)
 
-  no_rise : status ≡ statuses.RegionFault → IsAllOut status faults faults' → Rose faults faults' → ⊥
+  no_rise : status ≡ statuses.RegionFault → IsAllOut status sink → Rose sink.faults sink.faults' → ⊥
   no_rise e (inl is) rose = cc (sym e ∙ is)
   no_rise e (inr is) rose = is.1 rose
 
   -- and the whole of it where the status says that no write failed.
-  pub all_written : HasWritten x before now flushed faults faults' status → IsAllOut status faults faults' → Takes before now (replies_text x.replies.items)
+  pub all_written : HasWritten x sink status → IsAllOut status sink → Takes sink.before sink.now (replies_text x.replies.items)
   all_written (inl w) out = w.2
   all_written (inr (inl w)) out = elim w.2 [
     | inl all ↦ all.0

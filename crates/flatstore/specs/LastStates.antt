@@ -1,5 +1,5 @@
 -- The run of the engine that a report is of.
-use Rattle.std.specs.Prelude.{◌≡◌, ℕ, ◌/◌, ◌<◌, List, [], ◌∷◌, length, map, Option, Ok}
+use Rattle.std.specs.Prelude.{◌≡◌, ℕ, ◌/◌, ◌<◌, List, [], ◌∷◌, length, map, Ok}
 use Rattle.std.specs.List.{AllByRecursion, slice_get}
 use Rattle.pm_region.specs.declared.region_sizes.TheConstants.{WORD_BYTES}
 use Rattle.pm_region.specs.State.{State, IsTelling, cell_now}
@@ -21,6 +21,7 @@ use Rattle.group_engine.specs.Reports.{told, reply_in, finishes_in, refusals_in}
 use Rattle.group_engine.specs.Runs.{RunState, CoreMoves, AreNew, first_state, with_request}
 use Rattle.headline.specs.Headline.{Told}
 use Rattle.flatstore.specs.Attaching.{GoesOnFrom}
+use Rattle.flatstore.specs.Ends.{SinkUse, IsAllOut}
 use Rattle.flatstore.specs.declared.report.Report.{Report}
 
 -- what a report says of the requests
@@ -58,14 +59,14 @@ abbrev pub first_of : {at : State} {found : ℕ → ℕ} {cores : ℕ} → Opens
 first_of x = first_state x.start.origin x.workers
 
 -- A report, and what the sink took, are made of the answers that are kept in a state of the run:
--- the finishes with their stamps, the refusals with what was counted, and the replies. `AllOut`
--- holds where no write failed.
-pub record ReportsAnswers (new : State) (before now : Option (List ℕ)) (AllOut : Type 0)
-    (last : RunState Worker) (r : Report) : Type 0 where
+-- the finishes with their stamps, the refusals with what was counted, and the replies.
+pub record ReportsAnswers (new : State) (sink : SinkUse) (last : RunState Worker)
+    (r : Report) : Type 0 where
   pub finishes : r.finishes.items ≡ finishes_in 0 last.answers
   pub refusals : r.refusals.items ≡ refusals_in 0 last.answers
-  pub begins : TakesPrefix before now (replies_text (map reply_in last.answers))
-  pub writes : AllOut → Takes before now (replies_text (map reply_in last.answers))
+  pub begins : TakesPrefix sink.before sink.now (replies_text (map reply_in last.answers))
+  pub writes : IsAllOut r.status sink
+      → Takes sink.before sink.now (replies_text (map reply_in last.answers))
   -- Those are the answers of the state, each with its stamp and the cause of its refusal; where the
   -- region doesn't tell, a get may have found another value.
   pub count : length last.answers ≡ length last.engine.given
@@ -77,7 +78,7 @@ pub record ReportsAnswers (new : State) (before now : Option (List ℕ)) (AllOut
 -- The lines of the input led the engine from the region, as it was attached with these words, to a
 -- last state, and this is a report on it.
 pub record RanTo (old new : State) (found : ℕ → ℕ) (cores : ℕ) (input : List ℕ)
-    (before now : Option (List ℕ)) (AllOut : Type 0) (r : Report) : Type 0 where
+    (sink : SinkUse) (r : Report) : Type 0 where
   pub from : GoesOnFrom old new new.frame.bytes found
   pub first : Opens from.at found cores
   -- The lines are those of the input: a request joins its owner's backlog, a `go` line is so many
@@ -91,6 +92,6 @@ pub record RanTo (old new : State) (found : ℕ → ℕ) (cores : ℕ) (input : 
   pub ends : last.engine.region ≡ new
   pub answered : AllAnswered last.engine
   pub drained : IsDrained last.engine
-  pub reports : ReportsAnswers new before now AllOut last r
+  pub reports : ReportsAnswers new sink last r
   -- Whatever a crash leaves of a part now is licensed by its core's view in that state.
   pub licensed : IsTelling new → AllLicensed last.engine.layout last.engine.group (cell_now new)

@@ -3,6 +3,7 @@ pub mod Asked
 pub mod Statuses
 pub mod Attaching
 pub mod LastStates
+pub mod Ends
 pub mod Ordering
 pub mod Promise
 pub mod Formats

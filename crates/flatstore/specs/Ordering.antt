@@ -7,6 +7,7 @@ use Rattle.fs_text.specs.Input.{input_of}
 use Rattle.fs_text.specs.Streams.{IsReadOut}
 use Rattle.store_image.specs.declared.types.Fault.{Fault}
 use Rattle.store_image.specs.Soundness.{IsSound, first_fault}
+use Rattle.flatstore.specs.Ends.{SourceUse, SinkUse}
 use Rattle.flatstore.specs.Statuses.{fault_status}
 use Rattle.flatstore.specs.declared.report.Status.{Status}
 use Rattle.flatstore.specs.declared.report.Status.TheVariants as statuses
@@ -25,10 +26,10 @@ abbrev pub IsDue : ℕ → (ℕ → ℕ) → List ℕ → Status → Type 0
 IsDue bytes found input status = status ≡ due found input (first_fault bytes found)
 
 -- a fault, or want of memory
-abbrev pub IsFault : State → State → ℕ → ℕ → ℕ → ℕ → Status → Type 0
-IsFault old new source source' sink sink' status =
-    (status ≡ statuses.Memory) ⊎ (((status ≡ statuses.SourceFault) × Rose source source')
-    ⊎ (((status ≡ statuses.SinkFault) × Rose sink sink')
+abbrev pub IsFault : State → State → SourceUse → SinkUse → Status → Type 0
+IsFault old new source sink status =
+    (status ≡ statuses.Memory) ⊎ (((status ≡ statuses.SourceFault) × Rose source.faults source.faults')
+    ⊎ (((status ≡ statuses.SinkFault) × Rose sink.faults sink.faults')
     ⊎ ((status ≡ statuses.RegionFault) × Faulted old new)))
 
 -- a status at which nothing was written and no word of the region changed
@@ -101,17 +102,17 @@ abbrev pub IsServed : State → (ℕ → ℕ) → Type 0
 IsServed s found = IsTelling s → IsSound s.frame.bytes found
 
 -- What an end says of the work before it, by the number of cores. Before the run begins no word of the region changes.
-pub record KeepsOrder (old new : State) (found : ℕ → ℕ) (coming left : Option (List ℕ)) (cores : ℕ)
+pub record KeepsOrder (old new : State) (found : ℕ → ℕ) (source : SourceUse) (cores : ℕ)
     (input : List ℕ) (r : Report) : Type 0 where
   pub untouched : r.began ≡ false → Attached old new new.frame.bytes found
   -- The rules of the region go before the source,
-  pub source : r.status ≡ statuses.SourceFault → IsServed new found
+  pub read : r.status ≡ statuses.SourceFault → IsServed new found
   -- and both before the rules of the input, which are those of all of it.
   pub line : is_of_line r.status ≡ true
-      → IsServed new found × IsReadOut coming left × (r.status ≡ status_of (input_of cores input))
+      → IsServed new found × IsReadOut source.coming source.left × (r.status ≡ status_of (input_of cores input))
   -- All of these go before the run,
   pub began : r.began ≡ true
-      → IsServed new found × IsReadOut coming left × (is_broken (input_of cores input) ≡ false)
+      → IsServed new found × IsReadOut source.coming source.left × (is_broken (input_of cores input) ≡ false)
   pub unbegun : is_quiet r.status ≡ true → r.began ≡ false
   -- and the whole run before the writing.
   pub run : is_of_run r.status ≡ true → r.began ≡ true

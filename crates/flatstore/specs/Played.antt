@@ -1,5 +1,5 @@
 -- What a replay did between attaching and writing.
-use Rattle.std.specs.Prelude.{◌≡◌, ◌⊎◌, ℕ, List, Bool, true, false, Option, Some, None, if◌then◌else◌}
+use Rattle.std.specs.Prelude.{◌≡◌, ◌⊎◌, ℕ, List, Bool, true, false, Some, None, if◌then◌else◌}
 use Rattle.pm_region.specs.Cell.{certain}
 use Rattle.pm_region.specs.State.{State, IsTelling, InRange, cell_now, Rose}
 use Rattle.pm_region.specs.Split.{words_in}
@@ -15,6 +15,7 @@ use Rattle.group_engine.specs.declared.run_outcome.Outcome.{Outcome}
 use Rattle.group_engine.specs.Replayed.{Replayed, StandsAsFound}
 use Rattle.recover.specs.declared.types.Recovered.{Recovered}
 use Rattle.fs_text.specs.Bounds.{IsWithin}
+use Rattle.flatstore.specs.Ends.{SourceUse, SinkUse}
 use Rattle.flatstore.specs.Reads.{IsRead, IsUnread}
 use Rattle.flatstore.specs.Statuses.{fault_status}
 use Rattle.flatstore.specs.declared.report.Status.{Status}
@@ -28,19 +29,19 @@ pub record StandsWhole (s : State) : Type 0 where
   pub certain : IsTelling s → (w : ℕ) → InRange s.frame w → cell_now s w ≡ certain (lasts s w)
 
 -- What recovery gave of the region, and the lines of the input for its cores.
-pub record IsReady (s : State) (word : ℕ → ℕ) (coming left : Option (List ℕ)) (r : Recovered)
+pub record IsReady (s : State) (word : ℕ → ℕ) (source : SourceUse) (r : Recovered)
     (lines : List Line) : Type 0 where
   pub stands : StandsAsFound s word r
-  pub read : IsRead coming left r.layout.cores lines
+  pub read : IsRead source r.layout.cores lines
   pub within : IsWithin r.layout.cores lines
 
 -- The region was recovered by the words that it reads, the input was read, and the engine ran over
 -- its lines, from the region's state s to t and to this outcome.
-pub record Played (s : State) (word : ℕ → ℕ) (t : State) (coming left : Option (List ℕ))
+pub record Played (s : State) (word : ℕ → ℕ) (t : State) (source : SourceUse)
     (x : Outcome) : Type 0 where
   pub recovered : Recovered
   pub lines : List Line
-  pub ready : IsReady s word coming left recovered lines
+  pub ready : IsReady s word source recovered lines
   pub ran : Replayed s word recovered lines t x
 
 -- Why a region is not served: it breaks a rule, or there was no memory.
@@ -54,10 +55,9 @@ abbrev pub IsCounted : State → ℕ → Type 0
 IsCounted s cores = IsTelling s → (first_fault s.frame.bytes (lasts s) ≡ None) × (lasts s 2 ≡ cores)
 
 -- why a replay answered nothing
-abbrev pub IsRefused : State → Option (List ℕ) → Option (List ℕ) → ℕ → ℕ → Status → Type 0
-IsRefused s coming left source source' status =
-    IsUnserved s status ⊎ ((cores : ℕ) × IsCounted s cores
-    × IsUnread coming left cores source source' status)
+abbrev pub IsRefused : State → SourceUse → Status → Type 0
+IsRefused s source status =
+    IsUnserved s status ⊎ ((cores : ℕ) × IsCounted s cores × IsUnread source cores status)
 
 -- it came to its end
 abbrev pub is_ended : End → Bool
@@ -66,18 +66,18 @@ is_ended ends.RegionFault = true
 is_ended ends.Memory = false
 
 -- What the writing did: everything was written and flushed, or the front of it, and the status says which. A fault of the region goes before one of the sink.
-abbrev pub HasWritten : Outcome → Option (List ℕ) → Option (List ℕ) → Bool → ℕ → ℕ → Status → Type 0
-HasWritten x before now flushed faults faults' status =
+abbrev pub HasWritten : Outcome → SinkUse → Status → Type 0
+HasWritten x sink status =
     ((status ≡ statuses.Done) × (x.end ≡ ends.Complete)
-    × Takes before now (replies_text x.replies.items) × (flushed ≡ true))
+    × Takes sink.before sink.now (replies_text x.replies.items) × (sink.flushed ≡ true))
     ⊎ (((status ≡ statuses.RegionFault) × (x.end ≡ ends.RegionFault)
-    × ((Takes before now (replies_text x.replies.items) × (flushed ≡ true))
-    ⊎ (Rose faults faults' × TakesPrefix before now (replies_text x.replies.items))))
-    ⊎ (((status ≡ statuses.SinkFault) × (x.end ≡ ends.Complete) × Rose faults faults'
-    × TakesPrefix before now (replies_text x.replies.items))
+    × ((Takes sink.before sink.now (replies_text x.replies.items) × (sink.flushed ≡ true))
+    ⊎ (Rose sink.faults sink.faults' × TakesPrefix sink.before sink.now (replies_text x.replies.items))))
+    ⊎ (((status ≡ statuses.SinkFault) × (x.end ≡ ends.Complete) × Rose sink.faults sink.faults'
+    × TakesPrefix sink.before sink.now (replies_text x.replies.items))
     ⊎ ((status ≡ statuses.Memory) × (((is_ended x.end ≡ true)
-    × TakesPrefix before now (replies_text x.replies.items))
-    ⊎ ((is_ended x.end ≡ false) × (now ≡ before))))))
+    × TakesPrefix sink.before sink.now (replies_text x.replies.items))
+    ⊎ ((is_ended x.end ≡ false) × (sink.now ≡ sink.before))))))
 
 -- the status of a run by its end, and whether a write failed
 abbrev pub ended_as : End → Bool → Status

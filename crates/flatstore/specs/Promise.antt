@@ -14,6 +14,7 @@ use Rattle.log_entry.specs.declared.entry_limits.TheConstants.{LAST_PUT_VERSION}
 use Rattle.store_image.specs.Soundness.{IsSound}
 use Rattle.core_room.specs.declared.types.Shortage.TheVariants.{Versions}
 use Rattle.group_engine.specs.Answers.{reply_to}
+use Rattle.flatstore.specs.Ends.{SourceUse, SinkUse}
 use Rattle.flatstore.specs.LastStates.{told_in, AreRising, RanTo}
 use Rattle.flatstore.specs.Ordering.{KeepsOrder, IsDue, IsFault, is_whole}
 use Rattle.flatstore.specs.declared.report.Status.{Status}
@@ -30,46 +31,38 @@ abbrev pub asked_in : ℕ → List ℕ → List Request
 asked_in cores input = trace_of cores input
 
 -- The sink took the whole text of replies that fit the report, or the beginning of such a text. They are lawful where the cells are known. One is `stopped` only for a cause.
-abbrev pub WritesAll : Type 0 → (ℕ → Option (List ℕ)) → List Request → Told → Type 0
-    → Option (List ℕ) → Option (List ℕ) → Type 0
-WritesAll Known start trace r MayStop before now = (written : List ℕ) × Takes before now written
-    × WritesReplies Known start trace r MayStop written
+abbrev pub WritesAll : Type 0 → (ℕ → Option (List ℕ)) → List Request → Told → Type 0 → SinkUse
+    → Type 0
+WritesAll Known start trace r MayStop sink = (written : List ℕ)
+    × Takes sink.before sink.now written × WritesReplies Known start trace r MayStop written
 
-abbrev pub WritesFront : Type 0 → (ℕ → Option (List ℕ)) → List Request → Told → Type 0
-    → Option (List ℕ) → Option (List ℕ) → Type 0
-WritesFront Known start trace r MayStop before now = (written : List ℕ) × Takes before now written
-    × BeginsReplies Known start trace r MayStop written
-
--- every reply was written: the end was one of the run, and no write failed
-abbrev pub IsAllOut : Status → ℕ → ℕ → Type 0
-IsAllOut status sink_faults sink_faults' =
-    (status ≡ statuses.Done) ⊎ ((status ≡ statuses.RegionFault)
-    × (Rose sink_faults sink_faults' → ⊥))
+abbrev pub WritesFront : Type 0 → (ℕ → Option (List ℕ)) → List Request → Told → Type 0 → SinkUse
+    → Type 0
+WritesFront Known start trace r MayStop sink = (written : List ℕ)
+    × Takes sink.before sink.now written × BeginsReplies Known start trace r MayStop written
 
 -- The headline, of a run of this input on a region that was attached with these words, whoever makes the moves of its
--- cores. Of the source: what it had and has left, and its counts. Of the sink: what it had and has taken, whether that was
--- flushed, and its counts. Of the region: its cores by the words read, which are those found, where it tells.
-pub record Serves (old new : State) (found : ℕ → ℕ) (coming left : Option (List ℕ))
-    (source_faults source_faults' : ℕ) (cores : ℕ) (input : List ℕ) (before now : Option (List ℕ))
-    (flushed : Bool) (sink_faults sink_faults' : ℕ) (r : Report) : Type 0 where
+-- cores. Of the region: its cores by the words read, which are those found, where it tells.
+pub record Serves (old new : State) (found : ℕ → ℕ) (source : SourceUse) (cores : ℕ)
+    (input : List ℕ) (sink : SinkUse) (r : Report) : Type 0 where
   pub cores_are : (t : ℕ) → IsTold new t → cores ≡ found 2
-  pub order : KeepsOrder old new found coming left cores input r
+  pub order : KeepsOrder old new found source cores input r
   -- The words found and the input decide on the status, but for faults that were counted and want of memory.
   pub due : IsTelling new → IsDue new.frame.bytes found input r.status
-      ⊎ IsFault old new source_faults source_faults' sink_faults sink_faults' r.status
+      ⊎ IsFault old new source sink r.status
   -- At the end the whole text was written and flushed, without a `stopped`; also where a call of the region failed, and no write did.
   pub done : r.status ≡ statuses.Done → WritesAll (IsTelling new) (cells_of found)
-      (asked_in cores input) (told_in r) ⊥ before now × (flushed ≡ true)
+      (asked_in cores input) (told_in r) ⊥ sink × (sink.flushed ≡ true)
   pub failed : r.status ≡ statuses.RegionFault → r.complete ≡ true
-      → (Rose sink_faults sink_faults' → ⊥)
+      → (Rose sink.faults sink.faults' → ⊥)
       → WritesAll (IsTelling new) (cells_of found) (asked_in cores input) (told_in r)
-      (Faulted old new) before now × (flushed ≡ true)
+      (Faulted old new) sink × (sink.flushed ≡ true)
   -- Where a write failed and no call of the region did, the beginning of such a text, without a `stopped`.
   pub sunk : r.status ≡ statuses.SinkFault → WritesFront (IsTelling new) (cells_of found)
-      (asked_in cores input) (told_in r) ⊥ before now
+      (asked_in cores input) (told_in r) ⊥ sink
   -- Always the beginning of such a text, where a request is `stopped` only if a call of the region failed, or the run did not come to its end.
   pub begins : WritesFront (IsTelling new) (cells_of found) (asked_in cores input) (told_in r)
-      (r.complete ≡ true → Faulted old new) before now
+      (r.complete ≡ true → Faulted old new) sink
   -- Whatever a crash leaves at any told moment since the attach is sound, and recovers for each key its finished changes, or one more.
   pub crash : IsSound new.frame.bytes found → RecoversThroughout new (cells_of found)
       (asked_in cores input) (told_in r)
@@ -92,13 +85,10 @@ pub record Serves (old new : State) (found : ℕ → ℕ) (coming left : Option 
       → r.refusals.items ≡ []
 
 -- The headline, of a replay: one thread makes the moves of all cores, by the lines of the input.
-pub record Replays (old new : State) (found : ℕ → ℕ) (coming left : Option (List ℕ))
-    (source_faults source_faults' : ℕ) (cores : ℕ) (input : List ℕ) (before now : Option (List ℕ))
-    (flushed : Bool) (sink_faults sink_faults' : ℕ) (r : Report) : Type 0 where
-  pub serves : Serves old new found coming left source_faults source_faults' cores input before now
-      flushed sink_faults sink_faults' r
+pub record Replays (old new : State) (found : ℕ → ℕ) (source : SourceUse) (cores : ℕ)
+    (input : List ℕ) (sink : SinkUse) (r : Report) : Type 0 where
+  pub serves : Serves old new found source cores input sink r
   -- Where a call of the region failed, it came to its end all the same.
   pub ends : r.status ≡ statuses.RegionFault → r.complete ≡ true
   -- A report that says so did come to the end: then its answers and finishes are those of the last state of a run of the engine over the input's lines.
-  pub run : r.complete ≡ true → RanTo old new found cores input before now
-      (IsAllOut r.status sink_faults sink_faults') r
+  pub run : r.complete ≡ true → RanTo old new found cores input sink r

@@ -9,6 +9,7 @@ use Rattle.flatstore.specs.Attaching.{Attaches}
 use Rattle.flatstore.specs.declared.report.Status.{Status}
 use Rattle.flatstore.specs.declared.report.Status.TheVariants as statuses
 use Rattle.flatstore.specs.declared.report.Report.{Report}
+use Rattle.flatstore.specs.Ends.{SinkUse}
 use Rattle.flatstore.specs.Statuses.{fault_status}
 
 -- the status that the first broken rule alone decides
@@ -29,43 +30,42 @@ is_of_writing (statuses.NotARegion rule) = false
 is_of_writing statuses.Memory = false
 
 -- The sink took a text of this kind, or the beginning of one.
-abbrev pub WritesText : (List ℕ → Type 0) → Option (List ℕ) → Option (List ℕ) → Type 0
-WritesText IsText before now = (text : List ℕ) × IsText text × Takes before now text
+abbrev pub WritesText : (List ℕ → Type 0) → SinkUse → Type 0
+WritesText IsText sink = (text : List ℕ) × IsText text × Takes sink.before sink.now text
 
-abbrev pub BeginsText : (List ℕ → Type 0) → Option (List ℕ) → Option (List ℕ) → Type 0
-BeginsText IsText before now = (text : List ℕ) × IsText text × TakesPrefix before now text
+abbrev pub BeginsText : (List ℕ → Type 0) → SinkUse → Type 0
+BeginsText IsText sink = (text : List ℕ) × IsText text × TakesPrefix sink.before sink.now text
 
 -- the status that the words found decide, or want of memory, or, of a sound region, a write that failed
-abbrev pub IsDueOf : ℕ → (ℕ → ℕ) → ℕ → ℕ → Status → Type 0
-IsDueOf bytes found faults faults' status =
+abbrev pub IsDueOf : ℕ → (ℕ → ℕ) → SinkUse → Status → Type 0
+IsDueOf bytes found sink status =
     (status ≡ status_by (first_fault bytes found)) ⊎ ((status ≡ statuses.Memory)
-    ⊎ ((status ≡ statuses.SinkFault) × Rose faults faults' × IsSound bytes found))
+    ⊎ ((status ≡ statuses.SinkFault) × Rose sink.faults sink.faults' × IsSound bytes found))
 
--- Of the kind of its texts, a region before and after the call, the words that an attach finds, what the sink had taken
--- before and has taken now, whether that was flushed, its counts, and the report.
-pub record Shows (IsText : List ℕ → Type 0) (old new : State) (found : ℕ → ℕ)
-    (before now : Option (List ℕ))
-    (flushed : Bool) (sink_faults sink_faults' : ℕ) (r : Report) : Type 0 where
+-- Of the kind of its texts, a region before and after the call, the words that an attach finds, the sink and the report.
+pub record Shows (IsText : List ℕ → Type 0) (old new : State) (found : ℕ → ℕ) (sink : SinkUse)
+    (r : Report) : Type 0 where
   pub attaches : Attaches old new found r
   -- The words found decide on the status, but for want of memory and, of a sound region, a write that failed.
   pub due : r.attached ≡ true → IsTelling new
-      → IsDueOf new.frame.bytes found sink_faults sink_faults' r.status
+      → IsDueOf new.frame.bytes found sink r.status
   pub no_fault : r.attached ≡ true → r.status ≡ statuses.RegionFault → ⊥
   -- At the end the whole text was written and flushed, and else the beginning of it, where the writing began. It begins
   -- after the rules of the region.
-  pub done : r.status ≡ statuses.Done → WritesText IsText before now × (flushed ≡ true)
-  pub begins : r.complete ≡ true → BeginsText IsText before now
+  pub done : r.status ≡ statuses.Done → WritesText IsText sink × (sink.flushed ≡ true)
+  pub begins : r.complete ≡ true → BeginsText IsText sink
   pub sound : r.complete ≡ true → IsTelling new → IsSound new.frame.bytes found
   pub written : is_of_writing r.status ≡ true → r.complete ≡ true
   -- The region is as it was attached.
   pub untouched : r.attached ≡ true → Attached old new new.frame.bytes found
 
 -- what a writing of a text did, and its status
-abbrev pub HasShown : List ℕ → Option (List ℕ) → Option (List ℕ) → Bool → ℕ → ℕ → Status → Type 0
-HasShown text before now flushed faults faults' status =
-    ((status ≡ statuses.Done) × Takes before now text × (flushed ≡ true))
-    ⊎ (((status ≡ statuses.SinkFault) × Rose faults faults' × TakesPrefix before now text)
-    ⊎ ((status ≡ statuses.Memory) × TakesPrefix before now text))
+abbrev pub HasShown : List ℕ → SinkUse → Status → Type 0
+HasShown text sink status =
+    ((status ≡ statuses.Done) × Takes sink.before sink.now text × (sink.flushed ≡ true))
+    ⊎ (((status ≡ statuses.SinkFault) × Rose sink.faults sink.faults'
+    × TakesPrefix sink.before sink.now text)
+    ⊎ ((status ≡ statuses.Memory) × TakesPrefix sink.before sink.now text))
 
 -- why there is no text: a broken rule, or want of memory
 abbrev pub IsUnlisted : State → (ℕ → ℕ) → Status → Type 0

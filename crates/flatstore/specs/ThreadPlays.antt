@@ -1,11 +1,12 @@
 -- What a run on threads did between attaching and writing.
-use Rattle.std.specs.Prelude.{◌≡◌, ◌⊎◌, ℕ, ◌≤◌, List, Bool, true, false, Option}
+use Rattle.std.specs.Prelude.{◌≡◌, ◌⊎◌, ℕ, ◌≤◌, List, Bool, true, false}
 use Rattle.pm_region.specs.State.{State, Faulted, Rose}
 use Rattle.pm_region.specs.Split.{Stays}
 use Rattle.recover.specs.declared.types.Recovered.{Recovered}
 use Rattle.fs_text.specs.declared.line.Line.{Line}
 use Rattle.group_engine.specs.declared.run_outcome.Outcome.{Outcome}
 use Rattle.thread_engine.specs.RanApart.{RanApart}
+use Rattle.flatstore.specs.Ends.{SourceUse}
 use Rattle.flatstore.specs.Played.{IsReady, IsRefused}
 use Rattle.pm_region.specs.declared.split.AttachError.{AttachError}
 use Rattle.pm_region.specs.declared.split.AttachError.TheVariants as attach
@@ -16,19 +17,18 @@ use Rattle.flatstore.specs.declared.run_threads.NotRun.TheVariants.{Refused, Uns
 
 -- The input was read, and the cores ran over its requests, from the region's state s to t and to this outcome.
 pub record PlayedApart (s : State) (word : ℕ → ℕ) (refused : Bool) (t : State)
-    (coming left : Option (List ℕ)) (x : Outcome)
-    : Type 0 where
+    (source : SourceUse) (x : Outcome) : Type 0 where
   pub recovered : Recovered
   pub lines : List Line
-  pub ready : IsReady s word coming left recovered lines
+  pub ready : IsReady s word source recovered lines
   pub ran : RanApart s word refused recovered lines t x
 
 -- The region was ready for the run, and a split of it failed.
 pub record HasNotSplit (s : State) (word : ℕ → ℕ) (t : State)
-    (coming left : Option (List ℕ)) : Type 0 where
+    (source : SourceUse) : Type 0 where
   pub recovered : Recovered
   pub lines : List Line
-  pub ready : IsReady s word coming left recovered lines
+  pub ready : IsReady s word source recovered lines
   pub fault : Faulted s t
   pub refused : Rose s.frame.refusals t.frame.refusals
 
@@ -48,16 +48,14 @@ has_begun (Refused status) = false
 has_begun Unsplit = true
 
 -- Why no core ran: the work before the run was refused, there was no memory for the run, or the split failed.
-abbrev pub WhyNotRun : State → (ℕ → ℕ) → State → Option (List ℕ) → Option (List ℕ) → ℕ → ℕ → NotRun
-    → Type 0
-WhyNotRun s word t coming left source source' (Refused status) =
-    ((t ≡ s) × IsRefused s coming left source source' status) ⊎ (status ≡ statuses.Memory)
-WhyNotRun s word t coming left source source' Unsplit = HasNotSplit s word t coming left
+abbrev pub WhyNotRun : State → (ℕ → ℕ) → State → SourceUse → NotRun → Type 0
+WhyNotRun s word t source (Refused status) =
+    ((t ≡ s) × IsRefused s source status) ⊎ (status ≡ statuses.Memory)
+WhyNotRun s word t source Unsplit = HasNotSplit s word t source
 
 -- No core ran, and the region is as it was, but for its counts.
-pub record IsNotRun (s : State) (word : ℕ → ℕ) (t : State) (coming left : Option (List ℕ))
-    (source source' : ℕ) (why : NotRun)
-    : Type 0 where
+pub record IsNotRun (s : State) (word : ℕ → ℕ) (t : State) (source : SourceUse)
+    (why : NotRun) : Type 0 where
   pub stays : Stays s t
   pub later : s.faults ≤ t.faults
-  pub cause : WhyNotRun s word t coming left source source' why
+  pub cause : WhyNotRun s word t source why

@@ -16,18 +16,17 @@ use Rattle.group_engine.specs.Reports.{reply_in, finishes_in, refusals_in}
 use Rattle.thread_engine.specs.CoreRuns.{AllRan}
 use Rattle.thread_engine.specs.RanApart.{Rejoined, KeepsAnswers}
 use Rattle.flatstore.specs.Attaching.{GoesOnBy}
+use Rattle.flatstore.specs.Ends.{SourceUse, SinkUse, IsAllOut}
 use Rattle.flatstore.specs.LastStates.{told_in, Starts}
-use Rattle.flatstore.specs.Promise.{Serves, IsAllOut}
+use Rattle.flatstore.specs.Promise.{Serves}
 use Rattle.flatstore.specs.declared.report.Status.{Status}
 use Rattle.flatstore.specs.declared.report.Status.TheVariants as statuses
 use Rattle.flatstore.specs.declared.report.Report.{Report}
 
 -- Each core worked off the requests of its keys, from the region as it was attached with these words to an end, and this is
--- a report on the answers that the cores' workers gave. `refused` says whether the gate may hold a post back, and `AllOut`
--- holds where no write failed.
+-- a report on the answers that the cores' workers gave. `refused` says whether the gate may hold a post back.
 pub record RanOnThreads (old new : State) (found : ℕ → ℕ) (refused : Bool) (cores : ℕ)
-    (input : List ℕ)
-    (before now : Option (List ℕ)) (AllOut : Type 0) (r : Report) : Type 0 where
+    (input : List ℕ) (sink : SinkUse) (r : Report) : Type 0 where
   -- The region was attached, and then split and joined.
   pub from : GoesOnBy Rejoined old new new.frame.bytes found
   pub start : Starts from.at found cores
@@ -54,21 +53,18 @@ pub record RanOnThreads (old new : State) (found : ℕ → ℕ) (refused : Bool)
   pub finishes : r.finishes.items ≡ finishes_in 0 kept
   pub refusals : r.refusals.items ≡ refusals_in 0 kept
   pub told_is : told_in r ≡ told_of f
-  pub begins : TakesPrefix before now (replies_text (map reply_in kept))
-  pub writes : AllOut → Takes before now (replies_text (map reply_in kept))
+  pub begins : TakesPrefix sink.before sink.now (replies_text (map reply_in kept))
+  pub writes : IsAllOut r.status sink
+      → Takes sink.before sink.now (replies_text (map reply_in kept))
   -- Whatever a crash leaves of a part now is licensed by its core's view in that state.
   pub licensed : IsTelling new → AllLicensed f.layout f.group (cell_now new)
 
 -- The headline, of a run: each core has a worker in a thread of its own.
-pub record RunsOnThreads (old new : State) (found : ℕ → ℕ) (coming left : Option (List ℕ))
-    (source_faults source_faults' : ℕ) (refused : Bool) (cores : ℕ) (input : List ℕ)
-    (before now : Option (List ℕ)) (flushed : Bool) (sink_faults sink_faults' : ℕ)
-    (r : Report) : Type 0 where
-  pub serves : Serves old new found coming left source_faults source_faults' cores input before now
-      flushed sink_faults sink_faults' r
+pub record RunsOnThreads (old new : State) (found : ℕ → ℕ) (source : SourceUse) (refused : Bool)
+    (cores : ℕ) (input : List ℕ) (sink : SinkUse) (r : Report) : Type 0 where
+  pub serves : Serves old new found source cores input sink r
   -- A call of the region that failed kept it from its end only where that was the split: then it is as it was attached.
   pub unsplit : r.status ≡ statuses.RegionFault → r.complete ≡ false
       → Attached old new new.frame.bytes found × Rose old.frame.refusals new.frame.refusals
   -- A report that says so did come to the end.
-  pub run : r.complete ≡ true → RanOnThreads old new found refused cores input before now
-      (IsAllOut r.status sink_faults sink_faults') r
+  pub run : r.complete ≡ true → RanOnThreads old new found refused cores input sink r

@@ -1,8 +1,8 @@
 // What the program does in its own thread: all of it but a run on threads.
 ghost use Rattle.std.specs.Prelude.{◌≡◌, ◌⊎◌, ℕ, ◌≤◌, List, Some, None, true, false, OnOk, OnErr, IfOk};
-ghost use Rattle.pm_region.specs.State.{State, IsTelling, Faulted, Rose};
 ghost use Rattle.pm_region.specs.Split.{Attached};
 ghost use Rattle.chunk_map.specs.declared.layouts.Geometry.{Geometry};
+ghost use Rattle.flatstore.specs.Ends.{CountsFaults, sink_use, source_use};
 ghost use Rattle.flatstore.specs.Commands.{alone_form_of, words_of};
 ghost use Rattle.flatstore.specs.Commands.Form.{Format, Replay, Dump, Log};
 ghost use Rattle.flatstore.specs.Dumps.{Dumps};
@@ -52,15 +52,13 @@ pub fn flatstore_alone<T: Threads, S: Source, O: Sink, R: SplitRegion + ReadRegi
     // What is dumped are the cells that the words of the region recover.
     ensures dump { (path : List ℕ) → alone_form_of (words_of words.now.items) ≡ Some (Dump path)
         → Dumps (R.state region.old) (R.state region.new) (R.found region.old)
-        (O.taken sink.old) (O.taken sink.new) (O.flushed sink.new)
-        (O.fault_count sink.old) (O.fault_count sink.new) result
+        (sink_use O.taken O.flushed O.fault_count sink.old sink.new) result
         × (source.new ≡ source.old) }
 
     // What is logged are the entries that the words of the region spell.
     ensures log { (path : List ℕ) → alone_form_of (words_of words.now.items) ≡ Some (Log path)
         → Logs (R.state region.old) (R.state region.new) (R.found region.old)
-        (O.taken sink.old) (O.taken sink.new) (O.flushed sink.new)
-        (O.fault_count sink.old) (O.fault_count sink.new) result
+        (sink_use O.taken O.flushed O.fault_count sink.old sink.new) result
         × (source.new ≡ source.old) }
 
     // The headline.
@@ -71,18 +69,13 @@ pub fn flatstore_alone<T: Threads, S: Source, O: Sink, R: SplitRegion + ReadRegi
         → result.attached ≡ true
         → (input : List ℕ) × (cores : ℕ) × IsInput (S.coming source.old) input
         × Replays (R.state region.old) (R.state region.new) (R.found region.old)
-        (S.coming source.old) (S.coming source.new)
-        (S.fault_count source.old) (S.fault_count source.new) cores input
-        (O.taken sink.old) (O.taken sink.new) (O.flushed sink.new)
-        (O.fault_count sink.old) (O.fault_count sink.new) result }
+        (source_use S.coming S.fault_count source.old source.new) cores input
+        (sink_use O.taken O.flushed O.fault_count sink.old sink.new) result }
 
     // A fault comes only where its count rose.
-    ensures source_fault { result.status ≡ statuses.SourceFault
-        → Rose (S.fault_count source.old) (S.fault_count source.new) }
-    ensures sink_fault { result.status ≡ statuses.SinkFault
-        → Rose (O.fault_count sink.old) (O.fault_count sink.new) }
-    ensures region_fault { result.status ≡ statuses.RegionFault
-        → Faulted (R.state region.old) (R.state region.new) }
+    ensures faults { CountsFaults (R.state region.old) (R.state region.new)
+        (source_use S.coming S.fault_count source.old source.new)
+        (sink_use O.taken O.flushed O.fault_count sink.old sink.new) result.status }
 
     // Nothing is written where the run didn't come to its end.
     ensures incomplete { result.complete ≡ false → sink.new ≡ sink.old }

@@ -7,6 +7,7 @@ ghost use Rattle.store_image.specs.Listing.{ListsCells};
 ghost use Rattle.store_image.specs.Soundness.{IsSound};
 ghost use Rattle.headline.specs.Headline.{cells_of};
 ghost use Rattle.fs_text.specs.Output.{pairs_text};
+ghost use Rattle.flatstore.specs.Ends.{sink_use};
 ghost use Rattle.flatstore.specs.Dumps.{Dumps};
 ghost use Rattle.flatstore.specs.Shows.{HasShown, IsUnlisted};
 ghost use Rattle.flatstore.specs.Ordering.{is_quiet};
@@ -37,8 +38,8 @@ fn live_pairs<R: SplitRegion>(alloc: Global, region: &R) -> Result<Vec<Pair>, St
 
 /// Writes the pairs, and reports.
 fn write_dump<O: Sink>(alloc: Global, sink: &mut O, pairs: &[Pair]) -> Report
-    ensures written { HasShown (pairs_text pairs.now) (O.taken sink.old) (O.taken sink.new)
-        (O.flushed sink.new) (O.fault_count sink.old) (O.fault_count sink.new) result.status }
+    ensures written { HasShown (pairs_text pairs.now)
+        (sink_use O.taken O.flushed O.fault_count sink.old sink.new) result.status }
     ensures attached { result.attached ≡ true }
     ensures complete { result.complete ≡ true }
 {
@@ -61,8 +62,7 @@ fn write_dump<O: Sink>(alloc: Global, sink: &mut O, pairs: &[Pair]) -> Report
 /// has none.
 pub fn dump_region<O: Sink, R: SplitRegion>(alloc: Global, sink: &mut O, region: &mut R) -> Report
     ensures promise { Dumps (R.state region.old) (R.state region.new) (R.found region.old)
-        (O.taken sink.old) (O.taken sink.new) (O.flushed sink.new)
-        (O.fault_count sink.old) (O.fault_count sink.new) result }
+        (sink_use O.taken O.flushed O.fault_count sink.old sink.new) result }
     ensures no_usage { result.status ≡ statuses.Usage → ⊥ }
     ensures no_source_fault { result.status ≡ statuses.SourceFault → ⊥ }
     ensures sink_fault { result.status ≡ statuses.SinkFault

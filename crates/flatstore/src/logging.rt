@@ -7,6 +7,7 @@ ghost use Rattle.chunk_map.specs.Layouts.{layout_of};
 ghost use Rattle.store_image.specs.Parts.{all_entries};
 ghost use Rattle.store_image.specs.Soundness.{IsSound};
 ghost use Rattle.fs_text.specs.Output.{entries_text};
+ghost use Rattle.flatstore.specs.Ends.{sink_use};
 ghost use Rattle.flatstore.specs.Shows.{HasShown, IsUnlisted};
 ghost use Rattle.flatstore.specs.Logs.{Logs};
 ghost use Rattle.flatstore.specs.Ordering.{is_quiet};
@@ -38,8 +39,8 @@ fn placed_entries<R: SplitRegion>(alloc: Global, region: &R) -> Result<Vec<Place
 
 /// Writes the entries, and reports.
 fn write_log<O: Sink>(alloc: Global, sink: &mut O, entries: &[PlacedEntry]) -> Report
-    ensures written { HasShown (entries_text entries.now) (O.taken sink.old) (O.taken sink.new)
-        (O.flushed sink.new) (O.fault_count sink.old) (O.fault_count sink.new) result.status }
+    ensures written { HasShown (entries_text entries.now)
+        (sink_use O.taken O.flushed O.fault_count sink.old sink.new) result.status }
     ensures attached { result.attached ≡ true }
     ensures complete { result.complete ≡ true }
 {
@@ -62,8 +63,7 @@ fn write_log<O: Sink>(alloc: Global, sink: &mut O, entries: &[PlacedEntry]) -> R
 /// there: superseded ones and copies too. A region that breaks a rule has none.
 pub fn log_region<O: Sink, R: SplitRegion>(alloc: Global, sink: &mut O, region: &mut R) -> Report
     ensures promise { Logs (R.state region.old) (R.state region.new) (R.found region.old)
-        (O.taken sink.old) (O.taken sink.new) (O.flushed sink.new)
-        (O.fault_count sink.old) (O.fault_count sink.new) result }
+        (sink_use O.taken O.flushed O.fault_count sink.old sink.new) result }
     ensures no_usage { result.status ≡ statuses.Usage → ⊥ }
     ensures no_source_fault { result.status ≡ statuses.SourceFault → ⊥ }
     ensures sink_fault { result.status ≡ statuses.SinkFault

@@ -1,7 +1,7 @@
 // The lines of the input are run on the region.
 ghost use Rattle.std.specs.Prelude.{◌≡◌, ◌⊎◌, ℕ, ◌≤◌, List, Some, None, true, false, OnOk, OnErr, IfOk};
-ghost use Rattle.pm_region.specs.State.{State, IsTelling, Faulted, Rose};
 ghost use Rattle.pm_region.specs.Split.{Attached};
+ghost use Rattle.flatstore.specs.Ends.{CountsFaults, sink_use, source_use};
 ghost use Rattle.flatstore.specs.Attaching.{Attaches};
 ghost use Rattle.flatstore.specs.Ordering.{is_of_region, is_quiet};
 ghost use Rattle.flatstore.specs.Promise.{IsInput, Replays};
@@ -28,16 +28,11 @@ pub fn replay_region<S: Source, O: Sink, R: SplitRegion + ReadRegion>(
     ensures replay { result.attached ≡ true
         → (input : List ℕ) × (cores : ℕ) × IsInput (S.coming source.old) input
         × Replays (R.state region.old) (R.state region.new) (R.found region.old)
-        (S.coming source.old) (S.coming source.new)
-        (S.fault_count source.old) (S.fault_count source.new) cores input
-        (O.taken sink.old) (O.taken sink.new) (O.flushed sink.new)
-        (O.fault_count sink.old) (O.fault_count sink.new) result }
-    ensures source_fault { result.status ≡ statuses.SourceFault
-        → Rose (S.fault_count source.old) (S.fault_count source.new) }
-    ensures sink_fault { result.status ≡ statuses.SinkFault
-        → Rose (O.fault_count sink.old) (O.fault_count sink.new) }
-    ensures region_fault { result.status ≡ statuses.RegionFault
-        → Faulted (R.state region.old) (R.state region.new) }
+        (source_use S.coming S.fault_count source.old source.new) cores input
+        (sink_use O.taken O.flushed O.fault_count sink.old sink.new) result }
+    ensures faults { CountsFaults (R.state region.old) (R.state region.new)
+        (source_use S.coming S.fault_count source.old source.new)
+        (sink_use O.taken O.flushed O.fault_count sink.old sink.new) result.status }
     ensures no_usage { result.status ≡ statuses.Usage → ⊥ }
 
     // Nothing is written where the run didn't come to its end.

@@ -1,11 +1,11 @@
 // A replay: the input is read, and its lines are run by the engine.
 ghost use Rattle.std.specs.Prelude.{◌≡◌, ◌⊎◌, ℕ, ◌≤◌, List, Some, None, true, false, OnErr, IfOk, IfErr};
 ghost use Rattle.pm_region.specs.Cell.{certain};
-ghost use Rattle.pm_region.specs.State.{State, IsTelling, InRange, cell_now, Rose};
 ghost use Rattle.pm_region.specs.Words.{lasts};
 ghost use Rattle.pm_region.specs.Split.{words_in};
 ghost use Rattle.group_engine.specs.Replayed.{StandsAsFound};
 ghost use Rattle.fs_text.specs.Bounds.{IsWithin};
+ghost use Rattle.flatstore.specs.Ends.{sink_use, source_use};
 ghost use Rattle.flatstore.specs.Reads.{IsRead, IsUnread, unread_as};
 ghost use Rattle.flatstore.specs.Played.{StandsWhole, IsReady, Played, IsUnserved, IsRefused, HasWritten, is_ended, ended_as};
 ghost use Rattle.flatstore.specs.Ordering.{is_of_region};
@@ -30,11 +30,11 @@ fn unread(error: InputError) -> Status
 
 /// Reads the input to its end, and gives its lines, to a region of so many cores.
 fn read<S: Source>(alloc: Global, source: &mut S, cores: u32) -> Result<Input, Status>
-    ensures ok { IfOk result (λ input.
-        IsRead (S.coming source.old) (S.coming source.new) cores input) }
+    ensures ok { IfOk result (IsRead (source_use S.coming S.fault_count source.old source.new)
+        cores) }
     ensures within { IfOk result (λ input. IsWithin cores input) }
-    ensures err { IfErr result (IsUnread (S.coming source.old) (S.coming source.new) cores
-        (S.fault_count source.old) (S.fault_count source.new)) }
+    ensures err { IfErr result (IsUnread (source_use S.coming S.fault_count source.old source.new)
+        cores) }
 {
     match read_input(alloc, source, cores) {
         Ok(input) => Ok(input),
@@ -64,10 +64,9 @@ pub fn prepared<S: Source, R: SplitRegion + ReadRegion>(
 ) -> Result<(Recovered, Input), Status>
     requires whole { StandsWhole (R.state region.now) }
     ensures ready { IfOk result (λ x. IsReady (R.state region.now) (R.word region.now)
-        (S.coming source.old) (S.coming source.new) x.0 x.1) }
+        (source_use S.coming S.fault_count source.old source.new) x.0 x.1) }
     ensures refused { IfErr result (IsRefused (R.state region.now)
-        (S.coming source.old) (S.coming source.new)
-        (S.fault_count source.old) (S.fault_count source.new)) }
+        (source_use S.coming S.fault_count source.old source.new)) }
     // A region that breaks a rule goes before the source.
     ensures unread { IfErr result (λ status. is_of_region status ≡ true → source.new ≡ source.old) }
 {
@@ -91,10 +90,9 @@ pub fn replay<S: Source, R: SplitRegion + ReadRegion>(
     requires whole { StandsWhole (R.state region.old) }
     ensures played { IfOk result (Played (R.state region.old) (R.word region.old)
         (R.state region.new)
-        (S.coming source.old) (S.coming source.new)) }
+        (source_use S.coming S.fault_count source.old source.new)) }
     ensures refused { IfErr result (IsRefused (R.state region.old)
-        (S.coming source.old) (S.coming source.new)
-        (S.fault_count source.old) (S.fault_count source.new)) }
+        (source_use S.coming S.fault_count source.old source.new)) }
     ensures untouched { OnErr result (region.new ≡ region.old) }
     // A region that breaks a rule goes before the source.
     ensures unread { IfErr result (λ status. is_of_region status ≡ true → source.new ≡ source.old) }
@@ -139,8 +137,8 @@ pub fn write_outcome<O: Sink>(alloc: Global, sink: &mut O, outcome: Outcome) -> 
     ensures attached { result.attached ≡ true }
     ensures began { result.began ≡ true }
     ensures complete { result.complete ≡ is_ended outcome.end }
-    ensures written { HasWritten outcome (O.taken sink.old) (O.taken sink.new) (O.flushed sink.new)
-        (O.fault_count sink.old) (O.fault_count sink.new) result.status }
+    ensures written { HasWritten outcome
+        (sink_use O.taken O.flushed O.fault_count sink.old sink.new) result.status }
     ensures untouched { result.complete ≡ false → sink.new ≡ sink.old }
 {
     let complete = is_ended(outcome.end);

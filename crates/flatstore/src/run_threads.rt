@@ -1,7 +1,7 @@
 // A run on threads: each core of the region has a worker in a thread of its own.
 ghost use Rattle.std.specs.Prelude.{◌≡◌, ◌⊎◌, ℕ, ◌≤◌, [], List, Some, None, true, false, OnOk, OnErr, IfOk, IfErr};
-ghost use Rattle.pm_region.specs.State.{State, IsTelling, Faulted, Rose};
 ghost use Rattle.pm_region.specs.Split.{Attached, IsNotOpened};
+ghost use Rattle.flatstore.specs.Ends.{CountsFaults, sink_use, source_use};
 ghost use Rattle.flatstore.specs.Attaching.{AttachesToSplit};
 ghost use Rattle.flatstore.specs.Ordering.{is_of_region, is_quiet};
 ghost use Rattle.flatstore.specs.Played.{StandsWhole};
@@ -82,11 +82,11 @@ fn run_cores<T: Threads + Wait + Sync, S: Source, R: SplitRegion + ReadRegion, G
     requires whole { StandsWhole (R.state region.old) }
     ensures played { IfOk result (PlayedApart (R.state region.old) (R.word region.old)
         (G.may_refuse gate.now)
-        (R.state region.new) (S.coming source.old) (S.coming source.new)) }
+        (R.state region.new)
+        (source_use S.coming S.fault_count source.old source.new)) }
     ensures refused { IfErr result (IsNotRun (R.state region.old) (R.word region.old)
         (R.state region.new)
-        (S.coming source.old) (S.coming source.new)
-        (S.fault_count source.old) (S.fault_count source.new)) }
+        (source_use S.coming S.fault_count source.old source.new)) }
     ensures opens { IsNotOpened (R.state region.old) (R.state region.new) }
     // A region that breaks a rule goes before the source.
     ensures unread { IfErr result (λ why. is_of_region (status_for why) ≡ true
@@ -112,17 +112,12 @@ pub fn run_region<
     ensures run { result.attached ≡ true → (input : List ℕ) × (cores : ℕ)
         × IsInput (S.coming source.old) input
         × RunsOnThreads (R.state region.old) (R.state region.new) (R.found region.old)
-        (S.coming source.old) (S.coming source.new)
-        (S.fault_count source.old) (S.fault_count source.new)
+        (source_use S.coming S.fault_count source.old source.new)
         (G.may_refuse gate.now) cores input
-        (O.taken sink.old) (O.taken sink.new) (O.flushed sink.new)
-        (O.fault_count sink.old) (O.fault_count sink.new) result }
-    ensures source_fault { result.status ≡ statuses.SourceFault
-        → Rose (S.fault_count source.old) (S.fault_count source.new) }
-    ensures sink_fault { result.status ≡ statuses.SinkFault
-        → Rose (O.fault_count sink.old) (O.fault_count sink.new) }
-    ensures region_fault { result.status ≡ statuses.RegionFault
-        → Faulted (R.state region.old) (R.state region.new) }
+        (sink_use O.taken O.flushed O.fault_count sink.old sink.new) result }
+    ensures faults { CountsFaults (R.state region.old) (R.state region.new)
+        (source_use S.coming S.fault_count source.old source.new)
+        (sink_use O.taken O.flushed O.fault_count sink.old sink.new) result.status }
     ensures no_usage { result.status ≡ statuses.Usage → ⊥ }
 
     // Nothing is written where the run didn't come to its end.

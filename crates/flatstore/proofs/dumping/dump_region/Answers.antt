@@ -4,6 +4,7 @@ use Rattle.pm_region.specs.State.{IsTelling}
 use Rattle.fs_model.specs.declared.model.Pair.{Pair}
 use Rattle.fs_text.specs.Output.{pairs_text}
 use Rattle.flatstore.specs.Dumps.{IsDumpText}
+use Rattle.flatstore.specs.Ends.{sink_use}
 use Rattle.flatstore.specs.Shows.{HasShown}
 use Rattle.flatstore.proofs.Listed.{pairs_found}
 use Rattle.flatstore.proofs.Shown.{shows_none, shows_text}
@@ -15,8 +16,8 @@ returns-in-Err-clause-promise g c =
     let old = g.R.Region.state c.args.region.now in
     let at = g.R.Region.state c.attach.new.self in
     let found = g.R.SplitRegion.found c.args.region.now in
-    shows_none (IsDumpText (IsTelling at) found) old at found c.in-Ok.ensures.ok (g.O.Sink.taken c.args.sink.now)
-    (g.O.Sink.flushed c.args.sink.now) (g.O.Sink.fault_count c.args.sink.now) c.in-Err.status c.in-Err.ensures.err c.of-in-Err.result c.of-in-Err.ensures.status c.of-in-Err.ensures.complete
+    shows_none (IsDumpText (IsTelling at) found) old at found c.in-Ok.ensures.ok (sink_use g.O.Sink.taken g.O.Sink.flushed g.O.Sink.fault_count c.args.sink.now c.args.sink.now)
+    c.in-Err.status c.in-Err.ensures.err c.of-in-Err.result c.of-in-Err.ensures.status c.of-in-Err.ensures.complete
     (attaches_once old at at found c.attach.result _ c.in-Ok.is c.attach.ensures.cause c.in-Ok.ensures.ok c.attach.ensures.opens (no_more at) c.of-in-Err.result c.of-in-Err.ensures.attached)
 
 pub returns-in-Ok-live_pairs-clause-promise : goal.returns-in-Ok-live_pairs-clause-promise
@@ -24,14 +25,10 @@ returns-in-Ok-live_pairs-clause-promise g c =
     let old = g.R.Region.state c.args.region.now in
     let at = g.R.Region.state c.attach.new.self in
     let found = g.R.SplitRegion.found c.args.region.now in
-    let before = g.O.Sink.taken c.args.sink.now in
-    let now = g.O.Sink.taken c.write_dump.new.sink in
-    let flushed = g.O.Sink.flushed c.write_dump.new.sink in
-    let count = g.O.Sink.fault_count c.args.sink.now in
-    let count' = g.O.Sink.fault_count c.write_dump.new.sink in
+    let sink = sink_use g.O.Sink.taken g.O.Sink.flushed g.O.Sink.fault_count c.args.sink.now c.write_dump.new.sink in
     let pairs = c.in-Ok-live_pairs.pairs.items in
-    shows_text (IsDumpText (IsTelling at) found) old at found c.in-Ok.ensures.ok before (pairs_text pairs)
+    shows_text (IsDumpText (IsTelling at) found) old at found c.in-Ok.ensures.ok sink (pairs_text pairs)
     (pairs, (λ telling. let listed = c.in-Ok-live_pairs.ensures.ok telling in pairs_found old at found c.in-Ok.ensures.ok telling listed.0 pairs listed.1), refl)
-    (λ telling. (c.in-Ok-live_pairs.ensures.ok telling).0) now flushed count count' c.write_dump.result
-    (subst (λ (ps : List Pair). HasShown (pairs_text ps) before now flushed count count' c.write_dump.result.status) c.deref.ensures.value c.write_dump.ensures.written) c.write_dump.ensures.complete
+    (λ telling. (c.in-Ok-live_pairs.ensures.ok telling).0) c.write_dump.result
+    (subst (λ (ps : List Pair). HasShown (pairs_text ps) sink c.write_dump.result.status) c.deref.ensures.value c.write_dump.ensures.written) c.write_dump.ensures.complete
     (attaches_once old at at found c.attach.result _ c.in-Ok.is c.attach.ensures.cause c.in-Ok.ensures.ok c.attach.ensures.opens (no_more at) c.write_dump.result c.write_dump.ensures.attached)

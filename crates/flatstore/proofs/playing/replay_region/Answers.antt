@@ -1,6 +1,7 @@
 -- The promise, where the lines were run and where nothing was read.
-use Rattle.std.proofs.Common.{List, ℕ, sym, ap, subst}
+use Rattle.std.proofs.Common.{List, ℕ, refl, sym, ap, subst}
 use Rattle.flatstore.specs.Attaching.{Runs}
+use Rattle.flatstore.specs.Ends.{sink_use, source_use}
 use Rattle.flatstore.specs.Promise.{IsInput, Replays}
 use Rattle.flatstore.proofs.Opened.{granted_by, attaches_once, no_more}
 use Rattle.flatstore.proofs.Replaying.{promise, onward}
@@ -24,29 +25,23 @@ returns-in-Ok-replay-clause-attaches g c =
     let granted = granted_by old at c.attach.result _ c.in-Ok.is c.attach.ensures.cause in
     attaches_once old at now found c.attach.result _ c.in-Ok.is c.attach.ensures.cause c.in-Ok.ensures.ok c.attach.ensures.opens
     (onward old at now found (g.R.ReadRegion.word c.attach.new.self) c.in-Ok.ensures.ok c.attach.ensures.opens granted c.attach.ensures.cause.later
-    (g.S.Source.coming c.args.source.now) (g.S.Source.coming c.replay.new.source) c.in-Ok-replay.outcome c.in-Ok-replay.ensures.played)
+    (source_use g.S.Source.coming g.S.Source.fault_count c.args.source.now c.replay.new.source) c.in-Ok-replay.outcome c.in-Ok-replay.ensures.played)
     c.write_outcome.result c.write_outcome.ensures.attached
 
 pub returns-in-Err-clause-replay : goal.returns-in-Err-clause-replay
 returns-in-Err-clause-replay g c = λ attached.
     let old = g.R.Region.state c.args.region.now in
     let found = g.R.SplitRegion.found c.args.region.now in
-    let coming = g.S.Source.coming c.args.source.now in
-    let left = g.S.Source.coming c.replay.new.source in
-    let count = g.S.Source.fault_count c.args.source.now in
-    let count' = g.S.Source.fault_count c.replay.new.source in
-    let text = g.O.Sink.taken c.args.sink.now in
-    let flushed = g.O.Sink.flushed c.args.sink.now in
-    let sink = g.O.Sink.fault_count c.args.sink.now in
-    subst (λ s. (input : List ℕ) × (cores : ℕ) × IsInput coming input × Replays old s found coming left count count' cores input text text flushed sink sink c.of-in-Err.result) (ap g.R.Region.state (sym c.in-Err.ensures.untouched))
-    (refused_replays old (g.R.Region.state c.attach.new.self) found c.in-Ok.ensures.ok coming left count count' c.in-Err.status c.in-Err.ensures.refused
-    c.of-in-Err.result c.of-in-Err.ensures.status c.of-in-Err.ensures.finishes c.of-in-Err.ensures.refusals c.of-in-Err.ensures.began c.of-in-Err.ensures.complete text flushed sink)
+    let source = source_use g.S.Source.coming g.S.Source.fault_count c.args.source.now c.replay.new.source in
+    let sink = sink_use g.O.Sink.taken g.O.Sink.flushed g.O.Sink.fault_count c.args.sink.now c.args.sink.now in
+    subst (λ s. (input : List ℕ) × (cores : ℕ) × IsInput source.coming input × Replays old s found source cores input sink c.of-in-Err.result) (ap g.R.Region.state (sym c.in-Err.ensures.untouched))
+    (refused_replays old (g.R.Region.state c.attach.new.self) found c.in-Ok.ensures.ok source c.in-Err.status c.in-Err.ensures.refused
+    c.of-in-Err.result c.of-in-Err.ensures.status c.of-in-Err.ensures.finishes c.of-in-Err.ensures.refusals c.of-in-Err.ensures.began c.of-in-Err.ensures.complete sink refl)
 
 pub returns-in-Ok-replay-clause-replay : goal.returns-in-Ok-replay-clause-replay
 returns-in-Ok-replay-clause-replay g c = λ attached.
     promise (g.R.Region.state c.args.region.now) (g.R.Region.state c.attach.new.self) (g.R.Region.state c.replay.new.region) (g.R.SplitRegion.found c.args.region.now) (g.R.ReadRegion.word c.attach.new.self) c.in-Ok.ensures.ok
     c.attach.ensures.opens (granted_by (g.R.Region.state c.args.region.now) (g.R.Region.state c.attach.new.self) c.attach.result _ c.in-Ok.is c.attach.ensures.cause) c.attach.ensures.cause.later
-    (g.S.Source.coming c.args.source.now) (g.S.Source.coming c.replay.new.source) c.in-Ok-replay.outcome c.in-Ok-replay.ensures.played
-    (g.O.Sink.taken c.args.sink.now) (g.O.Sink.taken c.write_outcome.new.sink) (g.O.Sink.flushed c.write_outcome.new.sink) (g.O.Sink.fault_count c.args.sink.now) (g.O.Sink.fault_count c.write_outcome.new.sink)
+    (source_use g.S.Source.coming g.S.Source.fault_count c.args.source.now c.replay.new.source) c.in-Ok-replay.outcome c.in-Ok-replay.ensures.played
+    (sink_use g.O.Sink.taken g.O.Sink.flushed g.O.Sink.fault_count c.args.sink.now c.write_outcome.new.sink)
     c.write_outcome.result c.write_outcome.ensures.written c.write_outcome.ensures.finishes c.write_outcome.ensures.refusals c.write_outcome.ensures.began c.write_outcome.ensures.complete
-    (g.S.Source.fault_count c.args.source.now) (g.S.Source.fault_count c.replay.new.source)

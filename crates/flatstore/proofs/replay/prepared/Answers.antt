@@ -1,6 +1,7 @@
 -- A region that is recovered, and lines that were read for so many cores.
 use Rattle.std.proofs.Common.{◌≡◌, Bool, true, false, inr, sym, ◌∙◌, subst}
 use Rattle.fs_text.specs.Bounds.{IsWithin}
+use Rattle.flatstore.specs.Ends.{source_use}
 use Rattle.flatstore.specs.Ordering.{is_of_region}
 use Rattle.flatstore.specs.Reads.{IsRead}
 use Rattle.flatstore.proofs.Refused.{unread_apart}
@@ -10,7 +11,7 @@ use Rattle.flatstore.proofs.replay.prepared.Goals as goal
 pub returns-in-Ok-read-clause-ready : goal.returns-in-Ok-read-clause-ready
 returns-in-Ok-read-clause-ready g c = record {
   stands = c.in-Ok.ensures.ok;
-  read = subst (λ n. IsRead (g.S.Source.coming c.args.source.now) (g.S.Source.coming c.read.new.source) n c.in-Ok-read.input) c.cores.ensures c.in-Ok-read.ensures.ok;
+  read = subst (λ n. IsRead (source_use g.S.Source.coming g.S.Source.fault_count c.args.source.now c.read.new.source) n c.in-Ok-read.input) c.cores.ensures c.in-Ok-read.ensures.ok;
   within = subst (λ n. IsWithin n c.in-Ok-read.input) c.cores.ensures c.in-Ok-read.ensures.within;
 }
 
@@ -22,7 +23,7 @@ returns-in-Err-read-clause-refused g c =
 
 pub returns-in-Err-read-clause-unread : goal.returns-in-Err-read-clause-unread
 returns-in-Err-read-clause-unread g c = λ broken. both (is_of_region c.in-Err-read.status) broken
-    (unread_apart (g.S.Source.coming c.args.source.now) (g.S.Source.coming c.read.new.source) c.cores.result (g.S.Source.fault_count c.args.source.now) (g.S.Source.fault_count c.read.new.source) c.in-Err-read.status c.in-Err-read.ensures.err)
+    (unread_apart (source_use g.S.Source.coming g.S.Source.fault_count c.args.source.now c.read.new.source) c.cores.result c.in-Err-read.status c.in-Err-read.ensures.err)
   where
     both : (b : Bool) {P : Type 0} → b ≡ true → b ≡ false → P
     both b t f = cc (sym t ∙ f)

@@ -1,10 +1,11 @@
 -- The split failed, or there was no memory for the run.
+use Rattle.flatstore.specs.Ends.{source_use}
 use Rattle.flatstore.proofs.ThreadRunning.{split_refused}
 use Rattle.flatstore.proofs.run_threads.run_cores.Goals as goal
 
 pub returns-in_err-run-clause-refused : goal.returns-in_err-run-clause-refused
 returns-in_err-run-clause-refused g c =
     split_refused (g.R.Region.state c.args.region.now) (g.R.Region.state c.run.new.region) (g.R.ReadRegion.word c.args.region.now) c.in_err-run.ensures.stays
-    (g.S.Source.coming c.args.source.now) (g.S.Source.coming c.prepared.new.source) (g.S.Source.fault_count c.args.source.now) (g.S.Source.fault_count c.prepared.new.source)
+    (source_use g.S.Source.coming g.S.Source.fault_count c.args.source.now c.prepared.new.source)
     c.run.result c.run.ensures.cause c.in_ok-recovered.recovered c.in_ok-recovered.input c.in_ok-recovered.ensures.ready
     c.in_err-run.field-0.0 c.in_err-run.was c.from_residual-in_err-run.result c.from_residual-in_err-run.ensures.1

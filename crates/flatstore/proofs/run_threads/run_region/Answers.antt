@@ -1,4 +1,6 @@
 -- The promise, where the cores ran and where none did.
+use Rattle.std.proofs.Common.{refl}
+use Rattle.flatstore.specs.Ends.{sink_use, source_use}
 use Rattle.flatstore.proofs.Opened.{granted_by}
 use Rattle.flatstore.proofs.ThreadRunning.{ran_on, not_run}
 use Rattle.flatstore.proofs.run_threads.run_region.Goals as goal
@@ -9,9 +11,9 @@ returns-in-Err-clause-run g c = λ attached.
     let s = g.R.Region.state c.attach.new.self in
     not_run old s (g.R.Region.state c.run_cores.new.region) (g.R.SplitRegion.found c.args.region.now) (g.R.ReadRegion.word c.attach.new.self) c.in-Ok.ensures.ok
     (λ w telling. g.met.R.ReadRegion.tells c.attach.new.self w telling) c.attach.ensures.cause.later (granted_by old s c.attach.result _ c.in-Ok.is c.attach.ensures.cause)
-    (g.S.Source.coming c.args.source.now) (g.S.Source.coming c.run_cores.new.source) (g.S.Source.fault_count c.args.source.now) (g.S.Source.fault_count c.run_cores.new.source)
+    (source_use g.S.Source.coming g.S.Source.fault_count c.args.source.now c.run_cores.new.source)
     c.in-Err.why c.in-Err.ensures.refused c.report.result c.report.ensures.finishes c.report.ensures.refusals c.report.ensures.complete
-    (g.O.Sink.taken c.args.sink.now) (g.O.Sink.flushed c.args.sink.now) (g.O.Sink.fault_count c.args.sink.now) (g.G.Gate.may_refuse c.args.gate.now) c.report.ensures.status c.report.ensures.began
+    (sink_use g.O.Sink.taken g.O.Sink.flushed g.O.Sink.fault_count c.args.sink.now c.args.sink.now) refl (g.G.Gate.may_refuse c.args.gate.now) c.report.ensures.status c.report.ensures.began
 
 pub returns-in-Ok-run_cores-clause-run : goal.returns-in-Ok-run_cores-clause-run
 returns-in-Ok-run_cores-clause-run g c = λ attached.
@@ -19,7 +21,6 @@ returns-in-Ok-run_cores-clause-run g c = λ attached.
     let s = g.R.Region.state c.attach.new.self in
     ran_on old s (g.R.Region.state c.run_cores.new.region) (g.R.SplitRegion.found c.args.region.now) (g.R.ReadRegion.word c.attach.new.self) c.in-Ok.ensures.ok
     c.attach.ensures.opens (granted_by old s c.attach.result _ c.in-Ok.is c.attach.ensures.cause) c.attach.ensures.cause.later (g.G.Gate.may_refuse c.args.gate.now)
-    (g.S.Source.coming c.args.source.now) (g.S.Source.coming c.run_cores.new.source) c.in-Ok-run_cores.outcome c.in-Ok-run_cores.ensures.played
-    (g.O.Sink.taken c.args.sink.now) (g.O.Sink.taken c.write_outcome.new.sink) (g.O.Sink.flushed c.write_outcome.new.sink) (g.O.Sink.fault_count c.args.sink.now) (g.O.Sink.fault_count c.write_outcome.new.sink)
+    (source_use g.S.Source.coming g.S.Source.fault_count c.args.source.now c.run_cores.new.source) c.in-Ok-run_cores.outcome c.in-Ok-run_cores.ensures.played
+    (sink_use g.O.Sink.taken g.O.Sink.flushed g.O.Sink.fault_count c.args.sink.now c.write_outcome.new.sink)
     c.write_outcome.result c.write_outcome.ensures.written c.write_outcome.ensures.finishes c.write_outcome.ensures.refusals c.write_outcome.ensures.began c.write_outcome.ensures.complete
-    (g.S.Source.fault_count c.args.source.now) (g.S.Source.fault_count c.run_cores.new.source)
