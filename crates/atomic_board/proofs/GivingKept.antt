@@ -12,7 +12,7 @@ use Rattle.group_laws.specs.declared.types.SlotWord.TheVariants as words
 use Rattle.group_laws.specs.declared.types.Seen.TheVariants as loads
 use Rattle.group_laws.specs.Places.{owner}
 use Rattle.group_laws.specs.Updates.{put2, change, has}
-use Rattle.group_laws.specs.State.{Group, Notices, shown}
+use Rattle.group_laws.specs.State.{Group, Notices, word_shown}
 use Rattle.group_laws.specs.Steps.{CanFinish, CanGiveUp, CanWithdraw, marks, fails, finishes, gives_up, withdraws, retires}
 use Rattle.group_laws.specs.Tidying.{Tidied}
 use Rattle.group_laws.specs.Runs as runs
@@ -113,7 +113,7 @@ module _ (b : Origin) (s : TableState) (o : ShowsLawful b s) (m : ℕ) (q : Hold
       let seen = subst (λ (u : View). In (loads.Slot m t (words.Done h)) u.looked) (sym same) saw in
       let is = done_by (o.slot m t) h (o.reached.lawful.looks.done_seen m t h seen) in
       (is.0, record { slot = (near, less); own = (o.reached.lawful.slots.done_named m t h is.0 is.1).1; seen = seen; done = is.1 }) where
-        done_by : (x : Slot) (k : ℕ) → shown x ≡ words.Done k → (e : Entry) × (x ≡ Done e k)
+        done_by : (x : Slot) (k : ℕ) → word_shown x ≡ words.Done k → (e : Entry) × (x ≡ Done e k)
         done_by Empty k e = absurd (cc e)
         done_by (Posted f) k e = absurd (cc e)
         done_by Taken k e = absurd (cc e)
@@ -125,7 +125,7 @@ module _ (b : Origin) (s : TableState) (o : ShowsLawful b s) (m : ℕ) (q : Hold
       let seen = subst (λ (u : View). In (loads.Slot m t words.Failed) u.looked) (sym same) saw in
       let is = failed_by (o.slot m t) (o.reached.lawful.looks.failed_seen m t seen) in
       (is.0, record { slot = (near, less); own = (o.reached.lawful.slots.failed_named m t is.0 is.1).1; seen = seen; failed = is.1 }) where
-        failed_by : (x : Slot) → shown x ≡ words.Failed → (e : Entry) × (x ≡ Failed e)
+        failed_by : (x : Slot) → word_shown x ≡ words.Failed → (e : Entry) × (x ≡ Failed e)
         failed_by Empty e = absurd (cc e)
         failed_by (Posted f) e = absurd (cc e)
         failed_by Taken e = absurd (cc e)

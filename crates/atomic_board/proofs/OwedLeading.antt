@@ -13,7 +13,7 @@ use Rattle.group_laws.specs.declared.types.Slot.{Slot}
 use Rattle.group_laws.specs.declared.types.Slot.TheVariants.{Empty, Posted, Taken, Done, Failed}
 use Rattle.group_laws.specs.declared.types.SlotWord.TheVariants as words
 use Rattle.group_laws.specs.declared.types.Seen.TheVariants as loads
-use Rattle.group_laws.specs.State.{shown}
+use Rattle.group_laws.specs.State.{word_shown}
 use Rattle.crash_core.specs.declared.kinds.Change.{Change}
 use Rattle.group_laws.specs.MemberViews.{View}
 use Rattle.group_board.specs.Conditions.{IsFree, MayPost, MayLock, MayLook, MayTake, MayUnlock, MayCommit}
@@ -116,7 +116,7 @@ module _ (b : Origin) (k id m : ℕ) (q : Holding) (ds : List Deed) (c : List (�
           (low, (λ same. not_self b s o m q ds there here.1 h held may.not_held (omega arith)), (λ free. absurd (busy free)), λ i is. let z : h ≡ i = omega arith in ap (λ j. (Own m q b (Found (loads.Holder j) ∷ ds), c)) z),
         )
 
-  clear_home : (x : ℕ) (h : maybe.Option (maybe.Option (Option Parcel))) (g : Bool) (y : Slot) → IsSlot x h g y → IsClearWord (shown y)
+  clear_home : (x : ℕ) (h : maybe.Option (maybe.Option (Option Parcel))) (g : Bool) (y : Slot) → IsSlot x h g y → IsClearWord (word_shown y)
   clear_home x h g Empty t = tt
   clear_home x h g (Posted e) t = tt
   clear_home x h g Taken t = tt
@@ -125,17 +125,17 @@ module _ (b : Origin) (k id m : ℕ) (q : Holding) (ds : List Deed) (c : List (�
 
   look_allowed : (a t : ℕ) → MayLook (place_of b) m a t → Allows (ShowsLawful b) k id (Own m q b ds, c) (pool_word (size b) a t) (λ y. y) (tells_look (step k (pool_word (size b) a t) 0 0 none) (Own m q b ds, c))
   look_allowed a t may s o many at fits64 = let here = place b o.holder o.slot o.mail s o.fits id m q ds at in let slot = o.fits.pool a t may.target may.slot in (
-    Own m q b (Found (loads.Slot a t (shown (o.slot a t))) ∷ ds),
+    Own m q b (Found (loads.Slot a t (word_shown (o.slot a t))) ∷ ds),
     keeps,
     tt,
-    subst (λ j. ShowsLawful b (record { words = set s.words (pool_word (size b) a t) (get_or s.words (pool_word (size b) a t) 0); homes = s.homes; views = set s.views j (Own m q b (Found (loads.Slot a t (shown (o.slot a t))) ∷ ds)) })) (sym here.0)
+    subst (λ j. ShowsLawful b (record { words = set s.words (pool_word (size b) a t) (get_or s.words (pool_word (size b) a t) 0); homes = s.homes; views = set s.views j (Own m q b (Found (loads.Slot a t (word_shown (o.slot a t))) ∷ ds)) })) (sym here.0)
         (look_keeps b s o m q ds (ap (get_elem? s.views) (sym here.0) ∙ at) here.1 a t may.target may.slot),
     λ a' t' less is. let x : a ≡ a' = (let l = may.slot in omega arith) in let y : t ≡ t' = (let l = may.slot in omega arith) in
-        (shown (o.slot a t), slot.0, clear_home (get_or s.words (pool_word (size b) a t) 0) (get_elem? s.homes (pool_place a t)) (pose_at s.views a).settled (o.slot a t) slot, λ i. (Own m q b (Found (loads.Slot (x i) (y i) (shown (o.slot a t))) ∷ ds), c)),
+        (word_shown (o.slot a t), slot.0, clear_home (get_or s.words (pool_word (size b) a t) 0) (get_elem? s.homes (pool_place a t)) (pose_at s.views a).settled (o.slot a t) slot, λ i. (Own m q b (Found (loads.Slot (x i) (y i) (word_shown (o.slot a t))) ∷ ds), c)),
   )
 
-  words_same : (e f : Entry) (x : Slot) (n : ℕ) → x ≡ Posted e → shown x ≡ words.Posted n → length (words_of e) ≡ n
-  words_same e f x n is seen = let p : words.Posted (length (words_of e)) ≡ words.Posted n = sym (ap shown is) ∙ seen in cc p
+  words_same : (e f : Entry) (x : Slot) (n : ℕ) → x ≡ Posted e → word_shown x ≡ words.Posted n → length (words_of e) ≡ n
+  words_same e f x n is seen = let p : words.Posted (length (words_of e)) ≡ words.Posted n = sym (ap word_shown is) ∙ seen in cc p
 
   take_allowed : (a t : ℕ) → MayTake (place_of b) m (view_by b m ds) a t → Allows (ShowsLawful b) k id (Own m q b ds, c) (pool_word (size b) a t) (λ _. 2) (λ _. tells_take (step k (pool_word (size b) a t) 2 0 none) (Own m q b ds, c) 2)
   take_allowed a t may s o many at fits64 =

@@ -15,7 +15,7 @@ use Rattle.group_laws.specs.declared.types.SlotWord.TheVariants as words
 use Rattle.group_laws.specs.declared.types.Seen.TheVariants as loads
 use Rattle.group_laws.specs.Places.{Place, owner}
 use Rattle.group_laws.specs.Updates.{put2}
-use Rattle.group_laws.specs.State.{Group, Notices, shown}
+use Rattle.group_laws.specs.State.{Group, Notices, word_shown}
 use Rattle.group_laws.specs.Steps.{posts, locks, finds, takes, unlocks, commits, marks, fails, finishes, gives_up, withdraws, dooms}
 use Rattle.group_laws.specs.Runs as runs
 use Rattle.group_laws.specs.Invariant.{Lawful, PendsAt}
@@ -217,11 +217,11 @@ module _ (b : Origin) (s : TableState) (o : ShowsLawful b s) (m : ℕ) (q : Hold
       (step_reaches b w m runs.Kind.Unlock (unlocks w m) o.reached (record { member = near; holds = ap (λ (u : View). u.holds) known ∙ may.holds }, refl)))
 
   pub look_keeps : (a t : ℕ) → a < size b → t < 8
-      → ShowsLawful b (record { words = set s.words (pool_word (size b) a t) (get_or s.words (pool_word (size b) a t) 0); homes = s.homes; views = set s.views (suc m) (Own m q b (Found (loads.Slot a t (shown (o.slot a t))) ∷ ds)) })
+      → ShowsLawful b (record { words = set s.words (pool_word (size b) a t) (get_or s.words (pool_word (size b) a t) 0); homes = s.homes; views = set s.views (suc m) (Own m q b (Found (loads.Slot a t (word_shown (o.slot a t))) ∷ ds)) })
   look_keeps a t low less = let x : ℕ = get_or s.words (pool_word (size b) a t) 0 in
-      calm (Found (loads.Slot a t (shown (o.slot a t)))) (pool_word (size b) a t) x o.holder (λ c u. same_word (pool_word (size b) a t) (pool_word (size b) c u)) (λ c u. same_word (pool_word (size b) a t) (mail_word (size b) c u)) (same_word (pool_word (size b) a t) 0 ∙ o.fits.lock) o.fits.member
-      (subst (IsReached b) (sym (find_shows (place_of b) o.holder o.slot o.mail (views_of b s.views) m (loads.Slot a t (shown (o.slot a t)))))
-      (step_reaches b w m (runs.Kind.Look a t) (finds w m (loads.Slot a t (shown (o.slot a t)))) o.reached (near, (low, less), refl)))
+      calm (Found (loads.Slot a t (word_shown (o.slot a t)))) (pool_word (size b) a t) x o.holder (λ c u. same_word (pool_word (size b) a t) (pool_word (size b) c u)) (λ c u. same_word (pool_word (size b) a t) (mail_word (size b) c u)) (same_word (pool_word (size b) a t) 0 ∙ o.fits.lock) o.fits.member
+      (subst (IsReached b) (sym (find_shows (place_of b) o.holder o.slot o.mail (views_of b s.views) m (loads.Slot a t (word_shown (o.slot a t)))))
+      (step_reaches b w m (runs.Kind.Look a t) (finds w m (loads.Slot a t (word_shown (o.slot a t)))) o.reached (near, (low, less), refl)))
 
   pub home_set : (a t : ℕ) (x : maybe.Option (Option Parcel)) → a < size b → t < 8 → get_elem? (set s.homes (pool_place a t) x) (pool_place a t) ≡ some x
   home_set a t x low less = let many = o.fits.many in set_here s.homes (pool_place a t) x (let z : pool_place a t < length s.homes = omega (arith, many, low, less) in z)

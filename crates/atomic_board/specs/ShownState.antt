@@ -11,7 +11,7 @@ use Rattle.chunk_map.specs.declared.layout_sizes.TheConstants.{MOST_GROUP}
 use Rattle.group_laws.specs.declared.group_sizes.TheConstants.{SLOTS}
 use Rattle.group_laws.specs.declared.types.Slot.{Slot}
 use Rattle.group_laws.specs.declared.types.Slot.TheVariants.{Empty, Posted, Taken, Done, Failed}
-use Rattle.group_laws.specs.State.{Notices, shown}
+use Rattle.group_laws.specs.State.{Notices, word_shown}
 use Rattle.group_laws.specs.State.{Group}
 use Rattle.group_laws.specs.Invariant.{Lawful}
 use Rattle.group_laws.specs.Runs.{Kind, Runs}
@@ -109,7 +109,7 @@ IsBox x h k s r (Some n) = (x ≡ FULL_MAILBOX) × (grips r k ≡ false → (q :
 
 -- a slot's word and what lies in it
 abbrev pub IsSlot : ℕ → Home → Bool → Slot → Type 0
-IsSlot x h settled y = (x ≡ word_number (shown y)) × IsHome h settled y
+IsSlot x h settled y = (x ≡ word_number (word_shown y)) × IsHome h settled y
 
 pub record Fits (b : Origin) (holder : Option ℕ) (slot : ℕ → ℕ → Slot)
     (mail : ℕ → ℕ → Option Notices) (s : TableState) : Type 0 where

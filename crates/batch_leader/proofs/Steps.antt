@@ -5,7 +5,7 @@ use Rattle.log_entry.specs.Spelling.{words_of}
 use Rattle.core_log.specs.declared.types.Room.{Room}
 use Rattle.group_laws.specs.declared.types.Slot.{Slot}
 use Rattle.group_laws.specs.Places.{Place}
-use Rattle.group_laws.specs.State.{Group, shown}
+use Rattle.group_laws.specs.State.{Group, word_shown}
 use Rattle.group_laws.specs.Runs.{Kind, Runs}
 use Rattle.group_laws.specs.Runs.Kind.{Look, Take}
 use Rattle.group_laws.specs.MemberViews.{View, view_of}
@@ -62,7 +62,7 @@ looks_same w u m a (suc n) r =
 pub found_back : (before mid : Option Group) (m a n i : ℕ) (v : View) (x : SlotState) → MakesAll before (looks_upto m a n) mid m v → Found mid m i x → Found before m i x
 found_back None mid m a n i v x made found = tt
 found_back (Some w) None m a n i v x made found = absurd made
-found_back (Some w) (Some u) m a n i v x made found = ap (λ (f : ℕ → ℕ → Slot). state_of (shown (f (member_at m i) (slot_at i)))) (sym (looks_same w u m a n made.0)) ∙ found
+found_back (Some w) (Some u) m a n i v x made found = ap (λ (f : ℕ → ℕ → Slot). state_of (word_shown (f (member_at m i) (slot_at i)))) (sym (looks_same w u m a n made.0)) ∙ found
 
 -- no step was made, where the view agrees with the state
 pub no_steps : (before : Option Group) (m : ℕ) (p : Place) (v : View) → IfSome before (λ u. (p ≡ u.place) × (v ≡ view_of u m)) → MakesAll before [] before m v
@@ -76,8 +76,8 @@ one_step (Some w) None m kind v made = absurd made
 one_step (Some w) (Some u) m kind v made = ((u, made.0, refl), made.1)
 
 -- what a look found stands at its position
-pub found_at : (before : Option Group) (a s m i : ℕ) (x : SlotState) → a ≡ member_at m i → s ≡ slot_at i → IfSome before (λ w. state_of (shown (w.slot a s)) ≡ x) → Found before m i x
-found_at before a s m i x who which stood = subst (λ (n : ℕ). IfSome before (λ w. state_of (shown (w.slot (member_at m i) n)) ≡ x)) which (subst (λ (n : ℕ). IfSome before (λ w. state_of (shown (w.slot n s)) ≡ x)) who stood)
+pub found_at : (before : Option Group) (a s m i : ℕ) (x : SlotState) → a ≡ member_at m i → s ≡ slot_at i → IfSome before (λ w. state_of (word_shown (w.slot a s)) ≡ x) → Found before m i x
+found_at before a s m i x who which stood = subst (λ (n : ℕ). IfSome before (λ w. state_of (word_shown (w.slot (member_at m i) n)) ≡ x)) which (subst (λ (n : ℕ). IfSome before (λ w. state_of (word_shown (w.slot n s)) ≡ x)) who stood)
 
 -- a word that shows a posted entry
 pub posted_word : (w : SlotWord) (n : ℕ) → state_of w ≡ Posted n → w ≡ words.Posted n

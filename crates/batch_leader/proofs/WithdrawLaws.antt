@@ -3,7 +3,7 @@ use Rattle.std.proofs.Common.{◌≡◌, ⊎_elim, ℕ, suc, ◌+◌, ◌<◌, [
 use Rattle.std.specs.Prelude.{IfSome}
 use Rattle.std.proofs.lemmas.Bool.{cases_lt}
 use Rattle.std.proofs.lemmas.Bool.Decides.{nat_tests}
-use Rattle.group_laws.specs.State.{Group, shown}
+use Rattle.group_laws.specs.State.{Group, word_shown}
 use Rattle.group_laws.specs.MemberViews.{View}
 use Rattle.group_laws.specs.Runs.{Kind}
 use Rattle.group_laws.specs.Runs.Kind.{Look}
@@ -32,7 +32,7 @@ module _ (before mid after : Option Group) (m i : ℕ) (v u : View) (x : SlotSta
       (subst (λ (k : Kind). MakesAll before (looks_upto m 0 i ++ (m, k) ∷ []) after m u) (λ t. Look (who t) (which t))
       (makes_then before mid after (looks_upto m 0 i) ((m, Look m i) ∷ []) m v u made (one_step mid after m (Look m i) u step)))
 
-  pub lower_more : NonePosted before m i → IsNotPosted x → IfSome mid (λ w. state_of (shown (w.slot m i)) ≡ x) → NonePosted before m (i + 1)
+  pub lower_more : NonePosted before m i → IsNotPosted x → IfSome mid (λ w. state_of (word_shown (w.slot m i)) ≡ x) → NonePosted before m (i + 1)
   lower_more lower not stood k lt = ⊎_elim (λ below. lower k below)
       (λ above.
       let same : k ≡ i = omega (arith, above, lt) in (

@@ -6,7 +6,7 @@ use Rattle.log_entry.specs.Spelling.{words_of}
 use Rattle.core_log.specs.declared.types.Room.{Room}
 use Rattle.group_laws.specs.declared.group_sizes.TheConstants.{SLOTS}
 use Rattle.group_laws.specs.Places.{Place, members}
-use Rattle.group_laws.specs.State.{Group, shown}
+use Rattle.group_laws.specs.State.{Group, word_shown}
 use Rattle.group_board.specs.Told.{state_of}
 use Rattle.group_board.specs.declared.board.SlotState.{SlotState}
 use Rattle.group_board.specs.declared.board.SlotState.TheVariants as slots
@@ -81,4 +81,4 @@ Passes room own ts fresh mine slots.Failed = Unit {0}
 
 -- what the slot at a position of m's round shows
 abbrev pub shown_at : Group → ℕ → ℕ → SlotState
-shown_at w m i = state_of (shown (w.slot (member_at m i) (slot_at i)))
+shown_at w m i = state_of (word_shown (w.slot (member_at m i) (slot_at i)))

@@ -17,7 +17,7 @@ use Rattle.core_index.specs.declared.start_keys.StartKeys.{StartKeys}
 use Rattle.core_index.specs.declared.types.LiveKey.{LiveKey}
 use Rattle.core_index.specs.Lives.{live_key, live_place, bytes_in, placed_lives}
 use Rattle.core_index.specs.Starts.{started, IsAhead}
-use Rattle.core_index.specs.Tombs.{Tombs, key_of, name_of, left_of, place_of, placed, found_at, passed_at, AreLess}
+use Rattle.core_index.specs.Tombs.{Tombs, key_of, name_of, left_of, place_of, tomb_places, found_at, passed_at, AreLess}
 use Rattle.log_entry.specs.declared.entry.Body.{Body}
 use Rattle.core_index.specs.Index.{place_at, known_in, room_in, known_at, room_at, mortal_in, all_mortal, all_places, Step, Changes, ToldAt, TurnsAt, StartTurns, IsCompact, IsCompactLive, Admits, HasNoneAbove, EntersAs, Entering, opened_in, IsIndex}
 use Rattle.core_index.proofs.TombLaws.{placed_found, more_here, more_other, more_ahead, own_ahead, with_more, waits_own}
@@ -252,14 +252,14 @@ with_deleted a t = record { live = a.live; deleted = with_more a.deleted t }
 more_places : (es : List (ℕ × Place)) (a : StartKeys) (k v : ℕ) (known : KeyRecord) (t : Tombstone) → IsCompact es a k v known t → (j : ℕ) → j ≢ k → place_at (all_places es (with_deleted a t)) j ≡ place_at (all_places es a) j
 more_places es a k v known t is j ne =
     let ts = a.deleted.items in
-    let more : place_at (placed (ts ++ t ∷ [])) j ≡ place_at (placed ts) j = placed_found (ts ++ t ∷ []) j ∙ ap (option_map place_of) (more_other ts t j (λ e. ne (e ∙ is.key))) ∙ sym (placed_found ts j) in
-    place_kept es es a (with_deleted a t) j refl (both_kept (placed_lives a.live) (placed_lives a.live) (placed ts) (placed (ts ++ t ∷ [])) j refl more)
+    let more : place_at (tomb_places (ts ++ t ∷ [])) j ≡ place_at (tomb_places ts) j = placed_found (ts ++ t ∷ []) j ∙ ap (option_map place_of) (more_other ts t j (λ e. ne (e ∙ is.key))) ∙ sym (placed_found ts j) in
+    place_kept es es a (with_deleted a t) j refl (both_kept (placed_lives a.live) (placed_lives a.live) (tomb_places ts) (tomb_places (ts ++ t ∷ [])) j refl more)
 
 more_known : (es : List (ℕ × Place)) (a : StartKeys) (k v : ℕ) (known : KeyRecord) (t : Tombstone) → IsCompact es a k v known t → place_at (all_places es (with_deleted a t)) k ≡ Some (place_of t)
 more_known es a k v known t is =
     let ts = a.deleted.items in
     let less : AreLess ts (key_of t) = subst (AreLess ts) (sym is.key) is.above in
-    place_else es (with_deleted a t) k is.new ∙ first_place (placed_lives a.live) (placed (ts ++ t ∷ [])) k None is.apart ∙ placed_found (ts ++ t ∷ []) k ∙ ap (λ (j : ℕ). option_map place_of (found_at (ts ++ t ∷ []) j)) (sym is.key) ∙ ap (option_map place_of) (more_here ts t less)
+    place_else es (with_deleted a t) k is.new ∙ first_place (placed_lives a.live) (tomb_places (ts ++ t ∷ [])) k None is.apart ∙ placed_found (ts ++ t ∷ []) k ∙ ap (λ (j : ℕ). option_map place_of (found_at (ts ++ t ∷ []) j)) (sym is.key) ∙ ap (option_map place_of) (more_here ts t less)
 
 pub compact_enters : (es : List (ℕ × Place)) (a : StartKeys) (k v : ℕ) (known : KeyRecord) (t : Tombstone) → IsCompact es a k v known t → EntersAs (all_places es a) (all_places es (with_deleted a t)) k known
 compact_enters es a k v known t is =

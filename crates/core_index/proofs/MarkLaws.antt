@@ -14,7 +14,7 @@ use Rattle.std.proofs.lemmas.List.{take_more, append_assoc, length-append}
 use Rattle.core_index.specs.declared.types.Marked.{Marked}
 use Rattle.core_index.specs.declared.types.Standee.{Standee}
 use Rattle.core_index.specs.declared.types.Standing.{Standing}
-use Rattle.core_index.specs.Records.{standing_with, standing_at, stands_alone, told, others, homes_of, untold_at, by_version, untold}
+use Rattle.core_index.specs.Records.{standing_with, standing_at, stands_alone, with_told, others, homes_of, untold_at, by_version, untold}
 use Rattle.core_index.specs.Marks.{kept, marked, mark_of, Rises, IsAbsent, AreMarks, Gathering}
 
 -- an element behind another is greater
@@ -65,9 +65,9 @@ lacks_at : (ss : List Standing) (v : ℕ) → Lacks v ss → standing_at ss v �
 lacks_at [] v lacks = refl
 lacks_at (s ∷ ss) v lacks = cond-false (s.version == v) (Some s) (standing_at ss v) (ne_eqb s.version v lacks.0) ∙ lacks_at ss v lacks.1
 
-lacks_told : (ss : List Standing) (v : ℕ) → Lacks v ss → told ss v ≡ ss
+lacks_told : (ss : List Standing) (v : ℕ) → Lacks v ss → with_told ss v ≡ ss
 lacks_told [] v lacks = refl
-lacks_told (s ∷ ss) v lacks = cond-false (s.version == v) (standing_with s.version s.home true ∷ ss) (s ∷ told ss v) (ne_eqb s.version v lacks.0) ∙ ap (λ (xs : List Standing). s ∷ xs) (lacks_told ss v lacks.1)
+lacks_told (s ∷ ss) v lacks = cond-false (s.version == v) (standing_with s.version s.home true ∷ ss) (s ∷ with_told ss v) (ne_eqb s.version v lacks.0) ∙ ap (λ (xs : List Standing). s ∷ xs) (lacks_told ss v lacks.1)
 
 lacks_others : (ss : List Standing) (v : ℕ) → Lacks v ss → others v ss ≡ ss
 lacks_others [] v lacks = refl
@@ -76,7 +76,7 @@ lacks_others (s ∷ ss) v lacks = ap (λ (b : Bool). cond (not b) (s ∷ others 
 pub absent_at : (ms : List Marked) (v : ℕ) → IsAbsent ms v → standing_at (kept ms) v ≡ None
 absent_at ms v absent = lacks_at (kept ms) v (kept_lacks ms v absent)
 
-pub absent_told : (ms : List Marked) (v : ℕ) → IsAbsent ms v → told (kept ms) v ≡ kept ms
+pub absent_told : (ms : List Marked) (v : ℕ) → IsAbsent ms v → with_told (kept ms) v ≡ kept ms
 absent_told ms v absent = lacks_told (kept ms) v (kept_lacks ms v absent)
 
 pub absent_others : (ms : List Marked) (v : ℕ) → IsAbsent ms v → others v (kept ms) ≡ kept ms
@@ -110,20 +110,20 @@ told_mark m = record { entry = standing_with m.entry.version m.entry.home true; 
 abbrev pub gone_mark : Marked → Marked
 gone_mark m = record { entry = m.entry; gone = true }
 
-pub told_kept : (ms : List Marked) (v i : ℕ) (d : Marked) → Rises ms → i < length ms → (get_or ms i d).entry.version ≡ v → kept (slice_set ms i (told_mark (get_or ms i d))) ≡ told (kept ms) v
+pub told_kept : (ms : List Marked) (v i : ℕ) (d : Marked) → Rises ms → i < length ms → (get_or ms i d).entry.version ≡ v → kept (slice_set ms i (told_mark (get_or ms i d))) ≡ with_told (kept ms) v
 told_kept [] v i d rises lt is = absurd (omega (arith, lt))
-told_kept (m ∷ ms) v zero d rises lt is = elim m.gone as (λ b. cond b (kept ms) (standing_with m.entry.version m.entry.home true ∷ kept ms) ≡ told (cond b (kept ms) (m.entry ∷ kept ms)) v) [
+told_kept (m ∷ ms) v zero d rises lt is = elim m.gone as (λ b. cond b (kept ms) (standing_with m.entry.version m.entry.home true ∷ kept ms) ≡ with_told (cond b (kept ms) (m.entry ∷ kept ms)) v) [
   | true ↦ sym (absent_told ms v (behind m.entry.version v ms rises.0 is))
-  | false ↦ sym (cond-true (m.entry.version == v) (standing_with m.entry.version m.entry.home true ∷ kept ms) (m.entry ∷ told (kept ms) v) (eq-eqb m.entry.version v is))
+  | false ↦ sym (cond-true (m.entry.version == v) (standing_with m.entry.version m.entry.home true ∷ kept ms) (m.entry ∷ with_told (kept ms) v) (eq-eqb m.entry.version v is))
 ]
 told_kept (m ∷ ms) v (suc i) d rises lt is =
     let rest = told_kept ms v i d rises.1 (omega (arith, lt)) is in
     let less = above_at m.entry.version ms i d rises.0 (omega (arith, lt)) in
     let isnt = ne_eqb m.entry.version v (λ e. omega (arith, e, is, less)) in
     let new = kept (slice_set ms i (told_mark (get_or ms i d))) in
-    elim m.gone as (λ b. cond b new (m.entry ∷ new) ≡ told (cond b (kept ms) (m.entry ∷ kept ms)) v) [
+    elim m.gone as (λ b. cond b new (m.entry ∷ new) ≡ with_told (cond b (kept ms) (m.entry ∷ kept ms)) v) [
       | true ↦ rest
-      | false ↦ ap (λ (xs : List Standing). m.entry ∷ xs) rest ∙ sym (cond-false (m.entry.version == v) (standing_with m.entry.version m.entry.home true ∷ kept ms) (m.entry ∷ told (kept ms) v) isnt)
+      | false ↦ ap (λ (xs : List Standing). m.entry ∷ xs) rest ∙ sym (cond-false (m.entry.version == v) (standing_with m.entry.version m.entry.home true ∷ kept ms) (m.entry ∷ with_told (kept ms) v) isnt)
     ]
 
 pub gone_kept : (ms : List Marked) (v i : ℕ) (d : Marked) → Rises ms → i < length ms → (get_or ms i d).entry.version ≡ v → kept (slice_set ms i (gone_mark (get_or ms i d))) ≡ others v (kept ms)
@@ -385,9 +385,9 @@ told_marks ms ns left top v i d are lt at is = subst (λ (xs : List Marked). Are
   count = are.count ∙ sym (ap length (told_kept ms v i d are.rises lt at) ∙ told_length (kept ms) v);
 })
   where
-    told_length : (ss : List Standing) (v : ℕ) → length (told ss v) ≡ length ss
+    told_length : (ss : List Standing) (v : ℕ) → length (with_told ss v) ≡ length ss
     told_length [] v = refl
-    told_length (s ∷ ss) v = let rest = told_length ss v in elim (s.version == v) as (λ b. length (cond b (standing_with s.version s.home true ∷ ss) (s ∷ told ss v)) ≡ suc (length ss)) [ true ↦ refl | false ↦ ap (λ (n : ℕ). suc n) rest ]
+    told_length (s ∷ ss) v = let rest = told_length ss v in elim (s.version == v) as (λ b. length (cond b (standing_with s.version s.home true ∷ ss) (s ∷ with_told ss v)) ≡ suc (length ss)) [ true ↦ refl | false ↦ ap (λ (n : ℕ). suc n) rest ]
 
 pub gone_marks : (ms ns : List Marked) (left top i : ℕ) (d : Marked) → AreMarks ms left top → i < length ms → (get_or ms i d).gone ≡ false → ns ≡ slice_set ms i (gone_mark (get_or ms i d)) → AreMarks ns (left - 1) top
 gone_marks ms ns left top i d are lt stood is = subst (λ (xs : List Marked). AreMarks xs (left - 1) top) (sym is) (record {

@@ -5,7 +5,7 @@ use Rattle.std.proofs.lemmas.Bool.{ne_eqb, cond-false}
 use Rattle.log_entry.specs.declared.entry.Body.{Body}
 use Rattle.core_index.specs.declared.types.Head.{Head}
 use Rattle.core_index.specs.declared.types.Standing.{Standing}
-use Rattle.core_index.specs.Records.{KeyRecord, standing_with, standing_at, is_tombstone, stands_alone, is_dead, Awaits, last_of, told, told_in, others}
+use Rattle.core_index.specs.Records.{KeyRecord, standing_with, standing_at, is_tombstone, stands_alone, is_dead, Awaits, last_of, with_told, told_in, others}
 use Rattle.core_index.specs.Slots.{record_with, known_with, AreBelow, home_in, home_alive, alive_at, count_of, standee_with, count_dead, dead_by, died, OnlyDead, TellsOne, IsSlot}
 use Rattle.core_index.specs.Marks.{Marks, Keeps}
 use Rattle.core_index.proofs.StandingLaws.{found_version, at_told, at_told_other, alone_told, below_told, none_above, at_added, below_more, at_without, at_without_other, alone_without, below_without}
@@ -40,8 +40,8 @@ tells_one r room v home waits = record {
       let now = awaits_needs (told_in v r) w h after in
       let was = awaits_needs r v home waits in
       let apart : w ≢ v = λ e.
-      let a : standing_at (told r.standing v) v ≡ Some (standing_with v home true) = at_told r.standing v (standing_with v home false) was.stands in
-      let b : standing_at (told r.standing v) v ≡ Some (standing_with w h false) = ap (standing_at (told r.standing v)) (sym e) ∙ now.stands in
+      let a : standing_at (with_told r.standing v) v ≡ Some (standing_with v home true) = at_told r.standing v (standing_with v home false) was.stands in
+      let b : standing_at (with_told r.standing v) v ≡ Some (standing_with w h false) = ap (standing_at (with_told r.standing v)) (sym e) ∙ now.stands in
       let c : Some true ≡ Some false = ap told_flag (sym a ∙ b) in
       cc c in
       (apart, record { found = r; has = refl; stands = sym (at_told_other r.standing v w apart) ∙ now.stands; dead = sym (dead_told r v w) ∙ now.dead });
@@ -53,16 +53,16 @@ tells_one r room v home waits = record {
 
 pub alive_told : (r : KeyRecord) (v : ℕ) → home_alive (told_in v r) ≡ home_alive r
 alive_told r v =
-    ap (λ (b : Bool). cond b None (home_in (standing_at (told r.standing v) r.version))) (dead_told r v r.version)
+    ap (λ (b : Bool). cond b None (home_in (standing_at (with_told r.standing v) r.version))) (dead_told r v r.version)
     ∙ ap (λ (o : Option ℕ). cond (is_dead r r.version) None o) (homes r.standing v r.version)
   where
-    homes : (ss : List Standing) (v w : ℕ) → home_in (standing_at (told ss v) w) ≡ home_in (standing_at ss w)
+    homes : (ss : List Standing) (v w : ℕ) → home_in (standing_at (with_told ss v) w) ≡ home_in (standing_at ss w)
     homes [] v w = refl
     homes (s ∷ ss) v w = by (homes ss v w) (s.version == v)
       where
-        by : home_in (standing_at (told ss v) w) ≡ home_in (standing_at ss w) → (b : Bool) → home_in (standing_at (cond b (standing_with s.version s.home true ∷ ss) (s ∷ told ss v)) w) ≡ home_in (standing_at (s ∷ ss) w)
+        by : home_in (standing_at (with_told ss v) w) ≡ home_in (standing_at ss w) → (b : Bool) → home_in (standing_at (cond b (standing_with s.version s.home true ∷ ss) (s ∷ with_told ss v)) w) ≡ home_in (standing_at (s ∷ ss) w)
         by rest true = elim (s.version == w) as (λ c. home_in (cond c (Some (standing_with s.version s.home true)) (standing_at ss w)) ≡ home_in (cond c (Some s) (standing_at ss w))) [ true ↦ refl | false ↦ refl ]
-        by rest false = elim (s.version == w) as (λ c. home_in (cond c (Some s) (standing_at (told ss v) w)) ≡ home_in (cond c (Some s) (standing_at ss w))) [ true ↦ refl | false ↦ rest ]
+        by rest false = elim (s.version == w) as (λ c. home_in (cond c (Some s) (standing_at (with_told ss v) w)) ≡ home_in (cond c (Some s) (standing_at ss w))) [ true ↦ refl | false ↦ rest ]
 
 -- A version that is gone.
 
@@ -148,21 +148,21 @@ gone_slot o m n v room alive now is gone top same lives = kept_slot o m n room r
     by None none = ap (others v) none
     by (Some h) all = below_without m.items v h.version all
 
-pub told_slot : (o : Option Head) (m n : Marks) (v room : ℕ) (alive : Option ℕ) → IsSlot o m room alive → n.items ≡ told m.items v → n.top ≡ m.top → n.room ≡ m.room → alive_at (known_with o n.items) ≡ alive_at (known_with o m.items) → IsSlot o n room alive
+pub told_slot : (o : Option Head) (m n : Marks) (v room : ℕ) (alive : Option ℕ) → IsSlot o m room alive → n.items ≡ with_told m.items v → n.top ≡ m.top → n.room ≡ m.room → alive_at (known_with o n.items) ≡ alive_at (known_with o m.items) → IsSlot o n room alive
 told_slot o m n v room alive is now top same lives = kept_slot o m n room room alive alive is (subst (AreBelow o) (sym now) (by o is.below)) top (let f = is.fits in omega (arith, f, same)) (is.alive_is ∙ sym lives)
   where
-    by : (o : Option Head) → AreBelow o m.items → AreBelow o (told m.items v)
-    by None none = ap (λ (xs : List Standing). told xs v) none
+    by : (o : Option Head) → AreBelow o m.items → AreBelow o (with_told m.items v)
+    by None none = ap (λ (xs : List Standing). with_told xs v) none
     by (Some h) all = below_told m.items v h.version all
 
 pub reserved_slot : (o : Option Head) (m n : Marks) (room more : ℕ) (alive : Option ℕ) → IsSlot o m room alive → Keeps m n → more ≤ n.room → IsSlot o n more alive
 reserved_slot o m n room more alive is keeps fits = kept_slot o m n room more alive alive is (subst (AreBelow o) (sym keeps.items) is.below) keeps.top fits (is.alive_is ∙ ap (λ (xs : List Standing). alive_at (known_with o xs)) (sym keeps.items))
 
-pub told_one : (o : Option Head) (ss ts : List Standing) (room v home : ℕ) → ts ≡ told ss v → Awaits (known_with o ss) home v → TellsOne (record { known = known_with o ss; room = room }) (record { known = known_with o ts; room = room }) home v
+pub told_one : (o : Option Head) (ss ts : List Standing) (room v home : ℕ) → ts ≡ with_told ss v → Awaits (known_with o ss) home v → TellsOne (record { known = known_with o ss; room = room }) (record { known = known_with o ts; room = room }) home v
 told_one None ss ts room v home now waits = absurd (none_waits home v waits)
 told_one (Some h) ss ts room v home now waits = subst (λ (xs : List Standing). TellsOne (record { known = Some (record_with h ss); room = room }) (record { known = Some (record_with h xs); room = room }) home v) (sym now) (tells_one (record_with h ss) room v home waits)
 
-pub told_alive : (o : Option Head) (ss ts : List Standing) (v : ℕ) → ts ≡ told ss v → alive_at (known_with o ts) ≡ alive_at (known_with o ss)
+pub told_alive : (o : Option Head) (ss ts : List Standing) (v : ℕ) → ts ≡ with_told ss v → alive_at (known_with o ts) ≡ alive_at (known_with o ss)
 told_alive None ss ts v now = refl
 told_alive (Some h) ss ts v now = ap (λ (xs : List Standing). home_alive (record_with h xs)) now ∙ alive_told (record_with h ss) v
 

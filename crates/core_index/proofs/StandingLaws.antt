@@ -3,7 +3,7 @@ use Rattle.std.proofs.Common.{◌≡◌, ◌≢◌, ℕ, ◌+◌, ◌≤◌, ◌
 use Rattle.std.specs.List.{AllByRecursion}
 use Rattle.std.proofs.lemmas.Bool.{eqb-true, eq-eqb, ne_eqb, cond-true, cond-false}
 use Rattle.core_index.specs.declared.types.Standing.{Standing}
-use Rattle.core_index.specs.Records.{standing_with, standing_at, stands_alone, told, count_untold, others}
+use Rattle.core_index.specs.Records.{standing_with, standing_at, stands_alone, with_told, count_untold, others}
 
 -- an entry that is found has the version
 pub found_version : (ss : List Standing) (v : ℕ) (s : Standing) → standing_at ss v ≡ Some s → s.version ≡ v
@@ -42,51 +42,51 @@ at_added (x ∷ ss) s none = by (at_added ss s) (x.version == s.version) none
     by rest false at = rest at
 
 -- once a version was told
-pub at_told : (ss : List Standing) (v : ℕ) (s : Standing) → standing_at ss v ≡ Some s → standing_at (told ss v) v ≡ Some (standing_with v s.home true)
+pub at_told : (ss : List Standing) (v : ℕ) (s : Standing) → standing_at ss v ≡ Some s → standing_at (with_told ss v) v ≡ Some (standing_with v s.home true)
 at_told [] v s is = absurd (cc is)
 at_told (x ∷ ss) v s is = by (at_told ss v s) (x.version == v) refl is
   where
-    by : (standing_at ss v ≡ Some s → standing_at (told ss v) v ≡ Some (standing_with v s.home true)) → (b : Bool) → (x.version == v) ≡ b → cond b (Some x) (standing_at ss v) ≡ Some s
-        → standing_at (cond b (standing_with x.version x.home true ∷ ss) (x ∷ told ss v)) v ≡ Some (standing_with v s.home true)
+    by : (standing_at ss v ≡ Some s → standing_at (with_told ss v) v ≡ Some (standing_with v s.home true)) → (b : Bool) → (x.version == v) ≡ b → cond b (Some x) (standing_at ss v) ≡ Some s
+        → standing_at (cond b (standing_with x.version x.home true ∷ ss) (x ∷ with_told ss v)) v ≡ Some (standing_with v s.home true)
     by rest true same at =
         let e : x ≡ s = cc at in
         let f = eqb-true x.version v same in
         cond-true (x.version == v) (Some (standing_with x.version x.home true)) (standing_at ss v) same ∙ cc (e, f)
-    by rest false other at = cond-false (x.version == v) (Some x) (standing_at (told ss v) v) other ∙ rest at
+    by rest false other at = cond-false (x.version == v) (Some x) (standing_at (with_told ss v) v) other ∙ rest at
 
 -- and one entry less is to be told
-pub fewer_untold : (ss : List Standing) (v home : ℕ) → standing_at ss v ≡ Some (standing_with v home false) → count_untold (told ss v) + 1 ≡ count_untold ss
+pub fewer_untold : (ss : List Standing) (v home : ℕ) → standing_at ss v ≡ Some (standing_with v home false) → count_untold (with_told ss v) + 1 ≡ count_untold ss
 fewer_untold [] v home is = absurd (cc is)
 fewer_untold (x ∷ ss) v home is = by (fewer_untold ss v home) (x.version == v) is
   where
-    by : (standing_at ss v ≡ Some (standing_with v home false) → count_untold (told ss v) + 1 ≡ count_untold ss) → (b : Bool) → cond b (Some x) (standing_at ss v) ≡ Some (standing_with v home false)
-        → count_untold (cond b (standing_with x.version x.home true ∷ ss) (x ∷ told ss v)) + 1 ≡ count_untold (x ∷ ss)
+    by : (standing_at ss v ≡ Some (standing_with v home false) → count_untold (with_told ss v) + 1 ≡ count_untold ss) → (b : Bool) → cond b (Some x) (standing_at ss v) ≡ Some (standing_with v home false)
+        → count_untold (cond b (standing_with x.version x.home true ∷ ss) (x ∷ with_told ss v)) + 1 ≡ count_untold (x ∷ ss)
     by rest true at =
         let new : x.told ≡ false = let e : x ≡ standing_with v home false = cc at in ap (λ (s : Standing). s.told) e in
         subst (λ (b : Bool). 0 + count_untold ss + 1 ≡ cond b 0 1 + count_untold ss) (sym new) (omega arith)
     by rest false at = let e = rest at in omega (arith, e)
 
-pub at_told_other : (ss : List Standing) (v w : ℕ) → w ≢ v → standing_at (told ss v) w ≡ standing_at ss w
+pub at_told_other : (ss : List Standing) (v w : ℕ) → w ≢ v → standing_at (with_told ss v) w ≡ standing_at ss w
 at_told_other [] v w ne = refl
 at_told_other (x ∷ ss) v w ne = by (at_told_other ss v w ne) (x.version == v) refl
   where
-    by : standing_at (told ss v) w ≡ standing_at ss w → (b : Bool) → (x.version == v) ≡ b → standing_at (cond b (standing_with x.version x.home true ∷ ss) (x ∷ told ss v)) w ≡ standing_at (x ∷ ss) w
+    by : standing_at (with_told ss v) w ≡ standing_at ss w → (b : Bool) → (x.version == v) ≡ b → standing_at (cond b (standing_with x.version x.home true ∷ ss) (x ∷ with_told ss v)) w ≡ standing_at (x ∷ ss) w
     by rest true same =
         let f = eqb-true x.version v same in
         let isnt : (x.version == w) ≡ false = ne_eqb x.version w (λ e. ne (sym e ∙ f)) in
         cond-false (x.version == w) (Some (standing_with x.version x.home true)) (standing_at ss w) isnt ∙ sym (cond-false (x.version == w) (Some x) (standing_at ss w) isnt)
     by rest false other = ap (λ (o : Option Standing). cond (x.version == w) (Some x) o) rest
 
-pub alone_told : (ss : List Standing) (v w : ℕ) → stands_alone (told ss v) w ≡ stands_alone ss w
+pub alone_told : (ss : List Standing) (v w : ℕ) → stands_alone (with_told ss v) w ≡ stands_alone ss w
 alone_told [] v w = refl
-alone_told (x ∷ ss) v w = elim (x.version == v) as (λ b. stands_alone (cond b (standing_with x.version x.home true ∷ ss) (x ∷ told ss v)) w ≡ stands_alone (x ∷ ss) w) [
+alone_told (x ∷ ss) v w = elim (x.version == v) as (λ b. stands_alone (cond b (standing_with x.version x.home true ∷ ss) (x ∷ with_told ss v)) w ≡ stands_alone (x ∷ ss) w) [
   | true ↦ refl
   | false ↦ ap (λ (b : Bool). (x.version == w) && b) (alone_told ss v w)
 ]
 
-pub below_told : (ss : List Standing) (v n : ℕ) → AllByRecursion (λ (s : Standing). s.version ≤ n) ss → AllByRecursion (λ (s : Standing). s.version ≤ n) (told ss v)
+pub below_told : (ss : List Standing) (v n : ℕ) → AllByRecursion (λ (s : Standing). s.version ≤ n) ss → AllByRecursion (λ (s : Standing). s.version ≤ n) (with_told ss v)
 below_told [] v n all = tt
-below_told (x ∷ ss) v n all = elim (x.version == v) as (λ b. AllByRecursion (λ (s : Standing). s.version ≤ n) (cond b (standing_with x.version x.home true ∷ ss) (x ∷ told ss v))) [
+below_told (x ∷ ss) v n all = elim (x.version == v) as (λ b. AllByRecursion (λ (s : Standing). s.version ≤ n) (cond b (standing_with x.version x.home true ∷ ss) (x ∷ with_told ss v))) [
   | true ↦ all
   | false ↦ (all.0, below_told ss v n all.1)
 ]

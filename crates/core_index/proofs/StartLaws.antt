@@ -15,7 +15,7 @@ use Rattle.core_index.specs.declared.types.Fate.TheVariants as fates
 use Rattle.core_index.proofs.DeadLaws.{alive_none}
 use Rattle.core_index.specs.Records.{KeyRecord, Awaits, is_dead, is_dead_in, is_empty, is_forgettable, stands_alone, standing_at, standing_with, without}
 use Rattle.core_index.specs.Slots.{Place, count_of, alive_at}
-use Rattle.core_index.specs.Tombs.{Tombs, placed, place_of, found_at, left_by, deleted}
+use Rattle.core_index.specs.Tombs.{Tombs, tomb_places, place_of, found_at, left_by, deleted}
 use Rattle.core_index.specs.Lives.{Lives, body_in, valued, valued_by, live_place, live_at, placed_lives}
 use Rattle.core_index.specs.Starts.{started, IsAhead}
 use Rattle.core_index.specs.Index.{place_at, known_in, room_in, known_at, room_at, over, gone_place, cleared, TurnsAt, Turns, StartTurns}
@@ -27,21 +27,21 @@ pub live_found : (a : StartKeys) (k : ℕ) (o : Option LiveKey) → o ≡ live_a
 live_found a k o is = placed_found a.live.bytes a.live.items k ∙ ap (option_map (live_place a.live.bytes)) (sym is)
 
 pub place_live : (a : StartKeys) (k : ℕ) (x : LiveKey) → Some x ≡ live_at a.live.items k → place_at (started a) k ≡ Some (live_place a.live.bytes x)
-place_live a k x is = first_place (placed_lives a.live) (placed a.deleted.items) k (Some (live_place a.live.bytes x)) (live_found a k (Some x) is)
+place_live a k x is = first_place (placed_lives a.live) (tomb_places a.deleted.items) k (Some (live_place a.live.bytes x)) (live_found a k (Some x) is)
 
-pub place_deleted : (a : StartKeys) (k : ℕ) → None ≡ live_at a.live.items k → place_at (started a) k ≡ place_at (placed a.deleted.items) k
-place_deleted a k is = first_place (placed_lives a.live) (placed a.deleted.items) k None (live_found a k None is)
+pub place_deleted : (a : StartKeys) (k : ℕ) → None ≡ live_at a.live.items k → place_at (started a) k ≡ place_at (tomb_places a.deleted.items) k
+place_deleted a k is = first_place (placed_lives a.live) (tomb_places a.deleted.items) k None (live_found a k None is)
 
 pub known_live : (a : StartKeys) (k : ℕ) (x : LiveKey) → Some x ≡ live_at a.live.items k → known_at (started a) k ≡ valued a.live.bytes x
 known_live a k x is = ap known_in (place_live a k x is)
 
-pub known_deleted : (a : StartKeys) (k : ℕ) → None ≡ live_at a.live.items k → known_at (started a) k ≡ known_at (placed a.deleted.items) k
+pub known_deleted : (a : StartKeys) (k : ℕ) → None ≡ live_at a.live.items k → known_at (started a) k ≡ known_at (tomb_places a.deleted.items) k
 known_deleted a k is = ap known_in (place_deleted a k is)
 
 pub start_no_room : (a : StartKeys) (k : ℕ) → room_at (started a) k ≡ 0
-start_no_room a k = ap room_in (place_both (placed_lives a.live) (placed a.deleted.items) k ∙ ap (λ (o : Option Place). over o (place_at (placed a.deleted.items) k)) (placed_found a.live.bytes a.live.items k)) ∙ by (live_at a.live.items k)
+start_no_room a k = ap room_in (place_both (placed_lives a.live) (tomb_places a.deleted.items) k ∙ ap (λ (o : Option Place). over o (place_at (tomb_places a.deleted.items) k)) (placed_found a.live.bytes a.live.items k)) ∙ by (live_at a.live.items k)
   where
-    by : (o : Option LiveKey) → room_in (over (option_map (live_place a.live.bytes) o) (place_at (placed a.deleted.items) k)) ≡ 0
+    by : (o : Option LiveKey) → room_in (over (option_map (live_place a.live.bytes) o) (place_at (tomb_places a.deleted.items) k)) ≡ 0
     by None = no_room a.deleted.items k
     by (Some x) = refl
 
@@ -85,33 +85,33 @@ pub gone_live : (a b : StartKeys) (k w : ℕ) (x : LiveKey) → Some x ≡ live_
 gone_live a b k w x is turns same =
     let now : place_at (placed_lives b.live) k ≡ Some (gone_place w (live_place a.live.bytes x)) = turns.here ∙ ap (option_map (gone_place w)) (live_found a k (Some x) is) in
     record {
-      here = ap known_in (first_place (placed_lives b.live) (placed b.deleted.items) k (Some (gone_place w (live_place a.live.bytes x))) now) ∙ ap (option_map (without w)) (sym (known_live a k x is));
-      others = λ j ne. both_kept (placed_lives a.live) (placed_lives b.live) (placed a.deleted.items) (placed b.deleted.items) j (turns.others j ne) (ap (λ (d : Tombs). place_at (placed d.items) j) same);
+      here = ap known_in (first_place (placed_lives b.live) (tomb_places b.deleted.items) k (Some (gone_place w (live_place a.live.bytes x))) now) ∙ ap (option_map (without w)) (sym (known_live a k x is));
+      others = λ j ne. both_kept (placed_lives a.live) (placed_lives b.live) (tomb_places a.deleted.items) (tomb_places b.deleted.items) j (turns.others j ne) (ap (λ (d : Tombs). place_at (tomb_places d.items) j) same);
       ahead = λ home n ahead. subst (λ (d : Tombs). IsAhead (record { live = b.live; deleted = d }) home n) (sym same) ahead;
     }
 
 pub gone_live_waits : (a b : StartKeys) (k w home v : ℕ) (x : LiveKey) → Some x ≡ live_at a.live.items k → TurnsAt (placed_lives a.live) (placed_lives b.live) k (option_map (gone_place w) (place_at (placed_lives a.live) k)) → Awaits (known_at (started b) k) home v → ⊥
 gone_live_waits a b k w home v x is turns waits =
     let now : place_at (placed_lives b.live) k ≡ Some (gone_place w (live_place a.live.bytes x)) = turns.here ∙ ap (option_map (gone_place w)) (live_found a k (Some x) is) in
-    let first : known_at (started b) k ≡ known_at (placed_lives b.live) k = ap known_in (first_place (placed_lives b.live) (placed b.deleted.items) k (Some (gone_place w (live_place a.live.bytes x))) now ∙ sym now) in
+    let first : known_at (started b) k ≡ known_at (placed_lives b.live) k = ap known_in (first_place (placed_lives b.live) (tomb_places b.deleted.items) k (Some (gone_place w (live_place a.live.bytes x))) now ∙ sym now) in
     live_waits b.live k home v (subst (λ (o : Option KeyRecord). Awaits o home v) first waits)
 
 pub gone_deleted : (a b : StartKeys) (k : ℕ) (now : Option KeyRecord) → None ≡ live_at a.live.items k → b.live ≡ a.live → Turns a.deleted b.deleted k now → StartTurns a b k now
 gone_deleted a b k now is same turns = record {
   here = known_deleted b k (is ∙ ap (λ (l : Lives). live_at l.items k) (sym same)) ∙ turns.here;
-  others = λ j ne. both_kept (placed_lives a.live) (placed_lives b.live) (placed a.deleted.items) (placed b.deleted.items) j (ap (λ (l : Lives). place_at (placed_lives l) j) same) (turns.others j ne);
+  others = λ j ne. both_kept (placed_lives a.live) (placed_lives b.live) (tomb_places a.deleted.items) (tomb_places b.deleted.items) j (ap (λ (l : Lives). place_at (placed_lives l) j) same) (turns.others j ne);
   ahead = turns.ahead;
 }
 
 -- a record that is taken out of both
 pub start_cleared : (a b : StartKeys) (k : ℕ) → TurnsAt (placed_lives a.live) (placed_lives b.live) k (option_map cleared (place_at (placed_lives a.live) k)) → Turns a.deleted b.deleted k None → StartTurns a b k None
 start_cleared a b k live deleted = record {
-  here = ap known_in (first_place (placed_lives b.live) (placed b.deleted.items) k (option_map cleared (place_at (placed_lives a.live) k)) live.here) ∙ by (place_at (placed_lives a.live) k);
-  others = λ j ne. both_kept (placed_lives a.live) (placed_lives b.live) (placed a.deleted.items) (placed b.deleted.items) j (live.others j ne) (deleted.others j ne);
+  here = ap known_in (first_place (placed_lives b.live) (tomb_places b.deleted.items) k (option_map cleared (place_at (placed_lives a.live) k)) live.here) ∙ by (place_at (placed_lives a.live) k);
+  others = λ j ne. both_kept (placed_lives a.live) (placed_lives b.live) (tomb_places a.deleted.items) (tomb_places b.deleted.items) j (live.others j ne) (deleted.others j ne);
   ahead = deleted.ahead;
 }
   where
-    by : (o : Option Place) → known_in (over (option_map cleared o) (place_at (placed b.deleted.items) k)) ≡ None
+    by : (o : Option Place) → known_in (over (option_map cleared o) (place_at (tomb_places b.deleted.items) k)) ≡ None
     by None = deleted.here
     by (Some p) = refl
 
@@ -130,7 +130,7 @@ left_mortal fates.Told v home = ap count_of (alive_none (deleted v (standing_wit
 left_mortal fates.Gone v home = ap count_of (alive_none (deleted v []) (dead_now v [] refl))
 left_mortal fates.Moved v home = refl
 
-pub deleted_alive : (ts : List Tombstone) (k : ℕ) → count_of (alive_at (known_at (placed ts) k)) ≡ 0
+pub deleted_alive : (ts : List Tombstone) (k : ℕ) → count_of (alive_at (known_at (tomb_places ts) k)) ≡ 0
 deleted_alive ts k = ap (λ (o : Option Place). count_of (alive_at (known_in o))) (tomb_found ts k) ∙ by (found_at ts k)
   where
     by : (o : Option Tombstone) → count_of (alive_at (known_in (option_map place_of o))) ≡ 0
@@ -140,8 +140,8 @@ deleted_alive ts k = ap (λ (o : Option Place). count_of (alive_at (known_in o))
 -- a key with a value that is added
 pub added_live : (a : StartKeys) (l : Lives) (k : ℕ) (p : Place) → TurnsAt (placed_lives a.live) (placed_lives l) k (Some p) → TurnsAt (started a) (started (record { live = l; deleted = a.deleted })) k (Some p)
 added_live a l k p turns = record {
-  here = first_place (placed_lives l) (placed a.deleted.items) k (Some p) turns.here;
-  others = λ j ne. both_kept (placed_lives a.live) (placed_lives l) (placed a.deleted.items) (placed a.deleted.items) j (turns.others j ne) refl;
+  here = first_place (placed_lives l) (tomb_places a.deleted.items) k (Some p) turns.here;
+  others = λ j ne. both_kept (placed_lives a.live) (placed_lives l) (tomb_places a.deleted.items) (tomb_places a.deleted.items) j (turns.others j ne) refl;
 }
 
 pub never_dead : (bytes : List ℕ) (h : Holding) (f : LiveFate) (v home w : ℕ) → is_dead_in (valued_by f v home (body_in bytes h)) w ≡ false

@@ -13,7 +13,7 @@ use Rattle.std.specs.Prelude.{Result, Ok, Err, OnOk, OnErr}
 use Rattle.std.proofs.lemmas.Bool.{cases_eq}
 use Rattle.std.proofs.lemmas.Map.Steps.{set_value_same}
 use Rattle.log_entry.specs.declared.entry.EntryName.{EntryName}
-use Rattle.core_index.specs.Records.{KeyRecord, Awaits, told, told_in, count_untold, standing_of}
+use Rattle.core_index.specs.Records.{KeyRecord, Awaits, with_told, told_in, count_untold, standing_of}
 use Rattle.core_index.specs.Slots.{Place, mortal, TellsOne}
 use Rattle.core_index.specs.Index.{place_at, known_in, room_in, known_at, room_at, mortal_in, all_mortal, untold_in, all_untold, Step, Changes, SameRoom, ToldAt, Forgets}
 use Rattle.core_index.proofs.StandingLaws.{fewer_untold}
@@ -94,7 +94,7 @@ fewer_of : (v w : Place) (home n : ℕ) → TellsOne v w home n → untold_in w 
 fewer_of v w home n one =
     let waits = one.waited in
     let was : v.known ≡ Some waits.found = waits.has in
-    let now : untold_in w ≡ count_untold (told waits.found.standing n) = ap untold_in one.told ∙ ap (λ (o : Option KeyRecord). count_untold (standing_of (option_map (told_in n) o))) was in
+    let now : untold_in w ≡ count_untold (with_told waits.found.standing n) = ap untold_in one.told ∙ ap (λ (o : Option KeyRecord). count_untold (standing_of (option_map (told_in n) o))) was in
     let before : untold_in v ≡ count_untold waits.found.standing = ap (λ (o : Option KeyRecord). count_untold (standing_of o)) was in
     let less = fewer_untold waits.found.standing n home waits.stands in
     omega (arith, now, before, less)

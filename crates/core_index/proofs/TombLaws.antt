@@ -18,7 +18,7 @@ use Rattle.core_index.specs.declared.types.Tombstone.{Tombstone}
 use Rattle.core_index.specs.Records.{KeyRecord, Awaits, Shows, standing_at, standing_with, told_in, without, live_version, count_untold, standing_of}
 use Rattle.core_index.specs.Slots.{Place}
 use Rattle.core_index.specs.Noted.{name_with}
-use Rattle.core_index.specs.Tombs.{Tombs, key_of, left_of, left_by, deleted, IsThere, place_of, placed, found_at, fated, with_fate, AreLess, Rising, IsMissing, AreTombs, Ahead, passed_at, bare_tombstone}
+use Rattle.core_index.specs.Tombs.{Tombs, key_of, left_of, left_by, deleted, IsThere, place_of, tomb_places, found_at, fated, with_fate, AreLess, Rising, IsMissing, AreTombs, Ahead, passed_at, bare_tombstone}
 use Rattle.core_index.specs.Index.{place_at, known_in, room_in, known_at, room_at, untold_in, all_untold, ToldAt, Turns}
 use Rattle.core_index.proofs.StepLaws.{apart}
 
@@ -99,17 +99,17 @@ hit : (k q : ℕ) → k ≡ q → is_at (nat_cmp k) q ≡ true
 hit k q e = unsigned_tied k q ∙ eq-eqb k q e
 
 -- the same among all that the index keeps
-pub placed_found : (ts : List Tombstone) (k : ℕ) → place_at (placed ts) k ≡ option_map place_of (found_at ts k)
+pub placed_found : (ts : List Tombstone) (k : ℕ) → place_at (tomb_places ts) k ≡ option_map place_of (found_at ts k)
 placed_found [] k = refl
 placed_found (t ∷ ts) k = ⊎_elim
-    (λ (e : key_of t ≡ k). cond-true (is_at (nat_cmp k) (key_of t)) (Some (place_of t)) (place_at (placed ts) k) (hit k (key_of t) (sym e)) ∙ ap (option_map place_of) (sym (cond-true (key_of t == k) (Some t) (found_at ts k) (eq-eqb (key_of t) k e))))
-    (λ (ne : key_of t ≢ k). cond-false (is_at (nat_cmp k) (key_of t)) (Some (place_of t)) (place_at (placed ts) k) (apart k (key_of t) ne) ∙ placed_found ts k ∙ ap (option_map place_of) (sym (cond-false (key_of t == k) (Some t) (found_at ts k) (ne_eqb (key_of t) k ne))))
+    (λ (e : key_of t ≡ k). cond-true (is_at (nat_cmp k) (key_of t)) (Some (place_of t)) (place_at (tomb_places ts) k) (hit k (key_of t) (sym e)) ∙ ap (option_map place_of) (sym (cond-true (key_of t == k) (Some t) (found_at ts k) (eq-eqb (key_of t) k e))))
+    (λ (ne : key_of t ≢ k). cond-false (is_at (nat_cmp k) (key_of t)) (Some (place_of t)) (place_at (tomb_places ts) k) (apart k (key_of t) ne) ∙ placed_found ts k ∙ ap (option_map place_of) (sym (cond-false (key_of t == k) (Some t) (found_at ts k) (ne_eqb (key_of t) k ne))))
     (cases_eq (key_of t) k)
 
-pub known_found : (ts : List Tombstone) (k : ℕ) (o : Option Tombstone) → o ≡ found_at ts k → known_at (placed ts) k ≡ known_in (option_map place_of o)
+pub known_found : (ts : List Tombstone) (k : ℕ) (o : Option Tombstone) → o ≡ found_at ts k → known_at (tomb_places ts) k ≡ known_in (option_map place_of o)
 known_found ts k o is = ap known_in (placed_found ts k ∙ ap (option_map place_of) (sym is))
 
-pub no_room : (ts : List Tombstone) (k : ℕ) → room_at (placed ts) k ≡ 0
+pub no_room : (ts : List Tombstone) (k : ℕ) → room_at (tomb_places ts) k ≡ 0
 no_room ts k = ap room_in (placed_found ts k) ∙ by (found_at ts k)
   where
     by : (o : Option Tombstone) → room_in (option_map place_of o) ≡ 0
@@ -122,7 +122,7 @@ left_dead Told v home = refl
 left_dead Gone v home = refl
 left_dead Moved v home = refl
 
-pub none_live : (ts : List Tombstone) (k : ℕ) → live_version (known_at (placed ts) k) ≡ None
+pub none_live : (ts : List Tombstone) (k : ℕ) → live_version (known_at (tomb_places ts) k) ≡ None
 none_live ts k = ap (λ (o : Option Place). live_version (known_in o)) (placed_found ts k) ∙ by (found_at ts k)
   where
     by : (o : Option Tombstone) → live_version (known_in (option_map place_of o)) ≡ None
@@ -232,21 +232,21 @@ fated_turns a k f now is = record {
 }
 
 -- An untold one that is told is one less to be told.
-pub fated_fewer : (ts : List Tombstone) (k : ℕ) (t : Tombstone) → found_at ts k ≡ Some t → t.fate ≡ Untold → all_untold (placed (fated ts k Told)) + 1 ≡ all_untold (placed ts)
+pub fated_fewer : (ts : List Tombstone) (k : ℕ) (t : Tombstone) → found_at ts k ≡ Some t → t.fate ≡ Untold → all_untold (tomb_places (fated ts k Told)) + 1 ≡ all_untold (tomb_places ts)
 fated_fewer [] k t is new = absurd (cc is)
 fated_fewer (x ∷ ts) k t is new = by (key_of x == k) is (fated_fewer ts k t)
   where
-    by : (b : Bool) → cond b (Some x) (found_at ts k) ≡ Some t → (found_at ts k ≡ Some t → t.fate ≡ Untold → all_untold (placed (fated ts k Told)) + 1 ≡ all_untold (placed ts)) → all_untold (placed (cond b (with_fate Told x ∷ ts) (x ∷ fated ts k Told))) + 1 ≡ all_untold (placed (x ∷ ts))
+    by : (b : Bool) → cond b (Some x) (found_at ts k) ≡ Some t → (found_at ts k ≡ Some t → t.fate ≡ Untold → all_untold (tomb_places (fated ts k Told)) + 1 ≡ all_untold (tomb_places ts)) → all_untold (tomb_places (cond b (with_fate Told x ∷ ts) (x ∷ fated ts k Told))) + 1 ≡ all_untold (tomb_places (x ∷ ts))
     by true at rest =
         let e : x ≡ t = cc at in
         let one : untold_in (place_of x) ≡ 1 = ap (λ (f : Fate). count_untold (standing_of (left_by f x.version x.home))) (ap (λ (y : Tombstone). y.fate) e ∙ new) in
-        let a = sum_by-cons untold_in (place_of (with_fate Told x)) (values_of (placed ts)) in
-        let b = sum_by-cons untold_in (place_of x) (values_of (placed ts)) in
+        let a = sum_by-cons untold_in (place_of (with_fate Told x)) (values_of (tomb_places ts)) in
+        let b = sum_by-cons untold_in (place_of x) (values_of (tomb_places ts)) in
         omega (arith, a, b, one)
     by false at rest =
         let less = rest at new in
-        let a = sum_by-cons untold_in (place_of x) (values_of (placed (fated ts k Told))) in
-        let b = sum_by-cons untold_in (place_of x) (values_of (placed ts)) in
+        let a = sum_by-cons untold_in (place_of x) (values_of (tomb_places (fated ts k Told))) in
+        let b = sum_by-cons untold_in (place_of x) (values_of (tomb_places ts)) in
         omega (arith, a, b, less)
 
 -- A key that is added behind all others.
@@ -379,7 +379,7 @@ passed_one a home t lt is h n ahead = ⊎_elim
 
 -- What its calls make of such a key.
 
-pub same_turns : (a : Tombs) (k : ℕ) (now : Option KeyRecord) → known_at (placed a.items) k ≡ now → Turns a a k now
+pub same_turns : (a : Tombs) (k : ℕ) (now : Option KeyRecord) → known_at (tomb_places a.items) k ≡ now → Turns a a k now
 same_turns a k now is = record { here = is; others = λ j ne. refl; ahead = λ home n ahead. ahead }
 
 pub cleared : (a : Tombs) (k : ℕ) → Turns a (fated_in a k Moved) k None
@@ -395,8 +395,8 @@ gone_left Told v home w e there = ap (λ (b : Bool). Some (deleted v (cond (not 
 gone_left Gone v home w e there = absurd there
 gone_left Moved v home w e there = absurd there
 
-pub gone_turns : (a : Tombs) (k w : ℕ) (t : Tombstone) → Some t ≡ found_at a.items k → t.version ≡ w → IsThere t.fate → Turns a (fated_in a k Gone) k (option_map (without w) (known_at (placed a.items) k))
-gone_turns a k w t is e there = fated_turns a k Gone (option_map (without w) (known_at (placed a.items) k)) (
+pub gone_turns : (a : Tombs) (k w : ℕ) (t : Tombstone) → Some t ≡ found_at a.items k → t.version ≡ w → IsThere t.fate → Turns a (fated_in a k Gone) k (option_map (without w) (known_at (tomb_places a.items) k))
+gone_turns a k w t is e there = fated_turns a k Gone (option_map (without w) (known_at (tomb_places a.items) k)) (
     ap (λ (o : Option Tombstone). known_in (option_map place_of (option_map (with_fate Gone) o))) (sym is)
     ∙ gone_left t.fate t.version t.home w e there
     ∙ ap (option_map (without w)) (sym (known_found a.items k (Some t) is)))
@@ -407,9 +407,9 @@ none_stands v home w waits =
     let stands = ap (λ (r : KeyRecord). standing_at r.standing w) e ∙ waits.stands in
     cc stands
 
-pub gone_waits : (a : Tombs) (k : ℕ) (t : Tombstone) → Some t ≡ found_at a.items k → (home w : ℕ) → Awaits (known_at (placed (fated a.items k Gone)) k) home w → ⊥
+pub gone_waits : (a : Tombs) (k : ℕ) (t : Tombstone) → Some t ≡ found_at a.items k → (home w : ℕ) → Awaits (known_at (tomb_places (fated a.items k Gone)) k) home w → ⊥
 gone_waits a k t is home w waits =
-    let now : known_at (placed (fated a.items k Gone)) k ≡ Some (deleted t.version []) = known_found (fated a.items k Gone) k (Some (with_fate Gone t)) (ap (option_map (with_fate Gone)) is ∙ sym (fated_here a.items k Gone)) in
+    let now : known_at (tomb_places (fated a.items k Gone)) k ≡ Some (deleted t.version []) = known_found (fated a.items k Gone) k (Some (with_fate Gone t)) (ap (option_map (with_fate Gone)) is ∙ sym (fated_here a.items k Gone)) in
     none_stands t.version home w (subst (λ (o : Option KeyRecord). Awaits o home w) now waits)
 
 -- who waits was not told, and is of this name
@@ -441,12 +441,12 @@ waits_own Moved v h home w waits = let has = waits.has in absurd (cc has)
 told_left : (f : Fate) (v home w : ℕ) → f ≡ Untold → v ≡ w → left_by Told v home ≡ option_map (told_in w) (left_by f v home)
 told_left f v home w new e = ap (λ (b : Bool). Some (deleted v (cond b (standing_with v home true ∷ []) (standing_with v home false ∷ [])))) (sym (eq-eqb v w e)) ∙ ap (λ (g : Fate). option_map (told_in w) (left_by g v home)) (sym new)
 
-pub told_tomb : (a : Tombs) (home : ℕ) (n : EntryName) (t : Tombstone) → Some t ≡ found_at a.items n.key → Awaits (left_of t) home n.version → ToldAt (placed a.items) (placed (fated a.items n.key Told)) home n
+pub told_tomb : (a : Tombs) (home : ℕ) (n : EntryName) (t : Tombstone) → Some t ≡ found_at a.items n.key → Awaits (left_of t) home n.version → ToldAt (tomb_places a.items) (tomb_places (fated a.items n.key Told)) home n
 told_tomb a home n t is waits =
     let own = waits_own t.fate t.version t.home home n.version waits in
-    let was : known_at (placed a.items) n.key ≡ left_of t = known_found a.items n.key (Some t) is in
-    let now : known_at (placed (fated a.items n.key Told)) n.key ≡ left_by Told t.version t.home = known_found (fated a.items n.key Told) n.key (Some (with_fate Told t)) (ap (option_map (with_fate Told)) is ∙ sym (fated_here a.items n.key Told)) in
-    let turns = fated_turns a n.key Told (known_at (placed (fated a.items n.key Told)) n.key) (sym (ap known_in (placed_found (fated a.items n.key Told) n.key ∙ ap (option_map place_of) (fated_here a.items n.key Told)))) in
+    let was : known_at (tomb_places a.items) n.key ≡ left_of t = known_found a.items n.key (Some t) is in
+    let now : known_at (tomb_places (fated a.items n.key Told)) n.key ≡ left_by Told t.version t.home = known_found (fated a.items n.key Told) n.key (Some (with_fate Told t)) (ap (option_map (with_fate Told)) is ∙ sym (fated_here a.items n.key Told)) in
+    let turns = fated_turns a n.key Told (known_at (tomb_places (fated a.items n.key Told)) n.key) (sym (ap known_in (placed_found (fated a.items n.key Told) n.key ∙ ap (option_map place_of) (fated_here a.items n.key Told)))) in
     record {
       tells = record {
         waited = subst (λ (o : Option KeyRecord). Awaits o home n.version) (sym was) waits;

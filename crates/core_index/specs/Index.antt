@@ -15,7 +15,7 @@ use Rattle.core_index.specs.Noted.{Book, Noted, name_with}
 use Rattle.core_index.specs.declared.start_keys.StartKeys.{StartKeys}
 use Rattle.core_index.specs.Lives.{FitsLive, placed_lives}
 use Rattle.core_index.specs.Starts.{started, IsAhead}
-use Rattle.core_index.specs.Tombs.{Tombs, Ahead, AreLess, key_of, left_of, placed}
+use Rattle.core_index.specs.Tombs.{Tombs, Ahead, AreLess, key_of, left_of, tomb_places}
 
 abbrev pub place_at : List (ℕ × Place) → ℕ → Option Place
 place_at es k = lookup (is_at (nat_cmp k)) es
@@ -105,8 +105,9 @@ all_places es a = es ++ started a
 
 -- A deleted key has this record now, and every other one what it had. No home was asked about more of them.
 pub record Turns (old new : Tombs) (k : ℕ) (now : Option KeyRecord) : Type 0 where
-  pub here : known_at (placed new.items) k ≡ now
-  pub others : (j : ℕ) → j ≢ k → place_at (placed new.items) j ≡ place_at (placed old.items) j
+  pub here : known_at (tomb_places new.items) k ≡ now
+  pub others : (j : ℕ) → j ≢ k
+      → place_at (tomb_places new.items) j ≡ place_at (tomb_places old.items) j
   pub ahead : (home : ℕ) (n : EntryName) → Ahead old home n → Ahead new home n
 
 -- The key fits into the list of deleted keys by this, and is nowhere yet.

@@ -73,10 +73,10 @@ settled o v body home = record {
   standing = standing_of o ++ standing_with v home false ∷ [];
 }
 
-abbrev pub told : List Standing → ℕ → List Standing
-told [] v = []
-told (s ∷ ss) v = if s.version == v then (standing_with s.version s.home true) ∷ ss else s ∷ told ss
-    v
+abbrev pub with_told : List Standing → ℕ → List Standing
+with_told [] v = []
+with_told (s ∷ ss) v = if s.version == v then (standing_with s.version s.home true) ∷ ss
+    else s ∷ with_told ss v
 
 -- how many entries were not told
 abbrev pub count_untold : List Standing → ℕ
@@ -85,7 +85,7 @@ count_untold (s ∷ ss) = (if s.told then 0 else 1) + count_untold ss
 
 -- the record once the death of a version was told
 abbrev pub told_in : ℕ → KeyRecord → KeyRecord
-told_in v r = record { version = r.version; body = r.body; standing = told r.standing v }
+told_in v r = record { version = r.version; body = r.body; standing = with_told r.standing v }
 
 abbrev pub others : ℕ → List Standing → List Standing
 others v ss = filter (λ s. not (s.version == v)) ss

@@ -3,12 +3,12 @@ use Rattle.std.specs.Prelude.{ℕ, List, ◌++◌}
 use Rattle.log_entry.specs.declared.entry.EntryName.{EntryName}
 use Rattle.core_index.specs.declared.start_keys.StartKeys.{StartKeys}
 use Rattle.core_index.specs.Slots.{Place}
-use Rattle.core_index.specs.Tombs.{Ahead, placed}
+use Rattle.core_index.specs.Tombs.{Ahead, tomb_places}
 use Rattle.core_index.specs.Lives.{placed_lives}
 
 -- what the index keeps of them: a key with a value is there, whatever the list of deleted keys has of it
 abbrev pub started : StartKeys → List (ℕ × Place)
-started a = placed_lives a.live ++ placed a.deleted.items
+started a = placed_lives a.live ++ tomb_places a.deleted.items
 
 -- The name is that of a deleted key's entry which its home was not asked about.
 abbrev pub IsAhead : StartKeys → ℕ → EntryName → Type 0

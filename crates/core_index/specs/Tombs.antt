@@ -62,9 +62,9 @@ found_at [] k = None
 found_at (t ∷ ts) k = if key_of t == k then Some t else found_at ts k
 
 -- what the index keeps of these keys
-abbrev pub placed : List Tombstone → List (ℕ × Place)
-placed [] = []
-placed (t ∷ ts) = (key_of t, place_of t) ∷ placed ts
+abbrev pub tomb_places : List Tombstone → List (ℕ × Place)
+tomb_places [] = []
+tomb_places (t ∷ ts) = (key_of t, place_of t) ∷ tomb_places ts
 
 abbrev pub with_fate : Fate → Tombstone → Tombstone
 with_fate f t = record { high = t.high; low = t.low; version = t.version; home = t.home; fate = f }

@@ -4,7 +4,7 @@ ghost use Rattle.std.specs.List.{AllByRecursion};
 ghost use Rattle.std.specs.BTreeMap.{IsOrdered};
 ghost use Rattle.std.specs.Ordering.{nat_cmp};
 ghost use Rattle.std.specs.Vec.{vec_capacity};
-ghost use Rattle.core_index.specs.Records.{standing_at, standing_with, stands_alone, told, others, homes_of, by_version};
+ghost use Rattle.core_index.specs.Records.{standing_at, standing_with, stands_alone, with_told, others, homes_of, by_version};
 ghost use Rattle.core_index.specs.Tombs.{list_of};
 ghost use Rattle.core_index.specs.Marks.{kept, mark_of, Rises, IsPlace, IsAbsent, AreMarks, marked, Keeps};
 
@@ -209,7 +209,7 @@ impl Entries {
 
     /// Notes that the death of a version was told.
     pub fn tell(&mut self, version: Version)
-        ensures items { self.new.items ≡ told self.old.items version }
+        ensures items { self.new.items ≡ with_told self.old.items version }
         ensures top { self.new.top ≡ self.old.top }
         ensures room { self.new.room ≡ self.old.room }
     {

@@ -4,7 +4,7 @@ ghost use Rattle.std.specs.Bool.{Decides};
 ghost use Rattle.log_entry.specs.declared.entry.EntryName.{EntryName};
 ghost use Rattle.core_index.specs.Index.{known_at, ToldAt, Turns};
 ghost use Rattle.core_index.specs.Records.{Awaits, Shows, without, opened_with, last_of, is_dead_in, is_forgettable};
-ghost use Rattle.core_index.specs.Tombs.{key_of, name_of, left_of, placed, found_at, fated, AreLess, Rising, IsSpot, IsMissing, IsThere, passed_at, Ahead};
+ghost use Rattle.core_index.specs.Tombs.{key_of, name_of, left_of, tomb_places, found_at, fated, AreLess, Rising, IsSpot, IsMissing, IsThere, passed_at, Ahead};
 
 use crate::types::{Fate, Look, SHARE, Standee, Tombstone, VERSIONS};
 use fs_errors::Memory;
@@ -197,7 +197,7 @@ impl Tombstones {
 
     /// The last version of a key, or 0 where its record is not here.
     pub fn last(&self, key: Key) -> Version
-        ensures { result ≡ last_of (known_at (placed self.now.items) key) }
+        ensures { result ≡ last_of (known_at (tomb_places self.now.items) key) }
     {
         match self.find(key) {
             None => 0,
@@ -207,7 +207,7 @@ impl Tombstones {
 
     /// What a key has: it was deleted, or its record is not here.
     pub fn look(&self, key: Key) -> Look<'_>
-        ensures { Shows (known_at (placed self.now.items) key) result }
+        ensures { Shows (known_at (tomb_places self.now.items) key) result }
     {
         match self.find(key) {
             None => Look::Unknown,
@@ -220,7 +220,7 @@ impl Tombstones {
 
     /// Whether a key of these has no entry that stands.
     pub fn is_forgettable(&self, key: Key) -> bool
-        ensures { result ≡ is_forgettable (known_at (placed self.now.items) key) }
+        ensures { result ≡ is_forgettable (known_at (tomb_places self.now.items) key) }
     {
         match self.find(key) {
             None => false,
@@ -230,7 +230,8 @@ impl Tombstones {
 
     /// Whether an entry of this name stands and is dead.
     pub fn is_dead(&self, name: EntryName) -> bool
-        ensures { result ≡ is_dead_in (known_at (placed self.now.items) name.key) name.version }
+        ensures { result ≡ is_dead_in (known_at (tomb_places self.now.items) name.key)
+            name.version }
     {
         match self.find(name.key) {
             None => false,
@@ -253,10 +254,10 @@ impl Tombstones {
 
     /// Tells a home of a dead entry, where it waits to be told.
     pub fn tell(&mut self, name: EntryName, home: u32) -> bool
-        ensures told { result ≡ true → ToldAt (placed self.old.items) (placed self.new.items) home
-            name }
-        ensures none { result ≡ false → ¬ Awaits (known_at (placed self.old.items) name.key) home
-            name.version }
+        ensures told { result ≡ true → ToldAt (tomb_places self.old.items)
+            (tomb_places self.new.items) home name }
+        ensures none { result ≡ false
+            → ¬ Awaits (known_at (tomb_places self.old.items) name.key) home name.version }
         ensures unchanged { result ≡ false → self.new ≡ self.old }
         ensures ahead { (h : ℕ) (n : EntryName) → Ahead self.old h n → Ahead self.new h n }
     {
@@ -273,9 +274,9 @@ impl Tombstones {
     /// Takes an entry out of those that stand.
     pub fn gone(&mut self, name: EntryName)
         ensures gone { Turns self.old self.new name.key
-            (option_map (without name.version) (known_at (placed self.old.items) name.key)) }
-        ensures none { (home v : ℕ) → Awaits (known_at (placed self.new.items) name.key) home v
-            → Awaits (known_at (placed self.old.items) name.key) home v }
+            (option_map (without name.version) (known_at (tomb_places self.old.items) name.key)) }
+        ensures none { (home v : ℕ) → Awaits (known_at (tomb_places self.new.items) name.key) home v
+            → Awaits (known_at (tomb_places self.old.items) name.key) home v }
     {
         let Some(tombstone) = self.find(name.key) else {
             return;

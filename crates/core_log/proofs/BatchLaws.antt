@@ -17,7 +17,7 @@ use Rattle.log_entry.specs.Spelling.{words_of, body_words}
 use Rattle.log_entry.specs.Batches.{batch_words, IsBatch, Scan, scan_of}
 use Rattle.log_entry.proofs.Clients.{entries_from, scan-append, spells-append, length-words}
 use Rattle.store_image.specs.declared.types.PlacedEntry.{PlacedEntry}
-use Rattle.store_image.specs.Parts.{scan_at, scan_behind, placed, chunk_entries}
+use Rattle.store_image.specs.Parts.{scan_at, scan_behind, placed_in_chunk, chunk_entries}
 use Rattle.core_log.specs.Chunk.{padded, words_now, HasLog, HasOrLacks, ChunkLies, IsLog, Appended}
 use Rattle.core_log.specs.Log.{LogState, tail_of, with_tail, chunk_with, IsChunkOf, IsOwn, open_number, open_first, open_tail, room_of, lines_left, EachInOpen, Spelled, HoldsEntries, StandsIn}
 use Rattle.core_log.specs.Entries.{with_places, open_entries, added_entries, HasEntries, HasEntriesOrLacks, AppendedBatch}
@@ -100,12 +100,12 @@ head_of l tail whole fits = cond-true (tail % 8 == 0 && nat_le tail (payload_wor
 
 -- an image's chunk with these words has the entries that they spell
 pub entries_read : (l : Geometry) (image : ℕ → ℕ) (c j tail : ℕ) (ws : List ℕ) → tail % 8 ≡ 0 → tail ≤ payload_words l → HasLog (chunk_first l c j) tail ws image
-    → chunk_entries l image c j ≡ placed c j (scan_of ws).entries
+    → chunk_entries l image c j ≡ placed_in_chunk c j (scan_of ws).entries
 entries_read l image c j tail ws whole fits has =
     let at = chunk_first l c j in
     let head : head_at l image at ≡ Ok (Log tail) = (λ i. head_by l (has.0 i) (has.1 i)) ∙ head_of l tail whole fits in
     let scan : scan_at l image at ≡ scan_of ws = ap (scan_behind image at) head ∙ ap scan_of has.2 in
-    ap (λ (s : Scan). placed c j s.entries) scan
+    ap (λ (s : Scan). placed_in_chunk c j s.entries) scan
 
 same_places : (p : ℕ) (es : List Entry) → with_places p es ≡ entries_from p es
 same_places p [] = refl
@@ -113,7 +113,7 @@ same_places p (e ∷ es) = ap (λ (xs : List (ℕ × Entry)). (p, e) ∷ xs) (sa
 
 -- The open chunk's words and entries in images.
 module _ (s : State) (log : LogState) (stands : StandsIn s log) (some : is_some log.opened ≡ true) (telling : IsTelling s) where
-  before_is : open_entries log (lasts s) ≡ placed log.part (open_number log) (scan_of (words_now s (open_first log) (open_tail log))).entries
+  before_is : open_entries log (lasts s) ≡ placed_in_chunk log.part (open_number log) (scan_of (words_now s (open_first log) (open_tail log))).entries
   before_is =
       let is = open_chunk_of log stands.own some in
       entries_read log.layout (lasts s) log.part (open_number log) (open_tail log) (words_now s (open_first log) (open_tail log)) is.whole is.fits
@@ -141,7 +141,7 @@ module _ (s : State) (log : LogState) (stands : StandsIn s log) (some : is_some 
         ∙ ap (λ (sc : Scan). sc.entries) (scan-append old spelled.batches es spelled.spelled batch)
         ∙ ap (λ (n : ℕ). (scan_of old).entries ++ entries_from n es) (length-words (lasts s) (open_first log + 32) (open_tail log))
         ∙ ap (λ (xs : List (ℕ × Entry)). (scan_of old).entries ++ xs) (sym (same_places (open_tail log) es)) in
-        read ∙ ap (placed log.part (open_number log)) more ∙ map-append _ (scan_of old).entries (with_places (open_tail log) es)
+        read ∙ ap (placed_in_chunk log.part (open_number log)) more ∙ map-append _ (scan_of old).entries (with_places (open_tail log) es)
         ∙ ap (λ (xs : List PlacedEntry). xs ++ added_entries log es) (sym before_is)
 
     pub entries_or_lacks : (image : ℕ → ℕ) → HasOrLacks (open_first log) (open_tail log) (words_now s (open_first log) (open_tail log)) (padded ws) image

@@ -8,7 +8,7 @@ use Rattle.chunk_map.specs.declared.layouts.Geometry.{Geometry}
 use Rattle.chunk_map.specs.Layouts.{numbers, chunk_words, chunk_first, head_at}
 use Rattle.chunk_map.proofs.Clients.{chunks_apart}
 use Rattle.store_image.specs.declared.types.PlacedEntry.{PlacedEntry}
-use Rattle.store_image.specs.Parts.{chunk_entries, part_entries, chunk_reads, reads, chunk_at, unit_at, class_behind, block_class, held, held_by}
+use Rattle.store_image.specs.Parts.{chunk_entries, part_entries, chunk_reads, reads, chunk_at, unit_at, class_behind, block_class, value_in_block, value_by_class}
 use Rattle.store_image.specs.Facts.{In}
 use Rattle.store_image.proofs.Clients.{chunk_same, reads_same, head_same, Numbers, chunk_of, block_lies, held_same, in_numbers, in_front, in_back, in_either, number_in}
 
@@ -78,7 +78,7 @@ pub outside_chunk : (l : Geometry) (c j n k : ℕ) → n ≢ j → k < chunk_wor
 outside_chunk l c j n k ne lt = ⊎_elim (λ before. inl (omega (arith, before, lt))) (λ behind. inr (omega (arith, behind))) (chunks_apart l c n j ne)
 
 -- a block that holds something has a class
-pub held_has : (image : ℕ → ℕ) (q : ℕ) (o : Option ℕ) (v : List ℕ) → held_by image q o ≡ Some v → (class : ℕ) × (o ≡ Some class)
+pub held_has : (image : ℕ → ℕ) (q : ℕ) (o : Option ℕ) (v : List ℕ) → value_by_class image q o ≡ Some v → (class : ℕ) × (o ≡ Some class)
 held_has image q None v e = absurd (cc e)
 held_has image q (Some class) v e = (class, refl)
 
@@ -108,7 +108,7 @@ module _ (l : Geometry) (is : Numbers l) (c : ℕ) (low : c < l.cores) (j : ℕ)
 
   -- a block stays what it was
   module _ (no_data : (class : ℕ) → head_at l old (chunk_first l c j) ≡ Ok (Data class) → ⊥) where
-    pub block_stays : (q : ℕ) (v : List ℕ) → held l old c q ≡ Some v → held l image c q ≡ Some v
+    pub block_stays : (q : ℕ) (v : List ℕ) → value_in_block l old c q ≡ Some v → value_in_block l image c q ≡ Some v
     block_stays q v e =
         let has = held_has old q (block_class l old c q) v e in
         let lies = block_lies l is old c q has.0 low has.1 in

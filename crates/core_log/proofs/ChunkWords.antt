@@ -9,7 +9,7 @@ use Rattle.chunk_map.specs.declared.heads.Head.{Head}
 use Rattle.chunk_map.specs.declared.heads.Head.TheVariants.{Free, Log, Data}
 use Rattle.chunk_map.specs.Layouts.{chunk_first, payload_words, head_at, head_by}
 use Rattle.store_image.specs.declared.types.PlacedEntry.{PlacedEntry}
-use Rattle.store_image.specs.Parts.{chunk_entries, chunk_reads, scan_behind, scan_at, head_reads, placed}
+use Rattle.store_image.specs.Parts.{chunk_entries, chunk_reads, scan_behind, scan_at, head_reads, placed_in_chunk}
 use Rattle.core_log.specs.Chunk.{HasLog, FreeOrEmpty}
 use Rattle.core_log.specs.Entries.{with_places}
 use Rattle.core_log.proofs.BatchLaws.{head_of}
@@ -38,7 +38,7 @@ pub free_reads_well : (l : Geometry) (image : ℕ → ℕ) (at : ℕ) → image 
 free_reads_well l image at is = (λ i. head_reads (head_by l (is i) (image (at + 1))) (scan_behind image at (head_by l (is i) (image (at + 1)))))
 
 pub free_has_none : (l : Geometry) (image : ℕ → ℕ) (c j : ℕ) → image (chunk_first l c j) ≡ 0 → chunk_entries l image c j ≡ []
-free_has_none l image c j is = (λ i. placed c j (scan_behind image (chunk_first l c j) (head_by l (is i) (image (chunk_first l c j + 1)))).entries)
+free_has_none l image c j is = (λ i. placed_in_chunk c j (scan_behind image (chunk_first l c j) (head_by l (is i) (image (chunk_first l c j + 1)))).entries)
 
 empty_reads_well : (l : Geometry) (image : ℕ → ℕ) (at : ℕ) → image at ≡ 1 → image (at + 1) ≡ 0 → chunk_reads l image at ≡ true
 empty_reads_well l image at kind tail = log_reads_well l image at 0 [] [] (omega arith) (omega arith) (kind, tail, refl) (record { words = refl; each = tt })
@@ -48,11 +48,11 @@ free_or_empty_reads l image at (inl is) = free_reads_well l image at is
 free_or_empty_reads l image at (inr is) = empty_reads_well l image at is.0 is.1
 
 -- the entries of a batch in their places
-pub placed_entries : (c j place : ℕ) (es : List Entry) → map (λ (x : PlacedEntry). x.entry) (placed c j (with_places place es)) ≡ es
+pub placed_entries : (c j place : ℕ) (es : List Entry) → map (λ (x : PlacedEntry). x.entry) (placed_in_chunk c j (with_places place es)) ≡ es
 placed_entries c j place [] = refl
 placed_entries c j place (e ∷ es) = ap (λ (xs : List Entry). e ∷ xs) (placed_entries c j (place + length (words_of e)) es)
 
 -- the same of any entries with places
-pub placed_all : (c j : ℕ) (xs : List (ℕ × Entry)) → map (λ (x : PlacedEntry). x.entry) (placed c j xs) ≡ map (λ (x : ℕ × Entry). x.1) xs
+pub placed_all : (c j : ℕ) (xs : List (ℕ × Entry)) → map (λ (x : PlacedEntry). x.entry) (placed_in_chunk c j xs) ≡ map (λ (x : ℕ × Entry). x.1) xs
 placed_all c j [] = refl
 placed_all c j (x ∷ xs) = ap (λ (es : List Entry). x.1 ∷ es) (placed_all c j xs)

@@ -15,7 +15,7 @@ use Rattle.chunk_map.specs.declared.heads.Head.TheVariants.{Data}
 use Rattle.chunk_map.specs.Layouts.{chunk_words, head_at, part_first}
 use Rattle.chunk_map.proofs.Clients.{chunks_apart, chunk_in_part}
 use Rattle.store_image.specs.declared.types.PlacedEntry.{PlacedEntry}
-use Rattle.store_image.specs.Parts.{placed, chunk_entries, chunk_reads}
+use Rattle.store_image.specs.Parts.{placed_in_chunk, chunk_entries, chunk_reads}
 use Rattle.store_image.specs.Facts.{In}
 use Rattle.store_image.proofs.Clients.{Numbers, layout_numbers, in_front, in_back, in_either}
 use Rattle.core_log.specs.Chunk.{words_now, padded, HasOrLacks, HasLog, FreeOrEmpty, FreeOrLog}
@@ -41,7 +41,7 @@ module _ (s : State) (log : LogState) (stands : StandsIn s log) (j : ℕ) (has :
   pub chunk_is : IsChunkOf log.layout (chunk_with j (tail_in log j))
   chunk_is = own_chunk log stands.own j (tail_in log j) (is_tail (tail_of log.chunks j) has)
 
-  pub chunk_now : IsTelling s → (image : ℕ → ℕ) → MayLeaveIn (cell_now s) (first_of log j) (first_of log j + chunk_words log.layout) image → chunk_entries log.layout image log.part j ≡ placed log.part j (entries_in s log j)
+  pub chunk_now : IsTelling s → (image : ℕ → ℕ) → MayLeaveIn (cell_now s) (first_of log j) (first_of log j + chunk_words log.layout) image → chunk_entries log.layout image log.part j ≡ placed_in_chunk log.part j (entries_in s log j)
   chunk_now telling image may =
       let is = chunk_is in
       let fits = (tail_fits log.layout stands.own.layout (chunk_with j (tail_in log j)) is).0 in
@@ -133,10 +133,10 @@ module _ (s t : State) (log : LogState) (stands : StandsIn s log) (ws : List ℕ
     no_data class e = let size = some_words s log stands in log_not_data log.layout entry.before (open_first log) class
         (entry.inside (open_first log) (omega arith) (omega (arith, size)) ∙ surely_last (cell_now s (open_first log)) 1 (open_log s log stands some_open telling).kind) e
 
-    before_is : chunk_entries log.layout entry.before log.part (open_number log) ≡ placed log.part (open_number log) (entries_in s log (open_number log))
+    before_is : chunk_entries log.layout entry.before log.part (open_number log) ≡ placed_in_chunk log.part (open_number log) (entries_in s log (open_number log))
     before_is = chunk_now s log stands (open_number log) has_tail telling entry.before (in_chunk_of log (cell_now s) (open_number log) entry.before own.within entry.may)
 
-    now_is : chunk_entries log.layout (lasts s) log.part (open_number log) ≡ placed log.part (open_number log) (entries_in s log (open_number log))
+    now_is : chunk_entries log.layout (lasts s) log.part (open_number log) ≡ placed_in_chunk log.part (open_number log) (entries_in s log (open_number log))
     now_is = chunk_now s log stands (open_number log) has_tail telling (lasts s) (λ w low high. may_be_last (cell_now s w) (lasts s w) refl)
 
     lacking : HasLog (open_first log) (open_tail log) (words_now s (open_first log) (open_tail log)) image → Gains log [] entry.before image
@@ -222,7 +222,7 @@ module _ (s t : State) (log : LogState) (stands : StandsIn s log) (j : ℕ) (has
     of_log : IsChunkOf log.layout (chunk_with j (tail_in log j))
     of_log = chunk_is s log stands j has
 
-    was : chunk_entries log.layout closing.before log.part j ≡ placed log.part j (entries_in s log j)
+    was : chunk_entries log.layout closing.before log.part j ≡ placed_in_chunk log.part j (entries_in s log j)
     was = chunk_now s log stands j has telling closing.before (in_chunk_of log (cell_now s) j closing.before of_log.within closing.may)
 
     unwritten : (w : ℕ) → (w < first_of log j) ⊎ (first_of log j + chunk_words log.layout ≤ w) → image w ≡ closing.before w
@@ -243,7 +243,7 @@ module _ (s t : State) (log : LogState) (stands : StandsIn s log) (j : ℕ) (has
     beside : (k : ℕ) (e : Entry) → k ≢ j → is_some (tail_of log.chunks k) ≡ true → In e (entries_of s log k) → InChunk log.layout image log.part k e
     beside k e ne there i =
         let is = chunk_is s log stands k there in
-        let entries : chunk_entries log.layout closing.before log.part k ≡ placed log.part k (entries_in s log k) = chunk_now s log stands k there telling closing.before (in_chunk_of log (cell_now s) k closing.before is.within closing.may) in
+        let entries : chunk_entries log.layout closing.before log.part k ≡ placed_in_chunk log.part k (entries_in s log k) = chunk_now s log stands k there telling closing.before (in_chunk_of log (cell_now s) k closing.before is.within closing.may) in
         to_else log.layout (layout_numbers log.layout stands.own.layout) log.part stands.own.part j image closing.before unwritten k e ne
         (subst (In e) (sym (ap entries_all entries ∙ placed_all log.part k (entries_in s log k))) i)
 

@@ -9,7 +9,7 @@ use Rattle.chunk_map.specs.declared.heads.Head.{Head}
 use Rattle.chunk_map.specs.declared.heads.Head.TheVariants.{Log}
 use Rattle.chunk_map.specs.Layouts.{chunk_words, payload_lines, head_by, head_at, chunk_first}
 use Rattle.chunk_map.specs.Setting.{HeadLies, HeadTurns, SurelyHead}
-use Rattle.store_image.specs.Parts.{chunk_entries, scan_behind, placed}
+use Rattle.store_image.specs.Parts.{chunk_entries, scan_behind, placed_in_chunk}
 use Rattle.core_log.specs.Chunk.{FreeOrEmpty, ChunkLies, IsLog}
 use Rattle.core_log.specs.Log.{LogState, with_tail, first_of, room_of, StandsIn}
 use Rattle.core_log.specs.Opening.{EachInChunk, HasNoEntries, OpenedChunk}
@@ -38,9 +38,9 @@ module _ (s t : State) (log : LogState) (j : ℕ) (stands : StandsIn s log) (lt 
     none l image c k is =
         let at = chunk_first l c k in
         ⊎_elim
-        (λ zero. ap (λ (n : ℕ). placed c k (scan_behind image at (head_by l n (image (at + 1)))).entries) zero)
+        (λ zero. ap (λ (n : ℕ). placed_in_chunk c k (scan_behind image at (head_by l n (image (at + 1)))).entries) zero)
         (λ empty. let head : head_at l image at ≡ Ok (Log 0) = (λ i. head_by l (empty.0 i) (empty.1 i)) ∙ head_of l 0 refl (omega arith) in
-        ap (λ (h : Result Head ℕ). placed c k (scan_behind image at h).entries) head) is
+        ap (λ (h : Result Head ℕ). placed_in_chunk c k (scan_behind image at h).entries) head) is
 
     pub no_entries : During s t (EachInChunk log j (HasNoEntries log j))
     no_entries = weaken s t (EachInChunk log j (FreeOrEmpty (first_of log j))) (EachInChunk log j (HasNoEntries log j)) (λ telling m each image may. none log.layout image log.part j (each image may)) free_or_empty

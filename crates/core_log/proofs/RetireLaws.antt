@@ -10,7 +10,7 @@ use Rattle.chunk_map.specs.Setting.{HeadTurns}
 use Rattle.chunk_map.specs.declared.layouts.Geometry.{Geometry}
 use Rattle.chunk_map.proofs.Clients.{chunks_apart}
 use Rattle.log_entry.proofs.Clients.{words_same}
-use Rattle.store_image.specs.Parts.{chunk_entries, scan_behind, placed}
+use Rattle.store_image.specs.Parts.{chunk_entries, scan_behind, placed_in_chunk}
 use Rattle.core_log.specs.Chunk.{words_now, FreeOrLog, ChunkLies}
 use Rattle.core_log.specs.Log.{LogState, tail_of, without, chunk_with, IsChunkOf, IsOwn, first_of, tail_in, Spelled, StandsIn}
 use Rattle.core_log.specs.Opening.{EachInChunk}
@@ -34,7 +34,7 @@ own_without log j own closed = record {
 }
 
 no_entries : (l : Geometry) (image : ℕ → ℕ) (c k : ℕ) → image (chunk_first l c k) ≡ 0 → chunk_entries l image c k ≡ []
-no_entries l image c k zero = let at = chunk_first l c k in ap (λ (n : ℕ). placed c k (scan_behind image at (head_by l n (image (at + 1)))).entries) zero
+no_entries l image c k zero = let at = chunk_first l c k in ap (λ (n : ℕ). placed_in_chunk c k (scan_behind image at (head_by l n (image (at + 1)))).entries) zero
 
 module _ (s t : State) (log : LogState) (j : ℕ) (stands : StandsIn s log) (has : is_some (tail_of log.chunks j) ≡ true) where
   tail_is : tail_of log.chunks j ≡ Some (tail_in log j)

@@ -4,7 +4,7 @@ use Rattle.pm_region.specs.State.{State, IsTelling, cell_now}
 use Rattle.log_entry.specs.declared.entry.Entry.{Entry}
 use Rattle.log_entry.specs.Spelling.{words_of}
 use Rattle.store_image.specs.declared.types.PlacedEntry.{PlacedEntry}
-use Rattle.store_image.specs.Parts.{placed, chunk_entries}
+use Rattle.store_image.specs.Parts.{placed_in_chunk, chunk_entries}
 use Rattle.core_log.specs.Chunk.{words_now, HasLog}
 use Rattle.core_log.specs.Log.{LogState, StandsIn, EachInOpen, with_tail, open_number, open_first, open_tail}
 
@@ -19,7 +19,7 @@ open_entries log image = chunk_entries log.layout image log.part (open_number lo
 
 -- the entries of a batch behind the tail of the open chunk
 abbrev pub added_entries : LogState → List Entry → List PlacedEntry
-added_entries log es = placed log.part (open_number log) (with_places (open_tail log) es)
+added_entries log es = placed_in_chunk log.part (open_number log) (with_places (open_tail log) es)
 
 -- the entries from before, and all of the batch's
 abbrev pub HasEntries : LogState → List PlacedEntry → List Entry → (ℕ → ℕ) → Type 0

@@ -5,7 +5,7 @@ use Rattle.pm_region.specs.State.{State, cell_now}
 use Rattle.pm_region.specs.Words.{EachIn, MayLeaveIn}
 use Rattle.chunk_map.specs.Layouts.{part_first}
 use Rattle.log_entry.specs.declared.entry.Entry.{Entry}
-use Rattle.store_image.specs.Parts.{part_entries, reads, held}
+use Rattle.store_image.specs.Parts.{part_entries, reads, value_in_block}
 use Rattle.store_image.specs.Facts.{In}
 use Rattle.core_log.specs.Log.{LogState, tail_of}
 use Rattle.core_log.specs.Walking.{entries_in}
@@ -31,8 +31,8 @@ entries_of s log j = map (λ x. x.1) (entries_in s log j)
 -- The part reads as well as before, and its blocks hold what they held.
 pub record KeepsPart (log : LogState) (before image : ℕ → ℕ) : Type 0 where
   pub well : reads log.layout before log.part ≡ true → reads log.layout image log.part ≡ true
-  pub blocks : (q : ℕ) (b : List ℕ) → held log.layout before log.part q ≡ Some b
-      → held log.layout image log.part q ≡ Some b
+  pub blocks : (q : ℕ) (b : List ℕ) → value_in_block log.layout before log.part q ≡ Some b
+      → value_in_block log.layout image log.part q ≡ Some b
 
 -- The part has the entries from before, and these, and no others.
 pub record Gains (log : LogState) (es : List Entry) (before image : ℕ → ℕ) : Type 0 where

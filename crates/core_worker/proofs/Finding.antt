@@ -12,7 +12,7 @@ use Rattle.log_entry.proofs.Clients.{length-unpacked, length-words}
 use Rattle.log_entry.specs.declared.entry.Body.{Body}
 use Rattle.log_entry.specs.declared.entry.Body.TheVariants as bodies
 use Rattle.chunk_map.specs.Layouts.{has_class}
-use Rattle.store_image.specs.Parts.{block_bytes, block_class, held_by}
+use Rattle.store_image.specs.Parts.{block_bytes, block_class, value_by_class}
 use Rattle.core_index.specs.Records.{KeyRecord, Shows, ShowsBody, live_version}
 use Rattle.core_index.specs.Index.{known_at}
 use Rattle.core_index.specs.declared.types.Look.TheVariants.{Block as ShowsBlock}
@@ -41,7 +41,7 @@ shown_record : (o : Option KeyRecord) (q : ℕ) → Shows o (ShowsBlock q) → (
 shown_record None q h = absurd (cc h)
 shown_record (Some r) q h = (r, refl, shown_body r.body q h)
 
-bytes_held : (image : ℕ → ℕ) (q : ℕ) (o : Option ℕ) (u : List ℕ) → held_by image q o ≡ Some u → block_bytes image q ≡ u
+bytes_held : (image : ℕ → ℕ) (q : ℕ) (o : Option ℕ) (u : List ℕ) → value_by_class image q o ≡ Some u → block_bytes image q ≡ u
 bytes_held image q None u e = absurd (cc e)
 bytes_held image q (Some c) u e = by (has_class (image (32 * q)) c) e where
   by : (b : Bool) → cond b (Some (block_bytes image q)) None ≡ Some u → block_bytes image q ≡ u

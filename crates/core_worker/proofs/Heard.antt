@@ -5,7 +5,7 @@ use Rattle.std.proofs.lemmas.Bool.{eqb-true, eq-eqb, and_parts, and_from, cases_
 use Rattle.log_entry.specs.declared.entry.EntryName.{EntryName}
 use Rattle.core_index.specs.declared.types.Standing.{Standing}
 use Rattle.core_index.specs.Index.{known_at, SameRoom, Tells}
-use Rattle.core_index.specs.Records.{KeyRecord, Awaits, is_tombstone, is_dead, standing_at, standing_of, standing_with, told, told_in}
+use Rattle.core_index.specs.Records.{KeyRecord, Awaits, is_tombstone, is_dead, standing_at, standing_of, standing_with, with_told, told_in}
 use Rattle.core_index.specs.Slots.{Place}
 use Rattle.core_index.proofs.Clients.{found_version, at_told, at_told_other, alone_told}
 use Rattle.core_worker.specs.Hearing.{is_dead_by, heard_at, last_change, HearsAll}
@@ -29,7 +29,7 @@ changes_told : (o : Option KeyRecord) (v : ℕ) → option_map last_change (opti
 changes_told None v = refl
 changes_told (Some r) v = refl
 
-pub standing_told : (o : Option KeyRecord) (v : ℕ) → standing_of (option_map (told_in v) o) ≡ told (standing_of o) v
+pub standing_told : (o : Option KeyRecord) (v : ℕ) → standing_of (option_map (told_in v) o) ≡ with_told (standing_of o) v
 standing_told None v = refl
 standing_told (Some r) v = refl
 
@@ -70,7 +70,7 @@ module _ (home : ℕ) (old mid new : List (ℕ × Place)) (name : EntryName) (h 
         let there = was_there k n e f in
         let here : standing_at (standing_of (option_map (told_in name.version) (known_at mid k))) n ≡ Some (standing_with n home true) =
         ap (λ (ss : List Standing). standing_at ss n) (standing_told (known_at mid k) name.version)
-        ∙ ap (λ (v : ℕ). standing_at (told (standing_of (known_at mid k)) v) n) (sym f)
+        ∙ ap (λ (v : ℕ). standing_at (with_told (standing_of (known_at mid k)) v) n) (sym f)
         ∙ at_told (standing_of (known_at mid k)) n (standing_with n home false) there.0 in
         was_told home n (standing_at (standing_of (known_at old k)) n) (standing_at (standing_of (known_at mid k)) n) _ (is_dead_by (known_at old k) n) (h.each k n) there.0 (sym (h.dead k n) ∙ there.1) here
     | inr ne ↦

@@ -4,7 +4,7 @@ use Rattle.std.proofs.lemmas.Bool.{cases_eq}
 use Rattle.log_entry.specs.declared.entry.EntryName.{EntryName}
 use Rattle.core_index.specs.declared.types.Standing.{Standing}
 use Rattle.core_index.specs.Index.{known_at, Tells}
-use Rattle.core_index.specs.Records.{KeyRecord, Awaits, standing_at, standing_of, standing_with, told, told_in}
+use Rattle.core_index.specs.Records.{KeyRecord, Awaits, standing_at, standing_of, standing_with, with_told, told_in}
 use Rattle.core_index.specs.Slots.{Place}
 use Rattle.core_index.proofs.Clients.{at_told, at_told_other}
 use Rattle.log_standing.specs.declared.types.Copies.{Copies}
@@ -85,7 +85,7 @@ module _ (home : ℕ) (first es next : List (ℕ × Place)) (old st now : Standi
       let now_told : standing_at (standing_of (known_at next k)) n ≡ Some (standing_with name.version home true) =
       ap (λ (o : Option KeyRecord). standing_at (standing_of o) n) here
       ∙ ap (λ (ss : List Standing). standing_at ss n) (standing_told (known_at es name.key) name.version)
-      ∙ ap (standing_at (told (standing_of (known_at es name.key)) name.version)) (sym version)
+      ∙ ap (standing_at (with_told (standing_of (known_at es name.key)) name.version)) (sym version)
       ∙ at_told (standing_of (known_at es name.key)) name.version (standing_with name.version home false) was in
       let two : Some true ≡ Some false = ap flag (sym now_told ∙ stands_by (known_at next k) home n a) in cc two
 

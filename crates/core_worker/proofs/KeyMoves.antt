@@ -19,13 +19,13 @@ use Rattle.licence.specs.Licence.{Licensed, part_at, part_end}
 use Rattle.engine_laws.specs.RefusalCauses.{Refuses}
 use Rattle.core_worker.specs.declared.worker.Worker.{Worker}
 use Rattle.core_worker.specs.Ties.{Holds}
-use Rattle.core_worker.specs.WorkerMoves.{Hands, Fixed, replied, placed, line_in, fixed_of, requests_for, stock_of, hands_of, AnswersKey, SpendsIn, WorkerMoves}
+use Rattle.core_worker.specs.WorkerMoves.{Hands, Fixed, replied, request_placed, line_in, fixed_of, requests_for, stock_of, hands_of, AnswersKey, SpendsIn, WorkerMoves}
 use Rattle.core_worker.proofs.HandKeys.{holds_key}
 
 -- what is held of the key is the same
 pub still_key : (v : View) (w x : Hands) (k : ℕ) → x.place k ≡ w.place k → x.waits k ≡ w.waits k → AnswersKey v v w x k [] []
 still_key v w x k place waits = record {
-  order = append-nil (line_in w k) ∙ (λ i. placed (sym place i) ++ sym waits i);
+  order = append-nil (line_in w k) ∙ (λ i. request_placed (sym place i) ++ sym waits i);
   lawful = tt;
   cell = refl;
   after_stop = λ stopped none. (tt, place ∙ none);
@@ -37,7 +37,7 @@ still_key v w x k place waits = record {
 -- a request came behind those of the key
 pub held_key : (v : View) (w x : Hands) (k n : ℕ) (r : Request) → x.place k ≡ w.place k → x.waits k ≡ w.waits k ++ (n, r) ∷ [] → AnswersKey v v w x k ((n, r) ∷ []) []
 held_key v w x k n r place waits = record {
-  order = append_assoc (placed (w.place k)) (w.waits k) ((n, r) ∷ []) ∙ (λ i. placed (sym place i) ++ sym waits i);
+  order = append_assoc (request_placed (w.place k)) (w.waits k) ((n, r) ∷ []) ∙ (λ i. request_placed (sym place i) ++ sym waits i);
   lawful = tt;
   cell = refl;
   after_stop = λ stopped none. (tt, place ∙ none);
@@ -47,7 +47,7 @@ held_key v w x k n r place waits = record {
 }
 
 no_line : (w : Hands) (k : ℕ) → w.place k ≡ None → w.waits k ≡ [] → line_in w k ≡ []
-no_line w k place waits = (λ i. placed (place i) ++ waits i)
+no_line w k place waits = (λ i. request_placed (place i) ++ waits i)
 
 -- the one request of the key was answered, and the cell stays
 pub answered_key : (v : View) (w x : Hands) (k n : ℕ) (r : Request) (a : Reply) (why : Option Shortage) → w.place k ≡ None → w.waits k ≡ [] → x.place k ≡ None → x.waits k ≡ []
@@ -70,7 +70,7 @@ answered_key v w x k n r a why place waits place_now waits_now may left stopped 
 pub staged_key : (v : View) (w x : Hands) (k n : ℕ) (r : Request) → w.place k ≡ None → w.waits k ≡ [] → x.place k ≡ Some (record { number = n; request = r; posted = false }) → x.waits k ≡ [] → w.stopped ≡ false
     → AnswersKey v v w x k ((n, r) ∷ []) []
 staged_key v w x k n r place waits place_now waits_now runs = record {
-  order = ap (λ (l : List (ℕ × Request)). l ++ (n, r) ∷ []) (no_line w k place waits) ∙ (λ i. placed (sym place_now i) ++ sym waits_now i);
+  order = ap (λ (l : List (ℕ × Request)). l ++ (n, r) ∷ []) (no_line w k place waits) ∙ (λ i. request_placed (sym place_now i) ++ sym waits_now i);
   lawful = tt;
   cell = refl;
   after_stop = λ s none. absurd (let both : true ≡ false = sym s ∙ runs in cc both);

@@ -7,7 +7,7 @@ use Rattle.fs_model.specs.declared.model.Reply.{Reply}
 use Rattle.log_entry.specs.declared.entry.Entry.{Entry}
 use Rattle.group_laws.specs.declared.types.Slot.{Slot}
 use Rattle.group_laws.specs.Places.{Place, core_of}
-use Rattle.group_laws.specs.State.{Group, shown}
+use Rattle.group_laws.specs.State.{Group, word_shown}
 use Rattle.group_laws.specs.Invariant.{Lawful}
 use Rattle.group_laws.specs.MemberViews.{View}
 use Rattle.group_laws.specs.Runs.{Kind, Runs}
@@ -76,7 +76,7 @@ none_posted g m none = by (any_offers (g.slot m) 8) refl where
       let at = offers_has (g.slot m) 8 e in
       let x = offered (g.slot m at.0) at.2 in
       let found = none at.0 at.1 in
-      found.1 _ (sym found.2 ∙ ap (λ n. state_of (shown (g.slot n (slot_at at.0)))) (own_member m at.0 at.1) ∙ ap (λ n. state_of (shown (g.slot m n))) (own_slot at.0 at.1) ∙ ap (λ (y : Slot). state_of (shown y)) x.1)
+      found.1 _ (sym found.2 ∙ ap (λ n. state_of (word_shown (g.slot n (slot_at at.0)))) (own_member m at.0 at.1) ∙ ap (λ n. state_of (word_shown (g.slot m n))) (own_slot at.0 at.1) ∙ ap (λ (y : Slot). state_of (word_shown y)) x.1)
       )
 
 gives_over : (g h : Group) (o : Option Group) (m : ℕ) (v u : View) (w x : Worker) → NonePosted (Some g) m 8 → Runs g (looks_upto m 0 8) h → Makes (Some h) m Kind.Unlock o u → Lawful g → left x ≤ left w → IsSomeAnd o (λ e. left x + under_way e < left w + under_way g)

@@ -10,7 +10,7 @@ use Rattle.group_laws.specs.declared.types.Slot.{Slot}
 use Rattle.group_laws.specs.declared.types.Slot.TheVariants as slots
 use Rattle.group_laws.specs.declared.types.SlotWord.{SlotWord}
 use Rattle.group_laws.specs.declared.types.SlotWord.TheVariants as words
-use Rattle.group_laws.specs.State.{Group, shown}
+use Rattle.group_laws.specs.State.{Group, word_shown}
 use Rattle.group_laws.specs.MemberViews.{View, view_of}
 use Rattle.group_laws.specs.Runs.{Kind, Runs}
 use Rattle.group_board.specs.Told.{Makes}
@@ -29,19 +29,19 @@ use Rattle.core_worker.proofs.LeftLooks.{at_looked, looked_way}
 
 -- what the loads of own slots add to a view
 abbrev pub seen_in : Group → ℕ → List ℕ → List Seen
-seen_in w m ss = map (λ s. SeenSlot m s (shown (w.slot m s))) ss
+seen_in w m ss = map (λ s. SeenSlot m s (word_shown (w.slot m s))) ss
 
 pub at_seen : (w u : Group) (m : ℕ) (ss : List ℕ) → Runs w (looks_at m ss) u → u.looked m ≡ w.looked m ++ seen_in w m ss
 at_seen w u m [] r = ap (λ (g : Group). g.looked m) r ∙ sym (append-nil (w.looked m))
 at_seen w u m (s ∷ ss) r =
-    let x = SeenSlot m s (shown (w.slot m s)) in
+    let x = SeenSlot m s (word_shown (w.slot m s)) in
     let here : r.0.looked m ≡ w.looked m ++ x ∷ [] = ap (λ (g : Group). g.looked m) r.1.2 ∙ ap (λ b. cond b (w.looked m ++ x ∷ []) (w.looked m)) (eq-eqb m m refl) in
     let same : seen_in r.0 m ss ≡ seen_in w m ss = ap (λ (g : Group). seen_in g m ss) r.1.2 in
     at_seen r.0 u m ss r.2 ∙ ap (λ xs. xs ++ seen_in r.0 m ss) here ∙ append_assoc (w.looked m) (x ∷ []) (seen_in r.0 m ss) ∙ ap (λ ys. w.looked m ++ x ∷ ys) same
 
-pub in_seen : (w : Group) (m : ℕ) (ss : List ℕ) (s : ℕ) (word : SlotWord) → In (SeenSlot m s word) (seen_in w m ss) → word ≡ shown (w.slot m s)
+pub in_seen : (w : Group) (m : ℕ) (ss : List ℕ) (s : ℕ) (word : SlotWord) → In (SeenSlot m s word) (seen_in w m ss) → word ≡ word_shown (w.slot m s)
 in_seen w m [] s word i = absurd i
-in_seen w m (t ∷ ss) s word (inl e) = (let same : s ≡ t = cc e in let is : word ≡ shown (w.slot m t) = cc e in is ∙ ap (λ n. shown (w.slot m n)) (sym same))
+in_seen w m (t ∷ ss) s word (inl e) = (let same : s ≡ t = cc e in let is : word ≡ word_shown (w.slot m t) = cc e in is ∙ ap (λ n. word_shown (w.slot m n)) (sym same))
 in_seen w m (t ∷ ss) s word (inr i) = in_seen w m ss s word i
 
 -- What the loads of this turn showed is what stood in the slots, and stands there.
@@ -50,10 +50,10 @@ module _ (g u : Group) (m : ℕ) (ss : List ℕ) (run : Runs g (looks_at m ss) u
   looks_are = append_cancel_left a.view.looked L.looks (seen_in g m ss)
       (sym (ap (λ (x : View). x.looked) L.view) ∙ ap (λ (x : View). x.looked) now ∙ at_seen g u m ss run ∙ ap (λ xs. xs ++ seen_in g m ss) (sym (ap (λ (x : View). x.looked) before)))
 
-  pub found_is : (s : ℕ) (word : SlotWord) → In (SeenSlot m s word) L.looks → word ≡ shown (g.slot m s)
+  pub found_is : (s : ℕ) (word : SlotWord) → In (SeenSlot m s word) L.looks → word ≡ word_shown (g.slot m s)
   found_is s word i = in_seen g m ss s word (subst (λ (xs : List Seen). In (SeenSlot m s word) xs) looks_are i)
 
-posted_offers : (x : Slot) (n : ℕ) → words.Posted n ≡ shown x → offers x ≡ true
+posted_offers : (x : Slot) (n : ℕ) → words.Posted n ≡ word_shown x → offers x ≡ true
 posted_offers slots.Empty n e = absurd (cc e)
 posted_offers (slots.Posted d) n e = refl
 posted_offers slots.Taken n e = absurd (cc e)

@@ -10,7 +10,7 @@ use Rattle.log_entry.specs.Spelling.{words_of}
 use Rattle.group_laws.specs.declared.types.Slot.{Slot}
 use Rattle.group_laws.specs.declared.types.Slot.TheVariants as slots
 use Rattle.group_laws.specs.Places.{Place, members}
-use Rattle.group_laws.specs.State.{Group, shown}
+use Rattle.group_laws.specs.State.{Group, word_shown}
 use Rattle.group_laws.specs.Invariant.{Lawful}
 use Rattle.group_laws.specs.MemberViews.{View, view_of}
 use Rattle.group_laws.specs.Runs.{Kind, Runs}
@@ -79,7 +79,7 @@ module _ (g : Group) (L : Lawful g) (m : ℕ) (w : Worker) (H : Holds g.place m 
       let at = passed s (omega (arith, first)) (omega (arith, lt, whole)) in
       let who = own_member m s lt in
       let shows : states.Posted (length (words_of e)) ≡ at.0 =
-      sym (ap (λ (x : Slot). state_of (shown x)) is) ∙ ap (λ n. state_of (shown (g.slot n s))) (sym who) ∙ ap (λ n. state_of (shown (g.slot (member_at m s) n))) (sym (own_slot s lt)) ∙ at.2 in
+      sym (ap (λ (x : Slot). state_of (word_shown x)) is) ∙ ap (λ n. state_of (word_shown (g.slot n s))) (sym who) ∙ ap (λ n. state_of (word_shown (g.slot (member_at m s) n))) (sym (own_slot s lt)) ∙ at.2 in
       let passes : Passes (room_for w) (own_lines m (taken_by old)) (taken_by old) old.fresh (member_at m s == m) (states.Posted (length (words_of e))) =
       subst (Passes (room_for w) (own_lines m (taken_by old)) (taken_by old) old.fresh (member_at m s == m)) (sym shows) at.1 in
       let mine : (member_at m s == m) ≡ true = eq-eqb (member_at m s) m who in

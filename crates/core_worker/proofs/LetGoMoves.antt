@@ -38,7 +38,7 @@ use Rattle.core_worker.proofs.Given.{said_same, given_by, adds_then, ends_untold
 use Rattle.core_worker.specs.Finishing.{Serves, ShortOf}
 use Rattle.core_worker.specs.Turning.{TurnMoves}
 use Rattle.group_board.specs.Seats.{SeatAt}
-use Rattle.core_worker.specs.WorkerMoves.{asked, SpendsIn, Placed, Fixed, replied, placed, line_in, placed_in, placed_for, asked_by, hands_of, fixed_of, stock_of, AnswersKey, WorkerMoves}
+use Rattle.core_worker.specs.WorkerMoves.{asked, SpendsIn, Placed, Fixed, replied, request_placed, line_in, placed_in, placed_for, asked_by, hands_of, fixed_of, stock_of, AnswersKey, WorkerMoves}
 use Rattle.std.specs.List.{AllByRecursion}
 use Rattle.chunk_map.specs.declared.layouts.Geometry.{Geometry}
 use Rattle.core_index.specs.Index.{known_at}
@@ -164,7 +164,7 @@ module _ (Known : Type 0) (p : Place) (m : ℕ) (v u : View) (w f x : Worker) (k
 
   own_key : AnswersKey v u (hands_of v w) (hands_of u x) k [] (first ∷ fs)
   own_key = record {
-    order = append-nil (line_in (hands_of v w) k) ∙ (λ i. placed (place_before i) ++ sym waits_is i) ∙ ap (λ (xs : List (ℕ × Request)). (pl.number, pl.request) ∷ xs) L.line;
+    order = append-nil (line_in (hands_of v w) k) ∙ (λ i. request_placed (place_before i) ++ sym waits_is i) ∙ ap (λ (xs : List (ℕ × Request)). (pl.number, pl.request) ∷ xs) L.line;
     lawful = (may, lawful_after);
     cell = ap (λ (c : Option (List ℕ)). cell_of c (map replied fs)) left ∙ L.cell_now;
     after_stop = λ stopped none. absurd (let both : Some pl ≡ None = sym place_before ∙ none in cc both);

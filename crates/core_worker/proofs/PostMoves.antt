@@ -39,7 +39,7 @@ use Rattle.core_worker.specs.Order.{PointsAt, count_changes, unanswered, MayLead
 use Rattle.core_worker.specs.Posting.{PostsPlain}
 use Rattle.core_worker.specs.Ties.{Holds, Stands, LeadsNothing}
 use Rattle.core_worker.specs.Turns.{Steps}
-use Rattle.core_worker.specs.WorkerMoves.{Placed, Hands, placed, line_in, placed_in, placed_for, stock_of, hands_of, AnswersKey, WorkerMoves}
+use Rattle.core_worker.specs.WorkerMoves.{Placed, Hands, request_placed, line_in, placed_in, placed_for, stock_of, hands_of, AnswersKey, WorkerMoves}
 use Rattle.core_worker.proofs.HandKeys.{holds_key}
 use Rattle.core_worker.proofs.HandPlaces.{held_at, held_beside}
 use Rattle.core_worker.proofs.QuietMoves.{runs_in}
@@ -62,7 +62,7 @@ count_same (x ∷ xs) (y ∷ ys) e same = (λ i. cond (same zero i) 0 1 + count_
 pub posted_key : (v u : View) (w x : Hands) (k n : ℕ) (r : Request) (q : Pending) (s : ℕ) → w.place k ≡ Some (record { number = n; request = r; posted = false }) → x.place k ≡ Some (record { number = n; request = r; posted = true }) → x.waits k ≡ w.waits k → u.cell k ≡ v.cell k → w.stopped ≡ false → u.pending k ≡ Some q → q.slot ≡ Some s
     → AnswersKey v u w x k [] []
 posted_key v u w x k n r q s place now waits cell runs pending slot = record {
-  order = append-nil (line_in w k) ∙ (λ i. placed (place i) ++ sym waits i) ∙ (λ i. placed (sym now i) ++ x.waits k);
+  order = append-nil (line_in w k) ∙ (λ i. request_placed (place i) ++ sym waits i) ∙ (λ i. request_placed (sym now i) ++ x.waits k);
   lawful = tt;
   cell = sym cell;
   after_stop = λ stopped none. absurd (let both : true ≡ false = sym stopped ∙ runs in cc both);
@@ -81,7 +81,7 @@ posted_key v u w x k n r q s place now waits cell runs pending slot = record {
 -- nothing of the key changes
 pub kept_key : (v u : View) (w x : Hands) (k : ℕ) → u.cell k ≡ v.cell k → u.pending k ≡ v.pending k → x.place k ≡ w.place k → x.waits k ≡ w.waits k → AnswersKey v u w x k [] []
 kept_key v u w x k cell pending place waits = record {
-  order = append-nil (line_in w k) ∙ (λ i. placed (sym place i) ++ sym waits i);
+  order = append-nil (line_in w k) ∙ (λ i. request_placed (sym place i) ++ sym waits i);
   lawful = tt;
   cell = sym cell;
   after_stop = λ stopped none. (tt, place ∙ none);

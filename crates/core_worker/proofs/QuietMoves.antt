@@ -22,7 +22,7 @@ use Rattle.core_worker.specs.declared.worker.Worker.{Worker}
 use Rattle.core_worker.specs.OwnPlaces.{key_in, is_of, request_pending}
 use Rattle.core_worker.specs.Ties.{Holds}
 use Rattle.core_worker.specs.Turns.{Steps}
-use Rattle.core_worker.specs.WorkerMoves.{Spends, placed_in, placed_for, placed, stock_of, hands_of, line_in, WorkerMoves, asked_by}
+use Rattle.core_worker.specs.WorkerMoves.{Spends, placed_in, placed_for, request_placed, stock_of, hands_of, line_in, WorkerMoves, asked_by}
 use Rattle.engine_laws.proofs.Clients.{quiet_refuses}
 use Rattle.core_worker.proofs.StockFacts.{quiet_in}
 use Rattle.core_worker.proofs.HandKeys.{holds_key}
@@ -58,7 +58,7 @@ quiet_moves p m s t before after v u w x H outside moments exit made cell pendin
   whole = runs_in m made.0 u before after made.1;
   own = λ y i. absurd i;
   keys = λ k own. record {
-    order = append-nil (line_in (hands_of v w) k) ∙ (λ i. placed (sym (place_same k) i) ++ sym (waits_same k) i);
+    order = append-nil (line_in (hands_of v w) k) ∙ (λ i. request_placed (sym (place_same k) i) ++ sym (waits_same k) i);
     lawful = tt;
     cell = (λ i. sym cell i k);
     after_stop = λ stopped none. (tt, place_same k ∙ none);

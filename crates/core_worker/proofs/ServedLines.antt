@@ -24,7 +24,7 @@ use Rattle.core_worker.specs.Refusals.{reply_to}
 use Rattle.core_worker.specs.Answering.{IsCause, IsSaid, AddsAnswers}
 use Rattle.core_worker.proofs.Given.{said_same, given_by, adds_none, adds_then, answer_untold}
 use Rattle.core_worker.specs.Beginning.{answers_of, answer_with, OnlyBegins, IsAnswered, IsStaged, GoesOn, BeginsBy, BeginsAs, Begins, BeginsAll, BeginsShort}
-use Rattle.core_worker.specs.WorkerMoves.{Placed, Fixed, asked, replied, placed, placed_in, placed_for, asked_by, stock_of}
+use Rattle.core_worker.specs.WorkerMoves.{Placed, Fixed, asked, replied, request_placed, placed_in, placed_for, asked_by, stock_of}
 use Rattle.chunk_map.specs.declared.layouts.Geometry.{Geometry}
 use Rattle.engine_laws.specs.FreeStock.{Stock, LacksRoom}
 use Rattle.engine_laws.specs.RefusalCauses.{raised, HasCause, HaveCauses}
@@ -100,7 +100,7 @@ module _ (Known : Type 0) (w u : Worker) (cell : Option (List ℕ)) (n : ℕ) (r
 pub record Line (Known : Type 0) (v : View) (w x : Worker) (k : ℕ) (cell : Option (List ℕ)) (hs : List Held) (fs : List Fixed) : Type 0 where
   pub answers : AddsAnswers Known (answers_of w) (answers_of x) fs
   pub keys : (y : Fixed) → In y fs → key_of y.request ≡ k
-  pub line : map asked_by hs ≡ map asked fs ++ (placed (placed_for v x.places.items k) ++ map asked_by (filter (λ h. key_of h.request == k) (option_to_list x.in_hand) ++ waiting x.queue k))
+  pub line : map asked_by hs ≡ map asked fs ++ (request_placed (placed_for v x.places.items k) ++ map asked_by (filter (λ h. key_of h.request == k) (option_to_list x.in_hand) ++ waiting x.queue k))
   pub lawful : IsLawfulFor cell w.stopped (map replied fs)
   pub cell_now : cell_of cell (map replied fs) ≡ cell
   pub halts : w.stopped ≡ true → AllByRecursion (λ y. y.reply ≡ replies.Stopped) fs × (placed_for v x.places.items k ≡ None)
@@ -159,8 +159,8 @@ module _ (Known : Type 0) (v : View) (k : ℕ) (cell : Option (List ℕ)) where
   line_none w x same hand idle none = record {
     answers = adds_none Known (answers_of w) (answers_of x) (ap (λ (y : Worker). answers_of y) same);
     keys = λ y i. absurd i;
-    line = sym (ap (λ (y : Worker). placed (placed_for v y.places.items k) ++ map asked_by (filter (λ h. key_of h.request == k) (option_to_list y.in_hand) ++ waiting y.queue k)) same
-        ∙ (λ i. placed (none_for v k w.places.items idle i) ++ map asked_by (hand_none w.in_hand k (waiting w.queue k) hand i)) ∙ ap (map asked_by) none);
+    line = sym (ap (λ (y : Worker). request_placed (placed_for v y.places.items k) ++ map asked_by (filter (λ h. key_of h.request == k) (option_to_list y.in_hand) ++ waiting y.queue k)) same
+        ∙ (λ i. request_placed (none_for v k w.places.items idle i) ++ map asked_by (hand_none w.in_hand k (waiting w.queue k) hand i)) ∙ ap (map asked_by) none);
     lawful = tt;
     cell_now = refl;
     halts = λ stopped. (tt, ap (λ (y : Worker). placed_for v y.places.items k) same ∙ none_for v k w.places.items idle);
@@ -254,8 +254,8 @@ module _ (Known : Type 0) (v : View) (k : ℕ) (cell : Option (List ℕ)) where
     line_staged S short runs is hand idle apart waits = record {
       answers = adds_none Known (answers_of w) (answers_of x) (ap (λ (y : Worker). answers_of y) is ∙ S.answers ∙ ap (λ (y : Worker). answers_of y) same);
       keys = λ y i. absurd i;
-      line = sym (ap (λ (y : Worker). placed (placed_for v y.places.items k) ++ map asked_by (filter (λ h. key_of h.request == k) (option_to_list y.in_hand) ++ waiting y.queue k)) is
-          ∙ (λ i. placed (has i) ++ map asked_by (hand_none mid.in_hand k (waiting mid.queue k) (hand_mid ∙ hand) i)) ∙ ap (λ (ys : List Held). (h.number, h.request) ∷ map asked_by ys) (rest_is waits));
+      line = sym (ap (λ (y : Worker). request_placed (placed_for v y.places.items k) ++ map asked_by (filter (λ h. key_of h.request == k) (option_to_list y.in_hand) ++ waiting y.queue k)) is
+          ∙ (λ i. request_placed (has i) ++ map asked_by (hand_none mid.in_hand k (waiting mid.queue k) (hand_mid ∙ hand) i)) ∙ ap (λ (ys : List Held). (h.number, h.request) ∷ map asked_by ys) (rest_is waits));
       lawful = tt;
       cell_now = refl;
       halts = λ stopped. absurd (let both : true ≡ false = sym stopped ∙ sym (ap (λ (y : Worker). y.stopped) same) ∙ runs in cc both);
@@ -329,8 +329,8 @@ module _ (Known : Type 0) (v : View) (k : ℕ) (cell : Option (List ℕ)) where
   line_short w next x h hs T same is hand idle waits = record {
     answers = adds_none Known (answers_of w) (answers_of x) (ap (λ (y : Worker). answers_of y) whole);
     keys = λ y i. absurd i;
-    line = ap (map asked_by) (sym waits ∙ T.key) ∙ sym (ap (λ (y : Worker). placed (placed_for v y.places.items k) ++ map asked_by (filter (λ h. key_of h.request == k) (option_to_list y.in_hand) ++ waiting y.queue k)) is
-        ∙ (λ i. placed (none i) ++ map asked_by (cond (eq-eqb (key_of h.request) k (first_key w.queue next.queue k h T) i) (h ∷ []) [] ++ waiting next.queue k)));
+    line = ap (map asked_by) (sym waits ∙ T.key) ∙ sym (ap (λ (y : Worker). request_placed (placed_for v y.places.items k) ++ map asked_by (filter (λ h. key_of h.request == k) (option_to_list y.in_hand) ++ waiting y.queue k)) is
+        ∙ (λ i. request_placed (none i) ++ map asked_by (cond (eq-eqb (key_of h.request) k (first_key w.queue next.queue k h T) i) (h ∷ []) [] ++ waiting next.queue k)));
     lawful = tt;
     cell_now = refl;
     halts = λ stopped. (tt, ap (λ (y : Worker). placed_for v y.places.items k) is ∙ none);
@@ -374,7 +374,7 @@ module _ (Known : Type 0) (v : View) (k : ℕ) (cell : Option (List ℕ)) where
   line_kept w idle = record {
     answers = adds_none Known (answers_of w) (answers_of w) refl;
     keys = λ y i. absurd i;
-    line = sym (ap (λ (o : Option Placed). placed o ++ map asked_by (filter (λ h. key_of h.request == k) (option_to_list w.in_hand) ++ waiting w.queue k)) (none_for v k w.places.items idle));
+    line = sym (ap (λ (o : Option Placed). request_placed o ++ map asked_by (filter (λ h. key_of h.request == k) (option_to_list w.in_hand) ++ waiting w.queue k)) (none_for v k w.places.items idle));
     lawful = tt;
     cell_now = refl;
     halts = λ stopped. (tt, none_for v k w.places.items idle);

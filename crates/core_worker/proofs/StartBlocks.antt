@@ -13,7 +13,7 @@ use Rattle.chunk_map.specs.Layouts.{chunk_first, chunk_words, head_at, has_class
 use Rattle.chunk_map.specs.Layouts as layouts
 use Rattle.store_image.specs.declared.types.PlacedEntry.{PlacedEntry}
 use Rattle.store_image.specs.Facts.{KeepsRules}
-use Rattle.store_image.specs.Parts.{chunk_at, unit_at, class_behind, block_class, block_bytes, held, held_by}
+use Rattle.store_image.specs.Parts.{chunk_at, unit_at, class_behind, block_class, block_bytes, value_in_block, value_by_class}
 use Rattle.store_image.specs.Winners.{winner}
 use Rattle.store_image.proofs.Clients.{layout_numbers}
 use Rattle.lazy_alloc.specs.Heads.{class_in}
@@ -49,7 +49,7 @@ record Held (image : ℕ → ℕ) (q : ℕ) (o : Option ℕ) (v : List ℕ) : Ty
   pub class_is : o ≡ Some class
   pub fits : has_class (length v) class ≡ true
 
-held_class : (image : ℕ → ℕ) (q : ℕ) (o : Option ℕ) (v : List ℕ) → held_by image q o ≡ Some v → Held image q o v
+held_class : (image : ℕ → ℕ) (q : ℕ) (o : Option ℕ) (v : List ℕ) → value_by_class image q o ≡ Some v → Held image q o v
 held_class image q None v e = absurd (cc e)
 held_class image q (Some class) v e = by (has_class (image (32 * q)) class) refl e where
   by : (b : Bool) → has_class (image (32 * q)) class ≡ b → cond b (Some (block_bytes image q)) None ≡ Some v → Held image q (Some class) v
@@ -99,7 +99,7 @@ module _ (p : Place) (image : ℕ → ℕ) (place : IsPlace p) (rules : KeepsRul
     pub wins : winner l image b.key ≡ Some winner_is
     pub points : winner_is.entry.body ≡ Pointer q
     pub own : owner p b.key ≡ m
-    pub holds : held l image c q ≡ Some b.bytes
+    pub holds : value_in_block l image c q ≡ Some b.bytes
 
   pub owned : (q : ℕ) (b : Block) → v.blocks q ≡ Some b → Owned q b
   owned q b t =
@@ -125,7 +125,7 @@ module _ (p : Place) (image : ℕ → ℕ) (place : IsPlace p) (rules : KeepsRul
       let w = is.won q used in
       let some = some_group p image place rules in
       let own = own_of p m w.key some member w.owned in
-      let holds = held_there p (λ h. image) m q ∙ ap (λ (d : ℕ). held l image d q) (sym w.owned) ∙ rules.holds w.key q w.winner_is w.wins w.points in (
+      let holds = held_there p (λ h. image) m q ∙ ap (λ (d : ℕ). value_in_block l image d q) (sym w.owned) ∙ rules.holds w.key q w.winner_is w.wins w.points in (
         record { key = w.key; bytes = block_bytes image q },
         ((is_found p image place rules).blocks m q (record { key = w.key; bytes = block_bytes image q })).1
             (w.winner_is.entry, entries_wins p image place rules w.key w.winner_is (subst (λ (n : ℕ). n < members p) (sym own) member) w.wins, w.points, own, holds),

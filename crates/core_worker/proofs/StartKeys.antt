@@ -8,7 +8,7 @@ use Rattle.log_entry.specs.declared.entry.Body.TheVariants.{Pointer, Embedded, T
 use Rattle.chunk_map.specs.Layouts as layouts
 use Rattle.store_image.specs.declared.types.PlacedEntry.{PlacedEntry}
 use Rattle.store_image.specs.Facts.{In, KeepsRules}
-use Rattle.store_image.specs.Parts.{all_entries, held, block_bytes}
+use Rattle.store_image.specs.Parts.{all_entries, value_in_block, block_bytes}
 use Rattle.store_image.specs.Winners.{winner, recovered, cell_by}
 use Rattle.store_image.proofs.Clients.{winner_some, winner_max, winner_is}
 use Rattle.core_index.specs.declared.types.Standing.{Standing}
@@ -139,18 +139,18 @@ module _ (p : Place) (image : ℕ → ℕ) (place : IsPlace p) (rules : KeepsRul
 
     block_there : (q : ℕ) (x : PlacedEntry) → winner p.layout image k ≡ Some x → x.entry.body ≡ Pointer q → v.blocks q ≡ Some (record { key = k; bytes = block_bytes image q })
     block_there q x w body =
-        let holds = held_there p (λ h. image) m q ∙ ap (λ (c : ℕ). held p.layout image c q) core_is ∙ rules.holds k q x w body in
+        let holds = held_there p (λ h. image) m q ∙ ap (λ (c : ℕ). value_in_block p.layout image c q) core_is ∙ rules.holds k q x w body in
         ((is_found p image place rules).blocks m q (record { key = k; bytes = block_bytes image q })).1 (x.entry, wins p image place rules k x low w, body, own, holds)
 
-    left_body : (x : PlacedEntry) → winner p.layout image k ≡ Some x → (b : Body) → x.entry.body ≡ b → Left v k b (cell_by (held p.layout image (layouts.owner p.layout k)) b)
+    left_body : (x : PlacedEntry) → winner p.layout image k ≡ Some x → (b : Body) → x.entry.body ≡ b → Left v k b (cell_by (value_in_block p.layout image (layouts.owner p.layout k)) b)
     left_body x w (Pointer q) e = (block_bytes image q, rules.holds k q x w e, block_there q x w e)
     left_body x w (Embedded u) e = refl
     left_body x w Tombstone e = refl
 
-    left_by : (w : Option PlacedEntry) → winner p.layout image k ≡ w → (o : Option KeyRecord) → KnownAs w o → LeftIn v k o (option_and_then (λ (x : PlacedEntry). cell_by (held p.layout image (layouts.owner p.layout k)) x.entry.body) w)
+    left_by : (w : Option PlacedEntry) → winner p.layout image k ≡ w → (o : Option KeyRecord) → KnownAs w o → LeftIn v k o (option_and_then (λ (x : PlacedEntry). cell_by (value_in_block p.layout image (layouts.owner p.layout k)) x.entry.body) w)
     left_by None w o e = subst (λ (z : Option KeyRecord). LeftIn v k z None) (sym e) refl
     left_by (Some x) w None e = absurd e
-    left_by (Some x) w (Some r) e = subst (λ (b : Body). Left v k b (cell_by (held p.layout image (layouts.owner p.layout k)) x.entry.body)) (sym e.1) (left_body x w x.entry.body refl)
+    left_by (Some x) w (Some r) e = subst (λ (b : Body). Left v k b (cell_by (value_in_block p.layout image (layouts.owner p.layout k)) x.entry.body)) (sym e.1) (left_body x w x.entry.body refl)
 
     left : LeftIn v k (known_at old k) (recovered p.layout image k)
     left = left_by (winner p.layout image k) refl (known_at old k) known

@@ -5,7 +5,7 @@ use Rattle.store_image.specs.Facts.{In}
 use Rattle.group_laws.specs.declared.types.Seen.{Seen}
 use Rattle.group_laws.specs.declared.types.Seen.TheVariants.{Slot}
 use Rattle.group_laws.specs.declared.types.SlotWord.{SlotWord}
-use Rattle.group_laws.specs.State.{Group, shown}
+use Rattle.group_laws.specs.State.{Group, word_shown}
 use Rattle.group_laws.specs.Runs.Kind.{Look}
 use Rattle.group_laws.specs.MemberViews.{View}
 use Rattle.group_board.specs.declared.board.SlotState.{SlotState}
@@ -27,7 +27,7 @@ Sees m slot before after v u x None = (is_posted x ≡ false) × (u ≡ v) × (a
 Sees m slot before after v u x (Some state) = (is_posted x ≡ true)
     × ((word : SlotWord) × (state_of word ≡ state) × (u ≡ after_find (Slot m slot word) v))
     × Makes before m (Look m slot) after u × IfSome before
-    (λ w. state_of (shown (w.slot m slot)) ≡ state)
+    (λ w. state_of (word_shown (w.slot m slot)) ≡ state)
 
 abbrev pub is_given_back : SlotState → Bool
 is_given_back slots.Empty = false

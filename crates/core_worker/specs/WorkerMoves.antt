@@ -20,7 +20,7 @@ use Rattle.core_log.specs.Log.{room_of}
 use Rattle.lazy_alloc.specs.Sets.{free_chunk_count, free_block_count}
 use Rattle.engine_laws.specs.FreeStock.{Stock, lines_left_over}
 pub use Rattle.engine_laws.specs.StockChanges.{lines_in, Spends}
-pub use Rattle.engine_laws.specs.WorkerMoves.{BeginsIn, PostsIn, SpendsIn, Placed, Hands, placed, line_in, Fixed, asked, replied, fixed_of, requests_for, HoldsKey, AnswersKey, WorkerMoves}
+pub use Rattle.engine_laws.specs.WorkerMoves.{BeginsIn, PostsIn, SpendsIn, Placed, Hands, request_placed, line_in, Fixed, asked, replied, fixed_of, requests_for, HoldsKey, AnswersKey, WorkerMoves}
 
 abbrev pub placed_in : View → Place → Option Placed
 placed_in v kinds.Free = None
@@ -73,7 +73,3 @@ hands_of v w = record {
   stopped = w.stopped;
   stock = stock_of w;
 }
-
--- the answer that is given out
-abbrev pub told : Fixed → Answer
-told x = answer_with x.number x.reply x.refusal

@@ -9,7 +9,7 @@ use Rattle.std.proofs.lemmas.Bool.{ltb-true}
 use Rattle.log_entry.specs.declared.entry.EntryName.{EntryName}
 use Rattle.chunk_map.specs.Layouts.{numbers}
 use Rattle.store_image.specs.declared.types.PlacedEntry.{PlacedEntry}
-use Rattle.store_image.specs.Parts.{all_entries, part_entries, chunk_entries, held}
+use Rattle.store_image.specs.Parts.{all_entries, part_entries, chunk_entries, value_in_block}
 use Rattle.store_image.specs.Winners.{winner, winner_in, keys_of, cell_by}
 use Rattle.store_image.specs.Soundness.{points_to}
 use Rattle.store_image.specs.Facts.{In}
@@ -56,7 +56,7 @@ module _ (p : Place) (place : IsPlace p) (image : ℕ → ℕ) (blank : IsBlank 
   no_last k = ap (λ (es : List PlacedEntry). unwrap_or (option_map (λ (x : PlacedEntry). x.entry.version) (cond (is_own p k) (winner_in k es) None)) 0) no_entries ∙ ap (λ (o : Option PlacedEntry). unwrap_or (option_map (λ (x : PlacedEntry). x.entry.version) o) 0) (neither (is_own p k) None)
 
   pub no_cell : (k : ℕ) → cell_of p image k ≡ None
-  no_cell k = ap (λ (es : List PlacedEntry). cond (is_own p k) (option_and_then (λ (x : PlacedEntry). cell_by (held p.layout image (layouts.owner p.layout k)) x.entry.body) (winner_in k es)) None) no_entries ∙ neither (is_own p k) None
+  no_cell k = ap (λ (es : List PlacedEntry). cond (is_own p k) (option_and_then (λ (x : PlacedEntry). cell_by (value_in_block p.layout image (layouts.owner p.layout k)) x.entry.body) (winner_in k es)) None) no_entries ∙ neither (is_own p k) None
 
   pub no_home : (k v : ℕ) → home_of p image k v ≡ None
   no_home k v = ap (λ (es : List PlacedEntry). cond (is_own p k) (option_map (λ (x : PlacedEntry). Rattle.std.proofs.Common.◌-◌ x.core (Rattle.std.proofs.Common.◌*◌ p.group p.layout.group)) (find (λ (x : PlacedEntry). x.entry.key == k && x.entry.version == v) es)) None) no_entries ∙ neither (is_own p k) None

@@ -1,7 +1,7 @@
 // Reading the shared words of a group.
 ghost use Rattle.std.specs.Prelude.{◌≡◌, ◌↔◌, ◌<◌, IsTrue, IfOk, Some, None};
 ghost use Rattle.store_image.specs.Facts.{In};
-ghost use Rattle.group_laws.specs.State.{shown, is_full};
+ghost use Rattle.group_laws.specs.State.{word_shown, is_full};
 ghost use Rattle.group_laws.specs.Steps.{IsSlot};
 ghost use Rattle.crash_core.specs.Shows.{group_of};
 ghost use Rattle.crash_core.specs.Finds.{posted_in};
@@ -50,7 +50,7 @@ pub fn saw(looked: &[Seen], what: Seen) -> bool
 
 /// What the word of a slot tells.
 pub fn word_of(slot: &Slot) -> SlotWord
-    ensures { result ≡ shown slot.now }
+    ensures { result ≡ word_shown slot.now }
 {
     match slot {
         Slot::Empty => SlotWord::Empty,
@@ -63,7 +63,7 @@ pub fn word_of(slot: &Slot) -> SlotWord
 
 /// What the word of a slot of the group tells.
 pub fn word_at(state: &GroupState, member: u32, slot: u32) -> SlotWord
-    ensures { result ≡ shown ((group_of state.now).slot member slot) }
+    ensures { result ≡ word_shown ((group_of state.now).slot member slot) }
 {
     match state.slots.get(&(member, slot)) {
         Some(slot) => word_of(slot),

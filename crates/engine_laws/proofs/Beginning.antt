@@ -9,7 +9,7 @@ use Rattle.fs_model.specs.Lawful.{IsLawfulFor, cell_of, stopped_of}
 use Rattle.fs_model.proofs.Clients.{lawful-append}
 use Rattle.store_image.proofs.Clients.{in_either}
 use Rattle.group_laws.specs.MemberViews.{View}
-use Rattle.engine_laws.specs.WorkerMoves.{Hands, Fixed, placed, line_in, asked, replied, HoldsKey, AnswersKey}
+use Rattle.engine_laws.specs.WorkerMoves.{Hands, Fixed, request_placed, line_in, asked, replied, HoldsKey, AnswersKey}
 use Rattle.engine_laws.specs.Beginning.{BeginsKey}
 use Rattle.engine_laws.proofs.Numbers.{all_in, all_append, all_map}
 use Rattle.engine_laws.proofs.Histories.{cell_of-append, stopped_lawful}
@@ -44,7 +44,7 @@ module _ (v u : View) (w y x : Hands) (k : ℕ) (accepted : List (ℕ × Request
 
   pub answers_then_begins : AnswersKey v u w x k accepted (first ++ more)
   answers_then_begins = record {
-    order = A.order ∙ ap (λ l. map asked first ++ l) ((λ i. placed (B.idle i) ++ y.waits k) ∙ B.order) ∙ sym (append_assoc (map asked first) (map asked more) (line_in x k)) ∙ ap (λ l. l ++ line_in x k) (sym (map-append asked first more));
+    order = A.order ∙ ap (λ l. map asked first ++ l) ((λ i. request_placed (B.idle i) ++ y.waits k) ∙ B.order) ∙ sym (append_assoc (map asked first) (map asked more) (line_in x k)) ∙ ap (λ l. l ++ line_in x k) (sym (map-append asked first more));
     lawful = subst (IsLawfulFor (v.cell k) false) (sym pairs) (lawful-append (v.cell k) false (map replied first) (map replied more) A.lawful further);
     cell = ap (cell_of (v.cell k)) pairs ∙ cell_of-append (v.cell k) (map replied first) (map replied more) ∙ ap (λ d. cell_of d (map replied more)) A.cell ∙ same_cell;
     after_stop = λ stop idle. (

@@ -14,7 +14,7 @@ use Rattle.group_laws.specs.State.{Group}
 use Rattle.group_laws.specs.Regions.{key_group}
 use Rattle.group_laws.proofs.Clients.{of_map}
 use Rattle.engine_laws.specs.Parts.{group_of, member_of}
-use Rattle.engine_laws.specs.WorkerMoves.{Placed, placed, requests_for}
+use Rattle.engine_laws.specs.WorkerMoves.{Placed, request_placed, requests_for}
 use Rattle.engine_laws.specs.Engine.{Engine, Answer, group_for, line}
 use Rattle.engine_laws.specs.Keys.{Served}
 use Rattle.engine_laws.specs.Reports.{AllAnswered}
@@ -125,7 +125,7 @@ drained_answered o e S D n lt = by (slice_get e.given n) refl where
       let k = key_of q in
       let K = S.keys k in
       let z : 0 + n ≡ n = omega arith in
-      let empty : line e k ++ requests_for k (e.backlog (owner e.layout k)) ≡ [] = (λ i. (placed (D.place k i) ++ D.waits k i) ++ requests_for k (D.backlog (owner e.layout k) (owner_low e.layout is_layout k) i)) in
+      let empty : line e k ++ requests_for k (e.backlog (owner e.layout k)) ≡ [] = (λ i. (request_placed (D.place k i) ++ D.waits k i) ++ requests_for k (D.backlog (owner e.layout k) (owner_low e.layout is_layout k) i)) in
       let there : In (n, q) (map (λ (x : Served). (x.number, x.request)) K.served ++ (line e k ++ requests_for k (e.backlog (owner e.layout k)))) = subst (λ (l : List (ℕ × Request)). In (n, q) l) K.split (subst (λ (m : ℕ). In (m, q) (requests_of k e.given)) z (in_from 0 e.given n q is)) in
       elim (in_either (n, q) (map (λ (x : Served). (x.number, x.request)) K.served) (line e k ++ requests_for k (e.backlog (owner e.layout k))) there) [
         | inr left ↦ absurd (subst (λ (l : List (ℕ × Request)). In (n, q) l) empty left)

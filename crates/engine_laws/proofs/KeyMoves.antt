@@ -31,7 +31,7 @@ use Rattle.log_entry.specs.declared.entry.Body.{Body}
 use Rattle.std.proofs.lemmas.Bool.{cases_eq}
 use Rattle.group_laws.specs.Invariant.{Lawful}
 use Rattle.std.specs.Prelude.{◌/◌}
-use Rattle.engine_laws.specs.WorkerMoves.{Placed, placed, Fixed, asked, replied, fixed_of, requests_for}
+use Rattle.engine_laws.specs.WorkerMoves.{Placed, request_placed, Fixed, asked, replied, fixed_of, requests_for}
 use Rattle.engine_laws.specs.Engine.{Engine, group_for, cell_at, line}
 use Rattle.engine_laws.specs.Moves.{Moves, KeyMoves}
 use Rattle.engine_laws.specs.Keys.{finished, changes_on, Served, served_as, pairs, posted_in, History, KeyStands, KeyGoes}
@@ -430,7 +430,7 @@ module _ (start : ℕ → Option (List ℕ)) (e f : Engine) (c : ℕ) (accepted 
     stop_same = ap f.stopped (owner_same k) ∙ M.other_stops (owner e.layout k) other
 
     line_same : line f k ≡ line e k
-    line_same = let w = (M.other_keys k other).1 in (λ i. placed (place_same i) ++ w i)
+    line_same = let w = (M.other_keys k other).1 in (λ i. request_placed (place_same i) ++ w i)
 
     stays : KeyStands (start k) f k
     stays = let same = same_there in record {

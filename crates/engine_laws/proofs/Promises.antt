@@ -24,7 +24,7 @@ use Rattle.headline.specs.Headline.{Told, finished_in, refused_in, changes_in, A
 use Rattle.headline.proofs.Clients.{requests-append, prefix_grows, sound_blocks}
 use Rattle.group_laws.specs.Regions.{key_group}
 use Rattle.engine_laws.specs.Parts.{Groups, AllLicensed}
-use Rattle.engine_laws.specs.WorkerMoves.{Placed, placed, requests_for}
+use Rattle.engine_laws.specs.WorkerMoves.{Placed, request_placed, requests_for}
 use Rattle.engine_laws.specs.Engine.{Engine, Answer, group_for, line}
 use Rattle.engine_laws.specs.Keys.{finished, open_in, changes_on, changes_at, Served, served_as, pairs, posted_in, is_finish_by, finished_until, KeyStands}
 use Rattle.engine_laws.specs.Reports.{reply_of, replies_from, named_from, told_of, AllAnswered}
@@ -149,7 +149,7 @@ module _ (o : Origin) (e : Engine) (S : StandsNow o e) where
         | false ↦ λ is. (stopped, ap (λ l. l ++ stopped) (sym (ap posted_in q ∙ ap (λ b. cond b ((x.request, Stopped) ∷ []) []) is)))
         | true ↦ λ is.
             let rest : List (ℕ × Request) = (e.waits k ++ requests_for k (e.backlog (owner e.layout k))) ++ numbered k n more in
-            let split : waits ≡ (x.number, x.request) ∷ rest = ap (λ p. ((placed p ++ e.waits k) ++ requests_for k (e.backlog (owner e.layout k))) ++ numbered k n more) q in
+            let split : waits ≡ (x.number, x.request) ∷ rest = ap (λ p. ((request_placed p ++ e.waits k) ++ requests_for k (e.backlog (owner e.layout k))) ++ numbered k n more) q in
             let none : e.answer x.number ≡ None = (subst (AllByRecursion (λ (y : ℕ × Request). e.answer y.0 ≡ None)) split waits_none).0 in (
               map (with_reply e.answer) rest,
               ap (map (with_reply e.answer)) split ∙ ap (λ (a : Reply). (x.request, a) ∷ map (with_reply e.answer) rest) (ap reply_of none) ∙ ap (λ l. l ++ map (with_reply e.answer) rest) (sym (ap posted_in q ∙ ap (λ b. cond b ((x.request, Stopped) ∷ []) []) is)),
@@ -281,7 +281,7 @@ module _ (o : Origin) (e : Engine) (S : StandsNow o e) where
 
     no_pending : (k : ℕ) (p : Pending) → (group_for e k).pending k ≡ Some p → ⊥
     no_pending k p is = elim ((S.keys k).holds.pending p is) [
-      | inl at ↦ (let none : (at.0.number, at.0.request) ∷ (e.waits k ++ requests_for k (e.backlog (owner e.layout k))) ≡ [] = ap (λ p. (placed p ++ e.waits k) ++ requests_for k (e.backlog (owner e.layout k))) (sym at.1) ∙ nothing_waits k in omega (arith, ap length none))
+      | inl at ↦ (let none : (at.0.number, at.0.request) ∷ (e.waits k ++ requests_for k (e.backlog (owner e.layout k))) ≡ [] = ap (λ p. (request_placed p ++ e.waits k) ++ requests_for k (e.backlog (owner e.layout k))) (sym at.1) ∙ nothing_waits k in omega (arith, ap length none))
       | inr doubt ↦ (let off = going (owner e.layout k) (owner_low e.layout is_layout k) in let on = doubt.2 in cc (on, off))
     ]
 

@@ -24,7 +24,7 @@ use Rattle.group_laws.proofs.Clients.{run_frame}
 use Rattle.headline.specs.Ample.{lines_of, is_put_of}
 use Rattle.engine_laws.specs.Parts.{group_of, member_of}
 use Rattle.engine_laws.specs.FreeStock.{Stock, is_put_in}
-use Rattle.engine_laws.specs.WorkerMoves.{Placed, placed, Fixed, asked, fixed_of, requests_for}
+use Rattle.engine_laws.specs.WorkerMoves.{Placed, request_placed, Fixed, asked, fixed_of, requests_for}
 use Rattle.engine_laws.specs.Engine.{Engine, line}
 use Rattle.engine_laws.specs.Moves.{Moves}
 use Rattle.engine_laws.specs.Keys.{Served}
@@ -160,7 +160,7 @@ module _ (l : Geometry) (e f : Engine) (c : ℕ) (accepted : List (ℕ × Reques
     by [] none = let z = P.stays k y own at none in inr (record { placed_now = z.0; at = z.1; number = z.2; posted = z.3 })
     by (z ∷ zs) some =
         let whole : (y.number, y.request) ∷ (e.waits k ++ requests_for k accepted) ≡ asked z ∷ (map asked zs ++ line f k) =
-        sym (λ i. (placed (at i) ++ e.waits k) ++ requests_for k accepted) ∙ M.order k own ∙ ap (λ fs. map asked fs ++ line f k) some in
+        sym (λ i. (request_placed (at i) ++ e.waits k) ++ requests_for k accepted) ∙ M.order k own ∙ ap (λ fs. map asked fs ++ line f k) some in
         let head : (y.number, y.request) ≡ asked z = cc whole in
         let here : In z fixed = (in_filter (λ (x : Fixed). key_of x.request == k) fixed z (subst (λ (fs : List Fixed). In z fs) (sym some) (inl refl))).0 in
         let is : z.number ≡ y.number = sym (ap (λ (x : ℕ × Request). x.0) head) in
@@ -194,7 +194,7 @@ module _ (l : Geometry) (e f : Engine) (c : ℕ) (accepted : List (ℕ × Reques
   fresh y own i =
       let k : ℕ = key_of y.1 in
       let waits = in_hand y i in
-      let whole : In y (line e k ++ requests_for k (e.backlog c)) = subst (λ (xs : List (ℕ × Request)). In y xs) (sym (append_assoc (placed (e.place k)) (e.waits k) (requests_for k (e.backlog c)))) (in_back y (placed (e.place k)) _ waits) in
+      let whole : In y (line e k ++ requests_for k (e.backlog c)) = subst (λ (xs : List (ℕ × Request)). In y xs) (sym (append_assoc (request_placed (e.place k)) (e.waits k) (requests_for k (e.backlog c)))) (in_back y (request_placed (e.place k)) _ waits) in
       let none = all_in (λ (x : ℕ × Request). e.answer x.0 ≡ None) _ y (O.waiting k own) whole in
       let number = unnumbered k own waits (e.place k) refl in
       record {
@@ -208,7 +208,7 @@ module _ (l : Geometry) (e f : Engine) (c : ℕ) (accepted : List (ℕ × Reques
         unnumbered k own waits (Some z) at =
             let s = O.split k own in
             let rising = up_tail s.0 (line e k ++ requests_for k (e.backlog c)) (subst IsUp s.1 (up k 0 e.given)) in
-            let split : line e k ++ requests_for k (e.backlog c) ≡ (z.number, z.request) ∷ (e.waits k ++ requests_for k (e.backlog c)) = (λ j. (placed (at j) ++ e.waits k) ++ requests_for k (e.backlog c)) in
+            let split : line e k ++ requests_for k (e.backlog c) ≡ (z.number, z.request) ∷ (e.waits k ++ requests_for k (e.backlog c)) = (λ j. (request_placed (at j) ++ e.waits k) ++ requests_for k (e.backlog c)) in
             let less = all_in (λ (x : ℕ × Request). z.number < x.0) _ y (subst IsUp split rising).0 waits in
             ap (is_numbered y.0) at ∙ ne_eqb z.number y.0 (λ q. absurd (omega (arith, less, q)))
 
@@ -246,7 +246,7 @@ module _ (l : Geometry) (e f : Engine) (c : ℕ) (accepted : List (ℕ × Reques
   out_more Q =
       let k : ℕ = key_of Q.change.request in
       let y : ℕ × Request = (Q.change.number, Q.change.request) in
-      let whole : In y (line e k ++ requests_for k (e.backlog c)) = subst (λ (p : Option Placed). In y ((placed p ++ e.waits k) ++ requests_for k (e.backlog c))) (sym Q.was) (inl refl) in
+      let whole : In y (line e k ++ requests_for k (e.backlog c)) = subst (λ (p : Option Placed). In y ((request_placed p ++ e.waits k) ++ requests_for k (e.backlog c))) (sym Q.was) (inl refl) in
       let none = all_in (λ (x : ℕ × Request). e.answer x.0 ≡ None) _ y (O.waiting k Q.own) whole in
       let old : is_out e y ≡ false = (λ j. is_some (none j) || is_posted_as y.0 (Q.was j)) ∙ (λ j. (Q.change.number == y.0) && Q.staged j) ∙ and_none (Q.change.number == y.0) in
       let new : is_out f y ≡ true = or_back (is_some (f.answer y.0)) (is_posted_as y.0 (f.place k)) (ap (is_posted_as y.0) Q.now ∙ and_from (y.0 == y.0) true (eq-eqb y.0 y.0 refl) refl) in

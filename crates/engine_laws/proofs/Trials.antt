@@ -15,7 +15,7 @@ use Rattle.chunk_map.specs.Layouts.{part_first, owner, payload_lines}
 use Rattle.group_laws.specs.Updates.{put}
 use Rattle.store_image.specs.Facts.{In}
 use Rattle.engine_laws.specs.Parts.{group_of, LicensedPart}
-use Rattle.engine_laws.specs.WorkerMoves.{Fixed, placed, replied, fixed_of, requests_for}
+use Rattle.engine_laws.specs.WorkerMoves.{Fixed, request_placed, replied, fixed_of, requests_for}
 use Rattle.engine_laws.specs.Engine.{Engine, group_for, cell_at, line}
 use Rattle.engine_laws.specs.Moves.{Moves, KeyMoves}
 use Rattle.engine_laws.specs.RefusalCauses.{Refuses}
@@ -58,7 +58,7 @@ module _ (o : Origin) (e : Engine) (S : Stands o e) (c : ℕ) (core : c < e.layo
 
   own_key : KeyMoves e f k ((n, Get k) ∷ []) (x ∷ [])
   own_key = record {
-    order = (λ i. (placed (idle i) ++ none i) ++ (n, Get k) ∷ []) ∙ sym (λ i. (n, Get k) ∷ (placed (idle i) ++ none i));
+    order = (λ i. (request_placed (idle i) ++ none i) ++ (n, Get k) ∷ []) ∙ sym (λ i. (n, Get k) ∷ (request_placed (idle i) ++ none i));
     lawful = (inl refl, tt);
     cell = same_cell (cell_at e k);
     after_stop = λ stop at. off_stop _ k own stop;

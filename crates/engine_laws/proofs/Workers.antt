@@ -17,7 +17,7 @@ use Rattle.group_laws.specs.Regions.{place_at}
 use Rattle.group_board.specs.Views.{left_in}
 use Rattle.licence.specs.Licence.{Licensed}
 use Rattle.engine_laws.specs.Parts.{group_of, member_of}
-use Rattle.engine_laws.specs.WorkerMoves.{Hands, Fixed, placed, line_in, asked, replied, fixed_of, requests_for, HoldsKey, WorkerMoves}
+use Rattle.engine_laws.specs.WorkerMoves.{Hands, Fixed, request_placed, line_in, asked, replied, fixed_of, requests_for, HoldsKey, WorkerMoves}
 use Rattle.engine_laws.specs.RefusalCauses.{Refuses}
 use Rattle.engine_laws.specs.Engine.{Engine, group_for, cell_at, line}
 use Rattle.engine_laws.specs.Moves.{Moves, KeyMoves, KeyHolds}
@@ -54,7 +54,7 @@ module _ (e : Engine) (c : ℕ) (layout : IsLayout e.layout) (at : (e.group (gro
   left_there b = ap (λ (y : View). left_in y.blocks b) S.view ∙ left_from g m k owner_is b ∙ sym (ap (λ (y : Group). left_by y (places.owner y.place k) b) group_is)
 
   pub line_is : line_in w k ≡ line e k
-  line_is = let p = S.place k own in let q = S.waits k own in (λ i. placed (p i) ++ q i)
+  line_is = let p = S.place k own in let q = S.waits k own in (λ i. request_placed (p i) ++ q i)
 
   key_holds : HoldsKey v w k → KeyHolds e k
   key_holds H = record {

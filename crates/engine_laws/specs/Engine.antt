@@ -7,7 +7,7 @@ use Rattle.chunk_map.specs.declared.layouts.Geometry.{Geometry}
 use Rattle.group_laws.specs.State.{Group}
 use Rattle.group_laws.specs.Regions.{key_group}
 use Rattle.engine_laws.specs.FreeStock.{Stock}
-use Rattle.engine_laws.specs.WorkerMoves.{Placed, placed}
+use Rattle.engine_laws.specs.WorkerMoves.{Placed, request_placed}
 
 -- the answer to a request, and the region's stamp after the move that fixed it
 pub record Answer : Type 0 where
@@ -43,4 +43,4 @@ cell_at e k = (group_for e k).cell k
 
 -- the accepted requests of a key without an answer, in their order
 abbrev pub line : Engine → ℕ → List (ℕ × Request)
-line e k = placed (e.place k) ++ e.waits k
+line e k = request_placed (e.place k) ++ e.waits k

@@ -38,12 +38,12 @@ pub record Hands : Type 0 where
   pub stopped : Bool
   pub stock : Stock
 
-abbrev pub placed : Option Placed → List (ℕ × Request)
-placed None = []
-placed (Some x) = (x.number, x.request) ∷ []
+abbrev pub request_placed : Option Placed → List (ℕ × Request)
+request_placed None = []
+request_placed (Some x) = (x.number, x.request) ∷ []
 
 abbrev pub line_in : Hands → ℕ → List (ℕ × Request)
-line_in w k = placed (w.place k) ++ w.waits k
+line_in w k = request_placed (w.place k) ++ w.waits k
 
 -- an answer that a call fixed, with its request, and with the cause of a refusal
 pub record Fixed : Type 0 where

@@ -17,7 +17,7 @@ use Rattle.chunk_map.proofs.Clients.{numbers_of, chunk_words_whole, chunk_in_par
 use Rattle.store_image.specs.declared.types.PlacedEntry.{PlacedEntry}
 use Rattle.store_image.specs.declared.types.Fault.TheVariants.{NotARegion}
 use Rattle.store_image.specs.Facts.{In, KeepsRules}
-use Rattle.store_image.specs.Parts.{all_entries, part_entries, chunk_entries, chunk_reads, scan_behind, head_reads, placed, held}
+use Rattle.store_image.specs.Parts.{all_entries, part_entries, chunk_entries, chunk_reads, scan_behind, head_reads, placed_in_chunk, value_in_block}
 use Rattle.store_image.specs.Winners.{winner_in, cell_by}
 use Rattle.store_image.specs.Soundness.{first_fault, fault_by}
 use Rattle.store_image.proofs.Clients.{store_sound}
@@ -31,7 +31,7 @@ free_reads : (l : Geometry) (image : ℕ → ℕ) (at : ℕ) → image at ≡ 0 
 free_reads l image at is = (λ i. head_reads (head_by l (is i) (image (at + 1))) (scan_behind image at (head_by l (is i) (image (at + 1)))))
 
 free_entries : (l : Geometry) (image : ℕ → ℕ) (c j : ℕ) → image (chunk_first l c j) ≡ 0 → chunk_entries l image c j ≡ []
-free_entries l image c j is = (λ i. placed c j (scan_behind image (chunk_first l c j) (head_by l (is i) (image (chunk_first l c j + 1)))).entries)
+free_entries l image c j is = (λ i. placed_in_chunk c j (scan_behind image (chunk_first l c j) (head_by l (is i) (image (chunk_first l c j + 1)))).entries)
 
 none_in_all : {X : Type 0} (f : ℕ → List X) (from n : ℕ) → ((k : ℕ) → from ≤ k → k < from + n → f k ≡ []) → flat_map f (numbers from n) ≡ []
 none_in_all f from zero h = refl
@@ -78,8 +78,8 @@ module _ (l : Geometry) (is : IsLayout l) (image : ℕ → ℕ) (super : IsSuper
       superblock = keeps_rules l is image super;
       rules = subst (λ (g : Geometry). KeepsRules g image) (sym super.layout) rules;
     });
-    cells = λ k. subst (λ (g : Geometry). option_and_then (λ (x : PlacedEntry). cell_by (held g image (owner g k)) x.entry.body) (winner_in k (all_entries g image)) ≡ None) (sym super.layout)
-        (ap (option_and_then (λ (x : PlacedEntry). cell_by (held l image (owner l k)) x.entry.body)) (no_winner k));
+    cells = λ k. subst (λ (g : Geometry). option_and_then (λ (x : PlacedEntry). cell_by (value_in_block g image (owner g k)) x.entry.body) (winner_in k (all_entries g image)) ≡ None) (sym super.layout)
+        (ap (option_and_then (λ (x : PlacedEntry). cell_by (value_in_block l image (owner l k)) x.entry.body)) (no_winner k));
   }
 
 -- A region that was created, and what came of it while the superblock was written.

@@ -25,7 +25,7 @@ use Rattle.headline.specs.Run.{Recorded}
 use Rattle.headline.proofs.Clients.{recorded}
 use Rattle.group_engine.specs.declared.run_report.Refusal.{Refusal}
 use Rattle.group_engine.specs.Answers.{reply_to}
-use Rattle.group_engine.specs.Reports.{told}
+use Rattle.group_engine.specs.Reports.{as_told}
 use Rattle.flatstore.specs.Ends.{SourceUse, SinkUse}
 use Rattle.flatstore.specs.LastStates.{told_in, AreRising}
 use Rattle.flatstore.specs.Ordering.{KeepsOrder, IsServed, due, IsDue, IsFault, status_of, is_broken, is_of_region, is_of_line, is_of_run, is_whole}
@@ -123,7 +123,7 @@ module _ (old s : State) (found : ℕ → ℕ) (A : Attached old s s.frame.bytes
   none = record { finishes = []; refusals = [] }
 
   nothing : told_in r ≡ none
-  nothing = (λ i. told (fin i) (ref i))
+  nothing = (λ i. as_told (fin i) (ref i))
 
   abbrev trace : List Request
   trace = asked_in cores input

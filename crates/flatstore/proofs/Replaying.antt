@@ -11,7 +11,7 @@ use Rattle.engine_laws.specs.Ran.{Ran}
 use Rattle.group_engine.specs.declared.run_outcome.End.TheVariants as ends
 use Rattle.group_engine.specs.declared.run_outcome.Outcome.{Outcome}
 use Rattle.group_engine.specs.Replayed.{report_in}
-use Rattle.group_engine.specs.Reports.{ReportsOn, told, told_by}
+use Rattle.group_engine.specs.Reports.{ReportsOn, as_told, told_by}
 use Rattle.engine_laws.proofs.Clients.{ran_given}
 use Rattle.flatstore.specs.Attaching.{Runs}
 use Rattle.flatstore.specs.Ends.{SourceUse, SinkUse}
@@ -100,7 +100,7 @@ module _ (old s t : State) (found word : ℕ → ℕ) (A : Attached old s s.fram
   module _ (sink : SinkUse) (r : Report) (W : HasWritten x sink r.status)
       (finishes : r.finishes.items ≡ x.finishes.items) (refusals : r.refusals.items ≡ x.refusals.items) (begun : r.began ≡ true) (complete_is : r.complete ≡ is_ended x.end) where
     report_told : told_in r ≡ told_by (report_in x)
-    report_told i = told (finishes i) (refusals i)
+    report_told i = as_told (finishes i) (refusals i)
 
     replays : Replays old f.region found source cores input sink r
     replays = record {

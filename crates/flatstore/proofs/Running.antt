@@ -18,7 +18,7 @@ use Rattle.core_worker.specs.declared.worker.Worker.{Worker}
 use Rattle.group_engine.specs.declared.run_outcome.End.TheVariants as ends
 use Rattle.group_engine.specs.declared.run_outcome.Outcome.{Outcome}
 use Rattle.group_engine.specs.Replayed.{StandsAsFound, Replayed}
-use Rattle.group_engine.specs.Reports.{told}
+use Rattle.group_engine.specs.Reports.{as_told}
 use Rattle.group_engine.specs.Runs.{RunState, CoreMoves, first_state, with_request}
 use Rattle.flatstore.specs.Attaching.{GoesOnFrom, Runs}
 use Rattle.flatstore.specs.Ends.{SinkUse}
@@ -81,7 +81,7 @@ module _ (old s t : State) (found word : ℕ → ℕ) (A : Attached old s s.fram
       writes = λ out. subst (λ rs. Takes sink.before sink.now (replies_text rs)) P.kept.replies (all_written x sink r.status W out);
       count = P.count;
       shown = P.shown;
-      told_is = (λ i. told (finishes i) (refusals i)) ∙ P.reports.told_is;
+      told_is = (λ i. as_told (finishes i) (refusals i)) ∙ P.reports.told_is;
       replies = λ telling. sym P.kept.replies ∙ P.reports.known telling;
     }
 

@@ -32,7 +32,7 @@ use Rattle.engine_laws.specs.Reports.{told_of, replies_from, AllAnswered}
 use Rattle.group_engine.specs.declared.run_outcome.End.TheVariants as ends
 use Rattle.group_engine.specs.declared.run_outcome.Outcome.{Outcome}
 use Rattle.group_engine.specs.Replayed.{report_in}
-use Rattle.group_engine.specs.Reports.{ReportsOn, told, told_by}
+use Rattle.group_engine.specs.Reports.{ReportsOn, as_told, told_by}
 use Rattle.group_engine.specs.Answers.{reply_to}
 use Rattle.group_engine.specs.declared.run_report.Refusal.{Refusal}
 use Rattle.flatstore.specs.Ends.{SourceUse, SinkUse}

@@ -17,7 +17,7 @@ use Rattle.engine_laws.specs.Idle.{IsDrained}
 use Rattle.engine_laws.specs.Reports.{told_of, replies_of, AllAnswered}
 use Rattle.group_engine.specs.Answers.{kept_at, ShowsAnswer}
 use Rattle.group_engine.specs.Replayed.{StandsAsFound, BeginsAt}
-use Rattle.group_engine.specs.Reports.{told, reply_in, finishes_in, refusals_in}
+use Rattle.group_engine.specs.Reports.{as_told, reply_in, finishes_in, refusals_in}
 use Rattle.group_engine.specs.Runs.{RunState, CoreMoves, AreNew, first_state, with_request}
 use Rattle.headline.specs.Headline.{Told}
 use Rattle.flatstore.specs.Attaching.{GoesOnFrom}
@@ -26,7 +26,7 @@ use Rattle.flatstore.specs.declared.report.Report.{Report}
 
 -- what a report says of the requests
 abbrev pub told_in : Report → Told
-told_in r = told r.finishes.items r.refusals.items
+told_in r = as_told r.finishes.items r.refusals.items
 
 -- each number is above those before it
 abbrev pub AreRising : List ℕ → Type 0

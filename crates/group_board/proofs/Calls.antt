@@ -12,7 +12,7 @@ use Rattle.group_laws.specs.declared.types.Seen.TheVariants as loads
 use Rattle.group_laws.specs.declared.types.SlotWord.TheVariants as words
 use Rattle.group_laws.specs.Places.{owner}
 use Rattle.group_laws.specs.Updates.{has}
-use Rattle.group_laws.specs.State.{Group, shown}
+use Rattle.group_laws.specs.State.{Group, word_shown}
 use Rattle.group_laws.specs.Steps.{posts, locks, finds, takes, unlocks, commits, marks, fails, finishes, gives_up, withdraws, dooms, retires, sends, receives, CanPost}
 use Rattle.group_laws.specs.Tidying.{Tidied}
 use Rattle.group_laws.specs.Runs.{Kind, IsStep}
@@ -80,8 +80,8 @@ module _ (j i : Journal) (m : ℕ) where
   pub find_view : (x : Seen) → Did (Found x) → view_of (state i) m ≡ after_find x (view_of w m)
   find_view x e = ap (λ x. view_of x m) (state_is i j m (Found x) e) ∙ views.view_finds w m x
 
-  pub look_step : (a s : ℕ) → Did (Found (loads.Slot a s (shown (w.slot a s)))) → MayLook w.place m a s → Leads j m (runs.Kind.Look a s) i
-  look_step a s e may = let is = state_is i j m (Found (loads.Slot a s (shown (w.slot a s)))) e in leads (runs.Kind.Look a s) (ap (λ x. x.place) is) (may.member, (may.target, may.slot), is)
+  pub look_step : (a s : ℕ) → Did (Found (loads.Slot a s (word_shown (w.slot a s)))) → MayLook w.place m a s → Leads j m (runs.Kind.Look a s) i
+  look_step a s e may = let is = state_is i j m (Found (loads.Slot a s (word_shown (w.slot a s)))) e in leads (runs.Kind.Look a s) (ap (λ x. x.place) is) (may.member, (may.target, may.slot), is)
 
   pub take_step : (a s : ℕ) (x : Entry) → Did (Take a s x) → w.slot a s ≡ slots.Posted x → In (loads.Slot a s (words.Posted (length (words_of x)))) (w.looked m) → MayTake w.place m (view_of w m) a s → Leads j m (runs.Kind.Take a s) i
   take_step a s x e there seen may = let is = state_is i j m (Take a s x) e in

@@ -17,7 +17,7 @@ use Rattle.group_laws.specs.contracts.types.Slot as slot_contracts
 use Rattle.group_laws.specs.contracts.types.SlotWord as word_contracts
 use Rattle.group_laws.specs.contracts.types.Pending as pending_contracts
 use Rattle.group_laws.specs.Places.{owner}
-use Rattle.group_laws.specs.State.{Group, shown, is_full}
+use Rattle.group_laws.specs.State.{Group, word_shown, is_full}
 use Rattle.group_laws.specs.State as laws
 use Rattle.group_laws.specs.Invariant.{Lawful, PendsAt}
 use Rattle.crash_core.specs.declared.names.Notices.{Notices}
@@ -64,21 +64,21 @@ stood_named w m s e None law is = law.slots.failed_named m s e is
 stood_named w m s e (Some h) law is = law.slots.done_named m s h e is
 
 -- a word that says so has such a slot
-pub posted_by : (x : Slot) (n : ℕ) → shown x ≡ words.Posted n → (e : Entry) × (x ≡ Posted e) × (length (words_of e) ≡ n)
+pub posted_by : (x : Slot) (n : ℕ) → word_shown x ≡ words.Posted n → (e : Entry) × (x ≡ Posted e) × (length (words_of e) ≡ n)
 posted_by Empty n e = absurd (cc)
 posted_by (Posted f) n e = (f, refl, cc)
 posted_by Taken n e = absurd (cc)
 posted_by (Done f h) n e = absurd (cc)
 posted_by (Failed f) n e = absurd (cc)
 
-failed_over : (x : Slot) → shown x ≡ words.Failed → IsOver x
+failed_over : (x : Slot) → word_shown x ≡ words.Failed → IsOver x
 failed_over Empty e = absurd (cc)
 failed_over (Posted f) e = absurd (cc)
 failed_over Taken e = absurd (cc)
 failed_over (Done f h) e = tt
 failed_over (Failed f) e = tt
 
-done_over : (x : Slot) (at : ℕ) → shown x ≡ words.Done at → IsOver x
+done_over : (x : Slot) (at : ℕ) → word_shown x ≡ words.Done at → IsOver x
 done_over Empty at e = absurd (cc)
 done_over (Posted f) at e = absurd (cc)
 done_over Taken at e = absurd (cc)
@@ -107,13 +107,13 @@ module _ (n : ℕ) (h : Option ℕ) (slots : List Slot) (mail : List (Option Not
   own_empty m s free = ∥∥₁_elim k (Slot-set _ _) (λ o. free_empty (state j) m s o.lawful free)
 
   -- what a load found still stands
-  pub posted_still : (m a s q : ℕ) → (state j).holds m ≡ true → In (SeenSlot a s (words.Posted q)) ((state j).looked m) → shown ((state j).slot a s) ≡ words.Posted q
+  pub posted_still : (m a s q : ℕ) → (state j).holds m ≡ true → In (SeenSlot a s (words.Posted q)) ((state j).looked m) → word_shown ((state j).slot a s) ≡ words.Posted q
   posted_still m a s q mine seen = ∥∥₁_elim k (Word-set _ _) (λ o. o.lawful.looks.posted_seen m a s q ((o.lawful.looks.holds_is m).0 mine) seen)
 
-  pub done_still : (m s at : ℕ) → In (SeenSlot m s (words.Done at)) ((state j).looked m) → shown ((state j).slot m s) ≡ words.Done at
+  pub done_still : (m s at : ℕ) → In (SeenSlot m s (words.Done at)) ((state j).looked m) → word_shown ((state j).slot m s) ≡ words.Done at
   done_still m s at seen = ∥∥₁_elim k (Word-set _ _) (λ o. o.lawful.looks.done_seen m s at seen)
 
-  pub failed_still : (m s : ℕ) → In (SeenSlot m s words.Failed) ((state j).looked m) → shown ((state j).slot m s) ≡ words.Failed
+  pub failed_still : (m s : ℕ) → In (SeenSlot m s words.Failed) ((state j).looked m) → word_shown ((state j).slot m s) ≡ words.Failed
   failed_still m s seen = ∥∥₁_elim k (Word-set _ _) (λ o. o.lawful.looks.failed_seen m s seen)
 
   pub full_still : (m a : ℕ) → In (SeenMail a m true) ((state j).looked m) → (state j).mail a m ≢ None
@@ -151,17 +151,17 @@ module _ (n : ℕ) (h : Option ℕ) (slots : List Slot) (mail : List (Option Not
   read_mail a b p x many few low less at is = mail_is a b low less ∙ ap (option_map notices_of) (ap (λ q. get_or mail q None) (sym at) ∙ sym (get_or_read mail p x (let l : p < length mail = omega arith in l) is None))
 
   -- how many words the entry of a slot has that a look found Posted
-  pub words_are : (a s q : ℕ) (e : Entry) → (state j).slot a s ≡ Posted e → shown ((state j).slot a s) ≡ words.Posted q → length (words_of e) ≡ q
-  words_are a s q e there seen = let p : words.Posted (length (words_of e)) ≡ words.Posted q = sym (ap shown there) ∙ seen in cc
+  pub words_are : (a s q : ℕ) (e : Entry) → (state j).slot a s ≡ Posted e → word_shown ((state j).slot a s) ≡ words.Posted q → length (words_of e) ≡ q
+  words_are a s q e there seen = let p : words.Posted (length (words_of e)) ≡ words.Posted q = sym (ap word_shown there) ∙ seen in cc
 
   -- what a look found of a slot from which a change came
   pub seen_as : (m s : ℕ) (e : Entry) (home : Option ℕ) → (state j).slot m s ≡ stood_as e home
       → In (SeenSlot m s words.Failed) ((state j).looked m) ⊎ ((at : ℕ) × In (SeenSlot m s (words.Done at)) ((state j).looked m))
       → MatchOption home (In (SeenSlot m s words.Failed) ((state j).looked m)) (λ at. In (SeenSlot m s (words.Done at)) ((state j).looked m))
   seen_as m s e None there (inl f) = f
-  seen_as m s e None there (inr d) = let p : words.Failed ≡ words.Done d.0 = sym (ap shown there) ∙ done_still m s d.0 d.1 in absurd (cc)
-  seen_as m s e (Some at) there (inl f) = let p : words.Done at ≡ words.Failed = sym (ap shown there) ∙ failed_still m s f in absurd (cc)
-  seen_as m s e (Some at) there (inr d) = let p : words.Done at ≡ words.Done d.0 = sym (ap shown there) ∙ done_still m s d.0 d.1 in
+  seen_as m s e None there (inr d) = let p : words.Failed ≡ words.Done d.0 = sym (ap word_shown there) ∙ done_still m s d.0 d.1 in absurd (cc)
+  seen_as m s e (Some at) there (inl f) = let p : words.Done at ≡ words.Failed = sym (ap word_shown there) ∙ failed_still m s f in absurd (cc)
+  seen_as m s e (Some at) there (inr d) = let p : words.Done at ≡ words.Done d.0 = sym (ap word_shown there) ∙ done_still m s d.0 d.1 in
       let q : d.0 ≡ at = cc in subst (λ (x : ℕ). In (SeenSlot m s (words.Done x)) ((state j).looked m)) q d.1
 
   pub is_over : (m s : ℕ) → In (SeenSlot m s words.Failed) ((state j).looked m) ⊎ ((at : ℕ) × In (SeenSlot m s (words.Done at)) ((state j).looked m)) → IsOver ((state j).slot m s)

@@ -3,7 +3,7 @@ ghost use Rattle.std.specs.Prelude.{◌≡◌, ◌≢◌, ℕ, ◌<◌, Option, 
 ghost use Rattle.log_entry.specs.Spelling.{words_of, HasSpelling};
 ghost use Rattle.store_image.specs.Facts.{In};
 ghost use Rattle.group_laws.specs.Places as places;
-ghost use Rattle.group_laws.specs.State.{Group, shown, is_full};
+ghost use Rattle.group_laws.specs.State.{Group, word_shown, is_full};
 ghost use Rattle.group_laws.specs.MemberViews.{View, view_of};
 ghost use Rattle.group_laws.specs.Invariant.{Lawful};
 ghost use Rattle.group_laws.specs.Runs as runs;
@@ -101,7 +101,7 @@ pub trait Board {
         ensures seat { seat self.new ≡ seat self.old }
         ensures view { (word : SlotWord) × (state_of word ≡ result)
             × (view self.new ≡ after_find (loads.Slot member slot word) (view self.old)) }
-        ensures stood { IfSome (whole self.old) (λ w. state_of (shown (w.slot member slot))
+        ensures stood { IfSome (whole self.old) (λ w. state_of (word_shown (w.slot member slot))
             ≡ result) }
         ensures whole { Makes (whole self.old) (seat self.old).number
             (runs.Kind.Look member slot) (whole self.new) (view self.new) };

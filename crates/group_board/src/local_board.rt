@@ -6,7 +6,7 @@ ghost use Rattle.chunk_map.specs.Layouts.{layout_of};
 ghost use Rattle.store_image.specs.Facts.{In};
 ghost use Rattle.store_image.specs.Soundness as images;
 ghost use Rattle.group_laws.specs.Places as places;
-ghost use Rattle.group_laws.specs.State.{shown, is_full};
+ghost use Rattle.group_laws.specs.State.{word_shown, is_full};
 ghost use Rattle.group_laws.specs.Steps.{finds, sends, receives, CanSend, CanReceive};
 ghost use Rattle.group_laws.specs.Tidying.{Tidied};
 ghost use Rattle.group_laws.specs.Invariant.{Lawful};
@@ -169,7 +169,8 @@ impl LocalBoard {
     pub(crate) fn look(&mut self, member: u32, owner: u32, slot: u32) -> SlotState
         requires { MayLook (state self.old.keeper.me.0).place member owner slot }
         ensures table { self.new.table.shared.table_id ≡ self.old.table.shared.table_id }
-        ensures stood { state_of (shown ((state self.old.keeper.me.0).slot owner slot)) ≡ result }
+        ensures stood { state_of (word_shown ((state self.old.keeper.me.0).slot owner slot))
+            ≡ result }
         ensures step { Leads self.old.keeper.me.0 member
             (runs.Kind.Look owner slot) self.new.keeper.me.0 }
         ensures view { (word : SlotWord) × (state_of word ≡ result)

@@ -92,14 +92,14 @@ pub record IsWithin (n : ℕ) (r : Report) : Type 0 where
   pub refusals : vec_len r.refusals ≤ n
 
 -- finishes and refusals in the words of the headline
-abbrev pub told : List Finish → List Refusal → Told
-told finishes refusals = record {
+abbrev pub as_told : List Finish → List Refusal → Told
+as_told finishes refusals = record {
   finishes = map (λ f. (f.request, f.stamp)) finishes;
   refusals = map (λ x. (x.request, reply_to x.why)) refusals;
 }
 
 abbrev pub told_by : Report → Told
-told_by r = told r.finishes.items r.refusals.items
+told_by r = as_told r.finishes.items r.refusals.items
 
 -- The report is that of a state, and its replies are some that the state may give: those that it has, where the region tells.
 pub record ReportsOn (s : State) (o : Origin) (e : Engine) (r : Report) : Type 0 where

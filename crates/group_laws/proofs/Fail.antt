@@ -5,7 +5,7 @@ use Rattle.group_laws.specs.declared.types.Slot.{Slot}
 use Rattle.group_laws.specs.declared.types.Seen.{Seen}
 use Rattle.store_image.specs.Facts.{In}
 use Rattle.group_laws.specs.Places.{owner}
-use Rattle.group_laws.specs.State.{Group, shown}
+use Rattle.group_laws.specs.State.{Group, word_shown}
 use Rattle.group_laws.specs.Invariant.{IsHeld, IsLost, Lawful}
 use Rattle.group_laws.specs.Steps.{CanFail, fails}
 use Rattle.group_laws.specs.declared.types.Slot.TheVariants.{Empty, Posted, Taken, Done, Failed}
@@ -93,9 +93,9 @@ module _ (w : Group) (m a s : ℕ) (e : Entry) (L : Lawful w) (can : CanFail w m
     looks = record {
       holder_member = L.looks.holder_member;
       holds_is = L.looks.holds_is;
-      posted_seen = λ n b t o h q. slot_stays (λ u. shown u ≡ ShowsPosted o) b t (λ i. absurd (cc i)) (L.looks.posted_seen n b t o h (looked_was n _ q));
-      done_seen = λ n t h q. slot_stays (λ u. shown u ≡ ShowsDone h) n t (λ i. absurd (cc i)) (L.looks.done_seen n t h (looked_was n _ q));
-      failed_seen = λ n t q. slot_stays (λ u. shown u ≡ ShowsFailed) n t (λ i. absurd (cc i)) (L.looks.failed_seen n t (looked_was n _ q));
+      posted_seen = λ n b t o h q. slot_stays (λ u. word_shown u ≡ ShowsPosted o) b t (λ i. absurd (cc i)) (L.looks.posted_seen n b t o h (looked_was n _ q));
+      done_seen = λ n t h q. slot_stays (λ u. word_shown u ≡ ShowsDone h) n t (λ i. absurd (cc i)) (L.looks.done_seen n t h (looked_was n _ q));
+      failed_seen = λ n t q. slot_stays (λ u. word_shown u ≡ ShowsFailed) n t (λ i. absurd (cc i)) (L.looks.failed_seen n t (looked_was n _ q));
       empty_seen = λ n b q. L.looks.empty_seen n b (looked_was n _ q);
       full_seen = λ n b q. L.looks.full_seen n b (looked_was n _ q);
     };

@@ -9,7 +9,7 @@ use Rattle.group_laws.specs.declared.types.Block.{Block}
 use Rattle.group_laws.specs.declared.types.Seen.{Seen}
 use Rattle.store_image.specs.Facts.{In}
 use Rattle.group_laws.specs.Places.{owner}
-use Rattle.group_laws.specs.State.{Group, shown}
+use Rattle.group_laws.specs.State.{Group, word_shown}
 use Rattle.group_laws.specs.Invariant.{Blocks, Cells, Counts, Deaths, Gives, IsDead, IsHeld, IsLast, Keys, Lawful, Logs, Looks, PendsAt, Slots, Standing}
 use Rattle.group_laws.specs.Steps.{CanFinish, bytes_of, finishes, is_of, left_by, only_own, points_at}
 use Rattle.group_laws.specs.declared.types.Slot.TheVariants.{Empty, Posted, Taken, Done, Failed}
@@ -151,9 +151,9 @@ module _ (w : Group) (m s : ℕ) (e : Entry) (home : ℕ) (L : Lawful w) (can : 
   keeps_looks = record {
     holder_member = L.looks.holder_member;
     holds_is = L.looks.holds_is;
-    posted_seen = λ n b t o h q. slot_stays (λ u. shown u ≡ ShowsPosted o) b t (λ i. absurd (cc i)) (L.looks.posted_seen n b t o h (looked_was n _ q).1);
-    done_seen = λ n t h q. let was = looked_was n _ q in if2_into (λ u. shown u ≡ ShowsDone h) m s Empty (w.slot n t) n t (λ i _. absurd (was.0 i)) (λ _. L.looks.done_seen n t h was.1);
-    failed_seen = λ n t q. let was = looked_was n _ q in if2_into (λ u. shown u ≡ ShowsFailed) m s Empty (w.slot n t) n t (λ i _. absurd (was.0 i)) (λ _. L.looks.failed_seen n t was.1);
+    posted_seen = λ n b t o h q. slot_stays (λ u. word_shown u ≡ ShowsPosted o) b t (λ i. absurd (cc i)) (L.looks.posted_seen n b t o h (looked_was n _ q).1);
+    done_seen = λ n t h q. let was = looked_was n _ q in if2_into (λ u. word_shown u ≡ ShowsDone h) m s Empty (w.slot n t) n t (λ i _. absurd (was.0 i)) (λ _. L.looks.done_seen n t h was.1);
+    failed_seen = λ n t q. let was = looked_was n _ q in if2_into (λ u. word_shown u ≡ ShowsFailed) m s Empty (w.slot n t) n t (λ i _. absurd (was.0 i)) (λ _. L.looks.failed_seen n t was.1);
     empty_seen = λ n b q. L.looks.empty_seen n b (looked_was n _ q).1;
     full_seen = λ n b q. L.looks.full_seen n b (looked_was n _ q).1;
   }

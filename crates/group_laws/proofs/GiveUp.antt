@@ -8,7 +8,7 @@ use Rattle.group_laws.specs.declared.types.Pending.{Pending}
 use Rattle.group_laws.specs.declared.types.Seen.{Seen}
 use Rattle.store_image.specs.Facts.{In}
 use Rattle.group_laws.specs.Places.{owner}
-use Rattle.group_laws.specs.State.{Group, shown}
+use Rattle.group_laws.specs.State.{Group, word_shown}
 use Rattle.group_laws.specs.Invariant.{IsAwaited, IsHeld, IsLost, Lawful, PendsAt}
 use Rattle.group_laws.specs.Steps.{CanGiveUp, gives_up}
 use Rattle.group_laws.specs.declared.types.Slot.TheVariants.{Empty, Posted, Taken, Done, Failed}
@@ -122,9 +122,9 @@ module _ (w : Group) (m s : ℕ) (e : Entry) (L : Lawful w) (can : CanGiveUp w m
     looks = record {
       holder_member = L.looks.holder_member;
       holds_is = L.looks.holds_is;
-      posted_seen = λ n b t o h q. slot_stays (λ u. shown u ≡ ShowsPosted o) b t (λ i. absurd (cc i)) (L.looks.posted_seen n b t o h (looked_was n _ q).1);
-      done_seen = λ n t h q. slot_stays (λ u. shown u ≡ ShowsDone h) n t (λ i. absurd (cc i)) (L.looks.done_seen n t h (looked_was n _ q).1);
-      failed_seen = λ n t q. let was = looked_was n _ q in if2_into (λ u. shown u ≡ ShowsFailed) m s Empty (w.slot n t) n t (λ i _. absurd (was.0 i)) (λ _. L.looks.failed_seen n t was.1);
+      posted_seen = λ n b t o h q. slot_stays (λ u. word_shown u ≡ ShowsPosted o) b t (λ i. absurd (cc i)) (L.looks.posted_seen n b t o h (looked_was n _ q).1);
+      done_seen = λ n t h q. slot_stays (λ u. word_shown u ≡ ShowsDone h) n t (λ i. absurd (cc i)) (L.looks.done_seen n t h (looked_was n _ q).1);
+      failed_seen = λ n t q. let was = looked_was n _ q in if2_into (λ u. word_shown u ≡ ShowsFailed) m s Empty (w.slot n t) n t (λ i _. absurd (was.0 i)) (λ _. L.looks.failed_seen n t was.1);
       empty_seen = λ n b q. L.looks.empty_seen n b (looked_was n _ q).1;
       full_seen = λ n b q. L.looks.full_seen n b (looked_was n _ q).1;
     };

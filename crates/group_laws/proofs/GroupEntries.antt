@@ -16,7 +16,7 @@ use Rattle.chunk_map.specs.declared.heads.Head.TheVariants.{Free, Log, Data}
 use Rattle.chunk_map.specs.Layouts.{numbers, chunk_first, head_at, is_of_group}
 use Rattle.chunk_map.specs.Layouts as layouts
 use Rattle.store_image.specs.declared.types.PlacedEntry.{PlacedEntry}
-use Rattle.store_image.specs.Parts.{all_entries, part_entries, chunk_entries, placed, scan_behind, payload}
+use Rattle.store_image.specs.Parts.{all_entries, part_entries, chunk_entries, placed_in_chunk, scan_behind, payload}
 use Rattle.store_image.specs.Winners.{winner_in}
 use Rattle.store_image.specs.Facts.{In, KeepsRules}
 use Rattle.store_image.proofs.Clients.{chosen, layout_numbers, number_in, winner_is, in_numbers, winner_some, winner_max}
@@ -75,7 +75,7 @@ behind_from_one image at (Ok (Log tail)) = scan_from_one (payload image at tail)
 behind_from_one image at (Ok (Data class)) = tt
 behind_from_one image at (Err rule) = tt
 
-placed_from_one : (c j : ℕ) (xs : List (ℕ × Entry)) → AllByRecursion (λ (x : ℕ × Entry). 0 < x.1.version) xs → (y : PlacedEntry) → In y (placed c j xs) → 0 < y.entry.version
+placed_from_one : (c j : ℕ) (xs : List (ℕ × Entry)) → AllByRecursion (λ (x : ℕ × Entry). 0 < x.1.version) xs → (y : PlacedEntry) → In y (placed_in_chunk c j xs) → 0 < y.entry.version
 placed_from_one c j [] all y i = absurd i
 placed_from_one c j (x ∷ xs) all y (inl q) = subst (λ (z : PlacedEntry). 0 < z.entry.version) (sym q) all.0
 placed_from_one c j (x ∷ xs) all y (inr i) = placed_from_one c j xs all.1 y i

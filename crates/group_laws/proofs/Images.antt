@@ -8,7 +8,7 @@ use Rattle.log_entry.specs.declared.entry.Body.TheVariants.{Pointer, Embedded, T
 use Rattle.log_entry.specs.declared.entry.Entry.{Entry}
 use Rattle.chunk_map.specs.Layouts.{numbers}
 use Rattle.store_image.specs.declared.types.PlacedEntry.{PlacedEntry}
-use Rattle.store_image.specs.Parts.{placed, chunk_entries}
+use Rattle.store_image.specs.Parts.{placed_in_chunk, chunk_entries}
 use Rattle.store_image.specs.Winners.{winner_in, cell_by}
 use Rattle.store_image.specs.Facts.{In}
 use Rattle.store_image.proofs.Clients.{in_front, in_back, in_either, number_in, winner_is, in_numbers, winner_some, winner_max}
@@ -57,7 +57,7 @@ of_flat f y (z ∷ zs) i = elim (in_either y (f z) (flat_map f zs) i) [
 ]
 
 -- the entries of a part name it
-placed_core : (c j : ℕ) (xs : List (ℕ × Entry)) (x : PlacedEntry) → In x (placed c j xs) → x.core ≡ c
+placed_core : (c j : ℕ) (xs : List (ℕ × Entry)) (x : PlacedEntry) → In x (placed_in_chunk c j xs) → x.core ≡ c
 placed_core c j [] x i = absurd i
 placed_core c j (y ∷ ys) x (inl q) = ap (λ (z : PlacedEntry). z.core) q
 placed_core c j (y ∷ ys) x (inr i) = placed_core c j ys x i

@@ -2,7 +2,7 @@
 use Rattle.std.proofs.Common.{◌≡◌, ℕ, true, false, [], ◌∷◌, ◌++◌, Some, None, ◌⊎◌, inl, inr, arith, refl, sym, ap, subst}
 use Rattle.group_laws.specs.declared.types.Seen.{Seen}
 use Rattle.store_image.specs.Facts.{In}
-use Rattle.group_laws.specs.State.{Group, shown}
+use Rattle.group_laws.specs.State.{Group, word_shown}
 use Rattle.group_laws.specs.Invariant.{Lawful}
 use Rattle.group_laws.specs.Steps.{CanUnlock, IsMember, finds, locks, unlocks}
 use Rattle.group_laws.specs.declared.types.Seen.TheVariants.{Slot as SeenSlot, Mail as SeenMail, Holder as SeenHolder}
@@ -72,7 +72,7 @@ module _ (w : Group) (m : ℕ) (y : Seen) (L : Lawful w) where
 
   -- what was found is true of the state
   abbrev IsTrue_of : Seen → Type 0
-  IsTrue_of (SeenSlot a s b) = b ≡ shown (w.slot a s)
+  IsTrue_of (SeenSlot a s b) = b ≡ word_shown (w.slot a s)
   IsTrue_of (SeenMail a b full) = (full ≡ true → w.mail a b ≡ None → ⊥) × (full ≡ false → w.mail a b ≡ None)
   IsTrue_of (SeenHolder h) = w.holder ≡ Some h
 

@@ -8,7 +8,7 @@ use Rattle.log_entry.specs.declared.entry.Body.TheVariants.{Pointer, Embedded, T
 use Rattle.log_entry.specs.declared.entry.Entry.{Entry}
 use Rattle.chunk_map.specs.Layouts as layouts
 use Rattle.store_image.specs.declared.types.PlacedEntry.{PlacedEntry}
-use Rattle.store_image.specs.Parts.{chunk_units, all_entries, held, block_bytes}
+use Rattle.store_image.specs.Parts.{chunk_units, all_entries, value_in_block, block_bytes}
 use Rattle.store_image.specs.Winners.{winner, winner_in, keys_of, cell_by}
 use Rattle.store_image.specs.Winners as images
 use Rattle.store_image.specs.Soundness.{points_to, same_body}
@@ -75,8 +75,8 @@ module _ (p : Place) (image : ℕ → ℕ) (place : IsPlace p) (rules : KeepsRul
   own_true k low = lt-ltb (owner p k) (members p) low
 
   -- a block of the owner's part, as the whole image has it
-  held_own : (k q : ℕ) → owner p k < members p → x.holds (owner p k) q ≡ held p.layout image (layouts.owner p.layout k) q
-  held_own k q own = held_there p (λ h. image) (owner p k) q ∙ ap (λ (c : ℕ). held p.layout image c q) (own_core p k some_group own).0
+  held_own : (k q : ℕ) → owner p k < members p → x.holds (owner p k) q ≡ value_in_block p.layout image (layouts.owner p.layout k) q
+  held_own k q own = held_there p (λ h. image) (owner p k) q ∙ ap (λ (c : ℕ). value_in_block p.layout image c q) (own_core p k some_group own).0
 
   pub sound : IsSound p x
   sound = record {
@@ -105,7 +105,7 @@ module _ (p : Place) (image : ℕ → ℕ) (place : IsPlace p) (rules : KeepsRul
     by false q i = absurd i
 
   -- the winner's body leaves the cell that the image recovers
-  leaves : (k : ℕ) (y : PlacedEntry) (body : Body) → owner p k < members p → winner_in k es ≡ Some y → y.entry.body ≡ body → Leaves (x.holds (owner p k)) body (cell_by (held p.layout image (layouts.owner p.layout k)) body)
+  leaves : (k : ℕ) (y : PlacedEntry) (body : Body) → owner p k < members p → winner_in k es ≡ Some y → y.entry.body ≡ body → Leaves (x.holds (owner p k)) body (cell_by (value_in_block p.layout image (layouts.owner p.layout k)) body)
   leaves k y (Pointer q) own w b = let there = rules.holds k q y w b in (block_bytes image q, held_own k q own ∙ there, there)
   leaves k y (Embedded v) own w b = refl
   leaves k y Tombstone own w b = refl
@@ -115,7 +115,7 @@ module _ (p : Place) (image : ℕ → ℕ) (place : IsPlace p) (rules : KeepsRul
 
   told : (k : ℕ) → Told k (winner_of p image k) (cell_of p image k)
   told k = by_own (is_own p k) refl where
-    by_winner : owner p k < members p → (o : Option PlacedEntry) → winner_in k es ≡ o → Told k o (option_and_then (λ (y : PlacedEntry). cell_by (held p.layout image (layouts.owner p.layout k)) y.entry.body) o)
+    by_winner : owner p k < members p → (o : Option PlacedEntry) → winner_in k es ≡ o → Told k o (option_and_then (λ (y : PlacedEntry). cell_by (value_in_block p.layout image (layouts.owner p.layout k)) y.entry.body) o)
     by_winner own None q = inl (λ d f t i. (let s = entries.stands p image place rules d f t in winner_some k es s.y s.image_has (ap (λ (g : Entry). g.key) (sym s.is) ∙ i) q), refl, refl)
     by_winner own (Some y) q = inr (y.entry, entries.wins p image place rules k y own q, refl, leaves k y y.entry.body own q refl)
 

@@ -10,7 +10,7 @@ use Rattle.chunk_map.specs.declared.layouts.Geometry.{Geometry}
 use Rattle.chunk_map.specs.declared.heads.Head.{Head}
 use Rattle.chunk_map.specs.declared.heads.Head.TheVariants.{Free, Log, Data}
 use Rattle.chunk_map.specs.Layouts.{numbers, chunk_words, is_class, head_at, head_by, has_class, payload_words}
-use Rattle.store_image.specs.Parts.{chunk_units, chunk_at, unit_at, is_start, class_behind, block_class, block_bytes, held_by, held}
+use Rattle.store_image.specs.Parts.{chunk_units, chunk_at, unit_at, is_start, class_behind, block_class, block_bytes, value_by_class, value_in_block}
 use Rattle.store_image.proofs.Clients.{chosen, start_facts}
 use Rattle.group_laws.specs.Places.{Place, core_of, first_unit, units, LiesIn, Apart}
 
@@ -87,9 +87,9 @@ pub record IsBlock (l : Geometry) (image : ℕ → ℕ) (c q : ℕ) (v : List �
   pub enough : units (length v) ≤ 2 ^ class
   pub bytes : v ≡ block_bytes image q
 
-pub is_block : (l : Geometry) (image : ℕ → ℕ) (c q : ℕ) (v : List ℕ) → held l image c q ≡ Some v → IsBlock l image c q v
+pub is_block : (l : Geometry) (image : ℕ → ℕ) (c q : ℕ) (v : List ℕ) → value_in_block l image c q ≡ Some v → IsBlock l image c q v
 is_block l image c q v e = by_class (block_class l image c q) refl e where
-  by_class : (o : Option ℕ) → block_class l image c q ≡ o → held_by image q o ≡ Some v → IsBlock l image c q v
+  by_class : (o : Option ℕ) → block_class l image c q ≡ o → value_by_class image q o ≡ Some v → IsBlock l image c q v
   by_class None is there = cc there
   by_class (Some class) is there = elim (chosen (has_class (image (32 * q)) class) _ _ _ there) [
     | inr a ↦ cc (a.1)
@@ -109,7 +109,7 @@ place_of_block l image c q class some s =
     let split : chunk_units l * chunk_at l q + unit_at l q ≡ q - 16 = omega (arith, some) in
     (omega (arith, split, low), top.1)
 
-pub block_lies : (p : Place) (image : ℕ → ℕ) (m q : ℕ) (v : List ℕ) → 0 < chunk_units p.layout → 0 < p.layout.chunks → held p.layout image (core_of p m) q ≡ Some v → LiesIn p m q (units (length v))
+pub block_lies : (p : Place) (image : ℕ → ℕ) (m q : ℕ) (v : List ℕ) → 0 < chunk_units p.layout → 0 < p.layout.chunks → value_in_block p.layout image (core_of p m) q ≡ Some v → LiesIn p m q (units (length v))
 unfolding first_unit core_of
 block_lies p image m q v some rows is =
     let l = p.layout in
@@ -131,7 +131,7 @@ block_lies p image m q v some rows is =
     let top = at.1 in
     (omega (arith, below, first, start), omega (arith, above, next, last, start, top, few))
 
-pub blocks_apart : (p : Place) (image : ℕ → ℕ) (m q r : ℕ) (v u : List ℕ) → 0 < chunk_units p.layout → held p.layout image (core_of p m) q ≡ Some v → held p.layout image (core_of p m) r ≡ Some u → q ≢ r → Apart q (units (length v)) r (units (length u))
+pub blocks_apart : (p : Place) (image : ℕ → ℕ) (m q r : ℕ) (v u : List ℕ) → 0 < chunk_units p.layout → value_in_block p.layout image (core_of p m) q ≡ Some v → value_in_block p.layout image (core_of p m) r ≡ Some u → q ≢ r → Apart q (units (length v)) r (units (length u))
 blocks_apart p image m q r v u some one two ne =
     let l = p.layout in
     let b = is_block l image (core_of p m) q v one in

@@ -10,7 +10,7 @@ use Rattle.chunk_map.specs.declared.layouts.Geometry.{Geometry}
 use Rattle.chunk_map.specs.Layouts.{numbers, part_first, chunk_first, chunk_words, head_at}
 use Rattle.chunk_map.proofs.Clients.{chunk_in_part}
 use Rattle.store_image.specs.declared.types.PlacedEntry.{PlacedEntry}
-use Rattle.store_image.specs.Parts.{part_entries, reads, held, block_class, class_behind, chunk_at, unit_at, chunk_units}
+use Rattle.store_image.specs.Parts.{part_entries, reads, value_in_block, block_class, class_behind, chunk_at, unit_at, chunk_units}
 use Rattle.store_image.proofs.Clients.{chosen, head_same, reads_same, part_same, Numbers, behind_facts, layout_numbers, held_same}
 use Rattle.store_image.specs.Facts.{In}
 use Rattle.group_laws.specs.Places.{Place, IsPlace, core_of}
@@ -78,7 +78,7 @@ module _ (l : Geometry) (is : Numbers l) (c : ℕ) (i j : ℕ → ℕ) (same : (
         ap i at ∙ word p here (32 * unit_at l p + k) inside ∙ sym (ap j at)
   ]
 
-  pub part_holds : (p : ℕ) → held l i c p ≡ held l j c p
+  pub part_holds : (p : ℕ) → value_in_block l i c p ≡ value_in_block l j c p
   part_holds p = held_same l i j c p (class_same p) (block_word p)
 
 -- An image with the same words in the part is licensed too.

@@ -11,7 +11,7 @@ use Rattle.group_laws.specs.declared.types.Seen.{Seen}
 use Rattle.store_image.specs.Facts.{In}
 use Rattle.group_laws.specs.Places.{Apart, LiesIn, members, owner, units}
 use Rattle.group_laws.specs.Updates.{times}
-use Rattle.group_laws.specs.State.{Group, shown}
+use Rattle.group_laws.specs.State.{Group, word_shown}
 use Rattle.group_laws.specs.Invariant.{Blocks, Cells, Counts, Gives, IsHeld, IsLogged, Keys, Lawful, Logs, Looks, PendsAt, Slots}
 use Rattle.group_laws.specs.Steps.{CanPost, posts, with_block}
 use Rattle.group_laws.specs.declared.types.Slot.TheVariants.{Empty, Posted, Taken, Done, Failed}
@@ -102,9 +102,9 @@ module _ (w : Group) (m s : ℕ) (e : Entry) (value : List ℕ) (L : Lawful w) (
   keeps_looks = record {
     holder_member = L.looks.holder_member;
     holds_is = L.looks.holds_is;
-    posted_seen = λ n b t o h q. slot_into (λ u. shown u ≡ ShowsPosted o) b t (λ i j. absurd (let was = L.looks.posted_seen n b t o h (looked_was n _ q).1 in let empty = can.empty in cc (was, empty, i, j))) (λ _. L.looks.posted_seen n b t o h (looked_was n _ q).1);
-    done_seen = λ n t h q. let was = looked_was n _ q in slot_into (λ u. shown u ≡ ShowsDone h) n t (λ i j. absurd (was.0 i)) (λ _. L.looks.done_seen n t h was.1);
-    failed_seen = λ n t q. let was = looked_was n _ q in slot_into (λ u. shown u ≡ ShowsFailed) n t (λ i j. absurd (was.0 i)) (λ _. L.looks.failed_seen n t was.1);
+    posted_seen = λ n b t o h q. slot_into (λ u. word_shown u ≡ ShowsPosted o) b t (λ i j. absurd (let was = L.looks.posted_seen n b t o h (looked_was n _ q).1 in let empty = can.empty in cc (was, empty, i, j))) (λ _. L.looks.posted_seen n b t o h (looked_was n _ q).1);
+    done_seen = λ n t h q. let was = looked_was n _ q in slot_into (λ u. word_shown u ≡ ShowsDone h) n t (λ i j. absurd (was.0 i)) (λ _. L.looks.done_seen n t h was.1);
+    failed_seen = λ n t q. let was = looked_was n _ q in slot_into (λ u. word_shown u ≡ ShowsFailed) n t (λ i j. absurd (was.0 i)) (λ _. L.looks.failed_seen n t was.1);
     empty_seen = λ n b q. L.looks.empty_seen n b (looked_was n _ q).1;
     full_seen = λ n b q. L.looks.full_seen n b (looked_was n _ q).1;
   }

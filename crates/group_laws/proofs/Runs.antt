@@ -1,7 +1,7 @@
 -- Every step, and so every run, keeps the invariant.
 use Rattle.std.proofs.Common.{◌≡◌, ℕ, zero, suc, true, false, List, [], ◌∷◌, Option, Some, None, inl, inr, refl, sym, subst}
 use Rattle.group_laws.specs.Opening.{AllTidied}
-use Rattle.group_laws.specs.State.{Notices, Group, is_full, shown}
+use Rattle.group_laws.specs.State.{Notices, Group, is_full, word_shown}
 use Rattle.group_laws.specs.Invariant.{Lawful}
 use Rattle.group_laws.specs.Tidying.{Tidied, tidies}
 use Rattle.group_laws.specs.Runs.{IsStep, Kind, Runs}
@@ -41,7 +41,7 @@ step_keeps w m Lock u L s = elim s.1 [
   | inl free ↦ along _ _ free.1 (lock.locks_keeps w m L s.0.member free.0)
   | inr held ↦ along _ _ held.2 (lock.finds_keeps w m (SeenHolder held.0) L held.1)
 ]
-step_keeps w m (Look a n) u L s = along _ _ s.2 (lock.finds_keeps w m (SeenSlot a n (shown (w.slot a n))) L refl)
+step_keeps w m (Look a n) u L s = along _ _ s.2 (lock.finds_keeps w m (SeenSlot a n (word_shown (w.slot a n))) L refl)
 step_keeps w m (LookMail a b) u L s = along _ _ s.3 (lock.finds_keeps w m (SeenMail a b (is_full (w.mail a b))) L (full_is (w.mail a b)))
 step_keeps w m (Take a n) u L s = along _ _ s.2 (take.keeps w m a n s.0 L s.1)
 step_keeps w m Unlock u L s = along _ _ s.1 (lock.unlocks_keeps w m L s.0)

@@ -11,7 +11,7 @@ use Rattle.chunk_map.specs.Layouts.{IsLayout, numbers, chunk_first, is_of_group,
 use Rattle.chunk_map.specs.Layouts as layouts
 use Rattle.chunk_map.proofs.Clients.{numbers_of}
 use Rattle.store_image.specs.declared.types.PlacedEntry.{PlacedEntry}
-use Rattle.store_image.specs.Parts.{chunk_reads, reads, chunk_entries, part_entries, all_entries, held, block_bytes}
+use Rattle.store_image.specs.Parts.{chunk_reads, reads, chunk_entries, part_entries, all_entries, value_in_block, block_bytes}
 use Rattle.store_image.specs.Winners.{winner_in, cell_by}
 use Rattle.store_image.specs.Winners as winners
 use Rattle.store_image.specs.Facts.{In, Agree, KeepsRules}
@@ -118,11 +118,11 @@ module _ (l : Geometry) (is : IsLayout l) (image : ℕ → ℕ) (ok : (g : ℕ) 
       let low = (ok (of_key k) (key_low k)).grouped x (in_of k x at.0 at.1) in
       (own_core (place_at l (of_key k)) k some (subst (λ (j : ℕ). owner (place_at l (of_key k)) j < l.group) at.1 low)).0
 
-  holds : (k p : ℕ) (x : PlacedEntry) → winner_in k (all_entries l image) ≡ Some x → x.entry.body ≡ Pointer p → held l image (layouts.owner l k) p ≡ Some (block_bytes image p)
+  holds : (k p : ℕ) (x : PlacedEntry) → winner_in k (all_entries l image) ≡ Some x → x.entry.body ≡ Pointer p → value_in_block l image (layouts.owner l k) p ≡ Some (block_bytes image p)
   holds k p x q b =
       let y = wins k x q in
       let v = (ok (of_key k) (key_low k)).block k p y.0 y.1 (y.2 ∙ b) in
-      let there : held l image (layouts.owner l k) p ≡ Some v.0 = subst (λ (c : ℕ). held l image c p ≡ Some v.0) (owned k x q) v.1 in
+      let there : value_in_block l image (layouts.owner l k) p ≡ Some v.0 = subst (λ (c : ℕ). value_in_block l image c p ≡ Some v.0) (owned k x q) v.1 in
       there ∙ ap Some (is_block l image (layouts.owner l k) p v.0 there).bytes
 
   apart : (j k p : ℕ) (x y : PlacedEntry) → winner_in j (all_entries l image) ≡ Some x → winner_in k (all_entries l image) ≡ Some y → x.entry.body ≡ Pointer p → y.entry.body ≡ Pointer p → j ≡ k
@@ -153,11 +153,11 @@ module _ (l : Geometry) (is : IsLayout l) (image : ℕ → ℕ) (ok : (g : ℕ) 
     here (Some y) e none = let own = winner_is k (es (of_key k)) y e in absurd (winner_some k (all_entries l image) y (back (of_key k) y (key_low k) own.0) own.1 none)
 
     by : (o : Option PlacedEntry) → winner_in k (all_entries l image) ≡ o
-        → option_and_then (λ (x : PlacedEntry). cell_by (held l image (layouts.owner l k)) x.entry.body) o ≡ recovered (place_at l (of_key k)) (λ h. image) k
+        → option_and_then (λ (x : PlacedEntry). cell_by (value_in_block l image (layouts.owner l k)) x.entry.body) o ≡ recovered (place_at l (of_key k)) (λ h. image) k
     by None none = here (winner_in k (es (of_key k))) refl none
     by (Some x) q =
         let y = wins k x q in
-        ap (λ (c : ℕ). cell_by (held l image c) x.entry.body) (sym (owned k x q))
+        ap (λ (c : ℕ). cell_by (value_in_block l image c) x.entry.body) (sym (owned k x q))
         ∙ ap (cell_by (block_of (place_at l (of_key k)) image (owner (place_at l (of_key k)) k))) (sym y.2)
         ∙ ap (λ o. option_and_then (λ (z : PlacedEntry). cell_by (block_of (place_at l (of_key k)) image (owner (place_at l (of_key k)) k)) z.entry.body) o) (sym y.1)
 

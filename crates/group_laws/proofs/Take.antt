@@ -6,7 +6,7 @@ use Rattle.group_laws.specs.declared.types.Seen.{Seen}
 use Rattle.store_image.specs.Facts.{In}
 use Rattle.group_laws.specs.Places.{members, owner}
 use Rattle.group_laws.specs.Updates.{same_entry, times}
-use Rattle.group_laws.specs.State.{Group, shown}
+use Rattle.group_laws.specs.State.{Group, word_shown}
 use Rattle.group_laws.specs.Invariant.{Cells, Counts, IsHeld, IsLogged, IsLost, Lawful, Logs, Looks, Slots, Standing, times_taken}
 use Rattle.group_laws.specs.Steps.{CanTake, takes}
 use Rattle.group_laws.specs.declared.types.Slot.TheVariants.{Empty, Posted, Taken, Done, Failed}
@@ -79,8 +79,8 @@ module _ (w : Group) (m a s : ℕ) (e : Entry) (L : Lawful w) (can : CanTake w m
     holder_member = L.looks.holder_member;
     holds_is = L.looks.holds_is;
     posted_seen = λ n b t o h q. let was = looked_was n _ q in let me = (L.looks.holds_is m).0 can.holds in grind (arith, was);
-    done_seen = λ n t h q. let was = looked_was n _ q in if2_into (λ u. shown u ≡ ShowsDone h) a s Taken (w.slot n t) n t (λ i j. let x = L.looks.done_seen n t h was.1 in grind (arith, x, can.entry)) (λ _. L.looks.done_seen n t h was.1);
-    failed_seen = λ n t q. let was = looked_was n _ q in if2_into (λ u. shown u ≡ ShowsFailed) a s Taken (w.slot n t) n t (λ i j. let x = L.looks.failed_seen n t was.1 in grind (arith, x, can.entry)) (λ _. L.looks.failed_seen n t was.1);
+    done_seen = λ n t h q. let was = looked_was n _ q in if2_into (λ u. word_shown u ≡ ShowsDone h) a s Taken (w.slot n t) n t (λ i j. let x = L.looks.done_seen n t h was.1 in grind (arith, x, can.entry)) (λ _. L.looks.done_seen n t h was.1);
+    failed_seen = λ n t q. let was = looked_was n _ q in if2_into (λ u. word_shown u ≡ ShowsFailed) a s Taken (w.slot n t) n t (λ i j. let x = L.looks.failed_seen n t was.1 in grind (arith, x, can.entry)) (λ _. L.looks.failed_seen n t was.1);
     empty_seen = λ n b q. L.looks.empty_seen n b (looked_was n _ q).1;
     full_seen = λ n b q. L.looks.full_seen n b (looked_was n _ q).1;
   }

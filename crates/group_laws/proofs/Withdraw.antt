@@ -8,7 +8,7 @@ use Rattle.group_laws.specs.declared.types.Block.{Block}
 use Rattle.group_laws.specs.declared.types.Seen.{Seen}
 use Rattle.store_image.specs.Facts.{In}
 use Rattle.group_laws.specs.Places.{owner}
-use Rattle.group_laws.specs.State.{Group, shown}
+use Rattle.group_laws.specs.State.{Group, word_shown}
 use Rattle.group_laws.specs.Invariant.{Gives, IsHeld, IsLast, IsLive, IsLogged, Lawful, Looks, PendsAt, Slots}
 use Rattle.group_laws.specs.Steps.{CanWithdraw, points_at, withdraws}
 use Rattle.group_laws.specs.declared.types.Slot.TheVariants.{Empty, Posted, Taken, Done, Failed}
@@ -66,8 +66,8 @@ module _ (w : Group) (m s : ℕ) (e : Entry) (L : Lawful w) (can : CanWithdraw w
     holder_member = L.looks.holder_member;
     holds_is = L.looks.holds_is;
     posted_seen = λ n b t o h q. absurd (let was = looked_was n _ q in let me = (L.looks.holds_is m).0 can.holds in was.0 (cc (h, me)));
-    done_seen = λ n t h q. slot_stays (λ u. shown u ≡ ShowsDone h) n t (λ i. absurd (cc i)) (L.looks.done_seen n t h (looked_was n _ q).1);
-    failed_seen = λ n t q. slot_stays (λ u. shown u ≡ ShowsFailed) n t (λ i. absurd (cc i)) (L.looks.failed_seen n t (looked_was n _ q).1);
+    done_seen = λ n t h q. slot_stays (λ u. word_shown u ≡ ShowsDone h) n t (λ i. absurd (cc i)) (L.looks.done_seen n t h (looked_was n _ q).1);
+    failed_seen = λ n t q. slot_stays (λ u. word_shown u ≡ ShowsFailed) n t (λ i. absurd (cc i)) (L.looks.failed_seen n t (looked_was n _ q).1);
     empty_seen = λ n b q. L.looks.empty_seen n b (looked_was n _ q).1;
     full_seen = λ n b q. L.looks.full_seen n b (looked_was n _ q).1;
   }

@@ -6,7 +6,7 @@ use Rattle.log_entry.specs.declared.entry.Body.TheVariants.{Pointer}
 use Rattle.log_entry.specs.declared.entry.Entry.{Entry}
 use Rattle.chunk_map.specs.Layouts.{numbers, part_first}
 use Rattle.store_image.specs.declared.types.PlacedEntry.{PlacedEntry}
-use Rattle.store_image.specs.Parts.{part_entries, reads, held}
+use Rattle.store_image.specs.Parts.{part_entries, reads, value_in_block}
 use Rattle.store_image.specs.Winners.{winner_in, cell_by}
 use Rattle.store_image.specs.Facts.{In, Agree}
 use Rattle.group_laws.specs.declared.types.Block.{Block}
@@ -25,7 +25,7 @@ StandsIn p image h e = In e (map (λ x. x.entry) (log_of p image h))
 
 -- what a block of a member's part holds
 abbrev pub block_of : Place → (ℕ → ℕ) → ℕ → ℕ → Option (List ℕ)
-block_of p image h at = held p.layout image (core_of p h) at
+block_of p image h at = value_in_block p.layout image (core_of p h) at
 
 -- A crash may leave this image of the part of member h, who has v. It reads well, and has all that is certain but what may vanish, nothing that isn't logged, what was in flight wholly or not at all, and the blocks.
 pub record IsLicensedBy (p : Place) (h : ℕ) (v : View) (image : ℕ → ℕ) : Type 0 where

@@ -13,7 +13,7 @@ use Rattle.group_laws.specs.declared.types.Seen.TheVariants.{Slot as SeenSlot, M
 use Rattle.group_laws.specs.declared.types.SlotWord.TheVariants.{Posted as ShowsPosted, Done as ShowsDone, Failed as ShowsFailed}
 use Rattle.group_laws.specs.Places.{IsPlace, members, owner, units, LiesIn, Apart}
 use Rattle.group_laws.specs.Updates.{times, sum_below}
-use Rattle.group_laws.specs.State.{Notices, Group, shown}
+use Rattle.group_laws.specs.State.{Notices, Group, word_shown}
 
 -- The records of a key agree with each other. So the version of a posted entry is the key's next one, above every finished one, and recovery prefers it.
 pub record Keys (w : Group) : Type 0 where
@@ -64,11 +64,11 @@ pub record Looks (w : Group) : Type 0 where
   pub holds_is : (m : ℕ) → (w.holds m ≡ true) ↔ (w.holder ≡ Some m)
   pub holder_member : (h : ℕ) → w.holder ≡ Some h → h < members w.place
   pub posted_seen : (m a s n : ℕ) → w.holder ≡ Some m
-      → In (SeenSlot a s (ShowsPosted n)) (w.looked m) → shown (w.slot a s) ≡ ShowsPosted n
+      → In (SeenSlot a s (ShowsPosted n)) (w.looked m) → word_shown (w.slot a s) ≡ ShowsPosted n
   pub done_seen : (m s h : ℕ) → In (SeenSlot m s (ShowsDone h)) (w.looked m)
-      → shown (w.slot m s) ≡ ShowsDone h
+      → word_shown (w.slot m s) ≡ ShowsDone h
   pub failed_seen : (m s : ℕ) → In (SeenSlot m s ShowsFailed) (w.looked m)
-      → shown (w.slot m s) ≡ ShowsFailed
+      → word_shown (w.slot m s) ≡ ShowsFailed
   pub empty_seen : (m b : ℕ) → In (SeenMail m b false) (w.looked m) → w.mail m b ≡ None
   pub full_seen : (m a : ℕ) → In (SeenMail a m true) (w.looked m) → w.mail a m ≢ None
 

@@ -3,7 +3,7 @@ use Rattle.std.specs.Prelude.{◌≡◌, ℕ, List, [], ◌∷◌, Some, None, �
 use Rattle.log_entry.specs.declared.entry.Entry.{Entry}
 use Rattle.log_entry.specs.declared.entry.EntryName.{EntryName}
 use Rattle.group_laws.specs.declared.types.Seen.TheVariants.{Slot as SeenSlot, Mail as SeenMail, Holder as SeenHolder}
-use Rattle.group_laws.specs.State.{Group, Notices, shown, is_full}
+use Rattle.group_laws.specs.State.{Group, Notices, word_shown, is_full}
 use Rattle.group_laws.specs.Steps.{IsMember, IsSlot, posts, CanPost, locks, CanLock, finds, takes, CanTake, unlocks, CanUnlock, commits, CanCommit, marks, CanMark, fails, CanFail, finishes, CanFinish, gives_up, CanGiveUp, withdraws, CanWithdraw, dooms, CanDoom, retires, CanRetire, sends, CanSend, receives, CanReceive}
 use Rattle.group_laws.specs.Tidying.{Tidied}
 
@@ -35,7 +35,7 @@ IsStep w m (Post s e v) u = CanPost w m s e v × (u ≡ posts w m s e v)
 IsStep w m Lock u = CanLock w m × (((w.holder ≡ None) × (u ≡ locks w m))
     ⊎ ((h : ℕ) × (w.holder ≡ Some h) × (u ≡ finds w m (SeenHolder h))))
 IsStep w m (Look a s) u = IsMember w m × IsSlot w a s
-    × (u ≡ finds w m (SeenSlot a s (shown (w.slot a s))))
+    × (u ≡ finds w m (SeenSlot a s (word_shown (w.slot a s))))
 IsStep w m (LookMail a b) u = IsMember w m × IsMember w a × IsMember w b
     × (u ≡ finds w m (SeenMail a b (is_full (w.mail a b))))
 IsStep w m (Take a s) u = (e : Entry) × CanTake w m a s e × (u ≡ takes w m a s e)

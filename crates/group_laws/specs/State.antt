@@ -13,12 +13,12 @@ use Rattle.group_laws.specs.declared.types.SlotWord.TheVariants as words
 use Rattle.group_laws.specs.Places.{Place}
 
 -- what the word of a slot tells
-abbrev pub shown : Slot → SlotWord
-shown Empty = words.Empty
-shown (Posted e) = words.Posted (length (words_of e))
-shown Taken = words.Taken
-shown (Done e h) = words.Done h
-shown (Failed e) = words.Failed
+abbrev pub word_shown : Slot → SlotWord
+word_shown Empty = words.Empty
+word_shown (Posted e) = words.Posted (length (words_of e))
+word_shown Taken = words.Taken
+word_shown (Done e h) = words.Done h
+word_shown (Failed e) = words.Failed
 
 -- what one member tells another: which entries in the other's log are dead, and which of the other's keys' entries vanished from the own log
 pub record Notices : Type 0 where

@@ -1,7 +1,7 @@
 // The value blocks of an image.
 ghost use Rattle.std.specs.Prelude.{◌≡◌, ◌+◌, ◌*◌, ◌/◌, ◌^◌, ◌<◌, ◌≤◌, length, IfOk, IfSome, Some, None};
 ghost use Rattle.chunk_map.specs.Layouts.{layout_rule, total_words};
-ghost use Rattle.store_image.specs.Parts.{block_class, held_by, held};
+ghost use Rattle.store_image.specs.Parts.{block_class, value_by_class, value_in_block};
 ghost use Rattle.image_yardstick.specs.Images.{image_of};
 
 use crate::image_heads::head_at;
@@ -56,7 +56,7 @@ fn value_in(alloc: Global, words: &[u64], pointer: u64, class: u32) -> Result<Op
     requires class { class ≤ GREATEST_CLASS }
     requires within { UNIT_WORDS * pointer + UNIT_WORDS * 2 ^ class ≤ length words.now }
     requires small { length words.now < 2 ^ 32 }
-    ensures { IfOk result (λ v. v ≡ held_by (image_of words.now) pointer (Some class)) }
+    ensures { IfOk result (λ v. v ≡ value_by_class (image_of words.now) pointer (Some class)) }
 {
     let at = UNIT_WORDS as usize * pointer as usize;
     let length = words[at];
@@ -71,7 +71,7 @@ fn value_in(alloc: Global, words: &[u64], pointer: u64, class: u32) -> Result<Op
 
 /// What the block of a part at a pointer holds: none where no block of the part begins there, or where its
 /// first word is no length of its class.
-pub fn held(
+pub fn value_in_block(
     alloc: Global,
     layout: &Geometry,
     words: &[u64],
@@ -81,7 +81,7 @@ pub fn held(
     requires layout { layout_rule layout.now ≡ None }
     requires words { length words.now ≡ total_words layout.now }
     requires part { part < layout.now.cores }
-    ensures { IfOk result (λ v. v ≡ held layout.now (image_of words.now) part pointer) }
+    ensures { IfOk result (λ v. v ≡ value_in_block layout.now (image_of words.now) part pointer) }
 {
     match block_class(layout, words, part, pointer) {
         None => Ok(None),

@@ -7,7 +7,7 @@ ghost use Rattle.store_image.specs.Listing.{ListsCells};
 ghost use Rattle.image_yardstick.specs.Images.{image_of};
 
 use crate::gather_image::gather;
-use crate::image_blocks::held;
+use crate::image_blocks::value_in_block;
 use crate::image_superblock::layout_at;
 use crate::winners::{keys_of, winner_in};
 use chunk_map::layouts::Geometry;
@@ -36,7 +36,7 @@ fn cell(
         None => Ok(None),
         Some(winner) => match &winner.entry.body {
             Body::Pointer(pointer) => {
-                let value = held(alloc, layout, words, owner(layout, key), *pointer)?;
+                let value = value_in_block(alloc, layout, words, owner(layout, key), *pointer)?;
                 Ok(value)
             }
             Body::Embedded(value) => Ok(Some(value.copy(alloc)?)),

@@ -2,7 +2,7 @@
 ghost use Rattle.std.specs.Prelude.{◌≡◌, ◌+◌, ◌*◌, ◌^◌, ◌≤◌, IfOk, Some};
 ghost use Rattle.pm_region.specs.State.{IsTelling};
 ghost use Rattle.pm_region.specs.Words.{lasts};
-ghost use Rattle.store_image.specs.Parts.{held_by};
+ghost use Rattle.store_image.specs.Parts.{value_by_class};
 
 use chunk_map::layout_sizes::{GREATEST_CLASS, UNIT_WORDS};
 use chunk_map::words::load_words;
@@ -26,7 +26,7 @@ pub fn value_in<R: Region>(
     requires high { UNIT_WORDS * pointer + UNIT_WORDS * 2 ^ class ≤ (R.state region.now).frame.first
         + (R.state region.now).frame.words }
     ensures { IfOk result (λ v. IsTelling (R.state region.now)
-        → v ≡ held_by (lasts (R.state region.now)) pointer (Some class)) }
+        → v ≡ value_by_class (lasts (R.state region.now)) pointer (Some class)) }
 {
     if pointer >= (1 << 59) - (1 << class) {
         return Err(Memory);

@@ -10,7 +10,7 @@ use Rattle.chunk_map.specs.declared.heads.Head.TheVariants.{Free, Data}
 use Rattle.chunk_map.specs.declared.layouts.Geometry.{Geometry}
 use Rattle.chunk_map.specs.Layouts.{chunk_words, chunk_first, head_at, head_by, has_class, is_class}
 use Rattle.chunk_map.proofs.Clients.{data_read, chunk_in_part}
-use Rattle.store_image.specs.Parts.{chunk_at, unit_at, is_start, class_behind, block_class, held_by, block_bytes}
+use Rattle.store_image.specs.Parts.{chunk_at, unit_at, is_start, class_behind, block_class, value_by_class, block_bytes}
 use Rattle.store_image.specs.Facts.{In}
 use Rattle.store_image.proofs.Clients.{chosen, Numbers, LiesIn, chunk_of, block_lies, layout_numbers}
 use Rattle.lazy_alloc.specs.Sets.{Sets, AreSets, class_at, chunk_class, chunk_is_due, block_is_used}
@@ -242,5 +242,5 @@ module _ (s t : State) (p : Place) (m : ℕ) (v : View) (a : Sets) (q class : �
       mine r x here has =
           let at_r : Some d ≡ Some x = sym (ap (λ z. cond z (Some d) (v.blocks r)) (eq-eqb r q here)) ∙ has in
           let bytes : Some d.bytes ≡ Some x.bytes = ap bytes_of at_r in
-          ap (block_of p image m) here ∙ ap (held_by image q) block_here
+          ap (block_of p image m) here ∙ ap (value_by_class image q) block_here
           ∙ ap (λ n. cond (has_class n class) (Some (block_bytes image q)) None) holds.0 ∙ ap (λ z. cond z (Some (block_bytes image q)) None) long ∙ ap Some holds.1 ∙ bytes

@@ -10,7 +10,7 @@ use Rattle.chunk_map.specs.declared.layouts.Geometry.{Geometry}
 use Rattle.chunk_map.specs.Layouts.{chunk_words, chunk_first, head_at, is_class}
 use Rattle.chunk_map.proofs.Clients.{data_read}
 use Rattle.store_image.specs.declared.types.PlacedEntry.{PlacedEntry}
-use Rattle.store_image.specs.Parts.{chunk_entries, chunk_reads, head_reads, scan_behind, chunk_at, unit_at, chunk_units, is_start, class_behind, block_class, held}
+use Rattle.store_image.specs.Parts.{chunk_entries, chunk_reads, head_reads, scan_behind, chunk_at, unit_at, chunk_units, is_start, class_behind, block_class, value_in_block}
 use Rattle.store_image.specs.Facts.{In}
 use Rattle.store_image.proofs.Clients.{chunk_same, head_same, reads_same, chosen, data_entries, free_entries, Numbers, LiesIn, chunk_of, block_lies, held_same}
 use Rattle.group_laws.specs.Places.{Place, core_of}
@@ -154,7 +154,7 @@ module _ (p : Place) (m : ℕ) (v : View) (is : Numbers p.layout) (low : core_of
       (λ ne. chunk_same l image old c n room (λ k less. else_same n k lt ne less)) (cases_eq n j)
 
   -- another block stays what it was
-  block_stays : (r : ℕ) (u : List ℕ) → r ≢ q → held l old c r ≡ Some u → held l image c r ≡ Some u
+  block_stays : (r : ℕ) (u : List ℕ) → r ≢ q → value_in_block l old c r ≡ Some u → value_in_block l image c r ≡ Some u
   block_stays r u ne e =
       let has = held_has old r (block_class l old c r) u e in
       let at = block_lies l is old c r has.0 low has.1 in
@@ -167,7 +167,7 @@ module _ (p : Place) (m : ℕ) (v : View) (is : Numbers p.layout) (low : core_of
       class_to r k s head = ap (λ b. cond b (class_behind l (unit_at l r) (head_at l image (512 + chunk_at l r * chunk_words l))) None) s.in_part
           ∙ ap (class_behind l (unit_at l r)) (ap (head_at l image) (first_is r k s) ∙ head) ∙ ap (λ b. cond b (Some k) None) s.start
 
-      beside : (r : ℕ) (u : List ℕ) → held l old c r ≡ Some u → (k : ℕ) → block_class l old c r ≡ Some k → chunk_of l r < l.chunks → chunk_of l r ≢ j → held l image c r ≡ Some u
+      beside : (r : ℕ) (u : List ℕ) → value_in_block l old c r ≡ Some u → (k : ℕ) → block_class l old c r ≡ Some k → chunk_of l r < l.chunks → chunk_of l r ≢ j → value_in_block l image c r ≡ Some u
       beside r u e k cls lt other =
           let at = block_lies l is old c r k low cls in
           let head = head_same l image old (chunk_first l c (chunk_of l r)) room (λ n less. else_same (chunk_of l r) n lt other less) ∙ at.head in
@@ -176,7 +176,7 @@ module _ (p : Place) (m : ℕ) (v : View) (is : Numbers p.layout) (low : core_of
           let word = again.words n less in
           ap image word.3 ∙ else_same (chunk_of l r) word.0 lt other word.2 ∙ ap old (sym word.3)) ∙ e
 
-      in_chunk : (r : ℕ) (u : List ℕ) → r ≢ q → held l old c r ≡ Some u → (k : ℕ) → block_class l old c r ≡ Some k → chunk_of l r ≡ j → held l image c r ≡ Some u
+      in_chunk : (r : ℕ) (u : List ℕ) → r ≢ q → value_in_block l old c r ≡ Some u → (k : ℕ) → block_class l old c r ≡ Some k → chunk_of l r ≡ j → value_in_block l image c r ≡ Some u
       in_chunk r u ne e k cls here = ⊎_elim
           (λ free. absurd (let both : Ok Free ≡ Ok (Data k) = sym free ∙ ap (λ n. head_at l old (chunk_first l c n)) (sym here) ∙ (block_lies l is old c r k low cls).head in cc both))
           (λ cut.

@@ -6,7 +6,7 @@ use Rattle.pm_region.specs.Words.{EachIn}
 use Rattle.log_entry.specs.declared.entry.Entry.{Entry}
 use Rattle.chunk_map.specs.declared.layouts.Geometry.{Geometry}
 use Rattle.chunk_map.specs.Layouts.{part_first}
-use Rattle.store_image.specs.Parts.{reads, held}
+use Rattle.store_image.specs.Parts.{reads, value_in_block}
 use Rattle.store_image.specs.Facts.{In}
 use Rattle.core_log.specs.Log.{LogState}
 use Rattle.core_log.specs.PartImages.{KeepsPart, Gains, Loses, EachInPart, entries_of}
@@ -44,7 +44,7 @@ module _ (p : Place) (m : ℕ) (log : LogState) (own : IsLogOf p m log) where
     well_after keeps = to_place (λ l c. reads l before c ≡ true → reads l image c ≡ true) keeps.well was.well
 
     blocks_after : KeepsPart log before image → (q : ℕ) (b : Block) → v.blocks q ≡ Some b → block_of p image m q ≡ Some b.bytes
-    blocks_after keeps q b has = to_place (λ l c. held l before c q ≡ Some b.bytes → held l image c q ≡ Some b.bytes) (keeps.blocks q b.bytes) (was.blocks q b has)
+    blocks_after keeps q b has = to_place (λ l c. value_in_block l before c q ≡ Some b.bytes → value_in_block l image c q ≡ Some b.bytes) (keeps.blocks q b.bytes) (was.blocks q b has)
 
     -- it has entries more
     module _ (es : List Entry) (gains : Gains log es before image) where

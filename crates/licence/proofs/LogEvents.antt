@@ -8,7 +8,7 @@ use Rattle.chunk_map.proofs.Clients.{chunk_in_part}
 use Rattle.log_entry.specs.declared.entry.Entry.{Entry}
 use Rattle.log_entry.specs.declared.entry.EntryName.{EntryName}
 use Rattle.store_image.specs.declared.types.PlacedEntry.{PlacedEntry}
-use Rattle.store_image.specs.Parts.{chunk_entries, placed}
+use Rattle.store_image.specs.Parts.{chunk_entries, placed_in_chunk}
 use Rattle.store_image.specs.Facts.{In}
 use Rattle.store_image.proofs.Clients.{layout_numbers}
 use Rattle.core_log.specs.Chunk.{padded}
@@ -122,7 +122,7 @@ module _ (s : State) (p : Place) (m : ℕ) (v u : View) (log : LogState) (ns : L
       by_tail j lt here None is = absurd (subst (λ (xs : List PlacedEntry). In e (entries_all xs)) (vanished.others telling j lt is image (in_chunk_of log (cell_now s) j image lt may)) here)
       by_tail j lt here (Some tail) is =
           let there : is_some (tail_of log.chunks j) ≡ true = ap is_some is in
-          let entries : chunk_entries log.layout image log.part j ≡ placed log.part j (entries_in s log j) = chunk_now s log vanished.stands j there telling image (in_chunk_of log (cell_now s) j image lt may) in
+          let entries : chunk_entries log.layout image log.part j ≡ placed_in_chunk log.part j (entries_in s log j) = chunk_now s log vanished.stands j there telling image (in_chunk_of log (cell_now s) j image lt may) in
           vanished.gone telling j e there (subst (In e) (ap entries_all entries ∙ placed_all log.part j (entries_in s log j)) here)
 
   pub forgotten : Licensed p m v (cell_now s) → Licensed p m u (cell_now s)

@@ -10,7 +10,7 @@ use Rattle.store_image.specs.Facts.{In}
 use Rattle.group_laws.specs.declared.types.Block.{Block}
 use Rattle.group_laws.specs.Places.{Place}
 use Rattle.group_laws.specs.Updates.{has}
-use Rattle.group_laws.specs.State.{Group, Notices, shown, is_full}
+use Rattle.group_laws.specs.State.{Group, Notices, word_shown, is_full}
 use Rattle.group_laws.specs.declared.types.Seen.TheVariants.{Slot as SeenSlot, Mail as SeenMail, Holder as SeenHolder}
 use Rattle.group_laws.specs.MemberViews.{View, view_of}
 use Rattle.group_laws.specs.Images.{IsLicensedBy}
@@ -137,7 +137,7 @@ module _ (w : Group) (m : ℕ) where
   quiet Join u step q = to w u step.1 (same w refl refl refl refl)
   quiet (Post s e value) u step q = to (posts w m s e value) u step.1 (posted s e value q)
   quiet Lock u step q = ⊎_elim (λ got. to (locks w m) u got.1 (same (locks w m) refl refl refl refl)) (λ found. to (finds w m (SeenHolder found.0)) u found.2 (same (finds w m (SeenHolder found.0)) refl refl refl refl)) step.1
-  quiet (Look a s) u step q = let x = SeenSlot a s (shown (w.slot a s)) in to (finds w m x) u step.2 (same (finds w m x) refl refl refl refl)
+  quiet (Look a s) u step q = let x = SeenSlot a s (word_shown (w.slot a s)) in to (finds w m x) u step.2 (same (finds w m x) refl refl refl refl)
   quiet (LookMail a b) u step q = let x = SeenMail a b (is_full (w.mail a b)) in to (finds w m x) u step.3 (same (finds w m x) refl refl refl refl)
   quiet (Take a s) u step q = absurd q
   quiet Unlock u step q = to (unlocks w m) u step.1 (same (unlocks w m) refl refl refl refl)

@@ -10,7 +10,7 @@ use Rattle.chunk_map.specs.Layouts.{chunk_words, part_first}
 use Rattle.chunk_map.proofs.Clients.{numbers_of, chunk_words_whole, chunks_apart, chunk_in_part}
 use Rattle.log_entry.specs.declared.entry.Entry.{Entry}
 use Rattle.store_image.specs.declared.types.PlacedEntry.{PlacedEntry}
-use Rattle.store_image.specs.Parts.{chunk_entries, placed, chunk_reads}
+use Rattle.store_image.specs.Parts.{chunk_entries, placed_in_chunk, chunk_reads}
 use Rattle.core_log.specs.Chunk.{words_now, FreeOrLog}
 use Rattle.core_log.proofs.Clients.{is_tail, tail_fits, without_other, without_self}
 use Rattle.store_image.specs.Facts.{In}
@@ -73,7 +73,7 @@ module _ (s : State) (log : LogState) (st : StandingState) (c : ClearingState) (
     other = let n = two in let e = standing telling x.1.key x.1.version in another (has_at x.1.key x.1.version) log.chunks 0 c.chunk stands.own.rising (omega (arith, n, e))
 
     -- in an image that has the other chunks' entries
-    pub still_stands : (image : ℕ → ℕ) → ((k : ℕ) → k ≢ c.chunk → is_some (tail_of log.chunks k) ≡ true → chunk_entries log.layout image log.part k ≡ placed log.part k (entries_in s log k)) → Stands log image x.1
+    pub still_stands : (image : ℕ → ℕ) → ((k : ℕ) → k ≢ c.chunk → is_some (tail_of log.chunks k) ≡ true → chunk_entries log.layout image log.part k ≡ placed_in_chunk log.part k (entries_in s log k)) → Stands log image x.1
     still_stands image else_ =
         let a = other in
         let n = name_in (entries_in s log a.chunk) x.1.key x.1.version a.passes in
@@ -96,7 +96,7 @@ module _ (s : State) (log : LogState) (st : StandingState) (c : ClearingState) (
     here_is : HasSameOrNone s log c.chunk image
     here_is = let inside = chunk_in_part log.layout log.part c.chunk (chunk_of s log stands c.chunk has).within in each image (λ w ge lt. may w (omega (arith, ge, inside)) (omega (arith, lt, inside)))
 
-    before_chunk : chunk_entries log.layout before log.part c.chunk ≡ placed log.part c.chunk (entries_in s log c.chunk)
+    before_chunk : chunk_entries log.layout before log.part c.chunk ≡ placed_in_chunk log.part c.chunk (entries_in s log c.chunk)
     unfolding before
     before_chunk = was_chunk s log stands c.chunk (first_of log c.chunk) (first_of log c.chunk + 8) low high m kept image may telling c.chunk has
 

@@ -13,7 +13,7 @@ use Rattle.log_entry.specs.declared.entry.Entry.{Entry}
 use Rattle.log_entry.specs.Spelling.{words_of}
 use Rattle.log_entry.specs.Batches.{IsBatch, batch_words}
 use Rattle.store_image.specs.declared.types.PlacedEntry.{PlacedEntry}
-use Rattle.store_image.specs.Parts.{chunk_entries, placed, chunk_reads}
+use Rattle.store_image.specs.Parts.{chunk_entries, placed_in_chunk, chunk_reads}
 use Rattle.log_entry.proofs.Clients.{spells-append}
 use Rattle.core_log.proofs.Clients.{length-padded, tail_other, without_other, open_has, opened_is, open_spelled, open_chunk_of, moved_chunk_of, entries_or_lacks}
 use Rattle.store_image.specs.Facts.{In}
@@ -112,7 +112,7 @@ module _ (s : State) (log : LogState) (st st' : StandingState) (j taken : ℕ) (
     before : ℕ → ℕ
     before = was s log stands (open_number log) (open_first log) (open_first log + chunk_words log.layout) low high m kept image may
 
-    before_chunk : (k : ℕ) → is_some (tail_of log.chunks k) ≡ true → chunk_entries log.layout before log.part k ≡ placed log.part k (entries_in s log k)
+    before_chunk : (k : ℕ) → is_some (tail_of log.chunks k) ≡ true → chunk_entries log.layout before log.part k ≡ placed_in_chunk log.part k (entries_in s log k)
     unfolding before
     before_chunk = was_chunk s log stands (open_number log) (open_first log) (open_first log + chunk_words log.layout) low high m kept image may telling
 

@@ -9,7 +9,7 @@ use Rattle.chunk_map.specs.Layouts.{chunk_words, part_first}
 use Rattle.chunk_map.proofs.Clients.{numbers_of, chunk_words_whole, chunks_apart, chunk_in_part}
 use Rattle.log_entry.specs.declared.entry.Entry.{Entry}
 use Rattle.log_entry.specs.declared.entry.EntryName.{EntryName}
-use Rattle.store_image.specs.Parts.{reads, held}
+use Rattle.store_image.specs.Parts.{reads, value_in_block}
 use Rattle.store_image.specs.Facts.{In}
 use Rattle.core_log.specs.Log.{LogState, StandsIn, tail_of, first_of, open_number, open_first}
 use Rattle.core_log.specs.Opening.{EachInChunk, HasNoEntries}
@@ -87,7 +87,7 @@ module _ (s t : State) (p : Place) (m : ℕ) (v : View) (log : LogState) (b : Be
         has = λ e kept living. to_place p m log b.own (λ l c. InPart l h.before c e → InPart l image c e) (λ i. h.has e i (stays e living)) (was.has e kept living);
         only = λ e i. was.only e (to_place p m log b.own (λ l c. InPart l image c e → InPart l h.before c e) (h.beside.only e) i);
         whole = inl (λ e f. absurd (subst (In e) may.idle f));
-        blocks = λ q d is. to_place p m log b.own (λ l c. held l h.before c q ≡ Some d.bytes → held l image c q ≡ Some d.bytes) (h.beside.blocks q d.bytes) (was.blocks q d is);
+        blocks = λ q d is. to_place p m log b.own (λ l c. value_in_block l h.before c q ≡ Some d.bytes → value_in_block l image c q ≡ Some d.bytes) (h.beside.blocks q d.bytes) (was.blocks q d is);
       }
     where
       stays : (e : Entry) → v.doomed e.key e.version ≡ false → times_in names e.key e.version ≡ 0

@@ -17,7 +17,7 @@ use Rattle.log_entry.specs.declared.entry.Entry.{Entry}
 use Rattle.log_entry.specs.Batches.{Scan, scan_of}
 use Rattle.log_entry.proofs.Clients.{words_same, scan_spelled}
 use Rattle.store_image.specs.declared.types.PlacedEntry.{PlacedEntry}
-use Rattle.store_image.specs.Parts.{placed, chunk_entries, chunk_reads, reads, head_reads, scan_behind, chunk_at, unit_at, class_behind, block_class, held_by, held}
+use Rattle.store_image.specs.Parts.{placed_in_chunk, chunk_entries, chunk_reads, reads, head_reads, scan_behind, chunk_at, unit_at, class_behind, block_class, value_by_class, value_in_block}
 use Rattle.store_image.proofs.Clients.{chunk_of as in_chunk, block_lies, held_same, Numbers, layout_numbers, in_front, in_back, in_either, chunk_same, reads_same, head_same}
 use Rattle.store_image.specs.Facts.{In}
 use Rattle.core_log.specs.declared.types.LogChunk.{LogChunk}
@@ -75,11 +75,11 @@ pub record Among (xs : List (ℕ × Entry)) (e : Entry) : Type 0 where
   pub here : In found xs
   pub is : e ≡ found.1
 
-pub placed_in : (c j : ℕ) (xs : List (ℕ × Entry)) (e : Entry) → In e (map (λ (x : PlacedEntry). x.entry) (placed c j xs)) → Among xs e
+pub placed_in : (c j : ℕ) (xs : List (ℕ × Entry)) (e : Entry) → In e (map (λ (x : PlacedEntry). x.entry) (placed_in_chunk c j xs)) → Among xs e
 placed_in c j [] e is = absurd is
 placed_in c j (x ∷ xs) e is = ⊎_elim (λ here. record { found = x; here = inl refl; is = here }) (λ later. let a = placed_in c j xs e later in record { found = a.found; here = inr a.here; is = a.is }) is
 
-pub placed_has : (c j : ℕ) (xs : List (ℕ × Entry)) (x : ℕ × Entry) → In x xs → In x.1 (map (λ (y : PlacedEntry). y.entry) (placed c j xs))
+pub placed_has : (c j : ℕ) (xs : List (ℕ × Entry)) (x : ℕ × Entry) → In x xs → In x.1 (map (λ (y : PlacedEntry). y.entry) (placed_in_chunk c j xs))
 placed_has c j [] x is = absurd is
 placed_has c j (y ∷ ys) x is = ⊎_elim (λ here. inl (ap (λ (z : ℕ × Entry). z.1) here)) (λ later. inr (placed_has c j ys x later)) is
 
@@ -175,14 +175,14 @@ module _ (s : State) (log : LogState) (stands : StandsIn s log) (j : ℕ) (has :
   pub chunk_of : IsChunkOf log.layout (chunk_with j (tail_in log j))
   chunk_of = own_chunk log stands.own j (tail_in log j) (is_tail (tail_of log.chunks j) has)
 
-  pub chunk_now : IsTelling s → (image : ℕ → ℕ) → MayLeaveIn (cell_now s) (first_of log j) (first_of log j + chunk_words log.layout) image → chunk_entries log.layout image log.part j ≡ placed log.part j (entries_in s log j)
+  pub chunk_now : IsTelling s → (image : ℕ → ℕ) → MayLeaveIn (cell_now s) (first_of log j) (first_of log j + chunk_words log.layout) image → chunk_entries log.layout image log.part j ≡ placed_in_chunk log.part j (entries_in s log j)
   chunk_now telling image may =
       let is = chunk_of in
       let fits = (tail_fits log.layout stands.own.layout (chunk_with j (tail_in log j)) is).0 in
       entries_read log.layout image log.part j (tail_in log j) (words_now s (first_of log j) (tail_in log j)) is.whole is.fits
       (log_reads s (first_of log j) (chunk_words log.layout) (tail_in log j) fits (stands.logs telling j (tail_in log j) (is_tail (tail_of log.chunks j) has)) image may)
 
-  pub chunk_lasts : IsTelling s → chunk_entries log.layout (lasts s) log.part j ≡ placed log.part j (entries_in s log j)
+  pub chunk_lasts : IsTelling s → chunk_entries log.layout (lasts s) log.part j ≡ placed_in_chunk log.part j (entries_in s log j)
   chunk_lasts telling = chunk_now telling (lasts s) (λ w low high. may_be_last (cell_now s w) (lasts s w) refl)
 
 all_numbers : (f g : ℕ → Bool) (from n : ℕ) → ((k : ℕ) → f k ≡ true → g k ≡ true) → list_all f (numbers from n) ≡ true → list_all g (numbers from n) ≡ true
@@ -210,7 +210,7 @@ record Class (o : Option ℕ) : Type 0 where
   class : ℕ
   is : o ≡ Some class
 
-some_class : (image : ℕ → ℕ) (q : ℕ) (o : Option ℕ) (b : List ℕ) → held_by image q o ≡ Some b → Class o
+some_class : (image : ℕ → ℕ) (q : ℕ) (o : Option ℕ) (b : List ℕ) → value_by_class image q o ≡ Some b → Class o
 some_class image q None b is = absurd (cc is)
 some_class image q (Some class) b is = record { class = class; is = refl }
 
@@ -262,7 +262,7 @@ module _ (s : State) (log : LogState) (stands : StandsIn s log) (j from end : �
       sym (was_outside (first_of log k + n) (⊎_elim (λ before. inl (omega (arith, before, lt))) (λ behind. inr (omega (arith, behind))) (chunks_apart log.layout log.part k j ne))))
 
   -- a chunk of the log as it was
-  pub was_chunk : IsTelling s → (k : ℕ) → is_some (tail_of log.chunks k) ≡ true → chunk_entries log.layout was log.part k ≡ placed log.part k (entries_in s log k)
+  pub was_chunk : IsTelling s → (k : ℕ) → is_some (tail_of log.chunks k) ≡ true → chunk_entries log.layout was log.part k ≡ placed_in_chunk log.part k (entries_in s log k)
   was_chunk telling k has =
       let inside = chunk_in_part log.layout log.part k (chunk_of s log stands k has).within in
       chunk_now s log stands k has telling was (λ w ge lt. was_may w (omega (arith, inside, ge)) (omega (arith, inside, lt)))
@@ -277,7 +277,7 @@ module _ (s : State) (log : LogState) (stands : StandsIn s log) (j from end : �
       log_no_data log.layout (was (first_of log k + 1)) class ((λ i. head_by log.layout (sym kind i) (was (first_of log k + 1))) ∙ is)
 
   -- blocks lie in other chunks
-  pub blocks_kept : IsTelling s → is_some (tail_of log.chunks j) ≡ true → (q : ℕ) (b : List ℕ) → held log.layout was log.part q ≡ Some b → held log.layout image log.part q ≡ Some b
+  pub blocks_kept : IsTelling s → is_some (tail_of log.chunks j) ≡ true → (q : ℕ) (b : List ℕ) → value_in_block log.layout was log.part q ≡ Some b → value_in_block log.layout image log.part q ≡ Some b
   blocks_kept telling has q b holds =
       let l = log.layout in
       let numbers_there = layout_numbers l stands.own.layout in
@@ -293,7 +293,7 @@ module _ (s : State) (log : LogState) (stands : StandsIn s log) (j from end : �
       let there = (block_lies l numbers_there was log.part q class stands.own.part e).words n lt in
       ap image there.3 ∙ same_words k ne there.0 there.2 ∙ sym (ap was there.3)) ∙ holds
 
-  pub image_chunk : IsTelling s → (k : ℕ) → k ≢ j → is_some (tail_of log.chunks k) ≡ true → chunk_entries log.layout image log.part k ≡ placed log.part k (entries_in s log k)
+  pub image_chunk : IsTelling s → (k : ℕ) → k ≢ j → is_some (tail_of log.chunks k) ≡ true → chunk_entries log.layout image log.part k ≡ placed_in_chunk log.part k (entries_in s log k)
   image_chunk telling k ne has = same_else k ne ∙ was_chunk telling k has
 
 -- the entries of a chunk whose words are kept

@@ -8,7 +8,7 @@ use Rattle.chunk_map.specs.Layouts.{chunk_words, part_first}
 use Rattle.log_entry.specs.declared.entry.Entry.{Entry}
 use Rattle.log_entry.specs.declared.entry.EntryName.{EntryName}
 use Rattle.store_image.specs.declared.types.PlacedEntry.{PlacedEntry}
-use Rattle.store_image.specs.Parts.{part_entries, reads, held}
+use Rattle.store_image.specs.Parts.{part_entries, reads, value_in_block}
 use Rattle.store_image.specs.Facts.{In}
 use Rattle.core_log.specs.Log.{LogState, tail_of, first_of, open_number, open_first, EachInOpen}
 use Rattle.core_log.specs.Entries.{open_entries, HasEntriesOrLacks}
@@ -35,8 +35,8 @@ pub record IsBefore (s : State) (log : LogState) (j : ℕ) (image before : ℕ �
   pub outside : (w : ℕ) → (w < first_of log j) ⊎ (first_of log j + chunk_words log.layout ≤ w)
       → before w ≡ image w
   pub reads : reads log.layout before log.part ≡ true → reads log.layout image log.part ≡ true
-  pub blocks : (q : ℕ) (b : List ℕ) → held log.layout before log.part q ≡ Some b
-      → held log.layout image log.part q ≡ Some b
+  pub blocks : (q : ℕ) (b : List ℕ) → value_in_block log.layout before log.part q ≡ Some b
+      → value_in_block log.layout image log.part q ≡ Some b
   pub only : (e : Entry) → Stands log image e → Stands log before e
 
 -- The image has the entries of such a one but perhaps those of these names, and no other.
@@ -64,7 +64,8 @@ pub record MakesCopies (s t : State) (log : LogState) (es : List Entry) : Type 0
 -- A chunk is made Free. It has its entries or none of them, no word outside its head's line is stored or flushed, and each image of the part has the entries of one of the beginning but perhaps those of these names.
 pub record GivesUp (s t : State) (log : LogState) (j : ℕ) (doomed : List EntryName) : Type 0 where
   pub entries : During s t (EachInChunk log j (HasSameOrNone s log j))
-  pub outside : During s t (KeepsOutside (cell_now s) (first_of log j) (first_of log j + LINE_WORDS))
+  pub outside : During s t (KeepsOutside (cell_now s) (first_of log j)
+      (first_of log j + LINE_WORDS))
   pub parts : During s t (EachInPart log (LosesOnly s log j doomed))
 
 -- two entries of the log that have one name are equal

@@ -4,7 +4,7 @@ use Rattle.log_entry.specs.Words.{words_for, unpacked, words_from}
 use Rattle.pm_region.specs.State.{Frame}
 use Rattle.chunk_map.specs.declared.layouts.Geometry.{Geometry}
 use Rattle.chunk_map.specs.Layouts.{chunk_words, total_bytes, has_class}
-use Rattle.store_image.specs.Parts.{chunk_units, chunk_at, unit_at, is_start, block_bytes, held_by}
+use Rattle.store_image.specs.Parts.{chunk_units, chunk_at, unit_at, is_start, block_bytes, value_by_class}
 use Rattle.store_image.proofs.Clients.{layout_numbers, in_region, chunk_within, start_facts, two_positive}
 use Rattle.recover.specs.Regions.{Covers}
 
@@ -34,10 +34,10 @@ module _ (f : Frame) (l : Geometry) (covers : Covers f l) where
 
 -- what was read of a block is what it holds
 pub block_value : (image : ℕ → ℕ) (p class n : ℕ) (words bytes value : List ℕ) → n ≡ image (32 * p) → has_class n class ≡ true → words ≡ words_from image (32 * p + 1) (words_for n) → bytes ≡ unpacked words → value ≡ take n bytes
-    → Some value ≡ held_by image p (Some class)
+    → Some value ≡ value_by_class image p (Some class)
 block_value image p class n words bytes value there has read spelled is =
     let same : value ≡ block_bytes image p = is ∙ ap (take n) (spelled ∙ ap unpacked read) ∙ ap (λ m. take m (unpacked (words_from image (32 * p + 1) (words_for m)))) there in
     ap Some same ∙ ap (λ b. cond b (Some (block_bytes image p)) None) (sym (ap (λ m. has_class m class) (sym there) ∙ has))
 
-pub no_value : (image : ℕ → ℕ) (p class n : ℕ) → n ≡ image (32 * p) → has_class n class ≡ false → None ≡ held_by image p (Some class)
+pub no_value : (image : ℕ → ℕ) (p class n : ℕ) → n ≡ image (32 * p) → has_class n class ≡ false → None ≡ value_by_class image p (Some class)
 no_value image p class n there has = ap (λ b. cond b (Some (block_bytes image p)) None) (sym (ap (λ m. has_class m class) (sym there) ∙ has))

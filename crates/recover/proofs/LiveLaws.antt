@@ -8,7 +8,7 @@ use Rattle.fs_model.specs.declared.model.Pair.{Pair}
 use Rattle.chunk_map.specs.declared.layouts.Geometry.{Geometry}
 use Rattle.chunk_map.specs.Layouts.{owner}
 use Rattle.store_image.specs.declared.types.PlacedEntry.{PlacedEntry}
-use Rattle.store_image.specs.Parts.{all_entries, held}
+use Rattle.store_image.specs.Parts.{all_entries, value_in_block}
 use Rattle.store_image.specs.Soundness.{damage}
 use Rattle.store_image.specs.Winners.{winner_in, keys_of, cell_by, recovered}
 use Rattle.store_image.specs.Listing.{ListsCells, with_pair}
@@ -26,16 +26,16 @@ module _ (l : Geometry) (image : ℕ → ℕ) where
   left_at [] = refl
   left_at (k ∷ ks) = by_winner (left_at ks) (winner_in k es) refl where
     by_winner : pairs_by l image (flat_map (λ k. option_to_list (winner_in k es)) ks) ≡ pairs_of (recovered l image) ks → (o : Option PlacedEntry) → winner_in k es ≡ o
-        → pairs_by l image (option_to_list (winner_in k es) ++ flat_map (λ k. option_to_list (winner_in k es)) ks) ≡ with_pair k (option_and_then (λ x. cell_by (held l image (owner l k)) x.entry.body) (winner_in k es)) (pairs_of (recovered l image) ks)
+        → pairs_by l image (option_to_list (winner_in k es) ++ flat_map (λ k. option_to_list (winner_in k es)) ks) ≡ with_pair k (option_and_then (λ x. cell_by (value_in_block l image (owner l k)) x.entry.body) (winner_in k es)) (pairs_of (recovered l image) ks)
     by_winner rest None won =
         ap (λ o. pairs_by l image (option_to_list o ++ flat_map (λ k. option_to_list (winner_in k es)) ks)) won
         ∙ rest
-        ∙ sym (ap (λ o. with_pair k (option_and_then (λ x. cell_by (held l image (owner l k)) x.entry.body) o) (pairs_of (recovered l image) ks)) won)
+        ∙ sym (ap (λ o. with_pair k (option_and_then (λ x. cell_by (value_in_block l image (owner l k)) x.entry.body) o) (pairs_of (recovered l image) ks)) won)
     by_winner rest (Some x) won =
         let key = (winner_is k es x won).1 in
         ap (λ o. pairs_by l image (option_to_list o ++ flat_map (λ k. option_to_list (winner_in k es)) ks)) won
-        ∙ (λ i. with_pair (key i) (cell_by (held l image (owner l (key i))) x.entry.body) (rest i))
-        ∙ sym (ap (λ o. with_pair k (option_and_then (λ x. cell_by (held l image (owner l k)) x.entry.body) o) (pairs_of (recovered l image) ks)) won)
+        ∙ (λ i. with_pair (key i) (cell_by (value_in_block l image (owner l (key i))) x.entry.body) (rest i))
+        ∙ sym (ap (λ o. with_pair k (option_and_then (λ x. cell_by (value_in_block l image (owner l k)) x.entry.body) o) (pairs_of (recovered l image) ks)) won)
 
   pub winners_list : (ws : List PlacedEntry) (ps : List Pair) → ws ≡ winners_of es → ps ≡ pairs_by l image ws → ListsCells (recovered l image) ps
   winners_list ws ps won left = subst (ListsCells (recovered l image)) (sym (left ∙ ap (pairs_by l image) won ∙ left_at (keys_of es))) (lists_pairs l image)
@@ -44,7 +44,7 @@ module _ (l : Geometry) (image : ℕ → ℕ) where
   pairs_append : (ws vs : List PlacedEntry) → pairs_by l image (ws ++ vs) ≡ pairs_by l image ws ++ pairs_by l image vs
   pairs_append [] vs = refl
   pairs_append (x ∷ ws) vs =
-      let v = cell_by (held l image (owner l x.entry.key)) x.entry.body in
+      let v = cell_by (value_in_block l image (owner l x.entry.key)) x.entry.body in
       ap (with_pair x.entry.key v) (pairs_append ws vs) ∙ before v (pairs_by l image ws) (pairs_by l image vs)
     where
       before : (o : Option (List ℕ)) (ps qs : List Pair) → with_pair x.entry.key o (ps ++ qs) ≡ with_pair x.entry.key o ps ++ qs

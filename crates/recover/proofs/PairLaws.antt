@@ -21,7 +21,7 @@ use Rattle.log_entry.specs.declared.entry.Body.TheVariants.{Pointer, Embedded, T
 use Rattle.chunk_map.specs.declared.layouts.Geometry.{Geometry}
 use Rattle.chunk_map.specs.Layouts.{owner}
 use Rattle.store_image.specs.declared.types.PlacedEntry.{PlacedEntry}
-use Rattle.store_image.specs.Parts.{held}
+use Rattle.store_image.specs.Parts.{value_in_block}
 use Rattle.store_image.specs.Winners.{winner, cell_by, recovered}
 use Rattle.store_image.specs.Listing.{IsRising, with_pair}
 use Rattle.store_image.specs.Facts.{In}
@@ -72,8 +72,8 @@ module _ (l : Geometry) (image : ℕ → ℕ) (r : Recovered) (is : IsOf l image
   same_cell blocks (Some x) None as_known = absurd as_known
   same_cell blocks (Some x) (Some known) as_known = ap (cell_by blocks) as_known.1
 
-  pub cell_is : (k : ℕ) (d : CoreStart) → owner l k < l.cores → cell_known (held l image (owner l k)) (known_at (slice_index_or r.starts.items (owner l k) d).index k) ≡ recovered l image k
-  cell_is k d lt = same_cell (held l image (owner l k)) (winner l image k) (known_at (slice_index_or r.starts.items (owner l k) d).index k) ((is.indexes (owner l k) d lt).known k refl)
+  pub cell_is : (k : ℕ) (d : CoreStart) → owner l k < l.cores → cell_known (value_in_block l image (owner l k)) (known_at (slice_index_or r.starts.items (owner l k) d).index k) ≡ recovered l image k
+  cell_is k d lt = same_cell (value_in_block l image (owner l k)) (winner l image k) (known_at (slice_index_or r.starts.items (owner l k) d).index k) ((is.indexes (owner l k) d lt).known k refl)
 
   -- a key that is not live has no cell
   not_live : (blocks : ℕ → Option (List ℕ)) (known : Option KeyRecord) → ((v : ℕ) → live_version known ≡ Some v → ⊥) → cell_known blocks known ≡ None
@@ -86,7 +86,7 @@ module _ (l : Geometry) (image : ℕ → ℕ) (r : Recovered) (is : IsOf l image
 
   pub no_cell : (ks : List ℕ) → ((c k v : ℕ) (d : CoreStart) → c < length r.starts.items → live_version (known_at (slice_index_or r.starts.items c d).index k) ≡ Some v → In k ks) → (k : ℕ) → owner l k < l.cores → (In k ks → ⊥) → recovered l image k ≡ None
   no_cell ks live k lt none =
-      sym (cell_is k some_start lt) ∙ not_live (held l image (owner l k)) (known_at (slice_index_or r.starts.items (owner l k) some_start).index k) (λ v is. none (live (owner l k) k v some_start (has_start (owner l k) lt) is))
+      sym (cell_is k some_start lt) ∙ not_live (value_in_block l image (owner l k)) (known_at (slice_index_or r.starts.items (owner l k) some_start).index k) (λ v is. none (live (owner l k) k v some_start (has_start (owner l k) lt) is))
 
 -- the keys of a set
 pub set_rises : (ks : List ℕ) → IsStrictlySortedBy nat_cmp ks → IsRising ks

@@ -15,7 +15,7 @@ use Rattle.chunk_map.specs.declared.heads.Head.{Head}
 use Rattle.chunk_map.specs.declared.heads.Head.TheVariants.{Free, Log, Data}
 use Rattle.chunk_map.specs.Layouts.{numbers, chunk_words, payload_words, chunk_first, head_at, is_class}
 use Rattle.store_image.specs.declared.types.PlacedEntry.{PlacedEntry}
-use Rattle.store_image.specs.Parts.{payload, scan_behind, placed, chunk_entries, part_entries, all_entries}
+use Rattle.store_image.specs.Parts.{payload, scan_behind, placed_in_chunk, chunk_entries, part_entries, all_entries}
 use Rattle.core_log.specs.Log as log
 use Rattle.core_log.proofs.Clients.{spelled_by, placed_items, HaveSpelling, items_of, items_spelled, items_placed, items_have, drop_behind, first_is, Spells, entry_fits, entry_words}
 use Rattle.recover.specs.declared.found_entries.Found.{Found}
@@ -133,13 +133,13 @@ module _ (f : Frame) (l : Geometry) (covers : Covers f l) (image : ℕ → ℕ) 
         back = λ i. record { core = core_is x.0 low i; chunk = chunk_is x.0 low i; place = place_is x.0 low i; entry = entry i };
       }
 
-  placed_back : (tail : ℕ) → tail ≤ payload_words l → (xs : List (ℕ × Entry)) → AllByRecursion (Spells (payload image (chunk_first l c j) tail) 0) xs → AllByRecursion (IsBack l image) (placed c j xs)
+  placed_back : (tail : ℕ) → tail ≤ payload_words l → (xs : List (ℕ × Entry)) → AllByRecursion (Spells (payload image (chunk_first l c j) tail) 0) xs → AllByRecursion (IsBack l image) (placed_in_chunk c j xs)
   placed_back tail fits [] all = tt
   placed_back tail fits (x ∷ xs) all = (entry_back tail fits x all.0, placed_back tail fits xs all.1)
 
   chunk_back : SpellsLog l image c j → AllByRecursion (IsBack l image) (chunk_entries l image c j)
   chunk_back spells = by_head (head_at l image (chunk_first l c j)) refl where
-    by_head : (h : Result Head ℕ) → head_at l image (chunk_first l c j) ≡ h → AllByRecursion (IsBack l image) (placed c j (scan_behind image (chunk_first l c j) h).entries)
+    by_head : (h : Result Head ℕ) → head_at l image (chunk_first l c j) ≡ h → AllByRecursion (IsBack l image) (placed_in_chunk c j (scan_behind image (chunk_first l c j) h).entries)
     by_head (Ok Free) is = tt
     by_head (Ok (Log tail)) is = placed_back tail (tail_fits l image (chunk_first l c j) tail is) (scan_of (payload image (chunk_first l c j) tail)).entries (scan_spells (payload image (chunk_first l c j) tail) (spells tail is))
     by_head (Ok (Data class)) is = tt

@@ -7,7 +7,7 @@ use Rattle.chunk_map.specs.declared.heads.Head.{Head}
 use Rattle.chunk_map.specs.declared.heads.Head.TheVariants.{Log}
 use Rattle.chunk_map.specs.Layouts.{chunk_first, head_at, is_of_group}
 use Rattle.store_image.specs.declared.scanning.Scanned.{Scanned}
-use Rattle.store_image.specs.Scanned.{IsScan, shown}
+use Rattle.store_image.specs.Scanned.{IsScan, entries_by_place}
 use Rattle.store_image.specs.Soundness.{rule_of, damaged}
 use Rattle.core_log.specs.Log as log
 use Rattle.recover.specs.Logs.{tail_behind}
@@ -60,7 +60,7 @@ rule_none true false e = absurd (cc e)
 rule_none false whole e = absurd (cc e)
 
 pub whole_of : (l : Geometry) (part : ℕ) (s : Scanned) (rule : Option ℕ) → ((found : Scan) → IsScan s found → rule ≡ rule_of l part found) → rule ≡ None → s.whole ≡ true
-whole_of l part s rule is none = rule_none (list_all (λ x. is_of_group l part x.1.key) (shown s.entries.items)) s.whole (sym (is (record { entries = shown s.entries.items; whole = s.whole }) (refl, refl)) ∙ none)
+whole_of l part s rule is none = rule_none (list_all (λ x. is_of_group l part x.1.key) (entries_by_place s.entries.items)) s.whole (sym (is (record { entries = entries_by_place s.entries.items; whole = s.whole }) (refl, refl)) ∙ none)
 
 -- and its words are batches
 pub log_spelled : (l : Geometry) (image : ℕ → ℕ) (c j at t tail : ℕ) (ws : List ℕ) → at ≡ chunk_first l c j → head_at l image at ≡ Ok (Log t) → head_at l image (chunk_first l c j) ≡ Ok (Log tail) → ws ≡ payload image at t → log.Spelled ws

@@ -9,7 +9,7 @@ use Rattle.chunk_map.specs.declared.heads.Head.{Head}
 use Rattle.chunk_map.specs.declared.heads.Head.TheVariants.{Free, Log, Data}
 use Rattle.std.specs.Prelude.{Result, Ok, Err}
 use Rattle.chunk_map.specs.Layouts.{IsLayout, chunk_first, chunk_words, head_at, owner}
-use Rattle.store_image.specs.Parts.{all_entries, chunk_at, unit_at, class_behind, block_class, held_by}
+use Rattle.store_image.specs.Parts.{all_entries, chunk_at, unit_at, class_behind, block_class, value_by_class}
 use Rattle.store_image.specs.Facts.{KeepsRules}
 use Rattle.store_image.proofs.Clients.{layout_numbers}
 use Rattle.lazy_alloc.specs.Heads.{is_free, class_in, is_free_there, class_there}
@@ -32,7 +32,7 @@ module _ (l : Geometry) (image : ℕ → ℕ) (c : ℕ) (share : Share) (is : Is
   behind_is u (Ok (Data class)) = refl
   behind_is u (Err rule) = refl
 
-  some_class : (p : ℕ) (o : Option ℕ) (v : List ℕ) → held_by image p o ≡ Some v → not (is_none o) ≡ true
+  some_class : (p : ℕ) (o : Option ℕ) (v : List ℕ) → value_by_class image p o ≡ Some v → not (is_none o) ≡ true
   some_class p None v held = absurd (cc held)
   some_class p (Some class) v held = refl
 

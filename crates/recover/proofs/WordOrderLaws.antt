@@ -11,7 +11,7 @@ use Rattle.chunk_map.specs.declared.heads.Head.{Head}
 use Rattle.chunk_map.specs.declared.heads.Head.TheVariants.{Free, Log, Data}
 use Rattle.chunk_map.specs.Layouts.{IsLayout, numbers, chunk_words, chunk_first, head_at}
 use Rattle.store_image.specs.declared.types.PlacedEntry.{PlacedEntry}
-use Rattle.store_image.specs.Parts.{payload, scan_behind, placed, chunk_entries, part_entries, all_entries}
+use Rattle.store_image.specs.Parts.{payload, scan_behind, placed_in_chunk, chunk_entries, part_entries, all_entries}
 use Rattle.store_image.proofs.Clients.{layout_numbers}
 use Rattle.core_log.specs.Log as log
 use Rattle.core_log.proofs.Clients.{placed_items, items_of, items_placed, first_is}
@@ -96,19 +96,19 @@ module _ (l : Geometry) (layout : IsLayout l) (image : ℕ → ℕ) where
       omega (arith, e)
 
   module _ (c j : ℕ) where
-    placed_low : (xs : List (ℕ × Entry)) → AllByRecursion (λ (x : PlacedEntry). chunk_first l c j ≤ word_of l x) (placed c j xs)
+    placed_low : (xs : List (ℕ × Entry)) → AllByRecursion (λ (x : PlacedEntry). chunk_first l c j ≤ word_of l x) (placed_in_chunk c j xs)
     placed_low [] = tt
     placed_low (x ∷ xs) = (omega arith, placed_low xs)
 
-    placed_high : (tail : ℕ) → tail + 32 ≤ chunk_words l → (xs : List (ℕ × Entry)) → LieBelow tail xs → AllByRecursion (λ (x : PlacedEntry). word_of l x < chunk_first l c (suc j)) (placed c j xs)
+    placed_high : (tail : ℕ) → tail + 32 ≤ chunk_words l → (xs : List (ℕ × Entry)) → LieBelow tail xs → AllByRecursion (λ (x : PlacedEntry). word_of l x < chunk_first l c (suc j)) (placed_in_chunk c j xs)
     placed_high tail fits [] lie = tt
     placed_high tail fits (x ∷ xs) lie = (let low = lie.0 in let e = bound_up c j in omega (arith, low, fits, e), placed_high tail fits xs lie.1)
 
-    placed_all : (p : ℕ) (xs : List (ℕ × Entry)) → AllByRecursion (λ (y : ℕ × Entry). p < y.0) xs → AllByRecursion (λ (y : PlacedEntry). chunk_first l c j + 32 + p < word_of l y) (placed c j xs)
+    placed_all : (p : ℕ) (xs : List (ℕ × Entry)) → AllByRecursion (λ (y : ℕ × Entry). p < y.0) xs → AllByRecursion (λ (y : PlacedEntry). chunk_first l c j + 32 + p < word_of l y) (placed_in_chunk c j xs)
     placed_all p [] all = tt
     placed_all p (x ∷ xs) all = (let less = all.0 in omega (arith, less), placed_all p xs all.1)
 
-    placed_rise : (xs : List (ℕ × Entry)) → PlacesRise xs → Rise l (placed c j xs)
+    placed_rise : (xs : List (ℕ × Entry)) → PlacesRise xs → Rise l (placed_in_chunk c j xs)
     placed_rise [] rise = tt
     placed_rise (x ∷ xs) rise = (placed_all x.0 xs rise.0, placed_rise xs rise.1)
 
@@ -117,7 +117,7 @@ module _ (l : Geometry) (layout : IsLayout l) (image : ℕ → ℕ) where
 
     chunk_rises : SpellsLog l image c j → RiseIn l (chunk_first l c j) (chunk_first l c (suc j)) (chunk_entries l image c j)
     chunk_rises spells = by_head (head_at l image (chunk_first l c j)) refl where
-      by_head : (h : Result Head ℕ) → head_at l image (chunk_first l c j) ≡ h → RiseIn l (chunk_first l c j) (chunk_first l c (suc j)) (placed c j (scan_behind image (chunk_first l c j) h).entries)
+      by_head : (h : Result Head ℕ) → head_at l image (chunk_first l c j) ≡ h → RiseIn l (chunk_first l c j) (chunk_first l c (suc j)) (placed_in_chunk c j (scan_behind image (chunk_first l c j) h).entries)
       by_head (Ok Free) is = nothing
       by_head (Ok (Log tail)) is =
           let ws = payload image (chunk_first l c j) tail in

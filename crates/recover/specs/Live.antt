@@ -5,7 +5,7 @@ use Rattle.fs_model.specs.declared.model.Pair.{Pair}
 use Rattle.chunk_map.specs.declared.layouts.Geometry.{Geometry}
 use Rattle.chunk_map.specs.Layouts.{owner}
 use Rattle.store_image.specs.declared.types.PlacedEntry.{PlacedEntry}
-use Rattle.store_image.specs.Parts.{held}
+use Rattle.store_image.specs.Parts.{value_in_block}
 use Rattle.store_image.specs.Winners.{cell_by, recovered}
 use Rattle.store_image.specs.Listing.{ListsCells, with_pair}
 use Rattle.store_image.specs.Soundness.{damage, first_fault}
@@ -20,7 +20,7 @@ use Rattle.recover.specs.Winning.{winners_of}
 abbrev pub pairs_by : Geometry → (ℕ → ℕ) → List PlacedEntry → List Pair
 pairs_by l image [] = []
 pairs_by l image (x ∷ xs) = with_pair x.entry.key (cell_by
-    (held l image (owner l x.entry.key)) x.entry.body) (pairs_by l image xs)
+    (value_in_block l image (owner l x.entry.key)) x.entry.body) (pairs_by l image xs)
 
 -- those of the winners of some entries, unless memory was wanting
 abbrev pub HasLeft : Geometry → (ℕ → ℕ) → List PlacedEntry → Result (Vec Pair Global) RecoverError

@@ -5,7 +5,7 @@ ghost use Rattle.pm_region.specs.Words.{lasts};
 ghost use Rattle.log_entry.specs.Batches.{scan_of};
 ghost use Rattle.chunk_map.specs.Layouts.{chunk_first, payload_words};
 ghost use Rattle.store_image.specs.Parts.{scan_at, chunk_entries};
-ghost use Rattle.store_image.specs.Scanned.{IsScan, shown};
+ghost use Rattle.store_image.specs.Scanned.{IsScan, entries_by_place};
 ghost use Rattle.store_image.specs.Soundness.{damaged, chunk_rule};
 ghost use Rattle.core_log.specs.Log.{Spelled};
 ghost use Rattle.recover.specs.Regions.{Covers};
@@ -29,7 +29,8 @@ use store_image::scanning::{AtPlace, Scanned, scan};
 /// What stands in the words of a log.
 fn scan_log(alloc: Global, words: &[u64]) -> Result<Scanned, Memory>
     ensures scan { IfOk result (λ s. IsScan s (scan_of words.now)) }
-    ensures places { IfOk result (λ s. LieBelow (length words.now) (shown s.entries.items)) }
+    ensures places { IfOk result (λ s. LieBelow (length words.now)
+        (entries_by_place s.entries.items)) }
     ensures batches { IfOk result (λ s. s.whole ≡ true → length words.now % 8 ≡ 0
         → Spelled words.now) }
 {
@@ -54,7 +55,7 @@ fn read_chunk<R: Region>(
         × IsScan r.1 (scan_at layout.now (lasts (R.state region.now))
         (chunk_first layout.now part chunk))) }
     ensures places { IfOk result (λ r. LieBelow (payload_words layout.now)
-        (shown r.1.entries.items)) }
+        (entries_by_place r.1.entries.items)) }
     ensures batches { IfOk result (λ r. IsTelling (R.state region.now) → r.0 ≡ None
         → SpellsLog layout.now (lasts (R.state region.now)) part chunk) }
 {
@@ -73,9 +74,9 @@ fn read_chunk<R: Region>(
 
 /// Appends the names of a payload's entries with their first words. The payload begins at word `first`.
 fn note_entries(first: u64, entries: &[AtPlace], found: &mut Vec<Found>) -> Result<(), Memory>
-    requires { LieBelow (2 ^ 32 - first) (shown entries.now) }
+    requires { LieBelow (2 ^ 32 - first) (entries_by_place entries.now) }
     ensures { IfOk result (λ _. found.new.items ≡ found.old.items ++ map (found_in first)
-        (shown entries.now)) }
+        (entries_by_place entries.now)) }
 {
     for x in entries {
         found.push(Found {

@@ -4,7 +4,7 @@ ghost use Rattle.pm_region.specs.declared.region_sizes.TheConstants.{WORD_BYTES}
 ghost use Rattle.pm_region.specs.State.{IsTelling};
 ghost use Rattle.pm_region.specs.Words.{lasts};
 ghost use Rattle.chunk_map.specs.Checked.{IsLength};
-ghost use Rattle.store_image.specs.Parts.{held};
+ghost use Rattle.store_image.specs.Parts.{value_in_block};
 ghost use Rattle.store_image.specs.Winners.{cell_by};
 ghost use Rattle.recover.specs.Regions.{Covers};
 ghost use Rattle.recover.specs.FoundEntries.{placed_at, entries_at, Stands, AreFound, AreInOrder};
@@ -14,7 +14,7 @@ use crate::found_entries::Found;
 use crate::judge_winners::sound_entries;
 use crate::key_runs::key_run;
 use crate::reading::{gone_fault, read_at};
-use crate::region_blocks::held;
+use crate::region_blocks::value_in_block;
 use crate::types::RecoverError;
 use chunk_map::{Layout, read_superblock};
 use fs_errors::Memory;
@@ -36,11 +36,11 @@ fn value_left<R: Region>(
     requires covers { Covers (R.state region.now).frame layout.now }
     requires part { part < layout.now.cores }
     ensures { IfOk result (λ v. IsTelling (R.state region.now)
-        → v ≡ cell_by (held layout.now (lasts (R.state region.now)) part) body) }
+        → v ≡ cell_by (value_in_block layout.now (lasts (R.state region.now)) part) body) }
 {
     match body {
         Body::Pointer(pointer) => {
-            let value = held(alloc, region, layout, part, pointer)?;
+            let value = value_in_block(alloc, region, layout, part, pointer)?;
             Ok(value)
         }
         Body::Embedded(value) => Ok(Some(value)),

@@ -5,7 +5,7 @@ ghost use Rattle.std.specs.BTreeSet.{contains};
 ghost use Rattle.pm_region.specs.State.{IsTelling};
 ghost use Rattle.pm_region.specs.Words.{lasts};
 ghost use Rattle.chunk_map.specs.Layouts.{owner, total_bytes};
-ghost use Rattle.store_image.specs.Parts.{held};
+ghost use Rattle.store_image.specs.Parts.{value_in_block};
 ghost use Rattle.store_image.specs.Winners.{recovered};
 ghost use Rattle.store_image.specs.Listing.{ListsCells};
 ghost use Rattle.core_index.specs.Records.{live_version};
@@ -15,7 +15,7 @@ ghost use Rattle.recover.specs.Regions.{Covers};
 ghost use Rattle.recover.specs.Listing.{cell_known};
 ghost use Rattle.recover.specs.Recovering.{IsOf, IsFound, cells_found};
 
-use crate::region_blocks::held;
+use crate::region_blocks::value_in_block;
 use crate::types::{CoreStart, Recovered};
 use chunk_map::Layout;
 use core_index::{CoreIndex, Look};
@@ -65,13 +65,13 @@ fn known_cell<R: Region>(
 ) -> Result<Option<Value>, Memory>
     requires covers { Covers (R.state region.now).frame layout.now }
     ensures { IfOk result (λ v. IsTelling (R.state region.now)
-        → v ≡ cell_known (held layout.now (lasts (R.state region.now)) (owner layout.now key))
-        (known_at index.now key)) }
+        → v ≡ cell_known (value_in_block layout.now (lasts (R.state region.now))
+        (owner layout.now key)) (known_at index.now key)) }
 {
     match index.look(key) {
         Look::Block(pointer) => {
             let part = owner(&layout.geometry(), key);
-            let value = held(alloc, region, layout, part, pointer)?;
+            let value = value_in_block(alloc, region, layout, part, pointer)?;
             Ok(value)
         }
         Look::Embedded(bytes) => Ok(Some(Value::of(Vec::from_slice(alloc, bytes)?))),

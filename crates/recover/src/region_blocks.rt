@@ -3,7 +3,7 @@ ghost use Rattle.std.specs.Prelude.{◌≡◌, ◌+◌, ◌*◌, ◌/◌, ◌^�
 ghost use Rattle.pm_region.specs.State.{IsTelling};
 ghost use Rattle.pm_region.specs.Words.{lasts};
 ghost use Rattle.chunk_map.specs.Layouts.{total_words};
-ghost use Rattle.store_image.specs.Parts.{block_class, held};
+ghost use Rattle.store_image.specs.Parts.{block_class, value_in_block};
 ghost use Rattle.recover.specs.Regions.{Covers};
 
 use chunk_map::layout_sizes::{
@@ -52,7 +52,7 @@ pub fn block_class<R: Region>(region: &R, layout: &Layout, part: u32, pointer: u
 
 /// What the block of a part at a pointer holds: none where no block of the part begins there, or where its
 /// first word is no length of its class.
-pub fn held<R: Region>(
+pub fn value_in_block<R: Region>(
     alloc: Global,
     region: &R,
     layout: &Layout,
@@ -62,7 +62,7 @@ pub fn held<R: Region>(
     requires covers { Covers (R.state region.now).frame layout.now }
     requires part { part < layout.now.cores }
     ensures { IfOk result (λ v. IsTelling (R.state region.now)
-        → v ≡ held layout.now (lasts (R.state region.now)) part pointer) }
+        → v ≡ value_in_block layout.now (lasts (R.state region.now)) part pointer) }
 {
     match block_class(region, layout, part, pointer) {
         None => Ok(None),

@@ -9,7 +9,7 @@ use Rattle.log_entry.specs.declared.entry.Body.TheVariants.{Pointer, Embedded, T
 use Rattle.chunk_map.specs.declared.layouts.Geometry.{Geometry}
 use Rattle.store_image.specs.declared.types.PlacedEntry.{PlacedEntry}
 use Rattle.chunk_map.specs.Layouts.{numbers, chunk_words, chunk_first, total_bytes, layout_rule, superblock_rule, layout_of, magic, owner, head_at, has_class}
-use Rattle.store_image.specs.Parts.{part_entries, all_entries, chunk_at, unit_at, class_behind, block_class, held}
+use Rattle.store_image.specs.Parts.{part_entries, all_entries, chunk_at, unit_at, class_behind, block_class, value_in_block}
 use Rattle.store_image.specs.Winners.{winner_in, winner, cell_by, recovered, keys_of}
 use Rattle.store_image.specs.Soundness.{first_some, damaged, points_to, rule_behind, chunk_fault, clash_fault, pointer_rule, body_rule, winner_fault, block_fault, damage, fault_by, first_fault}
 use Rattle.store_image.proofs.Places.{Numbers, layout_numbers, in_region, chunk_number, two_positive, pointed_chunk, word_within, superblock_facts}
@@ -68,7 +68,7 @@ module _ (l : Geometry) (is : Numbers l) (i j : ℕ → ℕ) (same : (w : ℕ) �
           let n : i (32 * p) ≡ j (32 * p) = ap i (sym z) ∙ word_agrees class e 0 some ∙ ap j z in
           ap (λ x. cond (has_class x class) (cond (list_any (λ m. ltb m k && points_to p (winner_in m es)) (keys_of es)) (Some 11) None) (Some 10)) n
 
-    pub held_agrees : held l i c p ≡ held l j c p
+    pub held_agrees : value_in_block l i c p ≡ value_in_block l j c p
     held_agrees = held_same l i j c p class_agrees word_agrees
 
   owner_low : (k : ℕ) → owner l k < l.cores
@@ -91,15 +91,15 @@ module _ (l : Geometry) (is : Numbers l) (i j : ℕ → ℕ) (same : (w : ℕ) �
       ap (block_fault l i) es ∙ ap (λ f. first_some f (keys_of (all_entries l j))) (λ t k. winner_agrees (all_entries l j) k (winner_in k (all_entries l j)) t) in
       (λ t. option_or (chunks t) (option_or (clash_fault (es t)) (blocks t)))
 
-  cell_agrees : (k : ℕ) (b : Body) → cell_by (held l i (owner l k)) b ≡ cell_by (held l j (owner l k)) b
+  cell_agrees : (k : ℕ) (b : Body) → cell_by (value_in_block l i (owner l k)) b ≡ cell_by (value_in_block l j (owner l k)) b
   cell_agrees k (Pointer p) = held_agrees (owner l k) p (owner_low k)
   cell_agrees k (Embedded v) = refl
   cell_agrees k Tombstone = refl
 
   -- the recovered cells are the same too
   pub recovered_agrees : (k : ℕ) → recovered l i k ≡ recovered l j k
-  recovered_agrees k = ap (λ es. option_and_then (λ x. cell_by (held l i (owner l k)) x.entry.body) (winner_in k es)) entries_agree ∙ by_winner (winner l j k) where
-    by_winner : (o : Option PlacedEntry) → option_and_then (λ x. cell_by (held l i (owner l k)) x.entry.body) o ≡ option_and_then (λ x. cell_by (held l j (owner l k)) x.entry.body) o
+  recovered_agrees k = ap (λ es. option_and_then (λ x. cell_by (value_in_block l i (owner l k)) x.entry.body) (winner_in k es)) entries_agree ∙ by_winner (winner l j k) where
+    by_winner : (o : Option PlacedEntry) → option_and_then (λ x. cell_by (value_in_block l i (owner l k)) x.entry.body) o ≡ option_and_then (λ x. cell_by (value_in_block l j (owner l k)) x.entry.body) o
     by_winner None = refl
     by_winner (Some x) = cell_agrees k x.entry.body
 

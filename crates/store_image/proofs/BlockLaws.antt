@@ -8,7 +8,7 @@ use Rattle.chunk_map.specs.declared.layouts.Geometry.{Geometry}
 use Rattle.chunk_map.specs.declared.heads.Head.{Head}
 use Rattle.chunk_map.specs.declared.heads.Head.TheVariants.{Free, Log, Data}
 use Rattle.chunk_map.specs.Layouts.{chunk_words, chunk_first, head_at, has_class}
-use Rattle.store_image.specs.Parts.{chunk_units, chunk_at, unit_at, is_start, class_behind, block_class, block_bytes, held_by, held}
+use Rattle.store_image.specs.Parts.{chunk_units, chunk_at, unit_at, is_start, class_behind, block_class, block_bytes, value_by_class, value_in_block}
 use Rattle.store_image.proofs.Local.{chosen}
 use Rattle.store_image.proofs.Places.{Numbers, two_positive, class_room, behind_facts, pointed_chunk}
 
@@ -62,9 +62,9 @@ block_lies l is image c p class low e = elim (chosen (leb 16 p && (chunk_at l p 
 ]
 
 -- What a block holds depends on its chunk's head and on its own words alone.
-pub held_same : (l : Geometry) (i j : ℕ → ℕ) (c p : ℕ) → block_class l i c p ≡ block_class l j c p → ((class : ℕ) → block_class l j c p ≡ Some class → (k : ℕ) → k < 32 * 2 ^ class → i (32 * p + k) ≡ j (32 * p + k)) → held l i c p ≡ held l j c p
-held_same l i j c p classes same = ap (held_by i p) classes ∙ by_class (block_class l j c p) refl where
-  by_class : (o : Option ℕ) → block_class l j c p ≡ o → held_by i p o ≡ held_by j p o
+pub held_same : (l : Geometry) (i j : ℕ → ℕ) (c p : ℕ) → block_class l i c p ≡ block_class l j c p → ((class : ℕ) → block_class l j c p ≡ Some class → (k : ℕ) → k < 32 * 2 ^ class → i (32 * p + k) ≡ j (32 * p + k)) → value_in_block l i c p ≡ value_in_block l j c p
+held_same l i j c p classes same = ap (value_by_class i p) classes ∙ by_class (block_class l j c p) refl where
+  by_class : (o : Option ℕ) → block_class l j c p ≡ o → value_by_class i p o ≡ value_by_class j p o
   by_class None e = refl
   by_class (Some class) e =
       let z : 32 * p + 0 ≡ 32 * p = omega arith in
@@ -82,12 +82,12 @@ held_same l i j c p classes same = ap (held_by i p) classes ∙ by_class (block_
 
 -- A block that has a value's length and words holds the value.
 pub held_written : (l : Geometry) (image : ℕ → ℕ) (c p class : ℕ) (bytes : List ℕ) → block_class l image c p ≡ Some class → has_class (length bytes) class ≡ true → AreBytes bytes
-    → image (32 * p) ≡ length bytes → words_from image (32 * p + 1) (words_for (length bytes)) ≡ packed bytes → held l image c p ≡ Some bytes
+    → image (32 * p) ≡ length bytes → words_from image (32 * p + 1) (words_for (length bytes)) ≡ packed bytes → value_in_block l image c p ≡ Some bytes
 held_written l image c p class bytes is has are size words =
     let n = length bytes in
     let zeros = replicate {A = ℕ} (8 * words_for n - n) 0 in
     let value : take n (unpacked (packed bytes)) ≡ bytes = ap (take n) (unpacked-packed bytes are) ∙ take_at bytes zeros n refl in
-    ap (held_by image p) is
+    ap (value_by_class image p) is
     ∙ ap (λ x. cond (has_class x class) (Some (take x (unpacked (words_from image (32 * p + 1) (words_for x))))) None) size
     ∙ ap (λ b. cond b (Some (take n (unpacked (words_from image (32 * p + 1) (words_for n))))) None) has
     ∙ ap (λ ws. Some (take n (unpacked ws))) words

@@ -9,7 +9,7 @@ use Rattle.fs_model.specs.declared.model.Pair.{Pair}
 use Rattle.chunk_map.specs.declared.layouts.Geometry.{Geometry}
 use Rattle.store_image.specs.declared.types.PlacedEntry.{PlacedEntry}
 use Rattle.chunk_map.specs.Layouts.{owner}
-use Rattle.store_image.specs.Parts.{all_entries, held}
+use Rattle.store_image.specs.Parts.{all_entries, value_in_block}
 use Rattle.store_image.specs.Winners.{winner_in, with_key, keys_of, cell_by, recovered}
 use Rattle.store_image.specs.Listing.{IsRising, lookup, ListsCells, with_pair}
 use Rattle.store_image.specs.Facts.{In}
@@ -87,8 +87,8 @@ lists_cells cells ks rising none = record { rising = rising_pairs cells ks risin
 pub lists_pairs : (l : Geometry) (image : ℕ → ℕ) → ListsCells (recovered l image) (pairs_of (recovered l image) (keys_of (all_entries l image)))
 lists_pairs l image = lists_cells (recovered l image) (keys_of (all_entries l image)) (rising_keys (all_entries l image)) (λ k h. no_winner k (winner_in k (all_entries l image)) refl h)
   where
-    no_winner : (k : ℕ) (o : Option PlacedEntry) → winner_in k (all_entries l image) ≡ o → (In k (keys_of (all_entries l image)) → ⊥) → option_and_then (λ x. cell_by (held l image (owner l k)) x.entry.body) (winner_in k (all_entries l image)) ≡ None
-    no_winner k None e h = ap (option_and_then (λ x. cell_by (held l image (owner l k)) x.entry.body)) e
+    no_winner : (k : ℕ) (o : Option PlacedEntry) → winner_in k (all_entries l image) ≡ o → (In k (keys_of (all_entries l image)) → ⊥) → option_and_then (λ x. cell_by (value_in_block l image (owner l k)) x.entry.body) (winner_in k (all_entries l image)) ≡ None
+    no_winner k None e h = ap (option_and_then (λ x. cell_by (value_in_block l image (owner l k)) x.entry.body)) e
     no_winner k (Some x) e h = absurd (h (winner_key k (all_entries l image) x e))
 
 -- the pairs so far, and those of the keys from the i-th on
@@ -106,8 +106,8 @@ module _ (cells : ℕ → Option (List ℕ)) (ks : List ℕ) (i : ℕ) (ps : Lis
       before (Some v) rest = refl
 
 -- what a winner leaves is the cell
-pub cell_at : (l : Geometry) (image : ℕ → ℕ) (k : ℕ) (es : List PlacedEntry) (x : PlacedEntry) (v : Option (List ℕ)) → es ≡ all_entries l image → winner_in k es ≡ Some x → v ≡ cell_by (held l image (owner l k)) x.entry.body → v ≡ recovered l image k
-cell_at l image k es x v is wins leaves = leaves ∙ sym (ap (option_and_then (λ x. cell_by (held l image (owner l k)) x.entry.body)) (ap (winner_in k) (sym is) ∙ wins))
+pub cell_at : (l : Geometry) (image : ℕ → ℕ) (k : ℕ) (es : List PlacedEntry) (x : PlacedEntry) (v : Option (List ℕ)) → es ≡ all_entries l image → winner_in k es ≡ Some x → v ≡ cell_by (value_in_block l image (owner l k)) x.entry.body → v ≡ recovered l image k
+cell_at l image k es x v is wins leaves = leaves ∙ sym (ap (option_and_then (λ x. cell_by (value_in_block l image (owner l k)) x.entry.body)) (ap (winner_in k) (sym is) ∙ wins))
 
 -- when no key is left
 pub pairs_listed : (l : Geometry) (image : ℕ → ℕ) (ks : List ℕ) (i : ℕ) (ps : List Pair) → ks ≡ keys_of (all_entries l image) → length ks ≤ i → ps ++ pairs_of (recovered l image) (drop i ks) ≡ pairs_of (recovered l image) ks → ListsCells (recovered l image) ps

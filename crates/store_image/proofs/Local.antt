@@ -10,7 +10,7 @@ use Rattle.chunk_map.specs.declared.layouts.Geometry.{Geometry}
 use Rattle.chunk_map.specs.declared.heads.Head.{Head}
 use Rattle.chunk_map.specs.declared.heads.Head.TheVariants.{Free, Log, Data}
 use Rattle.chunk_map.specs.Layouts.{numbers, chunk_words, chunk_first, payload_words, head_by, head_at, is_class}
-use Rattle.store_image.specs.Parts.{payload, scan_behind, scan_at, placed, chunk_entries, part_entries, chunk_reads, head_reads}
+use Rattle.store_image.specs.Parts.{payload, scan_behind, scan_at, placed_in_chunk, chunk_entries, part_entries, chunk_reads, head_reads}
 
 -- which way a choice went
 pub chosen : {X : Type 0} (b : Bool) (x y z : X) → cond b x y ≡ z → ((b ≡ true) × (x ≡ z)) ⊎ ((b ≡ false) × (y ≡ z))
@@ -65,7 +65,7 @@ module _ (l : Geometry) (i j : ℕ → ℕ) (at : ℕ) (room : 32 ≤ chunk_word
   reads_same = let h = head_same in let s = scan_same in (λ t. head_reads (h t) (s t))
 
 pub chunk_same : (l : Geometry) (i j : ℕ → ℕ) (c n : ℕ) → 32 ≤ chunk_words l → ((k : ℕ) → k < chunk_words l → i (chunk_first l c n + k) ≡ j (chunk_first l c n + k)) → chunk_entries l i c n ≡ chunk_entries l j c n
-chunk_same l i j c n room same = ap (λ (s : Scan). placed c n s.entries) (scan_same l i j (chunk_first l c n) room same)
+chunk_same l i j c n room same = ap (λ (s : Scan). placed_in_chunk c n s.entries) (scan_same l i j (chunk_first l c n) room same)
 
 -- a list over numbers that agrees at each
 pub over_numbers : {X : Type 0} (f g : ℕ → List X) (from n : ℕ) → ((k : ℕ) → from ≤ k → k < from + n → f k ≡ g k) → flat_map f (numbers from n) ≡ flat_map g (numbers from n)
@@ -94,10 +94,10 @@ appended l i j at t bs es old new spelled is same added =
 
 -- A free chunk has no entries, nor has a data chunk, nor a log without a tail.
 pub free_entries : (l : Geometry) (image : ℕ → ℕ) (c n : ℕ) → head_at l image (chunk_first l c n) ≡ Ok Free → chunk_entries l image c n ≡ []
-free_entries l image c n e = ap (λ h. placed c n (scan_behind image (chunk_first l c n) h).entries) e
+free_entries l image c n e = ap (λ h. placed_in_chunk c n (scan_behind image (chunk_first l c n) h).entries) e
 
 pub data_entries : (l : Geometry) (image : ℕ → ℕ) (c n class : ℕ) → head_at l image (chunk_first l c n) ≡ Ok (Data class) → chunk_entries l image c n ≡ []
-data_entries l image c n class e = ap (λ h. placed c n (scan_behind image (chunk_first l c n) h).entries) e
+data_entries l image c n class e = ap (λ h. placed_in_chunk c n (scan_behind image (chunk_first l c n) h).entries) e
 
 pub empty_entries : (l : Geometry) (image : ℕ → ℕ) (c n : ℕ) → head_at l image (chunk_first l c n) ≡ Ok (Log 0) → chunk_entries l image c n ≡ []
-empty_entries l image c n e = ap (λ h. placed c n (scan_behind image (chunk_first l c n) h).entries) e
+empty_entries l image c n e = ap (λ h. placed_in_chunk c n (scan_behind image (chunk_first l c n) h).entries) e

@@ -14,7 +14,7 @@ use Rattle.chunk_map.specs.declared.heads.Head.{Head}
 use Rattle.store_image.specs.declared.types.PlacedEntry.{PlacedEntry}
 use Rattle.store_image.specs.declared.types.Fault.{Fault}
 use Rattle.chunk_map.specs.Layouts.{numbers, layout_of, superblock_rule, chunk_first, head_at, owner, is_of_group, has_class}
-use Rattle.store_image.specs.Parts.{placed, chunk_entries, all_entries, scan_at, head_reads, chunk_reads, block_class, block_bytes, held_by}
+use Rattle.store_image.specs.Parts.{placed_in_chunk, chunk_entries, all_entries, scan_at, head_reads, chunk_reads, block_class, block_bytes, value_by_class}
 use Rattle.store_image.specs.Winners.{better, winner_in, keys_of}
 use Rattle.store_image.specs.Soundness.{first_some, damaged, rule_behind, chunk_fault, same_body, contradicts, clash_after, clash_fault, points_to, pointer_rule, body_rule, winner_fault, block_fault, damage, fault_by, first_fault, IsSound}
 use Rattle.store_image.specs.Facts.{In, Agree, KeepsRules, IsStore}
@@ -125,11 +125,11 @@ agree_copied a b e z old there same part x y hx hy k v = by_place (in_inserted x
   by_place (inr p) (inr q) = old x y p q k v
 
 -- rules 4 to 7 of a chunk, both ways
-entries_grouped : (l : Geometry) (c j : ℕ) (xs : List (ℕ × Entry)) → ((x : PlacedEntry) → In x (placed c j xs) → is_of_group l c x.entry.key ≡ true) → list_all (λ x. is_of_group l c x.1.key) xs ≡ true
+entries_grouped : (l : Geometry) (c j : ℕ) (xs : List (ℕ × Entry)) → ((x : PlacedEntry) → In x (placed_in_chunk c j xs) → is_of_group l c x.entry.key ≡ true) → list_all (λ x. is_of_group l c x.1.key) xs ≡ true
 entries_grouped l c j [] h = refl
 entries_grouped l c j (x ∷ xs) h = (λ t. h (record { core = c; chunk = j; place = x.0; entry = x.1 }) (inl refl) t && list_all (λ x. is_of_group l c x.1.key) xs) ∙ entries_grouped l c j xs (λ y is. h y (inr is))
 
-grouped_entries : (l : Geometry) (c j : ℕ) (xs : List (ℕ × Entry)) → list_all (λ x. is_of_group l c x.1.key) xs ≡ true → (x : PlacedEntry) → In x (placed c j xs) → is_of_group l c x.entry.key ≡ true
+grouped_entries : (l : Geometry) (c j : ℕ) (xs : List (ℕ × Entry)) → list_all (λ x. is_of_group l c x.1.key) xs ≡ true → (x : PlacedEntry) → In x (placed_in_chunk c j xs) → is_of_group l c x.entry.key ≡ true
 grouped_entries l c j [] all x h = absurd h
 grouped_entries l c j (y ∷ ys) all x (inl e) = ap (λ (z : PlacedEntry). is_of_group l c z.entry.key) e ∙ (and_parts (is_of_group l c y.1.key) (list_all (λ x. is_of_group l c x.1.key) ys) all).0
 grouped_entries l c j (y ∷ ys) all x (inr h) = grouped_entries l c j ys (and_parts (is_of_group l c y.1.key) (list_all (λ x. is_of_group l c x.1.key) ys) all).1 x h
@@ -148,7 +148,7 @@ kept_rule l c (Ok head) s none = let r = no_rule (list_all (λ x. is_of_group l 
 kept_rule l c (Err r) s none = cc none
 
 -- rules 9 to 11 of a pointer
-held_class : (image : ℕ → ℕ) (p : ℕ) (o : Option ℕ) (v : List ℕ) → held_by image p o ≡ Some v → (class : ℕ) × (o ≡ Some class) × (has_class (image (32 * p)) class ≡ true)
+held_class : (image : ℕ → ℕ) (p : ℕ) (o : Option ℕ) (v : List ℕ) → value_by_class image p o ≡ Some v → (class : ℕ) × (o ≡ Some class) × (has_class (image (32 * p)) class ≡ true)
 held_class image p None v e = cc e
 held_class image p (Some class) v e = elim (has_class (image (32 * p)) class) as (λ b. has_class (image (32 * p)) class ≡ b → cond b (Some (block_bytes image p)) None ≡ Some v → (c : ℕ) × (Some class ≡ Some c) × (has_class (image (32 * p)) c ≡ true)) [
   | true ↦ λ has q. (class, refl, has)

@@ -10,7 +10,7 @@ use Rattle.log_entry.specs.declared.entry.Body.TheVariants.{Pointer, Embedded, T
 use Rattle.chunk_map.specs.declared.layouts.Geometry.{Geometry}
 use Rattle.store_image.specs.declared.types.PlacedEntry.{PlacedEntry}
 use Rattle.chunk_map.specs.Layouts.{numbers, superblock_rule, layout_of, owner, has_class}
-use Rattle.store_image.specs.Parts.{all_entries, block_class, held, held_by, block_bytes}
+use Rattle.store_image.specs.Parts.{all_entries, block_class, value_in_block, value_by_class, block_bytes}
 use Rattle.store_image.specs.Winners.{better, winner_in, with_key, keys_of}
 use Rattle.store_image.specs.Soundness.{first_some, damaged, chunk_rule, chunk_fault, same_body, contradicts, clash_after, clash_fault, points_to, pointer_rule, body_rule, winner_fault, block_fault, damage, fault_by, first_fault, IsSound}
 use Rattle.store_image.specs.Facts.{In}
@@ -138,10 +138,10 @@ module _ (bytes : ℕ) (image : ℕ → ℕ) (sound : IsSound bytes image) where
       ap (body_rule (layout_of image) image es k) (sym body) ∙ rule
 
   -- rules 9 and 10: a winner's block holds a value
-  pub winner_held : (k p : ℕ) (x : PlacedEntry) → winner_in k es ≡ Some x → x.entry.body ≡ Pointer p → held (layout_of image) image (owner (layout_of image) k) p ≡ Some (block_bytes image p)
+  pub winner_held : (k p : ℕ) (x : PlacedEntry) → winner_in k es ≡ Some x → x.entry.body ≡ Pointer p → value_in_block (layout_of image) image (owner (layout_of image) k) p ≡ Some (block_bytes image p)
   winner_held k p x is body =
       let kept = pointer_kept image es k p _ (winner_points k p x is body) in
-      ap (held_by image p) kept.1 ∙ ap (λ b. cond b (Some (block_bytes image p)) None) kept.2
+      ap (value_by_class image p) kept.1 ∙ ap (λ b. cond b (Some (block_bytes image p)) None) kept.2
 
   below : (j k p : ℕ) (x y : PlacedEntry) → winner_in j es ≡ Some x → winner_in k es ≡ Some y → x.entry.body ≡ Pointer p → y.entry.body ≡ Pointer p → j < k → ⊥
   below j k p x y ix iy bx by lt =

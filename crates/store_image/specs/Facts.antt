@@ -4,7 +4,7 @@ use Rattle.log_entry.specs.declared.entry.Body.TheVariants.{Pointer}
 use Rattle.chunk_map.specs.declared.layouts.Geometry.{Geometry}
 use Rattle.store_image.specs.declared.types.PlacedEntry.{PlacedEntry}
 use Rattle.chunk_map.specs.Layouts.{superblock_rule, layout_of, chunk_first, owner, is_of_group}
-use Rattle.store_image.specs.Parts.{chunk_reads, chunk_entries, all_entries, held, block_bytes}
+use Rattle.store_image.specs.Parts.{chunk_reads, chunk_entries, all_entries, value_in_block, block_bytes}
 use Rattle.store_image.specs.Winners.{winner_in}
 
 abbrev pub In : {X : Type 0} → X → List X → Type 0
@@ -27,7 +27,7 @@ pub record KeepsRules (l : Geometry) (image : ℕ → ℕ) : Type 0 where
   pub agree : Agree (all_entries l image)
   -- a winner's pointer is that of a block of the owner's part, with a length of its class
   pub holds : (k p : ℕ) (x : PlacedEntry) → winner_in k (all_entries l image) ≡ Some x
-      → x.entry.body ≡ Pointer p → held l image (owner l k) p ≡ Some (block_bytes image p)
+      → x.entry.body ≡ Pointer p → value_in_block l image (owner l k) p ≡ Some (block_bytes image p)
   -- and no other key's winner has it
   pub own : (j k p : ℕ) (x y : PlacedEntry) → winner_in j (all_entries l image) ≡ Some x
       → winner_in k (all_entries l image) ≡ Some y → x.entry.body ≡ Pointer p

@@ -26,11 +26,11 @@ scan_behind image at (Err rule) = ended
 abbrev pub scan_at : Geometry → (ℕ → ℕ) → ℕ → Scan
 scan_at l image at = scan_behind image at (head_at l image at)
 
-abbrev pub placed : ℕ → ℕ → List (ℕ × Entry) → List PlacedEntry
-placed c j xs = map (λ x. record { core = c; chunk = j; place = x.0; entry = x.1 }) xs
+abbrev pub placed_in_chunk : ℕ → ℕ → List (ℕ × Entry) → List PlacedEntry
+placed_in_chunk c j xs = map (λ x. record { core = c; chunk = j; place = x.0; entry = x.1 }) xs
 
 abbrev pub chunk_entries : Geometry → (ℕ → ℕ) → ℕ → ℕ → List PlacedEntry
-chunk_entries l image c j = placed c j (scan_at l image (chunk_first l c j)).entries
+chunk_entries l image c j = placed_in_chunk c j (scan_at l image (chunk_first l c j)).entries
 
 abbrev pub part_entries : Geometry → (ℕ → ℕ) → ℕ → List PlacedEntry
 part_entries l image c = flat_map (λ j. chunk_entries l image c j) (numbers 0 l.chunks)
@@ -82,11 +82,11 @@ block_bytes image p =
     let length = image (UNIT_WORDS * p) in
     take length (unpacked (words_from image (UNIT_WORDS * p + 1) (words_for length)))
 
-abbrev pub held_by : (ℕ → ℕ) → ℕ → Option ℕ → Option (List ℕ)
-held_by image p None = None
-held_by image p (Some class) =
+abbrev pub value_by_class : (ℕ → ℕ) → ℕ → Option ℕ → Option (List ℕ)
+value_by_class image p None = None
+value_by_class image p (Some class) =
     if has_class (image (UNIT_WORDS * p)) class then Some (block_bytes image p) else None
 
 -- what the block of part c with a pointer holds
-abbrev pub held : Geometry → (ℕ → ℕ) → ℕ → ℕ → Option (List ℕ)
-held l image c p = held_by image p (block_class l image c p)
+abbrev pub value_in_block : Geometry → (ℕ → ℕ) → ℕ → ℕ → Option (List ℕ)
+value_in_block l image c p = value_by_class image p (block_class l image c p)

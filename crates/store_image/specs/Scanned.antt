@@ -7,11 +7,11 @@ use Rattle.store_image.specs.declared.scanning.Scanned.{Scanned}
 use Rattle.store_image.specs.declared.scanning.Next.{Next}
 use Rattle.store_image.specs.declared.scanning.Next.TheVariants.{Stop, On, Found}
 
-abbrev pub shown : List AtPlace → List (ℕ × Entry)
-shown xs = map (λ x. (x.place, x.entry)) xs
+abbrev pub entries_by_place : List AtPlace → List (ℕ × Entry)
+entries_by_place xs = map (λ x. (x.place, x.entry)) xs
 
 abbrev pub IsScan : Scanned → Scan → Type 0
-IsScan s found = (shown s.entries.items ≡ found.entries) × (s.whole ≡ found.whole)
+IsScan s found = (entries_by_place s.entries.items ≡ found.entries) × (s.whole ≡ found.whole)
 
 -- what was said of place p is what a scan finds there
 abbrev pub IsNext : List ℕ → ℕ → ℕ → Bool → Next → Type 0

@@ -6,7 +6,7 @@ use Rattle.log_entry.specs.declared.entry.Body.TheVariants.{Pointer, Embedded, T
 use Rattle.chunk_map.specs.declared.layouts.Geometry.{Geometry}
 use Rattle.store_image.specs.declared.types.PlacedEntry.{PlacedEntry}
 use Rattle.chunk_map.specs.Layouts.{owner}
-use Rattle.store_image.specs.Parts.{all_entries, held}
+use Rattle.store_image.specs.Parts.{all_entries, value_in_block}
 
 -- of two entries of a key the one of greater version, and of two places of one the first
 abbrev pub better : PlacedEntry → Option PlacedEntry → PlacedEntry
@@ -29,7 +29,8 @@ cell_by blocks Tombstone = None
 
 abbrev pub recovered : Geometry → (ℕ → ℕ) → ℕ → Option (List ℕ)
 recovered l image k =
-    option_and_then (λ x. cell_by (held l image (owner l k)) x.entry.body) (winner l image k)
+    option_and_then (λ x. cell_by (value_in_block l image (owner l k)) x.entry.body)
+    (winner l image k)
 
 -- a rising list of keys with one more
 abbrev pub with_key : ℕ → List ℕ → List ℕ

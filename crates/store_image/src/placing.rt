@@ -1,7 +1,7 @@
 // Entries with the places at which they were found.
 ghost use Rattle.std.specs.Prelude.{◌≡◌, ◌++◌, IfOk};
-ghost use Rattle.store_image.specs.Scanned.{shown};
-ghost use Rattle.store_image.specs.Parts.{placed};
+ghost use Rattle.store_image.specs.Scanned.{entries_by_place};
+ghost use Rattle.store_image.specs.Parts.{placed_in_chunk};
 
 use crate::scanning::AtPlace;
 use crate::types::PlacedEntry;
@@ -15,7 +15,7 @@ pub fn place_entries(
     entries: &mut Vec<PlacedEntry>,
 ) -> Result<(), Memory>
     ensures { IfOk result (λ _. entries.new.items
-        ≡ entries.old.items ++ placed part chunk (shown found.items)) }
+        ≡ entries.old.items ++ placed_in_chunk part chunk (entries_by_place found.items)) }
 {
     for x in found {
         entries.push(PlacedEntry {

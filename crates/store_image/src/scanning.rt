@@ -1,7 +1,7 @@
 // Scanning a payload, place by place.
 ghost use Rattle.std.specs.Prelude.{◌≡◌, ℕ, ◌+◌, ◌*◌, ◌^◌, ◌<◌, ◌≤◌, ◌==◌, ◌&&◌, ◌%◌, not, length, IfOk, map};
 ghost use Rattle.log_entry.specs.Batches.{Scan, ended, scan, scan_of};
-ghost use Rattle.store_image.specs.Scanned.{IsScan, IsNext, shown};
+ghost use Rattle.store_image.specs.Scanned.{IsScan, IsNext, entries_by_place};
 
 use fs_errors::Memory;
 use log_entry::entry::{Entry, Read};

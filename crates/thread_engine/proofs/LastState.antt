@@ -43,7 +43,7 @@ use Rattle.engine_laws.specs.Ceasing.{HasCeased}
 use Rattle.engine_laws.specs.Causes.{Causes}
 use Rattle.engine_laws.specs.Ran.{asked_in}
 use Rattle.engine_laws.specs.Reports.{AllAnswered}
-use Rattle.engine_laws.specs.WorkerMoves.{Placed, placed, Hands, Fixed, asked, replied, fixed_of, requests_for, line_in, HasDoubt}
+use Rattle.engine_laws.specs.WorkerMoves.{Placed, request_placed, Hands, Fixed, asked, replied, fixed_of, requests_for, line_in, HasDoubt}
 use Rattle.engine_laws.specs.Engine as engines
 use Rattle.engine_laws.specs.Engine.{Engine, group_for, line}
 use Rattle.engine_laws.specs.Keys.{Served, pairs, posted_in, finished, changes_on, History, KeyStands}
@@ -274,7 +274,7 @@ module _ (chain : ChainLaw) (keys_open : OpeningKeys) (doubts_open : OpeningDoub
     rest = line_in (hands_at y.last) k ++ requests_for k y.last.queue
 
     nothing_first : line_in (hands_at y.first) k ≡ []
-    nothing_first = (λ i. placed (Y.sits.place k refl i) ++ Y.sits.waits k refl i)
+    nothing_first = (λ i. request_placed (Y.sits.place k refl i) ++ Y.sits.waits k refl i)
 
     pub split : requests_of k given ≡ map asked fs ++ rest
     split =
@@ -326,7 +326,7 @@ module _ (chain : ChainLaw) (keys_open : OpeningKeys) (doubts_open : OpeningDoub
     hands_are = ap hands_in (at c low)
 
     line_is : line e k ++ requests_for k (e.backlog c) ≡ rest
-    line_is = (λ i. (placed ((hands_are i).place k) ++ (hands_are i).waits k) ++ requests_for k (queue_in (at c low i)))
+    line_is = (λ i. (request_placed ((hands_are i).place k) ++ (hands_are i).waits k) ++ requests_for k (queue_in (at c low i)))
 
     pub key_stands : KeyStands (start_of o k) e k
     key_stands =
@@ -544,7 +544,7 @@ module _ (chain : ChainLaw) (keys_open : OpeningKeys) (doubts_open : OpeningDoub
     rest_none k =
         let R = rested (c k) (low k) in
         let on = works (c k) (low k) in
-        (λ i. (placed (R.places on k i) ++ R.waits on k i) ++ requests_for k (R.queue on i))
+        (λ i. (request_placed (R.places on k i) ++ R.waits on k i) ++ requests_for k (R.queue on i))
 
     all_answered : AllAnswered e
     all_answered n lt = by (slice_get given n) refl where

@@ -23,7 +23,7 @@ use Rattle.log_entry.specs.declared.entry_limits.TheConstants.{LAST_PUT_VERSION}
 use Rattle.headline.proofs.Clients.{requests-append}
 use Rattle.engine_laws.specs.Parts.{Groups, group_of, member_of}
 use Rattle.engine_laws.specs.RefusalCauses.{HasCause, HaveCauses}
-use Rattle.engine_laws.specs.WorkerMoves.{Fixed, asked, replied, fixed_of, requests_for, placed, line_in}
+use Rattle.engine_laws.specs.WorkerMoves.{Fixed, asked, replied, fixed_of, requests_for, request_placed, line_in}
 use Rattle.engine_laws.specs.Engine.{Engine}
 use Rattle.engine_laws.specs.Keys.{Served, pairs}
 use Rattle.engine_laws.specs.Stands.{Origin, opening}
@@ -62,7 +62,7 @@ module _ (o : Origin) (is : IsOrigin o) (given : List Request) (c : ℕ) (x : Wo
   layout = (superblock_facts o.region.frame.bytes o.found (has_layout o.region.frame.bytes o.found is.sound)).1
 
   line_none : (k : ℕ) → owner N k ≡ c → line_in (hands_at x) k ≡ []
-  line_none k own = let p = S.place k own in let q = S.waits k own in (λ i. placed (p i) ++ q i)
+  line_none k own = let p = S.place k own in let q = S.waits k own in (λ i. request_placed (p i) ++ q i)
 
   first_order : (k : ℕ) → owner N k ≡ c → requests_of k given ≡ line_in (hands_at x) k ++ requests_for k x.queue
   first_order k own = sym (ap (λ xs. xs ++ requests_for k x.queue) (line_none k own) ∙ ap (requests_for k) queue ∙ requests_among N c k own (enumerate_from 0 given))

@@ -1,6 +1,6 @@
 use Rattle.std.proofs.Common.{refl, arith}
 use Rattle.group_laws.specs.declared.types.Seen.TheVariants.{Slot as SeenSlot}
-use Rattle.group_laws.specs.State.{shown}
+use Rattle.group_laws.specs.State.{word_shown}
 use Rattle.crash_core.specs.Shows.{place_of, group_of}
 use Rattle.crash_core.proofs.Made.{view_at}
 use Rattle.crash_core.proofs.Leaders.{find_is}
@@ -16,5 +16,5 @@ returns c =
     let at = view_at g m v low c.index_mut-view.ensures.value in (
       low,
       (other, omega arith),
-      find_is (place_of g) g.mail g.views.items m v at g.holder g.slots c.push.new.self (SeenSlot c.args.owner c.args.slot (shown ((group_of g).slot c.args.owner c.args.slot))) (rw (← c.word_at-word.ensures) c.in_ok-push.ensures.items),
+      find_is (place_of g) g.mail g.views.items m v at g.holder g.slots c.push.new.self (SeenSlot c.args.owner c.args.slot (word_shown ((group_of g).slot c.args.owner c.args.slot))) (rw (← c.word_at-word.ensures) c.in_ok-push.ensures.items),
     )

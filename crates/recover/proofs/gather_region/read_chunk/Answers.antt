@@ -1,7 +1,7 @@
 use Rattle.std.proofs.Common.{◌+◌, ◌%◌, length, sym, ◌∙◌, ap, subst, arith, Ok}
 use Rattle.pm_region.specs.Words.{lasts}
 use Rattle.chunk_map.specs.Layouts.{head_at, payload_words}
-use Rattle.store_image.specs.Scanned.{shown}
+use Rattle.store_image.specs.Scanned.{entries_by_place}
 use Rattle.chunk_map.specs.Setting.{HeadLies}
 use Rattle.chunk_map.specs.declared.layouts.Geometry.{Geometry}
 use Rattle.chunk_map.specs.declared.heads.Head.TheVariants.{Log}
@@ -46,7 +46,7 @@ returns-in_ok-scanned-in-Ok-Log g c = record {
   places =
       let tail = (subst (FitsHead c.args.layout.now) c.in-Ok-Log.field-0-is c.in-Ok-Log.ensures.fits).1 in
       let long = ap length c.deref.ensures.value ∙ c.in_ok-words-in-Ok-Log.ensures.long in
-      lie_lower (length c.deref.result.now) (payload_words c.args.layout.now) (shown c.in_ok-scanned-in-Ok-Log.scanned.entries.items) (omega (arith, tail, long)) c.in_ok-scanned-in-Ok-Log.ensures.places;
+      lie_lower (length c.deref.result.now) (payload_words c.args.layout.now) (entries_by_place c.in_ok-scanned-in-Ok-Log.scanned.entries.items) (omega (arith, tail, long)) c.in_ok-scanned-in-Ok-Log.ensures.places;
   batches = λ telling none tail head.
       let s = g.R.Region.state c.args.region.now in
       let l = c.args.layout.now in

@@ -1,11 +1,11 @@
 use Rattle.std.proofs.Common.{sym, ◌∙◌, arith}
 use Rattle.log_entry.proofs.Clients.{whole_spelled}
-use Rattle.store_image.specs.Scanned.{shown}
+use Rattle.store_image.specs.Scanned.{entries_by_place}
 use Rattle.recover.proofs.SpellLaws.{places_lie}
 use Rattle.recover.proofs.gather_region.scan_log.Goals as goal
 
 pub returns-clause-places : goal.returns-clause-places
-returns-clause-places c = places_lie c.args.words.now (shown c.in_ok-scanned.scanned.entries.items) c.in_ok-scanned.ensures.0
+returns-clause-places c = places_lie c.args.words.now (entries_by_place c.in_ok-scanned.scanned.entries.items) c.in_ok-scanned.ensures.0
 
 pub returns-clause-batches : goal.returns-clause-batches
 returns-clause-batches c = λ whole lines.

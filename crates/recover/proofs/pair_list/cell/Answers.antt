@@ -4,7 +4,7 @@ use Rattle.std.proofs.lemmas.Bool.{lt-ltb}
 use Rattle.pm_region.specs.Words.{lasts}
 use Rattle.chunk_map.specs.declared.layouts.Geometry.{Geometry}
 use Rattle.chunk_map.specs.Layouts.{owner}
-use Rattle.store_image.specs.Parts.{held}
+use Rattle.store_image.specs.Parts.{value_in_block}
 use Rattle.core_index.specs.Index.{known_at}
 use Rattle.recover.specs.declared.types.CoreStart.{CoreStart}
 use Rattle.recover.specs.Listing.{cell_known}
@@ -32,4 +32,4 @@ returns-in_ok-value-in-Some g c = λ telling is.
     let cores = ap (λ (l : Geometry). l.cores) c.geometry.ensures.value in
     let lt : owner l k < l.cores = omega (arith, low, cores, own) in
     let at : s ≡ slice_index_or c.args.found.now.starts.items (owner l k) s = c.in-Some.ensures.lookup.1 ∙ ap (λ xs. slice_index_or xs c.owner-owner.result s) c.deref.ensures.value ∙ ap (λ n. slice_index_or c.args.found.now.starts.items n s) own in
-    c.in_ok-value-in-Some.ensures telling ∙ ap (λ (d : CoreStart). cell_known (held l image (owner l k)) (known_at d.index k)) at ∙ cell_is l image c.args.found.now is k s lt
+    c.in_ok-value-in-Some.ensures telling ∙ ap (λ (d : CoreStart). cell_known (value_in_block l image (owner l k)) (known_at d.index k)) at ∙ cell_is l image c.args.found.now is k s lt

@@ -1,7 +1,7 @@
 use Rattle.std.proofs.Common.{◌≡◌, ℕ, ◌+◌, ◌<◌, [], ◌∷◌, ◌++◌, Option, inl, refl, sym, ◌∙◌, ap, subst, arith}
 use Rattle.store_image.specs.Facts.{In}
 use Rattle.std.specs.Prelude.{IfSome}
-use Rattle.group_laws.specs.State.{Group, shown}
+use Rattle.group_laws.specs.State.{Group, word_shown}
 use Rattle.group_laws.specs.MemberViews.{View}
 use Rattle.group_laws.specs.Runs.{Kind}
 use Rattle.group_laws.specs.Runs.Kind.{Look, Withdraw}
@@ -110,7 +110,7 @@ slots-preserved g c =
           (ap (λ (u : View). u.taken) seen.2) (ap (λ (u : View). u.holds) seen.2) (ap (λ (u : View). u.flying) seen.2) (ap (λ (u : View). u.broken) seen.2) (ap (λ (u : View). u.pending) seen.2) (ap (λ (u : View). u.kept) seen.2);
       looked = looked_more (v c.args.board.now) (v c.slots.board) (v c.look-found.new.self) (loads.Slot c.member-own.result c.slots.slot seen.0) i.looked seen.2;
       lower = lower_more (w c.args.board.now) (w c.slots.board) (w c.look-found.new.self) m c.slots.slot (v c.slots.board) (v c.look-found.new.self) c.look-found.result c.slots-test.true i.made i.lower c.if-is_posted.ensures
-          (subst (λ (n : ℕ). IfSome (w c.slots.board) (λ x. state_of (shown (x.slot n c.slots.slot)) ≡ c.look-found.result)) own c.look-found.ensures.stood);
+          (subst (λ (n : ℕ). IfSome (w c.slots.board) (λ x. state_of (word_shown (x.slot n c.slots.slot)) ≡ c.look-found.result)) own c.look-found.ensures.stood);
       saw = saw_then (v c.args.board.now) (v c.slots.board) (v c.look-found.new.self) m 0 c.slots.slot (c.slots.slot + 1) (λ i x. IsNotPosted x) i.saw
           (saw_one (v c.slots.board) (v c.look-found.new.self) m c.slots.slot c.member-own.result c.slots.slot seen.0 c.look-found.result (λ i x. IsNotPosted x)
           (own ∙ sym (own_member m c.slots.slot c.slots-test.true)) (sym (own_slot c.slots.slot c.slots-test.true)) seen.1 seen.2 c.if-is_posted.ensures);

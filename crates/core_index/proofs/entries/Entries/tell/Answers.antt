@@ -1,7 +1,7 @@
 use Rattle.std.proofs.Common.{◌≡◌, List, get_or, sym, ◌∙◌, ap, subst, slice_set}
 use Rattle.std.proofs.lemmas.List.{get_or_read}
 use Rattle.core_index.specs.declared.types.Marked.{Marked}
-use Rattle.core_index.specs.Records.{told}
+use Rattle.core_index.specs.Records.{with_told}
 use Rattle.core_index.specs.Marks.{Marks, kept, marked, IsPlace, IsAbsent}
 use Rattle.core_index.proofs.MarkLaws.{told_mark, told_kept, told_marks, absent_told}
 use Rattle.core_index.proofs.entries.Entries.tell.Goals as goal
@@ -11,7 +11,7 @@ returns-in_default-clause-items c =
     let ms = c.self.inside.marks.items in
     let v = c.args.version in
     let none : IsAbsent ms v = subst (λ (xs : List Marked). IsAbsent xs v) c.deref.ensures.value c.in_default.ensures.absent in
-    subst (λ (m : Marks). m.items ≡ told m.items v) c.self.view_is (sym (absent_told ms v none))
+    subst (λ (m : Marks). m.items ≡ with_told m.items v) c.self.view_is (sym (absent_told ms v none))
 
 pub invariant_of-self : goal.invariant_of-self
 invariant_of-self c =
@@ -31,4 +31,4 @@ returns-clause-items c =
     let at : IsPlace ms v i = subst (λ (xs : List Marked). IsPlace xs v i) c.deref.ensures.value c.in-Some.ensures.found in
     let d = marked 0 0 in
     let is : c.index_mut.result.now ≡ get_or ms i d = get_or_read ms i c.index_mut.result.now at.within c.index_mut.ensures.value d in
-    ap (λ (m : Marked). kept (slice_set ms i (told_mark m))) is ∙ told_kept ms v i d c.self.invariant.rises at.within (at.version d) ∙ ap (λ (m : Marks). told m.items v) c.self.view_is
+    ap (λ (m : Marked). kept (slice_set ms i (told_mark m))) is ∙ told_kept ms v i d c.self.invariant.rises at.within (at.version d) ∙ ap (λ (m : Marks). with_told m.items v) c.self.view_is

@@ -1,7 +1,7 @@
 use Rattle.std.proofs.Common.{Option, option_map, refl, sym, subst}
 use Rattle.core_index.specs.declared.start_keys.StartKeys.{StartKeys}
 use Rattle.core_index.specs.Records.{KeyRecord, Awaits, without}
-use Rattle.core_index.specs.Tombs.{placed}
+use Rattle.core_index.specs.Tombs.{tomb_places}
 use Rattle.core_index.specs.Index.{known_at, StartTurns}
 use Rattle.core_index.proofs.StartLaws.{gone_live, gone_live_waits, gone_deleted, known_deleted}
 use Rattle.core_index.proofs.start_keys.StartKeys.gone.Goals as goal
@@ -11,7 +11,7 @@ returns-in-None-clause-gone c =
     let a = c.args.self.now in
     let b : StartKeys = record { live = a.live; deleted = c.gone.new.self } in
     let n = c.args.name in
-    subst (λ (o : Option KeyRecord). StartTurns a b n.key (option_map (without n.version) o)) (sym (known_deleted a n.key c.in-None.ensures.found)) (gone_deleted a b n.key (option_map (without n.version) (known_at (placed a.deleted.items) n.key)) c.in-None.ensures.found refl c.gone.ensures.gone)
+    subst (λ (o : Option KeyRecord). StartTurns a b n.key (option_map (without n.version) o)) (sym (known_deleted a n.key c.in-None.ensures.found)) (gone_deleted a b n.key (option_map (without n.version) (known_at (tomb_places a.deleted.items) n.key)) c.in-None.ensures.found refl c.gone.ensures.gone)
 
 pub returns-in-None-clause-none : goal.returns-in-None-clause-none
 returns-in-None-clause-none c = λ home v waits.

@@ -1,6 +1,6 @@
 use Rattle.std.proofs.Common.{Option, None, subst}
 use Rattle.core_index.specs.Records.{KeyRecord, Awaits}
-use Rattle.core_index.specs.Tombs.{placed}
+use Rattle.core_index.specs.Tombs.{tomb_places}
 use Rattle.core_index.specs.Lives.{placed_lives}
 use Rattle.core_index.proofs.OverLaws.{told_second}
 use Rattle.core_index.proofs.StartLaws.{known_live, known_deleted, live_found, value_waits}
@@ -9,7 +9,7 @@ use Rattle.core_index.proofs.start_keys.StartKeys.tell.Goals as goal
 pub returns-in-None-clause-told : goal.returns-in-None-clause-told
 returns-in-None-clause-told c = λ is.
     let a = c.args.self.now in
-    told_second (placed_lives a.live) (placed a.deleted.items) (placed c.tell.new.self.items) c.args.home c.args.name (live_found a c.args.name.key None c.in-None.ensures.found) (c.tell.ensures.told is)
+    told_second (placed_lives a.live) (tomb_places a.deleted.items) (tomb_places c.tell.new.self.items) c.args.home c.args.name (live_found a c.args.name.key None c.in-None.ensures.found) (c.tell.ensures.told is)
 
 pub returns-in-None-clause-none : goal.returns-in-None-clause-none
 returns-in-None-clause-none c = λ is waits.

@@ -1,5 +1,5 @@
 use Rattle.std.proofs.Common.{Some, None, option_map, sym, ◌∙◌, ap, subst}
-use Rattle.core_index.specs.Tombs.{Tombs, placed}
+use Rattle.core_index.specs.Tombs.{Tombs, tomb_places}
 use Rattle.core_index.specs.Records.{Awaits, without}
 use Rattle.core_index.specs.Index.{Turns, known_at}
 use Rattle.core_index.proofs.TombLaws.{known_found, same_turns, gone_turns, gone_waits}
@@ -9,24 +9,24 @@ pub returns-in_default-clause-gone : goal.returns-in_default-clause-gone
 returns-in_default-clause-gone c =
     let a = c.args.self.now in
     let none = known_found a.items c.args.name.key None c.in_default.ensures in
-    same_turns a c.args.name.key (option_map (without c.args.name.version) (known_at (placed a.items) c.args.name.key)) (none ∙ ap (option_map (without c.args.name.version)) (sym none))
+    same_turns a c.args.name.key (option_map (without c.args.name.version) (known_at (tomb_places a.items) c.args.name.key)) (none ∙ ap (option_map (without c.args.name.version)) (sym none))
 
 pub returns-then-stands-clause-gone : goal.returns-then-stands-clause-gone
 returns-then-stands-clause-gone c =
     let a = c.args.self.now in
     let n = c.args.name in
     let stands = c.stands.ensures.found c.if-stands.true in
-    subst (λ (b : Tombs). Turns a b n.key (option_map (without n.version) (known_at (placed a.items) n.key))) (sym c.set.ensures) (gone_turns a n.key n.version c.in-Some.tombstone c.in-Some.ensures stands.0 stands.1)
+    subst (λ (b : Tombs). Turns a b n.key (option_map (without n.version) (known_at (tomb_places a.items) n.key))) (sym c.set.ensures) (gone_turns a n.key n.version c.in-Some.tombstone c.in-Some.ensures stands.0 stands.1)
 
 pub returns-then-stands-clause-none : goal.returns-then-stands-clause-none
 returns-then-stands-clause-none c = λ home v waits.
     let a = c.args.self.now in
     let n = c.args.name in
-    absurd (gone_waits a n.key c.in-Some.tombstone c.in-Some.ensures home v (subst (λ (b : Tombs). Awaits (known_at (placed b.items) n.key) home v) c.set.ensures waits))
+    absurd (gone_waits a n.key c.in-Some.tombstone c.in-Some.ensures home v (subst (λ (b : Tombs). Awaits (known_at (tomb_places b.items) n.key) home v) c.set.ensures waits))
 
 pub returns-else-stands-clause-gone : goal.returns-else-stands-clause-gone
 returns-else-stands-clause-gone c =
     let a = c.args.self.now in
     let n = c.args.name in
     let is = known_found a.items n.key (Some c.in-Some.tombstone) c.in-Some.ensures in
-    same_turns a n.key (option_map (without n.version) (known_at (placed a.items) n.key)) (is ∙ sym (c.stands.ensures.none c.if-stands.false) ∙ ap (option_map (without n.version)) (sym is))
+    same_turns a n.key (option_map (without n.version) (known_at (tomb_places a.items) n.key)) (is ∙ sym (c.stands.ensures.none c.if-stands.false) ∙ ap (option_map (without n.version)) (sym is))

@@ -1,6 +1,6 @@
 use Rattle.std.proofs.Common.{Option, Some, None, sym, subst}
 use Rattle.core_index.specs.declared.types.Fate.TheVariants.{Told}
-use Rattle.core_index.specs.Tombs.{Tombs, placed, Ahead}
+use Rattle.core_index.specs.Tombs.{Tombs, tomb_places, Ahead}
 use Rattle.core_index.specs.Records.{KeyRecord, Awaits}
 use Rattle.core_index.specs.Index.{ToldAt}
 use Rattle.core_index.proofs.TombLaws.{known_found, none_waits, told_tomb, fated_ahead}
@@ -19,7 +19,7 @@ pub returns-clause-told : goal.returns-clause-told
 returns-clause-told c = λ is.
     let a = c.args.self.now in
     let n = c.args.name in
-    subst (λ (b : Tombs). ToldAt (placed a.items) (placed b.items) c.args.home n) (sym c.set.ensures) (told_tomb a c.args.home n c.in-Some.tombstone c.in-Some.ensures (c.awaits.ensures.0 c.if-not-awaits.false))
+    subst (λ (b : Tombs). ToldAt (tomb_places a.items) (tomb_places b.items) c.args.home n) (sym c.set.ensures) (told_tomb a c.args.home n c.in-Some.tombstone c.in-Some.ensures (c.awaits.ensures.0 c.if-not-awaits.false))
 
 pub returns-clause-ahead : goal.returns-clause-ahead
 returns-clause-ahead c = λ h n ahead. subst (λ (b : Tombs). Ahead b h n) (sym c.set.ensures) (fated_ahead c.args.self.now c.args.name.key Told h n ahead)
