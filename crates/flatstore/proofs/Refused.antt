@@ -216,7 +216,7 @@ module _ (old s : State) (found : ℕ → ℕ) (A : Attached old s s.frame.bytes
       unrefused = λ telling within. ref;
     }
 
-  unserved_due : IsUnserved s status → (input : List ℕ) → IsTelling s → (sink : ℕ) → IsDue s.frame.bytes found input status ⊎ IsFault old s source sink status
+  unserved_due : IsUnserved s status → (input : List ℕ) → IsTelling s → (sink : SinkUse) → IsDue s.frame.bytes found input status ⊎ IsFault old s source sink status
   unserved_due (inl u) input telling sink = inl (u.1 ∙ sym (ap (due found input) (sym (found_fault old s found A telling) ∙ u.2 telling)))
   unserved_due (inr u) input telling sink = inr (inl u)
 

@@ -14,14 +14,14 @@ use Rattle.group_engine.specs.Replayed.{report_in}
 use Rattle.group_engine.specs.Reports.{ReportsOn, as_told, told_by}
 use Rattle.engine_laws.proofs.Clients.{ran_given}
 use Rattle.flatstore.specs.Attaching.{Runs}
-use Rattle.flatstore.specs.Ends.{SourceUse, SinkUse}
+use Rattle.flatstore.specs.Ends.{SourceUse, SinkUse, CountsFaults}
 use Rattle.flatstore.specs.LastStates.{told_in, RanTo}
 use Rattle.flatstore.specs.Promise.{IsInput, Replays}
 use Rattle.flatstore.specs.Played.{Played, HasWritten, is_ended}
 use Rattle.flatstore.specs.declared.report.Report.{Report}
 use Rattle.flatstore.proofs.Causing.{HasCauses}
 use Rattle.flatstore.proofs.Running as running
-use Rattle.flatstore.proofs.Serving.{Known, serves, ends_then}
+use Rattle.flatstore.proofs.Serving.{Known, serves, ends_then, counts_faults}
 use Rattle.flatstore.proofs.Standing.{origin_cores}
 
 none_behind : {X : Type 0} (xs ys : List X) → xs ≡ xs ++ ys → ys ≡ []
@@ -109,6 +109,9 @@ module _ (old s t : State) (found word : ℕ → ℕ) (A : Attached old s s.fram
       run = λ whole. subst (λ z. RanTo old z found cores input sink r) (sym P.ran.region)
           (running.ran_to old s t found word A once granted P.recovered P.ready.stands cores input P.lines P.ready.read.good x P.ran count sink r W finishes refusals complete_is whole);
     }
+
+    pub replay_counts : CountsFaults old t source sink r.status
+    replay_counts = subst (λ z. CountsFaults old z source sink r.status) P.ran.region (counts_faults old found source cores input o f x known P.ready.read.whole sink r.status W r refl report_told begun complete_is)
 
     pub promise : (input : List ℕ) × (cores : ℕ) × IsInput source.coming input × Replays old t found source cores input sink r
     promise = (

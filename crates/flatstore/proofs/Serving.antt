@@ -35,7 +35,7 @@ use Rattle.group_engine.specs.Replayed.{report_in}
 use Rattle.group_engine.specs.Reports.{ReportsOn, as_told, told_by}
 use Rattle.group_engine.specs.Answers.{reply_to}
 use Rattle.group_engine.specs.declared.run_report.Refusal.{Refusal}
-use Rattle.flatstore.specs.Ends.{SourceUse, SinkUse}
+use Rattle.flatstore.specs.Ends.{SourceUse, SinkUse, CountsFaults}
 use Rattle.flatstore.specs.LastStates.{told_in, AreRising}
 use Rattle.flatstore.specs.Ordering.{KeepsOrder, IsServed, due, IsDue, IsFault, status_of, is_broken, is_quiet, is_of_line, is_whole}
 use Rattle.flatstore.specs.Promise.{WritesAll, WritesFront, Serves, asked_in}
@@ -333,6 +333,29 @@ module _ (old : State) (found : ℕ → ℕ) (source : SourceUse) (cores : ℕ) 
       spent = spent_then;
       unrefused = unrefused_then;
     }
+
+    -- Each fault that the status tells was counted.
+    pub counts_faults : CountsFaults old t source sink r.status
+    counts_faults = record {
+      source_fault = λ is. absurd (no_status is_quiet refl refl refl refl (ap is_quiet is));
+      sink_fault = sunk_rose;
+      region_fault = failed_rose;
+    } where
+      sunk_rose : r.status ≡ statuses.SinkFault → Rose sink.faults sink.faults'
+      sunk_rose sunk = by W where
+        by : HasWritten x sink status → Rose sink.faults sink.faults'
+        by (inl w) = cc (sym sunk ∙ report_status ∙ w.0)
+        by (inr (inl w)) = cc (sym sunk ∙ report_status ∙ w.0)
+        by (inr (inr (inl w))) = w.2
+        by (inr (inr (inr w))) = cc (sym sunk ∙ report_status ∙ w.0)
+
+      failed_rose : r.status ≡ statuses.RegionFault → Rose old.faults t.faults
+      failed_rose failed = by W where
+        by : HasWritten x sink status → Rose old.faults t.faults
+        by (inl w) = cc (sym failed ∙ report_status ∙ w.0)
+        by (inr (inl w)) = risen (K.fault w.1)
+        by (inr (inr (inl w))) = cc (sym failed ∙ report_status ∙ w.0)
+        by (inr (inr (inr w))) = cc (sym failed ∙ report_status ∙ w.0)
 
     -- A call of the region that failed doesn't keep it from its end.
     pub ends_then : r.status ≡ statuses.RegionFault → r.complete ≡ true

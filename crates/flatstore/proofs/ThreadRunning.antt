@@ -23,7 +23,7 @@ use Rattle.group_engine.specs.Replayed.{report_in}
 use Rattle.group_engine.specs.Reports.{ReportsOn, reply_in, as_told, told_by}
 use Rattle.thread_engine.specs.RanApart.{Rejoined}
 use Rattle.flatstore.specs.Attaching.{GoesOnBy, AttachesToSplit, MayRejoin}
-use Rattle.flatstore.specs.Ends.{SourceUse, SinkUse}
+use Rattle.flatstore.specs.Ends.{SourceUse, SinkUse, CountsFaults}
 use Rattle.flatstore.specs.LastStates.{told_in}
 use Rattle.flatstore.specs.Ordering.{KeepsOrder, IsServed, is_broken, is_of_line, is_quiet, is_whole}
 use Rattle.flatstore.specs.Promise.{IsInput, Serves}
@@ -37,7 +37,7 @@ use Rattle.flatstore.specs.declared.run_threads.NotRun.{NotRun}
 use Rattle.flatstore.specs.declared.run_threads.NotRun.TheVariants.{Refused, Unsplit}
 use Rattle.flatstore.proofs.Causing.{HasCauses}
 use Rattle.flatstore.proofs.Refused.{served_by, apart_from, told_now, none_begins, none_lost, none_rising, none_full, none_spent, refused_serves, refused_fault, refused_source}
-use Rattle.flatstore.proofs.Serving.{Known, serves, ends_then, words_found}
+use Rattle.flatstore.proofs.Serving.{Known, serves, ends_then, counts_faults, words_found}
 use Rattle.flatstore.proofs.Standing.{counted_by, origin_cores}
 use Rattle.flatstore.proofs.Texts.{both}
 use Rattle.flatstore.proofs.Written.{front_written, all_written}
@@ -352,6 +352,9 @@ module _ (old s t : State) (found word : ℕ → ℕ) (A : Attached old s s.fram
       where
         ended : is_ended x.end ≡ true → x.end ≢ ends.Memory
         ended is m = both (is_ended x.end) is (ap is_ended m)
+
+    pub run_counts : CountsFaults old t source sink r.status
+    run_counts = subst (λ z. CountsFaults old z source sink r.status) P.ran.region (counts_faults old found source cores input o f x known P.ready.read.whole sink r.status W r refl report_told begun complete_is)
 
     pub ran_on : (input : List ℕ) × (cores : ℕ) × IsInput source.coming input × RunsOnThreads old t found source refused cores input sink r
     ran_on = (

@@ -4,16 +4,16 @@ use Rattle.pm_region.specs.State.{State, Faulted, Rose}
 use Rattle.flatstore.specs.declared.report.Status.{Status}
 use Rattle.flatstore.specs.declared.report.Status.TheVariants as statuses
 
--- A source before and after the call: what was still to come and what is left, where it tells, and how many reads had failed
--- and have failed.
+-- A source before and after the call: what was still to come and what is left, where it tells, and how many reads had
+-- failed and have failed.
 pub record SourceUse : Type 0 where
   pub coming : Option (List ℕ)
   pub left : Option (List ℕ)
   pub faults : ℕ
   pub faults' : ℕ
 
--- A sink before and after the call: what it had taken and has taken, where it tells, whether all of that is flushed, and how
--- many writes had failed and have failed.
+-- A sink before and after the call: what it had taken and has taken, where it tells, whether all of that is flushed,
+-- and how many writes had failed and have failed.
 pub record SinkUse : Type 0 where
   pub before : Option (List ℕ)
   pub now : Option (List ℕ)
@@ -22,7 +22,8 @@ pub record SinkUse : Type 0 where
   pub faults' : ℕ
 
 -- by what sources of a kind tell, and their counts: this one before the call, and the same after it
-abbrev pub source_use : {Kind : Type 0} → (Kind → Option (List ℕ)) → (Kind → ℕ) → Kind → Kind → SourceUse
+abbrev pub source_use : {Kind : Type 0} → (Kind → Option (List ℕ)) → (Kind → ℕ) → Kind → Kind
+    → SourceUse
 source_use coming count old new = record {
   coming = coming old;
   left = coming new;
@@ -31,8 +32,8 @@ source_use coming count old new = record {
 }
 
 -- by what sinks of a kind tell, and their counts
-abbrev pub sink_use : {Kind : Type 0} → (Kind → Option (List ℕ)) → (Kind → Bool) → (Kind → ℕ) → Kind → Kind
-    → SinkUse
+abbrev pub sink_use : {Kind : Type 0} → (Kind → Option (List ℕ)) → (Kind → Bool) → (Kind → ℕ)
+    → Kind → Kind → SinkUse
 sink_use taken flushed count old new = record {
   before = taken old;
   now = taken new;
@@ -48,7 +49,8 @@ IsAllOut status sink =
     × (Rose sink.faults sink.faults' → ⊥))
 
 -- The status of a fault comes only where the count of that very end rose.
-pub record CountsFaults (old new : State) (source : SourceUse) (sink : SinkUse) (status : Status) : Type 0 where
+pub record CountsFaults (old new : State) (source : SourceUse) (sink : SinkUse)
+    (status : Status) : Type 0 where
   pub source_fault : status ≡ statuses.SourceFault → Rose source.faults source.faults'
   pub sink_fault : status ≡ statuses.SinkFault → Rose sink.faults sink.faults'
   pub region_fault : status ≡ statuses.RegionFault → Faulted old new

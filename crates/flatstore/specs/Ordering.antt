@@ -28,7 +28,8 @@ IsDue bytes found input status = status ≡ due found input (first_fault bytes f
 -- a fault, or want of memory
 abbrev pub IsFault : State → State → SourceUse → SinkUse → Status → Type 0
 IsFault old new source sink status =
-    (status ≡ statuses.Memory) ⊎ (((status ≡ statuses.SourceFault) × Rose source.faults source.faults')
+    (status ≡ statuses.Memory)
+    ⊎ (((status ≡ statuses.SourceFault) × Rose source.faults source.faults')
     ⊎ (((status ≡ statuses.SinkFault) × Rose sink.faults sink.faults')
     ⊎ ((status ≡ statuses.RegionFault) × Faulted old new)))
 
@@ -109,10 +110,12 @@ pub record KeepsOrder (old new : State) (found : ℕ → ℕ) (source : SourceUs
   pub read : r.status ≡ statuses.SourceFault → IsServed new found
   -- and both before the rules of the input, which are those of all of it.
   pub line : is_of_line r.status ≡ true
-      → IsServed new found × IsReadOut source.coming source.left × (r.status ≡ status_of (input_of cores input))
+      → IsServed new found × IsReadOut source.coming source.left
+      × (r.status ≡ status_of (input_of cores input))
   -- All of these go before the run,
   pub began : r.began ≡ true
-      → IsServed new found × IsReadOut source.coming source.left × (is_broken (input_of cores input) ≡ false)
+      → IsServed new found × IsReadOut source.coming source.left
+      × (is_broken (input_of cores input) ≡ false)
   pub unbegun : is_quiet r.status ≡ true → r.began ≡ false
   -- and the whole run before the writing.
   pub run : is_of_run r.status ≡ true → r.began ≡ true

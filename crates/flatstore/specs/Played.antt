@@ -72,7 +72,8 @@ HasWritten x sink status =
     × Takes sink.before sink.now (replies_text x.replies.items) × (sink.flushed ≡ true))
     ⊎ (((status ≡ statuses.RegionFault) × (x.end ≡ ends.RegionFault)
     × ((Takes sink.before sink.now (replies_text x.replies.items) × (sink.flushed ≡ true))
-    ⊎ (Rose sink.faults sink.faults' × TakesPrefix sink.before sink.now (replies_text x.replies.items))))
+    ⊎ (Rose sink.faults sink.faults'
+    × TakesPrefix sink.before sink.now (replies_text x.replies.items))))
     ⊎ (((status ≡ statuses.SinkFault) × (x.end ≡ ends.Complete) × Rose sink.faults sink.faults'
     × TakesPrefix sink.before sink.now (replies_text x.replies.items))
     ⊎ ((status ≡ statuses.Memory) × (((is_ended x.end ≡ true)

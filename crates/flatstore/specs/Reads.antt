@@ -24,7 +24,8 @@ abbrev pub IsUnread : SourceUse → ℕ → Status → Type 0
 IsUnread source cores status =
     (IsReadOut source.coming source.left × (input : List ℕ) × IsInput source.coming input
     × (is_broken (input_of cores input) ≡ true) × (status ≡ status_of (input_of cores input)))
-    ⊎ (((status ≡ statuses.SourceFault) × Rose source.faults source.faults') ⊎ (status ≡ statuses.Memory))
+    ⊎ (((status ≡ statuses.SourceFault) × Rose source.faults source.faults')
+    ⊎ (status ≡ statuses.Memory))
 
 -- the status for an input that was not read
 abbrev pub unread_as : InputError → Status

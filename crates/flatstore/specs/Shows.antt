@@ -42,7 +42,8 @@ IsDueOf bytes found sink status =
     (status ≡ status_by (first_fault bytes found)) ⊎ ((status ≡ statuses.Memory)
     ⊎ ((status ≡ statuses.SinkFault) × Rose sink.faults sink.faults' × IsSound bytes found))
 
--- Of the kind of its texts, a region before and after the call, the words that an attach finds, the sink and the report.
+-- Of the kind of its texts, a region before and after the call, the words that an attach finds, the sink and the
+-- report.
 pub record Shows (IsText : List ℕ → Type 0) (old new : State) (found : ℕ → ℕ) (sink : SinkUse)
     (r : Report) : Type 0 where
   pub attaches : Attaches old new found r

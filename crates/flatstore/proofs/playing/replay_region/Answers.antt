@@ -4,7 +4,7 @@ use Rattle.flatstore.specs.Attaching.{Runs}
 use Rattle.flatstore.specs.Ends.{sink_use, source_use}
 use Rattle.flatstore.specs.Promise.{IsInput, Replays}
 use Rattle.flatstore.proofs.Opened.{granted_by, attaches_once, no_more}
-use Rattle.flatstore.proofs.Replaying.{promise, onward}
+use Rattle.flatstore.proofs.Replaying.{promise, replay_counts, onward}
 use Rattle.flatstore.proofs.Refused.{refused_replays}
 use Rattle.flatstore.proofs.playing.replay_region.Goals as goal
 
@@ -41,6 +41,14 @@ returns-in-Err-clause-replay g c = λ attached.
 pub returns-in-Ok-replay-clause-replay : goal.returns-in-Ok-replay-clause-replay
 returns-in-Ok-replay-clause-replay g c = λ attached.
     promise (g.R.Region.state c.args.region.now) (g.R.Region.state c.attach.new.self) (g.R.Region.state c.replay.new.region) (g.R.SplitRegion.found c.args.region.now) (g.R.ReadRegion.word c.attach.new.self) c.in-Ok.ensures.ok
+    c.attach.ensures.opens (granted_by (g.R.Region.state c.args.region.now) (g.R.Region.state c.attach.new.self) c.attach.result _ c.in-Ok.is c.attach.ensures.cause) c.attach.ensures.cause.later
+    (source_use g.S.Source.coming g.S.Source.fault_count c.args.source.now c.replay.new.source) c.in-Ok-replay.outcome c.in-Ok-replay.ensures.played
+    (sink_use g.O.Sink.taken g.O.Sink.flushed g.O.Sink.fault_count c.args.sink.now c.write_outcome.new.sink)
+    c.write_outcome.result c.write_outcome.ensures.written c.write_outcome.ensures.finishes c.write_outcome.ensures.refusals c.write_outcome.ensures.began c.write_outcome.ensures.complete
+
+pub returns-in-Ok-replay-clause-faults : goal.returns-in-Ok-replay-clause-faults
+returns-in-Ok-replay-clause-faults g c =
+    replay_counts (g.R.Region.state c.args.region.now) (g.R.Region.state c.attach.new.self) (g.R.Region.state c.replay.new.region) (g.R.SplitRegion.found c.args.region.now) (g.R.ReadRegion.word c.attach.new.self) c.in-Ok.ensures.ok
     c.attach.ensures.opens (granted_by (g.R.Region.state c.args.region.now) (g.R.Region.state c.attach.new.self) c.attach.result _ c.in-Ok.is c.attach.ensures.cause) c.attach.ensures.cause.later
     (source_use g.S.Source.coming g.S.Source.fault_count c.args.source.now c.replay.new.source) c.in-Ok-replay.outcome c.in-Ok-replay.ensures.played
     (sink_use g.O.Sink.taken g.O.Sink.flushed g.O.Sink.fault_count c.args.sink.now c.write_outcome.new.sink)

@@ -2,7 +2,7 @@
 use Rattle.std.proofs.Common.{refl}
 use Rattle.flatstore.specs.Ends.{sink_use, source_use}
 use Rattle.flatstore.proofs.Opened.{granted_by}
-use Rattle.flatstore.proofs.ThreadRunning.{ran_on, not_run}
+use Rattle.flatstore.proofs.ThreadRunning.{ran_on, run_counts, not_run}
 use Rattle.flatstore.proofs.run_threads.run_region.Goals as goal
 
 pub returns-in-Err-clause-run : goal.returns-in-Err-clause-run
@@ -20,6 +20,16 @@ returns-in-Ok-run_cores-clause-run g c = λ attached.
     let old = g.R.Region.state c.args.region.now in
     let s = g.R.Region.state c.attach.new.self in
     ran_on old s (g.R.Region.state c.run_cores.new.region) (g.R.SplitRegion.found c.args.region.now) (g.R.ReadRegion.word c.attach.new.self) c.in-Ok.ensures.ok
+    c.attach.ensures.opens (granted_by old s c.attach.result _ c.in-Ok.is c.attach.ensures.cause) c.attach.ensures.cause.later (g.G.Gate.may_refuse c.args.gate.now)
+    (source_use g.S.Source.coming g.S.Source.fault_count c.args.source.now c.run_cores.new.source) c.in-Ok-run_cores.outcome c.in-Ok-run_cores.ensures.played
+    (sink_use g.O.Sink.taken g.O.Sink.flushed g.O.Sink.fault_count c.args.sink.now c.write_outcome.new.sink)
+    c.write_outcome.result c.write_outcome.ensures.written c.write_outcome.ensures.finishes c.write_outcome.ensures.refusals c.write_outcome.ensures.began c.write_outcome.ensures.complete
+
+pub returns-in-Ok-run_cores-clause-faults : goal.returns-in-Ok-run_cores-clause-faults
+returns-in-Ok-run_cores-clause-faults g c =
+    let old = g.R.Region.state c.args.region.now in
+    let s = g.R.Region.state c.attach.new.self in
+    run_counts old s (g.R.Region.state c.run_cores.new.region) (g.R.SplitRegion.found c.args.region.now) (g.R.ReadRegion.word c.attach.new.self) c.in-Ok.ensures.ok
     c.attach.ensures.opens (granted_by old s c.attach.result _ c.in-Ok.is c.attach.ensures.cause) c.attach.ensures.cause.later (g.G.Gate.may_refuse c.args.gate.now)
     (source_use g.S.Source.coming g.S.Source.fault_count c.args.source.now c.run_cores.new.source) c.in-Ok-run_cores.outcome c.in-Ok-run_cores.ensures.played
     (sink_use g.O.Sink.taken g.O.Sink.flushed g.O.Sink.fault_count c.args.sink.now c.write_outcome.new.sink)
