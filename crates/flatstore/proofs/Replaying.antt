@@ -1,5 +1,5 @@
 -- From the last state of a replay to what the program promises.
-use Rattle.std.proofs.Common.{◌≡◌, ◌≢◌, ℕ, ◌/◌, ◌<◌, ◌≤◌, List, [], ◌∷◌, ◌++◌, length, refl, sym, ◌∙◌, ap, subst, arith, true, Bool, Option, length-append}
+use Rattle.std.proofs.Common.{◌≡◌, ◌≢◌, ℕ, ◌/◌, ◌<◌, ◌≤◌, List, [], ◌∷◌, ◌++◌, length, refl, sym, ◌∙◌, ap, subst, arith, true, length-append}
 use Rattle.pm_region.specs.State.{State, Frame, IsTelling, MayLeave}
 use Rattle.pm_region.specs.Split.{Attached, IsOpenedOnceMore}
 use Rattle.pm_region.specs.Words.{lasts}

@@ -1,5 +1,5 @@
 -- From the last state of a run to what the program promises of it, whoever made the moves of its cores.
-use Rattle.std.proofs.Common.{◌≡◌, ◌≢◌, ◌⊎◌, inl, inr, ℕ, ◌/◌, ◌<◌, ◌≤◌, List, [], ◌++◌, length, refl, sym, ◌∙◌, ap, subst, arith, true, false, Bool, Option, None, append-nil, map, take, ◌+◌, ◌%◌, length-append, Ok}
+use Rattle.std.proofs.Common.{◌≡◌, ◌≢◌, ◌⊎◌, inl, inr, ℕ, ◌/◌, ◌<◌, ◌≤◌, List, [], ◌++◌, length, refl, sym, ◌∙◌, ap, subst, arith, true, false, Bool, None, append-nil, map, take, ◌+◌, ◌%◌, length-append, Ok}
 use Rattle.std.specs.List.{AllByRecursion}
 use Rattle.pm_region.specs.Cell.{Cell}
 use Rattle.pm_region.specs.State.{State, IsTold, IsTelling, MayLeave, Rose, cell_now}
@@ -32,7 +32,7 @@ use Rattle.engine_laws.specs.Reports.{told_of, replies_from, AllAnswered}
 use Rattle.group_engine.specs.declared.run_outcome.End.TheVariants as ends
 use Rattle.group_engine.specs.declared.run_outcome.Outcome.{Outcome}
 use Rattle.group_engine.specs.Replayed.{report_in}
-use Rattle.group_engine.specs.Reports.{ReportsOn, as_told, told_by}
+use Rattle.group_engine.specs.Reports.{ReportsOn, told_by}
 use Rattle.group_engine.specs.Answers.{reply_to}
 use Rattle.group_engine.specs.declared.run_report.Refusal.{Refusal}
 use Rattle.flatstore.specs.Ends.{SourceUse, SinkUse, CountsFaults}

@@ -1,5 +1,5 @@
 -- From what the cores did in a run on threads, or why none ran, to what the program promises.
-use Rattle.std.proofs.Common.{◌≡◌, ◌≢◌, ◌⊎◌, inl, inr, ℕ, ◌/◌, ◌<◌, ◌≤◌, List, [], ◌++◌, map, refl, sym, ◌∙◌, ap, subst, arith, true, false, Bool, Option, None, Result, Ok, Err, append-nil}
+use Rattle.std.proofs.Common.{◌≡◌, ◌≢◌, inl, inr, ℕ, ◌/◌, ◌<◌, ◌≤◌, List, [], ◌++◌, map, refl, sym, ◌∙◌, ap, subst, arith, true, false, Bool, Result, Ok, Err, append-nil}
 use Rattle.std.specs.Prelude.{IsTrue, IfErr}
 use Rattle.std.specs.Result.{IsErrAnd}
 use Rattle.pm_region.specs.Cell.{Cell}

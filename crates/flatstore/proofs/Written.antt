@@ -1,5 +1,5 @@
 -- What was written of a run's replies, by the status.
-use Rattle.std.proofs.Common.{◌≡◌, ◌≢◌, inl, inr, ℕ, List, sym, ◌∙◌, true, Bool, Option}
+use Rattle.std.proofs.Common.{◌≡◌, ◌≢◌, inl, inr, sym, ◌∙◌, true}
 use Rattle.pm_region.specs.State.{Rose}
 use Rattle.fs_text.specs.Output.{replies_text}
 use Rattle.fs_text.specs.Streams.{Takes, TakesPrefix}

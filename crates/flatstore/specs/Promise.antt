@@ -1,5 +1,5 @@
 -- What a call of the program promises, over the region, the source and the sink before and after it.
-use Rattle.std.specs.Prelude.{◌≡◌, ◌⊎◌, ℕ, ◌+◌, ◌≤◌, List, [], take, Bool, true, Option, Some, None}
+use Rattle.std.specs.Prelude.{◌≡◌, ◌⊎◌, ℕ, ◌+◌, ◌≤◌, List, [], take, true, Option, Some, None}
 use Rattle.std.specs.List.{AllByRecursion}
 use Rattle.fs_model.specs.declared.model.Request.{Request}
 use Rattle.fs_model.specs.declared.model.Reply.TheVariants.{Full}
@@ -17,7 +17,6 @@ use Rattle.group_engine.specs.Answers.{reply_to}
 use Rattle.flatstore.specs.Ends.{SourceUse, SinkUse}
 use Rattle.flatstore.specs.LastStates.{told_in, AreRising, RanTo}
 use Rattle.flatstore.specs.Ordering.{KeepsOrder, IsDue, IsFault, is_whole}
-use Rattle.flatstore.specs.declared.report.Status.{Status}
 use Rattle.flatstore.specs.declared.report.Status.TheVariants as statuses
 use Rattle.flatstore.specs.declared.report.Report.{Report}
 

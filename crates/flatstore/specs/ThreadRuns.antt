@@ -19,7 +19,6 @@ use Rattle.flatstore.specs.Attaching.{GoesOnBy}
 use Rattle.flatstore.specs.Ends.{SourceUse, SinkUse, IsAllOut}
 use Rattle.flatstore.specs.LastStates.{told_in, Starts}
 use Rattle.flatstore.specs.Promise.{Serves}
-use Rattle.flatstore.specs.declared.report.Status.{Status}
 use Rattle.flatstore.specs.declared.report.Status.TheVariants as statuses
 use Rattle.flatstore.specs.declared.report.Report.{Report}
 
