@@ -3,6 +3,7 @@ pub mod ViewSteps
 pub mod SettleSteps
 pub mod SeatPlaces
 pub mod TidyViews
+mod Trails
 pub mod RuleKept
 pub mod GivingKept
 pub mod RuleOpened

@@ -1,4 +1,5 @@
 -- The steps at mailboxes keep the rule: a load that takes the slot in hand or finds it is not the member's turn, and the store that gives it back.
+use Rattle.atomic_board.proofs.Reaches.{more, reached_by}
 use Rattle.std.proofs.Common.{◌≡◌, ◌≢◌, ℕ, suc, ◌+◌, ◌*◌, ◌<◌, ◌≤◌, Bool, true, false, List, [], ◌∷◌, length, get_or, set, sym, refl, ap, ◌∙◌, subst, inl, inr, ◌⊎◌, ⊎_elim, eq-eqb, ne_eqb, arith, length-set, get_or-set_other, get_or-set_same, mul-le-mul_right, suc-mul, mul_comm, Option, Some, None}
 use mathlib.Core.Option.{some, none}
 use mathlib.Core.Option as maybe
@@ -25,12 +26,12 @@ use Rattle.atomic_board.specs.declared.seat_data.Holding.{Holding}
 use Rattle.atomic_board.specs.declared.seat_data.Deed.{Deed}
 use Rattle.atomic_board.specs.declared.seat_data.Deed.TheVariants.{Found, Send, Receive}
 use Rattle.atomic_board.specs.declared.seat_data.SeatData.TheVariants.{Own}
-use Rattle.atomic_board.specs.TableWords.{pool_word, pool_place, mail_word, mail_place, word_count}
-use Rattle.atomic_board.specs.Deeds.{group_of, place_of, size, names_of, names_by, after_deed, view_by}
-use Rattle.atomic_board.specs.ShownState.{TableState, Home, views_of, pose_at, grips, gripped, grip_at, IsSlot, IsBox, IsReached, ShowsLawful}
+use Rattle.atomic_board.specs.TableWords.{own_word, pool_word, pool_place, mail_word, mail_place, word_count}
+use Rattle.atomic_board.specs.Deeds.{group_of, place_of, size, names_of, names_by, after_deed, view_by, stepped_by}
+use Rattle.atomic_board.specs.ShownState.{TableState, Home, deeds_at, views_of, pose_at, grips, gripped, grip_at, IsSlot, IsBox, IsReached, ShowsLawful}
 use Rattle.atomic_board.proofs.ViewSteps.{moved}
-use Rattle.atomic_board.proofs.SeatPlaces.{put_here, put_else, put_at, put2_here, put2_else, pose_here, pose_moved, views_moved}
-use Rattle.atomic_board.proofs.RuleKept.{known, fits_after, calm}
+use Rattle.atomic_board.proofs.SeatPlaces.{put_here, put_else, put_at, put2_here, put2_else, pose_here, pose_moved, deeds_moved, views_moved}
+use Rattle.atomic_board.proofs.RuleKept.{known, fits_after, own_still, calm}
 use Rattle.atomic_board.proofs.MailSteps.{look_mail_law, send_law, receive_law}
 
 -- one row of mailboxes stands behind another
@@ -61,10 +62,10 @@ module _ (b : Origin) (s : TableState) (o : ShowsLawful b s) (m : ℕ) (q : Hold
       → ((k : ℕ) → k ≢ pool_place a c → grips q.hand k ≡ false) → ((k : ℕ) → k ≢ pool_place a c → grips r.hand k ≡ false)
       → length hs ≡ length s.homes → get_elem? hs (mail_place (size b) a c) ≡ h → ((k : ℕ) → k ≢ mail_place (size b) a c → get_elem? hs k ≡ get_elem? s.homes k)
       → post a c ≡ y → ((i j : ℕ) → (i ≢ a) ⊎ (j ≢ c) → post i j ≡ o.mail i j)
-      → IsBox x h (pool_place a c) (put (pose_at s.views) m r a).hand (put (pose_at s.views) m r c).hand y
-      → IsReached b (group_of (place_of b) o.holder o.slot post (views_of b (set s.views (suc m) (Own m r b (d ∷ ds)))))
+      → IsBox x h (pool_place a c) (put (pose_at s.views) m r a).hand (put (pose_at s.views) m r c).hand y → ((n : ℕ) → stepped_by d n ≡ n)
+      → IsReached b (deeds_at (set s.views (suc m) (Own m r b (d ∷ ds)))) (group_of (place_of b) o.holder o.slot post (views_of b (set s.views (suc m) (Own m r b (d ∷ ds)))))
       → ShowsLawful b (record { words = set s.words (mail_word (size b) a c) x; homes = hs; views = set s.views (suc m) (Own m r b (d ∷ ds)) })
-  boxed d a c x h hs y r post low less settled old new many here else at away box law = record {
+  boxed d a c x h hs y r post low less settled old new many here else at away box uncounted law = record {
     holder = o.holder;
     slot = o.slot;
     mail = post;
@@ -75,7 +76,8 @@ module _ (b : Origin) (s : TableState) (o : ShowsLawful b s) (m : ℕ) (q : Hold
         (subst (λ z. IsSlot (get_or s.words (pool_word (size b) i t) 0) (get_elem? s.homes (pool_place i t)) z (o.slot i t)) (sym (still i)) (o.fits.pool i t hi lt))))
         o.fits.outside
         (λ i j hi lj. by i j hi lj (where_is i j))
-        (λ i j out. away i j (elsewhere i j out) ∙ o.fits.no_box i j out);
+        (λ i j out. away i j (elsewhere i j out) ∙ o.fits.no_box i j out)
+        (own_still b s o m q ds me near d r uncounted (set s.words (mail_word (size b) a c) x) (λ j l. get_or-set_other s.words (mail_word (size b) a c) (own_word j) x 0 (λ e. omega (arith, e, l))));
     reached = law;
   } where
     poses : (i : ℕ) → pose_at (set s.views (suc m) (Own m r b (d ∷ ds))) i ≡ put (pose_at s.views) m r i
@@ -142,8 +144,8 @@ abbrev pub handed : Holding → Option MailHold → Holding
 handed q g = record { settled = q.settled; hand = g }
 
 module _ (b : Origin) (s : TableState) (o : ShowsLawful b s) (m : ℕ) (q : Holding) (ds : List Deed) (me : get_elem? s.views (suc m) ≡ some (Own m q b ds)) (near : m < size b) where
-  law_at : (d : Deed) (r : Holding) (post : ℕ → ℕ → Option Notices) → IsReached b (moved (place_of b) o.holder o.slot post (views_of b s.views) m (after_deed (names_by (names_of b) (d ∷ ds)) (place_of b) m d)) → IsReached b (group_of (place_of b) o.holder o.slot post (views_of b (set s.views (suc m) (Own m r b (d ∷ ds)))))
-  law_at d r post law = subst (IsReached b) (λ i. group_of (place_of b) o.holder o.slot post (λ k. sym (views_moved s.views m q r b d ds me k) i)) law
+  law_at : (d : Deed) (r : Holding) (post : ℕ → ℕ → Option Notices) → IsReached b (more (deeds_at s.views) m d) (moved (place_of b) o.holder o.slot post (views_of b s.views) m (after_deed (names_by (names_of b) (d ∷ ds)) (place_of b) m d)) → IsReached b (deeds_at (set s.views (suc m) (Own m r b (d ∷ ds)))) (group_of (place_of b) o.holder o.slot post (views_of b (set s.views (suc m) (Own m r b (d ∷ ds)))))
+  law_at d r post law = reached_by b _ _ _ _ (λ k. sym (deeds_moved s.views m q r b d ds me k)) (λ i. group_of (place_of b) o.holder o.slot post (λ k. sym (views_moved s.views m q r b d ds me k) i)) law
 
   one_grip : (k j : ℕ) (dead gone : List EntryName) → j ≢ k → grips (grip_at k dead gone) j ≡ false
   one_grip k j dead gone ne = ne_eqb k j (λ e. ne (sym e))
@@ -154,8 +156,8 @@ module _ (b : Origin) (s : TableState) (o : ShowsLawful b s) (m : ℕ) (q : Hold
   mine : (r : Holding) → (put (pose_at s.views) m r m) ≡ r
   mine r = put_here (pose_at s.views) m r
 
-  full_is : (a c : ℕ) (f : Bool) → is_full (o.mail a c) ≡ f → (r : Holding) → IsReached b (group_of (place_of b) o.holder o.slot o.mail (views_of b (set s.views (suc m) (Own m r b (Found (loads.Mail a c (is_full (o.mail a c))) ∷ ds))))) → IsReached b (group_of (place_of b) o.holder o.slot o.mail (views_of b (set s.views (suc m) (Own m r b (Found (loads.Mail a c f) ∷ ds)))))
-  full_is a c f is r law = subst (λ z. IsReached b (group_of (place_of b) o.holder o.slot o.mail (views_of b (set s.views (suc m) (Own m r b (Found (loads.Mail a c z) ∷ ds)))))) is law
+  full_is : (a c : ℕ) (f : Bool) → is_full (o.mail a c) ≡ f → (r : Holding) → IsReached b (deeds_at (set s.views (suc m) (Own m r b (Found (loads.Mail a c (is_full (o.mail a c))) ∷ ds)))) (group_of (place_of b) o.holder o.slot o.mail (views_of b (set s.views (suc m) (Own m r b (Found (loads.Mail a c (is_full (o.mail a c))) ∷ ds))))) → IsReached b (deeds_at (set s.views (suc m) (Own m r b (Found (loads.Mail a c f) ∷ ds)))) (group_of (place_of b) o.holder o.slot o.mail (views_of b (set s.views (suc m) (Own m r b (Found (loads.Mail a c f) ∷ ds)))))
+  full_is a c f is r law = subst (λ z. IsReached b (deeds_at (set s.views (suc m) (Own m r b (Found (loads.Mail a c z) ∷ ds)))) (group_of (place_of b) o.holder o.slot o.mail (views_of b (set s.views (suc m) (Own m r b (Found (loads.Mail a c z) ∷ ds)))))) is law
 
   home_at : (a c : ℕ) (x : maybe.Option (Option Parcel)) → a < size b → c < size b → get_elem? (set s.homes (mail_place (size b) a c) x) (mail_place (size b) a c) ≡ some x
   home_at a c x low less = let many = o.fits.many in let few = o.fits.few in set_here s.homes (mail_place (size b) a c) x (omega (arith, many, few, low, less))
@@ -166,6 +168,7 @@ module _ (b : Origin) (s : TableState) (o : ShowsLawful b s) (m : ℕ) (q : Hold
   peek_keeps a c f is low less = subst (λ z. ShowsLawful b (record { words = set s.words (mail_word (size b) a c) (get_or s.words (mail_word (size b) a c) 0); homes = s.homes; views = set s.views (suc m) (Own m q b (Found (loads.Mail a c z) ∷ ds)) })) is
       (calm b s o m q ds me near (Found (loads.Mail a c (is_full (o.mail a c)))) (mail_word (size b) a c) (get_or s.words (mail_word (size b) a c) 0) o.holder
       (λ i j. ap (λ l. get_or l (pool_word (size b) i j) 0) (set-get_or s.words (mail_word (size b) a c) 0)) (λ i j. ap (λ l. get_or l (mail_word (size b) i j) 0) (set-get_or s.words (mail_word (size b) a c) 0)) (ap (λ l. get_or l 0 0) (set-get_or s.words (mail_word (size b) a c) 0) ∙ o.fits.lock) o.fits.member
+      (own_still b s o m q ds me near (Found (loads.Mail a c (is_full (o.mail a c)))) q (λ n. refl) (set s.words (mail_word (size b) a c) (get_or s.words (mail_word (size b) a c) 0)) (λ j l. ap (λ k. get_or k (own_word j) 0) (set-get_or s.words (mail_word (size b) a c) 0)))
       (look_mail_law b s o m q ds me near a c low less))
 
   -- the sender takes the slot of an empty mailbox in hand
@@ -183,7 +186,7 @@ module _ (b : Origin) (s : TableState) (o : ShowsLawful b s) (m : ℕ) (q : Hold
               ap (λ (p : Holding). grips p.hand (pool_place m to)) (put_else (pose_at s.views) m r to other) ∙ z.1,
               λ f. absurd (let t = ap (λ (p : Holding). grips p.hand (pool_place m to)) (mine r) ∙ eq-eqb (pool_place m to) (pool_place m to) refl in cc (f, t)),
             )
-            (full_is m to false (ap is_full z.0) r (law_at (Found (loads.Mail m to (is_full (o.mail m to)))) r o.mail (look_mail_law b s o m q ds me near m to near less))),
+            (λ n. refl) (full_is m to false (ap is_full z.0) r (law_at (Found (loads.Mail m to (is_full (o.mail m to)))) r o.mail (look_mail_law b s o m q ds me near m to near less))),
       )
 
   -- the sender puts notices there
@@ -195,7 +198,7 @@ module _ (b : Origin) (s : TableState) (o : ShowsLawful b s) (m : ℕ) (q : Hold
       old (λ k ne. refl) (length-set s.homes (mail_place (size b) m to) (some (Some (parcels.Notices n)))) (home_at m to (some (Some (parcels.Notices n))) near may.receiver) (λ k ne. set_else s.homes (mail_place (size b) m to) k (some (Some (parcels.Notices n))) ne)
       (put2_here o.mail m to (Some (notices_of n))) (λ i j ne. put2_else o.mail m to (Some (notices_of n)) i j ne)
       (refl, (λ _. (n, refl, refl)), λ t. absurd (let f = ap (λ (p : Holding). grips p.hand (pool_place m to)) (put_else (pose_at s.views) m (handed q None) to other) ∙ box_none (get_or s.words (mail_word (size b) m to) 0) (get_elem? s.homes (mail_place (size b) m to)) (pool_place m to) (pose_at s.views m).hand (pose_at s.views to).hand (o.mail m to) (o.fits.box m to near may.receiver) none_there in cc (f, t)))
-      (law_at (Send to n.dead.names n.gone.names) (handed q None) (put2 o.mail m to (Some (notices_of n))) (send_law b s o m q ds me near to n.dead.names n.gone.names may saw))
+      (λ n. refl) (law_at (Send to n.dead.names n.gone.names) (handed q None) (put2 o.mail m to (Some (notices_of n))) (send_law b s o m q ds me near to n.dead.names n.gone.names may saw))
 
   -- the receiver takes what a full mailbox has
   pub fetch_keeps : (from : ℕ) → from < size b → q.hand ≡ None → get_or s.words (mail_word (size b) from m) 0 ≢ 0
@@ -217,20 +220,20 @@ module _ (b : Origin) (s : TableState) (o : ShowsLawful b s) (m : ℕ) (q : Hold
               (λ f. absurd (let t = ap (λ (p : Holding). grips p.hand (pool_place from m)) (mine r) ∙ eq-eqb (pool_place from m) (pool_place from m) refl in cc (f, t))),
               λ t. sym there.2 ∙ ap (λ (p : Holding). gripped p.hand) (sym (mine r)),
             )
-            (full_is from m true (ap is_full z.2) r (law_at (Found (loads.Mail from m (is_full (o.mail from m)))) r o.mail (look_mail_law b s o m q ds me near from m low near))),
+            (λ n. refl) (full_is from m true (ap is_full z.2) r (law_at (Found (loads.Mail from m (is_full (o.mail from m)))) r o.mail (look_mail_law b s o m q ds me near from m low near))),
         z.2 ∙ ap Some (sym there.2),
       )
 
   -- the receiver empties it
   pub receive_keeps : (from : ℕ) (dead gone : List EntryName) → from < size b → In (loads.Mail from m true) (view_by b m ds).looked → q.hand ≡ grip_at (pool_place from m) dead gone
-      → ShowsLawful b (record { words = set s.words (mail_word (size b) from m) 0; homes = set s.homes (mail_place (size b) from m) (some None); views = set s.views (suc m) (Own m (handed q None) b (Receive dead gone ∷ ds)) })
+      → ShowsLawful b (record { words = set s.words (mail_word (size b) from m) 0; homes = set s.homes (mail_place (size b) from m) (some None); views = set s.views (suc m) (Own m (handed q None) b (Receive from dead gone ∷ ds)) })
   receive_keeps from dead gone low saw hand =
       let full = o.reached.lawful.looks.full_seen m from (subst (λ (u : View). In (loads.Mail from m true) u.looked) (sym (known b s o m q ds me near)) saw) in
       let held : (pose_at s.views m).hand ≡ grip_at (pool_place from m) dead gone = ap (λ (p : Holding). p.hand) (pose_here s.views m q b ds me) ∙ hand in
       let there = box_some (get_or s.words (mail_word (size b) from m) 0) (get_elem? s.homes (mail_place (size b) from m)) (pool_place from m) (pose_at s.views from).hand (pose_at s.views m).hand (o.mail from m) (o.fits.box from m low near) full
       (ap (λ g. grips g (pool_place from m)) held ∙ eq-eqb (pool_place from m) (pool_place from m) refl) ∙ ap (λ g. Some (gripped g)) held in
-      boxed b s o m q ds me near (Receive dead gone) from m 0 (some (some None)) (set s.homes (mail_place (size b) from m) (some None)) None (handed q None) (put2 o.mail from m None) low near refl
+      boxed b s o m q ds me near (Receive from dead gone) from m 0 (some (some None)) (set s.homes (mail_place (size b) from m) (some None)) None (handed q None) (put2 o.mail from m None) low near refl
       (λ k ne. ap (λ g. grips g k) hand ∙ one_grip (pool_place from m) k dead gone ne) (λ k ne. refl) (length-set s.homes (mail_place (size b) from m) (some None)) (home_at from m (some None) low near) (λ k ne. set_else s.homes (mail_place (size b) from m) k (some None) ne)
       (put2_here o.mail from m None) (λ i j ne. put2_else o.mail from m None i j ne)
       (refl, ap (λ (p : Holding). grips p.hand (pool_place from m)) (mine (handed q None)), λ _. refl)
-      (law_at (Receive dead gone) (handed q None) (put2 o.mail from m None) (receive_law b s o m q ds me near from dead gone low saw there))
+      (λ n. refl) (law_at (Receive from dead gone) (handed q None) (put2 o.mail from m None) (receive_law b s o m q ds me near from dead gone low saw there))

@@ -1,5 +1,5 @@
 -- What the steps owe that give changes back and take them back, and those of cleaning on the own log.
-use Rattle.std.proofs.Common.{◌≡◌, ◌≢◌, ℕ, zero, suc, ◌+◌, ◌*◌, ◌<◌, ◌≤◌, Bool, true, false, eqb, cond, List, [], ◌∷◌, length, get_or, set, sym, refl, ap, ◌∙◌, subst, inl, inr, ◌⊎◌, ⊎_elim, arith, Option, Some, None, MatchOption}
+use Rattle.std.proofs.Common.{◌≡◌, ◌≢◌, ℕ, zero, suc, ◌+◌, ◌*◌, ◌%◌, ◌^◌, ◌<◌, ◌≤◌, Bool, true, false, eqb, cond, List, [], ◌∷◌, length, get_or, set, sym, refl, ap, ◌∙◌, subst, inl, inr, ◌⊎◌, ⊎_elim, arith, Option, Some, None, MatchOption}
 use mathlib.Core.Option.{some, none}
 use lib.ListN.{get_elem?}
 use Rattle.atomic_table.specs.Table.{State, Act, keeps, takes, gives, step, stepped, Allows, Valid, rest}
@@ -102,14 +102,14 @@ module _ (b : Origin) (k id m : ℕ) (q : Holding) (ds : List Deed) (c : List (�
       let there : get_elem? s.views (suc m) ≡ some (Own m q b ds) = ap (get_elem? s.views) (sym here.0) ∙ at in
       let can = withdraw_can b s o m q ds there here.1 t may in
       let e : Entry = can.0 in (
-        Own m q b (Withdraw e ∷ ds),
+        Own m q b (Withdraw t e ∷ ds),
         takes (pool_place m t) (lies e None),
         posted_home b s o m q ds there here.1 m t e here.1 may.slot can.1.posted,
-        subst (λ j. ShowsLawful b (record { words = set s.words (pool_word (size b) m t) 0; homes = set s.homes (pool_place m t) none; views = set s.views j (Own m q b (Withdraw e ∷ ds)) })) (sym here.0)
+        subst (λ j. ShowsLawful b (record { words = set s.words (pool_word (size b) m t) 0; homes = set s.homes (pool_place m t) none; views = set s.views j (Own m q b (Withdraw t e ∷ ds)) })) (sym here.0)
             (withdraw_keeps b s o m q ds there here.1 t e settled can.1),
         λ t' less is. let z : t ≡ t' = (let l = may.slot in omega arith) in (
           e,
-          (λ i. (Own m q b (Withdraw e ∷ ds), (pool_place m (z i), lies e None) ∷ c)),
+          (λ i. (Own m q b (Withdraw (z i) e ∷ ds), (pool_place m (z i), lies e None) ∷ c)),
           subst (λ j. Stands (place_of b) m (view_by b m ds) j e) z
               (stands b s o m q ds there here.1 t e (o.reached.lawful.slots.posted_named m t e can.1.posted).0 can.1.own (posted_not_out b s o m q ds there here.1 m t e can.1.posted)),
         ),
@@ -125,15 +125,15 @@ module _ (b : Origin) (k id m : ℕ) (q : Holding) (ds : List Deed) (c : List (�
             → (w : SeatData) × (a : Act (Option Parcel)) × Valid s.homes c a × ShowsLawful b (stepped s (pool_word (size b) m t) 0 id c w a) × tells_finish (step k (pool_word (size b) m t) 0 0 none) (Own m q b ds, c) 0 (w, Rattle.atomic_table.specs.Table.carried_after c a)
         give_up s o here there saw =
             let can = give_up_can b s o m q ds there here.1 t saw may.slot in let e : Entry = can.0 in (
-              Own m q b (GiveUp e ∷ ds),
+              Own m q b (GiveUp t e ∷ ds),
               takes (pool_place m t) (lies e None),
               failed_home b s o m q ds there here.1 m t e here.1 may.slot can.1.failed,
-              subst (λ j. ShowsLawful b (record { words = set s.words (pool_word (size b) m t) 0; homes = set s.homes (pool_place m t) none; views = set s.views j (Own m q b (GiveUp e ∷ ds)) })) (sym here.0)
+              subst (λ j. ShowsLawful b (record { words = set s.words (pool_word (size b) m t) 0; homes = set s.homes (pool_place m t) none; views = set s.views j (Own m q b (GiveUp t e ∷ ds)) })) (sym here.0)
                   (give_up_keeps b s o m q ds there here.1 t e settled can.1),
               λ t' less is. let z : t ≡ t' = (let l = may.slot in omega arith) in (
                 e,
                 None,
-                (λ i. (Own m q b (GiveUp e ∷ ds), (pool_place m (z i), lies e None) ∷ c)),
+                (λ i. (Own m q b (GiveUp (z i) e ∷ ds), (pool_place m (z i), lies e None) ∷ c)),
                 subst (λ j. Stands (place_of b) m (view_by b m ds) j e) z
                     (stands b s o m q ds there here.1 t e (o.reached.lawful.slots.failed_named m t e can.1.failed).0 can.1.own (failed_not_out b s o m q ds there here.1 m t e can.1.failed)),
                 subst (λ j. In (loads.Slot m j words.Failed) (view_by b m ds).looked) z saw,
@@ -146,15 +146,15 @@ module _ (b : Origin) (k id m : ℕ) (q : Holding) (ds : List Deed) (c : List (�
             → (w : SeatData) × (a : Act (Option Parcel)) × Valid s.homes c a × ShowsLawful b (stepped s (pool_word (size b) m t) 0 id c w a) × tells_finish (step k (pool_word (size b) m t) 0 0 none) (Own m q b ds, c) 0 (w, Rattle.atomic_table.specs.Table.carried_after c a)
         finish s o here there h saw =
             let can = finish_can b s o m q ds there here.1 t h saw may.slot in let e : Entry = can.0 in (
-              Own m q b (Finish e h ∷ ds),
+              Own m q b (Finish t e h ∷ ds),
               takes (pool_place m t) (lies e (Some h)),
               done_home b s o m q ds there here.1 m t h e here.1 may.slot can.1.done,
-              subst (λ j. ShowsLawful b (record { words = set s.words (pool_word (size b) m t) 0; homes = set s.homes (pool_place m t) none; views = set s.views j (Own m q b (Finish e h ∷ ds)) })) (sym here.0)
+              subst (λ j. ShowsLawful b (record { words = set s.words (pool_word (size b) m t) 0; homes = set s.homes (pool_place m t) none; views = set s.views j (Own m q b (Finish t e h ∷ ds)) })) (sym here.0)
                   (finish_keeps b s o m q ds there here.1 t h e settled can.1),
               λ t' less is. let z : t ≡ t' = (let l = may.slot in omega arith) in (
                 e,
                 Some h,
-                (λ i. (Own m q b (Finish e h ∷ ds), (pool_place m (z i), lies e (Some h)) ∷ c)),
+                (λ i. (Own m q b (Finish (z i) e h ∷ ds), (pool_place m (z i), lies e (Some h)) ∷ c)),
                 subst (λ j. Stands (place_of b) m (view_by b m ds) j e) z
                     (stands b s o m q ds there here.1 t e (o.reached.lawful.slots.done_named m t h e can.1.done).0 can.1.own (done_not_out b s o m q ds there here.1 m t e h can.1.done)),
                 subst (λ j. In (loads.Slot m j (words.Done h)) (view_by b m ds).looked) z saw,
@@ -163,23 +163,23 @@ module _ (b : Origin) (k id m : ℕ) (q : Holding) (ds : List Deed) (c : List (�
               ),
             )
 
-  doom_allowed : (ns : List EntryName) (g : ℕ → ℕ) → MayDoom (place_of b) m (view_by b m ds) ns → Allows (ShowsLawful b) k id (Own m q b ds, c) (own_word m) g (tells_doom ns (step k (own_word m) 1 0 none) (Own m q b ds, c))
-  doom_allowed ns g may s o many at fits64 = let here = place b o.holder o.slot o.mail s o.fits id m q ds at in (
+  doom_allowed : (ns : List EntryName) (g : ℕ → ℕ) → ((y : ℕ) → g y ≡ (y + 1) % 2 ^ 64) → MayDoom (place_of b) m (view_by b m ds) ns → Allows (ShowsLawful b) k id (Own m q b ds, c) (own_word m) g (tells_doom ns (step k (own_word m) 1 0 none) (Own m q b ds, c))
+  doom_allowed ns g up may s o many at fits64 = let here = place b o.holder o.slot o.mail s o.fits id m q ds at in (
     Own m q b (Doom ns ∷ ds),
     keeps,
     tt,
     subst (λ j. ShowsLawful b (record { words = set s.words (own_word m) (g (get_or s.words (own_word m) 0)); homes = s.homes; views = set s.views j (Own m q b (Doom ns ∷ ds)) })) (sym here.0)
-        (doom_keeps b s o m q ds (ap (get_elem? s.views) (sym here.0) ∙ at) here.1 (g (get_or s.words (own_word m) 0)) ns may),
+        (doom_keeps b s o m q ds (ap (get_elem? s.views) (sym here.0) ∙ at) here.1 (g (get_or s.words (own_word m) 0)) ns (up (get_or s.words (own_word m) 0)) may),
     refl,
   )
 
-  retire_allowed : (ns : List EntryName) (g : ℕ → ℕ) → MayRetire (place_of b) m (view_by b m ds) ns → Allows (ShowsLawful b) k id (Own m q b ds, c) (own_word m) g (tells_retire ns (step k (own_word m) 1 0 none) (Own m q b ds, c))
-  retire_allowed ns g may s o many at fits64 = let here = place b o.holder o.slot o.mail s o.fits id m q ds at in (
+  retire_allowed : (ns : List EntryName) (g : ℕ → ℕ) → ((y : ℕ) → g y ≡ (y + 1) % 2 ^ 64) → MayRetire (place_of b) m (view_by b m ds) ns → Allows (ShowsLawful b) k id (Own m q b ds, c) (own_word m) g (tells_retire ns (step k (own_word m) 1 0 none) (Own m q b ds, c))
+  retire_allowed ns g up may s o many at fits64 = let here = place b o.holder o.slot o.mail s o.fits id m q ds at in (
     Own m q b (Retire ns ∷ ds),
     keeps,
     tt,
     subst (λ j. ShowsLawful b (record { words = set s.words (own_word m) (g (get_or s.words (own_word m) 0)); homes = s.homes; views = set s.views j (Own m q b (Retire ns ∷ ds)) })) (sym here.0)
-        (retire_keeps b s o m q ds (ap (get_elem? s.views) (sym here.0) ∙ at) here.1 (g (get_or s.words (own_word m) 0)) ns may),
+        (retire_keeps b s o m q ds (ap (get_elem? s.views) (sym here.0) ∙ at) here.1 (g (get_or s.words (own_word m) 0)) ns (up (get_or s.words (own_word m) 0)) may),
     (
       refl,
       tidied_view (names_by (names_of b) ds) (place_of b) m (after_retire (place_of b) m ns (view_by b m ds))
@@ -217,12 +217,12 @@ module _ (key : Origin) (k id : ℕ) (me : SeatState) (mine : is_own me.0 ≡ tr
       (λ m q b ds at settled may. at_own_origin key b k id m q ds me.1 i (λ _. 0) (λ _. tells_finish (step k i 0 0 none) (Own m q b ds, me.1) 0)
       (subst (λ j. Allows (ShowsLawful b) k id (Own m q b ds, me.1) j (λ _. 0) (λ _. tells_finish (step k j 0 0 none) (Own m q b ds, me.1) 0)) (sym at) (finish_allowed b k id m q ds me.1 t settled may))) me.0 mine at settled may
 
-  pub doom_owes : (i : ℕ) (ns : List EntryName) (g : ℕ → ℕ) → i ≡ own_word (number_in me.0) → MayDoom (place_of (origin_in me.0)) (number_in me.0) (view_in me.0) ns → Allows (ShowsLawful key) k id me i g (tells_doom ns (step k i 1 0 none) me)
-  doom_owes i ns g at may = by_own (λ d. i ≡ own_word (number_in d) → MayDoom (place_of (origin_in d)) (number_in d) (view_in d) ns → Allows (ShowsLawful key) k id (d, me.1) i g (tells_doom ns (step k i 1 0 none) (d, me.1)))
+  pub doom_owes : (i : ℕ) (ns : List EntryName) (g : ℕ → ℕ) → ((y : ℕ) → g y ≡ (y + 1) % 2 ^ 64) → i ≡ own_word (number_in me.0) → MayDoom (place_of (origin_in me.0)) (number_in me.0) (view_in me.0) ns → Allows (ShowsLawful key) k id me i g (tells_doom ns (step k i 1 0 none) me)
+  doom_owes i ns g up at may = by_own (λ d. i ≡ own_word (number_in d) → MayDoom (place_of (origin_in d)) (number_in d) (view_in d) ns → Allows (ShowsLawful key) k id (d, me.1) i g (tells_doom ns (step k i 1 0 none) (d, me.1)))
       (λ m q b ds at may. at_own_origin key b k id m q ds me.1 i g (tells_doom ns (step k i 1 0 none) (Own m q b ds, me.1))
-      (subst (λ j. Allows (ShowsLawful b) k id (Own m q b ds, me.1) j g (tells_doom ns (step k j 1 0 none) (Own m q b ds, me.1))) (sym at) (doom_allowed b k id m q ds me.1 ns g may))) me.0 mine at may
+      (subst (λ j. Allows (ShowsLawful b) k id (Own m q b ds, me.1) j g (tells_doom ns (step k j 1 0 none) (Own m q b ds, me.1))) (sym at) (doom_allowed b k id m q ds me.1 ns g up may))) me.0 mine at may
 
-  pub retire_owes : (i : ℕ) (ns : List EntryName) (g : ℕ → ℕ) → i ≡ own_word (number_in me.0) → MayRetire (place_of (origin_in me.0)) (number_in me.0) (view_in me.0) ns → Allows (ShowsLawful key) k id me i g (tells_retire ns (step k i 1 0 none) me)
-  retire_owes i ns g at may = by_own (λ d. i ≡ own_word (number_in d) → MayRetire (place_of (origin_in d)) (number_in d) (view_in d) ns → Allows (ShowsLawful key) k id (d, me.1) i g (tells_retire ns (step k i 1 0 none) (d, me.1)))
+  pub retire_owes : (i : ℕ) (ns : List EntryName) (g : ℕ → ℕ) → ((y : ℕ) → g y ≡ (y + 1) % 2 ^ 64) → i ≡ own_word (number_in me.0) → MayRetire (place_of (origin_in me.0)) (number_in me.0) (view_in me.0) ns → Allows (ShowsLawful key) k id me i g (tells_retire ns (step k i 1 0 none) me)
+  retire_owes i ns g up at may = by_own (λ d. i ≡ own_word (number_in d) → MayRetire (place_of (origin_in d)) (number_in d) (view_in d) ns → Allows (ShowsLawful key) k id (d, me.1) i g (tells_retire ns (step k i 1 0 none) (d, me.1)))
       (λ m q b ds at may. at_own_origin key b k id m q ds me.1 i g (tells_retire ns (step k i 1 0 none) (Own m q b ds, me.1))
-      (subst (λ j. Allows (ShowsLawful b) k id (Own m q b ds, me.1) j g (tells_retire ns (step k j 1 0 none) (Own m q b ds, me.1))) (sym at) (retire_allowed b k id m q ds me.1 ns g may))) me.0 mine at may
+      (subst (λ j. Allows (ShowsLawful b) k id (Own m q b ds, me.1) j g (tells_retire ns (step k j 1 0 none) (Own m q b ds, me.1))) (sym at) (retire_allowed b k id m q ds me.1 ns g up may))) me.0 mine at may

@@ -1,5 +1,5 @@
 -- What the step of each call owes, for a seat as a call has it.
-use Rattle.std.proofs.Common.{◌≡◌, ◌≢◌, ℕ, zero, suc, ◌+◌, ◌*◌, ◌<◌, ◌≤◌, Bool, true, false, eqb, List, ◌∷◌, length, get_or, set, sym, refl, ap, ◌∙◌, subst, ⊎_elim, arith, Option, Some, None}
+use Rattle.std.proofs.Common.{◌≡◌, ◌≢◌, ℕ, zero, suc, ◌+◌, ◌*◌, ◌%◌, ◌^◌, ◌<◌, ◌≤◌, Bool, true, false, eqb, List, ◌∷◌, length, get_or, set, sym, refl, ap, ◌∙◌, subst, ⊎_elim, arith, Option, Some, None}
 use mathlib.Core.Option.{some, none, some-injective, some-ne-none}
 use mathlib.Core.Option as maybe
 use lib.ListN.{get_elem?}
@@ -70,13 +70,13 @@ module _ (b : Origin) (k id m : ℕ) (q : Holding) (ds : List Deed) (c : List (�
   abbrev me : SeatState
   me = (Own m q b ds, c)
 
-  commit_allowed : (g : ℕ → ℕ) → MayCommit (place_of b) m (view_by b m ds) → Allows (ShowsLawful b) k id (Own m q b ds, c) (own_word m) g (tells_commit (step k (own_word m) 1 0 none) (Own m q b ds, c))
-  commit_allowed g may s o many at fits64 = let here = place b o.holder o.slot o.mail s o.fits id m q ds at in (
-    Own m q b (Commit ∷ ds),
+  commit_allowed : (at : ℕ) (g : ℕ → ℕ) → ((y : ℕ) → g y ≡ (y + 1) % 2 ^ 64) → MayCommit (place_of b) m (view_by b m ds) → Allows (ShowsLawful b) k id (Own m q b ds, c) (own_word m) g (tells_commit at (step k (own_word m) 1 0 none) (Own m q b ds, c))
+  commit_allowed at g up may s o many there fits64 = let here = place b o.holder o.slot o.mail s o.fits id m q ds there in (
+    Own m q b (Commit at ∷ ds),
     keeps,
     tt,
-    subst (λ j. ShowsLawful b (record { words = set s.words (own_word m) (g (get_or s.words (own_word m) 0)); homes = s.homes; views = set s.views j (Own m q b (Commit ∷ ds)) })) (sym here.0)
-        (commit_keeps b s o m q ds (ap (get_elem? s.views) (sym here.0) ∙ at) here.1 (g (get_or s.words (own_word m) 0)) may),
+    subst (λ j. ShowsLawful b (record { words = set s.words (own_word m) (g (get_or s.words (own_word m) 0)); homes = s.homes; views = set s.views j (Own m q b (Commit at ∷ ds)) })) (sym here.0)
+        (commit_keeps b s o m q ds (ap (get_elem? s.views) (sym here.0) ∙ there) here.1 at (g (get_or s.words (own_word m) 0)) (up (get_or s.words (own_word m) 0)) may),
     refl,
   )
 
@@ -208,10 +208,10 @@ module _ (key : Origin) (k id : ℕ) (me : SeatState) (mine : is_own me.0 ≡ tr
   abbrev Owes : ℕ → (ℕ → ℕ) → (ℕ → SeatState → Type 0) → Type 0
   Owes i f then = Allows (ShowsLawful key) k id me i f then
 
-  pub commit_owes : (i : ℕ) (g : ℕ → ℕ) → i ≡ own_word (number_in me.0) → MayCommit (place_of (origin_in me.0)) (number_in me.0) (view_in me.0) → Allows (ShowsLawful key) k id me i g (tells_commit (step k i 1 0 none) me)
-  commit_owes i g at may = by_own (λ d. i ≡ own_word (number_in d) → MayCommit (place_of (origin_in d)) (number_in d) (view_in d) → Allows (ShowsLawful key) k id (d, me.1) i g (tells_commit (step k i 1 0 none) (d, me.1)))
-      (λ m q b ds at may. at_own_origin key b k id m q ds me.1 i g (tells_commit (step k i 1 0 none) (Own m q b ds, me.1))
-      (subst (λ j. Allows (ShowsLawful b) k id (Own m q b ds, me.1) j g (tells_commit (step k j 1 0 none) (Own m q b ds, me.1))) (sym at) (commit_allowed b k id m q ds me.1 g may))) me.0 mine at may
+  pub commit_owes : (i stamp : ℕ) (g : ℕ → ℕ) → ((y : ℕ) → g y ≡ (y + 1) % 2 ^ 64) → i ≡ own_word (number_in me.0) → MayCommit (place_of (origin_in me.0)) (number_in me.0) (view_in me.0) → Allows (ShowsLawful key) k id me i g (tells_commit stamp (step k i 1 0 none) me)
+  commit_owes i stamp g up at may = by_own (λ d. i ≡ own_word (number_in d) → MayCommit (place_of (origin_in d)) (number_in d) (view_in d) → Allows (ShowsLawful key) k id (d, me.1) i g (tells_commit stamp (step k i 1 0 none) (d, me.1)))
+      (λ m q b ds at may. at_own_origin key b k id m q ds me.1 i g (tells_commit stamp (step k i 1 0 none) (Own m q b ds, me.1))
+      (subst (λ j. Allows (ShowsLawful b) k id (Own m q b ds, me.1) j g (tells_commit stamp (step k j 1 0 none) (Own m q b ds, me.1))) (sym at) (commit_allowed b k id m q ds me.1 stamp g up may))) me.0 mine at may
 
   pub unlock_owes : MayUnlock (place_of (origin_in me.0)) (number_in me.0) (view_in me.0) → Allows (ShowsLawful key) k id me 0 (λ _. 0) (λ _. tells_unlock (step k 0 0 0 none) me 0)
   unlock_owes may = by_own (λ d. MayUnlock (place_of (origin_in d)) (number_in d) (view_in d) → Allows (ShowsLawful key) k id (d, me.1) 0 (λ _. 0) (λ _. tells_unlock (step k 0 0 0 none) (d, me.1) 0))

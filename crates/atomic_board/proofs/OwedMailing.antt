@@ -105,17 +105,19 @@ module _ (b : Origin) (k id m : ℕ) (q : Holding) (ds : List Deed) (c : List (�
       let here = place b o.holder o.slot o.mail s o.fits id m q ds at in
       let there : get_elem? s.views (suc m) ≡ some (Own m q b ds) = ap (get_elem? s.views) (sym here.0) ∙ at in
       let dead = (gripped q.hand).dead in let gone = (gripped q.hand).gone in (
-        Own m (handed q None) b (Receive dead gone ∷ ds),
+        Own m (handed q None) b (Receive from dead gone ∷ ds),
         gives,
         tt,
-        subst (λ j. ShowsLawful b (record { words = set s.words (mail_word (size b) from m) 0; homes = set s.homes (mail_place (size b) from m) (some None); views = set s.views j (Own m (handed q None) b (Receive dead gone ∷ ds)) })) (sym here.0)
+        subst (λ j. ShowsLawful b (record { words = set s.words (mail_word (size b) from m) 0; homes = set s.homes (mail_place (size b) from m) (some None); views = set s.views j (Own m (handed q None) b (Receive from dead gone ∷ ds)) })) (sym here.0)
             (receive_keeps b s o m q ds there here.1 from dead gone low saw hand),
-        (
-          refl,
+        λ from' is. (
+          (let z : from ≡ from' = one_sender from from' here.1 is in λ i. (Own m (handed q None) b (Receive (z i) dead gone ∷ ds), c)),
           tidied_view (names_by (names_of b) ds) (place_of b) m (after_receive (place_of b) m (gripped q.hand) (view_by b m ds))
               (covers_less (alike (place_of b) (view_by b m ds)) (names_by (names_of b) ds) (covers_by b o.fits.begun m ds) (λ j n. eqb (owner (place_of b) j) m && has gone j n)),
         ),
-      )
+      ) where
+        one_sender : (i j : ℕ) → m < size b → mail_word (size b) i m ≡ mail_word (size b) j m → i ≡ j
+        one_sender i j near e = dite (ℕ_discrete i j) (λ same. same) (λ ne. absurd (mail_apart2 (size b) i m j m near near (inl ne) e))
 
 module _ (key : Origin) (k id : ℕ) (me : SeatState) (mine : is_own me.0 ≡ true) where
   pub try_send_owes : (i to : ℕ) → i ≡ mail_word (size (origin_in me.0)) (number_in me.0) to → to < size (origin_in me.0) → to ≢ number_in me.0 → is_handless me.0 ≡ true → Allows (ShowsLawful key) k id me i (λ y. y) (tells_try_send (step k i 0 0 none) me)

@@ -1,4 +1,5 @@
 -- The rule as a board begins and ends: the opening, the split of a member's seat from the store, the load by which it takes its slots out, the one by which it gives all back, and the join.
+use Rattle.atomic_board.proofs.Reaches.{reached_by}
 use Rattle.std.proofs.Common.{◌≡◌, ◌≢◌, ℕ, zero, suc, ◌+◌, ◌*◌, ◌<◌, ◌≤◌, Bool, true, false, eqb, cond, List, [], ◌∷◌, ◌++◌, map, replicate, length, get_or, set, sym, refl, ap, ◌∙◌, subst, inl, inr, ◌⊎◌, ⊎_elim, arith, length-set, length-append, lt_of_not-le, Option, None}
 use mathlib.Core.Option.{some, none, some-injective, some-ne-none}
 use mathlib.Core.Option as maybe
@@ -26,11 +27,11 @@ use Rattle.atomic_board.specs.declared.seat_data.Holding.{Holding}
 use Rattle.atomic_board.specs.declared.seat_data.Deed.{Deed}
 use Rattle.atomic_board.specs.declared.seat_data.SeatData.{SeatData}
 use Rattle.atomic_board.specs.declared.seat_data.SeatData.TheVariants.{Store, Own, Spent}
-use Rattle.atomic_board.specs.TableWords.{pool_word, pool_place, mail_word, mail_place, word_count}
-use Rattle.atomic_board.specs.Deeds.{group_of, names_of, began, place_of, size, view_by}
+use Rattle.atomic_board.specs.TableWords.{own_word, pool_word, pool_place, mail_word, mail_place, word_count}
+use Rattle.atomic_board.specs.Deeds.{group_of, names_of, began, place_of, size, view_by, own_number}
 use Rattle.atomic_board.specs.ShownState.{TableState, Home, is_back, deeds_in, own_or, deeds_at, views_of, pose_or, pose_at, IsHome, IsSlot, IsBox, IsReached, ShowsLawful}
 use Rattle.atomic_board.specs.StepTells.{row_out}
-use Rattle.atomic_board.proofs.SeatPlaces.{put_at, pose_here, views_same, pose_turned, store_own, store_spent}
+use Rattle.atomic_board.proofs.SeatPlaces.{put_at, pose_here, deeds_same, views_same, pose_turned, store_own, store_spent}
 use Rattle.atomic_board.proofs.RuleKept.{fits_after, own_empty}
 
 -- a group is what its members' views show
@@ -86,6 +87,10 @@ many_home : (k : ℕ) → length (map some (replicate k nothing)) ≡ k
 many_home zero = refl
 many_home (suc k) = ap suc (many_home k)
 
+none_before : (late : List (ℕ × Deed)) (x : ℕ × Deed) (early : List (ℕ × Deed)) → [] ≡ late ++ x ∷ early → ⊥
+none_before [] x early e = cc e
+none_before (y ∷ late) x early e = cc e
+
 pub opens : (b : Origin) (ws : List ℕ) → size b ≤ 8 → length ws ≡ word_count (size b) → ((i : ℕ) → get_or ws i 0 ≡ 0) → Covers (names_of b) (began b) → Lawful (began b) → ShowsLawful b (opening ws (replicate (16 * size b) None) (Store 0 b []))
 opens b ws few wide zeros begun law =
     record {
@@ -110,8 +115,9 @@ opens b ws few wide zeros begun law =
         outside = λ a t out. refl;
         box = λ a c h l. (zeros (mail_word (size b) a c), refl, λ _. all_home (16 * size b) (mail_place (size b) a c) (omega arith));
         no_box = λ a c out. refl;
+        count = λ m h. zeros (own_word m);
       };
-      reached = subst (IsReached b) (sym (opened_shows b)) (record { lawful = law; steps = []; runs = refl });
+      reached = subst (IsReached b _) (sym (opened_shows b)) (record { lawful = law; order = []; runs = refl; made = λ m. refl; cuts = λ late x early e. absurd (none_before late x early e) });
     }
 
 at_append : (ds : List SeatData) (o : SeatData) (m : ℕ) → (get_elem? (ds ++ o ∷ []) m ≡ get_elem? ds m) ⊎ ((m ≡ length ds) × (get_elem? (ds ++ o ∷ []) m ≡ some o) × (get_elem? ds m ≡ none))
@@ -181,8 +187,9 @@ module _ (k : ℕ) (b : Origin) (back : List (ℕ × List Deed)) (ds : List Seat
       box = λ a c h l. subst (λ (y : Holding). IsBox (get_or ws (mail_word (size b) a c) 0) (get_elem? hs (mail_place (size b) a c)) (pool_place a c) y.hand (pose_at (Store (suc k) b back ∷ (ds ++ fresh k b back ∷ [])) c).hand (o.mail a c)) (sym (split_pose a))
           (subst (λ (y : Holding). IsBox (get_or ws (mail_word (size b) a c) 0) (get_elem? hs (mail_place (size b) a c)) (pool_place a c) (pose_at (Store k b back ∷ ds) a).hand y.hand (o.mail a c)) (sym (split_pose c)) (o.fits.box a c h l));
       no_box = o.fits.no_box;
+      count = λ m h. o.fits.count m h ∙ ap own_number (sym (split_deeds long m));
     };
-    reached = subst (IsReached b) (λ i. group_of (place_of b) o.holder o.slot o.mail (λ m. ap (view_by b m) (sym (split_deeds long m)) i)) o.reached;
+    reached = reached_by b _ _ _ _ (λ m. sym (split_deeds long m)) (λ i. group_of (place_of b) o.holder o.slot o.mail (λ m. ap (view_by b m) (sym (split_deeds long m)) i)) o.reached;
   }
 
 split_at : (k : ℕ) (b : Origin) (back : List (ℕ × List Deed)) (ws : List ℕ) (hs : List (maybe.Option (Option Parcel))) (l : List SeatData) → k < size b → ShowsLawful b (record { words = ws; homes = hs; views = l }) → get_elem? l 0 ≡ some (Store k b back)
@@ -215,8 +222,9 @@ module _ (b : Origin) (s : TableState) (o : ShowsLawful b s) (m : ℕ) (q r : Ho
             (λ a c h l. subst (λ x. IsBox x (get_elem? hs (mail_place (size b) a c)) (pool_place a c) (pose_at (set s.views (suc m) (Own m r b ds)) a).hand (pose_at (set s.views (suc m) (Own m r b ds)) c).hand (o.mail a c)) (sym (same (mail_word (size b) a c)))
             (subst (λ x. IsBox (get_or s.words (mail_word (size b) a c) 0) x (pool_place a c) (pose_at (set s.views (suc m) (Own m r b ds)) a).hand (pose_at (set s.views (suc m) (Own m r b ds)) c).hand (o.mail a c)) (sym (boxes a c h l))
             (subst (λ x. IsBox (get_or s.words (mail_word (size b) a c) 0) (get_elem? s.homes (mail_place (size b) a c)) (pool_place a c) x (pose_at (set s.views (suc m) (Own m r b ds)) c).hand (o.mail a c)) (sym (hands a))
-            (subst (λ x. IsBox (get_or s.words (mail_word (size b) a c) 0) (get_elem? s.homes (mail_place (size b) a c)) (pool_place a c) (pose_at s.views a).hand x (o.mail a c)) (sym (hands c)) (o.fits.box a c h l))))) o.fits.no_box;
-        reached = subst (IsReached b) (λ j. group_of (place_of b) o.holder o.slot o.mail (λ k. sym (views_same s.views m q r b ds me k) j)) o.reached;
+            (subst (λ x. IsBox (get_or s.words (mail_word (size b) a c) 0) (get_elem? s.homes (mail_place (size b) a c)) (pool_place a c) (pose_at s.views a).hand x (o.mail a c)) (sym (hands c)) (o.fits.box a c h l))))) o.fits.no_box
+            (λ j l. same (own_word j) ∙ (o.fits.count j l ∙ ap own_number (sym (deeds_same s.views m q r b ds me j))));
+        reached = reached_by b _ _ _ _ (λ k. sym (deeds_same s.views m q r b ds me k)) (λ j. group_of (place_of b) o.holder o.slot o.mail (λ k. sym (views_same s.views m q r b ds me k) j)) o.reached;
       } where
         hands : (a : ℕ) → (pose_at (set s.views (suc m) (Own m r b ds)) a).hand ≡ (pose_at s.views a).hand
         hands a = ap (λ (x : Holding). x.hand) (pose_turned s.views m q r b ds me a) ∙ put_at (pose_at s.views) m r (λ j (y : Holding). y.hand ≡ (pose_at s.views j).hand) (grip ∙ sym (ap (λ (x : Holding). x.hand) (pose_here s.views m q b ds me))) (λ j ne. refl) a

@@ -192,16 +192,16 @@ in_doubt : (e z : Entry) (u : ℕ) → doubted e ≡ out_at z u → ⊥
 in_doubt e z u is = let r : None ≡ Some u = ap slot_in is in cc r
 
 -- what these deeds do to the changes that are pending
-pub over_pends : (x : SeatData) (e : Entry) (home : Option ℕ) → is_own x ≡ true → (y : Option Pending) × ((z : Entry) (u : ℕ) → y ≡ out_at z u → ⊥) × ((view_in (did (over e home) x)).pending ≡ put (view_in x).pending e.key y) × ((view_in (did (over e home) x)).taken ≡ (view_in x).taken)
-over_pends (Store k b l) e home mine = absurd (cc mine)
-over_pends (Own m q b ds) e None mine = (Some (record { entry = e; slot = None }), (λ z u is. in_doubt e z u is), refl, refl)
-over_pends (Own m q b ds) e (Some h) mine = (None, (λ z u is. cc is), refl, refl)
-over_pends Spent e home mine = absurd (cc mine)
+pub over_pends : (x : SeatData) (t : ℕ) (e : Entry) (home : Option ℕ) → is_own x ≡ true → (y : Option Pending) × ((z : Entry) (u : ℕ) → y ≡ out_at z u → ⊥) × ((view_in (did (over t e home) x)).pending ≡ put (view_in x).pending e.key y) × ((view_in (did (over t e home) x)).taken ≡ (view_in x).taken)
+over_pends (Store k b l) t e home mine = absurd (cc mine)
+over_pends (Own m q b ds) t e None mine = (Some (record { entry = e; slot = None }), (λ z u is. in_doubt e z u is), refl, refl)
+over_pends (Own m q b ds) t e (Some h) mine = (None, (λ z u is. cc is), refl, refl)
+over_pends Spent t e home mine = absurd (cc mine)
 
-pub withdraw_pends : (x : SeatData) (e : Entry) → is_own x ≡ true → (y : Option Pending) × ((z : Entry) (u : ℕ) → y ≡ out_at z u → ⊥) × ((view_in (did (Withdraw e) x)).pending ≡ put (view_in x).pending e.key y) × ((view_in (did (Withdraw e) x)).taken ≡ (view_in x).taken)
-withdraw_pends (Store k b l) e mine = absurd (cc mine)
-withdraw_pends (Own m q b ds) e mine = (None, (λ z u is. cc is), refl, refl)
-withdraw_pends Spent e mine = absurd (cc mine)
+pub withdraw_pends : (x : SeatData) (t : ℕ) (e : Entry) → is_own x ≡ true → (y : Option Pending) × ((z : Entry) (u : ℕ) → y ≡ out_at z u → ⊥) × ((view_in (did (Withdraw t e) x)).pending ≡ put (view_in x).pending e.key y) × ((view_in (did (Withdraw t e) x)).taken ≡ (view_in x).taken)
+withdraw_pends (Store k b l) t e mine = absurd (cc mine)
+withdraw_pends (Own m q b ds) t e mine = (None, (λ z u is. cc is), refl, refl)
+withdraw_pends Spent t e mine = absurd (cc mine)
 
 -- a seat whose names vanished from the own log
 pub after_retiring : (ns : List EntryName) (me new : SeatState) (m n : ℕ) (held : List ℕ) → IsSeat me.0 m n → (numbers me.1 ≡ held) × (all_empty me.1 ≡ true) → Holds (place_of (origin_in me.0)) m n (view_in me.0).pending (view_in me.0).taken held → new ≡ (did (Retire ns) me.0, me.1) → Steady me.0 new m n held
@@ -238,7 +238,7 @@ sent_view to n g x (Store k b l) e = absurd (cc e)
 sent_view to n g x (Own m q b ds) e = refl
 sent_view to n g x Spent e = absurd (cc e)
 
-pub got_still : (dead gone : List EntryName) (g : Option MailHold) (x : Seen) (d : SeatData) → is_own d ≡ true → ((view_in (gripping None (did (Receive dead gone) (gripping g (did (Found x) d))))).pending ≡ (view_in d).pending) × ((view_in (gripping None (did (Receive dead gone) (gripping g (did (Found x) d))))).taken ≡ (view_in d).taken)
-got_still dead gone g x (Store k b l) e = absurd (cc e)
-got_still dead gone g x (Own m q b ds) e = (refl, refl)
-got_still dead gone g x Spent e = absurd (cc e)
+pub got_still : (from : ℕ) (dead gone : List EntryName) (g : Option MailHold) (x : Seen) (d : SeatData) → is_own d ≡ true → ((view_in (gripping None (did (Receive from dead gone) (gripping g (did (Found x) d))))).pending ≡ (view_in d).pending) × ((view_in (gripping None (did (Receive from dead gone) (gripping g (did (Found x) d))))).taken ≡ (view_in d).taken)
+got_still from dead gone g x (Store k b l) e = absurd (cc e)
+got_still from dead gone g x (Own m q b ds) e = (refl, refl)
+got_still from dead gone g x Spent e = absurd (cc e)

@@ -8,6 +8,7 @@ use Rattle.atomic_table.proofs.Lists.{set_here, set_else}
 use Rattle.group_laws.specs.declared.types.Slot.{Slot}
 use Rattle.group_laws.specs.State.{Notices}
 use Rattle.group_laws.specs.Updates.{put, put2, change}
+use Rattle.atomic_board.proofs.Reaches.{more}
 use Rattle.group_laws.specs.MemberViews.{View}
 use Rattle.atomic_board.specs.declared.seat_data.Origin.{Origin}
 use Rattle.atomic_board.specs.declared.seat_data.Holding.{Holding}
@@ -121,13 +122,21 @@ module _ (ds : List SeatData) (m : ℕ) (q r : Holding) (b : Origin) (d : Deed) 
         (ap (view_by b m) (put_here (deeds_at ds) m (d ∷ es)) ∙ (ap f (ap (view_by b m) (sym (deeds_here ds m q b es me))) ∙ sym (ap (λ t. cond t (f (views_of b ds m)) (views_of b ds m)) (eq-eqb m m refl)))))
         (λ ne. ap (view_by b k) (put_else (deeds_at ds) m (d ∷ es) k ne) ∙ sym (ap (λ t. cond t (f (views_of b ds k)) (views_of b ds k)) (ne_eqb k m ne)))
 
+  pub deeds_moved : (k : ℕ) → deeds_at (set ds (suc m) (Own m r b (d ∷ es))) k ≡ more (deeds_at ds) m d k
+  deeds_moved k = deeds_set ds m r b (d ∷ es) (at_lt ds (suc m) (Own m q b es) me) k ∙ put_at (deeds_at ds) m (d ∷ es) (λ j y. y ≡ more (deeds_at ds) m d j)
+      (ap (λ l. d ∷ l) (sym (deeds_here ds m q b es me)) ∙ sym (ap (λ t. cond t (d ∷ deeds_at ds m) (deeds_at ds m)) (eq-eqb m m refl)))
+      (λ j ne. sym (ap (λ t. cond t (d ∷ deeds_at ds j) (deeds_at ds j)) (ne_eqb j m ne))) k
+
   pub pose_moved : (k : ℕ) → pose_at (set ds (suc m) (Own m r b (d ∷ es))) k ≡ put (pose_at ds) m r k
   pose_moved = pose_set ds m r b (d ∷ es) (at_lt ds (suc m) (Own m q b es) me)
 
 -- once it has another holding alone
 module _ (ds : List SeatData) (m : ℕ) (q r : Holding) (b : Origin) (es : List Deed) (me : get_elem? ds (suc m) ≡ some (Own m q b es)) where
+  pub deeds_same : (k : ℕ) → deeds_at (set ds (suc m) (Own m r b es)) k ≡ deeds_at ds k
+  deeds_same k = deeds_set ds m r b es (at_lt ds (suc m) (Own m q b es) me) k ∙ put_at (deeds_at ds) m es (λ j y. y ≡ deeds_at ds j) (sym (deeds_here ds m q b es me)) (λ j ne. refl) k
+
   pub views_same : (k : ℕ) → views_of b (set ds (suc m) (Own m r b es)) k ≡ views_of b ds k
-  views_same k = ap (view_by b k) (deeds_set ds m r b es (at_lt ds (suc m) (Own m q b es) me) k ∙ put_at (deeds_at ds) m es (λ j y. y ≡ deeds_at ds j) (sym (deeds_here ds m q b es me)) (λ j ne. refl) k)
+  views_same k = ap (view_by b k) (deeds_same k)
 
   pub pose_turned : (k : ℕ) → pose_at (set ds (suc m) (Own m r b es)) k ≡ put (pose_at ds) m r k
   pose_turned = pose_set ds m r b es (at_lt ds (suc m) (Own m q b es) me)

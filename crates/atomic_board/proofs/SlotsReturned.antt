@@ -1,4 +1,5 @@
 -- A member's seat gives its slots back, and is joined with the store.
+use Rattle.atomic_board.proofs.Reaches.{reached_by}
 use Rattle.std.proofs.Common.{◌≡◌, ◌≢◌, ℕ, zero, suc, ◌*◌, ◌<◌, ◌≤◌, Bool, true, false, cond, ◌||◌, List, [], ◌∷◌, length, get_or, set, sym, refl, ap, ap₂, ◌∙◌, subst, inl, inr, ◌⊎◌, ⊎_elim, arith, length-set, eq-eqb, ne_eqb, Option, Some, None}
 use mathlib.Core.Option.{some, none, some-injective, some-ne-none}
 use mathlib.Core.Option as maybe
@@ -22,7 +23,7 @@ use Rattle.atomic_board.specs.declared.seat_data.Deed.{Deed}
 use Rattle.atomic_board.specs.declared.seat_data.SeatData.{SeatData}
 use Rattle.atomic_board.specs.declared.seat_data.SeatData.TheVariants.{Store, Own, Spent}
 use Rattle.atomic_board.specs.TableWords.{pool_word, pool_place, mail_word, mail_place}
-use Rattle.atomic_board.specs.Deeds.{group_of, place_of, size, view_by}
+use Rattle.atomic_board.specs.Deeds.{group_of, place_of, size, view_by, own_number}
 use Rattle.atomic_board.specs.ShownState.{TableState, Home, is_back, deeds_in, own_or, deeds_at, views_of, pose_or, pose_at, IsHome, IsSlot, IsBox, IsReached, ShowsLawful}
 use Rattle.atomic_board.specs.SlotsOut.{has, empties}
 use Rattle.atomic_board.specs.StepTells.{IsNamed, IsNotOut}
@@ -166,8 +167,9 @@ module _ (b : Origin) (k m : ℕ) (q : Holding) (ds : List Deed) (back : List (�
       box = λ a c h less. subst (λ (y : Option MailHold). IsBox (get_or ws (mail_word (size b) a c) 0) (get_elem? hs (mail_place (size b) a c)) (pool_place a c) y (pose_at (Store k b ((m, ds) ∷ back) ∷ set l m Spent) c).hand (o.mail a c)) (sym (join_hand a))
           (subst (λ (y : Option MailHold). IsBox (get_or ws (mail_word (size b) a c) 0) (get_elem? hs (mail_place (size b) a c)) (pool_place a c) (pose_at (Store k b back ∷ l) a).hand y (o.mail a c)) (sym (join_hand c)) (o.fits.box a c h less));
       no_box = o.fits.no_box;
+      count = λ j h. o.fits.count j h ∙ ap own_number (sym (join_deeds j));
     };
-    reached = subst (IsReached b) (λ i. group_of (place_of b) o.holder o.slot o.mail (λ j. ap (view_by b j) (sym (join_deeds j)) i)) o.reached;
+    reached = reached_by b _ _ _ _ (λ j. sym (join_deeds j)) (λ i. group_of (place_of b) o.holder o.slot o.mail (λ j. ap (view_by b j) (sym (join_deeds j)) i)) o.reached;
   } where
     dec_eq : (j : ℕ) → (j ≡ m) ⊎ (j ≢ m)
     dec_eq j = dite (ℕ_discrete j m) (λ e. inl e) (λ ne. inr ne)

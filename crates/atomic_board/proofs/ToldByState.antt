@@ -9,14 +9,14 @@ use Rattle.group_laws.specs.Places.{owner}
 use Rattle.group_laws.specs.Updates.{has}
 use Rattle.group_laws.specs.State.{Notices}
 use Rattle.group_laws.specs.MemberViews.{View}
-use Rattle.group_laws.proofs.Clients.{has_In}
+use Rattle.group_laws.proofs.Clients.{has_In, posted_unnamed}
 use Rattle.group_board.specs.Assurances.{IsHome, IsHeard, IsOwnEntry, IsUnlogged}
 use Rattle.atomic_board.specs.declared.seat_data.Origin.{Origin}
 use Rattle.atomic_board.specs.declared.seat_data.Holding.{Holding}
 use Rattle.atomic_board.specs.declared.seat_data.Deed.{Deed}
 use Rattle.atomic_board.specs.declared.seat_data.SeatData.TheVariants.{Own}
 use Rattle.atomic_board.specs.Deeds.{place_of, size, view_by}
-use Rattle.atomic_board.specs.ShownState.{TableState, views_of, ShowsLawful}
+use Rattle.atomic_board.specs.ShownState.{TableState, views_of, ShowsLawful, state_shown}
 use Rattle.atomic_board.proofs.RuleKept.{known, own_by}
 
 module _ (b : Origin) (s : TableState) (o : ShowsLawful b s) (m : ℕ) (q : Holding) (ds : List Deed) (me : get_elem? s.views (suc m) ≡ some (Own m q b ds)) (near : m < size b) where
@@ -33,7 +33,8 @@ module _ (b : Origin) (s : TableState) (o : ShowsLawful b s) (m : ℕ) (q : Hold
   -- what is taken out of a slot is in no log yet
   pub taken_unlogged : (a t : ℕ) (e : Entry) → o.slot a t ≡ Posted e → IsUnlogged m a t (view_by b m ds) e
   taken_unlogged a t e is = record {
-    new = λ i. o.reached.lawful.logs.not_posted m a t e is (inl (subst (λ (u : View). In e u.kept) (sym same) i));
+    new = λ f i. posted_unnamed (state_shown b s o) o.reached.lawful a t e is m f (inl (subst (λ (u : View). In f u.kept) (sym same) i));
+    alone = λ f i. posted_unnamed (state_shown b s o) o.reached.lawful a t e is m f (inr (subst (λ (u : View). In f u.flying) (sym same) i));
     own = λ mine.
         let named = o.reached.lawful.slots.posted_named a t e is in
         sym (own_by b s o m q ds me near e.key (λ (u : View). u.pending e.key) (named.1 ∙ mine)) ∙ named.0;
@@ -48,6 +49,8 @@ module _ (b : Origin) (s : TableState) (o : ShowsLawful b s) (m : ℕ) (q : Hold
 
     pub heard : IsHeard (place_of b) m from (view_by b m ds) n
     heard = record {
+      other = λ self. let none = o.reached.lawful.standing.no_self m in let full : o.mail m m ≡ Some n = subst (λ (h : ℕ). o.mail h m ≡ Some n) self is in cc (none, full);
+      theirs = λ k i t. (o.reached.lawful.deaths.mail_from from m n (record { key = k; version = i }) is (has_In n.dead k i t)).0;
       dead = λ k i t. subst (λ (u : View). IsOwnEntry u k i) same (o.reached.lawful.deaths.mail_from from m n (record { key = k; version = i }) is (has_In n.dead k i t)).2;
       own = gone_own;
       told = λ k i t. sym (own_by b s o m q ds me near k (λ (u : View). u.told k i) (gone_own k i t)) ∙ (o.reached.lawful.standing.away from k i (inr (n, gone_mail k i t, has_In n.gone k i t))).1;

@@ -1,15 +1,16 @@
 -- What a member has by its own deeds, and the group whose members have these views.
-use Rattle.std.specs.Prelude.{◌≡◌, ℕ, true, List, [], ◌∷◌, Option, Some, None}
+use Rattle.std.specs.Prelude.{◌≡◌, ℕ, true, List, [], ◌∷◌, ◌++◌, ◌+◌, ◌%◌, ◌^◌, cond, eqb, Option, Some, None}
 use Rattle.log_entry.specs.declared.entry.EntryName.{EntryName}
 use Rattle.group_laws.specs.declared.types.Slot.{Slot}
 use Rattle.group_laws.specs.declared.types.Slot.TheVariants.{Empty}
 use Rattle.group_laws.specs.Places.{Place, members, owner}
 use Rattle.group_laws.specs.State.{Group, Notices}
+use Rattle.group_laws.specs.Runs.{Kind}
 use Rattle.group_laws.specs.Updates.{has}
 use Rattle.group_laws.specs.OpeningImages.{opened}
 use Rattle.group_laws.specs.MemberViews.{View, view_of}
 use Rattle.group_board.specs.Views.{after_post, after_lock, after_find, after_take, after_unlock, after_commit, after_mark, after_fail, after_finish, after_give_up, after_withdraw, after_doom, after_retire, after_send, after_receive}
-use Rattle.group_board.specs.Journals.{image_of, place_in, names_in, name_of}
+use Rattle.group_board.specs.Journals.{image_of, place_in, names_in, name_of, kind_seen}
 use Rattle.group_board.specs.Tidies.{tidied}
 use Rattle.atomic_board.specs.declared.seat_data.Origin.{Origin}
 use Rattle.atomic_board.specs.declared.seat_data.Deed.{Deed}
@@ -64,16 +65,16 @@ finished_by Lock ns = ns
 finished_by (Found x) ns = ns
 finished_by (Take a s e) ns = ns
 finished_by Unlock ns = ns
-finished_by Commit ns = ns
+finished_by (Commit at) ns = ns
 finished_by (Mark a s) ns = ns
 finished_by (Fail a s) ns = ns
-finished_by (Finish e h) ns = name_of e ∷ ns
-finished_by (GiveUp e) ns = ns
-finished_by (Withdraw e) ns = ns
+finished_by (Finish s e h) ns = name_of e ∷ ns
+finished_by (GiveUp s e) ns = ns
+finished_by (Withdraw s e) ns = ns
 finished_by (Doom xs) ns = ns
 finished_by (Retire xs) ns = ns
 finished_by (Send to dead gone) ns = ns
-finished_by (Receive dead gone) ns = ns
+finished_by (Receive from dead gone) ns = ns
 
 abbrev pub names_by : List EntryName → List Deed → List EntryName
 names_by ns [] = ns
@@ -102,19 +103,93 @@ after_deed ns p m Lock v = after_lock v
 after_deed ns p m (Found x) v = after_find x v
 after_deed ns p m (Take a s e) v = after_take a s e v
 after_deed ns p m Unlock v = after_unlock v
-after_deed ns p m Commit v = after_commit v
+after_deed ns p m (Commit at) v = after_commit v
 after_deed ns p m (Mark a s) v = after_mark a s v
 after_deed ns p m (Fail a s) v = after_fail a s v
-after_deed ns p m (Finish e h) v = tidied_in ns p m (after_finish e h v)
-after_deed ns p m (GiveUp e) v = tidied_in ns p m (after_give_up e v)
-after_deed ns p m (Withdraw e) v = after_withdraw e v
+after_deed ns p m (Finish s e h) v = tidied_in ns p m (after_finish e h v)
+after_deed ns p m (GiveUp s e) v = tidied_in ns p m (after_give_up e v)
+after_deed ns p m (Withdraw s e) v = after_withdraw e v
 after_deed ns p m (Doom xs) v = after_doom xs v
 after_deed ns p m (Retire xs) v = tidied_in ns p m (after_retire p m xs v)
 after_deed ns p m (Send to dead gone) v = after_send to (record { dead = dead; gone = gone }) v
-after_deed ns p m (Receive dead gone) v = tidied_in ns p m
+after_deed ns p m (Receive from dead gone) v = tidied_in ns p m
     (after_receive p m (record { dead = dead; gone = gone }) v)
 
 -- the view of m after these deeds, of which the newest stands first
 abbrev pub view_by : Origin → ℕ → List Deed → View
 view_by b m [] = view_of (began b) m
 view_by b m (d ∷ ds) = after_deed (names_by (names_of b) (d ∷ ds)) (place_of b) m d (view_by b m ds)
+
+-- the step of the machine that a deed is
+abbrev pub kind_of : Deed → Kind
+kind_of (Post s e v) = Kind.Post s e v
+kind_of Lock = Kind.Lock
+kind_of (Found x) = kind_seen x
+kind_of (Take a s e) = Kind.Take a s
+kind_of Unlock = Kind.Unlock
+kind_of (Commit at) = Kind.Commit
+kind_of (Mark a s) = Kind.Mark a s
+kind_of (Fail a s) = Kind.Fail a s
+kind_of (Finish s e h) = Kind.Finish s
+kind_of (GiveUp s e) = Kind.Finish s
+kind_of (Withdraw s e) = Kind.Withdraw s
+kind_of (Doom xs) = Kind.Doom xs
+kind_of (Retire xs) = Kind.Retire xs
+kind_of (Send to dead gone) = Kind.Send to (record { dead = dead; gone = gone })
+kind_of (Receive from dead gone) = Kind.Receive from
+
+-- the steps, the oldest first, of deeds of which the newest stands first
+abbrev pub steps_in : List (ℕ × Deed) → List (ℕ × Kind)
+steps_in [] = []
+steps_in (x ∷ xs) = steps_in xs ++ (x.0, kind_of x.1) ∷ []
+
+-- the deeds of one member among them
+abbrev pub deeds_of : List (ℕ × Deed) → ℕ → List Deed
+deeds_of [] m = []
+deeds_of (x ∷ xs) m = cond (eqb m x.0) (x.1 ∷ deeds_of xs m) (deeds_of xs m)
+
+-- what a deed makes of the number in the member's own word
+abbrev pub stepped_by : Deed → ℕ → ℕ
+stepped_by (Post s e v) n = n
+stepped_by Lock n = n
+stepped_by (Found x) n = n
+stepped_by (Take a s e) n = n
+stepped_by Unlock n = n
+stepped_by (Commit at) n = (n + 1) % 2 ^ 64
+stepped_by (Mark a s) n = n
+stepped_by (Fail a s) n = n
+stepped_by (Finish s e h) n = n
+stepped_by (GiveUp s e) n = n
+stepped_by (Withdraw s e) n = n
+stepped_by (Doom xs) n = (n + 1) % 2 ^ 64
+stepped_by (Retire xs) n = (n + 1) % 2 ^ 64
+stepped_by (Send to dead gone) n = n
+stepped_by (Receive from dead gone) n = n
+
+-- the number in a member's own word after these deeds
+abbrev pub own_number : List Deed → ℕ
+own_number [] = 0
+own_number (d ∷ ds) = stepped_by d (own_number ds)
+
+-- the stamp of a commit
+abbrev pub at_or : ℕ → Deed → ℕ
+at_or n (Post s e v) = n
+at_or n Lock = n
+at_or n (Found x) = n
+at_or n (Take a s e) = n
+at_or n Unlock = n
+at_or n (Commit at) = at
+at_or n (Mark a s) = n
+at_or n (Fail a s) = n
+at_or n (Finish s e h) = n
+at_or n (GiveUp s e) = n
+at_or n (Withdraw s e) = n
+at_or n (Doom xs) = n
+at_or n (Retire xs) = n
+at_or n (Send to dead gone) = n
+at_or n (Receive from dead gone) = n
+
+-- the stamp at which the member's region stood at its newest commit
+abbrev pub committed_at : List Deed → ℕ
+committed_at [] = 0
+committed_at (d ∷ ds) = at_or (committed_at ds) d

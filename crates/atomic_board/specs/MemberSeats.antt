@@ -1,12 +1,14 @@
 -- What a member's seat says of its member.
-use Rattle.std.specs.Prelude.{◌≡◌}
+use Rattle.std.specs.Prelude.{◌≡◌, List, map}
 use Rattle.group_laws.specs.Places.{Place}
+use Rattle.group_laws.specs.Runs.{Kind}
 use Rattle.group_laws.specs.MemberViews.{View}
 use Rattle.group_board.specs.Seats.{SeatAt}
 use Rattle.atomic_board.specs.declared.seat_data.Origin.{Origin}
+use Rattle.atomic_board.specs.declared.seat_data.Deed.{Deed}
 use Rattle.atomic_board.specs.declared.member_seat.MemberSeat.{MemberSeat}
-use Rattle.atomic_board.specs.Deeds.{place_of}
-use Rattle.atomic_board.specs.StepTells.{origin_in, view_in}
+use Rattle.atomic_board.specs.Deeds.{place_of, kind_of}
+use Rattle.atomic_board.specs.StepTells.{origin_in, view_in, done_in}
 
 -- what the member's group opened on
 abbrev pub origin_at : MemberSeat → Origin
@@ -18,6 +20,14 @@ place_at t = place_of (origin_at t)
 -- what the member has
 abbrev pub view_at : MemberSeat → View
 view_at t = view_in t.seat.me.0
+
+-- what the member did, the newest first
+abbrev pub done_at : MemberSeat → List Deed
+done_at t = done_in t.seat.me.0
+
+-- the steps that the member made, the newest first
+abbrev pub trail_at : MemberSeat → List Kind
+trail_at t = map kind_of (done_at t)
 
 -- where the seat is
 abbrev pub seat_of : MemberSeat → SeatAt

@@ -1,6 +1,6 @@
 -- The state that a table's words, slots and views show, and the rule.
 -- The first seat has the store. The seat that was split k-th from it is member k's: it stands behind the store, at the place k + 1.
-use Rattle.std.specs.Prelude.{◌≡◌, ℕ, suc, ◌+◌, ◌*◌, ◌<◌, ◌≤◌, Bool, true, false, cond, eqb, ◌||◌, List, [], ◌∷◌, length, slice_index, Option, Some, None, ◌⊎◌}
+use Rattle.std.specs.Prelude.{◌≡◌, ℕ, suc, ◌+◌, ◌*◌, ◌<◌, ◌≤◌, Bool, true, false, cond, eqb, ◌||◌, List, [], ◌∷◌, ◌++◌, length, slice_index, Option, Some, None, ◌⊎◌}
 use mathlib.Core.Option.{some, none}
 use mathlib.Core.Option as maybe
 use lib.ListN.{get_elem?}
@@ -14,7 +14,7 @@ use Rattle.group_laws.specs.declared.types.Slot.TheVariants.{Empty, Posted, Take
 use Rattle.group_laws.specs.State.{Notices, word_shown}
 use Rattle.group_laws.specs.State.{Group}
 use Rattle.group_laws.specs.Invariant.{Lawful}
-use Rattle.group_laws.specs.Runs.{Kind, Runs}
+use Rattle.group_laws.specs.Runs.{Runs}
 use Rattle.group_laws.specs.MemberViews.{View}
 use Rattle.atomic_board.specs.declared.parcel.Parcel.{Parcel}
 use Rattle.atomic_board.specs.declared.parcel.Parcel.TheVariants as parcels
@@ -27,8 +27,8 @@ use Rattle.atomic_board.specs.declared.seat_data.Deed.{Deed}
 use Rattle.atomic_board.specs.declared.seat_data.SeatData.{SeatData}
 use Rattle.atomic_board.specs.declared.seat_data.SeatData.TheVariants.{Store, Own, Spent}
 use Rattle.atomic_board.specs.declared.table_words.TheConstants.{EMPTY_MAILBOX, FULL_MAILBOX, LOCK}
-use Rattle.atomic_board.specs.TableWords.{pool_word, pool_place, mail_word, mail_place, word_count, lock_word, word_number}
-use Rattle.atomic_board.specs.Deeds.{group_of, began, names_of, place_of, size, view_by}
+use Rattle.atomic_board.specs.TableWords.{own_word, pool_word, pool_place, mail_word, mail_place, word_count, lock_word, word_number}
+use Rattle.atomic_board.specs.Deeds.{group_of, began, names_of, place_of, size, view_by, steps_in, deeds_of, own_number}
 use Rattle.group_board.specs.Tidies.{Covers}
 
 abbrev pub TableState : Type 0
@@ -135,12 +135,26 @@ pub record Fits (b : Origin) (holder : Option ℕ) (slot : ℕ → ℕ → Slot)
       (slice_index s.words (mail_word (size b) a c)) (get_elem? s.homes (mail_place (size b) a c))
       (pool_place a c) (pose_at s.views a).hand (pose_at s.views c).hand (mail a c)
   pub no_box : (a c : ℕ) → (size b ≤ a) ⊎ (size b ≤ c) → mail a c ≡ None
+  pub count : (m : ℕ) → m < size b
+      → slice_index s.words (own_word m) ≡ own_number (deeds_at s.views m)
 
--- steps of the machine lead to this state from the one on which the group opened, so it is lawful
-pub record IsReached (b : Origin) (w : Group) : Type 0 where
+-- A state that the steps of these deeds lead to, in which each member has the view of its deeds.
+pub record IsCut (b : Origin) (order : List (ℕ × Deed)) : Type 0 where
+  pub holder : Option ℕ
+  pub slot : ℕ → ℕ → Slot
+  pub mail : ℕ → ℕ → Option Notices
+  pub runs : Runs (began b) (steps_in order)
+      (group_of (place_of b) holder slot mail (λ m. view_by b m (deeds_of order m)))
+
+-- Steps of the machine lead to this state from the one on which the group opened, so it is lawful. The steps are the deeds of the members, in one order of all, the newest first: of each member all that it did, and nothing else.
+pub record IsReached (b : Origin) (deeds : ℕ → List Deed) (w : Group) : Type 0 where
   pub lawful : Lawful w
-  pub steps : List (ℕ × Kind)
-  pub runs : Runs (began b) steps w
+  pub order : List (ℕ × Deed)
+  pub runs : Runs (began b) (steps_in order) w
+  pub made : (m : ℕ) → deeds_of order m ≡ deeds m
+  -- before each of them a state was shown
+  pub cuts : (late : List (ℕ × Deed)) (x : ℕ × Deed) (early : List (ℕ × Deed))
+      → order ≡ late ++ x ∷ early → IsCut b early
 
 -- A lawful state is shown, that steps of the machine lead to: its holder and its slots by the words and what lies at home, its views by the seats.
 pub record ShowsLawful (b : Origin) (s : TableState) : Type 0 where
@@ -148,7 +162,8 @@ pub record ShowsLawful (b : Origin) (s : TableState) : Type 0 where
   pub slot : ℕ → ℕ → Slot
   pub mail : ℕ → ℕ → Option Notices
   pub fits : Fits b holder slot mail s
-  pub reached : IsReached b (group_of (place_of b) holder slot mail (views_of b s.views))
+  pub reached : IsReached b (deeds_at s.views)
+      (group_of (place_of b) holder slot mail (views_of b s.views))
 
 -- the state that is shown
 abbrev pub state_shown : (b : Origin) (s : TableState) → ShowsLawful b s → Group

@@ -76,6 +76,12 @@ view_in (Store k b back) = view_of (began b) 0
 view_in (Own m q b ds) = view_by b m ds
 view_in Spent = view_of (began no_origin) 0
 
+-- what the member did, the newest first
+abbrev pub done_in : SeatData → List Deed
+done_in (Store k b back) = []
+done_in (Own m q b ds) = ds
+done_in Spent = []
+
 -- the member's newest deed
 abbrev pub did : Deed → SeatData → SeatData
 did d (Store k b back) = Store k b back
@@ -92,8 +98,8 @@ abbrev pub row_out : ℕ → ℕ → List (ℕ × Option Parcel) → List (ℕ �
 row_out at zero l = l
 row_out at (suc k) l = (at + k, None) ∷ row_out at k l
 
-abbrev pub tells_commit : Tells
-tells_commit st m r n = n ≡ (did Commit m.0, m.1)
+abbrev pub tells_commit : ℕ → Tells
+tells_commit at st m r n = n ≡ (did (Commit at) m.0, m.1)
 
 abbrev pub tells_unlock : Tells
 tells_unlock st m r n = n ≡ (did Unlock m.0, m.1)
@@ -173,15 +179,15 @@ pub record Stands (p : Place) (m : ℕ) (v : View) (t : ℕ) (e : Entry) : Type 
   pub not_out : IsNotOut p m v m t
 
 -- what an owner does with its change that a leader gave back with this home
-abbrev pub over : Entry → Option ℕ → Deed
-over e None = GiveUp e
-over e (Some h) = Finish e h
+abbrev pub over : ℕ → Entry → Option ℕ → Deed
+over t e None = GiveUp t e
+over t e (Some h) = Finish t e h
 
 abbrev pub tells_finish : Tells
 tells_finish st m r n = (t : ℕ) → t < SLOTS → st.word ≡ pool_word (size (origin_in m.0))
     (number_in m.0) t
     → (e : Entry) × (home : Option ℕ) × (n ≡ (
-      did (over e home) m.0,
+      did (over t e home) m.0,
       (pool_place (number_in m.0) t, lies e home) ∷ m.1,
     ))
     × Stands (place_of (origin_in m.0)) (number_in m.0) (view_in m.0) t e
@@ -196,7 +202,7 @@ tells_finish st m r n = (t : ℕ) → t < SLOTS → st.word ≡ pool_word (size 
 abbrev pub tells_withdraw : Tells
 tells_withdraw st m r n = (t : ℕ) → t < SLOTS → st.word
     ≡ pool_word (size (origin_in m.0)) (number_in m.0) t
-    → (e : Entry) × (n ≡ (did (Withdraw e) m.0, (pool_place (number_in m.0) t, lies e None) ∷ m.1))
+    → (e : Entry) × (n ≡ (did (Withdraw t e) m.0, (pool_place (number_in m.0) t, lies e None) ∷ m.1))
     × Stands (place_of (origin_in m.0)) (number_in m.0) (view_in m.0) t e
 
 abbrev pub tells_doom : List EntryName → Tells
@@ -253,11 +259,13 @@ tells_try_receive st m r n = (from : ℕ) → from < size (origin_in m.0)
     ⊎ ((r ≡ EMPTY_MAILBOX) × (n ≡ (did (Found (loads.Mail from (number_in m.0) false)) m.0, m.1)))
 
 abbrev pub tells_receive : Tells
-tells_receive st m r n = (n ≡ (
-  gripping None (did (Receive (gripped (hand_in m.0)).dead
-      (gripped (hand_in m.0)).gone) m.0),
-  rest m.1,
-))
+tells_receive st m r n = (from : ℕ)
+    → st.word ≡ mail_word (size (origin_in m.0)) from (number_in m.0)
+    → (n ≡ (
+      gripping None (did (Receive from (gripped (hand_in m.0)).dead
+          (gripped (hand_in m.0)).gone) m.0),
+      rest m.1,
+    ))
     × TidiedIn (place_of (origin_in m.0)) (number_in m.0)
     (after_receive (place_of (origin_in m.0)) (number_in m.0) (gripped (hand_in m.0)) (view_in m.0))
     (view_in n.0)

@@ -15,8 +15,8 @@ use Rattle.atomic_board.specs.declared.seat_data.Deed.{Deed}
 use Rattle.atomic_board.specs.declared.table_words.TheConstants.{MOST_SLOTS}
 use Rattle.atomic_board.specs.declared.token.SeatToken.{SeatToken}
 use Rattle.atomic_board.specs.Deeds.{began, view_by}
-use Rattle.atomic_board.specs.ShownState.{TableState, ShowsLawful, views_of, is_back, deeds_in}
-use Rattle.atomic_board.specs.MemberSeats.{seat_of, view_at}
+use Rattle.atomic_board.specs.ShownState.{TableState, ShowsLawful, views_of, is_back, deeds_in, deeds_at}
+use Rattle.atomic_board.specs.MemberSeats.{seat_of, view_at, done_at}
 
 -- the seat of member k at a table
 abbrev pub member_at : TableId → Place → ℕ → SeatAt
@@ -32,13 +32,19 @@ abbrev pub AreFresh : Origin → List SeatToken → Type 0
 AreFresh b ts = (k : ℕ) (t : SeatToken) → get_elem? ts k ≡ some t
     → view_at t.own ≡ view_of (began b) k
 
--- The words show a lawful state that the machine's steps lead to, in which each member has the view of its token.
+-- each member did nothing yet
+abbrev pub AreIdle : List SeatToken → Type 0
+AreIdle ts = (k : ℕ) (t : SeatToken) → get_elem? ts k ≡ some t → done_at t.own ≡ []
+
+-- The words show a lawful state that the machine's steps lead to, in which each member has the view of its token, and did just what its token tells.
 pub record Ended (b : Origin) (ts : List SeatToken) (ws : List ℕ) : Type 0 where
   pub table : TableState
   pub shows : ShowsLawful b table
   pub words : table.words ≡ ws
   pub views : (k : ℕ) (t : SeatToken) → get_elem? ts k ≡ some t
       → views_of b table.views k ≡ view_at t.own
+  pub deeds : (k : ℕ) (t : SeatToken) → get_elem? ts k ≡ some t
+      → deeds_at table.views k ≡ done_at t.own
 
 -- nothing in them, and room for the numbers of all slots
 abbrev pub AreEmptyHands : {A : Type 0} → List (VecDeque ℕ A) → Type 0
@@ -50,4 +56,5 @@ abbrev pub HasFrom : Origin → List SeatToken → ℕ → SeatData → Type 0
 HasFrom b ts j d =
     (c : Origin) × (n : ℕ) × (back : List (ℕ × List Deed)) × (d ≡ Store n c back)
     × ((k : ℕ) (t : SeatToken) → j ≤ k → get_elem? ts k ≡ some t → (is_back back k ≡ true)
-    × (view_by b k (deeds_in back k) ≡ view_at t.own))
+    × (view_by b k (deeds_in back k) ≡ view_at t.own)
+    × (deeds_in back k ≡ done_at t.own))

@@ -1,14 +1,15 @@
 // The calls at mailboxes.
-ghost use Rattle.std.specs.Prelude.{◌≡◌, ℕ, ◌+◌, ◌*◌, ◌<◌, ◌≤◌, true, false, None, Some, Option, MatchOption, MatchResult, IfErr, IfSome};
+ghost use Rattle.std.specs.Prelude.{◌≡◌, ◌∷◌, ℕ, ◌+◌, ◌*◌, ◌<◌, ◌≤◌, true, false, None, Some, Option, MatchOption, MatchResult, IfErr, IfSome};
 ghost use Rattle.group_laws.specs.declared.types.Seen.TheVariants as loads;
 ghost use Rattle.crash_core.specs.declared.names.Notices.{Notices as NoticesData};
 ghost use Rattle.crash_core.specs.Shows.{notices_of};
+ghost use Rattle.group_laws.specs.Runs as runs;
 ghost use Rattle.group_board.specs.Views.{after_find, after_send, after_receive, TidiedIn};
 ghost use Rattle.group_board.specs.Conditions.{MaySend, MayReceive};
 ghost use Rattle.group_board.specs.Assurances.{IsHeard};
 ghost use Rattle.atomic_board.specs.declared.parcel.Parcel.TheVariants as parcels;
 ghost use Rattle.atomic_board.specs.TableWords.{mail_word, mail_place};
-ghost use Rattle.atomic_board.specs.MemberSeats.{place_at, view_at, Stays};
+ghost use Rattle.atomic_board.specs.MemberSeats.{trail_at, place_at, view_at, Stays};
 
 use crate::member_seat::{Common, MemberSeat};
 use crate::parcel::Parcel;
@@ -60,6 +61,11 @@ impl MemberSeat {
         requires table { self.old.seat.table_id ≡ shared.now.table_id }
         requires may { MaySend (place_at self.old) self.old.member (view_at self.old) to
             (notices_of notices) }
+        ensures made { MatchResult result
+            (λ _. trail_at self.new ≡ runs.Kind.Send to (notices_of notices)
+            ∷ runs.Kind.LookMail self.old.member to ∷ trail_at self.old)
+            (λ full. trail_at self.new
+            ≡ runs.Kind.LookMail self.old.member to ∷ trail_at self.old) }
         ensures same { Stays self.old self.new }
         ensures back { IfErr result (λ full. full.notices ≡ notices) }
         ensures view { MatchResult result
@@ -81,6 +87,10 @@ impl MemberSeat {
     pub(crate) fn receive(&mut self, shared: &Common, from: u32) -> Option<Notices>
         requires table { self.old.seat.table_id ≡ shared.now.table_id }
         requires may { MayReceive (place_at self.old) self.old.member from }
+        ensures made { MatchOption result
+            (trail_at self.new ≡ runs.Kind.LookMail from self.old.member ∷ trail_at self.old)
+            (λ notices. trail_at self.new ≡ runs.Kind.Receive from
+            ∷ runs.Kind.LookMail from self.old.member ∷ trail_at self.old) }
         ensures same { Stays self.old self.new }
         ensures heard { IfSome result
             (λ notices. IsHeard (place_at self.old) self.old.member from (view_at self.old)

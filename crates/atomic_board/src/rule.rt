@@ -27,11 +27,22 @@ impl TableRule<Option<Parcel>, SeatData, OriginSeat> for Ruled {
     ghost first = { λ plan. Store 0 plan.me.0 [] };
 }
 
-/// The step up of the own word's count by which what was in flight is certain.
-pub struct Commits;
+/// The stamp at which a region stands. The proof of the call picks it.
+pub trait Stamped {
+    ghost at: { ℕ };
+}
 
-impl Play<Option<Parcel>, SeatData> for Commits {
-    ghost then = { tells_commit };
+impl Stamped for Brand {
+    ghost at = { 0 };
+}
+
+/// The step up of the own word's count by which what was in flight is certain.
+pub struct Commits<W> {
+    marker: PhantomData<W>,
+}
+
+impl<W: Stamped> Play<Option<Parcel>, SeatData> for Commits<W> {
+    ghost then = { tells_commit W.at };
 }
 
 /// The store that frees the lock.

@@ -1,17 +1,23 @@
 // A member's seat at its table has the board's calls. It tells no state of the group: that each call is a step of the
 // machine from one lawful state to another is the rule of the table.
 ghost use Rattle.std.specs.Prelude.{None};
-ghost use Rattle.atomic_board.specs.MemberSeats.{seat_of, view_at};
+ghost use Rattle.atomic_board.specs.Deeds.{committed_at};
+ghost use Rattle.atomic_board.specs.MemberSeats.{seat_of, view_at, done_at, trail_at};
 
 use crate::token::CoreSeat;
 use crash_core::{Change, Notices};
 use group_board::{Board, Busy, MailFull, SlotState};
 use log_entry::entry::EntryName;
+use pm_region::Region;
 
 impl<'a> Board for CoreSeat<'a> {
     ghost seat = { λ s. seat_of s.own };
 
     ghost view = { λ s. view_at s.own };
+
+    ghost trail = { λ s. trail_at s.own };
+
+    ghost at = { λ s. committed_at (done_at s.own) };
 
     ghost whole = { λ s. None };
 
@@ -47,8 +53,8 @@ impl<'a> Board for CoreSeat<'a> {
         self.own.unlock(self.shared);
     }
 
-    fn commit(&mut self) {
-        self.own.commit(self.shared);
+    fn commit<R: Region>(&mut self, region: &R) {
+        self.own.commit(self.shared, region);
     }
 
     fn mark(&mut self, member: u32, slot: u32, change: Change) {

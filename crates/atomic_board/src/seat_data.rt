@@ -16,26 +16,26 @@ pub enum Deed {
     Take(u32, u32, Entry),
     /// The lock was given back.
     Unlock,
-    /// All that was in flight is certain in the own log.
-    Commit,
+    /// All that was in flight is certain in the own log. With the stamp at which the member's region stood.
+    Commit(u64),
     /// A change that is certain was given back to the slot of a member, both by number.
     Mark(u32, u32),
     /// A change that could not be written was given back to the slot of a member, both by number.
     Fail(u32, u32),
-    /// Of a slot that was Done, with the home.
-    Finish(Entry, u32),
-    /// Of a slot that was Failed.
-    GiveUp(Entry),
+    /// Of an own slot that was Done, with the home.
+    Finish(u32, Entry, u32),
+    /// Of an own slot that was Failed.
+    GiveUp(u32, Entry),
     /// Of an own slot that was still Posted, by a member that leads.
-    Withdraw(Entry),
+    Withdraw(u32, Entry),
     /// Of dead names of the own log: they may vanish from then on.
     Doom(LinkedList<EntryName>),
     /// Of doomed names that vanished.
     Retire(LinkedList<EntryName>),
     /// With the dead names and the gone ones.
     Send(u32, LinkedList<EntryName>, LinkedList<EntryName>),
-    /// With the dead names and the gone ones that lay in the mailbox.
-    Receive(LinkedList<EntryName>, LinkedList<EntryName>),
+    /// With the member that sent, and the dead names and the gone ones that lay in the mailbox.
+    Receive(u32, LinkedList<EntryName>, LinkedList<EntryName>),
 }
 
 /// The number of the group in its layout, and the words of the image on which it opened.

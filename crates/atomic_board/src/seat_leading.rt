@@ -1,11 +1,13 @@
 // The calls by which a member offers a change and by which it leads.
-ghost use Rattle.std.specs.Prelude.{◌≡◌, ◌≢◌, ℕ, ◌+◌, ◌*◌, ◌<◌, ◌≤◌, length, None, Some, Option, MatchResult, IfErr};
+ghost use Rattle.std.specs.Prelude.{◌≡◌, ◌∷◌, ◌≢◌, ℕ, ◌+◌, ◌*◌, ◌%◌, ◌^◌, ◌<◌, ◌≤◌, length, None, Some, Option, MatchResult, IfErr};
 ghost use Rattle.std.specs.VecDeque.{deque_len, deque_capacity};
 ghost use Rattle.log_entry.specs.Spelling.{words_of, HasSpelling};
 ghost use Rattle.store_image.specs.Facts.{In};
 ghost use Rattle.group_laws.specs.declared.types.SlotWord.{SlotWord};
 ghost use Rattle.group_laws.specs.declared.types.SlotWord.TheVariants as words;
 ghost use Rattle.group_laws.specs.declared.types.Seen.TheVariants as loads;
+ghost use Rattle.group_laws.specs.Runs as runs;
+ghost use Rattle.pm_region.specs.State.{State};
 ghost use Rattle.group_board.specs.Views.{after_post, after_lock, after_find, after_take, after_unlock, after_commit};
 ghost use Rattle.group_board.specs.Assurances.{IsUnlogged};
 ghost use Rattle.group_board.specs.Conditions.{MayPost, MayLock, MayLook, MayTake, MayUnlock, MayCommit};
@@ -15,14 +17,14 @@ ghost use Rattle.atomic_table.specs.Table.{Allows, step};
 ghost use Rattle.crash_core.specs.declared.kinds.Change.{Change as ChangeData};
 ghost use Rattle.atomic_board.specs.declared.parcel.Parcel.TheVariants as parcels;
 ghost use Rattle.atomic_board.specs.TableWords.{pool_word, pool_place, word_number, IsClearWord};
-ghost use Rattle.atomic_board.specs.Deeds.{size};
+ghost use Rattle.atomic_board.specs.Deeds.{committed_at, size};
 ghost use Rattle.atomic_board.specs.ShownState.{ShowsLawful};
-ghost use Rattle.atomic_board.specs.StepTells.{tells_post};
-ghost use Rattle.atomic_board.specs.MemberSeats.{origin_at, place_at, view_at, Stays};
+ghost use Rattle.atomic_board.specs.StepTells.{tells_commit, tells_post};
+ghost use Rattle.atomic_board.specs.MemberSeats.{done_at, trail_at, origin_at, place_at, view_at, Stays};
 
 use crate::member_seat::{Common, MemberSeat};
 use crate::parcel::Parcel;
-use crate::rule::{Commits, CoreView, Locks, Looks, Posts, Takes, Unlocks, Value};
+use crate::rule::{Commits, CoreView, Locks, Looks, Posts, Stamped, Takes, Unlocks, Value};
 use crate::slot_order::bring;
 use crate::table_words::{
     DONE_WORD, EMPTY_WORD, FAILED_WORD, FREE_LOCK, LOCK, POSTED_WORD, TAKEN_WORD,
@@ -32,6 +34,7 @@ use crash_core::Change;
 use group_board::{Busy, SlotState};
 use group_laws::group_sizes::{LOCK_WORDS, SLOTS};
 use log_entry::entry_words;
+use pm_region::Region;
 use std::marker::Brand;
 
 /// The number of the word of a member's slot, counted from the table's first.
@@ -74,24 +77,41 @@ fn offer<W: Value>(shared: &Common, seat: &mut CoreView, word: usize, new: u64, 
     shared.store::<Posts<W>>(seat, word, new);
 }
 
+// The step of a commit. The proof of the call picks the stamp at which the region stands.
+fn commits<W: Stamped, R: Region>(shared: &Common, seat: &mut CoreView, word: usize, _region: &R)
+    requires { (seat.old.table_id ≡ shared.now.table_id) × (word < shared.now.table_id.words)
+        × Allows (ShowsLawful shared.now.key.me.0) shared.now.table_id.slots seat.old.id
+        seat.old.me word (λ n. (n + 1) % 2 ^ 64)
+        (tells_commit W.at (step shared.now.table_id.slots word 1 0 none) seat.old.me) }
+    ensures { (seat.new.table_id ≡ seat.old.table_id) × (r : ℕ)
+        × tells_commit W.at (step shared.now.table_id.slots word 1 0 none) seat.old.me r
+        seat.new.me }
+{
+    shared.fetch_add::<Commits<W>>(seat, word, 1);
+}
+
 // Each is the call of `Board` with that name.
 impl MemberSeat {
-    pub(crate) fn commit(&mut self, shared: &Common)
+    pub(crate) fn commit<R: Region>(&mut self, shared: &Common, region: &R)
         requires table { self.old.seat.table_id ≡ shared.now.table_id }
         requires may { MayCommit (place_at self.old) self.old.member (view_at self.old) }
+        ensures made { trail_at self.new ≡ runs.Kind.Commit ∷ trail_at self.old }
+        ensures at { committed_at (done_at self.new) ≡ (R.state region.now).stamp }
         ensures same { Stays self.old self.new }
         ensures view { view_at self.new ≡ after_commit (view_at self.old) }
     {
-        shared.fetch_add::<Commits>(
+        commits::<Brand, _>(
+            shared,
             &mut self.seat,
             LOCK_WORDS as usize + self.member as usize,
-            1,
+            region,
         );
     }
 
     pub(crate) fn unlock(&mut self, shared: &Common)
         requires table { self.old.seat.table_id ≡ shared.now.table_id }
         requires may { MayUnlock (place_at self.old) self.old.member (view_at self.old) }
+        ensures made { trail_at self.new ≡ runs.Kind.Unlock ∷ trail_at self.old }
         ensures same { Stays self.old self.new }
         ensures view { view_at self.new ≡ after_unlock (view_at self.old) }
     {
@@ -101,6 +121,7 @@ impl MemberSeat {
     pub(crate) fn try_lock(&mut self, shared: &Common) -> Result<(), Busy>
         requires table { self.old.seat.table_id ≡ shared.now.table_id }
         requires may { MayLock (place_at self.old) self.old.member (view_at self.old) }
+        ensures made { trail_at self.new ≡ runs.Kind.Lock ∷ trail_at self.old }
         ensures same { Stays self.old self.new }
         ensures view { MatchResult result (λ _. view_at self.new ≡ after_lock (view_at self.old))
             (λ busy. view_at self.new ≡ after_find (loads.Holder busy.holder) (view_at self.old)) }
@@ -121,6 +142,7 @@ impl MemberSeat {
     pub(crate) fn look(&mut self, shared: &Common, member: u32, slot: u32) -> SlotState
         requires table { self.old.seat.table_id ≡ shared.now.table_id }
         requires may { MayLook (place_at self.old) self.old.member member slot }
+        ensures made { trail_at self.new ≡ runs.Kind.Look member slot ∷ trail_at self.old }
         ensures same { Stays self.old self.new }
         ensures view { (word : SlotWord) × (state_of word ≡ result)
             × (view_at self.new ≡ after_find (loads.Slot member slot word) (view_at self.old)) }
@@ -133,6 +155,7 @@ impl MemberSeat {
     pub(crate) fn take(&mut self, shared: &Common, member: u32, slot: u32) -> Change
         requires table { self.old.seat.table_id ≡ shared.now.table_id }
         requires may { MayTake (place_at self.old) self.old.member (view_at self.old) member slot }
+        ensures made { trail_at self.new ≡ runs.Kind.Take member slot ∷ trail_at self.old }
         ensures same { Stays self.old self.new }
         ensures change { result.home ≡ Option.None }
         ensures spelled { HasSpelling result.entry }
@@ -153,6 +176,7 @@ impl MemberSeat {
         requires table { self.old.seat.table_id ≡ shared.now.table_id }
         requires may { MayPost (place_at self.old) self.old.member
             (view_at self.old) slot change value.now }
+        ensures made { trail_at self.new ≡ runs.Kind.Post slot change.entry value.now ∷ trail_at self.old }
         ensures same { Stays self.old self.new }
         ensures view { view_at self.new ≡ after_post slot change.entry value.now
             (view_at self.old) }

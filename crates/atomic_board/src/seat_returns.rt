@@ -1,9 +1,10 @@
 // The calls that give changes back and take them back, and those of cleaning on the own log.
-ghost use Rattle.std.specs.Prelude.{◌≡◌, ℕ, ◌+◌, ◌%◌, ◌^◌, ◌<◌, true, None, Some, Option, MatchOption, IfSome};
+ghost use Rattle.std.specs.Prelude.{◌≡◌, ◌∷◌, ℕ, ◌+◌, ◌%◌, ◌^◌, ◌<◌, true, None, Some, Option, MatchOption, IfSome};
 ghost use Rattle.log_entry.specs.declared.entry.EntryName.{EntryName};
 ghost use Rattle.store_image.specs.Facts.{In};
 ghost use Rattle.group_laws.specs.declared.types.SlotWord.TheVariants as words;
 ghost use Rattle.group_laws.specs.declared.types.Seen.TheVariants as loads;
+ghost use Rattle.group_laws.specs.Runs as runs;
 ghost use Rattle.group_board.specs.Views.{after_mark, after_fail, after_finish, after_give_up, after_withdraw, after_doom, after_retire, TidiedIn};
 ghost use Rattle.group_board.specs.Conditions.{MayMark, MayFail, MayFinish, MayWithdraw, MayDoom, MayRetire};
 ghost use Rattle.group_board.specs.Assurances.{IsHome};
@@ -11,7 +12,7 @@ ghost use mathlib.Core.Option.{none};
 ghost use Rattle.atomic_table.specs.Table.{Allows, step};
 ghost use Rattle.atomic_board.specs.ShownState.{ShowsLawful};
 ghost use Rattle.atomic_board.specs.StepTells.{tells_doom, tells_retire};
-ghost use Rattle.atomic_board.specs.MemberSeats.{place_at, view_at, Stays};
+ghost use Rattle.atomic_board.specs.MemberSeats.{trail_at, place_at, view_at, Stays};
 
 use crate::member_seat::{Common, MemberSeat};
 use crate::parcel::Parcel;
@@ -55,6 +56,7 @@ impl MemberSeat {
         requires table { self.old.seat.table_id ≡ shared.now.table_id }
         requires may { MayMark (place_at self.old) self.old.member
             (view_at self.old) member slot change.entry }
+        ensures made { trail_at self.new ≡ runs.Kind.Mark member slot ∷ trail_at self.old }
         ensures same { Stays self.old self.new }
         ensures view { view_at self.new ≡ after_mark member slot (view_at self.old) }
     {
@@ -75,6 +77,7 @@ impl MemberSeat {
         requires table { self.old.seat.table_id ≡ shared.now.table_id }
         requires may { MayFail (place_at self.old) self.old.member
             (view_at self.old) member slot change.entry }
+        ensures made { trail_at self.new ≡ runs.Kind.Fail member slot ∷ trail_at self.old }
         ensures same { Stays self.old self.new }
         ensures view { view_at self.new ≡ after_fail member slot (view_at self.old) }
     {
@@ -93,6 +96,7 @@ impl MemberSeat {
     pub(crate) fn finish(&mut self, shared: &Common, slot: u32) -> Change
         requires table { self.old.seat.table_id ≡ shared.now.table_id }
         requires may { MayFinish (place_at self.old) self.old.member (view_at self.old) slot }
+        ensures made { trail_at self.new ≡ runs.Kind.Finish slot ∷ trail_at self.old }
         ensures same { Stays self.old self.new }
         ensures seen { MatchOption result.home
             (In (loads.Slot self.old.member slot words.Failed) (view_at self.old).looked)
@@ -119,6 +123,7 @@ impl MemberSeat {
     pub(crate) fn withdraw(&mut self, shared: &Common, slot: u32) -> Change
         requires table { self.old.seat.table_id ≡ shared.now.table_id }
         requires may { MayWithdraw (place_at self.old) self.old.member (view_at self.old) slot }
+        ensures made { trail_at self.new ≡ runs.Kind.Withdraw slot ∷ trail_at self.old }
         ensures same { Stays self.old self.new }
         ensures change { result.home ≡ Option.None }
         ensures pending { (view_at self.old).pending result.entry.key ≡ Option.Some
@@ -136,6 +141,7 @@ impl MemberSeat {
     pub(crate) fn doom(&mut self, shared: &Common, names: &[EntryName])
         requires table { self.old.seat.table_id ≡ shared.now.table_id }
         requires may { MayDoom (place_at self.old) self.old.member (view_at self.old) names.now }
+        ensures made { trail_at self.new ≡ runs.Kind.Doom names.now ∷ trail_at self.old }
         ensures same { Stays self.old self.new }
         ensures view { view_at self.new ≡ after_doom names.now (view_at self.old) }
     {
@@ -150,6 +156,7 @@ impl MemberSeat {
     pub(crate) fn retire(&mut self, shared: &Common, names: &[EntryName])
         requires table { self.old.seat.table_id ≡ shared.now.table_id }
         requires may { MayRetire (place_at self.old) self.old.member (view_at self.old) names.now }
+        ensures made { trail_at self.new ≡ runs.Kind.Retire names.now ∷ trail_at self.old }
         ensures same { Stays self.old self.new }
         ensures view { TidiedIn (place_at self.old) self.old.member
             (after_retire (place_at self.old) self.old.member names.now (view_at self.old))

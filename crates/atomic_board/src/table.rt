@@ -14,8 +14,8 @@ ghost use Rattle.atomic_board.specs.TableWords.{word_count};
 ghost use Rattle.atomic_board.specs.Deeds.{began, size, place_of};
 ghost use Rattle.atomic_board.specs.ShownState.{ShowsLawful};
 ghost use Rattle.atomic_board.specs.StepTells.{origin_in, is_store, left, right, joined, tells_return};
-ghost use Rattle.atomic_board.specs.MemberSeats.{origin_at, view_at, seat_of};
-ghost use Rattle.atomic_board.specs.Tokens.{AreTokens, AreFresh, AreEmptyHands, HasFrom, Ended};
+ghost use Rattle.atomic_board.specs.MemberSeats.{origin_at, view_at, done_at, seat_of};
+ghost use Rattle.atomic_board.specs.Tokens.{AreTokens, AreFresh, AreIdle, AreEmptyHands, HasFrom, Ended};
 ghost use Rattle.atomic_board.specs.GroupTables.{id_of, origin_of, group_place};
 
 use crate::group_table::GroupTable;
@@ -72,6 +72,7 @@ fn split_next(
     ensures token { (result.seat.table_id ≡ shared.now.table_id) × (result.member ≡ member)
         × (result.members ≡ members) × (origin_at result ≡ shared.now.key.me.0) }
     ensures view { view_at result ≡ view_of (began shared.now.key.me.0) member }
+    ensures idle { done_at result ≡ [] }
 {
     let mut seat = shared.split_seat::<SplitsOff>(spare);
     shared.load::<Settles>(&mut seat, LOCK_WORDS as usize + member as usize);
@@ -103,6 +104,7 @@ fn split_all(
     ensures count { length result.items ≡ members }
     ensures tokens { AreTokens shared.now.table_id (place_of shared.now.key.me.0) result.items }
     ensures fresh { AreFresh shared.now.key.me.0 result.items }
+    ensures idle { AreIdle result.items }
 {
     for member in 0..members - 1 {
         let Some(held) = hands.pop() else {
@@ -254,6 +256,7 @@ impl GroupTable {
         ensures tokens { IfOk result
             (λ ts. AreTokens (id_of self.old) (group_place self.old) ts.items) }
         ensures fresh { IfOk result (λ ts. AreFresh (origin_of self.old) ts.items) }
+        ensures idle { IfOk result (λ ts. AreIdle ts.items) }
     {
         let members = self.members;
         let hands = empty_hands(alloc, members)?;

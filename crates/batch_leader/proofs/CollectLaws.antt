@@ -10,7 +10,8 @@ use Rattle.group_laws.specs.Places.{members}
 use Rattle.store_image.specs.Facts.{In}
 use Rattle.group_laws.specs.declared.types.Pending.{Pending}
 use Rattle.group_laws.specs.MemberViews.{View}
-use Rattle.group_board.specs.Assurances.{IsUnlogged}
+use Rattle.group_laws.proofs.Clients.{In-append}
+use Rattle.group_board.specs.Assurances.{IsUnlogged, LacksName}
 use Rattle.group_board.specs.Views.{after_lock, after_take}
 use Rattle.group_board.specs.Conditions.{MayLock}
 use Rattle.group_board.specs.Seats.{SeatAt}
@@ -20,7 +21,7 @@ use Rattle.batch_leader.specs.declared.states.Collecting.{Collecting}
 use Rattle.batch_leader.specs.TakenChanges.{spelled, entries_in, taken_in, AreApart, IsTaken, HasOut}
 use Rattle.core_log.specs.declared.types.Room.{Room}
 use Rattle.batch_leader.specs.Rounds.{member_at, slot_at, round_end, own_lines, fits, stays_in, goes_fresh, words_in, space, left_free, leaves_room, has_chunk}
-use Rattle.batch_leader.specs.Leading.{IsFrom, AreUnlogged, Collects, IsKept, LeavesRoom, HasSpace}
+use Rattle.batch_leader.specs.Leading.{IsFrom, IsNew, AreUnlogged, AreNamedApart, Collects, IsKept, LeavesRoom, HasSpace}
 
 pub member_low : (m i n : ℕ) → m < n → i < 8 * n → member_at m i < n
 unfolding member_at
@@ -116,12 +117,26 @@ own_none m ts e = ap (own_lines m) e
 
 -- what isn't in the own log yet, where neither what is pending nor the log differs
 pub unlogged_by : (m : ℕ) (v u : View) (ts : List Taken) → u.pending ≡ v.pending → u.kept ≡ v.kept → AreUnlogged m v ts → AreUnlogged m u ts
-unlogged_by m v u ts pending kept each = all_weaker (λ t. IsUnlogged m t.member t.slot v t.change.entry) (λ t. IsUnlogged m t.member t.slot u t.change.entry) ts
+unlogged_by m v u ts pending kept each = all_weaker (λ t. IsNew m t.member t.slot v t.change.entry) (λ t. IsNew m t.member t.slot u t.change.entry) ts
     (λ t is. record {
-      new = λ i. is.new (subst (λ (es : List Entry). In t.change.entry es) kept i);
+      new = subst (λ (es : List Entry). LacksName es t.change.entry) (sym kept) is.new;
       own = λ mine. ap (λ (f : ℕ → Option Pending). f t.change.entry.key) pending ∙ is.own mine;
     })
     each
+
+-- with an entry more, whose name none of them has
+named_more : (es : List Entry) (e : Entry) → AreNamedApart es → LacksName es e → AreNamedApart (es ++ e ∷ [])
+named_more [] e all lacks = (λ f i. absurd i, tt)
+named_more (x ∷ xs) e all lacks = (
+  λ f i key version. ⊎_elim
+      (λ there. all.0 f there key version)
+      (λ j. ⊎_elim
+      (λ is. lacks x (inl refl) (sym key ∙ ap (λ (y : Entry). y.key) is) (sym version ∙ ap (λ (y : Entry). y.version) is))
+      (λ none. absurd none)
+      j)
+      (In-append f xs (e ∷ []) i),
+  named_more xs e all.1 (λ f i. lacks f (inr i)),
+)
 
 -- the leader after it took a change
 module _ (seat : SeatAt) (v u : View) (old new : Collecting) (t : Taken) (C : Collects seat v old) (whole : v.broken ≡ false) (few : length old.changes.taken.items < 64) (within : old.at < round_end seat.place)
@@ -169,7 +184,9 @@ module _ (seat : SeatAt) (v u : View) (old new : Collecting) (t : Taken) (C : Co
     own = own ∙ ap (λ (n : ℕ). n + own_of seat.number t) C.own ∙ sym (lines_more seat.number ts t) ∙ ap (own_lines seat.number) (sym items);
     own_few = (let n : length new.changes.taken.items ≡ length (ts ++ t ∷ []) = ap length items in let l = longer in let a = C.own_few in let b = own_short in omega (arith, n, l, a, b, own));
     unlogged = subst (AreUnlogged seat.number u) (sym items) (unlogged_by seat.number v u (ts ++ t ∷ []) (ap (λ (w : View). w.pending) view) (ap (λ (w : View). w.kept) view)
-        (all_more (λ x. IsUnlogged seat.number x.member x.slot v x.change.entry) ts t C.unlogged unlogged));
+        (all_more (λ x. IsNew seat.number x.member x.slot v x.change.entry) ts t C.unlogged (record { new = unlogged.new; own = unlogged.own })));
+    named = subst (λ (es : List Entry). AreNamedApart es) (sym (entries_more ts t) ∙ ap entries_in (sym items))
+        (named_more (entries_in ts) t.change.entry C.named (subst (λ (es : List Entry). LacksName es t.change.entry) (C.flying whole) unlogged.alone));
   }
 
 -- and after it passed a slot
@@ -189,6 +206,7 @@ collects_past seat v u old new C within changes own at taken holds flying broken
       own = own ∙ C.own ∙ ap (own_lines seat.number) (sym items);
       own_few = (let n : length new.changes.taken.items ≡ length old.changes.taken.items = ap length items in let a = C.own_few in omega (arith, n, a, own));
       unlogged = subst (AreUnlogged seat.number u) (sym items) (unlogged_by seat.number v u old.changes.taken.items pending kept C.unlogged);
+      named = subst (λ (ts : List Taken). AreNamedApart (entries_in ts)) (sym items) C.named;
     }
 
 -- and after something that doesn't concern what it took
@@ -207,6 +225,7 @@ collects_still seat v u old new C changes own at taken holds flying broken pendi
       own = own ∙ C.own ∙ ap (own_lines seat.number) (sym items);
       own_few = (let n : length new.changes.taken.items ≡ length old.changes.taken.items = ap length items in let a = C.own_few in omega (arith, n, a, own));
       unlogged = subst (AreUnlogged seat.number u) (sym items) (unlogged_by seat.number v u old.changes.taken.items pending kept C.unlogged);
+      named = subst (λ (ts : List Taken). AreNamedApart (entries_in ts)) (sym items) C.named;
     }
 
 -- at the beginning
@@ -224,6 +243,7 @@ collects_first seat v u c may items landed at own view =
       own = own ∙ ap (own_lines seat.number) (sym items);
       own_few = omega (arith, own);
       unlogged = subst (AreUnlogged seat.number u) (sym items) tt;
+      named = subst (λ (ts : List Taken). AreNamedApart (entries_in ts)) (sym items) tt;
     }
 
 -- An entry that fits has room in the chunk that the batch is for.

@@ -3,4 +3,5 @@ pub mod CollectLaws
 pub mod Steps
 pub mod SightLaws
 pub mod WithdrawLaws
+pub mod CutLaws
 pub mod Clients

@@ -16,7 +16,8 @@ use Rattle.group_laws.specs.MemberViews.{View, view_of}
 use Rattle.group_laws.specs.Runs.{Kind, Runs}
 use Rattle.group_laws.specs.Runs.Kind.{Look, Take, Withdraw}
 use Rattle.group_board.specs.Seats.{SeatAt}
-use Rattle.group_board.specs.Assurances.{IsUnlogged}
+use Rattle.log_entry.specs.declared.entry.Entry.{Entry}
+use Rattle.group_board.specs.Assurances.{LacksName}
 use Rattle.group_board.specs.Views.{after_take, after_withdraw}
 use Rattle.group_board.specs.Told.{state_of}
 use Rattle.group_board.specs.declared.board.SlotState.{SlotState}
@@ -40,9 +41,19 @@ taken_by c = c.changes.taken.items
 abbrev pub IsFrom : ℕ → ℕ → Taken → Type 0
 IsFrom m at t = (i : ℕ) × (i < at) × (t.member ≡ member_at m i) × (t.slot ≡ slot_at i)
 
+-- No entry of the own log has the name of what was taken out of slot s of member a; an own change is the one pending in that slot.
+pub record IsNew (m a s : ℕ) (v : View) (e : Entry) : Type 0 where
+  pub new : LacksName v.kept e
+  pub own : a ≡ m → v.pending e.key ≡ Some (record { entry = e; slot = Some s })
+
 -- none of these is in the own log yet, and own ones are the changes pending in their slots
 abbrev pub AreUnlogged : ℕ → View → List Taken → Type 0
-AreUnlogged m v ts = AllByRecursion (λ t. IsUnlogged m t.member t.slot v t.change.entry) ts
+AreUnlogged m v ts = AllByRecursion (λ t. IsNew m t.member t.slot v t.change.entry) ts
+
+-- no two of the entries have one name
+abbrev pub AreNamedApart : List Entry → Type 0
+AreNamedApart [] = Unit {0}
+AreNamedApart (e ∷ es) = LacksName es e × AreNamedApart es
 
 -- The leader has the lock, and all that it took since is in its hands and in flight. Who is broken takes nothing.
 pub record CollectsAt (p : Place) (m : ℕ) (v : View) (c : Collecting) : Type 0 where
@@ -56,6 +67,7 @@ pub record CollectsAt (p : Place) (m : ℕ) (v : View) (c : Collecting) : Type 0
   pub own : c.own_lines ≡ own_lines m (taken_by c)
   pub own_few : c.own_lines ≤ LONGEST_ENTRY_LINES * length (taken_by c)
   pub unlogged : AreUnlogged m v (taken_by c)
+  pub named : AreNamedApart (entries_in (taken_by c))
 
 abbrev pub Collects : SeatAt → View → Collecting → Type 0
 Collects seat v c = CollectsAt seat.place seat.number v c
@@ -217,6 +229,7 @@ pub record IsBatchAt (p : Place) (m : ℕ) (v : View) (b : Batch) : Type 0 where
   pub whole : v.broken ≡ false
   pub own : b.own_lines ≡ own_lines m b.changes.taken.items
   pub unlogged : AreUnlogged m v b.changes.taken.items
+  pub named : AreNamedApart (entries_in b.changes.taken.items)
 
 abbrev pub IsBatchOf : SeatAt → View → Batch → Type 0
 IsBatchOf seat v b = IsBatchAt seat.place seat.number v b

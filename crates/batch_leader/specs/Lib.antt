@@ -3,6 +3,7 @@ pub mod Rounds
 pub mod Leading
 pub mod GivingBack
 pub mod Persisting
+pub mod TurnSteps
 pub use Rattle.core_log.specs.Chunk
 pub use Rattle.group_board.specs.Conditions
 pub use Rattle.core_log.specs.Entries

@@ -6,6 +6,7 @@
 mod batch_buffer;
 mod changes;
 mod collect_changes;
+pub mod cut_laws;
 mod fitting;
 mod mark_and_fail;
 mod persisting;

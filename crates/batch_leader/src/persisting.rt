@@ -1,5 +1,5 @@
 // Writing a batch into the own log.
-ghost use Rattle.std.specs.Prelude.{◌≡◌, ◌≢◌, ℕ, ◌≤◌, ◌<◌, false, [], Option, OnOk, OnErr, MatchResult};
+ghost use Rattle.std.specs.Prelude.{◌≡◌, ◌∷◌, ◌≢◌, ℕ, ◌≤◌, ◌<◌, false, [], Option, OnOk, OnErr, MatchResult};
 ghost use Rattle.pm_region.specs.State.{Faulted};
 ghost use Rattle.core_log.specs.Chunk.{padded};
 ghost use Rattle.core_log.specs.Entries.{AppendedBatch};
@@ -97,11 +97,15 @@ impl Batch {
             (λ _. Makes (B.whole board.old) (B.seat board.old).number
             runs.Kind.Commit (B.whole board.new) (B.view board.new))
             (λ _. B.whole board.new ≡ B.whole board.old) }
+        ensures steps { MatchResult result
+            (λ _. (B.trail board.new ≡ runs.Kind.Commit ∷ B.trail board.old)
+            × (B.at board.new ≡ (R.state region.new).stamp))
+            (λ _. B.trail board.new ≡ B.trail board.old) }
         ensures cause { OnErr result (Faulted (R.state region.old) (R.state region.new)) }
     {
         match log.append_batch(region, &self.changes.words) {
             Ok(_) => {
-                board.commit();
+                board.commit(&*region);
                 Ok(self.certain())
             }
             Err(_) => Err(self.lost()),
@@ -150,6 +154,10 @@ impl Batch {
             (λ _. Makes (B.whole board.old) (B.seat board.old).number
             runs.Kind.Commit (B.whole board.new) (B.view board.new))
             (λ _. B.whole board.new ≡ B.whole board.old) }
+        ensures steps { MatchResult result
+            (λ _. (B.trail board.new ≡ runs.Kind.Commit ∷ B.trail board.old)
+            × (B.at board.new ≡ (R.state region.new).stamp))
+            (λ _. B.trail board.new ≡ B.trail board.old) }
         ensures cause { OnErr result (Faulted (R.state region.old) (R.state region.new)) }
     {
         match fresh {

@@ -1,3 +1,4 @@
 pub mod Lengths
 pub mod RoomRule
 pub use Rattle.chunk_map.specs.Layouts
+pub mod CleaningRoom

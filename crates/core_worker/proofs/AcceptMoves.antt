@@ -180,7 +180,7 @@ module _ (s : State) (w b : Worker) (n : ℕ) (r : Request) (works : w.winds_dow
         begun = None;
         begins = λ y is. absurd (cc is);
         posts = inl refl;
-        spends = λ on. still_stock x.place x.number x.view w b N.holds stock;
+        spends = λ on. inl (still_stock x.place x.number x.view w b N.holds stock);
       };
       refuses = λ k own. ⊎_elim
           (λ same. subst (λ j. Refuses x.place.layout (stock_of w) (x.view.last j) (x.view.last j) (map replied (fixed_of j (fixed_to n r a cause ∷ [])))) (sym same)
@@ -230,7 +230,7 @@ module _ (s : State) (w b : Worker) (n : ℕ) (r : Request) (works : w.winds_dow
         begun = Some (n, r);
         begins = λ y is. subst (λ (z : ℕ × Request). BeginsIn x.place x.number (hands_of x.view w) (hands_of x.view b) ((n, r) ∷ []) z) (let same : (n, r) ≡ y = cc is in same) (record { own = T.own; waits = last_in ((hands_of x.view w).waits (key_of r)); place = stands_there });
         posts = inl refl;
-        spends = λ on. stages_spend x.place.layout x.view.took x.view.flying x.view.took x.view.flying (stock_of w) (stock_of w) (stock_of b) (Some (n, r)) (at_least_same (stock_of w)) took (stock_small x.place x.number x.view b N.holds) refl refl;
+        spends = λ on. inl (stages_spend x.place.layout x.view.took x.view.flying x.view.took x.view.flying (stock_of w) (stock_of w) (stock_of b) (Some (n, r)) (at_least_same (stock_of w)) took (stock_small x.place x.number x.view b N.holds) refl refl);
       };
     } where
       last_in : (ws : List (ℕ × Request)) → In (n, r) (ws ++ requests_for (key_of r) ((n, r) ∷ []))

@@ -31,6 +31,7 @@ module _ (seat other : SeatAt) (place : other.place ≡ seat.place) (number : ot
     own = subst (λ (n : ℕ). c.own_lines ≡ own_lines n (taken_by c)) number C.own;
     own_few = C.own_few;
     unlogged = subst (λ (n : ℕ). AreUnlogged n v (taken_by c)) number C.unlogged;
+    named = C.named;
   }
 
   batch : (v : View) (b : Batch) → IsBatchOf other v b → IsBatchOf seat v b
@@ -41,6 +42,7 @@ module _ (seat other : SeatAt) (place : other.place ≡ seat.place) (number : ot
     whole = B.whole;
     own = subst (λ (n : ℕ). b.own_lines ≡ own_lines n b.changes.taken.items) number B.own;
     unlogged = subst (λ (n : ℕ). AreUnlogged n v b.changes.taken.items) number B.unlogged;
+    named = B.named;
   }
 
   certain : (v : View) (ts : List Taken) → IsCertain other v ts → IsCertain seat v ts

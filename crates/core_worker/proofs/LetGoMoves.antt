@@ -223,7 +223,7 @@ module _ (Known : Type 0) (p : Place) (m : ℕ) (v u : View) (w f x : Worker) (k
     begun = L.begun;
     begins = λ y is. (let b = L.begins y is in record { own = ap (owner p) b.0 ∙ own; waits = waited y b.1 b.0; place = ap (placed_for u x.places.items) b.0 ∙ b.2 });
     posts = inl lists.0;
-    spends = λ on. stages_spend p.layout v.took v.flying u.took u.flying (stock_of w) (stock_of f) (stock_of x) L.begun stock (L.stages p.layout layout sets_layout sets N.sets) (stock_small p m u x N) lists.1 lists.2;
+    spends = λ on. inl (stages_spend p.layout v.took v.flying u.took u.flying (stock_of w) (stock_of f) (stock_of x) L.begun stock (L.stages p.layout layout sets_layout sets N.sets) (stock_small p m u x N) lists.1 lists.2);
   } where
     all_so : (ys : List Fixed) (y : Fixed) → In y ys → AllByRecursion (λ (z : Fixed). z.reply ≡ replies.Stopped) ys → y.reply ≡ replies.Stopped
     all_so [] y i h = absurd i

@@ -1,6 +1,7 @@
 mod LeadTies
 mod Led
 mod Giving
+mod OutboxLaws
 mod Rounds
 mod Writing
 mod ChunksKept
@@ -49,6 +50,7 @@ pub mod Tidied
 pub mod Freeing
 pub mod FreedOrder
 pub mod GivingUp
+pub mod Counted
 pub mod PuttingBack
 pub mod Settling
 pub mod TakingBack
@@ -85,4 +87,12 @@ mod StartHeads
 pub mod Starting
 mod PartsGiven
 pub mod OpeningLaws
+pub mod GoneLaws
+pub mod GoneKeys
+pub mod LogNames
+pub mod ChunkGivenUp
+pub mod LogEnds
+pub mod Receiving
 pub mod Clients
+pub mod ClearsLeft
+pub mod RetiredKeys

@@ -195,7 +195,7 @@ module _ (p : Place) (m : ℕ) (v : View) (w : Worker) (H : Holds p m v w) (slot
           more = refl;
           few = entry_needs p.layout e value (chunk_big p.layout H.place.layout) facts.3 points_well;
         });
-        spends = λ runs. stages_spend p.layout v.took v.flying v.took v.flying (stock_of w) (stock_of x) (stock_of x) None stock (stages_none p.layout (stock_of x) (stock_of x) None (at_least_same (stock_of x))) (stock_small p m u x N) refl refl;
+        spends = λ runs. inl (stages_spend p.layout v.took v.flying v.took v.flying (stock_of w) (stock_of x) (stock_of x) None stock (stages_none p.layout (stock_of x) (stock_of x) None (at_least_same (stock_of x))) (stock_small p m u x N) refl refl);
       };
       stops = λ is. absurd (let both : true ≡ false = sym is ∙ on in cc both);
       breaks = N.broken;

@@ -66,7 +66,7 @@ some_empty [] (y ∷ b) f e = absurd (let at = e y.version in let here : cond (y
 some_empty (x ∷ a) [] f e = absurd (let at = e x.version in let here : cond (x.version == x.version) (Some x) (standing_at a x.version) ≡ Some x = ap (λ c. cond c (Some x) (standing_at a x.version)) (eq-eqb x.version x.version refl) in let both : None ≡ Some (f x.version x) = at ∙ ap (option_map (f x.version)) here in cc both)
 some_empty (x ∷ a) (y ∷ b) f e = refl
 
-forget_by : (a b : Option KeyRecord) (f : ℕ → Standing → Standing) → option_map last_change b ≡ option_map last_change a → ((n : ℕ) → standing_at (standing_of b) n ≡ option_map (f n) (standing_at (standing_of a) n)) → is_forgettable b ≡ is_forgettable a
+pub forget_by : (a b : Option KeyRecord) (f : ℕ → Standing → Standing) → option_map last_change b ≡ option_map last_change a → ((n : ℕ) → standing_at (standing_of b) n ≡ option_map (f n) (standing_at (standing_of a) n)) → is_forgettable b ≡ is_forgettable a
 forget_by None None f e h = refl
 forget_by None (Some s) f e h = absurd (cc e)
 forget_by (Some r) None f e h = absurd (cc e)

@@ -225,7 +225,7 @@ quiet_in p m v u w x accepted places posted spends = record {
   begun = None;
   begins = λ y is. absurd (cc is);
   posts = inl posted;
-  spends = spends;
+  spends = λ on. inl (spends on);
 }
 
 -- and makes no step, where as much is free

@@ -179,7 +179,7 @@ module _ (p : group.Place) (m : ℕ) (v : View) (w : Worker) (H : Holds p m v w)
   pledged_by ts unlogged s e is =
       let t = own_in _ m ts s e unlogged is in
       let pends : v.pending e.key ≡ Some (record { entry = e; slot = Some s }) = subst (λ (n : ℕ). v.pending e.key ≡ Some (record { entry = e; slot = Some n })) t.3 (subst (λ (x : Entry). v.pending x.key ≡ Some (record { entry = x; slot = Some t.0.slot })) t.4 (t.1.own t.2)) in
-      let new : In e v.kept → ⊥ = λ i. t.1.new (subst (λ (x : Entry). In x v.kept) (sym t.4) i) in
+      let new : In e v.kept → ⊥ = λ i. t.1.new e i (ap (λ (x : Entry). x.key) (sym t.4)) (ap (λ (x : Entry). x.version) (sym t.4)) in
       ⊎_elim (λ z. pledged_place s e new pends z.0 z.1 z.2 z.3 z.4) (λ y. absurd (let none : Some s ≡ None = y.0 in cc none)) (H.pending e.key (record { entry = e; slot = Some s }) pends)
 
 some_of : {X : Type 0} → (o : Option X) → is_some o ≡ true → (x : X) × (o ≡ Some x)

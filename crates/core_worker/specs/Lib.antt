@@ -1,3 +1,4 @@
+pub mod Outbox
 pub mod OwnPlaces
 pub mod Supplies
 pub mod KeyTies
@@ -53,3 +54,9 @@ pub use Rattle.conflict_queue.specs.Waiting
 pub use Rattle.pm_region.specs.Words
 pub use Rattle.lazy_alloc.specs.Written
 pub mod PostedPlaces
+pub mod GoneNames
+pub mod LogNames
+pub mod GivingUp
+pub mod Counted
+pub mod CleaningParts
+pub mod CleaningLeft

@@ -15,6 +15,7 @@ ghost use Rattle.batch_leader.specs.declared.states.Persisted.{Persisted};
 ghost use Rattle.batch_leader.specs.declared.states.FailedBatch.{FailedBatch};
 ghost use Rattle.core_worker.specs.declared.types.Leading.TheVariants as leads;
 ghost use Rattle.batch_leader.specs.Persisting.{StaysLicensed, WritesPart};
+ghost use Rattle.batch_leader.specs.TurnSteps.{TurnSteps, trail_with};
 ghost use Rattle.core_worker.specs.Ties.{HoldsAt, KeepsStanding, LeadsNothing, StandsAt};
 ghost use Rattle.core_worker.specs.Turns.{TriesLock, GoesRound, Marks, Fails, persisted_left, failed_left, led_by, TakesFor, Steps, MadeOrStops, PersistsOrLoses, unpledged, unpledged_if};
 ghost use Rattle.lazy_alloc.specs.Sets.{AreSets};
@@ -245,6 +246,9 @@ impl Worker {
             (B.seat board.old).number (B.view board.old) (B.view board.new) }
         ensures cause { self.new.stopped ≡ true
             → Faulted (R.state region.old) (R.state region.new) }
+        ensures steps { TurnSteps (R.state region.old) (R.state region.new)
+            (trail_with (B.trail board.old) (B.at board.old))
+            (trail_with (B.trail board.new) (B.at board.new)) }
         // The rule is one of a core that hasn't stopped.
         ensures rule { self.new.stopped ≡ false → HasKeptRoom self.old → HasKeptRoom self.new }
         ensures persists { PersistsOrLoses self.new.stopped (B.seat board.old).number

@@ -3,14 +3,23 @@
 
 mod accepting;
 mod batch_names;
+mod begin_cleaning;
 mod begin_request;
 mod begin_waiting;
 mod choose_item;
+mod cleaning_parts;
+mod clear_turn;
+mod clears_left;
+mod copy_turn;
 mod finish_item;
 mod gate;
+mod giving_up;
+mod gone_names;
 mod hearing;
 mod lead_items;
+mod log_names;
 mod open_worker;
+mod outbox;
 mod planning;
 mod post_item;
 mod posted_places;

@@ -152,7 +152,8 @@ module _ (o : Origin) (e : Engine) (t : ℕ → Bool) (S : Stands o e) where
   takes_rooms =
       let R = S.rooms in
       record {
-        room = λ c low on. (let T = R.room c low on in record {
+        small = R.small;
+        room = λ c low on more ample. (let T = R.room c low on more ample in record {
           opened = T.opened;
           cuts = T.cuts;
           chunks = T.chunks;

@@ -17,5 +17,5 @@ pub use Rattle.engine_laws.proofs.RoomSums.{sum_cons}
 pub use Rattle.engine_laws.proofs.GroupLines.{out_within, own_lines, taken_within}
 pub use Rattle.engine_laws.proofs.Ampleness.{chunk_big}
 pub use Rattle.engine_laws.proofs.RoomMoves.{OwnLines, OwnMoves, fresh, own_posted, own_room}
-pub use Rattle.engine_laws.proofs.RoomNeeds.{not_ample}
+pub use Rattle.engine_laws.proofs.RoomNeeds.{not_ample, not_scarce}
 pub use Rattle.engine_laws.proofs.Kept.{done, promised}

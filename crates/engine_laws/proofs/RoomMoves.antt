@@ -21,10 +21,10 @@ use Rattle.group_laws.specs.State.{Group}
 use Rattle.group_laws.specs.MemberViews.{View, view_of}
 use Rattle.log_entry.specs.Spelling.{words_of}
 use Rattle.group_laws.proofs.Clients.{run_frame}
-use Rattle.headline.specs.Ample.{lines_of, is_put_of}
+use Rattle.headline.specs.Ample.{lines_of, is_put_of, IsAmpleFor}
 use Rattle.engine_laws.specs.Parts.{group_of, member_of}
 use Rattle.engine_laws.specs.FreeStock.{Stock, is_put_in}
-use Rattle.engine_laws.specs.WorkerMoves.{Placed, request_placed, Fixed, asked, fixed_of, requests_for}
+use Rattle.engine_laws.specs.WorkerMoves.{Placed, request_placed, Fixed, asked, fixed_of, requests_for, CleansIn}
 use Rattle.engine_laws.specs.Engine.{Engine, line}
 use Rattle.engine_laws.specs.Moves.{Moves}
 use Rattle.engine_laws.specs.Keys.{Served}
@@ -279,8 +279,12 @@ module _ (l : Geometry) (e f : Engine) (c : ℕ) (accepted : List (ℕ × Reques
       by false is = is
       by true is = absurd (let both : true ≡ false = sym (M.stays_stopped is) ∙ off in cc both)
 
-    pub own_room : (e.stopped c ≡ false → HasRoom l o e c) → f.stopped c ≡ false → HasRoom l o f c
-    own_room before runs = own_room_by (before (ran runs)) (P.spends runs) where
+    -- Where it cleaned, little was free: an ample input excludes that.
+    pub own_room : (e.stopped c ≡ false → HasRoom l o e c) → ((e.stock c).chunks ≤ 1 → HasRoom l o e c → ⊥) → f.stopped c ≡ false → HasRoom l o f c
+    own_room before scarce runs = ⊎_elim
+        (λ (Q : Spends l ((e.group (group_of l c)).took (member_of l c)) ((e.group (group_of l c)).flying (member_of l c)) ((f.group (group_of l c)).took (member_of l c)) ((f.group (group_of l c)).flying (member_of l c)) (e.stock c) (f.stock c) P.begun). own_room_by (before (ran runs)) Q)
+        (λ (C : CleansIn l (e.stock c) (f.stock c) accepted fixed). absurd (scarce C.scarce (before (ran runs))))
+        (P.spends runs) where
       own_room_by : HasRoom l o e c → Spends l ((e.group (group_of l c)).took (member_of l c)) ((e.group (group_of l c)).flying (member_of l c)) ((f.group (group_of l c)).took (member_of l c)) ((f.group (group_of l c)).flying (member_of l c)) (e.stock c) (f.stock c) P.begun → HasRoom l o f c
       own_room_by H Q = record {
         opened = H.opened + one_if Q.opened;
@@ -410,9 +414,9 @@ module _ (o : Origin) (e f : Engine) (c : ℕ) (accepted : List (ℕ × Request)
         stranger at = let low = member_low L layout_is c in let size = ap (λ (n : Geometry). member_of n c) S.layout in absurd (omega (arith, low, size, high, at))
 
   -- another core's room
-  pub other_room : (d : ℕ) → d < L.cores → d ≢ c → f.stopped d ≡ false → HasRoom L o f d
-  other_room d low ne runs =
-      let H = R.room d low (sym (M.other_stops d ne) ∙ runs) in
+  pub other_room : (d : ℕ) → d < L.cores → d ≢ c → f.stopped d ≡ false → (more : List Request) → IsAmpleFor L o.found (e.given ++ more) d → HasRoom L o f d
+  other_room d low ne runs more ample =
+      let H = R.room d low (sym (M.other_stops d ne) ∙ runs) more ample in
       let at = view_stays d ne in
       let stock = M.other_stocks d ne in
       let flying = ap (λ (v : View). lines_in v.flying) at in
@@ -431,5 +435,15 @@ module _ (o : Origin) (e f : Engine) (c : ℕ) (accepted : List (ℕ × Request)
       }
 
   -- the core's own
-  pub mine_room : c < L.cores → f.stopped c ≡ false → HasRoom L o f c
-  mine_room low runs = own_room L e f c accepted fixed own_lines own_moves spends o layout_is (λ ran. R.room c low ran) runs
+  pub mine_room : c < L.cores → f.stopped c ≡ false → (more : List Request) → IsAmpleFor L o.found (e.given ++ more) c → ((e.stock c).chunks ≤ 1 → HasRoom L o e c → ⊥) → HasRoom L o f c
+  mine_room low runs more ample scarce = own_room L e f c accepted fixed own_lines own_moves spends o layout_is (λ ran. R.room c low ran more ample) scarce runs
+
+  -- the free lines of its open chunk
+  pub small_there : (d : ℕ) → d < L.cores → f.stopped d ≡ false → (f.stock d).lines ≤ payload_lines L
+  small_there d low runs = ⊎_elim
+      (λ mine. subst (λ (b : ℕ). (f.stock b).lines ≤ payload_lines L) (sym mine) (⊎_elim
+      (λ (Q : Spends L ((e.group (group_of L c)).took (member_of L c)) ((e.group (group_of L c)).flying (member_of L c)) ((f.group (group_of L c)).took (member_of L c)) ((f.group (group_of L c)).flying (member_of L c)) (e.stock c) (f.stock c) spends.begun). Q.small)
+      (λ (C : CleansIn L (e.stock c) (f.stock c) accepted fixed). C.small)
+      (spends.spends (sym (ap f.stopped mine) ∙ runs))))
+      (λ ne. let was = R.small d low (sym (M.other_stops d ne) ∙ runs) in let same = ap (λ (s : Stock). s.lines) (M.other_stocks d ne) in omega (arith, was, same))
+      (cases_eq d c)

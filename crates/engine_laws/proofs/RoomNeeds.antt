@@ -92,3 +92,31 @@ module _ (o : Origin) (e : Engine) (layout_is : IsLayout (layout_of o.found)) (c
         opened_many : IsAmpleFor L o.found trace c → LacksRoom L (e.stock c) q → parts_of (log_bytes L c trace) (L.chunk_bytes - 576) + 2 ≤ H.opened
         opened_many ample (inl few) = let chunks = H.chunks in let cuts = all_few in omega (arith, ample, few, chunks, cuts)
         opened_many ample (inr none) = let chunks = H.chunks in let few = none.0 in let cuts = one_fewer none.1.class none.1.needs none.1.none in omega (arith, ample, few, chunks, cuts)
+
+-- What an ample input leaves free, whatever is asked next: the log opened fewer chunks than it allows for, so that two are free at least.
+module _ (o : Origin) (e : Engine) (layout_is : IsLayout (layout_of o.found)) (c : ℕ) (H : HasRoom (layout_of o.found) o e c) (more : List Request) where
+  abbrev M : Geometry
+  M = layout_of o.found
+
+  drop_test : (a b : Bool) → cond {A = ℕ} (a && b) 1 0 ≤ cond {A = ℕ} a 1 0
+  drop_test true true = omega arith
+  drop_test true false = omega arith
+  drop_test false b = omega arith
+
+  puts_begun : (class : ℕ) → begun_puts M e c class ≤ count_by (is_put_of M c class) (e.given ++ more)
+  puts_begun class =
+      let le = sum_up (λ (x : ℕ × Request). cond {A = ℕ} (is_put_of M c class x.1 && is_begun e x) 1 0) (λ (x : ℕ × Request). cond {A = ℕ} (is_put_of M c class x.1) 1 0) (enumerate_from 0 e.given) (λ x i. drop_test (is_put_of M c class x.1) (is_begun e x)) in
+      let all = sum_numbered (λ x. cond {A = ℕ} (is_put_of M c class x) 1 0) 0 e.given in
+      let split = sum_by-append (λ x. cond {A = ℕ} (is_put_of M c class x) 1 0) e.given more in
+      omega (arith, le, all, split)
+
+  cuts_few : (class : ℕ) → H.cuts class ≤ parts_of (count_by (is_put_of M c class) (e.given ++ more)) (blocks_in M class)
+  cuts_few class = ⊎_elim
+      (λ none. omega (arith, none))
+      (λ some. parts_least (H.cuts class) (count_by (is_put_of M c class) (e.given ++ more)) (blocks_in M class) (block_some M class (H.class class some)) (let last = H.last class some in let few = puts_begun class in omega (arith, last, few)))
+      (cases_eq (H.cuts class) 0)
+
+  pub not_scarce : (e.stock c).chunks ≤ 1 → 64 * lines_in ((e.group (group_of M c)).took (member_of M c)) ≤ log_bytes M c (e.given ++ more) → IsAmpleFor M o.found (e.given ++ more) c → ⊥
+  not_scarce few within ample =
+      few_opened M H.opened (lines_in ((e.group (group_of M c)).took (member_of M c))) (e.stock c).lines (log_bytes M c (e.given ++ more)) (chunk_big M layout_is) (let filled = H.lines in omega (arith, filled)) H.small within
+      (let chunks = H.chunks in let cuts = sum_up H.cuts (λ class. parts_of (count_by (is_put_of M c class) (e.given ++ more)) (blocks_in M class)) (numbers 1 GREATEST_CLASS) (λ class i. cuts_few class) in omega (arith, ample, few, chunks, cuts))

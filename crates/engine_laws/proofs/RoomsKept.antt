@@ -27,8 +27,8 @@ use Rattle.engine_laws.specs.Rooms.{is_begun, is_out, begun_puts, out_lines, Has
 use Rattle.engine_laws.proofs.Numbers.{all_in, filter_in}
 use Rattle.engine_laws.proofs.RoomSums.{sum_cons, in_enumerated}
 use Rattle.engine_laws.proofs.GroupLines.{out_within, taken_within}
-use Rattle.engine_laws.proofs.RoomMoves.{Fresh, fixed_there, fresh, own_lines, own_moves, spends, mine_room, other_room, posted_there, strangers_there}
-use Rattle.engine_laws.proofs.RoomNeeds.{not_ample}
+use Rattle.engine_laws.proofs.RoomMoves.{Fresh, fixed_there, fresh, own_lines, own_moves, spends, mine_room, other_room, small_there, posted_there, strangers_there}
+use Rattle.engine_laws.proofs.RoomNeeds.{not_ample, not_scarce}
 
 -- All of it after a move.
 module _ (o : Origin) (e f : Engine) (c : ℕ) (accepted : List (ℕ × Request)) (fixed : List Fixed) (S : Stands o e) (M : Moves e f c accepted fixed) (P : SpendsRoom e.layout e f c accepted fixed) (R : Rooms o e) where
@@ -57,7 +57,7 @@ module _ (o : Origin) (e f : Engine) (c : ℕ) (accepted : List (ℕ × Request)
       let k : ℕ = key_of x.request in
       let F = fresh_there (asked x) (subst (λ (m : Geometry). owner m k ≡ c) S.layout own) r.1 in
       let lacks = all_in (λ (y : Request × Reply). y.1 ≡ Full → LacksRoom e.layout (e.stock c) y.0) (map replied (fixed_of k fixed)) (replied x) (M.refuses k own).full (in_map replied x (fixed_of k fixed) (filter_in (λ (z : Fixed). key_of z.request == k) fixed x i (eq-eqb k k refl))) is in
-      not_ample o e layout_is c (R.room c low r.0) x.request x.number (subst (λ (m : Geometry). owner m k ≡ c) S.layout own) F.given F.begun (subst (λ (m : Geometry). LacksRoom m (e.stock c) x.request) S.layout lacks) more (took_few more)
+      λ ample. not_ample o e layout_is c (R.room c low r.0 more ample) x.request x.number (subst (λ (m : Geometry). owner m k ≡ c) S.layout own) F.given F.begun (subst (λ (m : Geometry). LacksRoom m (e.stock c) x.request) S.layout lacks) more (took_few more) ample
 
   full_there : (n k : ℕ) (a : Answer) → f.answer n ≡ Some a → a.reply ≡ Full → IsAsked f.given n k → (more : List Request) → IsAmpleFor L o.found (f.given ++ more) (owner L k) → ⊥
   full_there n k a is full asked_n more ample = ⊎_elim
@@ -82,10 +82,15 @@ module _ (o : Origin) (e f : Engine) (c : ℕ) (accepted : List (ℕ × Request)
 
   pub rooms_on : Rooms o f
   rooms_on = record {
-    room = λ d lower runs. ⊎_elim
-        (λ same. subst (λ (x : ℕ). HasRoom L o f x) (sym same) (mine_room o e f c accepted fixed S M P R low (sym (ap f.stopped same) ∙ runs)))
-        (λ ne. other_room o e f c accepted fixed S M P R d lower ne runs)
+    room = λ d lower runs more ample.
+        let before : IsAmpleFor L o.found (e.given ++ more) d = subst (λ (xs : List Request). IsAmpleFor L o.found (xs ++ more) d) M.given ample in
+        ⊎_elim
+        (λ same.
+        let mine : IsAmpleFor L o.found (e.given ++ more) c = subst (λ (x : ℕ). IsAmpleFor L o.found (e.given ++ more) x) same before in
+        subst (λ (x : ℕ). HasRoom L o f x) (sym same) (mine_room o e f c accepted fixed S M P R low (sym (ap f.stopped same) ∙ runs) more mine (λ few H. not_scarce o e layout_is c H more few (took_few more) mine)))
+        (λ ne. other_room o e f c accepted fixed S M P R d lower ne runs more before)
         (cases_eq d c);
+    small = λ d lower runs. small_there o e f c accepted fixed S M P R d lower runs;
     posted = posted_there o e f c accepted fixed S M P R;
     strangers = strangers_there o e f c accepted fixed S M P R;
     full = full_there;
@@ -94,7 +99,8 @@ module _ (o : Origin) (e f : Engine) (c : ℕ) (accepted : List (ℕ × Request)
 -- At first nothing is spent.
 pub rooms_opened : (o : Origin) → Rooms o (opening o)
 rooms_opened o = record {
-  room = λ c low runs. record {
+  small = λ c low runs. omega arith;
+  room = λ c low runs more ample. record {
     opened = 0;
     cuts = λ k. 0;
     chunks = (let none = none_cut (numbers 1 GREATEST_CLASS) in omega (arith, none));
@@ -149,7 +155,8 @@ module _ (o : Origin) (e : Engine) (q : Request) (S : Stands o e) (R : Rooms o e
 
   pub rooms_given : Rooms o g
   rooms_given = record {
-    room = λ c low runs. let H = R.room c low runs in record {
+    small = R.small;
+    room = λ c low runs more ample. let H = R.room c low runs (q ∷ more) (subst (λ (xs : List Request). IsAmpleFor N o.found xs c) (append_assoc e.given (q ∷ []) more) ample) in record {
       opened = H.opened;
       cuts = H.cuts;
       chunks = H.chunks;

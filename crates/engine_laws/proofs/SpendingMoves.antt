@@ -10,7 +10,7 @@ use Rattle.group_laws.specs.MemberViews.{View}
 use Rattle.group_laws.specs.Regions.{place_at}
 use Rattle.engine_laws.specs.Parts.{group_of, member_of}
 use Rattle.engine_laws.specs.FreeStock.{Stock, IsAtLeast}
-use Rattle.engine_laws.specs.WorkerMoves.{Hands, Fixed, asked, requests_for}
+use Rattle.engine_laws.specs.WorkerMoves.{Hands, Fixed, asked, requests_for, CleansIn}
 use Rattle.engine_laws.specs.Engine.{Engine}
 use Rattle.engine_laws.specs.Workers.{Sits, Around}
 use Rattle.engine_laws.specs.Spending.{lines_in, Spends, BeginsIn, PostsIn, SpendsIn, Begins, PostsOne, SpendsRoom}
@@ -78,13 +78,15 @@ module _ (l : Geometry) (layout : IsLayout l) (e f : Engine) (c : ℕ) (accepted
     begun = P.begun;
     begins = λ y is. begins_one y (P.begins y is);
     posts = ⊎_elim (λ same. inl (sym T.posted ∙ same ∙ S.posted)) (λ (Q : PostsIn (place_at l (group_of l c)) (member_of l c) v u w x). inr (posts_one Q)) P.posts;
-    spends = λ runs.
-        spends_less l ((e.group (group_of l c)).took (member_of l c)) ((e.group (group_of l c)).flying (member_of l c)) ((f.group (group_of l c)).took (member_of l c)) ((f.group (group_of l c)).flying (member_of l c)) (e.stock c) w.stock (f.stock c) P.begun S.stock
+    spends = λ runs. ⊎_elim
+        (λ (Q : Spends l v.took v.flying u.took u.flying w.stock x.stock P.begun). inl (spends_less l ((e.group (group_of l c)).took (member_of l c)) ((e.group (group_of l c)).flying (member_of l c)) ((f.group (group_of l c)).took (member_of l c)) ((f.group (group_of l c)).flying (member_of l c)) (e.stock c) w.stock (f.stock c) P.begun S.stock
         (subst (λ (t : Stock). Spends l ((e.group (group_of l c)).took (member_of l c)) ((e.group (group_of l c)).flying (member_of l c)) ((f.group (group_of l c)).took (member_of l c)) ((f.group (group_of l c)).flying (member_of l c)) w.stock t P.begun) (sym now)
         (subst (λ (es : List Entry). Spends l ((e.group (group_of l c)).took (member_of l c)) ((e.group (group_of l c)).flying (member_of l c)) es ((f.group (group_of l c)).flying (member_of l c)) w.stock x.stock P.begun) T.took
         (subst (λ (es : List Entry). Spends l ((e.group (group_of l c)).took (member_of l c)) ((e.group (group_of l c)).flying (member_of l c)) u.took es w.stock x.stock P.begun) T.flying
         (subst (λ (es : List Entry). Spends l es ((e.group (group_of l c)).flying (member_of l c)) u.took u.flying w.stock x.stock P.begun) S.took
-        (subst (λ (es : List Entry). Spends l v.took es u.took u.flying w.stock x.stock P.begun) S.flying (P.spends (T.stopped ∙ runs)))))));
+        (subst (λ (es : List Entry). Spends l v.took es u.took u.flying w.stock x.stock P.begun) S.flying Q)))))))
+        (λ (C : CleansIn l w.stock x.stock accepted fixed). inr (record { scarce = (let less = S.stock.chunks in let few = C.scarce in omega (arith, less, few)); accepts_none = C.accepts_none; fixes_none = C.fixes_none; small = subst (λ (t : Stock). t.lines ≤ payload_lines l) (sym now) C.small }))
+        (P.spends (T.stopped ∙ runs));
   }
 
 -- the same of a worker that sits in an engine's state

@@ -113,7 +113,7 @@ module _ (o : Origin) (e : Engine) (S : Stands o e) (c : ℕ) (core : c < e.layo
       begun = None;
       begins = λ y q. absurd (cc q);
       posts = inl refl;
-      spends = λ runs. record {
+      spends = λ runs. inl (record {
         opened = false;
         cut = None;
         chunks = omega arith;
@@ -124,7 +124,7 @@ module _ (o : Origin) (e : Engine) (S : Stands o e) (c : ℕ) (core : c < e.layo
         none = λ d q. absurd (cc q);
         puts = λ d q. absurd (cc q);
         class = λ d q. absurd (cc q);
-      };
+      });
     };
     own_answers = λ y i. answered y i;
     answers = record {
@@ -143,7 +143,7 @@ module _ (o : Origin) (e : Engine) (S : Stands o e) (c : ℕ) (core : c < e.layo
     full_none y (inr i) full = i
 
     small : (e.stock c).lines ≤ payload_lines e.layout
-    small = subst (λ (l : Geometry). (e.stock c).lines ≤ payload_lines l) (sym S.layout) (S.rooms.room c (subst (λ (l : Geometry). c < l.cores) S.layout core) going).small
+    small = subst (λ (l : Geometry). (e.stock c).lines ≤ payload_lines l) (sym S.layout) (S.rooms.small c (subst (λ (l : Geometry). c < l.cores) S.layout core) going)
 
     only : (y : ℕ × Request) → In y ((n, Get k) ∷ []) → owner e.layout (key_of y.1) ≡ c
     only y (inl q) = ap (λ (z : ℕ × Request). owner e.layout (key_of z.1)) q ∙ own

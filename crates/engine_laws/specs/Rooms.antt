@@ -60,8 +60,11 @@ pub record HasRoom (l : Geometry) (o : Origin) (e : Engine) (c : ℕ) : Type 0 w
   pub class : (k : ℕ) → cuts k ≢ 0 → is_class l k ≡ true
 
 pub record Rooms (o : Origin) (e : Engine) : Type 0 where
-  pub room : (c : ℕ) → c < (layout_of o.found).cores → e.stopped c ≡ false
-      → HasRoom (layout_of o.found) o e c
+  -- as long as the input is ample for its part a core has not cleaned, and has its room
+  pub room : (c : ℕ) → c < (layout_of o.found).cores → e.stopped c ≡ false → (more : List Request)
+      → IsAmpleFor (layout_of o.found) o.found (e.given ++ more) c → HasRoom (layout_of o.found) o e c
+  pub small : (c : ℕ) → c < (layout_of o.found).cores → e.stopped c ≡ false
+      → (e.stock c).lines ≤ payload_lines (layout_of o.found)
   -- the entries that a core posted take no more lines than its changes that are out
   pub posted : (c : ℕ) → c < (layout_of o.found).cores
       → lines_in ((e.group (group_of (layout_of o.found) c)).posted

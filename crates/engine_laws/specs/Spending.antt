@@ -11,7 +11,7 @@ use Rattle.chunk_map.specs.Layouts.{owner}
 use Rattle.store_image.specs.Facts.{In}
 use Rattle.headline.specs.Ample.{lines_of}
 use Rattle.engine_laws.specs.Parts.{group_of, member_of}
-use Rattle.engine_laws.specs.WorkerMoves.{Placed, Fixed, asked, fixed_of, requests_for}
+use Rattle.engine_laws.specs.WorkerMoves.{Placed, Fixed, asked, fixed_of, requests_for, CleansIn}
 use Rattle.engine_laws.specs.Engine.{Engine}
 pub use Rattle.engine_laws.specs.WorkerMoves.{BeginsIn, PostsIn, SpendsIn}
 pub use Rattle.engine_laws.specs.StockChanges.{lines_in, one_if, is_cut_for, puts_in, Spends}
@@ -56,3 +56,4 @@ pub record SpendsRoom (l : Geometry) (e f : Engine) (c : ℕ) (accepted : List (
       ((e.group (group_of l c)).flying (member_of l c))
       ((f.group (group_of l c)).took (member_of l c))
       ((f.group (group_of l c)).flying (member_of l c)) (e.stock c) (f.stock c) begun
+      ⊎ CleansIn l (e.stock c) (f.stock c) accepted fixed

@@ -22,6 +22,8 @@ use Rattle.licence.specs.Licence.{Licensed, part_at, part_end}
 use Rattle.engine_laws.specs.FreeStock.{Stock}
 use Rattle.log_entry.specs.Spelling.{words_of}
 use Rattle.headline.specs.Ample.{lines_of}
+use Rattle.chunk_map.specs.declared.layouts.Geometry.{Geometry}
+use Rattle.chunk_map.specs.Layouts.{payload_lines}
 use Rattle.engine_laws.specs.RefusalCauses.{Refuses}
 use Rattle.engine_laws.specs.StockChanges.{Spends}
 
@@ -125,6 +127,14 @@ pub record PostsIn (p : places.Place) (m : ℕ) (v u : View) (w x : Hands) : Typ
   pub more : u.posted ≡ v.posted ++ entry ∷ []
   pub few : lines_for (length (words_of entry)) ≤ lines_of p.layout change.request
 
+-- The call cleaned: at most one chunk was free, and no request was accepted or answered. What is free goes its own way then.
+pub record CleansIn (l : Geometry) (s t : Stock) (accepted : List (ℕ × Request))
+    (fixed : List Fixed) : Type 0 where
+  pub scarce : s.chunks ≤ 1
+  pub accepts_none : accepted ≡ []
+  pub fixes_none : fixed ≡ []
+  pub small : t.lines ≤ payload_lines l
+
 -- What one call spends of the core's room, of the view from v to u, and of what the worker holds.
 pub record SpendsIn (p : places.Place) (m : ℕ) (v u : View) (w x : Hands)
     (accepted : List (ℕ × Request)) (fixed : List Fixed) : Type 0 where
@@ -139,7 +149,7 @@ pub record SpendsIn (p : places.Place) (m : ℕ) (v u : View) (w x : Hands)
   pub begins : (y : ℕ × Request) → begun ≡ Some y → BeginsIn p m w x accepted y
   pub posts : (u.posted ≡ v.posted) ⊎ PostsIn p m v u w x
   pub spends : x.stopped ≡ false → Spends p.layout v.took v.flying u.took u.flying w.stock x.stock
-      begun
+      begun ⊎ CleansIn p.layout w.stock x.stock accepted fixed
 
 -- one of the member's own changes came back as failed
 abbrev pub HasDoubt : places.Place → ℕ → View → Type 0

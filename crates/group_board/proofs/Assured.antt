@@ -82,6 +82,8 @@ module _ (n : ℕ) (h : Option ℕ) (slots : List Slot) (mail : List (Option Not
 
     pub heard : IsHeard (state j).place m from (view_of (state j) m) (notices_of x)
     heard = record {
+      other = λ self. ∥∥₁_elim k (λ a b. absurd a) (λ o. let none = o.lawful.standing.no_self m in let full : (state j).mail m m ≡ Some (notices_of x) = subst (λ (h : ℕ). (state j).mail h m ≡ Some (notices_of x)) self is in cc (none, full));
+      theirs = λ q i t. ∥∥₁_elim k (Coded-set coded_ℕ _ _) (λ o. (o.lawful.deaths.mail_from from m (notices_of x) (record { key = q; version = i }) is (has_In x.dead.names q i t)).0);
       dead = λ q i t. any_named q i ((state j).kept m) (∥∥₁_elim k (Coded-set coded_bool _ _) (λ o. (let at = (o.lawful.deaths.mail_from from m (notices_of x) (record { key = q; version = i }) is (has_In x.dead.names q i t)).2 in named_any q i ((state j).kept m) at.0 at.1 at.2 at.3)));
       own = gone_own;
       told = λ q i t. own_is (state j).place m q ((state j).told q i) false (gone_own q i t)

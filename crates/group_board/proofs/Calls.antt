@@ -96,11 +96,11 @@ module _ (j i : Journal) (m : ℕ) where
   pub unlock_view : Did Unlock → view_of (state i) m ≡ after_unlock (view_of w m)
   unlock_view e = ap (λ x. view_of x m) (state_is i j m Unlock e) ∙ views.view_unlocks w m
 
-  pub commit_step : Did Commit → MayCommit w.place m (view_of w m) → Leads j m runs.Kind.Commit i
-  commit_step e may = let is = state_is i j m Commit e in leads runs.Kind.Commit (ap (λ x. x.place) is) (record { member = may.member; whole = may.whole }, is)
+  pub commit_step : (at : ℕ) → Did (Commit at) → MayCommit w.place m (view_of w m) → Leads j m runs.Kind.Commit i
+  commit_step at e may = let is = state_is i j m (Commit at) e in leads runs.Kind.Commit (ap (λ x. x.place) is) (record { member = may.member; whole = may.whole }, is)
 
-  pub commit_view : Did Commit → view_of (state i) m ≡ after_commit (view_of w m)
-  commit_view e = ap (λ x. view_of x m) (state_is i j m Commit e) ∙ views.view_commits w m
+  pub commit_view : (at : ℕ) → Did (Commit at) → view_of (state i) m ≡ after_commit (view_of w m)
+  commit_view at e = ap (λ x. view_of x m) (state_is i j m (Commit at) e) ∙ views.view_commits w m
 
   pub mark_step : (a s : ℕ) (x : Entry) → Did (Mark a s x) → MayMark w.place m (view_of w m) a s x → Leads j m (runs.Kind.Mark a s) i
   mark_step a s x e may = let is = state_is i j m (Mark a s x) e in
@@ -205,8 +205,8 @@ module _ (j i : Journal) (m : ℕ) where
     pub unlock_kept : (e : Did Unlock) → Leads j m runs.Kind.Unlock i → ∥ IsKept n None places mail i ∥₁
     unlock_kept e step = ∥∥₁_map kept (λ k. kept_on n h None places places mail mail j i m runs.Kind.Unlock (unlocks w m) (state_is i j m Unlock e) refl step.1 refl k.slots_are k.mail_is (covers_same (names j) (names i) w (names_are i j m Unlock e) k.covers) k)
 
-    pub commit_kept : (e : Did Commit) → Leads j m runs.Kind.Commit i → ∥ IsKept n h places mail i ∥₁
-    commit_kept e step = ∥∥₁_map kept (λ k. kept_on n h h places places mail mail j i m runs.Kind.Commit (commits w m) (state_is i j m Commit e) refl step.1 k.holder_is k.slots_are k.mail_is (covers_same (names j) (names i) w (names_are i j m Commit e) k.covers) k)
+    pub commit_kept : (at : ℕ) → (e : Did (Commit at)) → Leads j m runs.Kind.Commit i → ∥ IsKept n h places mail i ∥₁
+    commit_kept at e step = ∥∥₁_map kept (λ k. kept_on n h h places places mail mail j i m runs.Kind.Commit (commits w m) (state_is i j m (Commit at) e) refl step.1 k.holder_is k.slots_are k.mail_is (covers_same (names j) (names i) w (names_are i j m (Commit at) e) k.covers) k)
 
     pub mark_kept : (a s : ℕ) (x : Entry) (e : Did (Mark a s x)) → length places ≡ 8 * n → a < n → s < 8 → Leads j m (runs.Kind.Mark a s) i → ∥ IsKept n h (set places (8 * a + s) (slots.Done x m)) mail i ∥₁
     mark_kept a s x e many low less step = ∥∥₁_map kept (λ k. kept_on n h h places (set places (8 * a + s) (slots.Done x m)) mail mail j i m (runs.Kind.Mark a s) (marks w m a s x)

@@ -20,6 +20,7 @@ use Rattle.group_laws.specs.Places.{owner}
 use Rattle.group_laws.specs.State.{Group, word_shown, is_full}
 use Rattle.group_laws.specs.State as laws
 use Rattle.group_laws.specs.Invariant.{Lawful, PendsAt}
+use Rattle.group_laws.proofs.Clients.{posted_unnamed}
 use Rattle.crash_core.specs.declared.names.Notices.{Notices}
 use Rattle.crash_core.specs.Shows.{notices_of}
 use Rattle.group_board.specs.declared.board_journal.Journal.{Journal}
@@ -133,7 +134,8 @@ module _ (n : ℕ) (h : Option ℕ) (slots : List Slot) (mail : List (Option Not
   -- what a leader takes is in no log
   pub posted_unlogged : (m a s : ℕ) (e : Entry) → (state j).slot a s ≡ Posted e → IsUnlogged m a s (view_of (state j) m) e
   posted_unlogged m a s e is = record {
-    new = λ i. ∥∥₁_elim k (λ x y. absurd x) (λ o. o.lawful.logs.not_posted m a s e is (inl i));
+    new = λ f i key version. ∥∥₁_elim k (λ x y. absurd x) (λ o. posted_unnamed (state j) o.lawful a s e is m f (inl i) key version);
+    alone = λ f i key version. ∥∥₁_elim k (λ x y. absurd x) (λ o. posted_unnamed (state j) o.lawful a s e is m f (inr i) key version);
     own = λ mine. posted_pends m s e (subst (λ (x : ℕ). (state j).slot x s ≡ Posted e) mine is);
   }
 

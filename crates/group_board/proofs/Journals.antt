@@ -1,10 +1,12 @@
 -- What one step more in a journal makes of the state.
-use Rattle.std.proofs.Common.{◌≡◌, ℕ, List, refl, sym, ap, ◌∙◌}
+use Rattle.std.proofs.Common.{◌≡◌, ℕ, List, ◌∷◌, cond, eqb, eq-eqb, Option, Some, None, refl, sym, ap, ◌∙◌}
+use Rattle.log_entry.specs.declared.entry.Entry.{Entry}
+use Rattle.group_laws.specs.Runs.{Kind}
 use Rattle.group_laws.specs.OpeningImages.{opened}
 use Rattle.group_board.specs.declared.board_journal.Act.{Act}
 use Rattle.group_board.specs.declared.board_journal.Note.{Note}
 use Rattle.group_board.specs.declared.board_journal.Journal.{Journal}
-use Rattle.group_board.specs.Journals.{image_of, place_in, begun, note_of, noted, effect, with_finished, names_in, names, state}
+use Rattle.group_board.specs.Journals.{image_of, place_in, begun, note_of, noted, effect, with_finished, names_in, names, state, lock_act, finish_act, kind_of, trail_in, at_or, at_in}
 
 state_noted : (n : Note) (j : Journal) → state (noted n j) ≡ effect (names (noted n j)) (state j) n.member n.act
 unfolding state names
@@ -27,3 +29,18 @@ state_is i j m a e = ap state e ∙ (state_noted (note_of m a) j ∙ ap (λ x. e
 
 pub names_are : (i j : Journal) (m : ℕ) (a : Act) → i ≡ noted (note_of m a) j → names i ≡ with_finished a (names j)
 names_are i j m a e = ap names e ∙ names_noted (note_of m a) j
+
+-- the member's trail has the step of its act in front
+pub trail_is : (i j : Journal) (m : ℕ) (a : Act) → i ≡ noted (note_of m a) j → trail_in m i ≡ kind_of a ∷ trail_in m j
+trail_is i j m a e = ap (trail_in m) e ∙ ap (λ c. cond c (kind_of a ∷ trail_in m j) (trail_in m j)) (eq-eqb m m refl)
+
+pub lock_kind : (h : Option ℕ) → kind_of (lock_act h) ≡ Kind.Lock
+lock_kind None = refl
+lock_kind (Some h) = refl
+
+pub finish_kind : (s : ℕ) (e : Entry) (home : Option ℕ) → kind_of (finish_act s e home) ≡ Kind.Finish s
+finish_kind s e None = refl
+finish_kind s e (Some h) = refl
+
+pub at_is : (i j : Journal) (m : ℕ) (a : Act) → i ≡ noted (note_of m a) j → at_in m i ≡ at_or (at_in m j) a
+at_is i j m a e = ap (at_in m) e ∙ ap (λ c. cond c (at_or (at_in m j) a) (at_in m j)) (eq-eqb m m refl)

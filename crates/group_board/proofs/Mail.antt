@@ -98,4 +98,4 @@ steps_lawful w m first second u s L = step_keeps s.0 m second u (step_keeps w m 
 pub heard_before : (w mid : Group) (m from : ℕ) (x : Seen) (n : Notices) → mid ≡ finds w m x → IsHeard mid.place m from (view_of mid m) n → IsHeard w.place m from (view_of w m) n
 heard_before w mid m from x n is h =
     let told = subst (λ (g : Group). IsHeard g.place m from (view_of g m) n) is h in
-    record { dead = told.dead; own = told.own; told = told.told; stood = told.stood }
+    record { other = told.other; dead = told.dead; theirs = told.theirs; own = told.own; told = told.told; stood = told.stood }

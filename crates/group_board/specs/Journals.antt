@@ -1,5 +1,5 @@
 -- What a journal tells: the state that its steps lead to.
-use Rattle.std.specs.Prelude.{ℕ, List, [], ◌∷◌, get_or, map, Option, Some, None}
+use Rattle.std.specs.Prelude.{ℕ, List, [], ◌∷◌, cond, eqb, get_or, map, Option, Some, None}
 use Rattle.log_entry.specs.declared.entry.Entry.{Entry}
 use Rattle.log_entry.specs.declared.entry.EntryName.{EntryName}
 use Rattle.chunk_map.specs.Layouts.{layout_of}
@@ -7,7 +7,9 @@ use Rattle.group_laws.specs.Places.{Place}
 use Rattle.group_laws.specs.State.{Group}
 use Rattle.group_laws.specs.Steps.{posts, locks, finds, takes, unlocks, commits, marks, fails, finishes, gives_up, withdraws, dooms, retires, sends, receives}
 use Rattle.group_laws.specs.OpeningImages.{entries_of, opened}
-use Rattle.group_laws.specs.declared.types.Seen.TheVariants.{Holder}
+use Rattle.group_laws.specs.Runs.{Kind}
+use Rattle.group_laws.specs.declared.types.Seen.{Seen}
+use Rattle.group_laws.specs.declared.types.Seen.TheVariants.{Holder, Slot, Mail}
 use Rattle.group_board.specs.Tidies.{tidied}
 use Rattle.group_board.specs.declared.board_journal.Act.{Act}
 use Rattle.group_board.specs.declared.board_journal.Act.TheVariants.{Post, Lock, Found, Take, Unlock, Commit, Mark, Fail, Finish, GiveUp, Withdraw, Doom, Retire, Send, Receive}
@@ -43,7 +45,7 @@ with_finished Lock ns = ns
 with_finished (Found x) ns = ns
 with_finished (Take a s e) ns = ns
 with_finished Unlock ns = ns
-with_finished Commit ns = ns
+with_finished (Commit at) ns = ns
 with_finished (Mark a s e) ns = ns
 with_finished (Fail a s e) ns = ns
 with_finished (Finish s e h) ns = name_of e ∷ ns
@@ -61,7 +63,7 @@ effect ns w m Lock = locks w m
 effect ns w m (Found x) = finds w m x
 effect ns w m (Take a s e) = takes w m a s e
 effect ns w m Unlock = unlocks w m
-effect ns w m Commit = commits w m
+effect ns w m (Commit at) = commits w m
 effect ns w m (Mark a s e) = marks w m a s e
 effect ns w m (Fail a s e) = fails w m a s e
 effect ns w m (Finish s e h) = tidied (finishes w m s e h) ns m
@@ -103,3 +105,61 @@ lock_act (Some h) = Found (Holder h)
 abbrev pub finish_act : ℕ → Entry → Option ℕ → Act
 finish_act s e None = GiveUp s e
 finish_act s e (Some h) = Finish s e h
+
+-- the step of the machine that a load is
+abbrev pub kind_seen : Seen → Kind
+kind_seen (Slot a s w) = Kind.Look a s
+kind_seen (Mail a b full) = Kind.LookMail a b
+kind_seen (Holder h) = Kind.Lock
+
+-- the step of the machine that an act is
+abbrev pub kind_of : Act → Kind
+kind_of (Post s e v) = Kind.Post s e v
+kind_of Lock = Kind.Lock
+kind_of (Found x) = kind_seen x
+kind_of (Take a s e) = Kind.Take a s
+kind_of Unlock = Kind.Unlock
+kind_of (Commit at) = Kind.Commit
+kind_of (Mark a s e) = Kind.Mark a s
+kind_of (Fail a s e) = Kind.Fail a s
+kind_of (Finish s e h) = Kind.Finish s
+kind_of (GiveUp s e) = Kind.Finish s
+kind_of (Withdraw s e) = Kind.Withdraw s
+kind_of (Doom xs) = Kind.Doom xs
+kind_of (Retire xs) = Kind.Retire xs
+kind_of (Send to dead gone) = Kind.Send to (record { dead = dead; gone = gone })
+kind_of (Receive from dead gone) = Kind.Receive from
+
+abbrev pub kinds_by : ℕ → List Note → List Kind
+kinds_by m [] = []
+kinds_by m (x ∷ xs) = cond (eqb m x.member) (kind_of x.act ∷ kinds_by m xs) (kinds_by m xs)
+
+-- the steps that a member made, the newest first
+abbrev pub trail_in : ℕ → Journal → List Kind
+trail_in m j = kinds_by m j.notes
+
+-- the stamp of a commit
+abbrev pub at_or : ℕ → Act → ℕ
+at_or n (Post s e v) = n
+at_or n Lock = n
+at_or n (Found x) = n
+at_or n (Take a s e) = n
+at_or n Unlock = n
+at_or n (Commit at) = at
+at_or n (Mark a s e) = n
+at_or n (Fail a s e) = n
+at_or n (Finish s e h) = n
+at_or n (GiveUp s e) = n
+at_or n (Withdraw s e) = n
+at_or n (Doom xs) = n
+at_or n (Retire xs) = n
+at_or n (Send to dead gone) = n
+at_or n (Receive from dead gone) = n
+
+abbrev pub at_by : ℕ → List Note → ℕ
+at_by m [] = 0
+at_by m (x ∷ xs) = cond (eqb m x.member) (at_or (at_by m xs) x.act) (at_by m xs)
+
+-- the stamp at which the member's region stood at its newest commit
+abbrev pub at_in : ℕ → Journal → ℕ
+at_in m j = at_by m j.notes

@@ -1,5 +1,5 @@
 // The calls of a member of a group.
-ghost use Rattle.std.specs.Prelude.{◌≡◌, ◌≢◌, ℕ, ◌<◌, Option, List, length, IfErr, IfSome, is_err, true, false, MatchOption, MatchResult};
+ghost use Rattle.std.specs.Prelude.{◌≡◌, ◌≢◌, ℕ, ◌∷◌, ◌<◌, Option, List, length, IfErr, IfSome, is_err, true, false, MatchOption, MatchResult};
 ghost use Rattle.log_entry.specs.Spelling.{words_of, HasSpelling};
 ghost use Rattle.store_image.specs.Facts.{In};
 ghost use Rattle.group_laws.specs.Places as places;
@@ -7,6 +7,7 @@ ghost use Rattle.group_laws.specs.State.{Group, word_shown, is_full};
 ghost use Rattle.group_laws.specs.MemberViews.{View, view_of};
 ghost use Rattle.group_laws.specs.Invariant.{Lawful};
 ghost use Rattle.group_laws.specs.Runs as runs;
+ghost use Rattle.pm_region.specs.State.{State};
 ghost use Rattle.group_laws.specs.declared.types.Slot.TheVariants as slots;
 ghost use Rattle.group_laws.specs.declared.types.SlotWord.{SlotWord};
 ghost use Rattle.group_laws.specs.declared.types.SlotWord.TheVariants as words;
@@ -21,6 +22,7 @@ ghost use Rattle.group_board.specs.Told.{Makes, MakesBoth, Stood, Held, state_of
 
 use crash_core::{Change, Notices};
 use log_entry::entry::EntryName;
+use pm_region::Region;
 
 /// What a look finds in a slot.
 #[derive(Clone, Copy, Debug, PartialEq, Eq)]
@@ -60,6 +62,12 @@ pub trait Board {
     // What the member has.
     ghost view: { Self → View };
 
+    // The steps that the seat's member made, the newest first.
+    ghost trail: { Self → List runs.Kind };
+
+    // The stamp at which the region stood that the newest commit was handed.
+    ghost at: { Self → ℕ };
+
     // The state of the group, where the board tells it.
     ghost whole: { Self → Option Group };
 
@@ -78,6 +86,7 @@ pub trait Board {
             slot change value.now }
         ensures seat { seat self.new ≡ seat self.old }
         ensures view { view self.new ≡ after_post slot change.entry value.now (view self.old) }
+        ensures made { trail self.new ≡ runs.Kind.Post slot change.entry value.now ∷ trail self.old }
         ensures whole { Makes (whole self.old) (seat self.old).number
             (runs.Kind.Post slot change.entry value.now) (whole self.new) (view self.new) };
 
@@ -92,6 +101,7 @@ pub trait Board {
         ensures holder { IfErr result (λ busy. busy.holder < places.members (seat self.old).place) }
         ensures found { IfSome (whole self.old) (λ w. MatchResult result
             (λ _. w.holder ≡ Option.None) (λ busy. w.holder ≡ Option.Some busy.holder)) }
+        ensures made { trail self.new ≡ runs.Kind.Lock ∷ trail self.old }
         ensures whole { Makes (whole self.old) (seat self.old).number
             runs.Kind.Lock (whole self.new) (view self.new) };
 
@@ -103,11 +113,13 @@ pub trait Board {
             × (view self.new ≡ after_find (loads.Slot member slot word) (view self.old)) }
         ensures stood { IfSome (whole self.old) (λ w. state_of (word_shown (w.slot member slot))
             ≡ result) }
+        ensures made { trail self.new ≡ runs.Kind.Look member slot ∷ trail self.old }
         ensures whole { Makes (whole self.old) (seat self.old).number
             (runs.Kind.Look member slot) (whole self.new) (view self.new) };
 
     /// As the leader, takes the change of a slot that a look found Posted. Its entry has a spelling, of as many
-    /// words as the look found, and isn't in the own log yet; out of an own slot it is the change pending there.
+    /// words as the look found, and a name that no entry of the own log has, certain or in flight; out of an own slot
+    /// it is the change pending there.
     fn take(&mut self, member: u32, slot: u32) -> Change
         requires { MayTake (seat self.old).place (seat self.old).number
             (view self.old) member slot }
@@ -121,6 +133,7 @@ pub trait Board {
             result.entry }
         ensures view { view self.new ≡ after_take member slot result.entry (view self.old) }
         ensures stood { Stood (whole self.old) member slot (slots.Posted result.entry) }
+        ensures made { trail self.new ≡ runs.Kind.Take member slot ∷ trail self.old }
         ensures whole { Makes (whole self.old) (seat self.old).number
             (runs.Kind.Take member slot) (whole self.new) (view self.new) };
 
@@ -129,14 +142,17 @@ pub trait Board {
         requires { MayUnlock (seat self.old).place (seat self.old).number (view self.old) }
         ensures seat { seat self.new ≡ seat self.old }
         ensures view { view self.new ≡ after_unlock (view self.old) }
+        ensures made { trail self.new ≡ runs.Kind.Unlock ∷ trail self.old }
         ensures whole { Makes (whole self.old) (seat self.old).number
             runs.Kind.Unlock (whole self.new) (view self.new) };
 
     /// What was taken is certain in the own log from now on.
-    fn commit(&mut self)
+    fn commit<R: Region>(&mut self, region: &R)
         requires { MayCommit (seat self.old).place (seat self.old).number (view self.old) }
         ensures seat { seat self.new ≡ seat self.old }
         ensures view { view self.new ≡ after_commit (view self.old) }
+        ensures at { at self.new ≡ (R.state region.now).stamp }
+        ensures made { trail self.new ≡ runs.Kind.Commit ∷ trail self.old }
         ensures whole { Makes (whole self.old) (seat self.old).number
             runs.Kind.Commit (whole self.new) (view self.new) };
 
@@ -146,6 +162,7 @@ pub trait Board {
             member slot change.entry }
         ensures seat { seat self.new ≡ seat self.old }
         ensures view { view self.new ≡ after_mark member slot (view self.old) }
+        ensures made { trail self.new ≡ runs.Kind.Mark member slot ∷ trail self.old }
         ensures whole { Makes (whole self.old) (seat self.old).number
             (runs.Kind.Mark member slot) (whole self.new) (view self.new) };
 
@@ -155,6 +172,7 @@ pub trait Board {
             member slot change.entry }
         ensures seat { seat self.new ≡ seat self.old }
         ensures view { view self.new ≡ after_fail member slot (view self.old) }
+        ensures made { trail self.new ≡ runs.Kind.Fail member slot ∷ trail self.old }
         ensures whole { Makes (whole self.old) (seat self.old).number
             (runs.Kind.Fail member slot) (whole self.new) (view self.new) };
 
@@ -178,6 +196,7 @@ pub trait Board {
             (after_finish result.entry home (view self.old)) (view self.new)) }
         ensures stood { Stood (whole self.old) (seat self.old).number slot
             (stood_as result.entry result.home) }
+        ensures made { trail self.new ≡ runs.Kind.Finish slot ∷ trail self.old }
         ensures whole { Makes (whole self.old) (seat self.old).number
             (runs.Kind.Finish slot) (whole self.new) (view self.new) };
 
@@ -191,6 +210,7 @@ pub trait Board {
         ensures view { view self.new ≡ after_withdraw result.entry (view self.old) }
         ensures stood { Stood (whole self.old) (seat self.old).number slot
             (slots.Posted result.entry) }
+        ensures made { trail self.new ≡ runs.Kind.Withdraw slot ∷ trail self.old }
         ensures whole { Makes (whole self.old) (seat self.old).number
             (runs.Kind.Withdraw slot) (whole self.new) (view self.new) };
 
@@ -199,6 +219,7 @@ pub trait Board {
         requires { MayDoom (seat self.old).place (seat self.old).number (view self.old) names.now }
         ensures seat { seat self.new ≡ seat self.old }
         ensures view { view self.new ≡ after_doom names.now (view self.old) }
+        ensures made { trail self.new ≡ runs.Kind.Doom names.now ∷ trail self.old }
         ensures whole { Makes (whole self.old) (seat self.old).number
             (runs.Kind.Doom names.now) (whole self.new) (view self.new) };
 
@@ -210,6 +231,7 @@ pub trait Board {
         ensures view { TidiedIn (seat self.old).place (seat self.old).number
             (after_retire (seat self.old).place (seat self.old).number names.now (view self.old))
             (view self.new) }
+        ensures made { trail self.new ≡ runs.Kind.Retire names.now ∷ trail self.old }
         ensures whole { Makes (whole self.old) (seat self.old).number
             (runs.Kind.Retire names.now) (whole self.new) (view self.new) };
 
@@ -226,6 +248,11 @@ pub trait Board {
             (λ _. view self.new ≡ after_send to (notices_of notices) (view self.old))
             (λ full. view self.new
             ≡ after_find (loads.Mail (seat self.old).number to true) (view self.old)) }
+        ensures made { MatchResult result
+            (λ _. trail self.new ≡ runs.Kind.Send to (notices_of notices)
+            ∷ runs.Kind.LookMail (seat self.old).number to ∷ trail self.old)
+            (λ full. trail self.new
+            ≡ runs.Kind.LookMail (seat self.old).number to ∷ trail self.old) }
         ensures whole { MatchResult result
             (λ _. MakesBoth (whole self.old) (seat self.old).number
             (runs.Kind.LookMail (seat self.old).number to) (runs.Kind.Send to (notices_of notices))
@@ -248,6 +275,10 @@ pub trait Board {
             (after_receive (seat self.old).place (seat self.old).number
             (notices_of notices) (view self.old)) (view self.new)) }
         ensures stood { Held (whole self.old) from (seat self.old).number result }
+        ensures made { MatchOption result
+            (trail self.new ≡ runs.Kind.LookMail from (seat self.old).number ∷ trail self.old)
+            (λ notices. trail self.new ≡ runs.Kind.Receive from
+            ∷ runs.Kind.LookMail from (seat self.old).number ∷ trail self.old) }
         ensures whole { MatchOption result
             (Makes (whole self.old) (seat self.old).number
             (runs.Kind.LookMail from (seat self.old).number) (whole self.new) (view self.new))

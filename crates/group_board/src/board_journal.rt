@@ -16,8 +16,8 @@ pub enum Act {
     Take(u32, u32, Entry),
     /// The lock was given back.
     Unlock,
-    /// All that was in flight is certain in the own log.
-    Commit,
+    /// All that was in flight is certain in the own log. With the stamp at which the member's region stood.
+    Commit(u64),
     /// A change that is certain was given back to the slot of a member, both by number.
     Mark(u32, u32, Entry),
     /// A change that could not be written was given back to the slot of a member, both by number.

@@ -1,5 +1,5 @@
 // A board that serves one thread: the lock, the slots and the mailboxes as plain data, and the journal of all steps.
-ghost use Rattle.std.specs.Prelude.{◌≡◌, ◌≢◌, ℕ, ◌+◌, ◌*◌, ◌/◌, ◌<◌, ◌≤◌, length, Option, None, Some, IfErr, IfOk, IfSome, is_err, true, false, option_map, get_or, MatchOption, MatchResult};
+ghost use Rattle.std.specs.Prelude.{◌≡◌, ◌≢◌, ℕ, ◌∷◌, ◌+◌, ◌*◌, ◌/◌, ◌<◌, ◌≤◌, length, Option, None, Some, IfErr, IfOk, IfSome, is_err, true, false, option_map, get_or, MatchOption, MatchResult};
 ghost use Rattle.log_entry.specs.Spelling.{words_of, HasSpelling};
 ghost use Rattle.chunk_map.specs.declared.layout_sizes.TheConstants.{MOST_GROUP};
 ghost use Rattle.chunk_map.specs.Layouts.{layout_of};
@@ -19,7 +19,7 @@ ghost use Rattle.group_laws.specs.declared.types.SlotWord.TheVariants as words;
 ghost use Rattle.group_laws.specs.declared.types.Seen.TheVariants as loads;
 ghost use Rattle.crash_core.specs.Shows.{notices_of};
 ghost use Rattle.group_board.specs.declared.slots.TheConstants.{ROW_LENGTH};
-ghost use Rattle.group_board.specs.Journals.{image_of, place_in, state};
+ghost use Rattle.group_board.specs.Journals.{image_of, place_in, state, trail_in, at_in};
 ghost use Rattle.group_board.specs.Kept.{IsKept, TableId-set};
 ghost use Rattle.group_laws.specs.MemberViews.{view_of};
 ghost use Rattle.group_board.specs.Views.{after_post, after_lock, after_find, after_take, after_unlock, after_commit, after_mark, after_fail, after_finish, after_give_up, after_withdraw, after_doom, after_retire, after_send, after_receive, TidiedIn};
@@ -38,6 +38,7 @@ use crash_core::{Change, Notices, word_of};
 use fs_errors::Memory;
 use group_laws::types::Slot;
 use log_entry::entry::EntryName;
+use pm_region::Region;
 use std::alloc::Global;
 use std::marker::Brand;
 use std::mem;
@@ -126,6 +127,8 @@ impl LocalBoard {
         ensures table { self.new.table.shared.table_id ≡ self.old.table.shared.table_id }
         ensures step { Leads self.old.keeper.me.0 member
             (runs.Kind.Post slot change.entry value.now) self.new.keeper.me.0 }
+        ensures made { trail_in member self.new.keeper.me.0
+            ≡ runs.Kind.Post slot change.entry value.now ∷ trail_in member self.old.keeper.me.0 }
         ensures view { view_of (state self.new.keeper.me.0) member
             ≡ after_post slot change.entry value.now (view_of (state self.old.keeper.me.0) member) }
     {
@@ -149,6 +152,8 @@ impl LocalBoard {
             < places.members (state self.old.keeper.me.0).place) }
         ensures found { MatchResult result (λ _. (state self.old.keeper.me.0).holder ≡ None)
             (λ busy. (state self.old.keeper.me.0).holder ≡ Some busy.holder) }
+        ensures made { trail_in member self.new.keeper.me.0
+            ≡ runs.Kind.Lock ∷ trail_in member self.old.keeper.me.0 }
         ensures view { MatchResult result (λ _. view_of (state self.new.keeper.me.0) member
             ≡ after_lock (view_of (state self.old.keeper.me.0) member))
             (λ busy. view_of (state self.new.keeper.me.0) member
@@ -173,6 +178,8 @@ impl LocalBoard {
             ≡ result }
         ensures step { Leads self.old.keeper.me.0 member
             (runs.Kind.Look owner slot) self.new.keeper.me.0 }
+        ensures made { trail_in member self.new.keeper.me.0
+            ≡ runs.Kind.Look owner slot ∷ trail_in member self.old.keeper.me.0 }
         ensures view { (word : SlotWord) × (state_of word ≡ result)
             × (view_of (state self.new.keeper.me.0) member
             ≡ after_find (loads.Slot owner slot word)
@@ -203,6 +210,8 @@ impl LocalBoard {
             ≡ slot_states.Posted result.entry }
         ensures step { Leads self.old.keeper.me.0 member
             (runs.Kind.Take owner slot) self.new.keeper.me.0 }
+        ensures made { trail_in member self.new.keeper.me.0
+            ≡ runs.Kind.Take owner slot ∷ trail_in member self.old.keeper.me.0 }
         ensures view { view_of (state self.new.keeper.me.0) member
             ≡ after_take owner slot result.entry (view_of (state self.old.keeper.me.0) member) }
     {
@@ -223,6 +232,8 @@ impl LocalBoard {
             (view_of (state self.old.keeper.me.0) member) }
         ensures table { self.new.table.shared.table_id ≡ self.old.table.shared.table_id }
         ensures step { Leads self.old.keeper.me.0 member runs.Kind.Unlock self.new.keeper.me.0 }
+        ensures made { trail_in member self.new.keeper.me.0
+            ≡ runs.Kind.Unlock ∷ trail_in member self.old.keeper.me.0 }
         ensures view { view_of (state self.new.keeper.me.0) member
             ≡ after_unlock (view_of (state self.old.keeper.me.0) member) }
     {
@@ -231,16 +242,19 @@ impl LocalBoard {
         self.holder = None;
     }
 
-    pub(crate) fn commit(&mut self, member: u32)
+    pub(crate) fn commit<R: Region>(&mut self, member: u32, region: &R)
         requires { MayCommit (state self.old.keeper.me.0).place member
             (view_of (state self.old.keeper.me.0) member) }
         ensures table { self.new.table.shared.table_id ≡ self.old.table.shared.table_id }
         ensures step { Leads self.old.keeper.me.0 member runs.Kind.Commit self.new.keeper.me.0 }
+        ensures at { at_in member self.new.keeper.me.0 ≡ (R.state region.now).stamp }
+        ensures made { trail_in member self.new.keeper.me.0
+            ≡ runs.Kind.Commit ∷ trail_in member self.old.keeper.me.0 }
         ensures view { view_of (state self.new.keeper.me.0) member
             ≡ after_commit (view_of (state self.old.keeper.me.0) member) }
     {
         let table = &self.table;
-        note::<Brand, _>(&table.shared, &mut self.keeper, &member);
+        note::<Brand, _>(&table.shared, &mut self.keeper, &(member, region));
     }
 
     pub(crate) fn mark(&mut self, member: u32, owner: u32, slot: u32, change: Change)
@@ -249,6 +263,8 @@ impl LocalBoard {
         ensures table { self.new.table.shared.table_id ≡ self.old.table.shared.table_id }
         ensures step { Leads self.old.keeper.me.0 member
             (runs.Kind.Mark owner slot) self.new.keeper.me.0 }
+        ensures made { trail_in member self.new.keeper.me.0
+            ≡ runs.Kind.Mark owner slot ∷ trail_in member self.old.keeper.me.0 }
         ensures view { view_of (state self.new.keeper.me.0) member
             ≡ after_mark owner slot (view_of (state self.old.keeper.me.0) member) }
     {
@@ -268,6 +284,8 @@ impl LocalBoard {
         ensures table { self.new.table.shared.table_id ≡ self.old.table.shared.table_id }
         ensures step { Leads self.old.keeper.me.0 member
             (runs.Kind.Fail owner slot) self.new.keeper.me.0 }
+        ensures made { trail_in member self.new.keeper.me.0
+            ≡ runs.Kind.Fail owner slot ∷ trail_in member self.old.keeper.me.0 }
         ensures view { view_of (state self.new.keeper.me.0) member
             ≡ after_fail owner slot (view_of (state self.old.keeper.me.0) member) }
     {
@@ -297,6 +315,8 @@ impl LocalBoard {
             ≡ stood_as result.entry result.home }
         ensures step { Leads self.old.keeper.me.0 member
             (runs.Kind.Finish slot) self.new.keeper.me.0 }
+        ensures made { trail_in member self.new.keeper.me.0
+            ≡ runs.Kind.Finish slot ∷ trail_in member self.old.keeper.me.0 }
         ensures view { MatchOption result.home (TidiedIn (state self.old.keeper.me.0).place member
             (after_give_up result.entry (view_of (state self.old.keeper.me.0) member))
             (view_of (state self.new.keeper.me.0) member))
@@ -323,6 +343,8 @@ impl LocalBoard {
             ≡ slot_states.Posted result.entry }
         ensures step { Leads self.old.keeper.me.0 member
             (runs.Kind.Withdraw slot) self.new.keeper.me.0 }
+        ensures made { trail_in member self.new.keeper.me.0
+            ≡ runs.Kind.Withdraw slot ∷ trail_in member self.old.keeper.me.0 }
         ensures view { view_of (state self.new.keeper.me.0) member
             ≡ after_withdraw result.entry (view_of (state self.old.keeper.me.0) member) }
     {
@@ -344,6 +366,8 @@ impl LocalBoard {
         ensures table { self.new.table.shared.table_id ≡ self.old.table.shared.table_id }
         ensures step { Leads self.old.keeper.me.0 member
             (runs.Kind.Doom names.now) self.new.keeper.me.0 }
+        ensures made { trail_in member self.new.keeper.me.0
+            ≡ runs.Kind.Doom names.now ∷ trail_in member self.old.keeper.me.0 }
         ensures view { view_of (state self.new.keeper.me.0) member
             ≡ after_doom names.now (view_of (state self.old.keeper.me.0) member) }
     {
@@ -357,6 +381,8 @@ impl LocalBoard {
         ensures table { self.new.table.shared.table_id ≡ self.old.table.shared.table_id }
         ensures step { Leads self.old.keeper.me.0 member
             (runs.Kind.Retire names.now) self.new.keeper.me.0 }
+        ensures made { trail_in member self.new.keeper.me.0
+            ≡ runs.Kind.Retire names.now ∷ trail_in member self.old.keeper.me.0 }
         ensures view { TidiedIn (state self.old.keeper.me.0).place member
             (after_retire (state self.old.keeper.me.0).place member names.now
             (view_of (state self.old.keeper.me.0) member))
@@ -373,6 +399,8 @@ impl LocalBoard {
             × (to < places.members (state self.old.keeper.me.0).place) }
         ensures table { self.new.table.shared.table_id ≡ self.old.table.shared.table_id }
         ensures found { result ≡ is_full ((state self.old.keeper.me.0).mail from to) }
+        ensures made { trail_in member self.new.keeper.me.0
+            ≡ runs.Kind.LookMail from to ∷ trail_in member self.old.keeper.me.0 }
         ensures state { state self.new.keeper.me.0
             ≡ finds (state self.old.keeper.me.0) member (loads.Mail from to result) }
     {
@@ -387,6 +415,8 @@ impl LocalBoard {
     fn put_mail(&mut self, member: u32, to: u32, notices: Notices)
         requires { CanSend (state self.old.keeper.me.0) member to (notices_of notices) }
         ensures table { self.new.table.shared.table_id ≡ self.old.table.shared.table_id }
+        ensures made { trail_in member self.new.keeper.me.0
+            ≡ runs.Kind.Send to (notices_of notices) ∷ trail_in member self.old.keeper.me.0 }
         ensures state { state self.new.keeper.me.0
             ≡ sends (state self.old.keeper.me.0) member to (notices_of notices) }
     {
@@ -406,6 +436,8 @@ impl LocalBoard {
         ensures stood { (state self.old.keeper.me.0).mail from member ≡ Some (notices_of result) }
         ensures heard { IsHeard (state self.old.keeper.me.0).place member from
             (view_of (state self.old.keeper.me.0) member) (notices_of result) }
+        ensures made { trail_in member self.new.keeper.me.0
+            ≡ runs.Kind.Receive from ∷ trail_in member self.old.keeper.me.0 }
         ensures state { Tidied (receives (state self.old.keeper.me.0) member from
             (notices_of result)) member (state self.new.keeper.me.0) }
     {
@@ -429,6 +461,10 @@ impl LocalBoard {
             (runs.Kind.LookMail member to) (runs.Kind.Send to (notices_of notices))
             (state self.new.keeper.me.0)) (λ full. IsStep (state self.old.keeper.me.0) member
             (runs.Kind.LookMail member to) (state self.new.keeper.me.0)) }
+        ensures made { MatchResult result (λ _. trail_in member self.new.keeper.me.0
+            ≡ runs.Kind.Send to (notices_of notices) ∷ runs.Kind.LookMail member to
+            ∷ trail_in member self.old.keeper.me.0) (λ full. trail_in member self.new.keeper.me.0
+            ≡ runs.Kind.LookMail member to ∷ trail_in member self.old.keeper.me.0) }
         ensures view { MatchResult result (λ _. view_of (state self.new.keeper.me.0) member
             ≡ after_send to (notices_of notices) (view_of (state self.old.keeper.me.0) member))
             (λ full. view_of (state self.new.keeper.me.0) member
@@ -457,6 +493,10 @@ impl LocalBoard {
             (λ notices. AreSteps (state self.old.keeper.me.0) member
             (runs.Kind.LookMail from member) (runs.Kind.Receive from)
             (state self.new.keeper.me.0)) }
+        ensures made { MatchOption result (trail_in member self.new.keeper.me.0
+            ≡ runs.Kind.LookMail from member ∷ trail_in member self.old.keeper.me.0)
+            (λ notices. trail_in member self.new.keeper.me.0 ≡ runs.Kind.Receive from
+            ∷ runs.Kind.LookMail from member ∷ trail_in member self.old.keeper.me.0) }
         ensures view { MatchOption result (view_of (state self.new.keeper.me.0) member
             ≡ after_find (loads.Mail from member false)
             (view_of (state self.old.keeper.me.0) member))

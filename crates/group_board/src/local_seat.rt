@@ -1,6 +1,6 @@
 // A member's seat at the board of one thread. It tells the state of the group.
 ghost use Rattle.std.specs.Prelude.{Some, refl};
-ghost use Rattle.group_board.specs.Journals.{state};
+ghost use Rattle.group_board.specs.Journals.{state, trail_in, at_in};
 ghost use Rattle.group_board.specs.Kept.{kept_lawful};
 ghost use Rattle.group_laws.specs.MemberViews.{view_of};
 
@@ -8,6 +8,7 @@ use crate::board::{Board, Busy, MailFull, SlotState};
 use crate::local_board::LocalBoard;
 use crash_core::{Change, Notices};
 use log_entry::entry::EntryName;
+use pm_region::Region;
 
 /// The seat of one member at a board of one thread.
 #[derive(Drop)]
@@ -27,6 +28,10 @@ impl<'a> Board for LocalSeat<'a> {
     } };
 
     ghost view = { λ s. view_of (state s.board.now.keeper.me.0) s.member };
+
+    ghost trail = { λ s. trail_in s.member s.board.now.keeper.me.0 };
+
+    ghost at = { λ s. at_in s.member s.board.now.keeper.me.0 };
 
     ghost whole = { λ s. Some (state s.board.now.keeper.me.0) };
 
@@ -62,8 +67,8 @@ impl<'a> Board for LocalSeat<'a> {
         self.board.unlock(self.member);
     }
 
-    fn commit(&mut self) {
-        self.board.commit(self.member);
+    fn commit<R: Region>(&mut self, region: &R) {
+        self.board.commit(self.member, region);
     }
 
     fn mark(&mut self, member: u32, slot: u32, change: Change) {

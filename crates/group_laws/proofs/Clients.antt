@@ -1,4 +1,5 @@
 -- What the crates above use.
+pub use Rattle.group_laws.proofs.Facts.{posted_unnamed}
 pub use Rattle.group_laws.proofs.Puts.{In-append, In-append_left, In-append_right, In-push, cond_cases, if2_into, if_into}
 pub use Rattle.group_laws.proofs.Times.{same_entry-true, times-other, times-same}
 pub use Rattle.group_laws.proofs.Names.{In_has, has_In}

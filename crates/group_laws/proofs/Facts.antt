@@ -1,9 +1,11 @@
 -- What the invariant says of one state.
-use Rattle.std.proofs.Common.{◌≡◌, ℕ, true, false, List, Option, Some, inl, inr, arith, refl, sym, ap, ◌∙◌, subst}
+use Rattle.std.proofs.Common.{◌≡◌, ℕ, true, false, List, Option, Some, None, inl, inr, arith, refl, sym, ap, ◌∙◌, subst}
 use Rattle.log_entry.specs.declared.entry.Body.{Body}
 use Rattle.log_entry.specs.declared.entry.Entry.{Entry}
 use Rattle.store_image.specs.Facts.{In}
 use Rattle.group_laws.specs.Places.{owner}
+use Rattle.group_laws.specs.declared.types.Pending.{Pending}
+use Rattle.group_laws.specs.declared.types.Slot.TheVariants.{Posted}
 use Rattle.group_laws.specs.State.{Group}
 use Rattle.group_laws.specs.Invariant.{Gives, IsLast, IsLive, IsLogged, Lawful, Logs, PendsAt}
 use Rattle.log_entry.specs.declared.entry.Body.TheVariants.{Pointer, Embedded, Tombstone}
@@ -51,3 +53,23 @@ not_dead w L h x at p d =
     let low = L.keys.not_above x.key x.version h (L.deaths.dead_is h x.key x.version d).1 in
     let high = L.keys.next_version x.key _ p in
     grind (arith, low, high)
+
+abbrev entry_or : Entry → Option Pending → Entry
+entry_or d None = d
+entry_or d (Some p) = p.entry
+
+-- no log has the name of a posted entry: what a log has is finished, and then below it, or pending, and then the entry itself
+pub posted_unnamed : (w : Group) → Lawful w → (m s : ℕ) (e : Entry) → w.slot m s ≡ Posted e → (h : ℕ) (f : Entry) → IsLogged w h f → f.key ≡ e.key → f.version ≡ e.version → ⊥
+posted_unnamed w L m s e is h f logged key version =
+    let pends : PendsAt w e (Some s) = (L.slots.posted_named m s e is).0 in
+    elim (L.logs.known h f logged) [
+      | inl there ↦
+        let low = L.keys.not_above f.key f.version h there in
+        let same = ap w.last key in
+        let high = L.keys.next_version e.key _ pends in
+        omega (arith, low, same, high, version)
+      | inr held ↦
+        let both : Some (record { entry = f; slot = held.0 }) ≡ Some (record { entry = e; slot = Some s }) = sym held.1 ∙ (ap w.pending key ∙ pends) in
+        let one : f ≡ e = ap (λ (o : Option Pending). entry_or e o) both in
+        L.logs.not_posted h m s e is (subst (IsLogged w h) one logged)
+    ]

@@ -1,6 +1,6 @@
 -- The names of a chunk, noted entry by entry.
-use Rattle.std.proofs.Common.{◌≡◌, ℕ, ◌+◌, ◌≤◌, ◌<◌, ◌&&◌, ◌||◌, Bool, true, false, cond, List, [], ◌∷◌, ◌++◌, length, Some, refl, sym, ◌∙◌, ap, arith, append_assoc, length-append}
-use Rattle.std.proofs.lemmas.List.Sums.{sum_by-append}
+use Rattle.std.proofs.Common.{◌≡◌, ℕ, zero, suc, ◌+◌, ◌≤◌, ◌<◌, ◌&&◌, ◌||◌, Bool, true, false, cond, List, [], ◌∷◌, ◌++◌, length, Some, refl, sym, ◌∙◌, ap, subst, arith, append_assoc, length-append}
+use Rattle.std.proofs.lemmas.List.Sums.{sum_by-append, sum_by-cons}
 use Rattle.pm_region.specs.State.{State}
 use Rattle.log_entry.specs.declared.entry.Entry.{Entry}
 use Rattle.log_entry.specs.declared.entry.EntryName.{EntryName}
@@ -9,7 +9,7 @@ use Rattle.core_log.specs.Log.{LogState, Spelled}
 use Rattle.core_log.specs.Walking.{entries_in, words_in, behind, IsFound}
 use Rattle.log_standing.specs.NameCounts.{StandingState, name_eq, copies_at, count_of, times_in, one_more, Changes, bit}
 use Rattle.log_standing.specs.ChunkCounts.{is_named, has_name}
-use Rattle.log_cleaner.specs.Clearing.{ClearingState, IsFresh, is_doomed, HasNames, HasDoomed, IsGathered, NotesNew}
+use Rattle.log_cleaner.specs.Clearing.{ClearingState, IsFresh, is_doomed, AreLone, HasNames, HasDoomed, IsGathered, NotesNew}
 use Rattle.log_standing.proofs.Clients.{same_name, count_added, has_push, again_named, new_named}
 use Rattle.core_log.proofs.Clients.{ordered, all_behind}
 
@@ -148,3 +148,33 @@ noted_once ns n none once k v = elim (name_eq (n.key, n.version) (k, v)) as (λ 
 pub pushed_long : (b : Bool) (xs : List EntryName) (n : EntryName) → length (cond b (xs ++ n ∷ []) xs) ≤ length xs + 1
 pushed_long true xs n = let e = length-append xs (n ∷ []) in omega (arith, e)
 pushed_long false xs n = omega arith
+
+-- whatever is read, only lone dead names are to vanish
+pub lone_first : (st : StandingState) (c : ClearingState) → IsFresh c → AreLone st c.doomed
+lone_first st c fresh k v some = absurd (let none = ap (λ (ns : List EntryName). times_in ns k v) fresh.1 in omega (arith, none, some))
+
+lone_more : (st : StandingState) (ns : List EntryName) (n : EntryName) (b : Bool) → is_doomed st n.key n.version ≡ b → AreLone st ns → AreLone st (cond b (ns ++ n ∷ []) ns)
+lone_more st ns n false e lone k v some = lone k v some
+lone_more st ns n true e lone k v some = by (name_eq (n.key, n.version) (k, v)) refl where
+  split : times_in (ns ++ n ∷ []) k v ≡ times_in ns k v + times_in (n ∷ []) k v
+  split = sum_by-append (λ (x : EntryName). cond {A = ℕ} (name_eq (x.key, x.version) (k, v)) 1 0) ns (n ∷ [])
+
+  one : times_in (n ∷ []) k v ≡ cond {A = ℕ} (name_eq (n.key, n.version) (k, v)) 1 0 + 0
+  one = sum_by-cons (λ (x : EntryName). cond {A = ℕ} (name_eq (x.key, x.version) (k, v)) 1 0) n []
+
+  by : (b : Bool) → name_eq (n.key, n.version) (k, v) ≡ b → is_doomed st k v ≡ true
+  by true is = let same = same_name n.key n.version k v is in sym (λ i. is_doomed st (same.0 i) (same.1 i)) ∙ e
+  by false is = lone k v (let a = split in let b = one in let z = ap (λ (t : Bool). cond {A = ℕ} t 1 0) is in omega (arith, a, b, z, some))
+
+pub lone_on : (st : StandingState) (old new : ClearingState) (n : EntryName) → AreLone st old.doomed → (0 < times_in old.names n.key n.version → new ≡ old) → (times_in old.names n.key n.version ≡ 0 → 0 < old.room → NotesNew st old new n) → (old.room ≡ 0 → new ≡ old) → AreLone st new.doomed
+lone_on st old new n lone again first full = by_times (times_in old.names n.key n.version) refl where
+  stays : new ≡ old → AreLone st new.doomed
+  stays e = subst (λ (c : ClearingState). AreLone st c.doomed) (sym e) lone
+
+  by_room : times_in old.names n.key n.version ≡ 0 → (r : ℕ) → old.room ≡ r → AreLone st new.doomed
+  by_room none zero e = stays (full e)
+  by_room none (suc r) e = let N = first none (omega (arith, e)) in subst (AreLone st) (sym N.doomed) (lone_more st old.doomed n (is_doomed st n.key n.version) refl lone)
+
+  by_times : (t : ℕ) → times_in old.names n.key n.version ≡ t → AreLone st new.doomed
+  by_times zero e = by_room e old.room refl
+  by_times (suc t) e = stays (again (omega (arith, e)))

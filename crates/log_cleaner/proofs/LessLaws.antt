@@ -1,5 +1,5 @@
 -- What is left to be copied after a batch.
-use Rattle.std.proofs.Common.{◌≡◌, inl, inr, ⊎_elim, ℕ, zero, suc, ◌+◌, ◌≤◌, ◌<◌, ◌==◌, ◌&&◌, ◌||◌, not, Bool, true, false, cond, List, [], ◌∷◌, length, take, Option, Some, refl, sym, ◌∙◌, ap, arith}
+use Rattle.std.proofs.Common.{◌≡◌, inl, inr, ⊎_elim, ℕ, zero, suc, ◌+◌, ◌≤◌, ◌<◌, ◌==◌, ◌&&◌, ◌||◌, not, Bool, true, false, cond, List, [], ◌∷◌, length, take, Option, Some, refl, sym, ◌∙◌, ap, subst, arith}
 use Rattle.std.specs.List.{filter, sum_by, count_by}
 use Rattle.std.proofs.lemmas.Bool.{cond-true, cond-false, eqb-true, and_parts}
 use Rattle.std.proofs.lemmas.List.Sums.{sum_by-cons}
@@ -8,7 +8,7 @@ use Rattle.log_entry.specs.declared.entry.Entry.{Entry}
 use Rattle.log_entry.specs.Spelling.{words_of}
 use Rattle.store_image.specs.Facts.{In}
 use Rattle.log_standing.specs.declared.types.Copies.{Copies}
-use Rattle.log_standing.specs.NameCounts.{StandingState, copies_at, count_in, told_in, count_of, one_more}
+use Rattle.log_standing.specs.NameCounts.{StandingState, copies_at, count_in, told_in, count_of, one_more, name_eq}
 use Rattle.log_standing.specs.ChunkCounts.{is_named, has_name}
 use Rattle.log_cleaner.specs.Copying.{awaits, left_to_copy, IsEachOnce}
 use Rattle.log_cleaner.specs.CopyBatch.{firsts, next_batch, Adds, IsLess, IsLessJust}
@@ -27,7 +27,7 @@ module _ {X : Type 0} (f : X → ℕ) where
         | false ↦ omega (arith, rest, a)
       ]
 
-  sum_take : (p : X → Bool) (n : ℕ) (xs : List X) → sum_by f (filter p (take n xs)) ≤ sum_by f (filter p xs)
+  pub sum_take : (p : X → Bool) (n : ℕ) (xs : List X) → sum_by f (filter p (take n xs)) ≤ sum_by f (filter p xs)
   sum_take p zero xs = omega arith
   sum_take p (suc n) [] = omega arith
   sum_take p (suc n) (x ∷ xs) =
@@ -41,7 +41,7 @@ module _ {X : Type 0} (f : X → ℕ) where
   filter_all p [] all = refl
   filter_all p (x ∷ xs) all = cond-true (p x) (x ∷ filter p xs) (filter p xs) (all x (inl refl)) ∙ ap (λ (l : List X). x ∷ l) (filter_all p xs (λ y is. all y (inr is)))
 
-sum_firsts : (f : ℕ × Entry → ℕ) (p : ℕ × Entry → Bool) (xs : List (ℕ × Entry)) → sum_by f (filter p (firsts xs)) ≤ sum_by f (filter p xs)
+pub sum_firsts : (f : ℕ × Entry → ℕ) (p : ℕ × Entry → Bool) (xs : List (ℕ × Entry)) → sum_by f (filter p (firsts xs)) ≤ sum_by f (filter p xs)
 sum_firsts f p [] = omega arith
 sum_firsts f p (x ∷ xs) =
     let q : ℕ × Entry → Bool = λ y. not (is_named x.1.key x.1.version y) in
@@ -111,6 +111,42 @@ taken_once (suc n) (x ∷ xs) once =
     ∙ ap (λ (l : List (ℕ × Entry)). x ∷ l) (filter_same_in q (λ (y : ℕ × Entry). has_name (take n xs) y.1.key y.1.version) xs (λ y is. ap (λ (b : Bool). b || has_name (take n xs) y.1.key y.1.version) (apart x xs once y is))
     ∙ taken_once n xs (fewer_once x xs once))
 
+take_short : {X : Type 0} (n : ℕ) (xs : List X) → length (take n xs) < n → take n xs ≡ xs
+take_short zero xs few = absurd (omega (arith, few))
+take_short (suc n) [] few = refl
+take_short (suc n) (x ∷ xs) few = ap (λ (l : List _). x ∷ l) (take_short n xs (omega (arith, few)))
+
+in_filter : {X : Type 0} (q : X → Bool) (xs : List X) (z : X) → In z xs → q z ≡ true → In z (filter q xs)
+in_filter q [] z is passes = absurd is
+in_filter q (x ∷ xs) z (inl here) passes = subst (In z) (sym (cond-true (q x) (x ∷ filter q xs) (filter q xs) (ap q (sym here) ∙ passes))) (inl here)
+in_filter q (x ∷ xs) z (inr later) passes =
+    let rest = in_filter q xs z later passes in
+    elim (q x) as (λ b. In z (cond b (x ∷ filter q xs) (filter q xs))) [
+      | true ↦ inr rest
+      | false ↦ rest
+    ]
+
+filter_none : {X : Type 0} (q : X → Bool) (xs : List X) → ((x : X) → In x xs → q x ≡ false) → filter q xs ≡ []
+filter_none q [] all = refl
+filter_none q (x ∷ xs) all = cond-false (q x) (x ∷ filter q xs) (filter q xs) (all x (inl refl)) ∙ filter_none q xs (λ y is. all y (inr is))
+
+-- of each name one is among the first ones
+firsts_has : (xs : List (ℕ × Entry)) (y : ℕ × Entry) → In y xs → has_name (firsts xs) y.1.key y.1.version ≡ true
+firsts_has [] y is = absurd is
+firsts_has (x ∷ xs) y (inl here) = in_named (firsts (x ∷ xs)) y (inl here)
+firsts_has (x ∷ xs) y (inr later) = by (firsts_has xs y later) (is_named y.1.key y.1.version x) refl
+  where
+    by : has_name (firsts xs) y.1.key y.1.version ≡ true → (b : Bool) → is_named y.1.key y.1.version x ≡ b → (is_named y.1.key y.1.version x || has_name (filter (λ z. not (is_named x.1.key x.1.version z)) (firsts xs)) y.1.key y.1.version) ≡ true
+    by has true same = ap (λ (b : Bool). b || has_name (filter (λ z. not (is_named x.1.key x.1.version z)) (firsts xs)) y.1.key y.1.version) same
+    by has false isnt =
+        let n = name_in (firsts xs) y.1.key y.1.version has in
+        let other : is_named x.1.key x.1.version n.found ≡ false = (λ i. name_eq (n.key i, n.version i) (x.1.key, x.1.version)) ∙ name_sym y.1.key y.1.version x.1.key x.1.version ∙ isnt in
+        let there = in_filter (λ (z : ℕ × Entry). not (is_named x.1.key x.1.version z)) (firsts xs) n.found n.here (ap not other) in
+        let found = in_named (filter (λ (z : ℕ × Entry). not (is_named x.1.key x.1.version z)) (firsts xs)) n.found there in
+        let names : has_name (filter (λ (z : ℕ × Entry). not (is_named x.1.key x.1.version z)) (firsts xs)) n.found.1.key n.found.1.version ≡ has_name (filter (λ (z : ℕ × Entry). not (is_named x.1.key x.1.version z)) (firsts xs)) y.1.key y.1.version = λ i. has_name (filter (λ (z : ℕ × Entry). not (is_named x.1.key x.1.version z)) (firsts xs)) (n.key i) (n.version i) in
+        let moved = sym names ∙ found in
+        ap (λ (b : Bool). b || has_name (filter (λ z. not (is_named x.1.key x.1.version z)) (firsts xs)) y.1.key y.1.version) isnt ∙ moved
+
 module _ (old new : StandingState) (es : List (ℕ × Entry)) (adds : Adds old new (next_batch old es)) where
   in_it : ℕ × Entry → Bool
   in_it y = has_name (next_batch old es) y.1.key y.1.version
@@ -144,6 +180,14 @@ module _ (old new : StandingState) (es : List (ℕ × Entry)) (adds : Adds old n
       let left = ap (sum_by f) left_is in
       omega (arith, all, a, b, both, left)
 
+  -- a batch that is not full leaves nothing
+  pub none_after : length (next_batch old es) < 64 → left_to_copy new es ≡ []
+  unfolding in_it
+  none_after few =
+      let L = left_to_copy old es in
+      let whole = take_short 64 (firsts L) few in
+      left_is ∙ filter_none (λ (y : ℕ × Entry). not (has_name (next_batch old es) y.1.key y.1.version)) L (λ y is. ap not (ap (λ (xs : List (ℕ × Entry)). has_name xs y.1.key y.1.version) whole ∙ firsts_has L y is))
+
   -- just by the batch where no two that are left are equal
   module _ (once : IsEachOnce (left_to_copy old es)) where
     just_by : (f : ℕ × Entry → ℕ) → sum_by f (next_batch old es) + sum_by f (left_to_copy new es) ≡ sum_by f (left_to_copy old es)
@@ -176,7 +220,7 @@ module _ (old new : StandingState) (es : List (ℕ × Entry)) (adds : Adds old n
       let a = sum_ones (next_batch old es) in
       let b = sum_ones (left_to_copy new es) in
       let d = sum_ones (left_to_copy old es) in
-      record { entries = omega (arith, n, a, b, d); words = less_by (λ (x : ℕ × Entry). length (words_of x.1)); just = λ once. is_just once }
+      record { entries = omega (arith, n, a, b, d); words = less_by (λ (x : ℕ × Entry). length (words_of x.1)); just = λ once. is_just once; none = none_after }
 
 -- where the batch is empty nothing was left
 pub none_awaits : (old : StandingState) (es : List (ℕ × Entry)) (n : ℕ) → n ≡ length (next_batch old es) → n ≡ 0 → left_to_copy old es ≡ []

@@ -19,7 +19,7 @@ use Rattle.log_cleaner.specs.Additions.{with_open, OpensNew}
 use Rattle.log_cleaner.proofs.Parts.{entries_still, count_same}
 
 -- a chunk more
-count_new : (h : ℕ → Bool) (cs : List LogChunk) (j n : ℕ) → tail_of cs j ≡ None → count_by (λ (x : LogChunk). h x.chunk) (with_tail cs j n) ≡ count_by (λ (x : LogChunk). h x.chunk) cs + cond (h j) 1 0
+pub count_new : (h : ℕ → Bool) (cs : List LogChunk) (j n : ℕ) → tail_of cs j ≡ None → count_by (λ (x : LogChunk). h x.chunk) (with_tail cs j n) ≡ count_by (λ (x : LogChunk). h x.chunk) cs + cond (h j) 1 0
 count_new h [] j n none = let a = sum_by-cons (λ (x : LogChunk). cond (h x.chunk) 1 0) (chunk_with j n) [] in omega (arith, a)
 count_new h (c ∷ cs) j n none = elim (nat_lt j c.chunk) as (λ b. count_by (λ (x : LogChunk). h x.chunk) (cond b (chunk_with j n ∷ c ∷ cs) (cond (c.chunk == j) (chunk_with j n ∷ cs) (c ∷ with_tail cs j n))) ≡ count_by (λ (x : LogChunk). h x.chunk) (c ∷ cs) + cond (h j) 1 0) [
   | true ↦ let a = sum_by-cons (λ (x : LogChunk). cond (h x.chunk) 1 0) (chunk_with j n) (c ∷ cs) in omega (arith, a)

@@ -1,7 +1,7 @@
 -- Numbers that a caller keeps of what is left to be copied.
-use Rattle.std.proofs.Common.{◌≡◌, ℕ, ◌-◌, ◌≤◌, List, [], ◌∷◌, length, refl, ◌∙◌, ap, arith}
+use Rattle.std.proofs.Common.{◌≡◌, ℕ, ◌-◌, ◌≤◌, List, [], ◌∷◌, length, take, Bool, true, refl, ◌∙◌, ap, arith}
 use Rattle.std.specs.Prelude.{option_map}
-use Rattle.std.specs.List.{flat_map}
+use Rattle.std.specs.List.{flat_map, sum_by}
 use Rattle.std.proofs.lemmas.List.{length-append}
 use Rattle.std.proofs.lemmas.List.Sums.{sum_by-cons}
 use Rattle.pm_region.specs.State.{State}
@@ -12,10 +12,11 @@ use Rattle.core_log.specs.Walking.{entries_in}
 use Rattle.log_standing.specs.NameCounts.{StandingState, copies_at, killed, Changes}
 use Rattle.log_cleaner.specs.declared.types.Victim.{Victim}
 use Rattle.log_cleaner.specs.Copying.{left_to_copy, words_sum, tally_of, to_copy, IsEachOnce}
-use Rattle.log_cleaner.specs.CopyBatch.{batch_in, entries_of, IsLess, IsBatchOf, Bounds, lowered_by}
+use Rattle.log_cleaner.specs.CopyBatch.{batch_in, entries_of, firsts, next_batch, IsLess, IsBatchOf, Bounds, lowered_by}
 use Rattle.log_cleaner.proofs.Between.{kill_less}
+use Rattle.log_cleaner.proofs.LessLaws.{sum_take, sum_firsts, filter_all}
 
-words_long : (xs : List (ℕ × Entry)) → length (flat_map words_of (entries_of xs)) ≡ words_sum xs
+pub words_long : (xs : List (ℕ × Entry)) → length (flat_map words_of (entries_of xs)) ≡ words_sum xs
 words_long [] = refl
 words_long (x ∷ xs) =
     let a = sum_by-cons (λ (y : ℕ × Entry). length (words_of y.1)) x xs in
@@ -58,3 +59,16 @@ module _ (s : State) (log : LogState) (old new : StandingState) (j n : ℕ) (ws 
 
 pub tally_killed : (old new : StandingState) (k w : ℕ) → Changes old new k w (option_map killed (copies_at old k w)) → (v : Victim) (es : List (ℕ × Entry)) → Bounds v old es → Bounds v new es
 tally_killed old new k w changes v es bounds = let less = kill_less old new k w changes es in let a = less.0 in let b = less.1 in let d = bounds.entries in let e = bounds.words in record { entries = omega (arith, a, d); words = omega (arith, b, e) }
+
+-- a batch is of what is left
+pub batch_within : (st : StandingState) (es : List (ℕ × Entry)) → words_sum (next_batch st es) ≤ words_sum (left_to_copy st es)
+batch_within st es =
+    let f : ℕ × Entry → ℕ = λ x. length (words_of x.1) in
+    let all : ℕ × Entry → Bool = λ x. true in
+    let left = left_to_copy st es in
+    let a = sum_take f all 64 (firsts left) in
+    let b = sum_firsts f all left in
+    let c = ap (sum_by f) (filter_all f all (take 64 (firsts left)) (λ x i. refl)) in
+    let d = ap (sum_by f) (filter_all f all (firsts left) (λ x i. refl)) in
+    let e = ap (sum_by f) (filter_all f all left (λ x i. refl)) in
+    omega (arith, a, b, c, d, e)

@@ -1,10 +1,10 @@
 -- Which chunk is cleaned next.
-use Rattle.std.specs.Prelude.{◌≡◌, ◌⊎◌, ℕ, ◌+◌, ◌*◌, ◌/◌, ◌<◌, ◌≤◌, ◌&&◌, ◌||◌, nat_le, Bool, true, Option, Some, None, is_some, ◌-◌}
+use Rattle.std.specs.Prelude.{◌≡◌, ◌≢◌, ◌⊎◌, ℕ, ◌+◌, ◌*◌, ◌/◌, ◌<◌, ◌≤◌, ◌&&◌, ◌||◌, nat_le, Bool, true, Option, Some, None, is_some, ◌-◌}
 use Rattle.log_entry.specs.declared.entry_limits.TheConstants.{MOST_ENTRIES}
 use Rattle.pm_region.specs.Words.{lines_for}
 use Rattle.pm_region.specs.State.{State}
 use Rattle.core_log.specs.declared.types.Room.{Room}
-use Rattle.core_log.specs.Log.{LogState, tail_of}
+use Rattle.core_log.specs.Log.{LogState, tail_of, tail_in}
 use Rattle.log_cleaner.specs.declared.types.Victim.{Victim}
 use Rattle.log_standing.specs.NameCounts.{StandingState}
 use Rattle.log_cleaner.specs.Copying.{to_copy}
@@ -24,6 +24,14 @@ pub record IsEligible (s : State) (log : LogState) (st : StandingState) (room : 
   pub has : is_some (tail_of log.chunks j) ≡ true
   pub closed : log.opened ≡ Some j → ⊥
   pub fitting : fits room (to_copy s log st j) ≡ true
+
+-- whatever the region tells, a chunk of the log that isn't the open one, and numbers that fit
+pub record IsChosen (log : LogState) (room : Room) (v : Victim) : Type 0 where
+  pub has : is_some (tail_of log.chunks v.chunk) ≡ true
+  pub closed : log.opened ≢ Some v.chunk
+  pub fitting : fits room v ≡ true
+  pub entries : v.entries ≤ tail_in log v.chunk
+  pub words : v.words ≤ tail_in log v.chunk
 
 -- j comes before i, or is i, in the cyclic order of numbers that begins behind the last victim
 abbrev pub Comes : Option ℕ → ℕ → ℕ → Type 0

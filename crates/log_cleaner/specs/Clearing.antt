@@ -1,5 +1,5 @@
 -- The names of a chunk, and those that vanish with it.
-use Rattle.std.specs.Prelude.{◌≡◌, ℕ, ◌+◌, ◌≤◌, ◌==◌, ◌&&◌, Bool, List, [], ◌∷◌, ◌++◌, length, if◌then◌else◌}
+use Rattle.std.specs.Prelude.{◌≡◌, ℕ, ◌+◌, ◌<◌, ◌≤◌, ◌==◌, ◌&&◌, Bool, true, List, [], ◌∷◌, ◌++◌, length, if◌then◌else◌}
 use Rattle.pm_region.specs.State.{State, IsTelling}
 use Rattle.log_entry.specs.declared.entry.Entry.{Entry}
 use Rattle.log_entry.specs.declared.entry.EntryName.{EntryName}
@@ -25,6 +25,10 @@ IsFresh c = (c.names ≡ []) × (c.doomed ≡ [])
 -- the name was told dead and stands in one chunk alone
 abbrev pub is_doomed : StandingState → ℕ → ℕ → Bool
 is_doomed st k v = is_told st k v && count_of st k v == 1
+
+-- each of these names was told dead and stands in one chunk alone
+abbrev pub AreLone : StandingState → List EntryName → Type 0
+AreLone st ns = (k v : ℕ) → 0 < times_in ns k v → is_doomed st k v ≡ true
 
 -- the list has each name of the entries once, and no other
 abbrev pub HasNames : List EntryName → List (ℕ × Entry) → Type 0

@@ -1,5 +1,5 @@
 -- The next batch of a chunk's copies.
-use Rattle.std.specs.Prelude.{◌≡◌, ◌≢◌, ℕ, ◌+◌, ◌-◌, ◌≤◌, not, List, [], ◌∷◌, map, length, take, Some, if◌then◌else◌}
+use Rattle.std.specs.Prelude.{◌≡◌, ◌≢◌, ℕ, ◌+◌, ◌-◌, ◌≤◌, ◌<◌, not, List, [], ◌∷◌, map, length, take, Some, if◌then◌else◌}
 use Rattle.std.specs.List.{filter, flat_map, AllByRecursion}
 use Rattle.pm_region.specs.Words.{lines_for}
 use Rattle.pm_region.specs.State.{State, IsTelling}
@@ -72,6 +72,7 @@ pub record IsLess (old new : StandingState) (es : List (ℕ × Entry)) : Type 0 
   pub words : words_sum (next_batch old es) + words_sum (left_to_copy new es)
       ≤ words_sum (left_to_copy old es)
   pub just : IsEachOnce (left_to_copy old es) → IsLessJust old new es
+  pub none : length (next_batch old es) < MOST_ENTRIES → left_to_copy new es ≡ []
 
 -- so many entries were copied, with these words; none only where none is left
 pub record IsBatchOf (s : State) (log : LogState) (st : StandingState) (j n : ℕ) (ws : List ℕ) :

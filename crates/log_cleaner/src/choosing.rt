@@ -1,9 +1,9 @@
 // Which chunk is cleaned next.
-ghost use Rattle.std.specs.Prelude.{◌≡◌, ◌≢◌, ℕ, ◌+◌, ◌*◌, ◌/◌, ◌^◌, ◌≤◌, ◌<◌, nat_le, true, is_some, Some, None, Option, IfOk};
+ghost use Rattle.std.specs.Prelude.{◌≡◌, ◌≢◌, ℕ, ◌+◌, ◌*◌, ◌/◌, ◌^◌, ◌≤◌, ◌<◌, nat_le, true, is_some, Some, None, Option, IfOk, IfSome};
 ghost use Rattle.pm_region.specs.State.{IsTelling};
 ghost use Rattle.core_log.specs.Log.{StandsIn, tail_of};
 ghost use Rattle.log_cleaner.specs.Copying.{IsUpToDate};
-ghost use Rattle.log_cleaner.specs.Choosing.{copy_lines, fits, IsCandidate, IsFirstIn, IsVictim};
+ghost use Rattle.log_cleaner.specs.Choosing.{copy_lines, fits, IsChosen, IsCandidate, IsFirstIn, IsVictim};
 
 use crate::counting::to_copy;
 use crate::reading_start::tail_of;
@@ -56,7 +56,8 @@ fn candidate<R: Region>(
     requires stands { StandsIn (R.state region.now) log.now }
     requires standing { IsTelling (R.state region.now) → IsUpToDate (R.state region.now) log.now
         standing.now }
-    ensures { IsTelling (R.state region.now) → IsCandidate (R.state region.now) log.now standing.now
+    ensures chosen { IfSome result (λ v. (v.chunk ≡ chunk) × IsChosen log.now room.now v) }
+    ensures tells { IsTelling (R.state region.now) → IsCandidate (R.state region.now) log.now standing.now
         room.now chunk result }
 {
     if log.opened() == Some(chunk) || tail_of(log, chunk).is_none() {
@@ -82,7 +83,8 @@ fn first_in<R: Region>(
     requires stands { StandsIn (R.state region.now) log.now }
     requires standing { IsTelling (R.state region.now) → IsUpToDate (R.state region.now) log.now
         standing.now }
-    ensures { IsTelling (R.state region.now) → IsFirstIn (R.state region.now) log.now standing.now
+    ensures chosen { IfSome result (IsChosen log.now room.now) }
+    ensures tells { IsTelling (R.state region.now) → IsFirstIn (R.state region.now) log.now standing.now
         room.now low high result }
 {
     for chunk in low..high {
@@ -119,7 +121,8 @@ pub fn victim<R: Region>(
     requires stands { StandsIn (R.state region.now) log.now }
     requires standing { IsTelling (R.state region.now) → IsUpToDate (R.state region.now) log.now
         standing.now }
-    ensures { IfOk result (λ found. IsTelling (R.state region.now)
+    ensures chosen { IfOk result (λ found. IfSome found (IsChosen log.now room.now)) }
+    ensures tells { IfOk result (λ found. IsTelling (R.state region.now)
         → IsVictim (R.state region.now) log.now standing.now after room.now found) }
 {
     let _ = alloc;

@@ -7,7 +7,7 @@ ghost use Rattle.log_standing.specs.NameCounts.{is_told, count_of, times_in, cop
 ghost use Rattle.log_cleaner.specs.Dropping.{lowered, Drops};
 ghost use Rattle.log_cleaner.specs.Copying.{IsUpToDate};
 ghost use Rattle.log_cleaner.specs.ImagesBeside.{AgreesIn, GivesUp};
-ghost use Rattle.log_cleaner.specs.Clearing.{ClearingState, IsFresh, is_doomed, IsGathered, IsReady, HasCleared, NotesNew};
+ghost use Rattle.log_cleaner.specs.Clearing.{ClearingState, IsFresh, is_doomed, AreLone, IsGathered, IsReady, HasCleared, NotesNew};
 
 use crate::types::{Cleared, Victim};
 use core_log::CoreLog;
@@ -128,6 +128,7 @@ impl Clearing {
         ensures again { 0 < times_in self.old.names name.key name.version → self.new ≡ self.old }
         ensures first { times_in self.old.names name.key name.version ≡ 0 → 0 < self.old.room
             → NotesNew standing.now self.old self.new name }
+        ensures full { self.old.room ≡ 0 → self.new ≡ self.old }
     {
         if self.seen.copies(name) > 0 || self.seen.room() == 0 {
             return;
@@ -153,6 +154,7 @@ impl Clearing {
             → length (entries_in (R.state region.now) log.now chunk) ≤ self.old.room }
         ensures gathered { IsTelling (R.state region.now)
             → IsGathered standing.now (entries_in (R.state region.now) log.now chunk) self.new }
+        ensures lone { AreLone standing.now self.new.doomed }
         ensures chunk { self.new.chunk ≡ self.old.chunk }
     {
         let mut place = 0;
@@ -173,6 +175,8 @@ impl Clearing {
         ensures gathered { IsTelling (R.state region.now)
             → IsGathered standing.now (entries_in (R.state region.now) log.now self.old.chunk)
             self.new }
+        // Whatever the region tells.
+        ensures lone { AreLone standing.now self.new.doomed }
         ensures chunk { self.new.chunk ≡ self.old.chunk }
     {
         let chunk = self.chunk();

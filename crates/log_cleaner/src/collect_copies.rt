@@ -86,6 +86,7 @@ fn collect_from<R: Region>(
     ensures holds { IsTelling (R.state region.now) → 0 < result.0 → HoldsEntries buffer.new.words }
     ensures some { 0 < result.0 → 0 < length buffer.new.words }
     ensures most { length buffer.new.words ≤ MOST_BATCH_WORDS }
+    ensures few { result.0 ≤ MOST_ENTRIES }
     ensures kept { buffer.new.room ≡ buffer.old.room }
     ensures settled { IsTelling (R.state region.now) → IsSettled (R.state region.now) log.now
         standing.new (begins chunk result.1) }
@@ -123,6 +124,7 @@ pub fn collect<R: Region>(
     ensures holds { IsTelling (R.state region.now) → 0 < result → HoldsEntries buffer.new.words }
     ensures some { 0 < result → 0 < length buffer.new.words }
     ensures most { length buffer.new.words ≤ MOST_BATCH_WORDS }
+    ensures few { result ≤ MOST_ENTRIES }
     ensures kept { buffer.new.room ≡ buffer.old.room }
     ensures settled { IsTelling (R.state region.now) → IsSettledIn (R.state region.now) log.now
         standing.new }

@@ -2,27 +2,36 @@
 ghost use Rattle.std.specs.Prelude.{◌≡◌, ◌≢◌, ◌⊎◌, ℕ, ◌+◌, ◌-◌, ◌*◌, ◌^◌, ◌≤◌, ◌<◌, true, false, is_some, Some, length, OnOk, OnErr, IfOk};
 ghost use Rattle.pm_region.specs.Words.{lines_for};
 ghost use Rattle.pm_region.specs.State.{IsTelling, Faulted};
-ghost use Rattle.core_log.specs.Log.{StandsIn, tail_of, room_of};
+ghost use Rattle.core_log.specs.Log.{StandsIn, tail_of, room_of, with_tail, open_number, open_tail};
+ghost use Rattle.core_log.specs.Chunk.{padded};
+ghost use Rattle.core_log.specs.Walking.{entries_in};
 ghost use Rattle.log_cleaner.specs.Copying.{IsUpToDate};
-ghost use Rattle.log_cleaner.specs.CopyBatch.{copies_in, CopiesFit, IsBatchOf, HasCopied};
+ghost use Rattle.log_cleaner.specs.CopyBatch.{copies_in, CopiesFit, IsBatchOf, HasCopied, Bounds};
 ghost use Rattle.log_cleaner.specs.ImagesBeside.{MakesCopies};
 
 use crate::collect_copies::collect;
 use crate::types::Victim;
 use core_log::CoreLog;
-use log_entry::{MOST_BATCH_WORDS, WordBuffer};
+use log_entry::{MOST_BATCH_WORDS, MOST_ENTRIES, WordBuffer};
 use log_standing::Standing;
 use pm_region::{LINE_WORDS, Region, RegionFault};
 
-// Whether there is a batch, and room for it.
-fn is_ready(log: &CoreLog, buffer: &WordBuffer, taken: u64) -> bool
+// Whether there is a batch of no more than is still to be copied, and room for it. Where the region does not tell what
+// it has, another reading may find more.
+fn is_ready(log: &CoreLog, victim: &Victim, buffer: &WordBuffer, taken: u64) -> bool
     requires { length buffer.now.words ≤ MOST_BATCH_WORDS }
     ensures ready { result ≡ true → (0 < taken)
-        × (lines_for (length buffer.now.words) ≤ room_of log.now) }
+        × (lines_for (length buffer.now.words) ≤ room_of log.now)
+        × (taken ≤ victim.now.entries) × (length buffer.now.words ≤ victim.now.words) }
     ensures unready { result ≡ false → (taken ≡ 0)
-        ⊎ (room_of log.now < lines_for (length buffer.now.words)) }
+        ⊎ ((room_of log.now < lines_for (length buffer.now.words))
+        ⊎ ((victim.now.entries < taken) ⊎ (victim.now.words < length buffer.now.words))) }
 {
-    taken > 0 && (buffer.words().len() as u64).div_ceil(LINE_WORDS) <= log.room()
+    let words = buffer.words().len() as u64;
+    taken > 0
+        && words.div_ceil(LINE_WORDS) <= log.room()
+        && taken <= victim.entries
+        && words <= victim.words
 }
 
 /// Copies the next entries of a victim's chunk that are still to be copied, by place, as one batch into the open
@@ -43,6 +52,8 @@ pub fn copy_live<R: Region>(
         standing.old }
     requires buffer { MOST_BATCH_WORDS ≤ buffer.old.room }
     requires room { CopiesFit (R.state region.old) log.old standing.old victim.now.chunk }
+    requires bounds { IsTelling (R.state region.old) → Bounds victim.now standing.old
+        (entries_in (R.state region.old) log.old victim.now.chunk) }
     ensures moments { MakesCopies (R.state region.old) (R.state region.new) log.old
         (copies_in (R.state region.old) log.old standing.old victim.now.chunk) }
     ensures batch { IfOk result (λ n. IsTelling (R.state region.old)
@@ -51,13 +62,19 @@ pub fn copy_live<R: Region>(
         standing.old standing.new victim.now.chunk) }
     ensures nothing { IfOk result (λ n. n ≡ 0 → (R.state region.new ≡ R.state region.old)
         × (log.new ≡ log.old)) }
+    // Whatever the region tells: no more than the numbers of the victim say, in so many lines of the open chunk.
+    ensures within { IfOk result (λ n. (n ≤ victim.now.entries) × (n ≤ MOST_ENTRIES)
+        × (0 < n → length buffer.new.words ≤ victim.now.words)) }
+    ensures log { IfOk result (λ n. 0 < n → log.new ≡ record log.old {
+        chunks = with_tail log.old.chunks (open_number log.old)
+        (open_tail log.old + length (padded buffer.new.words)) }) }
     ensures buffer { buffer.new.room ≡ buffer.old.room }
     ensures err { OnErr result (log.new ≡ log.old) }
     ensures cause { OnErr result (Faulted (R.state region.old) (R.state region.new)) }
 {
     buffer.clear();
     let taken = collect(region, log, standing, victim.chunk, buffer);
-    if !is_ready(log, buffer, taken) {
+    if !is_ready(log, victim, buffer, taken) {
         return Ok(0);
     }
     log.append_batch(region, buffer)?;

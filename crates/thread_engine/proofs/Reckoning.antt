@@ -31,7 +31,7 @@ use Rattle.engine_laws.specs.Advance.{answered}
 use Rattle.engine_laws.specs.Origins.{Origin}
 use Rattle.engine_laws.specs.Spending.{lines_in, SpendsRoom}
 use Rattle.engine_laws.specs.Rooms.{out_lines, HasRoom}
-use Rattle.engine_laws.proofs.Clients.{raised_by_up, raised_append, causes_up, causes_append, lacks_less, at_least_same, of_member, of_core, all_in, all_append, filter_in, OwnLines, OwnMoves, fresh, own_room, own_posted, not_ample, core_spends, Changes, lawful_changes}
+use Rattle.engine_laws.proofs.Clients.{raised_by_up, raised_append, causes_up, causes_append, lacks_less, at_least_same, of_member, of_core, all_in, all_append, filter_in, OwnLines, OwnMoves, fresh, own_room, own_posted, not_ample, not_scarce, core_spends, Changes, lawful_changes}
 use Rattle.thread_engine.specs.WorkStates.{WorkState, Accepts, Move, wound_down, Leads}
 use Rattle.thread_engine.specs.WorkStates.Move.{accepts, turns, winds_down}
 use Rattle.thread_engine.specs.WorkLaws.{hands_at}
@@ -69,7 +69,7 @@ pub record Reckons (o : Origin) (given : List Request) (c : ℕ) (x : WorkState)
   pub changes : (k : ℕ) → owner (layout_of o.found) k ≡ c → AllByRecursion Changes (map replied (fixed_of k fs))
   pub causes : (k : ℕ) → owner (layout_of o.found) k ≡ c → HaveCauses (layout_of o.found) (version_of o.found k) (map replied (fixed_of k fs))
   pub versions : (k : ℕ) → owner (layout_of o.found) k ≡ c → x.view.last k ≤ raised_by (version_of o.found k) (map replied (fixed_of k fs))
-  pub room : x.worker.stopped ≡ false → HasRoom (layout_of o.found) o (alone o given stock x fs) c
+  pub room : x.worker.stopped ≡ false → (more : List Request) → 64 * lines_in x.view.took ≤ log_bytes (layout_of o.found) c (given ++ more) → IsAmpleFor (layout_of o.found) o.found (given ++ more) c → HasRoom (layout_of o.found) o (alone o given stock x fs) c
   pub posted : lines_in x.view.posted ≤ out_lines (layout_of o.found) (alone o given stock x fs) c
   pub full : (y : Fixed) → In y fs → y.reply ≡ Full → (more : List Request) → 64 * lines_in x.view.took ≤ log_bytes (layout_of o.found) c (given ++ more) → IsAmpleFor (layout_of o.found) o.found (given ++ more) c → ⊥
 
@@ -169,7 +169,7 @@ module _ (o : Origin) (layout : IsLayout (layout_of o.found)) (given : List Requ
         let F = fresh L e f c accepted fixed lines moves spends (asked y) own r.1 in
         let lacks = all_in (λ (z : Request × Reply). z.1 ≡ Full → LacksRoom L (hands_at a).stock z.0) (map replied (fixed_of k fixed)) (replied y) (M.refuses k (of_member L layout c k own)).full
         (in_map replied y (fixed_of k fixed) (filter_in (λ (z : Fixed). key_of z.request == k) fixed y i (eq-eqb k k refl))) is in
-        not_ample o e layout c (R.room r.0) y.request y.number own F.given F.begun (lacks_less L R.stock (hands_at a).stock y.request R.least lacks) more within
+        λ ample. not_ample o e layout c (R.room r.0 more within ample) y.request y.number own F.given F.begun (lacks_less L R.stock (hands_at a).stock y.request R.least lacks) more within ample
 
     pub reckons_call : Reckons o given c b (fs ++ fixed)
     reckons_call = record {
@@ -181,7 +181,9 @@ module _ (o : Origin) (layout : IsLayout (layout_of o.found)) (given : List Requ
       changes = λ k own. subst (AllByRecursion Changes) (sym (replied_is k)) (all_append Changes (map replied (fixed_of k fs)) (map replied (fixed_of k fixed)) (R.changes k own) (lawful_changes (a.view.cell k) false (map replied (fixed_of k fixed)) (M.keys k (of_member L layout c k own)).lawful));
       causes = caused;
       versions = raised;
-      room = own_room L e f c accepted fixed lines moves spends o layout R.room;
+      room = λ runs more within ample.
+          let before : 64 * lines_in a.view.took ≤ log_bytes L c (given ++ more) = omega (arith, grows, within) in
+          own_room L e f c accepted fixed lines moves spends o layout (λ ran. R.room ran more before ample) (λ few H. not_scarce o e layout c H more few before ample) runs;
       posted = own_posted L e f c accepted fixed lines moves spends R.posted;
       full = λ y i is more within. ⊎_elim
           (λ old. R.full y old is more (omega (arith, grows, within)))
@@ -217,7 +219,7 @@ module _ (o : Origin) (layout : IsLayout (layout_of o.found)) (given : List Requ
       changes = R.changes;
       causes = R.causes;
       versions = R.versions;
-      room = λ runs. (let H = R.room runs in record { opened = H.opened; cuts = H.cuts; chunks = H.chunks; lines = H.lines; small = H.small; blocks = H.blocks; last = H.last; class = H.class });
+      room = λ runs more within ample. (let H = R.room runs more within ample in record { opened = H.opened; cuts = H.cuts; chunks = H.chunks; lines = H.lines; small = H.small; blocks = H.blocks; last = H.last; class = H.class });
       posted = R.posted;
       full = R.full;
     }

@@ -83,7 +83,7 @@ module _ (o : Origin) (is : IsOrigin o) (given : List Request) (c : ℕ) (x : Wo
     changes = λ k own. tt;
     causes = λ k own. tt;
     versions = λ k own. (let same = version_is k own in omega (arith, same));
-    room = λ runs. record {
+    room = λ runs more within ample. record {
       opened = 0;
       cuts = λ k. 0;
       chunks = (let none = none_cut (numbers 1 GREATEST_CLASS) in omega (arith, none));

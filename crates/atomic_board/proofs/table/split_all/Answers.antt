@@ -4,8 +4,8 @@ use Rattle.atomic_table.proofs.Lists.{at_longer, at_last}
 use Rattle.group_laws.specs.MemberViews.{view_of}
 use Rattle.atomic_board.specs.declared.token.SeatToken.{SeatToken}
 use Rattle.atomic_board.specs.Deeds.{began, place_of}
-use Rattle.atomic_board.specs.MemberSeats.{seat_of, view_at}
-use Rattle.atomic_board.specs.Tokens.{AreTokens, AreFresh, member_at}
+use Rattle.atomic_board.specs.MemberSeats.{seat_of, view_at, done_at}
+use Rattle.atomic_board.specs.Tokens.{AreTokens, AreFresh, AreIdle, member_at}
 use Rattle.atomic_board.proofs.EachElement.{each_snoc}
 use Rattle.atomic_board.proofs.TableEnd.{at_member}
 use Rattle.atomic_board.proofs.table.split_all.Goals as goal
@@ -32,6 +32,7 @@ loop-member-preserved c = let kept = c.loop-member.invariant in let items = c.in
       subst (AreFresh b) (sym pushed.items) (each_snoc (λ k (t : SeatToken). view_at t.own ≡ view_of (began b) k) c.loop-member.tokens.items _ kept.5 (told.view ∙ ap (view_of (began b)) (sym at))),
       told.spare.0 ∙ kept.6,
       told.spare.1,
+      subst AreIdle (sym pushed.items) (each_snoc (λ k (t : SeatToken). done_at t.own ≡ []) c.loop-member.tokens.items _ kept.8 told.idle),
     )
 
 pub split_next-own-requires-2-clause-held : goal.split_next-own-requires-2-clause-held
@@ -48,3 +49,6 @@ returns-clause-fresh c = let kept = c.loop-member.invariant in let pushed = c.pu
     let b = c.args.shared.now.key.me.0 in let n = c.loop-member.auto.member-end in let stop = c.loop-member-test.false in let long = kept.2 in let some = c.requires.members.0 in
     let at : c.args.members - 1 ≡ length c.loop-member.tokens.items = omega (arith, n, stop, long, some) in
     subst (AreFresh b) (sym pushed.items) (each_snoc (λ k (t : SeatToken). view_at t.own ≡ view_of (began b) k) c.loop-member.tokens.items _ kept.5 (told.view ∙ ap (view_of (began b)) at))
+
+pub returns-clause-idle : goal.returns-clause-idle
+returns-clause-idle c = let kept = c.loop-member.invariant in subst AreIdle (sym c.push_reserved-2.ensures.items) (each_snoc (λ k (t : SeatToken). done_at t.own ≡ []) c.loop-member.tokens.items _ kept.8 c.split_next-own-2.ensures.idle)

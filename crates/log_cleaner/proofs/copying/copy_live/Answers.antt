@@ -1,4 +1,4 @@
-use Rattle.std.proofs.Common.{◌≡◌, ◌+◌, ⊎_elim, ℕ, List, [], ◌∷◌, length, refl, sym, ◌∙◌, ap, arith}
+use Rattle.std.proofs.Common.{◌≡◌, ◌⊎◌, ◌+◌, ◌<◌, ◌≤◌, ⊎_elim, ℕ, List, [], ◌∷◌, length, refl, sym, ◌∙◌, ap, arith}
 use Rattle.pm_region.specs.State.{State, IsTelling, cell_now}
 use Rattle.pm_region.specs.Words.{KeepsOutside, lines_for}
 use Rattle.pm_region.proofs.Clients.{told_at_entry, all_kept}
@@ -9,7 +9,12 @@ use Rattle.core_log.specs.Walking.{entries_in}
 use Rattle.core_log.proofs.Clients.{some_opens}
 use Rattle.log_standing.specs.NameCounts.{StandingState, count_in}
 use Rattle.log_standing.specs.ChunkCounts.{IsStandingOf}
-use Rattle.log_cleaner.specs.CopyBatch.{Adds, batch_in, copies_in, SameElse}
+use Rattle.std.specs.List.{flat_map}
+use Rattle.log_entry.specs.Spelling.{words_of}
+use Rattle.core_log.specs.Log.{room_of}
+use Rattle.log_cleaner.specs.declared.types.Victim.{Victim}
+use Rattle.log_cleaner.proofs.Tallies.{words_long}
+use Rattle.log_cleaner.specs.CopyBatch.{Adds, Bounds, Collected, batch_in, copies_in, SameElse}
 use Rattle.log_cleaner.proofs.CopyLaws.{same_parts, same_log, copy_parts, copy_standing, still_has, not_open, is_batch, long_entries}
 use Rattle.log_cleaner.proofs.LessLaws.{is_less, none_awaits}
 use Rattle.log_cleaner.proofs.SettledLaws.{settled_moved}
@@ -54,6 +59,16 @@ returns-clause-moments g c =
       parts = copy_parts s log st st' j c.collect-taken.result ws c.requires.stands c.requires.has c.requires.closed counts c.collect-taken.ensures.told ready.0 opens ready.1 t c.append_batch.ensures.moments c.append_batch.ensures.outside;
     }
 
+-- where the region tells, a batch that isn't ready is none
+nothing_left : (s : State) (log : LogState) (st st' : StandingState) (v : Victim) (taken : ℕ) (ws : List ℕ) → Collected st st' (batch_in s log st v.chunk) taken ws → lines_for (length (flat_map words_of (copies_in s log st v.chunk))) ≤ room_of log → Bounds v st (entries_in s log v.chunk)
+    → (taken ≡ 0) ⊎ ((room_of log < lines_for (length ws)) ⊎ ((v.entries < taken) ⊎ (v.words < length ws))) → taken ≡ 0
+nothing_left s log st st' v taken ws told fits bounds which = ⊎_elim (λ e. e) (λ more. absurd (⊎_elim
+    (λ lt. (let same = ap (λ (xs : List ℕ). lines_for (length xs)) told.words_are in omega (arith, lt, fits, same)))
+    (λ late. (let less = is_less st st' (entries_in s log v.chunk) told.adds in let a = bounds.entries in let b = bounds.words in let d = less.entries in let e = less.words in let count = told.count_is in
+    let long = ap (λ (xs : List ℕ). length xs) told.words_are ∙ words_long (batch_in s log st v.chunk) in
+    ⊎_elim (λ x. omega (arith, x, a, d, count)) (λ x. omega (arith, x, b, e, long)) late))
+    more)) which
+
 pub returns-then-not-is_ready-clause-moments : goal.returns-then-not-is_ready-clause-moments
 returns-then-not-is_ready-clause-moments g c =
     let s = g.R.Region.state c.args.region.now in
@@ -63,9 +78,8 @@ returns-then-not-is_ready-clause-moments g c =
           let told = c.collect-taken.ensures.told telling in
           let long = long_entries (batch_in s log c.args.standing.now c.args.victim.now.chunk) in
           let count = told.count_is in
-          ⊎_elim (λ (none : c.collect-taken.result ≡ 0). absurd (omega (arith, none, some, long, count)))
-          (λ lt. let fits = c.requires.room telling in let same = ap (λ (ws : List ℕ). lines_for (length ws)) told.words_are in absurd (omega (arith, lt, fits, same)))
-          (c.is_ready.ensures.unready c.if-not-is_ready.true);
+          let none = nothing_left s log c.args.standing.now c.collect-taken.new.standing c.args.victim.now c.collect-taken.result c.collect-taken.new.buffer.words told (c.requires.room telling) (c.requires.bounds telling) (c.is_ready.ensures.unready c.if-not-is_ready.true) in
+          absurd (omega (arith, none, some, long, count));
       outside = all_kept s (open_first log) (open_first log + chunk_words log.layout);
       parts = same_parts s log _;
     }
@@ -118,9 +132,7 @@ returns-then-not-is_ready-clause-ok g c =
       adds = λ telling. (c.collect-taken.ensures.told telling).adds;
       standing = λ telling.
           let told = c.collect-taken.ensures.told telling in
-          let nothing : c.collect-taken.result ≡ 0 = ⊎_elim (λ e. e)
-          (λ lt. let fits = c.requires.room telling in let same = ap (λ (ws : List ℕ). lines_for (length ws)) told.words_are in absurd (omega (arith, lt, fits, same)))
-          (c.is_ready.ensures.unready c.if-not-is_ready.true) in
+          let nothing : c.collect-taken.result ≡ 0 = nothing_left s log st st' c.args.victim.now c.collect-taken.result c.collect-taken.new.buffer.words told (c.requires.room telling) (c.requires.bounds telling) (c.is_ready.ensures.unready c.if-not-is_ready.true) in
           record {
             counts = same_counts s log st st' (batch_in s log st j) told.adds (sym told.count_is ∙ nothing) (c.requires.standing telling).counts;
             settled = c.collect-taken.ensures.settled telling;
@@ -132,9 +144,7 @@ returns-then-not-is_ready-clause-ok g c =
 pub returns-then-not-is_ready-clause-batch : goal.returns-then-not-is_ready-clause-batch
 returns-then-not-is_ready-clause-batch g c = λ telling.
     let told = c.collect-taken.ensures.told telling in
-    let nothing : c.collect-taken.result ≡ 0 = ⊎_elim (λ e. e)
-    (λ lt. let fits = c.requires.room telling in let same = ap (λ (ws : List ℕ). lines_for (length ws)) told.words_are in absurd (omega (arith, lt, fits, same)))
-    (c.is_ready.ensures.unready c.if-not-is_ready.true) in
+    let nothing : c.collect-taken.result ≡ 0 = nothing_left (g.R.Region.state c.args.region.now) c.args.log.now c.args.standing.now c.collect-taken.new.standing c.args.victim.now c.collect-taken.result c.collect-taken.new.buffer.words told (c.requires.room telling) (c.requires.bounds telling) (c.is_ready.ensures.unready c.if-not-is_ready.true) in
     record {
       count = sym nothing ∙ told.count_is;
       words = told.words_are;

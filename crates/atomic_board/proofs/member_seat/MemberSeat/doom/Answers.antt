@@ -8,10 +8,13 @@ use Rattle.atomic_board.specs.StepTells.{view_in, origin_in}
 use Rattle.atomic_board.proofs.OwedGiving.{doom_owes}
 use Rattle.atomic_board.proofs.SeatMoves.{calm}
 use Rattle.atomic_board.proofs.member_seat.MemberSeat.doom.Goals as goal
+use Rattle.atomic_board.specs.declared.seat_data.Deed.TheVariants as deeds
+use Rattle.group_laws.specs.Runs as runs
+use Rattle.atomic_board.proofs.Trails as trails
 
 pub dooms-requires : goal.dooms-requires
 dooms-requires c = let me = c.args.self.now in
-    (c.requires.table, (let w = ap (λ z. z.words) (sym c.requires.table) in let v = me.wide in let l = me.few in omega (arith, w, v, l.0)), doom_owes _ _ _ _ me.own.0 _ c.args.names.now (λ y. (y + 1) % 2 ^ 64) (ap own_word (sym me.own.1)) (subst (λ j. MayDoom (place_of (origin_in me.seat.me.0)) j (view_in me.seat.me.0) c.args.names.now) (sym me.own.1) c.requires.may))
+    (c.requires.table, (let w = ap (λ z. z.words) (sym c.requires.table) in let v = me.wide in let l = me.few in omega (arith, w, v, l.0)), doom_owes _ _ _ _ me.own.0 _ c.args.names.now (λ y. (y + 1) % 2 ^ 64) (λ y. refl) (ap own_word (sym me.own.1)) (subst (λ j. MayDoom (place_of (origin_in me.seat.me.0)) j (view_in me.seat.me.0) c.args.names.now) (sym me.own.1) c.requires.may))
 
 pub invariant_of-self : goal.invariant_of-self
 invariant_of-self c = let me = c.args.self.now in let told = c.dooms.ensures.2 in
@@ -27,3 +30,6 @@ pub returns-clause-view : goal.returns-clause-view
 returns-clause-view c = let me = c.args.self.now in let told = c.dooms.ensures.2 in
     let t = calm (Doom c.args.names.now) (after_doom c.args.names.now) (λ ns p m v. refl) (λ v. refl) (λ v. refl) me.seat.me c.dooms.new.seat.me me.member me.members me.held.items me.own me.order me.holds told in
     t.view
+
+pub returns-clause-made : goal.returns-clause-made
+returns-clause-made c = let me = c.args.self.now in trails.trail_did (deeds.Doom c.args.names.now) me.seat.me.0 c.dooms.new.seat.me.0 me.own.0 (ap (λ x. x.0) c.dooms.ensures.2)

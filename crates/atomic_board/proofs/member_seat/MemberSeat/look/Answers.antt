@@ -7,6 +7,9 @@ use Rattle.atomic_board.specs.StepTells.{origin_in}
 use Rattle.atomic_board.proofs.OwedLeading.{look_owes}
 use Rattle.atomic_board.proofs.SeatMoves.{calm_found}
 use Rattle.atomic_board.proofs.member_seat.MemberSeat.look.Goals as goal
+use Rattle.atomic_board.specs.declared.seat_data.Deed.TheVariants as deeds
+use Rattle.group_laws.specs.Runs as runs
+use Rattle.atomic_board.proofs.Trails as trails
 
 pub load-found-requires : goal.load-found-requires
 load-found-requires c = let me = c.args.self.now in let at = c.pool_word_of-pool_word.ensures in (
@@ -32,3 +35,9 @@ returns-clause-view c = let me = c.args.self.now in let at = c.pool_word_of-pool
     let told = c.load-found.ensures.2 c.args.member c.args.slot c.requires.may.slot (at ∙ ap (λ n. pool_word n c.args.member c.args.slot) (sym me.own.2)) in
     let t = calm_found me.seat.me c.load-found.new.seat.me me.member me.members me.held.items me.own me.order me.holds (loads.Slot c.args.member c.args.slot told.0) told.3 in
     (told.0, c.state_at.ensures told.0 told.1 told.2, t.view)
+
+pub returns-clause-made : goal.returns-clause-made
+returns-clause-made c = let me = c.args.self.now in let at = c.pool_word_of-pool_word.ensures in
+    let told = c.load-found.ensures.2 c.args.member c.args.slot c.requires.may.slot (at ∙ ap (λ n. pool_word n c.args.member c.args.slot) (sym me.own.2)) in
+    let t = calm_found me.seat.me c.load-found.new.seat.me me.member me.members me.held.items me.own me.order me.holds (loads.Slot c.args.member c.args.slot told.0) told.3 in
+    trails.trail_did (deeds.Found (loads.Slot c.args.member c.args.slot told.0)) me.seat.me.0 c.load-found.new.seat.me.0 me.own.0 (ap (λ x. x.0) told.3)

@@ -17,6 +17,9 @@ use Rattle.atomic_board.proofs.SeatMoves.{IsSeat, calm_found, holds_by, back_sam
 use Rattle.atomic_board.proofs.SlotsHeld.{same_out}
 use Rattle.atomic_board.proofs.MailInHand.{fetched, unfetched, same_notices, receive_ready}
 use Rattle.atomic_board.proofs.member_seat.MemberSeat.receive.Goals as goal
+use Rattle.atomic_board.specs.declared.seat_data.Deed.TheVariants as deeds
+use Rattle.group_laws.specs.Runs as runs
+use Rattle.atomic_board.proofs.Trails as trails
 
 pub load-found-requires : goal.load-found-requires
 load-found-requires c = let me = c.args.self.now in let may = c.requires.may in let at = c.mail_word_of-word.ensures in let place = c.mail_place_of-place.ensures in
@@ -86,9 +89,9 @@ invariant_of-self-2 c = let me = c.args.self.now in let may = c.requires.may in 
     let list : c.exchange-parcel.new.seat.me.1 ≡ (mail_place (size (origin_in c.exchange-parcel.new.seat.me.0)) c.args.from (number_in c.exchange-parcel.new.seat.me.0), None) ∷ me.seat.me.1 =
     ap (λ x. x.1) exch.3 ∙ ap₂ (λ k l. (k, None) ∷ l) (spot ∙ ap₂ (λ x y. mail_place x c.args.from y) (sym (ap size ready.base)) (sym ready.number)) (ap (λ l. rest l) out) in
     let there : c.mail_word_of-word.result ≡ mail_word (size (origin_in c.exchange-parcel.new.seat.me.0)) c.args.from (number_in c.exchange-parcel.new.seat.me.0) = word ∙ ap₂ (λ x y. mail_word x c.args.from y) (sym (ap size ready.base)) (sym ready.number) in
-    let done = c.store.ensures.2 in let deed = Receive n.dead.names n.gone.names in let g = grip_at (pool_place c.args.from (number_in me.seat.me.0)) n.dead.names n.gone.names in let x = loads.Mail c.args.from (number_in me.seat.me.0) true in
-    let final = ap (λ z. z.0) done.0 ∙ (ap (λ z. gripping None (did (Receive z.dead z.gone) c.exchange-parcel.new.seat.me.0)) ready.notices ∙ ap (λ d. gripping None (did deed d)) mine) in let back = back_same deed g x me.seat.me.0 me.member me.members me.own in
-    let still = got_still n.dead.names n.gone.names g x me.seat.me.0 me.own.0 in let left = ap (λ z. z.1) done.0 ∙ ap (λ l. rest l) list in
+    let done = c.store.ensures.2 c.args.from there in let deed = Receive c.args.from n.dead.names n.gone.names in let g = grip_at (pool_place c.args.from (number_in me.seat.me.0)) n.dead.names n.gone.names in let x = loads.Mail c.args.from (number_in me.seat.me.0) true in
+    let final = ap (λ z. z.0) done.0 ∙ (ap (λ z. gripping None (did (Receive c.args.from z.dead z.gone) c.exchange-parcel.new.seat.me.0)) ready.notices ∙ ap (λ d. gripping None (did deed d)) mine) in let back = back_same deed g x me.seat.me.0 me.member me.members me.own in
+    let still = got_still c.args.from n.dead.names n.gone.names g x me.seat.me.0 me.own.0 in let left = ap (λ z. z.1) done.0 ∙ ap (λ l. rest l) list in
     record {
       few = me.few;
       wide = ap (λ z. z.words) (c.store.ensures.0 ∙ (exch.0 ∙ c.load-found.ensures.0)) ∙ me.wide;
@@ -122,9 +125,9 @@ returns-clause-same c = let me = c.args.self.now in let may = c.requires.may in 
     let list : c.exchange-parcel.new.seat.me.1 ≡ (mail_place (size (origin_in c.exchange-parcel.new.seat.me.0)) c.args.from (number_in c.exchange-parcel.new.seat.me.0), None) ∷ me.seat.me.1 =
     ap (λ x. x.1) exch.3 ∙ ap₂ (λ k l. (k, None) ∷ l) (spot ∙ ap₂ (λ x y. mail_place x c.args.from y) (sym (ap size ready.base)) (sym ready.number)) (ap (λ l. rest l) out) in
     let there : c.mail_word_of-word.result ≡ mail_word (size (origin_in c.exchange-parcel.new.seat.me.0)) c.args.from (number_in c.exchange-parcel.new.seat.me.0) = word ∙ ap₂ (λ x y. mail_word x c.args.from y) (sym (ap size ready.base)) (sym ready.number) in
-    let done = c.store.ensures.2 in let deed = Receive n.dead.names n.gone.names in let g = grip_at (pool_place c.args.from (number_in me.seat.me.0)) n.dead.names n.gone.names in let x = loads.Mail c.args.from (number_in me.seat.me.0) true in
-    let final = ap (λ z. z.0) done.0 ∙ (ap (λ z. gripping None (did (Receive z.dead z.gone) c.exchange-parcel.new.seat.me.0)) ready.notices ∙ ap (λ d. gripping None (did deed d)) mine) in let back = back_same deed g x me.seat.me.0 me.member me.members me.own in
-    let still = got_still n.dead.names n.gone.names g x me.seat.me.0 me.own.0 in let left = ap (λ z. z.1) done.0 ∙ ap (λ l. rest l) list in
+    let done = c.store.ensures.2 c.args.from there in let deed = Receive c.args.from n.dead.names n.gone.names in let g = grip_at (pool_place c.args.from (number_in me.seat.me.0)) n.dead.names n.gone.names in let x = loads.Mail c.args.from (number_in me.seat.me.0) true in
+    let final = ap (λ z. z.0) done.0 ∙ (ap (λ z. gripping None (did (Receive c.args.from z.dead z.gone) c.exchange-parcel.new.seat.me.0)) ready.notices ∙ ap (λ d. gripping None (did deed d)) mine) in let back = back_same deed g x me.seat.me.0 me.member me.members me.own in
+    let still = got_still c.args.from n.dead.names n.gone.names g x me.seat.me.0 me.own.0 in let left = ap (λ z. z.1) done.0 ∙ ap (λ l. rest l) list in
     (c.store.ensures.0 ∙ (exch.0 ∙ c.load-found.ensures.0), refl, refl, ap (λ d. origin_in d) final ∙ back.1)
 
 pub returns-clause-view : goal.returns-clause-view
@@ -140,12 +143,38 @@ returns-clause-view c = let me = c.args.self.now in let may = c.requires.may in 
     let list : c.exchange-parcel.new.seat.me.1 ≡ (mail_place (size (origin_in c.exchange-parcel.new.seat.me.0)) c.args.from (number_in c.exchange-parcel.new.seat.me.0), None) ∷ me.seat.me.1 =
     ap (λ x. x.1) exch.3 ∙ ap₂ (λ k l. (k, None) ∷ l) (spot ∙ ap₂ (λ x y. mail_place x c.args.from y) (sym (ap size ready.base)) (sym ready.number)) (ap (λ l. rest l) out) in
     let there : c.mail_word_of-word.result ≡ mail_word (size (origin_in c.exchange-parcel.new.seat.me.0)) c.args.from (number_in c.exchange-parcel.new.seat.me.0) = word ∙ ap₂ (λ x y. mail_word x c.args.from y) (sym (ap size ready.base)) (sym ready.number) in
-    let done = c.store.ensures.2 in let deed = Receive n.dead.names n.gone.names in let g = grip_at (pool_place c.args.from (number_in me.seat.me.0)) n.dead.names n.gone.names in let x = loads.Mail c.args.from (number_in me.seat.me.0) true in
-    let final = ap (λ z. z.0) done.0 ∙ (ap (λ z. gripping None (did (Receive z.dead z.gone) c.exchange-parcel.new.seat.me.0)) ready.notices ∙ ap (λ d. gripping None (did deed d)) mine) in let back = back_same deed g x me.seat.me.0 me.member me.members me.own in
-    let still = got_still n.dead.names n.gone.names g x me.seat.me.0 me.own.0 in let left = ap (λ z. z.1) done.0 ∙ ap (λ l. rest l) list in
+    let done = c.store.ensures.2 c.args.from there in let deed = Receive c.args.from n.dead.names n.gone.names in let g = grip_at (pool_place c.args.from (number_in me.seat.me.0)) n.dead.names n.gone.names in let x = loads.Mail c.args.from (number_in me.seat.me.0) true in
+    let final = ap (λ z. z.0) done.0 ∙ (ap (λ z. gripping None (did (Receive c.args.from z.dead z.gone) c.exchange-parcel.new.seat.me.0)) ready.notices ∙ ap (λ d. gripping None (did deed d)) mine) in let back = back_same deed g x me.seat.me.0 me.member me.members me.own in
+    let still = got_still c.args.from n.dead.names n.gone.names g x me.seat.me.0 me.own.0 in let left = ap (λ z. z.1) done.0 ∙ ap (λ l. rest l) list in
     let same = same_notices n c.opened.result (same_out c.load-found.new.seat.me.1 c.mail_place_of-place.result (Some (parcels.Notices n)) c.exchange-parcel.result outs exch.2 ∙ c.opened.ensures) in
     subst (λ (y : Notices). TidiedIn (place_of (origin_in me.seat.me.0)) me.member (after_receive (place_of (origin_in me.seat.me.0)) me.member (notices_of y) (view_in me.seat.me.0)) (view_in c.store.new.seat.me.0)) same
     (subst (λ j. TidiedIn (place_of (origin_in me.seat.me.0)) j (after_receive (place_of (origin_in me.seat.me.0)) j (notices_of n) (view_in me.seat.me.0)) (view_in c.store.new.seat.me.0)) (ready.number ∙ me.own.1)
     (subst (λ z. TidiedIn (place_of z) (number_in c.exchange-parcel.new.seat.me.0) (after_receive (place_of z) (number_in c.exchange-parcel.new.seat.me.0) (notices_of n) (view_in me.seat.me.0)) (view_in c.store.new.seat.me.0)) ready.base
     (subst (λ v. TidiedIn (place_of (origin_in c.exchange-parcel.new.seat.me.0)) (number_in c.exchange-parcel.new.seat.me.0) (after_receive (place_of (origin_in c.exchange-parcel.new.seat.me.0)) (number_in c.exchange-parcel.new.seat.me.0) (notices_of n) v) (view_in c.store.new.seat.me.0)) ready.view
     (subst (λ z. TidiedIn (place_of (origin_in c.exchange-parcel.new.seat.me.0)) (number_in c.exchange-parcel.new.seat.me.0) (after_receive (place_of (origin_in c.exchange-parcel.new.seat.me.0)) (number_in c.exchange-parcel.new.seat.me.0) z (view_in c.exchange-parcel.new.seat.me.0)) (view_in c.store.new.seat.me.0)) ready.notices done.1))))
+
+pub returns-then-found-eq-EMPTY_MAILBOX-clause-made : goal.returns-then-found-eq-EMPTY_MAILBOX-clause-made
+returns-then-found-eq-EMPTY_MAILBOX-clause-made c = let me = c.args.self.now in let may = c.requires.may in let at = c.mail_word_of-word.ensures in let place = c.mail_place_of-place.ensures in
+    let low = subst (λ n. c.args.from < n) me.own.2 may.sender in
+    let word : c.mail_word_of-word.result ≡ mail_word (size (origin_in me.seat.me.0)) c.args.from (number_in me.seat.me.0) = at ∙ ap₂ (λ x y. mail_word x c.args.from y) (sym me.own.2) (sym me.own.1) in
+    let told = unfetched me.seat.me c.load-found.new.seat.me c.args.from c.load-found.result (c.load-found.new.seat.me ≡ (did (Found (loads.Mail c.args.from (number_in me.seat.me.0) false)) me.seat.me.0, me.seat.me.1)) (c.load-found.ensures.2 c.args.from may.sender word) (let z = c.if-found-eq-EMPTY_MAILBOX.true in z) in
+    let t = calm_found me.seat.me c.load-found.new.seat.me me.member me.members me.held.items me.own me.order me.holds (loads.Mail c.args.from (number_in me.seat.me.0) false) told in
+    trails.trail_did (deeds.Found (loads.Mail c.args.from (number_in me.seat.me.0) false)) me.seat.me.0 c.load-found.new.seat.me.0 me.own.0 (ap (λ x. x.0) told) ∙ ap (λ j. runs.Kind.LookMail c.args.from j ∷ trails.trail me.seat.me.0) me.own.1
+
+pub returns-clause-made : goal.returns-clause-made
+returns-clause-made c = let me = c.args.self.now in let may = c.requires.may in let at = c.mail_word_of-word.ensures in let place = c.mail_place_of-place.ensures in
+    let low = subst (λ n. c.args.from < n) me.own.2 may.sender in
+    let word : c.mail_word_of-word.result ≡ mail_word (size (origin_in me.seat.me.0)) c.args.from (number_in me.seat.me.0) = at ∙ ap₂ (λ x y. mail_word x c.args.from y) (sym me.own.2) (sym me.own.1) in
+    let got = fetched me.seat.me c.load-found.new.seat.me c.args.from c.load-found.result (c.load-found.new.seat.me ≡ (did (Found (loads.Mail c.args.from (number_in me.seat.me.0) false)) me.seat.me.0, me.seat.me.1)) (c.load-found.ensures.2 c.args.from may.sender word) c.if-found-eq-EMPTY_MAILBOX.false in let n : Notices = got.0 in let told = got.1 in
+    let spot : c.mail_place_of-place.result ≡ mail_place (size (origin_in me.seat.me.0)) c.args.from (number_in me.seat.me.0) = place ∙ ap₂ (λ x y. mail_place x c.args.from y) (sym me.own.2) (sym me.own.1) in
+    let out : c.load-found.new.seat.me.1 ≡ (c.mail_place_of-place.result, Some (parcels.Notices n)) ∷ me.seat.me.1 = ap (λ x. x.1) told ∙ ap (λ k. (k, Some (parcels.Notices n)) ∷ me.seat.me.1) (sym spot) in
+    let outs = out ∙ ap (λ l. (c.mail_place_of-place.result, Some (parcels.Notices n)) ∷ l) (sym (ap (λ l. rest l) out)) in
+    let exch = c.exchange-parcel.ensures in let mine = ap (λ x. x.0) exch.3 ∙ ap (λ x. x.0) told in
+    let ready = receive_ready me.seat.me.0 c.args.from n.dead.names n.gone.names me.own.0 c.exchange-parcel.new.seat.me.0 mine in
+    let list : c.exchange-parcel.new.seat.me.1 ≡ (mail_place (size (origin_in c.exchange-parcel.new.seat.me.0)) c.args.from (number_in c.exchange-parcel.new.seat.me.0), None) ∷ me.seat.me.1 =
+    ap (λ x. x.1) exch.3 ∙ ap₂ (λ k l. (k, None) ∷ l) (spot ∙ ap₂ (λ x y. mail_place x c.args.from y) (sym (ap size ready.base)) (sym ready.number)) (ap (λ l. rest l) out) in
+    let there : c.mail_word_of-word.result ≡ mail_word (size (origin_in c.exchange-parcel.new.seat.me.0)) c.args.from (number_in c.exchange-parcel.new.seat.me.0) = word ∙ ap₂ (λ x y. mail_word x c.args.from y) (sym (ap size ready.base)) (sym ready.number) in
+    let done = c.store.ensures.2 c.args.from there in let deed = Receive c.args.from n.dead.names n.gone.names in let g = grip_at (pool_place c.args.from (number_in me.seat.me.0)) n.dead.names n.gone.names in let x = loads.Mail c.args.from (number_in me.seat.me.0) true in
+    let final = ap (λ z. z.0) done.0 ∙ (ap (λ z. gripping None (did (Receive c.args.from z.dead z.gone) c.exchange-parcel.new.seat.me.0)) ready.notices ∙ ap (λ d. gripping None (did deed d)) mine) in let back = back_same deed g x me.seat.me.0 me.member me.members me.own in
+    let still = got_still c.args.from n.dead.names n.gone.names g x me.seat.me.0 me.own.0 in let left = ap (λ z. z.1) done.0 ∙ ap (λ l. rest l) list in
+    trails.trail_both deed g x me.seat.me.0 c.store.new.seat.me.0 me.own.0 final ∙ ap (λ j. runs.Kind.Receive c.args.from ∷ runs.Kind.LookMail c.args.from j ∷ trails.trail me.seat.me.0) me.own.1

@@ -7,10 +7,13 @@ use Rattle.atomic_board.specs.StepTells.{view_in, origin_in}
 use Rattle.atomic_board.proofs.OwedGiving.{retire_owes}
 use Rattle.atomic_board.proofs.SeatMoves.{after_retiring}
 use Rattle.atomic_board.proofs.member_seat.MemberSeat.retire.Goals as goal
+use Rattle.atomic_board.specs.declared.seat_data.Deed.TheVariants as deeds
+use Rattle.group_laws.specs.Runs as runs
+use Rattle.atomic_board.proofs.Trails as trails
 
 pub retires-requires : goal.retires-requires
 retires-requires c = let me = c.args.self.now in
-    (c.requires.table, (let w = ap (λ z. z.words) (sym c.requires.table) in let v = me.wide in let l = me.few in omega (arith, w, v, l.0)), retire_owes _ _ _ _ me.own.0 _ c.args.names.now (λ y. (y + 1) % 2 ^ 64) (ap own_word (sym me.own.1)) (subst (λ j. MayRetire (place_of (origin_in me.seat.me.0)) j (view_in me.seat.me.0) c.args.names.now) (sym me.own.1) c.requires.may))
+    (c.requires.table, (let w = ap (λ z. z.words) (sym c.requires.table) in let v = me.wide in let l = me.few in omega (arith, w, v, l.0)), retire_owes _ _ _ _ me.own.0 _ c.args.names.now (λ y. (y + 1) % 2 ^ 64) (λ y. refl) (ap own_word (sym me.own.1)) (subst (λ j. MayRetire (place_of (origin_in me.seat.me.0)) j (view_in me.seat.me.0) c.args.names.now) (sym me.own.1) c.requires.may))
 
 pub invariant_of-self : goal.invariant_of-self
 invariant_of-self c = let me = c.args.self.now in let told = c.retires.ensures.2 in
@@ -25,3 +28,6 @@ returns-clause-same c = let me = c.args.self.now in let told = c.retires.ensures
 pub returns-clause-view : goal.returns-clause-view
 returns-clause-view c = let me = c.args.self.now in let told = c.retires.ensures.2 in
     subst (λ j. TidiedIn (place_of (origin_in me.seat.me.0)) j (after_retire (place_of (origin_in me.seat.me.0)) j c.args.names.now (view_in me.seat.me.0)) (view_in c.retires.new.seat.me.0)) me.own.1 told.1
+
+pub returns-clause-made : goal.returns-clause-made
+returns-clause-made c = let me = c.args.self.now in trails.trail_did (deeds.Retire c.args.names.now) me.seat.me.0 c.retires.new.seat.me.0 me.own.0 (ap (λ x. x.0) c.retires.ensures.2.0)

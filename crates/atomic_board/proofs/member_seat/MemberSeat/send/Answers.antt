@@ -17,6 +17,9 @@ use Rattle.atomic_board.proofs.OwedMailing.{try_send_owes, send_owes}
 use Rattle.atomic_board.proofs.SeatMoves.{IsSeat, calm_found, holds_by, back_same, sent_view}
 use Rattle.atomic_board.proofs.MailInHand.{zero_case, other_case, send_ready}
 use Rattle.atomic_board.proofs.member_seat.MemberSeat.send.Goals as goal
+use Rattle.atomic_board.specs.declared.seat_data.Deed.TheVariants as deeds
+use Rattle.group_laws.specs.Runs as runs
+use Rattle.atomic_board.proofs.Trails as trails
 
 pub load-found-requires : goal.load-found-requires
 load-found-requires c = let me = c.args.self.now in let may = c.requires.may in let at = c.mail_word_of-word.ensures in let place = c.mail_place_of-place.ensures in
@@ -135,3 +138,30 @@ returns-clause-view c = let me = c.args.self.now in let may = c.requires.may in 
     let view = ap (λ d. view_in d) final ∙ sent_view c.args.to (notices_of c.args.notices) g x me.seat.me.0 me.own.0 in
     let left = ap (λ z. z.1) sent ∙ ap (λ l. rest l) list in
     view
+
+pub returns-then-found-ne-EMPTY_MAILBOX-clause-made : goal.returns-then-found-ne-EMPTY_MAILBOX-clause-made
+returns-then-found-ne-EMPTY_MAILBOX-clause-made c = let me = c.args.self.now in let may = c.requires.may in let at = c.mail_word_of-word.ensures in let place = c.mail_place_of-place.ensures in
+    let less = subst (λ n. c.args.to < n) me.own.2 may.receiver in
+    let word : c.mail_word_of-word.result ≡ mail_word (size (origin_in me.seat.me.0)) (number_in me.seat.me.0) c.args.to = at ∙ ap₂ (λ x y. mail_word x y c.args.to) (sym me.own.2) (sym me.own.1) in
+    let told = other_case c.load-found.result (c.load-found.ensures.2 c.args.to word) c.if-found-ne-EMPTY_MAILBOX.true in
+    let t = calm_found me.seat.me c.load-found.new.seat.me me.member me.members me.held.items me.own me.order me.holds (loads.Mail (number_in me.seat.me.0) c.args.to true) told in
+    trails.trail_did (deeds.Found (loads.Mail (number_in me.seat.me.0) c.args.to true)) me.seat.me.0 c.load-found.new.seat.me.0 me.own.0 (ap (λ x. x.0) told) ∙ ap (λ j. runs.Kind.LookMail j c.args.to ∷ trails.trail me.seat.me.0) me.own.1
+
+pub returns-clause-made : goal.returns-clause-made
+returns-clause-made c = let me = c.args.self.now in let may = c.requires.may in let at = c.mail_word_of-word.ensures in let place = c.mail_place_of-place.ensures in
+    let less = subst (λ n. c.args.to < n) me.own.2 may.receiver in
+    let word : c.mail_word_of-word.result ≡ mail_word (size (origin_in me.seat.me.0)) (number_in me.seat.me.0) c.args.to = at ∙ ap₂ (λ x y. mail_word x y c.args.to) (sym me.own.2) (sym me.own.1) in
+    let told = zero_case c.load-found.result (c.load-found.ensures.2 c.args.to word) (let z = c.if-found-ne-EMPTY_MAILBOX.false in z) in
+    let spot : c.mail_place_of-place.result ≡ mail_place (size (origin_in me.seat.me.0)) (number_in me.seat.me.0) c.args.to = place ∙ ap₂ (λ x y. mail_place x y c.args.to) (sym me.own.2) (sym me.own.1) in
+    let out : c.load-found.new.seat.me.1 ≡ (c.mail_place_of-place.result, None) ∷ me.seat.me.1 = ap (λ x. x.1) told ∙ ap (λ k. (k, None) ∷ me.seat.me.1) (sym spot) in
+    let exch = c.exchange.ensures in let mine = ap (λ x. x.0) exch.3 ∙ ap (λ x. x.0) told in
+    let ready = send_ready me.seat.me.0 c.args.to (notices_of c.args.notices) me.own.0 (subst (λ j. MaySend (place_of (origin_in me.seat.me.0)) j (view_in me.seat.me.0) c.args.to (notices_of c.args.notices)) (sym me.own.1) may) c.exchange.new.seat.me.0 mine in
+    let list : c.exchange.new.seat.me.1 ≡ (mail_place (size (origin_in c.exchange.new.seat.me.0)) (number_in c.exchange.new.seat.me.0) c.args.to, Some (parcels.Notices c.args.notices)) ∷ me.seat.me.1 =
+    ap (λ x. x.1) exch.3 ∙ ap₂ (λ k l. (k, Some (parcels.Notices c.args.notices)) ∷ l) (spot ∙ ap₂ (λ x y. mail_place x y c.args.to) (sym (ap size ready.base)) (sym ready.number)) (ap (λ l. rest l) out) in
+    let there : c.mail_word_of-word.result ≡ mail_word (size (origin_in c.exchange.new.seat.me.0)) (number_in c.exchange.new.seat.me.0) c.args.to = word ∙ ap₂ (λ x y. mail_word x y c.args.to) (sym (ap size ready.base)) (sym ready.number) in
+    let sent = c.store.ensures.2 c.args.to c.args.notices there (list ∙ ap (λ l. (mail_place (size (origin_in c.exchange.new.seat.me.0)) (number_in c.exchange.new.seat.me.0) c.args.to, Some (parcels.Notices c.args.notices)) ∷ l) (sym (ap (λ l. rest l) list))) in
+    let deed = Send c.args.to c.args.notices.dead.names c.args.notices.gone.names in let g = grip_at (pool_place (number_in me.seat.me.0) c.args.to) [] [] in let x = loads.Mail (number_in me.seat.me.0) c.args.to false in
+    let final = ap (λ z. z.0) sent ∙ ap (λ d. gripping None (did deed d)) mine in let back = back_same deed g x me.seat.me.0 me.member me.members me.own in
+    let view = ap (λ d. view_in d) final ∙ sent_view c.args.to (notices_of c.args.notices) g x me.seat.me.0 me.own.0 in
+    let left = ap (λ z. z.1) sent ∙ ap (λ l. rest l) list in
+    trails.trail_both deed g x me.seat.me.0 c.store.new.seat.me.0 me.own.0 final ∙ ap (λ j. runs.Kind.Send c.args.to (notices_of c.args.notices) ∷ runs.Kind.LookMail j c.args.to ∷ trails.trail me.seat.me.0) me.own.1

@@ -15,6 +15,9 @@ use Rattle.crash_core.specs.declared.kinds.Change.{Change}
 use Rattle.atomic_board.proofs.SeatMoves.{IsSeat, after_taking}
 use Rattle.atomic_board.proofs.SlotsHeld.{same_out, same_change}
 use Rattle.atomic_board.proofs.member_seat.MemberSeat.take.Goals as goal
+use Rattle.atomic_board.specs.declared.seat_data.Deed.TheVariants as deeds
+use Rattle.group_laws.specs.Runs as runs
+use Rattle.atomic_board.proofs.Trails as trails
 
 pub store-requires : goal.store-requires
 store-requires c = let me = c.args.self.now in let at = c.pool_word_of-pool_word.ensures in let may = c.requires.may in (
@@ -109,3 +112,12 @@ returns-clause-unlogged c = let me = c.args.self.now in let at = c.pool_word_of-
     let exch = c.exchange-parcel.ensures in let same = ap (λ x. x.0) exch.3 in
     let got : c.exchange-parcel.result ≡ lies e None = sym (same_out c.store.new.seat.me.1 c.pool_place_of-place.result (lies e None) c.exchange-parcel.result (out ∙ ap₂ (λ k l. (k, lies e None) ∷ l) (sym place) (sym (ap (λ l. rest l) out))) exch.2) in
     let is = same_change (record { entry = e; home = None }) c.unpacked.result (sym got ∙ c.unpacked.ensures) in subst (λ (x : Change). IsUnlogged me.member c.args.member c.args.slot (view_in me.seat.me.0) x.entry) is (subst (λ (j : ℕ). IsUnlogged j c.args.member c.args.slot (view_in me.seat.me.0) e) me.own.1 told.5)
+
+pub returns-clause-made : goal.returns-clause-made
+returns-clause-made c = let me = c.args.self.now in let at = c.pool_word_of-pool_word.ensures in let may = c.requires.may in
+    let told = c.store.ensures.2 c.args.member c.args.slot may.slot (at ∙ ap (λ n. pool_word n c.args.member c.args.slot) (sym me.own.2)) in
+    let e : Entry = told.0 in let out = ap (λ x. x.1) told.1 in let place = c.pool_place_of-place.ensures in
+    let took = after_taking me.seat.me.0 c.store.new.seat.me.0 me.member me.members c.args.member c.args.slot e me.held.items me.own me.room.0 me.holds me.few.0 (subst (λ n. c.args.member < n) me.own.2 may.target) may.slot told.2 (ap (λ x. x.0) told.1) in
+    let exch = c.exchange-parcel.ensures in let same = ap (λ x. x.0) exch.3 in
+    let got : c.exchange-parcel.result ≡ lies e None = sym (same_out c.store.new.seat.me.1 c.pool_place_of-place.result (lies e None) c.exchange-parcel.result (out ∙ ap₂ (λ k l. (k, lies e None) ∷ l) (sym place) (sym (ap (λ l. rest l) out))) exch.2) in
+    trails.trail_did (deeds.Take c.args.member c.args.slot e) me.seat.me.0 c.exchange-parcel.new.seat.me.0 me.own.0 (same ∙ ap (λ x. x.0) told.1)

@@ -14,6 +14,9 @@ use Rattle.crash_core.specs.declared.kinds.Change.{Change}
 use Rattle.atomic_board.proofs.SeatMoves.{IsSeat, after_freeing, withdraw_pends, view_did}
 use Rattle.atomic_board.proofs.SlotsHeld.{out_at, same_out, same_change}
 use Rattle.atomic_board.proofs.member_seat.MemberSeat.withdraw.Goals as goal
+use Rattle.atomic_board.specs.declared.seat_data.Deed.TheVariants as deeds
+use Rattle.group_laws.specs.Runs as runs
+use Rattle.atomic_board.proofs.Trails as trails
 
 pub store-requires : goal.store-requires
 store-requires c = let me = c.args.self.now in let at = c.pool_word_of-pool_word.ensures in let may = c.requires.may in let place = c.pool_place_of-place.ensures in
@@ -24,27 +27,27 @@ pub exchange-parcel-requires : goal.exchange-parcel-requires
 exchange-parcel-requires c = let me = c.args.self.now in let at = c.pool_word_of-pool_word.ensures in let may = c.requires.may in let place = c.pool_place_of-place.ensures in
     let word : c.pool_word_of-pool_word.result ≡ pool_word (size (origin_in me.seat.me.0)) (number_in me.seat.me.0) c.args.slot = at ∙ ap₂ (λ x y. pool_word x y c.args.slot) (sym me.own.2) (sym me.own.1) in
     let told = c.store.ensures.2 c.args.slot may.slot word in let e : Entry = told.0 in
-    let now = told.1 in let stands = told.2 in let pends = withdraw_pends me.seat.me.0 e me.own.0 in
+    let now = told.1 in let stands = told.2 in let pends = withdraw_pends me.seat.me.0 c.args.slot e me.own.0 in
     let out : c.store.new.seat.me.1 ≡ (pool_place me.member c.args.slot, lies e None) ∷ me.seat.me.1 = ap (λ x. x.1) now ∙ ap (λ k. (pool_place k c.args.slot, lies e None) ∷ me.seat.me.1) me.own.1 in
-    let freed = after_freeing (Withdraw e) me.seat.me.0 c.store.new.seat.me.0 me.member me.members c.args.slot e pends.0 me.held.items me.own me.room.0 me.holds me.few.0 may.slot stands pends.1 (ap (λ x. x.0) now) pends.2 pends.3 in
+    let freed = after_freeing (Withdraw c.args.slot e) me.seat.me.0 c.store.new.seat.me.0 me.member me.members c.args.slot e pends.0 me.held.items me.own me.room.0 me.holds me.few.0 may.slot stands pends.1 (ap (λ x. x.0) now) pends.2 pends.3 in
     (c.store.ensures.0 ∙ c.requires.table, (lies e None, out ∙ ap₂ (λ k l. (k, lies e None) ∷ l) (sym place) (sym (ap (λ l. rest l) out))))
 
 pub push_front_reserved-requires : goal.push_front_reserved-requires
 push_front_reserved-requires c = let me = c.args.self.now in let at = c.pool_word_of-pool_word.ensures in let may = c.requires.may in let place = c.pool_place_of-place.ensures in
     let word : c.pool_word_of-pool_word.result ≡ pool_word (size (origin_in me.seat.me.0)) (number_in me.seat.me.0) c.args.slot = at ∙ ap₂ (λ x y. pool_word x y c.args.slot) (sym me.own.2) (sym me.own.1) in
     let told = c.store.ensures.2 c.args.slot may.slot word in let e : Entry = told.0 in
-    let now = told.1 in let stands = told.2 in let pends = withdraw_pends me.seat.me.0 e me.own.0 in
+    let now = told.1 in let stands = told.2 in let pends = withdraw_pends me.seat.me.0 c.args.slot e me.own.0 in
     let out : c.store.new.seat.me.1 ≡ (pool_place me.member c.args.slot, lies e None) ∷ me.seat.me.1 = ap (λ x. x.1) now ∙ ap (λ k. (pool_place k c.args.slot, lies e None) ∷ me.seat.me.1) me.own.1 in
-    let freed = after_freeing (Withdraw e) me.seat.me.0 c.store.new.seat.me.0 me.member me.members c.args.slot e pends.0 me.held.items me.own me.room.0 me.holds me.few.0 may.slot stands pends.1 (ap (λ x. x.0) now) pends.2 pends.3 in
+    let freed = after_freeing (Withdraw c.args.slot e) me.seat.me.0 c.store.new.seat.me.0 me.member me.members c.args.slot e pends.0 me.held.items me.own me.room.0 me.holds me.few.0 may.slot stands pends.1 (ap (λ x. x.0) now) pends.2 pends.3 in
     let fits = freed.fits in let few = me.few.1 in let room = me.room.1 in omega (arith, fits, few, room)
 
 pub invariant_of-self : goal.invariant_of-self
 invariant_of-self c = let me = c.args.self.now in let at = c.pool_word_of-pool_word.ensures in let may = c.requires.may in let place = c.pool_place_of-place.ensures in
     let word : c.pool_word_of-pool_word.result ≡ pool_word (size (origin_in me.seat.me.0)) (number_in me.seat.me.0) c.args.slot = at ∙ ap₂ (λ x y. pool_word x y c.args.slot) (sym me.own.2) (sym me.own.1) in
     let told = c.store.ensures.2 c.args.slot may.slot word in let e : Entry = told.0 in
-    let now = told.1 in let stands = told.2 in let pends = withdraw_pends me.seat.me.0 e me.own.0 in
+    let now = told.1 in let stands = told.2 in let pends = withdraw_pends me.seat.me.0 c.args.slot e me.own.0 in
     let out : c.store.new.seat.me.1 ≡ (pool_place me.member c.args.slot, lies e None) ∷ me.seat.me.1 = ap (λ x. x.1) now ∙ ap (λ k. (pool_place k c.args.slot, lies e None) ∷ me.seat.me.1) me.own.1 in
-    let freed = after_freeing (Withdraw e) me.seat.me.0 c.store.new.seat.me.0 me.member me.members c.args.slot e pends.0 me.held.items me.own me.room.0 me.holds me.few.0 may.slot stands pends.1 (ap (λ x. x.0) now) pends.2 pends.3 in
+    let freed = after_freeing (Withdraw c.args.slot e) me.seat.me.0 c.store.new.seat.me.0 me.member me.members c.args.slot e pends.0 me.held.items me.own me.room.0 me.holds me.few.0 may.slot stands pends.1 (ap (λ x. x.0) now) pends.2 pends.3 in
     let exch = c.exchange-parcel.ensures in let same = ap (λ x. x.0) exch.3 in
     let got : c.exchange-parcel.result ≡ lies e None = sym (same_out c.store.new.seat.me.1 c.pool_place_of-place.result (lies e None) c.exchange-parcel.result (out ∙ ap₂ (λ k l. (k, lies e None) ∷ l) (sym place) (sym (ap (λ l. rest l) out))) exch.2) in
     let items = c.push_front_reserved.ensures.items ∙ ap (λ k. k ∷ me.held.items) place in let list = ap (λ x. x.1) exch.3 ∙ ap₂ (λ k l. (k, None) ∷ l) place (ap (λ l. rest l) out) in record {
@@ -60,9 +63,9 @@ pub unpacked-requires : goal.unpacked-requires
 unpacked-requires c = let me = c.args.self.now in let at = c.pool_word_of-pool_word.ensures in let may = c.requires.may in let place = c.pool_place_of-place.ensures in
     let word : c.pool_word_of-pool_word.result ≡ pool_word (size (origin_in me.seat.me.0)) (number_in me.seat.me.0) c.args.slot = at ∙ ap₂ (λ x y. pool_word x y c.args.slot) (sym me.own.2) (sym me.own.1) in
     let told = c.store.ensures.2 c.args.slot may.slot word in let e : Entry = told.0 in
-    let now = told.1 in let stands = told.2 in let pends = withdraw_pends me.seat.me.0 e me.own.0 in
+    let now = told.1 in let stands = told.2 in let pends = withdraw_pends me.seat.me.0 c.args.slot e me.own.0 in
     let out : c.store.new.seat.me.1 ≡ (pool_place me.member c.args.slot, lies e None) ∷ me.seat.me.1 = ap (λ x. x.1) now ∙ ap (λ k. (pool_place k c.args.slot, lies e None) ∷ me.seat.me.1) me.own.1 in
-    let freed = after_freeing (Withdraw e) me.seat.me.0 c.store.new.seat.me.0 me.member me.members c.args.slot e pends.0 me.held.items me.own me.room.0 me.holds me.few.0 may.slot stands pends.1 (ap (λ x. x.0) now) pends.2 pends.3 in
+    let freed = after_freeing (Withdraw c.args.slot e) me.seat.me.0 c.store.new.seat.me.0 me.member me.members c.args.slot e pends.0 me.held.items me.own me.room.0 me.holds me.few.0 may.slot stands pends.1 (ap (λ x. x.0) now) pends.2 pends.3 in
     let exch = c.exchange-parcel.ensures in let same = ap (λ x. x.0) exch.3 in
     let got : c.exchange-parcel.result ≡ lies e None = sym (same_out c.store.new.seat.me.1 c.pool_place_of-place.result (lies e None) c.exchange-parcel.result (out ∙ ap₂ (λ k l. (k, lies e None) ∷ l) (sym place) (sym (ap (λ l. rest l) out))) exch.2) in
     (record { entry = e; home = None }, got)
@@ -71,9 +74,9 @@ pub returns-clause-same : goal.returns-clause-same
 returns-clause-same c = let me = c.args.self.now in let at = c.pool_word_of-pool_word.ensures in let may = c.requires.may in let place = c.pool_place_of-place.ensures in
     let word : c.pool_word_of-pool_word.result ≡ pool_word (size (origin_in me.seat.me.0)) (number_in me.seat.me.0) c.args.slot = at ∙ ap₂ (λ x y. pool_word x y c.args.slot) (sym me.own.2) (sym me.own.1) in
     let told = c.store.ensures.2 c.args.slot may.slot word in let e : Entry = told.0 in
-    let now = told.1 in let stands = told.2 in let pends = withdraw_pends me.seat.me.0 e me.own.0 in
+    let now = told.1 in let stands = told.2 in let pends = withdraw_pends me.seat.me.0 c.args.slot e me.own.0 in
     let out : c.store.new.seat.me.1 ≡ (pool_place me.member c.args.slot, lies e None) ∷ me.seat.me.1 = ap (λ x. x.1) now ∙ ap (λ k. (pool_place k c.args.slot, lies e None) ∷ me.seat.me.1) me.own.1 in
-    let freed = after_freeing (Withdraw e) me.seat.me.0 c.store.new.seat.me.0 me.member me.members c.args.slot e pends.0 me.held.items me.own me.room.0 me.holds me.few.0 may.slot stands pends.1 (ap (λ x. x.0) now) pends.2 pends.3 in
+    let freed = after_freeing (Withdraw c.args.slot e) me.seat.me.0 c.store.new.seat.me.0 me.member me.members c.args.slot e pends.0 me.held.items me.own me.room.0 me.holds me.few.0 may.slot stands pends.1 (ap (λ x. x.0) now) pends.2 pends.3 in
     let exch = c.exchange-parcel.ensures in let same = ap (λ x. x.0) exch.3 in
     let got : c.exchange-parcel.result ≡ lies e None = sym (same_out c.store.new.seat.me.1 c.pool_place_of-place.result (lies e None) c.exchange-parcel.result (out ∙ ap₂ (λ k l. (k, lies e None) ∷ l) (sym place) (sym (ap (λ l. rest l) out))) exch.2) in
     (exch.0 ∙ c.store.ensures.0, refl, refl, ap (λ d. origin_in d) same ∙ freed.base)
@@ -82,9 +85,9 @@ pub returns-clause-pending : goal.returns-clause-pending
 returns-clause-pending c = let me = c.args.self.now in let at = c.pool_word_of-pool_word.ensures in let may = c.requires.may in let place = c.pool_place_of-place.ensures in
     let word : c.pool_word_of-pool_word.result ≡ pool_word (size (origin_in me.seat.me.0)) (number_in me.seat.me.0) c.args.slot = at ∙ ap₂ (λ x y. pool_word x y c.args.slot) (sym me.own.2) (sym me.own.1) in
     let told = c.store.ensures.2 c.args.slot may.slot word in let e : Entry = told.0 in
-    let now = told.1 in let stands = told.2 in let pends = withdraw_pends me.seat.me.0 e me.own.0 in
+    let now = told.1 in let stands = told.2 in let pends = withdraw_pends me.seat.me.0 c.args.slot e me.own.0 in
     let out : c.store.new.seat.me.1 ≡ (pool_place me.member c.args.slot, lies e None) ∷ me.seat.me.1 = ap (λ x. x.1) now ∙ ap (λ k. (pool_place k c.args.slot, lies e None) ∷ me.seat.me.1) me.own.1 in
-    let freed = after_freeing (Withdraw e) me.seat.me.0 c.store.new.seat.me.0 me.member me.members c.args.slot e pends.0 me.held.items me.own me.room.0 me.holds me.few.0 may.slot stands pends.1 (ap (λ x. x.0) now) pends.2 pends.3 in
+    let freed = after_freeing (Withdraw c.args.slot e) me.seat.me.0 c.store.new.seat.me.0 me.member me.members c.args.slot e pends.0 me.held.items me.own me.room.0 me.holds me.few.0 may.slot stands pends.1 (ap (λ x. x.0) now) pends.2 pends.3 in
     let exch = c.exchange-parcel.ensures in let same = ap (λ x. x.0) exch.3 in
     let got : c.exchange-parcel.result ≡ lies e None = sym (same_out c.store.new.seat.me.1 c.pool_place_of-place.result (lies e None) c.exchange-parcel.result (out ∙ ap₂ (λ k l. (k, lies e None) ∷ l) (sym place) (sym (ap (λ l. rest l) out))) exch.2) in
     let is = same_change (record { entry = e; home = None }) c.unpacked.result (sym got ∙ c.unpacked.ensures) in subst (λ (x : Change). (view_in me.seat.me.0).pending x.entry.key ≡ out_at x.entry c.args.slot) is stands.pends
@@ -93,9 +96,9 @@ pub returns-clause-change : goal.returns-clause-change
 returns-clause-change c = let me = c.args.self.now in let at = c.pool_word_of-pool_word.ensures in let may = c.requires.may in let place = c.pool_place_of-place.ensures in
     let word : c.pool_word_of-pool_word.result ≡ pool_word (size (origin_in me.seat.me.0)) (number_in me.seat.me.0) c.args.slot = at ∙ ap₂ (λ x y. pool_word x y c.args.slot) (sym me.own.2) (sym me.own.1) in
     let told = c.store.ensures.2 c.args.slot may.slot word in let e : Entry = told.0 in
-    let now = told.1 in let stands = told.2 in let pends = withdraw_pends me.seat.me.0 e me.own.0 in
+    let now = told.1 in let stands = told.2 in let pends = withdraw_pends me.seat.me.0 c.args.slot e me.own.0 in
     let out : c.store.new.seat.me.1 ≡ (pool_place me.member c.args.slot, lies e None) ∷ me.seat.me.1 = ap (λ x. x.1) now ∙ ap (λ k. (pool_place k c.args.slot, lies e None) ∷ me.seat.me.1) me.own.1 in
-    let freed = after_freeing (Withdraw e) me.seat.me.0 c.store.new.seat.me.0 me.member me.members c.args.slot e pends.0 me.held.items me.own me.room.0 me.holds me.few.0 may.slot stands pends.1 (ap (λ x. x.0) now) pends.2 pends.3 in
+    let freed = after_freeing (Withdraw c.args.slot e) me.seat.me.0 c.store.new.seat.me.0 me.member me.members c.args.slot e pends.0 me.held.items me.own me.room.0 me.holds me.few.0 may.slot stands pends.1 (ap (λ x. x.0) now) pends.2 pends.3 in
     let exch = c.exchange-parcel.ensures in let same = ap (λ x. x.0) exch.3 in
     let got : c.exchange-parcel.result ≡ lies e None = sym (same_out c.store.new.seat.me.1 c.pool_place_of-place.result (lies e None) c.exchange-parcel.result (out ∙ ap₂ (λ k l. (k, lies e None) ∷ l) (sym place) (sym (ap (λ l. rest l) out))) exch.2) in
     let is = same_change (record { entry = e; home = None }) c.unpacked.result (sym got ∙ c.unpacked.ensures) in sym (ap (λ (x : Change). x.home) is)
@@ -104,10 +107,21 @@ pub returns-clause-view : goal.returns-clause-view
 returns-clause-view c = let me = c.args.self.now in let at = c.pool_word_of-pool_word.ensures in let may = c.requires.may in let place = c.pool_place_of-place.ensures in
     let word : c.pool_word_of-pool_word.result ≡ pool_word (size (origin_in me.seat.me.0)) (number_in me.seat.me.0) c.args.slot = at ∙ ap₂ (λ x y. pool_word x y c.args.slot) (sym me.own.2) (sym me.own.1) in
     let told = c.store.ensures.2 c.args.slot may.slot word in let e : Entry = told.0 in
-    let now = told.1 in let stands = told.2 in let pends = withdraw_pends me.seat.me.0 e me.own.0 in
+    let now = told.1 in let stands = told.2 in let pends = withdraw_pends me.seat.me.0 c.args.slot e me.own.0 in
     let out : c.store.new.seat.me.1 ≡ (pool_place me.member c.args.slot, lies e None) ∷ me.seat.me.1 = ap (λ x. x.1) now ∙ ap (λ k. (pool_place k c.args.slot, lies e None) ∷ me.seat.me.1) me.own.1 in
-    let freed = after_freeing (Withdraw e) me.seat.me.0 c.store.new.seat.me.0 me.member me.members c.args.slot e pends.0 me.held.items me.own me.room.0 me.holds me.few.0 may.slot stands pends.1 (ap (λ x. x.0) now) pends.2 pends.3 in
+    let freed = after_freeing (Withdraw c.args.slot e) me.seat.me.0 c.store.new.seat.me.0 me.member me.members c.args.slot e pends.0 me.held.items me.own me.room.0 me.holds me.few.0 may.slot stands pends.1 (ap (λ x. x.0) now) pends.2 pends.3 in
     let exch = c.exchange-parcel.ensures in let same = ap (λ x. x.0) exch.3 in
     let got : c.exchange-parcel.result ≡ lies e None = sym (same_out c.store.new.seat.me.1 c.pool_place_of-place.result (lies e None) c.exchange-parcel.result (out ∙ ap₂ (λ k l. (k, lies e None) ∷ l) (sym place) (sym (ap (λ l. rest l) out))) exch.2) in
-    let is = same_change (record { entry = e; home = None }) c.unpacked.result (sym got ∙ c.unpacked.ensures) in let view = view_did (Withdraw e) (after_withdraw e) (λ ns p m v. refl) me.seat.me.0 me.own.0 in
+    let is = same_change (record { entry = e; home = None }) c.unpacked.result (sym got ∙ c.unpacked.ensures) in let view = view_did (Withdraw c.args.slot e) (after_withdraw e) (λ ns p m v. refl) me.seat.me.0 me.own.0 in
     ap (λ d. view_in d) (same ∙ ap (λ x. x.0) now) ∙ (view ∙ ap (λ (x : Change). after_withdraw x.entry (view_in me.seat.me.0)) is)
+
+pub returns-clause-made : goal.returns-clause-made
+returns-clause-made c = let me = c.args.self.now in let at = c.pool_word_of-pool_word.ensures in let may = c.requires.may in let place = c.pool_place_of-place.ensures in
+    let word : c.pool_word_of-pool_word.result ≡ pool_word (size (origin_in me.seat.me.0)) (number_in me.seat.me.0) c.args.slot = at ∙ ap₂ (λ x y. pool_word x y c.args.slot) (sym me.own.2) (sym me.own.1) in
+    let told = c.store.ensures.2 c.args.slot may.slot word in let e : Entry = told.0 in
+    let now = told.1 in let stands = told.2 in let pends = withdraw_pends me.seat.me.0 c.args.slot e me.own.0 in
+    let out : c.store.new.seat.me.1 ≡ (pool_place me.member c.args.slot, lies e None) ∷ me.seat.me.1 = ap (λ x. x.1) now ∙ ap (λ k. (pool_place k c.args.slot, lies e None) ∷ me.seat.me.1) me.own.1 in
+    let freed = after_freeing (Withdraw c.args.slot e) me.seat.me.0 c.store.new.seat.me.0 me.member me.members c.args.slot e pends.0 me.held.items me.own me.room.0 me.holds me.few.0 may.slot stands pends.1 (ap (λ x. x.0) now) pends.2 pends.3 in
+    let exch = c.exchange-parcel.ensures in let same = ap (λ x. x.0) exch.3 in
+    let got : c.exchange-parcel.result ≡ lies e None = sym (same_out c.store.new.seat.me.1 c.pool_place_of-place.result (lies e None) c.exchange-parcel.result (out ∙ ap₂ (λ k l. (k, lies e None) ∷ l) (sym place) (sym (ap (λ l. rest l) out))) exch.2) in
+    trails.trail_did (deeds.Withdraw c.args.slot e) me.seat.me.0 c.exchange-parcel.new.seat.me.0 me.own.0 (same ∙ ap (λ x. x.0) now)

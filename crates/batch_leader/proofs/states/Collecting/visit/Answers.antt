@@ -6,8 +6,10 @@ use Rattle.group_laws.specs.declared.types.SlotWord.TheVariants as words
 use Rattle.group_laws.specs.Places.{members}
 use Rattle.group_laws.proofs.Clients.{In-append_right}
 use Rattle.group_laws.specs.MemberViews.{View}
+use Rattle.group_board.specs.Seats.{SeatAt}
+use Rattle.batch_leader.specs.Leading.{Collects}
 use Rattle.batch_leader.specs.Rounds.{member_at, slot_at, Passes}
-use Rattle.batch_leader.proofs.CollectLaws.{collects_past, member_low}
+use Rattle.batch_leader.proofs.CollectLaws.{collects_past, collects_still, member_low}
 use Rattle.batch_leader.proofs.Steps.{found_at, posted_word}
 use Rattle.batch_leader.proofs.states.Collecting.visit.Goals as goal
 
@@ -53,3 +55,10 @@ returns-in-None-clause-went g c =
             found_at (g.B.Board.whole c.args.board.now) c.member_at-member.result c.slot_at-slot.result m i c.look-found.result who which c.look-found.ensures.stood,
           ),
     )
+
+pub take_here-requires-clause-collects : goal.take_here-requires-clause-collects
+take_here-requires-clause-collects g c =
+    let seen = c.look-found.ensures.view in
+    subst (λ (x : SeatAt). Collects x (g.B.Board.view c.look-found.new.self) c.args.self.now) (sym c.look-found.ensures.seat)
+    (collects_still (g.B.Board.seat c.args.board.now) (g.B.Board.view c.args.board.now) (g.B.Board.view c.look-found.new.self) c.args.self.now c.args.self.now c.requires.collects refl refl refl
+    (ap (λ (u : View). u.taken) seen.2) (ap (λ (u : View). u.holds) seen.2) (ap (λ (u : View). u.flying) seen.2) (ap (λ (u : View). u.broken) seen.2) (ap (λ (u : View). u.pending) seen.2) (ap (λ (u : View). u.kept) seen.2))

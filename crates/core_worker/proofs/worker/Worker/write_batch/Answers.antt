@@ -213,3 +213,9 @@ returns-in-Err-clause-less g c =
     let w = c.args.self.now in
     let new = record w { log = c.persist.new.log; allocator = c.chunk_for-fresh.new.allocator; leading = leads.Failed c.in-Err.lost; standing = c.note_names.new.standing; stopped = true } in
     loses_lower (g.B.Board.whole c.args.board.now) (g.B.Board.whole c.persist.new.board) (record { worker = w; view = g.B.Board.view c.args.board.now }) (record { worker = new; view = g.B.Board.view c.persist.new.board }) (returns-in-Err-clause-persists g c) c.in-Err.ensures.made
+
+pub returns-in-Ok-clause-steps : goal.returns-in-Ok-clause-steps
+returns-in-Ok-clause-steps g c = record { made = runs.Kind.Commit ∷ []; more = c.in-Ok.ensures.steps.0; loads = tt; last = record { handed = λ _. c.in-Ok.ensures.steps.1; alone = λ _ no. absurd (cc no) } }
+
+pub returns-in-Err-clause-steps : goal.returns-in-Err-clause-steps
+returns-in-Err-clause-steps g c = record { made = []; more = c.in-Err.ensures.steps; loads = tt; last = tt }

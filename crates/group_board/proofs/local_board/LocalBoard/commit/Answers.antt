@@ -2,21 +2,29 @@ use Rattle.std.proofs.Common.{◌∙◌, ap}
 use Rattle.group_laws.specs.Places.{members}
 use Rattle.group_board.proofs.Calls.{commit_step, commit_view, commit_kept}
 use Rattle.group_board.proofs.local_board.LocalBoard.commit.Goals as goal
+use Rattle.group_board.specs.declared.board_journal.Act.TheVariants as acts
+use Rattle.group_board.proofs.Journals as journals
 
 pub invariant_of-self : goal.invariant_of-self
-invariant_of-self c =
+invariant_of-self g c =
     let me = c.args.self.now in
     let j = me.keeper.me.0 in
     let i = c.note.new.seat.me.0 in
-    let step = commit_step j i c.args.member c.note.ensures.1 c.requires in
+    let step = commit_step j i c.args.member (g.R.Region.state c.args.region.now).stamp c.note.ensures.1 c.requires in
     record {
       sized = (me.sized.0, me.sized.1, me.sized.2, me.sized.3, ap members step.0 ∙ me.sized.4);
       here = c.note.ensures.0 ∙ me.here;
-      kept = commit_kept j i c.args.member me.member_count me.holder me.slots.items me.mail.items me.kept c.note.ensures.1 step;
+      kept = commit_kept j i c.args.member me.member_count me.holder me.slots.items me.mail.items me.kept (g.R.Region.state c.args.region.now).stamp c.note.ensures.1 step;
     }
 
 pub returns-clause-step : goal.returns-clause-step
-returns-clause-step c = commit_step c.args.self.now.keeper.me.0 c.note.new.seat.me.0 c.args.member c.note.ensures.1 c.requires
+returns-clause-step g c = commit_step c.args.self.now.keeper.me.0 c.note.new.seat.me.0 c.args.member (g.R.Region.state c.args.region.now).stamp c.note.ensures.1 c.requires
 
 pub returns-clause-view : goal.returns-clause-view
-returns-clause-view c = commit_view c.args.self.now.keeper.me.0 c.note.new.seat.me.0 c.args.member c.note.ensures.1
+returns-clause-view g c = commit_view c.args.self.now.keeper.me.0 c.note.new.seat.me.0 c.args.member (g.R.Region.state c.args.region.now).stamp c.note.ensures.1
+
+pub returns-clause-made : goal.returns-clause-made
+returns-clause-made g c = journals.trail_is c.note.new.seat.me.0 c.args.self.now.keeper.me.0 c.args.member (acts.Commit (g.R.Region.state c.args.region.now).stamp) c.note.ensures.1
+
+pub returns-clause-at : goal.returns-clause-at
+returns-clause-at g c = journals.at_is c.note.new.seat.me.0 c.args.self.now.keeper.me.0 c.args.member (acts.Commit (g.R.Region.state c.args.region.now).stamp) c.note.ensures.1

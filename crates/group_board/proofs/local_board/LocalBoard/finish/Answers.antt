@@ -7,6 +7,10 @@ use Rattle.group_board.proofs.Keeping.{slots_at}
 use Rattle.group_board.proofs.Calls.{over_step, over_view, over_kept}
 use Rattle.group_board.proofs.Assured.{stood_home}
 use Rattle.group_board.proofs.local_board.LocalBoard.finish.Goals as goal
+use Rattle.std.proofs.Common.{◌∷◌}
+use Rattle.group_board.proofs.Journals as journals
+use Rattle.group_board.specs.Journals.{trail_in}
+use Rattle.group_board.specs.Journals.{finish_act}
 
 pub given_back-change-requires : goal.given_back-change-requires
 given_back-change-requires c =
@@ -76,3 +80,6 @@ returns-clause-home c =
     let home = c.given_back-change.result.home in
     let there = read_slot me.member_count me.holder me.slots.items me.mail.items me.keeper.me.0 me.kept c.args.member c.args.slot c.place_of-place.result c.index_mut.result.now me.sized.2 (subst (λ (k : ℕ). c.args.member < k) me.sized.4 c.requires.member) c.requires.slot c.place_of-place.ensures c.index_mut.ensures.value ∙ (sym c.replace-stood.ensures.value ∙ c.given_back-change.ensures) in
     stood_home me.member_count me.holder me.slots.items me.mail.items me.keeper.me.0 me.kept c.args.member c.args.slot x home there
+
+pub returns-clause-made : goal.returns-clause-made
+returns-clause-made c = let home = c.given_back-change.result.home in let x = c.given_back-change.result.entry in journals.trail_is c.note.new.seat.me.0 c.args.self.now.keeper.me.0 c.args.member (finish_act c.args.slot x home) c.note.ensures.1 ∙ ap (λ k. k ∷ trail_in c.args.member c.args.self.now.keeper.me.0) (journals.finish_kind c.args.slot x home)

@@ -9,6 +9,8 @@ use Rattle.group_board.specs.Told.{state_of}
 use Rattle.group_board.proofs.Facts.{read_slot}
 use Rattle.group_board.proofs.Calls.{look_step, find_view, find_kept}
 use Rattle.group_board.proofs.local_board.LocalBoard.look.Goals as goal
+use Rattle.group_board.specs.declared.board_journal.Act.TheVariants as acts
+use Rattle.group_board.proofs.Journals as journals
 
 pub invariant_of-self : goal.invariant_of-self
 invariant_of-self c =
@@ -43,3 +45,6 @@ pub returns-clause-view : goal.returns-clause-view
 returns-clause-view c =
     let me = c.args.self.now in
     (c.word_of-word.result, sym c.answer_at.ensures, find_view c.args.self.now.keeper.me.0 c.note.new.seat.me.0 c.args.member (loads.Slot c.args.owner c.args.slot c.word_of-word.result) c.note.ensures.1)
+
+pub returns-clause-made : goal.returns-clause-made
+returns-clause-made c = journals.trail_is c.note.new.seat.me.0 c.args.self.now.keeper.me.0 c.args.member (acts.Found (loads.Slot c.args.owner c.args.slot c.word_of-word.result)) c.note.ensures.1

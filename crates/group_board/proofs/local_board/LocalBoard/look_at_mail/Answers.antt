@@ -10,6 +10,8 @@ use Rattle.group_board.proofs.Facts.{full_by, read_mail}
 use Rattle.group_board.proofs.Mail.{mail_step}
 use Rattle.group_board.proofs.Calls.{find_kept}
 use Rattle.group_board.proofs.local_board.LocalBoard.look_at_mail.Goals as goal
+use Rattle.group_board.specs.declared.board_journal.Act.TheVariants as acts
+use Rattle.group_board.proofs.Journals as journals
 
 pub invariant_of-self : goal.invariant_of-self
 invariant_of-self c =
@@ -33,3 +35,6 @@ pub returns-clause-state : goal.returns-clause-state
 returns-clause-state c =
     let me = c.args.self.now in
     state_is c.note.new.seat.me.0 c.args.self.now.keeper.me.0 c.args.member (Found (loads.Mail c.args.from c.args.to c.is_some-full.result)) c.note.ensures.1
+
+pub returns-clause-made : goal.returns-clause-made
+returns-clause-made c = journals.trail_is c.note.new.seat.me.0 c.args.self.now.keeper.me.0 c.args.member (acts.Found (loads.Mail c.args.from c.args.to c.is_some-full.result)) c.note.ensures.1

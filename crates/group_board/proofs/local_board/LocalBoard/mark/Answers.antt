@@ -4,6 +4,8 @@ use Rattle.group_laws.specs.declared.types.Slot.TheVariants as slots
 use Rattle.group_board.proofs.Keeping.{slots_at}
 use Rattle.group_board.proofs.Calls.{mark_step, mark_view, mark_kept}
 use Rattle.group_board.proofs.local_board.LocalBoard.mark.Goals as goal
+use Rattle.group_board.specs.declared.board_journal.Act.TheVariants as acts
+use Rattle.group_board.proofs.Journals as journals
 
 pub invariant_of-self : goal.invariant_of-self
 invariant_of-self c =
@@ -24,3 +26,6 @@ pub returns-clause-view : goal.returns-clause-view
 returns-clause-view c =
     let me = c.args.self.now in
     mark_view c.args.self.now.keeper.me.0 c.note.new.seat.me.0 c.args.member c.args.owner c.args.slot c.args.change.entry c.note.ensures.1
+
+pub returns-clause-made : goal.returns-clause-made
+returns-clause-made c = journals.trail_is c.note.new.seat.me.0 c.args.self.now.keeper.me.0 c.args.member (acts.Mark c.args.owner c.args.slot c.args.change.entry) c.note.ensures.1

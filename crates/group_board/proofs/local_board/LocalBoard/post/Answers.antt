@@ -5,6 +5,8 @@ use Rattle.group_board.proofs.Facts.{own_empty}
 use Rattle.group_board.proofs.Keeping.{slots_at}
 use Rattle.group_board.proofs.Calls.{post_step, post_view, post_kept}
 use Rattle.group_board.proofs.local_board.LocalBoard.post.Goals as goal
+use Rattle.group_board.specs.declared.board_journal.Act.TheVariants as acts
+use Rattle.group_board.proofs.Journals as journals
 
 pub invariant_of-self : goal.invariant_of-self
 invariant_of-self c =
@@ -25,3 +27,6 @@ pub returns-clause-view : goal.returns-clause-view
 returns-clause-view c =
     let me = c.args.self.now in
     post_view c.args.self.now.keeper.me.0 c.note.new.seat.me.0 c.args.member c.args.slot c.args.change c.args.value.now c.note.ensures.1 c.requires.own
+
+pub returns-clause-made : goal.returns-clause-made
+returns-clause-made c = journals.trail_is c.note.new.seat.me.0 c.args.self.now.keeper.me.0 c.args.member (acts.Post c.args.slot c.args.change.entry c.args.value.now) c.note.ensures.1

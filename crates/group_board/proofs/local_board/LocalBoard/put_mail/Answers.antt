@@ -6,6 +6,8 @@ use Rattle.group_board.proofs.Journals.{state_is}
 use Rattle.group_board.proofs.Keeping.{mail_at}
 use Rattle.group_board.proofs.Calls.{send_kept}
 use Rattle.group_board.proofs.local_board.LocalBoard.put_mail.Goals as goal
+use Rattle.group_board.specs.declared.board_journal.Act.TheVariants as acts
+use Rattle.group_board.proofs.Journals as journals
 
 pub invariant_of-self : goal.invariant_of-self
 invariant_of-self c =
@@ -19,3 +21,6 @@ invariant_of-self c =
 
 pub returns-clause-state : goal.returns-clause-state
 returns-clause-state c = state_is c.note.new.seat.me.0 c.args.self.now.keeper.me.0 c.args.member (Send c.args.to c.args.notices.dead.names c.args.notices.gone.names) c.note.ensures.1
+
+pub returns-clause-made : goal.returns-clause-made
+returns-clause-made c = journals.trail_is c.note.new.seat.me.0 c.args.self.now.keeper.me.0 c.args.member (acts.Send c.args.to c.args.notices.dead.names c.args.notices.gone.names) c.note.ensures.1

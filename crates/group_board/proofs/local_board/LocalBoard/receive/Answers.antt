@@ -8,6 +8,7 @@ use Rattle.group_board.proofs.Mail.{mail_step, steps_lawful, heard_before}
 use Rattle.group_laws.specs.Runs as runs
 use Rattle.group_laws.proofs.Clients.{step_keeps}
 use Rattle.group_board.proofs.local_board.LocalBoard.receive.Goals as goal
+use Rattle.std.proofs.Common.{◌∷◌}
 
 pub take_mail-requires-clause-seen : goal.take_mail-requires-clause-seen
 take_mail-requires-clause-seen c = seen_in (state c.args.self.now.keeper.me.0) (state c.look_at_mail.new.self.keeper.me.0) c.args.member c.args.from c.args.member true (c.look_at_mail.ensures.state ∙ ap (λ x. finds (state c.args.self.now.keeper.me.0) c.args.member (loads.Mail c.args.from c.args.member x)) c.if-look_at_mail.true)
@@ -34,3 +35,6 @@ pub returns-else-look_at_mail-clause-lawful : goal.returns-else-look_at_mail-cla
 returns-else-look_at_mail-clause-lawful c =
     λ L. step_keeps (state c.args.self.now.keeper.me.0) c.args.member (runs.Kind.LookMail c.args.from c.args.member) (state c.look_at_mail.new.self.keeper.me.0) L
     (mail_step (state c.args.self.now.keeper.me.0) (state c.look_at_mail.new.self.keeper.me.0) c.args.member c.args.from c.args.member c.look_at_mail.result c.look_at_mail.ensures.state c.requires.member c.requires.sender c.requires.member c.look_at_mail.ensures.found)
+
+pub returns-then-look_at_mail-clause-made : goal.returns-then-look_at_mail-clause-made
+returns-then-look_at_mail-clause-made c = c.take_mail.ensures.made ∙ ap (λ l. runs.Kind.Receive c.args.from ∷ l) c.look_at_mail.ensures.made

@@ -3,6 +3,8 @@ use Rattle.group_laws.specs.Places.{members}
 use Rattle.group_board.proofs.Facts.{covers}
 use Rattle.group_board.proofs.Calls.{retire_step, retire_view, retire_kept}
 use Rattle.group_board.proofs.local_board.LocalBoard.retire.Goals as goal
+use Rattle.group_board.specs.declared.board_journal.Act.TheVariants as acts
+use Rattle.group_board.proofs.Journals as journals
 
 pub invariant_of-self : goal.invariant_of-self
 invariant_of-self c =
@@ -19,3 +21,6 @@ returns-clause-step c = let me = c.args.self.now in retire_step c.args.self.now.
 
 pub returns-clause-view : goal.returns-clause-view
 returns-clause-view c = let me = c.args.self.now in retire_view c.args.self.now.keeper.me.0 c.note.new.seat.me.0 c.args.member (covers me.member_count me.holder me.slots.items me.mail.items me.keeper.me.0 me.kept) c.args.names.now c.note.ensures.1
+
+pub returns-clause-made : goal.returns-clause-made
+returns-clause-made c = journals.trail_is c.note.new.seat.me.0 c.args.self.now.keeper.me.0 c.args.member (acts.Retire c.args.names.now) c.note.ensures.1

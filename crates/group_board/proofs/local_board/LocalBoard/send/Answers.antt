@@ -8,6 +8,7 @@ use Rattle.group_board.proofs.Mail.{mail_step, steps_lawful}
 use Rattle.group_laws.specs.Runs as runs
 use Rattle.group_laws.proofs.Clients.{step_keeps}
 use Rattle.group_board.proofs.local_board.LocalBoard.send.Goals as goal
+use Rattle.std.proofs.Common.{◌∷◌}
 
 pub put_mail-requires : goal.put_mail-requires
 put_mail-requires c = can_send (state c.args.self.now.keeper.me.0) (state c.look_at_mail.new.self.keeper.me.0) c.args.member c.args.to (notices_of c.args.notices) (c.look_at_mail.ensures.state ∙ ap (λ x. finds (state c.args.self.now.keeper.me.0) c.args.member (loads.Mail c.args.member c.args.to x)) c.if-look_at_mail.false) c.requires
@@ -30,3 +31,6 @@ pub returns-then-look_at_mail-clause-lawful : goal.returns-then-look_at_mail-cla
 returns-then-look_at_mail-clause-lawful c =
     λ L. step_keeps (state c.args.self.now.keeper.me.0) c.args.member (runs.Kind.LookMail c.args.member c.args.to) (state c.look_at_mail.new.self.keeper.me.0) L
     (mail_step (state c.args.self.now.keeper.me.0) (state c.look_at_mail.new.self.keeper.me.0) c.args.member c.args.member c.args.to c.look_at_mail.result c.look_at_mail.ensures.state c.requires.member c.requires.member c.requires.receiver c.look_at_mail.ensures.found)
+
+pub returns-clause-made : goal.returns-clause-made
+returns-clause-made c = c.put_mail.ensures.made ∙ ap (λ l. runs.Kind.Send c.args.to (notices_of c.args.notices) ∷ l) c.look_at_mail.ensures.made

@@ -11,6 +11,8 @@ use Rattle.group_board.proofs.Keeping.{slots_at}
 use Rattle.group_board.proofs.Calls.{take_step, take_view, take_kept}
 use Rattle.group_board.proofs.Assured.{posted_spelled}
 use Rattle.group_board.proofs.local_board.LocalBoard.take.Goals as goal
+use Rattle.group_board.specs.declared.board_journal.Act.TheVariants as acts
+use Rattle.group_board.proofs.Journals as journals
 
 pub offered-change-requires : goal.offered-change-requires
 offered-change-requires c =
@@ -74,3 +76,6 @@ returns-clause-unlogged c =
     let me = c.args.self.now in
     let found = read_slot me.member_count me.holder me.slots.items me.mail.items me.keeper.me.0 me.kept c.args.owner c.args.slot c.place_of-place.result c.index_mut.result.now me.sized.2 (subst (λ (k : ℕ). c.args.owner < k) me.sized.4 c.requires.target) c.requires.slot c.place_of-place.ensures c.index_mut.ensures.value in
     posted_unlogged me.member_count me.holder me.slots.items me.mail.items me.keeper.me.0 me.kept c.args.member c.args.owner c.args.slot c.offered-change.result.entry (found ∙ (sym c.replace-stood.ensures.value ∙ c.offered-change.ensures.stood))
+
+pub returns-clause-made : goal.returns-clause-made
+returns-clause-made c = journals.trail_is c.note.new.seat.me.0 c.args.self.now.keeper.me.0 c.args.member (acts.Take c.args.owner c.args.slot c.offered-change.result.entry) c.note.ensures.1

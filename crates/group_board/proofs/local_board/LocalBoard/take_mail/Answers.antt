@@ -7,6 +7,8 @@ use Rattle.group_board.proofs.Keeping.{mail_at}
 use Rattle.group_board.proofs.Calls.{receive_tidied, receive_kept}
 use Rattle.group_board.proofs.Assured.{heard}
 use Rattle.group_board.proofs.local_board.LocalBoard.take_mail.Goals as goal
+use Rattle.group_board.specs.declared.board_journal.Act.TheVariants as acts
+use Rattle.group_board.proofs.Journals as journals
 
 pub unwrap-notices-requires : goal.unwrap-notices-requires
 unwrap-notices-requires c =
@@ -40,3 +42,6 @@ returns-clause-heard c =
     let me = c.args.self.now in
     let there = read_mail me.member_count me.holder me.slots.items me.mail.items me.keeper.me.0 me.kept c.args.from c.args.member c.place_of-place.result c.index_mut.result.now me.sized.3 me.sized.1 (subst (λ (k : ℕ). c.args.from < k) me.sized.4 c.requires.members.1) (subst (λ (k : ℕ). c.args.member < k) me.sized.4 c.requires.members.0) c.place_of-place.ensures c.index_mut.ensures.value ∙ ap (option_map notices_of) (sym c.replace-stood.ensures.value ∙ c.unwrap-notices.ensures) in
     heard me.member_count me.holder me.slots.items me.mail.items me.keeper.me.0 me.kept c.args.member c.args.from c.unwrap-notices.result there
+
+pub returns-clause-made : goal.returns-clause-made
+returns-clause-made c = journals.trail_is c.note.new.seat.me.0 c.args.self.now.keeper.me.0 c.args.member (acts.Receive c.args.from c.unwrap-notices.result.dead.names c.unwrap-notices.result.gone.names) c.note.ensures.1

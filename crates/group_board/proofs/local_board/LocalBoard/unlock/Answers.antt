@@ -2,6 +2,8 @@ use Rattle.std.proofs.Common.{◌∙◌, ap}
 use Rattle.group_laws.specs.Places.{members}
 use Rattle.group_board.proofs.Calls.{unlock_step, unlock_view, unlock_kept}
 use Rattle.group_board.proofs.local_board.LocalBoard.unlock.Goals as goal
+use Rattle.group_board.specs.declared.board_journal.Act.TheVariants as acts
+use Rattle.group_board.proofs.Journals as journals
 
 pub invariant_of-self : goal.invariant_of-self
 invariant_of-self c =
@@ -18,3 +20,6 @@ returns-clause-step c = let me = c.args.self.now in unlock_step c.args.self.now.
 
 pub returns-clause-view : goal.returns-clause-view
 returns-clause-view c = let me = c.args.self.now in unlock_view c.args.self.now.keeper.me.0 c.note.new.seat.me.0 c.args.member c.note.ensures.1
+
+pub returns-clause-made : goal.returns-clause-made
+returns-clause-made c = journals.trail_is c.note.new.seat.me.0 c.args.self.now.keeper.me.0 c.args.member acts.Unlock c.note.ensures.1

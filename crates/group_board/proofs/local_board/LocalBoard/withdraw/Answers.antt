@@ -10,6 +10,8 @@ use Rattle.group_board.proofs.Facts.{posted_by, read_slot, posted_still, words_a
 use Rattle.group_board.proofs.Keeping.{slots_at}
 use Rattle.group_board.proofs.Calls.{withdraw_step, withdraw_view, withdraw_kept}
 use Rattle.group_board.proofs.local_board.LocalBoard.withdraw.Goals as goal
+use Rattle.group_board.specs.declared.board_journal.Act.TheVariants as acts
+use Rattle.group_board.proofs.Journals as journals
 
 pub offered-change-requires : goal.offered-change-requires
 offered-change-requires c =
@@ -63,3 +65,6 @@ returns-clause-view c =
     let found = read_slot me.member_count me.holder me.slots.items me.mail.items me.keeper.me.0 me.kept c.args.member c.args.slot c.place_of-place.result c.index_mut.result.now me.sized.2 (subst (λ (k : ℕ). c.args.member < k) me.sized.4 c.requires.member) c.requires.slot c.place_of-place.ensures c.index_mut.ensures.value in
     let there = found ∙ (sym c.replace-posted.ensures.value ∙ c.offered-change.ensures.stood) in
     withdraw_view c.args.self.now.keeper.me.0 c.note.new.seat.me.0 c.args.member c.args.slot c.offered-change.result.entry c.note.ensures.1 (posted_owner me.member_count me.holder me.slots.items me.mail.items me.keeper.me.0 me.kept c.args.member c.args.slot c.offered-change.result.entry there)
+
+pub returns-clause-made : goal.returns-clause-made
+returns-clause-made c = journals.trail_is c.note.new.seat.me.0 c.args.self.now.keeper.me.0 c.args.member (acts.Withdraw c.args.slot c.offered-change.result.entry) c.note.ensures.1

@@ -3,13 +3,14 @@ use Rattle.pm_region.specs.State.{State, IsTelling}
 use Rattle.core_log.specs.Log.{LogState, tail_in}
 use Rattle.core_log.specs.Walking.{IsReadable, entries_in}
 use Rattle.log_standing.specs.NameCounts.{StandingState}
-use Rattle.log_cleaner.specs.Clearing.{ClearingState}
+use Rattle.log_cleaner.specs.Clearing.{ClearingState, AreLone}
 use Rattle.log_cleaner.proofs.GatherLaws.{Gathering}
 use Rattle.log_cleaner.proofs.clearing.Clearing.note_all.Given as goal
 
 pub record SoFar (s : State) (log : LogState) (st : StandingState) (j place : ℕ) (c old : ClearingState) : Type 0 where
   pub readable : IsReadable s log j place
   pub chunk : c.chunk ≡ old.chunk
+  pub lone : AreLone st c.doomed
   pub told : IsTelling s → Gathering st (entries_in s log j) place c
 
 abbrev pub invariant-loop-found : goal.invariant-loop-found

@@ -1,0 +1,8 @@
+use Rattle.core_worker.proofs.GoneLaws.{lacks_first, lacks_more}
+use Rattle.core_worker.proofs.gone_names.take_names.Goals as goal
+
+pub loop-name-init : goal.loop-name-init
+loop-name-init c = lacks_first c.args.index.now
+
+pub loop-name-preserved : goal.loop-name-preserved
+loop-name-preserved c = lacks_more c.args.names.now c.loop-name.name-index c.loop-name-test.true c.args.index.now c.loop-name.index c.gone.new.self c.loop-name.invariant c.gone.ensures.gone c.gone.ensures.room

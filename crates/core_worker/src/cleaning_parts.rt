@@ -1,0 +1,91 @@
+// Parts of a turn that receives, and of one that dooms.
+ghost use Rattle.std.specs.Prelude.{◌≡◌, ℕ, ◌≤◌, ◌<◌, true, false, [], length, is_some};
+ghost use Rattle.pm_region.specs.State.{IsTelling};
+ghost use Rattle.core_log.specs.Log.{StandsIn, tail_of};
+ghost use Rattle.core_log.specs.Walking.{entries_in};
+ghost use Rattle.group_laws.specs.declared.group_sizes.TheConstants.{SLOTS};
+ghost use Rattle.group_laws.specs.declared.types.Seen.TheVariants as loads;
+ghost use Rattle.group_laws.specs.Places.{members, core_of};
+ghost use Rattle.group_laws.specs.Runs as runs;
+ghost use Rattle.group_board.specs.Views.{after_find, after_doom};
+ghost use Rattle.group_board.specs.Told.{Makes, MakesBoth};
+ghost use Rattle.log_standing.specs.NameCounts.{is_told};
+ghost use Rattle.log_cleaner.specs.Clearing.{IsFresh, IsGathered};
+ghost use Rattle.log_cleaner.specs.Vanishing.{MayGo};
+ghost use Rattle.core_worker.specs.GoneNames.{KnowsAll};
+ghost use Rattle.core_worker.specs.LogNames.{KnowsBy};
+ghost use Rattle.core_worker.specs.CleaningParts.{Receives};
+
+use crate::log_names::hear_notices;
+use crate::types::Place;
+use core_index::CoreIndex;
+use core_log::CoreLog;
+use group_board::Board;
+use log_cleaner::Clearing;
+use log_standing::Standing;
+use pm_region::Region;
+
+// Receives what a member told, where it told something: dead entries of the own log, and gone ones of own keys. The
+// index, the places and the names that stand are then what the view has.
+pub(crate) fn receive_from<B: Board>(
+    index: &mut CoreIndex,
+    standing: &mut Standing,
+    places: &mut Vec<Place>,
+    core: u32,
+    board: &mut B,
+    from: u32,
+) -> bool
+    requires member { (B.seat board.old).number < members (B.seat board.old).place }
+    requires sender { from < members (B.seat board.old).place }
+    requires core { core ≡ core_of (B.seat board.old).place (B.seat board.old).number }
+    requires eight { length places.old.items ≡ SLOTS }
+    requires knows { KnowsAll (B.seat board.old).place (B.seat board.old).number (B.view board.old)
+        places.old.items index.old }
+    ensures seat { B.seat board.new ≡ B.seat board.old }
+    ensures knows { KnowsAll (B.seat board.old).place (B.seat board.old).number (B.view board.new)
+        places.new.items index.new }
+    ensures names { KnowsBy (B.seat board.old).number (B.view board.old) standing.old
+        → KnowsBy (B.seat board.old).number (B.view board.new) standing.new }
+    ensures received { Receives result (B.seat board.old).number from (B.whole board.old)
+        (B.whole board.new) (B.view board.old) (B.view board.new) }
+{
+    match board.receive(from) {
+        None => {
+            return false;
+        }
+        Some(notices) => {
+            hear_notices(index, standing, places, core, &notices);
+            return true;
+        }
+    }
+}
+
+// Gathers the dead names that stand in a cleaned chunk alone, and dooms them.
+pub(crate) fn doom_names<R: Region, B: Board>(
+    region: &R,
+    board: &mut B,
+    log: &CoreLog,
+    standing: &Standing,
+    clearing: &mut Clearing,
+)
+    requires stands { StandsIn (R.state region.now) log.now }
+    requires has { is_some (tail_of log.now.chunks clearing.old.chunk) ≡ true }
+    requires fresh { IsFresh clearing.old }
+    requires room { IsTelling (R.state region.now)
+        → length (entries_in (R.state region.now) log.now clearing.old.chunk) ≤ clearing.old.room }
+    requires member { (B.seat board.old).number < members (B.seat board.old).place }
+    requires told { (k n : ℕ) → is_told standing.now k n ≡ true
+        → (B.view board.old).dead k n ≡ true }
+    requires idle { (B.view board.old).flying ≡ [] }
+    ensures seat { B.seat board.new ≡ B.seat board.old }
+    ensures view { B.view board.new ≡ after_doom clearing.new.doomed (B.view board.old) }
+    ensures may { MayGo (B.view board.new) clearing.new.doomed }
+    ensures gathered { IsTelling (R.state region.now) → IsGathered standing.now
+        (entries_in (R.state region.now) log.now clearing.old.chunk) clearing.new }
+    ensures chunk { clearing.new.chunk ≡ clearing.old.chunk }
+    ensures made { Makes (B.whole board.old) (B.seat board.old).number
+        (runs.Kind.Doom clearing.new.doomed) (B.whole board.new) (B.view board.new) }
+{
+    clearing.gather(region, log, standing);
+    board.doom(clearing.doomed_of());
+}
