@@ -21,7 +21,7 @@ use Rattle.group_laws.specs.MemberViews.{View}
 use Rattle.group_board.specs.Views.{after_post, after_lock, after_find, after_unlock, after_commit, after_mark, after_fail}
 use Rattle.group_board.specs.Seats.{SeatAt}
 use Rattle.batch_leader.specs.TakenChanges.{entries_in, spelled, taken_in}
-use Rattle.batch_leader.specs.Leading.{MakesAll, Went, IsReleased}
+use Rattle.batch_leader.specs.Leading.{MakesAll, Went, IsReleased, IsOver, SawPassed}
 use Rattle.batch_leader.specs.Persisting.{opened_for}
 use Rattle.batch_leader.specs.declared.states.Collecting.{Collecting}
 use Rattle.batch_leader.specs.declared.states.Released.{Released}
@@ -103,6 +103,8 @@ pub record Releases (before : Option Group) (seat : SeatAt) (a b : Moment) : Typ
   pub runs : a.worker.stopped ≡ false
   pub went : Went false before (room_for a.worker) seat.number a.view mid old last
   pub over : last.over ≡ true
+  pub end : IsOver seat last
+  pub seen : SawPassed (room_for a.worker) seat.number a.view mid old last
   pub released : IsReleased seat b.view last given
   pub view : b.view ≡ after_unlock mid
   pub same : SameButLeading a.worker b.worker

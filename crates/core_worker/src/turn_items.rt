@@ -161,6 +161,7 @@ impl Worker {
         ensures tries { IfIdle result (TriedIf posted (B.seat board.old).number
             (B.whole board.old) (B.whole board.new) (B.view board.new)) }
         ensures works { OnOk result (self.new.winds_down ≡ self.old.winds_down) }
+        ensures calm { IfIdle result (R.state region.new ≡ R.state region.old) }
     {
         match self.choose(gate) {
             Choice::Pass => {
@@ -211,6 +212,7 @@ impl Worker {
             (B.whole board.old) (B.whole board.new) (B.view board.old) (B.view board.new)
             self.old self.new) }
         ensures works { OnOk result (self.new.winds_down ≡ self.old.winds_down) }
+        ensures calm { IfIdle result (R.state region.new ≡ R.state region.old) }
     {
         match self.find_back(board) {
             Search::Back(slot) => match self.take_back(alloc, &*region, board, slot) {
@@ -327,6 +329,7 @@ impl Worker {
             (B.whole board.old) (B.whole board.new) (B.view board.old) (B.view board.new)
             self.old self.new) }
         ensures works { OnOk result (self.new.winds_down ≡ self.old.winds_down) }
+        ensures calm { IfIdle result (R.state region.new ≡ R.state region.old) }
     {
         match &self.leading {
             Leading::Nothing(_) => {
@@ -389,6 +392,7 @@ impl Worker {
             (B.whole board.old) (B.whole board.new) (B.view board.old) (B.view board.new)
             self.old self.new) }
         ensures works { OnOk result (self.new.winds_down ≡ self.old.winds_down) }
+        ensures calm { IfIdle result (R.state region.new ≡ R.state region.old) }
     {
         self.serve_first(alloc, region, board, gate)
     }

@@ -3,7 +3,7 @@ use Rattle.core_log.specs.declared.types.Room.{Room}
 use Rattle.group_laws.specs.Updates.{put2}
 use Rattle.group_laws.specs.MemberViews.{View}
 use Rattle.group_board.specs.Views.{after_unlock}
-use Rattle.batch_leader.specs.Leading.{Suits, Went, IsReleased}
+use Rattle.batch_leader.specs.Leading.{Suits, Went, IsReleased, SawPassed}
 use Rattle.core_worker.specs.declared.types.Leading.TheVariants as leads
 use Rattle.group_board.specs.Seats.{SeatAt}
 use Rattle.core_worker.specs.Ties.{LeadsAt, is_lost, HasSpaceFor}
@@ -97,6 +97,8 @@ returns-in-RoundOver-clause-went g c =
       runs = c.requires.runs;
       went = subst (λ (r : Room). Went false (g.B.Board.whole c.args.board.now) r m (g.B.Board.view c.args.board.now) (g.B.Board.view c.collect.new.board) c.in-Collecting.collecting c.collect.new.self) c.requires.room c.in-RoundOver.ensures.went;
       over = (c.in-RoundOver.ensures.over refl).0;
+      end = (c.in-RoundOver.ensures.over refl).1;
+      seen = subst (λ (r : Room). SawPassed r (g.B.Board.seat c.args.board.now).number (g.B.Board.view c.args.board.now) (g.B.Board.view c.collect.new.board) c.in-Collecting.collecting c.collect.new.self) c.requires.room (c.in-RoundOver.ensures.seen refl);
       released = released;
       view = c.release.ensures.view;
       same = refl;
@@ -160,6 +162,8 @@ returns-in-RoundOver-clause-less g c rule starts =
       runs = c.requires.runs;
       went = subst (λ (r : Room). Went false w0 r m v mid c.in-Collecting.collecting c.collect.new.self) c.requires.room c.in-RoundOver.ensures.went;
       over = (c.in-RoundOver.ensures.over refl).0;
+      end = (c.in-RoundOver.ensures.over refl).1;
+      seen = subst (λ (r : Room). SawPassed r (g.B.Board.seat c.args.board.now).number (g.B.Board.view c.args.board.now) (g.B.Board.view c.collect.new.board) c.in-Collecting.collecting c.collect.new.self) c.requires.room (c.in-RoundOver.ensures.seen refl);
       released = subst (λ (q : SeatAt). IsReleased q u c.collect.new.self c.release.result) c.collect.ensures.seat c.release.ensures.released;
       view = c.release.ensures.view;
       same = refl;

@@ -20,6 +20,7 @@ returns-in-Ok-serve_batch g c =
       starts = e.starts;
       idles = tt;
       works = e.works;
+      calm = tt;
     }
 
 pub returns-in-Err-serve_batch : goal.returns-in-Err-serve_batch
@@ -35,4 +36,5 @@ returns-in-Err-serve_batch g c =
       starts = e.starts;
       idles = tt;
       works = tt;
+      calm = tt;
     }
