@@ -145,9 +145,9 @@ module _ (b : Origin) (s : TableState) (o : ShowsLawful b s) (m : ℕ) (q : Hold
       let x = tidied_law o.holder (put2 o.slot m t Empty) o.mail (after_give_up e) (gives_up w m t e) (names_by (names_of b) ds) covers (give_up_shows (place_of b) o.holder o.slot o.mail (views_of b s.views) m t e can.own) in
       empties (GiveUp t e) t can.slot.1 settled (λ n. refl) (subst (IsReached b _) x.1 (step_reaches b (deeds_at s.views) o.holder o.slot o.mail m (GiveUp t e) x.0 o.reached (inr (e, can, x.2))))
 
-  pub retire_keeps : (x : ℕ) (ns : List EntryName) → x ≡ (get_or s.words (own_word m) 0 + 1) % 2 ^ 64 → MayRetire (place_of b) m (view_by b m ds) ns → ShowsLawful b (record { words = set s.words (own_word m) x; homes = s.homes; views = set s.views (suc m) (Own m q b (Retire ns ∷ ds)) })
-  retire_keeps x ns up may =
+  pub retire_keeps : (x : ℕ) (ns : List EntryName) (stamp : ℕ) → x ≡ (get_or s.words (own_word m) 0 + 1) % 2 ^ 64 → MayRetire (place_of b) m (view_by b m ds) ns → ShowsLawful b (record { words = set s.words (own_word m) x; homes = s.homes; views = set s.views (suc m) (Own m q b (Retire ns stamp ∷ ds)) })
+  retire_keeps x ns stamp up may =
       let y = tidied_law o.holder o.slot o.mail (after_retire (place_of b) m ns) (retires w m ns) (names_by (names_of b) ds)
       (covers_less (alike (place_of b) (views_of b s.views m)) (names_by (names_of b) ds) covers (λ k n. Rattle.std.proofs.Common.◌&&◌ (eqb (owner (place_of b) k) m) (has ns k n))) (retire_shows (place_of b) o.holder o.slot o.mail (views_of b s.views) m ns) in
-      calm b s o m q ds me near (Retire ns) (own_word m) x o.holder (λ a u. pool_apart b s o m q ds me near (own_word m) x a u (omega arith)) (λ a u. mail_apart b s o m q ds me near (own_word m) x a u (omega arith)) (Rattle.std.proofs.Common.get_or-set_other s.words (own_word m) 0 x 0 (λ e. omega arith) ∙ o.fits.lock) o.fits.member (own_steps b s o m q ds me near (Retire ns) x (λ n. refl) up)
-      (subst (IsReached b _) y.1 (step_reaches b (deeds_at s.views) o.holder o.slot o.mail m (Retire ns) y.0 o.reached (record { member = near; doomed = λ k i h. ap (λ (u : View). u.doomed k i) same ∙ may.doomed k i h }, y.2)))
+      calm b s o m q ds me near (Retire ns stamp) (own_word m) x o.holder (λ a u. pool_apart b s o m q ds me near (own_word m) x a u (omega arith)) (λ a u. mail_apart b s o m q ds me near (own_word m) x a u (omega arith)) (Rattle.std.proofs.Common.get_or-set_other s.words (own_word m) 0 x 0 (λ e. omega arith) ∙ o.fits.lock) o.fits.member (own_steps b s o m q ds me near (Retire ns stamp) x (λ n. refl) up)
+      (subst (IsReached b _) y.1 (step_reaches b (deeds_at s.views) o.holder o.slot o.mail m (Retire ns stamp) y.0 o.reached (record { member = near; doomed = λ k i h. ap (λ (u : View). u.doomed k i) same ∙ may.doomed k i h }, y.2)))

@@ -163,23 +163,23 @@ module _ (b : Origin) (k id m : ℕ) (q : Holding) (ds : List Deed) (c : List (�
               ),
             )
 
-  doom_allowed : (ns : List EntryName) (g : ℕ → ℕ) → ((y : ℕ) → g y ≡ (y + 1) % 2 ^ 64) → MayDoom (place_of b) m (view_by b m ds) ns → Allows (ShowsLawful b) k id (Own m q b ds, c) (own_word m) g (tells_doom ns (step k (own_word m) 1 0 none) (Own m q b ds, c))
-  doom_allowed ns g up may s o many at fits64 = let here = place b o.holder o.slot o.mail s o.fits id m q ds at in (
-    Own m q b (Doom ns ∷ ds),
+  doom_allowed : (ns : List EntryName) (stamp : ℕ) (g : ℕ → ℕ) → ((y : ℕ) → g y ≡ (y + 1) % 2 ^ 64) → MayDoom (place_of b) m (view_by b m ds) ns → Allows (ShowsLawful b) k id (Own m q b ds, c) (own_word m) g (tells_doom ns stamp (step k (own_word m) 1 0 none) (Own m q b ds, c))
+  doom_allowed ns stamp g up may s o many at fits64 = let here = place b o.holder o.slot o.mail s o.fits id m q ds at in (
+    Own m q b (Doom ns stamp ∷ ds),
     keeps,
     tt,
-    subst (λ j. ShowsLawful b (record { words = set s.words (own_word m) (g (get_or s.words (own_word m) 0)); homes = s.homes; views = set s.views j (Own m q b (Doom ns ∷ ds)) })) (sym here.0)
-        (doom_keeps b s o m q ds (ap (get_elem? s.views) (sym here.0) ∙ at) here.1 (g (get_or s.words (own_word m) 0)) ns (up (get_or s.words (own_word m) 0)) may),
+    subst (λ j. ShowsLawful b (record { words = set s.words (own_word m) (g (get_or s.words (own_word m) 0)); homes = s.homes; views = set s.views j (Own m q b (Doom ns stamp ∷ ds)) })) (sym here.0)
+        (doom_keeps b s o m q ds (ap (get_elem? s.views) (sym here.0) ∙ at) here.1 (g (get_or s.words (own_word m) 0)) ns stamp (up (get_or s.words (own_word m) 0)) may),
     refl,
   )
 
-  retire_allowed : (ns : List EntryName) (g : ℕ → ℕ) → ((y : ℕ) → g y ≡ (y + 1) % 2 ^ 64) → MayRetire (place_of b) m (view_by b m ds) ns → Allows (ShowsLawful b) k id (Own m q b ds, c) (own_word m) g (tells_retire ns (step k (own_word m) 1 0 none) (Own m q b ds, c))
-  retire_allowed ns g up may s o many at fits64 = let here = place b o.holder o.slot o.mail s o.fits id m q ds at in (
-    Own m q b (Retire ns ∷ ds),
+  retire_allowed : (ns : List EntryName) (stamp : ℕ) (g : ℕ → ℕ) → ((y : ℕ) → g y ≡ (y + 1) % 2 ^ 64) → MayRetire (place_of b) m (view_by b m ds) ns → Allows (ShowsLawful b) k id (Own m q b ds, c) (own_word m) g (tells_retire ns stamp (step k (own_word m) 1 0 none) (Own m q b ds, c))
+  retire_allowed ns stamp g up may s o many at fits64 = let here = place b o.holder o.slot o.mail s o.fits id m q ds at in (
+    Own m q b (Retire ns stamp ∷ ds),
     keeps,
     tt,
-    subst (λ j. ShowsLawful b (record { words = set s.words (own_word m) (g (get_or s.words (own_word m) 0)); homes = s.homes; views = set s.views j (Own m q b (Retire ns ∷ ds)) })) (sym here.0)
-        (retire_keeps b s o m q ds (ap (get_elem? s.views) (sym here.0) ∙ at) here.1 (g (get_or s.words (own_word m) 0)) ns (up (get_or s.words (own_word m) 0)) may),
+    subst (λ j. ShowsLawful b (record { words = set s.words (own_word m) (g (get_or s.words (own_word m) 0)); homes = s.homes; views = set s.views j (Own m q b (Retire ns stamp ∷ ds)) })) (sym here.0)
+        (retire_keeps b s o m q ds (ap (get_elem? s.views) (sym here.0) ∙ at) here.1 (g (get_or s.words (own_word m) 0)) ns stamp (up (get_or s.words (own_word m) 0)) may),
     (
       refl,
       tidied_view (names_by (names_of b) ds) (place_of b) m (after_retire (place_of b) m ns (view_by b m ds))
@@ -217,12 +217,12 @@ module _ (key : Origin) (k id : ℕ) (me : SeatState) (mine : is_own me.0 ≡ tr
       (λ m q b ds at settled may. at_own_origin key b k id m q ds me.1 i (λ _. 0) (λ _. tells_finish (step k i 0 0 none) (Own m q b ds, me.1) 0)
       (subst (λ j. Allows (ShowsLawful b) k id (Own m q b ds, me.1) j (λ _. 0) (λ _. tells_finish (step k j 0 0 none) (Own m q b ds, me.1) 0)) (sym at) (finish_allowed b k id m q ds me.1 t settled may))) me.0 mine at settled may
 
-  pub doom_owes : (i : ℕ) (ns : List EntryName) (g : ℕ → ℕ) → ((y : ℕ) → g y ≡ (y + 1) % 2 ^ 64) → i ≡ own_word (number_in me.0) → MayDoom (place_of (origin_in me.0)) (number_in me.0) (view_in me.0) ns → Allows (ShowsLawful key) k id me i g (tells_doom ns (step k i 1 0 none) me)
-  doom_owes i ns g up at may = by_own (λ d. i ≡ own_word (number_in d) → MayDoom (place_of (origin_in d)) (number_in d) (view_in d) ns → Allows (ShowsLawful key) k id (d, me.1) i g (tells_doom ns (step k i 1 0 none) (d, me.1)))
-      (λ m q b ds at may. at_own_origin key b k id m q ds me.1 i g (tells_doom ns (step k i 1 0 none) (Own m q b ds, me.1))
-      (subst (λ j. Allows (ShowsLawful b) k id (Own m q b ds, me.1) j g (tells_doom ns (step k j 1 0 none) (Own m q b ds, me.1))) (sym at) (doom_allowed b k id m q ds me.1 ns g up may))) me.0 mine at may
+  pub doom_owes : (i : ℕ) (ns : List EntryName) (stamp : ℕ) (g : ℕ → ℕ) → ((y : ℕ) → g y ≡ (y + 1) % 2 ^ 64) → i ≡ own_word (number_in me.0) → MayDoom (place_of (origin_in me.0)) (number_in me.0) (view_in me.0) ns → Allows (ShowsLawful key) k id me i g (tells_doom ns stamp (step k i 1 0 none) me)
+  doom_owes i ns stamp g up at may = by_own (λ d. i ≡ own_word (number_in d) → MayDoom (place_of (origin_in d)) (number_in d) (view_in d) ns → Allows (ShowsLawful key) k id (d, me.1) i g (tells_doom ns stamp (step k i 1 0 none) (d, me.1)))
+      (λ m q b ds at may. at_own_origin key b k id m q ds me.1 i g (tells_doom ns stamp (step k i 1 0 none) (Own m q b ds, me.1))
+      (subst (λ j. Allows (ShowsLawful b) k id (Own m q b ds, me.1) j g (tells_doom ns stamp (step k j 1 0 none) (Own m q b ds, me.1))) (sym at) (doom_allowed b k id m q ds me.1 ns stamp g up may))) me.0 mine at may
 
-  pub retire_owes : (i : ℕ) (ns : List EntryName) (g : ℕ → ℕ) → ((y : ℕ) → g y ≡ (y + 1) % 2 ^ 64) → i ≡ own_word (number_in me.0) → MayRetire (place_of (origin_in me.0)) (number_in me.0) (view_in me.0) ns → Allows (ShowsLawful key) k id me i g (tells_retire ns (step k i 1 0 none) me)
-  retire_owes i ns g up at may = by_own (λ d. i ≡ own_word (number_in d) → MayRetire (place_of (origin_in d)) (number_in d) (view_in d) ns → Allows (ShowsLawful key) k id (d, me.1) i g (tells_retire ns (step k i 1 0 none) (d, me.1)))
-      (λ m q b ds at may. at_own_origin key b k id m q ds me.1 i g (tells_retire ns (step k i 1 0 none) (Own m q b ds, me.1))
-      (subst (λ j. Allows (ShowsLawful b) k id (Own m q b ds, me.1) j g (tells_retire ns (step k j 1 0 none) (Own m q b ds, me.1))) (sym at) (retire_allowed b k id m q ds me.1 ns g up may))) me.0 mine at may
+  pub retire_owes : (i : ℕ) (ns : List EntryName) (stamp : ℕ) (g : ℕ → ℕ) → ((y : ℕ) → g y ≡ (y + 1) % 2 ^ 64) → i ≡ own_word (number_in me.0) → MayRetire (place_of (origin_in me.0)) (number_in me.0) (view_in me.0) ns → Allows (ShowsLawful key) k id me i g (tells_retire ns stamp (step k i 1 0 none) me)
+  retire_owes i ns stamp g up at may = by_own (λ d. i ≡ own_word (number_in d) → MayRetire (place_of (origin_in d)) (number_in d) (view_in d) ns → Allows (ShowsLawful key) k id (d, me.1) i g (tells_retire ns stamp (step k i 1 0 none) (d, me.1)))
+      (λ m q b ds at may. at_own_origin key b k id m q ds me.1 i g (tells_retire ns stamp (step k i 1 0 none) (Own m q b ds, me.1))
+      (subst (λ j. Allows (ShowsLawful b) k id (Own m q b ds, me.1) j g (tells_retire ns stamp (step k j 1 0 none) (Own m q b ds, me.1))) (sym at) (retire_allowed b k id m q ds me.1 ns stamp g up may))) me.0 mine at may

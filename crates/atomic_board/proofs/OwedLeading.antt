@@ -164,18 +164,18 @@ module _ (b : Origin) (k id m : ℕ) (q : Holding) (ds : List Deed) (c : List (�
   first_change x y p r l n is = let h : Some (parcels.Change x) ≡ Some (parcels.Change y) = ap (λ (z : List (ℕ × Option Parcel)). (get_or z 0 (0, None)).1) is in cc h
 
 module _ (b : Origin) (k id m : ℕ) (q : Holding) (ds : List Deed) (c : List (ℕ × Option Parcel)) where
-  post_allowed : (t : ℕ) (x : Change) (value : List ℕ) → MayPost (place_of b) m (view_by b m ds) t x value
+  post_allowed : (t : ℕ) (x : Change) (value : List ℕ) (stamp : ℕ) → MayPost (place_of b) m (view_by b m ds) t x value
       → Allows (ShowsLawful b) k id (Own m q b ds, (pool_place m t, Some (parcels.Change x)) ∷ c) (pool_word (size b) m t) (λ _. 16 + length (words_of x.entry))
-      (λ _. tells_post value (step k (pool_word (size b) m t) (16 + length (words_of x.entry)) 0 none) (Own m q b ds, (pool_place m t, Some (parcels.Change x)) ∷ c) (16 + length (words_of x.entry)))
-  post_allowed t x value may s o many at fits64 = let here = place b o.holder o.slot o.mail s o.fits id m q ds at in (
-    Own m q b (Post t x.entry value ∷ ds),
+      (λ _. tells_post value stamp (step k (pool_word (size b) m t) (16 + length (words_of x.entry)) 0 none) (Own m q b ds, (pool_place m t, Some (parcels.Change x)) ∷ c) (16 + length (words_of x.entry)))
+  post_allowed t x value stamp may s o many at fits64 = let here = place b o.holder o.slot o.mail s o.fits id m q ds at in (
+    Own m q b (Post t x.entry value stamp ∷ ds),
     gives,
     tt,
-    subst (λ j. ShowsLawful b (record { words = set s.words (pool_word (size b) m t) (16 + length (words_of x.entry)); homes = set s.homes (pool_place m t) (some (Some (parcels.Change x))); views = set s.views j (Own m q b (Post t x.entry value ∷ ds)) })) (sym here.0)
-        (subst (λ h. ShowsLawful b (record { words = set s.words (pool_word (size b) m t) (16 + length (words_of x.entry)); homes = set s.homes (pool_place m t) (some (Some (parcels.Change (record { entry = x.entry; home = h })))); views = set s.views (suc m) (Own m q b (Post t x.entry value ∷ ds)) })) (sym may.home)
-        (post_keeps b s o m q ds (ap (get_elem? s.views) (sym here.0) ∙ at) here.1 t x value may)),
+    subst (λ j. ShowsLawful b (record { words = set s.words (pool_word (size b) m t) (16 + length (words_of x.entry)); homes = set s.homes (pool_place m t) (some (Some (parcels.Change x))); views = set s.views j (Own m q b (Post t x.entry value stamp ∷ ds)) })) (sym here.0)
+        (subst (λ h. ShowsLawful b (record { words = set s.words (pool_word (size b) m t) (16 + length (words_of x.entry)); homes = set s.homes (pool_place m t) (some (Some (parcels.Change (record { entry = x.entry; home = h })))); views = set s.views (suc m) (Own m q b (Post t x.entry value stamp ∷ ds)) })) (sym may.home)
+        (post_keeps b s o m q ds (ap (get_elem? s.views) (sym here.0) ∙ at) here.1 t x value stamp may)),
     λ u y is front. let same : t ≡ u = omega arith in let z = first_change b k id m q ds c x y (pool_place m t) (pool_place m u) c c front in
-        ((λ i. (Own m q b (Post (same i) (z i).entry value ∷ ds), c)), subst (λ j. (view_by b m ds).taken m j ≡ None) same (taken_none b s o m q ds (ap (get_elem? s.views) (sym here.0) ∙ at) here.1 m t Empty (own_empty b s o m q ds (ap (get_elem? s.views) (sym here.0) ∙ at) here.1 t may.free) (λ p. cc p))),
+        ((λ i. (Own m q b (Post (same i) (z i).entry value stamp ∷ ds), c)), subst (λ j. (view_by b m ds).taken m j ≡ None) same (taken_none b s o m q ds (ap (get_elem? s.views) (sym here.0) ∙ at) here.1 m t Empty (own_empty b s o m q ds (ap (get_elem? s.views) (sym here.0) ∙ at) here.1 t may.free) (λ p. cc p))),
   )
 
   settle_allowed : (i : ℕ) → q.settled ≡ false → ((t : ℕ) → t < 8 → IsFree (view_by b m ds) t) → Allows (ShowsLawful b) k id (Own m q b ds, c) i (λ y. y) (tells_settle (step k i 0 0 none) (Own m q b ds, c))
@@ -232,14 +232,14 @@ module _ (key : Origin) (k id : ℕ) (me : SeatState) (mine : is_own me.0 ≡ tr
       (λ m q b ds at may. at_own_origin key b k id m q ds me.1 i (λ _. 2) (λ _. tells_take (step k i 2 0 none) (Own m q b ds, me.1) 2)
       (subst (λ j. Allows (ShowsLawful b) k id (Own m q b ds, me.1) j (λ _. 2) (λ _. tells_take (step k j 2 0 none) (Own m q b ds, me.1) 2)) (sym at) (take_allowed b k id m q ds me.1 a t may))) me.0 mine at may
 
-  pub post_owes : (i x t : ℕ) (y : Change) (value : List ℕ) (c : List (ℕ × Option Parcel)) → i ≡ pool_word (size (origin_in me.0)) (number_in me.0) t → x ≡ 16 + length (words_of y.entry) → me.1 ≡ (pool_place (number_in me.0) t, Some (parcels.Change y)) ∷ c
-      → MayPost (place_of (origin_in me.0)) (number_in me.0) (view_in me.0) t y value → Allows (ShowsLawful key) k id me i (λ _. x) (λ _. tells_post value (step k i x 0 none) me x)
-  post_owes i x t y value c at is out may = by_own (λ d. (l : List (ℕ × Option Parcel)) → i ≡ pool_word (size (origin_in d)) (number_in d) t → l ≡ (pool_place (number_in d) t, Some (parcels.Change y)) ∷ c → MayPost (place_of (origin_in d)) (number_in d) (view_in d) t y value → Allows (ShowsLawful key) k id (d, l) i (λ _. x) (λ _. tells_post value (step k i x 0 none) (d, l) x))
-      (λ m q b ds l at out may. at_own_origin key b k id m q ds l i (λ _. x) (λ _. tells_post value (step k i x 0 none) (Own m q b ds, l) x)
-      (subst (λ z. Allows (ShowsLawful b) k id (Own m q b ds, z) i (λ _. x) (λ _. tells_post value (step k i x 0 none) (Own m q b ds, z) x)) (sym out)
-      (subst (λ j. Allows (ShowsLawful b) k id (Own m q b ds, (pool_place m t, Some (parcels.Change y)) ∷ c) j (λ _. x) (λ _. tells_post value (step k j x 0 none) (Own m q b ds, (pool_place m t, Some (parcels.Change y)) ∷ c) x)) (sym at)
-      (subst (λ z. Allows (ShowsLawful b) k id (Own m q b ds, (pool_place m t, Some (parcels.Change y)) ∷ c) (pool_word (size b) m t) (λ _. z) (λ _. tells_post value (step k (pool_word (size b) m t) z 0 none) (Own m q b ds, (pool_place m t, Some (parcels.Change y)) ∷ c) z)) (sym is)
-      (post_allowed b k id m q ds c t y value may))))) me.0 mine me.1 at out may
+  pub post_owes : (i x t : ℕ) (y : Change) (value : List ℕ) (stamp : ℕ) (c : List (ℕ × Option Parcel)) → i ≡ pool_word (size (origin_in me.0)) (number_in me.0) t → x ≡ 16 + length (words_of y.entry) → me.1 ≡ (pool_place (number_in me.0) t, Some (parcels.Change y)) ∷ c
+      → MayPost (place_of (origin_in me.0)) (number_in me.0) (view_in me.0) t y value → Allows (ShowsLawful key) k id me i (λ _. x) (λ _. tells_post value stamp (step k i x 0 none) me x)
+  post_owes i x t y value stamp c at is out may = by_own (λ d. (l : List (ℕ × Option Parcel)) → i ≡ pool_word (size (origin_in d)) (number_in d) t → l ≡ (pool_place (number_in d) t, Some (parcels.Change y)) ∷ c → MayPost (place_of (origin_in d)) (number_in d) (view_in d) t y value → Allows (ShowsLawful key) k id (d, l) i (λ _. x) (λ _. tells_post value stamp (step k i x 0 none) (d, l) x))
+      (λ m q b ds l at out may. at_own_origin key b k id m q ds l i (λ _. x) (λ _. tells_post value stamp (step k i x 0 none) (Own m q b ds, l) x)
+      (subst (λ z. Allows (ShowsLawful b) k id (Own m q b ds, z) i (λ _. x) (λ _. tells_post value stamp (step k i x 0 none) (Own m q b ds, z) x)) (sym out)
+      (subst (λ j. Allows (ShowsLawful b) k id (Own m q b ds, (pool_place m t, Some (parcels.Change y)) ∷ c) j (λ _. x) (λ _. tells_post value stamp (step k j x 0 none) (Own m q b ds, (pool_place m t, Some (parcels.Change y)) ∷ c) x)) (sym at)
+      (subst (λ z. Allows (ShowsLawful b) k id (Own m q b ds, (pool_place m t, Some (parcels.Change y)) ∷ c) (pool_word (size b) m t) (λ _. z) (λ _. tells_post value stamp (step k (pool_word (size b) m t) z 0 none) (Own m q b ds, (pool_place m t, Some (parcels.Change y)) ∷ c) z)) (sym is)
+      (post_allowed b k id m q ds c t y value stamp may))))) me.0 mine me.1 at out may
 
   pub settle_owes : (i : ℕ) → is_settled me.0 ≡ false → ((t : ℕ) → t < 8 → IsFree (view_in me.0) t) → Allows (ShowsLawful key) k id me i (λ y. y) (tells_settle (step k i 0 0 none) me)
   settle_owes i fresh free = by_own (λ d. is_settled d ≡ false → ((t : ℕ) → t < 8 → IsFree (view_in d) t) → Allows (ShowsLawful key) k id (d, me.1) i (λ y. y) (tells_settle (step k i 0 0 none) (d, me.1)))

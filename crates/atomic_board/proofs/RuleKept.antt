@@ -198,10 +198,10 @@ module _ (b : Origin) (s : TableState) (o : ShowsLawful b s) (m : ℕ) (q : Hold
       (subst (IsReached b _) (sym (commit_shows (place_of b) o.holder o.slot o.mail (views_of b s.views) m))
       (step_reaches b (deeds_at s.views) o.holder o.slot o.mail m (Commit at) (commits w m) o.reached (record { member = near; whole = ap (λ (u : View). u.broken) known ∙ may.whole }, refl)))
 
-  pub doom_keeps : (x : ℕ) (ns : List EntryName) → x ≡ (get_or s.words (own_word m) 0 + 1) % 2 ^ 64 → MayDoom (place_of b) m (view_by b m ds) ns → ShowsLawful b (record { words = set s.words (own_word m) x; homes = s.homes; views = set s.views (suc m) (Own m q b (Doom ns ∷ ds)) })
-  doom_keeps x ns up may = calm (Doom ns) (own_word m) x o.holder (λ a u. pool_apart (own_word m) x a u (omega arith)) (λ a u. mail_apart (own_word m) x a u (omega arith)) (get_or-set_other s.words (own_word m) 0 x 0 (λ e. omega arith) ∙ o.fits.lock) o.fits.member (own_steps (Doom ns) x (λ n. refl) up)
+  pub doom_keeps : (x : ℕ) (ns : List EntryName) (stamp : ℕ) → x ≡ (get_or s.words (own_word m) 0 + 1) % 2 ^ 64 → MayDoom (place_of b) m (view_by b m ds) ns → ShowsLawful b (record { words = set s.words (own_word m) x; homes = s.homes; views = set s.views (suc m) (Own m q b (Doom ns stamp ∷ ds)) })
+  doom_keeps x ns stamp up may = calm (Doom ns stamp) (own_word m) x o.holder (λ a u. pool_apart (own_word m) x a u (omega arith)) (λ a u. mail_apart (own_word m) x a u (omega arith)) (get_or-set_other s.words (own_word m) 0 x 0 (λ e. omega arith) ∙ o.fits.lock) o.fits.member (own_steps (Doom ns stamp) x (λ n. refl) up)
       (subst (IsReached b _) (sym (doom_shows (place_of b) o.holder o.slot o.mail (views_of b s.views) m ns))
-      (step_reaches b (deeds_at s.views) o.holder o.slot o.mail m (Doom ns) (dooms w m ns) o.reached (record { member = near; dead = λ k i h. ap (λ (u : View). u.dead k i) known ∙ may.dead k i h }, refl)))
+      (step_reaches b (deeds_at s.views) o.holder o.slot o.mail m (Doom ns stamp) (dooms w m ns) o.reached (record { member = near; dead = λ k i h. ap (λ (u : View). u.dead k i) known ∙ may.dead k i h }, refl)))
 
   lock_is : (x : ℕ) → get_or (set s.words 0 x) 0 0 ≡ x
   lock_is x = let wide = o.fits.wide in get_or-set_same s.words 0 x 0 (let z : 0 < length s.words = omega (arith, wide) in z)
@@ -284,13 +284,13 @@ module _ (b : Origin) (s : TableState) (o : ShowsLawful b s) (m : ℕ) (q : Hold
   pub own_by : {X : Type 0} (k : ℕ) (g : View → X) → owner (place_of b) k ≡ m → g (views_of b s.views (owner (place_of b) k)) ≡ g (view_by b m ds)
   own_by k g own = ap (λ j. g (views_of b s.views j)) own ∙ ap g known
 
-  pub post_keeps : (t : ℕ) (c : Change) (value : List ℕ) → MayPost (place_of b) m (view_by b m ds) t c value
-      → ShowsLawful b (record { words = set s.words (pool_word (size b) m t) (16 + length (words_of c.entry)); homes = set s.homes (pool_place m t) (some (lies c.entry None)); views = set s.views (suc m) (Own m q b (Post t c.entry value ∷ ds)) })
-  post_keeps t c value may =
-      turn (Post t c.entry value) m t (16 + length (words_of c.entry)) (some (some (lies c.entry None))) (set s.homes (pool_place m t) (some (lies c.entry None))) (Posted c.entry) near may.slot
+  pub post_keeps : (t : ℕ) (c : Change) (value : List ℕ) (stamp : ℕ) → MayPost (place_of b) m (view_by b m ds) t c value
+      → ShowsLawful b (record { words = set s.words (pool_word (size b) m t) (16 + length (words_of c.entry)); homes = set s.homes (pool_place m t) (some (lies c.entry None)); views = set s.views (suc m) (Own m q b (Post t c.entry value stamp ∷ ds)) })
+  post_keeps t c value stamp may =
+      turn (Post t c.entry value stamp) m t (16 + length (words_of c.entry)) (some (some (lies c.entry None))) (set s.homes (pool_place m t) (some (lies c.entry None))) (Posted c.entry) near may.slot
       (length-set s.homes (pool_place m t) (some (lies c.entry None))) (home_set m t (some (lies c.entry None)) near may.slot) (λ k ne. set_else s.homes (pool_place m t) k (some (lies c.entry None)) ne) (refl, refl) (λ n. refl)
       (subst (IsReached b _) (sym (post_shows (place_of b) o.holder o.slot o.mail (views_of b s.views) m t c.entry value may.own))
-      (step_reaches b (deeds_at s.views) o.holder o.slot o.mail m (Post t c.entry value) (posts w m t c.entry value) o.reached (
+      (step_reaches b (deeds_at s.views) o.holder o.slot o.mail m (Post t c.entry value stamp) (posts w m t c.entry value) o.reached (
         record {
           slot = (near, may.slot);
           empty = own_empty t may.free;

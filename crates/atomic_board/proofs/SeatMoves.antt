@@ -137,11 +137,11 @@ after_taking x new m n a t e held seat d h near low less out is =
     }
 
 -- a seat that offered a change in an own slot, which stood in front
-pub after_posting : (x new : SeatData) (m n t : ℕ) (e : Entry) (value : List ℕ) (others : List ℕ) → IsSeat x m n → distinct (pool_place m t ∷ others) ≡ true → Holds (place_of (origin_in x)) m n (view_in x).pending (view_in x).taken (pool_place m t ∷ others) → m < n → t < 8
-    → (view_in x).pending e.key ≡ None → owner (place_of (origin_in x)) e.key ≡ m → (view_in x).taken m t ≡ None → new ≡ did (Post t e value) x
+pub after_posting : (x new : SeatData) (m n t : ℕ) (e : Entry) (value : List ℕ) (stamp : ℕ) (others : List ℕ) → IsSeat x m n → distinct (pool_place m t ∷ others) ≡ true → Holds (place_of (origin_in x)) m n (view_in x).pending (view_in x).taken (pool_place m t ∷ others) → m < n → t < 8
+    → (view_in x).pending e.key ≡ None → owner (place_of (origin_in x)) e.key ≡ m → (view_in x).taken m t ≡ None → new ≡ did (Post t e value stamp) x
     → Now x new (after_post t e value) m n × Holds (place_of (origin_in new)) m n (view_in new).pending (view_in new).taken others
-after_posting x new m n t e value others seat d h near less idle own no_hand is =
-    let o = now (Post t e value) (after_post t e value) (λ ns p m v. refl) x new m n seat is in (
+after_posting x new m n t e value stamp others seat d h near less idle own no_hand is =
+    let o = now (Post t e value stamp) (after_post t e value) (λ ns p m v. refl) x new m n seat is in (
       o,
       holds_by (place_of (origin_in x)) (place_of (origin_in new)) m n (put (view_in x).pending e.key (Some (record { entry = e; slot = Some t }))) (view_in new).pending (view_in x).taken (view_in new).taken others others
           (ap place_of o.base) (ap (λ (v : View). v.pending) o.view) (ap (λ (v : View). v.taken) o.view) refl
@@ -204,14 +204,14 @@ withdraw_pends (Own m q b ds) t e mine = (None, (λ z u is. cc is), refl, refl)
 withdraw_pends Spent t e mine = absurd (cc mine)
 
 -- a seat whose names vanished from the own log
-pub after_retiring : (ns : List EntryName) (me new : SeatState) (m n : ℕ) (held : List ℕ) → IsSeat me.0 m n → (numbers me.1 ≡ held) × (all_empty me.1 ≡ true) → Holds (place_of (origin_in me.0)) m n (view_in me.0).pending (view_in me.0).taken held → new ≡ (did (Retire ns) me.0, me.1) → Steady me.0 new m n held
-after_retiring ns me new m n held seat order h is = let same = ap (λ x. x.0) is in let base = ap origin_in same ∙ origin_did (Retire ns) me.0 in let calm = still me.0 seat.0 in record {
-  own = (ap is_own same ∙ (own_did (Retire ns) me.0 ∙ seat.0), ap number_in same ∙ (number_did (Retire ns) me.0 ∙ seat.1), ap size base ∙ seat.2, ap is_settled same ∙ (settled_did (Retire ns) me.0 ∙ seat.3), ap is_handless same ∙ (handless_did (Retire ns) me.0 ∙ seat.4));
+pub after_retiring : (ns : List EntryName) (stamp : ℕ) (me new : SeatState) (m n : ℕ) (held : List ℕ) → IsSeat me.0 m n → (numbers me.1 ≡ held) × (all_empty me.1 ≡ true) → Holds (place_of (origin_in me.0)) m n (view_in me.0).pending (view_in me.0).taken held → new ≡ (did (Retire ns stamp) me.0, me.1) → Steady me.0 new m n held
+after_retiring ns stamp me new m n held seat order h is = let same = ap (λ x. x.0) is in let base = ap origin_in same ∙ origin_did (Retire ns stamp) me.0 in let calm = still me.0 seat.0 in record {
+  own = (ap is_own same ∙ (own_did (Retire ns stamp) me.0 ∙ seat.0), ap number_in same ∙ (number_did (Retire ns stamp) me.0 ∙ seat.1), ap size base ∙ seat.2, ap is_settled same ∙ (settled_did (Retire ns stamp) me.0 ∙ seat.3), ap is_handless same ∙ (handless_did (Retire ns stamp) me.0 ∙ seat.4));
   order = (ap (λ x. numbers x.1) is ∙ order.0, ap (λ x. all_empty x.1) is ∙ order.1);
   holds = holds_by (place_of (origin_in me.0)) (place_of (origin_in new.0)) m n (view_in me.0).pending (view_in new.0).pending (view_in me.0).taken (view_in new.0).taken held held (ap place_of base) (ap (λ d. (view_in d).pending) same ∙ calm.0) (ap (λ d. (view_in d).taken) same ∙ calm.1) refl h;
   base = base;
 } where
-  still : (x : SeatData) → is_own x ≡ true → ((view_in (did (Retire ns) x)).pending ≡ (view_in x).pending) × ((view_in (did (Retire ns) x)).taken ≡ (view_in x).taken)
+  still : (x : SeatData) → is_own x ≡ true → ((view_in (did (Retire ns stamp) x)).pending ≡ (view_in x).pending) × ((view_in (did (Retire ns stamp) x)).taken ≡ (view_in x).taken)
   still (Store k b l) e = absurd (cc e)
   still (Own m q b ds) e = (refl, refl)
   still Spent e = absurd (cc e)

@@ -144,7 +144,7 @@ own_none false x y e = absurd (cc e)
 
 pub covers_by : (b : Origin) → Covers (names_of b) (began b) → (m : ℕ) (ds : List Deed) → CoversIn (names_by (names_of b) ds) (view_by b m ds)
 covers_by b all m [] = λ k n h e. all k n h (own_none (eqb (owner (place_of b) k) m) ((began b).present k n) h e)
-covers_by b all m (Post s e v ∷ ds) = covers_by b all m ds
+covers_by b all m (Post s e v at ∷ ds) = covers_by b all m ds
 covers_by b all m (Lock ∷ ds) = covers_by b all m ds
 covers_by b all m (Found x ∷ ds) = covers_by b all m ds
 covers_by b all m (Take a s e ∷ ds) = covers_by b all m ds
@@ -155,7 +155,7 @@ covers_by b all m (Fail a s ∷ ds) = covers_by b all m ds
 covers_by b all m (Finish s e h ∷ ds) = covers_more (alike (place_of b) (view_by b m ds)) (names_by (names_of b) ds) (covers_by b all m ds) e h
 covers_by b all m (GiveUp s e ∷ ds) = covers_by b all m ds
 covers_by b all m (Withdraw s e ∷ ds) = covers_by b all m ds
-covers_by b all m (Doom xs ∷ ds) = covers_by b all m ds
-covers_by b all m (Retire xs ∷ ds) = covers_less (alike (place_of b) (view_by b m ds)) (names_by (names_of b) ds) (covers_by b all m ds) (λ k n. eqb (owner (place_of b) k) m && has xs k n)
+covers_by b all m (Doom xs at ∷ ds) = covers_by b all m ds
+covers_by b all m (Retire xs at ∷ ds) = covers_less (alike (place_of b) (view_by b m ds)) (names_by (names_of b) ds) (covers_by b all m ds) (λ k n. eqb (owner (place_of b) k) m && has xs k n)
 covers_by b all m (Send to dead gone ∷ ds) = covers_by b all m ds
 covers_by b all m (Receive from dead gone ∷ ds) = covers_less (alike (place_of b) (view_by b m ds)) (names_by (names_of b) ds) (covers_by b all m ds) (λ k n. eqb (owner (place_of b) k) m && has gone k n)

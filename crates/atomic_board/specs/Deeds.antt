@@ -12,6 +12,7 @@ use Rattle.group_laws.specs.MemberViews.{View, view_of}
 use Rattle.group_board.specs.Views.{after_post, after_lock, after_find, after_take, after_unlock, after_commit, after_mark, after_fail, after_finish, after_give_up, after_withdraw, after_doom, after_retire, after_send, after_receive}
 use Rattle.group_board.specs.Journals.{image_of, place_in, names_in, name_of, kind_seen}
 use Rattle.group_board.specs.Tidies.{tidied}
+use Rattle.group_board.specs.Trails.{TrailStep, step_with}
 use Rattle.atomic_board.specs.declared.seat_data.Origin.{Origin}
 use Rattle.atomic_board.specs.declared.seat_data.Deed.{Deed}
 use Rattle.atomic_board.specs.declared.seat_data.Deed.TheVariants.{Post, Lock, Found, Take, Unlock, Commit, Mark, Fail, Finish, GiveUp, Withdraw, Doom, Retire, Send, Receive}
@@ -60,7 +61,7 @@ size b = members (place_of b)
 
 -- the names, with the one of the entry that the deed finished
 abbrev pub finished_by : Deed → List EntryName → List EntryName
-finished_by (Post s e v) ns = ns
+finished_by (Post s e v at) ns = ns
 finished_by Lock ns = ns
 finished_by (Found x) ns = ns
 finished_by (Take a s e) ns = ns
@@ -71,8 +72,8 @@ finished_by (Fail a s) ns = ns
 finished_by (Finish s e h) ns = name_of e ∷ ns
 finished_by (GiveUp s e) ns = ns
 finished_by (Withdraw s e) ns = ns
-finished_by (Doom xs) ns = ns
-finished_by (Retire xs) ns = ns
+finished_by (Doom xs at) ns = ns
+finished_by (Retire xs at) ns = ns
 finished_by (Send to dead gone) ns = ns
 finished_by (Receive from dead gone) ns = ns
 
@@ -98,7 +99,7 @@ CoversIn ns v = (k n h : ℕ) → v.present k n ≡ Some h → has ns k n ≡ tr
 
 -- what a deed makes of the view of m
 abbrev pub after_deed : List EntryName → Place → ℕ → Deed → View → View
-after_deed ns p m (Post s e value) v = after_post s e value v
+after_deed ns p m (Post s e value at) v = after_post s e value v
 after_deed ns p m Lock v = after_lock v
 after_deed ns p m (Found x) v = after_find x v
 after_deed ns p m (Take a s e) v = after_take a s e v
@@ -109,8 +110,8 @@ after_deed ns p m (Fail a s) v = after_fail a s v
 after_deed ns p m (Finish s e h) v = tidied_in ns p m (after_finish e h v)
 after_deed ns p m (GiveUp s e) v = tidied_in ns p m (after_give_up e v)
 after_deed ns p m (Withdraw s e) v = after_withdraw e v
-after_deed ns p m (Doom xs) v = after_doom xs v
-after_deed ns p m (Retire xs) v = tidied_in ns p m (after_retire p m xs v)
+after_deed ns p m (Doom xs at) v = after_doom xs v
+after_deed ns p m (Retire xs at) v = tidied_in ns p m (after_retire p m xs v)
 after_deed ns p m (Send to dead gone) v = after_send to (record { dead = dead; gone = gone }) v
 after_deed ns p m (Receive from dead gone) v = tidied_in ns p m
     (after_receive p m (record { dead = dead; gone = gone }) v)
@@ -122,7 +123,7 @@ view_by b m (d ∷ ds) = after_deed (names_by (names_of b) (d ∷ ds)) (place_of
 
 -- the step of the machine that a deed is
 abbrev pub kind_of : Deed → Kind
-kind_of (Post s e v) = Kind.Post s e v
+kind_of (Post s e v at) = Kind.Post s e v
 kind_of Lock = Kind.Lock
 kind_of (Found x) = kind_seen x
 kind_of (Take a s e) = Kind.Take a s
@@ -133,10 +134,15 @@ kind_of (Fail a s) = Kind.Fail a s
 kind_of (Finish s e h) = Kind.Finish s
 kind_of (GiveUp s e) = Kind.Finish s
 kind_of (Withdraw s e) = Kind.Withdraw s
-kind_of (Doom xs) = Kind.Doom xs
-kind_of (Retire xs) = Kind.Retire xs
+kind_of (Doom xs at) = Kind.Doom xs
+kind_of (Retire xs at) = Kind.Retire xs
 kind_of (Send to dead gone) = Kind.Send to (record { dead = dead; gone = gone })
 kind_of (Receive from dead gone) = Kind.Receive from
+
+-- the steps of m's deeds, the newest first, each with the view after it
+abbrev pub trail_by : Origin → ℕ → List Deed → List TrailStep
+trail_by b m [] = []
+trail_by b m (d ∷ ds) = step_with (kind_of d) (view_by b m (d ∷ ds)) ∷ trail_by b m ds
 
 -- the steps, the oldest first, of deeds of which the newest stands first
 abbrev pub steps_in : List (ℕ × Deed) → List (ℕ × Kind)
@@ -150,7 +156,7 @@ deeds_of (x ∷ xs) m = cond (eqb m x.0) (x.1 ∷ deeds_of xs m) (deeds_of xs m)
 
 -- what a deed makes of the number in the member's own word
 abbrev pub stepped_by : Deed → ℕ → ℕ
-stepped_by (Post s e v) n = n
+stepped_by (Post s e v at) n = n
 stepped_by Lock n = n
 stepped_by (Found x) n = n
 stepped_by (Take a s e) n = n
@@ -161,8 +167,8 @@ stepped_by (Fail a s) n = n
 stepped_by (Finish s e h) n = n
 stepped_by (GiveUp s e) n = n
 stepped_by (Withdraw s e) n = n
-stepped_by (Doom xs) n = (n + 1) % 2 ^ 64
-stepped_by (Retire xs) n = (n + 1) % 2 ^ 64
+stepped_by (Doom xs at) n = (n + 1) % 2 ^ 64
+stepped_by (Retire xs at) n = (n + 1) % 2 ^ 64
 stepped_by (Send to dead gone) n = n
 stepped_by (Receive from dead gone) n = n
 
@@ -171,9 +177,9 @@ abbrev pub own_number : List Deed → ℕ
 own_number [] = 0
 own_number (d ∷ ds) = stepped_by d (own_number ds)
 
--- the stamp of a commit
+-- the stamp of a step that is handed the region
 abbrev pub at_or : ℕ → Deed → ℕ
-at_or n (Post s e v) = n
+at_or n (Post s e v at) = at
 at_or n Lock = n
 at_or n (Found x) = n
 at_or n (Take a s e) = n
@@ -184,12 +190,12 @@ at_or n (Fail a s) = n
 at_or n (Finish s e h) = n
 at_or n (GiveUp s e) = n
 at_or n (Withdraw s e) = n
-at_or n (Doom xs) = n
-at_or n (Retire xs) = n
+at_or n (Doom xs at) = at
+at_or n (Retire xs at) = at
 at_or n (Send to dead gone) = n
 at_or n (Receive from dead gone) = n
 
--- the stamp at which the member's region stood at its newest commit
+-- the stamp at which the member's region stood that was handed to its newest such step
 abbrev pub committed_at : List Deed → ℕ
 committed_at [] = 0
 committed_at (d ∷ ds) = at_or (committed_at ds) d

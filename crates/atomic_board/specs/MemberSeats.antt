@@ -1,14 +1,14 @@
 -- What a member's seat says of its member.
-use Rattle.std.specs.Prelude.{◌≡◌, List, map}
+use Rattle.std.specs.Prelude.{◌≡◌, List}
 use Rattle.group_laws.specs.Places.{Place}
-use Rattle.group_laws.specs.Runs.{Kind}
 use Rattle.group_laws.specs.MemberViews.{View}
 use Rattle.group_board.specs.Seats.{SeatAt}
+use Rattle.group_board.specs.Trails.{TrailStep}
 use Rattle.atomic_board.specs.declared.seat_data.Origin.{Origin}
 use Rattle.atomic_board.specs.declared.seat_data.Deed.{Deed}
 use Rattle.atomic_board.specs.declared.member_seat.MemberSeat.{MemberSeat}
-use Rattle.atomic_board.specs.Deeds.{place_of, kind_of}
-use Rattle.atomic_board.specs.StepTells.{origin_in, view_in, done_in}
+use Rattle.atomic_board.specs.Deeds.{place_of}
+use Rattle.atomic_board.specs.StepTells.{origin_in, view_in, done_in, trail_in}
 
 -- what the member's group opened on
 abbrev pub origin_at : MemberSeat → Origin
@@ -25,9 +25,9 @@ view_at t = view_in t.seat.me.0
 abbrev pub done_at : MemberSeat → List Deed
 done_at t = done_in t.seat.me.0
 
--- the steps that the member made, the newest first
-abbrev pub trail_at : MemberSeat → List Kind
-trail_at t = map kind_of (done_at t)
+-- the steps that the member made, the newest first, each with its view after it
+abbrev pub trail_at : MemberSeat → List TrailStep
+trail_at t = trail_in t.seat.me.0
 
 -- where the seat is
 abbrev pub seat_of : MemberSeat → SeatAt

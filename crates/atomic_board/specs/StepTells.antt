@@ -10,6 +10,7 @@ use Rattle.group_laws.specs.declared.types.SlotWord.{SlotWord}
 use Rattle.group_laws.specs.declared.types.SlotWord.TheVariants as words
 use Rattle.group_laws.specs.declared.types.Seen.TheVariants as loads
 use Rattle.group_laws.specs.MemberViews.{View, view_of}
+use Rattle.group_board.specs.Trails.{TrailStep}
 use Rattle.group_board.specs.Views.{after_finish, after_give_up, after_retire, after_receive, TidiedIn}
 use Rattle.group_laws.specs.Places.{Place, owner}
 use Rattle.crash_core.specs.declared.kinds.Change.{Change}
@@ -22,7 +23,7 @@ use Rattle.atomic_board.specs.declared.seat_data.SeatData.{SeatData}
 use Rattle.atomic_board.specs.declared.seat_data.SeatData.TheVariants.{Store, Own, Spent}
 use Rattle.atomic_board.specs.declared.table_words.TheConstants.{EMPTY_MAILBOX, FREE_LOCK}
 use Rattle.atomic_board.specs.TableWords.{pool_word, pool_place, mail_word, mail_place, word_number, IsClearWord}
-use Rattle.atomic_board.specs.Deeds.{began, place_of, size, view_by}
+use Rattle.atomic_board.specs.Deeds.{began, place_of, size, view_by, trail_by}
 use Rattle.atomic_board.specs.ShownState.{lies, deeds_in, gripped, grip_at}
 use Rattle.atomic_board.specs.declared.seat_data.MailHold.{MailHold}
 use Rattle.crash_core.specs.declared.names.Notices.{Notices}
@@ -75,6 +76,12 @@ abbrev pub view_in : SeatData → View
 view_in (Store k b back) = view_of (began b) 0
 view_in (Own m q b ds) = view_by b m ds
 view_in Spent = view_of (began no_origin) 0
+
+-- the steps that the seat's member made, the newest first, each with its view after it
+abbrev pub trail_in : SeatData → List TrailStep
+trail_in (Store k b back) = []
+trail_in (Own m q b ds) = trail_by b m ds
+trail_in Spent = []
 
 -- what the member did, the newest first
 abbrev pub done_in : SeatData → List Deed
@@ -133,11 +140,11 @@ tells_take st m r n = (a t : ℕ) → t < SLOTS → st.word ≡ pool_word (size 
     × HasSpelling e
     × IsUnlogged (number_in m.0) a t (view_in m.0) e
 
-abbrev pub tells_post : List ℕ → Tells
-tells_post value st m r n = (t : ℕ) (c : Change) → st.word
+abbrev pub tells_post : List ℕ → ℕ → Tells
+tells_post value at st m r n = (t : ℕ) (c : Change) → st.word
     ≡ pool_word (size (origin_in m.0)) (number_in m.0) t
     → m.1 ≡ (pool_place (number_in m.0) t, Some (parcels.Change c)) ∷ rest m.1
-    → (n ≡ (did (Post t c.entry value) m.0, rest m.1))
+    → (n ≡ (did (Post t c.entry value at) m.0, rest m.1))
     × ((view_in m.0).taken (number_in m.0) t ≡ None)
 
 -- all slots are given back; the group opened on this
@@ -205,11 +212,11 @@ tells_withdraw st m r n = (t : ℕ) → t < SLOTS → st.word
     → (e : Entry) × (n ≡ (did (Withdraw t e) m.0, (pool_place (number_in m.0) t, lies e None) ∷ m.1))
     × Stands (place_of (origin_in m.0)) (number_in m.0) (view_in m.0) t e
 
-abbrev pub tells_doom : List EntryName → Tells
-tells_doom ns st m r n = n ≡ (did (Doom ns) m.0, m.1)
+abbrev pub tells_doom : List EntryName → ℕ → Tells
+tells_doom ns at st m r n = n ≡ (did (Doom ns at) m.0, m.1)
 
-abbrev pub tells_retire : List EntryName → Tells
-tells_retire ns st m r n = (n ≡ (did (Retire ns) m.0, m.1))
+abbrev pub tells_retire : List EntryName → ℕ → Tells
+tells_retire ns at st m r n = (n ≡ (did (Retire ns at) m.0, m.1))
     × TidiedIn (place_of (origin_in m.0)) (number_in m.0)
     (after_retire (place_of (origin_in m.0)) (number_in m.0) ns (view_in m.0)) (view_in n.0)
 

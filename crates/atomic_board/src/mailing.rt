@@ -4,6 +4,7 @@ ghost use Rattle.group_laws.specs.declared.types.Seen.TheVariants as loads;
 ghost use Rattle.crash_core.specs.declared.names.Notices.{Notices as NoticesData};
 ghost use Rattle.crash_core.specs.Shows.{notices_of};
 ghost use Rattle.group_laws.specs.Runs as runs;
+ghost use Rattle.group_board.specs.Trails.{step_with};
 ghost use Rattle.group_board.specs.Views.{after_find, after_send, after_receive, TidiedIn};
 ghost use Rattle.group_board.specs.Conditions.{MaySend, MayReceive};
 ghost use Rattle.group_board.specs.Assurances.{IsHeard};
@@ -62,10 +63,13 @@ impl MemberSeat {
         requires may { MaySend (place_at self.old) self.old.member (view_at self.old) to
             (notices_of notices) }
         ensures made { MatchResult result
-            (λ _. trail_at self.new ≡ runs.Kind.Send to (notices_of notices)
-            ∷ runs.Kind.LookMail self.old.member to ∷ trail_at self.old)
-            (λ full. trail_at self.new
-            ≡ runs.Kind.LookMail self.old.member to ∷ trail_at self.old) }
+            (λ _. trail_at self.new
+            ≡ step_with (runs.Kind.Send to (notices_of notices)) (view_at self.new)
+            ∷ step_with (runs.Kind.LookMail self.old.member to)
+            (after_find (loads.Mail self.old.member to false) (view_at self.old))
+            ∷ trail_at self.old)
+            (λ full. trail_at self.new ≡ step_with (runs.Kind.LookMail self.old.member to)
+            (view_at self.new) ∷ trail_at self.old) }
         ensures same { Stays self.old self.new }
         ensures back { IfErr result (λ full. full.notices ≡ notices) }
         ensures view { MatchResult result
@@ -88,9 +92,12 @@ impl MemberSeat {
         requires table { self.old.seat.table_id ≡ shared.now.table_id }
         requires may { MayReceive (place_at self.old) self.old.member from }
         ensures made { MatchOption result
-            (trail_at self.new ≡ runs.Kind.LookMail from self.old.member ∷ trail_at self.old)
-            (λ notices. trail_at self.new ≡ runs.Kind.Receive from
-            ∷ runs.Kind.LookMail from self.old.member ∷ trail_at self.old) }
+            (trail_at self.new ≡ step_with (runs.Kind.LookMail from self.old.member)
+            (view_at self.new) ∷ trail_at self.old)
+            (λ notices. trail_at self.new ≡ step_with (runs.Kind.Receive from) (view_at self.new)
+            ∷ step_with (runs.Kind.LookMail from self.old.member)
+            (after_find (loads.Mail from self.old.member true) (view_at self.old))
+            ∷ trail_at self.old) }
         ensures same { Stays self.old self.new }
         ensures heard { IfSome result
             (λ notices. IsHeard (place_at self.old) self.old.member from (view_at self.old)

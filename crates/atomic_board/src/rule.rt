@@ -101,10 +101,15 @@ impl Play<Option<Parcel>, SeatData> for Takes {
 /// The bytes behind a posted entry's pointer. The proof of the call picks them.
 pub trait Value {
     ghost value: { List ℕ };
+
+    // The stamp at which the region stands.
+    ghost at: { ℕ };
 }
 
 impl Value for Brand {
     ghost value = { [] };
+
+    ghost at = { 0 };
 }
 
 /// The store of Posted at an own pool word, with the change in its slot.
@@ -113,7 +118,7 @@ pub struct Posts<W> {
 }
 
 impl<W: Value> Play<Option<Parcel>, SeatData> for Posts<W> {
-    ghost then = { tells_post W.value };
+    ghost then = { tells_post W.value W.at };
 }
 
 /// The store of Done at a Taken pool word, with the change back in its slot.
@@ -147,10 +152,15 @@ impl Play<Option<Parcel>, SeatData> for Withdraws {
 /// The names of a step of cleaning. The proof of the call picks them.
 pub trait Named {
     ghost names: { List EntryName };
+
+    // The stamp at which the region stands.
+    ghost at: { ℕ };
 }
 
 impl Named for Brand {
     ghost names = { [] };
+
+    ghost at = { 0 };
 }
 
 /// The step up of the own word's count from which on these names may vanish.
@@ -159,7 +169,7 @@ pub struct Dooms<W> {
 }
 
 impl<W: Named> Play<Option<Parcel>, SeatData> for Dooms<W> {
-    ghost then = { tells_doom W.names };
+    ghost then = { tells_doom W.names W.at };
 }
 
 /// The step up of the own word's count by which these names have vanished.
@@ -168,7 +178,7 @@ pub struct Retires<W> {
 }
 
 impl<W: Named> Play<Option<Parcel>, SeatData> for Retires<W> {
-    ghost then = { tells_retire W.names };
+    ghost then = { tells_retire W.names W.at };
 }
 
 /// A load of the word of a mailbox from this member. Where it is empty, its slot is in hand then.

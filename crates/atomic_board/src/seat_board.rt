@@ -33,8 +33,8 @@ impl<'a> Board for CoreSeat<'a> {
         self.own.members
     }
 
-    fn post(&mut self, slot: u32, change: Change, value: &[u8]) {
-        self.own.post(self.shared, slot, change, value);
+    fn post<R: Region>(&mut self, region: &R, slot: u32, change: Change, value: &[u8]) {
+        self.own.post(self.shared, region, slot, change, value);
     }
 
     fn try_lock(&mut self) -> Result<(), Busy> {
@@ -73,12 +73,12 @@ impl<'a> Board for CoreSeat<'a> {
         self.own.withdraw(self.shared, slot)
     }
 
-    fn doom(&mut self, names: &[EntryName]) {
-        self.own.doom(self.shared, names);
+    fn doom<R: Region>(&mut self, region: &R, names: &[EntryName]) {
+        self.own.doom(self.shared, region, names);
     }
 
-    fn retire(&mut self, names: &[EntryName]) {
-        self.own.retire(self.shared, names);
+    fn retire<R: Region>(&mut self, region: &R, names: &[EntryName]) {
+        self.own.retire(self.shared, region, names);
     }
 
     fn send(&mut self, to: u32, notices: Notices) -> Result<(), MailFull> {

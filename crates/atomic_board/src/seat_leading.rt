@@ -8,6 +8,7 @@ ghost use Rattle.group_laws.specs.declared.types.SlotWord.TheVariants as words;
 ghost use Rattle.group_laws.specs.declared.types.Seen.TheVariants as loads;
 ghost use Rattle.group_laws.specs.Runs as runs;
 ghost use Rattle.pm_region.specs.State.{State};
+ghost use Rattle.group_board.specs.Trails.{step_with};
 ghost use Rattle.group_board.specs.Views.{after_post, after_lock, after_find, after_take, after_unlock, after_commit};
 ghost use Rattle.group_board.specs.Assurances.{IsUnlogged};
 ghost use Rattle.group_board.specs.Conditions.{MayPost, MayLock, MayLook, MayTake, MayUnlock, MayCommit};
@@ -64,14 +65,22 @@ pub(crate) fn unpacked(parcel: Option<Parcel>) -> Change
     change
 }
 
-// The store that posts. The proof of the call picks the bytes behind the entry's pointer.
-fn offer<W: Value>(shared: &Common, seat: &mut CoreView, word: usize, new: u64, _value: &[u8])
+// The store that posts. The proof of the call picks the bytes behind the entry's pointer, and the stamp at which the
+// region stands.
+fn offer<W: Value, R: Region>(
+    shared: &Common,
+    seat: &mut CoreView,
+    word: usize,
+    new: u64,
+    _value: &[u8],
+    _region: &R,
+)
     requires { (seat.old.table_id ≡ shared.now.table_id) × (word < shared.now.table_id.words)
         × Allows (ShowsLawful shared.now.key.me.0) shared.now.table_id.slots seat.old.id
         seat.old.me word (λ _. new)
-        (λ _. tells_post W.value (step shared.now.table_id.slots word new 0 none) seat.old.me new) }
+        (λ _. tells_post W.value W.at (step shared.now.table_id.slots word new 0 none) seat.old.me new) }
     ensures { (seat.new.table_id ≡ seat.old.table_id) × (seat.new.id ≡ seat.old.id)
-        × tells_post W.value (step shared.now.table_id.slots word new 0 none) seat.old.me new
+        × tells_post W.value W.at (step shared.now.table_id.slots word new 0 none) seat.old.me new
         seat.new.me }
 {
     shared.store::<Posts<W>>(seat, word, new);
@@ -95,7 +104,8 @@ impl MemberSeat {
     pub(crate) fn commit<R: Region>(&mut self, shared: &Common, region: &R)
         requires table { self.old.seat.table_id ≡ shared.now.table_id }
         requires may { MayCommit (place_at self.old) self.old.member (view_at self.old) }
-        ensures made { trail_at self.new ≡ runs.Kind.Commit ∷ trail_at self.old }
+        ensures made { trail_at self.new
+            ≡ step_with runs.Kind.Commit (view_at self.new) ∷ trail_at self.old }
         ensures at { committed_at (done_at self.new) ≡ (R.state region.now).stamp }
         ensures same { Stays self.old self.new }
         ensures view { view_at self.new ≡ after_commit (view_at self.old) }
@@ -111,7 +121,8 @@ impl MemberSeat {
     pub(crate) fn unlock(&mut self, shared: &Common)
         requires table { self.old.seat.table_id ≡ shared.now.table_id }
         requires may { MayUnlock (place_at self.old) self.old.member (view_at self.old) }
-        ensures made { trail_at self.new ≡ runs.Kind.Unlock ∷ trail_at self.old }
+        ensures made { trail_at self.new
+            ≡ step_with runs.Kind.Unlock (view_at self.new) ∷ trail_at self.old }
         ensures same { Stays self.old self.new }
         ensures view { view_at self.new ≡ after_unlock (view_at self.old) }
     {
@@ -121,7 +132,8 @@ impl MemberSeat {
     pub(crate) fn try_lock(&mut self, shared: &Common) -> Result<(), Busy>
         requires table { self.old.seat.table_id ≡ shared.now.table_id }
         requires may { MayLock (place_at self.old) self.old.member (view_at self.old) }
-        ensures made { trail_at self.new ≡ runs.Kind.Lock ∷ trail_at self.old }
+        ensures made { trail_at self.new
+            ≡ step_with runs.Kind.Lock (view_at self.new) ∷ trail_at self.old }
         ensures same { Stays self.old self.new }
         ensures view { MatchResult result (λ _. view_at self.new ≡ after_lock (view_at self.old))
             (λ busy. view_at self.new ≡ after_find (loads.Holder busy.holder) (view_at self.old)) }
@@ -142,7 +154,8 @@ impl MemberSeat {
     pub(crate) fn look(&mut self, shared: &Common, member: u32, slot: u32) -> SlotState
         requires table { self.old.seat.table_id ≡ shared.now.table_id }
         requires may { MayLook (place_at self.old) self.old.member member slot }
-        ensures made { trail_at self.new ≡ runs.Kind.Look member slot ∷ trail_at self.old }
+        ensures made { trail_at self.new
+            ≡ step_with (runs.Kind.Look member slot) (view_at self.new) ∷ trail_at self.old }
         ensures same { Stays self.old self.new }
         ensures view { (word : SlotWord) × (state_of word ≡ result)
             × (view_at self.new ≡ after_find (loads.Slot member slot word) (view_at self.old)) }
@@ -155,7 +168,8 @@ impl MemberSeat {
     pub(crate) fn take(&mut self, shared: &Common, member: u32, slot: u32) -> Change
         requires table { self.old.seat.table_id ≡ shared.now.table_id }
         requires may { MayTake (place_at self.old) self.old.member (view_at self.old) member slot }
-        ensures made { trail_at self.new ≡ runs.Kind.Take member slot ∷ trail_at self.old }
+        ensures made { trail_at self.new
+            ≡ step_with (runs.Kind.Take member slot) (view_at self.new) ∷ trail_at self.old }
         ensures same { Stays self.old self.new }
         ensures change { result.home ≡ Option.None }
         ensures spelled { HasSpelling result.entry }
@@ -172,11 +186,20 @@ impl MemberSeat {
         unpacked(parcel)
     }
 
-    pub(crate) fn post(&mut self, shared: &Common, slot: u32, change: Change, value: &[u8])
+    pub(crate) fn post<R: Region>(
+        &mut self,
+        shared: &Common,
+        region: &R,
+        slot: u32,
+        change: Change,
+        value: &[u8],
+    )
         requires table { self.old.seat.table_id ≡ shared.now.table_id }
         requires may { MayPost (place_at self.old) self.old.member
             (view_at self.old) slot change value.now }
-        ensures made { trail_at self.new ≡ runs.Kind.Post slot change.entry value.now ∷ trail_at self.old }
+        ensures at { committed_at (done_at self.new) ≡ (R.state region.now).stamp }
+        ensures made { trail_at self.new
+            ≡ step_with (runs.Kind.Post slot change.entry value.now) (view_at self.new) ∷ trail_at self.old }
         ensures same { Stays self.old self.new }
         ensures view { view_at self.new ≡ after_post slot change.entry value.now
             (view_at self.old) }
@@ -186,7 +209,7 @@ impl MemberSeat {
         let words = POSTED_WORD + entry_words(&change.entry);
         bring(&mut self.seat, &mut self.held, place);
         let _ = shared.exchange(&mut self.seat, place, Some(Parcel::Change(change)));
-        offer::<Brand>(shared, &mut self.seat, pool_word, words, value);
+        offer::<Brand, _>(shared, &mut self.seat, pool_word, words, value, region);
         let _ = self.held.pop_front();
     }
 }

@@ -1,10 +1,12 @@
 // The calls that give changes back and take them back, and those of cleaning on the own log.
 ghost use Rattle.std.specs.Prelude.{◌≡◌, ◌∷◌, ℕ, ◌+◌, ◌%◌, ◌^◌, ◌<◌, true, None, Some, Option, MatchOption, IfSome};
 ghost use Rattle.log_entry.specs.declared.entry.EntryName.{EntryName};
+ghost use Rattle.pm_region.specs.State.{State};
 ghost use Rattle.store_image.specs.Facts.{In};
 ghost use Rattle.group_laws.specs.declared.types.SlotWord.TheVariants as words;
 ghost use Rattle.group_laws.specs.declared.types.Seen.TheVariants as loads;
 ghost use Rattle.group_laws.specs.Runs as runs;
+ghost use Rattle.group_board.specs.Trails.{step_with};
 ghost use Rattle.group_board.specs.Views.{after_mark, after_fail, after_finish, after_give_up, after_withdraw, after_doom, after_retire, TidiedIn};
 ghost use Rattle.group_board.specs.Conditions.{MayMark, MayFail, MayFinish, MayWithdraw, MayDoom, MayRetire};
 ghost use Rattle.group_board.specs.Assurances.{IsHome};
@@ -12,7 +14,8 @@ ghost use mathlib.Core.Option.{none};
 ghost use Rattle.atomic_table.specs.Table.{Allows, step};
 ghost use Rattle.atomic_board.specs.ShownState.{ShowsLawful};
 ghost use Rattle.atomic_board.specs.StepTells.{tells_doom, tells_retire};
-ghost use Rattle.atomic_board.specs.MemberSeats.{trail_at, place_at, view_at, Stays};
+ghost use Rattle.atomic_board.specs.Deeds.{committed_at};
+ghost use Rattle.atomic_board.specs.MemberSeats.{done_at, trail_at, place_at, view_at, Stays};
 
 use crate::member_seat::{Common, MemberSeat};
 use crate::parcel::Parcel;
@@ -22,29 +25,42 @@ use crate::slot_order::bring;
 use crate::table_words::{DONE_WORD, EMPTY_WORD, FAILED_WORD};
 use crash_core::Change;
 use group_laws::group_sizes::LOCK_WORDS;
+use pm_region::Region;
 use log_entry::entry::EntryName;
 use std::marker::Brand;
 
-// The steps of cleaning. The proof of the call picks the names.
-fn dooms<W: Named>(shared: &Common, seat: &mut CoreView, word: usize, _names: &[EntryName])
+// The steps of cleaning. The proof of the call picks the names, and the stamp at which the region stands.
+fn dooms<W: Named, R: Region>(
+    shared: &Common,
+    seat: &mut CoreView,
+    word: usize,
+    _names: &[EntryName],
+    _region: &R,
+)
     requires { (seat.old.table_id ≡ shared.now.table_id) × (word < shared.now.table_id.words)
         × Allows (ShowsLawful shared.now.key.me.0) shared.now.table_id.slots seat.old.id
         seat.old.me word (λ n. (n + 1) % 2 ^ 64)
-        (tells_doom W.names (step shared.now.table_id.slots word 1 0 none) seat.old.me) }
+        (tells_doom W.names W.at (step shared.now.table_id.slots word 1 0 none) seat.old.me) }
     ensures { (seat.new.table_id ≡ seat.old.table_id) × (r : ℕ)
-        × tells_doom W.names (step shared.now.table_id.slots word 1 0 none) seat.old.me r
+        × tells_doom W.names W.at (step shared.now.table_id.slots word 1 0 none) seat.old.me r
         seat.new.me }
 {
     shared.fetch_add::<Dooms<W>>(seat, word, 1);
 }
 
-fn retires<W: Named>(shared: &Common, seat: &mut CoreView, word: usize, _names: &[EntryName])
+fn retires<W: Named, R: Region>(
+    shared: &Common,
+    seat: &mut CoreView,
+    word: usize,
+    _names: &[EntryName],
+    _region: &R,
+)
     requires { (seat.old.table_id ≡ shared.now.table_id) × (word < shared.now.table_id.words)
         × Allows (ShowsLawful shared.now.key.me.0) shared.now.table_id.slots seat.old.id
         seat.old.me word (λ n. (n + 1) % 2 ^ 64)
-        (tells_retire W.names (step shared.now.table_id.slots word 1 0 none) seat.old.me) }
+        (tells_retire W.names W.at (step shared.now.table_id.slots word 1 0 none) seat.old.me) }
     ensures { (seat.new.table_id ≡ seat.old.table_id) × (r : ℕ)
-        × tells_retire W.names (step shared.now.table_id.slots word 1 0 none) seat.old.me r
+        × tells_retire W.names W.at (step shared.now.table_id.slots word 1 0 none) seat.old.me r
         seat.new.me }
 {
     shared.fetch_add::<Retires<W>>(seat, word, 1);
@@ -56,7 +72,8 @@ impl MemberSeat {
         requires table { self.old.seat.table_id ≡ shared.now.table_id }
         requires may { MayMark (place_at self.old) self.old.member
             (view_at self.old) member slot change.entry }
-        ensures made { trail_at self.new ≡ runs.Kind.Mark member slot ∷ trail_at self.old }
+        ensures made { trail_at self.new
+            ≡ step_with (runs.Kind.Mark member slot) (view_at self.new) ∷ trail_at self.old }
         ensures same { Stays self.old self.new }
         ensures view { view_at self.new ≡ after_mark member slot (view_at self.old) }
     {
@@ -77,7 +94,8 @@ impl MemberSeat {
         requires table { self.old.seat.table_id ≡ shared.now.table_id }
         requires may { MayFail (place_at self.old) self.old.member
             (view_at self.old) member slot change.entry }
-        ensures made { trail_at self.new ≡ runs.Kind.Fail member slot ∷ trail_at self.old }
+        ensures made { trail_at self.new
+            ≡ step_with (runs.Kind.Fail member slot) (view_at self.new) ∷ trail_at self.old }
         ensures same { Stays self.old self.new }
         ensures view { view_at self.new ≡ after_fail member slot (view_at self.old) }
     {
@@ -96,7 +114,8 @@ impl MemberSeat {
     pub(crate) fn finish(&mut self, shared: &Common, slot: u32) -> Change
         requires table { self.old.seat.table_id ≡ shared.now.table_id }
         requires may { MayFinish (place_at self.old) self.old.member (view_at self.old) slot }
-        ensures made { trail_at self.new ≡ runs.Kind.Finish slot ∷ trail_at self.old }
+        ensures made { trail_at self.new
+            ≡ step_with (runs.Kind.Finish slot) (view_at self.new) ∷ trail_at self.old }
         ensures same { Stays self.old self.new }
         ensures seen { MatchOption result.home
             (In (loads.Slot self.old.member slot words.Failed) (view_at self.old).looked)
@@ -123,7 +142,8 @@ impl MemberSeat {
     pub(crate) fn withdraw(&mut self, shared: &Common, slot: u32) -> Change
         requires table { self.old.seat.table_id ≡ shared.now.table_id }
         requires may { MayWithdraw (place_at self.old) self.old.member (view_at self.old) slot }
-        ensures made { trail_at self.new ≡ runs.Kind.Withdraw slot ∷ trail_at self.old }
+        ensures made { trail_at self.new
+            ≡ step_with (runs.Kind.Withdraw slot) (view_at self.new) ∷ trail_at self.old }
         ensures same { Stays self.old self.new }
         ensures change { result.home ≡ Option.None }
         ensures pending { (view_at self.old).pending result.entry.key ≡ Option.Some
@@ -138,35 +158,41 @@ impl MemberSeat {
         unpacked(parcel)
     }
 
-    pub(crate) fn doom(&mut self, shared: &Common, names: &[EntryName])
+    pub(crate) fn doom<R: Region>(&mut self, shared: &Common, region: &R, names: &[EntryName])
         requires table { self.old.seat.table_id ≡ shared.now.table_id }
         requires may { MayDoom (place_at self.old) self.old.member (view_at self.old) names.now }
-        ensures made { trail_at self.new ≡ runs.Kind.Doom names.now ∷ trail_at self.old }
+        ensures at { committed_at (done_at self.new) ≡ (R.state region.now).stamp }
+        ensures made { trail_at self.new
+            ≡ step_with (runs.Kind.Doom names.now) (view_at self.new) ∷ trail_at self.old }
         ensures same { Stays self.old self.new }
         ensures view { view_at self.new ≡ after_doom names.now (view_at self.old) }
     {
-        dooms::<Brand>(
+        dooms::<Brand, _>(
             shared,
             &mut self.seat,
             LOCK_WORDS as usize + self.member as usize,
             names,
+            region,
         );
     }
 
-    pub(crate) fn retire(&mut self, shared: &Common, names: &[EntryName])
+    pub(crate) fn retire<R: Region>(&mut self, shared: &Common, region: &R, names: &[EntryName])
         requires table { self.old.seat.table_id ≡ shared.now.table_id }
         requires may { MayRetire (place_at self.old) self.old.member (view_at self.old) names.now }
-        ensures made { trail_at self.new ≡ runs.Kind.Retire names.now ∷ trail_at self.old }
+        ensures at { committed_at (done_at self.new) ≡ (R.state region.now).stamp }
+        ensures made { trail_at self.new
+            ≡ step_with (runs.Kind.Retire names.now) (view_at self.new) ∷ trail_at self.old }
         ensures same { Stays self.old self.new }
         ensures view { TidiedIn (place_at self.old) self.old.member
             (after_retire (place_at self.old) self.old.member names.now (view_at self.old))
             (view_at self.new) }
     {
-        retires::<Brand>(
+        retires::<Brand, _>(
             shared,
             &mut self.seat,
             LOCK_WORDS as usize + self.member as usize,
             names,
+            region,
         );
     }
 }

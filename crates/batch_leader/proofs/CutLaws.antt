@@ -4,6 +4,7 @@ use Rattle.pm_region.specs.State.{State, IsTold, IsTelling, cell_now}
 use Rattle.group_laws.specs.Runs.{Kind}
 use Rattle.group_laws.specs.MemberViews.{View}
 use Rattle.group_board.specs.Seats.{SeatAt}
+use Rattle.group_board.specs.Trails.{TrailStep}
 use Rattle.licence.specs.Licence.{Licensed}
 use Rattle.batch_leader.specs.Persisting.{StaysLicensed, IsLicensedNow}
 use Rattle.batch_leader.specs.TurnSteps.{Trail, is_load, is_handed, StandsAt, StandsAtLast, TurnSteps, since}
@@ -22,5 +23,5 @@ after_step s t seat u k x stands step exit i told low = by (is_handed k) Rattle.
   by true e = at_last t seat u exit i told (subst (λ y. y ≤ i) (stands.handed e) (subst (λ c. cond c x.at s.stamp ≤ i) e low))
   by false e = at_last t seat u exit i told (subst (λ y. y ≤ i) (ap (λ (z : State). z.stamp) (sym (stands.alone step e))) (subst (λ c. cond c x.at s.stamp ≤ i) e low))
 
-pub after_turn : (s t : State) (seat : SeatAt) (u : View) (old x : Trail) (turn : TurnSteps s t old x) (k : Kind) (ks : List Kind) → turn.made ≡ k ∷ ks → is_load k ≡ false → IsLicensedNow t seat u → (i : ℕ) → IsTold t i → since k s x ≤ i → Licensed seat.place seat.number u (t.cells i)
-after_turn s t seat u old x turn k ks is step exit i told low = after_step s t seat u k x (subst (λ l. StandsAtLast l s t x) is turn.last) step exit i told low
+pub after_turn : (s t : State) (seat : SeatAt) (v u : View) (old x : Trail) (passes : Bool) (turn : TurnSteps passes s t v u old x) (k : TrailStep) (ks : List TrailStep) → turn.made ≡ k ∷ ks → is_load k.kind ≡ false → IsLicensedNow t seat u → (i : ℕ) → IsTold t i → since k.kind s x ≤ i → Licensed seat.place seat.number u (t.cells i)
+after_turn s t seat v u old x passes turn k ks is step exit i told low = after_step s t seat u k.kind x (subst (λ l. StandsAtLast l s t x) is turn.last) step exit i told low

@@ -4,4 +4,5 @@ pub mod Steps
 pub mod SightLaws
 pub mod WithdrawLaws
 pub mod CutLaws
+pub mod TrailLaws
 pub mod Clients

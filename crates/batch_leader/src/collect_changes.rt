@@ -8,8 +8,11 @@ ghost use Rattle.group_laws.specs.declared.types.SlotWord.TheVariants as words;
 ghost use Rattle.group_laws.specs.Places.{members};
 ghost use Rattle.group_board.specs.Views.{after_unlock};
 ghost use Rattle.group_board.specs.Told.{Makes};
+ghost use Rattle.group_board.specs.Trails.{step_with};
 ghost use Rattle.batch_leader.specs.Leading.{Collects, Suits, Takes, Went, SawPassed, IsOver, steps_of, MakesAll, IsReleased, took, taken_by};
 ghost use Rattle.batch_leader.specs.Rounds.{fits, member_at, slot_at, round_end};
+ghost use Rattle.batch_leader.specs.TakenChanges.{MatchBool};
+ghost use Rattle.batch_leader.specs.TurnSteps.{OnlyLoads, LoadsThenOne};
 ghost use Rattle.batch_leader.specs.declared.states.Collected.TheVariants as answers;
 
 use crate::fitting::own_share;
@@ -53,6 +56,8 @@ impl Collecting {
         ensures takes { Takes room.now (B.seat board.old).number (B.view board.old)
             (B.view board.new)
             self.old self.new }
+        ensures step { B.trail board.new
+            ≡ step_with (runs.Kind.Take member slot) (B.view board.new) ∷ B.trail board.old }
         ensures whole { Makes (B.whole board.old) (B.seat board.old).number
             (runs.Kind.Take member slot) (B.whole board.new) (B.view board.new) }
     {
@@ -86,6 +91,10 @@ impl Collecting {
         ensures made { MakesAll (B.whole board.old)
             (steps_of result (B.seat board.old).number self.old self.new)
             (B.whole board.new) (B.seat board.old).number (B.view board.new) }
+        ensures steps { MatchBool result (LoadsThenOne (B.view board.old) (B.view board.new)
+            (B.trail board.old) (B.trail board.new))
+            (OnlyLoads (B.view board.old) (B.view board.new)
+            (B.trail board.old) (B.trail board.new)) }
     {
         let own = board.member();
         let member = member_at(own, self.at);
@@ -126,6 +135,11 @@ impl Collecting {
         ensures made { MakesAll (B.whole board.old)
             (steps_of (took result) (B.seat board.old).number self.old self.new)
             (B.whole board.new) (B.seat board.old).number (B.view board.new) }
+        ensures steps { MatchBool (took result)
+            (LoadsThenOne (B.view board.old) (B.view board.new)
+            (B.trail board.old) (B.trail board.new))
+            (OnlyLoads (B.view board.old) (B.view board.new)
+            (B.trail board.old) (B.trail board.new)) }
     {
         let end = SLOTS * board.members();
         'round: while self.changes.count() < MOST_ENTRIES && self.at < end {
@@ -144,6 +158,8 @@ impl Collecting {
         ensures seat { B.seat board.new ≡ B.seat board.old }
         ensures view { B.view board.new ≡ after_unlock (B.view board.old) }
         ensures released { IsReleased (B.seat board.old) (B.view board.new) self result }
+        ensures step { B.trail board.new
+            ≡ step_with runs.Kind.Unlock (B.view board.new) ∷ B.trail board.old }
         ensures whole { Makes (B.whole board.old) (B.seat board.old).number
             runs.Kind.Unlock (B.whole board.new) (B.view board.new) }
     {

@@ -3,6 +3,7 @@ ghost use Rattle.std.specs.Prelude.{◌≡◌, ◌≢◌, ℕ, true, false, [], 
 ghost use Rattle.group_laws.specs.Runs as runs;
 ghost use Rattle.batch_leader.specs.TakenChanges.{MatchBool, taken_in};
 ghost use Rattle.batch_leader.specs.Leading.{IsCertain, IsLost, MakesAll};
+ghost use Rattle.batch_leader.specs.TurnSteps.{LoadsThenOne};
 ghost use Rattle.batch_leader.specs.GivingBack.{GivesBack, marked, failed, marked_all, marks_of};
 
 use crate::batch_buffer::BatchBuffer;
@@ -19,6 +20,9 @@ impl Persisted {
         ensures gave { GivesBack result marked (λ a s. runs.Kind.Mark a s) (B.seat board.old).number
             (B.whole board.old) (B.whole board.new) (B.view board.old) (B.view board.new)
             self.old.left.taken.items self.new.left.taken.items }
+        ensures steps { MatchBool result (LoadsThenOne (B.view board.old) (B.view board.new)
+            (B.trail board.old) (B.trail board.new))
+            ((B.trail board.new ≡ B.trail board.old) × (B.view board.new ≡ B.view board.old)) }
     {
         match self.left.take_first() {
             None => false,
@@ -76,6 +80,9 @@ impl FailedBatch {
         ensures gave { GivesBack result failed (λ a s. runs.Kind.Fail a s) (B.seat board.old).number
             (B.whole board.old) (B.whole board.new) (B.view board.old) (B.view board.new)
             self.old.left.taken.items self.new.left.taken.items }
+        ensures steps { MatchBool result (LoadsThenOne (B.view board.old) (B.view board.new)
+            (B.trail board.old) (B.trail board.new))
+            ((B.trail board.new ≡ B.trail board.old) × (B.view board.new ≡ B.view board.old)) }
     {
         match self.left.take_first() {
             None => false,

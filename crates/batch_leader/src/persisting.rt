@@ -6,6 +6,7 @@ ghost use Rattle.core_log.specs.Entries.{AppendedBatch};
 ghost use Rattle.group_laws.specs.Runs as runs;
 ghost use Rattle.group_board.specs.Views.{after_commit};
 ghost use Rattle.group_board.specs.Told.{Makes};
+ghost use Rattle.group_board.specs.Trails.{step_with};
 ghost use Rattle.licence.specs.Licence.{IsLogOf};
 ghost use Rattle.licence.specs.Writes.{Begins};
 ghost use Rattle.batch_leader.specs.Leading.{IsBatchOf, IsCertain, IsLost};
@@ -98,7 +99,8 @@ impl Batch {
             runs.Kind.Commit (B.whole board.new) (B.view board.new))
             (λ _. B.whole board.new ≡ B.whole board.old) }
         ensures steps { MatchResult result
-            (λ _. (B.trail board.new ≡ runs.Kind.Commit ∷ B.trail board.old)
+            (λ _. (B.trail board.new
+            ≡ step_with runs.Kind.Commit (B.view board.new) ∷ B.trail board.old)
             × (B.at board.new ≡ (R.state region.new).stamp))
             (λ _. B.trail board.new ≡ B.trail board.old) }
         ensures cause { OnErr result (Faulted (R.state region.old) (R.state region.new)) }
@@ -155,7 +157,8 @@ impl Batch {
             runs.Kind.Commit (B.whole board.new) (B.view board.new))
             (λ _. B.whole board.new ≡ B.whole board.old) }
         ensures steps { MatchResult result
-            (λ _. (B.trail board.new ≡ runs.Kind.Commit ∷ B.trail board.old)
+            (λ _. (B.trail board.new
+            ≡ step_with runs.Kind.Commit (B.view board.new) ∷ B.trail board.old)
             × (B.at board.new ≡ (R.state region.new).stamp))
             (λ _. B.trail board.new ≡ B.trail board.old) }
         ensures cause { OnErr result (Faulted (R.state region.old) (R.state region.new)) }

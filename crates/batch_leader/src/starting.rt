@@ -1,11 +1,12 @@
 // Becoming the leader.
-ghost use Rattle.std.specs.Prelude.{◌≡◌, ◌≢◌, ◌<◌, ℕ, false, [], IfOk, IfErr, IfSome, MatchResult, Option};
+ghost use Rattle.std.specs.Prelude.{◌≡◌, ◌≢◌, ◌∷◌, ◌<◌, ℕ, false, [], IfOk, IfErr, IfSome, MatchResult, Option};
 ghost use Rattle.group_laws.specs.Places.{members};
 ghost use Rattle.group_laws.specs.Runs as runs;
 ghost use Rattle.group_laws.specs.declared.types.Seen.TheVariants as loads;
 ghost use Rattle.group_board.specs.Conditions.{MayLock};
 ghost use Rattle.group_board.specs.Views.{after_lock, after_find};
 ghost use Rattle.group_board.specs.Told.{Makes};
+ghost use Rattle.group_board.specs.Trails.{step_with};
 ghost use Rattle.batch_leader.specs.Leading.{Collects, taken_by};
 
 use crate::batch_buffer::BatchBuffer;
@@ -28,6 +29,8 @@ pub fn lead<B: Board>(board: &mut B, buffer: BatchBuffer) -> Result<Collecting, 
     ensures holder { IfErr result (λ busy. busy.holder < members (B.seat board.old).place) }
     ensures found { IfSome (B.whole board.old) (λ w. MatchResult result
         (λ _. w.holder ≡ Option.None) (λ busy. w.holder ≡ Option.Some busy.holder)) }
+    ensures step { B.trail board.new
+            ≡ step_with runs.Kind.Lock (B.view board.new) ∷ B.trail board.old }
     ensures whole { Makes (B.whole board.old) (B.seat board.old).number
         runs.Kind.Lock (B.whole board.new) (B.view board.new) }
 {

@@ -2,6 +2,7 @@
 ghost use Rattle.std.specs.Prelude.{◌≡◌, ◌≢◌, ℕ, ◌+◌, ◌<◌, ◌≤◌, true, false, [], IfSome, MatchOption, Option};
 ghost use Rattle.batch_leader.specs.Leading.{Collects, TakesBack, FindsNone, SawNonePosted, IsNotPosted, taken_by};
 ghost use Rattle.batch_leader.specs.TakenChanges.{MatchBool};
+ghost use Rattle.batch_leader.specs.TurnSteps.{OnlyLoads, LoadsThenOne};
 ghost use Rattle.group_board.specs.declared.board.SlotState.TheVariants as slots;
 
 use crate::states::Collecting;
@@ -36,6 +37,10 @@ impl Collecting {
         // Where it took nothing back, its view has what it loaded of each own slot.
         ensures seen { result ≡ Option.None → SawNonePosted (B.seat board.old).number
             (B.view board.old) (B.view board.new) SLOTS }
+        ensures steps { MatchOption result (OnlyLoads (B.view board.old) (B.view board.new)
+            (B.trail board.old) (B.trail board.new))
+            (λ _. LoadsThenOne (B.view board.old) (B.view board.new)
+            (B.trail board.old) (B.trail board.new)) }
     {
         let own = board.member();
         'slots: for slot in 0..SLOTS {

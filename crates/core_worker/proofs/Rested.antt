@@ -153,9 +153,9 @@ at_rest refused seat a b seen P posted found before mid after looks tried I H ha
       tried_as true f t = inr t
       tried_as false f t = inl (f, t)
 
-pub rests_by : (r : Result Turn Memory) (s : State) (refused : Bool) (seat : SeatAt) (a b : Moment) (seen : View) (P : PassesItems seat.number a 8 seen) (posted : Bool) → MatchBool posted (FindsPosted a.worker.places.items P.looked.found 8) (FindsPosted a.worker.places.items P.looked.found 8 → ⊥) → (before mid after : Option Group) → LooksMade before mid seat.number seen → IfIdle r (TriedIf posted seat.number mid after b.view)
-    → TurnedTo r s refused before seat a b → Holds seat.place seat.number b.view b.worker → (b.worker.winds_down ≡ false → b.worker.in_hand ≡ None) → Agrees seat.place seat.number a.view before → Agrees seat.place seat.number b.view after → IfSome after (λ w. ∥ Lawful w ∥₁)
+pub rests_by : (r : Result Turn Memory) (s t : State) (refused : Bool) (seat : SeatAt) (a b : Moment) (seen : View) (P : PassesItems seat.number a 8 seen) (posted : Bool) → MatchBool posted (FindsPosted a.worker.places.items P.looked.found 8) (FindsPosted a.worker.places.items P.looked.found 8 → ⊥) → (before mid after : Option Group) → LooksMade before mid seat.number seen → IfIdle r (TriedIf posted seat.number mid after b.view)
+    → TurnedTo r s t refused before seat a b → Holds seat.place seat.number b.view b.worker → (b.worker.winds_down ≡ false → b.worker.in_hand ≡ None) → Agrees seat.place seat.number a.view before → Agrees seat.place seat.number b.view after → IfSome after (λ w. ∥ Lawful w ∥₁)
     → IfIdle r (AtRest refused seat before after a.view b.view a.worker b.worker)
-rests_by (Ok Moved) s refused seat a b seen P posted found before mid after looks tried turned H hand entered left lawful = tt
-rests_by (Err memory) s refused seat a b seen P posted found before mid after looks tried turned H hand entered left lawful = tt
-rests_by (Ok Idle) s refused seat a b seen P posted found before mid after looks tried turned H hand entered left lawful = at_rest refused seat a b seen P posted found before mid after looks tried turned H hand entered left lawful
+rests_by (Ok Moved) s t refused seat a b seen P posted found before mid after looks tried turned H hand entered left lawful = tt
+rests_by (Err memory) s t refused seat a b seen P posted found before mid after looks tried turned H hand entered left lawful = tt
+rests_by (Ok Idle) s t refused seat a b seen P posted found before mid after looks tried turned H hand entered left lawful = at_rest refused seat a b seen P posted found before mid after looks tried turned.1 H hand entered left lawful

@@ -25,7 +25,7 @@ use Rattle.core_worker.specs.declared.types.Place.{Place}
 use Rattle.core_worker.specs.declared.worker.Worker.{Worker}
 use Rattle.core_worker.specs.OwnPlaces.{place_at, is_posted}
 use Rattle.core_worker.specs.Ties.{LeadsNothing}
-use Rattle.core_worker.specs.Turns.{PassesItems, IsBack, FindsPosted, looks_at, LooksMade}
+use Rattle.core_worker.specs.Turns.{PassesItems, IsBack, FoundBack, FindsPosted, looks_at, LooksMade}
 use Rattle.core_worker.specs.Searching.{Sees, is_given_back, is_out, shows_back, shows_out, Searched, Finds}
 use Rattle.core_worker.specs.declared.search_places.Search.TheVariants.{Out}
 
@@ -167,12 +167,12 @@ searched_on before mid after m ps v slot posted u t S (Some state) sees back =
 
 -- one was found given back, and none below it
 pub found_below : (before mid after : Option Group) (m : ℕ) (w : Worker) (v : View) (slot : ℕ) (posted : Bool) (u t : View) → LeadsNothing w → Searched before mid m w.places.items v slot posted u → (x : Option SlotState) → Sees m slot mid after u t (place_at w.places.items slot) x → shows_back x ≡ true
-    → (is_posted (place_at w.places.items slot) ≡ true) × PassesItems m (record { worker = w; view = v }) slot t × ((word : SlotWord) × IsBack word × In (Slot m slot word) t.looked)
+    → (is_posted (place_at w.places.items slot) ≡ true) × ((before : PassesItems m (record { worker = w; view = v }) slot t) × FoundBack m slot before.looked.looks)
 found_below before mid after m w v slot posted u t nothing S None sees back = absurd (cc back)
 found_below before mid after m w v slot posted u t nothing S (Some state) sees back = (
   sees.0,
   looked_below before mid after m w.places.items v slot posted u t S sees.1.0 sees.0 sees.1.2 sees.2 w refl nothing,
-  (sees.1.0, back_of sees.1.0 (ap is_given_back sees.1.1 ∙ back), seen_here before mid after m w.places.items v slot posted u t S sees.1.0 sees.0 sees.1.2 sees.2),
+  (sees.1.0, back_of sees.1.0 (ap is_given_back sees.1.1 ∙ back), In-append_right (Slot m slot sees.1.0) S.looks (Slot m slot sees.1.0 ∷ []) (inl refl)),
 )
 
 pub found_made : (before mid after : Option Group) (m : ℕ) (w : Worker) (v : View) (slot : ℕ) (posted : Bool) (u t : View) → LeadsNothing w → Searched before mid m w.places.items v slot posted u → (x : Option SlotState) → Sees m slot mid after u t (place_at w.places.items slot) x → shows_back x ≡ true → LooksMade before after m t

@@ -18,7 +18,7 @@ use Rattle.core_worker.specs.declared.types.Place.{Place}
 use Rattle.core_worker.specs.declared.search_places.Search.{Search}
 use Rattle.core_worker.specs.declared.search_places.Search.TheVariants.{Back, Out}
 use Rattle.core_worker.specs.OwnPlaces.{place_at, is_posted}
-use Rattle.core_worker.specs.Turns.{Moment, PassesItems, IsBack, FindsPosted, looks_at}
+use Rattle.core_worker.specs.Turns.{Moment, PassesItems, IsBack, FoundBack, FindsPosted, looks_at}
 
 -- the slot of a place is loaded where the place is posted
 abbrev pub Sees : ℕ → ℕ → Option Group → Option Group → View → View → Place → Option SlotState
@@ -66,7 +66,7 @@ pub record Searched (before after : Option Group) (m : ℕ) (ps : List Place) (v
 -- The lowest posted place that is given back, or none is; then also whether a change was found that nobody had taken.
 abbrev pub Finds : Search → ℕ → Moment → View → Type 0
 Finds (Back slot) m a u = (slot < SLOTS) × (is_posted (place_at a.worker.places.items slot) ≡ true)
-    × PassesItems m a slot u × ((word : SlotWord) × IsBack word × In (Slot m slot word) u.looked)
+    × ((before : PassesItems m a slot u) × FoundBack m slot before.looked.looks)
 Finds (Out posted) m a u = (before : PassesItems m a SLOTS u)
     × MatchBool posted (FindsPosted a.worker.places.items before.looked.found SLOTS)
     (FindsPosted a.worker.places.items before.looked.found SLOTS → ⊥)

@@ -21,6 +21,7 @@ use Rattle.core_worker.specs.declared.choose_item.Choice.{Choice}
 use Rattle.core_worker.specs.declared.choose_item.Choice.TheVariants.{Pass, Drop, Post}
 use Rattle.core_worker.specs.OwnPlaces.{is_staged, IsLowest}
 use Rattle.core_worker.specs.Turns.{Moment, InOrderAt, GoesRound, PersistsOrLoses, Marks, Fails, Finishes, Posts, LosesBlock, Locks, Idles, PassesItems, PassesPost, FindsPosted}
+use Rattle.core_worker.specs.Posting.{PointsNowhere}
 use Rattle.core_worker.specs.Stopping.{Drops, WithdrawsOrUnlocks}
 use Rattle.core_worker.specs.WorkerMoves.{Fixed, hands_of, WorkerMoves}
 
@@ -63,32 +64,34 @@ pub record DropsLowest (s : State) (m : ℕ) (a b : Moment) (all : Bool) : Type 
   pub drops : Drops s slot a.worker b.worker all
   pub view : b.view ≡ mid
 
--- The item of the order of work that a turn did. Where there was no memory for what waited of a key, `all` is false.
-pub data Did (s : State) (refused : Bool) (before : Option Group) (seat : SeatAt)
+-- The item of the order of work that a turn did. Where there was no memory for what waited of a key, `all` is false. All but those that write, which lose a write, or which post behind a block that was written, leave the region as it was.
+pub data Did (s t : State) (refused : Bool) (before : Option Group) (seat : SeatAt)
     (a b : Moment) : Type 0 where
-  goes_round : GoesRound before seat a b → Did s refused before seat a b
-  withdraws : (after : Option Group) (all : Bool) → WithdrawsOrUnlocks s seat before after a.view
-      b.view a.worker b.worker all → Did s refused before seat a b
-  writes : PersistsOrLoses b.worker.stopped seat.number a b → Did s refused before seat a b
-  marks : Marks a b → Did s refused before seat a b
-  fails : Fails a b → Did s refused before seat a b
-  finishes : (all : Bool) → Finishes s seat.place seat.number a b all
-      → Did s refused before seat a b
-  posts : Posts seat.number a b → Did s refused before seat a b
-  loses_block : LosesBlock seat.number a b → Did s refused before seat a b
-  drops : (all : Bool) → DropsLowest s seat.number a b all → Did s refused before seat a b
-  locks : Locks refused seat.number a b → Did s refused before seat a b
+  goes_round : t ≡ s → GoesRound before seat a b → Did s t refused before seat a b
+  withdraws : t ≡ s → (after : Option Group) (all : Bool) → WithdrawsOrUnlocks s seat before after
+      a.view b.view a.worker b.worker all → Did s t refused before seat a b
+  writes : PersistsOrLoses b.worker.stopped seat.number a b → Did s t refused before seat a b
+  marks : t ≡ s → Marks a b → Did s t refused before seat a b
+  fails : t ≡ s → Fails a b → Did s t refused before seat a b
+  finishes : t ≡ s → (all : Bool) → Finishes s seat.place seat.number a b all
+      → Did s t refused before seat a b
+  posts : (x : Posts seat.number a b) → (PointsNowhere x.entry.body → t ≡ s)
+      → Did s t refused before seat a b
+  loses_block : LosesBlock seat.number a b → Did s t refused before seat a b
+  drops : t ≡ s → (all : Bool) → DropsLowest s seat.number a b all
+      → Did s t refused before seat a b
+  locks : t ≡ s → Locks refused seat.number a b → Did s t refused before seat a b
 
 -- By what a turn answers, it did one of these, or nothing applied.
-abbrev pub Turned : Turn → State → Bool → Option Group → SeatAt → Moment → Moment → Type 0
-Turned Moved s refused before seat a b = Did s refused before seat a b
-Turned Idle s refused before seat a b = Idles refused seat.number a b
+abbrev pub Turned : Turn → State → State → Bool → Option Group → SeatAt → Moment → Moment → Type 0
+Turned Moved s t refused before seat a b = Did s t refused before seat a b
+Turned Idle s t refused before seat a b = (t ≡ s) × Idles refused seat.number a b
 
 -- the same where it may find no memory
-abbrev pub TurnedTo : Result Turn Memory → State → Bool → Option Group → SeatAt → Moment → Moment
-    → Type 0
-TurnedTo (Ok turn) s refused before seat a b = Turned turn s refused before seat a b
-TurnedTo (Err memory) s refused before seat a b = Did s refused before seat a b
+abbrev pub TurnedTo : Result Turn Memory → State → State → Bool → Option Group → SeatAt → Moment
+    → Moment → Type 0
+TurnedTo (Ok turn) s t refused before seat a b = Turned turn s t refused before seat a b
+TurnedTo (Err memory) s t refused before seat a b = Did s t refused before seat a b
 
 -- the core at entry, where some loads of the turn led to a view
 abbrev pub at_entry : Worker → View → Moment
@@ -101,9 +104,9 @@ Tells posted m w v mid = (before : PassesItems m (at_entry w v) SLOTS mid)
     (FindsPosted w.places.items before.looked.found SLOTS → ⊥)
 
 -- what there is to do with the staged changes
-abbrev pub Chooses : Choice → Bool → Worker → Type 0
-Chooses Pass refused w = PassesPost refused w
-Chooses (Drop slot) refused w = IsLowest is_staged w.places.items slot × (slot < SLOTS)
+abbrev pub Chooses : Choice → Bool → Bool → Worker → Type 0
+Chooses Pass refused passes w = PassesPost refused w
+Chooses (Drop slot) refused passes w = IsLowest is_staged w.places.items slot × (slot < SLOTS)
     × (w.stopped ≡ true) × (w.winds_down ≡ false)
-Chooses (Post slot) refused w = IsLowest is_staged w.places.items slot × (slot < SLOTS)
-    × (w.stopped ≡ false) × (w.winds_down ≡ false)
+Chooses (Post slot) refused passes w = IsLowest is_staged w.places.items slot × (slot < SLOTS)
+    × (w.stopped ≡ false) × (w.winds_down ≡ false) × (passes ≡ true)

@@ -241,11 +241,16 @@ pub record PassesItems (m : ℕ) (a : Moment) (upto : ℕ) (v : View) : Type 0 w
   pub none : (s : ℕ) → s < upto → is_posted (place_at a.worker.places.items s) ≡ true
       → IsBack (looked.found s) → ⊥
 
--- Item 4: the lowest posted place that is found given back is finished, and then the key's waiting requests are begun; `all` where there was memory for it.
+-- some loads found the slot given back
+abbrev pub FoundBack : ℕ → ℕ → List Seen → Type 0
+FoundBack m slot looks = (word : SlotWord) × IsBack word × In (Slot m slot word) looks
+
+-- Item 4: the lowest posted place that this turn's own load found given back is finished, and then the key's waiting requests are begun; `all` where there was memory for it.
 pub record Finishes (s : State) (p : Place) (m : ℕ) (a b : Moment) (all : Bool) : Type 0 where
   pub slot : ℕ
   pub mid : View
   pub before : PassesItems m a slot mid
+  pub back : FoundBack m slot before.looked.looks
   pub finishes : FinishesSlot s p m slot mid b.view a.worker b.worker all
 
 -- Item 5: the lowest staged place writes its block, where it has one, and posts.

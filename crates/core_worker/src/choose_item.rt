@@ -61,7 +61,7 @@ impl Worker {
     // What there is to do with the staged change in a place. The gate is asked before a post, and of nothing else.
     fn choose_at<G: Gate>(&self, gate: &G, slot: u32) -> Choice
         requires lowest { IsLowest is_staged self.now.places.items slot × (slot < SLOTS) }
-        ensures { Chooses result (G.may_refuse gate.now) self.now }
+        ensures { Chooses result (G.may_refuse gate.now) (G.may_pass gate.now) self.now }
     {
         if self.winds_down {
             return Choice::Pass;
@@ -78,7 +78,7 @@ impl Worker {
     // What there is to do with the lowest staged change.
     pub(crate) fn choose<G: Gate>(&self, gate: &G) -> Choice
         requires eight { length self.now.places.items ≡ SLOTS }
-        ensures { Chooses result (G.may_refuse gate.now) self.now }
+        ensures { Chooses result (G.may_refuse gate.now) (G.may_pass gate.now) self.now }
     {
         match lowest_staged(&self.places) {
             Some(slot) => self.choose_at(gate, slot),

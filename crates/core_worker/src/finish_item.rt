@@ -1,5 +1,5 @@
 // Taking posted changes back that their leader gave back.
-ghost use Rattle.std.specs.Prelude.{◌≡◌, ◌⊎◌, ℕ, ◌+◌, ◌<◌, true, false, length, is_ok, IfSome, Some, OnErr, OnOk};
+ghost use Rattle.std.specs.Prelude.{◌≡◌, ◌∷◌, ◌⊎◌, ℕ, ◌+◌, ◌<◌, true, false, length, is_ok, IfSome, Some, OnErr, OnOk};
 ghost use Rattle.core_worker.specs.Supplies.{HasKeptRoom};
 ghost use Rattle.pm_region.specs.State.{State};
 ghost use Rattle.store_image.specs.Facts.{In};
@@ -8,6 +8,7 @@ ghost use Rattle.group_laws.specs.Runs as runs;
 ghost use Rattle.group_laws.specs.declared.types.Seen.TheVariants as loads;
 ghost use Rattle.group_laws.specs.declared.types.SlotWord.TheVariants as words;
 ghost use Rattle.group_board.specs.Told.{Makes};
+ghost use Rattle.group_board.specs.Trails.{step_with};
 ghost use Rattle.core_worker.specs.Ties.{HoldsAt, LeadsNothing, StandsAt};
 ghost use Rattle.core_worker.specs.Turns.{InOrderAt};
 ghost use Rattle.core_index.specs.Index.{known_at, room_at};
@@ -113,6 +114,8 @@ impl Worker {
             (B.view board.old) (B.view board.new) self.old self.new result }
         ensures cause { StopsByFailed (B.whole board.old) (B.seat board.old).number
             self.old self.new }
+        ensures step { B.trail board.new
+            ≡ step_with (runs.Kind.Finish slot) (B.view board.new) ∷ B.trail board.old }
         ensures made { Makes (B.whole board.old) (B.seat board.old).number
             (runs.Kind.Finish slot) (B.whole board.new) (B.view board.new) }
     {
@@ -162,6 +165,8 @@ impl Worker {
         ensures awake { OnErr result (self.old.winds_down ≡ false) }
         ensures cause { StopsByFailed (B.whole board.old) (B.seat board.old).number
             self.old self.new }
+        ensures step { B.trail board.new
+            ≡ step_with (runs.Kind.Finish slot) (B.view board.new) ∷ B.trail board.old }
         ensures made { Makes (B.whole board.old) (B.seat board.old).number
             (runs.Kind.Finish slot) (B.whole board.new) (B.view board.new) }
         ensures less { Lowers (B.whole board.old) (B.whole board.new) self.old self.new }

@@ -15,7 +15,7 @@ ghost use Rattle.batch_leader.specs.declared.states.Persisted.{Persisted};
 ghost use Rattle.batch_leader.specs.declared.states.FailedBatch.{FailedBatch};
 ghost use Rattle.core_worker.specs.declared.types.Leading.TheVariants as leads;
 ghost use Rattle.batch_leader.specs.Persisting.{StaysLicensed, WritesPart};
-ghost use Rattle.batch_leader.specs.TurnSteps.{TurnSteps, trail_with};
+ghost use Rattle.batch_leader.specs.TurnSteps.{LoadsThenOne, TurnSteps, trail_with};
 ghost use Rattle.core_worker.specs.Ties.{HoldsAt, KeepsStanding, LeadsNothing, StandsAt};
 ghost use Rattle.core_worker.specs.Turns.{TriesLock, GoesRound, Marks, Fails, persisted_left, failed_left, led_by, TakesFor, Steps, MadeOrStops, PersistsOrLoses, unpledged, unpledged_if};
 ghost use Rattle.lazy_alloc.specs.Sets.{AreSets};
@@ -130,6 +130,8 @@ impl Worker {
             (B.view board.new) self.old self.new }
         ensures whole { Makes (B.whole board.old) (B.seat board.old).number runs.Kind.Lock
             (B.whole board.new) (B.view board.new) }
+        ensures steps { LoadsThenOne (B.view board.old) (B.view board.new)
+            (B.trail board.old) (B.trail board.new) }
     {
         match mem::replace(&mut self.leading, Leading::Between) {
             Leading::Nothing(buffer) => match lead(board, buffer) {
@@ -160,6 +162,10 @@ impl Worker {
         ensures marks { Marks (record { worker = self.old; view = B.view board.old })
             (record { worker = self.new; view = B.view board.new }) }
         ensures less { Lowers (B.whole board.old) (B.whole board.new) self.old self.new }
+        ensures steps { (passes : Bool) (s : State) → TurnSteps passes s s
+            (B.view board.old) (B.view board.new)
+            (trail_with (B.trail board.old) (B.at board.old))
+            (trail_with (B.trail board.new) (B.at board.new)) }
     {
         match mem::replace(&mut self.leading, Leading::Between) {
             Leading::Persisted(mut done) => {
@@ -184,6 +190,10 @@ impl Worker {
         ensures fails { Fails (record { worker = self.old; view = B.view board.old })
             (record { worker = self.new; view = B.view board.new }) }
         ensures less { Lowers (B.whole board.old) (B.whole board.new) self.old self.new }
+        ensures steps { (passes : Bool) (s : State) → TurnSteps passes s s
+            (B.view board.old) (B.view board.new)
+            (trail_with (B.trail board.old) (B.at board.old))
+            (trail_with (B.trail board.new) (B.at board.new)) }
     {
         match mem::replace(&mut self.leading, Leading::Between) {
             Leading::Failed(mut lost) => {
@@ -212,6 +222,10 @@ impl Worker {
             (record { worker = self.new; view = B.view board.new }) }
         ensures less { HasKeptRoom self.old → StartsFirst self.old
             → Lowers (B.whole board.old) (B.whole board.new) self.old self.new }
+        ensures steps { (passes : Bool) (s : State) → TurnSteps passes s s
+            (B.view board.old) (B.view board.new)
+            (trail_with (B.trail board.old) (B.at board.old))
+            (trail_with (B.trail board.new) (B.at board.new)) }
     {
         match mem::replace(&mut self.leading, Leading::Between) {
             Leading::Collecting(mut collecting) => match collecting.collect(board, room) {
@@ -246,7 +260,8 @@ impl Worker {
             (B.seat board.old).number (B.view board.old) (B.view board.new) }
         ensures cause { self.new.stopped ≡ true
             → Faulted (R.state region.old) (R.state region.new) }
-        ensures steps { TurnSteps (R.state region.old) (R.state region.new)
+        ensures steps { (passes : Bool) → TurnSteps passes (R.state region.old) (R.state region.new)
+            (B.view board.old) (B.view board.new)
             (trail_with (B.trail board.old) (B.at board.old))
             (trail_with (B.trail board.new) (B.at board.new)) }
         // The rule is one of a core that hasn't stopped.

@@ -21,6 +21,7 @@ ghost use Rattle.batch_leader.specs.Persisting.{StaysLicensed, WritesPart};
 ghost use Rattle.core_worker.specs.Ties.{HoldsAt, KeepsStanding, LeadsNothing, Stands, StandsAt};
 ghost use Rattle.core_worker.specs.Turns.{InOrderAt};
 ghost use Rattle.core_worker.specs.WorkerMoves.{hands_of, WorkerMoves};
+ghost use Rattle.batch_leader.specs.TurnSteps.{OneHanded, TurnSteps, trail_with};
 ghost use Rattle.core_worker.specs.Posting.{HasNoBlock, PostsPlain, IsStagedWith, WouldStand, PostsOrStops};
 
 use crate::types::Place;
@@ -145,7 +146,7 @@ impl Worker {
     }
 
     // Posts the change that is staged in a place and needs no block.
-    pub(crate) fn post_plain<B: Board>(&mut self, board: &mut B, slot: u32)
+    pub(crate) fn post_plain<R: Region, B: Board>(&mut self, region: &R, board: &mut B, slot: u32)
         requires holds { HoldsAt (B.seat board.old) (B.view board.old) self.old }
         requires runs { self.old.stopped ≡ false }
         requires nothing { LeadsNothing self.old }
@@ -158,6 +159,9 @@ impl Worker {
         ensures rule { HasKeptRoom self.old → HasKeptRoom self.new }
         ensures posts { PostsPlain (B.seat board.old).number (B.whole board.old)
             (B.whole board.new) (B.view board.old) (B.view board.new) self.old self.new slot }
+        ensures step { OneHanded (R.state region.now).stamp (B.view board.new)
+            (B.trail board.old)
+            (trail_with (B.trail board.new) (B.at board.new)) }
         ensures moves { (s : State) → StandsAt s (B.seat board.old) (B.view board.old) self.old
             → WorkerMoves (B.seat board.old).place (B.seat board.old).number s s
             (B.whole board.old) (B.whole board.new) (B.view board.old) (B.view board.new)
@@ -174,7 +178,7 @@ impl Worker {
                 let key = entry.key;
                 let lines = entry_lines(&entry);
                 let change = Change { entry, home: None };
-                board.post(slot, change, value.bytes());
+                board.post(region, slot, change, value.bytes());
                 let posted = Place::Posted { number, key, lines };
                 let _free = swap_place(&mut self.places, slot, posted);
             }
@@ -183,7 +187,13 @@ impl Worker {
     }
 
     // Posts the change that is staged in a place, whose block is written.
-    fn post_written<B: Board>(&mut self, board: &mut B, slot: u32, pointer: u64)
+    fn post_written<R: Region, B: Board>(
+        &mut self,
+        region: &R,
+        board: &mut B,
+        slot: u32,
+        pointer: u64,
+    )
         requires holds { HoldsAt (B.seat board.old) (B.view board.old) self.old }
         requires runs { self.old.stopped ≡ false }
         requires nothing { LeadsNothing self.old }
@@ -199,6 +209,9 @@ impl Worker {
         ensures rule { HasKeptRoom self.old → HasKeptRoom self.new }
         ensures posts { PostsPlain (B.seat board.old).number (B.whole board.old)
             (B.whole board.new) (B.view board.old) (B.view board.new) self.old self.new slot }
+        ensures step { OneHanded (R.state region.now).stamp (B.view board.new)
+            (B.trail board.old)
+            (trail_with (B.trail board.new) (B.at board.new)) }
     {
         match swap_place(&mut self.places, slot, Place::Free) {
             Place::Staged {
@@ -209,7 +222,7 @@ impl Worker {
                 let key = entry.key;
                 let lines = entry_lines(&entry);
                 let change = Change { entry, home: None };
-                board.post(slot, change, value.bytes());
+                board.post(region, slot, change, value.bytes());
                 let posted = Place::Posted { number, key, lines };
                 let _free = swap_place(&mut self.places, slot, posted);
             }
@@ -251,9 +264,13 @@ impl Worker {
             → InOrderAt (B.seat board.old) (B.view board.new) self.new }
         ensures cause { self.new.stopped ≡ true
             → Faulted (R.state region.old) (R.state region.new) }
+        ensures steps { TurnSteps true (R.state region.old) (R.state region.new)
+            (B.view board.old) (B.view board.new)
+            (trail_with (B.trail board.old) (B.at board.old))
+            (trail_with (B.trail board.new) (B.at board.new)) }
     {
         if self.write_staged(region, &*board, slot, pointer) {
-            self.post_written(board, slot, pointer);
+            self.post_written(&*region, board, slot, pointer);
         }
     }
 }

@@ -4,6 +4,7 @@ ghost use Rattle.group_laws.specs.Places.{members};
 ghost use Rattle.core_worker.specs.OwnPlaces.{place_at};
 ghost use Rattle.core_worker.specs.Ties.{HoldsAt, LeadsNothing};
 ghost use Rattle.core_worker.specs.Turns.{LooksMade};
+ghost use Rattle.batch_leader.specs.TurnSteps.{OnlyLoads};
 ghost use Rattle.core_worker.specs.Searching.{Sees, shows_back, shows_out, Finds};
 
 use crate::post_item::place_in;
@@ -28,6 +29,8 @@ fn look_place<B: Board>(places: &Vec<Place>, board: &mut B, slot: u32) -> Option
     ensures seat { B.seat board.new ≡ B.seat board.old }
     ensures sees { Sees (B.seat board.old).number slot (B.whole board.old) (B.whole board.new)
         (B.view board.old) (B.view board.new) (place_at places.now.items slot) result }
+    ensures steps { OnlyLoads (B.view board.old) (B.view board.new)
+            (B.trail board.old) (B.trail board.new) }
 {
     match place_in(places, slot) {
         Place::Posted { .. } => {
@@ -75,6 +78,8 @@ impl Worker {
             (record { worker = self.now; view = B.view board.old }) (B.view board.new) }
         ensures looks { LooksMade (B.whole board.old) (B.whole board.new)
             (B.seat board.old).number (B.view board.new) }
+        ensures steps { OnlyLoads (B.view board.old) (B.view board.new)
+            (B.trail board.old) (B.trail board.new) }
     {
         let mut posted = false;
         for slot in 0..SLOTS {

@@ -4,6 +4,7 @@ ghost use Rattle.batch_leader.specs.declared.states.Collecting.{Collecting};
 ghost use Rattle.pm_region.specs.State.{State};
 ghost use Rattle.core_index.specs.Records.{pointer_of};
 ghost use Rattle.lazy_alloc.specs.Sets.{AreSets, block_is_used};
+ghost use Rattle.batch_leader.specs.TurnSteps.{LoadsThenOne};
 ghost use Rattle.core_worker.specs.declared.types.Leading.TheVariants as leads;
 ghost use Rattle.core_worker.specs.OwnPlaces.{place_at, key_in, is_busy, is_free, is_of, is_staged};
 ghost use Rattle.core_worker.specs.Refusals.{HasAnswerRoom};
@@ -170,6 +171,8 @@ impl Worker {
             (B.view board.old) (B.view board.new) self.old self.new) }
         ensures less { result ≡ None
             → Lowers (B.whole board.old) (B.whole board.new) self.old self.new }
+        ensures steps { LoadsThenOne (B.view board.old) (B.view board.new)
+            (B.trail board.old) (B.trail board.new) }
     {
         match mem::replace(&mut self.leading, Leading::Between) {
             Leading::Collecting(mut collecting) => match collecting.withdraw_own(board) {
@@ -213,6 +216,8 @@ impl Worker {
         ensures awake { OnErr result (self.old.winds_down ≡ false) }
         ensures made { Steps (B.whole board.old) (B.whole board.new) (B.seat board.old).number
             (B.view board.new) }
+        ensures steps { LoadsThenOne (B.view board.old) (B.view board.new)
+            (B.trail board.old) (B.trail board.new) }
         ensures less { Lowers (B.whole board.old) (B.whole board.new) self.old self.new }
         ensures works { OnOk result (self.new.winds_down ≡ self.old.winds_down) }
     {

@@ -9,8 +9,9 @@ ghost use Rattle.core_worker.specs.declared.types.Leading.TheVariants as leads;
 ghost use Rattle.core_worker.specs.OwnPlaces.{place_at, is_staged, IsLowest};
 ghost use Rattle.core_worker.specs.Refusals.{IsMeasured};
 ghost use Rattle.core_worker.specs.Supplies.{room_for, HasKeptRoom};
+ghost use Rattle.batch_leader.specs.TurnSteps.{TurnSteps, trail_with};
 ghost use Rattle.batch_leader.specs.Persisting.{StaysLicensed, WritesPart};
-ghost use Rattle.core_worker.specs.Posting.{PostsOrStops};
+ghost use Rattle.core_worker.specs.Posting.{HasNoBlock, PostsOrStops};
 ghost use Rattle.core_worker.specs.Ties.{HoldsAt, StandsAt, LeadsNothing};
 ghost use Rattle.core_worker.specs.Turns.{InOrderAt, PassesPost, PersistsOrLoses};
 ghost use Rattle.core_worker.specs.Turning.{HasBatch, KeepsTurn, TurnMoves, Did, Turned, TurnedTo, Tells, at_entry};
@@ -46,7 +47,8 @@ impl Worker {
         ensures keeps { KeepsTurn (B.seat board.old) (R.state region.old) (R.state region.new)
             (B.whole board.old) (B.whole board.new) (B.view board.old) (B.view board.new)
             self.old self.new }
-        ensures did { (refused : Bool) → Did (R.state region.old) refused (B.whole board.old)
+        ensures did { (refused : Bool) → Did (R.state region.old) (R.state region.new) refused
+            (B.whole board.old)
             (B.seat board.old) (at_entry self.old (B.view board.old))
             (at_entry self.new (B.view board.new)) }
         ensures memory { OnErr result (self.new.winds_down ≡ true) }
@@ -54,6 +56,10 @@ impl Worker {
         ensures less { Lowers (B.whole board.old) (B.whole board.new) self.old self.new }
         ensures starts { StartsFirst self.new }
         ensures works { OnOk result (self.new.winds_down ≡ self.old.winds_down) }
+        ensures steps { (passes : Bool) → TurnSteps passes (R.state region.old) (R.state region.new)
+            (B.view board.old) (B.view board.new)
+            (trail_with (B.trail board.old) (B.at board.old))
+            (trail_with (B.trail board.new) (B.at board.new)) }
     {
         match &self.leading {
             Leading::Batch(_) => {
@@ -88,6 +94,12 @@ impl Worker {
             self.old self.new }
         ensures posts { PostsOrStops (B.seat board.old).number (B.whole board.old)
             (B.whole board.new) (B.view board.old) (B.view board.new) self.old self.new slot }
+        ensures plain { HasNoBlock (place_at self.old.places.items slot)
+            → R.state region.new ≡ R.state region.old }
+        ensures steps { TurnSteps true (R.state region.old) (R.state region.new)
+            (B.view board.old) (B.view board.new)
+            (trail_with (B.trail board.old) (B.at board.old))
+            (trail_with (B.trail board.new) (B.at board.new)) }
     {
         match staged_block(place_in(&self.places, slot)) {
             Some(pointer) => {
@@ -95,7 +107,7 @@ impl Worker {
                 return;
             }
             None => {
-                self.post_plain(board, slot);
+                self.post_plain(&*region, board, slot);
                 return;
             }
         }
@@ -113,7 +125,7 @@ impl Worker {
         ensures turned { (s : State) (refused : Bool) (before : Option Group) (v : View)
             → PassesPost refused self.old
             → Tells posted (B.seat board.old).number self.old v (B.view board.old)
-            → Turned result s refused before (B.seat board.old) (at_entry self.old v)
+            → Turned result s s refused before (B.seat board.old) (at_entry self.old v)
             (at_entry self.new (B.view board.new)) }
         ensures less { (posted ≡ true → HasOffer (B.whole board.old) (B.seat board.old).number)
             → MeasuresTurn result (B.whole board.old) (B.whole board.new) self.old self.new }
@@ -121,6 +133,10 @@ impl Worker {
         ensures tries { IfIdleTurn result (TriedIf posted (B.seat board.old).number
             (B.whole board.old) (B.whole board.new) (B.view board.new)) }
         ensures works { self.new.winds_down ≡ self.old.winds_down }
+        ensures steps { (passes : Bool) (s : State) → TurnSteps passes s s
+            (B.view board.old) (B.view board.new)
+            (trail_with (B.trail board.old) (B.at board.old))
+            (trail_with (B.trail board.new) (B.at board.new)) }
     {
         if !posted {
             return Turn::Idle;
@@ -151,8 +167,8 @@ impl Worker {
             self.old self.new }
         ensures turned { (before : Option Group) (v : View)
             → Tells posted (B.seat board.old).number self.old v (B.view board.old)
-            → TurnedTo result (R.state region.old) (G.may_refuse gate.now) before
-            (B.seat board.old) (at_entry self.old v) (at_entry self.new (B.view board.new)) }
+            → TurnedTo result (R.state region.old) (R.state region.new) (G.may_refuse gate.now)
+            before (B.seat board.old) (at_entry self.old v) (at_entry self.new (B.view board.new)) }
         ensures memory { OnErr result (self.new.winds_down ≡ true) }
         ensures awake { OnErr result (self.old.winds_down ≡ false) }
         ensures less { (posted ≡ true → HasOffer (B.whole board.old) (B.seat board.old).number)
@@ -161,7 +177,10 @@ impl Worker {
         ensures tries { IfIdle result (TriedIf posted (B.seat board.old).number
             (B.whole board.old) (B.whole board.new) (B.view board.new)) }
         ensures works { OnOk result (self.new.winds_down ≡ self.old.winds_down) }
-        ensures calm { IfIdle result (R.state region.new ≡ R.state region.old) }
+        ensures steps { TurnSteps (G.may_pass gate.now) (R.state region.old) (R.state region.new)
+            (B.view board.old) (B.view board.new)
+            (trail_with (B.trail board.old) (B.at board.old))
+            (trail_with (B.trail board.new) (B.at board.new)) }
     {
         match self.choose(gate) {
             Choice::Pass => {
@@ -200,8 +219,8 @@ impl Worker {
         ensures keeps { KeepsTurn (B.seat board.old) (R.state region.old) (R.state region.new)
             (B.whole board.old) (B.whole board.new) (B.view board.old) (B.view board.new)
             self.old self.new }
-        ensures turned { TurnedTo result (R.state region.old) (G.may_refuse gate.now)
-            (B.whole board.old) (B.seat board.old) (at_entry self.old (B.view board.old))
+        ensures turned { TurnedTo result (R.state region.old) (R.state region.new)
+            (G.may_refuse gate.now) (B.whole board.old) (B.seat board.old) (at_entry self.old (B.view board.old))
             (at_entry self.new (B.view board.new)) }
         ensures memory { OnErr result (self.new.winds_down ≡ true) }
         ensures awake { OnErr result (self.old.winds_down ≡ false) }
@@ -212,7 +231,10 @@ impl Worker {
             (B.whole board.old) (B.whole board.new) (B.view board.old) (B.view board.new)
             self.old self.new) }
         ensures works { OnOk result (self.new.winds_down ≡ self.old.winds_down) }
-        ensures calm { IfIdle result (R.state region.new ≡ R.state region.old) }
+        ensures steps { TurnSteps (G.may_pass gate.now) (R.state region.old) (R.state region.new)
+            (B.view board.old) (B.view board.new)
+            (trail_with (B.trail board.old) (B.at board.old))
+            (trail_with (B.trail board.new) (B.at board.new)) }
     {
         match self.find_back(board) {
             Search::Back(slot) => match self.take_back(alloc, &*region, board, slot) {
@@ -254,13 +276,17 @@ impl Worker {
         ensures keeps { (s : State) → StandsAt s (B.seat board.old) (B.view board.old) self.old
             → KeepsTurn (B.seat board.old) s s (B.whole board.old) (B.whole board.new)
             (B.view board.old) (B.view board.new) self.old self.new }
-        ensures did { (s : State) (refused : Bool) → Did s refused (B.whole board.old)
+        ensures did { (s : State) (refused : Bool) → Did s s refused (B.whole board.old)
             (B.seat board.old) (at_entry self.old (B.view board.old))
             (at_entry self.new (B.view board.new)) }
         ensures less { HasKeptRoom self.old → StartsFirst self.old
             → Lowers (B.whole board.old) (B.whole board.new) self.old self.new }
         ensures starts { StartsFirst self.new }
         ensures works { self.new.winds_down ≡ self.old.winds_down }
+        ensures steps { (passes : Bool) (s : State) → TurnSteps passes s s
+            (B.view board.old) (B.view board.new)
+            (trail_with (B.trail board.old) (B.at board.old))
+            (trail_with (B.trail board.new) (B.at board.new)) }
     {
         let room = self.room();
         self.go_round(board, &room);
@@ -282,7 +308,8 @@ impl Worker {
         ensures keeps { KeepsTurn (B.seat board.old) (R.state region.now) (R.state region.now)
             (B.whole board.old) (B.whole board.new) (B.view board.old) (B.view board.new)
             self.old self.new }
-        ensures did { (refused : Bool) → Did (R.state region.now) refused (B.whole board.old)
+        ensures did { (refused : Bool) → Did (R.state region.now) (R.state region.now) refused
+            (B.whole board.old)
             (B.seat board.old) (at_entry self.old (B.view board.old))
             (at_entry self.new (B.view board.new)) }
         ensures memory { OnErr result (self.new.winds_down ≡ true) }
@@ -291,6 +318,10 @@ impl Worker {
             → Lowers (B.whole board.old) (B.whole board.new) self.old self.new }
         ensures starts { StartsFirst self.new }
         ensures works { OnOk result (self.new.winds_down ≡ self.old.winds_down) }
+        ensures steps { (passes : Bool) → TurnSteps passes (R.state region.now) (R.state region.now)
+            (B.view board.old) (B.view board.new)
+            (trail_with (B.trail board.old) (B.at board.old))
+            (trail_with (B.trail board.new) (B.at board.new)) }
     {
         if self.stopped {
             return self.withdraw(alloc, region, board);
@@ -317,8 +348,8 @@ impl Worker {
         ensures keeps { KeepsTurn (B.seat board.old) (R.state region.old) (R.state region.new)
             (B.whole board.old) (B.whole board.new) (B.view board.old) (B.view board.new)
             self.old self.new }
-        ensures turned { TurnedTo result (R.state region.old) (G.may_refuse gate.now)
-            (B.whole board.old) (B.seat board.old) (at_entry self.old (B.view board.old))
+        ensures turned { TurnedTo result (R.state region.old) (R.state region.new)
+            (G.may_refuse gate.now) (B.whole board.old) (B.seat board.old) (at_entry self.old (B.view board.old))
             (at_entry self.new (B.view board.new)) }
         ensures memory { OnErr result (self.new.winds_down ≡ true) }
         ensures awake { OnErr result (self.old.winds_down ≡ false) }
@@ -329,7 +360,10 @@ impl Worker {
             (B.whole board.old) (B.whole board.new) (B.view board.old) (B.view board.new)
             self.old self.new) }
         ensures works { OnOk result (self.new.winds_down ≡ self.old.winds_down) }
-        ensures calm { IfIdle result (R.state region.new ≡ R.state region.old) }
+        ensures steps { TurnSteps (G.may_pass gate.now) (R.state region.old) (R.state region.new)
+            (B.view board.old) (B.view board.new)
+            (trail_with (B.trail board.old) (B.at board.old))
+            (trail_with (B.trail board.new) (B.at board.new)) }
     {
         match &self.leading {
             Leading::Nothing(_) => {
@@ -380,8 +414,8 @@ impl Worker {
         ensures moves { TurnMoves (B.seat board.old)
             (R.state region.old) (R.state region.new) (B.whole board.old) (B.whole board.new)
             (B.view board.old) (B.view board.new) self.old self.new }
-        ensures turned { TurnedTo result (R.state region.old) (G.may_refuse gate.now)
-            (B.whole board.old) (B.seat board.old) (at_entry self.old (B.view board.old))
+        ensures turned { TurnedTo result (R.state region.old) (R.state region.new)
+            (G.may_refuse gate.now) (B.whole board.old) (B.seat board.old) (at_entry self.old (B.view board.old))
             (at_entry self.new (B.view board.new)) }
         ensures memory { OnErr result (self.new.winds_down ≡ true) }
         ensures awake { OnErr result (self.old.winds_down ≡ false) }
@@ -392,7 +426,10 @@ impl Worker {
             (B.whole board.old) (B.whole board.new) (B.view board.old) (B.view board.new)
             self.old self.new) }
         ensures works { OnOk result (self.new.winds_down ≡ self.old.winds_down) }
-        ensures calm { IfIdle result (R.state region.new ≡ R.state region.old) }
+        ensures steps { TurnSteps (G.may_pass gate.now) (R.state region.old) (R.state region.new)
+            (B.view board.old) (B.view board.new)
+            (trail_with (B.trail board.old) (B.at board.old))
+            (trail_with (B.trail board.new) (B.at board.new)) }
     {
         self.serve_first(alloc, region, board, gate)
     }

@@ -62,11 +62,11 @@ module _ (j i : Journal) (m : ℕ) where
   leads : (kind : Kind) → (state i).place ≡ w.place → IsStep w m kind (state i) → Leads j m kind i
   leads kind place step = (place, step, λ L. step_keeps w m kind (state i) L step)
 
-  pub post_step : (s : ℕ) (c : Change) (value : List ℕ) → Did (Post s c.entry value) → w.slot m s ≡ slots.Empty → MayPost w.place m (view_of w m) s c value → Leads j m (runs.Kind.Post s c.entry value) i
-  post_step s c value e empty may = let is = state_is i j m (Post s c.entry value) e in leads (runs.Kind.Post s c.entry value) (ap (λ x. x.place) is) (can_post s c value empty may, is)
+  pub post_step : (s : ℕ) (c : Change) (value : List ℕ) (at : ℕ) → Did (Post s c.entry value at) → w.slot m s ≡ slots.Empty → MayPost w.place m (view_of w m) s c value → Leads j m (runs.Kind.Post s c.entry value) i
+  post_step s c value at e empty may = let is = state_is i j m (Post s c.entry value at) e in leads (runs.Kind.Post s c.entry value) (ap (λ x. x.place) is) (can_post s c value empty may, is)
 
-  pub post_view : (s : ℕ) (c : Change) (value : List ℕ) → Did (Post s c.entry value) → owner w.place c.entry.key ≡ m → view_of (state i) m ≡ after_post s c.entry value (view_of w m)
-  post_view s c value e own = ap (λ x. view_of x m) (state_is i j m (Post s c.entry value) e) ∙ views.view_posts w m s c.entry value own
+  pub post_view : (s : ℕ) (c : Change) (value : List ℕ) (at : ℕ) → Did (Post s c.entry value at) → owner w.place c.entry.key ≡ m → view_of (state i) m ≡ after_post s c.entry value (view_of w m)
+  post_view s c value at e own = ap (λ x. view_of x m) (state_is i j m (Post s c.entry value at) e) ∙ views.view_posts w m s c.entry value own
 
   pub lock_step : Did Lock → w.holder ≡ None → MayLock w.place m (view_of w m) → Leads j m runs.Kind.Lock i
   lock_step e free may = let is = state_is i j m Lock e in leads runs.Kind.Lock (ap (λ x. x.place) is) (record { member = may.member; not_held = may.not_held; gave_back = may.gave_back }, inl (free, is))
@@ -123,11 +123,11 @@ module _ (j i : Journal) (m : ℕ) where
   pub withdraw_view : (s : ℕ) (x : Entry) → Did (Withdraw s x) → owner w.place x.key ≡ m → view_of (state i) m ≡ after_withdraw x (view_of w m)
   withdraw_view s x e own = ap (λ x. view_of x m) (state_is i j m (Withdraw s x) e) ∙ views.view_withdraws w m s x own
 
-  pub doom_step : (ns : List EntryName) → Did (Doom ns) → MayDoom w.place m (view_of w m) ns → Leads j m (runs.Kind.Doom ns) i
-  doom_step ns e may = let is = state_is i j m (Doom ns) e in leads (runs.Kind.Doom ns) (ap (λ x. x.place) is) (record { member = may.member; dead = may.dead }, is)
+  pub doom_step : (ns : List EntryName) (at : ℕ) → Did (Doom ns at) → MayDoom w.place m (view_of w m) ns → Leads j m (runs.Kind.Doom ns) i
+  doom_step ns at e may = let is = state_is i j m (Doom ns at) e in leads (runs.Kind.Doom ns) (ap (λ x. x.place) is) (record { member = may.member; dead = may.dead }, is)
 
-  pub doom_view : (ns : List EntryName) → Did (Doom ns) → view_of (state i) m ≡ after_doom ns (view_of w m)
-  doom_view ns e = ap (λ x. view_of x m) (state_is i j m (Doom ns) e) ∙ views.view_dooms w m ns
+  pub doom_view : (ns : List EntryName) (at : ℕ) → Did (Doom ns at) → view_of (state i) m ≡ after_doom ns (view_of w m)
+  doom_view ns at e = ap (λ x. view_of x m) (state_is i j m (Doom ns at) e) ∙ views.view_dooms w m ns
 
   -- the two rules follow the step whose plain part leaves v
   rules_follow : (v : Group) → state i ≡ tidied v (names i) m → Covers (names i) v → Tidied v m (state i)
@@ -164,19 +164,19 @@ module _ (j i : Journal) (m : ℕ) where
     pub give_up_view : (s : ℕ) (x : Entry) → Did (GiveUp s x) → owner w.place x.key ≡ m → TidiedIn w.place m (after_give_up x (view_of w m)) (view_of (state i) m)
     give_up_view s x e own = view_from (gives_up w m s x) (after_give_up x (view_of w m)) (views.view_gives_up w m s x own) refl (give_up_tidied s x e)
 
-    pub retire_covers : (ns : List EntryName) → Did (Retire ns) → Covers (names i) (retires w m ns)
-    retire_covers ns e = covers_same (names j) (names i) (retires w m ns) (names_are i j m (Retire ns) e) (λ k v at p. less k v at p) where
+    pub retire_covers : (ns : List EntryName) (at : ℕ) → Did (Retire ns at) → Covers (names i) (retires w m ns)
+    retire_covers ns at e = covers_same (names j) (names i) (retires w m ns) (names_are i j m (Retire ns at) e) (λ k v at p. less k v at p) where
       less : Covers (names j) (retires w m ns)
       less k v at p = covers_less w (names j) known (λ k v. eqb (owner w.place k) m && has ns k v) k v at p
 
-    pub retire_tidied : (ns : List EntryName) → Did (Retire ns) → Tidied (retires w m ns) m (state i)
-    retire_tidied ns e = rules_follow (retires w m ns) (state_is i j m (Retire ns) e) (retire_covers ns e)
+    pub retire_tidied : (ns : List EntryName) (at : ℕ) → Did (Retire ns at) → Tidied (retires w m ns) m (state i)
+    retire_tidied ns at e = rules_follow (retires w m ns) (state_is i j m (Retire ns at) e) (retire_covers ns at e)
 
-    pub retire_step : (ns : List EntryName) → Did (Retire ns) → MayRetire w.place m (view_of w m) ns → Leads j m (runs.Kind.Retire ns) i
-    retire_step ns e may = leads (runs.Kind.Retire ns) (ap (λ x. x.place) (state_is i j m (Retire ns) e)) (record { member = may.member; doomed = may.doomed }, retire_tidied ns e)
+    pub retire_step : (ns : List EntryName) (at : ℕ) → Did (Retire ns at) → MayRetire w.place m (view_of w m) ns → Leads j m (runs.Kind.Retire ns) i
+    retire_step ns at e may = leads (runs.Kind.Retire ns) (ap (λ x. x.place) (state_is i j m (Retire ns at) e)) (record { member = may.member; doomed = may.doomed }, retire_tidied ns at e)
 
-    pub retire_view : (ns : List EntryName) → Did (Retire ns) → TidiedIn w.place m (after_retire w.place m ns (view_of w m)) (view_of (state i) m)
-    retire_view ns e = view_from (retires w m ns) (after_retire w.place m ns (view_of w m)) (views.view_retires w m ns) refl (retire_tidied ns e)
+    pub retire_view : (ns : List EntryName) (at : ℕ) → Did (Retire ns at) → TidiedIn w.place m (after_retire w.place m ns (view_of w m)) (view_of (state i) m)
+    retire_view ns at e = view_from (retires w m ns) (after_retire w.place m ns (view_of w m)) (views.view_retires w m ns) refl (retire_tidied ns at e)
 
     pub receive_covers : (from : ℕ) (n : Notices) → Did (Receive from n.dead.names n.gone.names) → Covers (names i) (receives w m from (notices_of n))
     receive_covers from n e = covers_same (names j) (names i) (receives w m from (notices_of n)) (names_are i j m (Receive from n.dead.names n.gone.names) e) (λ k v at p. less k v at p) where
@@ -188,9 +188,9 @@ module _ (j i : Journal) (m : ℕ) where
 
   -- the plain data after each
   module _ (n : ℕ) (h : Option ℕ) (places : List Slot) (mail : List (Option Notices)) (kept : ∥ IsKept n h places mail j ∥₁) where
-    pub post_kept : (s : ℕ) (c : Change) (value : List ℕ) (e : Did (Post s c.entry value)) → length places ≡ 8 * n → m < n → s < 8 → Leads j m (runs.Kind.Post s c.entry value) i → ∥ IsKept n h (set places (8 * m + s) (slots.Posted c.entry)) mail i ∥₁
-    post_kept s c value e many low less step = ∥∥₁_map kept (λ k. kept_on n h h places (set places (8 * m + s) (slots.Posted c.entry)) mail mail j i m (runs.Kind.Post s c.entry value) (posts w m s c.entry value)
-        (state_is i j m (Post s c.entry value) e) refl step.1 k.holder_is (slot_put n places w.slot m s (slots.Posted c.entry) many low less k.slots_are) k.mail_is (covers_same (names j) (names i) w (names_are i j m (Post s c.entry value) e) k.covers) k)
+    pub post_kept : (s : ℕ) (c : Change) (value : List ℕ) (at : ℕ) (e : Did (Post s c.entry value at)) → length places ≡ 8 * n → m < n → s < 8 → Leads j m (runs.Kind.Post s c.entry value) i → ∥ IsKept n h (set places (8 * m + s) (slots.Posted c.entry)) mail i ∥₁
+    post_kept s c value at e many low less step = ∥∥₁_map kept (λ k. kept_on n h h places (set places (8 * m + s) (slots.Posted c.entry)) mail mail j i m (runs.Kind.Post s c.entry value) (posts w m s c.entry value)
+        (state_is i j m (Post s c.entry value at) e) refl step.1 k.holder_is (slot_put n places w.slot m s (slots.Posted c.entry) many low less k.slots_are) k.mail_is (covers_same (names j) (names i) w (names_are i j m (Post s c.entry value at) e) k.covers) k)
 
     pub lock_kept : (e : Did Lock) → Leads j m runs.Kind.Lock i → ∥ IsKept n (Some m) places mail i ∥₁
     lock_kept e step = ∥∥₁_map kept (λ k. kept_on n h (Some m) places places mail mail j i m runs.Kind.Lock (locks w m) (state_is i j m Lock e) refl step.1 refl k.slots_are k.mail_is (covers_same (names j) (names i) w (names_are i j m Lock e) k.covers) k)
@@ -228,11 +228,11 @@ module _ (j i : Journal) (m : ℕ) where
     withdraw_kept s x e many low less step = ∥∥₁_map kept (λ k. kept_on n h h places (set places (8 * m + s) slots.Empty) mail mail j i m (runs.Kind.Withdraw s) (withdraws w m s x)
         (state_is i j m (Withdraw s x) e) refl step.1 k.holder_is (slot_put n places w.slot m s slots.Empty many low less k.slots_are) k.mail_is (covers_same (names j) (names i) w (names_are i j m (Withdraw s x) e) k.covers) k)
 
-    pub doom_kept : (ns : List EntryName) (e : Did (Doom ns)) → Leads j m (runs.Kind.Doom ns) i → ∥ IsKept n h places mail i ∥₁
-    doom_kept ns e step = ∥∥₁_map kept (λ k. kept_on n h h places places mail mail j i m (runs.Kind.Doom ns) (dooms w m ns) (state_is i j m (Doom ns) e) refl step.1 k.holder_is k.slots_are k.mail_is (covers_same (names j) (names i) w (names_are i j m (Doom ns) e) k.covers) k)
+    pub doom_kept : (ns : List EntryName) (at : ℕ) (e : Did (Doom ns at)) → Leads j m (runs.Kind.Doom ns) i → ∥ IsKept n h places mail i ∥₁
+    doom_kept ns at e step = ∥∥₁_map kept (λ k. kept_on n h h places places mail mail j i m (runs.Kind.Doom ns) (dooms w m ns) (state_is i j m (Doom ns at) e) refl step.1 k.holder_is k.slots_are k.mail_is (covers_same (names j) (names i) w (names_are i j m (Doom ns at) e) k.covers) k)
 
-    pub retire_kept : (ns : List EntryName) (e : Did (Retire ns)) → Leads j m (runs.Kind.Retire ns) i → ∥ IsKept n h places mail i ∥₁
-    retire_kept ns e step = ∥∥₁_map kept (λ k. kept_on n h h places places mail mail j i m (runs.Kind.Retire ns) (tidied (retires w m ns) (names i) m) (state_is i j m (Retire ns) e) refl step.1 k.holder_is k.slots_are k.mail_is (retire_covers k.covers ns e) k)
+    pub retire_kept : (ns : List EntryName) (at : ℕ) (e : Did (Retire ns at)) → Leads j m (runs.Kind.Retire ns) i → ∥ IsKept n h places mail i ∥₁
+    retire_kept ns at e step = ∥∥₁_map kept (λ k. kept_on n h h places places mail mail j i m (runs.Kind.Retire ns) (tidied (retires w m ns) (names i) m) (state_is i j m (Retire ns at) e) refl step.1 k.holder_is k.slots_are k.mail_is (retire_covers k.covers ns at e) k)
 
     pub send_kept : (to : ℕ) (x : Notices) (e : Did (Send to x.dead.names x.gone.names)) → length mail ≡ 8 * n → n ≤ 8 → m < n → to < n → IsStep w m (runs.Kind.Send to (notices_of x)) (state i) → ∥ IsKept n h places (set mail (8 * m + to) (Some x)) i ∥₁
     send_kept to x e many few low less step = ∥∥₁_map kept (λ k. kept_on n h h places places mail (set mail (8 * m + to) (Some x)) j i m (runs.Kind.Send to (notices_of x)) (sends w m to (notices_of x))

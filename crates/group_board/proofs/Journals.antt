@@ -3,6 +3,8 @@ use Rattle.std.proofs.Common.{◌≡◌, ℕ, List, ◌∷◌, cond, eqb, eq-eqb
 use Rattle.log_entry.specs.declared.entry.Entry.{Entry}
 use Rattle.group_laws.specs.Runs.{Kind}
 use Rattle.group_laws.specs.OpeningImages.{opened}
+use Rattle.group_laws.specs.MemberViews.{view_of}
+use Rattle.group_board.specs.Trails.{step_with}
 use Rattle.group_board.specs.declared.board_journal.Act.{Act}
 use Rattle.group_board.specs.declared.board_journal.Note.{Note}
 use Rattle.group_board.specs.declared.board_journal.Journal.{Journal}
@@ -31,8 +33,9 @@ pub names_are : (i j : Journal) (m : ℕ) (a : Act) → i ≡ noted (note_of m a
 names_are i j m a e = ap names e ∙ names_noted (note_of m a) j
 
 -- the member's trail has the step of its act in front
-pub trail_is : (i j : Journal) (m : ℕ) (a : Act) → i ≡ noted (note_of m a) j → trail_in m i ≡ kind_of a ∷ trail_in m j
-trail_is i j m a e = ap (trail_in m) e ∙ ap (λ c. cond c (kind_of a ∷ trail_in m j) (trail_in m j)) (eq-eqb m m refl)
+pub trail_is : (i j : Journal) (m : ℕ) (a : Act) → i ≡ noted (note_of m a) j → trail_in m i ≡ step_with (kind_of a) (view_of (state i) m) ∷ trail_in m j
+unfolding state
+trail_is i j m a e = ap (trail_in m) e ∙ ap (λ c. cond c (step_with (kind_of a) (view_of (state (noted (note_of m a) j)) m) ∷ trail_in m j) (trail_in m j)) (eq-eqb m m refl) ∙ ap (λ (x : Journal). step_with (kind_of a) (view_of (state x) m) ∷ trail_in m j) (sym e)
 
 pub lock_kind : (h : Option ℕ) → kind_of (lock_act h) ≡ Kind.Lock
 lock_kind None = refl

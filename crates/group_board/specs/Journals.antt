@@ -8,6 +8,8 @@ use Rattle.group_laws.specs.State.{Group}
 use Rattle.group_laws.specs.Steps.{posts, locks, finds, takes, unlocks, commits, marks, fails, finishes, gives_up, withdraws, dooms, retires, sends, receives}
 use Rattle.group_laws.specs.OpeningImages.{entries_of, opened}
 use Rattle.group_laws.specs.Runs.{Kind}
+use Rattle.group_laws.specs.MemberViews.{view_of}
+use Rattle.group_board.specs.Trails.{TrailStep, step_with}
 use Rattle.group_laws.specs.declared.types.Seen.{Seen}
 use Rattle.group_laws.specs.declared.types.Seen.TheVariants.{Holder, Slot, Mail}
 use Rattle.group_board.specs.Tidies.{tidied}
@@ -40,7 +42,7 @@ name_of e = record { key = e.key; version = e.version }
 
 -- the names, with the one of the entry that the step finished
 abbrev pub with_finished : Act → List EntryName → List EntryName
-with_finished (Post s e v) ns = ns
+with_finished (Post s e v at) ns = ns
 with_finished Lock ns = ns
 with_finished (Found x) ns = ns
 with_finished (Take a s e) ns = ns
@@ -51,14 +53,14 @@ with_finished (Fail a s e) ns = ns
 with_finished (Finish s e h) ns = name_of e ∷ ns
 with_finished (GiveUp s e) ns = ns
 with_finished (Withdraw s e) ns = ns
-with_finished (Doom xs) ns = ns
-with_finished (Retire xs) ns = ns
+with_finished (Doom xs at) ns = ns
+with_finished (Retire xs at) ns = ns
 with_finished (Send to dead gone) ns = ns
 with_finished (Receive from dead gone) ns = ns
 
 -- what member m's step makes of a state; the names are all that may stand after it
 abbrev pub effect : List EntryName → Group → ℕ → Act → Group
-effect ns w m (Post s e v) = posts w m s e v
+effect ns w m (Post s e v at) = posts w m s e v
 effect ns w m Lock = locks w m
 effect ns w m (Found x) = finds w m x
 effect ns w m (Take a s e) = takes w m a s e
@@ -69,8 +71,8 @@ effect ns w m (Fail a s e) = fails w m a s e
 effect ns w m (Finish s e h) = tidied (finishes w m s e h) ns m
 effect ns w m (GiveUp s e) = tidied (gives_up w m s e) ns m
 effect ns w m (Withdraw s e) = withdraws w m s e
-effect ns w m (Doom xs) = dooms w m xs
-effect ns w m (Retire xs) = tidied (retires w m xs) ns m
+effect ns w m (Doom xs at) = dooms w m xs
+effect ns w m (Retire xs at) = tidied (retires w m xs) ns m
 effect ns w m (Send to dead gone) = sends w m to (record { dead = dead; gone = gone })
 effect ns w m (Receive from dead gone) = tidied (receives w m from
     (record { dead = dead; gone = gone })) ns m
@@ -114,7 +116,7 @@ kind_seen (Holder h) = Kind.Lock
 
 -- the step of the machine that an act is
 abbrev pub kind_of : Act → Kind
-kind_of (Post s e v) = Kind.Post s e v
+kind_of (Post s e v at) = Kind.Post s e v
 kind_of Lock = Kind.Lock
 kind_of (Found x) = kind_seen x
 kind_of (Take a s e) = Kind.Take a s
@@ -125,22 +127,25 @@ kind_of (Fail a s e) = Kind.Fail a s
 kind_of (Finish s e h) = Kind.Finish s
 kind_of (GiveUp s e) = Kind.Finish s
 kind_of (Withdraw s e) = Kind.Withdraw s
-kind_of (Doom xs) = Kind.Doom xs
-kind_of (Retire xs) = Kind.Retire xs
+kind_of (Doom xs at) = Kind.Doom xs
+kind_of (Retire xs at) = Kind.Retire xs
 kind_of (Send to dead gone) = Kind.Send to (record { dead = dead; gone = gone })
 kind_of (Receive from dead gone) = Kind.Receive from
 
-abbrev pub kinds_by : ℕ → List Note → List Kind
-kinds_by m [] = []
-kinds_by m (x ∷ xs) = cond (eqb m x.member) (kind_of x.act ∷ kinds_by m xs) (kinds_by m xs)
+abbrev pub steps_by : List EntryName → Group → ℕ → List Note → List TrailStep
+steps_by ns w m [] = []
+steps_by ns w m (x ∷ xs) = cond (eqb m x.member)
+    (step_with (kind_of x.act) (view_of (state_after ns w (x ∷ xs)) m) ∷ steps_by ns w m xs)
+    (steps_by ns w m xs)
 
--- the steps that a member made, the newest first
-abbrev pub trail_in : ℕ → Journal → List Kind
-trail_in m j = kinds_by m j.notes
+-- the steps that a member made, the newest first, each with its view after it
+abbrev pub trail_in : ℕ → Journal → List TrailStep
+trail_in m j = steps_by (names_in j.group j.words) (opened (place_in j.group j.words)
+    (image_of j.words)) m j.notes
 
--- the stamp of a commit
+-- the stamp of a step that is handed the region
 abbrev pub at_or : ℕ → Act → ℕ
-at_or n (Post s e v) = n
+at_or n (Post s e v at) = at
 at_or n Lock = n
 at_or n (Found x) = n
 at_or n (Take a s e) = n
@@ -151,8 +156,8 @@ at_or n (Fail a s e) = n
 at_or n (Finish s e h) = n
 at_or n (GiveUp s e) = n
 at_or n (Withdraw s e) = n
-at_or n (Doom xs) = n
-at_or n (Retire xs) = n
+at_or n (Doom xs at) = at
+at_or n (Retire xs at) = at
 at_or n (Send to dead gone) = n
 at_or n (Receive from dead gone) = n
 
@@ -160,6 +165,6 @@ abbrev pub at_by : ℕ → List Note → ℕ
 at_by m [] = 0
 at_by m (x ∷ xs) = cond (eqb m x.member) (at_or (at_by m xs) x.act) (at_by m xs)
 
--- the stamp at which the member's region stood at its newest commit
+-- the stamp at which the member's region stood that was handed to its newest such step
 abbrev pub at_in : ℕ → Journal → ℕ
 at_in m j = at_by m j.notes

@@ -21,3 +21,4 @@ pub use Rattle.group_laws.specs.Updates
 pub use Rattle.log_entry.specs.Spelling
 pub use Rattle.store_image.specs.Facts
 pub use Rattle.store_image.specs.Soundness
+pub mod Trails

@@ -18,6 +18,7 @@ ghost use Rattle.group_board.specs.Seats.{SeatAt};
 ghost use Rattle.group_board.specs.Views.{after_post, after_lock, after_find, after_take, after_unlock, after_commit, after_mark, after_fail, after_finish, after_give_up, after_withdraw, after_doom, after_retire, after_send, after_receive, TidiedIn};
 ghost use Rattle.group_board.specs.Conditions.{MayPost, MayLock, MayLook, MayTake, MayUnlock, MayCommit, MayMark, MayFail, MayFinish, MayWithdraw, MayDoom, MayRetire, MaySend, MayReceive};
 ghost use Rattle.group_board.specs.Assurances.{IsHome, IsHeard, IsUnlogged};
+ghost use Rattle.group_board.specs.Trails.{TrailStep, step_with};
 ghost use Rattle.group_board.specs.Told.{Makes, MakesBoth, Stood, Held, state_of, stood_as};
 
 use crash_core::{Change, Notices};
@@ -62,10 +63,10 @@ pub trait Board {
     // What the member has.
     ghost view: { Self → View };
 
-    // The steps that the seat's member made, the newest first.
-    ghost trail: { Self → List runs.Kind };
+    // The steps that the seat's member made, the newest first, each with the view after it.
+    ghost trail: { Self → List TrailStep };
 
-    // The stamp at which the region stood that the newest commit was handed.
+    // The stamp at which the region stood that the newest post, commit, doom or retirement was handed.
     ghost at: { Self → ℕ };
 
     // The state of the group, where the board tells it.
@@ -80,13 +81,15 @@ pub trait Board {
         ensures { result ≡ places.members (seat self.now).place };
 
     /// Offers a change in an own slot. `value` is the bytes behind the entry's pointer, and empty for an entry
-    /// without one. Contracts alone read it.
-    fn post(&mut self, slot: u32, change: Change, value: &[u8])
+    /// without one. Contracts alone read it, and where the region stands.
+    fn post<R: Region>(&mut self, region: &R, slot: u32, change: Change, value: &[u8])
         requires { MayPost (seat self.old).place (seat self.old).number (view self.old)
             slot change value.now }
         ensures seat { seat self.new ≡ seat self.old }
         ensures view { view self.new ≡ after_post slot change.entry value.now (view self.old) }
-        ensures made { trail self.new ≡ runs.Kind.Post slot change.entry value.now ∷ trail self.old }
+        ensures at { at self.new ≡ (R.state region.now).stamp }
+        ensures made { trail self.new
+            ≡ step_with (runs.Kind.Post slot change.entry value.now) (view self.new) ∷ trail self.old }
         ensures whole { Makes (whole self.old) (seat self.old).number
             (runs.Kind.Post slot change.entry value.now) (whole self.new) (view self.new) };
 
@@ -101,7 +104,7 @@ pub trait Board {
         ensures holder { IfErr result (λ busy. busy.holder < places.members (seat self.old).place) }
         ensures found { IfSome (whole self.old) (λ w. MatchResult result
             (λ _. w.holder ≡ Option.None) (λ busy. w.holder ≡ Option.Some busy.holder)) }
-        ensures made { trail self.new ≡ runs.Kind.Lock ∷ trail self.old }
+        ensures made { trail self.new ≡ step_with runs.Kind.Lock (view self.new) ∷ trail self.old }
         ensures whole { Makes (whole self.old) (seat self.old).number
             runs.Kind.Lock (whole self.new) (view self.new) };
 
@@ -113,7 +116,8 @@ pub trait Board {
             × (view self.new ≡ after_find (loads.Slot member slot word) (view self.old)) }
         ensures stood { IfSome (whole self.old) (λ w. state_of (word_shown (w.slot member slot))
             ≡ result) }
-        ensures made { trail self.new ≡ runs.Kind.Look member slot ∷ trail self.old }
+        ensures made { trail self.new
+            ≡ step_with (runs.Kind.Look member slot) (view self.new) ∷ trail self.old }
         ensures whole { Makes (whole self.old) (seat self.old).number
             (runs.Kind.Look member slot) (whole self.new) (view self.new) };
 
@@ -133,7 +137,8 @@ pub trait Board {
             result.entry }
         ensures view { view self.new ≡ after_take member slot result.entry (view self.old) }
         ensures stood { Stood (whole self.old) member slot (slots.Posted result.entry) }
-        ensures made { trail self.new ≡ runs.Kind.Take member slot ∷ trail self.old }
+        ensures made { trail self.new
+            ≡ step_with (runs.Kind.Take member slot) (view self.new) ∷ trail self.old }
         ensures whole { Makes (whole self.old) (seat self.old).number
             (runs.Kind.Take member slot) (whole self.new) (view self.new) };
 
@@ -142,7 +147,8 @@ pub trait Board {
         requires { MayUnlock (seat self.old).place (seat self.old).number (view self.old) }
         ensures seat { seat self.new ≡ seat self.old }
         ensures view { view self.new ≡ after_unlock (view self.old) }
-        ensures made { trail self.new ≡ runs.Kind.Unlock ∷ trail self.old }
+        ensures made { trail self.new
+            ≡ step_with runs.Kind.Unlock (view self.new) ∷ trail self.old }
         ensures whole { Makes (whole self.old) (seat self.old).number
             runs.Kind.Unlock (whole self.new) (view self.new) };
 
@@ -152,7 +158,8 @@ pub trait Board {
         ensures seat { seat self.new ≡ seat self.old }
         ensures view { view self.new ≡ after_commit (view self.old) }
         ensures at { at self.new ≡ (R.state region.now).stamp }
-        ensures made { trail self.new ≡ runs.Kind.Commit ∷ trail self.old }
+        ensures made { trail self.new
+            ≡ step_with runs.Kind.Commit (view self.new) ∷ trail self.old }
         ensures whole { Makes (whole self.old) (seat self.old).number
             runs.Kind.Commit (whole self.new) (view self.new) };
 
@@ -162,7 +169,8 @@ pub trait Board {
             member slot change.entry }
         ensures seat { seat self.new ≡ seat self.old }
         ensures view { view self.new ≡ after_mark member slot (view self.old) }
-        ensures made { trail self.new ≡ runs.Kind.Mark member slot ∷ trail self.old }
+        ensures made { trail self.new
+            ≡ step_with (runs.Kind.Mark member slot) (view self.new) ∷ trail self.old }
         ensures whole { Makes (whole self.old) (seat self.old).number
             (runs.Kind.Mark member slot) (whole self.new) (view self.new) };
 
@@ -172,7 +180,8 @@ pub trait Board {
             member slot change.entry }
         ensures seat { seat self.new ≡ seat self.old }
         ensures view { view self.new ≡ after_fail member slot (view self.old) }
-        ensures made { trail self.new ≡ runs.Kind.Fail member slot ∷ trail self.old }
+        ensures made { trail self.new
+            ≡ step_with (runs.Kind.Fail member slot) (view self.new) ∷ trail self.old }
         ensures whole { Makes (whole self.old) (seat self.old).number
             (runs.Kind.Fail member slot) (whole self.new) (view self.new) };
 
@@ -196,7 +205,8 @@ pub trait Board {
             (after_finish result.entry home (view self.old)) (view self.new)) }
         ensures stood { Stood (whole self.old) (seat self.old).number slot
             (stood_as result.entry result.home) }
-        ensures made { trail self.new ≡ runs.Kind.Finish slot ∷ trail self.old }
+        ensures made { trail self.new
+            ≡ step_with (runs.Kind.Finish slot) (view self.new) ∷ trail self.old }
         ensures whole { Makes (whole self.old) (seat self.old).number
             (runs.Kind.Finish slot) (whole self.new) (view self.new) };
 
@@ -210,28 +220,33 @@ pub trait Board {
         ensures view { view self.new ≡ after_withdraw result.entry (view self.old) }
         ensures stood { Stood (whole self.old) (seat self.old).number slot
             (slots.Posted result.entry) }
-        ensures made { trail self.new ≡ runs.Kind.Withdraw slot ∷ trail self.old }
+        ensures made { trail self.new
+            ≡ step_with (runs.Kind.Withdraw slot) (view self.new) ∷ trail self.old }
         ensures whole { Makes (whole self.old) (seat self.old).number
             (runs.Kind.Withdraw slot) (whole self.new) (view self.new) };
 
     /// Lets entries of the own log that were told dead vanish from now on.
-    fn doom(&mut self, names: &[EntryName])
+    fn doom<R: Region>(&mut self, region: &R, names: &[EntryName])
         requires { MayDoom (seat self.old).place (seat self.old).number (view self.old) names.now }
         ensures seat { seat self.new ≡ seat self.old }
         ensures view { view self.new ≡ after_doom names.now (view self.old) }
-        ensures made { trail self.new ≡ runs.Kind.Doom names.now ∷ trail self.old }
+        ensures at { at self.new ≡ (R.state region.now).stamp }
+        ensures made { trail self.new
+            ≡ step_with (runs.Kind.Doom names.now) (view self.new) ∷ trail self.old }
         ensures whole { Makes (whole self.old) (seat self.old).number
             (runs.Kind.Doom names.now) (whole self.new) (view self.new) };
 
     /// Records that doomed entries of the own log have vanished.
-    fn retire(&mut self, names: &[EntryName])
+    fn retire<R: Region>(&mut self, region: &R, names: &[EntryName])
         requires { MayRetire (seat self.old).place (seat self.old).number
             (view self.old) names.now }
         ensures seat { seat self.new ≡ seat self.old }
         ensures view { TidiedIn (seat self.old).place (seat self.old).number
             (after_retire (seat self.old).place (seat self.old).number names.now (view self.old))
             (view self.new) }
-        ensures made { trail self.new ≡ runs.Kind.Retire names.now ∷ trail self.old }
+        ensures at { at self.new ≡ (R.state region.now).stamp }
+        ensures made { trail self.new
+            ≡ step_with (runs.Kind.Retire names.now) (view self.new) ∷ trail self.old }
         ensures whole { Makes (whole self.old) (seat self.old).number
             (runs.Kind.Retire names.now) (whole self.new) (view self.new) };
 
@@ -249,10 +264,13 @@ pub trait Board {
             (λ full. view self.new
             ≡ after_find (loads.Mail (seat self.old).number to true) (view self.old)) }
         ensures made { MatchResult result
-            (λ _. trail self.new ≡ runs.Kind.Send to (notices_of notices)
-            ∷ runs.Kind.LookMail (seat self.old).number to ∷ trail self.old)
-            (λ full. trail self.new
-            ≡ runs.Kind.LookMail (seat self.old).number to ∷ trail self.old) }
+            (λ _. trail self.new
+            ≡ step_with (runs.Kind.Send to (notices_of notices)) (view self.new)
+            ∷ step_with (runs.Kind.LookMail (seat self.old).number to)
+            (after_find (loads.Mail (seat self.old).number to false) (view self.old))
+            ∷ trail self.old)
+            (λ full. trail self.new ≡ step_with (runs.Kind.LookMail (seat self.old).number to)
+            (view self.new) ∷ trail self.old) }
         ensures whole { MatchResult result
             (λ _. MakesBoth (whole self.old) (seat self.old).number
             (runs.Kind.LookMail (seat self.old).number to) (runs.Kind.Send to (notices_of notices))
@@ -276,9 +294,12 @@ pub trait Board {
             (notices_of notices) (view self.old)) (view self.new)) }
         ensures stood { Held (whole self.old) from (seat self.old).number result }
         ensures made { MatchOption result
-            (trail self.new ≡ runs.Kind.LookMail from (seat self.old).number ∷ trail self.old)
-            (λ notices. trail self.new ≡ runs.Kind.Receive from
-            ∷ runs.Kind.LookMail from (seat self.old).number ∷ trail self.old) }
+            (trail self.new ≡ step_with (runs.Kind.LookMail from (seat self.old).number)
+            (view self.new) ∷ trail self.old)
+            (λ notices. trail self.new ≡ step_with (runs.Kind.Receive from) (view self.new)
+            ∷ step_with (runs.Kind.LookMail from (seat self.old).number)
+            (after_find (loads.Mail from (seat self.old).number true) (view self.old))
+            ∷ trail self.old) }
         ensures whole { MatchOption result
             (Makes (whole self.old) (seat self.old).number
             (runs.Kind.LookMail from (seat self.old).number) (whole self.new) (view self.new))

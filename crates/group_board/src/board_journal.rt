@@ -6,8 +6,8 @@ use std::collections::LinkedList;
 
 /// What a member did. Slots and mailboxes by their numbers.
 pub enum Act {
-    /// With the bytes behind the entry's pointer.
-    Post(u32, Entry, LinkedList<u8>),
+    /// With the bytes behind the entry's pointer, and the stamp at which the member's region stood.
+    Post(u32, Entry, LinkedList<u8>, u64),
     /// The lock was free, and the member has it.
     Lock,
     /// A load, or a try of the lock that found a holder.
@@ -28,10 +28,10 @@ pub enum Act {
     GiveUp(u32, Entry),
     /// Of an own slot that was still Posted, by a member that leads.
     Withdraw(u32, Entry),
-    /// Of dead names of the own log: they may vanish from then on.
-    Doom(LinkedList<EntryName>),
-    /// Of doomed names that vanished.
-    Retire(LinkedList<EntryName>),
+    /// Of dead names of the own log: they may vanish from then on. With the stamp at which the member's region stood.
+    Doom(LinkedList<EntryName>, u64),
+    /// Of doomed names that vanished. With the stamp at which the member's region stood.
+    Retire(LinkedList<EntryName>, u64),
     /// With the dead names and the gone ones.
     Send(u32, LinkedList<EntryName>, LinkedList<EntryName>),
     /// With the member that sent, and the dead names and the gone ones that lay in the mailbox.

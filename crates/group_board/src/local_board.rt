@@ -18,6 +18,7 @@ ghost use Rattle.group_laws.specs.declared.types.SlotWord.{SlotWord};
 ghost use Rattle.group_laws.specs.declared.types.SlotWord.TheVariants as words;
 ghost use Rattle.group_laws.specs.declared.types.Seen.TheVariants as loads;
 ghost use Rattle.crash_core.specs.Shows.{notices_of};
+ghost use Rattle.group_board.specs.Trails.{step_with};
 ghost use Rattle.group_board.specs.declared.slots.TheConstants.{ROW_LENGTH};
 ghost use Rattle.group_board.specs.Journals.{image_of, place_in, state, trail_in, at_in};
 ghost use Rattle.group_board.specs.Kept.{IsKept, TableId-set};
@@ -121,14 +122,24 @@ impl LocalBoard {
         })
     }
 
-    pub(crate) fn post(&mut self, member: u32, slot: u32, change: Change, value: &[u8])
+    pub(crate) fn post<R: Region>(
+        &mut self,
+        member: u32,
+        region: &R,
+        slot: u32,
+        change: Change,
+        value: &[u8],
+    )
         requires { MayPost (state self.old.keeper.me.0).place member
             (view_of (state self.old.keeper.me.0) member) slot change value.now }
         ensures table { self.new.table.shared.table_id ≡ self.old.table.shared.table_id }
         ensures step { Leads self.old.keeper.me.0 member
             (runs.Kind.Post slot change.entry value.now) self.new.keeper.me.0 }
+        ensures at { at_in member self.new.keeper.me.0 ≡ (R.state region.now).stamp }
         ensures made { trail_in member self.new.keeper.me.0
-            ≡ runs.Kind.Post slot change.entry value.now ∷ trail_in member self.old.keeper.me.0 }
+            ≡ step_with (runs.Kind.Post slot change.entry value.now)
+            (view_of (state self.new.keeper.me.0) member)
+            ∷ trail_in member self.old.keeper.me.0 }
         ensures view { view_of (state self.new.keeper.me.0) member
             ≡ after_post slot change.entry value.now (view_of (state self.old.keeper.me.0) member) }
     {
@@ -137,7 +148,7 @@ impl LocalBoard {
         note::<Brand, _>(
             &table.shared,
             &mut self.keeper,
-            &(member, slot, &change.entry, value),
+            &(member, slot, &change.entry, value, region),
         );
         self.slots[place] = Slot::Posted(change.entry);
     }
@@ -153,7 +164,9 @@ impl LocalBoard {
         ensures found { MatchResult result (λ _. (state self.old.keeper.me.0).holder ≡ None)
             (λ busy. (state self.old.keeper.me.0).holder ≡ Some busy.holder) }
         ensures made { trail_in member self.new.keeper.me.0
-            ≡ runs.Kind.Lock ∷ trail_in member self.old.keeper.me.0 }
+            ≡ step_with runs.Kind.Lock
+            (view_of (state self.new.keeper.me.0) member)
+            ∷ trail_in member self.old.keeper.me.0 }
         ensures view { MatchResult result (λ _. view_of (state self.new.keeper.me.0) member
             ≡ after_lock (view_of (state self.old.keeper.me.0) member))
             (λ busy. view_of (state self.new.keeper.me.0) member
@@ -179,7 +192,9 @@ impl LocalBoard {
         ensures step { Leads self.old.keeper.me.0 member
             (runs.Kind.Look owner slot) self.new.keeper.me.0 }
         ensures made { trail_in member self.new.keeper.me.0
-            ≡ runs.Kind.Look owner slot ∷ trail_in member self.old.keeper.me.0 }
+            ≡ step_with (runs.Kind.Look owner slot)
+            (view_of (state self.new.keeper.me.0) member)
+            ∷ trail_in member self.old.keeper.me.0 }
         ensures view { (word : SlotWord) × (state_of word ≡ result)
             × (view_of (state self.new.keeper.me.0) member
             ≡ after_find (loads.Slot owner slot word)
@@ -211,7 +226,9 @@ impl LocalBoard {
         ensures step { Leads self.old.keeper.me.0 member
             (runs.Kind.Take owner slot) self.new.keeper.me.0 }
         ensures made { trail_in member self.new.keeper.me.0
-            ≡ runs.Kind.Take owner slot ∷ trail_in member self.old.keeper.me.0 }
+            ≡ step_with (runs.Kind.Take owner slot)
+            (view_of (state self.new.keeper.me.0) member)
+            ∷ trail_in member self.old.keeper.me.0 }
         ensures view { view_of (state self.new.keeper.me.0) member
             ≡ after_take owner slot result.entry (view_of (state self.old.keeper.me.0) member) }
     {
@@ -233,7 +250,9 @@ impl LocalBoard {
         ensures table { self.new.table.shared.table_id ≡ self.old.table.shared.table_id }
         ensures step { Leads self.old.keeper.me.0 member runs.Kind.Unlock self.new.keeper.me.0 }
         ensures made { trail_in member self.new.keeper.me.0
-            ≡ runs.Kind.Unlock ∷ trail_in member self.old.keeper.me.0 }
+            ≡ step_with runs.Kind.Unlock
+            (view_of (state self.new.keeper.me.0) member)
+            ∷ trail_in member self.old.keeper.me.0 }
         ensures view { view_of (state self.new.keeper.me.0) member
             ≡ after_unlock (view_of (state self.old.keeper.me.0) member) }
     {
@@ -249,7 +268,9 @@ impl LocalBoard {
         ensures step { Leads self.old.keeper.me.0 member runs.Kind.Commit self.new.keeper.me.0 }
         ensures at { at_in member self.new.keeper.me.0 ≡ (R.state region.now).stamp }
         ensures made { trail_in member self.new.keeper.me.0
-            ≡ runs.Kind.Commit ∷ trail_in member self.old.keeper.me.0 }
+            ≡ step_with runs.Kind.Commit
+            (view_of (state self.new.keeper.me.0) member)
+            ∷ trail_in member self.old.keeper.me.0 }
         ensures view { view_of (state self.new.keeper.me.0) member
             ≡ after_commit (view_of (state self.old.keeper.me.0) member) }
     {
@@ -264,7 +285,9 @@ impl LocalBoard {
         ensures step { Leads self.old.keeper.me.0 member
             (runs.Kind.Mark owner slot) self.new.keeper.me.0 }
         ensures made { trail_in member self.new.keeper.me.0
-            ≡ runs.Kind.Mark owner slot ∷ trail_in member self.old.keeper.me.0 }
+            ≡ step_with (runs.Kind.Mark owner slot)
+            (view_of (state self.new.keeper.me.0) member)
+            ∷ trail_in member self.old.keeper.me.0 }
         ensures view { view_of (state self.new.keeper.me.0) member
             ≡ after_mark owner slot (view_of (state self.old.keeper.me.0) member) }
     {
@@ -285,7 +308,9 @@ impl LocalBoard {
         ensures step { Leads self.old.keeper.me.0 member
             (runs.Kind.Fail owner slot) self.new.keeper.me.0 }
         ensures made { trail_in member self.new.keeper.me.0
-            ≡ runs.Kind.Fail owner slot ∷ trail_in member self.old.keeper.me.0 }
+            ≡ step_with (runs.Kind.Fail owner slot)
+            (view_of (state self.new.keeper.me.0) member)
+            ∷ trail_in member self.old.keeper.me.0 }
         ensures view { view_of (state self.new.keeper.me.0) member
             ≡ after_fail owner slot (view_of (state self.old.keeper.me.0) member) }
     {
@@ -316,7 +341,9 @@ impl LocalBoard {
         ensures step { Leads self.old.keeper.me.0 member
             (runs.Kind.Finish slot) self.new.keeper.me.0 }
         ensures made { trail_in member self.new.keeper.me.0
-            ≡ runs.Kind.Finish slot ∷ trail_in member self.old.keeper.me.0 }
+            ≡ step_with (runs.Kind.Finish slot)
+            (view_of (state self.new.keeper.me.0) member)
+            ∷ trail_in member self.old.keeper.me.0 }
         ensures view { MatchOption result.home (TidiedIn (state self.old.keeper.me.0).place member
             (after_give_up result.entry (view_of (state self.old.keeper.me.0) member))
             (view_of (state self.new.keeper.me.0) member))
@@ -344,7 +371,9 @@ impl LocalBoard {
         ensures step { Leads self.old.keeper.me.0 member
             (runs.Kind.Withdraw slot) self.new.keeper.me.0 }
         ensures made { trail_in member self.new.keeper.me.0
-            ≡ runs.Kind.Withdraw slot ∷ trail_in member self.old.keeper.me.0 }
+            ≡ step_with (runs.Kind.Withdraw slot)
+            (view_of (state self.new.keeper.me.0) member)
+            ∷ trail_in member self.old.keeper.me.0 }
         ensures view { view_of (state self.new.keeper.me.0) member
             ≡ after_withdraw result.entry (view_of (state self.old.keeper.me.0) member) }
     {
@@ -360,36 +389,42 @@ impl LocalBoard {
         change
     }
 
-    pub(crate) fn doom(&mut self, member: u32, names: &[EntryName])
+    pub(crate) fn doom<R: Region>(&mut self, member: u32, region: &R, names: &[EntryName])
         requires { MayDoom (state self.old.keeper.me.0).place member
             (view_of (state self.old.keeper.me.0) member) names.now }
         ensures table { self.new.table.shared.table_id ≡ self.old.table.shared.table_id }
         ensures step { Leads self.old.keeper.me.0 member
             (runs.Kind.Doom names.now) self.new.keeper.me.0 }
+        ensures at { at_in member self.new.keeper.me.0 ≡ (R.state region.now).stamp }
         ensures made { trail_in member self.new.keeper.me.0
-            ≡ runs.Kind.Doom names.now ∷ trail_in member self.old.keeper.me.0 }
+            ≡ step_with (runs.Kind.Doom names.now)
+            (view_of (state self.new.keeper.me.0) member)
+            ∷ trail_in member self.old.keeper.me.0 }
         ensures view { view_of (state self.new.keeper.me.0) member
             ≡ after_doom names.now (view_of (state self.old.keeper.me.0) member) }
     {
         let table = &self.table;
-        note::<Brand, _>(&table.shared, &mut self.keeper, &(member, names));
+        note::<Brand, _>(&table.shared, &mut self.keeper, &(member, names, region));
     }
 
-    pub(crate) fn retire(&mut self, member: u32, names: &[EntryName])
+    pub(crate) fn retire<R: Region>(&mut self, member: u32, region: &R, names: &[EntryName])
         requires { MayRetire (state self.old.keeper.me.0).place member
             (view_of (state self.old.keeper.me.0) member) names.now }
         ensures table { self.new.table.shared.table_id ≡ self.old.table.shared.table_id }
         ensures step { Leads self.old.keeper.me.0 member
             (runs.Kind.Retire names.now) self.new.keeper.me.0 }
+        ensures at { at_in member self.new.keeper.me.0 ≡ (R.state region.now).stamp }
         ensures made { trail_in member self.new.keeper.me.0
-            ≡ runs.Kind.Retire names.now ∷ trail_in member self.old.keeper.me.0 }
+            ≡ step_with (runs.Kind.Retire names.now)
+            (view_of (state self.new.keeper.me.0) member)
+            ∷ trail_in member self.old.keeper.me.0 }
         ensures view { TidiedIn (state self.old.keeper.me.0).place member
             (after_retire (state self.old.keeper.me.0).place member names.now
             (view_of (state self.old.keeper.me.0) member))
             (view_of (state self.new.keeper.me.0) member) }
     {
         let table = &self.table;
-        note::<Brand, _>(&table.shared, &mut self.keeper, &(member, names));
+        note::<Brand, _>(&table.shared, &mut self.keeper, &(member, names, region));
     }
 
     /// Loads the word of a mailbox, and says whether it is full.
@@ -400,7 +435,9 @@ impl LocalBoard {
         ensures table { self.new.table.shared.table_id ≡ self.old.table.shared.table_id }
         ensures found { result ≡ is_full ((state self.old.keeper.me.0).mail from to) }
         ensures made { trail_in member self.new.keeper.me.0
-            ≡ runs.Kind.LookMail from to ∷ trail_in member self.old.keeper.me.0 }
+            ≡ step_with (runs.Kind.LookMail from to)
+            (view_of (state self.new.keeper.me.0) member)
+            ∷ trail_in member self.old.keeper.me.0 }
         ensures state { state self.new.keeper.me.0
             ≡ finds (state self.old.keeper.me.0) member (loads.Mail from to result) }
     {
@@ -416,7 +453,9 @@ impl LocalBoard {
         requires { CanSend (state self.old.keeper.me.0) member to (notices_of notices) }
         ensures table { self.new.table.shared.table_id ≡ self.old.table.shared.table_id }
         ensures made { trail_in member self.new.keeper.me.0
-            ≡ runs.Kind.Send to (notices_of notices) ∷ trail_in member self.old.keeper.me.0 }
+            ≡ step_with (runs.Kind.Send to (notices_of notices))
+            (view_of (state self.new.keeper.me.0) member)
+            ∷ trail_in member self.old.keeper.me.0 }
         ensures state { state self.new.keeper.me.0
             ≡ sends (state self.old.keeper.me.0) member to (notices_of notices) }
     {
@@ -437,7 +476,9 @@ impl LocalBoard {
         ensures heard { IsHeard (state self.old.keeper.me.0).place member from
             (view_of (state self.old.keeper.me.0) member) (notices_of result) }
         ensures made { trail_in member self.new.keeper.me.0
-            ≡ runs.Kind.Receive from ∷ trail_in member self.old.keeper.me.0 }
+            ≡ step_with (runs.Kind.Receive from)
+            (view_of (state self.new.keeper.me.0) member)
+            ∷ trail_in member self.old.keeper.me.0 }
         ensures state { Tidied (receives (state self.old.keeper.me.0) member from
             (notices_of result)) member (state self.new.keeper.me.0) }
     {
@@ -462,9 +503,14 @@ impl LocalBoard {
             (state self.new.keeper.me.0)) (λ full. IsStep (state self.old.keeper.me.0) member
             (runs.Kind.LookMail member to) (state self.new.keeper.me.0)) }
         ensures made { MatchResult result (λ _. trail_in member self.new.keeper.me.0
-            ≡ runs.Kind.Send to (notices_of notices) ∷ runs.Kind.LookMail member to
+            ≡ step_with (runs.Kind.Send to (notices_of notices))
+            (view_of (state self.new.keeper.me.0) member)
+            ∷ step_with (runs.Kind.LookMail member to) (after_find (loads.Mail member to false)
+            (view_of (state self.old.keeper.me.0) member))
             ∷ trail_in member self.old.keeper.me.0) (λ full. trail_in member self.new.keeper.me.0
-            ≡ runs.Kind.LookMail member to ∷ trail_in member self.old.keeper.me.0) }
+            ≡ step_with (runs.Kind.LookMail member to)
+            (view_of (state self.new.keeper.me.0) member)
+            ∷ trail_in member self.old.keeper.me.0) }
         ensures view { MatchResult result (λ _. view_of (state self.new.keeper.me.0) member
             ≡ after_send to (notices_of notices) (view_of (state self.old.keeper.me.0) member))
             (λ full. view_of (state self.new.keeper.me.0) member
@@ -494,9 +540,14 @@ impl LocalBoard {
             (runs.Kind.LookMail from member) (runs.Kind.Receive from)
             (state self.new.keeper.me.0)) }
         ensures made { MatchOption result (trail_in member self.new.keeper.me.0
-            ≡ runs.Kind.LookMail from member ∷ trail_in member self.old.keeper.me.0)
-            (λ notices. trail_in member self.new.keeper.me.0 ≡ runs.Kind.Receive from
-            ∷ runs.Kind.LookMail from member ∷ trail_in member self.old.keeper.me.0) }
+            ≡ step_with (runs.Kind.LookMail from member)
+            (view_of (state self.new.keeper.me.0) member)
+            ∷ trail_in member self.old.keeper.me.0)
+            (λ notices. trail_in member self.new.keeper.me.0
+            ≡ step_with (runs.Kind.Receive from) (view_of (state self.new.keeper.me.0) member)
+            ∷ step_with (runs.Kind.LookMail from member) (after_find (loads.Mail from member true)
+            (view_of (state self.old.keeper.me.0) member))
+            ∷ trail_in member self.old.keeper.me.0) }
         ensures view { MatchOption result (view_of (state self.new.keeper.me.0) member
             ≡ after_find (loads.Mail from member false)
             (view_of (state self.old.keeper.me.0) member))

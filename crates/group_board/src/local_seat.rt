@@ -47,8 +47,8 @@ impl<'a> Board for LocalSeat<'a> {
         self.board.member_count
     }
 
-    fn post(&mut self, slot: u32, change: Change, value: &[u8]) {
-        self.board.post(self.member, slot, change, value);
+    fn post<R: Region>(&mut self, region: &R, slot: u32, change: Change, value: &[u8]) {
+        self.board.post(self.member, region, slot, change, value);
     }
 
     fn try_lock(&mut self) -> Result<(), Busy> {
@@ -87,12 +87,12 @@ impl<'a> Board for LocalSeat<'a> {
         self.board.withdraw(self.member, slot)
     }
 
-    fn doom(&mut self, names: &[EntryName]) {
-        self.board.doom(self.member, names);
+    fn doom<R: Region>(&mut self, region: &R, names: &[EntryName]) {
+        self.board.doom(self.member, region, names);
     }
 
-    fn retire(&mut self, names: &[EntryName]) {
-        self.board.retire(self.member, names);
+    fn retire<R: Region>(&mut self, region: &R, names: &[EntryName]) {
+        self.board.retire(self.member, region, names);
     }
 
     fn send(&mut self, to: u32, notices: Notices) -> Result<(), MailFull> {

@@ -113,7 +113,7 @@ module _ {W Q : Type 0} (hands : View → W → Hands) (answers : W → List Ans
       handed = next_of (is_open room leads w) (queue q)
 
       -- what was done, as the state has it
-      did : (begins : State → View → W → W → ℕ → Request → Type 0) (turned : Bool → State → Option Group → SeatAt → View → View → W → W → Type 0) (moved : Bool) → Does begins turned (state b0.keeper.me.0).place (member_of l c) s t (state b0.keeper.me.0) (state b1.keeper.me.0) w x (next_of (is_open room leads w) (queue q)) moved
+      did : (begins : State → View → W → W → ℕ → Request → Type 0) (turned : Bool → State → State → Option Group → SeatAt → View → View → W → W → Type 0) (moved : Bool) → Does begins turned (state b0.keeper.me.0).place (member_of l c) s t (state b0.keeper.me.0) (state b1.keeper.me.0) w x (next_of (is_open room leads w) (queue q)) moved
           → Does begins turned (place_at e.layout (group_of e.layout c)) (member_of e.layout c) e.region t (e.group (group_of e.layout c)) (after.group (group_of e.layout c)) w x (next_in e c) moved
       did begins turned moved h =
           subst (λ (ys : List (ℕ × Request)). Does begins turned (place_at e.layout (group_of e.layout c)) (member_of e.layout c) e.region t (e.group (group_of e.layout c)) (after.group (group_of e.layout c)) w x ys moved) (sym (λ i. next_of (Y.takes i) (waits i)))
@@ -212,7 +212,7 @@ module _ {W Q : Type 0} (hands : View → W → Hands) (answers : W → List Ans
         (beside : (a e : Group) (m n : ℕ) (kinds : List Kind) (w : W) → Lawful a → Runs a (steps_of m kinds) e → n ≢ m → fair a n w → fair e n w)
         (y u : W) (u_is : u ≡ x) (same : (v : View) → hands v y ≡ hands v u) (keeps : (p : Place) (n : ℕ) (s : State) (v : View) → stands p n s v u → stands p n s v y) (even : (a : Group) (n : ℕ) → fair a n u → fair a n y) (ready : is_open room leads y ≡ is_open room leads u) (none : answers y ≡ [])
         (q1 : Q) (ks1 : List (Option Stamped)) (ks_is : ks1 ≡ stored (answers u) t.stamp ks)
-        (begins : State → View → W → W → ℕ → Request → Type 0) (turned : Bool → State → Option Group → SeatAt → View → View → W → W → Type 0) (alike : W → W → Type 0) (w_is : slice_get ws c ≡ Some w) (like : alike u y) where
+        (begins : State → View → W → W → ℕ → Request → Type 0) (turned : Bool → State → State → Option Group → SeatAt → View → View → W → W → Type 0) (alike : W → W → Type 0) (w_is : slice_get ws c ≡ Some w) (like : alike u y) where
       abbrev pub Stepped : Bool → Result Turn Memory → Type 0
       Stepped down r =
           (accepted : List (ℕ × Request)) × (rest : List (ℕ × Request))

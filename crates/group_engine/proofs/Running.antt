@@ -18,7 +18,7 @@ use Rattle.group_engine.specs.Runs.{RunState, RunMoves, ShowsRun, run_state, fir
 
 module _ {W : Type 0} (hands : View → W → Hands) (answers : W → List Answer) (stands : Place → ℕ → State → View → W → Type 0) (fair : Group → ℕ → W → Type 0) (room leads : W → Bool) where
   -- a move from the lists that a state has
-  pub of_lists : (begins : State → View → W → W → ℕ → Request → Type 0) (turned : Bool → State → Option Group → SeatAt → View → View → W → W → Type 0) (alike : W → W → Type 0) (e : RunState W) (c : ℕ) (moved : Bool) (f : RunState W) (ws : List W) (ks : List (Option Stamped)) → e.workers ≡ ws → e.answers ≡ ks
+  pub of_lists : (begins : State → View → W → W → ℕ → Request → Type 0) (turned : Bool → State → State → Option Group → SeatAt → View → View → W → W → Type 0) (alike : W → W → Type 0) (e : RunState W) (c : ℕ) (moved : Bool) (f : RunState W) (ws : List W) (ks : List (Option Stamped)) → e.workers ≡ ws → e.answers ≡ ks
       → RunMoves hands answers stands fair room leads begins turned alike (run_state e.engine ws ks) c moved f → RunMoves hands answers stands fair room leads begins turned alike e c moved f
   of_lists begins turned alike e c moved f ws ks workers kept m =
       subst (λ us. RunMoves hands answers stands fair room leads begins turned alike (run_state e.engine us e.answers) c moved f) (sym workers)

@@ -92,8 +92,8 @@ none_left [] e = refl
 none_left (x ∷ xs) e = absurd (omega (arith, e))
 
 -- What was done in a step, by the requests that were handed out.
-module _ {W : Type 0} (stands : Place → ℕ → State → View → W → Type 0) (begins : State → View → W → W → ℕ → Request → Type 0) (turned : Bool → State → Option Group → SeatAt → View → View → W → W → Type 0) (p : Place) (m : ℕ) where
-  pub did_turn : (s t : State) (a b : Group) (w x : W) (open_now : Bool) (queue : List (ℕ × Request)) (r : Result Turn Memory) → (open_now ≡ true → queue ≡ []) → IfOk r (λ turn. TakesTurn turned p m s a b w x (has_moved turn)) → IfOk r (λ turn. Does begins turned p m s t a b w x (next_of open_now queue) (has_moved turn))
+module _ {W : Type 0} (stands : Place → ℕ → State → View → W → Type 0) (begins : State → View → W → W → ℕ → Request → Type 0) (turned : Bool → State → State → Option Group → SeatAt → View → View → W → W → Type 0) (p : Place) (m : ℕ) where
+  pub did_turn : (s t : State) (a b : Group) (w x : W) (open_now : Bool) (queue : List (ℕ × Request)) (r : Result Turn Memory) → (open_now ≡ true → queue ≡ []) → IfOk r (λ turn. TakesTurn turned p m s t a b w x (has_moved turn)) → IfOk r (λ turn. Does begins turned p m s t a b w x (next_of open_now queue) (has_moved turn))
   did_turn s t a b w x open_now queue (Ok moved) left turn = subst (λ ys. Does begins turned p m s t a b w x ys (has_moved moved)) (none open_now left) turn where
     none : (c : Bool) → (c ≡ true → queue ≡ []) → [] ≡ next_of c queue
     none true h = sym (ap (take 1) (h refl))

@@ -182,10 +182,10 @@ if_fair None S P h f = tt
 if_fair (Some a) S P h f = f h
 
 -- by what a turn answered
-pub did_by : (r : Result Turn Memory) (s : State) (refused : Bool) (before : Option Group) (seat : SeatAt) (a b : Moment) → TurnedTo r s refused before seat a b → IfOk r (λ turn. Turned (turn_of (has_moved turn)) s refused before seat a b)
-did_by (Ok Moved) s refused before seat a b h = h
-did_by (Ok Idle) s refused before seat a b h = h
-did_by (Err e) s refused before seat a b h = tt
+pub did_by : (r : Result Turn Memory) (s t : State) (refused : Bool) (before : Option Group) (seat : SeatAt) (a b : Moment) → TurnedTo r s t refused before seat a b → IfOk r (λ turn. Turned (turn_of (has_moved turn)) s t refused before seat a b)
+did_by (Ok Moved) s t refused before seat a b h = h
+did_by (Ok Idle) s t refused before seat a b h = h
+did_by (Err e) s t refused before seat a b h = tt
 
 module _ (before after : Option Group) (w x : Worker) (S : Type 0) (fair_now : IfSome before (λ a. S)) where
   pub lowers_by : (r : Result Turn Memory) → (S → Measures r before after w x) → IfOk r (λ turn. turn ≡ Moved → IfSome before (λ a. IsSomeAnd after (λ e. left x + under_way e < left w + under_way a)))

@@ -54,26 +54,26 @@ pub record TakesIn {W : Type 0} (begins : State → View → W → W → ℕ →
   pub group : b ≡ a
 
 -- It makes a turn, at a seat of that member.
-pub record TakesTurn {W : Type 0} (turned : Bool → State → Option Group → SeatAt → View → View → W
-    → W → Type 0) (p : Place) (m : ℕ) (s : State) (a b : Group) (w x : W)
+pub record TakesTurn {W : Type 0} (turned : Bool → State → State → Option Group → SeatAt → View
+    → View → W → W → Type 0) (p : Place) (m : ℕ) (s t : State) (a b : Group) (w x : W)
     (moved : Bool) : Type 0 where
   pub seat : SeatAt
   pub place : seat.place ≡ p
   pub number : seat.number ≡ m
-  pub turn : turned moved s (Some a) seat (view_of a m) (view_of b m) w x
+  pub turn : turned moved s t (Some a) seat (view_of a m) (view_of b m) w x
 
 -- what a worker does in a move, by the requests that it is handed: one, or none
 abbrev pub Does : {W : Type 0} → (State → View → W → W → ℕ → Request → Type 0)
-    → (Bool → State → Option Group → SeatAt → View → View → W → W → Type 0) → Place → ℕ → State
+    → (Bool → State → State → Option Group → SeatAt → View → View → W → W → Type 0) → Place → ℕ → State
     → State → Group → Group → W → W → List (ℕ × Request) → Bool → Type 0
-Does begins turned p m s t a b w x [] moved = TakesTurn turned p m s a b w x moved
+Does begins turned p m s t a b w x [] moved = TakesTurn turned p m s t a b w x moved
 Does begins turned p m s t a b w x (y ∷ ys) moved = TakesIn begins m s t a b w x y moved
 
 -- A move of core c: its worker accepts the first request of its backlog, where it may take one and one waits, and else makes a turn. Then all its answers are given out, and kept with the region's stamp.
 pub record RunMoves {W : Type 0} (hands : View → W → Hands) (answers : W → List Answer)
     (stands : Place → ℕ → State → View → W → Type 0) (fair : Group → ℕ → W → Type 0)
     (room leads : W → Bool) (begins : State → View → W → W → ℕ → Request → Type 0)
-    (turned : Bool → State → Option Group → SeatAt → View → View → W → W → Type 0)
+    (turned : Bool → State → State → Option Group → SeatAt → View → View → W → W → Type 0)
     (alike : W → W → Type 0) (e : RunState W) (c : ℕ) (moved : Bool) (f : RunState W) : Type 0 where
   pub turn : AnyTurn e.engine c moved f.engine
   -- the core's worker before the move, once it has moved, and once its answers are given out, in which alone it differs then

@@ -50,8 +50,8 @@ abbrev pub turn_of : Bool → Turn
 turn_of moved = if moved then Moved else Idle
 
 -- A turn by the order of work. In a replay nothing holds a worker back.
-abbrev pub MakesTurn : Bool → State → Option Group → SeatAt → View → View → Worker → Worker → Type 0
-MakesTurn moved s before seat v u w x = Turned (turn_of moved) s false before seat (at_entry w v)
+abbrev pub MakesTurn : Bool → State → State → Option Group → SeatAt → View → View → Worker → Worker → Type 0
+MakesTurn moved s t before seat v u w x = Turned (turn_of moved) s t false before seat (at_entry w v)
     (at_entry x u)
 
 -- nothing but its answers differs

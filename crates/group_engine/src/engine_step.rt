@@ -42,8 +42,8 @@ fn turn_at<W: CoreWorker, R: Region>(
         (W.winds worker.old) }
     ensures turned { IfOk result (λ turn. TakesTurn W.turned
         (state board.old.keeper.me.0).place member
-        (R.state region.old) (state board.old.keeper.me.0) (state board.new.keeper.me.0)
-        worker.old worker.new (has_moved turn)) }
+        (R.state region.old) (R.state region.new) (state board.old.keeper.me.0)
+        (state board.new.keeper.me.0) worker.old worker.new (has_moved turn)) }
     ensures winds { OnOk result (W.winds worker.new ≡ W.winds worker.old) }
     ensures awake { OnErr result (W.winds worker.old ≡ false) }
     ensures less { IfOk result (λ turn. turn ≡ Moved

@@ -47,7 +47,7 @@ pub trait CoreWorker {
 
     // What a turn of it does, by whether anything moved: from the region's state, where its group stands so or does not
     // tell, at a seat, from one view to the next.
-    ghost turned: { Bool → State → Option Group → SeatAt → View → View → Self → Self → Type 0 };
+    ghost turned: { Bool → State → State → Option Group → SeatAt → View → View → Self → Self → Type 0 };
 
     // Nothing but its answers differs.
     ghost alike: { Self → Self → Type 0 };
@@ -128,7 +128,7 @@ pub trait CoreWorker {
             (B.view board.old) (B.view board.new) self.old self.new (is_idle result)
             (winds self.old) }
         ensures turned { IfOk result (λ turn. turned (has_moved turn) (R.state region.old)
-            (B.whole board.old) (B.seat board.old) (B.view board.old) (B.view board.new)
+            (R.state region.new) (B.whole board.old) (B.seat board.old) (B.view board.old) (B.view board.new)
             self.old self.new) }
         ensures winds { OnOk result (winds self.new ≡ winds self.old) }
         ensures awake { OnErr result (winds self.old ≡ false) }

@@ -2,3 +2,4 @@ pub mod BoardTrials
 pub mod ThreadTrials
 pub mod LeadTrials
 pub mod EightTrials
+pub mod NoRegions

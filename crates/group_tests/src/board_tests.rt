@@ -7,6 +7,7 @@ ghost use Rattle.group_laws.specs.MemberViews.{view_of};
 ghost use Rattle.group_board.specs.Conditions.{MayPost, MayLock};
 ghost use Rattle.group_tests.specs.BoardTrials.{small_words, fresh, first_put, long_put, Leads, Has};
 
+use crate::no_region::NoRegion;
 use fs_model::model::Value;
 use group_board::{Board, Busy, Change, LocalBoard, LocalSeat, Names, Notices, Opening, SlotState};
 use log_entry::entry::{Body, Entry};
@@ -38,7 +39,7 @@ fn offer<B: Board>(board: &mut B, change: Change, value: &[u8]) -> Result<(), Bu
     ensures { IfOk result (λ _. Leads (B.seat board.new).place (B.seat board.new).number
         (B.view board.new)) }
 {
-    board.post(0, change, value);
+    board.post(&NoRegion, 0, change, value);
     board.try_lock()
 }
 
@@ -63,7 +64,7 @@ fn give_back<B: Board>(board: &mut B, change: Change)
 {
     let member = board.member();
     board.unlock();
-    board.commit();
+    board.commit(&NoRegion);
     board.mark(member, 0, change);
 }
 

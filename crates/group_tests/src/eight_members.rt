@@ -11,6 +11,7 @@ ghost use Rattle.group_tests.specs.LeadTrials.{put_of, IsUnwritten, FitsFresh, K
 ghost use Rattle.group_tests.specs.EightTrials.{eight_words, eight_fresh, key_at, IsPosted, HasBatch};
 
 use crate::leader_tests::{empty_room, put, word};
+use crate::no_region::NoRegion;
 use crate::two_leaders::write_at;
 use batch_leader::{Batch, BatchBuffer, Collected, Released, lead};
 use chunk_map::Layout;
@@ -54,7 +55,7 @@ fn post<B: Board>(board: &mut B, slot: u32, change: Change)
     ensures others { LeavesOthers (B.whole board.old) (B.whole board.new)
         (B.seat board.old).number }
 {
-    board.post(slot, change, &[]);
+    board.post(&NoRegion, slot, change, &[]);
 }
 
 /// A member posts a change.

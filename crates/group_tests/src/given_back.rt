@@ -10,6 +10,7 @@ ghost use Rattle.batch_leader.specs.Persisting.{HasRoom};
 ghost use Rattle.batch_leader.specs.Rounds.{words_in};
 
 use crate::leader_tests::{gather, open_small, put};
+use crate::no_region::NoRegion;
 use batch_leader::{Batch, BatchBuffer, Released, lead};
 use chunk_map::Layout;
 use core_log::CoreLog;
@@ -24,7 +25,7 @@ fn take_back<B: Board>(board: &mut B, change: Change, buffer: BatchBuffer) -> Op
     requires lock { MayLock (B.seat board.old).place (B.seat board.old).number (B.view board.old) }
     requires idle { (B.view board.old).flying ≡ [] }
 {
-    board.post(0, change, &[]);
+    board.post(&NoRegion, 0, change, &[]);
     let Ok(mut leader) = lead(board, buffer) else {
         return None;
     };

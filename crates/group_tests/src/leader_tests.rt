@@ -12,6 +12,7 @@ ghost use Rattle.batch_leader.specs.Persisting.{HasRoom, WritesPart};
 ghost use Rattle.batch_leader.specs.Rounds.{words_in};
 ghost use Rattle.group_tests.specs.LeadTrials.{put_of, empty_room, IsUnwritten, LeavesOthers, FitsFresh};
 
+use crate::no_region::NoRegion;
 use batch_leader::{Batch, BatchBuffer, Collected, Released, lead};
 use chunk_map::Layout;
 use core_log::{CoreLog, Room};
@@ -83,7 +84,7 @@ pub(crate) fn gather<B: Board>(board: &mut B, change: Change, buffer: BatchBuffe
         → IsUnwritten (B.view board.new)) }
 {
     let room = empty_room();
-    board.post(0, change, &[]);
+    board.post(&NoRegion, 0, change, &[]);
     let Ok(mut leader) = lead(board, buffer) else {
         return None;
     };

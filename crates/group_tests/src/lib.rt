@@ -11,6 +11,8 @@ mod given_back;
 #[cfg(test)]
 mod leader_tests;
 #[cfg(test)]
+mod no_region;
+#[cfg(test)]
 mod thread_board_tests;
 #[cfg(test)]
 mod two_leaders;

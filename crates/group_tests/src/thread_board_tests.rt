@@ -9,6 +9,7 @@ ghost use Rattle.atomic_board.specs.GroupTables.{id_of, origin_of};
 ghost use Rattle.atomic_board.specs.MemberSeats.{seat_of, view_at};
 ghost use Rattle.group_tests.specs.ThreadTrials.{pair_words, began_on, entry_of, put_of, Rests, Waits, IsStart};
 
+use crate::no_region::NoRegion;
 use atomic_board::{GroupTable, SeatToken};
 use fs_model::model::Value;
 use group_board::{Board, Change, Names, Notices, Opening, SlotState};
@@ -85,7 +86,7 @@ fn serve<B: Board>(board: &mut B, owner: u32, version: u32)
     match board.look(owner, 0) {
         SlotState::Posted { words: _ } => {
             let change = board.take(owner, 0);
-            board.commit();
+            board.commit(&NoRegion);
             board.mark(owner, 0, change);
         }
         _ => {}
@@ -164,7 +165,7 @@ fn round<B: Board>(board: &mut B, change: Change, version: u32) -> Option<Change
         × Rests (B.seat board.new) (version + 1) (B.view board.new)) }
 {
     let number = board.member() as u64;
-    board.post(0, change, &[]);
+    board.post(&NoRegion, 0, change, &[]);
     let Some(change) = wait(board, version) else {
         return None;
     };
@@ -307,7 +308,7 @@ fn first_turn<B: Board>(board: &mut B, change: Change) -> Option<u32>
     ensures leads { IfNone result
         (Leads (B.seat board.new).place (B.seat board.new).number (B.view board.new)) }
 {
-    board.post(0, change, &[]);
+    board.post(&NoRegion, 0, change, &[]);
     match board.try_lock() {
         Ok(()) => None,
         Err(busy) => Some(busy.holder),

@@ -99,7 +99,7 @@ withdrawn_stays blocks j k q (bodies.Pointer r) bytes v same offers at ne = by (
       let one : blocks q ≡ Some (record { key = j; bytes = offers.0 }) = ap (λ f. f q) (sym same) ∙ ap v.blocks there ∙ offers.1 in
       absurd (ne (key_is (record { key = k; bytes = bytes }) (record { key = j; bytes = offers.0 }) (sym at ∙ one)))
 
-module _ (p : Place) (m : ℕ) (s : State) (refused : Bool) (before : Option Group) (seat : SeatAt) (place : seat.place ≡ p) (number : seat.number ≡ m) (v u : View) (w x : Worker) (H : Holds p m v w) (k q : ℕ) (d : Entry) (bytes : List ℕ) (is : u.pending k ≡ Some (in_doubt d)) (at : v.blocks q ≡ Some (record { key = k; bytes = bytes })) where
+module _ (p : Place) (m : ℕ) (s t : State) (refused : Bool) (before : Option Group) (seat : SeatAt) (place : seat.place ≡ p) (number : seat.number ≡ m) (v u : View) (w x : Worker) (H : Holds p m v w) (k q : ℕ) (d : Entry) (bytes : List ℕ) (is : u.pending k ≡ Some (in_doubt d)) (at : v.blocks q ≡ Some (record { key = k; bytes = bytes })) where
   -- where only what it looked at, what it leads or what it has in its own log differs
   same_blocks : (y : View) → u ≡ y → y.blocks q ≡ v.blocks q → u.blocks q ≡ v.blocks q
   same_blocks y e b = ap (λ (z : View). z.blocks q) e ∙ b
@@ -111,23 +111,23 @@ module _ (p : Place) (m : ℕ) (s : State) (refused : Bool) (before : Option Gro
       let other : k ≢ e.key = out_key mid.pending e.key k None d (sym (ap (λ (z : View). z.pending k) T.4) ∙ is) (λ e. none_some (in_doubt d) (sym e)) in
       ap (λ (z : View). z.blocks q) T.4 ∙ own_stays mid.blocks e.key k q e.body bytes (ap (λ f. f q) same ∙ at) other ∙ ap (λ f. f q) same
 
-  pub did_keeps : Did s refused before seat (at_entry w v) (at_entry x u) → u.blocks q ≡ v.blocks q
-  did_keeps (goes_round (inl C)) = ap (λ (z : View). z.blocks q) C.went.0.view
-  did_keeps (goes_round (inr R)) = ap (λ (z : View). z.blocks q) R.view ∙ ap (λ (z : View). z.blocks q) R.went.0.view.1
-  did_keeps (withdraws after all (inl W)) =
+  pub did_keeps : Did s t refused before seat (at_entry w v) (at_entry x u) → u.blocks q ≡ v.blocks q
+  did_keeps (goes_round quiet (inl C)) = ap (λ (z : View). z.blocks q) C.went.0.view
+  did_keeps (goes_round quiet (inr R)) = ap (λ (z : View). z.blocks q) R.view ∙ ap (λ (z : View). z.blocks q) R.went.0.view.1
+  did_keeps (withdraws quiet after all (inl W)) =
       let back = W.retracts.back in
       let e = W.change.entry in
       let other : k ≢ e.key = out_key v.pending e.key k None d (sym (ap (λ (z : View). z.pending k) back.view) ∙ is) (λ e. none_some (in_doubt d) (sym e)) in
       ap (λ (z : View). z.blocks q) back.view ∙ withdrawn_stays v.blocks e.key k q e.body bytes v refl (posted_offers p m v w H e.key e back.slot back.pending).0 at other
-  did_keeps (withdraws after all (inr U)) = ap (λ (z : View). z.blocks q) U.1.view ∙ ap (λ (z : View). z.blocks q) U.1.found.view.1
+  did_keeps (withdraws quiet after all (inr U)) = ap (λ (z : View). z.blocks q) U.1.view ∙ ap (λ (z : View). z.blocks q) U.1.found.view.1
   did_keeps (writes P) = by x.stopped P where
     by : (b : Bool) → PersistsOrLoses b seat.number (at_entry w v) (at_entry x u) → u.blocks q ≡ v.blocks q
     by false P = ap (λ (z : View). z.blocks q) P.view
     by true P = ap (λ (z : View). z.blocks q) P.view
-  did_keeps (marks M) = ap (λ (z : View). z.blocks q) M.view
-  did_keeps (fails F) = ap (λ (z : View). z.blocks q) F.view
-  did_keeps (finishes all F) = taken_back F.slot F.mid F.finishes.freed (ap (λ (z : View). z.blocks) F.before.looked.view) F.finishes.takes.home F.finishes.takes.entry F.finishes.takes.view
-  did_keeps (posts P) =
+  did_keeps (marks quiet M) = ap (λ (z : View). z.blocks q) M.view
+  did_keeps (fails quiet F) = ap (λ (z : View). z.blocks q) F.view
+  did_keeps (finishes quiet all F) = taken_back F.slot F.mid F.finishes.freed (ap (λ (z : View). z.blocks) F.before.looked.view) F.finishes.takes.home F.finishes.takes.entry F.finishes.takes.view
+  did_keeps (posts P plain) =
       let mid = P.before.looked.view in
       let other : k ≢ P.entry.key = out_key P.mid.pending P.entry.key k (Some (record { entry = P.entry; slot = Some P.slot })) d (sym (ap (λ (z : View). z.pending k) P.view) ∙ is) (λ e. none_some P.slot (slot_is (record { entry = P.entry; slot = Some P.slot }) (in_doubt d) e)) in
       absurd (clash w.stopped (doubt_stops p m v w H k d (sym (ap (λ (z : View). z.pending k) mid) ∙ sym (put_else P.mid.pending P.entry.key k (Some (record { entry = P.entry; slot = Some P.slot })) other) ∙ sym (ap (λ (z : View). z.pending k) P.view) ∙ is)) P.runs.0)
@@ -135,13 +135,13 @@ module _ (p : Place) (m : ℕ) (s : State) (refused : Bool) (before : Option Gro
       put_else : (f : ℕ → Option Pending) (j i : ℕ) (y : Option Pending) → i ≢ j → put f j y i ≡ f i
       put_else f j i y ne = ap (λ b. cond b y (f i)) (neq i j ne)
   did_keeps (loses_block L) = ap (λ (z : View). z.blocks q) L.view ∙ ap (λ (z : View). z.blocks q) L.before.looked.view
-  did_keeps (drops all D) = ap (λ (z : View). z.blocks q) D.view ∙ ap (λ (z : View). z.blocks q) D.before.looked.view
-  did_keeps (locks L) = ap (λ (z : View). z.blocks q) L.view ∙ ap (λ (z : View). z.blocks q) L.before.looked.view
+  did_keeps (drops quiet all D) = ap (λ (z : View). z.blocks q) D.view ∙ ap (λ (z : View). z.blocks q) D.before.looked.view
+  did_keeps (locks quiet L) = ap (λ (z : View). z.blocks q) L.view ∙ ap (λ (z : View). z.blocks q) L.before.looked.view
 
-  pub turn_keeps : (r : Result Turn Memory) → TurnedTo r s refused before seat (at_entry w v) (at_entry x u) → u.blocks q ≡ v.blocks q
+  pub turn_keeps : (r : Result Turn Memory) → TurnedTo r s t refused before seat (at_entry w v) (at_entry x u) → u.blocks q ≡ v.blocks q
   turn_keeps (Ok Moved) T = did_keeps T
   turn_keeps (Err e) T = did_keeps T
-  turn_keeps (Ok Idle) T = elim T.lock [
-    | inl none ↦ ap (λ (z : View). z.blocks q) none.1 ∙ ap (λ (z : View). z.blocks q) T.before.looked.view
-    | inr found ↦ ap (λ (z : View). z.blocks q) found.1.2 ∙ ap (λ (z : View). z.blocks q) T.before.looked.view
+  turn_keeps (Ok Idle) T = elim T.1.lock [
+    | inl none ↦ ap (λ (z : View). z.blocks q) none.1 ∙ ap (λ (z : View). z.blocks q) T.1.before.looked.view
+    | inr found ↦ ap (λ (z : View). z.blocks q) found.1.2 ∙ ap (λ (z : View). z.blocks q) T.1.before.looked.view
   ]

@@ -207,7 +207,7 @@ module _ (o : Origin) (layout : IsLayout (layout_of o.found)) (given : List Requ
 
   reckons_move : (refused : Bool) (a b : WorkState) (fs : List Fixed) → Reckons o given c a fs → (m : Move seat refused a b) → Reckons o given c b (fs ++ fixed_by m)
   reckons_move refused a b fs R (accepts A) = reckons_accept a b fs R A
-  reckons_move refused a b fs R (turns T) = reckons_call a b fs R T.before T.after [] T.moves.fixed (sym T.queue) T.moves.moves (turn_grows a.region refused T.before seat a.view b.view a.worker b.worker T.result T.turned)
+  reckons_move refused a b fs R (turns T) = reckons_call a b fs R T.before T.after [] T.moves.fixed (sym T.queue) T.moves.moves (turn_grows a.region b.region refused T.before seat a.view b.view a.worker b.worker T.result T.turned)
   reckons_move refused a b fs R (winds_down e) = subst (λ (z : WorkState). Reckons o given c z (fs ++ [])) (sym e) (subst (Reckons o given c (wound_down a)) (sym (append-nil fs)) (winds a fs R)) where
     winds : (a : WorkState) (fs : List Fixed) → Reckons o given c a fs → Reckons o given c (wound_down a) fs
     winds a fs R = record {

@@ -65,7 +65,7 @@ module _ (p : Place) (m : ℕ) (v u : View) (w x : Worker) (H : Holds p m v w) (
       by false e = e
       by true e = absurd (clash w.stopped (H.broken e) runs)
 
-  module _ (s : State) (refused : Bool) (before : Option Group) (seat : SeatAt) (place : seat.place ≡ p) (number : seat.number ≡ m) where
+  module _ (s t : State) (refused : Bool) (before : Option Group) (seat : SeatAt) (place : seat.place ≡ p) (number : seat.number ≡ m) where
     taken_back : (slot : ℕ) (mid : View) (home : Option ℕ) (e : Entry) → mid.pending ≡ v.pending → mid.flying ≡ v.flying → mid.pending e.key ≡ Some (record { entry = e; slot = Some slot })
         → MatchOption home (TidiedIn seat.place seat.number (after_give_up e mid) u) (λ h. TidiedIn seat.place seat.number (after_finish e h mid) u) → Stays
     taken_back slot mid None e pending flying there T = (
@@ -78,16 +78,16 @@ module _ (p : Place) (m : ℕ) (v u : View) (w x : Worker) (H : Holds p m v w) (
     )
 
     -- a core that has stopped
-    stopped_stays : w.stopped ≡ true → Did s refused before seat (at_entry w v) (at_entry x u) → Stays
-    stopped_stays stop (goes_round (inl C)) = absurd (clash w.stopped stop C.runs)
-    stopped_stays stop (goes_round (inr R)) = absurd (clash w.stopped stop R.runs)
-    stopped_stays stop (withdraws after all (inl W)) =
+    stopped_stays : w.stopped ≡ true → Did s t refused before seat (at_entry w v) (at_entry x u) → Stays
+    stopped_stays stop (goes_round quiet (inl C)) = absurd (clash w.stopped stop C.runs)
+    stopped_stays stop (goes_round quiet (inr R)) = absurd (clash w.stopped stop R.runs)
+    stopped_stays stop (withdraws quiet after all (inl W)) =
         let back = W.retracts.back in
         let e = W.change.entry in (
           λ k d is. ap (λ (z : View). z.pending k) back.view ∙ put_else v.pending e.key k None (apart e.key k back.slot e d back.pending is) ∙ is,
           ap (λ (z : View). z.flying) back.view,
         )
-    stopped_stays stop (withdraws after all (inr U)) = (
+    stopped_stays stop (withdraws quiet after all (inr U)) = (
       λ k d is. ap (λ (z : View). z.pending k) U.1.view ∙ ap (λ (z : View). z.pending k) U.1.found.view.1 ∙ is,
       ap (λ (z : View). z.flying) U.1.view ∙ ap (λ (z : View). z.flying) U.1.found.view.1,
     )
@@ -95,13 +95,13 @@ module _ (p : Place) (m : ℕ) (v u : View) (w x : Worker) (H : Holds p m v w) (
       by : (b : Bool) → PersistsOrLoses b seat.number (at_entry w v) (at_entry x u) → Stays
       by false P = absurd (subst MayLeadStopped P.led (O.stops stop))
       by true P = absurd (subst MayLeadStopped P.led (O.stops stop))
-    stopped_stays stop (marks M) = stays_as _ M.view refl refl
-    stopped_stays stop (fails F) = stays_as _ F.view refl refl
-    stopped_stays stop (finishes all F) = taken_back F.slot F.mid F.finishes.takes.home F.finishes.takes.entry (ap (λ (z : View). z.pending) F.before.looked.view) (ap (λ (z : View). z.flying) F.before.looked.view) F.finishes.takes.pending F.finishes.takes.view
-    stopped_stays stop (posts P) = absurd (clash w.stopped stop P.runs.0)
+    stopped_stays stop (marks quiet M) = stays_as _ M.view refl refl
+    stopped_stays stop (fails quiet F) = stays_as _ F.view refl refl
+    stopped_stays stop (finishes quiet all F) = taken_back F.slot F.mid F.finishes.takes.home F.finishes.takes.entry (ap (λ (z : View). z.pending) F.before.looked.view) (ap (λ (z : View). z.flying) F.before.looked.view) F.finishes.takes.pending F.finishes.takes.view
+    stopped_stays stop (posts P plain) = absurd (clash w.stopped stop P.runs.0)
     stopped_stays stop (loses_block L) = absurd (clash w.stopped stop L.runs.0)
-    stopped_stays stop (drops all D) = stays_as _ (D.view ∙ D.before.looked.view) refl refl
-    stopped_stays stop (locks L) = (
+    stopped_stays stop (drops quiet all D) = stays_as _ (D.view ∙ D.before.looked.view) refl refl
+    stopped_stays stop (locks quiet L) = (
       λ k d is. ap (λ (z : View). z.pending k) L.view ∙ ap (λ (z : View). z.pending k) L.before.looked.view ∙ is,
       ap (λ (z : View). z.flying) L.view ∙ ap (λ (z : View). z.flying) L.before.looked.view,
     )
@@ -117,39 +117,39 @@ module _ (p : Place) (m : ℕ) (v u : View) (w x : Worker) (H : Holds p m v w) (
     still same runs stop = clash w.stopped (sym same ∙ stop) runs
 
     -- one that runs, and then has an own change in doubt
-    now_rests : w.stopped ≡ false → x.stopped ≡ true → HasDoubt p m u → Did s refused before seat (at_entry w v) (at_entry x u) → u.flying ≡ []
-    now_rests runs stop D (goes_round (inl C)) = absurd (still (ap (λ (z : Worker). z.stopped) C.same) runs stop)
-    now_rests runs stop D (goes_round (inr R)) = absurd (still (ap (λ (z : Worker). z.stopped) R.same) runs stop)
-    now_rests runs stop D (withdraws after all (inl W)) =
+    now_rests : w.stopped ≡ false → x.stopped ≡ true → HasDoubt p m u → Did s t refused before seat (at_entry w v) (at_entry x u) → u.flying ≡ []
+    now_rests runs stop D (goes_round quiet (inl C)) = absurd (still (ap (λ (z : Worker). z.stopped) C.same) runs stop)
+    now_rests runs stop D (goes_round quiet (inr R)) = absurd (still (ap (λ (z : Worker). z.stopped) R.same) runs stop)
+    now_rests runs stop D (withdraws quiet after all (inl W)) =
         absurd (still (ap (λ (z : Worker). z.stopped) W.rest ∙ ap (λ (z : Worker). z.stopped) W.puts.2.lets.rest ∙ ap (λ (z : Worker). z.stopped) W.retracts.leads_now) runs stop)
-    now_rests runs stop D (withdraws after all (inr U)) = absurd (still (ap (λ (z : Worker). z.stopped) U.1.same) runs stop)
+    now_rests runs stop D (withdraws quiet after all (inr U)) = absurd (still (ap (λ (z : Worker). z.stopped) U.1.same) runs stop)
     now_rests runs stop D (writes P) = by x.stopped P where
       by : (b : Bool) → PersistsOrLoses b seat.number (at_entry w v) (at_entry x u) → u.flying ≡ []
       by false P = absurd (still (ap (λ (z : Worker). z.stopped) P.same) runs stop)
       by true P = absurd (no_doubt runs (doubted_in v P.view refl D))
-    now_rests runs stop D (marks M) = absurd (still (ap (λ (z : Worker). z.stopped) M.same) runs stop)
-    now_rests runs stop D (fails F) = absurd (still (ap (λ (z : Worker). z.stopped) F.same) runs stop)
-    now_rests runs stop D (finishes all F) = (taken_back F.slot F.mid F.finishes.takes.home F.finishes.takes.entry (ap (λ (z : View). z.pending) F.before.looked.view) (ap (λ (z : View). z.flying) F.before.looked.view) F.finishes.takes.pending F.finishes.takes.view).1 ∙ idle_flies F.before.free runs
-    now_rests runs stop D (posts P) = absurd (still (ap (λ (z : Worker). z.stopped) P.same) runs stop)
+    now_rests runs stop D (marks quiet M) = absurd (still (ap (λ (z : Worker). z.stopped) M.same) runs stop)
+    now_rests runs stop D (fails quiet F) = absurd (still (ap (λ (z : Worker). z.stopped) F.same) runs stop)
+    now_rests runs stop D (finishes quiet all F) = (taken_back F.slot F.mid F.finishes.takes.home F.finishes.takes.entry (ap (λ (z : View). z.pending) F.before.looked.view) (ap (λ (z : View). z.flying) F.before.looked.view) F.finishes.takes.pending F.finishes.takes.view).1 ∙ idle_flies F.before.free runs
+    now_rests runs stop D (posts P plain) = absurd (still (ap (λ (z : Worker). z.stopped) P.same) runs stop)
     now_rests runs stop D (loses_block L) = absurd (no_doubt runs (doubted_in _ (L.view ∙ L.before.looked.view) refl D))
-    now_rests runs stop D (drops all E) = absurd (clash w.stopped E.stopped runs)
-    now_rests runs stop D (locks L) = absurd (still (ap (λ (z : Worker). z.stopped) L.same) runs stop)
+    now_rests runs stop D (drops quiet all E) = absurd (clash w.stopped E.stopped runs)
+    now_rests runs stop D (locks quiet L) = absurd (still (ap (λ (z : Worker). z.stopped) L.same) runs stop)
 
-    turn_stays : (r : Result Turn Memory) → w.stopped ≡ true → TurnedTo r s refused before seat (at_entry w v) (at_entry x u) → Stays
+    turn_stays : (r : Result Turn Memory) → w.stopped ≡ true → TurnedTo r s t refused before seat (at_entry w v) (at_entry x u) → Stays
     turn_stays (Ok Moved) stop T = stopped_stays stop T
     turn_stays (Err e) stop T = stopped_stays stop T
-    turn_stays (Ok Idle) stop T = elim T.lock [
-      | inl none ↦ stays_as _ (none.1 ∙ T.before.looked.view) refl refl
+    turn_stays (Ok Idle) stop T = elim T.1.lock [
+      | inl none ↦ stays_as _ (none.1 ∙ T.1.before.looked.view) refl refl
       | inr found ↦ (
-        λ k d is. ap (λ (z : View). z.pending k) found.1.2 ∙ ap (λ (z : View). z.pending k) T.before.looked.view ∙ is,
-        ap (λ (z : View). z.flying) found.1.2 ∙ ap (λ (z : View). z.flying) T.before.looked.view,
+        λ k d is. ap (λ (z : View). z.pending k) found.1.2 ∙ ap (λ (z : View). z.pending k) T.1.before.looked.view ∙ is,
+        ap (λ (z : View). z.flying) found.1.2 ∙ ap (λ (z : View). z.flying) T.1.before.looked.view,
       )
     ]
 
-    turn_rests : (r : Result Turn Memory) → w.stopped ≡ false → x.stopped ≡ true → HasDoubt p m u → TurnedTo r s refused before seat (at_entry w v) (at_entry x u) → u.flying ≡ []
+    turn_rests : (r : Result Turn Memory) → w.stopped ≡ false → x.stopped ≡ true → HasDoubt p m u → TurnedTo r s t refused before seat (at_entry w v) (at_entry x u) → u.flying ≡ []
     turn_rests (Ok Moved) runs stop D T = now_rests runs stop D T
     turn_rests (Err e) runs stop D T = now_rests runs stop D T
-    turn_rests (Ok Idle) runs stop D T = absurd (still (ap (λ (z : Worker). z.stopped) T.same) runs stop)
+    turn_rests (Ok Idle) runs stop D T = absurd (still (ap (λ (z : Worker). z.stopped) T.1.same) runs stop)
 
 module _ (seat : SeatAt) (refused : Bool) where
   -- a core that has stopped for no call of its own
@@ -163,13 +163,13 @@ module _ (seat : SeatAt) (refused : Bool) where
   turn_because a b at R T = by b.worker.stopped refl where
     was : (c : Bool) → a.worker.stopped ≡ c → b.worker.stopped ≡ true → Because a b
     was true stop now =
-        let S = turn_stays seat.place seat.number a.view b.view a.worker b.worker at.member.holds at.member.order a.region refused T.before seat refl refl T.result stop T.turned in
+        let S = turn_stays seat.place seat.number a.view b.view a.worker b.worker at.member.holds at.member.order a.region b.region refused T.before seat refl refl T.result stop T.turned in
         let old = R stop in
         inr (λ q. ((old.0.0, old.0.1, old.0.2, S.0 old.0.0 old.0.1 old.0.3), S.1 ∙ old.1))
     was false runs now = elim (T.moves.moves.stops now) [
       | inl stop ↦ absurd (clash a.worker.stopped stop runs)
       | inr (inl rose) ↦ inl rose
-      | inr (inr doubt) ↦ inr (λ q. (doubt.0, turn_rests seat.place seat.number a.view b.view a.worker b.worker at.member.holds at.member.order a.region refused T.before seat refl refl T.result runs now doubt.0 T.turned))
+      | inr (inr doubt) ↦ inr (λ q. (doubt.0, turn_rests seat.place seat.number a.view b.view a.worker b.worker at.member.holds at.member.order a.region b.region refused T.before seat refl refl T.result runs now doubt.0 T.turned))
     ]
 
     by : (c : Bool) → b.worker.stopped ≡ c → Because a b

@@ -22,7 +22,7 @@ use Rattle.core_worker.specs.Turning.{Did, TurnedTo, at_entry}
 use Rattle.core_worker.specs.Turning.Did.{goes_round, withdraws, writes, marks, fails, finishes, posts, loses_block, drops, locks}
 use Rattle.core_worker.specs.Turns.{PersistsOrLoses}
 
-module _ (s : State) (refused : Bool) (before : Option Group) (seat : SeatAt) (v u : View) (w x : Worker) where
+module _ (s t : State) (refused : Bool) (before : Option Group) (seat : SeatAt) (v u : View) (w x : Worker) where
   -- where it took nothing
   same : (y : View) → u ≡ y → lines_in y.took ≡ lines_in v.took → lines_in v.took ≤ lines_in u.took
   same y e is = let at = ap (λ (z : View). lines_in z.took) e in omega (arith, at, is)
@@ -32,32 +32,32 @@ module _ (s : State) (refused : Bool) (before : Option Group) (seat : SeatAt) (v
   taken_back mid is None e T = let at = ap (λ (z : View). lines_in z.took) T.4 in omega (arith, at, is)
   taken_back mid is (Some h) e T = let at = ap (λ (z : View). lines_in z.took) T.4 in omega (arith, at, is)
 
-  pub did_grows : Did s refused before seat (at_entry w v) (at_entry x u) → lines_in v.took ≤ lines_in u.took
-  did_grows (goes_round (inl C)) =
+  pub did_grows : Did s t refused before seat (at_entry w v) (at_entry x u) → lines_in v.took ≤ lines_in u.took
+  did_grows (goes_round quiet (inl C)) =
       let at = ap (λ (z : View). lines_in z.took) C.went.0.view in
       let more : lines_in (v.took ++ C.went.0.change.change.entry ∷ []) ≡ lines_in v.took + lines_in (C.went.0.change.change.entry ∷ []) = sum_by-append _ v.took (C.went.0.change.change.entry ∷ []) in
       omega (arith, at, more)
-  did_grows (goes_round (inr R)) = same (after_unlock R.mid) R.view (ap (λ (z : View). lines_in z.took) R.went.0.view.1)
-  did_grows (withdraws after all (inl W)) = let at = ap (λ (z : View). lines_in z.took) W.retracts.back.view in omega (arith, at)
-  did_grows (withdraws after all (inr U)) = same (after_unlock U.1.mid) U.1.view (ap (λ (z : View). lines_in z.took) U.1.found.view.1)
+  did_grows (goes_round quiet (inr R)) = same (after_unlock R.mid) R.view (ap (λ (z : View). lines_in z.took) R.went.0.view.1)
+  did_grows (withdraws quiet after all (inl W)) = let at = ap (λ (z : View). lines_in z.took) W.retracts.back.view in omega (arith, at)
+  did_grows (withdraws quiet after all (inr U)) = same (after_unlock U.1.mid) U.1.view (ap (λ (z : View). lines_in z.took) U.1.found.view.1)
   did_grows (writes P) = by x.stopped P where
     by : (b : Bool) → PersistsOrLoses b seat.number (at_entry w v) (at_entry x u) → lines_in v.took ≤ lines_in u.took
     by false P = let at = ap (λ (z : View). lines_in z.took) P.view in omega (arith, at)
     by true P = let at = ap (λ (z : View). lines_in z.took) P.view in omega (arith, at)
-  did_grows (marks M) = let at = ap (λ (z : View). lines_in z.took) M.view in omega (arith, at)
-  did_grows (fails F) = let at = ap (λ (z : View). lines_in z.took) F.view in omega (arith, at)
-  did_grows (finishes all F) = taken_back F.mid (ap (λ (z : View). lines_in z.took) F.before.looked.view) F.finishes.takes.home F.finishes.takes.entry F.finishes.takes.view
-  did_grows (posts P) = let at = ap (λ (z : View). lines_in z.took) P.view in let was = ap (λ (z : View). lines_in z.took) P.before.looked.view in omega (arith, at, was)
+  did_grows (marks quiet M) = let at = ap (λ (z : View). lines_in z.took) M.view in omega (arith, at)
+  did_grows (fails quiet F) = let at = ap (λ (z : View). lines_in z.took) F.view in omega (arith, at)
+  did_grows (finishes quiet all F) = taken_back F.mid (ap (λ (z : View). lines_in z.took) F.before.looked.view) F.finishes.takes.home F.finishes.takes.entry F.finishes.takes.view
+  did_grows (posts P plain) = let at = ap (λ (z : View). lines_in z.took) P.view in let was = ap (λ (z : View). lines_in z.took) P.before.looked.view in omega (arith, at, was)
   did_grows (loses_block L) = same L.mid L.view (ap (λ (z : View). lines_in z.took) L.before.looked.view)
-  did_grows (drops all D) = same D.mid D.view (ap (λ (z : View). lines_in z.took) D.before.looked.view)
-  did_grows (locks L) = let at = ap (λ (z : View). lines_in z.took) L.view in let was = ap (λ (z : View). lines_in z.took) L.before.looked.view in omega (arith, at, was)
+  did_grows (drops quiet all D) = same D.mid D.view (ap (λ (z : View). lines_in z.took) D.before.looked.view)
+  did_grows (locks quiet L) = let at = ap (λ (z : View). lines_in z.took) L.view in let was = ap (λ (z : View). lines_in z.took) L.before.looked.view in omega (arith, at, was)
 
-  pub turn_grows : (r : Result Turn Memory) → TurnedTo r s refused before seat (at_entry w v) (at_entry x u) → lines_in v.took ≤ lines_in u.took
+  pub turn_grows : (r : Result Turn Memory) → TurnedTo r s t refused before seat (at_entry w v) (at_entry x u) → lines_in v.took ≤ lines_in u.took
   turn_grows (Ok Moved) T = did_grows T
   turn_grows (Err e) T = did_grows T
-  turn_grows (Ok Idle) T = elim T.lock [
-    | inl none ↦ same T.mid none.1 (ap (λ (z : View). lines_in z.took) T.before.looked.view)
-    | inr found ↦ (let at = ap (λ (z : View). lines_in z.took) found.1.2 in let was = ap (λ (z : View). lines_in z.took) T.before.looked.view in omega (arith, at, was))
+  turn_grows (Ok Idle) T = elim T.1.lock [
+    | inl none ↦ same T.1.mid none.1 (ap (λ (z : View). lines_in z.took) T.1.before.looked.view)
+    | inr found ↦ (let at = ap (λ (z : View). lines_in z.took) found.1.2 in let was = ap (λ (z : View). lines_in z.took) T.1.before.looked.view in omega (arith, at, was))
   ]
 
 -- who is no member posts nothing

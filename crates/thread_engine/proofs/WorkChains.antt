@@ -143,7 +143,7 @@ module _ (key_goes : KeyGoes) (seat : SeatAt) where
   -- a turn keeps the blocks of changes in doubt
   module _ (refused : Bool) (a b : WorkState) (at : IsAtWork seat a) (D : KeepsDoubts seat a.view) (T : MakesTurn seat refused a b) where
     keeps : (k q : ℕ) (d : Entry) (bytes : List ℕ) → b.view.pending k ≡ Some (in_doubt d) → a.view.blocks q ≡ Some (record { key = k; bytes = bytes }) → b.view.blocks q ≡ a.view.blocks q
-    keeps k q d bytes now there = turn_keeps seat.place seat.number a.region refused T.before seat refl refl a.view b.view a.worker b.worker at.member.holds k q d bytes now there T.result T.turned
+    keeps k q d bytes now there = turn_keeps seat.place seat.number a.region b.region refused T.before seat refl refl a.view b.view a.worker b.worker at.member.holds k q d bytes now there T.result T.turned
 
     carry : (k : ℕ) (d : Entry) → b.view.pending k ≡ Some (in_doubt d) → (body : Body) → HasBlock a.view k body → HasBlock b.view k body × (left_in b.view.blocks body ≡ left_in a.view.blocks body)
     carry k d now (bodies.Pointer q) h = let same = keeps k q d h.0 now h.1 in ((h.0, same ∙ h.1), ap bytes_of same)

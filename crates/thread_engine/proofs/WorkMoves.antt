@@ -6,7 +6,7 @@ use Rattle.group_board.specs.Seats.{SeatAt}
 use Rattle.core_worker.specs.declared.worker.Worker.{Worker}
 use Rattle.core_worker.specs.Supplies.{HasKeptRoom}
 use Rattle.thread_engine.specs.declared.core_job.CoreJob.{CoreJob}
-use Rattle.thread_engine.specs.WorkStates.{WorkState, IsAtWork, Move, Leads, Works, GoesOn, stands_at}
+use Rattle.thread_engine.specs.WorkStates.{Sight, WorkState, IsAtWork, Move, Leads, Works, GoesOn, stands_at}
 
 pub leads_more : (seat : SeatAt) (refused : Bool) (a : WorkState) (xs : List WorkState) (b : WorkState) (ys : List WorkState) (c : WorkState) → Leads seat refused a xs b → Leads seat refused b ys c → Leads seat refused a (xs ++ ys) c
 leads_more seat refused a [] b ys c e more = subst (λ z. Leads seat refused z ys c) e more
@@ -21,7 +21,7 @@ works_none seat refused a = record { path = []; leads = refl }
 pub works_one : (seat : SeatAt) (refused : Bool) (a b : WorkState) → Move seat refused a b → IsAtWork seat b → Works seat refused a b
 works_one seat refused a b m at = record { path = b ∷ []; leads = (m, at, refl) }
 
-module _ {B P : Type 0} (seat : B → SeatAt) (view : B → View) (state : P → State) (refused : Bool) where
+module _ {B P : Type 0} (seat : B → SeatAt) (view : B → Sight) (state : P → State) (refused : Bool) where
   pub none_yet : (x : CoreJob B P) → IsAtWork (seat x.seat) (stands_at view state x) → GoesOn seat view state refused x x
   none_yet x at = record { seat_is = refl; work = at; works = works_none (seat x.seat) refused (stands_at view state x) }
 

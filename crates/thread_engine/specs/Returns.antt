@@ -10,7 +10,9 @@ use Rattle.atomic_board.specs.declared.group_table.GroupTable.{GroupTable}
 use Rattle.atomic_board.specs.declared.token.SeatToken.{SeatToken}
 use Rattle.atomic_board.specs.declared.token.CoreSeat.{CoreSeat}
 use Rattle.atomic_board.specs.GroupTables.{id_of}
-use Rattle.atomic_board.specs.MemberSeats.{seat_of, view_at}
+use Rattle.atomic_board.specs.Deeds.{committed_at}
+use Rattle.atomic_board.specs.MemberSeats.{seat_of, view_at, trail_at, done_at}
+use Rattle.batch_leader.specs.TurnSteps.{trail_with}
 use Rattle.thread_engine.specs.declared.core_job.CoreJob.{CoreJob}
 use Rattle.thread_engine.specs.declared.muster.Crew.{Crew}
 use Rattle.thread_engine.specs.declared.muster.Returned.{Returned}
@@ -49,7 +51,13 @@ pub record Gave {P : Type 0} (jobs : List (CoreJob CoreSeat P)) (x : Returned P)
 -- where a core stands, by what it has
 abbrev pub core_stands : {P : Type 0} → (P → State) → P → SeatToken → Worker → List (ℕ × Request)
     → WorkState
-core_stands state p t w q = record { region = state p; view = view_at t.own; worker = w; queue = q }
+core_stands state p t w q = record {
+  region = state p;
+  view = view_at t.own;
+  trail = trail_with (trail_at t.own) (committed_at (done_at t.own));
+  worker = w;
+  queue = q;
+}
 
 -- each core is at work
 abbrev pub AllAtWork : {P : Type 0} → (P → State) → List P → Crew → Type 0

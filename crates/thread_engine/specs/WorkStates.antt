@@ -6,6 +6,8 @@ use Rattle.pm_region.specs.State.{State}
 use Rattle.group_laws.specs.State.{Group}
 use Rattle.group_laws.specs.MemberViews.{View}
 use Rattle.group_board.specs.Seats.{SeatAt}
+use Rattle.group_board.specs.Trails.{TrailStep}
+use Rattle.batch_leader.specs.TurnSteps.{Trail, TurnSteps, trail_with}
 use Rattle.core_worker.specs.declared.types.Turn.{Turn}
 use Rattle.core_worker.specs.declared.worker.Worker.{Worker}
 use Rattle.core_worker.specs.Beginning.{answers_of}
@@ -17,18 +19,29 @@ use Rattle.group_engine.specs.Calls.{AreOwn, AcceptsAs, is_open}
 use Rattle.group_engine.specs.Working.{IsMember, may_take, leads, BeginsRequest}
 use Rattle.thread_engine.specs.declared.core_job.CoreJob.{CoreJob}
 
--- Its piece of the region, its view, its worker, and the requests that the worker has not accepted yet.
+-- What a seat has: its member's view, and the steps that led to it.
+pub record Sight : Type 0 where
+  pub view : View
+  pub trail : Trail
+
+-- by what seats of a kind have
+abbrev pub sight_by : {B : Type 0} → (B → View) → (B → List TrailStep) → (B → ℕ) → B → Sight
+sight_by view trail at b = record { view = view b; trail = trail_with (trail b) (at b) }
+
+-- Its piece of the region, its view and its steps so far, its worker, and the requests that the worker has not accepted yet.
 pub record WorkState : Type 0 where
   pub region : State
   pub view : View
+  pub trail : Trail
   pub worker : Worker
   pub queue : List (ℕ × Request)
 
 -- where a core's job stands
-abbrev pub stands_at : {B P : Type 0} → (B → View) → (P → State) → CoreJob B P → WorkState
-stands_at view state x = record {
+abbrev pub stands_at : {B P : Type 0} → (B → Sight) → (P → State) → CoreJob B P → WorkState
+stands_at sight state x = record {
   region = state x.piece;
-  view = view x.seat;
+  view = (sight x.seat).view;
+  trail = (sight x.seat).trail;
   worker = x.worker;
   queue = x.queue.items;
 }
@@ -56,6 +69,7 @@ pub record Accepts (seat : SeatAt) (a b : WorkState) : Type 0 where
   pub either : ((accepted ≡ next ∷ []) × (b.queue ≡ rest)) ⊎ ((accepted ≡ []) × (b.queue ≡ a.queue))
   pub region : b.region ≡ a.region
   pub view : b.view ≡ a.view
+  pub trail : b.trail ≡ a.trail
   pub call : AcceptsAs hands_of answers_of seat.place seat.number a.region a.view a.worker b.worker
       accepted
   -- what it accepts it begins or holds, by its own order: refused exactly for its causes, with its counts
@@ -70,8 +84,11 @@ pub record MakesTurn (seat : SeatAt) (refused : Bool) (a b : WorkState) : Type 0
   pub after : Option Group
   pub result : Result Turn Memory
   pub moves : TurnMoves seat a.region b.region before after a.view b.view a.worker b.worker
-  pub turned : TurnedTo result a.region refused before seat (at_entry a.worker a.view)
+  pub turned : TurnedTo result a.region b.region refused before seat (at_entry a.worker a.view)
       (at_entry b.worker b.view)
+  -- its steps: loads, and then at most one other, which stood behind the calls of the region
+  pub passes : Bool
+  pub steps : TurnSteps passes a.region b.region a.view b.view a.trail b.trail
 
 -- it is told to wind down
 abbrev pub wound_down : WorkState → WorkState
@@ -102,8 +119,8 @@ pub record HasEnded (x : WorkState) : Type 0 where
   pub queue : x.worker.winds_down ≡ false → x.queue ≡ []
 
 -- A job so far: its seat is where it was, its core is at work, and a chain of moves led it here.
-pub record GoesOn {B P : Type 0} (seat : B → SeatAt) (view : B → View) (state : P → State)
+pub record GoesOn {B P : Type 0} (seat : B → SeatAt) (sight : B → Sight) (state : P → State)
     (refused : Bool) (old new : CoreJob B P) : Type 0 where
   pub seat_is : seat new.seat ≡ seat old.seat
-  pub work : IsAtWork (seat old.seat) (stands_at view state new)
-  pub works : Works (seat old.seat) refused (stands_at view state old) (stands_at view state new)
+  pub work : IsAtWork (seat old.seat) (stands_at sight state new)
+  pub works : Works (seat old.seat) refused (stands_at sight state old) (stands_at sight state new)

@@ -1,7 +1,7 @@
 // All cores at work, each in a thread of its own.
 ghost use Rattle.std.specs.Prelude.{◌≡◌, ℕ, ◌<◌, length, slice_index_or};
 ghost use Rattle.thread_engine.specs.declared.core_job.CoreJob as data_of;
-ghost use Rattle.thread_engine.specs.WorkStates.{IsAtWork, GoesOn, HasEnded, stands_at};
+ghost use Rattle.thread_engine.specs.WorkStates.{IsAtWork, GoesOn, HasEnded, sight_by, stands_at};
 
 use crate::core_job::CoreJob;
 use core_worker::Gate;
@@ -23,12 +23,12 @@ pub fn work_all<R: Threads + Wait + Sync, B: Board + Send, P: Region + Send, G: 
 )
     requires { (c : ℕ) (d : data_of.CoreJob B P) → c < length jobs.old
         → IsAtWork (B.seat (slice_index_or jobs.old c d).seat)
-        (stands_at B.view P.state (slice_index_or jobs.old c d)) }
+        (stands_at (sight_by B.view B.trail B.at) P.state (slice_index_or jobs.old c d)) }
     ensures worked { (c : ℕ) (d : data_of.CoreJob B P) → c < length jobs.old
-        → GoesOn B.seat B.view P.state (G.may_refuse gate.now)
+        → GoesOn B.seat (sight_by B.view B.trail B.at) P.state (G.may_refuse gate.now)
         (slice_index_or jobs.old c d) (slice_index_or jobs.new c d) }
     ensures ended { (c : ℕ) (d : data_of.CoreJob B P) → c < length jobs.old
-        → HasEnded (stands_at B.view P.state (slice_index_or jobs.new c d)) }
+        → HasEnded (stands_at (sight_by B.view B.trail B.at) P.state (slice_index_or jobs.new c d)) }
 {
     if jobs.is_empty() {
         return;

@@ -33,4 +33,4 @@ pub returns-clause-made : goal.returns-clause-made
 returns-clause-made g c = let me = c.args.self.now in trail_did (Commit (g.R.Region.state c.args.region.now).stamp) me.seat.me.0 c.commits.new.seat.me.0 me.own.0 (ap (λ x. x.0) c.commits.ensures.2)
 
 pub returns-clause-at : goal.returns-clause-at
-returns-clause-at g c = let me = c.args.self.now in committed_did (g.R.Region.state c.args.region.now).stamp me.seat.me.0 c.commits.new.seat.me.0 me.own.0 (ap (λ x. x.0) c.commits.ensures.2)
+returns-clause-at g c = let me = c.args.self.now in committed_did (g.R.Region.state c.args.region.now).stamp (Commit (g.R.Region.state c.args.region.now).stamp) (λ n. refl) me.seat.me.0 c.commits.new.seat.me.0 me.own.0 (ap (λ x. x.0) c.commits.ensures.2)

@@ -11,7 +11,7 @@ use Rattle.atomic_board.specs.TableWords.{pool_word, pool_place}
 use Rattle.atomic_board.specs.Deeds.{place_of, size}
 use Rattle.atomic_board.specs.ShownState.{lies}
 use Rattle.atomic_board.specs.SlotsOut.{numbers, all_empty, distinct, Holds}
-use Rattle.atomic_board.specs.StepTells.{view_in, number_in, origin_in, over}
+use Rattle.atomic_board.specs.StepTells.{view_in, number_in, origin_in, over, trail_in}
 use Rattle.atomic_board.proofs.OwedGiving.{finish_owes}
 use Rattle.crash_core.specs.declared.kinds.Change.{Change}
 use Rattle.atomic_board.proofs.SeatMoves.{IsSeat, after_freeing, over_pends}
@@ -19,6 +19,7 @@ use Rattle.atomic_board.proofs.SlotsHeld.{out_at, same_out, same_change}
 use Rattle.atomic_board.proofs.member_seat.MemberSeat.finish.Goals as goal
 use Rattle.atomic_board.specs.declared.seat_data.Deed.TheVariants as deeds
 use Rattle.group_laws.specs.Runs as runs
+use Rattle.group_board.specs.Trails.{step_with}
 use Rattle.atomic_board.proofs.Trails as trails
 
 pub store-requires : goal.store-requires
@@ -141,4 +142,4 @@ returns-clause-made c = let me = c.args.self.now in let at = c.pool_word_of-pool
     let freed = after_freeing (over c.args.slot e home) me.seat.me.0 c.store.new.seat.me.0 me.member me.members c.args.slot e pends.0 me.held.items me.own me.room.0 me.holds me.few.0 may.slot stands pends.1 (ap (λ x. x.0) now) pends.2 pends.3 in
     let exch = c.exchange-parcel.ensures in let same = ap (λ x. x.0) exch.3 in
     let got : c.exchange-parcel.result ≡ lies e home = sym (same_out c.store.new.seat.me.1 c.pool_place_of-place.result (lies e home) c.exchange-parcel.result (out ∙ ap₂ (λ k l. (k, lies e home) ∷ l) (sym place) (sym (ap (λ l. rest l) out))) exch.2) in
-    trails.trail_did (over c.args.slot e home) me.seat.me.0 c.exchange-parcel.new.seat.me.0 me.own.0 (same ∙ ap (λ x. x.0) now) ∙ ap (λ k. k ∷ trails.trail me.seat.me.0) (trails.over_kind c.args.slot e home)
+    trails.trail_did (over c.args.slot e home) me.seat.me.0 c.exchange-parcel.new.seat.me.0 me.own.0 (same ∙ ap (λ x. x.0) now) ∙ ap (λ k. step_with k (view_in c.exchange-parcel.new.seat.me.0) ∷ trail_in me.seat.me.0) (trails.over_kind c.args.slot e home)

@@ -10,7 +10,7 @@ use Rattle.atomic_board.specs.TableWords.{pool_place, mail_word, mail_place}
 use Rattle.atomic_board.specs.Deeds.{place_of, size}
 use Rattle.atomic_board.specs.ShownState.{grip_at}
 use Rattle.atomic_board.specs.SlotsOut.{numbers, all_empty}
-use Rattle.atomic_board.specs.StepTells.{view_in, number_in, origin_in, did, gripping}
+use Rattle.atomic_board.specs.StepTells.{view_in, number_in, origin_in, did, gripping, trail_in}
 use Rattle.atomic_board.proofs.MailboxKept.{mail_low}
 use Rattle.atomic_board.proofs.OwedMailing.{try_receive_owes, receive_owes}
 use Rattle.atomic_board.proofs.SeatMoves.{IsSeat, calm_found, holds_by, back_same, got_still}
@@ -19,6 +19,7 @@ use Rattle.atomic_board.proofs.MailInHand.{fetched, unfetched, same_notices, rec
 use Rattle.atomic_board.proofs.member_seat.MemberSeat.receive.Goals as goal
 use Rattle.atomic_board.specs.declared.seat_data.Deed.TheVariants as deeds
 use Rattle.group_laws.specs.Runs as runs
+use Rattle.group_board.specs.Trails.{step_with}
 use Rattle.atomic_board.proofs.Trails as trails
 
 pub load-found-requires : goal.load-found-requires
@@ -159,7 +160,7 @@ returns-then-found-eq-EMPTY_MAILBOX-clause-made c = let me = c.args.self.now in 
     let word : c.mail_word_of-word.result ≡ mail_word (size (origin_in me.seat.me.0)) c.args.from (number_in me.seat.me.0) = at ∙ ap₂ (λ x y. mail_word x c.args.from y) (sym me.own.2) (sym me.own.1) in
     let told = unfetched me.seat.me c.load-found.new.seat.me c.args.from c.load-found.result (c.load-found.new.seat.me ≡ (did (Found (loads.Mail c.args.from (number_in me.seat.me.0) false)) me.seat.me.0, me.seat.me.1)) (c.load-found.ensures.2 c.args.from may.sender word) (let z = c.if-found-eq-EMPTY_MAILBOX.true in z) in
     let t = calm_found me.seat.me c.load-found.new.seat.me me.member me.members me.held.items me.own me.order me.holds (loads.Mail c.args.from (number_in me.seat.me.0) false) told in
-    trails.trail_did (deeds.Found (loads.Mail c.args.from (number_in me.seat.me.0) false)) me.seat.me.0 c.load-found.new.seat.me.0 me.own.0 (ap (λ x. x.0) told) ∙ ap (λ j. runs.Kind.LookMail c.args.from j ∷ trails.trail me.seat.me.0) me.own.1
+    trails.trail_did (deeds.Found (loads.Mail c.args.from (number_in me.seat.me.0) false)) me.seat.me.0 c.load-found.new.seat.me.0 me.own.0 (ap (λ x. x.0) told) ∙ ap (λ j. step_with (runs.Kind.LookMail c.args.from j) (view_in c.load-found.new.seat.me.0) ∷ trail_in me.seat.me.0) me.own.1
 
 pub returns-clause-made : goal.returns-clause-made
 returns-clause-made c = let me = c.args.self.now in let may = c.requires.may in let at = c.mail_word_of-word.ensures in let place = c.mail_place_of-place.ensures in
@@ -177,4 +178,4 @@ returns-clause-made c = let me = c.args.self.now in let may = c.requires.may in 
     let done = c.store.ensures.2 c.args.from there in let deed = Receive c.args.from n.dead.names n.gone.names in let g = grip_at (pool_place c.args.from (number_in me.seat.me.0)) n.dead.names n.gone.names in let x = loads.Mail c.args.from (number_in me.seat.me.0) true in
     let final = ap (λ z. z.0) done.0 ∙ (ap (λ z. gripping None (did (Receive c.args.from z.dead z.gone) c.exchange-parcel.new.seat.me.0)) ready.notices ∙ ap (λ d. gripping None (did deed d)) mine) in let back = back_same deed g x me.seat.me.0 me.member me.members me.own in
     let still = got_still c.args.from n.dead.names n.gone.names g x me.seat.me.0 me.own.0 in let left = ap (λ z. z.1) done.0 ∙ ap (λ l. rest l) list in
-    trails.trail_both deed g x me.seat.me.0 c.store.new.seat.me.0 me.own.0 final ∙ ap (λ j. runs.Kind.Receive c.args.from ∷ runs.Kind.LookMail c.args.from j ∷ trails.trail me.seat.me.0) me.own.1
+    trails.trail_both deed g x me.seat.me.0 c.store.new.seat.me.0 me.own.0 final ∙ ap (λ j. step_with (runs.Kind.Receive c.args.from) (view_in c.store.new.seat.me.0) ∷ step_with (runs.Kind.LookMail c.args.from j) (after_find (loads.Mail c.args.from j true) (view_in me.seat.me.0)) ∷ trail_in me.seat.me.0) me.own.1

@@ -11,7 +11,7 @@ use Rattle.atomic_board.specs.TableWords.{pool_place, mail_word, mail_place}
 use Rattle.atomic_board.specs.Deeds.{place_of, size}
 use Rattle.atomic_board.specs.ShownState.{grip_at}
 use Rattle.atomic_board.specs.SlotsOut.{numbers, all_empty}
-use Rattle.atomic_board.specs.StepTells.{view_in, number_in, origin_in, did, gripping}
+use Rattle.atomic_board.specs.StepTells.{view_in, number_in, origin_in, did, gripping, trail_in}
 use Rattle.atomic_board.proofs.MailboxKept.{mail_low}
 use Rattle.atomic_board.proofs.OwedMailing.{try_send_owes, send_owes}
 use Rattle.atomic_board.proofs.SeatMoves.{IsSeat, calm_found, holds_by, back_same, sent_view}
@@ -19,6 +19,7 @@ use Rattle.atomic_board.proofs.MailInHand.{zero_case, other_case, send_ready}
 use Rattle.atomic_board.proofs.member_seat.MemberSeat.send.Goals as goal
 use Rattle.atomic_board.specs.declared.seat_data.Deed.TheVariants as deeds
 use Rattle.group_laws.specs.Runs as runs
+use Rattle.group_board.specs.Trails.{step_with}
 use Rattle.atomic_board.proofs.Trails as trails
 
 pub load-found-requires : goal.load-found-requires
@@ -145,7 +146,7 @@ returns-then-found-ne-EMPTY_MAILBOX-clause-made c = let me = c.args.self.now in 
     let word : c.mail_word_of-word.result ≡ mail_word (size (origin_in me.seat.me.0)) (number_in me.seat.me.0) c.args.to = at ∙ ap₂ (λ x y. mail_word x y c.args.to) (sym me.own.2) (sym me.own.1) in
     let told = other_case c.load-found.result (c.load-found.ensures.2 c.args.to word) c.if-found-ne-EMPTY_MAILBOX.true in
     let t = calm_found me.seat.me c.load-found.new.seat.me me.member me.members me.held.items me.own me.order me.holds (loads.Mail (number_in me.seat.me.0) c.args.to true) told in
-    trails.trail_did (deeds.Found (loads.Mail (number_in me.seat.me.0) c.args.to true)) me.seat.me.0 c.load-found.new.seat.me.0 me.own.0 (ap (λ x. x.0) told) ∙ ap (λ j. runs.Kind.LookMail j c.args.to ∷ trails.trail me.seat.me.0) me.own.1
+    trails.trail_did (deeds.Found (loads.Mail (number_in me.seat.me.0) c.args.to true)) me.seat.me.0 c.load-found.new.seat.me.0 me.own.0 (ap (λ x. x.0) told) ∙ ap (λ j. step_with (runs.Kind.LookMail j c.args.to) (view_in c.load-found.new.seat.me.0) ∷ trail_in me.seat.me.0) me.own.1
 
 pub returns-clause-made : goal.returns-clause-made
 returns-clause-made c = let me = c.args.self.now in let may = c.requires.may in let at = c.mail_word_of-word.ensures in let place = c.mail_place_of-place.ensures in
@@ -164,4 +165,4 @@ returns-clause-made c = let me = c.args.self.now in let may = c.requires.may in 
     let final = ap (λ z. z.0) sent ∙ ap (λ d. gripping None (did deed d)) mine in let back = back_same deed g x me.seat.me.0 me.member me.members me.own in
     let view = ap (λ d. view_in d) final ∙ sent_view c.args.to (notices_of c.args.notices) g x me.seat.me.0 me.own.0 in
     let left = ap (λ z. z.1) sent ∙ ap (λ l. rest l) list in
-    trails.trail_both deed g x me.seat.me.0 c.store.new.seat.me.0 me.own.0 final ∙ ap (λ j. runs.Kind.Send c.args.to (notices_of c.args.notices) ∷ runs.Kind.LookMail j c.args.to ∷ trails.trail me.seat.me.0) me.own.1
+    trails.trail_both deed g x me.seat.me.0 c.store.new.seat.me.0 me.own.0 final ∙ ap (λ j. step_with (runs.Kind.Send c.args.to (notices_of c.args.notices)) (view_in c.store.new.seat.me.0) ∷ step_with (runs.Kind.LookMail j c.args.to) (after_find (loads.Mail j c.args.to false) (view_in me.seat.me.0)) ∷ trail_in me.seat.me.0) me.own.1

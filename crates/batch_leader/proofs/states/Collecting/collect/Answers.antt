@@ -4,6 +4,7 @@ use Rattle.group_board.specs.Seats.{SeatAt}
 use Rattle.batch_leader.specs.Leading.{Collects, MakesAll, looks_upto, Went, SawPassed, PassesAt, steps_of}
 use Rattle.batch_leader.proofs.Steps.{no_steps, went_true, went_false, saw_on, made_true, made_false}
 use Rattle.batch_leader.proofs.SightLaws.{saw_none}
+use Rattle.batch_leader.proofs.TrailLaws.{no_loads, loads_on, loads_then}
 use Rattle.batch_leader.proofs.states.Collecting.collect.Goals as goal
 
 number_of : {a b : SeatAt} → a ≡ b → a.number ≡ b.number
@@ -51,6 +52,7 @@ round-preserved g c =
       passed = went.1;
       saw = saw_on c.args.room.now m c.args.self.now c.round.self c.visit.new.self (v c.args.board.now) (v c.round.board) (v c.visit.new.board) (w c.args.board.now) (w c.round.board) (w c.visit.new.board)
           i.low i.changes i.fresh i.own i.looked i.passed i.made c.visit.ensures.at i.saw (subst (λ (n : ℕ). SawPassed c.args.room.now n (v c.round.board) (v c.visit.new.board) c.round.self c.visit.new.self) (number_of i.sits) (c.if-visit.ensures.seen refl));
+      trail = loads_on _ _ _ _ _ _ i.trail c.if-visit.ensures.steps;
       made = made;
     }
 
@@ -72,5 +74,9 @@ round-init g c =
       looked = ((v c.args.board.now).looked, refl);
       passed = λ i ge lt. absurd (omega (arith, ge, lt));
       saw = saw_none (v c.args.board.now) m c.args.self.now.at (PassesAt c.args.room.now m c.args.self.now);
+      trail = no_loads (v c.args.board.now) (g.B.Board.trail c.args.board.now);
       made = subst (λ (n : ℕ). MakesAll (w c.args.board.now) (looks_upto m c.args.self.now.at n) (w c.args.board.now) m (v c.args.board.now)) (sym none) (no_steps (w c.args.board.now) m (g.B.Board.seat c.args.board.now).place (v c.args.board.now) (g.met.B.Board.agrees c.args.board.now));
     }
+
+pub returns-then-visit-clause-steps : goal.returns-then-visit-clause-steps
+returns-then-visit-clause-steps g c = loads_then _ _ _ _ _ _ c.round.invariant.trail c.if-visit.ensures.steps

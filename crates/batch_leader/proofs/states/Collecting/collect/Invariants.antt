@@ -1,5 +1,6 @@
 use Rattle.std.proofs.Common.{◌≡◌, ◌-◌, ◌≤◌, false}
 use Rattle.batch_leader.specs.Leading.{Collects, Suits, HasLooked, Passed, Saw, PassesAt, MakesAll, looks_upto}
+use Rattle.batch_leader.specs.TurnSteps.{OnlyLoads}
 use Rattle.batch_leader.proofs.states.Collecting.collect.Given as goal
 
 abbrev pub invariant-round : goal.invariant-round
@@ -20,6 +21,7 @@ invariant-round g l =
       looked : HasLooked (view l.fn.board) (view l.board);
       passed : Passed (whole l.fn.board) l.room m l.fn.self l.self.at;
       saw : Saw (view l.fn.board) (view l.board) m l.fn.self.at l.self.at (PassesAt l.room m l.fn.self);
+      trail : OnlyLoads (g.B.Board.view l.fn.board) (g.B.Board.view l.board) (g.B.Board.trail l.fn.board) (g.B.Board.trail l.board);
       made : MakesAll (whole l.fn.board) (looks_upto m l.fn.self.at (l.self.at - l.fn.self.at)) (whole l.board) m (view l.board);
     }
 

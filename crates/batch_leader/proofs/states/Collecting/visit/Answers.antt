@@ -1,3 +1,4 @@
+use Rattle.group_laws.specs.Runs.Kind.{Look}
 use Rattle.std.proofs.Common.{◌≡◌, inl, ℕ, ◌<◌, ◌==◌, Bool, [], ◌∷◌, ◌++◌, refl, sym, ◌∙◌, ap, subst, arith}
 use Rattle.store_image.specs.Facts.{In}
 use Rattle.group_laws.specs.declared.types.Seen.TheVariants as loads
@@ -11,6 +12,7 @@ use Rattle.batch_leader.specs.Leading.{Collects}
 use Rattle.batch_leader.specs.Rounds.{member_at, slot_at, Passes}
 use Rattle.batch_leader.proofs.CollectLaws.{collects_past, collects_still, member_low}
 use Rattle.batch_leader.proofs.Steps.{found_at, posted_word}
+use Rattle.batch_leader.proofs.TrailLaws.{no_loads, load_more, loads_then, one_only}
 use Rattle.batch_leader.proofs.states.Collecting.visit.Goals as goal
 
 pub look-found-requires : goal.look-found-requires
@@ -62,3 +64,10 @@ take_here-requires-clause-collects g c =
     subst (λ (x : SeatAt). Collects x (g.B.Board.view c.look-found.new.self) c.args.self.now) (sym c.look-found.ensures.seat)
     (collects_still (g.B.Board.seat c.args.board.now) (g.B.Board.view c.args.board.now) (g.B.Board.view c.look-found.new.self) c.args.self.now c.args.self.now c.requires.collects refl refl refl
     (ap (λ (u : View). u.taken) seen.2) (ap (λ (u : View). u.holds) seen.2) (ap (λ (u : View). u.flying) seen.2) (ap (λ (u : View). u.broken) seen.2) (ap (λ (u : View). u.pending) seen.2) (ap (λ (u : View). u.kept) seen.2))
+
+pub returns-in-Some-clause-steps : goal.returns-in-Some-clause-steps
+returns-in-Some-clause-steps g c =
+    loads_then _ _ _ _ _ _ (load_more _ _ _ _ _ _ (Look c.member_at-member.result c.slot_at-slot.result) (loads.Slot c.member_at-member.result c.slot_at-slot.result c.look-found.ensures.view.0) (no_loads (g.B.Board.view c.args.board.now) (g.B.Board.trail c.args.board.now)) refl c.look-found.ensures.view.2 c.look-found.ensures.made) (one_only _ _ _ _ _ c.take_here.ensures.step refl)
+
+pub returns-in-None-clause-steps : goal.returns-in-None-clause-steps
+returns-in-None-clause-steps g c = load_more _ _ _ _ _ _ (Look c.member_at-member.result c.slot_at-slot.result) (loads.Slot c.member_at-member.result c.slot_at-slot.result c.look-found.ensures.view.0) (no_loads (g.B.Board.view c.args.board.now) (g.B.Board.trail c.args.board.now)) refl c.look-found.ensures.view.2 c.look-found.ensures.made

@@ -19,6 +19,7 @@ use Rattle.batch_leader.proofs.CollectLaws.{collects_still}
 use Rattle.batch_leader.proofs.Steps.{no_steps, one_step, makes_then, posted_word}
 use Rattle.batch_leader.proofs.WithdrawLaws.{own_member, own_slot, looks_more, lower_more}
 use Rattle.batch_leader.proofs.SightLaws.{saw_none, saw_one, saw_then}
+use Rattle.batch_leader.proofs.TrailLaws.{no_loads, load_more, loads_then, one_only}
 use Rattle.batch_leader.proofs.states.Collecting.withdraw_own.Goals as goal
 
 number_of : {a b : SeatAt} → a ≡ b → a.number ≡ b.number
@@ -45,6 +46,7 @@ slots-init g c =
       looked = ((g.B.Board.view c.args.board.now).looked, refl);
       lower = λ i lt. absurd (omega (arith, lt));
       saw = saw_none (g.B.Board.view c.args.board.now) seat.number 0 (λ i x. IsNotPosted x);
+      trail = no_loads (g.B.Board.view c.args.board.now) (g.B.Board.trail c.args.board.now);
       made = no_steps (g.B.Board.whole c.args.board.now) seat.number seat.place (g.B.Board.view c.args.board.now) (g.met.B.Board.agrees c.args.board.now);
     }
 
@@ -114,5 +116,10 @@ slots-preserved g c =
       saw = saw_then (v c.args.board.now) (v c.slots.board) (v c.look-found.new.self) m 0 c.slots.slot (c.slots.slot + 1) (λ i x. IsNotPosted x) i.saw
           (saw_one (v c.slots.board) (v c.look-found.new.self) m c.slots.slot c.member-own.result c.slots.slot seen.0 c.look-found.result (λ i x. IsNotPosted x)
           (own ∙ sym (own_member m c.slots.slot c.slots-test.true)) (sym (own_slot c.slots.slot c.slots-test.true)) seen.1 seen.2 c.if-is_posted.ensures);
+      trail = load_more _ _ _ _ _ _ (Look c.member-own.result c.slots.slot) (loads.Slot c.member-own.result c.slots.slot c.look-found.ensures.view.0) i.trail refl c.look-found.ensures.view.2 c.look-found.ensures.made;
       made = looks_more (w c.args.board.now) (w c.slots.board) (w c.look-found.new.self) m c.slots.slot (v c.slots.board) (v c.look-found.new.self) c.look-found.result c.slots-test.true i.made step;
     }
+
+pub returns-then-is_posted-clause-steps : goal.returns-then-is_posted-clause-steps
+returns-then-is_posted-clause-steps g c =
+    loads_then _ _ _ _ _ _ (load_more _ _ _ _ _ _ (Look c.member-own.result c.slots.slot) (loads.Slot c.member-own.result c.slots.slot c.look-found.ensures.view.0) c.slots.invariant.trail refl c.look-found.ensures.view.2 c.look-found.ensures.made) (one_only _ _ _ _ (Withdraw c.slots.slot) c.withdraw.ensures.made refl)

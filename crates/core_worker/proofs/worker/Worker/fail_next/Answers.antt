@@ -10,6 +10,7 @@ use Rattle.core_worker.proofs.Led.{failed_by, failed_stands}
 use Rattle.core_worker.proofs.Giving.{gives_some, leads_lost, lost_space}
 use Rattle.core_worker.proofs.Made.{one_step}
 use Rattle.core_worker.proofs.LeftItems.{fails_lower}
+use Rattle.batch_leader.proofs.Clients.{turn_of_few}
 use Rattle.core_worker.proofs.worker.Worker.fail_next.Goals as goal
 
 pub returns-clause-holds : goal.returns-clause-holds
@@ -78,3 +79,6 @@ returns-clause-less g c =
     let had = led_here seat v c.args.self.now.leading (leads.Failed c.in-Failed.lost) c.requires.holds.leads (sym c.in-Failed.ensures.value) in
     let gave = gives_some c.fail_one-failed.result failed (λ a s. runs.Kind.Fail a s) m (g.B.Board.whole c.args.board.now) (g.B.Board.whole c.fail_one-failed.new.board) v u c.in-Failed.lost.left.taken.items c.fail_one-failed.new.self.left.taken.items c.fail_one-failed.ensures.gave had.2 in
     fails_lower (g.B.Board.whole c.args.board.now) (g.B.Board.whole c.fail_one-failed.new.board) m gave.first c.fail_one-failed.new.self.left.taken.items u c.args.self.now (record c.args.self.now { leading = c.still_lost.result }) c.still_lost.ensures refl (g.met.B.Board.lawful c.args.board.now) gave.whole
+
+pub returns-clause-steps : goal.returns-clause-steps
+returns-clause-steps g c passes s = turn_of_few c.fail_one-_failed.result passes s _ _ _ _ _ _ c.fail_one-_failed.ensures.steps

@@ -9,6 +9,7 @@ use Rattle.core_worker.specs.declared.types.Place.{Place}
 use Rattle.core_worker.specs.OwnPlaces.{place_at}
 use Rattle.core_worker.specs.Searching.{Sees, Searched}
 use Rattle.core_worker.proofs.SearchLaws.{searched_none, searched_on, searched_all, found_below, found_made}
+use Rattle.batch_leader.proofs.Clients.{no_loads, loads_on}
 use Rattle.core_worker.proofs.worker.Worker.find_back.Goals as goal
 
 pub loop-slot-init : goal.loop-slot-init
@@ -17,6 +18,7 @@ loop-slot-init g c =
     record {
       sits = refl;
       searched = searched_none (g.B.Board.whole c.args.board.now) seat.number seat.place c.args.self.now.places.items (g.B.Board.view c.args.board.now) (g.met.B.Board.agrees c.args.board.now);
+      trail = no_loads (g.B.Board.view c.args.board.now) (g.B.Board.trail c.args.board.now);
     }
 
 pub look_place-seen-requires-clause-member : goal.look_place-seen-requires-clause-member
@@ -58,6 +60,7 @@ loop-slot-preserved g c =
           (searched_on (w c.args.board.now) (w c.loop-slot.board) (w c.look_place-seen.new.board) seat.number c.args.self.now.places.items (v c.args.board.now) c.loop-slot.slot c.loop-slot.posted (v c.loop-slot.board) (v c.look_place-seen.new.board) i.searched c.look_place-seen.result
           (sees_by (g.B.Board.seat c.loop-slot.board) seat c.loop-slot.slot (w c.loop-slot.board) (w c.look_place-seen.new.board) (v c.loop-slot.board) (v c.look_place-seen.new.board) (place_at c.args.self.now.places.items c.loop-slot.slot) c.look_place-seen.result i.sits c.look_place-seen.ensures.sees)
           (sym c.shows_back.ensures ∙ c.if-shows_back.false));
+      trail = loads_on _ _ _ _ _ _ i.trail c.look_place-seen.ensures.steps;
     }
 
 pub returns-clause-finds : goal.returns-clause-finds
@@ -68,3 +71,6 @@ returns-clause-finds g c =
     let end : c.loop-slot.slot ≡ 8 = omega (arith, over, c.loop-slot.auto.slot-end) in
     let S = subst (λ n. Searched (g.B.Board.whole c.args.board.now) (g.B.Board.whole c.loop-slot.board) seat.number c.args.self.now.places.items (g.B.Board.view c.args.board.now) n c.loop-slot.posted (g.B.Board.view c.loop-slot.board)) end i.searched in
     searched_all (g.B.Board.whole c.args.board.now) (g.B.Board.whole c.loop-slot.board) seat.number c.args.self.now (g.B.Board.view c.args.board.now) c.loop-slot.posted (g.B.Board.view c.loop-slot.board) c.requires.nothing S
+
+pub returns-then-shows_back-clause-steps : goal.returns-then-shows_back-clause-steps
+returns-then-shows_back-clause-steps g c = loads_on _ _ _ _ _ _ c.loop-slot.invariant.trail c.look_place-seen.ensures.steps

@@ -17,6 +17,7 @@ use Rattle.batch_leader.proofs.Clients.{makes_then}
 use Rattle.core_worker.proofs.Made.{one_step, and_then, round_of, steps_made}
 use Rattle.core_worker.specs.Turns.{Collects, Releases}
 use Rattle.core_worker.proofs.LeftRounds.{collects_lower, releases_lower}
+use Rattle.batch_leader.proofs.Clients.{loads_then, one_only, turn_of_one}
 use Rattle.core_worker.proofs.worker.Worker.go_round.Goals as goal
 
 pub returns-in-Took-clause-holds : goal.returns-in-Took-clause-holds
@@ -170,3 +171,9 @@ returns-in-RoundOver-clause-less g c rule starts =
     } in
     releases_lower w0 w2 here (record { worker = w; view = v }) (record { worker = new; view = u }) R c.requires.holds rule starts (c.in-RoundOver.ensures.over refl).1 c.requires.holds.member (g.met.B.Board.agrees c.args.board.now) (g.met.B.Board.lawful c.args.board.now)
     (makes_then w0 w1 w2 xs ((m, runs.Kind.Unlock) ∷ []) m mid u c.in-RoundOver.ensures.made (one_step w1 w2 m runs.Kind.Unlock u (subst (λ (q : SeatAt). Makes w1 q.number runs.Kind.Unlock w2 u) c.collect.ensures.seat c.release.ensures.whole)))
+
+pub returns-in-Took-clause-steps : goal.returns-in-Took-clause-steps
+returns-in-Took-clause-steps g c passes s = turn_of_one passes s _ _ _ _ _ _ c.in-Took.ensures.steps
+
+pub returns-in-RoundOver-clause-steps : goal.returns-in-RoundOver-clause-steps
+returns-in-RoundOver-clause-steps g c passes s = turn_of_one passes s _ _ _ _ _ _ (loads_then _ _ _ _ _ _ c.in-RoundOver.ensures.steps (one_only _ _ _ _ (runs.Kind.Unlock) c.release.ensures.step refl))

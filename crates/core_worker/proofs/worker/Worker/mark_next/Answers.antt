@@ -10,6 +10,7 @@ use Rattle.core_worker.proofs.Led.{holds_by, stands_by}
 use Rattle.core_worker.proofs.Giving.{gives_some, leads_certain, certain_space, certain_not_lost}
 use Rattle.core_worker.proofs.Made.{one_step}
 use Rattle.core_worker.proofs.LeftItems.{marks_lower}
+use Rattle.batch_leader.proofs.Clients.{turn_of_few}
 use Rattle.core_worker.proofs.worker.Worker.mark_next.Goals as goal
 
 pub returns-clause-holds : goal.returns-clause-holds
@@ -78,3 +79,6 @@ returns-clause-less g c =
     let had = led_here seat v c.args.self.now.leading (leads.Persisted c.in-Persisted.done) c.requires.holds.leads (sym c.in-Persisted.ensures.value) in
     let gave = gives_some c.mark_one-marked.result marked (λ a s. runs.Kind.Mark a s) m (g.B.Board.whole c.args.board.now) (g.B.Board.whole c.mark_one-marked.new.board) v u c.in-Persisted.done.left.taken.items c.mark_one-marked.new.self.left.taken.items c.mark_one-marked.ensures.gave had.3 in
     marks_lower (g.B.Board.whole c.args.board.now) (g.B.Board.whole c.mark_one-marked.new.board) m gave.first c.mark_one-marked.new.self.left.taken.items u c.args.self.now (record c.args.self.now { leading = c.still_certain.result }) c.still_certain.ensures refl (g.met.B.Board.lawful c.args.board.now) gave.whole
+
+pub returns-clause-steps : goal.returns-clause-steps
+returns-clause-steps g c passes s = turn_of_few c.mark_one-_marked.result passes s _ _ _ _ _ _ c.mark_one-_marked.ensures.steps

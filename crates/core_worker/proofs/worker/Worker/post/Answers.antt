@@ -1,9 +1,20 @@
 -- With a block or without, the change is posted.
-use Rattle.std.proofs.Common.{inl, refl}
+use Rattle.std.proofs.Common.{ℕ, inl, refl, subst}
+use Rattle.core_worker.specs.declared.types.Place.{Place as WorkerPlace}
+use Rattle.core_worker.specs.declared.types.Place.TheVariants as places
+use Rattle.core_worker.specs.OwnPlaces.{place_at}
+use Rattle.core_worker.specs.Posting.{HasNoBlock, IsStagedWith, PointsNowhere}
 use Rattle.pm_region.proofs.Clients.{started, all_kept}
 use Rattle.licence.specs.Licence.{Licensed, part_at, part_end}
 use Rattle.core_worker.proofs.TurnLaws.{keeps_posts}
+use Rattle.batch_leader.proofs.Clients.{turn_handed}
 use Rattle.core_worker.proofs.worker.Worker.post.Goals as goal
+
+-- a staged change has a block or none
+no_block : (x : WorkerPlace) (q : ℕ) → HasNoBlock x → IsStagedWith x q → ⊥
+no_block places.Free q bare with = bare
+no_block (places.Staged number entry value) q bare with = subst PointsNowhere with bare
+no_block (places.Posted number key lines) q bare with = bare
 
 pub returns-in-Some-clause-keeps : goal.returns-in-Some-clause-keeps
 returns-in-Some-clause-keeps g c =
@@ -22,3 +33,9 @@ returns-in-None-clause-keeps g c =
 
 pub returns-in-None-clause-posts : goal.returns-in-None-clause-posts
 returns-in-None-clause-posts g c = inl (c.args.self.now, refl, c.post_plain.ensures.posts)
+
+pub returns-in-Some-clause-plain : goal.returns-in-Some-clause-plain
+returns-in-Some-clause-plain g c bare = absurd (no_block (place_at c.args.self.now.places.items c.args.slot) c.in-Some.pointer bare c.in-Some.ensures)
+
+pub returns-in-None-clause-steps : goal.returns-in-None-clause-steps
+returns-in-None-clause-steps g c = let s = g.R.Region.state c.args.region.now in turn_handed s s _ _ _ _ _ _ c.post_plain.ensures.step

@@ -6,6 +6,7 @@ use Rattle.core_worker.specs.OwnPlaces.{place_at, own}
 use Rattle.core_worker.specs.Posting.{WouldStand}
 use Rattle.core_worker.specs.WorkerMoves.{placed_for, hands_of}
 use Rattle.core_worker.proofs.PostMoves.{posted_least, facts_of, posted_moves, posted_order, fault_moves, fault_order}
+use Rattle.batch_leader.proofs.Clients.{no_loads, turn_of_loads, turn_handed}
 use Rattle.core_worker.proofs.worker.Worker.post_block.Goals as goal
 
 pub post_written-requires-clause-nothing : goal.post_written-requires-clause-nothing
@@ -71,3 +72,9 @@ returns-else-write_staged-clause-order g c O =
     let m = (g.B.Board.seat c.args.board.now).number in
     let same = c.write_staged.ensures.rest ∙ ap (λ (b : Bool). record c.args.self.now { allocator = c.write_staged.new.self.allocator; stopped = not b }) c.if-write_staged.false in
     fault_order p m (g.B.Board.view c.args.board.now) c.args.self.now c.write_staged.new.self same c.requires.nothing O
+
+pub returns-then-write_staged-clause-steps : goal.returns-then-write_staged-clause-steps
+returns-then-write_staged-clause-steps g c = turn_handed (g.R.Region.state c.args.region.now) (g.R.Region.state c.write_staged.new.region) _ _ _ _ _ _ c.post_written.ensures.step
+
+pub returns-else-write_staged-clause-steps : goal.returns-else-write_staged-clause-steps
+returns-else-write_staged-clause-steps g c = turn_of_loads true (g.R.Region.state c.args.region.now) (g.R.Region.state c.write_staged.new.region) _ _ _ _ _ _ (no_loads (g.B.Board.view c.args.board.now) (g.B.Board.trail c.args.board.now))

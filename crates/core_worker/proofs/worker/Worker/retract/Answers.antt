@@ -6,6 +6,8 @@ use Rattle.group_laws.specs.Runs as runs
 use Rattle.batch_leader.specs.Leading.{IsReleased}
 use Rattle.core_worker.proofs.Unlocking.{unlocks}
 use Rattle.core_worker.proofs.LeftBacks.{gives_over_lower, nothing_low}
+use Rattle.batch_leader.proofs.Clients.{loads_then, one_only}
+use Rattle.group_laws.specs.Runs.{Kind}
 use Rattle.core_worker.proofs.worker.Worker.retract.Goals as goal
 
 pub returns-in-None-clause-retracts : goal.returns-in-None-clause-retracts
@@ -31,3 +33,6 @@ returns-in-None-clause-less g c none =
     let new = record w { leading = c.led_by.result } in
     gives_over_lower (g.B.Board.whole c.args.board.now) w1 w2 here.number (g.B.Board.view c.withdraw_own.new.board) u w new c.in-None.ensures.found.none c.in-None.ensures.found.made
     (subst (λ (q : SeatAt). Makes w1 q.number runs.Kind.Unlock w2 u) c.withdraw_own.ensures.seat c.release.ensures.whole) (g.met.B.Board.lawful c.args.board.now) (nothing_low w new refl (returns-in-None-clause-retracts g c).leads_now)
+
+pub returns-in-None-clause-steps : goal.returns-in-None-clause-steps
+returns-in-None-clause-steps g c = loads_then _ _ _ _ _ _ c.in-None.ensures.steps (one_only _ _ _ _ (Kind.Unlock) c.release.ensures.step refl)

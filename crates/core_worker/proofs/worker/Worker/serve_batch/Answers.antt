@@ -61,10 +61,10 @@ pub returns-in-Batch-clause-less : goal.returns-in-Batch-clause-less
 returns-in-Batch-clause-less g c = subst (λ (z : Worker). Lowers (g.B.Board.whole c.args.board.now) (g.B.Board.whole c.write_batch.new.board) c.args.self.now z) (sym c.renew_names.ensures.rest) c.write_batch.ensures.less
 
 pub returns-in-Persisted-clause-did : goal.returns-in-Persisted-clause-did
-returns-in-Persisted-clause-did g c refused = marks c.mark_next.ensures.marks
+returns-in-Persisted-clause-did g c refused = marks refl c.mark_next.ensures.marks
 
 pub returns-in-Failed-clause-did : goal.returns-in-Failed-clause-did
-returns-in-Failed-clause-did g c refused = fails c.fail_next.ensures.fails
+returns-in-Failed-clause-did g c refused = fails refl c.fail_next.ensures.fails
 
 ok_works : {X Y : Type 0} (r : Result X Y) (a b d : Bool) → OnOk r (a ≡ b) → b ≡ d → OnOk r (a ≡ d)
 ok_works (Ok x) a b d works same = works ∙ same
@@ -79,3 +79,12 @@ err_awake (Err y) a b d awake same = sym same ∙ awake
 
 pub returns-in-Batch-clause-awake : goal.returns-in-Batch-clause-awake
 returns-in-Batch-clause-awake g c = err_awake c.renew_names.result c.write_batch.new.self.winds_down c.args.self.now.winds_down false c.renew_names.ensures.awake c.write_batch.ensures.works
+
+pub returns-in-Batch-clause-steps : goal.returns-in-Batch-clause-steps
+returns-in-Batch-clause-steps g c passes = c.write_batch.ensures.steps passes
+
+pub returns-in-Persisted-clause-steps : goal.returns-in-Persisted-clause-steps
+returns-in-Persisted-clause-steps g c passes = c.mark_next.ensures.steps passes (g.R.Region.state c.args.region.now)
+
+pub returns-in-Failed-clause-steps : goal.returns-in-Failed-clause-steps
+returns-in-Failed-clause-steps g c passes = c.fail_next.ensures.steps passes (g.R.Region.state c.args.region.now)

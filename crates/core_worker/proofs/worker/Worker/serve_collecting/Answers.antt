@@ -3,6 +3,7 @@ use Rattle.std.specs.Prelude.{is_ok}
 use Rattle.core_worker.specs.Turning.Did.{withdraws}
 use Rattle.core_worker.proofs.ItemLaws.{keeps_withdraw}
 use Rattle.core_worker.proofs.LeftTurns.{withdrawn_starts}
+use Rattle.batch_leader.proofs.Clients.{turn_of_one}
 use Rattle.core_worker.proofs.worker.Worker.serve_collecting.Goals as goal
 
 pub returns-then-self-clause-keeps : goal.returns-then-self-clause-keeps
@@ -12,7 +13,7 @@ returns-then-self-clause-keeps g c =
     c.if-self.true c.requires.holds e.holds c.requires.stands e.stands c.requires.order e.order e.rule e.made e.withdraws
 
 pub returns-then-self-clause-did : goal.returns-then-self-clause-did
-returns-then-self-clause-did g c refused = withdraws (g.B.Board.whole c.withdraw.new.board) (is_ok c.withdraw.result) c.withdraw.ensures.withdraws
+returns-then-self-clause-did g c refused = withdraws refl (g.B.Board.whole c.withdraw.new.board) (is_ok c.withdraw.result) c.withdraw.ensures.withdraws
 
 pub returns-clause-keeps : goal.returns-clause-keeps
 returns-clause-keeps g c = c.serve_round.ensures.keeps (g.R.Region.state c.args.region.now) c.requires.stands
@@ -22,3 +23,9 @@ returns-clause-did g c refused = c.serve_round.ensures.did (g.R.Region.state c.a
 
 pub returns-then-self-clause-starts : goal.returns-then-self-clause-starts
 returns-then-self-clause-starts g c = withdrawn_starts _ _ _ _ _ _ c.args.self.now c.withdraw.new.self _ c.if-self.true c.withdraw.ensures.withdraws
+
+pub returns-then-self-clause-steps : goal.returns-then-self-clause-steps
+returns-then-self-clause-steps g c passes = turn_of_one passes (g.R.Region.state c.args.region.now) _ _ _ _ _ _ c.withdraw.ensures.steps
+
+pub returns-clause-steps : goal.returns-clause-steps
+returns-clause-steps g c passes = c.serve_round.ensures.steps passes (g.R.Region.state c.args.region.now)

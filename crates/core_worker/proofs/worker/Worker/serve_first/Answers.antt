@@ -20,7 +20,7 @@ returns-in-Ok-serve_batch g c =
       starts = e.starts;
       idles = tt;
       works = e.works;
-      calm = tt;
+      steps = e.steps (g.G.Gate.may_pass c.args.gate.now);
     }
 
 pub returns-in-Err-serve_batch : goal.returns-in-Err-serve_batch
@@ -36,5 +36,11 @@ returns-in-Err-serve_batch g c =
       starts = e.starts;
       idles = tt;
       works = tt;
-      calm = tt;
+      steps = e.steps (g.G.Gate.may_pass c.args.gate.now);
     }
+
+pub returns-in-Ok-clause-steps : goal.returns-in-Ok-clause-steps
+returns-in-Ok-clause-steps g c = c.serve_collecting.ensures.steps (g.G.Gate.may_pass c.args.gate.now)
+
+pub returns-in-Err-clause-steps : goal.returns-in-Err-clause-steps
+returns-in-Err-clause-steps g c = c.serve_collecting.ensures.steps (g.G.Gate.may_pass c.args.gate.now)

@@ -10,6 +10,7 @@ use Rattle.core_worker.proofs.TurnLaws.{keeps_leading, keeps_same}
 use Rattle.core_worker.proofs.LeftTurns.{had_lower, had_starts, found_not_more}
 use Rattle.core_worker.proofs.LeftFair.{starts_nothing}
 use Rattle.core_worker.specs.Resting.{TriedIf}
+use Rattle.batch_leader.proofs.Clients.{no_loads, turn_of_loads, turn_of_one}
 use Rattle.core_worker.proofs.worker.Worker.serve_lock.Goals as goal
 
 pub returns-then-not-posted-clause-keeps : goal.returns-then-not-posted-clause-keeps
@@ -40,7 +41,7 @@ pub returns-then-try_lead-clause-turned : goal.returns-then-try_lead-clause-turn
 returns-then-try_lead-clause-turned g c s refused before v post tells =
     let seat = g.B.Board.seat c.args.board.now in
     let had = subst (λ (b : Bool). TriesLock b seat.number (g.B.Board.view c.args.board.now) (g.B.Board.view c.try_lead.new.board) c.args.self.now c.try_lead.new.self) c.if-try_lead.true c.try_lead.ensures.tried in
-    locks (record {
+    locks refl (record {
       mid = g.B.Board.view c.args.board.now;
       before = tells.0;
       post = post;
@@ -117,3 +118,12 @@ returns-then-not-posted-clause-tries g c =
 pub returns-clause-tries : goal.returns-clause-tries
 returns-clause-tries g c =
     subst (λ (b : Bool). TriedIf b (g.B.Board.seat c.args.board.now).number (g.B.Board.whole c.args.board.now) (g.B.Board.whole c.try_lead.new.board) (g.B.Board.view c.try_lead.new.board)) (sym c.if-not-posted.false) c.try_lead.ensures.whole
+
+pub returns-then-not-posted-clause-steps : goal.returns-then-not-posted-clause-steps
+returns-then-not-posted-clause-steps g c passes s = turn_of_loads passes s s _ _ _ _ _ _ (no_loads (g.B.Board.view c.args.board.now) (g.B.Board.trail c.args.board.now))
+
+pub returns-then-try_lead-clause-steps : goal.returns-then-try_lead-clause-steps
+returns-then-try_lead-clause-steps g c passes s = turn_of_one passes s _ _ _ _ _ _ c.try_lead.ensures.steps
+
+pub returns-clause-steps : goal.returns-clause-steps
+returns-clause-steps g c passes s = turn_of_one passes s _ _ _ _ _ _ c.try_lead.ensures.steps

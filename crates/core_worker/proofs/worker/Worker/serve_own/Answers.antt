@@ -17,6 +17,10 @@ use Rattle.core_worker.proofs.LeftTurns.{view_agrees}
 use Rattle.core_worker.specs.Left.{HasOffer}
 use Rattle.core_worker.specs.Resting.{IfIdle, TriedIf}
 use Rattle.core_worker.proofs.Rested.{Agrees, rests_by}
+use Rattle.batch_leader.proofs.Clients.{loads_then, one_only, turn_of_one, turn_after_loads}
+use Rattle.group_laws.specs.Runs.{Kind}
+use Rattle.group_laws.proofs.Clients.{In-append_right}
+use Rattle.group_laws.specs.MemberViews.{View}
 use Rattle.core_worker.proofs.worker.Worker.serve_own.Goals as goal
 
 pub take_back-requires-clause-holds : goal.take_back-requires-clause-holds
@@ -42,9 +46,13 @@ take_back-requires-clause-order g c =
 
 pub take_back-requires-clause-seen : goal.take_back-requires-clause-seen
 take_back-requires-clause-seen g c =
+    let seat = g.B.Board.seat c.args.board.now in
+    let v = g.B.Board.view c.args.board.now in
+    let P = c.in-Back.ensures.finds.2 in
     let f = c.in-Back.ensures.finds.3 in
     was_back (g.B.Board.seat c.find_back.new.board).number c.in-Back.slot (g.B.Board.view c.find_back.new.board) f.0 f.1
-    (subst (λ (x : SeatAt). In (Slot x.number c.in-Back.slot f.0) (g.B.Board.view c.find_back.new.board).looked) (sym c.find_back.ensures.seat) f.2)
+    (subst (λ (x : SeatAt). In (Slot x.number c.in-Back.slot f.0) (g.B.Board.view c.find_back.new.board).looked) (sym c.find_back.ensures.seat)
+    (subst (λ (x : View). In (Slot seat.number c.in-Back.slot f.0) x.looked) (sym P.looked.view) (In-append_right (Slot seat.number c.in-Back.slot f.0) v.looked P.looked.looks f.2)))
 
 pub returns-in-Ok-clause-keeps : goal.returns-in-Ok-clause-keeps
 returns-in-Ok-clause-keeps g c =
@@ -63,10 +71,11 @@ returns-in-Ok-clause-keeps g c =
 
 pub returns-in-Ok-clause-turned : goal.returns-in-Ok-clause-turned
 returns-in-Ok-clause-turned g c =
-    finishes (is_ok c.take_back.result) (record {
+    finishes refl (is_ok c.take_back.result) (record {
       slot = c.in-Back.slot;
       mid = g.B.Board.view c.find_back.new.board;
       before = c.in-Back.ensures.finds.2;
+      back = c.in-Back.ensures.finds.3;
       finishes = subst (λ (x : SeatAt). FinishesSlot (g.R.Region.state c.args.region.now) x.place x.number c.in-Back.slot (g.B.Board.view c.find_back.new.board) (g.B.Board.view c.take_back.new.board) c.args.self.now c.take_back.new.self (is_ok c.take_back.result)) c.find_back.ensures.seat c.take_back.ensures.finishes;
     })
 
@@ -87,10 +96,11 @@ returns-in-Err-clause-keeps g c =
 
 pub returns-in-Err-clause-turned : goal.returns-in-Err-clause-turned
 returns-in-Err-clause-turned g c =
-    finishes (is_ok c.take_back.result) (record {
+    finishes refl (is_ok c.take_back.result) (record {
       slot = c.in-Back.slot;
       mid = g.B.Board.view c.find_back.new.board;
       before = c.in-Back.ensures.finds.2;
+      back = c.in-Back.ensures.finds.3;
       finishes = subst (λ (x : SeatAt). FinishesSlot (g.R.Region.state c.args.region.now) x.place x.number c.in-Back.slot (g.B.Board.view c.find_back.new.board) (g.B.Board.view c.take_back.new.board) c.args.self.now c.take_back.new.self (is_ok c.take_back.result)) c.find_back.ensures.seat c.take_back.ensures.finishes;
     })
 
@@ -133,7 +143,7 @@ returns-in-Out-clause-turned g c =
     let v = g.B.Board.view c.args.board.now in
     let mid = g.B.Board.view c.find_back.new.board in
     let u = g.B.Board.view c.serve_staged.new.board in
-    subst (λ (x : SeatAt). TurnedTo c.serve_staged.result (g.R.Region.state c.args.region.now) (g.G.Gate.may_refuse c.args.gate.now) (g.B.Board.whole c.args.board.now) x (at_entry c.args.self.now v) (at_entry c.serve_staged.new.self u)) c.find_back.ensures.seat
+    subst (λ (x : SeatAt). TurnedTo c.serve_staged.result (g.R.Region.state c.args.region.now) (g.R.Region.state c.serve_staged.new.region) (g.G.Gate.may_refuse c.args.gate.now) (g.B.Board.whole c.args.board.now) x (at_entry c.args.self.now v) (at_entry c.serve_staged.new.self u)) c.find_back.ensures.seat
     (c.serve_staged.ensures.turned (g.B.Board.whole c.args.board.now) v (subst (λ (x : SeatAt). Tells c.in-Out.posted x.number c.args.self.now v mid) (sym c.find_back.ensures.seat) c.in-Out.ensures.finds))
 
 pub returns-in-Ok-clause-less : goal.returns-in-Ok-clause-less
@@ -169,7 +179,22 @@ returns-in-Out-clause-idles g c =
     let u = g.B.Board.view c.serve_staged.new.board in
     let finds = c.in-Out.ensures.finds in
     let K = returns-in-Out-clause-keeps g c in
-    rests_by c.serve_staged.result (g.R.Region.state c.args.region.now) (g.G.Gate.may_refuse c.args.gate.now) here (record { worker = c.args.self.now; view = v }) (record { worker = c.serve_staged.new.self; view = u }) (g.B.Board.view c.find_back.new.board) finds.0 c.in-Out.posted finds.1 w0 w1 w2 c.find_back.ensures.looks
+    rests_by c.serve_staged.result (g.R.Region.state c.args.region.now) (g.R.Region.state c.serve_staged.new.region) (g.G.Gate.may_refuse c.args.gate.now) here (record { worker = c.args.self.now; view = v }) (record { worker = c.serve_staged.new.self; view = u }) (g.B.Board.view c.find_back.new.board) finds.0 c.in-Out.posted finds.1 w0 w1 w2 c.find_back.ensures.looks
     (subst (λ (q : SeatAt). IfIdle c.serve_staged.result (TriedIf c.in-Out.posted q.number w1 w2 u)) c.find_back.ensures.seat c.serve_staged.ensures.tries)
     (returns-in-Out-clause-turned g c) K.holds K.order.hand (g.met.B.Board.agrees c.args.board.now)
     (subst (λ (q : SeatAt). Agrees q.place q.number u w2) (c.serve_staged.ensures.seat ∙ c.find_back.ensures.seat) (g.met.B.Board.agrees c.serve_staged.new.board)) (g.met.B.Board.lawful c.serve_staged.new.board)
+
+pub returns-in-Ok-clause-steps : goal.returns-in-Ok-clause-steps
+returns-in-Ok-clause-steps g c =
+    turn_of_one (g.G.Gate.may_pass c.args.gate.now) (g.R.Region.state c.args.region.now) _ _ _ _ _ _
+    (loads_then _ _ _ _ _ _ c.find_back.ensures.steps (one_only _ _ _ _ (Kind.Finish c.in-Back.slot) c.take_back.ensures.step refl))
+
+pub returns-in-Err-clause-steps : goal.returns-in-Err-clause-steps
+returns-in-Err-clause-steps g c =
+    turn_of_one (g.G.Gate.may_pass c.args.gate.now) (g.R.Region.state c.args.region.now) _ _ _ _ _ _
+    (loads_then _ _ _ _ _ _ c.find_back.ensures.steps (one_only _ _ _ _ (Kind.Finish c.in-Back.slot) c.take_back.ensures.step refl))
+
+pub returns-in-Out-clause-steps : goal.returns-in-Out-clause-steps
+returns-in-Out-clause-steps g c =
+    turn_after_loads (g.G.Gate.may_pass c.args.gate.now) (g.R.Region.state c.args.region.now) (g.R.Region.state c.serve_staged.new.region) _ (g.B.Board.view c.find_back.new.board) _ _ _ _ _ (g.B.Board.at c.find_back.new.board) _
+    c.find_back.ensures.steps c.serve_staged.ensures.steps

@@ -21,4 +21,7 @@ returns-clause-keeps g c s S =
     (λ stopped. absurd (let both : true ≡ false = sym stopped ∙ c.requires.runs in cc both)) c.requires.order e.rule (round_filled _ seat _ _ e.went)
 
 pub returns-clause-did : goal.returns-clause-did
-returns-clause-did g c s refused = goes_round c.go_round.ensures.went
+returns-clause-did g c s refused = goes_round refl c.go_round.ensures.went
+
+pub returns-clause-steps : goal.returns-clause-steps
+returns-clause-steps g c = c.go_round.ensures.steps

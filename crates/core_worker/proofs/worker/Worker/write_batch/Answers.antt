@@ -4,6 +4,7 @@ use Rattle.std.specs.List.{AllByRecursion}
 use Rattle.store_image.specs.Facts.{In}
 use Rattle.group_laws.proofs.Clients.{In-append_left}
 use Rattle.group_board.specs.Seats.{SeatAt}
+use Rattle.group_board.specs.Trails.{step_with}
 use Rattle.batch_leader.specs.declared.taken.Taken.{Taken}
 use Rattle.pm_region.specs.State.{During, cell_now}
 use Rattle.pm_region.specs.Words.{KeepsOutside}
@@ -215,7 +216,7 @@ returns-in-Err-clause-less g c =
     loses_lower (g.B.Board.whole c.args.board.now) (g.B.Board.whole c.persist.new.board) (record { worker = w; view = g.B.Board.view c.args.board.now }) (record { worker = new; view = g.B.Board.view c.persist.new.board }) (returns-in-Err-clause-persists g c) c.in-Err.ensures.made
 
 pub returns-in-Ok-clause-steps : goal.returns-in-Ok-clause-steps
-returns-in-Ok-clause-steps g c = record { made = runs.Kind.Commit ∷ []; more = c.in-Ok.ensures.steps.0; loads = tt; last = record { handed = λ _. c.in-Ok.ensures.steps.1; alone = λ _ no. absurd (cc no) } }
+returns-in-Ok-clause-steps g c passes = record { made = step_with runs.Kind.Commit (g.B.Board.view c.persist.new.board) ∷ []; more = c.in-Ok.ensures.steps.0; loads = tt; ends = refl; last = record { handed = λ _. c.in-Ok.ensures.steps.1; alone = λ _ no. absurd (cc no) }; asks = λ no. absurd (cc no) }
 
 pub returns-in-Err-clause-steps : goal.returns-in-Err-clause-steps
-returns-in-Err-clause-steps g c = record { made = []; more = c.in-Err.ensures.steps; loads = tt; last = tt }
+returns-in-Err-clause-steps g c passes = record { made = []; more = c.in-Err.ensures.steps; loads = tt; ends = c.in-Err.ensures.view; last = tt; asks = tt }

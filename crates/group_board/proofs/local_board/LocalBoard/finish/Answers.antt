@@ -9,7 +9,9 @@ use Rattle.group_board.proofs.Assured.{stood_home}
 use Rattle.group_board.proofs.local_board.LocalBoard.finish.Goals as goal
 use Rattle.std.proofs.Common.{◌∷◌}
 use Rattle.group_board.proofs.Journals as journals
-use Rattle.group_board.specs.Journals.{trail_in}
+use Rattle.group_board.specs.Journals.{trail_in, state}
+use Rattle.group_board.specs.Trails.{step_with}
+use Rattle.group_laws.specs.MemberViews.{view_of}
 use Rattle.group_board.specs.Journals.{finish_act}
 
 pub given_back-change-requires : goal.given_back-change-requires
@@ -82,4 +84,4 @@ returns-clause-home c =
     stood_home me.member_count me.holder me.slots.items me.mail.items me.keeper.me.0 me.kept c.args.member c.args.slot x home there
 
 pub returns-clause-made : goal.returns-clause-made
-returns-clause-made c = let home = c.given_back-change.result.home in let x = c.given_back-change.result.entry in journals.trail_is c.note.new.seat.me.0 c.args.self.now.keeper.me.0 c.args.member (finish_act c.args.slot x home) c.note.ensures.1 ∙ ap (λ k. k ∷ trail_in c.args.member c.args.self.now.keeper.me.0) (journals.finish_kind c.args.slot x home)
+returns-clause-made c = let home = c.given_back-change.result.home in let x = c.given_back-change.result.entry in journals.trail_is c.note.new.seat.me.0 c.args.self.now.keeper.me.0 c.args.member (finish_act c.args.slot x home) c.note.ensures.1 ∙ ap (λ k. step_with k (view_of (state c.note.new.seat.me.0) c.args.member) ∷ trail_in c.args.member c.args.self.now.keeper.me.0) (journals.finish_kind c.args.slot x home)

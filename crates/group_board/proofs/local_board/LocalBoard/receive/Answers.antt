@@ -2,11 +2,14 @@ use Rattle.std.proofs.Common.{◌∙◌, ap, sym, true}
 use Rattle.group_laws.specs.Steps.{finds}
 use Rattle.group_laws.specs.declared.types.Seen.TheVariants as loads
 use Rattle.crash_core.specs.Shows.{notices_of}
-use Rattle.group_board.specs.Journals.{state}
+use Rattle.group_board.specs.Journals.{state, trail_in}
 use Rattle.group_board.proofs.Mail.{seen_in, receive_steps, receive_place, receive_view}
 use Rattle.group_board.proofs.Mail.{mail_step, steps_lawful, heard_before}
 use Rattle.group_laws.specs.Runs as runs
 use Rattle.group_laws.proofs.Clients.{step_keeps}
+use Rattle.group_board.specs.Trails.{step_with}
+use Rattle.group_laws.specs.MemberViews.{view_of}
+use Rattle.group_board.proofs.Views as views
 use Rattle.group_board.proofs.local_board.LocalBoard.receive.Goals as goal
 use Rattle.std.proofs.Common.{◌∷◌}
 
@@ -37,4 +40,9 @@ returns-else-look_at_mail-clause-lawful c =
     (mail_step (state c.args.self.now.keeper.me.0) (state c.look_at_mail.new.self.keeper.me.0) c.args.member c.args.from c.args.member c.look_at_mail.result c.look_at_mail.ensures.state c.requires.member c.requires.sender c.requires.member c.look_at_mail.ensures.found)
 
 pub returns-then-look_at_mail-clause-made : goal.returns-then-look_at_mail-clause-made
-returns-then-look_at_mail-clause-made c = c.take_mail.ensures.made ∙ ap (λ l. runs.Kind.Receive c.args.from ∷ l) c.look_at_mail.ensures.made
+returns-then-look_at_mail-clause-made c =
+    let w = state c.args.self.now.keeper.me.0 in
+    let m = c.args.member in
+    let last = step_with (runs.Kind.Receive c.args.from) (view_of (state c.take_mail.new.self.keeper.me.0) m) in
+    let found = ap (λ x. view_of x m) c.look_at_mail.ensures.state ∙ ap (λ x. view_of (finds w m (loads.Mail c.args.from m x)) m) c.if-look_at_mail.true ∙ views.view_finds w m (loads.Mail c.args.from m true) in
+    c.take_mail.ensures.made ∙ ap (λ l. last ∷ l) c.look_at_mail.ensures.made ∙ ap (λ v. last ∷ step_with (runs.Kind.LookMail c.args.from m) v ∷ trail_in m c.args.self.now.keeper.me.0) found

@@ -9,7 +9,9 @@ use Rattle.group_board.proofs.Calls.{lock_step, lock_view, lock_kept, busy_step,
 use Rattle.group_board.proofs.local_board.LocalBoard.try_lock.Goals as goal
 use Rattle.std.proofs.Common.{◌∷◌}
 use Rattle.group_board.proofs.Journals as journals
-use Rattle.group_board.specs.Journals.{trail_in}
+use Rattle.group_board.specs.Journals.{trail_in, state}
+use Rattle.group_board.specs.Trails.{step_with}
+use Rattle.group_laws.specs.MemberViews.{view_of}
 
 pub returns-in-Some-clause-other : goal.returns-in-Some-clause-other
 returns-in-Some-clause-other c = let me = c.args.self.now in other_holds me.member_count me.holder me.slots.items me.mail.items me.keeper.me.0 me.kept c.args.member c.in-Some.holder c.requires.not_held c.in-Some.is
@@ -68,7 +70,7 @@ returns-in-None-clause-view c =
     lock_view c.args.self.now.keeper.me.0 c.note.new.seat.me.0 c.args.member (c.note.ensures.1 ∙ ap (λ (o : Option ℕ). noted (note_of c.args.member (lock_act o)) me.keeper.me.0) c.in-None.is)
 
 pub returns-in-Some-clause-made : goal.returns-in-Some-clause-made
-returns-in-Some-clause-made c = journals.trail_is c.note.new.seat.me.0 c.args.self.now.keeper.me.0 c.args.member (lock_act c.args.self.now.holder) c.note.ensures.1 ∙ ap (λ k. k ∷ trail_in c.args.member c.args.self.now.keeper.me.0) (journals.lock_kind c.args.self.now.holder)
+returns-in-Some-clause-made c = journals.trail_is c.note.new.seat.me.0 c.args.self.now.keeper.me.0 c.args.member (lock_act c.args.self.now.holder) c.note.ensures.1 ∙ ap (λ k. step_with k (view_of (state c.note.new.seat.me.0) c.args.member) ∷ trail_in c.args.member c.args.self.now.keeper.me.0) (journals.lock_kind c.args.self.now.holder)
 
 pub returns-in-None-clause-made : goal.returns-in-None-clause-made
-returns-in-None-clause-made c = journals.trail_is c.note.new.seat.me.0 c.args.self.now.keeper.me.0 c.args.member (lock_act c.args.self.now.holder) c.note.ensures.1 ∙ ap (λ k. k ∷ trail_in c.args.member c.args.self.now.keeper.me.0) (journals.lock_kind c.args.self.now.holder)
+returns-in-None-clause-made c = journals.trail_is c.note.new.seat.me.0 c.args.self.now.keeper.me.0 c.args.member (lock_act c.args.self.now.holder) c.note.ensures.1 ∙ ap (λ k. step_with k (view_of (state c.note.new.seat.me.0) c.args.member) ∷ trail_in c.args.member c.args.self.now.keeper.me.0) (journals.lock_kind c.args.self.now.holder)

@@ -17,7 +17,7 @@ pub returns-clause-turned : goal.returns-clause-turned
 returns-clause-turned g c =
     let b = c.args.board.now in
     let d = c.turn.new.board in
-    did_by c.turn.result (g.R.Region.state c.args.region.now) _ (g.B.Board.whole b) (g.B.Board.seat b) (at_entry c.args.self.now (g.B.Board.view b)) (at_entry c.turn.new.self (g.B.Board.view d)) c.turn.ensures.turned
+    did_by c.turn.result (g.R.Region.state c.args.region.now) (g.R.Region.state c.turn.new.region) _ (g.B.Board.whole b) (g.B.Board.seat b) (at_entry c.args.self.now (g.B.Board.view b)) (at_entry c.turn.new.self (g.B.Board.view d)) c.turn.ensures.turned
 
 pub returns-clause-less : goal.returns-clause-less
 returns-clause-less g c =

@@ -23,6 +23,7 @@ returns-in-Ok-clause-accepts g c =
       either = inl (refl, refl);
       region = refl;
       view = refl;
+      trail = refl;
       call = c.in-Ok.ensures.accepted.moves seat.place seat.number (g.B.Board.view c.args.self.now.seat) c.requires.work.member (c.requires.own, tt);
       begins = λ is. c.in-Ok.ensures.begins seat.place seat.number (g.B.Board.view c.args.self.now.seat) c.requires.work.member c.requires.own;
     }
@@ -51,6 +52,7 @@ returns-in-Err-clause-accepts g c =
       either = inr (refl, back);
       region = refl;
       view = refl;
+      trail = refl;
       call = e.1.moves seat.place seat.number (g.B.Board.view c.args.self.now.seat) c.requires.work.member tt;
       begins = λ is. absurd (cc is);
     }

@@ -1,12 +1,13 @@
 -- A round is one more stretch.
 use Rattle.std.proofs.Common.{ap}
+use Rattle.thread_engine.specs.WorkStates.{sight_by}
 use Rattle.thread_engine.proofs.WorkMoves.{goes_more}
 use Rattle.thread_engine.proofs.core_job.CoreJob.round.Goals as goal
 
 pub returns : goal.returns
 returns g c first so_far =
     let seat = g.B.Board.seat in
-    let view = g.B.Board.view in
+    let view = sight_by g.B.Board.view g.B.Board.trail g.B.Board.at in
     let state = g.P.Region.state in
     let refused = g.G.Gate.may_refuse c.args.gate.now in
     let old = c.args.self.now in
