@@ -87,5 +87,5 @@ pub(crate) fn doom_names<R: Region, B: Board>(
         (runs.Kind.Doom clearing.new.doomed) (B.whole board.new) (B.view board.new) }
 {
     clearing.gather(region, log, standing);
-    board.doom(clearing.doomed_of());
+    board.doom(region, clearing.doomed_of());
 }

@@ -73,7 +73,7 @@ pub(crate) fn copy_on<R: Region, B: Board>(
 {
     match copy_live(region, log, standing, victim, buffer) {
         Ok(count) => {
-            board.commit();
+            board.commit(&*region);
             return Ok(count);
         }
         Err(fault) => {

@@ -76,7 +76,7 @@ pub(crate) fn give_up<R: Region, B: Board>(
 {
     match clearing.clear(region, log, standing) {
         Ok(cleared) => {
-            board.retire(cleared.gone.as_slice());
+            board.retire(&*region, cleared.gone.as_slice());
             allocator.give_chunk(cleared.chunk);
             return Ok(cleared);
         }
