@@ -25,8 +25,8 @@ use crate::slot_order::bring;
 use crate::table_words::{DONE_WORD, EMPTY_WORD, FAILED_WORD};
 use crash_core::Change;
 use group_laws::group_sizes::LOCK_WORDS;
-use pm_region::Region;
 use log_entry::entry::EntryName;
+use pm_region::Region;
 use std::marker::Brand;
 
 // The steps of cleaning. The proof of the call picks the names, and the stamp at which the region stands.

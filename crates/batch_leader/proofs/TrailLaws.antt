@@ -148,9 +148,11 @@ turn_after_loads passes s t v w u a b c i k j x y = record {
   after : (ks : List TrailStep) → LoadsThenStep w ks → LoadsThenStep v (ks ++ x.made)
   after [] l = no_step v x.made x.loads
   after (k ∷ ks) l = on_loads v w x.made ks (same_but_looked v w a b x) x.loads l
+
   over : (ks : List TrailStep) → StandsAtLast ks s t (trail_with c j) → StandsAtLast (ks ++ x.made) s t (trail_with c j)
   over [] l = last_load v x.made s t c j x.loads
   over (k ∷ ks) l = l
+
   asked : (ks : List TrailStep) → AsksFirst passes ks → AsksFirst passes (ks ++ x.made)
   asked [] l = loads_ask passes v x.made x.loads
   asked (k ∷ ks) l = l

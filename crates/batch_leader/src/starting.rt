@@ -30,7 +30,7 @@ pub fn lead<B: Board>(board: &mut B, buffer: BatchBuffer) -> Result<Collecting, 
     ensures found { IfSome (B.whole board.old) (λ w. MatchResult result
         (λ _. w.holder ≡ Option.None) (λ busy. w.holder ≡ Option.Some busy.holder)) }
     ensures step { B.trail board.new
-            ≡ step_with runs.Kind.Lock (B.view board.new) ∷ B.trail board.old }
+        ≡ step_with runs.Kind.Lock (B.view board.new) ∷ B.trail board.old }
     ensures whole { Makes (B.whole board.old) (B.seat board.old).number
         runs.Kind.Lock (B.whole board.new) (B.view board.new) }
 {

@@ -48,7 +48,6 @@ other_key x ns k n ne = ap (λ (b : Bool). (b && eqb x.version n) || has ns k n)
 other_version : (x : EntryName) (ns : List EntryName) (k n : ℕ) → x.version ≢ n → has (x ∷ ns) k n ≡ has ns k n
 other_version x ns k n ne = ap (λ (b : Bool). b || has ns k n) (not_both (eqb x.key k) (eqb x.version n) (ne_eqb x.version n ne))
 
-
 -- a name is taken for a member
 module _ (p : Place) (m to : ℕ) (v : View) (all : List EntryName) (es ix : List (ℕ × slots.Place)) (name : EntryName) (t : Tells es ix (core_of p to) name) where
   abbrev home : ℕ

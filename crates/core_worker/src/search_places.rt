@@ -30,7 +30,7 @@ fn look_place<B: Board>(places: &Vec<Place>, board: &mut B, slot: u32) -> Option
     ensures sees { Sees (B.seat board.old).number slot (B.whole board.old) (B.whole board.new)
         (B.view board.old) (B.view board.new) (place_at places.now.items slot) result }
     ensures steps { OnlyLoads (B.view board.old) (B.view board.new)
-            (B.trail board.old) (B.trail board.new) }
+        (B.trail board.old) (B.trail board.new) }
 {
     match place_in(places, slot) {
         Place::Posted { .. } => {

@@ -27,7 +27,7 @@ use Rattle.flatstore.specs.Played.{HasWritten, is_ended}
 use Rattle.flatstore.specs.declared.report.Report.{Report}
 use Rattle.flatstore.proofs.Attached.{found_words}
 use Rattle.flatstore.proofs.Texts.{both, small_sound}
-use Rattle.flatstore.proofs.Written.{front_written, all_written}
+use Rattle.flatstore.proofs.Written.{front_written, all_written, fault_end, whole_end}
 
 module _ (old s t : State) (found word : ℕ → ℕ) (A : Attached old s s.frame.bytes found) (once : IsOpenedOnceMore old s) (granted : s.frame.refusals ≡ old.frame.refusals)
     (recovered : Recovered) (S : StandsAsFound s word recovered) (cores : ℕ) (input : List ℕ) (lines : List Line) (good : input_of cores input ≡ Ok lines)
@@ -97,5 +97,7 @@ module _ (old s t : State) (found word : ℕ → ℕ) (A : Attached old s s.fram
       answered = (P.done not_cut).answered;
       drained = (P.done not_cut).drained;
       reports = reports;
+      stops = λ fault. P.fault (fault_end x sink r.status W fault);
+      goes = λ whole. P.complete (whole_end x sink r.status W whole);
       licensed = subst (λ (z : State). IsTelling z → AllLicensed last.engine.layout last.engine.group (cell_now z)) P.region P.stands.licensed;
     }

@@ -40,7 +40,7 @@ use Rattle.flatstore.proofs.Refused.{served_by, apart_from, told_now, none_begin
 use Rattle.flatstore.proofs.Serving.{Known, serves, ends_then, counts_faults, words_found}
 use Rattle.flatstore.proofs.Standing.{counted_by, origin_cores}
 use Rattle.flatstore.proofs.Texts.{both}
-use Rattle.flatstore.proofs.Written.{front_written, all_written}
+use Rattle.flatstore.proofs.Written.{front_written, all_written, fault_end, whole_end}
 
 -- What a region says that stays as it was.
 module _ (s t : State) (S : Stays s t) where
@@ -347,6 +347,8 @@ module _ (old s t : State) (found word : ℕ → ℕ) (A : Attached old s s.fram
           told_is = report_told ∙ P.ran.reports.told_is;
           begins = subst (λ text. TakesPrefix sink.before sink.now text) text_is (front_written x sink r.status W end);
           writes = λ out. subst (λ text. Takes sink.before sink.now text) text_is (all_written x sink r.status W out);
+          stops = λ fault. P.ran.fault (fault_end x sink r.status W fault);
+          goes = λ whole. P.ran.complete (whole_end x sink r.status W whole);
           licensed = subst (λ z. IsTelling z → AllLicensed f.layout f.group (cell_now z)) (sym P.ran.region) P.ran.licensed;
         }
       where

@@ -1,9 +1,11 @@
 -- What was written of a run's replies, by the status.
-use Rattle.std.proofs.Common.{◌≡◌, ◌≢◌, inl, inr, sym, ◌∙◌, true}
+use Rattle.std.proofs.Common.{◌≡◌, ◌≢◌, inl, inr, refl, sym, ◌∙◌, ap, true, false}
 use Rattle.pm_region.specs.State.{Rose}
 use Rattle.fs_text.specs.Output.{replies_text}
 use Rattle.fs_text.specs.Streams.{Takes, TakesPrefix}
 use Rattle.group_engine.specs.declared.run_outcome.Outcome.{Outcome}
+use Rattle.group_engine.specs.declared.run_outcome.End.TheVariants as ends
+use Rattle.flatstore.specs.Ordering.{is_whole}
 use Rattle.flatstore.specs.Played.{HasWritten, is_ended}
 use Rattle.flatstore.specs.Ends.{SinkUse, IsAllOut}
 use Rattle.flatstore.specs.declared.report.Status.{Status}
@@ -41,3 +43,19 @@ module _ (x : Outcome) (sink : SinkUse) (status : Status) where
   ]
   all_written (inr (inr (inl w))) out = absurd (out_of statuses.SinkFault w.0 (λ q. cc q) (λ q. cc q) out)
   all_written (inr (inr (inr w))) out = absurd (out_of statuses.Memory w.0 (λ q. cc q) (λ q. cc q) out)
+
+  not_whole : (other : Status) → status ≡ other → is_whole other ≡ false → is_whole status ≡ true → ⊥
+  not_whole other e no whole = both (is_whole status) whole (ap is_whole e ∙ no)
+
+  -- the end that the status tells: of a run in which no core stopped, and of one in which some did
+  pub whole_end : HasWritten x sink status → is_whole status ≡ true → x.end ≡ ends.Complete
+  whole_end (inl w) whole = w.1
+  whole_end (inr (inl w)) whole = absurd (not_whole statuses.RegionFault w.0 refl whole)
+  whole_end (inr (inr (inl w))) whole = w.1
+  whole_end (inr (inr (inr w))) whole = absurd (not_whole statuses.Memory w.0 refl whole)
+
+  pub fault_end : HasWritten x sink status → status ≡ statuses.RegionFault → x.end ≡ ends.RegionFault
+  fault_end (inl w) fault = cc (sym w.0 ∙ fault)
+  fault_end (inr (inl w)) fault = w.1
+  fault_end (inr (inr (inl w))) fault = cc (sym w.0 ∙ fault)
+  fault_end (inr (inr (inr w))) fault = cc (sym w.0 ∙ fault)

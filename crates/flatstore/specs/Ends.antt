@@ -1,8 +1,9 @@
 -- What a call did with its source and with its sink.
-use Rattle.std.specs.Prelude.{◌≡◌, ◌⊎◌, ℕ, List, Bool, Option}
+use Rattle.std.specs.Prelude.{◌≡◌, ◌⊎◌, ℕ, List, [], Bool, false, Option}
 use Rattle.pm_region.specs.State.{State, Faulted, Rose}
 use Rattle.flatstore.specs.declared.report.Status.{Status}
 use Rattle.flatstore.specs.declared.report.Status.TheVariants as statuses
+use Rattle.flatstore.specs.declared.report.Report.{Report}
 
 -- A source before and after the call: what was still to come and what is left, where it tells, and how many reads had
 -- failed and have failed.
@@ -54,3 +55,11 @@ pub record CountsFaults (old new : State) (source : SourceUse) (sink : SinkUse)
   pub source_fault : status ≡ statuses.SourceFault → Rose source.faults source.faults'
   pub sink_fault : status ≡ statuses.SinkFault → Rose sink.faults sink.faults'
   pub region_fault : status ≡ statuses.RegionFault → Faulted old new
+
+-- no request is reported as finished or refused
+abbrev pub AnswersNothing : Report → Type 0
+AnswersNothing r = (r.finishes.items ≡ []) × (r.refusals.items ≡ [])
+
+-- it is no report of a run
+abbrev pub ReportsNothing : Report → Type 0
+ReportsNothing r = (r.began ≡ false) × AnswersNothing r

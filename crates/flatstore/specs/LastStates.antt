@@ -1,5 +1,5 @@
 -- The run of the engine that a report is of.
-use Rattle.std.specs.Prelude.{◌≡◌, ℕ, ◌/◌, ◌<◌, List, [], ◌∷◌, length, map, Ok}
+use Rattle.std.specs.Prelude.{◌≡◌, ℕ, ◌/◌, ◌<◌, List, [], ◌∷◌, length, map, true, false, Ok}
 use Rattle.std.specs.List.{AllByRecursion, slice_get}
 use Rattle.pm_region.specs.declared.region_sizes.TheConstants.{WORD_BYTES}
 use Rattle.pm_region.specs.State.{State, IsTelling, cell_now}
@@ -10,6 +10,8 @@ use Rattle.fs_text.specs.Output.{replies_text}
 use Rattle.fs_text.specs.Streams.{Takes, TakesPrefix}
 use Rattle.recover.specs.declared.types.Recovered.{Recovered}
 use Rattle.core_worker.specs.declared.worker.Worker.{Worker}
+use Rattle.engine_laws.specs.Engine.{Engine}
+use Rattle.engine_laws.specs.Promises.{HasStopped}
 use Rattle.engine_laws.specs.Parts.{AllLicensed}
 use Rattle.engine_laws.specs.Stands.{Origin}
 use Rattle.engine_laws.specs.Ran.{Ran}
@@ -22,6 +24,8 @@ use Rattle.group_engine.specs.Runs.{RunState, CoreMoves, AreNew, first_state, wi
 use Rattle.headline.specs.Headline.{Told}
 use Rattle.flatstore.specs.Attaching.{GoesOnFrom}
 use Rattle.flatstore.specs.Ends.{SinkUse, IsAllOut}
+use Rattle.flatstore.specs.Ordering.{is_whole}
+use Rattle.flatstore.specs.declared.report.Status.TheVariants as statuses
 use Rattle.flatstore.specs.declared.report.Report.{Report}
 
 -- what a report says of the requests
@@ -32,6 +36,10 @@ told_in r = as_told r.finishes.items r.refusals.items
 abbrev pub AreRising : List ℕ → Type 0
 AreRising [] = Unit {0}
 AreRising (n ∷ ns) = AllByRecursion (λ m. n < m) ns × AreRising ns
+
+-- every core goes on to the end
+abbrev pub NoneHasStopped : Engine → Type 0
+NoneHasStopped e = (c : ℕ) → c < e.layout.cores → e.stopped c ≡ false
 
 -- The words that a run begins with in a region that was just attached, and what recovery gave of them.
 pub record Starts (at : State) (found : ℕ → ℕ) (cores : ℕ) : Type 0 where
@@ -93,5 +101,8 @@ pub record RanTo (old new : State) (found : ℕ → ℕ) (cores : ℕ) (input : 
   pub answered : AllAnswered last.engine
   pub drained : IsDrained last.engine
   pub reports : ReportsAnswers new sink last r
+  -- The status tells a fault of the region exactly where a core has stopped.
+  pub stops : r.status ≡ statuses.RegionFault → HasStopped last.engine
+  pub goes : is_whole r.status ≡ true → NoneHasStopped last.engine
   -- Whatever a crash leaves of a part now is licensed by its core's view in that state.
   pub licensed : IsTelling new → AllLicensed last.engine.layout last.engine.group (cell_now new)

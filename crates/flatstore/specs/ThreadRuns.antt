@@ -8,6 +8,7 @@ use Rattle.fs_text.specs.Output.{replies_text}
 use Rattle.fs_text.specs.Streams.{Takes, TakesPrefix}
 use Rattle.engine_laws.specs.Engine.{Engine}
 use Rattle.engine_laws.specs.Idle.{IsDrained}
+use Rattle.engine_laws.specs.Promises.{HasStopped}
 use Rattle.engine_laws.specs.Parts.{AllLicensed}
 use Rattle.engine_laws.specs.Ran.{asked_in}
 use Rattle.engine_laws.specs.Reports.{told_of, AllAnswered}
@@ -17,7 +18,8 @@ use Rattle.thread_engine.specs.CoreRuns.{AllRan}
 use Rattle.thread_engine.specs.RanApart.{Rejoined, KeepsAnswers}
 use Rattle.flatstore.specs.Attaching.{GoesOnBy}
 use Rattle.flatstore.specs.Ends.{SourceUse, SinkUse, IsAllOut}
-use Rattle.flatstore.specs.LastStates.{told_in, Starts}
+use Rattle.flatstore.specs.LastStates.{told_in, NoneHasStopped, Starts}
+use Rattle.flatstore.specs.Ordering.{is_whole}
 use Rattle.flatstore.specs.Promise.{Serves}
 use Rattle.flatstore.specs.declared.report.Status.TheVariants as statuses
 use Rattle.flatstore.specs.declared.report.Report.{Report}
@@ -55,6 +57,9 @@ pub record RanOnThreads (old new : State) (found : ℕ → ℕ) (refused : Bool)
   pub begins : TakesPrefix sink.before sink.now (replies_text (map reply_in kept))
   pub writes : IsAllOut r.status sink
       → Takes sink.before sink.now (replies_text (map reply_in kept))
+  -- The status tells a fault of the region exactly where a core has stopped.
+  pub stops : r.status ≡ statuses.RegionFault → HasStopped f
+  pub goes : is_whole r.status ≡ true → NoneHasStopped f
   -- Whatever a crash leaves of a part now is licensed by its core's view in that state.
   pub licensed : IsTelling new → AllLicensed f.layout f.group (cell_now new)
 

@@ -2,7 +2,7 @@
 ghost use Rattle.std.specs.Prelude.{◌≡◌, ◌⊎◌, ℕ, ◌≤◌, List, Some, None, true, false, OnOk, OnErr, IfOk};
 ghost use Rattle.pm_region.specs.Split.{Attached};
 ghost use Rattle.chunk_map.specs.declared.layouts.Geometry.{Geometry};
-ghost use Rattle.flatstore.specs.Ends.{CountsFaults, sink_use, source_use};
+ghost use Rattle.flatstore.specs.Ends.{AnswersNothing, CountsFaults, ReportsNothing, sink_use, source_use};
 ghost use Rattle.flatstore.specs.Commands.{alone_form_of, words_of};
 ghost use Rattle.flatstore.specs.Commands.Form.{Format, Replay, Dump, Log};
 ghost use Rattle.flatstore.specs.Dumps.{Dumps};
@@ -46,20 +46,20 @@ pub fn flatstore_alone<T: Threads, S: Source, O: Sink, R: SplitRegion + ReadRegi
     // A region that is made is the empty one, and until then it is refused.
     ensures format { (path : List ℕ) (l : Geometry)
         → alone_form_of (words_of words.now.items) ≡ Some (Format path l)
-        → Formats (R.state region.old) (R.state region.new) l result × (source.new ≡ source.old)
-        × (sink.new ≡ sink.old) }
+        → Formats (R.state region.old) (R.state region.new) l result × ReportsNothing result
+        × (source.new ≡ source.old) × (sink.new ≡ sink.old) }
 
     // What is dumped are the cells that the words of the region recover.
     ensures dump { (path : List ℕ) → alone_form_of (words_of words.now.items) ≡ Some (Dump path)
         → Dumps (R.state region.old) (R.state region.new) (R.found region.old)
         (sink_use O.taken O.flushed O.fault_count sink.old sink.new) result
-        × (source.new ≡ source.old) }
+        × ReportsNothing result × (source.new ≡ source.old) }
 
     // What is logged are the entries that the words of the region spell.
     ensures log { (path : List ℕ) → alone_form_of (words_of words.now.items) ≡ Some (Log path)
         → Logs (R.state region.old) (R.state region.new) (R.found region.old)
         (sink_use O.taken O.flushed O.fault_count sink.old sink.new) result
-        × (source.new ≡ source.old) }
+        × ReportsNothing result × (source.new ≡ source.old) }
 
     // The headline.
     ensures attaches { (path : List ℕ) → alone_form_of (words_of words.now.items)
@@ -81,6 +81,10 @@ pub fn flatstore_alone<T: Threads, S: Source, O: Sink, R: SplitRegion + ReadRegi
     ensures incomplete { result.complete ≡ false → sink.new ≡ sink.old }
     ensures unattached { result.attached ≡ false → result.complete ≡ false }
 
+    // A call that began no run reports none.
+    ensures unbegun { result.began ≡ false → AnswersNothing result }
+    ensures unattached_unbegun { result.attached ≡ false → result.began ≡ false }
+
     // Nothing is read before the region's rules are tested.
     ensures unread { is_of_region result.status ≡ true → source.new ≡ source.old }
     ensures unattached_unread { result.attached ≡ false → source.new ≡ source.old }
@@ -88,7 +92,8 @@ pub fn flatstore_alone<T: Threads, S: Source, O: Sink, R: SplitRegion + ReadRegi
     // Nothing is lost or changed by a refusal.
     ensures sink_untouched { is_quiet result.status ≡ true → sink.new ≡ sink.old }
     ensures no_form_untouched { alone_form_of (words_of words.now.items) ≡ None
-        → (region.new ≡ region.old) × (source.new ≡ source.old) }
+        → (region.new ≡ region.old) × (source.new ≡ source.old) × (sink.new ≡ sink.old)
+        × (result.attached ≡ false) }
     ensures region_untouched { is_quiet result.status ≡ true → result.attached ≡ true
         → Attached (R.state region.old) (R.state region.new) (R.state region.new).frame.bytes
         (R.found region.old) }

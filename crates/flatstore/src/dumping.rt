@@ -7,7 +7,7 @@ ghost use Rattle.store_image.specs.Listing.{ListsCells};
 ghost use Rattle.store_image.specs.Soundness.{IsSound};
 ghost use Rattle.headline.specs.Headline.{cells_of};
 ghost use Rattle.fs_text.specs.Output.{pairs_text};
-ghost use Rattle.flatstore.specs.Ends.{sink_use};
+ghost use Rattle.flatstore.specs.Ends.{ReportsNothing, sink_use};
 ghost use Rattle.flatstore.specs.Dumps.{Dumps};
 ghost use Rattle.flatstore.specs.Shows.{HasShown, IsUnlisted};
 ghost use Rattle.flatstore.specs.Ordering.{is_quiet};
@@ -42,6 +42,7 @@ fn write_dump<O: Sink>(alloc: Global, sink: &mut O, pairs: &[Pair]) -> Report
         (sink_use O.taken O.flushed O.fault_count sink.old sink.new) result.status }
     ensures attached { result.attached ≡ true }
     ensures complete { result.complete ≡ true }
+    ensures nothing { ReportsNothing result }
 {
     let status = match write_pairs(alloc, sink, pairs) {
         Ok(()) => Status::Done,
@@ -71,6 +72,7 @@ pub fn dump_region<O: Sink, R: SplitRegion>(alloc: Global, sink: &mut O, region:
         → Faulted (R.state region.old) (R.state region.new) }
     ensures incomplete { result.complete ≡ false → sink.new ≡ sink.old }
     ensures unattached { result.attached ≡ false → result.complete ≡ false }
+    ensures nothing { ReportsNothing result }
     ensures sink_untouched { is_quiet result.status ≡ true → sink.new ≡ sink.old }
 {
     match region.attach(alloc) {

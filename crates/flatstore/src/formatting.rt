@@ -1,6 +1,7 @@
 // A region is made in place of whatever is there.
 ghost use Rattle.std.specs.Prelude.{◌≡◌, true, false};
 ghost use Rattle.pm_region.specs.State.{Faulted};
+ghost use Rattle.flatstore.specs.Ends.{ReportsNothing};
 ghost use Rattle.flatstore.specs.Formats.{Formats};
 ghost use Rattle.flatstore.specs.Ordering.{is_quiet};
 ghost use Rattle.flatstore.specs.declared.report.Status.TheVariants as statuses;
@@ -18,6 +19,7 @@ pub fn format_region<R: SplitRegion>(alloc: Global, region: &mut R, layout: Layo
         → Faulted (R.state region.old) (R.state region.new) }
     ensures loud { is_quiet result.status ≡ false }
     ensures incomplete { result.complete ≡ false }
+    ensures nothing { ReportsNothing result }
 {
     match region.create(alloc, layout.total_bytes() / WORD_BYTES) {
         Err(AttachError::RegionFault) => Report::of(alloc, Status::RegionFault, false),

@@ -7,7 +7,7 @@ ghost use Rattle.chunk_map.specs.Layouts.{layout_of};
 ghost use Rattle.store_image.specs.Parts.{all_entries};
 ghost use Rattle.store_image.specs.Soundness.{IsSound};
 ghost use Rattle.fs_text.specs.Output.{entries_text};
-ghost use Rattle.flatstore.specs.Ends.{sink_use};
+ghost use Rattle.flatstore.specs.Ends.{ReportsNothing, sink_use};
 ghost use Rattle.flatstore.specs.Shows.{HasShown, IsUnlisted};
 ghost use Rattle.flatstore.specs.Logs.{Logs};
 ghost use Rattle.flatstore.specs.Ordering.{is_quiet};
@@ -43,6 +43,7 @@ fn write_log<O: Sink>(alloc: Global, sink: &mut O, entries: &[PlacedEntry]) -> R
         (sink_use O.taken O.flushed O.fault_count sink.old sink.new) result.status }
     ensures attached { result.attached ≡ true }
     ensures complete { result.complete ≡ true }
+    ensures nothing { ReportsNothing result }
 {
     let status = match write_entries(alloc, sink, entries) {
         Ok(()) => Status::Done,
@@ -72,6 +73,7 @@ pub fn log_region<O: Sink, R: SplitRegion>(alloc: Global, sink: &mut O, region: 
         → Faulted (R.state region.old) (R.state region.new) }
     ensures incomplete { result.complete ≡ false → sink.new ≡ sink.old }
     ensures unattached { result.attached ≡ false → result.complete ≡ false }
+    ensures nothing { ReportsNothing result }
     ensures sink_untouched { is_quiet result.status ≡ true → sink.new ≡ sink.old }
 {
     match region.attach(alloc) {

@@ -1,7 +1,7 @@
 // The lines of the input are run on the region.
 ghost use Rattle.std.specs.Prelude.{◌≡◌, ◌⊎◌, ℕ, ◌≤◌, List, Some, None, true, false, OnOk, OnErr, IfOk};
 ghost use Rattle.pm_region.specs.Split.{Attached};
-ghost use Rattle.flatstore.specs.Ends.{CountsFaults, sink_use, source_use};
+ghost use Rattle.flatstore.specs.Ends.{AnswersNothing, CountsFaults, sink_use, source_use};
 ghost use Rattle.flatstore.specs.Attaching.{Attaches};
 ghost use Rattle.flatstore.specs.Ordering.{is_of_region, is_quiet};
 ghost use Rattle.flatstore.specs.Promise.{IsInput, Replays};
@@ -38,6 +38,8 @@ pub fn replay_region<S: Source, O: Sink, R: SplitRegion + ReadRegion>(
     // Nothing is written where the run didn't come to its end.
     ensures incomplete { result.complete ≡ false → sink.new ≡ sink.old }
     ensures unattached { result.attached ≡ false → result.complete ≡ false }
+    ensures unbegun { result.began ≡ false → AnswersNothing result }
+    ensures unattached_unbegun { result.attached ≡ false → result.began ≡ false }
 
     // Nothing is lost or changed by a refusal.
     ensures unread { is_of_region result.status ≡ true → source.new ≡ source.old }

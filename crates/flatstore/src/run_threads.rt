@@ -1,7 +1,7 @@
 // A run on threads: each core of the region has a worker in a thread of its own.
 ghost use Rattle.std.specs.Prelude.{◌≡◌, ◌⊎◌, ℕ, ◌≤◌, [], List, Some, None, true, false, OnOk, OnErr, IfOk, IfErr};
 ghost use Rattle.pm_region.specs.Split.{Attached, IsNotOpened};
-ghost use Rattle.flatstore.specs.Ends.{CountsFaults, sink_use, source_use};
+ghost use Rattle.flatstore.specs.Ends.{AnswersNothing, CountsFaults, sink_use, source_use};
 ghost use Rattle.flatstore.specs.Attaching.{AttachesToSplit};
 ghost use Rattle.flatstore.specs.Ordering.{is_of_region, is_quiet};
 ghost use Rattle.flatstore.specs.Played.{StandsWhole};
@@ -123,6 +123,8 @@ pub fn run_region<
     // Nothing is written where the run didn't come to its end.
     ensures incomplete { result.complete ≡ false → sink.new ≡ sink.old }
     ensures unattached { result.attached ≡ false → result.complete ≡ false }
+    ensures unbegun { result.began ≡ false → AnswersNothing result }
+    ensures unattached_unbegun { result.attached ≡ false → result.began ≡ false }
 
     // Nothing is lost or changed by a refusal.
     ensures unread { is_of_region result.status ≡ true → source.new ≡ source.old }

@@ -62,14 +62,14 @@ returns-in-Ok-clause-lines g c some =
     let is : c.copy_live.new.log ≡ appended_to log (padded ws) = c.in-Ok.ensures.log some in
     let room = by_open log ws few log.opened refl in
     ap (λ (n : ℕ). n + lines_for (length ws)) (ap room_of is) ∙ room where
-  by_open : (log : LogState) (ws : List ℕ) → lines_for (length ws) ≤ room_of log → (o : Option ℕ) → log.opened ≡ o → room_of (appended_to log (padded ws)) + lines_for (length ws) ≡ room_of log
-  by_open log ws few None none =
-      let old : room_of log ≡ 0 = ap (lines_left log) none in
-      let new : room_of (appended_to log (padded ws)) ≡ 0 = ap (lines_left (appended_to log (padded ws))) none in
-      omega (arith, old, new, few)
-  by_open log ws few (Some j) some =
-      let less = room_appended log ws j some in
-      omega (arith, less, few)
+      by_open : (log : LogState) (ws : List ℕ) → lines_for (length ws) ≤ room_of log → (o : Option ℕ) → log.opened ≡ o → room_of (appended_to log (padded ws)) + lines_for (length ws) ≡ room_of log
+      by_open log ws few None none =
+          let old : room_of log ≡ 0 = ap (lines_left log) none in
+          let new : room_of (appended_to log (padded ws)) ≡ 0 = ap (lines_left (appended_to log (padded ws))) none in
+          omega (arith, old, new, few)
+      by_open log ws few (Some j) some =
+          let less = room_appended log ws j some in
+          omega (arith, less, few)
 
 pub returns-in-Err-clause-moments : goal.returns-in-Err-clause-moments
 returns-in-Err-clause-moments g c = let s = g.R.Region.state c.args.region.now in copies_licensed s (g.R.Region.state c.copy_live.new.region) (g.B.Board.seat c.args.board.now).place (g.B.Board.seat c.args.board.now).number (g.B.Board.view c.args.board.now) c.args.log.now

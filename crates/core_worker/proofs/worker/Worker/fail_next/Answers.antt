@@ -81,4 +81,4 @@ returns-clause-less g c =
     fails_lower (g.B.Board.whole c.args.board.now) (g.B.Board.whole c.fail_one-failed.new.board) m gave.first c.fail_one-failed.new.self.left.taken.items u c.args.self.now (record c.args.self.now { leading = c.still_lost.result }) c.still_lost.ensures refl (g.met.B.Board.lawful c.args.board.now) gave.whole
 
 pub returns-clause-steps : goal.returns-clause-steps
-returns-clause-steps g c passes s = turn_of_few c.fail_one-_failed.result passes s _ _ _ _ _ _ c.fail_one-_failed.ensures.steps
+returns-clause-steps g c passes s = turn_of_few c.fail_one-failed.result passes s _ _ _ _ _ _ c.fail_one-failed.ensures.steps

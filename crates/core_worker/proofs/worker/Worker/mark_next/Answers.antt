@@ -81,4 +81,4 @@ returns-clause-less g c =
     marks_lower (g.B.Board.whole c.args.board.now) (g.B.Board.whole c.mark_one-marked.new.board) m gave.first c.mark_one-marked.new.self.left.taken.items u c.args.self.now (record c.args.self.now { leading = c.still_certain.result }) c.still_certain.ensures refl (g.met.B.Board.lawful c.args.board.now) gave.whole
 
 pub returns-clause-steps : goal.returns-clause-steps
-returns-clause-steps g c passes s = turn_of_few c.mark_one-_marked.result passes s _ _ _ _ _ _ c.mark_one-_marked.ensures.steps
+returns-clause-steps g c passes s = turn_of_few c.mark_one-marked.result passes s _ _ _ _ _ _ c.mark_one-marked.ensures.steps

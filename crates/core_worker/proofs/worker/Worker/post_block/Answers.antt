@@ -1,6 +1,6 @@
 use Rattle.core_worker.proofs.StockFacts.{wrote_least}
 use Rattle.core_worker.proofs.RoomKept.{room_again}
-use Rattle.std.proofs.Common.{Bool, not, inl, sym, ◌∙◌, ap, subst}
+use Rattle.std.proofs.Common.{true, Bool, not, inl, sym, ◌∙◌, ap, subst}
 use Rattle.core_worker.specs.declared.worker.Worker.{Worker}
 use Rattle.core_worker.specs.OwnPlaces.{place_at, own}
 use Rattle.core_worker.specs.Posting.{WouldStand}

@@ -5,6 +5,8 @@ use Rattle.core_worker.specs.declared.types.Leading.TheVariants as leads
 use Rattle.core_worker.specs.Ties.{is_lost}
 use Rattle.core_worker.proofs.LeadTies.{led_here, leads_of}
 use Rattle.core_worker.proofs.Led.{holds_by, stands_by}
+use Rattle.group_laws.specs.Runs as runs
+use Rattle.batch_leader.proofs.Clients.{one_only}
 use Rattle.core_worker.proofs.worker.Worker.try_lead.Goals as goal
 
 pub returns-in-Ok-clause-holds : goal.returns-in-Ok-clause-holds
@@ -45,3 +47,9 @@ returns-in-Err-clause-stands g c s S =
 
 pub returns-in-Err-clause-tried : goal.returns-in-Err-clause-tried
 returns-in-Err-clause-tried g c = ((c.in-Err.busy.holder, c.in-Err.ensures.other, c.in-Err.ensures.view), (c.in-Err.busy.buffer, refl), refl)
+
+pub returns-in-Ok-clause-steps : goal.returns-in-Ok-clause-steps
+returns-in-Ok-clause-steps g c = one_only _ _ _ _ runs.Kind.Lock c.lead.ensures.step refl
+
+pub returns-in-Err-clause-steps : goal.returns-in-Err-clause-steps
+returns-in-Err-clause-steps g c = one_only _ _ _ _ runs.Kind.Lock c.lead.ensures.step refl
