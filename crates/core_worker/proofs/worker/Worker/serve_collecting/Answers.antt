@@ -1,4 +1,5 @@
 -- Item 1.
+use Rattle.std.proofs.Common.{refl}
 use Rattle.std.specs.Prelude.{is_ok}
 use Rattle.core_worker.specs.Turning.Did.{withdraws}
 use Rattle.core_worker.proofs.ItemLaws.{keeps_withdraw}

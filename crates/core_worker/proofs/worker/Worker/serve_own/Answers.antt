@@ -1,5 +1,5 @@
 -- Item 4, and then items 5, 7 and 8.
-use Rattle.std.proofs.Common.{◌∙◌, ◌++◌, sym, subst}
+use Rattle.std.proofs.Common.{refl, ◌∙◌, ◌++◌, sym, subst}
 use Rattle.std.specs.Prelude.{is_ok}
 use Rattle.store_image.specs.Facts.{In}
 use Rattle.group_laws.specs.declared.types.Seen.TheVariants.{Slot}

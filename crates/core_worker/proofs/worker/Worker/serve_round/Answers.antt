@@ -1,5 +1,5 @@
 -- Item 1 of a core that runs.
-use Rattle.std.proofs.Common.{◌≡◌, true, false, sym, ◌∙◌}
+use Rattle.std.proofs.Common.{◌≡◌, true, false, refl, sym, ◌∙◌}
 use Rattle.core_worker.specs.Turning.Did.{goes_round}
 use Rattle.core_worker.proofs.Beginnings.{aside_of}
 use Rattle.core_worker.proofs.Pointers.{measured}
