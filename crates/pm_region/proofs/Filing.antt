@@ -8,23 +8,23 @@ use Rattle.pm_region.specs.Files.{IsFilePart, AreFileParts, ArePlaced, HaveTaken
 use Rattle.pm_region.specs.declared.file_words.FileWords.{FileWords}
 use Rattle.pm_region.specs.declared.file_piece.FilePiece.{FilePiece}
 
-pub file_parts_more : (w : FileWords) (cuts : List ℕ) (stamp faults : ℕ) (pieces pieces' : List FilePiece) (i : ℕ) (q : FilePiece) → AreFileParts w cuts stamp faults pieces i → IsFilePart w cuts stamp faults i q
-    → pieces' ≡ pieces ++ q ∷ [] → AreFileParts w cuts stamp faults pieces' (i + 1)
-file_parts_more w cuts stamp faults pieces pieces' i q are part is = record {
+pub file_parts_more : (path : List ℕ) (w : FileWords) (cuts : List ℕ) (stamp faults : ℕ) (pieces pieces' : List FilePiece) (i : ℕ) (q : FilePiece) → AreFileParts path w cuts stamp faults pieces i → IsFilePart path w cuts stamp faults i q
+    → pieces' ≡ pieces ++ q ∷ [] → AreFileParts path w cuts stamp faults pieces' (i + 1)
+file_parts_more path w cuts stamp faults pieces pieces' i q are part is = record {
   count = ap length is ∙ (omega (arith, are.count, length-append pieces (q ∷ [])));
   each = λ j p lt. ⊎_elim (λ e. here j p e) (λ ne. there j p (omega arith)) (cases_eq j i);
 }
   where
-    here : (j : ℕ) (p : FilePiece) → j ≡ i → IsFilePart w cuts stamp faults j (get_or pieces' j p)
+    here : (j : ℕ) (p : FilePiece) → j ≡ i → IsFilePart path w cuts stamp faults j (get_or pieces' j p)
     here j p e =
         let there : get_or pieces' i p ≡ q = ap (λ (l : List FilePiece). get_or l i p) is ∙ get_or_push pieces q p i are.count in
-        subst (λ (n : ℕ). IsFilePart w cuts stamp faults n (get_or pieces' n p)) (sym e) (subst (λ (s : FilePiece). IsFilePart w cuts stamp faults i s) (sym there) part)
+        subst (λ (n : ℕ). IsFilePart path w cuts stamp faults n (get_or pieces' n p)) (sym e) (subst (λ (s : FilePiece). IsFilePart path w cuts stamp faults i s) (sym there) part)
 
-    there : (j : ℕ) (p : FilePiece) → j < i → IsFilePart w cuts stamp faults j (get_or pieces' j p)
+    there : (j : ℕ) (p : FilePiece) → j < i → IsFilePart path w cuts stamp faults j (get_or pieces' j p)
     there j p lt =
         let count = are.count in
         let same : get_or pieces' j p ≡ get_or pieces j p = ap (λ (l : List FilePiece). get_or l j p) is ∙ get_or_append_left pieces (q ∷ []) p j (omega arith) in
-        subst (λ (s : FilePiece). IsFilePart w cuts stamp faults j s) (sym same) (are.each j p lt)
+        subst (λ (s : FilePiece). IsFilePart path w cuts stamp faults j s) (sym same) (are.each j p lt)
 
 -- an item of a list, whatever stands for those that aren't there
 same_item : (pieces : List FilePiece) (i : ℕ) (p q : FilePiece) → i < length pieces → get_or pieces i p ≡ get_or pieces i q

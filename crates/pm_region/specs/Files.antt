@@ -1,5 +1,5 @@
 -- What a region in a file and its pieces say of themselves: nothing of their contents.
-use Rattle.std.specs.Prelude.{◌≡◌, ◌⊎◌, ℕ, ◌+◌, ◌/◌, ◌≤◌, ◌<◌, length, slice_index, slice_index_or, Bool, true, false, if◌then◌else◌, [], List, Option, IsSome, IfSome}
+use Rattle.std.specs.Prelude.{◌≡◌, ◌⊎◌, ℕ, ◌+◌, ◌/◌, ◌≤◌, ◌<◌, length, slice_index, slice_index_or, Bool, true, false, if◌then◌else◌, [], ◌∷◌, List, Option, IsSome, IfSome}
 use Rattle.std.specs.declared.fs.File.{File}
 use Rattle.std.specs.declared.io.traits.Read as Read
 use Rattle.std.specs.declared.io.traits.Write as Write
@@ -8,6 +8,7 @@ use Rattle.pm_region.specs.declared.region_sizes.TheConstants.{LINE_WORDS}
 use Rattle.pm_region.specs.Cell.{certain}
 use Rattle.pm_region.specs.State.{State, Frame}
 use Rattle.pm_region.specs.Split.{words_in}
+use Rattle.pm_region.specs.Calls.{measured, opened}
 use Rattle.pm_region.specs.Filed.{IsPart, IsOpened, IsMade, word_of, flushes}
 use Rattle.pm_region.specs.declared.device.Device.{Device}
 use Rattle.pm_region.specs.declared.file_words.FileWords.{FileWords}
@@ -55,21 +56,24 @@ abbrev pub file_state : {R F : Type 0} {reads : Read.Ghosts File} {writes : Writ
 file_state r = silent_state (file_frame r.words.size r.parted r.cuts.items r.since r.refusals
     r.opens) r.stamp r.faults
 
--- the piece from one cut to the next of these words, at this stamp and count
-pub record IsFilePart (w : FileWords) (cuts : List ℕ) (stamp faults : ℕ) (i : ℕ) (p : FilePiece) :
-    Type 0 where
+-- The piece from one cut to the next of these words, at this stamp and count. It has opened the file of this name for
+-- itself, whose length was that of the words.
+pub record IsFilePart (path : List ℕ) (w : FileWords) (cuts : List ℕ) (stamp faults : ℕ) (i : ℕ)
+    (p : FilePiece) : Type 0 where
   pub first : p.first ≡ slice_index cuts i
   pub words : IsPart w (slice_index cuts i) (slice_index cuts (i + 1)) p.words
   pub since : p.since ≡ stamp
   pub stamp_is : p.stamp ≡ stamp
   pub faults_are : p.faults ≡ faults
+  pub size : p.size ≡ w.size
+  pub calls : p.device.calls.made ≡ measured w.size ∷ opened path ∷ []
 
 -- the first n parts between the cuts, at this stamp and count
-pub record AreFileParts (w : FileWords) (cuts : List ℕ) (stamp faults : ℕ) (pieces : List FilePiece)
-    (n : ℕ) : Type 0 where
+pub record AreFileParts (path : List ℕ) (w : FileWords) (cuts : List ℕ) (stamp faults : ℕ)
+    (pieces : List FilePiece) (n : ℕ) : Type 0 where
   pub count : length pieces ≡ n
   pub each : (i : ℕ) (p : FilePiece) → i < n
-      → IsFilePart w cuts stamp faults i (slice_index_or pieces i p)
+      → IsFilePart path w cuts stamp faults i (slice_index_or pieces i p)
 
 -- where the words of a piece end
 abbrev pub end_of : FilePiece → ℕ
@@ -100,10 +104,10 @@ pub record HaveTaken (old new : FileWords) (pieces : List FilePiece) (n : ℕ) :
       line ≡ true
       → flushes new ((slice_index_or pieces i p).first / LINE_WORDS + line) ≡ true
 
--- the file was opened, and these are its words
-abbrev pub HasOpened : Option Device → FileWords → Type 0
-HasOpened found w = IfSome found (λ d. IsOpened d w) × IsSome found
+-- the file of this name was opened, and these are its words
+abbrev pub HasOpened : List ℕ → Option Device → FileWords → Type 0
+HasOpened path found w = IfSome found (λ d. IsOpened path d w) × IsSome found
 
--- the file was made, with so many zero words
-abbrev pub HasMade : ℕ → Option Device → FileWords → Type 0
-HasMade count found w = IfSome found (λ d. IsMade count d w) × IsSome found
+-- the file of this name was made, with so many zero words
+abbrev pub HasMade : List ℕ → ℕ → Option Device → FileWords → Type 0
+HasMade path count found w = IfSome found (λ d. IsMade path count d w) × IsSome found

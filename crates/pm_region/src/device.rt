@@ -1,14 +1,14 @@
 // The trusted edge: each call here makes calls of the system, and notes those that it made. No clause can say what the
 // system does, so that each call makes what it notes is only read, and tried on real files.
 ghost use Rattle.std.specs.Prelude.{◌≡◌, ℕ, [], ◌∷◌, IfOk, OnOk, OnErr};
+ghost use Rattle.pm_region.specs.Calls.{refused};
 
 use crate::calls::Calls;
 use crate::region::RegionFault;
-use std::alloc::Global;
-use std::fs::{File, OpenOptions};
+use crate::system::{self, Place};
+use std::fs::File;
 use std::io;
-use std::os::fd::AsRawFd;
-use std::os::unix::fs::{FileExt, MetadataExt};
+use std::os::unix::fs::FileExt;
 use std::rt::Files;
 
 const SETTLED: u64 = 0;
@@ -25,16 +25,17 @@ const SYNCED: u64 = 5;
 
 const NAMED: u64 = 6;
 
-const FAILED: u64 = 7;
+const OPENED: u64 = 7;
 
-/// The last descriptor of the standard streams: input, output and errors.
-const LAST_STREAM: i32 = 2;
+const STOOD: u64 = 8;
 
-impl From<io::Error> for RegionFault {
-    fn from(_: io::Error) -> RegionFault {
-        RegionFault
-    }
-}
+const PLACED: u64 = 9;
+
+const REMOVED: u64 = 10;
+
+const REFUSED: u64 = 11;
+
+const FAILED: u64 = 12;
 
 /// An open file of the system, with the calls made on it. Each failure is a fault.
 #[derive(Drop)]
@@ -45,87 +46,178 @@ pub struct Device {
     pub calls: Calls,
 }
 
-impl Device {
-    ghost use Rattle.pm_region.specs.Calls.{settled, measured, gave, wrote, emptied, synced, named, failed};
+/// Finds and locks the file of this name that is to be replaced, if there is one. It is a fault where that isn't a
+/// regular file, where another program has its lock, and where its folder can't be opened.
+pub fn find_place<R: Files<File = File>>(
+    rt: &R,
+    path: &str,
+    tried: &mut Calls,
+) -> Result<Place, RegionFault>
+    ensures kept { OnOk result (tried.new ≡ tried.old) }
+    ensures err { OnErr result (tried.new.made ≡ refused ∷ tried.old.made) }
+{
+    match Place::find(rt, path) {
+        Ok(place) => Ok(place),
+        Err(_) => {
+            tried.note(&[REFUSED, 0], &[]);
+            Err(RegionFault)
+        }
+    }
+}
 
-    /// Opens the file for reading and writing, or where that is refused for reading only. It takes the lock of the
-    /// file, a shared one for reading only, and makes what the file has certain: it syncs the file and its folder.
-    /// Another program's lock is a fault.
-    pub fn attach<R: Files<File = File>>(
-        alloc: Global,
+impl Device {
+    ghost use Rattle.pm_region.specs.Calls.{settled, measured, gave, wrote, emptied, synced, named, opened, stood, placed, removed, failed};
+
+    /// Opens the file for reading and writing, or where it can't be written for reading alone. It takes the lock of the
+    /// file, a shared one for reading alone. Another program's lock, a name that is no regular file's, and one that the
+    /// file lost before it was locked are faults.
+    pub fn open<R: Files<File = File>>(
         rt: &R,
         path: &str,
+        tried: &mut Calls,
     ) -> Result<Device, RegionFault>
-        ensures { IfOk result (λ d. d.calls.made ≡ settled ∷ []) }
+        ensures ok { IfOk result (λ d. d.calls.made ≡ opened path.now ∷ []) }
+        ensures err { OnErr result (tried.new.made ≡ refused ∷ tried.old.made) }
     {
-        let (file, writable) = open_locked(rt, path)?;
-        file.sync_all()?;
-        let folder = sync_folder(alloc, rt, path);
-        if writable {
-            folder?;
+        match system::locked_at_best(rt, path) {
+            Ok((file, writable)) => {
+                let mut calls = Calls::none();
+                calls.note(&[OPENED, 0], path.as_bytes());
+                Ok(Device {
+                    file,
+                    writable,
+                    calls,
+                })
+            }
+            Err(_) => {
+                tried.note(&[REFUSED, 0], &[]);
+                Err(RegionFault)
+            }
         }
-        let mut calls = Calls::none();
-        calls.note(&[SETTLED, 0], &[]);
-        Ok(Device {
-            file,
-            writable,
-            calls,
-        })
     }
 
-    /// Opens the file for reading and writing, or makes it, and takes its lock. Only then is it cut to nothing.
-    pub fn create<R: Files<File = File>>(rt: &R, path: &str) -> Result<Device, RegionFault>
-        ensures { IfOk result (λ d. d.calls.made ≡ emptied ∷ []) }
+    /// Makes an empty file of this name, in the place of which another has been found, and takes its lock.
+    pub fn begin<R: Files<File = File>>(
+        rt: &R,
+        path: &str,
+        place: &Place,
+        tried: &mut Calls,
+    ) -> Result<Device, RegionFault>
+        ensures ok { IfOk result (λ d. d.calls.made ≡ emptied path.now ∷ []) }
+        ensures err { OnErr result (tried.new.made ≡ refused ∷ tried.old.made) }
     {
-        let mut options = OpenOptions::new();
-        let file = above_streams(options.read(true).write(true).create(true).open(rt, path)?)?;
-        if file.try_lock().is_err() {
-            return Err(RegionFault);
+        match place.begin(rt, path) {
+            Ok(file) => {
+                let mut calls = Calls::none();
+                calls.note(&[EMPTIED, 0], path.as_bytes());
+                Ok(Device {
+                    file,
+                    writable: true,
+                    calls,
+                })
+            }
+            Err(_) => {
+                tried.note(&[REFUSED, 0], &[]);
+                Err(RegionFault)
+            }
         }
-        file.set_len(0)?;
-        let mut calls = Calls::none();
-        calls.note(&[EMPTIED, 0], &[]);
-        Ok(Device {
-            file,
-            writable: true,
-            calls,
-        })
     }
 
-    /// Opens the same file once more, with no lock of its own. Another file of that name, or another size, is a fault.
-    pub fn again<R: Files<File = File>>(&self, rt: &R, path: &str) -> Result<Device, RegionFault>
-        ensures { IfOk result (λ d. d.calls.made ≡ []) }
+    /// Opens the same file once more, with no lock of its own. Another file of that name is a fault.
+    pub fn again<R: Files<File = File>>(
+        &self,
+        rt: &R,
+        path: &str,
+        tried: &mut Calls,
+    ) -> Result<Device, RegionFault>
+        ensures ok { IfOk result (λ d. d.calls.made ≡ opened path.now ∷ []) }
+        ensures kept { OnOk result (tried.new ≡ tried.old) }
+        ensures err { OnErr result (tried.new.made ≡ refused ∷ tried.old.made) }
     {
-        let mut options = OpenOptions::new();
-        let file = above_streams(options.read(true).write(self.writable).open(rt, path)?)?;
-        let own = self.file.metadata()?;
-        let found = file.metadata()?;
-        if found.dev() != own.dev() || found.ino() != own.ino() || found.len() != own.len() {
-            return Err(RegionFault);
+        match self.reopened(rt, path) {
+            Ok(file) => {
+                let mut calls = Calls::none();
+                calls.note(&[OPENED, 0], path.as_bytes());
+                Ok(Device {
+                    file,
+                    writable: self.writable,
+                    calls,
+                })
+            }
+            Err(_) => {
+                tried.note(&[REFUSED, 0], &[]);
+                Err(RegionFault)
+            }
         }
-        Ok(Device {
-            file,
-            writable: self.writable,
-            calls: Calls::none(),
-        })
     }
 
-    /// How many bytes the file has.
+    fn reopened<R: Files<File = File>>(&self, rt: &R, path: &str) -> Result<File, RegionFault> {
+        let file = system::open_regular(rt, path, self.writable)?;
+        if system::is_named(rt, path, &self.file)? && system::is_named(rt, path, &file)? {
+            Ok(file)
+        } else {
+            Err(RegionFault)
+        }
+    }
+
+    /// Makes certain what the file has and its name. Where it can't be written, a sync that its file system doesn't
+    /// make is no fault.
+    pub fn settle<R: Files<File = File>>(&mut self, rt: &R, path: &str) -> Result<(), RegionFault>
+        ensures ok { OnOk result (self.new.calls.made ≡ settled ∷ self.old.calls.made) }
+        ensures err { OnErr result (self.new.calls.made ≡ refused ∷ self.old.calls.made) }
+    {
+        if system::settle(rt, path, &self.file, self.writable).is_ok() {
+            self.calls.note(&[SETTLED, 0], &[]);
+            Ok(())
+        } else {
+            self.calls.note(&[REFUSED, 0], &[]);
+            Err(RegionFault)
+        }
+    }
+
+    /// How many bytes the file has. One that has no name any more is a fault.
     pub fn size(&mut self) -> Result<u64, RegionFault>
-        ensures { IfOk result (λ n. self.new.calls.made ≡ measured n ∷ self.old.calls.made) }
+        ensures ok { IfOk result (λ n. self.new.calls.made ≡ measured n ∷ self.old.calls.made) }
+        ensures err { OnErr result (self.new.calls.made ≡ refused ∷ self.old.calls.made) }
     {
-        let size = self.file.metadata()?.len();
-        self.calls.note(&[MEASURED, size], &[]);
-        Ok(size)
+        match system::length(&self.file) {
+            Ok(size) => {
+                self.calls.note(&[MEASURED, size], &[]);
+                Ok(size)
+            }
+            Err(_) => {
+                self.calls.note(&[REFUSED, 0], &[]);
+                Err(RegionFault)
+            }
+        }
+    }
+
+    /// Asks whether the name still leads to the file.
+    pub fn stand<R: Files<File = File>>(&mut self, rt: &R, path: &str) -> Result<(), RegionFault>
+        ensures ok { OnOk result (self.new.calls.made ≡ stood path.now ∷ self.old.calls.made) }
+        ensures err { OnErr result (self.new.calls.made ≡ refused ∷ self.old.calls.made) }
+    {
+        if matches!(system::is_named(rt, path, &self.file), Ok(true)) {
+            self.calls.note(&[STOOD, 0], path.as_bytes());
+            Ok(())
+        } else {
+            self.calls.note(&[REFUSED, 0], &[]);
+            Err(RegionFault)
+        }
     }
 
     /// Fills the bytes from the beginning of the file.
     pub fn read(&mut self, bytes: &mut [u8]) -> Result<(), RegionFault>
-        ensures { OnOk result (self.new.calls.made ≡ gave 0 bytes.new ∷ self.old.calls.made) }
+        ensures ok { OnOk result (self.new.calls.made ≡ gave 0 bytes.new ∷ self.old.calls.made) }
+        ensures err { OnErr result (self.new.calls.made ≡ refused ∷ self.old.calls.made) }
     {
-        self.file.read_exact_at(bytes, 0)?;
-        self.calls.note(&[GAVE, 0], bytes);
-        Ok(())
+        if self.file.read_exact_at(bytes, 0).is_ok() {
+            self.calls.note(&[GAVE, 0], bytes);
+            Ok(())
+        } else {
+            self.calls.note(&[REFUSED, 0], &[]);
+            Err(RegionFault)
+        }
     }
 
     /// Writes the bytes at a place of the file.
@@ -156,58 +248,52 @@ impl Device {
         }
     }
 
-    /// Makes the file's name certain.
-    pub fn keep_name<R: Files<File = File>>(
+    /// Gives the file the name of the old one of this place, by a rename. It is a fault where the old one has lost that
+    /// name since, or another file has it.
+    pub fn take_place<R: Files<File = File>>(
         &mut self,
-        alloc: Global,
         rt: &R,
+        own: &str,
         path: &str,
+        place: &Place,
     ) -> Result<(), RegionFault>
-        ensures { OnOk result (self.new.calls.made ≡ named ∷ self.old.calls.made) }
+        ensures ok { OnOk result (self.new.calls.made ≡ placed path.now ∷ self.old.calls.made) }
+        ensures err { OnErr result (self.new.calls.made ≡ failed ∷ self.old.calls.made) }
     {
-        sync_folder(alloc, rt, path)?;
-        self.calls.note(&[NAMED, 0], &[]);
-        Ok(())
-    }
-}
-
-// The file as it is, with its lock, and whether it can be written.
-fn open_locked<R: Files<File = File>>(rt: &R, path: &str) -> Result<(File, bool), RegionFault> {
-    let mut both = OpenOptions::new();
-    if let Ok(found) = both.read(true).write(true).open(rt, path) {
-        let file = above_streams(found)?;
-        return if file.try_lock().is_ok() {
-            Ok((file, true))
+        if place.give(rt, own, path, &self.file).is_ok() {
+            self.calls.note(&[PLACED, 0], path.as_bytes());
+            Ok(())
         } else {
+            self.calls.note(&[FAILED, 0], &[]);
             Err(RegionFault)
-        };
+        }
     }
-    let mut reading = OpenOptions::new();
-    let file = above_streams(reading.read(true).open(rt, path)?)?;
-    if file.try_lock_shared().is_ok() {
-        Ok((file, false))
-    } else {
-        Err(RegionFault)
+
+    /// Makes the names in the folder of this place certain.
+    pub fn keep_name(&mut self, place: &Place) -> Result<(), RegionFault>
+        ensures ok { OnOk result (self.new.calls.made ≡ named ∷ self.old.calls.made) }
+        ensures err { OnErr result (self.new.calls.made ≡ failed ∷ self.old.calls.made) }
+    {
+        if place.settle().is_ok() {
+            self.calls.note(&[NAMED, 0], &[]);
+            Ok(())
+        } else {
+            self.calls.note(&[FAILED, 0], &[]);
+            Err(RegionFault)
+        }
+    }
+
+    /// Takes the file's own name away. One that can't be taken away stays, and no program reads it.
+    pub fn remove<R: Files<File = File>>(&mut self, rt: &R, own: &str)
+        ensures { self.new.calls.made ≡ removed own.now ∷ self.old.calls.made }
+    {
+        let _ = rt.remove_file(own);
+        self.calls.note(&[REMOVED, 0], own.as_bytes());
     }
 }
 
-// What is meant for a standard stream that was closed must not land in the file: a copy of a descriptor is above them.
-fn above_streams(file: File) -> io::Result<File> {
-    if file.as_raw_fd() > LAST_STREAM {
-        Ok(file)
-    } else {
-        file.try_clone()
+impl From<io::Error> for RegionFault {
+    fn from(_: io::Error) -> RegionFault {
+        RegionFault
     }
-}
-
-// Makes the names in the folder of the file certain.
-fn sync_folder<R: Files<File = File>>(
-    alloc: Global,
-    rt: &R,
-    path: &str,
-) -> Result<(), RegionFault> {
-    let mut folder = rt.canonicalize(alloc, path)?;
-    folder.pop();
-    File::open(rt, folder.as_str())?.sync_all()?;
-    Ok(())
 }

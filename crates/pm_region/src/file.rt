@@ -1,10 +1,11 @@
 // A region in a file.
-ghost use Rattle.std.specs.Prelude.{◌≡◌, ℕ, ◌+◌, ◌-◌, ◌*◌, ◌^◌, ◌≤◌, ◌<◌, true, false, [], Some, length, slice_index, slice_index_or, IfOk, OnOk, OnErr, IsErrOf, Err};
+ghost use Rattle.std.specs.Prelude.{◌≡◌, ℕ, ◌+◌, ◌-◌, ◌*◌, ◌^◌, ◌≤◌, ◌<◌, true, false, [], Some, length, slice_index, slice_index_or, string_bytes, IfOk, OnOk, OnErr, IsErrOf, Err};
 ghost use Rattle.pm_region.specs.Cell.{MayBe, store_at, flush_line, fence_range, unchanged};
 ghost use Rattle.pm_region.specs.State.{State, Goes, InRange, LineInRange, IsTelling, cell_now, Faulted, Rose};
 ghost use Rattle.pm_region.specs.Split.{words_in, AreCuts};
 
 use crate::byte_words::word_count;
+use crate::calls::Calls;
 use crate::device::Device;
 use crate::file_open::{create_words, fence_file, open_words, write_pending};
 use crate::file_piece::FilePiece;
@@ -18,10 +19,11 @@ use std::alloc::Global;
 use std::fs::File;
 use std::rt::Files;
 
-/// A region in a file, which is locked while it is attached. It keeps the words in memory; a fence writes the flushed
-/// lines and syncs the file. A file that is missing, is locked or can't be read or written is a fault, which is
-/// counted. A file that can only be read is attached too, and its first fence is a fault. It tells nothing of its
-/// contents.
+/// A region in a regular file, which is locked while it is attached. It keeps the words in memory; a fence asks whether
+/// the name still leads to the file and the file has its length, writes the flushed lines and syncs the file. A file
+/// that is missing, is locked or can't be read or written is a fault, which is counted. A file that can only be read is
+/// attached too, and its first fence is a fault. A region that is created is a new file, which takes the name of the
+/// old one when it is whole. It tells nothing of its contents.
 #[derive(Drop)]
 pub struct FileRegion<R: Files<File = File> + Drop> {
     rt: R,
@@ -35,6 +37,8 @@ pub struct FileRegion<R: Files<File = File> + Drop> {
     faults: u64,
     refusals: u64,
     opens: u64,
+    /// What the last attach, create or split tried, where it was refused. Only clauses read it.
+    tried: Calls,
     ghost cuts_fit: { AreCuts (words_in words.size) cuts.items },
 }
 
@@ -61,13 +65,14 @@ impl<R: Files<File = File> + Drop> FileRegion<R> {
             faults: 0,
             refusals: 0,
             opens: 0,
+            tried: Calls::none(),
         }
     }
 }
 
 impl<R: Files<File = File> + Drop> Region for FileRegion<R> {
     ghost use Rattle.pm_region.specs.Files.{file_state};
-    ghost use Rattle.pm_region.specs.Filed.{word_of, calls_on, IsStored, IsFlushed, IsFenced, IsKept};
+    ghost use Rattle.pm_region.specs.Filed.{word_of, calls_on, looked, IsStored, IsFlushed, IsFenced, IsNotFenced, IsKept};
 
     ghost state = { λ r. file_state r };
 
@@ -116,11 +121,15 @@ impl<R: Files<File = File> + Drop> Region for FileRegion<R> {
         ensures err { OnErr result (Goes (file_state self.old) (file_state self.new) unchanged) }
         ensures cause { OnErr result (Faulted (file_state self.old) (file_state self.new)) }
         ensures fenced { OnOk result (IsFenced self.old.words self.new.words 0
-            (calls_on self.old.device) (calls_on self.new.device)) }
+            (looked (string_bytes self.old.path) self.old.words.size (calls_on self.old.device))
+            (calls_on self.new.device)) }
         ensures kept { OnErr result (IsKept self.old.words self.new.words) }
+        ensures not_fenced { OnErr result (IsNotFenced self.new.words 0 (calls_on self.old.device)
+            (looked (string_bytes self.old.path) self.old.words.size (calls_on self.old.device))
+            (calls_on self.new.device)) }
     {
         self.stamp = self.stamp.saturating_add(1);
-        match fence_file(&mut self.words, &mut self.device) {
+        match fence_file(&self.rt, &self.path, &mut self.words, &mut self.device) {
             Ok(()) => Ok(()),
             Err(e) => {
                 self.faults = self.faults.saturating_add(1);
@@ -154,7 +163,8 @@ impl<R: Files<File = File> + Drop> ReadRegion for FileRegion<R> {
 
 impl<R: Files<File = File> + Drop> SplitRegion for FileRegion<R> {
     ghost use Rattle.pm_region.specs.Files.{file_state, file_piece_state, file_frame, AreFileParts, HaveTaken, HasOpened, HasMade};
-    ghost use Rattle.pm_region.specs.Filed.{flushes, calls_on, IsSettled};
+    ghost use Rattle.pm_region.specs.Calls.{AreReads};
+    ghost use Rattle.pm_region.specs.Filed.{flushes, calls_on, IsSettled, IsNotSplit, IsNotAttached, IsNotMade};
     ghost use Rattle.pm_region.specs.Split.{Attached, Stays, Refuses, IsPiece, Parted, CameFrom, TakesPiece, Joined, IsOpenedOnceMore, IsNotOpened, ComesNext};
 
     type Piece = FilePiece;
@@ -176,12 +186,15 @@ impl<R: Files<File = File> + Drop> SplitRegion for FileRegion<R> {
             → InRange (file_state self.old).frame w → MayBe (cell_now (file_state self.old) w) 0 }
         ensures words { OnOk result ((w : ℕ) → InRange (file_state self.new).frame w → 0 < 2 ^ 64) }
         ensures opens { IsOpenedOnceMore (file_state self.old) (file_state self.new) }
-        ensures opened { OnOk result (HasOpened self.new.device self.new.words) }
+        ensures opened { OnOk result (HasOpened (string_bytes self.old.path) self.new.device
+            self.new.words) }
+        ensures refused { OnErr result (IsNotAttached (string_bytes self.old.path)
+            self.new.tried.made) }
     {
         self.opens = self.opens.saturating_add(1);
         // Its own lock goes first, with the file.
         self.device = None;
-        match open_words(alloc, &self.rt, &self.path) {
+        match open_words(alloc, &self.rt, &self.path, &mut self.tried) {
             Ok((device, words)) => {
                 self.device = Some(device);
                 self.begin(words);
@@ -198,14 +211,18 @@ impl<R: Files<File = File> + Drop> SplitRegion for FileRegion<R> {
         requires { words ≤ MOST_WORDS }
         ensures ok { OnOk result (Attached (file_state self.old) (file_state self.new)
             (WORD_BYTES * words) (λ w. 0)) }
+        ensures none { OnErr result ((file_state self.new).frame.words ≡ 0) }
         ensures cause { Refuses (file_state self.old) (file_state self.new) result }
         ensures opens { IsOpenedOnceMore (file_state self.old) (file_state self.new) }
-        ensures made { OnOk result (HasMade words self.new.device self.new.words) }
+        ensures made { OnOk result (HasMade (string_bytes self.old.path) words self.new.device
+            self.new.words) }
+        ensures refused { OnErr result (IsNotMade (string_bytes self.old.path) words
+            self.new.tried.made) }
     {
         self.opens = self.opens.saturating_add(1);
         self.device = None;
         self.begin(FileWords::none(alloc));
-        match create_words(alloc, &self.rt, &self.path, words) {
+        match create_words(alloc, &self.rt, &self.path, words, &mut self.tried) {
             Ok((device, words)) => {
                 self.device = Some(device);
                 self.begin(words);
@@ -229,14 +246,19 @@ impl<R: Files<File = File> + Drop> SplitRegion for FileRegion<R> {
         ensures err { OnErr result (Stays (file_state self.old) (file_state self.new)) }
         ensures cause { Refuses (file_state self.old) (file_state self.new) result }
         ensures opens { IsNotOpened (file_state self.old) (file_state self.new) }
-        ensures parts { IfOk result (λ pieces. AreFileParts self.old.words cuts.now self.old.stamp
-            self.old.faults pieces.items (length cuts.now - 1)) }
+        ensures parts { IfOk result (λ pieces. AreFileParts (string_bytes self.old.path)
+            self.old.words cuts.now self.old.stamp self.old.faults pieces.items
+            (length cuts.now - 1)) }
         ensures clean { OnOk result ((line : ℕ) → flushes self.new.words line ≡ false) }
-        ensures written { OnOk result (IsSettled self.old.words self.new.words
-            (calls_on self.old.device) (calls_on self.new.device)) }
+        ensures written { OnOk result (IsSettled (string_bytes self.old.path) self.old.words
+            self.new.words (calls_on self.old.device) (calls_on self.new.device)) }
+        ensures refused { OnErr result (IsNotSplit (string_bytes self.old.path) self.old.words
+            self.new.words (calls_on self.old.device) (calls_on self.new.device)) }
+        ensures tried { OnErr result (AreReads self.new.tried.made) }
     {
+        self.tried = Calls::none();
         let kept = cuts.to_vec(alloc)?;
-        if write_pending(&mut self.words, &mut self.device).is_err() {
+        if write_pending(&self.rt, &self.path, &mut self.words, &mut self.device).is_err() {
             self.refuse(AttachError::RegionFault);
             return Err(AttachError::RegionFault);
         }
@@ -249,6 +271,7 @@ impl<R: Files<File = File> + Drop> SplitRegion for FileRegion<R> {
             &self.path,
             self.stamp,
             self.faults,
+            &mut self.tried,
         ) {
             Ok(pieces) => {
                 self.parted = true;
@@ -297,6 +320,7 @@ impl<R: Files<File = File> + Drop> FileRegion<R> {
         ensures counts { (self.new.faults ≡ self.old.faults)
             × (self.new.refusals ≡ self.old.refusals) }
         ensures file { (self.new.device ≡ self.old.device) × (self.new.words ≡ words) }
+        ensures path { self.new.path ≡ self.old.path }
     {
         self.cuts.clear();
         self.words = words;
@@ -316,6 +340,8 @@ impl<R: Files<File = File> + Drop> FileRegion<R> {
             × Rose self.old.refusals self.new.refusals }
         ensures memory { why ≡ AttachError.Memory → (self.new.faults ≡ self.old.faults)
             × (self.new.refusals ≡ self.old.refusals) }
+        ensures file { (self.new.device ≡ self.old.device) × (self.new.words ≡ self.old.words)
+            × (self.new.tried ≡ self.old.tried) }
     {
         if why == AttachError::RegionFault {
             self.faults = self.faults.saturating_add(1);

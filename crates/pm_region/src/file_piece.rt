@@ -1,11 +1,12 @@
 // A piece of a region in a file.
-ghost use Rattle.std.specs.Prelude.{◌≡◌, ℕ, ◌+◌, ◌-◌, ◌*◌, ◌/◌, ◌%◌, ◌≤◌, ◌<◌, OnOk, OnErr};
+ghost use Rattle.std.specs.Prelude.{◌≡◌, ℕ, ◌+◌, ◌-◌, ◌*◌, ◌/◌, ◌%◌, ◌≤◌, ◌<◌, ◌∷◌, OnOk, OnErr};
 ghost use Rattle.pm_region.specs.Cell.{store_at, flush_line, fence_range, unchanged};
 ghost use Rattle.pm_region.specs.declared.region_sizes.TheConstants.{LINE_WORDS, MOST_WORDS};
 ghost use Rattle.pm_region.specs.State.{Goes, InRange, LineInRange, IsTelling, cell_now, Faulted};
 
 use crate::byte_words::word_count;
 use crate::device::Device;
+use crate::file_open::check_size;
 use crate::file_words::FileWords;
 use crate::read_region::ReadRegion;
 use crate::region::{Region, RegionFault};
@@ -15,6 +16,8 @@ use crate::region_sizes::{LINE_WORDS, WORD_BYTES};
 #[derive(Drop)]
 pub struct FilePiece {
     pub(crate) first: u64,
+    /// How many bytes the file had when it was attached.
+    pub(crate) size: u64,
     pub(crate) words: FileWords,
     pub(crate) device: Device,
     pub(crate) since: u64,
@@ -26,7 +29,8 @@ pub struct FilePiece {
 
 impl Region for FilePiece {
     ghost use Rattle.pm_region.specs.Files.{file_piece_state};
-    ghost use Rattle.pm_region.specs.Filed.{word_of, IsStored, IsFlushed, IsFenced, IsKept};
+    ghost use Rattle.pm_region.specs.Calls.{measured};
+    ghost use Rattle.pm_region.specs.Filed.{word_of, IsStored, IsFlushed, IsFenced, IsNotFenced, IsKept};
 
     ghost state = { file_piece_state };
 
@@ -77,14 +81,15 @@ impl Region for FilePiece {
         ensures cause { OnErr result (Faulted (file_piece_state self.old)
             (file_piece_state self.new)) }
         ensures fenced { OnOk result (IsFenced self.old.words self.new.words
-            (WORD_BYTES * self.old.first) self.old.device.calls.made self.new.device.calls.made) }
+            (WORD_BYTES * self.old.first) (measured self.old.size ∷ self.old.device.calls.made)
+            self.new.device.calls.made) }
         ensures kept { OnErr result (IsKept self.old.words self.new.words) }
+        ensures not_fenced { OnErr result (IsNotFenced self.new.words (WORD_BYTES * self.old.first)
+            self.old.device.calls.made (measured self.old.size ∷ self.old.device.calls.made)
+            self.new.device.calls.made) }
     {
         self.stamp = self.stamp.saturating_add(1);
-        match self
-            .words
-            .write_flushed(&mut self.device, WORD_BYTES * self.first)
-        {
+        match self.write() {
             Ok(()) => Ok(()),
             Err(e) => {
                 self.faults = self.faults.saturating_add(1);
@@ -99,6 +104,28 @@ impl Region for FilePiece {
 
     fn faults(&self) -> u64 {
         self.faults
+    }
+}
+
+impl FilePiece {
+    ghost use Rattle.pm_region.specs.Calls.{measured};
+    ghost use Rattle.pm_region.specs.Filed.{IsFenced, IsNotFenced, IsKept};
+
+    // Writes what is flushed, where the file still has its length.
+    fn write(&mut self) -> Result<(), RegionFault>
+        ensures ok { OnOk result (IsFenced self.old.words self.new.words
+            (WORD_BYTES * self.old.first) (measured self.old.size ∷ self.old.device.calls.made)
+            self.new.device.calls.made) }
+        ensures err { OnErr result (IsKept self.old.words self.new.words) }
+        ensures err_calls { OnErr result (IsNotFenced self.new.words (WORD_BYTES * self.old.first)
+            self.old.device.calls.made (measured self.old.size ∷ self.old.device.calls.made)
+            self.new.device.calls.made) }
+        ensures first { (self.new.first ≡ self.old.first) × (self.new.since ≡ self.old.since) }
+        ensures counts { (self.new.stamp ≡ self.old.stamp) × (self.new.faults ≡ self.old.faults) }
+    {
+        check_size(&mut self.device, self.size)?;
+        self.words
+            .write_flushed(&mut self.device, WORD_BYTES * self.first)
     }
 }
 

@@ -28,7 +28,7 @@ pub struct FileWords {
 
 impl FileWords {
     ghost use Rattle.std.specs.Prelude.{IfOk, OnOk, OnErr, false, true};
-    ghost use Rattle.pm_region.specs.Filed.{IsStored, IsFlushed, IsKept, IsFenced, IsPart, TakesPart, flushes, word_of};
+    ghost use Rattle.pm_region.specs.Filed.{IsStored, IsFlushed, IsKept, IsFenced, IsCutShort, IsPart, TakesPart, flushes, word_of};
 
     /// No words.
     pub fn none(alloc: Global) -> FileWords
@@ -95,6 +95,8 @@ impl FileWords {
         ensures ok { OnOk result (IsFenced self.old self.new start device.old.calls.made
             device.new.calls.made) }
         ensures err { OnErr result (IsKept self.old self.new) }
+        ensures err_calls { OnErr result (IsCutShort self.new start device.old.calls.made
+            device.new.calls.made) }
     {
         self.flushed.sort();
         write_runs(device, start, &self.flushed.lines, &self.bytes)?;

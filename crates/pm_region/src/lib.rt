@@ -25,6 +25,7 @@ mod snapshot;
 mod split;
 mod steady;
 mod step;
+mod system;
 mod volume;
 mod word_cells;
 

@@ -1,7 +1,7 @@
 // The runs of neighbours among the flushed lines of a file.
-ghost use Rattle.std.specs.Prelude.{◌≡◌, ◌≢◌, ℕ, ◌+◌, ◌-◌, ◌*◌, ◌≤◌, ◌<◌, ◌∷◌, length, take, drop, slice_index, OnOk};
-ghost use Rattle.pm_region.specs.Calls.{wrote};
-ghost use Rattle.pm_region.specs.LineRuns.{AreRuns};
+ghost use Rattle.std.specs.Prelude.{◌≡◌, ◌≢◌, ℕ, ◌+◌, ◌-◌, ◌*◌, ◌≤◌, ◌<◌, ◌∷◌, length, take, drop, slice_index, OnOk, OnErr};
+ghost use Rattle.pm_region.specs.Calls.{wrote, failed};
+ghost use Rattle.pm_region.specs.LineRuns.{AreRuns, AreCutShort};
 
 use crate::device::Device;
 use crate::region::RegionFault;
@@ -37,8 +37,10 @@ pub fn write_runs(
     requires within { (j : ℕ) → j < length lines.now
         → LINE_BYTES * slice_index lines.now j + LINE_BYTES
         ≤ length bytes.now }
-    ensures { OnOk result (AreRuns start lines.now bytes.now (length lines.now)
+    ensures ok { OnOk result (AreRuns start lines.now bytes.now (length lines.now)
         device.old.calls.made device.new.calls.made) }
+    ensures err { OnErr result (AreCutShort start lines.now bytes.now device.old.calls.made
+        device.new.calls.made) }
 {
     let mut from = 0;
     while from < lines.len() {
@@ -59,8 +61,9 @@ fn write_run(
 ) -> Result<(), RegionFault>
     requires start { start ≤ MOST_BYTES }
     requires within { LINE_BYTES * first + LINE_BYTES * count ≤ length bytes.now }
-    ensures { OnOk result (device.new.calls.made ≡ wrote (start + LINE_BYTES * first)
+    ensures ok { OnOk result (device.new.calls.made ≡ wrote (start + LINE_BYTES * first)
         (take (LINE_BYTES * count) (drop (LINE_BYTES * first) bytes.now)) ∷ device.old.calls.made) }
+    ensures err { OnErr result (device.new.calls.made ≡ failed ∷ device.old.calls.made) }
 {
     let low = LINE_BYTES * u64::from(first);
     let high = low + LINE_BYTES * count;

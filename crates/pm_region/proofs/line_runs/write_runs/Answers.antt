@@ -1,6 +1,7 @@
 use Rattle.std.proofs.Common.{◌≡◌, ℕ, ◌+◌, ◌-◌, ◌*◌, ◌≤◌, List, ◌∷◌, length, get_or, take, drop, sym, subst, arith}
 use Rattle.pm_region.specs.Calls.{Call, wrote}
-use Rattle.pm_region.specs.LineRuns.{AreRuns}
+use Rattle.pm_region.specs.LineRuns.{AreRuns, AreCutShort}
+use Rattle.pm_region.proofs.Results.{on_err}
 use Rattle.pm_region.proofs.Writing.{no_runs, one_run}
 use Rattle.pm_region.proofs.line_runs.write_runs.Goals as goal
 
@@ -35,5 +36,15 @@ loop-from-preserved c =
     let now : List Call = wrote (start + 64 * get_or lines from 0) (take (64 * (end - from)) (drop (64 * get_or lines from 0) bytes)) ∷ c.loop-from.device.calls.made in
     record {
       low = most;
-      runs = subst (λ (calls : List Call). AreRuns start lines bytes end before calls) (sym c.in_ok-write_run.ensures) (subst (λ (n : ℕ). AreRuns start lines bytes n before now) same more);
+      runs = subst (λ (calls : List Call). AreRuns start lines bytes end before calls) (sym c.in_ok-write_run.ensures.ok) (subst (λ (n : ℕ). AreRuns start lines bytes n before now) same more);
     }
+
+pub returns-in_err-write_run-clause-err : goal.returns-in_err-write_run-clause-err
+returns-in_err-write_run-clause-err c =
+    on_err _ (AreCutShort c.args.start c.args.lines.now c.args.bytes.now c.args.device.now.calls.made c.write_run.new.device.calls.made) (record {
+      n = c.loop-from.from;
+      within = c.loop-from.invariant.low;
+      calls = c.loop-from.device.calls.made;
+      runs = c.loop-from.invariant.runs;
+      failed_last = c.in_err-write_run.ensures.err;
+    })

@@ -1,0 +1,199 @@
+// The calls of the system by which a file is opened, locked, named and made certain. With `device` it is the trusted
+// edge: what these calls do is only read, and tried on real files.
+use std::fs::{File, OpenOptions};
+use std::io::{self, ErrorKind};
+use std::os::fd::AsRawFd;
+use std::os::unix::fs::{MetadataExt, fchown};
+use std::rt::Files;
+
+/// The last descriptor of the standard streams: input, output and errors.
+const LAST_STREAM: i32 = 2;
+
+/// The old file of a name, locked, if there is one, and the open folder in which it lies.
+#[derive(Drop)]
+pub struct Place {
+    folder: File,
+    old: Option<File>,
+}
+
+impl Place {
+    /// Finds and locks the place of this name, before anything is changed there.
+    pub fn find<R: Files<File = File>>(rt: &R, path: &str) -> io::Result<Place> {
+        let folder = File::open(rt, folder_of(path))?;
+        let old = match rt.symlink_metadata(path) {
+            Ok(found) if found.is_file() => Some(locked(rt, path, true)?),
+            Ok(_) => return Err(refusal()),
+            Err(e) if e.kind() == ErrorKind::NotFound => None,
+            Err(e) => return Err(e),
+        };
+        Ok(Place { folder, old })
+    }
+
+    /// A file of this name, empty and locked, with the owner and the rights of the old one. What lies there is what a
+    /// format left that was cut off.
+    pub fn begin<R: Files<File = File>>(&self, rt: &R, path: &str) -> io::Result<File> {
+        if rt
+            .symlink_metadata(path)
+            .is_ok_and(|found| !found.is_file())
+        {
+            return Err(refusal());
+        }
+        let mut options = OpenOptions::new();
+        let file = above_streams(options.read(true).write(true).create(true).open(rt, path)?)?;
+        lock(rt, path, &file, true)?;
+        match self.clear(&file) {
+            Ok(()) => Ok(file),
+            Err(e) => {
+                let _ = rt.remove_file(path);
+                Err(e)
+            }
+        }
+    }
+
+    fn clear(&self, file: &File) -> io::Result<()> {
+        file.set_len(0)?;
+        let Some(old) = &self.old else {
+            return Ok(());
+        };
+        let (own, wanted) = (file.metadata()?, old.metadata()?);
+        if own.uid() != wanted.uid() || own.gid() != wanted.gid() {
+            fchown(file, Some(wanted.uid()), Some(wanted.gid()))?;
+        }
+        if own.mode() == wanted.mode() {
+            Ok(())
+        } else {
+            file.set_permissions(wanted.permissions())
+        }
+    }
+
+    /// Gives the file the name of the old one, which must have it still.
+    pub fn give<R: Files<File = File>>(
+        &self,
+        rt: &R,
+        from: &str,
+        to: &str,
+        file: &File,
+    ) -> io::Result<()> {
+        let is_free = match &self.old {
+            Some(old) => is_named(rt, to, old)?,
+            None => rt
+                .symlink_metadata(to)
+                .is_err_and(|e| e.kind() == ErrorKind::NotFound),
+        };
+        if is_free && is_named(rt, from, file)? {
+            rt.rename(from, to)
+        } else {
+            Err(refusal())
+        }
+    }
+
+    /// Makes the names in the folder certain.
+    pub fn settle(&self) -> io::Result<()> {
+        self.folder.sync_all()
+    }
+}
+
+/// The file of this name with its lock, and whether it can be written. It is opened for reading alone, and its lock
+/// shared, where the right to write is missing or its file system can only be read.
+pub fn locked_at_best<R: Files<File = File>>(rt: &R, path: &str) -> io::Result<(File, bool)> {
+    match locked(rt, path, true) {
+        Err(e) if e.kind() == ErrorKind::PermissionDenied => Ok((locked(rt, path, false)?, false)),
+        Err(e) if e.kind() == ErrorKind::ReadOnlyFilesystem => Ok((
+            locked(rt, path, false)?,
+            false,
+        )),
+        Err(e) => Err(e),
+        Ok(file) => Ok((file, true)),
+    }
+}
+
+fn locked<R: Files<File = File>>(rt: &R, path: &str, writable: bool) -> io::Result<File> {
+    let file = open_regular(rt, path, writable)?;
+    lock(rt, path, &file, writable)?;
+    Ok(file)
+}
+
+// Takes the lock at once or not at all. The file may have lost its name before it was locked.
+fn lock<R: Files<File = File>>(rt: &R, path: &str, file: &File, alone: bool) -> io::Result<()> {
+    let locks = if alone {
+        file.try_lock()
+    } else {
+        file.try_lock_shared()
+    };
+    if locks.is_ok() && is_named(rt, path, file)? {
+        Ok(())
+    } else {
+        Err(refusal())
+    }
+}
+
+/// Opens a regular file. Any other, as a fifo, is refused before it is opened.
+pub fn open_regular<R: Files<File = File>>(rt: &R, path: &str, write: bool) -> io::Result<File> {
+    if !rt.metadata(path)?.is_file() {
+        return Err(refusal());
+    }
+    let mut options = OpenOptions::new();
+    above_streams(options.read(true).write(write).open(rt, path)?)
+}
+
+/// Whether the name leads to this file.
+pub fn is_named<R: Files<File = File>>(rt: &R, path: &str, file: &File) -> io::Result<bool> {
+    let own = file.metadata()?;
+    let found = rt.metadata(path)?;
+    Ok(found.is_file() && found.dev() == own.dev() && found.ino() == own.ino())
+}
+
+/// Makes certain what the file has, and its name. A folder that can't be opened is left as it is.
+pub fn settle<R: Files<File = File>>(
+    rt: &R,
+    path: &str,
+    file: &File,
+    writable: bool,
+) -> io::Result<()> {
+    settled(file.sync_all(), writable)?;
+    match File::open(rt, folder_of(path)) {
+        Ok(folder) => settled(folder.sync_all(), writable),
+        Err(_) => Ok(()),
+    }
+}
+
+// Where nothing can be written, a file system may refuse a sync, and none is wanted.
+fn settled(synced: io::Result<()>, writable: bool) -> io::Result<()> {
+    match synced {
+        Err(e) if !writable && e.kind() == ErrorKind::InvalidInput => Ok(()),
+        Err(e) if !writable && e.kind() == ErrorKind::ReadOnlyFilesystem => Ok(()),
+        synced => synced,
+    }
+}
+
+/// How many bytes the file has. One that no name leads to any more is refused.
+pub fn length(file: &File) -> io::Result<u64> {
+    let found = file.metadata()?;
+    if found.nlink() == 0 {
+        Err(refusal())
+    } else {
+        Ok(found.len())
+    }
+}
+
+// What is meant for a standard stream that was closed must not land in the file: a copy of a descriptor is above them.
+fn above_streams(file: File) -> io::Result<File> {
+    if file.as_raw_fd() > LAST_STREAM {
+        Ok(file)
+    } else {
+        file.try_clone()
+    }
+}
+
+// The folder of a name, as the name gives it.
+fn folder_of(path: &str) -> &str {
+    match path.rsplit_once('/') {
+        None => ".",
+        Some(("", _)) => "/",
+        Some((folder, _)) => folder,
+    }
+}
+
+fn refusal() -> io::Error {
+    io::Error::from(ErrorKind::Unsupported)
+}
