@@ -167,7 +167,8 @@ searched_on before mid after m ps v slot posted u t S (Some state) sees back =
 
 -- one was found given back, and none below it
 pub found_below : (before mid after : Option Group) (m : ℕ) (w : Worker) (v : View) (slot : ℕ) (posted : Bool) (u t : View) → LeadsNothing w → Searched before mid m w.places.items v slot posted u → (x : Option SlotState) → Sees m slot mid after u t (place_at w.places.items slot) x → shows_back x ≡ true
-    → (is_posted (place_at w.places.items slot) ≡ true) × ((before : PassesItems m (record { worker = w; view = v }) slot t) × FoundBack m slot before.looked.looks)
+    → (is_posted (place_at w.places.items slot) ≡ true) × (before : PassesItems m (record { worker = w; view = v }) slot t) × FoundBack m slot before.looked.looks
+unfolding looked_below
 found_below before mid after m w v slot posted u t nothing S None sees back = absurd (cc back)
 found_below before mid after m w v slot posted u t nothing S (Some state) sees back = (
   sees.0,

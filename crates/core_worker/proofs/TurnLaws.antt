@@ -40,7 +40,8 @@ use Rattle.core_worker.specs.Supplies.{room_for}
 use Rattle.core_worker.proofs.BatchSpends.{batch_spends}
 use Rattle.core_worker.proofs.LeadTies.{led_here, leads_of}
 use Rattle.core_worker.specs.Turns.{InOrderAt, SameButLeading, Steps, MadeOrStops, UnpledgedAt, Persists, LosesBatch, PersistsOrLoses, PassesItems, looks_at, LooksMade}
-use Rattle.core_worker.specs.Posting.{PostsOrStops}
+use Rattle.core_worker.specs.declared.types.Place.{Place as WorkerPlace}
+use Rattle.core_worker.specs.Posting.{HasNoBlock, PostsOrStops}
 use Rattle.core_worker.proofs.Given.{adds_none}
 use Rattle.core_worker.specs.Turning.{TurnMoves, KeepsTurn, Did, at_entry}
 use Rattle.core_worker.specs.Turning.Did.{posts, loses_block}

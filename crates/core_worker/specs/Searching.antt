@@ -66,7 +66,7 @@ pub record Searched (before after : Option Group) (m : ℕ) (ps : List Place) (v
 -- The lowest posted place that is given back, or none is; then also whether a change was found that nobody had taken.
 abbrev pub Finds : Search → ℕ → Moment → View → Type 0
 Finds (Back slot) m a u = (slot < SLOTS) × (is_posted (place_at a.worker.places.items slot) ≡ true)
-    × ((before : PassesItems m a slot u) × FoundBack m slot before.looked.looks)
+    × (before : PassesItems m a slot u) × FoundBack m slot before.looked.looks
 Finds (Out posted) m a u = (before : PassesItems m a SLOTS u)
     × MatchBool posted (FindsPosted a.worker.places.items before.looked.found SLOTS)
     (FindsPosted a.worker.places.items before.looked.found SLOTS → ⊥)

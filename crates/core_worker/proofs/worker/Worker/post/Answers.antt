@@ -1,5 +1,5 @@
 -- With a block or without, the change is posted.
-use Rattle.std.proofs.Common.{ℕ, inl, refl, subst}
+use Rattle.std.proofs.Common.{ℕ, inl, refl, sym, subst}
 use Rattle.core_worker.specs.declared.types.Place.{Place as WorkerPlace}
 use Rattle.core_worker.specs.declared.types.Place.TheVariants as places
 use Rattle.core_worker.specs.OwnPlaces.{place_at}
@@ -35,7 +35,7 @@ pub returns-in-None-clause-posts : goal.returns-in-None-clause-posts
 returns-in-None-clause-posts g c = inl (c.args.self.now, refl, c.post_plain.ensures.posts)
 
 pub returns-in-Some-clause-plain : goal.returns-in-Some-clause-plain
-returns-in-Some-clause-plain g c bare = absurd (no_block (place_at c.args.self.now.places.items c.args.slot) c.in-Some.pointer bare c.in-Some.ensures)
+returns-in-Some-clause-plain g c bare = absurd (no_block c.place_in.result.now c.in-Some.pointer (subst HasNoBlock (sym c.place_in.ensures) bare) c.in-Some.ensures)
 
 pub returns-in-None-clause-steps : goal.returns-in-None-clause-steps
 returns-in-None-clause-steps g c = let s = g.R.Region.state c.args.region.now in turn_handed s s _ _ _ _ _ _ c.post_plain.ensures.step

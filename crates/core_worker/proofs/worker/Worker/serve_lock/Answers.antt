@@ -17,14 +17,17 @@ pub returns-then-not-posted-clause-keeps : goal.returns-then-not-posted-clause-k
 returns-then-not-posted-clause-keeps g c s S = keeps_same (g.B.Board.seat c.args.board.now) s (g.B.Board.whole c.args.board.now) (g.B.Board.view c.args.board.now) c.args.self.now c.requires.holds S c.requires.order (g.met.B.Board.agrees c.args.board.now)
 
 pub returns-then-not-posted-clause-turned : goal.returns-then-not-posted-clause-turned
-returns-then-not-posted-clause-turned g c s refused before v post tells = record {
-  mid = g.B.Board.view c.args.board.now;
-  before = tells.0;
-  post = post;
-  lock = inl (subst (λ (b : Bool). MatchBool b (FindsPosted c.args.self.now.places.items tells.0.looked.found 8) (FindsPosted c.args.self.now.places.items tells.0.looked.found 8 → ⊥)) c.if-not-posted.true tells.1, refl);
-  free = c.requires.nothing;
-  same = refl;
-}
+returns-then-not-posted-clause-turned g c s refused before v post tells = (
+  refl,
+  record {
+    mid = g.B.Board.view c.args.board.now;
+    before = tells.0;
+    post = post;
+    lock = inl (subst (λ (b : Bool). MatchBool b (FindsPosted c.args.self.now.places.items tells.0.looked.found 8) (FindsPosted c.args.self.now.places.items tells.0.looked.found 8 → ⊥)) c.if-not-posted.true tells.1, refl);
+    free = c.requires.nothing;
+    same = refl;
+  },
+)
 
 pub returns-then-try_lead-clause-keeps : goal.returns-then-try_lead-clause-keeps
 returns-then-try_lead-clause-keeps g c s S =
@@ -65,15 +68,17 @@ returns-clause-keeps g c s S =
 pub returns-clause-turned : goal.returns-clause-turned
 returns-clause-turned g c s refused before v post tells =
     let seat = g.B.Board.seat c.args.board.now in
-    let had = subst (λ (b : Bool). TriesLock b seat.number (g.B.Board.view c.args.board.now) (g.B.Board.view c.try_lead.new.board) c.args.self.now c.try_lead.new.self) c.if-try_lead.false c.try_lead.ensures.tried in
-    record {
-      mid = g.B.Board.view c.args.board.now;
-      before = tells.0;
-      post = post;
-      lock = inr (subst (λ (b : Bool). MatchBool b (FindsPosted c.args.self.now.places.items tells.0.looked.found 8) (FindsPosted c.args.self.now.places.items tells.0.looked.found 8 → ⊥)) c.if-not-posted.false tells.1, had.0);
-      free = had.1;
-      same = had.2;
-    }
+    let had = subst (λ (b : Bool). TriesLock b seat.number (g.B.Board.view c.args.board.now) (g.B.Board.view c.try_lead.new.board) c.args.self.now c.try_lead.new.self) c.if-try_lead.false c.try_lead.ensures.tried in (
+      refl,
+      record {
+        mid = g.B.Board.view c.args.board.now;
+        before = tells.0;
+        post = post;
+        lock = inr (subst (λ (b : Bool). MatchBool b (FindsPosted c.args.self.now.places.items tells.0.looked.found 8) (FindsPosted c.args.self.now.places.items tells.0.looked.found 8 → ⊥)) c.if-not-posted.false tells.1, had.0);
+        free = had.1;
+        same = had.2;
+      },
+    )
 
 pub returns-then-not-posted-clause-starts : goal.returns-then-not-posted-clause-starts
 returns-then-not-posted-clause-starts g c = starts_nothing c.args.self.now c.requires.nothing

@@ -94,5 +94,4 @@ returns-in-Err-clause-steps g c = let s = g.R.Region.state c.args.region.now in 
 
 pub returns-in-Post-clause-steps : goal.returns-in-Post-clause-steps
 returns-in-Post-clause-steps g c =
-    let trail = λ b. trail_with (g.B.Board.trail b) (g.B.Board.at b) in
-    subst (λ (x : Bool). TurnSteps x (g.R.Region.state c.args.region.now) (g.R.Region.state c.post.new.region) (g.B.Board.view c.args.board.now) (g.B.Board.view c.post.new.board) (trail c.args.board.now) (trail c.post.new.board)) (sym c.in-Post.ensures.4) c.post.ensures.steps
+    subst (λ (x : Bool). TurnSteps x (g.R.Region.state c.args.region.now) (g.R.Region.state c.post.new.region) (g.B.Board.view c.args.board.now) (g.B.Board.view c.post.new.board) (trail_with (g.B.Board.trail c.args.board.now) (g.B.Board.at c.args.board.now)) (trail_with (g.B.Board.trail c.post.new.board) (g.B.Board.at c.post.new.board))) (sym c.in-Post.ensures.4) c.post.ensures.steps
