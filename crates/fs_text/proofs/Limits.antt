@@ -29,7 +29,7 @@ count_line_ok b size (Err rule) y h = cc
 pub le_true : (m n : ℕ) → nat_le m n ≡ true → m ≤ n
 le_true m n h = grind (arith, common_steps)
 
-gt_false : (m n : ℕ) → n < m → nat_le m n ≡ false
+pub gt_false : (m n : ℕ) → n < m → nat_le m n ≡ false
 gt_false m n h = grind (arith, common_steps)
 
 -- a line that breaks no rule lies within the limit
@@ -58,7 +58,7 @@ pub ok_no_error : {A B : Type 0} (x : A) (y : B) → Ok x ≡ Err y → ⊥
 ok_no_error x y h = cc
 
 -- the first line of a text whose front has no newline is no shorter than that
-long_line : (b : ℕ) (p rest : List ℕ) → IsMissing 10 p
+pub long_line : (b : ℕ) (p rest : List ℕ) → IsMissing 10 p
     → (x : List ℕ × Bool) × (xs : List (List ℕ × Bool)) × (on_front b (lines_of (p ++ rest)) ≡ x ∷ xs) × (suc (length p) ≤ size_with x)
 long_line b [] rest h = on_rest (lines_of rest)
   where
@@ -81,13 +81,13 @@ first_or_missing a (x ∷ xs) = at_head (first_or_missing a xs) (x == a) refl
     at_head later true e = inl (0, e)
     at_head later false e = in_rest later e
 
-first_below : (a : ℕ) (xs : List ℕ) (k : ℕ) → IsFirstAt a xs k → k < length xs
+pub first_below : (a : ℕ) (xs : List ℕ) (k : ℕ) → IsFirstAt a xs k → k < length xs
 first_below a [] k h = absurd h
 first_below a (x ∷ xs) zero h = omega arith
 first_below a (x ∷ xs) (suc k) h = omega (arith, first_below a xs k h.1)
 
 -- what follows a text changes nothing of its first lines
-first_append : (a : ℕ) (xs rest : List ℕ) (k : ℕ) → IsFirstAt a xs k
+pub first_append : (a : ℕ) (xs rest : List ℕ) (k : ℕ) → IsFirstAt a xs k
     → IsFirstAt a (xs ++ rest) k × (take k (xs ++ rest) ≡ take k xs) × (drop (suc k) (xs ++ rest) ≡ drop (suc k) xs ++ rest)
 first_append a [] rest k h = absurd h
 first_append a (x ∷ xs) rest zero h = (h, refl, refl)

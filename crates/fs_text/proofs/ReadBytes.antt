@@ -15,7 +15,7 @@ short_or_long n = grind arith
 abbrev Same : {A : Type 0} → (List ℕ → A) → List ℕ → List ℕ → Type 0
 Same f xs v = f v ≡ f xs
 
-read_same : {A : Type 0} (f : List ℕ → A) (xs ys v : List ℕ) → xs ≡ v ++ ys → (length v < 67108865 → ys ≡ []) → (67108864 < length v → f v ≡ f (v ++ ys)) → f v ≡ f xs
+pub read_same : {A : Type 0} (f : List ℕ → A) (xs ys v : List ℕ) → xs ≡ v ++ ys → (length v < 67108865 → ys ≡ []) → (67108864 < length v → f v ≡ f (v ++ ys)) → f v ≡ f xs
 read_same f xs ys v e end long = at_size (short_or_long (length v))
   where
     at_size : (length v < 67108865) ⊎ (67108864 < length v) → f v ≡ f xs

@@ -1,0 +1,5 @@
+pub mod Ranges
+pub mod Keys
+pub mod LiveKeys
+pub mod Starts
+pub mod Pages

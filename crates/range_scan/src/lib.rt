@@ -1,0 +1,15 @@
+//! Ranges of keys over what recovery gives: how many live keys stand between two bounds, and a page of their pairs.
+//!
+//! The indexes of the cores give their live keys by rising key. A directory merges these lists once, and then answers
+//! each query by two searches by halves. A page reads only the values that it gives.
+#![tactic(auto)]
+
+mod directory;
+mod live_keys;
+mod merging;
+mod page;
+mod ranging;
+mod values;
+
+pub use directory::Directory;
+pub use page::Page;
