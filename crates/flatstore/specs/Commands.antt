@@ -1,5 +1,5 @@
 -- The forms of a command line: what `clap` makes of the words of one command, with one level of subcommands.
-use Rattle.std.specs.Prelude.{ℕ, List, [], ◌∷◌, map, Bool, true, false, Option, Some, None, option_map, option_and_then, if◌then◌else◌, bytes_eq, codes, String, string_bytes}
+use Rattle.std.specs.Prelude.{ℕ, ◌&&◌, nat_le, List, [], ◌∷◌, map, Bool, true, false, Option, Some, None, option_map, option_and_then, if◌then◌else◌, bytes_eq, codes, String, string_bytes}
 use Rattle.std.specs.Global.{Global}
 use Rattle.std.specs.Str.Parse.{digits_value, without_leading_plus}
 use Rattle.clap.specs.Words.{App, Row, Rule, Text, new_app, new_rule, with_rule, with_subcommand, first_of, one_of, subcommand_of, Kinds, fault_of}
@@ -9,6 +9,7 @@ use Rattle.clap.specs.declared.builder.value_parser.ValueParser.{ValueParser}
 use Rattle.clap.specs.declared.builder.value_parser.ValueParser.TheVariants as parsers
 use Rattle.chunk_map.specs.declared.layouts.Geometry.{Geometry}
 use Rattle.chunk_map.specs.Checked.{layout_by_rule}
+use Rattle.flatstore.specs.declared.workers.TheConstants.{MOST_WORKERS}
 
 -- the bytes of each word
 abbrev pub words_of : List (String Global) → List Text
@@ -40,6 +41,13 @@ format_command =
     (number_rule (codes "cores"))) (number_rule (codes "group"))) (number_rule (codes "chunks")))
     (number_rule (codes "chunk-bytes"))
 
+-- a required word that is a number of 64 bits
+abbrev pub number_word_rule : Text → Rule
+number_word_rule name = record (new_rule name) { parser = Some u64_reader; required = true }
+
+abbrev pub audit_command : App
+audit_command = with_rule (region_command (codes "audit")) (number_word_rule (codes "workers"))
+
 abbrev pub bare_program : App
 bare_program = on_top (λ s. record s { subcommand_required = true }) (new_app (codes "flatstore"))
 
@@ -52,8 +60,8 @@ writing_program =
 -- the command of the program
 abbrev pub program : App
 program =
-    with_subcommand (with_subcommand writing_program (region_command (codes "dump")).top)
-    (region_command (codes "log")).top
+    with_subcommand (with_subcommand (with_subcommand writing_program
+    (region_command (codes "dump")).top) (region_command (codes "log")).top) audit_command.top
 
 -- no kind of error comes
 abbrev pub is_good : Kinds → Bool
@@ -71,6 +79,7 @@ pub data Form : Type 0 where
   Run : Text → Form
   Dump : Text → Form
   Log : Text → Form
+  Audit : Text → ℕ → Form
 
 -- the number that the reader makes of a text
 abbrev pub number_of : Text → Option ℕ
@@ -94,13 +103,22 @@ layout_in rows =
     (number_in (codes "chunk-bytes") rows)) (number_in (codes "chunks") rows))
     (number_in (codes "group") rows)) (number_in (codes "cores") rows)
 
+-- how many workers an audit is to have
+abbrev pub workers_within : ℕ → Option ℕ
+workers_within n = if nat_le 1 n && nat_le n MOST_WORKERS then Some n else None
+
+abbrev pub workers_in : List Row → Option ℕ
+workers_in rows = option_and_then workers_within (number_in (codes "workers") rows)
+
 abbrev pub form_named : Text → List Row → Text → Option Form
 form_named name rows path =
     if bytes_eq name (codes "format") then option_map (λ l. Format path l) (layout_in rows)
     else (if bytes_eq name (codes "replay") then Some (Replay path)
     else (if bytes_eq name (codes "run") then Some (Run path)
     else (if bytes_eq name (codes "dump") then Some (Dump path)
-    else (if bytes_eq name (codes "log") then Some (Log path) else None))))
+    else (if bytes_eq name (codes "log") then Some (Log path)
+    else (if bytes_eq name (codes "audit") then option_map (λ n. Audit path n) (workers_in rows)
+    else None)))))
 
 abbrev pub form_in : Option (Text × List Row) → Option Form
 form_in subcommand =
@@ -111,7 +129,7 @@ form_in subcommand =
 abbrev pub form_of : List Text → Option Form
 form_of words = if is_taken words then form_in (subcommand_of program words) else None
 
--- the words are those of `run`
+-- the words are those of `run` or of `audit`
 abbrev pub needs_threads : Option Form → Bool
 needs_threads None = false
 needs_threads (Some (Format path l)) = false
@@ -119,7 +137,8 @@ needs_threads (Some (Replay path)) = false
 needs_threads (Some (Run path)) = true
 needs_threads (Some (Dump path)) = false
 needs_threads (Some (Log path)) = false
+needs_threads (Some (Audit path workers)) = true
 
--- What the words ask of a call that starts no thread: those of `run` count as no form.
+-- What the words ask of a call that starts no thread: those of `run` and `audit` count as no form.
 abbrev pub alone_form_of : List Text → Option Form
 alone_form_of words = if needs_threads (form_of words) then None else form_of words

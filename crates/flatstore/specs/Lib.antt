@@ -7,6 +7,7 @@ pub mod Ends
 pub mod Ordering
 pub mod Promise
 pub mod Formats
+pub mod Audits
 pub mod Dumps
 pub mod Shows
 pub mod Logs

@@ -24,7 +24,7 @@ use pm_region::{ReadRegion, SplitRegion};
 use std::alloc::Global;
 use std::thread::Threads;
 
-/// Does what the words of a command line ask, in the thread that calls it, and returns: the words of `run` count as no
+/// Does what the words of a command line ask, in the thread that calls it, and returns: the words of `run` and `audit` count as no
 /// form. The first word is the program's name. For `format` the region is created and its superblock written. For
 /// `replay` the region is attached, the input is read, its lines are run in order, each core's moves by its `go` lines,
 /// and the replies are written once all are answered. For `dump` the region is attached, and its live pairs are
@@ -106,7 +106,7 @@ pub fn flatstore_alone<T: Threads, S: Source, O: Sink, R: SplitRegion + ReadRegi
     match command {
         Command::Format { layout, .. } => format_region(alloc, region, layout),
         Command::Replay { .. } => replay_region(alloc, source, sink, region),
-        Command::Run { .. } => Report::of(alloc, Status::Usage, false),
+        Command::Run { .. } | Command::Audit { .. } => Report::of(alloc, Status::Usage, false),
         Command::Dump { .. } => dump_region(alloc, sink, region),
         Command::Log { .. } => log_region(alloc, sink, region),
     }

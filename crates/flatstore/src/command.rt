@@ -1,10 +1,11 @@
 // The words of the command line.
-ghost use Rattle.std.specs.Prelude.{◌≡◌, IfOk, option_map, string_bytes};
+ghost use Rattle.std.specs.Prelude.{◌≡◌, IfOk, option_map, is_some, string_bytes};
 ghost use Rattle.clap.specs.Words.{found_of, rows_of, subcommand_rows_of};
-ghost use Rattle.flatstore.specs.Commands.{form_of, form_in, form_named, layout_in, needs_threads, number_in, words_of};
-ghost use Rattle.flatstore.specs.Asked.{asked, path_of};
+ghost use Rattle.flatstore.specs.Commands.{form_of, form_in, form_named, layout_in, needs_threads, number_in, words_of, workers_in};
+ghost use Rattle.flatstore.specs.Asked.{asked, path_of, threaded, way_of};
 
 use crate::parser::program;
+use crate::workers::Workers;
 use chunk_map::Layout;
 use clap::ArgMatches;
 use clap::error::ErrorKind;
@@ -24,6 +25,8 @@ pub enum Command<'a> {
     Dump { path: &'a str },
     /// The entries of the logs, by core, chunk and place.
     Log { path: &'a str },
+    /// A verdict on the replies of the input, by so many workers.
+    Audit { path: &'a str, workers: Workers },
 }
 
 fn number_in(matches: &ArgMatches, name: &str) -> Option<u64>
@@ -40,6 +43,13 @@ fn layout_in(matches: &ArgMatches) -> Option<Layout>
     let chunks = number_in(matches, "chunks")?;
     let chunk_bytes = number_in(matches, "chunk-bytes")?;
     Layout::of_numbers(cores, group, chunks, chunk_bytes)
+}
+
+fn workers_in(matches: &ArgMatches) -> Option<Workers>
+    ensures { option_map (λ w. w.count) result ≡ workers_in (rows_of (found_of matches.now)) }
+{
+    let count = number_in(matches, "workers")?;
+    Workers::of(count)
 }
 
 /// The command of a subcommand's name, its matches and its path.
@@ -62,6 +72,10 @@ fn command_named<'a>(name: &str, matches: &ArgMatches, path: &'a str) -> Option<
     }
     if name == "log" {
         return Some(Command::Log { path });
+    }
+    if name == "audit" {
+        let workers = workers_in(matches)?;
+        return Some(Command::Audit { path, workers });
     }
     None
 }
@@ -105,6 +119,7 @@ impl<'a> Command<'a> {
             Command::Run { path } => path,
             Command::Dump { path } => path,
             Command::Log { path } => path,
+            Command::Audit { path, .. } => path,
         }
     }
 }
@@ -121,13 +136,26 @@ pub fn region_path(alloc: Global, words: &Vec<String>) -> Result<Option<String>,
     }
 }
 
-/// Whether the words are those of `run`.
-pub fn asks_for_threads(alloc: Global, words: &Vec<String>) -> Result<bool, Memory>
-    ensures { IfOk result (λ b. b ≡ needs_threads (form_of (words_of words.now.items))) }
+/// What the words ask for that is done in threads, or `None` where they ask for nothing of the kind.
+#[derive(Clone, Copy)]
+pub enum Threaded {
+    /// A run of the cores.
+    Run,
+    /// An audit by so many workers.
+    Audit { workers: Workers },
+}
+
+/// What the words ask for that needs threads.
+pub fn asked_of_threads(alloc: Global, words: &Vec<String>) -> Result<Option<Threaded>, Memory>
+    ensures asked { IfOk result (λ t. option_map way_of t
+        ≡ threaded (form_of (words_of words.now.items))) }
+    ensures alone { IfOk result (λ t. is_some t
+        ≡ needs_threads (form_of (words_of words.now.items))) }
 {
     match parse_command(alloc, words.as_slice()) {
         Err(error) => Err(error),
-        Ok(Some(Command::Run { .. })) => Ok(true),
-        Ok(_) => Ok(false),
+        Ok(Some(Command::Run { .. })) => Ok(Some(Threaded::Run)),
+        Ok(Some(Command::Audit { workers, .. })) => Ok(Some(Threaded::Audit { workers })),
+        Ok(_) => Ok(None),
     }
 }

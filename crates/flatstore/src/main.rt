@@ -17,6 +17,9 @@ use top::flatstore;
 
 mod alone;
 #[cfg(test)]
+mod audit_tests;
+mod auditing;
+#[cfg(test)]
 mod change_tests;
 mod command;
 #[cfg(test)]
@@ -42,6 +45,7 @@ mod tests;
 #[cfg(test)]
 mod thread_tests;
 mod top;
+mod workers;
 
 /// The words of the command line, the program's name first. Words that aren't UTF-8 are no words of the program, and
 /// there are none then.

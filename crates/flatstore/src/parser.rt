@@ -2,7 +2,7 @@
 ghost use Rattle.std.specs.Prelude.{◌≡◌, IfOk, false};
 ghost use Rattle.clap.specs.Words.{app_of, rule_of};
 ghost use Rattle.clap.specs.declared.builder.command.Command.TheViews.{out-Command};
-ghost use Rattle.flatstore.specs.Commands.{number_rule, word_rule, region_command, format_command, bare_program, writing_program, program};
+ghost use Rattle.flatstore.specs.Commands.{number_rule, number_word_rule, word_rule, audit_command, region_command, format_command, bare_program, writing_program, program};
 
 use clap::{Arg, Command, value_parser};
 use std::alloc::{AllocError, Global};
@@ -32,6 +32,24 @@ fn region_command<'a>(alloc: Global, name: &'a str) -> Result<Command<'a>, Alloc
     ensures local { IfOk result (λ c. (out-Command c).has_globals ≡ false) }
 {
     Command::new(alloc, name).arg(word(alloc, "region"))
+}
+
+/// A required word that is a number of 64 bits.
+fn number_word<'a>(alloc: Global, name: &'a str) -> Arg<'a>
+    ensures rule { rule_of result ≡ number_word_rule name.entry.now }
+    ensures local { result.global ≡ false }
+{
+    Arg::new(alloc, name)
+        .required(true)
+        .value_parser(value_parser!(u64))
+}
+
+/// A subcommand with the path of a region and how many workers there are to be.
+fn audit_command<'a>(alloc: Global) -> Result<Command<'a>, AllocError>
+    ensures app { IfOk result (λ c. app_of c ≡ audit_command) }
+    ensures local { IfOk result (λ c. (out-Command c).has_globals ≡ false) }
+{
+    region_command(alloc, "audit")?.arg(number_word(alloc, "workers"))
 }
 
 fn format_command<'a>(alloc: Global) -> Result<Command<'a>, AllocError>
@@ -69,5 +87,6 @@ pub fn program<'a>(alloc: Global) -> Result<Command<'a>, AllocError>
 {
     writing_program(alloc)?
         .subcommand(region_command(alloc, "dump")?)?
-        .subcommand(region_command(alloc, "log")?)
+        .subcommand(region_command(alloc, "log")?)?
+        .subcommand(audit_command(alloc)?)
 }

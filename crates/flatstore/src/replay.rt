@@ -17,8 +17,8 @@ use pm_region::{ReadRegion, SplitRegion};
 use recover::{RecoverError, Recovered, recover_read};
 use std::alloc::Global;
 
-// The status for an input that was not read.
-fn unread(error: InputError) -> Status
+/// The status for an input that was not read.
+pub fn unread(error: InputError) -> Status
     ensures { result ≡ unread_as error }
 {
     match error {
@@ -43,7 +43,7 @@ fn read<S: Source>(alloc: Global, source: &mut S, cores: u32) -> Result<Input, S
 }
 
 /// What the words of an attached region say, where it is sound.
-fn recovered<R: SplitRegion + ReadRegion>(alloc: Global, region: &R) -> Result<Recovered, Status>
+pub fn recovered<R: SplitRegion + ReadRegion>(alloc: Global, region: &R) -> Result<Recovered, Status>
     requires whole { StandsWhole (R.state region.now) }
     ensures ok { IfOk result (StandsAsFound (R.state region.now) (R.word region.now)) }
     ensures err { IfErr result (IsUnserved (R.state region.now)) }

@@ -116,7 +116,7 @@ impl Status {
         let text = match self {
             Status::Done => format!(in alloc; "")?,
             Status::Usage => format!(in alloc;
-                "flatstore: usage: flatstore format REGION --cores N --group N --chunks N --chunk-bytes N, replay REGION, run REGION, dump REGION, log REGION, load REGION START COUNT"
+                "flatstore: usage: flatstore format REGION --cores N --group N --chunks N --chunk-bytes N, replay REGION, run REGION, dump REGION, log REGION, load REGION START COUNT, audit REGION WORKERS"
             )?,
             Status::BadInput { line, rule } => format!(in alloc;
                 "flatstore: line {line} breaks input rule {rule}"

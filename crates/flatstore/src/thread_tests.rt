@@ -17,7 +17,7 @@ use std::thread::Threads;
 const RUN: [&str; 3] = ["flatstore", "run", "region"];
 
 // One call with these words and a gate, into a sink that takes everything.
-fn threads<R: SplitRegion + ReadRegion, G: Gate + Sync>(
+pub fn threads<R: SplitRegion + ReadRegion, G: Gate + Sync>(
     rt: &(impl Threads + Wait + Sync + AllocGlobal),
     words: &[&str],
     region: &mut R,
@@ -107,7 +107,7 @@ fn what_is_left(rt: HostRuntime) -> Result<(), Fail> {
 }
 
 // Two thousand requests for a hundred keys, each key's puts and gets in turn, and their replies.
-fn two_thousand(alloc: Global) -> Result<(String, String), AllocError> {
+pub fn two_thousand(alloc: Global) -> Result<(String, String), AllocError> {
     let mut input = String::new(alloc);
     let mut replies = String::new(alloc);
     for round in 0..20u64 {

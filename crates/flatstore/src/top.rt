@@ -4,7 +4,8 @@ ghost use Rattle.pm_region.specs.Split.{Attached};
 ghost use Rattle.chunk_map.specs.declared.layouts.Geometry.{Geometry};
 ghost use Rattle.flatstore.specs.Ends.{AnswersNothing, CountsFaults, ReportsNothing, sink_use, source_use};
 ghost use Rattle.flatstore.specs.Commands.{form_of, words_of};
-ghost use Rattle.flatstore.specs.Commands.Form.{Format, Replay, Run, Dump, Log};
+ghost use Rattle.flatstore.specs.Commands.Form.{Format, Replay, Run, Dump, Log, Audit};
+ghost use Rattle.flatstore.specs.Audits.{Audits};
 ghost use Rattle.flatstore.specs.Dumps.{Dumps};
 ghost use Rattle.flatstore.specs.Formats.{Formats};
 ghost use Rattle.flatstore.specs.Logs.{Logs};
@@ -15,7 +16,8 @@ ghost use Rattle.flatstore.specs.ThreadRuns.{RunsOnThreads};
 ghost use Rattle.flatstore.specs.declared.report.Status.TheVariants as statuses;
 
 use crate::alone::flatstore_alone;
-use crate::command::asks_for_threads;
+use crate::auditing::audit_region;
+use crate::command::{Threaded, asked_of_threads};
 use crate::report::{Report, Status};
 use crate::run_threads::run_region;
 use core_worker::Gate;
@@ -29,7 +31,8 @@ use std::thread::Threads;
 /// Does what the words of a command line ask. The first word is the program's name. For `run` the region is attached,
 /// the input is read, and each core of the region has a worker in a thread of its own, which answers the requests of
 /// its keys, and asks the gate before it posts; once all are joined the replies are written in the order of the
-/// requests. It may then wait for its threads. Every other form is done in the thread that calls it
+/// requests. It may then wait for its threads. For `audit` the region is attached, the input is read, and its
+/// requests are judged by shares in threads of their own. Every other form is done in the thread that calls it
 /// (`flatstore_alone`).
 pub fn flatstore<
     T: Threads + Wait + Sync,
@@ -90,6 +93,13 @@ pub fn flatstore<
         (G.may_refuse gate.now) cores input
         (sink_use O.taken O.flushed O.fault_count sink.old sink.new) result }
 
+    // The verdict is that on the replies of the input, from the cells that the words of the region recover.
+    ensures audit { (path : List ℕ) (workers : ℕ)
+        → form_of (words_of words.now.items) ≡ Some (Audit path workers)
+        → Audits (R.state region.old) (R.state region.new) (R.found region.old)
+        (source_use S.coming S.fault_count source.old source.new)
+        (sink_use O.taken O.flushed O.fault_count sink.old sink.new) result }
+
     // A fault comes only where its count rose.
     ensures faults { CountsFaults (R.state region.old) (R.state region.new)
         (source_use S.coming S.fault_count source.old source.new)
@@ -116,9 +126,12 @@ pub fn flatstore<
         → Attached (R.state region.old) (R.state region.new) (R.state region.new).frame.bytes
         (R.found region.old) }
 {
-    match asks_for_threads(alloc, words) {
+    match asked_of_threads(alloc, words) {
         Err(Memory) => Report::of(alloc, Status::Memory, false),
-        Ok(true) => run_region(rt, alloc, source, sink, region, gate),
-        Ok(false) => flatstore_alone(rt, alloc, words, source, sink, region),
+        Ok(Some(Threaded::Run)) => run_region(rt, alloc, source, sink, region, gate),
+        Ok(Some(Threaded::Audit { workers })) => {
+            audit_region(rt, alloc, source, sink, region, workers)
+        }
+        Ok(None) => flatstore_alone(rt, alloc, words, source, sink, region),
     }
 }

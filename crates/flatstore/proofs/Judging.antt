@@ -1,0 +1,276 @@
+-- From what became of the input of an audit to what the program promises.
+use Rattle.std.proofs.Common.{◌≡◌, ◌⊎◌, inl, inr, ℕ, ◌/◌, List, [], append-nil, sym, ◌∙◌, ap, subst, refl, true, false, Bool, Option, Some, None, Result, Ok, Err}
+use Rattle.pm_region.specs.State.{State, IsTelling, Rose}
+use Rattle.pm_region.specs.Split.{Attached}
+use Rattle.pm_region.specs.Words.{lasts}
+use Rattle.fs_model.specs.declared.model.Pair.{Pair}
+use Rattle.fs_model.specs.declared.model.Request.{Request}
+use Rattle.fs_model.specs.declared.model.Reply.{Reply}
+use Rattle.fs_text.specs.Streams.{Takes, TakesPrefix, IsReadOut}
+use Rattle.store_image.specs.declared.types.Fault.{Fault}
+use Rattle.store_image.specs.declared.types.Fault.TheVariants as faults
+use Rattle.store_image.specs.Listing.{ListsCells}
+use Rattle.store_image.specs.Soundness.{IsSound, first_fault}
+use Rattle.store_image.proofs.Clients.{cells_agree, has_layout}
+use Rattle.headline.specs.Headline.{cells_of}
+use Rattle.recover.specs.declared.types.Recovered.{Recovered}
+use Rattle.recover.specs.Regions.{Covers}
+use Rattle.recover.specs.Recovering.{IsFound}
+use Rattle.chunk_map.specs.Layouts.{total_bytes}
+use Rattle.group_engine.specs.Replayed.{StandsAsFound}
+use Rattle.run_audit.specs.FirstFault.{Judges, cells_in}
+use Rattle.run_audit.specs.Replies.{audit_input_of}
+use Rattle.run_audit.specs.VerdictText.{verdict_text}
+use Rattle.run_audit.specs.declared.audit_input.AuditInput.{AuditInput}
+use Rattle.run_audit.specs.declared.verdict.Verdict.{Verdict}
+use Rattle.flatstore.specs.Audits.{AuditsBy, IsVerdict, IsVerdictText, IsJudged, IsUnjudged, IsUnreadAudit, IsReadAudit, input_status, is_refused, due_by}
+use Rattle.flatstore.specs.Ends.{SourceUse, SinkUse}
+use Rattle.flatstore.specs.Ordering.{IsServed, IsFault, is_of_line, is_of_region}
+use Rattle.flatstore.specs.Played.{IsCounted, IsUnserved}
+use Rattle.flatstore.specs.Promise.{IsInput}
+use Rattle.flatstore.specs.Shows.{HasShown, WritesText, BeginsText, is_of_writing}
+use Rattle.flatstore.specs.Statuses.{fault_status}
+use Rattle.flatstore.specs.declared.report.Status.{Status}
+use Rattle.flatstore.specs.declared.report.Status.TheVariants as statuses
+use Rattle.flatstore.specs.declared.report.Report.{Report}
+use Rattle.flatstore.proofs.Attached.{found_fault, found_words, sound_small}
+use Rattle.flatstore.proofs.Refused.{served_by, some_input}
+
+both : (b : Bool) {P : Type 0} → b ≡ true → b ≡ false → P
+both b t f = cc (sym t ∙ f)
+
+-- ---- what was recovered serves as a start
+pub covers : (s : State) (word : ℕ → ℕ) (r : Recovered) → StandsAsFound s word r → Covers s.frame r.layout
+covers s word r S = record {
+  layout = S.made.layout;
+  first = S.first;
+  words = S.words ∙ ap (λ b. b / 8) (sym S.made.total);
+}
+
+pub found_last : (s : State) (word : ℕ → ℕ) (tells : (w : ℕ) → IsTelling s → lasts s w ≡ word w) (r : Recovered) → StandsAsFound s word r → IsTelling s → IsFound (total_bytes r.layout) (lasts s) r
+found_last s word tells r S telling =
+    let same : lasts s ≡ word = (λ i w. tells w telling i) in
+    subst (λ b. IsFound b (lasts s) r) (sym S.made.total) (subst (λ (f : ℕ → ℕ). IsFound s.frame.bytes f r) (sym same) S.found)
+
+pub is_judged : (s : State) (source : SourceUse) (cores : ℕ) (x : AuditInput) (pairs : List Pair) (verdict : Verdict) → IsCounted s cores → IsReadAudit source cores x
+    → (IsTelling s → ListsCells (cells_of (lasts s)) pairs) → Judges (cells_in pairs) x.trace.items x.replies.items verdict → IsJudged s source verdict
+is_judged s source cores x pairs verdict counted read lists judges = record {
+  cores = cores;
+  counted = counted;
+  whole = read.whole;
+  input = read.input;
+  is_input = read.is_input;
+  verdict_is = (
+    (x.trace.items, x.replies.items),
+    read.good,
+    λ telling. let same : cells_in pairs ≡ cells_of (lasts s) = (λ i k. (lists telling).each k i) in subst (λ (f : ℕ → Option (List ℕ)). Judges f x.trace.items x.replies.items verdict) same judges,
+  );
+}
+
+-- ---- statuses
+fault_line : (fault : Fault) → is_of_line (fault_status fault) ≡ false
+fault_line (faults.NotARegion rule) = refl
+fault_line (faults.Damaged part chunk rule) = refl
+
+fault_writing : (fault : Fault) → is_of_writing (fault_status fault) ≡ false
+fault_writing (faults.NotARegion rule) = refl
+fault_writing (faults.Damaged part chunk rule) = refl
+
+fault_region : (fault : Fault) → fault_status fault ≡ statuses.RegionFault → ⊥
+fault_region (faults.NotARegion rule) e = cc e
+fault_region (faults.Damaged part chunk rule) e = cc e
+
+fault_source : (fault : Fault) → fault_status fault ≡ statuses.SourceFault → ⊥
+fault_source (faults.NotARegion rule) e = cc e
+fault_source (faults.Damaged part chunk rule) e = cc e
+
+fault_usage : (fault : Fault) → fault_status fault ≡ statuses.Usage → ⊥
+fault_usage (faults.NotARegion rule) e = cc e
+fault_usage (faults.Damaged part chunk rule) e = cc e
+
+bad_writing : (i : Result (List Request × List Reply) (ℕ × ℕ)) → is_refused i ≡ true → is_of_writing (input_status i) ≡ false
+bad_writing (Ok x) h = cc h
+bad_writing (Err (line, rule)) h = refl
+
+bad_region : (i : Result (List Request × List Reply) (ℕ × ℕ)) → input_status i ≡ statuses.RegionFault → ⊥
+bad_region (Ok x) e = cc e
+bad_region (Err (line, rule)) e = cc e
+
+bad_source : (i : Result (List Request × List Reply) (ℕ × ℕ)) → input_status i ≡ statuses.SourceFault → ⊥
+bad_source (Ok x) e = cc e
+bad_source (Err (line, rule)) e = cc e
+
+bad_usage : (i : Result (List Request × List Reply) (ℕ × ℕ)) → input_status i ≡ statuses.Usage → ⊥
+bad_usage (Ok x) e = cc e
+bad_usage (Err (line, rule)) e = cc e
+
+bad_apart : (i : Result (List Request × List Reply) (ℕ × ℕ)) → is_of_region (input_status i) ≡ false
+bad_apart (Ok x) = refl
+bad_apart (Err (line, rule)) = refl
+
+done_line : is_of_line statuses.Done ≡ false
+done_line = refl
+
+pub unread_apart : (source : SourceUse) (cores : ℕ) (status : Status) → IsUnreadAudit source cores status → is_of_region status ≡ false
+unread_apart source cores status (inl u) = ap is_of_region u.4 ∙ bad_apart (audit_input_of cores u.1)
+unread_apart source cores status (inr (inl u)) = ap is_of_region u.0
+unread_apart source cores status (inr (inr u)) = ap is_of_region u
+
+-- an audit that came to no verdict ends with none of these statuses
+module _ (s : State) (source : SourceUse) (status : Status) where
+  pub unjudged_source : IsUnjudged s source status → status ≡ statuses.SourceFault → Rose source.faults source.faults'
+  unjudged_source (inl (inl (fault, is, told))) e = absurd (fault_source fault (sym is ∙ e))
+  unjudged_source (inl (inr m)) e = absurd (no (sym m ∙ e)) where
+    no : statuses.Memory ≡ statuses.SourceFault → ⊥
+    no q = cc q
+  unjudged_source (inr (cores, counted, inl u)) e = absurd (bad_source (audit_input_of cores u.1) (sym u.4 ∙ e))
+  unjudged_source (inr (cores, counted, inr (inl f))) e = f.1
+  unjudged_source (inr (cores, counted, inr (inr m))) e = absurd (no (sym m ∙ e)) where
+    no : statuses.Memory ≡ statuses.SourceFault → ⊥
+    no q = cc q
+
+  pub unjudged_region : IsUnjudged s source status → status ≡ statuses.RegionFault → ⊥
+  unjudged_region (inl (inl (fault, is, told))) e = fault_region fault (sym is ∙ e)
+  unjudged_region (inl (inr m)) e = cc (sym m ∙ e)
+  unjudged_region (inr (cores, counted, inl u)) e = bad_region (audit_input_of cores u.1) (sym u.4 ∙ e)
+  unjudged_region (inr (cores, counted, inr (inl f))) e = cc (sym f.0 ∙ e)
+  unjudged_region (inr (cores, counted, inr (inr m))) e = cc (sym m ∙ e)
+
+  pub unjudged_usage : IsUnjudged s source status → status ≡ statuses.Usage → ⊥
+  unjudged_usage (inl (inl (fault, is, told))) e = fault_usage fault (sym is ∙ e)
+  unjudged_usage (inl (inr m)) e = cc (sym m ∙ e)
+  unjudged_usage (inr (cores, counted, inl u)) e = bad_usage (audit_input_of cores u.1) (sym u.4 ∙ e)
+  unjudged_usage (inr (cores, counted, inr (inl f))) e = cc (sym f.0 ∙ e)
+  unjudged_usage (inr (cores, counted, inr (inr m))) e = cc (sym m ∙ e)
+
+  pub unjudged_writing : IsUnjudged s source status → is_of_writing status ≡ false
+  unjudged_writing (inl (inl (fault, is, told))) = ap is_of_writing is ∙ fault_writing fault
+  unjudged_writing (inl (inr m)) = ap is_of_writing m
+  unjudged_writing (inr (cores, counted, inl u)) = ap is_of_writing u.4 ∙ bad_writing (audit_input_of cores u.1) u.3
+  unjudged_writing (inr (cores, counted, inr (inl f))) = ap is_of_writing f.0
+  unjudged_writing (inr (cores, counted, inr (inr m))) = ap is_of_writing m
+
+module _ (old s : State) (found : ℕ → ℕ) (A : Attached old s s.frame.bytes found) (source : SourceUse) (sink : SinkUse) where
+  -- ---- no verdict
+  by_none : (status : Status) → IsUnjudged s source status → (r : Report) → r.status ≡ status → r.complete ≡ false → (cores : ℕ) (input : List ℕ)
+      → (IsTelling s → (status ≡ due_by found input (first_fault s.frame.bytes found)) ⊎ IsFault old s source sink status)
+      → (is_of_line status ≡ true → IsServed s found × IsReadOut source.coming source.left × (status ≡ input_status (audit_input_of cores input)))
+      → AuditsBy old s found source cores input sink r
+  by_none status u r is cut cores input due line = record {
+    due = λ telling. subst (λ st. (st ≡ due_by found input (first_fault s.frame.bytes found)) ⊎ IsFault old s source sink st) (sym is) (due telling);
+    no_fault = λ failed. unjudged_region s source status u (sym is ∙ failed);
+    line = λ of_line. let l = line (ap is_of_line (sym is) ∙ of_line) in (l.0, l.1, is ∙ l.2);
+    done = λ done. both (is_of_writing r.status) (ap is_of_writing done) (ap is_of_writing is ∙ unjudged_writing s source status u);
+    begins = λ complete. both r.complete complete cut;
+    read = λ complete. both r.complete complete cut;
+    written = λ written. both (is_of_writing r.status) written (ap is_of_writing is ∙ unjudged_writing s source status u);
+    untouched = A;
+  }
+
+  pub unjudged_audits : (status : Status) → IsUnjudged s source status → (r : Report) → r.status ≡ status → r.complete ≡ false
+      → (input : List ℕ) × (cores : ℕ) × IsInput source.coming input × AuditsBy old s found source cores input sink r
+  unjudged_audits status (inl (inl (fault, why, told))) r is cut =
+      let input = some_input source.coming in (
+        input.0,
+        found 2,
+        input.1,
+        by_none status (inl (inl (fault, why, told))) r is cut (found 2) input.0
+            (λ telling. inl (why ∙ sym (ap (due_by found input.0) (sym (found_fault old s found A telling) ∙ told telling))))
+            (λ of_line. both (is_of_line status) of_line (ap is_of_line why ∙ fault_line fault)),
+      )
+  unjudged_audits status (inl (inr m)) r is cut =
+      let input = some_input source.coming in (
+        input.0,
+        found 2,
+        input.1,
+        by_none status (inl (inr m)) r is cut (found 2) input.0 (λ telling. inr (inl m)) (λ of_line. both (is_of_line status) of_line (ap is_of_line m)),
+      )
+  unjudged_audits status (inr (cores, counted, inl u)) r is cut = (
+    u.1,
+    cores,
+    u.2,
+    by_none status (inr (cores, counted, inl u)) r is cut cores u.1
+        (λ telling. let served = served_by old s found A cores counted telling in
+            inl (u.4 ∙ ap (λ c. input_status (audit_input_of c u.1)) served.1 ∙ sym (ap (due_by found u.1) served.0)))
+        (λ of_line. ((λ telling. (served_by old s found A cores counted telling).0), u.0, u.4)),
+  )
+  unjudged_audits status (inr (cores, counted, inr (inl f))) r is cut =
+      let input = some_input source.coming in (
+        input.0,
+        cores,
+        input.1,
+        by_none status (inr (cores, counted, inr (inl f))) r is cut cores input.0 (λ telling. inr (inr (inl f))) (λ of_line. both (is_of_line status) of_line (ap is_of_line f.0)),
+      )
+  unjudged_audits status (inr (cores, counted, inr (inr m))) r is cut =
+      let input = some_input source.coming in (
+        input.0,
+        cores,
+        input.1,
+        by_none status (inr (cores, counted, inr (inr m))) r is cut cores input.0 (λ telling. inr (inl m)) (λ of_line. both (is_of_line status) of_line (ap is_of_line m)),
+      )
+
+  -- ---- a verdict
+  verdict_found : (cores : ℕ) (input : List ℕ) (verdict : Verdict) → (IsTelling s → IsSound s.frame.bytes found) → IsVerdict (IsTelling s) (cells_of (lasts s)) cores input verdict
+      → IsVerdict (IsTelling s) (cells_of found) cores input verdict
+  verdict_found cores input verdict sound (x, good, judges) = (
+    x,
+    good,
+    λ telling. let here = sound telling in
+        let same : cells_of (lasts s) ≡ cells_of found = (λ i k. cells_agree s.frame.bytes (lasts s) found (found_words old s found A (sound_small old s found A here) telling) (has_layout s.frame.bytes found here) k i) in
+        subst (λ (f : ℕ → Option (List ℕ)). Judges f x.0 x.1 verdict) same (judges telling),
+  )
+
+  whole_begun : (text : List ℕ) → Takes sink.before sink.now text → TakesPrefix sink.before sink.now text
+  whole_begun text takes = ([], (text, sym (append-nil text), takes))
+
+  begun : (text : List ℕ) (status : Status) → HasShown text sink status → TakesPrefix sink.before sink.now text
+  begun text status (inl w) = whole_begun text w.1
+  begun text status (inr (inl w)) = w.2
+  begun text status (inr (inr w)) = w.1
+
+  whole : (text : List ℕ) (status : Status) → HasShown text sink status → status ≡ statuses.Done → Takes sink.before sink.now text × (sink.flushed ≡ true)
+  whole text status (inl w) done = (w.1, w.2)
+  whole text status (inr (inl w)) done = absurd (no (sym w.0 ∙ done)) where
+    no : statuses.SinkFault ≡ statuses.Done → ⊥
+    no q = cc q
+  whole text status (inr (inr w)) done = absurd (no (sym w.0 ∙ done)) where
+    no : statuses.Memory ≡ statuses.Done → ⊥
+    no q = cc q
+
+  no_line : (text : List ℕ) (status : Status) → HasShown text sink status → is_of_line status ≡ false
+  no_line text status (inl w) = ap is_of_line w.0
+  no_line text status (inr (inl w)) = ap is_of_line w.0
+  no_line text status (inr (inr w)) = ap is_of_line w.0
+
+  no_region : (text : List ℕ) (status : Status) → HasShown text sink status → status ≡ statuses.RegionFault → ⊥
+  no_region text status (inl w) e = cc (sym w.0 ∙ e)
+  no_region text status (inr (inl w)) e = cc (sym w.0 ∙ e)
+  no_region text status (inr (inr w)) e = cc (sym w.0 ∙ e)
+
+  due_judged : (text : List ℕ) (status : Status) (input : List ℕ) → HasShown text sink status → statuses.Done ≡ due_by found input (first_fault s.frame.bytes found)
+      → (status ≡ due_by found input (first_fault s.frame.bytes found)) ⊎ IsFault old s source sink status
+  due_judged text status input (inl w) due = inl (w.0 ∙ due)
+  due_judged text status input (inr (inl w)) due = inr (inr (inr (inl (w.0, w.1))))
+  due_judged text status input (inr (inr w)) due = inr (inl w.0)
+
+  pub judged_audits : (verdict : Verdict) → IsJudged s source verdict → (r : Report) → HasShown (verdict_text verdict) sink r.status → r.complete ≡ true
+      → (input : List ℕ) × (cores : ℕ) × IsInput source.coming input × AuditsBy old s found source cores input sink r
+  judged_audits verdict j r shown complete =
+      let text = verdict_text verdict in
+      let sound : IsTelling s → IsSound s.frame.bytes found = λ telling. (served_by old s found A j.cores j.counted telling).0 in
+      let is = verdict_found j.cores j.input verdict sound j.verdict_is in (
+        j.input,
+        j.cores,
+        j.is_input,
+        record {
+          due = λ telling. let served = served_by old s found A j.cores j.counted telling in
+              due_judged text r.status j.input shown (sym (ap (due_by found j.input) served.0 ∙ ap (λ c. input_status (audit_input_of c j.input)) (sym served.1) ∙ ap input_status is.1));
+          no_fault = no_region text r.status shown;
+          line = λ of_line. both (is_of_line r.status) of_line (no_line text r.status shown);
+          done = λ done. let w = whole text r.status shown done in ((text, (verdict, is, refl), w.0), w.1);
+          begins = λ begins. (text, (verdict, is, refl), begun text r.status shown);
+          read = λ begins. (sound, j.whole);
+          written = λ written. complete;
+          untouched = A;
+        },
+      )

@@ -1,0 +1,9 @@
+pub mod InputRead
+pub mod Kept
+pub mod Lines
+pub mod Merging
+pub mod Pairing
+pub mod Passing
+pub mod RepliesRead
+pub mod Starting
+pub mod Texts

@@ -1,0 +1,11 @@
+pub mod FirstFault
+pub mod Parting
+pub mod Replies
+pub mod Shares
+pub mod VerdictText
+pub use Rattle.fs_model.specs.Lawful
+pub use Rattle.fs_text.specs.Input
+pub use Rattle.fs_text.specs.Output
+pub use Rattle.fs_text.specs.Reading
+pub use Rattle.fs_text.specs.Streams
+pub use Rattle.store_image.specs.Listing
