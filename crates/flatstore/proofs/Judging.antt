@@ -1,4 +1,5 @@
 -- From what became of the input of an audit to what the program promises.
+use Rattle.std.specs.Prelude.{IfErr}
 use Rattle.std.proofs.Common.{◌≡◌, ◌⊎◌, inl, inr, ℕ, ◌/◌, List, [], append-nil, sym, ◌∙◌, ap, subst, refl, true, false, Bool, Option, Some, None, Result, Ok, Err}
 use Rattle.pm_region.specs.State.{State, IsTelling, Rose}
 use Rattle.pm_region.specs.Split.{Attached}
@@ -274,3 +275,7 @@ module _ (old s : State) (found : ℕ → ℕ) (A : Attached old s s.frame.bytes
           untouched = A;
         },
       )
+
+pub never_of_region : {T : Type 0} (r : Result T Status) (P : Type 0) → IfErr r (λ st. is_of_region st ≡ false) → IfErr r (λ st. is_of_region st ≡ true → P)
+never_of_region (Ok x) P h = tt
+never_of_region (Err st) P h = λ broken. both (is_of_region st) broken h

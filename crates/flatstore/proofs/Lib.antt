@@ -19,3 +19,7 @@ pub mod Emptiness
 pub mod Listed
 pub mod Shown
 pub mod Spelled
+pub mod Queried
+pub mod Scanned
+pub mod AuditReading
+pub mod Judging

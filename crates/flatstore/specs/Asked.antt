@@ -1,6 +1,6 @@
 -- What a command that was read asks for.
 use Rattle.flatstore.specs.Commands.{Form}
-use Rattle.flatstore.specs.Commands.Form.{Format, Replay, Run, Dump, Log, Audit}
+use Rattle.flatstore.specs.Commands.Form.{Format, Replay, Run, Dump, Log, Scan, Audit}
 use Rattle.clap.specs.Words.{Text}
 use Rattle.std.specs.Prelude.{ℕ, Option, Some, None}
 use Rattle.flatstore.specs.declared.command.Command.{Command}
@@ -14,6 +14,7 @@ asked (commands.Replay path) = Replay path.now
 asked (commands.Run path) = Run path.now
 asked (commands.Dump path) = Dump path.now
 asked (commands.Log path) = Log path.now
+asked (commands.Scan path) = Scan path.now
 asked (commands.Audit path workers) = Audit path.now workers.count
 
 abbrev pub path_of : Form → Text
@@ -22,6 +23,7 @@ path_of (Replay path) = path
 path_of (Run path) = path
 path_of (Dump path) = path
 path_of (Log path) = path
+path_of (Scan path) = path
 path_of (Audit path workers) = path
 
 -- What is asked for that is done in threads: a run, or an audit by so many workers.
@@ -36,6 +38,7 @@ threaded (Some (Replay path)) = None
 threaded (Some (Run path)) = Some Runs
 threaded (Some (Dump path)) = None
 threaded (Some (Log path)) = None
+threaded (Some (Scan path)) = None
 threaded (Some (Audit path workers)) = Some (Audits workers)
 
 abbrev pub way_of : Threaded → Way

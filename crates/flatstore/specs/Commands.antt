@@ -57,11 +57,17 @@ writing_program =
     with_subcommand (with_subcommand (with_subcommand bare_program format_command.top)
     (region_command (codes "replay")).top) (region_command (codes "run")).top
 
+-- with what shows one
+abbrev pub reading_program : App
+reading_program =
+    with_subcommand (with_subcommand writing_program (region_command (codes "dump")).top)
+    (region_command (codes "log")).top
+
 -- the command of the program
 abbrev pub program : App
 program =
-    with_subcommand (with_subcommand (with_subcommand writing_program
-    (region_command (codes "dump")).top) (region_command (codes "log")).top) audit_command.top
+    with_subcommand (with_subcommand reading_program (region_command (codes "scan")).top)
+    audit_command.top
 
 -- no kind of error comes
 abbrev pub is_good : Kinds → Bool
@@ -79,6 +85,7 @@ pub data Form : Type 0 where
   Run : Text → Form
   Dump : Text → Form
   Log : Text → Form
+  Scan : Text → Form
   Audit : Text → ℕ → Form
 
 -- the number that the reader makes of a text
@@ -117,8 +124,9 @@ form_named name rows path =
     else (if bytes_eq name (codes "run") then Some (Run path)
     else (if bytes_eq name (codes "dump") then Some (Dump path)
     else (if bytes_eq name (codes "log") then Some (Log path)
+    else (if bytes_eq name (codes "scan") then Some (Scan path)
     else (if bytes_eq name (codes "audit") then option_map (λ n. Audit path n) (workers_in rows)
-    else None)))))
+    else None))))))
 
 abbrev pub form_in : Option (Text × List Row) → Option Form
 form_in subcommand =
@@ -137,6 +145,7 @@ needs_threads (Some (Replay path)) = false
 needs_threads (Some (Run path)) = true
 needs_threads (Some (Dump path)) = false
 needs_threads (Some (Log path)) = false
+needs_threads (Some (Scan path)) = false
 needs_threads (Some (Audit path workers)) = true
 
 -- What the words ask of a call that starts no thread: those of `run` and `audit` count as no form.

@@ -12,6 +12,8 @@ pub mod Dumps
 pub mod Shows
 pub mod Logs
 pub mod Reads
+pub mod Scans
+pub mod Asking
 pub mod Played
 pub mod ThreadPlays
 pub mod ThreadRuns

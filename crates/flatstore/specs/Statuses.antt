@@ -28,7 +28,7 @@ damage_line part chunk rule =
 
 abbrev pub fault_line : Status → List ℕ
 fault_line Done = []
-fault_line Usage = codes "flatstore: usage: flatstore format REGION --cores N --group N --chunks N --chunk-bytes N, replay REGION, run REGION, dump REGION, log REGION, load REGION START COUNT, audit REGION WORKERS"
+fault_line Usage = codes "flatstore: usage: flatstore format REGION --cores N --group N --chunks N --chunk-bytes N, replay REGION, run REGION, dump REGION, log REGION, load REGION START COUNT, scan REGION, audit REGION WORKERS"
 fault_line (BadInput line rule) =
     codes "flatstore: line " ++ (decimal line ++ (codes " breaks input rule " ++ decimal rule))
 fault_line SourceFault = codes "flatstore: reading the input failed"

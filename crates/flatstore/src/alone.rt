@@ -4,13 +4,14 @@ ghost use Rattle.pm_region.specs.Split.{Attached};
 ghost use Rattle.chunk_map.specs.declared.layouts.Geometry.{Geometry};
 ghost use Rattle.flatstore.specs.Ends.{AnswersNothing, CountsFaults, ReportsNothing, sink_use, source_use};
 ghost use Rattle.flatstore.specs.Commands.{alone_form_of, words_of};
-ghost use Rattle.flatstore.specs.Commands.Form.{Format, Replay, Dump, Log};
+ghost use Rattle.flatstore.specs.Commands.Form.{Format, Replay, Dump, Log, Scan};
 ghost use Rattle.flatstore.specs.Dumps.{Dumps};
 ghost use Rattle.flatstore.specs.Formats.{Formats};
 ghost use Rattle.flatstore.specs.Logs.{Logs};
 ghost use Rattle.flatstore.specs.Attaching.{Attaches};
 ghost use Rattle.flatstore.specs.Ordering.{is_of_region, is_quiet};
 ghost use Rattle.flatstore.specs.Promise.{IsInput, Replays};
+ghost use Rattle.flatstore.specs.Scans.{Scans};
 ghost use Rattle.flatstore.specs.declared.report.Status.TheVariants as statuses;
 
 use crate::command::{Command, parse_command};
@@ -19,6 +20,7 @@ use crate::formatting::format_region;
 use crate::logging::log_region;
 use crate::playing::replay_region;
 use crate::report::{Report, Status};
+use crate::scanning::scan_region;
 use fs_text::{Sink, Source};
 use pm_region::{ReadRegion, SplitRegion};
 use std::alloc::Global;
@@ -28,7 +30,8 @@ use std::thread::Threads;
 /// form. The first word is the program's name. For `format` the region is created and its superblock written. For
 /// `replay` the region is attached, the input is read, its lines are run in order, each core's moves by its `go` lines,
 /// and the replies are written once all are answered. For `dump` the region is attached, and its live pairs are
-/// written, and for `log` the entries of its logs.
+/// written, and for `log` the entries of its logs. For `scan` the region is attached, the input is read, and its queries
+/// are answered in order, each answer written before the next is computed.
 pub fn flatstore_alone<T: Threads, S: Source, O: Sink, R: SplitRegion + ReadRegion>(
     _rt: &T,
     alloc: Global,
@@ -60,6 +63,12 @@ pub fn flatstore_alone<T: Threads, S: Source, O: Sink, R: SplitRegion + ReadRegi
         → Logs (R.state region.old) (R.state region.new) (R.found region.old)
         (sink_use O.taken O.flushed O.fault_count sink.old sink.new) result
         × ReportsNothing result × (source.new ≡ source.old) }
+
+    // What is answered are the queries of the input, over the pairs of the cells that the words of the region recover.
+    ensures scan { (path : List ℕ) → alone_form_of (words_of words.now.items) ≡ Some (Scan path)
+        → Scans (R.state region.old) (R.state region.new) (R.found region.old)
+        (source_use S.coming S.fault_count source.old source.new)
+        (sink_use O.taken O.flushed O.fault_count sink.old sink.new) result }
 
     // The headline.
     ensures attaches { (path : List ℕ) → alone_form_of (words_of words.now.items)
@@ -109,5 +118,6 @@ pub fn flatstore_alone<T: Threads, S: Source, O: Sink, R: SplitRegion + ReadRegi
         Command::Run { .. } | Command::Audit { .. } => Report::of(alloc, Status::Usage, false),
         Command::Dump { .. } => dump_region(alloc, sink, region),
         Command::Log { .. } => log_region(alloc, sink, region),
+        Command::Scan { .. } => scan_region(alloc, source, sink, region),
     }
 }

@@ -8,7 +8,7 @@ ghost use Rattle.headline.specs.Headline.{cells_of};
 ghost use Rattle.run_audit.specs.VerdictText.{verdict_text};
 ghost use Rattle.store_image.specs.Listing.{ListsCells};
 ghost use Rattle.flatstore.specs.Audits.{Audits, IsJudged, IsUnjudged, IsReadAudit, IsUnreadAudit};
-ghost use Rattle.flatstore.specs.Ends.{CountsFaults, sink_use, source_use};
+ghost use Rattle.flatstore.specs.Ends.{CountsFaults, ReportsNothing, sink_use, source_use};
 ghost use Rattle.flatstore.specs.Ordering.{is_of_region, is_quiet};
 ghost use Rattle.flatstore.specs.Played.{StandsWhole};
 ghost use Rattle.flatstore.specs.Shows.{HasShown};
@@ -51,8 +51,39 @@ fn read<S: Source>(alloc: Global, source: &mut S, cores: u32) -> Result<AuditInp
     }
 }
 
-/// The verdict on the replies of the input, from the live pairs of an attached region on, or the status where there is
-/// none.
+/// The verdict on the replies of the input, from the live pairs of a region of which this was recovered, or the status
+/// where there is none.
+fn judged_from<T: Threads + Sync, S: Source, R: SplitRegion + ReadRegion>(
+    rt: &T,
+    alloc: Global,
+    source: &mut S,
+    region: &R,
+    recovered: &Recovered,
+    workers: u32,
+) -> Result<Verdict, Status>
+    requires stands { StandsAsFound (R.state region.now) (R.word region.now) recovered.now }
+    requires some { 1 ≤ workers }
+    requires few { workers ≤ 16 }
+    ensures judged { IfOk result (IsJudged (R.state region.now)
+        (source_use S.coming S.fault_count source.old source.new)) }
+    ensures refused { IfErr result (IsUnjudged (R.state region.now)
+        (source_use S.coming S.fault_count source.old source.new)) }
+    ensures unread { IfErr result (λ status. is_of_region status ≡ false) }
+{
+    let start = match start_cells(alloc, region, recovered) {
+        Ok(start) => start,
+        Err(Memory) => return Err(Status::Memory),
+    };
+    match read(alloc, source, recovered.layout.cores()) {
+        Err(status) => Err(status),
+        Ok(input) => match audit(rt, alloc, &start, &input.trace, &input.replies, workers) {
+            Ok(verdict) => Ok(verdict),
+            Err(Memory) => Err(Status::Memory),
+        },
+    }
+}
+
+/// The same of an attached region.
 fn judged<T: Threads + Sync, S: Source, R: SplitRegion + ReadRegion>(
     rt: &T,
     alloc: Global,
@@ -70,14 +101,9 @@ fn judged<T: Threads + Sync, S: Source, R: SplitRegion + ReadRegion>(
     // A region that breaks a rule goes before the source.
     ensures unread { IfErr result (λ status. is_of_region status ≡ true → source.new ≡ source.old) }
 {
-    let recovered = recovered(alloc, region)?;
-    let Ok(start) = start_cells(alloc, region, &recovered) else {
-        return Err(Status::Memory);
-    };
-    let input = read(alloc, source, recovered.layout.cores())?;
-    match audit(rt, alloc, &start, &input.trace, &input.replies, workers) {
-        Ok(verdict) => Ok(verdict),
-        Err(Memory) => Err(Status::Memory),
+    match recovered(alloc, region) {
+        Err(status) => Err(status),
+        Ok(recovered) => judged_from(rt, alloc, source, region, &recovered, workers),
     }
 }
 
@@ -87,6 +113,7 @@ fn write_audit<O: Sink>(alloc: Global, sink: &mut O, verdict: Verdict) -> Report
         (sink_use O.taken O.flushed O.fault_count sink.old sink.new) result.status }
     ensures attached { result.attached ≡ true }
     ensures complete { result.complete ≡ true }
+    ensures nothing { ReportsNothing result }
 {
     let status = match write_verdict(alloc, sink, verdict) {
         Ok(()) => Status::Done,
@@ -120,11 +147,14 @@ pub fn audit_region<T: Threads + Sync, S: Source, O: Sink, R: SplitRegion + Read
         (source_use S.coming S.fault_count source.old source.new)
         (sink_use O.taken O.flushed O.fault_count sink.old sink.new) result.status }
     ensures no_usage { result.status ≡ statuses.Usage → ⊥ }
+    ensures nothing { ReportsNothing result }
     ensures incomplete { result.complete ≡ false → sink.new ≡ sink.old }
     ensures unattached { result.attached ≡ false → result.complete ≡ false }
     ensures unread { is_of_region result.status ≡ true → source.new ≡ source.old }
     ensures unattached_unread { result.attached ≡ false → source.new ≡ source.old }
     ensures sink_untouched { is_quiet result.status ≡ true → sink.new ≡ sink.old }
+    ensures region_untouched { result.attached ≡ true → Attached (R.state region.old)
+        (R.state region.new) (R.state region.new).frame.bytes (R.found region.old) }
 {
     match region.attach(alloc) {
         Err(AttachError::RegionFault) => Report::of(alloc, Status::RegionFault, false),

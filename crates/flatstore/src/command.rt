@@ -25,6 +25,8 @@ pub enum Command<'a> {
     Dump { path: &'a str },
     /// The entries of the logs, by core, chunk and place.
     Log { path: &'a str },
+    /// Answers to the queries of the input, in order.
+    Scan { path: &'a str },
     /// A verdict on the replies of the input, by so many workers.
     Audit { path: &'a str, workers: Workers },
 }
@@ -73,6 +75,9 @@ fn command_named<'a>(name: &str, matches: &ArgMatches, path: &'a str) -> Option<
     if name == "log" {
         return Some(Command::Log { path });
     }
+    if name == "scan" {
+        return Some(Command::Scan { path });
+    }
     if name == "audit" {
         let workers = workers_in(matches)?;
         return Some(Command::Audit { path, workers });
@@ -119,6 +124,7 @@ impl<'a> Command<'a> {
             Command::Run { path } => path,
             Command::Dump { path } => path,
             Command::Log { path } => path,
+            Command::Scan { path } => path,
             Command::Audit { path, .. } => path,
         }
     }

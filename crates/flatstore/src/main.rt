@@ -41,6 +41,9 @@ mod report;
 mod row_tests;
 mod run_threads;
 #[cfg(test)]
+mod scan_tests;
+mod scanning;
+#[cfg(test)]
 mod tests;
 #[cfg(test)]
 mod thread_tests;

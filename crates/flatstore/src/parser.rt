@@ -2,7 +2,7 @@
 ghost use Rattle.std.specs.Prelude.{◌≡◌, IfOk, false};
 ghost use Rattle.clap.specs.Words.{app_of, rule_of};
 ghost use Rattle.clap.specs.declared.builder.command.Command.TheViews.{out-Command};
-ghost use Rattle.flatstore.specs.Commands.{number_rule, number_word_rule, word_rule, audit_command, region_command, format_command, bare_program, writing_program, program};
+ghost use Rattle.flatstore.specs.Commands.{number_rule, number_word_rule, word_rule, audit_command, region_command, format_command, bare_program, writing_program, reading_program, program};
 
 use clap::{Arg, Command, value_parser};
 use std::alloc::{AllocError, Global};
@@ -81,12 +81,20 @@ fn writing_program<'a>(alloc: Global) -> Result<Command<'a>, AllocError>
         .subcommand(region_command(alloc, "run")?)
 }
 
+/// The command with the subcommands that show a region, too.
+fn reading_program<'a>(alloc: Global) -> Result<Command<'a>, AllocError>
+    ensures app { IfOk result (λ c. app_of c ≡ reading_program) }
+{
+    writing_program(alloc)?
+        .subcommand(region_command(alloc, "dump")?)?
+        .subcommand(region_command(alloc, "log")?)
+}
+
 /// The command of the program.
 pub fn program<'a>(alloc: Global) -> Result<Command<'a>, AllocError>
     ensures app { IfOk result (λ c. app_of c ≡ program) }
 {
-    writing_program(alloc)?
-        .subcommand(region_command(alloc, "dump")?)?
-        .subcommand(region_command(alloc, "log")?)?
+    reading_program(alloc)?
+        .subcommand(region_command(alloc, "scan")?)?
         .subcommand(audit_command(alloc)?)
 }

@@ -43,7 +43,10 @@ fn read<S: Source>(alloc: Global, source: &mut S, cores: u32) -> Result<Input, S
 }
 
 /// What the words of an attached region say, where it is sound.
-pub fn recovered<R: SplitRegion + ReadRegion>(alloc: Global, region: &R) -> Result<Recovered, Status>
+pub fn recovered<R: SplitRegion + ReadRegion>(
+    alloc: Global,
+    region: &R,
+) -> Result<Recovered, Status>
     requires whole { StandsWhole (R.state region.now) }
     ensures ok { IfOk result (StandsAsFound (R.state region.now) (R.word region.now)) }
     ensures err { IfErr result (IsUnserved (R.state region.now)) }

@@ -46,8 +46,9 @@ pub struct Report {
     /// Whether the run began: the input was read and keeps its rules, and the work on its requests began, which for
     /// `run` is the split of the region. Before that no word of the region changes.
     pub began: bool,
-    /// Whether the whole text was ready to be written: for `replay` and `run`, whether every request was answered.
-    /// Where not, nothing was written. `format` has no text, and says no.
+    /// Whether the whole text was ready to be written: for `replay` and `run`, whether every request was answered, and
+    /// for `scan`, whether all queries were judged, since each answer is written before the next is computed. Where
+    /// not, nothing was written. `format` has no text, and says no.
     pub complete: bool,
 }
 
@@ -116,7 +117,7 @@ impl Status {
         let text = match self {
             Status::Done => format!(in alloc; "")?,
             Status::Usage => format!(in alloc;
-                "flatstore: usage: flatstore format REGION --cores N --group N --chunks N --chunk-bytes N, replay REGION, run REGION, dump REGION, log REGION, load REGION START COUNT, audit REGION WORKERS"
+                "flatstore: usage: flatstore format REGION --cores N --group N --chunks N --chunk-bytes N, replay REGION, run REGION, dump REGION, log REGION, load REGION START COUNT, scan REGION, audit REGION WORKERS"
             )?,
             Status::BadInput { line, rule } => format!(in alloc;
                 "flatstore: line {line} breaks input rule {rule}"

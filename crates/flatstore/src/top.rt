@@ -4,7 +4,7 @@ ghost use Rattle.pm_region.specs.Split.{Attached};
 ghost use Rattle.chunk_map.specs.declared.layouts.Geometry.{Geometry};
 ghost use Rattle.flatstore.specs.Ends.{AnswersNothing, CountsFaults, ReportsNothing, sink_use, source_use};
 ghost use Rattle.flatstore.specs.Commands.{form_of, words_of};
-ghost use Rattle.flatstore.specs.Commands.Form.{Format, Replay, Run, Dump, Log, Audit};
+ghost use Rattle.flatstore.specs.Commands.Form.{Format, Replay, Run, Dump, Log, Scan, Audit};
 ghost use Rattle.flatstore.specs.Audits.{Audits};
 ghost use Rattle.flatstore.specs.Dumps.{Dumps};
 ghost use Rattle.flatstore.specs.Formats.{Formats};
@@ -12,6 +12,7 @@ ghost use Rattle.flatstore.specs.Logs.{Logs};
 ghost use Rattle.flatstore.specs.Attaching.{Attaches, AttachesToSplit};
 ghost use Rattle.flatstore.specs.Ordering.{is_of_region, is_quiet};
 ghost use Rattle.flatstore.specs.Promise.{IsInput, Replays};
+ghost use Rattle.flatstore.specs.Scans.{Scans};
 ghost use Rattle.flatstore.specs.ThreadRuns.{RunsOnThreads};
 ghost use Rattle.flatstore.specs.declared.report.Status.TheVariants as statuses;
 
@@ -72,6 +73,12 @@ pub fn flatstore<
         (sink_use O.taken O.flushed O.fault_count sink.old sink.new) result
         × ReportsNothing result × (source.new ≡ source.old) }
 
+    // What is answered are the queries of the input, over the pairs of the cells that the words of the region recover.
+    ensures scan { (path : List ℕ) → form_of (words_of words.now.items) ≡ Some (Scan path)
+        → Scans (R.state region.old) (R.state region.new) (R.found region.old)
+        (source_use S.coming S.fault_count source.old source.new)
+        (sink_use O.taken O.flushed O.fault_count sink.old sink.new) result }
+
     // The headline.
     ensures attaches { (path : List ℕ) → form_of (words_of words.now.items) ≡ Some (Replay path)
         → Attaches (R.state region.old) (R.state region.new) (R.found region.old) result }
@@ -98,7 +105,8 @@ pub fn flatstore<
         → form_of (words_of words.now.items) ≡ Some (Audit path workers)
         → Audits (R.state region.old) (R.state region.new) (R.found region.old)
         (source_use S.coming S.fault_count source.old source.new)
-        (sink_use O.taken O.flushed O.fault_count sink.old sink.new) result }
+        (sink_use O.taken O.flushed O.fault_count sink.old sink.new) result
+        × ReportsNothing result }
 
     // A fault comes only where its count rose.
     ensures faults { CountsFaults (R.state region.old) (R.state region.new)

@@ -4,7 +4,7 @@ use Rattle.flatstore.specs.Commands.{form_of, needs_threads, words_of}
 use Rattle.flatstore.proofs.Forms.{alone_form}
 use Rattle.flatstore.proofs.top.flatstore.Goals as goal
 
-pub returns-in-Ok-false-clause-format : goal.returns-in-Ok-false-clause-format
-returns-in-Ok-false-clause-format g c = λ path l is.
-    let alone : needs_threads (form_of (words_of c.args.words.now.items)) ≡ false = sym c.in-Ok-false.ensures ∙ c.in-Ok-false.field-0-test in
+pub returns-in-Ok-None-clause-format : goal.returns-in-Ok-None-clause-format
+returns-in-Ok-None-clause-format g c = λ path l is.
+    let alone : needs_threads (form_of (words_of c.args.words.now.items)) ≡ false = sym c.in-Ok-None.ensures.alone in
     c.flatstore_alone.ensures.format path l (alone_form (words_of c.args.words.now.items) alone ∙ is)
