@@ -178,6 +178,36 @@ fn another_file(rt: HostRuntime) -> Result<(), Fail> {
     Ok(())
 }
 
+// A file that was cut since it was attached, and one that another took the name of, are not written.
+#[test]
+fn a_changed_file(rt: HostRuntime) -> Result<(), Fail> {
+    let alloc = rt.alloc();
+    let name = "pm_region_a_changed_file";
+    let mut region = FileRegion::at(rt.clone()?, String::from_str(alloc, name)?);
+    region.create(alloc, 16)?;
+    put(&mut region, 0, 5);
+    flush(&mut region, 0);
+    let cut = vec![in alloc; 0u8; 64]?;
+    fs::write(&rt, name, cut.as_slice())?;
+    assert_eq!(rt; region.fence(), Err(RegionFault));
+    assert_eq!(rt;
+        split_once_more(alloc, &mut region),
+        Err(AttachError::RegionFault)
+    );
+    let found = fs::read(&rt, name)?;
+    assert!(rt; found.as_slice() == cut.as_slice());
+    region.create(alloc, 8)?;
+    put(&mut region, 0, 6);
+    flush(&mut region, 0);
+    fs::write(&rt, "pm_region_taker_of_a_name", cut.as_slice())?;
+    fs::rename(&rt, "pm_region_taker_of_a_name", name)?;
+    assert_eq!(rt; region.fence(), Err(RegionFault));
+    let found = fs::read(&rt, name)?;
+    assert!(rt; found.as_slice() == cut.as_slice());
+    fs::remove_file(&rt, name)?;
+    Ok(())
+}
+
 #[test]
 fn a_held_region(rt: HostRuntime) -> Result<(), Fail> {
     let alloc = rt.alloc();
