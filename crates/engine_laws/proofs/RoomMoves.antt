@@ -285,78 +285,78 @@ module _ (l : Geometry) (e f : Engine) (c : ℕ) (accepted : List (ℕ × Reques
         (λ (Q : Spends l ((e.group (group_of l c)).took (member_of l c)) ((e.group (group_of l c)).flying (member_of l c)) ((f.group (group_of l c)).took (member_of l c)) ((f.group (group_of l c)).flying (member_of l c)) (e.stock c) (f.stock c) P.begun). own_room_by (before (ran runs)) Q)
         (λ (C : CleansIn l (e.stock c) (f.stock c) accepted fixed). absurd (scarce C.scarce (before (ran runs))))
         (P.spends runs) where
-      own_room_by : HasRoom l o e c → Spends l ((e.group (group_of l c)).took (member_of l c)) ((e.group (group_of l c)).flying (member_of l c)) ((f.group (group_of l c)).took (member_of l c)) ((f.group (group_of l c)).flying (member_of l c)) (e.stock c) (f.stock c) P.begun → HasRoom l o f c
-      own_room_by H Q = record {
-        opened = H.opened + one_if Q.opened;
-        cuts = λ k. H.cuts k + one_if (is_cut_for Q.cut k);
-        chunks = (let was = H.chunks in let now = Q.chunks in let sum = cut_sum Q.cut refl in omega (arith, was, now, sum));
-        lines = filled Q.opened refl Q.lines;
-        small = Q.small;
-        blocks = cut_blocks;
-        last = cut_last;
-        class = cut_class;
-      } where
-        roomy : 4 ≤ payload_lines l
-        roomy = let big = chunk_big l is_layout in omega (arith, big)
+          own_room_by : HasRoom l o e c → Spends l ((e.group (group_of l c)).took (member_of l c)) ((e.group (group_of l c)).flying (member_of l c)) ((f.group (group_of l c)).took (member_of l c)) ((f.group (group_of l c)).flying (member_of l c)) (e.stock c) (f.stock c) P.begun → HasRoom l o f c
+          own_room_by H Q = record {
+            opened = H.opened + one_if Q.opened;
+            cuts = λ k. H.cuts k + one_if (is_cut_for Q.cut k);
+            chunks = (let was = H.chunks in let now = Q.chunks in let sum = cut_sum Q.cut refl in omega (arith, was, now, sum));
+            lines = filled Q.opened refl Q.lines;
+            small = Q.small;
+            blocks = cut_blocks;
+            last = cut_last;
+            class = cut_class;
+          } where
+            roomy : 4 ≤ payload_lines l
+            roomy = let big = chunk_big l is_layout in omega (arith, big)
 
-        cut_sum : (x : Option ℕ) → Q.cut ≡ x → sum_by H.cuts (numbers 1 GREATEST_CLASS) + one_if (is_some Q.cut) ≤ sum_by (λ k. H.cuts k + one_if (is_cut_for Q.cut k)) (numbers 1 GREATEST_CLASS)
-        cut_sum None is = let none = ap (λ (x : Option ℕ). one_if (is_some x)) is in let le = sum_up H.cuts (λ k. H.cuts k + one_if (is_cut_for Q.cut k)) (numbers 1 GREATEST_CLASS) (λ k i. omega arith) in omega (arith, none, le)
-        cut_sum (Some k) is =
-            let b = class_bounds l k (Q.class k is) in
-            let low = b.0 in
-            let high = b.1 in
-            let one = ap (λ (x : Option ℕ). one_if (is_some x)) is in
-            let here = ap (λ (x : Option ℕ). one_if (is_cut_for x k)) is ∙ ap one_if (eq-eqb k k refl) in
-            let le = numbers_one 1 GREATEST_CLASS k H.cuts (λ j. H.cuts j + one_if (is_cut_for Q.cut j)) low (omega (arith, high)) (λ j. omega arith) (omega (arith, here)) in
-            omega (arith, one, le)
+            cut_sum : (x : Option ℕ) → Q.cut ≡ x → sum_by H.cuts (numbers 1 GREATEST_CLASS) + one_if (is_some Q.cut) ≤ sum_by (λ k. H.cuts k + one_if (is_cut_for Q.cut k)) (numbers 1 GREATEST_CLASS)
+            cut_sum None is = let none = ap (λ (x : Option ℕ). one_if (is_some x)) is in let le = sum_up H.cuts (λ k. H.cuts k + one_if (is_cut_for Q.cut k)) (numbers 1 GREATEST_CLASS) (λ k i. omega arith) in omega (arith, none, le)
+            cut_sum (Some k) is =
+                let b = class_bounds l k (Q.class k is) in
+                let low = b.0 in
+                let high = b.1 in
+                let one = ap (λ (x : Option ℕ). one_if (is_some x)) is in
+                let here = ap (λ (x : Option ℕ). one_if (is_cut_for x k)) is ∙ ap one_if (eq-eqb k k refl) in
+                let le = numbers_one 1 GREATEST_CLASS k H.cuts (λ j. H.cuts j + one_if (is_cut_for Q.cut j)) low (omega (arith, high)) (λ j. omega arith) (omega (arith, here)) in
+                omega (arith, one, le)
 
-        filled : (b : Bool) → Q.opened ≡ b → cond Q.opened (payload_lines l) (e.stock c).lines + (lines_in ((e.group (group_of l c)).took (member_of l c)) + lines_in ((f.group (group_of l c)).flying (member_of l c))) ≤ (f.stock c).lines + (lines_in ((f.group (group_of l c)).took (member_of l c)) + lines_in ((e.group (group_of l c)).flying (member_of l c)))
-            → (H.opened + one_if Q.opened) * (payload_lines l - 4) + lines_in ((f.group (group_of l c)).flying (member_of l c)) ≤ lines_in ((f.group (group_of l c)).took (member_of l c)) + (f.stock c).lines
-        filled false is le =
-            let now = ap (λ b. cond {A = ℕ} b (payload_lines l) (e.stock c).lines) is in
-            let times = ap (λ b. (H.opened + one_if b) * (payload_lines l - 4)) is ∙ ap (λ n. n * (payload_lines l - 4)) (let z : H.opened + 0 ≡ H.opened = omega arith in z) in
-            let was = H.lines in
-            omega (arith, was, times, now, le)
-        filled true is le =
-            let now = ap (λ b. cond {A = ℕ} b (payload_lines l) (e.stock c).lines) is in
-            let few = Q.late is in
-            let times : (H.opened + one_if Q.opened) * (payload_lines l - 4) ≡ H.opened * (payload_lines l - 4) + (payload_lines l - 4) = ap (λ b. (H.opened + one_if b) * (payload_lines l - 4)) is ∙ (let split : (H.opened + 1) * (payload_lines l - 4) ≡ H.opened * (payload_lines l - 4) + (payload_lines l - 4) = omega arith in split) in
-            let was = H.lines in
-            let large = roomy in
-            omega (arith, was, times, now, few, large, le)
+            filled : (b : Bool) → Q.opened ≡ b → cond Q.opened (payload_lines l) (e.stock c).lines + (lines_in ((e.group (group_of l c)).took (member_of l c)) + lines_in ((f.group (group_of l c)).flying (member_of l c))) ≤ (f.stock c).lines + (lines_in ((f.group (group_of l c)).took (member_of l c)) + lines_in ((e.group (group_of l c)).flying (member_of l c)))
+                → (H.opened + one_if Q.opened) * (payload_lines l - 4) + lines_in ((f.group (group_of l c)).flying (member_of l c)) ≤ lines_in ((f.group (group_of l c)).took (member_of l c)) + (f.stock c).lines
+            filled false is le =
+                let now = ap (λ b. cond {A = ℕ} b (payload_lines l) (e.stock c).lines) is in
+                let times = ap (λ b. (H.opened + one_if b) * (payload_lines l - 4)) is ∙ ap (λ n. n * (payload_lines l - 4)) (let z : H.opened + 0 ≡ H.opened = omega arith in z) in
+                let was = H.lines in
+                omega (arith, was, times, now, le)
+            filled true is le =
+                let now = ap (λ b. cond {A = ℕ} b (payload_lines l) (e.stock c).lines) is in
+                let few = Q.late is in
+                let times : (H.opened + one_if Q.opened) * (payload_lines l - 4) ≡ H.opened * (payload_lines l - 4) + (payload_lines l - 4) = ap (λ b. (H.opened + one_if b) * (payload_lines l - 4)) is ∙ (let split : (H.opened + 1) * (payload_lines l - 4) ≡ H.opened * (payload_lines l - 4) + (payload_lines l - 4) = omega arith in split) in
+                let was = H.lines in
+                let large = roomy in
+                omega (arith, was, times, now, few, large, le)
 
-        cut_blocks : (k : ℕ) → (H.cuts k + one_if (is_cut_for Q.cut k)) * blocks_in l k ≤ (f.stock c).blocks k + begun_puts l f c k
-        cut_blocks k = by (is_cut_for Q.cut k) (Q.blocks k) where
-          by : (b : Bool) → (e.stock c).blocks k + cond {A = ℕ} b (blocks_in l k) 0 ≤ (f.stock c).blocks k + puts_in l k P.begun → (H.cuts k + one_if b) * blocks_in l k ≤ (f.stock c).blocks k + begun_puts l f c k
-          by true le = let split : (H.cuts k + 1) * blocks_in l k ≡ H.cuts k * blocks_in l k + blocks_in l k = omega arith in let was = H.blocks k in let grows = begun_more k in omega (arith, split, was, le, grows)
-          by false le = let split : (H.cuts k + 0) * blocks_in l k ≡ H.cuts k * blocks_in l k + 0 = omega arith in let was = H.blocks k in let grows = begun_more k in omega (arith, split, was, le, grows)
+            cut_blocks : (k : ℕ) → (H.cuts k + one_if (is_cut_for Q.cut k)) * blocks_in l k ≤ (f.stock c).blocks k + begun_puts l f c k
+            cut_blocks k = by (is_cut_for Q.cut k) (Q.blocks k) where
+              by : (b : Bool) → (e.stock c).blocks k + cond {A = ℕ} b (blocks_in l k) 0 ≤ (f.stock c).blocks k + puts_in l k P.begun → (H.cuts k + one_if b) * blocks_in l k ≤ (f.stock c).blocks k + begun_puts l f c k
+              by true le = let split : (H.cuts k + 1) * blocks_in l k ≡ H.cuts k * blocks_in l k + blocks_in l k = omega arith in let was = H.blocks k in let grows = begun_more k in omega (arith, split, was, le, grows)
+              by false le = let split : (H.cuts k + 0) * blocks_in l k ≡ H.cuts k * blocks_in l k + 0 = omega arith in let was = H.blocks k in let grows = begun_more k in omega (arith, split, was, le, grows)
 
-        is_it : (x : Option ℕ) (k : ℕ) → is_cut_for x k ≡ true → x ≡ Some k
-        is_it None k e = absurd (cc e)
-        is_it (Some d) k e = ap Some (eqb-true d k e)
+            is_it : (x : Option ℕ) (k : ℕ) → is_cut_for x k ≡ true → x ≡ Some k
+            is_it None k e = absurd (cc e)
+            is_it (Some d) k e = ap Some (eqb-true d k e)
 
-        cut_last : (k : ℕ) → H.cuts k + one_if (is_cut_for Q.cut k) ≢ 0 → (H.cuts k + one_if (is_cut_for Q.cut k)) * blocks_in l k + 1 ≤ begun_puts l f c k + blocks_in l k
-        cut_last k some = by (is_cut_for Q.cut k) refl some where
-          by : (b : Bool) → is_cut_for Q.cut k ≡ b → H.cuts k + one_if b ≢ 0 → (H.cuts k + one_if b) * blocks_in l k + 1 ≤ begun_puts l f c k + blocks_in l k
-          by true t some =
-              let at = is_it Q.cut k t in
-              let split : (H.cuts k + 1) * blocks_in l k ≡ H.cuts k * blocks_in l k + blocks_in l k = omega arith in
-              let was = H.blocks k in
-              let none = Q.none k at in
-              let one = Q.puts k at in
-              let grows = begun_more k in
-              omega (arith, split, was, none, one, grows)
-          by false t some =
-              let split : (H.cuts k + 0) * blocks_in l k ≡ H.cuts k * blocks_in l k = omega arith in
-              let was = H.last k (λ z. some (omega (arith, z))) in
-              let grows = begun_grows k in
-              omega (arith, split, was, grows)
+            cut_last : (k : ℕ) → H.cuts k + one_if (is_cut_for Q.cut k) ≢ 0 → (H.cuts k + one_if (is_cut_for Q.cut k)) * blocks_in l k + 1 ≤ begun_puts l f c k + blocks_in l k
+            cut_last k some = by (is_cut_for Q.cut k) refl some where
+              by : (b : Bool) → is_cut_for Q.cut k ≡ b → H.cuts k + one_if b ≢ 0 → (H.cuts k + one_if b) * blocks_in l k + 1 ≤ begun_puts l f c k + blocks_in l k
+              by true t some =
+                  let at = is_it Q.cut k t in
+                  let split : (H.cuts k + 1) * blocks_in l k ≡ H.cuts k * blocks_in l k + blocks_in l k = omega arith in
+                  let was = H.blocks k in
+                  let none = Q.none k at in
+                  let one = Q.puts k at in
+                  let grows = begun_more k in
+                  omega (arith, split, was, none, one, grows)
+              by false t some =
+                  let split : (H.cuts k + 0) * blocks_in l k ≡ H.cuts k * blocks_in l k = omega arith in
+                  let was = H.last k (λ z. some (omega (arith, z))) in
+                  let grows = begun_grows k in
+                  omega (arith, split, was, grows)
 
-        cut_class : (k : ℕ) → H.cuts k + one_if (is_cut_for Q.cut k) ≢ 0 → is_class l k ≡ true
-        cut_class k some = by (is_cut_for Q.cut k) refl some where
-          by : (b : Bool) → is_cut_for Q.cut k ≡ b → H.cuts k + one_if b ≢ 0 → is_class l k ≡ true
-          by true t some = Q.class k (is_it Q.cut k t)
-          by false t some = H.class k (λ z. some (omega (arith, z)))
+            cut_class : (k : ℕ) → H.cuts k + one_if (is_cut_for Q.cut k) ≢ 0 → is_class l k ≡ true
+            cut_class k some = by (is_cut_for Q.cut k) refl some where
+              by : (b : Bool) → is_cut_for Q.cut k ≡ b → H.cuts k + one_if b ≢ 0 → is_class l k ≡ true
+              by true t some = Q.class k (is_it Q.cut k t)
+              by false t some = H.class k (λ z. some (omega (arith, z)))
 
 -- A move of core c in an engine's state.
 module _ (o : Origin) (e f : Engine) (c : ℕ) (accepted : List (ℕ × Request)) (fixed : List Fixed) (S : Stands o e) (M : Moves e f c accepted fixed) (P : SpendsRoom e.layout e f c accepted fixed) (R : Rooms o e) where

@@ -192,7 +192,7 @@ module _ (old s : State) (found : ℕ → ℕ) (A : Attached old s s.frame.bytes
     u.2,
     by_none status (inr (cores, counted, inl u)) r is cut cores u.1
         (λ telling. let served = served_by old s found A cores counted telling in
-            inl (u.4 ∙ ap (λ c. input_status (audit_input_of c u.1)) served.1 ∙ sym (ap (due_by found u.1) served.0)))
+        inl (u.4 ∙ ap (λ c. input_status (audit_input_of c u.1)) served.1 ∙ sym (ap (due_by found u.1) served.0)))
         (λ of_line. ((λ telling. (served_by old s found A cores counted telling).0), u.0, u.4)),
   )
   unjudged_audits status (inr (cores, counted, inr (inl f))) r is cut =

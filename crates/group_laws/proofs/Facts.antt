@@ -64,12 +64,12 @@ posted_unnamed w L m s e is h f logged key version =
     let pends : PendsAt w e (Some s) = (L.slots.posted_named m s e is).0 in
     elim (L.logs.known h f logged) [
       | inl there ↦
-        let low = L.keys.not_above f.key f.version h there in
-        let same = ap w.last key in
-        let high = L.keys.next_version e.key _ pends in
-        omega (arith, low, same, high, version)
+          let low = L.keys.not_above f.key f.version h there in
+          let same = ap w.last key in
+          let high = L.keys.next_version e.key _ pends in
+          omega (arith, low, same, high, version)
       | inr held ↦
-        let both : Some (record { entry = f; slot = held.0 }) ≡ Some (record { entry = e; slot = Some s }) = sym held.1 ∙ (ap w.pending key ∙ pends) in
-        let one : f ≡ e = ap (λ (o : Option Pending). entry_or e o) both in
-        L.logs.not_posted h m s e is (subst (IsLogged w h) one logged)
+          let both : Some (record { entry = f; slot = held.0 }) ≡ Some (record { entry = e; slot = Some s }) = sym held.1 ∙ (ap w.pending key ∙ pends) in
+          let one : f ≡ e = ap (λ (o : Option Pending). entry_or e o) both in
+          L.logs.not_posted h m s e is (subst (IsLogged w h) one logged)
     ]

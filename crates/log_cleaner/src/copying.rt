@@ -66,8 +66,9 @@ pub fn copy_live<R: Region>(
     ensures within { IfOk result (λ n. (n ≤ victim.now.entries) × (n ≤ MOST_ENTRIES)
         × (0 < n → length buffer.new.words ≤ victim.now.words)) }
     ensures log { IfOk result (λ n. 0 < n → log.new ≡ record log.old {
-        chunks = with_tail log.old.chunks (open_number log.old)
-        (open_tail log.old + length (padded buffer.new.words)) }) }
+      chunks = with_tail log.old.chunks (open_number log.old)
+          (open_tail log.old + length (padded buffer.new.words));
+    }) }
     ensures buffer { buffer.new.room ≡ buffer.old.room }
     ensures err { OnErr result (log.new ≡ log.old) }
     ensures cause { OnErr result (Faulted (R.state region.old) (R.state region.new)) }
