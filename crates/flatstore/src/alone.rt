@@ -26,12 +26,12 @@ use pm_region::{ReadRegion, SplitRegion};
 use std::alloc::Global;
 use std::thread::Threads;
 
-/// Does what the words of a command line ask, in the thread that calls it, and returns: the words of `run` and `audit` count as no
-/// form. The first word is the program's name. For `format` the region is created and its superblock written. For
-/// `replay` the region is attached, the input is read, its lines are run in order, each core's moves by its `go` lines,
-/// and the replies are written once all are answered. For `dump` the region is attached, and its live pairs are
-/// written, and for `log` the entries of its logs. For `scan` the region is attached, the input is read, and its queries
-/// are answered in order, each answer written before the next is computed.
+/// Does what the words of a command line ask, in the thread that calls it, and returns: the words of `run` and `audit`
+/// count as no form. The first word is the program's name. For `format` the region is created and its superblock
+/// written. For `replay` the region is attached, the input is read, its lines are run in order, each core's moves by
+/// its `go` lines, and the replies are written once all are answered. For `dump` the region is attached, and its live
+/// pairs are written, and for `log` the entries of its logs. For `scan` the region is attached, the input is read, and
+/// its queries are answered in order, each answer written before the next is computed.
 pub fn flatstore_alone<T: Threads, S: Source, O: Sink, R: SplitRegion + ReadRegion>(
     _rt: &T,
     alloc: Global,
@@ -68,7 +68,8 @@ pub fn flatstore_alone<T: Threads, S: Source, O: Sink, R: SplitRegion + ReadRegi
     ensures scan { (path : List ℕ) → alone_form_of (words_of words.now.items) ≡ Some (Scan path)
         → Scans (R.state region.old) (R.state region.new) (R.found region.old)
         (source_use S.coming S.fault_count source.old source.new)
-        (sink_use O.taken O.flushed O.fault_count sink.old sink.new) result }
+        (sink_use O.taken O.flushed O.fault_count sink.old sink.new) result
+        × ReportsNothing result }
 
     // The headline.
     ensures attaches { (path : List ℕ) → alone_form_of (words_of words.now.items)

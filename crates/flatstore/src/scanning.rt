@@ -7,7 +7,7 @@ ghost use Rattle.pm_region.specs.Words.{lasts};
 ghost use Rattle.fs_text.specs.Streams.{Takes, TakesPrefix};
 ghost use Rattle.range_scan.specs.LiveKeys.{AreLiveKeys};
 ghost use Rattle.range_scan.specs.Starts.{AreStartsIn};
-ghost use Rattle.flatstore.specs.Ends.{CountsFaults, sink_use, source_use};
+ghost use Rattle.flatstore.specs.Ends.{CountsFaults, ReportsNothing, sink_use, source_use};
 ghost use Rattle.flatstore.specs.Ordering.{is_of_region, is_quiet};
 ghost use Rattle.flatstore.specs.Played.{StandsWhole};
 ghost use Rattle.group_engine.specs.Replayed.{StandsAsFound};
@@ -159,6 +159,7 @@ fn write_answers<R: ReadRegion, O: Sink>(
         (sink_use O.taken O.flushed O.fault_count sink.old sink.new) result.status }
     ensures attached { result.attached ≡ true }
     ensures complete { result.complete ≡ true }
+    ensures nothing { ReportsNothing result }
 {
     let view = Snapshot::of(region);
     let starts = scan.recovered.starts.as_slice();
@@ -193,6 +194,7 @@ pub fn scan_region<S: Source, O: Sink, R: SplitRegion + ReadRegion>(
         (source_use S.coming S.fault_count source.old source.new)
         (sink_use O.taken O.flushed O.fault_count sink.old sink.new) result.status }
     ensures no_usage { result.status ≡ statuses.Usage → ⊥ }
+    ensures nothing { ReportsNothing result }
 
     // Nothing is written where the queries were not judged.
     ensures incomplete { result.complete ≡ false → sink.new ≡ sink.old }

@@ -77,7 +77,8 @@ pub fn flatstore<
     ensures scan { (path : List ℕ) → form_of (words_of words.now.items) ≡ Some (Scan path)
         → Scans (R.state region.old) (R.state region.new) (R.found region.old)
         (source_use S.coming S.fault_count source.old source.new)
-        (sink_use O.taken O.flushed O.fault_count sink.old sink.new) result }
+        (sink_use O.taken O.flushed O.fault_count sink.old sink.new) result
+        × ReportsNothing result }
 
     // The headline.
     ensures attaches { (path : List ℕ) → form_of (words_of words.now.items) ≡ Some (Replay path)
