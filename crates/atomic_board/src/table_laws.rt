@@ -18,8 +18,8 @@ pub fn one_state()
 
 /// A load in the place of a commit's step up keeps no rule: the own word would show one commit less than was made.
 pub fn load_is_no_commit()
-    ensures { (b : Origin) (s : TableState) (x : ShowsLawful b s) (m : ℕ) (at : ℕ) (q : Holding) (ds : List Deed)
-        → get_elem? s.views (suc m) ≡ some (Own m q b ds) → m < size b → (i : ℕ)
+    ensures { (b : Origin) (s : TableState) (x : ShowsLawful b s) (m : ℕ) (at : ℕ) (q : Holding)
+        (ds : List Deed) → get_elem? s.views (suc m) ≡ some (Own m q b ds) → m < size b → (i : ℕ)
         → ShowsLawful b (record {
           words = set s.words i (get_or s.words i 0);
           homes = s.homes;

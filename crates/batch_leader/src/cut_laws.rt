@@ -14,8 +14,9 @@ pub fn turn_at_a_cut()
     ensures before { (s : State) (t : State) (seat : SeatAt) (v : View)
         → StaysLicensed s t seat v → (i : ℕ) → IsTold t i → s.stamp ≤ i
         → Licensed seat.place seat.number v (t.cells i) }
-    ensures after { (s : State) (t : State) (seat : SeatAt) (v : View) (u : View) (old : Trail) (x : Trail)
-        (passes : Bool) (turn : TurnSteps passes s t v u old x) (k : TrailStep) (ks : List TrailStep) → turn.made ≡ k ∷ ks
+    ensures after { (s : State) (t : State) (seat : SeatAt) (v : View) (u : View) (old : Trail)
+        (x : Trail) (passes : Bool) (turn : TurnSteps passes s t v u old x) (k : TrailStep)
+        (ks : List TrailStep) → turn.made ≡ k ∷ ks
         → is_load k.kind ≡ false → IsLicensedNow t seat u
         → (i : ℕ) → IsTold t i → since k.kind s x ≤ i
         → Licensed seat.place seat.number u (t.cells i) }

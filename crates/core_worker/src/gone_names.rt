@@ -133,14 +133,14 @@ pub(crate) fn lose_names(index: &mut CoreIndex, places: &mut Vec<Place>, names: 
 /// Where names are gone from a member's view, its keys are known as before: a key of which nothing stands any more is
 /// forgotten, and a staged change of it is its first one. What is pledged stays.
 pub fn every_loss()
-    ensures knows { (p : groups.Place) (m : ℕ) (ns : List EntryName) (v : View) (v' : View) (u : View)
-        (ps qs : List WorkerPlace) (es ix : List (ℕ × slots.Place))
+    ensures knows { (p : groups.Place) (m : ℕ) (ns : List EntryName) (v : View) (v' : View)
+        (u : View) (ps qs : List WorkerPlace) (es ix : List (ℕ × slots.Place))
         → KnowsAll p m v ps es → LetsNamesGo p m ns v v' u ps qs es ix → KnowsAll p m u qs ix }
-    ensures placed { (p : groups.Place) (m : ℕ) (ns : List EntryName) (v : View) (v' : View) (u : View)
-        (ps qs : List WorkerPlace) (es ix : List (ℕ × slots.Place))
+    ensures placed { (p : groups.Place) (m : ℕ) (ns : List EntryName) (v : View) (v' : View)
+        (u : View) (ps qs : List WorkerPlace) (es ix : List (ℕ × slots.Place))
         → KnowsAll p m v ps es → LetsNamesGo p m ns v v' u ps qs es ix → SparesPosted p m v u
         → (s : ℕ) → IsPlaced p m v s (place_at ps s) → IsPlaced p m u s (place_at qs s) }
-    ensures pledged { (p : groups.Place) (m : ℕ) (ns : List EntryName) (v : View) (v' : View) (u : View)
-        (ps qs : List WorkerPlace) (es ix : List (ℕ × slots.Place))
+    ensures pledged { (p : groups.Place) (m : ℕ) (ns : List EntryName) (v : View) (v' : View)
+        (u : View) (ps qs : List WorkerPlace) (es ix : List (ℕ × slots.Place))
         → KnowsAll p m v ps es → LetsNamesGo p m ns v v' u ps qs es ix → own qs ≡ own ps }
 {}

@@ -57,8 +57,8 @@ fn candidate<R: Region>(
     requires standing { IsTelling (R.state region.now) → IsUpToDate (R.state region.now) log.now
         standing.now }
     ensures chosen { IfSome result (λ v. (v.chunk ≡ chunk) × IsChosen log.now room.now v) }
-    ensures tells { IsTelling (R.state region.now) → IsCandidate (R.state region.now) log.now standing.now
-        room.now chunk result }
+    ensures tells { IsTelling (R.state region.now)
+        → IsCandidate (R.state region.now) log.now standing.now room.now chunk result }
 {
     if log.opened() == Some(chunk) || tail_of(log, chunk).is_none() {
         return None;
@@ -84,8 +84,8 @@ fn first_in<R: Region>(
     requires standing { IsTelling (R.state region.now) → IsUpToDate (R.state region.now) log.now
         standing.now }
     ensures chosen { IfSome result (IsChosen log.now room.now) }
-    ensures tells { IsTelling (R.state region.now) → IsFirstIn (R.state region.now) log.now standing.now
-        room.now low high result }
+    ensures tells { IsTelling (R.state region.now)
+        → IsFirstIn (R.state region.now) log.now standing.now room.now low high result }
 {
     for chunk in low..high {
         if let Some(victim) = candidate(region, log, standing, room, chunk) {

@@ -50,13 +50,15 @@ fn put_back(queue: &mut VecDeque<(u64, Request)>, number: u64, request: Request)
 impl<B: Board, P: Region> CoreJob<B, P> {
     // Hands the worker a request. Where there is no memory for it, the request goes back to the front of the queue.
     fn accept(&mut self, alloc: Global, number: u64, request: Request) -> Result<Turn, Memory>
-        requires work { IsAtWork (B.seat self.old.seat) (stands_at (sight_by B.view B.trail B.at) P.state self.old) }
+        requires work { IsAtWork (B.seat self.old.seat)
+            (stands_at (sight_by B.view B.trail B.at) P.state self.old) }
         requires own { owner (B.seat self.old.seat).place (key_of request)
             ≡ (B.seat self.old.seat).number }
         requires open { takes self.old.worker ≡ true }
         requires room { deque_len self.old.queue < deque_capacity self.old.queue }
         ensures seat { B.seat self.new.seat ≡ B.seat self.old.seat }
-        ensures work { IsAtWork (B.seat self.old.seat) (stands_at (sight_by B.view B.trail B.at) P.state self.new) }
+        ensures work { IsAtWork (B.seat self.old.seat)
+            (stands_at (sight_by B.view B.trail B.at) P.state self.new) }
         ensures accepts { Accepts (B.seat self.old.seat)
             (with_next (number, request) (stands_at (sight_by B.view B.trail B.at) P.state self.old))
             (stands_at (sight_by B.view B.trail B.at) P.state self.new) }
@@ -72,9 +74,11 @@ impl<B: Board, P: Region> CoreJob<B, P> {
 
     // Gives the worker a turn.
     fn turn<G: Gate>(&mut self, alloc: Global, gate: &G) -> Result<Turn, Memory>
-        requires { IsAtWork (B.seat self.old.seat) (stands_at (sight_by B.view B.trail B.at) P.state self.old) }
+        requires { IsAtWork (B.seat self.old.seat)
+            (stands_at (sight_by B.view B.trail B.at) P.state self.old) }
         ensures seat { B.seat self.new.seat ≡ B.seat self.old.seat }
-        ensures work { IsAtWork (B.seat self.old.seat) (stands_at (sight_by B.view B.trail B.at) P.state self.new) }
+        ensures work { IsAtWork (B.seat self.old.seat)
+            (stands_at (sight_by B.view B.trail B.at) P.state self.new) }
         ensures queue { self.new.queue ≡ self.old.queue }
         ensures turns { (takes self.old.worker ≡ true → self.old.queue.items ≡ [])
             → MakesTurn (B.seat self.old.seat) (G.may_refuse gate.now)
@@ -86,9 +90,11 @@ impl<B: Board, P: Region> CoreJob<B, P> {
 
     // Hands the worker the next request, where it leads nothing and has room, and else gives it a turn.
     fn step<G: Gate>(&mut self, alloc: Global, gate: &G) -> Result<Turn, Memory>
-        requires { IsAtWork (B.seat self.old.seat) (stands_at (sight_by B.view B.trail B.at) P.state self.old) }
+        requires { IsAtWork (B.seat self.old.seat)
+            (stands_at (sight_by B.view B.trail B.at) P.state self.old) }
         ensures seat { B.seat self.new.seat ≡ B.seat self.old.seat }
-        ensures work { IsAtWork (B.seat self.old.seat) (stands_at (sight_by B.view B.trail B.at) P.state self.new) }
+        ensures work { IsAtWork (B.seat self.old.seat)
+            (stands_at (sight_by B.view B.trail B.at) P.state self.new) }
         ensures moves { Move (B.seat self.old.seat) (G.may_refuse gate.now)
             (stands_at (sight_by B.view B.trail B.at) P.state self.old) (stands_at (sight_by B.view B.trail B.at) P.state self.new) }
     {
@@ -103,9 +109,11 @@ impl<B: Board, P: Region> CoreJob<B, P> {
 
     // Lets the worker wind down.
     fn wind_down(&mut self)
-        requires { IsAtWork (B.seat self.old.seat) (stands_at (sight_by B.view B.trail B.at) P.state self.old) }
+        requires { IsAtWork (B.seat self.old.seat)
+            (stands_at (sight_by B.view B.trail B.at) P.state self.old) }
         ensures seat { self.new.seat ≡ self.old.seat }
-        ensures work { IsAtWork (B.seat self.old.seat) (stands_at (sight_by B.view B.trail B.at) P.state self.new) }
+        ensures work { IsAtWork (B.seat self.old.seat)
+            (stands_at (sight_by B.view B.trail B.at) P.state self.new) }
         ensures works { (refused : Bool) → Works (B.seat self.old.seat) refused
             (stands_at (sight_by B.view B.trail B.at) P.state self.old) (stands_at (sight_by B.view B.trail B.at) P.state self.new) }
     {
@@ -114,9 +122,11 @@ impl<B: Board, P: Region> CoreJob<B, P> {
 
     // Lets the worker wind down where another core's found no memory.
     fn heed(&mut self, short: &AtomicBool)
-        requires { IsAtWork (B.seat self.old.seat) (stands_at (sight_by B.view B.trail B.at) P.state self.old) }
+        requires { IsAtWork (B.seat self.old.seat)
+            (stands_at (sight_by B.view B.trail B.at) P.state self.old) }
         ensures seat { self.new.seat ≡ self.old.seat }
-        ensures work { IsAtWork (B.seat self.old.seat) (stands_at (sight_by B.view B.trail B.at) P.state self.new) }
+        ensures work { IsAtWork (B.seat self.old.seat)
+            (stands_at (sight_by B.view B.trail B.at) P.state self.new) }
         ensures works { (refused : Bool) → Works (B.seat self.old.seat) refused
             (stands_at (sight_by B.view B.trail B.at) P.state self.old) (stands_at (sight_by B.view B.trail B.at) P.state self.new) }
     {
@@ -127,9 +137,11 @@ impl<B: Board, P: Region> CoreJob<B, P> {
 
     // Makes a move. Where the worker finds no memory, it winds down, and the other cores are told to.
     fn go_on<G: Gate>(&mut self, alloc: Global, gate: &G, short: &AtomicBool)
-        requires { IsAtWork (B.seat self.old.seat) (stands_at (sight_by B.view B.trail B.at) P.state self.old) }
+        requires { IsAtWork (B.seat self.old.seat)
+            (stands_at (sight_by B.view B.trail B.at) P.state self.old) }
         ensures seat { B.seat self.new.seat ≡ B.seat self.old.seat }
-        ensures work { IsAtWork (B.seat self.old.seat) (stands_at (sight_by B.view B.trail B.at) P.state self.new) }
+        ensures work { IsAtWork (B.seat self.old.seat)
+            (stands_at (sight_by B.view B.trail B.at) P.state self.new) }
         ensures works { Works (B.seat self.old.seat) (G.may_refuse gate.now)
             (stands_at (sight_by B.view B.trail B.at) P.state self.old) (stands_at (sight_by B.view B.trail B.at) P.state self.new) }
     {
@@ -145,7 +157,8 @@ impl<B: Board, P: Region> CoreJob<B, P> {
 
     // One round: what the other cores say is heeded, and a move is made.
     fn round<G: Gate>(&mut self, alloc: Global, gate: &G, short: &AtomicBool)
-        requires { IsAtWork (B.seat self.old.seat) (stands_at (sight_by B.view B.trail B.at) P.state self.old) }
+        requires { IsAtWork (B.seat self.old.seat)
+            (stands_at (sight_by B.view B.trail B.at) P.state self.old) }
         ensures { (first : data_of.CoreJob B P)
             → GoesOn B.seat (sight_by B.view B.trail B.at) P.state (G.may_refuse gate.now) first self.old
             → GoesOn B.seat (sight_by B.view B.trail B.at) P.state (G.may_refuse gate.now) first self.new }
@@ -156,7 +169,8 @@ impl<B: Board, P: Region> CoreJob<B, P> {
 
     // Whether nothing is left to do.
     fn has_ended(&self) -> bool
-        ensures { result ≡ true → HasEnded (stands_at (sight_by B.view B.trail B.at) P.state self.now) }
+        ensures { result ≡ true → HasEnded
+            (stands_at (sight_by B.view B.trail B.at) P.state self.now) }
     {
         !Worker::leading(&self.worker)
             && !self.worker.has_posted()
@@ -168,8 +182,10 @@ impl<B: Board, P: Region> CoreJob<B, P> {
     /// posted or taken and begin nothing more.
     #[tactic(auto, using(crate::proofs::WorkMoves::none_yet))]
     pub fn work<G: Gate>(&mut self, rt: &impl Wait, alloc: Global, gate: &G, short: &AtomicBool)
-        requires { IsAtWork (B.seat self.old.seat) (stands_at (sight_by B.view B.trail B.at) P.state self.old) }
-        ensures worked { GoesOn B.seat (sight_by B.view B.trail B.at) P.state (G.may_refuse gate.now) self.old self.new }
+        requires { IsAtWork (B.seat self.old.seat)
+            (stands_at (sight_by B.view B.trail B.at) P.state self.old) }
+        ensures worked { GoesOn B.seat (sight_by B.view B.trail B.at) P.state
+            (G.may_refuse gate.now) self.old self.new }
         ensures ended { HasEnded (stands_at (sight_by B.view B.trail B.at) P.state self.new) }
     {
         for _ in rt.forever() {
