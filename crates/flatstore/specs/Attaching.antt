@@ -55,8 +55,9 @@ MayRejoin old new = Rejoined old new ⊎ (Stays old new × IsNotOpened old new)
 abbrev pub AttachesToSplit : State → State → (ℕ → ℕ) → Report → Type 0
 AttachesToSplit old new found r = AttachesBy MayRejoin old new found r
 
--- A format creates the region once, or leaves it as it was, or its one try to create it failed.
+-- A format creates the region once, or leaves it as it was, or its one try to create it failed and left it no words.
 pub record Creates (old new : State) (l : Geometry) (r : Report) : Type 0 where
   pub created : r.attached ≡ true → GoesOnFrom old new (total_bytes l) (λ w. 0)
-  pub uncreated : r.attached ≡ false → IsUnopened old new ⊎ IsOpenedOnceMore old new
+  pub uncreated : r.attached ≡ false → IsUnopened old new
+      ⊎ (IsOpenedOnceMore old new × (new.frame.words ≡ 0))
   pub cause : r.attached ≡ false → HasNotOpened old new r.status
