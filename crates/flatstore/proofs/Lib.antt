@@ -18,7 +18,7 @@ pub mod Forms
 pub mod Emptiness
 pub mod Listed
 pub mod Shown
-pub mod Spelled
+pub mod Viewed
 pub mod Queried
 pub mod Scanned
 pub mod AuditReading

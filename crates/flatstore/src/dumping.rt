@@ -1,7 +1,6 @@
 // The live pairs of the region are written.
 ghost use Rattle.std.specs.Prelude.{◌≡◌, ◌⊎◌, ℕ, Some, true, false, IfOk, IfErr};
-ghost use Rattle.pm_region.specs.State.{IsTelling, Faulted, Rose};
-ghost use Rattle.pm_region.specs.Words.{lasts};
+ghost use Rattle.pm_region.specs.State.{Faulted, Rose};
 ghost use Rattle.pm_region.specs.Split.{Attached, words_in};
 ghost use Rattle.store_image.specs.Listing.{ListsCells};
 ghost use Rattle.store_image.specs.Soundness.{IsSound};
@@ -16,20 +15,23 @@ ghost use Rattle.flatstore.specs.declared.report.Status.TheVariants as statuses;
 use crate::report::{Report, Status};
 use fs_model::Pair;
 use fs_text::{OutError, Sink, write_pairs};
-use pm_region::{AttachError, SplitRegion};
+use pm_region::{AttachError, ReadRegion, Snapshot, SplitRegion};
 use recover::RecoverError;
 use std::alloc::Global;
 
-/// The live pairs of an attached region, by rising key, or the status where there are none.
-fn live_pairs<R: SplitRegion>(alloc: Global, region: &R) -> Result<Vec<Pair>, Status>
+/// The live pairs of the words that an attached region reads, by rising key, or the status where there are none.
+fn live_pairs<R: SplitRegion + ReadRegion>(
+    alloc: Global,
+    region: &R,
+) -> Result<Vec<Pair>, Status>
     requires first { (R.state region.now).frame.first ≡ 0 }
     requires words { (R.state region.now).frame.words ≡ words_in (R.state region.now).frame.bytes }
-    ensures ok { IfOk result (λ pairs. IsTelling (R.state region.now)
-        → IsSound (R.state region.now).frame.bytes (lasts (R.state region.now))
-        × ListsCells (cells_of (lasts (R.state region.now))) pairs.items) }
-    ensures err { IfErr result (IsUnlisted (R.state region.now) (lasts (R.state region.now))) }
+    ensures ok { IfOk result (λ pairs. IsSound (R.state region.now).frame.bytes (R.word region.now)
+        × ListsCells (cells_of (R.word region.now)) pairs.items) }
+    ensures err { IfErr result (IsUnlisted (R.state region.now).frame.bytes (R.word region.now)) }
 {
-    match recover::live_pairs(alloc, region, region.bytes()) {
+    let view = Snapshot::of(region);
+    match recover::live_pairs(alloc, &view, region.bytes()) {
         Err(RecoverError::Memory) => Err(Status::Memory),
         Err(RecoverError::Fault(fault)) => Err(Status::of_fault(fault)),
         Ok(pairs) => Ok(pairs),
@@ -61,8 +63,13 @@ fn write_dump<O: Sink>(alloc: Global, sink: &mut O, pairs: &[Pair]) -> Report
 
 /// Attaches the region, and writes its live pairs by rising key. A region that breaks a rule
 /// has none.
-pub fn dump_region<O: Sink, R: SplitRegion>(alloc: Global, sink: &mut O, region: &mut R) -> Report
+pub fn dump_region<O: Sink, R: SplitRegion + ReadRegion>(
+    alloc: Global,
+    sink: &mut O,
+    region: &mut R,
+) -> Report
     ensures promise { Dumps (R.state region.old) (R.state region.new) (R.found region.old)
+        (R.word region.new)
         (sink_use O.taken O.flushed O.fault_count sink.old sink.new) result }
     ensures no_usage { result.status ≡ statuses.Usage → ⊥ }
     ensures no_source_fault { result.status ≡ statuses.SourceFault → ⊥ }

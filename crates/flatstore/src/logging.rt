@@ -1,7 +1,6 @@
 // The entries of the region's logs are written.
 ghost use Rattle.std.specs.Prelude.{◌≡◌, true, false, IfOk, IfErr};
-ghost use Rattle.pm_region.specs.State.{IsTelling, Faulted, Rose};
-ghost use Rattle.pm_region.specs.Words.{lasts};
+ghost use Rattle.pm_region.specs.State.{Faulted, Rose};
 ghost use Rattle.pm_region.specs.Split.{words_in};
 ghost use Rattle.chunk_map.specs.Layouts.{layout_of};
 ghost use Rattle.store_image.specs.Parts.{all_entries};
@@ -15,22 +14,24 @@ ghost use Rattle.flatstore.specs.declared.report.Status.TheVariants as statuses;
 
 use crate::report::{Report, Status};
 use fs_text::{OutError, Sink, write_entries};
-use pm_region::{AttachError, SplitRegion};
+use pm_region::{AttachError, ReadRegion, Snapshot, SplitRegion};
 use recover::RecoverError;
 use std::alloc::Global;
 use store_image::PlacedEntry;
 
-/// The entries of an attached region by core, chunk and place, or the status where there are none.
-fn placed_entries<R: SplitRegion>(alloc: Global, region: &R) -> Result<Vec<PlacedEntry>, Status>
+/// The entries that the words of an attached region spell, by core, chunk and place, or the status where there are none.
+fn placed_entries<R: SplitRegion + ReadRegion>(
+    alloc: Global,
+    region: &R,
+) -> Result<Vec<PlacedEntry>, Status>
     requires first { (R.state region.now).frame.first ≡ 0 }
     requires words { (R.state region.now).frame.words ≡ words_in (R.state region.now).frame.bytes }
-    ensures ok { IfOk result (λ entries. IsTelling (R.state region.now)
-        → IsSound (R.state region.now).frame.bytes (lasts (R.state region.now))
-        × (entries.items
-        ≡ all_entries (layout_of (lasts (R.state region.now))) (lasts (R.state region.now)))) }
-    ensures err { IfErr result (IsUnlisted (R.state region.now) (lasts (R.state region.now))) }
+    ensures ok { IfOk result (λ entries. IsSound (R.state region.now).frame.bytes (R.word region.now)
+        × (entries.items ≡ all_entries (layout_of (R.word region.now)) (R.word region.now))) }
+    ensures err { IfErr result (IsUnlisted (R.state region.now).frame.bytes (R.word region.now)) }
 {
-    match recover::log_entries(alloc, region, region.bytes()) {
+    let view = Snapshot::of(region);
+    match recover::log_entries(alloc, &view, region.bytes()) {
         Err(RecoverError::Memory) => Err(Status::Memory),
         Err(RecoverError::Fault(fault)) => Err(Status::of_fault(fault)),
         Ok(entries) => Ok(entries),
@@ -62,8 +63,13 @@ fn write_log<O: Sink>(alloc: Global, sink: &mut O, entries: &[PlacedEntry]) -> R
 
 /// Attaches the region, and writes the entries of its logs by core, chunk and place, as they stand
 /// there: superseded ones and copies too. A region that breaks a rule has none.
-pub fn log_region<O: Sink, R: SplitRegion>(alloc: Global, sink: &mut O, region: &mut R) -> Report
+pub fn log_region<O: Sink, R: SplitRegion + ReadRegion>(
+    alloc: Global,
+    sink: &mut O,
+    region: &mut R,
+) -> Report
     ensures promise { Logs (R.state region.old) (R.state region.new) (R.found region.old)
+        (R.word region.new)
         (sink_use O.taken O.flushed O.fault_count sink.old sink.new) result }
     ensures no_usage { result.status ≡ statuses.Usage → ⊥ }
     ensures no_source_fault { result.status ≡ statuses.SourceFault → ⊥ }

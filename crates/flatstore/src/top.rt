@@ -61,15 +61,15 @@ pub fn flatstore<
         → Formats (R.state region.old) (R.state region.new) l result × ReportsNothing result
         × (source.new ≡ source.old) × (sink.new ≡ sink.old) }
 
-    // What is dumped are the cells that the words of the region recover.
+    // What is dumped are the cells that the words recover which the region reads.
     ensures dump { (path : List ℕ) → form_of (words_of words.now.items) ≡ Some (Dump path)
-        → Dumps (R.state region.old) (R.state region.new) (R.found region.old)
+        → Dumps (R.state region.old) (R.state region.new) (R.found region.old) (R.word region.new)
         (sink_use O.taken O.flushed O.fault_count sink.old sink.new) result
         × ReportsNothing result × (source.new ≡ source.old) }
 
-    // What is logged are the entries that the words of the region spell.
+    // What is logged are the entries that these words spell.
     ensures log { (path : List ℕ) → form_of (words_of words.now.items) ≡ Some (Log path)
-        → Logs (R.state region.old) (R.state region.new) (R.found region.old)
+        → Logs (R.state region.old) (R.state region.new) (R.found region.old) (R.word region.new)
         (sink_use O.taken O.flushed O.fault_count sink.old sink.new) result
         × ReportsNothing result × (source.new ≡ source.old) }
 
