@@ -25,7 +25,7 @@ use Rattle.run_audit.specs.VerdictText.{verdict_text}
 use Rattle.run_audit.specs.declared.audit_input.AuditInput.{AuditInput}
 use Rattle.run_audit.specs.declared.verdict.Verdict.{Verdict}
 use Rattle.flatstore.specs.Audits.{AuditsBy, IsVerdict, IsVerdictText, IsJudged, IsUnjudged, IsUnreadAudit, IsReadAudit, input_status, is_refused, due_by}
-use Rattle.flatstore.specs.Ends.{SourceUse, SinkUse}
+use Rattle.flatstore.specs.Ends.{CountsFaults, SourceUse, SinkUse}
 use Rattle.flatstore.specs.Ordering.{IsServed, IsFault, is_of_line, is_of_region}
 use Rattle.flatstore.specs.Played.{IsCounted, IsUnserved}
 use Rattle.flatstore.specs.Promise.{IsInput}
@@ -37,7 +37,7 @@ use Rattle.flatstore.specs.declared.report.Report.{Report}
 use Rattle.flatstore.proofs.Attached.{found_fault, found_words, sound_small}
 use Rattle.flatstore.proofs.Refused.{served_by, some_input}
 
-both : (b : Bool) {P : Type 0} → b ≡ true → b ≡ false → P
+pub both : (b : Bool) {P : Type 0} → b ≡ true → b ≡ false → P
 both b t f = cc (sym t ∙ f)
 
 -- ---- what was recovered serves as a start
@@ -121,14 +121,14 @@ unread_apart source cores status (inr (inr u)) = ap is_of_region u
 module _ (s : State) (source : SourceUse) (status : Status) where
   pub unjudged_source : IsUnjudged s source status → status ≡ statuses.SourceFault → Rose source.faults source.faults'
   unjudged_source (inl (inl (fault, is, told))) e = absurd (fault_source fault (sym is ∙ e))
-  unjudged_source (inl (inr m)) e = absurd (no (sym m ∙ e)) where
-    no : statuses.Memory ≡ statuses.SourceFault → ⊥
-    no q = cc q
+  unjudged_source (inl (inr m)) e = absurd (apart (sym m ∙ e)) where
+    apart : statuses.Memory ≡ statuses.SourceFault → ⊥
+    apart q = cc q
   unjudged_source (inr (cores, counted, inl u)) e = absurd (bad_source (audit_input_of cores u.1) (sym u.4 ∙ e))
   unjudged_source (inr (cores, counted, inr (inl f))) e = f.1
-  unjudged_source (inr (cores, counted, inr (inr m))) e = absurd (no (sym m ∙ e)) where
-    no : statuses.Memory ≡ statuses.SourceFault → ⊥
-    no q = cc q
+  unjudged_source (inr (cores, counted, inr (inr m))) e = absurd (apart (sym m ∙ e)) where
+    apart : statuses.Memory ≡ statuses.SourceFault → ⊥
+    apart q = cc q
 
   pub unjudged_region : IsUnjudged s source status → status ≡ statuses.RegionFault → ⊥
   unjudged_region (inl (inl (fault, is, told))) e = fault_region fault (sym is ∙ e)
@@ -231,12 +231,12 @@ module _ (old s : State) (found : ℕ → ℕ) (A : Attached old s s.frame.bytes
 
   whole : (text : List ℕ) (status : Status) → HasShown text sink status → status ≡ statuses.Done → Takes sink.before sink.now text × (sink.flushed ≡ true)
   whole text status (inl w) done = (w.1, w.2)
-  whole text status (inr (inl w)) done = absurd (no (sym w.0 ∙ done)) where
-    no : statuses.SinkFault ≡ statuses.Done → ⊥
-    no q = cc q
-  whole text status (inr (inr w)) done = absurd (no (sym w.0 ∙ done)) where
-    no : statuses.Memory ≡ statuses.Done → ⊥
-    no q = cc q
+  whole text status (inr (inl w)) done = absurd (apart (sym w.0 ∙ done)) where
+    apart : statuses.SinkFault ≡ statuses.Done → ⊥
+    apart q = cc q
+  whole text status (inr (inr w)) done = absurd (apart (sym w.0 ∙ done)) where
+    apart : statuses.Memory ≡ statuses.Done → ⊥
+    apart q = cc q
 
   no_line : (text : List ℕ) (status : Status) → HasShown text sink status → is_of_line status ≡ false
   no_line text status (inl w) = ap is_of_line w.0
@@ -279,3 +279,41 @@ module _ (old s : State) (found : ℕ → ℕ) (A : Attached old s s.frame.bytes
 pub never_of_region : {T : Type 0} (r : Result T Status) (P : Type 0) → IfErr r (λ st. is_of_region st ≡ false) → IfErr r (λ st. is_of_region st ≡ true → P)
 never_of_region (Ok x) P h = tt
 never_of_region (Err st) P h = λ broken. both (is_of_region st) broken h
+
+-- ---- statuses of a verdict that was written, or the beginning of it
+module _ (text : List ℕ) (sink : SinkUse) (status : Status) where
+  -- it ends with one of three statuses
+  pub shown_apart : (other : Status) → (statuses.Done ≡ other → ⊥) → (statuses.SinkFault ≡ other → ⊥) → (statuses.Memory ≡ other → ⊥) → HasShown text sink status → status ≡ other → ⊥
+  shown_apart other a b c (inl w) e = a (sym w.0 ∙ e)
+  shown_apart other a b c (inr (inl w)) e = b (sym w.0 ∙ e)
+  shown_apart other a b c (inr (inr w)) e = c (sym w.0 ∙ e)
+
+  pub shown_test : (test : Status → Bool) → test statuses.Done ≡ false → test statuses.SinkFault ≡ false → test statuses.Memory ≡ false → HasShown text sink status → test status ≡ false
+  shown_test test a b c (inl w) = ap test w.0 ∙ a
+  shown_test test a b c (inr (inl w)) = ap test w.0 ∙ b
+  shown_test test a b c (inr (inr w)) = ap test w.0 ∙ c
+
+  done_sink : statuses.Done ≡ statuses.SinkFault → ⊥
+  done_sink q = cc q
+
+  memory_sink : statuses.Memory ≡ statuses.SinkFault → ⊥
+  memory_sink q = cc q
+
+  pub shown_sink : HasShown text sink status → status ≡ statuses.SinkFault → Rose sink.faults sink.faults'
+  shown_sink (inl w) e = absurd (done_sink (sym w.0 ∙ e))
+  shown_sink (inr (inl w)) e = w.1
+  shown_sink (inr (inr w)) e = absurd (memory_sink (sym w.0 ∙ e))
+
+pub shown_counts : (old new : State) (source : SourceUse) (text : List ℕ) (sink : SinkUse) (status : Status) → HasShown text sink status → CountsFaults old new source sink status
+shown_counts old new source text sink status h = record {
+  source_fault = λ e. absurd (shown_apart text sink status statuses.SourceFault (λ q. cc q) (λ q. cc q) (λ q. cc q) h e);
+  sink_fault = shown_sink text sink status h;
+  region_fault = λ e. absurd (shown_apart text sink status statuses.RegionFault (λ q. cc q) (λ q. cc q) (λ q. cc q) h e);
+}
+
+pub unjudged_counts : (old s : State) (source : SourceUse) (sink : SinkUse) (status : Status) → IsUnjudged s source status → CountsFaults old s source sink status
+unjudged_counts old s source sink status u = record {
+  source_fault = unjudged_source s source status u;
+  sink_fault = λ e. both (is_of_writing status) (ap is_of_writing e) (unjudged_writing s source status u);
+  region_fault = λ e. absurd (unjudged_region s source status u e);
+}

@@ -5,6 +5,7 @@ ghost use Rattle.pm_region.specs.Split.{Attached};
 ghost use Rattle.pm_region.specs.Words.{lasts};
 ghost use Rattle.group_engine.specs.Replayed.{StandsAsFound};
 ghost use Rattle.headline.specs.Headline.{cells_of};
+ghost use Rattle.run_audit.specs.FirstFault.{Judges, cells_in};
 ghost use Rattle.run_audit.specs.VerdictText.{verdict_text};
 ghost use Rattle.store_image.specs.Listing.{ListsCells};
 ghost use Rattle.flatstore.specs.Audits.{Audits, IsJudged, IsUnjudged, IsReadAudit, IsUnreadAudit};
@@ -51,6 +52,22 @@ fn read<S: Source>(alloc: Global, source: &mut S, cores: u32) -> Result<AuditInp
     }
 }
 
+/// The verdict on the replies of an input, from these cells on.
+fn verdict_on<T: Threads + Sync>(
+    rt: &T,
+    alloc: Global,
+    start: &Vec<StartCell>,
+    input: &AuditInput,
+    workers: u32,
+) -> Result<Verdict, Memory>
+    requires some { 1 ≤ workers }
+    requires few { workers ≤ 16 }
+    ensures { IfOk result (Judges (cells_in start.now.items) input.now.trace.items
+        input.now.replies.items) }
+{
+    audit(rt, alloc, start, &input.trace, &input.replies, workers)
+}
+
 /// The verdict on the replies of the input, from the live pairs of a region of which this was recovered, or the status
 /// where there is none.
 fn judged_from<T: Threads + Sync, S: Source, R: SplitRegion + ReadRegion>(
@@ -76,7 +93,7 @@ fn judged_from<T: Threads + Sync, S: Source, R: SplitRegion + ReadRegion>(
     };
     match read(alloc, source, recovered.layout.cores()) {
         Err(status) => Err(status),
-        Ok(input) => match audit(rt, alloc, &start, &input.trace, &input.replies, workers) {
+        Ok(input) => match verdict_on(rt, alloc, &start, &input, workers) {
             Ok(verdict) => Ok(verdict),
             Err(Memory) => Err(Status::Memory),
         },

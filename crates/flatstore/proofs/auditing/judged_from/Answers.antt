@@ -1,7 +1,5 @@
 -- What was read is judged from the cells that the region tells, where it tells.
-use Rattle.std.proofs.Common.{◌≡◌, inl, inr, refl, sym, ap, ◌∙◌, subst, List}
-use Rattle.fs_model.specs.declared.model.Pair.{Pair}
-use Rattle.run_audit.specs.FirstFault.{Judges, cells_in}
+use Rattle.std.proofs.Common.{inr}
 use Rattle.flatstore.specs.Ends.{source_use}
 use Rattle.flatstore.proofs.Judging.{is_judged, unread_apart}
 use Rattle.flatstore.proofs.Standing.{counted_by}
@@ -17,8 +15,10 @@ pub returns-in-Err-read-clause-unread : goal.returns-in-Err-read-clause-unread
 returns-in-Err-read-clause-unread g c =
     unread_apart (source_use g.S.Source.coming g.S.Source.fault_count c.args.source.now c.read.new.source) c.cores.result c.in-Err-read.status c.in-Err-read.ensures.err
 
-pub returns-in-Ok-audit-clause-judged : goal.returns-in-Ok-audit-clause-judged
-returns-in-Ok-audit-clause-judged g c =
+pub returns-in-Ok-verdict_on-clause-judged : goal.returns-in-Ok-verdict_on-clause-judged
+returns-in-Ok-verdict_on-clause-judged g c =
     let s = g.R.Region.state c.args.region.now in
     let word = g.R.ReadRegion.word c.args.region.now in
-    let h = c.in-Ok-audit.ensures in ?
+    let counted = counted_by s word (λ w telling. g.met.R.ReadRegion.tells c.args.region.now w telling) c.args.recovered.now c.requires.stands c.cores.result c.cores.ensures in
+    is_judged s (source_use g.S.Source.coming g.S.Source.fault_count c.args.source.now c.read.new.source) c.cores.result c.in-Ok-read.input c.in-Ok.start.items c.in-Ok-verdict_on.verdict
+    counted c.in-Ok-read.ensures.ok c.in-Ok.ensures c.in-Ok-verdict_on.ensures
