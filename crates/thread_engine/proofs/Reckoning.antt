@@ -194,10 +194,10 @@ module _ (o : Origin) (layout : IsLayout (layout_of o.found)) (given : List Requ
   reckons_accept : (a b : WorkState) (fs : List Fixed) → Reckons o given c a fs → (A : Accepts seat a b) → Reckons o given c b (fs ++ A.call.fixed)
   reckons_accept a b fs R A = subst (λ (z : WorkState). Reckons o given c z (fs ++ A.call.fixed)) here (reckons_call a mid fs R None None A.accepted A.call.fixed split (A.call.moves None) (omega arith)) where
     mid : WorkState
-    mid = record { region = a.region; view = a.view; worker = b.worker; queue = b.queue }
+    mid = record { region = a.region; view = a.view; trail = a.trail; worker = b.worker; queue = b.queue }
 
     here : mid ≡ b
-    here i = record { region = sym A.region i; view = sym A.view i; worker = b.worker; queue = b.queue }
+    here i = record { region = sym A.region i; view = sym A.view i; trail = sym A.trail i; worker = b.worker; queue = b.queue }
 
     split : a.queue ≡ A.accepted ++ b.queue
     split = elim A.either [

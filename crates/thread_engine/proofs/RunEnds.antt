@@ -24,7 +24,7 @@ use Rattle.group_laws.specs.OpeningImages.{opened}
 use Rattle.group_laws.specs.Regions.{groups_in, place_at}
 use Rattle.atomic_board.specs.declared.group_table.GroupTable.{GroupTable}
 use Rattle.atomic_board.specs.declared.token.SeatToken.{SeatToken}
-use Rattle.atomic_board.specs.Deeds.{began, place_of}
+use Rattle.atomic_board.specs.Deeds.{began, place_of, steps_in}
 use Rattle.atomic_board.specs.GroupTables.{origin_of, id_of}
 use Rattle.atomic_board.specs.ShownState.{state_shown, views_of}
 use Rattle.atomic_board.specs.MemberSeats.{seat_of, view_at}
@@ -69,7 +69,7 @@ module _ (l : Geometry) (image : ℕ → ℕ) where
       let same : x ≡ t = cc at in
       let from : began (origin_of x) ≡ b = ap (λ y. began (origin_of y)) same ∙ is in
       let R = E.5.shows.reached in
-      (ap (λ (w : Group). w.place) from, R.lawful, (R.steps, subst (λ (w : Group). Runs w R.steps (state_shown (origin_of x) E.5.table E.5.shows)) from R.runs))
+      (ap (λ (w : Group). w.place) from, R.lawful, (steps_in R.order, subst (λ (w : Group). Runs w (steps_in R.order) (state_shown (origin_of x) E.5.table E.5.shows)) from R.runs))
   shown_reached (x ∷ ts) tokens E d (suc g) t at b is = shown_reached ts E.1 E.6 d g t at b is
 
 -- Each has of a member what its token has.

@@ -59,7 +59,7 @@ module _ {P : Type 0} (state : P → State) (pieces : List P) (crew : Crew) (job
       let x = slice_index_or jobs c d in
       let at = get_there jobs c d low in
       let t = token_at c x at in
-      subst (λ (o : MemberSeat). IsAtWork (seat_of o) (record { region = state x.piece; view = view_at o; worker = x.worker; queue = x.queue.items })) (sym t.2)
+      subst (λ (o : MemberSeat). IsAtWork (seat_of o) (record { region = state x.piece; view = view_at o; trail = trail_with (trail_at o) (committed_at (done_at o)); worker = x.worker; queue = x.queue.items })) (sym t.2)
       (A c x.piece t.0 x.worker x.queue (piece_at c x at) t.1 (worker_at c x at) (queue_at c x at))
 
   module _ (refused : Bool) (new : List (CoreJob CoreSeat P)) (long : length new ≡ length jobs) (worked : (c : ℕ) (d : Job) → c < length jobs → GoesOn seat_at sight_there state refused (slice_index_or jobs c d) (slice_index_or new c d))

@@ -23,6 +23,7 @@ use Rattle.licence.specs.Licence.{part_at, part_end}
 use Rattle.engine_laws.specs.WorkerMoves.{Placed, Fixed, asked, replied, fixed_of, requests_for, line_in, WorkerMoves}
 use Rattle.engine_laws.specs.KeyLaw as law
 use Rattle.engine_laws.specs.KeyLaw.{KeyView, KeyIs, key_view}
+use Rattle.batch_leader.specs.TurnSteps.{Trail}
 use Rattle.core_worker.specs.declared.types.Answer.{Answer}
 use Rattle.core_worker.specs.declared.worker.Worker.{Worker}
 use Rattle.core_worker.specs.Answering.{AreGiven, AddsAnswers}
@@ -103,7 +104,7 @@ module _ (key_goes : KeyGoes) (seat : SeatAt) where
         ∙ ap (λ l. l ++ line_in (hands_at c) k) (sym (ap (map asked) (fixed_is k) ∙ map-append asked (fixed_of k A.fixed) (fixed_of k B.fixed)))
 
   -- one call of the worker, after which each own change in doubt leaves what it left
-  module _ (s t : State) (v u : View) (w x : Worker) (queue rest : List (ℕ × Request)) (before after : Option Group) (accepted : List (ℕ × Request)) (fixed : List Fixed)
+  module _ (s t : State) (v u : View) (old new : Trail) (w x : Worker) (queue rest : List (ℕ × Request)) (before after : Option Group) (accepted : List (ℕ × Request)) (fixed : List Fixed)
       (split : queue ≡ accepted ++ rest) (adds : AddsAnswers (IsTelling t) (answers_of w) (answers_of x) fixed)
       (M : WorkerMoves seat.place seat.number s t before after v u (hands_of v w) (hands_of u x) accepted fixed)
       (still : (k : ℕ) (d : Entry) → owner seat.place k ≡ seat.number → v.pending k ≡ Some (in_doubt d) → u.pending k ≡ Some (in_doubt d) → left_in u.blocks d.body ≡ left_in v.blocks d.body) where
@@ -121,7 +122,7 @@ module _ (key_goes : KeyGoes) (seat : SeatAt) where
       ];
     }
 
-    abbrev call_works_off : WorksOff seat (record { region = s; view = v; worker = w; queue = queue }) (record { region = t; view = u; worker = x; queue = rest })
+    abbrev call_works_off : WorksOff seat (record { region = s; view = v; trail = old; worker = w; queue = queue }) (record { region = t; view = u; trail = new; worker = x; queue = rest })
     call_works_off = record {
       accepted = accepted;
       fixed = fixed;
@@ -158,22 +159,22 @@ module _ (key_goes : KeyGoes) (seat : SeatAt) where
 
     turn_works_off : Off a b T.moves.fixed
     turn_works_off = (
-      call_works_off a.region b.region a.view b.view a.worker b.worker a.queue b.queue T.before T.after [] T.moves.fixed (sym T.queue) T.moves.answers T.moves.moves (λ k d own was now. (carry k d now d.body (D k d own was)).1),
+      call_works_off a.region b.region a.view b.view a.trail b.trail a.worker b.worker a.queue b.queue T.before T.after [] T.moves.fixed (sym T.queue) T.moves.answers T.moves.moves (λ k d own was now. (carry k d now d.body (D k d own was)).1),
       refl,
       turn_doubts,
     )
 
   accept_works_off : (a b : WorkState) → KeepsDoubts seat a.view → (A : Accepts seat a b) → Off a b A.call.fixed
   accept_works_off a b D A = subst (λ z. Off a z A.call.fixed) here (
-    call_works_off a.region a.region a.view a.view a.worker b.worker a.queue b.queue None None A.accepted A.call.fixed split A.call.adds (A.call.moves None) (λ k d own was now. refl),
+    call_works_off a.region a.region a.view a.view a.trail a.trail a.worker b.worker a.queue b.queue None None A.accepted A.call.fixed split A.call.adds (A.call.moves None) (λ k d own was now. refl),
     refl,
     D,
   ) where
     mid : WorkState
-    mid = record { region = a.region; view = a.view; worker = b.worker; queue = b.queue }
+    mid = record { region = a.region; view = a.view; trail = a.trail; worker = b.worker; queue = b.queue }
 
     here : mid ≡ b
-    here i = record { region = sym A.region i; view = sym A.view i; worker = b.worker; queue = b.queue }
+    here i = record { region = sym A.region i; view = sym A.view i; trail = sym A.trail i; worker = b.worker; queue = b.queue }
 
     split : a.queue ≡ A.accepted ++ b.queue
     split = elim A.either [

@@ -12,5 +12,5 @@ pub returns-in-Ok-clause-ok : goal.returns-in-Ok-clause-ok
 returns-in-Ok-clause-ok g c =
     let s = g.R.Region.state c.args.region.now in
     let word = g.R.ReadRegion.word c.args.region.now in
-    let lists = by_view s word _ c.of.ensures (λ image. IsStore c.bytes.result image × ListsCells (cells_of image) c.in-Ok.pairs.items) c.in-Ok.ensures in
+    let lists = by_view s word _ c.of-view.ensures (λ image. IsStore c.bytes.result image × ListsCells (cells_of image) c.in-Ok.pairs.items) c.in-Ok.ensures in
     (store_sound s.frame.bytes word (subst (λ n. IsStore n word) c.bytes.ensures lists.0), lists.1)
