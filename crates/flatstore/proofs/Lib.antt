@@ -16,7 +16,6 @@ pub mod Reading
 pub mod Agreeing
 pub mod Forms
 pub mod Emptiness
-pub mod Listed
 pub mod Shown
 pub mod Viewed
 pub mod Queried

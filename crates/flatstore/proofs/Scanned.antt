@@ -1,20 +1,26 @@
 -- From what a scan read and wrote to what the program promises.
-use Rattle.std.proofs.Common.{◌≡◌, ◌⊎◌, inl, inr, ℕ, List, [], sym, ◌∙◌, ap, subst, refl, true, false, Bool, Option, Some, None, Result, Ok, Err}
+use Rattle.std.proofs.Common.{◌≡◌, ◌⊎◌, inl, inr, ℕ, ◌/◌, List, [], sym, ◌∙◌, ap, subst, refl, true, false, Bool, Option, Some, None, Result, Ok, Err}
 use Rattle.fs_model.specs.declared.model.Pair.{Pair}
-use Rattle.pm_region.specs.State.{State, IsTelling, Rose, Faulted}
+use Rattle.pm_region.specs.Snapshots.{IsSnapshot}
+use Rattle.pm_region.specs.State.{State, Frame, InRange, IsTelling, Rose}
 use Rattle.pm_region.specs.Words.{lasts}
 use Rattle.pm_region.specs.Split.{Attached}
 use Rattle.store_image.specs.declared.types.Fault.{Fault}
 use Rattle.store_image.specs.declared.types.Fault.TheVariants as faults
 use Rattle.store_image.specs.Listing.{ListsCells}
 use Rattle.store_image.specs.Soundness.{IsSound, first_fault}
+use Rattle.store_image.proofs.Clients.{store_sound}
 use Rattle.fs_text.specs.Streams.{IsReadOut, TakesPrefix}
-use Rattle.recover.specs.Recovering.{cells_found}
+use Rattle.recover.specs.declared.types.CoreStart.{CoreStart}
+use Rattle.recover.specs.declared.types.Recovered.{Recovered}
+use Rattle.recover.specs.Recovering.{IsFound, cells_found}
+use Rattle.range_scan.specs.Starts.{AreStartsOf, AreStartsIn}
 use Rattle.query_text.specs.declared.query.Query.{Query}
 use Rattle.query_text.specs.Queries.{queries_of}
+use Rattle.group_engine.specs.Replayed.{StandsAsFound}
 use Rattle.flatstore.specs.Attaching.{Attaches}
 use Rattle.flatstore.specs.Ends.{SourceUse, SinkUse, CountsFaults}
-use Rattle.flatstore.specs.Ordering.{IsServed, is_of_line, is_of_region}
+use Rattle.flatstore.specs.Ordering.{IsServed, is_of_line, is_of_region, is_quiet}
 use Rattle.flatstore.specs.Played.{IsUnserved}
 use Rattle.flatstore.specs.Promise.{IsInput}
 use Rattle.flatstore.specs.Scans.{answers_text, IsScanText, queries_status, scan_due, IsScanFault, Answers, Scans}
@@ -25,8 +31,7 @@ use Rattle.flatstore.specs.declared.scanning.Scan.{Scan}
 use Rattle.flatstore.specs.declared.report.Status.{Status}
 use Rattle.flatstore.specs.declared.report.Status.TheVariants as statuses
 use Rattle.flatstore.specs.declared.report.Report.{Report}
-use Rattle.flatstore.proofs.Attached.{found_fault}
-use Rattle.flatstore.proofs.Listed.{pairs_found}
+use Rattle.flatstore.proofs.Attached.{found_fault, found_last}
 use Rattle.flatstore.proofs.Refused.{some_input}
 use Rattle.flatstore.proofs.Texts.{both, takes_front}
 
@@ -86,7 +91,10 @@ unread_apart source status (inr (inr u)) = ap is_of_region u
 memory_source : statuses.Memory ≡ statuses.SourceFault → ⊥
 memory_source q = cc q
 
-module _ (old s : State) (found : ℕ → ℕ) (A : Attached old s s.frame.bytes found) (source : SourceUse) (sink : SinkUse) where
+module _ (old s : State) (found word : ℕ → ℕ) (A : Attached old s s.frame.bytes found) (tells : (w : ℕ) → IsTelling s → lasts s w ≡ word w) (source : SourceUse) (sink : SinkUse) where
+  words_found : IsTelling s → (w : ℕ) → InRange s.frame w → word w ≡ found w
+  words_found telling w inside = sym (tells w telling) ∙ found_last old s found A telling w inside
+
   served : KeepsAll s → IsServed s found
   served keeps telling = sym (found_fault old s found A telling) ∙ keeps telling
 
@@ -95,8 +103,9 @@ module _ (old s : State) (found : ℕ → ℕ) (A : Attached old s s.frame.bytes
       → (IsTelling s → (r.status ≡ scan_due (first_fault s.frame.bytes found) input) ⊎ IsScanFault source sink r.status)
       → (r.status ≡ statuses.SourceFault → IsServed s found)
       → (is_of_line r.status ≡ true → IsServed s found × IsReadOut source.coming source.left × (r.status ≡ queries_status (queries_of input)))
-      → Answers old s found source input sink r
+      → Answers old s found word source input sink r
   unanswered input r incomplete unwritten due read line = record {
+    reads = words_found;
     due = due;
     no_fault = λ failed. both (is_unwritten r.status) unwritten (ap is_unwritten failed);
     read = read;
@@ -109,7 +118,7 @@ module _ (old s : State) (found : ℕ → ℕ) (A : Attached old s s.frame.bytes
   }
 
   refused_by : (status : Status) (r : Report) → r.status ≡ status → r.complete ≡ false → IsUnasked s source status
-      → (input : List ℕ) × IsInput source.coming input × Answers old s found source input sink r
+      → (input : List ℕ) × IsInput source.coming input × Answers old s found word source input sink r
   refused_by status r is incomplete (inl (inl (fault, at, told))) =
       let some = some_input source.coming in (
         some.0,
@@ -155,7 +164,7 @@ module _ (old s : State) (found : ℕ → ℕ) (A : Attached old s s.frame.bytes
             (λ line. both (is_of_line r.status) line (ap is_of_line (is ∙ memory))),
       )
 
-  pub refused_scans : (status : Status) → IsUnasked s source status → (r : Report) → r.status ≡ status → r.complete ≡ false → Attaches old s found r → Scans old s found source sink r
+  pub refused_scans : (status : Status) → IsUnasked s source status → (r : Report) → r.status ≡ status → r.complete ≡ false → Attaches old s found r → Scans old s found word source sink r
   refused_scans status why r is incomplete attaches = record { attaches = attaches; answers = λ attached. refused_by status r is incomplete why }
 
   -- its counts
@@ -180,19 +189,19 @@ module _ (old s : State) (found : ℕ → ℕ) (A : Attached old s s.frame.bytes
     rose (inr (keeps, inr (inr memory))) q = absurd (memory_source (sym memory ∙ q))
 
   -- the answers were written, or the beginning of them
-  module _ (word : ℕ → ℕ) (tells : (w : ℕ) → IsTelling s → lasts s w ≡ word w) (keeps : KeepsAll s) (scan : Scan) (ready : IsReadyFor s word source scan) where
-    pub pairs : List Pair
+  module _ (keeps : KeepsAll s) (scan : Scan) (ready : IsReadyFor s word source scan) where
+    abbrev pub pairs : List Pair
     pairs = ready.pairs.0
 
     pub lists : ListsCells (cells_found word) pairs
     lists = ready.pairs.1
 
-    kind : IsScanText (IsTelling s) found ready.asked.input (answers_text pairs scan.queries)
+    kind : IsScanText word ready.asked.input (answers_text pairs scan.queries)
     kind = record {
       queries = scan.queries;
       judged = ready.asked.good;
       pairs = pairs;
-      live = λ telling. (let same : word ≡ lasts s = (λ i w. sym (tells w telling) i) in pairs_found old s found A telling (keeps telling) pairs (subst (λ (image : ℕ → ℕ). ListsCells (cells_found image) pairs) same lists));
+      live = lists;
       answers = refl;
     }
 
@@ -205,13 +214,14 @@ module _ (old s : State) (found : ℕ → ℕ) (A : Attached old s s.frame.bytes
     memory_done : statuses.Memory ≡ statuses.Done → ⊥
     memory_done e = cc e
 
-    pub written_scans : (r : Report) → HasShown (answers_text pairs scan.queries) sink r.status → r.complete ≡ true → Attaches old s found r → Scans old s found source sink r
+    pub written_scans : (r : Report) → HasShown (answers_text pairs scan.queries) sink r.status → r.complete ≡ true → Attaches old s found r → Scans old s found word source sink r
     written_scans r W complete attaches = record {
       attaches = attaches;
       answers = λ attached. (
         ready.asked.input,
         ready.asked.is_input,
         record {
+          reads = words_found;
           due = λ telling. due_of W telling;
           no_fault = λ failed. none_failed W failed;
           read = λ q. served keeps;
@@ -239,7 +249,7 @@ module _ (old s : State) (found : ℕ → ℕ) (A : Attached old s s.frame.bytes
       none_line (inr (inl w)) line = both (is_of_line r.status) line (ap is_of_line w.0)
       none_line (inr (inr w)) line = both (is_of_line r.status) line (ap is_of_line w.0)
 
-      whole : HasShown (answers_text pairs scan.queries) sink r.status → r.status ≡ statuses.Done → WritesText (IsScanText (IsTelling s) found ready.asked.input) sink × (sink.flushed ≡ true)
+      whole : HasShown (answers_text pairs scan.queries) sink r.status → r.status ≡ statuses.Done → WritesText (IsScanText word ready.asked.input) sink × (sink.flushed ≡ true)
       whole (inl w) done = ((answers_text pairs scan.queries, kind, w.1), w.2)
       whole (inr (inl w)) done = absurd (sink_done (sym w.0 ∙ done))
       whole (inr (inr w)) done = absurd (memory_done (sym w.0 ∙ done))
@@ -269,3 +279,37 @@ module _ (old s : State) (found : ℕ → ℕ) (A : Attached old s s.frame.bytes
       rose (inl w) q = cc (sym w.0 ∙ q)
       rose (inr (inl w)) q = w.1
       rose (inr (inr w)) q = cc (sym w.0 ∙ q)
+
+-- the statuses of a writing are none of a refusal
+pub shown_loud : (text : List ℕ) (sink : SinkUse) (status : Status) → HasShown text sink status → (is_quiet status ≡ false) × (is_of_region status ≡ false)
+shown_loud text sink status (inl w) = (ap is_quiet w.0, ap is_of_region w.0)
+shown_loud text sink status (inr (inl w)) = (ap is_quiet w.0, ap is_of_region w.0)
+shown_loud text sink status (inr (inr w)) = (ap is_quiet w.0, ap is_of_region w.0)
+
+-- a region that was recovered keeps its rules
+pub keeps_all : (s : State) (word : ℕ → ℕ) → ((w : ℕ) → IsTelling s → lasts s w ≡ word w) → (r : Recovered) → StandsAsFound s word r → KeepsAll s
+keeps_all s word tells r S telling =
+    let same : lasts s ≡ word = (λ i w. tells w telling i) in
+    ap (first_fault s.frame.bytes) same ∙ store_sound s.frame.bytes word S.found.sound
+
+-- and its starts are those of the words read
+pub starts_found : (s : State) (word : ℕ → ℕ) (r : Recovered) → StandsAsFound s word r → (starts : List CoreStart) → starts ≡ r.starts.items → AreStartsOf word starts
+starts_found s word r S starts is = record { bytes = s.frame.bytes; all = r; starts_are = sym is; made = S.made; found = S.found }
+
+-- as those of a snapshot are, which tells
+pub starts_seen : (s read : State) (word : ℕ → ℕ) (r : Recovered) → StandsAsFound s word r → IsSnapshot s word read → (starts : List CoreStart) → starts ≡ r.starts.items → AreStartsIn read starts
+starts_seen s read word r S snap starts is =
+    let words = S.words in
+    let total = S.made.total in
+    record {
+      bytes = s.frame.bytes;
+      all = r;
+      starts_are = sym is;
+      made = S.made;
+      covers = record {
+        layout = S.made.layout;
+        first = ap (λ (f : Frame). f.first) snap.frame ∙ S.first;
+        words = ap (λ (f : Frame). f.words) snap.frame ∙ words ∙ ap (λ n. n / 8) (sym total);
+      };
+      found = λ telling. subst (λ (image : ℕ → ℕ). IsFound s.frame.bytes image r) (λ i w. sym (snap.lasts_are w) i) S.found;
+    }

@@ -2,7 +2,7 @@
 use Rattle.std.specs.Prelude.{◌≡◌, ◌⊎◌, ℕ, List, length, true, Option, Some, None, Result, Ok, Err}
 use Rattle.std.specs.List.{flat_map}
 use Rattle.fs_model.specs.declared.model.Pair.{Pair}
-use Rattle.pm_region.specs.State.{State, IsTelling, Rose}
+use Rattle.pm_region.specs.State.{State, InRange, IsTelling, Rose}
 use Rattle.pm_region.specs.Split.{Attached}
 use Rattle.store_image.specs.declared.types.Fault.{Fault}
 use Rattle.store_image.specs.Listing.{ListsCells}
@@ -36,14 +36,13 @@ answer_text pairs (Count lo hi) = count_text (length (kept pairs lo hi))
 abbrev pub answers_text : List Pair → List Query → List ℕ
 answers_text pairs queries = flat_map (answer_text pairs) queries
 
--- A text of answers to the queries of an input, over one list of pairs. Where the words are known, these are the live
--- pairs of the cells that they recover, by rising key.
-pub record IsScanText (Known : Type 0) (found : ℕ → ℕ) (input : List ℕ) (text : List ℕ) :
-    Type 0 where
+-- A text of answers to the queries of an input, over the live pairs of the cells that these words recover, by rising
+-- key.
+pub record IsScanText (word : ℕ → ℕ) (input : List ℕ) (text : List ℕ) : Type 0 where
   pub queries : List Query
   pub judged : queries_of input ≡ Ok queries
   pub pairs : List Pair
-  pub live : Known → ListsCells (cells_of found) pairs
+  pub live : ListsCells (cells_of word) pairs
   pub answers : text ≡ answers_text pairs queries
 
 -- the status that the words found and the input alone decide
@@ -62,9 +61,11 @@ IsScanFault source sink status =
     ⊎ (((status ≡ statuses.SourceFault) × Rose source.faults source.faults')
     ⊎ ((status ≡ statuses.SinkFault) × Rose sink.faults sink.faults'))
 
--- Of a region that was attached, and this input.
-pub record Answers (old new : State) (found : ℕ → ℕ) (source : SourceUse) (input : List ℕ)
+-- Of a region that was attached, the words that it then reads, and this input.
+pub record Answers (old new : State) (found word : ℕ → ℕ) (source : SourceUse) (input : List ℕ)
     (sink : SinkUse) (r : Report) : Type 0 where
+  -- Where the region tells, the words read are those found.
+  pub reads : IsTelling new → (w : ℕ) → InRange new.frame w → word w ≡ found w
   -- The words found and the input decide on the status, but for want of memory and faults that were counted.
   pub due : IsTelling new
       → (r.status ≡ scan_due (first_fault new.frame.bytes found) input)
@@ -81,14 +82,16 @@ pub record Answers (old new : State) (found : ℕ → ℕ) (source : SourceUse) 
   pub written : is_of_writing r.status ≡ true → r.complete ≡ true
   -- At the end the whole text was written and flushed, and else the beginning of it, where the writing began.
   pub done : r.status ≡ statuses.Done
-      → WritesText (IsScanText (IsTelling new) found input) sink × (sink.flushed ≡ true)
-  pub begins : r.complete ≡ true → BeginsText (IsScanText (IsTelling new) found input) sink
+      → WritesText (IsScanText word input) sink × (sink.flushed ≡ true)
+  pub begins : r.complete ≡ true → BeginsText (IsScanText word input) sink
   -- The region is as it was attached.
   pub untouched : Attached old new new.frame.bytes found
 
--- Of a region before and after the call, the words that an attach finds, the source, the sink and the report.
-pub record Scans (old new : State) (found : ℕ → ℕ) (source : SourceUse) (sink : SinkUse)
+-- Of a region before and after the call, the words that an attach finds and those that the region then reads, the
+-- source, the sink and the report.
+pub record Scans (old new : State) (found word : ℕ → ℕ) (source : SourceUse) (sink : SinkUse)
     (r : Report) : Type 0 where
   pub attaches : Attaches old new found r
   pub answers : r.attached ≡ true
-      → (input : List ℕ) × IsInput source.coming input × Answers old new found source input sink r
+      → (input : List ℕ) × IsInput source.coming input
+      × Answers old new found word source input sink r

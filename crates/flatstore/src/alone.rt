@@ -64,9 +64,9 @@ pub fn flatstore_alone<T: Threads, S: Source, O: Sink, R: SplitRegion + ReadRegi
         (sink_use O.taken O.flushed O.fault_count sink.old sink.new) result
         × ReportsNothing result × (source.new ≡ source.old) }
 
-    // What is answered are the queries of the input, over the pairs of the cells that the words of the region recover.
+    // What is answered are the queries of the input, over the pairs of the cells that the words read recover.
     ensures scan { (path : List ℕ) → alone_form_of (words_of words.now.items) ≡ Some (Scan path)
-        → Scans (R.state region.old) (R.state region.new) (R.found region.old)
+        → Scans (R.state region.old) (R.state region.new) (R.found region.old) (R.word region.new)
         (source_use S.coming S.fault_count source.old source.new)
         (sink_use O.taken O.flushed O.fault_count sink.old sink.new) result
         × ReportsNothing result }

@@ -188,6 +188,7 @@ pub fn scan_region<S: Source, O: Sink, R: SplitRegion + ReadRegion>(
     region: &mut R,
 ) -> Report
     ensures promise { Scans (R.state region.old) (R.state region.new) (R.found region.old)
+        (R.word region.new)
         (source_use S.coming S.fault_count source.old source.new)
         (sink_use O.taken O.flushed O.fault_count sink.old sink.new) result }
     ensures faults { CountsFaults (R.state region.old) (R.state region.new)
