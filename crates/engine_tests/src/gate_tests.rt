@@ -27,6 +27,8 @@ struct ShutGate;
 impl Gate for ShutGate {
     ghost may_refuse = { λ _. true };
 
+    ghost may_pass = { λ _. false };
+
     fn ready(&self, _core: u32, _point: Point) -> bool {
         false
     }

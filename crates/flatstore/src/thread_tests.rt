@@ -191,6 +191,8 @@ impl Meeting {
 impl Gate for Meeting {
     ghost may_refuse = { λ _. false };
 
+    ghost may_pass = { λ _. true };
+
     fn ready(&self, core: u32, _point: Point) -> bool {
         let before = match self.asked.get(core as usize) {
             Some(count) => count.fetch_add(1, Ordering::SeqCst),

@@ -4,6 +4,7 @@ use Rattle.fs_text.specs.Streams.{Takes, TakesPrefix}
 use Rattle.query_text.specs.declared.query.Query.{Query}
 use Rattle.store_image.specs.Listing.{ListsCells}
 use Rattle.recover.specs.Recovering.{cells_found}
+use Rattle.flatstore.specs.Asking.{ListsLive}
 use Rattle.flatstore.specs.Scans.{answers_text}
 use Rattle.flatstore.proofs.Scanned.{starts_seen}
 use Rattle.flatstore.proofs.scanning.write_answers.Goals as goal
@@ -17,7 +18,8 @@ pub returns-clause-written : goal.returns-clause-written
 returns-clause-written g c = λ pairs lists.
     let a = g.O.Sink.taken c.args.sink.now in
     let b = g.O.Sink.taken c.answer_all.new.sink in
-    let here = (subst (λ (image : ℕ → ℕ). ListsCells (cells_found image) pairs) (λ i w. sym (c.of-view.ensures.lasts_are w) i) lists.0, lists.1) in
+    let here : ListsLive (g.R.ReadRegion.word c.of-view.result.region.now) c.args.scan.now.directory pairs =
+    (subst (λ (image : ℕ → ℕ). ListsCells (cells_found image) pairs) (λ i w. sym (c.of-view.ensures.lasts_are w) i) lists.0, lists.1) in
     elim c.match-answer_all.branch [
       in-Ok w ↦ inl (w.status-is, subst (λ (qs : List Query). Takes a b (answers_text pairs qs)) c.queries-queries.ensures (w.in-Ok.ensures.ok pairs here), w.in-Ok.ensures.flushed)
       | in-Err-SinkFault w ↦ inr (inl (w.status-is, w.in-Err-SinkFault.ensures.cause refl, subst (λ (qs : List Query). TakesPrefix a b (answers_text pairs qs)) c.queries-queries.ensures (w.in-Err-SinkFault.ensures.err pairs here)))
