@@ -21,7 +21,7 @@ returns-clause-written g c = λ pairs lists.
     let here : ListsLive (g.R.ReadRegion.word c.of-view.result.region.now) c.args.scan.now.directory pairs =
     (subst (λ (image : ℕ → ℕ). ListsCells (cells_found image) pairs) (λ i w. sym (c.of-view.ensures.lasts_are w) i) lists.0, lists.1) in
     elim c.match-answer_all.branch [
-      in-Ok w ↦ inl (w.status-is, subst (λ (qs : List Query). Takes a b (answers_text pairs qs)) c.queries-queries.ensures (w.in-Ok.ensures.ok pairs here), w.in-Ok.ensures.flushed)
+      | in-Ok w ↦ inl (w.status-is, subst (λ (qs : List Query). Takes a b (answers_text pairs qs)) c.queries-queries.ensures (w.in-Ok.ensures.ok pairs here), w.in-Ok.ensures.flushed)
       | in-Err-SinkFault w ↦ inr (inl (w.status-is, w.in-Err-SinkFault.ensures.cause refl, subst (λ (qs : List Query). TakesPrefix a b (answers_text pairs qs)) c.queries-queries.ensures (w.in-Err-SinkFault.ensures.err pairs here)))
       | in-Err-Memory w ↦ inr (inr (w.status-is, subst (λ (qs : List Query). TakesPrefix a b (answers_text pairs qs)) c.queries-queries.ensures (w.in-Err-Memory.ensures.err pairs here)))
     ]
