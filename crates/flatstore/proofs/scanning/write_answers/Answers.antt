@@ -1,5 +1,5 @@
 -- The words of a snapshot are those that the region reads.
-use Rattle.std.proofs.Common.{ℕ, List, inl, inr, refl, sym, subst}
+use Rattle.std.proofs.Common.{ℕ, List, Err, inl, inr, sym, ap, subst}
 use Rattle.fs_text.specs.Streams.{Takes, TakesPrefix}
 use Rattle.query_text.specs.declared.query.Query.{Query}
 use Rattle.store_image.specs.Listing.{ListsCells}
@@ -22,6 +22,6 @@ returns-clause-written g c = λ pairs lists.
     (subst (λ (image : ℕ → ℕ). ListsCells (cells_found image) pairs) (λ i w. sym (c.of-view.ensures.lasts_are w) i) lists.0, lists.1) in
     elim c.match-answer_all.branch [
       | in-Ok w ↦ inl (w.status-is, subst (λ (qs : List Query). Takes a b (answers_text pairs qs)) c.queries-queries.ensures (w.in-Ok.ensures.ok pairs here), w.in-Ok.ensures.flushed)
-      | in-Err-SinkFault w ↦ inr (inl (w.status-is, w.in-Err-SinkFault.ensures.cause refl, subst (λ (qs : List Query). TakesPrefix a b (answers_text pairs qs)) c.queries-queries.ensures (w.in-Err-SinkFault.ensures.err pairs here)))
+      | in-Err-SinkFault w ↦ inr (inl (w.status-is, w.in-Err-SinkFault.ensures.cause (ap Err w.in-Err-SinkFault.field-0-is), subst (λ (qs : List Query). TakesPrefix a b (answers_text pairs qs)) c.queries-queries.ensures (w.in-Err-SinkFault.ensures.err pairs here)))
       | in-Err-Memory w ↦ inr (inr (w.status-is, subst (λ (qs : List Query). TakesPrefix a b (answers_text pairs qs)) c.queries-queries.ensures (w.in-Err-Memory.ensures.err pairs here)))
     ]
