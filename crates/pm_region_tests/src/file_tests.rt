@@ -185,15 +185,15 @@ fn a_changed_file(rt: HostRuntime) -> Result<(), Fail> {
     let name = "pm_region_a_changed_file";
     let mut region = FileRegion::at(rt.clone()?, String::from_str(alloc, name)?);
     region.create(alloc, 16)?;
-    put(&mut region, 0, 5);
-    flush(&mut region, 0);
     let cut = vec![in alloc; 0u8; 64]?;
     fs::write(&rt, name, cut.as_slice())?;
-    assert_eq!(rt; region.fence(), Err(RegionFault));
     assert_eq!(rt;
         split_once_more(alloc, &mut region),
         Err(AttachError::RegionFault)
     );
+    put(&mut region, 0, 5);
+    flush(&mut region, 0);
+    assert_eq!(rt; region.fence(), Err(RegionFault));
     let found = fs::read(&rt, name)?;
     assert!(rt; found.as_slice() == cut.as_slice());
     region.create(alloc, 8)?;
