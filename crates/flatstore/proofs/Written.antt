@@ -45,7 +45,7 @@ module _ (x : Outcome) (sink : SinkUse) (status : Status) where
   all_written (inr (inr (inr w))) out = absurd (out_of statuses.Memory w.0 (λ q. cc q) (λ q. cc q) out)
 
   not_whole : (other : Status) → status ≡ other → is_whole other ≡ false → is_whole status ≡ true → ⊥
-  not_whole other e no whole = both (is_whole status) whole (ap is_whole e ∙ no)
+  not_whole other e cut whole = both (is_whole status) whole (ap is_whole e ∙ cut)
 
   -- the end that the status tells: of a run in which no core stopped, and of one in which some did
   pub whole_end : HasWritten x sink status → is_whole status ≡ true → x.end ≡ ends.Complete
