@@ -106,8 +106,8 @@ fn retract<B: Board>(board: &mut B) -> Option<Change>
 fn clean_nothing<B: Board>(board: &mut B)
     requires { (B.seat board.old).number < places.members (B.seat board.old).place }
 {
-    board.doom(&[]);
-    board.retire(&[]);
+    board.doom(&NoRegion, &[]);
+    board.retire(&NoRegion, &[]);
 }
 
 /// A put of one byte under key 1.
