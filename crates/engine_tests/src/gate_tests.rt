@@ -1,5 +1,5 @@
 // A put that a gate holds back, and the turns that then write it. The board is opened on what recovery found.
-ghost use Rattle.std.specs.Prelude.{◌≡◌, ℕ, List, [], ◌/◌, ◌<◌, ◌%◌, true, IfOk, IfSome, OnOk};
+ghost use Rattle.std.specs.Prelude.{◌≡◌, ℕ, List, [], ◌/◌, ◌<◌, ◌%◌, true, false, IfOk, IfSome, OnOk};
 ghost use Rattle.pm_region.specs.State.{IsTelling};
 ghost use Rattle.pm_region.specs.Steady.{steady_state};
 ghost use Rattle.chunk_map.specs.Layouts.{layout_of};

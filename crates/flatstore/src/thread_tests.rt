@@ -1,5 +1,5 @@
 // The worked rows of a run on threads, on the top call.
-ghost use Rattle.std.specs.Prelude.{false};
+ghost use Rattle.std.specs.Prelude.{false, true};
 
 use crate::report::{Report, Status};
 use crate::row_tests::{fresh_of, log_of};
