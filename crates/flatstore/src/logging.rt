@@ -27,7 +27,8 @@ fn placed_entries<R: SplitRegion + ReadRegion>(
     requires first { (R.state region.now).frame.first ≡ 0 }
     requires words { (R.state region.now).frame.words ≡ words_in (R.state region.now).frame.bytes }
     ensures ok { IfOk result (λ entries.
-        IsSound (R.state region.now).frame.bytes (R.word region.now) × (entries.items ≡ all_entries (layout_of (R.word region.now)) (R.word region.now))) }
+        IsSound (R.state region.now).frame.bytes (R.word region.now)
+        × (entries.items ≡ all_entries (layout_of (R.word region.now)) (R.word region.now))) }
     ensures err { IfErr result (IsUnlisted (R.state region.now).frame.bytes (R.word region.now)) }
 {
     let view = Snapshot::of(region);
