@@ -1,4 +1,4 @@
--- The region without words.
+-- A region of one line that keeps nothing.
 use Rattle.std.specs.Prelude.{◌-◌, ◌^◌, false, []}
 use Rattle.pm_region.specs.Cell.{certain}
 use Rattle.pm_region.specs.State.{State}
@@ -8,11 +8,11 @@ abbrev pub no_state : State
 no_state = record {
   frame = record {
     first = 0;
-    words = 0;
+    words = 8;
     since = 0;
     parted = false;
     cuts = [];
-    bytes = 0;
+    bytes = 64;
     refusals = 0;
     opens = 0;
   };

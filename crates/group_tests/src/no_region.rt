@@ -1,4 +1,4 @@
-// A region without words, for tests of boards that write nothing.
+// A region of one line that keeps nothing, for tests of boards that write nothing.
 ghost use Rattle.group_tests.specs.NoRegions.{no_state};
 
 use pm_region::{Region, RegionFault};
@@ -14,7 +14,7 @@ impl Region for NoRegion {
     }
 
     fn words(&self) -> u64 {
-        0
+        8
     }
 
     fn load(&self, _at: u64) -> u64 {
