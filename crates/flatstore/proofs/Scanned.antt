@@ -27,7 +27,7 @@ use Rattle.flatstore.specs.Scans.{answers_text, IsScanText, queries_status, scan
 use Rattle.flatstore.specs.Shows.{HasShown, WritesText, is_of_writing}
 use Rattle.flatstore.specs.Statuses.{fault_status}
 use Rattle.flatstore.specs.Asking.{AreUnread, IsReadyFor, IsUnasked, KeepsAll, is_refused}
-use Rattle.flatstore.specs.declared.scanning.Scan.{Scan}
+use Rattle.flatstore.specs.declared.scan_ranges.Scan.{Scan}
 use Rattle.flatstore.specs.declared.report.Status.{Status}
 use Rattle.flatstore.specs.declared.report.Status.TheVariants as statuses
 use Rattle.flatstore.specs.declared.report.Report.{Report}

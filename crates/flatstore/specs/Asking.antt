@@ -17,7 +17,7 @@ use Rattle.flatstore.specs.Ends.{SourceUse}
 use Rattle.flatstore.specs.Played.{IsUnserved}
 use Rattle.flatstore.specs.Promise.{IsInput}
 use Rattle.flatstore.specs.Scans.{queries_status}
-use Rattle.flatstore.specs.declared.scanning.Scan.{Scan}
+use Rattle.flatstore.specs.declared.scan_ranges.Scan.{Scan}
 use Rattle.flatstore.specs.declared.report.Status.{Status}
 use Rattle.flatstore.specs.declared.report.Status.TheVariants as statuses
 

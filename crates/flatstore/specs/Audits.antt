@@ -1,8 +1,7 @@
 -- What a call with the words of `audit` promises.
 use Rattle.std.specs.Prelude.{◌≡◌, ◌⊎◌, ℕ, List, Bool, true, false, Option, Some, None, Result, Ok, Err}
-use Rattle.pm_region.specs.State.{State, IsTelling, Rose}
+use Rattle.pm_region.specs.State.{State, InRange, IsTelling, Rose}
 use Rattle.pm_region.specs.Split.{Attached}
-use Rattle.pm_region.specs.Words.{lasts}
 use Rattle.fs_model.specs.declared.model.Request.{Request}
 use Rattle.fs_model.specs.declared.model.Reply.{Reply}
 use Rattle.fs_text.specs.Streams.{IsReadOut}
@@ -40,56 +39,55 @@ due_by found input (Some fault) = fault_status fault
 due_by found input None = input_status (audit_input_of (found 2) input)
 
 -- The verdict on the trace and the replies of an input: lawful exactly where the replies are lawful for the trace, from
--- these cells on, where they are known, and else the first request up to and with which they aren't.
-abbrev pub IsVerdict : Type 0 → (ℕ → Option (List ℕ)) → ℕ → List ℕ → Verdict → Type 0
-IsVerdict Known cells cores input verdict =
-    (x : List Request × List Reply) × (audit_input_of cores input ≡ Ok x)
-    × (Known → Judges cells x.0 x.1 verdict)
+-- the cells on that these words recover, and else the first request up to and with which they aren't.
+abbrev pub IsVerdict : (ℕ → ℕ) → List ℕ → Verdict → Type 0
+IsVerdict word input verdict =
+    (x : List Request × List Reply) × (audit_input_of (word 2) input ≡ Ok x)
+    × Judges (cells_of word) x.0 x.1 verdict
 
 -- its text
-abbrev pub IsVerdictText : Type 0 → (ℕ → Option (List ℕ)) → ℕ → List ℕ → List ℕ → Type 0
-IsVerdictText Known cells cores input text =
-    (verdict : Verdict) × IsVerdict Known cells cores input verdict × (text ≡ verdict_text verdict)
+abbrev pub IsVerdictText : (ℕ → ℕ) → List ℕ → List ℕ → Type 0
+IsVerdictText word input text =
+    (verdict : Verdict) × IsVerdict word input verdict × (text ≡ verdict_text verdict)
 
--- Of a region before and after the call, the words that an attach finds, the source, the number of cores and the input,
--- the sink and the report.
-pub record AuditsBy (old new : State) (found : ℕ → ℕ) (source : SourceUse) (cores : ℕ)
+-- Of a region before and after the call, the words that an attach finds and those that the region then reads, the source,
+-- the input, the sink and the report.
+pub record AuditsBy (old new : State) (found word : ℕ → ℕ) (source : SourceUse)
     (input : List ℕ) (sink : SinkUse) (r : Report) : Type 0 where
+  -- Where the region tells, the words read are those found.
+  pub reads : IsTelling new → (w : ℕ) → InRange new.frame w → word w ≡ found w
   -- The words found and the input decide on the status, but for faults that were counted and want of memory.
   pub due : IsTelling new → (r.status ≡ due_by found input (first_fault new.frame.bytes found))
       ⊎ IsFault old new source sink r.status
   pub no_fault : r.status ≡ statuses.RegionFault → ⊥
   -- The rules of the region go before those of the input, which are those of all of it.
   pub line : is_of_line r.status ≡ true → IsServed new found × IsReadOut source.coming source.left
-      × (r.status ≡ input_status (audit_input_of cores input))
+      × (r.status ≡ input_status (audit_input_of (word 2) input))
   -- At the end the whole verdict was written and flushed, and else the beginning of it, where the writing began.
   pub done : r.status ≡ statuses.Done
-      → WritesText (IsVerdictText (IsTelling new) (cells_of found) cores input) sink
-      × (sink.flushed ≡ true)
-  pub begins : r.complete ≡ true
-      → BeginsText (IsVerdictText (IsTelling new) (cells_of found) cores input) sink
+      → WritesText (IsVerdictText word input) sink × (sink.flushed ≡ true)
+  pub begins : r.complete ≡ true → BeginsText (IsVerdictText word input) sink
   pub read : r.complete ≡ true → IsServed new found × IsReadOut source.coming source.left
   pub written : is_of_writing r.status ≡ true → r.complete ≡ true
   -- The region is as it was attached.
   pub untouched : Attached old new new.frame.bytes found
 
 -- the same, of an input that the source tells, where the region was attached
-pub record Audits (old new : State) (found : ℕ → ℕ) (source : SourceUse) (sink : SinkUse)
+pub record Audits (old new : State) (found word : ℕ → ℕ) (source : SourceUse) (sink : SinkUse)
     (r : Report) : Type 0 where
   pub attaches : Attaches old new found r
-  pub audits : r.attached ≡ true → (input : List ℕ) × (cores : ℕ) × IsInput source.coming input
-      × AuditsBy old new found source cores input sink r
+  pub audits : r.attached ≡ true → (input : List ℕ) × IsInput source.coming input
+      × AuditsBy old new found word source input sink r
 
 -- ---- between attaching and writing
 
--- the region keeps its rules and has so many cores, the input was read to its end, and this is the verdict on it
-pub record IsJudged (s : State) (source : SourceUse) (verdict : Verdict) : Type 0 where
-  pub cores : ℕ
-  pub counted : IsCounted s cores
+-- the region keeps its rules, the input was read to its end, and this is the verdict on it
+pub record IsJudged (s : State) (word : ℕ → ℕ) (source : SourceUse) (verdict : Verdict) : Type 0 where
+  pub counted : IsCounted s (word 2)
   pub whole : IsReadOut source.coming source.left
   pub input : List ℕ
   pub is_input : IsInput source.coming input
-  pub verdict_is : IsVerdict (IsTelling s) (cells_of (lasts s)) cores input verdict
+  pub verdict_is : IsVerdict word input verdict
 
 -- these are the trace and the replies of an input that was read to its end, for a region of so many cores
 pub record IsReadAudit (source : SourceUse) (cores : ℕ) (x : AuditInput) : Type 0 where
@@ -108,7 +106,6 @@ IsUnreadAudit source cores status =
     ⊎ (status ≡ statuses.Memory))
 
 -- why there is no verdict
-abbrev pub IsUnjudged : State → SourceUse → Status → Type 0
-IsUnjudged s source status =
-    IsUnserved s status
-    ⊎ ((cores : ℕ) × IsCounted s cores × IsUnreadAudit source cores status)
+abbrev pub IsUnjudged : State → (ℕ → ℕ) → SourceUse → Status → Type 0
+IsUnjudged s word source status =
+    IsUnserved s status ⊎ (IsCounted s (word 2) × IsUnreadAudit source (word 2) status)

@@ -20,7 +20,7 @@ use crate::formatting::format_region;
 use crate::logging::log_region;
 use crate::playing::replay_region;
 use crate::report::{Report, Status};
-use crate::scanning::scan_region;
+use crate::scan_ranges::scan_region;
 use fs_text::{Sink, Source};
 use pm_region::{ReadRegion, SplitRegion};
 use std::alloc::Global;

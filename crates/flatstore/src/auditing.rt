@@ -1,8 +1,6 @@
 // The replies of the input are judged.
 ghost use Rattle.std.specs.Prelude.{◌≡◌, ◌≤◌, ℕ, true, false, IfOk, IfErr};
-ghost use Rattle.pm_region.specs.State.{IsTelling};
 ghost use Rattle.pm_region.specs.Split.{Attached};
-ghost use Rattle.pm_region.specs.Words.{lasts};
 ghost use Rattle.group_engine.specs.Replayed.{StandsAsFound};
 ghost use Rattle.headline.specs.Headline.{cells_of};
 ghost use Rattle.run_audit.specs.FirstFault.{Judges, cells_in};
@@ -20,23 +18,23 @@ use crate::report::{Report, Status};
 use crate::workers::Workers;
 use fs_errors::Memory;
 use fs_text::{OutError, Sink, Source};
-use pm_region::{AttachError, ReadRegion, SplitRegion};
+use pm_region::{AttachError, ReadRegion, Snapshot, SplitRegion};
 use recover::{Recovered, pairs};
 use run_audit::{AuditInput, StartCell, Verdict, audit, read_audit, write_verdict};
 use std::alloc::Global;
 use std::thread::Threads;
 
-/// The live pairs of a region of which this was recovered.
+/// The live pairs of the words that a region reads, of which this was recovered.
 fn start_cells<R: SplitRegion + ReadRegion>(
     alloc: Global,
     region: &R,
     recovered: &Recovered,
 ) -> Result<Vec<StartCell>, Memory>
     requires { StandsAsFound (R.state region.now) (R.word region.now) recovered.now }
-    ensures { IfOk result (λ cells. IsTelling (R.state region.now)
-        → ListsCells (cells_of (lasts (R.state region.now))) cells.items) }
+    ensures { IfOk result (λ cells. ListsCells (cells_of (R.word region.now)) cells.items) }
 {
-    pairs(alloc, region, recovered)
+    let view = Snapshot::of(region);
+    pairs(alloc, &view, recovered)
 }
 
 /// Reads the input of an audit to its end, for a region of so many cores.
@@ -81,9 +79,9 @@ fn judged_from<T: Threads + Sync, S: Source, R: SplitRegion + ReadRegion>(
     requires stands { StandsAsFound (R.state region.now) (R.word region.now) recovered.now }
     requires some { 1 ≤ workers }
     requires few { workers ≤ 16 }
-    ensures judged { IfOk result (IsJudged (R.state region.now)
+    ensures judged { IfOk result (IsJudged (R.state region.now) (R.word region.now)
         (source_use S.coming S.fault_count source.old source.new)) }
-    ensures refused { IfErr result (IsUnjudged (R.state region.now)
+    ensures refused { IfErr result (IsUnjudged (R.state region.now) (R.word region.now)
         (source_use S.coming S.fault_count source.old source.new)) }
     ensures unread { IfErr result (λ status. is_of_region status ≡ false) }
 {
@@ -111,9 +109,9 @@ fn judged<T: Threads + Sync, S: Source, R: SplitRegion + ReadRegion>(
     requires whole { StandsWhole (R.state region.now) }
     requires some { 1 ≤ workers }
     requires few { workers ≤ 16 }
-    ensures judged { IfOk result (IsJudged (R.state region.now)
+    ensures judged { IfOk result (IsJudged (R.state region.now) (R.word region.now)
         (source_use S.coming S.fault_count source.old source.new)) }
-    ensures refused { IfErr result (IsUnjudged (R.state region.now)
+    ensures refused { IfErr result (IsUnjudged (R.state region.now) (R.word region.now)
         (source_use S.coming S.fault_count source.old source.new)) }
     // A region that breaks a rule goes before the source.
     ensures unread { IfErr result (λ status. is_of_region status ≡ true → source.new ≡ source.old) }
@@ -158,6 +156,7 @@ pub fn audit_region<T: Threads + Sync, S: Source, O: Sink, R: SplitRegion + Read
     workers: Workers,
 ) -> Report
     ensures promise { Audits (R.state region.old) (R.state region.new) (R.found region.old)
+        (R.word region.new)
         (source_use S.coming S.fault_count source.old source.new)
         (sink_use O.taken O.flushed O.fault_count sink.old sink.new) result }
     ensures faults { CountsFaults (R.state region.old) (R.state region.new)

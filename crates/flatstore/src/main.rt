@@ -40,9 +40,9 @@ mod report;
 #[cfg(test)]
 mod row_tests;
 mod run_threads;
+mod scan_ranges;
 #[cfg(test)]
 mod scan_tests;
-mod scanning;
 #[cfg(test)]
 mod tests;
 #[cfg(test)]

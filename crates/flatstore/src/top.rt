@@ -101,10 +101,10 @@ pub fn flatstore<
         (G.may_refuse gate.now) cores input
         (sink_use O.taken O.flushed O.fault_count sink.old sink.new) result }
 
-    // The verdict is that on the replies of the input, from the cells that the words of the region recover.
+    // The verdict is that on the replies of the input, from the cells that the words read recover.
     ensures audit { (path : List ℕ) (workers : ℕ)
         → form_of (words_of words.now.items) ≡ Some (Audit path workers)
-        → Audits (R.state region.old) (R.state region.new) (R.found region.old)
+        → Audits (R.state region.old) (R.state region.new) (R.found region.old) (R.word region.new)
         (source_use S.coming S.fault_count source.old source.new)
         (sink_use O.taken O.flushed O.fault_count sink.old sink.new) result
         × ReportsNothing result }

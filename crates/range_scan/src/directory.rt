@@ -11,10 +11,10 @@ ghost use Rattle.range_scan.specs.LiveKeys.{AreLiveKeys};
 ghost use Rattle.range_scan.specs.Starts.{AreStartsOf, AreStartsIn, HasLivePairs};
 ghost use Rattle.range_scan.specs.Pages.{shown};
 
-use crate::live_keys::live_keys;
+use crate::keys_of_cores::live_keys;
 use crate::page::Page;
+use crate::page_values::pairs_at;
 use crate::ranging::keys_within;
-use crate::values::pairs_at;
 use fs_errors::Memory;
 use fs_model::Key;
 use pm_region::Region;

@@ -5,11 +5,11 @@
 #![tactic(auto)]
 
 mod directory;
-mod live_keys;
-mod merging;
+mod key_union;
+mod keys_of_cores;
 mod page;
+mod page_values;
 mod ranging;
-mod values;
 
 pub use directory::Directory;
 pub use page::Page;

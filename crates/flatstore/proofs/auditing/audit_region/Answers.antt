@@ -13,11 +13,13 @@ returns-in-Err-clause-promise g c =
     let old = g.R.Region.state c.args.region.now in
     let at = g.R.Region.state c.attach.new.self in
     let found = g.R.SplitRegion.found c.args.region.now in
+    let word = g.R.ReadRegion.word c.attach.new.self in
+    let tells = g.met.R.ReadRegion.tells c.attach.new.self in
     let source = source_use g.S.Source.coming g.S.Source.fault_count c.args.source.now c.judged.new.source in
     let sink = sink_use g.O.Sink.taken g.O.Sink.flushed g.O.Sink.fault_count c.args.sink.now c.args.sink.now in
     record {
       attaches = attaches_once old at at found c.attach.result _ c.in-Ok.is c.attach.ensures.cause c.in-Ok.ensures.ok c.attach.ensures.opens (no_more at) c.of-in-Err.result c.of-in-Err.ensures.attached;
-      audits = λ attached. unjudged_audits old at found c.in-Ok.ensures.ok source sink c.in-Err.status c.in-Err.ensures.refused c.of-in-Err.result c.of-in-Err.ensures.status c.of-in-Err.ensures.complete;
+      audits = λ attached. unjudged_audits old at found word c.in-Ok.ensures.ok tells source sink c.in-Err.status c.in-Err.ensures.refused c.of-in-Err.result c.of-in-Err.ensures.status c.of-in-Err.ensures.complete;
     }
 
 pub returns-in-Ok-judged-clause-promise : goal.returns-in-Ok-judged-clause-promise
@@ -25,11 +27,13 @@ returns-in-Ok-judged-clause-promise g c =
     let old = g.R.Region.state c.args.region.now in
     let at = g.R.Region.state c.attach.new.self in
     let found = g.R.SplitRegion.found c.args.region.now in
+    let word = g.R.ReadRegion.word c.attach.new.self in
+    let tells = g.met.R.ReadRegion.tells c.attach.new.self in
     let source = source_use g.S.Source.coming g.S.Source.fault_count c.args.source.now c.judged.new.source in
     let sink = sink_use g.O.Sink.taken g.O.Sink.flushed g.O.Sink.fault_count c.args.sink.now c.write_audit.new.sink in
     record {
       attaches = attaches_once old at at found c.attach.result _ c.in-Ok.is c.attach.ensures.cause c.in-Ok.ensures.ok c.attach.ensures.opens (no_more at) c.write_audit.result c.write_audit.ensures.attached;
-      audits = λ attached. judged_audits old at found c.in-Ok.ensures.ok source sink c.in-Ok-judged.verdict c.in-Ok-judged.ensures.judged c.write_audit.result c.write_audit.ensures.written c.write_audit.ensures.complete;
+      audits = λ attached. judged_audits old at found word c.in-Ok.ensures.ok tells source sink c.in-Ok-judged.verdict c.in-Ok-judged.ensures.judged c.write_audit.result c.write_audit.ensures.written c.write_audit.ensures.complete;
     }
 
 pub returns-in-Err-clause-faults : goal.returns-in-Err-clause-faults
@@ -38,7 +42,7 @@ returns-in-Err-clause-faults g c =
     let at = g.R.Region.state c.attach.new.self in
     let source = source_use g.S.Source.coming g.S.Source.fault_count c.args.source.now c.judged.new.source in
     let sink = sink_use g.O.Sink.taken g.O.Sink.flushed g.O.Sink.fault_count c.args.sink.now c.args.sink.now in
-    subst (λ status. CountsFaults old at source sink status) (sym c.of-in-Err.ensures.status) (unjudged_counts old at source sink c.in-Err.status c.in-Err.ensures.refused)
+    subst (λ status. CountsFaults old at source sink status) (sym c.of-in-Err.ensures.status) (unjudged_counts old at (g.R.ReadRegion.word c.attach.new.self) source sink c.in-Err.status c.in-Err.ensures.refused)
 
 pub returns-in-Ok-judged-clause-faults : goal.returns-in-Ok-judged-clause-faults
 returns-in-Ok-judged-clause-faults g c =
@@ -52,7 +56,7 @@ pub returns-in-Err-clause-no_usage : goal.returns-in-Err-clause-no_usage
 returns-in-Err-clause-no_usage g c = λ e.
     let at = g.R.Region.state c.attach.new.self in
     let source = source_use g.S.Source.coming g.S.Source.fault_count c.args.source.now c.judged.new.source in
-    unjudged_usage at source c.in-Err.status c.in-Err.ensures.refused (sym c.of-in-Err.ensures.status ∙ e)
+    unjudged_usage at (g.R.ReadRegion.word c.attach.new.self) source c.in-Err.status c.in-Err.ensures.refused (sym c.of-in-Err.ensures.status ∙ e)
 
 pub returns-in-Ok-judged-clause-no_usage : goal.returns-in-Ok-judged-clause-no_usage
 returns-in-Ok-judged-clause-no_usage g c = λ e.

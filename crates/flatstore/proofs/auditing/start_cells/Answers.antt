@@ -1,9 +1,12 @@
-use Rattle.flatstore.proofs.Judging.{covers, found_last}
+use Rattle.std.proofs.Common.{List}
+use Rattle.store_image.specs.Listing.{ListsCells}
+use Rattle.headline.specs.Headline.{cells_of}
+use Rattle.flatstore.proofs.Judging.{covers, found_read}
+use Rattle.flatstore.proofs.Viewed.{by_view}
 use Rattle.flatstore.proofs.auditing.start_cells.Goals as goal
 
 pub pairs-requires-clause-covers : goal.pairs-requires-clause-covers
-pairs-requires-clause-covers g c = covers (g.R.Region.state c.args.region.now) (g.R.ReadRegion.word c.args.region.now) c.args.recovered.now c.requires
+pairs-requires-clause-covers g c = covers (g.R.Region.state c.args.region.now) (g.R.ReadRegion.word c.args.region.now) c.args.recovered.now c.requires _ c.of-view.ensures
 
 pub pairs-requires-clause-found : goal.pairs-requires-clause-found
-pairs-requires-clause-found g c =
-    found_last (g.R.Region.state c.args.region.now) (g.R.ReadRegion.word c.args.region.now) (λ w telling. g.met.R.ReadRegion.tells c.args.region.now w telling) c.args.recovered.now c.requires
+pairs-requires-clause-found g c = found_read (g.R.Region.state c.args.region.now) (g.R.ReadRegion.word c.args.region.now) c.args.recovered.now c.requires _ c.of-view.ensures
