@@ -15,6 +15,7 @@ no_state = record {
     bytes = 64;
     refusals = 0;
     opens = 0;
+    validations = 0;
   };
   stamp = 2 ^ 64 - 1;
   faults = 0;

@@ -32,4 +32,4 @@ attached_own old mid new bytes image is = record {
 }
 
 pub volume_finds : (v : Volume) (r n w : ℕ) → IsTelling (volume_state v r n) → InRange (volume_state v r n).frame w → MayBe (cell_now (volume_state v r n) w) (found_in v w)
-volume_finds v r n w telling within = may_find v.history v.attached v.parted v.cuts.items v.bytes v.opens r n v.at_zero w telling within
+volume_finds v r n w telling within = may_find v.history v.attached v.parted v.cuts.items v.bytes v.opens v.validations r n v.at_zero w telling within

@@ -9,6 +9,10 @@ pub on_ok : {A E : Type 0} {P Q : Type 0} (r : Result A E) → (P → Q) → OnO
 on_ok (Ok a) so holds = so holds
 on_ok (Err e) so holds = tt
 
+pub err_so : {A E : Type 0} {P Q : Type 0} (r : Result A E) → (P → Q) → OnErr r P → OnErr r Q
+err_so (Ok a) so holds = tt
+err_so (Err e) so holds = so holds
+
 error_or : {A E : Type 0} → E → Result A E → E
 error_or d (Ok a) = d
 error_or d (Err e) = e

@@ -36,10 +36,11 @@ file_piece_state p = silent_state
       bytes = 0;
       refusals = 0;
       opens = 0;
+      validations = 0;
     }) p.stamp p.faults
 
-abbrev pub file_frame : ℕ → Bool → List ℕ → ℕ → ℕ → ℕ → Frame
-file_frame size parted cuts since refusals opens = record {
+abbrev pub file_frame : ℕ → Bool → List ℕ → ℕ → ℕ → ℕ → ℕ → Frame
+file_frame size parted cuts since refusals opens validations = record {
   first = 0;
   words = if parted then 0 else words_in size;
   since = since;
@@ -48,13 +49,14 @@ file_frame size parted cuts since refusals opens = record {
   bytes = size;
   refusals = refusals;
   opens = opens;
+  validations = validations;
 }
 
 abbrev pub file_state : {R F : Type 0} {reads : Read.Ghosts File} {writes : Write.Ghosts File}
     {seeks : Seek.Ghosts File} {lists : Read.Ghosts F} → FileRegion R F reads writes seeks lists
     → State
 file_state r = silent_state (file_frame r.words.size r.parted r.cuts.items r.since r.refusals
-    r.opens) r.stamp r.faults
+    r.opens r.validations) r.stamp r.faults
 
 -- The piece from one cut to the next of these words, at this stamp and count. It has opened the file of this name for
 -- itself, whose length was that of the words.

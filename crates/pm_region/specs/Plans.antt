@@ -31,14 +31,15 @@ one_more calls = record calls { made = counted calls.made }
 abbrev pub from_the_start : Calls → Calls
 from_the_start calls = record calls { made = 0 }
 
--- The plan of a region: its calls of attach, create and split together, its own fences since it was attached or created,
+-- The plan of a region: its calls of attach, create, split and revalidate together, its own fences since it was attached
+-- or created,
 -- and the fences that are to fail in the pieces of a split.
 pub record Plan : Type 0 where
   pub opens : Calls
   pub fences : Calls
   pub in_pieces : List FenceNumber
 
--- after one more call of attach, create or split
+-- after one more call of attach, create, split or revalidate
 abbrev pub opened : Plan → Plan
 opened p = record p { opens = one_more p.opens }
 

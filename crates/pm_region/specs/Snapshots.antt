@@ -15,6 +15,7 @@ from_zero f = record {
   bytes = f.bytes;
   refusals = f.refusals;
   opens = f.opens;
+  validations = f.validations;
 }
 
 -- The state of a snapshot of a region with these words, after so many calls: only its first moment is told.

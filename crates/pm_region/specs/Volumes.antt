@@ -11,9 +11,9 @@ use Rattle.pm_region.specs.declared.volume.Volume.{Volume}
 abbrev pub words_open : History → Bool → Bool → ℕ
 words_open h attached parted = if attached && not parted then length h.words.items else 0
 
--- the frame and the state, from the parts of a volume, with o opens, r refusals and n faults
-abbrev pub frame_of : History → Bool → Bool → List ℕ → ℕ → ℕ → ℕ → Frame
-frame_of h attached parted cuts bytes o r = record {
+-- the frame and the state, from the parts of a volume, with o opens, a answers of `revalidate`, r refusals and n faults
+abbrev pub frame_of : History → Bool → Bool → List ℕ → ℕ → ℕ → ℕ → ℕ → Frame
+frame_of h attached parted cuts bytes o a r = record {
   first = 0;
   words = words_open h attached parted;
   since = h.journal.since;
@@ -22,17 +22,19 @@ frame_of h attached parted cuts bytes o r = record {
   bytes = bytes;
   refusals = r;
   opens = o;
+  validations = a;
 }
 
-abbrev pub state_with : History → Bool → Bool → List ℕ → ℕ → ℕ → ℕ → ℕ → State
-state_with h attached parted cuts bytes o r n = history_state
-    (frame_of h attached parted cuts bytes o r) n h
+abbrev pub state_with : History → Bool → Bool → List ℕ → ℕ → ℕ → ℕ → ℕ → ℕ → State
+state_with h attached parted cuts bytes o a r n = history_state
+    (frame_of h attached parted cuts bytes o a r) n h
 
 abbrev pub volume_words : Volume → ℕ
 volume_words v = words_open v.history v.attached v.parted
 
 abbrev pub volume_state : Volume → ℕ → ℕ → State
-volume_state v r n = state_with v.history v.attached v.parted v.cuts.items v.bytes v.opens r n
+volume_state v r n = state_with v.history v.attached v.parted v.cuts.items v.bytes v.opens v.validations r
+    n
 
 -- the words that an attach finds
 abbrev pub found_in : Volume → ℕ → ℕ
@@ -53,6 +55,7 @@ part_frame h = record {
   bytes = 0;
   refusals = 0;
   opens = 0;
+  validations = 0;
 }
 
 abbrev pub part_state : History → ℕ → State

@@ -7,7 +7,7 @@ ghost use Rattle.pm_region.specs.Split.{words_in, AreCuts};
 use crate::byte_words::word_count;
 use crate::calls::Calls;
 use crate::device::Device;
-use crate::file_open::{create_words, fence_file, open_words, write_pending};
+use crate::file_open::{create_words, fence_file, find_in_place, open_words, write_pending};
 use crate::file_piece::FilePiece;
 use crate::file_pieces::{absorb_all, file_pieces, latest_of, most_faults};
 use crate::file_words::FileWords;
@@ -37,6 +37,7 @@ pub struct FileRegion<R: Files<File = File> + Drop> {
     faults: u64,
     refusals: u64,
     opens: u64,
+    validations: u64,
     /// What the last attach, create or split tried, where it was refused. Only clauses read it.
     tried: Calls,
     ghost cuts_fit: { AreCuts (words_in words.size) cuts.items },
@@ -50,7 +51,8 @@ impl<R: Files<File = File> + Drop> FileRegion<R> {
         ensures closed { ((file_state result).frame.words ≡ 0)
             × ((file_state result).frame.parted ≡ false) }
         ensures counts { ((file_state result).faults ≡ 0) × ((file_state result).frame.refusals ≡ 0)
-            × ((file_state result).frame.opens ≡ 0) }
+            × ((file_state result).frame.opens ≡ 0)
+            × ((file_state result).frame.validations ≡ 0) }
     {
         let alloc = *path.allocator();
         FileRegion {
@@ -65,6 +67,7 @@ impl<R: Files<File = File> + Drop> FileRegion<R> {
             faults: 0,
             refusals: 0,
             opens: 0,
+            validations: 0,
             tried: Calls::none(),
         }
     }
@@ -163,9 +166,9 @@ impl<R: Files<File = File> + Drop> ReadRegion for FileRegion<R> {
 
 impl<R: Files<File = File> + Drop> SplitRegion for FileRegion<R> {
     ghost use Rattle.pm_region.specs.Files.{file_state, file_piece_state, file_frame, AreFileParts, HaveTaken, HasOpened, HasMade};
-    ghost use Rattle.pm_region.specs.Calls.{AreReads};
-    ghost use Rattle.pm_region.specs.Filed.{flushes, calls_on, IsSettled, IsNotSplit, IsNotAttached, IsNotMade};
-    ghost use Rattle.pm_region.specs.Split.{Attached, Stays, Refuses, IsPiece, Parted, CameFrom, TakesPiece, Joined, IsOpenedOnceMore, IsNotOpened, ComesNext};
+    ghost use Rattle.pm_region.specs.Calls.{AreReads, OnlyReads};
+    ghost use Rattle.pm_region.specs.Filed.{flushes, calls_on, looked, IsSettled, IsNotSplit, IsNotAttached, IsNotMade};
+    ghost use Rattle.pm_region.specs.Split.{Attached, Stays, Refuses, IsPiece, Parted, CameFrom, TakesPiece, Joined, IsOpenedOnceMore, IsNotOpened, IsRevalidated, IsOutOfPlace, IsNotRevalidated, ComesNext};
 
     type Piece = FilePiece;
 
@@ -186,6 +189,7 @@ impl<R: Files<File = File> + Drop> SplitRegion for FileRegion<R> {
             → InRange (file_state self.old).frame w → MayBe (cell_now (file_state self.old) w) 0 }
         ensures words { OnOk result ((w : ℕ) → InRange (file_state self.new).frame w → 0 < 2 ^ 64) }
         ensures opens { IsOpenedOnceMore (file_state self.old) (file_state self.new) }
+        ensures validations { IsNotRevalidated (file_state self.old) (file_state self.new) }
         ensures opened { OnOk result (HasOpened (string_bytes self.old.path) self.new.device
             self.new.words) }
         ensures refused { OnErr result (IsNotAttached (string_bytes self.old.path)
@@ -214,6 +218,7 @@ impl<R: Files<File = File> + Drop> SplitRegion for FileRegion<R> {
         ensures none { OnErr result ((file_state self.new).frame.words ≡ 0) }
         ensures cause { Refuses (file_state self.old) (file_state self.new) result }
         ensures opens { IsOpenedOnceMore (file_state self.old) (file_state self.new) }
+        ensures validations { IsNotRevalidated (file_state self.old) (file_state self.new) }
         ensures made { OnOk result (HasMade (string_bytes self.old.path) words self.new.device
             self.new.words) }
         ensures refused { OnErr result (IsNotMade (string_bytes self.old.path) words
@@ -235,6 +240,27 @@ impl<R: Files<File = File> + Drop> SplitRegion for FileRegion<R> {
         }
     }
 
+    fn revalidate(&mut self) -> Result<(), RegionFault>
+        ensures ok { OnOk result (IsRevalidated (file_state self.old) (file_state self.new)) }
+        ensures err { OnErr result (IsOutOfPlace (file_state self.old) (file_state self.new)) }
+        ensures words { self.new.words ≡ self.old.words }
+        ensures found { OnOk result (calls_on self.new.device ≡ looked (string_bytes self.old.path)
+            self.old.words.size (calls_on self.old.device)) }
+        ensures not_found { OnErr result (OnlyReads (calls_on self.old.device)
+            (calls_on self.new.device)) }
+    {
+        match find_in_place(&self.rt, &self.path, self.words.size, &mut self.device) {
+            Ok(()) => {
+                self.validations = self.validations.saturating_add(1);
+                Ok(())
+            }
+            Err(e) => {
+                self.faults = self.faults.saturating_add(1);
+                Err(e)
+            }
+        }
+    }
+
     fn split(&mut self, alloc: Global, cuts: &[u64]) -> Result<Vec<FilePiece>, AttachError>
         requires whole { (file_state self.old).frame.parted ≡ false }
         requires cuts { AreCuts (file_state self.old).frame.words cuts.now }
@@ -246,6 +272,7 @@ impl<R: Files<File = File> + Drop> SplitRegion for FileRegion<R> {
         ensures err { OnErr result (Stays (file_state self.old) (file_state self.new)) }
         ensures cause { Refuses (file_state self.old) (file_state self.new) result }
         ensures opens { IsNotOpened (file_state self.old) (file_state self.new) }
+        ensures validations { IsNotRevalidated (file_state self.old) (file_state self.new) }
         ensures parts { IfOk result (λ pieces. AreFileParts (string_bytes self.old.path)
             self.old.words cuts.now self.old.stamp self.old.faults pieces.items
             (length cuts.now - 1)) }
@@ -298,6 +325,7 @@ impl<R: Files<File = File> + Drop> SplitRegion for FileRegion<R> {
         ensures next { ComesNext file_piece_state (file_state self.old) (file_state self.new)
             pieces.items }
         ensures opens { IsNotOpened (file_state self.old) (file_state self.new) }
+        ensures validations { IsNotRevalidated (file_state self.old) (file_state self.new) }
         ensures taken { HaveTaken self.old.words self.new.words pieces.items (length pieces.items) }
     {
         let latest = latest_of(&pieces, self.stamp);
@@ -316,7 +344,8 @@ impl<R: Files<File = File> + Drop> FileRegion<R> {
     // Begins with these words.
     fn begin(&mut self, words: FileWords)
         ensures frame { ((file_state self.new).frame ≡ file_frame words.size false [] 0
-            self.old.refusals self.old.opens) × ((file_state self.new).stamp ≡ 0) }
+            self.old.refusals self.old.opens self.old.validations)
+            × ((file_state self.new).stamp ≡ 0) }
         ensures counts { (self.new.faults ≡ self.old.faults)
             × (self.new.refusals ≡ self.old.refusals) }
         ensures file { (self.new.device ≡ self.old.device) × (self.new.words ≡ words) }

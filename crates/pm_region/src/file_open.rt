@@ -176,9 +176,37 @@ fn fence_device<R: Files<File = File>>(
     ensures err_calls { OnErr result (IsNotFenced words.new 0 device.old.calls.made
         (looked path.now words.old.size device.old.calls.made) device.new.calls.made) }
 {
-    device.stand(rt, path)?;
-    check_size(device, words.size)?;
+    look(rt, path, words.size, device)?;
     words.write_flushed(device, 0)
+}
+
+/// Asks whether the name still leads to the file, and whether the file has so many bytes. Without a file it is a fault.
+pub fn find_in_place<R: Files<File = File>>(
+    rt: &R,
+    path: &str,
+    size: u64,
+    device: &mut Option<Device>,
+) -> Result<(), RegionFault>
+    ensures ok { OnOk result (calls_on device.new ≡ looked path.now size (calls_on device.old)) }
+    ensures err { OnErr result (OnlyReads (calls_on device.old) (calls_on device.new)) }
+{
+    match device {
+        Some(device) => look(rt, path, size, device),
+        None => Err(RegionFault),
+    }
+}
+
+fn look<R: Files<File = File>>(
+    rt: &R,
+    path: &str,
+    size: u64,
+    device: &mut Device,
+) -> Result<(), RegionFault>
+    ensures ok { OnOk result (device.new.calls.made ≡ looked path.now size device.old.calls.made) }
+    ensures err { OnErr result (OnlyReads device.old.calls.made device.new.calls.made) }
+{
+    device.stand(rt, path)?;
+    check_size(device, size)
 }
 
 /// Asks whether the file still has so many bytes.

@@ -3,6 +3,7 @@ ghost use Rattle.std.specs.Prelude.{◌≡◌, ◌↔◌, ℕ, ◌+◌, ◌-◌,
 ghost use Rattle.pm_region.specs.State.{Rose, counted};
 ghost use Rattle.pm_region.specs.Plans.{numbers_in, is_one_of};
 
+use crate::region::RegionFault;
 use crate::split::AttachError;
 use std::alloc::{AllocError, Global};
 
@@ -16,8 +17,8 @@ pub struct FenceNumber {
     pub number: u64,
 }
 
-/// What is to fail: of the calls of attach, create and split together those with these numbers, counted from 1, and
-/// these fences.
+/// What is to fail: of the calls of attach, create, split and revalidate together those with these numbers, counted
+/// from 1, and these fences.
 #[derive(Debug, Drop)]
 pub struct Faults {
     /// In any order.
@@ -26,14 +27,15 @@ pub struct Faults {
     pub fences: Vec<FenceNumber>,
 }
 
-/// The counts of a region: of faults, of refused calls of attach, create and split, and of all these calls.
+/// The counts of a region: of faults, of refused calls of attach, create and split, and of all these calls and
+/// revalidations.
 #[derive(Drop)]
 pub struct Counts {
-    /// Each call that failed counts: attach, create, split and fence.
+    /// Each call that failed counts: attach, create, split, revalidate and fence.
     pub faults: u64,
     /// Each attach, create and split that failed counts.
     pub refusals: u64,
-    /// Each attach, create and split counts, failed or not.
+    /// Each attach, create, split and revalidation counts, failed or not.
     pub opens: u64,
     /// Which calls are to fail.
     pub plan: Faults,
@@ -58,6 +60,24 @@ impl Counts {
             self.refusals = self.refusals.saturating_add(1);
             self.faults = self.faults.saturating_add(1);
             return Err(AttachError::RegionFault);
+        }
+        Ok(())
+    }
+
+    /// Counts a revalidation, which fails by the plan. One that failed is no refused call.
+    pub fn revalidate(&mut self) -> Result<(), RegionFault>
+        ensures fault { OnErr result (Rose self.old.faults self.new.faults) }
+        ensures ok { OnOk result (self.new.faults ≡ self.old.faults) }
+        ensures refusals { self.new.refusals ≡ self.old.refusals }
+        ensures plan { IsErr result ↔ (is_one_of (counted self.old.opens) self.old.plan.opens.items
+            ≡ true) }
+        ensures counted { (self.new.opens ≡ counted self.old.opens)
+            × (self.new.plan ≡ self.old.plan) }
+    {
+        self.opens = self.opens.saturating_add(1);
+        if self.plan.opens.contains(&self.opens) {
+            self.faults = self.faults.saturating_add(1);
+            return Err(RegionFault);
         }
         Ok(())
     }

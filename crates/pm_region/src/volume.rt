@@ -14,7 +14,8 @@ use crate::region_sizes::{LINE_WORDS, MOST_WORDS, WORD_BYTES};
 use std::alloc::{AllocError, Global};
 
 /// Words in memory with their whole history, and how they are attached and split. `bytes` is the length of what an
-/// attach finds, which need not be whole words; `opens` counts the calls of attach and create.
+/// attach finds, which need not be whole words; `opens` counts the calls of attach and create,
+/// `validations` the answers of revalidate.
 #[derive(Drop)]
 pub struct Volume {
     /// The words, of an attach that is still to come too.
@@ -29,6 +30,8 @@ pub struct Volume {
     pub cuts: Vec<u64>,
     /// Answered or refused. A split does not count here.
     pub opens: u64,
+    /// How often it was found in its place.
+    pub validations: u64,
     ghost at_zero: { history.first ≡ 0 },
     ghost long: { length history.words.items ≡ words_in bytes },
     ghost shared: { parted ≡ true → length cuts.items ≤ history.journal.shares },
@@ -57,6 +60,7 @@ impl Volume {
             parted: false,
             cuts: Vec::new(alloc),
             opens: 0,
+            validations: 0,
         })
     }
 
@@ -80,6 +84,7 @@ impl Volume {
             parted: false,
             cuts: Vec::new(alloc),
             opens: 0,
+            validations: 0,
         })
     }
 
@@ -149,6 +154,7 @@ impl Volume {
             → found_in self.old w < 2 ^ 64) }
         ensures err { OnErr result (self.new ≡ self.old) }
         ensures opens { self.new.opens ≡ self.old.opens }
+        ensures validations { self.new.validations ≡ self.old.validations }
         ensures limit { limit_of self.new ≡ limit_of self.old }
     {
         self.history.restart(alloc)?;
@@ -164,6 +170,7 @@ impl Volume {
         ensures ok { OnOk result (VolumeAttached self.old self.new (WORD_BYTES * words) (λ w. 0)) }
         ensures err { OnErr result (self.new ≡ self.old) }
         ensures opens { self.new.opens ≡ self.old.opens }
+        ensures validations { self.new.validations ≡ self.old.validations }
         ensures limit { limit_of self.new ≡ limit_of self.old }
     {
         let zeros = vec![in alloc; 0; words as usize]?;
@@ -184,6 +191,7 @@ impl Volume {
         ensures ok { OnOk result (VolumeParted self.old self.new cuts.items) }
         ensures err { OnErr result (VolumeStays self.old self.new) }
         ensures opens { self.new.opens ≡ self.old.opens }
+        ensures validations { self.new.validations ≡ self.old.validations }
         ensures limit { limit_of self.new ≡ limit_of self.old }
     {
         self.history.make_room(pieces)?;
@@ -203,6 +211,7 @@ impl Volume {
             → TakesPart self.new (P.part (slice_index_or pieces.now i p)) }
         ensures next { ComesAfter P.part self.old self.new pieces.now }
         ensures opens { self.new.opens ≡ self.old.opens }
+        ensures validations { self.new.validations ≡ self.old.validations }
         ensures limit { limit_of self.new ≡ limit_of self.old }
     {
         let before = self.history.journal.is_complete();

@@ -249,3 +249,31 @@ fn snapshot_of_a_file(rt: HostRuntime) -> Result<(), Fail> {
     fs::remove_file(&rt, name)?;
     Ok(())
 }
+
+// A file is in its place while its name leads to it and it has its length.
+#[test]
+fn the_place_of_a_file(rt: HostRuntime) -> Result<(), Fail> {
+    let alloc = rt.alloc();
+    let name = "pm_region_the_place_of_a_file";
+    let away = "pm_region_the_place_of_a_file_before";
+    let mut region = FileRegion::at(rt.clone()?, String::from_str(alloc, name)?);
+    // Without a file it has no place.
+    assert_eq!(rt; region.revalidate(), Err(RegionFault));
+    region.create(alloc, 16)?;
+    put(&mut region, 3, 9);
+    assert_eq!(rt; region.revalidate(), Ok(()));
+    fs::rename(&rt, name, away)?;
+    assert_eq!(rt; region.revalidate(), Err(RegionFault));
+    let other = vec![in alloc; 0u8; 128]?;
+    fs::write(&rt, name, other.as_slice())?;
+    assert_eq!(rt; region.revalidate(), Err(RegionFault));
+    fs::rename(&rt, away, name)?;
+    assert_eq!(rt; region.revalidate(), Ok(()));
+    let longer = vec![in alloc; 0u8; 192]?;
+    fs::write(&rt, name, longer.as_slice())?;
+    assert_eq!(rt; region.revalidate(), Err(RegionFault));
+    assert_eq!(rt; region.faults(), 4);
+    assert_eq!(rt; get(&region, 3), 9);
+    fs::remove_file(&rt, name)?;
+    Ok(())
+}

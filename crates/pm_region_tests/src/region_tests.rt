@@ -207,6 +207,27 @@ fn faults_of_a_piece(rt: HostRuntime) -> Result<(), Fail> {
     Ok(())
 }
 
+// Attaches, splits and revalidations share the numbers of the plan.
+#[test]
+fn a_place_that_is_lost(rt: HostRuntime) -> Result<(), Fail> {
+    let alloc = rt.alloc();
+    let bytes = vec![in alloc; 0u8; 64]?;
+    let opens = vec![in alloc; 3, 5]?;
+    let fences = Vec::new(alloc);
+    let mut region = MemRegion::new(alloc, bytes, 100, Faults { opens, fences })?;
+    region.attach(alloc)?;
+    assert_eq!(rt; region.revalidate(), Ok(()));
+    assert_eq!(rt; region.faults(), 0);
+    assert_eq!(rt; region.revalidate(), Err(RegionFault));
+    assert_eq!(rt; region.faults(), 1);
+    assert_eq!(rt; region.words(), 8);
+    assert_eq!(rt; region.revalidate(), Ok(()));
+    assert_eq!(rt; region.attach(alloc), Err(AttachError::RegionFault));
+    let mut steady = SteadyRegion::new(alloc, Vec::new(alloc), 4)?;
+    assert_eq!(rt; steady.revalidate(), Ok(()));
+    Ok(())
+}
+
 // What is stored in a snapshot is not kept, and the region is as it was.
 #[test]
 fn words_of_a_snapshot(rt: HostRuntime) -> Result<(), Fail> {

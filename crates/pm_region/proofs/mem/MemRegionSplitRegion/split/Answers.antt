@@ -14,7 +14,7 @@ returns-clause-pieces c =
     let within : i < length c.args.cuts.now - 1 = omega (arith, lt, c.in_ok-pieces.ensures.parts.count) in
     let piece = get_or c.in_ok-pieces.pieces.items i p in
     subst (λ (m : ℕ). IsPiece (volume_state v r n) c.args.cuts.now i (part_state piece.history m)) (sym ((c.in_ok-pieces.ensures.plan.each i p within).0 ∙ c.in_ok-open.ensures.ok.0))
-    (is_piece (frame_of v.history v.attached v.parted v.cuts.items v.bytes v.opens r) n v.history piece.history c.args.cuts.now i refl v.at_zero (c.requires.cuts.rising i (omega arith)) (c.in_ok-pieces.ensures.parts.each i p within))
+    (is_piece (frame_of v.history v.attached v.parted v.cuts.items v.bytes v.opens v.validations r) n v.history piece.history c.args.cuts.now i refl v.at_zero (c.requires.cuts.rising i (omega arith)) (c.in_ok-pieces.ensures.parts.each i p within))
 
 pub returns-in_err-part-clause-err : goal.returns-in_err-part-clause-err
 returns-in_err-part-clause-err c = on_err _ _ (c.in_err-part.ensures.err _ _ _ _)

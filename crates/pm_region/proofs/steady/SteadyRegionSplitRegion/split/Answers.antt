@@ -11,7 +11,7 @@ returns-clause-pieces c =
     let v = c.args.self.now.volume in
     λ i p lt.
     let within : i < length c.args.cuts.now - 1 = omega (arith, lt, c.in_ok-pieces.ensures.count) in
-    is_piece (frame_of v.history v.attached v.parted v.cuts.items v.bytes v.opens 0) 0 v.history _ c.args.cuts.now i refl v.at_zero (c.requires.cuts.rising i (omega arith)) (c.in_ok-pieces.ensures.each i p within)
+    is_piece (frame_of v.history v.attached v.parted v.cuts.items v.bytes v.opens v.validations 0) 0 v.history _ c.args.cuts.now i refl v.at_zero (c.requires.cuts.rising i (omega arith)) (c.in_ok-pieces.ensures.each i p within)
 
 pub returns-in_err-part-clause-err : goal.returns-in_err-part-clause-err
 returns-in_err-part-clause-err c = on_err _ _ (c.in_err-part.ensures.err 0 0 0 0)
@@ -19,4 +19,4 @@ returns-in_err-part-clause-err c = on_err _ _ (c.in_err-part.ensures.err 0 0 0 0
 pub returns-clause-ok : goal.returns-clause-ok
 returns-clause-ok c =
     let same = c.in_ok-kept.ensures.items_if_clones_equal (λ x y e. e) in
-    subst (λ (l : List ℕ). Parted (steady_state c.args.self.now) (state_with c.part.new.self.history c.part.new.self.attached c.part.new.self.parted c.part.new.self.cuts.items c.part.new.self.bytes c.part.new.self.opens 0 0) l) same (c.in_ok-part.ensures.ok 0 0)
+    subst (λ (l : List ℕ). Parted (steady_state c.args.self.now) (state_with c.part.new.self.history c.part.new.self.attached c.part.new.self.parted c.part.new.self.cuts.items c.part.new.self.bytes c.part.new.self.opens c.part.new.self.validations 0 0) l) same (c.in_ok-part.ensures.ok 0 0)

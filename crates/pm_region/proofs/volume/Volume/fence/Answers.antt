@@ -7,4 +7,4 @@ use Rattle.pm_region.proofs.volume.Volume.fence.Goals as goal
 pub returns : goal.returns
 returns c = λ r n n' le.
     let v = c.args.self.now in
-    volume_goes v.history _ v.attached v.parted v.cuts.items v.bytes v.opens r n n' _ (subst (λ (k : ℕ). Moves v.history c.fence.new.self (fence_range 0 k)) c.words-words.ensures c.fence.ensures) le
+    volume_goes v.history _ v.attached v.parted v.cuts.items v.bytes v.opens v.validations r n n' _ (subst (λ (k : ℕ). Moves v.history c.fence.new.self (fence_range 0 k)) c.words-words.ensures c.fence.ensures) le
