@@ -36,7 +36,7 @@ use Rattle.core_worker.specs.Answering.{IsCause, IsSaid, AddsAnswers}
 use Rattle.core_worker.proofs.Given.{said_same, given_by, adds_none, adds_one, answer_untold}
 use Rattle.core_worker.specs.Beginning.{answers_of, answer_with, OnlyBegins, IsAnswered, IsStaged, GoesOn, BeginsBy, BeginsAs, Begins}
 use Rattle.core_worker.specs.Ties.{Tie}
-use Rattle.core_worker.specs.Accepting.{IsAsBefore, IsTied, StaysTied, Accepts, AcceptsByEachView, AcceptsAs, AcceptMoves}
+use Rattle.core_worker.specs.Accepting.{IsAsBefore, IsTied, StaysTied, HoldsOrBegins, HoldsOrBeginsByEachView, AcceptsAs, AcceptMoves}
 use Rattle.core_worker.specs.WorkerMoves.{asked, BeginsIn, SpendsIn, Fixed, replied, placed_in, placed_for, asked_by, stock_of, hands_of, requests_for, fixed_of, AnswersKey}
 use Rattle.engine_laws.specs.FreeStock.{Stock, LacksRoom}
 use Rattle.engine_laws.specs.RefusalCauses.{HasCause, Refuses}
@@ -305,7 +305,7 @@ module _ (s : State) (w b : Worker) (n : ℕ) (r : Request) (works : w.winds_dow
     by_stop true e is = answered replies.Stopped replies.Stopped None (said_same (IsTelling s) r replies.Stopped) refl is (inr refl) refl (λ s. refl) (λ s. stopped_before ∙ e) (stopped_causeless x.place.layout (x.view.last (key_of r)) r replies.Stopped refl) (λ full. absurd (cc full))
     by_stop false e is = by_cause (why u.layout (supply_of u) u.allocator (last_of (known_at u.index (key_of r))) cell r) e refl is
 
-  fixes : Accepts (IsTelling s) x.view w b n r → (fs : List Fixed) × Fixes fs
+  fixes : HoldsOrBegins (IsTelling s) x.view w b n r → (fs : List Fixed) × Fixes fs
   fixes A = ⊎_elim
       (λ held. let e = held.2 in (
         [],
@@ -316,7 +316,7 @@ module _ (s : State) (w b : Worker) (n : ℕ) (r : Request) (works : w.winds_dow
       (λ begun. fixes_begun A.0 A.1 begun.0 begun.1 begun.2)
       A.3
 
-  pub accepts_as : Accepts (IsTelling s) x.view w b n r → AcceptsAs s w b x ((n, r) ∷ [])
+  pub accepts_as : HoldsOrBegins (IsTelling s) x.view w b n r → AcceptsAs s w b x ((n, r) ∷ [])
   accepts_as A = let F = fixes A in record {
     fixed = F.0;
     answers = F.1.answers;
@@ -324,7 +324,7 @@ module _ (s : State) (w b : Worker) (n : ℕ) (r : Request) (works : w.winds_dow
   }
 
 -- a request was accepted
-pub accept_moves : (s : State) (w b : Worker) (n : ℕ) (r : Request) → w.winds_down ≡ false → StaysTied s w b (key_of r) → AcceptsByEachView s w b n r → AcceptMoves s w b (key_of r) ((n, r) ∷ [])
+pub accept_moves : (s : State) (w b : Worker) (n : ℕ) (r : Request) → w.winds_down ≡ false → StaysTied s w b (key_of r) → HoldsOrBeginsByEachView s w b n r → AcceptMoves s w b (key_of r) ((n, r) ∷ [])
 accept_moves s w b n r works stays accepts = λ x T. accepts_as s w b n r works x T (stays x T) (accepts x T)
 
 -- it was given back
@@ -340,7 +340,7 @@ back_moves s w b k B stays = λ x T. record {
       (still_in x.place x.number x.view w b [] N.holds (λ j. ap (λ (y : Worker). placed_for x.view y.places.items j) B.rest) (stock_same w b (ap (λ (y : Worker). y.log) B.rest) (ap (λ (y : Worker). y.allocator) B.rest) (ap (λ (y : Worker). y.leading) B.rest)));
 }
 
-pub ok_accepts : {X Y : Type 0} (o : Result X Y) (s : State) (w b : Worker) (n : ℕ) (r : Request) → w.winds_down ≡ false → StaysTied s w b (key_of r) → OnOk o (AcceptsByEachView s w b n r) → OnOk o (AcceptMoves s w b (key_of r) ((n, r) ∷ []))
+pub ok_accepts : {X Y : Type 0} (o : Result X Y) (s : State) (w b : Worker) (n : ℕ) (r : Request) → w.winds_down ≡ false → StaysTied s w b (key_of r) → OnOk o (HoldsOrBeginsByEachView s w b n r) → OnOk o (AcceptMoves s w b (key_of r) ((n, r) ∷ []))
 ok_accepts (Ok y) s w b n r works stays accepts = accept_moves s w b n r works stays accepts
 ok_accepts (Err y) s w b n r works stays accepts = accepts
 

@@ -18,7 +18,7 @@ use Rattle.core_worker.specs.Status.{any_free, has_room, is_leading}
 use Rattle.core_worker.specs.Supplies.{HasKeptRoom}
 use Rattle.core_worker.specs.Ties.{Tie, LeadsAt, LeadsNothing}
 use Rattle.core_worker.specs.Beginning.{HasFree, IsHeldAside, KeepsTies, ByEachView, OnlyBegins, Begins}
-use Rattle.core_worker.specs.Accepting.{IsAsBefore, Prepared, IsTied, StaysTied, AcceptsByEachView}
+use Rattle.core_worker.specs.Accepting.{IsAsBefore, Prepared, IsTied, StaysTied, HoldsOrBeginsByEachView}
 use Rattle.core_worker.specs.Refusals.{HasAnswerRoom}
 use Rattle.core_worker.specs.Serving.{KeepsLine}
 use Rattle.core_worker.proofs.AcceptedOrder.{order_before, order_held, order_begun_now}
@@ -81,7 +81,7 @@ begun_tie (Ok y) s k w u b B works rest keeps err busy line less room few x T =
     record { holds = holds; stands = K.stands s U.stands; own = T.own; order = order_begun_now x.place x.number x.view w u b k B room (T.order.hand (sym (ap (λ (z : Worker). z.winds_down) B.rest) ∙ works)) few rest line less T.holds holds T.order }
 begun_tie (Err y) s k w u b B works rest keeps err busy line less room few x T = subst (λ (z : Worker). IsTied s z k x) (sym err) (prepared_tie s k w u B x T)
 
-pub accepts_begun : {X Y : Type 0} (r : Result X Y) (s : State) (w u b : Worker) (n k : ℕ) (q : Request) → k ≡ key_of q → IsAsBefore w u → Prepared w u k → is_busy u.places.items k ≡ false → OnlyBegins u b → OnOk r (ByEachView s u (key_of q) (λ v. Begins (IsTelling s) u b (v.cell (key_of q)) n q)) → OnOk r (AcceptsByEachView s w b n q)
+pub accepts_begun : {X Y : Type 0} (r : Result X Y) (s : State) (w u b : Worker) (n k : ℕ) (q : Request) → k ≡ key_of q → IsAsBefore w u → Prepared w u k → is_busy u.places.items k ≡ false → OnlyBegins u b → OnOk r (ByEachView s u (key_of q) (λ v. Begins (IsTelling s) u b (v.cell (key_of q)) n q)) → OnOk r (HoldsOrBeginsByEachView s w b n q)
 accepts_begun (Ok y) s w u b n k q same B P idle rest begins = λ x T.
     let U = prepared_tie s (key_of q) w u B x T in
     let done : Result (Unit {0}) (Unit {0}) = Ok tt in

@@ -22,7 +22,7 @@ use Rattle.core_worker.proofs.Posts.{busy_by, busy_has}
 use Rattle.core_worker.proofs.Pointers.{free_is}
 use Rattle.std.proofs.lemmas.Bool.{cases_eq}
 use Rattle.conflict_queue.specs.Waiting.{AddsLast}
-use Rattle.core_worker.specs.Accepting.{IsAsBefore, Prepared, Accepts}
+use Rattle.core_worker.specs.Accepting.{IsAsBefore, Prepared, HoldsOrBegins}
 use Rattle.group_laws.specs.Places.{Place}
 use Rattle.group_laws.specs.MemberViews.{View}
 use Rattle.core_worker.specs.declared.types.Leading.{Leading}
@@ -271,6 +271,6 @@ begun_holds r p m v u b H works rest ok err keeps =
     was_idle k true e idle = absurd (let both : true ≡ false = sym (begun_busy r u b keeps err k e) ∙ idle in cc both)
     was_idle k false e idle = e
 
-pub begun_accepts : {X Y : Type 0} (r : Result X Y) (t : Type 0) (v : View) (w u b : Worker) (n k : ℕ) (q : Request) → k ≡ key_of q → IsAsBefore w u → Prepared w u k → is_busy u.places.items k ≡ false → OnlyBegins u b → OnOk r (Begins t u b (v.cell (key_of q)) n q) → OnOk r (Accepts t v w b n q)
+pub begun_accepts : {X Y : Type 0} (r : Result X Y) (t : Type 0) (v : View) (w u b : Worker) (n k : ℕ) (q : Request) → k ≡ key_of q → IsAsBefore w u → Prepared w u k → is_busy u.places.items k ≡ false → OnlyBegins u b → OnOk r (Begins t u b (v.cell (key_of q)) n q) → OnOk r (HoldsOrBegins t v w b n q)
 begun_accepts (Ok x) t v w u b n k q same B P idle rest begins = (u, B, subst (Prepared w u) same P, inr (ap (λ (y : Worker). is_busy y.places.items (key_of q)) (sym B.rest) ∙ ap (is_busy u.places.items) (sym same) ∙ idle, rest, begins))
 begun_accepts (Err y) t v w u b n k q same B P idle rest begins = begins

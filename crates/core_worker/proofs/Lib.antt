@@ -21,6 +21,7 @@ pub mod KeyMoves
 mod HandPlaces
 pub mod Given
 mod AcceptMoves
+mod Noted
 mod QuietItems
 mod PostMoves
 mod SearchLaws

@@ -47,14 +47,24 @@ HasTie s w k = (t : Tie) × IsTied s w k t
 abbrev pub StaysTied : State → Worker → Worker → ℕ → Type 0
 StaysTied s old new k = (t : Tie) → IsTied s old k t → IsTied s new k t
 
-abbrev pub Accepts : Type 0 → View → Worker → Worker → ℕ → Request → Type 0
-Accepts Known v old new n r = (mid : Worker) × IsAsBefore old mid × Prepared old mid (key_of r)
+-- The request is held behind those of its key, or begun, where there was memory for what it will need.
+abbrev pub HoldsOrBegins : Type 0 → View → Worker → Worker → ℕ → Request → Type 0
+HoldsOrBegins Known v old new n r = (mid : Worker) × IsAsBefore old mid × Prepared old mid (key_of r)
     × (((is_busy old.places.items (key_of r) ≡ true) × AddsLast mid.queue new.queue (held_with n r)
     × (new ≡ record mid { queue = new.queue }))
     ⊎ ((is_busy old.places.items (key_of r) ≡ false) × OnlyBegins mid new
     × Begins Known mid new (v.cell (key_of r)) n r))
 
 -- by each view that the worker may be tied to
+abbrev pub HoldsOrBeginsByEachView : State → Worker → Worker → ℕ → Request → Type 0
+HoldsOrBeginsByEachView s old new n r = (t : Tie) → IsTied s old (key_of r) t
+    → HoldsOrBegins (IsTelling s) t.view old new n r
+
+-- It is held or begun, and the worker notes that it accepted a request since it last began a cleaning.
+abbrev pub Accepts : Type 0 → View → Worker → Worker → ℕ → Request → Type 0
+Accepts Known v old new n r = (done : Worker) × HoldsOrBegins Known v old done n r
+    × (new ≡ record done { accepted = true })
+
 abbrev pub AcceptsByEachView : State → Worker → Worker → ℕ → Request → Type 0
 AcceptsByEachView s old new n r = (t : Tie) → IsTied s old (key_of r) t
     → Accepts (IsTelling s) t.view old new n r

@@ -1,9 +1,11 @@
 -- What a worker begins with, where recovery gave its start.
 use Rattle.std.specs.Prelude.{◌≡◌, ℕ, ◌<◌, ◌≤◌, false, [], length, None}
+use Rattle.std.specs.List.{AllByRecursion}
 use Rattle.std.specs.VecDeque.{deque_len}
 use Rattle.group_laws.specs.declared.group_sizes.TheConstants.{SLOTS}
 use Rattle.pm_region.specs.State.{State, IsTelling, cell_now}
 use Rattle.pm_region.specs.Words.{Surely}
+use Rattle.log_entry.specs.declared.entry_limits.TheConstants.{MOST_BATCH_WORDS}
 use Rattle.chunk_map.specs.declared.layouts.Geometry.{Geometry}
 use Rattle.store_image.specs.Facts.{KeepsRules}
 use Rattle.core_log.specs.Log.{StandsIn}
@@ -19,6 +21,7 @@ use Rattle.core_worker.specs.declared.types.Cleaning.TheVariants.{Nothing}
 use Rattle.core_worker.specs.declared.types.Place.TheVariants.{Free}
 use Rattle.core_worker.specs.declared.worker.Worker.{Worker}
 use Rattle.core_worker.specs.OwnPlaces.{place_at}
+use Rattle.core_worker.specs.Outbox.{TellsNothing}
 use Rattle.core_worker.specs.Hearing.{HearsAll}
 use Rattle.core_worker.specs.StandingTies.{HasCopies, HearsOwn, most_names}
 use Rattle.core_worker.specs.Ties.{LeadsNothing}
@@ -39,6 +42,12 @@ pub record IsNew (start : CoreStart) (layout : Geometry) (w : Worker) : Type 0 w
   pub hand : w.in_hand ≡ None
   pub leading : LeadsNothing w
   pub cleaning : w.cleaning ≡ Nothing
+  pub clearing : w.clearing ≡ None
+  pub last_victim : w.last_victim ≡ None
+  pub buffer : MOST_BATCH_WORDS ≤ w.copies.room
+  pub members : length w.notices.items ≡ layout.group
+  pub outbox : AllByRecursion TellsNothing w.notices.items
+  pub own_gone : w.own_gone.items ≡ []
   pub answers : (w.answers.items ≡ []) × (deque_len w.answers ≡ 0)
   pub runs : w.stopped ≡ false
   pub works : w.winds_down ≡ false

@@ -1,6 +1,7 @@
 -- Dead names that were taken from the index and are told another member next, in the words of the member's own view.
-use Rattle.std.specs.Prelude.{◌≡◌, ◌||◌, ℕ, true, false, cond, List, Some}
+use Rattle.std.specs.Prelude.{◌≡◌, ◌||◌, ℕ, true, false, cond, List, [], Some}
 use Rattle.log_entry.specs.declared.entry.EntryName.{EntryName}
+use Rattle.crash_core.specs.declared.names.Notices.{Notices}
 use Rattle.group_laws.specs.Updates.{has}
 use Rattle.group_laws.specs.Places.{Place, owner}
 use Rattle.group_laws.specs.MemberViews.{View}
@@ -20,3 +21,7 @@ pub record AreToSend (p : Place) (m to : ℕ) (v : View) (ns : List EntryName) :
 -- of all names these are sent, and the others stay
 abbrev pub Parts : List EntryName → List EntryName → List EntryName → Type 0
 Parts all ns rest = (k n : ℕ) → has all k n ≡ (has ns k n || has rest k n)
+
+-- no name waits to be told
+abbrev pub TellsNothing : Notices → Type 0
+TellsNothing n = (n.dead.names ≡ []) × (n.gone.names ≡ [])

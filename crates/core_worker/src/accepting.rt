@@ -9,7 +9,7 @@ ghost use Rattle.core_worker.specs.declared.types.Leading.TheVariants as leads;
 ghost use Rattle.core_worker.specs.OwnPlaces.{is_busy};
 ghost use Rattle.core_worker.specs.Supplies.{HasKeptRoom};
 ghost use Rattle.core_worker.specs.Refusals.{HasAnswerRoom};
-ghost use Rattle.core_worker.specs.Accepting.{Prepared, HasTie, StaysTied, AcceptsByEachView, AcceptMoves, IsAsBefore};
+ghost use Rattle.core_worker.specs.Accepting.{Prepared, HasTie, HoldsOrBeginsByEachView, StaysTied, AcceptsByEachView, AcceptMoves, IsAsBefore};
 ghost use Rattle.core_worker.specs.Status.{has_room, is_leading};
 ghost use Rattle.core_worker.specs.Left.{left, most, StartsFirst};
 
@@ -61,6 +61,48 @@ impl Worker {
         self.index.admit(alloc, key).is_ok()
     }
 
+    // Holds a request for a key with a change under way, and begins any other.
+    fn hold_or_begin<R: Region>(
+        &mut self,
+        alloc: Global,
+        region: &R,
+        number: u64,
+        request: Request,
+    ) -> Result<(), NotAccepted>
+        requires tied { HasTie (R.state region.now) self.old (key_of request) }
+        requires room { has_room self.old ≡ true }
+        requires free { is_leading self.old.leading ≡ false }
+        requires works { self.old.winds_down ≡ false }
+        ensures ties { StaysTied (R.state region.now) self.old self.new (key_of request) }
+        ensures accepts { OnOk result
+            (HoldsOrBeginsByEachView (R.state region.now) self.old self.new number request) }
+        ensures rule { HasKeptRoom self.old → HasKeptRoom self.new }
+        ensures given_back { IfErr result (λ back. back.request ≡ request) }
+        ensures unchanged { OnErr result (IsAsBefore self.old self.new) }
+        ensures moves { OnOk result (AcceptMoves (R.state region.now) self.old self.new
+            (key_of request) ((number, request) ∷ [])) }
+        ensures stays { OnErr result (AcceptMoves (R.state region.now) self.old self.new
+            (key_of request) []) }
+        ensures most { OnOk result (left self.new ≤ left self.old + most) }
+        ensures starts { StartsFirst self.old → StartsFirst self.new }
+        ensures works { self.new.winds_down ≡ self.old.winds_down }
+        ensures runs { self.new.stopped ≡ self.old.stopped }
+    {
+        let key = request.key();
+        if !self.prepare(alloc, key) {
+            return Err(NotAccepted { request });
+        }
+        if is_busy(&self.places, key) {
+            return match self.queue.hold(number, request) {
+                Ok(()) => Ok(()),
+                Err(full) => Err(NotAccepted {
+                    request: full.request,
+                }),
+            };
+        }
+        self.begin(alloc, region, number, request)
+    }
+
     /// Accepts a request. One for a key with a change under way is held; any other is begun. Where there is no memory
     /// for it the request comes back, and nothing is answered, held or staged.
     pub fn accept<R: Region>(
@@ -89,18 +131,14 @@ impl Worker {
         ensures works { self.new.winds_down ≡ self.old.winds_down }
         ensures runs { self.new.stopped ≡ self.old.stopped }
     {
-        let key = request.key();
-        if !self.prepare(alloc, key) {
-            return Err(NotAccepted { request });
+        match self.hold_or_begin(alloc, region, number, request) {
+            Ok(()) => {
+                self.accepted = true;
+                return Ok(());
+            }
+            Err(back) => {
+                return Err(back);
+            }
         }
-        if is_busy(&self.places, key) {
-            return match self.queue.hold(number, request) {
-                Ok(()) => Ok(()),
-                Err(full) => Err(NotAccepted {
-                    request: full.request,
-                }),
-            };
-        }
-        self.begin(alloc, region, number, request)
     }
 }

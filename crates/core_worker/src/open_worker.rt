@@ -1,11 +1,13 @@
 // What a worker begins with.
 ghost use Rattle.std.specs.Prelude.{◌≡◌, ℕ, length, IfOk};
+ghost use Rattle.std.specs.List.{AllByRecursion};
 ghost use Rattle.pm_region.specs.State.{State};
 ghost use Rattle.core_worker.specs.declared.types.Place.TheVariants as kinds;
 ghost use Rattle.core_worker.specs.OwnPlaces.{place_at};
 ghost use Rattle.core_worker.specs.Supplies.{HasKeptRoom};
 ghost use Rattle.core_worker.specs.Ties.{Holds, Stands};
 ghost use Rattle.core_worker.specs.Order.{InOrder};
+ghost use Rattle.core_worker.specs.Outbox.{TellsNothing};
 ghost use Rattle.core_worker.specs.Openings.{IsNew, IsCertainAt, ByEachImage, opened_view};
 
 use crate::batch_names::MOST_NAMES;
@@ -16,7 +18,9 @@ use batch_leader::BatchBuffer;
 use chunk_map::Layout;
 use conflict_queue::ConflictQueue;
 use fs_errors::Memory;
+use group_board::{Names, Notices};
 use group_laws::group_sizes::SLOTS;
+use log_entry::{MOST_BATCH_WORDS, WordBuffer};
 use recover::CoreStart;
 use std::alloc::Global;
 use std::collections::VecDeque;
@@ -31,6 +35,20 @@ fn free_places(alloc: Global) -> Result<Vec<Place>, Memory>
         places.push(Place::Free)?;
     }
     Ok(places)
+}
+
+// Nothing to tell any member.
+fn no_notices(alloc: Global, members: u32) -> Result<Vec<Notices>, Memory>
+    ensures count { IfOk result (λ notices. length notices.items ≡ members) }
+    ensures none { IfOk result (λ notices. AllByRecursion TellsNothing notices.items) }
+{
+    let mut notices = Vec::new(alloc);
+    for _ in 0..members {
+        let dead = Names::with_room(alloc, 0)?;
+        let gone = Names::with_room(alloc, 0)?;
+        notices.push(Notices { dead, gone })?;
+    }
+    Ok(notices)
 }
 
 impl Worker {
@@ -50,6 +68,8 @@ impl Worker {
         let queue = ConflictQueue::open(alloc)?;
         let places = free_places(alloc)?;
         let buffer = BatchBuffer::open(alloc)?;
+        let copies = WordBuffer::with_room(alloc, MOST_BATCH_WORDS)?;
+        let notices = no_notices(alloc, layout.group())?;
         Ok(Worker {
             layout,
             core,
@@ -62,6 +82,11 @@ impl Worker {
             places,
             leading: Leading::Nothing(buffer),
             cleaning: Cleaning::Nothing,
+            clearing: None,
+            last_victim: None,
+            copies,
+            notices,
+            own_gone: Vec::new(alloc),
             answers: VecDeque::new(alloc),
             stopped: false,
             winds_down: false,

@@ -1,4 +1,4 @@
-use Rattle.std.proofs.Common.{refl, arith}
+use Rattle.std.proofs.Common.{refl, ◌∙◌, arith}
 use Rattle.core_worker.specs.StandingTies.{SameNames}
 use Rattle.core_worker.proofs.NamesKnown.{heard_later, copies_before}
 use Rattle.core_worker.proofs.worker.Worker.new.Goals as goal
@@ -22,6 +22,12 @@ returns c =
       hand = refl;
       leading = (c.in_ok-buffer.buffer, refl);
       cleaning = refl;
+      clearing = refl;
+      last_victim = refl;
+      buffer = (let room = c.in_ok-copies.ensures.room in omega (arith, room));
+      members = c.in_ok-notices.ensures.count ∙ c.group.ensures;
+      outbox = c.in_ok-notices.ensures.none;
+      own_gone = c.new-2.ensures.items;
       answers = (c.new.ensures.items, c.new.ensures.len);
       runs = refl;
       works = refl;
