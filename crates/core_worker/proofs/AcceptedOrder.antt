@@ -47,6 +47,7 @@ order_accepted p m v w x H known leading stopped hand winds same halts answers O
   stops = λ s. subst MayLeadStopped (sym leading) (O.stops (sym stopped ∙ s));
   log = λ r on. knows_same m v.kept v.present v.told v.dead w.standing x.standing same (O.log (sym stopped ∙ r) (sym winds ∙ on));
   names = λ r on. (let had = O.names (sym stopped ∙ r) (sym winds ∙ on) in let more = same.room in omega (arith, had, more));
+  agrees = O.agrees;
 } where
   by : (b : Bool) (k : ℕ) → owner p k ≡ m → is_busy x.places.items k ≡ true → v.pending k ≡ None → w.stopped ≡ b → is_forgettable (known_at w.index k) ≡ false
   by false k own busy none e = H.remembers e k own none
@@ -86,8 +87,8 @@ order_begun_now p m v w u b k B room hand few only line less H N O =
 
 -- an answer was given out
 pub given_order : (p : Place) (m : ℕ) (v : View) (w : Worker) (a : VecDeque Answer Global) → deque_len a ≤ deque_len w.answers → deque_capacity a ≡ deque_capacity w.answers → InOrder p m v w → InOrder p m v (record w { answers = a })
-given_order p m v w a fewer same O = record { owned = O.owned; single = O.single; distinct = O.distinct; heard = O.heard; told = O.told; versions = O.versions; next = O.next; spelled = O.spelled; recalls = O.recalls; answers = (let room = O.answers in omega (arith, room, fewer, same)); hand = O.hand; stops = O.stops; log = O.log; names = O.names }
+given_order p m v w a fewer same O = record { owned = O.owned; single = O.single; distinct = O.distinct; heard = O.heard; told = O.told; versions = O.versions; next = O.next; spelled = O.spelled; recalls = O.recalls; answers = (let room = O.answers in omega (arith, room, fewer, same)); hand = O.hand; stops = O.stops; agrees = O.agrees; log = O.log; names = O.names }
 
 -- it winds down
 pub wound_order : (p : Place) (m : ℕ) (v : View) (w : Worker) → InOrder p m v w → InOrder p m v (record w { winds_down = true })
-wound_order p m v w O = record { owned = O.owned; single = O.single; distinct = O.distinct; heard = O.heard; told = O.told; versions = O.versions; next = O.next; spelled = O.spelled; recalls = O.recalls; answers = O.answers; hand = λ on. absurd (cc on); stops = O.stops; log = λ r on. absurd (cc on); names = λ r on. absurd (cc on) }
+wound_order p m v w O = record { owned = O.owned; single = O.single; distinct = O.distinct; heard = O.heard; told = O.told; versions = O.versions; next = O.next; spelled = O.spelled; recalls = O.recalls; answers = O.answers; hand = λ on. absurd (cc on); stops = O.stops; agrees = O.agrees; log = λ r on. absurd (cc on); names = λ r on. absurd (cc on) }

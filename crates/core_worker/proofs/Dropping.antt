@@ -125,6 +125,7 @@ module _ (p : groups.Place) (m : ℕ) (v : View) (w : Worker) (H : Holds p m v w
       answers = room_let_go w dropped slot e.key (ap key_in was) (let eight = H.eight in omega (arith, eight, lt)) R refl refl (subst (λ (z : Worker). (n : ℕ) → HasAnswerRoom (n + 1) w → HasAnswerRoom n z) rest room) O.answers;
       hand = O.hand;
       stops = O.stops;
+      agrees = O.agrees;
       log = O.log;
       names = O.names;
     }

@@ -29,6 +29,7 @@ use Rattle.core_worker.specs.Hearing.{HearsAll}
 use Rattle.core_worker.proofs.Heard.{hears_none, hears_all}
 use Rattle.core_worker.proofs.Tidied.{tidied_knows, spent_last}
 use Rattle.core_worker.proofs.Freeing.{Frees}
+use Rattle.core_worker.proofs.NamesAgreeing.{agrees_tidied}
 use Rattle.core_worker.proofs.FreedOrder.{FreesInOrder, room_let_go}
 
 -- no chunk differs where the allocator is the same
@@ -144,6 +145,7 @@ module _ (p : Place) (m : ℕ) (v : View) (w : Worker) (H : HoldsAside p m v w) 
       answers = room_let_go w given slot key key_was (let eight = H.eight in omega (arith, eight, lt)) R refl refl room O.answers;
       hand = O.hand;
       stops = λ s. subst MayLeadStopped (sym nothing) tt;
+      agrees = agrees_tidied p m (after_give_up e v) last told dead T O.agrees;
       log = λ r. absurd (cc r);
       names = λ r. absurd (cc r);
     } where

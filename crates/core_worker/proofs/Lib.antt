@@ -49,6 +49,7 @@ mod Renewing
 mod StartNames
 pub mod Tidied
 pub mod Freeing
+mod NamesAgreeing
 pub mod FreedOrder
 pub mod GivingUp
 pub mod Counted

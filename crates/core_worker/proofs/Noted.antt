@@ -58,6 +58,7 @@ order_noted p m v w O = record {
   answers = O.answers;
   hand = O.hand;
   stops = O.stops;
+  agrees = O.agrees;
   log = O.log;
   names = O.names;
 }

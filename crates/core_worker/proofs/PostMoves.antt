@@ -233,6 +233,7 @@ module _ (p : Place) (m : ℕ) (v : View) (w : Worker) (H : Holds p m v w) (slot
       answers = subst (λ (a : VecDeque Answer Global). deque_len a + unanswered x ≤ deque_capacity a) (sym answers) (let room = O.answers in let n = unanswered_same in omega (arith, room, n));
       hand = λ working. hand ∙ O.hand (sym winds ∙ working);
       stops = λ is. absurd (let both : true ≡ false = sym is ∙ on in cc both);
+      agrees = O.agrees;
       log = λ r working. subst (KnowsLog m v.kept v.present v.told v.dead) (sym standing) (O.log runs (sym winds ∙ working));
       names = λ r working. subst (λ (st : StandingState). most_names ≤ st.room) (sym standing) (O.names runs (sym winds ∙ working));
     } where
@@ -390,6 +391,7 @@ fault_order p m v w x same nothing O = subst (λ (y : Worker). InOrder p m v y) 
   answers = O.answers;
   hand = O.hand;
   stops = λ is. subst MayLeadStopped (sym nothing.1) tt;
+  agrees = O.agrees;
   log = λ r. absurd (cc r);
   names = λ r. absurd (cc r);
 })

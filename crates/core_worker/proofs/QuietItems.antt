@@ -33,7 +33,7 @@ use Rattle.core_worker.specs.declared.worker.Worker.{Worker}
 use Rattle.core_worker.specs.OwnPlaces.{is_busy}
 use Rattle.log_standing.specs.NameCounts.{StandingState}
 use Rattle.core_worker.specs.Order.{count_changes, MayLeadStopped, InOrder}
-use Rattle.core_worker.specs.StandingTies.{KnowsLog, most_names}
+use Rattle.core_worker.specs.StandingTies.{KnowsLog, NamesAgree, most_names}
 use Rattle.core_worker.specs.Ties.{HoldsAt, StandsAt}
 use Rattle.core_worker.specs.Turns.{Moment, SameButLeading, Steps, TriesLock, GoesRound, Collects, Releases, Marks, Fails, led_by, persisted_left, failed_left}
 use Rattle.core_worker.specs.Supplies.{room_for}
@@ -76,9 +76,9 @@ led v u flying taken broken holds looked took e = record { flying = flying; take
 -- what is kept in order speaks of nothing that a leader's step changes, but for the names in the log
 pub order_as : (p : Place) (m : ℕ) (v : View) (w : Worker) (kept flying : List Entry) (taken : ℕ → ℕ → Option Entry) (broken holds : Bool) (looked : List Seen) (took : List Entry) (log : LogState) (allocator : Sets) (l : Leading) (st : StandingState) (stopped winds : Bool) (ps : Vec places.Place Global)
     → ((k : ℕ) → is_busy ps.items k ≡ is_busy w.places.items k) → count_changes ps.items ≡ count_changes w.places.items → (stopped ≡ true → MayLeadStopped l) → (winds ≡ false → w.winds_down ≡ false)
-    → (stopped ≡ false → winds ≡ false → KnowsLog m kept v.present v.told v.dead st) → (stopped ≡ false → winds ≡ false → most_names ≤ st.room) → InOrder p m v w
+    → (stopped ≡ false → winds ≡ false → KnowsLog m kept v.present v.told v.dead st) → (stopped ≡ false → winds ≡ false → most_names ≤ st.room) → NamesAgree p m kept v.present v.told v.dead → InOrder p m v w
     → InOrder p m (led_as v kept flying taken broken holds looked took) (record w { log = log; allocator = allocator; leading = l; standing = st; stopped = stopped; winds_down = winds; places = ps })
-order_as p m v w kept flying taken broken holds looked took log allocator l st stopped winds ps busy count stops works knows names O = record {
+order_as p m v w kept flying taken broken holds looked took log allocator l st stopped winds ps busy count stops works knows names agrees O = record {
   owned = O.owned;
   single = O.single;
   distinct = O.distinct;
@@ -93,12 +93,13 @@ order_as p m v w kept flying taken broken holds looked took log allocator l st s
   stops = stops;
   log = knows;
   names = names;
+  agrees = agrees;
 }
 
 pub order_leading : (p : Place) (m : ℕ) (v u : View) (w x : Worker) → IsLed v u → SameButLeading w x → (w.stopped ≡ true → MayLeadStopped x.leading) → InOrder p m v w → InOrder p m u x
 order_leading p m v u w x L same stops O =
     subst (λ (y : View). InOrder p m y x) (sym L.is) (subst (λ (y : Worker). InOrder p m (led_as v v.kept L.flying L.taken L.broken L.holds L.looked L.took) y) (sym same)
-    (order_as p m v w v.kept L.flying L.taken L.broken L.holds L.looked L.took w.log w.allocator x.leading w.standing w.stopped w.winds_down w.places (λ k. refl) refl stops (λ on. on) O.log O.names O))
+    (order_as p m v w v.kept L.flying L.taken L.broken L.holds L.looked L.took w.log w.allocator x.leading w.standing w.stopped w.winds_down w.places (λ k. refl) refl stops (λ on. on) O.log O.names O.agrees O))
 
 pub leading_moves : (seat : SeatAt) (s : State) (before after : Option Group) (v u : View) (w x : Worker) → HoldsAt seat u x → StandsAt s seat v w → StandsAt s seat u x → Steps before after seat.number u → IsLed v u → SameButLeading w x → lines_free w + (lines_in v.took + lines_in u.flying) ≤ lines_free x + (lines_in u.took + lines_in v.flying)
     → WorkerMoves seat.place seat.number s s before after v u (hands_of v w) (hands_of u x) [] []

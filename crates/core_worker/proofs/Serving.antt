@@ -96,6 +96,7 @@ order_kept p m v w u index leading stopped standing works recalls answers hand O
   answers = answers;
   hand = hand;
   stops = λ s. subst MayLeadStopped (sym leading) (O.stops (sym stopped ∙ s));
+  agrees = O.agrees;
   log = λ r on. subst (KnowsLog m v.kept v.present v.told v.dead) (sym standing) (O.log (sym stopped ∙ r) (works on));
   names = λ r on. subst (λ (st : StandingState). most_names ≤ st.room) (sym standing) (O.names (sym stopped ∙ r) (works on));
 }

@@ -43,6 +43,7 @@ use Rattle.core_worker.proofs.HeardNames.{stands_by, dies_by, awaits_by}
 use Rattle.core_worker.proofs.Tidied.{member_of, present_of, stands_of, dead_is, dead_by, tidied_knows, spent_last, change_last}
 use Rattle.core_worker.proofs.PuttingBack.{put_chunks, put_less, put_gone, put_kept}
 use Rattle.core_worker.proofs.Freeing.{Frees}
+use Rattle.core_worker.proofs.NamesAgreeing.{agrees_tidied}
 use Rattle.core_worker.proofs.FreedOrder.{FreesInOrder, room_let_go}
 
 -- hearing of dead names changes neither what a key's last change left nor whether its record is to be forgotten
@@ -520,6 +521,7 @@ module _ (p : Place) (m : ℕ) (v : View) (w : Worker) (H : HoldsAside p m v w) 
       answers = room_let_go w done slot key key_was (let eight = H.eight in omega (arith, eight, lt)) R refl refl room O.answers;
       hand = O.hand;
       stops = λ s. subst MayLeadStopped (sym nothing) tt;
+      agrees = agrees_tidied p m mid_view last told dead T (record { bodies = O.agrees.bodies; mine = λ k n h is. ⊎_elim (λ x. ap (owner p) x.0 ∙ own_key) (λ before. O.agrees.mine k n h before) (was_there k n h is); dead_told = O.agrees.dead_told });
       log = λ r on. knows_log r (O.log r on);
       names = λ r on. (let had = O.names r on in let more = tells.room in omega (arith, had, more));
     }

@@ -28,7 +28,7 @@ use Rattle.group_laws.specs.declared.types.Block.{Block}
 use Rattle.group_laws.specs.declared.types.Pending.{Pending}
 use Rattle.group_laws.specs.Places.{Place, members, core_of, owner}
 use Rattle.group_laws.specs.MemberViews.{View, of_own}
-use Rattle.group_laws.proofs.Clients.{part_core, has_home, home_has, back, some_group}
+use Rattle.group_laws.proofs.Clients.{part_core, has_home, home_has, back, some_group, lawful}
 use Rattle.group_laws.specs.OpeningImages.{home_of, is_at, is_dead, is_own_dead}
 use Rattle.group_board.specs.Seats.{SeatAt}
 use Rattle.core_worker.specs.declared.types.Cleaning.{Cleaning}
@@ -359,6 +359,11 @@ module _ (p : Place) (m : ℕ) (image : ℕ → ℕ) (start : CoreStart) (layout
         let hand : cond {A = ℕ} (is_some w.in_hand) 1 0 ≡ 0 = ap (λ (o : Option Held). cond {A = ℕ} (is_some o) 1 0) N.hand in
         omega (arith, none, places, queue, hand);
     stops = λ stopped. absurd (let two : false ≡ true = sym N.runs ∙ stopped in cc two);
+    agrees = record {
+      bodies = λ e f has_e has_f key version. ((lawful p image at.place at.rules).logs.one_log m m e f (inl has_e) (inl has_f) key version).1;
+      mine = λ k n h is. (mine_of k (home_of p image k n) None (Some h) is (λ none. (let both : None ≡ Some h = none in cc both))).0;
+      dead_told = λ k n own dies. sym (dead_told k n own) ∙ dies;
+    };
     log = λ runs on. knows_log;
     names = λ runs on. N.names;
   }

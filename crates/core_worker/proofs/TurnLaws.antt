@@ -28,7 +28,7 @@ use Rattle.core_worker.specs.declared.worker.Worker.{Worker}
 use Rattle.core_worker.specs.OwnPlaces.{place_at, key_in, is_free, is_staged, is_busy, is_of, IsLowest}
 use Rattle.core_worker.specs.Order.{MayLeadStopped, InOrder}
 use Rattle.core_worker.specs.Supplies.{HasKeptRoom}
-use Rattle.core_worker.specs.StandingTies.{KnowsLog, most_names}
+use Rattle.core_worker.specs.StandingTies.{KnowsLog, NamesAgree, most_names}
 use Rattle.core_worker.proofs.NamesKnown.{knows_added}
 use Rattle.core_worker.specs.Ties.{Leads, LeadsAt, LeadsNothing, HoldsAt, StandsAt, KeepsStanding}
 use Rattle.batch_leader.specs.declared.taken.Taken.{Taken}
@@ -48,6 +48,7 @@ use Rattle.core_worker.specs.Turning.Did.{posts, loses_block}
 use Rattle.core_worker.specs.WorkerMoves.{Spends, SpendsIn, lines_in, lines_free, Hands, Fixed, placed_in, placed_for, stock_of, hands_of, fixed_of, requests_for, AnswersKey, WorkerMoves}
 use Rattle.core_worker.proofs.Led.{holds_by, stands_by}
 use Rattle.core_worker.proofs.QuietMoves.{quiet_moves, for_same}
+use Rattle.core_worker.proofs.NamesAgreeing.{agrees_added, lacks_taken}
 use Rattle.core_worker.proofs.QuietItems.{IsLed, order_as, order_leading, leading_moves}
 use Rattle.core_worker.proofs.PostMoves.{count_same, facts_of, fault_moves}
 
@@ -104,7 +105,7 @@ module _ (seat : SeatAt) (s t : State) (before after : Option Group) (v u : View
     order = subst (λ (y : View). InOrder seat.place seat.number y x) (sym P.view) (subst (λ (y : Worker). InOrder seat.place seat.number (after_commit v) y) (sym P.same)
         (order_as seat.place seat.number v w (v.kept ++ v.flying) [] v.taken v.broken v.holds [] v.took x.log x.allocator x.leading x.standing w.stopped x.winds_down x.places
         (busy_now w.places.items x.places.items count same) (count_same w.places.items x.places.items count (λ i. (same i).free)) (λ stopped. absurd (let both : true ≡ false = sym stopped ∙ runs in cc both))
-        works (λ r on. known (works on)) (λ r. names (ap (λ (y : Worker). y.stopped) P.same ∙ r)) O));
+        works (λ r on. known (works on)) (λ r. names (ap (λ (y : Worker). y.stopped) P.same ∙ r)) agreed O));
     rule = rule;
     moves = nothing_fixed seat s t before after v u w x (ap (λ (y : Worker). y.answers) P.same)
         (quiet_moves seat.place seat.number s t before after v u w x N outside moments T.licensed made (ap (λ (y : View). y.cell) P.view) (ap (λ (y : View). y.pending) P.view) (ap (λ (y : View). y.blocks) P.view) (ap (λ (y : View). y.last) P.view) (ap (λ (y : View). y.posted) P.view) (λ runs. wrote)
@@ -116,6 +117,12 @@ module _ (seat : SeatAt) (s t : State) (before after : Option Group) (v u : View
       by : (b : Bool) → w.winds_down ≡ b → w.winds_down ≡ false
       by false e = e
       by true e = absurd (let both : true ≡ false = sym (P.winds e) ∙ on in cc both)
+
+    agreed : NamesAgree seat.place seat.number (v.kept ++ v.flying) v.present v.told v.dead
+    agreed =
+        let had = led_here seat v w.leading (leads.Batch P.batch) H.leads P.led in
+        subst (λ (es : List Entry). NamesAgree seat.place seat.number (v.kept ++ es) v.present v.told v.dead) (sym had.0.flying)
+        (agrees_added seat.place seat.number v.kept (entries_in P.batch.changes.taken.items) v.present v.told v.dead O.agrees (lacks_taken seat.number v P.batch.changes.taken.items had.0.unlogged) had.0.named)
 
     known : w.winds_down ≡ false → KnowsLog seat.number (v.kept ++ v.flying) v.present v.told v.dead x.standing
     known on =
@@ -155,7 +162,7 @@ module _ (seat : SeatAt) (s t : State) (before after : Option Group) (v u : View
     holds = N;
     stands = T;
     order = subst (λ (y : View). InOrder seat.place seat.number y x) (sym P.view) (subst (λ (y : Worker). InOrder seat.place seat.number v y) (sym P.same)
-        (order_as seat.place seat.number v w v.kept v.flying v.taken v.broken v.holds v.looked v.took x.log x.allocator x.leading x.standing true w.winds_down w.places (λ k. refl) refl (λ stopped. subst MayLeadStopped (sym P.leads_now) tt) (λ on. on) (λ r. absurd (cc r)) (λ r. absurd (cc r)) O));
+        (order_as seat.place seat.number v w v.kept v.flying v.taken v.broken v.holds v.looked v.took x.log x.allocator x.leading x.standing true w.winds_down w.places (λ k. refl) refl (λ stopped. subst MayLeadStopped (sym P.leads_now) tt) (λ on. on) (λ r. absurd (cc r)) (λ r. absurd (cc r)) O.agrees O));
     rule = rule;
     moves = nothing_fixed seat s t before after v u w x (ap (λ (y : Worker). y.answers) P.same)
         (subst (λ (a : Option Group). WorkerMoves seat.place seat.number s t before a v u (hands_of v w) (hands_of u x) [] []) (sym group)

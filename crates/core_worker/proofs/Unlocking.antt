@@ -42,6 +42,7 @@ order_unlocked p m v w l O may = record {
   next = O.next;
   spelled = O.spelled;
   recalls = O.recalls;
+  agrees = O.agrees;
   log = O.log;
   names = O.names;
   answers = O.answers;

@@ -155,6 +155,7 @@ module _ (p : groups.Place) (m : ℕ) (v : View) (w : Worker) (H : Holds p m v w
       answers = room_let_go w withdrawn slot e.key key_was (let eight = H.eight in let lt = st.within in omega (arith, eight, lt)) R refl refl (subst (λ (z : Worker). (n : ℕ) → HasAnswerRoom (n + 1) w → HasAnswerRoom n z) rest room) O.answers;
       hand = O.hand;
       stops = λ s. may;
+      agrees = O.agrees;
       log = λ r. clash w.stopped stopped r;
       names = λ r. clash w.stopped stopped r;
     }

@@ -3,6 +3,7 @@ use Rattle.std.specs.Prelude.{◌≡◌, ◌⊎◌, ℕ, ◌+◌, ◌≤◌, ◌
 use Rattle.std.specs.List.{count_by}
 use Rattle.log_entry.specs.declared.entry.Entry.{Entry}
 use Rattle.store_image.specs.Facts.{In}
+use Rattle.group_laws.specs.Places.{Place, owner}
 use Rattle.core_index.specs.Index.{known_at}
 use Rattle.core_index.specs.Records.{Awaits}
 use Rattle.core_index.specs.Slots as slots
@@ -32,6 +33,14 @@ pub record KnowsLog (m : ℕ) (kept : List Entry) (present : ℕ → ℕ → Opt
   pub heard : (k n : ℕ) → present k n ≡ Some m → told k n ≡ true → dead k n ≡ true
   -- no cleaning has read
   pub settled : st.settled ≡ None
+
+-- What a member's view has of names, whatever stands in its log by the region: its certain entries of one name are one, what it believes to stand is of own keys, and it told the own names that are dead in its log.
+pub record NamesAgree (p : Place) (m : ℕ) (kept : List Entry) (present : ℕ → ℕ → Option ℕ)
+    (told dead : ℕ → ℕ → Bool) : Type 0 where
+  pub bodies : (e f : Entry) → In e kept → In f kept → e.key ≡ f.key → e.version ≡ f.version
+      → e ≡ f
+  pub mine : (k n h : ℕ) → present k n ≡ Some h → owner p k ≡ m
+  pub dead_told : (k n : ℕ) → owner p k ≡ m → dead k n ≡ true → told k n ≡ true
 
 -- nothing but the number of reserved places differs, and it is no less
 pub record SameNames (old new : StandingState) : Type 0 where
