@@ -55,7 +55,7 @@ leads_nothing s w k x T e = nothing_led x w.leading T.holds.leads.seat T.holds.l
 
 -- after memory was taken for it
 pub prepared_tie : (s : State) (k : ℕ) (w u : Worker) → IsAsBefore w u → StaysTied s w u k
-prepared_tie s k w u B x T = record { holds = before_holds x.place x.number x.view w u B T.holds; stands = prepared_stands s x.place x.number x.view w u B.rest T.stands; own = T.own; order = order_before x.place x.number x.view w u B T.holds T.order }
+prepared_tie s k w u B x T = record { holds = before_holds x.place x.number x.view w u B T.holds; stands = prepared_stands s x.place x.number x.view w u B.rest B.names T.stands; own = T.own; order = order_before x.place x.number x.view w u B T.holds T.order }
 
 pub tied_aside : (s : State) (w : Worker) (k : ℕ) (x : Tie) → IsTied s w k x → IsHeldAside w k x
 tied_aside s w k x T = record { holds = aside_of x.place x.number x.view w T.holds; own = T.own }
@@ -63,10 +63,10 @@ tied_aside s w k x T = record { holds = aside_of x.place x.number x.view w T.hol
 -- after it was held
 pub held_tie : (s : State) (w u : Worker) (q : List Held) (n : ℕ) (r : Request) → IsAsBefore w u → room_at u.index (key_of r) ≡ room_at w.index (key_of r) + 1 → is_busy w.places.items (key_of r) ≡ true → AddsLast u.queue q (held_with n r) → HasAnswerRoom 73 u → w.winds_down ≡ false → length u.queue < 64 → StaysTied s w (record u { queue = q }) (key_of r)
 held_tie s w u q n r B more busy adds room works few x T =
-    let S = prepared_stands s x.place x.number x.view w u B.rest T.stands in
+    let S = prepared_stands s x.place x.number x.view w u B.rest B.names T.stands in
     record {
       holds = held_holds x.place x.number x.view w u q (held_with n r) B more busy adds T.holds;
-      stands = record { lies = S.lies; licensed = S.licensed; landed = S.landed; log = S.log; free = S.free; due = S.due; cut = S.cut };
+      stands = record { lies = S.lies; licensed = S.licensed; landed = S.landed; log = S.log; free = S.free; due = S.due; cut = S.cut; names = S.names };
       own = T.own;
       order = order_held x.place x.number x.view w u q B room (T.order.hand works) few adds.together T.holds T.order;
     }

@@ -19,7 +19,7 @@ use Rattle.core_worker.specs.Ties.{Holds}
 use Rattle.core_worker.specs.Beginning.{OnlyBegins}
 use Rattle.core_worker.specs.Serving.{KeepsLine}
 use Rattle.core_worker.specs.StandingTies.{SameNames}
-use Rattle.core_worker.proofs.NamesKnown.{knows_same}
+use Rattle.core_worker.proofs.NamesKnown.{dead_same}
 use Rattle.core_worker.specs.Accepting.{IsAsBefore}
 
 pub count_few : (ps : List places.Place) → count_changes ps ≤ length ps
@@ -45,7 +45,7 @@ order_accepted p m v w x H known leading stopped hand winds same halts answers O
   answers = answers;
   hand = λ on. hand ∙ O.hand (sym winds ∙ on);
   stops = λ s. subst MayLeadStopped (sym leading) (O.stops (sym stopped ∙ s));
-  log = λ r on. knows_same m v.kept v.present v.told v.dead w.standing x.standing same (O.log (sym stopped ∙ r) (sym winds ∙ on));
+  log = λ r on. dead_same m v.kept v.present v.told v.dead w.standing x.standing same (O.log (sym stopped ∙ r) (sym winds ∙ on));
   names = λ r on. (let had = O.names (sym stopped ∙ r) (sym winds ∙ on) in let more = same.room in omega (arith, had, more));
   agrees = O.agrees;
 } where

@@ -22,6 +22,8 @@ use Rattle.core_worker.proofs.Posts.{busy_by, busy_has}
 use Rattle.core_worker.proofs.Pointers.{free_is}
 use Rattle.std.proofs.lemmas.Bool.{cases_eq}
 use Rattle.conflict_queue.specs.Waiting.{AddsLast}
+use Rattle.core_worker.specs.StandingTies.{SameNames}
+use Rattle.core_worker.proofs.NamesStood.{names_same}
 use Rattle.core_worker.specs.Accepting.{IsAsBefore, Prepared, HoldsOrBegins}
 use Rattle.group_laws.specs.Places.{Place}
 use Rattle.group_laws.specs.MemberViews.{View}
@@ -90,7 +92,7 @@ answered_holds p m v w u e H = subst (λ (x : Worker). HoldsAside p m v x) (sym 
   by leads.Between h = tt
 
 pub answered_stands : (s : State) (p : Place) (m : ℕ) (v : View) (w u : Worker) → u ≡ with_answers w u.answers → Stands s p m v w → Stands s p m v u
-answered_stands s p m v w u e S = subst (λ (x : Worker). Stands s p m v x) (sym e) (record { lies = S.lies; licensed = S.licensed; landed = S.landed; log = S.log; free = S.free; due = S.due; cut = S.cut })
+answered_stands s p m v w u e S = subst (λ (x : Worker). Stands s p m v x) (sym e) (record { lies = S.lies; licensed = S.licensed; landed = S.landed; log = S.log; free = S.free; due = S.due; cut = S.cut; names = S.names })
 
 pub answered : (w u : Worker) (a : Answer) → u ≡ with_answers w u.answers → u.answers.items ≡ w.answers.items ++ a ∷ [] → IsAnswered w u a
 answered w u a e items = record {
@@ -208,8 +210,8 @@ prepared_holds p m v w u e same more H = subst (λ (x : Worker). HoldsAside p m 
   by (leads.Failed x) h = tt
   by leads.Between h = tt
 
-pub prepared_stands : (s : State) (p : Place) (m : ℕ) (v : View) (w u : Worker) → u ≡ record w { answers = u.answers; index = u.index; standing = u.standing } → Stands s p m v w → Stands s p m v u
-prepared_stands s p m v w u e S = subst (λ (x : Worker). Stands s p m v x) (sym e) (record { lies = S.lies; licensed = S.licensed; landed = S.landed; log = S.log; free = S.free; due = S.due; cut = S.cut })
+pub prepared_stands : (s : State) (p : Place) (m : ℕ) (v : View) (w u : Worker) → u ≡ record w { answers = u.answers; index = u.index; standing = u.standing } → SameNames w.standing u.standing → Stands s p m v w → Stands s p m v u
+prepared_stands s p m v w u e same S = subst (λ (x : Worker). Stands s p m v x) (sym e) (record { lies = S.lies; licensed = S.licensed; landed = S.landed; log = S.log; free = S.free; due = S.due; cut = S.cut; names = λ r on telling. names_same s m v.kept v.present v.told v.dead w.log w.standing u.standing same (S.names r on telling) })
 
 pub staged_keeps : (w u : Worker) (n : ℕ) (r : Request) → IsStaged w u n r → (k : ℕ) → is_busy w.places.items k ≡ true → is_busy u.places.items k ≡ true
 staged_keeps w u n r s k busy =

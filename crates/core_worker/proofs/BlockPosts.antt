@@ -197,7 +197,7 @@ module _ (p : Place) (m : ℕ) (v : View) (w : Worker) (H : Holds p m v w) (slot
 
 -- nothing of the region is written, and no place is part of the tie to it
 pub stands_places : (s : State) (p : Place) (m : ℕ) (v : View) (w : Worker) (ps : Vec places.Place Global) → Stands s p m v w → Stands s p m v (record w { places = ps })
-stands_places s p m v w ps S = record { lies = S.lies; licensed = S.licensed; landed = S.landed; log = S.log; free = S.free; due = S.due; cut = S.cut }
+stands_places s p m v w ps S = record { lies = S.lies; licensed = S.licensed; landed = S.landed; log = S.log; free = S.free; due = S.due; cut = S.cut; names = S.names }
 
 -- what the post asks
 pub may_post : (p : Place) (m : ℕ) (v : View) (w : Worker) → Holds p m v w → (slot number q : ℕ) (e : Entry) (value : List ℕ) → slot < 8 → place_at w.places.items slot ≡ Staged number e value → e.body ≡ bodies.Pointer q → w.stopped ≡ false → GetsBlock (length value) × IsClearIn p m v q value

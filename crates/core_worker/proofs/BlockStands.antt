@@ -179,6 +179,15 @@ module _ (s t : State) (p : Place) (m : ℕ) (v : View) (w : Worker) (H : Holds 
       surely_kept (cell_now s (first_of w.log k)) (cell_now t (first_of w.log k)) x sure
       (at_exit s t (KeepsOutside (cell_now s) (first_of w.log j) (first_of w.log j + chunk_words w.log.layout)) only_chunk telling (first_of w.log k) (⊎_elim (λ lo. inl (omega (arith, lo))) (λ hi. inr (omega (arith, hi))) out))
 
+  words_stay : IsTelling t → (k u : ℕ) → tail_of w.log.chunks k ≡ Some u → words_now t (first_of w.log k) u ≡ words_now s (first_of w.log k) u
+  words_stay telling k u is =
+      let own = (S.log runs).own in
+      let fits = (tail_fits w.log.layout own.layout (chunk_with k u) (own_chunk w.log own k u is)).0 in
+      let ne : k ≢ j = λ same. (let both : None ≡ Some u = sym (no_tail (before telling)) ∙ ap (tail_of w.log.chunks) (sym same) ∙ is in cc both) in
+      words_kept s t (first_of w.log k) u (λ x lo hi.
+      at_exit s t (KeepsOutside (cell_now s) (first_of w.log j) (first_of w.log j + chunk_words w.log.layout)) only_chunk telling x
+      (⊎_elim (λ below. inl (omega (arith, below, hi, fits))) (λ above. inr (omega (arith, above, lo))) (chunks_apart w.log.layout w.log.part k j ne)))
+
   module _ (b : Sets) (value : List ℕ) (wrote : WroteValue t w.allocator b q class value) (slot : ℕ) (e : Entry) (long : has_class (length value) class ≡ true) (points : e.body ≡ bodies.Pointer q) where
     other : (k : ℕ) → chunk_is_due b k ≡ true → (chunk_is_due a k ≡ true) × (k ≢ j)
     other k e = let both = and_parts (chunk_is_due a k) (not (k == j)) (sym (wrote.due k) ∙ e) in (both.0, λ same. (let no : true ≡ false = sym both.1 ∙ ap not (eq-eqb k j same) in cc no))
@@ -219,6 +228,7 @@ module _ (s t : State) (p : Place) (m : ℕ) (v : View) (w : Worker) (H : Holds 
           let was = S.cut runs k c (sym (wrote.classes k) ∙ is) (undue k ne un) (before telling) in
           (was.0, kind_stays telling k (H.sets.cut_in k c (sym (wrote.classes k) ∙ is)).0 ne (2 + 256 * c) was.1))
           (cases_eq k j);
+      names = λ r on telling. names_kept s t m v.kept v.present v.told v.dead w.log w.standing (words_stay telling) (S.names r on (before telling));
     }
 
   pub stands_stopped : Stands t p m v (record w { stopped = true })
@@ -234,4 +244,5 @@ module _ (s t : State) (p : Place) (m : ℕ) (v : View) (w : Worker) (H : Holds 
     free = λ r. absurd (cc r);
     due = λ r. absurd (cc r);
     cut = λ r. absurd (cc r);
+    names = λ r. absurd (cc r);
   }

@@ -14,12 +14,12 @@ use Rattle.core_log.specs.Chunk.{padded, words_now}
 use Rattle.core_log.specs.Entries.{AppendedBatch}
 use Rattle.core_log.specs.Log.{LogState, IsOwn, StandsIn, Spelled, tail_of, with_tail, tail_in, first_of, open_number, open_first}
 use Rattle.core_log.specs.Walking.{words_in, entries_in}
-use Rattle.core_log.proofs.Clients.{own_open, tail_set, tail_other, open_has}
+use Rattle.core_log.proofs.Clients.{own_open, tail_set, tail_other, open_has, is_tail}
 use Rattle.log_standing.specs.NameCounts.{StandingState, name_eq, count_of}
 use Rattle.log_standing.specs.ChunkCounts.{has_name, chunks_with, IsStandingOf}
 use Rattle.log_standing.proofs.Clients.{same_name, name_same}
 use Rattle.log_cleaner.specs.Additions.{is_among, Lacks}
-use Rattle.log_cleaner.proofs.AppendLaws.{chunks_more}
+use Rattle.log_cleaner.proofs.AppendLaws.{chunks_more, else_has}
 use Rattle.log_cleaner.proofs.Added.{new_lacks}
 use Rattle.log_cleaner.proofs.Opened.{count_new}
 use Rattle.log_cleaner.proofs.Parts.{count_same}
@@ -39,7 +39,7 @@ among_in (x ∷ xs) k n e = ⊎_elim
     (or_cases (name_eq (x.key, x.version) (k, n)) (is_among xs k n) e)
 
 -- each name is there once
-once : (es : List Entry) → AreNamedApart es → (k n : ℕ) → named_in es k n ≡ one_if (is_among es k n)
+pub once : (es : List Entry) → AreNamedApart es → (k n : ℕ) → named_in es k n ≡ one_if (is_among es k n)
 once [] apart k n = refl
 once (x ∷ xs) apart k n = by (name_eq (x.key, x.version) (k, n)) refl (is_among xs k n) refl (once xs apart.1 k n) where
   by : (b : Bool) → name_eq (x.key, x.version) (k, n) ≡ b → (c : Bool) → is_among xs k n ≡ c → named_in xs k n ≡ one_if (is_among xs k n) → named_in (x ∷ xs) k n ≡ one_if (is_among (x ∷ xs) k n)
@@ -69,7 +69,7 @@ module _ (s t : State) (log log' : LogState) (o : Option ℕ) (es kept : List En
     (outside : During s t (KeepsOutside (cell_now s) (open_first (opened_for log o)) (open_first (opened_for log o) + chunk_words log.layout))) (standing : IsStandingOf s log old) (named : (k n : ℕ) → 0 < count_of old k n → IsNamedIn kept k n)
     (each : AllByRecursion (LacksName kept) es) (apart : AreNamedApart es) (adds : AddsNames old new es) (telling_s : IsTelling s) (telling : IsTelling t) where
   -- none of the names stood
-  fresh : (k n : ℕ) → is_among es k n ≡ true → count_of old k n ≡ 0
+  pub fresh : (k n : ℕ) → is_among es k n ≡ true → count_of old k n ≡ 0
   fresh k n is = ⊎_elim
       (λ some. absurd (let y = among_in es k n is in let x = named k n some in none_kept kept es y.0 each y.1 x.0 x.1 (x.2 ∙ sym y.2) (x.3 ∙ sym y.3)))
       (λ z. z)
@@ -125,3 +125,30 @@ counted s t log log' (Some j) es kept old new stands may batch appended outside 
         let b = count_same g (λ (i : ℕ). has_name (entries_in s log i) k n) log.chunks (λ i has. ap (λ (y : Option ℕ). has_name (scan_of (words_now s (first_of log i) (unwrap_or y 0))).entries k n) (tail_other log.chunks j 0 i (not_new i has))) in
         let none = ap {B = ℕ} (λ (xs : List ℕ). cond (has_name (scan_of xs).entries k n) 1 0) empty in
         omega (arith, a, b, none)
+
+-- a closed chunk of the log is another one than the open one that the batch goes into
+pub other_open : (log : LogState) (o : Option ℕ) → MayOpen log o → (i : ℕ) → is_some (tail_of log.chunks i) ≡ true → log.opened ≢ Some i → i ≢ open_number (opened_for log o)
+other_open log None may i has closed same = closed (is_tail log.opened may ∙ ap (λ (n : ℕ). Some n) (sym same))
+other_open log (Some j) may i has closed same = absurd (let both : true ≡ false = sym has ∙ ap is_some (ap (tail_of log.chunks) same ∙ may.1) in cc both)
+
+pub still_has : (log : LogState) (o : Option ℕ) (i : ℕ) → i ≢ open_number (opened_for log o) → is_some (tail_of log.chunks i) ≡ true → is_some (tail_of (opened_for log o).chunks i) ≡ true
+still_has log None i ne has = has
+still_has log (Some j) i ne has = ap is_some (tail_other log.chunks j 0 i ne) ∙ has
+
+pub still_closed : (log : LogState) (o : Option ℕ) (i : ℕ) → i ≢ open_number (opened_for log o) → log.opened ≢ Some i → (opened_for log o).opened ≢ Some i
+still_closed log None i ne closed same = closed same
+still_closed log (Some j) i ne closed same = ne (sym (ap (λ (x : Option ℕ). unwrap_or x 0) same))
+
+-- and has the entries that it had
+pub else_same : (s t : State) (log log' : LogState) (o : Option ℕ) (es : List Entry) → StandsIn s log → MayOpen log o → IsBatch es → AppendedBatch s t (opened_for log o) log' (padded (flat_map words_of es))
+    → During s t (KeepsOutside (cell_now s) (open_first (opened_for log o)) (open_first (opened_for log o) + chunk_words log.layout)) → IsTelling s → IsTelling t
+    → (i : ℕ) → is_some (tail_of log.chunks i) ≡ true → log.opened ≢ Some i → entries_in t log' i ≡ entries_in s log i
+else_same s t log log' None es stands may batch appended outside telling_s telling i has closed =
+    else_has s t log log' es stands.own may (stands.spelled telling_s (open_number log) (tail_in log (open_number log)) (is_tail (tail_of log.chunks (open_number log)) (ap is_some (open_has log stands.own may))))
+    batch appended outside telling i (other_open log None may i has closed) has
+else_same s t log log' (Some j) es stands may batch appended outside telling_s telling i has closed =
+    let ne = other_open log (Some j) may i has closed in
+    let empty : words_in s (opened_for log (Some j)) j ≡ [] = ap (λ (y : Option ℕ). words_now s (first_of log j) (unwrap_or y 0)) (tail_set log.chunks j 0) in
+    else_has s t (opened_for log (Some j)) log' es (own_open log j stands.own may.0) refl (subst Spelled (sym empty) (record { batches = []; spelled = record { words = refl; each = tt } }))
+    batch appended outside telling i ne (still_has log (Some j) i ne has)
+    ∙ ap (λ (y : Option ℕ). (scan_of (words_now s (first_of log i) (unwrap_or y 0))).entries) (tail_other log.chunks j 0 i ne)

@@ -109,6 +109,7 @@ module _ (p : groups.Place) (m : ℕ) (v : View) (w : Worker) (H : Holds p m v w
       whole = λ is. is;
       lost = H.lost;
       found = λ is. is;
+      names = λ s r. absurd (let both : true ≡ false = sym stopped ∙ r in cc both);
     }
 
     drops_order : FreesInOrder p m e.key v v w dropped

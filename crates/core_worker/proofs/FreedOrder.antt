@@ -18,7 +18,7 @@ use Rattle.core_worker.specs.OwnPlaces.{place_at, key_in, is_busy, Replaces}
 use Rattle.core_worker.specs.Refusals.{HasAnswerRoom}
 use Rattle.core_worker.specs.Beginning.{HoldsAside}
 use Rattle.core_worker.specs.Order.{PointsAt, unanswered, MayLeadStopped, InOrder}
-use Rattle.core_worker.specs.StandingTies.{KnowsLog, NamesAgree, most_names}
+use Rattle.core_worker.specs.StandingTies.{KnowsDead, NamesAgree, most_names}
 use Rattle.core_worker.proofs.Serving.{count_with, one_in, hands}
 use Rattle.core_worker.proofs.Posts.{busy_by, busy_has}
 use Rattle.core_worker.proofs.Freeing.{Frees}
@@ -38,7 +38,7 @@ pub record FreesInOrder (p : Place) (m key : ℕ) (v u : View) (w x : Worker) : 
   pub hand : x.winds_down ≡ false → x.in_hand ≡ None
   pub stops : x.stopped ≡ true → MayLeadStopped x.leading
   pub agrees : NamesAgree p m u.kept u.present u.told u.dead
-  pub log : x.stopped ≡ false → x.winds_down ≡ false → KnowsLog m u.kept u.present u.told u.dead x.standing
+  pub log : x.stopped ≡ false → x.winds_down ≡ false → KnowsDead m u.kept u.present u.told u.dead x.standing
   pub names : x.stopped ≡ false → x.winds_down ≡ false → most_names ≤ x.standing.room
 
 module _ (p : Place) (m key slot : ℕ) (v u : View) (w x : Worker) (H : HoldsAside p m v w) (was : key_in (place_at w.places.items slot) ≡ Some key) (F : Frees p m key slot v u w x) (O : InOrder p m v w) (G : FreesInOrder p m key v u w x) where

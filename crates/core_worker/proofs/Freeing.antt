@@ -3,7 +3,7 @@ use Rattle.std.proofs.Common.{◌≡◌, ◌≢◌, ◌⊎◌, inl, inr, ⊎_eli
 use Rattle.std.specs.Prelude.{is_some}
 use Rattle.std.proofs.lemmas.Bool.{cases_eq}
 use Rattle.pm_region.specs.Words.{Surely}
-use Rattle.pm_region.specs.State.{State, cell_now}
+use Rattle.pm_region.specs.State.{State, IsTelling, cell_now}
 use Rattle.log_entry.specs.declared.entry.Body.{Body}
 use Rattle.log_entry.specs.declared.entry.Body.TheVariants as bodies
 use Rattle.chunk_map.specs.Layouts.{part_first}
@@ -27,6 +27,7 @@ use Rattle.core_worker.specs.declared.types.Place.TheVariants.{Free, Staged, Pos
 use Rattle.core_worker.specs.declared.worker.Worker.{Worker}
 use Rattle.core_worker.specs.OwnPlaces.{place_at, key_in, is_busy, Replaces}
 use Rattle.core_worker.specs.KeyTies.{IsPlaced, Offers, KnowsKey, IsStagedBlock, IsBlockFor}
+use Rattle.core_worker.specs.LogNames.{NamesStand}
 use Rattle.core_worker.specs.Ties.{Stands, Leads, HasSpaceFor, is_lost}
 use Rattle.core_worker.specs.Beginning.{HoldsAside}
 use Rattle.core_worker.proofs.Posts.{busy_by, busy_has}
@@ -67,6 +68,10 @@ pub record Frees (p : Place) (m key slot : ℕ) (v u : View) (w x : Worker) : Ty
   pub whole : u.broken ≡ false → v.broken ≡ false
   pub lost : is_lost x.leading ≡ true → x.stopped ≡ true
   pub found : is_lost x.leading ≡ false → is_lost w.leading ≡ false
+  -- the names in the log
+  pub names : (s : State) → x.stopped ≡ false → x.winds_down ≡ false → IsTelling s
+      → (w.stopped ≡ false → w.winds_down ≡ false → IsTelling s → NamesStand s m v.kept v.present v.told v.dead w.log w.standing)
+      → NamesStand s m u.kept u.present u.told u.dead x.log x.standing
 
 abbrev slot_of : Option Pending → Option ℕ
 slot_of None = None
@@ -223,4 +228,5 @@ module _ (p : Place) (m key slot : ℕ) (v u : View) (w x : Worker) (H : HoldsAs
     free = λ r j h telling. subst (λ (l : LogState). (tail_of l.chunks j ≡ None) × Surely (cell_now s (first_of l j)) 0) (sym F.log) (S.free (F.runs r) j (sym (F.chunks.free j) ∙ h) telling);
     due = λ r j h telling. subst (λ (l : LogState). (tail_of l.chunks j ≡ None) × Surely (cell_now s (first_of l j)) 0) (sym F.log) (S.due (F.runs r) j (sym (F.chunks.due j) ∙ h) telling);
     cut = λ r j c h off telling. subst (λ (l : LogState). (tail_of l.chunks j ≡ None) × Surely (cell_now s (first_of l j)) (2 + 256 * c)) (sym F.log) (S.cut (F.runs r) j c (sym (F.chunks.classes j) ∙ h) (sym (F.chunks.due j) ∙ off) telling);
+    names = λ r on telling. F.names s r on telling S.names;
   }

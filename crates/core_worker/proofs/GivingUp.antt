@@ -108,6 +108,7 @@ module _ (p : Place) (m : ℕ) (v : View) (w : Worker) (H : HoldsAside p m v w) 
       whole = λ is. absurd (cc is);
       lost = λ is. refl;
       found = λ is. is;
+      names = λ s r. absurd (cc r);
     } where
       slot_or : Option Pending → Option ℕ
       slot_or None = None

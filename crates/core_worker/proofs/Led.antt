@@ -64,6 +64,7 @@ stands_quiet s p m v w taken holds looked took l landed S =
       free = S.free;
       due = S.due;
       cut = S.cut;
+      names = S.names;
     }
 
 -- the same of a view that is known to be such a one
@@ -90,6 +91,7 @@ stands_taking s p m v u w flying taken looked took l e whole not_lost S =
       free = S.free;
       due = S.due;
       cut = S.cut;
+      names = S.names;
     })
 
 -- a core that runs is not broken
@@ -148,4 +150,5 @@ failed_stands s p m v u w taken l e S =
       free = S.free;
       due = S.due;
       cut = S.cut;
+      names = S.names;
     })

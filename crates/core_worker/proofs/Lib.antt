@@ -50,6 +50,8 @@ mod StartNames
 pub mod Tidied
 pub mod Freeing
 mod NamesAgreeing
+mod NamesStood
+mod NamesWrote
 pub mod FreedOrder
 pub mod GivingUp
 pub mod Counted

@@ -7,11 +7,12 @@ use Rattle.group_laws.proofs.Clients.{In-append_left, In-append_right, In-append
 use Rattle.log_standing.specs.NameCounts.{StandingState, name_eq, count_in, count_of}
 use Rattle.log_standing.specs.NameCounts as counts
 use Rattle.log_standing.proofs.Clients.{same_name, name_same}
-use Rattle.core_worker.specs.StandingTies.{IsNamedIn, named_in, KnowsLog, SameNames, HasCopies, HearsOwn, AddsNames}
+use Rattle.core_worker.specs.StandingTies.{IsNamedIn, named_in, KnowsDead, SameNames, HasCopies, HearsOwn, AddsNames}
+use Rattle.core_worker.specs.LogNames.{KnowsNames}
 use Rattle.core_worker.proofs.NamesAdded.{one_if, named_more}
 
 -- nothing but places was reserved
-pub knows_same : (m : ℕ) (kept : List Entry) (present : ℕ → ℕ → Option ℕ) (told dead : ℕ → ℕ → Bool) (old new : StandingState) → SameNames old new → KnowsLog m kept present told dead old → KnowsLog m kept present told dead new
+pub knows_same : (m : ℕ) (kept : List Entry) (present : ℕ → ℕ → Option ℕ) (told dead : ℕ → ℕ → Bool) (old new : StandingState) → SameNames old new → KnowsNames m kept present told dead old → KnowsNames m kept present told dead new
 knows_same m kept present told dead old new same K = record {
   stands = λ k n some. K.stands k n (let e = ap count_in (same.copies k n) in omega (arith, e, some));
   all = λ k n is. (let e = ap count_in (same.copies k n) in let some = K.all k n is in omega (arith, e, some));
@@ -19,7 +20,14 @@ knows_same m kept present told dead old new same K = record {
   buried = K.buried;
   own = K.own;
   heard = K.heard;
-  settled = same.settled ∙ K.settled;
+}
+
+pub dead_same : (m : ℕ) (kept : List Entry) (present : ℕ → ℕ → Option ℕ) (told dead : ℕ → ℕ → Bool) (old new : StandingState) → SameNames old new → KnowsDead m kept present told dead old → KnowsDead m kept present told dead new
+dead_same m kept present told dead old new same K = record {
+  deaths = λ k n t. K.deaths k n (ap counts.told_in (sym (same.copies k n)) ∙ t);
+  buried = K.buried;
+  own = K.own;
+  heard = K.heard;
 }
 
 -- names are counted where an entry has them
@@ -50,7 +58,7 @@ some_or_none zero = inr refl
 some_or_none (suc a) = inl (omega arith)
 
 -- a batch is certain
-pub knows_added : (m : ℕ) (kept es : List Entry) (present : ℕ → ℕ → Option ℕ) (told dead : ℕ → ℕ → Bool) (old new : StandingState) → AddsNames old new es → KnowsLog m kept present told dead old → KnowsLog m (kept ++ es) present told dead new
+pub knows_added : (m : ℕ) (kept es : List Entry) (present : ℕ → ℕ → Option ℕ) (told dead : ℕ → ℕ → Bool) (old new : StandingState) → AddsNames old new es → KnowsNames m kept present told dead old → KnowsNames m (kept ++ es) present told dead new
 knows_added m kept es present told dead old new A K = record {
   stands = λ k n some. ⊎_elim
       (λ before. first k n (K.stands k n before))
@@ -64,13 +72,22 @@ knows_added m kept es present told dead old new A K = record {
   buried = λ k n dies. first k n (K.buried k n dies);
   own = λ k n here. first k n (K.own k n here);
   heard = K.heard;
-  settled = A.settled ∙ K.settled;
 } where
   first : (k n : ℕ) → IsNamedIn kept k n → IsNamedIn (kept ++ es) k n
   first k n x = (x.0, In-append_left x.0 kept es x.1, x.2, x.3)
 
   second : (k n : ℕ) → IsNamedIn es k n → IsNamedIn (kept ++ es) k n
   second k n x = (x.0, In-append_right x.0 kept es x.1, x.2, x.3)
+
+pub dead_added : (m : ℕ) (kept es : List Entry) (present : ℕ → ℕ → Option ℕ) (told dead : ℕ → ℕ → Bool) (old new : StandingState) → AddsNames old new es → KnowsDead m kept present told dead old → KnowsDead m (kept ++ es) present told dead new
+dead_added m kept es present told dead old new A K = record {
+  deaths = λ k n t. K.deaths k n (sym (A.told k n) ∙ t);
+  buried = λ k n dies. first k n (K.buried k n dies);
+  own = λ k n here. first k n (K.own k n here);
+  heard = K.heard;
+} where
+  first : (k n : ℕ) → IsNamedIn kept k n → IsNamedIn (kept ++ es) k n
+  first k n x = (x.0, In-append_left x.0 kept es x.1, x.2, x.3)
 
 -- what was heard, after places were reserved
 pub heard_later : (home : ℕ) (es : List (ℕ × slots.Place)) (old mid new : StandingState) → SameNames old mid → HearsOwn home es mid new → HearsOwn home es old new

@@ -42,7 +42,7 @@ holds_noted p m v w H = record {
 }
 
 stands_noted : (s : State) (p : Place) (m : ℕ) (v : View) (w : Worker) → Stands s p m v w → Stands s p m v (noted w)
-stands_noted s p m v w S = record { lies = S.lies; licensed = S.licensed; landed = S.landed; log = S.log; free = S.free; due = S.due; cut = S.cut }
+stands_noted s p m v w S = record { lies = S.lies; licensed = S.licensed; landed = S.landed; log = S.log; free = S.free; due = S.due; cut = S.cut; names = S.names }
 
 order_noted : (p : Place) (m : ℕ) (v : View) (w : Worker) → InOrder p m v w → InOrder p m v (noted w)
 order_noted p m v w O = record {

@@ -34,7 +34,7 @@ use Rattle.core_worker.specs.declared.worker.Worker.{Worker}
 use Rattle.core_worker.specs.OwnPlaces.{place_at, key_in, is_free, is_busy, Replaces, request_by, request_pending, bytes_or}
 use Rattle.core_worker.specs.KeyTies.{IsPlaced, Offers, Left, LeftIn}
 use Rattle.log_standing.specs.NameCounts.{StandingState}
-use Rattle.core_worker.specs.StandingTies.{KnowsLog, most_names}
+use Rattle.core_worker.specs.StandingTies.{KnowsDead, most_names}
 use Rattle.core_worker.specs.Order.{PointsAt, count_changes, unanswered, MayLeadStopped, InOrder}
 use Rattle.core_worker.specs.Posting.{PostsPlain}
 use Rattle.core_worker.specs.Ties.{Holds, Stands, LeadsNothing}
@@ -234,7 +234,7 @@ module _ (p : Place) (m : ℕ) (v : View) (w : Worker) (H : Holds p m v w) (slot
       hand = λ working. hand ∙ O.hand (sym winds ∙ working);
       stops = λ is. absurd (let both : true ≡ false = sym is ∙ on in cc both);
       agrees = O.agrees;
-      log = λ r working. subst (KnowsLog m v.kept v.present v.told v.dead) (sym standing) (O.log runs (sym winds ∙ working));
+      log = λ r working. subst (KnowsDead m v.kept v.present v.told v.dead) (sym standing) (O.log runs (sym winds ∙ working));
       names = λ r working. subst (λ (st : StandingState). most_names ≤ st.room) (sym standing) (O.names runs (sym winds ∙ working));
     } where
       keys_same : (s : ℕ) → key_in (place_at x.places.items s) ≡ key_in (place_at w.places.items s)

@@ -209,4 +209,5 @@ stands_posted s p m v u w slot e ps none is S =
       free = S.free;
       due = S.due;
       cut = S.cut;
+      names = S.names;
     })

@@ -33,7 +33,7 @@ use Rattle.core_worker.specs.declared.worker.Worker.{Worker}
 use Rattle.core_worker.specs.OwnPlaces.{is_busy}
 use Rattle.log_standing.specs.NameCounts.{StandingState}
 use Rattle.core_worker.specs.Order.{count_changes, MayLeadStopped, InOrder}
-use Rattle.core_worker.specs.StandingTies.{KnowsLog, NamesAgree, most_names}
+use Rattle.core_worker.specs.StandingTies.{KnowsDead, NamesAgree, most_names}
 use Rattle.core_worker.specs.Ties.{HoldsAt, StandsAt}
 use Rattle.core_worker.specs.Turns.{Moment, SameButLeading, Steps, TriesLock, GoesRound, Collects, Releases, Marks, Fails, led_by, persisted_left, failed_left}
 use Rattle.core_worker.specs.Supplies.{room_for}
@@ -76,7 +76,7 @@ led v u flying taken broken holds looked took e = record { flying = flying; take
 -- what is kept in order speaks of nothing that a leader's step changes, but for the names in the log
 pub order_as : (p : Place) (m : ℕ) (v : View) (w : Worker) (kept flying : List Entry) (taken : ℕ → ℕ → Option Entry) (broken holds : Bool) (looked : List Seen) (took : List Entry) (log : LogState) (allocator : Sets) (l : Leading) (st : StandingState) (stopped winds : Bool) (ps : Vec places.Place Global)
     → ((k : ℕ) → is_busy ps.items k ≡ is_busy w.places.items k) → count_changes ps.items ≡ count_changes w.places.items → (stopped ≡ true → MayLeadStopped l) → (winds ≡ false → w.winds_down ≡ false)
-    → (stopped ≡ false → winds ≡ false → KnowsLog m kept v.present v.told v.dead st) → (stopped ≡ false → winds ≡ false → most_names ≤ st.room) → NamesAgree p m kept v.present v.told v.dead → InOrder p m v w
+    → (stopped ≡ false → winds ≡ false → KnowsDead m kept v.present v.told v.dead st) → (stopped ≡ false → winds ≡ false → most_names ≤ st.room) → NamesAgree p m kept v.present v.told v.dead → InOrder p m v w
     → InOrder p m (led_as v kept flying taken broken holds looked took) (record w { log = log; allocator = allocator; leading = l; standing = st; stopped = stopped; winds_down = winds; places = ps })
 order_as p m v w kept flying taken broken holds looked took log allocator l st stopped winds ps busy count stops works knows names agrees O = record {
   owned = O.owned;

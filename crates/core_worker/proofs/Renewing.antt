@@ -11,6 +11,7 @@ use Rattle.core_worker.specs.Ties.{Holds, Stands, HasSpaceFor}
 use Rattle.core_worker.specs.StandingTies.{SameNames}
 use Rattle.core_worker.specs.Turns.{Moment, Persists, LosesBatch, PersistsOrLoses}
 use Rattle.core_worker.proofs.NamesKnown.{adds_same}
+use Rattle.core_worker.proofs.NamesStood.{names_same}
 
 space : (w : Worker) (st : StandingState) (winds : Bool) (l : Leading) → HasSpaceFor w l → HasSpaceFor (record w { standing = st; winds_down = winds }) l
 space w st winds (leads.Nothing b) h = tt
@@ -49,19 +50,20 @@ holds_renewed p m v w st winds works H = record {
   chunks = H.chunks;
 }
 
-pub stands_renewed : (s : State) (p : Place) (m : ℕ) (v : View) (w : Worker) (st : StandingState) (winds : Bool) → Stands s p m v w → Stands s p m v (record w { standing = st; winds_down = winds })
-stands_renewed s p m v w st winds S = record { lies = S.lies; licensed = S.licensed; landed = S.landed; log = S.log; free = S.free; due = S.due; cut = S.cut }
+pub stands_renewed : (s : State) (p : Place) (m : ℕ) (v : View) (w : Worker) (st : StandingState) (winds : Bool) → (winds ≡ false → w.winds_down ≡ false) → SameNames w.standing st → Stands s p m v w → Stands s p m v (record w { standing = st; winds_down = winds })
+stands_renewed s p m v w st winds works same S = record { lies = S.lies; licensed = S.licensed; landed = S.landed; log = S.log; free = S.free; due = S.due; cut = S.cut; names = λ r on telling. names_same s m v.kept v.present v.told v.dead w.log w.standing st same (S.names r (works on) telling) }
+
+still_works : (y x : Worker) → (y.winds_down ≡ true → x.winds_down ≡ true) → x.winds_down ≡ false → y.winds_down ≡ false
+still_works y x up on = by y.winds_down refl where
+  by : (b : Bool) → y.winds_down ≡ b → y.winds_down ≡ false
+  by false e = e
+  by true e = absurd (let both : true ≡ false = sym (up e) ∙ on in cc both)
 
 pub renewed_holds : (p : Place) (m : ℕ) (v : View) (y x : Worker) → x ≡ record y { standing = x.standing; winds_down = x.winds_down } → (y.winds_down ≡ true → x.winds_down ≡ true) → Holds p m v y → Holds p m v x
-renewed_holds p m v y x rest up H = subst (λ (z : Worker). Holds p m v z) (sym rest) (holds_renewed p m v y x.standing x.winds_down works H) where
-  works : x.winds_down ≡ false → y.winds_down ≡ false
-  works on = by y.winds_down refl where
-    by : (b : Bool) → y.winds_down ≡ b → y.winds_down ≡ false
-    by false e = e
-    by true e = absurd (let both : true ≡ false = sym (up e) ∙ on in cc both)
+renewed_holds p m v y x rest up H = subst (λ (z : Worker). Holds p m v z) (sym rest) (holds_renewed p m v y x.standing x.winds_down (still_works y x up) H)
 
-pub renewed_stands : (s : State) (p : Place) (m : ℕ) (v : View) (y x : Worker) → x ≡ record y { standing = x.standing; winds_down = x.winds_down } → Stands s p m v y → Stands s p m v x
-renewed_stands s p m v y x rest S = subst (λ (z : Worker). Stands s p m v z) (sym rest) (stands_renewed s p m v y x.standing x.winds_down S)
+pub renewed_stands : (s : State) (p : Place) (m : ℕ) (v : View) (y x : Worker) → x ≡ record y { standing = x.standing; winds_down = x.winds_down } → (y.winds_down ≡ true → x.winds_down ≡ true) → SameNames y.standing x.standing → Stands s p m v y → Stands s p m v x
+renewed_stands s p m v y x rest up same S = subst (λ (z : Worker). Stands s p m v z) (sym rest) (stands_renewed s p m v y x.standing x.winds_down (still_works y x up) same S)
 
 -- a batch was written, and places reserved for the names of the next one
 persists_renewed : (m : ℕ) (a : Moment) (y : Worker) (u : View) (st : StandingState) (winds : Bool) → SameNames y.standing st → (y.winds_down ≡ true → winds ≡ true) → Persists m a (record { worker = y; view = u }) → Persists m a (record { worker = record y { standing = st; winds_down = winds }; view = u })

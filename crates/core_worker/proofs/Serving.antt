@@ -20,7 +20,7 @@ use Rattle.core_worker.specs.OwnPlaces.{place_at, is_free, is_busy, key_in, Repl
 use Rattle.core_worker.specs.Refusals.{HasAnswerRoom}
 use Rattle.core_worker.specs.Beginning.{HoldsAside, IsStaged}
 use Rattle.log_standing.specs.NameCounts.{StandingState}
-use Rattle.core_worker.specs.StandingTies.{KnowsLog, most_names}
+use Rattle.core_worker.specs.StandingTies.{KnowsDead, most_names}
 use Rattle.core_worker.specs.Order.{PointsAt, count_changes, unanswered, MayLeadStopped, InOrder}
 use Rattle.core_worker.specs.Serving.{KeepsLine, OthersWait, AllWait}
 use Rattle.core_worker.proofs.Posts.{busy_by, busy_has}
@@ -97,7 +97,7 @@ order_kept p m v w u index leading stopped standing works recalls answers hand O
   hand = hand;
   stops = λ s. subst MayLeadStopped (sym leading) (O.stops (sym stopped ∙ s));
   agrees = O.agrees;
-  log = λ r on. subst (KnowsLog m v.kept v.present v.told v.dead) (sym standing) (O.log (sym stopped ∙ r) (works on));
+  log = λ r on. subst (KnowsDead m v.kept v.present v.told v.dead) (sym standing) (O.log (sym stopped ∙ r) (works on));
   names = λ r on. subst (λ (st : StandingState). most_names ≤ st.room) (sym standing) (O.names (sym stopped ∙ r) (works on));
 }
 

@@ -36,7 +36,9 @@ use Rattle.core_worker.specs.Order.{PointsAt, InOrder, MayLeadStopped}
 use Rattle.core_worker.specs.Refusals.{HasAnswerRoom}
 use Rattle.core_worker.specs.Beginning.{HoldsAside}
 use Rattle.core_worker.specs.Hearing.{heard_at, last_change, HearsAll}
-use Rattle.core_worker.specs.StandingTies.{IsNamedIn, KnowsLog, HearsOwn}
+use Rattle.core_worker.specs.StandingTies.{IsNamedIn, KnowsDead, HearsOwn}
+use Rattle.core_worker.specs.LogNames.{KnowsNames}
+use Rattle.core_worker.proofs.NamesStood.{names_heard}
 use Rattle.core_worker.specs.Finishing.{PutsBackIf}
 use Rattle.core_worker.proofs.Posts.{busy_by}
 use Rattle.core_worker.proofs.HeardNames.{stands_by, dies_by, awaits_by}
@@ -338,44 +340,6 @@ module _ (p : Place) (m : ℕ) (v : View) (w : Worker) (H : HoldsAside p m v w) 
       by None at = absurd (let eq = A.changes k in let both : Some (last_change r) ≡ None = ap (option_map last_change) (sym is) ∙ eq ∙ ap (option_map last_change) at in cc both)
       by (Some x) at = spelled_as x (mid_spelled x at) (ap (option_map last_change) (sym is) ∙ A.changes k ∙ ap (option_map last_change) at)
 
-    pub settles : Frees p m key slot v view w done
-    settles = record {
-      places = R;
-      layout = refl;
-      core = refl;
-      log = refl;
-      cleaning = refl;
-      runs = λ r. r;
-      spelled = spelled_now;
-      room = λ k ne. (let a = A.room k in let c = rooms k ne in omega (arith, a, c));
-      knows = knows_after;
-      knows_here = λ own r. tidied_knows p m mid_view last told dead T mid ix A key own spent_here knows_mid;
-      remembers = λ r k own none. forgets_now k ∙ ⊎_elim
-          (λ same. ap (λ (i : ℕ). is_forgettable (known_at mid i)) same ∙ ap is_forgettable C.here ∙ and_no (is_tombstone e.body) (is_empty new_record.standing) (not_empty (standing_of (known_at w.index key)) new_standing))
-          (λ ne. ap is_forgettable (C.others k ne) ∙ H.remembers r k own (sym (pending_other k ne) ∙ none))
-          (cases_eq k key);
-      last = λ k own ne busy. (knows_after k own ne (inr busy)).last ∙ change_last (known_at mid k) (known_at ix k) (A.changes k) ∙ ap last_of (C.others k ne) ∙ sym (H.keys k own (inr busy)).last;
-      cell = cell_other;
-      pending = pending_other;
-      gone = λ q has. absurd (let both : Some q ≡ None = sym has ∙ gone_here key refl in cc both);
-      sets = sets;
-      chunks = put_chunks w.allocator al (block_of (known_at w.index key)) P;
-      less = put_less w.allocator al (block_of (known_at w.index key)) P;
-      blocks = blocks_was;
-      others = blocks_other;
-      held = left_used;
-      staged = λ q s ne. staged_used q s;
-      only = used_left;
-      only_staged = λ q s at on. not_here q s at;
-      allows = record { kept = refl; flying = refl; doomed = λ k n d. d; blocks = blocks_was };
-      leads = record { seat = H.leads.seat; place = H.leads.place; number = H.leads.number; at = subst (LeadsAt H.leads.seat view) (sym nothing) (let had : LeadsAt H.leads.seat v (leads.Nothing b) = subst (LeadsAt H.leads.seat v) nothing H.leads.at in (had.0, had.1, had.2)) };
-      space = λ r. subst (HasSpaceFor (record done { queue = [] })) (sym nothing) tt;
-      broken = H.broken;
-      whole = λ is. is;
-      lost = H.lost;
-      found = λ is. is;
-    }
-
     told_still : (k n : ℕ) → view.present k n ≡ None → told k n ≡ false
     told_still k n none = by (told k n) refl where
       before : v.present k n ≡ None
@@ -425,7 +389,7 @@ module _ (p : Place) (m : ℕ) (v : View) (w : Worker) (H : HoldsAside p m v w) 
         (cases_eq k key)
 
     -- what stands in the own log
-    module _ (runs : w.stopped ≡ false) (L : KnowsLog m v.kept v.present v.told v.dead w.standing) where
+    module _ (L : KnowsDead m v.kept v.present v.told v.dead w.standing) where
       own_now : (k n : ℕ) → mid_view.present k n ≡ Some m → IsNamedIn v.kept k n
       own_now k n is = ⊎_elim
           (λ x. (e, kept_home x.2, mine ∙ sym x.0, sym x.1))
@@ -447,7 +411,7 @@ module _ (p : Place) (m : ℕ) (v : View) (w : Worker) (H : HoldsAside p m v w) 
       -- who awaited is dead
       told_dies : (k n : ℕ) → is_told st k n ≡ true → dead k n ≡ true
       told_dies k n t = ⊎_elim
-          (λ before. learns k n (inl (sym (L.deaths k n) ∙ before)))
+          (λ before. learns k n (inl (L.deaths k n before)))
           (λ a. ⊎_elim
           (λ same. learns k n (inr (subst (λ (i : ℕ). TellsItselfIn p m mid_view i n) (sym same) (awaited n (subst (λ (i : ℕ). Awaits (known_at mid i) (core_of p m) n) same a)))))
           (λ ne. absurd (O.heard k n (subst (λ (o : Option KeyRecord). Awaits o (core_of p m) n) (C.others k ne) a)))
@@ -461,6 +425,19 @@ module _ (p : Place) (m : ℕ) (v : View) (w : Worker) (H : HoldsAside p m v w) 
               let here = member_of p h.0 m h.2 in
               (own_key, h.1 ∙ ap Some here, dead_is p mid_view key (known_at mid key) knows_mid n (dies_by (known_at mid key) (core_of p m) n a))
 
+      knows_dead : KnowsDead m v.kept mid_view.present told dead st
+      knows_dead = record {
+        deaths = told_dies;
+        buried = λ k n dies. ⊎_elim (λ before. L.buried k n before) (λ x. own_now k n x.1) ((T.learns k n).0 dies);
+        own = own_now;
+        heard = heard_now;
+      }
+
+    -- and by what stands there where the region tells
+    module _ (runs : w.stopped ≡ false) (L : KnowsNames m v.kept v.present v.told v.dead w.standing) where
+      known : KnowsDead m v.kept v.present v.told v.dead w.standing
+      known = record { deaths = λ k n t. sym (L.deaths k n) ∙ t; buried = L.buried; own = L.own; heard = L.heard }
+
       counted : (k n : ℕ) → IsNamedIn v.kept k n → 0 < count_of w.standing k n
       counted k n is = L.all k n is
 
@@ -468,7 +445,7 @@ module _ (p : Place) (m : ℕ) (v : View) (w : Worker) (H : HoldsAside p m v w) 
       dies_told : (k n : ℕ) → dead k n ≡ true → is_told st k n ≡ true
       dies_told k n dies = ⊎_elim
           (λ before. tells.all k n (counted k n (L.buried k n before)) (inl (L.deaths k n ∙ before)))
-          (λ x. tells.all k n (counted k n (own_now k n x.1)) (by_itself k n x))
+          (λ x. tells.all k n (counted k n (own_now known k n x.1)) (by_itself k n x))
           ((T.learns k n).0 dies)
         where
           mid_knows : (k : ℕ) → owner p k ≡ m → KnowsKey p mid_view k (known_at mid k)
@@ -496,16 +473,54 @@ module _ (p : Place) (m : ℕ) (v : View) (w : Worker) (H : HoldsAside p m v w) 
                 let same : s.0 ≡ standing_with n (core_of p m) false = (λ i. standing_with (version i) (s.2 i) (t i)) in
                 inr (awaits_by (known_at mid k) (core_of p m) n (s.1 ∙ ap (λ (y : Standing). Some y) same) dies)
 
-      knows_log : KnowsLog m v.kept mid_view.present told dead st
-      knows_log = record {
+      knows_names : KnowsNames m v.kept mid_view.present told dead st
+      knows_names = record {
         stands = λ k n some. L.stands k n (let c = tells.counts k n in omega (arith, c, some));
         all = λ k n is. (let c = tells.counts k n in let some = L.all k n is in omega (arith, c, some));
-        deaths = λ k n. same_flag (is_told st k n) (dead k n) (told_dies k n) (dies_told k n);
-        buried = λ k n dies. ⊎_elim (λ before. L.buried k n before) (λ x. own_now k n x.1) ((T.learns k n).0 dies);
-        own = own_now;
-        heard = heard_now;
-        settled = tells.settled ∙ L.settled;
+        deaths = λ k n. same_flag (is_told st k n) (dead k n) (told_dies known k n) (dies_told k n);
+        buried = λ k n dies. ⊎_elim (λ before. L.buried k n before) (λ x. own_now known k n x.1) ((T.learns k n).0 dies);
+        own = own_now known;
+        heard = heard_now known;
       }
+
+    pub settles : Frees p m key slot v view w done
+    settles = record {
+      places = R;
+      layout = refl;
+      core = refl;
+      log = refl;
+      cleaning = refl;
+      runs = λ r. r;
+      spelled = spelled_now;
+      room = λ k ne. (let a = A.room k in let c = rooms k ne in omega (arith, a, c));
+      knows = knows_after;
+      knows_here = λ own r. tidied_knows p m mid_view last told dead T mid ix A key own spent_here knows_mid;
+      remembers = λ r k own none. forgets_now k ∙ ⊎_elim
+          (λ same. ap (λ (i : ℕ). is_forgettable (known_at mid i)) same ∙ ap is_forgettable C.here ∙ and_no (is_tombstone e.body) (is_empty new_record.standing) (not_empty (standing_of (known_at w.index key)) new_standing))
+          (λ ne. ap is_forgettable (C.others k ne) ∙ H.remembers r k own (sym (pending_other k ne) ∙ none))
+          (cases_eq k key);
+      last = λ k own ne busy. (knows_after k own ne (inr busy)).last ∙ change_last (known_at mid k) (known_at ix k) (A.changes k) ∙ ap last_of (C.others k ne) ∙ sym (H.keys k own (inr busy)).last;
+      cell = cell_other;
+      pending = pending_other;
+      gone = λ q has. absurd (let both : Some q ≡ None = sym has ∙ gone_here key refl in cc both);
+      sets = sets;
+      chunks = put_chunks w.allocator al (block_of (known_at w.index key)) P;
+      less = put_less w.allocator al (block_of (known_at w.index key)) P;
+      blocks = blocks_was;
+      others = blocks_other;
+      held = left_used;
+      staged = λ q s ne. staged_used q s;
+      only = used_left;
+      only_staged = λ q s at on. not_here q s at;
+      allows = record { kept = refl; flying = refl; doomed = λ k n d. d; blocks = blocks_was };
+      leads = record { seat = H.leads.seat; place = H.leads.place; number = H.leads.number; at = subst (LeadsAt H.leads.seat view) (sym nothing) (let had : LeadsAt H.leads.seat v (leads.Nothing b) = subst (LeadsAt H.leads.seat v) nothing H.leads.at in (had.0, had.1, had.2)) };
+      space = λ r. subst (HasSpaceFor (record done { queue = [] })) (sym nothing) tt;
+      broken = H.broken;
+      whole = λ is. is;
+      lost = H.lost;
+      found = λ is. is;
+      names = λ s r on telling had. names_heard s m (core_of p m) mid v.kept v.kept v.present mid_view.present v.told told v.dead dead w.log w.standing st tells (had r on telling) (knows_names r (had r on telling).knows);
+    }
 
     pub settles_order : FreesInOrder p m key v view w done
     settles_order = record {
@@ -522,6 +537,6 @@ module _ (p : Place) (m : ℕ) (v : View) (w : Worker) (H : HoldsAside p m v w) 
       hand = O.hand;
       stops = λ s. subst MayLeadStopped (sym nothing) tt;
       agrees = agrees_tidied p m mid_view last told dead T (record { bodies = O.agrees.bodies; mine = λ k n h is. ⊎_elim (λ x. ap (owner p) x.0 ∙ own_key) (λ before. O.agrees.mine k n h before) (was_there k n h is); dead_told = O.agrees.dead_told });
-      log = λ r on. knows_log r (O.log r on);
+      log = λ r on. knows_dead (O.log r on);
       names = λ r on. (let had = O.names r on in let more = tells.room in omega (arith, had, more));
     }

@@ -149,4 +149,5 @@ module _ (p : Place) (m : ℕ) (v : View) (w : Worker) (H : HoldsAside p m v w) 
       free = λ r j h telling. S.free r j (A.free j h) telling;
       due = λ r j h telling. ⊎_elim (λ due. S.due r j due telling) (λ free. S.free r j free telling) (A.due j h);
       cut = λ r j c h off telling. let x = A.cut j c h off in S.cut r j c x.0 x.1 telling;
+      names = S.names;
     }

@@ -1,8 +1,19 @@
 -- A worker that has accepted nothing is tied to the view that its group is opened with.
 use Rattle.std.proofs.Common.{◌≡◌, inl, inr, ⊎_elim, ◌⊎◌, ℕ, zero, suc, ◌+◌, ◌*◌, ◌<◌, ◌==◌, ◌&&◌, eqb, Bool, true, false, cond, List, [], ◌∷◌, ◌++◌, length, Option, Some, None, option_map, is_some, refl, sym, ◌∙◌, ap, subst, arith}
 use Rattle.std.proofs.lemmas.Bool.{cases_eq, and_parts, and_from, eqb-true, eq-eqb}
-use Rattle.pm_region.specs.State.{State, cell_now}
-use Rattle.pm_region.specs.Words.{Surely}
+use Rattle.pm_region.specs.State.{State, IsTelling, cell_now}
+use Rattle.pm_region.specs.Words.{Surely, lasts}
+use Rattle.pm_region.proofs.Clients.{may_be_last}
+use Rattle.log_entry.specs.Batches.{scan_of}
+use Rattle.log_entry.proofs.Clients.{words_same}
+use Rattle.chunk_map.proofs.Clients.{chunk_in_part}
+use Rattle.chunk_map.specs.Layouts.{part_first}
+use Rattle.store_image.specs.Parts.{payload}
+use Rattle.core_log.proofs.Clients.{is_tail, own_chunk, tail_fits}
+use Rattle.log_standing.specs.declared.types.Settled.{Settled}
+use Rattle.log_standing.specs.ChunkCounts.{chunks_in, has_name}
+use Rattle.log_cleaner.proofs.Parts.{count_same}
+use Rattle.licence.specs.Licence.{part_at, part_end}
 use Rattle.log_entry.specs.declared.entry.Body.{Body}
 use Rattle.log_entry.specs.declared.entry.Body.TheVariants.{Pointer}
 use Rattle.log_entry.specs.Spelling.{HasSpelling}
@@ -17,7 +28,7 @@ use Rattle.core_index.specs.Records.{KeyRecord, Awaits, block_of, pointer_of, st
 use Rattle.core_index.specs.Records.{is_dead as dead_in_record}
 use Rattle.core_index.proofs.Clients.{found_version}
 use Rattle.log_standing.specs.NameCounts.{copies_at, count_of, is_told}
-use Rattle.core_log.specs.Log.{LogState, StandsIn, tail_of, first_of}
+use Rattle.core_log.specs.Log.{LogState, StandsIn, tail_of, tail_in, first_of, chunk_with}
 use Rattle.lazy_alloc.specs.Sets.{Sets, AreSets, chunk_is_free, chunk_is_due, chunk_class}
 use Rattle.lazy_alloc.specs.Written.{PartLies}
 use Rattle.recover.specs.Starts.{KnownAs, IsSpelledIndex, named_in}
@@ -38,7 +49,8 @@ use Rattle.core_worker.specs.declared.worker.Worker.{Worker}
 use Rattle.core_worker.specs.OwnPlaces.{place_at, key_in, lines_in, own, is_busy}
 use Rattle.core_worker.specs.Supplies.{rest, KeepsRule, HasKeptRoom, supply_of}
 use Rattle.core_worker.specs.KeyTies.{KnowsKey, IsPlaced, IsStagedBlock, AreBlocks}
-use Rattle.core_worker.specs.StandingTies.{KnowsLog}
+use Rattle.core_worker.specs.StandingTies.{KnowsDead}
+use Rattle.core_worker.specs.LogNames.{KnowsNames}
 use Rattle.core_worker.specs.OwnChunks.{AreChunks}
 use Rattle.core_worker.specs.Ties.{Holds, Stands, Leads, LeadsAt, HasSpaceFor, is_lost}
 use Rattle.core_worker.specs.Order.{InOrder, PointsAt, count_changes}
@@ -326,16 +338,18 @@ module _ (p : Place) (m : ℕ) (image : ℕ → ℕ) (start : CoreStart) (layout
               inr (awaits_by (known_at start.index k) start.core n (is ∙ ap (λ (y : Standing). Some y) whole) both.1)
           by_test false e t = absurd (let both : true ≡ false = sym t ∙ untold in cc both)
 
-  knows_log : KnowsLog m v.kept v.present v.told v.dead w.standing
-  knows_log = record {
+  knows_names : KnowsNames m v.kept v.present v.told v.dead w.standing
+  knows_names = record {
     stands = λ k n some. logged_named p m image start at k n (logged k n some);
     all = λ k n is. counted k n (named_logged p m image start at k n is);
     deaths = λ k n. same_flag (is_told w.standing k n) (v.dead k n) (told_dies k n) (dies_told k n);
     buried = λ k n dies. logged_named p m image start at k n (own_logged k n (dead_parts k n dies).1);
     own = λ k n is. logged_named p m image start at k n (own_logged k n (own_home k n is).1);
     heard = λ k n is told. dead_told k n (own_home k n is).0 ∙ told;
-    settled = N.standing.settled ∙ at.made.settled;
   }
+
+  knows_dead : KnowsDead m v.kept v.present v.told v.dead w.standing
+  knows_dead = record { deaths = told_dies; buried = knows_names.buried; own = knows_names.own; heard = knows_names.heard }
 
   pub order_now : InOrder p m v w
   order_now = record {
@@ -364,7 +378,7 @@ module _ (p : Place) (m : ℕ) (image : ℕ → ℕ) (start : CoreStart) (layout
       mine = λ k n h is. (mine_of k (home_of p image k n) None (Some h) is (λ none. (let both : None ≡ Some h = none in cc both))).0;
       dead_told = λ k n own dies. sym (dead_told k n own) ∙ dies;
     };
-    log = λ runs on. knows_log;
+    log = λ runs on. knows_dead;
     names = λ runs on. N.names;
   }
 
@@ -377,8 +391,32 @@ module _ (p : Place) (m : ℕ) (image : ℕ → ℕ) (start : CoreStart) (layout
       log = λ runs. subst (StandsIn s) (sym N.log) here.log;
       free = λ runs j free telling. in_log j 0 (start_heads.free_now p m image start at s here j (ap (λ (a : Sets). chunk_is_free a j) (sym N.allocator) ∙ free) telling);
       due = λ runs j due telling. absurd (start_heads.never_due p m image start at j (ap (λ (a : Sets). chunk_is_due a j) (sym N.allocator) ∙ due));
+      names = λ runs on telling. record {
+        counted = record {
+          counts = λ k n. N.standing.counts k n ∙ at.found.standing k n ∙ sym (chunks_found k n telling);
+          settled = λ h read. unread h read;
+        };
+        read = λ h read. unread h read;
+        knows = knows_names;
+      };
       cut = λ runs j k class undue telling. in_log j (2 + 256 * k) (start_heads.cut_now p m image start at s here j k (ap (λ (a : Sets). chunk_class a j) (sym N.allocator) ∙ class) telling);
     }
       where
+        unread : {A : Type 0} (h : Settled) → w.standing.settled ≡ Some h → A
+        unread h read = absurd (let both : None ≡ Some h = sym (N.standing.settled ∙ at.made.settled) ∙ read in cc both)
+
+        chunks_found : (k n : ℕ) → IsTelling s → chunks_in (lasts s) w.log k n ≡ chunks_in image start.log k n
+        chunks_found k n telling = ap (λ (g : LogState). chunks_in (lasts s) g k n) N.log
+            ∙ count_same (λ (i : ℕ). has_name (scan_of (payload (lasts s) (first_of start.log i) (tail_in start.log i))).entries k n) (λ (i : ℕ). has_name (scan_of (payload image (first_of start.log i) (tail_in start.log i))).entries k n) start.log.chunks
+            (λ i has. ap (λ (ws : List ℕ). has_name (scan_of ws).entries k n) (words_same (lasts s) image (first_of start.log i + 32) (tail_in start.log i) (λ x lt.
+            let own = own_chunk start.log at.made.own i (tail_in start.log i) (is_tail (tail_of start.log.chunks i) has) in
+            let fits = (tail_fits start.log.layout at.made.own.layout (chunk_with i (tail_in start.log i)) own).0 in
+            let area = chunk_in_part start.log.layout start.log.part i own.within in
+            let low_is : part_at p m ≡ part_first start.log.layout start.log.part = (λ e. part_first (sym at.made.layout_is e) (sym at.made.part_is e)) in
+            let high_is : part_end p m ≡ part_first start.log.layout (start.log.part + 1) = (λ e. part_first (sym at.made.layout_is e) (sym at.made.part_is e + 1)) in
+            let a0 = area.0 in
+            let a1 = area.1 in
+            here.words telling (first_of start.log i + 32 + x) (omega (arith, a0, low_is)) (omega (arith, a1, high_is, fits, lt)) (lasts s (first_of start.log i + 32 + x)) (may_be_last (cell_now s (first_of start.log i + 32 + x)) (lasts s (first_of start.log i + 32 + x)) refl))))
+
         in_log : (j k : ℕ) → (tail_of start.log.chunks j ≡ None) × Surely (cell_now s (first_of start.log j)) k → (tail_of w.log.chunks j ≡ None) × Surely (cell_now s (first_of w.log j)) k
         in_log j k both = subst (λ (g : LogState). (tail_of g.chunks j ≡ None) × Surely (cell_now s (first_of g j)) k) (sym N.log) both

@@ -28,8 +28,8 @@ use Rattle.core_worker.specs.declared.worker.Worker.{Worker}
 use Rattle.core_worker.specs.OwnPlaces.{place_at, key_in, is_free, is_staged, is_busy, is_of, IsLowest}
 use Rattle.core_worker.specs.Order.{MayLeadStopped, InOrder}
 use Rattle.core_worker.specs.Supplies.{HasKeptRoom}
-use Rattle.core_worker.specs.StandingTies.{KnowsLog, NamesAgree, most_names}
-use Rattle.core_worker.proofs.NamesKnown.{knows_added}
+use Rattle.core_worker.specs.StandingTies.{KnowsDead, NamesAgree, most_names}
+use Rattle.core_worker.proofs.NamesKnown.{dead_added}
 use Rattle.core_worker.specs.Ties.{Leads, LeadsAt, LeadsNothing, HoldsAt, StandsAt, KeepsStanding}
 use Rattle.batch_leader.specs.declared.taken.Taken.{Taken}
 use Rattle.batch_leader.specs.TakenChanges.{entries_in}
@@ -124,11 +124,11 @@ module _ (seat : SeatAt) (s t : State) (before after : Option Group) (v u : View
         subst (λ (es : List Entry). NamesAgree seat.place seat.number (v.kept ++ es) v.present v.told v.dead) (sym had.0.flying)
         (agrees_added seat.place seat.number v.kept (entries_in P.batch.changes.taken.items) v.present v.told v.dead O.agrees (lacks_taken seat.number v P.batch.changes.taken.items had.0.unlogged) had.0.named)
 
-    known : w.winds_down ≡ false → KnowsLog seat.number (v.kept ++ v.flying) v.present v.told v.dead x.standing
+    known : w.winds_down ≡ false → KnowsDead seat.number (v.kept ++ v.flying) v.present v.told v.dead x.standing
     known on =
         let had = led_here seat v w.leading (leads.Batch P.batch) H.leads P.led in
-        subst (λ (es : List Entry). KnowsLog seat.number (v.kept ++ es) v.present v.told v.dead x.standing) (sym had.0.flying)
-        (knows_added seat.number v.kept (entries_in P.batch.changes.taken.items) v.present v.told v.dead w.standing x.standing (P.names on) (O.log runs on))
+        subst (λ (es : List Entry). KnowsDead seat.number (v.kept ++ es) v.present v.told v.dead x.standing) (sym had.0.flying)
+        (dead_added seat.number v.kept (entries_in P.batch.changes.taken.items) v.present v.told v.dead w.standing x.standing (P.names on) (O.log runs on))
 
     taken : List Taken
     taken = P.batch.changes.taken.items

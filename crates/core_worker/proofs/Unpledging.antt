@@ -383,4 +383,4 @@ module _ (p : group.Place) (m : ℕ) (v : View) (w : Worker) (H : Holds p m v w)
 
 -- the ties to the region say nothing of places
 pub stands_lowered : (s : State) (p : group.Place) (m : ℕ) (v : View) (w : Worker) (ps : Vec Place Global) → Stands s p m v w → Stands s p m v (record w { places = ps })
-stands_lowered s p m v w ps S = record { lies = S.lies; licensed = S.licensed; landed = S.landed; log = S.log; free = S.free; due = S.due; cut = S.cut }
+stands_lowered s p m v w ps S = record { lies = S.lies; licensed = S.licensed; landed = S.landed; log = S.log; free = S.free; due = S.due; cut = S.cut; names = S.names }

@@ -62,12 +62,12 @@ aside_other p m v w q h b H = record {
   by (leads.Failed x) h = tt
   by leads.Between h = tt
 
-pub stands_other : (s : State) (p : Place) (m : ℕ) (v : View) (w : Worker) (q : List Held) (h : Option Held) (b : Bool) → Stands s p m v w → Stands s p m v (record w { queue = q; in_hand = h; winds_down = b })
-stands_other s p m v w q h b S = record { lies = S.lies; licensed = S.licensed; landed = S.landed; log = S.log; free = S.free; due = S.due; cut = S.cut }
+pub stands_other : (s : State) (p : Place) (m : ℕ) (v : View) (w : Worker) (q : List Held) (h : Option Held) (b : Bool) → (b ≡ false → w.winds_down ≡ false) → Stands s p m v w → Stands s p m v (record w { queue = q; in_hand = h; winds_down = b })
+stands_other s p m v w q h b works S = record { lies = S.lies; licensed = S.licensed; landed = S.landed; log = S.log; free = S.free; due = S.due; cut = S.cut; names = λ r on. S.names r (works on) }
 
 -- the first waiting request of a key is taken out: the ties for its key
 pub taken_aside : (w : Worker) (q : List Held) (k : ℕ) (h : Held) → TakesFirst w.queue q k h → (x : Tie) → IsHeldAside w k x → IsHeldAside (record w { queue = q }) (key_of h.request) x
 taken_aside w q k h T x a = record { holds = aside_other x.place x.number x.view w q w.in_hand w.winds_down a.holds; own = ap (owner x.place) (first_key w.queue q k h T) ∙ a.own }
 
 pub taken_stands : (s : State) (x : Tie) (w : Worker) (q : List Held) → StandsBy s x w → StandsBy s x (record w { queue = q })
-taken_stands s x w q S = stands_other s x.place x.number x.view w q w.in_hand w.winds_down S
+taken_stands s x w q S = stands_other s x.place x.number x.view w q w.in_hand w.winds_down (λ on. on) S

@@ -56,4 +56,4 @@ wound_holds p m v w H = record {
 }
 
 pub wound_stands : (s : State) (p : Place) (m : ℕ) (v : View) (w : Worker) → Stands s p m v w → Stands s p m v (record w { winds_down = true })
-wound_stands s p m v w S = record { lies = S.lies; licensed = S.licensed; landed = S.landed; log = S.log; free = S.free; due = S.due; cut = S.cut }
+wound_stands s p m v w S = record { lies = S.lies; licensed = S.licensed; landed = S.landed; log = S.log; free = S.free; due = S.due; cut = S.cut; names = λ r on. absurd (cc on) }

@@ -136,6 +136,7 @@ module _ (p : groups.Place) (m : ℕ) (v : View) (w : Worker) (H : Holds p m v w
       whole = λ is. is;
       lost = λ is. clash (is_lost l) is safe;
       found = λ is. was_safe;
+      names = λ s r. clash w.stopped stopped r;
     }
 
     withdraws_order : FreesInOrder p m e.key v view w withdrawn

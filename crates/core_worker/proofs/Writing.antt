@@ -33,6 +33,8 @@ use Rattle.core_worker.specs.declared.types.Place.TheVariants.{Free, Staged, Pos
 use Rattle.core_worker.specs.OwnPlaces.{place_at}
 use Rattle.core_worker.specs.KeyTies.{IsBlockFor, AreBlocks, IsPlaced}
 use Rattle.core_worker.specs.OwnChunks.{AreChunks}
+use Rattle.log_standing.specs.NameCounts.{StandingState}
+use Rattle.core_worker.specs.LogNames.{NamesStand}
 use Rattle.core_worker.specs.Ties.{Leads, HasSpaceFor, is_lost, Holds, Stands}
 use Rattle.core_worker.specs.Turns.{TakesFor}
 use Rattle.core_worker.proofs.Led.{led_view}
@@ -73,7 +75,7 @@ takes_same true old new (Some j) t = record {
 }
 takes_same false old new o t = subst (Same old) (sym t.1) (record { layout = refl; part = refl; free = λ j e. e; classes = λ j. refl; due = λ j. refl; used = λ q. refl })
 
-taken_free : (f : Bool) (old new : Sets) (j : ℕ) → TakesFor f old new (Some j) → chunk_is_free old j ≡ true
+pub taken_free : (f : Bool) (old new : Sets) (j : ℕ) → TakesFor f old new (Some j) → chunk_is_free old j ≡ true
 taken_free true old new j t = t.was_free
 taken_free false old new j t = absurd (cc (t.0))
 
@@ -230,8 +232,8 @@ module _ (s t : State) (p : Place) (m : ℕ) (v : View) (w : Worker) (a : Sets) 
   not_taken j isnt i e here = isnt (subst (λ (k : ℕ). chunk_is_free w.allocator k ≡ true) (sym here) (taken_free f w.allocator a i (subst (λ (x : Option ℕ). TakesFor f w.allocator a x) e takes)))
 
   -- the ties to the region after the batch
-  pub stands_wrote : (u : View) (x : Persisted) → u ≡ after_commit v → (IsTelling t → Licensed p m u (cell_now t)) → Stands t p m u (record w { log = log'; allocator = a; leading = leads.Persisted x })
-  stands_wrote u x e licensed = record {
+  pub stands_wrote : (u : View) (x : Persisted) (st : StandingState) → (w.winds_down ≡ false → IsTelling t → NamesStand t m (v.kept ++ v.flying) v.present v.told v.dead log' st) → u ≡ after_commit v → (IsTelling t → Licensed p m u (cell_now t)) → Stands t p m u (record w { log = log'; allocator = a; leading = leads.Persisted x; standing = st })
+  stands_wrote u x st names e licensed = record {
     lies = (let L = S.lies in let fr = chunk.frame in record {
       low = subst (λ (y : Frame). y.first ≤ part_first a.layout a.part) (sym fr) (subst (λ (y : ℕ). s.frame.first ≤ y) (λ i. part_first (sym same.layout i) (sym same.part i)) L.low);
       high = subst (λ (y : Frame). part_first a.layout (a.part + 1) ≤ y.first + y.words) (sym fr) (subst (λ (y : ℕ). y ≤ s.frame.first + s.frame.words) (λ i. part_first (sym same.layout i) (sym same.part i + 1)) L.high);
@@ -258,4 +260,5 @@ module _ (s t : State) (p : Place) (m : ℕ) (v : View) (w : Worker) (a : Sets) 
         let ne = other_than j was.0 (not_taken j (λ free. let none = (H.sets.free_in j free).1 in let both : Some c ≡ None = sym class_was ∙ none in cc both)) in
         let lt = low j (H.sets.cut_in j c class_was).0 in
         (tail_stays j lt ne telling was.0, kind_stays j lt ne telling (2 + 256 * c) was.1);
+    names = λ running on telling. subst (λ (y : View). NamesStand t m y.kept y.present y.told y.dead log' st) (sym e) (names on telling);
   }

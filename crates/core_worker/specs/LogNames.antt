@@ -1,10 +1,13 @@
 -- The names of a core's own log while it is cleaned: which of them vanish, and which are told dead.
-use Rattle.std.specs.Prelude.{◌≡◌, ℕ, ◌<◌, Bool, true, false, List, [], Option, Some, None, option_map, if◌then◌else◌}
+use Rattle.std.specs.Prelude.{◌≡◌, ◌≢◌, ℕ, ◌<◌, Bool, true, false, List, [], Option, Some, None, is_some, option_map, if◌then◌else◌}
+use Rattle.pm_region.specs.State.{State}
 use Rattle.log_entry.specs.declared.entry.Entry.{Entry}
 use Rattle.log_entry.specs.declared.entry.EntryName.{EntryName}
+use Rattle.core_log.specs.Log.{LogState, tail_of}
+use Rattle.log_standing.specs.declared.types.Settled.{Settled}
 use Rattle.log_standing.specs.NameCounts.{StandingState, copies_at, count_of, is_told, killed}
 use Rattle.log_cleaner.specs.Clearing.{ClearingState, IsGathered}
-use Rattle.log_cleaner.specs.Copying.{left_to_copy}
+use Rattle.log_cleaner.specs.Copying.{left_to_copy, IsUpToDate}
 use Rattle.log_cleaner.specs.Dropping.{Drops}
 use Rattle.core_index.specs.Slots as slots
 use Rattle.group_laws.specs.State.{Notices}
@@ -31,6 +34,18 @@ pub record KnowsNames (m : ℕ) (kept : List Entry) (present : ℕ → ℕ → O
 -- by a view
 abbrev pub KnowsBy : ℕ → View → StandingState → Type 0
 KnowsBy m v st = KnowsNames m v.kept v.present v.told v.dead st
+
+-- a chunk of the log that isn't the open one
+pub record IsClosed (log : LogState) (j : ℕ) : Type 0 where
+  pub has : is_some (tail_of log.chunks j) ≡ true
+  pub closed : log.opened ≢ Some j
+
+-- What stands in the log of member m by its region: the names are counted as the log has them, a cleaning has read at most a closed chunk of it, and the names are those of the certain entries.
+pub record NamesStand (s : State) (m : ℕ) (kept : List Entry) (present : ℕ → ℕ → Option ℕ)
+    (told dead : ℕ → ℕ → Bool) (log : LogState) (st : StandingState) : Type 0 where
+  pub counted : IsUpToDate s log st
+  pub read : (h : Settled) → st.settled ≡ Some h → IsClosed log h.chunk
+  pub knows : KnowsNames m kept present told dead st
 
 -- these names were told dead
 pub record KillsNames (ns : List EntryName) (old new : StandingState) : Type 0 where

@@ -16,7 +16,7 @@ use Rattle.core_worker.specs.declared.worker.Worker.{Worker}
 use Rattle.core_worker.specs.OwnPlaces.{is_free, is_busy}
 use Rattle.core_worker.specs.Refusals.{HasAnswerRoom}
 use Rattle.core_worker.specs.Ties.{Tie}
-use Rattle.core_worker.specs.StandingTies.{KnowsLog, NamesAgree, most_names}
+use Rattle.core_worker.specs.StandingTies.{KnowsDead, NamesAgree, most_names}
 
 -- the change under way of a key points to this block
 abbrev pub PointsAt : Option Pending → ℕ → Type 0
@@ -67,9 +67,9 @@ pub record InOrder (p : Place) (m : ℕ) (v : View) (w : Worker) : Type 0 where
   pub hand : w.winds_down ≡ false → w.in_hand ≡ None
   pub stops : w.stopped ≡ true → MayLeadStopped w.leading
   pub agrees : NamesAgree p m v.kept v.present v.told v.dead
-  -- until the core stops or winds down, what stands in its log is what the view has there, and there are places for the names of a batch
+  -- until the core stops or winds down, who was told dead is dead in the view, and there are places for the names of a batch
   pub log : w.stopped ≡ false → w.winds_down ≡ false
-      → KnowsLog m v.kept v.present v.told v.dead w.standing
+      → KnowsDead m v.kept v.present v.told v.dead w.standing
   pub names : w.stopped ≡ false → w.winds_down ≡ false → most_names ≤ w.standing.room
 
 -- the same where the worker is tied

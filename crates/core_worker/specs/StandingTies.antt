@@ -22,17 +22,13 @@ IsNamedIn es k n = (e : Entry) × In e es × (e.key ≡ k) × (e.version ≡ n)
 abbrev pub named_in : List Entry → ℕ → ℕ → ℕ
 named_in es k n = count_by (λ (e : Entry). name_eq (e.key, e.version) (k, n)) es
 
--- What stands in the log of member m, by what it has: exactly the names of the entries that are certain there, and exactly its dead names were told dead, each of which stands there. What it believes to stand there does, and such a name is dead once it was told.
-pub record KnowsLog (m : ℕ) (kept : List Entry) (present : ℕ → ℕ → Option ℕ)
+-- What is so of member m's names whatever its region tells: who was told dead is dead, each dead name is that of an entry which is certain in its log, and so is each that it believes to stand there, which is dead once it was told.
+pub record KnowsDead (m : ℕ) (kept : List Entry) (present : ℕ → ℕ → Option ℕ)
     (told dead : ℕ → ℕ → Bool) (st : StandingState) : Type 0 where
-  pub stands : (k n : ℕ) → 0 < count_of st k n → IsNamedIn kept k n
-  pub all : (k n : ℕ) → IsNamedIn kept k n → 0 < count_of st k n
-  pub deaths : (k n : ℕ) → is_told st k n ≡ dead k n
+  pub deaths : (k n : ℕ) → is_told st k n ≡ true → dead k n ≡ true
   pub buried : (k n : ℕ) → dead k n ≡ true → IsNamedIn kept k n
   pub own : (k n : ℕ) → present k n ≡ Some m → IsNamedIn kept k n
   pub heard : (k n : ℕ) → present k n ≡ Some m → told k n ≡ true → dead k n ≡ true
-  -- no cleaning has read
-  pub settled : st.settled ≡ None
 
 -- What a member's view has of names, whatever stands in its log by the region: its certain entries of one name are one, what it believes to stand is of own keys, and it told the own names that are dead in its log.
 pub record NamesAgree (p : Place) (m : ℕ) (kept : List Entry) (present : ℕ → ℕ → Option ℕ)

@@ -28,6 +28,7 @@ use Rattle.core_worker.specs.declared.types.Cleaning.TheVariants.{Nothing}
 use Rattle.core_worker.specs.Supplies.{room_for}
 use Rattle.core_worker.specs.KeyTies.{KnowsKey, IsPlaced, AreBlocks}
 use Rattle.core_worker.specs.OwnChunks.{AreChunks}
+use Rattle.core_worker.specs.LogNames.{NamesStand}
 
 -- What the core leads. Only a collecting one has the lock; who leads nothing gave all back, and has nothing in flight but after a fault.
 abbrev pub LeadsAt : SeatAt → View → Leading → Type 0
@@ -123,6 +124,9 @@ pub record Stands (s : State) (p : Place) (m : ℕ) (v : View) (w : Worker) : Ty
   pub cut : w.stopped ≡ false → (j c : ℕ) → chunk_class w.allocator j ≡ Some c
       → chunk_is_due w.allocator j ≡ false → IsTelling s → (tail_of w.log.chunks j ≡ None)
       × Surely (cell_now s (first_of w.log j)) (2 + CLASS_FACTOR * c)
+  -- until it stops or winds down, the names that stand are those of its log
+  pub names : w.stopped ≡ false → w.winds_down ≡ false → IsTelling s
+      → NamesStand s m v.kept v.present v.told v.dead w.log w.standing
 
 -- the same at a seat
 abbrev pub HoldsAt : SeatAt → View → Worker → Type 0

@@ -56,7 +56,7 @@ returns-in-Err-clause-keeps g t c x a =
     let same = sym c.in-Err.ensures.unchanged in
     record {
       holds = aside_other p m v c.begin.new.self c.begin.new.self.queue _ true (subst (λ (y : Worker). HoldsAside p m v y) same (aside_other p m v w q w.in_hand w.winds_down a.holds));
-      stands = λ s S. stands_other s p m v c.begin.new.self c.begin.new.self.queue _ true (subst (λ (y : Worker). Stands s p m v y) same (stands_other s p m v w q w.in_hand w.winds_down S));
+      stands = λ s S. stands_other s p m v c.begin.new.self c.begin.new.self.queue _ true (λ on. absurd (cc on)) (subst (λ (y : Worker). Stands s p m v y) same (stands_other s p m v w q w.in_hand w.winds_down (λ on. on) S));
     }
 
 pub returns-then-is_busy-clause-begins : goal.returns-then-is_busy-clause-begins

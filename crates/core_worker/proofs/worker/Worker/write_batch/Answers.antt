@@ -28,9 +28,11 @@ use Rattle.group_laws.specs.Runs as runs
 use Rattle.core_worker.proofs.LeadTies.{led_here, leads_of}
 use Rattle.core_worker.proofs.Made.{one_step}
 use Rattle.core_worker.proofs.ChunksKept.{chunks_wrote}
-use Rattle.core_worker.proofs.Renewing.{holds_renewed, stands_renewed}
+use Rattle.core_worker.proofs.Renewing.{holds_renewed}
 use Rattle.core_worker.proofs.Writing.{opened_layout, room_ready, takes_same, holds_wrote, stands_wrote}
 use Rattle.core_worker.proofs.Unpledging.{pledged_by, less_own, each_place, certain_own, unpledged_at, holds_lowered, stands_lowered}
+use Rattle.core_worker.proofs.NamesAgreeing.{lacks_taken}
+use Rattle.core_worker.proofs.NamesWrote.{batch_stood}
 use Rattle.core_worker.proofs.BatchRoom.{room_wrote}
 use Rattle.core_worker.proofs.LeftItems.{persists_lower, loses_lower}
 use Rattle.core_worker.proofs.worker.Worker.write_batch.Goals as goal
@@ -89,11 +91,14 @@ returns-in-Ok-clause-stands g c =
     let takes = subst (λ (f : Bool). TakesFor f w.allocator a o) c.needs_chunk.ensures c.chunk_for-fresh.ensures.takes in
     let room = room_ready s p m v w c.requires.stands H.sets (H.allocator_layout ∙ sym H.log_layout) c.requires.runs b.fresh b.own_lines (words_in b.changes.taken.items) a o (subst (HasSpaceFor w) (sym c.in-Batch.ensures.value) (H.space c.requires.runs)) takes in
     let entries : HoldsEntries (spelled b.changes.taken.items) = record { entries = entries_in b.changes.taken.items; words = refl; batch = batch_of p b.changes.taken.items had.0.out.each b.some } in
-    stands_renewed (g.R.Region.state c.persist.new.region) p m u (record w { log = c.persist.new.log; allocator = a; leading = leads.Persisted c.in-Ok.done; places = c.unpledge.new.places }) c.note_names.new.standing w.winds_down
-    (stands_lowered (g.R.Region.state c.persist.new.region) p m u (record w { log = c.persist.new.log; allocator = a; leading = leads.Persisted c.in-Ok.done }) c.unpledge.new.places
-    (stands_wrote s (g.R.Region.state c.persist.new.region) p m v w a c.persist.new.log b.fresh o (spelled b.changes.taken.items) H c.requires.stands c.requires.runs takes (subst (λ (l : Geometry). During s (g.R.Region.state c.persist.new.region) (KeepsOutside (cell_now s) (open_first (opened_for w.log o)) (open_first (opened_for w.log o) + chunk_words l))) (opened_layout w.log o) c.persist.ensures.chunk) c.in-Ok.ensures.wrote
-    (λ none. room_opens w.log (spelled b.changes.taken.items) entries (subst (λ (x : Option ℕ). HasRoom s w.log (words_in b.changes.taken.items) x) none room))
-    u c.in-Ok.done c.in-Ok.ensures.view c.persist.ensures.exit))
+    let ts = b.changes.taken.items in
+    let t = g.R.Region.state c.persist.new.region in
+    let chunk = subst (λ (l : Geometry). During s t (KeepsOutside (cell_now s) (open_first (opened_for w.log o)) (open_first (opened_for w.log o) + chunk_words l))) (opened_layout w.log o) c.persist.ensures.chunk in
+    let opened = λ none. room_opens w.log (spelled ts) entries (subst (λ (x : Option ℕ). HasRoom s w.log (words_in ts) x) none room) in
+    let names = batch_stood s t p m v w a c.persist.new.log b.fresh o (entries_in ts) H c.requires.stands c.requires.runs takes chunk c.in-Ok.ensures.wrote opened c.note_names.new.standing entries.batch had.0.flying (lacks_taken m v ts had.0.unlogged) had.0.named (λ on. c.note_names.ensures (ap not on)) in
+    stands_lowered t p m u (record w { log = c.persist.new.log; allocator = a; leading = leads.Persisted c.in-Ok.done; standing = c.note_names.new.standing }) c.unpledge.new.places
+    (stands_wrote s t p m v w a c.persist.new.log b.fresh o (spelled ts) H c.requires.stands c.requires.runs takes chunk c.in-Ok.ensures.wrote opened
+    u c.in-Ok.done c.note_names.new.standing names c.in-Ok.ensures.view c.persist.ensures.exit)
 
 pub returns-in-Err-clause-holds : goal.returns-in-Err-clause-holds
 returns-in-Err-clause-holds g c =
