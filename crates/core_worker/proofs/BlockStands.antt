@@ -10,7 +10,7 @@ use Rattle.std.specs.Prelude.{is_some}
 use Rattle.chunk_map.specs.declared.layouts.Geometry.{Geometry}
 use Rattle.chunk_map.specs.Layouts.{chunk_words, chunk_first, part_first, has_class}
 use Rattle.store_image.proofs.Clients.{layout_numbers, chunk_of as block_chunk_of}
-use Rattle.core_log.specs.Log.{tail_of, first_of}
+use Rattle.core_log.specs.Log.{tail_of, first_of, chunk_with}
 use Rattle.lazy_alloc.specs.Sets.{Sets, AreSets, chunk_of, class_at, chunk_class, chunk_is_due}
 use Rattle.lazy_alloc.specs.Written.{KeepsOthers, HeadTurnsTo, HasHead, WroteValue, head_of}
 use Rattle.lazy_alloc.proofs.Clients.{lies_at, class_same}
@@ -18,7 +18,10 @@ use Rattle.group_laws.specs.Places.{Place, core_of}
 use Rattle.group_laws.specs.MemberViews.{View}
 use Rattle.group_board.specs.Views.{after_post}
 use Rattle.licence.specs.Licence.{Licensed, grounded}
-use Rattle.core_log.proofs.Clients.{outside_chunk, log_beside}
+use Rattle.core_log.proofs.Clients.{outside_chunk, log_beside, words_kept, own_chunk, tail_fits}
+use Rattle.core_log.specs.Chunk.{words_now}
+use Rattle.chunk_map.proofs.Clients.{chunks_apart}
+use Rattle.core_worker.proofs.NamesStood.{names_kept}
 use Rattle.core_worker.specs.declared.worker.Worker.{Worker}
 use Rattle.core_worker.specs.declared.types.Leading.TheVariants as leads
 use Rattle.core_worker.specs.declared.types.Place.TheVariants.{Staged}

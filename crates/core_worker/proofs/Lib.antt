@@ -50,7 +50,7 @@ mod StartNames
 pub mod Tidied
 pub mod Freeing
 mod NamesAgreeing
-mod NamesStood
+pub mod NamesStood
 mod NamesWrote
 pub mod FreedOrder
 pub mod GivingUp

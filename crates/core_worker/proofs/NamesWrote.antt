@@ -42,10 +42,10 @@ use Rattle.core_worker.proofs.Writing.{taken_free}
 
 in_behind : (place : ℕ) (xs : List (ℕ × Entry)) (y : ℕ × Entry) → In y (behind place xs) → In y xs
 in_behind place [] y i = i
-in_behind place (x ∷ xs) y i = by (nat_le place x.0) i where
-  by : (b : Bool) → In y (cond b (x ∷ xs) (behind place xs)) → In y (x ∷ xs)
-  by true i = i
-  by false i = inr (in_behind place xs y i)
+in_behind place (x ∷ xs) y i = by (nat_le place x.0) (λ j. in_behind place xs y j) i where
+  by : (b : Bool) → (In y (behind place xs) → In y xs) → In y (cond b (x ∷ xs) (behind place xs)) → In y (x ∷ xs)
+  by true more i = i
+  by false more i = inr (more i)
 
 -- of a chunk that lacks the names just as much is left to be copied
 module _ (es : List Entry) (old new : StandingState) (apart : AreNamedApart es) (adds : AddsNames old new es) (xs : List (ℕ × Entry)) (lacks : Lacks xs es) where

@@ -27,8 +27,8 @@ returns c =
       buffer = (let room = c.in_ok-copies.ensures.room in omega (arith, room));
       members = c.in_ok-notices.ensures.count ∙ c.group.ensures;
       outbox = c.in_ok-notices.ensures.none;
-      own_gone = c.new-2.ensures.items;
-      answers = (c.new.ensures.items, c.new.ensures.len);
+      own_gone = c.new.ensures.items;
+      answers = (c.new-2.ensures.items, c.new-2.ensures.len);
       runs = refl;
       works = refl;
       fresh = refl;

@@ -30,3 +30,6 @@ returns-then-self-clause-steps g c passes = turn_of_one passes (g.R.Region.state
 
 pub returns-clause-steps : goal.returns-clause-steps
 returns-clause-steps g c passes = c.serve_round.ensures.steps passes (g.R.Region.state c.args.region.now)
+
+pub returns-clause-less : goal.returns-clause-less
+returns-clause-less g c rule starts = c.serve_round.ensures.less (rule c.if-self.false) starts

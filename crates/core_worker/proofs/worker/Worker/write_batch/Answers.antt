@@ -1,4 +1,4 @@
-use Rattle.std.proofs.Common.{◌≡◌, ℕ, not, Bool, true, false, [], ◌∷◌, ◌++◌, Option, refl, sym, ◌∙◌, ap, subst}
+use Rattle.std.proofs.Common.{◌≡◌, ℕ, not, Bool, true, false, [], ◌∷◌, ◌++◌, Option, refl, sym, ◌∙◌, ap, subst, None}
 use Rattle.std.specs.Prelude.{◌+◌, ◌<◌, List, is_some}
 use Rattle.std.specs.List.{AllByRecursion}
 use Rattle.store_image.specs.Facts.{In}
@@ -94,7 +94,7 @@ returns-in-Ok-clause-stands g c =
     let ts = b.changes.taken.items in
     let t = g.R.Region.state c.persist.new.region in
     let chunk = subst (λ (l : Geometry). During s t (KeepsOutside (cell_now s) (open_first (opened_for w.log o)) (open_first (opened_for w.log o) + chunk_words l))) (opened_layout w.log o) c.persist.ensures.chunk in
-    let opened = λ none. room_opens w.log (spelled ts) entries (subst (λ (x : Option ℕ). HasRoom s w.log (words_in ts) x) none room) in
+    let opened : o ≡ None → is_some w.log.opened ≡ true = λ none. room_opens w.log (spelled ts) entries (subst (λ (x : Option ℕ). HasRoom s w.log (words_in ts) x) none room) in
     let names = batch_stood s t p m v w a c.persist.new.log b.fresh o (entries_in ts) H c.requires.stands c.requires.runs takes chunk c.in-Ok.ensures.wrote opened c.note_names.new.standing entries.batch had.0.flying (lacks_taken m v ts had.0.unlogged) had.0.named (λ on. c.note_names.ensures (ap not on)) in
     stands_lowered t p m u (record w { log = c.persist.new.log; allocator = a; leading = leads.Persisted c.in-Ok.done; standing = c.note_names.new.standing }) c.unpledge.new.places
     (stands_wrote s t p m v w a c.persist.new.log b.fresh o (spelled ts) H c.requires.stands c.requires.runs takes chunk c.in-Ok.ensures.wrote opened
