@@ -19,7 +19,7 @@ use Rattle.core_index.specs.Lives.{live_key, live_place, bytes_in, placed_lives}
 use Rattle.core_index.specs.Starts.{started, IsAhead}
 use Rattle.core_index.specs.Tombs.{Tombs, key_of, name_of, left_of, place_of, tomb_places, found_at, passed_at, AreLess}
 use Rattle.log_entry.specs.declared.entry.Body.{Body}
-use Rattle.core_index.specs.Index.{place_at, known_in, room_in, known_at, room_at, mortal_in, all_mortal, all_places, Step, Changes, ToldAt, TurnsAt, StartTurns, IsCompact, IsCompactLive, Admits, HasNoneAbove, EntersAs, Entering, opened_in, IsIndex}
+use Rattle.core_index.specs.Index.{place_at, known_in, room_in, known_at, room_at, mortal_in, all_mortal, all_untold, all_places, Step, Changes, ToldAt, TurnsAt, StartTurns, IsCompact, IsCompactLive, Admits, HasNoneAbove, EntersAs, Entering, opened_in, IsIndex}
 use Rattle.core_index.proofs.TombLaws.{placed_found, more_here, more_other, more_ahead, own_ahead, with_more, waits_own}
 use Rattle.core_index.proofs.OverLaws.{first_place, both_kept}
 use Rattle.core_index.proofs.StartLaws.{value_waits}
@@ -116,6 +116,10 @@ admitted_others (Ok x) es fs a d k admits err left j ne = admits_others es fs a 
 pub admitted_known : {T E : Type 0} (r : Result T E) (es fs : List (ℕ × Place)) (a d : StartKeys) (k : ℕ) → OnOk r (Admits es fs a d k) → OnErr r (fs ≡ es) → OnErr r (d ≡ a) → (j : ℕ) → known_at (all_places fs d) j ≡ known_at (all_places es a) j
 admitted_known (Err e) es fs a d k ok err left j = ap (λ (xs : List (ℕ × Place)). known_at xs j) (same_places es fs a d err left)
 admitted_known (Ok x) es fs a d k admits err left j = admits_known es fs a d k admits j
+
+pub admitted_untold : {T E : Type 0} (r : Result T E) (es fs : List (ℕ × Place)) (a d : StartKeys) (k : ℕ) → OnOk r (Admits es fs a d k) → OnErr r (fs ≡ es) → OnErr r (d ≡ a) → all_untold (all_places fs d) ≤ all_untold (all_places es a)
+admitted_untold (Err e) es fs a d k ok err left = let same = ap all_untold (same_places es fs a d err left) in omega (arith, same)
+admitted_untold (Ok x) es fs a d k admits err left = admits.untold
 
 pub admitted_err : {T E : Type 0} (r : Result T E) (es fs : List (ℕ × Place)) (a d : StartKeys) → OnErr r (fs ≡ es) → OnErr r (d ≡ a) → OnErr r (all_places fs d ≡ all_places es a)
 admitted_err (Err e) es fs a d err left = same_places es fs a d err left

@@ -2,6 +2,8 @@
 use Rattle.std.proofs.Common.{◌≡◌, ◌≢◌, ⊎_elim, ℕ, zero, suc, ◌+◌, ◌-◌, ◌<◌, ◌≤◌, ◌==◌, Bool, true, false, cond, not, ◌&&◌, ◌||◌, List, [], ◌∷◌, ◌++◌, length, take, drop, get_or, Option, Some, None, option_map, refl, sym, ◌∙◌, ap, subst, arith, slice_set, length-drop}
 use Rattle.std.specs.List.{AllByRecursion}
 use Rattle.std.specs.List.Sorted.{IsNonDecreasingBy}
+use Rattle.std.specs.Map.{values_of}
+use Rattle.std.proofs.lemmas.List.Sums.{sum_by-cons}
 use Rattle.std.specs.BTreeMap.{is_at}
 use Rattle.std.specs.Ordering.{nat_cmp}
 use Rattle.std.specs.Cmp.{unsigned_tied}
@@ -19,7 +21,7 @@ use Rattle.core_index.specs.declared.types.Standing.{Standing}
 use Rattle.core_index.specs.Records.{KeyRecord, Shows, ShowsBody, is_dead, is_tombstone, stands_alone, standing_at, standing_with, without}
 use Rattle.core_index.specs.Slots.{Place, alive_at, home_in, count_of}
 use Rattle.core_index.specs.Lives.{AreLives, live_key, body_in, IsWithin, valued, valued_by, IsStanding, live_place, live_at, places_of, with_live_fate, turned, AllLess, KeysRise, IsNotThere}
-use Rattle.core_index.specs.Index.{place_at, known_in, room_in, known_at, room_at, gone_place, cleared, TurnsAt}
+use Rattle.core_index.specs.Index.{place_at, known_in, room_in, known_at, room_at, untold_in, untold_of, all_untold, gone_place, cleared, TurnsAt}
 use Rattle.core_index.proofs.StepLaws.{apart}
 
 above_at : (k : ℕ) (ts : List LiveKey) (j : ℕ) (d : LiveKey) → AllByRecursion (λ (x : LiveKey). k < live_key x) ts → j < length ts → k < live_key (get_or ts j d)
@@ -288,3 +290,31 @@ pub shows_valued : (f : LiveFate) (v home : ℕ) (b : Body) (l : Look) → (f �
 shows_valued Stands v home b l ne shows = shows
 shows_valued Gone v home b l ne shows = shows
 shows_valued Moved v home b l ne shows = absurd (ne refl)
+
+-- An entry that is gone, or whose key is elsewhere, is not to be told.
+abbrev pub TellsNone : LiveFate → Type 0
+TellsNone f = (bytes : List ℕ) (x : LiveKey) → untold_in (live_place bytes (with_live_fate f x)) ≡ 0
+
+pub gone_tells : TellsNone Gone
+gone_tells bytes x = refl
+
+pub moved_tells : TellsNone Moved
+moved_tells bytes x = refl
+
+turned_fewer : (bytes : List ℕ) (ts : List LiveKey) (k : ℕ) (f : LiveFate) → TellsNone f → all_untold (places_of bytes (turned ts k f)) + untold_of (option_map (live_place bytes) (live_at ts k)) ≡ all_untold (places_of bytes ts)
+turned_fewer bytes [] k f none = refl
+turned_fewer bytes (x ∷ ts) k f none = by (live_key x == k) (turned_fewer bytes ts k f none)
+  where
+    by : (b : Bool) → all_untold (places_of bytes (turned ts k f)) + untold_of (option_map (live_place bytes) (live_at ts k)) ≡ all_untold (places_of bytes ts) → all_untold (places_of bytes (cond b (with_live_fate f x ∷ ts) (x ∷ turned ts k f))) + untold_of (option_map (live_place bytes) (cond b (Some x) (live_at ts k))) ≡ all_untold (places_of bytes (x ∷ ts))
+    by true rest =
+        let a = sum_by-cons untold_in (live_place bytes (with_live_fate f x)) (values_of (places_of bytes ts)) in
+        let b = sum_by-cons untold_in (live_place bytes x) (values_of (places_of bytes ts)) in
+        let zero_more = none bytes x in
+        omega (arith, a, b, zero_more)
+    by false rest =
+        let a = sum_by-cons untold_in (live_place bytes x) (values_of (places_of bytes (turned ts k f))) in
+        let b = sum_by-cons untold_in (live_place bytes x) (values_of (places_of bytes ts)) in
+        omega (arith, a, b, rest)
+
+pub turned_untold : (bytes : List ℕ) (ts : List LiveKey) (k : ℕ) (f : LiveFate) → TellsNone f → all_untold (places_of bytes (turned ts k f)) + untold_of (place_at (places_of bytes ts) k) ≡ all_untold (places_of bytes ts)
+turned_untold bytes ts k f none = let fewer = turned_fewer bytes ts k f none in let at = ap untold_of (placed_found bytes ts k) in omega (arith, fewer, at)

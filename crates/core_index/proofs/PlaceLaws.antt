@@ -1,18 +1,20 @@
 -- The map of keys beside the keys of the start.
-use Rattle.std.proofs.Common.{◌≡◌, ◌≢◌, inl, inr, ⊎_elim, ℕ, ◌+◌, ◌<◌, true, List, Option, Some, None, option_map, refl, sym, ◌∙◌, ap, subst, arith}
+use Rattle.std.proofs.Common.{◌≡◌, ◌≢◌, inl, inr, ⊎_elim, ℕ, ◌+◌, ◌<◌, ◌≤◌, true, List, Option, Some, None, option_map, refl, sym, ◌∙◌, ap, subst, arith}
 use Rattle.std.specs.Prelude.{is_some, IfSome, IsTrue}
 use Rattle.std.proofs.lemmas.Bool.{cases_eq}
 use Rattle.log_entry.specs.declared.entry.EntryName.{EntryName}
 use Rattle.core_index.specs.declared.types.Standee.{Standee}
 use Rattle.core_index.specs.declared.types.Tombstone.{Tombstone}
-use Rattle.core_index.specs.Records.{KeyRecord, Awaits, told_in, without, is_forgettable}
+use Rattle.core_index.specs.Records.{KeyRecord, Awaits, settled, told_in, without, is_forgettable}
 use Rattle.core_index.specs.Slots.{Place, mortal, OnlyDead, count_of, alive_at, standee_with}
 use Rattle.core_index.specs.declared.start_keys.StartKeys.{StartKeys}
 use Rattle.core_index.specs.Starts.{started}
-use Rattle.core_index.specs.Index.{IsCompact, place_at, known_in, room_in, known_at, room_at, mortal_in, over, all_places, gone_place, Step, Changes, SameRoom, ToldAt, StartTurns, Forgets, Admits}
+use Rattle.core_index.specs.Index.{IsCompact, place_at, known_in, room_in, known_at, room_at, mortal_in, untold_of, untold_by, all_untold, over, all_places, gone_place, Step, Changes, SameRoom, ToldAt, StartTurns, Forgets, Admits}
 use Rattle.core_index.proofs.OverLaws.{place_both, untold_both, some_of}
 use Rattle.core_index.proofs.StartLaws.{start_no_room, live_found}
 use Rattle.core_index.proofs.LiveLaws.{less_absent}
+use Rattle.core_index.proofs.StandingLaws.{count_added, fewer_others}
+use Rattle.log_entry.specs.declared.entry.Body.{Body}
 use Rattle.core_index.specs.Lives.{AllLess}
 use Rattle.core_index.specs.Tombs.{key_of, left_of, AreLess}
 
@@ -110,6 +112,51 @@ gone_room es fs a k v is = λ j. room_both fs a j ∙ ⊎_elim (λ (e : j ≡ k)
     same None = refl
     same (Some p) = refl
 
+-- How many entries are to be told.
+
+-- by the record
+untold_known : (o : Option Place) → untold_of o ≡ untold_by (known_in o)
+untold_known None = refl
+untold_known (Some p) = refl
+
+-- of a change that is settled there is one more
+pub settled_untold : (es fs : List (ℕ × Place)) (a : StartKeys) (k v home n : ℕ) (body : Body) → Step es fs k (Some (record { known = Some (settled (known_at es k) v body home); room = n })) → all_untold (all_places fs a) ≡ all_untold (all_places es a) + 1
+settled_untold es fs a k v home n body step =
+    let sum = step.untold in
+    let was = untold_known (place_at es k) in
+    let now = by (known_at es k) in
+    let x = untold_both fs (started a) in
+    let y = untold_both es (started a) in
+    omega (arith, sum, was, now, x, y)
+  where
+    by : (o : Option KeyRecord) → untold_by (Some (settled o v body home)) ≡ untold_by o + 1
+    by None = refl
+    by (Some r) = count_added r.standing v home
+
+-- of an entry that is gone there is no more
+gone_fewer : (o : Option Place) (v : ℕ) → untold_of (option_map (gone_place v) o) ≤ untold_of o
+gone_fewer None v = omega arith
+gone_fewer (Some p) v = by p.known
+  where
+    by : (r : Option KeyRecord) → untold_by (option_map (without v) r) ≤ untold_by r
+    by None = omega arith
+    by (Some r) = fewer_others r.standing v
+
+pub gone_untold : (es fs : List (ℕ × Place)) (a : StartKeys) (k v : ℕ) → Step es fs k (option_map (gone_place v) (place_at es k)) → all_untold (all_places fs a) ≤ all_untold (all_places es a)
+gone_untold es fs a k v step =
+    let sum = step.untold in
+    let less = gone_fewer (place_at es k) v in
+    let x = untold_both fs (started a) in
+    let y = untold_both es (started a) in
+    omega (arith, sum, less, x, y)
+
+-- what both parts have less, both have together
+pub untold_less : (es fs : List (ℕ × Place)) (a b : StartKeys) → all_untold fs ≤ all_untold es → all_untold (started b) ≤ all_untold (started a) → all_untold (all_places fs b) ≤ all_untold (all_places es a)
+untold_less es fs a b one two =
+    let x = untold_both fs (started b) in
+    let y = untold_both es (started a) in
+    omega (arith, one, two, x, y)
+
 -- A record that is taken out of both parts.
 
 none_over : (o q : Option Place) → known_in o ≡ None → known_in q ≡ None → known_in (over o q) ≡ None
@@ -138,10 +185,16 @@ admits_there es fs a k same step = record {
   others_left = λ j ne. refl;
   ahead = λ home n ahead. ahead;
   count = let sum = step.count in let more = grown (place_at es k) in omega (arith, sum, more);
+  untold =
+      let sum = step.untold in
+      let was = untold_known (place_at es k) in
+      let x = untold_both fs (started a) in
+      let y = untold_both es (started a) in
+      omega (arith, sum, was, x, y);
 }
 
-pub admits_moved : (es fs : List (ℕ × Place)) (a b : StartKeys) (k : ℕ) (p : Place) → place_at es k ≡ None → p ≡ record { known = known_at (started a) k; room = 1 } → Step es fs k (Some p) → StartTurns a b k None → Admits es fs a b k
-admits_moved es fs a b k p none is step turns =
+pub admits_moved : (es fs : List (ℕ × Place)) (a b : StartKeys) (k : ℕ) (p : Place) → place_at es k ≡ None → p ≡ record { known = known_at (started a) k; room = 1 } → Step es fs k (Some p) → StartTurns a b k None → all_untold (started b) + untold_by (known_at (started a) k) ≤ all_untold (started a) → Admits es fs a b k
+admits_moved es fs a b k p none is step turns fewer =
     let known : known_at (all_places es a) k ≡ known_at (started a) k = known_else es a k none in
     let room : room_at es k + 1 ≡ 1 = ap (λ (o : Option Place). room_in o + 1) none in
     record {
@@ -154,10 +207,17 @@ admits_moved es fs a b k p none is step turns =
           let old : mortal_in (place_at es k) ≡ 0 = ap mortal_in none in
           let new : mortal_in (Some p) ≡ 1 + count_of (alive_at (known_at (started a) k)) = ap mortal is in
           omega (arith, sum, old, new);
+      untold =
+          let sum = step.untold in
+          let old : untold_of (place_at es k) ≡ 0 = ap untold_of none in
+          let new : untold_of (Some p) ≡ untold_by (known_at (started a) k) = ap (λ (q : Place). untold_by q.known) is in
+          let x = untold_both fs (started b) in
+          let y = untold_both es (started a) in
+          omega (arith, sum, old, new, fewer, x, y);
     }
 
 pub forgets_none : (es : List (ℕ × Place)) (k : ℕ) → place_at es k ≡ None → Forgets es es k
-forgets_none es k none = record { here = ap known_in none; others = λ j ne. refl; room = λ j. refl; count = omega arith }
+forgets_none es k none = record { here = ap known_in none; others = λ j ne. refl; room = λ j. refl; count = omega arith; untold = omega arith }
 
 pub forgettable_there : (es : List (ℕ × Place)) (a : StartKeys) (k : ℕ) → IsTrue (is_forgettable (known_at (all_places es a) k)) → is_some (place_at es k) ≡ true → IsTrue (is_forgettable (known_at es k))
 forgettable_there es a k is some = let there = some_of (place_at es k) some in subst (λ (o : Option KeyRecord). IsTrue (is_forgettable o)) (known_there es a k there.0 there.1) is

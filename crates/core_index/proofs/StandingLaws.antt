@@ -66,6 +66,20 @@ fewer_untold (x ∷ ss) v home is = by (fewer_untold ss v home) (x.version == v)
         subst (λ (b : Bool). 0 + count_untold ss + 1 ≡ cond b 0 1 + count_untold ss) (sym new) (omega arith)
     by rest false at = let e = rest at in omega (arith, e)
 
+-- one more entry that was not told
+pub count_added : (ss : List Standing) (v home : ℕ) → count_untold (ss ++ standing_with v home false ∷ []) ≡ count_untold ss + 1
+count_added [] v home = refl
+count_added (x ∷ ss) v home = let rest = count_added ss v home in omega (arith, rest)
+
+-- without one there are no more
+pub fewer_others : (ss : List Standing) (v : ℕ) → count_untold (others v ss) ≤ count_untold ss
+fewer_others [] v = omega arith
+fewer_others (x ∷ ss) v = by (x.version == v) (fewer_others ss v)
+  where
+    by : (b : Bool) → count_untold (others v ss) ≤ count_untold ss → count_untold (cond (not b) (x ∷ others v ss) (others v ss)) ≤ count_untold (x ∷ ss)
+    by true rest = omega (arith, rest)
+    by false rest = omega (arith, rest)
+
 pub at_told_other : (ss : List Standing) (v w : ℕ) → w ≢ v → standing_at (with_told ss v) w ≡ standing_at ss w
 at_told_other [] v w ne = refl
 at_told_other (x ∷ ss) v w ne = by (at_told_other ss v w ne) (x.version == v) refl

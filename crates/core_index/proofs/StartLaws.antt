@@ -1,5 +1,5 @@
 -- Keys with a value before those that were deleted.
-use Rattle.std.proofs.Common.{◌≡◌, ℕ, ◌==◌, nat_lt, Bool, true, false, cond, ◌&&◌, ◌||◌, List, [], ◌∷◌, Option, Some, None, option_map, refl, sym, ◌∙◌, ap, subst}
+use Rattle.std.proofs.Common.{◌≡◌, ℕ, ◌+◌, ◌≤◌, arith, ◌==◌, nat_lt, Bool, true, false, cond, ◌&&◌, ◌||◌, List, [], ◌∷◌, Option, Some, None, option_map, refl, sym, ◌∙◌, ap, subst}
 use Rattle.std.specs.Prelude.{is_some}
 use Rattle.std.proofs.lemmas.Bool.{eqb-true, eq-eqb}
 use Rattle.log_entry.specs.declared.entry.EntryName.{EntryName}
@@ -18,8 +18,8 @@ use Rattle.core_index.specs.Slots.{Place, count_of, alive_at}
 use Rattle.core_index.specs.Tombs.{Tombs, tomb_places, place_of, found_at, left_by, deleted}
 use Rattle.core_index.specs.Lives.{Lives, body_in, valued, valued_by, live_place, live_at, placed_lives}
 use Rattle.core_index.specs.Starts.{started, IsAhead}
-use Rattle.core_index.specs.Index.{place_at, known_in, room_in, known_at, room_at, over, gone_place, cleared, TurnsAt, Turns, StartTurns}
-use Rattle.core_index.proofs.OverLaws.{place_both, first_place, both_kept}
+use Rattle.core_index.specs.Index.{place_at, known_in, room_in, known_at, room_at, over, untold_of, untold_by, all_untold, gone_place, cleared, TurnsAt, Turns, StartTurns}
+use Rattle.core_index.proofs.OverLaws.{place_both, first_place, both_kept, untold_both}
 use Rattle.core_index.proofs.LiveLaws.{placed_found, not_dead, no_tombstone}
 use Rattle.core_index.proofs.TombLaws.{no_room, none_waits, placed_found as tomb_found}
 
@@ -155,3 +155,24 @@ never_dead bytes h Moved v home w = refl
 
 abbrev pub with_tombs : StartKeys → Tombs → StartKeys
 with_tombs a d = record { live = a.live; deleted = d }
+
+-- How many entries are to be told, of both lists.
+
+pub start_less : (a b : StartKeys) → all_untold (placed_lives b.live) ≤ all_untold (placed_lives a.live) → all_untold (tomb_places b.deleted.items) ≤ all_untold (tomb_places a.deleted.items) → all_untold (started b) ≤ all_untold (started a)
+start_less a b one two =
+    let x = untold_both (placed_lives b.live) (tomb_places b.deleted.items) in
+    let y = untold_both (placed_lives a.live) (tomb_places a.deleted.items) in
+    omega (arith, one, two, x, y)
+
+over_untold : (o q : Option Place) → untold_by (known_in (over o q)) ≤ untold_of o + untold_of q
+over_untold None None = omega arith
+over_untold None (Some q) = omega arith
+over_untold (Some p) q = omega arith
+
+pub start_fewer : (a b : StartKeys) (k : ℕ) → all_untold (placed_lives b.live) + untold_of (place_at (placed_lives a.live) k) ≡ all_untold (placed_lives a.live) → all_untold (tomb_places b.deleted.items) + untold_of (place_at (tomb_places a.deleted.items) k) ≡ all_untold (tomb_places a.deleted.items) → all_untold (started b) + untold_by (known_at (started a) k) ≤ all_untold (started a)
+start_fewer a b k one two =
+    let x = untold_both (placed_lives b.live) (tomb_places b.deleted.items) in
+    let y = untold_both (placed_lives a.live) (tomb_places a.deleted.items) in
+    let at = ap (λ (o : Option Place). untold_by (known_in o)) (place_both (placed_lives a.live) (tomb_places a.deleted.items) k) in
+    let few = over_untold (place_at (placed_lives a.live) k) (place_at (tomb_places a.deleted.items) k) in
+    omega (arith, one, two, x, y, at, few)

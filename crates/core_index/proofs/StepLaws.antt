@@ -15,7 +15,7 @@ use Rattle.std.proofs.lemmas.Map.Steps.{set_value_same}
 use Rattle.log_entry.specs.declared.entry.EntryName.{EntryName}
 use Rattle.core_index.specs.Records.{KeyRecord, Awaits, with_told, told_in, count_untold, standing_of}
 use Rattle.core_index.specs.Slots.{Place, mortal, TellsOne}
-use Rattle.core_index.specs.Index.{place_at, known_in, room_in, known_at, room_at, mortal_in, all_mortal, untold_in, all_untold, Step, Changes, SameRoom, ToldAt, Forgets}
+use Rattle.core_index.specs.Index.{place_at, known_in, room_in, known_at, room_at, mortal_in, all_mortal, untold_in, untold_of, all_untold, Step, Changes, SameRoom, ToldAt, Forgets}
 use Rattle.core_index.proofs.StandingLaws.{fewer_untold}
 
 pub apart : (k q : ℕ) → q ≢ k → is_at (nat_cmp k) q ≡ false
@@ -24,6 +24,10 @@ apart k q ne = unsigned_tied k q ∙ ne_eqb k q (λ e. ne (sym e))
 count_in : (o : Option Place) → unwrap_or (option_map mortal o) 0 ≡ mortal_in o
 count_in None = refl
 count_in (Some p) = refl
+
+untold_count : (o : Option Place) → unwrap_or (option_map untold_in o) 0 ≡ untold_of o
+untold_count None = refl
+untold_count (Some p) = refl
 
 -- a value that is written to the key
 pub step_set : (es fs : List (ℕ × Place)) (k : ℕ) (v w : Place) → place_at es k ≡ Some v → fs ≡ set_value (is_at (nat_cmp k)) es w → place_at fs k ≡ Some w → ((q : ℕ) → is_at (nat_cmp k) q ≡ false → place_at fs q ≡ place_at es q) → Step es fs k (Some w)
@@ -34,6 +38,11 @@ step_set es fs k v w at is here others = record {
       let sum = sum_by-set_value mortal (is_at (nat_cmp k)) es v w at in
       let a : all_mortal fs ≡ sum_by mortal (values_of (set_value (is_at (nat_cmp k)) es w)) = ap all_mortal is in
       let b : mortal_in (place_at es k) ≡ mortal v = ap mortal_in at in
+      omega (arith, sum, a, b);
+  untold =
+      let sum = sum_by-set_value untold_in (is_at (nat_cmp k)) es v w at in
+      let a : all_untold fs ≡ sum_by untold_in (values_of (set_value (is_at (nat_cmp k)) es w)) = ap all_untold is in
+      let b : untold_of (place_at es k) ≡ untold_in v = ap untold_of at in
       omega (arith, sum, a, b);
 }
 
@@ -47,6 +56,11 @@ step_insert es fs k w sorted is here others = record {
       let a : all_mortal fs ≡ sum_by mortal (values_of (insert_entry nat_cmp es k w)) = ap all_mortal is in
       let b = count_in (place_at es k) in
       omega (arith, sum, a, b);
+  untold =
+      let sum = sum_by-insert_entry untold_in nat_cmp_total es k w sorted in
+      let a : all_untold fs ≡ sum_by untold_in (values_of (insert_entry nat_cmp es k w)) = ap all_untold is in
+      let b = untold_count (place_at es k) in
+      omega (arith, sum, a, b);
 }
 
 -- a key that is taken out
@@ -59,11 +73,16 @@ step_remove es fs k is here others = record {
       let a : all_mortal fs ≡ sum_by mortal (values_of (remove_entry (is_at (nat_cmp k)) es)) = ap all_mortal is in
       let b = count_in (place_at es k) in
       omega (arith, sum, a, b);
+  untold =
+      let sum = sum_by-remove_entry untold_in (is_at (nat_cmp k)) es in
+      let a : all_untold fs ≡ sum_by untold_in (values_of (remove_entry (is_at (nat_cmp k)) es)) = ap all_untold is in
+      let b = untold_count (place_at es k) in
+      omega (arith, sum, a, b);
 }
 
 -- nothing changed
 pub step_none : (es : List (ℕ × Place)) (k : ℕ) → Step es es k (place_at es k)
-step_none es k = record { here = refl; others = λ j ne. refl; count = refl }
+step_none es k = record { here = refl; others = λ j ne. refl; count = refl; untold = refl }
 
 -- a value that is written back changes nothing
 pub same_set : (es fs : List (ℕ × Place)) (k : ℕ) (v w : Place) → place_at es k ≡ Some v → fs ≡ set_value (is_at (nat_cmp k)) es w → w ≡ v → fs ≡ es
@@ -134,6 +153,7 @@ forgets_keeping es fs k step = record {
   others = step.others;
   room = step_room es fs k (Some (record { known = None; room = room_at es k })) step refl;
   count = let sum = step.count in let le = room_mortal (place_at es k) in omega (arith, sum, le);
+  untold = let sum = step.untold in omega (arith, sum);
 }
 
 pub forgets_all : (es fs gs : List (ℕ × Place)) (k : ℕ) → Step es fs k (Some (record { known = None; room = room_at es k })) → Step fs gs k None → room_at es k ≡ 0 → Forgets es gs k
@@ -145,4 +165,5 @@ forgets_all es fs gs k first second none =
       others = λ j ne. second.others j ne ∙ a.others j ne;
       room = λ j. step_room fs gs k None second room j ∙ a.room j;
       count = let sum = second.count in let le = a.count in omega (arith, sum, le);
+      untold = let sum = second.untold in let le = a.untold in omega (arith, sum, le);
     }

@@ -19,7 +19,7 @@ use Rattle.core_index.specs.Records.{KeyRecord, Awaits, Shows, standing_at, stan
 use Rattle.core_index.specs.Slots.{Place}
 use Rattle.core_index.specs.Noted.{name_with}
 use Rattle.core_index.specs.Tombs.{Tombs, key_of, left_of, left_by, deleted, IsThere, place_of, tomb_places, found_at, fated, with_fate, AreLess, Rising, IsMissing, AreTombs, Ahead, passed_at, bare_tombstone}
-use Rattle.core_index.specs.Index.{place_at, known_in, room_in, known_at, room_at, untold_in, all_untold, ToldAt, Turns}
+use Rattle.core_index.specs.Index.{place_at, known_in, room_in, known_at, room_at, untold_in, untold_of, all_untold, ToldAt, Turns}
 use Rattle.core_index.proofs.StepLaws.{apart}
 
 -- a key behind another is greater
@@ -248,6 +248,34 @@ fated_fewer (x ∷ ts) k t is new = by (key_of x == k) is (fated_fewer ts k t)
         let a = sum_by-cons untold_in (place_of x) (values_of (tomb_places (fated ts k Told))) in
         let b = sum_by-cons untold_in (place_of x) (values_of (tomb_places ts)) in
         omega (arith, a, b, less)
+
+-- An entry that is gone, or whose key is elsewhere, is not to be told.
+abbrev pub TellsNone : Fate → Type 0
+TellsNone f = (t : Tombstone) → untold_in (place_of (with_fate f t)) ≡ 0
+
+pub gone_tells : TellsNone Gone
+gone_tells t = refl
+
+pub moved_tells : TellsNone Moved
+moved_tells t = refl
+
+fated_less : (ts : List Tombstone) (k : ℕ) (f : Fate) → TellsNone f → all_untold (tomb_places (fated ts k f)) + untold_of (option_map place_of (found_at ts k)) ≡ all_untold (tomb_places ts)
+fated_less [] k f none = refl
+fated_less (x ∷ ts) k f none = by (key_of x == k) (fated_less ts k f none)
+  where
+    by : (b : Bool) → all_untold (tomb_places (fated ts k f)) + untold_of (option_map place_of (found_at ts k)) ≡ all_untold (tomb_places ts) → all_untold (tomb_places (cond b (with_fate f x ∷ ts) (x ∷ fated ts k f))) + untold_of (option_map place_of (cond b (Some x) (found_at ts k))) ≡ all_untold (tomb_places (x ∷ ts))
+    by true rest =
+        let a = sum_by-cons untold_in (place_of (with_fate f x)) (values_of (tomb_places ts)) in
+        let b = sum_by-cons untold_in (place_of x) (values_of (tomb_places ts)) in
+        let zero_more = none x in
+        omega (arith, a, b, zero_more)
+    by false rest =
+        let a = sum_by-cons untold_in (place_of x) (values_of (tomb_places (fated ts k f))) in
+        let b = sum_by-cons untold_in (place_of x) (values_of (tomb_places ts)) in
+        omega (arith, a, b, rest)
+
+pub fated_untold : (ts : List Tombstone) (k : ℕ) (f : Fate) → TellsNone f → all_untold (tomb_places (fated ts k f)) + untold_of (place_at (tomb_places ts) k) ≡ all_untold (tomb_places ts)
+fated_untold ts k f none = let fewer = fated_less ts k f none in let at = ap untold_of (placed_found ts k) in omega (arith, fewer, at)
 
 -- A key that is added behind all others.
 

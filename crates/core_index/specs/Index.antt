@@ -51,11 +51,20 @@ untold_in p = count_untold (standing_of p.known)
 abbrev pub all_untold : List (ℕ × Place) → ℕ
 all_untold es = sum_by untold_in (values_of es)
 
+abbrev pub untold_of : Option Place → ℕ
+untold_of None = 0
+untold_of (Some p) = untold_in p
+
+-- how many entries of the key that stand were not told
+abbrev pub untold_by : Option KeyRecord → ℕ
+untold_by o = count_untold (standing_of o)
+
 -- The key has this now, and every other key what it had.
 pub record Step (es fs : List (ℕ × Place)) (k : ℕ) (now : Option Place) : Type 0 where
   pub here : place_at fs k ≡ now
   pub others : (j : ℕ) → j ≢ k → place_at fs j ≡ place_at es j
   pub count : all_mortal fs + mortal_in (place_at es k) ≡ all_mortal es + mortal_in now
+  pub untold : all_untold fs + untold_of (place_at es k) ≡ all_untold es + untold_of now
 
 -- The key has this record now, and every other key the one that it had.
 pub record Changes (old new : List (ℕ × Place)) (k : ℕ) (now : Option KeyRecord) : Type 0 where
@@ -88,6 +97,7 @@ pub record Forgets (old new : List (ℕ × Place)) (k : ℕ) : Type 0 where
   pub others : (j : ℕ) → j ≢ k → place_at new j ≡ place_at old j
   pub room : SameRoom old new
   pub count : all_mortal new ≤ all_mortal old
+  pub untold : all_untold new ≤ all_untold old
 
 -- the record of a key in a list, as it is at the start
 abbrev pub opened_in : List Record → ℕ → Option KeyRecord
@@ -137,6 +147,7 @@ pub record Admits (es fs : List (ℕ × Place)) (a b : StartKeys) (k : ℕ) : Ty
   pub others_left : (j : ℕ) → j ≢ k → place_at (started b) j ≡ place_at (started a) j
   pub ahead : (home : ℕ) (n : EntryName) → IsAhead a home n → IsAhead b home n
   pub count : all_mortal fs ≤ all_mortal es + 1 + count_of (alive_at (known_at (started a) k))
+  pub untold : all_untold (all_places fs b) ≤ all_untold (all_places es a)
 
 -- What is true of the index's fields between two calls: each entry that waits to be told is noted, or its home will be
 -- asked about it, and there is room for every name that may still die.

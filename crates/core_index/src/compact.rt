@@ -4,7 +4,7 @@ ghost use Rattle.log_entry.specs.declared.entry.EntryName.{EntryName};
 ghost use Rattle.core_index.specs.Records.{Awaits, opened_with, without, is_forgettable};
 ghost use Rattle.core_index.specs.Slots.{count_dead, OnlyDead};
 ghost use Rattle.core_index.specs.Starts.{IsAhead};
-ghost use Rattle.core_index.specs.Index.{Admits, Changes, SameRoom, IsCompact, IsCompactLive, ToldAt, all_places, all_mortal, known_at};
+ghost use Rattle.core_index.specs.Index.{Admits, Changes, SameRoom, IsCompact, IsCompactLive, ToldAt, all_places, all_mortal, all_untold, known_at};
 
 use crate::map::{enter_at, forget_there, gone_at, has, reserve_at, tell_at};
 use crate::slot::Slot;
@@ -125,6 +125,8 @@ pub fn gone_in(
         (known_at (all_places slots.new.entries start.new) name.key) result }
     ensures mortal { all_mortal slots.new.entries + count_dead result
         ≤ all_mortal slots.old.entries }
+    ensures untold { all_untold (all_places slots.new.entries start.new)
+        ≤ all_untold (all_places slots.old.entries start.old) }
     ensures ahead { (h : ℕ) (n : EntryName) → IsAhead start.old h n → IsAhead start.new h n }
 {
     if has(slots, name.key) {
@@ -144,6 +146,8 @@ pub fn forget_in(slots: &mut BTreeMap<Key, Slot>, start: &mut StartKeys, key: Ke
     ensures room { SameRoom (all_places slots.old.entries start.old)
         (all_places slots.new.entries start.new) }
     ensures mortal { all_mortal slots.new.entries ≤ all_mortal slots.old.entries }
+    ensures untold { all_untold (all_places slots.new.entries start.new)
+        ≤ all_untold (all_places slots.old.entries start.old) }
     ensures ahead { (h : ℕ) (n : EntryName) → IsAhead start.old h n → IsAhead start.new h n }
 {
     forget_there(slots, key);

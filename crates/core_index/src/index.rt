@@ -123,6 +123,7 @@ impl CoreIndex {
         ensures ok { OnOk result (room_at self.new key ≡ room_at self.old key + 1) }
         ensures others { (j : ℕ) → j ≢ key → room_at self.new j ≡ room_at self.old j }
         ensures records { (j : ℕ) → known_at self.new j ≡ known_at self.old j }
+        ensures untold { all_untold self.new ≤ all_untold self.old }
         ensures err { OnErr result (self.new ≡ self.old) }
     {
         self.notices.reserve(1 + self.start.count_alive(key))?;
@@ -184,6 +185,7 @@ impl CoreIndex {
         ensures settled { Changes self.old self.new entry.key
             (Some (settled (known_at self.old entry.key) entry.version entry.body home)) }
         ensures replaced { result ≡ block_of (known_at self.old entry.key) }
+        ensures untold { all_untold self.new ≡ all_untold self.old + 1 }
         ensures room { room_at self.new entry.key + 1 ≡ room_at self.old entry.key }
         ensures others { (j : ℕ) → j ≢ entry.key → room_at self.new j ≡ room_at self.old j }
     {
@@ -208,6 +210,7 @@ impl CoreIndex {
     pub fn gone(&mut self, name: EntryName)
         ensures gone { Changes self.old self.new name.key
             (option_map (without name.version) (known_at self.old name.key)) }
+        ensures untold { all_untold self.new ≤ all_untold self.old }
         ensures room { SameRoom self.old self.new }
     {
         let dead = gone_in(&mut self.slots, &mut self.start, name);
@@ -238,6 +241,7 @@ impl CoreIndex {
     pub fn forget(&mut self, key: Key)
         requires { IsTrue (is_forgettable (known_at self.old key)) }
         ensures forgotten { Changes self.old self.new key None }
+        ensures untold { all_untold self.new ≤ all_untold self.old }
         ensures room { SameRoom self.old self.new }
     {
         forget_in(&mut self.slots, &mut self.start, key);

@@ -2,7 +2,7 @@
 ghost use Rattle.std.specs.Prelude.{◌≡◌, ◌≢◌, ℕ, ◌+◌, ◌<◌, ◌≤◌, ◌++◌, ◌∷◌, List, [], Some, None, option_map, true, false, IfOk, IfSome, IfNone, OnOk, OnErr, length, take, drop, IsTrue};
 ghost use Rattle.std.specs.List.{AllByRecursion};
 ghost use Rattle.log_entry.specs.declared.entry.EntryName.{EntryName};
-ghost use Rattle.core_index.specs.Index.{place_at, TurnsAt, gone_place, cleared};
+ghost use Rattle.core_index.specs.Index.{all_untold, place_at, untold_of, TurnsAt, gone_place, cleared};
 ghost use Rattle.core_index.specs.Noted.{name_with};
 ghost use Rattle.core_index.specs.Records.{Shows, ShowsBody, without, opened_with, last_of, live_version};
 ghost use Rattle.core_index.specs.Slots.{alive_at, count_of};
@@ -350,8 +350,9 @@ impl LiveList {
 
     /// Takes an entry out of those that stand.
     pub fn gone(&mut self, name: EntryName)
-        ensures { TurnsAt (placed_lives self.old) (placed_lives self.new) name.key
+        ensures gone { TurnsAt (placed_lives self.old) (placed_lives self.new) name.key
             (option_map (gone_place name.version) (place_at (placed_lives self.old) name.key)) }
+        ensures untold { all_untold (placed_lives self.new) ≤ all_untold (placed_lives self.old) }
     {
         let Some(live) = self.find(name.key) else {
             return;
@@ -363,8 +364,10 @@ impl LiveList {
 
     /// Takes the record of a key out.
     pub fn clear(&mut self, key: Key)
-        ensures { TurnsAt (placed_lives self.old) (placed_lives self.new) key
+        ensures cleared { TurnsAt (placed_lives self.old) (placed_lives self.new) key
             (option_map cleared (place_at (placed_lives self.old) key)) }
+        ensures untold { all_untold (placed_lives self.new)
+            + untold_of (place_at (placed_lives self.old) key) ≡ all_untold (placed_lives self.old) }
     {
         self.set(key, LiveFate::Moved);
     }

@@ -1,7 +1,7 @@
 // The keys that are as they were at the start.
 ghost use Rattle.std.specs.Prelude.{◌≡◌, ◌≢◌, ◌⊎◌, ℕ, ◌+◌, ◌<◌, ◌≤◌, ◌++◌, ◌∷◌, [], Some, None, option_map, true, false, IfOk, IfSome, IfNone, OnOk, OnErr, length};
 ghost use Rattle.log_entry.specs.declared.entry.EntryName.{EntryName};
-ghost use Rattle.core_index.specs.Index.{known_at, place_at, ToldAt, TurnsAt, StartTurns};
+ghost use Rattle.core_index.specs.Index.{all_untold, known_at, place_at, untold_by, ToldAt, TurnsAt, StartTurns};
 ghost use Rattle.core_index.specs.Records.{Awaits, Shows, without, last_of, is_dead_in, is_forgettable};
 ghost use Rattle.core_index.specs.Slots.{alive_at, count_of};
 ghost use Rattle.core_index.specs.Starts.{started, IsAhead};
@@ -153,6 +153,7 @@ impl StartKeys {
     pub fn gone(&mut self, name: EntryName)
         ensures gone { StartTurns self.old self.new name.key
             (option_map (without name.version) (known_at (started self.old) name.key)) }
+        ensures untold { all_untold (started self.new) ≤ all_untold (started self.old) }
         ensures none { (home v : ℕ) → Awaits (known_at (started self.new) name.key) home v
             → Awaits (known_at (started self.old) name.key) home v }
     {
@@ -164,7 +165,9 @@ impl StartKeys {
 
     /// Takes the record of a key out.
     pub fn clear(&mut self, key: Key)
-        ensures { StartTurns self.old self.new key None }
+        ensures turns { StartTurns self.old self.new key None }
+        ensures untold { all_untold (started self.new)
+            + untold_by (known_at (started self.old) key) ≤ all_untold (started self.old) }
     {
         self.live.clear(key);
         self.deleted.clear(key);

@@ -2,7 +2,7 @@
 ghost use Rattle.std.specs.Prelude.{◌≡◌, ◌≢◌, ◌⊎◌, ℕ, ◌+◌, ◌<◌, ◌≤◌, ◌++◌, ◌∷◌, [], Some, None, option_map, true, false, IfSome, IfNone, OnOk, OnErr, length};
 ghost use Rattle.std.specs.Bool.{Decides};
 ghost use Rattle.log_entry.specs.declared.entry.EntryName.{EntryName};
-ghost use Rattle.core_index.specs.Index.{known_at, ToldAt, Turns};
+ghost use Rattle.core_index.specs.Index.{all_untold, known_at, place_at, untold_of, ToldAt, Turns};
 ghost use Rattle.core_index.specs.Records.{Awaits, Shows, without, opened_with, last_of, is_dead_in, is_forgettable};
 ghost use Rattle.core_index.specs.Tombs.{key_of, name_of, left_of, tomb_places, found_at, fated, AreLess, Rising, IsSpot, IsMissing, IsThere, passed_at, Ahead};
 
@@ -275,6 +275,8 @@ impl Tombstones {
     pub fn gone(&mut self, name: EntryName)
         ensures gone { Turns self.old self.new name.key
             (option_map (without name.version) (known_at (tomb_places self.old.items) name.key)) }
+        ensures untold { all_untold (tomb_places self.new.items)
+            ≤ all_untold (tomb_places self.old.items) }
         ensures none { (home v : ℕ) → Awaits (known_at (tomb_places self.new.items) name.key) home v
             → Awaits (known_at (tomb_places self.old.items) name.key) home v }
     {
@@ -288,7 +290,10 @@ impl Tombstones {
 
     /// Takes the record of a key out.
     pub fn clear(&mut self, key: Key)
-        ensures { Turns self.old self.new key None }
+        ensures turns { Turns self.old self.new key None }
+        ensures untold { all_untold (tomb_places self.new.items)
+            + untold_of (place_at (tomb_places self.old.items) key)
+            ≡ all_untold (tomb_places self.old.items) }
     {
         self.set(key, Fate::Moved);
     }

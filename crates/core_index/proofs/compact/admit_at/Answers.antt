@@ -32,4 +32,4 @@ returns-clause-ok c =
     let a = c.args.start.now in
     let k = c.args.key in
     let none = none_of (place_at es k) (sym c.has.ensures ∙ c.if-has.false) in
-    admits_moved es c.enter_at.new.slots.entries a c.clear.new.self k c.in-Some.slot none (subst (λ (o : Option Place). IfSome o (λ p. p ≡ record { known = known_at (started a) k; room = 1 })) c.in-Some.is c.in_ok-slot.ensures.slot) c.in_ok-enter_at.ensures.ok c.clear.ensures
+    admits_moved es c.enter_at.new.slots.entries a c.clear.new.self k c.in-Some.slot none (subst (λ (o : Option Place). IfSome o (λ p. p ≡ record { known = known_at (started a) k; room = 1 })) c.in-Some.is c.in_ok-slot.ensures.slot) c.in_ok-enter_at.ensures.ok c.clear.ensures.turns c.clear.ensures.untold

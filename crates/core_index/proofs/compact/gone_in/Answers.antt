@@ -1,9 +1,9 @@
-use Rattle.std.proofs.Common.{Option, None, sym, ◌∙◌, subst}
+use Rattle.std.proofs.Common.{Option, None, sym, ◌∙◌, subst, arith}
 use Rattle.core_index.specs.Records.{KeyRecord}
 use Rattle.core_index.specs.Index.{place_at, known_at, all_places, Changes}
 use Rattle.core_index.specs.Starts.{started}
 use Rattle.core_index.proofs.OverLaws.{some_of, none_of}
-use Rattle.core_index.proofs.PlaceLaws.{known_else, gone_there, gone_room, only_there, only_else, changes_else, room_else}
+use Rattle.core_index.proofs.PlaceLaws.{known_else, gone_there, gone_room, only_there, only_else, changes_else, room_else, gone_untold, untold_less}
 use Rattle.core_index.proofs.compact.gone_in.Goals as goal
 use Rattle.std.proofs.Common.{option_map}
 use Rattle.core_index.specs.Records.{without}
@@ -42,3 +42,9 @@ returns-else-has-clause-dead c =
     let k = c.args.name.key in
     let none = none_of (place_at es k) (sym c.has.ensures ∙ c.if-has.false) in
     only_else es c.args.start.now c.gone.new.self k None none c.gone.ensures.none
+
+pub returns-then-has-clause-untold : goal.returns-then-has-clause-untold
+returns-then-has-clause-untold c = gone_untold c.args.slots.now.entries c.gone_at.new.slots.entries c.args.start.now c.args.name.key c.args.name.version c.gone_at.ensures.step
+
+pub returns-else-has-clause-untold : goal.returns-else-has-clause-untold
+returns-else-has-clause-untold c = let es = c.args.slots.now.entries in untold_less es es c.args.start.now c.gone.new.self (omega arith) c.gone.ensures.untold

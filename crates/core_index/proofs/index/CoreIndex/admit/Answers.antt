@@ -1,8 +1,8 @@
 use Rattle.std.proofs.Common.{◌+◌, ℕ, List, ◌∙◌, ap, arith}
 use Rattle.core_index.specs.Slots.{Place}
-use Rattle.core_index.specs.Index.{known_at, room_at}
+use Rattle.core_index.specs.Index.{all_untold, known_at, room_at}
 use Rattle.core_index.proofs.StepLaws.{on_ok}
-use Rattle.core_index.proofs.IndexLaws.{admits_room, admitted_others, admitted_known}
+use Rattle.core_index.proofs.IndexLaws.{admits_room, admitted_others, admitted_known, admitted_untold}
 use Rattle.core_index.proofs.IndexLaws.{admitted_index, roomier}
 use Rattle.core_index.proofs.index.CoreIndex.admit.Goals as goal
 
@@ -30,3 +30,11 @@ returns-clause-records c = λ j.
     let es = c.self.inside.slots.entries in
     let a = c.self.inside.start in
     admitted_known c.admit_at.result es c.admit_at.new.slots.entries a c.admit_at.new.start c.args.key c.admit_at.ensures.ok c.admit_at.ensures.err c.admit_at.ensures.err_left j ∙ ap (λ (xs : List (ℕ × Place)). known_at xs j) c.self.view_is
+
+pub returns-clause-untold : goal.returns-clause-untold
+returns-clause-untold c =
+    let es = c.self.inside.slots.entries in
+    let a = c.self.inside.start in
+    let fewer = admitted_untold c.admit_at.result es c.admit_at.new.slots.entries a c.admit_at.new.start c.args.key c.admit_at.ensures.ok c.admit_at.ensures.err c.admit_at.ensures.err_left in
+    let same = ap all_untold c.self.view_is in
+    omega (arith, fewer, same)

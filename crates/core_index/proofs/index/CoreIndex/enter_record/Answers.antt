@@ -15,7 +15,7 @@ invariant_of-self-2 c =
     let count = c.len.ensures in
     let more = c.in_ok-reserve.ensures.ok in
     let less = c.note_dead.ensures.spare in
-    entered_index c.self.inside.slots.entries c.enter_at.new.slots.entries c.self.inside.start c.clear.new.self c.self.inside.notices c.note_dead.new.notices c.args.start.key p c.self.invariant c.in_ok-enter_at.ensures.ok c.clear.ensures none c.note_dead.ensures.noted kept (omega (arith, count, more, less))
+    entered_index c.self.inside.slots.entries c.enter_at.new.slots.entries c.self.inside.start c.clear.new.self c.self.inside.notices c.note_dead.new.notices c.args.start.key p c.self.invariant c.in_ok-enter_at.ensures.ok c.clear.ensures.turns none c.note_dead.ensures.noted kept (omega (arith, count, more, less))
 
 pub returns : goal.returns
 returns c =
@@ -23,4 +23,4 @@ returns c =
     let a = c.self.inside.start in
     let fs = c.enter_at.new.slots.entries in
     let k = c.args.start.key in
-    subst (λ (xs : List (ℕ × Place)). EntersAs xs (all_places fs c.clear.new.self) k (opened c.args.start)) c.self.view_is (enters_as es fs a c.clear.new.self k c.in_ok-slot.slot (opened c.args.start) c.in_ok-slot.ensures c.in_ok-enter_at.ensures.ok c.clear.ensures)
+    subst (λ (xs : List (ℕ × Place)). EntersAs xs (all_places fs c.clear.new.self) k (opened c.args.start)) c.self.view_is (enters_as es fs a c.clear.new.self k c.in_ok-slot.slot (opened c.args.start) c.in_ok-slot.ensures c.in_ok-enter_at.ensures.ok c.clear.ensures.turns)

@@ -1,8 +1,8 @@
 use Rattle.std.proofs.Common.{◌≡◌, ◌+◌, ◌-◌, ◌<◌, ℕ, List, Option, Some, sym, ◌∙◌, ap, subst, arith}
 use Rattle.core_index.specs.Records.{KeyRecord, settled, last_of, block_of}
 use Rattle.core_index.specs.Slots.{Place}
-use Rattle.core_index.specs.Index.{place_at, room_in, known_at, room_at, all_places, Changes}
-use Rattle.core_index.proofs.PlaceLaws.{known_there, room_both, room_place}
+use Rattle.core_index.specs.Index.{place_at, room_in, known_at, room_at, all_places, all_untold, Changes}
+use Rattle.core_index.proofs.PlaceLaws.{known_there, room_both, room_place, settled_untold}
 use Rattle.core_index.proofs.IndexLaws.{settled_index, settled_change}
 use Rattle.core_index.proofs.index.CoreIndex.settle.Goals as goal
 
@@ -94,3 +94,7 @@ returns-clause-others c = λ j ne.
     let es = c.self.inside.slots.entries in
     let a = c.self.inside.start in
     room_both c.settle_at-settled.new.slots.entries a j ∙ ap room_in (c.settle_at-settled.ensures.step.others j ne) ∙ sym (room_both es a j) ∙ ap (λ (xs : List (ℕ × Place)). room_at xs j) c.self.view_is
+
+pub returns-clause-untold : goal.returns-clause-untold
+returns-clause-untold c =
+    settled_untold c.self.inside.slots.entries c.settle_at-settled.new.slots.entries c.self.inside.start c.args.entry.key c.args.entry.version c.args.home _ c.args.entry.body c.settle_at-settled.ensures.step ∙ ap (λ (xs : List (ℕ × Place)). all_untold xs + 1) c.self.view_is

@@ -1,9 +1,9 @@
-use Rattle.std.proofs.Common.{Option, option_map, refl, sym, subst}
+use Rattle.std.proofs.Common.{Option, option_map, refl, sym, subst, arith}
 use Rattle.core_index.specs.declared.start_keys.StartKeys.{StartKeys}
 use Rattle.core_index.specs.Records.{KeyRecord, Awaits, without}
 use Rattle.core_index.specs.Tombs.{tomb_places}
 use Rattle.core_index.specs.Index.{known_at, StartTurns}
-use Rattle.core_index.proofs.StartLaws.{gone_live, gone_live_waits, gone_deleted, known_deleted}
+use Rattle.core_index.proofs.StartLaws.{gone_live, gone_live_waits, gone_deleted, known_deleted, start_less}
 use Rattle.core_index.proofs.start_keys.StartKeys.gone.Goals as goal
 
 pub returns-in-None-clause-gone : goal.returns-in-None-clause-gone
@@ -23,9 +23,15 @@ returns-in-None-clause-none c = λ home v waits.
 pub returns-in-Some-clause-gone : goal.returns-in-Some-clause-gone
 returns-in-Some-clause-gone c =
     let a = c.args.self.now in
-    gone_live a (record { live = c.gone-in-Some.new.self; deleted = a.deleted }) c.args.name.key c.args.name.version c.in-Some.field-0 c.in-Some.ensures.found c.gone-in-Some.ensures refl
+    gone_live a (record { live = c.gone-in-Some.new.self; deleted = a.deleted }) c.args.name.key c.args.name.version c.in-Some.field-0 c.in-Some.ensures.found c.gone-in-Some.ensures.gone refl
 
 pub returns-in-Some-clause-none : goal.returns-in-Some-clause-none
 returns-in-Some-clause-none c = λ home v waits.
     let a = c.args.self.now in
-    absurd (gone_live_waits a (record { live = c.gone-in-Some.new.self; deleted = a.deleted }) c.args.name.key c.args.name.version home v c.in-Some.field-0 c.in-Some.ensures.found c.gone-in-Some.ensures waits)
+    absurd (gone_live_waits a (record { live = c.gone-in-Some.new.self; deleted = a.deleted }) c.args.name.key c.args.name.version home v c.in-Some.field-0 c.in-Some.ensures.found c.gone-in-Some.ensures.gone waits)
+
+pub returns-in-None-clause-untold : goal.returns-in-None-clause-untold
+returns-in-None-clause-untold c = let a = c.args.self.now in start_less a (record { live = a.live; deleted = c.gone.new.self }) (omega arith) c.gone.ensures.untold
+
+pub returns-in-Some-clause-untold : goal.returns-in-Some-clause-untold
+returns-in-Some-clause-untold c = let a = c.args.self.now in start_less a (record { live = c.gone-in-Some.new.self; deleted = a.deleted }) c.gone-in-Some.ensures.untold (omega arith)

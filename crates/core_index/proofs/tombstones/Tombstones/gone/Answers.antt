@@ -1,8 +1,9 @@
-use Rattle.std.proofs.Common.{Some, None, option_map, sym, ◌∙◌, ap, subst}
+use Rattle.std.proofs.Common.{Some, None, option_map, sym, ◌∙◌, ap, subst, arith}
 use Rattle.core_index.specs.Tombs.{Tombs, tomb_places}
 use Rattle.core_index.specs.Records.{Awaits, without}
-use Rattle.core_index.specs.Index.{Turns, known_at}
-use Rattle.core_index.proofs.TombLaws.{known_found, same_turns, gone_turns, gone_waits}
+use Rattle.core_index.specs.Index.{Turns, all_untold, known_at}
+use Rattle.core_index.specs.declared.types.Fate.TheVariants.{Gone}
+use Rattle.core_index.proofs.TombLaws.{known_found, same_turns, gone_turns, gone_waits, gone_tells, fated_untold}
 use Rattle.core_index.proofs.tombstones.Tombstones.gone.Goals as goal
 
 pub returns-in_default-clause-gone : goal.returns-in_default-clause-gone
@@ -30,3 +31,9 @@ returns-else-stands-clause-gone c =
     let n = c.args.name in
     let is = known_found a.items n.key (Some c.in-Some.tombstone) c.in-Some.ensures in
     same_turns a n.key (option_map (without n.version) (known_at (tomb_places a.items) n.key)) (is ∙ sym (c.stands.ensures.none c.if-stands.false) ∙ ap (option_map (without n.version)) (sym is))
+
+pub returns-then-stands-clause-untold : goal.returns-then-stands-clause-untold
+returns-then-stands-clause-untold c =
+    let now = ap (λ (b : Tombs). all_untold (tomb_places b.items)) c.set.ensures in
+    let fewer = fated_untold c.args.self.now.items c.args.name.key Gone gone_tells in
+    omega (arith, now, fewer)
