@@ -1,5 +1,5 @@
 -- Names in a list by rising rank.
-use Rattle.std.proofs.Common.{◌≡◌, ◌≢◌, ⊎_elim, ℕ, zero, suc, ◌-◌, ◌<◌, ◌≤◌, ◌==◌, true, false, cond, List, [], ◌∷◌, ◌++◌, length, get_or, Option, Some, None, refl, sym, ◌∙◌, ap, subst, arith, slice_set}
+use Rattle.std.proofs.Common.{◌≡◌, ◌≢◌, ⊎_elim, ℕ, zero, suc, ◌+◌, ◌-◌, ◌<◌, ◌≤◌, ◌==◌, true, false, cond, List, [], ◌∷◌, ◌++◌, length, get_or, Option, Some, None, refl, sym, ◌∙◌, ap, subst, arith, slice_set}
 use Rattle.std.specs.Prelude.{unwrap_or}
 use Rattle.std.specs.List.{AllByRecursion}
 use Rattle.std.specs.List.Sorted.{IsNonDecreasingBy}
@@ -8,7 +8,7 @@ use Rattle.std.proofs.lemmas.List.{get_or-set_same}
 use Rattle.log_standing.specs.declared.name_item.NameItem.{NameItem}
 use Rattle.log_standing.specs.declared.types.Copies.{Copies}
 use Rattle.log_standing.specs.NameCounts.{name_eq, copies_with, told_in}
-use Rattle.log_standing.specs.NameItems.{rank_of, rank_in, is_item, copies_of, live, copies_among, Rises, IsAbsent}
+use Rattle.log_standing.specs.NameItems.{rank_of, rank_in, is_item, copies_of, live, copies_among, one_of, Rises, IsAbsent}
 use Rattle.log_standing.proofs.StandingLaws.{same_name, name_same}
 
 pub name_flip : (k v j w : ℕ) → name_eq (k, v) (j, w) ≡ name_eq (j, w) (k, v)
@@ -154,6 +154,20 @@ copies_set xs i z d k v rises lt is new j w =
           copies_at_place (slice_set xs i z) i d j w (rises_set xs i z d same rises) (omega (arith, n, lt)) there ∙ ap copies_of read
       | false ↦ λ ne. other_copies xs i z d j w ((λ t. name_eq (was.0 t, was.1 t) (j, w)) ∙ ne) ((λ t. name_eq (now.0 t, now.1 t) (j, w)) ∙ ne)
     ] refl
+
+-- How many names there are.
+
+live_first : (x : NameItem) (xs : List NameItem) → length (live (x ∷ xs)) ≡ one_of (copies_of x) + length (live xs)
+live_first x xs = elim (x.count == 0) as (λ b. length (cond b (live xs) (((x.key, x.version), copies_with x.count x.dead) ∷ live xs)) ≡ one_of (cond b None (Some (copies_with x.count x.dead))) + length (live xs)) [ true ↦ omega arith | false ↦ omega arith ]
+
+pub count_set : (xs : List NameItem) (i : ℕ) (z d : NameItem) → i < length xs → length (live (slice_set xs i z)) + one_of (copies_of (get_or xs i d)) ≡ length (live xs) + one_of (copies_of z)
+count_set [] i z d lt = absurd (omega (arith, lt))
+count_set (x ∷ xs) zero z d lt = let a = live_first x xs in let b = live_first z xs in omega (arith, a, b)
+count_set (x ∷ xs) (suc i) z d lt =
+    let a = live_first x xs in
+    let b = live_first x (slice_set xs i z) in
+    let rest = count_set xs i z d (omega (arith, lt)) in
+    omega (arith, a, b, rest)
 
 -- One more at the end.
 

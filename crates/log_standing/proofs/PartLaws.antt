@@ -1,10 +1,11 @@
 -- Names in two parts.
-use Rattle.std.proofs.Common.{◌≡◌, ℕ, ◌≤◌, max, arith, true, false, cond, List, [], ◌∷◌, ◌++◌, Option, Some, None, is_some, refl, sym, ◌∙◌, ap}
+use Rattle.std.proofs.Common.{◌≡◌, ℕ, ◌+◌, ◌≤◌, length, max, arith, true, false, cond, List, [], ◌∷◌, ◌++◌, Option, Some, None, is_some, refl, sym, ◌∙◌, ap}
 use Rattle.std.specs.Prelude.{IfSome}
 use Rattle.std.proofs.lemmas.Bool.{cond-true, cond-false}
+use Rattle.std.proofs.lemmas.List.{length-append}
 use Rattle.log_standing.specs.declared.types.Copies.{Copies}
 use Rattle.log_standing.specs.NameCounts.{name_eq, count_in}
-use Rattle.log_standing.specs.NameItems.{copies_among, Writes}
+use Rattle.log_standing.specs.NameItems.{copies_among, one_of, Recounts, Writes}
 use Rattle.log_standing.specs.TwoParts.{AreApart}
 use Rattle.log_standing.proofs.StandingLaws.{same_name}
 
@@ -72,3 +73,36 @@ apart_second t new l more k v o apart gone writes j w = elim (name_eq (k, v) (j,
   | true ↦ λ is some. absurd (let both : false ≡ true = sym (ap (λ (p : Option Copies). is_some p) (gone j w ∙ cond-true (name_eq (k, v) (j, w)) None (copies_among t j w) is)) ∙ some in cc both)
   | false ↦ λ isnt some. writes j w ∙ cond-false (name_eq (k, v) (j, w)) o (copies_among l j w) isnt ∙ apart j w (sym (ap (λ (p : Option Copies). is_some p) (gone j w ∙ cond-false (name_eq (k, v) (j, w)) None (copies_among t j w) isnt)) ∙ some)
 ] refl
+
+-- How many names both parts have.
+
+either_first : (o p : Option Copies) → p ≡ None → one_of (either o p) ≡ one_of o
+either_first None p none = ap one_of none
+either_first (Some c) p none = refl
+
+either_count : (o p : Option Copies) → (is_some o ≡ true → p ≡ None) → one_of (either o p) ≡ one_of o + one_of p
+either_count None p apart = omega arith
+either_count (Some c) p apart = let none = ap one_of (apart refl) in omega (arith, none)
+
+-- a name of the first part alone
+pub recounts_first : (t new l : List ((ℕ × ℕ) × Copies)) (k v : ℕ) (o : Option Copies) → copies_among l k v ≡ None → Recounts t new k v o → Recounts (t ++ l) (new ++ l) k v o
+recounts_first t new l k v o none count =
+    let a = length-append t l in
+    let b = length-append new l in
+    let one = ap one_of (copies_joined t l k v) ∙ either_first (copies_among t k v) (copies_among l k v) none in
+    omega (arith, a, b, one, count)
+
+-- one that is taken out of the first part, and written in the second one
+pub recounts_second : (t new l more : List ((ℕ × ℕ) × Copies)) (k v : ℕ) (o : Option Copies) → AreApart t l → Recounts t new k v None → length more + one_of (copies_among l k v) ≡ length l + one_of o → Recounts (t ++ l) (new ++ more) k v o
+recounts_second t new l more k v o apart gone count =
+    let a = length-append t l in
+    let b = length-append new more in
+    let both = ap one_of (copies_joined t l k v) ∙ either_count (copies_among t k v) (copies_among l k v) (apart k v) in
+    omega (arith, a, b, both, gone, count)
+
+pub one_is : (o : Option Copies) → is_some o ≡ true → one_of o ≡ 1
+one_is None some = absurd (cc some)
+one_is (Some c) some = refl
+
+pub one_none : (t : List ((ℕ × ℕ) × Copies)) (k v : ℕ) → copies_among t k v ≡ None → Recounts t t k v None
+one_none t k v none = let zero_there = ap one_of none in omega (arith, zero_there)

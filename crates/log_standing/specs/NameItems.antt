@@ -37,6 +37,11 @@ live (x ∷ xs) = if x.count == 0 then live xs
 abbrev pub copies_among : List ((ℕ × ℕ) × Copies) → ℕ → ℕ → Option Copies
 copies_among es k v = lookup (name_eq (k, v)) es
 
+-- one name where there is one
+abbrev pub one_of : Option Copies → ℕ
+one_of None = 0
+one_of (Some c) = 1
+
 -- no name has more copies than fit into an item, and none has none
 abbrev pub AreSmall : List ((ℕ × ℕ) × Copies) → Type 0
 AreSmall es = (k v : ℕ) (c : Copies) → copies_among es k v ≡ Some c
@@ -65,6 +70,10 @@ pub record IsItemOf (x : NameItem) (k v : ℕ) (o : Option Copies) : Type 0 wher
 abbrev pub Writes : List ((ℕ × ℕ) × Copies) → List ((ℕ × ℕ) × Copies) → ℕ → ℕ → Option Copies → Type 0
 Writes old new k v now = (j w : ℕ)
     → copies_among new j w ≡ (if name_eq (k, v) (j, w) then now else copies_among old j w)
+
+-- how many names there are: one more where this one stands now and didn't, and one less where it did and doesn't
+abbrev pub Recounts : List ((ℕ × ℕ) × Copies) → List ((ℕ × ℕ) × Copies) → ℕ → ℕ → Option Copies → Type 0
+Recounts old new k v now = length new + one_of (copies_among old k v) ≡ length old + one_of now
 
 -- an item notes that a name stands in a chunk
 abbrev pub is_note : ℕ → ℕ → ℕ → NameItem → Bool

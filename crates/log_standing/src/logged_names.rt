@@ -1,8 +1,8 @@
 // The names of a log: those that were found at the start in a sorted table, and later ones in a map.
-ghost use Rattle.std.specs.Prelude.{◌≡◌, ℕ, ◌+◌, ◌<◌, ◌≤◌, max, Some, None, IsSome, OnOk, if◌then◌else◌};
+ghost use Rattle.std.specs.Prelude.{◌≡◌, ℕ, ◌+◌, ◌<◌, ◌≤◌, max, Some, None, IsSome, OnOk, length, if◌then◌else◌};
 ghost use Rattle.std.specs.HashMap.{get, spare};
 ghost use Rattle.log_standing.specs.NameCounts.{name_eq, count_in};
-ghost use Rattle.log_standing.specs.NameItems.{copies_among, Writes};
+ghost use Rattle.log_standing.specs.NameItems.{copies_among, one_of, Recounts, Writes};
 
 use crate::name_table::NameTable;
 use crate::types::Copies;
@@ -45,6 +45,7 @@ fn set_in(names: &mut HashMap<(Key, Version), Copies>, name: EntryName, copies: 
     ensures set { IsSome (get name_eq names.old (name.key, name.version)) → (q : ℕ × ℕ)
         → get name_eq names.new q ≡ (if name_eq (name.key, name.version) q then Some copies
         else get name_eq names.old q) }
+    ensures count { length names.new.entries ≡ length names.old.entries }
     ensures spare { spare names.new ≡ spare names.old }
 {
     if let Some(place) = names.get_mut(&(name.key, name.version)) {
@@ -57,6 +58,8 @@ fn put_in(names: &mut HashMap<(Key, Version), Copies>, name: EntryName, copies: 
     requires { 0 < spare names.old }
     ensures put { (q : ℕ × ℕ) → get name_eq names.new q ≡ (if name_eq (name.key, name.version) q
         then Some copies else get name_eq names.old q) }
+    ensures count { length names.new.entries
+        + one_of (get name_eq names.old (name.key, name.version)) ≡ length names.old.entries + 1 }
     ensures spare { spare names.old ≤ spare names.new + 1 }
 {
     let put: Result<_, _> = names.insert((name.key, name.version), copies);
@@ -67,6 +70,8 @@ fn put_in(names: &mut HashMap<(Key, Version), Copies>, name: EntryName, copies: 
 fn take_in(names: &mut HashMap<(Key, Version), Copies>, name: EntryName)
     ensures taken { (q : ℕ × ℕ) → get name_eq names.new q ≡ (if name_eq (name.key, name.version) q
         then None else get name_eq names.old q) }
+    ensures count { length names.new.entries
+        + one_of (get name_eq names.old (name.key, name.version)) ≡ length names.old.entries }
     ensures spare { spare names.old ≤ spare names.new }
 {
     let _ = names.remove(&(name.key, name.version));
@@ -97,6 +102,7 @@ impl LoggedNames {
     pub fn reserve(&mut self, more: u64) -> Result<(), Memory>
         ensures copies { (k v : ℕ) → copies_among self.new.entries k v
             ≡ copies_among self.old.entries k v }
+        ensures count { length self.new.entries ≡ length self.old.entries }
         ensures ok { OnOk result (more ≤ self.new.spare) }
         ensures spare { self.old.spare ≤ self.new.spare }
     {
@@ -111,6 +117,7 @@ impl LoggedNames {
         requires fits { copies.count ≤ max 2
             (count_in (copies_among self.old.entries name.key name.version)) }
         ensures set { Writes self.old.entries self.new.entries name.key name.version (Some copies) }
+        ensures count { Recounts self.old.entries self.new.entries name.key name.version (Some copies) }
         ensures spare { self.new.spare ≡ self.old.spare }
     {
         if self.table.get(name).is_some() {
@@ -124,6 +131,7 @@ impl LoggedNames {
     pub fn put(&mut self, name: EntryName, copies: Copies)
         requires { 0 < self.old.spare }
         ensures put { Writes self.old.entries self.new.entries name.key name.version (Some copies) }
+        ensures count { Recounts self.old.entries self.new.entries name.key name.version (Some copies) }
         ensures spare { self.old.spare ≤ self.new.spare + 1 }
     {
         if copies_in(&self.later, name).is_none() && self.table.put(name, copies) {
@@ -136,6 +144,7 @@ impl LoggedNames {
     /// Takes a name out.
     pub fn take(&mut self, name: EntryName)
         ensures taken { Writes self.old.entries self.new.entries name.key name.version None }
+        ensures count { Recounts self.old.entries self.new.entries name.key name.version None }
         ensures spare { self.old.spare ≤ self.new.spare }
     {
         self.table.take(name);

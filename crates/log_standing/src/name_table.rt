@@ -4,7 +4,7 @@ ghost use Rattle.std.specs.List.{All};
 ghost use Rattle.core_log.specs.declared.types.LogChunk.{LogChunk};
 ghost use Rattle.log_standing.specs.NameCounts.{count_in, told_in};
 ghost use Rattle.log_standing.specs.Killing.{Answers, dead_by, all_dead, KillsAmong, SameCounts};
-ghost use Rattle.log_standing.specs.NameItems.{Rises, IsPlace, IsAbsent, Fits, AreIn, copies_among, chunks_noted, AreSmall, Writes};
+ghost use Rattle.log_standing.specs.NameItems.{Rises, IsPlace, IsAbsent, Fits, AreIn, copies_among, chunks_noted, AreSmall, Recounts, Writes};
 
 use crate::merging::merge;
 use crate::name_item::{MOST_IN_ITEM, NameItem, copies_of, item_of, rank_of};
@@ -106,6 +106,8 @@ impl NameTable {
     /// Writes what a name has, where it has a place and its count fits in. Says whether it did.
     pub fn put(&mut self, name: EntryName, copies: Copies) -> bool
         ensures put { result ≡ true → Writes self.old self.new name.key name.version (Some copies) }
+        ensures count { result ≡ true
+            → Recounts self.old self.new name.key name.version (Some copies) }
         ensures same { result ≡ false → self.new ≡ self.old }
         ensures fits { 0 < copies.count → copies.count ≤ MOST_IN_ITEM
             → IsSome (copies_among self.old name.key name.version) → result ≡ true }
@@ -122,7 +124,8 @@ impl NameTable {
 
     /// Takes a name out. It keeps its place.
     pub fn take(&mut self, name: EntryName)
-        ensures { Writes self.old self.new name.key name.version None }
+        ensures taken { Writes self.old self.new name.key name.version None }
+        ensures count { Recounts self.old self.new name.key name.version None }
     {
         let Some(place) = place_of(&self.items, name) else {
             return;

@@ -1,5 +1,5 @@
 // Which entries stand in the own log.
-ghost use Rattle.std.specs.Prelude.{◌≡◌, ◌⊎◌, ℕ, ◌+◌, ◌-◌, ◌^◌, ◌<◌, ◌≤◌, ◌==◌, nat_eq, true, false, Some, None, option_map, is_some, IsSome, IsOk, OnOk, OnErr, IfOk, if◌then◌else◌};
+ghost use Rattle.std.specs.Prelude.{◌≡◌, ◌⊎◌, ℕ, ◌+◌, ◌-◌, ◌^◌, ◌<◌, ◌≤◌, ◌==◌, nat_eq, true, false, Some, None, option_map, is_some, IsSome, IsOk, OnOk, OnErr, IfOk, length, if◌then◌else◌};
 ghost use Rattle.log_standing.specs.NameCounts.{name_eq, copies_at, count_of, is_told, count_in, wants, living, one_more, killed, times_in, copies_with, Changes, SameCopies};
 ghost use Rattle.log_standing.specs.NameItems.{copies_among, AreSmall};
 
@@ -83,6 +83,7 @@ impl Standing {
     /// Makes the number of reserved places at least this one. Each name that stands has a copy.
     pub fn reserve(&mut self, more: u64) -> Result<(), Memory>
         ensures copies { SameCopies self.old self.new }
+        ensures count { length self.new.entries ≡ length self.old.entries }
         ensures standing { (k v : ℕ) → is_some (copies_at self.new k v) ≡ true
             → 0 < count_of self.new k v }
         ensures ok { OnOk result (more ≤ self.new.room) }
@@ -106,6 +107,7 @@ impl Standing {
         requires { 0 < self.old.room }
         ensures added { Changes self.old self.new name.key name.version
             (Some (one_more (copies_at self.old name.key name.version))) }
+        ensures count { length self.new.entries ≤ length self.old.entries + 1 }
         ensures room { self.new.room + 1 ≡ self.old.room }
         ensures settled { self.new.settled ≡ self.old.settled }
     {
@@ -119,6 +121,7 @@ impl Standing {
     pub fn kill(&mut self, name: EntryName)
         ensures killed { Changes self.old self.new name.key name.version
             (option_map killed (copies_at self.old name.key name.version)) }
+        ensures count { length self.new.entries ≡ length self.old.entries }
         ensures room { self.new.room ≡ self.old.room }
         ensures settled { self.new.settled ≡ self.old.settled }
     {
@@ -181,6 +184,7 @@ impl Standing {
     /// Notes up to where a cleaning has read a chunk: no entry before that place is still to be copied.
     pub fn settle(&mut self, settled: Option<Settled>)
         ensures copies { SameCopies self.old self.new }
+        ensures count { self.new.entries ≡ self.old.entries }
         ensures room { self.new.room ≡ self.old.room }
         ensures settled { self.new.settled ≡ settled }
     {
@@ -192,6 +196,7 @@ impl Standing {
         requires { count_of self.old name.key name.version ≡ 1 }
         ensures added { Changes self.old self.new name.key name.version
             (Some (one_more (copies_at self.old name.key name.version))) }
+        ensures count { length self.new.entries ≡ length self.old.entries }
         ensures room { self.new.room ≡ self.old.room }
         ensures settled { self.new.settled ≡ self.old.settled }
     {
@@ -208,6 +213,8 @@ impl Standing {
         ensures more { result ≡ false → Changes self.old self.new name.key name.version
             (Some (copies_with (count_of self.old name.key name.version - 1)
             (is_told self.old name.key name.version))) }
+        ensures count { length self.new.entries + (if result then 1 else 0)
+            ≡ length self.old.entries }
         ensures room { self.new.room ≡ self.old.room }
         ensures settled { self.new.settled ≡ (if result then self.old.settled else None) }
     {
