@@ -1,5 +1,5 @@
 -- The map of keys beside the keys of the start.
-use Rattle.std.proofs.Common.{◌≡◌, ◌≢◌, inl, inr, ⊎_elim, ℕ, ◌+◌, ◌<◌, ◌≤◌, true, List, Option, Some, None, option_map, refl, sym, ◌∙◌, ap, subst, arith}
+use Rattle.std.proofs.Common.{◌≡◌, ◌≢◌, inl, inr, ⊎_elim, ℕ, ◌+◌, ◌-◌, ◌<◌, ◌≤◌, true, List, Option, Some, None, option_map, refl, sym, ◌∙◌, ap, subst, arith}
 use Rattle.std.specs.Prelude.{is_some, IfSome, IsTrue}
 use Rattle.std.proofs.lemmas.Bool.{cases_eq}
 use Rattle.log_entry.specs.declared.entry.EntryName.{EntryName}
@@ -9,7 +9,7 @@ use Rattle.core_index.specs.Records.{KeyRecord, Awaits, settled, told_in, withou
 use Rattle.core_index.specs.Slots.{Place, mortal, OnlyDead, count_of, alive_at, standee_with}
 use Rattle.core_index.specs.declared.start_keys.StartKeys.{StartKeys}
 use Rattle.core_index.specs.Starts.{started}
-use Rattle.core_index.specs.Index.{IsCompact, place_at, known_in, room_in, known_at, room_at, mortal_in, untold_of, untold_by, all_untold, over, all_places, gone_place, Step, Changes, SameRoom, ToldAt, StartTurns, Forgets, Admits}
+use Rattle.core_index.specs.Index.{IsCompact, place_at, known_in, room_in, known_at, room_at, mortal_in, untold_of, untold_by, all_untold, over, all_places, gone_place, Step, Changes, SameRoom, ToldAt, StartTurns, Forgets, GivesBack, Admits}
 use Rattle.core_index.proofs.OverLaws.{place_both, untold_both, some_of}
 use Rattle.core_index.proofs.StartLaws.{start_no_room, live_found}
 use Rattle.core_index.proofs.LiveLaws.{less_absent}
@@ -246,3 +246,31 @@ all_fit (Some t) es a k v known new apart above key home left version = record {
   version = version;
   left = left;
 }
+
+-- Room that is given back.
+
+pub gives_known : (es fs : List (ℕ × Place)) (a b : StartKeys) (k : ℕ) → 0 < room_at es k → GivesBack es fs k → StartTurns a b k None → (j : ℕ) → known_at (all_places fs b) j ≡ known_at (all_places es a) j
+gives_known es fs a b k some gives turns j = ⊎_elim
+    (λ (e : j ≡ k). ap (known_at (all_places fs b)) e ∙ here ∙ ap (known_at (all_places es a)) (sym e))
+    (λ (ne : j ≢ k). ap known_in (place_kept es fs a b j (gives.others j ne) (turns.others j ne)))
+    (cases_eq j k)
+  where
+    there : (p : Place) × (place_at es k ≡ Some p)
+    there = room_place (place_at es k) some
+
+    over_known : (o q : Option Place) → known_in q ≡ None → known_in (over o q) ≡ known_in o
+    over_known None q none = none
+    over_known (Some p) q none = refl
+
+    here : known_at (all_places fs b) k ≡ known_at (all_places es a) k
+    here = ap known_in (place_both fs (started b) k) ∙ over_known (place_at fs k) (place_at (started b) k) turns.here ∙ gives.here ∙ sym (known_there es a k there.0 there.1)
+
+pub gives_room : (es fs : List (ℕ × Place)) (a b : StartKeys) (k : ℕ) → GivesBack es fs k → room_at (all_places fs b) k ≡ room_at (all_places es a) k - 1
+gives_room es fs a b k gives =
+    let now = room_both fs b k in
+    let before = room_both es a k in
+    let one = gives.room in
+    omega (arith, now, before, one)
+
+pub gives_others : (es fs : List (ℕ × Place)) (a b : StartKeys) (k : ℕ) → GivesBack es fs k → (j : ℕ) → j ≢ k → room_at (all_places fs b) j ≡ room_at (all_places es a) j
+gives_others es fs a b k gives j ne = room_both fs b j ∙ ap room_in (gives.others j ne) ∙ sym (room_both es a j)

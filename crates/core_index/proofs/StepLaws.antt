@@ -1,5 +1,5 @@
 -- Changes of the map at one key.
-use Rattle.std.proofs.Common.{◌≡◌, ◌≢◌, ⊎_elim, ℕ, ◌+◌, ◌≤◌, false, List, Option, Some, None, option_map, refl, sym, ◌∙◌, ap, subst, arith}
+use Rattle.std.proofs.Common.{◌≡◌, ◌≢◌, ⊎_elim, ℕ, ◌+◌, ◌-◌, ◌<◌, ◌≤◌, ◌==◌, ◌&&◌, true, false, List, Option, Some, None, is_none, option_map, refl, sym, ◌∙◌, ap, subst, arith}
 use Rattle.std.specs.List.{sum_by}
 use Rattle.std.specs.Option.{unwrap_or}
 use Rattle.std.specs.Map.{values_of, keys_of, set_value, remove_entry}
@@ -8,14 +8,14 @@ use Rattle.std.specs.Ordering.{nat_cmp}
 use Rattle.std.specs.Cmp.{unsigned_tied, nat_cmp_total}
 use Rattle.std.specs.List.Sorted.{IsStrictlySortedBy}
 use Rattle.std.proofs.lemmas.Map.Entries.{sum_by-set_value, sum_by-insert_entry, sum_by-remove_entry}
-use Rattle.std.proofs.lemmas.Bool.{ne_eqb}
+use Rattle.std.proofs.lemmas.Bool.{ne_eqb, eqb-true}
 use Rattle.std.specs.Prelude.{Result, Ok, Err, OnOk, OnErr}
 use Rattle.std.proofs.lemmas.Bool.{cases_eq}
 use Rattle.std.proofs.lemmas.Map.Steps.{set_value_same}
 use Rattle.log_entry.specs.declared.entry.EntryName.{EntryName}
 use Rattle.core_index.specs.Records.{KeyRecord, Awaits, with_told, told_in, count_untold, standing_of}
 use Rattle.core_index.specs.Slots.{Place, mortal, TellsOne}
-use Rattle.core_index.specs.Index.{place_at, known_in, room_in, known_at, room_at, mortal_in, all_mortal, untold_in, untold_of, all_untold, Step, Changes, SameRoom, ToldAt, Forgets}
+use Rattle.core_index.specs.Index.{place_at, known_in, room_in, known_at, room_at, mortal_in, all_mortal, untold_in, untold_of, all_untold, Step, Changes, SameRoom, ToldAt, Forgets, GivesBack}
 use Rattle.core_index.proofs.StandingLaws.{fewer_untold}
 
 pub apart : (k q : ℕ) → q ≢ k → is_at (nat_cmp k) q ≡ false
@@ -164,6 +164,41 @@ forgets_all es fs gs k first second none =
       here = ap known_in second.here;
       others = λ j ne. second.others j ne ∙ a.others j ne;
       room = λ j. step_room fs gs k None second room j ∙ a.room j;
+      count = let sum = second.count in let le = a.count in omega (arith, sum, le);
+      untold = let sum = second.untold in let le = a.untold in omega (arith, sum, le);
+    }
+
+-- Room that is given back.
+
+lowered : (o : Option Place) → 0 < room_in o → mortal_in (Some (record { known = known_in o; room = room_in o - 1 })) + 1 ≡ mortal_in o
+lowered None some = absurd (omega (arith, some))
+lowered (Some p) some = omega (arith, some)
+
+-- what is to be told of a key is so whatever its room
+untold_there : (o : Option Place) (n : ℕ) → untold_of (Some (record { known = known_in o; room = n })) ≡ untold_of o
+untold_there None n = refl
+untold_there (Some p) n = refl
+
+pub bare_is : (o : Option KeyRecord) (n : ℕ) → (is_none o && (n == 0)) ≡ true → (o ≡ None) × (n ≡ 0)
+bare_is None n is = (refl, eqb-true n 0 is)
+bare_is (Some r) n is = absurd (cc is)
+
+pub gives_keeping : (es fs : List (ℕ × Place)) (k : ℕ) → 0 < room_at es k → Step es fs k (Some (record { known = known_at es k; room = room_at es k - 1 })) → GivesBack es fs k
+gives_keeping es fs k some step = record {
+  here = ap known_in step.here;
+  room = let now : room_at fs k ≡ room_at es k - 1 = ap room_in step.here in omega (arith, now, some);
+  others = step.others;
+  count = let sum = step.count in let one = lowered (place_at es k) some in omega (arith, sum, one);
+  untold = let sum = step.untold in let same = untold_there (place_at es k) (room_at es k - 1) in omega (arith, sum, same);
+}
+
+pub gives_all : (es fs gs : List (ℕ × Place)) (k : ℕ) → 0 < room_at es k → Step es fs k (Some (record { known = known_at es k; room = room_at es k - 1 })) → Step fs gs k None → known_at es k ≡ None → room_at es k - 1 ≡ 0 → GivesBack es gs k
+gives_all es fs gs k some first second none last =
+    let a = gives_keeping es fs k some first in
+    record {
+      here = ap known_in second.here ∙ sym none;
+      room = let now : room_at gs k ≡ 0 = ap room_in second.here in omega (arith, now, last, some);
+      others = λ j ne. second.others j ne ∙ a.others j ne;
       count = let sum = second.count in let le = a.count in omega (arith, sum, le);
       untold = let sum = second.untold in let le = a.untold in omega (arith, sum, le);
     }

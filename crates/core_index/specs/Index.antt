@@ -1,5 +1,5 @@
 -- The index as its callers see it: a map from keys to records, with room for so many changes of a key to come.
-use Rattle.std.specs.Prelude.{◌≡◌, ◌≢◌, ◌⊎◌, ◌<◌, ℕ, ◌+◌, ◌≤◌, ◌==◌, List, [], ◌∷◌, ◌++◌, if◌then◌else◌, Option, Some, None, option_map}
+use Rattle.std.specs.Prelude.{◌≡◌, ◌≢◌, ◌⊎◌, ◌<◌, ℕ, ◌+◌, ◌-◌, ◌≤◌, ◌==◌, List, [], ◌∷◌, ◌++◌, if◌then◌else◌, Option, Some, None, option_map}
 use Rattle.std.specs.List.{sum_by, AllByRecursion}
 use Rattle.std.specs.Map.{lookup, values_of}
 use Rattle.std.specs.BTreeMap.{is_at}
@@ -97,6 +97,21 @@ pub record Forgets (old new : List (ℕ × Place)) (k : ℕ) : Type 0 where
   pub others : (j : ℕ) → j ≢ k → place_at new j ≡ place_at old j
   pub room : SameRoom old new
   pub count : all_mortal new ≤ all_mortal old
+  pub untold : all_untold new ≤ all_untold old
+
+-- The key has room for one change less. Nothing else of it changed, and no other key.
+pub record GivesBack (old new : List (ℕ × Place)) (k : ℕ) : Type 0 where
+  pub here : known_at new k ≡ known_at old k
+  pub room : room_at new k + 1 ≡ room_at old k
+  pub others : (j : ℕ) → j ≢ k → place_at new j ≡ place_at old j
+  pub count : all_mortal new + 1 ≤ all_mortal old
+  pub untold : all_untold new ≤ all_untold old
+
+-- Of the room of all keys one has less now, where it had any.
+pub record LessRoom (old new : List (ℕ × Place)) (k : ℕ) : Type 0 where
+  pub here : room_at new k ≡ room_at old k - 1
+  pub others : (j : ℕ) → j ≢ k → room_at new j ≡ room_at old j
+  pub records : (j : ℕ) → known_at new j ≡ known_at old j
   pub untold : all_untold new ≤ all_untold old
 
 -- the record of a key in a list, as it is at the start

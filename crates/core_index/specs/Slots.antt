@@ -1,5 +1,5 @@
 -- What the index keeps of a key: its record, where it has one, and room for changes to come.
-use Rattle.std.specs.Prelude.{◌≡◌, ◌≢◌, ℕ, ◌+◌, ◌≤◌, ◌==◌, List, [], Option, Some, None, option_map, if◌then◌else◌, ◌⊎◌}
+use Rattle.std.specs.Prelude.{◌≡◌, ◌≢◌, ◌&&◌, Bool, is_none, ℕ, ◌+◌, ◌≤◌, ◌==◌, List, [], Option, Some, None, option_map, if◌then◌else◌, ◌⊎◌}
 use Rattle.std.specs.List.{AllByRecursion}
 use Rattle.core_index.specs.declared.types.Head.{Head}
 use Rattle.core_index.specs.declared.types.Standee.{Standee}
@@ -10,6 +10,10 @@ use Rattle.core_index.specs.Records.{KeyRecord, standing_at, is_dead, last_of, t
 pub record Place : Type 0 where
   pub known : Option KeyRecord
   pub room : ℕ  -- how many changes can be settled
+
+-- there is neither a record nor room
+abbrev pub is_bare : Place → Bool
+is_bare p = is_none p.known && (p.room == 0)
 
 abbrev pub record_with : Head → List Standing → KeyRecord
 record_with h ss = record { version = h.version; body = h.body; standing = ss }

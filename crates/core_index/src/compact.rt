@@ -1,12 +1,12 @@
 // The map of keys beside the keys that are as they were at the start. What the map has of a key counts.
-ghost use Rattle.std.specs.Prelude.{◌≡◌, ◌≢◌, ℕ, ◌+◌, ◌≤◌, true, false, Some, IsTrue, IfOk, IfSome, OnOk, OnErr, option_map};
+ghost use Rattle.std.specs.Prelude.{◌≡◌, ◌≢◌, ℕ, ◌+◌, ◌<◌, ◌≤◌, true, false, Some, IsTrue, IfOk, IfSome, OnOk, OnErr, option_map};
 ghost use Rattle.log_entry.specs.declared.entry.EntryName.{EntryName};
 ghost use Rattle.core_index.specs.Records.{Awaits, opened_with, without, is_forgettable};
 ghost use Rattle.core_index.specs.Slots.{count_dead, OnlyDead};
 ghost use Rattle.core_index.specs.Starts.{IsAhead};
-ghost use Rattle.core_index.specs.Index.{Admits, Changes, SameRoom, IsCompact, IsCompactLive, ToldAt, all_places, all_mortal, all_untold, known_at};
+ghost use Rattle.core_index.specs.Index.{Admits, Changes, LessRoom, SameRoom, room_at, IsCompact, IsCompactLive, ToldAt, all_places, all_mortal, all_untold, known_at};
 
-use crate::map::{enter_at, forget_there, gone_at, has, reserve_at, tell_at};
+use crate::map::{enter_at, forget_there, give_back_at, gone_at, has, reserve_at, tell_at};
 use crate::slot::Slot;
 use crate::start_keys::StartKeys;
 use crate::tombstones::tombstone_of;
@@ -151,5 +151,17 @@ pub fn forget_in(slots: &mut BTreeMap<Key, Slot>, start: &mut StartKeys, key: Ke
     ensures ahead { (h : ℕ) (n : EntryName) → IsAhead start.old h n → IsAhead start.new h n }
 {
     forget_there(slots, key);
+    start.clear(key);
+}
+
+/// Gives back the room for one change of a key of the map. Nothing is kept of a key that has neither room nor a record.
+pub fn give_back_in(slots: &mut BTreeMap<Key, Slot>, start: &mut StartKeys, key: Key)
+    requires { 0 < room_at slots.old.entries key }
+    ensures less { LessRoom (all_places slots.old.entries start.old)
+        (all_places slots.new.entries start.new) key }
+    ensures mortal { all_mortal slots.new.entries + 1 ≤ all_mortal slots.old.entries }
+    ensures ahead { (h : ℕ) (n : EntryName) → IsAhead start.old h n → IsAhead start.new h n }
+{
+    give_back_at(slots, key);
     start.clear(key);
 }

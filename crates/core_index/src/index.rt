@@ -5,9 +5,9 @@ ghost use Rattle.std.specs.List.Sorted.{IsStrictlyIncreasing};
 ghost use Rattle.log_entry.specs.declared.entry.EntryName.{EntryName};
 ghost use Rattle.core_index.specs.Records.{Awaits, Shows, opened, opened_with, settled, without, last_of, block_of, is_dead_in, is_forgettable, live_version};
 ghost use Rattle.core_index.specs.Noted.{name_with};
-ghost use Rattle.core_index.specs.Index.{known_at, room_at, Changes, SameRoom, Tells, HasNoneAbove, EntersAs, all_untold, opened_in};
+ghost use Rattle.core_index.specs.Index.{known_at, room_at, Changes, LessRoom, SameRoom, Tells, HasNoneAbove, EntersAs, all_untold, opened_in};
 
-use crate::compact::{admit_at, compact, compact_live, copy_of, forget_in, gone_in};
+use crate::compact::{admit_at, compact, compact_live, copy_of, forget_in, give_back_in, gone_in};
 use crate::death_notes::{next_dead, note_dead};
 use crate::live_keys::live_in;
 use crate::map::{enter_at, settle_at};
@@ -130,7 +130,18 @@ impl CoreIndex {
         admit_at(alloc, &mut self.slots, &mut self.start, key)
     }
 
-    /// For how many changes of the key there is room. A request that was refused leaves the room that was made for it.
+    /// Gives back the room for one `settle` of the key, where there is any. Nothing is kept of a key that has neither
+    /// room nor a record.
+    pub fn give_back(&mut self, key: Key)
+        ensures { LessRoom self.old self.new key }
+    {
+        if self.room(key) > 0 {
+            give_back_in(&mut self.slots, &mut self.start, key);
+            self.notices.give_back();
+        }
+    }
+
+    /// For how many changes of the key there is room.
     pub fn room(&self, key: Key) -> u64
         ensures { result ≡ room_at self.now key }
     {

@@ -1,8 +1,8 @@
 // Changes of one key in the map of keys.
 ghost use Rattle.std.specs.Prelude.{◌≡◌, ◌+◌, ◌-◌, ◌<◌, ◌≤◌, true, false, IsTrue, OnOk, OnErr, Some, None, option_map, is_some};
 ghost use Rattle.core_index.specs.Records.{Awaits, settled, last_of, block_of, is_forgettable};
-ghost use Rattle.core_index.specs.Slots.{mortal, count_dead, OnlyDead};
-ghost use Rattle.core_index.specs.Index.{Step, ToldAt, known_at, room_at, mortal_in, all_mortal, place_at, gone_place, Forgets};
+ghost use Rattle.core_index.specs.Slots.{mortal, count_dead, is_bare, OnlyDead};
+ghost use Rattle.core_index.specs.Index.{Step, ToldAt, known_at, room_at, mortal_in, all_mortal, place_at, gone_place, Forgets, GivesBack};
 
 use crate::slot::Slot;
 use crate::types::{Settled, Standee};
@@ -125,6 +125,41 @@ fn forget_at(slots: &mut BTreeMap<Key, Slot>, key: Key)
 {
     let room = clear_at(slots, key);
     if room == 0 {
+        let _ = slots.remove(&key);
+    }
+}
+
+// Takes the room for one change of a key. Gives whether nothing is left of the key.
+fn lower_at(slots: &mut BTreeMap<Key, Slot>, key: Key) -> bool
+    requires { 0 < room_at slots.old.entries key }
+    ensures step { Step slots.old.entries slots.new.entries key
+        (Some (record {
+          known = known_at slots.old.entries key;
+          room = room_at slots.old.entries key - 1;
+        })) }
+    ensures bare { result ≡ is_bare (record {
+      known = known_at slots.old.entries key;
+      room = room_at slots.old.entries key - 1;
+    }) }
+{
+    match slots.get_mut(&key) {
+        Some(slot) => {
+            slot.give_back();
+            slot.is_bare()
+        }
+        None => false,
+    }
+}
+
+/// Gives back the room for one change of a key. Its place goes too, where nothing is left of it.
+pub fn give_back_at(slots: &mut BTreeMap<Key, Slot>, key: Key)
+    requires { 0 < room_at slots.old.entries key }
+    ensures gives { GivesBack slots.old.entries slots.new.entries key }
+    ensures nothing { known_at slots.old.entries key ≡ None → room_at slots.old.entries key ≡ 1
+        → place_at slots.new.entries key ≡ None }
+{
+    let bare = lower_at(slots, key);
+    if bare {
         let _ = slots.remove(&key);
     }
 }

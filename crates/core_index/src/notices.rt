@@ -213,6 +213,15 @@ impl Notices {
         Ok(())
     }
 
+    /// Gives back the room for one name.
+    pub fn give_back(&mut self)
+        requires { 0 < self.old.spare }
+        ensures kept { (h : ℕ) (n : EntryName) → Noted self.old h n → Noted self.new h n }
+        ensures spare { self.new.spare + 1 ≡ self.old.spare }
+    {
+        self.spare -= 1;
+    }
+
     /// Notes a name for a home.
     pub fn push(&mut self, home: u32, name: EntryName)
         requires { 0 < self.old.spare }

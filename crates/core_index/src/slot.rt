@@ -7,7 +7,7 @@ ghost use Rattle.core_index.specs.Marks.{kept};
 ghost use Rattle.core_index.specs.Noted.{Noted, NotedIfDead, count_lively, name_with};
 ghost use Rattle.core_index.specs.Records.{Awaits, is_dead, is_dead_in, standing_of, Shows, settled, opened, told_in, without, last_of, block_of, is_forgettable, live_version};
 ghost use Rattle.core_index.specs.Tombs.{left_of, list_of, standing_left, delete_at};
-ghost use Rattle.core_index.specs.Slots.{alive_at, home_alive, record_with, known_with, mortal, count_of, count_dead, dead_by, died, OnlyDead, TellsOne};
+ghost use Rattle.core_index.specs.Slots.{alive_at, home_alive, record_with, known_with, mortal, count_of, count_dead, dead_by, died, is_bare, OnlyDead, TellsOne};
 
 use crate::dead_entries::{awaits, is_dead, is_tombstone};
 use crate::entries::Entries;
@@ -237,6 +237,21 @@ impl Slot {
         ensures { result ≡ length (standing_of self.now.known) }
     {
         self.standing.len()
+    }
+
+    /// Gives back the room for one change.
+    pub fn give_back(&mut self)
+        requires { 0 < self.old.room }
+        ensures { self.new ≡ record { known = self.old.known; room = self.old.room - 1 } }
+    {
+        self.room -= 1;
+    }
+
+    /// Whether there is neither a record nor room.
+    pub fn is_bare(&self) -> bool
+        ensures { result ≡ is_bare self.now }
+    {
+        self.room == 0 && self.head.is_none()
     }
 
     /// How many changes there is room for.
