@@ -1,7 +1,7 @@
 -- What a retirement leaves of a view, as a licence asks for it.
-use Rattle.std.proofs.Common.{◌≡◌, ℕ, ◌<◌, true, false, List, Option, Some, is_some, sym, ◌∙◌, ap, subst, cond}
+use Rattle.std.proofs.Common.{◌≡◌, ℕ, ◌<◌, true, false, List, is_some, sym, ◌∙◌, ap, cond}
 use Rattle.log_entry.specs.declared.entry.EntryName.{EntryName}
-use Rattle.core_log.specs.Log.{LogState, IsOwn, tail_of, tail_in, chunk_with}
+use Rattle.core_log.specs.Log.{LogState, IsOwn, tail_of, tail_in}
 use Rattle.core_log.proofs.Clients.{own_chunk, is_tail}
 use Rattle.group_laws.specs.Updates.{has}
 use Rattle.group_laws.specs.Places.{Place}

@@ -1,7 +1,7 @@
 -- Once a batch is certain, its names are counted in the log.
-use Rattle.std.proofs.Common.{◌≡◌, ◌≢◌, ◌⊎◌, inl, inr, ⊎_elim, ℕ, zero, suc, ◌+◌, ◌<◌, ◌==◌, ◌||◌, Bool, true, false, cond, List, [], ◌∷◌, ◌++◌, length, Option, Some, None, is_some, unwrap_or, refl, sym, ◌∙◌, ap, subst, arith}
-use Rattle.std.specs.List.{list_any, flat_map, count_by, AllByRecursion}
-use Rattle.std.proofs.lemmas.Bool.{cases_eq, or_cases}
+use Rattle.std.proofs.Common.{◌≡◌, ◌≢◌, ◌⊎◌, inl, inr, ⊎_elim, ℕ, zero, suc, ◌+◌, ◌<◌, ◌||◌, Bool, true, false, cond, List, [], ◌∷◌, Option, Some, None, is_some, unwrap_or, refl, sym, ◌∙◌, ap, subst, arith}
+use Rattle.std.specs.List.{flat_map, AllByRecursion}
+use Rattle.std.proofs.lemmas.Bool.{or_cases}
 use Rattle.pm_region.specs.State.{State, IsTelling, During, cell_now}
 use Rattle.pm_region.specs.Words.{KeepsOutside}
 use Rattle.chunk_map.specs.Layouts.{chunk_words}
@@ -9,15 +9,14 @@ use Rattle.log_entry.specs.declared.entry.Entry.{Entry}
 use Rattle.log_entry.specs.Spelling.{words_of}
 use Rattle.log_entry.specs.Batches.{IsBatch, scan_of}
 use Rattle.store_image.specs.Facts.{In}
-use Rattle.core_log.specs.declared.types.LogChunk.{LogChunk}
 use Rattle.core_log.specs.Chunk.{padded, words_now}
 use Rattle.core_log.specs.Entries.{AppendedBatch}
-use Rattle.core_log.specs.Log.{LogState, IsOwn, StandsIn, Spelled, tail_of, with_tail, tail_in, first_of, open_number, open_first}
+use Rattle.core_log.specs.Log.{LogState, IsOwn, StandsIn, Spelled, tail_of, tail_in, first_of, open_number, open_first}
 use Rattle.core_log.specs.Walking.{words_in, entries_in}
 use Rattle.core_log.proofs.Clients.{own_open, tail_set, tail_other, open_has, is_tail}
 use Rattle.log_standing.specs.NameCounts.{StandingState, name_eq, count_of}
 use Rattle.log_standing.specs.ChunkCounts.{has_name, chunks_with, IsStandingOf}
-use Rattle.log_standing.proofs.Clients.{same_name, name_same}
+use Rattle.log_standing.proofs.Clients.{same_name}
 use Rattle.log_cleaner.specs.Additions.{is_among, Lacks}
 use Rattle.log_cleaner.proofs.AppendLaws.{chunks_more, else_has}
 use Rattle.log_cleaner.proofs.Added.{new_lacks}

@@ -1,7 +1,7 @@
 -- What a core's index has of its keys once names are gone and keys forgotten is what its view has then.
-use Rattle.std.proofs.Common.{◌≡◌, ◌≢◌, ◌⊎◌, inl, inr, ⊎_elim, ℕ, suc, ◌+◌, ◌<◌, ◌==◌, ◌&&◌, ◌||◌, not, eqb, Bool, true, false, cond, List, [], ◌∷◌, length, Option, Some, None, option_map, refl, sym, ◌∙◌, ap, subst, arith}
+use Rattle.std.proofs.Common.{◌≡◌, ◌≢◌, inl, inr, ⊎_elim, ℕ, suc, ◌+◌, ◌==◌, ◌&&◌, ◌||◌, not, eqb, Bool, true, false, cond, List, [], ◌∷◌, length, Option, Some, None, option_map, refl, sym, ◌∙◌, ap, subst, arith}
 use Rattle.std.specs.List.{filter}
-use Rattle.std.proofs.lemmas.Bool.{cases_eq, eqb-true, eq-eqb, ne_eqb, and_parts, and_from, or_cases, or_right}
+use Rattle.std.proofs.lemmas.Bool.{eqb-true, eq-eqb, and_parts, and_from, or_cases, or_right}
 use Rattle.log_entry.specs.declared.entry.EntryName.{EntryName}
 use Rattle.core_index.specs.declared.types.Standing.{Standing}
 use Rattle.core_index.specs.Index.{known_at}
@@ -18,7 +18,6 @@ use Rattle.log_entry.specs.declared.entry.Body.TheVariants as bodies
 use Rattle.pm_region.specs.Words.{lines_for}
 use Rattle.log_entry.specs.declared.entry.Entry.{Entry}
 use Rattle.log_entry.specs.Spelling.{words_of, HasSpelling, Fits}
-use Rattle.store_image.specs.Facts.{In}
 use Rattle.group_board.specs.Conditions.{IsFree}
 use Rattle.core_worker.specs.declared.types.Place.TheVariants.{Free, Staged, Posted}
 use Rattle.core_worker.specs.OwnPlaces.{place_at, lines_in, own}
@@ -27,7 +26,7 @@ use Rattle.core_worker.specs.Hearing.{heard_at, HearsAll}
 use Rattle.core_worker.specs.GoneNames.{is_out, lacking, names_key, first_of, restarted_by, is_forgotten, Lacks, Forgets, LosesNames, LosesIn, KnowsAll, LetsNamesGo, SparesPosted}
 use Rattle.core_worker.proofs.GoneLaws.{out_by}
 use Rattle.core_worker.proofs.Settling.{forget_by}
-use Rattle.core_worker.proofs.Tidied.{left_none, present_of, stands_of, spent_last, tidied_knows}
+use Rattle.core_worker.proofs.Tidied.{left_none, present_of, spent_last, tidied_knows}
 
 -- whether a name stands among some
 abbrev gone : List EntryName → ℕ → Standing → Bool

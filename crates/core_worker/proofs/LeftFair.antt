@@ -1,5 +1,5 @@
 -- A core that has taken nothing in its round is at the round's first slot: whatever an item does leaves it so.
-use Rattle.std.proofs.Common.{◌≡◌, ⊎_elim, ℕ, Bool, true, false, Option, Some, None, refl, sym, ◌∙◌, ap, arith}
+use Rattle.std.proofs.Common.{◌≡◌, ⊎_elim, ℕ, ◌+◌, Bool, true, false, Option, Some, None, refl, sym, ◌∙◌, ap, arith}
 use Rattle.std.specs.Prelude.{MatchOption}
 use Rattle.group_laws.specs.Places as groups
 use Rattle.group_laws.specs.State.{Group}
@@ -47,9 +47,9 @@ pub collects_starts : (before : Option Group) (m : ℕ) (a b : Moment) → Colle
 collects_starts before m a b C runs c is none = absurd (
     let same : leads.Collecting C.new ≡ leads.Collecting c = sym C.leads_now ∙ is in
     let here : C.new ≡ c = cc same in
-    let three : taken_left (taken_by c) ≡ 3 = ap (λ (x : Collecting). taken_left (taken_by x)) (sym here) ∙ ap taken_left C.went.0.taken ∙ taken_more (taken_by C.old) C.went.0.change in
+    let six : taken_left (taken_by c) ≡ 6 + taken_left (taken_by C.old) = ap (λ (x : Collecting). taken_left (taken_by x)) (sym here) ∙ ap taken_left C.went.0.taken ∙ taken_more (taken_by C.old) C.went.0.change in
     let zero_left : taken_left (taken_by c) ≡ 0 = ap taken_left none in
-    omega (arith, three, zero_left)
+    omega (arith, six, zero_left)
     )
 
 given_other : (r : Released) → is_collecting (led_by r) ≡ false

@@ -1,5 +1,5 @@
 -- What a round lowers: a take, and giving the lock back.
-use Rattle.std.proofs.Common.{◌≡◌, ◌≢◌, ⊎_elim, ℕ, ◌+◌, ◌-◌, ◌<◌, ◌≤◌, ◌==◌, Bool, true, false, List, [], ◌∷◌, ◌++◌, length, Option, Some, None, refl, sym, ◌∙◌, ap, subst, arith}
+use Rattle.std.proofs.Common.{◌≡◌, ◌≢◌, ⊎_elim, ℕ, ◌+◌, ◌-◌, ◌*◌, ◌<◌, ◌≤◌, ◌==◌, Bool, true, false, List, [], ◌∷◌, ◌++◌, length, Option, Some, None, refl, sym, ◌∙◌, ap, subst, arith}
 use Rattle.std.specs.Prelude.{IfSome}
 use Rattle.std.proofs.Math.Bridge.{le_prop}
 use Rattle.std.proofs.lemmas.Bool.{eq-eqb}
@@ -50,8 +50,9 @@ collects_lower before after m a b C lawful made =
     let way = takes_way last.0 m (member_at m (C.new.at - 1)) (slot_at (C.new.at - 1)) last.2.0 last.2.1 in
     let group = ap under_way last.2.2 in
     let same = leading_way a.worker b.worker C.same in
+    let was = ap leading_left C.led in
     let now = ap leading_left C.leads_now ∙ ap taken_left C.went.0.taken ∙ taken_more (taken_by C.old) C.went.0.change in
-    omega (arith, looked, way, group, same, now))
+    omega (arith, looked, way, group, same, was, now))
 
 pub offered : (x : Slot) → offers x ≡ true → (e : Entry) × (x ≡ slots.Posted e)
 offered slots.Empty is = absurd (cc is)
@@ -68,9 +69,9 @@ own_member m s lt = grind (arith, nat_tests)
 pub own_slot : (s : ℕ) → s < 8 → slot_at s ≡ s
 own_slot s lt = omega (arith, lt)
 
-none_some : (ts : List Taken) → ts ≢ [] → taken_left ts ≡ 3
-none_some [] some = absurd (some refl)
-none_some (t ∷ ts) some = refl
+some_taken : (ts : List Taken) → ts ≢ [] → 1 ≤ length ts
+some_taken [] some = absurd (some refl)
+some_taken (t ∷ ts) some = omega arith
 
 -- A round that is over, of a core that has taken nothing, found none of its own slots Posted.
 module _ (g : Group) (L : Lawful g) (m : ℕ) (w : Worker) (H : Holds g.place m (view_of g m) w) (rule : HasKeptRoom w) (old last : Collecting) (first : old.at ≡ 0) (none : taken_by old ≡ []) (whole : 8 ≤ last.at) (passed : Passed (Some g) (room_for w) m old last.at) where
@@ -108,7 +109,7 @@ module _ (before after : Option Group) (seat : SeatAt) (a b : Moment) (R : Relea
   StepsOf g u = Runs g (steps_of false seat.number R.old R.last ++ (seat.number, Kind.Unlock) ∷ []) u
 
   -- with a batch
-  batch : (g u : Group) → taken_left (taken_by R.old) ≡ 3 → leading_left b.worker.leading ≡ 1 → StepsOf g u → left b.worker + under_way u < left a.worker + under_way g
+  batch : (g u : Group) → 1 ≤ length (taken_by R.old) → leading_left b.worker.leading ≡ 1 + 3 * length (taken_by R.old) → StepsOf g u → left b.worker + under_way u < left a.worker + under_way g
   batch g u had now run =
       let last = last_step g u (steps_of false seat.number R.old R.last) seat.number Kind.Unlock run in
       let looked = looked_way g last.0 (upto_looked g last.0 seat.number R.old.at (R.last.at - R.old.at) last.1) in
@@ -145,7 +146,8 @@ module _ (before after : Option Group) (seat : SeatAt) (a b : Moment) (R : Relea
 
   by : (r : Released) → R.given ≡ r → IsReleased seat b.view R.last r → (g u : Group) → before ≡ Some g → Lawful g → StepsOf g u → left b.worker + under_way u < left a.worker + under_way g
   by (released.Batch x) e is g u told L run =
-      batch g u (none_some (taken_by R.old) (λ none. x.some (ap (λ (c : Changes). c.taken.items) is.1 ∙ items ∙ none))) (ap leading_left R.leads_now ∙ ap (λ (r : Released). leading_left (led_by r)) e) run
+      let taken = ap (λ (c : Changes). c.taken.items) is.1 ∙ items in
+      batch g u (some_taken (taken_by R.old) (λ none. x.some (taken ∙ none))) (ap leading_left R.leads_now ∙ ap (λ (r : Released). leading_left (led_by r)) e ∙ ap (λ (ts : List Taken). 1 + 3 * length ts) taken) run
   by (released.Nothing x) e is g u told L run =
       nothing g u told L is.0 (ap leading_left R.leads_now ∙ ap (λ (r : Released). leading_left (led_by r)) e) run
 

@@ -34,19 +34,19 @@ module _ (w : Group) (m s : ℕ) (x : Slot) (member : m < members w.place) (slot
       let lock = lock_two w.holder (put2 w.slot m s x) in
       omega (arith, sum, lock)
 
-pub posts_way : (w : Group) (m s : ℕ) (e : Entry) (v : List ℕ) → CanPost w m s e v → under_way (posts w m s e v) ≤ under_way w + 18
+pub posts_way : (w : Group) (m s : ℕ) (e : Entry) (v : List ℕ) → CanPost w m s e v → under_way (posts w m s e v) ≤ under_way w + 24
 posts_way w m s e v can =
     let low = low_way w m s (slots.Posted e) can.slot.0 can.slot.1 (ap offers can.empty) in
     let was = ap slot_left can.empty in
     omega (arith, low, was)
 
-pub takes_way : (w : Group) (m a s : ℕ) (e : Entry) → CanTake w m a s e → under_way (takes w m a s e) + 4 ≤ under_way w
+pub takes_way : (w : Group) (m a s : ℕ) (e : Entry) → CanTake w m a s e → under_way (takes w m a s e) + 7 ≤ under_way w
 takes_way w m a s e can =
     let high = high_way w a s slots.Taken can.slot.0 can.slot.1 in
     let was = ap slot_left can.entry in
     omega (arith, high, was)
 
-pub withdraws_way : (w : Group) (m s : ℕ) (e : Entry) → CanWithdraw w m s e → under_way (withdraws w m s e) + 16 ≤ under_way w
+pub withdraws_way : (w : Group) (m s : ℕ) (e : Entry) → CanWithdraw w m s e → under_way (withdraws w m s e) + 22 ≤ under_way w
 withdraws_way w m s e can =
     let high = high_way w m s slots.Empty can.slot.0 can.slot.1 in
     let was = ap slot_left can.posted in
@@ -70,14 +70,14 @@ fails_way w m a s e L can =
 tidied_way : (base u : Group) (m : ℕ) → Tidied base m u → under_way u ≡ under_way base
 tidied_way base u m t = ap under_way t.4
 
-pub finishes_way : (w u : Group) (m s : ℕ) (e : Entry) (home : ℕ) → CanFinish w m s e home → Tidied (finishes w m s e home) m u → under_way u + 6 ≤ under_way w
+pub finishes_way : (w u : Group) (m s : ℕ) (e : Entry) (home : ℕ) → CanFinish w m s e home → Tidied (finishes w m s e home) m u → under_way u + 9 ≤ under_way w
 finishes_way w u m s e home can tidied =
     let low = low_way w m s slots.Empty can.slot.0 can.slot.1 (ap offers can.done) in
     let was = ap slot_left can.done in
     let same = tidied_way (finishes w m s e home) u m tidied in
     omega (arith, low, was, same)
 
-pub gives_up_way : (w u : Group) (m s : ℕ) (e : Entry) → CanGiveUp w m s e → Tidied (gives_up w m s e) m u → under_way u + 6 ≤ under_way w
+pub gives_up_way : (w u : Group) (m s : ℕ) (e : Entry) → CanGiveUp w m s e → Tidied (gives_up w m s e) m u → under_way u + 9 ≤ under_way w
 gives_up_way w u m s e can tidied =
     let low = low_way w m s slots.Empty can.slot.0 can.slot.1 (ap offers can.failed) in
     let was = ap slot_left can.failed in

@@ -16,15 +16,17 @@ use Rattle.core_worker.specs.Beginning.{OnlyStages, IsStaged}
 use Rattle.core_worker.specs.Accepting.{IsAsBefore}
 use Rattle.core_worker.specs.Finishing.{LetsGo, Settles}
 use Rattle.core_worker.specs.Turns.{SameButLeading, UnpledgedAt, Unpledges, persisted_left, failed_left}
-use Rattle.core_worker.specs.Left.{waits_left, staged_left, most, place_left, places_left, taken_left, leading_left, left}
+use Rattle.core_worker.specs.Left.{waits_left, staged_left, place_left, places_left, taken_left, leading_left, serves_left, left}
+use Rattle.core_worker.proofs.ClearsLeft as clears
 use Rattle.core_worker.proofs.LeftSums.{places_same, places_with}
+use Rattle.core_worker.specs.CleaningLeft.{cleaning_most, clears_left}
+use Rattle.std.proofs.lemmas.List.{length-append}
 
 pub leading_way : (w x : Worker) → SameButLeading w x → left x + leading_left w.leading ≡ left w + leading_left x.leading
 leading_way w x same = let e = ap left same in omega (arith, e)
 
-pub taken_more : (ts : List Taken) (t : Taken) → taken_left (ts ++ t ∷ []) ≡ 3
-taken_more [] t = refl
-taken_more (x ∷ ts) t = refl
+pub taken_more : (ts : List Taken) (t : Taken) → taken_left (ts ++ t ∷ []) ≡ 6 + taken_left ts
+taken_more ts t = let longer = length-append ts (t ∷ []) in omega (arith, longer)
 
 pub persisted_way : (ts : List Taken) (l : Leading) → persisted_left ts l → leading_left l ≡ 0
 persisted_way ts l left = ⊎_elim (λ more. ap leading_left more.1.2) (λ over. ap leading_left over.1.1) left
@@ -57,11 +59,16 @@ staged_way w x n r only S =
 pub answered_way : (w x : Worker) → x ≡ record w { answers = x.answers } → left x ≡ left w
 answered_way w x only = ap left only
 
-pub before_way : (w x : Worker) → IsAsBefore w x → left x ≡ left w
-before_way w x B = ap left B.rest
+pub before_way : (w x : Worker) → IsAsBefore w x → left x ≤ left w
+before_way w x B =
+    let same = ap serves_left B.rest in
+    let kept = ap (λ (y : Worker). clears_left y.accepted y.cleaning x.standing x.index y.notices.items) B.rest in
+    let names = B.stands in
+    let less = clears.stays w.accepted w.cleaning w.standing x.standing w.index x.index w.notices.items (omega (arith, names)) B.untold in
+    omega (arith, same, kept, less)
 
 -- A request that waits behind those of its key, and one that waits no more.
-pub queued_way : (w x : Worker) (h : Held) → AddsLast w.queue x.queue h → x ≡ record w { queue = x.queue } → left x ≡ left w + most
+pub queued_way : (w x : Worker) (h : Held) → AddsLast w.queue x.queue h → x ≡ record w { queue = x.queue } → left x ≡ left w + waits_left
 queued_way w x h adds only =
     let same = ap left only in
     let more = adds.together in
@@ -80,8 +87,24 @@ lets_go_way w x slot reply lt L =
     let places = places_with w.places.items x.places.items slot Free L.places lt in
     omega (arith, same, places)
 
-pub settles_way : (w x : Worker) (e : Entry) (home : ℕ) → Settles w x e home → left x ≡ left w
-settles_way w x e home S = ap left S.rest
+pub settles_way : (w x : Worker) (e : Entry) (home : ℕ) → Settles w x e home → left x ≤ left w + 3
+settles_way w x e home S =
+    let same = ap serves_left S.rest in
+    let kept = ap (λ (y : Worker). clears_left y.accepted y.cleaning x.standing x.index y.notices.items) S.rest in
+    let names = S.stands in
+    let less = clears.stays w.accepted w.cleaning w.standing x.standing x.index x.index w.notices.items (omega (arith, names)) (omega arith) in
+    let more = clears.finishes w.accepted w.cleaning w.standing w.index x.index w.notices.items S.untold in
+    omega (arith, same, kept, less, more)
+
+-- That a request was accepted is noted.
+pub noted_way : (w : Worker) → left (record w { accepted = true }) ≤ left w + cleaning_most
+noted_way w = let more = clears.accepts w.accepted w.cleaning w.standing w.index w.notices.items in omega (arith, more)
+
+-- A core that winds down has no more to do for that.
+pub winds_less : (a b : Bool) → (a ≡ true → b ≡ true) → cond b 0 1 ≤ cond a 0 1
+winds_less true b up = let down = ap {B = ℕ} (λ c. cond c 0 1) (up refl) in omega (arith, down)
+winds_less false true up = omega arith
+winds_less false false up = omega arith
 
 -- The core stops.
 pub stops_way : (w x : Worker) → x ≡ record w { stopped = true } → left x ≤ left w

@@ -1,6 +1,6 @@
 -- What a worker's ties say of the chunks that are not its log's, and of equal names in its log: as the end of a cleaning asks for it.
-use Rattle.std.proofs.Common.{◌≡◌, ◌≢◌, ◌⊎◌, inl, inr, ⊎_elim, ℕ, ◌+◌, ◌*◌, ◌/◌, ◌%◌, ◌<◌, ◌≤◌, ◌==◌, ◌&&◌, nat_le, Bool, true, false, cond, List, [], map, Option, Some, None, is_some, refl, sym, ◌∙◌, ap, subst, arith}
-use Rattle.std.specs.Prelude.{Result, Ok, Err}
+use Rattle.std.proofs.Common.{◌≡◌, ◌≢◌, ⊎_elim, ℕ, ◌+◌, ◌*◌, ◌/◌, ◌%◌, ◌<◌, ◌==◌, ◌&&◌, nat_le, Bool, true, false, cond, List, [], map, Option, Some, None, is_some, refl, sym, ◌∙◌, ap, subst, arith}
+use Rattle.std.specs.Prelude.{Ok, Err}
 use Rattle.std.proofs.lemmas.Bool.{ne_eqb}
 use Rattle.pm_region.specs.State.{State, IsTelling, cell_now}
 use Rattle.pm_region.specs.Cell.{MayBe}
@@ -8,21 +8,20 @@ use Rattle.pm_region.specs.Words.{lasts, Surely}
 use Rattle.pm_region.proofs.Clients.{may_be_last}
 use Rattle.log_entry.specs.declared.entry.Entry.{Entry}
 use Rattle.chunk_map.specs.declared.layouts.Geometry.{Geometry}
-use Rattle.chunk_map.specs.declared.heads.Head.{Head}
 use Rattle.chunk_map.specs.declared.heads.Head.TheVariants as heads
-use Rattle.chunk_map.specs.Layouts.{head_by, is_class, payload_words, chunk_first, chunk_words}
+use Rattle.chunk_map.specs.Layouts.{head_by, is_class, payload_words, chunk_first}
 use Rattle.chunk_map.proofs.Clients.{numbers_of, chunk_words_whole}
 use Rattle.store_image.specs.Facts.{In}
 use Rattle.store_image.specs.declared.types.PlacedEntry.{PlacedEntry}
 use Rattle.store_image.specs.Parts.{scan_behind, placed_in_chunk, chunk_entries, part_entries}
-use Rattle.core_log.specs.Log.{LogState, tail_of, first_of}
+use Rattle.core_log.specs.Log.{tail_of, first_of}
 use Rattle.core_log.specs.Walking.{entries_in}
 use Rattle.core_log.proofs.Clients.{free_has_none}
-use Rattle.lazy_alloc.specs.Sets.{chunk_is_free, chunk_is_due, chunk_class}
+use Rattle.lazy_alloc.specs.Sets.{chunk_is_due, chunk_class}
 use Rattle.log_cleaner.specs.ImagesBeside.{AgreesIn}
 use Rattle.log_cleaner.specs.Vanishing.{NoneElse}
 use Rattle.log_cleaner.proofs.Parts.{part_has, placed_has, chunk_lasts}
-use Rattle.group_laws.specs.Places.{Place, core_of}
+use Rattle.group_laws.specs.Places.{Place}
 use Rattle.group_laws.specs.MemberViews.{View}
 use Rattle.core_worker.specs.declared.worker.Worker.{Worker}
 use Rattle.core_worker.specs.Ties.{Holds, Stands, is_lost}

@@ -1,11 +1,9 @@
 -- What is known of the names of the own log where some are told dead, and where a chunk is given up.
-use Rattle.std.proofs.Common.{◌≡◌, ◌≢◌, ◌⊎◌, inl, inr, ⊎_elim, ℕ, zero, suc, ◌+◌, ◌-◌, ◌<◌, ◌==◌, ◌&&◌, ◌||◌, not, eqb, Bool, true, false, cond, List, [], ◌∷◌, length, get_or, take, Option, Some, None, option_map, refl, sym, ◌∙◌, ap, subst, arith}
-use Rattle.std.specs.List.{filter, list_any}
-use Rattle.std.proofs.lemmas.Bool.{cases_eq, eqb-true, eq-eqb, ne_eqb, and_parts, and_from, or_cases, or_left, or_right}
+use Rattle.std.proofs.Common.{◌≡◌, ◌≢◌, ◌⊎◌, inl, inr, ⊎_elim, ℕ, suc, ◌+◌, ◌-◌, ◌<◌, ◌==◌, ◌&&◌, ◌||◌, not, eqb, Bool, true, false, cond, List, [], ◌∷◌, length, get_or, take, Option, Some, None, option_map, refl, sym, ◌∙◌, ap, subst, arith}
+use Rattle.std.proofs.lemmas.Bool.{cases_eq, eqb-true, eq-eqb, ne_eqb, and_parts, and_from, or_cases}
 use Rattle.std.proofs.lemmas.List.Sums.{sum_by-cons}
 use Rattle.log_entry.specs.declared.entry.Entry.{Entry}
 use Rattle.log_entry.specs.declared.entry.EntryName.{EntryName}
-use Rattle.store_image.specs.Facts.{In}
 use Rattle.core_index.specs.declared.types.Standing.{Standing}
 use Rattle.core_index.specs.Index.{known_at}
 use Rattle.core_index.specs.Records.{KeyRecord, Awaits, standing_at, standing_of, standing_with}
@@ -15,21 +13,21 @@ use Rattle.log_standing.specs.declared.types.Copies.{Copies}
 use Rattle.log_standing.specs.NameCounts.{StandingState, name_eq, copies_at, count_in, count_of, is_told, killed, wants, bit, times_in, copies_with, Changes}
 use Rattle.log_standing.specs.NameCounts as counts
 use Rattle.log_standing.specs.ChunkCounts.{is_named, has_name}
-use Rattle.log_standing.proofs.Clients.{same_name, name_same}
+use Rattle.log_standing.proofs.Clients.{same_name}
 use Rattle.log_cleaner.specs.Clearing.{ClearingState, IsGathered, is_doomed}
 use Rattle.log_cleaner.specs.Copying.{awaits, left_to_copy}
-use Rattle.log_cleaner.specs.Dropping.{lowered, one_less, Drops}
+use Rattle.log_cleaner.specs.Dropping.{lowered, Drops}
 use Rattle.group_laws.specs.State.{Notices}
-use Rattle.group_laws.specs.Updates.{has, without}
+use Rattle.group_laws.specs.Updates.{has}
 use Rattle.group_laws.specs.Places.{Place, core_of, owner}
 use Rattle.group_laws.specs.MemberViews.{View}
 use Rattle.group_laws.proofs.Names.{without_was, without_stays}
 use Rattle.group_board.specs.Views.{IsTidyIn, TidiedIn, TellsItselfIn, after_receive, after_retire}
-use Rattle.group_board.specs.Assurances.{IsHeard, IsOwnEntry}
+use Rattle.group_board.specs.Assurances.{IsHeard}
 use Rattle.core_worker.specs.declared.types.Place as places
 use Rattle.core_worker.specs.KeyTies.{KnowsKey}
 use Rattle.core_worker.specs.StandingTies.{IsNamedIn, HearsOwn}
-use Rattle.core_worker.specs.GoneNames.{LosesIn, LosesNames, KnowsAll, LetsNamesGo}
+use Rattle.core_worker.specs.GoneNames.{LosesIn, KnowsAll, LetsNamesGo}
 use Rattle.core_worker.specs.LogNames.{KnowsNames, KnowsBy, KillsNames, HearsNotices, LosesChunk, AreOwnOf}
 use Rattle.core_worker.proofs.HeardNames.{stands_by, dies_by, awaits_by}
 use Rattle.core_worker.proofs.Settling.{same_flag}

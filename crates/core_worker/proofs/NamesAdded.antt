@@ -1,5 +1,5 @@
 -- The names of a batch are added one after another.
-use Rattle.std.proofs.Common.{◌≡◌, ℕ, zero, suc, ◌+◌, ◌≤◌, Bool, true, false, cond, List, [], ◌∷◌, length, take, Option, Some, None, refl, ◌∙◌, ap, arith}
+use Rattle.std.proofs.Common.{◌≡◌, ℕ, zero, suc, ◌+◌, ◌<◌, ◌≤◌, min, Bool, true, false, cond, List, [], ◌∷◌, length, take, Option, Some, None, refl, ◌∙◌, ap, arith}
 use Rattle.std.proofs.lemmas.List.Sums.{sum_by-cons}
 use Rattle.log_entry.specs.declared.entry.Entry.{Entry}
 use Rattle.log_entry.specs.declared.entry.EntryName.{EntryName}
@@ -42,9 +42,10 @@ pub record AddsSoFar (ts : List Taken) (i : ℕ) (old st : StandingState) : Type
   pub told : (k n : ℕ) → is_told st k n ≡ is_told old k n
   pub settled : st.settled ≡ old.settled
   pub room : most_names ≤ st.room + i
+  pub many : length st.entries ≤ length old.entries + min i (length ts)
 
 pub adds_first : (ts : List Taken) (st : StandingState) → most_names ≤ st.room → AddsSoFar ts 0 st st
-adds_first ts st room = record { counts = λ k n. omega arith; told = λ k n. refl; settled = refl; room = omega (arith, room) }
+adds_first ts st room = record { counts = λ k n. omega arith; told = λ k n. refl; settled = refl; room = omega (arith, room); many = omega arith }
 
 count_more : (o : Option Copies) → count_in (Some (one_more o)) ≡ count_in o + 1
 count_more None = refl
@@ -53,6 +54,14 @@ count_more (Some c) = refl
 told_more : (o : Option Copies) → counts.told_in (Some (one_more o)) ≡ counts.told_in o
 told_more None = refl
 told_more (Some c) = refl
+
+-- as many names more as there were taken ones so far
+pub counts_more : (ts : List Taken) (i : ℕ) (old st new : StandingState) (name : EntryName) → name_in ts i ≡ Some name → length st.entries ≤ length old.entries + min i (length ts) → length new.entries ≤ length st.entries + 1 → length new.entries ≤ length old.entries + min (i + 1) (length ts)
+counts_more ts i old st new name is so one = let lt = name_within ts i name is in omega (arith, lt, so, one) where
+  name_within : (xs : List Taken) (j : ℕ) (n : EntryName) → name_in xs j ≡ Some n → j < length xs
+  name_within [] j n is = absurd (cc is)
+  name_within (x ∷ xs) zero n is = omega arith
+  name_within (x ∷ xs) (suc j) n is = let rest = name_within xs j n is in omega (arith, rest)
 
 module _ (ts : List Taken) (i : ℕ) (old st : StandingState) (S : AddsSoFar ts i old st) where
   taken_more : (x : Option EntryName) → name_in ts i ≡ x → (k n : ℕ) → named_in (take (i + 1) (entries_in ts)) k n ≡ named_in (take i (entries_in ts)) k n + counts_name x k n
@@ -65,14 +74,16 @@ module _ (ts : List Taken) (i : ℕ) (old st : StandingState) (S : AddsSoFar ts 
     told = S.told;
     settled = S.settled;
     room = (let r = S.room in omega (arith, r));
+    many = (let m = S.many in omega (arith, m));
   }
 
-  pub adds_one : (new : StandingState) (name : EntryName) → name_in ts i ≡ Some name → Changes st new name.key name.version (Some (one_more (copies_at st name.key name.version))) → new.room + 1 ≡ st.room → new.settled ≡ st.settled → AddsSoFar ts (i + 1) old new
-  adds_one new name is changes room settled = record {
+  pub adds_one : (new : StandingState) (name : EntryName) → name_in ts i ≡ Some name → Changes st new name.key name.version (Some (one_more (copies_at st name.key name.version))) → new.room + 1 ≡ st.room → new.settled ≡ st.settled → length new.entries ≤ length st.entries + 1 → AddsSoFar ts (i + 1) old new
+  adds_one new name is changes room settled one = record {
     counts = λ k n. (let a = S.counts k n in let b = taken_more (Some name) is k n in let d = count_now k n in omega (arith, a, b, d));
     told = λ k n. told_now k n ∙ S.told k n;
     settled = settled ∙ S.settled;
     room = (let r = S.room in omega (arith, r, room));
+    many = counts_more ts i old st new name is S.many one;
   } where
     here_is : (k n : ℕ) → name_eq (name.key, name.version) (k, n) ≡ true → copies_at st name.key name.version ≡ copies_at st k n
     here_is k n e = let same = same_name name.key name.version k n e in λ j. copies_at st (same.0 j) (same.1 j)

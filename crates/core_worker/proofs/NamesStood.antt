@@ -1,5 +1,5 @@
 -- What stands in the own log by its region stays so, where places were reserved, names were told dead, and words of the log are kept.
-use Rattle.std.proofs.Common.{◌≡◌, ◌⊎◌, inl, inr, ⊎_elim, ℕ, ◌+◌, ◌<◌, ◌==◌, ◌&&◌, not, eqb, Bool, true, false, cond, List, [], ◌∷◌, Option, Some, None, is_some, unwrap_or, refl, sym, ◌∙◌, ap, subst, arith}
+use Rattle.std.proofs.Common.{◌≡◌, inl, ℕ, ◌==◌, not, Bool, true, false, cond, List, [], ◌∷◌, Option, Some, is_some, refl, sym, ◌∙◌, ap, subst, arith}
 use Rattle.std.specs.List.{filter}
 use Rattle.std.proofs.lemmas.Bool.{and_parts, and_from, eqb-true, eq-eqb}
 use Rattle.pm_region.specs.State.{State}
@@ -11,7 +11,7 @@ use Rattle.core_log.specs.Walking.{IsBetween, entries_in, behind}
 use Rattle.core_log.proofs.Clients.{is_tail}
 use Rattle.core_index.specs.Slots as slots
 use Rattle.log_standing.specs.declared.types.Settled.{Settled}
-use Rattle.log_standing.specs.NameCounts.{StandingState, count_in, count_of, is_told, wants}
+use Rattle.log_standing.specs.NameCounts.{StandingState, count_in, count_of, is_told}
 use Rattle.log_standing.specs.ChunkCounts.{has_name}
 use Rattle.log_cleaner.specs.Copying.{awaits, left_to_copy, IsSettled}
 use Rattle.log_cleaner.proofs.Parts.{count_same}

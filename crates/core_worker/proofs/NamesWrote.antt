@@ -1,5 +1,5 @@
 -- Once a batch is certain, what stands in the own log by its region is what the view has there.
-use Rattle.std.proofs.Common.{◌≡◌, ℕ, ◌+◌, ◌<◌, ◌&&◌, nat_le, not, eqb, Bool, true, false, cond, List, [], ◌∷◌, ◌++◌, length, Option, Some, None, is_some, inl, inr, refl, sym, ◌∙◌, ap, subst, arith}
+use Rattle.std.proofs.Common.{◌≡◌, ℕ, ◌+◌, ◌<◌, ◌&&◌, nat_le, not, eqb, Bool, true, false, cond, List, [], ◌∷◌, ◌++◌, length, Option, Some, None, is_some, inr, refl, sym, ◌∙◌, ap, subst, arith}
 use Rattle.std.specs.List.{flat_map, AllByRecursion}
 use Rattle.pm_region.specs.State.{State, IsTelling, During, cell_now}
 use Rattle.pm_region.specs.Words.{KeepsOutside}
@@ -15,9 +15,8 @@ use Rattle.core_log.specs.Entries.{AppendedBatch}
 use Rattle.core_log.specs.Log.{LogState, StandsIn, tail_of, open_number, open_first, open_tail}
 use Rattle.core_log.specs.Walking.{IsBetween, entries_in, behind}
 use Rattle.core_log.proofs.Clients.{tail_other}
-use Rattle.lazy_alloc.specs.Sets.{Sets, chunk_is_free}
-use Rattle.log_standing.specs.declared.types.Settled.{Settled}
-use Rattle.log_standing.specs.NameCounts.{StandingState, count_of, is_told, wants}
+use Rattle.lazy_alloc.specs.Sets.{Sets}
+use Rattle.log_standing.specs.NameCounts.{StandingState, count_of, wants}
 use Rattle.log_standing.specs.ChunkCounts.{has_name}
 use Rattle.log_cleaner.specs.Additions.{is_among, Lacks}
 use Rattle.log_cleaner.specs.Copying.{awaits, left_to_copy}

@@ -1,11 +1,10 @@
 -- Names are taken from the index for another member, and then sent.
 use Rattle.std.proofs.Common.{◌≡◌, ◌≢◌, ◌⊎◌, inl, inr, ⊎_elim, ℕ, ◌<◌, ◌||◌, ◌&&◌, eqb, Bool, true, false, cond, List, ◌∷◌, Option, Some, None, option_map, refl, sym, ◌∙◌, ap, subst}
 use Rattle.std.proofs.lemmas.Bool.{cases_eq, eqb-true, eq-eqb, ne_eqb, and_parts, and_from, or_cases, or_left}
-use Rattle.log_entry.specs.declared.entry.Body.{Body}
 use Rattle.log_entry.specs.declared.entry.EntryName.{EntryName}
 use Rattle.core_index.specs.declared.types.Standing.{Standing}
 use Rattle.core_index.specs.Index.{known_at, Tells}
-use Rattle.core_index.specs.Records.{KeyRecord, last_of, standing_at, standing_of, standing_with, with_told, told_in}
+use Rattle.core_index.specs.Records.{KeyRecord, last_of, standing_at, standing_of, standing_with, told_in}
 use Rattle.core_index.specs.Slots as slots
 use Rattle.core_index.proofs.Clients.{at_told, at_told_other}
 use Rattle.group_laws.specs.Places.{Place, core_of, owner, members}

@@ -1,5 +1,5 @@
 -- A load changes nothing of what a core knows; doomed names may go.
-use Rattle.std.proofs.Common.{◌≡◌, ℕ, ◌<◌, Bool, true, false, cond, List, [], refl, sym, ◌∙◌, ap, subst}
+use Rattle.std.proofs.Common.{◌≡◌, ℕ, Bool, true, cond, List, [], ap}
 use Rattle.std.proofs.lemmas.Bool.{and_parts}
 use Rattle.log_entry.specs.declared.entry.EntryName.{EntryName}
 use Rattle.core_index.specs.Index.{known_at}
@@ -8,16 +8,16 @@ use Rattle.core_index.specs.Slots as slots
 use Rattle.std.proofs.Common.{Option, Some, None}
 use Rattle.log_entry.specs.declared.entry.Body.{Body}
 use Rattle.log_entry.specs.declared.entry.Body.TheVariants as bodies
-use Rattle.log_standing.specs.NameCounts.{StandingState, is_told, count_of, times_in}
+use Rattle.log_standing.specs.NameCounts.{StandingState, is_told}
 use Rattle.log_cleaner.specs.Clearing.{AreLone}
 use Rattle.log_cleaner.specs.Vanishing.{MayGo}
 use Rattle.group_laws.specs.declared.types.Seen.{Seen}
 use Rattle.group_laws.specs.Updates.{has}
-use Rattle.group_laws.specs.Places.{Place, owner}
+use Rattle.group_laws.specs.Places.{Place}
 use Rattle.group_laws.specs.MemberViews.{View}
 use Rattle.group_board.specs.Views.{after_find, after_doom}
 use Rattle.core_worker.specs.declared.types.Place as places
-use Rattle.core_worker.specs.KeyTies.{Left, LeftIn, KnowsKey}
+use Rattle.core_worker.specs.KeyTies.{Left, LeftIn}
 use Rattle.core_worker.specs.GoneNames.{KnowsAll}
 use Rattle.core_worker.specs.LogNames.{KnowsBy}
 use Rattle.core_worker.proofs.LogNames.{has_times}

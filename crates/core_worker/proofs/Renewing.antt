@@ -1,5 +1,5 @@
 -- The ties say nothing of the names in the log, and a worker that winds down is tied by less.
-use Rattle.std.proofs.Common.{◌≡◌, ℕ, Bool, true, false, refl, sym, ◌∙◌, ap, subst}
+use Rattle.std.proofs.Common.{◌≡◌, ℕ, Bool, true, false, refl, sym, ◌∙◌, ap, subst, length, arith}
 use Rattle.pm_region.specs.State.{State}
 use Rattle.log_standing.specs.NameCounts.{StandingState}
 use Rattle.group_laws.specs.Places.{Place}
@@ -66,8 +66,8 @@ pub renewed_stands : (s : State) (p : Place) (m : ℕ) (v : View) (y x : Worker)
 renewed_stands s p m v y x rest up same S = subst (λ (z : Worker). Stands s p m v z) (sym rest) (stands_renewed s p m v y x.standing x.winds_down (still_works y x up) same S)
 
 -- a batch was written, and places reserved for the names of the next one
-persists_renewed : (m : ℕ) (a : Moment) (y : Worker) (u : View) (st : StandingState) (winds : Bool) → SameNames y.standing st → (y.winds_down ≡ true → winds ≡ true) → Persists m a (record { worker = y; view = u }) → Persists m a (record { worker = record y { standing = st; winds_down = winds }; view = u })
-persists_renewed m a y u st winds same up P = record {
+persists_renewed : (m : ℕ) (a : Moment) (y : Worker) (u : View) (st : StandingState) (winds : Bool) → SameNames y.standing st → length st.entries ≡ length y.standing.entries → (y.winds_down ≡ true → winds ≡ true) → Persists m a (record { worker = y; view = u }) → Persists m a (record { worker = record y { standing = st; winds_down = winds }; view = u })
+persists_renewed m a y u st winds same count up P = record {
   batch = P.batch;
   done = P.done;
   led = P.led;
@@ -79,14 +79,15 @@ persists_renewed m a y u st winds same up P = record {
   pledged = P.pledged;
   view = P.view;
   names = λ on. adds_same a.worker.standing y.standing st _ (P.names on) same;
+  stands = (let many = P.stands in omega (arith, many, count));
   winds = λ e. up (P.winds e);
   same = ap (λ (z : Worker). record z { standing = st; winds_down = winds }) P.same;
 }
 
 -- the same where the batch may be lost: a core that stopped needs no places
-pub batch_renewed : (m : ℕ) (a : Moment) (y x : Worker) (u : View) → x ≡ record y { standing = x.standing; winds_down = x.winds_down } → SameNames y.standing x.standing → (y.winds_down ≡ true → x.winds_down ≡ true) → (y.stopped ≡ true → x ≡ y)
+pub batch_renewed : (m : ℕ) (a : Moment) (y x : Worker) (u : View) → x ≡ record y { standing = x.standing; winds_down = x.winds_down } → SameNames y.standing x.standing → length x.standing.entries ≡ length y.standing.entries → (y.winds_down ≡ true → x.winds_down ≡ true) → (y.stopped ≡ true → x ≡ y)
     → PersistsOrLoses y.stopped m a (record { worker = y; view = u }) → PersistsOrLoses x.stopped m a (record { worker = x; view = u })
-batch_renewed m a y x u rest same up still which = by y.stopped refl which where
+batch_renewed m a y x u rest same count up still which = by y.stopped refl which where
   by : (b : Bool) → y.stopped ≡ b → PersistsOrLoses b m a (record { worker = y; view = u }) → PersistsOrLoses x.stopped m a (record { worker = x; view = u })
   by true e L = subst (λ (b : Bool). PersistsOrLoses b m a (record { worker = x; view = u })) (sym (ap (λ (z : Worker). z.stopped) (still e) ∙ e)) (subst (λ (z : Worker). LosesBatch a (record { worker = z; view = u })) (sym (still e)) L)
-  by false e P = subst (λ (b : Bool). PersistsOrLoses b m a (record { worker = x; view = u })) (sym (ap (λ (z : Worker). z.stopped) rest ∙ e)) (subst (λ (z : Worker). Persists m a (record { worker = z; view = u })) (sym rest) (persists_renewed m a y u x.standing x.winds_down same up P))
+  by false e P = subst (λ (b : Bool). PersistsOrLoses b m a (record { worker = x; view = u })) (sym (ap (λ (z : Worker). z.stopped) rest ∙ e)) (subst (λ (z : Worker). Persists m a (record { worker = z; view = u })) (sym rest) (persists_renewed m a y u x.standing x.winds_down same count up P))

@@ -10,7 +10,7 @@ use Rattle.group_board.specs.Views.{after_receive, after_retire, TidiedIn}
 use Rattle.group_board.specs.Assurances.{IsHeard}
 use Rattle.group_laws.specs.State.{Notices}
 use Rattle.core_worker.specs.declared.types.Place as places
-use Rattle.core_worker.specs.GoneNames.{LosesIn, LosesNames, KnowsAll, LetsNamesGo}
+use Rattle.core_worker.specs.GoneNames.{LosesIn, LosesNames, KnowsAll}
 use Rattle.core_worker.specs.Hearing.{HearsAll}
 use Rattle.core_worker.specs.LogNames.{AreOwnOf}
 use Rattle.core_worker.proofs.GoneKeys.{knows_after}

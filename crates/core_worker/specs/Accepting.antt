@@ -1,10 +1,10 @@
 -- Accepting a request: it is held behind those of its key, or begun.
-use Rattle.std.specs.Prelude.{◌≡◌, ◌⊎◌, ℕ, ◌+◌, ◌≤◌, true, false, List, Option}
+use Rattle.std.specs.Prelude.{◌≡◌, ◌⊎◌, ℕ, ◌+◌, ◌≤◌, true, false, List, length, Option}
 use Rattle.pm_region.specs.State.{State, IsTelling}
 use Rattle.fs_model.specs.declared.model.Request.{Request}
 use Rattle.fs_model.specs.Cells.{key_of}
 use Rattle.conflict_queue.specs.Waiting.{AddsLast, held_with}
-use Rattle.core_index.specs.Index.{known_at, room_at}
+use Rattle.core_index.specs.Index.{all_untold, known_at, room_at}
 use Rattle.group_laws.specs.Places.{owner}
 use Rattle.group_laws.specs.State.{Group}
 use Rattle.group_laws.specs.MemberViews.{View}
@@ -22,6 +22,8 @@ use Rattle.core_worker.specs.WorkerMoves.{Fixed, hands_of, WorkerMoves}
 pub record IsAsBefore (old new : Worker) : Type 0 where
   pub rest : new ≡ record old { answers = new.answers; index = new.index; standing = new.standing }
   pub names : SameNames old.standing new.standing
+  pub stands : length new.standing.entries ≡ length old.standing.entries
+  pub untold : all_untold new.index ≤ all_untold old.index
   pub answers : new.answers.items ≡ old.answers.items
   pub records : (k : ℕ) → known_at new.index k ≡ known_at old.index k
   pub room : (k : ℕ) → room_at old.index k ≤ room_at new.index k

@@ -1,23 +1,28 @@
 -- What is left to do of cleaning: of a core, and of what its group's mailboxes hold. A turn of a cleaning lowers the sum of both.
-use Rattle.std.specs.Prelude.{ℕ, ◌+◌, ◌*◌, Bool, List, [], ◌∷◌, length, Option, Some, None, if◌then◌else◌}
-use Rattle.chunk_map.specs.declared.layouts.Layout.{Layout}
-use Rattle.chunk_map.specs.Layouts.{chunk_words}
+use Rattle.std.specs.Prelude.{ℕ, ◌+◌, ◌*◌, ◌/◌, Bool, List, [], ◌∷◌, length, Option, Some, None, if◌then◌else◌}
+use Rattle.pm_region.specs.declared.region_sizes.TheConstants.{WORD_BYTES}
+use Rattle.chunk_map.specs.declared.layout_sizes.TheConstants.{GREATEST_CHUNK}
 use Rattle.log_standing.specs.NameCounts.{StandingState}
 use Rattle.core_index.specs.Index.{all_untold}
 use Rattle.core_index.specs.Slots as slots
-use Rattle.group_laws.specs.State.{Group, Notices}
-use Rattle.group_laws.specs.Places.{members}
+use Rattle.group_laws.specs.State.{Notices}
+use Rattle.crash_core.specs.declared.names.Notices.{Notices as ToSend}
+use Rattle.crash_core.specs.Shows.{notices_of}
 use Rattle.group_laws.specs.Updates.{sum_below}
 use Rattle.core_worker.specs.declared.types.Cleaning.{Cleaning}
 use Rattle.core_worker.specs.declared.types.Cleaning.TheVariants as cleanings
 
+-- as many words as the greatest chunk of any layout has
+abbrev pub most_words : ℕ
+most_words = GREATEST_CHUNK / WORD_BYTES
+
 -- A cleaning copies no more entries than a chunk has words, and then takes three turns at most.
-abbrev pub cleaning_most : Layout → ℕ
-cleaning_most l = chunk_words l + 3
+abbrev pub cleaning_most : ℕ
+cleaning_most = most_words + 3
 
 -- none is begun without a request accepted since the last
-abbrev pub may_begin_left : Layout → Bool → ℕ
-may_begin_left l accepted = if accepted then cleaning_most l else 0
+abbrev pub may_begin_left : Bool → ℕ
+may_begin_left accepted = if accepted then cleaning_most else 0
 
 abbrev pub cleaning_left : Cleaning → ℕ
 cleaning_left cleanings.Nothing = 0
@@ -28,20 +33,20 @@ cleaning_left (cleanings.Doomed chunk) = 1
 abbrev pub notices_left : Notices → ℕ
 notices_left n = length n.dead + length n.gone
 
-abbrev pub box_left : List Notices → ℕ
+abbrev pub box_left : List ToSend → ℕ
 box_left [] = 0
-box_left (n ∷ ns) = notices_left n + box_left ns
+box_left (n ∷ ns) = notices_left (notices_of n) + box_left ns
 
 abbrev pub mailbox_left : Option Notices → ℕ
 mailbox_left None = 0
 mailbox_left (Some n) = notices_left n
 
-abbrev pub mail_left : Group → ℕ
-mail_left w = sum_below (members w.place) (λ a. sum_below (members w.place)
-    (λ h. mailbox_left (w.mail a h)))
+-- all mailboxes of so many members, by who sends and who receives
+unfoldable pub mail_left : ℕ → (ℕ → ℕ → Option Notices) → ℕ
+mail_left members mail = sum_below members (λ a. sum_below members (λ h. mailbox_left (mail a h)))
 
 -- A core's part. A name that stands in its log, and an own one that was not told, count three each: it is told, it waits to be sent, and it is in a mailbox once as dead, and once as gone.
-abbrev pub clears_left : Layout → Bool → Cleaning → StandingState → List (ℕ × slots.Place)
-    → List Notices → ℕ
-clears_left l accepted cleaning st es out = may_begin_left l accepted + (cleaning_left cleaning
+unfoldable pub clears_left : Bool → Cleaning → StandingState → List (ℕ × slots.Place)
+    → List ToSend → ℕ
+clears_left accepted cleaning st es out = may_begin_left accepted + (cleaning_left cleaning
     + (3 * length st.entries + (3 * all_untold es + 2 * box_left out)))

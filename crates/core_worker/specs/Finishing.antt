@@ -8,7 +8,7 @@ use Rattle.log_entry.specs.declared.entry.Body.{Body}
 use Rattle.log_entry.specs.declared.entry.Body.TheVariants as bodies
 use Rattle.store_image.specs.Facts.{In}
 use Rattle.conflict_queue.specs.Waiting.{waiting}
-use Rattle.core_index.specs.Index.{Changes, known_at, room_at}
+use Rattle.core_index.specs.Index.{Changes, all_untold, known_at, room_at}
 use Rattle.core_index.specs.Records.{settled, block_of}
 use Rattle.core_index.specs.Slots as slots
 use Rattle.lazy_alloc.specs.Sets.{Sets, AreSets, PutsBack}
@@ -61,6 +61,8 @@ pub record Settles (old new : Worker) (e : Entry) (home : ℕ) : Type 0 where
   pub others : (k : ℕ) → k ≢ e.key → room_at mid k ≡ room_at old.index k
   pub heard : HearsAll old.core mid new.index
   pub told : HearsOwn old.core mid old.standing new.standing
+  pub stands : length new.standing.entries ≡ length old.standing.entries
+  pub untold : all_untold new.index ≤ all_untold old.index + 1
   pub sets : AreSets new.allocator
   pub block : PutsBackIf old.allocator new.allocator (block_of (known_at old.index e.key))
   pub rest : new ≡ record old {

@@ -1,5 +1,5 @@
 -- The end of a cleaning: the chunk is Free, its doomed names have vanished, and the allocator has it again.
-use Rattle.std.specs.Prelude.{◌≡◌, ℕ}
+use Rattle.std.specs.Prelude.{ℕ}
 use Rattle.pm_region.specs.State.{State}
 use Rattle.core_log.specs.Log.{LogState}
 use Rattle.lazy_alloc.specs.Sets.{Sets, GivesChunk}

@@ -1,5 +1,5 @@
 -- Names that stand in no log any more: their entries leave the records of their keys, and a key of which nothing stands is forgotten.
-use Rattle.std.specs.Prelude.{◌≡◌, ℕ, ◌==◌, ◌&&◌, not, Bool, true, false, List, [], ◌∷◌, length, Option, Some, None, option_map, is_some, if◌then◌else◌}
+use Rattle.std.specs.Prelude.{◌≡◌, ℕ, ◌==◌, ◌&&◌, not, Bool, true, false, List, [], ◌∷◌, length, Option, Some, None, option_map, if◌then◌else◌}
 use Rattle.std.specs.List.{filter, list_any}
 use Rattle.log_entry.specs.declared.entry.Entry.{Entry}
 use Rattle.log_entry.specs.declared.entry.EntryName.{EntryName}
@@ -9,7 +9,6 @@ use Rattle.core_index.specs.Slots as slots
 use Rattle.group_laws.specs.Updates.{has}
 use Rattle.store_image.specs.Facts.{In}
 use Rattle.group_laws.specs.Places as groups
-use Rattle.group_laws.specs.declared.types.Pending.{Pending}
 use Rattle.group_board.specs.Views.{TidiedIn}
 use Rattle.group_laws.specs.MemberViews.{View}
 use Rattle.core_worker.specs.declared.types.Place.{Place}

@@ -17,21 +17,22 @@ use Rattle.core_worker.specs.declared.types.Place.TheVariants.{Free, Staged, Pos
 use Rattle.core_worker.specs.declared.types.Turn.{Turn}
 use Rattle.core_worker.specs.declared.types.Turn.TheVariants.{Moved, Idle}
 use Rattle.core_worker.specs.declared.worker.Worker.{Worker}
+use Rattle.core_worker.specs.CleaningLeft.{cleaning_most, clears_left, mail_left}
 
--- What one request counts, by how far it is: each step takes 6. What the core that makes the step has to do besides rises by less.
+-- What one request counts, by how far it is. Each step takes more than what the core that makes it, or the one that holds the lock, has to do besides rises by: a take costs 6 for the change that is released, written and given back, and 2 for the lock; a change that is finished costs 3 for the own entry that is to be told.
 abbrev pub waits_left : ℕ
-waits_left = 30
+waits_left = 36
 
 abbrev pub staged_left : ℕ
-staged_left = 24
+staged_left = 30
 
 -- a posted one is counted by its slot, and not by its place: it is moved by whoever leads
 abbrev pub slot_left : Slot → ℕ
 slot_left slots.Empty = 0
-slot_left (slots.Posted e) = 18
-slot_left slots.Taken = 12
-slot_left (slots.Done e h) = 6
-slot_left (slots.Failed e) = 6
+slot_left (slots.Posted e) = 24
+slot_left slots.Taken = 15
+slot_left (slots.Done e h) = 9
+slot_left (slots.Failed e) = 9
 
 abbrev pub place_left : Place → ℕ
 place_left Free = 0
@@ -42,27 +43,32 @@ abbrev pub places_left : List Place → ℕ
 places_left [] = 0
 places_left (x ∷ xs) = place_left x + places_left xs
 
--- what it took is to be released, written, and then given back
+-- what it took is to be released and written, and then its names stand in the log
 abbrev pub taken_left : List Taken → ℕ
-taken_left [] = 0
-taken_left (t ∷ ts) = 3
+taken_left ts = 6 * length ts
 
 abbrev pub leading_left : Leading → ℕ
 leading_left (leads.Nothing buffer) = 0
 leading_left (leads.Collecting c) = taken_left c.changes.taken.items
-leading_left (leads.Batch b) = 1
+leading_left (leads.Batch b) = 1 + 3 * length b.changes.taken.items
 leading_left (leads.Persisted x) = 0
 leading_left (leads.Failed x) = 0
 leading_left leads.Between = 0
 
--- a core that runs may still stop
-abbrev pub left : Worker → ℕ
-left w = waits_left * (length w.queue + (if is_some w.in_hand then 1 else 0))
-    + (places_left w.places.items + (leading_left w.leading + (if w.stopped then 0 else 1)))
+-- what is left to do of its own requests and those that it leads: a core that runs may still stop, and wind down
+abbrev pub serves_left : Worker → ℕ
+serves_left w = waits_left * (length w.queue + (if is_some w.in_hand then 1 else 0))
+    + (places_left w.places.items + (leading_left w.leading
+    + ((if w.stopped then 0 else 1) + (if w.winds_down then 0 else 1))))
 
--- an accepted request waits, or is staged, or is answered
+-- and of cleaning
+abbrev pub left : Worker → ℕ
+left w = serves_left w
+    + clears_left w.accepted w.cleaning w.standing w.index w.notices.items
+
+-- an accepted request waits, or is staged, or is answered; and a cleaning may be begun
 abbrev pub most : ℕ
-most = waits_left
+most = waits_left + cleaning_most
 
 abbrev pub offers : Slot → Bool
 offers slots.Empty = false
@@ -89,7 +95,7 @@ abbrev pub slots_left : Group → ℕ
 slots_left w = sum_below (members w.place) (λ a. sum_below SLOTS (λ s. slot_left (w.slot a s)))
 
 abbrev pub under_way : Group → ℕ
-under_way w = slots_left w + lock_left w.holder w.slot
+under_way w = slots_left w + (lock_left w.holder w.slot + mail_left (members w.place) w.mail)
 
 -- where the state is told, there is less to do now
 abbrev pub Lowers : Option Group → Option Group → Worker → Worker → Type 0

@@ -1,5 +1,5 @@
 -- The names of a core's own log while it is cleaned: which of them vanish, and which are told dead.
-use Rattle.std.specs.Prelude.{◌≡◌, ◌≢◌, ℕ, ◌<◌, Bool, true, false, List, [], Option, Some, None, is_some, option_map, if◌then◌else◌}
+use Rattle.std.specs.Prelude.{◌≡◌, ◌≢◌, ℕ, ◌<◌, Bool, true, List, [], Option, Some, is_some, option_map, if◌then◌else◌}
 use Rattle.pm_region.specs.State.{State}
 use Rattle.log_entry.specs.declared.entry.Entry.{Entry}
 use Rattle.log_entry.specs.declared.entry.EntryName.{EntryName}
@@ -11,15 +11,13 @@ use Rattle.log_cleaner.specs.Copying.{left_to_copy, IsUpToDate}
 use Rattle.log_cleaner.specs.Dropping.{Drops}
 use Rattle.core_index.specs.Slots as slots
 use Rattle.group_laws.specs.State.{Notices}
-use Rattle.group_laws.specs.Updates.{has, without}
+use Rattle.group_laws.specs.Updates.{has}
 use Rattle.group_laws.specs.Places as groups
 use Rattle.group_laws.specs.MemberViews.{View}
-use Rattle.group_board.specs.Views.{after_receive, after_retire, TidiedIn}
-use Rattle.group_board.specs.Assurances.{IsHeard}
 use Rattle.core_worker.specs.declared.types.Place.{Place}
 use Rattle.core_worker.specs.StandingTies.{IsNamedIn, HearsOwn}
 use Rattle.core_worker.specs.Hearing.{HearsAll}
-use Rattle.core_worker.specs.GoneNames.{LosesNames, KnowsAll}
+use Rattle.core_worker.specs.GoneNames.{LosesNames}
 
 -- What stands in the log of member m, where the region tells: exactly the names of the entries that are certain there, and exactly its dead names were told dead. What it believes to stand there does, and such a name is dead once it was told.
 pub record KnowsNames (m : ℕ) (kept : List Entry) (present : ℕ → ℕ → Option ℕ)

@@ -1,5 +1,5 @@
 -- One turn of a core as a relation of what it was and what it is: which item it did, what it loaded before, and why it passed the items before that one.
-use Rattle.std.specs.Prelude.{◌≡◌, ◌≢◌, ◌⊎◌, ℕ, ◌+◌, ◌<◌, Bool, true, false, List, [], ◌∷◌, ◌++◌, length, map, Option, Some, None}
+use Rattle.std.specs.Prelude.{◌≡◌, ◌≢◌, ◌⊎◌, ℕ, ◌+◌, ◌<◌, ◌≤◌, Bool, true, false, List, [], ◌∷◌, ◌++◌, length, map, Option, Some, None}
 use Rattle.pm_region.specs.Words.{lines_for}
 use Rattle.group_laws.specs.declared.group_sizes.TheConstants.{SLOTS}
 use Rattle.pm_region.specs.State.{State}
@@ -158,6 +158,8 @@ pub record Persists (m : ℕ) (a b : Moment) : Type 0 where
   -- the names stand in the log now; for the next batch there may be no memory
   pub names : a.worker.winds_down ≡ false → AddsNames a.worker.standing b.worker.standing
       (entries_in batch.changes.taken.items)
+  pub stands : length b.worker.standing.entries
+      ≤ length a.worker.standing.entries + length batch.changes.taken.items
   pub winds : a.worker.winds_down ≡ true → b.worker.winds_down ≡ true
   pub same : b.worker ≡ record a.worker {
     log = b.worker.log;
@@ -176,6 +178,8 @@ pub record LosesBatch (a b : Moment) : Type 0 where
   pub leads_now : b.worker.leading ≡ leads.Failed lost
   pub gives : lost.left.taken.items ≡ batch.changes.taken.items
   pub stopped : b.worker.stopped ≡ true
+  pub stands : length b.worker.standing.entries
+      ≤ length a.worker.standing.entries + length batch.changes.taken.items
   pub view : b.view ≡ a.view
   pub same : b.worker ≡ record a.worker {
     log = b.worker.log;

@@ -6,7 +6,6 @@ use Rattle.fs_model.specs.Cells.{key_of}
 use Rattle.conflict_queue.specs.declared.types.Held.{Held}
 use Rattle.conflict_queue.specs.Waiting.{waiting}
 use Rattle.group_laws.specs.MemberViews.{View}
-use Rattle.core_worker.specs.declared.types.Answer.{Answer}
 use Rattle.batch_leader.specs.Leading.{taken_by}
 use Rattle.batch_leader.specs.Rounds.{is_first}
 use Rattle.core_worker.specs.declared.types.Leading.{Leading}
@@ -15,7 +14,6 @@ use Rattle.core_worker.specs.declared.types.Place.{Place}
 use Rattle.core_worker.specs.declared.types.Place.TheVariants as kinds
 use Rattle.core_worker.specs.declared.worker.Worker.{Worker}
 use Rattle.core_worker.specs.OwnPlaces.{key_in, is_of, request_by, request_pending}
-use Rattle.core_worker.specs.Beginning.{answer_with}
 use Rattle.core_log.specs.Log.{room_of}
 use Rattle.lazy_alloc.specs.Sets.{free_chunk_count, free_block_count}
 use Rattle.engine_laws.specs.FreeStock.{Stock, lines_left_over}

@@ -11,7 +11,7 @@ ghost use Rattle.core_worker.specs.Supplies.{HasKeptRoom};
 ghost use Rattle.core_worker.specs.Refusals.{HasAnswerRoom};
 ghost use Rattle.core_worker.specs.Accepting.{Prepared, HasTie, HoldsOrBeginsByEachView, StaysTied, AcceptsByEachView, AcceptMoves, IsAsBefore};
 ghost use Rattle.core_worker.specs.Status.{has_room, is_leading};
-ghost use Rattle.core_worker.specs.Left.{left, most, StartsFirst};
+ghost use Rattle.core_worker.specs.Left.{left, most, waits_left, StartsFirst};
 
 use crate::types::{NotAccepted, Place};
 use crate::worker::Worker;
@@ -83,7 +83,7 @@ impl Worker {
             (key_of request) ((number, request) ∷ [])) }
         ensures stays { OnErr result (AcceptMoves (R.state region.now) self.old self.new
             (key_of request) []) }
-        ensures most { OnOk result (left self.new ≤ left self.old + most) }
+        ensures most { OnOk result (left self.new ≤ left self.old + waits_left) }
         ensures starts { StartsFirst self.old → StartsFirst self.new }
         ensures works { self.new.winds_down ≡ self.old.winds_down }
         ensures runs { self.new.stopped ≡ self.old.stopped }

@@ -1,5 +1,5 @@
 // The names of a batch's entries, which stand in the own log once it is certain.
-ghost use Rattle.std.specs.Prelude.{◌≡◌, ◌≤◌, true, false, OnOk, OnErr};
+ghost use Rattle.std.specs.Prelude.{◌≡◌, ◌+◌, ◌≤◌, true, false, length, OnOk, OnErr};
 ghost use Rattle.batch_leader.specs.TakenChanges.{entries_in};
 ghost use Rattle.core_worker.specs.StandingTies.{AddsNames, SameNames, most_names};
 
@@ -14,7 +14,10 @@ pub(crate) const MOST_NAMES: u64 = 64;
 // Adds the names of a batch's entries.
 fn add_names(standing: &mut Standing, batch: &Batch)
     requires room { most_names ≤ standing.old.room }
-    ensures { AddsNames standing.old standing.new (entries_in batch.now.changes.taken.items) }
+    ensures adds { AddsNames standing.old standing.new
+        (entries_in batch.now.changes.taken.items) }
+    ensures count { length standing.new.entries
+        ≤ length standing.old.entries + length batch.now.changes.taken.items }
 {
     for at in 0..MOST_NAMES {
         if let Some(name) = batch.name_at(at) {
@@ -26,8 +29,10 @@ fn add_names(standing: &mut Standing, batch: &Batch)
 // The same, where they are needed.
 pub(crate) fn note_names(standing: &mut Standing, batch: &Batch, needed: bool)
     requires room { needed ≡ true → most_names ≤ standing.old.room }
-    ensures { needed ≡ true → AddsNames standing.old standing.new
+    ensures adds { needed ≡ true → AddsNames standing.old standing.new
         (entries_in batch.now.changes.taken.items) }
+    ensures count { length standing.new.entries
+        ≤ length standing.old.entries + length batch.now.changes.taken.items }
 {
     if needed {
         add_names(standing, batch);
@@ -43,6 +48,7 @@ impl Worker {
           winds_down = self.new.winds_down;
         } }
         ensures names { SameNames self.old.standing self.new.standing }
+        ensures count { length self.new.standing.entries ≡ length self.old.standing.entries }
         ensures room { self.new.stopped ≡ false → self.new.winds_down ≡ false
             → most_names ≤ self.new.standing.room }
         ensures works { OnOk result (self.new.winds_down ≡ self.old.winds_down) }

@@ -1,4 +1,4 @@
-use Rattle.std.proofs.Common.{◌≡◌, ℕ, false, List, sym, ap, subst}
+use Rattle.std.proofs.Common.{ℕ, false, sym, subst}
 use Rattle.group_laws.specs.declared.types.Seen.TheVariants.{Mail}
 use Rattle.group_laws.specs.MemberViews.{View}
 use Rattle.crash_core.specs.Shows.{notices_of}

@@ -1,12 +1,9 @@
-use Rattle.std.proofs.Common.{◌≡◌, ℕ, List, sym, ap, subst}
-use Rattle.log_entry.specs.declared.entry.Entry.{Entry}
+use Rattle.std.proofs.Common.{ℕ, sym, subst}
 use Rattle.core_log.specs.Walking.{entries_in}
-use Rattle.core_index.specs.Slots as slots
 use Rattle.group_laws.specs.MemberViews.{View}
 use Rattle.core_worker.specs.GoneNames.{KnowsAll}
 use Rattle.core_worker.specs.Hearing.{HearsAll}
 use Rattle.core_worker.specs.StandingTies.{HearsOwn}
-use Rattle.core_worker.specs.LogNames.{LosesChunk}
 use Rattle.core_worker.proofs.RetiredKeys.{retires_keys}
 use Rattle.core_worker.proofs.LogNames.{retired}
 use Rattle.core_worker.proofs.clear_turn.end_cleaning.Goals as goal

@@ -1,13 +1,19 @@
 -- A request is held, begun, or given back.
-use Rattle.std.proofs.Common.{◌≡◌, inl, ℕ, ◌+◌, refl, sym, ◌∙◌, ap, subst, arith}
+use Rattle.std.proofs.Common.{◌≡◌, inl, ℕ, ◌+◌, ◌≤◌, Result, Ok, Err, OnOk, refl, sym, ◌∙◌, ap, subst, arith}
 use Rattle.fs_model.specs.Cells.{key_of}
 use Rattle.core_index.specs.Index.{room_at}
 use Rattle.core_worker.specs.declared.worker.Worker.{Worker}
 use Rattle.core_worker.specs.OwnPlaces.{is_busy}
 use Rattle.core_worker.specs.Accepting.{Prepared}
 use Rattle.core_worker.proofs.Accepted.{room_place, room_node, leads_nothing, prepared_tie, held_tie, tied_aside, begun_tie, accepts_begun, prepared_room}
+use Rattle.core_worker.specs.Left.{left, staged_left, waits_left}
+use Rattle.core_worker.proofs.LeftWorkers.{before_way, queued_way}
 use Rattle.core_worker.proofs.AcceptMoves.{accept_moves, back_moves, ok_accepts, err_accepts}
 use Rattle.core_worker.proofs.worker.Worker.hold_or_begin.Goals as goal
+
+ok_most : {X Y : Type 0} (r : Result X Y) (b u w : ℕ) → OnOk r (b ≤ u + staged_left) → u ≤ w → OnOk r (b ≤ w + waits_left)
+ok_most (Ok x) b u w most before = omega (arith, most, before)
+ok_most (Err y) b u w most before = tt
 
 pub returns-then-not-prepare-clause-ties : goal.returns-then-not-prepare-clause-ties
 returns-then-not-prepare-clause-ties g c = prepared_tie (g.R.Region.state c.args.region.now) (key_of c.args.request) c.args.self.now c.prepare.new.self c.prepare.ensures.before
@@ -87,3 +93,14 @@ returns-clause-moves g c = ok_accepts c.begin.result (g.R.Region.state c.args.re
 
 pub returns-clause-stays : goal.returns-clause-stays
 returns-clause-stays g c = err_accepts c.begin.result (g.R.Region.state c.args.region.now) c.args.self.now c.prepare.new.self c.begin.new.self (key_of c.args.request) (returns-clause-ties g c) c.prepare.ensures.before c.begin.ensures.unchanged
+
+pub returns-in-Ok-clause-most : goal.returns-in-Ok-clause-most
+returns-in-Ok-clause-most g c =
+    let before = before_way c.args.self.now c.prepare.new.self c.prepare.ensures.before in
+    let held = queued_way c.prepare.new.self (record c.prepare.new.self { queue = c.hold.new.self }) _ c.in-Ok.ensures.added refl in
+    omega (arith, before, held)
+
+pub returns-clause-most : goal.returns-clause-most
+returns-clause-most g c =
+    let before = before_way c.args.self.now c.prepare.new.self c.prepare.ensures.before in
+    ok_most c.begin.result (left c.begin.new.self) (left c.prepare.new.self) (left c.args.self.now) c.begin.ensures.most before

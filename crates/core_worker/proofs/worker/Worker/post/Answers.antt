@@ -2,7 +2,6 @@
 use Rattle.std.proofs.Common.{ℕ, inl, refl, sym, subst}
 use Rattle.core_worker.specs.declared.types.Place.{Place as WorkerPlace}
 use Rattle.core_worker.specs.declared.types.Place.TheVariants as places
-use Rattle.core_worker.specs.OwnPlaces.{place_at}
 use Rattle.core_worker.specs.Posting.{HasNoBlock, IsStagedWith, PointsNowhere}
 use Rattle.pm_region.proofs.Clients.{started, all_kept}
 use Rattle.licence.specs.Licence.{Licensed, part_at, part_end}

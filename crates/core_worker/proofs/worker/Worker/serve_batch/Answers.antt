@@ -2,12 +2,12 @@
 use Rattle.std.proofs.Common.{◌≡◌, Bool, true, false, Result, Ok, Err, OnOk, OnErr, refl, sym, ◌∙◌, ap, subst}
 use Rattle.core_worker.specs.declared.worker.Worker.{Worker}
 use Rattle.core_worker.specs.Supplies.{HasKeptRoom}
-use Rattle.core_worker.specs.Left.{Lowers}
 use Rattle.core_worker.specs.Turns.{MadeOrStops}
 use Rattle.core_worker.specs.Order.{MayLeadStopped}
 use Rattle.core_worker.specs.Turning.Did.{writes, marks, fails}
 use Rattle.core_worker.proofs.QuietItems.{marks_filled, fails_filled, marks_led, fails_led, fails_stops}
 use Rattle.core_worker.proofs.TurnLaws.{keeps_leading, keeps_batch}
+use Rattle.core_worker.proofs.LeftItems.{renewed_lowers}
 use Rattle.core_worker.proofs.Renewing.{renewed_holds, renewed_stands, batch_renewed}
 use Rattle.core_worker.proofs.worker.Worker.serve_batch.Goals as goal
 
@@ -36,7 +36,7 @@ returns-in-Batch-clause-keeps g c =
     keeps_batch seat s t before after v u w x
     c.requires.holds (renewed_holds seat.place seat.number u y x n.rest n.winds e.holds) (renewed_stands t seat.place seat.number u y x n.rest n.winds n.names e.stands) c.requires.order
     (runs_still w.stopped (λ stopped. subst MayLeadStopped c.in-Batch.is (c.requires.order.stops stopped))) n.room
-    e.moments e.outside (batch_renewed seat.number (record { worker = w; view = v }) y x u n.rest n.names n.winds n.still e.persists)
+    e.moments e.outside (batch_renewed seat.number (record { worker = w; view = v }) y x u n.rest n.names n.count n.winds n.still e.persists)
     (subst (λ (b : Bool). MadeOrStops b before after seat.number v u) (sym same) e.made) (λ stopped. e.cause (sym same ∙ stopped))
     (λ runs kept. subst (λ (z : Worker). HasKeptRoom z) (sym n.rest) (e.rule (sym same ∙ runs) kept))
 
@@ -55,10 +55,12 @@ returns-in-Failed-clause-keeps g c =
 pub returns-in-Batch-clause-did : goal.returns-in-Batch-clause-did
 returns-in-Batch-clause-did g c refused =
     let n = c.renew_names.ensures in
-    writes (batch_renewed (g.B.Board.seat c.args.board.now).number (record { worker = c.args.self.now; view = g.B.Board.view c.args.board.now }) c.write_batch.new.self c.renew_names.new.self (g.B.Board.view c.write_batch.new.board) n.rest n.names n.winds n.still c.write_batch.ensures.persists)
+    writes (batch_renewed (g.B.Board.seat c.args.board.now).number (record { worker = c.args.self.now; view = g.B.Board.view c.args.board.now }) c.write_batch.new.self c.renew_names.new.self (g.B.Board.view c.write_batch.new.board) n.rest n.names n.count n.winds n.still c.write_batch.ensures.persists)
 
 pub returns-in-Batch-clause-less : goal.returns-in-Batch-clause-less
-returns-in-Batch-clause-less g c = subst (λ (z : Worker). Lowers (g.B.Board.whole c.args.board.now) (g.B.Board.whole c.write_batch.new.board) c.args.self.now z) (sym c.renew_names.ensures.rest) c.write_batch.ensures.less
+returns-in-Batch-clause-less g c =
+    let n = c.renew_names.ensures in
+    renewed_lowers (g.B.Board.whole c.args.board.now) (g.B.Board.whole c.write_batch.new.board) c.args.self.now c.write_batch.new.self c.renew_names.new.self n.rest n.count n.winds c.write_batch.ensures.less
 
 pub returns-in-Persisted-clause-did : goal.returns-in-Persisted-clause-did
 returns-in-Persisted-clause-did g c refused = marks refl c.mark_next.ensures.marks

@@ -95,7 +95,7 @@ returns-in-Ok-clause-stands g c =
     let t = g.R.Region.state c.persist.new.region in
     let chunk = subst (λ (l : Geometry). During s t (KeepsOutside (cell_now s) (open_first (opened_for w.log o)) (open_first (opened_for w.log o) + chunk_words l))) (opened_layout w.log o) c.persist.ensures.chunk in
     let opened : o ≡ None → is_some w.log.opened ≡ true = λ none. room_opens w.log (spelled ts) entries (subst (λ (x : Option ℕ). HasRoom s w.log (words_in ts) x) none room) in
-    let names = batch_stood s t p m v w a c.persist.new.log b.fresh o (entries_in ts) H c.requires.stands c.requires.runs takes chunk c.in-Ok.ensures.wrote opened c.note_names.new.standing entries.batch had.0.flying (lacks_taken m v ts had.0.unlogged) had.0.named (λ on. c.note_names.ensures (ap not on)) in
+    let names = batch_stood s t p m v w a c.persist.new.log b.fresh o (entries_in ts) H c.requires.stands c.requires.runs takes chunk c.in-Ok.ensures.wrote opened c.note_names.new.standing entries.batch had.0.flying (lacks_taken m v ts had.0.unlogged) had.0.named (λ on. c.note_names.ensures.adds (ap not on)) in
     stands_lowered t p m u (record w { log = c.persist.new.log; allocator = a; leading = leads.Persisted c.in-Ok.done; standing = c.note_names.new.standing }) c.unpledge.new.places
     (stands_wrote s t p m v w a c.persist.new.log b.fresh o (spelled ts) H c.requires.stands c.requires.runs takes chunk c.in-Ok.ensures.wrote opened
     u c.in-Ok.done c.note_names.new.standing names c.in-Ok.ensures.view c.persist.ensures.exit)
@@ -186,7 +186,8 @@ returns-in-Ok-clause-persists g c =
       log = c.in-Ok.ensures.wrote.log_is;
       pledged = λ s. unpledged_at ts m w.places.items (place_at c.unpledge.new.places.items s) s (pledged_by p m v w H ts had.0.unlogged s) (all s);
       view = c.in-Ok.ensures.view;
-      names = λ on. c.note_names.ensures (ap not on);
+      names = λ on. c.note_names.ensures.adds (ap not on);
+      stands = c.note_names.ensures.count;
       winds = λ on. on;
       same = refl;
     })
@@ -199,6 +200,7 @@ returns-in-Err-clause-persists g c = record {
   leads_now = refl;
   gives = c.in-Err.ensures.gives.0;
   stopped = refl;
+  stands = c.note_names.ensures.count;
   view = c.in-Err.ensures.view;
   same = refl;
 }
