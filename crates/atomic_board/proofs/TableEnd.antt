@@ -15,11 +15,11 @@ use Rattle.atomic_board.specs.declared.seat_data.Deed.{Deed}
 use Rattle.atomic_board.specs.declared.seat_data.SeatData.{SeatData}
 use Rattle.atomic_board.specs.declared.seat_data.SeatData.TheVariants.{Store, Own, Spent}
 use Rattle.atomic_board.specs.declared.token.SeatToken.{SeatToken}
-use Rattle.atomic_board.specs.Deeds.{place_of, size, view_by}
+use Rattle.atomic_board.specs.Deeds.{place_of, size, view_by, trail_by}
 use Rattle.atomic_board.specs.ShownState.{TableState, ShowsLawful, is_back, deeds_in, deeds_at, stored, own_or}
-use Rattle.atomic_board.specs.StepTells.{done_in, is_own, is_store, is_settled, is_handless, number_in, origin_in, view_in, joined}
+use Rattle.atomic_board.specs.StepTells.{done_in, trail_in, is_own, is_store, is_settled, is_handless, number_in, origin_in, view_in, joined}
 use Rattle.atomic_board.specs.declared.member_seat.MemberSeat.{MemberSeat}
-use Rattle.atomic_board.specs.MemberSeats.{origin_at, view_at, done_at, seat_of}
+use Rattle.atomic_board.specs.MemberSeats.{origin_at, view_at, trail_at, done_at, seat_of}
 use Rattle.atomic_board.specs.Tokens.{AreTokens, member_at, Ended, HasFrom}
 use Rattle.atomic_board.proofs.SeatPlaces.{at_lt, store_own, store_spent, own_spent}
 use Rattle.atomic_board.proofs.RuleOpened.{same_back}
@@ -64,9 +64,9 @@ store_is (Own m q b ds) e = absurd (cc e)
 store_is Spent e = absurd (cc e)
 
 -- what a seat has: its deeds lead to its view
-own_deeds : (b c : Origin) (n : ℕ) (back : List (ℕ × List Deed)) (e : SeatData) → is_own e ≡ true → origin_in e ≡ b → (ds : List Deed) × (joined (Store n c back) e ≡ Store n c ((number_in e, ds) ∷ back)) × (view_by b (number_in e) ds ≡ view_in e) × (ds ≡ done_in e)
+own_deeds : (b c : Origin) (n : ℕ) (back : List (ℕ × List Deed)) (e : SeatData) → is_own e ≡ true → origin_in e ≡ b → (ds : List Deed) × (joined (Store n c back) e ≡ Store n c ((number_in e, ds) ∷ back)) × (view_by b (number_in e) ds ≡ view_in e) × (ds ≡ done_in e) × (trail_in e ≡ trail_by b (number_in e) ds)
 own_deeds b c n back (Store k g l) mine same = absurd (cc mine)
-own_deeds b c n back (Own m q g ds) mine same = (ds, refl, ap (λ x. view_by x m ds) (sym same), refl)
+own_deeds b c n back (Own m q g ds) mine same = (ds, refl, ap (λ x. view_by x m ds) (sym same), refl, ap (λ x. trail_by x m ds) same)
 own_deeds b c n back Spent mine same = absurd (cc mine)
 
 -- one more seat is joined
@@ -86,11 +86,13 @@ has_more b ts rest left t d is member origin h =
             ap (λ c. c || is_back back k) (eq-eqb k (number_in t.own.seat.me.0) (e ∙ sym same)),
             ap (λ c. view_by b k (cond c own.0 (deeds_in back k))) (eq-eqb k (number_in t.own.seat.me.0) (e ∙ sym same)) ∙ (ap (λ j. view_by b j own.0) (e ∙ sym same) ∙ (own.2 ∙ ap (λ (x : SeatToken). view_at x.own) (some-injective t u (sym at ∙ (ap (get_elem? ts) (sym e) ∙ there))))),
             ap (λ c. cond c own.0 (deeds_in back k)) (eq-eqb k (number_in t.own.seat.me.0) (e ∙ sym same)) ∙ (own.3 ∙ ap (λ (x : SeatToken). done_at x.own) (some-injective t u (sym at ∙ (ap (get_elem? ts) (sym e) ∙ there)))),
+            ap (λ (x : SeatToken). trail_at x.own) (sym (some-injective t u (sym at ∙ (ap (get_elem? ts) (sym e) ∙ there)))) ∙ own.4 ∙ ap (λ j. trail_by b j own.0) (same ∙ sym e) ∙ ap (λ c. trail_by b k (cond c own.0 (deeds_in back k))) (sym (eq-eqb k (number_in t.own.seat.me.0) (e ∙ sym same))),
           ))
           (λ ne. let old = h.4 k u (let long = longer left t in omega (arith, long, low, ne)) there in (
             ap (λ c. c || is_back back k) (ne_eqb k (number_in t.own.seat.me.0) (λ e. ne (e ∙ same))) ∙ old.0,
             ap (λ c. view_by b k (cond c own.0 (deeds_in back k))) (ne_eqb k (number_in t.own.seat.me.0) (λ e. ne (e ∙ same))) ∙ old.1,
             ap (λ c. cond c own.0 (deeds_in back k)) (ne_eqb k (number_in t.own.seat.me.0) (λ e. ne (e ∙ same))) ∙ old.2,
+            old.3 ∙ ap (λ c. trail_by b k (cond c own.0 (deeds_in back k))) (sym (ne_eqb k (number_in t.own.seat.me.0) (λ e. ne (e ∙ same)))),
           )),
     ) where
       longer : (l : List SeatToken) (x : SeatToken) → length (l ++ x ∷ []) ≡ length l + 1
@@ -105,6 +107,7 @@ ended b ts ws id d h s o at words = record {
   words = words;
   views = λ k t there. let has = h.4 k t (omega arith) there in ap (view_by b k) (deeds k has.0) ∙ has.1;
   deeds = λ k t there. let has = h.4 k t (omega arith) there in deeds k has.0 ∙ has.2;
+  trails = λ k t there. let has = h.4 k t (omega arith) there in has.3 ∙ ap (trail_by b k) (sym (deeds k has.0));
 } where
   found : (h.0 ≡ b) × (o.fits.back ≡ h.2) × (get_elem? s.views 0 ≡ some (Store h.1 h.0 h.2))
   found = store_origin b h.0 h.1 h.2 s o id (at ∙ ap some h.3)

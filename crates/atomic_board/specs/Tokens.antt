@@ -14,9 +14,9 @@ use Rattle.atomic_board.specs.declared.seat_data.SeatData.TheVariants.{Store}
 use Rattle.atomic_board.specs.declared.seat_data.Deed.{Deed}
 use Rattle.atomic_board.specs.declared.table_words.TheConstants.{MOST_SLOTS}
 use Rattle.atomic_board.specs.declared.token.SeatToken.{SeatToken}
-use Rattle.atomic_board.specs.Deeds.{began, view_by}
+use Rattle.atomic_board.specs.Deeds.{began, view_by, trail_by}
 use Rattle.atomic_board.specs.ShownState.{TableState, ShowsLawful, views_of, is_back, deeds_in, deeds_at}
-use Rattle.atomic_board.specs.MemberSeats.{seat_of, view_at, done_at}
+use Rattle.atomic_board.specs.MemberSeats.{seat_of, view_at, trail_at, done_at}
 
 -- the seat of member k at a table
 abbrev pub member_at : TableId → Place → ℕ → SeatAt
@@ -36,7 +36,7 @@ AreFresh b ts = (k : ℕ) (t : SeatToken) → get_elem? ts k ≡ some t
 abbrev pub AreIdle : List SeatToken → Type 0
 AreIdle ts = (k : ℕ) (t : SeatToken) → get_elem? ts k ≡ some t → done_at t.own ≡ []
 
--- The words show a lawful state that the machine's steps lead to, in which each member has the view of its token, and did just what its token tells.
+-- The words show a lawful state that the machine's steps lead to, in which each member has the view of its token, and did just what its token tells. Its steps are those of its deeds.
 pub record Ended (b : Origin) (ts : List SeatToken) (ws : List ℕ) : Type 0 where
   pub table : TableState
   pub shows : ShowsLawful b table
@@ -45,6 +45,8 @@ pub record Ended (b : Origin) (ts : List SeatToken) (ws : List ℕ) : Type 0 whe
       → views_of b table.views k ≡ view_at t.own
   pub deeds : (k : ℕ) (t : SeatToken) → get_elem? ts k ≡ some t
       → deeds_at table.views k ≡ done_at t.own
+  pub trails : (k : ℕ) (t : SeatToken) → get_elem? ts k ≡ some t
+      → trail_at t.own ≡ trail_by b k (deeds_at table.views k)
 
 -- nothing in them, and room for the numbers of all slots
 abbrev pub AreEmptyHands : {A : Type 0} → List (VecDeque ℕ A) → Type 0
@@ -57,4 +59,5 @@ HasFrom b ts j d =
     (c : Origin) × (n : ℕ) × (back : List (ℕ × List Deed)) × (d ≡ Store n c back)
     × ((k : ℕ) (t : SeatToken) → j ≤ k → get_elem? ts k ≡ some t → (is_back back k ≡ true)
     × (view_by b k (deeds_in back k) ≡ view_at t.own)
-    × (deeds_in back k ≡ done_at t.own))
+    × (deeds_in back k ≡ done_at t.own)
+    × (trail_at t.own ≡ trail_by b k (deeds_in back k)))

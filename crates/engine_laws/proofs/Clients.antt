@@ -19,3 +19,5 @@ pub use Rattle.engine_laws.proofs.Ampleness.{chunk_big}
 pub use Rattle.engine_laws.proofs.RoomMoves.{OwnLines, OwnMoves, fresh, own_posted, own_room}
 pub use Rattle.engine_laws.proofs.RoomNeeds.{not_ample, not_scarce}
 pub use Rattle.engine_laws.proofs.Kept.{done, promised}
+pub use Rattle.engine_laws.proofs.KeyLaw.{key_grows, key_shows}
+pub use Rattle.engine_laws.proofs.Promises.{changes_told}

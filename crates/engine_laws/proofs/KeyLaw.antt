@@ -1,10 +1,12 @@
 -- One key by itself: a call after another.
-use Rattle.std.proofs.Common.{◌≡◌, inl, inr, ◌⊎◌, ℕ, List, [], ◌∷◌, ◌++◌, map, refl, sym, ◌∙◌, ap, subst, ◌||◌, true, false, Bool, cond, Option, Some, None, append_assoc, append-nil}
+use Rattle.std.proofs.Common.{◌≡◌, inl, inr, ◌⊎◌, ℕ, ◌+◌, ◌≤◌, List, [], ◌∷◌, ◌++◌, map, length, take, arith, length-append, refl, sym, ◌∙◌, ap, subst, ◌||◌, true, false, Bool, cond, Option, Some, None, append_assoc, append-nil}
 use Rattle.std.specs.List.{AllByRecursion}
 use Rattle.fs_model.specs.declared.model.Request.{Request}
 use Rattle.fs_model.specs.declared.model.Reply.{Reply}
 use Rattle.fs_model.specs.declared.model.Reply.TheVariants.{Stopped}
 use Rattle.fs_model.specs.Cells.{cell_after, is_change}
+use Rattle.fs_model.specs.Changes.{cell_after_all, IsPrefixCell}
+use Rattle.fs_model.proofs.Clients.{changes-append}
 use Rattle.fs_model.specs.Lawful.{IsLawfulFor, MayReply, cell_of, cell_left, stopped_of, is_finish, is_stopped}
 use Rattle.group_laws.specs.declared.types.Pending.{Pending}
 use Rattle.engine_laws.specs.WorkerMoves.{Placed, Fixed, replied}
@@ -13,6 +15,7 @@ use Rattle.engine_laws.specs.KeyLaw.{KeyView, Holds, Does, KeyIs}
 use Rattle.engine_laws.proofs.Numbers.{all_map}
 use Rattle.engine_laws.proofs.Histories.{cell_of-append, stopped_of-append, many, stopped_lawful, finishes_open, finished-append, open_end}
 use Rattle.engine_laws.proofs.Histories as histories
+use Rattle.engine_laws.proofs.Stands.{front_of, posted_unfinished, take_front}
 use Rattle.engine_laws.proofs.KeyMoves.{stop_all, stopped_cell, stopped_none, stop_found, posted_stopped, chain}
 
 module _ (start : Option (List ℕ)) (v u : KeyView) (place place' : Option Placed) (stopped stopped' : Bool) (xs : List (Request × Reply)) (fixed : List Fixed) (S : KeyIs start v place stopped xs) (K : Does v u place place' stopped stopped' fixed) (after : Holds u place' stopped') where
@@ -142,3 +145,25 @@ module _ (start : Option (List ℕ)) (v u : KeyView) (place place' : Option Plac
 
   pub key_goes : KeyIs start u place' stopped' (xs ++ ys)
   key_goes = record { history = grown.0; cell = cell_is; halted = halted'; holds = after; pending = next }
+
+-- What a view shows of a key is its cell after the finished changes, or after the pending one too.
+pub key_shows : (start : Option (List ℕ)) (v : KeyView) (place : Option Placed) (stopped : Bool) (xs : List (Request × Reply)) (c : Option (List ℕ)) → KeyIs start v place stopped xs
+    → (c ≡ v.cell) ⊎ ((p : Pending) × (v.pending ≡ Some p) × (c ≡ v.left p.entry.body))
+    → (length (finished xs) ≤ length (changes_on start (xs ++ posted_in place))) × IsPrefixCell start (changes_on start (xs ++ posted_in place)) (length (finished xs)) c
+key_shows start v place stopped xs c S shown = (
+  (let long = ap length front.1 ∙ length-append (finished xs) front.0 in omega (arith, long)),
+  elim shown [
+    | inl is ↦ inl (is ∙ cell_now ∙ ap (λ l. cell_after_all l start) (sym (ap (take (length (finished xs))) front.1 ∙ take_front (finished xs) front.0 (length (finished xs)) refl)))
+    | inr next ↦
+        let n = S.pending next.0 next.1 in
+        let cut : take (length (finished xs) + 1) (changes_on start (xs ++ posted_in place)) ≡ finished xs ++ n.0 ∷ [] =
+        ap (take (length (finished xs) + 1)) (n.2 ∙ sym (append_assoc (finished xs) (n.0 ∷ []) n.1))
+        ∙ take_front (finished xs ++ n.0 ∷ []) n.1 (length (finished xs) + 1) (let long = length-append (finished xs) (n.0 ∷ []) in omega (arith, long)) in
+        inr (next.2 ∙ n.3 ∙ ap (cell_after n.0) cell_now ∙ sym (changes-append start (finished xs) (n.0 ∷ [])) ∙ ap (λ l. cell_after_all l start) (sym cut))
+  ],
+) where
+  front : (zs : List Request) × (changes_on start (xs ++ posted_in place) ≡ finished xs ++ zs)
+  front = front_of start xs (posted_in place) (posted_unfinished place)
+
+  cell_now : v.cell ≡ cell_after_all (finished xs) start
+  cell_now = sym S.cell ∙ sym S.history.left

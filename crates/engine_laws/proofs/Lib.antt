@@ -10,7 +10,7 @@ mod KeyMoves
 pub mod Stands
 pub mod Begins
 mod Reports
-mod Promises
+pub mod Promises
 pub mod WhyRefused
 pub mod Ran
 mod Workers
@@ -28,6 +28,6 @@ pub mod RoomsKept
 mod Drained
 pub mod Kept
 pub mod Beginning
-mod KeyLaw
+pub mod KeyLaw
 mod Trials
 pub mod Clients

@@ -157,8 +157,8 @@ module _ (o : Origin) (e : Engine) (S : StandsNow o e) where
       ] refl
 
     -- what is known of the changes is a front of what they are
-    grows : (zs : List Request) × (changes_in (start_of o) (e.given ++ more) r k ≡ changes_at (start_of o k) e k K ++ zs)
-    grows =
+    pub changes_told : (zs : List Request) × (changes_in (start_of o) (e.given ++ more) r k ≡ changes_at (start_of o k) e k K ++ zs)
+    changes_told =
         let front = posted_front in
         let here = many (start_of o k) (pairs K.served) (posted_in (e.place k)) K.history (stopped_lawful _ _ (posted_in (e.place k)) (posted_stopped (e.place k))) in
         let rest_stopped : AllByRecursion (λ (y : Request × Reply). y.1 ≡ Stopped) front.0 = all_tail (posted_in (e.place k)) front.0 (subst (AllByRecursion (λ (y : Request × Reply). y.1 ≡ Stopped)) front.1 all_stopped) in
@@ -188,7 +188,7 @@ module _ (o : Origin) (e : Engine) (S : StandsNow o e) where
         sound = is.sound;
         cells = λ k low.
             let K' = S.keys k in
-            let step = grows more k in
+            let step = changes_told more k in
             let few = until_few t K'.served in
             let begins = front_of (start_of o k) (pairs K'.served) (posted_in (e.place k)) (posted_unfinished (e.place k)) in
             let long : length (changes_at (start_of o k) e k K') ≡ length (finished (pairs K'.served)) + length begins.0 = ap length begins.1 ∙ length-append (finished (pairs K'.served)) begins.0 in

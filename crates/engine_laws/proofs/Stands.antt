@@ -110,7 +110,7 @@ until_few t (x ∷ xs) = by (until_few t xs) (is_finish x.answer.reply) (leb x.a
       let less = one b d in
       omega (arith, rest, count, all, less)
 
-take_front : (xs ys : List Request) (f : ℕ) → f ≡ length xs → take f (xs ++ ys) ≡ xs
+pub take_front : (xs ys : List Request) (f : ℕ) → f ≡ length xs → take f (xs ++ ys) ≡ xs
 take_front xs ys f e = take-append-le f xs ys (omega (arith, e)) ∙ take_all f xs (omega (arith, e))
 
 pub posted_unfinished : (o : Option Placed) → finished (posted_in o) ≡ []
