@@ -1,5 +1,5 @@
 -- A run on threads: from its supplies, the pieces of the split, what the cores gave back and the joined region to what it comes to.
-use Rattle.std.proofs.Common.{◌≡◌, ℕ, ◌+◌, ◌-◌, ◌*◌, ◌/◌, ◌<◌, Bool, true, false, List, length, Option, Some, None, refl, sym, ◌∙◌, ap, subst, arith, nat_lt, slice_index_or}
+use Rattle.std.proofs.Common.{◌≡◌, ℕ, ◌+◌, ◌-◌, ◌*◌, ◌/◌, ◌<◌, Bool, true, false, List, ◌++◌, length, Option, Some, None, refl, sym, ◌∙◌, ap, subst, arith, nat_lt, slice_index_or}
 use Rattle.std.specs.List.{slice_get}
 use Rattle.std.proofs.lemmas.Bool.{ltb-true, lt-ltb}
 use Rattle.std.proofs.lemmas.Nat.{div-add-mod'}
@@ -17,12 +17,14 @@ use Rattle.group_laws.specs.State.{Group}
 use Rattle.group_laws.specs.Invariant.{Lawful}
 use Rattle.group_laws.specs.Runs.{Kind, Runs}
 use Rattle.group_laws.specs.Regions.{groups_in, place_at}
+use Rattle.group_laws.specs.MemberViews.{view_of}
 use Rattle.group_laws.specs.OpeningImages.{opened}
 use Rattle.group_board.specs.Seats.{SeatAt}
+use Rattle.group_board.specs.Trails.{TrailStep}
 use Rattle.atomic_board.specs.declared.group_table.GroupTable.{GroupTable}
 use Rattle.atomic_board.specs.declared.token.SeatToken.{SeatToken}
 use Rattle.atomic_board.specs.GroupTables.{id_of, group_place}
-use Rattle.atomic_board.specs.MemberSeats.{seat_of, view_at}
+use Rattle.atomic_board.specs.MemberSeats.{seat_of, view_at, trail_at}
 use Rattle.atomic_board.specs.Tokens.{member_at}
 use Rattle.core_worker.specs.declared.worker.Worker.{Worker}
 use Rattle.engine_laws.specs.Origins.{Origin}
@@ -34,15 +36,17 @@ use Rattle.group_engine.specs.Replayed.{StandsAsFound, BeginsAt, report_in}
 use Rattle.group_engine.specs.Reports.{IsReport}
 use Rattle.thread_engine.specs.declared.muster.Returned.{Returned}
 use Rattle.thread_engine.specs.declared.run_apart.Supplies.{Supplies}
-use Rattle.thread_engine.specs.CoreRuns.{requests_to, HasView}
+use Rattle.thread_engine.specs.CoreRuns.{requests_to, HasView, LoadsLook}
+use Rattle.thread_engine.specs.Cuts.{steps_of, IsShown}
 use Rattle.thread_engine.specs.Collected.{stored_all, HaveAllPlaces, any_short, any_stopped, end_by}
 use Rattle.thread_engine.specs.RanApart.{RanApart}
 use Rattle.thread_engine.specs.Manned.{AreTokensOf, AllEnded}
 use Rattle.thread_engine.specs.Returns.{IsCrew, AllAtWork, AllWent, Went, core_stands}
 use Rattle.thread_engine.specs.Supplied.{IsSupplied, ArePartCuts}
 use Rattle.thread_engine.proofs.Blocks.{tokens_of}
+use Rattle.thread_engine.proofs.CutOrders.{shown_orders, orders_shown, orders_made}
 use Rattle.thread_engine.proofs.Doubts.{one_of}
-use Rattle.thread_engine.proofs.LastState.{CoreEnd, IsEnd, ChainLaw, OpeningKeys, OpeningDoubts, RefusalLaw, MomentLaw, have_places, ran}
+use Rattle.thread_engine.proofs.LastState.{CoreEnd, IsEnd, ChainLaw, OpeningKeys, OpeningDoubts, RefusalLaw, MomentLaw, CutLaw, have_places, ran}
 use Rattle.thread_engine.proofs.Rejoining.{region_rejoined, region_superblock, next_joined}
 use Rattle.thread_engine.proofs.Places.{get_low, get_at, get_index}
 use Rattle.thread_engine.proofs.RunEnds.{shown_groups, shown_reached, shown_view, first_works, core_end}
@@ -184,9 +188,19 @@ module _ {P : Type 0} (state : P → State) (refused : Bool) (s : State) (word :
         pub groups : Groups l shown
         groups = record { place = λ g low. (at_group g low).0; lawful = λ g low. (at_group g low).1 }
 
-        -- core c's end, its worker and its piece
+        -- the order of the steps of each group's cores
+        abbrev pub order : ℕ → List (ℕ × TrailStep)
+        order = shown_orders tables back.tokens.items E
+
+        order_shown : (g : ℕ) → g < groups_in l → (late early : List (ℕ × TrailStep)) → order g ≡ late ++ early → (w : Group) × IsShown (place_at l g) o.found early w
+        order_shown g low late early e =
+            let b = get_at tables g (let n = table_count in omega (arith, low, n)) in
+            orders_shown tables back.tokens.items E g b.0 b.1 (place_at l g) o.found (S.manned.opened_on g b.0 b.1) late early e
+
+        -- core c's end, its worker, its piece, and its steps
         abbrev Full : ℕ → CoreEnd refused → Type 0
         Full c y = IsEnd o r refused t shown given c y × (slice_get back.workers.items c ≡ Some y.last.worker) × ((q : P) × (slice_get back.pieces.items c ≡ Some q) × (state q ≡ y.last.region))
+            × (steps_of (order (group_of l c)) (member_of l c) ≡ y.last.trail.steps)
 
         ended : (c : ℕ) → c < l.cores → (y : CoreEnd refused) × Full c y
         ended c low =
@@ -195,10 +209,12 @@ module _ {P : Type 0} (state : P → State) (refused : Bool) (s : State) (word :
             let b = get_at tables (group_of l c) (let n = table_count in omega (arith, g_low, n)) in
             let at_u : slice_get back.tokens.items (group_of l c * l.group + member_of l c) ≡ Some O.5 = ap (slice_get back.tokens.items) (div-add-mod' c l.group) ∙ O.12 in
             let view : HasView (shown (group_of l c)) (member_of l c) (view_at O.5.own) = shown_view l.group tables back.tokens.items E (opened (place_at l 0) o.found) (λ g y at. S.manned.sizes g y at) (group_of l c) (member_of l c) b.0 O.5 b.1 (member_low l is_layout c) at_u in
+            let made = orders_made l.group tables back.tokens.items E (λ g y at. S.manned.sizes g y at) (group_of l c) (member_of l c) b.0 O.5 b.1 (member_low l is_layout c) at_u in
+            let loads = subst (λ (w : Group). LoadsLook (view_of w (member_of l c)) (trail_at O.5.own)) (S.manned.opened_on (group_of l c) b.0 b.1) made.1 in
             let taken : TakesPiece t (state O.4) = subst (λ (y : P). TakesPiece t (state y)) (get_index back.pieces.items c O.4 O.4 O.11) (takes c O.4 (get_low back.pieces.items c O.4 O.11)) in
             let end = core_end state refused o r is_layout given tables x.crew pieces x.cuts.items S.manned table_count S.workers.each (seat_there s word r o F B x.crew.workers.items S.seated worker_count) (start_there s word r o F B) queues_are piece_at cuts_are
-            c low O.0 O.1 O.2 O.3 O.7 O.8 O.9 O.10 t shown O.4 O.5 O.6 O.14 taken view in
-            (end.0, (end.1, O.13, (O.4, O.11, refl)))
+            c low O.0 O.1 O.2 O.3 O.7 O.8 O.9 O.10 t shown O.4 O.5 O.6 O.14 taken view loads in
+            (end.0, (end.1, O.13, (O.4, O.11, refl), made.0))
 
         chosen_by : (c : ℕ) (b : Bool) → nat_lt c l.cores ≡ b → Option (CoreEnd refused)
         chosen_by c true e = Some (ended c (ltb-true c l.cores e)).0
@@ -226,11 +242,11 @@ module _ {P : Type 0} (state : P → State) (refused : Bool) (s : State) (word :
 
           -- what it comes to
           pub run_ran : (mid : State) → Parted s mid x.cuts.items → Joined mid t → ComesNext state mid t back.pieces.items → s.frame.parted ≡ false → mid.frame.opens ≡ s.frame.opens → mid.frame.refusals ≡ s.frame.refusals → t.frame.opens ≡ mid.frame.opens
-              → RefusalLaw → MomentLaw → (out : Outcome) → IsReport (stored_all back.workers.items t.stamp x.answers.items) (report_in out) → out.end ≡ end_by (any_short back.workers.items) (any_stopped back.workers.items) → RanApart s word refused r lines t out
-          run_ran mid D J N whole_is opens refusals opens' refusal moment out report end =
+              → RefusalLaw → MomentLaw → CutLaw → (out : Outcome) → IsReport (stored_all back.workers.items t.stamp x.answers.items) (report_in out) → out.end ≡ end_by (any_short back.workers.items) (any_stopped back.workers.items) → RanApart s word refused r lines t out
+          run_ran mid D J N whole_is opens refusals opens' refusal moment at_cut out report end =
               ran chain keys_open doubts_open o B.is is_layout r refused t shown given groups ends all back.workers.items x.answers.items (λ c low. (full c low).2.1) few S.places S.blank
               s word lines refl out B (region_rejoined s word r o F B x.cuts.items cuts_are mid t D J whole_is opens refusals opens') (λ g low. (at_group g low).2)
               (region_superblock s word r o F B x.cuts.items cuts_are mid t D J) (λ c low. (full c low).2.0.piece.piece.faults)
               (next_joined s mid t x.cuts.items D J state back.pieces.items l.cores (λ c low. (full c low).0.last.region) N (A.pieces_count ∙ piece_count)
               (λ c low q at. (let f = (full c low).2.2 in ap state (one_of q f.0 (sym at ∙ f.1)) ∙ f.2)))
-              report end refusal moment
+              report end refusal moment at_cut order (λ c low. (full c low).2.3) order_shown

@@ -35,6 +35,7 @@ use Rattle.group_laws.specs.OpeningImages.{opened}
 use Rattle.group_laws.specs.MemberViews.{View, view_of}
 use Rattle.group_laws.proofs.Clients.{in_map, of_map}
 use Rattle.group_board.specs.Seats.{SeatAt}
+use Rattle.group_board.specs.Trails.{TrailStep}
 use Rattle.group_board.specs.Views.{left_in}
 use Rattle.licence.specs.Licence.{Licensed}
 use Rattle.engine_laws.specs.Parts.{Groups, AllLicensed, HasSuperblock, group_of, member_of}
@@ -42,7 +43,8 @@ use Rattle.engine_laws.specs.Idle.{IsDrained}
 use Rattle.engine_laws.specs.Ceasing.{HasCeased}
 use Rattle.engine_laws.specs.Causes.{Causes}
 use Rattle.engine_laws.specs.Ran.{asked_in}
-use Rattle.engine_laws.specs.Reports.{AllAnswered}
+use Rattle.headline.specs.Headline.{Recovers}
+use Rattle.engine_laws.specs.Reports.{AllAnswered, told_of}
 use Rattle.engine_laws.specs.WorkerMoves.{Placed, request_placed, Hands, Fixed, asked, replied, fixed_of, requests_for, line_in, HasDoubt}
 use Rattle.engine_laws.specs.Engine as engines
 use Rattle.engine_laws.specs.Engine.{Engine, group_for, line}
@@ -73,10 +75,13 @@ use Rattle.thread_engine.proofs.KeptAnswers.{Lacks, Apart, given_for, fixed_for,
 use Rattle.thread_engine.specs.Pieces.{IsPieceOf, HasPart}
 use Rattle.thread_engine.specs.WorkStates.{WorkState, IsAtWork, Works, HasEnded}
 use Rattle.thread_engine.specs.WorkLaws.{KeepsDoubts, WorksOff, HasRested, hands_at}
-use Rattle.thread_engine.specs.CoreRuns.{requests_to, fixed_in, HasView, CoreRun, AllRan}
+use Rattle.thread_engine.specs.CoreRuns.{requests_to, fixed_in, HasView, LoadsLook, CoreRun, AllRan}
+use Rattle.thread_engine.specs.Cuts.{steps_of, IsShown, Cut, finished_at, MayLeaveAt, HoldsInside}
 use Rattle.thread_engine.proofs.Doubts.{none_some, one_of, clash}
 use Rattle.thread_engine.proofs.PieceStands.{joined_licence}
 use Rattle.thread_engine.proofs.Rested.{has_rested}
+use Rattle.thread_engine.proofs.SameViews.{key_shown, shown_licence}
+use Rattle.thread_engine.proofs.SpotOrder.{spot_there, spot_last, spots_grow}
 use Rattle.thread_engine.proofs.Stops.{chain_frame, ended_because}
 use Rattle.thread_engine.proofs.ByNumber.{in_enumerated, requests_are, with_number, found_there, found_nowhere, found_in, served_at, served_asked, served_pairs, served_all}
 
@@ -142,6 +147,8 @@ pub record IsEnd (o : Origin) (r : Recovered) (refused : Bool) (t : State) (grou
   pub piece : IsPieceOf x.seat.place x.seat.number o.region x.first.region
   pub queue : x.first.queue ≡ requests_to (layout_of o.found) c given
   pub at_work : IsAtWork x.seat x.first
+  pub idle : x.first.trail.steps ≡ []
+  pub loads : LoadsLook x.first.view x.last.trail.steps
   pub work : IsAtWork x.seat x.last
   pub ended : HasEnded x.last
   pub joined : TakesPiece t x.last.region
@@ -166,6 +173,11 @@ RefusalLaw = (o : Origin) (r : Recovered) (refused : Bool) (e : Engine) → IsOr
 abbrev pub MomentLaw : Type 0
 MomentLaw = (o : Origin) (e : Engine) → StandsNow o e → Causes o e → (HasStopped e → Rose o.region.faults e.region.faults) → Promised o e
 
+-- what a crash leaves at a cut
+abbrev pub CutLaw : Type 0
+CutLaw = (o : Origin) (r : Recovered) (refused : Bool) (e : Engine) → IsOrigin o → StandsNow o e → (ran : AllRan o r refused e) → (order : ℕ → List (ℕ × TrailStep))
+    → (cut : Cut o r refused e ran.cores order) → (image : ℕ → ℕ) → MayLeaveAt cut image → Recovers o.region.frame.bytes (start_of o) e.given (told_of e) (finished_at cut) image
+
 -- what the end says of the workers
 faulted : (a b : Bool) → end_by a b ≡ closings.RegionFault → b ≡ true
 faulted true b e = absurd (cc e)
@@ -176,19 +188,6 @@ completed : (a b : Bool) → end_by a b ≡ closings.Complete → b ≡ false
 completed true b e = absurd (cc e)
 completed false true e = absurd (cc e)
 completed false false e = refl
-
--- an own key by its owner's view, and in the state of the group
-by_blocks : (w : Group) (m : ℕ) (v : View) → w.blocks m ≡ v.blocks → (body : Body) → left_in v.blocks body ≡ left_by w m body
-by_blocks w m v same (bodies.Pointer q) = ap (λ f. left_in f (bodies.Pointer q)) (sym same)
-by_blocks w m v same (bodies.Embedded u) = refl
-by_blocks w m v same bodies.Tombstone = refl
-
-key_shown : (w : Group) (m k : ℕ) (v : View) → HasView w m v → places.owner w.place k ≡ m → key_view v k ≡ key_in w k
-key_shown w m k v H own i = record {
-  cell = sym (H.cell k own) i;
-  pending = sym (H.pending k own) i;
-  left = λ body. (by_blocks w m v H.blocks body ∙ ap (λ h. left_by w h body) (sym own)) i;
-}
 
 -- the front of rising numbers, and no numbers
 up_front : (xs ys : List (ℕ × Request)) → IsUp (xs ++ ys) → IsUp xs
@@ -388,9 +387,11 @@ module _ (chain : ChainLaw) (keys_open : OpeningKeys) (doubts_open : OpeningDoub
     piece = Y.piece;
     queue = Y.queue;
     at_work = Y.at_work;
+    idle = Y.idle;
     last = y.last;
     works = y.works;
     ended = Y.ended;
+    loads = Y.loads;
     shown = Y.shown;
     places = λ k own. ap (λ (d : ℕ). (hands_in (ends d)).place k) own ∙ ap (λ d. (hands_in d).place k) (at c low);
     waits = λ k own. ap (λ (d : ℕ). (hands_in (ends d)).waits k) own ∙ ap (λ d. (hands_in d).waits k) (at c low);
@@ -436,20 +437,6 @@ module _ (chain : ChainLaw) (keys_open : OpeningKeys) (doubts_open : OpeningDoub
       record {
         low = ap (λ (f : Frame). f.first) frame ∙ P.piece.between.first ∙ P.low;
         high = ap (λ (f : Frame). f.first + f.words) frame ∙ P.piece.between.end ∙ P.high;
-      }
-
-  -- what the last view licenses, the state's view does
-  shown_licence : (w : Group) (p : places.Place) (m : ℕ) (v : View) (cells : ℕ → Cell) → HasView w m v → Licensed p m v cells → Licensed p m (view_of w m) cells
-  shown_licence w p m v cells H L image may =
-      let is = L image may in record {
-        well = is.well;
-        has = λ d i live. is.has d (subst (In d) H.kept i) (ap (λ (f : ℕ → ℕ → Bool). f d.key d.version) (sym H.doomed) ∙ live);
-        only = λ d i. elim (is.only d i) [ inl k ↦ inl (subst (In d) (sym H.kept) k) | inr f ↦ inr (subst (In d) (sym H.flying) f) ];
-        whole = elim is.whole [
-          | inl yes_ ↦ inl (λ d i. yes_ d (subst (In d) H.flying i))
-          | inr no_ ↦ inr (λ d i there. subst (In d) (sym H.kept) (no_ d (subst (In d) H.flying i) there))
-        ];
-        blocks = λ q b has. is.blocks q b (ap (λ (f : ℕ → Option Block). f q) (sym H.blocks) ∙ has);
       }
 
   pub licensed : IsTelling t → AllLicensed l group (cell_now t)
@@ -685,7 +672,9 @@ module _ (chain : ChainLaw) (keys_open : OpeningKeys) (doubts_open : OpeningDoub
     module _ (s : State) (word : ℕ → ℕ) (lines : List Line) (given_are : given ≡ asked_in lines) (out : Outcome) (begins : BeginsAt s word o) (rejoined : Rejoined s t) (reached : (g : ℕ) → g < groups_in l → (steps : List (ℕ × Kind)) × Runs (opened (place_at l g) o.found) steps (group g))
         (superblock : IsTelling t → HasSuperblock o.found (cell_now t)) (first_faults : (c : ℕ) (low : c < l.cores) → (x c low).first.region.faults ≡ o.region.faults)
         (next : IsTelling s → ((c : ℕ) (low : c < l.cores) → TellsFrom s (x c low).last.region) → (latest : ℕ) → s.stamp ≤ latest → ((c : ℕ) (low : c < l.cores) → (x c low).last.region.stamp ≤ latest) → t.stamp ≤ counted latest)
-        (report : IsReport kept (report_in out)) (end : out.end ≡ end_by (any_short workers) (any_stopped workers)) (refusal : RefusalLaw) (moment : MomentLaw) where
+        (report : IsReport kept (report_in out)) (end : out.end ≡ end_by (any_short workers) (any_stopped workers)) (refusal : RefusalLaw) (moment : MomentLaw) (at_cut : CutLaw) (order : ℕ → List (ℕ × TrailStep))
+        (made : (c : ℕ) (low : c < l.cores) → steps_of (order (group_of l c)) (member_of l c) ≡ (x c low).last.trail.steps)
+        (order_shown : (g : ℕ) → g < groups_in l → (late early : List (ℕ × TrailStep)) → order g ≡ late ++ early → (w : Group) × IsShown (place_at l g) o.found early w) where
       promised : Promised o e
       promised = moment o e (last_stands rejoined.since superblock) (refusal o r refused e is (all_ran reached)) (stop_cause first_faults)
 
@@ -718,6 +707,15 @@ module _ (chain : ChainLaw) (keys_open : OpeningKeys) (doubts_open : OpeningDoub
         given = given_are;
         ran = all_ran reached;
         next = next;
+        inside = record {
+          order = order;
+          made = made;
+          shown = order_shown;
+          spots = λ c low tells late done all. spot_there (x c low).seat refused (x c low).first (x c low).works.path (x c low).last (x c low).works.leads tells late done done all (sym (append-nil done) ∙ ap (λ ks. done ++ ks) (sym (X c low).idle));
+          ends = λ c low tells. spot_last (x c low).seat refused (x c low).first (x c low).works.path (x c low).last (x c low).works.leads tells;
+          grows = λ c low y z at_y at_z k more later. spots_grow (x c low).seat refused y z (x c low).first (x c low).works.path (x c low).last (x c low).works.leads at_y at_z k more later;
+          crash = λ cut image may. at_cut o r refused e is (last_stands rejoined.since superblock) (all_ran reached) order cut image may;
+        };
         licensed = licensed;
         superblock = superblock;
         kept = kept;

@@ -12,6 +12,11 @@ mod Reckoning
 mod RunCauses
 mod Stops
 mod ByNumber
+mod SameViews
+mod SpotOrder
+mod Spots
+mod CutKeys
+mod CutOrders
 mod LastState
 mod KeptAnswers
 mod Places

@@ -22,6 +22,7 @@ none_manned image = record {
   opened_on = λ g t at. absurd (cc at);
   seats = λ g m t x at low here. absurd (cc at);
   views = λ g m t x at low here. absurd (cc at);
+  idle = λ g m t x at low here. absurd (cc at);
 }
 
 module _ (image : ℕ → ℕ) (ts : List GroupTable) (old new : List SeatToken) (t : GroupTable) (A : AreManned image ts old) (M : IsManned t old new) (size : t.members ≡ (layout_of image).group) (opens : began (origin_of t) ≡ opened (place_at (layout_of image) (length ts)) image) where
@@ -64,5 +65,9 @@ module _ (image : ℕ → ℕ) (ts : List GroupTable) (old new : List SeatToken)
     views = λ g m u x at low here. elim (get_more ts t u g at) [
       | inl h ↦ A.views g m u x h low (earlier g m u x h low here)
       | inr h ↦ M.fresh m x (as_elem M.own m x (own g m x h.0 here)) ∙ ap (λ (w : Group). view_of w m) (opens ∙ ap (λ i. opened (place_at (layout_of image) i) image) (sym h.0))
+    ];
+    idle = λ g m u x at low here. elim (get_more ts t u g at) [
+      | inl h ↦ A.idle g m u x h low (earlier g m u x h low here)
+      | inr h ↦ M.idle m x (as_elem M.own m x (own g m x h.0 here))
     ];
   }

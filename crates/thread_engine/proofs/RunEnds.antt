@@ -27,7 +27,7 @@ use Rattle.atomic_board.specs.declared.token.SeatToken.{SeatToken}
 use Rattle.atomic_board.specs.Deeds.{began, place_of, steps_in}
 use Rattle.atomic_board.specs.GroupTables.{origin_of, id_of}
 use Rattle.atomic_board.specs.ShownState.{state_shown, views_of}
-use Rattle.atomic_board.specs.MemberSeats.{seat_of, view_at}
+use Rattle.atomic_board.specs.MemberSeats.{seat_of, view_at, trail_at}
 use Rattle.atomic_board.specs.Tokens.{member_at}
 use Rattle.engine_laws.specs.Parts.{group_of, member_of}
 use Rattle.engine_laws.specs.Origins.{Origin}
@@ -45,12 +45,13 @@ use Rattle.group_engine.specs.Working.{IsMember, may_take, leads}
 use Rattle.thread_engine.specs.declared.muster.Crew.{Crew}
 use Rattle.thread_engine.specs.WorkStates.{IsAtWork}
 use Rattle.thread_engine.specs.Pieces.{IsPieceOf}
-use Rattle.thread_engine.specs.CoreRuns.{HasView, requests_to}
+use Rattle.thread_engine.specs.CoreRuns.{HasView, LoadsLook, requests_to}
 use Rattle.thread_engine.specs.Manned.{AreManned, AllEnded}
 use Rattle.thread_engine.specs.Returns.{core_stands, Went}
 use Rattle.thread_engine.specs.Supplied.{ArePartCuts}
 use Rattle.thread_engine.proofs.PieceStands.{piece_member}
 use Rattle.thread_engine.proofs.Places.{get_at, get_front, get_behind, as_elem}
+use Rattle.thread_engine.proofs.CutOrders.{idle_trail}
 use Rattle.thread_engine.proofs.LastState.{CoreEnd, IsEnd}
 
 -- the groups' states as the closed tables show them, and another one behind them
@@ -120,16 +121,16 @@ module _ {P : Type 0} (state : P → State) (refused : Bool) (o : Origin) (r : R
   -- Core c at the beginning.
   module _ (c : ℕ) (low : c < l.cores) (p : P) (t : SeatToken) (w : Worker) (q : VecDeque (ℕ × Request) Global)
       (p_at : slice_get pieces c ≡ Some p) (t_at : slice_get crew.tokens.items c ≡ Some t) (w_at : slice_get crew.workers.items c ≡ Some w) (q_at : slice_get crew.queues.items c ≡ Some q) where
-    table : (x : GroupTable) × (slice_get tables (group_of l c) ≡ Some x)
+    pub table : (x : GroupTable) × (slice_get tables (group_of l c) ≡ Some x)
     table = get_at tables (group_of l c) (let there = group_low l is_layout c low in let many = table_count in omega (arith, there, many))
 
-    t_there : slice_get crew.tokens.items (group_of l c * l.group + member_of l c) ≡ Some t
+    pub t_there : slice_get crew.tokens.items (group_of l c * l.group + member_of l c) ≡ Some t
     t_there = ap (slice_get crew.tokens.items) (div-add-mod' c l.group) ∙ t_at
 
     seat_is : seat_of t.own ≡ member_at (id_of table.0) (place_at l (group_of l c)) (member_of l c)
     seat_is = manned.seats (group_of l c) (member_of l c) table.0 t table.1 (member_low l is_layout c) t_there
 
-    view_is : view_at t.own ≡ view_of (opened (place_at l (group_of l c)) o.found) (member_of l c)
+    pub view_is : view_at t.own ≡ view_of (opened (place_at l (group_of l c)) o.found) (member_of l c)
     view_is = manned.views (group_of l c) (member_of l c) table.0 t table.1 (member_low l is_layout c) t_there
 
     pub place_is : (seat_of t.own).place ≡ place_at l (group_of l c)
@@ -169,7 +170,8 @@ module _ {P : Type 0} (state : P → State) (refused : Bool) (o : Origin) (r : R
     first_works = record { member = piece_member o.region (state p) (seat_of t.own).place (seat_of t.own).number (view_at t.own) w member piece_is; own = own }
 
     -- and at the end
-    module _ (s : State) (group : ℕ → Group) (b : P) (u : SeatToken) (y : Worker) (G : Went state refused p t w q.items b u y) (joined : TakesPiece s (state b)) (shown : HasView (group (group_of l c)) (member_of l c) (view_at u.own)) where
+    module _ (s : State) (group : ℕ → Group) (b : P) (u : SeatToken) (y : Worker) (G : Went state refused p t w q.items b u y) (joined : TakesPiece s (state b)) (shown : HasView (group (group_of l c)) (member_of l c) (view_at u.own))
+        (loads : LoadsLook (view_of (opened (place_at l (group_of l c)) o.found) (member_of l c)) (trail_at u.own)) where
       abbrev pub core_end : (x : CoreEnd refused) × IsEnd o r refused s group given c x
       core_end = (
         record { seat = seat_of t.own; first = core_stands state p t w q.items; last = core_stands state b u y G.left; works = G.works },
@@ -184,6 +186,8 @@ module _ {P : Type 0} (state : P → State) (refused : Bool) (o : Origin) (r : R
           piece = piece_is;
           queue = queues c q q_at;
           at_work = first_works;
+          idle = idle_trail t.own.seat.me.0 (manned.idle (group_of l c) (member_of l c) table.0 t table.1 (member_low l is_layout c) t_there);
+          loads = subst (λ (v : View). LoadsLook v (trail_at u.own)) (sym view_is) loads;
           work = G.work;
           ended = G.ended;
           joined = joined;

@@ -21,8 +21,10 @@ use Rattle.group_board.specs.Seats.{SeatAt}
 use Rattle.group_board.specs.Views.{left_in}
 use Rattle.licence.specs.Licence.{part_at, part_end}
 use Rattle.engine_laws.specs.WorkerMoves.{Placed, Fixed, asked, replied, fixed_of, requests_for, line_in, WorkerMoves}
+use Rattle.engine_laws.specs.Keys.{changes_on, posted_in}
 use Rattle.engine_laws.specs.KeyLaw as law
 use Rattle.engine_laws.specs.KeyLaw.{KeyView, KeyIs, key_view}
+use Rattle.engine_laws.proofs.Clients.{key_grows}
 use Rattle.batch_leader.specs.TurnSteps.{Trail}
 use Rattle.core_worker.specs.declared.types.Answer.{Answer}
 use Rattle.core_worker.specs.declared.worker.Worker.{Worker}
@@ -60,6 +62,10 @@ KeyGoes = (start : Option (List ℕ)) (v u : KeyView) (place place' : Option Pla
     → KeyIs start v place stopped xs → law.Does v u place place' stopped stopped' fixed → law.Holds u place' stopped' → KeyIs start u place' stopped' (xs ++ map replied fixed)
 
 module _ (key_goes : KeyGoes) (seat : SeatAt) where
+  -- where nothing was answered, and the place is as it was
+  unmoved : (start : Option (List ℕ)) (xs : List (Request × Reply)) (place : Option Placed) → (more : List Request) × (changes_on start ((xs ++ []) ++ posted_in place) ≡ changes_on start (xs ++ posted_in place) ++ more)
+  unmoved start xs place = ([], ap (λ l. changes_on start (l ++ posted_in place)) (append-nil xs) ∙ sym (append-nil (changes_on start (xs ++ posted_in place))))
+
   -- it was worked off so, these answers were fixed, and each own change in doubt has its block
   abbrev Off : WorkState → WorkState → List Fixed → Type 0
   Off a b fixed = (x : WorksOff seat a b) × (x.fixed ≡ fixed) × KeepsDoubts seat b.view
@@ -73,6 +79,7 @@ module _ (key_goes : KeyGoes) (seat : SeatAt) where
     own = λ y i. absurd i;
     order = λ k own. append-nil (line_in (hands_at a) k);
     keys = λ start k xs own S. subst (KeyIs start (key_view a.view k) ((hands_at a).place k) a.worker.stopped) (sym (append-nil xs)) S;
+    grows = λ start k xs own S. unmoved start xs ((hands_at a).place k);
     told = λ t. t;
   }
 
@@ -85,6 +92,12 @@ module _ (key_goes : KeyGoes) (seat : SeatAt) where
     own = λ y i. elim (in_either y A.fixed B.fixed i) [ inl l ↦ A.own y l | inr r ↦ B.own y r ];
     order = λ k own. order k own;
     keys = λ start k xs own S. subst (KeyIs start (key_view c.view k) ((hands_at c).place k) c.worker.stopped) (path k xs) (B.keys start k (xs ++ map replied (fixed_of k A.fixed)) own (A.keys start k xs own S));
+    grows = λ start k xs own S.
+        let one = A.grows start k xs own S in
+        let two = B.grows start k (xs ++ map replied (fixed_of k A.fixed)) own (A.keys start k xs own S) in (
+          one.0 ++ two.0,
+          ap (λ l. changes_on start (l ++ posted_in ((hands_at c).place k))) (sym (path k xs)) ∙ two.1 ∙ ap (λ l. l ++ two.0) one.1 ∙ append_assoc (changes_on start (xs ++ posted_in ((hands_at a).place k))) one.0 two.0,
+        );
     told = λ t. A.told (B.told t);
   } where
     fixed_is : (k : ℕ) → fixed_of k (A.fixed ++ B.fixed) ≡ fixed_of k A.fixed ++ fixed_of k B.fixed
@@ -131,6 +144,8 @@ module _ (key_goes : KeyGoes) (seat : SeatAt) where
       own = M.own;
       order = λ k own. (M.keys k own).order;
       keys = λ start k xs own S. key_goes start (key_view v k) (key_view u k) ((hands_of v w).place k) ((hands_of u x).place k) w.stopped x.stopped xs (fixed_of k fixed) S (does k own)
+          (let H = M.holds k own in record { posted = H.posted; pending = H.pending });
+      grows = λ start k xs own S. key_grows start (key_view v k) (key_view u k) ((hands_of v w).place k) ((hands_of u x).place k) w.stopped x.stopped xs (fixed_of k fixed) S (does k own)
           (let H = M.holds k own in record { posted = H.posted; pending = H.pending });
       told = told_at_entry s t (KeepsOutside (cell_now s) (part_at seat.place seat.number) (part_end seat.place seat.number)) M.outside;
     }
@@ -191,6 +206,7 @@ module _ (key_goes : KeyGoes) (seat : SeatAt) where
     own = λ y i. absurd i;
     order = λ k own. append-nil (line_in (hands_at a) k);
     keys = λ start k xs own S. subst (KeyIs start (key_view a.view k) ((hands_at a).place k) a.worker.stopped) (sym (append-nil xs)) S;
+    grows = λ start k xs own S. unmoved start xs ((hands_at a).place k);
     told = λ t. t;
   }
 

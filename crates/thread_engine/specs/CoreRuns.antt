@@ -1,5 +1,5 @@
 -- A run on threads, core by core: each core's chain of moves, and the state in which all of them end.
-use Rattle.std.specs.Prelude.{◌≡◌, ℕ, ◌<◌, ◌==◌, List, [], ◌∷◌, ◌++◌, filter, Bool, Some}
+use Rattle.std.specs.Prelude.{◌≡◌, ℕ, ◌<◌, ◌==◌, List, [], ◌∷◌, ◌++◌, filter, Bool, true, Some}
 use Rattle.std.specs.List.{slice_get, enumerate_from}
 use Rattle.fs_model.specs.declared.model.Request.{Request}
 use Rattle.fs_model.specs.Cells.{key_of}
@@ -16,6 +16,8 @@ use Rattle.group_laws.specs.MemberViews.{View}
 use Rattle.group_laws.specs.OpeningImages.{opened}
 use Rattle.group_laws.specs.Runs.{Kind, Runs}
 use Rattle.group_board.specs.Seats.{SeatAt}
+use Rattle.group_board.specs.Trails.{TrailStep}
+use Rattle.batch_leader.specs.TurnSteps.{is_load}
 use Rattle.engine_laws.specs.Parts.{Groups, group_of, member_of}
 use Rattle.engine_laws.specs.WorkerMoves.{Fixed}
 use Rattle.engine_laws.specs.Engine.{Engine, Answer}
@@ -64,6 +66,18 @@ pub record HasView (w : Group) (m : ℕ) (v : View) : Type 0 where
   pub cell : (k : ℕ) → places.owner w.place k ≡ m → w.cell k ≡ v.cell k
   pub pending : (k : ℕ) → places.owner w.place k ≡ m → w.pending k ≡ v.pending k
 
+-- what a member has after its steps: the view after the newest, or that with which it began
+abbrev pub view_after : View → List TrailStep → View
+view_after v [] = v
+view_after v (x ∷ xs) = x.view
+
+-- a load changes nothing of the view but what was looked at
+abbrev pub LoadsLook : View → List TrailStep → Type 0
+LoadsLook v [] = Unit {0}
+LoadsLook v (x ∷ xs) = (is_load x.kind ≡ true
+    → x.view ≡ record (view_after v xs) { looked = x.view.looked })
+    × LoadsLook v xs
+
 -- Core c's run: its worker is the one that opens on what recovery gave for it, in the core's piece of the region, with all requests of its keys before it; a chain of the worker's moves leads to its end; and the run's last state has what the core has then.
 pub record CoreRun (o : Origin) (r : Recovered) (refused : Bool) (e : Engine) (c : ℕ) : Type 0 where
   pub seat : SeatAt
@@ -79,10 +93,12 @@ pub record CoreRun (o : Origin) (r : Recovered) (refused : Bool) (e : Engine) (c
   pub piece : IsPieceOf seat.place seat.number o.region first.region
   pub queue : first.queue ≡ requests_to e.layout c e.given
   pub at_work : IsAtWork seat first
+  pub idle : first.trail.steps ≡ []
   -- the chain
   pub last : WorkState
   pub works : Works seat refused first last
   pub ended : HasEnded last
+  pub loads : LoadsLook first.view last.trail.steps
   -- the last state
   pub shown : HasView (e.group (group_of e.layout c)) (member_of e.layout c) last.view
   pub places : (k : ℕ) → owner e.layout k ≡ c → e.place k ≡ (hands_at last).place k

@@ -11,8 +11,8 @@ use Rattle.atomic_board.specs.declared.group_table.GroupTable.{GroupTable}
 use Rattle.atomic_board.specs.declared.token.SeatToken.{SeatToken}
 use Rattle.atomic_board.specs.Deeds.{began}
 use Rattle.atomic_board.specs.GroupTables.{id_of, origin_of, group_place}
-use Rattle.atomic_board.specs.MemberSeats.{seat_of, view_at}
-use Rattle.atomic_board.specs.Tokens.{AreTokens, AreFresh, member_at, Ended}
+use Rattle.atomic_board.specs.MemberSeats.{seat_of, view_at, done_at}
+use Rattle.atomic_board.specs.Tokens.{AreTokens, AreFresh, AreIdle, member_at, Ended}
 
 -- A token for each member of the table stands behind those that there were.
 pub record IsManned (t : GroupTable) (old new : List SeatToken) : Type 0 where
@@ -21,8 +21,9 @@ pub record IsManned (t : GroupTable) (old new : List SeatToken) : Type 0 where
   pub count : length own ≡ t.members
   pub tokens : AreTokens (id_of t) (group_place t) own
   pub fresh : AreFresh (origin_of t) own
+  pub idle : AreIdle own
 
--- Each table is of its group, as it opens on this image; the tokens are those of its members, with the views that they have then.
+-- Each table is of its group, as it opens on this image; the tokens are those of its members, with the views that they have then, and no step made.
 pub record AreManned (image : ℕ → ℕ) (ts : List GroupTable) (tokens : List SeatToken) : Type 0 where
   pub count : length tokens ≡ length ts * (layout_of image).group
   pub sizes : (g : ℕ) (t : GroupTable) → slice_get ts g ≡ Some t
@@ -35,6 +36,9 @@ pub record AreManned (image : ℕ → ℕ) (ts : List GroupTable) (tokens : List
   pub views : (g m : ℕ) (t : GroupTable) (x : SeatToken) → slice_get ts g ≡ Some t
       → m < (layout_of image).group → slice_get tokens (g * (layout_of image).group + m) ≡ Some x
       → view_at x.own ≡ view_of (opened (place_at (layout_of image) g) image) m
+  pub idle : (g m : ℕ) (t : GroupTable) (x : SeatToken) → slice_get ts g ≡ Some t
+      → m < (layout_of image).group → slice_get tokens (g * (layout_of image).group + m) ≡ Some x
+      → done_at x.own ≡ []
 
 -- the tokens of each table, one table's after another's
 abbrev pub AreTokensOf : ℕ → List GroupTable → List SeatToken → Type 0

@@ -20,6 +20,7 @@ use Rattle.group_engine.specs.Answers.{kept_at}
 use Rattle.group_engine.specs.Replayed.{BeginsAt, report_in}
 use Rattle.group_engine.specs.Reports.{IsReport, ReportsOn}
 use Rattle.thread_engine.specs.CoreRuns.{CoreRun, AllRan}
+use Rattle.thread_engine.specs.Cuts.{HoldsInside}
 
 -- A region was split and joined, and between that only its pieces were used.
 pub record Rejoined (old new : State) : Type 0 where
@@ -67,6 +68,8 @@ pub record RanApart (s : State) (word : ℕ → ℕ) (refused : Bool) (r : Recov
       → TellsFrom s (ran.cores c low).last.region)
       → (latest : ℕ) → s.stamp ≤ latest → ((c : ℕ) (low : c < last.layout.cores)
       → (ran.cores c low).last.region.stamp ≤ latest) → t.stamp ≤ counted latest
+  -- inside the run, at each cut, a crash recovers what was finished before it
+  pub inside : HoldsInside origin r refused last ran.cores
   -- each image of a part is licensed by its core's view
   pub licensed : IsTelling t → AllLicensed last.layout last.group (cell_now t)
   pub superblock : IsTelling t → HasSuperblock origin.found (cell_now t)

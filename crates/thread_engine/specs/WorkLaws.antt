@@ -14,6 +14,7 @@ use Rattle.group_laws.specs.MemberViews.{View}
 use Rattle.group_board.specs.Seats.{SeatAt}
 use Rattle.engine_laws.specs.WorkerMoves.{Hands, Fixed, asked, replied, fixed_of, requests_for, line_in}
 use Rattle.licence.specs.Licence.{Licensed}
+use Rattle.engine_laws.specs.Keys.{changes_on, posted_in}
 use Rattle.engine_laws.specs.KeyLaw.{KeyIs, key_view}
 use Rattle.core_worker.specs.Answering.{AddsAnswers}
 use Rattle.core_worker.specs.Beginning.{answers_of}
@@ -55,6 +56,13 @@ pub record WorksOff (seat : SeatAt) (a b : WorkState) : Type 0 where
       → KeyIs start (key_view a.view k) ((hands_at a).place k) a.worker.stopped xs
       → KeyIs start (key_view b.view k) ((hands_at b).place k) b.worker.stopped
       (xs ++ map replied (fixed_of k fixed))
+  -- what was known of an own key's changes is a front of them
+  pub grows : (start : Option (List ℕ)) (k : ℕ) (xs : List (Request × Reply))
+      → owner seat.place k ≡ seat.number
+      → KeyIs start (key_view a.view k) ((hands_at a).place k) a.worker.stopped xs
+      → (more : List Request)
+      × (changes_on start ((xs ++ map replied (fixed_of k fixed)) ++ posted_in ((hands_at b).place k))
+      ≡ changes_on start (xs ++ posted_in ((hands_at a).place k)) ++ more)
   pub told : IsTelling b.region → IsTelling a.region
 
 -- A core that has ended leads nothing and has taken nothing, and nothing is in flight but after a fault. Each image of its part is licensed by its view. Until it winds down nothing of an own key is under way.

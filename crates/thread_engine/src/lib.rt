@@ -5,6 +5,7 @@ pub mod closing;
 pub mod collecting;
 pub mod core_job;
 pub mod crew;
+pub mod cut_rules;
 pub mod deal;
 pub mod group_tables;
 pub mod muster;

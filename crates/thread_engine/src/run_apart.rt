@@ -13,7 +13,7 @@ use crate::collecting::outcome_of;
 use crate::deal::deal;
 use crate::group_tables::open_tables;
 use crate::muster::{Crew, Returned, work_apart};
-use crate::{opening_rules, refusal_rules, work_rules};
+use crate::{cut_rules, opening_rules, refusal_rules, work_rules};
 use atomic_board::{GroupTable, SeatToken};
 use chunk_map::{Geometry, Layout};
 use core_worker::Gate;
@@ -120,6 +120,7 @@ fn run_supplied<T: Threads + Wait + Sync, R: SplitRegion + ReadRegion, G: Gate +
     work_rules::every_chain();
     refusal_rules::every_refusal();
     engine_rules::every_moment();
+    cut_rules::every_cut();
     let Supplies {
         layout,
         tables,

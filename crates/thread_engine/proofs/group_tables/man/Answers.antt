@@ -26,4 +26,5 @@ returns-clause-manned c =
       count = c.in_ok-seats.ensures.count ∙ sym (ap (λ (t : GroupTable). t.members) same);
       tokens = subst (λ (t : GroupTable). AreTokens (id_of t) (group_place t) c.in_ok-seats.seats.items) (sym same) c.in_ok-seats.ensures.tokens;
       fresh = subst (λ (t : GroupTable). AreFresh (origin_of t) c.in_ok-seats.seats.items) (sym same) c.in_ok-seats.ensures.fresh;
+      idle = c.in_ok-seats.ensures.idle;
     }

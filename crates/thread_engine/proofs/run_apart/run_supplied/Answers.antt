@@ -120,7 +120,7 @@ returns-clause-ran g c = λ o r lines F B S.
     let t = g.R.Region.state c.join.new.self in
     let parted = subst (λ (cs : List ℕ). Parted s mid cs) c.deref.ensures.value c.in-Ok-split.ensures.ok in
     run_ran state refused s word o r lines x F B S ps count piece c.work_apart-back.result c.work_apart-back.ensures c.close_tables.ensures t c.join.ensures.pieces c.every_chain.ensures c.every_opening.ensures.keys c.every_opening.ensures.doubts
-    mid parted c.join.ensures.whole c.join.ensures.next c.requires.whole c.in-Ok-split.ensures.opens (c.in-Ok-split.ensures.cause.else_same (λ is. cc is)) c.join.ensures.opens c.every_refusal.ensures c.every_moment.ensures
+    mid parted c.join.ensures.whole c.join.ensures.next c.requires.whole c.in-Ok-split.ensures.opens (c.in-Ok-split.ensures.cause.else_same (λ is. cc is)) c.join.ensures.opens c.every_refusal.ensures c.every_moment.ensures c.every_cut.ensures
     c.outcome_of.result (subst (λ n. IsReport (stored_all c.work_apart-back.result.workers.items n x.answers.items) (report_in c.outcome_of.result)) c.stamp-stamp.ensures c.outcome_of.ensures.report) c.outcome_of.ensures.end
 
 pub returns-clause-cause : goal.returns-clause-cause
