@@ -73,9 +73,9 @@ order_held p m v w u q B room hand few more H O =
     omega (arith, places, eight, none, few, more, room)) O
 
 -- it is begun
-pub order_begun_now : (p : Place) (m : ℕ) (v : View) (w u b : Worker) (k : ℕ) → IsAsBefore w u → HasAnswerRoom 73 u → w.in_hand ≡ None → length u.queue < 64 → OnlyBegins u b → KeepsLine u b k → ((n : ℕ) → HasAnswerRoom (n + 1) u → HasAnswerRoom n b) → Holds p m v w → Holds p m v b → InOrder p m v w → InOrder p m v b
-order_begun_now p m v w u b k B room hand few only line less H N O =
-    order_accepted p m v w b H (λ j. ap (λ (y : Worker). known_at y.index j) only ∙ B.records j) (ap (λ (y : Worker). y.leading) only ∙ ap (λ (y : Worker). y.leading) B.rest) (ap (λ (y : Worker). y.stopped) only ∙ ap (λ (y : Worker). y.stopped) B.rest) (ap (λ (y : Worker). y.in_hand) only ∙ ap (λ (y : Worker). y.in_hand) B.rest) (ap (λ (y : Worker). y.winds_down) only ∙ ap (λ (y : Worker). y.winds_down) B.rest)
+pub order_begun_now : (p : Place) (m : ℕ) (v : View) (w u b : Worker) (k : ℕ) → IsAsBefore w u → HasAnswerRoom 73 u → w.in_hand ≡ None → length u.queue < 64 → OnlyBegins u b → ((j : ℕ) → known_at b.index j ≡ known_at u.index j) → KeepsLine u b k → ((n : ℕ) → HasAnswerRoom (n + 1) u → HasAnswerRoom n b) → Holds p m v w → Holds p m v b → InOrder p m v w → InOrder p m v b
+order_begun_now p m v w u b k B room hand few only known line less H N O =
+    order_accepted p m v w b H (λ j. known j ∙ B.records j) (ap (λ (y : Worker). y.leading) only ∙ ap (λ (y : Worker). y.leading) B.rest) (ap (λ (y : Worker). y.stopped) only ∙ ap (λ (y : Worker). y.stopped) B.rest) (ap (λ (y : Worker). y.in_hand) only ∙ ap (λ (y : Worker). y.in_hand) B.rest) (ap (λ (y : Worker). y.winds_down) only ∙ ap (λ (y : Worker). y.winds_down) B.rest)
     (subst (SameNames w.standing) (sym (ap (λ (y : Worker). y.standing) only)) B.names)
     (λ s j busy. ap (λ (y : Worker). is_busy y.places.items j) (sym B.rest) ∙ ap (λ ps. is_busy ps.items j) (sym (line.halts (ap (λ (y : Worker). y.stopped) B.rest ∙ s))) ∙ busy)
     (let places : count_changes b.places.items ≤ length b.places.items = count_few b.places.items in

@@ -14,7 +14,7 @@ use Rattle.core_worker.specs.declared.worker.Worker.{Worker}
 use Rattle.pm_region.specs.State.{State}
 use Rattle.conflict_queue.specs.declared.types.Held.{Held}
 use Rattle.conflict_queue.specs.Waiting.{waiting}
-use Rattle.core_index.specs.Index.{room_at}
+use Rattle.core_index.specs.Index.{all_untold, room_at, LessRoom}
 use Rattle.core_index.specs.Records.{is_forgettable}
 use Rattle.core_worker.specs.OwnPlaces.{place_at, is_busy, key_in}
 use Rattle.core_worker.specs.KeyTies.{KnowsKey}
@@ -24,7 +24,7 @@ use Rattle.std.proofs.lemmas.Bool.{cases_eq}
 use Rattle.conflict_queue.specs.Waiting.{AddsLast}
 use Rattle.core_worker.specs.StandingTies.{SameNames}
 use Rattle.core_worker.proofs.NamesStood.{names_same}
-use Rattle.core_worker.specs.Accepting.{IsAsBefore, Prepared, HoldsOrBegins}
+use Rattle.core_worker.specs.Accepting.{IsAsBefore, Prepared, Accepts, wants_room, HoldsOrBegins}
 use Rattle.group_laws.specs.Places.{Place}
 use Rattle.group_laws.specs.MemberViews.{View}
 use Rattle.core_worker.specs.declared.types.Leading.{Leading}
@@ -33,7 +33,7 @@ use Rattle.core_worker.specs.Ties.{Holds, Stands, HasSpaceFor}
 use Rattle.core_worker.specs.Supplies.{supply_of, why}
 use Rattle.core_worker.specs.Refusals.{reply_to}
 use Rattle.core_worker.specs.Answering.{IsSaid}
-use Rattle.core_worker.specs.Beginning.{answer_with, IsAnswered, IsStaged, BeginsBy, BeginsAs, GoesOn, OnlyBegins, Begins, HoldsAside}
+use Rattle.core_worker.specs.Beginning.{answer_with, IsAnswered, IsStaged, BeginsBy, BeginsAs, GoesOn, OnlyAnswers, OnlyStages, OnlyBegins, Begins, UsesRoom, HoldsAside}
 
 pub begins_stopped : (Known : Type 0) (w u : Worker) (cell : Option (List ℕ)) (n : ℕ) (r : Request) → w.stopped ≡ true → IsAnswered w u (answer_with n replies.Stopped None) → Begins Known w u cell n r
 begins_stopped Known w u cell n r stopped a = subst (λ (b : Bool). BeginsAs Known b w u cell n r) (sym stopped) a
@@ -94,13 +94,13 @@ answered_holds p m v w u e H = subst (λ (x : Worker). HoldsAside p m v x) (sym 
 pub answered_stands : (s : State) (p : Place) (m : ℕ) (v : View) (w u : Worker) → u ≡ with_answers w u.answers → Stands s p m v w → Stands s p m v u
 answered_stands s p m v w u e S = subst (λ (x : Worker). Stands s p m v x) (sym e) (record { lies = S.lies; licensed = S.licensed; landed = S.landed; log = S.log; free = S.free; due = S.due; cut = S.cut; names = S.names })
 
-pub answered : (w u : Worker) (a : Answer) → u ≡ with_answers w u.answers → u.answers.items ≡ w.answers.items ++ a ∷ [] → IsAnswered w u a
-answered w u a e items = record {
+pub answered : (w u : Worker) (k : ℕ) (a : Answer) → OnlyAnswers w u → LessRoom w.index u.index k → u.answers.items ≡ w.answers.items ++ a ∷ [] → IsAnswered w u a
+answered w u k a e less items = record {
   same = record { layout = ap (λ (x : Worker). x.layout) e; core = ap (λ (x : Worker). x.core) e; log = ap (λ (x : Worker). x.log) e; leading = ap (λ (x : Worker). x.leading) e; cleaning = ap (λ (x : Worker). x.cleaning) e; stopped = ap (λ (x : Worker). x.stopped) e; winds_down = ap (λ (x : Worker). x.winds_down) e };
   answers = items;
   places = ap (λ (x : Worker). x.places.items) e;
   allocator = ap (λ (x : Worker). x.allocator) e;
-  records = λ k. ap (λ (x : Worker). known_at x.index k) e;
+  records = less.records;
 }
 
 pub staged_busy : (w u : Worker) (n k : ℕ) (r : Request) → key_of r ≡ k → IsStaged w u n r → is_busy u.places.items k ≡ true
@@ -174,7 +174,7 @@ of_aside p m v w H admitted waits = record {
 }
 
 -- more room for records and answers
-pub prepared_holds : (p : Place) (m : ℕ) (v : View) (w u : Worker) → u ≡ record w { answers = u.answers; index = u.index; standing = u.standing } → ((k : ℕ) → known_at u.index k ≡ known_at w.index k) → ((k : ℕ) → room_at w.index k ≤ room_at u.index k) → HoldsAside p m v w → HoldsAside p m v u
+pub prepared_holds : (p : Place) (m : ℕ) (v : View) (w u : Worker) → u ≡ record w { answers = u.answers; index = u.index; standing = u.standing } → ((k : ℕ) → known_at u.index k ≡ known_at w.index k) → ((k : ℕ) → is_busy w.places.items k ≡ true → room_at w.index k ≤ room_at u.index k) → HoldsAside p m v w → HoldsAside p m v u
 prepared_holds p m v w u e same more H = subst (λ (x : Worker). HoldsAside p m v x) (sym e) (record {
   place = H.place;
   member = H.member;
@@ -190,7 +190,7 @@ prepared_holds p m v w u e same more H = subst (λ (x : Worker). HoldsAside p m 
   placed = H.placed;
   apart = H.apart;
   pending = H.pending;
-  admitted = λ k busy. (let a = H.admitted k busy in let b = more k in omega (arith, a, b));
+  admitted = λ k busy. (let a = H.admitted k busy in let b = more k busy in omega (arith, a, b));
   keys = λ k own which. subst (KnowsKey p v k) (sym (same k)) (H.keys k own which);
   blocks = H.blocks;
   waits = λ on k idle. refl;
@@ -219,14 +219,44 @@ staged_keeps w u n r s k busy =
     let free = free_is (place_at w.places.items s.slot) s.lowest.0 in
     busy_by u.places.items k at.0 (ap key_in (s.placed.others at.0 (λ same. (let both : None ≡ Some k = sym (ap key_in free) ∙ ap (λ n. key_in (place_at w.places.items n)) (sym same) ∙ at.2 in cc both))) ∙ at.2)
 
-pub answered_busy : (w u : Worker) → u ≡ with_answers w u.answers → (k : ℕ) → is_busy w.places.items k ≡ true → is_busy u.places.items k ≡ true
+pub answered_busy : (w u : Worker) → OnlyAnswers w u → (k : ℕ) → is_busy w.places.items k ≡ true → is_busy u.places.items k ≡ true
 answered_busy w u e k busy = ap (λ (x : Worker). is_busy x.places.items k) e ∙ busy
+
+-- a request of a key that isn't busy was answered
+with_standing : (w u : Worker) → OnlyAnswers w u → u ≡ record w { answers = u.answers; index = u.index; standing = u.standing }
+with_standing w u e = e ∙ (λ i. record w { answers = u.answers; index = u.index; standing = sym (ap (λ (x : Worker). x.standing) e) i })
+
+pub answered_aside : (p : Place) (m : ℕ) (v : View) (w u : Worker) (k : ℕ) → OnlyAnswers w u → LessRoom w.index u.index k → is_busy w.places.items k ≡ false → HoldsAside p m v w → HoldsAside p m v u
+answered_aside p m v w u k e less idle H = prepared_holds p m v w u (with_standing w u e) less.records
+    (λ j busy. ⊎_elim (λ same. absurd (let both : true ≡ false = sym busy ∙ ap (is_busy w.places.items) same ∙ idle in cc both)) (λ ne. (let r = less.others j ne in omega (arith, r))) (cases_eq j k)) H
+
+pub answered_standing : (s : State) (p : Place) (m : ℕ) (v : View) (w u : Worker) → OnlyAnswers w u → Stands s p m v w → Stands s p m v u
+answered_standing s p m v w u e S = prepared_stands s p m v w u (with_standing w u e) S
+
+-- what becomes of the room for its record
+pub answered_uses : (w u : Worker) (k : ℕ) → OnlyAnswers w u → LessRoom w.index u.index k → is_busy w.places.items k ≡ false → UsesRoom w u k
+answered_uses w u k e less idle = record {
+  staged = λ busy. absurd (let both : true ≡ false = sym busy ∙ ap (λ (x : Worker). is_busy x.places.items k) e ∙ idle in cc both);
+  answered = λ still. less.here;
+  others = less.others;
+  records = less.records;
+  untold = less.untold;
+}
+
+pub staged_uses : (w u : Worker) (n k : ℕ) (r : Request) → OnlyStages w u → IsStaged w u n r → key_of r ≡ k → UsesRoom w u k
+staged_uses w u n k r only S is = record {
+  staged = λ busy. ap (λ (x : Worker). room_at x.index k) only;
+  answered = λ idle. absurd (let both : true ≡ false = sym (staged_busy w u n k r is S) ∙ idle in cc both);
+  others = λ j ne. ap (λ (x : Worker). room_at x.index j) only;
+  records = λ j. ap (λ (x : Worker). known_at x.index j) only;
+  untold = let same : all_untold u.index ≡ all_untold w.index = ap (λ (x : Worker). all_untold x.index) only in omega (arith, same);
+}
 
 -- the ties after memory was taken for a request
 pub before_holds : (p : Place) (m : ℕ) (v : View) (w u : Worker) → IsAsBefore w u → Holds p m v w → Holds p m v u
 before_holds p m v w u B H =
     let x = record w { answers = u.answers; index = u.index; standing = u.standing } in
-    subst (λ (y : Worker). Holds p m v y) (sym B.rest) (of_aside p m v (record w { answers = u.answers; index = u.index; standing = u.standing }) (prepared_holds p m v w (record w { answers = u.answers; index = u.index; standing = u.standing }) refl B.records B.room (aside_of p m v w H))
+    subst (λ (y : Worker). Holds p m v y) (sym B.rest) (of_aside p m v (record w { answers = u.answers; index = u.index; standing = u.standing }) (prepared_holds p m v w (record w { answers = u.answers; index = u.index; standing = u.standing }) refl B.records (λ k busy. B.room k) (aside_of p m v w H))
     (λ k busy. (let a = H.admitted k busy in let b = B.room k in omega (arith, a, b))) H.waits)
 
 -- after a request is held
@@ -234,7 +264,7 @@ pub held_holds : (p : Place) (m : ℕ) (v : View) (w u : Worker) (q : List Held)
 held_holds p m v w u q h B more busy adds H =
     let x = record w { answers = u.answers; index = u.index; standing = u.standing } in
     let A : AddsLast w.queue q h = subst (λ (y : Worker). AddsLast y.queue q h) B.rest adds in
-    subst (λ (y : Worker). Holds p m v (record y { queue = q })) (sym B.rest) (of_aside p m v (record w { answers = u.answers; index = u.index; standing = u.standing; queue = q }) (prepared_holds p m v w (record w { answers = u.answers; index = u.index; standing = u.standing }) refl B.records B.room (aside_of p m v w H))
+    subst (λ (y : Worker). Holds p m v (record y { queue = q })) (sym B.rest) (of_aside p m v (record w { answers = u.answers; index = u.index; standing = u.standing; queue = q }) (prepared_holds p m v w (record w { answers = u.answers; index = u.index; standing = u.standing }) refl B.records (λ k busy. B.room k) (aside_of p m v w H))
     (λ k is. ⊎_elim
     (λ same. (let a = H.admitted k is in let r = more in let key = A.key in
     let grown : length (waiting q k) ≡ length (waiting w.queue k) + 1 = ap (λ n. length (waiting q n)) same ∙ ap length key ∙ length-append (waiting w.queue (key_of h.request)) (h ∷ []) ∙ ap (λ n. length (waiting w.queue n) + 1) (sym same) in
@@ -256,23 +286,22 @@ pub begun_stands : {X Y : Type 0} (r : Result X Y) (s : State) (p : Place) (m : 
 begun_stands (Ok x) s p m v u b ok err H = ok
 begun_stands (Err y) s p m v u b ok err H = subst (λ (z : Worker). Stands s p m v z) (sym err) H
 
-pub begun_holds : {X Y : Type 0} (r : Result X Y) (p : Place) (m : ℕ) (v : View) (u b : Worker) → Holds p m v u → u.winds_down ≡ false → b ≡ record u { allocator = b.allocator; places = b.places; answers = b.answers } → OnOk r (HoldsAside p m v b) → OnErr r (b ≡ u) → OnOk r ((k : ℕ) → is_busy u.places.items k ≡ true → is_busy b.places.items k ≡ true) → Holds p m v b
-begun_holds r p m v u b H works rest ok err keeps =
+pub begun_holds : {X Y : Type 0} (r : Result X Y) (p : Place) (m : ℕ) (v : View) (u b : Worker) → Holds p m v u → u.winds_down ≡ false → OnlyBegins u b → ((k : ℕ) → is_busy u.places.items k ≡ true → room_at b.index k ≡ room_at u.index k) → OnOk r (HoldsAside p m v b) → OnErr r (b ≡ u) → OnOk r ((k : ℕ) → is_busy u.places.items k ≡ true → is_busy b.places.items k ≡ true) → Holds p m v b
+begun_holds r p m v u b H works rest room ok err keeps =
     let A = begun_aside r p m v u b ok err (aside_of p m v u H) in
     let queue : b.queue ≡ u.queue = ap (λ (x : Worker). x.queue) rest in
-    let room : (k : ℕ) → room_at b.index k ≡ room_at u.index k = λ k. ap (λ (x : Worker). room_at x.index k) rest in
     of_aside p m v b A
-    (λ k busy. by_was k (is_busy u.places.items k) refl (A.admitted k busy) queue (room k))
+    (λ k busy. by_was k (is_busy u.places.items k) refl (A.admitted k busy) queue)
     (λ on k idle. ap (λ (q : List Held). waiting q k) queue ∙ H.waits works k (was_idle k (is_busy u.places.items k) refl idle))
   where
-    by_was : (k : ℕ) (x : Bool) → is_busy u.places.items k ≡ x → 0 < room_at b.index k → b.queue ≡ u.queue → room_at b.index k ≡ room_at u.index k → length (waiting b.queue k) < room_at b.index k
-    by_was k true e some queue room = (let a = H.admitted k e in let l = ap (λ (q : List Held). length (waiting q k)) queue in omega (arith, a, l, room))
-    by_was k false e some queue room = (let l = ap (λ (q : List Held). length (waiting q k)) queue ∙ ap length (H.waits works k e) in omega (arith, l, some))
+    by_was : (k : ℕ) (x : Bool) → is_busy u.places.items k ≡ x → 0 < room_at b.index k → b.queue ≡ u.queue → length (waiting b.queue k) < room_at b.index k
+    by_was k true e some queue = (let a = H.admitted k e in let l = ap (λ (q : List Held). length (waiting q k)) queue in let same = room k e in omega (arith, a, l, same))
+    by_was k false e some queue = (let l = ap (λ (q : List Held). length (waiting q k)) queue ∙ ap length (H.waits works k e) in omega (arith, l, some))
 
     was_idle : (k : ℕ) (x : Bool) → is_busy u.places.items k ≡ x → is_busy b.places.items k ≡ false → is_busy u.places.items k ≡ false
     was_idle k true e idle = absurd (let both : true ≡ false = sym (begun_busy r u b keeps err k e) ∙ idle in cc both)
     was_idle k false e idle = e
 
-pub begun_accepts : {X Y : Type 0} (r : Result X Y) (t : Type 0) (v : View) (w u b : Worker) (n k : ℕ) (q : Request) → k ≡ key_of q → IsAsBefore w u → Prepared w u k → is_busy u.places.items k ≡ false → OnlyBegins u b → OnOk r (Begins t u b (v.cell (key_of q)) n q) → OnOk r (HoldsOrBegins t v w b n q)
-begun_accepts (Ok x) t v w u b n k q same B P idle rest begins = (u, B, subst (Prepared w u) same P, inr (ap (λ (y : Worker). is_busy y.places.items (key_of q)) (sym B.rest) ∙ ap (is_busy u.places.items) (sym same) ∙ idle, rest, begins))
-begun_accepts (Err y) t v w u b n k q same B P idle rest begins = begins
+pub begun_accepts : {X Y : Type 0} (r : Result X Y) (t : Type 0) (v : View) (w u b : Worker) (n k : ℕ) (q : Request) → k ≡ key_of q → IsAsBefore w u → Prepared w u k (wants_room w q) → is_busy u.places.items k ≡ false → OnlyBegins u b → OnOk r (UsesRoom u b (key_of q)) → OnOk r (Begins t u b (v.cell (key_of q)) n q) → OnOk r (HoldsOrBegins t v w b n q)
+begun_accepts (Ok x) t v w u b n k q same B P idle rest uses begins = (u, B, subst (λ (j : ℕ). Prepared w u j (wants_room w q)) same P, inr (ap (λ (y : Worker). is_busy y.places.items (key_of q)) (sym B.rest) ∙ ap (is_busy u.places.items) (sym same) ∙ idle, rest, begins, uses))
+begun_accepts (Err y) t v w u b n k q same B P idle rest uses begins = begins

@@ -100,3 +100,4 @@ pub mod Receiving
 pub mod Clients
 pub mod ClearsLeft
 pub mod RetiredKeys
+mod JustRooms

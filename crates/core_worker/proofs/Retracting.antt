@@ -59,5 +59,5 @@ module _ (seat : SeatAt) (before after : Option Group) (v u : View) (w mid : Wor
     retracted_serves = to_serve s seat.place seat.number 0 change.entry.key v u w x x S (retracted_freed x P)
 
     pub withdraws_slot : {X Y : Type 0} (r : Result X Y) (y : Worker) → OnlyServes x y → OnOk r (ServesByEachView s x y change.entry.key) → OnErr r (ServesShort s x y change.entry.key) → WithdrawsOrUnlocks s seat before after v u w y (is_ok r)
-    withdraws_slot (Ok z) y rest begins short = inl (record { change = change; mid = mid; retracts = R; freed = x; puts = P; rest = rest; begins = λ all. begins (record { place = seat.place; number = seat.number; view = u }) retracted_serves; short = λ none. absurd (cc none) })
-    withdraws_slot (Err z) y rest begins short = inl (record { change = change; mid = mid; retracts = R; freed = x; puts = P; rest = rest; begins = λ all. absurd (cc all); short = λ none. short (record { place = seat.place; number = seat.number; view = u }) retracted_serves })
+    withdraws_slot (Ok z) y rest begins short = inl (record { stopped = stopped; change = change; mid = mid; retracts = R; freed = x; puts = P; rest = rest; begins = λ all. begins (record { place = seat.place; number = seat.number; view = u }) retracted_serves; short = λ none. absurd (cc none) })
+    withdraws_slot (Err z) y rest begins short = inl (record { stopped = stopped; change = change; mid = mid; retracts = R; freed = x; puts = P; rest = rest; begins = λ all. absurd (cc all); short = λ none. short (record { place = seat.place; number = seat.number; view = u }) retracted_serves })

@@ -110,7 +110,7 @@ embedded_lines k v u short =
     ap lines_for all ∙ sym (λ i. cond (lt-leb 256 (length u) short i) 1 ((2 + (length u + 7) / 8 + 7) / 8))
 
 -- an answer more pledges nothing
-pub answered_room : (w u : Worker) → u ≡ record w { answers = u.answers } → HasKeptRoom w → HasKeptRoom u
+pub answered_room : (w u : Worker) → u ≡ record w { answers = u.answers; index = u.index } → HasKeptRoom w → HasKeptRoom u
 answered_room w u e h = subst (λ (x : Worker). HasKeptRoom x) (sym e) h
 
 -- what has the same room keeps the rule

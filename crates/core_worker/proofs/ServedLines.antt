@@ -317,11 +317,11 @@ module _ (Known : Type 0) (v : View) (k : ℕ) (cell : Option (List ℕ)) where
       (λ over. absurd (let both : true ≡ false = sym over.0 ∙ answered_then w next mid x h hs T same only A idle in cc both))
       (λ more. let L = lines_all hs mid x more.1 (hand_mid w next mid x h hs T same only ∙ hand) (answered_then w next mid x h hs T same only A idle) (apart_then w next mid x h hs T same only A apart) (rest_is w next mid x h hs T same only waits) in
       (record { number = h.number; request = h.request; reply = A.reply; refusal = A.cause } ∷ L.0, line_answered w next mid x h hs T same only L.0 A L.1))
-      begins.6)
+      begins.7)
       (λ S. ⊎_elim
       (λ over. ([], line_staged w next mid x h hs T same only S.1 S.2 S.0 over.1 hand idle apart waits))
       (λ more. absurd (let both : true ≡ false = sym (staged_then w next mid x h hs T same only S.1) ∙ more.0 in cc both))
-      begins.6)
+      begins.7)
       (begins_one Known next mid cell h.number h.request begins.5)
 
   -- for one there was no memory, and it is in hand
@@ -363,9 +363,9 @@ module _ (Known : Type 0) (v : View) (k : ℕ) (cell : Option (List ℕ)) where
       let mid = more.0 in
       let only = more.1 in
       ⊎_elim
-      (λ A. let L = lines_short hs mid x more.4 (hand_mid w next mid x h hs T same only ∙ hand) (answered_then w next mid x h hs T same only A idle) (apart_then w next mid x h hs T same only A apart) (rest_is w next mid x h hs T same only waits) in
+      (λ A. let L = lines_short hs mid x more.5 (hand_mid w next mid x h hs T same only ∙ hand) (answered_then w next mid x h hs T same only A idle) (apart_then w next mid x h hs T same only A apart) (rest_is w next mid x h hs T same only waits) in
       (record { number = h.number; request = h.request; reply = A.reply; refusal = A.cause } ∷ L.0, line_answered w next mid x h hs T same only L.0 A L.1))
-      (λ S. absurd (let both : true ≡ false = sym (staged_then w next mid x h hs T same only S.1) ∙ more.3 in cc both))
+      (λ S. absurd (let both : true ≡ false = sym (staged_then w next mid x h hs T same only S.1) ∙ more.4 in cc both))
       (begins_one Known next mid cell h.number h.request more.2))
       begins.3
 

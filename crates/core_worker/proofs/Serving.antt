@@ -1,5 +1,5 @@
 -- What beginning a waiting request leaves of the other keys and of the room for answers.
-use Rattle.std.proofs.Common.{◌≡◌, ◌⊎◌, ⊎_elim, ℕ, zero, suc, ◌+◌, ◌<◌, ◌≤◌, Bool, true, false, cond, List, [], ◌∷◌, length, Option, Some, None, refl, sym, ◌∙◌, ap, subst, arith}
+use Rattle.std.proofs.Common.{◌≡◌, ◌≢◌, inl, inr, ⊎_elim, ℕ, zero, suc, ◌+◌, ◌<◌, ◌≤◌, Bool, true, false, cond, List, [], ◌∷◌, length, Option, Some, None, refl, sym, ◌∙◌, ap, subst, arith}
 use Rattle.std.specs.Prelude.{is_some, Vec}
 use Rattle.std.specs.Global.{Global}
 use Rattle.std.proofs.lemmas.Bool.{cases_eq}
@@ -7,10 +7,8 @@ use Rattle.fs_model.specs.declared.model.Request.{Request}
 use Rattle.fs_model.specs.Cells.{key_of}
 use Rattle.conflict_queue.specs.declared.types.Held.{Held}
 use Rattle.conflict_queue.specs.Waiting.{waiting, TakesFirst}
-use Rattle.core_index.specs.Slots as slots
 use Rattle.core_index.specs.Index.{known_at, room_at}
 use Rattle.core_index.specs.Records.{Awaits, last_of, standing_of, standing_at, block_of, is_forgettable}
-use Rattle.core_index.specs.declared.types.Standing.{Standing}
 use Rattle.group_laws.specs.Places as groups
 use Rattle.group_laws.specs.MemberViews.{View}
 use Rattle.core_worker.specs.declared.types.Place.{Place}
@@ -18,14 +16,13 @@ use Rattle.core_worker.specs.declared.types.Place.TheVariants.{Staged}
 use Rattle.core_worker.specs.declared.worker.Worker.{Worker}
 use Rattle.core_worker.specs.OwnPlaces.{place_at, is_free, is_busy, key_in, Replaces}
 use Rattle.core_worker.specs.Refusals.{HasAnswerRoom}
-use Rattle.core_worker.specs.Beginning.{HoldsAside, IsStaged}
+use Rattle.core_worker.specs.Beginning.{HoldsAside, IsStaged, OnlyAnswers}
 use Rattle.log_standing.specs.NameCounts.{StandingState}
-use Rattle.core_worker.specs.StandingTies.{KnowsDead, most_names}
+use Rattle.core_worker.specs.StandingTies.{KnowsLog, KnowsDead, most_names}
 use Rattle.core_worker.specs.Order.{PointsAt, count_changes, unanswered, MayLeadStopped, InOrder}
 use Rattle.core_worker.specs.Serving.{KeepsLine, OthersWait, AllWait}
 use Rattle.core_worker.proofs.Posts.{busy_by, busy_has}
 use Rattle.core_worker.proofs.Pointers.{free_is}
-use Rattle.core_worker.proofs.Beginnings.{with_answers}
 
 abbrev pub one_in : Place → ℕ
 one_in x = cond (is_free x) 0 1
@@ -56,7 +53,7 @@ count_with (a ∷ xs) (b ∷ ys) (suc s) x R lt =
     omega (arith, first, more)
 
 -- an answer
-pub line_answered : (w u : Worker) (k : ℕ) → u ≡ with_answers w u.answers → ((n : ℕ) → HasAnswerRoom (n + 1) w → HasAnswerRoom n u) → KeepsLine w u k
+pub line_answered : (w u : Worker) (k : ℕ) → OnlyAnswers w u → ((n : ℕ) → HasAnswerRoom (n + 1) w → HasAnswerRoom n u) → KeepsLine w u k
 line_answered w u k e room = record {
   others = λ j ne busy. ap (λ (x : Worker). is_busy x.places.items j) (sym e) ∙ busy;
   counts = λ n had.
@@ -80,16 +77,16 @@ line_staged w u n k r runs e key S = record {
 }
 
 -- what is in order but for the answers, what is in hand and the staged changes
-pub order_kept : (p : groups.Place) (m : ℕ) (v : View) (w u : Worker) → u.index ≡ w.index → u.leading ≡ w.leading → u.stopped ≡ w.stopped → u.standing ≡ w.standing → (u.winds_down ≡ false → w.winds_down ≡ false)
+pub order_kept : (p : groups.Place) (m : ℕ) (v : View) (w u : Worker) → ((j : ℕ) → known_at u.index j ≡ known_at w.index j) → u.leading ≡ w.leading → u.stopped ≡ w.stopped → u.standing ≡ w.standing → (u.winds_down ≡ false → w.winds_down ≡ false)
     → ((k : ℕ) → groups.owner p k ≡ m → is_busy u.places.items k ≡ true → v.pending k ≡ None → is_forgettable (known_at u.index k) ≡ false)
     → HasAnswerRoom (unanswered u) u → (u.winds_down ≡ false → u.in_hand ≡ None) → InOrder p m v w → InOrder p m v u
-order_kept p m v w u index leading stopped standing works recalls answers hand O = record {
+order_kept p m v w u known leading stopped standing works recalls answers hand O = record {
   owned = O.owned;
-  single = λ q b h. subst (λ (es : List (ℕ × slots.Place)). (block_of (known_at es b.key) ≡ Some q) ⊎ PointsAt (v.pending b.key) q) (sym index) (O.single q b h);
-  distinct = λ k q points is. O.distinct k q points (ap (λ (es : List (ℕ × slots.Place)). block_of (known_at es k)) (sym index) ∙ is);
-  heard = λ k n a. O.heard k n (subst (λ (es : List (ℕ × slots.Place)). Awaits (known_at es k) (groups.core_of p m) n) index a);
+  single = λ q b is. ⊎_elim (λ value. inl (ap block_of (known b.key) ∙ value)) (λ points. inr points) (O.single q b is);
+  distinct = λ k q points is. O.distinct k q points (ap block_of (sym (known k)) ∙ is);
+  heard = λ k n waits. O.heard k n (subst (λ o. Awaits o (groups.core_of p m) n) (known k) waits);
   told = O.told;
-  versions = subst (λ (es : List (ℕ × slots.Place)). (k n : ℕ) (s : Standing) → standing_at (standing_of (known_at es k)) n ≡ Some s → n ≤ last_of (known_at es k)) (sym index) O.versions;
+  versions = λ k n s is. subst (λ o. n ≤ last_of o) (sym (known k)) (O.versions k n s (ap (λ o. standing_at (standing_of o) n) (sym (known k)) ∙ is));
   next = O.next;
   spelled = O.spelled;
   recalls = recalls;
@@ -106,12 +103,12 @@ hands o = cond (is_some o) 1 0
 
 -- one of the waiting requests of a key is taken out and begun
 module _ (p : groups.Place) (m : ℕ) (v : View) (w u : Worker) (q : List Held) (k : ℕ) (h : Held) (T : TakesFirst w.queue q k h) (hand : w.in_hand ≡ None) (O : InOrder p m v w) where
-  pub order_begun : HoldsAside p m v w → u ≡ record w { queue = q; allocator = u.allocator; places = u.places; answers = u.answers } → KeepsLine (record w { queue = q }) u k → InOrder p m v u
-  order_begun H rest L = order_kept p m v w u (ap (λ (x : Worker). x.index) rest) (ap (λ (x : Worker). x.leading) rest) (ap (λ (x : Worker). x.stopped) rest) (ap (λ (x : Worker). x.standing) rest) (λ on. sym (ap (λ (x : Worker). x.winds_down) rest) ∙ on) recalls answers
+  pub order_begun : HoldsAside p m v w → u ≡ record w { queue = q; allocator = u.allocator; places = u.places; answers = u.answers; index = u.index } → ((j : ℕ) → known_at u.index j ≡ known_at w.index j) → KeepsLine (record w { queue = q }) u k → InOrder p m v u
+  order_begun H rest known L = order_kept p m v w u known (ap (λ (x : Worker). x.leading) rest) (ap (λ (x : Worker). x.stopped) rest) (ap (λ (x : Worker). x.standing) rest) (λ on. sym (ap (λ (x : Worker). x.winds_down) rest) ∙ on) recalls answers
       (λ on. ap (λ (x : Worker). x.in_hand) rest ∙ hand) O
     where
       recalls : (j : ℕ) → groups.owner p j ≡ m → is_busy u.places.items j ≡ true → v.pending j ≡ None → is_forgettable (known_at u.index j) ≡ false
-      recalls j own busy none = ap (λ (x : Worker). is_forgettable (known_at x.index j)) rest ∙ by w.stopped refl where
+      recalls j own busy none = ap is_forgettable (known j) ∙ by w.stopped refl where
         by : (b : Bool) → w.stopped ≡ b → is_forgettable (known_at w.index j) ≡ false
         by false runs = H.remembers runs j own none
         by true stopped = O.recalls j own (ap (λ (ps : Vec Place Global). is_busy ps.items j) (sym (L.halts stopped)) ∙ busy) none
@@ -128,7 +125,7 @@ module _ (p : groups.Place) (m : ℕ) (v : View) (w u : Worker) (q : List Held) 
           omega (arith, left, queue, after)
 
   in_hand : (x : Held) → InOrder p m v (record w { queue = q; in_hand = Some x; winds_down = true })
-  in_hand x = order_kept p m v w (record w { queue = q; in_hand = Some x; winds_down = true }) refl refl refl refl (λ on. absurd (cc on)) O.recalls
+  in_hand x = order_kept p m v w (record w { queue = q; in_hand = Some x; winds_down = true }) (λ j. refl) refl refl refl (λ on. absurd (cc on)) O.recalls
       (let had = O.answers in
       let all = T.together in
       let before : hands w.in_hand ≡ 0 = ap hands hand in
@@ -139,14 +136,14 @@ module _ (p : groups.Place) (m : ℕ) (v : View) (w u : Worker) (q : List Held) 
   order_in_hand y same x = subst (λ (z : Worker). InOrder p m v (record z { in_hand = Some x; winds_down = true })) (sym same) (in_hand x)
 
 -- of the other keys nothing changes
-pub others_begun : (w u : Worker) (q : List Held) (k : ℕ) (h : Held) → TakesFirst w.queue q k h → u ≡ record w { queue = q; allocator = u.allocator; places = u.places; answers = u.answers }
+pub others_begun : (w u : Worker) (q : List Held) (k : ℕ) (h : Held) → TakesFirst w.queue q k h → u ≡ record w { queue = q; allocator = u.allocator; places = u.places; answers = u.answers; index = u.index } → ((j : ℕ) → j ≢ k → room_at u.index j ≡ room_at w.index j)
     → ((j : ℕ) → is_busy w.places.items j ≡ true → is_busy u.places.items j ≡ true) → KeepsLine (record w { queue = q }) u k → OthersWait w k → OthersWait u k
-others_begun w u q k h T rest busy L O = record {
+others_begun w u q k h T rest rooms busy L O = record {
   admitted = λ j ne is.
       let had = O.admitted j ne (L.others j ne is) in
       let wait = ap length (T.others j ne) in
       let queue : length (waiting u.queue j) ≡ length (waiting q j) = ap (λ (x : Worker). length (waiting x.queue j)) rest in
-      let room : room_at u.index j ≡ room_at w.index j = ap (λ (x : Worker). room_at x.index j) rest in
+      let room = rooms j ne in
       omega (arith, had, wait, queue, room);
   waits = λ on j ne idle. ap (λ (x : Worker). waiting x.queue j) rest ∙ T.others j ne ∙ O.waits (sym (ap (λ (x : Worker). x.winds_down) rest) ∙ on) j ne (was j idle (is_busy w.places.items j) refl);
 } where

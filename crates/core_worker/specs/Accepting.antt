@@ -1,5 +1,5 @@
 -- Accepting a request: it is held behind those of its key, or begun.
-use Rattle.std.specs.Prelude.{◌≡◌, ◌⊎◌, ℕ, ◌+◌, ◌≤◌, true, false, List, length, Option}
+use Rattle.std.specs.Prelude.{◌≡◌, ◌≢◌, ◌⊎◌, ℕ, ◌+◌, ◌≤◌, ◌||◌, Bool, true, false, List, length, Option, if◌then◌else◌}
 use Rattle.pm_region.specs.State.{State, IsTelling}
 use Rattle.fs_model.specs.declared.model.Request.{Request}
 use Rattle.fs_model.specs.Cells.{key_of}
@@ -12,7 +12,8 @@ use Rattle.core_worker.specs.declared.worker.Worker.{Worker}
 use Rattle.core_worker.specs.OwnPlaces.{is_busy}
 use Rattle.core_worker.specs.Refusals.{HasAnswerRoom}
 use Rattle.core_worker.specs.Answering.{AddsAnswers}
-use Rattle.core_worker.specs.Beginning.{answers_of, OnlyBegins, Begins}
+use Rattle.core_worker.specs.Beginning.{answers_of, OnlyBegins, Begins, UsesRoom}
+use Rattle.core_worker.specs.Plans.{may_stage}
 use Rattle.core_worker.specs.Ties.{Tie, HoldsBy, StandsBy}
 use Rattle.core_worker.specs.Order.{InOrderBy}
 use Rattle.core_worker.specs.StandingTies.{SameNames}
@@ -29,9 +30,22 @@ pub record IsAsBefore (old new : Worker) : Type 0 where
   pub room : (k : ℕ) → room_at old.index k ≤ room_at new.index k
   pub answer_room : (n : ℕ) → HasAnswerRoom n old → HasAnswerRoom n new
 
--- there is room for a record of the key more, and for the answers to all requests that can be unanswered
-pub record Prepared (old new : Worker) (k : ℕ) : Type 0 where
-  pub record_room : room_at new.index k ≡ room_at old.index k + 1
+-- nothing but the room of one key is another one, and of that there is no less
+pub record Admits (old new : Worker) (k : ℕ) : Type 0 where
+  pub rest : new ≡ record old { index = new.index }
+  pub records : (j : ℕ) → known_at new.index j ≡ known_at old.index j
+  pub others : (j : ℕ) → j ≢ k → room_at new.index j ≡ room_at old.index j
+  pub room : room_at old.index k ≤ room_at new.index k
+  pub untold : all_untold new.index ≤ all_untold old.index
+
+-- whether room is made for a record of the request's key: it waits for its key, or it may become a change at once
+abbrev pub wants_room : Worker → Request → Bool
+wants_room w r = is_busy w.places.items (key_of r) || may_stage w r
+
+-- there is room for a record of the key more, where it is wanted, and for the answers to all requests that can be unanswered
+pub record Prepared (old new : Worker) (k : ℕ) (wanted : Bool) : Type 0 where
+  pub record_room : room_at new.index k ≡ room_at old.index k + (if wanted then 1 else 0)
+  pub others : (j : ℕ) → j ≢ k → room_at new.index j ≡ room_at old.index j
   pub answers : HasAnswerRoom 73 new
 
 -- The worker is tied there to its view and to the region, and the key is one of the member's.
@@ -51,11 +65,12 @@ StaysTied s old new k = (t : Tie) → IsTied s old k t → IsTied s new k t
 
 -- The request is held behind those of its key, or begun, where there was memory for what it will need.
 abbrev pub HoldsOrBegins : Type 0 → View → Worker → Worker → ℕ → Request → Type 0
-HoldsOrBegins Known v old new n r = (mid : Worker) × IsAsBefore old mid × Prepared old mid (key_of r)
+HoldsOrBegins Known v old new n r = (mid : Worker) × IsAsBefore old mid
+    × Prepared old mid (key_of r) (wants_room old r)
     × (((is_busy old.places.items (key_of r) ≡ true) × AddsLast mid.queue new.queue (held_with n r)
     × (new ≡ record mid { queue = new.queue }))
     ⊎ ((is_busy old.places.items (key_of r) ≡ false) × OnlyBegins mid new
-    × Begins Known mid new (v.cell (key_of r)) n r))
+    × Begins Known mid new (v.cell (key_of r)) n r × UsesRoom mid new (key_of r)))
 
 -- by each view that the worker may be tied to
 abbrev pub HoldsOrBeginsByEachView : State → Worker → Worker → ℕ → Request → Type 0

@@ -1,5 +1,5 @@
 -- What beginning a request does: it is answered, or a change is staged.
-use Rattle.std.specs.Prelude.{◌≡◌, ◌⊎◌, ℕ, ◌+◌, ◌<◌, Bool, true, false, List, [], ◌∷◌, ◌++◌, length, Option, Some, None}
+use Rattle.std.specs.Prelude.{◌≡◌, ◌≢◌, ◌⊎◌, ℕ, ◌+◌, ◌-◌, ◌<◌, ◌≤◌, Bool, true, false, List, [], ◌∷◌, ◌++◌, length, Option, Some, None}
 use Rattle.group_laws.specs.declared.group_sizes.TheConstants.{SLOTS}
 use Rattle.pm_region.specs.State.{State}
 use Rattle.fs_model.specs.declared.model.Request.{Request}
@@ -13,7 +13,7 @@ use Rattle.log_entry.specs.declared.entry.Body.{Body}
 use Rattle.log_entry.specs.declared.entry.Body.TheVariants as bodies
 use Rattle.conflict_queue.specs.declared.types.Held.{Held}
 use Rattle.conflict_queue.specs.Waiting.{TakesFirst, waiting}
-use Rattle.core_index.specs.Index.{known_at}
+use Rattle.core_index.specs.Index.{all_untold, known_at, room_at}
 use Rattle.core_index.specs.Records.{last_of}
 use Rattle.lazy_alloc.specs.Sets.{Takes}
 use Rattle.group_laws.specs.MemberViews.{View}
@@ -74,13 +74,27 @@ HasFree ps = (s : ℕ) × (s < SLOTS) × (place_at ps s ≡ Free)
 abbrev pub OnlyStages : Worker → Worker → Type 0
 OnlyStages old new = new ≡ record old { allocator = new.allocator; places = new.places }
 
--- nothing but allocator, places and answers differs
+-- nothing but allocator, places, answers and the room for records differs
 abbrev pub OnlyBegins : Worker → Worker → Type 0
 OnlyBegins old new = new ≡ record old {
   allocator = new.allocator;
   places = new.places;
   answers = new.answers;
+  index = new.index;
 }
+
+-- nothing but answers and the room for records differs
+abbrev pub OnlyAnswers : Worker → Worker → Type 0
+OnlyAnswers old new = new ≡ record old { answers = new.answers; index = new.index }
+
+-- A request of the key was begun: the room for its record stays where it was staged, and is given back where it was answered.
+pub record UsesRoom (old new : Worker) (k : ℕ) : Type 0 where
+  pub staged : is_busy new.places.items k ≡ true → room_at new.index k ≡ room_at old.index k
+  pub answered : is_busy new.places.items k ≡ false
+      → room_at new.index k ≡ room_at old.index k - 1
+  pub others : (j : ℕ) → j ≢ k → room_at new.index j ≡ room_at old.index j
+  pub records : (j : ℕ) → known_at new.index j ≡ known_at old.index j
+  pub untold : all_untold new.index ≤ all_untold old.index
 
 -- nothing but queue, places, answers, allocator, index and the request in hand differs
 pub record SameCore (old new : Worker) : Type 0 where
@@ -155,7 +169,7 @@ BeginsAll Known [] old new cell k = new ≡ old
 BeginsAll Known (h ∷ hs) old new cell k =
     (next : Worker) × (mid : Worker)
     × TakesFirst old.queue next.queue k h × SameButQueue old next × OnlyBegins next mid
-    × Begins Known next mid cell h.number h.request
+    × Begins Known next mid cell h.number h.request × UsesRoom next mid k
     × (((is_busy mid.places.items k ≡ true) × (new ≡ mid))
     ⊎ ((is_busy mid.places.items k ≡ false) × BeginsAll Known hs mid new cell k))
 
@@ -166,7 +180,7 @@ BeginsShort Known (h ∷ hs) old new cell k =
     (next : Worker) × TakesFirst old.queue next.queue k h × SameButQueue old next
     × ((new ≡ record next { in_hand = Some h; winds_down = true })
     ⊎ ((mid : Worker) × OnlyBegins next mid × Begins Known next mid cell h.number h.request
-    × (is_busy mid.places.items k ≡ false) × BeginsShort Known hs mid new cell k))
+    × UsesRoom next mid k × (is_busy mid.places.items k ≡ false) × BeginsShort Known hs mid new cell k))
 
 abbrev pub BeginsWaiting : Type 0 → Worker → Worker → Option (List ℕ) → ℕ → Type 0
 BeginsWaiting Known old new cell k = BeginsAll Known (waiting old.queue k) old new cell k

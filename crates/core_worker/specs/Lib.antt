@@ -11,6 +11,7 @@ pub mod Plans
 pub mod Answering
 pub mod Beginning
 pub mod Serving
+pub mod IndexRoom
 pub mod Hearing
 pub mod Finishing
 pub mod Stopping

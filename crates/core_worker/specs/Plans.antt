@@ -23,6 +23,12 @@ last_version w k = last_of (known_at w.index k)
 abbrev pub has_value : Worker → ℕ → Bool
 has_value w k = is_some (live_version (known_at w.index k))
 
+-- whether the request may become a change
+abbrev pub may_stage : Worker → Request → Bool
+may_stage w (requests.Put k value) = true
+may_stage w (requests.Get k) = false
+may_stage w (requests.Delete k) = has_value w k
+
 -- a key that has a value has a number left for its delete
 abbrev pub HasVersionLeft : Worker → ℕ → Type 0
 HasVersionLeft w k = has_value w k ≡ true → last_version w k + 1 < 2 ^ 32

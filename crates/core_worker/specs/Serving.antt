@@ -39,12 +39,13 @@ pub record AllWait (w : Worker) : Type 0 where
 abbrev pub KeepsOrders : Worker → Worker → ℕ → Type 0
 KeepsOrders old new k = (t : Tie) → IsHeldAside old k t → InOrderBy t old → InOrderBy t new
 
--- nothing but this differs
+-- nothing but this differs, and of the index its room
 abbrev pub OnlyServes : Worker → Worker → Type 0
 OnlyServes old new = new ≡ record old {
   allocator = new.allocator;
   places = new.places;
   answers = new.answers;
+  index = new.index;
   queue = new.queue;
   in_hand = new.in_hand;
   winds_down = new.winds_down;

@@ -88,6 +88,7 @@ pub record Retracts (seat : SeatAt) (before after : Option Group) (v u : View) (
 -- Item 1 of a stopped core, the withdrawal: the change is answered Stopped, its block put back, and then the key's waiting requests are begun; `all` where there was memory for it.
 pub record Withdraws (s : State) (seat : SeatAt) (before after : Option Group) (v u : View)
     (old new : Worker) (all : Bool) : Type 0 where
+  pub stopped : old.stopped ≡ true
   pub change : Change
   pub mid : Worker
   pub retracts : Retracts seat before after v u old mid change

@@ -1,5 +1,5 @@
 // Accepting a request, and beginning those that waited.
-ghost use Rattle.std.specs.Prelude.{◌≡◌, ◌≢◌, ◌⊎◌, ℕ, ◌+◌, ◌<◌, ◌≤◌, List, [], ◌∷◌, length, Option, Some, None, true, false, IfOk, IfErr, OnOk, OnErr};
+ghost use Rattle.std.specs.Prelude.{◌≡◌, ◌≢◌, ◌⊎◌, ℕ, ◌+◌, ◌<◌, ◌≤◌, List, [], ◌∷◌, length, Option, Some, None, true, false, IfOk, IfErr, OnOk, OnErr, if◌then◌else◌};
 ghost use Rattle.pm_region.specs.State.{State, IsTelling};
 ghost use Rattle.fs_model.specs.Cells.{key_of};
 ghost use Rattle.conflict_queue.specs.Waiting.{AddsLast, held_with};
@@ -7,9 +7,11 @@ ghost use Rattle.core_index.specs.Index.{known_at, room_at};
 ghost use Rattle.batch_leader.specs.declared.batch_buffer.BatchBuffer.{BatchBuffer};
 ghost use Rattle.core_worker.specs.declared.types.Leading.TheVariants as leads;
 ghost use Rattle.core_worker.specs.OwnPlaces.{is_busy};
+ghost use Rattle.core_worker.specs.IndexRoom.{HasJustRoom};
+ghost use Rattle.core_worker.specs.Plans.{may_stage};
 ghost use Rattle.core_worker.specs.Supplies.{HasKeptRoom};
 ghost use Rattle.core_worker.specs.Refusals.{HasAnswerRoom};
-ghost use Rattle.core_worker.specs.Accepting.{Prepared, HasTie, HoldsOrBeginsByEachView, StaysTied, AcceptsByEachView, AcceptMoves, IsAsBefore};
+ghost use Rattle.core_worker.specs.Accepting.{Admits, Prepared, HasTie, HoldsOrBeginsByEachView, StaysTied, AcceptsByEachView, AcceptMoves, IsAsBefore, wants_room};
 ghost use Rattle.core_worker.specs.Status.{has_room, is_leading};
 ghost use Rattle.core_worker.specs.Left.{left, most, waits_left, StartsFirst};
 
@@ -47,10 +49,45 @@ pub(crate) fn is_busy(places: &Vec<Place>, key: Key) -> bool
 }
 
 impl Worker {
-    // Takes the memory that a request of the key will need up to its answer.
-    fn prepare(&mut self, alloc: Global, key: Key) -> bool
+    // Whether the request may become a change.
+    fn may_stage(&self, request: &Request) -> bool
+        ensures { result ≡ may_stage self.now request.now }
+    {
+        match request {
+            Request::Put { .. } => true,
+            Request::Get { .. } => false,
+            Request::Delete { key } => self.is_live(*key),
+        }
+    }
+
+    // Whether room is made for a record of the request's key: it waits for its key, or it may become a change at once.
+    fn wants_room(&self, request: &Request) -> bool
+        ensures { result ≡ wants_room self.now request.now }
+    {
+        if is_busy(&self.places, request.key()) {
+            return true;
+        }
+        self.may_stage(request)
+    }
+
+    // Makes room for a record of the key, where it is wanted.
+    fn admit(&mut self, alloc: Global, key: Key, wanted: bool) -> bool
+        ensures before { Admits self.old self.new key }
+        ensures ready { result ≡ true → room_at self.new.index key
+            ≡ room_at self.old.index key + (if wanted then 1 else 0) }
+        ensures none { result ≡ false → self.new.index ≡ self.old.index }
+    {
+        if wanted {
+            return self.index.admit(alloc, key).is_ok();
+        }
+        true
+    }
+
+    // Takes the memory that a request of the key will need up to its answer, with room for a record where it is wanted.
+    fn prepare(&mut self, alloc: Global, key: Key, wanted: bool) -> bool
         ensures before { IsAsBefore self.old self.new }
-        ensures ready { result ≡ true → Prepared self.old self.new key }
+        ensures ready { result ≡ true → Prepared self.old self.new key wanted }
+        ensures none { result ≡ false → self.new.index ≡ self.old.index }
     {
         if self.answers.reserve(UNANSWERED).is_err() {
             return false;
@@ -58,7 +95,7 @@ impl Worker {
         if self.standing.reserve(NAMES).is_err() {
             return false;
         }
-        self.index.admit(alloc, key).is_ok()
+        self.admit(alloc, key, wanted)
     }
 
     // Holds a request for a key with a change under way, and begins any other.
@@ -85,11 +122,15 @@ impl Worker {
             (key_of request) []) }
         ensures most { OnOk result (left self.new ≤ left self.old + waits_left) }
         ensures starts { StartsFirst self.old → StartsFirst self.new }
+        ensures just { HasJustRoom self.old → HasJustRoom self.new }
+        ensures roomy { OnOk result (is_busy self.new.places.items (key_of request) ≡ false
+            → (k : ℕ) → room_at self.new.index k ≤ room_at self.old.index k) }
         ensures works { self.new.winds_down ≡ self.old.winds_down }
         ensures runs { self.new.stopped ≡ self.old.stopped }
     {
         let key = request.key();
-        if !self.prepare(alloc, key) {
+        let wanted = self.wants_room(&request);
+        if !self.prepare(alloc, key, wanted) {
             return Err(NotAccepted { request });
         }
         if is_busy(&self.places, key) {
@@ -104,7 +145,8 @@ impl Worker {
     }
 
     /// Accepts a request. One for a key with a change under way is held; any other is begun. Where there is no memory
-    /// for it the request comes back, and nothing is answered, held or staged.
+    /// for it the request comes back, and nothing is answered, held or staged. Of one that is answered at once nothing is
+    /// kept: the index has room for changes that stand in a place and requests that wait, and for no others.
     pub fn accept<R: Region>(
         &mut self,
         alloc: Global,
@@ -128,6 +170,9 @@ impl Worker {
             (key_of request) []) }
         ensures most { OnOk result (left self.new ≤ left self.old + most) }
         ensures starts { StartsFirst self.old → StartsFirst self.new }
+        ensures just { HasJustRoom self.old → HasJustRoom self.new }
+        ensures roomy { OnOk result (is_busy self.new.places.items (key_of request) ≡ false
+            → (k : ℕ) → room_at self.new.index k ≤ room_at self.old.index k) }
         ensures works { self.new.winds_down ≡ self.old.winds_down }
         ensures runs { self.new.stopped ≡ self.old.stopped }
     {

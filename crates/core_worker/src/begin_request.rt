@@ -5,16 +5,16 @@ ghost use Rattle.pm_region.specs.State.{State, IsTelling};
 ghost use Rattle.fs_model.specs.declared.model.Request.TheVariants as requests;
 ghost use Rattle.fs_model.specs.Cells.{key_of, answer_to};
 ghost use Rattle.log_entry.specs.Spelling.{HasSpelling};
-ghost use Rattle.core_index.specs.Index.{room_at};
+ghost use Rattle.core_index.specs.Index.{room_at, LessRoom};
 ghost use Rattle.batch_leader.specs.declared.batch_buffer.BatchBuffer.{BatchBuffer};
 ghost use Rattle.core_worker.specs.declared.types.Place.TheVariants as kinds;
 ghost use Rattle.core_worker.specs.declared.types.Leading.TheVariants as leads;
 ghost use Rattle.core_worker.specs.OwnPlaces.{place_at, is_free, is_busy, IsLowest, Replaces};
 ghost use Rattle.core_worker.specs.Supplies.{HasKeptRoom};
-ghost use Rattle.core_worker.specs.Plans.{PutsBeside, PutsInBlock, Deletes};
+ghost use Rattle.core_worker.specs.Plans.{PutsBeside, PutsInBlock, Deletes, may_stage};
 ghost use Rattle.core_worker.specs.Refusals.{HasAnswerRoom};
 ghost use Rattle.core_worker.specs.Answering.{IsSaid};
-ghost use Rattle.core_worker.specs.Beginning.{answer_with, HasFree, IsAside, StandsAside, KeepsTies, ByEachView, OnlyStages, OnlyBegins, IsStaged, Begins};
+ghost use Rattle.core_worker.specs.Beginning.{answer_with, HasFree, IsAside, StandsAside, KeepsTies, ByEachView, OnlyAnswers, OnlyStages, OnlyBegins, IsStaged, Begins, UsesRoom};
 ghost use Rattle.core_worker.specs.Ties.{LeadsNothing};
 ghost use Rattle.core_worker.specs.Serving.{KeepsLine, LeadsNothingYet};
 ghost use Rattle.core_worker.specs.Left.{left, staged_left};
@@ -83,6 +83,19 @@ impl Worker {
             refusal,
         };
         let _kept = self.answers.push_back(answer);
+    }
+
+    // Answers a request that is begun. The room for a record of its key is given back, where there is any.
+    fn answer_at_once(&mut self, number: u64, key: Key, reply: Reply, refusal: Option<Shortage>)
+        requires room { HasAnswerRoom 1 self.old }
+        ensures rest { OnlyAnswers self.old self.new }
+        ensures less { LessRoom self.old.index self.new.index key }
+        ensures answers { self.new.answers.items
+            ≡ self.old.answers.items ++ answer_with number reply refusal ∷ [] }
+        ensures room { (n : ℕ) → HasAnswerRoom (n + 1) self.old → HasAnswerRoom n self.new }
+    {
+        self.index.give_back(key);
+        self.answer(number, reply, refusal);
     }
 
     // The answer to a get of a core that runs. A value in a block is read from the region.
@@ -193,7 +206,8 @@ impl Worker {
         requires runs { self.old.stopped ≡ false }
         requires nothing { LeadsNothing self.old }
         requires idle { is_busy self.old.places.items (key_of request) ≡ false }
-        requires room { 0 < room_at self.old.index (key_of request) }
+        requires room { may_stage self.old request ≡ true
+            → 0 < room_at self.old.index (key_of request) }
         requires place { HasFree self.old.places.items }
         requires answers { HasAnswerRoom 1 self.old }
         ensures keeps { OnOk result (KeepsTies self.old self.new (key_of request)) }
@@ -204,6 +218,7 @@ impl Worker {
             → HasAnswerRoom n self.new) }
         ensures rule { HasKeptRoom self.old → HasKeptRoom self.new }
         ensures rest { OnlyBegins self.old self.new }
+        ensures uses { OnOk result (UsesRoom self.old self.new (key_of request)) }
         ensures places { OnOk result ((self.new.places ≡ self.old.places)
             ⊎ (is_busy self.new.places.items (key_of request) ≡ true)) }
         ensures busy { OnOk result ((k : ℕ) → is_busy self.old.places.items k ≡ true
@@ -212,11 +227,13 @@ impl Worker {
         ensures most { OnOk result (left self.new ≤ left self.old + staged_left) }
         ensures given_back { IfErr result (λ back. back.request ≡ request) }
         ensures unchanged { OnErr result (self.new ≡ self.old) }
+        ensures gets { OnErr result (may_stage self.old request ≡ false) }
     {
+        let asked = request.key();
         let plan = match self.plan(request) {
             Ok(plan) => plan,
             Err(shortage) => {
-                self.answer(number, reply_for(&shortage), Some(shortage));
+                self.answer_at_once(number, asked, reply_for(&shortage), Some(shortage));
                 return Ok(());
             }
         };
@@ -226,11 +243,11 @@ impl Worker {
                     let request = Request::Get { key };
                     return Err(NotAccepted { request });
                 };
-                self.answer(number, reply, None);
+                self.answer_at_once(number, asked, reply, None);
                 return Ok(());
             }
             Plan::Absent => {
-                self.answer(number, Reply::Absent, None);
+                self.answer_at_once(number, asked, Reply::Absent, None);
                 return Ok(());
             }
             Plan::PutBeside {
@@ -270,7 +287,8 @@ impl Worker {
         requires tied { StandsAside (R.state region.now) self.old (key_of request) }
         requires nothing { LeadsNothingYet self.old }
         requires idle { is_busy self.old.places.items (key_of request) ≡ false }
-        requires room { 0 < room_at self.old.index (key_of request) }
+        requires room { may_stage self.old request ≡ true
+            → 0 < room_at self.old.index (key_of request) }
         requires place { HasFree self.old.places.items }
         requires answers { HasAnswerRoom 1 self.old }
         ensures keeps { OnOk result (KeepsTies self.old self.new (key_of request)) }
@@ -281,6 +299,7 @@ impl Worker {
             → HasAnswerRoom n self.new) }
         ensures rule { HasKeptRoom self.old → HasKeptRoom self.new }
         ensures rest { OnlyBegins self.old self.new }
+        ensures uses { OnOk result (UsesRoom self.old self.new (key_of request)) }
         ensures places { OnOk result ((self.new.places ≡ self.old.places)
             ⊎ (is_busy self.new.places.items (key_of request) ≡ true)) }
         ensures busy { OnOk result ((k : ℕ) → is_busy self.old.places.items k ≡ true
@@ -289,9 +308,11 @@ impl Worker {
         ensures most { OnOk result (left self.new ≤ left self.old + staged_left) }
         ensures given_back { IfErr result (λ back. back.request ≡ request) }
         ensures unchanged { OnErr result (self.new ≡ self.old) }
+        ensures gets { OnErr result (may_stage self.old request ≡ false) }
     {
         if self.stopped {
-            self.answer(number, Reply::Stopped, None);
+            let key = request.key();
+            self.answer_at_once(number, key, Reply::Stopped, None);
             return Ok(());
         }
         self.begin_running(alloc, region, number, request)

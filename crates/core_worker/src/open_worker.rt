@@ -4,7 +4,9 @@ ghost use Rattle.std.specs.List.{AllByRecursion};
 ghost use Rattle.pm_region.specs.State.{State};
 ghost use Rattle.core_worker.specs.declared.types.Place.TheVariants as kinds;
 ghost use Rattle.core_worker.specs.OwnPlaces.{place_at};
+ghost use Rattle.core_index.specs.Index.{room_at};
 ghost use Rattle.core_worker.specs.Supplies.{HasKeptRoom};
+ghost use Rattle.core_worker.specs.IndexRoom.{HasJustRoom};
 ghost use Rattle.core_worker.specs.Ties.{Holds, Stands};
 ghost use Rattle.core_worker.specs.Order.{InOrder};
 ghost use Rattle.core_worker.specs.Outbox.{TellsNothing};
@@ -101,6 +103,7 @@ impl Worker {
         // Whatever the region tells.
         ensures new { IfOk result (IsNew start layout) }
         ensures rule { IfOk result HasKeptRoom }
+        ensures just { IfOk result (λ w. ((k : ℕ) → room_at start.index k ≡ 0) → HasJustRoom w) }
         // By the view of the member on whose image the group is opened.
         ensures holds { IfOk result (λ w. ByEachImage start layout (λ p m image.
             Holds p m (opened_view p m image) w)) }

@@ -26,7 +26,7 @@ pub(crate) fn reply_for(shortage: &Shortage) -> Reply
 
 impl Worker {
     // Whether the key has a value.
-    fn is_live(&self, key: Key) -> bool
+    pub(crate) fn is_live(&self, key: Key) -> bool
         ensures { result ≡ has_value self.now key }
     {
         match self.index.look(key) {

@@ -15,6 +15,7 @@ ghost use Rattle.core_worker.specs.Posting.{HasNoBlock, PostsOrStops};
 ghost use Rattle.core_worker.specs.Ties.{HoldsAt, StandsAt, LeadsNothing};
 ghost use Rattle.core_worker.specs.Turns.{InOrderAt, PassesPost, PersistsOrLoses};
 ghost use Rattle.core_worker.specs.Turning.{HasBatch, KeepsTurn, TurnMoves, Did, Turned, TurnedTo, Tells, at_entry};
+ghost use Rattle.core_worker.specs.IndexRoom.{HasJustRoom};
 ghost use Rattle.core_worker.specs.Left.{HasOffer, Lowers, Measures, MeasuresTurn, StartsFirst};
 ghost use Rattle.core_worker.specs.Resting.{AtRest, IfIdle, IfIdleTurn, TriedIf};
 
@@ -426,6 +427,7 @@ impl Worker {
             (B.whole board.old) (B.whole board.new) (B.view board.old) (B.view board.new)
             self.old self.new) }
         ensures works { OnOk result (self.new.winds_down ≡ self.old.winds_down) }
+        ensures just { HasJustRoom self.old → HasJustRoom self.new }
         ensures steps { TurnSteps (G.may_pass gate.now) (R.state region.old) (R.state region.new)
             (B.view board.old) (B.view board.new)
             (trail_with (B.trail board.old) (B.at board.old))

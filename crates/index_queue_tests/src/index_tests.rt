@@ -376,3 +376,22 @@ fn keys_with_values_move_when_they_change(rt: HostRuntime) -> Result<(), Fail> {
     assert!(rt; are_live(alloc, &index, &[name(9, 6), name(11, 2)])?);
     Ok(())
 }
+
+// Room for a change is made and given back: of a key that had nothing, nothing is left, and one that had a value has it.
+#[test]
+fn room_is_given_back(rt: HostRuntime) -> Result<(), Fail> {
+    let alloc = rt.alloc();
+    let mut index = started(alloc)?;
+    for key in [6, 7, 6, 7] {
+        index.admit(alloc, key)?;
+        index.admit(alloc, key)?;
+        index.give_back(key);
+        assert_eq!(rt; index.room(key), 1);
+        index.give_back(key);
+        index.give_back(key);
+        assert_eq!(rt; index.room(key), 0);
+    }
+    assert_eq!(rt; look(&index, 6), Answer::Unknown);
+    assert!(rt; has_value(&index, 7, b"abc"));
+    Ok(())
+}

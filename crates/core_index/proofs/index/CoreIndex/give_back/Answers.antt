@@ -1,7 +1,7 @@
-use Rattle.std.proofs.Common.{◌≡◌, ◌+◌, ◌<◌, ◌≤◌, ℕ, List, Option, sym, ◌∙◌, ap, subst, arith}
+use Rattle.std.proofs.Common.{◌≡◌, ℕ, List, Option, ap, subst, arith}
 use Rattle.core_index.specs.Records.{KeyRecord, Awaits}
 use Rattle.core_index.specs.Slots.{Place}
-use Rattle.core_index.specs.Index.{known_at, room_at, all_mortal, all_places, LessRoom}
+use Rattle.core_index.specs.Index.{room_at, all_places}
 use Rattle.core_index.proofs.PlaceLaws.{room_both}
 use Rattle.core_index.proofs.IndexLaws.{index_same}
 use Rattle.core_index.proofs.index.CoreIndex.give_back.Goals as goal

@@ -11,7 +11,7 @@ use Rattle.core_index.specs.Index.{room_at}
 use Rattle.pm_region.specs.State.{IsTelling}
 use Rattle.core_worker.specs.declared.worker.Worker.{Worker}
 use Rattle.core_worker.specs.OwnPlaces.{is_busy}
-use Rattle.core_worker.specs.Beginning.{HasFree, HoldsAside, StandsAside, Begins, BeginsAll, BeginsShort}
+use Rattle.core_worker.specs.Beginning.{HasFree, HoldsAside, StandsAside, Begins, BeginsAll, BeginsShort, UsesRoom}
 use Rattle.core_worker.specs.Ties.{Stands}
 use Rattle.core_worker.specs.Serving.{LeadsNothingYet, KeepsLine, OthersWait}
 use Rattle.core_worker.proofs.Serving.{order_begun, order_in_hand, others_begun, all_wait}
@@ -44,7 +44,7 @@ begin-requires-clause-room g t c =
     let fk = first_key w.queue q c.args.key h T in
     let one = ap length T.key in
     let room = c.requires.room in
-    subst (λ (k : ℕ). 0 < room_at w.index k) (sym fk) (omega (arith, one, room))
+    λ change. subst (λ (k : ℕ). 0 < room_at w.index k) (sym fk) (omega (arith, one, room))
 
 pub returns-in-Err-clause-keeps : goal.returns-in-Err-clause-keeps
 returns-in-Err-clause-keeps g t c x a =
@@ -70,7 +70,7 @@ returns-then-is_busy-clause-begins g t c x a S =
     let b = c.begin.new.self in
     let u : Worker = record w { queue = q } in
     let begun : Begins (IsTelling (g.R.Region.state c.args.region.now)) u b (v.cell c.args.key) h.number h.request = subst (λ (k : ℕ). Begins (IsTelling (g.R.Region.state c.args.region.now)) u b (v.cell k) h.number h.request) fk (c.in-Ok.ensures.begins x (taken_aside w q c.args.key h T x a) (taken_stands (g.R.Region.state c.args.region.now) x w q S)) in
-    subst (λ (hs : List Held). BeginsAll (IsTelling (g.R.Region.state c.args.region.now)) hs w b (v.cell c.args.key) c.args.key) (sym T.key) (u, b, T, refl, c.begin.ensures.rest, begun, inl (sym c.is_busy.ensures ∙ c.if-is_busy.true, refl))
+    subst (λ (hs : List Held). BeginsAll (IsTelling (g.R.Region.state c.args.region.now)) hs w b (v.cell c.args.key) c.args.key) (sym T.key) (u, b, T, refl, c.begin.ensures.rest, begun, subst (UsesRoom u b) fk c.in-Ok.ensures.uses, inl (sym c.is_busy.ensures ∙ c.if-is_busy.true, refl))
 
 pub begin_waiting-requires : goal.begin_waiting-requires
 begin_waiting-requires g t c κs within =
@@ -90,17 +90,18 @@ begin_waiting-requires g t c κs within =
     let queue : b.queue ≡ q = ap (λ (x : Worker). x.queue) c.begin.ensures.rest in
     let same = ap (λ (x : List Held). length (waiting x c.args.key)) queue in
     let count = ap (λ (x : List Held). length x) queue in
-    let index : room_at b.index c.args.key ≡ room_at w.index c.args.key = ap (λ (x : Worker). room_at x.index c.args.key) c.begin.ensures.rest in
+    let uses : UsesRoom u b c.args.key = subst (UsesRoom u b) fk c.in-Ok.ensures.uses in
     let room = c.requires.room in
     let d = c.decreases in
     let idle : is_busy b.places.items c.args.key ≡ false = sym c.is_busy.ensures ∙ c.if-is_busy.false in
+    let index = uses.answered idle in
     let had = c.requires.answers in
     let more : HasAnswerRoom (length (waiting q c.args.key) + 1) u = omega (arith, had, one) in
     let tied : StandsAside s b c.args.key = (x, record { holds = K.holds; own = c.requires.tied.1.own }, K.stands s (taken_stands s x w q c.requires.tied.2)) in
     let free = ⊎_elim (λ stay. subst (λ (y : Vec places.Place Global). HasFree y.items) (sym stay) c.requires.place) (λ busy. absurd (let both : true ≡ false = sym busy ∙ ap (is_busy b.places.items) fk ∙ idle in cc both)) c.in-Ok.ensures.places in
     let nothing : LeadsNothingYet b = λ runs. (let had = c.requires.nothing (sym (ap (λ (y : Worker). y.stopped) c.begin.ensures.rest) ∙ runs) in (had.0, ap (λ (y : Worker). y.leading) c.begin.ensures.rest ∙ had.1)) in
     let line : KeepsLine u b c.args.key = subst (λ (k : ℕ). KeepsLine u b k) fk c.in-Ok.ensures.line in
-    let others = others_begun w b q c.args.key h T c.begin.ensures.rest c.in-Ok.ensures.busy line c.requires.others in
+    let others = others_begun w b q c.args.key h T c.begin.ensures.rest uses.others c.in-Ok.ensures.busy line c.requires.others in
     let hand = ap (λ (y : Worker). y.in_hand) c.begin.ensures.rest ∙ c.requires.hand in
     let answers = subst (λ (n : ℕ). HasAnswerRoom n b) (sym same) (c.in-Ok.ensures.room (length (waiting q c.args.key)) more) in (
       omega (arith, d, all, count),
@@ -149,7 +150,7 @@ returns-in-Ok-clause-begins g t c =
     let K = c.in-Ok.ensures.keeps x a' in
     let begun : Begins (IsTelling (g.R.Region.state c.args.region.now)) u b (v.cell c.args.key) h.number h.request = subst (λ (k : ℕ). Begins (IsTelling (g.R.Region.state c.args.region.now)) u b (v.cell k) h.number h.request) fk (c.in-Ok.ensures.begins x a' S') in
     let more : BeginsAll (IsTelling (g.R.Region.state c.args.region.now)) (waiting q c.args.key) b z (v.cell c.args.key) c.args.key = subst (λ (y : List Held). BeginsAll (IsTelling (g.R.Region.state c.args.region.now)) (waiting y c.args.key) b z (v.cell c.args.key) c.args.key) (ap (λ (y : Worker). y.queue) c.begin.ensures.rest) (rest x (record { holds = K.holds; own = a.own }) (K.stands s S')) in
-    subst (λ (hs : List Held). BeginsAll (IsTelling (g.R.Region.state c.args.region.now)) hs w z (v.cell c.args.key) c.args.key) (sym T.key) (u, b, T, refl, c.begin.ensures.rest, begun, inr (sym c.is_busy.ensures ∙ c.if-is_busy.false, more))) c.begin_waiting.ensures.begins
+    subst (λ (hs : List Held). BeginsAll (IsTelling (g.R.Region.state c.args.region.now)) hs w z (v.cell c.args.key) c.args.key) (sym T.key) (u, b, T, refl, c.begin.ensures.rest, begun, subst (UsesRoom u b) fk c.in-Ok.ensures.uses, inr (sym c.is_busy.ensures ∙ c.if-is_busy.false, more))) c.begin_waiting.ensures.begins
 
 pub returns-in-Err-clause-rule : goal.returns-in-Err-clause-rule
 returns-in-Err-clause-rule g t c h = c.begin.ensures.rule h
@@ -176,12 +177,13 @@ returns-then-is_busy-clause-waits g t c =
     let b = c.begin.new.self in
     let u : Worker = record w { queue = q } in
     let line : KeepsLine u b c.args.key = subst (λ (k : ℕ). KeepsLine u b k) fk c.in-Ok.ensures.line in
-    let others : OthersWait b c.args.key = others_begun w b q c.args.key h T c.begin.ensures.rest c.in-Ok.ensures.busy line c.requires.others in
+    let uses : UsesRoom u b c.args.key = subst (UsesRoom u b) fk c.in-Ok.ensures.uses in
+    let others : OthersWait b c.args.key = others_begun w b q c.args.key h T c.begin.ensures.rest uses.others c.in-Ok.ensures.busy line c.requires.others in
     let one = ap length T.key in
     let room = c.requires.room in
     let same = ap (λ (x : Worker). length (waiting x.queue c.args.key)) c.begin.ensures.rest in
-    let index : room_at b.index c.args.key ≡ room_at w.index c.args.key = ap (λ (x : Worker). room_at x.index c.args.key) c.begin.ensures.rest in
     let busy : is_busy b.places.items c.args.key ≡ true = sym c.is_busy.ensures ∙ c.if-is_busy.true in
+    let index = uses.staged busy in
     all_wait b c.args.key others (λ is. omega (arith, one, room, same, index)) (λ on idle. absurd (let both : true ≡ false = sym busy ∙ idle in cc both))
 
 pub returns-then-is_busy-clause-order : goal.returns-then-is_busy-clause-order
@@ -194,7 +196,7 @@ returns-then-is_busy-clause-order g t c x a O =
     let b = c.begin.new.self in
     let u : Worker = record w { queue = q } in
     let line : KeepsLine u b c.args.key = subst (λ (k : ℕ). KeepsLine u b k) fk c.in-Ok.ensures.line in
-    order_begun x.place x.number x.view w b q c.args.key h T c.requires.hand O a.holds c.begin.ensures.rest line
+    order_begun x.place x.number x.view w b q c.args.key h T c.requires.hand O a.holds c.begin.ensures.rest c.in-Ok.ensures.uses.records line
 
 pub returns-in-Ok-clause-order : goal.returns-in-Ok-clause-order
 returns-in-Ok-clause-order g t c x a O =
@@ -207,7 +209,7 @@ returns-in-Ok-clause-order g t c x a O =
     let u : Worker = record w { queue = q } in
     let line : KeepsLine u b c.args.key = subst (λ (k : ℕ). KeepsLine u b k) fk c.in-Ok.ensures.line in
     let K = c.in-Ok.ensures.keeps x (taken_aside w q c.args.key h T x a) in
-    c.begin_waiting.ensures.order x (record { holds = K.holds; own = a.own }) (order_begun x.place x.number x.view w b q c.args.key h T c.requires.hand O a.holds c.begin.ensures.rest line)
+    c.begin_waiting.ensures.order x (record { holds = K.holds; own = a.own }) (order_begun x.place x.number x.view w b q c.args.key h T c.requires.hand O a.holds c.begin.ensures.rest c.in-Ok.ensures.uses.records line)
 
 pub returns-in-Err-clause-short : goal.returns-in-Err-clause-short
 returns-in-Err-clause-short g t c x a S =
@@ -239,4 +241,4 @@ returns-in-Ok-clause-short g t c =
     let K = c.in-Ok.ensures.keeps x a' in
     let begun : Begins (IsTelling (g.R.Region.state c.args.region.now)) u b (v.cell c.args.key) h.number h.request = subst (λ (k : ℕ). Begins (IsTelling (g.R.Region.state c.args.region.now)) u b (v.cell k) h.number h.request) fk (c.in-Ok.ensures.begins x a' S') in
     let more : BeginsShort (IsTelling (g.R.Region.state c.args.region.now)) (waiting q c.args.key) b z (v.cell c.args.key) c.args.key = subst (λ (y : List Held). BeginsShort (IsTelling (g.R.Region.state c.args.region.now)) (waiting y c.args.key) b z (v.cell c.args.key) c.args.key) (ap (λ (y : Worker). y.queue) c.begin.ensures.rest) (rest x (record { holds = K.holds; own = a.own }) (K.stands s S')) in
-    subst (λ (hs : List Held). BeginsShort (IsTelling (g.R.Region.state c.args.region.now)) hs w z (v.cell c.args.key) c.args.key) (sym T.key) (u, T, refl, inr (b, c.begin.ensures.rest, begun, sym c.is_busy.ensures ∙ c.if-is_busy.false, more))) c.begin_waiting.ensures.short
+    subst (λ (hs : List Held). BeginsShort (IsTelling (g.R.Region.state c.args.region.now)) hs w z (v.cell c.args.key) c.args.key) (sym T.key) (u, T, refl, inr (b, c.begin.ensures.rest, begun, subst (UsesRoom u b) fk c.in-Ok.ensures.uses, sym c.is_busy.ensures ∙ c.if-is_busy.false, more))) c.begin_waiting.ensures.short

@@ -1,13 +1,15 @@
 -- What was done is what beginning the request is, and what it leaves of the ties.
-use Rattle.std.proofs.Common.{◌≡◌, inr, [], ◌∷◌, ◌++◌, Some, refl, sym, ◌∙◌, ap, subst, arith}
+use Rattle.std.proofs.Common.{◌≡◌, ◌<◌, true, inr, [], ◌∷◌, ◌++◌, Some, refl, sym, ◌∙◌, ap, subst, arith}
 use Rattle.pm_region.specs.State.{IsTelling}
+use Rattle.fs_model.specs.declared.model.Request.{Request}
 use Rattle.fs_model.specs.declared.model.Request.TheVariants as requests
 use Rattle.fs_model.specs.declared.model.Reply.{Reply}
 use Rattle.fs_model.specs.Cells.{key_of}
+use Rattle.core_index.specs.Index.{room_at, LessRoom}
 use Rattle.group_laws.specs.Places.{owner}
-use Rattle.core_worker.specs.Plans.{IsPlanOf}
+use Rattle.core_worker.specs.Plans.{IsPlanOf, may_stage}
 use Rattle.core_worker.specs.Beginning.{answer_with}
-use Rattle.core_worker.proofs.Beginnings.{begins_refused, answered_holds, answered_stands, answered, staged_busy, staged_keeps}
+use Rattle.core_worker.proofs.Beginnings.{begins_refused, answered, answered_aside, answered_standing, answered_uses, staged_busy, staged_keeps, staged_uses}
 use Rattle.core_worker.proofs.Finding.{live_is, is_live}
 use Rattle.core_worker.proofs.LeftWorkers.{staged_way}
 use Rattle.core_worker.proofs.Pointers.{measured, live_last}
@@ -26,7 +28,19 @@ plan-requires g c =
     }
 
 pub returns-in-Err-clause-keeps : goal.returns-in-Err-clause-keeps
-returns-in-Err-clause-keeps g c t h = record { holds = answered_holds t.place t.number t.view c.args.self.now c.answer.new.self c.answer.ensures.rest h.holds; stands = λ s S. answered_stands s t.place t.number t.view c.args.self.now c.answer.new.self c.answer.ensures.rest S }
+returns-in-Err-clause-keeps g c t h =
+    let w = c.args.self.now in
+    let u = c.answer_at_once.new.self in
+    let only = c.answer_at_once.ensures.rest in
+    let less = subst (LessRoom w.index u.index) c.key-asked.ensures c.answer_at_once.ensures.less in
+    record { holds = answered_aside t.place t.number t.view w u (key_of c.args.request) only less c.requires.idle h.holds; stands = λ s S. answered_standing s t.place t.number t.view w u only S }
+
+pub returns-in-Err-clause-uses : goal.returns-in-Err-clause-uses
+returns-in-Err-clause-uses g c =
+    let w = c.args.self.now in
+    let u = c.answer_at_once.new.self in
+    let less = subst (LessRoom w.index u.index) c.key-asked.ensures c.answer_at_once.ensures.less in
+    answered_uses w u (key_of c.args.request) c.answer_at_once.ensures.rest less c.requires.idle
 
 pub returns-in-Err-clause-begins : goal.returns-in-Err-clause-begins
 returns-in-Err-clause-begins g c t h S =
@@ -34,23 +48,47 @@ returns-in-Err-clause-begins g c t h S =
     let r = c.args.request in
     let cell = t.view.cell (key_of r) in
     let live = live_is t.place t.number t.view w h.holds c.requires.runs (key_of r) h.own in
-    begins_refused (IsTelling (g.R.Region.state c.args.region.now)) w c.answer.new.self cell c.args.number r c.requires.runs (Some c.in-Err.shortage) c.in-Err.shortage refl (sym (c.in-Err.ensures.cause cell live))
-    (answered w c.answer.new.self _ c.answer.ensures.rest (subst (λ (y : Reply). c.answer.new.self.answers.items ≡ w.answers.items ++ answer_with c.args.number y (Some c.in-Err.shortage) ∷ []) c.reply_for.ensures c.answer.ensures.answers))
+    begins_refused (IsTelling (g.R.Region.state c.args.region.now)) w c.answer_at_once.new.self cell c.args.number r c.requires.runs (Some c.in-Err.shortage) c.in-Err.shortage refl (sym (c.in-Err.ensures.cause cell live))
+    (answered w c.answer_at_once.new.self c.key-asked.result _ c.answer_at_once.ensures.rest c.answer_at_once.ensures.less (subst (λ (y : Reply). c.answer_at_once.new.self.answers.items ≡ w.answers.items ++ answer_with c.args.number y (Some c.in-Err.shortage) ∷ []) c.reply_for.ensures c.answer_at_once.ensures.answers))
 
 pub returns-in-Err-clause-line : goal.returns-in-Err-clause-line
-returns-in-Err-clause-line g c = line_answered c.args.self.now c.answer.new.self (key_of c.args.request) c.answer.ensures.rest c.answer.ensures.room
+returns-in-Err-clause-line g c = line_answered c.args.self.now c.answer_at_once.new.self (key_of c.args.request) c.answer_at_once.ensures.rest c.answer_at_once.ensures.room
 
 pub returns-in-Get-clause-keeps : goal.returns-in-Get-clause-keeps
-returns-in-Get-clause-keeps g c t h = record { holds = answered_holds t.place t.number t.view c.args.self.now c.answer-in-Get.new.self c.answer-in-Get.ensures.rest h.holds; stands = λ s S. answered_stands s t.place t.number t.view c.args.self.now c.answer-in-Get.new.self c.answer-in-Get.ensures.rest S }
+returns-in-Get-clause-keeps g c t h =
+    let w = c.args.self.now in
+    let u = c.answer_at_once-in-Get.new.self in
+    let only = c.answer_at_once-in-Get.ensures.rest in
+    let less = subst (LessRoom w.index u.index) c.key-asked.ensures c.answer_at_once-in-Get.ensures.less in
+    record { holds = answered_aside t.place t.number t.view w u (key_of c.args.request) only less c.requires.idle h.holds; stands = λ s S. answered_standing s t.place t.number t.view w u only S }
+
+pub returns-in-Get-clause-uses : goal.returns-in-Get-clause-uses
+returns-in-Get-clause-uses g c =
+    let w = c.args.self.now in
+    let u = c.answer_at_once-in-Get.new.self in
+    let less = subst (LessRoom w.index u.index) c.key-asked.ensures c.answer_at_once-in-Get.ensures.less in
+    answered_uses w u (key_of c.args.request) c.answer_at_once-in-Get.ensures.rest less c.requires.idle
 
 pub returns-in-Get-clause-line : goal.returns-in-Get-clause-line
-returns-in-Get-clause-line g c = line_answered c.args.self.now c.answer-in-Get.new.self (key_of c.args.request) c.answer-in-Get.ensures.rest c.answer-in-Get.ensures.room
+returns-in-Get-clause-line g c = line_answered c.args.self.now c.answer_at_once-in-Get.new.self (key_of c.args.request) c.answer_at_once-in-Get.ensures.rest c.answer_at_once-in-Get.ensures.room
 
 pub returns-in-Absent-clause-keeps : goal.returns-in-Absent-clause-keeps
-returns-in-Absent-clause-keeps g c t h = record { holds = answered_holds t.place t.number t.view c.args.self.now c.answer-in-Absent.new.self c.answer-in-Absent.ensures.rest h.holds; stands = λ s S. answered_stands s t.place t.number t.view c.args.self.now c.answer-in-Absent.new.self c.answer-in-Absent.ensures.rest S }
+returns-in-Absent-clause-keeps g c t h =
+    let w = c.args.self.now in
+    let u = c.answer_at_once-in-Absent.new.self in
+    let only = c.answer_at_once-in-Absent.ensures.rest in
+    let less = subst (LessRoom w.index u.index) c.key-asked.ensures c.answer_at_once-in-Absent.ensures.less in
+    record { holds = answered_aside t.place t.number t.view w u (key_of c.args.request) only less c.requires.idle h.holds; stands = λ s S. answered_standing s t.place t.number t.view w u only S }
+
+pub returns-in-Absent-clause-uses : goal.returns-in-Absent-clause-uses
+returns-in-Absent-clause-uses g c =
+    let w = c.args.self.now in
+    let u = c.answer_at_once-in-Absent.new.self in
+    let less = subst (LessRoom w.index u.index) c.key-asked.ensures c.answer_at_once-in-Absent.ensures.less in
+    answered_uses w u (key_of c.args.request) c.answer_at_once-in-Absent.ensures.rest less c.requires.idle
 
 pub returns-in-Absent-clause-line : goal.returns-in-Absent-clause-line
-returns-in-Absent-clause-line g c = line_answered c.args.self.now c.answer-in-Absent.new.self (key_of c.args.request) c.answer-in-Absent.ensures.rest c.answer-in-Absent.ensures.room
+returns-in-Absent-clause-line g c = line_answered c.args.self.now c.answer_at_once-in-Absent.new.self (key_of c.args.request) c.answer_at_once-in-Absent.ensures.rest c.answer_at_once-in-Absent.ensures.room
 
 pub returns-in-PutBeside-clause-keeps : goal.returns-in-PutBeside-clause-keeps
 returns-in-PutBeside-clause-keeps g c t h =
@@ -114,3 +152,36 @@ returns-in-Delete-clause-line g c =
 
 pub returns-in-Delete-clause-most : goal.returns-in-Delete-clause-most
 returns-in-Delete-clause-most g c = staged_way c.args.self.now c.stage_delete.new.self c.args.number (requests.Delete c.in-Delete.key) c.stage_delete.ensures.rest c.stage_delete.ensures.staged
+
+pub stage_beside-requires-clause-room : goal.stage_beside-requires-clause-room
+stage_beside-requires-clause-room g c =
+    let w = c.args.self.now in
+    let plan = subst (IsPlanOf w c.args.request) c.in-PutBeside.is c.in-Ok.ensures.plan in
+    subst (λ (r : Request). may_stage w r ≡ true → 0 < room_at w.index (key_of r)) plan.0 c.requires.room refl
+
+pub returns-in-PutBeside-clause-uses : goal.returns-in-PutBeside-clause-uses
+returns-in-PutBeside-clause-uses g c =
+    let is = (subst (IsPlanOf c.args.self.now c.args.request) c.in-PutBeside.is c.in-Ok.ensures.plan).0 in
+    staged_uses c.args.self.now c.stage_beside.new.self c.args.number (key_of c.args.request) (requests.Put c.in-PutBeside.key c.in-PutBeside.value) c.stage_beside.ensures.rest c.stage_beside.ensures.staged (ap key_of (sym is))
+
+pub stage_block-requires-clause-room : goal.stage_block-requires-clause-room
+stage_block-requires-clause-room g c =
+    let w = c.args.self.now in
+    let plan = subst (IsPlanOf w c.args.request) c.in-PutInBlock.is c.in-Ok.ensures.plan in
+    subst (λ (r : Request). may_stage w r ≡ true → 0 < room_at w.index (key_of r)) plan.0 c.requires.room refl
+
+pub returns-in-PutInBlock-clause-uses : goal.returns-in-PutInBlock-clause-uses
+returns-in-PutInBlock-clause-uses g c =
+    let is = (subst (IsPlanOf c.args.self.now c.args.request) c.in-PutInBlock.is c.in-Ok.ensures.plan).0 in
+    staged_uses c.args.self.now c.stage_block.new.self c.args.number (key_of c.args.request) (requests.Put c.in-PutInBlock.key c.in-PutInBlock.value) c.stage_block.ensures.rest c.stage_block.ensures.staged (ap key_of (sym is))
+
+pub stage_delete-requires-clause-room : goal.stage_delete-requires-clause-room
+stage_delete-requires-clause-room g c =
+    let w = c.args.self.now in
+    let plan = subst (IsPlanOf w c.args.request) c.in-Delete.is c.in-Ok.ensures.plan in
+    subst (λ (r : Request). may_stage w r ≡ true → 0 < room_at w.index (key_of r)) plan.0 c.requires.room plan.1.live
+
+pub returns-in-Delete-clause-uses : goal.returns-in-Delete-clause-uses
+returns-in-Delete-clause-uses g c =
+    let is = (subst (IsPlanOf c.args.self.now c.args.request) c.in-Delete.is c.in-Ok.ensures.plan).0 in
+    staged_uses c.args.self.now c.stage_delete.new.self c.args.number (key_of c.args.request) (requests.Delete c.in-Delete.key) c.stage_delete.ensures.rest c.stage_delete.ensures.staged (ap key_of (sym is))
